@@ -1,7 +1,7 @@
 //! Texts read and built character by character.
 
 ghost use Rattle.std.specs.Prelude.{◌≡◌, ◌+◌, ◌<◌, ◌++◌, [], ◌∷◌, length, OnOk, MatchOption};
-ghost use Rattle.std.specs.Char.{len_utf8};
+ghost use Rattle.std.specs.Char.{encode_utf8, len_utf8};
 ghost use Rattle.std.specs.Str.{chars};
 ghost use Rattle.std.specs.String.{string_bytes};
 ghost use Rattle.ct_base.specs.Characters.{first};
@@ -28,7 +28,8 @@ pub fn first_char(text: &str) -> Option<char>
 
 /// Puts a character at the end.
 pub fn push_char(text: &mut String, c: char) -> Result<(), Memory>
-    ensures { OnOk result (chars (string_bytes text.new) ≡ chars (string_bytes text.old) ++ c ∷ []) }
+    ensures chars { OnOk result (chars (string_bytes text.new) ≡ chars (string_bytes text.old) ++ c ∷ []) }
+    ensures bytes { OnOk result (string_bytes text.new ≡ string_bytes text.old ++ encode_utf8 c) }
 {
     text.push(c)?;
     Ok(())

@@ -1,0 +1,65 @@
+//! What every device promises, real or in memory.
+
+ghost use Rattle.std.specs.Prelude.{◌≡◌, ◌≤◌, ◌<◌, ◌+◌, ◌^◌, ℕ, List, Option, Some, Ok, IfOk, OnOk, IsErr, length, take, drop};
+ghost use Rattle.std.specs.Option.{option_map};
+ghost use Rattle.ct_base.specs.Told.{took, IsNothing};
+ghost use Rattle.ct_base.specs.Causes.{HasCause};
+ghost use Rattle.ct_site.specs.Disks.{DiskView, written, IsSame, Works, Hears, Says};
+
+use thiserror::Error;
+
+/// A fault of a device. It comes only where the device's count of such faults rose in this call, or stands at its last value.
+#[derive(Clone, Copy, Debug, PartialEq, Eq, Error)]
+#[error("a device failed")]
+pub struct Failed;
+
+/// A disk of one image, a list of bytes.
+pub trait Disk {
+    /// What is known of the disk, and of what stands beside it.
+    ghost disk: { Self → DiskView };
+
+    /// How many bytes the image has.
+    fn size(&mut self) -> Result<u64, Failed>
+        ensures size { (image : List ℕ) → (disk self.old).image ≡ Some image → IfOk result (λ n. n ≡ length image) }
+        ensures same { IsSame (disk self.old) (disk self.new) }
+        ensures works { Works (disk self.old) (disk self.new) result };
+
+    /// Reads as many bytes as `into` has, from the byte `at` on.
+    fn read(&mut self, at: u64, into: &mut [u8]) -> Result<(), Failed>
+        requires within { (image : List ℕ) → (disk self.old).image ≡ Some image → at + length into.old ≤ length image }
+        ensures bytes { (image : List ℕ) → (disk self.old).image ≡ Some image → OnOk result (into.new ≡ take (length into.old) (drop at image)) }
+        ensures same { IsSame (disk self.old) (disk self.new) }
+        ensures works { Works (disk self.old) (disk self.new) result };
+
+    /// Writes the bytes at this place, and lengthens the image where they end past it. No image is longer than 2^43 bytes.
+    fn write_at(&mut self, at: u64, bytes: &[u8]) -> Result<(), Failed>
+        requires within { (image : List ℕ) → (disk self.old).image ≡ Some image → at ≤ length image }
+        requires some { 0 < length bytes.now }
+        ensures written { OnOk result ((disk self.new).image ≡ option_map (written at bytes.now) (disk self.old).image) }
+        ensures too_far { 2 ^ 43 < at + length bytes.now → IsErr result }
+        ensures works { Works (disk self.old) (disk self.new) result };
+
+    /// Makes what was written last.
+    fn sync(&mut self) -> Result<(), Failed>
+        ensures same { IsSame (disk self.old) (disk self.new) }
+        ensures works { Works (disk self.old) (disk self.new) result };
+}
+
+/// A disk beside which a script is heard and replies are said.
+pub trait Site: Disk {
+    /// Takes bytes of the script into the front of `into`, and answers how many. 0 means the end of the script.
+    fn hear(&mut self, into: &mut [u8]) -> Result<usize, Failed>
+        requires { 0 < length into.old }
+        ensures bound { IfOk result (λ count. count ≤ length into.old) }
+        ensures hears { Hears (took result into.new) (Self.disk self.old) (Self.disk self.new) }
+        ensures end { result ≡ Ok 0 → IsNothing (Self.disk self.new).beside.left }
+        ensures cause { HasCause (Self.disk self.old).beside.hear_faults (Self.disk self.new).beside.hear_faults result };
+
+    /// Says bytes of the front of `bytes`, at least one, and answers how many.
+    fn say(&mut self, bytes: &[u8]) -> Result<usize, Failed>
+        requires { 0 < length bytes.now }
+        ensures bound { IfOk result (λ count. count ≤ length bytes.now) }
+        ensures some { IfOk result (λ count. 0 < count) }
+        ensures says { Says (took result bytes.now) (Self.disk self.old) (Self.disk self.new) }
+        ensures cause { HasCause (Self.disk self.old).beside.say_faults (Self.disk self.new).beside.say_faults result };
+}

@@ -1,0 +1,43 @@
+-- How values are printed as lines. Bytes: `\` is 92, `|` 124, newline 10, carriage return 13, `n` 110, `r` 114.
+use Rattle.std.specs.Prelude.{ℕ, ◌≡◌, ◌==◌, List, [], ◌∷◌, ◌++◌, map, codes, refl, pos, negsuc}
+use Rattle.std.specs.Bool.{if◌then◌else◌}
+use Rattle.std.specs.List.{flat_map}
+use Rattle.std.specs.Fmt.{signed_decimal, digits}
+use Rattle.ct_base.specs.declared.lists.Value.{Value}
+use Rattle.ct_base.specs.declared.lists.Value.TheVariants.{Number, Text}
+
+-- A byte of a text, as it is printed: a byte that would end a field or a line has a `\` before it.
+abbrev pub printed_byte : ℕ → List ℕ
+printed_byte b =
+    if b == 92 then 92 ∷ 92 ∷ []
+    else (if b == 124 then 92 ∷ 124 ∷ []
+    else (if b == 10 then 92 ∷ 110 ∷ []
+    else (if b == 13 then 92 ∷ 114 ∷ []
+    else b ∷ [])))
+
+abbrev pub printed_text : List ℕ → List ℕ
+printed_text text = flat_map printed_byte text
+
+-- a number in decimal digits with a `-` before a negative one, or a text
+abbrev pub printed : Value → List ℕ
+printed (Number n) = signed_decimal n
+printed (Text text) = printed_text text
+
+-- fields with a `|` between each two
+abbrev pub joined : List (List ℕ) → List ℕ
+joined [] = []
+joined (field ∷ []) = field
+joined (field ∷ next ∷ fields) = field ++ 124 ∷ joined (next ∷ fields)
+
+-- the line of some fields, with its newline
+abbrev pub line : List Value → List ℕ
+line fields = joined (map printed fields) ++ 10 ∷ []
+
+-- computed examples
+token : line (Text (codes "web") ∷ Number (pos 0) ∷ Number (pos 3) ∷ []) ≡ codes "web|0|3\n"
+unfolding digits
+token = refl
+
+marks : line (Text (codes "a|b\\c\nd\r") ∷ Number (negsuc 6) ∷ []) ≡ codes "a\\|b\\\\c\\nd\\r|-7\n"
+unfolding digits
+marks = refl

@@ -1,0 +1,2 @@
+//! Printed lines and fault texts.
+#![tactic(auto)]

@@ -1,0 +1,2 @@
+//! Executes statements.
+#![tactic(auto)]

@@ -1,0 +1,2 @@
+//! Cuts a script into statements.
+#![tactic(auto)]
