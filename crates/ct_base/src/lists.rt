@@ -13,6 +13,35 @@ pub enum Value {
     Text(Text),
 }
 
+/// A list of bytes.
+#[derive(Clone, Debug, Drop)]
+pub struct Bytes {
+    items: Vec<u8>,
+}
+
+impl Model for Bytes {
+    ghost use Rattle.std.specs.Prelude.{ℕ, List};
+
+    ghost Value = { List ℕ };
+
+    ghost view = { λ l. l.items.items };
+}
+
+impl Bytes {
+    /// The same list, without a copy.
+    pub fn of(items: Vec<u8>) -> Bytes
+        ensures { result ≡ items.items }
+    {
+        Bytes { items }
+    }
+
+    pub fn as_slice(&self) -> &[u8]
+        ensures { result.now ≡ self.now }
+    {
+        self.items.as_slice()
+    }
+}
+
 /// A list of numbers.
 #[derive(Clone, Debug, Drop)]
 pub struct Numbers {

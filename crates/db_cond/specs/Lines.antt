@@ -23,15 +23,14 @@ abbrev pub printed : Value → List ℕ
 printed (Number n) = signed_decimal n
 printed (Text text) = printed_text text
 
--- fields with a `|` between each two
-abbrev pub joined : List (List ℕ) → List ℕ
-joined [] = []
-joined (field ∷ []) = field
-joined (field ∷ next ∷ fields) = field ++ 124 ∷ joined (next ∷ fields)
+-- fields, each with a `|` before it
+abbrev pub parted : List Value → List ℕ
+parted fields = flat_map (λ field. 124 ∷ printed field) fields
 
--- the line of some fields, with its newline
+-- the line of some fields: the first one, each other one behind a `|`, and a newline
 abbrev pub line : List Value → List ℕ
-line fields = joined (map printed fields) ++ 10 ∷ []
+line [] = 10 ∷ []
+line (field ∷ fields) = printed field ++ parted fields ++ 10 ∷ []
 
 -- computed examples
 token : line (Text (codes "web") ∷ Number (pos 0) ∷ Number (pos 3) ∷ []) ≡ codes "web|0|3\n"

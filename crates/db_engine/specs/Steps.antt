@@ -15,6 +15,8 @@ use Rattle.st_parse.specs.declared.statements.Statement.{Statement}
 use Rattle.st_parse.specs.declared.statements.Statement.TheVariants.{Exec}
 use Rattle.st_parse.specs.Grammar.{Read, Blank, NoStatement, Found, read}
 use Rattle.db_cond.specs.Lines.{line}
+use Rattle.db_engine.specs.declared.replies.Reply.{Reply}
+use Rattle.db_engine.specs.declared.replies.Reply.TheVariants.{Text as ReplyText, NoMemory}
 use Rattle.db_cond.specs.Faults.{not_understood, value_too_long, statement_too_long, no_rows}
 
 -- What the statements so far have made. As long as no statement keeps anything there is one state.
@@ -45,6 +47,11 @@ call_reply args = []
 -- what a statement of the grammar does
 abbrev pub effect : State → Statement → State × List ℕ
 effect m (Exec pack procedure args) = (m, call_reply args)
+
+-- a reply by the step, which leads to the state `done.0`, or one for want of memory, which leaves the state m
+abbrev pub GivesReply : Reply → State → State × List ℕ → Type 0
+GivesReply (ReplyText lines) m done = lines ≡ done.1
+GivesReply NoMemory m done = Unit {0}
 
 -- Which bytes are a text: for now those in ASCII.
 abbrev pub is_text : List ℕ → Bool

@@ -1,2 +1,6 @@
 //! Executes statements.
 #![tactic(auto)]
+
+mod replies;
+
+pub use replies::{Reply, execute};
