@@ -1,0 +1,22 @@
+-- Row keys as bytes whose order is that of the numbers.
+use Rattle.std.specs.Prelude.{ℕ, ℤ, pos, negsuc, ◌≡◌, ◌+◌, ◌-◌, ◌^◌, List, [], ◌∷◌, refl}
+use Rattle.std.specs.Int.{to_be_bytes, w64}
+
+-- a number of 64 bits with its sign bit turned: the least is 0
+abbrev pub raised : ℤ → ℕ
+raised (pos n) = n + 2 ^ 63
+raised (negsuc n) = 2 ^ 63 - 1 - n
+
+-- its eight bytes, the highest first
+abbrev pub row_bytes : ℤ → List ℕ
+row_bytes z = to_be_bytes w64 (raised z)
+
+-- computed examples
+seven : row_bytes (pos 7) ≡ 0x80 ∷ 0 ∷ 0 ∷ 0 ∷ 0 ∷ 0 ∷ 0 ∷ 7 ∷ []
+seven = refl
+
+minus_one : row_bytes (negsuc 0) ≡ 0x7f ∷ 0xff ∷ 0xff ∷ 0xff ∷ 0xff ∷ 0xff ∷ 0xff ∷ 0xff ∷ []
+minus_one = refl
+
+least : row_bytes (negsuc 9223372036854775807) ≡ 0 ∷ 0 ∷ 0 ∷ 0 ∷ 0 ∷ 0 ∷ 0 ∷ 0 ∷ []
+least = refl

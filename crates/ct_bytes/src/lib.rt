@@ -1,0 +1,2 @@
+//! Numbers and texts as bytes, exact both ways.
+#![tactic(auto)]
