@@ -2,3 +2,4 @@ pub mod Names
 pub mod Told
 pub mod Causes
 pub mod Characters
+pub mod Moments

@@ -1,6 +1,6 @@
 -- What the outside tells: a list of bytes, or nothing where it tells none. Each fact here holds of both.
 use Rattle.std.specs.Prelude.{ℕ, ◌≡◌, List, [], ◌++◌, Option, Some, None, Result, Ok, Err, take, refl}
-use Rattle.std.proofs.Common.{sym, ap, append_assoc, append-nil}
+use Rattle.std.proofs.Common.{sym, ap, ◌∙◌, append_assoc, append-nil}
 
 -- these bytes, and then what is told
 abbrev pub ahead : List ℕ → Option (List ℕ) → Option (List ℕ)
@@ -37,3 +37,20 @@ behind_none (Some rest) = ap Some (append-nil rest)
 pub behind_twice : (told : Option (List ℕ)) (a b : List ℕ) → behind (behind told a) b ≡ behind told (a ++ b)
 behind_twice None a b = refl
 behind_twice (Some rest) a b = ap Some (append_assoc rest a b)
+
+-- it tells that this was said
+abbrev pub IsSaid : Option (List ℕ) → List ℕ → Type 0
+IsSaid told said = told ≡ Some said
+
+-- it tells that some front of these bytes was said behind what it told
+pub record SaysPart (told : Option (List ℕ)) (bytes said : List ℕ) : Type 0 where
+  pub part : List ℕ
+  pub later : List ℕ
+  pub front : bytes ≡ part ++ later
+  pub is : behind told part ≡ Some said
+
+pub says_front : (told : Option (List ℕ)) (a b w : List ℕ) → SaysPart told a w → SaysPart told (a ++ b) w
+says_front told a b w p = record { part = p.part; later = p.later ++ b; front = ap (λ (l : List ℕ). l ++ b) p.front ∙ append_assoc p.part p.later b; is = p.is }
+
+pub says_back : (told : Option (List ℕ)) (a b w : List ℕ) → SaysPart (behind told a) b w → SaysPart told (a ++ b) w
+says_back told a b w p = record { part = a ++ p.part; later = p.later; front = ap (λ (l : List ℕ). a ++ l) p.front ∙ sym (append_assoc a p.part p.later); is = sym (behind_twice told a p.part) ∙ p.is }

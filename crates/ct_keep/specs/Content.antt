@@ -1,0 +1,53 @@
+-- What a keeper holds, and what the words of a batch make of it.
+use Rattle.std.specs.Prelude.{ℕ, ◌≡◌, ◌+◌, ◌==◌, ◌≤◌, max, sum_by, Bool, true, false, ◌&&◌, List, [], ◌∷◌, length, filter, Option, Some, None}
+use Rattle.std.specs.Ordering.{nat_cmp, is_lt}
+use Rattle.std.specs.Cmp.Lexicographic.{slice_cmp}
+use Rattle.std.specs.FinMap.{FinMap, get, insert, remove, entries}
+
+-- a finite map from keys to values, both lists of bytes, in the order of the keys' bytes
+abbrev pub Content : Type 0
+Content = FinMap (slice_cmp nat_cmp) (List ℕ)
+
+-- a key, and the value that it is to have, or None where it is to go
+abbrev pub Word : Type 0
+Word = List ℕ × Option (List ℕ)
+
+abbrev pub set_to : List ℕ → Option (List ℕ) → Content → Content
+set_to key (Some value) m = insert m key value
+set_to key None m = remove m key
+
+-- the content after some words, the first of them first: the last word on a key counts
+abbrev pub after : List Word → Content → Content
+after [] m = m
+after (w ∷ ws) m = after ws (set_to w.0 w.1 m)
+
+-- the entries whose key is greater than the key, in order
+abbrev pub entries_above : List ℕ → Content → List (List ℕ × List ℕ)
+entries_above key m = filter (λ e. is_lt (slice_cmp nat_cmp key e.0)) (entries m)
+
+-- the first entry, if there is one
+abbrev pub first_entry : List (List ℕ × List ℕ) → Option (List ℕ × List ℕ)
+first_entry [] = None
+first_entry (e ∷ es) = Some e
+
+abbrev pub begins_with : List ℕ → List ℕ → Bool
+begins_with [] key = true
+begins_with (b ∷ bs) [] = false
+begins_with (b ∷ bs) (k ∷ ks) = (b == k) && begins_with bs ks
+
+-- the entries whose key begins with the prefix and is longer, in order
+abbrev pub entries_under : List ℕ → Content → List (List ℕ × List ℕ)
+entries_under prefix m = filter (λ e. begins_with prefix e.0) (entries_above prefix m)
+
+-- what an entry weighs: its bytes, and at least 64
+abbrev pub entry_weight : List ℕ × List ℕ → ℕ
+entry_weight e = max 64 (length e.0 + length e.1)
+
+abbrev pub weight : Content → ℕ
+weight m = sum_by entry_weight (entries m)
+
+-- the bounds on an entry: a key of 1 to 600 bytes, and a value of at most 2 ^ 26
+pub record IsEntry (key value : List ℕ) : Type 0 where
+  pub some : 1 ≤ length key
+  pub short : length key ≤ 600
+  pub bounded : length value ≤ 67108864

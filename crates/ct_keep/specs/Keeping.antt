@@ -1,0 +1,192 @@
+-- What is known of a keeper, and what its calls make of that.
+use Rattle.std.specs.Prelude.{ℕ, ◌≡◌, ◌⊎◌, ◌+◌, ◌-◌, ◌^◌, ◌<◌, ◌≤◌, ◌==◌, ◌||◌, min, Bool, true, false, List, [], ◌∷◌, ◌++◌, Option, Some, None, Result, Ok, Err, refl}
+use Rattle.std.specs.Bool.{if◌then◌else◌}
+use Rattle.std.proofs.Common.{sym, ap, subst, inl, ◌∙◌, arith, append_assoc}
+use base.Fml.{GName}
+use Rattle.ct_base.specs.Causes.{Rose}
+use Rattle.ct_base.specs.Told.{IsSaid, ahead, behind, SaysPart, behind_none, behind_twice, says_front, says_back}
+use Rattle.ct_base.specs.Moments.{Timeline, Passes, Stays, passes_none, passes_more, passes_then, passes_stays, stays_then}
+use Rattle.ct_site.specs.Disks.{Beside}
+use Rattle.ct_keep.specs.declared.keepers.KeepFault.{KeepFault}
+use Rattle.ct_keep.specs.declared.keepers.KeepFault.TheVariants.{Memory, Disk, Full}
+use Rattle.ct_keep.specs.Content.{Content, weight}
+
+-- How often entries of some kinds were asked for or handed out, and how often a commit was refused for want of room; each up to 2 ^ 64 - 1.
+pub record Counts : Type 0 where
+  pub texts : ℕ
+  pub rows : ℕ
+  pub rules : ℕ
+  pub fulls : ℕ
+
+pub record Keeping : Type 1 where
+  -- it may be called: none of its calls has answered Disk
+  pub ready : Type 0
+  -- what it holds, where it is told
+  pub content : Option Content
+  -- the script, the bytes said, and their counts of faults
+  pub beside : Beside
+  -- at each moment, the content that would be recovered, if any, and the bytes said by then
+  pub time : Timeline (Option Content)
+  -- what a stop now would leave, and the bytes said
+  pub now : Option Content → List ℕ → Type 0
+  -- which entries it may hold, beside the bounds on each; never changes
+  pub well : List ℕ → List ℕ → Bool
+  -- how much its content may weigh; never changes
+  pub limit : ℕ
+  pub counts : Counts
+  pub disk_faults : ℕ
+  -- the reference to the site that it stands over, if it stands over one
+  pub lender : Option GName
+
+-- how a call failed, if it did
+abbrev pub fault_of : {T : Type 0} → Result T KeepFault → Option KeepFault
+fault_of (Ok x) = None
+fault_of (Err fault) = Some fault
+
+-- what holds unless the disk failed, and what holds where it did
+abbrev pub UnlessDisk : Option KeepFault → Type 0 → Type 0
+UnlessDisk None P = P
+UnlessDisk (Some Memory) P = P
+UnlessDisk (Some Full) P = P
+UnlessDisk (Some Disk) P = Unit {0}
+
+abbrev pub OnDisk : Option KeepFault → Type 0 → Type 0
+OnDisk None P = Unit {0}
+OnDisk (Some Memory) P = Unit {0}
+OnDisk (Some Full) P = Unit {0}
+OnDisk (Some Disk) P = P
+
+-- What each call but hear and say keeps, whatever is told.
+pub record Kept (old new : Keeping) (fault : Option KeepFault) : Type 0 where
+  pub ready : UnlessDisk fault new.ready
+  pub beside : new.beside ≡ old.beside
+  pub well : new.well ≡ old.well
+  pub limit : new.limit ≡ old.limit
+  pub lender : new.lender ≡ old.lender
+  pub later : old.disk_faults ≤ new.disk_faults
+  pub cause : OnDisk fault (Rose old.disk_faults new.disk_faults)
+
+-- A stop between two calls leaves what it holds.
+pub record IsSettled (k : Keeping) : Type 0 where
+  pub here : (m : Content) → k.content ≡ Some m → (stopped : Option Content) (said : List ℕ) → k.now stopped said → (stopped ≡ Some m) × IsSaid k.beside.said said
+
+-- A call, or some calls, only read.
+pub record Reads (old new : Keeping) (fault : Option KeepFault) : Type 0 where
+  pub kept : Kept old new fault
+  pub content : UnlessDisk fault (new.content ≡ old.content)
+  pub time : Stays old.time new.time
+  pub now : (stopped : Option Content) (said : List ℕ) → new.now stopped said → old.now stopped said
+  pub fulls : new.counts.fulls ≡ old.counts.fulls
+
+-- ---- counts
+
+-- one more, where it is counted
+abbrev pub counted : Bool → ℕ → ℕ
+counted here n = if here then min (n + 1) (2 ^ 64 - 1) else n
+
+abbrev pub is_kind : ℕ → List ℕ → Bool
+is_kind kind [] = false
+is_kind kind (b ∷ bs) = b == kind
+
+abbrev pub is_kind_of : ℕ → Option (List ℕ) → Bool
+is_kind_of kind None = false
+is_kind_of kind (Some key) = is_kind kind key
+
+abbrev pub is_either : ℕ → List ℕ → Option (List ℕ) → Bool
+is_either kind asked handed = is_kind kind asked || is_kind_of kind handed
+
+-- The counts after a look-up that asked for this key and handed out the entry of that one. Texts are of kind 0x03, posting rows of 0x24 and 0x25, rules of 0x2a.
+abbrev pub looked_up : List ℕ → Option (List ℕ) → Counts → Counts
+looked_up asked handed c = record {
+  texts = counted (is_either 0x03 asked handed) c.texts;
+  rows = counted (is_either 0x24 asked handed || is_either 0x25 asked handed) c.rows;
+  rules = counted (is_either 0x2a asked handed) c.rules;
+  fulls = c.fulls;
+}
+
+abbrev pub is_full : Option KeepFault → Bool
+is_full (Some Full) = true
+is_full fault = false
+
+-- the counts after a commit
+abbrev pub committed : Option KeepFault → Counts → Counts
+committed fault c = record { texts = c.texts; rows = c.rows; rules = c.rules; fulls = counted (is_full fault) c.fulls }
+
+-- ---- commits
+
+-- There is no room to go from the one content to the other: the second is over the limit, and heavier than the first.
+pub record HasNoRoom (limit : ℕ) (m next : Content) : Type 0 where
+  pub over : limit < weight next
+  pub heavier : weight m < weight next
+
+-- There is: the second is within the limit, or no heavier.
+abbrev pub HasRoom : ℕ → Content → Content → Type 0
+HasRoom limit m next = (weight next ≤ limit) ⊎ (weight next ≤ weight m)
+
+-- the content after a call that was to make it this
+abbrev pub Came : Option KeepFault → Content → Content → Option Content → Type 0
+Came None old next content = content ≡ Some next
+Came (Some Memory) old next content = content ≡ Some old
+Came (Some Full) old next content = content ≡ Some old
+Came (Some Disk) old next content = Unit {0}
+
+-- what a stop leaves in such a call
+abbrev pub Leaves : Option KeepFault → Content → Content → Option Content → Type 0
+Leaves None old next stopped = (stopped ≡ Some old) ⊎ (stopped ≡ Some next)
+Leaves (Some Disk) old next stopped = (stopped ≡ Some old) ⊎ (stopped ≡ Some next)
+Leaves (Some Memory) old next stopped = stopped ≡ Some old
+Leaves (Some Full) old next stopped = stopped ≡ Some old
+
+-- From this content to that by at most one commit.
+pub record Goes (m next : Content) (old new : Keeping) (fault : Option KeepFault) : Type 0 where
+  pub content : Came fault m next new.content
+  pub time : Passes old.time new.time (λ stopped said. Leaves fault m next stopped × IsSaid old.beside.said said)
+  pub now : (stopped : Option Content) (said : List ℕ) → new.now stopped said → Leaves fault m next stopped × IsSaid old.beside.said said
+
+-- why a commit was answered so: Full exactly where there is no room, unless memory or the disk failed
+abbrev pub Answers : Option KeepFault → ℕ → Content → Content → Type 0
+Answers None limit m next = HasRoom limit m next
+Answers (Some Full) limit m next = HasNoRoom limit m next
+Answers (Some Memory) limit m next = Unit {0}
+Answers (Some Disk) limit m next = Unit {0}
+
+-- ---- hearing and saying
+
+-- what hearing and saying keep
+pub record Apart (old new : Keeping) : Type 0 where
+  pub ready : new.ready
+  pub content : new.content ≡ old.content
+  pub well : new.well ≡ old.well
+  pub limit : new.limit ≡ old.limit
+  pub counts : new.counts ≡ old.counts
+  pub disk_faults : new.disk_faults ≡ old.disk_faults
+  pub lender : new.lender ≡ old.lender
+
+-- Bytes of the script were heard, and nothing else was done.
+pub record KeeperHears (heard : List ℕ) (old new : Keeping) : Type 0 where
+  pub apart : Apart old new
+  pub left : old.beside.left ≡ ahead heard new.beside.left
+  pub said : new.beside.said ≡ old.beside.said
+  pub say_faults : new.beside.say_faults ≡ old.beside.say_faults
+  pub time : Stays old.time new.time
+
+-- Bytes were said, and nothing else was done.
+pub record KeeperSays (told : List ℕ) (old new : Keeping) : Type 0 where
+  pub apart : Apart old new
+  pub said : new.beside.said ≡ behind old.beside.said told
+  pub left : new.beside.left ≡ old.beside.left
+  pub hear_faults : new.beside.hear_faults ≡ old.beside.hear_faults
+  pub time : (m : Content) → old.content ≡ Some m → Passes old.time new.time (λ stopped said. (stopped ≡ Some m) × SaysPart old.beside.said told said)
+
+-- computed examples: a text that is asked for, a posting row that is handed out where a document was asked for, and a count at its end
+abbrev nothing_yet : Counts
+nothing_yet = record { texts = 0; rows = 0; rules = 0; fulls = 0 }
+
+one_text : looked_up (0x03 ∷ 1 ∷ []) None nothing_yet ≡ record { texts = 1; rows = 0; rules = 0; fulls = 0 }
+one_text = refl
+
+one_row : looked_up (0x22 ∷ []) (Some (0x24 ∷ 1 ∷ [])) nothing_yet ≡ record { texts = 0; rows = 1; rules = 0; fulls = 0 }
+one_row = refl
+
+at_its_end : counted true (2 ^ 64 - 1) ≡ 2 ^ 64 - 1
+at_its_end = refl

@@ -1,0 +1,5 @@
+pub mod Content
+pub mod Words
+pub mod Spoken
+pub mod Handed
+pub mod Keeping

@@ -1,0 +1,111 @@
+//! What every keeper promises.
+
+ghost use Rattle.std.specs.Prelude.{◌≡◌, ◌≤◌, ◌<◌, ℕ, List, Bool, Option, Some, None, Ok, Err, IfOk, length};
+ghost use Rattle.std.specs.Option.{option_map};
+ghost use Rattle.std.specs.FinMap.{get};
+ghost use Rattle.ct_base.specs.Told.{took, IsNothing};
+ghost use Rattle.ct_base.specs.Causes.{HasCause};
+ghost use Rattle.ct_keep.specs.Content.{Content, after, entries_above, first_entry};
+ghost use Rattle.ct_keep.specs.Words.{AreWell};
+ghost use Rattle.ct_keep.specs.Keeping.{Keeping, Kept, Reads, Goes, Answers, IsSettled, KeeperHears, KeeperSays, fault_of, looked_up, committed};
+ghost use Rattle.ct_keep.specs.Handed.{handed};
+
+use crate::batches::Batch;
+use ct_base::Memory;
+use ct_site::Failed;
+use std::alloc::Global;
+use thiserror::Error;
+
+/// Why a call of a keeper failed.
+#[derive(Clone, Copy, Debug, PartialEq, Eq, Error)]
+pub enum KeepFault {
+    /// There was no memory; all is as before the call.
+    #[error("out of memory")]
+    Memory,
+    /// The disk failed; the keeper may not be called again.
+    #[error("the disk failed")]
+    Disk,
+    /// The content would weigh too much; all is as before the call.
+    #[error("the store is full")]
+    Full,
+}
+
+impl From<Memory> for KeepFault {
+    ghost use Rattle.std.specs.Prelude.{◌≡◌};
+    ghost use Rattle.ct_keep.specs.declared.keepers.KeepFault.TheVariants.{Memory as OutOfMemory};
+
+    ghost from_gives = { λ _ fault. fault ≡ OutOfMemory };
+
+    fn from(_: Memory) -> KeepFault {
+        KeepFault::Memory
+    }
+}
+
+/// A keeper of a content, beside which a script is heard and replies are said.
+pub trait Keeper {
+    /// What is known of the keeper.
+    ghost keeping: { Self → Keeping };
+
+    /// The value of a key; None exactly where the content has no such entry. It never answers Full.
+    fn fetch(&mut self, alloc: Global, key: &[u8]) -> Result<Option<Vec<u8>>, KeepFault>
+        requires { (keeping self.old).ready }
+        ensures value { (m : Content) → (keeping self.old).content ≡ Some m → IfOk result (λ found. option_map (λ v. v.items) found ≡ get m key.now) }
+        ensures reads { Reads (keeping self.old) (keeping self.new) (fault_of result) }
+        ensures counts { (keeping self.new).counts ≡ looked_up key.now None (keeping self.old).counts }
+        ensures never_full { result ≡ Err KeepFault.Full → ⊥ };
+
+    /// The entry with the least key that is greater; None exactly where there is none. It never answers Full.
+    fn next_after(
+        &mut self,
+        alloc: Global,
+        key: &[u8],
+    ) -> Result<Option<(Vec<u8>, Vec<u8>)>, KeepFault>
+        requires { (keeping self.old).ready }
+        ensures entry { (m : Content) → (keeping self.old).content ≡ Some m → IfOk result (λ found. option_map (λ e. (e.0.items, e.1.items)) found ≡ first_entry (entries_above key.now m)) }
+        ensures reads { Reads (keeping self.old) (keeping self.new) (fault_of result) }
+        ensures counts { (keeping self.new).counts ≡ looked_up key.now (handed result) (keeping self.old).counts }
+        ensures never_full { result ≡ Err KeepFault.Full → ⊥ };
+
+    /// Does what the batch says, all of it or none. At each moment a stop leaves the old content or the new one, and after
+    /// Ok the new one.
+    fn commit(&mut self, alloc: Global, batch: Batch) -> Result<(), KeepFault>
+        requires ready { (keeping self.old).ready }
+        requires well { AreWell (keeping self.old).well batch }
+        ensures kept { Kept (keeping self.old) (keeping self.new) (fault_of result) }
+        ensures goes { (m : Content) → (keeping self.old).content ≡ Some m → Goes m (after batch m) (keeping self.old) (keeping self.new) (fault_of result) }
+        ensures answers { (m : Content) → (keeping self.old).content ≡ Some m → Answers (fault_of result) (keeping self.old).limit m (after batch m) }
+        ensures counts { (keeping self.new).counts ≡ committed (fault_of result) (keeping self.old).counts };
+
+    /// Takes bytes of the script into the front of `into`, and answers how many. 0 means the end of the script.
+    fn hear(&mut self, into: &mut [u8]) -> Result<usize, Failed>
+        requires ready { (keeping self.old).ready }
+        requires some { 0 < length into.old }
+        ensures bound { IfOk result (λ count. count ≤ length into.old) }
+        ensures hears { KeeperHears (took result into.new) (keeping self.old) (keeping self.new) }
+        ensures end { result ≡ Ok 0 → IsNothing (keeping self.new).beside.left }
+        ensures cause { HasCause (keeping self.old).beside.hear_faults (keeping self.new).beside.hear_faults result };
+
+    /// Says bytes of the front of `bytes`, at least one, and answers how many.
+    fn say(&mut self, bytes: &[u8]) -> Result<usize, Failed>
+        requires ready { (keeping self.old).ready }
+        requires some { 0 < length bytes.now }
+        ensures bound { IfOk result (λ count. count ≤ length bytes.now) }
+        ensures some { IfOk result (λ count. 0 < count) }
+        ensures says { KeeperSays (took result bytes.now) (keeping self.old) (keeping self.new) }
+        ensures cause { HasCause (keeping self.old).beside.say_faults (keeping self.new).beside.say_faults result };
+
+    /// Between two calls a stop leaves what it holds.
+    ghost settled: { (k : Self) → (keeping k).ready → IsSettled (keeping k) };
+
+    /// Since now there is no other moment.
+    ghost only_now: { (k : Self) (stopped : Option Content) (said : List ℕ) → (keeping k).time.since (keeping k).time.clock stopped said → (keeping k).now stopped said };
+}
+
+/// Tells which entries a store may hold, each by itself.
+pub trait Shape {
+    /// Whether an entry is well shaped.
+    ghost is_well: { Self → List ℕ → List ℕ → Bool };
+
+    fn well(&self, key: &[u8], value: &[u8]) -> bool
+        ensures { result ≡ is_well self.now key.now value.now };
+}

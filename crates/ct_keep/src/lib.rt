@@ -1,0 +1,8 @@
+//! A keeper of entries: what it holds is a finite map from bytes to bytes.
+#![tactic(auto)]
+
+mod batches;
+mod keepers;
+
+pub use batches::{Batch, Word};
+pub use keepers::{KeepFault, Keeper, Shape};
