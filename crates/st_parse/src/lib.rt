@@ -1,11 +1,13 @@
 //! The grammar of statements.
 #![tactic(auto)]
 
+mod laws;
 mod lexemes;
 mod lexing;
 mod parsing;
 mod statements;
 
+pub use laws::{one_statement, statement_is_read};
 pub use lexemes::{Keyword, Lexeme, Symbol};
 pub use lexing::is_blank;
 pub use parsing::{StatementFault, parse};
