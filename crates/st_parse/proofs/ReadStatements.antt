@@ -1,5 +1,5 @@
 -- The function that reads a statement, and the relation between lexemes and statements, are the same.
-use Rattle.std.proofs.Common.{◌≡◌, ℕ, ⊎_elim, inl, inr, Bool, true, false, cond, List, [], ◌∷◌, ◌++◌, refl, sym, ap, ◌∙◌, subst, Option, Some, None}
+use Rattle.std.proofs.Common.{◌≡◌, ℕ, ⊎_elim, inl, inr, Bool, true, false, cond, List, [], ◌∷◌, refl, ap, ◌∙◌, subst, Option, Some, None}
 use Rattle.std.specs.Prelude.{◌&&◌, codes, bytes_eq}
 use Rattle.std.proofs.lemmas.Slice.Eq.{bytes_eq-Decides}
 use Rattle.st_parse.specs.declared.lexemes.Keyword.{Keyword}
@@ -10,7 +10,7 @@ use Rattle.st_parse.specs.declared.lexemes.Lexeme.TheVariants.{Word, Name, Text,
 use Rattle.st_parse.specs.declared.statements.Arg.TheVariants.{Text as TextArg}
 use Rattle.st_parse.specs.declared.statements.Statement.{Statement}
 use Rattle.st_parse.specs.declared.statements.Statement.TheVariants.{Exec}
-use Rattle.st_parse.specs.Grammar.{IsExec, IsStatement, spelt_args, call_of, exec_of, statement_of}
+use Rattle.st_parse.specs.Grammar.{IsExec, IsStatement, call_of, exec_of, statement_of}
 
 -- what was read is this statement
 abbrev pub Means : Option Statement → List Lexeme → Type 0

@@ -7,7 +7,7 @@ mod lexing;
 mod parsing;
 mod statements;
 
-pub use laws::{one_statement, statement_is_read};
+pub use laws::{one_statement, statement_is_read, written_is_read};
 pub use lexemes::{Keyword, Lexeme, Symbol};
 pub use lexing::is_blank;
 pub use parsing::{StatementFault, parse};

@@ -1,4 +1,4 @@
-use Rattle.std.proofs.Common.{rules, arith, ap, ◌∙◌, length, is_ok}
+use Rattle.std.proofs.Common.{rules, arith, ap, length, is_ok}
 use Rattle.std.specs.Str.{chars}
 use Rattle.std.proofs.ResultArms.{chosen}
 use Rattle.st_parse.specs.Lexemes.{is_in_line, lexemes}
