@@ -25,8 +25,8 @@ text-char front (d ∷ cs) c h = rw h refl
 pub text-step : (front front' text cs : List ℕ) (c : ℕ) → text ≡ c ∷ cs → (c == 39) ≡ false → front' ≡ front ++ encode_utf8 c → text_at front' cs ≡ text_at front text
 text-step front front' text cs c split other more = rw (split, more) (sym (text-char front cs c other))
 
-pub text-quote : (front front' text mid cs : List ℕ) (c d : ℕ) → text ≡ c ∷ mid → mid ≡ d ∷ cs → c ≡ 39 → d ≡ 39 → front' ≡ front ++ 39 ∷ [] → text_at front' cs ≡ text_at front text
-text-quote front front' text mid cs c d split second quote quotes more = rw (split, second, quote, quotes, more) refl
+pub text-quote : (front front' text mid cs : List ℕ) (c : ℕ) → text ≡ c ∷ mid → mid ≡ 39 ∷ cs → c ≡ 39 → front' ≡ front ++ 39 ∷ [] → text_at front' cs ≡ text_at front text
+text-quote front front' text mid cs c split second quote more = rw (split, second, quote, more) refl
 
 -- a run and what follows it are the whole, and what follows is no longer
 pub run-joins : (p : ℕ → Bool) (cs : List ℕ) → run p cs ++ after p cs ≡ cs

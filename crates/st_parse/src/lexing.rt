@@ -1,6 +1,6 @@
 //! From a text to its lexemes.
 
-ghost use Rattle.std.specs.Prelude.{◌≡◌, ◌<◌, ◌≤◌, ◌↔◌, map, length, [], IfOk, IfSome, IsTrue, MatchOption, Some, None};
+ghost use Rattle.std.specs.Prelude.{◌≡◌, ◌<◌, ◌≤◌, ◌↔◌, map, length, false, [], ◌∷◌, IfOk, IfSome, IsTrue, MatchOption, Some, None};
 ghost use Rattle.std.specs.Char.{is_ascii_digit, to_ascii_lowercase};
 ghost use Rattle.std.specs.Str.{chars};
 ghost use Rattle.std.specs.String.{string_bytes};
@@ -116,6 +116,16 @@ fn after_line(text: &str) -> &str
     rest
 }
 
+/// What follows the quote at the front, if one stands there.
+fn after_quote(text: &str) -> Option<&str>
+    ensures { MatchOption result (is_first 39 (chars text.now) ≡ false) (λ next. chars text.now ≡ 39 ∷ chars next.now) }
+{
+    match split_first(text) {
+        Some(('\'', next)) => Some(next),
+        _ => None,
+    }
+}
+
 /// The text that is open here, and what follows its end.
 fn read_text(alloc: Global, text: &str) -> Result<(String, &str), LexFault>
     ensures gives { LexGives (λ x. (string_bytes x.0, chars x.1.now)) result (text_at [] (chars text.now)) }
@@ -129,12 +139,12 @@ fn read_text(alloc: Global, text: &str) -> Result<(String, &str), LexFault>
             rest = after;
             continue;
         }
-        match split_first(after) {
-            Some(('\'', next)) => {
+        match after_quote(after) {
+            Some(next) => {
                 push_ascii(&mut read, '\'')?;
                 rest = next;
             }
-            _ => return Ok((read, after)),
+            None => return Ok((read, after)),
         }
     }
     Err(LexFault::NoLexeme)

@@ -6,6 +6,8 @@ mod lexemes;
 mod lexing;
 mod parsing;
 mod statements;
+#[cfg(test)]
+mod tests;
 
 pub use laws::{one_statement, statement_is_read, written_is_read};
 pub use lexemes::{Keyword, Lexeme, Symbol};

@@ -62,7 +62,12 @@ impl From<LexFault> for StatementFault {
 }
 
 /// The call of a procedure that there is.
-fn call(alloc: Global, pack: &Name, procedure: &Name, text: &Text) -> Result<Statement, StatementFault>
+fn call(
+    alloc: Global,
+    pack: &Name,
+    procedure: &Name,
+    text: &Text,
+) -> Result<Statement, StatementFault>
     ensures { StatementGives result (call_of pack.now procedure.now text.now) }
 {
     if pack.as_str() != "ctx_doc" || procedure.as_str() != "policy_tokens" {

@@ -26,6 +26,9 @@ loop-c-preserved c =
     let shorter = c.loop-c.invariant.shorter in
     record {
       is_text = search rules;
-      shorter = omega (arith, ap length c.in-Some.ensures.chars, ap length c.in-Some-eq39-default.ensures.chars);
-      so_far = text-quote (string_bytes c.loop-c.read) _ _ _ _ c.in-Some.c _ c.in-Some.ensures.chars c.in-Some-eq39-default.ensures.chars (search rules) (search rules) c.in_ok-push_ascii-in-Some-eq39-default.ensures ∙ c.loop-c.invariant.so_far;
+      shorter = omega (arith, ap length c.in-Some.ensures.chars, ap length c.in-Some-after_quote.ensures);
+      so_far = text-quote (string_bytes c.loop-c.read) _ _ _ _ c.in-Some.c c.in-Some.ensures.chars c.in-Some-after_quote.ensures (search rules) c.in_ok-push_ascii-in-Some-after_quote.ensures ∙ c.loop-c.invariant.so_far;
     }
+
+pub loop-c-smaller : goal.loop-c-smaller
+loop-c-smaller c = omega (arith, ap length c.in-Some.ensures.chars, ap length c.in-Some-after_quote.ensures)

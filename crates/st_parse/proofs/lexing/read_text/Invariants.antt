@@ -15,4 +15,4 @@ invariant-loop-c l = record {
 }
 
 abbrev pub decreases-loop-c : goal.decreases-loop-c
-decreases-loop-c l = length l.rest
+decreases-loop-c l = length (chars l.rest)
