@@ -1,12 +1,12 @@
 -- What a key has after words for each of several things.
-use Rattle.std.proofs.Common.{◌≡◌, ℕ, Bool, true, false, cond, List, [], ◌∷◌, ◌++◌, Option, refl, sym, ap, ◌∙◌, append_assoc}
+use Rattle.std.proofs.Common.{◌≡◌, ℕ, Bool, true, false, cond, List, [], ◌∷◌, ◌++◌, Option, map, refl, sym, ap, ◌∙◌, append_assoc}
 use Rattle.std.specs.Prelude.{◌&&◌, ◌||◌}
 use Rattle.std.specs.List.{list_any}
 use Rattle.ct_entry.specs.Keys.{Key, same_list}
-use Rattle.ct_entry.specs.Words.{told, spell, AreWords, AllOf}
+use Rattle.ct_entry.specs.Words.{told, AreWords, AllOf}
 use Rattle.ct_entry.specs.Each.{each, latest, is_among}
 use Rattle.ct_entry.specs.KeyLaws.{list_from_same}
-use Rattle.ct_entry.specs.WordLaws.{told-append, are-append, all-append, spell-append}
+use Rattle.ct_entry.specs.WordLaws.{told-append, are-append, all-append}
 use Rattle.ct_entry.specs.declared.kinds.Kind.{Kind}
 
 module _ {I : Type 0} where
@@ -71,3 +71,8 @@ told_owners words k test v one names old = told_each words k (λ j. same_list k.
     hits (j ∷ js) =
         ap (λ (b : Bool). (same_list k.owner j && test j) || b) (hits js)
         ∙ go (same_list k.owner j) (is_among k.owner js) (test j) (test k.owner) (λ h. ap test (sym (list_from_same k.owner j h)))
+
+-- one word for each
+pub map-each : {I : Type 0} (word : I → Key × Option (List ℕ)) (is : List I) → map word is ≡ each (λ i. word i ∷ []) is
+map-each word [] = refl
+map-each word (i ∷ is) = ap (λ (ws : List (Key × Option (List ℕ))). word i ∷ ws) (map-each word is)

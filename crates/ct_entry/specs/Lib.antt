@@ -6,3 +6,6 @@ pub mod WordLaws
 pub mod Each
 pub mod EachLaws
 pub mod Fetches
+pub mod RowBytes
+pub mod PartLaws
+pub mod WellLaws

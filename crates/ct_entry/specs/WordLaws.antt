@@ -1,7 +1,6 @@
 -- What a content has after words on keys, and what words leave alone.
 use Rattle.std.proofs.Common.{◌≡◌, ℕ, Bool, true, false, cond, List, [], ◌∷◌, ◌++◌, Option, Some, None, refl, sym, ap, ◌∙◌}
-use Rattle.std.specs.Prelude.{◌&&◌, is_some}
-use Rattle.std.specs.List.{list_any}
+use Rattle.std.specs.Prelude.{is_some}
 use Rattle.std.proofs.lemmas.Cmp.{nat_list_cmp_total}
 use Rattle.std.proofs.lemmas.Map.Lookups.{exact_bytes}
 use Rattle.std.specs.Ordering.{nat_cmp, eq_by_cmp}
@@ -9,9 +8,9 @@ use Rattle.std.specs.Cmp.Lexicographic.{slice_cmp}
 use Rattle.std.specs.FinMap.{get, get-insert, get-remove}
 use Rattle.ct_keep.specs.Content.{Content, set_to, after}
 use Rattle.ct_entry.specs.declared.kinds.Kind.{Kind}
-use Rattle.ct_entry.specs.Keys.{Key, bytes, same, same_list, at, IsKey, HasKeysOnly}
+use Rattle.ct_entry.specs.Keys.{Key, bytes, same, at, IsKey, HasKeysOnly}
 use Rattle.ct_entry.specs.Words.{spell, told, view, AreWords, AllOf}
-use Rattle.ct_entry.specs.KeyLaws.{is_eq_Equal, key_from_same, bytes_same, list_from_same}
+use Rattle.ct_entry.specs.KeyLaws.{is_eq_Equal, key_from_same, bytes_same}
 
 -- ---- what the words say
 
