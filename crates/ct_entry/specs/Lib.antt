@@ -9,3 +9,9 @@ pub mod Fetches
 pub mod RowBytes
 pub mod PartLaws
 pub mod WellLaws
+pub mod Maps
+pub mod MapLaws
+pub mod Rising
+pub mod TailStand
+pub mod Listings
+pub mod ListingLaws
