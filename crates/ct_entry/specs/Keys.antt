@@ -1,8 +1,6 @@
 -- Keys by their parts, and the bytes that spell them.
-use Rattle.std.specs.Prelude.{◌≡◌, ℕ, ℤ, pos, Bool, true, false, ◌==◌, ◌&&◌, ◌≤◌, ◌<◌, ◌^◌, List, [], ◌∷◌, ◌++◌, length, Option, Some, None, IsSome, FitsSigned, codes, refl}
+use Rattle.std.specs.Prelude.{◌≡◌, ℕ, ℤ, pos, Bool, true, false, ◌==◌, ◌&&◌, ◌≤◌, ◌<◌, ◌^◌, List, [], ◌∷◌, ◌++◌, length, Option, IsSome, FitsSigned, codes, refl}
 use Rattle.std.specs.Int.{to_be_bytes, w32, w64}
-use Rattle.std.specs.Ordering.{nat_cmp}
-use Rattle.std.specs.Cmp.Lexicographic.{slice_cmp}
 use Rattle.std.specs.FinMap.{get}
 use Rattle.ct_base.specs.Names.{IsName}
 use Rattle.ct_bytes.specs.RowKeys.{row_bytes}

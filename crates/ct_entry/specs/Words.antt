@@ -1,5 +1,5 @@
 -- Words on keys: what a call puts into a batch.
-use Rattle.std.specs.Prelude.{◌≡◌, ℕ, Bool, true, false, cond, List, [], ◌∷◌, ◌++◌, Option, Some, None}
+use Rattle.std.specs.Prelude.{◌≡◌, ℕ, Bool, true, cond, List, [], ◌∷◌, Option, Some, None}
 use Rattle.ct_entry.specs.declared.kinds.Kind.{Kind}
 use Rattle.ct_entry.specs.Keys.{Key, bytes, same, IsKey}
 
@@ -36,3 +36,12 @@ AreWords (w ∷ ws) = IsKey w.0 × AreWords ws
 abbrev pub AllOf : (Kind → Bool) → List (Key × Option (List ℕ)) → Type 0
 AllOf p [] = Unit {0}
 AllOf p (w ∷ ws) = (p w.0.kind ≡ true) × AllOf p ws
+
+-- of the words that put, what is put fits its key
+abbrev pub Puts : (Key → List ℕ → Type 0) → Key → Option (List ℕ) → Type 0
+Puts P k None = Unit {0}
+Puts P k (Some v) = P k v
+
+abbrev pub AllPut : (Key → List ℕ → Type 0) → List (Key × Option (List ℕ)) → Type 0
+AllPut P [] = Unit {0}
+AllPut P (w ∷ ws) = Puts P w.0 w.1 × AllPut P ws
