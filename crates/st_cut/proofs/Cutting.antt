@@ -89,27 +89,24 @@ cutting_all limit script i items cutter h c = rw (take_all i script h) at c
 
 -- ---- each script has one cut
 
-line_ends : (bs next : List ℕ) → line_end true bs ≡ Some next → length next ≤ length bs
-line_ends bs next h = line_shrinks true bs next h
+statement_shrinks : (w : Bool) (bs : List ℕ) (found : List ℕ × List ℕ) → first_statement w bs ≡ Some found → length found.1 < length bs
+statement_shrinks w [] found h = cc
+statement_shrinks w (c ∷ cs) found h = grind (arith, line_shrinks, statement_shrinks w cs)
 
-statement_shrinks : (bs : List ℕ) (found : List ℕ × List ℕ) → first_statement true bs ≡ Some found → length found.1 < length bs
-statement_shrinks [] found h = cc
-statement_shrinks (c ∷ cs) found h = grind (arith, line_ends, statement_shrinks cs)
+-- a script of at most n bytes has a cut, whole or as far as it has come
+cut_within : (w : Bool) (n : ℕ) (script : List ℕ) → length script ≤ n → (o : Option (List ℕ × List ℕ)) → first_statement w script ≡ o → (ss : List (List ℕ)) × (rest : List ℕ) × Cuts w script ss rest
+cut_within w n script h None e = ([], script, (e, refl))
+cut_within w zero script h (Some found) e = absurd (omega (arith, statement_shrinks w script found e))
+cut_within w (suc n) script h (Some found) e =
+    let r : (ss : List (List ℕ)) × (rest : List ℕ) × Cuts w found.1 ss rest = cut_within w n found.1 (omega (arith, statement_shrinks w script found e)) (first_statement w found.1) refl in
+    (found.0 ∷ r.0, r.1, (found.1, e, r.2))
 
--- a script of at most n bytes has a cut
-cut_within : (n : ℕ) (script : List ℕ) → length script ≤ n → (ss : List (List ℕ)) × (rest : List ℕ) × Cuts true script ss rest
-cut_within n script h = by_first n script h (first_statement true script) refl
-  where
-    by_first : (n : ℕ) (script : List ℕ) → length script ≤ n → (o : Option (List ℕ × List ℕ)) → first_statement true script ≡ o → (ss : List (List ℕ)) × (rest : List ℕ) × Cuts true script ss rest
-    by_first n script h None e = ([], script, (e, refl))
-    by_first zero script h (Some found) e = absurd (omega (arith, statement_shrinks script found e))
-    by_first (suc n) script h (Some found) e =
-        let r : (ss : List (List ℕ)) × (rest : List ℕ) × Cuts true found.1 ss rest = by_first n found.1 (omega (arith, statement_shrinks script found e)) (first_statement true found.1) refl in
-        (found.0 ∷ r.0, r.1, (found.1, e, r.2))
+pub some_cut : (w : Bool) (script : List ℕ) → (ss : List (List ℕ)) × (rest : List ℕ) × Cuts w script ss rest
+some_cut w script = cut_within w (length script) script (omega arith) (first_statement w script) refl
 
 pub whole_cut : (script : List ℕ) → (items : List (List ℕ)) × IsCut script items
 whole_cut script =
-    let c : (ss : List (List ℕ)) × (rest : List ℕ) × Cuts true script ss rest = cut_within (length script) script (omega arith) in
+    let c : (ss : List (List ℕ)) × (rest : List ℕ) × Cuts true script ss rest = some_cut true script in
     (c.0 ++ c.1 ∷ [], record { statements = c.0; rest = c.1; cut = c.2; is = refl })
 
 pub whole_once : (script : List ℕ) (items others : List (List ℕ)) → IsCut script items → IsCut script others → items ≡ others
