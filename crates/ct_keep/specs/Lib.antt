@@ -3,3 +3,4 @@ pub mod Words
 pub mod Spoken
 pub mod Handed
 pub mod Keeping
+pub mod Composing
