@@ -4,3 +4,8 @@ pub mod Spoken
 pub mod Handed
 pub mod Keeping
 pub mod Composing
+pub mod Rising
+pub mod Laws
+pub mod Tail
+pub mod TailLaws
+pub mod Looks
