@@ -9,3 +9,4 @@ pub mod Laws
 pub mod Tail
 pub mod TailLaws
 pub mod Looks
+pub mod LookLaws

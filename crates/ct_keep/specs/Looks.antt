@@ -38,6 +38,11 @@ looks prefix key (e ∷ es) = plus (look key (Some e.0)) (if begins_with prefix 
 abbrev pub scan_looks : List ℕ → Content → Counts
 scan_looks prefix m = looks prefix prefix (entries_above prefix m)
 
+-- the key of the first entry that isn't under the prefix: the one that the last look-up of a scan hands out
+abbrev pub behind : List ℕ → List (List ℕ × List ℕ) → Option (List ℕ)
+behind prefix [] = None
+behind prefix (e ∷ es) = if begins_with prefix e.0 then behind prefix es else Some e.0
+
 -- a count to which so much was added; it stands still at its end
 abbrev pub raised_by : ℕ → ℕ → ℕ
 raised_by n count = if n == 0 then count else min (count + n) (2 ^ 64 - 1)

@@ -176,15 +176,15 @@ pub begins_itself : (p : List ℕ) → begins_with p p ≡ true
 begins_itself [] = refl
 begins_itself (x ∷ p) = and_both _ _ (eq-eqb x x refl) (begins_itself p)
 
-then_less : (o r : Ordering) → ordering_then o r ≡ Less → (o ≡ Less) ⊎ ((o ≡ Equal) × (r ≡ Less))
+pub then_less : (o r : Ordering) → ordering_then o r ≡ Less → (o ≡ Less) ⊎ ((o ≡ Equal) × (r ≡ Less))
 then_less Less r e = inl refl
 then_less Equal r e = inr (refl, e)
 then_less Greater r e = cc
 
-lt_from_less : (a b : ℕ) → nat_cmp a b ≡ Less → a < b
+pub lt_from_less : (a b : ℕ) → nat_cmp a b ≡ Less → a < b
 lt_from_less a b e = subst (λ r. MatchOrdering r (a < b) (a ≡ b) (b < a)) e (ranked a b (nat_cmp a b) refl)
 
-eq_from_equal : (a b : ℕ) → nat_cmp a b ≡ Equal → a ≡ b
+pub eq_from_equal : (a b : ℕ) → nat_cmp a b ≡ Equal → a ≡ b
 eq_from_equal a b e = subst (λ r. MatchOrdering r (a < b) (a ≡ b) (b < a)) e (ranked a b (nat_cmp a b) refl)
 
 -- what lies between two keys that begin so begins so
@@ -210,7 +210,7 @@ convex (x ∷ p) (y ∷ a) (w ∷ b) (z ∷ c) pa ab bc pc =
     ]
 
 -- a key that begins so, and above it one that doesn't: no later one does
-none_later : (p a b : List ℕ) (es : List Entry) → begins_with p a ≡ true → order a b ≡ Less → begins_with p b ≡ false → below b es ≡ true → beginning p es ≡ []
+pub none_later : (p a b : List ℕ) (es : List Entry) → begins_with p a ≡ true → order a b ≡ Less → begins_with p b ≡ false → below b es ≡ true → beginning p es ≡ []
 none_later p a b [] pa ab differs s = refl
 none_later p a b (e ∷ es) pa ab differs s =
     let s2 = and_true (is_lt (order b e.0)) (below b es) s in
