@@ -103,25 +103,6 @@ pub fn scan<K: Keeper>(
     Err(KeepFault::Memory)
 }
 
-/// The first of the entries whose key begins with the prefix and is longer: the rest of its key, and its value; None exactly where there is none.
-///
-/// It takes one look-up, and never answers Full.
-pub fn first_under<K: Keeper>(
-    alloc: Global,
-    keeper: &mut K,
-    prefix: &[u8],
-) -> Result<Option<(Vec<u8>, Vec<u8>)>, KeepFault>
-    requires { (K.keeping keeper.old).ready }
-    ensures entry { (m : Content) → (K.keeping keeper.old).content ≡ Some m → IfOk result (λ found. option_map (λ e. (e.0.items, e.1.items)) found ≡ first_entry (entries (tail prefix.now m))) }
-    ensures reads { Reads (K.keeping keeper.old) (K.keeping keeper.new) (fault_of result) }
-    ensures counts { (m : Content) → (K.keeping keeper.old).content ≡ Some m → OnOk result ((K.keeping keeper.new).counts ≡ raised (next_looks prefix.now m) (K.keeping keeper.old).counts) }
-    ensures at_most { (m : Content) → (K.keeping keeper.old).content ≡ Some m → RisesBy (next_looks prefix.now m) (K.keeping keeper.old).counts (K.keeping keeper.new).counts }
-    ensures never_full { result ≡ Err KeepFault.Full → ⊥ }
-{
-    let mut last = joined(alloc, prefix, &[])?;
-    step_under(alloc, keeper, prefix, &mut last)
-}
-
 /// The first of the entries whose key begins with the prefix and whose rest is greater than `after`: the rest of its key, and its value; None exactly where there is none.
 ///
 /// It takes one look-up, and never answers Full.
@@ -140,4 +121,22 @@ pub fn next_under<K: Keeper>(
 {
     let mut last = joined(alloc, prefix, after)?;
     step_under(alloc, keeper, prefix, &mut last)
+}
+
+/// The first of the entries whose key begins with the prefix and is longer: the rest of its key, and its value; None exactly where there is none.
+///
+/// It takes one look-up, and never answers Full.
+pub fn first_under<K: Keeper>(
+    alloc: Global,
+    keeper: &mut K,
+    prefix: &[u8],
+) -> Result<Option<(Vec<u8>, Vec<u8>)>, KeepFault>
+    requires { (K.keeping keeper.old).ready }
+    ensures entry { (m : Content) → (K.keeping keeper.old).content ≡ Some m → IfOk result (λ found. option_map (λ e. (e.0.items, e.1.items)) found ≡ first_entry (entries (tail prefix.now m))) }
+    ensures reads { Reads (K.keeping keeper.old) (K.keeping keeper.new) (fault_of result) }
+    ensures counts { (m : Content) → (K.keeping keeper.old).content ≡ Some m → OnOk result ((K.keeping keeper.new).counts ≡ raised (next_looks prefix.now m) (K.keeping keeper.old).counts) }
+    ensures at_most { (m : Content) → (K.keeping keeper.old).content ≡ Some m → RisesBy (next_looks prefix.now m) (K.keeping keeper.old).counts (K.keeping keeper.new).counts }
+    ensures never_full { result ≡ Err KeepFault.Full → ⊥ }
+{
+    next_under(alloc, keeper, prefix, &[])
 }
