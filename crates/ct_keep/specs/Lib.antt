@@ -3,3 +3,10 @@ pub mod Words
 pub mod Spoken
 pub mod Handed
 pub mod Keeping
+pub mod Composing
+pub mod Rising
+pub mod Laws
+pub mod Tail
+pub mod TailLaws
+pub mod Looks
+pub mod LookLaws

@@ -3,6 +3,8 @@
 
 mod batches;
 mod keepers;
+mod scans;
 
 pub use batches::{Batch, Word};
 pub use keepers::{KeepFault, Keeper, Shape};
+pub use scans::{first_under, next_under, scan};

@@ -1,0 +1,178 @@
+-- What calls of a keeper make together: each of its relations of one call after another.
+use Rattle.std.specs.Prelude.{ℕ, ◌≡◌, ◌≤◌, List, [], ◌++◌, Bool, true, false, Option, Some, None, Result, Ok, Err, IsErrAnd, refl}
+use Rattle.std.proofs.Common.{sym, ap, subst, inl, ◌∙◌, arith}
+use Rattle.ct_base.specs.Causes.{Rose}
+use Rattle.ct_base.specs.Told.{IsSaid, ahead, behind, ahead_none, ahead_twice, SaysPart, behind_none, behind_twice, says_front, says_back}
+use Rattle.ct_base.specs.Moments.{passes_none, passes_more, passes_then, passes_stays, stays_all, stays_then}
+use Rattle.ct_site.specs.Disks.{Beside}
+use Rattle.ct_keep.specs.declared.keepers.KeepFault.{KeepFault}
+use Rattle.ct_keep.specs.declared.keepers.KeepFault.TheVariants.{Memory, Disk, Full}
+use Rattle.ct_keep.specs.Content.{Content}
+use Rattle.ct_keep.specs.Words.{AreWell}
+use Rattle.ct_keep.specs.Keeping.{Keeping, Counts, Kept, Reads, Goes, Answers, Came, Leaves, IsSettled, Apart, KeeperHears, KeeperSays, UnlessDisk, OnDisk, fault_of, counted, is_full, committed}
+
+-- ---- what every call keeps
+
+pub kept_all : (k : Keeping) → k.ready → Kept k k None
+kept_all k ready = record { ready = ready; beside = refl; well = refl; limit = refl; lender = refl; later = omega arith; cause = tt }
+
+-- a call that succeeded, and then another
+pub kept_then : (old mid new : Keeping) (fault : Option KeepFault) → Kept old mid None → Kept mid new fault → Kept old new fault
+kept_then old mid new fault first second = record {
+  ready = second.ready;
+  beside = second.beside ∙ first.beside;
+  well = second.well ∙ first.well;
+  limit = second.limit ∙ first.limit;
+  lender = second.lender ∙ first.lender;
+  later = omega (arith, first.later, second.later);
+  cause = rose fault second.cause;
+}
+  where
+    rose : (fault : Option KeepFault) → OnDisk fault (Rose mid.disk_faults new.disk_faults) → OnDisk fault (Rose old.disk_faults new.disk_faults)
+    rose None c = c
+    rose (Some Memory) c = c
+    rose (Some Full) c = c
+    rose (Some Disk) c = let l = first.later in omega (arith, c, l)
+
+-- calls that succeeded, and then no memory
+pub kept_short : (old new : Keeping) → Kept old new None → Kept old new (Some Memory)
+kept_short old new kept = record { ready = kept.ready; beside = kept.beside; well = kept.well; limit = kept.limit; lender = kept.lender; later = kept.later; cause = tt }
+
+-- ---- reads
+
+pub reads_none : (k : Keeping) → k.ready → Reads k k None
+reads_none k ready = record { kept = kept_all k ready; content = refl; time = stays_all k.time; now = λ stopped said now. now; fulls = refl }
+
+-- reads that succeeded, and then others
+pub reads_on : (old mid new : Keeping) (fault : Option KeepFault) → Reads old mid None → Reads mid new fault → Reads old new fault
+reads_on old mid new fault first second = record {
+  kept = kept_then old mid new fault first.kept second.kept;
+  content = same fault second.content;
+  time = stays_then old.time mid.time new.time first.time second.time;
+  now = λ stopped said now. first.now stopped said (second.now stopped said now);
+  fulls = second.fulls ∙ first.fulls;
+}
+  where
+    same : (fault : Option KeepFault) → UnlessDisk fault (new.content ≡ mid.content) → UnlessDisk fault (new.content ≡ old.content)
+    same None c = c ∙ first.content
+    same (Some Memory) c = c ∙ first.content
+    same (Some Full) c = c ∙ first.content
+    same (Some Disk) c = c
+
+-- reads that succeeded, and then no memory
+pub reads_short : (old new : Keeping) → Reads old new None → Reads old new (Some Memory)
+reads_short old new reads = record { kept = kept_short old new reads.kept; content = reads.content; time = reads.time; now = reads.now; fulls = reads.fulls }
+
+-- what is held after them
+pub reads_hold : (old new : Keeping) (m : Content) → Reads old new None → old.content ≡ Some m → new.content ≡ Some m
+reads_hold old new m reads holds = reads.content ∙ holds
+
+-- what a batch needs after them
+pub reads_well : (old new : Keeping) (batch : List (List ℕ × Option (List ℕ))) → Reads old new None → AreWell old.well batch → AreWell new.well batch
+reads_well old new batch reads well = subst (λ (w : List ℕ → List ℕ → Bool). AreWell w batch) (sym reads.kept.well) well
+
+-- ---- reads, and then at most one commit
+
+pub reads_then : (m next : Content) (old mid new : Keeping) (fault : Option KeepFault) → Reads old mid None → Goes m next mid new fault → Goes m next old new fault
+reads_then m next old mid new fault reads goes = record {
+  content = goes.content;
+  time = passes_then old.time mid.time new.time _ (passes_stays old.time mid.time _ reads.time)
+      (passes_more mid.time new.time _ _ goes.time (λ stopped said p. (p.0, before said p.1)));
+  now = λ stopped said now. let p = goes.now stopped said now in (p.0, before said p.1);
+}
+  where
+    before : (said : List ℕ) → IsSaid mid.beside.said said → IsSaid old.beside.said said
+    before said is = ap (λ (b : Beside). b.said) (sym reads.kept.beside) ∙ is
+
+-- reads alone, which succeeded
+pub reads_only : (m : Content) (old new : Keeping) → IsSettled old → old.content ≡ Some m → Reads old new None → Goes m m old new None
+reads_only m old new settled holds reads = record {
+  content = reads.content ∙ holds;
+  time = passes_stays old.time new.time _ reads.time;
+  now = λ stopped said now. let p = settled.here m holds stopped said (reads.now stopped said now) in (inl p.0, p.1);
+}
+
+-- or which failed
+pub reads_failed : (m next : Content) (old new : Keeping) (fault : KeepFault) → IsSettled old → old.content ≡ Some m → Reads old new (Some fault) → Goes m next old new (Some fault)
+reads_failed m next old new fault settled holds reads = record {
+  content = came fault reads.content;
+  time = passes_stays old.time new.time _ reads.time;
+  now = λ stopped said now. let p = settled.here m holds stopped said (reads.now stopped said now) in (left fault stopped p.0, p.1);
+}
+  where
+    came : (fault : KeepFault) → UnlessDisk (Some fault) (new.content ≡ old.content) → Came (Some fault) m next new.content
+    came Memory c = c ∙ holds
+    came Full c = c ∙ holds
+    came Disk c = c
+
+    left : (fault : KeepFault) (stopped : Option Content) → stopped ≡ Some m → Leaves (Some fault) m next stopped
+    left Memory stopped is = is
+    left Full stopped is = is
+    left Disk stopped is = inl is
+
+-- a commit, and then reads that succeeded
+pub goes_on : (m next : Content) (old mid new : Keeping) → Goes m next old mid None → Reads mid new None → Goes m next old new None
+goes_on m next old mid new goes reads = record {
+  content = reads.content ∙ goes.content;
+  time = passes_then old.time mid.time new.time _ goes.time (passes_stays mid.time new.time _ reads.time);
+  now = λ stopped said now. goes.now stopped said (reads.now stopped said now);
+}
+
+-- the answer of the commit, by the limit before the reads
+pub answers_then : (m next : Content) (old mid : Keeping) (fault : Option KeepFault) → Reads old mid None → Answers fault mid.limit m next → Answers fault old.limit m next
+answers_then m next old mid fault reads answers = subst (λ (limit : ℕ). Answers fault limit m next) reads.kept.limit answers
+
+-- where the reads failed, no commit was tried
+pub answers_failed : (fault : KeepFault) (limit : ℕ) (m next : Content) → (fault ≡ Full → ⊥) → Answers (Some fault) limit m next
+answers_failed Memory limit m next not_full = tt
+answers_failed Disk limit m next not_full = tt
+answers_failed Full limit m next not_full = absurd (not_full refl)
+
+-- how often a commit was refused
+pub fulls_then : (old mid : Keeping) (new : Counts) (fault : Option KeepFault) → Reads old mid None → new ≡ committed fault mid.counts → new.fulls ≡ counted (is_full fault) old.counts.fulls
+fulls_then old mid new fault reads commits = ap (λ (c : Counts). c.fulls) commits ∙ ap (counted (is_full fault)) reads.fulls
+
+-- ---- hearing and saying
+
+pub apart_all : (k : Keeping) → k.ready → Apart k k
+apart_all k ready = record { ready = ready; content = refl; well = refl; limit = refl; counts = refl; disk_faults = refl; lender = refl }
+
+pub apart_then : (old mid new : Keeping) → Apart old mid → Apart mid new → Apart old new
+apart_then old mid new first second = record {
+  ready = second.ready;
+  content = second.content ∙ first.content;
+  well = second.well ∙ first.well;
+  limit = second.limit ∙ first.limit;
+  counts = second.counts ∙ first.counts;
+  disk_faults = second.disk_faults ∙ first.disk_faults;
+  lender = second.lender ∙ first.lender;
+}
+
+pub hears_none : (k : Keeping) → k.ready → KeeperHears [] k k
+hears_none k ready = record { apart = apart_all k ready; left = sym (ahead_none k.beside.left); said = refl; say_faults = refl; time = stays_all k.time }
+
+-- one piece of the script, and then another
+pub hears_then : (old mid new : Keeping) (a b : List ℕ) → KeeperHears a old mid → KeeperHears b mid new → KeeperHears (a ++ b) old new
+hears_then old mid new a b first second = record {
+  apart = apart_then old mid new first.apart second.apart;
+  left = first.left ∙ ap (ahead a) second.left ∙ ahead_twice a b new.beside.left;
+  said = second.said ∙ first.said;
+  say_faults = second.say_faults ∙ first.say_faults;
+  time = stays_then old.time mid.time new.time first.time second.time;
+}
+
+pub says_none : (k : Keeping) → k.ready → KeeperSays [] k k
+says_none k ready = record { apart = apart_all k ready; said = sym (behind_none k.beside.said); left = refl; hear_faults = refl; time = λ m holds. passes_none k.time _ }
+
+-- one piece said, and then another
+pub says_then : (old mid new : Keeping) (a b : List ℕ) → KeeperSays a old mid → KeeperSays b mid new → KeeperSays (a ++ b) old new
+says_then old mid new a b first second = record {
+  apart = apart_then old mid new first.apart second.apart;
+  said = second.said ∙ ap (λ (told : Option (List ℕ)). behind told b) first.said ∙ behind_twice old.beside.said a b;
+  left = second.left ∙ first.left;
+  hear_faults = second.hear_faults ∙ first.hear_faults;
+  time = λ m holds.
+      passes_then old.time mid.time new.time _
+      (passes_more old.time mid.time _ _ (first.time m holds) (λ stopped said p. (p.0, says_front old.beside.said a b said p.1)))
+      (passes_more mid.time new.time _ _ (second.time m (first.apart.content ∙ holds)) (λ stopped said p. (p.0, says_back old.beside.said a b said (subst (λ (told : Option (List ℕ)). SaysPart told b said) first.said p.1))));
+}

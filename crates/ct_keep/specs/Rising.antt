@@ -1,0 +1,231 @@
+-- Entries in the order of their keys: those above a key, and those whose keys begin alike.
+use Rattle.std.specs.Prelude.{ℕ, ◌≡◌, ◌<◌, ◌==◌, ◌&&◌, Bool, true, false, List, [], ◌∷◌, ◌++◌, filter, Option, Some, None, refl, T}
+use Rattle.std.proofs.Common.{cond, sym, ap, subst, ◌∙◌, arith, ◌⊎◌, inl, inr}
+use Rattle.std.specs.declared.cmp.Ordering.{Ordering}
+use Rattle.std.specs.declared.cmp.Ordering.TheVariants.{Less, Equal, Greater}
+use Rattle.std.proofs.lemmas.Bool.{eqb-true, eq-eqb}
+use Rattle.std.proofs.lemmas.Cmp.{tied_itself, nat_list_cmp_total, ranked}
+use Rattle.std.specs.Ordering.{nat_cmp, MatchOrdering, is_lt, ordering_then, ordering_reverse}
+use Rattle.std.specs.Cmp.Lexicographic.{slice_cmp}
+use Rattle.std.specs.FinMap.{entries, entries_sorted, is_sorted}
+use Rattle.ct_keep.specs.Content.{Content, entries_above, first_entry, begins_with}
+
+abbrev pub Entry : Type 0
+Entry = List ℕ × List ℕ
+
+-- how one key is to another, in the order of bytes
+abbrev pub order : List ℕ → List ℕ → Ordering
+order a b = slice_cmp nat_cmp a b
+
+abbrev pub above : List ℕ → List Entry → List Entry
+above k es = filter (λ e. is_lt (order k e.0)) es
+
+abbrev pub beginning : List ℕ → List Entry → List Entry
+beginning p es = filter (λ e. begins_with p e.0) es
+
+-- every key is greater
+abbrev pub below : List ℕ → List Entry → Bool
+below x [] = true
+below x (e ∷ es) = is_lt (order x e.0) && below x es
+
+-- the keys strictly rise
+abbrev pub rises : List Entry → Bool
+rises [] = true
+rises (e ∷ es) = below e.0 es && rises es
+
+-- ---- tests
+
+pub and_true : (a b : Bool) → (a && b) ≡ true → (a ≡ true) × (b ≡ true)
+and_true true b e = (refl, e)
+and_true false b e = cc
+
+pub and_both : (a b : Bool) → a ≡ true → b ≡ true → (a && b) ≡ true
+and_both a b p q = rw (p, q) refl
+
+pub true_from_T : (b : Bool) → T b → b ≡ true
+true_from_T true h = refl
+true_from_T false h = absurd h
+
+pub T_from_true : (b : Bool) → b ≡ true → T b
+T_from_true b h = subst T (sym h) tt
+
+pub less : (o : Ordering) → is_lt o ≡ true → o ≡ Less
+less Less e = refl
+less Equal e = cc
+less Greater e = cc
+
+not_back : (o : Ordering) → o ≡ Less → is_lt (ordering_reverse o) ≡ false
+not_back o e = subst (λ r. is_lt (ordering_reverse r) ≡ false) (sym e) refl
+
+-- ---- the entries of a content rise, and so do some of them
+
+below_from_sorted : (e : Entry) (es : List Entry) → is_sorted (slice_cmp nat_cmp) (e ∷ es) ≡ true → below e.0 es ≡ true
+below_from_sorted e [] h = refl
+below_from_sorted e (y ∷ ys) h =
+    let b = and_true _ _ h in
+    let b0 = and_true _ _ b.0 in
+    let b1 = and_true _ _ b.1 in
+    and_both _ _ b0.0 (below_from_sorted e ys (and_both _ _ b0.1 b1.1))
+
+pub rises_from_sorted : (es : List Entry) → is_sorted (slice_cmp nat_cmp) es ≡ true → rises es ≡ true
+rises_from_sorted [] h = refl
+rises_from_sorted (e ∷ es) h = and_both _ _ (below_from_sorted e es h) (rises_from_sorted es (and_true _ _ h).1)
+
+sorted_cons : (e : Entry) (es : List Entry) → below e.0 es ≡ true → is_sorted (slice_cmp nat_cmp) es ≡ true → is_sorted (slice_cmp nat_cmp) (e ∷ es) ≡ true
+sorted_cons e [] b s = refl
+sorted_cons e (y ∷ ys) b s =
+    let b2 = and_true (is_lt (order e.0 y.0)) (below e.0 ys) b in
+    let s2 = and_true _ _ s in
+    let r = and_true _ _ (sorted_cons e ys b2.1 s2.1) in
+    and_both _ _ (and_both _ _ b2.0 r.0) s
+
+pub sorted_from_rises : (es : List Entry) → rises es ≡ true → is_sorted (slice_cmp nat_cmp) es ≡ true
+sorted_from_rises [] h = refl
+sorted_from_rises (e ∷ es) h = let b = and_true (below e.0 es) (rises es) h in sorted_cons e es b.0 (sorted_from_rises es b.1)
+
+pub entries_rise : (m : Content) → rises (entries m) ≡ true
+entries_rise m = rises_from_sorted (entries m) (true_from_T _ (entries_sorted m))
+
+pub below_filter : (p : Entry → Bool) (x : List ℕ) (es : List Entry) → below x es ≡ true → below x (filter p es) ≡ true
+below_filter p x [] h = refl
+below_filter p x (e ∷ es) h =
+    let b = and_true (is_lt (order x e.0)) (below x es) h in
+    elim (p e) as (λ t. below x (cond t (e ∷ filter p es) (filter p es)) ≡ true) [ true ↦ and_both _ _ b.0 (below_filter p x es b.1) | false ↦ below_filter p x es b.1 ]
+
+pub rises_filter : (p : Entry → Bool) (es : List Entry) → rises es ≡ true → rises (filter p es) ≡ true
+rises_filter p [] h = refl
+rises_filter p (e ∷ es) h =
+    let b = and_true (below e.0 es) (rises es) h in
+    elim (p e) as (λ t. rises (cond t (e ∷ filter p es) (filter p es)) ≡ true) [ true ↦ and_both _ _ (below_filter p e.0 es b.0) (rises_filter p es b.1) | false ↦ rises_filter p es b.1 ]
+
+-- a key below another is below all that the other is below
+pub below_lower : (k x : List ℕ) (es : List Entry) → order k x ≡ Less → below x es ≡ true → below k es ≡ true
+below_lower k x [] p h = refl
+below_lower k x (e ∷ es) p h =
+    let b = and_true (is_lt (order x e.0)) (below x es) h in
+    and_both _ _ (ap is_lt (nat_list_cmp_total.trans k x e.0 p (less _ b.0))) (below_lower k x es p b.1)
+
+-- ---- the entries above a key
+
+pub all_above : (k : List ℕ) (es : List Entry) → below k es ≡ true → above k es ≡ es
+all_above k [] h = refl
+all_above k (e ∷ es) h =
+    let b = and_true (is_lt (order k e.0)) (below k es) h in
+    rw (less _ b.0) (ap (λ xs. e ∷ xs) (all_above k es b.1))
+
+-- the first of them is above whatever the whole list is above
+first_over : (x k : List ℕ) (es : List Entry) (e : Entry) (rest : List Entry) → below x es ≡ true → above k es ≡ e ∷ rest → order x e.0 ≡ Less
+first_over x k [] e rest h is = cc
+first_over x k (y ∷ ys) e rest h is =
+    let b = and_true (is_lt (order x y.0)) (below x ys) h in
+    elim (is_lt (order k y.0)) as (λ t. cond t (y ∷ above k ys) (above k ys) ≡ e ∷ rest → order x e.0 ≡ Less) [
+      | true ↦ λ is. let same : y ≡ e = cc in subst (λ (z : Entry). order x z.0 ≡ Less) same (less _ b.0)
+      | false ↦ λ is. first_over x k ys e rest b.1 is
+    ] is
+
+pub first_is_above : (k : List ℕ) (es : List Entry) (e : Entry) (rest : List Entry) → above k es ≡ e ∷ rest → order k e.0 ≡ Less
+first_is_above k [] e rest is = cc
+first_is_above k (x ∷ xs) e rest is =
+    elim (is_lt (order k x.0)) as (λ t. is_lt (order k x.0) ≡ t → cond t (x ∷ above k xs) (above k xs) ≡ e ∷ rest → order k e.0 ≡ Less) [
+      | true ↦ λ t is. let same : x ≡ e = cc in subst (λ (z : Entry). order k z.0 ≡ Less) same (less _ t)
+      | false ↦ λ t is. first_is_above k xs e rest is
+    ] refl is
+
+-- what is above the first of them is the rest
+pub above_next : (k : List ℕ) (es : List Entry) (e : Entry) (rest : List Entry) → rises es ≡ true → above k es ≡ e ∷ rest → above e.0 es ≡ rest
+above_next k [] e rest s is = cc
+above_next k (x ∷ xs) e rest s is =
+    let b = and_true (below x.0 xs) (rises xs) s in
+    elim (is_lt (order k x.0)) as (λ t. is_lt (order k x.0) ≡ t → cond t (x ∷ above k xs) (above k xs) ≡ e ∷ rest → above e.0 (x ∷ xs) ≡ rest) [
+      | true ↦ λ t is.
+          let same : x ≡ e = cc in
+          let rests : above k xs ≡ rest = cc in
+          subst (λ (z : Entry). above z.0 (x ∷ xs) ≡ rest) same
+          (rw (tied_itself nat_list_cmp_total x.0) (all_above x.0 xs b.0 ∙ sym (all_above k xs (below_lower k x.0 xs (less _ t) b.0)) ∙ rests))
+      | false ↦ λ t is.
+          let up : order x.0 e.0 ≡ Less = first_over x.0 k xs e rest b.0 is in
+          let down : is_lt (order e.0 x.0) ≡ false = rw (nat_list_cmp_total.antisymm e.0 x.0) (not_back _ up) in
+          rw down (above_next k xs e rest b.1 is)
+    ] refl is
+
+-- the first entry above a key of a content, and those above its key
+pub first_then : (m : Content) (k : List ℕ) (e : Entry) → Some e ≡ first_entry (entries_above k m) → entries_above k m ≡ e ∷ entries_above e.0 m
+first_then m k e is = go (entries_above k m) refl is
+  where
+    go : (es : List Entry) → entries_above k m ≡ es → Some e ≡ first_entry es → entries_above k m ≡ e ∷ entries_above e.0 m
+    go [] eq is = cc
+    go (x ∷ xs) eq is =
+        let same : e ≡ x = cc in
+        let at : entries_above k m ≡ e ∷ xs = eq ∙ ap (λ (z : Entry). z ∷ xs) (sym same) in
+        at ∙ ap (λ (zs : List Entry). e ∷ zs) (sym (above_next k (entries m) e xs (entries_rise m) at))
+
+pub none_then : (m : Content) (k : List ℕ) → None ≡ first_entry (entries_above k m) → entries_above k m ≡ []
+none_then m k is = go (entries_above k m) refl is
+  where
+    go : (es : List Entry) → entries_above k m ≡ es → None ≡ first_entry es → entries_above k m ≡ []
+    go [] eq is = eq
+    go (x ∷ xs) eq is = cc
+
+-- ---- keys that begin alike
+
+pub begins_front : (p q : List ℕ) → begins_with p (p ++ q) ≡ true
+begins_front [] q = refl
+begins_front (x ∷ p) q = and_both _ _ (eq-eqb x x refl) (begins_front p q)
+
+pub begins_itself : (p : List ℕ) → begins_with p p ≡ true
+begins_itself [] = refl
+begins_itself (x ∷ p) = and_both _ _ (eq-eqb x x refl) (begins_itself p)
+
+pub then_less : (o r : Ordering) → ordering_then o r ≡ Less → (o ≡ Less) ⊎ ((o ≡ Equal) × (r ≡ Less))
+then_less Less r e = inl refl
+then_less Equal r e = inr (refl, e)
+then_less Greater r e = cc
+
+pub lt_from_less : (a b : ℕ) → nat_cmp a b ≡ Less → a < b
+lt_from_less a b e = subst (λ r. MatchOrdering r (a < b) (a ≡ b) (b < a)) e (ranked a b (nat_cmp a b) refl)
+
+pub eq_from_equal : (a b : ℕ) → nat_cmp a b ≡ Equal → a ≡ b
+eq_from_equal a b e = subst (λ r. MatchOrdering r (a < b) (a ≡ b) (b < a)) e (ranked a b (nat_cmp a b) refl)
+
+-- what lies between two keys that begin so begins so
+pub convex : (p a b c : List ℕ) → begins_with p a ≡ true → order a b ≡ Less → order b c ≡ Less → begins_with p c ≡ true → begins_with p b ≡ true
+convex [] a b c pa ab bc pc = refl
+convex (x ∷ p) [] b c pa ab bc pc = cc
+convex (x ∷ p) (y ∷ a) b [] pa ab bc pc = cc
+convex (x ∷ p) (y ∷ a) [] (z ∷ c) pa ab bc pc = cc
+convex (x ∷ p) (y ∷ a) (w ∷ b) (z ∷ c) pa ab bc pc =
+    let e : x ≡ y = eqb-true x y (and_true _ _ pa).0 in
+    let f : x ≡ z = eqb-true x z (and_true _ _ pc).0 in
+    elim (then_less _ _ ab) [
+      | inl yw ↦ let lt : y < w = lt_from_less y w yw in
+          elim (then_less _ _ bc) [
+            | inl wz ↦ let lt' : w < z = lt_from_less w z wz in absurd (omega arith)
+            | inr wz ↦ let eq' : w ≡ z = eq_from_equal w z wz.0 in absurd (omega arith)
+          ]
+      | inr yw ↦ let eq : y ≡ w = eq_from_equal y w yw.0 in
+          elim (then_less _ _ bc) [
+            | inl wz ↦ let lt' : w < z = lt_from_less w z wz in absurd (omega arith)
+            | inr wz ↦ and_both _ _ (eq-eqb x w (e ∙ eq)) (convex p a b c (and_true _ _ pa).1 yw.1 wz.1 (and_true _ _ pc).1)
+          ]
+    ]
+
+-- a key that begins so, and above it one that doesn't: no later one does
+pub none_later : (p a b : List ℕ) (es : List Entry) → begins_with p a ≡ true → order a b ≡ Less → begins_with p b ≡ false → below b es ≡ true → beginning p es ≡ []
+none_later p a b [] pa ab differs s = refl
+none_later p a b (e ∷ es) pa ab differs s =
+    let s2 = and_true (is_lt (order b e.0)) (below b es) s in
+    elim (begins_with p e.0) as (λ t. begins_with p e.0 ≡ t → cond t (e ∷ beginning p es) (beginning p es) ≡ []) [
+      | true ↦ λ t. absurd (clash (begins_with p b) (convex p a b e.0 pa ab (less _ s2.0) t) differs)
+      | false ↦ λ t. none_later p a b es pa ab differs s2.1
+    ] refl
+  where
+    clash : (t : Bool) → t ≡ true → t ≡ false → ⊥
+    clash t is isnt = cc
+
+-- where the first entry above doesn't begin so, none above does
+pub stops : (m : Content) (p k : List ℕ) (e : Entry) → begins_with p k ≡ true → Some e ≡ first_entry (entries_above k m) → begins_with p e.0 ≡ false → beginning p (entries_above k m) ≡ []
+stops m p k e pk is differs =
+    let next = first_then m k e is in
+    let rise : rises (entries_above k m) ≡ true = rises_filter (λ e. is_lt (order k e.0)) (entries m) (entries_rise m) in
+    let rise' : rises (e ∷ entries_above e.0 m) ≡ true = subst (λ (es : List Entry). rises es ≡ true) next rise in
+    rw (next, differs) (none_later p k e.0 (entries_above e.0 m) pk (first_is_above k (entries m) e _ next) differs (and_true (below e.0 (entries_above e.0 m)) _ rise').0)

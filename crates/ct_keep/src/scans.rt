@@ -1,0 +1,142 @@
+//! What a keeper holds under a prefix of its keys.
+#![tactic(auto, using(crate::specs::Composing::reads_on, crate::specs::Composing::reads_short))]
+
+ghost use Rattle.std.specs.Prelude.{◌≡◌, ◌≤◌, ◌++◌, true, IfOk, OnOk, IfSome, IsTrue, Some, Err, [], ◌∷◌, map, length, drop};
+ghost use Rattle.std.specs.Option.{option_map};
+ghost use Rattle.std.specs.FinMap.{entries};
+ghost use Rattle.ct_keep.specs.Content.{Content, begins_with, entries_above, first_entry};
+ghost use Rattle.ct_keep.specs.Keeping.{Reads, fault_of};
+ghost use Rattle.ct_keep.specs.Tail.{tail, rest_under};
+ghost use Rattle.ct_keep.specs.Looks.{next_looks, scan_looks, raised, RisesBy};
+
+use crate::keepers::{KeepFault, Keeper};
+use ct_base::Memory;
+use std::alloc::Global;
+
+/// An entry: a key, or the rest of one, and its value.
+type Entry = (Vec<u8>, Vec<u8>);
+
+/// Whether the key begins with the prefix.
+fn begins(prefix: &[u8], key: &[u8]) -> bool
+    ensures value { result ≡ begins_with prefix.now key.now }
+    ensures longer { IsTrue result → length prefix.now ≤ length key.now }
+{
+    key.starts_with(prefix)
+}
+
+/// The key without its first bytes.
+fn rest_of(alloc: Global, prefix: &[u8], key: &[u8]) -> Result<Vec<u8>, Memory>
+    requires { length prefix.now ≤ length key.now }
+    ensures { IfOk result (λ rest. rest.items ≡ drop (length prefix.now) key.now) }
+{
+    Ok(Vec::from_slice(alloc, &key[prefix.len()..])?)
+}
+
+/// The one and then the other.
+fn joined(alloc: Global, front: &[u8], back: &[u8]) -> Result<Vec<u8>, Memory>
+    ensures { IfOk result (λ both. both.items ≡ front.now ++ back.now) }
+{
+    let mut both = Vec::from_slice(alloc, front)?;
+    both.extend_from_slice(back)?;
+    Ok(both)
+}
+
+/// Puts an entry at the end.
+fn push(found: &mut Vec<Entry>, entry: Entry) -> Result<(), Memory>
+    ensures { OnOk result (found.new.items ≡ found.old.items ++ entry ∷ []) }
+{
+    found.push(entry)?;
+    Ok(())
+}
+
+/// The first entry above the last key, if it is under the prefix: the rest of its key, and its value. Its key becomes the last one.
+fn step_under<K: Keeper>(
+    alloc: Global,
+    keeper: &mut K,
+    prefix: &[u8],
+    last: &mut Vec<u8>,
+) -> Result<Option<Entry>, KeepFault>
+    requires ready { (K.keeping keeper.old).ready }
+    requires begins { begins_with prefix.now last.old.items ≡ true }
+    ensures entry { (m : Content) → (K.keeping keeper.old).content ≡ Some m → IfOk result (λ found. option_map (λ e. (e.0.items, e.1.items)) found ≡ rest_under prefix.now (first_entry (entries_above last.old.items m))) }
+    ensures last { IfOk result (λ found. IfSome found (λ e. last.new.items ≡ prefix.now ++ e.0.items)) }
+    ensures reads { Reads (K.keeping keeper.old) (K.keeping keeper.new) (fault_of result) }
+    ensures counts { (m : Content) → (K.keeping keeper.old).content ≡ Some m → OnOk result ((K.keeping keeper.new).counts ≡ raised (next_looks last.old.items m) (K.keeping keeper.old).counts) }
+    ensures at_most { (m : Content) → (K.keeping keeper.old).content ≡ Some m → RisesBy (next_looks last.old.items m) (K.keeping keeper.old).counts (K.keeping keeper.new).counts }
+    ensures never_full { result ≡ Err KeepFault.Full → ⊥ }
+{
+    let Some((key, value)) = keeper.next_after(alloc, last)? else {
+        return Ok(None);
+    };
+    if !begins(prefix, &key) {
+        return Ok(None);
+    }
+    let rest = rest_of(alloc, prefix, &key)?;
+    *last = key;
+    Ok(Some((rest, value)))
+}
+
+/// Exactly the entries whose key begins with the prefix and is longer, in order: the rest of each key, and the value.
+///
+/// It costs what it finds and one step more, each step the logarithm of the content. It never answers Full.
+pub fn scan<K: Keeper>(
+    alloc: Global,
+    keeper: &mut K,
+    prefix: &[u8],
+) -> Result<Vec<(Vec<u8>, Vec<u8>)>, KeepFault>
+    requires { (K.keeping keeper.old).ready }
+    ensures entries { (m : Content) → (K.keeping keeper.old).content ≡ Some m → IfOk result (λ found. map (λ e. (e.0.items, e.1.items)) found.items ≡ entries (tail prefix.now m)) }
+    ensures reads { Reads (K.keeping keeper.old) (K.keeping keeper.new) (fault_of result) }
+    ensures counts { (m : Content) → (K.keeping keeper.old).content ≡ Some m → OnOk result ((K.keeping keeper.new).counts ≡ raised (scan_looks prefix.now m) (K.keeping keeper.old).counts) }
+    ensures at_most { (m : Content) → (K.keeping keeper.old).content ≡ Some m → RisesBy (scan_looks prefix.now m) (K.keeping keeper.old).counts (K.keeping keeper.new).counts }
+    ensures never_full { result ≡ Err KeepFault.Full → ⊥ }
+{
+    let mut found = Vec::new(alloc);
+    let mut last = joined(alloc, prefix, &[])?;
+    'steps: for _ in 0..u64::MAX {
+        match step_under(alloc, keeper, prefix, &mut last)? {
+            None => return Ok(found),
+            Some(entry) => push(&mut found, entry)?,
+        }
+    }
+    // so many entries fit into no memory
+    Err(KeepFault::Memory)
+}
+
+/// The first of the entries whose key begins with the prefix and whose rest is greater than `after`: the rest of its key, and its value; None exactly where there is none.
+///
+/// It takes one look-up, and never answers Full.
+pub fn next_under<K: Keeper>(
+    alloc: Global,
+    keeper: &mut K,
+    prefix: &[u8],
+    after: &[u8],
+) -> Result<Option<(Vec<u8>, Vec<u8>)>, KeepFault>
+    requires { (K.keeping keeper.old).ready }
+    ensures entry { (m : Content) → (K.keeping keeper.old).content ≡ Some m → IfOk result (λ found. option_map (λ e. (e.0.items, e.1.items)) found ≡ first_entry (entries_above after.now (tail prefix.now m))) }
+    ensures reads { Reads (K.keeping keeper.old) (K.keeping keeper.new) (fault_of result) }
+    ensures counts { (m : Content) → (K.keeping keeper.old).content ≡ Some m → OnOk result ((K.keeping keeper.new).counts ≡ raised (next_looks (prefix.now ++ after.now) m) (K.keeping keeper.old).counts) }
+    ensures at_most { (m : Content) → (K.keeping keeper.old).content ≡ Some m → RisesBy (next_looks (prefix.now ++ after.now) m) (K.keeping keeper.old).counts (K.keeping keeper.new).counts }
+    ensures never_full { result ≡ Err KeepFault.Full → ⊥ }
+{
+    let mut last = joined(alloc, prefix, after)?;
+    step_under(alloc, keeper, prefix, &mut last)
+}
+
+/// The first of the entries whose key begins with the prefix and is longer: the rest of its key, and its value; None exactly where there is none.
+///
+/// It takes one look-up, and never answers Full.
+pub fn first_under<K: Keeper>(
+    alloc: Global,
+    keeper: &mut K,
+    prefix: &[u8],
+) -> Result<Option<(Vec<u8>, Vec<u8>)>, KeepFault>
+    requires { (K.keeping keeper.old).ready }
+    ensures entry { (m : Content) → (K.keeping keeper.old).content ≡ Some m → IfOk result (λ found. option_map (λ e. (e.0.items, e.1.items)) found ≡ first_entry (entries (tail prefix.now m))) }
+    ensures reads { Reads (K.keeping keeper.old) (K.keeping keeper.new) (fault_of result) }
+    ensures counts { (m : Content) → (K.keeping keeper.old).content ≡ Some m → OnOk result ((K.keeping keeper.new).counts ≡ raised (next_looks prefix.now m) (K.keeping keeper.old).counts) }
+    ensures at_most { (m : Content) → (K.keeping keeper.old).content ≡ Some m → RisesBy (next_looks prefix.now m) (K.keeping keeper.old).counts (K.keeping keeper.new).counts }
+    ensures never_full { result ≡ Err KeepFault.Full → ⊥ }
+{
+    next_under(alloc, keeper, prefix, &[])
+}
