@@ -1,0 +1,2 @@
+pub mod SortedPairs
+pub mod ContentLaws

@@ -3,3 +3,5 @@ pub mod Words
 pub mod Spoken
 pub mod Handed
 pub mod Keeping
+pub mod Pairs
+pub mod Trials

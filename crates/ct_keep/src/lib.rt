@@ -3,6 +3,8 @@
 
 mod batches;
 mod keepers;
+mod sorted_entries;
+mod trials;
 
 pub use batches::{Batch, Word};
 pub use keepers::{KeepFault, Keeper, Shape};
