@@ -1,2 +1,3 @@
 pub mod SortedPairs
 pub mod ContentLaws
+pub mod Courses

@@ -1,6 +1,6 @@
 -- The entries of a map in memory against the content that they are.
 use Rattle.std.proofs.Common.{◌≡◌, ℕ, Bool, true, false, cond, List, [], ◌∷◌, Option, Some, None, Vec, refl, sym, ap, subst, ◌∙◌, map}
-use Rattle.std.specs.Prelude.{◌&&◌, T, filter, not}
+use Rattle.std.specs.Prelude.{◌&&◌, T, filter, not, is_some}
 use Rattle.std.specs.Option.{option_map, option_copied, MatchOption}
 use Rattle.std.specs.Borrow.{Bor}
 use Rattle.std.specs.declared.alloc.Global.{Global}
@@ -136,3 +136,7 @@ pub first_pair : (r : Option (Bor (Vec ℕ Global) × Bor (Vec ℕ Global))) (s 
     → option_map (λ e. (e.0.now.items, e.1.now.items)) r ≡ first_entry (pairs s)
 first_pair None s t h = ap (λ (l : List VecEntry). first_entry (pairs l)) (sym h.0)
 first_pair (Some x) s t h = ap (λ (l : List VecEntry). first_entry (pairs l)) (sym h)
+
+pub is_some_lent : (r : Option (Bor (Vec ℕ Global))) → is_some (option_map (λ v. v.now.items) r) ≡ is_some r
+is_some_lent None = refl
+is_some_lent (Some v) = refl

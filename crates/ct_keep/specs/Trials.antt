@@ -1,10 +1,10 @@
 -- A commit that is under way in memory.
-use Rattle.std.specs.Prelude.{ℕ, List, [], ◌∷◌, map, reverse, Option, Some, None, IsSome, not, refl}
+use Rattle.std.specs.Prelude.{◌≡◌, ℕ, List, [], ◌∷◌, map, reverse, Option, Some, None, IsSome, not, refl}
 use Rattle.std.specs.Coded.{Coded, code_by, coded_ℕ, coded_list, coded×}
 use Rattle.std.specs.FinMap.{get, contains_key, retain_keys, code}
 use Rattle.ct_keep.specs.declared.batches.Word as rust
 use Rattle.ct_keep.specs.Spoken.{spoken}
-use Rattle.ct_keep.specs.Content.{Content, Word, set_to, entry_weight}
+use Rattle.ct_keep.specs.Content.{Content, Word, set_to, entry_weight, weight}
 
 -- what an entry weighs, if there is one
 abbrev pub weight_of : List ℕ → Option (List ℕ) → ℕ
@@ -27,6 +27,11 @@ AreInPlace (w ∷ ws) m = (IsSome w.1 → IsSome (get m w.0)) × AreInPlace ws (
 -- a word for each of these entries, that it is to go
 abbrev pub removals : List (List ℕ × List ℕ) → List Word
 removals es = map (λ e. (e.0, None)) es
+
+-- A commit that is under way: the weight of the entries that stay, and that all can be undone without taking memory.
+pub record IsCourse (held gone : Content) (notes : List rust.Word) (total : ℕ) : Type 0 where
+  pub weighs : total ≡ weight (staying held gone)
+  pub in_place : AreInPlace (undoing notes) held
 
 -- What a commit that is under way goes back to, and what its words have made so far.
 pub record Course : Type 0 where

@@ -34,9 +34,8 @@ pub(crate) struct Trial {
 }
 
 impl Model for Trial {
-    ghost use Rattle.std.specs.Prelude.{◌≡◌};
-    ghost use Rattle.ct_keep.specs.Content.{after, weight};
-    ghost use Rattle.ct_keep.specs.Trials.{Course, course_code, staying, undoing, AreInPlace};
+    ghost use Rattle.ct_keep.specs.Content.{after};
+    ghost use Rattle.ct_keep.specs.Trials.{Course, course_code, staying, undoing, IsCourse};
 
     ghost Value = { Course };
 
@@ -44,7 +43,7 @@ impl Model for Trial {
 
     ghost view = { λ t. record { before = after (undoing t.notes.items) t.held; seen = staying t.held t.gone } };
 
-    ghost invariant = { λ t. (t.total ≡ weight (staying t.held t.gone)) × AreInPlace (undoing t.notes.items) t.held };
+    ghost invariant = { λ t. IsCourse t.held t.gone t.notes.items t.total };
 }
 
 impl Trial {
@@ -94,10 +93,61 @@ impl Trial {
     fn remove(&mut self, alloc: Global, key: Vec<u8>) -> Result<(), Memory>
         ensures before { self.new.before ≡ self.old.before }
         ensures seen { OnOk result (self.new.seen ≡ remove self.old.seen key.items) }
+        ensures heavier { OnOk result (weight self.new.seen ≤ weight self.old.seen + 2 ^ 64) }
     {
         let less = self.weight_at(&key);
         self.gone.put(key, Vec::new(alloc))?;
         self.total -= less as u128;
         Ok(())
+    }
+
+    fn do_word(&mut self, alloc: Global, word: Word) -> Result<(), Memory>
+        requires { weight self.old.seen < 2 ^ 127 }
+        ensures before { self.new.before ≡ self.old.before }
+        ensures seen { OnOk result (self.new.seen ≡ set_to word.key.items (option_map (λ v. v.items) word.value) self.old.seen) }
+        ensures heavier { OnOk result (weight self.new.seen ≤ weight self.old.seen + 2 ^ 64) }
+    {
+        let Word { key, value } = word;
+        match value {
+            Some(value) => self.put(alloc, key, value),
+            None => self.remove(alloc, key),
+        }
+    }
+
+    /// Does some words, the first of them first. Where memory is wanting, some of them may have been done.
+    pub(crate) fn do_words(&mut self, alloc: Global, words: Vec<Word>) -> Result<(), Memory>
+        requires { weight self.old.seen < 2 ^ 64 }
+        ensures before { self.new.before ≡ self.old.before }
+        ensures seen { OnOk result (self.new.seen ≡ after (map spoken words.items) self.old.seen) }
+    {
+        for word in words {
+            self.do_word(alloc, word)?;
+        }
+        Ok(())
+    }
+
+    /// The weight of what the words have made so far.
+    pub(crate) fn weight(&self) -> u128
+        ensures { result ≡ weight self.now.seen }
+    {
+        self.total
+    }
+
+    /// The entries as they were before the words. It needs no memory.
+    pub(crate) fn roll_back(self) -> SortedEntries
+        ensures { result ≡ self.before }
+    {
+        let mut held = self.held;
+        held.undo(self.notes);
+        held
+    }
+
+    /// The entries that the words have made. It needs no memory.
+    pub(crate) fn finish(self) -> SortedEntries
+        ensures { result ≡ self.seen }
+    {
+        let mut held = self.held;
+        held.take_all(self.gone);
+        held
     }
 }
