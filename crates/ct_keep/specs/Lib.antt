@@ -5,3 +5,4 @@ pub mod Handed
 pub mod Keeping
 pub mod Pairs
 pub mod Trials
+pub mod InMemory

@@ -2,8 +2,10 @@
 #![tactic(auto)]
 
 mod batches;
+mod entry_maps;
 mod keepers;
 mod sorted_entries;
+mod tallies;
 mod trials;
 
 pub use batches::{Batch, Word};
