@@ -3,6 +3,7 @@
 
 mod batches;
 mod entry_maps;
+mod holdings;
 mod keepers;
 mod sorted_entries;
 mod tallies;
