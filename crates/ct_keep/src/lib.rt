@@ -5,9 +5,13 @@ mod batches;
 mod entry_maps;
 mod holdings;
 mod keepers;
+mod mem_keepers;
+mod site_maps;
 mod sorted_entries;
 mod tallies;
 mod trials;
 
 pub use batches::{Batch, Word};
 pub use keepers::{KeepFault, Keeper, Shape};
+pub use mem_keepers::MemKeeper;
+pub use site_maps::SiteMap;
