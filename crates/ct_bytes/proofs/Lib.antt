@@ -1,0 +1,4 @@
+pub mod VarintLengths
+pub mod ReadingSteps
+pub mod VarintWriting
+pub mod RowKeySteps

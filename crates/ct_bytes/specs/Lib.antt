@@ -1,2 +1,5 @@
 pub mod Varints
 pub mod RowKeys
+pub mod VarintLaws
+pub mod RowKeyLaws
+pub mod NumberLaws

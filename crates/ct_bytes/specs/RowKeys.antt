@@ -8,15 +8,18 @@ raised (pos n) = n + 2 ^ 63
 raised (negsuc n) = 2 ^ 63 - 1 - n
 
 -- its eight bytes, the highest first
-abbrev pub row_bytes : ℤ → List ℕ
+unfoldable pub row_bytes : ℤ → List ℕ
 row_bytes z = to_be_bytes w64 (raised z)
 
 -- computed examples
 seven : row_bytes (pos 7) ≡ 0x80 ∷ 0 ∷ 0 ∷ 0 ∷ 0 ∷ 0 ∷ 0 ∷ 7 ∷ []
+unfolding row_bytes
 seven = refl
 
 minus_one : row_bytes (negsuc 0) ≡ 0x7f ∷ 0xff ∷ 0xff ∷ 0xff ∷ 0xff ∷ 0xff ∷ 0xff ∷ 0xff ∷ []
+unfolding row_bytes
 minus_one = refl
 
 least : row_bytes (negsuc 9223372036854775807) ≡ 0 ∷ 0 ∷ 0 ∷ 0 ∷ 0 ∷ 0 ∷ 0 ∷ 0 ∷ []
+unfolding row_bytes
 least = refl

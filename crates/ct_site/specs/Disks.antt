@@ -1,5 +1,5 @@
 -- What is known of a disk and of what stands beside it, and what each call makes of that.
-use Rattle.std.specs.Prelude.{◌≡◌, ℕ, ◌+◌, List, ◌++◌, length, take, drop, Option, Some, None, Result, Ok, codes, refl}
+use Rattle.std.specs.Prelude.{◌≡◌, ℕ, ◌+◌, List, ◌++◌, length, take, drop, Option, None, Result, Ok, codes, refl}
 use Rattle.std.proofs.Common.{◌∙◌}
 use Rattle.ct_site.specs.declared.outside.Failed.{Failed}
 use Rattle.ct_base.specs.Causes.{HasCause, cause_then}

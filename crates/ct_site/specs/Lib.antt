@@ -1,1 +1,4 @@
 pub mod Disks
+pub mod Memory
+pub mod MemoryFields
+pub mod Real

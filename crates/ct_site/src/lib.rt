@@ -1,6 +1,19 @@
 //! The outside of the program: a disk, a script that is heard, and bytes that are said.
 #![tactic(auto)]
 
+mod counts;
+mod fault_lists;
+mod memory;
 mod outside;
+mod quiet;
+mod real;
+mod room_sizes;
+#[cfg(test)]
+mod tests;
 
+pub use fault_lists::Faults;
+pub use memory::MemSite;
 pub use outside::{Disk, Failed, Site};
+pub use quiet::QuietSite;
+pub use real::RealSite;
+pub use room_sizes::Rooms;

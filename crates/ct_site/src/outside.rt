@@ -13,6 +13,9 @@ use thiserror::Error;
 #[error("a device failed")]
 pub struct Failed;
 
+/// How many bytes an image has at most.
+pub(crate) const LONGEST: u64 = 1 << 43;
+
 /// A disk of one image, a list of bytes.
 pub trait Disk {
     /// What is known of the disk, and of what stands beside it.

@@ -1,5 +1,5 @@
 -- How a script is cut into statements. Bytes: `;` is 59, newline 10, space 32, tab 9, carriage return 13.
-use Rattle.std.specs.Prelude.{ℕ, ◌≡◌, Bool, true, false, cond, ◌||◌, ◌==◌, List, [], ◌∷◌, ◌++◌, Option, Some, None, codes, refl}
+use Rattle.std.specs.Prelude.{ℕ, ◌≡◌, Bool, true, false, ◌||◌, ◌==◌, List, [], ◌∷◌, ◌++◌, Option, Some, None, codes, refl}
 use Rattle.std.specs.Bool.{if◌then◌else◌}
 
 abbrev pub is_blank : ℕ → Bool

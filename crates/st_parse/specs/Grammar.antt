@@ -1,5 +1,5 @@
 -- The statements that a text of lexemes spells.
-use Rattle.std.specs.Prelude.{ℕ, ◌≡◌, ◌⊎◌, ◌&&◌, List, [], ◌∷◌, ◌++◌, codes, bytes_eq, Option, Some, None, refl}
+use Rattle.std.specs.Prelude.{ℕ, ◌≡◌, ◌⊎◌, ◌&&◌, List, [], ◌∷◌, ◌++◌, codes, bytes_eq, Option, Some, None, Result, Ok, Err, refl}
 use Rattle.std.specs.Bool.{if◌then◌else◌}
 use lib.Utf8.{encode}
 use Rattle.st_parse.specs.declared.lexemes.Keyword.{Keyword}
@@ -11,6 +11,8 @@ use Rattle.st_parse.specs.declared.statements.Arg.{Arg}
 use Rattle.st_parse.specs.declared.statements.Arg.TheVariants.{Text as TextArg}
 use Rattle.st_parse.specs.declared.statements.Statement.{Statement}
 use Rattle.st_parse.specs.declared.statements.Statement.TheVariants.{Exec}
+use Rattle.st_parse.specs.declared.parsing.StatementFault.{StatementFault}
+use Rattle.st_parse.specs.declared.parsing.StatementFault.TheVariants.{Syntax, Memory}
 use Rattle.st_parse.specs.Lexemes.{lexemes}
 
 -- EXEC and EXECUTE mean the same.
@@ -63,6 +65,13 @@ read_lexemes (Some (l ∷ ls)) = found (statement_of (l ∷ ls))
 -- what the characters of a text are
 abbrev pub read : List ℕ → Read
 read text = read_lexemes (lexemes text)
+
+-- What parsing returned of a text that is this. Want of memory says nothing.
+abbrev pub ParseGives : Result (Option Statement) StatementFault → Read → Type 0
+ParseGives (Ok None) r = r ≡ Blank
+ParseGives (Ok (Some statement)) r = r ≡ Found statement
+ParseGives (Err Syntax) r = r ≡ NoStatement
+ParseGives (Err Memory) r = Unit {0}
 
 -- computed examples
 tokens_of : read (codes "exec\n CTX_DOC . Policy_Tokens ( 'some text' ) -- done") ≡ Found (Exec (codes "ctx_doc") (codes "policy_tokens") (TextArg (codes "some text") ∷ []))

@@ -1,7 +1,7 @@
 -- The lexemes of a statement. Each is the longest that begins at its place.
-use Rattle.std.specs.Prelude.{ℕ, zero, suc, ◌≡◌, ◌==◌, nat_le, Bool, true, false, not, ◌||◌, ◌&&◌, List, [], ◌∷◌, ◌++◌, map, length, drop, codes, bytes_eq, Option, Some, None, refl}
+use Rattle.std.specs.Prelude.{ℕ, zero, suc, ◌≡◌, ◌==◌, Bool, not, ◌&&◌, List, [], ◌∷◌, ◌++◌, map, length, drop, codes, bytes_eq, Option, Some, None, refl}
 use Rattle.std.specs.Bool.{if◌then◌else◌}
-use Rattle.std.specs.Char.{is_ascii_digit, is_ascii_alphabetic, is_ascii_alphanumeric, is_whitespace, to_ascii_lowercase, encode_utf8}
+use Rattle.std.specs.Char.{is_ascii_digit, is_ascii_alphabetic, is_whitespace, to_ascii_lowercase, encode_utf8}
 use lib.Utf8.{encode}
 use Rattle.ct_base.specs.Characters.{is_first}
 use Rattle.ct_base.specs.Names.{is_name_byte, is_spelling}

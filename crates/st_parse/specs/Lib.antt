@@ -1,2 +1,4 @@
 pub mod Lexemes
+pub mod Writing
 pub mod Grammar
+pub mod Reading

@@ -1,0 +1,36 @@
+//! What holds of the bytes of everything that is written. Each function here only states laws, which its contract proves.
+
+ghost use Rattle.ct_bytes.specs.VarintLaws.{NoVarintBeginsAnother, PlacesHaveOneVarint, VarintsAreReadBack, NoTextBeginsAnother, PlacesHaveOneText, TextsAreReadBack};
+ghost use Rattle.ct_bytes.specs.RowKeyLaws.{KeysHaveEightBytes, KeysHaveTheirOwnBytes, BytesAreInKeyOrder};
+ghost use Rattle.ct_bytes.specs.NumberLaws.{TwoBytesAreOneNumber, FourBytesAreOneNumber};
+
+/// No varint begins another, a place has one at most, and each number below 2^32 is read back from its bytes.
+pub fn varints_are_exact()
+    ensures apart { NoVarintBeginsAnother }
+    ensures one { PlacesHaveOneVarint }
+    ensures read_back { VarintsAreReadBack }
+{
+}
+
+/// The same of texts behind their lengths.
+pub fn texts_are_exact()
+    ensures apart { NoTextBeginsAnother }
+    ensures one { PlacesHaveOneText }
+    ensures read_back { TextsAreReadBack }
+{
+}
+
+/// Each row key has eight bytes of its own, and these compare as the keys do.
+pub fn row_keys_are_exact()
+    ensures eight { KeysHaveEightBytes }
+    ensures one { KeysHaveTheirOwnBytes }
+    ensures order { BytesAreInKeyOrder }
+{
+}
+
+/// Each number of fixed width has its own bytes.
+pub fn numbers_are_exact()
+    ensures two { TwoBytesAreOneNumber }
+    ensures four { FourBytesAreOneNumber }
+{
+}

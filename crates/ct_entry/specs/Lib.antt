@@ -1,0 +1,17 @@
+pub mod Kinds
+pub mod Keys
+pub mod Words
+pub mod KeyLaws
+pub mod WordLaws
+pub mod Each
+pub mod EachLaws
+pub mod Fetches
+pub mod RowBytes
+pub mod PartLaws
+pub mod WellLaws
+pub mod Maps
+pub mod MapLaws
+pub mod Rising
+pub mod TailStand
+pub mod Listings
+pub mod ListingLaws

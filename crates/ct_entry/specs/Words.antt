@@ -1,0 +1,47 @@
+-- Words on keys: what a call puts into a batch.
+use Rattle.std.specs.Prelude.{◌≡◌, ℕ, Bool, true, cond, List, [], ◌∷◌, Option, Some, None}
+use Rattle.ct_entry.specs.declared.kinds.Kind.{Kind}
+use Rattle.ct_entry.specs.Keys.{Key, bytes, same, IsKey}
+
+-- a key, and the value that it is to have, or None where it is to go
+abbrev pub KeyWord : Type 0
+KeyWord = Key × Option (List ℕ)
+
+abbrev pub put : Key → List ℕ → KeyWord
+put k v = (k, Some v)
+
+abbrev pub drop_key : Key → KeyWord
+drop_key k = (k, None)
+
+-- as a batch has them
+abbrev pub spell : List (Key × Option (List ℕ)) → List (List ℕ × Option (List ℕ))
+spell [] = []
+spell (w ∷ ws) = (bytes w.0, w.1) ∷ spell ws
+
+-- what a key has after the words, where it had `old` before
+abbrev pub told : List (Key × Option (List ℕ)) → Key → Option (List ℕ) → Option (List ℕ)
+told [] k old = old
+told (w ∷ ws) k old = told ws k (cond (same k w.0) w.1 old)
+
+-- what the words make of a view: of what each key has
+abbrev pub view : List (Key × Option (List ℕ)) → (Key → Option (List ℕ)) → Key → Option (List ℕ)
+view ws f k = told ws k (f k)
+
+-- the words are on keys of the kinds
+abbrev pub AreWords : List (Key × Option (List ℕ)) → Type 0
+AreWords [] = Unit {0}
+AreWords (w ∷ ws) = IsKey w.0 × AreWords ws
+
+-- the words are on kinds that pass the test
+abbrev pub AllOf : (Kind → Bool) → List (Key × Option (List ℕ)) → Type 0
+AllOf p [] = Unit {0}
+AllOf p (w ∷ ws) = (p w.0.kind ≡ true) × AllOf p ws
+
+-- of the words that put, what is put fits its key
+abbrev pub Puts : (Key → List ℕ → Type 0) → Key → Option (List ℕ) → Type 0
+Puts P k None = Unit {0}
+Puts P k (Some v) = P k v
+
+abbrev pub AllPut : (Key → List ℕ → Type 0) → List (Key × Option (List ℕ)) → Type 0
+AllPut P [] = Unit {0}
+AllPut P (w ∷ ws) = Puts P w.0 w.1 × AllPut P ws

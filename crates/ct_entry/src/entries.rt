@@ -1,0 +1,102 @@
+//! Single entries by the parts of their keys.
+
+ghost use Rattle.std.specs.Prelude.{◌≡◌, ◌++◌, ◌∷◌, [], IfOk, OnOk, OnErr, Some, Err, is_some};
+ghost use Rattle.std.specs.Option.{option_map};
+ghost use Rattle.ct_keep.specs.Content.{Content};
+ghost use Rattle.ct_keep.specs.Keeping.{Reads, fault_of};
+ghost use Rattle.ct_entry.specs.Keys.{key, bytes, at, prefix_of};
+ghost use Rattle.ct_entry.specs.Words.{spell, put, drop_key};
+ghost use Rattle.ct_entry.specs.Fetches.{IsAskedFor};
+
+use crate::kinds::Kind;
+use ct_base::{Memory, Name};
+use ct_keep::{Batch, KeepFault, Keeper};
+use std::alloc::Global;
+
+/// What all keys of a kind and an owner begin with.
+fn prefix_bytes(alloc: Global, kind: Kind, owner: &Name) -> Result<Vec<u8>, Memory>
+    ensures { IfOk result (λ b. b.items ≡ prefix_of kind owner.now) }
+{
+    let name = owner.as_str().as_bytes();
+    let mut prefix = Vec::new(alloc);
+    prefix.push(kind.code())?;
+    prefix.push(name.len() as u8)?;
+    prefix.extend_from_slice(name)?;
+    Ok(prefix)
+}
+
+/// The bytes of a key: the byte of its kind, its owner behind its length, and its rest.
+pub fn key_bytes(alloc: Global, kind: Kind, owner: &Name, part: &[u8]) -> Result<Vec<u8>, Memory>
+    ensures { IfOk result (λ b. b.items ≡ bytes (key kind owner.now part.now)) }
+{
+    let mut key = prefix_bytes(alloc, kind, owner)?;
+    key.extend_from_slice(part)?;
+    Ok(key)
+}
+
+/// Adds the word that a key is to have a value.
+pub fn put_entry(
+    alloc: Global,
+    batch: &mut Batch,
+    kind: Kind,
+    owner: &Name,
+    part: &[u8],
+    value: Vec<u8>,
+) -> Result<(), Memory>
+    ensures ok { OnOk result (batch.new ≡ batch.old ++ spell (put (key kind owner.now part.now) value.items ∷ [])) }
+    ensures err { OnErr result (batch.new ≡ batch.old) }
+{
+    let key = key_bytes(alloc, kind, owner, part)?;
+    batch.put(key, value)
+}
+
+/// Adds the word that an entry is to go.
+pub fn remove_entry(
+    alloc: Global,
+    batch: &mut Batch,
+    kind: Kind,
+    owner: &Name,
+    part: &[u8],
+) -> Result<(), Memory>
+    ensures ok { OnOk result (batch.new ≡ batch.old ++ spell (drop_key (key kind owner.now part.now) ∷ [])) }
+    ensures err { OnErr result (batch.new ≡ batch.old) }
+{
+    let key = key_bytes(alloc, kind, owner, part)?;
+    batch.remove(key)
+}
+
+/// What a key has; None exactly where the content has no such entry. It never answers Full.
+pub fn fetch_entry<K: Keeper>(
+    alloc: Global,
+    keeper: &mut K,
+    kind: Kind,
+    owner: &Name,
+    part: &[u8],
+) -> Result<Option<Vec<u8>>, KeepFault>
+    requires { (K.keeping keeper.old).ready }
+    ensures value { (m : Content) → (K.keeping keeper.old).content ≡ Some m → IfOk result (λ found. option_map (λ v. v.items) found ≡ at m (key kind owner.now part.now)) }
+    ensures reads { Reads (K.keeping keeper.old) (K.keeping keeper.new) (fault_of result) }
+    ensures counts { IsAskedFor (bytes (key kind owner.now part.now)) result (K.keeping keeper.old).counts (K.keeping keeper.new).counts }
+    ensures never_full { result ≡ Err KeepFault.Full → ⊥ }
+{
+    let key = key_bytes(alloc, kind, owner, part)?;
+    keeper.fetch(alloc, &key)
+}
+
+/// Whether there is an entry. It never answers Full.
+pub fn has_entry<K: Keeper>(
+    alloc: Global,
+    keeper: &mut K,
+    kind: Kind,
+    owner: &Name,
+    part: &[u8],
+) -> Result<bool, KeepFault>
+    requires { (K.keeping keeper.old).ready }
+    ensures value { (m : Content) → (K.keeping keeper.old).content ≡ Some m → IfOk result (λ there. there ≡ is_some (at m (key kind owner.now part.now))) }
+    ensures reads { Reads (K.keeping keeper.old) (K.keeping keeper.new) (fault_of result) }
+    ensures counts { IsAskedFor (bytes (key kind owner.now part.now)) result (K.keeping keeper.old).counts (K.keeping keeper.new).counts }
+    ensures never_full { result ≡ Err KeepFault.Full → ⊥ }
+{
+    let found = fetch_entry(alloc, keeper, kind, owner, part)?;
+    Ok(found.is_some())
+}

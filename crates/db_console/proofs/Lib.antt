@@ -1,0 +1,4 @@
+pub mod Texts
+pub mod WorldLaws
+pub mod ViewLaws
+pub mod TableLaws

@@ -1,0 +1,6 @@
+use Rattle.std.proofs.Common.{take}
+use Rattle.db_console.specs.Views.{Serves}
+use Rattle.db_console.proofs.serving.serve_bytes.Given as goal
+
+abbrev pub invariant-loop-byte : goal.invariant-loop-byte
+invariant-loop-byte g l = Serves (take l.byte-index l.bytes) (g.S.Disk.disk l.fn.site) (g.S.Disk.disk l.site) l.fn.cutter l.cutter

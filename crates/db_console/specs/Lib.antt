@@ -1,0 +1,4 @@
+pub mod Worlds
+pub mod Responses
+pub mod Views
+pub mod Table

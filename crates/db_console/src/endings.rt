@@ -1,0 +1,44 @@
+//! How a run of the console ends.
+
+ghost use Rattle.std.specs.Prelude.{◌≡◌};
+ghost use Rattle.db_console.specs.Table.{ending_of, status_of};
+
+use crate::saying::Stop;
+
+/// How a run of the console ends.
+#[derive(Debug, Drop)]
+pub enum Ending {
+    /// All of the script was answered.
+    Done,
+    HearFault,
+    SayFault,
+    /// There was no memory for a statement's buffer.
+    NoMemory,
+    /// The script is too long.
+    PastLimit,
+}
+
+impl Stop {
+    pub fn ending(self) -> Ending
+        ensures { result ≡ ending_of self }
+    {
+        match self {
+            Stop::Say => Ending::SayFault,
+        }
+    }
+}
+
+impl Ending {
+    /// The status of the program.
+    pub fn status(self) -> u8
+        ensures { result ≡ status_of self }
+    {
+        match self {
+            Ending::Done => 0,
+            Ending::HearFault => 3,
+            Ending::SayFault => 4,
+            Ending::NoMemory => 5,
+            Ending::PastLimit => 8,
+        }
+    }
+}

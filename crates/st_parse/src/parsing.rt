@@ -1,0 +1,126 @@
+//! From a text to the statement that it is.
+
+ghost use Rattle.std.specs.Prelude.{◌≡◌, ◌≢◌, List, [], IfOk, IfSome, IfNone, IsErrOf, Some};
+ghost use Rattle.std.specs.Str.{chars};
+ghost use Rattle.st_parse.specs.Lexemes.{lexemes};
+ghost use Rattle.st_parse.specs.Grammar.{IsStatement, call_of, exec_of, statement_of, read, ParseGives};
+ghost use Rattle.st_parse.specs.Reading.{StatementGives, fault_of};
+ghost use Rattle.st_parse.specs.declared.lexemes.Lexeme.{Lexeme};
+ghost use Rattle.st_parse.specs.declared.statements.Statement.{Statement};
+ghost use Rattle.st_parse.specs.declared.parsing.StatementFault.TheVariants.{Memory as NoMemory};
+
+use crate::lexemes::{Keyword, Lexeme, Symbol};
+use crate::lexing::{LexFault, lex};
+use crate::statements::{Arg, Args, Statement};
+use ct_base::{Memory, Name, Text};
+use std::alloc::{AllocError, AllocFailed, Global};
+use thiserror::Error;
+
+/// Why a text gave no statement.
+#[derive(Clone, Copy, Debug, PartialEq, Eq, Error)]
+pub enum StatementFault {
+    /// The text has a lexeme, or something that is none, and is no statement.
+    #[error("not a statement")]
+    Syntax,
+    #[error("out of memory")]
+    Memory,
+}
+
+impl From<Memory> for StatementFault {
+    ghost from_gives = { λ _ fault. fault ≡ NoMemory };
+
+    fn from(_: Memory) -> StatementFault {
+        StatementFault::Memory
+    }
+}
+
+impl From<AllocError> for StatementFault {
+    ghost from_gives = { λ _ fault. fault ≡ NoMemory };
+
+    fn from(_: AllocError) -> StatementFault {
+        StatementFault::Memory
+    }
+}
+
+impl<T: Drop> From<AllocFailed<T>> for StatementFault {
+    ghost from_gives = { λ _ fault. fault ≡ NoMemory };
+
+    fn from(_: AllocFailed<T>) -> StatementFault {
+        StatementFault::Memory
+    }
+}
+
+impl From<LexFault> for StatementFault {
+    ghost from_gives = { λ lexical fault. fault ≡ fault_of lexical };
+
+    fn from(fault: LexFault) -> StatementFault {
+        match fault {
+            LexFault::NoLexeme => StatementFault::Syntax,
+            LexFault::Memory => StatementFault::Memory,
+        }
+    }
+}
+
+/// The call of a procedure that there is.
+fn call(
+    alloc: Global,
+    pack: &Name,
+    procedure: &Name,
+    text: &Text,
+) -> Result<Statement, StatementFault>
+    ensures { StatementGives result (call_of pack.now procedure.now text.now) }
+{
+    if pack.as_str() != "ctx_doc" || procedure.as_str() != "policy_tokens" {
+        return Err(StatementFault::Syntax);
+    }
+    let mut args = Vec::new(alloc);
+    args.push(Arg::Text(text.clone()?))?;
+    Ok(Statement::Exec {
+        package: pack.clone()?,
+        procedure: procedure.clone()?,
+        args: Args::of(args),
+    })
+}
+
+/// What follows EXEC or EXECUTE.
+fn exec(alloc: Global, lexemes: &[Lexeme]) -> Result<Statement, StatementFault>
+    ensures { StatementGives result (exec_of lexemes.now) }
+{
+    match lexemes {
+        [
+            Lexeme::Name(pack),
+            Lexeme::Sign(Symbol::Dot),
+            Lexeme::Name(procedure),
+            Lexeme::Sign(Symbol::Open),
+            Lexeme::Text(text),
+            Lexeme::Sign(Symbol::Close),
+        ] => call(alloc, pack, procedure, text),
+        _ => Err(StatementFault::Syntax),
+    }
+}
+
+/// The statement that the lexemes are.
+fn statement(alloc: Global, lexemes: &[Lexeme]) -> Result<Statement, StatementFault>
+    ensures { StatementGives result (statement_of lexemes.now) }
+{
+    match lexemes {
+        [Lexeme::Word(Keyword::Exec | Keyword::Execute), rest @ ..] => exec(alloc, rest),
+        _ => Err(StatementFault::Syntax),
+    }
+}
+
+/// Reads a statement; there is none where the text is only white space and comments. Its cost is the length of the text.
+pub fn parse(alloc: Global, text: &str) -> Result<Option<Statement>, StatementFault>
+    ensures reads { ParseGives result (read (chars text.now)) }
+
+    // the same in the grammar's own words
+    ensures blank { IfOk result (λ found. IfNone found (lexemes (chars text.now) ≡ Some [])) }
+    ensures statement { IfOk result (λ found. IfSome found (λ s. (ls : List Lexeme) × (lexemes (chars text.now) ≡ Some ls) × IsStatement ls s)) }
+    ensures syntax { IsErrOf result StatementFault.Syntax → (ls : List Lexeme) → lexemes (chars text.now) ≡ Some ls → (ls ≢ []) × ((s : Statement) → ¬ (IsStatement ls s)) }
+{
+    let lexemes = lex(alloc, text)?;
+    if lexemes.is_empty() {
+        return Ok(None);
+    }
+    Ok(Some(statement(alloc, lexemes.as_slice())?))
+}

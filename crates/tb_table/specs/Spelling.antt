@@ -1,0 +1,64 @@
+-- The entries that spell the tables.
+use Rattle.std.specs.Prelude.{ℕ, ℤ, ◌≡◌, ◌<◌, ◌≤◌, ◌^◌, List, [], ◌∷◌, ◌++◌, length, map, Option, Some, None, codes, refl}
+use Rattle.std.specs.Option.{option_map, option_and_then}
+use Rattle.std.specs.List.{flat_map}
+use Rattle.std.specs.Int.{to_be_bytes, w16}
+use Rattle.std.specs.FinMap.{get}
+use Rattle.ct_base.specs.Names.{IsName}
+use Rattle.ct_base.specs.declared.lists.Value.{Value}
+use Rattle.ct_bytes.specs.Varints.{varint, text_bytes}
+use Rattle.ct_bytes.specs.RowKeys.{row_bytes}
+use Rattle.ct_entry.specs.declared.kinds.Kind.TheVariants as kind
+use Rattle.ct_entry.specs.Keys.{Key, key, row_part, text_part, IsRow}
+use Rattle.ct_entry.specs.Words.{put, drop_key}
+use Rattle.tb_table.specs.declared.columns.Sort.{Sort}
+use Rattle.tb_table.specs.declared.columns.Sort.TheVariants.{Number, Varchar2, Clob}
+use Rattle.tb_table.specs.declared.columns.Column.{Column}
+use Rattle.tb_table.specs.Tables.{Table, Tables, row_at, numbers_of, text_of}
+
+-- the byte of a sort, and its size, which is 0 but for VARCHAR2
+abbrev pub sort_code : Sort → ℕ
+sort_code Number = 1
+sort_code (Varchar2 size) = 2
+sort_code Clob = 3
+
+abbrev pub sort_size : Sort → ℕ
+sort_size Number = 0
+sort_size (Varchar2 size) = size
+sort_size Clob = 0
+
+-- a column: its name as a text, the byte of its sort, and its size in two bytes, the higher first
+abbrev pub column_bytes : Column → List ℕ
+column_bytes c = text_bytes c.name ++ sort_code c.sort ∷ to_be_bytes w16 (sort_size c.sort)
+
+-- columns: how many, as a varint, and each in turn
+abbrev pub columns_bytes : List Column → List ℕ
+columns_bytes cs = varint (length cs) ++ flat_map column_bytes cs
+
+-- the numbers of a row, eight bytes each
+abbrev pub numbers_bytes : List ℤ → List ℕ
+numbers_bytes zs = flat_map row_bytes zs
+
+-- The entries of the kinds Tables, RowNumbers and RowTexts spell the tables.
+pub record TablesStand (f : Key → Option (List ℕ)) (ts : Tables) : Type 0 where
+  pub tables : (t : List ℕ) → f (key kind.Tables t []) ≡ option_map (λ (x : Table). columns_bytes x.columns) (get ts t)
+  pub numbers : (t : List ℕ) (r : ℤ) → IsRow r → f (key kind.RowNumbers t (row_part r)) ≡ option_map (λ vs. numbers_bytes (numbers_of vs)) (row_at ts t r)
+  pub texts : (t : List ℕ) (c : ℕ) (r : ℤ) → c < 256 → IsRow r → f (key kind.RowTexts t (text_part c r)) ≡ option_and_then (λ vs. text_of vs c) (row_at ts t r)
+
+-- ---- what calls put into a batch
+
+abbrev pub create_words : List ℕ → List Column → List (Key × Option (List ℕ))
+create_words t columns = put (key kind.Tables t []) (columns_bytes columns) ∷ []
+
+-- a word for each text, by its column
+abbrev pub text_words : List ℕ → ℤ → List (ℕ × List ℕ) → List (Key × Option (List ℕ))
+text_words t r texts = map (λ (x : ℕ × List ℕ). put (key kind.RowTexts t (text_part x.0 r)) x.1) texts
+
+abbrev pub insert_words : List ℕ → ℤ → List ℤ → List (ℕ × List ℕ) → List (Key × Option (List ℕ))
+insert_words t r numbers texts = put (key kind.RowNumbers t (row_part r)) (numbers_bytes numbers) ∷ text_words t r texts
+
+-- computed example: the columns of a table (id NUMBER PRIMARY KEY, title VARCHAR2(100))
+two_columns : columns_bytes (record { name = codes "id"; sort = Number } ∷ record { name = codes "title"; sort = Varchar2 100 } ∷ [])
+    ≡ 2 ∷ (2 ∷ codes "id" ++ 1 ∷ 0 ∷ 0 ∷ []) ++ (5 ∷ codes "title" ++ 2 ∷ 0 ∷ 100 ∷ [])
+unfolding varint
+two_columns = refl

@@ -1,0 +1,65 @@
+-- Tables and their rows.
+use Rattle.std.specs.Prelude.{ℕ, ℤ, zero, suc, List, [], ◌∷◌, Option, Some, None}
+use Rattle.std.specs.Ordering.{nat_cmp, int_cmp}
+use Rattle.std.specs.Cmp.Lexicographic.{slice_cmp}
+use Rattle.std.specs.FinMap.{FinMap, get, insert, remove, empty}
+use Rattle.ct_base.specs.declared.lists.Value.{Value}
+use Rattle.ct_base.specs.declared.lists.Value.TheVariants.{Number, Text}
+use Rattle.tb_table.specs.declared.columns.Column.{Column}
+
+-- a table: its columns, of which the first is the key, and its rows by their keys, each with the values of the other columns in their order
+pub record Table : Type 0 where
+  pub columns : List Column
+  pub rows : FinMap int_cmp (List Value)
+
+-- the tables by their names
+abbrev pub Tables : Type 0
+Tables = FinMap (slice_cmp nat_cmp) Table
+
+abbrev pub row_in : Option Table → ℤ → Option (List Value)
+row_in None r = None
+row_in (Some x) r = get x.rows r
+
+-- the values of a row, where the table is there and has it
+abbrev pub row_at : Tables → List ℕ → ℤ → Option (List Value)
+row_at ts t r = row_in (get ts t) r
+
+-- the numbers of a row, in the order of their columns
+abbrev pub numbers_of : List Value → List ℤ
+numbers_of [] = []
+numbers_of (Number n ∷ vs) = n ∷ numbers_of vs
+numbers_of (Text text ∷ vs) = numbers_of vs
+
+abbrev pub as_text : Value → Option (List ℕ)
+as_text (Number n) = None
+as_text (Text text) = Some text
+
+-- the text at a place of the values, counted from 0, where one stands there
+abbrev pub text_in : List Value → ℕ → Option (List ℕ)
+text_in [] place = None
+text_in (v ∷ vs) zero = as_text v
+text_in (v ∷ vs) (suc place) = text_in vs place
+
+-- the text of a column, that of the key being the column 0
+abbrev pub text_of : List Value → ℕ → Option (List ℕ)
+text_of vs zero = None
+text_of vs (suc place) = text_in vs place
+
+-- ---- what statements make of the tables
+
+abbrev pub with_table : Tables → List ℕ → List Column → Tables
+with_table ts t columns = insert ts t (record { columns = columns; rows = empty })
+
+abbrev pub altered : Tables → List ℕ → (Table → Table) → Option Table → Tables
+altered ts t f None = ts
+altered ts t f (Some x) = insert ts t (f x)
+
+-- f of the table, where it is there
+abbrev pub alter : Tables → List ℕ → (Table → Table) → Tables
+alter ts t f = altered ts t f (get ts t)
+
+abbrev pub with_row : Tables → List ℕ → ℤ → List Value → Tables
+with_row ts t r vs = alter ts t (λ (x : Table). record x { rows = insert x.rows r vs })
+
+abbrev pub without_row : Tables → List ℕ → ℤ → Tables
+without_row ts t r = alter ts t (λ (x : Table). record x { rows = remove x.rows r })
