@@ -51,7 +51,7 @@ abbrev pub Because : ℕ → List ℕ → DiskView → DiskView → Ending → T
 Because most taken old new Done = (length taken ≤ most) × EndsHere new
 Because most taken old new HearFault = (length taken ≤ most) × HearRose old new
 Because most taken old new SayFault = (length taken ≤ most) × SayRose old new
--- no call was made
+-- nothing that the site tells has changed
 Because most taken old new NoMemory = (taken ≡ []) × (new ≡ old)
 Because most taken old new PastLimit = length taken ≡ suc most
 

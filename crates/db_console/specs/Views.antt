@@ -13,7 +13,7 @@ use Rattle.db_console.specs.declared.saying.Stop.TheVariants.{Say}
 pub record Shows (view : DiskView) (world : World) : Type 0 where
   pub said : view.beside.said ≡ world.said
 
--- No call of the disk was made.
+-- The disk is as before: no call of it failed, and a read gives what it gave.
 pub record Untouched (old new : DiskView) : Type 0 where
   pub image : new.image ≡ old.image
   pub faults : new.faults ≡ old.faults
