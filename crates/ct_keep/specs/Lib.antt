@@ -6,4 +6,4 @@ pub mod Keeping
 pub mod Pairs
 pub mod Trials
 pub mod InMemory
-pub mod MemStates
+pub mod KeeperStates

@@ -9,6 +9,8 @@ mod mem_keepers;
 mod site_maps;
 mod sorted_entries;
 mod tallies;
+#[cfg(test)]
+mod tests;
 mod trials;
 
 pub use batches::{Batch, Word};
