@@ -102,3 +102,8 @@ module _ (m : Content) (limit : ℕ) (counts : Counts) (old new : Beside) (disk_
       adds = λ t stopped w now. inr (now.0 ∙ holds, record { part = told; later = []; front = sym (append-nil told); is = sym said ∙ now.1 });
     };
   }
+
+-- It may be called, and takes every entry.
+pub record TakesAll (k : Keeping) : Type 0 where
+  pub ready : k.ready
+  pub well : (key value : List ℕ) → k.well key value ≡ true

@@ -13,4 +13,4 @@ pub mod LookLaws
 pub mod Pairs
 pub mod Trials
 pub mod InMemory
-pub mod MemStates
+pub mod KeeperStates

@@ -10,6 +10,8 @@ mod scans;
 mod site_maps;
 mod sorted_entries;
 mod tallies;
+#[cfg(test)]
+mod tests;
 mod trials;
 
 pub use batches::{Batch, Word};

@@ -6,7 +6,7 @@ ghost use Rattle.ct_base.specs.Told.{took, IsNothing};
 ghost use Rattle.ct_base.specs.Causes.{HasCause};
 ghost use Rattle.ct_keep.specs.Keeping.{KeeperHears, KeeperSays};
 ghost use Rattle.ct_keep.specs.InMemory.{settled_in_memory};
-ghost use Rattle.ct_keep.specs.MemStates.{no_counts, mem_keeping};
+ghost use Rattle.ct_keep.specs.KeeperStates.{no_counts, mem_keeping};
 
 use crate::batches::Batch;
 use crate::holdings::Holding;
@@ -31,11 +31,11 @@ pub struct MemKeeper {
 
 impl Model for MemKeeper {
     ghost use Rattle.std.specs.Prelude.{drop};
-    ghost use Rattle.ct_keep.specs.MemStates.{MemState, mem_state_code, IsRoomy};
+    ghost use Rattle.ct_keep.specs.KeeperStates.{KeeperState, keeper_state_code, IsRoomy};
 
-    ghost Value = { MemState };
+    ghost Value = { KeeperState };
 
-    ghost coded = { mem_state_code };
+    ghost coded = { keeper_state_code };
 
     ghost view = { λ k. record { content = k.held.content; limit = k.held.limit; counts = k.held.counts; left = drop k.heard k.script.items; said = k.said.items; said_room = k.said_room; say_faults = k.say_faults } };
 

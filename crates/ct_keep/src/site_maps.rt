@@ -3,7 +3,7 @@
 ghost use Rattle.std.specs.Prelude.{◌≡◌, Some};
 ghost use Rattle.std.specs.FinMap.{empty};
 ghost use Rattle.ct_keep.specs.InMemory.{in_memory, settled_in_memory};
-ghost use Rattle.ct_keep.specs.MemStates.{no_counts};
+ghost use Rattle.ct_keep.specs.KeeperStates.{no_counts};
 
 use crate::batches::Batch;
 use crate::holdings::Holding;

@@ -9,8 +9,11 @@ use std::marker::Model;
 
 /// The kinds of entries whose look-ups are counted: the first byte of their keys.
 const TEXT: u8 = 0x03;
+
 const TOKEN_ROW: u8 = 0x24;
+
 const SECTION_ROW: u8 = 0x25;
+
 const RULE: u8 = 0x2a;
 
 /// How often entries of some kinds were asked for or handed out, and how often a commit was refused for want of room.
@@ -74,8 +77,7 @@ impl Tally {
     pub(crate) fn look_up(&mut self, asked: &[u8], handed: Option<&[u8]>)
         ensures { self.new ≡ looked_up asked.now (option_map (λ k. k.now) handed.entry) self.old }
     {
-        let row = is_either(TOKEN_ROW, asked, handed)
-            || is_either(SECTION_ROW, asked, handed);
+        let row = is_either(TOKEN_ROW, asked, handed) || is_either(SECTION_ROW, asked, handed);
         self.texts = counted(is_either(TEXT, asked, handed), self.texts);
         self.rows = counted(row, self.rows);
         self.rules = counted(is_either(RULE, asked, handed), self.rules);

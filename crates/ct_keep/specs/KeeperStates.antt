@@ -8,7 +8,7 @@ use Rattle.ct_keep.specs.Keeping.{Keeping, Counts}
 use Rattle.ct_keep.specs.Trials.{content_code}
 use Rattle.ct_keep.specs.InMemory.{in_memory}
 
-pub record MemState : Type 0 where
+pub record KeeperState : Type 0 where
   pub content : Content
   pub limit : ℕ
   pub counts : Counts
@@ -22,7 +22,7 @@ pub record MemState : Type 0 where
 abbrev pub no_counts : Counts
 no_counts = record { texts = 0; rows = 0; rules = 0; fulls = 0 }
 
-abbrev pub mem_keeping : MemState → Keeping
+abbrev pub mem_keeping : KeeperState → Keeping
 mem_keeping s = in_memory s.content s.limit s.counts (record { left = Some s.left; said = Some s.said; hear_faults = 0; say_faults = s.say_faults }) 0 None
 
 -- The script has been heard up to here, and what may be said has its room.
@@ -34,8 +34,8 @@ pub record IsRoomy (script : List ℕ) (heard : ℕ) (said : Vec ℕ Global) (sa
 abbrev pub counts_code : Coded Counts
 counts_code = code_by (ℕ × (ℕ × (ℕ × ℕ))) (coded× coded_ℕ (coded× coded_ℕ (coded× coded_ℕ coded_ℕ))) (λ c. (c.texts, (c.rows, (c.rules, c.fulls)))) (λ p. record { texts = p.0; rows = p.1.0; rules = p.1.1.0; fulls = p.1.1.1 }) (λ _. refl)
 
-abbrev pub mem_state_code : Coded MemState
-mem_state_code =
+abbrev pub keeper_state_code : Coded KeeperState
+keeper_state_code =
     code_by (Content × (ℕ × (Counts × (List ℕ × (List ℕ × (ℕ × ℕ)))))) (coded× content_code (coded× coded_ℕ (coded× counts_code (coded× (coded_list coded_ℕ) (coded× (coded_list coded_ℕ) (coded× coded_ℕ coded_ℕ))))))
     (λ s. (s.content, (s.limit, (s.counts, (s.left, (s.said, (s.said_room, s.say_faults)))))))
     (λ p. record { content = p.0; limit = p.1.0; counts = p.1.1.0; left = p.1.1.1.0; said = p.1.1.1.1.0; said_room = p.1.1.1.1.1.0; say_faults = p.1.1.1.1.1.1 })
