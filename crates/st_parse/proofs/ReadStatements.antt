@@ -1,6 +1,6 @@
 -- The function that reads a statement, and the relation between lexemes and statements, are the same.
-use Rattle.std.proofs.Common.{◌≡◌, ℕ, ⊎_elim, inl, inr, Bool, true, false, cond, List, [], ◌∷◌, refl, ap, ◌∙◌, subst, Option, Some, None}
-use Rattle.std.specs.Prelude.{◌&&◌, codes, bytes_eq}
+use Rattle.std.proofs.Common.{◌≡◌, ℕ, ⊎_elim, inl, inr, Bool, true, false, cond, List, [], ◌∷◌, refl, sym, ap, ◌∙◌, subst, Option, Some, None}
+use Rattle.std.specs.Prelude.{◌&&◌, ◌≢◌, codes, bytes_eq, Result, Ok, Err, IsErrOf}
 use Rattle.std.proofs.lemmas.Slice.Eq.{bytes_eq-Decides}
 use Rattle.st_parse.specs.declared.lexemes.Keyword.{Keyword}
 use Rattle.st_parse.specs.declared.lexemes.Keyword.TheVariants.{Exec as ExecWord, Execute}
@@ -10,7 +10,10 @@ use Rattle.st_parse.specs.declared.lexemes.Lexeme.TheVariants.{Word, Name, Text,
 use Rattle.st_parse.specs.declared.statements.Arg.TheVariants.{Text as TextArg}
 use Rattle.st_parse.specs.declared.statements.Statement.{Statement}
 use Rattle.st_parse.specs.declared.statements.Statement.TheVariants.{Exec}
-use Rattle.st_parse.specs.Grammar.{IsExec, IsStatement, call_of, exec_of, statement_of}
+use Rattle.st_parse.specs.declared.parsing.StatementFault.{StatementFault}
+use Rattle.st_parse.specs.declared.parsing.StatementFault.TheVariants.{Syntax, Memory}
+use Rattle.st_parse.specs.Lexemes.{lexemes}
+use Rattle.st_parse.specs.Grammar.{IsExec, IsStatement, call_of, exec_of, statement_of, NoStatement, Found, found, read_lexemes, read, ParseGives}
 
 -- what was read is this statement
 abbrev pub Means : Option Statement → List Lexeme → Type 0
@@ -50,3 +53,34 @@ statement-again ls (Exec pack procedure args) ((is-pack, is-procedure, (text, on
 -- both ways
 pub statement-read : (ls : List Lexeme) (s : Statement) → (IsStatement ls s → statement_of ls ≡ Some s) × (statement_of ls ≡ Some s → IsStatement ls s)
 statement-read ls s = (statement-again ls s, λ read. subst (λ x. Means x ls) read (statement-means ls))
+
+-- a statement that was found is what the lexemes are
+found-some : (o : Option Statement) (s : Statement) → found o ≡ Found s → o ≡ Some s
+found-some None s is = cc
+found-some (Some t) s is = cc
+
+found-none : (o : Option Statement) → found o ≡ NoStatement → o ≡ None
+found-none None is = refl
+found-none (Some t) is = cc
+
+pub statement-in : (o : Option (List Lexeme)) (s : Statement) → read_lexemes o ≡ Found s → (ls : List Lexeme) × (o ≡ Some ls) × IsStatement ls s
+statement-in None s is = cc
+statement-in (Some []) s is = cc
+statement-in (Some (l ∷ ls)) s is = let read = statement-read (l ∷ ls) s in (l ∷ ls, refl, read.1 (found-some (statement_of (l ∷ ls)) s is))
+
+-- lexemes that are neither none nor a statement
+abbrev pub IsRefused : List Lexeme → Type 0
+IsRefused ls = (ls ≢ []) × ((s : Statement) → ¬ (IsStatement ls s))
+
+refused-lexemes : (ls : List Lexeme) → read_lexemes (Some ls) ≡ NoStatement → IsRefused ls
+refused-lexemes [] is = cc
+refused-lexemes (l ∷ ls) is = (λ e. cc, λ s statement. differ s (sym (statement-again (l ∷ ls) s statement) ∙ found-none (statement_of (l ∷ ls)) is))
+  where
+    differ : (s : Statement) → Some s ≡ None → ⊥
+    differ s e = cc
+
+pub refused : (r : Result (Option Statement) StatementFault) (text : List ℕ) → ParseGives r (read text) → IsErrOf r Syntax → (ls : List Lexeme) → lexemes text ≡ Some ls → IsRefused ls
+refused (Ok None) text gives is ls lexed = cc
+refused (Ok (Some s)) text gives is ls lexed = cc
+refused (Err Syntax) text gives is ls lexed = refused-lexemes ls (sym (ap read_lexemes lexed) ∙ gives)
+refused (Err Memory) text gives is ls lexed = cc
