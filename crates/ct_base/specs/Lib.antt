@@ -3,3 +3,4 @@ pub mod Told
 pub mod Causes
 pub mod Characters
 pub mod Moments
+pub mod NameLaws

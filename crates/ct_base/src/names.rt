@@ -1,9 +1,9 @@
 //! The names of tables, columns, indexes and the like.
 
-ghost use Rattle.std.specs.Prelude.{◌≡◌, IfOk, IsErrOf, ◌↔◌, true, false, map};
+ghost use Rattle.std.specs.Prelude.{◌≡◌, ◌==◌, IfOk, IsErrOf, ◌↔◌, true, false, map};
 ghost use Rattle.std.specs.Char.{to_ascii_lowercase};
 ghost use Rattle.std.specs.List.{list_all};
-ghost use Rattle.ct_base.specs.Names.{is_spelling, is_name_byte, IsName};
+ghost use Rattle.ct_base.specs.Names.{is_spelling, is_name_byte, is_kept, kept_name, IsName};
 ghost use Rattle.ct_base.specs.declared.names.NameFault.TheVariants.{Memory as OutOfMemory};
 ghost use Rattle.std.specs.String.{string_bytes};
 
@@ -49,11 +49,11 @@ impl From<Memory> for NameFault {
     }
 }
 
-/// Whether the text is spelt as a name, in any ASCII case.
-fn is_spelling(text: &str) -> bool
-    ensures { result ≡ is_spelling text.now }
+/// Whether the bytes spell a name, in any ASCII case.
+fn is_spelling(bytes: &[u8]) -> bool
+    ensures { result ≡ is_spelling bytes.now }
 {
-    match text.as_bytes() {
+    match bytes {
         [] => false,
         [first, rest @ ..] => {
             first.is_ascii_alphabetic() && rest.len() <= 29 && are_name_bytes(rest)
@@ -74,13 +74,26 @@ fn are_name_bytes(bytes: &[u8]) -> bool
     bytes.iter().all(|byte| is_name_byte(*byte))
 }
 
-/// The text in ASCII lower case, where all of it is ASCII.
-fn lower_case(alloc: Global, text: &str) -> Result<String, Memory>
-    requires { is_spelling text.now ≡ true }
-    ensures { IfOk result (λ lower. string_bytes lower ≡ map to_ascii_lowercase text.now) }
+fn are_lower(bytes: &[u8]) -> bool
+    ensures { result ≡ list_all (λ b. to_ascii_lowercase b == b) bytes.now }
+{
+    bytes.iter().all(|byte| byte.to_ascii_lowercase() == *byte)
+}
+
+/// Whether the bytes are those that a name is kept as.
+fn is_kept(bytes: &[u8]) -> bool
+    ensures { result ≡ is_kept bytes.now }
+{
+    is_spelling(bytes) && are_lower(bytes)
+}
+
+/// The text of these bytes in ASCII lower case, where all of them are ASCII.
+fn lower_case(alloc: Global, bytes: &[u8]) -> Result<String, Memory>
+    requires { is_spelling bytes.now ≡ true }
+    ensures { IfOk result (λ lower. string_bytes lower ≡ map to_ascii_lowercase bytes.now) }
 {
     let mut lower = String::new(alloc);
-    for byte in text.as_bytes() {
+    for byte in bytes {
         push_ascii(&mut lower, byte.to_ascii_lowercase() as char)?;
     }
     Ok(lower)
@@ -93,11 +106,23 @@ impl Name {
         ensures spelt { IfOk result (λ _. is_spelling text.now ≡ true) }
         ensures not_a_name { IsErrOf result NameFault.NotAName ↔ (is_spelling text.now ≡ false) }
     {
-        if !is_spelling(text) {
+        let bytes = text.as_bytes();
+        if !is_spelling(bytes) {
             return Err(NameFault::NotAName);
         }
-        let text = lower_case(alloc, text)?;
+        let text = lower_case(alloc, bytes)?;
         Ok(Name { text })
+    }
+
+    /// The name that is kept as these bytes; None where they spell no name in lower case. Its cost is the length of the bytes.
+    pub fn of_bytes(alloc: Global, bytes: &[u8]) -> Result<Option<Name>, Memory>
+        ensures { IfOk result (λ found. found ≡ kept_name bytes.now) }
+    {
+        if !is_kept(bytes) {
+            return Ok(None);
+        }
+        let text = lower_case(alloc, bytes)?;
+        Ok(Some(Name { text }))
     }
 
     /// The name in lower case.

@@ -1,10 +1,10 @@
 -- How a varint is read byte by byte.
 use Rattle.std.proofs.Common.{◌≡◌, ℕ, zero, suc, ◌+◌, ◌-◌, ◌*◌, ◌/◌, ◌%◌, ◌^◌, ◌<◌, ◌≤◌, ◌⊎◌, List, [], ◌∷◌, ◌++◌, length, get_or, take, drop, refl, sym, ap, ◌∙◌, inl, inr, subst, append_assoc, length-append, arith, below_more}
 use Rattle.std.proofs.lemmas.Bool.{cases_lt}
-use Rattle.std.proofs.lemmas.List.{take_more, take-append-drop, length-take-le, drop-drop, drop_more, get_or_append_left}
+use Rattle.std.proofs.lemmas.List.{take_more, take-append-drop, length-take-le, drop-drop}
 use Rattle.std.proofs.Math.Nat.{pow-suc}
 use Rattle.std.proofs.Math.Numerals.{add-one}
-use Rattle.std.specs.Prelude.{Option, Some, None, Result, Ok, Err}
+use Rattle.std.specs.Prelude.{Some, None, Result, Ok, Err}
 use Rattle.std.specs.Result.{OkIff, result_ok}
 use Rattle.ct_bytes.specs.Varints.{varint, varint_in, IsVarintAt}
 use Rattle.ct_bytes.specs.VarintLaws.{varint_last, varint_more, varint_apart, varint_length}
@@ -102,10 +102,11 @@ more_later b n rest (suc i) s front byte some later high =
 last_later : (more n i : ℕ) (s : List ℕ) → n < 128 * 128 ^ more → Later n i s (varint_in more n)
 last_later zero n i s small = alone_later n i s (omega arith)
 last_later (suc more) n i s small = elim (cases_lt n 128) [
-    inl low ↦ subst (Later n i s) (sym (varint_last (suc more) n low)) (alone_later n i s low)
+  | inl low ↦ subst (Later n i s) (sym (varint_last (suc more) n low)) (alone_later n i s low)
   | inr large ↦
       let rest_small : n / 128 < 128 * 128 ^ more = omega (arith, pow-suc 128 more) in
-      subst (Later n i s) (sym (varint_more more n large)) (more_later _ n (n / 128) i s _ (omega arith) (omega arith) (λ k. last_later more (n / 128) k s rest_small)) ]
+      subst (Later n i s) (sym (varint_more more n large)) (more_later _ n (n / 128) i s _ (omega arith) (omega arith) (λ k. last_later more (n / 128) k s rest_small))
+]
 
 -- The last byte comes behind those that more follow, and it is 0 only where it is the only one.
 later_at : (bytes : List ℕ) (n next i : ℕ) → IsVarintAt bytes 0 n next → ((j : ℕ) → j < i → 128 ≤ get_or bytes j 0) → (i < length (varint n)) × (0 < n → 0 < get_or bytes i 0) × (0 < i → 0 < get_or bytes i 0)

@@ -1,5 +1,5 @@
 -- How many bytes a varint takes.
-use Rattle.std.proofs.Common.{◌≡◌, ℕ, suc, ◌+◌, ◌/◌, ◌<◌, ◌≤◌, length, sym, ap, ◌∙◌, arith}
+use Rattle.std.proofs.Common.{◌≡◌, ℕ, suc, ◌/◌, ◌<◌, ◌≤◌, length, sym, ap, ◌∙◌, arith}
 use Rattle.ct_bytes.specs.Varints.{varint_in}
 use Rattle.ct_bytes.specs.VarintLaws.{varint_last, varint_more}
 

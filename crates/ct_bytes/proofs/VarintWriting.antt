@@ -1,5 +1,5 @@
 -- How a varint is written byte by byte.
-use Rattle.std.proofs.Common.{◌≡◌, ℕ, zero, suc, ◌+◌, ◌-◌, ◌*◌, ◌/◌, ◌%◌, ◌^◌, ◌<◌, ◌≤◌, List, [], ◌∷◌, ◌++◌, length, set, take, refl, sym, ap, ◌∙◌, append_assoc, inl, inr, length-set, arith}
+use Rattle.std.proofs.Common.{◌≡◌, ℕ, suc, ◌+◌, ◌-◌, ◌*◌, ◌/◌, ◌%◌, ◌^◌, ◌<◌, ◌≤◌, List, [], ◌∷◌, ◌++◌, length, set, take, refl, sym, ap, ◌∙◌, append_assoc, inl, inr, length-set, arith}
 use Rattle.std.proofs.lemmas.Bool.{cases_lt}
 use Rattle.std.proofs.lemmas.List.{take_more_set}
 use Rattle.std.proofs.Math.Nat.{pow-suc}
@@ -19,11 +19,12 @@ nothing_written bytes n size small = record { size = size; within = omega arith;
 
 pub more_room : (bytes : List ℕ) (at rest n : ℕ) → HasWritten bytes at rest n → 128 ≤ rest → at < 4
 more_room bytes at rest n written large = elim (cases_lt at 4) [
-    inl room ↦ room
+  | inl room ↦ room
   | inr full ↦
       let none : 4 - at ≡ 0 = omega arith in
       let small : rest < 16 * 128 ^ 0 = rw none at written.small in
-      absurd (omega arith) ]
+      absurd (omega arith)
+]
 
 pub written_more : (bytes : List ℕ) (at rest n : ℕ) → HasWritten bytes at rest n → 128 ≤ rest → HasWritten (set bytes at (rest % 128 + 128)) (at + 1) (rest / 128) n
 written_more bytes at rest n written large =

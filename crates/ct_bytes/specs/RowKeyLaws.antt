@@ -1,12 +1,11 @@
 -- What holds of the bytes of every row key.
-use Rattle.std.proofs.Common.{◌≡◌, ℕ, ℤ, pos, negsuc, zero, suc, ◌<◌, ◌≤◌, ◌+◌, ◌-◌, ◌*◌, ◌/◌, ◌%◌, ◌^◌, List, [], ◌∷◌, ◌++◌, length, take, drop, refl, sym, ap, ◌∙◌, arith, append_assoc, length-append, FitsSigned}
+use Rattle.std.proofs.Common.{◌≡◌, ℕ, ℤ, pos, negsuc, zero, suc, ◌<◌, ◌+◌, ◌-◌, ◌/◌, ◌%◌, ◌^◌, List, [], ◌∷◌, ◌++◌, length, take, drop, refl, sym, ap, inl, inr, ◌∙◌, arith, append_assoc, length-append, FitsSigned}
 use Rattle.std.specs.declared.cmp.Ordering.{Ordering}
 use Rattle.std.specs.declared.cmp.Ordering.TheVariants.{Less, Equal, Greater}
 use Rattle.std.specs.Ordering.{nat_cmp, int_cmp, ordering_then}
 use Rattle.std.specs.Cmp.Lexicographic.{slice_cmp}
 use Rattle.std.specs.Int.{to_be_bytes, from_be_bytes, w64}
-use Rattle.std.proofs.lemmas.Bool.Decides.{nat_tests}
-use Rattle.std.proofs.lemmas.Int.{ints}
+use Rattle.std.proofs.lemmas.Bool.{cases_order, lt-ltb, le-ltb, eq-eqb, ne_eqb}
 use Rattle.std.proofs.lemmas.Nat.{from_be_bytes-to_be_bytes_8}
 use Rattle.std.proofs.lemmas.List.{take_at, drop_at}
 use Rattle.ct_bytes.specs.RowKeys.{raised, row_bytes}
@@ -45,23 +44,40 @@ unfolding row_bytes
 row_bytes_one a b f g e =
     raised_one a b f g (sym (from_be_bytes-to_be_bytes_8 (raised a) (raised_fits a f)) ∙ ap (from_be_bytes w64) e ∙ from_be_bytes-to_be_bytes_8 (raised b) (raised_fits b g))
 
-both_above : (m n : ℕ) → nat_cmp (m + 2 ^ 63) (n + 2 ^ 63) ≡ int_cmp (pos m) (pos n)
-both_above m n = grind (arith, nat_tests)
+-- what a comparison answers, in each of the three cases
+is_less : (m n : ℕ) → m < n → nat_cmp m n ≡ Less
+is_less m n h = rw (lt-ltb m n h) refl
 
-above_below : (m n : ℕ) → nat_cmp (m + 2 ^ 63) (2 ^ 63 - 1 - n) ≡ Greater
-above_below m n = grind (arith, nat_tests)
+is_equal : (m n : ℕ) → m ≡ n → nat_cmp m n ≡ Equal
+is_equal m n h = rw (le-ltb m n (omega arith), eq-eqb m n h) refl
 
-below_above : (m n : ℕ) → nat_cmp (2 ^ 63 - 1 - m) (n + 2 ^ 63) ≡ Less
-below_above m n = grind (arith, nat_tests)
+is_greater : (m n : ℕ) → n < m → nat_cmp m n ≡ Greater
+is_greater m n h = rw (le-ltb m n (omega arith), ne_eqb m n (λ e. omega arith)) refl
 
-both_below : (m n : ℕ) → m < 2 ^ 63 → n < 2 ^ 63 → nat_cmp (2 ^ 63 - 1 - m) (2 ^ 63 - 1 - n) ≡ int_cmp (negsuc m) (negsuc n)
-both_below m n f g = grind (arith, nat_tests)
+-- two pairs that are in one order compare alike
+compare_alike : (a b m n : ℕ) → (a < b → m < n) → (a ≡ b → m ≡ n) → (b < a → n < m) → nat_cmp m n ≡ nat_cmp a b
+compare_alike a b m n less same greater = elim (cases_order a b) [
+  | inl h ↦ is_equal m n (same h) ∙ sym (is_equal a b h)
+  | inr h ↦ elim h [
+    | inl h ↦ is_less m n (less h) ∙ sym (is_less a b h)
+    | inr h ↦ is_greater m n (greater h) ∙ sym (is_greater a b h)
+  ]
+]
+
+both_above : (m n : ℕ) → nat_cmp m n ≡ int_cmp (pos m) (pos n)
+both_above m n = elim (cases_order m n) [
+  | inl h ↦ is_equal m n h ∙ rw (le-ltb m n (omega arith), le-ltb n m (omega arith)) refl
+  | inr h ↦ elim h [
+    | inl h ↦ is_less m n h ∙ rw (lt-ltb m n h) refl
+    | inr h ↦ is_greater m n h ∙ rw (le-ltb m n (omega arith), lt-ltb n m h) refl
+  ]
+]
 
 raised_in_order : (a b : ℤ) → FitsSigned w64 a → FitsSigned w64 b → nat_cmp (raised a) (raised b) ≡ int_cmp a b
-raised_in_order (pos m) (pos n) f g = both_above m n
-raised_in_order (pos m) (negsuc n) f g = above_below m n
-raised_in_order (negsuc m) (pos n) f g = below_above m n
-raised_in_order (negsuc m) (negsuc n) f g = both_below m n (omega arith) (omega arith)
+raised_in_order (pos m) (pos n) f g = compare_alike m n (m + 2 ^ 63) (n + 2 ^ 63) (λ h. omega arith) (λ h. omega arith) (λ h. omega arith) ∙ both_above m n
+raised_in_order (pos m) (negsuc n) f g = is_greater (m + 2 ^ 63) (2 ^ 63 - 1 - n) (omega arith)
+raised_in_order (negsuc m) (pos n) f g = is_less (2 ^ 63 - 1 - m) (n + 2 ^ 63) (omega arith)
+raised_in_order (negsuc m) (negsuc n) f g = compare_alike n m (2 ^ 63 - 1 - m) (2 ^ 63 - 1 - n) (λ h. omega arith) (λ h. omega arith) (λ h. omega arith) ∙ both_above n m
 
 -- a number as cells of 8 bits, of which `more` stand behind the first; the first is left whole
 cells : ℕ → ℕ → List ℕ
@@ -92,7 +108,15 @@ cmp_push (x ∷ xs) [] a b l = absurd (omega arith)
 cmp_push (x ∷ xs) (y ∷ ys) a b l = ap (ordering_then (nat_cmp x y)) (cmp_push xs ys a b (omega arith)) ∙ sym (assoc_then (nat_cmp x y) (slice_cmp nat_cmp xs ys) (nat_cmp a b))
 
 split_cmp : (m n : ℕ) → ordering_then (nat_cmp (m / 256) (n / 256)) (nat_cmp (m % 256) (n % 256)) ≡ nat_cmp m n
-split_cmp m n = grind (arith, nat_tests)
+split_cmp m n = elim (cases_order (m / 256) (n / 256)) [
+  | inl h ↦
+      ap (λ (o : Ordering). ordering_then o (nat_cmp (m % 256) (n % 256))) (is_equal (m / 256) (n / 256) h) ∙
+      sym (compare_alike (m % 256) (n % 256) m n (λ low. omega arith) (λ low. omega arith) (λ low. omega arith))
+  | inr h ↦ elim h [
+    | inl h ↦ ap (λ (o : Ordering). ordering_then o (nat_cmp (m % 256) (n % 256))) (is_less (m / 256) (n / 256) h) ∙ sym (is_less m n (omega arith))
+    | inr h ↦ ap (λ (o : Ordering). ordering_then o (nat_cmp (m % 256) (n % 256))) (is_greater (m / 256) (n / 256) h) ∙ sym (is_greater m n (omega arith))
+  ]
+]
 
 cells_in_order : (more m n : ℕ) → slice_cmp nat_cmp (cells more m) (cells more n) ≡ nat_cmp m n
 unfolding cells

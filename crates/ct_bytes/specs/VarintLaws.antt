@@ -1,5 +1,5 @@
 -- What holds of every varint and of every text behind its length.
-use Rattle.std.proofs.Common.{◌≡◌, ℕ, zero, suc, ◌+◌, ◌-◌, ◌*◌, ◌/◌, ◌%◌, ◌^◌, ◌<◌, ◌≤◌, List, [], ◌∷◌, ◌++◌, length, take, drop, refl, sym, ap, ◌∙◌, inl, inr, add_assoc, append_assoc, length-append, length-drop, arith}
+use Rattle.std.proofs.Common.{◌≡◌, ℕ, zero, suc, ◌+◌, ◌-◌, ◌/◌, ◌%◌, ◌^◌, ◌<◌, ◌≤◌, List, [], ◌∷◌, ◌++◌, length, take, drop, refl, sym, ap, ◌∙◌, inl, inr, add_assoc, append_assoc, length-append, length-drop, arith}
 use Rattle.std.proofs.lemmas.Bool.{lt-ltb, le-ltb, cases_lt}
 use Rattle.std.proofs.lemmas.List.{drop-drop, drop_at, take_at, take-append-drop}
 use Rattle.ct_bytes.specs.Varints.{varint, varint_in, text_bytes, IsVarintAt, IsTextAt}
@@ -48,15 +48,18 @@ spelt_as a b x y r s p q e = cc
 pub varint_in_apart : (more m n : ℕ) (r s : List ℕ) → varint_in more m ++ r ≡ varint_in more n ++ s → (m ≡ n) × (r ≡ s)
 varint_in_apart zero m n r s e = heads m n r s e
 varint_in_apart (suc more) m n r s e = elim (cases_lt m 128) [
-    inl m_last ↦ elim (cases_lt n 128) [
-        inl n_last ↦ heads m n r s (spelt_as _ _ _ _ r s (varint_last (suc more) m m_last) (varint_last (suc more) n n_last) e)
-      | inr n_more ↦ absurd (let h = heads _ _ _ _ (spelt_as _ _ _ _ r s (varint_last (suc more) m m_last) (varint_more more n n_more) e) in omega (arith, h.0)) ]
+  | inl m_last ↦ elim (cases_lt n 128) [
+    | inl n_last ↦ heads m n r s (spelt_as _ _ _ _ r s (varint_last (suc more) m m_last) (varint_last (suc more) n n_last) e)
+    | inr n_more ↦ absurd (let h = heads _ _ _ _ (spelt_as _ _ _ _ r s (varint_last (suc more) m m_last) (varint_more more n n_more) e) in omega (arith, h.0))
+  ]
   | inr m_more ↦ elim (cases_lt n 128) [
-        inl n_last ↦ absurd (let h = heads _ _ _ _ (spelt_as _ _ _ _ r s (varint_more more m m_more) (varint_last (suc more) n n_last) e) in omega (arith, h.0))
-      | inr n_more ↦
-          let h = heads _ _ _ _ (spelt_as _ _ _ _ r s (varint_more more m m_more) (varint_more more n n_more) e) in
-          let t = varint_in_apart more (m / 128) (n / 128) r s h.1 in
-          (omega (arith, h.0, t.0), t.1) ] ]
+    | inl n_last ↦ absurd (let h = heads _ _ _ _ (spelt_as _ _ _ _ r s (varint_more more m m_more) (varint_last (suc more) n n_last) e) in omega (arith, h.0))
+    | inr n_more ↦
+        let h = heads _ _ _ _ (spelt_as _ _ _ _ r s (varint_more more m m_more) (varint_more more n n_more) e) in
+        let t = varint_in_apart more (m / 128) (n / 128) r s h.1 in
+        (omega (arith, h.0, t.0), t.1)
+  ]
+]
 
 pub varint_apart : NoVarintBeginsAnother
 unfolding varint
@@ -65,8 +68,9 @@ varint_apart m n r s e = varint_in_apart 4 m n r s e
 varint_in_length : (more n : ℕ) → length (varint_in more n) ≤ suc more
 varint_in_length zero n = omega arith
 varint_in_length (suc more) n = elim (cases_lt n 128) [
-    inl last ↦ rw (varint_last (suc more) n last) (omega arith)
-  | inr large ↦ rw (varint_more more n large) (let rest = varint_in_length more (n / 128) in omega arith) ]
+  | inl last ↦ rw (varint_last (suc more) n last) (omega arith)
+  | inr large ↦ rw (varint_more more n large) (let rest = varint_in_length more (n / 128) in omega arith)
+]
 
 pub varint_length : (n : ℕ) → length (varint n) ≤ 5
 unfolding varint
@@ -75,8 +79,9 @@ varint_length n = varint_in_length 4 n
 varint_in_some : (more n : ℕ) → 0 < length (varint_in more n)
 varint_in_some zero n = omega arith
 varint_in_some (suc more) n = elim (cases_lt n 128) [
-    inl last ↦ rw (varint_last (suc more) n last) (omega arith)
-  | inr large ↦ rw (varint_more more n large) (omega arith) ]
+  | inl last ↦ rw (varint_last (suc more) n last) (omega arith)
+  | inr large ↦ rw (varint_more more n large) (omega arith)
+]
 
 pub varint_some : (n : ℕ) → 0 < length (varint n)
 unfolding varint
@@ -106,9 +111,10 @@ varint_placed front rest n small = record {
 
 -- lists that go on differently, behind fronts of one length
 pub same_fronts : (a b r s : List ℕ) → length a ≡ length b → a ++ r ≡ b ++ s → (a ≡ b) × (r ≡ s)
-same_fronts a b r s long e =
-    ( sym (take_at a r (length a) refl) ∙ ap (take (length a)) e ∙ take_at b s (length a) (sym long)
-    , sym (drop_at a r (length a) refl) ∙ ap (drop (length a)) e ∙ drop_at b s (length a) (sym long) )
+same_fronts a b r s long e = (
+  sym (take_at a r (length a) refl) ∙ ap (take (length a)) e ∙ take_at b s (length a) (sym long),
+  sym (drop_at a r (length a) refl) ∙ ap (drop (length a)) e ∙ drop_at b s (length a) (sym long),
+)
 
 pub text_apart : NoTextBeginsAnother
 text_apart a b r s e =
@@ -132,9 +138,9 @@ text_length_at bytes at text next is = record {
 pub text_within : (bytes : List ℕ) (at : ℕ) (text : List ℕ) (next : ℕ) → IsTextAt bytes at text next → (at < next) × (next ≤ length bytes)
 text_within bytes at text next is =
     let long : length bytes - at ≡ length (varint (length text)) + length text + (length bytes - next) =
-        sym (length-drop at bytes) ∙ ap length is.spelt ∙ length-append (varint (length text) ++ text) (drop next bytes) ∙
-        ap (λ k. k + length (drop next bytes)) (length-append (varint (length text)) text) ∙
-        ap (λ k. length (varint (length text)) + length text + k) (length-drop next bytes) in
+    sym (length-drop at bytes) ∙ ap length is.spelt ∙ length-append (varint (length text) ++ text) (drop next bytes) ∙
+    ap (λ k. k + length (drop next bytes)) (length-append (varint (length text)) text) ∙
+    ap (λ k. length (varint (length text)) + length text + k) (length-drop next bytes) in
     let some = varint_some (length text) in
     (omega (arith, is.behind, some), omega (arith, is.behind, some, long))
 

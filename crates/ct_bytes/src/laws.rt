@@ -9,28 +9,24 @@ pub fn varints_are_exact()
     ensures apart { NoVarintBeginsAnother }
     ensures one { PlacesHaveOneVarint }
     ensures read_back { VarintsAreReadBack }
-{
-}
+{}
 
 /// The same of texts behind their lengths.
 pub fn texts_are_exact()
     ensures apart { NoTextBeginsAnother }
     ensures one { PlacesHaveOneText }
     ensures read_back { TextsAreReadBack }
-{
-}
+{}
 
 /// Each row key has eight bytes of its own, and these compare as the keys do.
 pub fn row_keys_are_exact()
     ensures eight { KeysHaveEightBytes }
     ensures one { KeysHaveTheirOwnBytes }
     ensures order { BytesAreInKeyOrder }
-{
-}
+{}
 
 /// Each number of fixed width has its own bytes.
 pub fn numbers_are_exact()
     ensures two { TwoBytesAreOneNumber }
     ensures four { FourBytesAreOneNumber }
-{
-}
+{}

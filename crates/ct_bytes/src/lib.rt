@@ -4,6 +4,8 @@
 mod laws;
 mod numbers;
 mod row_keys;
+#[cfg(test)]
+mod tests;
 mod texts;
 mod varints;
 

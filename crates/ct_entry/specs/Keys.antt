@@ -125,6 +125,7 @@ HasKeysOnly m = (b : List ℕ) → IsSome (get m b) → (k : Key) × (b ≡ byte
 
 -- computed examples
 numbers_of_row_seven : bytes (key RowNumbers (codes "t") (row_part (pos 7))) ≡ 0x02 ∷ 1 ∷ 0x74 ∷ 0x80 ∷ 0 ∷ 0 ∷ 0 ∷ 0 ∷ 0 ∷ 0 ∷ 7 ∷ []
+unfolding row_bytes
 numbers_of_row_seven = refl
 
 a_posting : bytes (key Postings (codes "di") (posting_part 0 (codes "fox") 1)) ≡ 0x24 ∷ 2 ∷ 0x64 ∷ 0x69 ∷ 0 ∷ 3 ∷ 0x66 ∷ 0x6f ∷ 0x78 ∷ 0 ∷ 0 ∷ 0 ∷ 1 ∷ []

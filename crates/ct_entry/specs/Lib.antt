@@ -5,13 +5,11 @@ pub mod KeyLaws
 pub mod WordLaws
 pub mod Each
 pub mod EachLaws
-pub mod Fetches
-pub mod RowBytes
 pub mod PartLaws
 pub mod WellLaws
 pub mod Maps
 pub mod MapLaws
 pub mod Rising
-pub mod TailStand
 pub mod Listings
 pub mod ListingLaws
+pub mod RowLaws

@@ -1,23 +1,23 @@
 -- What a scan finds: the entries that a finite map has, in its order.
-use Rattle.std.proofs.Common.{◌≡◌, ◌≢◌, ℕ, ℤ, Bool, true, false, cond, List, [], ◌∷◌, ◌++◌, Option, Some, None, refl, sym, ap, subst, ◌∙◌, append-nil}
-use Rattle.std.specs.Prelude.{◌&&◌, T, IsSome, is_some}
+use Rattle.std.proofs.Common.{◌≡◌, ℕ, Bool, true, false, cond, List, [], ◌∷◌, ◌++◌, Option, Some, None, refl, sym, ap, subst, ◌∙◌}
+use Rattle.std.specs.Prelude.{T, IsSome, is_some}
 use Rattle.std.specs.Option.{option_and_then}
 use Rattle.std.specs.declared.cmp.Ordering.{Ordering}
-use Rattle.std.specs.declared.cmp.Ordering.TheVariants.{Less, Equal, Greater}
-use Rattle.std.specs.Ordering.{nat_cmp, int_cmp, is_lt, is_eq, eq_by_cmp}
+use Rattle.std.specs.Ordering.{nat_cmp, is_lt, is_eq, eq_by_cmp}
 use Rattle.std.specs.Cmp.{IsTotalOrder}
-use Rattle.std.proofs.lemmas.Cmp.{nat_cmp_total, int_cmp_total, nat_list_cmp_total}
+use Rattle.std.proofs.lemmas.Cmp.{nat_list_cmp_total}
 use Rattle.std.proofs.lemmas.Map.Lookups.{exact_bytes}
 use Rattle.std.specs.Cmp.Lexicographic.{slice_cmp}
 use Rattle.std.specs.FinMap.{FinMap, get, entries, is_sorted, find, from_sorted, entries-from_sorted, get-from_sorted, get-entries, same_map}
 use Rattle.ct_keep.specs.Content.{Content}
 use Rattle.ct_keep.specs.Tail.{tail}
-use Rattle.ct_entry.specs.TailStand.{get-tail, get-tail_nil}
+use Rattle.ct_keep.specs.TailLaws.{get-tail, get-tail_nil}
+use Rattle.ct_keep.specs.Rising.{and_true, and_both, T_from_true}
 use Rattle.ct_entry.specs.declared.kinds.Kind.{Kind}
-use Rattle.ct_entry.specs.Keys.{Key, key, bytes, prefix_of, at, IsPart, IsKey, HasKeysOnly, row_part, document_part, IsRow, IsDocument}
-use Rattle.ct_entry.specs.KeyLaws.{and_true, and_both, is_eq_Equal, key_from_bytes}
-use Rattle.ct_entry.specs.Rising.{T_from_true, below, rises, sorted_from_rises, entries_rise, none_below, below_tied, AllKeys, all_keys}
-use Rattle.ct_entry.specs.Listings.{listed_at, listed, kept_at, keys_where}
+use Rattle.ct_entry.specs.Keys.{Key, key, bytes, prefix_of, at, IsPart, HasKeysOnly}
+use Rattle.ct_entry.specs.KeyLaws.{is_eq_Equal, key_from_bytes}
+use Rattle.ct_entry.specs.Rising.{below, rises, sorted_from_rises, entries_rise, none_below, below_tied, AllKeys, all_keys}
+use Rattle.ct_entry.specs.Listings.{listed_at, listed}
 
 -- Keys in an order, each with a rest that isn't empty, such that the rests of those that have P are in the same order.
 pub record Spells {K : Type 0} (R : K → K → Ordering) (part : K → List ℕ) (P : K → Type 0) : Type 0 where
@@ -133,6 +133,6 @@ pub family_listed : {K X : Type 0} (R : K → K → Ordering) (part : K → List
     → entries (tail (prefix_of kind owner) c) ≡ listed part g (entries G)
 family_listed {K} R part P spells g c kind owner G only form has each =
     tail_listed R part P spells g c (prefix_of kind owner) G has each (λ q there some.
-        let k = only (bytes (key kind owner q)) there in
-        let same : k.0 ≡ key kind owner q = key_from_bytes k.0 (key kind owner q) (sym k.1) in
-        form q (subst (λ (j : Key). IsPart j.kind j.part) same k.2.part))
+    let k = only (bytes (key kind owner q)) there in
+    let same : k.0 ≡ key kind owner q = key_from_bytes k.0 (key kind owner q) (sym k.1) in
+    form q (subst (λ (j : Key). IsPart j.kind j.part) same k.2.part))

@@ -1,5 +1,5 @@
 -- What scans list: the entries of a finite map, behind a prefix, in the order of its keys.
-use Rattle.std.specs.Prelude.{ℕ, ℤ, pos, negsuc, ◌+◌, ◌-◌, ◌^◌, ◌≡◌, ◌==◌, nat_lt, List, [], ◌∷◌, ◌++◌, length, drop, Option, Some, None, codes, refl}
+use Rattle.std.specs.Prelude.{ℕ, ℤ, pos, negsuc, ◌-◌, ◌^◌, ◌≡◌, ◌==◌, nat_lt, List, [], ◌∷◌, length, Option, Some, None, codes, refl}
 use Rattle.std.specs.Bool.{if◌then◌else◌}
 use Rattle.std.specs.Int.{from_be_bytes, w64}
 use Rattle.std.specs.Ordering.{nat_cmp}
@@ -10,7 +10,6 @@ use Rattle.ct_bytes.specs.RowKeys.{row_bytes}
 use Rattle.ct_keep.specs.Content.{Content}
 use Rattle.ct_keep.specs.Tail.{tail}
 use Rattle.ct_entry.specs.declared.kinds.Kind.{Kind}
-use Rattle.ct_entry.specs.Kinds.{code}
 use Rattle.ct_entry.specs.Keys.{counted_bytes, prefix_of}
 
 -- ---- as a scan finds them
@@ -64,9 +63,11 @@ key_order a b = slice_cmp nat_cmp (counted_bytes a) (counted_bytes b)
 
 -- computed examples
 a_row : row_of (row_bytes (pos 7)) ≡ Some (pos 7)
+unfolding row_bytes
 a_row = refl
 
 a_row_below : row_of (row_bytes (negsuc 4)) ≡ Some (negsuc 4)
+unfolding row_bytes
 a_row_below = refl
 
 no_row : row_of (codes "seven") ≡ None

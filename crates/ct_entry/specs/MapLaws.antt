@@ -2,12 +2,12 @@
 use Rattle.std.proofs.Common.{◌≡◌, ℕ, ℤ, Bool, true, false, cond, List, [], ◌∷◌, map, Option, Some, None, refl, sym, ap, subst, ◌∙◌}
 use Rattle.std.specs.Option.{option_map, option_and_then}
 use Rattle.std.specs.declared.cmp.Ordering.{Ordering}
-use Rattle.std.specs.Ordering.{nat_cmp, int_cmp, int_eq, eq_by_cmp, is_eq}
+use Rattle.std.specs.Ordering.{nat_cmp, int_eq, eq_by_cmp, is_eq}
 use Rattle.std.specs.Cmp.{IsTotalOrder}
 use Rattle.std.proofs.lemmas.Cmp.{tied_itself, nat_list_cmp_total, int_cmp_total}
 use Rattle.std.proofs.lemmas.Map.Lookups.{exact_bytes}
 use Rattle.std.specs.Cmp.Lexicographic.{slice_cmp}
-use Rattle.std.specs.FinMap.{FinMap, get, insert, remove, entries, from_entries, find, empty, get-empty, get-insert, get-remove, get-from_entries, get-entries}
+use Rattle.std.specs.FinMap.{FinMap, get, insert, remove, entries, find, get-insert, get-remove, get-from_entries, get-entries}
 use Rattle.ct_entry.specs.Keys.{same_list}
 use Rattle.ct_entry.specs.Maps.{Names, Rows, altered, alter, each_value}
 use Rattle.ct_entry.specs.KeyLaws.{agree, is_eq_Equal, list_from_same, list_same}

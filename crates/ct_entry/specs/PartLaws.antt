@@ -1,27 +1,27 @@
 -- What holds of the rests of keys: what each is made of can be read back, and they are short.
-use Rattle.std.proofs.Common.{◌≡◌, ℕ, ℤ, ◌≤◌, Bool, true, false, List, [], ◌∷◌, ◌++◌, length, refl, ap, subst, arith}
-use Rattle.std.specs.Prelude.{◌&&◌, ◌==◌, nat_le}
+use Rattle.std.proofs.Common.{◌≡◌, ℕ, ℤ, ◌≤◌, Bool, true, false, List, ◌∷◌, ◌++◌, length, refl, ap, subst, arith}
+use Rattle.std.specs.Prelude.{◌&&◌, ◌==◌}
 use Rattle.std.proofs.lemmas.Bool.{eqb-true, eq-eqb}
-use Rattle.std.proofs.lemmas.Bool.Decides.{nat_tests}
 use Rattle.std.proofs.lemmas.List.{length-append}
 use Rattle.std.specs.Int.{to_be_bytes, w32}
 use Rattle.std.specs.Ordering.{int_cmp, int_eq, is_eq}
 use Rattle.std.proofs.lemmas.Cmp.{tied_itself, int_cmp_total}
 use Rattle.std.proofs.lemmas.Map.Lookups.{exact_signed}
-use Rattle.std.specs.Char.{is_ascii_alphabetic}
-use Rattle.ct_base.specs.Names.{is_spelling, IsName}
 use Rattle.ct_bytes.specs.RowKeys.{row_bytes}
+use Rattle.ct_bytes.specs.RowKeyLaws.{row_bytes_one, length-row_bytes}
+use Rattle.ct_bytes.specs.NumberLaws.{four_bytes_one}
 use Rattle.ct_entry.specs.declared.kinds.Kind.{Kind}
 use Rattle.ct_entry.specs.declared.kinds.Kind.TheVariants.{Tables, RowNumbers, RowTexts, Preferences, Stoplists, SectionGroups, IndexSets, Thesauri, Relations, Indexes, DocumentRows, RowDocuments, Pending, Postings, Spans, Catalogue, Rules, Anchors, RuleFaults}
+use Rattle.ct_keep.specs.Rising.{and_true, and_both}
+use Rattle.ct_base.specs.NameLaws.{name_length}
 use Rattle.ct_entry.specs.Kinds.{code}
 use Rattle.ct_entry.specs.Keys.{Key, key, bytes, same_list, same, row_part, text_part, document_part, posting_part, span_part, relation_part, anchor_part, IsRow, IsDocument, IsPart, IsKey}
-use Rattle.ct_entry.specs.KeyLaws.{and_true, and_both, is_eq_Equal, list_from_same, list_same, lists_tie, split_same}
-use Rattle.ct_entry.specs.RowBytes.{row_bytes_apart, document_bytes_apart}
+use Rattle.ct_entry.specs.KeyLaws.{is_eq_Equal, list_from_same, list_same, lists_tie, split_same}
 
 -- ---- equal rests have equal parts
 
 pub row_part_apart : (r s : ℤ) → IsRow r → IsRow s → row_part r ≡ row_part s → r ≡ s
-row_part_apart r s f g e = row_bytes_apart r s f g e
+row_part_apart r s f g e = row_bytes_one r s f g e
 
 heads : (a b : ℕ) (xs ys : List ℕ) → a ∷ xs ≡ b ∷ ys → (a ≡ b) × (xs ≡ ys)
 heads a b xs ys e = (cc, cc)
@@ -31,21 +31,21 @@ pub counted_apart : (a b x y : List ℕ) → length a ∷ (a ++ x) ≡ length b 
 counted_apart a b x y e = let h = heads (length a) (length b) (a ++ x) (b ++ y) e in split_same a b x y h.0 h.1
 
 pub text_part_apart : (c d : ℕ) (r s : ℤ) → IsRow r → IsRow s → text_part c r ≡ text_part d s → (c ≡ d) × (r ≡ s)
-text_part_apart c d r s f g e = let h = heads c d (row_bytes r) (row_bytes s) e in (h.0, row_bytes_apart r s f g h.1)
+text_part_apart c d r s f g e = let h = heads c d (row_bytes r) (row_bytes s) e in (h.0, row_bytes_one r s f g h.1)
 
 pub document_part_apart : (d e : ℕ) → IsDocument d → IsDocument e → document_part d ≡ document_part e → d ≡ e
-document_part_apart d e f g is = document_bytes_apart d e f g is
+document_part_apart d e f g is = four_bytes_one d e f g is
 
 pub posting_part_apart : (s s' : ℕ) (t t' : List ℕ) (d d' : ℕ) → IsDocument d → IsDocument d' → posting_part s t d ≡ posting_part s' t' d' → (s ≡ s') × (t ≡ t') × (d ≡ d')
 posting_part_apart s s' t t' d d' f g e =
     let h = heads s s' (length t ∷ (t ++ to_be_bytes w32 d)) (length t' ∷ (t' ++ to_be_bytes w32 d')) e in
     let k = counted_apart t t' (to_be_bytes w32 d) (to_be_bytes w32 d') h.1 in
-    (h.0, k.0, document_bytes_apart d d' f g k.1)
+    (h.0, k.0, four_bytes_one d d' f g k.1)
 
 pub span_part_apart : (n n' : List ℕ) (d d' : ℕ) → IsDocument d → IsDocument d' → span_part n d ≡ span_part n' d' → (n ≡ n') × (d ≡ d')
 span_part_apart n n' d d' f g e =
     let k = counted_apart n n' (to_be_bytes w32 d) (to_be_bytes w32 d') e in
-    (k.0, document_bytes_apart d d' f g k.1)
+    (k.0, four_bytes_one d d' f g k.1)
 
 pub relation_part_apart : (r r' : ℕ) (a a' b b' : List ℕ) → relation_part r a b ≡ relation_part r' a' b' → (r ≡ r') × (a ≡ a') × (b ≡ b')
 relation_part_apart r r' a a' b b' e =
@@ -56,7 +56,7 @@ relation_part_apart r r' a a' b b' e =
 pub anchor_part_apart : (a a' : List ℕ) (r r' : ℤ) → IsRow r → IsRow r' → anchor_part a r ≡ anchor_part a' r' → (a ≡ a') × (r ≡ r')
 anchor_part_apart a a' r r' f g e =
     let k = counted_apart a a' (row_bytes r) (row_bytes r') e in
-    (k.0, row_bytes_apart r r' f g k.1)
+    (k.0, row_bytes_one r r' f g k.1)
 
 -- ---- the test on rests is the test on their parts
 
@@ -97,15 +97,6 @@ same_kind kind o o' p p' = ap (λ (b : Bool). b && (same_list o o' && same_list 
 
 -- ---- how long
 
-pub name_length : (n : List ℕ) → IsName n → (1 ≤ length n) × (length n ≤ 30)
-name_length n is = go n is.spelt
-  where
-    go : (n : List ℕ) → is_spelling n ≡ true → (1 ≤ length n) × (length n ≤ 30)
-    go [] h = cc
-    go (b ∷ bs) h =
-        let few : nat_le (length bs) 29 ≡ true = (and_true _ _ (and_true (is_ascii_alphabetic b) _ h).1).0 in
-        (omega arith, grind (arith, nat_tests))
-
 -- the kinds whose keys are short: all but that of a catalogue index, whose keys hold values
 abbrev pub is_short : Kind → Bool
 is_short Catalogue = false
@@ -113,8 +104,8 @@ is_short kind = true
 
 pub part_is_short : (kind : Kind) (p : List ℕ) → IsPart kind p → is_short kind ≡ true → length p ≤ 568
 part_is_short Tables p is h = omega (arith, ap length is)
-part_is_short RowNumbers p is h = omega (arith, ap length is.2)
-part_is_short RowTexts p is h = omega (arith, ap length is.1.3)
+part_is_short RowNumbers p is h = omega (arith, ap length is.2, length-row_bytes is.0)
+part_is_short RowTexts p is h = omega (arith, ap length is.1.3, length-row_bytes is.1.0)
 part_is_short Preferences p is h = omega (arith, ap length is)
 part_is_short Stoplists p is h = omega (arith, ap length is)
 part_is_short SectionGroups p is h = omega (arith, ap length is)
@@ -123,14 +114,14 @@ part_is_short Thesauri p is h = omega (arith, ap length is)
 part_is_short Relations p is h = let short = is.1.4.short in let short' = is.1.5.short in omega (arith, simp length-append at (ap length is.1.6))
 part_is_short Indexes p is h = omega (arith, ap length is)
 part_is_short DocumentRows p is h = omega (arith, ap length is.2)
-part_is_short RowDocuments p is h = omega (arith, ap length is.2)
-part_is_short Pending p is h = omega (arith, ap length is.2)
+part_is_short RowDocuments p is h = omega (arith, ap length is.2, length-row_bytes is.0)
+part_is_short Pending p is h = omega (arith, ap length is.2, length-row_bytes is.0)
 part_is_short Postings p is h = let short = is.2.2.short in omega (arith, simp length-append at (ap length is.2.4))
 part_is_short Spans p is h = let short = name_length is.1.0 is.1.1 in omega (arith, simp length-append at (ap length is.1.3))
 part_is_short Catalogue p is h = cc
-part_is_short Rules p is h = omega (arith, ap length is.2)
-part_is_short Anchors p is h = let short = is.1.1 in omega (arith, simp length-append at (ap length is.1.3))
-part_is_short RuleFaults p is h = omega (arith, ap length is.2)
+part_is_short Rules p is h = omega (arith, ap length is.2, length-row_bytes is.0)
+part_is_short Anchors p is h = let short = is.1.1 in omega (arith, simp length-append at (ap length is.1.3), length-row_bytes is.1.0)
+part_is_short RuleFaults p is h = omega (arith, ap length is.2, length-row_bytes is.0)
 
 -- a key has 1 to 600 bytes, as an entry must
 pub key_is_short : (k : Key) → IsKey k → is_short k.kind ≡ true → (1 ≤ length (bytes k)) × (length (bytes k) ≤ 600)

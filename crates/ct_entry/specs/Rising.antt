@@ -1,20 +1,14 @@
 -- Entries whose keys strictly rise, in any order.
-use Rattle.std.proofs.Common.{◌≡◌, ℕ, Bool, true, false, cond, List, [], ◌∷◌, Option, Some, None, refl, sym, ap, subst, ◌∙◌}
-use Rattle.std.specs.Prelude.{◌&&◌, T, is_some}
+use Rattle.std.proofs.Common.{◌≡◌, Bool, true, false, cond, List, [], ◌∷◌, Some, None, refl, ap, ◌∙◌}
+use Rattle.std.specs.Prelude.{◌&&◌}
 use Rattle.std.specs.declared.cmp.Ordering.{Ordering}
 use Rattle.std.specs.declared.cmp.Ordering.TheVariants.{Less, Equal, Greater}
 use Rattle.std.specs.Ordering.{is_lt, is_eq, eq_by_cmp}
 use Rattle.std.specs.Cmp.{IsTotalOrder}
 use Rattle.std.proofs.lemmas.Cmp.{tied_itself}
 use Rattle.std.specs.FinMap.{FinMap, get, entries, entries_sorted, is_sorted, find, get-entries}
-use Rattle.ct_entry.specs.KeyLaws.{and_true, and_both, is_eq_Equal}
-
-pub true_from_T : (b : Bool) → T b → b ≡ true
-true_from_T true h = refl
-true_from_T false h = absurd h
-
-pub T_from_true : (b : Bool) → b ≡ true → T b
-T_from_true b h = subst T (sym h) tt
+use Rattle.ct_keep.specs.Rising.{and_true, and_both, true_from_T}
+use Rattle.ct_entry.specs.KeyLaws.{is_eq_Equal}
 
 pub no_tie : (o : Ordering) → is_lt o ≡ true → is_eq o ≡ false
 no_tie Less h = refl

@@ -1,12 +1,12 @@
 //! Single entries by the parts of their keys.
 
-ghost use Rattle.std.specs.Prelude.{◌≡◌, ◌++◌, ◌∷◌, [], IfOk, OnOk, OnErr, Some, Err, is_some};
+ghost use Rattle.std.specs.Prelude.{◌≡◌, ◌++◌, ◌∷◌, [], IfOk, OnOk, OnErr, Some, None, Err, is_some};
 ghost use Rattle.std.specs.Option.{option_map};
 ghost use Rattle.ct_keep.specs.Content.{Content};
 ghost use Rattle.ct_keep.specs.Keeping.{Reads, fault_of};
+ghost use Rattle.ct_keep.specs.Looks.{look, raised, RisesBy};
 ghost use Rattle.ct_entry.specs.Keys.{key, bytes, at, prefix_of};
 ghost use Rattle.ct_entry.specs.Words.{spell, put, drop_key};
-ghost use Rattle.ct_entry.specs.Fetches.{IsAskedFor};
 
 use crate::kinds::Kind;
 use ct_base::{Memory, Name};
@@ -76,7 +76,8 @@ pub fn fetch_entry<K: Keeper>(
     requires { (K.keeping keeper.old).ready }
     ensures value { (m : Content) → (K.keeping keeper.old).content ≡ Some m → IfOk result (λ found. option_map (λ v. v.items) found ≡ at m (key kind owner.now part.now)) }
     ensures reads { Reads (K.keeping keeper.old) (K.keeping keeper.new) (fault_of result) }
-    ensures counts { IsAskedFor (bytes (key kind owner.now part.now)) result (K.keeping keeper.old).counts (K.keeping keeper.new).counts }
+    ensures counts { OnOk result ((K.keeping keeper.new).counts ≡ raised (look (bytes (key kind owner.now part.now)) None) (K.keeping keeper.old).counts) }
+    ensures at_most { RisesBy (look (bytes (key kind owner.now part.now)) None) (K.keeping keeper.old).counts (K.keeping keeper.new).counts }
     ensures never_full { result ≡ Err KeepFault.Full → ⊥ }
 {
     let key = key_bytes(alloc, kind, owner, part)?;
@@ -94,7 +95,8 @@ pub fn has_entry<K: Keeper>(
     requires { (K.keeping keeper.old).ready }
     ensures value { (m : Content) → (K.keeping keeper.old).content ≡ Some m → IfOk result (λ there. there ≡ is_some (at m (key kind owner.now part.now))) }
     ensures reads { Reads (K.keeping keeper.old) (K.keeping keeper.new) (fault_of result) }
-    ensures counts { IsAskedFor (bytes (key kind owner.now part.now)) result (K.keeping keeper.old).counts (K.keeping keeper.new).counts }
+    ensures counts { OnOk result ((K.keeping keeper.new).counts ≡ raised (look (bytes (key kind owner.now part.now)) None) (K.keeping keeper.old).counts) }
+    ensures at_most { RisesBy (look (bytes (key kind owner.now part.now)) None) (K.keeping keeper.old).counts (K.keeping keeper.new).counts }
     ensures never_full { result ≡ Err KeepFault.Full → ⊥ }
 {
     let found = fetch_entry(alloc, keeper, kind, owner, part)?;

@@ -1,1 +1,5 @@
 pub mod Scanning
+pub mod SortedPairs
+pub mod ContentLaws
+pub mod Courses
+pub mod Buffers

@@ -1,5 +1,5 @@
 -- What the console does to what is known of a site.
-use Rattle.std.specs.Prelude.{ℕ, ◌≡◌, ◌≤◌, Bool, true, false, List, []}
+use Rattle.std.specs.Prelude.{ℕ, ◌≡◌, ◌≤◌, Bool, true, List, []}
 use Rattle.st_cut.specs.Seen.{Seen, Stands}
 use Rattle.ct_base.specs.Causes.{Rose}
 use Rattle.ct_base.specs.Told.{IsNothing}

@@ -1,0 +1,3 @@
+pub mod Order
+pub mod TokenKeys
+pub mod Walk

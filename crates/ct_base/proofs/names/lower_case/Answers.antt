@@ -2,10 +2,7 @@ use Rattle.ct_base.proofs.Spelling.{spelling_is_ascii, lower-more}
 use Rattle.ct_base.proofs.names.lower_case.Goals as goal
 
 pub push_ascii-requires : goal.push_ascii-requires
-push_ascii-requires c = rw (c.to_ascii_lowercase.ensures.value, c.as_bytes-byte-items.ensures.value) (spelling_is_ascii c.args.text.now c.loop-byte.byte-index c.requires)
+push_ascii-requires c = rw (c.to_ascii_lowercase.ensures.value) (spelling_is_ascii c.args.bytes.now c.loop-byte.byte-index c.requires)
 
 pub loop-byte-preserved : goal.loop-byte-preserved
-loop-byte-preserved c = record {
-  all = c.loop-byte.invariant.all;
-  so_far = rw (c.in_ok-push_ascii.ensures, c.loop-byte.invariant.so_far, c.to_ascii_lowercase.ensures.value) (lower-more c.as_bytes-byte-items.result.now c.loop-byte.byte-index c.loop-byte-test.true);
-}
+loop-byte-preserved c = rw (c.in_ok-push_ascii.ensures, c.loop-byte.invariant, c.to_ascii_lowercase.ensures.value) (lower-more c.args.bytes.now c.loop-byte.byte-index c.loop-byte-test.true)

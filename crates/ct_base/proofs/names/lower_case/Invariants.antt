@@ -4,7 +4,4 @@ use Rattle.std.specs.String.{string_bytes}
 use Rattle.ct_base.proofs.names.lower_case.Given as goal
 
 abbrev pub invariant-loop-byte : goal.invariant-loop-byte
-invariant-loop-byte l = record {
-  all : l.byte-items ≡ l.text;
-  so_far : string_bytes l.lower ≡ map to_ascii_lowercase (take l.byte-index l.byte-items);
-}
+invariant-loop-byte l = string_bytes l.lower ≡ map to_ascii_lowercase (take l.byte-index l.bytes)

@@ -1,4 +1,4 @@
-use Rattle.std.proofs.Common.{◌≡◌, ℤ, ◌+◌, ◌%◌, ◌^◌, ap, ◌∙◌, rules, FitsSigned}
+use Rattle.std.proofs.Common.{◌≡◌, ap, ◌∙◌, rules, FitsSigned}
 use Rattle.std.specs.Int.{to_be_bytes, cast_unsigned, cast_signed, w64}
 use Rattle.std.proofs.lemmas.Int.{to_z-of_z}
 use Rattle.std.proofs.lemmas.Nat.{be_bytes_8}
@@ -11,5 +11,5 @@ unfolding row_bytes
 returns c =
     let fits : FitsSigned w64 c.cast_signed.result = search rules in
     let is : raised (cast_signed w64 (cast_unsigned w64 c.cast_signed.result)) ≡ c.from_be_bytes-raised.result =
-        ap raised (to_z-of_z w64 c.cast_signed.result fits ∙ c.cast_signed.ensures) ∙ turned_back c.from_be_bytes-raised.result c.from_be_bytes-raised.type_inv in
+    ap raised (to_z-of_z w64 c.cast_signed.result fits ∙ c.cast_signed.ensures) ∙ turned_back c.from_be_bytes-raised.result c.from_be_bytes-raised.type_inv in
     ap (to_be_bytes w64) is ∙ be_bytes_8 c.args.bytes _ (search rules) (search rules) c.from_be_bytes-raised.ensures

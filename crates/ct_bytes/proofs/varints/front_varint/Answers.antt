@@ -1,6 +1,6 @@
-use Rattle.std.proofs.Common.{◌≡◌, ◌⊎◌, ◌<◌, ◌+◌, ◌*◌, ◌%◌, take, arith, inl, inr, ap, sym, ◌∙◌}
+use Rattle.std.proofs.Common.{◌≡◌, ◌⊎◌, ◌<◌, ◌+◌, ◌*◌, take, arith, inl, inr, ap, sym, ◌∙◌}
 use Rattle.ct_bytes.specs.Varints.{varint}
-use Rattle.ct_bytes.proofs.ReadingSteps.{HasRead, nothing_read, read_more, read_last, is_at, not_ended, not_longer, not_zero, not_large, cast_ok, cast_err}
+use Rattle.ct_bytes.proofs.ReadingSteps.{nothing_read, read_more, read_last, is_at, not_ended, not_longer, not_zero, not_large, cast_ok, cast_err}
 use Rattle.ct_bytes.proofs.varints.front_varint.Goals as goal
 use Rattle.ct_bytes.proofs.varints.front_varint.Goals.{else-byte-eq0-via-then-byte-eq0+else-i-gt0, else-byte-eq0-via-else-byte-eq0}
 
@@ -25,18 +25,20 @@ spelt : (c : goal.In_ok-number) → varint (c.loop-i.number + c.from.result * c.
 spelt c =
     let byte = c.in_ok-byte.ensures.lookup in
     let last : (0 < c.in_ok-byte.field-0.now) ⊎ (c.loop-i.i ≡ 0) =
-        elim c.else-byte-eq0.branch [
-            else-byte-eq0-via-then-byte-eq0+else-i-gt0 w ↦ inr (omega (arith, w.if-i-gt0.false))
-          | else-byte-eq0-via-else-byte-eq0 w ↦ inl (omega (arith, w.if-byte-eq0.false)) ] in
+    elim c.else-byte-eq0.branch [
+      | else-byte-eq0-via-then-byte-eq0+else-i-gt0 w ↦ inr (omega (arith, w.if-i-gt0.false))
+      | else-byte-eq0-via-else-byte-eq0 w ↦ inl (omega (arith, w.if-byte-eq0.false))
+    ] in
     rw c.from.ensures (read_last _ c.loop-i.i _ _ _ c.loop-i.invariant (omega arith) byte.3.0 (byte.3.1 0) c.if-byte-lt128.true last)
 
 spelt_large : (c : goal.After-from_residual-in_err-number) → varint (c.loop-i.number + c.from.result * c.loop-i.weight) ≡ take (c.loop-i.i + 1) c.args.bytes.now
 spelt_large c =
     let byte = c.in_ok-byte.ensures.lookup in
     let last : (0 < c.in_ok-byte.field-0.now) ⊎ (c.loop-i.i ≡ 0) =
-        elim c.else-byte-eq0.branch [
-            else-byte-eq0-via-then-byte-eq0+else-i-gt0 w ↦ inr (omega (arith, w.if-i-gt0.false))
-          | else-byte-eq0-via-else-byte-eq0 w ↦ inl (omega (arith, w.if-byte-eq0.false)) ] in
+    elim c.else-byte-eq0.branch [
+      | else-byte-eq0-via-then-byte-eq0+else-i-gt0 w ↦ inr (omega (arith, w.if-i-gt0.false))
+      | else-byte-eq0-via-else-byte-eq0 w ↦ inl (omega (arith, w.if-byte-eq0.false))
+    ] in
     rw c.from.ensures (read_last _ c.loop-i.i _ _ _ c.loop-i.invariant (omega arith) byte.3.0 (byte.3.1 0) c.if-byte-lt128.true last)
 
 pub returns-in_err-number-clause-none : goal.returns-in_err-number-clause-none

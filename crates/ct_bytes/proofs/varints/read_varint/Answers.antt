@@ -1,4 +1,4 @@
-use Rattle.std.proofs.Common.{length, drop, ◌≡◌, ◌∙◌, arith}
+use Rattle.std.proofs.Common.{length, ◌∙◌, arith}
 use Rattle.std.proofs.lemmas.Slice.{between_to_end}
 use Rattle.ct_bytes.specs.VarintLaws.{varint_within}
 use Rattle.ct_bytes.proofs.ReadingSteps.{at_place, at_front}

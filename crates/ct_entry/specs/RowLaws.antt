@@ -1,0 +1,92 @@
+-- What row keys a scan finds, and which keys of a map have a value.
+use Rattle.std.proofs.Common.{◌≡◌, ℕ, ℤ, pos, negsuc, ◌+◌, ◌-◌, ◌^◌, ◌<◌, Bool, true, false, cond, List, [], ◌∷◌, length, map, Option, Some, None, refl, sym, ap, ◌∙◌, arith}
+use Rattle.std.specs.Prelude.{is_some, nat_lt}
+use Rattle.std.specs.Option.{option_and_then}
+use Rattle.std.specs.List.{list_any}
+use Rattle.std.specs.declared.cmp.Ordering.{Ordering}
+use Rattle.std.specs.Ordering.{int_cmp, eq_by_cmp}
+use Rattle.std.specs.Cmp.{IsTotalOrder}
+use Rattle.std.proofs.lemmas.Bool.Decides.{nat_tests}
+use Rattle.std.proofs.lemmas.Int.{ints}
+use Rattle.std.proofs.lemmas.Nat.{from_be_bytes-to_be_bytes_8}
+use Rattle.std.proofs.lemmas.Cmp.{int_cmp_total, nat_list_cmp_total, on_total}
+use Rattle.std.specs.FinMap.{FinMap, get, entries, find, get-entries}
+use Rattle.ct_bytes.specs.RowKeys.{raised, row_bytes}
+use Rattle.ct_bytes.specs.RowKeyLaws.{length-row_bytes, row_bytes_in_order}
+use Rattle.ct_keep.specs.Content.{Content}
+use Rattle.ct_entry.specs.declared.kinds.Kind.{Kind}
+use Rattle.ct_entry.specs.Keys.{key, at, counted_bytes, HasKeysOnly, row_part, IsRow}
+use Rattle.ct_keep.specs.Rising.{and_true}
+use Rattle.ct_entry.specs.Rising.{below, rises, entries_rise, none_below, below_tied, AllKeys, all_keys}
+use Rattle.ct_entry.specs.Listings.{listed_at, listed, kept_at, keys_where, lowered, row_of, with_row, rows_of, rows_under, key_order}
+use Rattle.ct_entry.specs.ListingLaws.{Spells, HasPartsOnly, family_listed}
+
+-- ---- orders
+
+row_some : (r : ℤ) → row_part r ≡ [] → ⊥
+row_some r e = let l : length (row_part r) ≡ 0 = ap length e in let eight = length-row_bytes r in omega arith
+
+-- the bytes of row keys are in the order of the numbers
+pub row_spells : Spells int_cmp row_part IsRow
+row_spells = record { total = int_cmp_total; order = row_bytes_in_order; some = row_some }
+
+-- names behind their lengths: the shorter first, and those of a length by their bytes
+pub name_spells : Spells key_order counted_bytes (λ _. Unit {0})
+name_spells = record { total = on_total counted_bytes nat_list_cmp_total; order = λ a b p q. refl; some = λ a e. cc }
+
+-- ---- row keys
+
+lowered-raised : (z : ℤ) → IsRow z → lowered (raised z) ≡ z
+lowered-raised (pos n) fits = let e : nat_lt (n + 2 ^ 63) (2 ^ 63) ≡ false = grind (arith, nat_tests) in rw e (ap pos (omega arith))
+lowered-raised (negsuc n) fits = let e : nat_lt (2 ^ 63 - 1 - n) (2 ^ 63) ≡ true = grind (arith, nat_tests) in rw e (ap negsuc (omega (arith, ints)))
+
+raised_fits : (z : ℤ) → IsRow z → raised z < 2 ^ 64
+raised_fits (pos n) fits = omega arith
+raised_fits (negsuc n) fits = omega arith
+
+-- the row key is read back
+pub row_of-row_part : (z : ℤ) → IsRow z → row_of (row_part z) ≡ Some z
+unfolding row_bytes
+row_of-row_part z fits = ap (λ (n : ℕ). Some (lowered n)) (from_be_bytes-to_be_bytes_8 (raised z) (raised_fits z fits)) ∙ ap Some (lowered-raised z fits)
+
+-- the row keys that a scan finds are those that have a value
+pub rows_of-listed : {X : Type 0} (g : X → Option (List ℕ)) (es : List (ℤ × X)) → AllKeys int_cmp IsRow es → rows_of (listed row_part g es) ≡ keys_where g es
+rows_of-listed g [] all = refl
+rows_of-listed g (e ∷ es) all = at_head (g e.1) (rows_of-listed g es all.1)
+  where
+    at_head : (o : Option (List ℕ)) → rows_of (listed row_part g es) ≡ keys_where g es → rows_of (listed_at row_part e.0 o (listed row_part g es)) ≡ kept_at e.0 o (keys_where g es)
+    at_head None rest = rest
+    at_head (Some v) rest = ap (λ (o : Option ℤ). with_row o (rows_of (listed row_part g es))) (row_of-row_part e.0 all.0) ∙ ap (λ (rs : List ℤ). e.0 ∷ rs) rest
+
+-- At a kind whose keys end in a row key: where an owner's entries are what a map of rows has, they have the map's row keys, in its order.
+pub rows_listed : {X : Type 0} (g : X → Option (List ℕ)) (c : Content) (kind : Kind) (owner : List ℕ) (G : FinMap int_cmp X)
+    → HasKeysOnly c → HasPartsOnly row_part IsRow kind → ((r : ℤ) (x : X) → get G r ≡ Some x → IsRow r) → ((r : ℤ) → IsRow r → at c (key kind owner (row_part r)) ≡ option_and_then g (get G r))
+    → rows_under kind owner c ≡ keys_where g (entries G)
+rows_listed g c kind owner G only form has each =
+    ap rows_of (family_listed int_cmp row_part IsRow row_spells g c kind owner G only form has each)
+    ∙ rows_of-listed g (entries G) (all_keys int_cmp int_cmp_total IsRow G has)
+
+-- ---- the keys of a map that have a value
+
+module _ {K X : Type 0} (R : K → K → Ordering) (total : IsTotalOrder R) (g : X → Option (List ℕ)) where
+  has_listed : (k : K) (es : List (K × X)) → rises R es ≡ true → list_any (eq_by_cmp R k) (keys_where g es) ≡ is_some (option_and_then g (find R k es))
+  has_listed k [] h = refl
+  has_listed k (e ∷ es) h =
+      let b = and_true (below R e.0 es) (rises R es) h in
+      at_head (eq_by_cmp R k e.0) refl (g e.1) refl b.0 (has_listed k es b.1)
+    where
+      at_head : (t : Bool) → eq_by_cmp R k e.0 ≡ t → (o : Option (List ℕ)) → g e.1 ≡ o → below R e.0 es ≡ true → list_any (eq_by_cmp R k) (keys_where g es) ≡ is_some (option_and_then g (find R k es))
+          → list_any (eq_by_cmp R k) (kept_at e.0 (g e.1) (keys_where g es)) ≡ is_some (option_and_then g (cond (eq_by_cmp R k e.0) (Some e.1) (find R k es)))
+      at_head true t (Some v) is low rest = rw (is, t, is) refl
+      at_head true t None is low rest = rw (is, t, is) (rest ∙ ap (λ (o : Option X). is_some (option_and_then g o)) (none_below R k es (below_tied R total k e.0 es t low)))
+      at_head false t (Some v) is low rest = rw (is, t) rest
+      at_head false t None is low rest = rw (is, t) rest
+
+  -- a key is listed exactly where the map has a value for it
+  pub has_key : (G : FinMap R X) (k : K) → list_any (eq_by_cmp R k) (keys_where g (entries G)) ≡ is_some (option_and_then g (get G k))
+  has_key G k = has_listed k (entries G) (entries_rise R G) ∙ ap (λ (o : Option X). is_some (option_and_then g o)) (sym (get-entries G k))
+
+-- where each has a value, all keys are listed
+pub keys_always : {K X : Type 0} (f : X → List ℕ) (es : List (K × X)) → keys_where (λ x. Some (f x)) es ≡ map (λ e. e.0) es
+keys_always f [] = refl
+keys_always f (e ∷ es) = ap (λ l. e.0 ∷ l) (keys_always f es)

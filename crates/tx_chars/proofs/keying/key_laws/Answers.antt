@@ -1,0 +1,14 @@
+use Rattle.tx_chars.proofs.KeyLaws.{limit, utf8, whole, empty}
+use Rattle.tx_chars.proofs.keying.key_laws.Goals as goal
+
+pub returns-clause-limit : goal.returns-clause-limit
+returns-clause-limit c = limit
+
+pub returns-clause-utf8 : goal.returns-clause-utf8
+returns-clause-utf8 c = utf8
+
+pub returns-clause-whole : goal.returns-clause-whole
+returns-clause-whole c = whole
+
+pub returns-clause-empty : goal.returns-clause-empty
+returns-clause-empty c = empty
