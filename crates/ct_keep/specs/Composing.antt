@@ -1,5 +1,5 @@
 -- What calls of a keeper make together: each of its relations of one call after another.
-use Rattle.std.specs.Prelude.{ℕ, ◌≡◌, ◌≤◌, List, [], ◌++◌, Bool, true, false, Option, Some, None, Result, Ok, Err, IsErrAnd, refl}
+use Rattle.std.specs.Prelude.{ℕ, ◌≡◌, List, [], ◌++◌, Bool, Option, Some, None, refl}
 use Rattle.std.proofs.Common.{sym, ap, subst, inl, ◌∙◌, arith}
 use Rattle.ct_base.specs.Causes.{Rose}
 use Rattle.ct_base.specs.Told.{IsSaid, ahead, behind, ahead_none, ahead_twice, SaysPart, behind_none, behind_twice, says_front, says_back}
@@ -9,7 +9,7 @@ use Rattle.ct_keep.specs.declared.keepers.KeepFault.{KeepFault}
 use Rattle.ct_keep.specs.declared.keepers.KeepFault.TheVariants.{Memory, Disk, Full}
 use Rattle.ct_keep.specs.Content.{Content}
 use Rattle.ct_keep.specs.Words.{AreWell}
-use Rattle.ct_keep.specs.Keeping.{Keeping, Counts, Kept, Reads, Goes, Answers, Came, Leaves, IsSettled, Apart, KeeperHears, KeeperSays, UnlessDisk, OnDisk, fault_of, counted, is_full, committed}
+use Rattle.ct_keep.specs.Keeping.{Keeping, Counts, Kept, Reads, Goes, Answers, Came, Leaves, IsSettled, Apart, KeeperHears, KeeperSays, UnlessDisk, OnDisk, counted, is_full, committed}
 
 -- ---- what every call keeps
 

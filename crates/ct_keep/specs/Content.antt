@@ -1,8 +1,8 @@
 -- What a keeper holds, and what the words of a batch make of it.
-use Rattle.std.specs.Prelude.{ℕ, ◌≡◌, ◌+◌, ◌==◌, ◌≤◌, max, sum_by, Bool, true, false, ◌&&◌, List, [], ◌∷◌, length, filter, Option, Some, None}
+use Rattle.std.specs.Prelude.{ℕ, ◌+◌, ◌==◌, ◌≤◌, max, sum_by, Bool, true, false, ◌&&◌, List, [], ◌∷◌, length, filter, Option, Some, None}
 use Rattle.std.specs.Ordering.{nat_cmp, is_lt}
 use Rattle.std.specs.Cmp.Lexicographic.{slice_cmp}
-use Rattle.std.specs.FinMap.{FinMap, get, insert, remove, entries}
+use Rattle.std.specs.FinMap.{FinMap, insert, remove, entries}
 
 -- a finite map from keys to values, both lists of bytes, in the order of the keys' bytes
 abbrev pub Content : Type 0

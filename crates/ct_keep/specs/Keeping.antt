@@ -1,11 +1,10 @@
 -- What is known of a keeper, and what its calls make of that.
-use Rattle.std.specs.Prelude.{ℕ, ◌≡◌, ◌⊎◌, ◌+◌, ◌-◌, ◌^◌, ◌<◌, ◌≤◌, ◌==◌, ◌||◌, min, Bool, true, false, List, [], ◌∷◌, ◌++◌, Option, Some, None, Result, Ok, Err, refl}
+use Rattle.std.specs.Prelude.{ℕ, ◌≡◌, ◌⊎◌, ◌+◌, ◌-◌, ◌^◌, ◌<◌, ◌≤◌, ◌==◌, ◌||◌, min, Bool, true, false, List, [], ◌∷◌, Option, Some, None, Result, Ok, Err, refl}
 use Rattle.std.specs.Bool.{if◌then◌else◌}
-use Rattle.std.proofs.Common.{sym, ap, subst, inl, ◌∙◌, arith, append_assoc}
 use base.Fml.{GName}
 use Rattle.ct_base.specs.Causes.{Rose}
-use Rattle.ct_base.specs.Told.{IsSaid, ahead, behind, SaysPart, behind_none, behind_twice, says_front, says_back}
-use Rattle.ct_base.specs.Moments.{Timeline, Passes, Stays, passes_none, passes_more, passes_then, passes_stays, stays_then}
+use Rattle.ct_base.specs.Told.{IsSaid, ahead, behind, SaysPart}
+use Rattle.ct_base.specs.Moments.{Timeline, Passes, Stays}
 use Rattle.ct_site.specs.Disks.{Beside}
 use Rattle.ct_keep.specs.declared.keepers.KeepFault.{KeepFault}
 use Rattle.ct_keep.specs.declared.keepers.KeepFault.TheVariants.{Memory, Disk, Full}

@@ -1,11 +1,11 @@
 -- Laws of contents: what words make of them, and what they weigh.
-use Rattle.std.specs.Prelude.{ℕ, ◌≡◌, ◌≢◌, ◌+◌, ◌*◌, ◌≤◌, ◌==◌, ◌&&◌, max, sum_by, Bool, true, false, not, List, [], ◌∷◌, ◌++◌, length, filter, Option, Some, None, unwrap_or, codes, refl}
-use Rattle.std.proofs.Common.{cond, sym, ap, subst, ◌∙◌, arith}
+use Rattle.std.specs.Prelude.{ℕ, ◌≡◌, ◌≢◌, ◌+◌, ◌*◌, ◌≤◌, sum_by, Bool, true, false, not, List, [], ◌∷◌, ◌++◌, length, filter, Option, Some, None, unwrap_or, codes, refl}
+use Rattle.std.proofs.Common.{cond, sym, ap, ◌∙◌, arith}
 use Rattle.std.specs.Option.{option_or}
 use Rattle.std.specs.Bool.{if◌then◌else◌}
 use Rattle.std.specs.declared.cmp.Ordering.{Ordering}
 use Rattle.std.specs.declared.cmp.Ordering.TheVariants.{Less, Equal, Greater}
-use Rattle.std.specs.Ordering.{nat_cmp, is_eq, is_lt, eq_by_cmp, ordering_then, ordering_reverse}
+use Rattle.std.specs.Ordering.{nat_cmp, is_eq, is_lt, eq_by_cmp, ordering_then}
 use Rattle.std.specs.Cmp.Lexicographic.{slice_cmp}
 use Rattle.std.specs.FinMap.{get, insert, remove, entries, empty, find, put, from_sorted, entries-insert, entries-from_sorted, get-entries, get-insert, get-remove, get-from_sorted, len-empty, len-entries, same_map}
 use Rattle.std.proofs.lemmas.Cmp.{tied_itself, nat_cmp_total, nat_list_cmp_total, eq_by_cmp_equiv}
@@ -108,8 +108,8 @@ pub entries-remove : (m : Content) (key : List ℕ) → entries (remove m key) �
 entries-remove m key =
     let sorted = T_from_true _ (sorted_from_rises (without key (entries m)) (rises_filter (λ e. not (same key e.0)) (entries m) (entries_rise m))) in
     ap entries (same_content (remove m key) (from_sorted (without key (entries m))) (λ q.
-        get-remove nat_list_cmp_total m key q ∙ turned (same q key) (same key q) (get m q) (same_back q key)
-        ∙ sym (get-from_sorted (slice_cmp nat_cmp) (without key (entries m)) q sorted ∙ find-filter (λ k. not (same key k)) q (entries m) ∙ ap (λ (o : Option (List ℕ)). cond (not (same key q)) o None) (sym (get-entries m q)))))
+    get-remove nat_list_cmp_total m key q ∙ turned (same q key) (same key q) (get m q) (same_back q key)
+    ∙ sym (get-from_sorted (slice_cmp nat_cmp) (without key (entries m)) q sorted ∙ find-filter (λ k. not (same key k)) q (entries m) ∙ ap (λ (o : Option (List ℕ)). cond (not (same key q)) o None) (sym (get-entries m q)))))
     ∙ entries-from_sorted (slice_cmp nat_cmp) (without key (entries m)) sorted
   where
     turned : (a b : Bool) (o : Option (List ℕ)) → a ≡ b → cond a None o ≡ cond (not b) o None

@@ -1,20 +1,19 @@
 -- Laws of counts: what look-ups add, one after the other, and how much at most.
-use Rattle.std.specs.Prelude.{ℕ, ◌≡◌, ◌+◌, ◌-◌, ◌^◌, ◌≤◌, ◌==◌, ◌||◌, min, Bool, true, false, List, [], ◌∷◌, length, drop, Option, Some, None, refl}
-use Rattle.std.proofs.Common.{cond, sym, ap, subst, ◌∙◌, arith, inl, inr, ◌<◌}
+use Rattle.std.specs.Prelude.{ℕ, ◌≡◌, ◌+◌, ◌≤◌, ◌==◌, ◌||◌, Bool, true, false, List, [], ◌∷◌, length, drop, Option, Some, None, refl}
+use Rattle.std.proofs.Common.{cond, sym, ap, ◌∙◌, arith, inl, inr, ◌<◌}
 use Rattle.std.proofs.lemmas.Bool.{eqb-true}
 use Rattle.std.proofs.lemmas.Bool.Decides.{nat_tests}
 use Rattle.std.proofs.lemmas.List.{length-map}
 use Rattle.std.specs.Bool.{if◌then◌else◌}
-use Rattle.std.specs.declared.cmp.Ordering.TheVariants.{Less, Equal, Greater}
+use Rattle.std.specs.declared.cmp.Ordering.TheVariants.{Less}
 use Rattle.std.specs.Ordering.{nat_cmp, is_lt}
-use Rattle.std.specs.Cmp.Lexicographic.{slice_cmp}
 use Rattle.std.specs.FinMap.{entries}
 use Rattle.ct_keep.specs.Content.{Content, begins_with, entries_above, entries_under}
 use Rattle.ct_keep.specs.Keeping.{Counts, counted, is_kind, is_kind_of, is_either, looked_up}
 use Rattle.ct_keep.specs.Rising.{Entry, order, above, beginning, below, rises, rises_filter, entries_rise, begins_itself, and_true, less, none_later, then_less, lt_from_less, eq_from_equal}
-use Rattle.ct_keep.specs.Tail.{cut, tail}
+use Rattle.ct_keep.specs.Tail.{tail}
 use Rattle.ct_keep.specs.TailLaws.{entries-tail}
-use Rattle.ct_keep.specs.Looks.{one_if, look, no_looks, plus, next_looks, looks, scan_looks, behind, raised_by, raised, RisesBy}
+use Rattle.ct_keep.specs.Looks.{one_if, look, no_looks, plus, looks, scan_looks, behind, raised_by, raised, RisesBy}
 
 same_counts : (a b : Counts) → a.texts ≡ b.texts → a.rows ≡ b.rows → a.rules ≡ b.rules → a.fulls ≡ b.fulls → a ≡ b
 same_counts a b texts rows rules fulls = λ i. record { texts = texts i; rows = rows i; rules = rules i; fulls = fulls i }

@@ -3,7 +3,7 @@ use Rattle.std.specs.Prelude.{ℕ, ◌≡◌, ◌+◌, ◌-◌, ◌^◌, ◌≤�
 use Rattle.std.specs.Option.{option_map}
 use Rattle.std.specs.Bool.{if◌then◌else◌}
 use Rattle.ct_keep.specs.Content.{Content, begins_with, entries_above, first_entry}
-use Rattle.ct_keep.specs.Keeping.{Counts, is_either, looked_up}
+use Rattle.ct_keep.specs.Keeping.{Counts, is_either}
 
 abbrev pub one_if : Bool → ℕ
 one_if true = 1

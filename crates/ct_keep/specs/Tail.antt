@@ -1,5 +1,5 @@
 -- What a content has under a prefix of its keys.
-use Rattle.std.specs.Prelude.{ℕ, ◌≡◌, List, [], ◌∷◌, ◌++◌, map, filter, drop, length, Option, Some, None}
+use Rattle.std.specs.Prelude.{ℕ, List, map, filter, drop, length, Option, Some, None}
 use Rattle.std.specs.Bool.{if◌then◌else◌}
 use Rattle.std.specs.FinMap.{from_sorted}
 use Rattle.ct_keep.specs.Content.{Content, begins_with, entries_above, entries_under}

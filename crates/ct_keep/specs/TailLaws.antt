@@ -1,13 +1,12 @@
 -- Laws of what stands behind a prefix: its entries in order, and what it has at each key.
-use Rattle.std.specs.Prelude.{ℕ, ◌≡◌, ◌&&◌, Bool, true, false, List, [], ◌∷◌, ◌++◌, length, drop, filter, map, ◌≢◌, Option, Some, None, codes, refl}
+use Rattle.std.specs.Prelude.{ℕ, ◌≡◌, Bool, true, false, List, [], ◌∷◌, ◌++◌, length, drop, ◌≢◌, Option, Some, None, codes, refl}
 use Rattle.std.proofs.Common.{cond, sym, ap, subst, ◌∙◌, append-nil, append_assoc}
 use Rattle.std.specs.declared.cmp.Ordering.{Ordering}
-use Rattle.std.specs.declared.cmp.Ordering.TheVariants.{Less, Equal, Greater}
-use Rattle.std.specs.Ordering.{nat_cmp, is_lt, is_eq, eq_by_cmp}
+use Rattle.std.specs.declared.cmp.Ordering.TheVariants.{Less, Equal}
+use Rattle.std.specs.Ordering.{nat_cmp, is_lt, is_eq}
 use Rattle.std.proofs.lemmas.Bool.{eqb-true}
 use Rattle.std.proofs.lemmas.Cmp.{tied_itself, nat_cmp_total, nat_list_cmp_total}
 use Rattle.std.specs.Cmp.Lexicographic.{slice_cmp}
-use Rattle.std.proofs.lemmas.Map.Lookups.{exact_bytes}
 use Rattle.std.specs.FinMap.{get, entries, is_sorted, find, entries-from_sorted, get-from_sorted, get-entries, empty}
 use Rattle.ct_keep.specs.Content.{Content, set_to, after, first_entry, entries_above, entries_under, begins_with}
 use Rattle.ct_keep.specs.Rising.{Entry, order, above, beginning, below, rises, rises_filter, entries_rise, sorted_from_rises, and_true, and_both, less, T_from_true, begins_front, begins_itself, stops, first_then, none_then}

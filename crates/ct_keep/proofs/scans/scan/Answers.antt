@@ -1,9 +1,8 @@
-use Rattle.std.proofs.Common.{List, [], ◌∷◌, ◌++◌, ◌≡◌, ℕ, Some, None, refl, sym, ap, subst, ◌∙◌, append-nil, map}
-use Rattle.std.specs.Option.{option_map}
+use Rattle.std.proofs.Common.{append-nil}
 use Rattle.std.proofs.lemmas.List.{map-append}
 use Rattle.ct_keep.specs.Composing.{reads_none, reads_on, reads_hold}
 use Rattle.ct_keep.specs.Rising.{begins_itself, begins_front}
-use Rattle.ct_keep.proofs.Scanning.{Scanning, scanning_none, scanning_more, scanning_ends, scanning_counts}
+use Rattle.ct_keep.proofs.Scanning.{scanning_none, scanning_more, scanning_ends}
 use Rattle.ct_keep.proofs.scans.scan.Goals as goal
 
 pub steps-init : goal.steps-init

@@ -1,4 +1,4 @@
-use Rattle.std.proofs.Common.{◌≡◌, ◌++◌, true, sym, ap, ◌∙◌}
+use Rattle.std.proofs.Common.{◌≡◌, true, sym, ap, ◌∙◌}
 use Rattle.ct_keep.specs.Content.{begins_with}
 use Rattle.ct_keep.specs.TailLaws.{front_and_rest}
 use Rattle.ct_keep.proofs.scans.step_under.Goals as goal
