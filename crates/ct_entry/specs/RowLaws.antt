@@ -1,8 +1,8 @@
 -- What row keys a scan finds, and which keys of a map have a value.
 use Rattle.std.proofs.Common.{◌≡◌, ℕ, ℤ, pos, negsuc, ◌+◌, ◌-◌, ◌^◌, ◌<◌, Bool, true, false, cond, List, [], ◌∷◌, length, map, Option, Some, None, refl, sym, ap, ◌∙◌, arith}
 use Rattle.std.specs.Prelude.{is_some, nat_lt}
-use Rattle.std.specs.Option.{option_and_then}
-use Rattle.std.specs.List.{list_any}
+use Rattle.std.specs.Option.{option_map, option_and_then}
+use Rattle.std.specs.List.{list_any, cons_option}
 use Rattle.std.specs.declared.cmp.Ordering.{Ordering}
 use Rattle.std.specs.Ordering.{int_cmp, eq_by_cmp}
 use Rattle.std.specs.Cmp.{IsTotalOrder}
@@ -18,8 +18,14 @@ use Rattle.ct_entry.specs.declared.kinds.Kind.{Kind}
 use Rattle.ct_entry.specs.Keys.{key, at, counted_bytes, HasKeysOnly, row_part, IsRow}
 use Rattle.ct_keep.specs.Rising.{and_true}
 use Rattle.ct_entry.specs.Rising.{below, rises, entries_rise, none_below, below_tied, AllKeys, all_keys}
-use Rattle.ct_entry.specs.Listings.{listed_at, listed, kept_at, keys_where, lowered, row_of, with_row, rows_of, rows_under, key_order}
+use Rattle.ct_entry.specs.Listings.{listed, keys_where, lowered, row_of, rows_of, rows_under, key_order}
 use Rattle.ct_entry.specs.ListingLaws.{Spells, HasPartsOnly, family_listed}
+
+abbrev listed_at : {K : Type 0} → (K → List ℕ) → K → Option (List ℕ) → List (List ℕ × List ℕ) → List (List ℕ × List ℕ)
+listed_at part k o rest = cons_option (option_map (λ v. (part k, v)) o) rest
+
+abbrev kept_at : {K : Type 0} → K → Option (List ℕ) → List K → List K
+kept_at k o rest = cons_option (option_map (λ _. k) o) rest
 
 -- ---- orders
 
@@ -56,7 +62,7 @@ rows_of-listed g (e ∷ es) all = at_head (g e.1) (rows_of-listed g es all.1)
   where
     at_head : (o : Option (List ℕ)) → rows_of (listed row_part g es) ≡ keys_where g es → rows_of (listed_at row_part e.0 o (listed row_part g es)) ≡ kept_at e.0 o (keys_where g es)
     at_head None rest = rest
-    at_head (Some v) rest = ap (λ (o : Option ℤ). with_row o (rows_of (listed row_part g es))) (row_of-row_part e.0 all.0) ∙ ap (λ (rs : List ℤ). e.0 ∷ rs) rest
+    at_head (Some v) rest = ap (λ (o : Option ℤ). cons_option o (rows_of (listed row_part g es))) (row_of-row_part e.0 all.0) ∙ ap (λ (rs : List ℤ). e.0 ∷ rs) rest
 
 -- At a kind whose keys end in a row key: where an owner's entries are what a map of rows has, they have the map's row keys, in its order.
 pub rows_listed : {X : Type 0} (g : X → Option (List ℕ)) (c : Content) (kind : Kind) (owner : List ℕ) (G : FinMap int_cmp X)
