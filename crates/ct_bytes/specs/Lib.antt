@@ -1,5 +1,6 @@
 pub mod Varints
 pub mod RowKeys
 pub mod VarintLaws
+pub mod ByteOrder
 pub mod RowKeyLaws
 pub mod NumberLaws

@@ -2,7 +2,7 @@
 
 ghost use Rattle.ct_bytes.specs.VarintLaws.{NoVarintBeginsAnother, PlacesHaveOneVarint, VarintsAreReadBack, NoTextBeginsAnother, PlacesHaveOneText, TextsAreReadBack};
 ghost use Rattle.ct_bytes.specs.RowKeyLaws.{KeysHaveEightBytes, KeysHaveTheirOwnBytes, BytesAreInKeyOrder};
-ghost use Rattle.ct_bytes.specs.NumberLaws.{TwoBytesAreOneNumber, FourBytesAreOneNumber};
+ghost use Rattle.ct_bytes.specs.NumberLaws.{TwoBytesAreOneNumber, FourBytesAreOneNumber, TwoBytesAreInOrder, FourBytesAreInOrder};
 
 /// No varint begins another, a place has one at most, and each number below 2^32 is read back from its bytes.
 pub fn varints_are_exact()
@@ -25,8 +25,10 @@ pub fn row_keys_are_exact()
     ensures order { BytesAreInKeyOrder }
 {}
 
-/// Each number of fixed width has its own bytes.
+/// Each number of fixed width has its own bytes, and these compare as the numbers do.
 pub fn numbers_are_exact()
     ensures two { TwoBytesAreOneNumber }
     ensures four { FourBytesAreOneNumber }
+    ensures two_order { TwoBytesAreInOrder }
+    ensures four_order { FourBytesAreInOrder }
 {}

@@ -10,3 +10,7 @@ pub mod Tail
 pub mod TailLaws
 pub mod Looks
 pub mod LookLaws
+pub mod Pairs
+pub mod Trials
+pub mod InMemory
+pub mod KeeperStates

@@ -75,7 +75,8 @@ abbrev pub write_passes : MemState → ℕ → ℕ → Bool
 write_passes s at n =
     change_passes s || (nat_lt s.rooms.written (s.written_bytes + n) || (nat_lt s.rooms.image (at + n) || nat_lt (2 ^ 43) (at + n)))
 
--- whether the next call of each kind fails
+-- whether the next call fails: of hearing, of saying so many bytes, of telling the size or reading, of writing so many bytes
+-- at this place, and of syncing
 abbrev pub hear_fails : MemState → Bool
 hear_fails s = is_listed s.hear_calls s.faults.hear
 

@@ -6,7 +6,7 @@ use crate::{Disk, Faults, MemSite, QuietSite, RealSite, Rooms, Site};
 use ct_base::{Memory, Numbers};
 use std::alloc::Global;
 use std::test::Fail;
-use std::{fs, process};
+use std::{env, fs, process};
 
 /// A call of a site. A read or a write asks for the size first, which is a call of the disk too.
 #[derive(Clone, Copy)]
@@ -299,9 +299,12 @@ fn over_file(rt: &HostRuntime, path: &str) -> Result<Vec<u8>, Memory> {
 
 #[test]
 fn a_file_is_a_disk(rt: HostRuntime) -> Result<(), Fail> {
-    let path = format!(in rt.alloc(); "ct_site_{}.image", process::id(rt.process()))?;
-    let all = over_file(&rt, path.as_str())?;
+    let folder = env::temp_dir(&rt)?;
+    let id = process::id(rt.process());
+    let path = format!(in rt.alloc(); "{}/ct_site_{id}.image", folder.as_str())?;
+    let all = over_file(&rt, path.as_str());
     fs::remove_file(&rt, path.as_str())?;
+    let all = all?;
     assert_eq!(rt; all.as_slice(), b"0 . . . . 5 XY1 -".as_slice());
     Ok(())
 }

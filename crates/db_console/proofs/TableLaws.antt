@@ -1,18 +1,16 @@
 -- How serving goes on, how it ends, and what follows of a run.
-use Rattle.std.proofs.Common.{◌≡◌, ◌≤◌, ◌<◌, ◌+◌, ◌++◌, ◌∷◌, [], ◌⊎◌, ℕ, suc, List, Bool, true, false, Option, Some, None, length, take, inl, inr, refl, sym, ap, ◌∙◌, subst, arith, append_assoc, append-nil, length-append}
+use Rattle.std.proofs.Common.{◌≡◌, ◌≤◌, ◌+◌, ◌++◌, ◌∷◌, [], ℕ, suc, List, Bool, true, Some, length, refl, sym, ap, ◌∙◌, subst, arith, append-nil, length-append}
 use Rattle.std.specs.Prelude.{◌↔◌}
 use Rattle.st_cut.specs.Seen.{Seen, Stands}
-use Rattle.ct_base.specs.Causes.{Rose}
 use Rattle.ct_base.specs.Told.{ahead, ahead_none, ahead_twice, IsNothing}
 use Rattle.ct_site.specs.Disks.{DiskView}
-use Rattle.db_engine.specs.Runs.{Piece}
 use Rattle.db_console.specs.declared.saying.Stop.{Stop}
 use Rattle.db_console.specs.declared.saying.Stop.TheVariants.{Say}
 use Rattle.db_console.specs.declared.endings.Ending.{Ending}
 use Rattle.db_console.specs.declared.endings.Ending.TheVariants.{Done, HearFault, SayFault, NoMemory, PastLimit}
-use Rattle.db_console.specs.Worlds.{World, Served, ServedTo, SaidInPart, Broke}
-use Rattle.db_console.specs.Views.{Shows, Untouched, EndsHere, HearRose, SayRose, Heard, Frame, RoseBy, StoppedBy, Serves, Breaks, Finishes}
-use Rattle.db_console.specs.Table.{status_of, ending_of, Closes, InWorld, Ends, Because, Outcome, TellsPast, Completes}
+use Rattle.db_console.specs.Worlds.{World, Served, ServedTo, Broke}
+use Rattle.db_console.specs.Views.{Shows, Untouched, EndsHere, HearRose, Heard, RoseBy, StoppedBy, Serves, Breaks, Finishes}
+use Rattle.db_console.specs.Table.{status_of, ending_of, Closes, Ends, Because, Outcome, TellsPast}
 use Rattle.db_console.proofs.WorldLaws.{served_on, served_then, served_start, broke_then, said_in_part}
 use Rattle.db_console.proofs.ViewLaws.{rose_after, untouched_none, untouched_then}
 
@@ -162,34 +160,6 @@ out_past limit most taken byte old mid now cutter before k h =
 
 -- ---- what follows of a run
 
-pub hear_cause : (ending : Ending) (limit most : ℕ) (old new : DiskView) → Outcome limit most old new ending → status_of ending ≡ 3 → HearRose old new
-hear_cause Done limit most old new o e = absurd (omega arith)
-hear_cause HearFault limit most old new o e = o.because.1
-hear_cause SayFault limit most old new o e = absurd (omega arith)
-hear_cause NoMemory limit most old new o e = absurd (omega arith)
-hear_cause PastLimit limit most old new o e = absurd (omega arith)
-
-pub say_cause : (ending : Ending) (limit most : ℕ) (old new : DiskView) → Outcome limit most old new ending → status_of ending ≡ 4 → SayRose old new
-say_cause Done limit most old new o e = absurd (omega arith)
-say_cause HearFault limit most old new o e = absurd (omega arith)
-say_cause SayFault limit most old new o e = o.because.1
-say_cause NoMemory limit most old new o e = absurd (omega arith)
-say_cause PastLimit limit most old new o e = absurd (omega arith)
-
-pub memory_keeps : (ending : Ending) (limit most : ℕ) (old new : DiskView) → Outcome limit most old new ending → status_of ending ≡ 5 → new ≡ old
-memory_keeps Done limit most old new o e = absurd (omega arith)
-memory_keeps HearFault limit most old new o e = absurd (omega arith)
-memory_keeps SayFault limit most old new o e = absurd (omega arith)
-memory_keeps NoMemory limit most old new o e = o.because.1
-memory_keeps PastLimit limit most old new o e = absurd (omega arith)
-
-pub no_words_status : (ending : Ending) → status_of ending ≡ 2 → ⊥
-no_words_status Done e = omega arith
-no_words_status HearFault e = omega arith
-no_words_status SayFault e = omega arith
-no_words_status NoMemory e = omega arith
-no_words_status PastLimit e = omega arith
-
 -- how many bytes were taken, by the ending
 past_taken : (ending : Ending) (most : ℕ) (taken : List ℕ) (old new : DiskView) → Because most taken old new ending → (status_of ending ≡ 8) ↔ (length taken ≡ suc most)
 past_taken Done most taken old new b = (λ e. absurd (omega arith), λ e. absurd (omega (arith, b.0)))
@@ -210,18 +180,3 @@ tells_past ending limit most old new o = record {
       let f : Some (taken ++ left) ≡ Some (o.taken ++ left) = sym before ∙ o.front ∙ ap (ahead o.taken) after in
       rw (taken_told taken o.taken left f) (past_taken ending most o.taken old new o.because);
 }
-
--- a script that is told is at least as long as what was taken of it
-taken_within : (taken script : List ℕ) (left : Option (List ℕ)) → Some script ≡ ahead taken left → length taken ≤ length script
-taken_within taken script None e = cc
-taken_within taken script (Some rest) e =
-    let p : script ≡ taken ++ rest = cc in
-    omega (arith, ap length p, length-append taken rest)
-
-pub completes : (ending : Ending) (limit most : ℕ) (old new : DiskView) → Outcome limit most old new ending → Completes most (status_of ending) old new
-completes Done limit most old new o = record { completes = λ script told short no_hear no_say. inl refl }
-completes HearFault limit most old new o = record { completes = λ script told short no_hear no_say. absurd (no_hear o.because.1) }
-completes SayFault limit most old new o = record { completes = λ script told short no_hear no_say. absurd (no_say o.because.1) }
-completes NoMemory limit most old new o = record { completes = λ script told short no_hear no_say. inr refl }
-completes PastLimit limit most old new o =
-    record { completes = λ script told short no_hear no_say. absurd (omega (arith, o.because, taken_within o.taken script new.beside.left (sym told ∙ o.front))) }

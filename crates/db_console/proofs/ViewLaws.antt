@@ -1,6 +1,6 @@
 -- What answering and serving make of the views of a site.
 use Rattle.std.specs.Result.{IfErr}
-use Rattle.std.proofs.Common.{◌≡◌, ◌≤◌, ◌<◌, ◌+◌, ◌-◌, ◌++◌, ◌∷◌, [], ℕ, List, Bool, true, false, Option, Some, None, is_some, Result, Ok, Err, Bor, length, take, drop, get_or, refl, sym, ap, ◌∙◌, subst, arith, append_assoc, append-nil, length-drop, add-one, drop-cons}
+use Rattle.std.proofs.Common.{◌≡◌, ◌≤◌, ◌<◌, ◌+◌, ◌-◌, ◌++◌, ◌∷◌, [], ℕ, List, Bool, true, false, Option, Some, None, is_some, Result, Ok, Err, Bor, length, take, drop, get_or, refl, sym, ◌∙◌, subst, arith, append-nil, length-drop, add-one, drop-cons}
 use Rattle.std.proofs.lemmas.List.{take_all, take_more, take-append-drop}
 use Rattle.std.proofs.Math.Seq.{take-add, take-length}
 use Rattle.st_cut.specs.Cut.{first_statement}
@@ -8,14 +8,14 @@ use Rattle.st_cut.specs.Seen.{Seen, Stands, Shows as ShowsText}
 use Rattle.st_cut.proofs.Cutting.{ended_text, no_text}
 use Rattle.ct_base.specs.Causes.{Rose}
 use Rattle.ct_base.specs.Told.{behind, behind_none, behind_twice}
-use Rattle.ct_site.specs.Disks.{DiskView, Hears, Says}
-use Rattle.db_engine.specs.Runs.{Piece, Turn, statement, rest_piece, turn, turn_by}
+use Rattle.ct_site.specs.Disks.{DiskView, Says}
+use Rattle.db_engine.specs.Runs.{Piece, statement, rest_piece, turn, turn_by}
 use Rattle.db_console.specs.declared.saying.Stop.{Stop}
 use Rattle.db_console.specs.declared.saying.Stop.TheVariants.{Say}
-use Rattle.db_console.specs.Worlds.{World, Leads, Served, ServedTo, IsPartOf, Answered, AnsweredInPart, Broke}
+use Rattle.db_console.specs.Worlds.{World, ServedTo, IsPartOf, Answered}
 use Rattle.db_console.specs.Responses.{Replies}
-use Rattle.db_console.specs.Views.{Shows, Untouched, SayRose, Spoke, SpokeInPart, Frame, Answers, RoseBy, StoppedSaying, StoppedBy, Stops, Serves, Breaks, Finishes}
-use Rattle.db_console.proofs.WorldLaws.{served_on, served_then, served_open, served_start, served_statement, served_last, served_rest, broke_then, broke_before, broke_statement, broke_last, broke_rest}
+use Rattle.db_console.specs.Views.{Shows, Untouched, SayRose, Spoke, SpokeInPart, Frame, Answers, RoseBy, StoppedBy, Stops, Serves, Breaks, Finishes}
+use Rattle.db_console.proofs.WorldLaws.{served_then, served_open, served_statement, served_last, served_rest, broke_then, broke_before, broke_statement, broke_last, broke_rest}
 
 pub if_err_weaker : {T E : Type 0} (r : Result T E) (P Q : E → Type 0) → ((e : E) → P e → Q e) → IfErr r P → IfErr r Q
 if_err_weaker (Ok x) P Q f h = h

@@ -1,15 +1,15 @@
 -- How what serving does goes on, one part after another.
-use Rattle.std.proofs.Common.{◌≡◌, ◌≤◌, ◌++◌, ◌∷◌, [], ℕ, List, Bool, true, false, leb, Some, None, length, map, refl, sym, ap, ◌∙◌, arith, append_assoc, append-nil}
+use Rattle.std.proofs.Common.{◌≡◌, ◌++◌, ◌∷◌, [], ℕ, List, Bool, true, false, leb, Some, None, map, refl, sym, ap, ◌∙◌, arith, append_assoc, append-nil}
 use Rattle.std.proofs.lemmas.List.{map-append}
 use Rattle.st_cut.specs.Cut.{Cuts, first_statement}
 use Rattle.st_cut.specs.Seen.{Seen, Stands}
 use Rattle.st_cut.proofs.Cuts.{cuts_go_on, open_newline}
 use Rattle.st_cut.proofs.Cutting.{some_cut}
-use Rattle.ct_base.specs.Told.{behind, behind_none, behind_twice}
+use Rattle.ct_base.specs.Told.{behind_none, behind_twice}
 use Rattle.std.specs.Str.{chars}
 use Rattle.db_engine.specs.Steps.{State, rest_reply}
 use Rattle.db_engine.specs.Runs.{Piece, statement, rest_piece, Step, Turn, turn_by, pieces, turn, state_after, transcript, state_after-append, transcript-append, Ran}
-use Rattle.db_console.specs.Worlds.{pieces_of, HasPieces, World, IsAllowed, AllAllowed, Leads, Served, ServedTo, IsFrontOf, IsPartOf, Answered, AnsweredInPart, Broke, SaidInPart}
+use Rattle.db_console.specs.Worlds.{HasPieces, World, AllAllowed, Leads, Served, ServedTo, Answered, AnsweredInPart, Broke, SaidInPart}
 
 -- ---- turns
 
@@ -192,7 +192,7 @@ said_in_part limit whole script old new turns mid last later rest l p a =
     let t : Turn = turn_by last a.answer in
     let n : state_after limit old.state (turns ++ t ∷ []) ≡ (turn limit mid.state t).0 = state_after-append limit old.state turns (t ∷ []) ∙ rw (sym l.run.state) refl in
     let s : transcript limit old.state (turns ++ t ∷ []) ≡ l.said ++ (turn limit mid.state t).1 =
-        transcript-append limit old.state turns (t ∷ []) ∙ rw (sym l.run.says, sym l.run.state) (ap (λ (xs : List ℕ). l.said ++ xs) (append-nil (turn limit mid.state t).1)) in
+    transcript-append limit old.state turns (t ∷ []) ∙ rw (sym l.run.says, sym l.run.state) (ap (λ (xs : List ℕ). l.said ++ xs) (append-nil (turn limit mid.state t).1)) in
     record {
       turns = turns;
       last = t;

@@ -1,9 +1,11 @@
 -- How a run of the console ends, by its status.
-use Rattle.std.specs.Prelude.{ℕ, suc, ◌≡◌, ◌≤◌, ◌+◌, ◌⊎◌, ◌↔◌, Bool, true, false, List, [], ◌∷◌, ◌++◌, length, Option, Some}
+use Rattle.std.specs.Prelude.{ℕ, suc, ◌≡◌, ◌≤◌, ◌⊎◌, ◌↔◌, Bool, true, false, List, [], ◌∷◌, ◌++◌, length, codes, Some, None, refl}
+use Rattle.std.specs.Str.{chars}
+use Rattle.db_engine.specs.Runs.{statement, Step, turn_by}
 use Rattle.ct_base.specs.Told.{ahead}
 use Rattle.st_cut.specs.Seen.{Seen}
 use Rattle.ct_site.specs.Disks.{DiskView}
-use Rattle.db_console.specs.Worlds.{World, Served, SaidInPart}
+use Rattle.db_console.specs.Worlds.{World, Served, SaidInPart, world}
 use Rattle.db_console.specs.Views.{Shows, Untouched, EndsHere, HearRose, SayRose, Breaks, Finishes}
 use Rattle.db_console.specs.declared.endings.Ending.{Ending}
 use Rattle.db_console.specs.declared.endings.Ending.TheVariants.{Done, HearFault, SayFault, NoMemory, PastLimit}
@@ -49,7 +51,7 @@ abbrev pub Because : ℕ → List ℕ → DiskView → DiskView → Ending → T
 Because most taken old new Done = (length taken ≤ most) × EndsHere new
 Because most taken old new HearFault = (length taken ≤ most) × HearRose old new
 Because most taken old new SayFault = (length taken ≤ most) × SayRose old new
--- no call was made
+-- nothing that the site tells has changed
 Because most taken old new NoMemory = (taken ≡ []) × (new ≡ old)
 Because most taken old new PastLimit = length taken ≡ suc most
 
@@ -73,3 +75,39 @@ pub record TellsPast (most status : ℕ) (old new : DiskView) : Type 0 where
 -- Without a fault a script of at most `most` bytes is served to its end, unless there is no memory.
 pub record Completes (most status : ℕ) (old new : DiskView) : Type 0 where
   pub completes : (script : List ℕ) → old.beside.left ≡ Some script → length script ≤ most → ¬ HearRose old new → ¬ SayRose old new → (status ≡ 0) ⊎ (status ≡ 5)
+
+-- computed examples: of a script of 14 bytes ten were allowed, and one more was taken
+abbrev telling : List ℕ → List ℕ → DiskView
+telling left said = record { image = None; beside = record { left = Some left; said = Some said; hear_faults = 0; say_faults = 0 }; faults = 0 }
+
+ten_bytes : Ends 65536 10 (codes "SELEC;\nSELE") (world []) (telling (codes "C;\n") (codes "E10: statement not understood\n")) PastLimit
+unfolding chars
+ten_bytes = (
+  codes "SELEC;\nSEL",
+  69,
+  refl,
+  refl,
+  (
+    world (codes "E10: statement not understood\n"),
+    record { said = refl },
+    record {
+      turns = turn_by (statement (codes "SELEC")) Step ∷ [];
+      rest = codes "SEL";
+      cut = record { statements = codes "SELEC" ∷ []; cut = (_, refl, (refl, refl)); are = refl };
+      leads = record { said = codes "E10: statement not understood\n"; run = record { state = refl; says = refl }; told = refl; allowed = (tt, tt) };
+    },
+  ),
+)
+
+-- hearing failed behind a whole statement, which no newline had ended yet
+not_ended : Ends 65536 10 (codes "SELEC;") (world []) (telling (codes "\n") []) HearFault
+not_ended = (
+  world [],
+  record { said = refl },
+  record {
+    turns = [];
+    rest = codes "SELEC;";
+    cut = record { statements = []; cut = (refl, refl); are = refl };
+    leads = record { said = []; run = record { state = refl; says = refl }; told = refl; allowed = tt };
+  },
+)

@@ -1,5 +1,5 @@
 -- What the console does to what is known of a site.
-use Rattle.std.specs.Prelude.{ℕ, ◌≡◌, ◌≤◌, Bool, true, false, List, []}
+use Rattle.std.specs.Prelude.{ℕ, ◌≡◌, ◌≤◌, Bool, true, List, []}
 use Rattle.st_cut.specs.Seen.{Seen, Stands}
 use Rattle.ct_base.specs.Causes.{Rose}
 use Rattle.ct_base.specs.Told.{IsNothing}
@@ -13,7 +13,7 @@ use Rattle.db_console.specs.declared.saying.Stop.TheVariants.{Say}
 pub record Shows (view : DiskView) (world : World) : Type 0 where
   pub said : view.beside.said ≡ world.said
 
--- No call of the disk was made.
+-- The disk is as before: no call of it failed, and a read gives what it gave.
 pub record Untouched (old new : DiskView) : Type 0 where
   pub image : new.image ≡ old.image
   pub faults : new.faults ≡ old.faults

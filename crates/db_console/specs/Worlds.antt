@@ -1,5 +1,9 @@
 -- What serving some bytes of a script does to the world.
-use Rattle.std.specs.Prelude.{ℕ, ◌≡◌, ◌≤◌, ◌<◌, Bool, true, false, List, [], ◌∷◌, ◌++◌, length, map, Option}
+use Rattle.std.specs.Prelude.{ℕ, ◌≡◌, ◌≤◌, ◌<◌, Bool, true, false, List, [], ◌∷◌, ◌++◌, length, map, codes, Option, Some, refl}
+use Rattle.std.specs.Str.{chars}
+use Rattle.std.specs.Fmt.{digits}
+use lib.Utf8.{encode}
+use Rattle.std.proofs.Common.{lit<}
 use Rattle.st_cut.specs.Cut.{Cuts}
 use Rattle.st_cut.specs.Seen.{Seen, Stands}
 use Rattle.ct_base.specs.Told.{behind}
@@ -101,3 +105,43 @@ pub record SaidInPart (limit : ℕ) (whole : Bool) (script : List ℕ) (old new 
   pub told : new.said ≡ behind old.said said
   pub part : IsPartOf said (transcript limit old.state (turns ++ last ∷ []))
   pub front : IsFrontOf (transcript limit old.state turns) said
+
+-- computed examples: a script of one statement and a rest that is a comment
+abbrev pub world : List ℕ → World
+world said = record { state = tt; said = Some said }
+
+half_a_word : Served 65536 true [] (codes "SELEC;\n-- note") (world []) (world (codes "E10: statement not understood\n"))
+unfolding chars
+half_a_word = record {
+  turns = turn_by (statement (codes "SELEC")) Step ∷ turn_by (rest_piece (codes "-- note")) Step ∷ [];
+  rest = codes "-- note";
+  cut = record { statements = codes "SELEC" ∷ []; cut = (_, refl, (refl, refl)); are = refl };
+  leads = record { said = codes "E10: statement not understood\n"; run = record { state = refl; says = refl }; told = refl; allowed = (tt, (tt, tt)) };
+}
+
+-- a statement that a newline ends, while the next one stands open
+some_text : Served 65536 false (codes "EXEC CTX_DOC") (codes ".POLICY_TOKENS('some text'); \nSELEC;") (world (codes "x")) (world (codes "xsome|0|4\ntext|5|4\n"))
+unfolding encode digits chars
+some_text = record {
+  turns = turn_by (statement (codes "EXEC CTX_DOC.POLICY_TOKENS('some text')")) Step ∷ [];
+  rest = codes "SELEC;";
+  cut = record { statements = codes "EXEC CTX_DOC.POLICY_TOKENS('some text')" ∷ []; cut = (_, refl, (refl, refl)); are = refl };
+  leads = record { said = codes "some|0|4\ntext|5|4\n"; run = record { state = refl; says = refl }; told = refl; allowed = (tt, tt) };
+}
+
+-- the first reply was said, and the front of the second one
+in_part : SaidInPart 4 true (codes "a;\nSELEC;") (world []) (world (codes "E10: statement not understood\nE1"))
+unfolding chars
+in_part = record {
+  turns = turn_by (statement (codes "a")) Step ∷ [];
+  last = turn_by (statement (codes "SELEC")) Step;
+  later = rest_piece [] ∷ [];
+  rest = [];
+  cut = record { statements = codes "a" ∷ codes "SELEC" ∷ []; cut = (_, refl, (_, refl, (refl, refl))); are = refl };
+  allowed = (tt, (tt, tt));
+  state = refl;
+  said = codes "E10: statement not understood\nE1";
+  told = refl;
+  part = record { rest = codes "9: statement too long\n"; is = refl; more = lit< tt };
+  front = record { rest = codes "E1"; is = refl };
+}

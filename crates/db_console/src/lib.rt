@@ -6,6 +6,8 @@ mod responses;
 mod running;
 mod saying;
 mod serving;
+#[cfg(test)]
+mod tests;
 
 pub use running::{SCRIPT_LIMIT, STATEMENT_LIMIT, run};
 pub use st_cut::cut;

@@ -1,4 +1,4 @@
-use Rattle.std.proofs.Common.{◌≡◌, true, sym, ◌∙◌}
+use Rattle.std.proofs.Common.{sym, ◌∙◌}
 use Rattle.db_console.proofs.Texts.{text_given}
 use Rattle.db_console.proofs.responses.text_of.Goals as goal
 

@@ -1,4 +1,3 @@
-use Rattle.std.proofs.Common.{◌≡◌}
 use Rattle.db_console.proofs.TableLaws.{tells_past}
 use Rattle.db_console.proofs.running.run.Goals as goal
 

@@ -1,4 +1,4 @@
-use Rattle.std.proofs.Common.{rules, arith}
+use Rattle.std.proofs.Common.{arith}
 use Rattle.std.proofs.lemmas.Result.{err_from_is_err_and}
 use Rattle.db_console.proofs.ViewLaws.{spoke_none, spoke_more, spoke_whole, spoke_part, within_more}
 use Rattle.db_console.proofs.saying.say_all.Goals as goal

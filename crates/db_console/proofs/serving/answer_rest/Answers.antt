@@ -1,4 +1,3 @@
-use Rattle.std.proofs.Common.{◌≡◌, sym}
 use Rattle.std.proofs.lemmas.Result.{on_ok_weaker}
 use Rattle.db_engine.specs.Runs.{rest_piece}
 use Rattle.db_console.proofs.ViewLaws.{if_err_weaker, answers_said, stops_saying}

@@ -1,4 +1,4 @@
-use Rattle.std.proofs.Common.{◌≡◌, sym, ◌∙◌}
+use Rattle.std.proofs.Common.{sym, ◌∙◌}
 use Rattle.std.proofs.lemmas.Result.{on_ok_weaker}
 use Rattle.db_console.proofs.ViewLaws.{if_err_weaker, finishes_statement, breaks_last, finishes_rest, breaks_rest}
 use Rattle.db_console.proofs.serving.finish.Goals as goal

@@ -1,4 +1,4 @@
-use Rattle.std.proofs.Common.{◌≡◌, ◌≤◌, ◌-◌, [], true, false, Ok, ap, arith}
+use Rattle.std.proofs.Common.{◌≤◌, ◌-◌, false, Ok, ap, arith}
 use Rattle.std.proofs.lemmas.Bool.{false≢true}
 use Rattle.db_console.proofs.TableLaws.{going_start, going_heard, going_on, out_fault, out_broke, out_closed, out_past}
 use Rattle.db_console.proofs.serving.serve.Goals as goal

@@ -1,4 +1,4 @@
-use Rattle.std.proofs.Common.{◌≡◌, ◌∷◌, [], sym, ◌∙◌}
+use Rattle.std.proofs.Common.{◌∷◌, [], sym, ◌∙◌}
 use Rattle.std.proofs.lemmas.Result.{err_from_is_err_and}
 use Rattle.db_console.proofs.ViewLaws.{serves_statement, breaks_statement, serves_push}
 use Rattle.db_console.proofs.serving.serve_byte.Goals as goal

@@ -1,4 +1,3 @@
-use Rattle.std.proofs.Common.{◌≡◌, sym, ◌∙◌}
 use Rattle.std.proofs.lemmas.Result.{err_from_is_err_and}
 use Rattle.db_console.proofs.ViewLaws.{serves_none, serves_more, serves_all, breaks_at}
 use Rattle.db_console.proofs.serving.serve_bytes.Goals as goal

@@ -1,0 +1,11 @@
+use Rattle.std.proofs.Common.{ap, ◌∙◌, List, ℕ}
+use Rattle.ct_keep.specs.Content.{Content, entries_above, first_entry}
+use Rattle.ct_keep.specs.Pairs.{pairs}
+use Rattle.ct_keep.proofs.SortedPairs.{VecEntry, first_pair, entries_above-content_of}
+use Rattle.ct_keep.proofs.sorted_entries.SortedEntries.first_after.Goals as goal
+
+pub returns : goal.returns
+returns c = first_pair c.next.result c.range.result c.next.new.self c.next.ensures.steps
+    ∙ ap (λ (l : List VecEntry). first_entry (pairs l)) (c.range.ensures.between tt)
+    ∙ ap first_entry (entries_above-content_of c.args.key.now c.self.inside.entries.entries c.self.invariant)
+    ∙ ap (λ (m : Content). first_entry (entries_above c.args.key.now.items m)) c.self.view_is

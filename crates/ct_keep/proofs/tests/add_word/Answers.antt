@@ -1,0 +1,22 @@
+use Rattle.std.proofs.Common.{◌≡◌, ℕ, List, [], ◌∷◌, ◌++◌, true, Option, Some, None, refl, subst, arith, rules}
+use Rattle.std.proofs.lemmas.Result.{on_ok_weaker}
+use Rattle.ct_keep.specs.Content.{Word, IsEntry}
+use Rattle.ct_keep.specs.Words.{AreWell}
+use Rattle.ct_keep.proofs.WellWords.{well_more}
+use Rattle.ct_keep.proofs.tests.add_word.Goals as goal
+
+abbrev AllWell : List Word → Type 0
+AllWell ws = AreWell (λ _ _. true) ws
+
+pub returns-in_default : goal.returns-in_default
+returns-in_default c = λ before.
+    let more = well_more (λ _ _. true) c.args.batch.now ((c.in_ok-key.key.items, None) ∷ []) before tt in
+    on_ok_weaker c.remove.result (λ is. rw is more) c.remove.ensures.ok
+
+pub returns : goal.returns
+returns c = λ before.
+    let key = c.in_ok-key.key in
+    let value = c.in_ok-from_elem.field-0 in
+    let entry : IsEntry key.items value.items = record { some = search rules; short = search rules; bounded = search rules } in
+    let more = well_more (λ _ _. true) c.args.batch.now ((key.items, Some value.items) ∷ []) before (entry, refl, tt) in
+    on_ok_weaker c.put.result (λ is. rw is more) c.put.ensures.ok

@@ -1,0 +1,42 @@
+-- What a keeper in memory holds, beside a script and a buffer for what is said.
+use Rattle.std.specs.Prelude.{ℕ, ◌≤◌, List, Some, None, Vec, length, refl}
+use Rattle.std.specs.Vec.{vec_len, vec_capacity}
+use Rattle.std.specs.Coded.{Coded, code_by, coded_ℕ, coded_list, coded×}
+use Rattle.std.specs.declared.alloc.Global.{Global}
+use Rattle.ct_keep.specs.Content.{Content}
+use Rattle.ct_keep.specs.Keeping.{Keeping, Counts}
+use Rattle.ct_keep.specs.Trials.{content_code}
+use Rattle.ct_keep.specs.InMemory.{in_memory}
+
+pub record KeeperState : Type 0 where
+  pub content : Content
+  pub limit : ℕ
+  pub counts : Counts
+  -- what is left of the script
+  pub left : List ℕ
+  pub said : List ℕ
+  -- how many bytes may be said in all
+  pub said_room : ℕ
+  pub say_faults : ℕ
+
+abbrev pub no_counts : Counts
+no_counts = record { texts = 0; rows = 0; rules = 0; fulls = 0 }
+
+abbrev pub mem_keeping : KeeperState → Keeping
+mem_keeping s = in_memory s.content s.limit s.counts (record { left = Some s.left; said = Some s.said; hear_faults = 0; say_faults = s.say_faults }) 0 None
+
+-- The script has been heard up to here, and what may be said has its room.
+pub record IsRoomy (script : List ℕ) (heard : ℕ) (said : Vec ℕ Global) (said_room : ℕ) : Type 0 where
+  pub within : heard ≤ length script
+  pub short : vec_len said ≤ said_room
+  pub room : said_room ≤ vec_capacity said
+
+abbrev pub counts_code : Coded Counts
+counts_code = code_by (ℕ × (ℕ × (ℕ × ℕ))) (coded× coded_ℕ (coded× coded_ℕ (coded× coded_ℕ coded_ℕ))) (λ c. (c.texts, (c.rows, (c.rules, c.fulls)))) (λ p. record { texts = p.0; rows = p.1.0; rules = p.1.1.0; fulls = p.1.1.1 }) (λ _. refl)
+
+abbrev pub keeper_state_code : Coded KeeperState
+keeper_state_code =
+    code_by (Content × (ℕ × (Counts × (List ℕ × (List ℕ × (ℕ × ℕ)))))) (coded× content_code (coded× coded_ℕ (coded× counts_code (coded× (coded_list coded_ℕ) (coded× (coded_list coded_ℕ) (coded× coded_ℕ coded_ℕ))))))
+    (λ s. (s.content, (s.limit, (s.counts, (s.left, (s.said, (s.said_room, s.say_faults)))))))
+    (λ p. record { content = p.0; limit = p.1.0; counts = p.1.1.0; left = p.1.1.1.0; said = p.1.1.1.1.0; said_room = p.1.1.1.1.1.0; say_faults = p.1.1.1.1.1.1 })
+    (λ _. refl)

@@ -1,0 +1,19 @@
+-- The entries of a map in memory, seen as lists of bytes.
+use Rattle.std.specs.Prelude.{ℕ, List, map, Vec}
+use Rattle.std.specs.declared.alloc.Global.{Global}
+use Rattle.std.specs.declared.cmp.Ordering.{Ordering}
+use Rattle.std.specs.Ordering.{nat_cmp}
+use Rattle.std.specs.Cmp.Lexicographic.{slice_cmp}
+use Rattle.std.specs.FinMap.{from_sorted}
+use Rattle.ct_keep.specs.Content.{Content}
+
+-- the order of the keys' bytes
+abbrev pub byte_order : Vec ℕ Global → Vec ℕ Global → Ordering
+byte_order x y = slice_cmp nat_cmp x.items y.items
+
+-- keys and values
+abbrev pub pairs : List (Vec ℕ Global × Vec ℕ Global) → List (List ℕ × List ℕ)
+pairs es = map (λ e. (e.0.items, e.1.items)) es
+
+abbrev pub content_of : List (Vec ℕ Global × Vec ℕ Global) → Content
+content_of es = from_sorted (pairs es)

@@ -1,0 +1,45 @@
+-- A commit that is under way in memory.
+use Rattle.std.specs.Prelude.{◌≡◌, ℕ, List, [], ◌∷◌, map, reverse, Option, Some, None, IsSome, not, refl}
+use Rattle.std.specs.Coded.{Coded, code_by, coded_ℕ, coded_list, coded×}
+use Rattle.std.specs.FinMap.{get, contains_key, retain_keys, code}
+use Rattle.ct_keep.specs.declared.batches.Word as rust
+use Rattle.ct_keep.specs.Spoken.{spoken}
+use Rattle.ct_keep.specs.Content.{Content, Word, set_to, entry_weight, weight}
+
+-- what an entry weighs, if there is one
+abbrev pub weight_of : List ℕ → Option (List ℕ) → ℕ
+weight_of key None = 0
+weight_of key (Some value) = entry_weight (key, value)
+
+-- the entries that stay, where those at some keys are to go
+abbrev pub staying : Content → Content → Content
+staying held gone = retain_keys held (λ key. not (contains_key gone key))
+
+-- what undoes changes, each noted by the word on what stood there: the last of them first
+abbrev pub undoing : List rust.Word → List Word
+undoing notes = reverse (map spoken notes)
+
+-- Each of these words, in turn, puts a value only where there is an entry.
+abbrev pub AreInPlace : List Word → Content → Type 0
+AreInPlace [] m = Unit {0}
+AreInPlace (w ∷ ws) m = (IsSome w.1 → IsSome (get m w.0)) × AreInPlace ws (set_to w.0 w.1 m)
+
+-- a word for each of these entries, that it is to go
+abbrev pub removals : List (List ℕ × List ℕ) → List Word
+removals es = map (λ e. (e.0, None)) es
+
+-- A commit that is under way: the weight of the entries that stay, and that all can be undone without taking memory.
+pub record IsCourse (held gone : Content) (notes : List rust.Word) (total : ℕ) : Type 0 where
+  pub weighs : total ≡ weight (staying held gone)
+  pub in_place : AreInPlace (undoing notes) held
+
+-- What a commit that is under way goes back to, and what its words have made so far.
+pub record Course : Type 0 where
+  pub before : Content
+  pub seen : Content
+
+abbrev pub content_code : Coded Content
+content_code = code (coded_list coded_ℕ) (coded_list coded_ℕ)
+
+abbrev pub course_code : Coded Course
+course_code = code_by (Content × Content) (coded× content_code content_code) (λ c. (c.before, c.seen)) (λ p. record { before = p.0; seen = p.1 }) (λ _. refl)

@@ -1,0 +1,94 @@
+//! What the keepers in memory have in common.
+
+ghost use Rattle.std.specs.Prelude.{◌≡◌, Some, None, Err, IfOk};
+ghost use Rattle.std.specs.Option.{option_map};
+ghost use Rattle.std.specs.FinMap.{get, empty};
+ghost use Rattle.ct_keep.specs.Content.{after, entries_above, first_entry};
+ghost use Rattle.ct_keep.specs.Handed.{handed};
+ghost use Rattle.ct_keep.specs.Keeping.{Came, Answers, fault_of, looked_up, committed};
+ghost use Rattle.ct_keep.specs.InMemory.{NotDisk};
+
+use crate::batches::Batch;
+use crate::entry_maps::EntryMap;
+use crate::keepers::KeepFault;
+use crate::tallies::Tally;
+use std::alloc::Global;
+
+/// A content in memory, how much it may weigh, and the counts of its look-ups.
+#[derive(Drop)]
+pub(crate) struct Holding {
+    pub(crate) content: EntryMap,
+    pub(crate) limit: u64,
+    pub(crate) counts: Tally,
+}
+
+/// The key of an entry, if there is one.
+fn key_of(entry: &Option<(Vec<u8>, Vec<u8>)>) -> Option<&[u8]>
+    ensures { option_map (λ k. k.now) result ≡ option_map (λ e. e.0.items) entry.now }
+{
+    match entry {
+        Some((key, _)) => Some(key),
+        None => None,
+    }
+}
+
+impl Holding {
+    /// An empty content.
+    pub(crate) fn new(alloc: Global, limit: u64) -> Holding
+        ensures { result ≡ record { content = empty; limit = limit; counts = record { texts = 0; rows = 0; rules = 0; fulls = 0 } } }
+    {
+        Holding {
+            content: EntryMap::new(alloc),
+            limit,
+            counts: Tally::new(),
+        }
+    }
+
+    /// The value of a key.
+    pub(crate) fn fetch(&mut self, alloc: Global, key: &[u8]) -> Result<Option<Vec<u8>>, KeepFault>
+        ensures value { IfOk result (λ found. option_map (λ v. v.items) found ≡ get self.old.content key.now) }
+        ensures counts { self.new ≡ record self.old { counts = looked_up key.now None self.old.counts } }
+        ensures never_full { result ≡ Err KeepFault.Full → ⊥ }
+        ensures not_disk { NotDisk (fault_of result) }
+    {
+        self.counts.look_up(key, None);
+        let Ok(found) = self.content.fetch(alloc, key) else {
+            return Err(KeepFault::Memory);
+        };
+        Ok(found)
+    }
+
+    /// The entry with the least key that is greater.
+    pub(crate) fn next_after(
+        &mut self,
+        alloc: Global,
+        key: &[u8],
+    ) -> Result<Option<(Vec<u8>, Vec<u8>)>, KeepFault>
+        ensures entry { IfOk result (λ found. option_map (λ e. (e.0.items, e.1.items)) found ≡ first_entry (entries_above key.now self.old.content)) }
+        ensures counts { self.new ≡ record self.old { counts = looked_up key.now (handed result) self.old.counts } }
+        ensures never_full { result ≡ Err KeepFault.Full → ⊥ }
+        ensures not_disk { NotDisk (fault_of result) }
+    {
+        let Ok(found) = self.content.next_after(alloc, key) else {
+            self.counts.look_up(key, None);
+            return Err(KeepFault::Memory);
+        };
+        self.counts.look_up(key, key_of(&found));
+        Ok(found)
+    }
+
+    /// Does what the batch says, all of it or none.
+    pub(crate) fn commit(&mut self, alloc: Global, batch: Batch) -> Result<(), KeepFault>
+        ensures content { Came (fault_of result) self.old.content (after batch self.old.content) (Some self.new.content) }
+        ensures limit { self.new.limit ≡ self.old.limit }
+        ensures counts { self.new.counts ≡ committed (fault_of result) self.old.counts }
+        ensures answers { Answers (fault_of result) self.old.limit self.old.content (after batch self.old.content) }
+        ensures not_disk { NotDisk (fault_of result) }
+    {
+        let done = self.content.commit(alloc, batch.into_words(), self.limit);
+        if let Err(KeepFault::Full) = done {
+            self.counts.refuse();
+        }
+        done
+    }
+}

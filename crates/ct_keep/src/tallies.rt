@@ -1,0 +1,92 @@
+//! The counts that every keeper keeps.
+
+ghost use Rattle.std.specs.Prelude.{◌≡◌, Some};
+ghost use Rattle.std.specs.Option.{option_map};
+ghost use Rattle.ct_keep.specs.Keeping.{counted, is_kind, is_either, looked_up, committed};
+ghost use Rattle.ct_keep.specs.declared.keepers.KeepFault.TheVariants.{Full};
+
+use std::marker::Model;
+
+/// The kinds of entries whose look-ups are counted: the first byte of their keys.
+const TEXT: u8 = 0x03;
+
+const TOKEN_ROW: u8 = 0x24;
+
+const SECTION_ROW: u8 = 0x25;
+
+const RULE: u8 = 0x2a;
+
+/// How often entries of some kinds were asked for or handed out, and how often a commit was refused for want of room.
+/// Each count stands still at its type's end.
+#[derive(Debug, Drop)]
+pub(crate) struct Tally {
+    texts: u64,
+    rows: u64,
+    rules: u64,
+    fulls: u64,
+}
+
+impl Model for Tally {
+    ghost use Rattle.ct_keep.specs.Keeping.{Counts};
+
+    ghost Value = { Counts };
+
+    ghost view = { λ t. record { texts = t.texts; rows = t.rows; rules = t.rules; fulls = t.fulls } };
+}
+
+/// Whether the key is one of this kind.
+fn is_kind(kind: u8, key: &[u8]) -> bool
+    ensures { result ≡ is_kind kind key.now }
+{
+    match key {
+        [] => false,
+        [first, ..] => *first == kind,
+    }
+}
+
+/// Whether an entry of this kind was asked for or handed out.
+fn is_either(kind: u8, asked: &[u8], handed: Option<&[u8]>) -> bool
+    ensures { result ≡ is_either kind asked.now (option_map (λ k. k.now) handed.entry) }
+{
+    match handed {
+        Some(key) => is_kind(kind, asked) || is_kind(kind, key),
+        None => is_kind(kind, asked),
+    }
+}
+
+/// One more, where it is counted.
+fn counted(here: bool, count: u64) -> u64
+    ensures { result ≡ counted here count }
+{
+    if here { count.saturating_add(1) } else { count }
+}
+
+impl Tally {
+    pub(crate) fn new() -> Tally
+        ensures { result ≡ record { texts = 0; rows = 0; rules = 0; fulls = 0 } }
+    {
+        Tally {
+            texts: 0,
+            rows: 0,
+            rules: 0,
+            fulls: 0,
+        }
+    }
+
+    /// Counts a look-up that asked for a key, and handed out the entry of another, if it did.
+    pub(crate) fn look_up(&mut self, asked: &[u8], handed: Option<&[u8]>)
+        ensures { self.new ≡ looked_up asked.now (option_map (λ k. k.now) handed.entry) self.old }
+    {
+        let row = is_either(TOKEN_ROW, asked, handed) || is_either(SECTION_ROW, asked, handed);
+        self.texts = counted(is_either(TEXT, asked, handed), self.texts);
+        self.rows = counted(row, self.rows);
+        self.rules = counted(is_either(RULE, asked, handed), self.rules);
+    }
+
+    /// Counts a commit that was refused for want of room.
+    pub(crate) fn refuse(&mut self)
+        ensures { self.new ≡ committed (Some Full) self.old }
+    {
+        self.fulls = counted(true, self.fulls);
+    }
+}

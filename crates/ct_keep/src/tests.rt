@@ -1,0 +1,349 @@
+//! The keepers in memory over tables of calls.
+
+ghost use Rattle.std.specs.Prelude.{◌≡◌, ◌<◌, true, IfOk, OnOk, length};
+ghost use Rattle.ct_base.specs.Told.{behind, took};
+ghost use Rattle.ct_keep.specs.Words.{AreWell};
+ghost use Rattle.ct_keep.specs.InMemory.{TakesAll};
+
+use crate::entry_maps::EntryMap;
+use crate::{Batch, KeepFault, Keeper, MemKeeper, SiteMap};
+use ct_base::Memory;
+use ct_site::{Failed, Faults, MemSite, Rooms, Site};
+use std::alloc::Global;
+use std::test::Fail;
+
+/// A word: a key, and how long its value is to be, or None where the entry is to go.
+type Word = (&'static str, Option<usize>);
+
+/// A call of a keeper.
+#[derive(Clone, Copy)]
+enum Call {
+    Fetch(&'static str),
+    Next(&'static str),
+    Commit(&'static [Word]),
+    Hear(usize),
+    Say(&'static str),
+}
+
+fn bytes_of(alloc: Global, bytes: &[u8]) -> Result<Vec<u8>, Memory> {
+    Ok(Vec::from_slice(alloc, bytes)?)
+}
+
+fn count_text(alloc: Global, count: usize) -> Result<Vec<u8>, Memory> {
+    let text = format!(in alloc; "{count}")?;
+    bytes_of(alloc, text.as_bytes())
+}
+
+/// Adds a word, unless its entry has no key or one that is too long, or too long a value.
+fn add_word(alloc: Global, batch: &mut Batch, word: Word) -> Result<(), Memory>
+    ensures { AreWell (λ _ _. true) batch.old → OnOk result (AreWell (λ _ _. true) batch.new) }
+{
+    let (key, length) = word;
+    let key = Vec::from_slice(alloc, key.as_bytes())?;
+    let Some(length) = length else {
+        return batch.remove(key);
+    };
+    if key.is_empty() || key.len() > 600 || length > 1000 {
+        return Ok(());
+    }
+    batch.put(key, Vec::from_elem(alloc, b'v', length)?)
+}
+
+fn batch_of(alloc: Global, words: &[Word]) -> Result<Batch, Memory>
+    ensures { IfOk result (AreWell (λ _ _. true)) }
+{
+    let mut batch = Batch::new(alloc);
+    for word in words {
+        add_word(alloc, &mut batch, *word)?;
+    }
+    Ok(batch)
+}
+
+/// How long the value of a key is.
+fn fetched<K: Keeper>(alloc: Global, keeper: &mut K, key: &str) -> Result<Vec<u8>, KeepFault>
+    requires { TakesAll (K.keeping keeper.old) }
+    ensures { OnOk result (TakesAll (K.keeping keeper.new)) }
+{
+    match keeper.fetch(alloc, key.as_bytes())? {
+        Some(value) => Ok(count_text(alloc, value.len())?),
+        None => Ok(bytes_of(alloc, b"-")?),
+    }
+}
+
+/// The next key.
+fn next_key<K: Keeper>(alloc: Global, keeper: &mut K, key: &str) -> Result<Vec<u8>, KeepFault>
+    requires { TakesAll (K.keeping keeper.old) }
+    ensures { OnOk result (TakesAll (K.keeping keeper.new)) }
+{
+    match keeper.next_after(alloc, key.as_bytes())? {
+        Some((key, _)) => Ok(key),
+        None => Ok(bytes_of(alloc, b"-")?),
+    }
+}
+
+fn committed<K: Keeper>(alloc: Global, keeper: &mut K, words: &[Word]) -> Result<Vec<u8>, KeepFault>
+    requires { TakesAll (K.keeping keeper.old) }
+    ensures takes { OnOk result (TakesAll (K.keeping keeper.new)) }
+    ensures beside { (K.keeping keeper.new).beside ≡ (K.keeping keeper.old).beside }
+    ensures lender { (K.keeping keeper.new).lender ≡ (K.keeping keeper.old).lender }
+{
+    let batch = batch_of(alloc, words)?;
+    match keeper.commit(alloc, batch) {
+        Ok(()) => Ok(bytes_of(alloc, b".")?),
+        Err(KeepFault::Full) => Ok(bytes_of(alloc, b"full")?),
+        Err(fault) => Err(fault),
+    }
+}
+
+fn heard<K: Keeper>(alloc: Global, keeper: &mut K, count: usize) -> Result<Vec<u8>, KeepFault>
+    requires { TakesAll (K.keeping keeper.old) }
+    ensures { OnOk result (TakesAll (K.keeping keeper.new)) }
+{
+    let mut bytes = zeros(alloc, count)?;
+    if count == 0 {
+        return Ok(bytes);
+    }
+    match keeper.hear(&mut bytes) {
+        Ok(count) => {
+            bytes.truncate(count);
+            Ok(bytes)
+        }
+        Err(Failed) => Ok(bytes_of(alloc, b"-")?),
+    }
+}
+
+fn zeros(alloc: Global, count: usize) -> Result<Vec<u8>, Memory>
+    ensures { IfOk result (λ bytes. length bytes.items ≡ count) }
+{
+    Ok(Vec::from_elem(alloc, 0u8, count)?)
+}
+
+fn said<K: Keeper>(alloc: Global, keeper: &mut K, text: &str) -> Result<Vec<u8>, KeepFault>
+    requires { TakesAll (K.keeping keeper.old) }
+    ensures { OnOk result (TakesAll (K.keeping keeper.new)) }
+{
+    if text.is_empty() {
+        return Ok(Vec::new(alloc));
+    }
+    match keeper.say(text.as_bytes()) {
+        Ok(count) => Ok(count_text(alloc, count)?),
+        Err(Failed) => Ok(bytes_of(alloc, b"-")?),
+    }
+}
+
+fn answer<K: Keeper>(alloc: Global, keeper: &mut K, call: Call) -> Result<Vec<u8>, KeepFault>
+    requires { TakesAll (K.keeping keeper.old) }
+    ensures { OnOk result (TakesAll (K.keeping keeper.new)) }
+{
+    match call {
+        Call::Fetch(key) => fetched(alloc, keeper, key),
+        Call::Next(key) => next_key(alloc, keeper, key),
+        Call::Commit(words) => committed(alloc, keeper, words),
+        Call::Hear(count) => heard(alloc, keeper, count),
+        Call::Say(text) => said(alloc, keeper, text),
+    }
+}
+
+/// The answers, with a blank behind each.
+fn answers<K: Keeper>(alloc: Global, keeper: &mut K, calls: &[Call]) -> Result<Vec<u8>, KeepFault>
+    requires { TakesAll (K.keeping keeper.old) }
+{
+    let mut all = Vec::new(alloc);
+    for call in calls {
+        let answer = answer(alloc, keeper, *call)?;
+        append(&mut all, &answer)?;
+        append(&mut all, b" ")?;
+    }
+    Ok(all)
+}
+
+fn append(all: &mut Vec<u8>, bytes: &[u8]) -> Result<(), Memory> {
+    Ok(all.extend_from_slice(bytes)?)
+}
+
+const SCRIPT: &[u8] = b"abcdefg";
+
+const SAID_ROOM: usize = 5;
+
+/// What comes of the calls over a keeper with this limit that begins with `SCRIPT` and may say `SAID_ROOM` bytes: the answers, then what was said.
+struct Row {
+    limit: u64,
+    calls: &'static [Call],
+    answers: &'static str,
+    said: &'static str,
+}
+
+const ROWS: &[Row] = &[
+    // two entries of at most 64 bytes, and no third
+    Row {
+        limit: 128,
+        calls: &[
+            Call::Fetch("a"),
+            Call::Next(""),
+            Call::Commit(&[("a", Some(63)), ("b", Some(0))]),
+            Call::Commit(&[("c", Some(1))]),
+            Call::Fetch("c"),
+            Call::Fetch("a"),
+            Call::Fetch("b"),
+            Call::Next("b"),
+        ],
+        answers: "- - . full - 63 0 - ",
+        said: "",
+    },
+    // a value that is replaced by a heavier one, within the limit and past it
+    Row {
+        limit: 128,
+        calls: &[
+            Call::Commit(&[("a", Some(3))]),
+            Call::Commit(&[("a", Some(127))]),
+            Call::Commit(&[("a", Some(128))]),
+            Call::Fetch("a"),
+        ],
+        answers: ". . full 127 ",
+        said: "",
+    },
+    // the last word on a key counts
+    Row {
+        limit: 128,
+        calls: &[
+            Call::Commit(&[
+                ("a", Some(1000)),
+                ("b", Some(3)),
+                ("a", Some(2)),
+                ("b", None),
+            ]),
+            Call::Fetch("a"),
+            Call::Fetch("b"),
+            Call::Commit(&[("a", None), ("c", Some(4)), ("a", Some(7))]),
+            Call::Fetch("a"),
+            Call::Commit(&[("d", Some(1)), ("a", Some(9)), ("c", None), ("c", Some(5))]),
+            Call::Fetch("a"),
+            Call::Fetch("c"),
+            Call::Commit(&[("a", None), ("c", None), ("e", None)]),
+            Call::Next(""),
+        ],
+        answers: ". 2 - . 7 full 7 4 . - ",
+        said: "",
+    },
+    // the next of three keys
+    Row {
+        limit: 192,
+        calls: &[
+            Call::Commit(&[("ab", Some(1)), ("b", Some(1)), ("a", Some(1))]),
+            Call::Next(""),
+            Call::Next("a"),
+            Call::Next("aa"),
+            Call::Next("ab"),
+            Call::Next("b"),
+        ],
+        answers: ". a ab ab b - ",
+        said: "",
+    },
+    // a script in pieces, and what is said up to its room
+    Row {
+        limit: 0,
+        calls: &[
+            Call::Hear(3),
+            Call::Say("one"),
+            Call::Hear(3),
+            Call::Say("two"),
+            Call::Say("to"),
+            Call::Hear(3),
+            Call::Say("x"),
+            Call::Hear(3),
+            Call::Commit(&[("a", Some(1))]),
+            Call::Commit(&[]),
+        ],
+        answers: "abc 3 def - 2 g -  full . ",
+        said: "oneto",
+    },
+];
+
+#[test]
+fn a_keeper_in_memory(rt: HostRuntime) -> Result<(), Fail> {
+    let alloc = rt.alloc();
+    for row in ROWS {
+        let script = bytes_of(alloc, SCRIPT)?;
+        let mut keeper = MemKeeper::new(alloc, script, row.limit, SAID_ROOM)?;
+        let answers = answers(alloc, &mut keeper, row.calls)?;
+        assert_eq!(rt; answers.as_slice(), row.answers.as_bytes());
+        assert_eq!(rt; keeper.said(), row.said.as_bytes());
+    }
+    Ok(())
+}
+
+/// The answers of a keeper over the site.
+fn over_site<S: Site>(alloc: Global, site: &mut S, row: &Row) -> Result<Vec<u8>, KeepFault> {
+    let mut keeper = SiteMap::over(alloc, site, row.limit);
+    let answers = answers(alloc, &mut keeper, row.calls);
+    let _site = keeper.finish();
+    answers
+}
+
+#[test]
+fn a_keeper_in_memory_over_a_site(rt: HostRuntime) -> Result<(), Fail> {
+    let alloc = rt.alloc();
+    let rooms = Rooms {
+        image: 0,
+        said: SAID_ROOM,
+        calls: 100,
+        written: 0,
+    };
+    for row in ROWS {
+        let script = bytes_of(alloc, SCRIPT)?;
+        let mut site = MemSite::new(alloc, script, Vec::new(alloc), Faults::none(alloc), rooms)?;
+        let answers = over_site(alloc, &mut site, row)?;
+        assert_eq!(rt; answers.as_slice(), row.answers.as_bytes());
+        assert_eq!(rt; site.said(), row.said.as_bytes());
+    }
+    Ok(())
+}
+
+/// Commits an entry and says some bytes, as a call that takes any keeper does.
+fn use_keeper<K: Keeper>(alloc: Global, keeper: &mut K, bytes: &[u8]) -> Result<usize, Failed>
+    requires takes { TakesAll (K.keeping keeper.old) }
+    requires some { 0 < length bytes.now }
+    ensures said { (K.keeping keeper.new).beside.said ≡ behind (K.keeping keeper.old).beside.said (took result bytes.now) }
+    ensures left { (K.keeping keeper.new).beside.left ≡ (K.keeping keeper.old).beside.left }
+    ensures lender { (K.keeping keeper.new).lender ≡ (K.keeping keeper.old).lender }
+{
+    if committed(alloc, keeper, &[("a", Some(1))]).is_err() {
+        return Err(Failed);
+    }
+    keeper.say(bytes)
+}
+
+/// What is said over a keeper in memory is said by its site.
+fn say_over<S: Site>(alloc: Global, site: &mut S, bytes: &[u8]) -> Result<usize, Failed>
+    requires { 0 < length bytes.now }
+    ensures said { (S.disk site.new).beside.said ≡ behind (S.disk site.old).beside.said (took result bytes.now) }
+    ensures left { (S.disk site.new).beside.left ≡ (S.disk site.old).beside.left }
+{
+    let mut keeper = SiteMap::over(alloc, site, 128);
+    let said = use_keeper(alloc, &mut keeper, bytes);
+    let _site = keeper.finish();
+    said
+}
+
+/// A content that weighs more than a limit may become lighter under it, and no heavier.
+#[test]
+fn a_content_over_its_limit_may_shrink(rt: HostRuntime) -> Result<(), Fail> {
+    let alloc = rt.alloc();
+    let mut map = EntryMap::new(alloc);
+    let words = batch_of(alloc, &[("a", Some(500)), ("b", Some(99))])?;
+    map.commit(alloc, words.into_words(), 1000)?;
+    let heavier = batch_of(alloc, &[("a", Some(501))])?;
+    assert_eq!(rt;
+        map.commit(alloc, heavier.into_words(), 128),
+        Err(KeepFault::Full)
+    );
+    let as_heavy = batch_of(alloc, &[("a", Some(501)), ("b", Some(98))])?;
+    map.commit(alloc, as_heavy.into_words(), 128)?;
+    let lighter = batch_of(alloc, &[("a", Some(400)), ("c", Some(3)), ("b", None)])?;
+    map.commit(alloc, lighter.into_words(), 128)?;
+    let Some(value) = map.fetch(alloc, b"a")? else {
+        return Err(Fail::from(Memory));
+    };
+    assert_eq!(rt; value.len(), 400);
+    Ok(())
+}

@@ -1,0 +1,153 @@
+//! A commit in memory that is under way.
+
+ghost use Rattle.std.specs.Prelude.{◌≡◌, ◌+◌, ◌*◌, ◌^◌, ◌<◌, ◌≤◌, OnOk, map, length};
+ghost use Rattle.std.specs.Option.{option_map};
+ghost use Rattle.std.specs.FinMap.{get, insert, remove};
+ghost use Rattle.ct_keep.specs.Spoken.{spoken};
+ghost use Rattle.ct_keep.specs.Content.{set_to, after, entry_weight, weight};
+ghost use Rattle.ct_keep.specs.Trials.{weight_of};
+
+use crate::batches::Word;
+use crate::sorted_entries::SortedEntries;
+use ct_base::Memory;
+use std::alloc::Global;
+use std::marker::Model;
+
+/// What an entry weighs: its bytes, and at least 64.
+pub(crate) fn entry_weight(key: &[u8], value: &[u8]) -> u64
+    ensures { result ≡ entry_weight (key.now, value.now) }
+{
+    (key.len() as u64 + value.len() as u64).max(64)
+}
+
+/// Entries that change word by word, and that can go back to what they were without taking memory.
+/// So an entry that is to go stays among them until the end.
+#[derive(Drop)]
+pub(crate) struct Trial {
+    held: SortedEntries,
+    /// The keys of the entries that are to go.
+    gone: SortedEntries,
+    /// For each change of `held`, the word on what stood there before.
+    notes: Vec<Word>,
+    /// The weight of the entries without those that are to go.
+    total: u128,
+}
+
+impl Model for Trial {
+    ghost use Rattle.ct_keep.specs.Content.{after};
+    ghost use Rattle.ct_keep.specs.Trials.{Course, course_code, staying, undoing, IsCourse};
+
+    ghost Value = { Course };
+
+    ghost coded = { course_code };
+
+    ghost view = { λ t. record { before = after (undoing t.notes.items) t.held; seen = staying t.held t.gone } };
+
+    ghost invariant = { λ t. IsCourse t.held t.gone t.notes.items t.total };
+}
+
+impl Trial {
+    pub(crate) fn begin(alloc: Global, held: SortedEntries, total: u64) -> Trial
+        requires { total ≡ weight held }
+        ensures before { result.before ≡ held }
+        ensures seen { result.seen ≡ held }
+    {
+        Trial {
+            held,
+            gone: SortedEntries::new(alloc),
+            notes: Vec::new(alloc),
+            total: total as u128,
+        }
+    }
+
+    /// What the entry at a key weighs, if there is one that stays.
+    fn weight_at(&self, key: &[u8]) -> u64
+        ensures { result ≡ weight_of key.now (get self.now.seen key.now) }
+    {
+        if self.gone.value_at(key).is_some() {
+            return 0;
+        }
+        match self.held.value_at(key) {
+            Some(value) => entry_weight(key, value),
+            None => 0,
+        }
+    }
+
+    fn put(&mut self, alloc: Global, key: Vec<u8>, value: Vec<u8>) -> Result<(), Memory>
+        requires { weight self.old.seen < 2 ^ 127 }
+        ensures before { self.new.before ≡ self.old.before }
+        ensures seen { OnOk result (self.new.seen ≡ insert self.old.seen key.items value.items) }
+        ensures heavier { OnOk result (weight self.new.seen ≤ weight self.old.seen + 2 ^ 64) }
+    {
+        let copy = Vec::from_slice(alloc, &key)?;
+        self.notes.reserve(1)?;
+        let less = self.weight_at(&key);
+        let more = entry_weight(&key, &value);
+        let value = self.held.put(key, value)?;
+        let _ = self.gone.take(&copy);
+        self.notes.push_reserved(Word { key: copy, value });
+        self.total = self.total - less as u128 + more as u128;
+        Ok(())
+    }
+
+    fn remove(&mut self, alloc: Global, key: Vec<u8>) -> Result<(), Memory>
+        ensures before { self.new.before ≡ self.old.before }
+        ensures seen { OnOk result (self.new.seen ≡ remove self.old.seen key.items) }
+        ensures heavier { OnOk result (weight self.new.seen ≤ weight self.old.seen + 2 ^ 64) }
+    {
+        let less = self.weight_at(&key);
+        self.gone.put(key, Vec::new(alloc))?;
+        self.total -= less as u128;
+        Ok(())
+    }
+
+    fn do_word(&mut self, alloc: Global, word: Word) -> Result<(), Memory>
+        requires { weight self.old.seen < 2 ^ 127 }
+        ensures before { self.new.before ≡ self.old.before }
+        ensures seen { OnOk result (self.new.seen ≡ set_to word.key.items (option_map (λ v. v.items) word.value) self.old.seen) }
+        ensures heavier { OnOk result (weight self.new.seen ≤ weight self.old.seen + 2 ^ 64) }
+    {
+        let Word { key, value } = word;
+        match value {
+            Some(value) => self.put(alloc, key, value),
+            None => self.remove(alloc, key),
+        }
+    }
+
+    /// Does some words, the first of them first. Where memory is wanting, some of them may have been done.
+    pub(crate) fn do_words(&mut self, alloc: Global, words: Vec<Word>) -> Result<(), Memory>
+        requires { weight self.old.seen < 2 ^ 64 }
+        ensures before { self.new.before ≡ self.old.before }
+        ensures seen { OnOk result (self.new.seen ≡ after (map spoken words.items) self.old.seen) }
+    {
+        for word in words {
+            self.do_word(alloc, word)?;
+        }
+        Ok(())
+    }
+
+    /// The weight of what the words have made so far.
+    pub(crate) fn weight(&self) -> u128
+        ensures { result ≡ weight self.now.seen }
+    {
+        self.total
+    }
+
+    /// The entries as they were before the words. It needs no memory.
+    pub(crate) fn roll_back(self) -> SortedEntries
+        ensures { result ≡ self.before }
+    {
+        let mut held = self.held;
+        held.undo(self.notes);
+        held
+    }
+
+    /// The entries that the words have made. It needs no memory.
+    pub(crate) fn finish(self) -> SortedEntries
+        ensures { result ≡ self.seen }
+    {
+        let mut held = self.held;
+        held.take_all(self.gone);
+        held
+    }
+}
