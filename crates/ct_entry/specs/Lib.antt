@@ -13,3 +13,6 @@ pub mod Rising
 pub mod Listings
 pub mod ListingLaws
 pub mod RowLaws
+pub mod OwnerLaws
+pub mod DocumentLaws
+pub mod MapWords

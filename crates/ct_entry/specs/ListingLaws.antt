@@ -1,7 +1,8 @@
 -- What a scan finds: the entries that a finite map has, in its order.
 use Rattle.std.proofs.Common.{◌≡◌, ℕ, Bool, true, false, cond, List, [], ◌∷◌, ◌++◌, Option, Some, None, refl, sym, ap, subst, ◌∙◌}
 use Rattle.std.specs.Prelude.{T, IsSome, is_some}
-use Rattle.std.specs.Option.{option_and_then}
+use Rattle.std.specs.Option.{option_map, option_and_then}
+use Rattle.std.specs.List.{cons_option}
 use Rattle.std.specs.declared.cmp.Ordering.{Ordering}
 use Rattle.std.specs.Ordering.{nat_cmp, is_lt, is_eq, eq_by_cmp}
 use Rattle.std.specs.Cmp.{IsTotalOrder}
@@ -17,13 +18,16 @@ use Rattle.ct_entry.specs.declared.kinds.Kind.{Kind}
 use Rattle.ct_entry.specs.Keys.{Key, key, bytes, prefix_of, at, IsPart, HasKeysOnly}
 use Rattle.ct_entry.specs.KeyLaws.{is_eq_Equal, key_from_bytes}
 use Rattle.ct_entry.specs.Rising.{below, rises, sorted_from_rises, entries_rise, none_below, below_tied, AllKeys, all_keys}
-use Rattle.ct_entry.specs.Listings.{listed_at, listed}
+use Rattle.ct_entry.specs.Listings.{listed}
 
 -- Keys in an order, each with a rest that isn't empty, such that the rests of those that have P are in the same order.
 pub record Spells {K : Type 0} (R : K → K → Ordering) (part : K → List ℕ) (P : K → Type 0) : Type 0 where
   pub total : IsTotalOrder R
   pub order : (a b : K) → P a → P b → slice_cmp nat_cmp (part a) (part b) ≡ R a b
   pub some : (a : K) → part a ≡ [] → ⊥
+
+abbrev listed_at : {K : Type 0} → (K → List ℕ) → K → Option (List ℕ) → List (List ℕ × List ℕ) → List (List ℕ × List ℕ)
+listed_at part k o rest = cons_option (option_map (λ v. (part k, v)) o) rest
 
 not_both : (o : Option (List ℕ)) → is_some o ≡ true → o ≡ None → ⊥
 not_both None h e = cc

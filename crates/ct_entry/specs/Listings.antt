@@ -1,36 +1,31 @@
 -- What scans list: the entries of a finite map, behind a prefix, in the order of its keys.
-use Rattle.std.specs.Prelude.{ℕ, ℤ, pos, negsuc, ◌-◌, ◌^◌, ◌≡◌, ◌==◌, nat_lt, List, [], ◌∷◌, length, Option, Some, None, codes, refl}
+use Rattle.std.specs.Prelude.{ℕ, ℤ, pos, negsuc, ◌-◌, ◌^◌, ◌≡◌, ◌==◌, nat_lt, List, [], ◌∷◌, length, filter, Option, Some, None, codes, refl}
 use Rattle.std.specs.Bool.{if◌then◌else◌}
 use Rattle.std.specs.Int.{from_be_bytes, w64}
-use Rattle.std.specs.Ordering.{nat_cmp}
+use Rattle.std.specs.List.{filter_map}
+use Rattle.std.specs.Option.{option_map, option_and_then}
+use Rattle.std.specs.Ordering.{nat_cmp, int_cmp, is_lt}
 use Rattle.std.specs.declared.cmp.Ordering.{Ordering}
+use Rattle.std.specs.declared.cmp.Ordering.TheVariants.{Less}
 use Rattle.std.specs.Cmp.Lexicographic.{slice_cmp}
 use Rattle.std.specs.FinMap.{entries}
 use Rattle.ct_bytes.specs.RowKeys.{row_bytes}
-use Rattle.ct_keep.specs.Content.{Content}
+use Rattle.ct_base.specs.Names.{kept_name}
+use Rattle.ct_keep.specs.Content.{Content, entries_above, first_entry}
 use Rattle.ct_keep.specs.Tail.{tail}
 use Rattle.ct_entry.specs.declared.kinds.Kind.{Kind}
-use Rattle.ct_entry.specs.Keys.{counted_bytes, prefix_of}
+use Rattle.ct_entry.specs.Kinds.{code}
+use Rattle.ct_entry.specs.Keys.{counted_bytes, prefix_of, row_part}
 
--- ---- as a scan finds them
-
-abbrev pub listed_at : {K : Type 0} → (K → List ℕ) → K → Option (List ℕ) → List (List ℕ × List ℕ) → List (List ℕ × List ℕ)
-listed_at part k None rest = rest
-listed_at part k (Some v) rest = (part k, v) ∷ rest
+-- ---- the entries of a map
 
 -- the entries that have a value by g, in the same order, each under the rest that its key spells
 abbrev pub listed : {K X : Type 0} → (K → List ℕ) → (X → Option (List ℕ)) → List (K × X) → List (List ℕ × List ℕ)
-listed part g [] = []
-listed part g (e ∷ es) = listed_at part e.0 (g e.1) (listed part g es)
-
-abbrev pub kept_at : {K : Type 0} → K → Option (List ℕ) → List K → List K
-kept_at k None rest = rest
-kept_at k (Some v) rest = k ∷ rest
+listed part g es = filter_map (λ e. option_map (λ v. (part e.0, v)) (g e.1)) es
 
 -- the keys that have a value by g, in order
 abbrev pub keys_where : {K X : Type 0} → (X → Option (List ℕ)) → List (K × X) → List K
-keys_where g [] = []
-keys_where g (e ∷ es) = kept_at e.0 (g e.1) (keys_where g es)
+keys_where g es = filter_map (λ e. option_map (λ _. e.0) (g e.1)) es
 
 -- ---- row keys
 
@@ -42,22 +37,48 @@ lowered n = if nat_lt n (2 ^ 63) then negsuc (2 ^ 63 - 1 - n) else pos (n - 2 ^ 
 abbrev pub row_of : List ℕ → Option ℤ
 row_of bytes = if length bytes == 8 then Some (lowered (from_be_bytes w64 bytes)) else None
 
-abbrev pub with_row : Option ℤ → List ℤ → List ℤ
-with_row None rows = rows
-with_row (Some r) rows = r ∷ rows
-
 -- the row keys among the rests of entries, in their order
 abbrev pub rows_of : List (List ℕ × List ℕ) → List ℤ
-rows_of [] = []
-rows_of (e ∷ es) = with_row (row_of e.0) (rows_of es)
+rows_of es = filter_map (λ e. row_of e.0) es
 
 -- the row keys of an owner's entries of a kind, in order
 abbrev pub rows_under : Kind → List ℕ → Content → List ℤ
 rows_under kind owner m = rows_of (entries (tail (prefix_of kind owner) m))
 
+-- the first of a list, if there is one
+abbrev pub first_of : {X : Type 0} → List X → Option X
+first_of [] = None
+first_of (x ∷ xs) = Some x
+
+-- the rest behind which a search begins: that of a row, or none
+abbrev pub place_after : Option ℤ → List ℕ
+place_after None = []
+place_after (Some r) = row_part r
+
+-- the row key of the first of an owner's entries of a kind behind that of a row, or of the first of all; none where that entry's rest hasn't 8 bytes
+abbrev pub row_after : Option ℤ → Kind → List ℕ → Content → Option ℤ
+row_after after kind owner m = option_and_then (λ e. row_of e.0) (first_entry (entries_above (place_after after) (tail (prefix_of kind owner) m)))
+
+-- those above a row key, or all
+abbrev pub rows_above : Option ℤ → List ℤ → List ℤ
+rows_above None rows = rows
+rows_above (Some r) rows = filter (λ s. is_lt (int_cmp r s)) rows
+
 -- ---- owners
 
--- the order in which a scan finds names: the shorter first, and those of a length by their bytes
+-- the name that a rest spells: its length in one byte, and its bytes; none where it doesn't
+abbrev pub owner_of : List ℕ → Option (List ℕ)
+owner_of [] = None
+owner_of (n ∷ name) = if length name == n then kept_name name else None
+
+-- the owners of a kind whose keys have no rest, the shorter first, and those of a length in the order of their bytes
+abbrev pub owners_of : List (List ℕ × List ℕ) → List (List ℕ)
+owners_of es = filter_map (λ e. owner_of e.0) es
+
+abbrev pub owners_under : Kind → Content → List (List ℕ)
+owners_under kind m = owners_of (entries (tail (code kind ∷ []) m))
+
+-- the order in which a scan finds names
 abbrev pub key_order : List ℕ → List ℕ → Ordering
 key_order a b = slice_cmp nat_cmp (counted_bytes a) (counted_bytes b)
 
@@ -72,3 +93,9 @@ a_row_below = refl
 
 no_row : row_of (codes "seven") ≡ None
 no_row = refl
+
+an_owner : owner_of (counted_bytes (codes "docs")) ≡ Some (codes "docs")
+an_owner = refl
+
+shorter_first : key_order (codes "z") (codes "ab") ≡ Less
+shorter_first = refl

@@ -1,25 +1,33 @@
 -- What row keys a scan finds, and which keys of a map have a value.
 use Rattle.std.proofs.Common.{◌≡◌, ℕ, ℤ, pos, negsuc, ◌+◌, ◌-◌, ◌^◌, ◌<◌, Bool, true, false, cond, List, [], ◌∷◌, length, map, Option, Some, None, refl, sym, ap, ◌∙◌, arith}
-use Rattle.std.specs.Prelude.{is_some, nat_lt}
-use Rattle.std.specs.Option.{option_and_then}
-use Rattle.std.specs.List.{list_any}
+use Rattle.std.specs.Prelude.{is_some, nat_lt, filter}
+use Rattle.std.specs.Option.{option_map, option_and_then}
+use Rattle.std.specs.List.{list_any, cons_option}
 use Rattle.std.specs.declared.cmp.Ordering.{Ordering}
-use Rattle.std.specs.Ordering.{int_cmp, eq_by_cmp}
+use Rattle.std.specs.Ordering.{nat_cmp, int_cmp, is_lt, eq_by_cmp}
+use Rattle.std.specs.Cmp.Lexicographic.{slice_cmp}
 use Rattle.std.specs.Cmp.{IsTotalOrder}
 use Rattle.std.proofs.lemmas.Bool.Decides.{nat_tests}
 use Rattle.std.proofs.lemmas.Int.{ints}
 use Rattle.std.proofs.lemmas.Nat.{from_be_bytes-to_be_bytes_8}
-use Rattle.std.proofs.lemmas.Cmp.{int_cmp_total, nat_list_cmp_total, on_total}
+use Rattle.std.proofs.lemmas.Cmp.{int_cmp_total}
 use Rattle.std.specs.FinMap.{FinMap, get, entries, find, get-entries}
 use Rattle.ct_bytes.specs.RowKeys.{raised, row_bytes}
 use Rattle.ct_bytes.specs.RowKeyLaws.{length-row_bytes, row_bytes_in_order}
-use Rattle.ct_keep.specs.Content.{Content}
+use Rattle.ct_keep.specs.Content.{Content, first_entry}
+use Rattle.ct_keep.specs.TailLaws.{entries_above-tail_nil}
 use Rattle.ct_entry.specs.declared.kinds.Kind.{Kind}
-use Rattle.ct_entry.specs.Keys.{key, at, counted_bytes, HasKeysOnly, row_part, IsRow}
+use Rattle.ct_entry.specs.Keys.{key, at, prefix_of, HasKeysOnly, row_part, IsRow}
 use Rattle.ct_keep.specs.Rising.{and_true}
 use Rattle.ct_entry.specs.Rising.{below, rises, entries_rise, none_below, below_tied, AllKeys, all_keys}
-use Rattle.ct_entry.specs.Listings.{listed_at, listed, kept_at, keys_where, lowered, row_of, with_row, rows_of, rows_under, key_order}
+use Rattle.ct_entry.specs.Listings.{listed, keys_where, lowered, row_of, rows_of, rows_under, first_of, rows_above, row_after}
 use Rattle.ct_entry.specs.ListingLaws.{Spells, HasPartsOnly, family_listed}
+
+abbrev listed_at : {K : Type 0} → (K → List ℕ) → K → Option (List ℕ) → List (List ℕ × List ℕ) → List (List ℕ × List ℕ)
+listed_at part k o rest = cons_option (option_map (λ v. (part k, v)) o) rest
+
+abbrev kept_at : {K : Type 0} → K → Option (List ℕ) → List K → List K
+kept_at k o rest = cons_option (option_map (λ _. k) o) rest
 
 -- ---- orders
 
@@ -29,10 +37,6 @@ row_some r e = let l : length (row_part r) ≡ 0 = ap length e in let eight = le
 -- the bytes of row keys are in the order of the numbers
 pub row_spells : Spells int_cmp row_part IsRow
 row_spells = record { total = int_cmp_total; order = row_bytes_in_order; some = row_some }
-
--- names behind their lengths: the shorter first, and those of a length by their bytes
-pub name_spells : Spells key_order counted_bytes (λ _. Unit {0})
-name_spells = record { total = on_total counted_bytes nat_list_cmp_total; order = λ a b p q. refl; some = λ a e. cc }
 
 -- ---- row keys
 
@@ -56,7 +60,7 @@ rows_of-listed g (e ∷ es) all = at_head (g e.1) (rows_of-listed g es all.1)
   where
     at_head : (o : Option (List ℕ)) → rows_of (listed row_part g es) ≡ keys_where g es → rows_of (listed_at row_part e.0 o (listed row_part g es)) ≡ kept_at e.0 o (keys_where g es)
     at_head None rest = rest
-    at_head (Some v) rest = ap (λ (o : Option ℤ). with_row o (rows_of (listed row_part g es))) (row_of-row_part e.0 all.0) ∙ ap (λ (rs : List ℤ). e.0 ∷ rs) rest
+    at_head (Some v) rest = ap (λ (o : Option ℤ). cons_option o (rows_of (listed row_part g es))) (row_of-row_part e.0 all.0) ∙ ap (λ (rs : List ℤ). e.0 ∷ rs) rest
 
 -- At a kind whose keys end in a row key: where an owner's entries are what a map of rows has, they have the map's row keys, in its order.
 pub rows_listed : {X : Type 0} (g : X → Option (List ℕ)) (c : Content) (kind : Kind) (owner : List ℕ) (G : FinMap int_cmp X)
@@ -90,3 +94,43 @@ module _ {K X : Type 0} (R : K → K → Ordering) (total : IsTotalOrder R) (g :
 pub keys_always : {K X : Type 0} (f : X → List ℕ) (es : List (K × X)) → keys_where (λ x. Some (f x)) es ≡ map (λ e. e.0) es
 keys_always f [] = refl
 keys_always f (e ∷ es) = ap (λ l. e.0 ∷ l) (keys_always f es)
+
+-- ---- the next row key
+
+first_listed : {X : Type 0} (g : X → Option (List ℕ)) (es : List (ℤ × X)) → AllKeys int_cmp IsRow es → option_and_then (λ e. row_of e.0) (first_entry (listed row_part g es)) ≡ first_of (keys_where g es)
+first_listed g [] all = refl
+first_listed g (e ∷ es) all = at_head (g e.1) (first_listed g es all.1)
+  where
+    at_head : (o : Option (List ℕ)) → option_and_then (λ e. row_of e.0) (first_entry (listed row_part g es)) ≡ first_of (keys_where g es) → option_and_then (λ e. row_of e.0) (first_entry (listed_at row_part e.0 o (listed row_part g es))) ≡ first_of (kept_at e.0 o (keys_where g es))
+    at_head None rest = rest
+    at_head (Some v) rest = row_of-row_part e.0 all.0
+
+next_listed : {X : Type 0} (g : X → Option (List ℕ)) (r : ℤ) → IsRow r → (es : List (ℤ × X)) → AllKeys int_cmp IsRow es
+    → option_and_then (λ e. row_of e.0) (first_entry (filter (λ e. is_lt (slice_cmp nat_cmp (row_part r) e.0)) (listed row_part g es))) ≡ first_of (filter (λ s. is_lt (int_cmp r s)) (keys_where g es))
+next_listed g r fits [] all = refl
+next_listed g r fits (e ∷ es) all = at_head (g e.1) (is_lt (int_cmp r e.0)) refl (next_listed g r fits es all.1)
+  where
+    in_order : slice_cmp nat_cmp (row_part r) (row_part e.0) ≡ int_cmp r e.0
+    in_order = row_bytes_in_order r e.0 fits all.0
+
+    at_head : (o : Option (List ℕ)) (b : Bool) → is_lt (int_cmp r e.0) ≡ b → option_and_then (λ e. row_of e.0) (first_entry (filter (λ e. is_lt (slice_cmp nat_cmp (row_part r) e.0)) (listed row_part g es))) ≡ first_of (filter (λ s. is_lt (int_cmp r s)) (keys_where g es))
+        → option_and_then (λ e. row_of e.0) (first_entry (filter (λ e. is_lt (slice_cmp nat_cmp (row_part r) e.0)) (listed_at row_part e.0 o (listed row_part g es)))) ≡ first_of (filter (λ s. is_lt (int_cmp r s)) (kept_at e.0 o (keys_where g es)))
+    at_head None b is rest = rest
+    at_head (Some v) true is rest = rw (in_order, is) (row_of-row_part e.0 all.0)
+    at_head (Some v) false is rest = rw (in_order, is) rest
+
+-- behind which row a search may begin: any row, or none
+abbrev pub IsPlace : Option ℤ → Type 0
+IsPlace None = Unit {0}
+IsPlace (Some r) = IsRow r
+
+-- At a kind whose keys end in a row key: the next row key is that of the next row that has a value.
+pub next_row_listed : {X : Type 0} (g : X → Option (List ℕ)) (c : Content) (kind : Kind) (owner : List ℕ) (G : FinMap int_cmp X)
+    → HasKeysOnly c → HasPartsOnly row_part IsRow kind → ((r : ℤ) (x : X) → get G r ≡ Some x → IsRow r) → ((r : ℤ) → IsRow r → at c (key kind owner (row_part r)) ≡ option_and_then g (get G r))
+    → (after : Option ℤ) → IsPlace after → row_after after kind owner c ≡ first_of (rows_above after (keys_where g (entries G)))
+next_row_listed g c kind owner G only form has each None place =
+    ap (λ es. option_and_then (λ e. row_of e.0) (first_entry es)) (entries_above-tail_nil (prefix_of kind owner) c ∙ family_listed int_cmp row_part IsRow row_spells g c kind owner G only form has each)
+    ∙ first_listed g (entries G) (all_keys int_cmp int_cmp_total IsRow G has)
+next_row_listed g c kind owner G only form has each (Some r) place =
+    ap (λ es. option_and_then (λ e. row_of e.0) (first_entry (filter (λ e. is_lt (slice_cmp nat_cmp (row_part r) e.0)) es))) (family_listed int_cmp row_part IsRow row_spells g c kind owner G only form has each)
+    ∙ next_listed g r place (entries G) (all_keys int_cmp int_cmp_total IsRow G has)

@@ -14,7 +14,7 @@ use ct_keep::{Batch, KeepFault, Keeper};
 use std::alloc::Global;
 
 /// What all keys of a kind and an owner begin with.
-fn prefix_bytes(alloc: Global, kind: Kind, owner: &Name) -> Result<Vec<u8>, Memory>
+pub fn prefix_bytes(alloc: Global, kind: Kind, owner: &Name) -> Result<Vec<u8>, Memory>
     ensures { IfOk result (λ b. b.items ≡ prefix_of kind owner.now) }
 {
     let name = owner.as_str().as_bytes();

@@ -3,6 +3,8 @@
 
 mod entries;
 mod kinds;
+mod listings;
 
 pub use entries::{fetch_entry, has_entry, key_bytes, put_entry, remove_entry};
 pub use kinds::Kind;
+pub use listings::{next_row_key, owners, row_keys};

@@ -1,0 +1,154 @@
+//! The row keys and the owners that entries have.
+
+ghost use Rattle.std.specs.Prelude.{◌≡◌, ◌++◌, ◌∷◌, [], IfOk, OnOk, Some, Err, map};
+ghost use Rattle.std.specs.Option.{option_map};
+ghost use Rattle.std.specs.FinMap.{entries};
+ghost use Rattle.ct_keep.specs.Content.{Content, entries_above, first_entry};
+ghost use Rattle.ct_keep.specs.Keeping.{Reads, fault_of};
+ghost use Rattle.ct_keep.specs.Looks.{next_looks, scan_looks, raised, RisesBy};
+ghost use Rattle.ct_keep.specs.Tail.{tail};
+ghost use Rattle.ct_entry.specs.Kinds.{code};
+ghost use Rattle.ct_entry.specs.Keys.{prefix_of};
+ghost use Rattle.ct_entry.specs.Listings.{row_of, rows_of, rows_under, place_after, row_after, owner_of, owners_of, owners_under};
+
+use crate::entries::prefix_bytes;
+use crate::kinds::Kind;
+use ct_base::{Memory, Name, RowKey};
+use ct_bytes::{read_row_key, row_key_bytes};
+use ct_keep::{KeepFault, Keeper, next_under, scan};
+use std::alloc::Global;
+
+/// An entry: the rest of its key, and its value.
+type Entry = (Vec<u8>, Vec<u8>);
+
+/// The row key that a rest spells; None where it hasn't 8 bytes.
+fn row_in(rest: &[u8]) -> Option<RowKey>
+    ensures { option_map (λ r. r.0) result ≡ row_of rest.now }
+{
+    let row = read_row_key(rest, 0)?;
+    if rest.len() == 8 { Some(row) } else { None }
+}
+
+/// The row keys that the rests of entries spell, in order.
+fn rows_among(alloc: Global, found: &[Entry]) -> Result<Vec<RowKey>, Memory>
+    ensures { IfOk result (λ rows. map (λ r. r.0) rows.items ≡ rows_of (map (λ e. (e.0.items, e.1.items)) found.now)) }
+{
+    let mut rows = Vec::new(alloc);
+    for (rest, _value) in found {
+        if let Some(row) = row_in(rest) {
+            rows.push(row)?;
+        }
+    }
+    Ok(rows)
+}
+
+/// The row keys of an owner's entries of a kind, in order. What isn't 8 bytes long is left out.
+///
+/// It costs what it finds. It never answers Full.
+pub fn row_keys<K: Keeper>(
+    alloc: Global,
+    keeper: &mut K,
+    kind: Kind,
+    owner: &Name,
+) -> Result<Vec<RowKey>, KeepFault>
+    requires { (K.keeping keeper.old).ready }
+    ensures rows { (m : Content) → (K.keeping keeper.old).content ≡ Some m → IfOk result (λ rows. map (λ r. r.0) rows.items ≡ rows_under kind owner.now m) }
+    ensures reads { Reads (K.keeping keeper.old) (K.keeping keeper.new) (fault_of result) }
+    ensures counts { (m : Content) → (K.keeping keeper.old).content ≡ Some m → OnOk result ((K.keeping keeper.new).counts ≡ raised (scan_looks (prefix_of kind owner.now) m) (K.keeping keeper.old).counts) }
+    ensures at_most { (m : Content) → (K.keeping keeper.old).content ≡ Some m → RisesBy (scan_looks (prefix_of kind owner.now) m) (K.keeping keeper.old).counts (K.keeping keeper.new).counts }
+    ensures never_full { result ≡ Err KeepFault.Full → ⊥ }
+{
+    let prefix = prefix_bytes(alloc, kind, owner)?;
+    let found = scan(alloc, keeper, &prefix)?;
+    let rows = rows_among(alloc, &found)?;
+    Ok(rows)
+}
+
+/// The first entry under the prefix whose rest is above that of a row, or the first of all.
+fn next_in<K: Keeper>(
+    alloc: Global,
+    keeper: &mut K,
+    prefix: &[u8],
+    after: Option<RowKey>,
+) -> Result<Option<Entry>, KeepFault>
+    requires { (K.keeping keeper.old).ready }
+    ensures entry { (m : Content) → (K.keeping keeper.old).content ≡ Some m → IfOk result (λ found. option_map (λ e. (e.0.items, e.1.items)) found ≡ first_entry (entries_above (place_after (option_map (λ r. r.0) after)) (tail prefix.now m))) }
+    ensures reads { Reads (K.keeping keeper.old) (K.keeping keeper.new) (fault_of result) }
+    ensures counts { (m : Content) → (K.keeping keeper.old).content ≡ Some m → OnOk result ((K.keeping keeper.new).counts ≡ raised (next_looks (prefix.now ++ place_after (option_map (λ r. r.0) after)) m) (K.keeping keeper.old).counts) }
+    ensures at_most { (m : Content) → (K.keeping keeper.old).content ≡ Some m → RisesBy (next_looks (prefix.now ++ place_after (option_map (λ r. r.0) after)) m) (K.keeping keeper.old).counts (K.keeping keeper.new).counts }
+    ensures never_full { result ≡ Err KeepFault.Full → ⊥ }
+{
+    match after {
+        None => next_under(alloc, keeper, prefix, &[]),
+        Some(row) => next_under(alloc, keeper, prefix, &row_key_bytes(row)),
+    }
+}
+
+/// The row key of the first of an owner's entries of a kind behind that of a row, or of the first of all. None where there
+/// is none, or where the entry's rest isn't 8 bytes long.
+///
+/// It takes one look-up, and never answers Full.
+pub fn next_row_key<K: Keeper>(
+    alloc: Global,
+    keeper: &mut K,
+    kind: Kind,
+    owner: &Name,
+    after: Option<RowKey>,
+) -> Result<Option<RowKey>, KeepFault>
+    requires { (K.keeping keeper.old).ready }
+    ensures row { (m : Content) → (K.keeping keeper.old).content ≡ Some m → IfOk result (λ row. option_map (λ r. r.0) row ≡ row_after (option_map (λ r. r.0) after) kind owner.now m) }
+    ensures reads { Reads (K.keeping keeper.old) (K.keeping keeper.new) (fault_of result) }
+    ensures counts { (m : Content) → (K.keeping keeper.old).content ≡ Some m → OnOk result ((K.keeping keeper.new).counts ≡ raised (next_looks (prefix_of kind owner.now ++ place_after (option_map (λ r. r.0) after)) m) (K.keeping keeper.old).counts) }
+    ensures at_most { (m : Content) → (K.keeping keeper.old).content ≡ Some m → RisesBy (next_looks (prefix_of kind owner.now ++ place_after (option_map (λ r. r.0) after)) m) (K.keeping keeper.old).counts (K.keeping keeper.new).counts }
+    ensures never_full { result ≡ Err KeepFault.Full → ⊥ }
+{
+    let prefix = prefix_bytes(alloc, kind, owner)?;
+    match next_in(alloc, keeper, &prefix, after)? {
+        None => Ok(None),
+        Some((rest, _value)) => Ok(row_in(&rest)),
+    }
+}
+
+/// The name that a rest spells: its length in one byte, and its bytes; None where it doesn't.
+fn owner_in(alloc: Global, rest: &[u8]) -> Result<Option<Name>, Memory>
+    ensures { IfOk result (λ name. name ≡ owner_of rest.now) }
+{
+    let Some((length, name)) = rest.split_first() else {
+        return Ok(None);
+    };
+    if name.len() != usize::from(*length) {
+        return Ok(None);
+    }
+    Name::of_bytes(alloc, name)
+}
+
+/// The names that the rests of entries spell, in order.
+fn owners_among(alloc: Global, found: &[Entry]) -> Result<Vec<Name>, Memory>
+    ensures { IfOk result (λ names. names.items ≡ owners_of (map (λ e. (e.0.items, e.1.items)) found.now)) }
+{
+    let mut names = Vec::new(alloc);
+    for (rest, _value) in found {
+        if let Some(name) = owner_in(alloc, rest)? {
+            names.push(name)?;
+        }
+    }
+    Ok(names)
+}
+
+/// The owners of a kind whose keys have no rest, in the order of the keys: the shorter names first, and those of a length
+/// in the order of their bytes. What is no name behind its length is left out.
+///
+/// It costs what it finds. It never answers Full.
+pub fn owners<K: Keeper>(alloc: Global, keeper: &mut K, kind: Kind) -> Result<Vec<Name>, KeepFault>
+    requires { (K.keeping keeper.old).ready }
+    ensures owners { (m : Content) → (K.keeping keeper.old).content ≡ Some m → IfOk result (λ names. names.items ≡ owners_under kind m) }
+    ensures reads { Reads (K.keeping keeper.old) (K.keeping keeper.new) (fault_of result) }
+    ensures counts { (m : Content) → (K.keeping keeper.old).content ≡ Some m → OnOk result ((K.keeping keeper.new).counts ≡ raised (scan_looks (code kind ∷ []) m) (K.keeping keeper.old).counts) }
+    ensures at_most { (m : Content) → (K.keeping keeper.old).content ≡ Some m → RisesBy (scan_looks (code kind ∷ []) m) (K.keeping keeper.old).counts (K.keeping keeper.new).counts }
+    ensures never_full { result ≡ Err KeepFault.Full → ⊥ }
+{
+    let prefix = [kind.code()];
+    let found = scan(alloc, keeper, &prefix)?;
+    let names = owners_among(alloc, &found)?;
+    Ok(names)
+}
