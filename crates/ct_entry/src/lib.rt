@@ -4,6 +4,8 @@
 mod entries;
 mod kinds;
 mod listings;
+#[cfg(test)]
+mod tests;
 
 pub use entries::{fetch_entry, has_entry, key_bytes, put_entry, remove_entry};
 pub use kinds::Kind;

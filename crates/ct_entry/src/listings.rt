@@ -147,8 +147,7 @@ pub fn owners<K: Keeper>(alloc: Global, keeper: &mut K, kind: Kind) -> Result<Ve
     ensures at_most { (m : Content) → (K.keeping keeper.old).content ≡ Some m → RisesBy (scan_looks (code kind ∷ []) m) (K.keeping keeper.old).counts (K.keeping keeper.new).counts }
     ensures never_full { result ≡ Err KeepFault.Full → ⊥ }
 {
-    let prefix = [kind.code()];
-    let found = scan(alloc, keeper, &prefix)?;
+    let found = scan(alloc, keeper, &[kind.code()])?;
     let names = owners_among(alloc, &found)?;
     Ok(names)
 }
