@@ -1,5 +1,4 @@
 pub mod SortedPairs
 pub mod ContentLaws
 pub mod Courses
-pub mod Buffers
 pub mod WellWords
