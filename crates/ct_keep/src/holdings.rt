@@ -15,7 +15,7 @@ use crate::tallies::Tally;
 use std::alloc::Global;
 
 /// A content in memory, how much it may weigh, and the counts of its look-ups.
-#[derive(Drop)]
+#[derive(Debug, Drop)]
 pub(crate) struct Holding {
     pub(crate) content: EntryMap,
     pub(crate) limit: u64,

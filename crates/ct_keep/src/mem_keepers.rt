@@ -21,7 +21,7 @@ use std::marker::Model;
 /// A keeper in memory. It never answers Disk, its `hear` never fails and takes as much as fits, and its `say` takes all,
 /// or fails where its room for what is said would be passed. It takes every entry.
 /// A look-up, and each word of a commit, cost the logarithm of the number of entries.
-#[derive(Drop)]
+#[derive(Debug, Drop)]
 pub struct MemKeeper {
     held: Holding,
     script: Vec<u8>,
