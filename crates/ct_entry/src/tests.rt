@@ -6,8 +6,8 @@ ghost use Rattle.ct_keep.specs.Words.{AreWell};
 ghost use Rattle.ct_keep.specs.InMemory.{TakesAll};
 
 use crate::{
-    Kind, fetch_entry, has_entry, key_bytes, next_row_key, owners, put_entry, remove_entry,
-    row_keys,
+    Kind, entries_of, fetch_entry, has_entry, key_bytes, next_row_key, owners, put_entry,
+    remove_entry, row_keys,
 };
 use ct_base::{Memory, Name, RowKey};
 use ct_bytes::row_key_bytes;
@@ -163,6 +163,23 @@ fn the_rows_of_an_owner(rt: HostRuntime) -> Result<(), Fail> {
         let found = next_row_key(alloc, &mut keeper, Kind::RowNumbers, &docs, after)?;
         assert_eq!(rt; found, next);
     }
+    Ok(())
+}
+
+/// Entries whose rests begin with a byte, as those of the rows from 0 on.
+#[test]
+fn the_entries_of_an_owner(rt: HostRuntime) -> Result<(), Fail> {
+    let alloc = rt.alloc();
+    let mut keeper = kept(alloc)?;
+    let docs = named(alloc, "docs")?;
+    let found = entries_of(alloc, &mut keeper, Kind::RowNumbers, &docs, &[0x80])?;
+    let mut all = Vec::new(alloc);
+    for (rest, value) in &found {
+        assert_eq!(rt; rest.len(), 7);
+        all.extend_from_slice(value)?;
+        all.push(b' ')?;
+    }
+    assert_eq!(rt; all.as_slice(), b"zero five ".as_slice());
     Ok(())
 }
 
