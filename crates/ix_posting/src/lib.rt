@@ -1,6 +1,14 @@
 //! Posting rows as bytes, exact both ways.
 #![tactic(auto)]
 
+mod faults;
+mod laws;
+mod reading;
 mod rows;
+mod span_rows;
+mod writing;
 
+pub use faults::RowFault;
+pub use laws::rows_are_exact;
 pub use rows::{Positions, Row, RowDocument};
+pub use span_rows::{SpanDocument, SpanRow};

@@ -1,8 +1,14 @@
 //! Rows of postings.
 
-ghost use Rattle.std.specs.Prelude.{◌≡◌};
-ghost use Rattle.ix_posting.specs.Rows.{IsRow};
+ghost use Rattle.std.specs.Prelude.{◌≡◌, List, IfOk, Err};
+ghost use Rattle.ix_posting.specs.Rows.{IsRow, row_bytes};
 
+use crate::faults::RowFault;
+use crate::reading::read_documents;
+use crate::writing::put_documents;
+use ct_base::Memory;
+use ct_bytes::{put_varint, read_varint};
+use std::alloc::Global;
 use std::marker::Model;
 
 /// Positions of words in a document, seen as their list.
@@ -62,6 +68,8 @@ impl Model for Row {
 }
 
 impl Row {
+    ghost use Rattle.ix_posting.specs.declared.rows.RowDocument.{RowDocument};
+
     /// The row of these documents.
     pub fn of(documents: Vec<RowDocument>) -> Row
         requires { IsRow documents.items }
@@ -76,5 +84,33 @@ impl Row {
         ensures row { IsRow self.now }
     {
         self.documents.as_slice()
+    }
+    /// The bytes of the row, which spell no other row.
+    pub fn encode(&self, alloc: Global) -> Result<Vec<u8>, Memory>
+        ensures { IfOk result (λ v. v.items ≡ row_bytes self.now) }
+    {
+        let mut out = Vec::new(alloc);
+        put_varint(&mut out, self.documents.len() as u32)?;
+        put_documents(&mut out, self.documents.as_slice())?;
+        Ok(out)
+    }
+
+    /// The row that the bytes spell, with no byte behind it.
+    ///
+    /// It goes over the bytes once, and takes memory for what it has read: a count that they claim takes none.
+    pub fn decode(alloc: Global, bytes: &[u8]) -> Result<Row, RowFault>
+        ensures row { IfOk result (λ r. row_bytes r ≡ bytes.now) }
+        ensures rules { IfOk result (λ r. IsRow r) }
+        ensures bad { result ≡ Err RowFault.BadRow → (row : List RowDocument) → IsRow row → row_bytes row ≡ bytes.now → ⊥ }
+        ensures read_back { (row : List RowDocument) → IsRow row → row_bytes row ≡ bytes.now → IfOk result (λ r. r ≡ row) }
+    {
+        let Some((count, start)) = read_varint(bytes, 0) else {
+            return Err(RowFault::BadRow);
+        };
+        let (documents, end) = read_documents(alloc, bytes, start, count)?;
+        if count == 0 || end != bytes.len() {
+            return Err(RowFault::BadRow);
+        }
+        Ok(Row { documents })
     }
 }

@@ -1,0 +1,11 @@
+-- What is known of a document that is written: it has fewer than 2 ^ 32 places.
+use Rattle.std.proofs.Common.{◌≡◌, ℕ, ◌+◌, ◌<◌, ◌^◌, List, ◌∷◌, length, drop, get_or, sym, ap, ◌∙◌, subst, arith}
+use Rattle.std.proofs.lemmas.List.{drop_more}
+use Rattle.ix_posting.specs.Rows.{DocumentsRise}
+use Rattle.ix_posting.specs.NumberItems.{few_rise}
+use Rattle.ix_posting.specs.declared.rows.RowDocument.{RowDocument}
+
+pub few_positions : (ds : List RowDocument) (i : ℕ) (d : RowDocument) (last : ℕ) → i < length ds → d ≡ get_or ds i d → DocumentsRise last (drop i ds) → length d.positions < 2 ^ 32
+few_positions ds i d last less is rise =
+    let here = subst (DocumentsRise last) (drop_more ds i d less ∙ ap (λ e. e ∷ drop (i + 1) ds) (sym is)) rise in
+    omega (arith, few_rise 0 d.positions (omega arith) here.3)
