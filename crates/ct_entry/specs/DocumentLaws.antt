@@ -9,6 +9,7 @@ use Rattle.std.specs.Cmp.Lexicographic.{slice_cmp}
 use Rattle.std.proofs.lemmas.Bool.Decides.{nat_tests}
 use Rattle.std.proofs.lemmas.Cmp.{nat_cmp_total}
 use Rattle.std.specs.FinMap.{FinMap, get, entries}
+use Rattle.ct_bytes.specs.ByteOrder.{four_bytes_in_order}
 use Rattle.ct_keep.specs.Content.{Content}
 use Rattle.ct_keep.specs.Tail.{tail}
 use Rattle.ct_entry.specs.declared.kinds.Kind.{Kind}
@@ -19,43 +20,8 @@ use Rattle.ct_entry.specs.ListingLaws.{Spells, tail_listed}
 
 -- ---- the bytes of documents are in the order of the numbers
 
-split_cmp : (m n : ℕ) → ordering_then (nat_cmp (m / 256) (n / 256)) (nat_cmp (m % 256) (n % 256)) ≡ nat_cmp m n
-split_cmp m n = grind (arith, nat_tests)
-
--- four comparisons, from the front and from the back
-four_then : (a b c d : Ordering) → ordering_then a (ordering_then b (ordering_then c (ordering_then d Equal))) ≡ ordering_then (ordering_then (ordering_then a b) c) d
-four_then Less b c d = refl
-four_then Greater b c d = refl
-four_then Equal Less c d = refl
-four_then Equal Greater c d = refl
-four_then Equal Equal Less d = refl
-four_then Equal Equal Greater d = refl
-four_then Equal Equal Equal Less = refl
-four_then Equal Equal Equal Equal = refl
-four_then Equal Equal Equal Greater = refl
-
--- the four bytes of a number, the highest left uncut
-abbrev cells : ℕ → List ℕ
-cells n = n / 256 / 256 / 256 ∷ n / 256 / 256 % 256 ∷ n / 256 % 256 ∷ n % 256 ∷ []
-
-cells_in_order : (m n : ℕ) → slice_cmp nat_cmp (cells m) (cells n) ≡ nat_cmp m n
-cells_in_order m n =
-    four_then (nat_cmp (m / 256 / 256 / 256) (n / 256 / 256 / 256)) (nat_cmp (m / 256 / 256 % 256) (n / 256 / 256 % 256)) (nat_cmp (m / 256 % 256) (n / 256 % 256)) (nat_cmp (m % 256) (n % 256))
-    ∙ ap (λ o. ordering_then (ordering_then o (nat_cmp (m / 256 % 256) (n / 256 % 256))) (nat_cmp (m % 256) (n % 256))) (split_cmp (m / 256 / 256) (n / 256 / 256))
-    ∙ ap (λ o. ordering_then o (nat_cmp (m % 256) (n % 256))) (split_cmp (m / 256) (n / 256))
-    ∙ split_cmp m n
-
-four : (a b c d a' b' c' d' : ℕ) → a ≡ a' → b ≡ b' → c ≡ c' → d ≡ d' → a ∷ b ∷ c ∷ d ∷ [] ≡ a' ∷ b' ∷ c' ∷ d' ∷ []
-four a b c d a' b' c' d' p q r s = λ i. p i ∷ q i ∷ r i ∷ s i ∷ []
-
-bytes_are_cells : (n : ℕ) → n < 2 ^ 32 → to_be_bytes w32 n ≡ cells n
-bytes_are_cells n fits = four _ _ _ _ _ _ _ _ (omega arith) (omega arith) (omega arith) refl
-
 pub documents_in_order : (d e : ℕ) → IsDocument d → IsDocument e → slice_cmp nat_cmp (document_part d) (document_part e) ≡ nat_cmp d e
-documents_in_order d e f g =
-    ap (λ (x : List ℕ). slice_cmp nat_cmp x (document_part e)) (bytes_are_cells d f)
-    ∙ ap (λ (x : List ℕ). slice_cmp nat_cmp (cells d) x) (bytes_are_cells e g)
-    ∙ cells_in_order d e
+documents_in_order d e f g = four_bytes_in_order d e f g
 
 pub document_spells : Spells nat_cmp document_part IsDocument
 document_spells = record { total = nat_cmp_total; order = documents_in_order; some = λ d e. cc }
