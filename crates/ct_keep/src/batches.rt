@@ -60,6 +60,16 @@ impl Batch {
         Ok(())
     }
 
+    /// Adds the words of another batch, in order: all of them or none.
+    pub fn append(&mut self, other: Batch) -> Result<(), Memory>
+        ensures ok { OnOk result (self.new ≡ self.old ++ other) }
+        ensures err { OnErr result (self.new ≡ self.old) }
+    {
+        let mut words = other.words;
+        self.words.append(&mut words)?;
+        Ok(())
+    }
+
     /// The words, in order.
     pub fn words(&self) -> &[Word]
         ensures { map spoken result.now ≡ self.now }

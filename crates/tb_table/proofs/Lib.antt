@@ -1,0 +1,3 @@
+pub mod TextWords
+pub mod ColumnSteps
+pub mod NumberSteps

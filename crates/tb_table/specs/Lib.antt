@@ -1,3 +1,5 @@
 pub mod Tables
 pub mod Spelling
 pub mod Rules
+pub mod Readings
+pub mod SpellingLaws

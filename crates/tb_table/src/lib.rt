@@ -1,6 +1,12 @@
 //! Tables, their columns and their rows as entries.
 #![tactic(auto)]
 
+mod changes;
 mod columns;
+mod lookups;
+mod reading;
+mod writing;
 
+pub use changes::{create, insert};
 pub use columns::{Column, Sort, Target};
+pub use lookups::{columns_of, has_row, number_row, text_of};

@@ -1,0 +1,55 @@
+-- What is read from the entries of tables. An entry is read as what it spells exactly where it spells anything.
+use Rattle.std.specs.Prelude.{ℕ, ℤ, ◌≡◌, ◌+◌, ◌<◌, ◌^◌, List, [], ◌∷◌, ◌++◌, length, drop, Option, Some, None, FitsSigned}
+use Rattle.std.specs.Int.{to_be_bytes, w16, w64}
+use Rattle.std.specs.Str.{IsUtf8}
+use Rattle.ct_base.specs.Names.{IsName}
+use Rattle.tb_table.specs.declared.columns.Sort.{Sort}
+use Rattle.tb_table.specs.declared.columns.Column.{Column}
+use Rattle.tb_table.specs.Spelling.{sort_code, sort_size, column_bytes, columns_bytes, numbers_bytes}
+
+-- ---- columns
+
+-- a column that entries may spell: its name is one, and its size has two bytes
+pub record IsSpellable (c : Column) : Type 0 where
+  pub name : IsName c.name
+  pub size : sort_size c.sort < 2 ^ 16
+
+abbrev pub EachSpellable : List Column → Type 0
+EachSpellable [] = Unit {0}
+EachSpellable (c ∷ cs) = IsSpellable c × EachSpellable cs
+
+pub record AreSpellable (cs : List Column) : Type 0 where
+  pub each : EachSpellable cs
+  pub few : length cs < 2 ^ 32
+
+-- the entry spells these columns; or it spells none
+abbrev pub SpellsColumns : Option (List ℕ) → Option (List Column) → Type 0
+SpellsColumns entry (Some cs) = AreSpellable cs × (entry ≡ Some (columns_bytes cs))
+SpellsColumns entry None = (cs : List Column) → AreSpellable cs → entry ≡ Some (columns_bytes cs) → ⊥
+
+-- what stands in a column behind its name
+abbrev pub sort_bytes : Sort → List ℕ
+sort_bytes s = sort_code s ∷ to_be_bytes w16 (sort_size s)
+
+-- From `at` on the bytes spell this column, and `next` is the place behind it.
+pub record IsColumnAt (bytes : List ℕ) (at : ℕ) (c : Column) (next : ℕ) : Type 0 where
+  pub spellable : IsSpellable c
+  pub spelt : drop at bytes ≡ column_bytes c ++ drop next bytes
+  pub behind : next ≡ at + length (column_bytes c)
+
+-- ---- numbers and texts
+
+-- numbers of 64 bits
+abbrev pub EachFits : List ℤ → Type 0
+EachFits [] = Unit {0}
+EachFits (z ∷ zs) = FitsSigned w64 z × EachFits zs
+
+-- the entry spells these numbers; or it spells none, as where its length is no multiple of 8
+abbrev pub SpellsNumbers : Option (List ℕ) → Option (List ℤ) → Type 0
+SpellsNumbers entry (Some zs) = EachFits zs × (entry ≡ Some (numbers_bytes zs))
+SpellsNumbers entry None = (zs : List ℤ) → entry ≡ Some (numbers_bytes zs) → ⊥
+
+-- the entry is this text in UTF-8; or it is none
+abbrev pub SpellsText : Option (List ℕ) → Option (List ℕ) → Type 0
+SpellsText entry (Some text) = IsUtf8 text × (entry ≡ Some text)
+SpellsText entry None = (text : List ℕ) → IsUtf8 text → entry ≡ Some text → ⊥

@@ -1,0 +1,91 @@
+//! What calls put into a batch.
+
+ghost use Rattle.std.specs.Prelude.{◌≡◌, [], ◌∷◌, ◌++◌, ◌^◌, ◌<◌, length, IfOk, OnOk, OnErr};
+ghost use Rattle.ct_entry.specs.Words.{spell, put};
+ghost use Rattle.ct_entry.specs.declared.kinds.Kind.TheVariants as kind;
+ghost use Rattle.ct_entry.specs.Keys.{key, text_part};
+ghost use Rattle.tb_table.specs.Spelling.{create_words, text_words, insert_words};
+
+use crate::columns::Column;
+use crate::writing::{columns_bytes, numbers_bytes};
+use ct_base::{Memory, Name, RowKey, Text};
+use ct_bytes::row_key_bytes;
+use ct_entry::{Kind, put_entry};
+use ct_keep::Batch;
+use std::alloc::Global;
+
+/// Adds the word of a new table. The batch is unchanged where there is no memory.
+pub fn create(
+    alloc: Global,
+    batch: &mut Batch,
+    table: &Name,
+    columns: &[Column],
+) -> Result<(), Memory>
+    requires { length columns.now < 2 ^ 32 }
+    ensures ok { OnOk result (batch.new ≡ batch.old ++ spell (create_words table.now columns.now)) }
+    ensures err { OnErr result (batch.new ≡ batch.old) }
+{
+    let value = columns_bytes(alloc, columns)?;
+    put_entry(alloc, batch, Kind::Tables, table, &[], value)
+}
+
+/// The rest of the key of a text: its column, and its row.
+pub(crate) fn text_part(column: u8, key: RowKey) -> [u8; 9]
+    ensures { result ≡ text_part column key.0 }
+{
+    let [a, b, c, d, e, f, g, h] = row_key_bytes(key);
+    [column, a, b, c, d, e, f, g, h]
+}
+
+/// Adds the word of a text of a row.
+fn put_text(
+    alloc: Global,
+    batch: &mut Batch,
+    table: &Name,
+    row: RowKey,
+    column: u8,
+    text: &Text,
+) -> Result<(), Memory>
+    ensures { OnOk result (batch.new ≡ batch.old ++ spell (put (key kind.RowTexts table.now (text_part column row.0)) text.now ∷ [])) }
+{
+    let value = Vec::from_slice(alloc, text.as_str().as_bytes())?;
+    let part = text_part(column, row);
+    put_entry(alloc, batch, Kind::RowTexts, table, &part, value)
+}
+
+/// Adds a word for each text of a row.
+fn put_texts(
+    alloc: Global,
+    batch: &mut Batch,
+    table: &Name,
+    key: RowKey,
+    texts: &[(u8, Text)],
+) -> Result<(), Memory>
+    ensures { OnOk result (batch.new ≡ batch.old ++ spell (text_words table.now key.0 texts.now)) }
+{
+    for (column, text) in texts {
+        put_text(alloc, batch, table, key, *column, text)?;
+    }
+    Ok(())
+}
+
+/// Adds the words of a new row: one for its numbers, in the order of their columns, and one for each of its texts, by the
+/// places of their columns, that of the key being 0. The batch is unchanged where there is no memory.
+pub fn insert(
+    alloc: Global,
+    batch: &mut Batch,
+    table: &Name,
+    key: RowKey,
+    numbers: &[i64],
+    texts: &[(u8, Text)],
+) -> Result<(), Memory>
+    ensures ok { OnOk result (batch.new ≡ batch.old ++ spell (insert_words table.now key.0 numbers.now texts.now)) }
+    ensures err { OnErr result (batch.new ≡ batch.old) }
+{
+    let mut words = Batch::new(alloc);
+    let value = numbers_bytes(alloc, numbers)?;
+    let part = row_key_bytes(key);
+    put_entry(alloc, &mut words, Kind::RowNumbers, table, &part, value)?;
+    put_texts(alloc, &mut words, table, key, texts)?;
+    batch.append(words)
+}

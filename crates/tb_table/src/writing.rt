@@ -1,0 +1,63 @@
+//! Columns and numbers as the values of entries.
+
+ghost use Rattle.std.specs.Prelude.{◌≡◌, ◌++◌, ◌^◌, ◌<◌, length, IfOk, OnOk};
+ghost use Rattle.tb_table.specs.Spelling.{sort_code, sort_size, column_bytes, columns_bytes, numbers_bytes};
+
+use crate::columns::{Column, Sort};
+use ct_base::{Memory, RowKey};
+use ct_bytes::{put_text, put_u16, put_varint, row_key_bytes};
+use std::alloc::Global;
+
+/// The byte of a sort.
+fn sort_code(sort: Sort) -> u8
+    ensures { result ≡ sort_code sort }
+{
+    match sort {
+        Sort::Number => 1,
+        Sort::Varchar2(_) => 2,
+        Sort::Clob => 3,
+    }
+}
+
+/// The size of a sort, 0 where it has none.
+fn sort_size(sort: Sort) -> u16
+    ensures { result ≡ sort_size sort }
+{
+    match sort {
+        Sort::Number | Sort::Clob => 0,
+        Sort::Varchar2(size) => size,
+    }
+}
+
+/// Puts a column at the end.
+fn put_column(out: &mut Vec<u8>, column: &Column) -> Result<(), Memory>
+    ensures { OnOk result (out.new.items ≡ out.old.items ++ column_bytes column.now) }
+{
+    put_text(out, column.name.as_str().as_bytes())?;
+    out.push(sort_code(column.sort))?;
+    put_u16(out, sort_size(column.sort))
+}
+
+/// The value of a table's entry: how many columns, and each in turn.
+pub(crate) fn columns_bytes(alloc: Global, columns: &[Column]) -> Result<Vec<u8>, Memory>
+    requires { length columns.now < 2 ^ 32 }
+    ensures { IfOk result (λ bytes. bytes.items ≡ columns_bytes columns.now) }
+{
+    let mut bytes = Vec::new(alloc);
+    put_varint(&mut bytes, columns.len() as u32)?;
+    for column in columns {
+        put_column(&mut bytes, column)?;
+    }
+    Ok(bytes)
+}
+
+/// The value of a row's entry: its numbers, eight bytes each.
+pub(crate) fn numbers_bytes(alloc: Global, numbers: &[i64]) -> Result<Vec<u8>, Memory>
+    ensures { IfOk result (λ bytes. bytes.items ≡ numbers_bytes numbers.now) }
+{
+    let mut bytes = Vec::new(alloc);
+    for number in numbers {
+        bytes.extend_from_slice(&row_key_bytes(RowKey(*number)))?;
+    }
+    Ok(bytes)
+}
