@@ -1,9 +1,9 @@
--- Rising numbers as items, and heads of documents.
+-- Rising numbers as items.
 use Rattle.std.proofs.Common.{◌≡◌, ℕ, suc, ◌+◌, ◌-◌, ◌<◌, ◌^◌, List, [], ◌∷◌, length, refl, arith}
 use Rattle.ct_bytes.specs.Varints.{varint}
 use Rattle.ct_bytes.specs.VarintLaws.{varint_at_one}
 use Rattle.ix_posting.specs.Rows.{Rise, steps, varints}
-use Rattle.ix_posting.specs.Places.{IsNumberAt, AreNumbersAt, IsHeadAt}
+use Rattle.ix_posting.specs.Places.{IsNumberAt, AreNumbersAt}
 use Rattle.ix_posting.specs.Items.{AreItems, Parts}
 use Rattle.ix_posting.specs.Standing.{nothing_stands, nothing_behind, joined, first_part, second_part, varint_stands, varint_is}
 
@@ -55,10 +55,3 @@ numbers bytes = record {
   parts = numbers_parts bytes;
   alone = number_alone bytes;
 }
-
--- a place has one head of a document behind the one before it
-pub head_alone : (bytes : List ℕ) (before at d m i e n j : ℕ) → IsHeadAt bytes before at d m i → IsHeadAt bytes before at e n j → (d ≡ e) × (m ≡ n) × (i ≡ j)
-head_alone bytes before at d m i e n j first second =
-    let number = number_alone bytes before at d first.mid e second.mid first.number second.number in
-    let places = varint_at_one bytes second.mid m i n j (rw number.1 at first.places) second.places in
-    (number.0, places.0, places.1)

@@ -2,7 +2,8 @@
 use Rattle.std.proofs.Common.{◌≡◌, ℕ, List, refl, ap, Result, Ok, Err}
 use Rattle.std.specs.Result.{IfOk}
 use Rattle.ix_posting.specs.Rows.{IsRow, row_bytes}
-use Rattle.ix_posting.specs.DocumentItems.{row_parts, row_alone}
+use Rattle.ix_posting.specs.Wholes.{whole_alone}
+use Rattle.ix_posting.specs.DocumentItems.{documents, row_parts}
 use Rattle.ix_posting.specs.declared.rows.RowDocument.{RowDocument}
 use Rattle.ix_posting.specs.declared.faults.RowFault.{RowFault}
 use Rattle.ix_posting.specs.declared.faults.RowFault.TheVariants.{BadRow, Memory as OutOfMemory}
@@ -25,7 +26,7 @@ pub rows_one : RowsHaveOneSpelling
 rows_one a b is_a is_b same =
     let first = row_parts (row_bytes b) a is_a same in
     let second = row_parts (row_bytes b) b is_b refl in
-    (row_alone _ _ _ _ _ _ first.count first.documents second).0
+    (whole_alone _ _ _ (documents (row_bytes b)) _ _ _ _ _ _ first.count first.all second).0
 
 pub rows_read_back : RowsAreReadBack
 rows_read_back row (Ok r) is read memory = ap Ok (rows_one r row read.rules is read.row)

@@ -38,8 +38,8 @@ whole_stands bytes = record {
   behind = omega arith;
 }
 
-pub whole_alone : (bytes piece : List ℕ) → StandsAt bytes 0 piece (length bytes) → piece ≡ bytes
-whole_alone bytes piece is =
+pub same_whole : (bytes piece : List ℕ) → StandsAt bytes 0 piece (length bytes) → piece ≡ bytes
+same_whole bytes piece is =
     sym (append-nil piece) ∙ ap (λ l. piece ++ l) (sym (drop_all (length bytes) bytes (omega arith))) ∙ sym is.spelt
 
 pub varint_stands : (bytes : List ℕ) (at n next : ℕ) → IsVarintAt bytes at n next → StandsAt bytes at (varint n) next

@@ -1,9 +1,14 @@
 //! Rows of postings whose places are pairs of word positions.
 
-ghost use Rattle.std.specs.Prelude.{◌≡◌};
-ghost use Rattle.ix_posting.specs.SpanRows.{IsSpanRow};
+ghost use Rattle.std.specs.Prelude.{◌≡◌, List, IfOk, Err};
+ghost use Rattle.ix_posting.specs.SpanRows.{IsSpanRow, span_row_bytes};
 
-use ct_base::Pairs;
+use crate::faults::RowFault;
+use crate::span_reading::read_span_documents;
+use crate::span_writing::put_span_documents;
+use ct_base::{Memory, Pairs};
+use ct_bytes::{put_varint, read_varint};
+use std::alloc::Global;
 use std::marker::Model;
 
 /// A document of a row, with the pairs of word positions at which what the row stands for begins and ends in it.
@@ -35,6 +40,8 @@ impl Model for SpanRow {
 }
 
 impl SpanRow {
+    ghost use Rattle.ix_posting.specs.declared.span_rows.SpanDocument.{SpanDocument};
+
     /// The row of these documents.
     pub fn of(documents: Vec<SpanDocument>) -> SpanRow
         requires { IsSpanRow documents.items }
@@ -49,5 +56,33 @@ impl SpanRow {
         ensures row { IsSpanRow self.now }
     {
         self.documents.as_slice()
+    }
+    /// The bytes of the row, which spell no other row of pairs.
+    pub fn encode(&self, alloc: Global) -> Result<Vec<u8>, Memory>
+        ensures { IfOk result (λ v. v.items ≡ span_row_bytes self.now) }
+    {
+        let mut out = Vec::new(alloc);
+        put_varint(&mut out, self.documents.len() as u32)?;
+        put_span_documents(&mut out, self.documents.as_slice())?;
+        Ok(out)
+    }
+
+    /// The row that the bytes spell, with no byte behind it.
+    ///
+    /// It goes over the bytes once, and takes memory for what it has read: a count that they claim takes none.
+    pub fn decode(alloc: Global, bytes: &[u8]) -> Result<SpanRow, RowFault>
+        ensures row { IfOk result (λ r. span_row_bytes r ≡ bytes.now) }
+        ensures rules { IfOk result (λ r. IsSpanRow r) }
+        ensures bad { result ≡ Err RowFault.BadRow → (row : List SpanDocument) → IsSpanRow row → span_row_bytes row ≡ bytes.now → ⊥ }
+        ensures read_back { (row : List SpanDocument) → IsSpanRow row → span_row_bytes row ≡ bytes.now → IfOk result (λ r. r ≡ row) }
+    {
+        let Some((count, start)) = read_varint(bytes, 0) else {
+            return Err(RowFault::BadRow);
+        };
+        let (documents, end) = read_span_documents(alloc, bytes, start, count)?;
+        if count == 0 || end != bytes.len() {
+            return Err(RowFault::BadRow);
+        }
+        Ok(SpanRow { documents })
     }
 }

@@ -1,5 +1,5 @@
 use Rattle.std.proofs.lemmas.Result.{err_from_is_err_and}
-use Rattle.ix_posting.specs.NumberItems.{head_alone}
+use Rattle.ix_posting.specs.Heads.{head_alone}
 use Rattle.ix_posting.proofs.reading.read_document.Goals as goal
 
 pub returns-in_default-clause-bad : goal.returns-in_default-clause-bad
