@@ -3,3 +3,4 @@ pub mod Spelling
 pub mod Rules
 pub mod Readings
 pub mod SpellingLaws
+pub mod ReadLaws
