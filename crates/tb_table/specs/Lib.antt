@@ -4,3 +4,4 @@ pub mod Rules
 pub mod Readings
 pub mod SpellingLaws
 pub mod ReadLaws
+pub mod ChangeLaws
