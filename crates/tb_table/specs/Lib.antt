@@ -5,3 +5,5 @@ pub mod Readings
 pub mod SpellingLaws
 pub mod ReadLaws
 pub mod ChangeLaws
+pub mod RuleLaws
+pub mod WellLaws
