@@ -19,6 +19,17 @@ use Rattle.tb_table.specs.declared.columns.Column.{Column}
 use Rattle.tb_table.specs.Tables.{Table, Tables, row_in, row_at, numbers_of, as_text, text_in, text_of, texts_from, texts_of, with_table, altered, alter, with_row}
 use Rattle.tb_table.specs.Spelling.{columns_bytes, numbers_bytes, TablesStand, create_words, text_words, insert_words}
 
+-- ---- the laws
+
+-- after CREATE TABLE of a name that is free
+abbrev pub NewTablesStand : Type 0
+NewTablesStand = (f : Key → Option (List ℕ)) (ts : Tables) (t : List ℕ) (columns : List Column) → get ts t ≡ None → TablesStand f ts → TablesStand (view (create_words t columns) f) (with_table ts t columns)
+
+-- after INSERT of a row that isn't there into a table that is
+abbrev pub NewRowsStand : Type 0
+NewRowsStand = (f : Key → Option (List ℕ)) (ts : Tables) (t : List ℕ) (r : ℤ) (vs : List Value) (x : Table) → get ts t ≡ Some x → get x.rows r ≡ None → IsRow r → TablesStand f ts
+    → TablesStand (view (insert_words t r (numbers_of vs) (texts_of vs)) f) (with_row ts t r vs)
+
 -- ---- the kinds of tables
 
 abbrev pub is_of_tables : Kind → Bool
@@ -104,8 +115,7 @@ spelt_columns (Some y) = refl
 
 -- ---- a new table
 
--- after CREATE TABLE of a name that is free
-pub stand_create : (f : Key → Option (List ℕ)) (ts : Tables) (t : List ℕ) (columns : List Column) → get ts t ≡ None → TablesStand f ts → TablesStand (view (create_words t columns) f) (with_table ts t columns)
+pub stand_create : NewTablesStand
 stand_create f ts t columns none stand = record {
   tables = λ q.
     ap (cond (same (key kind.Tables q []) (key kind.Tables t [])) (Some (columns_bytes columns))) (stand.tables q)
@@ -178,9 +188,7 @@ told_texts t r q c s row here from (TextValue text ∷ vs) old =
 no_row : (ts : Tables) (t : List ℕ) (r : ℤ) (x : Table) → get ts t ≡ Some x → get x.rows r ≡ None → row_at ts t r ≡ None
 no_row ts t r x is none = ap (λ (o : Option Table). row_in o r) is ∙ none
 
--- after INSERT of a row that isn't there into a table that is
-pub stand_insert : (f : Key → Option (List ℕ)) (ts : Tables) (t : List ℕ) (r : ℤ) (vs : List Value) (x : Table) → get ts t ≡ Some x → get x.rows r ≡ None → IsRow r → TablesStand f ts
-    → TablesStand (view (insert_words t r (numbers_of vs) (texts_of vs)) f) (with_row ts t r vs)
+pub stand_insert : NewRowsStand
 stand_insert f ts t r vs x is none row stand = record {
   tables = λ q.
     told_frame is_of_texts (text_words t r (texts_of vs)) (key kind.Tables q []) (f (key kind.Tables q [])) (all_texts t r (texts_of vs)) refl

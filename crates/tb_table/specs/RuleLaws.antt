@@ -17,6 +17,16 @@ use Rattle.tb_table.specs.Tables.{Table, Tables, with_table, altered, with_row}
 use Rattle.tb_table.specs.Rules.{FitColumns, AreColumns, others, IsTable, AreTables}
 use Rattle.tb_table.specs.ChangeLaws.{get-with_table, get-with_row}
 
+-- ---- the laws
+
+-- a new table, where there is room for one
+abbrev pub NewTablesKeepTheRules : Type 0
+NewTablesKeepTheRules = (ts : Tables) (t : List ℕ) (columns : List Column) → AreTables ts → IsName t → AreColumns columns → length (entries ts) < 64 → AreTables (with_table ts t columns)
+
+-- a new row of values that fit, where there is room for one
+abbrev pub NewRowsKeepTheRules : Type 0
+NewRowsKeepTheRules = (ts : Tables) (t : List ℕ) (r : ℤ) (vs : List Value) (x : Table) → AreTables ts → get ts t ≡ Some x → IsRow r → FitColumns (others x.columns) vs → length (entries x.rows) < 100000 → AreTables (with_row ts t r vs)
+
 -- ---- how many entries
 
 module _ {K X : Type 0} {R : K → K → Ordering} (total : IsTotalOrder R) where
@@ -52,7 +62,7 @@ new_is_table columns are = record {
     nothing : (r : ℤ) (vs : List Value) → get (empty {X = List Value} {R = int_cmp}) r ≡ Some vs → ⊥
     nothing r vs e = let wrong : None ≡ Some vs = sym (get-empty int_cmp r) ∙ e in cc
 
-pub create_keeps : (ts : Tables) (t : List ℕ) (columns : List Column) → AreTables ts → IsName t → AreColumns columns → length (entries ts) < 64 → AreTables (with_table ts t columns)
+pub create_keeps : NewTablesKeepTheRules
 create_keeps ts t columns are name cs room = record {
   names = λ q y is. named q y (same_list q t) refl (sym (get-with_table ts t columns q) ∙ is);
   each = λ q y is. table q y (same_list q t) (sym (get-with_table ts t columns q) ∙ is);
@@ -85,7 +95,7 @@ more_is_table x r vs is row fit room = record {
     fits s ws true e = subst (FitColumns (others x.columns)) (some_one vs ws e) fit
     fits s ws false e = is.rows s ws e
 
-pub insert_keeps : (ts : Tables) (t : List ℕ) (r : ℤ) (vs : List Value) (x : Table) → AreTables ts → get ts t ≡ Some x → IsRow r → FitColumns (others x.columns) vs → length (entries x.rows) < 100000 → AreTables (with_row ts t r vs)
+pub insert_keeps : NewRowsKeepTheRules
 insert_keeps ts t r vs x are is row fit room = record {
   names = λ q y e. named q y (same_list q t) refl (sym (get-with_row ts t r vs x is q) ∙ e);
   each = λ q y e. table q y (same_list q t) (sym (get-with_row ts t r vs x is q) ∙ e);
