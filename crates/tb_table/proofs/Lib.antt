@@ -1,3 +1,4 @@
 pub mod TextWords
 pub mod ColumnSteps
 pub mod NumberSteps
+pub mod NameSteps

@@ -3,3 +3,7 @@ pub mod Spelling
 pub mod Rules
 pub mod Readings
 pub mod SpellingLaws
+pub mod ReadLaws
+pub mod ChangeLaws
+pub mod RuleLaws
+pub mod WellLaws

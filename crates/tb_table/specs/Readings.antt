@@ -1,8 +1,14 @@
 -- What is read from the entries of tables. An entry is read as what it spells exactly where it spells anything.
-use Rattle.std.specs.Prelude.{ℕ, ℤ, ◌≡◌, ◌+◌, ◌<◌, ◌^◌, List, [], ◌∷◌, ◌++◌, length, drop, Option, Some, None, FitsSigned}
+use Rattle.std.specs.Prelude.{ℕ, ℤ, Bool, true, ◌&&◌, is_some, ◌≡◌, ◌+◌, ◌<◌, ◌^◌, List, [], ◌∷◌, ◌++◌, length, drop, Option, Some, None, FitsSigned}
 use Rattle.std.specs.Int.{to_be_bytes, w16, w64}
 use Rattle.std.specs.Str.{IsUtf8}
-use Rattle.ct_base.specs.Names.{IsName}
+use Rattle.std.specs.Ordering.{nat_cmp, is_lt}
+use Rattle.std.specs.Cmp.Lexicographic.{slice_cmp}
+use Rattle.ct_base.specs.Names.{IsName, is_kept}
+use Rattle.ct_keep.specs.Content.{Content}
+use Rattle.ct_entry.specs.declared.kinds.Kind.TheVariants as kind
+use Rattle.ct_entry.specs.Keys.{key, at}
+use Rattle.ct_entry.specs.Each.{is_among}
 use Rattle.tb_table.specs.declared.columns.Sort.{Sort}
 use Rattle.tb_table.specs.declared.columns.Column.{Column}
 use Rattle.tb_table.specs.Spelling.{sort_code, sort_size, column_bytes, columns_bytes, numbers_bytes}
@@ -53,3 +59,24 @@ SpellsNumbers entry None = (zs : List ℤ) → entry ≡ Some (numbers_bytes zs)
 abbrev pub SpellsText : Option (List ℕ) → Option (List ℕ) → Type 0
 SpellsText entry (Some text) = IsUtf8 text × (entry ≡ Some text)
 SpellsText entry None = (text : List ℕ) → IsUtf8 text → entry ≡ Some text → ⊥
+
+-- ---- the names of tables
+
+-- every name is greater, by its bytes
+abbrev pub all_above : List ℕ → List (List ℕ) → Bool
+all_above t [] = true
+all_above t (u ∷ us) = is_lt (slice_cmp nat_cmp t u) && all_above t us
+
+-- the names strictly rise
+abbrev pub names_rise : List (List ℕ) → Bool
+names_rise [] = true
+names_rise (t ∷ ts) = all_above t ts && names_rise ts
+
+-- the name is one, and has an entry that tells of a table
+abbrev pub has_table : Content → List ℕ → Bool
+has_table m t = is_kept t && is_some (at m (key kind.Tables t []))
+
+-- The names of all tables, each once, in the order of their bytes.
+pub record AreTableNames (m : Content) (names : List (List ℕ)) : Type 0 where
+  pub rising : names_rise names ≡ true
+  pub each : (t : List ℕ) → is_among t names ≡ has_table m t

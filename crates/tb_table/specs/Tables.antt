@@ -1,8 +1,8 @@
 -- Tables and their rows.
-use Rattle.std.specs.Prelude.{ℕ, ℤ, zero, suc, List, [], ◌∷◌, Option, Some, None}
+use Rattle.std.specs.Prelude.{ℕ, ℤ, zero, suc, List, [], ◌∷◌, map, Option, Some, None}
 use Rattle.std.specs.Ordering.{nat_cmp, int_cmp}
 use Rattle.std.specs.Cmp.Lexicographic.{slice_cmp}
-use Rattle.std.specs.FinMap.{FinMap, get, insert, remove, empty}
+use Rattle.std.specs.FinMap.{FinMap, get, insert, remove, empty, entries}
 use Rattle.ct_base.specs.declared.lists.Value.{Value}
 use Rattle.ct_base.specs.declared.lists.Value.TheVariants.{Number, Text}
 use Rattle.tb_table.specs.declared.columns.Column.{Column}
@@ -44,6 +44,24 @@ text_in (v ∷ vs) (suc place) = text_in vs place
 abbrev pub text_of : List Value → ℕ → Option (List ℕ)
 text_of vs zero = None
 text_of vs (suc place) = text_in vs place
+
+-- the texts of values of which the first stands in this column, each with its column
+abbrev pub texts_from : ℕ → List Value → List (ℕ × List ℕ)
+texts_from column [] = []
+texts_from column (Number n ∷ vs) = texts_from (suc column) vs
+texts_from column (Text text ∷ vs) = (column, text) ∷ texts_from (suc column) vs
+
+-- the texts of a row, each with its column
+abbrev pub texts_of : List Value → List (ℕ × List ℕ)
+texts_of vs = texts_from 1 vs
+
+abbrev pub keys_in : Option Table → List ℤ
+keys_in None = []
+keys_in (Some x) = map (λ e. e.0) (entries x.rows)
+
+-- the keys of a table's rows, in order; none where the table isn't there
+abbrev pub row_keys : Tables → List ℕ → List ℤ
+row_keys ts t = keys_in (get ts t)
 
 -- ---- what statements make of the tables
 

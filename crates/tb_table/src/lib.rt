@@ -3,10 +3,14 @@
 
 mod changes;
 mod columns;
+mod laws;
+mod listings;
 mod lookups;
 mod reading;
 mod writing;
 
 pub use changes::{create, insert};
 pub use columns::{Column, Sort, Target};
+pub use laws::{entries_are_exact, rules_stay, words_stand};
+pub use listings::{next_row, tables};
 pub use lookups::{columns_of, has_row, number_row, text_of};

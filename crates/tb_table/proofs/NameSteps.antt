@@ -1,0 +1,181 @@
+-- How the names that a scan finds become the names of all tables.
+use Rattle.std.proofs.Common.{◌≡◌, ℕ, suc, ◌+◌, ◌<◌, ◌≤◌, Bool, true, false, cond, List, [], ◌∷◌, ◌++◌, length, get_or, Option, Some, None, refl, sym, ap, subst, ◌∙◌, arith, append-nil, zero-add, is_lt}
+use Rattle.std.specs.Prelude.{◌==◌, ◌&&◌, ◌||◌, is_some, sum_by, IsPermutation, IsSorted}
+use Rattle.std.specs.List.{cons_option}
+use Rattle.std.specs.declared.cmp.Ordering.{Ordering}
+use Rattle.std.specs.declared.cmp.Ordering.TheVariants.{Less, Equal, Greater}
+use Rattle.std.specs.Ordering.{nat_cmp, is_eq, eq_by_cmp, ordering_reverse}
+use Rattle.std.specs.Cmp.Lexicographic.{slice_cmp}
+use Rattle.std.specs.FinMap.{entries, find, get, get-entries}
+use Rattle.std.proofs.lemmas.Bool.{eq-eqb, eqb-true}
+use Rattle.std.proofs.lemmas.Cmp.{nat_list_cmp_total, tied_itself}
+use Rattle.std.proofs.lemmas.Map.Lookups.{exact_bytes}
+use Rattle.std.proofs.lemmas.List.MinMax.{ranks_by}
+use Rattle.std.proofs.lemmas.List.Sorted.{sorted_far, sum_by-IsPermutation}
+use Rattle.std.proofs.lemmas.List.Sums.{sum_by-cons}
+use Rattle.ct_base.specs.Names.{is_kept, kept_name}
+use Rattle.ct_keep.specs.Content.{Content}
+use Rattle.ct_keep.specs.Looks.{one_if}
+use Rattle.ct_keep.specs.Tail.{tail}
+use Rattle.ct_keep.specs.TailLaws.{get-tail}
+use Rattle.ct_keep.specs.Rising.{and_true, and_both}
+use Rattle.ct_entry.specs.declared.kinds.Kind.TheVariants as kind
+use Rattle.ct_entry.specs.Kinds.{code}
+use Rattle.ct_entry.specs.Keys.{key, bytes, at, counted_bytes, same_list}
+use Rattle.ct_entry.specs.Each.{is_among}
+use Rattle.ct_entry.specs.KeyLaws.{is_eq_Equal, list_from_same, list_same}
+use Rattle.ct_entry.specs.Rising.{below, rises, entries_rise, none_below, below_tied}
+use Rattle.ct_entry.specs.Listings.{owner_of, owners_of, owners_under}
+use Rattle.tb_table.specs.Readings.{all_above, names_rise, has_table, AreTableNames}
+
+abbrev order : List ℕ → List ℕ → Ordering
+order = slice_cmp nat_cmp
+
+-- ---- how often a name stands among others
+
+abbrev tally : List ℕ → List (List ℕ) → ℕ
+tally t us = sum_by (λ u. one_if (same_list t u)) us
+
+tally-cons : (t u : List ℕ) (us : List (List ℕ)) → tally t (u ∷ us) ≡ one_if (same_list t u) + tally t us
+tally-cons t u us = sum_by-cons (λ u. one_if (same_list t u)) u us
+
+tally_none : (t : List ℕ) (us : List (List ℕ)) → tally t us ≡ 0 → is_among t us ≡ false
+tally_none t [] h = refl
+tally_none t (u ∷ us) h = go (same_list t u) (sym (tally-cons t u us) ∙ h) (tally_none t us)
+  where
+    go : (b : Bool) → one_if b + tally t us ≡ 0 → (tally t us ≡ 0 → is_among t us ≡ false) → (b || is_among t us) ≡ false
+    go true e rest = absurd (omega arith)
+    go false e rest = rest (omega arith)
+
+tally_some : (t : List ℕ) (us : List (List ℕ)) → 0 < tally t us → is_among t us ≡ true
+tally_some t [] h = absurd (omega arith)
+tally_some t (u ∷ us) h = go (same_list t u) (let e = tally-cons t u us in omega (arith, e)) (tally_some t us)
+  where
+    go : (b : Bool) → 0 < one_if b + tally t us → (0 < tally t us → is_among t us ≡ true) → (b || is_among t us) ≡ true
+    go true e rest = refl
+    go false e rest = rest (omega arith)
+
+among_once : (t : List ℕ) (us : List (List ℕ)) (b : Bool) → tally t us ≡ one_if b → is_among t us ≡ b
+among_once t us true h = tally_some t us (omega (arith, h))
+among_once t us false h = tally_none t us h
+
+-- ---- the names that a scan finds, each once
+
+owner_counted : (t : List ℕ) → owner_of (counted_bytes t) ≡ kept_name t
+owner_counted t = rw (eq-eqb (length t) (length t) refl) refl
+
+kept_parts : (t u : List ℕ) → kept_name t ≡ Some u → (is_kept t ≡ true) × (t ≡ u)
+kept_parts t u = go (is_kept t)
+  where
+    go : (b : Bool) → cond b (Some t) None ≡ Some u → (b ≡ true) × (t ≡ u)
+    go true e = (refl, cc)
+    go false e = cc
+
+kept_not : (t : List ℕ) → kept_name t ≡ None → is_kept t ≡ false
+kept_not t = go (is_kept t)
+  where
+    go : (b : Bool) → cond b (Some t) None ≡ None → b ≡ false
+    go true e = cc
+    go false e = refl
+
+owner_some : (q u : List ℕ) → owner_of q ≡ Some u → q ≡ counted_bytes u
+owner_some [] u e = cc
+owner_some (n ∷ t) u e = go (length t == n) refl e
+  where
+    go : (b : Bool) → (length t == n) ≡ b → cond b (kept_name t) None ≡ Some u → n ∷ t ≡ counted_bytes u
+    go true h e =
+        let k = kept_parts t u e in
+        let long : length t ≡ n = eqb-true (length t) n h in
+        ap (λ (l : ℕ). l ∷ t) (sym long) ∙ ap counted_bytes k.1
+    go false h e = cc
+
+nothing : (b : Bool) → one_if (b && false) ≡ 0
+nothing true = refl
+nothing false = refl
+
+tally-owners : (t : List ℕ) (es : List (List ℕ × List ℕ)) → rises order es ≡ true → tally t (owners_of es) ≡ one_if (is_kept t && is_some (find order (counted_bytes t) es))
+tally-owners t [] h = sym (nothing (is_kept t))
+tally-owners t (e ∷ es) h =
+    let b = and_true (below order e.0 es) (rises order es) h in
+    at_head (owner_of e.0) refl (eq_by_cmp order (counted_bytes t) e.0) refl b.0 (tally-owners t es b.1)
+  where
+    whole : (u : List ℕ) (k : Bool) → is_kept t ≡ k → k ≡ true → t ≡ u → tally t (owners_of es) ≡ 0 → tally t (u ∷ owners_of es) ≡ one_if (is_kept t && true)
+    whole u k is here same none =
+        let one : same_list t u ≡ true = subst (λ (v : List ℕ). same_list t v ≡ true) same (list_same t) in
+        let kept : is_kept t ≡ true = is ∙ here in
+        tally-cons t u (owners_of es) ∙ rw (one, none, kept) refl
+
+    at_head : (o : Option (List ℕ)) → owner_of e.0 ≡ o → (tie : Bool) → eq_by_cmp order (counted_bytes t) e.0 ≡ tie → below order e.0 es ≡ true → tally t (owners_of es) ≡ one_if (is_kept t && is_some (find order (counted_bytes t) es))
+        → tally t (cons_option o (owners_of es)) ≡ one_if (is_kept t && is_some (cond tie (Some e.1) (find order (counted_bytes t) es)))
+    at_head o is true tie low rest =
+        let here : counted_bytes t ≡ e.0 = exact_bytes (counted_bytes t) e.0 (is_eq_Equal _ tie) in
+        let kept : kept_name t ≡ o = sym (owner_counted t) ∙ ap owner_of here ∙ is in
+        let gone : find order (counted_bytes t) es ≡ None = none_below order (counted_bytes t) es (below_tied order nat_list_cmp_total (counted_bytes t) e.0 es tie low) in
+        let none : tally t (owners_of es) ≡ 0 = rest ∙ ap (λ (x : Option (List ℕ)). one_if (is_kept t && is_some x)) gone ∙ nothing (is_kept t) in
+        found o kept none
+      where
+        found : (o : Option (List ℕ)) → kept_name t ≡ o → tally t (owners_of es) ≡ 0 → tally t (cons_option o (owners_of es)) ≡ one_if (is_kept t && true)
+        found None kept none = let not_kept : is_kept t ≡ false = kept_not t kept in none ∙ rw not_kept refl
+        found (Some u) kept none = let p = kept_parts t u kept in whole u (is_kept t) refl p.0 p.1 none
+    at_head None is false tie low rest = rest
+    at_head (Some u) is false tie low rest = other (same_list t u) refl
+      where
+        other : (b : Bool) → same_list t u ≡ b → tally t (u ∷ owners_of es) ≡ one_if (is_kept t && is_some (find order (counted_bytes t) es))
+        other true one =
+            let same : t ≡ u = list_from_same t u one in
+            let here : e.0 ≡ counted_bytes t = owner_some e.0 u is ∙ ap counted_bytes (sym same) in
+            let tied : eq_by_cmp order (counted_bytes t) e.0 ≡ true = ap (eq_by_cmp order (counted_bytes t)) here ∙ ap is_eq (tied_itself nat_list_cmp_total (counted_bytes t)) in
+            cc
+        other false apart = tally-cons t u (owners_of es) ∙ ap (λ (b : Bool). one_if b + tally t (owners_of es)) apart ∙ zero-add (tally t (owners_of es)) ∙ rest
+
+tally-under : (t : List ℕ) (m : Content) → tally t (owners_under kind.Tables m) ≡ one_if (has_table m t)
+tally-under t m =
+    tally-owners t (entries (tail (code kind.Tables ∷ []) m)) (entries_rise order (tail (code kind.Tables ∷ []) m))
+    ∙ ap (λ (o : Option (List ℕ)). one_if (is_kept t && is_some o))
+    (sym (get-entries (tail (code kind.Tables ∷ []) m) (counted_bytes t)) ∙ get-tail (code kind.Tables ∷ []) m (length t) t ∙ ap (λ (l : List ℕ). get m (code kind.Tables ∷ length t ∷ l)) (sym (append-nil t)))
+
+-- ---- names in order, none of them twice
+
+abbrev NeverFalls : List (List ℕ) → Type 0
+NeverFalls us = (i j : ℕ) (d : List ℕ) → i ≤ j → j < length us → is_lt (order (get_or us j d) (get_or us i d)) ≡ false
+
+above : (t : List ℕ) (us : List (List ℕ)) → ((k : ℕ) (d : List ℕ) → k < length us → is_lt (order (get_or us k d) t) ≡ false) → is_among t us ≡ false → all_above t us ≡ true
+above t [] low none = refl
+above t (u ∷ us) low none =
+    let apart = neither (same_list t u) (is_among t us) none in
+    and_both _ _ (less (order t u) refl (low 0 [] (omega arith)) apart.0) (above t us (λ k d h. low (suc k) d (omega arith)) apart.1)
+  where
+    neither : (a b : Bool) → (a || b) ≡ false → (a ≡ false) × (b ≡ false)
+    neither true b h = cc
+    neither false b h = (refl, h)
+
+    less : (o : Ordering) → order t u ≡ o → is_lt (order u t) ≡ false → same_list t u ≡ false → is_lt (order t u) ≡ true
+    less Less is high apart = ap is_lt is
+    less Equal is high apart =
+        let same : t ≡ u = exact_bytes t u is in
+        let one : same_list t u ≡ true = subst (λ (v : List ℕ). same_list t v ≡ true) same (list_same t) in
+        cc
+    less Greater is high apart =
+        let back : order u t ≡ Less = nat_list_cmp_total.antisymm u t ∙ ap ordering_reverse is in
+        cc
+
+rise : (us : List (List ℕ)) → NeverFalls us → ((t : List ℕ) → tally t us ≤ 1) → names_rise us ≡ true
+rise [] far once = refl
+rise (u ∷ us) far once =
+    let here : tally u us ≡ 0 = (let e = tally-cons u u us in let o = once u in let s : same_list u u ≡ true = list_same u in let c : one_if (same_list u u) ≡ 1 = rw s refl in omega (arith, e, o, c)) in
+    and_both _ _ (above u us (λ k d h. far 0 (suc k) d (omega arith) (omega arith)) (tally_none u us here))
+    (rise us (λ i j d le h. far (suc i) (suc j) d (omega arith) (omega arith)) (λ t. let e = tally-cons t u us in let o = once t in omega (arith, e, o)))
+
+at_most_one : (b : Bool) → one_if b ≤ 1
+at_most_one true = omega arith
+at_most_one false = omega arith
+
+-- the names that a scan finds, put into order
+pub tables_named : (m : Content) (found names : List (List ℕ)) → found ≡ owners_under kind.Tables m → IsPermutation found names → IsSorted (slice_cmp nat_cmp) names → AreTableNames m names
+tables_named m found names is moved sorted = record {
+  rising = rise names (λ i j d le h. sorted_far (λ x y. is_lt (order x y)) (ranks_by nat_list_cmp_total (λ x. x)) names sorted i j d le h) (λ t. let e = once t in let l = at_most_one (has_table m t) in omega (arith, e, l));
+  each = λ t. among_once t names (has_table m t) (once t);
+}
+  where
+    once : (t : List ℕ) → tally t names ≡ one_if (has_table m t)
+    once t = sum_by-IsPermutation (λ u. one_if (same_list t u)) found names moved ∙ ap (tally t) is ∙ tally-under t m

@@ -1,0 +1,72 @@
+//! What tables there are, and the rows of a table.
+#![tactic(auto, using(ct_keep::specs::Composing::reads_short))]
+
+ghost use Rattle.std.specs.Prelude.{◌≡◌, ◌++◌, ◌∷◌, [], IfOk, OnOk, Some, Err, IsPermutation, IsSorted};
+ghost use Rattle.std.specs.Option.{option_map};
+ghost use Rattle.std.specs.Ordering.{nat_cmp};
+ghost use Rattle.std.specs.Cmp.Lexicographic.{slice_cmp};
+ghost use Rattle.ct_keep.specs.Content.{Content};
+ghost use Rattle.ct_keep.specs.Keeping.{Reads, fault_of};
+ghost use Rattle.ct_keep.specs.Looks.{next_looks, scan_looks, raised, RisesBy};
+ghost use Rattle.ct_entry.specs.declared.kinds.Kind.TheVariants as kind;
+ghost use Rattle.ct_entry.specs.Kinds.{code};
+ghost use Rattle.ct_entry.specs.Keys.{prefix_of};
+ghost use Rattle.ct_entry.specs.Listings.{place_after, row_after};
+ghost use Rattle.tb_table.specs.Readings.{AreTableNames};
+
+use ct_base::{Memory, Name, RowKey};
+use ct_entry::{Kind, next_row_key, owners};
+use ct_keep::{KeepFault, Keeper};
+use std::alloc::Global;
+use std::cmp::Ordering;
+
+/// The least key of a row of the table that is greater than `after`, or the least of all. None where there is none.
+///
+/// It takes one look-up, and never answers Full.
+pub fn next_row<K: Keeper>(
+    alloc: Global,
+    keeper: &mut K,
+    table: &Name,
+    after: Option<RowKey>,
+) -> Result<Option<RowKey>, KeepFault>
+    requires { (K.keeping keeper.old).ready }
+    ensures row { (m : Content) → (K.keeping keeper.old).content ≡ Some m → IfOk result (λ row. option_map (λ r. r.0) row ≡ row_after (option_map (λ r. r.0) after) kind.RowNumbers table.now m) }
+    ensures reads { Reads (K.keeping keeper.old) (K.keeping keeper.new) (fault_of result) }
+    ensures counts { (m : Content) → (K.keeping keeper.old).content ≡ Some m → OnOk result ((K.keeping keeper.new).counts ≡ raised (next_looks (prefix_of kind.RowNumbers table.now ++ place_after (option_map (λ r. r.0) after)) m) (K.keeping keeper.old).counts) }
+    ensures at_most { (m : Content) → (K.keeping keeper.old).content ≡ Some m → RisesBy (next_looks (prefix_of kind.RowNumbers table.now ++ place_after (option_map (λ r. r.0) after)) m) (K.keeping keeper.old).counts (K.keeping keeper.new).counts }
+    ensures never_full { result ≡ Err KeepFault.Full → ⊥ }
+{
+    next_row_key(alloc, keeper, Kind::RowNumbers, table, after)
+}
+
+/// Which of two names comes first by its bytes.
+fn compare(a: &Name, b: &Name) -> Ordering
+    ensures { result ≡ slice_cmp nat_cmp a.now b.now }
+{
+    a.as_str().cmp(b.as_str())
+}
+
+/// Puts names into the order of their bytes.
+fn sort_names(names: &mut Vec<Name>) -> Result<(), Memory>
+    ensures permutation { IsPermutation names.old.items names.new.items }
+    ensures sorted { OnOk result (IsSorted (slice_cmp nat_cmp) names.new.items) }
+{
+    names.sort_by(|a, b| compare(a, b))?;
+    Ok(())
+}
+
+/// The names of all tables, each once, in the order of their bytes.
+///
+/// It costs what it finds, and sorts it. It never answers Full.
+pub fn tables<K: Keeper>(alloc: Global, keeper: &mut K) -> Result<Vec<Name>, KeepFault>
+    requires { (K.keeping keeper.old).ready }
+    ensures names { (m : Content) → (K.keeping keeper.old).content ≡ Some m → IfOk result (λ names. AreTableNames m names.items) }
+    ensures reads { Reads (K.keeping keeper.old) (K.keeping keeper.new) (fault_of result) }
+    ensures counts { (m : Content) → (K.keeping keeper.old).content ≡ Some m → OnOk result ((K.keeping keeper.new).counts ≡ raised (scan_looks (code kind.Tables ∷ []) m) (K.keeping keeper.old).counts) }
+    ensures at_most { (m : Content) → (K.keeping keeper.old).content ≡ Some m → RisesBy (scan_looks (code kind.Tables ∷ []) m) (K.keeping keeper.old).counts (K.keeping keeper.new).counts }
+    ensures never_full { result ≡ Err KeepFault.Full → ⊥ }
+{
+    let mut names = owners(alloc, keeper, Kind::Tables)?;
+    sort_names(&mut names)?;
+    Ok(names)
+}
