@@ -1,11 +1,11 @@
 -- Documents with positions as items, and rows as a count and so many documents.
 use Rattle.std.proofs.Common.{◌≡◌, ℕ, suc, ◌+◌, ◌<◌, ◌≤◌, ◌^◌, List, [], ◌∷◌, length, refl, ap, ◌∙◌, arith}
-use Rattle.ct_bytes.specs.Varints.{varint, IsVarintAt}
+use Rattle.ct_bytes.specs.Varints.{varint}
 use Rattle.ix_posting.specs.Rows.{Rise, IsRow, steps, varints, document_bytes, documents_bytes, row_bytes}
 use Rattle.ix_posting.specs.Places.{StandsAt, AreNumbersAt, IsDocumentAt, AreDocumentsAt}
 use Rattle.ix_posting.specs.declared.rows.RowDocument.{RowDocument}
 use Rattle.ix_posting.specs.Items.{AreItems, Parts, many_alone}
-use Rattle.ix_posting.specs.Standing.{nothing_stands, nothing_behind, joined, first_part, second_part, whole_stands, same_whole, varint_stands, varint_is}
+use Rattle.ix_posting.specs.Standing.{nothing_stands, nothing_behind, joined, first_part, second_part, whole_stands, varint_is}
 use Rattle.ix_posting.specs.Heads.{head_bytes, head_whole, head_parts, head_alone}
 use Rattle.ix_posting.specs.NumberItems.{few_rise, numbers}
 use Rattle.ix_posting.specs.Wholes.{IsWhole}
@@ -88,9 +88,3 @@ row_parts bytes row is spelt =
         stand = second_part bytes 0 (varint (length row)) (documents_bytes 0 row) (length bytes) all;
       };
     }
-
-pub row_whole : (bytes : List ℕ) (row : List RowDocument) (count start next : ℕ) → IsVarintAt bytes 0 count start → AreDocumentsAt bytes 0 start count row next → next ≡ length bytes → row_bytes row ≡ bytes
-row_whole bytes row count start next is are end =
-    let number : StandsAt bytes 0 (varint (length row)) start = rw are.many (varint_stands bytes 0 count start is) in
-    let rest : StandsAt bytes start (documents_bytes 0 row) (length bytes) = rw (← end) are.stand in
-    same_whole bytes (row_bytes row) (joined bytes 0 (varint (length row)) start (documents_bytes 0 row) (length bytes) number rest)

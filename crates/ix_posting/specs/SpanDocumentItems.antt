@@ -1,13 +1,13 @@
 -- Documents with pairs as items, and rows as a count and so many documents.
 use Rattle.std.proofs.Common.{◌≡◌, ℕ, suc, ◌+◌, ◌<◌, ◌≤◌, ◌^◌, List, [], ◌∷◌, length, refl, ap, ◌∙◌, arith}
 use Rattle.ct_base.specs.declared.numbers.Pair.{Pair}
-use Rattle.ct_bytes.specs.Varints.{varint, IsVarintAt}
+use Rattle.ct_bytes.specs.Varints.{varint}
 use Rattle.ix_posting.specs.Rows.{varints}
 use Rattle.ix_posting.specs.SpanRows.{PairsRise, IsSpanRow, no_pair, pair_steps, span_document_bytes, span_documents_bytes, span_row_bytes}
 use Rattle.ix_posting.specs.Places.{StandsAt, ArePairsAt, IsSpanDocumentAt, AreSpanDocumentsAt}
 use Rattle.ix_posting.specs.declared.span_rows.SpanDocument.{SpanDocument}
 use Rattle.ix_posting.specs.Items.{AreItems, Parts, many_alone}
-use Rattle.ix_posting.specs.Standing.{nothing_stands, nothing_behind, joined, first_part, second_part, whole_stands, same_whole, varint_stands, varint_is}
+use Rattle.ix_posting.specs.Standing.{nothing_stands, nothing_behind, joined, first_part, second_part, whole_stands, varint_is}
 use Rattle.ix_posting.specs.Heads.{head_bytes, head_whole, head_parts, head_alone}
 use Rattle.ix_posting.specs.PairItems.{pairs}
 use Rattle.ix_posting.specs.Wholes.{IsWhole}
@@ -90,9 +90,3 @@ span_row_parts bytes row is spelt =
         stand = second_part bytes 0 (varint (length row)) (span_documents_bytes 0 row) (length bytes) all;
       };
     }
-
-pub span_row_whole : (bytes : List ℕ) (row : List SpanDocument) (count start next : ℕ) → IsVarintAt bytes 0 count start → AreSpanDocumentsAt bytes 0 start count row next → next ≡ length bytes → span_row_bytes row ≡ bytes
-span_row_whole bytes row count start next is are end =
-    let number : StandsAt bytes 0 (varint (length row)) start = rw are.many (varint_stands bytes 0 count start is) in
-    let rest : StandsAt bytes start (span_documents_bytes 0 row) (length bytes) = rw (← end) are.stand in
-    same_whole bytes (span_row_bytes row) (joined bytes 0 (varint (length row)) start (span_documents_bytes 0 row) (length bytes) number rest)

@@ -1,4 +1,4 @@
--- Bytes that stand at places: joined, parted, and whole.
+-- Bytes that stand at places: joined and parted.
 use Rattle.std.proofs.Common.{◌≡◌, ℕ, ◌+◌, ◌<◌, ◌^◌, List, [], ◌++◌, length, drop, refl, sym, ap, ◌∙◌, append_assoc, length-append, arith}
 use Rattle.std.proofs.lemmas.List.{append-nil, drop-drop, drop_at, drop_all}
 use Rattle.ct_bytes.specs.Varints.{varint, IsVarintAt}
@@ -31,16 +31,12 @@ first_part bytes at x y next is = record {
     second : StandsAt bytes (at + length x) y next
     second = second_part bytes at x y next is
 
--- all bytes stand at the front, and nothing else that ends with them
+-- all bytes stand at the front
 pub whole_stands : (bytes : List ℕ) → StandsAt bytes 0 bytes (length bytes)
 whole_stands bytes = record {
   spelt = sym (append-nil bytes) ∙ ap (λ l. bytes ++ l) (sym (drop_all (length bytes) bytes (omega arith)));
   behind = omega arith;
 }
-
-pub same_whole : (bytes piece : List ℕ) → StandsAt bytes 0 piece (length bytes) → piece ≡ bytes
-same_whole bytes piece is =
-    sym (append-nil piece) ∙ ap (λ l. piece ++ l) (sym (drop_all (length bytes) bytes (omega arith))) ∙ sym is.spelt
 
 pub varint_stands : (bytes : List ℕ) (at n next : ℕ) → IsVarintAt bytes at n next → StandsAt bytes at (varint n) next
 varint_stands bytes at n next is = record { spelt = is.spelt; behind = is.behind }

@@ -13,6 +13,7 @@ pub enum RowFault {
     /// The bytes spell no row.
     #[error("no row")]
     BadRow,
+    /// There was no memory for the row.
     #[error("out of memory")]
     Memory,
 }

@@ -8,6 +8,8 @@ mod rows;
 mod span_reading;
 mod span_rows;
 mod span_writing;
+#[cfg(test)]
+mod tests;
 mod writing;
 
 pub use faults::RowFault;

@@ -23,25 +23,26 @@ fn read_number(bytes: &[u8], at: usize, before: u32) -> Option<(u32, usize)>
     ensures none { IfNone result ((n next : ℕ) → IsNumberAt bytes.now before at n next → ⊥) }
 {
     let (step, next) = read_varint(bytes, at)?;
-    if step == 0 {
+    let number = before.checked_add(step)?;
+    if number == before {
         return None;
     }
-    let number = before.checked_add(step)?;
     Some((number, next))
 }
 
-/// So many rising numbers from `at` on, and the place behind them.
+/// So many numbers that rise from `before`, from `at` on, and the place behind them.
 fn read_numbers(
     alloc: Global,
     bytes: &[u8],
     at: usize,
+    before: u32,
     count: u32,
 ) -> Result<(Vec<u32>, usize), RowFault>
-    ensures ok { IfOk result (λ r. AreNumbersAt bytes.now 0 at count r.0.items r.1) }
-    ensures bad { result ≡ Err RowFault.BadRow → (ns : List ℕ) (next : ℕ) → AreNumbersAt bytes.now 0 at count ns next → ⊥ }
+    ensures ok { IfOk result (λ r. AreNumbersAt bytes.now before at count r.0.items r.1) }
+    ensures bad { result ≡ Err RowFault.BadRow → (ns : List ℕ) (next : ℕ) → AreNumbersAt bytes.now before at count ns next → ⊥ }
 {
     let mut numbers = Vec::new(alloc);
-    let mut last = 0;
+    let mut last = before;
     let mut place = at;
     for _ in 0..count {
         let Some((number, next)) = read_number(bytes, place, last) else {
@@ -84,7 +85,7 @@ fn read_document(
     let Some(head) = read_head(bytes, at, before) else {
         return Err(RowFault::BadRow);
     };
-    let (positions, next) = read_numbers(alloc, bytes, head.next, head.count)?;
+    let (positions, next) = read_numbers(alloc, bytes, head.next, 0, head.count)?;
     let document = RowDocument {
         document: head.document,
         positions: Positions::of(positions),

@@ -1,4 +1,4 @@
-//! Rows of postings.
+//! Rows of postings whose places are positions of words.
 
 ghost use Rattle.std.specs.Prelude.{◌≡◌, List, IfOk, Err};
 ghost use Rattle.ix_posting.specs.Rows.{IsRow, row_bytes};
@@ -33,6 +33,7 @@ impl Positions {
         Positions { items }
     }
 
+    /// The positions, in their order.
     pub fn as_slice(&self) -> &[u32]
         ensures { result.now ≡ self.now }
     {
@@ -43,7 +44,9 @@ impl Positions {
 /// A document of a row, with the positions at which the row's token stands in it.
 #[derive(Clone, Debug, Drop)]
 pub struct RowDocument {
+    /// Its number, at least 1 in a row.
     pub document: u32,
+    /// At least one in a row, rising from 1.
     pub positions: Positions,
 }
 
@@ -78,14 +81,19 @@ impl Row {
         Row { documents }
     }
 
-    /// The documents, in rising order.
+    /// The documents, in rising order: at least one.
     pub fn documents(&self) -> &[RowDocument]
         ensures documents { result.now ≡ self.now }
         ensures row { IsRow self.now }
     {
         self.documents.as_slice()
     }
+
     /// The bytes of the row, which spell no other row.
+    ///
+    /// They are varints: how many documents there are; and of each its number less the one before, how many positions
+    /// it has, and each position less the one before it. 0 stands before the first document, and before the first
+    /// position of each.
     pub fn encode(&self, alloc: Global) -> Result<Vec<u8>, Memory>
         ensures { IfOk result (λ v. v.items ≡ row_bytes self.now) }
     {
@@ -97,7 +105,9 @@ impl Row {
 
     /// The row that the bytes spell, with no byte behind it.
     ///
-    /// It goes over the bytes once, and takes memory for what it has read: a count that they claim takes none.
+    /// BadRow where they spell none: each number has one spelling, no count is 0, each document and position is greater
+    /// than the one before it, and all are below 2^32. It goes over the bytes once, and takes memory only for what it
+    /// has read: a count that the bytes claim takes none.
     pub fn decode(alloc: Global, bytes: &[u8]) -> Result<Row, RowFault>
         ensures row { IfOk result (λ r. row_bytes r ≡ bytes.now) }
         ensures rules { IfOk result (λ r. IsRow r) }

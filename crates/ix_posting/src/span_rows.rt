@@ -14,7 +14,9 @@ use std::marker::Model;
 /// A document of a row, with the pairs of word positions at which what the row stands for begins and ends in it.
 #[derive(Clone, Debug, Drop)]
 pub struct SpanDocument {
+    /// Its number, at least 1 in a row.
     pub document: u32,
+    /// At least one in a row, rising by first and then by last.
     pub pairs: Pairs,
 }
 
@@ -50,14 +52,18 @@ impl SpanRow {
         SpanRow { documents }
     }
 
-    /// The documents, in rising order.
+    /// The documents, in rising order: at least one.
     pub fn documents(&self) -> &[SpanDocument]
         ensures documents { result.now ≡ self.now }
         ensures row { IsSpanRow self.now }
     {
         self.documents.as_slice()
     }
+
     /// The bytes of the row, which spell no other row of pairs.
+    ///
+    /// They are those of a row of positions, but a pair is two varints: its first less the first of the pair before it,
+    /// and its last less its first. 0 stands before the first pair of each document.
     pub fn encode(&self, alloc: Global) -> Result<Vec<u8>, Memory>
         ensures { IfOk result (λ v. v.items ≡ span_row_bytes self.now) }
     {
@@ -69,7 +75,9 @@ impl SpanRow {
 
     /// The row that the bytes spell, with no byte behind it.
     ///
-    /// It goes over the bytes once, and takes memory for what it has read: a count that they claim takes none.
+    /// BadRow where they spell none: each number has one spelling, no count is 0, each document is greater than the one
+    /// before it, each pair follows the one before it, and all numbers are below 2^32. It goes over the bytes once, and
+    /// takes memory only for what it has read: a count that the bytes claim takes none.
     pub fn decode(alloc: Global, bytes: &[u8]) -> Result<SpanRow, RowFault>
         ensures row { IfOk result (λ r. span_row_bytes r ≡ bytes.now) }
         ensures rules { IfOk result (λ r. IsSpanRow r) }

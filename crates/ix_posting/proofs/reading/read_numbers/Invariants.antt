@@ -4,4 +4,4 @@ use Rattle.ix_posting.specs.Items.{HasRead}
 use Rattle.ix_posting.proofs.reading.read_numbers.Given as goal
 
 abbrev pub invariant-loop : goal.invariant-loop
-invariant-loop l = HasRead (AreNumbersAt l.bytes) 0 l.at l.count l.numbers.items l.last l.place (l.count - l.counter)
+invariant-loop l = HasRead (AreNumbersAt l.bytes) l.fn.before l.at l.count l.numbers.items l.last l.place (l.count - l.counter)
