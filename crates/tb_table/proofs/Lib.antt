@@ -2,3 +2,4 @@ pub mod TextWords
 pub mod ColumnSteps
 pub mod NumberSteps
 pub mod NameSteps
+pub mod TestWords

@@ -7,6 +7,8 @@ mod laws;
 mod listings;
 mod lookups;
 mod reading;
+#[cfg(test)]
+mod tests;
 mod writing;
 
 pub use changes::{create, insert};
