@@ -29,7 +29,6 @@ use Rattle.ct_entry.specs.RowLaws.{row_of-row_part}
 use Rattle.tb_table.specs.RowCounts.{rows_behind}
 use Rattle.tb_table.proofs.LookSteps.{next_adds_nothing, last_adds_scan}
 
-
 -- ---- each rest is that of a row
 
 abbrev AllRows : List Entry → Type 0

@@ -118,9 +118,9 @@ spelt_columns (Some y) = refl
 pub stand_create : NewTablesStand
 stand_create f ts t columns none stand = record {
   tables = λ q.
-    ap (cond (same (key kind.Tables q []) (key kind.Tables t [])) (Some (columns_bytes columns))) (stand.tables q)
-    ∙ at_table (same_list q t) (get ts q)
-    ∙ ap (option_map (λ (x : Table). columns_bytes x.columns)) (sym (get-with_table ts t columns q));
+      ap (cond (same (key kind.Tables q []) (key kind.Tables t [])) (Some (columns_bytes columns))) (stand.tables q)
+      ∙ at_table (same_list q t) (get ts q)
+      ∙ ap (option_map (λ (x : Table). columns_bytes x.columns)) (sym (get-with_table ts t columns q));
   numbers = λ q s row. stand.numbers q s row ∙ ap (option_map (λ vs. numbers_bytes (numbers_of vs))) (sym (row_at-with_table ts t columns none q s));
   texts = λ q c s few row. stand.texts q c s few row ∙ ap (option_and_then (λ vs. text_of vs c)) (sym (row_at-with_table ts t columns none q s));
 }
@@ -191,20 +191,20 @@ no_row ts t r x is none = ap (λ (o : Option Table). row_in o r) is ∙ none
 pub stand_insert : NewRowsStand
 stand_insert f ts t r vs x is none row stand = record {
   tables = λ q.
-    told_frame is_of_texts (text_words t r (texts_of vs)) (key kind.Tables q []) (f (key kind.Tables q [])) (all_texts t r (texts_of vs)) refl
-    ∙ stand.tables q ∙ spelt_columns (get ts q) ∙ ap (option_map columns_bytes) (sym (columns-with_row ts t r vs x is q)) ∙ sym (spelt_columns (get (with_row ts t r vs) q));
+      told_frame is_of_texts (text_words t r (texts_of vs)) (key kind.Tables q []) (f (key kind.Tables q [])) (all_texts t r (texts_of vs)) refl
+      ∙ stand.tables q ∙ spelt_columns (get ts q) ∙ ap (option_map columns_bytes) (sym (columns-with_row ts t r vs x is q)) ∙ sym (spelt_columns (get (with_row ts t r vs) q));
   numbers = λ q s here.
-    told_frame is_of_texts (text_words t r (texts_of vs)) (key kind.RowNumbers q (row_part s)) (cond (same (key kind.RowNumbers q (row_part s)) (key kind.RowNumbers t (row_part r))) (Some (numbers_bytes (numbers_of vs))) (f (key kind.RowNumbers q (row_part s)))) (all_texts t r (texts_of vs)) refl
-    ∙ ap (cond (same (key kind.RowNumbers q (row_part s)) (key kind.RowNumbers t (row_part r))) (Some (numbers_bytes (numbers_of vs)))) (stand.numbers q s here)
-    ∙ ap (λ (b : Bool). cond b (Some (numbers_bytes (numbers_of vs))) (option_map (λ ws. numbers_bytes (numbers_of ws)) (row_at ts q s))) (same_kind kind.RowNumbers q t (row_part s) (row_part r) ∙ ap (λ (b : Bool). same_list q t && b) (rows_tie s r here row))
-    ∙ at_numbers (same_list q t) (int_eq s r) (row_at ts q s)
-    ∙ ap (option_map (λ ws. numbers_bytes (numbers_of ws))) (sym (row_at-with_row ts t r vs x is q s));
+      told_frame is_of_texts (text_words t r (texts_of vs)) (key kind.RowNumbers q (row_part s)) (cond (same (key kind.RowNumbers q (row_part s)) (key kind.RowNumbers t (row_part r))) (Some (numbers_bytes (numbers_of vs))) (f (key kind.RowNumbers q (row_part s)))) (all_texts t r (texts_of vs)) refl
+      ∙ ap (cond (same (key kind.RowNumbers q (row_part s)) (key kind.RowNumbers t (row_part r))) (Some (numbers_bytes (numbers_of vs)))) (stand.numbers q s here)
+      ∙ ap (λ (b : Bool). cond b (Some (numbers_bytes (numbers_of vs))) (option_map (λ ws. numbers_bytes (numbers_of ws)) (row_at ts q s))) (same_kind kind.RowNumbers q t (row_part s) (row_part r) ∙ ap (λ (b : Bool). same_list q t && b) (rows_tie s r here row))
+      ∙ at_numbers (same_list q t) (int_eq s r) (row_at ts q s)
+      ∙ ap (option_map (λ ws. numbers_bytes (numbers_of ws))) (sym (row_at-with_row ts t r vs x is q s));
   texts = λ q c s few here.
-    told_texts t r q c s row here 1 vs (f (key kind.RowTexts q (text_part c s)))
-    ∙ ap (λ (o : Option (List ℕ)). cond (same_list q t && int_eq s r) (option_or (text_from 1 vs c) o) o) (stand.texts q c s few here)
-    ∙ ap (λ (o : Option (List ℕ)). cond (same_list q t && int_eq s r) (option_or o (option_and_then (λ ws. text_of ws c) (row_at ts q s))) (option_and_then (λ ws. text_of ws c) (row_at ts q s))) (text_from-text_of vs c)
-    ∙ at_texts c (same_list q t) (int_eq s r) (row_at ts q s) (absent q s)
-    ∙ ap (option_and_then (λ ws. text_of ws c)) (sym (row_at-with_row ts t r vs x is q s));
+      told_texts t r q c s row here 1 vs (f (key kind.RowTexts q (text_part c s)))
+      ∙ ap (λ (o : Option (List ℕ)). cond (same_list q t && int_eq s r) (option_or (text_from 1 vs c) o) o) (stand.texts q c s few here)
+      ∙ ap (λ (o : Option (List ℕ)). cond (same_list q t && int_eq s r) (option_or o (option_and_then (λ ws. text_of ws c) (row_at ts q s))) (option_and_then (λ ws. text_of ws c) (row_at ts q s))) (text_from-text_of vs c)
+      ∙ at_texts c (same_list q t) (int_eq s r) (row_at ts q s) (absent q s)
+      ∙ ap (option_and_then (λ ws. text_of ws c)) (sym (row_at-with_row ts t r vs x is q s));
 }
   where
     at_numbers : (a b : Bool) (old : Option (List Value)) → cond (a && b) (Some (numbers_bytes (numbers_of vs))) (option_map (λ ws. numbers_bytes (numbers_of ws)) old) ≡ option_map (λ ws. numbers_bytes (numbers_of ws)) (cond a (cond b (Some vs) old) old)

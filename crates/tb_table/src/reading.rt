@@ -37,11 +37,7 @@ fn read_sort(bytes: &[u8], at: usize) -> Option<Sort>
 }
 
 /// The column that stands from `at` on, and the place behind it.
-fn read_column(
-    alloc: Global,
-    bytes: &[u8],
-    at: usize,
-) -> Result<Option<(Column, usize)>, Memory>
+fn read_column(alloc: Global, bytes: &[u8], at: usize) -> Result<Option<(Column, usize)>, Memory>
     ensures some { IfOk result (λ r. IfSome r (λ p. IsColumnAt bytes.now at p.0 p.1)) }
     ensures none { IfOk result (λ r. IfNone r ((c : ColumnValue) (next : ℕ) → IsColumnAt bytes.now at c next → ⊥)) }
     ensures within { IfOk result (λ r. IfSome r (λ p. p.1 ≤ length bytes.now)) }
