@@ -1,5 +1,5 @@
 -- What a scan finds: the entries that a finite map has, in its order.
-use Rattle.std.proofs.Common.{◌≡◌, ℕ, Bool, true, false, cond, List, [], ◌∷◌, ◌++◌, Option, Some, None, refl, sym, ap, subst, ◌∙◌}
+use Rattle.std.proofs.Common.{◌≡◌, ℕ, Bool, true, false, cond, List, [], ◌∷◌, ◌++◌, Option, Some, None, refl, sym, ap, subst, ◌∙◌, append_assoc}
 use Rattle.std.specs.Prelude.{T, IsSome, is_some}
 use Rattle.std.specs.Option.{option_map, option_and_then}
 use Rattle.std.specs.List.{cons_option}
@@ -140,3 +140,20 @@ family_listed {K} R part P spells g c kind owner G only form has each =
     let k = only (bytes (key kind owner q)) there in
     let same : k.0 ≡ key kind owner q = key_from_bytes k.0 (key kind owner q) (sym k.1) in
     form q (subst (λ (j : Key). IsPart j.kind j.part) same k.2.part))
+
+-- ---- entries of an owner whose rests begin alike, as those of a column or of a token
+
+-- At a kind whose keys have such rests behind these first bytes: where an owner's entries are what a map has, a scan finds these, in the map's order.
+pub front_listed : {K X : Type 0} (R : K → K → Ordering) (part : K → List ℕ) (P : K → Type 0) → Spells R part P → (g : X → Option (List ℕ)) (c : Content) (kind : Kind) (owner front : List ℕ) (G : FinMap R X)
+    → HasKeysOnly c → ((q : List ℕ) → IsPart kind (front ++ q) → (k : K) × P k × (q ≡ part k)) → ((k : K) (x : X) → get G k ≡ Some x → P k) → ((k : K) → P k → at c (key kind owner (front ++ part k)) ≡ option_and_then g (get G k))
+    → entries (tail (prefix_of kind owner ++ front) c) ≡ listed part g (entries G)
+front_listed {K} R part P spells g c kind owner front G only form has each =
+    tail_listed R part P spells g c (prefix_of kind owner ++ front) G has
+    (λ k is. ap (get c) (assoc (part k)) ∙ each k is)
+    (λ q there some.
+    let k = only (prefix_of kind owner ++ front ++ q) there in
+    let same : k.0 ≡ key kind owner (front ++ q) = key_from_bytes k.0 (key kind owner (front ++ q)) (sym k.1 ∙ assoc q) in
+    form q (subst (λ (j : Key). IsPart j.kind j.part) same k.2.part))
+  where
+    assoc : (q : List ℕ) → (prefix_of kind owner ++ front) ++ q ≡ bytes (key kind owner (front ++ q))
+    assoc q = append_assoc (prefix_of kind owner) front q

@@ -23,7 +23,7 @@ use Rattle.ct_entry.specs.KeyLaws.{is_eq_Equal, list_from_same, list_same, lists
 pub row_part_apart : (r s : ℤ) → IsRow r → IsRow s → row_part r ≡ row_part s → r ≡ s
 row_part_apart r s f g e = row_bytes_one r s f g e
 
-heads : (a b : ℕ) (xs ys : List ℕ) → a ∷ xs ≡ b ∷ ys → (a ≡ b) × (xs ≡ ys)
+pub heads : (a b : ℕ) (xs ys : List ℕ) → a ∷ xs ≡ b ∷ ys → (a ≡ b) × (xs ≡ ys)
 heads a b xs ys e = (cc, cc)
 
 -- a list behind its length, and what follows

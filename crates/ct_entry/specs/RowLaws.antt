@@ -1,6 +1,6 @@
 -- What row keys a scan finds, and which keys of a map have a value.
 use Rattle.std.proofs.Common.{◌≡◌, ℕ, ℤ, pos, negsuc, ◌+◌, ◌-◌, ◌^◌, ◌<◌, Bool, true, false, cond, List, [], ◌∷◌, length, map, Option, Some, None, refl, sym, ap, ◌∙◌, arith}
-use Rattle.std.specs.Prelude.{is_some, nat_lt, filter}
+use Rattle.std.specs.Prelude.{◌&&◌, is_some, nat_lt, filter}
 use Rattle.std.specs.Option.{option_map, option_and_then}
 use Rattle.std.specs.List.{list_any, cons_option}
 use Rattle.std.specs.declared.cmp.Ordering.{Ordering}
@@ -17,9 +17,11 @@ use Rattle.ct_bytes.specs.RowKeyLaws.{length-row_bytes, row_bytes_in_order}
 use Rattle.ct_keep.specs.Content.{Content, first_entry}
 use Rattle.ct_keep.specs.TailLaws.{entries_above-tail_nil}
 use Rattle.ct_entry.specs.declared.kinds.Kind.{Kind}
-use Rattle.ct_entry.specs.Keys.{key, at, prefix_of, HasKeysOnly, row_part, IsRow}
-use Rattle.ct_keep.specs.Rising.{and_true}
-use Rattle.ct_entry.specs.Rising.{below, rises, entries_rise, none_below, below_tied, AllKeys, all_keys}
+use Rattle.ct_entry.specs.declared.kinds.Kind.TheVariants.{RowTexts}
+use Rattle.ct_entry.specs.Keys.{key, at, prefix_of, IsPart, HasKeysOnly, row_part, IsRow}
+use Rattle.ct_keep.specs.Rising.{and_true, and_both}
+use Rattle.ct_entry.specs.PartLaws.{heads}
+use Rattle.ct_entry.specs.Rising.{no_tie, below, rises, entries_rise, none_below, below_tied, AllKeys, all_keys}
 use Rattle.ct_entry.specs.Listings.{listed, keys_where, lowered, row_of, rows_of, rows_under, first_of, rows_above, row_after}
 use Rattle.ct_entry.specs.ListingLaws.{Spells, HasPartsOnly, family_listed}
 
@@ -134,3 +136,50 @@ next_row_listed g c kind owner G only form has each None place =
 next_row_listed g c kind owner G only form has each (Some r) place =
     ap (λ es. option_and_then (λ e. row_of e.0) (first_entry (filter (λ e. is_lt (slice_cmp nat_cmp (row_part r) e.0)) es))) (family_listed int_cmp row_part IsRow row_spells g c kind owner G only form has each)
     ∙ next_listed g r place (entries G) (all_keys int_cmp int_cmp_total IsRow G has)
+
+-- behind a column stands a row
+pub text_front : (column : ℕ) (q : List ℕ) → IsPart RowTexts (column ∷ q) → (r : ℤ) × IsRow r × (q ≡ row_part r)
+text_front column q is = (is.1.0, is.1.2, (heads column is.0 q (row_part is.1.0) is.1.3).1)
+
+-- ---- keys in order
+
+abbrev pub keys_below : {K : Type 0} → (K → K → Ordering) → K → List K → Bool
+keys_below R k [] = true
+keys_below R k (j ∷ js) = is_lt (R k j) && keys_below R k js
+
+-- each key is below all behind it
+abbrev pub keys_rise : {K : Type 0} → (K → K → Ordering) → List K → Bool
+keys_rise R [] = true
+keys_rise R (k ∷ ks) = keys_below R k ks && keys_rise R ks
+
+module _ {K X : Type 0} (R : K → K → Ordering) (g : X → Option (List ℕ)) where
+  below_where : (k : K) (es : List (K × X)) → below R k es ≡ true → keys_below R k (keys_where g es) ≡ true
+  below_where k [] h = refl
+  below_where k (e ∷ es) h =
+      let b = and_true (is_lt (R k e.0)) (below R k es) h in
+      at_head (g e.1) b.0 (below_where k es b.1)
+    where
+      at_head : (o : Option (List ℕ)) → is_lt (R k e.0) ≡ true → keys_below R k (keys_where g es) ≡ true → keys_below R k (kept_at e.0 o (keys_where g es)) ≡ true
+      at_head None l rest = rest
+      at_head (Some v) l rest = and_both _ _ l rest
+
+  rises_where : (es : List (K × X)) → rises R es ≡ true → keys_rise R (keys_where g es) ≡ true
+  rises_where [] h = refl
+  rises_where (e ∷ es) h =
+      let b = and_true (below R e.0 es) (rises R es) h in
+      at_head (g e.1) (below_where e.0 es b.0) (rises_where es b.1)
+    where
+      at_head : (o : Option (List ℕ)) → keys_below R e.0 (keys_where g es) ≡ true → keys_rise R (keys_where g es) ≡ true → keys_rise R (kept_at e.0 o (keys_where g es)) ≡ true
+      at_head None l rest = rest
+      at_head (Some v) l rest = and_both _ _ l rest
+
+  -- the keys that are listed strictly rise
+  pub listed_rise : (G : FinMap R X) → keys_rise R (keys_where g (entries G)) ≡ true
+  listed_rise G = rises_where (entries G) (entries_rise R G)
+
+-- a key below others isn't among them, so that none is listed twice
+pub apart_below : {K : Type 0} (R : K → K → Ordering) (k : K) (ks : List K) → keys_below R k ks ≡ true → list_any (eq_by_cmp R k) ks ≡ false
+apart_below R k [] h = refl
+apart_below R k (j ∷ js) h =
+    let b = and_true (is_lt (R k j)) (keys_below R k js) h in
+    rw (no_tie (R k j) b.0) (apart_below R k js b.1)

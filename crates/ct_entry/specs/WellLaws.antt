@@ -23,3 +23,8 @@ are_well well ((k, Some v) ∷ ws) are short puts = (entry_of_key k v are.0 shor
 pub puts-append : (P : Key → List ℕ → Type 0) (xs ys : List (Key × Option (List ℕ))) → AllPut P xs → AllPut P ys → AllPut P (xs ++ ys)
 puts-append P [] ys a b = b
 puts-append P (x ∷ xs) ys a b = (a.0, puts-append P xs ys a.1 b)
+
+pub well-append : (well : List ℕ → List ℕ → Bool) (xs ys : List (List ℕ × Option (List ℕ))) → AreWell well xs → AreWell well ys → AreWell well (xs ++ ys)
+well-append well [] ys a b = b
+well-append well ((key, None) ∷ xs) ys a b = well-append well xs ys a b
+well-append well ((key, Some value) ∷ xs) ys a b = (a.0, a.1, well-append well xs ys a.2 b)

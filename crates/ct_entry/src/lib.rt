@@ -4,7 +4,9 @@
 mod entries;
 mod kinds;
 mod listings;
+#[cfg(test)]
+mod tests;
 
 pub use entries::{fetch_entry, has_entry, key_bytes, put_entry, remove_entry};
 pub use kinds::Kind;
-pub use listings::{next_row_key, owners, row_keys};
+pub use listings::{entries_of, next_row_key, owners, row_keys};

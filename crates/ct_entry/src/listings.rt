@@ -11,7 +11,7 @@ ghost use Rattle.ct_entry.specs.Kinds.{code};
 ghost use Rattle.ct_entry.specs.Keys.{prefix_of};
 ghost use Rattle.ct_entry.specs.Listings.{row_of, rows_of, rows_under, place_after, row_after, owner_of, owners_of, owners_under};
 
-use crate::entries::prefix_bytes;
+use crate::entries::{key_bytes, prefix_bytes};
 use crate::kinds::Kind;
 use ct_base::{Memory, Name, RowKey};
 use ct_bytes::{read_row_key, row_key_bytes};
@@ -20,6 +20,28 @@ use std::alloc::Global;
 
 /// An entry: the rest of its key, and its value.
 type Entry = (Vec<u8>, Vec<u8>);
+
+/// An owner's entries of a kind whose rests begin with these bytes and are longer, in order: what stands behind these bytes,
+/// and the value.
+///
+/// It costs what it finds. It never answers Full.
+pub fn entries_of<K: Keeper>(
+    alloc: Global,
+    keeper: &mut K,
+    kind: Kind,
+    owner: &Name,
+    front: &[u8],
+) -> Result<Vec<(Vec<u8>, Vec<u8>)>, KeepFault>
+    requires { (K.keeping keeper.old).ready }
+    ensures entries { (m : Content) → (K.keeping keeper.old).content ≡ Some m → IfOk result (λ found. map (λ e. (e.0.items, e.1.items)) found.items ≡ entries (tail (prefix_of kind owner.now ++ front.now) m)) }
+    ensures reads { Reads (K.keeping keeper.old) (K.keeping keeper.new) (fault_of result) }
+    ensures counts { (m : Content) → (K.keeping keeper.old).content ≡ Some m → OnOk result ((K.keeping keeper.new).counts ≡ raised (scan_looks (prefix_of kind owner.now ++ front.now) m) (K.keeping keeper.old).counts) }
+    ensures at_most { (m : Content) → (K.keeping keeper.old).content ≡ Some m → RisesBy (scan_looks (prefix_of kind owner.now ++ front.now) m) (K.keeping keeper.old).counts (K.keeping keeper.new).counts }
+    ensures never_full { result ≡ Err KeepFault.Full → ⊥ }
+{
+    let prefix = key_bytes(alloc, kind, owner, front)?;
+    scan(alloc, keeper, &prefix)
+}
 
 /// The row key that a rest spells; None where it hasn't 8 bytes.
 fn row_in(rest: &[u8]) -> Option<RowKey>
@@ -147,8 +169,7 @@ pub fn owners<K: Keeper>(alloc: Global, keeper: &mut K, kind: Kind) -> Result<Ve
     ensures at_most { (m : Content) → (K.keeping keeper.old).content ≡ Some m → RisesBy (scan_looks (code kind ∷ []) m) (K.keeping keeper.old).counts (K.keeping keeper.new).counts }
     ensures never_full { result ≡ Err KeepFault.Full → ⊥ }
 {
-    let prefix = [kind.code()];
-    let found = scan(alloc, keeper, &prefix)?;
+    let found = scan(alloc, keeper, &[kind.code()])?;
     let names = owners_among(alloc, &found)?;
     Ok(names)
 }
