@@ -5,7 +5,7 @@ use Rattle.std.specs.FinMap.{get, insert, remove, empty}
 use Rattle.std.proofs.lemmas.List.{map-append, reverse-append}
 use Rattle.ct_keep.specs.declared.batches.Word as rust
 use Rattle.ct_keep.specs.Spoken.{spoken}
-use Rattle.ct_keep.specs.Content.{Content, Word, set_to, after, entry_weight, weight}
+use Rattle.ct_keep.specs.Content.{Content, Word, after, entry_weight, weight}
 use Rattle.ct_keep.specs.Trials.{weight_of, staying, undoing, AreInPlace, IsCourse}
 use Rattle.ct_keep.proofs.ContentLaws.{get-insert_here, set_back, get-staying, staying-none, staying-put, staying-gone, weight-set_to, weight_of-le}
 

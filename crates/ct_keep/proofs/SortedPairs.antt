@@ -1,6 +1,6 @@
 -- The entries of a map in memory against the content that they are.
-use Rattle.std.proofs.Common.{◌≡◌, ℕ, Bool, true, false, cond, List, [], ◌∷◌, Option, Some, None, Vec, refl, sym, ap, subst, ◌∙◌, map}
-use Rattle.std.specs.Prelude.{◌&&◌, T, filter, not, is_some}
+use Rattle.std.proofs.Common.{◌≡◌, ℕ, Bool, true, false, cond, List, [], ◌∷◌, Option, Some, None, Vec, refl, sym, ap, subst, ◌∙◌}
+use Rattle.std.specs.Prelude.{◌&&◌, T, filter, is_some}
 use Rattle.std.specs.Option.{option_map, option_copied, MatchOption}
 use Rattle.std.specs.Borrow.{Bor}
 use Rattle.std.specs.declared.alloc.Global.{Global}
@@ -14,12 +14,12 @@ use Rattle.std.specs.Map.{keys_of, lookup, remove_entry}
 use Rattle.std.specs.BTreeMap.{insert_entry, is_at}
 use Rattle.std.specs.BTreeMap.Range.{entries_between}
 use Rattle.std.specs.declared.ops.Bound.TheVariants.{Excluded, Unbounded}
-use Rattle.std.specs.FinMap.{get, insert, remove, entries, from_sorted, find, put, is_sorted, entries-from_sorted, entries-insert, same_entries_map, same_map, get-from_sorted, get-remove}
+use Rattle.std.specs.FinMap.{get, insert, remove, entries, find, put, is_sorted, entries-from_sorted, entries-insert, same_entries_map, same_map, get-from_sorted, get-remove}
 use Rattle.std.proofs.lemmas.Cmp.{nat_list_cmp_total, eq_by_cmp_equiv}
 use Rattle.std.proofs.lemmas.Map.{lookup-remove_entry}
-use Rattle.std.proofs.lemmas.Map.Keys.{sorted_head, sorted_tail, IsDistinct-from_sorted}
+use Rattle.std.proofs.lemmas.Map.Keys.{sorted_head, sorted_tail}
 use Rattle.std.proofs.lemmas.Map.Lookups.{exact_bytes}
-use Rattle.ct_keep.specs.Content.{Content, entries_above, first_entry}
+use Rattle.ct_keep.specs.Content.{entries_above, first_entry}
 use Rattle.ct_keep.specs.Pairs.{byte_order, pairs, content_of}
 
 abbrev pub VecEntry : Type 0

@@ -5,7 +5,7 @@ use Rattle.std.specs.Coded.{Coded, code_by, coded_ℕ, coded_list, coded×}
 use Rattle.std.specs.declared.alloc.Global.{Global}
 use Rattle.ct_keep.specs.Content.{Content}
 use Rattle.ct_keep.specs.Keeping.{Keeping, Counts}
-use Rattle.ct_keep.specs.Trials.{content_code}
+use Rattle.ct_keep.specs.Pairs.{content_code}
 use Rattle.ct_keep.specs.InMemory.{in_memory}
 
 pub record KeeperState : Type 0 where

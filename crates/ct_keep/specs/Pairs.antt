@@ -4,7 +4,8 @@ use Rattle.std.specs.declared.alloc.Global.{Global}
 use Rattle.std.specs.declared.cmp.Ordering.{Ordering}
 use Rattle.std.specs.Ordering.{nat_cmp}
 use Rattle.std.specs.Cmp.Lexicographic.{slice_cmp}
-use Rattle.std.specs.FinMap.{from_sorted}
+use Rattle.std.specs.FinMap.{from_sorted, code}
+use Rattle.std.specs.Coded.{Coded, coded_ℕ, coded_list}
 use Rattle.ct_keep.specs.Content.{Content}
 
 -- the order of the keys' bytes
@@ -17,3 +18,6 @@ pairs es = map (λ e. (e.0.items, e.1.items)) es
 
 abbrev pub content_of : List (Vec ℕ Global × Vec ℕ Global) → Content
 content_of es = from_sorted (pairs es)
+
+abbrev pub content_code : Coded Content
+content_code = code (coded_list coded_ℕ) (coded_list coded_ℕ)

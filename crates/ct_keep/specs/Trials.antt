@@ -1,8 +1,9 @@
 -- A commit that is under way in memory.
 use Rattle.std.specs.Prelude.{◌≡◌, ℕ, List, [], ◌∷◌, map, reverse, Option, Some, None, IsSome, not, refl}
-use Rattle.std.specs.Coded.{Coded, code_by, coded_ℕ, coded_list, coded×}
-use Rattle.std.specs.FinMap.{get, contains_key, retain_keys, code}
+use Rattle.std.specs.Coded.{Coded, code_by, coded×}
+use Rattle.std.specs.FinMap.{get, contains_key, retain_keys}
 use Rattle.ct_keep.specs.declared.batches.Word as rust
+use Rattle.ct_keep.specs.Pairs.{content_code}
 use Rattle.ct_keep.specs.Spoken.{spoken}
 use Rattle.ct_keep.specs.Content.{Content, Word, set_to, entry_weight, weight}
 
@@ -37,9 +38,6 @@ pub record IsCourse (held gone : Content) (notes : List rust.Word) (total : ℕ)
 pub record Course : Type 0 where
   pub before : Content
   pub seen : Content
-
-abbrev pub content_code : Coded Content
-content_code = code (coded_list coded_ℕ) (coded_list coded_ℕ)
 
 abbrev pub course_code : Coded Course
 course_code = code_by (Content × Content) (coded× content_code content_code) (λ c. (c.before, c.seen)) (λ p. record { before = p.0; seen = p.1 }) (λ _. refl)

@@ -18,7 +18,7 @@ use std::marker::Model;
 use std::mem::replace;
 
 /// A content in memory, and its weight. A look-up, and each word of a commit, cost the logarithm of the number of entries.
-#[derive(Drop)]
+#[derive(Debug, Drop)]
 pub(crate) struct EntryMap {
     held: SortedEntries,
     total: u64,
@@ -27,7 +27,7 @@ pub(crate) struct EntryMap {
 impl Model for EntryMap {
     ghost use Rattle.std.specs.Prelude.{◌≡◌};
     ghost use Rattle.ct_keep.specs.Content.{Content, weight};
-    ghost use Rattle.ct_keep.specs.Trials.{content_code};
+    ghost use Rattle.ct_keep.specs.Pairs.{content_code};
 
     ghost Value = { Content };
 

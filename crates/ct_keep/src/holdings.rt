@@ -1,12 +1,12 @@
 //! What the keepers in memory have in common.
 
-ghost use Rattle.std.specs.Prelude.{◌≡◌, Some, None, Err, IfOk};
+ghost use Rattle.std.specs.Prelude.{◌≡◌, None, Err, IfOk};
 ghost use Rattle.std.specs.Option.{option_map};
 ghost use Rattle.std.specs.FinMap.{get, empty};
 ghost use Rattle.ct_keep.specs.Content.{after, entries_above, first_entry};
 ghost use Rattle.ct_keep.specs.Handed.{handed};
-ghost use Rattle.ct_keep.specs.Keeping.{Came, Answers, fault_of, looked_up, committed};
-ghost use Rattle.ct_keep.specs.InMemory.{NotDisk};
+ghost use Rattle.ct_keep.specs.Keeping.{Answers, fault_of, looked_up, committed};
+ghost use Rattle.ct_keep.specs.InMemory.{NotDisk, come_to};
 
 use crate::batches::Batch;
 use crate::entry_maps::EntryMap;
@@ -15,7 +15,7 @@ use crate::tallies::Tally;
 use std::alloc::Global;
 
 /// A content in memory, how much it may weigh, and the counts of its look-ups.
-#[derive(Drop)]
+#[derive(Debug, Drop)]
 pub(crate) struct Holding {
     pub(crate) content: EntryMap,
     pub(crate) limit: u64,
@@ -47,7 +47,7 @@ impl Holding {
     /// The value of a key.
     pub(crate) fn fetch(&mut self, alloc: Global, key: &[u8]) -> Result<Option<Vec<u8>>, KeepFault>
         ensures value { IfOk result (λ found. option_map (λ v. v.items) found ≡ get self.old.content key.now) }
-        ensures counts { self.new ≡ record self.old { counts = looked_up key.now None self.old.counts } }
+        ensures state { self.new ≡ record self.old { counts = looked_up key.now None self.old.counts } }
         ensures never_full { result ≡ Err KeepFault.Full → ⊥ }
         ensures not_disk { NotDisk (fault_of result) }
     {
@@ -65,7 +65,7 @@ impl Holding {
         key: &[u8],
     ) -> Result<Option<(Vec<u8>, Vec<u8>)>, KeepFault>
         ensures entry { IfOk result (λ found. option_map (λ e. (e.0.items, e.1.items)) found ≡ first_entry (entries_above key.now self.old.content)) }
-        ensures counts { self.new ≡ record self.old { counts = looked_up key.now (handed result) self.old.counts } }
+        ensures state { self.new ≡ record self.old { counts = looked_up key.now (handed result) self.old.counts } }
         ensures never_full { result ≡ Err KeepFault.Full → ⊥ }
         ensures not_disk { NotDisk (fault_of result) }
     {
@@ -79,9 +79,7 @@ impl Holding {
 
     /// Does what the batch says, all of it or none.
     pub(crate) fn commit(&mut self, alloc: Global, batch: Batch) -> Result<(), KeepFault>
-        ensures content { Came (fault_of result) self.old.content (after batch self.old.content) (Some self.new.content) }
-        ensures limit { self.new.limit ≡ self.old.limit }
-        ensures counts { self.new.counts ≡ committed (fault_of result) self.old.counts }
+        ensures state { self.new ≡ record self.old { content = come_to (fault_of result) self.old.content (after batch self.old.content); counts = committed (fault_of result) self.old.counts } }
         ensures answers { Answers (fault_of result) self.old.limit self.old.content (after batch self.old.content) }
         ensures not_disk { NotDisk (fault_of result) }
     {

@@ -1,11 +1,13 @@
 //! A keeper in memory, with a script to hear and a buffer for what is said.
 
-ghost use Rattle.std.specs.Prelude.{◌≡◌, ◌+◌, ◌<◌, ◌≤◌, ◌↔◌, [], None, Ok, IfOk, IsOk, length, min};
-ghost use Rattle.std.specs.FinMap.{empty};
-ghost use Rattle.ct_base.specs.Told.{took, IsNothing};
+ghost use Rattle.std.specs.Prelude.{◌≡◌, ◌+◌, ◌-◌, ◌^◌, ◌≤◌, ◌↔◌, ◌++◌, [], None, Ok, Err, IfOk, OnOk, OnErr, IsOk, length, min, take, drop};
+ghost use Rattle.std.specs.FinMap.{empty, get};
+ghost use Rattle.std.specs.Option.{option_map};
 ghost use Rattle.ct_base.specs.Causes.{HasCause};
-ghost use Rattle.ct_keep.specs.Keeping.{KeeperHears, KeeperSays};
-ghost use Rattle.ct_keep.specs.InMemory.{settled_in_memory};
+ghost use Rattle.ct_keep.specs.Content.{after, entries_above, first_entry};
+ghost use Rattle.ct_keep.specs.Handed.{handed};
+ghost use Rattle.ct_keep.specs.Keeping.{Answers, looked_up, committed, fault_of};
+ghost use Rattle.ct_keep.specs.InMemory.{NotDisk, come_to, settled_in_memory};
 ghost use Rattle.ct_keep.specs.KeeperStates.{no_counts, mem_keeping};
 
 use crate::batches::Batch;
@@ -19,7 +21,7 @@ use std::marker::Model;
 /// A keeper in memory. It never answers Disk, its `hear` never fails and takes as much as fits, and its `say` takes all,
 /// or fails where its room for what is said would be passed. It takes every entry.
 /// A look-up, and each word of a commit, cost the logarithm of the number of entries.
-#[derive(Drop)]
+#[derive(Debug, Drop)]
 pub struct MemKeeper {
     held: Holding,
     script: Vec<u8>,
@@ -74,7 +76,12 @@ impl MemKeeper {
 impl Keeper for MemKeeper {
     ghost keeping = { mem_keeping };
 
-    fn fetch(&mut self, alloc: Global, key: &[u8]) -> Result<Option<Vec<u8>>, KeepFault> {
+    fn fetch(&mut self, alloc: Global, key: &[u8]) -> Result<Option<Vec<u8>>, KeepFault>
+        ensures value { IfOk result (λ found. option_map (λ v. v.items) found ≡ get self.old.content key.now) }
+        ensures state { self.new ≡ record self.old { counts = looked_up key.now None self.old.counts } }
+        ensures never_full { result ≡ Err KeepFault.Full → ⊥ }
+        ensures not_disk { NotDisk (fault_of result) }
+    {
         self.held.fetch(alloc, key)
     }
 
@@ -82,22 +89,28 @@ impl Keeper for MemKeeper {
         &mut self,
         alloc: Global,
         key: &[u8],
-    ) -> Result<Option<(Vec<u8>, Vec<u8>)>, KeepFault> {
+    ) -> Result<Option<(Vec<u8>, Vec<u8>)>, KeepFault>
+        ensures entry { IfOk result (λ found. option_map (λ e. (e.0.items, e.1.items)) found ≡ first_entry (entries_above key.now self.old.content)) }
+        ensures state { self.new ≡ record self.old { counts = looked_up key.now (handed result) self.old.counts } }
+        ensures never_full { result ≡ Err KeepFault.Full → ⊥ }
+        ensures not_disk { NotDisk (fault_of result) }
+    {
         self.held.next_after(alloc, key)
     }
 
-    fn commit(&mut self, alloc: Global, batch: Batch) -> Result<(), KeepFault> {
+    fn commit(&mut self, alloc: Global, batch: Batch) -> Result<(), KeepFault>
+        ensures state { self.new ≡ record self.old { content = come_to (fault_of result) self.old.content (after batch self.old.content); counts = committed (fault_of result) self.old.counts } }
+        ensures answers { Answers (fault_of result) self.old.limit self.old.content (after batch self.old.content) }
+        ensures not_disk { NotDisk (fault_of result) }
+    {
         self.held.commit(alloc, batch)
     }
 
     /// It takes as much as is left and fits.
     fn hear(&mut self, into: &mut [u8]) -> Result<usize, Failed>
-        requires { 0 < length into.old }
-        ensures bound { IfOk result (λ count. count ≤ length into.old) }
-        ensures hears { KeeperHears (took result into.new) (mem_keeping self.old) (mem_keeping self.new) }
-        ensures end { result ≡ Ok 0 → IsNothing (mem_keeping self.new).beside.left }
-        ensures cause { HasCause (mem_keeping self.old).beside.hear_faults (mem_keeping self.new).beside.hear_faults result }
         ensures count { result ≡ Ok (min (length into.old) (length self.old.left)) }
+        ensures heard { IfOk result (λ count. take count into.new ≡ take count self.old.left) }
+        ensures state { IfOk result (λ count. self.new ≡ record self.old { left = drop count self.old.left }) }
     {
         let count = into.len().min(self.script.len() - self.heard);
         into[..count].copy_from_slice(&self.script[self.heard..self.heard + count]);
@@ -107,14 +120,11 @@ impl Keeper for MemKeeper {
 
     /// It takes all of the bytes, or fails exactly where they would pass its room.
     fn say(&mut self, bytes: &[u8]) -> Result<usize, Failed>
-        requires { 0 < length bytes.now }
-        ensures bound { IfOk result (λ count. count ≤ length bytes.now) }
-        ensures some { IfOk result (λ count. 0 < count) }
-        ensures says { KeeperSays (took result bytes.now) (mem_keeping self.old) (mem_keeping self.new) }
-        ensures cause { HasCause (mem_keeping self.old).beside.say_faults (mem_keeping self.new).beside.say_faults result }
-        ensures all { IfOk result (λ count. count ≡ length bytes.now) }
+        ensures cause { HasCause self.old.say_faults self.new.say_faults result }
         ensures room { IsOk result ↔ (length self.old.said + length bytes.now ≤ self.old.said_room) }
-        ensures same_room { self.new.said_room ≡ self.old.said_room }
+        ensures all { IfOk result (λ count. count ≡ length bytes.now) }
+        ensures ok { OnOk result (self.new ≡ record self.old { said = self.old.said ++ bytes.now }) }
+        ensures err { OnErr result (self.new ≡ record self.old { say_faults = min (self.old.say_faults + 1) (2 ^ 64 - 1) }) }
     {
         if bytes.len() > self.said_room - self.said.len() {
             self.say_faults = self.say_faults.saturating_add(1);

@@ -14,21 +14,19 @@ use std::marker::Model;
 use std::ops::Bound;
 
 /// Entries in the order of their keys' bytes, seen as the content that they are.
-#[derive(Drop)]
+#[derive(Debug, Drop)]
 pub(crate) struct SortedEntries {
     entries: BTreeMap<Vec<u8>, Vec<u8>>,
 }
 
 impl Model for SortedEntries {
-    ghost use Rattle.std.specs.Coded.{coded_ℕ, coded_list};
-    ghost use Rattle.std.specs.FinMap.{code};
     ghost use Rattle.std.specs.BTreeMap.{IsOrdered};
     ghost use Rattle.ct_keep.specs.Content.{Content};
-    ghost use Rattle.ct_keep.specs.Pairs.{byte_order, content_of};
+    ghost use Rattle.ct_keep.specs.Pairs.{byte_order, content_code, content_of};
 
     ghost Value = { Content };
 
-    ghost coded = { code (coded_list coded_ℕ) (coded_list coded_ℕ) };
+    ghost coded = { content_code };
 
     ghost view = { λ e. content_of e.entries.entries };
 
@@ -52,7 +50,7 @@ impl SortedEntries {
         self.entries.get(key)
     }
 
-    /// The entry with the least key that is greater. Its cost is the logarithm of the number of entries.
+    /// The entry with the least key that is greater, of a key as it is kept here. Its cost is the logarithm of the number of entries.
     pub(crate) fn first_after(&self, key: &Vec<u8>) -> Option<(&Vec<u8>, &Vec<u8>)>
         ensures { option_map (λ e. (e.0.now.items, e.1.now.items)) result ≡ first_entry (entries_above key.now.items self.now) }
     {

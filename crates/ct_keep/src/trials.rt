@@ -1,6 +1,6 @@
 //! A commit in memory that is under way.
 
-ghost use Rattle.std.specs.Prelude.{◌≡◌, ◌+◌, ◌*◌, ◌^◌, ◌<◌, ◌≤◌, OnOk, map, length};
+ghost use Rattle.std.specs.Prelude.{◌≡◌, ◌+◌, ◌^◌, ◌<◌, ◌≤◌, OnOk, map};
 ghost use Rattle.std.specs.Option.{option_map};
 ghost use Rattle.std.specs.FinMap.{get, insert, remove};
 ghost use Rattle.ct_keep.specs.Spoken.{spoken};
@@ -14,7 +14,7 @@ use std::alloc::Global;
 use std::marker::Model;
 
 /// What an entry weighs: its bytes, and at least 64.
-pub(crate) fn entry_weight(key: &[u8], value: &[u8]) -> u64
+fn entry_weight(key: &[u8], value: &[u8]) -> u64
     ensures { result ≡ entry_weight (key.now, value.now) }
 {
     (key.len() as u64 + value.len() as u64).max(64)
@@ -47,6 +47,7 @@ impl Model for Trial {
 }
 
 impl Trial {
+    /// Begins with entries and their weight. It takes no memory.
     pub(crate) fn begin(alloc: Global, held: SortedEntries, total: u64) -> Trial
         requires { total ≡ weight held }
         ensures before { result.before ≡ held }
@@ -73,6 +74,7 @@ impl Trial {
         }
     }
 
+    /// Gives a key a value.
     fn put(&mut self, alloc: Global, key: Vec<u8>, value: Vec<u8>) -> Result<(), Memory>
         requires { weight self.old.seen < 2 ^ 127 }
         ensures before { self.new.before ≡ self.old.before }
@@ -90,6 +92,7 @@ impl Trial {
         Ok(())
     }
 
+    /// Marks the entry at a key as one that is to go.
     fn remove(&mut self, alloc: Global, key: Vec<u8>) -> Result<(), Memory>
         ensures before { self.new.before ≡ self.old.before }
         ensures seen { OnOk result (self.new.seen ≡ remove self.old.seen key.items) }
@@ -101,6 +104,7 @@ impl Trial {
         Ok(())
     }
 
+    /// Does one word.
     fn do_word(&mut self, alloc: Global, word: Word) -> Result<(), Memory>
         requires { weight self.old.seen < 2 ^ 127 }
         ensures before { self.new.before ≡ self.old.before }

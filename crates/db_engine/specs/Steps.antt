@@ -1,5 +1,5 @@
 -- What one statement does: the state after it, and its reply.
-use Rattle.std.specs.Prelude.{ℕ, ◌≡◌, ◌-◌, nat_le, nat_lt, Bool, true, List, [], ◌∷◌, ◌++◌, map, length, codes, refl, pos}
+use Rattle.std.specs.Prelude.{ℕ, ◌≡◌, ◌-◌, nat_le, nat_lt, Bool, List, [], ◌∷◌, map, length, codes, refl, pos}
 use Rattle.std.specs.Bool.{if◌then◌else◌}
 use Rattle.std.specs.List.{list_all, flat_map}
 use Rattle.std.specs.Str.{chars}

@@ -6,8 +6,8 @@ ghost use Rattle.db_engine.specs.Steps.{State, GivesReply, call_reply, effect, l
 
 use ct_base::{Bytes, Memory};
 use db_cond::{no_rows, value_too_long, word_line};
-use std::alloc::Global;
 use st_parse::{Arg, Statement};
+use std::alloc::Global;
 use tx_lexer::{Lexer, Token};
 
 /// How many bytes a text has at most whose tokens are asked for.

@@ -1,4 +1,4 @@
-use Rattle.std.proofs.Common.{◌≡◌, ℕ, List, [], ◌∷◌, ◌++◌, true, Option, Some, None, refl, subst, arith, rules}
+use Rattle.std.proofs.Common.{List, [], ◌∷◌, true, Some, None, refl, rules}
 use Rattle.std.proofs.lemmas.Result.{on_ok_weaker}
 use Rattle.ct_keep.specs.Content.{Word, IsEntry}
 use Rattle.ct_keep.specs.Words.{AreWell}

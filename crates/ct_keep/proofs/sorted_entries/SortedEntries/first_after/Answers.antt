@@ -1,4 +1,4 @@
-use Rattle.std.proofs.Common.{ap, ◌∙◌, List, ℕ}
+use Rattle.std.proofs.Common.{ap, ◌∙◌, List}
 use Rattle.ct_keep.specs.Content.{Content, entries_above, first_entry}
 use Rattle.ct_keep.specs.Pairs.{pairs}
 use Rattle.ct_keep.proofs.SortedPairs.{VecEntry, first_pair, entries_above-content_of}

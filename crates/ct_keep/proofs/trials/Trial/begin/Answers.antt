@@ -1,4 +1,4 @@
-use Rattle.std.proofs.Common.{sym, ap, ◌∙◌}
+use Rattle.std.proofs.Common.{ap, ◌∙◌}
 use Rattle.ct_keep.specs.Trials.{staying}
 use Rattle.ct_keep.proofs.ContentLaws.{staying-none}
 use Rattle.ct_keep.proofs.Courses.{course_begins}

@@ -1,8 +1,8 @@
-use Rattle.std.proofs.Common.{◌≡◌, ◌+◌, ◌≤◌, ◌++◌, [], ◌∷◌, List, ℕ, arith, sym, ap, ◌∙◌}
+use Rattle.std.proofs.Common.{◌≡◌, ◌++◌, [], ◌∷◌, List, ℕ, arith, sym, ap, ◌∙◌}
 use Rattle.std.specs.FinMap.{get, insert, remove}
 use Rattle.ct_keep.specs.declared.batches.Word.{Word}
 use Rattle.ct_keep.specs.Spoken.{spoken}
-use Rattle.ct_keep.specs.Content.{Content, entry_weight, weight}
+use Rattle.ct_keep.specs.Content.{entry_weight, weight}
 use Rattle.ct_keep.specs.Trials.{Course, weight_of, staying}
 use Rattle.ct_keep.proofs.ContentLaws.{weight_of-le, staying-put}
 use Rattle.ct_keep.proofs.Courses.{course_put, back_after_put, heavier_by}
