@@ -1,18 +1,17 @@
 -- What look-ups add that ask behind the prefix of the rows' numbers: nothing where they hand out such an entry, and what a scan adds where they don't.
-use Rattle.std.proofs.Common.{◌≡◌, ℕ, ◌+◌, Bool, true, false, cond, List, [], ◌∷◌, ◌++◌, length, drop, map, Option, Some, None, refl, sym, ap, ◌∙◌, subst, inl, inr}
-use Rattle.std.specs.Prelude.{◌==◌, ◌||◌, filter}
+use Rattle.std.proofs.Common.{◌≡◌, ℕ, ◌+◌, Bool, true, false, cond, List, [], ◌∷◌, ◌++◌, length, drop, Option, Some, None, refl, sym, ap, ◌∙◌, subst, inl, inr}
+use Rattle.std.specs.Prelude.{◌==◌, ◌||◌}
 use Rattle.std.specs.Option.{option_map}
 use Rattle.std.specs.declared.cmp.Ordering.{Ordering}
 use Rattle.std.specs.declared.cmp.Ordering.TheVariants.{Less, Equal, Greater}
 use Rattle.std.specs.Ordering.{nat_cmp, is_lt, ordering_then}
-use Rattle.std.specs.Cmp.Lexicographic.{slice_cmp}
 use Rattle.std.specs.FinMap.{entries}
 use Rattle.std.proofs.lemmas.Bool.{eqb-true, eq-eqb}
 use Rattle.ct_keep.specs.Content.{Content, begins_with, entries_above, first_entry}
 use Rattle.ct_keep.specs.Keeping.{Counts, is_kind, is_kind_of, is_either}
 use Rattle.ct_keep.specs.Looks.{one_if, look, no_looks, plus, looks, next_looks, scan_looks, behind}
 use Rattle.ct_keep.specs.LookLaws.{texts-scan_looks, rows-scan_looks, rules-scan_looks}
-use Rattle.ct_keep.specs.Rising.{Entry, order, above, beginning, and_true, and_both, then_less, eq_from_equal, none_then}
+use Rattle.ct_keep.specs.Rising.{Entry, order, above, beginning, and_true, and_both, then_less, eq_from_equal}
 use Rattle.ct_keep.specs.Tail.{tail, left_under, cut, rest_under}
 use Rattle.ct_keep.specs.TailLaws.{first_above-tail, entries_above-tail}
 
