@@ -1,6 +1,6 @@
 -- The steps of reading columns.
 use Rattle.std.proofs.Common.{◌≡◌, ℕ, ◌+◌, ◌^◌, ◌<◌, ◌≤◌, Bool, true, false, cond, List, [], ◌∷◌, ◌++◌, length, take, drop, Option, Some, None, refl, sym, ap, subst, ◌∙◌, arith, append_assoc, append-nil, length-append, length-drop, add_assoc}
-use Rattle.std.specs.Prelude.{IfNone, IfSome, is_some}
+use Rattle.std.specs.Prelude.{IfNone, IfSome}
 use Rattle.std.specs.List.{flat_map}
 use Rattle.std.proofs.lemmas.List.{length-take, drop-drop, drop_at, take_at, drop_all, take-append-drop}
 use Rattle.std.proofs.lemmas.Grind.{flat_map-append}

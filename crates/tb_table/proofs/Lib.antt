@@ -3,3 +3,5 @@ pub mod ColumnSteps
 pub mod NumberSteps
 pub mod NameSteps
 pub mod TestWords
+pub mod LookSteps
+pub mod CountSteps

@@ -1,5 +1,5 @@
 -- How the names that a scan finds become the names of all tables.
-use Rattle.std.proofs.Common.{◌≡◌, ℕ, suc, ◌+◌, ◌<◌, ◌≤◌, Bool, true, false, cond, List, [], ◌∷◌, ◌++◌, length, get_or, Option, Some, None, refl, sym, ap, subst, ◌∙◌, arith, append-nil, zero-add, is_lt}
+use Rattle.std.proofs.Common.{◌≡◌, ℕ, suc, ◌+◌, ◌<◌, ◌≤◌, Bool, true, false, cond, List, [], ◌∷◌, length, get_or, Option, Some, None, refl, sym, ap, subst, ◌∙◌, arith, append-nil, zero-add, is_lt}
 use Rattle.std.specs.Prelude.{◌==◌, ◌&&◌, ◌||◌, is_some, sum_by, IsPermutation, IsSorted}
 use Rattle.std.specs.List.{cons_option}
 use Rattle.std.specs.declared.cmp.Ordering.{Ordering}
@@ -21,7 +21,7 @@ use Rattle.ct_keep.specs.TailLaws.{get-tail}
 use Rattle.ct_keep.specs.Rising.{and_true, and_both}
 use Rattle.ct_entry.specs.declared.kinds.Kind.TheVariants as kind
 use Rattle.ct_entry.specs.Kinds.{code}
-use Rattle.ct_entry.specs.Keys.{key, bytes, at, counted_bytes, same_list}
+use Rattle.ct_entry.specs.Keys.{counted_bytes, same_list}
 use Rattle.ct_entry.specs.Each.{is_among}
 use Rattle.ct_entry.specs.KeyLaws.{is_eq_Equal, list_from_same, list_same}
 use Rattle.ct_entry.specs.Rising.{below, rises, entries_rise, none_below, below_tied}

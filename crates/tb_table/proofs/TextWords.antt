@@ -1,5 +1,5 @@
 -- The words for the texts of a row, and for one more.
-use Rattle.std.proofs.Common.{◌≡◌, ℕ, ℤ, Option, ◌+◌, ◌<◌, List, [], ◌∷◌, ◌++◌, length, map, take, get_or, sym, ap, ◌∙◌, append_assoc}
+use Rattle.std.proofs.Common.{◌≡◌, ℕ, ℤ, Option, ◌+◌, ◌<◌, List, [], ◌∷◌, ◌++◌, length, take, get_or, sym, ap, ◌∙◌, append_assoc}
 use Rattle.std.proofs.lemmas.List.{take_more, map-append}
 use Rattle.ct_entry.specs.declared.kinds.Kind.TheVariants as kind
 use Rattle.ct_entry.specs.Keys.{key, text_part}

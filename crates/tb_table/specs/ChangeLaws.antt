@@ -1,6 +1,6 @@
 -- What words make of entries that spell tables: what statements make of the tables.
-use Rattle.std.proofs.Common.{◌≡◌, ℕ, ℤ, zero, suc, ◌+◌, ◌<◌, ◌≤◌, Bool, true, false, cond, List, [], ◌∷◌, Option, Some, None, refl, sym, ap, ◌∙◌, arith, eqb}
-use Rattle.std.specs.Prelude.{◌==◌, ◌&&◌, is_some}
+use Rattle.std.proofs.Common.{◌≡◌, ℕ, ℤ, zero, suc, ◌+◌, ◌<◌, Bool, true, false, cond, List, [], ◌∷◌, Option, Some, None, refl, sym, ap, ◌∙◌, arith}
+use Rattle.std.specs.Prelude.{◌==◌, ◌&&◌}
 use Rattle.std.specs.Option.{option_map, option_and_then, option_or}
 use Rattle.std.specs.Ordering.{int_cmp, int_eq}
 use Rattle.std.specs.FinMap.{get, insert, empty, get-empty}
@@ -10,13 +10,13 @@ use Rattle.ct_base.specs.declared.lists.Value.TheVariants.{Number as NumberValue
 use Rattle.ct_entry.specs.declared.kinds.Kind.{Kind}
 use Rattle.ct_entry.specs.declared.kinds.Kind.TheVariants as kind
 use Rattle.ct_entry.specs.Keys.{Key, key, same, same_list, row_part, text_part, IsRow}
-use Rattle.ct_entry.specs.Words.{put, told, view, AllOf}
+use Rattle.ct_entry.specs.Words.{told, view, AllOf}
 use Rattle.ct_entry.specs.KeyLaws.{list_from_same}
 use Rattle.ct_entry.specs.PartLaws.{rows_tie, texts_tie, same_kind, int_from_eq}
 use Rattle.ct_entry.specs.MapLaws.{get_name-insert, get_row-insert}
 use Rattle.ct_entry.specs.WordLaws.{told_frame}
 use Rattle.tb_table.specs.declared.columns.Column.{Column}
-use Rattle.tb_table.specs.Tables.{Table, Tables, row_in, row_at, numbers_of, as_text, text_in, text_of, texts_from, texts_of, with_table, altered, alter, with_row}
+use Rattle.tb_table.specs.Tables.{Table, Tables, row_in, row_at, numbers_of, as_text, text_in, text_of, texts_from, texts_of, with_table, altered, with_row}
 use Rattle.tb_table.specs.Spelling.{columns_bytes, numbers_bytes, TablesStand, create_words, text_words, insert_words}
 
 -- ---- the laws

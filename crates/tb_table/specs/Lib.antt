@@ -7,3 +7,4 @@ pub mod ReadLaws
 pub mod ChangeLaws
 pub mod RuleLaws
 pub mod WellLaws
+pub mod RowCounts

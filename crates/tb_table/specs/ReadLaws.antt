@@ -1,5 +1,5 @@
 -- What the entries that spell tables are read as: what the tables have.
-use Rattle.std.proofs.Common.{◌≡◌, ℕ, ℤ, zero, suc, ◌+◌, ◌^◌, ◌<◌, ◌≤◌, Bool, true, false, cond, List, [], ◌∷◌, length, map, Option, Some, None, refl, sym, ap, subst, ◌∙◌, arith, FitsSigned, w64}
+use Rattle.std.proofs.Common.{◌≡◌, ℕ, ℤ, zero, suc, ◌^◌, ◌<◌, Bool, true, false, List, [], ◌∷◌, length, map, Option, Some, None, refl, sym, ap, subst, ◌∙◌, arith, FitsSigned, w64}
 use Rattle.std.specs.Prelude.{◌&&◌, ◌||◌, is_some}
 use Rattle.std.specs.Option.{option_map, option_and_then}
 use Rattle.std.specs.List.{list_any}
@@ -10,7 +10,7 @@ use Rattle.std.specs.Ordering.{nat_cmp, int_cmp, is_lt, eq_by_cmp, ordering_reve
 use Rattle.std.specs.Cmp.Lexicographic.{slice_cmp}
 use Rattle.std.proofs.lemmas.Cmp.{nat_list_cmp_total, tied_itself}
 use Rattle.std.specs.FinMap.{get, entries, empty, len-empty, len-entries, get-empty, contains_key-keys}
-use Rattle.ct_base.specs.Names.{IsName, is_kept}
+use Rattle.ct_base.specs.Names.{is_kept}
 use Rattle.ct_base.specs.NameLaws.{name_is_kept}
 use Rattle.ct_base.specs.declared.lists.Value.{Value}
 use Rattle.ct_base.specs.declared.lists.Value.TheVariants.{Number as NumberValue, Text as TextValue}
@@ -20,7 +20,7 @@ use Rattle.ct_entry.specs.declared.kinds.Kind.TheVariants as kind
 use Rattle.ct_entry.specs.Keys.{Key, key, at, same_list, row_part, text_part, IsRow, HasKeysOnly}
 use Rattle.ct_entry.specs.Each.{is_among}
 use Rattle.ct_entry.specs.KeyLaws.{list_from_same, list_same}
-use Rattle.ct_entry.specs.MapLaws.{names_tie, and_then_always}
+use Rattle.ct_entry.specs.MapLaws.{names_tie}
 use Rattle.ct_entry.specs.Rising.{below, rises, entries_rise}
 use Rattle.ct_entry.specs.Listings.{keys_where, first_of, rows_above, row_after, rows_under}
 use Rattle.ct_entry.specs.RowLaws.{IsPlace, rows_listed, next_row_listed, keys_always}
@@ -29,8 +29,8 @@ use Rattle.tb_table.specs.declared.columns.Sort.TheVariants.{Number, Varchar2, C
 use Rattle.tb_table.specs.declared.columns.Column.{Column}
 use Rattle.tb_table.specs.Tables.{Table, Tables, row_in, row_at, numbers_of, as_text, text_in, text_of, keys_in, row_keys}
 use Rattle.tb_table.specs.Spelling.{sort_size, columns_bytes, numbers_bytes, TablesStand}
-use Rattle.tb_table.specs.Rules.{IsSort, Fits, FitColumns, AllColumns, AreColumns, others, IsTable, AreTables}
-use Rattle.tb_table.specs.Readings.{EachSpellable, AreSpellable, EachFits, SpellsColumns, SpellsNumbers, SpellsText, all_above, names_rise, has_table, AreTableNames}
+use Rattle.tb_table.specs.Rules.{IsSort, Fits, FitColumns, AllColumns, AreColumns, others, AreTables}
+use Rattle.tb_table.specs.Readings.{EachSpellable, AreSpellable, EachFits, SpellsColumns, SpellsNumbers, SpellsText, all_above, names_rise, AreTableNames}
 use Rattle.tb_table.specs.SpellingLaws.{columns_one, numbers_one, text_one}
 
 -- ---- columns

@@ -1,16 +1,14 @@
 -- The entries that spell the tables.
-use Rattle.std.specs.Prelude.{ℕ, ℤ, ◌≡◌, ◌<◌, ◌≤◌, ◌^◌, List, [], ◌∷◌, ◌++◌, length, map, Option, Some, None, codes, refl}
+use Rattle.std.specs.Prelude.{ℕ, ℤ, ◌≡◌, ◌<◌, List, [], ◌∷◌, ◌++◌, length, map, Option, codes, refl}
 use Rattle.std.specs.Option.{option_map, option_and_then}
 use Rattle.std.specs.List.{flat_map}
 use Rattle.std.specs.Int.{to_be_bytes, w16}
 use Rattle.std.specs.FinMap.{get}
-use Rattle.ct_base.specs.Names.{IsName}
-use Rattle.ct_base.specs.declared.lists.Value.{Value}
 use Rattle.ct_bytes.specs.Varints.{varint, text_bytes}
 use Rattle.ct_bytes.specs.RowKeys.{row_bytes}
 use Rattle.ct_entry.specs.declared.kinds.Kind.TheVariants as kind
 use Rattle.ct_entry.specs.Keys.{Key, key, row_part, text_part, IsRow}
-use Rattle.ct_entry.specs.Words.{put, drop_key}
+use Rattle.ct_entry.specs.Words.{put}
 use Rattle.tb_table.specs.declared.columns.Sort.{Sort}
 use Rattle.tb_table.specs.declared.columns.Sort.TheVariants.{Number, Varchar2, Clob}
 use Rattle.tb_table.specs.declared.columns.Column.{Column}

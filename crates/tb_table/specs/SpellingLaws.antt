@@ -1,13 +1,11 @@
 -- What holds of the bytes of all columns and numbers: they can be read back.
-use Rattle.std.proofs.Common.{◌≡◌, ℕ, ℤ, ◌+◌, ◌*◌, ◌^◌, ◌<◌, ◌≤◌, List, [], ◌∷◌, ◌++◌, length, Option, Some, None, refl, sym, ap, ◌∙◌, arith, append_assoc, length-append, append-nil}
+use Rattle.std.proofs.Common.{◌≡◌, ℕ, ℤ, ◌*◌, ◌^◌, ◌<◌, List, [], ◌∷◌, ◌++◌, length, Option, Some, None, refl, sym, ap, ◌∙◌, arith, append_assoc, length-append, append-nil}
 use Rattle.std.specs.List.{flat_map}
-use Rattle.std.specs.Int.{to_be_bytes, w16}
-use Rattle.ct_bytes.specs.Varints.{varint, text_bytes}
-use Rattle.ct_bytes.specs.VarintLaws.{varint_apart, varint_length, text_apart}
+use Rattle.ct_bytes.specs.Varints.{text_bytes}
+use Rattle.ct_bytes.specs.VarintLaws.{varint_apart, text_apart}
 use Rattle.ct_bytes.specs.NumberLaws.{two_bytes_one}
 use Rattle.ct_bytes.specs.RowKeys.{row_bytes}
 use Rattle.ct_bytes.specs.RowKeyLaws.{length-row_bytes, row_bytes_apart}
-use Rattle.ct_base.specs.NameLaws.{name_length}
 use Rattle.tb_table.specs.declared.columns.Sort.{Sort}
 use Rattle.tb_table.specs.declared.columns.Sort.TheVariants.{Number, Varchar2, Clob}
 use Rattle.tb_table.specs.declared.columns.Column.{Column}

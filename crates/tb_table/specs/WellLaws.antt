@@ -1,5 +1,5 @@
 -- The words of new tables and rows are on keys of their kinds, and put what a keeper may hold.
-use Rattle.std.proofs.Common.{◌≡◌, ℕ, ℤ, suc, ◌+◌, ◌*◌, ◌<◌, ◌≤◌, Bool, true, List, [], ◌∷◌, ◌++◌, length, refl, arith, length-append}
+use Rattle.std.proofs.Common.{◌≡◌, ℕ, ℤ, suc, ◌+◌, ◌*◌, ◌<◌, ◌≤◌, Bool, true, List, [], ◌∷◌, length, refl, arith, length-append}
 use Rattle.std.specs.List.{flat_map}
 use Rattle.ct_base.specs.Names.{IsName}
 use Rattle.ct_base.specs.NameLaws.{name_length}

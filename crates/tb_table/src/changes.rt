@@ -7,7 +7,7 @@ ghost use Rattle.ct_entry.specs.Keys.{key, text_part};
 ghost use Rattle.tb_table.specs.Spelling.{create_words, text_words, insert_words};
 
 use crate::columns::Column;
-use crate::writing::{columns_bytes, numbers_bytes};
+use crate::writing::{columns_bytes, numbers_bytes, text_part};
 use ct_base::{Memory, Name, RowKey, Text};
 use ct_bytes::row_key_bytes;
 use ct_entry::{Kind, put_entry};
@@ -27,14 +27,6 @@ pub fn create(
 {
     let value = columns_bytes(alloc, columns)?;
     put_entry(alloc, batch, Kind::Tables, table, &[], value)
-}
-
-/// The rest of the key of a text: its column, and its row.
-pub(crate) fn text_part(column: u8, key: RowKey) -> [u8; 9]
-    ensures { result ≡ text_part column key.0 }
-{
-    let [a, b, c, d, e, f, g, h] = row_key_bytes(key);
-    [column, a, b, c, d, e, f, g, h]
 }
 
 /// Adds the word of a text of a row.

@@ -7,6 +7,7 @@ mod laws;
 mod listings;
 mod lookups;
 mod reading;
+mod row_counts;
 #[cfg(test)]
 mod tests;
 mod writing;
@@ -16,3 +17,4 @@ pub use columns::{Column, Sort, Target};
 pub use laws::{entries_are_exact, rules_stay, words_stand};
 pub use listings::{next_row, tables};
 pub use lookups::{columns_of, has_row, number_row, text_of};
+pub use row_counts::row_count_at_most;

@@ -10,9 +10,9 @@ ghost use Rattle.ct_entry.specs.declared.kinds.Kind.TheVariants as kind;
 ghost use Rattle.ct_entry.specs.Keys.{key, bytes, at, row_part, text_part};
 ghost use Rattle.tb_table.specs.Readings.{SpellsColumns, SpellsNumbers, SpellsText};
 
-use crate::changes::text_part;
 use crate::columns::Column;
 use crate::reading::{read_columns, read_numbers, read_utf8};
+use crate::writing::text_part;
 use ct_base::{Name, RowKey, Text};
 use ct_bytes::row_key_bytes;
 use ct_entry::{Kind, fetch_entry, has_entry};

@@ -5,7 +5,8 @@ ghost use Rattle.ct_keep.specs.Spoken.{spoken};
 ghost use Rattle.ct_keep.specs.Words.{AreWell};
 
 use crate::{
-    Column, Sort, columns_of, create, has_row, insert, next_row, number_row, tables, text_of,
+    Column, Sort, columns_of, create, has_row, insert, next_row, number_row, row_count_at_most,
+    tables, text_of,
 };
 use ct_base::{Memory, Name, RowKey, Text};
 use ct_bytes::row_key_bytes;
@@ -221,6 +222,33 @@ fn say_tables(alloc: Global, line: &mut String, keeper: &mut MemKeeper) -> Resul
     Ok(())
 }
 
+/// Says whether the table has at most so many rows, for these limits.
+fn say_few(
+    alloc: Global,
+    line: &mut String,
+    keeper: &mut MemKeeper,
+    table: &Name,
+) -> Result<(), KeepFault> {
+    for most in [0, 1, 2, 3, 9, 10, 4_294_967_295] {
+        let few = row_count_at_most(alloc, keeper, table, most)?;
+        say(line, if few { "+" } else { "-" })?;
+    }
+    Ok(())
+}
+
+/// Whether tables with no row, with one and with two have few.
+fn few_rows(alloc: Global, line: &mut String) -> Result<(), KeepFault> {
+    let mut keeper = new_keeper(alloc)?;
+    let docs = named(alloc, "docs")?;
+    say_few(alloc, line, &mut keeper, &docs)?;
+    for row in [7, -2, 9_223_372_036_854_775_807] {
+        add_row(alloc, &mut keeper, &docs, row, "a title")?;
+        say(line, " ")?;
+        say_few(alloc, line, &mut keeper, &docs)?;
+    }
+    Ok(())
+}
+
 /// What is read of a table with two rows.
 fn two_rows(alloc: Global, line: &mut String) -> Result<(), KeepFault> {
     let mut keeper = new_keeper(alloc)?;
@@ -255,7 +283,14 @@ fn spoilt_columns(alloc: Global, line: &mut String) -> Result<(), KeepFault> {
         put_raw(alloc, &mut keeper, Kind::Tables, &docs, &[], bytes)?;
         say_columns(alloc, line, &mut keeper, &docs)?;
     }
-    put_raw(alloc, &mut keeper, Kind::Tables, &docs, &[], b"\x01\x02id\x01\0\0")?;
+    put_raw(
+        alloc,
+        &mut keeper,
+        Kind::Tables,
+        &docs,
+        &[],
+        b"\x01\x02id\x01\0\0",
+    )?;
     say_columns(alloc, line, &mut keeper, &docs)
 }
 
@@ -264,7 +299,14 @@ fn spoilt_row(alloc: Global, line: &mut String) -> Result<(), KeepFault> {
     let mut keeper = new_keeper(alloc)?;
     let docs = named(alloc, "docs")?;
     let part = row_key_bytes(RowKey(1));
-    put_raw(alloc, &mut keeper, Kind::RowNumbers, &docs, &part, b"1234567")?;
+    put_raw(
+        alloc,
+        &mut keeper,
+        Kind::RowNumbers,
+        &docs,
+        &part,
+        b"1234567",
+    )?;
     let part = b"\x01\x80\0\0\0\0\0\0\x01";
     put_raw(alloc, &mut keeper, Kind::RowTexts, &docs, part, b"\xff")?;
     let part = b"\x02\x80\0\0\0\0\0\0\x01";
@@ -284,7 +326,10 @@ fn table_entry(alloc: Global) -> Result<Option<Vec<u8>>, KeepFault> {
 fn a_table_is_read_as_it_was_written(rt: HostRuntime) -> Result<(), Fail> {
     let mut line = String::new(rt.alloc());
     two_rows(rt.alloc(), &mut line)?;
-    assert_eq!(rt; line.as_str(), "id:Number title:Varchar2(300) price:Number body:Clob Some([-1]) 1=Seven 3=a body Some([-1]) 1= 3=a body None gone Some([-2]) there Some([7]) there None ");
+    assert_eq!(rt;
+        line.as_str(),
+        "id:Number title:Varchar2(300) price:Number body:Clob Some([-1]) 1=Seven 3=a body Some([-1]) 1= 3=a body None gone Some([-2]) there Some([7]) there None "
+    );
     Ok(())
 }
 
@@ -301,13 +346,27 @@ fn spoilt_entries_are_none(rt: HostRuntime) -> Result<(), Fail> {
     let mut line = String::new(rt.alloc());
     spoilt_columns(rt.alloc(), &mut line)?;
     spoilt_row(rt.alloc(), &mut line)?;
-    assert_eq!(rt; line.as_str(), "none none none none none none none none none id:Number None 2=é ");
+    assert_eq!(rt;
+        line.as_str(),
+        "none none none none none none none none none id:Number None 2=é "
+    );
+    Ok(())
+}
+
+#[test]
+fn few_rows_are_few(rt: HostRuntime) -> Result<(), Fail> {
+    let mut line = String::new(rt.alloc());
+    few_rows(rt.alloc(), &mut line)?;
+    assert_eq!(rt; line.as_str(), "+++++++ -++++++ --+++++ ---++++");
     Ok(())
 }
 
 #[test]
 fn columns_have_these_bytes(rt: HostRuntime) -> Result<(), Fail> {
     let bytes = table_entry(rt.alloc())?.ok_or("no entry")?;
-    assert_eq!(rt; bytes.as_slice(), b"\x04\x02id\x01\0\0\x05title\x02\x01\x2c\x05price\x01\0\0\x04body\x03\0\0".as_slice());
+    assert_eq!(rt;
+        bytes.as_slice(),
+        b"\x04\x02id\x01\0\0\x05title\x02\x01\x2c\x05price\x01\0\0\x04body\x03\0\0".as_slice()
+    );
     Ok(())
 }

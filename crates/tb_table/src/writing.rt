@@ -1,6 +1,7 @@
-//! Columns and numbers as the values of entries.
+//! Columns and numbers as the values of entries, and rows as the rests of their keys.
 
 ghost use Rattle.std.specs.Prelude.{◌≡◌, ◌++◌, ◌^◌, ◌<◌, length, IfOk, OnOk};
+ghost use Rattle.ct_entry.specs.Keys.{text_part};
 ghost use Rattle.tb_table.specs.Spelling.{sort_code, sort_size, column_bytes, columns_bytes, numbers_bytes};
 
 use crate::columns::{Column, Sort};
@@ -60,4 +61,12 @@ pub(crate) fn numbers_bytes(alloc: Global, numbers: &[i64]) -> Result<Vec<u8>, M
         bytes.extend_from_slice(&row_key_bytes(RowKey(*number)))?;
     }
     Ok(bytes)
+}
+
+/// The rest of the key of a text: its column, and its row.
+pub(crate) fn text_part(column: u8, key: RowKey) -> [u8; 9]
+    ensures { result ≡ text_part column key.0 }
+{
+    let [a, b, c, d, e, f, g, h] = row_key_bytes(key);
+    [column, a, b, c, d, e, f, g, h]
 }

@@ -1,5 +1,4 @@
-use Rattle.std.proofs.Common.{◌≡◌, List, ◌∷◌, [], length, length-append, arith, subst, sym, ◌∙◌, ap}
-use Rattle.std.specs.Prelude.{IfNone, IfSome}
+use Rattle.std.proofs.Common.{◌∷◌, [], length-append, arith}
 use Rattle.tb_table.proofs.ColumnSteps.{no_count, more_read, stuck, some_left, from_none, from_some}
 use Rattle.tb_table.proofs.reading.read_columns.Goals as goal
 

@@ -1,7 +1,6 @@
-use Rattle.std.proofs.Common.{◌≡◌, ◌<◌, ◌^◌, ◌+◌, length, take, drop, arith}
+use Rattle.std.proofs.Common.{◌<◌, ◌^◌, ◌+◌, length, arith}
 use Rattle.tb_table.specs.declared.columns.Sort.{Sort}
 use Rattle.tb_table.specs.Spelling.{sort_size}
-use Rattle.tb_table.specs.Readings.{sort_bytes}
 use Rattle.tb_table.proofs.NumberSteps.{too_few}
 use Rattle.tb_table.proofs.ColumnSteps.{sort_short, if_none}
 use Rattle.tb_table.proofs.reading.read_sort.Goals as goal
