@@ -6,8 +6,9 @@ use Rattle.std.proofs.lemmas.List.{map-append, reverse-append}
 use Rattle.ct_keep.specs.declared.batches.Word as rust
 use Rattle.ct_keep.specs.Spoken.{spoken}
 use Rattle.ct_keep.specs.Content.{Content, Word, after, entry_weight, weight}
-use Rattle.ct_keep.specs.Trials.{weight_of, staying, undoing, AreInPlace, IsCourse}
-use Rattle.ct_keep.proofs.ContentLaws.{get-insert_here, set_back, get-staying, staying-none, staying-put, staying-gone, weight-set_to, weight_of-le}
+use Rattle.ct_keep.specs.Laws.{value_weight, weight-set_to}
+use Rattle.ct_keep.specs.Trials.{staying, undoing, AreInPlace, IsCourse}
+use Rattle.ct_keep.proofs.ContentLaws.{get-insert_here, set_back, get-staying, staying-none, staying-put, staying-gone, value_weight-le}
 
 undoing-push : (notes : List rust.Word) (note : rust.Word) → undoing (notes ++ note ∷ []) ≡ spoken note ∷ undoing notes
 undoing-push notes note = ap reverse (map-append spoken notes (note ∷ [])) ∙ reverse-append (map spoken notes) (spoken note ∷ [])
@@ -38,37 +39,37 @@ module _ (held : Content) (notes : List rust.Word) (note : rust.Word) (key value
       (λ _. subst (λ (o : Option (List ℕ)). IsSome o) (sym (get-insert_here held key value)) refl, subst (AreInPlace (undoing notes)) (sym (set_back key (Some value) held)) in_place)
 
   pub course_after_put : (gone : Content) (total : ℕ) → IsCourse held gone notes total
-      → IsCourse (insert held key value) (remove gone key) (notes ++ note ∷ []) (total - weight_of key (get (staying held gone) key) + entry_weight (key, value))
+      → IsCourse (insert held key value) (remove gone key) (notes ++ note ∷ []) (total - value_weight key (get (staying held gone) key) + entry_weight (key, value))
   course_after_put gone total course = record {
     weighs =
         let seen = staying held gone in
-        omega (arith, course.weighs, weight-set_to seen key (Some value), weight_of-le seen key, ap weight (staying-put held gone key value));
+        omega (arith, course.weighs, weight-set_to key (Some value) seen, value_weight-le seen key, ap weight (staying-put held gone key value));
     in_place = in_place_after_put course.in_place;
   }
 
 pub course_after_removal : (held gone : Content) (notes : List rust.Word) (total : ℕ) (key mark : List ℕ) → IsCourse held gone notes total
-    → IsCourse held (insert gone key mark) notes (total - weight_of key (get (staying held gone) key))
+    → IsCourse held (insert gone key mark) notes (total - value_weight key (get (staying held gone) key))
 course_after_removal held gone notes total key mark course = record {
   weighs =
       let seen = staying held gone in
-      omega (arith, course.weighs, weight-set_to seen key None, weight_of-le seen key, ap weight (staying-gone held gone key mark));
+      omega (arith, course.weighs, weight-set_to key None seen, value_weight-le seen key, ap weight (staying-gone held gone key mark));
   in_place = course.in_place;
 }
 
 -- one word adds less than so much
 pub heavier_by : (m : Content) (key value : List ℕ) (more : ℕ) → entry_weight (key, value) ≡ more → more < 2 ^ 64 → weight (insert m key value) ≤ weight m + 2 ^ 64
-heavier_by m key value more is fits = omega (arith, weight-set_to m key (Some value), is, fits)
+heavier_by m key value more is fits = omega (arith, weight-set_to key (Some value) m, is, fits)
 
 -- the same, by what the calls gave
 pub course_put : (held held' gone gone' : Content) (notes notes' : List rust.Word) (note : rust.Word) (key value : List ℕ) (total less more : ℕ) → IsCourse held gone notes total
     → spoken note ≡ (key, get held key) → held' ≡ insert held key value → gone' ≡ remove gone key → notes' ≡ notes ++ note ∷ []
-    → less ≡ weight_of key (get (staying held gone) key) → more ≡ entry_weight (key, value) → IsCourse held' gone' notes' (total - less + more)
+    → less ≡ value_weight key (get (staying held gone) key) → more ≡ entry_weight (key, value) → IsCourse held' gone' notes' (total - less + more)
 course_put held held' gone gone' notes notes' note key value total less more course noted h g n l m =
     rw (h, g, n, l, m) (course_after_put held notes note key value noted gone total course)
 
 pub course_removed : (held gone gone' : Content) (notes : List rust.Word) (key mark : List ℕ) (total less : ℕ) → IsCourse held gone notes total
-    → gone' ≡ insert gone key mark → less ≡ weight_of key (get (staying held gone) key) → IsCourse held gone' notes (total - less)
+    → gone' ≡ insert gone key mark → less ≡ value_weight key (get (staying held gone) key) → IsCourse held gone' notes (total - less)
 course_removed held gone gone' notes key mark total less course g l = rw (g, l) (course_after_removal held gone notes total key mark course)
 
 pub no_heavier : (m : Content) (key : List ℕ) → weight (remove m key) ≤ weight m + 2 ^ 64
-no_heavier m key = omega (arith, weight-set_to m key None)
+no_heavier m key = omega (arith, weight-set_to key None m)

@@ -1,16 +1,11 @@
 -- A commit that is under way in memory.
-use Rattle.std.specs.Prelude.{◌≡◌, ℕ, List, [], ◌∷◌, map, reverse, Option, Some, None, IsSome, not, refl}
+use Rattle.std.specs.Prelude.{◌≡◌, ℕ, List, [], ◌∷◌, map, reverse, None, IsSome, not, refl}
 use Rattle.std.specs.Coded.{Coded, code_by, coded×}
 use Rattle.std.specs.FinMap.{get, contains_key, retain_keys}
 use Rattle.ct_keep.specs.declared.batches.Word as rust
 use Rattle.ct_keep.specs.Pairs.{content_code}
 use Rattle.ct_keep.specs.Spoken.{spoken}
-use Rattle.ct_keep.specs.Content.{Content, Word, set_to, entry_weight, weight}
-
--- what an entry weighs, if there is one
-abbrev pub weight_of : List ℕ → Option (List ℕ) → ℕ
-weight_of key None = 0
-weight_of key (Some value) = entry_weight (key, value)
+use Rattle.ct_keep.specs.Content.{Content, Word, set_to, weight}
 
 -- the entries that stay, where those at some keys are to go
 abbrev pub staying : Content → Content → Content

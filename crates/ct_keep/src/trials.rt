@@ -5,7 +5,7 @@ ghost use Rattle.std.specs.Option.{option_map};
 ghost use Rattle.std.specs.FinMap.{get, insert, remove};
 ghost use Rattle.ct_keep.specs.Spoken.{spoken};
 ghost use Rattle.ct_keep.specs.Content.{set_to, after, entry_weight, weight};
-ghost use Rattle.ct_keep.specs.Trials.{weight_of};
+ghost use Rattle.ct_keep.specs.Laws.{value_weight};
 
 use crate::batches::Word;
 use crate::sorted_entries::SortedEntries;
@@ -63,7 +63,7 @@ impl Trial {
 
     /// What the entry at a key weighs, if there is one that stays.
     fn weight_at(&self, key: &[u8]) -> u64
-        ensures { result ≡ weight_of key.now (get self.now.seen key.now) }
+        ensures { result ≡ value_weight key.now (get self.now.seen key.now) }
     {
         if self.gone.value_at(key).is_some() {
             return 0;

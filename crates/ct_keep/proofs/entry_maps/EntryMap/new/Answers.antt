@@ -1,7 +1,7 @@
 use Rattle.std.proofs.Common.{sym, ap, ◌∙◌}
 use Rattle.ct_keep.specs.Content.{weight}
-use Rattle.ct_keep.proofs.ContentLaws.{weight-none}
+use Rattle.ct_keep.specs.Laws.{weight-empty}
 use Rattle.ct_keep.proofs.entry_maps.EntryMap.new.Goals as goal
 
 pub invariant_of-result : goal.invariant_of-result
-invariant_of-result c = sym (ap weight c.new.ensures ∙ weight-none)
+invariant_of-result c = sym (ap weight c.new.ensures ∙ weight-empty)

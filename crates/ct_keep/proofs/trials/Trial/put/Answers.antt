@@ -3,14 +3,15 @@ use Rattle.std.specs.FinMap.{get, insert, remove}
 use Rattle.ct_keep.specs.declared.batches.Word.{Word}
 use Rattle.ct_keep.specs.Spoken.{spoken}
 use Rattle.ct_keep.specs.Content.{entry_weight, weight}
-use Rattle.ct_keep.specs.Trials.{Course, weight_of, staying}
-use Rattle.ct_keep.proofs.ContentLaws.{weight_of-le, staying-put}
+use Rattle.ct_keep.specs.Trials.{Course, staying}
+use Rattle.ct_keep.specs.Laws.{value_weight}
+use Rattle.ct_keep.proofs.ContentLaws.{value_weight-le, staying-put}
 use Rattle.ct_keep.proofs.Courses.{course_put, back_after_put, heavier_by}
 use Rattle.ct_keep.proofs.trials.Trial.put.Goals as goal
 use Rattle.ct_keep.proofs.trials.Trial.put.Goals.{After-push_reserved}
 
-less_is : (c : After-push_reserved) → c.weight_at-less.result ≡ weight_of c.args.key.items (get (staying c.self.inside.held c.self.inside.gone) c.args.key.items)
-less_is c = c.weight_at-less.ensures ∙ ap (λ (k : List ℕ). weight_of k (get (staying c.self.inside.held c.self.inside.gone) k)) c.deref-2.ensures.value
+less_is : (c : After-push_reserved) → c.weight_at-less.result ≡ value_weight c.args.key.items (get (staying c.self.inside.held c.self.inside.gone) c.args.key.items)
+less_is c = c.weight_at-less.ensures ∙ ap (λ (k : List ℕ). value_weight k (get (staying c.self.inside.held c.self.inside.gone) k)) c.deref-2.ensures.value
 
 more_is : (c : After-push_reserved) → c.entry_weight-more.result ≡ entry_weight (c.args.key.items, c.args.value.items)
 more_is c = c.entry_weight-more.ensures ∙ ap (λ (k : List ℕ). entry_weight (k, c.deref-4.result.now)) c.deref-3.ensures.value ∙ ap (λ (v : List ℕ). entry_weight (c.args.key.items, v)) c.deref-4.ensures.value
@@ -38,7 +39,7 @@ seen_is c =
     ∙ ap (λ (x : Course). insert x.seen c.args.key.items c.args.value.items) c.self.view_is
 
 pub overflow_sub-self : goal.overflow_sub-self
-overflow_sub-self c = omega (arith, less_is c, weight_of-le (staying c.self.inside.held c.self.inside.gone) c.args.key.items, c.self.invariant.weighs)
+overflow_sub-self c = omega (arith, less_is c, value_weight-le (staying c.self.inside.held c.self.inside.gone) c.args.key.items, c.self.invariant.weighs)
 
 pub invariant_of-self-3 : goal.invariant_of-self-3
 invariant_of-self-3 c =

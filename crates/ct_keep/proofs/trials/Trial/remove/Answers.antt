@@ -1,19 +1,20 @@
 use Rattle.std.proofs.Common.{◌≡◌, List, ℕ, arith, sym, ap, ◌∙◌}
 use Rattle.std.specs.FinMap.{get, remove}
 use Rattle.ct_keep.specs.Content.{weight}
-use Rattle.ct_keep.specs.Trials.{Course, weight_of, staying}
-use Rattle.ct_keep.proofs.ContentLaws.{weight_of-le, staying-gone}
+use Rattle.ct_keep.specs.Trials.{Course, staying}
+use Rattle.ct_keep.specs.Laws.{value_weight}
+use Rattle.ct_keep.proofs.ContentLaws.{value_weight-le, staying-gone}
 use Rattle.ct_keep.proofs.Courses.{course_removed, no_heavier}
 use Rattle.ct_keep.proofs.trials.Trial.remove.Goals as goal
 use Rattle.ct_keep.proofs.trials.Trial.remove.Goals.{In_ok-put}
 
-less_is : (c : In_ok-put) → c.weight_at-less.result ≡ weight_of c.args.key.items (get (staying c.self.inside.held c.self.inside.gone) c.args.key.items)
+less_is : (c : In_ok-put) → c.weight_at-less.result ≡ value_weight c.args.key.items (get (staying c.self.inside.held c.self.inside.gone) c.args.key.items)
 less_is c =
     let k = c.args.key.items in
-    c.weight_at-less.ensures ∙ ap (λ (k : List ℕ). weight_of k (get c.args.self.now.seen k)) c.deref.ensures.value ∙ ap (λ (x : Course). weight_of k (get x.seen k)) (sym c.self.view_is)
+    c.weight_at-less.ensures ∙ ap (λ (k : List ℕ). value_weight k (get c.args.self.now.seen k)) c.deref.ensures.value ∙ ap (λ (x : Course). value_weight k (get x.seen k)) (sym c.self.view_is)
 
 pub overflow_sub-self : goal.overflow_sub-self
-overflow_sub-self c = omega (arith, less_is (goal.at.overflow_sub-self c).In_ok-put, weight_of-le (staying c.self.inside.held c.self.inside.gone) c.args.key.items, c.self.invariant.weighs)
+overflow_sub-self c = omega (arith, less_is (goal.at.overflow_sub-self c).In_ok-put, value_weight-le (staying c.self.inside.held c.self.inside.gone) c.args.key.items, c.self.invariant.weighs)
 
 pub invariant_of-self-2 : goal.invariant_of-self-2
 invariant_of-self-2 c =
