@@ -1,5 +1,5 @@
 -- What holds of every key.
-use Rattle.std.proofs.Common.{◌≡◌, ◌↔◌, ◌≤◌, ◌-◌, ◌+◌, ℕ, Bool, true, false, cond, leb, List, [], ◌∷◌, ◌++◌, length, map, refl, ap, arith, length-append, leb-true, leb-false}
+use Rattle.std.proofs.Common.{◌≡◌, ◌↔◌, ◌≤◌, ◌-◌, ◌+◌, ℕ, Bool, true, false, cond, leb, List, [], ◌∷◌, ◌++◌, length, map, refl, ap, arith, length-append, leb-false}
 use Rattle.std.specs.Prelude.{◌&&◌}
 use Rattle.std.specs.Char.{to_ascii_lowercase, encode_utf8, len_utf8}
 use Rattle.std.specs.Str.{IsUtf8, all_scalars, encode_utf8_all}
@@ -10,18 +10,6 @@ use Rattle.tx_chars.specs.Keys.{cut_at, key_of}
 and_parts : (a b : Bool) → (a && b) ≡ true → (a ≡ true) × (b ≡ true)
 and_parts true b h = (refl, h)
 and_parts false b h = cc
-
--- the kept bytes have room
-fits-step : (b : Bool) (room width : ℕ) (front rest : List ℕ) → leb width room ≡ b → length front ≡ width → length rest ≤ room - width → length (cond b (front ++ rest) []) ≤ room
-fits-step true room width front rest test long fits = omega (arith, leb-true width room test, length-append front rest)
-fits-step false room width front rest test long fits = omega arith
-
-fits : (room : ℕ) (cs : List ℕ) → length (cut_at room cs) ≤ room
-fits room [] = omega arith
-fits room (c ∷ cs) = fits-step (leb (len_utf8 c) room) room (len_utf8 c) (encode_utf8 c) (cut_at (room - len_utf8 c) cs) refl (length-encode c) (fits (room - len_utf8 c) cs)
-
-pub limit : (text : List ℕ) → length (key_of text) ≤ 255
-limit text = fits 255 (map to_ascii_lowercase text)
 
 -- characters are cut whole
 utf8-step : (b : Bool) (front rest : List ℕ) → IsUtf8 front → IsUtf8 rest → IsUtf8 (cond b (front ++ rest) [])

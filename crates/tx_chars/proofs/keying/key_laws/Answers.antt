@@ -1,4 +1,5 @@
-use Rattle.tx_chars.proofs.KeyLaws.{limit, utf8, whole, empty}
+use Rattle.tx_chars.specs.KeyLimit.{limit}
+use Rattle.tx_chars.proofs.KeyLaws.{utf8, whole, empty}
 use Rattle.tx_chars.proofs.keying.key_laws.Goals as goal
 
 pub returns-clause-limit : goal.returns-clause-limit
