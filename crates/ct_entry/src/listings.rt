@@ -43,8 +43,8 @@ pub fn entries_of<K: Keeper>(
     scan(alloc, keeper, &prefix)
 }
 
-/// The row key that a rest spells; None where it hasn't 8 bytes.
-fn row_in(rest: &[u8]) -> Option<RowKey>
+/// The row key that a rest or a value spells; None where it hasn't 8 bytes.
+pub fn row_in(rest: &[u8]) -> Option<RowKey>
     ensures { option_map (λ r. r.0) result ≡ row_of rest.now }
 {
     let row = read_row_key(rest, 0)?;
