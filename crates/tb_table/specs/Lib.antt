@@ -8,3 +8,4 @@ pub mod ChangeLaws
 pub mod RuleLaws
 pub mod WellLaws
 pub mod RowCounts
+pub mod Room
