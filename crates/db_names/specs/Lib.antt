@@ -1,0 +1,5 @@
+pub mod Heads
+pub mod Findings
+pub mod Parts
+pub mod PairLaws
+pub mod HeadLaws
