@@ -1,0 +1,19 @@
+use Rattle.std.proofs.Common.{◌≡◌, ℕ, List, length, map, ap, ◌∙◌, arith}
+use Rattle.std.specs.FinMap.{empty, entries}
+use Rattle.tx_lexer.specs.declared.tokens.Token.{Token}
+use Rattle.ix_context.specs.Postings.{words_of}
+use Rattle.ix_context.specs.Occurrences.{noted_all}
+use Rattle.ix_context.proofs.OccurrenceLaws.{few_tokens, noted_postings}
+use Rattle.ix_context.proofs.inverting.postings.Goals as goal
+
+pub note_all-requires : goal.note_all-requires
+note_all-requires c =
+    let few = few_tokens c.in_ok-tokens.tokens.items 0 (length c.args.text.now) (omega arith) c.in_ok-tokens.ensures.in_order in
+    let same : length c.deref.result.now ≡ length c.in_ok-tokens.tokens.items = ap length c.deref.ensures.value in
+    omega (arith, few, same)
+
+pub returns : goal.returns
+returns c =
+    let keys : List Token → List (List ℕ) = λ ts. map (λ (t : Token). t.key) ts in
+    let words : keys c.deref.result.now ≡ words_of c.args.text.now = ap keys (c.deref.ensures.value ∙ c.in_ok-tokens.ensures.tokens) in
+    record { listed = c.in_ok-list.ensures ∙ ap entries (c.in_ok-found.ensures ∙ ap (noted_all empty 1) words ∙ noted_postings c.args.text.now) }

@@ -1,0 +1,5 @@
+use Rattle.ix_context.specs.RuleLaws.{row_notes_stand}
+use Rattle.ix_context.proofs.laws.notes_stand.Goals as goal
+
+pub returns : goal.returns
+returns c = row_notes_stand

@@ -1,0 +1,44 @@
+-- The rules that indexes keep in every state.
+use Rattle.std.specs.Prelude.{ℕ, ℤ, ◌≡◌, ◌≤◌, ◌-◌, ◌^◌, zero, suc, is_some, List, [], ◌∷◌, Some}
+use Rattle.std.specs.FinMap.{get}
+use Rattle.ct_base.specs.Names.{IsName}
+use Rattle.ct_entry.specs.Maps.{Names}
+use Rattle.tb_table.specs.declared.columns.Sort.{Sort}
+use Rattle.tb_table.specs.declared.columns.Sort.TheVariants.{Number, Varchar2, Clob}
+use Rattle.tb_table.specs.declared.columns.Column.{Column}
+use Rattle.tb_table.specs.Tables.{Table, Tables, row_at}
+use Rattle.ix_context.specs.Indexes.{Index}
+
+-- a column of texts
+abbrev pub IsTextSort : Sort → Type 0
+IsTextSort Number = ⊥
+IsTextSort (Varchar2 size) = Unit {0}
+IsTextSort Clob = Unit {0}
+
+-- at this place of the columns, counted from 0, is one of texts
+abbrev pub HasTextAt : List Column → ℕ → Type 0
+HasTextAt [] place = ⊥
+HasTextAt (c ∷ cs) zero = IsTextSort c.sort
+HasTextAt (c ∷ cs) (suc place) = HasTextAt cs place
+
+-- the table is there, and this column is one of texts
+pub record IsTarget (ts : Tables) (t : List ℕ) (column : ℕ) : Type 0 where
+  pub table : Table
+  pub there : get ts t ≡ Some table
+  pub texts : HasTextAt table.columns column
+
+-- how many marks an index can ever make
+abbrev pub most_given : ℕ
+most_given = 2 ^ 32 - 2
+
+pub record IsIndex (ts : Tables) (x : Index) : Type 0 where
+  pub target : IsTarget ts x.table x.column
+  -- each row of the table has a mark, and there is no other
+  pub marks : (r : ℤ) → is_some (get x.marks r) ≡ is_some (row_at ts x.table r)
+  pub given : x.given ≤ most_given
+
+pub record AreIndexes (ts : Tables) (xs : Names Index) : Type 0 where
+  pub names : (i : List ℕ) (x : Index) → get xs i ≡ Some x → IsName i
+  pub each : (i : List ℕ) (x : Index) → get xs i ≡ Some x → IsIndex ts x
+  -- a column has at most one
+  pub one : (i j : List ℕ) (x y : Index) → get xs i ≡ Some x → get xs j ≡ Some y → x.table ≡ y.table → x.column ≡ y.column → i ≡ j

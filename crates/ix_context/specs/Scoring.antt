@@ -1,0 +1,40 @@
+-- How the rows of postings of a word score rows of a table.
+use Rattle.std.specs.Prelude.{ℕ, ℤ, ◌≡◌, min, List, [], ◌∷◌, length, Option, Some, None}
+use Rattle.std.specs.Option.{option_and_then}
+use Rattle.std.specs.FinMap.{insert}
+use Rattle.ct_entry.specs.declared.kinds.Kind.TheVariants as kind
+use Rattle.ct_entry.specs.Keys.{Key, key, document_part}
+use Rattle.ct_entry.specs.Listings.{row_of}
+use Rattle.ct_entry.specs.Maps.{Rows}
+use Rattle.ix_posting.specs.declared.rows.RowDocument.{RowDocument}
+use Rattle.ix_posting.specs.Rows.{IsRow, row_bytes}
+
+-- the row of a document of an index; none where the document has no entry, or one that isn't 8 bytes long
+abbrev pub document_row : (Key → Option (List ℕ)) → List ℕ → ℕ → Option ℤ
+document_row f i d = option_and_then row_of (f (key kind.DocumentRows i (document_part d)))
+
+-- with this score of a row, if there is one
+abbrev pub with_score : Option ℤ → ℕ → Rows ℕ → Rows ℕ
+with_score None score scores = scores
+with_score (Some r) score scores = insert scores r score
+
+-- the score of a word that a document has at these positions
+abbrev pub positions_score : List ℕ → ℕ
+positions_score positions = min 100 (length positions)
+
+-- with the scores of documents, each of its row
+abbrev pub with_documents : (Key → Option (List ℕ)) → List ℕ → List RowDocument → Rows ℕ → Rows ℕ
+with_documents f i [] scores = scores
+with_documents f i (d ∷ ds) scores = with_documents f i ds (with_score (document_row f i d.document) (positions_score d.positions) scores)
+
+-- with the scores of the documents of rows of postings
+abbrev pub with_postings : (Key → Option (List ℕ)) → List ℕ → List (List RowDocument) → Rows ℕ → Rows ℕ
+with_postings f i [] scores = scores
+with_postings f i (row ∷ rows) scores = with_postings f i rows (with_documents f i row scores)
+
+-- the entries hold these rows of postings
+abbrev pub HoldRows : List (List ℕ × List ℕ) → List (List RowDocument) → Type 0
+HoldRows [] [] = Unit {0}
+HoldRows [] (row ∷ rows) = ⊥
+HoldRows (e ∷ es) [] = ⊥
+HoldRows (e ∷ es) (row ∷ rows) = IsRow row × (row_bytes row ≡ e.1) × HoldRows es rows

@@ -1,0 +1,137 @@
+-- What holds of the keys and positions of every text, as a row of postings needs them.
+use Rattle.std.proofs.Common.{◌≡◌, ℕ, ◌+◌, ◌≤◌, ◌<◌, ◌^◌, Bool, true, false, cond, List, [], ◌∷◌, length, map, leb-true, leb-false, Option, Some, None, refl, sym, ap, subst, ◌∙◌, arith}
+use Rattle.std.specs.Prelude.{All, nat_le}
+use Rattle.std.specs.Bool.{if◌then◌else◌}
+use Rattle.std.specs.Str.{chars}
+use Rattle.std.specs.declared.cmp.Ordering.{Ordering}
+use Rattle.std.specs.Ordering.{nat_cmp, is_eq, eq_by_cmp}
+use Rattle.std.specs.Cmp.{IsTotalOrder}
+use Rattle.std.specs.Cmp.Lexicographic.{slice_cmp}
+use Rattle.std.specs.FinMap.{FinMap, get, entries, find, get-entries}
+use Rattle.std.proofs.lemmas.List.Elements.{All-nil, All-cons, All-head, All-tail}
+use Rattle.std.proofs.lemmas.Cmp.{nat_list_cmp_total, tied_itself}
+use Rattle.ct_keep.specs.Rising.{and_true}
+use Rattle.ct_entry.specs.Keys.{same_list, IsToken}
+use Rattle.ct_entry.specs.KeyLaws.{list_from_same}
+use Rattle.ct_entry.specs.Rising.{below, rises, entries_rise, none_below, below_tied}
+use Rattle.tx_chars.specs.KeyLimit.{limit as key_limit}
+use Rattle.tx_lexer.specs.declared.tokens.Token.{Token}
+use Rattle.tx_lexer.specs.Tokens.{tokens, default}
+use Rattle.tx_lexer.specs.TokenKeys.{some_keys, limit}
+use Rattle.ix_posting.specs.Rows.{Rise}
+use Rattle.ix_context.specs.Postings.{positions_from, positions, words_of, if_any, postings_of}
+use Rattle.ix_context.specs.PostingLaws.{get-postings_of, few_words, positions_rise}
+
+-- ---- the entries of a map
+
+module _ {K X : Type 0} (R : K → K → Ordering) (total : IsTotalOrder R) (P : K × X → Type 0) where
+  all_found : (es : List (K × X)) → rises R es ≡ true → ((k : K) (x : X) → find R k es ≡ Some x → P (k, x)) → All P es
+  all_found [] rise each = All-nil P
+  all_found (e ∷ es) rise each =
+      let b = and_true (below R e.0 es) (rises R es) rise in
+      All-cons P e es (each e.0 e.1 (ap (λ (t : Bool). cond t (Some e.1) (find R e.0 es)) (ap is_eq (tied_itself total e.0))))
+      (all_found es b.1 (λ k x is. later k x is (eq_by_cmp R k e.0) refl b.0))
+    where
+      later : (k : K) (x : X) → find R k es ≡ Some x → (t : Bool) → eq_by_cmp R k e.0 ≡ t → below R e.0 es ≡ true → P (k, x)
+      later k x is true tie low = let none : None ≡ Some x = sym (none_below R k es (below_tied R total k e.0 es tie low)) ∙ is in cc
+      later k x is false tie low = each k x (ap (λ (t : Bool). cond t (Some e.1) (find R k es)) tie ∙ is)
+
+  -- what holds of whatever a map has at a key holds of its entries
+  pub all_entries : (m : FinMap R X) → ((k : K) (x : X) → get m k ≡ Some x → P (k, x)) → All P (entries m)
+  all_entries m each = all_found (entries m) (entries_rise R m) (λ k x is. each k x (get-entries m k ∙ is))
+
+-- ---- keys
+
+-- keys that entries may have
+abbrev pub AllTokens : List (List ℕ) → Type 0
+AllTokens [] = Unit {0}
+AllTokens (w ∷ ws) = IsToken w × AllTokens ws
+
+keys_are_tokens : (ts : List Token) → All (λ (t : Token). 0 < length t.key) ts → All (λ (t : Token). length t.key ≤ 255) ts → AllTokens (map (λ (t : Token). t.key) ts)
+keys_are_tokens [] some short = tt
+keys_are_tokens (t ∷ ts) some short = (
+  record { some = let first = All-head (λ (t : Token). 0 < length t.key) t ts some in omega (arith, first); short = All-head (λ (t : Token). length t.key ≤ 255) t ts short },
+  keys_are_tokens ts (All-tail (λ (t : Token). 0 < length t.key) t ts some) (All-tail (λ (t : Token). length t.key ≤ 255) t ts short),
+)
+
+pub words_are_tokens : (text : List ℕ) → AllTokens (words_of text)
+words_are_tokens text = keys_are_tokens (tokens default (chars text)) (some_keys default (chars text)) (limit default 255 key_limit (chars text))
+
+found_is_token : (key : List ℕ) (place : ℕ) (ws : List (List ℕ)) → AllTokens ws → (p : ℕ) (ps : List ℕ) → positions_from place key ws ≡ p ∷ ps → IsToken key
+found_is_token key place [] all p ps is = cc
+found_is_token key place (w ∷ ws) all p ps is = go (same_list key w) refl (found_is_token key (place + 1) ws all.1 p ps) is
+  where
+    go : (b : Bool) → same_list key w ≡ b → (positions_from (place + 1) key ws ≡ p ∷ ps → IsToken key) → cond b (place ∷ positions_from (place + 1) key ws) (positions_from (place + 1) key ws) ≡ p ∷ ps → IsToken key
+    go true here rest is = subst IsToken (sym (list_from_same key w here)) all.0
+    go false here rest is = rest is
+
+-- ---- entries
+
+-- what an entry of postings needs
+pub record IsPosting (e : List ℕ × List ℕ) : Type 0 where
+  pub token : IsToken e.0
+  pub some : 1 ≤ length e.1
+  pub rise : Rise 0 e.1
+
+posting_at : (text : List ℕ) → length text ≤ 2 ^ 24 → (key ps : List ℕ) → get (postings_of text) key ≡ Some ps → IsPosting (key, ps)
+posting_at text short key ps is = go (positions key text) refl (sym (get-postings_of text key) ∙ is)
+  where
+    go : (qs : List ℕ) → positions key text ≡ qs → if_any qs ≡ Some ps → IsPosting (key, ps)
+    go [] here is = cc
+    go (q ∷ qs) here is =
+        let same : q ∷ qs ≡ ps = cc in
+        record {
+          token = found_is_token key 1 (words_of text) (words_are_tokens text) q qs here;
+          some = subst (λ (l : List ℕ). 1 ≤ length l) same (omega arith);
+          rise = subst (Rise 0) (here ∙ same) (positions_rise key text short);
+        }
+
+-- each key of a text, with its positions, may stand in a row of postings
+pub postings_fit : (text : List ℕ) → length text ≤ 2 ^ 24 → All IsPosting (entries (postings_of text))
+postings_fit text short = all_entries (slice_cmp nat_cmp) nat_list_cmp_total IsPosting (postings_of text) (posting_at text short)
+
+few_positions : (place : ℕ) (key : List ℕ) (ws : List (List ℕ)) → length (positions_from place key ws) ≤ length ws
+few_positions place key [] = omega arith
+few_positions place key (w ∷ ws) = go (same_list key w) (few_positions (place + 1) key ws)
+  where
+    go : (b : Bool) → length (positions_from (place + 1) key ws) ≤ length ws → length (cond b (place ∷ positions_from (place + 1) key ws) (positions_from (place + 1) key ws)) ≤ length (w ∷ ws)
+    go true few = omega arith
+    go false few = omega arith
+
+-- and has no more of them than the text has bytes
+pub postings_few : (text : List ℕ) → All (λ e. length e.1 ≤ length text) (entries (postings_of text))
+postings_few text = all_entries (slice_cmp nat_cmp) nat_list_cmp_total (λ e. length e.1 ≤ length text) (postings_of text) (λ key ps is. few key ps (positions key text) refl (sym (get-postings_of text key) ∙ is))
+  where
+    few : (key ps qs : List ℕ) → positions key text ≡ qs → if_any qs ≡ Some ps → length ps ≤ length text
+    few key ps [] here is = cc
+    few key ps (q ∷ qs) here is =
+        let same : positions key text ≡ ps = let e : q ∷ qs ≡ ps = cc in here ∙ e in
+        let at_most = few_positions 1 key (words_of text) in
+        let bytes = few_words text in
+        subst (λ (l : List ℕ). length l ≤ length text) same (omega (arith, at_most, bytes))
+
+-- a text of at most 2 ^ 24 bytes, or none
+abbrev pub HasShortText : Option (List ℕ) → Type 0
+HasShortText None = Unit {0}
+HasShortText (Some text) = length text ≤ 2 ^ 24
+
+-- the text, if it is one
+abbrev pub if_short : Option (List ℕ) → Option (List ℕ)
+if_short None = None
+if_short (Some text) = if nat_le (length text) (2 ^ 24) then Some text else None
+
+pub short_kept : (o : Option (List ℕ)) → HasShortText o → if_short o ≡ o
+short_kept None short = refl
+short_kept (Some text) short = go (nat_le (length text) (2 ^ 24)) refl
+  where
+    go : (b : Bool) → nat_le (length text) (2 ^ 24) ≡ b → cond b (Some text) None ≡ Some text
+    go true h = refl
+    go false h = let over = leb-false (length text) (2 ^ 24) h in absurd (omega (arith, over))
+
+pub short_is_short : (o : Option (List ℕ)) → HasShortText (if_short o)
+short_is_short None = tt
+short_is_short (Some text) = go (nat_le (length text) (2 ^ 24)) refl
+  where
+    go : (b : Bool) → nat_le (length text) (2 ^ 24) ≡ b → HasShortText (cond b (Some text) None)
+    go true h = leb-true _ _ h
+    go false h = tt

@@ -1,0 +1,124 @@
+//! New indexes.
+#![tactic(auto, using(ct_keep::specs::Composing::reads_on, ct_keep::specs::Composing::reads_short, crate::specs::Faults::reads_fault))]
+
+ghost use Rattle.std.specs.Prelude.{◌≡◌, ◌+◌, ◌≤◌, ◌<◌, ◌^◌, ◌++◌, IfOk, OnOk, OnErr, Some, Err, MatchOption, filter, length, map};
+ghost use Rattle.ct_keep.specs.Content.{Content};
+ghost use Rattle.ct_keep.specs.Keeping.{Reads, fault_of};
+ghost use Rattle.ct_entry.specs.Each.{each};
+ghost use Rattle.ct_entry.specs.Words.{spell};
+ghost use Rattle.tb_table.specs.Tables.{Tables};
+ghost use Rattle.ix_context.specs.Indexes.{in_range, rows_in, target_text};
+ghost use Rattle.ix_context.specs.Changes.{numbered, mark_with, create_words};
+ghost use Rattle.ix_context.specs.Faults.{context_fault_of};
+ghost use Rattle.ix_context.specs.Rules.{most_given};
+ghost use Rattle.ix_context.specs.Stands.{HoldsTables};
+
+use crate::entries::put_index;
+use crate::faults::ContextFault;
+use crate::marking::{mark_next, number_behind};
+use crate::ranges::KeyRange;
+use ct_base::{Memory, Name, RowKey};
+use ct_entry::{Kind, row_keys};
+use ct_keep::{Batch, KeepFault, Keeper};
+use std::alloc::Global;
+use tb_table::Target;
+
+/// The row keys that lie in a range, in their order.
+fn rows_within(alloc: Global, rows: &[RowKey], range: KeyRange) -> Result<Vec<RowKey>, Memory>
+    ensures { IfOk result (λ kept. map (λ r. r.0) kept.items ≡ filter (in_range range) (map (λ r. r.0) rows.now)) }
+{
+    let mut kept = Vec::new(alloc);
+    for row in rows {
+        if range.contains(*row) {
+            kept.push(*row)?;
+        }
+    }
+    Ok(kept)
+}
+
+/// The keys of a table's rows that lie in a range, in order.
+fn rows_of<K: Keeper>(
+    alloc: Global,
+    keeper: &mut K,
+    table: &Name,
+    range: KeyRange,
+) -> Result<Vec<RowKey>, KeepFault>
+    requires { (K.keeping keeper.old).ready }
+    ensures rows { (m : Content) (ts : Tables) → (K.keeping keeper.old).content ≡ Some m → HoldsTables m ts → IfOk result (λ rows. map (λ r. r.0) rows.items ≡ rows_in ts table.now range) }
+    ensures reads { Reads (K.keeping keeper.old) (K.keeping keeper.new) (fault_of result) }
+{
+    let rows = row_keys(alloc, keeper, Kind::RowNumbers, table)?;
+    let kept = rows_within(alloc, &rows, range)?;
+    Ok(kept)
+}
+
+/// Adds the words by which rows become documents of an index on this target, the first of them the document 1.
+fn mark_rows<K: Keeper>(
+    alloc: Global,
+    keeper: &mut K,
+    words: &mut Batch,
+    index: &Name,
+    target: &Target,
+    rows: &[RowKey],
+) -> Result<(), KeepFault>
+    requires ready { (K.keeping keeper.old).ready }
+    requires room { 1 + length rows.now < 2 ^ 32 }
+    ensures words { (m : Content) (ts : Tables) → (K.keeping keeper.old).content ≡ Some m → HoldsTables m ts → OnOk result (words.new ≡ words.old ++ spell (each (mark_with index.now (target_text ts target.now)) (numbered 1 (map (λ r. r.0) rows.now)))) }
+    ensures reads { Reads (K.keeping keeper.old) (K.keeping keeper.new) (fault_of result) }
+{
+    let mut document = 1;
+    for row in rows {
+        mark_next(alloc, keeper, words, index, target, document, *row)?;
+        document += 1;
+    }
+    Ok(())
+}
+
+/// The words of a new index. None where more rows lie in its range than there are numbers.
+fn words_of_create<K: Keeper>(
+    alloc: Global,
+    keeper: &mut K,
+    index: &Name,
+    target: &Target,
+    range: KeyRange,
+) -> Result<Option<Batch>, KeepFault>
+    requires { (K.keeping keeper.old).ready }
+    ensures words { (m : Content) (ts : Tables) → (K.keeping keeper.old).content ≡ Some m → HoldsTables m ts → IfOk result (λ words. MatchOption words (most_given < length (rows_in ts target.now.table range)) (λ ws. (length (rows_in ts target.now.table range) ≤ most_given) × (ws ≡ spell (create_words ts index.now target.now range)))) }
+    ensures reads { Reads (K.keeping keeper.old) (K.keeping keeper.new) (fault_of result) }
+{
+    let rows = rows_of(alloc, keeper, &target.table, range)?;
+    let Some(next) = number_behind(1, rows.len()) else {
+        return Ok(None);
+    };
+    let mut words = Batch::new(alloc);
+    put_index(alloc, &mut words, index, target, next)?;
+    mark_rows(alloc, keeper, &mut words, index, target, &rows)?;
+    Ok(Some(words))
+}
+
+/// Adds the words of a new index on this target, of which each row that the table has in the range becomes a document, in
+/// order of the keys from 1 on, and the tokens of these rows' texts get postings.
+///
+/// It costs what these texts hold, times a logarithm, and a scan of the table's keys. TooMany where over 2^32 - 2 rows lie
+/// in the range. The batch is unchanged at each error.
+pub fn create<K: Keeper>(
+    alloc: Global,
+    keeper: &mut K,
+    batch: &mut Batch,
+    index: &Name,
+    target: &Target,
+    range: KeyRange,
+) -> Result<(), ContextFault>
+    requires { (K.keeping keeper.old).ready }
+    ensures words { (m : Content) (ts : Tables) → (K.keeping keeper.old).content ≡ Some m → HoldsTables m ts → OnOk result (batch.new ≡ batch.old ++ spell (create_words ts index.now target.now range)) }
+    ensures room { (m : Content) (ts : Tables) → (K.keeping keeper.old).content ≡ Some m → HoldsTables m ts → OnOk result (length (rows_in ts target.now.table range) ≤ most_given) }
+    ensures many { (m : Content) (ts : Tables) → (K.keeping keeper.old).content ≡ Some m → HoldsTables m ts → result ≡ Err ContextFault.TooMany → most_given < length (rows_in ts target.now.table range) }
+    ensures err { OnErr result (batch.new ≡ batch.old) }
+    ensures reads { Reads (K.keeping keeper.old) (K.keeping keeper.new) (context_fault_of result) }
+{
+    let Some(words) = words_of_create(alloc, keeper, index, target, range)? else {
+        return Err(ContextFault::TooMany);
+    };
+    batch.append(words)?;
+    Ok(())
+}

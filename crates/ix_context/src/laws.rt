@@ -1,0 +1,43 @@
+//! What holds of all indexes. Each function here only states laws, which its contract proves.
+
+ghost use Rattle.ix_context.specs.ChangeLaws.{IndexesStayWithTables, IndexesStayWithRows, NotedRowsStand, SyncedIndexesStand, CreatedIndexesStand};
+ghost use Rattle.ix_context.specs.RuleLaws.{NotesOfRowsStand, NewTablesKeepIndexRules, NewRowsKeepIndexRules, SyncsKeepIndexRules, CreatesKeepIndexRules, HasAllRows};
+ghost use Rattle.ix_context.specs.WellLaws.{NotesAreWell, SyncsAreWell, CreatesAreWell};
+
+use crate::ranges::KeyRange;
+
+/// Where entries spell indexes, they still do after a new table or row, and the words of a note, a synchronisation or a new
+/// index make them spell the indexes that these lead to.
+pub fn words_stand()
+    ensures table { IndexesStayWithTables }
+    ensures row { IndexesStayWithRows }
+    ensures note { NotedRowsStand }
+    ensures sync { SyncedIndexesStand }
+    ensures create { CreatedIndexesStand }
+{}
+
+/// The notes of a new row in each index on its table, one by one, make entries that spell indexes spell those in which the
+/// row waits.
+pub fn notes_stand()
+    ensures { NotesOfRowsStand }
+{}
+
+/// New tables and rows keep the rules of indexes; so do synchronisations, and new indexes over all rows.
+pub fn rules_stay()
+    ensures table { NewTablesKeepIndexRules }
+    ensures row { NewRowsKeepIndexRules }
+    ensures sync { SyncsKeepIndexRules }
+    ensures create { CreatesKeepIndexRules }
+{}
+
+/// All row keys lie in the widest range.
+pub fn all_in_range()
+    ensures { HasAllRows KeyRange.ALL }
+{}
+
+/// A keeper that takes whatever entries of indexes may commit the words of a note, a synchronisation and a new index.
+pub fn words_are_well()
+    ensures note { NotesAreWell }
+    ensures sync { SyncsAreWell }
+    ensures create { CreatesAreWell }
+{}

@@ -1,0 +1,29 @@
+//! Text indexes: which rows are marked, and what queries find.
+#![tactic(auto)]
+
+mod creating;
+mod entries;
+mod faults;
+mod hits;
+mod inverting;
+mod laws;
+mod marking;
+mod noting;
+mod occurrences;
+mod ranges;
+mod scores;
+mod searching;
+mod syncing;
+#[cfg(test)]
+mod tests;
+
+pub use creating::create;
+pub use entries::{put_index, read_index};
+pub use faults::ContextFault;
+pub use hits::Hit;
+pub use inverting::postings;
+pub use laws::{all_in_range, notes_stand, rules_stay, words_are_well, words_stand};
+pub use noting::note_insert;
+pub use ranges::KeyRange;
+pub use searching::search;
+pub use syncing::sync;

@@ -1,0 +1,154 @@
+//! The rows that have a word.
+#![tactic(auto, using(ct_keep::specs::Composing::reads_on, ct_keep::specs::Composing::reads_short))]
+
+ghost use Rattle.std.specs.Prelude.{◌≡◌, ◌++◌, ◌<◌, ◌∷◌, List, IfOk, OnOk, Some, Err, map, length, MatchOption};
+ghost use Rattle.std.specs.Option.{option_map};
+ghost use Rattle.ct_keep.specs.Content.{Content};
+ghost use Rattle.ct_keep.specs.Keeping.{Reads, fault_of};
+ghost use Rattle.ct_keep.specs.Looks.{no_looks, scan_looks, RisesBy};
+ghost use Rattle.ct_entry.specs.Keys.{at, prefix_of, IsToken, HasKeysOnly};
+ghost use Rattle.std.specs.FinMap.{get, empty};
+ghost use Rattle.ct_entry.specs.declared.kinds.Kind.TheVariants as kind;
+ghost use Rattle.ix_posting.specs.declared.rows.RowDocument.{RowDocument};
+ghost use Rattle.ix_posting.specs.Rows.{IsRow, row_bytes};
+ghost use Rattle.ct_entry.specs.Maps.{Names};
+ghost use Rattle.tb_table.specs.Tables.{Tables};
+ghost use Rattle.ix_context.specs.Indexes.{Index, found};
+ghost use Rattle.ix_context.specs.Spelling.{IndexesStand};
+ghost use Rattle.ix_context.specs.Limits.{IsWithinLimits};
+ghost use Rattle.ix_context.specs.Scoring.{document_row, with_documents, with_postings, HoldRows};
+
+use crate::hits::Hit;
+use crate::scores::Scores;
+use ct_base::{Memory, Name, RowKey};
+use ct_entry::{Kind, entries_of, fetch_entry, row_in};
+use ct_keep::{KeepFault, Keeper};
+use ix_posting::{Row, RowDocument, RowFault};
+use std::alloc::Global;
+use tx_chars::Key;
+
+/// The row of a document of an index; None where it has none.
+fn row_of_document<K: Keeper>(
+    alloc: Global,
+    keeper: &mut K,
+    index: &Name,
+    document: u32,
+) -> Result<Option<RowKey>, KeepFault>
+    requires { (K.keeping keeper.old).ready }
+    ensures row { (m : Content) → (K.keeping keeper.old).content ≡ Some m → IfOk result (λ row. option_map (λ r. r.0) row ≡ document_row (at m) index.now document) }
+    ensures reads { Reads (K.keeping keeper.old) (K.keeping keeper.new) (fault_of result) }
+    ensures at_most { RisesBy no_looks (K.keeping keeper.old).counts (K.keeping keeper.new).counts }
+    ensures never_full { result ≡ Err KeepFault.Full → ⊥ }
+{
+    let part = document.to_be_bytes();
+    let Some(value) = fetch_entry(alloc, keeper, Kind::DocumentRows, index, &part)? else {
+        return Ok(None);
+    };
+    Ok(row_in(&value))
+}
+
+/// Scores the row of each document that has one.
+fn score_documents<K: Keeper>(
+    alloc: Global,
+    keeper: &mut K,
+    index: &Name,
+    scores: &mut Scores,
+    documents: &[RowDocument],
+) -> Result<(), KeepFault>
+    requires { (K.keeping keeper.old).ready }
+    ensures scores { (m : Content) → (K.keeping keeper.old).content ≡ Some m → OnOk result (scores.new ≡ with_documents (at m) index.now documents.now scores.old) }
+    ensures reads { Reads (K.keeping keeper.old) (K.keeping keeper.new) (fault_of result) }
+    ensures at_most { RisesBy no_looks (K.keeping keeper.old).counts (K.keeping keeper.new).counts }
+    ensures never_full { result ≡ Err KeepFault.Full → ⊥ }
+{
+    for found in documents {
+        if let Some(row) = row_of_document(alloc, keeper, index, found.document)? {
+            let score = found.positions.as_slice().len().min(100) as u32;
+            scores.put(row, score)?;
+        }
+    }
+    Ok(())
+}
+
+/// Scores the rows of the documents of a row of postings. Bytes that spell none are skipped.
+fn score_row<K: Keeper>(
+    alloc: Global,
+    keeper: &mut K,
+    index: &Name,
+    scores: &mut Scores,
+    value: &[u8],
+) -> Result<(), KeepFault>
+    requires { (K.keeping keeper.old).ready }
+    ensures scores { (m : Content) (row : List RowDocument) → (K.keeping keeper.old).content ≡ Some m → IsRow row → row_bytes row ≡ value.now → OnOk result (scores.new ≡ with_documents (at m) index.now row scores.old) }
+    ensures reads { Reads (K.keeping keeper.old) (K.keeping keeper.new) (fault_of result) }
+    ensures at_most { RisesBy no_looks (K.keeping keeper.old).counts (K.keeping keeper.new).counts }
+    ensures never_full { result ≡ Err KeepFault.Full → ⊥ }
+{
+    match Row::decode(alloc, value) {
+        Ok(row) => score_documents(alloc, keeper, index, scores, row.documents()),
+        Err(RowFault::BadRow) => Ok(()),
+        Err(RowFault::Memory) => Err(KeepFault::Memory),
+    }
+}
+
+/// The scores of the rows of the documents of rows of postings.
+fn scores_of<K: Keeper>(
+    alloc: Global,
+    keeper: &mut K,
+    index: &Name,
+    rows: &[(Vec<u8>, Vec<u8>)],
+) -> Result<Scores, KeepFault>
+    requires { (K.keeping keeper.old).ready }
+    ensures scores { (m : Content) (held : List (List RowDocument)) → (K.keeping keeper.old).content ≡ Some m → HoldRows (map (λ e. (e.0.items, e.1.items)) rows.now) held → IfOk result (λ scores. scores ≡ with_postings (at m) index.now held empty) }
+    ensures reads { Reads (K.keeping keeper.old) (K.keeping keeper.new) (fault_of result) }
+    ensures at_most { RisesBy no_looks (K.keeping keeper.old).counts (K.keeping keeper.new).counts }
+    ensures never_full { result ≡ Err KeepFault.Full → ⊥ }
+{
+    let mut scores = Scores::new(alloc);
+    for (_, value) in rows {
+        score_row(alloc, keeper, index, &mut scores, value)?;
+    }
+    Ok(scores)
+}
+
+/// What the rests of the rows of postings of a word begin with: the main stream, and the word behind its length in one
+/// byte. None for a word of over 255 bytes, which has no rows.
+fn front_of(alloc: Global, word: &Key) -> Result<Option<Vec<u8>>, Memory>
+    ensures { IfOk result (λ front. MatchOption front (255 < length word.now) (λ v. v.items ≡ 0 ∷ length word.now ∷ word.now)) }
+{
+    let word = word.as_slice();
+    if word.len() > 255 {
+        return Ok(None);
+    }
+    let mut front = Vec::new(alloc);
+    front.push(0)?;
+    front.push(word.len() as u8)?;
+    front.extend_from_slice(word)?;
+    Ok(Some(front))
+}
+
+/// The rows that have a word, with their scores, in order of their keys. A word is a key of a token, of 1 to 255 bytes;
+/// any other finds nothing.
+///
+/// It costs that word's rows of postings, and for each document of theirs a look-up and the logarithm of their number. It
+/// reads no text, and never answers Full.
+pub fn search<K: Keeper>(
+    alloc: Global,
+    keeper: &mut K,
+    index: &Name,
+    word: &Key,
+) -> Result<Vec<Hit>, KeepFault>
+    requires { (K.keeping keeper.old).ready }
+    ensures found { (m : Content) (ts : Tables) (xs : Names Index) (x : Index) → (K.keeping keeper.old).content ≡ Some m → HasKeysOnly m → IndexesStand (at m) ts xs → get xs index.now ≡ Some x → IsWithinLimits ts x → IsToken word.now → IfOk result (λ hits. map (λ h. (h.key.0, h.score)) hits.items ≡ found ts x word.now 0) }
+    ensures reads { Reads (K.keeping keeper.old) (K.keeping keeper.new) (fault_of result) }
+    ensures at_most { (m : Content) → (K.keeping keeper.old).content ≡ Some m → RisesBy (scan_looks (prefix_of kind.Postings index.now ++ 0 ∷ length word.now ∷ word.now) m) (K.keeping keeper.old).counts (K.keeping keeper.new).counts }
+    ensures never_full { result ≡ Err KeepFault.Full → ⊥ }
+{
+    let Some(front) = front_of(alloc, word)? else {
+        return Ok(Vec::new(alloc));
+    };
+    let rows = entries_of(alloc, keeper, Kind::Postings, index, &front)?;
+    let scores = scores_of(alloc, keeper, index, &rows)?;
+    let hits = scores.into_hits(alloc)?;
+    Ok(hits)
+}

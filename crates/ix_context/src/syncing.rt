@@ -1,0 +1,142 @@
+//! Synchronising indexes.
+#![tactic(auto, using(ct_keep::specs::Composing::reads_on, ct_keep::specs::Composing::reads_short, crate::specs::Faults::reads_fault))]
+
+ghost use Rattle.std.specs.Prelude.{◌≡◌, ◌+◌, ◌≤◌, ◌<◌, ◌^◌, ◌++◌, List, ℕ, IfOk, OnOk, OnErr, Some, Err, MatchOption, length, map, max};
+ghost use Rattle.std.specs.Option.{option_map};
+ghost use Rattle.std.specs.FinMap.{get};
+ghost use Rattle.ct_keep.specs.Content.{Content};
+ghost use Rattle.ct_keep.specs.Keeping.{Reads, fault_of};
+ghost use Rattle.ct_entry.specs.Each.{each};
+ghost use Rattle.ct_entry.specs.Maps.{Names};
+ghost use Rattle.ct_entry.specs.Words.{spell};
+ghost use Rattle.tb_table.specs.Tables.{Tables};
+ghost use Rattle.ix_context.specs.Indexes.{Index, pending_rows, target_text};
+ghost use Rattle.ix_context.specs.Changes.{numbered, settle_with, settled_with, sync_words};
+ghost use Rattle.ix_context.specs.Faults.{context_fault_of};
+ghost use Rattle.ix_context.specs.Rules.{most_given};
+ghost use Rattle.ix_context.specs.Stands.{HoldsTables, HoldsIndexes};
+
+use crate::entries::{put_index, read_index};
+use crate::faults::ContextFault;
+use crate::marking::{mark_next, number_behind};
+use ct_base::{Name, RowKey};
+use ct_bytes::row_key_bytes;
+use ct_entry::{Kind, remove_entry, row_keys};
+use ct_keep::{Batch, KeepFault, Keeper};
+use std::alloc::Global;
+use tb_table::Target;
+
+/// Adds the words by which a row that waits becomes a document of an index on this target.
+fn settle_row<K: Keeper>(
+    alloc: Global,
+    keeper: &mut K,
+    words: &mut Batch,
+    index: &Name,
+    target: &Target,
+    document: u32,
+    row: RowKey,
+) -> Result<(), KeepFault>
+    requires ready { (K.keeping keeper.old).ready }
+    requires some { 1 ≤ document }
+    ensures words { (m : Content) (ts : Tables) → (K.keeping keeper.old).content ≡ Some m → HoldsTables m ts → OnOk result (words.new ≡ words.old ++ spell (settle_with index.now (target_text ts target.now) (document, row.0))) }
+    ensures reads { Reads (K.keeping keeper.old) (K.keeping keeper.new) (fault_of result) }
+{
+    let part = row_key_bytes(row);
+    remove_entry(alloc, words, Kind::Pending, index, &part)?;
+    mark_next(alloc, keeper, words, index, target, document, row)
+}
+
+/// Adds the words by which rows that wait become documents of an index on this target, the first of them this one.
+fn settle_rows<K: Keeper>(
+    alloc: Global,
+    keeper: &mut K,
+    words: &mut Batch,
+    index: &Name,
+    target: &Target,
+    first: u32,
+    rows: &[RowKey],
+) -> Result<(), KeepFault>
+    requires ready { (K.keeping keeper.old).ready }
+    requires some { 1 ≤ first }
+    requires room { first + length rows.now < 2 ^ 32 }
+    ensures words { (m : Content) (ts : Tables) → (K.keeping keeper.old).content ≡ Some m → HoldsTables m ts → OnOk result (words.new ≡ words.old ++ spell (each (settle_with index.now (target_text ts target.now)) (numbered first (map (λ r. r.0) rows.now)))) }
+    ensures reads { Reads (K.keeping keeper.old) (K.keeping keeper.new) (fault_of result) }
+{
+    let mut document = first;
+    for row in rows {
+        settle_row(alloc, keeper, words, index, target, document, *row)?;
+        document += 1;
+    }
+    Ok(())
+}
+
+/// The words by which rows that wait become documents of an index on this target that gives this document next. None where
+/// there are more rows than numbers.
+fn settled_words<K: Keeper>(
+    alloc: Global,
+    keeper: &mut K,
+    index: &Name,
+    target: &Target,
+    first: u32,
+    rows: &[RowKey],
+) -> Result<Option<Batch>, KeepFault>
+    requires ready { (K.keeping keeper.old).ready }
+    requires some { 1 ≤ first }
+    ensures words { (m : Content) (ts : Tables) → (K.keeping keeper.old).content ≡ Some m → HoldsTables m ts → IfOk result (λ words. MatchOption words (2 ^ 32 ≤ first + length rows.now) (λ ws. (first + length rows.now < 2 ^ 32) × (ws ≡ spell (settled_with index.now target.now (target_text ts target.now) first (map (λ r. r.0) rows.now))))) }
+    ensures reads { Reads (K.keeping keeper.old) (K.keeping keeper.new) (fault_of result) }
+{
+    let mut words = Batch::new(alloc);
+    if rows.is_empty() {
+        return Ok(Some(words));
+    }
+    let Some(next) = number_behind(first, rows.len()) else {
+        return Ok(None);
+    };
+    settle_rows(alloc, keeper, &mut words, index, target, first, rows)?;
+    put_index(alloc, &mut words, index, target, next)?;
+    Ok(Some(words))
+}
+
+/// The words of a synchronisation of an index; none where there is no such index. None where more rows wait than it has
+/// numbers for.
+fn words_of_sync<K: Keeper>(
+    alloc: Global,
+    keeper: &mut K,
+    index: &Name,
+) -> Result<Option<Batch>, KeepFault>
+    requires { (K.keeping keeper.old).ready }
+    ensures words { (m : Content) (ts : Tables) (xs : Names Index) (x : Index) → (K.keeping keeper.old).content ≡ Some m → HoldsIndexes m ts xs → get xs index.now ≡ Some x → IfOk result (λ words. MatchOption words (most_given < x.given + length (pending_rows x)) (λ ws. (x.given + length (pending_rows x) ≤ most_given) × (ws ≡ spell (sync_words ts index.now x)))) }
+    ensures reads { Reads (K.keeping keeper.old) (K.keeping keeper.new) (fault_of result) }
+{
+    let Some((target, next)) = read_index(alloc, keeper, index)? else {
+        return Ok(Some(Batch::new(alloc)));
+    };
+    let rows = row_keys(alloc, keeper, Kind::Pending, index)?;
+    settled_words(alloc, keeper, index, &target, next.max(1), &rows)
+}
+
+/// Adds the words by which each row that waits becomes a document of the index: in order of their keys they take the next
+/// document numbers, and the tokens of their texts get postings. Nothing where no row waits, and where there is no such
+/// index.
+///
+/// It costs what the texts of these rows hold, times a logarithm. TooMany where the index would have given over 2^32 - 2
+/// documents. The batch is unchanged at each error.
+pub fn sync<K: Keeper>(
+    alloc: Global,
+    keeper: &mut K,
+    batch: &mut Batch,
+    index: &Name,
+) -> Result<(), ContextFault>
+    requires { (K.keeping keeper.old).ready }
+    ensures words { (m : Content) (ts : Tables) (xs : Names Index) (x : Index) → (K.keeping keeper.old).content ≡ Some m → HoldsIndexes m ts xs → get xs index.now ≡ Some x → OnOk result (batch.new ≡ batch.old ++ spell (sync_words ts index.now x)) }
+    ensures room { (m : Content) (ts : Tables) (xs : Names Index) (x : Index) → (K.keeping keeper.old).content ≡ Some m → HoldsIndexes m ts xs → get xs index.now ≡ Some x → OnOk result (x.given + length (pending_rows x) ≤ most_given) }
+    ensures many { (m : Content) (ts : Tables) (xs : Names Index) (x : Index) → (K.keeping keeper.old).content ≡ Some m → HoldsIndexes m ts xs → get xs index.now ≡ Some x → result ≡ Err ContextFault.TooMany → most_given < x.given + length (pending_rows x) }
+    ensures err { OnErr result (batch.new ≡ batch.old) }
+    ensures reads { Reads (K.keeping keeper.old) (K.keeping keeper.new) (context_fault_of result) }
+{
+    let Some(words) = words_of_sync(alloc, keeper, index)? else {
+        return Err(ContextFault::TooMany);
+    };
+    batch.append(words)?;
+    Ok(())
+}

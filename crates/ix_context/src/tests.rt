@@ -1,0 +1,197 @@
+//! Indexes in a keeper in memory.
+
+ghost use Rattle.std.specs.Prelude.{true, IsTrue, [], ◌∷◌};
+ghost use Rattle.ct_keep.specs.Spoken.{spoken};
+ghost use Rattle.ct_keep.specs.Words.{AreWell};
+
+use crate::{ContextFault, Hit, KeyRange, create, note_insert, search, sync};
+use ct_base::{Memory, Name, RowKey, Text};
+use ct_keep::{Batch, Keeper, MemKeeper, Word};
+use std::alloc::Global;
+use std::test::Fail;
+use tb_table::{Target, insert};
+use tx_chars::key;
+
+/// Whether a keeper may hold what the word puts.
+fn is_entry(word: &Word) -> bool
+    ensures { IsTrue result → AreWell (λ _ _. true) (spoken word.now ∷ []) }
+{
+    match &word.value {
+        None => true,
+        Some(value) => !word.key.is_empty() && word.key.len() <= 600 && value.len() <= 10_000,
+    }
+}
+
+/// Whether a keeper may hold what the words put.
+fn are_entries(batch: &Batch) -> bool
+    ensures { IsTrue result → AreWell (λ _ _. true) batch.now }
+{
+    for word in batch.words() {
+        if !is_entry(word) {
+            return false;
+        }
+    }
+    true
+}
+
+/// Commits the words, if the keeper may hold what they put.
+fn commit(alloc: Global, keeper: &mut MemKeeper, batch: Batch) -> Result<(), ContextFault> {
+    if !are_entries(&batch) {
+        return Err(ContextFault::TooMany);
+    }
+    keeper.commit(alloc, batch)?;
+    Ok(())
+}
+
+fn named(alloc: Global, text: &str) -> Result<Name, Memory> {
+    Name::read(alloc, text).map_err(|_| Memory)
+}
+
+/// Puts a row with one text into a table.
+fn add_row(
+    alloc: Global,
+    keeper: &mut MemKeeper,
+    row: i64,
+    text: &str,
+) -> Result<(), ContextFault> {
+    let table = named(alloc, "docs")?;
+    let mut texts = Vec::new(alloc);
+    texts
+        .push((1, Text::of(alloc, text)?))
+        .map_err(Memory::from)?;
+    let mut batch = Batch::new(alloc);
+    insert(alloc, &mut batch, &table, RowKey(row), &[], &texts)?;
+    commit(alloc, keeper, batch)
+}
+
+/// Makes an index on the texts of that table.
+fn add_index(
+    alloc: Global,
+    keeper: &mut MemKeeper,
+    index: &Name,
+    range: KeyRange,
+) -> Result<(), ContextFault> {
+    let table = named(alloc, "docs")?;
+    let target = Target { table, column: 1 };
+    let mut batch = Batch::new(alloc);
+    create(alloc, keeper, &mut batch, index, &target, range)?;
+    commit(alloc, keeper, batch)
+}
+
+/// Lets a row wait.
+fn add_note(
+    alloc: Global,
+    keeper: &mut MemKeeper,
+    index: &Name,
+    row: i64,
+) -> Result<(), ContextFault> {
+    let mut batch = Batch::new(alloc);
+    note_insert(alloc, &mut batch, index, RowKey(row))?;
+    commit(alloc, keeper, batch)
+}
+
+/// Synchronises an index, and counts the words that this took.
+fn settle(alloc: Global, keeper: &mut MemKeeper, index: &Name) -> Result<usize, ContextFault> {
+    let mut batch = Batch::new(alloc);
+    sync(alloc, keeper, &mut batch, index)?;
+    let count = batch.words().len();
+    commit(alloc, keeper, batch)?;
+    Ok(count)
+}
+
+fn say_hit(alloc: Global, line: &mut String, hit: Hit) -> Result<(), Memory> {
+    let RowKey(row) = hit.key;
+    let score = hit.score;
+    let text = format!(in alloc; "{row}:{score} ")?;
+    line.push_str(text.as_str())?;
+    Ok(())
+}
+
+/// The rows that have a word, each with its score.
+fn found(
+    alloc: Global,
+    keeper: &mut MemKeeper,
+    index: &Name,
+    word: &str,
+) -> Result<String, ContextFault> {
+    let word = key(alloc, word)?;
+    let hits = search(alloc, keeper, index, &word)?;
+    let mut line = String::new(alloc);
+    for hit in hits.iter() {
+        say_hit(alloc, &mut line, *hit)?;
+    }
+    Ok(line)
+}
+
+/// Two rows of a table, and an index on their texts.
+fn indexed(alloc: Global, index: &Name, range: KeyRange) -> Result<MemKeeper, ContextFault> {
+    let mut keeper = MemKeeper::new(alloc, Vec::new(alloc), 1_000_000, 0)?;
+    add_row(alloc, &mut keeper, 7, "Quick fox, quick!")?;
+    add_row(alloc, &mut keeper, -12, "a slow fox")?;
+    add_index(alloc, &mut keeper, index, range)?;
+    Ok(keeper)
+}
+
+/// What a word finds in a new index on those rows.
+fn found_at_once(alloc: Global, range: KeyRange, word: &str) -> Result<String, ContextFault> {
+    let index = named(alloc, "di")?;
+    let mut keeper = indexed(alloc, &index, range)?;
+    found(alloc, &mut keeper, &index, word)
+}
+
+/// What a word finds there after another row, and again after so many synchronisations.
+fn found_later(alloc: Global, word: &str, times: u32) -> Result<(String, usize), ContextFault> {
+    let index = named(alloc, "di")?;
+    let mut keeper = indexed(alloc, &index, KeyRange::ALL)?;
+    add_row(alloc, &mut keeper, 3, "quick")?;
+    add_note(alloc, &mut keeper, &index, 3)?;
+    let mut count = 0;
+    for _ in 0..times {
+        count = settle(alloc, &mut keeper, &index)?;
+    }
+    let line = found(alloc, &mut keeper, &index, word)?;
+    Ok((line, count))
+}
+
+#[test]
+fn rows_are_documents_of_a_new_index(rt: HostRuntime) -> Result<(), Fail> {
+    let foxes = found_at_once(rt.alloc(), KeyRange::ALL, "Fox")?;
+    assert_eq!(&rt; foxes.as_str(), "-12:1 7:1 ");
+    Ok(())
+}
+
+#[test]
+fn an_index_has_the_rows_in_its_range(rt: HostRuntime) -> Result<(), Fail> {
+    let range = KeyRange {
+        from: RowKey(-11),
+        to: RowKey(7),
+    };
+    let foxes = found_at_once(rt.alloc(), range, "fox")?;
+    assert_eq!(&rt; foxes.as_str(), "7:1 ");
+    Ok(())
+}
+
+#[test]
+fn a_row_waits(rt: HostRuntime) -> Result<(), Fail> {
+    let (line, count) = found_later(rt.alloc(), "quick", 0)?;
+    assert_eq!(&rt; line.as_str(), "7:2 ");
+    assert_eq!(&rt; count, 0);
+    Ok(())
+}
+
+#[test]
+fn a_synchronisation_takes_it_out_of_the_queue(rt: HostRuntime) -> Result<(), Fail> {
+    let (line, count) = found_later(rt.alloc(), "quick", 1)?;
+    assert_eq!(&rt; line.as_str(), "3:1 7:2 ");
+    // out of the queue, its document, its row, one token, and the entry of the index
+    assert_eq!(&rt; count, 5);
+    Ok(())
+}
+
+#[test]
+fn a_second_one_finds_nothing_to_do(rt: HostRuntime) -> Result<(), Fail> {
+    let (line, count) = found_later(rt.alloc(), "quick", 2)?;
+    assert_eq!(&rt; line.as_str(), "3:1 7:2 ");
+    assert_eq!(&rt; count, 0);
+    Ok(())
+}
