@@ -10,7 +10,8 @@ use Rattle.st_parse.specs.declared.lexemes.Symbol.{Symbol}
 use Rattle.st_parse.specs.declared.lexemes.Symbol.TheVariants.{Open, Close, Comma, Dot, Star, Equal, Less, AtMost, Greater, AtLeast, Minus}
 use Rattle.st_parse.specs.declared.lexemes.Lexeme.{Lexeme}
 use Rattle.st_parse.specs.declared.lexemes.Lexeme.TheVariants.{Word, Name, Text, Number, Sign}
-use Rattle.st_parse.specs.Lexemes.{word_or, keyword_of, word_of, is_in_line, run, after, text_at, sign_of, sign_at, ◌>>=◌, lexeme_at, begins_comment, lexemes_in, lexemes}
+use Rattle.st_parse.specs.Keywords.{keyword_of}
+use Rattle.st_parse.specs.Lexemes.{word_or, word_of, is_in_line, run, after, text_at, sign_of, sign_at, ◌>>=◌, lexeme_at, begins_comment, lexemes_in, lexemes}
 use Rattle.st_parse.specs.Writing.{White, Comment, starts, quoted, sign, IsWordOf, IsDigits, IsWritten, joins_sign, joins, IsText}
 use Rattle.st_parse.proofs.Steps.{letter-word, run-joins, after-shorter}
 use Rattle.st_parse.proofs.Written.{and_parts, is-eq, quote-bytes, one-some}

@@ -1,58 +1,49 @@
 -- The function that reads a statement, and the relation between lexemes and statements, are the same.
-use Rattle.std.proofs.Common.{◌≡◌, ℕ, ⊎_elim, inl, inr, Bool, true, false, cond, List, [], ◌∷◌, refl, sym, ap, ◌∙◌, subst, Option, Some, None}
-use Rattle.std.specs.Prelude.{◌&&◌, ◌≢◌, codes, bytes_eq, Result, Ok, Err, IsErrOf}
-use Rattle.std.proofs.lemmas.Slice.Eq.{bytes_eq-Decides}
+use Rattle.std.proofs.Common.{◌≡◌, ℕ, inl, inr, List, [], ◌∷◌, refl, sym, ap, ◌∙◌, subst, Option, Some, None}
+use Rattle.std.specs.Prelude.{◌≢◌, Result, Ok, Err, IsErrOf}
 use Rattle.st_parse.specs.declared.lexemes.Keyword.{Keyword}
-use Rattle.st_parse.specs.declared.lexemes.Keyword.TheVariants.{Exec as ExecWord, Execute}
-use Rattle.st_parse.specs.declared.lexemes.Symbol.TheVariants.{Open, Close, Dot}
+use Rattle.st_parse.specs.declared.lexemes.Keyword.TheVariants.{Create as CREATE, Insert as INSERT, Select as SELECT, Exec as EXEC, Execute as EXECUTE}
+use Rattle.st_parse.specs.declared.lexemes.Symbol.TheVariants.{Dot}
 use Rattle.st_parse.specs.declared.lexemes.Lexeme.{Lexeme}
-use Rattle.st_parse.specs.declared.lexemes.Lexeme.TheVariants.{Word, Name, Text, Sign}
-use Rattle.st_parse.specs.declared.statements.Arg.TheVariants.{Text as TextArg}
+use Rattle.st_parse.specs.declared.lexemes.Lexeme.TheVariants.{Word, Name, Sign}
+use Rattle.st_parse.specs.declared.statements.SelectList.TheVariants.{Items}
 use Rattle.st_parse.specs.declared.statements.Statement.{Statement}
-use Rattle.st_parse.specs.declared.statements.Statement.TheVariants.{Exec}
+use Rattle.st_parse.specs.declared.statements.Statement.TheVariants.{CreateTable, CreateIndex, Insert, Select, Exec}
 use Rattle.st_parse.specs.declared.parsing.StatementFault.{StatementFault}
 use Rattle.st_parse.specs.declared.parsing.StatementFault.TheVariants.{Syntax, Memory}
 use Rattle.st_parse.specs.Lexemes.{lexemes}
-use Rattle.st_parse.specs.Grammar.{IsExec, IsStatement, call_of, exec_of, statement_of, NoStatement, Found, found, read_lexemes, read, ParseGives}
+use Rattle.st_parse.specs.Calling.{IsExec, exec_of}
+use Rattle.st_parse.specs.Grammar.{IsStatement, statement_of, NoStatement, Found, found, read_lexemes, read, ParseGives}
+use Rattle.st_parse.proofs.Spelt.{Wholly}
+use Rattle.st_parse.proofs.CreateStatements.{create-means, table-again, index-again}
+use Rattle.st_parse.proofs.InsertStatements.{insert-means, insert-again}
+use Rattle.st_parse.proofs.SelectStatements.{select-means, select-again}
+use Rattle.st_parse.proofs.ExecStatements.{exec-means, exec-again}
 
--- what was read is this statement
-abbrev pub Means : Option Statement → List Lexeme → Type 0
-Means None ls = Unit {0}
-Means (Some s) ls = IsStatement ls s
-
--- the lexemes of a call with one text
-abbrev spelt : Keyword → List ℕ → List ℕ → List ℕ → List Lexeme
-spelt word pack procedure text = Word word ∷ Name pack ∷ Sign Dot ∷ Name procedure ∷ Sign Open ∷ Text text ∷ Sign Close ∷ []
-
-call-means-in : (a b : Bool) (word : Keyword) (pack procedure text : List ℕ) → IsExec word → bytes_eq pack (codes "ctx_doc") ≡ a → bytes_eq procedure (codes "policy_tokens") ≡ b
-    → Means (cond (a && b) (Some (Exec pack procedure (TextArg text ∷ []))) None) (spelt word pack procedure text)
-call-means-in true true word pack procedure text is e e' =
-    (((bytes_eq-Decides pack (codes "ctx_doc")).0 e, (bytes_eq-Decides procedure (codes "policy_tokens")).0 e', (text, refl)), (word, is, refl))
-call-means-in true false word pack procedure text is e e' = tt
-call-means-in false b word pack procedure text is e e' = tt
-
-call-means : (word : Keyword) (pack procedure text : List ℕ) → IsExec word → Means (call_of pack procedure text) (spelt word pack procedure text)
-call-means word pack procedure text is = call-means-in (bytes_eq pack (codes "ctx_doc")) (bytes_eq procedure (codes "policy_tokens")) word pack procedure text is refl refl
-
-exec-means : (word : Keyword) → IsExec word → (ls : List Lexeme) → Means (exec_of ls) (Word word ∷ ls)
-exec-means word is (Name pack ∷ Sign Dot ∷ Name procedure ∷ Sign Open ∷ Text text ∷ Sign Close ∷ []) = call-means word pack procedure text is
-exec-means word is ls = tt
-
-pub statement-means : (ls : List Lexeme) → Means (statement_of ls) ls
-statement-means (Word ExecWord ∷ ls) = exec-means ExecWord (inl refl) ls
-statement-means (Word Execute ∷ ls) = exec-means Execute (inr refl) ls
+pub statement-means : (ls : List Lexeme) → Wholly IsStatement (statement_of ls) ls
+statement-means (Word CREATE ∷ ls) = create-means ls
+statement-means (Word INSERT ∷ ls) = insert-means ls
+statement-means (Word SELECT ∷ ls) = select-means ls
+statement-means (Word EXEC ∷ ls) = exec-means EXEC ls (inl refl)
+statement-means (Word EXECUTE ∷ ls) = exec-means EXECUTE ls (inr refl)
 statement-means ls = tt
 
 exec-first : (word : Keyword) (ls : List Lexeme) → IsExec word → statement_of (Word word ∷ ls) ≡ exec_of ls
-exec-first word ls is = ⊎_elim {C = statement_of (Word word ∷ ls) ≡ exec_of ls} (λ e. ap (λ w. statement_of (Word w ∷ ls)) e) (λ e. ap (λ w. statement_of (Word w ∷ ls)) e) is
+exec-first word ls (inl e) = ap (λ w. statement_of (Word w ∷ ls)) e
+exec-first word ls (inr e) = ap (λ w. statement_of (Word w ∷ ls)) e
 
 pub statement-again : (ls : List Lexeme) (s : Statement) → IsStatement ls s → statement_of ls ≡ Some s
-statement-again ls (Exec pack procedure args) ((is-pack, is-procedure, (text, one)), (word, is, spelling)) =
-    ap statement_of spelling ∙ exec-first word _ is ∙ rw (one, is-pack, is-procedure) refl
+statement-again ls (CreateTable name columns) (list, are, e) = ap statement_of e ∙ table-again name columns list are
+statement-again ls (CreateIndex name table column kind None None) (kinds, is, e) = ap statement_of e ∙ index-again name table column kind kinds is
+statement-again ls (Insert table columns values) (names, list, are, are', e) = ap statement_of e ∙ insert-again table columns values names list are are'
+statement-again ls (Select (Items items) table (pred ∷ []) []) (list, preds, are, is, e) = ap statement_of e ∙ select-again items table pred list preds are is
+statement-again ls (Exec pack procedure args) (word, (list, is, are, call, e)) =
+    ap statement_of e ∙ exec-first word (Name pack ∷ Sign Dot ∷ Name procedure ∷ list) is ∙ exec-again pack procedure args list call are
+statement-again ls s is = absurd is
 
 -- both ways
 pub statement-read : (ls : List Lexeme) (s : Statement) → (IsStatement ls s → statement_of ls ≡ Some s) × (statement_of ls ≡ Some s → IsStatement ls s)
-statement-read ls s = (statement-again ls s, λ read. subst (λ x. Means x ls) read (statement-means ls))
+statement-read ls s = (statement-again ls s, λ read. subst (λ x. Wholly IsStatement x ls) read (statement-means ls))
 
 -- a statement that was found is what the lexemes are
 found-some : (o : Option Statement) (s : Statement) → found o ≡ Found s → o ≡ Some s

@@ -1,50 +1,52 @@
--- The statements that a text of lexemes spells.
-use Rattle.std.specs.Prelude.{ℕ, ◌≡◌, ◌⊎◌, ◌&&◌, List, [], ◌∷◌, ◌++◌, codes, bytes_eq, Option, Some, None, Result, Ok, Err, refl}
-use Rattle.std.specs.Bool.{if◌then◌else◌}
+-- The statements that lexemes are.
+use Rattle.std.specs.Prelude.{ℕ, ◌≡◌, true, false, pos, negsuc, List, [], ◌∷◌, ◌++◌, codes, Option, Some, None, Result, Ok, Err, refl}
 use lib.Utf8.{encode}
 use Rattle.st_parse.specs.declared.lexemes.Keyword.{Keyword}
-use Rattle.st_parse.specs.declared.lexemes.Keyword.TheVariants.{Exec as ExecWord, Execute}
+use Rattle.st_parse.specs.declared.lexemes.Keyword.TheVariants.{Create as CREATE, Table as TABLE, Index as INDEX, On as ON, Indextype as INDEXTYPE, Is as IS, Insert as INSERT, Into as INTO, Values as VALUES, Select as SELECT, From as FROM, Where as WHERE, Exec as EXEC, Execute as EXECUTE}
 use Rattle.st_parse.specs.declared.lexemes.Symbol.TheVariants.{Open, Close, Dot}
 use Rattle.st_parse.specs.declared.lexemes.Lexeme.{Lexeme}
-use Rattle.st_parse.specs.declared.lexemes.Lexeme.TheVariants.{Word, Name, Text, Sign}
-use Rattle.st_parse.specs.declared.statements.Arg.{Arg}
-use Rattle.st_parse.specs.declared.statements.Arg.TheVariants.{Text as TextArg}
+use Rattle.st_parse.specs.declared.lexemes.Lexeme.TheVariants.{Word, Name, Sign}
+use Rattle.st_parse.specs.declared.statements.Whole.TheVariants.{Fits, Beyond}
+use Rattle.st_parse.specs.declared.statements.Operand.TheVariants.{Text as TextValue, Number as NumberValue}
+use Rattle.st_parse.specs.declared.statements.SortText.TheVariants.{Number as NumberSort, Varchar2, Clob}
+use Rattle.st_parse.specs.declared.statements.IndexKind.TheVariants.{Context}
+use Rattle.st_parse.specs.declared.statements.Item.TheVariants.{Column, Score}
+use Rattle.st_parse.specs.declared.statements.SelectList.TheVariants.{Items}
+use Rattle.st_parse.specs.declared.statements.Pred.TheVariants.{Contains}
+use Rattle.st_parse.specs.declared.statements.Arg.TheVariants.{Text as TextArg, Number as NumberArg, Flag}
 use Rattle.st_parse.specs.declared.statements.Statement.{Statement}
-use Rattle.st_parse.specs.declared.statements.Statement.TheVariants.{Exec}
+use Rattle.st_parse.specs.declared.statements.Statement.TheVariants.{CreateTable, CreateIndex, Insert, Select, Exec}
 use Rattle.st_parse.specs.declared.parsing.StatementFault.{StatementFault}
 use Rattle.st_parse.specs.declared.parsing.StatementFault.TheVariants.{Syntax, Memory}
 use Rattle.st_parse.specs.Lexemes.{lexemes}
+use Rattle.st_parse.specs.Lists.{AreListed, AreEnclosed}
+use Rattle.st_parse.specs.Values.{IsValue}
+use Rattle.st_parse.specs.Creating.{IsColumn, IsKind, create_of}
+use Rattle.st_parse.specs.Inserting.{AreColumnNames, insert_of}
+use Rattle.st_parse.specs.Selecting.{IsItem, IsPred, select_of}
+use Rattle.st_parse.specs.Calling.{IsExec, AreArgs, IsCall, exec_of}
 
--- EXEC and EXECUTE mean the same.
-abbrev pub IsExec : Keyword → Type 0
-IsExec word = (word ≡ ExecWord) ⊎ (word ≡ Execute)
-
--- A procedure that there is, with the arguments that it takes. For now that is the one that gives the tokens of a text.
-abbrev pub IsCall : List ℕ → List ℕ → List Arg → Type 0
-IsCall pack procedure args = (pack ≡ codes "ctx_doc") × (procedure ≡ codes "policy_tokens") × ((text : List ℕ) × (args ≡ TextArg text ∷ []))
-
--- the lexemes of arguments
-abbrev pub spelt_args : List Arg → List Lexeme
-spelt_args [] = []
-spelt_args (TextArg text ∷ args) = Text text ∷ spelt_args args
-
--- These lexemes are this statement.
+-- These lexemes are this statement. A statement without a case here isn't one of the language yet.
 abbrev pub IsStatement : List Lexeme → Statement → Type 0
+IsStatement ls (CreateTable name columns) =
+    (list : List Lexeme) × AreEnclosed IsColumn list columns × (ls ≡ Word CREATE ∷ Word TABLE ∷ Name name ∷ list)
+IsStatement ls (CreateIndex name table column kind None None) =
+    (kinds : List Lexeme) × IsKind kinds kind × (ls ≡ Word CREATE ∷ Word INDEX ∷ Name name ∷ Word ON ∷ Name table ∷ Sign Open ∷ Name column ∷ Sign Close ∷ Word INDEXTYPE ∷ Word IS ∷ kinds)
+IsStatement ls (Insert table columns values) =
+    (names list : List Lexeme) × AreColumnNames names columns × AreEnclosed IsValue list values × (ls ≡ Word INSERT ∷ Word INTO ∷ Name table ∷ (names ++ Word VALUES ∷ list))
+IsStatement ls (Select (Items items) table (pred ∷ []) []) =
+    (list preds : List Lexeme) × AreListed IsItem list items × IsPred preds pred × (ls ≡ Word SELECT ∷ (list ++ Word FROM ∷ Name table ∷ Word WHERE ∷ preds))
 IsStatement ls (Exec pack procedure args) =
-    IsCall pack procedure args × ((word : Keyword) × IsExec word × (ls ≡ Word word ∷ Name pack ∷ Sign Dot ∷ Name procedure ∷ Sign Open ∷ (spelt_args args ++ Sign Close ∷ [])))
+    (word : Keyword) × ((list : List Lexeme) × IsExec word × AreArgs list args × IsCall pack procedure args × (ls ≡ Word word ∷ Name pack ∷ Sign Dot ∷ Name procedure ∷ list))
+IsStatement ls statement = ⊥
 
 -- The same as a function: the statement of some lexemes.
-abbrev pub call_of : List ℕ → List ℕ → List ℕ → Option Statement
-call_of pack procedure text =
-    if bytes_eq pack (codes "ctx_doc") && bytes_eq procedure (codes "policy_tokens") then Some (Exec pack procedure (TextArg text ∷ [])) else None
-
-abbrev pub exec_of : List Lexeme → Option Statement
-exec_of (Name pack ∷ Sign Dot ∷ Name procedure ∷ Sign Open ∷ Text text ∷ Sign Close ∷ []) = call_of pack procedure text
-exec_of ls = None
-
 abbrev pub statement_of : List Lexeme → Option Statement
-statement_of (Word ExecWord ∷ ls) = exec_of ls
-statement_of (Word Execute ∷ ls) = exec_of ls
+statement_of (Word CREATE ∷ ls) = create_of ls
+statement_of (Word INSERT ∷ ls) = insert_of ls
+statement_of (Word SELECT ∷ ls) = select_of ls
+statement_of (Word EXEC ∷ ls) = exec_of ls
+statement_of (Word EXECUTE ∷ ls) = exec_of ls
 statement_of ls = None
 
 -- What a text is: without a lexeme, no statement, or a statement.
@@ -74,16 +76,56 @@ ParseGives (Err Syntax) r = r ≡ NoStatement
 ParseGives (Err Memory) r = Unit {0}
 
 -- computed examples
+table : read (codes "CREATE TABLE docs (id NUMBER PRIMARY KEY, body CLOB, price NUMBER, title VARCHAR2(80))")
+    ≡ Found (CreateTable (codes "docs")
+    (record { name = codes "id"; sort = NumberSort; primary = true }
+    ∷ record { name = codes "body"; sort = Clob; primary = false }
+    ∷ record { name = codes "price"; sort = NumberSort; primary = false }
+    ∷ record { name = codes "title"; sort = Varchar2 (Fits (pos 80)); primary = false }
+    ∷ []))
+table = refl
+
+index : read (codes "CREATE INDEX di ON docs(body) INDEXTYPE IS CTXSYS.CONTEXT") ≡ Found (CreateIndex (codes "di") (codes "docs") (codes "body") Context None None)
+index = refl
+
+index_of_later : read (codes "CREATE INDEX di ON docs(body) INDEXTYPE IS CTXCAT") ≡ NoStatement
+index_of_later = refl
+
+row : read (codes "INSERT INTO docs VALUES (1,'quick fox quick',0)") ≡ Found (Insert (codes "docs") None (NumberValue (Fits (pos 1)) ∷ TextValue (codes "quick fox quick") ∷ NumberValue (Fits (pos 0)) ∷ []))
+unfolding encode
+row = refl
+
+row_of_columns : read (codes "INSERT INTO docs (id, price) VALUES (- 7, -9223372036854775808)")
+    ≡ Found (Insert (codes "docs") (Some (codes "id" ∷ codes "price" ∷ [])) (NumberValue (Fits (negsuc 6)) ∷ NumberValue (Fits (negsuc 9223372036854775807)) ∷ []))
+row_of_columns = refl
+
+scores : read (codes "SELECT id, SCORE(1) FROM docs WHERE CONTAINS(body,'quick',1) > 0")
+    ≡ Found (Select (Items (Column (codes "id") ∷ Score (Fits (pos 1)) ∷ [])) (codes "docs") (Contains (codes "body") (codes "quick") (Some (Fits (pos 1))) (Fits (pos 0)) ∷ []) [])
+unfolding encode
+scores = refl
+
+ordered_later : read (codes "SELECT id FROM docs WHERE CONTAINS(body,'quick') > 0 ORDER BY id") ≡ NoStatement
+unfolding encode
+ordered_later = refl
+
 tokens_of : read (codes "exec\n CTX_DOC . Policy_Tokens ( 'some text' ) -- done") ≡ Found (Exec (codes "ctx_doc") (codes "policy_tokens") (TextArg (codes "some text") ∷ []))
 unfolding encode
 tokens_of = refl
+
+two_arguments : read (codes "EXECUTE ctx_doc.policy_tokens('a', 'b')") ≡ NoStatement
+unfolding encode
+two_arguments = refl
+
+other_arguments : read (codes "EXEC ctx_doc.policy_tokens(-5, TRUE, 99999999999999999999)")
+    ≡ Found (Exec (codes "ctx_doc") (codes "policy_tokens") (NumberArg (Fits (negsuc 4)) ∷ Flag true ∷ NumberArg Beyond ∷ []))
+other_arguments = refl
+
+sync : read (codes "EXEC CTX_DDL.SYNC_INDEX('di')") ≡ Found (Exec (codes "ctx_ddl") (codes "sync_index") (TextArg (codes "di") ∷ []))
+unfolding encode
+sync = refl
 
 note : read (codes "  -- note\n") ≡ Blank
 note = refl
 
 half_a_word : read (codes "SELEC") ≡ NoStatement
 half_a_word = refl
-
-two_arguments : read (codes "EXECUTE ctx_doc.policy_tokens('a', 'b')") ≡ NoStatement
-unfolding encode
-two_arguments = refl

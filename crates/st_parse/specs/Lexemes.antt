@@ -1,16 +1,17 @@
 -- The lexemes of a statement. Each is the longest that begins at its place.
-use Rattle.std.specs.Prelude.{ℕ, zero, suc, ◌≡◌, ◌==◌, Bool, not, ◌&&◌, List, [], ◌∷◌, ◌++◌, map, length, drop, codes, bytes_eq, Option, Some, None, refl}
+use Rattle.std.specs.Prelude.{ℕ, zero, suc, ◌≡◌, ◌==◌, Bool, not, ◌&&◌, List, [], ◌∷◌, ◌++◌, map, length, drop, codes, Option, Some, None, refl}
 use Rattle.std.specs.Bool.{if◌then◌else◌}
 use Rattle.std.specs.Char.{is_ascii_digit, is_ascii_alphabetic, is_whitespace, to_ascii_lowercase, encode_utf8}
 use lib.Utf8.{encode}
 use Rattle.ct_base.specs.Characters.{is_first}
 use Rattle.ct_base.specs.Names.{is_name_byte, is_spelling}
 use Rattle.st_parse.specs.declared.lexemes.Keyword.{Keyword}
-use Rattle.st_parse.specs.declared.lexemes.Keyword.TheVariants.{Exec, Execute}
+use Rattle.st_parse.specs.declared.lexemes.Keyword.TheVariants.{Exec}
 use Rattle.st_parse.specs.declared.lexemes.Symbol.{Symbol}
 use Rattle.st_parse.specs.declared.lexemes.Symbol.TheVariants.{Open, Close, Comma, Dot, Star, Equal, Less, AtMost, Greater, AtLeast, Minus}
 use Rattle.st_parse.specs.declared.lexemes.Lexeme.{Lexeme}
 use Rattle.st_parse.specs.declared.lexemes.Lexeme.TheVariants.{Word, Name, Text, Number, Sign}
+use Rattle.st_parse.specs.Keywords.{keyword_of}
 
 -- what follows, where something is there
 infixl 10 ◌>>=◌
@@ -30,12 +31,6 @@ after p (c ∷ cs) = if p c then after p cs else c ∷ cs
 -- all but a newline
 abbrev pub is_in_line : ℕ → Bool
 is_in_line c = not (c == 10)
-
-abbrev pub keyword_of : List ℕ → Option Keyword
-keyword_of word =
-    if bytes_eq word (codes "exec") then Some Exec
-    else (if bytes_eq word (codes "execute") then Some Execute
-    else None)
 
 -- A word in lower case is a keyword, or else a name where it isn't too long for one.
 abbrev pub named : List ℕ → Option Lexeme

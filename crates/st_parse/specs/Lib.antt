@@ -1,4 +1,12 @@
+pub mod Keywords
 pub mod Lexemes
+pub mod Numbers
+pub mod Lists
+pub mod Values
+pub mod Creating
+pub mod Inserting
+pub mod Selecting
+pub mod Calling
 pub mod Writing
 pub mod Grammar
 pub mod Reading

@@ -16,13 +16,16 @@ abbrev pub LexGives : {X Y : Type 0} → (X → Y) → Result X LexFault → Opt
 LexGives view (Ok x) read = read ≡ Some (view x)
 LexGives view (Err fault) read = LexFails fault read
 
-abbrev pub StatementFails : StatementFault → Option Statement → Type 0
-StatementFails Syntax read = read ≡ None
-StatementFails Memory read = Unit {0}
+abbrev pub Fails : {Y : Type 0} → StatementFault → Option Y → Type 0
+Fails Syntax read = read ≡ None
+Fails Memory read = Unit {0}
+
+abbrev pub Gives : {X Y : Type 0} → (X → Y) → Result X StatementFault → Option Y → Type 0
+Gives view (Ok x) read = read ≡ Some (view x)
+Gives view (Err fault) read = Fails fault read
 
 abbrev pub StatementGives : Result Statement StatementFault → Option Statement → Type 0
-StatementGives (Ok statement) read = read ≡ Some statement
-StatementGives (Err fault) read = StatementFails fault read
+StatementGives result read = Gives (λ s. s) result read
 
 -- a fault of the lexemes as one of the statement
 abbrev pub fault_of : LexFault → StatementFault

@@ -6,11 +6,12 @@ ghost use Rattle.std.specs.Str.{chars};
 ghost use Rattle.std.specs.String.{string_bytes};
 ghost use Rattle.ct_base.specs.Characters.{is_first};
 ghost use Rattle.ct_base.specs.Names.{is_name_byte};
-ghost use Rattle.st_parse.specs.Lexemes.{run, after, is_in_line, keyword_of, named, word_of, text_at, sign_of, sign_at, lexeme_at, begins_comment, lexemes};
+ghost use Rattle.st_parse.specs.Keywords.{keyword_of};
+ghost use Rattle.st_parse.specs.Lexemes.{run, after, is_in_line, named, word_of, text_at, sign_of, sign_at, lexeme_at, begins_comment, lexemes};
 ghost use Rattle.st_parse.specs.Reading.{LexGives};
 ghost use Rattle.st_parse.specs.declared.lexing.LexFault.TheVariants.{NoLexeme, Memory as NoMemory};
 
-use crate::lexemes::{Keyword, Lexeme, Symbol};
+use crate::lexemes::{KEYWORDS, Keyword, Lexeme, Symbol};
 use ct_base::{Memory, Name, NameFault, Text, push_ascii, push_char, split_first};
 use std::alloc::{AllocFailed, Global};
 
@@ -59,13 +60,10 @@ fn is_name_char(c: char) -> bool
 fn keyword_of(word: &str) -> Option<Keyword>
     ensures { result ≡ keyword_of word.now }
 {
-    if word == "exec" {
-        Some(Keyword::Exec)
-    } else if word == "execute" {
-        Some(Keyword::Execute)
-    } else {
-        None
-    }
+    KEYWORDS
+        .iter()
+        .copied()
+        .find(|keyword| keyword.spelling() == word)
 }
 
 /// The word at the front in lower case, and what follows it.

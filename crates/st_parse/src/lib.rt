@@ -1,16 +1,27 @@
-//! The grammar of statements.
+//! The grammar of statements: from a text to its lexemes, and from these to the statement that they are.
 #![tactic(auto)]
 
+mod calling;
+mod creating;
+mod inserting;
 mod laws;
 mod lexemes;
 mod lexing;
+mod listing;
+mod numbers;
 mod parsing;
+mod selecting;
 mod statements;
 #[cfg(test)]
 mod tests;
+mod values;
 
 pub use laws::{one_statement, statement_is_read, written_is_read};
 pub use lexemes::{Keyword, Lexeme, Symbol};
 pub use lexing::is_blank;
 pub use parsing::{StatementFault, parse};
-pub use statements::{Arg, Args, Statement};
+pub use statements::{
+    Arg, Args, Assign, Assigns, ColumnNames, ColumnText, ColumnTexts, Compare, Cond, Conds,
+    IndexKind, Item, Items, Operand, Operands, OrderItem, Orders, Pred, Preds, SelectList,
+    SortText, Statement, Whole,
+};

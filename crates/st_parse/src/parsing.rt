@@ -3,16 +3,20 @@
 ghost use Rattle.std.specs.Prelude.{◌≡◌, ◌≢◌, List, [], IfOk, IfSome, IfNone, IsErrOf, Some};
 ghost use Rattle.std.specs.Str.{chars};
 ghost use Rattle.st_parse.specs.Lexemes.{lexemes};
-ghost use Rattle.st_parse.specs.Grammar.{IsStatement, call_of, exec_of, statement_of, read, ParseGives};
+ghost use Rattle.st_parse.specs.Grammar.{IsStatement, statement_of, read, ParseGives};
 ghost use Rattle.st_parse.specs.Reading.{StatementGives, fault_of};
 ghost use Rattle.st_parse.specs.declared.lexemes.Lexeme.{Lexeme};
 ghost use Rattle.st_parse.specs.declared.statements.Statement.{Statement};
 ghost use Rattle.st_parse.specs.declared.parsing.StatementFault.TheVariants.{Memory as NoMemory};
 
-use crate::lexemes::{Keyword, Lexeme, Symbol};
+use crate::calling::exec;
+use crate::creating::create;
+use crate::inserting::insert;
+use crate::lexemes::{Keyword, Lexeme};
 use crate::lexing::{LexFault, lex};
-use crate::statements::{Arg, Args, Statement};
-use ct_base::{Memory, Name, Text};
+use crate::selecting::select;
+use crate::statements::Statement;
+use ct_base::Memory;
 use std::alloc::{AllocError, AllocFailed, Global};
 use thiserror::Error;
 
@@ -61,49 +65,14 @@ impl From<LexFault> for StatementFault {
     }
 }
 
-/// The call of a procedure that there is.
-fn call(
-    alloc: Global,
-    pack: &Name,
-    procedure: &Name,
-    text: &Text,
-) -> Result<Statement, StatementFault>
-    ensures { StatementGives result (call_of pack.now procedure.now text.now) }
-{
-    if pack.as_str() != "ctx_doc" || procedure.as_str() != "policy_tokens" {
-        return Err(StatementFault::Syntax);
-    }
-    let mut args = Vec::new(alloc);
-    args.push(Arg::Text(text.clone()?))?;
-    Ok(Statement::Exec {
-        package: pack.clone()?,
-        procedure: procedure.clone()?,
-        args: Args::of(args),
-    })
-}
-
-/// What follows EXEC or EXECUTE.
-fn exec(alloc: Global, lexemes: &[Lexeme]) -> Result<Statement, StatementFault>
-    ensures { StatementGives result (exec_of lexemes.now) }
-{
-    match lexemes {
-        [
-            Lexeme::Name(pack),
-            Lexeme::Sign(Symbol::Dot),
-            Lexeme::Name(procedure),
-            Lexeme::Sign(Symbol::Open),
-            Lexeme::Text(text),
-            Lexeme::Sign(Symbol::Close),
-        ] => call(alloc, pack, procedure, text),
-        _ => Err(StatementFault::Syntax),
-    }
-}
-
 /// The statement that the lexemes are.
 fn statement(alloc: Global, lexemes: &[Lexeme]) -> Result<Statement, StatementFault>
     ensures { StatementGives result (statement_of lexemes.now) }
 {
     match lexemes {
+        [Lexeme::Word(Keyword::Create), rest @ ..] => create(alloc, rest),
+        [Lexeme::Word(Keyword::Insert), rest @ ..] => insert(alloc, rest),
+        [Lexeme::Word(Keyword::Select), rest @ ..] => select(alloc, rest),
         [Lexeme::Word(Keyword::Exec | Keyword::Execute), rest @ ..] => exec(alloc, rest),
         _ => Err(StatementFault::Syntax),
     }

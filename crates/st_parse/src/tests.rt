@@ -2,7 +2,7 @@
 
 use crate::lexing::{LexFault, is_blank, lex};
 use crate::parsing::{StatementFault, parse};
-use crate::statements::{Arg, Statement};
+use crate::statements::{Arg, Statement, Whole};
 use std::test::Fail;
 
 /// What is asked of a text: its statement's one argument, no statement, or a fault.
@@ -42,10 +42,8 @@ const TEXTS: &[(&str, Asked)] = &[
         Ok(Some("a")),
     ),
     // other numbers and kinds of arguments
-    ("EXEC ctx_doc.policy_tokens()", SYNTAX),
     ("EXECUTE ctx_doc.policy_tokens('a', 'b')", SYNTAX),
     ("EXEC ctx_doc.policy_tokens('a' 'b')", SYNTAX),
-    ("EXEC ctx_doc.policy_tokens(5)", SYNTAX),
     ("EXEC ctx_doc.policy_tokens(a)", SYNTAX),
     // other names, words and signs
     ("EXEC ctx_docs.policy_tokens('a')", SYNTAX),
@@ -67,13 +65,121 @@ const TEXTS: &[(&str, Asked)] = &[
     ("a234567890123456789012345678901", SYNTAX),
 ];
 
+/// A text, and the words that its statement begins with where it is one.
+const FORMS: &[(&str, Option<&str>)] = &[
+    (
+        "CREATE TABLE t (id NUMBER PRIMARY KEY)",
+        Some("create table"),
+    ),
+    (
+        "create table T(a number primary key, b varchar2 ( 10 ), c clob primary key, d number)",
+        Some("create table"),
+    ),
+    ("CREATE TABLE t ()", None),
+    ("CREATE TABLE t (id NUMBER,)", None),
+    ("CREATE TABLE t (id NUMBER PRIMARY)", None),
+    ("CREATE TABLE t (id NUMBER KEY)", None),
+    ("CREATE TABLE t (id VARCHAR2)", None),
+    ("CREATE TABLE t (id VARCHAR2(-5))", None),
+    ("CREATE TABLE t (id NUMBER(5))", None),
+    ("CREATE TABLE t id NUMBER", None),
+    ("CREATE TABLE t (id NUMBER", None),
+    ("CREATE TABLE t (id NUMBER) t", None),
+    ("CREATE TABLE table (id NUMBER)", None),
+    ("CREATE TABLE t (key NUMBER)", None),
+    (
+        "CREATE INDEX i ON t(c) INDEXTYPE IS CONTEXT",
+        Some("create index"),
+    ),
+    (
+        "CREATE INDEX i ON t(c) INDEXTYPE IS CTXSYS . CONTEXT",
+        Some("create index"),
+    ),
+    ("CREATE INDEX i ON t(c) INDEXTYPE IS CTXSYS CONTEXT", None),
+    ("CREATE INDEX i ON t(c) INDEXTYPE IS CTXSYS.CTXRULE", None),
+    ("CREATE INDEX i ON t(c) INDEXTYPE IS CTXCAT", None),
+    (
+        "CREATE INDEX i ON t(c) INDEXTYPE IS CONTEXT PARAMETERS ('')",
+        None,
+    ),
+    (
+        "CREATE INDEX i ON t(c) INDEXTYPE IS CONTEXT PARALLEL 2",
+        None,
+    ),
+    ("CREATE INDEX i ON t(c, d) INDEXTYPE IS CONTEXT", None),
+    ("CREATE INDEX i ON t(c)", None),
+    ("INSERT INTO t VALUES (1)", Some("insert")),
+    ("INSERT INTO t (a,b,c) VALUES (- 1,'x',002)", Some("insert")),
+    ("INSERT INTO t () VALUES (1)", None),
+    ("INSERT INTO t (a b) VALUES (1)", None),
+    ("INSERT INTO t (a) (1)", None),
+    ("INSERT INTO t VALUES ()", None),
+    ("INSERT INTO t VALUES (a)", None),
+    ("INSERT INTO t VALUES (- -5)", None),
+    ("INSERT INTO t VALUES (-'x')", None),
+    ("INSERT INTO t VALUES (TRUE)", None),
+    ("INSERT INTO t VALUES (NULL)", None),
+    ("INSERT INTO t VALUES (1), (2)", None),
+    ("SELECT a FROM t WHERE CONTAINS(b,'x') > 0", Some("select")),
+    (
+        "SELECT SCORE(2), a, SCORE(2) FROM t WHERE CONTAINS(b,'x',2) > 50",
+        Some("select"),
+    ),
+    ("SELECT * FROM t WHERE CONTAINS(b,'x') > 0", None),
+    ("SELECT COUNT(*) FROM t WHERE CONTAINS(b,'x') > 0", None),
+    ("SELECT SCORE(-1) FROM t WHERE CONTAINS(b,'x',1) > 0", None),
+    ("SELECT a FROM t WHERE CONTAINS(b,'x') > -1", None),
+    ("SELECT a FROM t WHERE CONTAINS(b,'x') >= 0", None),
+    ("SELECT a FROM t WHERE CONTAINS(b,'x','y') > 0", None),
+    ("SELECT a FROM t WHERE CONTAINS(b,c) > 0", None),
+    ("SELECT a FROM t WHERE CONTAINS(b,'x') > 0 AND a = 1", None),
+    ("SELECT a FROM t WHERE CONTAINS(b,'x') > 0 ORDER BY a", None),
+    ("SELECT a FROM t WHERE a = 1", None),
+    ("SELECT a FROM t", None),
+    ("EXEC ctx_doc.policy_tokens()", Some("exec")),
+    ("EXEC ctx_doc.policy_tokens(5)", Some("exec")),
+    (
+        "EXEC ctx_doc.policy_tokens('a', -2, TRUE, false)",
+        Some("exec"),
+    ),
+    ("EXEC ctx_ddl.sync_index()", Some("exec")),
+    ("EXECUTE Ctx_Ddl.Sync_Index('i', '10M')", Some("exec")),
+    ("EXEC ctx_ddl.sync_index('i', i)", None),
+    ("EXEC ctx_ddl.sync_index('i', NULL)", None),
+    ("EXEC ctx_ddl.sync_index", None),
+    ("EXEC ctx_ddl.optimize_index('i', 'FULL')", None),
+    ("EXEC ctx_ddl.policy_tokens('a')", None),
+    ("EXEC ctx_doc.sync_index('i')", None),
+    ("DROP TABLE t", None),
+    ("DROP INDEX i", None),
+    ("UPDATE t SET a = 1", None),
+    ("DELETE FROM t", None),
+    ("COMMIT", None),
+];
+
+/// A number, and what is read of it.
+const NUMBERS: &[(&str, Whole)] = &[
+    ("0", Whole::Fits(0)),
+    ("-0", Whole::Fits(0)),
+    ("- 007", Whole::Fits(-7)),
+    ("9223372036854775807", Whole::Fits(i64::MAX)),
+    ("0009223372036854775808", Whole::Beyond),
+    ("-9223372036854775808", Whole::Fits(i64::MIN)),
+    ("-9223372036854775809", Whole::Beyond),
+    ("18446744073709551617", Whole::Beyond),
+    ("-100000000000000000000000000000", Whole::Beyond),
+];
+
 /// The argument of a call of `ctx_doc.policy_tokens`.
 fn argument(statement: &Statement) -> Option<&str> {
     let Statement::Exec {
         package,
         procedure,
         args,
-    } = statement;
+    } = statement
+    else {
+        return None;
+    };
     if package.as_str() != "ctx_doc" || procedure.as_str() != "policy_tokens" {
         return None;
     }
@@ -96,6 +202,56 @@ fn reads_statements(rt: HostRuntime) {
         assert!(rt; same, "{text:?} gives {parsed:?}");
         assert_eq!(rt; is_blank(text), *want == NONE, "at {text:?}");
     }
+}
+
+/// The words that a statement begins with.
+fn first_words(statement: &Statement) -> &'static str {
+    match statement {
+        Statement::CreateTable { .. } => "create table",
+        Statement::CreateIndex { .. } => "create index",
+        Statement::Insert { .. } => "insert",
+        Statement::Select { .. } => "select",
+        Statement::Exec { .. } => "exec",
+        _ => "",
+    }
+}
+
+#[test]
+fn tells_statements(rt: HostRuntime) {
+    for (text, want) in FORMS {
+        let parsed = parse(rt.alloc(), text);
+        let same = match (&parsed, want) {
+            (Ok(Some(statement)), Some(words)) => first_words(statement) == *words,
+            (Err(StatementFault::Syntax), None) => true,
+            _ => false,
+        };
+        assert!(rt; same, "{text:?} gives {parsed:?}");
+    }
+}
+
+/// The number that is the one argument of a call.
+fn numeral(statement: &Statement) -> Option<Whole> {
+    let Statement::Exec { args, .. } = statement else {
+        return None;
+    };
+    match args.as_slice() {
+        [Arg::Number(number)] => Some(*number),
+        _ => None,
+    }
+}
+
+#[test]
+fn reads_numbers(rt: HostRuntime) -> Result<(), Fail> {
+    for (digits, want) in NUMBERS {
+        let text = format!(in rt.alloc(); "EXEC ctx_ddl.sync_index({digits})")?;
+        let parsed = parse(rt.alloc(), text.as_str())?;
+        let same = match &parsed {
+            Some(statement) => numeral(statement) == Some(*want),
+            None => false,
+        };
+        assert!(rt; same, "{digits:?} gives {parsed:?}");
+    }
+    Ok(())
 }
 
 #[test]

@@ -1,0 +1,33 @@
+-- Values are read as they are spelt.
+use Rattle.std.proofs.Common.{◌≡◌, List, [], ◌∷◌, ◌++◌, refl, sym, ap, ◌∙◌, inl, inr, Option, Some, None}
+use Rattle.st_parse.specs.declared.lexemes.Symbol.TheVariants.{Minus}
+use Rattle.st_parse.specs.declared.lexemes.Lexeme.{Lexeme}
+use Rattle.st_parse.specs.declared.lexemes.Lexeme.TheVariants.{Text, Number, Sign}
+use Rattle.st_parse.specs.declared.statements.Whole.{Whole}
+use Rattle.st_parse.specs.declared.statements.Operand.{Operand}
+use Rattle.st_parse.specs.declared.statements.Operand.TheVariants.{Text as TextValue, Number as NumberValue}
+use Rattle.st_parse.specs.Lexemes.{◌>>=◌}
+use Rattle.st_parse.specs.Values.{IsSigned, IsValue, signed_at, value_at}
+use Rattle.st_parse.proofs.Spelt.{Spelt, Follows}
+
+pub signed-spelt : (ls : List Lexeme) → Spelt IsSigned (signed_at ls) ls
+signed-spelt (Number digits ∷ ls) = (Number digits ∷ [], (digits, inl (refl, refl)), refl)
+signed-spelt (Sign Minus ∷ Number digits ∷ ls) = (Sign Minus ∷ Number digits ∷ [], (digits, inr (refl, refl)), refl)
+signed-spelt ls = tt
+
+pub signed-again : (front rest : List Lexeme) (n : Whole) → IsSigned front n → signed_at (front ++ rest) ≡ Some (n, rest)
+signed-again front rest n (digits, inl (value, e)) = ap (λ x. signed_at (x ++ rest)) e ∙ ap (λ x. Some (x, rest)) (sym value)
+signed-again front rest n (digits, inr (value, e)) = ap (λ x. signed_at (x ++ rest)) e ∙ ap (λ x. Some (x, rest)) (sym value)
+
+number-spelt : (o : Option (Whole × List Lexeme)) (ls : List Lexeme) → Spelt IsSigned o ls → Spelt IsValue (o >>= λ n. Some (NumberValue n.0, n.1)) ls
+number-spelt None ls is = tt
+number-spelt (Some (n, rest)) ls is = is
+
+pub value-spelt : (ls : List Lexeme) → Spelt IsValue (value_at ls) ls
+value-spelt (Text text ∷ ls) = (Text text ∷ [], refl, refl)
+value-spelt ls = number-spelt (signed_at ls) ls (signed-spelt ls)
+
+pub value-again : (front rest : List Lexeme) (value : Operand) → IsValue front value → Follows rest → value_at (front ++ rest) ≡ Some (value, rest)
+value-again front rest (TextValue text) e follows = ap (λ x. value_at (x ++ rest)) e
+value-again front rest (NumberValue n) (digits, inl (value, e)) follows = ap (λ x. value_at (x ++ rest)) e ∙ ap (λ x. Some (NumberValue x, rest)) (sym value)
+value-again front rest (NumberValue n) (digits, inr (value, e)) follows = ap (λ x. value_at (x ++ rest)) e ∙ ap (λ x. Some (NumberValue x, rest)) (sym value)

@@ -1,0 +1,76 @@
+-- CREATE TABLE and CREATE INDEX, as they are spelt and as they are read.
+use Rattle.std.specs.Prelude.{ℕ, ◌≡◌, ◌⊎◌, Bool, true, false, List, [], ◌∷◌, ◌++◌, Option, Some, None}
+use Rattle.st_parse.specs.declared.lexemes.Keyword.TheVariants.{Table as TABLE, Index as INDEX, On as ON, Indextype as INDEXTYPE, Is as IS, Ctxsys as CTXSYS, Context as CONTEXT, Number as NUMBER, Varchar2 as VARCHAR2, Clob as CLOB, Primary as PRIMARY, Key as KEY}
+use Rattle.st_parse.specs.declared.lexemes.Symbol.TheVariants.{Open, Close, Dot}
+use Rattle.st_parse.specs.declared.lexemes.Lexeme.{Lexeme}
+use Rattle.st_parse.specs.declared.lexemes.Lexeme.TheVariants.{Word, Name, Number, Sign}
+use Rattle.st_parse.specs.declared.statements.SortText.{SortText}
+use Rattle.st_parse.specs.declared.statements.SortText.TheVariants.{Number as NumberSort, Varchar2, Clob}
+use Rattle.st_parse.specs.declared.statements.ColumnText.{ColumnText}
+use Rattle.st_parse.specs.declared.statements.IndexKind.{IndexKind}
+use Rattle.st_parse.specs.declared.statements.IndexKind.TheVariants.{Context}
+use Rattle.st_parse.specs.declared.statements.Statement.{Statement}
+use Rattle.st_parse.specs.declared.statements.Statement.TheVariants.{CreateTable, CreateIndex}
+use Rattle.st_parse.specs.Lexemes.{◌>>=◌}
+use Rattle.st_parse.specs.Numbers.{number}
+use Rattle.st_parse.specs.Lists.{Reader, enclosed_last}
+
+-- These lexemes are this type of a column.
+abbrev pub IsSort : List Lexeme → SortText → Type 0
+IsSort ls NumberSort = ls ≡ Word NUMBER ∷ []
+IsSort ls (Varchar2 size) = (digits : List ℕ) × (size ≡ number digits) × (ls ≡ Word VARCHAR2 ∷ Sign Open ∷ Number digits ∷ Sign Close ∷ [])
+IsSort ls Clob = ls ≡ Word CLOB ∷ []
+
+-- what calls a column the primary key
+abbrev pub key : Bool → List Lexeme
+key true = Word PRIMARY ∷ Word KEY ∷ []
+key false = []
+
+abbrev pub IsColumn : List Lexeme → ColumnText → Type 0
+IsColumn ls column = (sort : List Lexeme) × IsSort sort column.sort × (ls ≡ Name column.name ∷ (sort ++ key column.primary))
+
+-- the type of an index, with its owner or without
+abbrev pub IsKind : List Lexeme → IndexKind → Type 0
+IsKind ls Context = (ls ≡ Word CONTEXT ∷ []) ⊎ (ls ≡ Word CTXSYS ∷ Sign Dot ∷ Word CONTEXT ∷ [])
+IsKind ls kind = ⊥
+
+-- The same as functions.
+abbrev pub sort_at : Reader SortText
+sort_at (Word NUMBER ∷ ls) = Some (NumberSort, ls)
+sort_at (Word VARCHAR2 ∷ Sign Open ∷ Number digits ∷ Sign Close ∷ ls) = Some (Varchar2 (number digits), ls)
+sort_at (Word CLOB ∷ ls) = Some (Clob, ls)
+sort_at ls = None
+
+abbrev pub key_at : List Lexeme → Bool × List Lexeme
+key_at (Word PRIMARY ∷ Word KEY ∷ ls) = (true, ls)
+key_at ls = (false, ls)
+
+abbrev pub column_of : List ℕ → SortText → Bool × List Lexeme → ColumnText × List Lexeme
+column_of name sort key = (record { name = name; sort = sort; primary = key.0 }, key.1)
+
+abbrev pub column_at : Reader ColumnText
+column_at (Name name ∷ ls) = sort_at ls >>= λ sort. Some (column_of name sort.0 (key_at sort.1))
+column_at ls = None
+
+abbrev pub kind_of : List Lexeme → Option IndexKind
+kind_of (Word INDEXTYPE ∷ Word IS ∷ Word CONTEXT ∷ []) = Some Context
+kind_of (Word INDEXTYPE ∷ Word IS ∷ Word CTXSYS ∷ Sign Dot ∷ Word CONTEXT ∷ []) = Some Context
+kind_of ls = None
+
+-- what follows CREATE TABLE, and what follows CREATE INDEX
+abbrev pub create_table_of : List Lexeme → Option Statement
+create_table_of (Name name ∷ ls) = enclosed_last column_at ls >>= λ columns. Some (CreateTable name columns)
+create_table_of ls = None
+
+abbrev pub index_of : List ℕ → List ℕ → List ℕ → List Lexeme → Option Statement
+index_of name table column ls = kind_of ls >>= λ kind. Some (CreateIndex name table column kind None None)
+
+abbrev pub create_index_of : List Lexeme → Option Statement
+create_index_of (Name name ∷ Word ON ∷ Name table ∷ Sign Open ∷ Name column ∷ Sign Close ∷ ls) = index_of name table column ls
+create_index_of ls = None
+
+-- what follows CREATE
+abbrev pub create_of : List Lexeme → Option Statement
+create_of (Word TABLE ∷ ls) = create_table_of ls
+create_of (Word INDEX ∷ ls) = create_index_of ls
+create_of ls = None

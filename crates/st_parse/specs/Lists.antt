@@ -1,0 +1,54 @@
+-- Lists of items with commas between them, as they are spelt and as they are read.
+use Rattle.std.specs.Prelude.{ℕ, zero, suc, ◌≡◌, List, [], ◌∷◌, ◌++◌, length, Option, Some, None}
+use Rattle.st_parse.specs.declared.lexemes.Symbol.TheVariants.{Open, Close, Comma}
+use Rattle.st_parse.specs.declared.lexemes.Lexeme.{Lexeme}
+use Rattle.st_parse.specs.declared.lexemes.Lexeme.TheVariants.{Sign}
+use Rattle.st_parse.specs.Lexemes.{◌>>=◌}
+
+-- The lexemes are these items, at least one, with commas between them. `Is` says which lexemes are which item.
+abbrev pub AreListed : {A : Type 0} → (List Lexeme → A → Type 0) → List Lexeme → List A → Type 0
+AreListed Is ls [] = ⊥
+AreListed Is ls (a ∷ []) = Is ls a
+AreListed Is ls (a ∷ b ∷ more) = (front back : List Lexeme) × (ls ≡ front ++ Sign Comma ∷ back) × Is front a × AreListed Is back (b ∷ more)
+
+-- The same in parentheses.
+abbrev pub AreEnclosed : {A : Type 0} → (List Lexeme → A → Type 0) → List Lexeme → List A → Type 0
+AreEnclosed Is ls items = (list : List Lexeme) × AreListed Is list items × (ls ≡ Sign Open ∷ (list ++ Sign Close ∷ []))
+
+-- what reads an item at the front: the item, and what follows it
+abbrev pub Reader : Type 0 → Type 0
+Reader A = List Lexeme → Option (A × List Lexeme)
+
+abbrev pub joined : {A : Type 0} → A → List Lexeme → Reader (List A) → Option (List A × List Lexeme)
+joined a (Sign Comma ∷ ls) next = next ls >>= λ more. Some (a ∷ more.0, more.1)
+joined a ls next = Some (a ∷ [], ls)
+
+-- items with commas between them, at least one and at most so many
+abbrev pub listed_at : {A : Type 0} → Reader A → ℕ → Reader (List A)
+listed_at item zero ls = None
+listed_at item (suc most) ls = item ls >>= λ a. joined a.0 a.1 (listed_at item most)
+
+abbrev pub listed : {A : Type 0} → Reader A → Reader (List A)
+listed item ls = listed_at item (suc (length ls)) ls
+
+-- no comma stands at the front
+abbrev pub EndsList : List Lexeme → Type 0
+EndsList (Sign Comma ∷ ls) = ⊥
+EndsList ls = Unit {0}
+
+-- a list in parentheses
+abbrev pub closed : {A : Type 0} → A × List Lexeme → Option (A × List Lexeme)
+closed (a, Sign Close ∷ ls) = Some (a, ls)
+closed (a, ls) = None
+
+abbrev pub enclosed : {A : Type 0} → Reader A → Reader (List A)
+enclosed item (Sign Open ∷ ls) = listed item ls >>= closed
+enclosed item ls = None
+
+-- the same, with nothing behind it
+abbrev pub ended : {A : Type 0} → A × List Lexeme → Option A
+ended (a, []) = Some a
+ended (a, l ∷ ls) = None
+
+abbrev pub enclosed_last : {A : Type 0} → Reader A → List Lexeme → Option (List A)
+enclosed_last item ls = enclosed item ls >>= ended

@@ -1,0 +1,156 @@
+//! CREATE TABLE and CREATE INDEX.
+
+ghost use Rattle.std.specs.Prelude.{◌≡◌, ◌≤◌, length, IfOk};
+ghost use Rattle.st_parse.specs.Creating.{sort_at, key_at, column_at, kind_of, index_of, create_table_of, create_index_of, create_of};
+ghost use Rattle.st_parse.specs.Reading.{Gives, StatementGives};
+
+use crate::lexemes::{Keyword, Lexeme, Symbol};
+use crate::listing::{Element, enclosed_last};
+use crate::numbers::number;
+use crate::parsing::StatementFault;
+use crate::statements::{ColumnText, ColumnTexts, IndexKind, SortText, Statement};
+use ct_base::Name;
+use std::alloc::Global;
+
+/// The type of a column at the front, and what follows it.
+fn read_sort(lexemes: &[Lexeme]) -> Result<(SortText, &[Lexeme]), StatementFault>
+    ensures gives { Gives (λ x. (x.0, x.1.now)) result (sort_at lexemes.now) }
+    ensures rest { IfOk result (λ x. length x.1.now ≤ length lexemes.now) }
+{
+    match lexemes {
+        [Lexeme::Word(Keyword::Number), rest @ ..] => Ok((SortText::Number, rest)),
+        [
+            Lexeme::Word(Keyword::Varchar2),
+            Lexeme::Sign(Symbol::Open),
+            Lexeme::Number(digits),
+            Lexeme::Sign(Symbol::Close),
+            rest @ ..,
+        ] => Ok((SortText::Varchar2(number(digits)), rest)),
+        [Lexeme::Word(Keyword::Clob), rest @ ..] => Ok((SortText::Clob, rest)),
+        _ => Err(StatementFault::Syntax),
+    }
+}
+
+/// Whether PRIMARY KEY stands at the front, and what follows it.
+fn read_key(lexemes: &[Lexeme]) -> (bool, &[Lexeme])
+    ensures key { (result.0, result.1.now) ≡ key_at lexemes.now }
+    ensures rest { length result.1.now ≤ length lexemes.now }
+{
+    match lexemes {
+        [
+            Lexeme::Word(Keyword::Primary),
+            Lexeme::Word(Keyword::Key),
+            rest @ ..,
+        ] => (true, rest),
+        _ => (false, lexemes),
+    }
+}
+
+impl Element for ColumnText {
+    ghost item_at = { column_at };
+
+    fn read(lexemes: &[Lexeme]) -> Result<(ColumnText, &[Lexeme]), StatementFault> {
+        match lexemes {
+            [Lexeme::Name(name), rest @ ..] => {
+                let (sort, rest) = read_sort(rest)?;
+                let (primary, rest) = read_key(rest);
+                let name = name.clone()?;
+                Ok((
+                    ColumnText {
+                        name,
+                        sort,
+                        primary,
+                    },
+                    rest,
+                ))
+            }
+            _ => Err(StatementFault::Syntax),
+        }
+    }
+}
+
+/// What follows CREATE TABLE.
+fn create_table(alloc: Global, lexemes: &[Lexeme]) -> Result<Statement, StatementFault>
+    ensures { StatementGives result (create_table_of lexemes.now) }
+{
+    match lexemes {
+        [Lexeme::Name(name), rest @ ..] => {
+            let columns = enclosed_last(alloc, rest)?;
+            Ok(Statement::CreateTable {
+                name: name.clone()?,
+                columns: ColumnTexts::of(columns),
+            })
+        }
+        _ => Err(StatementFault::Syntax),
+    }
+}
+
+/// The type of an index and the words before it, where nothing follows.
+fn kind(lexemes: &[Lexeme]) -> Result<IndexKind, StatementFault>
+    ensures { Gives (λ k. k) result (kind_of lexemes.now) }
+{
+    match lexemes {
+        [
+            Lexeme::Word(Keyword::Indextype),
+            Lexeme::Word(Keyword::Is),
+            Lexeme::Word(Keyword::Context),
+        ] => Ok(IndexKind::Context),
+        [
+            Lexeme::Word(Keyword::Indextype),
+            Lexeme::Word(Keyword::Is),
+            Lexeme::Word(Keyword::Ctxsys),
+            Lexeme::Sign(Symbol::Dot),
+            Lexeme::Word(Keyword::Context),
+        ] => Ok(IndexKind::Context),
+        _ => Err(StatementFault::Syntax),
+    }
+}
+
+/// The index of a column, by what follows the column.
+fn index(
+    name: &Name,
+    table: &Name,
+    column: &Name,
+    lexemes: &[Lexeme],
+) -> Result<Statement, StatementFault>
+    ensures { StatementGives result (index_of name.now table.now column.now lexemes.now) }
+{
+    let kind = kind(lexemes)?;
+    Ok(Statement::CreateIndex {
+        name: name.clone()?,
+        table: table.clone()?,
+        column: column.clone()?,
+        kind,
+        parameters: None,
+        parallel: None,
+    })
+}
+
+/// What follows CREATE INDEX.
+fn create_index(lexemes: &[Lexeme]) -> Result<Statement, StatementFault>
+    ensures { StatementGives result (create_index_of lexemes.now) }
+{
+    match lexemes {
+        [
+            Lexeme::Name(name),
+            Lexeme::Word(Keyword::On),
+            Lexeme::Name(table),
+            Lexeme::Sign(Symbol::Open),
+            Lexeme::Name(column),
+            Lexeme::Sign(Symbol::Close),
+            rest @ ..,
+        ] => index(name, table, column, rest),
+        _ => Err(StatementFault::Syntax),
+    }
+}
+
+/// What follows CREATE.
+pub(crate) fn create(alloc: Global, lexemes: &[Lexeme]) -> Result<Statement, StatementFault>
+    ensures { StatementGives result (create_of lexemes.now) }
+{
+    match lexemes {
+        [Lexeme::Word(Keyword::Table), rest @ ..] => create_table(alloc, rest),
+        [Lexeme::Word(Keyword::Index), rest @ ..] => create_index(rest),
+        _ => Err(StatementFault::Syntax),
+    }
+}

@@ -1,0 +1,41 @@
+//! Values: texts, and numbers with a sign.
+
+ghost use Rattle.std.specs.Prelude.{◌≡◌, ◌≤◌, length, IfOk};
+ghost use Rattle.st_parse.specs.Reading.{Gives};
+ghost use Rattle.st_parse.specs.Values.{signed_at, value_at};
+
+use crate::lexemes::{Lexeme, Symbol};
+use crate::listing::Element;
+use crate::numbers::{negated, number};
+use crate::parsing::StatementFault;
+use crate::statements::{Operand, Whole};
+
+/// The number at the front, with its sign if it has one, and what follows it.
+pub(crate) fn read_signed(lexemes: &[Lexeme]) -> Result<(Whole, &[Lexeme]), StatementFault>
+    ensures gives { Gives (λ x. (x.0, x.1.now)) result (signed_at lexemes.now) }
+    ensures rest { IfOk result (λ x. length x.1.now ≤ length lexemes.now) }
+{
+    match lexemes {
+        [Lexeme::Number(digits), rest @ ..] => Ok((number(digits), rest)),
+        [
+            Lexeme::Sign(Symbol::Minus),
+            Lexeme::Number(digits),
+            rest @ ..,
+        ] => Ok((negated(digits), rest)),
+        _ => Err(StatementFault::Syntax),
+    }
+}
+
+impl Element for Operand {
+    ghost item_at = { value_at };
+
+    fn read(lexemes: &[Lexeme]) -> Result<(Operand, &[Lexeme]), StatementFault> {
+        match lexemes {
+            [Lexeme::Text(text), rest @ ..] => Ok((Operand::Text(text.clone()?), rest)),
+            _ => {
+                let (n, rest) = read_signed(lexemes)?;
+                Ok((Operand::Number(n), rest))
+            }
+        }
+    }
+}
