@@ -23,7 +23,7 @@ fn push_byte(out: &mut Vec<u8>, byte: u8) -> Result<(), Memory>
 }
 
 /// Puts a text as it is printed.
-fn push_text(out: &mut Vec<u8>, text: &[u8]) -> Result<(), Memory>
+pub(crate) fn push_text(out: &mut Vec<u8>, text: &[u8]) -> Result<(), Memory>
     ensures { OnOk result (out.new.items ≡ out.old.items ++ printed_text text.now) }
 {
     for byte in text {
@@ -33,7 +33,7 @@ fn push_text(out: &mut Vec<u8>, text: &[u8]) -> Result<(), Memory>
 }
 
 /// Puts a number in decimal digits.
-fn push_number(alloc: Global, out: &mut Vec<u8>, number: i64) -> Result<(), Memory>
+pub(crate) fn push_number(alloc: Global, out: &mut Vec<u8>, number: i64) -> Result<(), Memory>
     ensures { OnOk result (out.new.items ≡ out.old.items ++ signed_decimal number) }
 {
     let digits = format!(in alloc; "{number}")?;
