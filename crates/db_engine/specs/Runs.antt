@@ -1,9 +1,14 @@
 -- A run: how the pieces of a script were answered, the state that they lead to, and all that was said.
-use Rattle.std.specs.Prelude.{ℕ, ◌≡◌, Bool, true, false, List, [], ◌∷◌, ◌++◌, map, refl}
+use Rattle.std.specs.Prelude.{ℕ, ◌≡◌, ◌≤◌, ◌<◌, Bool, true, false, List, [], ◌∷◌, ◌++◌, map, length, refl}
 use Rattle.std.specs.Bool.{if◌then◌else◌}
 use Rattle.std.proofs.Common.{ap, sym, ◌∙◌, append_assoc}
-use Rattle.db_cond.specs.Faults.{out_of_memory}
-use Rattle.db_engine.specs.Steps.{State, step, rest_reply}
+use Rattle.db_cond.specs.Faults.{out_of_memory, store_full}
+use Rattle.st_parse.specs.declared.statements.Statement.{Statement}
+use Rattle.st_parse.specs.Grammar.{Read, Blank, NoStatement, Found}
+use Rattle.db_engine.specs.States.{State}
+use Rattle.db_engine.specs.Refusals.{Effect, state_by, reply_by, is_done}
+use Rattle.db_engine.specs.Room.{room}
+use Rattle.db_engine.specs.Steps.{step, rest_step, is_text, read_bytes, may_fill}
 
 -- a statement, or what stands behind the last one
 pub record Piece : Type 0 where
@@ -16,9 +21,11 @@ statement text = record { text = text; is_ended = true }
 abbrev pub rest_piece : List ℕ → Piece
 rest_piece text = record { text = text; is_ended = false }
 
--- how a piece was answered: by its step, or for want of memory
+-- how a piece was answered: by its step, for want of memory, or that the store is full
 pub data Answer : Type 0 where
-  Step NoMemory : Answer
+  Step : Answer
+  NoMemory : Answer
+  Full : Answer
 
 -- a piece with its answer
 pub record Turn : Type 0 where
@@ -31,17 +38,19 @@ turn_by piece answer = record { piece = piece; answer = answer }
 abbrev pub pieces : List Turn → List Piece
 pieces turns = map (λ (t : Turn). t.piece) turns
 
--- what a piece does by itself: the state after it, and the reply
-abbrev pub step_of : ℕ → State → Piece → State × List ℕ
-step_of limit m piece = if piece.is_ended then step limit m piece.text else (m, rest_reply limit piece.text)
+-- what a piece does by itself; a statement may have `limit` bytes
+abbrev pub effect_by : ℕ → State → Piece → Effect
+effect_by limit m piece = if piece.is_ended then step limit m piece.text else rest_step limit m piece.text
 
-abbrev pub by_answer : Answer → State → State × List ℕ → State × List ℕ
-by_answer Step m done = done
-by_answer NoMemory m done = (m, out_of_memory)
+-- the state after an answer, and what is said with it
+abbrev pub answered : Answer → State → Effect → State × List ℕ
+answered Step m effect = (state_by m effect, reply_by effect)
+answered NoMemory m effect = (m, out_of_memory)
+answered Full m effect = (m, store_full)
 
 -- the state after a turn, and what is said in it
 abbrev pub turn : ℕ → State → Turn → State × List ℕ
-turn limit m t = by_answer t.answer m (step_of limit m t.piece)
+turn limit m t = answered t.answer m (effect_by limit m t.piece)
 
 -- the state after the turns
 abbrev pub state_after : ℕ → State → List Turn → State
@@ -58,6 +67,29 @@ pub record Ran (limit : ℕ) (old : State) (turns : List Turn) (new : State) (sa
   pub state : new ≡ state_after limit old turns
   pub says : said ≡ transcript limit old turns
 
+-- ---- which answers are allowed
+
+-- what is read is a statement that may fill the store
+abbrev pub can_fill : Read → Bool
+can_fill Blank = false
+can_fill NoStatement = false
+can_fill (Found s) = may_fill s
+
+-- For want of memory no other piece is answered than a statement that is a text and isn't too long; and that the store is full
+-- only a statement that isn't refused and may fill the store, whose state would take more room than the store has.
+abbrev pub IsAllowed : ℕ → ℕ → State → Piece → Answer → Type 0
+IsAllowed limit store m piece Step = Unit {0}
+IsAllowed limit store m piece NoMemory = (piece.is_ended ≡ true) × (length piece.text ≤ limit) × (is_text piece.text ≡ true)
+IsAllowed limit store m piece Full =
+    (piece.is_ended ≡ true) × (is_done (step limit m piece.text) ≡ true) × (can_fill (read_bytes piece.text) ≡ true) × (store < room (state_by m (step limit m piece.text)))
+
+-- each answer is, in its turn
+abbrev pub AllAllowed : ℕ → ℕ → State → List Turn → Type 0
+AllAllowed limit store m [] = Unit {0}
+AllAllowed limit store m (t ∷ ts) = IsAllowed limit store m t.piece t.answer × AllAllowed limit store (turn limit m t).0 ts
+
+-- ---- runs one after the other
+
 pub state_after-append : (limit : ℕ) (m : State) (ts us : List Turn) → state_after limit m (ts ++ us) ≡ state_after limit (state_after limit m ts) us
 state_after-append limit m [] us = refl
 state_after-append limit m (t ∷ ts) us = state_after-append limit (turn limit m t).0 ts us
@@ -67,3 +99,7 @@ transcript-append limit m [] us = refl
 transcript-append limit m (t ∷ ts) us =
     ap (λ (l : List ℕ). (turn limit m t).1 ++ l) (transcript-append limit (turn limit m t).0 ts us)
     ∙ sym (append_assoc (turn limit m t).1 (transcript limit (turn limit m t).0 ts) (transcript limit (state_after limit (turn limit m t).0 ts) us))
+
+pub allowed-append : (limit store : ℕ) (m : State) (ts us : List Turn) → AllAllowed limit store m ts → AllAllowed limit store (state_after limit m ts) us → AllAllowed limit store m (ts ++ us)
+allowed-append limit store m [] us first second = second
+allowed-append limit store m (t ∷ ts) us first second = (first.0, allowed-append limit store (turn limit m t).0 ts us first.1 second)

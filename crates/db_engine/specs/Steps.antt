@@ -1,57 +1,64 @@
 -- What one statement does: the state after it, and its reply.
-use Rattle.std.specs.Prelude.{ℕ, ◌≡◌, ◌-◌, nat_le, nat_lt, Bool, List, [], ◌∷◌, map, length, codes, refl, pos}
+use Rattle.std.specs.Prelude.{ℕ, pos, ◌≡◌, nat_le, nat_lt, Bool, true, false, not, ◌&&◌, ◌||◌, is_none, List, [], ◌∷◌, length, Option, Some, None, codes, bytes_eq, refl}
 use Rattle.std.specs.Bool.{if◌then◌else◌}
-use Rattle.std.specs.List.{list_all, flat_map}
+use Rattle.std.specs.List.{list_all}
 use Rattle.std.specs.Str.{chars}
 use Rattle.std.specs.Fmt.{digits}
 use lib.Utf8.{encode}
-use Rattle.ct_base.specs.declared.lists.Value.{Value}
-use Rattle.ct_base.specs.declared.lists.Value.TheVariants.{Number, Text}
-use Rattle.tx_lexer.specs.declared.tokens.Token.{Token}
-use Rattle.tx_lexer.specs.Tokens.{tokens, default}
-use Rattle.st_parse.specs.declared.statements.Arg.{Arg}
-use Rattle.st_parse.specs.declared.statements.Arg.TheVariants.{Text as TextArg}
+use Rattle.st_parse.specs.declared.statements.IndexKind.{IndexKind}
+use Rattle.st_parse.specs.declared.statements.IndexKind.TheVariants.{Context, Ctxcat, Ctxrule}
+use Rattle.st_parse.specs.declared.statements.Whole.{Whole}
+use Rattle.st_parse.specs.declared.statements.Pred.{Pred}
+use Rattle.st_parse.specs.declared.statements.Pred.TheVariants.{Contains}
+use Rattle.st_parse.specs.declared.statements.SelectList.{SelectList}
+use Rattle.st_parse.specs.declared.statements.SelectList.TheVariants.{Items}
 use Rattle.st_parse.specs.declared.statements.Statement.{Statement}
-use Rattle.st_parse.specs.declared.statements.Statement.TheVariants.{Exec}
+use Rattle.st_parse.specs.declared.statements.Statement.TheVariants.{CreateTable, DropTable, DropIndex, CreateIndex, Insert, Update, Delete, Select, Exec, Commit}
 use Rattle.st_parse.specs.Grammar.{Read, Blank, NoStatement, Found, read}
-use Rattle.db_cond.specs.Lines.{line}
-use Rattle.db_engine.specs.declared.replies.Reply.{Reply}
-use Rattle.db_engine.specs.declared.replies.Reply.TheVariants.{Text as ReplyText, NoMemory}
-use Rattle.db_cond.specs.Faults.{not_understood, value_too_long, statement_too_long, no_rows}
+use Rattle.db_cond.specs.Faults.{NotUnderstood, StatementTooLong, refusal_line}
+use Rattle.db_engine.specs.States.{State, empty_state, is_view}
+use Rattle.db_engine.specs.Refusals.{Effect, Refused, Does, refuse, state_by, reply_by}
+use Rattle.db_engine.specs.Creating.{create_table, create_index}
+use Rattle.db_engine.specs.Inserting.{insert_into}
+use Rattle.db_engine.specs.Calling.{call}
+use Rattle.db_engine.specs.Selecting.{select}
 
--- What the statements so far have made. As long as no statement keeps anything there is one state.
-abbrev pub State : Type 0
-State = Unit {0}
+-- SELECT of a list with exactly one CONTAINS as its condition; the grammar has no other yet, and what is only looked at can't be asked yet
+abbrev pub select_by : State → SelectList → List ℕ → List Pred → Effect
+select_by m (Items items) t (Contains column query label above ∷ []) = refuse (is_view t) NotUnderstood (select m items t column query label above)
+select_by m list t preds = Refused NotUnderstood
 
--- how many bytes a text has at most whose tokens are asked for
-abbrev pub text_limit : ℕ
-text_limit = 4000
+-- of the indexes those of kind CONTEXT without PARAMETERS and PARALLEL are built so far
+abbrev pub is_context : IndexKind → Bool
+is_context Context = true
+is_context Ctxcat = false
+is_context Ctxrule = false
 
--- the lines of a query
-abbrev pub lines_or_none : List (List Value) → List ℕ
-lines_or_none [] = no_rows
-lines_or_none (row ∷ rows) = flat_map line (row ∷ rows)
+abbrev pub is_built_index : IndexKind → Option (List ℕ) → Option Whole → Bool
+is_built_index kind parameters parallel = is_context kind && (is_none parameters && is_none parallel)
 
--- the line of a token: its key, the place of its first byte, and how many bytes of the text it has
-abbrev pub token_line : Token → List Value
-token_line t = Text t.key ∷ Number (pos t.start) ∷ Number (pos (t.end - t.start)) ∷ []
+-- what a statement does; the grammar has no others yet
+abbrev pub effect : State → Statement → Effect
+effect m (CreateTable name columns) = create_table m name columns
+effect m (CreateIndex name table column kind parameters parallel) = refuse (not (is_built_index kind parameters parallel)) NotUnderstood (create_index m name table column)
+effect m (Insert table columns values) = insert_into m table columns values
+effect m (Select list table preds orders) = select_by m list table preds
+effect m (Exec pack procedure args) = call m pack procedure args
+effect m statement = Refused NotUnderstood
 
-abbrev pub tokens_reply : List ℕ → List ℕ
-tokens_reply text = if nat_le (length text) text_limit then lines_or_none (map token_line (tokens default (chars text))) else value_too_long
+-- whether the call of a procedure of the package may be answered that the store is full
+abbrev pub may_fill_by : List ℕ → Bool
+may_fill_by pack = not (bytes_eq pack (codes "ctx_doc") || bytes_eq pack (codes "ctx_query"))
 
--- the reply of a call; the grammar has no call with other arguments
-abbrev pub call_reply : List Arg → List ℕ
-call_reply (TextArg text ∷ []) = tokens_reply text
-call_reply args = []
-
--- what a statement of the grammar does
-abbrev pub effect : State → Statement → State × List ℕ
-effect m (Exec pack procedure args) = (m, call_reply args)
-
--- a reply by the step, which leads to the state `done.0`, or one for want of memory, which leaves the state m
-abbrev pub GivesReply : Reply → State → State × List ℕ → Type 0
-GivesReply (ReplyText lines) m done = lines ≡ done.1
-GivesReply NoMemory m done = Unit {0}
+-- whether the statement may be
+abbrev pub may_fill : Statement → Bool
+may_fill (DropTable name) = false
+may_fill (DropIndex name) = false
+may_fill (Delete table conds) = false
+may_fill (Select list table preds orders) = false
+may_fill (Exec pack procedure args) = may_fill_by pack
+may_fill Commit = false
+may_fill statement = true
 
 -- Which bytes are a text: for now those in ASCII.
 abbrev pub is_text : List ℕ → Bool
@@ -61,27 +68,27 @@ is_text bytes = list_all (λ b. nat_lt b 128) bytes
 abbrev pub read_bytes : List ℕ → Read
 read_bytes bytes = if is_text bytes then read (chars bytes) else NoStatement
 
-abbrev pub effect_of : State → Read → State × List ℕ
-effect_of m Blank = (m, [])
-effect_of m NoStatement = (m, not_understood)
+abbrev pub effect_of : State → Read → Effect
+effect_of m Blank = Does m []
+effect_of m NoStatement = Refused NotUnderstood
 effect_of m (Found statement) = effect m statement
 
--- What the bytes of a statement do, of which there may be `limit`: the first refusal that holds, with the state as it was, or the effect.
-abbrev pub step : ℕ → State → List ℕ → State × List ℕ
-step limit m bytes = if nat_le (length bytes) limit then effect_of m (read_bytes bytes) else (m, statement_too_long)
+-- What the bytes of a statement do, of which there may be `limit`.
+abbrev pub step : ℕ → State → List ℕ → Effect
+step limit m bytes = if nat_le (length bytes) limit then effect_of m (read_bytes bytes) else Refused StatementTooLong
 
--- The reply to what stands behind the last statement of a script: it is no statement, and is answered where it is too long or isn't blank.
-abbrev pub rest_of : Read → List ℕ
-rest_of Blank = []
-rest_of NoStatement = not_understood
-rest_of (Found statement) = not_understood
+-- What stands behind the last statement of a script does: it is no statement, and is answered where it is too long or isn't blank.
+abbrev pub rest_of : State → Read → Effect
+rest_of m Blank = Does m []
+rest_of m NoStatement = Refused NotUnderstood
+rest_of m (Found statement) = Refused NotUnderstood
 
-abbrev pub rest_reply : ℕ → List ℕ → List ℕ
-rest_reply limit bytes = if nat_le (length bytes) limit then rest_of (read_bytes bytes) else statement_too_long
+abbrev pub rest_step : ℕ → State → List ℕ → Effect
+rest_step limit m bytes = if nat_le (length bytes) limit then rest_of m (read_bytes bytes) else Refused StatementTooLong
 
 -- computed examples
 abbrev reply : List ℕ → List ℕ
-reply bytes = (step 65536 tt bytes).1
+reply bytes = reply_by (step 65536 empty_state bytes)
 
 some_text : reply (codes "EXEC CTX_DOC.POLICY_TOKENS('some text')") ≡ codes "some|0|4\ntext|5|4\n"
 unfolding encode digits chars
@@ -103,9 +110,9 @@ half_a_word : reply (codes "SELEC") ≡ codes "E10: statement not understood\n"
 unfolding chars
 half_a_word = refl
 
-rest_without_end : rest_reply 65536 (codes "DROP TABLE docs") ≡ codes "E10: statement not understood\n"
+rest_without_end : reply_by (rest_step 65536 empty_state (codes "DROP TABLE docs")) ≡ codes "E10: statement not understood\n"
 unfolding chars
 rest_without_end = refl
 
-too_long : (step 3 tt (codes "SELEC")).1 ≡ codes "E19: statement too long\n"
+too_long : reply_by (step 3 empty_state (codes "SELEC")) ≡ codes "E19: statement too long\n"
 too_long = refl

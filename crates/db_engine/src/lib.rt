@@ -1,6 +1,24 @@
 //! Executes statements.
 #![tactic(auto)]
 
+mod calling;
+mod checks;
+mod columns;
+mod committing;
+mod creating;
+mod executing;
+mod fields;
+mod hits;
+mod indexing;
+mod inserting;
+mod listing;
+mod looking;
+mod querying;
 mod replies;
+mod seeking;
+mod selecting;
+mod sources;
+mod syncing;
 
-pub use replies::{Reply, execute};
+pub use executing::execute;
+pub use replies::{Reply, Stop};

@@ -1,0 +1,92 @@
+-- From what the function of a statement returned to the answer.
+use Rattle.std.proofs.Common.{◌≡◌, ℕ, ◌+◌, ◌-◌, ◌^◌, ◌≤◌, Bool, true, false, cond, List, Option, Some, None, Result, Ok, Err, Vec, refl, sym, ap, subst, ◌∙◌, arith, min}
+use Rattle.std.specs.Prelude.{codes, bytes_eq, ◌&&◌}
+use Rattle.std.specs.declared.alloc.Global.{Global}
+use Rattle.ct_base.specs.Causes.{Rose}
+use Rattle.ct_keep.specs.Content.{Content}
+use Rattle.ct_keep.specs.declared.keepers.KeepFault.TheVariants.{Memory, Disk, Full as NoRoom}
+use Rattle.ct_keep.specs.Keeping.{Keeping, Kept, Goes, counted}
+use Rattle.db_engine.specs.States.{State}
+use Rattle.st_parse.specs.declared.statements.Arg.{Arg}
+use Rattle.db_cond.specs.Faults.{NotUnderstood}
+use Rattle.db_engine.specs.Refusals.{Effect, Refused, reply_by}
+use Rattle.db_engine.specs.Calling.{call, sync_index, policy_tokens}
+use Rattle.db_engine.specs.Runs.{Answer, Step, NoMemory, Full}
+use Rattle.db_engine.specs.Executing.{Moves, StandsBy, HasNoPlace, Gives, IsReplyBy, IsFullReply, Answers}
+use Rattle.db_engine.specs.declared.replies.Reply.{Reply}
+use Rattle.db_engine.specs.declared.replies.Reply.TheVariants.{Text as ReplyText, NoMemory as ReplyNoMemory}
+
+-- what is kept unless the disk failed
+pub kept_memory : (old new : Keeping) → Kept old new (Some Memory) → Kept old new None
+kept_memory old new kept = record { ready = kept.ready; beside = kept.beside; well = kept.well; limit = kept.limit; lender = kept.lender; later = kept.later; cause = kept.cause }
+
+pub kept_full : (old new : Keeping) → Kept old new (Some NoRoom) → Kept old new None
+kept_full old new kept = record { ready = kept.ready; beside = kept.beside; well = kept.well; limit = kept.limit; lender = kept.lender; later = kept.later; cause = kept.cause }
+
+pub answers_step : (m : State) (effect : Effect) (may : Bool) (c : Content) (old new : Keeping) (v : Vec ℕ Global) (reply : List ℕ) → reply ≡ v.items → Gives m effect c old new (Ok v) → Answers m effect may c old new (ReplyText reply)
+answers_step m effect may c old new v reply is gives = record {
+  answer = Step;
+  moves = gives.moves;
+  says = is ∙ gives.reply;
+  place = λ e. cc;
+  may_fill = λ e. cc;
+  fulls = λ e. cc;
+}
+
+pub answers_memory : (m : State) (effect : Effect) (may : Bool) (c : Content) (old new : Keeping) → Gives m effect c old new (Err Memory) → Answers m effect may c old new ReplyNoMemory
+answers_memory m effect may c old new gives = record {
+  answer = NoMemory;
+  moves = gives.moves;
+  says = tt;
+  place = λ e. cc;
+  may_fill = λ e. cc;
+  fulls = λ e. cc;
+}
+
+-- one more, up to the end of the count
+rose : (old new : ℕ) → new ≡ counted true old → Rose old new
+rose old new is = let e : new ≡ min (old + 1) (2 ^ 64 - 1) = is in omega (arith, e)
+
+-- with no memory for the line the content is as before, too
+moves_short : (m : State) (effect : Effect) (c : Content) (old new : Keeping) → Moves m effect c old new (Some NoRoom) → Moves m effect c old new (Some Memory)
+moves_short m effect c old new moves = record {
+  next = moves.next;
+  stands = moves.stands;
+  goes = record { content = moves.goes.content; time = moves.goes.time; now = moves.goes.now };
+  same = moves.same;
+}
+
+pub answers_full : (m : State) (effect : Effect) (may : Bool) (c : Content) (old new : Keeping) (reply : Reply) → IsFullReply reply → may ≡ true → new.counts.fulls ≡ counted true old.counts.fulls → Gives m effect c old new (Err NoRoom) → Answers m effect may c old new reply
+answers_full m effect may c old new (ReplyText reply) is fills fulls gives = record {
+  answer = Full;
+  moves = gives.moves;
+  says = is;
+  place = λ e. gives.full refl;
+  may_fill = λ e. fills;
+  fulls = λ e. rose old.counts.fulls new.counts.fulls fulls;
+}
+answers_full m effect may c old new ReplyNoMemory is fills fulls gives = record {
+  answer = NoMemory;
+  moves = moves_short m effect c old new gives.moves;
+  says = tt;
+  place = λ e. cc;
+  may_fill = λ e. cc;
+  fulls = λ e. cc;
+}
+
+-- ---- which procedure is called
+
+pub call_sync : (m : State) (pack procedure : List ℕ) (args : List Arg) → (bytes_eq pack (codes "ctx_ddl") && bytes_eq procedure (codes "sync_index")) ≡ true → call m pack procedure args ≡ sync_index m args
+call_sync m pack procedure args is = ap (λ (b : Bool). cond b (sync_index m args) (cond (bytes_eq pack (codes "ctx_doc") && bytes_eq procedure (codes "policy_tokens")) (policy_tokens m args) (Refused NotUnderstood))) is
+
+pub call_tokens : (m : State) (pack procedure : List ℕ) (args : List Arg) → (bytes_eq pack (codes "ctx_ddl") && bytes_eq procedure (codes "sync_index")) ≡ false → (bytes_eq pack (codes "ctx_doc") && bytes_eq procedure (codes "policy_tokens")) ≡ true
+    → call m pack procedure args ≡ policy_tokens m args
+call_tokens m pack procedure args other is =
+    ap (λ (b : Bool). cond b (sync_index m args) (cond (bytes_eq pack (codes "ctx_doc") && bytes_eq procedure (codes "policy_tokens")) (policy_tokens m args) (Refused NotUnderstood))) other
+    ∙ ap (λ (b : Bool). cond b (policy_tokens m args) (Refused NotUnderstood)) is
+
+pub call_other : (m : State) (pack procedure : List ℕ) (args : List Arg) → (bytes_eq pack (codes "ctx_ddl") && bytes_eq procedure (codes "sync_index")) ≡ false → (bytes_eq pack (codes "ctx_doc") && bytes_eq procedure (codes "policy_tokens")) ≡ false
+    → call m pack procedure args ≡ Refused NotUnderstood
+call_other m pack procedure args other neither =
+    ap (λ (b : Bool). cond b (sync_index m args) (cond (bytes_eq pack (codes "ctx_doc") && bytes_eq procedure (codes "policy_tokens")) (policy_tokens m args) (Refused NotUnderstood))) other
+    ∙ ap (λ (b : Bool). cond b (policy_tokens m args) (Refused NotUnderstood)) neither

@@ -1,0 +1,55 @@
+-- What is found above a score, of all that is found.
+use Rattle.std.proofs.Common.{◌≡◌, ℕ, ℤ, ◌≤◌, arith, ltb-true, ltb-false, Bool, true, false, cond, List, [], ◌∷◌, map, Option, Some, None, refl, sym, ap, ◌∙◌}
+use Rattle.std.specs.Prelude.{nat_lt, filter}
+use Rattle.std.specs.List.{filter_map, cons_option}
+use Rattle.std.specs.FinMap.{entries}
+use Rattle.std.proofs.lemmas.Map.Entries.{option_filter}
+use Rattle.tb_table.specs.Tables.{Tables}
+use Rattle.ix_context.specs.Indexes.{Index, Mark, Pending, Marked, if_above, scored, found_at, text_seen, found}
+use Rattle.ix_context.specs.Postings.{word_score}
+
+none_above : (n score : ℕ) → nat_lt 0 score ≡ false → nat_lt n score ≡ false
+none_above n score h = let l = ltb-false 0 score h in not_below (nat_lt n score) refl l
+  where
+    not_below : (b : Bool) → nat_lt n score ≡ b → score ≤ 0 → b ≡ false
+    not_below true e l = let m = ltb-true n score e in absurd (omega (arith, m, l))
+    not_below false e l = refl
+
+above_of_all : (n : ℕ) (r : ℤ) (score : ℕ) → option_filter (λ (h : ℤ × ℕ). nat_lt n h.1) (if_above 0 r score) ≡ if_above n r score
+above_of_all n r score = go (nat_lt 0 score) refl
+  where
+    go : (b : Bool) → nat_lt 0 score ≡ b → option_filter (λ (h : ℤ × ℕ). nat_lt n h.1) (cond b (Some (r, score)) None) ≡ cond (nat_lt n score) (Some (r, score)) None
+    go true e = refl
+    go false e = ap (λ (b : Bool). cond b (Some (r, score)) None) (sym (none_above n score e))
+
+scored_of_all : (key : List ℕ) (n : ℕ) (r : ℤ) (text : Option (List ℕ)) → option_filter (λ (h : ℤ × ℕ). nat_lt n h.1) (scored key 0 r text) ≡ scored key n r text
+scored_of_all key n r None = refl
+scored_of_all key n r (Some text) = above_of_all n r (word_score key text)
+
+at_of_all : (ts : Tables) (x : Index) (key : List ℕ) (n : ℕ) (r : ℤ) (m : Mark) → option_filter (λ (h : ℤ × ℕ). nat_lt n h.1) (found_at ts x key 0 r m) ≡ found_at ts x key n r m
+at_of_all ts x key n r Pending = refl
+at_of_all ts x key n r Marked = scored_of_all key n r (text_seen ts x r)
+
+-- a filter of what is given is what is given through it
+kept : {Y : Type 0} (p : Y → Bool) (y : Y) (ys zs : List Y) (b : Bool) → p y ≡ b → filter p ys ≡ zs → cond b (y ∷ filter p ys) (filter p ys) ≡ cons_option (cond b (Some y) None) zs
+kept p y ys zs true is e = ap (λ l. y ∷ l) e
+kept p y ys zs false is e = e
+
+filter_cons : {Y : Type 0} (p : Y → Bool) (o q : Option Y) (ys zs : List Y) → option_filter p o ≡ q → filter p ys ≡ zs → filter p (cons_option o ys) ≡ cons_option q zs
+filter_cons p None q ys zs is e = e ∙ ap (λ (r : Option _). cons_option r zs) is
+filter_cons p (Some y) q ys zs is e = kept p y ys zs (p y) refl e ∙ ap (λ (r : Option _). cons_option r zs) is
+
+filter_given : {X Y : Type 0} (p : Y → Bool) (f g : X → Option Y) → ((x : X) → option_filter p (f x) ≡ g x) → (xs : List X) → filter p (filter_map f xs) ≡ filter_map g xs
+filter_given p f g same [] = refl
+filter_given p f g same (x ∷ xs) = filter_cons p (f x) (g x) (filter_map f xs) (filter_map g xs) (same x) (filter_given p f g same xs)
+
+pub above_filtered : (ts : Tables) (x : Index) (key : List ℕ) (n : ℕ) → filter (λ (h : ℤ × ℕ). nat_lt n h.1) (found ts x key 0) ≡ found ts x key n
+above_filtered ts x key n = filter_given (λ (h : ℤ × ℕ). nat_lt n h.1) (λ e. found_at ts x key 0 e.0 e.1) (λ e. found_at ts x key n e.0 e.1) (λ e. at_of_all ts x key n e.0 e.1) (entries x.marks)
+
+pub filter_mapped : {X Y : Type 0} (p : Y → Bool) (f : X → Y) (xs : List X) → map f (filter (λ x. p (f x)) xs) ≡ filter p (map f xs)
+filter_mapped p f [] = refl
+filter_mapped p f (x ∷ xs) = go (p (f x)) (filter_mapped p f xs)
+  where
+    go : (b : Bool) → map f (filter (λ x. p (f x)) xs) ≡ filter p (map f xs) → map f (cond b (x ∷ filter (λ x. p (f x)) xs) (filter (λ x. p (f x)) xs)) ≡ cond b (f x ∷ filter p (map f xs)) (filter p (map f xs))
+    go true rest = ap (λ l. f x ∷ l) rest
+    go false rest = rest

@@ -1,0 +1,26 @@
+use Rattle.std.proofs.Common.{◌≡◌, true, false, map, Bool, List, ℕ, Option, sym, ap, ◌∙◌}
+use Rattle.std.proofs.lemmas.Result.{err_from_is_err_and}
+use Rattle.ct_keep.specs.Content.{after}
+use Rattle.ct_keep.specs.Spoken.{spoken}
+use Rattle.db_engine.specs.Committing.{are_bounded}
+use Rattle.db_engine.proofs.Moving.{well_bounded, bounded_spoken, gives_committed, gives_uncommitted}
+use Rattle.db_engine.proofs.committing.commit.Goals as goal
+
+pub returns-then-not-are_bounded-clause-gives : goal.returns-then-not-are_bounded-clause-gives
+returns-then-not-are_bounded-clause-gives g c = λ m n k holds bounded stands.
+    let e : false ≡ true = sym c.if-not-are_bounded.true ∙ c.are_bounded.ensures ∙ bounded_spoken c.words.result.now ∙ ap are_bounded c.words.ensures ∙ bounded in
+    cc
+
+pub commit-requires-clause-well : goal.commit-requires-clause-well
+commit-requires-clause-well g c =
+    well_bounded (g.K.Keeper.keeping c.args.keeper.now).well c.requires.takes c.args.batch
+    (ap are_bounded (sym c.words.ensures) ∙ sym (bounded_spoken c.words.result.now) ∙ sym c.are_bounded.ensures ∙ c.if-not-are_bounded.false)
+
+pub returns-in_err-commit-clause-gives : goal.returns-in_err-commit-clause-gives
+returns-in_err-commit-clause-gives g c = λ m n k holds bounded stands.
+    let p = err_from_is_err_and c.from_residual.result c.from_residual.ensures.1 in
+    rw (p.1, p.2) (gives_uncommitted m n c.args.reply.items k (after c.args.batch k) _ _ c.in_err-commit.field-0.0 stands (c.in_err-commit.ensures.goes k holds) (c.in_err-commit.ensures.answers k holds))
+
+pub returns-clause-gives : goal.returns-clause-gives
+returns-clause-gives g c = λ m n k holds bounded stands.
+    gives_committed m n c.args.reply k (after c.args.batch k) _ _ stands (c.in_ok-commit.ensures.goes k holds)

@@ -1,0 +1,43 @@
+use Rattle.std.proofs.Common.{◌≡◌, ℕ, List, Option, Some, None, Err, sym, ap, subst, ◌∙◌}
+use Rattle.std.proofs.lemmas.Result.{err_from_is_err_and}
+use Rattle.ct_keep.specs.Content.{after}
+use Rattle.ct_keep.specs.Composing.{reads_hold}
+use Rattle.db_engine.specs.Committing.{are_bounded}
+use Rattle.db_engine.specs.Creating.{with_new_index}
+use Rattle.db_engine.specs.Refusals.{Does}
+use Rattle.db_engine.specs.Executing.{Gives}
+use Rattle.db_engine.specs.States.{Stands}
+use Rattle.db_engine.proofs.Moving.{gives_failed, gives_short, gives_then}
+use Rattle.db_engine.proofs.NewMarks.{found_none, found_some, new_index_stands, new_index_bounded}
+use Rattle.db_engine.proofs.indexing.commit_index.Goals as goal
+
+pub returns-in_err-batch-clause-gives : goal.returns-in_err-batch-clause-gives
+returns-in_err-batch-clause-gives g c = λ m k x holds stands small free.
+    let p = err_from_is_err_and c.from_residual.result c.from_residual.ensures.1 in
+    rw (p.1, p.2) (gives_failed m _ k _ _ c.in_err-batch.field-0.0 (g.met.K.Keeper.settled c.args.keeper.now c.requires.ready) holds stands c.in_err-batch.ensures.reads (λ e. c.in_err-batch.ensures.never_full (ap Err e)))
+
+pub returns-in_err-fault_line-clause-gives : goal.returns-in_err-fault_line-clause-gives
+returns-in_err-fault_line-clause-gives g c = λ m k x holds stands small free.
+    let p = err_from_is_err_and c.from_residual-in_err-fault_line.result c.from_residual-in_err-fault_line.ensures.1 in
+    rw (p.1, p.2) (gives_short m _ k _ _ (g.met.K.Keeper.settled c.args.keeper.now c.requires.ready) holds stands c.in_ok-batch.ensures.reads)
+
+pub returns-in_default-clause-gives : goal.returns-in_default-clause-gives
+returns-in_default-clause-gives g c = λ m k x holds stands small free.
+    absurd (found_none c.in_ok-batch.field-0 _ _ c.in_default.is (c.in_ok-batch.ensures.words m k x holds stands small free))
+
+pub returns-in_err-reply-clause-gives : goal.returns-in_err-reply-clause-gives
+returns-in_err-reply-clause-gives g c = λ m k x holds stands small free.
+    let p = err_from_is_err_and c.from_residual-in_err-reply.result c.from_residual-in_err-reply.ensures.1 in
+    rw (p.1, p.2) (gives_short m _ k _ _ (g.met.K.Keeper.settled c.args.keeper.now c.requires.ready) holds stands c.in_ok-batch.ensures.reads)
+
+pub returns-clause-gives : goal.returns-clause-gives
+returns-clause-gives g c = λ m k x holds stands small free.
+    let i = c.args.index.now in
+    let t = c.args.table.now in
+    let place = c.args.place in
+    let words = found_some c.in_ok-batch.field-0 c.in-Some.batch _ _ c.in-Some.is (c.in_ok-batch.ensures.words m k x holds stands small free) in
+    gives_then m _ k _ _ _ c.commit.result c.in_ok-batch.ensures.reads
+    (subst (λ (reply : List ℕ). Gives m (Does (with_new_index m i t place) reply) k (g.K.Keeper.keeping c.created.new.keeper) (g.K.Keeper.keeping c.commit.new.keeper) c.commit.result) c.in_ok-reply.ensures
+    (c.commit.ensures.gives m (with_new_index m i t place) k (reads_hold _ _ k c.in_ok-batch.ensures.reads holds)
+    (ap are_bounded words ∙ new_index_bounded k m i t x place stands c.requires.named free)
+    (subst (λ (b : List (List ℕ × Option (List ℕ))). Stands (after b k) (with_new_index m i t place)) (sym words) (new_index_stands k m i t x place stands c.requires.named free))))

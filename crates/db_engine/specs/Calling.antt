@@ -1,0 +1,130 @@
+-- What the calls of procedures do.
+use Rattle.std.specs.Prelude.{ℕ, pos, ◌+◌, ◌-◌, ◌==◌, nat_le, nat_lt, Bool, true, false, not, ◌||◌, ◌&&◌, is_some, List, [], ◌∷◌, length, map, Option, Some, None, codes, bytes_eq, ◌≡◌, refl}
+use Rattle.std.specs.Bool.{if◌then◌else◌}
+use Rattle.std.specs.Char.{to_ascii_lowercase, is_ascii_digit}
+use Rattle.std.specs.List.{flat_map}
+use Rattle.std.specs.Option.{option_and_then}
+use Rattle.std.specs.Str.{chars}
+use Rattle.std.specs.FinMap.{get}
+use Rattle.ct_base.specs.Names.{is_spelling}
+use Rattle.ct_base.specs.declared.lists.Value.{Value}
+use Rattle.ct_base.specs.declared.lists.Value.TheVariants.{Number, Text}
+use Rattle.tx_lexer.specs.declared.tokens.Token.{Token}
+use Rattle.tx_lexer.specs.Tokens.{tokens, default}
+use Rattle.st_parse.specs.declared.statements.Arg.{Arg}
+use Rattle.st_parse.specs.declared.statements.Arg.TheVariants.{Text as TextArg, Number as NumberArg, Flag}
+use Rattle.ix_context.specs.Indexes.{Index, pending_rows, synced}
+use Rattle.ix_context.specs.Rules.{most_given}
+use Rattle.tb_table.specs.Rules.{text_limit}
+use Rattle.db_cond.specs.Faults.{NotUnderstood, UnknownName, WrongValues, ValueTooLong, BadValue, LimitReached, no_rows}
+use Rattle.db_cond.specs.Lines.{line}
+use Rattle.db_engine.specs.States.{State}
+use Rattle.db_engine.specs.Refusals.{Effect, Refused, Does, refuse, refuse_by, with_found}
+
+-- ---- lines
+
+-- the lines of a query
+abbrev pub lines_or_none : List (List Value) → List ℕ
+lines_or_none [] = no_rows
+lines_or_none (row ∷ rows) = flat_map line (row ∷ rows)
+
+abbrev pub call_done : List ℕ
+call_done = codes "PL/SQL procedure successfully completed.\n"
+
+-- ---- CTX_DOC.POLICY_TOKENS
+
+-- the line of a token: its key, the place of its first byte, and how many bytes of the text it has
+abbrev pub token_line : Token → List Value
+token_line t = Text t.key ∷ Number (pos t.start) ∷ Number (pos (t.end - t.start)) ∷ []
+
+abbrev pub tokens_of_text : State → List ℕ → Effect
+tokens_of_text m text = refuse (nat_lt text_limit (length text)) ValueTooLong (Does m (lines_or_none (map token_line (tokens default (chars text)))))
+
+abbrev pub policy_tokens : State → List Arg → Effect
+policy_tokens m (TextArg text ∷ []) = tokens_of_text m text
+policy_tokens m args = Refused WrongValues
+
+-- ---- CTX_DDL.SYNC_INDEX
+
+-- the name that an argument spells, in lower case
+abbrev pub spelt_name : List ℕ → Option (List ℕ)
+spelt_name text = if is_spelling text then Some (map to_ascii_lowercase text) else None
+
+abbrev pub name_arg : List Arg → Option (List ℕ)
+name_arg (TextArg text ∷ args) = spelt_name text
+name_arg args = None
+
+-- the index by its name, and a size of memory, which has no effect
+abbrev pub are_sync_args : List Arg → Bool
+are_sync_args (TextArg name ∷ []) = true
+are_sync_args (TextArg name ∷ TextArg memory ∷ []) = true
+are_sync_args args = false
+
+-- digits, and then one of K, M and G in any case; `some` tells whether there was a digit
+abbrev pub is_unit : ℕ → Bool
+is_unit b = (to_ascii_lowercase b == 0x6b) || ((to_ascii_lowercase b == 0x6d) || (to_ascii_lowercase b == 0x67))
+
+abbrev pub is_size_from : Bool → List ℕ → Bool
+is_size_from some [] = false
+is_size_from some (b ∷ []) = some && is_unit b
+is_size_from some (b ∷ c ∷ bs) = is_ascii_digit b && is_size_from true (c ∷ bs)
+
+abbrev pub is_memory_size : List ℕ → Bool
+is_memory_size text = is_size_from false text
+
+abbrev pub is_bad_size : List Arg → Bool
+is_bad_size (TextArg name ∷ TextArg memory ∷ []) = not (is_memory_size memory)
+is_bad_size args = false
+
+-- the name, where no index has it
+abbrev pub unknown_name : Bool → Option (List ℕ) → Option (List ℕ)
+unknown_name true name = None
+unknown_name false name = name
+
+-- the checks in their order, by the name that no index has, if it is one
+abbrev pub check_sync : Option (List ℕ) → List Arg → Effect → Effect
+check_sync unknown args done =
+    refuse_by unknown UnknownName
+    (refuse (not (are_sync_args args)) WrongValues
+    (refuse (is_bad_size args) BadValue
+    done))
+
+-- there are too few numbers for the rows that wait
+abbrev pub has_too_many : Index → Bool
+has_too_many x = nat_lt most_given (x.given + length (pending_rows x))
+
+abbrev pub with_synced : State → List ℕ → State
+with_synced m i = record m { indexes = synced m.indexes i }
+
+abbrev pub sync_found : State → List ℕ → Index → Effect
+sync_found m i x = refuse (has_too_many x) LimitReached (Does (with_synced m i) call_done)
+
+abbrev pub sync_named : State → Option (List ℕ) → Effect
+sync_named m None = Refused BadValue
+sync_named m (Some i) = with_found (get m.indexes i) (UnknownName i) (λ (x : Index). sync_found m i x)
+
+abbrev pub has_index : State → Option (List ℕ) → Bool
+has_index m None = false
+has_index m (Some i) = is_some (get m.indexes i)
+
+abbrev pub sync_index : State → List Arg → Effect
+sync_index m args = check_sync (unknown_name (has_index m (name_arg args)) (name_arg args)) args (sync_named m (name_arg args))
+
+-- ---- which procedure is called
+
+-- so far there are CTX_DDL.SYNC_INDEX and CTX_DOC.POLICY_TOKENS
+abbrev pub call : State → List ℕ → List ℕ → List Arg → Effect
+call m pack procedure args =
+    if bytes_eq pack (codes "ctx_ddl") && bytes_eq procedure (codes "sync_index") then sync_index m args
+    else (if bytes_eq pack (codes "ctx_doc") && bytes_eq procedure (codes "policy_tokens") then policy_tokens m args
+    else Refused NotUnderstood)
+
+-- computed examples
+sixteen_megabytes : is_memory_size (codes "16m") ≡ true
+sixteen_megabytes = refl
+
+no_digits : is_memory_size (codes "M") ≡ false
+no_digits = refl
+
+no_unit : is_memory_size (codes "16") ≡ false
+no_unit = refl

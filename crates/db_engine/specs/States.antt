@@ -1,0 +1,80 @@
+-- What the statements so far have made.
+use Rattle.std.specs.Prelude.{ℕ, ◌≡◌, ◌≤◌, Bool, true, false, ◌||◌, List, length, filter, Some, None, codes, bytes_eq}
+use Rattle.std.specs.FinMap.{get, empty, entries}
+use Rattle.ct_keep.specs.Content.{Content}
+use Rattle.ct_entry.specs.declared.kinds.Kind.{Kind}
+use Rattle.ct_entry.specs.declared.kinds.Kind.TheVariants as kind
+use Rattle.ct_entry.specs.Keys.{Key, HasKeysOnly, at, same_list}
+use Rattle.ct_entry.specs.Maps.{Names}
+use Rattle.tb_table.specs.Tables.{Table, Tables}
+use Rattle.tb_table.specs.Spelling.{TablesStand}
+use Rattle.tb_table.specs.Rules.{AreTables}
+use Rattle.ix_context.specs.Indexes.{Index}
+use Rattle.ix_context.specs.Spelling.{IndexesStand}
+use Rattle.ix_context.specs.Rules.{AreIndexes}
+
+-- the tables with their rows, and the text indexes on them
+pub record State : Type 0 where
+  pub tables : Tables
+  pub indexes : Names Index
+
+-- as a new store has it
+abbrev pub empty_state : State
+empty_state = record { tables = empty; indexes = empty }
+
+-- the names that are kept for what is only looked at, and are never those of tables
+abbrev pub is_view : List ℕ → Bool
+is_view name = bytes_eq name (codes "ctx_user_pending") || bytes_eq name (codes "ctx_user_index_errors")
+
+-- the indexes on a table
+abbrev pub indexes_on : Names Index → List ℕ → List (List ℕ × Index)
+indexes_on xs t = filter (λ e. same_list e.1.table t) (entries xs)
+
+-- how many indexes a table has at most, and how many tables there are
+abbrev pub most_indexes : ℕ
+most_indexes = 16
+
+abbrev pub most_tables : ℕ
+most_tables = 64
+
+-- The rules that hold in every state.
+pub record IsState (m : State) : Type 0 where
+  pub tables : AreTables m.tables
+  pub indexes : AreIndexes m.tables m.indexes
+  pub views : (t : List ℕ) (x : Table) → get m.tables t ≡ Some x → is_view t ≡ false
+  pub few : (t : List ℕ) → length (indexes_on m.indexes t) ≤ most_indexes
+
+-- A keeper may hold any entry, within the bounds.
+abbrev pub TakesAll : (List ℕ → List ℕ → Bool) → Type 0
+TakesAll well = (key value : List ℕ) → well key value ≡ true
+
+-- the kinds of entries that tables and CONTEXT indexes have; for now there is nothing else that is kept
+abbrev pub is_built : Kind → Bool
+is_built kind.Tables = true
+is_built kind.RowNumbers = true
+is_built kind.RowTexts = true
+is_built kind.Preferences = false
+is_built kind.Stoplists = false
+is_built kind.SectionGroups = false
+is_built kind.IndexSets = false
+is_built kind.Thesauri = false
+is_built kind.Relations = false
+is_built kind.Indexes = true
+is_built kind.DocumentRows = true
+is_built kind.RowDocuments = true
+is_built kind.Pending = true
+is_built kind.Postings = true
+is_built kind.Spans = true
+is_built kind.Catalogue = false
+is_built kind.Rules = false
+is_built kind.Anchors = false
+is_built kind.RuleFaults = false
+
+-- The content's entries spell this state, and there is no other entry.
+pub record Stands (c : Content) (m : State) : Type 0 where
+  pub only : HasKeysOnly c
+  -- no entry of another kind
+  pub unbuilt : (k : Key) → is_built k.kind ≡ false → at c k ≡ None
+  pub tables : TablesStand (at c) m.tables
+  pub indexes : IndexesStand (at c) m.tables m.indexes
+  pub state : IsState m

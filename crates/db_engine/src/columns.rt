@@ -1,0 +1,21 @@
+//! The columns of a table by their names.
+#![tactic(auto)]
+
+ghost use Rattle.std.specs.Prelude.{◌≡◌};
+ghost use Rattle.db_engine.specs.Refusals.{place_of as column_place};
+
+use ct_base::Name;
+use tb_table::Column;
+
+/// The place of a column by its name, that of the key being 0. Its cost is the number of columns.
+pub(crate) fn place_of(name: &Name, columns: &[Column]) -> Option<usize>
+    ensures { result ≡ column_place name.now columns.now }
+{
+    let name = name.as_str();
+    for (place, column) in columns.iter().enumerate() {
+        if name == column.name.as_str() {
+            return Some(place);
+        }
+    }
+    None
+}

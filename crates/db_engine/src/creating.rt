@@ -1,0 +1,225 @@
+//! CREATE TABLE.
+#![tactic(auto, using(ct_keep::specs::Composing::reads_on, ct_keep::specs::Composing::reads_short))]
+
+ghost use Rattle.std.specs.Prelude.{All, ◌≡◌, ◌≤◌, IfOk, Some, None, Err, true, not, ◌&&◌, nat_le, length, map, is_some};
+ghost use Rattle.std.specs.List.{list_any, list_all};
+ghost use Rattle.std.specs.Option.{unwrap_or};
+ghost use Rattle.std.specs.FinMap.{get, entries};
+ghost use Rattle.ct_base.specs.Names.{IsName};
+ghost use Rattle.ct_keep.specs.Content.{Content};
+ghost use Rattle.ct_keep.specs.Keeping.{Kept, Reads, counted, fault_of, is_full};
+ghost use Rattle.ct_entry.specs.Keys.{same_list};
+ghost use Rattle.st_parse.specs.declared.statements.ColumnText.{ColumnText};
+ghost use Rattle.tb_table.specs.declared.columns.Column.{Column};
+ghost use Rattle.db_engine.specs.States.{State, Stands, TakesAll, is_view as is_view_name, most_tables};
+ghost use Rattle.db_engine.specs.Refusals.{Effect, Does, as_count};
+ghost use Rattle.db_engine.specs.Creating.{are_apart as columns_apart, check_table, column_of, all_sized, is_size, create_table as create_table_effect, is_key_first as key_first, is_number as sort_is_number, is_sized as sort_sized, sort_of, table_created, with_new_table, IsFreeTable};
+ghost use Rattle.db_engine.specs.Checking.{Checks};
+ghost use Rattle.db_engine.specs.Executing.{Gives};
+
+use crate::committing::{commit, fixed_reply};
+use crate::looking::{has_most_tables, has_table};
+use ct_base::{Memory, Name};
+use ct_keep::{Batch, KeepFault, Keeper};
+use db_cond::{Fault, fault_line};
+use st_parse::{ColumnText, SortText, Whole};
+use std::alloc::Global;
+use tb_table::{Column, Sort, create};
+
+/// How many columns a table has at most.
+const MOST_COLUMNS: usize = 16;
+
+/// How many bytes a text of any type has at most.
+const TEXT_LIMIT: i64 = 4000;
+
+/// Whether a name is kept for what is only looked at.
+pub(crate) fn is_view(name: &str) -> bool
+    ensures { result ≡ is_view_name name.now }
+{
+    name == "ctx_user_pending" || name == "ctx_user_index_errors"
+}
+
+fn is_number(sort: SortText) -> bool
+    ensures { result ≡ sort_is_number sort }
+{
+    match sort {
+        SortText::Number => true,
+        SortText::Varchar2(_) | SortText::Clob => false,
+    }
+}
+
+/// Whether none of the columns is called the primary key.
+fn is_none_primary(columns: &[ColumnText]) -> bool
+    ensures { result ≡ list_all (λ (d : ColumnText). not d.primary) columns.now }
+{
+    columns.iter().all(|column| !column.primary)
+}
+
+/// Whether the first column, and no other, is NUMBER PRIMARY KEY.
+fn is_key_first(columns: &[ColumnText]) -> bool
+    ensures { result ≡ key_first columns.now }
+{
+    match columns {
+        [] => false,
+        [first, others @ ..] => {
+            is_number(first.sort) && first.primary && is_none_primary(others)
+        }
+    }
+}
+
+/// Whether one of the columns has the name.
+fn has_name(columns: &[ColumnText], name: &Name) -> bool
+    ensures { result ≡ list_any (λ (d : ColumnText). same_list name.now d.name) columns.now }
+{
+    columns
+        .iter()
+        .any(|column| name.as_str() == column.name.as_str())
+}
+
+/// Whether no two columns have one name.
+fn are_apart(columns: &[ColumnText]) -> bool
+    ensures { result ≡ columns_apart columns.now }
+{
+    let mut rest = columns;
+    while let [first, others @ ..] = rest {
+        if has_name(others, &first.name) {
+            return false;
+        }
+        rest = others;
+    }
+    true
+}
+
+/// Whether a VARCHAR2 column has a size from 1 to 4000.
+fn is_sized(column: &ColumnText) -> bool
+    ensures { result ≡ sort_sized column.now.sort }
+{
+    match column.sort {
+        SortText::Varchar2(Whole::Fits(size)) => 1 <= size && size <= TEXT_LIMIT,
+        SortText::Varchar2(Whole::Beyond) => false,
+        SortText::Number | SortText::Clob => true,
+    }
+}
+
+/// Whether each VARCHAR2 column has a size from 1 to 4000.
+fn are_sized(columns: &[ColumnText]) -> bool
+    ensures { result ≡ all_sized columns.now }
+{
+    columns.iter().all(|column| is_sized(column))
+}
+
+/// The first check that fails of a table that is created; `there` tells whether it is there, `many` whether there are as many
+/// tables as there may be.
+fn table_fault<'a>(
+    there: bool,
+    many: bool,
+    table: &'a Name,
+    columns: &[ColumnText],
+) -> Option<Fault<'a>>
+    ensures checks { (done : Effect) → Checks result (check_table there many table.now columns.now done) done }
+    ensures few { result ≡ None → length columns.now ≤ 16 }
+    ensures named { IsName table.now }
+{
+    let name = table.as_str();
+    if there || is_view(name) {
+        return Some(Fault::ExistsAlready(name));
+    }
+    if !(is_key_first(columns) && are_apart(columns)) {
+        return Some(Fault::WrongValues);
+    }
+    if !are_sized(columns) {
+        return Some(Fault::OutOfRange);
+    }
+    if columns.len() > MOST_COLUMNS || many {
+        return Some(Fault::LimitReached);
+    }
+    None
+}
+
+/// The size of a VARCHAR2 column, which is checked.
+fn kept_size(size: Whole) -> u16
+    ensures { is_size (as_count size) ≡ true → result ≡ unwrap_or (as_count size) 0 }
+{
+    match size {
+        Whole::Fits(size) => u16::try_from(size).unwrap_or(0),
+        Whole::Beyond => 0,
+    }
+}
+
+/// The type of a column as tables keep it.
+fn kept_sort(sort: SortText) -> Sort
+    ensures { sort_sized sort ≡ true → result ≡ sort_of sort }
+{
+    match sort {
+        SortText::Number => Sort::Number,
+        SortText::Varchar2(size) => Sort::Varchar2(kept_size(size)),
+        SortText::Clob => Sort::Clob,
+    }
+}
+
+/// A column as tables keep it.
+fn kept_column(column: &ColumnText) -> Result<Column, Memory>
+    ensures kept { IfOk result (λ kept. sort_sized column.now.sort ≡ true → kept ≡ column_of column.now) }
+    ensures named { IfOk result (λ kept. IsName kept.name) }
+{
+    Ok(Column {
+        name: column.name.clone()?,
+        sort: kept_sort(column.sort),
+    })
+}
+
+/// The columns as tables keep them.
+fn kept_columns(alloc: Global, columns: &[ColumnText]) -> Result<Vec<Column>, Memory>
+    ensures kept { IfOk result (λ kept. all_sized columns.now ≡ true → kept.items ≡ map column_of columns.now) }
+    ensures same { IfOk result (λ kept. length kept.items ≡ length columns.now) }
+    ensures named { IfOk result (λ kept. All (λ (k : Column). IsName k.name) kept.items) }
+{
+    let mut kept = Vec::new(alloc);
+    for column in columns {
+        kept.push(kept_column(column)?)?;
+    }
+    Ok(kept)
+}
+
+/// Makes a table that has passed the checks.
+fn commit_table<K: Keeper>(
+    alloc: Global,
+    keeper: &mut K,
+    table: &Name,
+    columns: &[ColumnText],
+) -> Result<Vec<u8>, KeepFault>
+    requires ready { (K.keeping keeper.old).ready }
+    requires takes { TakesAll (K.keeping keeper.old).well }
+    requires few { length columns.now ≤ 16 }
+    requires named { IsName table.now }
+    ensures kept { Kept (K.keeping keeper.old) (K.keeping keeper.new) (fault_of result) }
+    ensures fulls { (K.keeping keeper.new).counts.fulls ≡ counted (is_full (fault_of result)) (K.keeping keeper.old).counts.fulls }
+    ensures gives { (m : State) (c : Content) → (K.keeping keeper.old).content ≡ Some c → Stands c m → IsFreeTable m table.now columns.now → Gives m (Does (with_new_table m table.now columns.now) table_created) c (K.keeping keeper.old) (K.keeping keeper.new) result }
+{
+    let columns = kept_columns(alloc, columns)?;
+    let mut batch = Batch::new(alloc);
+    create(alloc, &mut batch, table, &columns)?;
+    let reply = fixed_reply(alloc, b"Table created.\n")?;
+    commit(alloc, keeper, batch, reply)
+}
+
+/// CREATE TABLE.
+pub(crate) fn create_table<K: Keeper>(
+    alloc: Global,
+    keeper: &mut K,
+    table: &Name,
+    columns: &[ColumnText],
+) -> Result<Vec<u8>, KeepFault>
+    requires ready { (K.keeping keeper.old).ready }
+    requires takes { TakesAll (K.keeping keeper.old).well }
+    ensures kept { Kept (K.keeping keeper.old) (K.keeping keeper.new) (fault_of result) }
+    ensures fulls { (K.keeping keeper.new).counts.fulls ≡ counted (is_full (fault_of result)) (K.keeping keeper.old).counts.fulls }
+    ensures gives { (m : State) (c : Content) → (K.keeping keeper.old).content ≡ Some c → Stands c m → Gives m (create_table_effect m table.now columns.now) c (K.keeping keeper.old) (K.keeping keeper.new) result }
+{
+    let there = has_table(alloc, keeper, table)?;
+    let many = has_most_tables(alloc, keeper)?;
+    if let Some(fault) = table_fault(there, many, table, columns) {
+        return Ok(fault_line(alloc, fault)?);
+    }
+    commit_table(alloc, keeper, table, columns)
+}

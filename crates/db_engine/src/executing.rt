@@ -1,0 +1,253 @@
+//! Executes statements, each by at most one commit.
+#![tactic(auto, using(ct_keep::specs::Composing::reads_on, ct_keep::specs::Composing::reads_short))]
+
+ghost use Rattle.std.specs.Prelude.{◌≡◌, ◌&&◌, IfOk, Some, Err, true, not, codes, bytes_eq};
+ghost use Rattle.ct_keep.specs.Content.{Content};
+ghost use Rattle.ct_keep.specs.Keeping.{Kept, Reads, counted, fault_of, is_full};
+ghost use Rattle.db_cond.specs.Faults.{NotUnderstood, refusal_line};
+ghost use Rattle.db_engine.specs.Refusals.{refuse, reply_by, state_by};
+ghost use Rattle.db_engine.specs.Creating.{create_index as create_index_effect};
+ghost use Rattle.db_engine.specs.States.{State, Stands, TakesAll};
+ghost use Rattle.db_engine.specs.Steps.{effect, is_built_index as built_index, may_fill, may_fill_by, select_by as select_effect};
+ghost use Rattle.db_engine.specs.Calling.{call as call_effect};
+ghost use Rattle.db_engine.specs.Executing.{Executes, Gives, IsFullReply, fault_of_stop};
+
+use crate::calling::policy_tokens;
+use crate::committing::fixed_reply;
+use crate::creating::{create_table, is_view};
+use crate::indexing::create_index;
+use crate::inserting::insert_into;
+use crate::replies::{Reply, Stop};
+use crate::selecting::select;
+use crate::syncing::sync_index;
+use ct_base::{Bytes, Memory, Name, Text};
+use ct_keep::{KeepFault, Keeper};
+use db_cond::{not_understood, store_full};
+use st_parse::{Arg, IndexKind, Pred, SelectList, Statement, Whole};
+use std::alloc::Global;
+use std::thread::Threads;
+
+/// The reply of a statement that isn't built yet.
+fn not_built(alloc: Global) -> Result<Vec<u8>, Memory>
+    ensures { IfOk result (λ reply. reply.items ≡ refusal_line NotUnderstood) }
+{
+    fixed_reply(alloc, not_understood())
+}
+
+/// The rows that a SELECT of a list with one CONTAINS gives.
+fn selected<K: Keeper>(
+    alloc: Global,
+    keeper: &mut K,
+    list: &SelectList,
+    table: &Name,
+    preds: &[Pred],
+) -> Result<Vec<u8>, KeepFault>
+    requires { (K.keeping keeper.old).ready }
+    ensures reads { Reads (K.keeping keeper.old) (K.keeping keeper.new) (fault_of result) }
+    ensures never_full { result ≡ Err KeepFault.Full → ⊥ }
+    ensures reply { (m : State) (c : Content) → (K.keeping keeper.old).content ≡ Some c → Stands c m → IfOk result (λ reply. reply.items ≡ reply_by (select_effect m list.now table.now preds.now)) }
+    ensures state { (m : State) → state_by m (select_effect m list.now table.now preds.now) ≡ m }
+{
+    let SelectList::Items(items) = list else {
+        return Ok(not_built(alloc)?);
+    };
+    let [
+        Pred::Contains {
+            column,
+            query,
+            label,
+            above,
+        },
+    ] = preds
+    else {
+        return Ok(not_built(alloc)?);
+    };
+    if is_view(table.as_str()) {
+        return Ok(not_built(alloc)?);
+    }
+    select(
+        alloc,
+        keeper,
+        items.as_slice(),
+        table,
+        column,
+        query.as_str(),
+        *label,
+        *above,
+    )
+}
+
+/// SELECT.
+fn select_statement<K: Keeper>(
+    alloc: Global,
+    keeper: &mut K,
+    list: &SelectList,
+    table: &Name,
+    preds: &[Pred],
+) -> Result<Vec<u8>, KeepFault>
+    requires { (K.keeping keeper.old).ready }
+    ensures kept { Kept (K.keeping keeper.old) (K.keeping keeper.new) (fault_of result) }
+    ensures fulls { (K.keeping keeper.new).counts.fulls ≡ counted (is_full (fault_of result)) (K.keeping keeper.old).counts.fulls }
+    ensures gives { (m : State) (c : Content) → (K.keeping keeper.old).content ≡ Some c → Stands c m → Gives m (select_effect m list.now table.now preds.now) c (K.keeping keeper.old) (K.keeping keeper.new) result }
+    ensures never_full { result ≡ Err KeepFault.Full → ⊥ }
+{
+    selected(alloc, keeper, list, table, preds)
+}
+
+/// Whether a procedure is CTX_DDL.SYNC_INDEX.
+fn is_sync(pack: &Name, procedure: &Name) -> bool
+    ensures { result ≡ (bytes_eq pack.now (codes "ctx_ddl") && bytes_eq procedure.now (codes "sync_index")) }
+{
+    pack.as_str() == "ctx_ddl" && procedure.as_str() == "sync_index"
+}
+
+/// Whether a procedure is CTX_DOC.POLICY_TOKENS.
+fn is_tokens(pack: &Name, procedure: &Name) -> bool
+    ensures { result ≡ (bytes_eq pack.now (codes "ctx_doc") && bytes_eq procedure.now (codes "policy_tokens")) }
+{
+    pack.as_str() == "ctx_doc" && procedure.as_str() == "policy_tokens"
+}
+
+/// The call of a procedure.
+fn call<K: Keeper>(
+    alloc: Global,
+    keeper: &mut K,
+    pack: &Name,
+    procedure: &Name,
+    args: &[Arg],
+) -> Result<Vec<u8>, KeepFault>
+    requires ready { (K.keeping keeper.old).ready }
+    requires takes { TakesAll (K.keeping keeper.old).well }
+    ensures kept { Kept (K.keeping keeper.old) (K.keeping keeper.new) (fault_of result) }
+    ensures fulls { (K.keeping keeper.new).counts.fulls ≡ counted (is_full (fault_of result)) (K.keeping keeper.old).counts.fulls }
+    ensures gives { (m : State) (c : Content) → (K.keeping keeper.old).content ≡ Some c → Stands c m → Gives m (call_effect m pack.now procedure.now args.now) c (K.keeping keeper.old) (K.keeping keeper.new) result }
+    ensures may { result ≡ Err KeepFault.Full → may_fill_by pack.now ≡ true }
+{
+    if is_sync(pack, procedure) {
+        return sync_index(alloc, keeper, args);
+    }
+    if is_tokens(pack, procedure) {
+        return Ok(policy_tokens(alloc, args)?);
+    }
+    Ok(not_built(alloc)?)
+}
+
+/// Whether an index is of kind CONTEXT, without PARAMETERS and PARALLEL: so far no other is built.
+fn is_built_index(kind: IndexKind, parameters: &Option<Text>, parallel: &Option<Whole>) -> bool
+    ensures { result ≡ built_index kind parameters.now parallel.now }
+{
+    matches!(kind, IndexKind::Context) && parameters.is_none() && parallel.is_none()
+}
+
+/// CREATE INDEX, where it is built.
+fn index_statement<K: Keeper>(
+    alloc: Global,
+    keeper: &mut K,
+    index: &Name,
+    table: &Name,
+    column: &Name,
+    built: bool,
+) -> Result<Vec<u8>, KeepFault>
+    requires ready { (K.keeping keeper.old).ready }
+    requires takes { TakesAll (K.keeping keeper.old).well }
+    ensures kept { Kept (K.keeping keeper.old) (K.keeping keeper.new) (fault_of result) }
+    ensures fulls { (K.keeping keeper.new).counts.fulls ≡ counted (is_full (fault_of result)) (K.keeping keeper.old).counts.fulls }
+    ensures gives { (m : State) (c : Content) → (K.keeping keeper.old).content ≡ Some c → Stands c m → Gives m (refuse (not built) NotUnderstood (create_index_effect m index.now table.now column.now)) c (K.keeping keeper.old) (K.keeping keeper.new) result }
+{
+    if !built {
+        return Ok(not_built(alloc)?);
+    }
+    create_index(alloc, keeper, index, table, column)
+}
+
+/// The reply to a statement: its lines, with their newlines.
+fn reply_to<K: Keeper>(
+    alloc: Global,
+    keeper: &mut K,
+    statement: &Statement,
+) -> Result<Vec<u8>, KeepFault>
+    requires ready { (K.keeping keeper.old).ready }
+    requires takes { TakesAll (K.keeping keeper.old).well }
+    ensures kept { Kept (K.keeping keeper.old) (K.keeping keeper.new) (fault_of result) }
+    ensures fulls { (K.keeping keeper.new).counts.fulls ≡ counted (is_full (fault_of result)) (K.keeping keeper.old).counts.fulls }
+    ensures gives { (m : State) (c : Content) → (K.keeping keeper.old).content ≡ Some c → Stands c m → Gives m (effect m statement.now) c (K.keeping keeper.old) (K.keeping keeper.new) result }
+    ensures may { result ≡ Err KeepFault.Full → may_fill statement.now ≡ true }
+{
+    match statement {
+        Statement::CreateTable { name, columns } => {
+            create_table(alloc, keeper, name, columns.as_slice())
+        }
+        Statement::CreateIndex {
+            name,
+            table,
+            column,
+            kind,
+            parameters,
+            parallel,
+        } => {
+            let built = is_built_index(*kind, parameters, parallel);
+            index_statement(alloc, keeper, name, table, column, built)
+        }
+        Statement::Insert {
+            table,
+            columns,
+            values,
+        } => insert_into(alloc, keeper, table, columns, values.as_slice()),
+        Statement::Select {
+            list,
+            table,
+            preds,
+            ..
+        } => select_statement(alloc, keeper, list, table, preds.as_slice()),
+        Statement::Exec {
+            package,
+            procedure,
+            args,
+        } => call(alloc, keeper, package, procedure, args.as_slice()),
+        Statement::DropTable { .. }
+        | Statement::DropIndex { .. }
+        | Statement::Update { .. }
+        | Statement::Delete { .. }
+        | Statement::Commit => Ok(not_built(alloc)?),
+    }
+}
+
+/// The reply that there is no room, or that there is no memory for it.
+fn full_reply(alloc: Global) -> Reply
+    ensures { IsFullReply result }
+{
+    match fixed_reply(alloc, store_full()) {
+        Ok(lines) => Reply::Text(Bytes::of(lines)),
+        Err(Memory) => Reply::NoMemory,
+    }
+}
+
+/// Executes a statement, by at most one commit: the reply is the whole text, with its newlines, or NoMemory, with which the
+/// content is as before. A statement that is refused leaves the content as it was. `degree` parts of it may be done at once;
+/// so far none is.
+///
+/// Its cost is that of the statement: a SELECT reads the rows of its word and the fields that it asks for, an INSERT writes
+/// one row, a synchronisation costs what the texts of the rows that wait hold, times a logarithm.
+///
+/// # Errors
+///
+/// Disk, only where the count of faults of the keeper's disk rose; the keeper may not be called again.
+pub fn execute<R: Threads + Sync, K: Keeper>(
+    _rt: &R,
+    alloc: Global,
+    _degree: u32,
+    keeper: &mut K,
+    statement: &Statement,
+) -> Result<Reply, Stop>
+    requires ready { (K.keeping keeper.old).ready }
+    requires takes { TakesAll (K.keeping keeper.old).well }
+    ensures kept { Kept (K.keeping keeper.old) (K.keeping keeper.new) (fault_of_stop result) }
+    ensures executes { (m : State) (c : Content) → (K.keeping keeper.old).content ≡ Some c → Stands c m → Executes m (effect m statement.now) (may_fill statement.now) c (K.keeping keeper.old) (K.keeping keeper.new) result }
+{
+    match reply_to(alloc, keeper, statement) {
+        Ok(lines) => Ok(Reply::Text(Bytes::of(lines))),
+        Err(KeepFault::Memory) => Ok(Reply::NoMemory),
+        Err(KeepFault::Full) => Ok(full_reply(alloc)),
+        Err(KeepFault::Disk) => Err(Stop::Disk),
+    }
+}

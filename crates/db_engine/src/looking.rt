@@ -1,0 +1,65 @@
+//! What statements ask of the tables.
+#![tactic(auto, using(ct_keep::specs::Composing::reads_on, ct_keep::specs::Composing::reads_short))]
+
+ghost use Rattle.std.specs.Prelude.{◌≡◌, IfOk, Some, Err, is_some, nat_le, length};
+ghost use Rattle.std.specs.Option.{option_map};
+ghost use Rattle.std.specs.FinMap.{get, entries};
+ghost use Rattle.ct_keep.specs.Content.{Content};
+ghost use Rattle.ct_keep.specs.Keeping.{Reads, fault_of};
+ghost use Rattle.tb_table.specs.Tables.{Table};
+ghost use Rattle.db_engine.specs.States.{State, Stands, most_tables};
+
+use ct_base::Name;
+use ct_keep::{KeepFault, Keeper};
+use std::alloc::Global;
+use tb_table::{Column, columns_of, tables};
+
+/// How many tables there are at most.
+const MOST_TABLES: usize = 64;
+
+/// The columns of a table, where it is there.
+pub(crate) fn table_columns<K: Keeper>(
+    alloc: Global,
+    keeper: &mut K,
+    table: &Name,
+) -> Result<Option<Vec<Column>>, KeepFault>
+    requires { (K.keeping keeper.old).ready }
+    ensures columns { (m : State) (c : Content) → (K.keeping keeper.old).content ≡ Some c → Stands c m → IfOk result (λ found. option_map (λ v. v.items) found ≡ option_map (λ (x : Table). x.columns) (get m.tables table.now)) }
+    ensures reads { Reads (K.keeping keeper.old) (K.keeping keeper.new) (fault_of result) }
+    ensures never_full { result ≡ Err KeepFault.Full → ⊥ }
+{
+    columns_of(alloc, keeper, table)
+}
+
+/// Whether there is a table of the name.
+pub(crate) fn has_table<K: Keeper>(
+    alloc: Global,
+    keeper: &mut K,
+    table: &Name,
+) -> Result<bool, KeepFault>
+    requires { (K.keeping keeper.old).ready }
+    ensures there { (m : State) (c : Content) → (K.keeping keeper.old).content ≡ Some c → Stands c m → IfOk result (λ there. there ≡ is_some (get m.tables table.now)) }
+    ensures reads { Reads (K.keeping keeper.old) (K.keeping keeper.new) (fault_of result) }
+    ensures never_full { result ≡ Err KeepFault.Full → ⊥ }
+{
+    let columns = table_columns(alloc, keeper, table)?;
+    Ok(columns.is_some())
+}
+
+/// Whether these are the names of as many tables as there may be.
+fn are_most(names: &[Name]) -> bool
+    ensures { result ≡ nat_le most_tables (length names.now) }
+{
+    names.len() >= MOST_TABLES
+}
+
+/// Whether there are as many tables as there may be.
+pub(crate) fn has_most_tables<K: Keeper>(alloc: Global, keeper: &mut K) -> Result<bool, KeepFault>
+    requires { (K.keeping keeper.old).ready }
+    ensures many { (m : State) (c : Content) → (K.keeping keeper.old).content ≡ Some c → Stands c m → IfOk result (λ many. many ≡ nat_le most_tables (length (entries m.tables))) }
+    ensures reads { Reads (K.keeping keeper.old) (K.keeping keeper.new) (fault_of result) }
+    ensures never_full { result ≡ Err KeepFault.Full → ⊥ }
+{
+    let names = tables(alloc, keeper)?;
+    Ok(are_most(&names))
+}

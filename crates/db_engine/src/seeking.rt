@@ -1,0 +1,71 @@
+//! The index that a query searches.
+#![tactic(auto, using(ct_keep::specs::Composing::reads_on, ct_keep::specs::Composing::reads_short))]
+
+ghost use Rattle.std.specs.Prelude.{◌≡◌, ◌≤◌, ◌<◌, length, IfOk, Some, Err};
+ghost use Rattle.ct_keep.specs.Content.{Content};
+ghost use Rattle.ct_keep.specs.Keeping.{Reads, fault_of};
+ghost use Rattle.db_engine.specs.States.{State, Stands};
+ghost use Rattle.db_engine.specs.Locating.{FoundOn, Searches, with_searched};
+
+use crate::checks::{Searched, first_unknown};
+use crate::columns::place_of;
+use ct_base::{Memory, Name};
+use ct_keep::{KeepFault, Keeper};
+use db_cond::Fault;
+use db_names::{IndexKind, index_on};
+use st_parse::Item;
+use std::alloc::Global;
+use tb_table::{Column, Target};
+
+/// A column of a table.
+pub(crate) fn target_of(table: &Name, column: u8) -> Result<Target, Memory>
+    ensures { IfOk result (λ target. target ≡ record { table = table.now; column = column }) }
+{
+    let table = table.clone()?;
+    Ok(Target { table, column })
+}
+
+/// The CONTEXT index on a column of a table by its place.
+pub(crate) fn context_index<K: Keeper>(
+    alloc: Global,
+    keeper: &mut K,
+    table: &Name,
+    place: usize,
+) -> Result<Option<Name>, KeepFault>
+    requires { (K.keeping keeper.old).ready }
+    ensures found { (m : State) (c : Content) → (K.keeping keeper.old).content ≡ Some c → Stands c m → place < 256 → IfOk result (λ found. FoundOn m.indexes table.now place found) }
+    ensures reads { Reads (K.keeping keeper.old) (K.keeping keeper.new) (fault_of result) }
+    ensures never_full { result ≡ Err KeepFault.Full → ⊥ }
+{
+    let Ok(column) = u8::try_from(place) else {
+        return Ok(None);
+    };
+    let target = target_of(table, column)?;
+    index_on(alloc, keeper, &target, IndexKind::Context)
+}
+
+/// The index that a SELECT searches, unless a column of its list or the one that is searched isn't there, or has no index.
+pub(crate) fn searched_index<'a, K: Keeper>(
+    alloc: Global,
+    keeper: &mut K,
+    items: &'a [Item],
+    table: &Name,
+    columns: &[Column],
+    column: &'a Name,
+) -> Result<Searched<'a>, KeepFault>
+    requires { (K.keeping keeper.old).ready }
+    ensures searched { (m : State) (c : Content) → (K.keeping keeper.old).content ≡ Some c → Stands c m → length columns.now ≤ 256 → IfOk result (λ found. Searches m.indexes found (with_searched m table.now columns.now items.now column.now)) }
+    ensures reads { Reads (K.keeping keeper.old) (K.keeping keeper.new) (fault_of result) }
+    ensures never_full { result ≡ Err KeepFault.Full → ⊥ }
+{
+    if let Some(name) = first_unknown(items, columns) {
+        return Ok(Searched::Refused(Fault::UnknownName(name.as_str())));
+    }
+    let Some(place) = place_of(column, columns) else {
+        return Ok(Searched::Refused(Fault::UnknownName(column.as_str())));
+    };
+    match context_index(alloc, keeper, table, place)? {
+        Some(index) => Ok(Searched::Index(index)),
+        None => Ok(Searched::Refused(Fault::NoIndexOfKind)),
+    }
+}

@@ -1,0 +1,211 @@
+//! CTX_DDL.SYNC_INDEX.
+#![tactic(auto, using(ct_keep::specs::Composing::reads_on, ct_keep::specs::Composing::reads_short))]
+
+ghost use Rattle.std.specs.Prelude.{◌≡◌, IfOk, Some, None, Err, MatchOption, is_some, true, false};
+ghost use Rattle.std.specs.Option.{option_map};
+ghost use Rattle.std.specs.FinMap.{get};
+ghost use Rattle.ct_keep.specs.Content.{Content};
+ghost use Rattle.ct_keep.specs.Keeping.{Kept, Reads, counted, fault_of, is_full};
+ghost use Rattle.ct_entry.specs.Words.{spell};
+ghost use Rattle.ix_context.specs.Indexes.{Index};
+ghost use Rattle.ix_context.specs.Changes.{sync_words};
+ghost use Rattle.db_engine.specs.States.{State, Stands, TakesAll};
+ghost use Rattle.db_engine.specs.Refusals.{Effect};
+ghost use Rattle.db_engine.specs.Calling.{are_sync_args as sync_args, check_sync, has_index as has_named_index, has_too_many, is_bad_size as bad_size, is_memory_size as memory_size, is_size_from as size_from, is_unit as unit_letter, name_arg as first_name, spelt_name as name_spelt, sync_found, sync_index as sync_effect, unknown_name as name_unknown};
+ghost use Rattle.db_engine.specs.Checking.{Checks};
+ghost use Rattle.db_engine.specs.Executing.{Gives};
+
+use crate::committing::{commit, fixed_reply};
+use ct_base::{Memory, Name, NameFault};
+use ct_keep::{Batch, KeepFault, Keeper};
+use db_cond::{Fault, fault_line};
+use db_names::index_of;
+use ix_context::{ContextFault, sync};
+use st_parse::Arg;
+use std::alloc::Global;
+
+/// The name that a text spells, in any ASCII case.
+fn spelt_name(alloc: Global, text: &str) -> Result<Option<Name>, Memory>
+    ensures { IfOk result (λ found. found ≡ name_spelt text.now) }
+{
+    match Name::read(alloc, text) {
+        Ok(name) => Ok(Some(name)),
+        Err(NameFault::NotAName) => Ok(None),
+        Err(NameFault::Memory) => Err(Memory),
+    }
+}
+
+/// The name that the first argument spells, where it is a text that spells one.
+fn name_arg(alloc: Global, args: &[Arg]) -> Result<Option<Name>, Memory>
+    ensures { IfOk result (λ found. found ≡ first_name args.now) }
+{
+    match args {
+        [Arg::Text(text), ..] => spelt_name(alloc, text.as_str()),
+        _ => Ok(None),
+    }
+}
+
+/// Whether the arguments are one text, or two.
+fn are_sync_args(args: &[Arg]) -> bool
+    ensures { result ≡ sync_args args.now }
+{
+    match args {
+        [Arg::Text(_)] => true,
+        [Arg::Text(_), Arg::Text(_)] => true,
+        _ => false,
+    }
+}
+
+/// Whether the byte is K, M or G, in any case.
+fn is_unit(byte: u8) -> bool
+    ensures { result ≡ unit_letter byte }
+{
+    let byte = byte.to_ascii_lowercase();
+    byte == b'k' || byte == b'm' || byte == b'g'
+}
+
+/// Whether the bytes are digits and one of K, M and G.
+fn is_memory_size(text: &[u8]) -> bool
+    ensures { result ≡ memory_size text.now }
+{
+    let mut some = false;
+    let mut rest = text;
+    while let [first, others @ ..] = rest {
+        if others.is_empty() {
+            return some && is_unit(*first);
+        }
+        if !first.is_ascii_digit() {
+            return false;
+        }
+        some = true;
+        rest = others;
+    }
+    false
+}
+
+/// Whether the second argument is a text that is no size of memory.
+fn is_bad_size(args: &[Arg]) -> bool
+    ensures { result ≡ bad_size args.now }
+{
+    match args {
+        [Arg::Text(_), Arg::Text(memory)] => !is_memory_size(memory.as_str().as_bytes()),
+        _ => false,
+    }
+}
+
+/// The name, where no index has it.
+fn unknown_name(there: bool, name: &Option<Name>) -> Option<&str>
+    ensures { option_map (λ n. n.now) result ≡ name_unknown there name.now }
+{
+    match name {
+        Some(name) if !there => Some(name.as_str()),
+        _ => None,
+    }
+}
+
+/// The first check that fails.
+fn sync_fault<'a>(unknown: Option<&'a str>, args: &[Arg]) -> Option<Fault<'a>>
+    ensures { (done : Effect) → Checks result (check_sync (option_map (λ n. n.now) unknown.entry) args.now done) done }
+{
+    if let Some(name) = unknown {
+        return Some(Fault::UnknownName(name));
+    }
+    if !are_sync_args(args) {
+        return Some(Fault::WrongValues);
+    }
+    if is_bad_size(args) {
+        return Some(Fault::BadValue);
+    }
+    None
+}
+
+/// Whether there is an index of the name.
+pub(crate) fn has_index<K: Keeper>(
+    alloc: Global,
+    keeper: &mut K,
+    index: &Name,
+) -> Result<bool, KeepFault>
+    requires { (K.keeping keeper.old).ready }
+    ensures there { (m : State) (c : Content) → (K.keeping keeper.old).content ≡ Some c → Stands c m → IfOk result (λ there. there ≡ is_some (get m.indexes index.now)) }
+    ensures reads { Reads (K.keeping keeper.old) (K.keeping keeper.new) (fault_of result) }
+    ensures never_full { result ≡ Err KeepFault.Full → ⊥ }
+{
+    let head = index_of(alloc, keeper, index)?;
+    Ok(head.is_some())
+}
+
+/// Whether an index has the name, if there is one.
+fn has_named<K: Keeper>(
+    alloc: Global,
+    keeper: &mut K,
+    name: &Option<Name>,
+) -> Result<bool, KeepFault>
+    requires { (K.keeping keeper.old).ready }
+    ensures there { (m : State) (c : Content) → (K.keeping keeper.old).content ≡ Some c → Stands c m → IfOk result (λ there. there ≡ has_named_index m name.now) }
+    ensures reads { Reads (K.keeping keeper.old) (K.keeping keeper.new) (fault_of result) }
+    ensures never_full { result ≡ Err KeepFault.Full → ⊥ }
+{
+    match name {
+        Some(index) => has_index(alloc, keeper, index),
+        None => Ok(false),
+    }
+}
+
+/// The words of a synchronisation; None where the index would need more documents than there are numbers.
+fn synced<K: Keeper>(
+    alloc: Global,
+    keeper: &mut K,
+    index: &Name,
+) -> Result<Option<Batch>, KeepFault>
+    requires { (K.keeping keeper.old).ready }
+    ensures words { (m : State) (c : Content) (x : Index) → (K.keeping keeper.old).content ≡ Some c → Stands c m → get m.indexes index.now ≡ Some x → IfOk result (λ batch. MatchOption batch (has_too_many x ≡ true) (λ words. (has_too_many x ≡ false) × (words ≡ spell (sync_words m.tables index.now x)))) }
+    ensures reads { Reads (K.keeping keeper.old) (K.keeping keeper.new) (fault_of result) }
+    ensures never_full { result ≡ Err KeepFault.Full → ⊥ }
+{
+    let mut batch = Batch::new(alloc);
+    match sync(alloc, keeper, &mut batch, index) {
+        Ok(()) => Ok(Some(batch)),
+        Err(ContextFault::TooMany) => Ok(None),
+        Err(ContextFault::Memory) => Err(KeepFault::Memory),
+        Err(ContextFault::Disk) => Err(KeepFault::Disk),
+    }
+}
+
+/// Synchronises an index that is there.
+fn commit_sync<K: Keeper>(alloc: Global, keeper: &mut K, index: &Name) -> Result<Vec<u8>, KeepFault>
+    requires ready { (K.keeping keeper.old).ready }
+    requires takes { TakesAll (K.keeping keeper.old).well }
+    ensures kept { Kept (K.keeping keeper.old) (K.keeping keeper.new) (fault_of result) }
+    ensures fulls { (K.keeping keeper.new).counts.fulls ≡ counted (is_full (fault_of result)) (K.keeping keeper.old).counts.fulls }
+    ensures gives { (m : State) (c : Content) (x : Index) → (K.keeping keeper.old).content ≡ Some c → Stands c m → get m.indexes index.now ≡ Some x → Gives m (sync_found m index.now x) c (K.keeping keeper.old) (K.keeping keeper.new) result }
+{
+    let Some(batch) = synced(alloc, keeper, index)? else {
+        return Ok(fault_line(alloc, Fault::LimitReached)?);
+    };
+    let reply = fixed_reply(alloc, b"PL/SQL procedure successfully completed.\n")?;
+    commit(alloc, keeper, batch, reply)
+}
+
+/// CTX_DDL.SYNC_INDEX: each row that waits becomes a document of the index. Its cost is what their texts hold, times a
+/// logarithm.
+pub(crate) fn sync_index<K: Keeper>(
+    alloc: Global,
+    keeper: &mut K,
+    args: &[Arg],
+) -> Result<Vec<u8>, KeepFault>
+    requires ready { (K.keeping keeper.old).ready }
+    requires takes { TakesAll (K.keeping keeper.old).well }
+    ensures kept { Kept (K.keeping keeper.old) (K.keeping keeper.new) (fault_of result) }
+    ensures fulls { (K.keeping keeper.new).counts.fulls ≡ counted (is_full (fault_of result)) (K.keeping keeper.old).counts.fulls }
+    ensures gives { (m : State) (c : Content) → (K.keeping keeper.old).content ≡ Some c → Stands c m → Gives m (sync_effect m args.now) c (K.keeping keeper.old) (K.keeping keeper.new) result }
+{
+    let name = name_arg(alloc, args)?;
+    let there = has_named(alloc, keeper, &name)?;
+    if let Some(fault) = sync_fault(unknown_name(there, &name), args) {
+        return Ok(fault_line(alloc, fault)?);
+    }
+    let Some(index) = name else {
+        return Ok(fault_line(alloc, Fault::BadValue)?);
+    };
+    commit_sync(alloc, keeper, &index)
+}
