@@ -32,5 +32,5 @@ fn main(rt: HostRuntime) -> ExitCode {
         Err(error) => return ExitCode::from(status_without_words(&error)),
     };
     let mut site = RealSite::new(&rt, None);
-    ExitCode::from(run(rt.alloc(), &words, &mut site))
+    ExitCode::from(run(&rt, rt.alloc(), &words, &mut site))
 }

@@ -1,4 +1,9 @@
 pub mod Texts
+pub mod Lasting
+pub mod SayingLaws
 pub mod WorldLaws
+pub mod Answering
+pub mod Responding
 pub mod ViewLaws
 pub mod TableLaws
+pub mod SiteLaws

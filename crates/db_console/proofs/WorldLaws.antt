@@ -1,15 +1,18 @@
 -- How what serving does goes on, one part after another.
-use Rattle.std.proofs.Common.{◌≡◌, ◌++◌, ◌∷◌, [], ℕ, List, Bool, true, false, leb, Some, None, map, refl, sym, ap, ◌∙◌, arith, append_assoc, append-nil}
+use Rattle.std.proofs.Common.{◌≡◌, ◌++◌, ◌∷◌, [], ℕ, List, Bool, true, false, leb, Option, Some, None, map, refl, sym, ap, subst, ◌∙◌, arith, append_assoc, append-nil}
 use Rattle.std.proofs.lemmas.List.{map-append}
-use Rattle.st_cut.specs.Cut.{Cuts, first_statement}
-use Rattle.st_cut.specs.Seen.{Seen, Stands}
-use Rattle.st_cut.proofs.Cuts.{cuts_go_on, open_newline}
-use Rattle.st_cut.proofs.Cutting.{some_cut}
-use Rattle.ct_base.specs.Told.{behind_none, behind_twice}
 use Rattle.std.specs.Str.{chars}
-use Rattle.db_engine.specs.Steps.{State, rest_reply}
-use Rattle.db_engine.specs.Runs.{Piece, statement, rest_piece, Step, Turn, turn_by, pieces, turn, state_after, transcript, state_after-append, transcript-append, Ran}
-use Rattle.db_console.specs.Worlds.{HasPieces, World, AllAllowed, Leads, Served, ServedTo, Answered, AnsweredInPart, Broke, SaidInPart}
+use Rattle.ct_base.specs.Moments.{Passes, passes_none, passes_more, passes_then}
+use Rattle.ct_base.specs.Told.{behind_none, behind_twice, SaysPart, says_back}
+use Rattle.ct_keep.specs.Content.{Content}
+use Rattle.st_cut.specs.Cut.{first_statement}
+use Rattle.st_cut.specs.Seen.{Seen, Stands as StandsOpen}
+use Rattle.st_cut.proofs.Cuts.{cuts_go_on, open_newline}
+use Rattle.db_engine.specs.States.{State}
+use Rattle.db_engine.specs.Refusals.{state_by, reply_by}
+use Rattle.db_engine.specs.Steps.{rest_step}
+use Rattle.db_engine.specs.Runs.{Piece, statement, rest_piece, Step, Turn, turn_by, pieces, state_after, transcript, state_after-append, transcript-append, allowed-append, AllAllowed, Ran}
+use Rattle.db_console.specs.Worlds.{HasPieces, World, Times, LeavesState, IsMoment, Leads, Served, ServedTo, Answered}
 
 -- ---- turns
 
@@ -19,20 +22,51 @@ ran_then limit old mid new ts us a b r s = record {
   says = rw (r.says, s.says, r.state) (sym (transcript-append limit old ts us));
 }
 
-allowed_then : (limit : ℕ) (ts us : List Turn) → AllAllowed limit ts → AllAllowed limit us → AllAllowed limit (ts ++ us)
-allowed_then limit [] us h k = k
-allowed_then limit (t ∷ ts) us h k = (h.0, allowed_then limit ts us h.1 k)
+pub leads_none : (limit store : ℕ) (world : World) → Leads limit store world [] world
+leads_none limit store world = record { said = []; run = record { state = refl; says = refl }; told = sym (behind_none world.said); allowed = tt }
 
-pub leads_none : (limit : ℕ) (world : World) → Leads limit world [] world
-leads_none limit world = record { said = []; run = record { state = refl; says = refl }; told = sym (behind_none world.said); allowed = tt }
+pub allowed_then : (limit store : ℕ) (old mid : World) (ts us : List Turn) → Leads limit store old ts mid → AllAllowed limit store mid.state us → AllAllowed limit store old.state (ts ++ us)
+allowed_then limit store old mid ts us a h = allowed-append limit store old.state ts us a.allowed (subst (λ (m : State). AllAllowed limit store m us) a.run.state h)
 
-pub leads_then : (limit : ℕ) (old mid new : World) (ts us : List Turn) → Leads limit old ts mid → Leads limit mid us new → Leads limit old (ts ++ us) new
-leads_then limit old mid new ts us a b = record {
+pub leads_then : (limit store : ℕ) (old mid new : World) (ts us : List Turn) → Leads limit store old ts mid → Leads limit store mid us new → Leads limit store old (ts ++ us) new
+leads_then limit store old mid new ts us a b = record {
   said = a.said ++ b.said;
   run = ran_then limit old.state mid.state new.state ts us a.said b.said a.run b.run;
   told = b.told ∙ rw a.told (behind_twice old.said a.said b.said);
-  allowed = allowed_then limit ts us a.allowed b.allowed;
+  allowed = allowed_then limit store old mid ts us a b.allowed;
 }
+
+-- ---- moments
+
+-- a moment of the first turns is one of all, and so is one of the others
+pub moment_first : (limit : ℕ) (old : World) (ts us : List Turn) (x : Option Content) (w : List ℕ) → IsMoment limit old ts x w → IsMoment limit old (ts ++ us) x w
+moment_first limit old ts us x w p = record {
+  done = p.done;
+  later = p.later ++ us;
+  split = ap (λ (l : List Turn). l ++ us) p.split ∙ append_assoc p.done p.later us;
+  leaves = p.leaves;
+  says = p.says;
+}
+
+pub moment_later : (limit store : ℕ) (old mid : World) (ts us : List Turn) → Leads limit store old ts mid → (x : Option Content) (w : List ℕ) → IsMoment limit mid us x w → IsMoment limit old (ts ++ us) x w
+moment_later limit store old mid ts us a x w p =
+    let state : state_after limit mid.state p.done ≡ state_after limit old.state (ts ++ p.done) = ap (λ (m : State). state_after limit m p.done) a.run.state ∙ sym (state_after-append limit old.state ts p.done) in
+    let says : a.said ++ transcript limit mid.state p.done ≡ transcript limit old.state (ts ++ p.done) =
+    rw (a.run.says, a.run.state) (sym (transcript-append limit old.state ts p.done)) in
+    record {
+      done = ts ++ p.done;
+      later = p.later;
+      split = ap (λ (l : List Turn). ts ++ l) p.split ∙ sym (append_assoc ts p.done p.later);
+      leaves = subst (LeavesState x) state p.leaves;
+      says = subst (λ (l : List ℕ). SaysPart old.said l w) says
+          (says_back old.said a.said (transcript limit mid.state p.done) w (subst (λ (o : Option (List ℕ)). SaysPart o (transcript limit mid.state p.done) w) a.told p.says));
+    }
+
+-- the moments of some turns, and then of others
+pub moments_then : (limit store : ℕ) (old mid : World) (ts us : List Turn) (a b c : Times) → Leads limit store old ts mid
+    → Passes a b (IsMoment limit old ts) → Passes b c (IsMoment limit mid us) → Passes a c (IsMoment limit old (ts ++ us))
+moments_then limit store old mid ts us a b c l p q =
+    passes_then a b c _ (passes_more a b _ _ p (moment_first limit old ts us)) (passes_more b c _ _ q (moment_later limit store old mid ts us l))
 
 -- ---- pieces
 
@@ -53,156 +87,92 @@ pieces-append ts us = map-append (λ (t : Turn). t.piece) ts us
 
 -- ---- what serving does, one part after another
 
-unfoldable pub served_on : (limit : ℕ) (whole : Bool) (held a b : List ℕ) (old mid new : World)
-    → (s : Served limit false held a old mid) → Served limit whole s.rest b mid new → Served limit whole held (a ++ b) old new
-served_on limit whole held a b old mid new s t = record {
-  turns = s.turns ++ t.turns;
-  rest = t.rest;
-  cut = rw (sym (append_assoc held a b), pieces-append s.turns t.turns) (pieces_then whole (held ++ a) b (pieces s.turns) (pieces t.turns) s.rest t.rest s.cut t.cut);
-  leads = leads_then limit old mid new s.turns t.turns s.leads t.leads;
-}
-
-pub served_then : (limit : ℕ) (held a b : List ℕ) (old mid new : World) (cutter : Seen)
-    → (s : Served limit false held a old mid) → ServedTo limit s.rest b mid new cutter → ServedTo limit held (a ++ b) old new cutter
-unfolding served_on
-served_then limit held a b old mid new cutter s t = record {
-  served = served_on limit false held a b old mid new s t.served;
-  stands = t.stands;
-}
-
-pub broke_then : (limit : ℕ) (whole : Bool) (held a b : List ℕ) (old mid : World) (Stopped : Piece → World → Type 0)
-    → (s : Served limit false held a old mid) → Broke limit whole s.rest b mid Stopped → Broke limit whole held (a ++ b) old Stopped
-broke_then limit whole held a b old mid Stopped s k = record {
+unfoldable pub served_on : (limit store : ℕ) (whole : Bool) (held a b : List ℕ) (old mid new : World) (t u v : Times)
+    → (s : Served limit store false held a old mid t u) → Served limit store whole s.rest b mid new u v → Served limit store whole held (a ++ b) old new t v
+served_on limit store whole held a b old mid new t u v s k = record {
   turns = s.turns ++ k.turns;
-  mid = k.mid;
-  leads = leads_then limit old mid k.mid s.turns k.turns s.leads k.leads;
-  last = k.last;
-  later = k.later;
   rest = k.rest;
-  cut = rw (sym (append_assoc held a b), pieces-append s.turns k.turns, append_assoc (pieces s.turns) (pieces k.turns) (k.last ∷ k.later))
-      (pieces_then whole (held ++ a) b (pieces s.turns) (pieces k.turns ++ k.last ∷ k.later) s.rest k.rest s.cut k.cut);
-  stopped = k.stopped;
+  cut = rw (sym (append_assoc held a b), pieces-append s.turns k.turns) (pieces_then whole (held ++ a) b (pieces s.turns) (pieces k.turns) s.rest k.rest s.cut k.cut);
+  leads = leads_then limit store old mid new s.turns k.turns s.leads k.leads;
+  moments = moments_then limit store old mid s.turns k.turns t u v s.leads s.moments k.moments;
 }
 
--- the bytes behind the stop have pieces too, which nothing answers
-pub broke_before : (limit : ℕ) (held a b : List ℕ) (old : World) (Stopped : Piece → World → Type 0) → Broke limit false held a old Stopped → Broke limit false held (a ++ b) old Stopped
-broke_before limit held a b old Stopped k =
-    let c : (ss : List (List ℕ)) × (rest : List ℕ) × Cuts false (k.rest ++ b) ss rest = some_cut false (k.rest ++ b) in
-    record {
-      turns = k.turns;
-      mid = k.mid;
-      leads = k.leads;
-      last = k.last;
-      later = k.later ++ map statement c.0;
-      rest = c.1;
-      cut = rw (sym (append_assoc held a b), sym (append_assoc (pieces k.turns) (k.last ∷ k.later) (map statement c.0)))
-          (pieces_then false (held ++ a) b (pieces k.turns ++ k.last ∷ k.later) (map statement c.0) k.rest c.1 k.cut (record { statements = c.0; cut = c.2; are = refl }));
-      stopped = k.stopped;
-    }
+pub served_then : (limit store : ℕ) (held a b : List ℕ) (old mid new : World) (t u v : Times) (cutter : Seen)
+    → (s : Served limit store false held a old mid t u) → ServedTo limit store s.rest b mid new u v cutter → ServedTo limit store held (a ++ b) old new t v cutter
+unfolding served_on
+served_then limit store held a b old mid new t u v cutter s k = record {
+  served = served_on limit store false held a b old mid new t u v s k.served;
+  stands = k.stands;
+}
 
 -- ---- one piece
 
 -- nothing is answered
-pub served_open : (limit : ℕ) (held bytes : List ℕ) (world : World) (cutter : Seen) → Stands limit cutter (held ++ bytes)
-    → ServedTo limit held bytes world world cutter
-served_open limit held bytes world cutter h = record {
+pub served_open : (limit store : ℕ) (held bytes : List ℕ) (world : World) (time : Times) (cutter : Seen) → StandsOpen limit cutter (held ++ bytes)
+    → ServedTo limit store held bytes world world time time cutter
+served_open limit store held bytes world time cutter h = record {
   served = record {
     turns = [];
     rest = held ++ bytes;
     cut = record { statements = []; cut = (h.opened, refl); are = refl };
-    leads = leads_none limit world;
+    leads = leads_none limit store world;
+    moments = passes_none time _;
   };
   stands = h;
 }
 
-pub served_start : (limit : ℕ) (held : List ℕ) (world : World) (cutter : Seen) → Stands limit cutter held → ServedTo limit held [] world world cutter
-served_start limit held world cutter s = served_open limit held [] world cutter (rw (append-nil held) s)
+pub served_start : (limit store : ℕ) (held : List ℕ) (world : World) (time : Times) (cutter : Seen) → StandsOpen limit cutter held → ServedTo limit store held [] world world time time cutter
+served_start limit store held world time cutter s = served_open limit store held [] world time cutter (rw (append-nil held) s)
 
 -- a newline ends a statement
-newline_piece : (held text : List ℕ) → first_statement false held ≡ None → first_statement true held ≡ Some (text, []) → HasPieces false (held ++ 10 ∷ []) (statement text ∷ []) []
+pub newline_piece : (held text : List ℕ) → first_statement false held ≡ None → first_statement true held ≡ Some (text, []) → HasPieces false (held ++ 10 ∷ []) (statement text ∷ []) []
 newline_piece held text h e = record { statements = text ∷ []; cut = ([], open_newline held h ∙ e, (refl, refl)); are = refl }
 
-pub served_statement : (limit : ℕ) (held text : List ℕ) (old new : World) (cutter : Seen) → first_statement false held ≡ None → first_statement true held ≡ Some (text, [])
-    → Answered limit (statement text) old new → Stands limit cutter [] → ServedTo limit held (10 ∷ []) old new cutter
-served_statement limit held text old new cutter h e a n = record {
-  served = record { turns = turn_by (statement text) a.answer ∷ []; rest = []; cut = newline_piece held text h e; leads = a.leads };
+pub served_statement : (limit store : ℕ) (held text : List ℕ) (old new : World) (t u : Times) (cutter : Seen) → first_statement false held ≡ None → first_statement true held ≡ Some (text, [])
+    → Answered limit store (statement text) old new t u → StandsOpen limit cutter [] → ServedTo limit store held (10 ∷ []) old new t u cutter
+served_statement limit store held text old new t u cutter h e a n = record {
+  served = record { turns = turn_by (statement text) a.answer ∷ []; rest = []; cut = newline_piece held text h e; leads = a.leads; moments = a.moments };
   stands = n;
 }
 
-broke_first : (limit : ℕ) (whole : Bool) (held bytes : List ℕ) (last : Piece) (later : List Piece) (rest : List ℕ) (old : World) (Stopped : Piece → World → Type 0)
-    → HasPieces whole (held ++ bytes) (last ∷ later) rest → Stopped last old → Broke limit whole held bytes old Stopped
-broke_first limit whole held bytes last later rest old Stopped p a =
-    record { turns = []; mid = old; leads = leads_none limit old; last = last; later = later; rest = rest; cut = p; stopped = a }
-
-pub broke_statement : (limit : ℕ) (held text : List ℕ) (old : World) (Stopped : Piece → World → Type 0) → first_statement false held ≡ None → first_statement true held ≡ Some (text, [])
-    → Stopped (statement text) old → Broke limit false held (10 ∷ []) old Stopped
-broke_statement limit held text old Stopped h e a = broke_first limit false held (10 ∷ []) (statement text) [] [] old Stopped (newline_piece held text h e) a
-
 -- ---- the end of the script
 
-ended_piece : (held text : List ℕ) → first_statement true held ≡ Some (text, []) → HasPieces true (held ++ []) (statement text ∷ rest_piece [] ∷ []) []
+pub ended_piece : (held text : List ℕ) → first_statement true held ≡ Some (text, []) → HasPieces true (held ++ []) (statement text ∷ rest_piece [] ∷ []) []
 ended_piece held text e = rw (append-nil held) (record { statements = text ∷ []; cut = ([], e, (refl, refl)); are = refl })
 
-rest_alone : (held : List ℕ) → first_statement true held ≡ None → HasPieces true (held ++ []) (rest_piece held ∷ []) held
+pub rest_alone : (held : List ℕ) → first_statement true held ≡ None → HasPieces true (held ++ []) (rest_piece held ∷ []) held
 rest_alone held e = rw (append-nil held) (record { statements = []; cut = (e, refl); are = refl })
 
--- to an empty rest nothing is said
+-- an empty rest does nothing
 zero_within : (n : ℕ) → leb 0 n ≡ true
 zero_within n = grind arith
 
-empty_reply : (limit : ℕ) → rest_reply limit [] ≡ []
+empty_reply : (limit : ℕ) (m : State) → reply_by (rest_step limit m []) ≡ []
 unfolding chars
-empty_reply limit = rw (zero_within limit) refl
+empty_reply limit m = rw (zero_within limit) refl
 
-empty_rest : (limit : ℕ) (world : World) → Leads limit world (turn_by (rest_piece []) Step ∷ []) world
-empty_rest limit world = record {
+empty_state_by : (limit : ℕ) (m : State) → state_by m (rest_step limit m []) ≡ m
+unfolding chars
+empty_state_by limit m = rw (zero_within limit) refl
+
+empty_rest : (limit store : ℕ) (world : World) → Leads limit store world (turn_by (rest_piece []) Step ∷ []) world
+empty_rest limit store world = record {
   said = [];
-  run = record { state = refl; says = sym (ap (λ (xs : List ℕ). xs ++ []) (empty_reply limit)) };
+  run = record { state = sym (empty_state_by limit world.state); says = sym (ap (λ (xs : List ℕ). xs ++ []) (empty_reply limit world.state)) };
   told = sym (behind_none world.said);
   allowed = (tt, tt);
 }
 
-pub served_last : (limit : ℕ) (held text : List ℕ) (old new : World) → first_statement true held ≡ Some (text, [])
-    → Answered limit (statement text) old new → Served limit true held [] old new
-served_last limit held text old new e a = record {
+pub served_last : (limit store : ℕ) (held text : List ℕ) (old new : World) (t u : Times) → first_statement true held ≡ Some (text, [])
+    → Answered limit store (statement text) old new t u → Served limit store true held [] old new t u
+served_last limit store held text old new t u e a = record {
   turns = turn_by (statement text) a.answer ∷ turn_by (rest_piece []) Step ∷ [];
   rest = [];
   cut = ended_piece held text e;
-  leads = leads_then limit old new new (turn_by (statement text) a.answer ∷ []) (turn_by (rest_piece []) Step ∷ []) a.leads (empty_rest limit new);
+  leads = leads_then limit store old new new (turn_by (statement text) a.answer ∷ []) (turn_by (rest_piece []) Step ∷ []) a.leads (empty_rest limit store new);
+  moments = passes_more t u _ _ a.moments (moment_first limit old (turn_by (statement text) a.answer ∷ []) (turn_by (rest_piece []) Step ∷ []));
 }
 
-pub broke_last : (limit : ℕ) (held text : List ℕ) (old : World) (Stopped : Piece → World → Type 0) → first_statement true held ≡ Some (text, [])
-    → Stopped (statement text) old → Broke limit true held [] old Stopped
-broke_last limit held text old Stopped e a = broke_first limit true held [] (statement text) (rest_piece [] ∷ []) [] old Stopped (ended_piece held text e) a
-
-pub served_rest : (limit : ℕ) (held : List ℕ) (old new : World) → first_statement true held ≡ None
-    → Answered limit (rest_piece held) old new → Served limit true held [] old new
-served_rest limit held old new e a = record { turns = turn_by (rest_piece held) a.answer ∷ []; rest = held; cut = rest_alone held e; leads = a.leads }
-
-pub broke_rest : (limit : ℕ) (held : List ℕ) (old : World) (Stopped : Piece → World → Type 0) → first_statement true held ≡ None
-    → Stopped (rest_piece held) old → Broke limit true held [] old Stopped
-broke_rest limit held old Stopped e a = broke_first limit true held [] (rest_piece held) [] held old Stopped (rest_alone held e) a
-
--- ---- a run that stopped
-
--- what was said in the turns, and in part in the last one
-pub said_in_part : (limit : ℕ) (whole : Bool) (script : List ℕ) (old new : World) (turns : List Turn) (mid : World) (last : Piece) (later : List Piece) (rest : List ℕ)
-    → Leads limit old turns mid → HasPieces whole script (pieces turns ++ last ∷ later) rest → AnsweredInPart limit last mid new → SaidInPart limit whole script old new
-said_in_part limit whole script old new turns mid last later rest l p a =
-    let t : Turn = turn_by last a.answer in
-    let n : state_after limit old.state (turns ++ t ∷ []) ≡ (turn limit mid.state t).0 = state_after-append limit old.state turns (t ∷ []) ∙ rw (sym l.run.state) refl in
-    let s : transcript limit old.state (turns ++ t ∷ []) ≡ l.said ++ (turn limit mid.state t).1 =
-    transcript-append limit old.state turns (t ∷ []) ∙ rw (sym l.run.says, sym l.run.state) (ap (λ (xs : List ℕ). l.said ++ xs) (append-nil (turn limit mid.state t).1)) in
-    record {
-      turns = turns;
-      last = t;
-      later = later;
-      rest = rest;
-      cut = rw (pieces-append turns (t ∷ []), append_assoc (pieces turns) (last ∷ []) later) p;
-      allowed = allowed_then limit turns (t ∷ []) l.allowed (a.allowed, tt);
-      state = a.state ∙ sym n;
-      said = l.said ++ a.part;
-      told = a.told ∙ rw l.told (behind_twice old.said l.said a.part);
-      part = record { rest = a.reply.rest; is = s ∙ rw a.reply.is (sym (append_assoc l.said a.part a.reply.rest)); more = a.reply.more };
-      front = record { rest = a.part; is = rw l.run.says refl };
-    }
+pub served_rest : (limit store : ℕ) (held : List ℕ) (old new : World) (t u : Times) → first_statement true held ≡ None
+    → Answered limit store (rest_piece held) old new t u → Served limit store true held [] old new t u
+served_rest limit store held old new t u e a = record { turns = turn_by (rest_piece held) a.answer ∷ []; rest = held; cut = rest_alone held e; leads = a.leads; moments = a.moments }

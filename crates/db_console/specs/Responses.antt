@@ -1,12 +1,18 @@
--- What is said to a piece of a script.
-use Rattle.std.specs.Prelude.{ℕ, ◌≡◌, true, false, List, []}
+-- What is said to a text that isn't too long.
+use Rattle.std.specs.Prelude.{ℕ, ◌≡◌, true, false, List, [], Option, Some, Result, Ok, Err}
 use Rattle.std.specs.Option.{MatchOption}
-use Rattle.std.proofs.Common.{Option}
 use denote.Ref.{Bor}
+use Rattle.ct_keep.specs.Content.{Content}
+use Rattle.ct_keep.specs.declared.keepers.KeepFault.TheVariants.{Disk}
+use Rattle.ct_keep.specs.Keeping.{Keeping}
+use Rattle.st_parse.specs.Grammar.{Read}
 use Rattle.db_cond.specs.Faults.{not_understood, statement_too_long, out_of_memory}
-use Rattle.db_engine.specs.Steps.{State, is_text}
-use Rattle.db_engine.specs.Runs.{Piece, Answer, turn, turn_by}
-use Rattle.db_console.specs.Worlds.{IsAllowed}
+use Rattle.db_engine.specs.States.{State}
+use Rattle.db_engine.specs.Steps.{effect_of, is_text}
+use Rattle.db_engine.specs.Runs.{Answer, Full, answered, can_fill}
+use Rattle.db_engine.specs.Executing.{Moves, HasNoPlace, fault_for}
+use Rattle.db_engine.specs.declared.replies.Stop.{Stop}
+use Rattle.db_engine.specs.declared.replies.Stop.TheVariants.{Disk as DiskStop}
 use Rattle.db_console.specs.declared.responses.Response.{Response}
 use Rattle.db_console.specs.declared.responses.Response.TheVariants.{Nothing, Lines, NotUnderstood, TooLong, NoMemory}
 
@@ -17,20 +23,19 @@ bytes_of NotUnderstood = not_understood
 bytes_of TooLong = statement_too_long
 bytes_of NoMemory = out_of_memory
 
--- a response with this reply, or one for want of memory
-abbrev pub IsResponse : Response → List ℕ → Type 0
-IsResponse Nothing reply = [] ≡ reply
-IsResponse (Lines lines) reply = lines ≡ reply
-IsResponse NotUnderstood reply = not_understood ≡ reply
-IsResponse TooLong reply = statement_too_long ≡ reply
-IsResponse NoMemory reply = Unit {0}
-
 -- the bytes as a text, or nothing where they are none
 abbrev pub IsTextOf : Option (Bor (List ℕ)) → List ℕ → Type 0
 IsTextOf found bytes = MatchOption found (is_text bytes ≡ false) (λ text. (is_text bytes ≡ true) × (text.now ≡ bytes))
 
--- this is a reply to the piece, whatever the state
-pub record Replies (limit : ℕ) (piece : Piece) (reply : List ℕ) : Type 0 where
+-- What was read has this reply, by at most one commit.
+pub record HasReply (m : State) (r : Read) (c : Content) (old new : Keeping) (reply : List ℕ) : Type 0 where
   pub answer : Answer
-  pub allowed : IsAllowed limit piece answer
-  pub is : (m : State) → reply ≡ (turn limit m (turn_by piece answer)).1
+  pub moves : Moves m (effect_of m r) c old new (fault_for answer)
+  pub is : reply ≡ (answered answer m (effect_of m r)).1
+  pub place : answer ≡ Full → HasNoPlace m (effect_of m r) old.limit
+  pub can : answer ≡ Full → can_fill r ≡ true
+
+-- the same, or the disk failed
+abbrev pub Responds : State → Read → Content → Keeping → Keeping → Result Response Stop → Type 0
+Responds m r c old new (Ok response) = HasReply m r c old new (bytes_of response)
+Responds m r c old new (Err DiskStop) = Moves m (effect_of m r) c old new (Some Disk)

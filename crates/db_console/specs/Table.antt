@@ -1,113 +1,214 @@
 -- How a run of the console ends, by its status.
-use Rattle.std.specs.Prelude.{ℕ, suc, ◌≡◌, ◌≤◌, ◌⊎◌, ◌↔◌, Bool, true, false, List, [], ◌∷◌, ◌++◌, length, codes, Some, None, refl}
+use Rattle.std.specs.Prelude.{ℕ, suc, ◌≡◌, ◌≤◌, ◌⊎◌, ◌↔◌, Bool, true, false, List, [], ◌∷◌, ◌++◌, length, Option, Some, codes, refl, None}
 use Rattle.std.specs.Str.{chars}
-use Rattle.db_engine.specs.Runs.{statement, Step, turn_by}
-use Rattle.ct_base.specs.Told.{ahead}
+use Rattle.std.proofs.Common.{lit<}
+use Rattle.std.specs.FinMap.{empty}
+use base.Fml.{GName}
+use Rattle.ct_base.specs.Told.{ahead, behind}
+use Rattle.ct_base.specs.Moments.{Passes}
+use Rattle.ct_site.specs.Disks.{DiskView, Beside}
+use Rattle.ct_keep.specs.Content.{Content}
+use Rattle.ct_keep.specs.Keeping.{Keeping, Counts, IsSettled}
+use Rattle.ct_keep.specs.InMemory.{in_memory, settled_in_memory}
+use Rattle.ct_keep.specs.KeeperStates.{no_counts}
 use Rattle.st_cut.specs.Seen.{Seen}
-use Rattle.ct_site.specs.Disks.{DiskView}
-use Rattle.db_console.specs.Worlds.{World, Served, SaidInPart, world}
-use Rattle.db_console.specs.Views.{Shows, Untouched, EndsHere, HearRose, SayRose, Breaks, Finishes}
+use Rattle.db_engine.specs.States.{empty_state}
+use Rattle.db_engine.specs.EmptyLaws.{empty_stands}
+use Rattle.db_engine.specs.Runs.{Piece, Turn, pieces, state_after, transcript, AllAllowed, statement, rest_piece, Step, turn_by}
+use Rattle.db_console.specs.Worlds.{World, HasPieces, LeavesState, IsMoment, IsPartOf, IsFrontOf, world_after, world}
+use Rattle.db_console.specs.Views.{Shows, EndsHere, HearRose, SayRose, DiskRose, Lasts, Breaks, Finishes}
 use Rattle.db_console.specs.declared.endings.Ending.{Ending}
-use Rattle.db_console.specs.declared.endings.Ending.TheVariants.{Done, HearFault, SayFault, NoMemory, PastLimit}
+use Rattle.db_console.specs.declared.endings.Ending.TheVariants.{Done, HearFault, SayFault, NoMemory, DiskFault, PastLimit}
 use Rattle.db_console.specs.declared.saying.Stop.{Stop}
-use Rattle.db_console.specs.declared.saying.Stop.TheVariants.{Say}
+use Rattle.db_console.specs.declared.saying.Stop.TheVariants.{Say, Disk}
 
 abbrev pub status_of : Ending → ℕ
 status_of Done = 0
 status_of HearFault = 3
 status_of SayFault = 4
 status_of NoMemory = 5
+status_of DiskFault = 6
 status_of PastLimit = 8
 
 abbrev pub ending_of : Stop → Ending
 ending_of Say = SayFault
+ending_of Disk = DiskFault
 
 -- The end of the script was served, and the run ends so.
-abbrev pub Closes : Ending → DiskView → DiskView → Seen → Type 0
+abbrev pub Closes : Ending → Keeping → Keeping → Seen → Type 0
 Closes Done old new before = Finishes old new before
 Closes SayFault old new before = Breaks true Say [] old new before
+Closes DiskFault old new before = Breaks true Disk [] old new before
 Closes ending old new before = ⊥
 
--- Some world that the site shows now has this.
-abbrev pub InWorld : DiskView → (World → Type 0) → Type 0
-InWorld view P = (now : World) × Shows view now × P now
+-- ---- what was answered, and what was said of it
 
--- what was answered and said of the bytes taken from the script, by how the run ended
-abbrev pub Ends : ℕ → ℕ → List ℕ → World → DiskView → Ending → Type 0
+-- The turns are those of a script, whole or as far as it has come: each piece of it was answered, and each reply was said.
+-- A stop now leaves the state after them.
+pub record SaidAll (limit : ℕ) (whole : Bool) (script : List ℕ) (was : World) (turns : List Turn) (new : Keeping) : Type 0 where
+  pub rest : List ℕ
+  pub cut : HasPieces whole script (pieces turns) rest
+  pub shows : Shows new (world_after limit was turns)
+  pub settled : IsSettled new
+
+-- The turns are those of the first pieces of a script, and the last one was stopped.
+pub record AreFirst (whole : Bool) (script : List ℕ) (turns done : List Turn) : Type 0 where
+  pub last : Turn
+  pub split : turns ≡ done ++ last ∷ []
+  pub later : List Piece
+  pub rest : List ℕ
+  pub cut : HasPieces whole script (pieces turns ++ later) rest
+
+-- The reply to the last one was said in part: the bytes said are a front of all that the turns say, and not all of it,
+-- and have in front all that the turns before the last one say. A stop now leaves the state after all of them.
+pub record SaidInPart (limit : ℕ) (whole : Bool) (script : List ℕ) (was : World) (turns : List Turn) (new : Keeping) : Type 0 where
+  pub done : List Turn
+  pub first : AreFirst whole script turns done
+  pub said : List ℕ
+  pub shows : Shows new (record { state = state_after limit was.state turns; said = behind was.said said })
+  pub part : IsPartOf said (transcript limit was.state turns)
+  pub front : IsFrontOf (transcript limit was.state done) said
+  pub settled : IsSettled new
+
+-- The disk failed in the last one: all was said that the turns before it say, and a stop leaves the state before it or after it.
+pub record FailedInLast (limit : ℕ) (whole : Bool) (script : List ℕ) (was : World) (turns : List Turn) (new : Keeping) : Type 0 where
+  pub done : List Turn
+  pub first : AreFirst whole script turns done
+  pub told : new.beside.said ≡ behind was.said (transcript limit was.state done)
+  pub leaves : (stopped : Option Content) (said : List ℕ) → new.now stopped said → LeavesState stopped (state_after limit was.state done) ⊎ LeavesState stopped (state_after limit was.state turns)
+
+-- which turns were answered and what was said of them, by how the run ended and by the bytes taken from the script
+abbrev pub Ends : ℕ → ℕ → List ℕ → World → List Turn → Keeping → Ending → Type 0
 -- each statement of the script, and the rest
-Ends limit most taken was new Done = InWorld new (Served limit true [] taken was)
+Ends limit most taken was turns new Done = SaidAll limit true taken was turns new
 -- the statements that a newline ends in the bytes taken
-Ends limit most taken was new HearFault = InWorld new (Served limit false [] taken was)
--- the last reply in part; the end of the bytes taken counts as the script's end only where nothing is left
-Ends limit most taken was new SayFault = (whole : Bool) × (whole ≡ true → EndsHere new) × InWorld new (SaidInPart limit whole taken was)
+Ends limit most taken was turns new HearFault = SaidAll limit false taken was turns new
+-- up to one whose reply was said in part; the end of the bytes taken counts as the script's end only where nothing is left
+Ends limit most taken was turns new SayFault = (whole : Bool) × (whole ≡ true → EndsHere new.beside) × SaidInPart limit whole taken was turns new
 -- nothing
-Ends limit most taken was new NoMemory = Shows new was
+Ends limit most taken was turns new NoMemory = (turns ≡ []) × Shows new was × IsSettled new
+-- up to one in which the disk failed
+Ends limit most taken was turns new DiskFault = (whole : Bool) × (whole ≡ true → EndsHere new.beside) × FailedInLast limit whole taken was turns new
 -- the statements that a newline ends in the first `most` bytes
-Ends limit most taken was new PastLimit = (first : List ℕ) × (more : ℕ) × (taken ≡ first ++ more ∷ []) × (length first ≡ most) × InWorld new (Served limit false [] first was)
+Ends limit most taken was turns new PastLimit = (first : List ℕ) × (more : ℕ) × (taken ≡ first ++ more ∷ []) × (length first ≡ most) × SaidAll limit false first was turns new
 
--- why the run ended so
-abbrev pub Because : ℕ → List ℕ → DiskView → DiskView → Ending → Type 0
+-- The answers of a run. At each moment since its start, and now, a stop leaves the state after some of the first turns,
+-- and what was said by then is a front of what these say.
+pub record Course (limit most : ℕ) (taken : List ℕ) (was : World) (old new : Keeping) (ending : Ending) : Type 0 where
+  pub turns : List Turn
+  pub allowed : AllAllowed limit old.limit was.state turns
+  pub ends : Ends limit most taken was turns new ending
+  pub moments : Passes old.time new.time (IsMoment limit was turns)
+  pub now : (stopped : Option Content) (said : List ℕ) → new.now stopped said → IsMoment limit was turns stopped said
+
+-- ---- why it ended so
+
+abbrev pub Because : ℕ → List ℕ → Keeping → Keeping → Ending → Type 0
 -- `hear` answered that the script ends
-Because most taken old new Done = (length taken ≤ most) × EndsHere new
-Because most taken old new HearFault = (length taken ≤ most) × HearRose old new
-Because most taken old new SayFault = (length taken ≤ most) × SayRose old new
--- nothing that the site tells has changed
-Because most taken old new NoMemory = (taken ≡ []) × (new ≡ old)
+Because most taken old new Done = (length taken ≤ most) × EndsHere new.beside
+Because most taken old new HearFault = (length taken ≤ most) × HearRose old.beside new.beside
+Because most taken old new SayFault = (length taken ≤ most) × SayRose old.beside new.beside
+-- nothing was heard or said
+Because most taken old new NoMemory = (taken ≡ []) × (new.beside ≡ old.beside)
+Because most taken old new DiskFault = (length taken ≤ most) × DiskRose old new
 Because most taken old new PastLimit = length taken ≡ suc most
 
+-- whether the keeper may be called again
+abbrev pub IsReadyAfter : Ending → Keeping → Type 0
+IsReadyAfter DiskFault new = Unit {0}
+IsReadyAfter ending new = new.ready
+
 -- What a run of the console did that ended so. It takes statements of at most `limit` bytes, and scripts of at most `most`.
-pub record Outcome (limit most : ℕ) (old new : DiskView) (ending : Ending) : Type 0 where
+pub record Outcome (limit most : ℕ) (old new : Keeping) (ending : Ending) : Type 0 where
   -- the bytes taken from the script
   pub taken : List ℕ
   pub front : old.beside.left ≡ ahead taken new.beside.left
-  pub hear_later : old.beside.hear_faults ≤ new.beside.hear_faults
-  pub say_later : old.beside.say_faults ≤ new.beside.say_faults
-  pub untouched : Untouched old new
+  pub lasts : Lasts old new
   pub because : Because most taken old new ending
-  pub ends : (was : World) → Shows old was → Ends limit most taken was new ending
+  pub ready : IsReadyAfter ending new
+  pub course : (was : World) → Shows old was → Course limit most taken was old new ending
 
--- ---- what follows for a site that tells its script
+-- ---- what follows where the script is told
 
 -- The status is 8 exactly where `most` bytes were taken, and one more came.
-pub record TellsPast (most status : ℕ) (old new : DiskView) : Type 0 where
-  pub tells : (taken left : List ℕ) → old.beside.left ≡ Some (taken ++ left) → new.beside.left ≡ Some left → (status ≡ 8) ↔ (length taken ≡ suc most)
+pub record TellsPast (most status : ℕ) (old new : Beside) : Type 0 where
+  pub tells : (taken left : List ℕ) → old.left ≡ Some (taken ++ left) → new.left ≡ Some left → (status ≡ 8) ↔ (length taken ≡ suc most)
 
--- Without a fault a script of at most `most` bytes is served to its end, unless there is no memory.
-pub record Completes (most status : ℕ) (old new : DiskView) : Type 0 where
-  pub completes : (script : List ℕ) → old.beside.left ≡ Some script → length script ≤ most → ¬ HearRose old new → ¬ SayRose old new → (status ≡ 0) ⊎ (status ≡ 5)
+-- Without a fault a script of at most `most` bytes is served to its end, unless there is no memory. `quiet` says that no fault of the disk came.
+pub record Completes (most status : ℕ) (old new : Beside) (quiet : Type 0) : Type 0 where
+  pub completes : (script : List ℕ) → old.left ≡ Some script → length script ≤ most → ¬ HearRose old new → ¬ SayRose old new → quiet → (status ≡ 0) ⊎ (status ≡ 5)
 
--- computed examples: of a script of 14 bytes ten were allowed, and one more was taken
-abbrev telling : List ℕ → List ℕ → DiskView
-telling left said = record { image = None; beside = record { left = Some left; said = Some said; hear_faults = 0; say_faults = 0 }; faults = 0 }
+-- ---- over a site
 
-ten_bytes : Ends 65536 10 (codes "SELEC;\nSELE") (world []) (telling (codes "C;\n") (codes "E10: statement not understood\n")) PastLimit
+-- a keeper in memory that stands over a site, by the reference of this name
+abbrev pub over_site : Content → ℕ → Counts → DiskView → GName → Keeping
+over_site content limit counts site name = in_memory content limit counts site.beside site.faults (Some name)
+
+-- The run over a site that a keeper in memory made, which was empty to begin with. Its content may weigh `store`.
+pub record RanOver (limit most store : ℕ) (old new : DiskView) (ending : Ending) : Type 0 where
+  pub name : GName
+  pub content : Content
+  pub counts : Counts
+  pub begins : Shows (over_site empty store no_counts old name) (record { state = empty_state; said = old.beside.said })
+  pub outcome : Outcome limit most (over_site empty store no_counts old name) (over_site content store counts new name) ending
+
+-- ---- computed examples: of a script of 14 bytes ten were allowed, and one more was taken
+abbrev bad : List ℕ → Turn
+bad text = turn_by (statement text) Step
+
+abbrev telling : List ℕ → List ℕ → Keeping
+telling left said = in_memory empty 0 no_counts (record { left = Some left; said = Some said; hear_faults = 0; say_faults = 0 }) 0 None
+
+ten_bytes : Ends 65536 10 (codes "SELEC;\nSELE") (world []) (bad (codes "SELEC") ∷ []) (telling (codes "C;\n") (codes "E10: statement not understood\n")) PastLimit
 unfolding chars
 ten_bytes = (
   codes "SELEC;\nSEL",
   69,
   refl,
   refl,
-  (
-    world (codes "E10: statement not understood\n"),
-    record { said = refl },
-    record {
-      turns = turn_by (statement (codes "SELEC")) Step ∷ [];
-      rest = codes "SEL";
-      cut = record { statements = codes "SELEC" ∷ []; cut = (_, refl, (refl, refl)); are = refl };
-      leads = record { said = codes "E10: statement not understood\n"; run = record { state = refl; says = refl }; told = refl; allowed = (tt, tt) };
-    },
-  ),
+  record {
+    rest = codes "SEL";
+    cut = record { statements = codes "SELEC" ∷ []; cut = (_, refl, (refl, refl)); are = refl };
+    shows = record { said = refl; content = empty; holds = refl; stands = empty_stands };
+    settled = settled_in_memory empty 0 no_counts _ _ None;
+  },
 )
 
 -- hearing failed behind a whole statement, which no newline had ended yet
-not_ended : Ends 65536 10 (codes "SELEC;") (world []) (telling (codes "\n") []) HearFault
-not_ended = (
-  world [],
-  record { said = refl },
-  record {
-    turns = [];
-    rest = codes "SELEC;";
-    cut = record { statements = []; cut = (refl, refl); are = refl };
-    leads = record { said = []; run = record { state = refl; says = refl }; told = refl; allowed = tt };
-  },
-)
+not_ended : Ends 65536 10 (codes "SELEC;") (world []) [] (telling (codes "\n") []) HearFault
+not_ended = record {
+  rest = codes "SELEC;";
+  cut = record { statements = []; cut = (refl, refl); are = refl };
+  shows = record { said = refl; content = empty; holds = refl; stands = empty_stands };
+  settled = settled_in_memory empty 0 no_counts _ _ None;
+}
+
+-- the first reply was said, and the front of the second one
+in_part : SaidInPart 4 true (codes "a;\nSELEC;") (world []) (bad (codes "a") ∷ bad (codes "SELEC") ∷ []) (telling [] (codes "E10: statement not understood\nE1"))
+unfolding chars
+in_part = record {
+  done = bad (codes "a") ∷ [];
+  first = record {
+    last = bad (codes "SELEC");
+    split = refl;
+    later = rest_piece [] ∷ [];
+    rest = [];
+    cut = record { statements = codes "a" ∷ codes "SELEC" ∷ []; cut = (_, refl, (_, refl, (refl, refl))); are = refl };
+  };
+  said = codes "E10: statement not understood\nE1";
+  shows = record { said = refl; content = empty; holds = refl; stands = empty_stands };
+  part = record { rest = codes "9: statement too long\n"; is = refl; more = lit< tt };
+  front = record { rest = codes "E1"; is = refl };
+  settled = settled_in_memory empty 0 no_counts _ _ None;
+}
+
+-- a stop while the first reply was said, which left the state after the first statement
+a_moment : IsMoment 4 (world []) (bad (codes "a") ∷ bad (codes "SELEC") ∷ []) (Some empty) (codes "E10: stat")
+unfolding chars
+a_moment = record {
+  done = bad (codes "a") ∷ [];
+  later = bad (codes "SELEC") ∷ [];
+  split = refl;
+  leaves = record { content = empty; is = refl; stands = empty_stands };
+  says = record { part = codes "E10: stat"; later = codes "ement not understood\n"; front = refl; is = refl };
+}

@@ -1,94 +1,170 @@
--- What the console does to what is known of a site.
-use Rattle.std.specs.Prelude.{ℕ, ◌≡◌, ◌≤◌, Bool, true, List, []}
-use Rattle.st_cut.specs.Seen.{Seen, Stands}
+-- What the console does to what is known of a keeper.
+use Rattle.std.specs.Prelude.{ℕ, ◌≡◌, ◌≤◌, ◌⊎◌, Bool, true, List, [], ◌∷◌, ◌++◌, Option, Some}
 use Rattle.ct_base.specs.Causes.{Rose}
-use Rattle.ct_base.specs.Told.{IsNothing}
-use Rattle.ct_site.specs.Disks.{DiskView, Hears, Says}
-use Rattle.db_engine.specs.Runs.{Piece}
-use Rattle.db_console.specs.Worlds.{World, Served, ServedTo, Answered, AnsweredInPart, Broke, IsPartOf}
+use Rattle.ct_base.specs.Told.{behind, IsNothing, IsSaid}
+use Rattle.ct_base.specs.Moments.{Passes}
+use Rattle.ct_site.specs.Disks.{Beside}
+use Rattle.ct_keep.specs.Content.{Content}
+use Rattle.ct_keep.specs.Keeping.{Keeping, KeeperHears, KeeperSays, IsSettled}
+use Rattle.st_cut.specs.Seen.{Seen, Stands as StandsOpen}
+use Rattle.db_engine.specs.States.{Stands}
+use Rattle.db_engine.specs.Runs.{Piece, Answer, Step, Turn, turn_by, turn, pieces, IsAllowed}
+use Rattle.db_console.specs.Worlds.{World, HasPieces, LeavesState, IsMoment, Leads, Served, ServedTo, Answered, IsPartOf}
 use Rattle.db_console.specs.declared.saying.Stop.{Stop}
-use Rattle.db_console.specs.declared.saying.Stop.TheVariants.{Say}
+use Rattle.db_console.specs.declared.saying.Stop.TheVariants.{Say, Disk}
 
--- This is a world that the site shows. As long as no statement keeps anything, any state will do.
-pub record Shows (view : DiskView) (world : World) : Type 0 where
+-- This is a world that the keeper shows: its content stands for the state, and it tells that so much was said.
+pub record Shows (view : Keeping) (world : World) : Type 0 where
   pub said : view.beside.said ≡ world.said
+  pub content : Content
+  pub holds : view.content ≡ Some content
+  pub stands : Stands content world.state
 
--- The disk is as before: no call of it failed, and a read gives what it gave.
-pub record Untouched (old new : DiskView) : Type 0 where
-  pub image : new.image ≡ old.image
-  pub faults : new.faults ≡ old.faults
+-- the count of faults of hearing, of saying, or of the disk, rose or stands at its last value
+abbrev pub HearRose : Beside → Beside → Type 0
+HearRose old new = Rose old.hear_faults new.hear_faults
 
--- the count of faults of hearing, or of saying, rose or stands at its last value
-abbrev pub HearRose : DiskView → DiskView → Type 0
-HearRose old new = Rose old.beside.hear_faults new.beside.hear_faults
+abbrev pub SayRose : Beside → Beside → Type 0
+SayRose old new = Rose old.say_faults new.say_faults
 
-abbrev pub SayRose : DiskView → DiskView → Type 0
-SayRose old new = Rose old.beside.say_faults new.beside.say_faults
+abbrev pub DiskRose : Keeping → Keeping → Type 0
+DiskRose old new = Rose old.disk_faults new.disk_faults
 
--- the script ends here, where the site tells it
-abbrev pub EndsHere : DiskView → Type 0
-EndsHere view = IsNothing view.beside.left
+-- the script ends here, where it is told
+abbrev pub EndsHere : Beside → Type 0
+EndsHere beside = IsNothing beside.left
+
+-- What a run keeps, whatever it does: no count of faults falls.
+pub record Lasts (old new : Keeping) : Type 0 where
+  pub hear_later : old.beside.hear_faults ≤ new.beside.hear_faults
+  pub say_later : old.beside.say_faults ≤ new.beside.say_faults
+  pub disk_later : old.disk_faults ≤ new.disk_faults
+  pub well : new.well ≡ old.well
+  pub limit : new.limit ≡ old.limit
+  pub lender : new.lender ≡ old.lender
 
 -- Bytes were heard, and nothing else was done.
-pub record Heard (heard : List ℕ) (old new : DiskView) : Type 0 where
-  pub hears : Hears heard old new
+pub record Heard (heard : List ℕ) (old new : Keeping) : Type 0 where
+  pub hears : KeeperHears heard old new
   pub later : old.beside.hear_faults ≤ new.beside.hear_faults
 
 -- Bytes were said, by any number of calls, and nothing else was done.
-pub record Spoke (bytes : List ℕ) (old new : DiskView) : Type 0 where
-  pub says : Says bytes old new
+pub record Spoke (bytes : List ℕ) (old new : Keeping) : Type 0 where
+  pub says : KeeperSays bytes old new
   pub later : old.beside.say_faults ≤ new.beside.say_faults
 
 -- The front of the bytes was said, and not all of them, for a fault.
-pub record SpokeInPart (bytes : List ℕ) (old new : DiskView) : Type 0 where
+pub record SpokeInPart (bytes : List ℕ) (old new : Keeping) : Type 0 where
   pub part : List ℕ
   pub is : IsPartOf part bytes
   pub spoke : Spoke part old new
-  pub cause : SayRose old new
+  pub cause : SayRose old.beside new.beside
 
 -- what answering leaves
-pub record Frame (old new : DiskView) : Type 0 where
+pub record Frame (old new : Keeping) : Type 0 where
   pub left : new.beside.left ≡ old.beside.left
   pub hear_faults : new.beside.hear_faults ≡ old.beside.hear_faults
-  pub say_later : old.beside.say_faults ≤ new.beside.say_faults
-  pub untouched : Untouched old new
+  pub lasts : Lasts old new
+
+-- ---- one piece
+
+-- A piece has this reply, by at most one commit, and nothing of it was said yet.
+pub record Replied (limit : ℕ) (piece : Piece) (was : World) (old new : Keeping) (reply : List ℕ) : Type 0 where
+  pub answer : Answer
+  pub allowed : IsAllowed limit old.limit was.state piece answer
+  pub is : reply ≡ (turn limit was.state (turn_by piece answer)).1
+  pub content : Content
+  pub holds : new.content ≡ Some content
+  pub stands : Stands content (turn limit was.state (turn_by piece answer)).0
+  pub moments : Passes old.time new.time (IsMoment limit was (turn_by piece answer ∷ []))
+
+-- what a stop leaves where the disk failed in a turn: the state before it or after it; and nothing of it was said
+pub record LeavesEither (limit : ℕ) (was : World) (last : Turn) (stopped : Option Content) (said : List ℕ) : Type 0 where
+  pub leaves : LeavesState stopped was.state ⊎ LeavesState stopped (turn limit was.state last).0
+  pub said_before : IsSaid was.said said
+
+-- The disk failed in the answer to a piece, which counts as one by its step.
+pub record Halted (limit : ℕ) (piece : Piece) (was : World) (old new : Keeping) : Type 0 where
+  pub moments : Passes old.time new.time (IsMoment limit was (turn_by piece Step ∷ []))
+  pub now : (stopped : Option Content) (said : List ℕ) → new.now stopped said → LeavesEither limit was (turn_by piece Step) stopped said
 
 -- A piece was answered, and the reply was said.
-pub record Answers (limit : ℕ) (piece : Piece) (old new : DiskView) : Type 0 where
+pub record Answers (limit : ℕ) (piece : Piece) (old new : Keeping) : Type 0 where
   pub frame : Frame old new
-  pub answers : (was : World) → Shows old was → (now : World) × Shows new now × Answered limit piece was now
+  pub ready : new.ready
+  pub answers : (was : World) → Shows old was → (now : World) × Shows new now × Answered limit old.limit piece was now old.time new.time
 
 -- the cause of a stop
-abbrev pub RoseBy : Stop → DiskView → DiskView → Type 0
-RoseBy Say old new = SayRose old new
+abbrev pub RoseBy : Stop → Keeping → Keeping → Type 0
+RoseBy Say old new = SayRose old.beside new.beside
+RoseBy Disk old new = DiskRose old new
 
--- A piece was answered, and the reply was said in part.
-pub record StoppedSaying (limit : ℕ) (piece : Piece) (was : World) (new : DiskView) : Type 0 where
-  pub now : World
-  pub shows : Shows new now
-  pub answered : AnsweredInPart limit piece was now
+-- what holds unless the stop came from the disk
+abbrev pub UnlessByDisk : Stop → Type 0 → Type 0
+UnlessByDisk Say P = P
+UnlessByDisk Disk P = Unit {0}
 
-abbrev pub StoppedBy : Stop → ℕ → DiskView → Piece → World → Type 0
-StoppedBy Say limit new piece was = StoppedSaying limit piece was new
+-- The reply of the last turn was said in part, behind what had been said.
+pub record SaysInPart (limit : ℕ) (was : World) (last : Turn) (new : Keeping) : Type 0 where
+  pub part : List ℕ
+  pub reply : IsPartOf part (turn limit was.state last).1
+  pub shows : Shows new (record { state = (turn limit was.state last).0; said = behind was.said part })
+  pub settled : IsSettled new
 
--- Answering a piece was stopped.
-pub record Stops (limit : ℕ) (piece : Piece) (stop : Stop) (old new : DiskView) : Type 0 where
+-- The disk failed in the last turn, and nothing of its reply was said.
+pub record FailsInTurn (limit : ℕ) (was : World) (last : Turn) (new : Keeping) : Type 0 where
+  pub told : new.beside.said ≡ was.said
+  pub now : (stopped : Option Content) (said : List ℕ) → new.now stopped said → LeavesEither limit was last stopped said
+
+-- how a turn stopped
+abbrev pub StopsBy : Stop → ℕ → World → Turn → Keeping → Type 0
+StopsBy Say limit was last new = SaysInPart limit was last new
+StopsBy Disk limit was last new = FailsInTurn limit was last new
+
+-- The answer to a piece was stopped.
+pub record Stopped (limit : ℕ) (piece : Piece) (stop : Stop) (was : World) (old new : Keeping) : Type 0 where
+  pub answer : Answer
+  pub allowed : IsAllowed limit old.limit was.state piece answer
+  pub moments : Passes old.time new.time (IsMoment limit was (turn_by piece answer ∷ []))
+  pub by : StopsBy stop limit was (turn_by piece answer) new
+
+pub record Stops (limit : ℕ) (piece : Piece) (stop : Stop) (old new : Keeping) : Type 0 where
   pub frame : Frame old new
   pub cause : RoseBy stop old new
-  pub stops : (was : World) → Shows old was → StoppedBy stop limit new piece was
+  pub ready : UnlessByDisk stop new.ready
+  pub stops : (was : World) → Shows old was → Stopped limit piece stop was old new
+
+-- ---- some bytes
 
 -- Bytes were served: each statement that a newline ends in them was answered.
-pub record Serves (bytes : List ℕ) (old new : DiskView) (before after : Seen) : Type 0 where
+pub record Serves (bytes : List ℕ) (old new : Keeping) (before after : Seen) : Type 0 where
   pub frame : Frame old new
-  pub serves : (limit : ℕ) (held : List ℕ) → Stands limit before held → (was : World) → Shows old was → (now : World) × Shows new now × ServedTo limit held bytes was now after
+  pub ready : new.ready
+  pub serves : (limit : ℕ) (held : List ℕ) → StandsOpen limit before held → (was : World) → Shows old was → (now : World) × Shows new now × ServedTo limit old.limit held bytes was now old.time new.time after
+
+-- Where `held` stood open, serving `bytes` answered some pieces of them, and then was stopped in the answer to the next one.
+-- Each moment that came between is one of these turns.
+pub record Broke (limit store : ℕ) (whole : Bool) (stop : Stop) (held bytes : List ℕ) (was : World) (old new : Keeping) : Type 0 where
+  pub turns : List Turn
+  pub mid : World
+  pub leads : Leads limit store was turns mid
+  pub last : Turn
+  pub allowed : IsAllowed limit store mid.state last.piece last.answer
+  pub later : List Piece
+  pub rest : List ℕ
+  pub cut : HasPieces whole (held ++ bytes) (pieces turns ++ last.piece ∷ later) rest
+  pub moments : Passes old.time new.time (IsMoment limit was (turns ++ last ∷ []))
+  pub by : StopsBy stop limit mid last new
 
 -- Serving bytes was stopped.
-pub record Breaks (whole : Bool) (stop : Stop) (bytes : List ℕ) (old new : DiskView) (before : Seen) : Type 0 where
+pub record Breaks (whole : Bool) (stop : Stop) (bytes : List ℕ) (old new : Keeping) (before : Seen) : Type 0 where
   pub frame : Frame old new
   pub cause : RoseBy stop old new
-  pub breaks : (limit : ℕ) (held : List ℕ) → Stands limit before held → (was : World) → Shows old was → Broke limit whole held bytes was (StoppedBy stop limit new)
+  pub ready : UnlessByDisk stop new.ready
+  pub breaks : (limit : ℕ) (held : List ℕ) → StandsOpen limit before held → (was : World) → Shows old was → Broke limit old.limit whole stop held bytes was old new
 
 -- The end of the script was served.
-pub record Finishes (old new : DiskView) (before : Seen) : Type 0 where
+pub record Finishes (old new : Keeping) (before : Seen) : Type 0 where
   pub frame : Frame old new
-  pub serves : (limit : ℕ) (held : List ℕ) → Stands limit before held → (was : World) → Shows old was → (now : World) × Shows new now × Served limit true held [] was now
+  pub ready : new.ready
+  pub serves : (limit : ℕ) (held : List ℕ) → StandsOpen limit before held → (was : World) → Shows old was → (now : World) × Shows new now × Served limit old.limit true held [] was now old.time new.time

@@ -14,6 +14,7 @@ pub enum Ending {
     SayFault,
     /// There was no memory for a statement's buffer.
     NoMemory,
+    DiskFault,
     /// The script is too long.
     PastLimit,
 }
@@ -24,6 +25,7 @@ impl Stop {
     {
         match self {
             Stop::Say => Ending::SayFault,
+            Stop::Disk => Ending::DiskFault,
         }
     }
 }
@@ -38,6 +40,7 @@ impl Ending {
             Ending::HearFault => 3,
             Ending::SayFault => 4,
             Ending::NoMemory => 5,
+            Ending::DiskFault => 6,
             Ending::PastLimit => 8,
         }
     }

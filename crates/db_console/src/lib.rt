@@ -9,5 +9,5 @@ mod serving;
 #[cfg(test)]
 mod tests;
 
-pub use running::{SCRIPT_LIMIT, STATEMENT_LIMIT, run};
+pub use running::{SCRIPT_LIMIT, STATEMENT_LIMIT, STORE_LIMIT, run, serve};
 pub use st_cut::cut;

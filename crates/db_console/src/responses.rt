@@ -1,19 +1,28 @@
 //! What is said to a piece of a script.
 
-ghost use Rattle.std.specs.Prelude.{◌≡◌, ℕ, List, true};
+ghost use Rattle.std.specs.Prelude.{◌≡◌, ℕ, List, Some, IfOk, OnErr, true};
 ghost use Rattle.std.specs.Str.{chars};
+ghost use Rattle.ct_keep.specs.Content.{Content};
+ghost use Rattle.ct_keep.specs.Keeping.{Kept};
 ghost use Rattle.st_parse.specs.Grammar.{read};
 ghost use Rattle.st_cut.specs.Seen.{Shows as ShowsText};
-ghost use Rattle.db_engine.specs.Steps.{State, effect_of, is_text as is_text_bytes};
-ghost use Rattle.db_engine.specs.Runs.{statement, rest_piece};
-ghost use Rattle.db_console.specs.Responses.{bytes_of, IsResponse, IsTextOf, Replies};
+ghost use Rattle.db_engine.specs.States.{State, Stands, TakesAll};
+ghost use Rattle.db_engine.specs.Refusals.{reply_by};
+ghost use Rattle.db_engine.specs.Steps.{effect_of, rest_step, is_text as is_text_bytes};
+ghost use Rattle.db_engine.specs.Executing.{fault_of_stop};
+ghost use Rattle.db_engine.specs.Runs.{statement, can_fill};
+ghost use Rattle.db_console.specs.Worlds.{World};
+ghost use Rattle.db_console.specs.Views.{Shows, Replied, Halted};
+ghost use Rattle.db_console.specs.Responses.{bytes_of, IsTextOf, Responds};
 
 use ct_base::Bytes;
+use ct_keep::Keeper;
 use db_cond::{not_understood, out_of_memory, statement_too_long};
-use db_engine::{Reply, execute};
+use db_engine::{Reply, Stop, execute};
 use st_parse::{StatementFault, is_blank, parse};
 use std::alloc::Global;
 use std::str::from_utf8;
+use std::thread::Threads;
 
 /// What is said to a piece of a script.
 #[derive(Drop)]
@@ -56,37 +65,57 @@ fn text_of(bytes: &[u8]) -> Option<&str>
     from_utf8(bytes).ok()
 }
 
-/// The response to a text that isn't too long.
-fn respond_to_text(alloc: Global, text: &str) -> Response
-    ensures { (m : State) → IsResponse result (effect_of m (read (chars text.now))).1 }
+/// The response to a text that isn't too long: where it is a statement, that is executed first.
+fn respond_to_text<R: Threads + Sync, K: Keeper>(
+    rt: &R,
+    alloc: Global,
+    degree: u32,
+    keeper: &mut K,
+    text: &str,
+) -> Result<Response, Stop>
+    requires ready { (K.keeping keeper.old).ready }
+    requires takes { TakesAll (K.keeping keeper.old).well }
+    ensures kept { Kept (K.keeping keeper.old) (K.keeping keeper.new) (fault_of_stop result) }
+    ensures responds { (m : State) (c : Content) → (K.keeping keeper.old).content ≡ Some c → Stands c m → Responds m (read (chars text.now)) c (K.keeping keeper.old) (K.keeping keeper.new) result }
 {
     match parse(alloc, text) {
-        Ok(None) => Response::Nothing,
-        Ok(Some(statement)) => match execute(alloc, &statement) {
-            Reply::Text(lines) => Response::Lines(lines),
-            Reply::NoMemory => Response::NoMemory,
+        Ok(None) => Ok(Response::Nothing),
+        Ok(Some(statement)) => match execute(rt, alloc, degree, keeper, &statement) {
+            Ok(Reply::Text(lines)) => Ok(Response::Lines(lines)),
+            Ok(Reply::NoMemory) => Ok(Response::NoMemory),
+            Err(stop) => Err(stop),
         },
-        Err(StatementFault::Syntax) => Response::NotUnderstood,
-        Err(StatementFault::Memory) => Response::NoMemory,
+        Err(StatementFault::Syntax) => Ok(Response::NotUnderstood),
+        Err(StatementFault::Memory) => Ok(Response::NoMemory),
     }
 }
 
-/// The response to a statement, which is given where it isn't too long.
-pub fn respond(alloc: Global, text: Option<&[u8]>) -> Response
-    ensures { (limit : ℕ) (ended : List ℕ) → ShowsText limit text.entry ended → Replies limit (statement ended) (bytes_of result) }
+/// The response to a statement, which is given where it isn't too long, and then executed.
+pub fn respond<R: Threads + Sync, K: Keeper>(
+    rt: &R,
+    alloc: Global,
+    degree: u32,
+    keeper: &mut K,
+    text: Option<&[u8]>,
+) -> Result<Response, Stop>
+    requires ready { (K.keeping keeper.old).ready }
+    requires takes { TakesAll (K.keeping keeper.old).well }
+    ensures kept { Kept (K.keeping keeper.old) (K.keeping keeper.new) (fault_of_stop result) }
+    ensures replied { IfOk result (λ response. (limit : ℕ) (ended : List ℕ) → ShowsText limit text.entry ended → (was : World) → Shows (K.keeping keeper.old) was → Replied limit (statement ended) was (K.keeping keeper.old) (K.keeping keeper.new) (bytes_of response)) }
+    ensures halted { OnErr result ((limit : ℕ) (ended : List ℕ) → ShowsText limit text.entry ended → (was : World) → Shows (K.keeping keeper.old) was → Halted limit (statement ended) was (K.keeping keeper.old) (K.keeping keeper.new)) }
 {
     let Some(bytes) = text else {
-        return Response::TooLong;
+        return Ok(Response::TooLong);
     };
     let Some(text) = text_of(bytes) else {
-        return Response::NotUnderstood;
+        return Ok(Response::NotUnderstood);
     };
-    respond_to_text(alloc, text)
+    respond_to_text(rt, alloc, degree, keeper, text)
 }
 
-/// The response to the rest of a script, which is given where it isn't too long. It takes no memory.
+/// The response to the rest of a script, which is given where it isn't too long. It takes no memory, and executes nothing.
 pub fn respond_to_rest(text: Option<&[u8]>) -> Response
-    ensures { (limit : ℕ) (rest : List ℕ) → ShowsText limit text.entry rest → Replies limit (rest_piece rest) (bytes_of result) }
+    ensures { (limit : ℕ) (rest : List ℕ) → ShowsText limit text.entry rest → (m : State) → bytes_of result ≡ reply_by (rest_step limit m rest) }
 {
     let Some(bytes) = text else {
         return Response::TooLong;

@@ -1,13 +1,17 @@
 //! A whole run.
 
-ghost use Rattle.std.specs.Prelude.{◌≡◌, ◌<◌, ◌↔◌, length};
-ghost use Rattle.db_console.specs.Views.{HearRose, SayRose, Untouched};
-ghost use Rattle.db_console.specs.Table.{Completes, Outcome, TellsPast, status_of};
+ghost use Rattle.std.specs.Prelude.{◌≡◌, ◌^◌, ◌<◌, ◌↔◌, length};
+ghost use Rattle.db_engine.specs.States.{TakesAll};
+ghost use Rattle.ct_base.specs.Causes.{Rose};
+ghost use Rattle.db_console.specs.Views.{HearRose, SayRose, DiskRose};
+ghost use Rattle.db_console.specs.Table.{Completes, Outcome, RanOver, TellsPast, status_of};
 ghost use Rattle.db_console.specs.declared.endings.Ending.{Ending};
 
-use crate::serving::serve;
+use crate::serving::serve_script;
+use ct_keep::{Keeper, SiteMap};
 use ct_site::Site;
 use std::alloc::Global;
+use std::thread::Threads;
 
 /// How many bytes a statement has at most, without its `;`.
 pub const STATEMENT_LIMIT: usize = 65_536;
@@ -15,31 +19,77 @@ pub const STATEMENT_LIMIT: usize = 65_536;
 /// How many bytes a script has at most.
 pub const SCRIPT_LIMIT: u64 = 1 << 40;
 
+/// How much the content of the store may weigh.
+pub const STORE_LIMIT: u64 = 1 << 36;
+
+/// How many threads are at work on a statement at most.
+const DEGREE: u32 = 1;
+
 /// The status of a run with words that aren't understood.
 const BAD_WORDS: u8 = 2;
 
+/// Serves a script of at most `most` bytes over a keeper, and answers a status: 0 where all of the script was answered, 3, 4 and 6
+/// for a fault of hearing, of saying and of the disk, 5 where there was no memory to begin with, and 8 for a script of over `most`
+/// bytes. At most `degree` threads are at work on a statement. After 6 the keeper may not be called again. Its cost is that of
+/// the statements.
+pub fn serve<R: Threads + Sync, K: Keeper>(
+    rt: &R,
+    alloc: Global,
+    degree: u32,
+    most: u64,
+    keeper: &mut K,
+) -> u8
+    requires ready { (K.keeping keeper.old).ready }
+    requires takes { TakesAll (K.keeping keeper.old).well }
+
+    // the table of statuses, with the moments of a stop
+    ensures table { (ending : Ending) × (result ≡ status_of ending) × Outcome 65536 most (K.keeping keeper.old) (K.keeping keeper.new) ending }
+
+    // causes
+    ensures hear { result ≡ 3 → HearRose (K.keeping keeper.old).beside (K.keeping keeper.new).beside }
+    ensures say { result ≡ 4 → SayRose (K.keeping keeper.old).beside (K.keeping keeper.new).beside }
+    ensures memory { result ≡ 5 → keeper.new ≡ keeper.old }
+    ensures disk { result ≡ 6 → DiskRose (K.keeping keeper.old) (K.keeping keeper.new) }
+    ensures past { TellsPast most result (K.keeping keeper.old).beside (K.keeping keeper.new).beside }
+    ensures complete { Completes most result (K.keeping keeper.old).beside (K.keeping keeper.new).beside (¬ DiskRose (K.keeping keeper.old) (K.keeping keeper.new)) }
+{
+    serve_script(rt, alloc, degree, STATEMENT_LIMIT, most, keeper).status()
+}
+
+/// Serves the script of a site over an empty keeper in memory.
+fn serve_over<R: Threads + Sync, S: Site>(rt: &R, alloc: Global, site: &mut S) -> u8
+    ensures table { (ending : Ending) × (result ≡ status_of ending) × RanOver 65536 (2 ^ 40) (2 ^ 36) (S.disk site.old) (S.disk site.new) ending }
+    ensures memory { result ≡ 5 → S.disk site.new ≡ S.disk site.old }
+    ensures past { TellsPast (2 ^ 40) result (S.disk site.old).beside (S.disk site.new).beside }
+    ensures complete { Completes (2 ^ 40) result (S.disk site.old).beside (S.disk site.new).beside (¬ Rose (S.disk site.old).faults (S.disk site.new).faults) }
+{
+    let mut keeper = SiteMap::over(alloc, site, STORE_LIMIT);
+    let status = serve(rt, alloc, DEGREE, SCRIPT_LIMIT, &mut keeper);
+    let _site = keeper.finish();
+    status
+}
+
 /// Runs the script that the site gives, and answers the status of the program: 0 where all of the script was answered, 2 where
 /// there is a word, 3 and 4 for a fault of hearing and of saying, 5 where there was no memory to begin with, and 8 for a script of
-/// over 2^40 bytes. It makes no call of the disk. Its cost is that of the statements.
-pub fn run<S: Site>(alloc: Global, words: &[String], site: &mut S) -> u8
+/// over 2^40 bytes. What the statements make is kept in memory, and may weigh 2^36. Its cost is that of the statements.
+pub fn run<R: Threads + Sync, S: Site>(rt: &R, alloc: Global, words: &[String], site: &mut S) -> u8
     // words
     ensures words { (result ≡ 2) ↔ (0 < length words.now) }
     ensures no_call { 0 < length words.now → S.disk site.new ≡ S.disk site.old }
 
-    // the table of statuses
-    ensures table { length words.now ≡ 0 → (ending : Ending) × (result ≡ status_of ending) × Outcome STATEMENT_LIMIT SCRIPT_LIMIT (S.disk site.old) (S.disk site.new) ending }
+    // the table of statuses, from the empty state
+    ensures table { length words.now ≡ 0 → (ending : Ending) × (result ≡ status_of ending) × RanOver 65536 (2 ^ 40) (2 ^ 36) (S.disk site.old) (S.disk site.new) ending }
 
     // causes
-    ensures hear { result ≡ 3 → HearRose (S.disk site.old) (S.disk site.new) }
-    ensures say { result ≡ 4 → SayRose (S.disk site.old) (S.disk site.new) }
+    ensures hear { result ≡ 3 → HearRose (S.disk site.old).beside (S.disk site.new).beside }
+    ensures say { result ≡ 4 → SayRose (S.disk site.old).beside (S.disk site.new).beside }
     ensures memory { result ≡ 5 → S.disk site.new ≡ S.disk site.old }
-    ensures past { length words.now ≡ 0 → TellsPast SCRIPT_LIMIT result (S.disk site.old) (S.disk site.new) }
-    ensures complete { length words.now ≡ 0 → Completes SCRIPT_LIMIT result (S.disk site.old) (S.disk site.new) }
-
-    ensures no_disk { Untouched (S.disk site.old) (S.disk site.new) }
+    ensures disk { result ≡ 6 → Rose (S.disk site.old).faults (S.disk site.new).faults }
+    ensures past { length words.now ≡ 0 → TellsPast (2 ^ 40) result (S.disk site.old).beside (S.disk site.new).beside }
+    ensures complete { length words.now ≡ 0 → Completes (2 ^ 40) result (S.disk site.old).beside (S.disk site.new).beside (¬ Rose (S.disk site.old).faults (S.disk site.new).faults) }
 {
     if !words.is_empty() {
         return BAD_WORDS;
     }
-    serve(alloc, STATEMENT_LIMIT, SCRIPT_LIMIT, site).status()
+    serve_over(rt, alloc, site)
 }

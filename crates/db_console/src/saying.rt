@@ -3,33 +3,38 @@
 ghost use Rattle.std.specs.Prelude.{◌≡◌, ◌≤◌, ◌<◌, ◌+◌, OnOk, OnErr, IfErr, length, take, drop};
 ghost use Rattle.db_console.specs.Views.{Spoke, SpokeInPart};
 
-use ct_site::{Failed, Site};
+use ct_keep::Keeper;
+use ct_site::Failed;
 
 /// What stops the answer to a piece of a script.
 #[derive(Debug, Drop)]
 pub enum Stop {
     /// Saying failed.
     Say,
+    /// The disk failed; the keeper may not be called again.
+    Disk,
 }
 
 /// Says all the bytes, by as many calls as it takes.
-fn say_all<S: Site>(site: &mut S, bytes: &[u8]) -> Result<(), Failed>
-    ensures all { OnOk result (Spoke bytes.now (S.disk site.old) (S.disk site.new)) }
-    ensures part { OnErr result (SpokeInPart bytes.now (S.disk site.old) (S.disk site.new)) }
+fn say_all<K: Keeper>(keeper: &mut K, bytes: &[u8]) -> Result<(), Failed>
+    requires { (K.keeping keeper.old).ready }
+    ensures all { OnOk result (Spoke bytes.now (K.keeping keeper.old) (K.keeping keeper.new)) }
+    ensures part { OnErr result (SpokeInPart bytes.now (K.keeping keeper.old) (K.keeping keeper.new)) }
 {
     let mut at = 0;
     while at < bytes.len() {
-        at += site.say(&bytes[at..])?;
+        at += keeper.say(&bytes[at..])?;
     }
     Ok(())
 }
 
 /// Says a reply.
-pub fn say_reply<S: Site>(site: &mut S, reply: &[u8]) -> Result<(), Stop>
-    ensures all { OnOk result (Spoke reply.now (S.disk site.old) (S.disk site.new)) }
-    ensures part { IfErr result (λ stop. (stop ≡ Stop.Say) × SpokeInPart reply.now (S.disk site.old) (S.disk site.new)) }
+pub fn say_reply<K: Keeper>(keeper: &mut K, reply: &[u8]) -> Result<(), Stop>
+    requires { (K.keeping keeper.old).ready }
+    ensures all { OnOk result (Spoke reply.now (K.keeping keeper.old) (K.keeping keeper.new)) }
+    ensures part { IfErr result (λ stop. (stop ≡ Stop.Say) × SpokeInPart reply.now (K.keeping keeper.old) (K.keeping keeper.new)) }
 {
-    match say_all(site, reply) {
+    match say_all(keeper, reply) {
         Ok(()) => Ok(()),
         Err(_) => Err(Stop::Say),
     }

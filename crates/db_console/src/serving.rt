@@ -3,6 +3,7 @@
 ghost use Rattle.std.specs.Prelude.{◌≡◌, ◌≤◌, ◌<◌, ◌∷◌, [], ℕ, List, true, false, Ok, IfOk, OnOk, OnErr, IfErr, length, take};
 ghost use Rattle.ct_base.specs.Told.{took};
 ghost use Rattle.st_cut.specs.Seen.{Shows as ShowsText};
+ghost use Rattle.db_engine.specs.States.{TakesAll};
 ghost use Rattle.db_engine.specs.Runs.{statement, rest_piece};
 ghost use Rattle.db_console.specs.Views.{Heard, EndsHere, HearRose, Answers, Stops, Serves, Breaks, Finishes};
 ghost use Rattle.db_console.specs.Table.{Closes, Outcome};
@@ -10,43 +11,60 @@ ghost use Rattle.db_console.specs.Table.{Closes, Outcome};
 use crate::endings::Ending;
 use crate::responses::{respond, respond_to_rest};
 use crate::saying::{Stop, say_reply};
-use ct_site::{Failed, Site};
+use ct_keep::Keeper;
+use ct_site::Failed;
 use st_cut::Cutter;
 use std::alloc::Global;
+use std::thread::Threads;
 
 /// How many bytes of a script are heard at once at most.
 const CHUNK: usize = 4096;
 
-/// Answers a statement, which is given where it isn't too long, and says the reply.
-fn answer<S: Site>(alloc: Global, site: &mut S, text: Option<&[u8]>) -> Result<(), Stop>
-    ensures all { OnOk result ((limit : ℕ) (ended : List ℕ) → ShowsText limit text.entry ended → Answers limit (statement ended) (S.disk site.old) (S.disk site.new)) }
-    ensures part { IfErr result (λ stop. (limit : ℕ) (ended : List ℕ) → ShowsText limit text.entry ended → Stops limit (statement ended) stop (S.disk site.old) (S.disk site.new)) }
+/// Answers a statement, which is given where it isn't too long: executes it, and then says the reply.
+fn answer<R: Threads + Sync, K: Keeper>(
+    rt: &R,
+    alloc: Global,
+    degree: u32,
+    keeper: &mut K,
+    text: Option<&[u8]>,
+) -> Result<(), Stop>
+    requires ready { (K.keeping keeper.old).ready }
+    requires takes { TakesAll (K.keeping keeper.old).well }
+    ensures all { OnOk result ((limit : ℕ) (ended : List ℕ) → ShowsText limit text.entry ended → Answers limit (statement ended) (K.keeping keeper.old) (K.keeping keeper.new)) }
+    ensures part { IfErr result (λ stop. (limit : ℕ) (ended : List ℕ) → ShowsText limit text.entry ended → Stops limit (statement ended) stop (K.keeping keeper.old) (K.keeping keeper.new)) }
 {
-    let response = respond(alloc, text);
-    say_reply(site, response.bytes())
+    match respond(rt, alloc, degree, keeper, text) {
+        Ok(response) => say_reply(keeper, response.bytes()),
+        Err(_) => Err(Stop::Disk),
+    }
 }
 
 /// Answers the rest of a script, which is given where it isn't too long.
-fn answer_rest<S: Site>(site: &mut S, text: Option<&[u8]>) -> Result<(), Stop>
-    ensures all { OnOk result ((limit : ℕ) (rest : List ℕ) → ShowsText limit text.entry rest → Answers limit (rest_piece rest) (S.disk site.old) (S.disk site.new)) }
-    ensures part { IfErr result (λ stop. (limit : ℕ) (rest : List ℕ) → ShowsText limit text.entry rest → Stops limit (rest_piece rest) stop (S.disk site.old) (S.disk site.new)) }
+fn answer_rest<K: Keeper>(keeper: &mut K, text: Option<&[u8]>) -> Result<(), Stop>
+    requires { (K.keeping keeper.old).ready }
+    ensures all { OnOk result ((limit : ℕ) (rest : List ℕ) → ShowsText limit text.entry rest → Answers limit (rest_piece rest) (K.keeping keeper.old) (K.keeping keeper.new)) }
+    ensures part { IfErr result (λ stop. (limit : ℕ) (rest : List ℕ) → ShowsText limit text.entry rest → Stops limit (rest_piece rest) stop (K.keeping keeper.old) (K.keeping keeper.new)) }
 {
     let response = respond_to_rest(text);
-    say_reply(site, response.bytes())
+    say_reply(keeper, response.bytes())
 }
 
 /// Serves one byte of the script.
-fn serve_byte<S: Site>(
+fn serve_byte<R: Threads + Sync, K: Keeper>(
+    rt: &R,
     alloc: Global,
-    site: &mut S,
+    degree: u32,
+    keeper: &mut K,
     cutter: &mut Cutter,
     byte: u8,
 ) -> Result<(), Stop>
-    ensures served { OnOk result (Serves (byte ∷ []) (S.disk site.old) (S.disk site.new) cutter.old cutter.new) }
-    ensures broke { IfErr result (λ stop. Breaks false stop (byte ∷ []) (S.disk site.old) (S.disk site.new) cutter.old) }
+    requires ready { (K.keeping keeper.old).ready }
+    requires takes { TakesAll (K.keeping keeper.old).well }
+    ensures served { OnOk result (Serves (byte ∷ []) (K.keeping keeper.old) (K.keeping keeper.new) cutter.old cutter.new) }
+    ensures broke { IfErr result (λ stop. Breaks false stop (byte ∷ []) (K.keeping keeper.old) (K.keeping keeper.new) cutter.old) }
 {
     if byte == b'\n' && cutter.is_ending() {
-        answer(alloc, site, cutter.statement())?;
+        answer(rt, alloc, degree, keeper, cutter.statement())?;
         cutter.clear();
     } else {
         cutter.push(byte);
@@ -55,70 +73,102 @@ fn serve_byte<S: Site>(
 }
 
 /// Serves some bytes of the script.
-fn serve_bytes<S: Site>(
+fn serve_bytes<R: Threads + Sync, K: Keeper>(
+    rt: &R,
     alloc: Global,
-    site: &mut S,
+    degree: u32,
+    keeper: &mut K,
     cutter: &mut Cutter,
     bytes: &[u8],
 ) -> Result<(), Stop>
-    ensures served { OnOk result (Serves bytes.now (S.disk site.old) (S.disk site.new) cutter.old cutter.new) }
-    ensures broke { IfErr result (λ stop. Breaks false stop bytes.now (S.disk site.old) (S.disk site.new) cutter.old) }
+    requires ready { (K.keeping keeper.old).ready }
+    requires takes { TakesAll (K.keeping keeper.old).well }
+    ensures served { OnOk result (Serves bytes.now (K.keeping keeper.old) (K.keeping keeper.new) cutter.old cutter.new) }
+    ensures broke { IfErr result (λ stop. Breaks false stop bytes.now (K.keeping keeper.old) (K.keeping keeper.new) cutter.old) }
 {
     for byte in bytes {
-        serve_byte(alloc, site, cutter, *byte)?;
+        serve_byte(rt, alloc, degree, keeper, cutter, *byte)?;
     }
     Ok(())
 }
 
 /// Serves the end of the script: a last statement, or else the rest.
-fn finish<S: Site>(alloc: Global, site: &mut S, cutter: &Cutter) -> Result<(), Stop>
-    ensures served { OnOk result (Finishes (S.disk site.old) (S.disk site.new) cutter.now) }
-    ensures broke { IfErr result (λ stop. Breaks true stop [] (S.disk site.old) (S.disk site.new) cutter.now) }
+fn finish<R: Threads + Sync, K: Keeper>(
+    rt: &R,
+    alloc: Global,
+    degree: u32,
+    keeper: &mut K,
+    cutter: &Cutter,
+) -> Result<(), Stop>
+    requires ready { (K.keeping keeper.old).ready }
+    requires takes { TakesAll (K.keeping keeper.old).well }
+    ensures served { OnOk result (Finishes (K.keeping keeper.old) (K.keeping keeper.new) cutter.now) }
+    ensures broke { IfErr result (λ stop. Breaks true stop [] (K.keeping keeper.old) (K.keeping keeper.new) cutter.now) }
 {
     if cutter.is_ending() {
-        return answer(alloc, site, cutter.statement());
+        return answer(rt, alloc, degree, keeper, cutter.statement());
     }
-    answer_rest(site, cutter.rest())
+    answer_rest(keeper, cutter.rest())
 }
 
 /// Serves the end of the script, with which the run ends.
-fn close<S: Site>(alloc: Global, site: &mut S, cutter: &Cutter) -> Ending
-    ensures { Closes result (S.disk site.old) (S.disk site.new) cutter.now }
+fn close<R: Threads + Sync, K: Keeper>(
+    rt: &R,
+    alloc: Global,
+    degree: u32,
+    keeper: &mut K,
+    cutter: &Cutter,
+) -> Ending
+    requires ready { (K.keeping keeper.old).ready }
+    requires takes { TakesAll (K.keeping keeper.old).well }
+    ensures { Closes result (K.keeping keeper.old) (K.keeping keeper.new) cutter.now }
 {
-    match finish(alloc, site, cutter) {
+    match finish(rt, alloc, degree, keeper, cutter) {
         Ok(()) => Ending::Done,
         Err(stop) => stop.ending(),
     }
 }
 
 /// Hears at most `room` bytes.
-fn hear_some<S: Site>(site: &mut S, chunk: &mut [u8], room: usize) -> Result<usize, Failed>
+fn hear_some<K: Keeper>(keeper: &mut K, chunk: &mut [u8], room: usize) -> Result<usize, Failed>
+    requires ready { (K.keeping keeper.old).ready }
     requires some { 0 < room }
     requires within { room ≤ length chunk.old }
     ensures bound { IfOk result (λ count. count ≤ room) }
     ensures sized { IfOk result (λ count. length (take count chunk.new) ≡ count) }
-    ensures heard { Heard (took result chunk.new) (S.disk site.old) (S.disk site.new) }
-    ensures end { result ≡ Ok 0 → EndsHere (S.disk site.new) }
-    ensures failed { OnErr result (HearRose (S.disk site.old) (S.disk site.new)) }
+    ensures heard { Heard (took result chunk.new) (K.keeping keeper.old) (K.keeping keeper.new) }
+    ensures end { result ≡ Ok 0 → EndsHere (K.keeping keeper.new).beside }
+    ensures failed { OnErr result (HearRose (K.keeping keeper.old).beside (K.keeping keeper.new).beside) }
 {
-    site.hear(&mut chunk[..room])
+    keeper.hear(&mut chunk[..room])
 }
 
 /// Hears one byte past those that a script may have, and answers whether there is one.
-fn hear_past<S: Site>(site: &mut S) -> Result<bool, Failed>
-    ensures end { result ≡ Ok false → Heard [] (S.disk site.old) (S.disk site.new) × EndsHere (S.disk site.new) }
-    ensures more { result ≡ Ok true → (byte : ℕ) × Heard (byte ∷ []) (S.disk site.old) (S.disk site.new) }
-    ensures failed { OnErr result (Heard [] (S.disk site.old) (S.disk site.new) × HearRose (S.disk site.old) (S.disk site.new)) }
+fn hear_past<K: Keeper>(keeper: &mut K) -> Result<bool, Failed>
+    requires { (K.keeping keeper.old).ready }
+    ensures end { result ≡ Ok false → Heard [] (K.keeping keeper.old) (K.keeping keeper.new) × EndsHere (K.keeping keeper.new).beside }
+    ensures more { result ≡ Ok true → (byte : ℕ) × Heard (byte ∷ []) (K.keeping keeper.old) (K.keeping keeper.new) }
+    ensures failed { OnErr result (Heard [] (K.keeping keeper.old) (K.keeping keeper.new) × HearRose (K.keeping keeper.old).beside (K.keeping keeper.new).beside) }
 {
     let mut byte = [0u8; 1];
-    let count = site.hear(&mut byte)?;
+    let count = keeper.hear(&mut byte)?;
     Ok(count > 0)
 }
 
 /// Hears a script of at most `most` bytes, answers each statement of it, and says the replies. A statement of over
 /// `limit` bytes is answered unread. It takes the memory for the longest statement first.
-pub fn serve<S: Site>(alloc: Global, limit: usize, most: u64, site: &mut S) -> Ending
-    ensures { Outcome limit most (S.disk site.old) (S.disk site.new) result }
+pub fn serve_script<R: Threads + Sync, K: Keeper>(
+    rt: &R,
+    alloc: Global,
+    degree: u32,
+    limit: usize,
+    most: u64,
+    keeper: &mut K,
+) -> Ending
+    requires ready { (K.keeping keeper.old).ready }
+    requires takes { TakesAll (K.keeping keeper.old).well }
+    ensures outcome { Outcome limit most (K.keeping keeper.old) (K.keeping keeper.new) result }
+    ensures memory { result ≡ Ending.NoMemory → keeper.new ≡ keeper.old }
 {
     let Ok(mut cutter) = Cutter::new(alloc, limit) else {
         return Ending::NoMemory;
@@ -127,22 +177,22 @@ pub fn serve<S: Site>(alloc: Global, limit: usize, most: u64, site: &mut S) -> E
     let mut taken = 0u64;
     while taken < most {
         let room = (most - taken).min(CHUNK as u64) as usize;
-        let Ok(count) = hear_some(site, &mut chunk, room) else {
+        let Ok(count) = hear_some(keeper, &mut chunk, room) else {
             return Ending::HearFault;
         };
         if count == 0 {
-            return close(alloc, site, &cutter);
+            return close(rt, alloc, degree, keeper, &cutter);
         }
-        if let Err(stop) = serve_bytes(alloc, site, &mut cutter, &chunk[..count]) {
+        if let Err(stop) = serve_bytes(rt, alloc, degree, keeper, &mut cutter, &chunk[..count]) {
             return stop.ending();
         }
         taken += count as u64;
     }
-    let Ok(is_more) = hear_past(site) else {
+    let Ok(is_more) = hear_past(keeper) else {
         return Ending::HearFault;
     };
     if is_more {
         return Ending::PastLimit;
     }
-    close(alloc, site, &cutter)
+    close(rt, alloc, degree, keeper, &cutter)
 }

@@ -1,11 +1,12 @@
-//! Runs over a site in memory that hears and says in pieces.
+//! Runs over a site in memory that hears and says in pieces, and over keepers in memory.
 
-use crate::running::run;
-use crate::serving::serve;
+use crate::running::{run, serve};
 use ct_base::{Memory, Numbers};
+use ct_keep::MemKeeper;
 use ct_site::{Disk, Failed, Faults, MemSite, Rooms, Site};
 use std::alloc::Global;
 use std::test::Fail;
+use std::thread::Threads;
 
 /// A site in memory of which one call hears or says at most so many bytes.
 #[derive(Drop)]
@@ -74,9 +75,28 @@ fn site_of(
 }
 
 /// The status of a run, and what was said.
-fn outcome(alloc: Global, mut site: PieceSite) -> Result<(u8, Vec<u8>), Memory> {
-    let status = run(alloc, &[], &mut site);
+fn outcome<R: Threads + Sync>(
+    rt: &R,
+    alloc: Global,
+    mut site: PieceSite,
+) -> Result<(u8, Vec<u8>), Memory> {
+    let status = run(rt, alloc, &[], &mut site);
     Ok((status, Vec::from_slice(alloc, site.site.said())?))
+}
+
+/// The status of serving a script over an empty keeper, and what was said.
+fn served<R: Threads + Sync>(
+    rt: &R,
+    alloc: Global,
+    script: &str,
+    most: u64,
+    limit: u64,
+    said_room: usize,
+) -> Result<(u8, Vec<u8>), Memory> {
+    let script = Vec::from_slice(alloc, script.as_bytes())?;
+    let mut keeper = MemKeeper::new(alloc, script, limit, said_room)?;
+    let status = serve(rt, alloc, 1, most, &mut keeper);
+    Ok((status, Vec::from_slice(alloc, keeper.said())?))
 }
 
 const TOKENS: &str = "EXEC CTX_DOC.POLICY_TOKENS('some text');\n";
@@ -86,14 +106,27 @@ const TWO: &str = "SELEC;\nSELEC;\n";
 const BAD: &str = "E10: statement not understood\n";
 
 #[test]
+fn statements_are_executed(rt: HostRuntime) -> Result<(), Fail> {
+    let alloc = rt.alloc();
+    for piece in [4096, 1, 7] {
+        let site = site_of(alloc, TOKENS.as_bytes(), piece, &[], &[])?;
+        let (status, said) = outcome(&rt, alloc, site)?;
+        assert_eq!(rt; status, 0, "{piece}");
+        assert!(rt;
+            said.as_slice() == b"some|0|4\ntext|5|4\n".as_slice(),
+            "{piece}"
+        );
+    }
+    Ok(())
+}
+
+#[test]
 fn statements_and_rests_are_answered(rt: HostRuntime) -> Result<(), Fail> {
     let alloc = rt.alloc();
     for (script, piece, want) in [
         ("", 4096, ""),
-        (TOKENS, 4096, "some|0|4\ntext|5|4\n"),
-        (TOKENS, 1, "some|0|4\ntext|5|4\n"),
-        (TOKENS, 7, "some|0|4\ntext|5|4\n"),
         ("SELEC;\n", 4096, BAD),
+        ("SELEC;\n", 1, BAD),
         ("-- note;\n", 4096, ""),
         ("DROP TABLE docs", 4096, BAD),
         ("-- \u{e9};\n", 4096, BAD),
@@ -101,7 +134,7 @@ fn statements_and_rests_are_answered(rt: HostRuntime) -> Result<(), Fail> {
         ("SELEC;", 4096, BAD),
     ] {
         let site = site_of(alloc, script.as_bytes(), piece, &[], &[])?;
-        let (status, said) = outcome(alloc, site)?;
+        let (status, said) = outcome(&rt, alloc, site)?;
         assert_eq!(rt; status, 0, "{script:?}");
         assert!(rt; said.as_slice() == want.as_bytes(), "{script:?}");
     }
@@ -125,7 +158,7 @@ fn faults_end_the_run(rt: HostRuntime) -> Result<(), Fail> {
         ),
     ] {
         let site = site_of(alloc, TWO.as_bytes(), 7, &[hear], &[say])?;
-        let (ended, said) = outcome(alloc, site)?;
+        let (ended, said) = outcome(&rt, alloc, site)?;
         assert_eq!(rt; ended, status, "{want:?}");
         assert!(rt; said.as_slice() == want.as_bytes(), "{want:?}");
     }
@@ -135,9 +168,9 @@ fn faults_end_the_run(rt: HostRuntime) -> Result<(), Fail> {
 #[test]
 fn a_word_is_refused(rt: HostRuntime) -> Result<(), Fail> {
     let alloc = rt.alloc();
-    let mut site = site_of(alloc, TOKENS.as_bytes(), 4096, &[], &[])?;
+    let mut site = site_of(alloc, TWO.as_bytes(), 4096, &[], &[])?;
     let words = [String::from_str(alloc, "--limit")?];
-    assert_eq!(rt; run(alloc, &words, &mut site), 2);
+    assert_eq!(rt; run(&rt, alloc, &words, &mut site), 2);
     assert!(rt; site.site.said().is_empty());
     Ok(())
 }
@@ -145,8 +178,7 @@ fn a_word_is_refused(rt: HostRuntime) -> Result<(), Fail> {
 /// A statement of so many bytes, and then another one.
 fn long_script(alloc: Global, length: usize) -> Result<Vec<u8>, Memory> {
     let mut script = Vec::from_elem(alloc, b'a', length)?;
-    script.extend_from_slice(b";\n")?;
-    script.extend_from_slice(TOKENS.as_bytes())?;
+    script.extend_from_slice(b";\nSELEC;\n")?;
     Ok(script)
 }
 
@@ -156,13 +188,16 @@ fn long_statements_are_refused(rt: HostRuntime) -> Result<(), Fail> {
     for (length, want) in [
         (
             65_536,
-            "E10: statement not understood\nsome|0|4\ntext|5|4\n",
+            "E10: statement not understood\nE10: statement not understood\n",
         ),
-        (65_537, "E19: statement too long\nsome|0|4\ntext|5|4\n"),
+        (
+            65_537,
+            "E19: statement too long\nE10: statement not understood\n",
+        ),
     ] {
         let script = long_script(alloc, length)?;
         let site = site_of(alloc, &script, 4096, &[], &[])?;
-        let (status, said) = outcome(alloc, site)?;
+        let (status, said) = outcome(&rt, alloc, site)?;
         assert_eq!(rt; status, 0, "{length}");
         assert!(rt; said.as_slice() == want.as_bytes(), "{length}");
     }
@@ -170,13 +205,193 @@ fn long_statements_are_refused(rt: HostRuntime) -> Result<(), Fail> {
 }
 
 #[test]
-fn long_scripts_are_refused(rt: HostRuntime) -> Result<(), Fail> {
+fn keepers_in_memory_are_served(rt: HostRuntime) -> Result<(), Fail> {
     let alloc = rt.alloc();
-    for (most, status) in [(10, 8), (13, 8), (14, 0), (15, 0)] {
-        let mut site = site_of(alloc, TWO.as_bytes(), 4096, &[], &[])?;
-        let ending = serve(alloc, 100, most, &mut site);
-        assert_eq!(rt; ending.status(), status, "{most}");
-        assert!(rt; site.site.said().starts_with(BAD.as_bytes()), "{most}");
+    // the script, how many bytes it may have, how much the content may weigh, and how many bytes may be said
+    for (script, most, limit, room, status, want) in [
+        (TWO, 10, 4096, 100, 8, BAD),
+        (TWO, 13, 4096, 100, 8, BAD),
+        (TWO, 6, 4096, 100, 8, ""),
+        (TWO, 14, 4096, 40, 4, BAD),
+        ("SELEC;\n", 7, 4096, 30, 0, BAD),
+        ("", 0, 128, 0, 0, ""),
+        ("", 10, 128, 100, 0, ""),
+    ] {
+        let (ended, said) = served(&rt, alloc, script, most, limit, room)?;
+        assert_eq!(rt; ended, status, "{script:?} {most}");
+        assert!(rt; said.as_slice() == want.as_bytes(), "{script:?} {most}");
     }
+    Ok(())
+}
+
+const SCHEMA: &str = "CREATE TABLE docs (id NUMBER PRIMARY KEY, body CLOB, price NUMBER);
+CREATE INDEX di ON docs(body) INDEXTYPE IS CTXSYS.CONTEXT;
+";
+
+const MADE: &str = "Table created.\nIndex created.\n";
+
+const QUICK: &str = "SELECT id, SCORE(1) FROM docs WHERE CONTAINS(body,'quick',1) > 0;\n";
+
+/// The script and what is said to it, behind the schema.
+static INDEXED: [(&str, &str); 4] = [
+    // a row isn't found before the index is synchronised
+    (
+        "INSERT INTO docs VALUES (1,'quick fox quick',0);
+SELECT id, SCORE(1) FROM docs WHERE CONTAINS(body,'quick',1) > 0;
+EXEC CTX_DDL.SYNC_INDEX('di');
+SELECT id, SCORE(1) FROM docs WHERE CONTAINS(body,'quick',1) > 0;
+INSERT INTO docs (price, id, body) VALUES (-7, -2,'the Quick|one');
+EXEC CTX_DDL.SYNC_INDEX('DI', '16M');
+SELECT price, SCORE(1), body, id FROM docs WHERE CONTAINS(body,'QUICK',1) > 0;
+SELECT id FROM docs WHERE CONTAINS(body,'quick') > 1;
+SELECT id FROM docs WHERE CONTAINS(body,'quick') > 2;
+",
+        "1 row created.
+no rows selected
+PL/SQL procedure successfully completed.
+1|2
+1 row created.
+PL/SQL procedure successfully completed.
+-7|1|the Quick\\|one|-2
+0|2|quick fox quick|1
+1
+no rows selected
+",
+    ),
+    // what exists, and what doesn't
+    (
+        "CREATE TABLE docs (id NUMBER PRIMARY KEY, body CLOB, price NUMBER);
+CREATE INDEX di ON docs(body) INDEXTYPE IS CTXSYS.CONTEXT;
+CREATE INDEX other ON docs(body) INDEXTYPE IS CONTEXT;
+CREATE TABLE ctx_user_pending (id NUMBER PRIMARY KEY);
+CREATE INDEX pi ON docs(price) INDEXTYPE IS CONTEXT;
+CREATE INDEX ni ON docs(nope) INDEXTYPE IS CONTEXT;
+INSERT INTO nope VALUES (1);
+SELECT nope FROM docs WHERE CONTAINS(body,'x') > 0;
+SELECT id FROM docs WHERE CONTAINS(price,'x') > 0;
+SELECT id FROM ctx_user_pending WHERE CONTAINS(body,'x') > 0;
+EXEC CTX_DDL.SYNC_INDEX('nope');
+EXEC CTX_DDL.SYNC_INDEX('1');
+EXEC CTX_DDL.SYNC_INDEX('di','16');
+EXEC CTX_DDL.SYNC_INDEX(1);
+EXEC CTX_DOC.POLICY_TOKENS(1);
+",
+        "E12: docs exists already
+E12: di exists already
+E12: other exists already
+E12: ctx_user_pending exists already
+E13: wrong type or number of values
+E11: unknown name nope
+E11: unknown name nope
+E11: unknown name nope
+E27: no index of that kind
+E10: statement not understood
+E11: unknown name nope
+E30: bad attribute or value
+E30: bad attribute or value
+E13: wrong type or number of values
+E13: wrong type or number of values
+",
+    ),
+    // values and numbers
+    (
+        "INSERT INTO docs VALUES (1);
+INSERT INTO docs VALUES ('a','a',0);
+INSERT INTO docs (id, body) VALUES (1,'a');
+INSERT INTO docs (id, body, nope) VALUES (1,'a',0);
+INSERT INTO docs VALUES (1,'a',0);
+INSERT INTO docs VALUES (1,'b',0);
+INSERT INTO docs VALUES (9223372036854775808,'b',0);
+INSERT INTO docs VALUES (-9223372036854775808,'b',0);
+SELECT id, SCORE(2) FROM docs WHERE CONTAINS(body,'a',1) > 0;
+SELECT id FROM docs WHERE CONTAINS(body,'a',1) > 101;
+SELECT id FROM docs WHERE CONTAINS(body,'a b',1) > 0;
+SELECT id FROM docs WHERE CONTAINS(body,'Near',1) > 0;
+CREATE TABLE t (id NUMBER PRIMARY KEY, s VARCHAR2(0));
+CREATE TABLE t (id NUMBER, s VARCHAR2(5));
+CREATE TABLE t (id NUMBER PRIMARY KEY, s VARCHAR2(2));
+INSERT INTO t VALUES (1,'abc');
+",
+        "E13: wrong type or number of values
+E13: wrong type or number of values
+E13: wrong type or number of values
+E11: unknown name nope
+1 row created.
+E14: key 1 exists
+E22: number out of range
+1 row created.
+E13: wrong type or number of values
+E22: number out of range
+E21: operator not in profile at 1
+E21: operator not in profile at 1
+E22: number out of range
+E13: wrong type or number of values
+Table created.
+E16: value too long
+",
+    ),
+    // a table of 17 columns
+    (
+        "CREATE TABLE wide (id NUMBER PRIMARY KEY, b NUMBER, c NUMBER, d NUMBER, e NUMBER, f NUMBER, g NUMBER, h NUMBER, i NUMBER, j NUMBER, k NUMBER, l NUMBER, m NUMBER, n NUMBER, o NUMBER, p NUMBER, q NUMBER);
+",
+        "E31: limit reached
+",
+    ),
+];
+
+/// What is said to a script behind the schema, by a run.
+fn said_to<R: Threads + Sync>(rt: &R, alloc: Global, script: &str) -> Result<Vec<u8>, Memory> {
+    let mut whole = Vec::from_slice(alloc, SCHEMA.as_bytes())?;
+    whole.extend_from_slice(script.as_bytes())?;
+    let site = site_of(alloc, &whole, 4096, &[], &[])?;
+    let (_, said) = outcome(rt, alloc, site)?;
+    Ok(said)
+}
+
+#[test]
+fn rows_are_kept_and_found(rt: HostRuntime) -> Result<(), Fail> {
+    let alloc = rt.alloc();
+    for (script, want) in INDEXED.iter() {
+        let said = said_to(&rt, alloc, script)?;
+        let rest = said.strip_prefix(MADE.as_bytes());
+        assert!(rt; rest == Some(want.as_bytes()), "{want}");
+    }
+    Ok(())
+}
+
+#[test]
+fn a_word_that_occurs_often_scores_100(rt: HostRuntime) -> Result<(), Fail> {
+    let alloc = rt.alloc();
+    let mut script = Vec::from_slice(alloc, b"INSERT INTO docs VALUES (1,'")?;
+    for _ in 0..101 {
+        script.extend_from_slice(b"quick ")?;
+    }
+    script.extend_from_slice(
+        b"',0);\nINSERT INTO docs VALUES (2,'quick',0);\nEXEC CTX_DDL.SYNC_INDEX('di');\n",
+    )?;
+    script.extend_from_slice(QUICK.as_bytes())?;
+    let mut whole = Vec::from_slice(alloc, SCHEMA.as_bytes())?;
+    whole.extend_from_slice(&script)?;
+    let site = site_of(alloc, &whole, 4096, &[], &[])?;
+    let (status, said) = outcome(&rt, alloc, site)?;
+    assert_eq!(rt; status, 0);
+    assert!(rt; said.ends_with(b"completed.\n1|100\n2|1\n"));
+    Ok(())
+}
+
+#[test]
+fn a_store_without_room_is_full(rt: HostRuntime) -> Result<(), Fail> {
+    let alloc = rt.alloc();
+    let script = "CREATE TABLE a (id NUMBER PRIMARY KEY);
+CREATE TABLE b (id NUMBER PRIMARY KEY);
+CREATE TABLE c (id NUMBER PRIMARY KEY);
+CREATE TABLE a (id NUMBER PRIMARY KEY);
+";
+    let (status, said) = served(&rt, alloc, script, 1000, 128, 200)?;
+    assert_eq!(rt; status, 0);
+    assert!(rt;
+        said.as_slice()
+            == b"Table created.\nTable created.\nE80: store full\nE12: a exists already\n".as_slice()
+    );
     Ok(())
 }

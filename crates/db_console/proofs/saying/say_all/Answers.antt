@@ -1,10 +1,10 @@
 use Rattle.std.proofs.Common.{arith}
 use Rattle.std.proofs.lemmas.Result.{err_from_is_err_and}
-use Rattle.db_console.proofs.ViewLaws.{spoke_none, spoke_more, spoke_whole, spoke_part, within_more}
+use Rattle.db_console.proofs.SayingLaws.{spoke_none, spoke_more, spoke_whole, spoke_part, within_more}
 use Rattle.db_console.proofs.saying.say_all.Goals as goal
 
 pub loop-at-init : goal.loop-at-init
-loop-at-init g c = record { within = omega arith; spoke = spoke_none _ }
+loop-at-init g c = record { within = omega arith; spoke = spoke_none _ c.requires }
 
 pub loop-at-preserved : goal.loop-at-preserved
 loop-at-preserved g c = record {

@@ -12,4 +12,4 @@ returns-in_ok-answer-clause-served g c = rw c.if-byte-eq10.true
     (serves_statement _ _ c.args.cutter.now c.clear.new.self c.statement.result (sym c.is_ending.ensures ∙ c.if-is_ending.true) c.statement.ensures c.in_ok-answer.ensures.all c.clear.ensures)
 
 pub returns-else-byte-eq10-clause-served : goal.returns-else-byte-eq10-clause-served
-returns-else-byte-eq10-clause-served g c = serves_push _ (c.args.byte ∷ []) c.args.cutter.now c.push.new.self c.push.ensures
+returns-else-byte-eq10-clause-served g c = serves_push _ (c.args.byte ∷ []) c.args.cutter.now c.push.new.self c.requires.ready c.push.ensures

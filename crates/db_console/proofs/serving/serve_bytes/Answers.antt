@@ -3,7 +3,7 @@ use Rattle.db_console.proofs.ViewLaws.{serves_none, serves_more, serves_all, bre
 use Rattle.db_console.proofs.serving.serve_bytes.Goals as goal
 
 pub loop-byte-init : goal.loop-byte-init
-loop-byte-init g c = serves_none _ c.args.cutter.now
+loop-byte-init g c = serves_none _ c.args.cutter.now c.requires.ready
 
 pub loop-byte-preserved : goal.loop-byte-preserved
 loop-byte-preserved g c = serves_more _ _ _ _ _ _ _ _ c.loop-byte-test.true c.loop-byte.invariant c.in_ok-serve_byte.ensures.served

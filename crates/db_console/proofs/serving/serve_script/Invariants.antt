@@ -1,11 +1,11 @@
 use Rattle.std.proofs.Common.{[], ◌≤◌, ◌-◌}
 use Rattle.db_console.proofs.TableLaws.{Going}
-use Rattle.db_console.proofs.serving.serve.Given as goal
+use Rattle.db_console.proofs.serving.serve_script.Given as goal
 
 abbrev pub invariant-loop-taken : goal.invariant-loop-taken
 invariant-loop-taken g l = record {
   within : l.taken ≤ l.most;
-  going : Going l.limit l.taken [] (g.S.Disk.disk l.fn.site) (g.S.Disk.disk l.site) l.cutter;
+  going : Going l.limit l.taken [] (g.K.Keeper.keeping l.fn.keeper) (g.K.Keeper.keeping l.keeper) l.cutter;
 }
 
 abbrev pub decreases-loop-taken : goal.decreases-loop-taken

@@ -1,0 +1,183 @@
+-- One piece: at most one commit, and then the reply.
+use Rattle.std.proofs.Common.{◌≡◌, ◌++◌, ◌∷◌, [], ℕ, List, Option, Some, None, Err, inl, inr, ⊎_elim, refl, sym, ap, ◌∙◌, subst, append-nil}
+use Rattle.std.specs.Prelude.{◌⊎◌}
+use Rattle.ct_base.specs.Moments.{Passes, passes_more, passes_then}
+use Rattle.ct_base.specs.Told.{behind, behind_none, IsSaid, SaysPart, says_front}
+use Rattle.ct_site.specs.Disks.{Beside}
+use Rattle.ct_keep.specs.Content.{Content}
+use Rattle.ct_keep.specs.declared.keepers.KeepFault.TheVariants as fault
+use Rattle.ct_keep.specs.Keeping.{Keeping, Kept, Goes, Leaves, IsSettled}
+use Rattle.ct_keep.specs.Composing.{reads_none, reads_short, reads_only, reads_failed}
+use Rattle.db_engine.specs.States.{State, Stands}
+use Rattle.db_engine.specs.Refusals.{Effect, state_by}
+use Rattle.db_engine.specs.Runs.{Piece, Answer, Step, NoMemory, Full, Turn, turn, turn_by, effect_by, IsAllowed}
+use Rattle.db_engine.specs.Executing.{StandsBy, Moves, fault_for, fault_of_stop}
+use Rattle.db_engine.specs.declared.replies.Stop.{Stop as Halt}
+use Rattle.db_engine.specs.declared.replies.Stop.TheVariants.{Disk as DiskHalt}
+use Rattle.db_console.specs.declared.responses.Response.{Response}
+use Rattle.db_console.specs.declared.saying.Stop.{Stop}
+use Rattle.db_console.specs.declared.saying.Stop.TheVariants.{Say, Disk}
+use Rattle.db_console.specs.Worlds.{World, LeavesState, IsMoment, IsPartOf, Answered}
+use Rattle.db_console.specs.Views.{Shows, Spoke, SpokeInPart, Replied, Halted, LeavesEither, Answers, Stopped, Stops}
+use Rattle.db_console.proofs.Lasting.{lasts_kept, frame_kept, frame_said, frame_then, rose_after}
+
+-- ---- nothing is committed
+
+pub moves_not : (m : State) (effect : Effect) (c : Content) (k : Keeping) → k.ready → IsSettled k → k.content ≡ Some c → Stands c (state_by m effect) → Moves m effect c k k None
+moves_not m effect c k ready settled holds stands = record { next = c; stands = stands; goes = reads_only c k k settled holds (reads_none k ready) }
+
+pub moves_short : (m : State) (effect : Effect) (c : Content) (k : Keeping) → k.ready → IsSettled k → k.content ≡ Some c → Moves m effect c k k (Some fault.Memory)
+moves_short m effect c k ready settled holds = record { next = c; stands = refl; goes = reads_failed c c k k fault.Memory settled holds (reads_short k k (reads_none k ready)) }
+
+-- ---- the moments of one turn
+
+module _ (limit : ℕ) (was : World) (t : Turn) where
+  nothing_said : (w : List ℕ) → IsSaid was.said w → SaysPart was.said [] w
+  nothing_said w said = record { part = []; later = []; front = refl; is = behind_none was.said ∙ said }
+
+  abbrev pub reply : List ℕ
+  reply = (turn limit was.state t).1
+
+  -- nothing of the turn was done, or all but what is left to say
+  pub before : (c : Content) (x : Option Content) (w : List ℕ) → x ≡ Some c → Stands c was.state → IsSaid was.said w → IsMoment limit was (t ∷ []) x w
+  before c x w is stands said = record { done = []; later = t ∷ []; split = refl; leaves = record { content = c; is = is; stands = stands }; says = nothing_said w said }
+
+  pub after : (c : Content) (x : Option Content) (w : List ℕ) → x ≡ Some c → Stands c (turn limit was.state t).0 → SaysPart was.said reply w → IsMoment limit was (t ∷ []) x w
+  after c x w is stands said = record { done = t ∷ []; later = []; split = refl; leaves = record { content = c; is = is; stands = stands }; says = says_front was.said reply [] w said }
+
+  pub unsaid : (w : List ℕ) → IsSaid was.said w → SaysPart was.said reply w
+  unsaid w said = says_front was.said [] reply w (nothing_said w said)
+
+  -- a stop leaves the one or the other
+  pub either : (x : Option Content) (w : List ℕ) → LeavesEither limit was t x w → IsMoment limit was (t ∷ []) x w
+  either x w l = ⊎_elim
+      (λ p. before p.content x w p.is p.stands l.said_before)
+      (λ p. after p.content x w p.is p.stands (unsaid w l.said_before))
+      l.leaves
+
+-- ---- what executing did
+
+module _ (limit : ℕ) (piece : Piece) (was : World) (old new : Keeping) (shows : Shows old was) where
+  abbrev does : Effect
+  does = effect_by limit was.state piece
+
+  abbrev one : Answer → Turn
+  one a = turn_by piece a
+
+  told : (w : List ℕ) → IsSaid old.beside.said w → IsSaid was.said w
+  told w said = sym shows.said ∙ said
+
+  in_commit : (a : Answer) (next : Content) → StandsBy (fault_for a) was.state does shows.content next → (x : Option Content) (w : List ℕ)
+      → Leaves (fault_for a) shows.content next x → IsSaid old.beside.said w → IsMoment limit was (one a ∷ []) x w
+  in_commit Step next stands x w left said = ⊎_elim
+      (λ is. before limit was (one Step) shows.content x w is shows.stands (told w said))
+      (λ is. after limit was (one Step) next x w is stands (unsaid limit was (one Step) w (told w said)))
+      left
+  in_commit NoMemory next stands x w left said = before limit was (one NoMemory) shows.content x w left shows.stands (told w said)
+  in_commit Full next stands x w left said = before limit was (one Full) shows.content x w left shows.stands (told w said)
+
+  replied_with : (a : Answer) (bytes : List ℕ) (next : Content) → StandsBy (fault_for a) was.state does shows.content next → Goes shows.content next old new (fault_for a)
+      → IsAllowed limit old.limit was.state piece a → bytes ≡ (turn limit was.state (one a)).1 → Replied limit piece was old new bytes
+  replied_with Step bytes next stands goes allowed is = record { answer = Step; allowed = allowed; is = is; content = next; holds = goes.content; stands = stands; moments = passes_more old.time new.time _ _ goes.time (λ x w p. in_commit Step next stands x w p.0 p.1) }
+  replied_with NoMemory bytes next stands goes allowed is = record { answer = NoMemory; allowed = allowed; is = is; content = shows.content; holds = goes.content; stands = shows.stands; moments = passes_more old.time new.time _ _ goes.time (λ x w p. in_commit NoMemory next stands x w p.0 p.1) }
+  replied_with Full bytes next stands goes allowed is = record { answer = Full; allowed = allowed; is = is; content = shows.content; holds = goes.content; stands = shows.stands; moments = passes_more old.time new.time _ _ goes.time (λ x w p. in_commit Full next stands x w p.0 p.1) }
+
+  pub replied_by : (a : Answer) (bytes : List ℕ) → Moves was.state does shows.content old new (fault_for a) → IsAllowed limit old.limit was.state piece a → bytes ≡ (turn limit was.state (one a)).1 → Replied limit piece was old new bytes
+  replied_by a bytes moves allowed is = replied_with a bytes moves.next moves.stands moves.goes allowed is
+
+  -- the disk failed
+  stands_either : (next : Content) (x : Option Content) → Stands next was.state ⊎ Stands next (state_by was.state does) → (x ≡ Some shows.content) ⊎ (x ≡ Some next)
+      → LeavesState x was.state ⊎ LeavesState x (turn limit was.state (one Step)).0
+  stands_either next x stands left = ⊎_elim
+      (λ is. inl (record { content = shows.content; is = is; stands = shows.stands }))
+      (λ is. ⊎_elim (λ s. inl (record { content = next; is = is; stands = s })) (λ s. inr (record { content = next; is = is; stands = s })) stands)
+      left
+
+  pub halted_by : Moves was.state does shows.content old new (Some fault.Disk) → Halted limit piece was old new
+  halted_by moves =
+      let each : (x : Option Content) (w : List ℕ) → Leaves (Some fault.Disk) shows.content moves.next x × IsSaid old.beside.said w → LeavesEither limit was (one Step) x w =
+      λ x w p. record { leaves = stands_either moves.next x moves.stands p.0; said_before = told w p.1 } in
+      record {
+        moments = passes_more old.time new.time _ _ moves.goes.time (λ x w p. either limit was (one Step) x w (each x w p));
+        now = λ x w n. each x w (moves.goes.now x w n);
+      }
+
+-- ---- and then the reply
+
+-- what saying a front of the reply adds
+module _ (limit : ℕ) (piece : Piece) (was : World) (old mid new : Keeping) (bytes : List ℕ) (shows : Shows old was) (beside : mid.beside ≡ old.beside) (r : Replied limit piece was old mid bytes) where
+  abbrev made : Turn
+  made = turn_by piece r.answer
+
+  said_mid : mid.beside.said ≡ was.said
+  said_mid = ap (λ (b : Beside). b.said) beside ∙ shows.said
+
+  moments_said : (part rest : List ℕ) → bytes ≡ part ++ rest → Spoke part mid new → Passes old.time new.time (IsMoment limit was (made ∷ []))
+  moments_said part rest front s =
+      passes_then old.time mid.time new.time _ r.moments
+      (passes_more mid.time new.time _ _ (s.says.time r.content r.holds)
+      (λ x w p. after limit was made r.content x w p.0 r.stands
+      (subst (λ (l : List ℕ). SaysPart was.said l w) (sym front ∙ r.is)
+      (says_front was.said part rest w (subst (λ (o : Option (List ℕ)). SaysPart o part w) said_mid p.1)))))
+
+  shows_said : (part : List ℕ) → Spoke part mid new → Shows new (record { state = (turn limit was.state made).0; said = behind was.said part })
+  shows_said part s = record { said = s.says.said ∙ ap (λ (o : Option (List ℕ)). behind o part) said_mid; content = r.content; holds = s.says.apart.content ∙ r.holds; stands = r.stands }
+
+  pub answered_by : Spoke bytes mid new → (now : World) × Shows new now × Answered limit old.limit piece was now old.time new.time
+  answered_by s = (
+    record { state = (turn limit was.state made).0; said = behind was.said bytes },
+    shows_said bytes s,
+    record {
+      answer = r.answer;
+      leads = record {
+        said = bytes;
+        run = record { state = refl; says = r.is ∙ sym (append-nil (turn limit was.state made).1) };
+        told = refl;
+        allowed = (r.allowed, tt);
+      };
+      moments = moments_said bytes [] (sym (append-nil bytes)) s;
+    },
+  )
+
+  pub stopped_saying : (IsSettled new) → SpokeInPart bytes mid new → Stopped limit piece Say was old new
+  stopped_saying settled s = record {
+    answer = r.answer;
+    allowed = r.allowed;
+    moments = moments_said s.part s.is.rest s.is.is s.spoke;
+    by = record { part = s.part; reply = subst (IsPartOf s.part) r.is s.is; shows = shows_said s.part s.spoke; settled = settled };
+  }
+
+-- the answer to a piece, from the response to it and what was said of that
+pub answers_said : (limit : ℕ) (piece : Piece) (bytes : List ℕ) (old mid new : Keeping) → Kept old mid None → ((was : World) → Shows old was → Replied limit piece was old mid bytes) → Spoke bytes mid new → Answers limit piece old new
+answers_said limit piece bytes old mid new kept r s = record {
+  frame = frame_then old mid new (frame_kept old mid None kept) (frame_said mid new bytes s);
+  ready = s.says.apart.ready;
+  answers = λ was w. answered_by limit piece was old mid new bytes w kept.beside (r was w) s;
+}
+
+pub stops_saying : (limit : ℕ) (piece : Piece) (bytes : List ℕ) (stop : Stop) (old mid new : Keeping) → Kept old mid None → ((was : World) → Shows old was → Replied limit piece was old mid bytes)
+    → (new.ready → IsSettled new) → (stop ≡ Say) × SpokeInPart bytes mid new → Stops limit piece stop old new
+stops_saying limit piece bytes stop old mid new kept r settled s = rw s.0 (record {
+  frame = frame_then old mid new (frame_kept old mid None kept) (frame_said mid new s.1.part s.1.spoke);
+  cause = rose_after old.beside.say_faults mid.beside.say_faults new.beside.say_faults (lasts_kept old mid None kept).say_later s.1.cause;
+  ready = s.1.spoke.says.apart.ready;
+  stops = λ was w. stopped_saying limit piece was old mid new bytes w kept.beside (r was w) (settled s.1.spoke.says.apart.ready) s.1;
+})
+
+-- or where the disk failed
+pub stops_halted : (limit : ℕ) (piece : Piece) (old new : Keeping) → Kept old new (Some fault.Disk) → ((was : World) → Shows old was → Halted limit piece was old new) → Stops limit piece Disk old new
+stops_halted limit piece old new kept h = record {
+  frame = frame_kept old new (Some fault.Disk) kept;
+  cause = kept.cause;
+  ready = tt;
+  stops = λ was w. record {
+    answer = Step;
+    allowed = tt;
+    moments = (h was w).moments;
+    by = record { told = ap (λ (b : Beside). b.said) kept.beside ∙ w.said; now = (h was w).now };
+  };
+}
+
+-- a stop of `execute` is one by the disk
+pub kept_stopped : (stop : Halt) (old new : Keeping) → Kept old new (fault_of_stop {T = Response} (Err stop)) → Kept old new (Some fault.Disk)
+kept_stopped DiskHalt old new kept = kept

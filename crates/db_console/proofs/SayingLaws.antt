@@ -1,0 +1,38 @@
+-- Saying some bytes by several calls.
+use Rattle.std.proofs.Common.{◌≡◌, ◌≤◌, ◌<◌, ◌+◌, ◌-◌, ◌++◌, [], ℕ, List, length, take, drop, sym, subst, arith, append-nil, length-drop}
+use Rattle.std.proofs.lemmas.List.{take_all, take-append-drop}
+use Rattle.std.proofs.Math.Seq.{take-add, take-length}
+use Rattle.ct_keep.specs.Keeping.{Keeping, KeeperSays}
+use Rattle.ct_keep.specs.Composing.{says_none, says_then}
+use Rattle.db_console.specs.Views.{SayRose, Spoke, SpokeInPart}
+use Rattle.db_console.proofs.Lasting.{rose_after}
+
+pub spoke_none : (k : Keeping) → k.ready → Spoke [] k k
+spoke_none k ready = record { says = says_none k ready; later = omega arith }
+
+spoke_then : (a b c : Keeping) (p q : List ℕ) → Spoke p a b → Spoke q b c → Spoke (p ++ q) a c
+spoke_then a b c p q s t = record { says = says_then a b c p q s.says t.says; later = omega (arith, s.later, t.later) }
+
+-- the whole of a slice from a place on
+from_place : (bytes : List ℕ) (at : ℕ) → take (length bytes - at) (drop at bytes) ≡ drop at bytes
+from_place bytes at = subst (λ (n : ℕ). take n (drop at bytes) ≡ drop at bytes) (length-drop at bytes) (take-length (drop at bytes))
+
+pub within_more : (bytes : List ℕ) (at n : ℕ) → at ≤ length bytes → n ≤ length (take (length bytes - at) (drop at bytes)) → at + n ≤ length bytes
+within_more bytes at n h k = let p : n ≤ length (drop at bytes) = rw (from_place bytes at) at k in omega (arith, length-drop at bytes)
+
+pub spoke_more : (a b c : Keeping) (bytes : List ℕ) (at n : ℕ) → Spoke (take at bytes) a b → KeeperSays (take n (take (length bytes - at) (drop at bytes))) b c → b.beside.say_faults ≤ c.beside.say_faults
+    → Spoke (take (at + n) bytes) a c
+spoke_more a b c bytes at n s t h =
+    rw (take-add at n bytes) (spoke_then a b c (take at bytes) (take n (drop at bytes)) s (record { says = rw (from_place bytes at) at t; later = h }))
+
+pub spoke_whole : (a b : Keeping) (bytes : List ℕ) (at : ℕ) → length bytes ≤ at → Spoke (take at bytes) a b → Spoke bytes a b
+spoke_whole a b bytes at h s = rw (take_all at bytes h) at s
+
+pub spoke_part : (a b c : Keeping) (bytes : List ℕ) (at : ℕ) → at < length bytes → Spoke (take at bytes) a b → KeeperSays [] b c → b.beside.say_faults ≤ c.beside.say_faults → SayRose b.beside c.beside
+    → SpokeInPart bytes a c
+spoke_part a b c bytes at h s t k r = record {
+  part = take at bytes;
+  is = record { rest = drop at bytes; is = sym (take-append-drop at bytes); more = omega (arith, length-drop at bytes) };
+  spoke = subst (λ (xs : List ℕ). Spoke xs a c) (append-nil (take at bytes)) (spoke_then a b c (take at bytes) [] s (record { says = t; later = k }));
+  cause = rose_after a.beside.say_faults b.beside.say_faults c.beside.say_faults s.later r;
+}

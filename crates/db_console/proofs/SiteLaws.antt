@@ -1,0 +1,26 @@
+-- A run over a site, from what serving over a keeper that stands over it did.
+use Rattle.std.proofs.Common.{◌≡◌, ℕ, Some, refl, subst}
+use Rattle.std.specs.FinMap.{empty}
+use base.Fml.{GName}
+use Rattle.ct_site.specs.Disks.{DiskView}
+use Rattle.ct_keep.specs.Content.{Content}
+use Rattle.ct_keep.specs.Keeping.{Counts}
+use Rattle.ct_keep.specs.KeeperStates.{no_counts}
+use Rattle.db_engine.specs.EmptyLaws.{empty_stands}
+use Rattle.db_console.specs.declared.endings.Ending.{Ending}
+use Rattle.db_console.specs.Table.{Outcome, RanOver, over_site}
+
+pub same_name : (a b : GName) → Some a ≡ Some b → a ≡ b
+same_name a b e = cc
+
+pub ran_over : (limit most store : ℕ) (old new : DiskView) (name last : GName) (content : Content) (weight : ℕ) (counts : Counts) (ending : Ending)
+    → Outcome limit most (over_site empty store no_counts old name) (over_site content weight counts new last) ending → RanOver limit most store old new ending
+ran_over limit most store old new name last content weight counts ending o = record {
+  name = name;
+  content = content;
+  counts = counts;
+  begins = record { said = refl; content = empty; holds = refl; stands = empty_stands };
+  outcome =
+      subst (λ (n : GName). Outcome limit most (over_site empty store no_counts old name) (over_site content store counts new n) ending) (same_name last name o.lasts.lender)
+      (subst (λ (w : ℕ). Outcome limit most (over_site empty store no_counts old name) (over_site content w counts new last) ending) o.lasts.limit o);
+}
