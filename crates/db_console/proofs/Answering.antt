@@ -24,10 +24,10 @@ use Rattle.db_console.proofs.Lasting.{lasts_kept, frame_kept, frame_said, frame_
 -- ---- nothing is committed
 
 pub moves_not : (m : State) (effect : Effect) (c : Content) (k : Keeping) → k.ready → IsSettled k → k.content ≡ Some c → Stands c (state_by m effect) → Moves m effect c k k None
-moves_not m effect c k ready settled holds stands = record { next = c; stands = stands; goes = reads_only c k k settled holds (reads_none k ready) }
+moves_not m effect c k ready settled holds stands = record { next = c; stands = stands; goes = reads_only c k k settled holds (reads_none k ready); same = λ e. refl }
 
 pub moves_short : (m : State) (effect : Effect) (c : Content) (k : Keeping) → k.ready → IsSettled k → k.content ≡ Some c → Moves m effect c k k (Some fault.Memory)
-moves_short m effect c k ready settled holds = record { next = c; stands = refl; goes = reads_failed c c k k fault.Memory settled holds (reads_short k k (reads_none k ready)) }
+moves_short m effect c k ready settled holds = record { next = c; stands = refl; goes = reads_failed c c k k fault.Memory settled holds (reads_short k k (reads_none k ready)); same = λ e. refl }
 
 -- ---- the moments of one turn
 
