@@ -348,13 +348,20 @@ fn said_to<R: Threads + Sync>(rt: &R, alloc: Global, script: &str) -> Result<Vec
     Ok(said)
 }
 
+/// Whether what was said is the replies to the schema, and then this.
+fn is_behind_schema(said: &[u8], want: &str) -> bool {
+    match said.strip_prefix(MADE.as_bytes()) {
+        Some(rest) => rest == want.as_bytes(),
+        None => false,
+    }
+}
+
 #[test]
 fn rows_are_kept_and_found(rt: HostRuntime) -> Result<(), Fail> {
     let alloc = rt.alloc();
     for (script, want) in INDEXED.iter() {
         let said = said_to(&rt, alloc, script)?;
-        let rest = said.strip_prefix(MADE.as_bytes());
-        assert!(rt; rest == Some(want.as_bytes()), "{want}");
+        assert!(rt; is_behind_schema(&said, want), "{want}");
     }
     Ok(())
 }
