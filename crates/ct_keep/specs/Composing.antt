@@ -14,7 +14,7 @@ use Rattle.ct_keep.specs.Keeping.{Keeping, Counts, Kept, Reads, Goes, Answers, C
 -- ---- what every call keeps
 
 pub kept_all : (k : Keeping) → k.ready → Kept k k None
-kept_all k ready = record { ready = ready; beside = refl; well = refl; limit = refl; lender = refl; later = omega arith; cause = tt }
+kept_all k ready = record { ready = ready; beside = refl; well = refl; limit = refl; lender = refl; later = omega arith; cause = tt; aside = refl; calls = tt }
 
 -- a call that succeeded, and then another
 pub kept_then : (old mid new : Keeping) (fault : Option KeepFault) → Kept old mid None → Kept mid new fault → Kept old new fault
@@ -26,6 +26,8 @@ kept_then old mid new fault first second = record {
   lender = second.lender ∙ first.lender;
   later = omega (arith, first.later, second.later);
   cause = rose fault second.cause;
+  aside = second.aside ∙ first.aside;
+  calls = called fault second.calls;
 }
   where
     rose : (fault : Option KeepFault) → OnDisk fault (Rose mid.disk_faults new.disk_faults) → OnDisk fault (Rose old.disk_faults new.disk_faults)
@@ -34,9 +36,15 @@ kept_then old mid new fault first second = record {
     rose (Some Full) c = c
     rose (Some Disk) c = let l = first.later in omega (arith, c, l)
 
+    called : (fault : Option KeepFault) → OnDisk fault (mid.aside ≡ None) → OnDisk fault (old.aside ≡ None)
+    called None c = c
+    called (Some Memory) c = c
+    called (Some Full) c = c
+    called (Some Disk) c = sym first.aside ∙ c
+
 -- calls that succeeded, and then no memory
 pub kept_short : (old new : Keeping) → Kept old new None → Kept old new (Some Memory)
-kept_short old new kept = record { ready = kept.ready; beside = kept.beside; well = kept.well; limit = kept.limit; lender = kept.lender; later = kept.later; cause = tt }
+kept_short old new kept = record { ready = kept.ready; beside = kept.beside; well = kept.well; limit = kept.limit; lender = kept.lender; later = kept.later; cause = tt; aside = kept.aside; calls = tt }
 
 -- ---- reads
 
@@ -135,7 +143,7 @@ fulls_then old mid new fault reads commits = ap (λ (c : Counts). c.fulls) commi
 -- ---- hearing and saying
 
 pub apart_all : (k : Keeping) → k.ready → Apart k k
-apart_all k ready = record { ready = ready; content = refl; well = refl; limit = refl; counts = refl; disk_faults = refl; lender = refl }
+apart_all k ready = record { ready = ready; content = refl; well = refl; limit = refl; counts = refl; disk_faults = refl; aside = refl; lender = refl }
 
 pub apart_then : (old mid new : Keeping) → Apart old mid → Apart mid new → Apart old new
 apart_then old mid new first second = record {
@@ -145,6 +153,7 @@ apart_then old mid new first second = record {
   limit = second.limit ∙ first.limit;
   counts = second.counts ∙ first.counts;
   disk_faults = second.disk_faults ∙ first.disk_faults;
+  aside = second.aside ∙ first.aside;
   lender = second.lender ∙ first.lender;
 }
 

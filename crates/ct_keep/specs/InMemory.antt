@@ -3,11 +3,11 @@ use Rattle.std.specs.Prelude.{◌≡◌, ℕ, List, true, Option, Some, None}
 use Rattle.std.proofs.Common.{◌∙◌}
 use base.Fml.{GName}
 use Rattle.ct_base.specs.Told.{IsSaid}
-use Rattle.ct_site.specs.Disks.{Beside}
+use Rattle.ct_site.specs.Disks.{Beside, DiskView}
 use Rattle.ct_keep.specs.declared.keepers.KeepFault.{KeepFault}
 use Rattle.ct_keep.specs.declared.keepers.KeepFault.TheVariants.{Memory, Disk, Full}
 use Rattle.ct_keep.specs.Content.{Content}
-use Rattle.ct_keep.specs.Keeping.{Keeping, Counts, IsSettled}
+use Rattle.ct_keep.specs.Keeping.{Keeping, Counts, Aside, IsSettled}
 
 -- It makes no call of a disk, so that none of its calls fails by the disk.
 abbrev pub NotDisk : Option KeepFault → Type 0
@@ -21,9 +21,13 @@ abbrev pub come_to : Option KeepFault → Content → Content → Content
 come_to None old next = next
 come_to (Some fault) old next = old
 
+-- a disk of which no call is made
+abbrev pub aside_of : DiskView → Aside
+aside_of disk = record { image = disk.image; faults = disk.faults }
+
 -- what is known of it
-abbrev pub in_memory : Content → ℕ → Counts → Beside → ℕ → Option GName → Keeping
-in_memory m limit counts beside disk_faults lender = record {
+abbrev pub in_memory : Content → ℕ → Counts → Beside → Aside → Option GName → Keeping
+in_memory m limit counts beside aside lender = record {
   ready = Unit {0};
   content = Some m;
   beside = beside;
@@ -32,12 +36,13 @@ in_memory m limit counts beside disk_faults lender = record {
   well = λ key value. true;
   limit = limit;
   counts = counts;
-  disk_faults = disk_faults;
+  disk_faults = aside.faults;
+  aside = Some aside;
   lender = lender;
 }
 
-pub settled_in_memory : (m : Content) (limit : ℕ) (counts : Counts) (beside : Beside) (disk_faults : ℕ) (lender : Option GName) → IsSettled (in_memory m limit counts beside disk_faults lender)
-settled_in_memory m limit counts beside disk_faults lender = record { here = λ n holds stopped said now. (now.0 ∙ holds, now.1) }
+pub settled_in_memory : (m : Content) (limit : ℕ) (counts : Counts) (beside : Beside) (aside : Aside) (lender : Option GName) → IsSettled (in_memory m limit counts beside aside lender)
+settled_in_memory m limit counts beside aside lender = record { here = λ n holds stopped said now. (now.0 ∙ holds, now.1) }
 
 -- It may be called, and takes every entry.
 pub record TakesAll (k : Keeping) : Type 0 where

@@ -4,7 +4,7 @@ use Rattle.std.specs.Vec.{vec_len, vec_capacity}
 use Rattle.std.specs.Coded.{Coded, code_by, coded_ℕ, coded_list, coded×}
 use Rattle.std.specs.declared.alloc.Global.{Global}
 use Rattle.ct_keep.specs.Content.{Content}
-use Rattle.ct_keep.specs.Keeping.{Keeping, Counts}
+use Rattle.ct_keep.specs.Keeping.{Keeping, Counts, Aside}
 use Rattle.ct_keep.specs.Pairs.{content_code}
 use Rattle.ct_keep.specs.InMemory.{in_memory}
 
@@ -22,8 +22,12 @@ pub record KeeperState : Type 0 where
 abbrev pub no_counts : Counts
 no_counts = record { texts = 0; rows = 0; rules = 0; fulls = 0 }
 
+-- there is none
+abbrev pub no_disk : Aside
+no_disk = record { image = None; faults = 0 }
+
 abbrev pub mem_keeping : KeeperState → Keeping
-mem_keeping s = in_memory s.content s.limit s.counts (record { left = Some s.left; said = Some s.said; hear_faults = 0; say_faults = s.say_faults }) 0 None
+mem_keeping s = in_memory s.content s.limit s.counts (record { left = Some s.left; said = Some s.said; hear_faults = 0; say_faults = s.say_faults }) no_disk None
 
 -- The script has been heard up to here, and what may be said has its room.
 pub record IsRoomy (script : List ℕ) (heard : ℕ) (said : Vec ℕ Global) (said_room : ℕ) : Type 0 where

@@ -17,6 +17,11 @@ pub record Counts : Type 0 where
   pub rules : ℕ
   pub fulls : ℕ
 
+-- The disk beside a keeper that makes no call of it: what a read gives, where it is told, and how often a call of it failed.
+pub record Aside : Type 0 where
+  pub image : Option (List ℕ)
+  pub faults : ℕ
+
 pub record Keeping : Type 1 where
   -- it may be called: none of its calls has answered Disk
   pub ready : Type 0
@@ -34,6 +39,8 @@ pub record Keeping : Type 1 where
   pub limit : ℕ
   pub counts : Counts
   pub disk_faults : ℕ
+  -- the disk, if it makes no call of it
+  pub aside : Option Aside
   -- the reference to the site that it stands over, if it stands over one
   pub lender : Option GName
 
@@ -64,6 +71,9 @@ pub record Kept (old new : Keeping) (fault : Option KeepFault) : Type 0 where
   pub lender : new.lender ≡ old.lender
   pub later : old.disk_faults ≤ new.disk_faults
   pub cause : OnDisk fault (Rose old.disk_faults new.disk_faults)
+  pub aside : new.aside ≡ old.aside
+  -- one that makes no call of the disk doesn't fail by it
+  pub calls : OnDisk fault (old.aside ≡ None)
 
 -- A stop between two calls leaves what it holds.
 pub record IsSettled (k : Keeping) : Type 0 where
@@ -159,6 +169,7 @@ pub record Apart (old new : Keeping) : Type 0 where
   pub limit : new.limit ≡ old.limit
   pub counts : new.counts ≡ old.counts
   pub disk_faults : new.disk_faults ≡ old.disk_faults
+  pub aside : new.aside ≡ old.aside
   pub lender : new.lender ≡ old.lender
 
 -- Bytes of the script were heard, and nothing else was done.

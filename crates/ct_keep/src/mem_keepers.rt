@@ -8,7 +8,7 @@ ghost use Rattle.ct_keep.specs.Content.{after, entries_above, first_entry};
 ghost use Rattle.ct_keep.specs.Handed.{handed};
 ghost use Rattle.ct_keep.specs.Keeping.{Answers, looked_up, committed, fault_of};
 ghost use Rattle.ct_keep.specs.InMemory.{NotDisk, come_to, settled_in_memory};
-ghost use Rattle.ct_keep.specs.KeeperStates.{no_counts, mem_keeping};
+ghost use Rattle.ct_keep.specs.KeeperStates.{no_counts, no_disk, mem_keeping};
 
 use crate::batches::Batch;
 use crate::holdings::Holding;
@@ -136,7 +136,7 @@ impl Keeper for MemKeeper {
         Ok(bytes.len())
     }
 
-    ghost settled = { λ k ready. settled_in_memory k.content k.limit k.counts (mem_keeping k).beside 0 None };
+    ghost settled = { λ k ready. settled_in_memory k.content k.limit k.counts (mem_keeping k).beside no_disk None };
 
     ghost only_now = { λ k stopped said now. now };
 }

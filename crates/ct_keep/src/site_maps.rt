@@ -2,7 +2,7 @@
 
 ghost use Rattle.std.specs.Prelude.{◌≡◌, Some};
 ghost use Rattle.std.specs.FinMap.{empty};
-ghost use Rattle.ct_keep.specs.InMemory.{in_memory, settled_in_memory};
+ghost use Rattle.ct_keep.specs.InMemory.{in_memory, settled_in_memory, aside_of};
 ghost use Rattle.ct_keep.specs.KeeperStates.{no_counts};
 
 use crate::batches::Batch;
@@ -42,7 +42,7 @@ impl<'a, S: Site> SiteMap<'a, S> {
 }
 
 impl<'a, S: Site> Keeper for SiteMap<'a, S> {
-    ghost keeping = { λ k. in_memory k.held.content k.held.limit k.held.counts (S.disk k.site.now).beside (S.disk k.site.now).faults (Some k.site.ghost_name) };
+    ghost keeping = { λ k. in_memory k.held.content k.held.limit k.held.counts (S.disk k.site.now).beside (aside_of (S.disk k.site.now)) (Some k.site.ghost_name) };
 
     fn fetch(&mut self, alloc: Global, key: &[u8]) -> Result<Option<Vec<u8>>, KeepFault> {
         self.held.fetch(alloc, key)
@@ -68,7 +68,7 @@ impl<'a, S: Site> Keeper for SiteMap<'a, S> {
         self.site.say(bytes)
     }
 
-    ghost settled = { λ k ready. settled_in_memory k.held.content k.held.limit k.held.counts (S.disk k.site.now).beside (S.disk k.site.now).faults (Some k.site.ghost_name) };
+    ghost settled = { λ k ready. settled_in_memory k.held.content k.held.limit k.held.counts (S.disk k.site.now).beside (aside_of (S.disk k.site.now)) (Some k.site.ghost_name) };
 
     ghost only_now = { λ k stopped said now. now };
 }

@@ -168,7 +168,7 @@ stops_saying limit piece bytes stop old mid new kept r settled s = rw s.0 (recor
 pub stops_halted : (limit : ℕ) (piece : Piece) (old new : Keeping) → Kept old new (Some fault.Disk) → ((was : World) → Shows old was → Halted limit piece was old new) → Stops limit piece Disk old new
 stops_halted limit piece old new kept h = record {
   frame = frame_kept old new (Some fault.Disk) kept;
-  cause = kept.cause;
+  cause = (kept.cause, kept.calls);
   ready = tt;
   stops = λ was w. record {
     answer = Step;

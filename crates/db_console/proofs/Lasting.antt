@@ -13,7 +13,7 @@ pub rose_after : (a b c : ℕ) → a ≤ b → Rose b c → Rose a c
 rose_after a b c h k = omega arith
 
 pub lasts_none : (k : Keeping) → Lasts k k
-lasts_none k = record { hear_later = omega arith; say_later = omega arith; disk_later = omega arith; well = refl; limit = refl; lender = refl }
+lasts_none k = record { hear_later = omega arith; say_later = omega arith; disk_later = omega arith; well = refl; limit = refl; aside = refl; lender = refl }
 
 pub lasts_then : (a b c : Keeping) → Lasts a b → Lasts b c → Lasts a c
 lasts_then a b c f g = record {
@@ -22,6 +22,7 @@ lasts_then a b c f g = record {
   disk_later = omega (arith, f.disk_later, g.disk_later);
   well = g.well ∙ f.well;
   limit = g.limit ∙ f.limit;
+  aside = g.aside ∙ f.aside;
   lender = g.lender ∙ f.lender;
 }
 
@@ -32,6 +33,7 @@ lasts_kept a b fault k = record {
   disk_later = k.later;
   well = k.well;
   limit = k.limit;
+  aside = k.aside;
   lender = k.lender;
 }
 
@@ -42,6 +44,7 @@ lasts_heard a b bytes h = record {
   disk_later = omega (arith, h.hears.apart.disk_faults);
   well = h.hears.apart.well;
   limit = h.hears.apart.limit;
+  aside = h.hears.apart.aside;
   lender = h.hears.apart.lender;
 }
 
@@ -52,6 +55,7 @@ lasts_said a b bytes s = record {
   disk_later = omega (arith, s.says.apart.disk_faults);
   well = s.says.apart.well;
   limit = s.says.apart.limit;
+  aside = s.says.apart.aside;
   lender = s.says.apart.lender;
 }
 
@@ -71,7 +75,7 @@ frame_said a b bytes s = record { left = s.says.left; hear_faults = s.says.hear_
 
 pub rose_by : (stop : Stop) (a b c : Keeping) → Frame a b → RoseBy stop b c → RoseBy stop a c
 rose_by Say a b c f r = rose_after a.beside.say_faults b.beside.say_faults c.beside.say_faults f.lasts.say_later r
-rose_by Disk a b c f r = rose_after a.disk_faults b.disk_faults c.disk_faults f.lasts.disk_later r
+rose_by Disk a b c f r = (rose_after a.disk_faults b.disk_faults c.disk_faults f.lasts.disk_later r.0, sym f.lasts.aside ∙ r.1)
 
 -- it still takes every entry
 pub takes_still : (a b : Keeping) → Lasts a b → TakesAll a.well → TakesAll b.well

@@ -1,17 +1,23 @@
 -- A run over a site, from what serving over a keeper that stands over it did.
-use Rattle.std.proofs.Common.{◌≡◌, ℕ, Some, refl, subst}
+use Rattle.std.proofs.Common.{◌≡◌, ℕ, Some, refl, subst, ap}
 use Rattle.std.specs.FinMap.{empty}
 use base.Fml.{GName}
 use Rattle.ct_site.specs.Disks.{DiskView}
 use Rattle.ct_keep.specs.Content.{Content}
-use Rattle.ct_keep.specs.Keeping.{Counts}
+use Rattle.ct_keep.specs.Keeping.{Counts, Aside}
+use Rattle.ct_keep.specs.InMemory.{aside_of}
 use Rattle.ct_keep.specs.KeeperStates.{no_counts}
 use Rattle.db_engine.specs.EmptyLaws.{empty_stands}
 use Rattle.db_console.specs.declared.endings.Ending.{Ending}
-use Rattle.db_console.specs.Table.{Outcome, RanOver, over_site}
+use Rattle.db_console.specs.Table.{Outcome, RanOver, Untouched, over_site}
 
 pub same_name : (a b : GName) → Some a ≡ Some b → a ≡ b
 same_name a b e = cc
+
+same_image : (old new : DiskView) → Some (aside_of new) ≡ Some (aside_of old) → Untouched old new
+same_image old new e =
+    let p : aside_of new ≡ aside_of old = cc in
+    record { image = ap (λ (a : Aside). a.image) p; faults = ap (λ (a : Aside). a.faults) p }
 
 pub ran_over : (limit most store : ℕ) (old new : DiskView) (name last : GName) (content : Content) (weight : ℕ) (counts : Counts) (ending : Ending)
     → Outcome limit most (over_site empty store no_counts old name) (over_site content weight counts new last) ending → RanOver limit most store old new ending
@@ -20,6 +26,7 @@ ran_over limit most store old new name last content weight counts ending o = rec
   content = content;
   counts = counts;
   begins = record { said = refl; content = empty; holds = refl; stands = empty_stands };
+  untouched = same_image old new o.lasts.aside;
   outcome =
       subst (λ (n : GName). Outcome limit most (over_site empty store no_counts old name) (over_site content store counts new n) ending) (same_name last name o.lasts.lender)
       (subst (λ (w : ℕ). Outcome limit most (over_site empty store no_counts old name) (over_site content w counts new last) ending) o.lasts.limit o);

@@ -231,7 +231,7 @@ turns_stopped Disk limit most store whole taken was old new is n k = record {
 
 because_of : (stop : Stop) (most : ℕ) (taken : List ℕ) (old now new : Keeping) → Lasts old now → length taken ≤ most → RoseBy stop now new → Because most taken old new (ending_of stop)
 because_of Say most taken old now new s h r = (h, rose_after old.beside.say_faults now.beside.say_faults new.beside.say_faults s.say_later r)
-because_of Disk most taken old now new s h r = (h, rose_after old.disk_faults now.disk_faults new.disk_faults s.disk_later r)
+because_of Disk most taken old now new s h r = (h, rose_after old.disk_faults now.disk_faults new.disk_faults s.disk_later r.0, sym s.aside ∙ r.1)
 
 ready_after : (stop : Stop) (new : Keeping) → UnlessByDisk stop new.ready → IsReadyAfter (ending_of stop) new
 ready_after Say new r = r

@@ -9,8 +9,8 @@ use Rattle.ct_base.specs.Moments.{Passes}
 use Rattle.ct_site.specs.Disks.{DiskView, Beside}
 use Rattle.ct_keep.specs.Content.{Content}
 use Rattle.ct_keep.specs.Keeping.{Keeping, Counts, IsSettled}
-use Rattle.ct_keep.specs.InMemory.{in_memory, settled_in_memory}
-use Rattle.ct_keep.specs.KeeperStates.{no_counts}
+use Rattle.ct_keep.specs.InMemory.{in_memory, settled_in_memory, aside_of}
+use Rattle.ct_keep.specs.KeeperStates.{no_counts, no_disk}
 use Rattle.st_cut.specs.Seen.{Seen}
 use Rattle.db_engine.specs.States.{empty_state}
 use Rattle.db_engine.specs.EmptyLaws.{empty_stands}
@@ -110,7 +110,8 @@ Because most taken old new HearFault = (length taken ≤ most) × HearRose old.b
 Because most taken old new SayFault = (length taken ≤ most) × SayRose old.beside new.beside
 -- nothing was heard or said
 Because most taken old new NoMemory = (taken ≡ []) × (new.beside ≡ old.beside)
-Because most taken old new DiskFault = (length taken ≤ most) × DiskRose old new
+-- the disk failed, and the keeper is one that makes calls of it
+Because most taken old new DiskFault = (length taken ≤ most) × DiskRose old new × (old.aside ≡ None)
 Because most taken old new PastLimit = length taken ≡ suc most
 
 -- whether the keeper may be called again
@@ -140,9 +141,14 @@ pub record Completes (most status : ℕ) (old new : Beside) (quiet : Type 0) : T
 
 -- ---- over a site
 
+-- The disk is as before: no call of it failed, and a read gives what it gave.
+pub record Untouched (old new : DiskView) : Type 0 where
+  pub image : new.image ≡ old.image
+  pub faults : new.faults ≡ old.faults
+
 -- a keeper in memory that stands over a site, by the reference of this name
 abbrev pub over_site : Content → ℕ → Counts → DiskView → GName → Keeping
-over_site content limit counts site name = in_memory content limit counts site.beside site.faults (Some name)
+over_site content limit counts site name = in_memory content limit counts site.beside (aside_of site) (Some name)
 
 -- The run over a site that a keeper in memory made, which was empty to begin with. Its content may weigh `store`.
 pub record RanOver (limit most store : ℕ) (old new : DiskView) (ending : Ending) : Type 0 where
@@ -150,6 +156,7 @@ pub record RanOver (limit most store : ℕ) (old new : DiskView) (ending : Endin
   pub content : Content
   pub counts : Counts
   pub begins : Shows (over_site empty store no_counts old name) (record { state = empty_state; said = old.beside.said })
+  pub untouched : Untouched old new
   pub outcome : Outcome limit most (over_site empty store no_counts old name) (over_site content store counts new name) ending
 
 -- ---- computed examples: of a script of 14 bytes ten were allowed, and one more was taken
@@ -157,7 +164,7 @@ abbrev bad : List ℕ → Turn
 bad text = turn_by (statement text) Step
 
 abbrev telling : List ℕ → List ℕ → Keeping
-telling left said = in_memory empty 0 no_counts (record { left = Some left; said = Some said; hear_faults = 0; say_faults = 0 }) 0 None
+telling left said = in_memory empty 0 no_counts (record { left = Some left; said = Some said; hear_faults = 0; say_faults = 0 }) no_disk None
 
 ten_bytes : Ends 65536 10 (codes "SELEC;\nSELE") (world []) (bad (codes "SELEC") ∷ []) (telling (codes "C;\n") (codes "E10: statement not understood\n")) PastLimit
 unfolding chars

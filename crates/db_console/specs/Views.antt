@@ -1,5 +1,5 @@
 -- What the console does to what is known of a keeper.
-use Rattle.std.specs.Prelude.{ℕ, ◌≡◌, ◌≤◌, ◌⊎◌, Bool, true, List, [], ◌∷◌, ◌++◌, Option, Some}
+use Rattle.std.specs.Prelude.{ℕ, ◌≡◌, ◌≤◌, ◌⊎◌, Bool, true, List, [], ◌∷◌, ◌++◌, Option, Some, None}
 use Rattle.ct_base.specs.Causes.{Rose}
 use Rattle.ct_base.specs.Told.{behind, IsNothing, IsSaid}
 use Rattle.ct_base.specs.Moments.{Passes}
@@ -41,6 +41,7 @@ pub record Lasts (old new : Keeping) : Type 0 where
   pub disk_later : old.disk_faults ≤ new.disk_faults
   pub well : new.well ≡ old.well
   pub limit : new.limit ≡ old.limit
+  pub aside : new.aside ≡ old.aside
   pub lender : new.lender ≡ old.lender
 
 -- Bytes were heard, and nothing else was done.
@@ -97,7 +98,7 @@ pub record Answers (limit : ℕ) (piece : Piece) (old new : Keeping) : Type 0 wh
 -- the cause of a stop
 abbrev pub RoseBy : Stop → Keeping → Keeping → Type 0
 RoseBy Say old new = SayRose old.beside new.beside
-RoseBy Disk old new = DiskRose old new
+RoseBy Disk old new = DiskRose old new × (old.aside ≡ None)
 
 -- what holds unless the stop came from the disk
 abbrev pub UnlessByDisk : Stop → Type 0 → Type 0

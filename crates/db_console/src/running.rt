@@ -1,10 +1,9 @@
 //! A whole run.
 
-ghost use Rattle.std.specs.Prelude.{◌≡◌, ◌^◌, ◌<◌, ◌↔◌, length};
+ghost use Rattle.std.specs.Prelude.{◌≡◌, ◌^◌, ◌<◌, ◌↔◌, None, length};
 ghost use Rattle.db_engine.specs.States.{TakesAll};
-ghost use Rattle.ct_base.specs.Causes.{Rose};
 ghost use Rattle.db_console.specs.Views.{HearRose, SayRose, DiskRose};
-ghost use Rattle.db_console.specs.Table.{Completes, Outcome, RanOver, TellsPast, status_of};
+ghost use Rattle.db_console.specs.Table.{Completes, Outcome, RanOver, TellsPast, Untouched, status_of};
 ghost use Rattle.db_console.specs.declared.endings.Ending.{Ending};
 
 use crate::serving::serve_script;
@@ -49,7 +48,7 @@ pub fn serve<R: Threads + Sync, K: Keeper>(
     ensures hear { result ≡ 3 → HearRose (K.keeping keeper.old).beside (K.keeping keeper.new).beside }
     ensures say { result ≡ 4 → SayRose (K.keeping keeper.old).beside (K.keeping keeper.new).beside }
     ensures memory { result ≡ 5 → keeper.new ≡ keeper.old }
-    ensures disk { result ≡ 6 → DiskRose (K.keeping keeper.old) (K.keeping keeper.new) }
+    ensures disk { result ≡ 6 → DiskRose (K.keeping keeper.old) (K.keeping keeper.new) × ((K.keeping keeper.old).aside ≡ None) }
     ensures past { TellsPast most result (K.keeping keeper.old).beside (K.keeping keeper.new).beside }
     ensures complete { Completes most result (K.keeping keeper.old).beside (K.keeping keeper.new).beside (¬ DiskRose (K.keeping keeper.old) (K.keeping keeper.new)) }
 {
@@ -60,8 +59,10 @@ pub fn serve<R: Threads + Sync, K: Keeper>(
 fn serve_over<R: Threads + Sync, S: Site>(rt: &R, alloc: Global, site: &mut S) -> u8
     ensures table { (ending : Ending) × (result ≡ status_of ending) × RanOver 65536 (2 ^ 40) (2 ^ 36) (S.disk site.old) (S.disk site.new) ending }
     ensures memory { result ≡ 5 → S.disk site.new ≡ S.disk site.old }
+    ensures no_fault { result ≡ 6 → ⊥ }
+    ensures no_disk { Untouched (S.disk site.old) (S.disk site.new) }
     ensures past { TellsPast (2 ^ 40) result (S.disk site.old).beside (S.disk site.new).beside }
-    ensures complete { Completes (2 ^ 40) result (S.disk site.old).beside (S.disk site.new).beside (¬ Rose (S.disk site.old).faults (S.disk site.new).faults) }
+    ensures complete { Completes (2 ^ 40) result (S.disk site.old).beside (S.disk site.new).beside (Unit {0}) }
 {
     let mut keeper = SiteMap::over(alloc, site, STORE_LIMIT);
     let status = serve(rt, alloc, DEGREE, SCRIPT_LIMIT, &mut keeper);
@@ -71,7 +72,8 @@ fn serve_over<R: Threads + Sync, S: Site>(rt: &R, alloc: Global, site: &mut S) -
 
 /// Runs the script that the site gives, and answers the status of the program: 0 where all of the script was answered, 2 where
 /// there is a word, 3 and 4 for a fault of hearing and of saying, 5 where there was no memory to begin with, and 8 for a script of
-/// over 2^40 bytes. What the statements make is kept in memory, and may weigh 2^36. Its cost is that of the statements.
+/// over 2^40 bytes. It makes no call of the disk. What the statements make is kept in memory, and may weigh 2^36. Its cost is that
+/// of the statements.
 pub fn run<R: Threads + Sync, S: Site>(rt: &R, alloc: Global, words: &[String], site: &mut S) -> u8
     // words
     ensures words { (result ≡ 2) ↔ (0 < length words.now) }
@@ -84,9 +86,11 @@ pub fn run<R: Threads + Sync, S: Site>(rt: &R, alloc: Global, words: &[String], 
     ensures hear { result ≡ 3 → HearRose (S.disk site.old).beside (S.disk site.new).beside }
     ensures say { result ≡ 4 → SayRose (S.disk site.old).beside (S.disk site.new).beside }
     ensures memory { result ≡ 5 → S.disk site.new ≡ S.disk site.old }
-    ensures disk { result ≡ 6 → Rose (S.disk site.old).faults (S.disk site.new).faults }
+    ensures no_fault { result ≡ 6 → ⊥ }
     ensures past { length words.now ≡ 0 → TellsPast (2 ^ 40) result (S.disk site.old).beside (S.disk site.new).beside }
-    ensures complete { length words.now ≡ 0 → Completes (2 ^ 40) result (S.disk site.old).beside (S.disk site.new).beside (¬ Rose (S.disk site.old).faults (S.disk site.new).faults) }
+    ensures complete { length words.now ≡ 0 → Completes (2 ^ 40) result (S.disk site.old).beside (S.disk site.new).beside (Unit {0}) }
+
+    ensures no_disk { Untouched (S.disk site.old) (S.disk site.new) }
 {
     if !words.is_empty() {
         return BAD_WORDS;

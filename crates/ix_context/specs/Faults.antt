@@ -28,7 +28,7 @@ pub reads_fault : (old new : Keeping) (fault : KeepFault) → Reads old new (Som
 reads_fault old new Memory reads = reads
 reads_fault old new Disk reads = reads
 reads_fault old new Full reads = record {
-  kept = record { ready = reads.kept.ready; beside = reads.kept.beside; well = reads.kept.well; limit = reads.kept.limit; lender = reads.kept.lender; later = reads.kept.later; cause = tt };
+  kept = record { ready = reads.kept.ready; beside = reads.kept.beside; well = reads.kept.well; limit = reads.kept.limit; lender = reads.kept.lender; later = reads.kept.later; cause = tt; aside = reads.kept.aside; calls = tt };
   content = reads.content;
   time = reads.time;
   now = reads.now;
