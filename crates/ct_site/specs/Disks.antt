@@ -1,9 +1,10 @@
 -- What is known of a disk and of what stands beside it, and what each call makes of that.
-use Rattle.std.specs.Prelude.{◌≡◌, ℕ, ◌+◌, List, ◌++◌, length, take, drop, Option, None, Result, Ok, codes, refl}
-use Rattle.std.proofs.Common.{◌∙◌}
+use Rattle.std.specs.Prelude.{◌≡◌, ℕ, List, Option, None, Some, Result, Ok}
+use Rattle.std.proofs.Common.{refl, ap, sym, ◌∙◌}
 use Rattle.ct_site.specs.declared.outside.Failed.{Failed}
 use Rattle.ct_base.specs.Causes.{HasCause, cause_then}
-use Rattle.ct_base.specs.Told.{ahead, behind}
+use Rattle.ct_base.specs.Moments.{Timeline, Passes, Stays, Keeps, keeps_then, passes_none, passes_stays, passes_more, passes_then}
+use Rattle.ct_base.specs.Told.{ahead, behind, IsSaid, SaysPart}
 
 -- What stands beside a disk. No call of the disk changes it.
 pub record Beside : Type 0 where
@@ -14,26 +15,43 @@ pub record Beside : Type 0 where
   pub hear_faults : ℕ
   pub say_faults : ℕ
 
-pub record DiskView : Type 0 where
+pub record DiskView : Type 1 where
   -- what a read gives, where it is told
   pub image : Option (List ℕ)
+  -- the images that a crash now may leave
+  pub may_leave : List ℕ → Type 0
   pub beside : Beside
+  -- the images that a crash might have left since, each with the bytes said by then
+  pub time : Timeline (List ℕ)
   -- how often a call of the disk failed, up to 2^64 - 1
   pub faults : ℕ
 
--- the image with these bytes at this place
-abbrev pub written : ℕ → List ℕ → List ℕ → List ℕ
-written at bytes image = take at image ++ bytes ++ drop (at + length bytes) image
+-- a crash between two calls may leave this image, when this was said
+abbrev pub IsNow : DiskView → List ℕ → List ℕ → Type 0
+IsNow disk image said = disk.may_leave image × IsSaid disk.beside.said said
 
--- A read gives what it gave before.
+-- A read gives this image, and a crash leaves nothing else.
+pub record IsSettled (disk : DiskView) (image : List ℕ) : Type 0 where
+  pub told : disk.image ≡ Some image
+  pub only : (left : List ℕ) → disk.may_leave left → left ≡ image
+
+-- each image that may be left is one that might be left before, after a step
+abbrev pub Follows : (List ℕ → List ℕ → Type 0) → (List ℕ → Type 0) → (List ℕ → Type 0) → Type 0
+Follows step old new = (image : List ℕ) → new image → (before : List ℕ) × old before × step before image
+
+-- A read gives what it gave, a crash leaves nothing new, and no moment came between.
 pub record IsSame (old new : DiskView) : Type 0 where
   pub image : new.image ≡ old.image
+  pub crash : (image : List ℕ) → new.may_leave image → old.may_leave image
+  pub time : Stays old.time new.time
 
 -- What every call of a disk keeps, and every function that makes such calls alone.
 pub record Works {T : Type 0} (old new : DiskView) (result : Result T Failed) : Type 0 where
   pub beside : new.beside ≡ old.beside
   -- a disk that tells no image goes on telling none
   pub untold : old.image ≡ None → new.image ≡ None
+  -- no moment is forgotten
+  pub kept : Keeps old.time new.time
   pub cause : HasCause old.faults new.faults result
 
 -- one after the other
@@ -41,7 +59,35 @@ pub works_then : {T U : Type 0} (old mid new : DiskView) (x : T) (result : Resul
 works_then old mid new x result first second = record {
   beside = second.beside ∙ first.beside;
   untold = λ none. second.untold (first.untold none);
+  kept = keeps_then old.time mid.time new.time first.kept second.kept;
   cause = cause_then old.faults mid.faults new.faults result first.cause.later second.cause;
+}
+
+-- Between the two a crash left images that have P, and nothing was said.
+pub record Leaves (old new : DiskView) (P : List ℕ → Type 0) : Type 0 where
+  pub beside : new.beside ≡ old.beside
+  pub time : Passes old.time new.time (λ image said. P image × IsSaid old.beside.said said)
+  -- and so it does now
+  pub now : (image : List ℕ) → new.may_leave image → P image
+
+pub leaves_none : (disk : DiskView) (P : List ℕ → Type 0) → ((image : List ℕ) → disk.may_leave image → P image) → Leaves disk disk P
+leaves_none disk P here = record { beside = refl; time = passes_none disk.time _; now = here }
+
+pub leaves_same : (old new : DiskView) (P : List ℕ → Type 0) → IsSame old new → new.beside ≡ old.beside → ((image : List ℕ) → old.may_leave image → P image) → Leaves old new P
+leaves_same old new P same beside here = record { beside = beside; time = passes_stays old.time new.time _ same.time; now = λ image left. here image (same.crash image left) }
+
+pub leaves_more : (old new : DiskView) (P Q : List ℕ → Type 0) → Leaves old new P → ((image : List ℕ) → P image → Q image) → Leaves old new Q
+leaves_more old new P Q leaves more = record {
+  beside = leaves.beside;
+  time = passes_more old.time new.time _ _ leaves.time (λ image said p. (more image p.0, p.1));
+  now = λ image left. more image (leaves.now image left);
+}
+
+pub leaves_then : (old mid new : DiskView) (P : List ℕ → Type 0) → Leaves old mid P → Leaves mid new P → Leaves old new P
+leaves_then old mid new P first second = record {
+  beside = second.beside ∙ first.beside;
+  time = passes_then old.time mid.time new.time _ first.time (passes_more mid.time new.time _ _ second.time (λ image said p. (p.0, ap (λ (b : Beside). b.said) (sym first.beside) ∙ p.1)));
+  now = second.now;
 }
 
 -- Bytes of the script were heard, and nothing else was done.
@@ -49,20 +95,17 @@ pub record Hears (heard : List ℕ) (old new : DiskView) : Type 0 where
   pub left : old.beside.left ≡ ahead heard new.beside.left
   pub said : new.beside.said ≡ old.beside.said
   pub say_faults : new.beside.say_faults ≡ old.beside.say_faults
-  pub image : new.image ≡ old.image
+  pub same : IsSame old new
+  pub kept : Keeps old.time new.time
   pub faults : new.faults ≡ old.faults
 
--- Bytes were said, and nothing else was done.
+-- Bytes were said, and nothing else was done. A crash among them found some front of them said.
 pub record Says (told : List ℕ) (old new : DiskView) : Type 0 where
   pub said : new.beside.said ≡ behind old.beside.said told
   pub left : new.beside.left ≡ old.beside.left
   pub hear_faults : new.beside.hear_faults ≡ old.beside.hear_faults
   pub image : new.image ≡ old.image
+  pub crash : (image : List ℕ) → new.may_leave image → old.may_leave image
+  pub time : Passes old.time new.time (λ image said. old.may_leave image × SaysPart old.beside.said told said)
+  pub kept : Keeps old.time new.time
   pub faults : new.faults ≡ old.faults
-
--- computed examples: within the image, and past its end
-within : written 2 (codes "XY") (codes "abcdef") ≡ codes "abXYef"
-within = refl
-
-past_the_end : written 3 (codes "XYZ") (codes "abcd") ≡ codes "abcXYZ"
-past_the_end = refl

@@ -1,4 +1,10 @@
+pub mod Changing
+pub mod Crashes
 pub mod Disks
+pub mod Histories
+pub mod Images
+pub mod Logs
 pub mod Memory
 pub mod MemoryFields
+pub mod Pieces
 pub mod Real

@@ -1,7 +1,7 @@
 //! Counts of calls and of faults, which stand still at 2^64 - 1.
 
 ghost use Rattle.std.specs.Prelude.{◌≡◌, ◌≤◌};
-ghost use Rattle.ct_site.specs.Memory.{raised, is_listed};
+ghost use Rattle.ct_site.specs.Memory.{raised, is_listed, is_past};
 
 use crate::outside::Failed;
 use ct_base::Numbers;
@@ -13,6 +13,19 @@ pub(crate) fn count_call(calls: &mut u64, numbers: &Numbers) -> bool
 {
     *calls = calls.saturating_add(1);
     numbers.as_slice().contains(calls)
+}
+
+/// Counts a call, and tells whether it comes after the last one that is made.
+pub(crate) fn count_stop(calls: &mut u64, stop: Option<u64>) -> bool
+    ensures counted { calls.new ≡ raised calls.old }
+    ensures past { result ≡ is_past stop calls.old }
+{
+    let is_past = match stop {
+        Some(last) => *calls >= last,
+        None => false,
+    };
+    *calls = calls.saturating_add(1);
+    is_past
 }
 
 /// Counts a fault.

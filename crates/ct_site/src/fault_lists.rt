@@ -16,6 +16,8 @@ pub struct Faults {
     pub say: Numbers,
     /// Calls of `size`, `read`, `write_at` and `sync` together.
     pub disk: Numbers,
+    /// How many calls of any kind are made before all later ones fail; None where they never do so.
+    pub stop: Option<u64>,
 }
 
 impl Faults {
@@ -27,6 +29,7 @@ impl Faults {
             hear: Numbers::of(Vec::new(alloc)),
             say: Numbers::of(Vec::new(alloc)),
             disk: Numbers::of(Vec::new(alloc)),
+            stop: None,
         }
     }
 }

@@ -3,8 +3,10 @@
 
 mod counts;
 mod fault_lists;
+mod logs;
 mod memory;
 mod outside;
+mod picks;
 mod quiet;
 mod real;
 mod room_sizes;
@@ -14,6 +16,7 @@ mod tests;
 pub use fault_lists::Faults;
 pub use memory::MemSite;
 pub use outside::{Disk, Failed, Site};
+pub use picks::Pick;
 pub use quiet::QuietSite;
 pub use real::RealSite;
 pub use room_sizes::Rooms;

@@ -1,35 +1,38 @@
-//! A site in memory, whose calls fail where they are listed to.
+//! A site in memory, whose calls fail where they are listed to, and all of them after a stop.
 
-ghost use Rattle.std.specs.Prelude.{◌≡◌, ◌≤◌, ◌<◌, ◌+◌, ◌-◌, ◌^◌, ◌++◌, ◌↔◌, ℕ, List, Option, Some, Ok, IfOk, OnOk, OnErr, IsErr, IsTrue, length, take, drop, min, not, vec_len};
+ghost use Rattle.std.specs.Prelude.{◌≡◌, ◌≤◌, ◌<◌, ◌+◌, ◌^◌, ◌++◌, ◌↔◌, ℕ, List, Option, Some, Ok, IfOk, OnOk, OnErr, IsErr, IsTrue, length, take, drop, min, not, vec_len};
 ghost use Rattle.std.specs.Option.{option_map};
 ghost use Rattle.std.specs.Vec.{vec_capacity};
 ghost use Rattle.ct_base.specs.Told.{took, IsNothing};
 ghost use Rattle.ct_base.specs.Causes.{HasCause};
-ghost use Rattle.ct_site.specs.Disks.{DiskView, written, IsSame, Works, Hears, Says};
+ghost use Rattle.ct_site.specs.Images.{written, Torn};
+ghost use Rattle.ct_site.specs.Disks.{DiskView, Follows, IsSame, Leaves, Works, Hears, Says};
 
-use crate::counts::{count_call, count_fault};
+use crate::counts::{count_call, count_fault, count_stop};
 use crate::fault_lists::Faults;
+use crate::logs::Log;
 use crate::outside::{Disk, Failed, LONGEST, Site};
+use crate::picks::Pick;
 use crate::room_sizes::Rooms;
 use ct_base::Memory;
 use std::alloc::Global;
 use std::marker::Model;
 
-/// A site in memory. Its calls take no memory, and fail exactly where their number is listed, or they would pass a room, or
-/// a write would end past 2^43 bytes. Where a call fails nothing changes but the counts of calls and of faults.
+/// A site in memory. Its calls take no memory, and fail exactly where their number is listed, or the last call before the
+/// stop was made, or they would pass a room, or a write would end past 2^43 bytes. Where a call fails nothing changes but the
+/// counts of calls and of faults.
 #[derive(Debug, Drop)]
 pub struct MemSite {
     script: Vec<u8>,
     taken: usize,
-    said: Vec<u8>,
+    first: Vec<u8>,
     image: Vec<u8>,
+    log: Log,
     faults: Faults,
-    rooms: Rooms,
+    calls: u64,
     hear_calls: u64,
     say_calls: u64,
     disk_calls: u64,
-    changes: usize,
-    written: usize,
     hear_faults: u64,
     say_faults: u64,
     disk_faults: u64,
@@ -40,17 +43,19 @@ impl Model for MemSite {
 
     ghost Value = { MemState };
 
-    ghost use Rattle.ct_site.specs.MemoryFields.{state_of, HasRoom};
+    ghost use Rattle.ct_site.specs.MemoryFields.{state_of, IsKept};
 
     ghost view = { state_of };
 
-    ghost invariant = { HasRoom };
+    ghost invariant = { IsKept };
 }
 
 impl MemSite {
-    ghost use Rattle.ct_site.specs.Memory.{fresh, change_passes, say_passes, write_passes};
+    ghost use Rattle.ct_site.specs.Memory.{fresh, image_of, said_of, view_of, change_passes, say_passes, write_passes, hear_fails, say_faulty, look_fails, hear_counted, say_counted, disk_counted};
+    ghost use Rattle.ct_site.specs.Crashes.{crashed};
 
-    /// A site with this script and this image, on which no call was made. It takes all the memory that its rooms need.
+    /// A site with this script and this image, on which no call was made. It takes all the memory that its rooms need, and
+    /// that of the image once more.
     pub fn new(
         alloc: Global,
         script: Vec<u8>,
@@ -61,21 +66,20 @@ impl MemSite {
         requires { vec_len image ≤ rooms.image }
         ensures { IfOk result (λ site. site ≡ fresh script.items image.items faults rooms) }
     {
+        let first = Vec::from_slice(alloc, &image)?;
         let mut image = image;
         image.reserve_exact(rooms.image - image.len())?;
-        let said = Vec::with_capacity(alloc, rooms.said)?;
         Ok(MemSite {
             script,
             taken: 0,
-            said,
+            first,
             image,
+            log: Log::new(alloc, rooms)?,
             faults,
-            rooms,
+            calls: 0,
             hear_calls: 0,
             say_calls: 0,
             disk_calls: 0,
-            changes: 0,
-            written: 0,
             hear_faults: 0,
             say_faults: 0,
             disk_faults: 0,
@@ -84,70 +88,94 @@ impl MemSite {
 
     /// The bytes said so far.
     pub fn said(&self) -> &[u8]
-        ensures { result.now ≡ self.now.said }
+        ensures { result.now ≡ said_of self.now }
     {
-        self.said.as_slice()
+        self.log.said()
     }
 
     /// The image as a read gives it.
     pub fn image(&self) -> &[u8]
-        ensures { result.now ≡ self.now.image }
+        ensures { result.now ≡ image_of self.now }
     {
         self.image.as_slice()
     }
 
-    /// Whether one more change passes no room.
-    fn may_change(&self) -> bool
-        ensures { result ≡ not (change_passes self.now) }
+    /// The image that a crash leaves now, where these stand in place of the bytes that aren't synced. It takes memory for
+    /// two images.
+    pub fn crash(self, alloc: Global, pick: Pick) -> Result<Vec<u8>, Memory>
+        ensures left { IfOk result (λ image. image.items ≡ crashed pick self.first self.log) }
+        ensures may { IfOk result (λ image. (view_of self).may_leave image.items) }
     {
-        self.changes < self.rooms.calls
+        self.log.crash(alloc, &self.first, pick)
+    }
+
+    /// Counts a hearing, and tells whether it fails.
+    fn count_hear(&mut self) -> bool
+        ensures counted { self.new ≡ hear_counted self.old }
+        ensures fails { result ≡ hear_fails self.old }
+    {
+        let is_past = count_stop(&mut self.calls, self.faults.stop);
+        let is_listed = count_call(&mut self.hear_calls, &self.faults.hear);
+        is_past || is_listed
+    }
+
+    /// Counts a saying, and tells whether it fails, however many bytes it has.
+    fn count_say(&mut self) -> bool
+        ensures counted { self.new ≡ say_counted self.old }
+        ensures fails { result ≡ say_faulty self.old }
+    {
+        let is_past = count_stop(&mut self.calls, self.faults.stop);
+        let is_listed = count_call(&mut self.say_calls, &self.faults.say);
+        is_past || is_listed
+    }
+
+    /// Counts a call of the disk, and tells whether it fails, whatever it is.
+    fn count_disk(&mut self) -> bool
+        ensures counted { self.new ≡ disk_counted self.old }
+        ensures fails { result ≡ look_fails self.old }
+    {
+        let is_past = count_stop(&mut self.calls, self.faults.stop);
+        let is_listed = count_call(&mut self.disk_calls, &self.faults.disk);
+        is_past || is_listed
     }
 
     /// Whether saying so many bytes passes no room.
     fn may_say(&self, count: usize) -> bool
         ensures { result ≡ not (say_passes self.now count) }
     {
-        self.may_change() && count <= self.rooms.said - self.said.len()
+        self.log.may_change() && self.log.may_say(count)
     }
 
     /// Whether writing so many bytes at this place passes no room, and ends at 2^43 bytes at most.
     fn may_write(&self, at: u64, count: usize) -> bool
-        requires { at ≤ length self.now.image }
+        requires { at ≤ length (image_of self.now) }
         ensures { result ≡ not (write_passes self.now at count) }
     {
-        self.may_change()
-            && count <= self.rooms.written - self.written
-            && count <= self.rooms.image - at as usize
+        self.log.may_change()
+            && self.log.may_write(count)
+            && count <= self.log.rooms().image - at as usize
             && at + count as u64 <= LONGEST
     }
 }
 
-/// Puts bytes at the end, in memory that is there.
-fn append(list: &mut Vec<u8>, bytes: &[u8])
-    requires { vec_len list.old + length bytes.now ≤ vec_capacity list.old }
-    ensures items { list.new.items ≡ list.old.items ++ bytes.now }
-    ensures capacity { vec_capacity list.old ≤ vec_capacity list.new }
+/// Puts bytes at this place, and lengthens the image where they end past it, in memory that is there.
+fn overwrite(image: &mut Vec<u8>, at: usize, bytes: &[u8])
+    requires within { at ≤ vec_len image.old }
+    requires room { at + length bytes.now ≤ vec_capacity image.old }
+    ensures items { image.new.items ≡ written at bytes.now image.old.items }
+    ensures capacity { vec_capacity image.old ≤ vec_capacity image.new }
 {
-    let _ = list.extend_from_slice(bytes);
-}
-
-/// Puts bytes at this place, and lengthens the list where they end past it, in memory that is there.
-fn overwrite(list: &mut Vec<u8>, at: usize, bytes: &[u8])
-    requires within { at ≤ vec_len list.old }
-    requires room { at + length bytes.now ≤ vec_capacity list.old }
-    ensures items { list.new.items ≡ written at bytes.now list.old.items }
-    ensures capacity { vec_capacity list.old ≤ vec_capacity list.new }
-{
-    if bytes.len() <= list.len() - at {
-        list[at..at + bytes.len()].copy_from_slice(bytes);
+    if bytes.len() <= image.len() - at {
+        image[at..at + bytes.len()].copy_from_slice(bytes);
     } else {
-        list.truncate(at);
-        append(list, bytes);
+        image.truncate(at);
+        let _ = image.extend_from_slice(bytes);
     }
 }
 
 impl Disk for MemSite {
-    ghost use Rattle.ct_site.specs.Memory.{view_of, look_fails, write_fails, sync_fails, disk_failed, looked, wrote, synced};
+    ghost use Rattle.ct_site.specs.Memory.{image_of, view_of, look_fails, write_fails, sync_fails, disk_failed, looked, wrote, synced};
+    ghost use Rattle.ct_site.specs.Changing.{counts_now, only_now};
 
     ghost disk = { view_of };
 
@@ -158,10 +186,10 @@ impl Disk for MemSite {
         ensures works { Works (view_of self.old) (view_of self.new) result }
 
         ensures fails { IsErr result ↔ IsTrue (look_fails self.old) }
-        ensures done { IfOk result (λ n. (n ≡ length self.old.image) × (self.new ≡ looked self.old)) }
+        ensures done { IfOk result (λ n. (n ≡ length (image_of self.old)) × (self.new ≡ looked self.old)) }
         ensures failed { OnErr result (self.new ≡ disk_failed self.old) }
     {
-        if count_call(&mut self.disk_calls, &self.faults.disk) {
+        if self.count_disk() {
             return Err(count_fault(&mut self.disk_faults));
         }
         Ok(self.image.len() as u64)
@@ -178,7 +206,7 @@ impl Disk for MemSite {
         ensures done { OnOk result (self.new ≡ looked self.old) }
         ensures failed { OnErr result ((self.new ≡ disk_failed self.old) × (into.new ≡ into.old)) }
     {
-        if count_call(&mut self.disk_calls, &self.faults.disk) {
+        if self.count_disk() {
             return Err(count_fault(&mut self.disk_faults));
         }
         let at = at as usize;
@@ -192,36 +220,44 @@ impl Disk for MemSite {
         requires some { 0 < length bytes.now }
         ensures written { OnOk result ((view_of self.new).image ≡ option_map (written at bytes.now) (view_of self.old).image) }
         ensures too_far { 2 ^ 43 < at + length bytes.now → IsErr result }
+        ensures crash { Follows (Torn at (length bytes.now)) (view_of self.old).may_leave (view_of self.new).may_leave }
+        ensures leaves { Leaves (view_of self.old) (view_of self.new) (view_of self.new).may_leave }
         ensures works { Works (view_of self.old) (view_of self.new) result }
 
         ensures fails { IsErr result ↔ IsTrue (write_fails self.old at (length bytes.now)) }
         ensures done { OnOk result (self.new ≡ wrote self.old at bytes.now) }
         ensures failed { OnErr result (self.new ≡ disk_failed self.old) }
     {
-        if count_call(&mut self.disk_calls, &self.faults.disk) || !self.may_write(at, bytes.len()) {
+        if self.count_disk() || !self.may_write(at, bytes.len()) {
             return Err(count_fault(&mut self.disk_faults));
         }
         overwrite(&mut self.image, at as usize, bytes);
-        self.changes += 1;
-        self.written += bytes.len();
+        self.log.write(at, bytes);
         Ok(())
     }
 
     /// Makes what was written last.
     fn sync(&mut self) -> Result<(), Failed>
-        ensures same { IsSame (view_of self.old) (view_of self.new) }
+        ensures durable { (image : List ℕ) → (view_of self.old).image ≡ Some image → OnOk result ((left : List ℕ) → (view_of self.new).may_leave left → left ≡ image) }
+        ensures image { (view_of self.new).image ≡ (view_of self.old).image }
+        ensures crash { (left : List ℕ) → (view_of self.new).may_leave left → (view_of self.old).may_leave left }
+        ensures leaves { Leaves (view_of self.old) (view_of self.new) (view_of self.old).may_leave }
         ensures works { Works (view_of self.old) (view_of self.new) result }
 
         ensures fails { IsErr result ↔ IsTrue (sync_fails self.old) }
         ensures done { OnOk result (self.new ≡ synced self.old) }
         ensures failed { OnErr result (self.new ≡ disk_failed self.old) }
     {
-        if count_call(&mut self.disk_calls, &self.faults.disk) || !self.may_change() {
+        if self.count_disk() || !self.log.may_change() {
             return Err(count_fault(&mut self.disk_faults));
         }
-        self.changes += 1;
+        self.log.sync();
         Ok(())
     }
+
+    ghost counts_now = { counts_now };
+
+    ghost only_now = { only_now };
 }
 
 impl Site for MemSite {
@@ -241,7 +277,7 @@ impl Site for MemSite {
         ensures done { IfOk result (λ count. self.new ≡ heard self.old count) }
         ensures failed { OnErr result ((self.new ≡ hear_failed self.old) × (into.new ≡ into.old)) }
     {
-        if count_call(&mut self.hear_calls, &self.faults.hear) {
+        if self.count_hear() {
             return Err(count_fault(&mut self.hear_faults));
         }
         let count = into.len().min(self.script.len() - self.taken);
@@ -262,11 +298,10 @@ impl Site for MemSite {
         ensures done { IfOk result (λ count. (count ≡ length bytes.now) × (self.new ≡ spoken self.old bytes.now)) }
         ensures failed { OnErr result (self.new ≡ say_failed self.old) }
     {
-        if count_call(&mut self.say_calls, &self.faults.say) || !self.may_say(bytes.len()) {
+        if self.count_say() || !self.may_say(bytes.len()) {
             return Err(count_fault(&mut self.say_faults));
         }
-        append(&mut self.said, bytes);
-        self.changes += 1;
+        self.log.say(bytes);
         Ok(bytes.len())
     }
 }

@@ -4,7 +4,8 @@ ghost use Rattle.std.specs.Prelude.{◌≡◌, ◌≤◌, ◌<◌, ◌+◌, ◌^
 ghost use Rattle.std.specs.Option.{option_map};
 ghost use Rattle.ct_base.specs.Told.{took, IsNothing};
 ghost use Rattle.ct_base.specs.Causes.{HasCause};
-ghost use Rattle.ct_site.specs.Disks.{DiskView, written, IsSame, Works, Hears, Says};
+ghost use Rattle.ct_site.specs.Images.{written, Torn};
+ghost use Rattle.ct_site.specs.Disks.{DiskView, Follows, IsNow, IsSame, Leaves, Works, Hears, Says};
 
 use thiserror::Error;
 
@@ -35,17 +36,29 @@ pub trait Disk {
         ensures works { Works (disk self.old) (disk self.new) result };
 
     /// Writes the bytes at this place, and lengthens the image where they end past it. No image is longer than 2^43 bytes.
+    /// Until a sync succeeds, a crash may leave any bytes in the range and past the old end.
     fn write_at(&mut self, at: u64, bytes: &[u8]) -> Result<(), Failed>
         requires within { (image : List ℕ) → (disk self.old).image ≡ Some image → at ≤ length image }
         requires some { 0 < length bytes.now }
         ensures written { OnOk result ((disk self.new).image ≡ option_map (written at bytes.now) (disk self.old).image) }
         ensures too_far { 2 ^ 43 < at + length bytes.now → IsErr result }
+        ensures crash { Follows (Torn at (length bytes.now)) (disk self.old).may_leave (disk self.new).may_leave }
+        ensures leaves { Leaves (disk self.old) (disk self.new) (disk self.new).may_leave }
         ensures works { Works (disk self.old) (disk self.new) result };
 
-    /// Makes what was written last.
+    /// Makes what was written last: after it a crash leaves what a read gives.
     fn sync(&mut self) -> Result<(), Failed>
-        ensures same { IsSame (disk self.old) (disk self.new) }
+        ensures durable { (image : List ℕ) → (disk self.old).image ≡ Some image → OnOk result ((left : List ℕ) → (disk self.new).may_leave left → left ≡ image) }
+        ensures image { (disk self.new).image ≡ (disk self.old).image }
+        ensures crash { (left : List ℕ) → (disk self.new).may_leave left → (disk self.old).may_leave left }
+        ensures leaves { Leaves (disk self.old) (disk self.new) (disk self.old).may_leave }
         ensures works { Works (disk self.old) (disk self.new) result };
+
+    /// The present is a moment since each earlier time.
+    ghost counts_now: { (d : Self) (t : ℕ) (image said : List ℕ) → t ≤ (disk d).time.clock → IsNow (disk d) image said → (disk d).time.since t image said };
+
+    /// Since now there is no other moment.
+    ghost only_now: { (d : Self) (image said : List ℕ) → (disk d).time.since (disk d).time.clock image said → IsNow (disk d) image said };
 }
 
 /// A disk beside which a script is heard and replies are said.

@@ -4,7 +4,8 @@ ghost use Rattle.std.specs.Prelude.{◌≡◌, ◌≤◌, ◌<◌, ◌+◌, ◌^
 ghost use Rattle.std.specs.Option.{option_map};
 ghost use Rattle.ct_base.specs.Told.{took, IsNothing};
 ghost use Rattle.ct_base.specs.Causes.{HasCause};
-ghost use Rattle.ct_site.specs.Disks.{written, IsSame, Works, Hears, Says};
+ghost use Rattle.ct_site.specs.Images.{written, Torn};
+ghost use Rattle.ct_site.specs.Disks.{Follows, IsSame, Leaves, Works, Hears, Says};
 
 use crate::fault_lists::Faults;
 use crate::memory::MemSite;
@@ -33,7 +34,7 @@ impl Model for QuietSite {
 }
 
 impl QuietSite {
-    ghost use Rattle.ct_site.specs.Memory.{fresh, no_faults};
+    ghost use Rattle.ct_site.specs.Memory.{fresh, image_of, said_of, no_faults};
 
     /// A site with this script and this image, on which no call was made. It takes all the memory that its rooms need.
     pub fn new(
@@ -51,21 +52,22 @@ impl QuietSite {
 
     /// The bytes said so far.
     pub fn said(&self) -> &[u8]
-        ensures { result.now ≡ self.now.said }
+        ensures { result.now ≡ said_of self.now }
     {
         self.site.said()
     }
 
     /// The image as a read gives it.
     pub fn image(&self) -> &[u8]
-        ensures { result.now ≡ self.now.image }
+        ensures { result.now ≡ image_of self.now }
     {
         self.site.image()
     }
 }
 
 impl Disk for QuietSite {
-    ghost use Rattle.ct_site.specs.Memory.{view_of, change_passes, write_passes, disk_failed, looked, wrote, synced};
+    ghost use Rattle.ct_site.specs.Memory.{image_of, view_of, change_passes, write_passes, disk_failed, looked, wrote, synced};
+    ghost use Rattle.ct_site.specs.Changing.{counts_now, only_now};
 
     ghost disk = { view_of };
 
@@ -76,7 +78,7 @@ impl Disk for QuietSite {
         ensures works { Works (view_of self.old) (view_of self.new) result }
 
         ensures succeeds { IsOk result }
-        ensures done { IfOk result (λ n. (n ≡ length self.old.image) × (self.new ≡ looked self.old)) }
+        ensures done { IfOk result (λ n. (n ≡ length (image_of self.old)) × (self.new ≡ looked self.old)) }
     {
         self.site.size()
     }
@@ -100,6 +102,8 @@ impl Disk for QuietSite {
         requires some { 0 < length bytes.now }
         ensures written { OnOk result ((view_of self.new).image ≡ option_map (written at bytes.now) (view_of self.old).image) }
         ensures too_far { 2 ^ 43 < at + length bytes.now → IsErr result }
+        ensures crash { Follows (Torn at (length bytes.now)) (view_of self.old).may_leave (view_of self.new).may_leave }
+        ensures leaves { Leaves (view_of self.old) (view_of self.new) (view_of self.new).may_leave }
         ensures works { Works (view_of self.old) (view_of self.new) result }
 
         ensures fails { IsErr result ↔ IsTrue (write_passes self.old at (length bytes.now)) }
@@ -111,7 +115,10 @@ impl Disk for QuietSite {
 
     /// Makes what was written last.
     fn sync(&mut self) -> Result<(), Failed>
-        ensures same { IsSame (view_of self.old) (view_of self.new) }
+        ensures durable { (image : List ℕ) → (view_of self.old).image ≡ Some image → OnOk result ((left : List ℕ) → (view_of self.new).may_leave left → left ≡ image) }
+        ensures image { (view_of self.new).image ≡ (view_of self.old).image }
+        ensures crash { (left : List ℕ) → (view_of self.new).may_leave left → (view_of self.old).may_leave left }
+        ensures leaves { Leaves (view_of self.old) (view_of self.new) (view_of self.old).may_leave }
         ensures works { Works (view_of self.old) (view_of self.new) result }
 
         ensures fails { IsErr result ↔ IsTrue (change_passes self.old) }
@@ -120,6 +127,10 @@ impl Disk for QuietSite {
     {
         self.site.sync()
     }
+
+    ghost counts_now = { counts_now };
+
+    ghost only_now = { only_now };
 }
 
 impl Site for QuietSite {

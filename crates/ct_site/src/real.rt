@@ -4,7 +4,8 @@ ghost use Rattle.std.specs.Prelude.{◌≡◌, ◌≤◌, ◌<◌, ◌+◌, ◌^
 ghost use Rattle.std.specs.Option.{option_map};
 ghost use Rattle.ct_base.specs.Told.{took, IsNothing};
 ghost use Rattle.ct_base.specs.Causes.{HasCause};
-ghost use Rattle.ct_site.specs.Disks.{written, IsSame, Works, Hears, Says};
+ghost use Rattle.ct_site.specs.Images.{written, Torn};
+ghost use Rattle.ct_site.specs.Disks.{Follows, IsSame, Leaves, Works, Hears, Says};
 
 use crate::counts::count_fault;
 use crate::outside::{Disk, Failed, LONGEST, Site};
@@ -135,6 +136,8 @@ impl<R: Input + Print + Files> Disk for RealSite<'_, R> {
         requires some { 0 < length bytes.now }
         ensures written { OnOk result ((view_of self.new).image ≡ option_map (written at bytes.now) (view_of self.old).image) }
         ensures too_far { 2 ^ 43 < at + length bytes.now → IsErr result }
+        ensures crash { Follows (Torn at (length bytes.now)) (view_of self.old).may_leave (view_of self.new).may_leave }
+        ensures leaves { Leaves (view_of self.old) (view_of self.new) (view_of self.new).may_leave }
         ensures works { Works (view_of self.old) (view_of self.new) result }
         ensures uses { UsesFile self.old self.new result }
     {
@@ -149,7 +152,10 @@ impl<R: Input + Print + Files> Disk for RealSite<'_, R> {
 
     /// Makes what was written last. The entry of a new file in its folder isn't made last by it.
     fn sync(&mut self) -> Result<(), Failed>
-        ensures same { IsSame (view_of self.old) (view_of self.new) }
+        ensures durable { (image : List ℕ) → (view_of self.old).image ≡ Some image → OnOk result ((left : List ℕ) → (view_of self.new).may_leave left → left ≡ image) }
+        ensures image { (view_of self.new).image ≡ (view_of self.old).image }
+        ensures crash { (left : List ℕ) → (view_of self.new).may_leave left → (view_of self.old).may_leave left }
+        ensures leaves { Leaves (view_of self.old) (view_of self.new) (view_of self.old).may_leave }
         ensures works { Works (view_of self.old) (view_of self.new) result }
         ensures uses { UsesFile self.old self.new result }
     {
@@ -160,6 +166,10 @@ impl<R: Input + Print + Files> Disk for RealSite<'_, R> {
         }
         Err(count_fault(&mut self.disk_faults))
     }
+
+    ghost counts_now = { λ s t image said le now. now.0 };
+
+    ghost only_now = { λ s image said now. absurd now };
 }
 
 impl<R: Input + Print + Files> Site for RealSite<'_, R> {

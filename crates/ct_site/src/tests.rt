@@ -2,7 +2,7 @@
 
 ghost use Rattle.std.specs.Prelude.{◌≡◌, IfOk, length, vec_len};
 
-use crate::{Disk, Faults, MemSite, QuietSite, RealSite, Rooms, Site};
+use crate::{Disk, Faults, MemSite, Pick, QuietSite, RealSite, Rooms, Site};
 use ct_base::{Memory, Numbers};
 use std::alloc::Global;
 use std::test::Fail;
@@ -263,6 +263,7 @@ fn faults(alloc: Global) -> Result<Faults, Memory> {
         hear: Numbers::of(Vec::from_slice(alloc, &[2])?),
         say: Numbers::of(Vec::from_slice(alloc, &[3, 1])?),
         disk: Numbers::of(Vec::from_slice(alloc, &[3, 5])?),
+        stop: None,
     })
 }
 
@@ -274,6 +275,60 @@ fn listed_calls_fail(rt: HostRuntime) -> Result<(), Fail> {
         memory.as_slice(),
         b"abcd - efg - 4 - . - - . . 4 |told| acdz".as_slice()
     );
+    Ok(())
+}
+
+const STOPPED: &[Call] = &[
+    Call::Hear(3),
+    Call::Say("one"),
+    Call::Write(0, "ab"),
+    Call::Sync,
+    Call::Hear(3),
+    Call::Say("two"),
+    Call::Size,
+];
+
+#[test]
+fn no_call_succeeds_after_the_stop(rt: HostRuntime) -> Result<(), Fail> {
+    let alloc = rt.alloc();
+    let mut faults = Faults::none(alloc);
+    faults.stop = Some(4);
+    let memory = over_memory(alloc, faults, AMPLE, STOPPED)?;
+    assert_eq!(rt; memory.as_slice(), b"abc 3 . - - - - |one| abyz".as_slice());
+    Ok(())
+}
+
+const UNSYNCED: &[Call] = &[
+    Call::Write(1, "XY"),
+    Call::Sync,
+    Call::Write(3, "12"),
+    Call::Say("told"),
+];
+
+/// The image that a crash leaves after these calls.
+fn crashed(alloc: Global, pick: Pick) -> Result<Vec<u8>, Memory> {
+    let script = bytes_of(alloc, SCRIPT)?;
+    let image = bytes_of(alloc, IMAGE)?;
+    if image.len() > AMPLE.image {
+        return Ok(Vec::new(alloc));
+    }
+    let mut site = MemSite::new(alloc, script, image, Faults::none(alloc), AMPLE)?;
+    let _ = answers(alloc, &mut site, UNSYNCED)?;
+    site.crash(alloc, pick)
+}
+
+#[test]
+fn a_crash_leaves_what_was_synced_and_what_is_picked(rt: HostRuntime) -> Result<(), Fail> {
+    let alloc = rt.alloc();
+    for (pick, image) in [
+        (Pick::Old, b"wXYz".as_slice()),
+        (Pick::New, b"wXY12".as_slice()),
+        (Pick::Zeros, b"wXY\0\0".as_slice()),
+        (Pick::Ones, b"wXY\xff\xff".as_slice()),
+    ] {
+        let left = crashed(alloc, pick)?;
+        assert_eq!(rt; left.as_slice(), image);
+    }
     Ok(())
 }
 

@@ -1,0 +1,56 @@
+use Rattle.std.proofs.Common.{◌≡◌, ◌≤◌, ◌+◌, ◌++◌, ◌∷◌, [], List, ℕ, Some, Ok, length, refl, sym, ap, subst, ◌∙◌, arith}
+use Rattle.std.proofs.lemmas.Bool.{ltb-false}
+use Rattle.ct_site.specs.Images.{written, Torn}
+use Rattle.ct_site.specs.Pieces.{length-written}
+use Rattle.ct_site.specs.Disks.{Leaves, Works, Follows}
+use Rattle.ct_site.specs.Histories.{Change, Wrote, DiskState, begun, after, after-push}
+use Rattle.ct_site.specs.Crashes.{AreWithin, within_after}
+use Rattle.ct_site.specs.Logs.{LogState}
+use Rattle.ct_site.specs.MemoryFields.{state_of, with_log}
+use Rattle.ct_site.specs.Memory.{MemState, view_of, image_of, wrote}
+use Rattle.ct_site.specs.Changing.{write_works, write_leaves, write_crash, write_image}
+use Rattle.ct_site.proofs.Growing.{passes_none}
+use Rattle.ct_site.proofs.memory.MemSiteDisk.write_at.Goals as goal
+use Rattle.ct_site.proofs.memory.MemSiteDisk.write_at.Goals.{After-write}
+
+new_is : (c : After-write) → with_log c.self-2.inside c.write.new.self ≡ wrote c.args.self.now c.args.at c.args.bytes.now
+new_is c =
+    ap (with_log c.self-2.inside) c.write.ensures
+    ∙ ap (λ (x : MemState). record x { log = x.log ++ Wrote c.args.at c.args.bytes.now ∷ []; written_bytes = x.written_bytes + length c.args.bytes.now }) (c.self-2.view_is ∙ c.count_disk.ensures.counted)
+
+pub invariant_of-self-2 : goal.invariant_of-self-2
+invariant_of-self-2 c =
+    let s = c.self-2.inside in
+    let log = ap (λ (l : LogState). l.changes) c.write.ensures in
+    let same : image_of (state_of s) ≡ image_of c.args.self.now = ap image_of (c.self-2.view_is ∙ c.count_disk.ensures.counted) in
+    let begins : c.args.at ≤ length (image_of (state_of s)) = subst (λ (l : List ℕ). c.args.at ≤ length l) (sym same) (c.requires.within (image_of c.args.self.now) refl) in
+    let long = length-written c.args.at c.args.bytes.now (image_of (state_of s)) begins in
+    let was = ap length c.self-2.invariant.image in
+    let now = ap length (c.overwrite.ensures.items ∙ ap (written c.args.at c.args.bytes.now) c.self-2.invariant.image) in
+    let rooms = ap (λ (l : LogState). l.rooms.image) c.write.ensures in
+    let counted = ap (λ (x : MemState). x.rooms.image) c.self-2.view_is in
+    let fits : c.args.at + length c.args.bytes.now ≤ c.count_disk.new.self.rooms.image = ltb-false c.count_disk.new.self.rooms.image (c.args.at + length c.args.bytes.now) (passes_none _ _ _ _ _ c.if-not-may_write.false c.may_write.ensures) in
+    record {
+      taken = c.self-2.invariant.taken;
+      image =
+          c.overwrite.ensures.items ∙ ap (written c.args.at c.args.bytes.now) c.self-2.invariant.image
+          ∙ sym (ap (λ (d : DiskState). d.image) (after-push (begun s.first.items) s.log.changes (Wrote c.args.at c.args.bytes.now)))
+          ∙ ap (λ (cs : List Change). (after (begun s.first.items) cs).image) (sym log);
+      within = subst (AreWithin s.first.items) (sym log) (within_after s.first.items s.log.changes (Wrote c.args.at c.args.bytes.now) c.self-2.invariant.within (begins, tt));
+      image_room = omega (arith, long, was, now, rooms, counted, fits, c.self-2.invariant.image_room);
+      image_memory = omega (arith, rooms, c.overwrite.ensures.capacity, c.self-2.invariant.image_memory);
+    }
+
+pub returns-clause-written : goal.returns-clause-written
+returns-clause-written c = ap Some (ap image_of (new_is c) ∙ write_image c.args.self.now c.args.at c.args.bytes.now)
+
+pub returns-clause-crash : goal.returns-clause-crash
+returns-clause-crash c =
+    subst (λ (s : MemState). Follows (Torn c.args.at (length c.args.bytes.now)) (view_of c.args.self.now).may_leave (view_of s).may_leave) (sym (new_is c))
+    (write_crash c.args.self.now c.args.at c.args.bytes.now (c.requires.within (image_of c.args.self.now) refl))
+
+pub returns-clause-leaves : goal.returns-clause-leaves
+returns-clause-leaves c = subst (λ (s : MemState). Leaves (view_of c.args.self.now) (view_of s) (view_of s).may_leave) (sym (new_is c)) (write_leaves c.args.self.now c.args.at c.args.bytes.now)
+
+pub returns-clause-works : goal.returns-clause-works
+returns-clause-works c = subst (λ (s : MemState). Works {T = Unit {0}} (view_of c.args.self.now) (view_of s) (Ok tt)) (sym (new_is c)) (write_works c.args.self.now c.args.at c.args.bytes.now)

@@ -1,0 +1,115 @@
+-- What the calls of a site in memory make of what is known of it.
+use Rattle.std.specs.Prelude.{◌≡◌, ℕ, ◌≤◌, List, [], ◌∷◌, ◌++◌, length, Some, Ok, refl}
+use Rattle.std.proofs.Common.{inl, inr, sym, ◌∙◌, ap, subst, arith, append-nil}
+use Rattle.ct_base.specs.Moments.{keeps_all, stays_all}
+use Rattle.ct_site.specs.Images.{written, Torn}
+use Rattle.ct_site.specs.Pieces.{torn_written}
+use Rattle.ct_site.specs.Disks.{DiskView, IsNow, Follows, Works, Leaves, Hears, Says}
+use Rattle.ct_site.specs.Histories.{Change, Wrote, Synced, Said, DiskState, begun, next, after, said_in, said_by, after-push, said_by-push, image_left, timeline, moment_now, left_now, said_now, keeps_push, passes_push}
+use Rattle.ct_site.specs.Memory.{MemState, view_of, image_of, wrote, synced, spoken, heard}
+
+some_same : {x y : List ℕ} → Some x ≡ Some y → x ≡ y
+some_same e = cc
+
+-- the present is a moment, and since now the only one
+pub counts_now : (s : MemState) (t : ℕ) (image said : List ℕ) → t ≤ length s.log → IsNow (view_of s) image said → (view_of s).time.since t image said
+counts_now s t image said le now = moment_now s.first s.log t image said le now.0 (sym (some_same now.1))
+
+pub only_now : (s : MemState) (image said : List ℕ) → (view_of s).time.since (length s.log) image said → IsNow (view_of s) image said
+only_now s image said m = (left_now s.first s.log image said m, ap Some (sym (said_now s.first s.log image said m)))
+
+-- what is known after one call more that is logged
+abbrev pub pushed : MemState → Change → DiskView
+pushed s c = record {
+  image = Some (next (after (begun s.first) s.log) c).image;
+  may_leave = (next (after (begun s.first) s.log) c).may_leave;
+  beside = record { left = Some s.left; said = Some (said_by s.log ++ said_in c); hear_faults = s.hear_faults; say_faults = s.say_faults };
+  time = timeline s.first (s.log ++ c ∷ []);
+  faults = s.disk_faults;
+}
+
+view_pushed : (s : MemState) (c : Change) → view_of (record s { log = s.log ++ c ∷ [] }) ≡ pushed s c
+view_pushed s c =
+    let state = after-push (begun s.first) s.log c in
+    let said = said_by-push s.log c in
+    λ i. record {
+      image = Some (state i).image;
+      may_leave = (state i).may_leave;
+      beside = record { left = Some s.left; said = Some (said i); hear_faults = s.hear_faults; say_faults = s.say_faults };
+      time = timeline s.first (s.log ++ c ∷ []);
+      faults = s.disk_faults;
+    }
+
+works_push : (s : MemState) (c : Change) → said_in c ≡ [] → Works {T = Unit {0}} (view_of s) (pushed s c) (Ok tt)
+works_push s c nothing = record {
+  beside = ap (λ (l : List ℕ). record { left = Some s.left; said = Some l; hear_faults = s.hear_faults; say_faults = s.say_faults }) (ap (λ (l : List ℕ). said_by s.log ++ l) nothing ∙ append-nil (said_by s.log));
+  untold = λ none. absurd (cc none);
+  kept = keeps_push s.first s.log c;
+  cause = record { later = omega arith; failed = tt };
+}
+
+leaves_push : (s : MemState) (c : Change) (P : List ℕ → Type 0) → said_in c ≡ [] → ((image : List ℕ) → (next (after (begun s.first) s.log) c).may_leave image → P image) → Leaves (view_of s) (pushed s c) P
+leaves_push s c P nothing here = record {
+  beside = (works_push s c nothing).beside;
+  time = passes_push s.first s.log c _ (λ image said now told. (here image now, ap Some (sym (told ∙ ap (λ (l : List ℕ). said_by s.log ++ l) nothing ∙ append-nil (said_by s.log)))));
+  now = here;
+}
+
+-- ---- a write
+crash_pushed : (s : MemState) (at : ℕ) (bytes : List ℕ) → at ≤ length (image_of s) → Follows (Torn at (length bytes)) (view_of s).may_leave (pushed s (Wrote at bytes)).may_leave
+crash_pushed s at bytes within x (inl is) = (image_of s, image_left (begun s.first) s.log refl, subst (λ (y : List ℕ). Torn at (length bytes) (image_of s) y) (sym is) (torn_written at bytes (image_of s) within))
+crash_pushed s at bytes within x (inr torn) = (torn.from, torn.left, torn.torn)
+
+pub write_works : (s : MemState) (at : ℕ) (bytes : List ℕ) → Works {T = Unit {0}} (view_of s) (view_of (wrote s at bytes)) (Ok tt)
+write_works s at bytes = subst (λ (v : DiskView). Works {T = Unit {0}} (view_of s) v (Ok tt)) (sym (view_pushed s (Wrote at bytes))) (works_push s (Wrote at bytes) refl)
+
+pub write_leaves : (s : MemState) (at : ℕ) (bytes : List ℕ) → Leaves (view_of s) (view_of (wrote s at bytes)) (view_of (wrote s at bytes)).may_leave
+write_leaves s at bytes = subst (λ (v : DiskView). Leaves (view_of s) v v.may_leave) (sym (view_pushed s (Wrote at bytes))) (leaves_push s (Wrote at bytes) _ refl (λ image now. now))
+
+pub write_crash : (s : MemState) (at : ℕ) (bytes : List ℕ) → at ≤ length (image_of s) → Follows (Torn at (length bytes)) (view_of s).may_leave (view_of (wrote s at bytes)).may_leave
+write_crash s at bytes within = subst (λ (v : DiskView). Follows (Torn at (length bytes)) (view_of s).may_leave v.may_leave) (sym (view_pushed s (Wrote at bytes))) (crash_pushed s at bytes within)
+
+pub write_image : (s : MemState) (at : ℕ) (bytes : List ℕ) → image_of (wrote s at bytes) ≡ written at bytes (image_of s)
+write_image s at bytes = ap (λ (d : DiskState). d.image) (after-push (begun s.first) s.log (Wrote at bytes))
+
+-- ---- a sync
+only_image : (s : MemState) (x : List ℕ) → x ≡ image_of s → (view_of s).may_leave x
+only_image s x is = subst (view_of s).may_leave (sym is) (image_left (begun s.first) s.log refl)
+
+pub sync_works : (s : MemState) → Works {T = Unit {0}} (view_of s) (view_of (synced s)) (Ok tt)
+sync_works s = subst (λ (v : DiskView). Works {T = Unit {0}} (view_of s) v (Ok tt)) (sym (view_pushed s Synced)) (works_push s Synced refl)
+
+pub sync_leaves : (s : MemState) → Leaves (view_of s) (view_of (synced s)) (view_of s).may_leave
+sync_leaves s = subst (λ (v : DiskView). Leaves (view_of s) v (view_of s).may_leave) (sym (view_pushed s Synced)) (leaves_push s Synced _ refl (only_image s))
+
+pub sync_image : (s : MemState) → image_of (synced s) ≡ image_of s
+sync_image s = ap (λ (d : DiskState). d.image) (after-push (begun s.first) s.log Synced)
+
+pub sync_durable : (s : MemState) (image x : List ℕ) → Some (image_of s) ≡ Some image → (view_of (synced s)).may_leave x → x ≡ image
+sync_durable s image x told = subst (λ (d : DiskState). d.may_leave x → x ≡ image) (sym (after-push (begun s.first) s.log Synced)) (λ is. is ∙ some_same told)
+
+pub sync_crash : (s : MemState) (x : List ℕ) → (view_of (synced s)).may_leave x → (view_of s).may_leave x
+sync_crash s x = subst (λ (d : DiskState). d.may_leave x → (view_of s).may_leave x) (sym (after-push (begun s.first) s.log Synced)) (only_image s x)
+
+-- ---- hearing and saying
+pub hears_of : (s : MemState) (bytes : List ℕ) (count : ℕ) → s.left ≡ bytes ++ (heard s count).left → Hears bytes (view_of s) (view_of (heard s count))
+hears_of s bytes count is = record {
+  left = ap Some is;
+  said = refl;
+  say_faults = refl;
+  same = record { image = refl; crash = λ image now. now; time = stays_all (timeline s.first s.log) };
+  kept = keeps_all (timeline s.first s.log);
+  faults = refl;
+}
+
+pub says_of : (s : MemState) (bytes : List ℕ) → Says bytes (view_of s) (view_of (spoken s bytes))
+says_of s bytes = subst (λ (v : DiskView). Says bytes (view_of s) v) (sym (view_pushed s (Said bytes))) (record {
+  said = refl;
+  left = refl;
+  hear_faults = refl;
+  image = refl;
+  crash = λ image now. now;
+  time = passes_push s.first s.log (Said bytes) _ (λ image said now told. (now, record { part = bytes; later = []; front = sym (append-nil bytes); is = ap Some (sym told) }));
+  kept = keeps_push s.first s.log (Said bytes);
+  faults = refl;
+})
