@@ -17,6 +17,7 @@ struct PieceSite {
 
 impl Disk for PieceSite {
     ghost use Rattle.ct_site.specs.Memory.{view_of};
+    ghost use Rattle.ct_site.specs.Changing.{counts_now, only_now};
 
     ghost disk = { λ s. view_of s.site };
 
@@ -35,6 +36,10 @@ impl Disk for PieceSite {
     fn sync(&mut self) -> Result<(), Failed> {
         self.site.sync()
     }
+
+    ghost counts_now = { λ s. counts_now s.site };
+
+    ghost only_now = { λ s. only_now s.site };
 }
 
 impl Site for PieceSite {
@@ -69,6 +74,7 @@ fn site_of(
         hear: Numbers::of(Vec::from_slice(alloc, hear)?),
         say: Numbers::of(Vec::from_slice(alloc, say)?),
         disk: Numbers::of(Vec::new(alloc)),
+        stop: None,
     };
     let site = MemSite::new(alloc, script, Vec::new(alloc), faults, AMPLE)?;
     Ok(PieceSite { site, piece })
