@@ -1,6 +1,7 @@
 //! What holds of the bytes of everything that is written. Each function here only states laws, which its contract proves.
 
 ghost use Rattle.ct_bytes.specs.VarintLaws.{NoVarintBeginsAnother, PlacesHaveOneVarint, VarintsAreReadBack, NoTextBeginsAnother, PlacesHaveOneText, TextsAreReadBack};
+ghost use Rattle.ct_bytes.specs.VarintSums.{VarintsAreSums, VarintsHaveTopBits, VarintsEndInNoZero};
 ghost use Rattle.ct_bytes.specs.RowKeyLaws.{KeysHaveEightBytes, KeysHaveTheirOwnBytes, BytesAreInKeyOrder};
 ghost use Rattle.ct_bytes.specs.NumberLaws.{TwoBytesAreOneNumber, FourBytesAreOneNumber, TwoBytesAreInOrder, FourBytesAreInOrder};
 
@@ -9,6 +10,14 @@ pub fn varints_are_exact()
     ensures apart { NoVarintBeginsAnother }
     ensures one { PlacesHaveOneVarint }
     ensures read_back { VarintsAreReadBack }
+{}
+
+/// Each number below 2^32 is the sum of the seven low bits of its bytes, of which each counts 128 times as much as the one
+/// before it; the top bit is set on each byte but the last; and the last isn't 0, unless it is the only one.
+pub fn varints_are_sums()
+    ensures sums { VarintsAreSums }
+    ensures top_bits { VarintsHaveTopBits }
+    ensures no_zero { VarintsEndInNoZero }
 {}
 
 /// The same of texts behind their lengths.
