@@ -1,5 +1,5 @@
 -- Which characters stand in words, and the key under which a word is found.
-use Rattle.std.specs.Prelude.{ℕ, ◌≡◌, ◌-◌, nat_le, Bool, List, [], ◌∷◌, ◌++◌, map, codes, refl}
+use Rattle.std.specs.Prelude.{ℕ, ◌≡◌, ◌-◌, nat_le, Bool, List, [], ◌∷◌, ◌++◌, map, codes, refl, replicate}
 use Rattle.std.specs.Bool.{if◌then◌else◌}
 use Rattle.std.specs.Char.{is_ascii_digit, is_ascii_alphanumeric, to_ascii_lowercase, encode_utf8, len_utf8}
 use lib.Utf8.{encode}
@@ -36,3 +36,17 @@ none = refl
 room_for_one : cut_at 4 (0x20AC ∷ 0x20AC ∷ []) ≡ 0xE2 ∷ 0x82 ∷ 0xAC ∷ []
 unfolding encode
 room_for_one = refl
+
+-- a word of 300 letters has the key of its first 255
+long_word : key_of (replicate 300 0x41) ≡ replicate 255 0x61
+unfolding encode
+long_word = refl
+
+-- a character of two bytes behind 254 letters has no room, and one behind 253 has
+no_room_for_two : key_of (replicate 254 0x61 ++ 0xE9 ∷ []) ≡ replicate 254 0x61
+unfolding encode
+no_room_for_two = refl
+
+room_for_two : key_of (replicate 253 0x61 ++ 0xE9 ∷ []) ≡ replicate 253 0x61 ++ 0xC3 ∷ 0xA9 ∷ []
+unfolding encode
+room_for_two = refl

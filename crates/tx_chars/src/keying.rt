@@ -4,6 +4,7 @@ ghost use Rattle.std.specs.Prelude.{◌≡◌, ◌↔◌, ◌≤◌, ℕ, true, 
 ghost use Rattle.std.specs.Char.{to_ascii_lowercase};
 ghost use Rattle.std.specs.Str.{chars, IsUtf8, all_scalars, encode_utf8_all};
 ghost use Rattle.tx_chars.specs.Keys.{is_word, is_digit, key_of};
+ghost use Rattle.tx_chars.specs.LongestFront.{KeysAreLongestFronts};
 
 use crate::keys::Key;
 use ct_base::{Memory, push_char, split_first};
@@ -47,9 +48,10 @@ pub fn key(alloc: Global, text: &str) -> Result<Key, Memory>
     Ok(Key::of(lower.into_bytes()))
 }
 
-/// What holds of every key: it has at most 255 bytes, which are UTF-8; it is all of a text that has no more, in lower
-/// case; and it is empty exactly where the text is.
+/// What holds of every key: it has at most 255 bytes, which are UTF-8; it is the longest front of a text in lower case, at a
+/// character boundary, that has no more, so all of a text that has no more; and it is empty exactly where the text is.
 pub fn key_laws()
+    ensures longest { KeysAreLongestFronts }
     ensures limit { (text : List ℕ) → length (key_of text) ≤ 255 }
     ensures utf8 { (text : List ℕ) → all_scalars text ≡ true → IsUtf8 (key_of text) }
     ensures whole { (text : List ℕ) → length (encode_utf8_all (map to_ascii_lowercase text)) ≤ 255

@@ -1,6 +1,7 @@
 use Rattle.tx_chars.specs.KeyLimit.{limit}
 use Rattle.tx_chars.proofs.KeyLaws.{utf8, whole, empty}
 use Rattle.tx_chars.proofs.keying.key_laws.Goals as goal
+use Rattle.tx_chars.specs.LongestFront.{keys_are_longest}
 
 pub returns-clause-limit : goal.returns-clause-limit
 returns-clause-limit c = limit
@@ -13,3 +14,6 @@ returns-clause-whole c = whole
 
 pub returns-clause-empty : goal.returns-clause-empty
 returns-clause-empty c = empty
+
+pub returns-clause-longest : goal.returns-clause-longest
+returns-clause-longest c = keys_are_longest
