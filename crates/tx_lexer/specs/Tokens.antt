@@ -143,3 +143,32 @@ marks : map {B = ℕ × Bool × Bool} (λ (t : Token). (t.start, t.ends_sentence
     ≡ (0, false, false) ∷ (2, false, false) ∷ (4, true, true) ∷ (8, true, false) ∷ (11, false, false) ∷ []
 unfolding encode
 marks = refl
+
+-- rules by which `-` stands inside a word without being part of its key
+abbrev is_word_at : Option ℕ → Bool
+is_word_at None = false
+is_word_at (Some c) = is_word c
+
+abbrev skipping_role : Option ℕ → ℕ → Option ℕ → Role
+skipping_role before c after = if (c == 45) && (is_word_at before && is_word_at after) then Skip else role_at before c after
+
+abbrev skipping : Rules
+skipping = record { role = skipping_role; key = key_of; closes = closes_sentence }
+
+website : tokens skipping (codes "Web-site, 1,000.50!")
+    ≡ record { key = codes "website"; start = 0; end = 8; ends_sentence = false; ends_paragraph = false }
+    ∷ record { key = codes "1,000.50"; start = 10; end = 18; ends_sentence = true; ends_paragraph = false } ∷ []
+unfolding encode
+website = refl
+
+-- rules by which `#` before a word begins a token, and `+` behind one ends it
+abbrev framing_role : Option ℕ → ℕ → Option ℕ → Role
+framing_role before c after = if (c == 35) && is_word_at after then Start else (if (c == 43) && is_word_at before then End else role_at before c after)
+
+abbrev framing : Rules
+framing = record { role = framing_role; key = key_of; closes = closes_sentence }
+
+framed : map {B = List ℕ × ℕ × ℕ} (λ (t : Token). (t.key, t.start, t.end)) (tokens framing (codes "a#b+c # +"))
+    ≡ (codes "a", 0, 1) ∷ (codes "#b+", 1, 4) ∷ (codes "c", 4, 5) ∷ []
+unfolding encode
+framed = refl
