@@ -1,7 +1,9 @@
 -- Words for each of several things, as owners or rows.
-use Rattle.std.specs.Prelude.{ℕ, Bool, cond, List, [], ◌∷◌, ◌++◌, Option}
+use Rattle.std.specs.Prelude.{ℕ, Bool, cond, List, [], ◌∷◌, ◌++◌, Option, ◌≡◌, nat_lt, true, false, Some, None, codes, refl}
 use Rattle.std.specs.List.{list_any}
-use Rattle.ct_entry.specs.Keys.{Key, same_list}
+use Rattle.ct_entry.specs.Keys.{Key, same_list, key}
+use Rattle.ct_entry.specs.declared.kinds.Kind.TheVariants.{Pending}
+use Rattle.ct_entry.specs.Words.{put, drop_key}
 
 -- the words for each, in order
 abbrev pub each : {I : Type 0} → (I → List (Key × Option (List ℕ))) → List I → List (Key × Option (List ℕ))
@@ -16,3 +18,24 @@ latest hit value (i ∷ is) old = latest hit value is (cond (hit i) (value i) ol
 -- whether the name is one of these
 abbrev pub is_among : List ℕ → List (List ℕ) → Bool
 is_among name names = list_any (λ j. same_list name j) names
+
+-- computed examples
+abbrev waits : List ℕ → Key
+waits i = key Pending i []
+
+in_order : each (λ i. drop_key (waits i) ∷ put (waits i) [] ∷ []) (codes "di" ∷ codes "dj" ∷ [])
+    ≡ drop_key (waits (codes "di")) ∷ put (waits (codes "di")) [] ∷ drop_key (waits (codes "dj")) ∷ put (waits (codes "dj")) [] ∷ []
+in_order = refl
+
+-- of the numbers below 3 the last counts
+last_below_three : latest (λ n. nat_lt n 3) (λ n. Some (n ∷ [])) (1 ∷ 2 ∷ 5 ∷ []) None ≡ Some (2 ∷ [])
+last_below_three = refl
+
+none_below_three : latest (λ n. nat_lt n 3) (λ n. Some (n ∷ [])) (4 ∷ 5 ∷ []) (Some []) ≡ Some []
+none_below_three = refl
+
+among : is_among (codes "dj") (codes "di" ∷ codes "dj" ∷ []) ≡ true
+among = refl
+
+not_among : is_among (codes "d") (codes "di" ∷ codes "dj" ∷ []) ≡ false
+not_among = refl

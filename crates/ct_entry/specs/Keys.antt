@@ -128,5 +128,51 @@ numbers_of_row_seven : bytes (key RowNumbers (codes "t") (row_part (pos 7))) ≡
 unfolding row_bytes
 numbers_of_row_seven = refl
 
-a_posting : bytes (key Postings (codes "di") (posting_part 0 (codes "fox") 1)) ≡ 0x24 ∷ 2 ∷ 0x64 ∷ 0x69 ∷ 0 ∷ 3 ∷ 0x66 ∷ 0x6f ∷ 0x78 ∷ 0 ∷ 0 ∷ 0 ∷ 1 ∷ []
-a_posting = refl
+-- The keys of a table `docs` with two rows, each with a text in the column 1 and a number, and of an index `di` on that column,
+-- of which the row 1 is the document 1, with the words `fox` and `quick`, and the row 2 waits.
+the_table : bytes (key Tables (codes "docs") []) ≡ 0x01 ∷ 4 ∷ 0x64 ∷ 0x6f ∷ 0x63 ∷ 0x73 ∷ []
+the_table = refl
+
+numbers_of_row_one : bytes (key RowNumbers (codes "docs") (row_part (pos 1))) ≡ 0x02 ∷ 4 ∷ 0x64 ∷ 0x6f ∷ 0x63 ∷ 0x73 ∷ 0x80 ∷ 0 ∷ 0 ∷ 0 ∷ 0 ∷ 0 ∷ 0 ∷ 1 ∷ []
+unfolding row_bytes
+numbers_of_row_one = refl
+
+numbers_of_row_two : bytes (key RowNumbers (codes "docs") (row_part (pos 2))) ≡ 0x02 ∷ 4 ∷ 0x64 ∷ 0x6f ∷ 0x63 ∷ 0x73 ∷ 0x80 ∷ 0 ∷ 0 ∷ 0 ∷ 0 ∷ 0 ∷ 0 ∷ 2 ∷ []
+unfolding row_bytes
+numbers_of_row_two = refl
+
+text_of_row_one : bytes (key RowTexts (codes "docs") (text_part 1 (pos 1))) ≡ 0x03 ∷ 4 ∷ 0x64 ∷ 0x6f ∷ 0x63 ∷ 0x73 ∷ 1 ∷ 0x80 ∷ 0 ∷ 0 ∷ 0 ∷ 0 ∷ 0 ∷ 0 ∷ 1 ∷ []
+unfolding row_bytes
+text_of_row_one = refl
+
+text_of_row_two : bytes (key RowTexts (codes "docs") (text_part 1 (pos 2))) ≡ 0x03 ∷ 4 ∷ 0x64 ∷ 0x6f ∷ 0x63 ∷ 0x73 ∷ 1 ∷ 0x80 ∷ 0 ∷ 0 ∷ 0 ∷ 0 ∷ 0 ∷ 0 ∷ 2 ∷ []
+unfolding row_bytes
+text_of_row_two = refl
+
+the_index : bytes (key Indexes (codes "di") []) ≡ 0x20 ∷ 2 ∷ 0x64 ∷ 0x69 ∷ []
+the_index = refl
+
+row_of_document_one : bytes (key DocumentRows (codes "di") (document_part 1)) ≡ 0x21 ∷ 2 ∷ 0x64 ∷ 0x69 ∷ 0 ∷ 0 ∷ 0 ∷ 1 ∷ []
+row_of_document_one = refl
+
+document_of_row_one : bytes (key RowDocuments (codes "di") (row_part (pos 1))) ≡ 0x22 ∷ 2 ∷ 0x64 ∷ 0x69 ∷ 0x80 ∷ 0 ∷ 0 ∷ 0 ∷ 0 ∷ 0 ∷ 0 ∷ 1 ∷ []
+unfolding row_bytes
+document_of_row_one = refl
+
+row_two_waits : bytes (key Pending (codes "di") (row_part (pos 2))) ≡ 0x23 ∷ 2 ∷ 0x64 ∷ 0x69 ∷ 0x80 ∷ 0 ∷ 0 ∷ 0 ∷ 0 ∷ 0 ∷ 0 ∷ 2 ∷ []
+unfolding row_bytes
+row_two_waits = refl
+
+postings_of_fox : bytes (key Postings (codes "di") (posting_part 0 (codes "fox") 1)) ≡ 0x24 ∷ 2 ∷ 0x64 ∷ 0x69 ∷ 0 ∷ 3 ∷ 0x66 ∷ 0x6f ∷ 0x78 ∷ 0 ∷ 0 ∷ 0 ∷ 1 ∷ []
+postings_of_fox = refl
+
+postings_of_quick : bytes (key Postings (codes "di") (posting_part 0 (codes "quick") 1)) ≡ 0x24 ∷ 2 ∷ 0x64 ∷ 0x69 ∷ 0 ∷ 5 ∷ 0x71 ∷ 0x75 ∷ 0x69 ∷ 0x63 ∷ 0x6b ∷ 0 ∷ 0 ∷ 0 ∷ 1 ∷ []
+postings_of_quick = refl
+
+-- keys with one rest under two kinds are two
+apart_by_kind : same (key RowDocuments (codes "di") (row_part (pos 1))) (key Pending (codes "di") (row_part (pos 1))) ≡ false
+apart_by_kind = refl
+
+-- the key of a table has no rest
+none_with_a_rest : IsKey (key Tables (codes "docs") (0 ∷ [])) → ⊥
+none_with_a_rest is = let e : ◌≡◌ {A = List ℕ} (0 ∷ []) [] = is.part in cc

@@ -1,14 +1,21 @@
 -- Entries whose keys strictly rise, in any order.
-use Rattle.std.proofs.Common.{◌≡◌, Bool, true, false, cond, List, [], ◌∷◌, Some, None, refl, ap, ◌∙◌}
+use Rattle.std.proofs.Common.{◌≡◌, ℕ, Bool, true, false, cond, List, [], ◌∷◌, Some, None, refl, ap, ◌∙◌, zero, suc, ◌<◌, length, get_or, sym, subst, arith}
 use Rattle.std.specs.Prelude.{◌&&◌}
 use Rattle.std.specs.declared.cmp.Ordering.{Ordering}
 use Rattle.std.specs.declared.cmp.Ordering.TheVariants.{Less, Equal, Greater}
-use Rattle.std.specs.Ordering.{is_lt, is_eq, eq_by_cmp}
+use Rattle.std.specs.Ordering.{is_lt, is_eq, eq_by_cmp, ordering_reverse}
 use Rattle.std.specs.Cmp.{IsTotalOrder}
 use Rattle.std.proofs.lemmas.Cmp.{tied_itself}
-use Rattle.std.specs.FinMap.{FinMap, get, entries, entries_sorted, is_sorted, find, get-entries}
+use Rattle.std.specs.FinMap.{FinMap, get, entries, entries_sorted, is_sorted, find, get-entries, IsAntisymmetric}
 use Rattle.ct_keep.specs.Rising.{and_true, and_both, true_from_T}
 use Rattle.ct_entry.specs.KeyLaws.{is_eq_Equal}
+use Rattle.std.specs.List.{Contains}
+use Rattle.std.proofs.lemmas.List.Elements.{Contains-append_right}
+
+less_then : (o : Ordering) → is_lt o ≡ true → o ≡ Less
+less_then Less h = refl
+less_then Equal h = cc
+less_then Greater h = cc
 
 pub no_tie : (o : Ordering) → is_lt o ≡ true → is_eq o ≡ false
 no_tie Less h = refl
@@ -85,3 +92,35 @@ module _ {K X : Type 0} (R : K → K → Ordering) where
   -- what holds of each key that has something
   pub all_keys : IsTotalOrder R → (P : K → Type 0) (m : FinMap R X) → ((k : K) (x : X) → get m k ≡ Some x → P k) → AllKeys P (entries m)
   all_keys o P m each = all_found o P (entries m) (λ k x is. each k x (get-entries m k ∙ is))
+
+  -- each pair of a list that rises is found at its key
+  pub pair_found : IsTotalOrder R → (es : List (K × X)) (e : K × X) → rises es ≡ true → Contains es e → find R e.0 es ≡ Some e.1
+  pair_found o es e up there = go es there.0 up there.1 there.2
+    where
+      higher : (k : K) (es : List (K × X)) (i : ℕ) → below k es ≡ true → i < length es → get_or es i e ≡ e → is_lt (R k e.0) ≡ true
+      higher k [] i h l is = absurd (omega arith)
+      higher k (x ∷ xs) zero h l is = subst (λ (y : K × X). is_lt (R k y.0) ≡ true) is (and_true (is_lt (R k x.0)) (below k xs) h).0
+      higher k (x ∷ xs) (suc i) h l is = higher k xs i (and_true (is_lt (R k x.0)) (below k xs) h).1 (omega arith) is
+
+      go : (es : List (K × X)) (i : ℕ) → rises es ≡ true → i < length es → get_or es i e ≡ e → find R e.0 es ≡ Some e.1
+      go [] i h l is = absurd (omega arith)
+      go (x ∷ xs) zero h l is =
+          ap (λ (y : K × X). cond (eq_by_cmp R e.0 y.0) (Some y.1) (find R e.0 xs)) is
+          ∙ ap (λ (r : Ordering). cond (is_eq r) (Some e.1) (find R e.0 xs)) (tied_itself o e.0)
+      go (x ∷ xs) (suc i) h l is =
+          let b = and_true (below x.0 xs) (rises xs) h in
+          let low : R x.0 e.0 ≡ Less = less_then (R x.0 e.0) (higher x.0 xs i b.0 (omega arith) is) in
+          let high : R e.0 x.0 ≡ Greater = o.antisymm e.0 x.0 ∙ ap ordering_reverse low in
+          ap (λ (r : Ordering). cond (is_eq r) (Some x.1) (find R e.0 xs)) high ∙ go xs i b.1 (omega arith) is
+
+  -- what is found at a key is a pair of the list, where only keys that are one tie
+  pub found_pair : IsAntisymmetric R → (es : List (K × X)) (k : K) (x : X) → find R k es ≡ Some x → Contains es (k, x)
+  found_pair exact [] k x is = cc
+  found_pair exact (e ∷ es) k x is = go (eq_by_cmp R k e.0) refl is (λ rest. Contains-append_right (e ∷ []) es (k, x) (found_pair exact es k x rest))
+    where
+      go : (b : Bool) → eq_by_cmp R k e.0 ≡ b → cond b (Some e.1) (find R k es) ≡ Some x → (find R k es ≡ Some x → Contains (e ∷ es) (k, x)) → Contains (e ∷ es) (k, x)
+      go true one here rest =
+          let name : k ≡ e.0 = exact k e.0 (is_eq_Equal (R k e.0) one) in
+          let value : e.1 ≡ x = cc in
+          (0, omega arith, λ j. (sym name j, value j))
+      go false two there rest = rest there

@@ -1,7 +1,9 @@
 -- Words on keys: what a call puts into a batch.
-use Rattle.std.specs.Prelude.{◌≡◌, ℕ, Bool, true, cond, List, [], ◌∷◌, Option, Some, None}
+use Rattle.std.specs.Prelude.{◌≡◌, ℕ, Bool, true, cond, List, [], ◌∷◌, Option, Some, None, pos, codes, refl}
 use Rattle.ct_entry.specs.declared.kinds.Kind.{Kind}
-use Rattle.ct_entry.specs.Keys.{Key, bytes, same, IsKey}
+use Rattle.ct_entry.specs.Keys.{Key, bytes, same, IsKey, key, row_part}
+use Rattle.ct_bytes.specs.RowKeys.{row_bytes}
+use Rattle.ct_entry.specs.declared.kinds.Kind.TheVariants.{RowNumbers, Pending}
 
 -- a key, and the value that it is to have, or None where it is to go
 abbrev pub KeyWord : Type 0
@@ -45,3 +47,31 @@ Puts P k (Some v) = P k v
 abbrev pub AllPut : (Key → List ℕ → Type 0) → List (Key × Option (List ℕ)) → Type 0
 AllPut P [] = Unit {0}
 AllPut P (w ∷ ws) = Puts P w.0 w.1 × AllPut P ws
+
+-- computed examples
+abbrev row_one : Key
+row_one = key Pending (codes "di") (row_part (pos 1))
+
+abbrev row_two : Key
+row_two = key Pending (codes "di") (row_part (pos 2))
+
+-- the last word on a key counts
+last_counts : (old : Option (List ℕ)) → told (drop_key row_one ∷ put row_one (codes "x") ∷ put row_one (codes "y") ∷ []) row_one old ≡ Some (codes "y")
+unfolding row_bytes
+last_counts old = refl
+
+goes_again : (old : Option (List ℕ)) → told (put row_one (codes "x") ∷ drop_key row_one ∷ []) row_one old ≡ None
+unfolding row_bytes
+goes_again old = refl
+
+-- words on one key say nothing of another, nor of that with the same rest under another kind
+other_rows_stay : (old : Option (List ℕ)) → told (put row_one [] ∷ drop_key row_one ∷ []) row_two old ≡ old
+unfolding row_bytes
+other_rows_stay old = refl
+
+other_kinds_stay : (old : Option (List ℕ)) → told (drop_key row_one ∷ []) (key RowNumbers (codes "di") (row_part (pos 1))) old ≡ old
+unfolding row_bytes
+other_kinds_stay old = refl
+
+spelt : spell (put (key Pending (codes "di") []) [] ∷ drop_key (key Pending (codes "dj") []) ∷ []) ≡ (0x23 ∷ 2 ∷ 0x64 ∷ 0x69 ∷ [], Some []) ∷ (0x23 ∷ 2 ∷ 0x64 ∷ 0x6a ∷ [], None) ∷ []
+spelt = refl
