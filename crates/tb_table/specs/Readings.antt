@@ -1,5 +1,5 @@
 -- What is read from the entries of tables. An entry is read as what it spells exactly where it spells anything.
-use Rattle.std.specs.Prelude.{ℕ, ℤ, Bool, true, ◌&&◌, is_some, ◌≡◌, ◌+◌, ◌<◌, ◌^◌, List, [], ◌∷◌, ◌++◌, length, drop, Option, Some, None, FitsSigned}
+use Rattle.std.specs.Prelude.{ℕ, ℤ, Bool, true, ◌&&◌, is_some, ◌≡◌, ◌+◌, ◌<◌, ◌^◌, List, [], ◌∷◌, ◌++◌, length, drop, Option, Some, None, FitsSigned, pos, negsuc, false, codes, refl}
 use Rattle.std.specs.Int.{to_be_bytes, w16, w64}
 use Rattle.std.specs.Str.{IsUtf8}
 use Rattle.std.specs.Ordering.{nat_cmp, is_lt}
@@ -12,6 +12,10 @@ use Rattle.ct_entry.specs.Each.{is_among}
 use Rattle.tb_table.specs.declared.columns.Sort.{Sort}
 use Rattle.tb_table.specs.declared.columns.Column.{Column}
 use Rattle.tb_table.specs.Spelling.{sort_code, sort_size, column_bytes, columns_bytes, numbers_bytes}
+use Rattle.std.proofs.Common.{arith}
+use Rattle.ct_bytes.specs.Varints.{varint}
+use Rattle.ct_bytes.specs.RowKeys.{row_bytes}
+use Rattle.tb_table.specs.declared.columns.Sort.TheVariants.{Number, Varchar2}
 
 -- ---- columns
 
@@ -80,3 +84,39 @@ has_table m t = is_kept t && is_some (at m (key kind.Tables t []))
 pub record AreTableNames (m : Content) (names : List (List ℕ)) : Type 0 where
   pub rising : names_rise names ≡ true
   pub each : (t : List ℕ) → is_among t names ≡ has_table m t
+
+-- computed examples
+abbrev two_columns : List Column
+two_columns = record { name = codes "id"; sort = Number } ∷ record { name = codes "w"; sort = Varchar2 300 } ∷ []
+
+the_columns : SpellsColumns (Some (2 ∷ 2 ∷ 0x69 ∷ 0x64 ∷ 1 ∷ 0 ∷ 0 ∷ 1 ∷ 0x77 ∷ 2 ∷ 1 ∷ 44 ∷ [])) (Some two_columns)
+unfolding varint
+the_columns = (
+  record {
+    each = (
+      record { name = record { spelt = refl; lower = refl }; size = omega arith },
+      (record { name = record { spelt = refl; lower = refl }; size = omega arith }, tt),
+    );
+    few = omega arith;
+  },
+  refl,
+)
+
+no_entry_no_columns : SpellsColumns None None
+no_entry_no_columns cs are is = cc
+
+two_numbers : SpellsNumbers (Some (0x80 ∷ 0 ∷ 0 ∷ 0 ∷ 0 ∷ 0 ∷ 0 ∷ 0 ∷ 0x7f ∷ 0xff ∷ 0xff ∷ 0xff ∷ 0xff ∷ 0xff ∷ 0xff ∷ 0xff ∷ [])) (Some (pos 0 ∷ negsuc 0 ∷ []))
+unfolding row_bytes
+two_numbers = ((omega arith, (omega arith, tt)), refl)
+
+-- one byte spells no numbers
+no_numbers : SpellsNumbers (Some (0 ∷ [])) None
+unfolding row_bytes
+no_numbers [] is = cc
+no_numbers (z ∷ zs) is = cc
+
+in_order : names_rise (codes "aa" ∷ codes "b" ∷ codes "ba" ∷ []) ≡ true
+in_order = refl
+
+not_twice : names_rise (codes "a" ∷ codes "a" ∷ []) ≡ false
+not_twice = refl

@@ -1,5 +1,5 @@
 -- The entries that spell the tables.
-use Rattle.std.specs.Prelude.{ℕ, ℤ, ◌≡◌, ◌<◌, List, [], ◌∷◌, ◌++◌, length, map, Option, codes, refl}
+use Rattle.std.specs.Prelude.{ℕ, ℤ, ◌≡◌, ◌<◌, List, [], ◌∷◌, ◌++◌, length, map, Option, codes, refl, pos, Some}
 use Rattle.std.specs.Option.{option_map, option_and_then}
 use Rattle.std.specs.List.{flat_map}
 use Rattle.std.specs.Int.{to_be_bytes, w16}
@@ -8,11 +8,12 @@ use Rattle.ct_bytes.specs.Varints.{varint, text_bytes}
 use Rattle.ct_bytes.specs.RowKeys.{row_bytes}
 use Rattle.ct_entry.specs.declared.kinds.Kind.TheVariants as kind
 use Rattle.ct_entry.specs.Keys.{Key, key, row_part, text_part, IsRow}
-use Rattle.ct_entry.specs.Words.{put}
+use Rattle.ct_entry.specs.Words.{put, spell}
 use Rattle.tb_table.specs.declared.columns.Sort.{Sort}
 use Rattle.tb_table.specs.declared.columns.Sort.TheVariants.{Number, Varchar2, Clob}
 use Rattle.tb_table.specs.declared.columns.Column.{Column}
-use Rattle.tb_table.specs.Tables.{Table, Tables, row_at, numbers_of, text_of}
+use Rattle.tb_table.specs.Tables.{Table, Tables, row_at, numbers_of, text_of, texts_of}
+use Rattle.ct_base.specs.declared.lists.Value.TheVariants.{Number as NumberValue, Text}
 
 -- the byte of a sort, and its size, which is 0 but for VARCHAR2
 abbrev pub sort_code : Sort → ℕ
@@ -55,8 +56,22 @@ text_words t r texts = map (λ (x : ℕ × List ℕ). put (key kind.RowTexts t (
 abbrev pub insert_words : List ℕ → ℤ → List ℤ → List (ℕ × List ℕ) → List (Key × Option (List ℕ))
 insert_words t r numbers texts = put (key kind.RowNumbers t (row_part r)) (numbers_bytes numbers) ∷ text_words t r texts
 
--- computed example: the columns of a table (id NUMBER PRIMARY KEY, title VARCHAR2(100))
+-- computed examples
+
+-- the columns of a table (id NUMBER PRIMARY KEY, title VARCHAR2(100))
 two_columns : columns_bytes (record { name = codes "id"; sort = Number } ∷ record { name = codes "title"; sort = Varchar2 100 } ∷ [])
     ≡ 2 ∷ (2 ∷ codes "id" ++ 1 ∷ 0 ∷ 0 ∷ []) ++ (5 ∷ codes "title" ++ 2 ∷ 0 ∷ 100 ∷ [])
 unfolding varint
 two_columns = refl
+
+-- the words of the row 1 of a table `docs` with a text and a number behind the key
+a_row : spell (insert_words (codes "docs") (pos 1) (numbers_of (Text (codes "quick fox quick") ∷ NumberValue (pos 0) ∷ [])) (texts_of (Text (codes "quick fox quick") ∷ NumberValue (pos 0) ∷ [])))
+    ≡ (0x02 ∷ 4 ∷ codes "docs" ++ 0x80 ∷ 0 ∷ 0 ∷ 0 ∷ 0 ∷ 0 ∷ 0 ∷ 1 ∷ [], Some (0x80 ∷ 0 ∷ 0 ∷ 0 ∷ 0 ∷ 0 ∷ 0 ∷ 0 ∷ []))
+    ∷ (0x03 ∷ 4 ∷ codes "docs" ++ 1 ∷ 0x80 ∷ 0 ∷ 0 ∷ 0 ∷ 0 ∷ 0 ∷ 0 ∷ 1 ∷ [], Some (codes "quick fox quick")) ∷ []
+unfolding row_bytes
+a_row = refl
+
+-- a row without numbers and texts has an entry all the same
+a_bare_row : spell (insert_words (codes "t") (pos 7) [] []) ≡ (0x02 ∷ 1 ∷ 0x74 ∷ 0x80 ∷ 0 ∷ 0 ∷ 0 ∷ 0 ∷ 0 ∷ 0 ∷ 7 ∷ [], Some []) ∷ []
+unfolding row_bytes
+a_bare_row = refl

@@ -1,11 +1,14 @@
 -- Tables and their rows.
-use Rattle.std.specs.Prelude.{ℕ, ℤ, zero, suc, List, [], ◌∷◌, map, Option, Some, None}
+use Rattle.std.specs.Prelude.{ℕ, ℤ, zero, suc, List, [], ◌∷◌, map, Option, Some, None, pos, negsuc, ◌≡◌, codes, refl}
 use Rattle.std.specs.Ordering.{nat_cmp, int_cmp}
 use Rattle.std.specs.Cmp.Lexicographic.{slice_cmp}
-use Rattle.std.specs.FinMap.{FinMap, get, insert, remove, empty, entries}
+use Rattle.std.specs.FinMap.{FinMap, get, insert, remove, empty, entries, from_sorted, get-from_sorted, entries-from_sorted, get-insert}
 use Rattle.ct_base.specs.declared.lists.Value.{Value}
 use Rattle.ct_base.specs.declared.lists.Value.TheVariants.{Number, Text}
 use Rattle.tb_table.specs.declared.columns.Column.{Column}
+use Rattle.std.proofs.Common.{ap, ◌∙◌}
+use Rattle.std.proofs.lemmas.Cmp.{nat_list_cmp_total, int_cmp_total}
+use Rattle.tb_table.specs.declared.columns.Sort.TheVariants.{Number as NumberSort, Clob}
 
 -- a table: its columns, of which the first is the key, and its rows by their keys, each with the values of the other columns in their order
 pub record Table : Type 0 where
@@ -81,3 +84,57 @@ with_row ts t r vs = alter ts t (λ (x : Table). record x { rows = insert x.rows
 
 abbrev pub without_row : Tables → List ℕ → ℤ → Tables
 without_row ts t r = alter ts t (λ (x : Table). record x { rows = remove x.rows r })
+
+-- computed examples: a table `docs` of a number, a text and a number, with two rows
+abbrev pub docs_columns : List Column
+docs_columns = record { name = codes "id"; sort = NumberSort } ∷ record { name = codes "body"; sort = Clob } ∷ record { name = codes "price"; sort = NumberSort } ∷ []
+
+abbrev pub docs_rows : List (ℤ × List Value)
+docs_rows = (pos 1, Text (codes "quick fox quick") ∷ Number (pos 0) ∷ []) ∷ (pos 2, Text (codes "slow") ∷ Number (negsuc 0) ∷ []) ∷ []
+
+abbrev pub docs_table : Table
+docs_table = record { columns = docs_columns; rows = from_sorted docs_rows }
+
+abbrev pub docs_alone : Tables
+docs_alone = from_sorted ((codes "docs", docs_table) ∷ [])
+
+pub docs_there : get docs_alone (codes "docs") ≡ Some docs_table
+docs_there = get-from_sorted (slice_cmp nat_cmp) ((codes "docs", docs_table) ∷ []) (codes "docs") tt
+
+pub row_one : row_at docs_alone (codes "docs") (pos 1) ≡ Some (Text (codes "quick fox quick") ∷ Number (pos 0) ∷ [])
+row_one = ap (λ (o : Option Table). row_in o (pos 1)) docs_there ∙ get-from_sorted int_cmp docs_rows (pos 1) tt
+
+no_row_three : row_at docs_alone (codes "docs") (pos 3) ≡ None
+no_row_three = ap (λ (o : Option Table). row_in o (pos 3)) docs_there ∙ get-from_sorted int_cmp docs_rows (pos 3) tt
+
+no_other_table : row_at docs_alone (codes "doc") (pos 1) ≡ None
+no_other_table = ap (λ (o : Option Table). row_in o (pos 1)) (get-from_sorted (slice_cmp nat_cmp) ((codes "docs", docs_table) ∷ []) (codes "doc") tt)
+
+both_keys : row_keys docs_alone (codes "docs") ≡ pos 1 ∷ pos 2 ∷ []
+both_keys = ap keys_in docs_there ∙ ap (λ (es : List (ℤ × List Value)). map (λ e. e.0) es) (entries-from_sorted int_cmp docs_rows tt)
+
+-- a new row is there
+row_three : (vs : List Value) → row_at (with_row docs_alone (codes "docs") (pos 3) vs) (codes "docs") (pos 3) ≡ Some vs
+row_three vs =
+    ap (λ (o : Option Table). row_at (altered docs_alone (codes "docs") (λ (x : Table). record x { rows = insert x.rows (pos 3) vs }) o) (codes "docs") (pos 3)) docs_there
+    ∙ ap (λ (o : Option Table). row_in o (pos 3)) (get-insert nat_list_cmp_total docs_alone (codes "docs") (record docs_table { rows = insert docs_table.rows (pos 3) vs }) (codes "docs"))
+    ∙ get-insert int_cmp_total docs_table.rows (pos 3) vs (pos 3)
+
+abbrev mixed_row : List Value
+mixed_row = Text (codes "a b") ∷ Number (pos 7) ∷ Text [] ∷ []
+
+its_numbers : numbers_of mixed_row ≡ pos 7 ∷ []
+its_numbers = refl
+
+-- behind the key, which is the column 0
+its_texts : texts_of mixed_row ≡ (1, codes "a b") ∷ (3, []) ∷ []
+its_texts = refl
+
+an_empty_text : text_of mixed_row 3 ≡ Some []
+an_empty_text = refl
+
+no_text_of_a_number : text_of mixed_row 2 ≡ None
+no_text_of_a_number = refl
+
+no_text_of_the_key : text_of mixed_row 0 ≡ None
+no_text_of_the_key = refl
