@@ -16,37 +16,13 @@ use Rattle.ct_entry.specs.Keys.{same_list}
 use Rattle.ct_entry.specs.Each.{is_among}
 use Rattle.ct_entry.specs.KeyLaws.{list_from_same}
 use Rattle.ct_entry.specs.Rising.{below, rises, sorted_from_rises, none_below, below_tied}
+pub use Rattle.ct_entry.specs.Rising.{pair_found}
 use Rattle.ct_entry.specs.Listings.{key_order}
 use Rattle.ct_entry.specs.OwnerLaws.{key_order_total, key_order_tie}
 
 -- ---- in any order
 
-less_then : (o : Ordering) → is_lt o ≡ true → o ≡ Less
-less_then Less h = refl
-less_then Equal h = cc
-less_then Greater h = cc
-
 module _ {K X : Type 0} (R : K → K → Ordering) where
-  -- each pair of a list that rises is found at its key
-  pub pair_found : IsTotalOrder R → (es : List (K × X)) (e : K × X) → rises R es ≡ true → Contains es e → find R e.0 es ≡ Some e.1
-  pair_found o es e up there = go es there.0 up there.1 there.2
-    where
-      higher : (k : K) (es : List (K × X)) (i : ℕ) → below R k es ≡ true → i < length es → get_or es i e ≡ e → is_lt (R k e.0) ≡ true
-      higher k [] i h l is = absurd (omega arith)
-      higher k (x ∷ xs) zero h l is = subst (λ (y : K × X). is_lt (R k y.0) ≡ true) is (and_true (is_lt (R k x.0)) (below R k xs) h).0
-      higher k (x ∷ xs) (suc i) h l is = higher k xs i (and_true (is_lt (R k x.0)) (below R k xs) h).1 (omega arith) is
-
-      go : (es : List (K × X)) (i : ℕ) → rises R es ≡ true → i < length es → get_or es i e ≡ e → find R e.0 es ≡ Some e.1
-      go [] i h l is = absurd (omega arith)
-      go (x ∷ xs) zero h l is =
-          ap (λ (y : K × X). cond (eq_by_cmp R e.0 y.0) (Some y.1) (find R e.0 xs)) is
-          ∙ ap (λ (r : Ordering). cond (is_eq r) (Some e.1) (find R e.0 xs)) (tied_itself o e.0)
-      go (x ∷ xs) (suc i) h l is =
-          let b = and_true (below R x.0 xs) (rises R xs) h in
-          let low : R x.0 e.0 ≡ Less = less_then (R x.0 e.0) (higher x.0 xs i b.0 (omega arith) is) in
-          let high : R e.0 x.0 ≡ Greater = o.antisymm e.0 x.0 ∙ ap ordering_reverse low in
-          ap (λ (r : Ordering). cond (is_eq r) (Some x.1) (find R e.0 xs)) high ∙ go xs i b.1 (omega arith) is
-
   pub below_filter : (p : K × X → Bool) (k : K) (es : List (K × X)) → below R k es ≡ true → below R k (filter p es) ≡ true
   below_filter p k [] h = refl
   below_filter p k (e ∷ es) h =
