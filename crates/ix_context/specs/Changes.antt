@@ -1,19 +1,23 @@
 -- What calls put into a batch.
-use Rattle.std.specs.Prelude.{ℕ, ℤ, ◌+◌, List, [], ◌∷◌, ◌++◌, length, map, Option, Some, None}
+use Rattle.std.specs.Prelude.{ℕ, ℤ, ◌+◌, List, [], ◌∷◌, ◌++◌, length, map, Option, Some, None, pos, negsuc, ◌≡◌, codes, refl}
 use Rattle.std.specs.Int.{to_be_bytes, w32}
 use Rattle.std.specs.FinMap.{entries}
 use Rattle.ct_bytes.specs.RowKeys.{row_bytes}
 use Rattle.ct_entry.specs.declared.kinds.Kind.TheVariants as kind
 use Rattle.ct_entry.specs.Keys.{Key, key, row_part, document_part, posting_part}
-use Rattle.ct_entry.specs.Words.{put, drop_key}
+use Rattle.ct_entry.specs.Words.{put, drop_key, spell}
 use Rattle.ct_entry.specs.Each.{each}
 use Rattle.tb_table.specs.declared.columns.Target.{Target}
 use Rattle.tb_table.specs.Tables.{Tables}
 use Rattle.ix_posting.specs.Rows.{row_bytes as posting_bytes}
 use Rattle.ix_context.specs.declared.ranges.KeyRange.{KeyRange}
-use Rattle.ix_context.specs.Postings.{postings_of}
+use Rattle.ix_context.specs.Postings.{postings_of, fox_and_quick}
 use Rattle.ix_context.specs.Indexes.{Index, pending_rows, text_seen, synced_index, created, rows_in}
 use Rattle.ix_context.specs.Spelling.{index_bytes, index_entry}
+use Rattle.std.proofs.Common.{ap}
+use Rattle.std.specs.Str.{chars}
+use lib.Utf8.{encode}
+use Rattle.ct_bytes.specs.Varints.{varint}
 
 -- a row that is new in an index waits
 abbrev pub note_insert_words : List ℕ → ℤ → List (Key × Option (List ℕ))
@@ -74,3 +78,25 @@ abbrev pub create_words : Tables → List ℕ → Target → KeyRange → List (
 create_words ts i target range =
     put (key kind.Indexes i []) (index_entry (created ts target range))
     ∷ each (λ (p : ℕ × ℤ). mark_words ts i (created ts target range) p.0 p.1) (numbered 1 (rows_in ts target.table range))
+
+-- computed examples
+one_after_the_other : numbered 5 (negsuc 2 ∷ pos 0 ∷ pos 7 ∷ []) ≡ (5, negsuc 2) ∷ (6, pos 0) ∷ (7, pos 7) ∷ []
+one_after_the_other = refl
+
+row_two_waits : spell (note_insert_words (codes "di") (pos 2)) ≡ (0x23 ∷ 2 ∷ 0x64 ∷ 0x69 ∷ 0x80 ∷ 0 ∷ 0 ∷ 0 ∷ 0 ∷ 0 ∷ 0 ∷ 2 ∷ [], Some []) ∷ []
+unfolding row_bytes
+row_two_waits = refl
+
+-- the row 1 becomes the document 1, with a row of postings for each of its two words
+row_one_becomes_a_document : spell (document_words (codes "di") 1 (pos 1) (Some (codes "quick fox quick")))
+    ≡ (0x21 ∷ 2 ∷ 0x64 ∷ 0x69 ∷ 0 ∷ 0 ∷ 0 ∷ 1 ∷ [], Some (0x80 ∷ 0 ∷ 0 ∷ 0 ∷ 0 ∷ 0 ∷ 0 ∷ 1 ∷ []))
+    ∷ (0x22 ∷ 2 ∷ 0x64 ∷ 0x69 ∷ 0x80 ∷ 0 ∷ 0 ∷ 0 ∷ 0 ∷ 0 ∷ 0 ∷ 1 ∷ [], Some (0 ∷ 0 ∷ 0 ∷ 1 ∷ []))
+    ∷ (0x24 ∷ 2 ∷ 0x64 ∷ 0x69 ∷ 0 ∷ 3 ∷ codes "fox" ++ 0 ∷ 0 ∷ 0 ∷ 1 ∷ [], Some (1 ∷ 1 ∷ 1 ∷ 2 ∷ []))
+    ∷ (0x24 ∷ 2 ∷ 0x64 ∷ 0x69 ∷ 0 ∷ 5 ∷ codes "quick" ++ 0 ∷ 0 ∷ 0 ∷ 1 ∷ [], Some (1 ∷ 1 ∷ 2 ∷ 1 ∷ 2 ∷ [])) ∷ []
+unfolding row_bytes varint
+row_one_becomes_a_document =
+    ap (λ (es : List (List ℕ × List ℕ)). spell (put (key kind.DocumentRows (codes "di") (document_part 1)) (row_bytes (pos 1)) ∷ put (key kind.RowDocuments (codes "di") (row_part (pos 1))) (to_be_bytes w32 1) ∷ map (posting_word (codes "di") 1) es)) fox_and_quick
+
+-- nothing is put where no row waits
+nothing_to_settle : (ts : Tables) (x : Index) → sync_rows_words ts (codes "di") x [] ≡ []
+nothing_to_settle ts x = refl

@@ -1,16 +1,21 @@
 -- Text indexes, the marks of their rows, and what statements make of both.
-use Rattle.std.specs.Prelude.{ℕ, ℤ, ◌+◌, nat_lt, Bool, true, false, not, ◌&&◌, List, length, map, filter, Option, Some, None}
+use Rattle.std.specs.Prelude.{ℕ, ℤ, ◌+◌, nat_lt, Bool, true, false, not, ◌&&◌, List, length, map, filter, Option, Some, None, pos, negsuc, ◌≡◌, [], ◌∷◌, codes, refl}
 use Rattle.std.specs.Bool.{if◌then◌else◌}
-use Rattle.std.specs.List.{filter_map}
-use Rattle.std.specs.Option.{option_and_then}
+use Rattle.std.specs.List.{filter_map, cons_option}
+use Rattle.std.specs.Option.{option_and_then, option_map}
 use Rattle.std.specs.Ordering.{int_cmp, is_lt}
-use Rattle.std.specs.FinMap.{get, insert, entries, from_entries}
+use Rattle.std.specs.FinMap.{get, insert, entries, from_entries, from_sorted, entries-from_sorted, get-insert}
 use Rattle.ct_entry.specs.Keys.{same_list}
 use Rattle.ct_entry.specs.Maps.{Names, Rows, alter, each_value}
 use Rattle.tb_table.specs.declared.columns.Target.{Target}
 use Rattle.tb_table.specs.Tables.{Tables, row_at, row_keys, text_of}
 use Rattle.ix_context.specs.declared.ranges.KeyRange.{KeyRange}
 use Rattle.ix_context.specs.Postings.{word_score}
+use Rattle.std.specs.Str.{chars}
+use lib.Utf8.{encode}
+use Rattle.std.proofs.Common.{ap, ◌∙◌}
+use Rattle.std.proofs.lemmas.Cmp.{int_cmp_total}
+use Rattle.ct_entry.specs.MapLaws.{get-each_value}
 
 -- A row of an index waits for the next synchronisation, or is found by queries.
 pub data Mark : Type 0 where
@@ -113,3 +118,60 @@ created ts target range = record {
 
 abbrev pub with_index : Tables → Names Index → List ℕ → Target → KeyRange → Names Index
 with_index ts xs i target range = insert xs i (created ts target range)
+
+-- computed examples
+above : if_above 1 (pos 7) 2 ≡ Some (pos 7, 2)
+above = refl
+
+only_as_high : if_above 2 (pos 7) 2 ≡ None
+only_as_high = refl
+
+twice : scored (codes "quick") 0 (pos 1) (Some (codes "quick fox, Quick.")) ≡ Some (pos 1, 2)
+unfolding encode chars
+twice = refl
+
+nowhere : scored (codes "slow") 0 (pos 1) (Some (codes "quick fox")) ≡ None
+unfolding encode chars
+nowhere = refl
+
+no_text : scored (codes "quick") 0 (pos 1) None ≡ None
+no_text = refl
+
+not_yet : (ts : Tables) (x : Index) (key : List ℕ) → found_at ts x key 0 (pos 1) Pending ≡ None
+not_yet ts x key = refl
+
+-- three rows, of which the last waits
+abbrev three_marks : List (ℤ × Mark)
+three_marks = (pos 1, Marked) ∷ (pos 2, Marked) ∷ (pos 3, Pending) ∷ []
+
+abbrev three_rows : Index
+three_rows = record { table = codes "docs"; column = 1; given = 2; marks = from_sorted three_marks }
+
+two_found : (ts : Tables) → text_seen ts three_rows (pos 1) ≡ Some (codes "a fox") → text_seen ts three_rows (pos 2) ≡ Some (codes "fox fox")
+    → found ts three_rows (codes "fox") 0 ≡ (pos 1, 1) ∷ (pos 2, 2) ∷ []
+unfolding encode chars
+two_found ts one two =
+    ap (λ (es : List (ℤ × Mark)). filter_map (λ e. found_at ts three_rows (codes "fox") 0 e.0 e.1) es) (entries-from_sorted int_cmp three_marks tt)
+    ∙ ap (λ (o : Option (List ℕ)). cons_option (scored (codes "fox") 0 (pos 1) o) (cons_option (scored (codes "fox") 0 (pos 2) (text_seen ts three_rows (pos 2))) [])) one
+    ∙ ap (λ (o : Option (List ℕ)). (pos 1, 1) ∷ cons_option (scored (codes "fox") 0 (pos 2) o) []) two
+
+one_waits : pending_rows three_rows ≡ pos 3 ∷ []
+one_waits = ap (λ (es : List (ℤ × Mark)). filter_map (λ e. if_pending e.1 e.0) es) (entries-from_sorted int_cmp three_marks tt)
+
+-- a row that is new in its table waits
+four_waits : mark_of (Some (waiting_on (codes "docs") (pos 4) three_rows)) (pos 4) ≡ Some Pending
+four_waits = get-insert int_cmp_total three_rows.marks (pos 4) Pending (pos 4)
+
+another_table : waiting_on (codes "doc") (pos 4) three_rows ≡ three_rows
+another_table = refl
+
+-- after a synchronisation each row that waited is marked
+marked_then : (x : Index) (r : ℤ) → get x.marks r ≡ Some Pending → mark_of (Some (synced_index x)) r ≡ Some Marked
+marked_then x r waits = get-each_value int_cmp_total (λ (m : Mark). Marked) x.marks r ∙ ap (option_map (λ (m : Mark). Marked)) waits
+
+-- both ends of a range belong to it
+abbrev some_range : KeyRange
+some_range = record { from = record { 0 = negsuc 1 }; to = record { 0 = pos 5 } }
+
+its_rows : filter (in_range some_range) (negsuc 2 ∷ negsuc 1 ∷ pos 0 ∷ pos 5 ∷ pos 6 ∷ []) ≡ negsuc 1 ∷ pos 0 ∷ pos 5 ∷ []
+its_rows = refl

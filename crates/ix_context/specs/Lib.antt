@@ -7,6 +7,7 @@ pub mod Spelling
 pub mod EntryParts
 pub mod Scoring
 pub mod Picked
+pub mod FoundLaws
 pub mod Limits
 pub mod LimitLaws
 pub mod Changes

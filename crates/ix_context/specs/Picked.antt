@@ -29,7 +29,7 @@ module _ {K X Y : Type 0} (R : K → K → Ordering) (total : IsTotalOrder R) (e
       at_head None l rest = rest
       at_head (Some y) l rest = and_both _ _ l rest
 
-  picked_rise : (es : List (K × X)) → rises R es ≡ true → rises R (picked g es) ≡ true
+  pub picked_rise : (es : List (K × X)) → rises R es ≡ true → rises R (picked g es) ≡ true
   picked_rise [] h = refl
   picked_rise (e ∷ es) h =
       let b = and_true (below R e.0 es) (rises R es) h in
@@ -39,7 +39,7 @@ module _ {K X Y : Type 0} (R : K → K → Ordering) (total : IsTotalOrder R) (e
       at_head None l rest = rest
       at_head (Some y) l rest = and_both _ _ l rest
 
-  find_picked : (k : K) (es : List (K × X)) → rises R es ≡ true → find R k (picked g es) ≡ option_and_then (g k) (find R k es)
+  pub find_picked : (k : K) (es : List (K × X)) → rises R es ≡ true → find R k (picked g es) ≡ option_and_then (g k) (find R k es)
   find_picked k [] h = refl
   find_picked k (e ∷ es) h =
       let b = and_true (below R e.0 es) (rises R es) h in

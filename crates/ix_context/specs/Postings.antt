@@ -4,11 +4,12 @@ use Rattle.std.specs.Bool.{if◌then◌else◌}
 use Rattle.std.specs.Str.{chars}
 use Rattle.std.specs.Ordering.{nat_cmp}
 use Rattle.std.specs.Cmp.Lexicographic.{slice_cmp}
-use Rattle.std.specs.FinMap.{FinMap, from_entries}
+use Rattle.std.specs.FinMap.{FinMap, from_entries, entries}
 use lib.Utf8.{encode}
 use Rattle.tx_lexer.specs.declared.tokens.Token.{Token}
 use Rattle.tx_lexer.specs.Tokens.{tokens, default}
 use Rattle.ct_entry.specs.Keys.{same_list}
+use Rattle.ct_keep.specs.Laws.{entries_put, entries-insert_empty}
 
 -- the words of a text by their keys, in order; the first stands at position 1
 abbrev pub words_of : List ℕ → List (List ℕ)
@@ -26,6 +27,15 @@ positions key text = positions_from 1 key (words_of text)
 abbrev pub word_score : List ℕ → List ℕ → ℕ
 word_score key text = min 100 (length (positions key text))
 
+-- some positions, or none
+abbrev pub if_any : List ℕ → Option (List ℕ)
+if_any [] = None
+if_any (p ∷ ps) = Some (p ∷ ps)
+
+-- each key that stands in the text, with its positions
+abbrev pub postings_of : List ℕ → FinMap (slice_cmp nat_cmp) (List ℕ)
+postings_of text = from_entries (map (λ w. (w, positions w text)) (words_of text))
+
 -- computed examples
 quick : positions (codes "quick") (codes "quick fox quick") ≡ 1 ∷ 3 ∷ []
 unfolding encode chars
@@ -39,11 +49,7 @@ nowhere : positions (codes "slow") (codes "quick fox") ≡ []
 unfolding encode chars
 nowhere = refl
 
--- some positions, or none
-abbrev pub if_any : List ℕ → Option (List ℕ)
-if_any [] = None
-if_any (p ∷ ps) = Some (p ∷ ps)
-
--- each key that stands in the text, with its positions
-abbrev pub postings_of : List ℕ → FinMap (slice_cmp nat_cmp) (List ℕ)
-postings_of text = from_entries (map (λ w. (w, positions w text)) (words_of text))
+-- each key once, in the order of the bytes
+pub fox_and_quick : entries (postings_of (codes "quick fox quick")) ≡ (codes "fox", 2 ∷ []) ∷ (codes "quick", 1 ∷ 3 ∷ []) ∷ []
+unfolding encode chars
+fox_and_quick = entries_put _ (codes "quick") (1 ∷ 3 ∷ []) _ (entries_put _ (codes "fox") (2 ∷ []) _ (entries-insert_empty (codes "quick") (1 ∷ 3 ∷ [])))

@@ -1,12 +1,12 @@
 -- The rules that indexes keep in every state.
-use Rattle.std.specs.Prelude.{ℕ, ℤ, ◌≡◌, ◌≤◌, ◌-◌, ◌^◌, zero, suc, is_some, List, [], ◌∷◌, Some}
+use Rattle.std.specs.Prelude.{codes, ℕ, ℤ, ◌≡◌, ◌≤◌, ◌-◌, ◌^◌, zero, suc, is_some, List, [], ◌∷◌, Some, refl}
 use Rattle.std.specs.FinMap.{get}
 use Rattle.ct_base.specs.Names.{IsName}
 use Rattle.ct_entry.specs.Maps.{Names}
 use Rattle.tb_table.specs.declared.columns.Sort.{Sort}
 use Rattle.tb_table.specs.declared.columns.Sort.TheVariants.{Number, Varchar2, Clob}
 use Rattle.tb_table.specs.declared.columns.Column.{Column}
-use Rattle.tb_table.specs.Tables.{Table, Tables, row_at}
+use Rattle.tb_table.specs.Tables.{Table, Tables, row_at, docs_table, docs_alone, docs_there}
 use Rattle.ix_context.specs.Indexes.{Index}
 
 -- a column of texts
@@ -42,3 +42,17 @@ pub record AreIndexes (ts : Tables) (xs : Names Index) : Type 0 where
   pub each : (i : List ℕ) (x : Index) → get xs i ≡ Some x → IsIndex ts x
   -- a column has at most one
   pub one : (i j : List ℕ) (x y : Index) → get xs i ≡ Some x → get xs j ≡ Some y → x.table ≡ y.table → x.column ≡ y.column → i ≡ j
+
+-- computed examples
+the_most : most_given ≡ 4294967294
+the_most = refl
+
+-- the column 1 of the table `docs` is one of texts, and the others aren't
+the_body : IsTarget docs_alone (codes "docs") 1
+the_body = record { table = docs_table; there = docs_there; texts = tt }
+
+no_text_in_a_price : HasTextAt docs_table.columns 2 → ⊥
+no_text_in_a_price has = has
+
+no_text_behind_all : HasTextAt docs_table.columns 3 → ⊥
+no_text_behind_all has = has

@@ -78,7 +78,22 @@ abbrev pub SpellsIndex : Option (List ℕ) → Option (Target × ℕ) → Type 0
 SpellsIndex entry (Some p) = IsName p.0.table × (p.0.column < 256) × (p.1 < 2 ^ 32) × (entry ≡ Some (index_bytes p.0.table p.0.column p.1))
 SpellsIndex entry None = (table : List ℕ) (column next : ℕ) → IsName table → column < 256 → next < 2 ^ 32 → entry ≡ Some (index_bytes table column next) → ⊥
 
--- computed example: the entry of an index on the column 1 of a table `t` that has given two documents
+-- computed examples
+
+-- the entry of an index on the column 1 of a table `t` that has given two documents
 an_entry : index_bytes (codes "t") 1 3 ≡ 1 ∷ 1 ∷ 0x74 ∷ 1 ∷ 0 ∷ 0 ∷ 0 ∷ 2 ∷ 0 ∷ 0 ∷ 0 ∷ 0 ∷ 0 ∷ 0 ∷ 3 ∷ 0 ∷ 0 ∷ 0 ∷ []
 unfolding varint
 an_entry = refl
+
+in_the_queue : queued (Some Pending) ≡ Some []
+in_the_queue = refl
+
+no_more_in_it : queued (Some Marked) ≡ None
+no_more_in_it = refl
+
+two_positions : posting_value 1 (1 ∷ 3 ∷ []) ≡ Some (1 ∷ 1 ∷ 2 ∷ 1 ∷ 2 ∷ [])
+unfolding varint
+two_positions = refl
+
+no_position : posting_value 1 [] ≡ None
+no_position = refl

@@ -3,6 +3,7 @@
 ghost use Rattle.ix_context.specs.ChangeLaws.{IndexesStayWithTables, IndexesStayWithRows, NotedRowsStand, SyncedIndexesStand, CreatedIndexesStand};
 ghost use Rattle.ix_context.specs.RuleLaws.{NotesOfRowsStand, NewTablesKeepIndexRules, NewRowsKeepIndexRules, SyncsKeepIndexRules, CreatesKeepIndexRules, HasAllRows};
 ghost use Rattle.ix_context.specs.WellLaws.{NotesAreWell, SyncsAreWell, CreatesAreWell};
+ghost use Rattle.ix_context.specs.FoundLaws.{FoundIsExact, FoundRises};
 
 use crate::ranges::KeyRange;
 
@@ -40,4 +41,11 @@ pub fn words_are_well()
     ensures note { NotesAreWell }
     ensures sync { SyncsAreWell }
     ensures create { CreatesAreWell }
+{}
+
+/// What a query finds by scanning: exactly the rows that are marked and of which the index sees a text on which the word has
+/// a score above the number, each with that score, in the order of the row keys and none twice.
+pub fn found_is_exact()
+    ensures exact { FoundIsExact }
+    ensures rising { FoundRises }
 {}
