@@ -18,7 +18,6 @@ pub data Refusal : Type 0 where
   NoIndexOfKind : Refusal
   BadValue : Refusal
   LimitReached : Refusal
-  StoreFull : Refusal
 
 -- no statement of the grammar
 abbrev pub not_understood : List ℕ
@@ -50,7 +49,6 @@ refusal_line OutOfRange = codes "E22: number out of range\n"
 refusal_line NoIndexOfKind = codes "E27: no index of that kind\n"
 refusal_line BadValue = codes "E30: bad attribute or value\n"
 refusal_line LimitReached = codes "E31: limit reached\n"
-refusal_line StoreFull = store_full
 
 abbrev pub no_rows : List ℕ
 no_rows = codes "no rows selected\n"
