@@ -1,5 +1,5 @@
 -- What the calls of procedures do.
-use Rattle.std.specs.Prelude.{ℕ, pos, ◌+◌, ◌-◌, ◌==◌, nat_le, nat_lt, Bool, true, false, not, ◌||◌, ◌&&◌, is_some, List, [], ◌∷◌, length, map, Option, Some, None, codes, bytes_eq, ◌≡◌, refl}
+use Rattle.std.specs.Prelude.{ℕ, pos, ◌+◌, ◌-◌, ◌==◌, nat_le, nat_lt, Bool, true, false, not, ◌||◌, ◌&&◌, is_some, List, [], ◌∷◌, length, map, Option, Some, None, codes, bytes_eq, ◌≡◌, refl, replicate}
 use Rattle.std.specs.Bool.{if◌then◌else◌}
 use Rattle.std.specs.Char.{to_ascii_lowercase, is_ascii_digit}
 use Rattle.std.specs.List.{flat_map}
@@ -20,6 +20,8 @@ use Rattle.db_cond.specs.Faults.{NotUnderstood, UnknownName, WrongValues, ValueT
 use Rattle.db_cond.specs.Lines.{line}
 use Rattle.db_engine.specs.States.{State}
 use Rattle.db_engine.specs.Refusals.{Effect, Refused, Does, refuse, refuse_by, with_found}
+use Rattle.std.specs.Fmt.{digits}
+use Rattle.st_parse.specs.declared.statements.Whole.TheVariants.{Fits}
 
 -- ---- lines
 
@@ -99,6 +101,7 @@ with_synced m i = record m { indexes = synced m.indexes i }
 abbrev pub sync_found : State → List ℕ → Index → Effect
 sync_found m i x = refuse (has_too_many x) LimitReached (Does (with_synced m i) call_done)
 
+-- What the checks let pass has the name of an index, or is spelt as no name, which is a bad value. So the UnknownName here is never reached.
 abbrev pub sync_named : State → Option (List ℕ) → Effect
 sync_named m None = Refused BadValue
 sync_named m (Some i) = with_found (get m.indexes i) (UnknownName i) (λ (x : Index). sync_found m i x)
@@ -128,3 +131,33 @@ no_digits = refl
 
 no_unit : is_memory_size (codes "16") ≡ false
 no_unit = refl
+
+-- the name that no index has comes before the number of arguments
+unknown_and_too_many : (done : Effect) → check_sync (unknown_name false (name_arg (TextArg (codes "nope") ∷ NumberArg (Fits (pos 1)) ∷ NumberArg (Fits (pos 2)) ∷ []))) (TextArg (codes "nope") ∷ NumberArg (Fits (pos 1)) ∷ NumberArg (Fits (pos 2)) ∷ []) done
+    ≡ Refused (UnknownName (codes "nope"))
+unknown_and_too_many done = refl
+
+-- a text that isn't spelt as a name is none that could be unknown
+no_name_and_a_number : (done : Effect) → check_sync (unknown_name false (name_arg (TextArg (codes "no name") ∷ NumberArg (Fits (pos 1)) ∷ []))) (TextArg (codes "no name") ∷ NumberArg (Fits (pos 1)) ∷ []) done
+    ≡ Refused WrongValues
+no_name_and_a_number done = refl
+
+no_name_alone : (m : State) → sync_index m (TextArg (codes "no name") ∷ []) ≡ Refused BadValue
+no_name_alone m = refl
+
+bad_size : (done : Effect) → check_sync (unknown_name true (Some (codes "di"))) (TextArg (codes "di") ∷ TextArg (codes "16") ∷ []) done ≡ Refused BadValue
+bad_size done = refl
+
+in_any_case : name_arg (TextArg (codes "DI") ∷ []) ≡ Some (codes "di")
+in_any_case = refl
+
+-- the word `site` of `Web-site`: its key, its place and its length
+site : line (token_line (record { key = codes "site"; start = 4; end = 8; ends_sentence = false; ends_paragraph = false })) ≡ codes "site|4|4\n"
+unfolding digits
+site = refl
+
+text_too_long : (m : State) → tokens_of_text m (replicate 4001 0x61) ≡ Refused ValueTooLong
+text_too_long m = refl
+
+two_texts : (m : State) → policy_tokens m (TextArg (codes "a") ∷ TextArg (codes "b") ∷ []) ≡ Refused WrongValues
+two_texts m = refl

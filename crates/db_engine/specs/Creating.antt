@@ -1,5 +1,5 @@
 -- What CREATE TABLE and CREATE INDEX do.
-use Rattle.std.specs.Prelude.{ℕ, zero, suc, pos, negsuc, ◌-◌, ◌^◌, ◌≡◌, ◌==◌, nat_le, nat_lt, Bool, true, false, not, ◌||◌, ◌&&◌, is_some, List, [], ◌∷◌, length, map, Option, Some, None, codes}
+use Rattle.std.specs.Prelude.{ℕ, zero, suc, pos, negsuc, ◌-◌, ◌^◌, ◌≡◌, ◌==◌, nat_le, nat_lt, Bool, true, false, not, ◌||◌, ◌&&◌, is_some, List, [], ◌∷◌, length, map, Option, Some, None, codes, refl}
 use Rattle.std.specs.List.{list_any, list_all}
 use Rattle.std.specs.Option.{unwrap_or}
 use Rattle.std.specs.FinMap.{get, entries}
@@ -20,7 +20,8 @@ use Rattle.ix_context.specs.Indexes.{Index, rows_in, with_index}
 use Rattle.ix_context.specs.Rules.{most_given}
 use Rattle.db_cond.specs.Faults.{UnknownName, ExistsAlready, WrongValues, OutOfRange, LimitReached}
 use Rattle.db_engine.specs.States.{State, is_view, indexes_on, most_indexes, most_tables}
-use Rattle.db_engine.specs.Refusals.{Effect, Does, refuse, with_found, as_count, place_of}
+use Rattle.db_engine.specs.Refusals.{Effect, Does, refuse, with_found, as_count, place_of, Refused}
+use Rattle.st_parse.specs.declared.statements.Whole.TheVariants.{Fits, Beyond}
 
 -- ---- CREATE TABLE
 
@@ -150,3 +151,64 @@ create_index m i t column =
     with_found (get m.tables t) (UnknownName t) (λ (x : Table).
     with_found (place_of column x.columns) (UnknownName column) (λ (place : ℕ).
     create_index_on m i t x place))
+
+-- computed examples
+abbrev number_text : List ℕ → Bool → ColumnText
+number_text name primary = record { name = name; sort = NumberText; primary = primary }
+
+abbrev varchar2_text : Whole → ColumnText
+varchar2_text size = record { name = codes "title"; sort = Varchar2Text size; primary = false }
+
+-- id NUMBER PRIMARY KEY, title VARCHAR2(4000), price NUMBER
+abbrev three_columns : List ColumnText
+three_columns = number_text (codes "id") true ∷ varchar2_text (Fits (pos 4000)) ∷ number_text (codes "price") false ∷ []
+
+-- id NUMBER PRIMARY KEY, a NUMBER, b NUMBER, up to p NUMBER
+abbrev seventeen_columns : List ColumnText
+seventeen_columns = number_text (codes "id") true ∷ map (λ letter. number_text (letter ∷ []) false) (codes "abcdefghijklmnop")
+
+a_good_table : (done : Effect) → check_table false false (codes "docs") three_columns done ≡ done
+a_good_table done = refl
+
+there_and_too_many_columns : (done : Effect) → check_table true false (codes "docs") seventeen_columns done ≡ Refused (ExistsAlready (codes "docs"))
+there_and_too_many_columns done = refl
+
+name_of_a_view : (done : Effect) → check_table false false (codes "ctx_user_pending") three_columns done ≡ Refused (ExistsAlready (codes "ctx_user_pending"))
+name_of_a_view done = refl
+
+two_of_one_name : (done : Effect) → check_table false false (codes "docs") (number_text (codes "id") true ∷ number_text (codes "id") false ∷ varchar2_text (Fits (pos 0)) ∷ []) done ≡ Refused WrongValues
+two_of_one_name done = refl
+
+no_key : (done : Effect) → check_table false false (codes "docs") (number_text (codes "id") false ∷ []) done ≡ Refused WrongValues
+no_key done = refl
+
+two_keys : (done : Effect) → check_table false false (codes "docs") (number_text (codes "id") true ∷ number_text (codes "price") true ∷ []) done ≡ Refused WrongValues
+two_keys done = refl
+
+size_of_none : (done : Effect) → check_table false true (codes "docs") (number_text (codes "id") true ∷ varchar2_text (Fits (pos 0)) ∷ []) done ≡ Refused OutOfRange
+size_of_none done = refl
+
+size_too_large : (done : Effect) → check_table false false (codes "docs") (number_text (codes "id") true ∷ varchar2_text (Fits (pos 4001)) ∷ []) done ≡ Refused OutOfRange
+size_too_large done = refl
+
+size_beyond : (done : Effect) → check_table false false (codes "docs") (number_text (codes "id") true ∷ varchar2_text Beyond ∷ []) done ≡ Refused OutOfRange
+size_beyond done = refl
+
+too_many_columns : (done : Effect) → check_table false false (codes "docs") seventeen_columns done ≡ Refused LimitReached
+too_many_columns done = refl
+
+too_many_tables : (done : Effect) → check_table false true (codes "docs") three_columns done ≡ Refused LimitReached
+too_many_tables done = refl
+
+-- an index on a column of the table above; the title is at the place 1
+a_good_index : (done : Effect) → check_index false (is_text_at (map column_of three_columns) 1) false (codes "di") done ≡ done
+a_good_index done = refl
+
+there_and_on_a_number : (done : Effect) → check_index true (is_text_at (map column_of three_columns) 2) true (codes "di") done ≡ Refused (ExistsAlready (codes "di"))
+there_and_on_a_number done = refl
+
+on_a_number : (done : Effect) → check_index false (is_text_at (map column_of three_columns) 2) true (codes "di") done ≡ Refused WrongValues
+on_a_number done = refl
+
+one_index_too_many : (done : Effect) → check_index false (is_text_at (map column_of three_columns) 1) true (codes "di") done ≡ Refused LimitReached
+one_index_too_many done = refl

@@ -1,5 +1,5 @@
 -- What INSERT does.
-use Rattle.std.specs.Prelude.{◌≡◌, ℕ, ℤ, pos, ◌==◌, nat_le, nat_lt, Bool, true, false, not, ◌||◌, ◌&&◌, is_some, List, [], ◌∷◌, length, map, Option, Some, None, codes, FitsSigned}
+use Rattle.std.specs.Prelude.{◌≡◌, ℕ, ℤ, pos, ◌==◌, nat_le, nat_lt, Bool, true, false, not, ◌||◌, ◌&&◌, is_some, List, [], ◌∷◌, length, map, Option, Some, None, codes, FitsSigned, refl}
 use Rattle.std.specs.Int.{w64}
 use Rattle.std.specs.Str.{IsUtf8}
 use Rattle.std.specs.Bool.{if◌then◌else◌}
@@ -21,7 +21,7 @@ use Rattle.ix_context.specs.Indexes.{noted_on}
 use Rattle.ix_context.specs.Changes.{note_insert_words}
 use Rattle.db_cond.specs.Faults.{UnknownName, WrongValues, KeyExists, ValueTooLong, OutOfRange, LimitReached}
 use Rattle.db_engine.specs.States.{State}
-use Rattle.db_engine.specs.Refusals.{Effect, Does, refuse, refuse_by, with_found, first_unknown, is_beyond}
+use Rattle.db_engine.specs.Refusals.{Effect, Does, refuse, refuse_by, with_found, first_unknown, is_beyond, Refused}
 
 -- ---- the list of columns
 
@@ -161,6 +161,8 @@ with_new_row m t r vs = record { tables = with_row m.tables t r vs; indexes = no
 abbrev pub insert_row : State → List ℕ → List Operand → ℤ → Effect
 insert_row m t values r = Does (with_new_row m t r (others_kept values)) row_created
 
+-- Values that pass the checks have a key: the first column of a table is a NUMBER, so the first value is a number, and one out
+-- of range is refused before. So the last OutOfRange here is never reached.
 abbrev pub insert_values : State → List ℕ → Table → List Operand → Effect
 insert_values m t x values =
     check_values (has_row x (key_in values)) (nat_le most_rows (length (entries x.rows))) x.columns values
@@ -180,3 +182,53 @@ insert_into m t names values =
     with_found (get m.tables t) (UnknownName t) (λ (x : Table).
     check_list x.columns names values
     (insert_values m t x (arranged names x.columns values)))
+
+-- computed examples: a table of id NUMBER PRIMARY KEY, word VARCHAR2(3), price NUMBER
+abbrev word_columns : List Column
+word_columns = record { name = codes "id"; sort = NumberSort } ∷ record { name = codes "word"; sort = Varchar2 3 } ∷ record { name = codes "price"; sort = NumberSort } ∷ []
+
+abbrev one : Operand
+one = Number (Fits (pos 1))
+
+abbrev beyond : Operand
+beyond = Number Beyond
+
+unknown_and_too_many : (done : Effect) → check_list word_columns (Some (codes "id" ∷ codes "nope" ∷ [])) (one ∷ one ∷ one ∷ []) done ≡ Refused (UnknownName (codes "nope"))
+unknown_and_too_many done = refl
+
+one_twice : (done : Effect) → check_list word_columns (Some (codes "id" ∷ codes "id" ∷ codes "word" ∷ [])) (one ∷ one ∷ Text (codes "fox") ∷ []) done ≡ Refused WrongValues
+one_twice done = refl
+
+too_few_values : (done : Effect) → check_list word_columns None (one ∷ []) done ≡ Refused WrongValues
+too_few_values done = refl
+
+any_order : (done : Effect) → check_list word_columns (Some (codes "price" ∷ codes "id" ∷ codes "word" ∷ [])) (beyond ∷ one ∷ Text (codes "fox") ∷ []) done ≡ done
+any_order done = refl
+
+in_order : arranged (Some (codes "price" ∷ codes "id" ∷ codes "word" ∷ [])) word_columns (beyond ∷ one ∷ Text (codes "fox") ∷ []) ≡ one ∷ Text (codes "fox") ∷ beyond ∷ []
+in_order = refl
+
+wrong_sort_and_taken : (done : Effect) → check_values true true word_columns (one ∷ one ∷ one ∷ []) done ≡ Refused WrongValues
+wrong_sort_and_taken done = refl
+
+taken_and_too_long : (done : Effect) → check_values true true word_columns (one ∷ Text (codes "four") ∷ beyond ∷ []) done ≡ Refused (KeyExists (pos 1))
+taken_and_too_long done = refl
+
+too_long_and_beyond : (done : Effect) → check_values false true word_columns (one ∷ Text (codes "four") ∷ beyond ∷ []) done ≡ Refused ValueTooLong
+too_long_and_beyond done = refl
+
+beyond_and_too_many : (done : Effect) → check_values false true word_columns (one ∷ Text (codes "fox") ∷ beyond ∷ []) done ≡ Refused OutOfRange
+beyond_and_too_many done = refl
+
+too_many_rows : (done : Effect) → check_values false true word_columns (one ∷ Text (codes "fox") ∷ one ∷ []) done ≡ Refused LimitReached
+too_many_rows done = refl
+
+a_good_row : (done : Effect) → check_values false false word_columns (one ∷ Text (codes "fox") ∷ one ∷ []) done ≡ done
+a_good_row done = refl
+
+-- a key out of range is no key that could be taken
+key_beyond : (done : Effect) → check_values true false word_columns (beyond ∷ Text (codes "fox") ∷ one ∷ []) done ≡ Refused OutOfRange
+key_beyond done = refl
+
+kept : others_kept (one ∷ Text (codes "fox") ∷ one ∷ []) ≡ TextValue (codes "fox") ∷ NumberValue (pos 1) ∷ []
+kept = refl

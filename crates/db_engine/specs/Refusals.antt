@@ -1,5 +1,5 @@
 -- What a statement does: it is refused, or it leads to a state with a reply.
-use Rattle.std.specs.Prelude.{ℕ, suc, pos, negsuc, Bool, true, false, List, [], ◌∷◌, Option, Some, None, not, ◌||◌}
+use Rattle.std.specs.Prelude.{ℕ, suc, pos, negsuc, Bool, true, false, List, [], ◌∷◌, Option, Some, None, not, ◌||◌, ◌≡◌, codes, refl}
 use Rattle.std.specs.Bool.{if◌then◌else◌}
 use Rattle.std.specs.FinMap.{FinMap, get}
 use Rattle.ct_entry.specs.Keys.{same_list}
@@ -7,8 +7,9 @@ use Rattle.st_parse.specs.declared.statements.Whole.{Whole}
 use Rattle.st_parse.specs.declared.statements.Whole.TheVariants.{Fits, Beyond}
 use Rattle.tb_table.specs.declared.columns.Column.{Column}
 use Rattle.tb_table.specs.Rules.{has_column}
-use Rattle.db_cond.specs.Faults.{Refusal, refusal_line}
+use Rattle.db_cond.specs.Faults.{Refusal, refusal_line, NotUnderstood, WrongValues, OutOfRange, LimitReached}
 use Rattle.db_engine.specs.States.{State}
+use Rattle.tb_table.specs.Tables.{docs_columns}
 
 pub data Effect : Type 0 where
   Refused : Refusal → Effect
@@ -68,3 +69,30 @@ place_of name columns = place_from 0 name columns
 abbrev pub first_unknown : List (List ℕ) → List Column → Option (List ℕ)
 first_unknown [] columns = None
 first_unknown (name ∷ names) columns = if has_column name columns then first_unknown names columns else Some name
+
+-- computed examples
+first_that_holds : (effect : Effect) → refuse false WrongValues (refuse true OutOfRange (refuse true LimitReached effect)) ≡ Refused OutOfRange
+first_that_holds effect = refl
+
+none_holds : (effect : Effect) → refuse false WrongValues (refuse false OutOfRange effect) ≡ effect
+none_holds effect = refl
+
+-- a statement that is refused leaves the state
+state_stays : (m : State) → state_by m (Refused NotUnderstood) ≡ m
+state_stays m = refl
+
+one_hundred : as_count (Fits (pos 100)) ≡ Some 100
+one_hundred = refl
+
+minus_one : as_count (Fits (negsuc 0)) ≡ None
+minus_one = refl
+
+-- columns id, body, price
+place_of_price : place_of (codes "price") docs_columns ≡ Some 2
+place_of_price = refl
+
+no_place : place_of (codes "pric") docs_columns ≡ None
+no_place = refl
+
+first_of_two_unknown : first_unknown (codes "body" ∷ codes "nope" ∷ codes "none" ∷ []) docs_columns ≡ Some (codes "nope")
+first_of_two_unknown = refl

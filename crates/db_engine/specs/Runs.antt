@@ -1,14 +1,16 @@
 -- A run: how the pieces of a script were answered, the state that they lead to, and all that was said.
-use Rattle.std.specs.Prelude.{ℕ, ◌≡◌, ◌≤◌, ◌<◌, Bool, true, false, List, [], ◌∷◌, ◌++◌, map, length, refl}
+use Rattle.std.specs.Prelude.{ℕ, ◌≡◌, ◌≤◌, ◌<◌, Bool, true, false, List, [], ◌∷◌, ◌++◌, map, length, refl, codes}
 use Rattle.std.specs.Bool.{if◌then◌else◌}
 use Rattle.std.proofs.Common.{ap, sym, ◌∙◌, append_assoc}
 use Rattle.db_cond.specs.Faults.{out_of_memory, store_full}
 use Rattle.st_parse.specs.declared.statements.Statement.{Statement}
 use Rattle.st_parse.specs.Grammar.{Read, Blank, NoStatement, Found}
-use Rattle.db_engine.specs.States.{State}
+use Rattle.db_engine.specs.States.{State, empty_state}
 use Rattle.db_engine.specs.Refusals.{Effect, state_by, reply_by, is_done}
 use Rattle.db_engine.specs.Room.{room}
 use Rattle.db_engine.specs.Steps.{step, rest_step, is_text, read_bytes, may_fill}
+use Rattle.std.specs.Str.{chars}
+use Rattle.std.proofs.lemmas.Bool.{false≢true}
 
 -- a statement, or what stands behind the last one
 pub record Piece : Type 0 where
@@ -103,3 +105,28 @@ transcript-append limit m (t ∷ ts) us =
 pub allowed-append : (limit store : ℕ) (m : State) (ts us : List Turn) → AllAllowed limit store m ts → AllAllowed limit store (state_after limit m ts) us → AllAllowed limit store m (ts ++ us)
 allowed-append limit store m [] us first second = second
 allowed-append limit store m (t ∷ ts) us first second = (first.0, allowed-append limit store (turn limit m t).0 ts us first.1 second)
+
+-- computed examples
+
+-- of two statements that are the same, the first is answered for want of memory, and the second by its step
+two_turns : transcript 65536 empty_state (turn_by (statement (codes "SELEC")) NoMemory ∷ turn_by (statement (codes "SELEC")) Step ∷ [])
+    ≡ codes "E90: out of memory\nE10: statement not understood\n"
+unfolding chars
+two_turns = refl
+
+-- a statement that is full, a note, and a rest without its end
+three_turns : transcript 65536 empty_state (turn_by (statement (codes "COMMIT")) Full ∷ turn_by (statement (codes "-- note")) Step ∷ turn_by (rest_piece (codes "COMMIT")) Step ∷ [])
+    ≡ codes "E80: store full\nE10: statement not understood\n"
+unfolding chars
+three_turns = refl
+
+-- an answer for want of memory leaves the state
+state_stays : (m : State) (text : List ℕ) → state_after 65536 m (turn_by (statement text) NoMemory ∷ []) ≡ m
+state_stays m text = refl
+
+-- no rest is answered so, nor that the store is full
+rest_has_memory : (m : State) (text : List ℕ) → IsAllowed 65536 64 m (rest_piece text) NoMemory → ⊥
+rest_has_memory m text is = false≢true is.0
+
+rest_is_never_full : (m : State) (text : List ℕ) → IsAllowed 65536 64 m (rest_piece text) Full → ⊥
+rest_is_never_full m text is = false≢true is.0

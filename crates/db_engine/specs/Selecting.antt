@@ -7,7 +7,7 @@ use Rattle.std.specs.Ordering.{int_eq}
 use Rattle.std.specs.Str.{chars}
 use Rattle.std.specs.FinMap.{get, entries}
 use Rattle.ct_base.specs.declared.lists.Value.{Value}
-use Rattle.ct_base.specs.declared.lists.Value.TheVariants.{Number}
+use Rattle.ct_base.specs.declared.lists.Value.TheVariants.{Number, Text}
 use Rattle.ct_entry.specs.Keys.{same_list}
 use Rattle.ct_entry.specs.Maps.{Names}
 use Rattle.tx_chars.specs.Keys.{key_of}
@@ -16,12 +16,13 @@ use Rattle.st_parse.specs.declared.statements.Item.TheVariants.{Column as Column
 use Rattle.st_parse.specs.declared.statements.Whole.{Whole}
 use Rattle.st_parse.specs.declared.statements.Whole.TheVariants.{Fits, Beyond}
 use Rattle.tb_table.specs.declared.columns.Column.{Column}
-use Rattle.tb_table.specs.Tables.{Table, Tables, row_at}
+use Rattle.tb_table.specs.Tables.{Table, Tables, row_at, docs_columns, docs_alone, row_one}
 use Rattle.ix_context.specs.Indexes.{Index, found}
 use Rattle.db_cond.specs.Faults.{UnknownName, WrongValues, OutOfRange, NoIndexOfKind, NotInProfile}
 use Rattle.db_engine.specs.States.{State}
-use Rattle.db_engine.specs.Refusals.{Effect, Does, refuse, refuse_by, with_found, is_beyond, as_count, place_of, first_unknown}
+use Rattle.db_engine.specs.Refusals.{Effect, Does, refuse, refuse_by, with_found, is_beyond, as_count, place_of, first_unknown, Refused}
 use Rattle.db_engine.specs.Calling.{lines_or_none}
+use Rattle.std.proofs.Common.{ap}
 
 -- ---- the list
 
@@ -119,6 +120,7 @@ check_select items query label threshold done =
     (refuse (not (is_word_query query)) (NotInProfile 1)
     done))
 
+-- Where there is no number the statement is refused before, so the OutOfRange here is never reached.
 abbrev pub select_found : State → List ℕ → List Column → List Item → Index → List ℕ → Option ℕ → Effect
 select_found m t columns items x query threshold =
     with_found threshold OutOfRange (λ (n : ℕ).
@@ -152,3 +154,28 @@ two_words = refl
 
 no_threshold : is_threshold (as_count (Fits (pos 101))) ≡ false
 no_threshold = refl
+
+-- SCORE(1) without a label; then an empty query text, which is no word
+label_and_threshold : (done : Effect) → check_select (Score (Fits (pos 1)) ∷ []) [] None (Some 101) done ≡ Refused WrongValues
+label_and_threshold done = refl
+
+other_label : (done : Effect) → check_select (ColumnItem (codes "id") ∷ Score (Fits (pos 1)) ∷ []) [] (Some (Fits (pos 2))) (Some 101) done ≡ Refused WrongValues
+other_label done = refl
+
+threshold_and_query : (done : Effect) → check_select (ColumnItem (codes "id") ∷ []) [] None (Some 101) done ≡ Refused OutOfRange
+threshold_and_query done = refl
+
+label_beyond : (done : Effect) → check_select (Score Beyond ∷ []) (codes "quick") (Some Beyond) (Some 0) done ≡ Refused OutOfRange
+label_beyond done = refl
+
+query_alone : (done : Effect) → check_select (ColumnItem (codes "id") ∷ []) [] None (Some 100) done ≡ Refused (NotInProfile 1)
+query_alone done = refl
+
+a_good_search : (done : Effect) → check_select (ColumnItem (codes "id") ∷ Score (Fits (pos 1)) ∷ []) (codes "quick") (Some (Fits (pos 1))) (Some 0) done ≡ done
+unfolding reserved_words
+a_good_search done = refl
+
+-- the row 1 of a table `docs` with the columns id, body and price, found with the score 2; the list is id, SCORE(1), body
+a_hit : hit_line docs_alone (codes "docs") docs_columns (ColumnItem (codes "id") ∷ Score (Fits (pos 1)) ∷ ColumnItem (codes "body") ∷ []) (pos 1, 2)
+    ≡ Number (pos 1) ∷ Number (pos 2) ∷ Text (codes "quick fox quick") ∷ []
+a_hit = ap (λ (o : Option (List Value)). filter_map (field docs_columns (pos 1) (values_of o) 2) (ColumnItem (codes "id") ∷ Score (Fits (pos 1)) ∷ ColumnItem (codes "body") ∷ [])) row_one

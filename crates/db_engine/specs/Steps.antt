@@ -116,3 +116,15 @@ rest_without_end = refl
 
 too_long : reply_by (step 3 empty_state (codes "SELEC")) ≡ codes "E19: statement too long\n"
 too_long = refl
+
+table_may_fill : may_fill (CreateTable (codes "docs") []) ≡ true
+table_may_fill = refl
+
+sync_may_fill : may_fill (Exec (codes "ctx_ddl") (codes "sync_index") []) ≡ true
+sync_may_fill = refl
+
+tokens_never_fill : may_fill (Exec (codes "ctx_doc") (codes "policy_tokens") []) ≡ false
+tokens_never_fill = refl
+
+deletion_never_fills : may_fill (Delete (codes "docs") []) ≡ false
+deletion_never_fills = refl
