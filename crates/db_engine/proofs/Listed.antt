@@ -20,17 +20,17 @@ some_place k name (c ∷ cs) = go (same_list name c.name) (some_place (suc k) na
     go false rest = rest
 
 -- a column that is there, one that isn't, and a score
-pub column_there : (items rest : List Item) (item : Item) (columns : List Column) (name : List ℕ) → items ≡ item ∷ rest → item ≡ ColumnItem name → is_some (place_of name columns) ≡ true → first_unknown (columns_among items) columns ≡ first_unknown (columns_among rest) columns
+pub column_there : (items rest : List Item) (item : Item) (columns : List Column) (name : List ℕ) → items ≡ item ∷ rest → item ≡ ColumnItem name → has_column name columns ≡ true → first_unknown (columns_among items) columns ≡ first_unknown (columns_among rest) columns
 column_there items rest item columns name is column there =
     ap (λ (l : List Item). first_unknown (columns_among l) columns) is
     ∙ ap (λ (i : Item). first_unknown (columns_among (i ∷ rest)) columns) column
-    ∙ ap (λ (b : Bool). cond b (first_unknown (columns_among rest) columns) (Some name)) (sym (some_place 0 name columns) ∙ there)
+    ∙ ap (λ (b : Bool). cond b (first_unknown (columns_among rest) columns) (Some name)) there
 
-pub column_missing : (items rest : List Item) (item : Item) (columns : List Column) (name : List ℕ) → items ≡ item ∷ rest → item ≡ ColumnItem name → is_some (place_of name columns) ≡ false → first_unknown (columns_among items) columns ≡ Some name
+pub column_missing : (items rest : List Item) (item : Item) (columns : List Column) (name : List ℕ) → items ≡ item ∷ rest → item ≡ ColumnItem name → has_column name columns ≡ false → first_unknown (columns_among items) columns ≡ Some name
 column_missing items rest item columns name is column missing =
     ap (λ (l : List Item). first_unknown (columns_among l) columns) is
     ∙ ap (λ (i : Item). first_unknown (columns_among (i ∷ rest)) columns) column
-    ∙ ap (λ (b : Bool). cond b (first_unknown (columns_among rest) columns) (Some name)) (sym (some_place 0 name columns) ∙ missing)
+    ∙ ap (λ (b : Bool). cond b (first_unknown (columns_among rest) columns) (Some name)) missing
 
 pub score_passed : (items rest : List Item) (item : Item) (columns : List Column) (own : Whole) → items ≡ item ∷ rest → item ≡ Score own → first_unknown (columns_among items) columns ≡ first_unknown (columns_among rest) columns
 score_passed items rest item columns own is score =

@@ -7,14 +7,12 @@ ghost use Rattle.db_engine.specs.States.{State};
 ghost use Rattle.db_engine.specs.Refusals.{reply_by, state_by};
 ghost use Rattle.db_engine.specs.Calling.{lines_or_none, policy_tokens as policy_tokens_effect, token_line, tokens_of_text};
 
+use crate::columns::TEXT_LIMIT;
 use ct_base::Memory;
 use db_cond::{Fault, fault_line, no_rows, word_line};
 use st_parse::Arg;
 use std::alloc::Global;
 use tx_lexer::{Lexer, Token};
-
-/// How many bytes a text has at most whose tokens are asked for.
-const TEXT_LIMIT: usize = 4000;
 
 /// CTX_DOC.POLICY_TOKENS: a line for each token of a text. Its cost is linear in the length of the text.
 pub(crate) fn policy_tokens(alloc: Global, args: &[Arg]) -> Result<Vec<u8>, Memory>
@@ -31,7 +29,7 @@ pub(crate) fn policy_tokens(alloc: Global, args: &[Arg]) -> Result<Vec<u8>, Memo
 fn text_tokens(alloc: Global, text: &str) -> Result<Vec<u8>, Memory>
     ensures { (m : State) → IfOk result (λ reply. reply.items ≡ reply_by (tokens_of_text m text.now)) }
 {
-    if text.len() > TEXT_LIMIT {
+    if text.len() > usize::from(TEXT_LIMIT) {
         return fault_line(alloc, Fault::ValueTooLong);
     }
     let tokens = Lexer::new().tokens(alloc, text)?;

@@ -8,7 +8,7 @@ ghost use Rattle.db_engine.specs.Refusals.{Effect, as_count, first_unknown as un
 ghost use Rattle.db_engine.specs.Selecting.{check_select, columns_among, is_beyond_label, is_labelled, is_threshold, same_label};
 ghost use Rattle.db_engine.specs.Locating.{ChecksAbove};
 
-use crate::columns::place_of;
+use crate::columns::has_column;
 use crate::querying::is_word_query;
 use ct_base::Name;
 use db_cond::Fault;
@@ -113,7 +113,7 @@ pub(crate) fn first_unknown<'a>(items: &'a [Item], columns: &[Column]) -> Option
 {
     for item in items {
         if let Item::Column(name) = item {
-            if place_of(name, columns).is_none() {
+            if !has_column(name, columns) {
                 return Some(name);
             }
         }

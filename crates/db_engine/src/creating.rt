@@ -17,6 +17,7 @@ ghost use Rattle.db_engine.specs.Creating.{are_apart as columns_apart, check_tab
 ghost use Rattle.db_engine.specs.Checking.{Checks};
 ghost use Rattle.db_engine.specs.Executing.{Gives};
 
+use crate::columns::TEXT_LIMIT;
 use crate::committing::{commit, fixed_reply};
 use crate::looking::{has_most_tables, has_table};
 use ct_base::{Memory, Name};
@@ -28,9 +29,6 @@ use tb_table::{Column, Sort, create};
 
 /// How many columns a table has at most.
 const MOST_COLUMNS: usize = 16;
-
-/// How many bytes a text of any type has at most.
-const TEXT_LIMIT: i64 = 4000;
 
 /// Whether a name is kept for what is only looked at.
 pub(crate) fn is_view(name: &str) -> bool
@@ -95,7 +93,7 @@ fn is_sized(column: &ColumnText) -> bool
     ensures { result ≡ sort_sized column.now.sort }
 {
     match column.sort {
-        SortText::Varchar2(Whole::Fits(size)) => 1 <= size && size <= TEXT_LIMIT,
+        SortText::Varchar2(Whole::Fits(size)) => 1 <= size && size <= i64::from(TEXT_LIMIT),
         SortText::Varchar2(Whole::Beyond) => false,
         SortText::Number | SortText::Clob => true,
     }

@@ -12,13 +12,13 @@ ghost use Rattle.ct_entry.specs.Words.{spell};
 ghost use Rattle.tb_table.specs.declared.columns.Column.{Column};
 ghost use Rattle.tb_table.specs.Tables.{Table, numbers_of, texts_of};
 ghost use Rattle.tb_table.specs.Spelling.{insert_words};
-ghost use Rattle.tb_table.specs.Rules.{has_column as is_column};
 ghost use Rattle.db_engine.specs.States.{State, Stands, TakesAll};
 ghost use Rattle.db_engine.specs.Refusals.{Effect, Does, first_unknown as unknown_name};
 ghost use Rattle.db_engine.specs.Inserting.{are_of_sorts as all_of_sorts, arranged as arranged_values, behind_key as others_of, check_list, check_values, covers as covers_columns, has_row as has_row_of, has_too_long as any_too_long, insert_into as insert_into_effect, insert_values as insert_values_effect, is_beyond_range, is_of_sort as sort_takes, is_too_long as too_long_for, key_in as key_of, kept_value, number_value, text_value, IsNumberKept, IsTextKept, note_all_words, most_rows, names_of, others_kept, row_created, value_under as named_value, with_new_row, IsFreeRow};
 ghost use Rattle.db_engine.specs.Checking.{Checks};
 ghost use Rattle.db_engine.specs.Executing.{Gives};
 
+use crate::columns::{TEXT_LIMIT, has_column};
 use crate::committing::{commit, fixed_reply};
 use crate::looking::table_columns;
 use ct_base::{Memory, Name, RowKey, Text};
@@ -30,25 +30,10 @@ use st_parse::{ColumnNames, Operand, Whole};
 use std::alloc::Global;
 use tb_table::{Column, Sort, has_row, insert, row_count_at_most};
 
-/// How many bytes a text of any type has at most.
-const TEXT_LIMIT: usize = 4000;
-
 /// How many rows a table has at most where one more fits.
 const MOST_ROWS_BEFORE: u32 = 99_999;
 
 // ---- the list of columns
-
-/// Whether one of the columns has the name.
-fn has_column(name: &Name, columns: &[Column]) -> bool
-    ensures { result ≡ is_column name.now columns.now }
-{
-    for column in columns {
-        if name.as_str() == column.name.as_str() {
-            return true;
-        }
-    }
-    false
-}
 
 /// The first of the names that is no column's.
 fn first_unknown<'a>(names: &'a [Name], columns: &[Column]) -> Option<&'a Name>
@@ -218,7 +203,7 @@ fn is_too_long(sort: Sort, value: &Operand) -> bool
 {
     match (sort, value) {
         (Sort::Varchar2(size), Operand::Text(text)) => text.as_str().len() > usize::from(size),
-        (Sort::Clob, Operand::Text(text)) => text.as_str().len() > TEXT_LIMIT,
+        (Sort::Clob, Operand::Text(text)) => text.as_str().len() > usize::from(TEXT_LIMIT),
         _ => false,
     }
 }

@@ -1,15 +1,14 @@
-use Rattle.std.proofs.Common.{◌+◌, drop, sym, ap, ◌∙◌}
-use Rattle.std.specs.Prelude.{is_some}
+use Rattle.std.proofs.Common.{◌+◌, drop, sym, ◌∙◌}
 use Rattle.db_engine.proofs.Listed.{here, column_there, column_missing, score_passed}
 use Rattle.db_engine.proofs.checks.first_unknown.Goals as goal
-use Rattle.db_engine.proofs.checks.first_unknown.Goals.{in-Column+else-is_none, in_default}
+use Rattle.db_engine.proofs.checks.first_unknown.Goals.{in-Column+else-not-has_column, in_default}
 
-pub returns-then-is_none : goal.returns-then-is_none
-returns-then-is_none c =
+pub returns-then-not-has_column : goal.returns-then-not-has_column
+returns-then-not-has_column c =
     let items = c.args.items.now in
     let i = c.loop-item.item-index in
     sym (column_missing (drop i items) (drop (i + 1) items) c.item-item.result c.args.columns.now c.in-Column.name
-    (here items i c.item-item.result c.loop-item-test.true c.item-item.is) c.in-Column.is (sym (ap is_some c.place_of.ensures) ∙ c.if-is_none.ensures))
+    (here items i c.item-item.result c.loop-item-test.true c.item-item.is) c.in-Column.is (sym c.has_column.ensures ∙ c.if-not-has_column.true))
     ∙ c.loop-item.invariant
 
 pub loop-item-preserved : goal.loop-item-preserved
@@ -18,8 +17,8 @@ loop-item-preserved c =
     let i = c.loop-item.item-index in
     let at = here items i c.item-item.result c.loop-item-test.true c.item-item.is in
     elim c.match-item.branch [
-      | in-Column+else-is_none w ↦
-          sym (column_there (drop i items) (drop (i + 1) items) c.item-item.result c.args.columns.now w.in-Column.name at w.in-Column.is (sym (ap is_some w.place_of.ensures) ∙ w.if-is_none.ensures))
+      | in-Column+else-not-has_column w ↦
+          sym (column_there (drop i items) (drop (i + 1) items) c.item-item.result c.args.columns.now w.in-Column.name at w.in-Column.is (sym w.has_column.ensures ∙ w.if-not-has_column.false))
           ∙ c.loop-item.invariant
       | in_default w ↦
           sym (score_passed (drop i items) (drop (i + 1) items) c.item-item.result c.args.columns.now w.in_default.field-0 at w.in_default.is)
