@@ -3,7 +3,7 @@ use Rattle.std.proofs.Common.{◌≡◌, ℕ, ℤ, ◌<◌, ◌≤◌, ◌^◌, 
 use Rattle.std.specs.Prelude.{is_some, min, nat_lt, ◌||◌}
 use Rattle.std.specs.Bool.{if◌then◌else◌}
 use Rattle.std.specs.Option.{option_map, option_and_then}
-use Rattle.std.specs.List.{filter_map}
+use Rattle.std.specs.List.{cons_option, filter_map}
 use Rattle.std.specs.Ordering.{nat_cmp, int_cmp, int_eq, eq_by_cmp}
 use Rattle.std.specs.Cmp.Lexicographic.{slice_cmp}
 use Rattle.std.specs.FinMap.{get, empty, entries, find, get-empty, get-entries}
@@ -28,7 +28,7 @@ use Rattle.ix_posting.specs.declared.rows.RowDocument.{RowDocument}
 use Rattle.ix_posting.specs.Rows.{IsRow, row_bytes as posting_bytes}
 use Rattle.ix_context.specs.Postings.{positions, word_score}
 use Rattle.ix_context.specs.PostingLaws.{positions_rise}
-use Rattle.ix_context.specs.Indexes.{Index, Mark, Pending, Marked, is_marked, mark_of, text_seen, scored, found, found_at}
+use Rattle.ix_context.specs.Indexes.{Index, Mark, Pending, Marked, is_marked, mark_of, text_seen, if_above, scored, found, found_at}
 use Rattle.ix_context.specs.Spelling.{Numbering, IsNumbering, IndexesSpelled, posting_value}
 use Rattle.ix_context.specs.Limits.{IsWithinLimits}
 use Rattle.ix_context.specs.Scoring.{document_row, with_score, positions_score, with_postings, HoldRows}
@@ -65,6 +65,24 @@ scored_found ts x w r Marked = go (text_seen ts x r)
     go : (o : Option (List ℕ)) → option_map {U = ℤ × ℕ} (λ s. (r, s)) (option_and_then (λ text. if_some (word_score w text)) o) ≡ scored w 0 r o
     go None = refl
     go (Some text) = above (nat_lt 0 (word_score w text)) (word_score w text)
+
+-- ---- a word that stands nowhere
+
+nowhere_at : (ts : Tables) (x : Index) (w : List ℕ) → ((text : List ℕ) → positions w text ≡ []) → (r : ℤ) (mark : Mark) → found_at ts x w 0 r mark ≡ None
+nowhere_at ts x w nowhere r Pending = refl
+nowhere_at ts x w nowhere r Marked = go (text_seen ts x r)
+  where
+    go : (o : Option (List ℕ)) → scored w 0 r o ≡ None
+    go None = refl
+    go (Some text) = ap (λ (ps : List ℕ). if_above 0 r (min 100 (length ps))) (nowhere text)
+
+-- it finds nothing
+pub finds_none : (ts : Tables) (x : Index) (w : List ℕ) → ((text : List ℕ) → positions w text ≡ []) → found ts x w 0 ≡ []
+finds_none ts x w nowhere = go (entries x.marks)
+  where
+    go : (es : List (ℤ × Mark)) → filter_map (λ e. found_at ts x w 0 e.0 e.1) es ≡ []
+    go [] = refl
+    go (e ∷ es) = ap (λ (o : Option (ℤ × ℕ)). cons_option o (filter_map (λ e. found_at ts x w 0 e.0 e.1) es)) (nowhere_at ts x w nowhere e.0 e.1) ∙ go es
 
 -- ---- what an entry of a row of postings says
 

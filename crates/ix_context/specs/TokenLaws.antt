@@ -65,6 +65,14 @@ found_is_token key place (w ∷ ws) all p ps is = go (same_list key w) refl (fou
     go true here rest is = subst IsToken (sym (list_from_same key w here)) all.0
     go false here rest is = rest is
 
+-- a key that no token has stands nowhere
+pub stands_nowhere : (key : List ℕ) → (IsToken key → ⊥) → (text : List ℕ) → positions key text ≡ []
+stands_nowhere key none text = go (positions key text) refl
+  where
+    go : (ps : List ℕ) → positions key text ≡ ps → positions key text ≡ []
+    go [] is = is
+    go (p ∷ ps) is = absurd (none (found_is_token key 1 (words_of text) (words_are_tokens text) p ps is))
+
 -- ---- entries
 
 -- what an entry of postings needs

@@ -112,12 +112,12 @@ fn scores_of<K: Keeper>(
 }
 
 /// What the rests of the rows of postings of a word begin with: the main stream, and the word behind its length in one
-/// byte. None for a word of over 255 bytes, which has no rows.
+/// byte. None for a word of no byte or of over 255, which has no rows.
 fn front_of(alloc: Global, word: &Key) -> Result<Option<Vec<u8>>, Memory>
-    ensures { IfOk result (λ front. MatchOption front (255 < length word.now) (λ v. v.items ≡ 0 ∷ length word.now ∷ word.now)) }
+    ensures { IfOk result (λ front. MatchOption front (IsToken word.now → ⊥) (λ v. IsToken word.now × (v.items ≡ 0 ∷ length word.now ∷ word.now))) }
 {
     let word = word.as_slice();
-    if word.len() > 255 {
+    if word.is_empty() || word.len() > 255 {
         return Ok(None);
     }
     let mut front = Vec::new(alloc);
@@ -127,8 +127,8 @@ fn front_of(alloc: Global, word: &Key) -> Result<Option<Vec<u8>>, Memory>
     Ok(Some(front))
 }
 
-/// The rows that have a word, with their scores, in order of their keys. A word is a key of a token, of 1 to 255 bytes;
-/// any other finds nothing.
+/// The rows that have a word, with their scores, in order of their keys. A word of no byte or of over 255 is the key of no
+/// token, and finds nothing without a look-up.
 ///
 /// It costs that word's rows of postings, and for each document of theirs a look-up and the logarithm of their number. It
 /// reads no text, and never answers Full.
@@ -139,7 +139,7 @@ pub fn search<K: Keeper>(
     word: &Key,
 ) -> Result<Vec<Hit>, KeepFault>
     requires { (K.keeping keeper.old).ready }
-    ensures found { (m : Content) (ts : Tables) (xs : Names Index) (x : Index) → (K.keeping keeper.old).content ≡ Some m → HasKeysOnly m → IndexesStand (at m) ts xs → get xs index.now ≡ Some x → IsWithinLimits ts x → IsToken word.now → IfOk result (λ hits. map (λ h. (h.key.0, h.score)) hits.items ≡ found ts x word.now 0) }
+    ensures found { (m : Content) (ts : Tables) (xs : Names Index) (x : Index) → (K.keeping keeper.old).content ≡ Some m → HasKeysOnly m → IndexesStand (at m) ts xs → get xs index.now ≡ Some x → IsWithinLimits ts x → IfOk result (λ hits. map (λ h. (h.key.0, h.score)) hits.items ≡ found ts x word.now 0) }
     ensures reads { Reads (K.keeping keeper.old) (K.keeping keeper.new) (fault_of result) }
     ensures at_most { (m : Content) → (K.keeping keeper.old).content ≡ Some m → RisesBy (scan_looks (prefix_of kind.Postings index.now ++ 0 ∷ length word.now ∷ word.now) m) (K.keeping keeper.old).counts (K.keeping keeper.new).counts }
     ensures never_full { result ≡ Err KeepFault.Full → ⊥ }
