@@ -1,5 +1,5 @@
 //! New indexes.
-#![tactic(auto, using(ct_keep::specs::Composing::reads_on, ct_keep::specs::Composing::reads_short, crate::specs::Faults::reads_fault))]
+#![tactic(auto, using(ct_keep::specs::Composing::reads_on, ct_keep::specs::Composing::reads_short))]
 
 ghost use Rattle.std.specs.Prelude.{◌≡◌, ◌+◌, ◌≤◌, ◌<◌, ◌^◌, ◌++◌, IfOk, OnOk, OnErr, Some, Err, MatchOption, filter, length, map};
 ghost use Rattle.ct_keep.specs.Content.{Content};
@@ -14,7 +14,7 @@ ghost use Rattle.ix_context.specs.Rules.{most_given};
 ghost use Rattle.ix_context.specs.Stands.{HoldsTables};
 
 use crate::entries::put_index;
-use crate::faults::ContextFault;
+use crate::faults::{ContextFault, fault_of_reads};
 use crate::marking::{mark_next, number_behind};
 use crate::ranges::KeyRange;
 use ct_base::{Memory, Name, RowKey};
@@ -46,6 +46,7 @@ fn rows_of<K: Keeper>(
     requires { (K.keeping keeper.old).ready }
     ensures rows { (m : Content) (ts : Tables) → (K.keeping keeper.old).content ≡ Some m → HoldsTables m ts → IfOk result (λ rows. map (λ r. r.0) rows.items ≡ rows_in ts table.now range) }
     ensures reads { Reads (K.keeping keeper.old) (K.keeping keeper.new) (fault_of result) }
+    ensures never_full { result ≡ Err KeepFault.Full → ⊥ }
 {
     let rows = row_keys(alloc, keeper, Kind::RowNumbers, table)?;
     let kept = rows_within(alloc, &rows, range)?;
@@ -65,6 +66,7 @@ fn mark_rows<K: Keeper>(
     requires room { 1 + length rows.now < 2 ^ 32 }
     ensures words { (m : Content) (ts : Tables) → (K.keeping keeper.old).content ≡ Some m → HoldsTables m ts → OnOk result (words.new ≡ words.old ++ spell (each (mark_with index.now (target_text ts target.now)) (numbered 1 (map (λ r. r.0) rows.now)))) }
     ensures reads { Reads (K.keeping keeper.old) (K.keeping keeper.new) (fault_of result) }
+    ensures never_full { result ≡ Err KeepFault.Full → ⊥ }
 {
     let mut document = 1;
     for row in rows {
@@ -85,6 +87,7 @@ fn words_of_create<K: Keeper>(
     requires { (K.keeping keeper.old).ready }
     ensures words { (m : Content) (ts : Tables) → (K.keeping keeper.old).content ≡ Some m → HoldsTables m ts → IfOk result (λ words. MatchOption words (most_given < length (rows_in ts target.now.table range)) (λ ws. (length (rows_in ts target.now.table range) ≤ most_given) × (ws ≡ spell (create_words ts index.now target.now range)))) }
     ensures reads { Reads (K.keeping keeper.old) (K.keeping keeper.new) (fault_of result) }
+    ensures never_full { result ≡ Err KeepFault.Full → ⊥ }
 {
     let rows = rows_of(alloc, keeper, &target.table, range)?;
     let Some(next) = number_behind(1, rows.len()) else {
@@ -116,7 +119,11 @@ pub fn create<K: Keeper>(
     ensures err { OnErr result (batch.new ≡ batch.old) }
     ensures reads { Reads (K.keeping keeper.old) (K.keeping keeper.new) (context_fault_of result) }
 {
-    let Some(words) = words_of_create(alloc, keeper, index, target, range)? else {
+    let found = match words_of_create(alloc, keeper, index, target, range) {
+        Ok(found) => found,
+        Err(fault) => return Err(fault_of_reads(fault)),
+    };
+    let Some(words) = found else {
         return Err(ContextFault::TooMany);
     };
     batch.append(words)?;

@@ -1,5 +1,8 @@
 //! Why calls on indexes fail.
 
+ghost use Rattle.std.specs.Prelude.{◌≡◌, Some};
+ghost use Rattle.ix_context.specs.Faults.{keeper_fault};
+
 use ct_base::Memory;
 use ct_keep::KeepFault;
 use thiserror::Error;
@@ -29,17 +32,14 @@ impl From<Memory> for ContextFault {
     }
 }
 
-impl From<KeepFault> for ContextFault {
-    ghost use Rattle.std.specs.Prelude.{◌≡◌};
-    ghost use Rattle.ix_context.specs.Faults.{context_fault};
-
-    ghost from_gives = { λ fault made. made ≡ context_fault fault };
-
-    /// Full becomes Memory: calls on indexes only read, and no call that reads answers it.
-    fn from(fault: KeepFault) -> ContextFault {
-        match fault {
-            KeepFault::Memory | KeepFault::Full => ContextFault::Memory,
-            KeepFault::Disk => ContextFault::Disk,
-        }
+/// The fault of a call on an index whose reads failed so. They never answer Full.
+pub(crate) fn fault_of_reads(fault: KeepFault) -> ContextFault
+    requires { fault ≡ KeepFault.Full → ⊥ }
+    ensures { keeper_fault result ≡ Some fault }
+{
+    match fault {
+        KeepFault::Memory => ContextFault::Memory,
+        KeepFault::Disk => ContextFault::Disk,
+        KeepFault::Full => unreachable!(),
     }
 }

@@ -169,6 +169,7 @@ fn seen_text<K: Keeper>(
     ensures text { (m : Content) (ts : Tables) → (K.keeping keeper.old).content ≡ Some m → HoldsTables m ts → IfOk result (λ text. text ≡ target_text ts target.now row.0) }
     ensures short { IfOk result (λ text. HasShortText text) }
     ensures reads { Reads (K.keeping keeper.old) (K.keeping keeper.new) (fault_of result) }
+    ensures never_full { result ≡ Err KeepFault.Full → ⊥ }
 {
     let text = text_of(alloc, keeper, &target.table, target.column, row)?;
     Ok(if_short(text))
@@ -188,6 +189,7 @@ pub(crate) fn mark_next<K: Keeper>(
     requires some { 1 ≤ document }
     ensures words { (m : Content) (ts : Tables) → (K.keeping keeper.old).content ≡ Some m → HoldsTables m ts → OnOk result (words.new ≡ words.old ++ spell (document_words index.now document row.0 (target_text ts target.now row.0))) }
     ensures reads { Reads (K.keeping keeper.old) (K.keeping keeper.new) (fault_of result) }
+    ensures never_full { result ≡ Err KeepFault.Full → ⊥ }
 {
     let text = seen_text(alloc, keeper, target, row)?;
     mark_row(alloc, words, index, document, row, text)?;

@@ -1,5 +1,5 @@
 //! Synchronising indexes.
-#![tactic(auto, using(ct_keep::specs::Composing::reads_on, ct_keep::specs::Composing::reads_short, crate::specs::Faults::reads_fault))]
+#![tactic(auto, using(ct_keep::specs::Composing::reads_on, ct_keep::specs::Composing::reads_short))]
 
 ghost use Rattle.std.specs.Prelude.{◌≡◌, ◌+◌, ◌≤◌, ◌<◌, ◌^◌, ◌++◌, List, ℕ, IfOk, OnOk, OnErr, Some, Err, MatchOption, length, map, max};
 ghost use Rattle.std.specs.Option.{option_map};
@@ -17,7 +17,7 @@ ghost use Rattle.ix_context.specs.Rules.{most_given};
 ghost use Rattle.ix_context.specs.Stands.{HoldsTables, HoldsIndexes};
 
 use crate::entries::{put_index, read_index};
-use crate::faults::ContextFault;
+use crate::faults::{ContextFault, fault_of_reads};
 use crate::marking::{mark_next, number_behind};
 use ct_base::{Name, RowKey};
 use ct_bytes::row_key_bytes;
@@ -40,6 +40,7 @@ fn settle_row<K: Keeper>(
     requires some { 1 ≤ document }
     ensures words { (m : Content) (ts : Tables) → (K.keeping keeper.old).content ≡ Some m → HoldsTables m ts → OnOk result (words.new ≡ words.old ++ spell (settle_with index.now (target_text ts target.now) (document, row.0))) }
     ensures reads { Reads (K.keeping keeper.old) (K.keeping keeper.new) (fault_of result) }
+    ensures never_full { result ≡ Err KeepFault.Full → ⊥ }
 {
     let part = row_key_bytes(row);
     remove_entry(alloc, words, Kind::Pending, index, &part)?;
@@ -61,6 +62,7 @@ fn settle_rows<K: Keeper>(
     requires room { first + length rows.now < 2 ^ 32 }
     ensures words { (m : Content) (ts : Tables) → (K.keeping keeper.old).content ≡ Some m → HoldsTables m ts → OnOk result (words.new ≡ words.old ++ spell (each (settle_with index.now (target_text ts target.now)) (numbered first (map (λ r. r.0) rows.now)))) }
     ensures reads { Reads (K.keeping keeper.old) (K.keeping keeper.new) (fault_of result) }
+    ensures never_full { result ≡ Err KeepFault.Full → ⊥ }
 {
     let mut document = first;
     for row in rows {
@@ -84,6 +86,7 @@ fn settled_words<K: Keeper>(
     requires some { 1 ≤ first }
     ensures words { (m : Content) (ts : Tables) → (K.keeping keeper.old).content ≡ Some m → HoldsTables m ts → IfOk result (λ words. MatchOption words (2 ^ 32 ≤ first + length rows.now) (λ ws. (first + length rows.now < 2 ^ 32) × (ws ≡ spell (settled_with index.now target.now (target_text ts target.now) first (map (λ r. r.0) rows.now))))) }
     ensures reads { Reads (K.keeping keeper.old) (K.keeping keeper.new) (fault_of result) }
+    ensures never_full { result ≡ Err KeepFault.Full → ⊥ }
 {
     let mut words = Batch::new(alloc);
     if rows.is_empty() {
@@ -107,6 +110,7 @@ fn words_of_sync<K: Keeper>(
     requires { (K.keeping keeper.old).ready }
     ensures words { (m : Content) (ts : Tables) (xs : Names Index) (x : Index) → (K.keeping keeper.old).content ≡ Some m → HoldsIndexes m ts xs → get xs index.now ≡ Some x → IfOk result (λ words. MatchOption words (most_given < x.given + length (pending_rows x)) (λ ws. (x.given + length (pending_rows x) ≤ most_given) × (ws ≡ spell (sync_words ts index.now x)))) }
     ensures reads { Reads (K.keeping keeper.old) (K.keeping keeper.new) (fault_of result) }
+    ensures never_full { result ≡ Err KeepFault.Full → ⊥ }
 {
     let Some((target, next)) = read_index(alloc, keeper, index)? else {
         return Ok(Some(Batch::new(alloc)));
@@ -134,7 +138,11 @@ pub fn sync<K: Keeper>(
     ensures err { OnErr result (batch.new ≡ batch.old) }
     ensures reads { Reads (K.keeping keeper.old) (K.keeping keeper.new) (context_fault_of result) }
 {
-    let Some(words) = words_of_sync(alloc, keeper, index)? else {
+    let found = match words_of_sync(alloc, keeper, index) {
+        Ok(found) => found,
+        Err(fault) => return Err(fault_of_reads(fault)),
+    };
+    let Some(words) = found else {
         return Err(ContextFault::TooMany);
     };
     batch.append(words)?;

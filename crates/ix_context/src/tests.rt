@@ -4,7 +4,7 @@ ghost use Rattle.std.specs.Prelude.{true, IsTrue, [], ◌∷◌};
 ghost use Rattle.ct_keep.specs.Spoken.{spoken};
 ghost use Rattle.ct_keep.specs.Words.{AreWell};
 
-use crate::{ContextFault, Hit, KeyRange, create, note_insert, search, sync};
+use crate::{Hit, KeyRange, create, note_insert, search, sync};
 use ct_base::{Memory, Name, RowKey, Text};
 use ct_keep::{Batch, Keeper, MemKeeper, Word};
 use std::alloc::Global;
@@ -35,9 +35,9 @@ fn are_entries(batch: &Batch) -> bool
 }
 
 /// Commits the words, if the keeper may hold what they put.
-fn commit(alloc: Global, keeper: &mut MemKeeper, batch: Batch) -> Result<(), ContextFault> {
+fn commit(alloc: Global, keeper: &mut MemKeeper, batch: Batch) -> Result<(), Fail> {
     if !are_entries(&batch) {
-        return Err(ContextFault::TooMany);
+        return Err(Fail::new("no keeper holds such an entry"));
     }
     keeper.commit(alloc, batch)?;
     Ok(())
@@ -53,7 +53,7 @@ fn add_row(
     keeper: &mut MemKeeper,
     row: i64,
     text: &str,
-) -> Result<(), ContextFault> {
+) -> Result<(), Fail> {
     let table = named(alloc, "docs")?;
     let mut texts = Vec::new(alloc);
     texts
@@ -70,7 +70,7 @@ fn add_index(
     keeper: &mut MemKeeper,
     index: &Name,
     range: KeyRange,
-) -> Result<(), ContextFault> {
+) -> Result<(), Fail> {
     let table = named(alloc, "docs")?;
     let target = Target { table, column: 1 };
     let mut batch = Batch::new(alloc);
@@ -84,14 +84,14 @@ fn add_note(
     keeper: &mut MemKeeper,
     index: &Name,
     row: i64,
-) -> Result<(), ContextFault> {
+) -> Result<(), Fail> {
     let mut batch = Batch::new(alloc);
     note_insert(alloc, &mut batch, index, RowKey(row))?;
     commit(alloc, keeper, batch)
 }
 
 /// Synchronises an index, and counts the words that this took.
-fn settle(alloc: Global, keeper: &mut MemKeeper, index: &Name) -> Result<usize, ContextFault> {
+fn settle(alloc: Global, keeper: &mut MemKeeper, index: &Name) -> Result<usize, Fail> {
     let mut batch = Batch::new(alloc);
     sync(alloc, keeper, &mut batch, index)?;
     let count = batch.words().len();
@@ -113,7 +113,7 @@ fn found(
     keeper: &mut MemKeeper,
     index: &Name,
     word: &str,
-) -> Result<String, ContextFault> {
+) -> Result<String, Fail> {
     let word = key(alloc, word)?;
     let hits = search(alloc, keeper, index, &word)?;
     let mut line = String::new(alloc);
@@ -124,7 +124,7 @@ fn found(
 }
 
 /// Two rows of a table, and an index on their texts.
-fn indexed(alloc: Global, index: &Name, range: KeyRange) -> Result<MemKeeper, ContextFault> {
+fn indexed(alloc: Global, index: &Name, range: KeyRange) -> Result<MemKeeper, Fail> {
     let mut keeper = MemKeeper::new(alloc, Vec::new(alloc), 1_000_000, 0)?;
     add_row(alloc, &mut keeper, 7, "Quick fox, quick!")?;
     add_row(alloc, &mut keeper, -12, "a slow fox")?;
@@ -133,14 +133,14 @@ fn indexed(alloc: Global, index: &Name, range: KeyRange) -> Result<MemKeeper, Co
 }
 
 /// What a word finds in a new index on those rows.
-fn found_at_once(alloc: Global, range: KeyRange, word: &str) -> Result<String, ContextFault> {
+fn found_at_once(alloc: Global, range: KeyRange, word: &str) -> Result<String, Fail> {
     let index = named(alloc, "di")?;
     let mut keeper = indexed(alloc, &index, range)?;
     found(alloc, &mut keeper, &index, word)
 }
 
 /// What a word finds there after another row, and again after so many synchronisations.
-fn found_later(alloc: Global, word: &str, times: u32) -> Result<(String, usize), ContextFault> {
+fn found_later(alloc: Global, word: &str, times: u32) -> Result<(String, usize), Fail> {
     let index = named(alloc, "di")?;
     let mut keeper = indexed(alloc, &index, KeyRange::ALL)?;
     add_row(alloc, &mut keeper, 3, "quick")?;
