@@ -27,7 +27,6 @@ pub mod Targets
 pub mod Located
 pub mod IndexChecks
 pub mod Answering
-pub mod Words
 pub mod Scores
 pub mod RowReads
 pub mod FieldSteps

@@ -50,18 +50,6 @@ module _ (m : State) (items : List Item) (t column query : List ℕ) (label : Op
       let table = some_table (get m.tables t) columns some in
       of_table (Some table.0) table.1 ∙ ap (λ (cs : List Column). with_searched m t cs items column (rest m items t cs query label above)) table.2
 
--- ---- the checks
-
-passes_query : (a b c : Bool) (w : Bool) (r : List ℕ) (m : State) (q : ℕ) → refuse (not a) WrongValues (refuse (b || not c) OutOfRange (refuse (not w) (NotInProfile q) (Does m r))) ≡ Does m r → w ≡ true
-passes_query a b c true r m q e = refl
-passes_query true true c false r m q e = cc
-passes_query true false true false r m q e = cc
-passes_query true false false false r m q e = cc
-passes_query false b c false r m q e = cc
-
-pub is_word : (items : List Item) (query : List ℕ) (label : Option Whole) (threshold : Option ℕ) (m : State) → check_select items query label threshold (Does m []) ≡ Does m [] → is_word_query query ≡ true
-is_word items query label threshold m passes = passes_query (list_all (is_labelled label) items) (is_beyond_label label) (is_threshold threshold) (is_word_query query) [] m 1 passes
-
 -- ---- the state stays
 
 kept_by : (m : State) (b : Bool) (refusal : Refusal) (e : Effect) → state_by m e ≡ m → state_by m (refuse b refusal e) ≡ m

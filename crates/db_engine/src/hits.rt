@@ -1,13 +1,13 @@
 //! The rows that a query finds.
 #![tactic(auto, using(ct_keep::specs::Composing::reads_on, ct_keep::specs::Composing::reads_short))]
 
-ghost use Rattle.std.specs.Prelude.{◌≡◌, nat_lt, true, map, filter, IfOk, Some, Err};
+ghost use Rattle.std.specs.Prelude.{◌≡◌, nat_lt, map, filter, IfOk, Some, Err};
 ghost use Rattle.std.specs.FinMap.{get};
 ghost use Rattle.ct_keep.specs.Content.{Content};
 ghost use Rattle.ct_keep.specs.Keeping.{Reads, fault_of};
 ghost use Rattle.ix_context.specs.Indexes.{Index, found};
 ghost use Rattle.db_engine.specs.States.{State, Stands};
-ghost use Rattle.db_engine.specs.Selecting.{is_word_query, query_key};
+ghost use Rattle.db_engine.specs.Selecting.{query_key};
 
 use ct_base::Name;
 use ct_keep::{KeepFault, Keeper};
@@ -31,7 +31,7 @@ pub(crate) fn hits_above<K: Keeper>(
     above: u32,
 ) -> Result<Vec<Hit>, KeepFault>
     requires { (K.keeping keeper.old).ready }
-    ensures found { (m : State) (c : Content) (x : Index) → (K.keeping keeper.old).content ≡ Some c → Stands c m → get m.indexes index.now ≡ Some x → is_word_query query.now ≡ true → IfOk result (λ hits. map (λ h. (h.key.0, h.score)) hits.items ≡ found m.tables x (query_key query.now) above) }
+    ensures found { (m : State) (c : Content) (x : Index) → (K.keeping keeper.old).content ≡ Some c → Stands c m → get m.indexes index.now ≡ Some x → IfOk result (λ hits. map (λ h. (h.key.0, h.score)) hits.items ≡ found m.tables x (query_key query.now) above) }
     ensures reads { Reads (K.keeping keeper.old) (K.keeping keeper.new) (fault_of result) }
     ensures never_full { result ≡ Err KeepFault.Full → ⊥ }
 {

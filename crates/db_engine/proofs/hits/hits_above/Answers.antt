@@ -1,22 +1,19 @@
-use Rattle.std.proofs.Common.{◌≡◌, ℕ, ℤ, List, map, ap, sym, subst, ◌∙◌}
+use Rattle.std.proofs.Common.{◌≡◌, ℕ, ℤ, List, map, ap, ◌∙◌}
 use Rattle.std.specs.Prelude.{filter, nat_lt}
-use Rattle.ct_entry.specs.Keys.{IsToken}
 use Rattle.ix_context.specs.declared.hits.Hit.{Hit}
 use Rattle.ix_context.specs.Indexes.{found}
 use Rattle.ix_context.specs.LimitLaws.{within_limits}
 use Rattle.db_engine.specs.Selecting.{query_key}
 use Rattle.db_engine.proofs.Scores.{above_filtered, filter_mapped}
-use Rattle.db_engine.proofs.Words.{word_is_token}
 use Rattle.db_engine.proofs.hits.hits_above.Goals as goal
 
 pub returns-clause-found : goal.returns-clause-found
-returns-clause-found g c = λ m k x holds stands there word.
+returns-clause-found g c = λ m k x holds stands there.
     let above = c.args.above in
     let pair : Hit → ℤ × ℕ = λ h. (h.key.0, h.score) in
     let key : c.in_ok-word.word ≡ query_key c.args.query.now = c.in_ok-word.ensures in
-    let token : IsToken c.in_ok-word.word = subst IsToken (sym key) (word_is_token c.args.query.now c.utf8.query word) in
     let limits = within_limits m.tables x stands.state.tables (stands.state.indexes.each c.args.index.now x there) in
-    let all : map pair c.in_ok-hits.hits.items ≡ found m.tables x c.in_ok-word.word 0 = c.in_ok-hits.ensures.found k m.tables m.indexes x holds stands.only stands.indexes there limits token in
+    let all : map pair c.in_ok-hits.hits.items ≡ found m.tables x c.in_ok-word.word 0 = c.in_ok-hits.ensures.found k m.tables m.indexes x holds stands.only stands.indexes there limits in
     ap (map pair) c.keep_above.ensures
     ∙ filter_mapped (λ (h : ℤ × ℕ). nat_lt above h.1) pair c.in_ok-hits.hits.items
     ∙ ap (filter (λ (h : ℤ × ℕ). nat_lt above h.1)) all

@@ -1,4 +1,4 @@
-use Rattle.std.proofs.Common.{◌≡◌, ℕ, ℤ, List, [], map, Some, Vec, sym, ap, subst, ◌∙◌}
+use Rattle.std.proofs.Common.{◌≡◌, ℕ, ℤ, List, map, Some, Vec, sym, ap, subst, ◌∙◌}
 use Rattle.std.specs.Option.{option_map}
 use Rattle.std.specs.FinMap.{get}
 use Rattle.std.specs.declared.alloc.Global.{Global}
@@ -11,11 +11,10 @@ use Rattle.ix_context.specs.Indexes.{found}
 use Rattle.db_cond.specs.Refused.{refusal_of}
 use Rattle.db_engine.specs.declared.checks.Searched.{Searched}
 use Rattle.db_engine.specs.declared.checks.Searched.TheVariants.{Index, Refused}
-use Rattle.db_engine.specs.Refusals.{Does, as_count}
 use Rattle.db_engine.specs.Selecting.{query_key}
 use Rattle.db_engine.specs.Locating.{Searches, with_searched}
 use Rattle.db_engine.specs.Sources.{source_of}
-use Rattle.db_engine.proofs.Selects.{refused_names, refused_checks, found_reply, few_of_table, is_word}
+use Rattle.db_engine.proofs.Selects.{refused_names, refused_checks, found_reply, few_of_table}
 use Rattle.db_engine.proofs.selecting.select.Goals as goal
 
 pub returns-in-Refused-clause-reply : goal.returns-in-Refused-clause-reply
@@ -63,11 +62,10 @@ returns-clause-reply g c = λ m k holds stands.
     let behind = reads_hold _ _ k c.in_ok-index.ensures.reads here in
     let index : Searches m.indexes (Index c.in-Index.index) (with_searched m t columns items column) =
     subst (λ (s : Searched). Searches m.indexes s (with_searched m t columns items column)) c.in-Index.is (c.in_ok-index.ensures.searched m k here stands few) in
-    let word = is_word items query c.args.label (as_count c.args.above) m (c.in-Ok.ensures.1 (Does m [])) in
     let sources : c.deref-3.result.now ≡ map (source_of columns) items =
     c.deref-3.ensures.value ∙ c.in_ok-sources.ensures ∙ ap (λ (cs : List Column). map (source_of cs) items) (c.deref-2.ensures.value ∙ sym c.deref.ensures.value) in
     let pair : Hit → ℤ × ℕ = λ h. (h.key.0, h.score) in
     let hits : map pair c.deref-4.result.now ≡ found m.tables index.0 (query_key query) n =
-    ap (map pair) c.deref-4.ensures.value ∙ c.in_ok-hits.ensures.found m k index.0 behind stands index.1.0 word in
+    ap (map pair) c.deref-4.ensures.value ∙ c.in_ok-hits.ensures.found m k index.0 behind stands index.1.0 in
     let reply = found_reply m items t column query c.args.label c.args.above columns some index.0 index.1.1 n c.in-Ok.ensures.0 c.in-Ok.ensures.1 stands.state.tables c.deref-3.result.now c.deref-4.result.now sources hits in
     IfOk-weaker c.hit_lines.result _ _ (λ lines is. is ∙ reply) (c.hit_lines.ensures.lines m k (reads_hold _ _ k c.in_ok-hits.ensures.reads behind) stands)
