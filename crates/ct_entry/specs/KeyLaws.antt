@@ -9,7 +9,7 @@ use Rattle.std.proofs.lemmas.Map.Lookups.{exact_bytes}
 use Rattle.std.specs.Cmp.Lexicographic.{slice_cmp}
 use Rattle.ct_entry.specs.declared.kinds.Kind.{Kind}
 use Rattle.ct_entry.specs.declared.kinds.Kind.TheVariants.{Tables, RowNumbers, RowTexts, Preferences, Stoplists, SectionGroups, IndexSets, Thesauri, Relations, Indexes, DocumentRows, RowDocuments, Pending, Postings, Spans, Catalogue, Rules, Anchors, RuleFaults}
-use Rattle.ct_keep.specs.Rising.{and_true, and_both}
+use Rattle.ct_keep.specs.RisingKeys.{and_true, and_both}
 use Rattle.ct_entry.specs.Kinds.{code}
 use Rattle.ct_entry.specs.Keys.{Key, bytes, same_list, same}
 

@@ -13,11 +13,11 @@ use Rattle.std.specs.FinMap.{FinMap, get, entries, is_sorted, find, from_sorted,
 use Rattle.ct_keep.specs.Content.{Content}
 use Rattle.ct_keep.specs.Tail.{tail}
 use Rattle.ct_keep.specs.TailLaws.{get-tail, get-tail_nil}
-use Rattle.ct_keep.specs.Rising.{and_true, and_both, T_from_true}
+use Rattle.ct_keep.specs.RisingKeys.{and_true, and_both, T_from_true, below, rises, sorted_from_rises, entries_rise}
 use Rattle.ct_entry.specs.declared.kinds.Kind.{Kind}
 use Rattle.ct_entry.specs.Keys.{Key, key, bytes, prefix_of, at, IsPart, HasKeysOnly}
 use Rattle.ct_entry.specs.KeyLaws.{is_eq_Equal, key_from_bytes}
-use Rattle.ct_entry.specs.Rising.{below, rises, sorted_from_rises, entries_rise, none_below, below_tied, AllKeys, all_keys}
+use Rattle.ct_entry.specs.Rising.{none_below, below_tied, AllKeys, all_keys}
 use Rattle.ct_entry.specs.Listings.{listed}
 
 -- Keys in an order, each with a rest that isn't empty, such that the rests of those that have P are in the same order.

@@ -12,7 +12,7 @@ use Rattle.ct_bytes.specs.RowKeyLaws.{row_bytes_one, length-row_bytes}
 use Rattle.ct_bytes.specs.NumberLaws.{four_bytes_one}
 use Rattle.ct_entry.specs.declared.kinds.Kind.{Kind}
 use Rattle.ct_entry.specs.declared.kinds.Kind.TheVariants.{Tables, RowNumbers, RowTexts, Preferences, Stoplists, SectionGroups, IndexSets, Thesauri, Relations, Indexes, DocumentRows, RowDocuments, Pending, Postings, Spans, Catalogue, Rules, Anchors, RuleFaults}
-use Rattle.ct_keep.specs.Rising.{and_true, and_both}
+use Rattle.ct_keep.specs.RisingKeys.{and_true, and_both}
 use Rattle.ct_base.specs.NameLaws.{name_length}
 use Rattle.ct_entry.specs.Kinds.{code}
 use Rattle.ct_entry.specs.Keys.{Key, key, bytes, same_list, same, row_part, text_part, document_part, posting_part, span_part, relation_part, anchor_part, IsRow, IsDocument, IsPart, IsKey}

@@ -19,9 +19,9 @@ use Rattle.ct_keep.specs.TailLaws.{entries_above-tail_nil}
 use Rattle.ct_entry.specs.declared.kinds.Kind.{Kind}
 use Rattle.ct_entry.specs.declared.kinds.Kind.TheVariants.{RowTexts}
 use Rattle.ct_entry.specs.Keys.{key, at, prefix_of, IsPart, HasKeysOnly, row_part, IsRow}
-use Rattle.ct_keep.specs.Rising.{and_true, and_both}
+use Rattle.ct_keep.specs.RisingKeys.{and_true, and_both, below, rises, entries_rise}
 use Rattle.ct_entry.specs.PartLaws.{heads}
-use Rattle.ct_entry.specs.Rising.{no_tie, below, rises, entries_rise, none_below, below_tied, AllKeys, all_keys}
+use Rattle.ct_entry.specs.Rising.{no_tie, none_below, below_tied, AllKeys, all_keys}
 use Rattle.ct_entry.specs.Listings.{listed, keys_where, lowered, row_of, rows_of, rows_under, first_of, rows_above, row_after}
 use Rattle.ct_entry.specs.ListingLaws.{Spells, HasPartsOnly, family_listed}
 

@@ -3,11 +3,11 @@ use Rattle.std.proofs.Common.{◌≡◌, ℕ, ◌≤◌, Bool, true, false, cond
 use Rattle.std.specs.Prelude.{not, is_some}
 use Rattle.std.specs.Ordering.{nat_cmp}
 use Rattle.std.specs.Cmp.Lexicographic.{slice_cmp}
-use Rattle.std.specs.FinMap.{get, insert, remove, empty, entries, contains_key, find, get-entries, get-insert, get-remove, get-empty, get-retain_keys, from_sorted, entries-from_sorted, same_entries_map}
+use Rattle.std.specs.FinMap.{get, insert, remove, empty, entries, contains_key, find, get-entries, get-insert, get-remove, get-empty, get-retain_keys}
 use Rattle.std.proofs.lemmas.Cmp.{nat_list_cmp_total}
 use Rattle.std.proofs.lemmas.Map.Lookups.{exact_bytes}
 use Rattle.ct_keep.specs.Content.{Content, set_to, after, weight}
-use Rattle.ct_keep.specs.Laws.{same, same_itself, same_keys, same_content, get-set_to, entries-empty, value_weight, weight-set_to}
+use Rattle.ct_keep.specs.Laws.{same, same_itself, same_keys, same_content, get-set_to, value_weight, weight-set_to}
 use Rattle.ct_keep.specs.Trials.{staying, removals}
 
 pub get-insert_here : (m : Content) (k v : List ℕ) → get (insert m k v) k ≡ Some v
@@ -76,6 +76,3 @@ after_removals es m gone is = same_content (after (removals es) m) (staying m go
 -- the weight of what stands at a key is part of the weight
 pub value_weight-le : (m : Content) (k : List ℕ) → value_weight k (get m k) ≤ weight m
 value_weight-le m k = omega (arith, weight-set_to k None m)
-
-pub from_sorted-none : from_sorted {X = List ℕ} {R = slice_cmp nat_cmp} [] ≡ empty
-from_sorted-none = same_entries_map (from_sorted []) empty (entries-from_sorted (slice_cmp nat_cmp) [] tt ∙ sym entries-empty)

@@ -12,7 +12,8 @@ use Rattle.std.proofs.lemmas.Cmp.{tied_itself, nat_cmp_total, nat_list_cmp_total
 use Rattle.std.proofs.lemmas.Map.Lookups.{exact_bytes}
 use Rattle.std.proofs.lemmas.List.Sums.{sum_by-cons}
 use Rattle.ct_keep.specs.Content.{Content, Word, set_to, after, entry_weight, weight, begins_with, entries_under}
-use Rattle.ct_keep.specs.Rising.{Entry, order, below, rises, rises_filter, entries_rise, sorted_from_rises, and_true, less, T_from_true, below_lower}
+use Rattle.ct_keep.specs.Rising.{Entry, order, below, rises, rises_filter, entries_rise, sorted_from_rises, less, below_lower}
+use Rattle.ct_keep.specs.RisingKeys.{and_true, T_from_true}
 
 -- ---- keys that are one
 

@@ -4,6 +4,7 @@ pub mod Spoken
 pub mod Handed
 pub mod Keeping
 pub mod Composing
+pub mod RisingKeys
 pub mod Rising
 pub mod Laws
 pub mod Tail
@@ -11,6 +12,7 @@ pub mod TailLaws
 pub mod Looks
 pub mod LookLaws
 pub mod Pairs
+pub mod SortedLaws
 pub mod Trials
 pub mod InMemory
 pub mod KeeperStates

@@ -10,7 +10,8 @@ use Rattle.std.specs.Ordering.{nat_cmp, is_lt}
 use Rattle.std.specs.FinMap.{entries}
 use Rattle.ct_keep.specs.Content.{Content, begins_with, entries_above, entries_under}
 use Rattle.ct_keep.specs.Keeping.{Counts, counted, is_kind, is_kind_of, is_either, looked_up}
-use Rattle.ct_keep.specs.Rising.{Entry, order, above, beginning, below, rises, rises_filter, entries_rise, begins_itself, and_true, less, none_later, then_less, lt_from_less, eq_from_equal}
+use Rattle.ct_keep.specs.Rising.{Entry, order, above, beginning, below, rises, rises_filter, entries_rise, begins_itself, less, none_later, then_less, lt_from_less, eq_from_equal}
+use Rattle.ct_keep.specs.RisingKeys.{and_true}
 use Rattle.ct_keep.specs.Tail.{tail}
 use Rattle.ct_keep.specs.TailLaws.{entries-tail}
 use Rattle.ct_keep.specs.Looks.{one_if, look, no_looks, plus, looks, scan_looks, behind, raised_by, raised, RisesBy}

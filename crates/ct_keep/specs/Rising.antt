@@ -1,5 +1,5 @@
 -- Entries in the order of their keys: those above a key, and those whose keys begin alike.
-use Rattle.std.specs.Prelude.{ℕ, ◌≡◌, ◌<◌, ◌&&◌, Bool, true, false, List, [], ◌∷◌, ◌++◌, filter, Some, None, refl, T}
+use Rattle.std.specs.Prelude.{ℕ, ◌≡◌, ◌<◌, Bool, true, false, List, [], ◌∷◌, ◌++◌, filter, Some, None, refl}
 use Rattle.std.proofs.Common.{cond, sym, ap, subst, ◌∙◌, arith, ◌⊎◌, inl, inr}
 use Rattle.std.specs.declared.cmp.Ordering.{Ordering}
 use Rattle.std.specs.declared.cmp.Ordering.TheVariants.{Less, Equal, Greater}
@@ -7,8 +7,9 @@ use Rattle.std.proofs.lemmas.Bool.{eqb-true, eq-eqb}
 use Rattle.std.proofs.lemmas.Cmp.{tied_itself, nat_list_cmp_total, ranked}
 use Rattle.std.specs.Ordering.{nat_cmp, MatchOrdering, is_lt, ordering_then, ordering_reverse}
 use Rattle.std.specs.Cmp.Lexicographic.{slice_cmp}
-use Rattle.std.specs.FinMap.{entries, entries_sorted, is_sorted}
+use Rattle.std.specs.FinMap.{entries, is_sorted}
 use Rattle.ct_keep.specs.Content.{Content, entries_above, first_entry, begins_with}
+use Rattle.ct_keep.specs.RisingKeys.{and_true, and_both, below as below_by, rises as rises_by, sorted_from_rises as sorted_from_rises_by, entries_rise as entries_rise_by}
 
 abbrev pub Entry : Type 0
 Entry = List ℕ × List ℕ
@@ -25,29 +26,11 @@ beginning p es = filter (λ e. begins_with p e.0) es
 
 -- every key is greater
 abbrev pub below : List ℕ → List Entry → Bool
-below x [] = true
-below x (e ∷ es) = is_lt (order x e.0) && below x es
+below x es = below_by (slice_cmp nat_cmp) x es
 
 -- the keys strictly rise
 abbrev pub rises : List Entry → Bool
-rises [] = true
-rises (e ∷ es) = below e.0 es && rises es
-
--- ---- tests
-
-pub and_true : (a b : Bool) → (a && b) ≡ true → (a ≡ true) × (b ≡ true)
-and_true true b e = (refl, e)
-and_true false b e = cc
-
-pub and_both : (a b : Bool) → a ≡ true → b ≡ true → (a && b) ≡ true
-and_both a b p q = rw (p, q) refl
-
-pub true_from_T : (b : Bool) → T b → b ≡ true
-true_from_T true h = refl
-true_from_T false h = absurd h
-
-pub T_from_true : (b : Bool) → b ≡ true → T b
-T_from_true b h = subst T (sym h) tt
+rises es = rises_by (slice_cmp nat_cmp) es
 
 pub less : (o : Ordering) → is_lt o ≡ true → o ≡ Less
 less Less e = refl
@@ -59,32 +42,11 @@ not_back o e = subst (λ r. is_lt (ordering_reverse r) ≡ false) (sym e) refl
 
 -- ---- the entries of a content rise, and so do some of them
 
-below_from_sorted : (e : Entry) (es : List Entry) → is_sorted (slice_cmp nat_cmp) (e ∷ es) ≡ true → below e.0 es ≡ true
-below_from_sorted e [] h = refl
-below_from_sorted e (y ∷ ys) h =
-    let b = and_true _ _ h in
-    let b0 = and_true _ _ b.0 in
-    let b1 = and_true _ _ b.1 in
-    and_both _ _ b0.0 (below_from_sorted e ys (and_both _ _ b0.1 b1.1))
-
-pub rises_from_sorted : (es : List Entry) → is_sorted (slice_cmp nat_cmp) es ≡ true → rises es ≡ true
-rises_from_sorted [] h = refl
-rises_from_sorted (e ∷ es) h = and_both _ _ (below_from_sorted e es h) (rises_from_sorted es (and_true _ _ h).1)
-
-sorted_cons : (e : Entry) (es : List Entry) → below e.0 es ≡ true → is_sorted (slice_cmp nat_cmp) es ≡ true → is_sorted (slice_cmp nat_cmp) (e ∷ es) ≡ true
-sorted_cons e [] b s = refl
-sorted_cons e (y ∷ ys) b s =
-    let b2 = and_true (is_lt (order e.0 y.0)) (below e.0 ys) b in
-    let s2 = and_true _ _ s in
-    let r = and_true _ _ (sorted_cons e ys b2.1 s2.1) in
-    and_both _ _ (and_both _ _ b2.0 r.0) s
-
 pub sorted_from_rises : (es : List Entry) → rises es ≡ true → is_sorted (slice_cmp nat_cmp) es ≡ true
-sorted_from_rises [] h = refl
-sorted_from_rises (e ∷ es) h = let b = and_true (below e.0 es) (rises es) h in sorted_cons e es b.0 (sorted_from_rises es b.1)
+sorted_from_rises es h = sorted_from_rises_by (slice_cmp nat_cmp) es h
 
 pub entries_rise : (m : Content) → rises (entries m) ≡ true
-entries_rise m = rises_from_sorted (entries m) (true_from_T _ (entries_sorted m))
+entries_rise m = entries_rise_by (slice_cmp nat_cmp) m
 
 pub below_filter : (p : Entry → Bool) (x : List ℕ) (es : List Entry) → below x es ≡ true → below x (filter p es) ≡ true
 below_filter p x [] h = refl

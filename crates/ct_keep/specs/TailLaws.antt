@@ -9,7 +9,8 @@ use Rattle.std.proofs.lemmas.Cmp.{tied_itself, nat_cmp_total, nat_list_cmp_total
 use Rattle.std.specs.Cmp.Lexicographic.{slice_cmp}
 use Rattle.std.specs.FinMap.{get, entries, is_sorted, find, entries-from_sorted, get-from_sorted, get-entries, empty}
 use Rattle.ct_keep.specs.Content.{Content, set_to, after, first_entry, entries_above, entries_under, begins_with}
-use Rattle.ct_keep.specs.Rising.{Entry, order, above, beginning, below, rises, rises_filter, entries_rise, sorted_from_rises, and_true, and_both, less, T_from_true, begins_front, begins_itself, stops, first_then, none_then}
+use Rattle.ct_keep.specs.Rising.{Entry, order, above, beginning, below, rises, rises_filter, entries_rise, sorted_from_rises, less, begins_front, begins_itself, stops, first_then, none_then}
+use Rattle.ct_keep.specs.RisingKeys.{and_true, and_both, T_from_true}
 use Rattle.ct_keep.specs.Laws.{same, same_keys, same_other, same-front, get-set_to, same_content, three_words, under_a}
 use Rattle.ct_keep.specs.Tail.{cut, tail, left_under, rest_under}
 

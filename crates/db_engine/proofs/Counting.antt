@@ -6,8 +6,8 @@ use Rattle.std.specs.declared.cmp.Ordering.TheVariants.{Less, Equal, Greater}
 use Rattle.std.specs.Ordering.{is_lt, is_eq, eq_by_cmp}
 use Rattle.std.specs.Cmp.{IsTotalOrder}
 use Rattle.std.specs.FinMap.{FinMap, get, insert, entries, find, put, entries-insert, get-entries}
-use Rattle.ct_keep.specs.Rising.{and_true, and_both}
-use Rattle.ct_entry.specs.Rising.{below, rises, entries_rise, none_below}
+use Rattle.ct_keep.specs.RisingKeys.{and_true, and_both, below, rises, entries_rise}
+use Rattle.ct_entry.specs.Rising.{none_below}
 
 less : (o : Ordering) → is_lt o ≡ true → o ≡ Less
 less Less h = refl

@@ -7,9 +7,8 @@ use Rattle.std.specs.Ordering.{is_lt}
 use Rattle.std.specs.Cmp.{IsTotalOrder}
 use Rattle.std.specs.FinMap.{FinMap, empty, entries, from_entries, entries-insert, len-entries, len-empty}
 use Rattle.std.specs.FinMap.Entries.{put, by_order}
-use Rattle.ct_keep.specs.Rising.{and_true}
+use Rattle.ct_keep.specs.RisingKeys.{and_true, below, rises, entries_rise}
 use Rattle.ct_entry.specs.Maps.{each_value}
-use Rattle.ct_entry.specs.Rising.{below, rises, entries_rise}
 
 module _ {K X : Type 0} (R : K → K → Ordering) where
   put_first : (k : K) (v : X) (es : List (K × X)) → below R k es ≡ true → put R k v es ≡ (k, v) ∷ es

@@ -16,8 +16,8 @@ use Rattle.ct_entry.specs.Maps.{Names, each_value}
 use Rattle.ct_entry.specs.MapLaws.{names_tie}
 use Rattle.ct_entry.specs.Listings.{key_order}
 use Rattle.ct_entry.specs.OwnerLaws.{key_order_total, key_order_tie, in_key_order}
-use Rattle.ct_entry.specs.Rising.{below, rises, entries_rise, none_below}
-use Rattle.ct_keep.specs.Rising.{and_true}
+use Rattle.ct_entry.specs.Rising.{none_below}
+use Rattle.ct_keep.specs.RisingKeys.{and_true, below, rises, entries_rise}
 use Rattle.tb_table.specs.declared.columns.Column.{Column}
 use Rattle.std.proofs.lemmas.List.{length-map}
 use Rattle.tb_table.specs.Tables.{Table, keys_in, row_keys}

@@ -11,7 +11,7 @@ use Rattle.st_parse.specs.declared.statements.Operand.{Operand}
 use Rattle.st_parse.specs.declared.statements.Operand.TheVariants.{Text, Number}
 use Rattle.st_parse.specs.declared.statements.Whole.{Whole}
 use Rattle.st_parse.specs.declared.statements.Whole.TheVariants.{Fits, Beyond}
-use Rattle.ct_keep.specs.Rising.{and_true}
+use Rattle.ct_keep.specs.RisingKeys.{and_true}
 use Rattle.ct_entry.specs.Words.{spell}
 use Rattle.tb_table.specs.Spelling.{insert_words}
 use Rattle.tb_table.specs.declared.columns.Sort.{Sort}

@@ -12,7 +12,7 @@ use Rattle.ct_keep.specs.Content.{Content, after}
 use Rattle.ct_entry.specs.declared.kinds.Kind.{Kind}
 use Rattle.ct_entry.specs.declared.kinds.Kind.TheVariants as kind
 use Rattle.ct_base.specs.Names.{IsName}
-use Rattle.ct_keep.specs.Rising.{and_both}
+use Rattle.ct_keep.specs.RisingKeys.{and_both}
 use Rattle.ct_entry.specs.Keys.{Key, at, same_list, IsRow}
 use Rattle.ct_entry.specs.KeyLaws.{list_from_same, list_same}
 use Rattle.ct_entry.specs.Maps.{Names, altered}

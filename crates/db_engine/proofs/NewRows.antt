@@ -15,9 +15,9 @@ use Rattle.ct_entry.specs.declared.kinds.Kind.TheVariants as kind
 use Rattle.ct_entry.specs.Keys.{Key, at, same_list, IsRow}
 use Rattle.ct_entry.specs.KeyLaws.{list_from_same, list_same}
 use Rattle.ct_entry.specs.Maps.{Names}
-use Rattle.ct_entry.specs.Rising.{below, rises, none_below}
+use Rattle.ct_entry.specs.Rising.{none_below}
 use Rattle.ct_entry.specs.Listings.{key_order}
-use Rattle.ct_keep.specs.Rising.{and_true}
+use Rattle.ct_keep.specs.RisingKeys.{and_true, below, rises}
 use Rattle.ct_entry.specs.PartLaws.{is_short}
 use Rattle.ct_entry.specs.Each.{is_among}
 use Rattle.ct_entry.specs.EachLaws.{all_each}

@@ -8,11 +8,10 @@ use Rattle.std.specs.Cmp.Lexicographic.{slice_cmp}
 use Rattle.std.specs.FinMap.{get, find, entries, get-entries}
 use Rattle.std.proofs.lemmas.Cmp.{nat_list_cmp_total}
 use Rattle.std.proofs.lemmas.List.Elements.{Contains-append_right}
-use Rattle.ct_keep.specs.Rising.{and_true, and_both}
+use Rattle.ct_keep.specs.RisingKeys.{and_true, and_both, entries_rise}
 use Rattle.ct_entry.specs.Keys.{Key, same_list}
 use Rattle.ct_entry.specs.Maps.{Names}
 use Rattle.ct_entry.specs.KeyLaws.{list_from_same, list_same}
-use Rattle.ct_entry.specs.Rising.{entries_rise}
 use Rattle.tb_table.specs.Tables.{Tables}
 use Rattle.tb_table.specs.Rules.{AreTables}
 use Rattle.ix_context.specs.Indexes.{Index}

@@ -6,9 +6,8 @@ use Rattle.std.specs.Ordering.{is_lt, is_eq, eq_by_cmp, ordering_reverse}
 use Rattle.std.specs.Cmp.{IsTotalOrder}
 use Rattle.std.proofs.lemmas.Cmp.{tied_itself}
 use Rattle.std.specs.FinMap.{FinMap, IsAntisymmetric, get, entries, find, get-entries}
-use Rattle.ct_keep.specs.Rising.{and_true}
+use Rattle.ct_keep.specs.RisingKeys.{and_true, below, rises, entries_rise}
 use Rattle.ct_entry.specs.KeyLaws.{is_eq_Equal}
-use Rattle.ct_entry.specs.Rising.{below, rises, entries_rise}
 use Rattle.db_engine.proofs.WeighLists.{IsIn, AreApart}
 
 -- no key is below itself, nor one that is below it

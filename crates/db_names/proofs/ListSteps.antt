@@ -13,14 +13,14 @@ use Rattle.std.proofs.lemmas.List.{take_more, map-append}
 use Rattle.std.proofs.lemmas.List.Elements.{All-head, All-tail}
 use Rattle.std.proofs.lemmas.Map.Lookups.{exact_bytes}
 use Rattle.ct_keep.specs.Content.{Content}
-use Rattle.ct_keep.specs.Rising.{and_true, and_both}
+use Rattle.ct_keep.specs.RisingKeys.{and_true, and_both, below, rises, entries_rise}
 use Rattle.ct_keep.specs.Tail.{tail}
 use Rattle.ct_keep.specs.TailLaws.{get-tail}
 use Rattle.ct_entry.specs.declared.kinds.Kind.TheVariants as entry
 use Rattle.ct_entry.specs.Kinds.{code}
 use Rattle.ct_entry.specs.Keys.{key, at, counted_bytes, same_list}
 use Rattle.ct_entry.specs.KeyLaws.{is_eq_Equal, list_from_same, list_same}
-use Rattle.ct_entry.specs.Rising.{below, rises, entries_rise, none_below, below_tied}
+use Rattle.ct_entry.specs.Rising.{none_below, below_tied}
 use Rattle.ct_entry.specs.Listings.{key_order}
 use Rattle.tb_table.specs.declared.columns.Target.{Target}
 use Rattle.db_names.specs.declared.heads.IndexKind.{IndexKind}

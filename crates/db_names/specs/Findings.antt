@@ -2,9 +2,9 @@
 use Rattle.std.specs.Prelude.{Bool, ℕ, ◌≡◌, ◌↔◌, true, List, [], Option, Some, None, ◌∷◌, ◌++◌, false, codes, refl}
 use Rattle.std.specs.Map.{lookup}
 use Rattle.ct_base.specs.Names.{IsName}
+use Rattle.ct_keep.specs.RisingKeys.{rises}
 use Rattle.ct_entry.specs.declared.kinds.Kind.TheVariants as entry
 use Rattle.ct_entry.specs.Keys.{Key, key, same_list, same}
-use Rattle.ct_entry.specs.Rising.{rises}
 use Rattle.ct_entry.specs.Listings.{key_order}
 use Rattle.tb_table.specs.declared.columns.Target.{Target}
 use Rattle.db_names.specs.declared.heads.IndexKind.{IndexKind}

@@ -8,11 +8,11 @@ use Rattle.std.proofs.lemmas.List.Elements.{All-weaker, All-contains_itself}
 use Rattle.std.proofs.lemmas.Map.Entries.{option_filter}
 use Rattle.ct_bytes.specs.Varints.{text_bytes}
 use Rattle.ct_bytes.specs.VarintLaws.{text_apart}
+use Rattle.ct_keep.specs.RisingKeys.{rises, entries_rise}
 use Rattle.ct_entry.specs.declared.kinds.Kind.TheVariants as entry
 use Rattle.ct_entry.specs.Keys.{Key, key, same_list}
 use Rattle.ct_entry.specs.Maps.{Names}
 use Rattle.ct_entry.specs.KeyLaws.{list_from_same, list_same}
-use Rattle.ct_entry.specs.Rising.{rises, entries_rise}
 use Rattle.ct_entry.specs.Listings.{key_order}
 use Rattle.ct_entry.specs.OwnerLaws.{key_order_total, in_key_order, get-in_key_order}
 use Rattle.tb_table.specs.declared.columns.Target.{Target}

@@ -11,11 +11,11 @@ use Rattle.std.specs.FinMap.{FinMap, find, from_sorted, is_sorted, get-from_sort
 use Rattle.std.proofs.lemmas.Cmp.{tied_itself}
 use Rattle.std.proofs.lemmas.List.Elements.{Contains-append_right}
 use Rattle.std.proofs.lemmas.Map.Entries.{option_filter}
-use Rattle.ct_keep.specs.Rising.{and_true, and_both, T_from_true}
+use Rattle.ct_keep.specs.RisingKeys.{and_true, and_both, T_from_true, below, rises, sorted_from_rises}
 use Rattle.ct_entry.specs.Keys.{same_list}
 use Rattle.ct_entry.specs.Each.{is_among}
 use Rattle.ct_entry.specs.KeyLaws.{list_from_same}
-use Rattle.ct_entry.specs.Rising.{below, rises, sorted_from_rises, none_below, below_tied}
+use Rattle.ct_entry.specs.Rising.{none_below, below_tied}
 pub use Rattle.ct_entry.specs.Rising.{pair_found}
 use Rattle.ct_entry.specs.Listings.{key_order}
 use Rattle.ct_entry.specs.OwnerLaws.{key_order_total, key_order_tie}

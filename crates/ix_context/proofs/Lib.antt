@@ -1,10 +1,7 @@
-pub mod SortedPairs
 pub mod OccurrenceLaws
 pub mod EntrySteps
 pub mod MarkSteps
-pub mod SortedEntries
 pub mod SearchSteps
-pub mod EntryFacts
 pub mod SearchLaws
 pub mod SyncSteps
 pub mod TestWords

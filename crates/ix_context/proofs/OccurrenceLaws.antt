@@ -1,5 +1,7 @@
 -- What noting the words of a text one by one comes to.
-use Rattle.std.proofs.Common.{◌≡◌, ℕ, ◌+◌, ◌<◌, ◌≤◌, length, arith, Bool, true, false, cond, List, [], ◌∷◌, ◌++◌, Option, Some, None, refl, sym, ap, ◌∙◌, append_assoc}
+use Rattle.std.proofs.Common.{◌≡◌, ℕ, ◌+◌, ◌<◌, ◌≤◌, length, arith, Bool, true, false, cond, List, [], ◌∷◌, ◌++◌, Option, Some, None, Vec, refl, sym, ap, ◌∙◌, append_assoc}
+use Rattle.std.specs.Option.{option_map, unwrap_or}
+use Rattle.std.specs.declared.alloc.Global.{Global}
 use Rattle.std.proofs.lemmas.List.{append-nil}
 use Rattle.std.specs.Ordering.{nat_cmp}
 use Rattle.std.specs.Cmp.Lexicographic.{slice_cmp}
@@ -68,3 +70,8 @@ few_tokens (t ∷ ts) least most le o =
     let b : t.start < t.end = o.1 in
     let rest = few_tokens ts t.end most o.2 o.3 in
     omega (arith, rest)
+
+-- the positions that were taken out
+pub had-or_none : (o : Option (Vec ℕ Global)) (none : Vec ℕ Global) → none.items ≡ [] → (unwrap_or o none).items ≡ had (option_map (λ v. v.items) o)
+had-or_none None none is = is
+had-or_none (Some v) none is = refl

@@ -3,11 +3,12 @@ use Rattle.std.proofs.Common.{◌≡◌, ℕ, ℤ, ◌<◌, ◌≤◌, ◌^◌, 
 use Rattle.std.specs.Prelude.{is_some, min, nat_lt, ◌||◌}
 use Rattle.std.specs.Bool.{if◌then◌else◌}
 use Rattle.std.specs.Option.{option_map, option_and_then}
-use Rattle.std.specs.List.{cons_option, filter_map}
+use Rattle.std.specs.List.{AllByRecursion, cons_option, filter_map}
 use Rattle.std.specs.Ordering.{nat_cmp, int_cmp, int_eq, eq_by_cmp}
 use Rattle.std.specs.Cmp.Lexicographic.{slice_cmp}
 use Rattle.std.specs.FinMap.{get, empty, entries, find, get-empty, get-entries}
 use Rattle.std.proofs.lemmas.Bool.Decides.{nat_tests}
+use Rattle.std.proofs.lemmas.List.Elements.{recursion_from_All}
 use Rattle.std.proofs.lemmas.Cmp.{nat_list_cmp_total, int_cmp_total}
 use Rattle.std.proofs.lemmas.Map.Lookups.{exact_bytes, exact_signed}
 use Rattle.ct_bytes.specs.RowKeys.{row_bytes}
@@ -17,6 +18,7 @@ use Rattle.ct_keep.specs.TailLaws.{get-tail, get-tail_nil}
 use Rattle.ct_entry.specs.declared.kinds.Kind.TheVariants as kind
 use Rattle.ct_entry.specs.Keys.{Key, key, bytes, at, prefix_of, document_part, posting_part, IsPart, IsRow as IsRowKey, IsDocument, IsToken, HasKeysOnly}
 use Rattle.ct_entry.specs.KeyLaws.{is_eq_Equal, key_from_bytes}
+use Rattle.ct_entry.specs.Rising.{all_entries}
 use Rattle.ct_entry.specs.PartLaws.{document_part_apart, int_same}
 use Rattle.ct_entry.specs.DocumentLaws.{posting_front}
 use Rattle.ct_entry.specs.Listings.{row_of}
@@ -33,7 +35,6 @@ use Rattle.ix_context.specs.Spelling.{Numbering, IsNumbering, IndexesSpelled, po
 use Rattle.ix_context.specs.Limits.{IsWithinLimits}
 use Rattle.ix_context.specs.Scoring.{document_row, with_score, positions_score, with_postings, HoldRows}
 use Rattle.ix_context.specs.Picked.{entries_picked}
-use Rattle.ix_context.proofs.EntryFacts.{AllEntries, all_entries}
 
 some_same : {A : Type 0} {a b : A} → Some a ≡ Some b → a ≡ b
 some_same e = cc
@@ -203,16 +204,19 @@ module _ (m : Content) (ts : Tables) (xs : Names Index) (x : Index) (i w : List 
 
   -- ---- all of them
 
-  rows_of : (es : List (List ℕ × List ℕ)) → AllEntries Posted es → List (List RowDocument)
+  abbrev AllPosted : List (List ℕ × List ℕ) → Type 0
+  AllPosted es = AllByRecursion (λ e. Posted e.0 e.1) es
+
+  rows_of : (es : List (List ℕ × List ℕ)) → AllPosted es → List (List RowDocument)
   rows_of [] all = []
   rows_of (e ∷ es) all = (document_of e.0 e.1 all.0 ∷ []) ∷ rows_of es all.1
 
-  hold : (es : List (List ℕ × List ℕ)) (all : AllEntries Posted es) → HoldRows es (rows_of es all)
+  hold : (es : List (List ℕ × List ℕ)) (all : AllPosted es) → HoldRows es (rows_of es all)
   unfolding rows_of
   hold [] all = tt
   hold (e ∷ es) all = (is_row_of e.0 e.1 all.0, sym all.0.value, hold es all.1)
 
-  any_row : ℤ → (es : List (List ℕ × List ℕ)) → AllEntries Posted es → Bool
+  any_row : ℤ → (es : List (List ℕ × List ℕ)) → AllPosted es → Bool
   any_row r [] all = false
   any_row r (e ∷ es) all = int_eq r all.0.row || any_row r es all.1
 
@@ -226,7 +230,7 @@ module _ (m : Content) (ts : Tables) (xs : Names Index) (x : Index) (i w : List 
       go true is = sym (ap right (exact_signed r p.row (is_eq_Equal (int_cmp r p.row) is)) ∙ right_at q v p)
       go false is = refl
 
-  scores_at : (es : List (List ℕ × List ℕ)) (all : AllEntries Posted es) (scores : Rows ℕ) (r : ℤ) → get (with_postings (at m) i (rows_of es all) scores) r ≡ cond (any_row r es all) (right r) (get scores r)
+  scores_at : (es : List (List ℕ × List ℕ)) (all : AllPosted es) (scores : Rows ℕ) (r : ℤ) → get (with_postings (at m) i (rows_of es all) scores) r ≡ cond (any_row r es all) (right r) (get scores r)
   unfolding rows_of any_row
   scores_at [] all scores r = refl
   scores_at (e ∷ es) all scores r =
@@ -237,7 +241,7 @@ module _ (m : Content) (ts : Tables) (xs : Names Index) (x : Index) (i w : List 
 
   -- ---- none is missed
 
-  found_any : (d : ℕ) (v : List ℕ) (r : ℤ) → IsDocument d → n.row i d ≡ Some r → (es : List (List ℕ × List ℕ)) (all : AllEntries Posted es) → find (slice_cmp nat_cmp) (document_part d) es ≡ Some v → any_row r es all ≡ true
+  found_any : (d : ℕ) (v : List ℕ) (r : ℤ) → IsDocument d → n.row i d ≡ Some r → (es : List (List ℕ × List ℕ)) (all : AllPosted es) → find (slice_cmp nat_cmp) (document_part d) es ≡ Some v → any_row r es all ≡ true
   unfolding any_row
   found_any d v r fits is [] all found = cc
   found_any d v r fits is (e ∷ es) all found = go (eq_by_cmp (slice_cmp nat_cmp) (document_part d) e.0) refl found (found_any d v r fits is es all.1)
@@ -254,7 +258,7 @@ module _ (m : Content) (ts : Tables) (xs : Names Index) (x : Index) (i w : List 
   tail_at [] v some is = absurd (some refl)
   tail_at (b ∷ q) v some is = get-tail prefix m b q ∙ is
 
-  right_any : (r : ℤ) (s : ℕ) → right r ≡ Some s → (all : AllEntries Posted (entries (tail prefix m))) → any_row r (entries (tail prefix m)) all ≡ true
+  right_any : (r : ℤ) (s : ℕ) → right r ≡ Some s → (all : AllPosted (entries (tail prefix m))) → any_row r (entries (tail prefix m)) all ≡ true
   right_any r s is all = go (get x.marks r) refl is
     where
       go : (o : Option Mark) → get x.marks r ≡ o → option_and_then (scored_as ts x w r) o ≡ Some s → any_row r (entries (tail prefix m)) all ≡ true
@@ -275,7 +279,7 @@ module _ (m : Content) (ts : Tables) (xs : Names Index) (x : Index) (i w : List 
           let held : get (tail prefix m) (document_part d.0) ≡ Some v = tail_at (document_part d.0) v (λ e. cc) (ap (get m) (assoc (document_part d.0)) ∙ value) in
           found_any d.0 v r fits row (entries (tail prefix m)) all (sym (get-entries (tail prefix m) (document_part d.0)) ∙ held)
 
-  right_scores : (all : AllEntries Posted (entries (tail prefix m))) (r : ℤ) → get (with_postings (at m) i (rows_of (entries (tail prefix m)) all) empty) r ≡ right r
+  right_scores : (all : AllPosted (entries (tail prefix m))) (r : ℤ) → get (with_postings (at m) i (rows_of (entries (tail prefix m)) all) empty) r ≡ right r
   right_scores all r =
       scores_at (entries (tail prefix m)) all empty r
       ∙ ap (cond (any_row r (entries (tail prefix m)) all) (right r)) (get-empty int_cmp r)
@@ -294,7 +298,7 @@ module _ (m : Content) (ts : Tables) (xs : Names Index) (x : Index) (i w : List 
 
   pub finds : Finds
   finds =
-      let all : AllEntries Posted (entries (tail prefix m)) = all_entries (slice_cmp nat_cmp) nat_list_cmp_total Posted (tail prefix m) posted in
+      let all : AllPosted (entries (tail prefix m)) = recursion_from_All (λ e. Posted e.0 e.1) (entries (tail prefix m)) (all_entries (slice_cmp nat_cmp) nat_list_cmp_total (λ e. Posted e.0 e.1) (tail prefix m) posted) in
       record {
         rows = rows_of (entries (tail prefix m)) all;
         hold = hold (entries (tail prefix m)) all;

@@ -20,7 +20,7 @@ use Rattle.ct_entry.specs.MapLaws.{get_name-insert, get_name-alter, get_row-inse
 use Rattle.ct_entry.specs.Listings.{keys_where}
 use Rattle.ct_entry.specs.RowLaws.{keys_below, keys_rise, listed_rise, has_key, keys_always}
 use Rattle.ct_entry.specs.WordLaws.{told_frame, told-append, view-append}
-use Rattle.ct_keep.specs.Rising.{and_true, and_both}
+use Rattle.ct_keep.specs.RisingKeys.{and_true, and_both}
 use Rattle.tb_table.specs.declared.columns.Column.{Column}
 use Rattle.tb_table.specs.declared.columns.Target.{Target}
 use Rattle.tb_table.specs.Tables.{Table, Tables, row_in, row_at, text_of, keys_in, row_keys, with_table, with_row}

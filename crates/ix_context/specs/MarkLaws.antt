@@ -22,7 +22,7 @@ use Rattle.ct_entry.specs.MapLaws.{names_tie}
 use Rattle.ct_entry.specs.MapWords.{told_entries}
 use Rattle.ct_entry.specs.RowLaws.{keys_below, keys_rise}
 use Rattle.ct_entry.specs.WordLaws.{told_frame, view-append}
-use Rattle.ct_keep.specs.Rising.{and_true}
+use Rattle.ct_keep.specs.RisingKeys.{and_true}
 use Rattle.ix_posting.specs.Rows.{row_bytes as posting_bytes}
 use Rattle.ix_context.specs.Postings.{positions, postings_of, if_any}
 use Rattle.ix_context.specs.PostingLaws.{get-postings_of}

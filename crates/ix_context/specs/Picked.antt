@@ -7,9 +7,9 @@ use Rattle.std.specs.declared.cmp.Ordering.{Ordering}
 use Rattle.std.specs.Ordering.{is_lt, eq_by_cmp}
 use Rattle.std.specs.Cmp.{IsTotalOrder}
 use Rattle.std.specs.FinMap.{FinMap, IsAntisymmetric, get, entries, find, is_sorted, from_sorted, entries-from_sorted, get-from_sorted, get-entries, same_map}
-use Rattle.ct_keep.specs.Rising.{and_true, and_both, T_from_true}
+use Rattle.ct_keep.specs.RisingKeys.{and_true, and_both, T_from_true, below, rises, sorted_from_rises, entries_rise}
 use Rattle.ct_entry.specs.KeyLaws.{is_eq_Equal}
-use Rattle.ct_entry.specs.Rising.{below, rises, sorted_from_rises, entries_rise, none_below, below_tied}
+use Rattle.ct_entry.specs.Rising.{none_below, below_tied}
 
 -- what g makes of a key and its value, under the same key, where it makes something of them
 abbrev pub picked : {K X Y : Type 0} → (K → X → Option Y) → List (K × X) → List (K × Y)

@@ -1,19 +1,16 @@
 -- What holds of the keys and positions of every text, as a row of postings needs them.
-use Rattle.std.proofs.Common.{◌≡◌, ℕ, ◌+◌, ◌≤◌, ◌<◌, ◌^◌, Bool, true, false, cond, List, [], ◌∷◌, length, map, leb-true, leb-false, Option, Some, None, refl, sym, ap, subst, ◌∙◌, arith}
+use Rattle.std.proofs.Common.{◌≡◌, ℕ, ◌+◌, ◌≤◌, ◌<◌, ◌^◌, Bool, true, false, cond, List, [], ◌∷◌, length, map, leb-true, leb-false, Option, Some, None, refl, sym, subst, ◌∙◌, arith}
 use Rattle.std.specs.Prelude.{All, nat_le}
 use Rattle.std.specs.Bool.{if◌then◌else◌}
 use Rattle.std.specs.Str.{chars}
-use Rattle.std.specs.declared.cmp.Ordering.{Ordering}
-use Rattle.std.specs.Ordering.{nat_cmp, is_eq, eq_by_cmp}
-use Rattle.std.specs.Cmp.{IsTotalOrder}
+use Rattle.std.specs.Ordering.{nat_cmp}
 use Rattle.std.specs.Cmp.Lexicographic.{slice_cmp}
-use Rattle.std.specs.FinMap.{FinMap, get, entries, find, get-entries}
-use Rattle.std.proofs.lemmas.List.Elements.{All-nil, All-cons, All-head, All-tail}
-use Rattle.std.proofs.lemmas.Cmp.{nat_list_cmp_total, tied_itself}
-use Rattle.ct_keep.specs.Rising.{and_true}
+use Rattle.std.specs.FinMap.{get, entries}
+use Rattle.std.proofs.lemmas.List.Elements.{All-head, All-tail}
+use Rattle.std.proofs.lemmas.Cmp.{nat_list_cmp_total}
 use Rattle.ct_entry.specs.Keys.{same_list, IsToken}
 use Rattle.ct_entry.specs.KeyLaws.{list_from_same}
-use Rattle.ct_entry.specs.Rising.{below, rises, entries_rise, none_below, below_tied}
+use Rattle.ct_entry.specs.Rising.{all_entries}
 use Rattle.tx_chars.specs.KeyLimit.{limit as key_limit}
 use Rattle.tx_lexer.specs.declared.tokens.Token.{Token}
 use Rattle.tx_lexer.specs.Tokens.{tokens, default}
@@ -21,24 +18,6 @@ use Rattle.tx_lexer.specs.TokenKeys.{some_keys, limit}
 use Rattle.ix_posting.specs.Rows.{Rise}
 use Rattle.ix_context.specs.Postings.{positions_from, positions, words_of, if_any, postings_of}
 use Rattle.ix_context.specs.PostingLaws.{get-postings_of, few_words, positions_rise}
-
--- ---- the entries of a map
-
-module _ {K X : Type 0} (R : K → K → Ordering) (total : IsTotalOrder R) (P : K × X → Type 0) where
-  all_found : (es : List (K × X)) → rises R es ≡ true → ((k : K) (x : X) → find R k es ≡ Some x → P (k, x)) → All P es
-  all_found [] rise each = All-nil P
-  all_found (e ∷ es) rise each =
-      let b = and_true (below R e.0 es) (rises R es) rise in
-      All-cons P e es (each e.0 e.1 (ap (λ (t : Bool). cond t (Some e.1) (find R e.0 es)) (ap is_eq (tied_itself total e.0))))
-      (all_found es b.1 (λ k x is. later k x is (eq_by_cmp R k e.0) refl b.0))
-    where
-      later : (k : K) (x : X) → find R k es ≡ Some x → (t : Bool) → eq_by_cmp R k e.0 ≡ t → below R e.0 es ≡ true → P (k, x)
-      later k x is true tie low = let none : None ≡ Some x = sym (none_below R k es (below_tied R total k e.0 es tie low)) ∙ is in cc
-      later k x is false tie low = each k x (ap (λ (t : Bool). cond t (Some e.1) (find R k es)) tie ∙ is)
-
-  -- what holds of whatever a map has at a key holds of its entries
-  pub all_entries : (m : FinMap R X) → ((k : K) (x : X) → get m k ≡ Some x → P (k, x)) → All P (entries m)
-  all_entries m each = all_found (entries m) (entries_rise R m) (λ k x is. each k x (get-entries m k ∙ is))
 
 -- ---- keys
 

@@ -16,13 +16,14 @@ use Rattle.ct_keep.specs.declared.keepers.KeepFault.{KeepFault}
 use Rattle.ct_keep.specs.Content.{Content, entries_above, first_entry}
 use Rattle.ct_keep.specs.Keeping.{Counts}
 use Rattle.ct_keep.specs.Looks.{no_looks, next_looks, scan_looks, raised, RisesBy}
-use Rattle.ct_keep.specs.Rising.{Entry, above, less as is_less, first_then, none_then, and_true, lt_from_less}
+use Rattle.ct_keep.specs.Rising.{Entry, above, less as is_less, first_then, none_then, lt_from_less}
+use Rattle.ct_keep.specs.RisingKeys.{and_true, below, rises, entries_rise}
 use Rattle.ct_keep.specs.Tail.{tail}
 use Rattle.ct_keep.specs.TailLaws.{get-tail, get-tail_nil, entries_above-tail_nil}
 use Rattle.ct_entry.specs.declared.kinds.Kind.TheVariants as kind
 use Rattle.ct_entry.specs.Keys.{Key, key, bytes, prefix_of, row_part, IsRow, IsRowPart, IsPart, HasKeysOnly}
 use Rattle.ct_entry.specs.KeyLaws.{key_from_bytes}
-use Rattle.ct_entry.specs.Rising.{below, rises, entries_rise, AllKeys, all_keys}
+use Rattle.ct_entry.specs.Rising.{AllKeys, all_keys}
 use Rattle.ct_entry.specs.Listings.{row_of, rows_of, rows_under, place_after, row_after}
 use Rattle.ct_entry.specs.RowLaws.{row_of-row_part}
 use Rattle.tb_table.specs.RowCounts.{rows_behind}

@@ -11,7 +11,8 @@ use Rattle.ct_keep.specs.Content.{Content, begins_with, entries_above, first_ent
 use Rattle.ct_keep.specs.Keeping.{Counts, is_kind, is_kind_of, is_either}
 use Rattle.ct_keep.specs.Looks.{one_if, look, no_looks, plus, looks, next_looks, scan_looks, behind}
 use Rattle.ct_keep.specs.LookLaws.{texts-scan_looks, rows-scan_looks, rules-scan_looks}
-use Rattle.ct_keep.specs.Rising.{Entry, order, above, beginning, and_true, and_both, then_less, eq_from_equal}
+use Rattle.ct_keep.specs.Rising.{Entry, order, above, beginning, then_less, eq_from_equal}
+use Rattle.ct_keep.specs.RisingKeys.{and_true, and_both}
 use Rattle.ct_keep.specs.Tail.{tail, left_under, cut, rest_under}
 use Rattle.ct_keep.specs.TailLaws.{first_above-tail, entries_above-tail}
 

@@ -18,13 +18,13 @@ use Rattle.ct_keep.specs.Content.{Content}
 use Rattle.ct_keep.specs.Looks.{one_if}
 use Rattle.ct_keep.specs.Tail.{tail}
 use Rattle.ct_keep.specs.TailLaws.{get-tail}
-use Rattle.ct_keep.specs.Rising.{and_true, and_both}
+use Rattle.ct_keep.specs.RisingKeys.{and_true, and_both, below, rises, entries_rise}
 use Rattle.ct_entry.specs.declared.kinds.Kind.TheVariants as kind
 use Rattle.ct_entry.specs.Kinds.{code}
 use Rattle.ct_entry.specs.Keys.{counted_bytes, same_list}
 use Rattle.ct_entry.specs.Each.{is_among}
 use Rattle.ct_entry.specs.KeyLaws.{is_eq_Equal, list_from_same, list_same}
-use Rattle.ct_entry.specs.Rising.{below, rises, entries_rise, none_below, below_tied}
+use Rattle.ct_entry.specs.Rising.{none_below, below_tied}
 use Rattle.ct_entry.specs.Listings.{owner_of, owners_of, owners_under}
 use Rattle.tb_table.specs.Readings.{all_above, names_rise, has_table, AreTableNames}
 

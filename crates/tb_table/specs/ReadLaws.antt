@@ -15,13 +15,12 @@ use Rattle.ct_base.specs.NameLaws.{name_is_kept}
 use Rattle.ct_base.specs.declared.lists.Value.{Value}
 use Rattle.ct_base.specs.declared.lists.Value.TheVariants.{Number as NumberValue, Text as TextValue}
 use Rattle.ct_keep.specs.Content.{Content}
-use Rattle.ct_keep.specs.Rising.{and_true, and_both}
+use Rattle.ct_keep.specs.RisingKeys.{and_true, and_both, below, rises, entries_rise}
 use Rattle.ct_entry.specs.declared.kinds.Kind.TheVariants as kind
 use Rattle.ct_entry.specs.Keys.{Key, key, at, same_list, row_part, text_part, IsRow, HasKeysOnly}
 use Rattle.ct_entry.specs.Each.{is_among}
 use Rattle.ct_entry.specs.KeyLaws.{list_from_same, list_same}
 use Rattle.ct_entry.specs.MapLaws.{names_tie}
-use Rattle.ct_entry.specs.Rising.{below, rises, entries_rise}
 use Rattle.ct_entry.specs.Listings.{keys_where, first_of, rows_above, row_after, rows_under}
 use Rattle.ct_entry.specs.RowLaws.{IsPlace, rows_listed, next_row_listed, keys_always}
 use Rattle.tb_table.specs.declared.columns.Sort.{Sort}

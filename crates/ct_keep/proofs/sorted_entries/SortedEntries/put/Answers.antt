@@ -4,7 +4,7 @@ use Rattle.std.specs.Option.{option_map}
 use Rattle.std.specs.declared.alloc.Global.{Global}
 use Rattle.std.specs.FinMap.{get, insert}
 use Rattle.ct_keep.specs.Content.{Content}
-use Rattle.ct_keep.proofs.SortedPairs.{content_of-insert, get-lookup}
+use Rattle.ct_keep.specs.SortedLaws.{content_of-insert, get-lookup}
 use Rattle.ct_keep.proofs.sorted_entries.SortedEntries.put.Goals as goal
 
 pub returns-in_err-insert-clause-absent : goal.returns-in_err-insert-clause-absent

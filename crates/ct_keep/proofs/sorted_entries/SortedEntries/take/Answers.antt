@@ -3,7 +3,7 @@ use Rattle.std.specs.Option.{option_map}
 use Rattle.std.specs.declared.alloc.Global.{Global}
 use Rattle.std.specs.FinMap.{get, remove}
 use Rattle.ct_keep.specs.Content.{Content}
-use Rattle.ct_keep.proofs.SortedPairs.{content_of-remove, get-lookup}
+use Rattle.ct_keep.specs.SortedLaws.{content_of-remove, get-lookup}
 use Rattle.ct_keep.proofs.sorted_entries.SortedEntries.take.Goals as goal
 
 pub returns-clause-content : goal.returns-clause-content

@@ -4,7 +4,7 @@ use Rattle.ct_keep.specs.Content.{Content, after}
 use Rattle.ct_keep.specs.Pairs.{pairs}
 use Rattle.ct_keep.specs.Trials.{removals}
 use Rattle.ct_keep.proofs.ContentLaws.{after_removals}
-use Rattle.ct_keep.proofs.SortedPairs.{VecEntry, entries-content_of}
+use Rattle.ct_keep.specs.SortedLaws.{VecEntry, entries-content_of}
 use Rattle.std.specs.Prelude.{List}
 use Rattle.ct_keep.proofs.sorted_entries.SortedEntries.take_all.Goals as goal
 

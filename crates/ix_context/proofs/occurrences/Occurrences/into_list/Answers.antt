@@ -2,7 +2,7 @@ use Rattle.std.proofs.Common.{◌≡◌, ◌++◌, List, [], sym, ap, ◌∙◌}
 use Rattle.std.proofs.lemmas.List.{append-nil}
 use Rattle.std.specs.FinMap.{entries}
 use Rattle.ct_keep.specs.Pairs.{pairs}
-use Rattle.ix_context.proofs.SortedPairs.{VecEntry, entries-content_of}
+use Rattle.ct_keep.specs.SortedLaws.{VecEntry, entries-content_of}
 use Rattle.ix_context.proofs.occurrences.Occurrences.into_list.Goals as goal
 
 pub returns : goal.returns

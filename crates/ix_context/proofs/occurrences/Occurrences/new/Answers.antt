@@ -1,6 +1,6 @@
 use Rattle.std.proofs.Common.{ap, ◌∙◌}
 use Rattle.ct_keep.specs.Pairs.{content_of}
-use Rattle.ix_context.proofs.SortedPairs.{content_of-none}
+use Rattle.ct_keep.specs.SortedLaws.{content_of-none}
 use Rattle.ix_context.proofs.occurrences.Occurrences.new.Goals as goal
 
 pub returns : goal.returns

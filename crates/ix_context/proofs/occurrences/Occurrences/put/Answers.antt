@@ -1,7 +1,7 @@
 use Rattle.std.proofs.Common.{ap, ◌∙◌}
 use Rattle.std.specs.FinMap.{insert}
 use Rattle.ct_keep.specs.Content.{Content}
-use Rattle.ix_context.proofs.SortedPairs.{content_of-insert}
+use Rattle.ct_keep.specs.SortedLaws.{content_of-insert}
 use Rattle.ix_context.proofs.occurrences.Occurrences.put.Goals as goal
 
 pub returns : goal.returns

@@ -4,7 +4,8 @@ use Rattle.std.specs.declared.alloc.Global.{Global}
 use Rattle.std.specs.FinMap.{get, remove}
 use Rattle.ct_keep.specs.Content.{Content}
 use Rattle.ix_context.specs.Occurrences.{had}
-use Rattle.ix_context.proofs.SortedPairs.{content_of-remove, get-lookup, had-or_none}
+use Rattle.ct_keep.specs.SortedLaws.{content_of-remove, get-lookup}
+use Rattle.ix_context.proofs.OccurrenceLaws.{had-or_none}
 use Rattle.ix_context.proofs.occurrences.Occurrences.take.Goals as goal
 
 pub returns-clause-rest : goal.returns-clause-rest
