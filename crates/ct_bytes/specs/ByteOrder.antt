@@ -47,14 +47,6 @@ slice_cmp_parts (x ∷ xs) [] r s l = absurd (omega arith)
 slice_cmp_parts (x ∷ xs) (y ∷ ys) r s l =
     ap (ordering_then (nat_cmp x y)) (slice_cmp_parts xs ys r s (omega arith)) ∙ sym (assoc_then (nat_cmp x y) (slice_cmp nat_cmp xs ys) (slice_cmp nat_cmp r s))
 
-pub slice_cmp_same : (xs : List ℕ) → slice_cmp nat_cmp xs xs ≡ Equal
-slice_cmp_same [] = refl
-slice_cmp_same (x ∷ xs) = ap (λ (o : Ordering). ordering_then o (slice_cmp nat_cmp xs xs)) (nat_cmp_equal x x refl) ∙ slice_cmp_same xs
-
--- behind a common front
-pub slice_cmp_front : (front xs ys : List ℕ) → slice_cmp nat_cmp (front ++ xs) (front ++ ys) ≡ slice_cmp nat_cmp xs ys
-slice_cmp_front front xs ys = slice_cmp_parts front front xs ys refl ∙ ap (λ (o : Ordering). ordering_then o (slice_cmp nat_cmp xs ys)) (slice_cmp_same front)
-
 -- ---- the bytes of numbers, the highest first
 
 -- a number as cells of 8 bits, of which `more` stand behind the first; the first is left whole

@@ -1,14 +1,12 @@
 -- What holds of the bytes of every row key.
-use Rattle.std.proofs.Common.{◌≡◌, ℕ, ℤ, pos, negsuc, ◌<◌, ◌+◌, ◌-◌, ◌^◌, List, ◌++◌, length, take, drop, refl, sym, ap, inl, inr, ◌∙◌, arith, append_assoc, FitsSigned}
-use Rattle.std.specs.declared.cmp.Ordering.{Ordering}
-use Rattle.std.specs.Ordering.{nat_cmp, int_cmp, ordering_then}
+use Rattle.std.proofs.Common.{◌≡◌, ℕ, ℤ, pos, negsuc, ◌<◌, ◌+◌, ◌-◌, ◌^◌, List, ◌++◌, length, refl, sym, ap, inl, inr, ◌∙◌, arith, FitsSigned}
+use Rattle.std.specs.Ordering.{nat_cmp, int_cmp}
 use Rattle.std.specs.Cmp.Lexicographic.{slice_cmp}
 use Rattle.std.specs.Int.{from_be_bytes, w64}
 use Rattle.std.proofs.lemmas.Bool.{cases_order, lt-ltb, le-ltb}
 use Rattle.std.proofs.lemmas.Nat.{from_be_bytes-to_be_bytes_8}
-use Rattle.std.proofs.lemmas.List.{take_at, drop_at}
 use Rattle.ct_bytes.specs.RowKeys.{raised, row_bytes}
-use Rattle.ct_bytes.specs.ByteOrder.{nat_cmp_less, nat_cmp_equal, nat_cmp_greater, compare_alike, slice_cmp_parts, eight_bytes_in_order}
+use Rattle.ct_bytes.specs.ByteOrder.{nat_cmp_less, nat_cmp_equal, nat_cmp_greater, compare_alike, eight_bytes_in_order}
 use Rattle.ct_bytes.specs.VarintLaws.{same_fronts}
 
 -- ---- the laws, for keys of 64 bits
@@ -63,19 +61,7 @@ pub row_bytes_in_order : BytesAreInKeyOrder
 unfolding row_bytes
 row_bytes_in_order a b f g = eight_bytes_in_order (raised a) (raised b) (raised_fits a f) (raised_fits b g) ∙ raised_in_order a b f g
 
--- the same where other bytes follow
-pub row_bytes_then : (a b : ℤ) (r s : List ℕ) → FitsSigned w64 a → FitsSigned w64 b → slice_cmp nat_cmp (row_bytes a ++ r) (row_bytes b ++ s) ≡ ordering_then (int_cmp a b) (slice_cmp nat_cmp r s)
-row_bytes_then a b r s f g =
-    slice_cmp_parts (row_bytes a) (row_bytes b) r s (length-row_bytes a ∙ sym (length-row_bytes b)) ∙
-    ap (λ (o : Ordering). ordering_then o (slice_cmp nat_cmp r s)) (row_bytes_in_order a b f g)
-
 pub row_bytes_apart : (a b : ℤ) (r s : List ℕ) → FitsSigned w64 a → FitsSigned w64 b → row_bytes a ++ r ≡ row_bytes b ++ s → (a ≡ b) × (r ≡ s)
 row_bytes_apart a b r s f g e =
     let parts = same_fronts (row_bytes a) (row_bytes b) r s (length-row_bytes a ∙ sym (length-row_bytes b)) e in
     (row_bytes_one a b f g parts.0, parts.1)
-
--- a key's bytes among others
-pub row_bytes_placed : (front rest : List ℕ) (z : ℤ) → take 8 (drop (length front) (front ++ row_bytes z ++ rest)) ≡ row_bytes z
-row_bytes_placed front rest z =
-    ap (λ x. take 8 (drop (length front) x)) (append_assoc front (row_bytes z) rest) ∙
-    ap (take 8) (drop_at front (row_bytes z ++ rest) (length front) refl) ∙ take_at (row_bytes z) rest 8 (length-row_bytes z)

@@ -1,11 +1,10 @@
 -- What a key has after words for each of several things.
 use Rattle.std.proofs.Common.{◌≡◌, ℕ, Bool, true, false, cond, List, [], ◌∷◌, ◌++◌, Option, map, refl, sym, ap, ◌∙◌, append_assoc}
-use Rattle.std.specs.Prelude.{◌&&◌, ◌||◌}
+use Rattle.std.specs.Prelude.{◌||◌}
 use Rattle.std.specs.List.{list_any}
-use Rattle.ct_entry.specs.Keys.{Key, same_list}
+use Rattle.ct_entry.specs.Keys.{Key}
 use Rattle.ct_entry.specs.Words.{told, AreWords, AllOf}
-use Rattle.ct_entry.specs.Each.{each, latest, is_among}
-use Rattle.ct_entry.specs.KeyLaws.{list_from_same}
+use Rattle.ct_entry.specs.Each.{each, latest}
 use Rattle.ct_entry.specs.WordLaws.{told-append, are-append, all-append}
 use Rattle.ct_entry.specs.declared.kinds.Kind.{Kind}
 
@@ -50,27 +49,6 @@ module _ {I : Type 0} where
   pub all_each : (p : Kind → Bool) (words : I → List (Key × Option (List ℕ))) → ((i : I) → AllOf p (words i)) → (is : List I) → AllOf p (each words is)
   all_each p words one [] = tt
   all_each p words one (i ∷ is) = all-append p (words i) (each words is) (one i) (all_each p words one is)
-
--- words for each of several owners, which hit the keys of an owner where a test of the owner holds
-pub told_owners : (words : List ℕ → List (Key × Option (List ℕ))) (k : Key) (test : List ℕ → Bool) (v : Option (List ℕ)) → ((j : List ℕ) (old : Option (List ℕ)) → told (words j) k old ≡ cond (same_list k.owner j && test j) v old)
-    → (names : List (List ℕ)) (old : Option (List ℕ)) → told (each words names) k old ≡ cond (is_among k.owner names && test k.owner) v old
-told_owners words k test v one names old = told_each words k (λ j. same_list k.owner j && test j) v one names old ∙ ap (λ (b : Bool). cond b v old) (hits names)
-  where
-    go : (a b t u : Bool) → (a ≡ true → t ≡ u) → ((a && t) || (b && u)) ≡ ((a || b) && u)
-    go true true true true h = refl
-    go true false true true h = refl
-    go true true false false h = refl
-    go true false false false h = refl
-    go true b true false h = let e = h refl in cc
-    go true b false true h = let e = h refl in cc
-    go false true t u h = refl
-    go false false t u h = refl
-
-    hits : (names : List (List ℕ)) → list_any (λ j. same_list k.owner j && test j) names ≡ (is_among k.owner names && test k.owner)
-    hits [] = refl
-    hits (j ∷ js) =
-        ap (λ (b : Bool). (same_list k.owner j && test j) || b) (hits js)
-        ∙ go (same_list k.owner j) (is_among k.owner js) (test j) (test k.owner) (λ h. ap test (sym (list_from_same k.owner j h)))
 
 -- one word for each
 pub map-each : {I : Type 0} (word : I → Key × Option (List ℕ)) (is : List I) → map word is ≡ each (λ i. word i ∷ []) is

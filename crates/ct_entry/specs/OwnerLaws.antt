@@ -1,29 +1,27 @@
 -- What owners a scan finds.
-use Rattle.std.proofs.Common.{◌≡◌, ℕ, Bool, true, cond, List, [], ◌∷◌, ◌++◌, length, Option, Some, None, refl, sym, ap, subst, ◌∙◌, append-nil}
-use Rattle.std.specs.Prelude.{◌||◌, is_some}
+use Rattle.std.proofs.Common.{◌≡◌, ℕ, Bool, true, false, cond, List, [], ◌∷◌, ◌++◌, length, Option, Some, None, refl, sym, ap, subst, ◌∙◌, append-nil}
+use Rattle.std.specs.Prelude.{◌==◌}
 use Rattle.std.specs.Option.{option_map, option_and_then}
-use Rattle.std.specs.List.{list_any, cons_option}
+use Rattle.std.specs.List.{cons_option}
 use Rattle.std.specs.Ordering.{nat_cmp, is_eq, eq_by_cmp}
 use Rattle.std.specs.Cmp.{IsTotalOrder}
-use Rattle.std.proofs.lemmas.Bool.{eq-eqb}
+use Rattle.std.proofs.lemmas.Bool.{eqb-true, eq-eqb}
 use Rattle.std.proofs.lemmas.Cmp.{nat_list_cmp_total, on_total, tied_itself}
 use Rattle.std.proofs.lemmas.Map.Lookups.{exact_bytes}
 use Rattle.std.specs.Cmp.Lexicographic.{slice_cmp}
 use Rattle.std.specs.FinMap.{FinMap, get, entries, from_entries, find, get-entries, get-from_entries}
-use Rattle.ct_base.specs.Names.{IsName}
-use Rattle.ct_base.specs.NameLaws.{kept_name-name}
+use Rattle.ct_base.specs.Names.{IsName, is_kept}
+use Rattle.ct_base.specs.NameLaws.{kept_is_name, kept_name-name}
 use Rattle.ct_keep.specs.Content.{Content}
 use Rattle.ct_entry.specs.declared.kinds.Kind.{Kind}
 use Rattle.ct_entry.specs.Kinds.{code}
 use Rattle.ct_entry.specs.Keys.{Key, key, bytes, at, counted_bytes, same_list, IsPart, IsKey, HasKeysOnly}
-use Rattle.ct_entry.specs.Each.{is_among}
 use Rattle.ct_entry.specs.Maps.{Names}
 use Rattle.ct_entry.specs.KeyLaws.{agree, is_eq_Equal, kind_from_code, list_from_same, list_same}
 use Rattle.ct_entry.specs.MapLaws.{names_tie}
 use Rattle.ct_entry.specs.Rising.{AllKeys, all_keys}
 use Rattle.ct_entry.specs.Listings.{listed, keys_where, owner_of, owners_of, owners_under, key_order}
 use Rattle.ct_entry.specs.ListingLaws.{Spells, tail_listed}
-use Rattle.ct_entry.specs.RowLaws.{has_key}
 
 pub key_order_total : IsTotalOrder key_order
 key_order_total = on_total counted_bytes nat_list_cmp_total
@@ -57,6 +55,19 @@ get-in_key_order {X} m q = get-from_entries key_order_total (entries m) q ∙ al
 -- the name is read back
 pub owner_of-counted_bytes : (name : List ℕ) → IsName name → owner_of (counted_bytes name) ≡ Some name
 owner_of-counted_bytes name is = rw (eq-eqb (length name) (length name) refl) (kept_name-name name is)
+
+-- what is read is a name, and the rest spells it
+pub owner_some : (q u : List ℕ) → owner_of q ≡ Some u → (q ≡ counted_bytes u) × IsName u
+owner_some [] u e = cc
+owner_some (n ∷ t) u e = go (length t == n) refl (is_kept t) refl e
+  where
+    go : (b : Bool) → (length t == n) ≡ b → (k : Bool) → is_kept t ≡ k → cond b (cond k (Some t) None) None ≡ Some u → (n ∷ t ≡ counted_bytes u) × IsName u
+    go true h true kept e =
+        let long : length t ≡ n = eqb-true (length t) n h in
+        let same : t ≡ u = cc in
+        (ap (λ (l : ℕ). l ∷ t) (sym long) ∙ ap counted_bytes same, subst IsName same (kept_is_name t kept))
+    go true h false kept e = cc
+    go false h k kept e = cc
 
 owners_of-listed : {X : Type 0} (g : X → Option (List ℕ)) (es : List (List ℕ × X)) → AllKeys key_order IsName es → owners_of (listed counted_bytes g es) ≡ keys_where g es
 owners_of-listed g [] all = refl
@@ -92,17 +103,3 @@ owners_listed {X} g c kind G only bare has each =
         let e = parts (code kind) (code k.0.kind) q (length k.0.owner ∷ (k.0.owner ++ k.0.part)) k.1 in
         let part : k.0.part ≡ [] = bare k.0.part (subst (λ (j : Kind). IsPart j k.0.part) (sym (kind_from_code kind k.0.kind e.0)) k.2.part) in
         (k.0.owner, k.2.owner, e.1 ∙ ap (λ (l : List ℕ). length k.0.owner ∷ l) (ap (λ (l : List ℕ). k.0.owner ++ l) part ∙ append-nil k.0.owner))
-
--- a name is among them exactly where the map has a value for it
-pub owner_listed : {X : Type 0} (g : X → Option (List ℕ)) (c : Content) (kind : Kind) (G : Names X)
-    → HasKeysOnly c → HasNoPart kind → ((t : List ℕ) (x : X) → get G t ≡ Some x → IsName t) → ((t : List ℕ) → IsName t → at c (key kind t []) ≡ option_and_then g (get G t))
-    → (t : List ℕ) → is_among t (owners_under kind c) ≡ is_some (option_and_then g (get G t))
-owner_listed {X} g c kind G only bare has each t =
-    ap (is_among t) (owners_listed g c kind G only bare has each)
-    ∙ alike (keys_where g (entries (in_key_order G)))
-    ∙ has_key key_order key_order_total g (in_key_order G) t
-    ∙ ap (λ (o : Option X). is_some (option_and_then g o)) (get-in_key_order G t)
-  where
-    alike : (names : List (List ℕ)) → is_among t names ≡ list_any (eq_by_cmp key_order t) names
-    alike [] = refl
-    alike (j ∷ js) = ap (λ (b : Bool). b || is_among t js) (sym (key_order_tie t j)) ∙ ap (λ (b : Bool). eq_by_cmp key_order t j || b) (alike js)

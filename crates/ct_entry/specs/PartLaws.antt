@@ -30,9 +30,6 @@ heads a b xs ys e = (cc, cc)
 pub counted_apart : (a b x y : List ℕ) → length a ∷ (a ++ x) ≡ length b ∷ (b ++ y) → (a ≡ b) × (x ≡ y)
 counted_apart a b x y e = let h = heads (length a) (length b) (a ++ x) (b ++ y) e in split_same a b x y h.0 h.1
 
-pub text_part_apart : (c d : ℕ) (r s : ℤ) → IsRow r → IsRow s → text_part c r ≡ text_part d s → (c ≡ d) × (r ≡ s)
-text_part_apart c d r s f g e = let h = heads c d (row_bytes r) (row_bytes s) e in (h.0, row_bytes_one r s f g h.1)
-
 pub document_part_apart : (d e : ℕ) → IsDocument d → IsDocument e → document_part d ≡ document_part e → d ≡ e
 document_part_apart d e f g is = four_bytes_one d e f g is
 

@@ -17,10 +17,8 @@ use Rattle.ct_bytes.specs.RowKeyLaws.{length-row_bytes, row_bytes_in_order}
 use Rattle.ct_keep.specs.Content.{Content, first_entry}
 use Rattle.ct_keep.specs.TailLaws.{entries_above-tail_nil}
 use Rattle.ct_entry.specs.declared.kinds.Kind.{Kind}
-use Rattle.ct_entry.specs.declared.kinds.Kind.TheVariants.{RowTexts}
-use Rattle.ct_entry.specs.Keys.{key, at, prefix_of, IsPart, HasKeysOnly, row_part, IsRow}
+use Rattle.ct_entry.specs.Keys.{key, at, prefix_of, HasKeysOnly, row_part, IsRow}
 use Rattle.ct_keep.specs.RisingKeys.{and_true, and_both, below, rises, entries_rise}
-use Rattle.ct_entry.specs.PartLaws.{heads}
 use Rattle.ct_entry.specs.Rising.{no_tie, none_below, below_tied, AllKeys, all_keys}
 use Rattle.ct_entry.specs.Listings.{listed, keys_where, lowered, row_of, rows_of, rows_under, first_of, rows_above, row_after}
 use Rattle.ct_entry.specs.ListingLaws.{Spells, HasPartsOnly, family_listed}
@@ -136,10 +134,6 @@ next_row_listed g c kind owner G only form has each None place =
 next_row_listed g c kind owner G only form has each (Some r) place =
     ap (λ es. option_and_then (λ e. row_of e.0) (first_entry (filter (λ e. is_lt (slice_cmp nat_cmp (row_part r) e.0)) es))) (family_listed int_cmp row_part IsRow row_spells g c kind owner G only form has each)
     ∙ next_listed g r place (entries G) (all_keys int_cmp int_cmp_total IsRow G has)
-
--- behind a column stands a row
-pub text_front : (column : ℕ) (q : List ℕ) → IsPart RowTexts (column ∷ q) → (r : ℤ) × IsRow r × (q ≡ row_part r)
-text_front column q is = (is.1.0, is.1.2, (heads column is.0 q (row_part is.1.0) is.1.3).1)
 
 -- ---- keys in order
 

@@ -131,8 +131,8 @@ pub fn next_row_key<K: Keeper>(
     }
 }
 
-/// The name that a rest spells: its length in one byte, and its bytes; None where it doesn't.
-fn owner_in(alloc: Global, rest: &[u8]) -> Result<Option<Name>, Memory>
+/// The name that the rest of an entry spells: its length in one byte, and its bytes; None where it spells none.
+pub fn owner_in(alloc: Global, rest: &[u8]) -> Result<Option<Name>, Memory>
     ensures { IfOk result (λ name. name ≡ owner_of rest.now) }
 {
     let Some((length, name)) = rest.split_first() else {

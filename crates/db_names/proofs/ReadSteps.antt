@@ -11,7 +11,7 @@ use Rattle.ct_bytes.specs.Varints.{varint, text_bytes, IsTextAt}
 use Rattle.ct_bytes.specs.VarintLaws.{text_placed, text_apart}
 use Rattle.ct_entry.specs.Keys.{counted_bytes}
 use Rattle.ct_entry.specs.Listings.{owner_of}
-use Rattle.ct_entry.specs.OwnerLaws.{owner_of-counted_bytes}
+use Rattle.ct_entry.specs.OwnerLaws.{owner_of-counted_bytes, owner_some}
 use Rattle.tb_table.specs.declared.columns.Target.{Target}
 use Rattle.db_names.specs.declared.heads.IndexKind.{IndexKind}
 use Rattle.db_names.specs.declared.heads.IndexHead.{IndexHead}
@@ -127,17 +127,6 @@ last_else value code text column kind target r has decides is = (
 )
 
 -- ---- the names in keys
-
-owner_some : (q u : List ℕ) → owner_of q ≡ Some u → (q ≡ counted_bytes u) × IsName u
-owner_some [] u e = cc
-owner_some (n ∷ t) u e = go (length t == n) refl e
-  where
-    go : (b : Bool) → (length t == n) ≡ b → cond b (kept_name t) None ≡ Some u → (n ∷ t ≡ counted_bytes u) × IsName u
-    go true h e =
-        let k = kept_some t u e in
-        let long : length t ≡ n = eqb-true (length t) n h in
-        (ap (λ (l : ℕ). l ∷ t) (sym long) ∙ ap counted_bytes k.0, subst IsName k.0 k.1)
-    go false h e = cc
 
 -- no name is spelt where none is read
 no_owner : (q u : List ℕ) → owner_of q ≡ None → IsName u → q ≡ counted_bytes u → ⊥

@@ -1,7 +1,6 @@
 //! Heads of indexes from the keys and the values of entries.
 
 ghost use Rattle.std.specs.Prelude.{◌≡◌, ◌↔◌, ℕ, List, IfOk, IfSome, IfNone, IsTrue, Some};
-ghost use Rattle.ct_entry.specs.Listings.{owner_of};
 ghost use Rattle.db_names.specs.declared.heads.IndexKind.{IndexKind as Kind};
 ghost use Rattle.db_names.specs.Heads.{index_code, SpellsHead};
 ghost use Rattle.db_names.specs.Parts.{HasParts, NameOn, PairOf};
@@ -9,6 +8,7 @@ ghost use Rattle.db_names.specs.Parts.{HasParts, NameOn, PairOf};
 use crate::heads::{IndexHead, IndexKind};
 use ct_base::{Memory, Name};
 use ct_bytes::read_text;
+use ct_entry::owner_in;
 use std::alloc::Global;
 use tb_table::Target;
 
@@ -64,19 +64,6 @@ fn is_on(value: &[u8], target: &Target, kind: IndexKind) -> bool
     code == kind.code() && table == wanted.as_bytes() && column == target.column
 }
 
-/// The name that a rest spells: its length in one byte, and its bytes; None where it doesn't.
-fn name_in(alloc: Global, rest: &[u8]) -> Result<Option<Name>, Memory>
-    ensures { IfOk result (λ name. name ≡ owner_of rest.now) }
-{
-    let Some((length, name)) = rest.split_first() else {
-        return Ok(None);
-    };
-    if name.len() != usize::from(*length) {
-        return Ok(None);
-    }
-    Name::of_bytes(alloc, name)
-}
-
 /// The name of the index that an entry is of, where it is of this kind and on this target.
 pub(crate) fn name_on(
     alloc: Global,
@@ -88,7 +75,7 @@ pub(crate) fn name_on(
     ensures { IfOk result (λ found. NameOn (record { kind = kind; target = target.now }) (rest.now, value.now) found) }
 {
     if is_on(value, target, kind) {
-        name_in(alloc, rest)
+        owner_in(alloc, rest)
     } else {
         Ok(None)
     }
@@ -110,7 +97,7 @@ pub(crate) fn pair_of(
 ) -> Result<Option<(Name, IndexHead)>, Memory>
     ensures { IfOk result (λ found. PairOf table.now (rest.now, value.now) found) }
 {
-    let Some(index) = name_in(alloc, rest)? else {
+    let Some(index) = owner_in(alloc, rest)? else {
         return Ok(None);
     };
     let Some(head) = read_head(alloc, value)? else {

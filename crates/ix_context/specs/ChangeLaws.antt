@@ -170,9 +170,6 @@ all_document i d r text = (refl, (refl, of_text text))
     of_text None = tt
     of_text (Some t) = of_entries (entries (postings_of t))
 
-pub all_settle : (ts : Tables) (i : List ℕ) (x : Index) (p : ℕ × ℤ) → AllOf is_of_marks (settle_words ts i x p)
-all_settle ts i x p = (refl, all_document i p.0 p.1 (text_seen ts x p.1))
-
 all_on_texts : (i : List ℕ) (d : ℕ) (text : Option (List ℕ)) → AllOn i (text_words i d text)
 all_on_texts i d None = tt
 all_on_texts i d (Some t) = go (entries (postings_of t))

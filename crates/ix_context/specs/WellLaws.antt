@@ -1,5 +1,5 @@
 -- The words of notes, synchronisations and new indexes are on keys of their kinds, and put what a keeper may hold.
-use Rattle.std.proofs.Common.{◌≡◌, ℕ, ℤ, ◌+◌, ◌*◌, ◌^◌, ◌<◌, ◌≤◌, Bool, true, false, List, [], ◌∷◌, ◌++◌, length, map, Option, Some, None, refl, arith, length-append}
+use Rattle.std.proofs.Common.{◌≡◌, ℕ, ℤ, ◌+◌, ◌*◌, ◌^◌, ◌<◌, ◌≤◌, Bool, true, List, [], ◌∷◌, ◌++◌, length, map, Option, Some, None, refl, arith, length-append}
 use Rattle.std.specs.Prelude.{All, ◌-◌, not, is_some}
 use Rattle.std.specs.FinMap.{get, entries}
 use Rattle.std.proofs.lemmas.List.Elements.{All-head, All-tail}
@@ -13,24 +13,22 @@ use Rattle.ct_entry.specs.declared.kinds.Kind.{Kind}
 use Rattle.ct_entry.specs.declared.kinds.Kind.TheVariants as kind
 use Rattle.ct_entry.specs.Keys.{Key, key, bytes, IsRow, IsKey}
 use Rattle.ct_entry.specs.Maps.{Names}
-use Rattle.ct_entry.specs.Words.{put, spell, view, AreWords, AllOf, Puts, AllPut}
+use Rattle.ct_entry.specs.Words.{put, spell, AreWords, AllOf, Puts, AllPut}
 use Rattle.ct_entry.specs.Each.{each}
 use Rattle.ct_entry.specs.PartLaws.{is_short}
 use Rattle.ct_entry.specs.WellLaws.{IsWellAt, are_well}
 use Rattle.tb_table.specs.declared.columns.Target.{Target}
 use Rattle.tb_table.specs.Tables.{Tables}
-use Rattle.tb_table.specs.Spelling.{TablesStand}
 use Rattle.tb_table.specs.Rules.{AreTables}
-use Rattle.tb_table.specs.ChangeLaws.{is_of_tables, tables_frame}
 use Rattle.ix_posting.specs.Rows.{steps, varints, row_bytes as posting_bytes}
 use Rattle.ix_context.specs.declared.ranges.KeyRange.{KeyRange}
 use Rattle.ix_context.specs.Postings.{postings_of}
 use Rattle.ix_context.specs.TokenLaws.{IsPosting, postings_fit, postings_few}
 use Rattle.ix_context.specs.Indexes.{Index, is_marked, pending_rows, text_seen, synced_index, rows_in, created, target_text}
 use Rattle.ix_context.specs.Rules.{AreIndexes, most_given}
-use Rattle.ix_context.specs.Spelling.{IndexesStand, index_bytes, behind_table, index_entry}
+use Rattle.ix_context.specs.Spelling.{index_bytes, behind_table, index_entry}
 use Rattle.ix_context.specs.Changes.{note_insert_words, posting_word, text_words, document_words, mark_words, settle_words, numbered, sync_rows_words, sync_words, create_words}
-use Rattle.ix_context.specs.Standing.{is_of_indexes, indexes_frame}
+use Rattle.ix_context.specs.Standing.{is_of_indexes}
 use Rattle.ix_context.specs.MarkLaws.{EachRow}
 use Rattle.ix_context.specs.ChangeLaws.{pending_free, no_marks, rows_free}
 use Rattle.ix_context.specs.ReadLaws.{target_short, target_of}
@@ -212,25 +210,3 @@ well_sync well ts xs i x takes are rules is room = well_words well (sync_words t
 
 pub well_create : CreatesAreWell
 well_create well ts i target range takes are name table room = well_words well (create_words ts i target range) takes (index_words_create ts i target range are name table room)
-
--- ---- tables and indexes have no kind of entry in common
-
-apart : (k : Kind) → is_of_tables k ≡ true → is_of_indexes k ≡ false
-apart kind.Tables of = refl
-apart kind.RowNumbers of = refl
-apart kind.RowTexts of = refl
-apart k of = cc
-
-apart_too : (k : Kind) → is_of_indexes k ≡ true → is_of_tables k ≡ false
-apart_too kind.Tables of = cc
-apart_too kind.RowNumbers of = cc
-apart_too kind.RowTexts of = cc
-apart_too k of = refl
-
--- words on entries of indexes leave the tables
-pub tables_stay : (ws : List (Key × Option (List ℕ))) (f : Key → Option (List ℕ)) (ts : Tables) → AreIndexWords ws → TablesStand f ts → TablesStand (view ws f) ts
-tables_stay ws f ts are stand = tables_frame is_of_indexes ws f ts (all_of_indexes ws are) apart stand
-
--- and words on entries of tables leave the indexes
-pub indexes_stay : (ws : List (Key × Option (List ℕ))) (f : Key → Option (List ℕ)) (ts : Tables) (xs : Names Index) → AllOf is_of_tables ws → IndexesStand f ts xs → IndexesStand (view ws f) ts xs
-indexes_stay ws f ts xs all stand = indexes_frame is_of_tables ws f ts xs all apart_too stand

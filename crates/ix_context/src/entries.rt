@@ -33,7 +33,7 @@ fn index_value(alloc: Global, target: &Target, next_document: u32) -> Result<Vec
 }
 
 /// Adds the word that an index is on this target and gives this document next.
-pub fn put_index(
+pub(crate) fn put_index(
     alloc: Global,
     batch: &mut Batch,
     index: &Name,
@@ -78,7 +78,7 @@ fn index_of(alloc: Global, value: &[u8]) -> Result<Option<(Target, u32)>, Memory
 
 /// What an index is on, and the document that it gives next. None where there is no such index, or its entry isn't that of
 /// one. It never answers Full.
-pub fn read_index<K: Keeper>(
+pub(crate) fn read_index<K: Keeper>(
     alloc: Global,
     keeper: &mut K,
     index: &Name,

@@ -18,7 +18,6 @@ mod syncing;
 mod tests;
 
 pub use creating::create;
-pub use entries::{put_index, read_index};
 pub use faults::ContextFault;
 pub use hits::Hit;
 pub use inverting::postings;

@@ -1,13 +1,13 @@
 -- How the names that a scan finds become the names of all tables.
 use Rattle.std.proofs.Common.{◌≡◌, ℕ, suc, ◌+◌, ◌<◌, ◌≤◌, Bool, true, false, cond, List, [], ◌∷◌, length, get_or, Option, Some, None, refl, sym, ap, subst, ◌∙◌, arith, append-nil, zero-add, is_lt}
-use Rattle.std.specs.Prelude.{◌==◌, ◌&&◌, ◌||◌, is_some, sum_by, IsPermutation, IsSorted}
+use Rattle.std.specs.Prelude.{◌&&◌, ◌||◌, is_some, sum_by, IsPermutation, IsSorted}
 use Rattle.std.specs.List.{cons_option}
 use Rattle.std.specs.declared.cmp.Ordering.{Ordering}
 use Rattle.std.specs.declared.cmp.Ordering.TheVariants.{Less, Equal, Greater}
 use Rattle.std.specs.Ordering.{nat_cmp, is_eq, eq_by_cmp, ordering_reverse}
 use Rattle.std.specs.Cmp.Lexicographic.{slice_cmp}
 use Rattle.std.specs.FinMap.{entries, find, get, get-entries}
-use Rattle.std.proofs.lemmas.Bool.{eq-eqb, eqb-true}
+use Rattle.std.proofs.lemmas.Bool.{eq-eqb}
 use Rattle.std.proofs.lemmas.Cmp.{nat_list_cmp_total, tied_itself}
 use Rattle.std.proofs.lemmas.Map.Lookups.{exact_bytes}
 use Rattle.std.proofs.lemmas.List.MinMax.{ranks_by}
@@ -26,6 +26,7 @@ use Rattle.ct_entry.specs.Each.{is_among}
 use Rattle.ct_entry.specs.KeyLaws.{is_eq_Equal, list_from_same, list_same}
 use Rattle.ct_entry.specs.Rising.{none_below, below_tied}
 use Rattle.ct_entry.specs.Listings.{owner_of, owners_of, owners_under}
+use Rattle.ct_entry.specs.OwnerLaws.{owner_some}
 use Rattle.tb_table.specs.Readings.{all_above, names_rise, has_table, AreTableNames}
 
 abbrev order : List ℕ → List ℕ → Ordering
@@ -78,17 +79,6 @@ kept_not t = go (is_kept t)
     go true e = cc
     go false e = refl
 
-owner_some : (q u : List ℕ) → owner_of q ≡ Some u → q ≡ counted_bytes u
-owner_some [] u e = cc
-owner_some (n ∷ t) u e = go (length t == n) refl e
-  where
-    go : (b : Bool) → (length t == n) ≡ b → cond b (kept_name t) None ≡ Some u → n ∷ t ≡ counted_bytes u
-    go true h e =
-        let k = kept_parts t u e in
-        let long : length t ≡ n = eqb-true (length t) n h in
-        ap (λ (l : ℕ). l ∷ t) (sym long) ∙ ap counted_bytes k.1
-    go false h e = cc
-
 nothing : (b : Bool) → one_if (b && false) ≡ 0
 nothing true = refl
 nothing false = refl
@@ -123,7 +113,7 @@ tally-owners t (e ∷ es) h =
         other : (b : Bool) → same_list t u ≡ b → tally t (u ∷ owners_of es) ≡ one_if (is_kept t && is_some (find order (counted_bytes t) es))
         other true one =
             let same : t ≡ u = list_from_same t u one in
-            let here : e.0 ≡ counted_bytes t = owner_some e.0 u is ∙ ap counted_bytes (sym same) in
+            let here : e.0 ≡ counted_bytes t = (owner_some e.0 u is).0 ∙ ap counted_bytes (sym same) in
             let tied : eq_by_cmp order (counted_bytes t) e.0 ≡ true = ap (eq_by_cmp order (counted_bytes t)) here ∙ ap is_eq (tied_itself nat_list_cmp_total (counted_bytes t)) in
             cc
         other false apart = tally-cons t u (owners_of es) ∙ ap (λ (b : Bool). one_if b + tally t (owners_of es)) apart ∙ zero-add (tally t (owners_of es)) ∙ rest

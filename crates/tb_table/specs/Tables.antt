@@ -2,7 +2,7 @@
 use Rattle.std.specs.Prelude.{ℕ, ℤ, zero, suc, List, [], ◌∷◌, map, Option, Some, None, pos, negsuc, ◌≡◌, codes, refl}
 use Rattle.std.specs.Ordering.{nat_cmp, int_cmp}
 use Rattle.std.specs.Cmp.Lexicographic.{slice_cmp}
-use Rattle.std.specs.FinMap.{FinMap, get, insert, remove, empty, entries, from_sorted, get-from_sorted, entries-from_sorted, get-insert}
+use Rattle.std.specs.FinMap.{FinMap, get, insert, empty, entries, from_sorted, get-from_sorted, entries-from_sorted, get-insert}
 use Rattle.ct_base.specs.declared.lists.Value.{Value}
 use Rattle.ct_base.specs.declared.lists.Value.TheVariants.{Number, Text}
 use Rattle.tb_table.specs.declared.columns.Column.{Column}
@@ -81,9 +81,6 @@ alter ts t f = altered ts t f (get ts t)
 
 abbrev pub with_row : Tables → List ℕ → ℤ → List Value → Tables
 with_row ts t r vs = alter ts t (λ (x : Table). record x { rows = insert x.rows r vs })
-
-abbrev pub without_row : Tables → List ℕ → ℤ → Tables
-without_row ts t r = alter ts t (λ (x : Table). record x { rows = remove x.rows r })
 
 -- computed examples: a table `docs` of a number, a text and a number, with two rows
 abbrev pub docs_columns : List Column

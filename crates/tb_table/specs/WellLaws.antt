@@ -156,8 +156,3 @@ puts_insert well t r cs vs takes are fit = (
 
 pub well_create : (well : List ℕ → List ℕ → Bool) (t : List ℕ) (cs : List Column) → TakesTables well → IsName t → AreColumns cs → AreWell well (spell (create_words t cs))
 well_create well t cs takes name are = are_well well (create_words t cs) (are_create t cs name) (short_create t cs) (puts_create well t cs takes are)
-
-pub well_insert : (well : List ℕ → List ℕ → Bool) (t : List ℕ) (r : ℤ) (cs : List Column) (vs : List Value) → TakesTables well → IsName t → IsRow r → AreColumns cs → FitColumns (others cs) vs
-    → AreWell well (spell (insert_words t r (numbers_of vs) (texts_of vs)))
-well_insert well t r cs vs takes name row are fit =
-    are_well well (insert_words t r (numbers_of vs) (texts_of vs)) (are_insert t r (numbers_of vs) (texts_of vs) name row (row_places cs vs are fit)) (short_insert t r (numbers_of vs) (texts_of vs)) (puts_insert well t r cs vs takes are fit)
