@@ -1,6 +1,6 @@
 //! Texts read and built character by character.
 
-ghost use Rattle.std.specs.Prelude.{◌≡◌, ◌+◌, ◌<◌, ◌++◌, [], ◌∷◌, length, OnOk, MatchOption};
+ghost use Rattle.std.specs.Prelude.{◌≡◌, ◌+◌, ◌<◌, ◌++◌, [], ◌∷◌, length, OnOk, OnErr, MatchOption};
 ghost use Rattle.std.specs.Char.{encode_utf8, len_utf8};
 ghost use Rattle.std.specs.Str.{chars};
 ghost use Rattle.std.specs.String.{string_bytes};
@@ -30,6 +30,7 @@ pub fn first_char(text: &str) -> Option<char>
 pub fn push_char(text: &mut String, c: char) -> Result<(), Memory>
     ensures chars { OnOk result (chars (string_bytes text.new) ≡ chars (string_bytes text.old) ++ c ∷ []) }
     ensures bytes { OnOk result (string_bytes text.new ≡ string_bytes text.old ++ encode_utf8 c) }
+    ensures err { OnErr result (string_bytes text.new ≡ string_bytes text.old) }
 {
     text.push(c)?;
     Ok(())
@@ -38,7 +39,8 @@ pub fn push_char(text: &mut String, c: char) -> Result<(), Memory>
 /// Puts an ASCII character at the end.
 pub fn push_ascii(text: &mut String, c: char) -> Result<(), Memory>
     requires { c < 128 }
-    ensures { OnOk result (string_bytes text.new ≡ string_bytes text.old ++ c ∷ []) }
+    ensures bytes { OnOk result (string_bytes text.new ≡ string_bytes text.old ++ c ∷ []) }
+    ensures err { OnErr result (string_bytes text.new ≡ string_bytes text.old) }
 {
     text.push(c)?;
     Ok(())

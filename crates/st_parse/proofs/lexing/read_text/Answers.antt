@@ -27,7 +27,7 @@ loop-c-preserved c =
     record {
       is_text = search rules;
       shorter = omega (arith, ap length c.in-Some.ensures.chars, ap length c.in-Some-after_quote.ensures);
-      so_far = text-quote (string_bytes c.loop-c.read) _ _ _ _ c.in-Some.c c.in-Some.ensures.chars c.in-Some-after_quote.ensures (search rules) c.in_ok-push_ascii-in-Some-after_quote.ensures ∙ c.loop-c.invariant.so_far;
+      so_far = text-quote (string_bytes c.loop-c.read) _ _ _ _ c.in-Some.c c.in-Some.ensures.chars c.in-Some-after_quote.ensures (search rules) c.in_ok-push_ascii-in-Some-after_quote.ensures.bytes ∙ c.loop-c.invariant.so_far;
     }
 
 pub loop-c-smaller : goal.loop-c-smaller
