@@ -1,12 +1,13 @@
 -- Keepers in memory. No stop leaves anything else of one than what it is now, so its time has one moment.
 use Rattle.std.specs.Prelude.{◌≡◌, ℕ, List, true, Option, Some, None}
-use Rattle.std.proofs.Common.{◌∙◌}
+use Rattle.std.proofs.Common.{◌∙◌, subst}
 use base.Fml.{GName}
 use Rattle.ct_base.specs.Told.{IsSaid}
 use Rattle.ct_site.specs.Disks.{Beside, DiskView}
 use Rattle.ct_keep.specs.declared.keepers.KeepFault.{KeepFault}
 use Rattle.ct_keep.specs.declared.keepers.KeepFault.TheVariants.{Memory, Disk, Full}
 use Rattle.ct_keep.specs.Content.{Content}
+use Rattle.ct_keep.specs.Words.{HoldsEntries}
 use Rattle.ct_keep.specs.Keeping.{Keeping, Counts, Aside, IsSettled}
 
 -- It makes no call of a disk, so that none of its calls fails by the disk.
@@ -43,6 +44,9 @@ in_memory m limit counts beside aside lender = record {
 
 pub settled_in_memory : (m : Content) (limit : ℕ) (counts : Counts) (beside : Beside) (aside : Aside) (lender : Option GName) → IsSettled (in_memory m limit counts beside aside lender)
 settled_in_memory m limit counts beside aside lender = record { here = λ n holds stopped said now. (now.0 ∙ holds, now.1) }
+
+pub holds_in_memory : (m : Content) → HoldsEntries m → (n : Content) → Some m ≡ Some n → HoldsEntries n
+holds_in_memory m entries n is = let one : m ≡ n = cc in subst HoldsEntries one entries
 
 -- It may be called, and takes every entry.
 pub record TakesAll (k : Keeping) : Type 0 where

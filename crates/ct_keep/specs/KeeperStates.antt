@@ -1,15 +1,21 @@
 -- What a keeper in memory holds, beside a script and a buffer for what is said.
-use Rattle.std.specs.Prelude.{ℕ, ◌≤◌, List, Some, None, Vec, length, refl}
+use Rattle.std.specs.Prelude.{ℕ, ◌≡◌, ◌≤◌, List, [], true, Some, None, Vec, length, refl}
 use Rattle.std.specs.Vec.{vec_len, vec_capacity}
-use Rattle.std.specs.Coded.{Coded, code_by, coded_ℕ, coded_list, coded×}
+use Rattle.std.specs.FinMap.{empty}
+use Rattle.std.specs.Coded.{Coded, code_by, coded_ℕ, coded_list, coded×, prop_coded}
+use denote.Struct.Codes.{also_coded}
 use Rattle.std.specs.declared.alloc.Global.{Global}
 use Rattle.ct_keep.specs.Content.{Content}
+use Rattle.ct_keep.specs.Words.{HoldsEntries}
+use Rattle.ct_keep.specs.WellLaws.{HoldsWell-prop}
 use Rattle.ct_keep.specs.Keeping.{Keeping, Counts, Aside}
 use Rattle.ct_keep.specs.Pairs.{content_code}
 use Rattle.ct_keep.specs.InMemory.{in_memory}
 
 pub record KeeperState : Type 0 where
   pub content : Content
+  -- each of its entries is within the bounds
+  pub entries : HoldsEntries content
   pub limit : ℕ
   pub counts : Counts
   -- what is left of the script
@@ -26,6 +32,16 @@ no_counts = record { texts = 0; rows = 0; rules = 0; fulls = 0 }
 abbrev pub no_disk : Aside
 no_disk = record { image = None; faults = 0 }
 
+-- It holds nothing, nothing of this script was heard, and nothing was said.
+pub record IsNew (script : List ℕ) (most room : ℕ) (k : KeeperState) : Type 0 where
+  pub content : k.content ≡ empty
+  pub limit : k.limit ≡ most
+  pub counts : k.counts ≡ no_counts
+  pub left : k.left ≡ script
+  pub said : k.said ≡ []
+  pub said_room : k.said_room ≡ room
+  pub say_faults : k.say_faults ≡ 0
+
 abbrev pub mem_keeping : KeeperState → Keeping
 mem_keeping s = in_memory s.content s.limit s.counts (record { left = Some s.left; said = Some s.said; hear_faults = 0; say_faults = s.say_faults }) no_disk None
 
@@ -38,9 +54,16 @@ pub record IsRoomy (script : List ℕ) (heard : ℕ) (said : Vec ℕ Global) (sa
 abbrev pub counts_code : Coded Counts
 counts_code = code_by (ℕ × (ℕ × (ℕ × ℕ))) (coded× coded_ℕ (coded× coded_ℕ (coded× coded_ℕ coded_ℕ))) (λ c. (c.texts, (c.rows, (c.rules, c.fulls)))) (λ p. record { texts = p.0; rows = p.1.0; rules = p.1.1.0; fulls = p.1.1.1 }) (λ _. refl)
 
+-- a content with the proof that each of its entries is within the bounds
+abbrev Held : Type 0
+Held = (m : Content) × HoldsEntries m
+
+abbrev held_code : Coded Held
+held_code = also_coded content_code (λ m. prop_coded (HoldsWell-prop (λ key value. true) m))
+
 abbrev pub keeper_state_code : Coded KeeperState
 keeper_state_code =
-    code_by (Content × (ℕ × (Counts × (List ℕ × (List ℕ × (ℕ × ℕ)))))) (coded× content_code (coded× coded_ℕ (coded× counts_code (coded× (coded_list coded_ℕ) (coded× (coded_list coded_ℕ) (coded× coded_ℕ coded_ℕ))))))
-    (λ s. (s.content, (s.limit, (s.counts, (s.left, (s.said, (s.said_room, s.say_faults)))))))
-    (λ p. record { content = p.0; limit = p.1.0; counts = p.1.1.0; left = p.1.1.1.0; said = p.1.1.1.1.0; said_room = p.1.1.1.1.1.0; say_faults = p.1.1.1.1.1.1 })
+    code_by (Held × (ℕ × (Counts × (List ℕ × (List ℕ × (ℕ × ℕ)))))) (coded× held_code (coded× coded_ℕ (coded× counts_code (coded× (coded_list coded_ℕ) (coded× (coded_list coded_ℕ) (coded× coded_ℕ coded_ℕ))))))
+    (λ s. ((s.content, s.entries), (s.limit, (s.counts, (s.left, (s.said, (s.said_room, s.say_faults)))))))
+    (λ p. record { content = p.0.0; entries = p.0.1; limit = p.1.0; counts = p.1.1.0; left = p.1.1.1.0; said = p.1.1.1.1.0; said_room = p.1.1.1.1.1.0; say_faults = p.1.1.1.1.1.1 })
     (λ _. refl)

@@ -7,6 +7,7 @@ pub mod Composing
 pub mod RisingKeys
 pub mod Rising
 pub mod Laws
+pub mod WellLaws
 pub mod Tail
 pub mod TailLaws
 pub mod Looks

@@ -1,10 +1,11 @@
 //! What the keepers in memory have in common.
 
-ghost use Rattle.std.specs.Prelude.{◌≡◌, None, Err, IfOk};
+ghost use Rattle.std.specs.Prelude.{◌≡◌, true, None, Err, IfOk};
 ghost use Rattle.std.specs.Option.{option_map};
 ghost use Rattle.std.specs.FinMap.{get, empty};
 ghost use Rattle.ct_keep.specs.Content.{after, entries_above, first_entry};
 ghost use Rattle.ct_keep.specs.Handed.{handed};
+ghost use Rattle.ct_keep.specs.Words.{AreWell, HoldsEntries};
 ghost use Rattle.ct_keep.specs.Keeping.{Answers, fault_of, looked_up, committed};
 ghost use Rattle.ct_keep.specs.InMemory.{NotDisk, come_to};
 
@@ -20,6 +21,7 @@ pub(crate) struct Holding {
     pub(crate) content: EntryMap,
     pub(crate) limit: u64,
     pub(crate) counts: Tally,
+    pub ghost entries: { HoldsEntries content },
 }
 
 /// The key of an entry, if there is one.
@@ -35,7 +37,9 @@ fn key_of(entry: &Option<(Vec<u8>, Vec<u8>)>) -> Option<&[u8]>
 impl Holding {
     /// An empty content.
     pub(crate) fn new(alloc: Global, limit: u64) -> Holding
-        ensures { result ≡ record { content = empty; limit = limit; counts = record { texts = 0; rows = 0; rules = 0; fulls = 0 } } }
+        ensures content { result.content ≡ empty }
+        ensures limit { result.limit ≡ limit }
+        ensures counts { result.counts ≡ record { texts = 0; rows = 0; rules = 0; fulls = 0 } }
     {
         Holding {
             content: EntryMap::new(alloc),
@@ -79,7 +83,10 @@ impl Holding {
 
     /// Does what the batch says, all of it or none.
     pub(crate) fn commit(&mut self, alloc: Global, batch: Batch) -> Result<(), KeepFault>
-        ensures state { self.new ≡ record self.old { content = come_to (fault_of result) self.old.content (after batch self.old.content); counts = committed (fault_of result) self.old.counts } }
+        requires { AreWell (λ _ _. true) batch }
+        ensures content { self.new.content ≡ come_to (fault_of result) self.old.content (after batch self.old.content) }
+        ensures limit { self.new.limit ≡ self.old.limit }
+        ensures counts { self.new.counts ≡ committed (fault_of result) self.old.counts }
         ensures answers { Answers (fault_of result) self.old.limit self.old.content (after batch self.old.content) }
         ensures not_disk { NotDisk (fault_of result) }
     {

@@ -6,7 +6,7 @@ ghost use Rattle.std.specs.FinMap.{get};
 ghost use Rattle.ct_base.specs.Told.{took, IsNothing};
 ghost use Rattle.ct_base.specs.Causes.{HasCause};
 ghost use Rattle.ct_keep.specs.Content.{Content, after, entries_above, first_entry};
-ghost use Rattle.ct_keep.specs.Words.{AreWell};
+ghost use Rattle.ct_keep.specs.Words.{AreWell, HoldsWell};
 ghost use Rattle.ct_keep.specs.Keeping.{Keeping, Kept, Reads, Goes, Answers, IsSettled, KeeperHears, KeeperSays, fault_of, looked_up, committed};
 ghost use Rattle.ct_keep.specs.Handed.{handed};
 
@@ -96,6 +96,9 @@ pub trait Keeper {
 
     /// Between two calls a stop leaves what it holds.
     ghost settled: { (k : Self) → (keeping k).ready → IsSettled (keeping k) };
+
+    /// Each entry that it holds is within the bounds, and one that it may hold.
+    ghost holds: { (k : Self) → (keeping k).ready → (m : Content) → (keeping k).content ≡ Some m → HoldsWell (keeping k).well m };
 
     /// Since now there is no other moment.
     ghost only_now: { (k : Self) (stopped : Option Content) (said : List ℕ) → (keeping k).time.since (keeping k).time.clock stopped said → (keeping k).now stopped said };

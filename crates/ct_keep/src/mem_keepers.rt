@@ -1,14 +1,15 @@
 //! A keeper in memory, with a script to hear and a buffer for what is said.
 
-ghost use Rattle.std.specs.Prelude.{◌≡◌, ◌+◌, ◌-◌, ◌^◌, ◌≤◌, ◌↔◌, ◌++◌, [], None, Ok, Err, IfOk, OnOk, OnErr, IsOk, length, min, take, drop};
-ghost use Rattle.std.specs.FinMap.{empty, get};
+ghost use Rattle.std.specs.Prelude.{◌≡◌, ◌+◌, ◌-◌, ◌^◌, ◌≤◌, ◌↔◌, ◌++◌, [], true, None, Ok, Err, IfOk, OnOk, OnErr, IsOk, length, min, take, drop};
+ghost use Rattle.std.specs.FinMap.{get};
 ghost use Rattle.std.specs.Option.{option_map};
 ghost use Rattle.ct_base.specs.Causes.{HasCause};
 ghost use Rattle.ct_keep.specs.Content.{after, entries_above, first_entry};
 ghost use Rattle.ct_keep.specs.Handed.{handed};
+ghost use Rattle.ct_keep.specs.Words.{AreWell};
 ghost use Rattle.ct_keep.specs.Keeping.{Answers, looked_up, committed, fault_of};
-ghost use Rattle.ct_keep.specs.InMemory.{NotDisk, come_to, settled_in_memory};
-ghost use Rattle.ct_keep.specs.KeeperStates.{no_counts, no_disk, mem_keeping};
+ghost use Rattle.ct_keep.specs.InMemory.{NotDisk, come_to, settled_in_memory, holds_in_memory};
+ghost use Rattle.ct_keep.specs.KeeperStates.{no_disk, mem_keeping, IsNew};
 
 use crate::batches::Batch;
 use crate::holdings::Holding;
@@ -39,7 +40,7 @@ impl Model for MemKeeper {
 
     ghost coded = { keeper_state_code };
 
-    ghost view = { λ k. record { content = k.held.content; limit = k.held.limit; counts = k.held.counts; left = drop k.heard k.script.items; said = k.said.items; said_room = k.said_room; say_faults = k.say_faults } };
+    ghost view = { λ k. record { content = k.held.content; entries = k.held.entries; limit = k.held.limit; counts = k.held.counts; left = drop k.heard k.script.items; said = k.said.items; said_room = k.said_room; say_faults = k.say_faults } };
 
     ghost invariant = { λ k. IsRoomy k.script.items k.heard k.said k.said_room };
 }
@@ -52,7 +53,7 @@ impl MemKeeper {
         limit: u64,
         said_room: usize,
     ) -> Result<MemKeeper, Memory>
-        ensures { IfOk result (λ keeper. keeper ≡ record { content = empty; limit = limit; counts = no_counts; left = script.items; said = []; said_room = said_room; say_faults = 0 }) }
+        ensures { IfOk result (IsNew script.items limit said_room) }
     {
         let said = Vec::with_capacity(alloc, said_room)?;
         Ok(MemKeeper {
@@ -99,7 +100,9 @@ impl Keeper for MemKeeper {
     }
 
     fn commit(&mut self, alloc: Global, batch: Batch) -> Result<(), KeepFault>
-        ensures state { self.new ≡ record self.old { content = come_to (fault_of result) self.old.content (after batch self.old.content); counts = committed (fault_of result) self.old.counts } }
+        requires { AreWell (λ _ _. true) batch }
+        ensures content { self.new.content ≡ come_to (fault_of result) self.old.content (after batch self.old.content) }
+        ensures state { self.new ≡ record self.old { content = self.new.content; entries = self.new.entries; counts = committed (fault_of result) self.old.counts } }
         ensures answers { Answers (fault_of result) self.old.limit self.old.content (after batch self.old.content) }
         ensures not_disk { NotDisk (fault_of result) }
     {
@@ -137,6 +140,8 @@ impl Keeper for MemKeeper {
     }
 
     ghost settled = { λ k ready. settled_in_memory k.content k.limit k.counts (mem_keeping k).beside no_disk None };
+
+    ghost holds = { λ k ready m is. holds_in_memory k.content k.entries m is };
 
     ghost only_now = { λ k stopped said now. now };
 }

@@ -2,7 +2,7 @@
 
 ghost use Rattle.std.specs.Prelude.{◌≡◌, Some};
 ghost use Rattle.std.specs.FinMap.{empty};
-ghost use Rattle.ct_keep.specs.InMemory.{in_memory, settled_in_memory, aside_of};
+ghost use Rattle.ct_keep.specs.InMemory.{in_memory, settled_in_memory, holds_in_memory, aside_of};
 ghost use Rattle.ct_keep.specs.KeeperStates.{no_counts};
 
 use crate::batches::Batch;
@@ -23,7 +23,9 @@ impl<'a, S: Site> SiteMap<'a, S> {
     pub fn over(alloc: Global, site: &'a mut S, limit: u64) -> SiteMap<'a, S>
         ensures site { result.site.now ≡ site.old }
         ensures lender { result.site.ghost_name ≡ site.entry.ghost_name }
-        ensures held { result.held ≡ record { content = empty; limit = limit; counts = no_counts } }
+        ensures content { result.held.content ≡ empty }
+        ensures limit { result.held.limit ≡ limit }
+        ensures counts { result.held.counts ≡ no_counts }
     {
         SiteMap {
             site,
@@ -69,6 +71,8 @@ impl<'a, S: Site> Keeper for SiteMap<'a, S> {
     }
 
     ghost settled = { λ k ready. settled_in_memory k.held.content k.held.limit k.held.counts (S.disk k.site.now).beside (aside_of (S.disk k.site.now)) (Some k.site.ghost_name) };
+
+    ghost holds = { λ k ready m is. holds_in_memory k.held.content k.held.entries m is };
 
     ghost only_now = { λ k stopped said now. now };
 }
