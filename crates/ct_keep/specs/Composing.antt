@@ -142,12 +142,12 @@ fulls_then old mid new fault reads commits = ap (λ (c : Counts). c.fulls) commi
 
 -- ---- hearing and saying
 
-pub apart_all : (k : Keeping) → k.ready → Apart k k
-apart_all k ready = record { ready = ready; content = refl; well = refl; limit = refl; counts = refl; disk_faults = refl; aside = refl; lender = refl }
+pub apart_all : (k : Keeping) → Apart k k
+apart_all k = record { ready = λ ready. ready; content = refl; well = refl; limit = refl; counts = refl; disk_faults = refl; aside = refl; lender = refl }
 
 pub apart_then : (old mid new : Keeping) → Apart old mid → Apart mid new → Apart old new
 apart_then old mid new first second = record {
-  ready = second.ready;
+  ready = λ ready. second.ready (first.ready ready);
   content = second.content ∙ first.content;
   well = second.well ∙ first.well;
   limit = second.limit ∙ first.limit;
@@ -157,8 +157,8 @@ apart_then old mid new first second = record {
   lender = second.lender ∙ first.lender;
 }
 
-pub hears_none : (k : Keeping) → k.ready → KeeperHears [] k k
-hears_none k ready = record { apart = apart_all k ready; left = sym (ahead_none k.beside.left); said = refl; say_faults = refl; time = stays_all k.time }
+pub hears_none : (k : Keeping) → KeeperHears [] k k
+hears_none k = record { apart = apart_all k; left = sym (ahead_none k.beside.left); said = refl; say_faults = refl; time = stays_all k.time }
 
 -- one piece of the script, and then another
 pub hears_then : (old mid new : Keeping) (a b : List ℕ) → KeeperHears a old mid → KeeperHears b mid new → KeeperHears (a ++ b) old new
@@ -170,8 +170,8 @@ hears_then old mid new a b first second = record {
   time = stays_then old.time mid.time new.time first.time second.time;
 }
 
-pub says_none : (k : Keeping) → k.ready → KeeperSays [] k k
-says_none k ready = record { apart = apart_all k ready; said = sym (behind_none k.beside.said); left = refl; hear_faults = refl; time = λ m holds. passes_none k.time _ }
+pub says_none : (k : Keeping) → KeeperSays [] k k
+says_none k = record { apart = apart_all k; said = sym (behind_none k.beside.said); left = refl; hear_faults = refl; time = λ ready m holds. passes_none k.time _ }
 
 -- one piece said, and then another
 pub says_then : (old mid new : Keeping) (a b : List ℕ) → KeeperSays a old mid → KeeperSays b mid new → KeeperSays (a ++ b) old new
@@ -180,8 +180,8 @@ says_then old mid new a b first second = record {
   said = second.said ∙ ap (λ (told : Option (List ℕ)). behind told b) first.said ∙ behind_twice old.beside.said a b;
   left = second.left ∙ first.left;
   hear_faults = second.hear_faults ∙ first.hear_faults;
-  time = λ m holds.
+  time = λ ready m holds.
       passes_then old.time mid.time new.time _
-      (passes_more old.time mid.time _ _ (first.time m holds) (λ stopped said p. (p.0, says_front old.beside.said a b said p.1)))
-      (passes_more mid.time new.time _ _ (second.time m (first.apart.content ∙ holds)) (λ stopped said p. (p.0, says_back old.beside.said a b said (subst (λ (told : Option (List ℕ)). SaysPart told b said) first.said p.1))));
+      (passes_more old.time mid.time _ _ (first.time ready m holds) (λ stopped said p. (p.0, says_front old.beside.said a b said p.1)))
+      (passes_more mid.time new.time _ _ (second.time (first.apart.ready ready) m (first.apart.content ∙ holds)) (λ stopped said p. (p.0, says_back old.beside.said a b said (subst (λ (told : Option (List ℕ)). SaysPart told b said) first.said p.1))));
 }

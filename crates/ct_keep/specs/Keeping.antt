@@ -163,7 +163,7 @@ Answers (Some Disk) limit m next = Unit {0}
 
 -- what hearing and saying keep
 pub record Apart (old new : Keeping) : Type 0 where
-  pub ready : new.ready
+  pub ready : old.ready → new.ready
   pub content : new.content ≡ old.content
   pub well : new.well ≡ old.well
   pub limit : new.limit ≡ old.limit
@@ -186,7 +186,7 @@ pub record KeeperSays (told : List ℕ) (old new : Keeping) : Type 0 where
   pub said : new.beside.said ≡ behind old.beside.said told
   pub left : new.beside.left ≡ old.beside.left
   pub hear_faults : new.beside.hear_faults ≡ old.beside.hear_faults
-  pub time : (m : Content) → old.content ≡ Some m → Passes old.time new.time (λ stopped said. (stopped ≡ Some m) × SaysPart old.beside.said told said)
+  pub time : old.ready → (m : Content) → old.content ≡ Some m → Passes old.time new.time (λ stopped said. (stopped ≡ Some m) × SaysPart old.beside.said told said)
 
 -- computed examples: a text that is asked for, a posting row that is handed out where a document was asked for, and a count at its end
 abbrev nothing_yet : Counts

@@ -76,19 +76,18 @@ pub trait Keeper {
         ensures answers { (m : Content) → (keeping self.old).content ≡ Some m → Answers (fault_of result) (keeping self.old).limit m (after batch m) }
         ensures counts { (keeping self.new).counts ≡ committed (fault_of result) (keeping self.old).counts };
 
-    /// Takes bytes of the script into the front of `into`, and answers how many. 0 means the end of the script.
+    /// Takes bytes of the script into the front of `into`, and answers how many. 0 means the end of the script. It may be
+    /// called after Disk too.
     fn hear(&mut self, into: &mut [u8]) -> Result<usize, Failed>
-        requires ready { (keeping self.old).ready }
-        requires some { 0 < length into.old }
+        requires { 0 < length into.old }
         ensures bound { IfOk result (λ count. count ≤ length into.old) }
         ensures hears { KeeperHears (took result into.new) (keeping self.old) (keeping self.new) }
         ensures end { result ≡ Ok 0 → IsNothing (keeping self.new).beside.left }
         ensures cause { HasCause (keeping self.old).beside.hear_faults (keeping self.new).beside.hear_faults result };
 
-    /// Says bytes of the front of `bytes`, at least one, and answers how many.
+    /// Says bytes of the front of `bytes`, at least one, and answers how many. It may be called after Disk too.
     fn say(&mut self, bytes: &[u8]) -> Result<usize, Failed>
-        requires ready { (keeping self.old).ready }
-        requires some { 0 < length bytes.now }
+        requires { 0 < length bytes.now }
         ensures bound { IfOk result (λ count. count ≤ length bytes.now) }
         ensures some { IfOk result (λ count. 0 < count) }
         ensures says { KeeperSays (took result bytes.now) (keeping self.old) (keeping self.new) }

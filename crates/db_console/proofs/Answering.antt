@@ -105,7 +105,7 @@ module _ (limit : ℕ) (piece : Piece) (was : World) (old new : Keeping) (shows 
 -- ---- and then the reply
 
 -- what saying a front of the reply adds
-module _ (limit : ℕ) (piece : Piece) (was : World) (old mid new : Keeping) (bytes : List ℕ) (shows : Shows old was) (beside : mid.beside ≡ old.beside) (r : Replied limit piece was old mid bytes) where
+module _ (limit : ℕ) (piece : Piece) (was : World) (old mid new : Keeping) (bytes : List ℕ) (ready : mid.ready) (shows : Shows old was) (beside : mid.beside ≡ old.beside) (r : Replied limit piece was old mid bytes) where
   abbrev made : Turn
   made = turn_by piece r.answer
 
@@ -115,7 +115,7 @@ module _ (limit : ℕ) (piece : Piece) (was : World) (old mid new : Keeping) (by
   moments_said : (part rest : List ℕ) → bytes ≡ part ++ rest → Spoke part mid new → Passes old.time new.time (IsMoment limit was (made ∷ []))
   moments_said part rest front s =
       passes_then old.time mid.time new.time _ r.moments
-      (passes_more mid.time new.time _ _ (s.says.time r.content r.holds)
+      (passes_more mid.time new.time _ _ (s.says.time ready r.content r.holds)
       (λ x w p. after limit was made r.content x w p.0 r.stands
       (subst (λ (l : List ℕ). SaysPart was.said l w) (sym front ∙ r.is)
       (says_front was.said part rest w (subst (λ (o : Option (List ℕ)). SaysPart o part w) said_mid p.1)))))
@@ -151,8 +151,8 @@ module _ (limit : ℕ) (piece : Piece) (was : World) (old mid new : Keeping) (by
 pub answers_said : (limit : ℕ) (piece : Piece) (bytes : List ℕ) (old mid new : Keeping) → Kept old mid None → ((was : World) → Shows old was → Replied limit piece was old mid bytes) → Spoke bytes mid new → Answers limit piece old new
 answers_said limit piece bytes old mid new kept r s = record {
   frame = frame_then old mid new (frame_kept old mid None kept) (frame_said mid new bytes s);
-  ready = s.says.apart.ready;
-  answers = λ was w. answered_by limit piece was old mid new bytes w kept.beside (r was w) s;
+  ready = s.says.apart.ready kept.ready;
+  answers = λ was w. answered_by limit piece was old mid new bytes kept.ready w kept.beside (r was w) s;
 }
 
 pub stops_saying : (limit : ℕ) (piece : Piece) (bytes : List ℕ) (stop : Stop) (old mid new : Keeping) → Kept old mid None → ((was : World) → Shows old was → Replied limit piece was old mid bytes)
@@ -160,8 +160,8 @@ pub stops_saying : (limit : ℕ) (piece : Piece) (bytes : List ℕ) (stop : Stop
 stops_saying limit piece bytes stop old mid new kept r settled s = rw s.0 (record {
   frame = frame_then old mid new (frame_kept old mid None kept) (frame_said mid new s.1.part s.1.spoke);
   cause = rose_after old.beside.say_faults mid.beside.say_faults new.beside.say_faults (lasts_kept old mid None kept).say_later s.1.cause;
-  ready = s.1.spoke.says.apart.ready;
-  stops = λ was w. stopped_saying limit piece was old mid new bytes w kept.beside (r was w) (settled s.1.spoke.says.apart.ready) s.1;
+  ready = s.1.spoke.says.apart.ready kept.ready;
+  stops = λ was w. stopped_saying limit piece was old mid new bytes kept.ready w kept.beside (r was w) (settled (s.1.spoke.says.apart.ready kept.ready)) s.1;
 })
 
 -- or where the disk failed

@@ -7,8 +7,8 @@ use Rattle.ct_keep.specs.Composing.{says_none, says_then}
 use Rattle.db_console.specs.Views.{SayRose, Spoke, SpokeInPart}
 use Rattle.db_console.proofs.Lasting.{rose_after}
 
-pub spoke_none : (k : Keeping) → k.ready → Spoke [] k k
-spoke_none k ready = record { says = says_none k ready; later = omega arith }
+pub spoke_none : (k : Keeping) → Spoke [] k k
+spoke_none k = record { says = says_none k; later = omega arith }
 
 spoke_then : (a b c : Keeping) (p q : List ℕ) → Spoke p a b → Spoke q b c → Spoke (p ++ q) a c
 spoke_then a b c p q s t = record { says = says_then a b c p q s.says t.says; later = omega (arith, s.later, t.later) }

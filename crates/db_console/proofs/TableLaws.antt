@@ -65,7 +65,7 @@ going_heard limit taken piece old mid now cutter s h = record {
   count = s.count;
   front = s.front ∙ rw (append-nil s.heard, h.hears.left) (ahead_twice s.heard piece now.beside.left);
   lasts = lasts_then old mid now s.lasts (lasts_heard mid now piece h);
-  ready = h.hears.apart.ready;
+  ready = h.hears.apart.ready s.ready;
   going = λ was w.
       let x : (is : World) × Shows mid is × ServedTo limit old.limit [] s.heard was is old.time mid.time cutter = s.going was w in
       (x.0, shows_heard mid now piece x.0 h x.1, served_heard limit old.limit s.heard piece was x.0 old mid now cutter h x.2);

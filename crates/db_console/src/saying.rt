@@ -17,7 +17,6 @@ pub enum Stop {
 
 /// Says all the bytes, by as many calls as it takes.
 fn say_all<K: Keeper>(keeper: &mut K, bytes: &[u8]) -> Result<(), Failed>
-    requires { (K.keeping keeper.old).ready }
     ensures all { OnOk result (Spoke bytes.now (K.keeping keeper.old) (K.keeping keeper.new)) }
     ensures part { OnErr result (SpokeInPart bytes.now (K.keeping keeper.old) (K.keeping keeper.new)) }
 {
@@ -30,7 +29,6 @@ fn say_all<K: Keeper>(keeper: &mut K, bytes: &[u8]) -> Result<(), Failed>
 
 /// Says a reply.
 pub fn say_reply<K: Keeper>(keeper: &mut K, reply: &[u8]) -> Result<(), Stop>
-    requires { (K.keeping keeper.old).ready }
     ensures all { OnOk result (Spoke reply.now (K.keeping keeper.old) (K.keeping keeper.new)) }
     ensures part { IfErr result (λ stop. (stop ≡ Stop.Say) × SpokeInPart reply.now (K.keeping keeper.old) (K.keeping keeper.new)) }
 {

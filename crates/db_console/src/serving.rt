@@ -131,7 +131,6 @@ fn close<R: Threads + Sync, K: Keeper>(
 
 /// Hears at most `room` bytes.
 fn hear_some<K: Keeper>(keeper: &mut K, chunk: &mut [u8], room: usize) -> Result<usize, Failed>
-    requires ready { (K.keeping keeper.old).ready }
     requires some { 0 < room }
     requires within { room ≤ length chunk.old }
     ensures bound { IfOk result (λ count. count ≤ room) }
@@ -145,7 +144,6 @@ fn hear_some<K: Keeper>(keeper: &mut K, chunk: &mut [u8], room: usize) -> Result
 
 /// Hears one byte past those that a script may have, and answers whether there is one.
 fn hear_past<K: Keeper>(keeper: &mut K) -> Result<bool, Failed>
-    requires { (K.keeping keeper.old).ready }
     ensures end { result ≡ Ok false → Heard [] (K.keeping keeper.old) (K.keeping keeper.new) × EndsHere (K.keeping keeper.new).beside }
     ensures more { result ≡ Ok true → (byte : ℕ) × Heard (byte ∷ []) (K.keeping keeper.old) (K.keeping keeper.new) }
     ensures failed { OnErr result (Heard [] (K.keeping keeper.old) (K.keeping keeper.new) × HearRose (K.keeping keeper.old).beside (K.keeping keeper.new).beside) }

@@ -4,7 +4,7 @@ use Rattle.db_console.proofs.SayingLaws.{spoke_none, spoke_more, spoke_whole, sp
 use Rattle.db_console.proofs.saying.say_all.Goals as goal
 
 pub loop-at-init : goal.loop-at-init
-loop-at-init g c = record { within = omega arith; spoke = spoke_none _ c.requires }
+loop-at-init g c = record { within = omega arith; spoke = spoke_none _ }
 
 pub loop-at-preserved : goal.loop-at-preserved
 loop-at-preserved g c = record {
