@@ -1,6 +1,6 @@
 -- What calls of a keeper make together: each of its relations of one call after another.
-use Rattle.std.specs.Prelude.{ℕ, ◌≡◌, List, [], ◌++◌, Bool, Option, Some, None, refl}
-use Rattle.std.proofs.Common.{sym, ap, subst, inl, ◌∙◌, arith}
+use Rattle.std.specs.Prelude.{ℕ, ◌≡◌, ◌<◌, ◌+◌, List, [], ◌++◌, length, Bool, Option, Some, None, refl}
+use Rattle.std.proofs.Common.{sym, ap, subst, inl, ◌∙◌, arith, length-append}
 use Rattle.ct_base.specs.Causes.{Rose}
 use Rattle.ct_base.specs.Told.{IsSaid, ahead, behind, ahead_none, ahead_twice, SaysPart, behind_none, behind_twice, says_front, says_back}
 use Rattle.ct_base.specs.Moments.{passes_none, passes_more, passes_then, passes_stays, stays_all, stays_then}
@@ -9,18 +9,19 @@ use Rattle.ct_keep.specs.declared.keepers.KeepFault.{KeepFault}
 use Rattle.ct_keep.specs.declared.keepers.KeepFault.TheVariants.{Memory, Disk, Full}
 use Rattle.ct_keep.specs.Content.{Content}
 use Rattle.ct_keep.specs.Words.{AreWell}
-use Rattle.ct_keep.specs.Keeping.{Keeping, Counts, Kept, Reads, Goes, Answers, Came, Leaves, IsSettled, Apart, KeeperHears, KeeperSays, UnlessDisk, OnDisk, counted, is_full, committed}
+use Rattle.ct_keep.specs.Keeping.{Keeping, Counts, Kept, Reads, Goes, Answers, Came, Leaves, IsSettled, Apart, KeeperHears, KeeperSays, PassesRoom, UnlessDisk, OnDisk, counted, is_full, committed}
 
 -- ---- what every call keeps
 
 pub kept_all : (k : Keeping) → k.ready → Kept k k None
-kept_all k ready = record { ready = ready; beside = refl; well = refl; limit = refl; lender = refl; later = omega arith; cause = tt; aside = refl; calls = tt }
+kept_all k ready = record { ready = ready; beside = refl; say_room = refl; well = refl; limit = refl; lender = refl; later = omega arith; cause = tt; aside = refl; calls = tt }
 
 -- a call that succeeded, and then another
 pub kept_then : (old mid new : Keeping) (fault : Option KeepFault) → Kept old mid None → Kept mid new fault → Kept old new fault
 kept_then old mid new fault first second = record {
   ready = second.ready;
   beside = second.beside ∙ first.beside;
+  say_room = second.say_room ∙ first.say_room;
   well = second.well ∙ first.well;
   limit = second.limit ∙ first.limit;
   lender = second.lender ∙ first.lender;
@@ -44,7 +45,7 @@ kept_then old mid new fault first second = record {
 
 -- calls that succeeded, and then no memory
 pub kept_short : (old new : Keeping) → Kept old new None → Kept old new (Some Memory)
-kept_short old new kept = record { ready = kept.ready; beside = kept.beside; well = kept.well; limit = kept.limit; lender = kept.lender; later = kept.later; cause = tt; aside = kept.aside; calls = tt }
+kept_short old new kept = record { ready = kept.ready; beside = kept.beside; say_room = kept.say_room; well = kept.well; limit = kept.limit; lender = kept.lender; later = kept.later; cause = tt; aside = kept.aside; calls = tt }
 
 -- ---- reads
 
@@ -143,11 +144,12 @@ fulls_then old mid new fault reads commits = ap (λ (c : Counts). c.fulls) commi
 -- ---- hearing and saying
 
 pub apart_all : (k : Keeping) → Apart k k
-apart_all k = record { ready = λ ready. ready; content = refl; well = refl; limit = refl; counts = refl; disk_faults = refl; aside = refl; lender = refl }
+apart_all k = record { ready = λ ready. ready; say_room = refl; content = refl; well = refl; limit = refl; counts = refl; disk_faults = refl; aside = refl; lender = refl }
 
 pub apart_then : (old mid new : Keeping) → Apart old mid → Apart mid new → Apart old new
 apart_then old mid new first second = record {
   ready = λ ready. second.ready (first.ready ready);
+  say_room = second.say_room ∙ first.say_room;
   content = second.content ∙ first.content;
   well = second.well ∙ first.well;
   limit = second.limit ∙ first.limit;
@@ -185,3 +187,17 @@ says_then old mid new a b first second = record {
       (passes_more old.time mid.time _ _ (first.time ready m holds) (λ stopped said p. (p.0, says_front old.beside.said a b said p.1)))
       (passes_more mid.time new.time _ _ (second.time (first.apart.ready ready) m (first.apart.content ∙ holds)) (λ stopped said p. (p.0, says_back old.beside.said a b said (subst (λ (told : Option (List ℕ)). SaysPart told b said) first.said p.1))));
 }
+
+-- ---- the room for what is said
+
+-- some bytes that were said, and then others that are too many
+pub passes_behind : (room : Option ℕ) (told : Option (List ℕ)) (a b : List ℕ) → PassesRoom room (behind told a) b → PassesRoom room told (a ++ b)
+passes_behind room told a b p = record {
+  passes = λ most said is was.
+      let more = p.passes most (said ++ a) is (ap (λ (o : Option (List ℕ)). behind o a) was) in
+      omega (arith, more, length-append said a, length-append a b);
+}
+
+-- the same by other names
+pub passes_as : (room room' : Option ℕ) (told told' : Option (List ℕ)) (bytes bytes' : List ℕ) → PassesRoom room told bytes → room' ≡ room → told' ≡ told → bytes' ≡ bytes → PassesRoom room' told' bytes'
+passes_as room room' told told' bytes bytes' p r t b = rw (r, t, b) p

@@ -27,11 +27,12 @@ abbrev pub aside_of : DiskView → Aside
 aside_of disk = record { image = disk.image; faults = disk.faults }
 
 -- what is known of it
-abbrev pub in_memory : Content → ℕ → Counts → Beside → Aside → Option GName → Keeping
-in_memory m limit counts beside aside lender = record {
+abbrev pub in_memory : Content → ℕ → Counts → Beside → Option ℕ → Aside → Option GName → Keeping
+in_memory m limit counts beside say_room aside lender = record {
   ready = Unit {0};
   content = Some m;
   beside = beside;
+  say_room = say_room;
   time = record { clock = 0; since = λ t stopped said. (stopped ≡ Some m) × IsSaid beside.said said };
   now = λ stopped said. (stopped ≡ Some m) × IsSaid beside.said said;
   well = λ key value. true;
@@ -42,8 +43,8 @@ in_memory m limit counts beside aside lender = record {
   lender = lender;
 }
 
-pub settled_in_memory : (m : Content) (limit : ℕ) (counts : Counts) (beside : Beside) (aside : Aside) (lender : Option GName) → IsSettled (in_memory m limit counts beside aside lender)
-settled_in_memory m limit counts beside aside lender = record { here = λ n holds stopped said now. (now.0 ∙ holds, now.1) }
+pub settled_in_memory : (m : Content) (limit : ℕ) (counts : Counts) (beside : Beside) (say_room : Option ℕ) (aside : Aside) (lender : Option GName) → IsSettled (in_memory m limit counts beside say_room aside lender)
+settled_in_memory m limit counts beside say_room aside lender = record { here = λ n holds stopped said now. (now.0 ∙ holds, now.1) }
 
 pub holds_in_memory : (m : Content) → HoldsEntries m → (n : Content) → Some m ≡ Some n → HoldsEntries n
 holds_in_memory m entries n is = let one : m ≡ n = cc in subst HoldsEntries one entries

@@ -43,7 +43,7 @@ pub record IsNew (script : List ℕ) (most room : ℕ) (k : KeeperState) : Type 
   pub say_faults : k.say_faults ≡ 0
 
 abbrev pub mem_keeping : KeeperState → Keeping
-mem_keeping s = in_memory s.content s.limit s.counts (record { left = Some s.left; said = Some s.said; hear_faults = 0; say_faults = s.say_faults }) no_disk None
+mem_keeping s = in_memory s.content s.limit s.counts (record { left = Some s.left; said = Some s.said; hear_faults = 0; say_faults = s.say_faults }) (Some s.said_room) no_disk None
 
 -- The script has been heard up to here, and what may be said has its room.
 pub record IsRoomy (script : List ℕ) (heard : ℕ) (said : Vec ℕ Global) (said_room : ℕ) : Type 0 where

@@ -1,5 +1,5 @@
 -- What is known of a keeper, and what its calls make of that.
-use Rattle.std.specs.Prelude.{ℕ, ◌≡◌, ◌⊎◌, ◌+◌, ◌-◌, ◌^◌, ◌<◌, ◌≤◌, ◌==◌, ◌||◌, min, Bool, true, false, List, [], ◌∷◌, Option, Some, None, Result, Ok, Err, refl}
+use Rattle.std.specs.Prelude.{ℕ, ◌≡◌, ◌⊎◌, ◌+◌, ◌-◌, ◌^◌, ◌<◌, ◌≤◌, ◌==◌, ◌||◌, min, Bool, true, false, List, [], ◌∷◌, length, Option, Some, None, Result, Ok, Err, refl}
 use Rattle.std.specs.Bool.{if◌then◌else◌}
 use base.Fml.{GName}
 use Rattle.ct_base.specs.Causes.{Rose}
@@ -23,12 +23,14 @@ pub record Aside : Type 0 where
   pub faults : ℕ
 
 pub record Keeping : Type 1 where
-  -- it may be called: none of its calls has answered Disk
+  -- it may be read and changed: none of its calls has answered Disk
   pub ready : Type 0
   -- what it holds, where it is told
   pub content : Option Content
   -- the script, the bytes said, and their counts of faults
   pub beside : Beside
+  -- how many bytes may be said in all, where that is told; never changes
+  pub say_room : Option ℕ
   -- at each moment, the content that would be recovered, if any, and the bytes said by then
   pub time : Timeline (Option Content)
   -- what a stop now would leave, and the bytes said
@@ -66,6 +68,7 @@ OnDisk (Some Disk) P = P
 pub record Kept (old new : Keeping) (fault : Option KeepFault) : Type 0 where
   pub ready : UnlessDisk fault new.ready
   pub beside : new.beside ≡ old.beside
+  pub say_room : new.say_room ≡ old.say_room
   pub well : new.well ≡ old.well
   pub limit : new.limit ≡ old.limit
   pub lender : new.lender ≡ old.lender
@@ -164,6 +167,7 @@ Answers (Some Disk) limit m next = Unit {0}
 -- what hearing and saying keep
 pub record Apart (old new : Keeping) : Type 0 where
   pub ready : old.ready → new.ready
+  pub say_room : new.say_room ≡ old.say_room
   pub content : new.content ≡ old.content
   pub well : new.well ≡ old.well
   pub limit : new.limit ≡ old.limit
@@ -187,6 +191,10 @@ pub record KeeperSays (told : List ℕ) (old new : Keeping) : Type 0 where
   pub left : new.beside.left ≡ old.beside.left
   pub hear_faults : new.beside.hear_faults ≡ old.beside.hear_faults
   pub time : old.ready → (m : Content) → old.content ≡ Some m → Passes old.time new.time (λ stopped said. (stopped ≡ Some m) × SaysPart old.beside.said told said)
+
+-- Where it is told what was said and how many bytes may be said in all, to say these too would be too many.
+pub record PassesRoom (room : Option ℕ) (told : Option (List ℕ)) (bytes : List ℕ) : Type 0 where
+  pub passes : (most : ℕ) (said : List ℕ) → room ≡ Some most → told ≡ Some said → most < length said + length bytes
 
 -- computed examples: a text that is asked for, a posting row that is handed out where a document was asked for, and a count at its end
 abbrev nothing_yet : Counts

@@ -1,13 +1,13 @@
 //! What every keeper promises.
 
-ghost use Rattle.std.specs.Prelude.{◌≡◌, ◌≤◌, ◌<◌, ℕ, List, Bool, Option, Some, None, Ok, Err, IfOk, length};
+ghost use Rattle.std.specs.Prelude.{◌≡◌, ◌≤◌, ◌<◌, ℕ, List, Bool, Option, Some, None, Ok, Err, IfOk, OnErr, length};
 ghost use Rattle.std.specs.Option.{option_map};
 ghost use Rattle.std.specs.FinMap.{get};
 ghost use Rattle.ct_base.specs.Told.{took, IsNothing};
 ghost use Rattle.ct_base.specs.Causes.{HasCause};
 ghost use Rattle.ct_keep.specs.Content.{Content, after, entries_above, first_entry};
 ghost use Rattle.ct_keep.specs.Words.{AreWell, HoldsWell};
-ghost use Rattle.ct_keep.specs.Keeping.{Keeping, Kept, Reads, Goes, Answers, IsSettled, KeeperHears, KeeperSays, fault_of, looked_up, committed};
+ghost use Rattle.ct_keep.specs.Keeping.{Keeping, Kept, Reads, Goes, Answers, IsSettled, KeeperHears, KeeperSays, PassesRoom, fault_of, looked_up, committed};
 ghost use Rattle.ct_keep.specs.Handed.{handed};
 
 use crate::batches::Batch;
@@ -22,7 +22,7 @@ pub enum KeepFault {
     /// There was no memory; all is as before the call.
     #[error("out of memory")]
     Memory,
-    /// The disk failed; the keeper may not be called again.
+    /// The disk failed. From then on the keeper may be asked to hear and to say alone.
     #[error("the disk failed")]
     Disk,
     /// The content would weigh too much; all is as before the call.
@@ -85,12 +85,14 @@ pub trait Keeper {
         ensures end { result ≡ Ok 0 → IsNothing (keeping self.new).beside.left }
         ensures cause { HasCause (keeping self.old).beside.hear_faults (keeping self.new).beside.hear_faults result };
 
-    /// Says bytes of the front of `bytes`, at least one, and answers how many. It may be called after Disk too.
+    /// Says bytes of the front of `bytes`, at least one, and answers how many. Where it is told what was said and how many bytes
+    /// may be said in all, it fails only where these would be too many. It may be called after Disk too.
     fn say(&mut self, bytes: &[u8]) -> Result<usize, Failed>
         requires { 0 < length bytes.now }
         ensures bound { IfOk result (λ count. count ≤ length bytes.now) }
         ensures some { IfOk result (λ count. 0 < count) }
         ensures says { KeeperSays (took result bytes.now) (keeping self.old) (keeping self.new) }
+        ensures passes { OnErr result (PassesRoom (keeping self.old).say_room (keeping self.old).beside.said bytes.now) }
         ensures cause { HasCause (keeping self.old).beside.say_faults (keeping self.new).beside.say_faults result };
 
     /// Between two calls a stop leaves what it holds.

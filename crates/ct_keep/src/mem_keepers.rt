@@ -1,6 +1,6 @@
 //! A keeper in memory, with a script to hear and a buffer for what is said.
 
-ghost use Rattle.std.specs.Prelude.{◌≡◌, ◌+◌, ◌-◌, ◌^◌, ◌≤◌, ◌↔◌, ◌++◌, [], true, None, Ok, Err, IfOk, OnOk, OnErr, IsOk, length, min, take, drop};
+ghost use Rattle.std.specs.Prelude.{◌≡◌, ◌+◌, ◌-◌, ◌^◌, ◌≤◌, ◌↔◌, ◌++◌, [], true, Some, None, Ok, Err, IfOk, OnOk, OnErr, IsOk, length, min, take, drop};
 ghost use Rattle.std.specs.FinMap.{get};
 ghost use Rattle.std.specs.Option.{option_map};
 ghost use Rattle.ct_base.specs.Causes.{HasCause};
@@ -139,7 +139,7 @@ impl Keeper for MemKeeper {
         Ok(bytes.len())
     }
 
-    ghost settled = { λ k ready. settled_in_memory k.content k.limit k.counts (mem_keeping k).beside no_disk None };
+    ghost settled = { λ k ready. settled_in_memory k.content k.limit k.counts (mem_keeping k).beside (Some k.said_room) no_disk None };
 
     ghost holds = { λ k ready m is. holds_in_memory k.content k.entries m is };
 

@@ -1,6 +1,6 @@
 //! A keeper in memory over a borrowed site.
 
-ghost use Rattle.std.specs.Prelude.{◌≡◌, Some};
+ghost use Rattle.std.specs.Prelude.{◌≡◌, Some, None};
 ghost use Rattle.std.specs.FinMap.{empty};
 ghost use Rattle.ct_keep.specs.InMemory.{in_memory, settled_in_memory, holds_in_memory, aside_of};
 ghost use Rattle.ct_keep.specs.KeeperStates.{no_counts};
@@ -44,7 +44,7 @@ impl<'a, S: Site> SiteMap<'a, S> {
 }
 
 impl<'a, S: Site> Keeper for SiteMap<'a, S> {
-    ghost keeping = { λ k. in_memory k.held.content k.held.limit k.held.counts (S.disk k.site.now).beside (aside_of (S.disk k.site.now)) (Some k.site.ghost_name) };
+    ghost keeping = { λ k. in_memory k.held.content k.held.limit k.held.counts (S.disk k.site.now).beside None (aside_of (S.disk k.site.now)) (Some k.site.ghost_name) };
 
     fn fetch(&mut self, alloc: Global, key: &[u8]) -> Result<Option<Vec<u8>>, KeepFault> {
         self.held.fetch(alloc, key)
@@ -70,7 +70,7 @@ impl<'a, S: Site> Keeper for SiteMap<'a, S> {
         self.site.say(bytes)
     }
 
-    ghost settled = { λ k ready. settled_in_memory k.held.content k.held.limit k.held.counts (S.disk k.site.now).beside (aside_of (S.disk k.site.now)) (Some k.site.ghost_name) };
+    ghost settled = { λ k ready. settled_in_memory k.held.content k.held.limit k.held.counts (S.disk k.site.now).beside None (aside_of (S.disk k.site.now)) (Some k.site.ghost_name) };
 
     ghost holds = { λ k ready m is. holds_in_memory k.held.content k.held.entries m is };
 

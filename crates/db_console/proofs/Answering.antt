@@ -7,7 +7,7 @@ use Rattle.ct_site.specs.Disks.{Beside}
 use Rattle.ct_keep.specs.Content.{Content}
 use Rattle.ct_keep.specs.declared.keepers.KeepFault.TheVariants as fault
 use Rattle.ct_keep.specs.Keeping.{Keeping, Kept, Goes, Leaves, IsSettled}
-use Rattle.ct_keep.specs.Composing.{reads_none, reads_short, reads_only, reads_failed}
+use Rattle.ct_keep.specs.Composing.{reads_none, reads_short, reads_only, reads_failed, passes_as}
 use Rattle.db_engine.specs.States.{State, Stands}
 use Rattle.db_engine.specs.Refusals.{Effect, state_by}
 use Rattle.db_engine.specs.Runs.{Piece, Answer, Step, NoMemory, Full, Turn, turn, turn_by, effect_by, IsAllowed}
@@ -144,7 +144,7 @@ module _ (limit : ℕ) (piece : Piece) (was : World) (old mid new : Keeping) (by
     answer = r.answer;
     allowed = r.allowed;
     moments = moments_said s.part s.is.rest s.is.is s.spoke;
-    by = record { part = s.part; reply = subst (IsPartOf s.part) r.is s.is; shows = shows_said s.part s.spoke; settled = settled };
+    by = record { part = s.part; reply = subst (IsPartOf s.part) r.is s.is; passes = passes_as _ _ _ _ _ _ s.passes s.spoke.says.apart.say_room (sym said_mid) (sym r.is); shows = shows_said s.part s.spoke; settled = settled };
   }
 
 -- the answer to a piece, from the response to it and what was said of that

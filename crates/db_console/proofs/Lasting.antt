@@ -13,7 +13,7 @@ pub rose_after : (a b c : ℕ) → a ≤ b → Rose b c → Rose a c
 rose_after a b c h k = omega arith
 
 pub lasts_none : (k : Keeping) → Lasts k k
-lasts_none k = record { hear_later = omega arith; say_later = omega arith; disk_later = omega arith; well = refl; limit = refl; aside = refl; lender = refl }
+lasts_none k = record { hear_later = omega arith; say_later = omega arith; disk_later = omega arith; well = refl; limit = refl; say_room = refl; aside = refl; lender = refl }
 
 pub lasts_then : (a b c : Keeping) → Lasts a b → Lasts b c → Lasts a c
 lasts_then a b c f g = record {
@@ -22,6 +22,7 @@ lasts_then a b c f g = record {
   disk_later = omega (arith, f.disk_later, g.disk_later);
   well = g.well ∙ f.well;
   limit = g.limit ∙ f.limit;
+  say_room = g.say_room ∙ f.say_room;
   aside = g.aside ∙ f.aside;
   lender = g.lender ∙ f.lender;
 }
@@ -33,6 +34,7 @@ lasts_kept a b fault k = record {
   disk_later = k.later;
   well = k.well;
   limit = k.limit;
+  say_room = k.say_room;
   aside = k.aside;
   lender = k.lender;
 }
@@ -44,6 +46,7 @@ lasts_heard a b bytes h = record {
   disk_later = omega (arith, h.hears.apart.disk_faults);
   well = h.hears.apart.well;
   limit = h.hears.apart.limit;
+  say_room = h.hears.apart.say_room;
   aside = h.hears.apart.aside;
   lender = h.hears.apart.lender;
 }
@@ -55,6 +58,7 @@ lasts_said a b bytes s = record {
   disk_later = omega (arith, s.says.apart.disk_faults);
   well = s.says.apart.well;
   limit = s.says.apart.limit;
+  say_room = s.says.apart.say_room;
   aside = s.says.apart.aside;
   lender = s.says.apart.lender;
 }

@@ -2,8 +2,9 @@
 use Rattle.std.proofs.Common.{◌≡◌, ◌≤◌, ◌<◌, ◌+◌, ◌-◌, ◌++◌, [], ℕ, List, length, take, drop, sym, subst, arith, append-nil, length-drop}
 use Rattle.std.proofs.lemmas.List.{take_all, take-append-drop}
 use Rattle.std.proofs.Math.Seq.{take-add, take-length}
-use Rattle.ct_keep.specs.Keeping.{Keeping, KeeperSays}
-use Rattle.ct_keep.specs.Composing.{says_none, says_then}
+use Rattle.ct_base.specs.Told.{behind}
+use Rattle.ct_keep.specs.Keeping.{Keeping, KeeperSays, PassesRoom}
+use Rattle.ct_keep.specs.Composing.{says_none, says_then, passes_behind, passes_as}
 use Rattle.db_console.specs.Views.{SayRose, Spoke, SpokeInPart}
 use Rattle.db_console.proofs.Lasting.{rose_after}
 
@@ -28,11 +29,19 @@ spoke_more a b c bytes at n s t h =
 pub spoke_whole : (a b : Keeping) (bytes : List ℕ) (at : ℕ) → length bytes ≤ at → Spoke (take at bytes) a b → Spoke bytes a b
 spoke_whole a b bytes at h s = rw (take_all at bytes h) at s
 
+-- what was left would have been too much, and so would have been all
+all_passes : (a b : Keeping) (bytes : List ℕ) (at : ℕ) → Spoke (take at bytes) a b → PassesRoom b.say_room b.beside.said (take (length bytes - at) (drop at bytes)) → PassesRoom a.say_room a.beside.said bytes
+all_passes a b bytes at s p =
+    let rest : PassesRoom a.say_room (behind a.beside.said (take at bytes)) (drop at bytes) =
+    passes_as _ _ _ _ _ _ p (sym s.says.apart.say_room) (sym s.says.said) (sym (from_place bytes at)) in
+    subst (PassesRoom a.say_room a.beside.said) (take-append-drop at bytes) (passes_behind a.say_room a.beside.said (take at bytes) (drop at bytes) rest)
+
 pub spoke_part : (a b c : Keeping) (bytes : List ℕ) (at : ℕ) → at < length bytes → Spoke (take at bytes) a b → KeeperSays [] b c → b.beside.say_faults ≤ c.beside.say_faults → SayRose b.beside c.beside
-    → SpokeInPart bytes a c
-spoke_part a b c bytes at h s t k r = record {
+    → PassesRoom b.say_room b.beside.said (take (length bytes - at) (drop at bytes)) → SpokeInPart bytes a c
+spoke_part a b c bytes at h s t k r p = record {
   part = take at bytes;
   is = record { rest = drop at bytes; is = sym (take-append-drop at bytes); more = omega (arith, length-drop at bytes) };
   spoke = subst (λ (xs : List ℕ). Spoke xs a c) (append-nil (take at bytes)) (spoke_then a b c (take at bytes) [] s (record { says = t; later = k }));
+  passes = all_passes a b bytes at s p;
   cause = rose_after a.beside.say_faults b.beside.say_faults c.beside.say_faults s.later r;
 }

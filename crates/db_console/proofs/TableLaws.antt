@@ -4,7 +4,8 @@ use Rattle.std.specs.Prelude.{◌↔◌, ◌⊎◌}
 use Rattle.ct_base.specs.Moments.{passes_none, passes_stays, passes_then}
 use Rattle.ct_base.specs.Told.{ahead, ahead_none, ahead_twice, behind, behind_none, behind_twice, IsNothing}
 use Rattle.ct_keep.specs.Content.{Content}
-use Rattle.ct_keep.specs.Keeping.{Keeping, IsSettled}
+use Rattle.ct_keep.specs.Keeping.{Keeping, PassesRoom, IsSettled}
+use Rattle.ct_keep.specs.Composing.{passes_behind, passes_as}
 use Rattle.st_cut.specs.Seen.{Seen, Stands as StandsOpen}
 use Rattle.db_engine.specs.States.{State, Stands}
 use Rattle.db_engine.specs.Runs.{Turn, turn, pieces, state_after, transcript, state_after-append, transcript-append, AllAllowed}
@@ -197,6 +198,9 @@ said_in_part limit store whole taken was old new k = record {
     more = k.by.reply.more;
   };
   front = record { rest = k.by.part; is = rw k.leads.run.says refl };
+  passes =
+      let last : PassesRoom new.say_room (behind was.said k.leads.said) (turn limit k.mid.state k.last).1 = passes_as _ _ _ _ _ _ k.by.passes refl (sym k.leads.told) refl in
+      passes_as _ _ _ _ _ _ (passes_behind new.say_room was.said k.leads.said (turn limit k.mid.state k.last).1 last) refl refl (said_last limit store whole Say taken was old new k);
   settled = k.by.settled;
 }
 

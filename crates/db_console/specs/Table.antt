@@ -1,16 +1,16 @@
 -- How a run of the console ends, by its status.
-use Rattle.std.specs.Prelude.{ℕ, suc, ◌≡◌, ◌≤◌, ◌⊎◌, ◌↔◌, Bool, true, false, List, [], ◌∷◌, ◌++◌, length, Option, Some, codes, refl, None}
+use Rattle.std.specs.Prelude.{ℕ, suc, ◌≡◌, ◌≢◌, ◌≤◌, ◌⊎◌, ◌↔◌, Bool, true, false, List, [], ◌∷◌, ◌++◌, length, Option, Some, codes, refl, None}
 use Rattle.std.specs.Str.{chars}
-use Rattle.std.proofs.Common.{lit<}
+use Rattle.std.proofs.Common.{lit<, arith}
 use Rattle.std.specs.FinMap.{empty}
 use base.Fml.{GName}
 use Rattle.ct_base.specs.Told.{ahead, behind}
 use Rattle.ct_base.specs.Moments.{Passes}
 use Rattle.ct_site.specs.Disks.{DiskView, Beside}
 use Rattle.ct_keep.specs.Content.{Content}
-use Rattle.ct_keep.specs.Keeping.{Keeping, Counts, IsSettled}
+use Rattle.ct_keep.specs.Keeping.{Keeping, Counts, PassesRoom, IsSettled}
 use Rattle.ct_keep.specs.InMemory.{in_memory, settled_in_memory, aside_of}
-use Rattle.ct_keep.specs.KeeperStates.{no_counts, no_disk}
+use Rattle.ct_keep.specs.KeeperStates.{KeeperState, no_counts, no_disk, mem_keeping}
 use Rattle.st_cut.specs.Seen.{Seen}
 use Rattle.db_engine.specs.States.{empty_state}
 use Rattle.db_engine.specs.EmptyLaws.{empty_stands}
@@ -60,7 +60,8 @@ pub record AreFirst (whole : Bool) (script : List ℕ) (turns done : List Turn) 
   pub cut : HasPieces whole script (pieces turns ++ later) rest
 
 -- The reply to the last one was said in part: the bytes said are a front of all that the turns say, and not all of it,
--- and have in front all that the turns before the last one say. A stop now leaves the state after all of them.
+-- and have in front all that the turns before the last one say. Where it is told what was said before and how many bytes may
+-- be said in all, all that the turns say would have been too many. A stop now leaves the state after all of them.
 pub record SaidInPart (limit : ℕ) (whole : Bool) (script : List ℕ) (was : World) (turns : List Turn) (new : Keeping) : Type 0 where
   pub done : List Turn
   pub first : AreFirst whole script turns done
@@ -68,6 +69,7 @@ pub record SaidInPart (limit : ℕ) (whole : Bool) (script : List ℕ) (was : Wo
   pub shows : Shows new (record { state = state_after limit was.state turns; said = behind was.said said })
   pub part : IsPartOf said (transcript limit was.state turns)
   pub front : IsFrontOf (transcript limit was.state done) said
+  pub passes : PassesRoom new.say_room was.said (transcript limit was.state turns)
   pub settled : IsSettled new
 
 -- The disk failed in the last one: all was said that the turns before it say, and a stop leaves the state before it or after it.
@@ -139,6 +141,17 @@ pub record TellsPast (most status : ℕ) (old new : Beside) : Type 0 where
 pub record Completes (most status : ℕ) (old new : Beside) (quiet : Type 0) : Type 0 where
   pub completes : (script : List ℕ) → old.left ≡ Some script → length script ≤ most → ¬ HearRose old new → ¬ SayRose old new → quiet → (status ≡ 0) ⊎ (status ≡ 5)
 
+-- ---- over a keeper in memory
+
+-- Hearing doesn't fail there, and there is no disk: a run ends with 0, 4, 5 or 8.
+pub in_memory_ends : (limit most : ℕ) (old new : KeeperState) (ending : Ending) → Outcome limit most (mem_keeping old) (mem_keeping new) ending → (status_of ending ≢ 3) × (status_of ending ≢ 6)
+in_memory_ends limit most old new Done o = (λ is. omega arith, λ is. omega arith)
+in_memory_ends limit most old new HearFault o = (λ is. let rose = o.because.1 in omega (arith, rose), λ is. omega arith)
+in_memory_ends limit most old new SayFault o = (λ is. omega arith, λ is. omega arith)
+in_memory_ends limit most old new NoMemory o = (λ is. omega arith, λ is. omega arith)
+in_memory_ends limit most old new DiskFault o = (λ is. omega arith, λ is. let none = o.because.2 in cc)
+in_memory_ends limit most old new PastLimit o = (λ is. omega arith, λ is. omega arith)
+
 -- ---- over a site
 
 -- The disk is as before: no call of it failed, and a read gives what it gave.
@@ -148,7 +161,7 @@ pub record Untouched (old new : DiskView) : Type 0 where
 
 -- a keeper in memory that stands over a site, by the reference of this name
 abbrev pub over_site : Content → ℕ → Counts → DiskView → GName → Keeping
-over_site content limit counts site name = in_memory content limit counts site.beside (aside_of site) (Some name)
+over_site content limit counts site name = in_memory content limit counts site.beside None (aside_of site) (Some name)
 
 -- The run over a site that a keeper in memory made, which was empty to begin with. Its content may weigh `store`.
 pub record RanOver (limit most store : ℕ) (old new : DiskView) (ending : Ending) : Type 0 where
@@ -159,12 +172,12 @@ pub record RanOver (limit most store : ℕ) (old new : DiskView) (ending : Endin
   pub untouched : Untouched old new
   pub outcome : Outcome limit most (over_site empty store no_counts old name) (over_site content store counts new name) ending
 
--- ---- computed examples: of a script of 14 bytes ten were allowed, and one more was taken
+-- ---- computed examples: over a keeper that may say 40 bytes in all. Of a script of 14 bytes ten were allowed, and one more was taken
 abbrev bad : List ℕ → Turn
 bad text = turn_by (statement text) Step
 
 abbrev telling : List ℕ → List ℕ → Keeping
-telling left said = in_memory empty 0 no_counts (record { left = Some left; said = Some said; hear_faults = 0; say_faults = 0 }) no_disk None
+telling left said = in_memory empty 0 no_counts (record { left = Some left; said = Some said; hear_faults = 0; say_faults = 0 }) (Some 40) no_disk None
 
 ten_bytes : Ends 65536 10 (codes "SELEC;\nSELE") (world []) (bad (codes "SELEC") ∷ []) (telling (codes "C;\n") (codes "E10: statement not understood\n")) PastLimit
 unfolding chars
@@ -177,7 +190,7 @@ ten_bytes = (
     rest = codes "SEL";
     cut = record { statements = codes "SELEC" ∷ []; cut = (_, refl, (refl, refl)); are = refl };
     shows = record { said = refl; content = empty; holds = refl; stands = empty_stands };
-    settled = settled_in_memory empty 0 no_counts _ _ None;
+    settled = settled_in_memory empty 0 no_counts _ _ _ None;
   },
 )
 
@@ -187,10 +200,10 @@ not_ended = record {
   rest = codes "SELEC;";
   cut = record { statements = []; cut = (refl, refl); are = refl };
   shows = record { said = refl; content = empty; holds = refl; stands = empty_stands };
-  settled = settled_in_memory empty 0 no_counts _ _ None;
+  settled = settled_in_memory empty 0 no_counts _ _ _ None;
 }
 
--- the first reply was said, and the front of the second one
+-- the first reply was said, and the front of the second one, since both have 54 bytes
 in_part : SaidInPart 4 true (codes "a;\nSELEC;") (world []) (bad (codes "a") ∷ bad (codes "SELEC") ∷ []) (telling [] (codes "E10: statement not understood\nE1"))
 unfolding chars
 in_part = record {
@@ -206,7 +219,8 @@ in_part = record {
   shows = record { said = refl; content = empty; holds = refl; stands = empty_stands };
   part = record { rest = codes "9: statement too long\n"; is = refl; more = lit< tt };
   front = record { rest = codes "E1"; is = refl };
-  settled = settled_in_memory empty 0 no_counts _ _ None;
+  passes = record { passes = λ most said room was. let forty : 40 ≡ most = cc in let nothing : [] ≡ said = cc in rw (← forty, ← nothing) (lit< tt) };
+  settled = settled_in_memory empty 0 no_counts _ _ _ None;
 }
 
 -- a stop while the first reply was said, which left the state after the first statement

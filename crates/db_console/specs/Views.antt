@@ -5,7 +5,7 @@ use Rattle.ct_base.specs.Told.{behind, IsNothing, IsSaid}
 use Rattle.ct_base.specs.Moments.{Passes}
 use Rattle.ct_site.specs.Disks.{Beside}
 use Rattle.ct_keep.specs.Content.{Content}
-use Rattle.ct_keep.specs.Keeping.{Keeping, KeeperHears, KeeperSays, IsSettled}
+use Rattle.ct_keep.specs.Keeping.{Keeping, KeeperHears, KeeperSays, PassesRoom, IsSettled}
 use Rattle.st_cut.specs.Seen.{Seen, Stands as StandsOpen}
 use Rattle.db_engine.specs.States.{Stands}
 use Rattle.db_engine.specs.Runs.{Piece, Answer, Step, Turn, turn_by, turn, pieces, IsAllowed}
@@ -41,6 +41,7 @@ pub record Lasts (old new : Keeping) : Type 0 where
   pub disk_later : old.disk_faults ≤ new.disk_faults
   pub well : new.well ≡ old.well
   pub limit : new.limit ≡ old.limit
+  pub say_room : new.say_room ≡ old.say_room
   pub aside : new.aside ≡ old.aside
   pub lender : new.lender ≡ old.lender
 
@@ -54,12 +55,13 @@ pub record Spoke (bytes : List ℕ) (old new : Keeping) : Type 0 where
   pub says : KeeperSays bytes old new
   pub later : old.beside.say_faults ≤ new.beside.say_faults
 
--- The front of the bytes was said, and not all of them, for a fault.
+-- The front of the bytes was said, and not all of them, for a fault. Where the room for what is said is told, all of them would have passed it.
 pub record SpokeInPart (bytes : List ℕ) (old new : Keeping) : Type 0 where
   pub part : List ℕ
   pub is : IsPartOf part bytes
   pub spoke : Spoke part old new
   pub cause : SayRose old.beside new.beside
+  pub passes : PassesRoom old.say_room old.beside.said bytes
 
 -- what answering leaves
 pub record Frame (old new : Keeping) : Type 0 where
@@ -105,10 +107,11 @@ abbrev pub UnlessByDisk : Stop → Type 0 → Type 0
 UnlessByDisk Say P = P
 UnlessByDisk Disk P = Unit {0}
 
--- The reply of the last turn was said in part, behind what had been said.
+-- The reply of the last turn was said in part, behind what had been said; where the room for that is told, the whole of it would have passed it.
 pub record SaysInPart (limit : ℕ) (was : World) (last : Turn) (new : Keeping) : Type 0 where
   pub part : List ℕ
   pub reply : IsPartOf part (turn limit was.state last).1
+  pub passes : PassesRoom new.say_room was.said (turn limit was.state last).1
   pub shows : Shows new (record { state = (turn limit was.state last).0; said = behind was.said part })
   pub settled : IsSettled new
 

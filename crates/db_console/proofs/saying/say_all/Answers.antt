@@ -17,4 +17,4 @@ returns-clause-all g c = spoke_whole _ _ _ _ c.loop-at-test.false c.loop-at.inva
 
 pub returns-in_err-at-clause-part : goal.returns-in_err-at-clause-part
 returns-in_err-at-clause-part g c = let p = err_from_is_err_and c.from_residual.result c.from_residual.ensures.1 in rw p.1
-    (spoke_part _ _ _ _ _ c.loop-at-test.true c.loop-at.invariant.spoke c.in_err-at.ensures.says c.in_err-at.ensures.cause.later c.in_err-at.ensures.cause.failed)
+    (spoke_part _ _ _ _ _ c.loop-at-test.true c.loop-at.invariant.spoke c.in_err-at.ensures.says c.in_err-at.ensures.cause.later c.in_err-at.ensures.cause.failed c.in_err-at.ensures.passes)
