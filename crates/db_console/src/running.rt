@@ -58,7 +58,7 @@ pub fn serve<R: Threads + Sync, K: Keeper>(
 /// Serves the script of a site over an empty keeper in memory.
 fn serve_over<R: Threads + Sync, S: Site>(rt: &R, alloc: Global, site: &mut S) -> u8
     ensures table { (ending : Ending) × (result ≡ status_of ending) × RanOver 65536 (2 ^ 40) (2 ^ 36) (S.disk site.old) (S.disk site.new) ending }
-    ensures memory { result ≡ 5 → S.disk site.new ≡ S.disk site.old }
+    ensures memory { result ≡ 5 → (S.disk site.new).beside ≡ (S.disk site.old).beside }
     ensures no_fault { result ≡ 6 → ⊥ }
     ensures no_disk { Untouched (S.disk site.old) (S.disk site.new) }
     ensures past { TellsPast (2 ^ 40) result (S.disk site.old).beside (S.disk site.new).beside }
@@ -77,7 +77,7 @@ fn serve_over<R: Threads + Sync, S: Site>(rt: &R, alloc: Global, site: &mut S) -
 pub fn run<R: Threads + Sync, S: Site>(rt: &R, alloc: Global, words: &[String], site: &mut S) -> u8
     // words
     ensures words { (result ≡ 2) ↔ (0 < length words.now) }
-    ensures no_call { 0 < length words.now → S.disk site.new ≡ S.disk site.old }
+    ensures no_call { 0 < length words.now → site.new ≡ site.old }
 
     // the table of statuses, from the empty state
     ensures table { length words.now ≡ 0 → (ending : Ending) × (result ≡ status_of ending) × RanOver 65536 (2 ^ 40) (2 ^ 36) (S.disk site.old) (S.disk site.new) ending }
@@ -85,7 +85,7 @@ pub fn run<R: Threads + Sync, S: Site>(rt: &R, alloc: Global, words: &[String], 
     // causes
     ensures hear { result ≡ 3 → HearRose (S.disk site.old).beside (S.disk site.new).beside }
     ensures say { result ≡ 4 → SayRose (S.disk site.old).beside (S.disk site.new).beside }
-    ensures memory { result ≡ 5 → S.disk site.new ≡ S.disk site.old }
+    ensures memory { result ≡ 5 → (S.disk site.new).beside ≡ (S.disk site.old).beside }
     ensures no_fault { result ≡ 6 → ⊥ }
     ensures past { length words.now ≡ 0 → TellsPast (2 ^ 40) result (S.disk site.old).beside (S.disk site.new).beside }
     ensures complete { length words.now ≡ 0 → Completes (2 ^ 40) result (S.disk site.old).beside (S.disk site.new).beside (Unit {0}) }
