@@ -19,13 +19,14 @@ use thiserror::Error;
 /// Why a call of a keeper failed.
 #[derive(Clone, Copy, Debug, PartialEq, Eq, Error)]
 pub enum KeepFault {
-    /// There was no memory; all is as before the call.
+    /// There was no memory. All is as before the call, but that the counts of look-ups may have risen.
     #[error("out of memory")]
     Memory,
     /// The disk failed. From then on the keeper may be asked to hear and to say alone.
     #[error("the disk failed")]
     Disk,
-    /// The content would weigh too much; all is as before the call.
+    /// The content would weigh too much. All is as before the call, but that the count of such refusals rose, or stands at its
+    /// type's end, and that the counts of look-ups may have risen where the call makes some before it commits.
     #[error("the store is full")]
     Full,
 }
