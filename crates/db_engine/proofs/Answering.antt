@@ -1,18 +1,18 @@
 -- From what the function of a statement returned to the answer.
-use Rattle.std.proofs.Common.{◌≡◌, ℕ, ◌+◌, ◌-◌, ◌^◌, ◌≤◌, Bool, true, false, cond, List, Option, Some, None, Result, Ok, Err, Vec, refl, sym, ap, subst, ◌∙◌, arith, min}
+use Rattle.std.proofs.Common.{◌≡◌, ℕ, ◌+◌, ◌-◌, ◌^◌, Bool, true, false, cond, List, Some, None, Ok, Err, Vec, refl, ap, ◌∙◌, arith, min}
 use Rattle.std.specs.Prelude.{codes, bytes_eq, ◌&&◌}
 use Rattle.std.specs.declared.alloc.Global.{Global}
 use Rattle.ct_base.specs.Causes.{Rose}
 use Rattle.ct_keep.specs.Content.{Content}
-use Rattle.ct_keep.specs.declared.keepers.KeepFault.TheVariants.{Memory, Disk, Full as NoRoom}
-use Rattle.ct_keep.specs.Keeping.{Keeping, Kept, Goes, counted}
+use Rattle.ct_keep.specs.declared.keepers.KeepFault.TheVariants.{Memory, Full as NoRoom}
+use Rattle.ct_keep.specs.Keeping.{Keeping, Kept, counted}
 use Rattle.db_engine.specs.States.{State}
 use Rattle.st_parse.specs.declared.statements.Arg.{Arg}
 use Rattle.db_cond.specs.Faults.{NotUnderstood}
-use Rattle.db_engine.specs.Refusals.{Effect, Refused, reply_by}
+use Rattle.db_engine.specs.Refusals.{Effect, Refused}
 use Rattle.db_engine.specs.Calling.{call, sync_index, policy_tokens}
-use Rattle.db_engine.specs.Runs.{Answer, Step, NoMemory, Full}
-use Rattle.db_engine.specs.Executing.{Moves, StandsBy, HasNoPlace, Gives, IsReplyBy, IsFullReply, Answers}
+use Rattle.db_engine.specs.Runs.{Step, NoMemory, Full}
+use Rattle.db_engine.specs.Executing.{Moves, Gives, IsFullReply, Answers}
 use Rattle.db_engine.specs.declared.replies.Reply.{Reply}
 use Rattle.db_engine.specs.declared.replies.Reply.TheVariants.{Text as ReplyText, NoMemory as ReplyNoMemory}
 
@@ -44,7 +44,7 @@ answers_memory m effect may c old new gives = record {
 }
 
 -- one more, up to the end of the count
-rose : (old new : ℕ) → new ≡ counted true old → Rose old new
+pub rose : (old new : ℕ) → new ≡ counted true old → Rose old new
 rose old new is = let e : new ≡ min (old + 1) (2 ^ 64 - 1) = is in omega (arith, e)
 
 -- with no memory for the line the content is as before, too

@@ -27,6 +27,7 @@ pub mod Targets
 pub mod Located
 pub mod IndexChecks
 pub mod Answering
+pub mod Telling
 pub mod Scores
 pub mod RowReads
 pub mod FieldSteps

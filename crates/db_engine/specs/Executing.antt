@@ -1,14 +1,22 @@
 -- What executing a statement does to what is known of a keeper.
-use Rattle.std.specs.Prelude.{ℕ, ◌≡◌, ◌<◌, ◌⊎◌, Bool, true, false, List, Option, Some, None, Result, Ok, Err, Vec, IfOk}
+use Rattle.std.specs.Prelude.{ℕ, ◌≡◌, ◌<◌, ◌⊎◌, ◌&&◌, Bool, true, false, not, List, [], Option, Some, None, Result, Ok, Err, Vec, IfOk, codes, bytes_eq, refl}
+use Rattle.std.specs.Bool.{if◌then◌else◌}
 use Rattle.std.specs.declared.alloc.Global.{Global}
 use Rattle.ct_base.specs.Causes.{Rose}
 use Rattle.ct_keep.specs.Content.{Content}
 use Rattle.ct_keep.specs.declared.keepers.KeepFault.{KeepFault}
 use Rattle.ct_keep.specs.declared.keepers.KeepFault.TheVariants.{Memory, Disk, Full as NoRoom}
-use Rattle.ct_keep.specs.Keeping.{Keeping, Goes, fault_of}
-use Rattle.db_cond.specs.Faults.{store_full}
+use Rattle.ct_keep.specs.Keeping.{Keeping, Reads, Goes, fault_of}
+use Rattle.st_parse.specs.declared.statements.SelectList.TheVariants.{Star}
+use Rattle.st_parse.specs.declared.statements.Statement.{Statement}
+use Rattle.st_parse.specs.declared.statements.Statement.TheVariants.{CreateTable, CreateIndex, Insert, Select, Exec}
+use Rattle.db_cond.specs.Faults.{Refusal, StoreFull, refusal_line, store_full}
 use Rattle.db_engine.specs.States.{State, Stands}
 use Rattle.db_engine.specs.Refusals.{Effect, state_by, reply_by, is_done}
+use Rattle.db_engine.specs.Creating.{table_created, index_created}
+use Rattle.db_engine.specs.Inserting.{row_created}
+use Rattle.db_engine.specs.Calling.{call_done}
+use Rattle.db_engine.specs.Steps.{is_built_index}
 use Rattle.db_engine.specs.Room.{room}
 use Rattle.db_engine.specs.Runs.{Answer, Step, NoMemory, Full}
 use Rattle.db_engine.specs.declared.replies.Reply.{Reply}
@@ -81,3 +89,99 @@ Executes m effect may c old new (Err DiskStop) = Moves m effect c old new (Some 
 abbrev pub fault_of_stop : {T : Type 0} → Result T Stop → Option KeepFault
 fault_of_stop (Ok x) = None
 fault_of_stop (Err DiskStop) = Some Disk
+
+-- ---- what `execute` promises over any content, also one that stands for no state
+
+-- whether the procedure is CTX_DDL.SYNC_INDEX
+abbrev pub is_sync : List ℕ → List ℕ → Bool
+is_sync pack procedure = bytes_eq pack (codes "ctx_ddl") && bytes_eq procedure (codes "sync_index")
+
+-- The line by which a statement says that its change is made. None where it changes nothing: it only looks, or is refused since it isn't built yet.
+abbrev pub done_line : Statement → Option (List ℕ)
+done_line (CreateTable name columns) = Some table_created
+done_line (CreateIndex name table column kind parameters parallel) = if is_built_index kind parameters parallel then Some index_created else None
+done_line (Insert table columns values) = Some row_created
+done_line (Exec pack procedure args) = if is_sync pack procedure then Some call_done else None
+done_line statement = None
+
+-- Whether the reply to a statement is the same in every state: it asks of a text alone, or isn't built yet.
+abbrev pub is_fixed : Statement → Bool
+is_fixed (CreateTable name columns) = false
+is_fixed (CreateIndex name table column kind parameters parallel) = not (is_built_index kind parameters parallel)
+is_fixed (Insert table columns values) = false
+is_fixed (Select list table preds orders) = false
+is_fixed (Exec pack procedure args) = not (is_sync pack procedure)
+is_fixed statement = true
+
+-- from this content to some other by at most one commit, which failed so if it did
+pub record Commits (c : Content) (old new : Keeping) (fault : Option KeepFault) : Type 0 where
+  pub next : Content
+  pub goes : Goes c next old new fault
+
+-- the same from the content that is told, where one is
+abbrev pub CommitsOnce : Keeping → Keeping → Option KeepFault → Type 0
+CommitsOnce old new fault = (c : Content) → old.content ≡ Some c → Commits c old new fault
+
+-- The content stays as it is, where it is told, and a stop leaves it at each moment.
+abbrev pub ContentStays : Keeping → Keeping → Type 0
+ContentStays old new = (c : Content) → old.content ≡ Some c → Goes c c old new None
+
+-- The reply says that the change is made, by at most one commit.
+pub record IsMade (done reply : List ℕ) (old new : Keeping) : Type 0 where
+  pub says : reply ≡ done
+  pub commits : CommitsOnce old new None
+
+-- The reply is the line of a refusal, and nothing was done but reading. That the store is full is none of these.
+pub record IsRefused (reply : List ℕ) (old new : Keeping) : Type 0 where
+  pub refusal : Refusal
+  pub says : reply ≡ refusal_line refusal
+  pub other : refusal ≡ StoreFull → ⊥
+  pub reads : Reads old new None
+
+-- The reply says that the store is full: how often the keeper found that rose, and the content stays as it is.
+pub record IsFull (reply : List ℕ) (old new : Keeping) : Type 0 where
+  pub says : reply ≡ store_full
+  pub stays : ContentStays old new
+  pub rose : Rose old.counts.fulls new.counts.fulls
+
+-- What the function of a statement returned that says by this line that its change is made.
+abbrev pub Returns : List ℕ → Keeping → Keeping → Result (Vec ℕ Global) KeepFault → Type 0
+Returns done old new (Ok reply) = IsMade done reply.items old new ⊎ IsRefused reply.items old new
+Returns done old new (Err Memory) = ContentStays old new
+Returns done old new (Err NoRoom) = ContentStays old new
+Returns done old new (Err Disk) = CommitsOnce old new (Some Disk)
+
+-- The function of a statement with no such line only read, and never found the store full.
+pub record Looks (old new : Keeping) (result : Result (Vec ℕ Global) KeepFault) : Type 0 where
+  pub reads : Reads old new (fault_of result)
+  pub never_full : result ≡ Err NoRoom → ⊥
+
+-- what the function of a statement returned, by its line
+abbrev pub ReturnsBy : Option (List ℕ) → Keeping → Keeping → Result (Vec ℕ Global) KeepFault → Type 0
+ReturnsBy None old new result = Looks old new result
+ReturnsBy (Some done) old new result = Returns done old new result
+
+-- How a statement was answered that says by this line that its change is made.
+abbrev pub Tells : List ℕ → Keeping → Keeping → Result Reply Stop → Type 0
+Tells done old new (Ok (ReplyText reply)) = IsMade done reply old new ⊎ (IsRefused reply old new ⊎ IsFull reply old new)
+Tells done old new (Ok ReplyNoMemory) = ContentStays old new
+Tells done old new (Err DiskStop) = CommitsOnce old new (Some Disk)
+
+-- this holds of the reply, where it is a text
+abbrev pub IfText : (List ℕ → Type 0) → Result Reply Stop → Type 0
+IfText says (Ok (ReplyText reply)) = says reply
+IfText says (Ok ReplyNoMemory) = Unit {0}
+IfText says (Err stop) = Unit {0}
+
+-- computed examples
+row_line : done_line (Insert (codes "docs") None []) ≡ Some (codes "1 row created.\n")
+row_line = refl
+
+sync_line : done_line (Exec (codes "ctx_ddl") (codes "sync_index") []) ≡ Some (codes "PL/SQL procedure successfully completed.\n")
+sync_line = refl
+
+select_line : done_line (Select Star (codes "docs") [] []) ≡ None
+select_line = refl
+
+tokens_fixed : is_fixed (Exec (codes "ctx_doc") (codes "policy_tokens") []) ≡ true
+tokens_fixed = refl

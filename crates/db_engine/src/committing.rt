@@ -8,7 +8,7 @@ ghost use Rattle.ct_keep.specs.Keeping.{Kept, counted, fault_of, is_full};
 ghost use Rattle.ct_keep.specs.Spoken.{spoken};
 ghost use Rattle.db_engine.specs.States.{State, Stands, TakesAll};
 ghost use Rattle.db_engine.specs.Refusals.{Does};
-ghost use Rattle.db_engine.specs.Executing.{Gives};
+ghost use Rattle.db_engine.specs.Executing.{Gives, Returns};
 ghost use Rattle.db_engine.specs.Committing.{are_bounded, is_bounded};
 
 use ct_base::Memory;
@@ -59,6 +59,7 @@ pub(crate) fn commit<K: Keeper>(
     ensures kept { Kept (K.keeping keeper.old) (K.keeping keeper.new) (fault_of result) }
     ensures fulls { (K.keeping keeper.new).counts.fulls ≡ counted (is_full (fault_of result)) (K.keeping keeper.old).counts.fulls }
     ensures gives { (m n : State) (c : Content) → (K.keeping keeper.old).content ≡ Some c → are_bounded batch ≡ true → Stands (after batch c) n → Gives m (Does n reply.items) c (K.keeping keeper.old) (K.keeping keeper.new) result }
+    ensures tells { Returns reply.items (K.keeping keeper.old) (K.keeping keeper.new) result }
 {
     if !are_bounded(batch.words()) {
         return Err(KeepFault::Memory);

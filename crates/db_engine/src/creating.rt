@@ -15,7 +15,7 @@ ghost use Rattle.db_engine.specs.States.{State, Stands, TakesAll, is_view as is_
 ghost use Rattle.db_engine.specs.Refusals.{Effect, Does, as_count};
 ghost use Rattle.db_engine.specs.Creating.{are_apart as columns_apart, check_table, column_of, all_sized, is_size, create_table as create_table_effect, is_key_first as key_first, is_number as sort_is_number, is_sized as sort_sized, sort_of, table_created, with_new_table, IsFreeTable};
 ghost use Rattle.db_engine.specs.Checking.{Checks};
-ghost use Rattle.db_engine.specs.Executing.{Gives};
+ghost use Rattle.db_engine.specs.Executing.{Gives, Returns};
 
 use crate::columns::TEXT_LIMIT;
 use crate::committing::{commit, fixed_reply};
@@ -193,6 +193,7 @@ fn commit_table<K: Keeper>(
     ensures kept { Kept (K.keeping keeper.old) (K.keeping keeper.new) (fault_of result) }
     ensures fulls { (K.keeping keeper.new).counts.fulls ≡ counted (is_full (fault_of result)) (K.keeping keeper.old).counts.fulls }
     ensures gives { (m : State) (c : Content) → (K.keeping keeper.old).content ≡ Some c → Stands c m → IsFreeTable m table.now columns.now → Gives m (Does (with_new_table m table.now columns.now) table_created) c (K.keeping keeper.old) (K.keeping keeper.new) result }
+    ensures tells { Returns table_created (K.keeping keeper.old) (K.keeping keeper.new) result }
 {
     let columns = kept_columns(alloc, columns)?;
     let mut batch = Batch::new(alloc);
@@ -213,6 +214,7 @@ pub(crate) fn create_table<K: Keeper>(
     ensures kept { Kept (K.keeping keeper.old) (K.keeping keeper.new) (fault_of result) }
     ensures fulls { (K.keeping keeper.new).counts.fulls ≡ counted (is_full (fault_of result)) (K.keeping keeper.old).counts.fulls }
     ensures gives { (m : State) (c : Content) → (K.keeping keeper.old).content ≡ Some c → Stands c m → Gives m (create_table_effect m table.now columns.now) c (K.keeping keeper.old) (K.keeping keeper.new) result }
+    ensures tells { Returns table_created (K.keeping keeper.old) (K.keeping keeper.new) result }
 {
     let there = has_table(alloc, keeper, table)?;
     let many = has_most_tables(alloc, keeper)?;

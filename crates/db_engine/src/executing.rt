@@ -1,16 +1,17 @@
 //! Executes statements, each by at most one commit.
 #![tactic(auto, using(ct_keep::specs::Composing::reads_on, ct_keep::specs::Composing::reads_short))]
 
-ghost use Rattle.std.specs.Prelude.{◌≡◌, ◌&&◌, IfOk, Some, Err, true, not, codes, bytes_eq};
+ghost use Rattle.std.specs.Prelude.{ℕ, ◌≡◌, ◌&&◌, List, IfOk, Some, None, Err, true, false, not, codes, bytes_eq};
+ghost use Rattle.ct_base.specs.Causes.{Rose};
 ghost use Rattle.ct_keep.specs.Content.{Content};
 ghost use Rattle.ct_keep.specs.Keeping.{Kept, Reads, counted, fault_of, is_full};
-ghost use Rattle.db_cond.specs.Faults.{NotUnderstood, refusal_line};
+ghost use Rattle.db_cond.specs.Faults.{NotUnderstood, refusal_line, store_full as store_full_line};
 ghost use Rattle.db_engine.specs.Refusals.{refuse, reply_by, state_by};
-ghost use Rattle.db_engine.specs.Creating.{create_index as create_index_effect};
+ghost use Rattle.db_engine.specs.Creating.{create_index as create_index_effect, index_created};
 ghost use Rattle.db_engine.specs.States.{State, Stands, TakesAll};
 ghost use Rattle.db_engine.specs.Steps.{effect, is_built_index as built_index, may_fill, may_fill_by, select_by as select_effect};
-ghost use Rattle.db_engine.specs.Calling.{call as call_effect};
-ghost use Rattle.db_engine.specs.Executing.{Executes, Gives, IsFullReply, fault_of_stop};
+ghost use Rattle.db_engine.specs.Calling.{call as call_effect, call_done};
+ghost use Rattle.db_engine.specs.Executing.{Executes, Gives, IfText, IsFullReply, Looks, Returns, ReturnsBy, Tells, done_line, fault_of_stop, is_fixed, is_sync as is_sync_call};
 
 use crate::calling::policy_tokens;
 use crate::committing::fixed_reply;
@@ -89,6 +90,7 @@ fn select_statement<K: Keeper>(
     ensures kept { Kept (K.keeping keeper.old) (K.keeping keeper.new) (fault_of result) }
     ensures fulls { (K.keeping keeper.new).counts.fulls ≡ counted (is_full (fault_of result)) (K.keeping keeper.old).counts.fulls }
     ensures gives { (m : State) (c : Content) → (K.keeping keeper.old).content ≡ Some c → Stands c m → Gives m (select_effect m list.now table.now preds.now) c (K.keeping keeper.old) (K.keeping keeper.new) result }
+    ensures reads { Reads (K.keeping keeper.old) (K.keeping keeper.new) (fault_of result) }
     ensures never_full { result ≡ Err KeepFault.Full → ⊥ }
 {
     selected(alloc, keeper, list, table, preds)
@@ -96,7 +98,7 @@ fn select_statement<K: Keeper>(
 
 /// Whether a procedure is CTX_DDL.SYNC_INDEX.
 fn is_sync(pack: &Name, procedure: &Name) -> bool
-    ensures { result ≡ (bytes_eq pack.now (codes "ctx_ddl") && bytes_eq procedure.now (codes "sync_index")) }
+    ensures { result ≡ is_sync_call pack.now procedure.now }
 {
     pack.as_str() == "ctx_ddl" && procedure.as_str() == "sync_index"
 }
@@ -121,6 +123,9 @@ fn call<K: Keeper>(
     ensures kept { Kept (K.keeping keeper.old) (K.keeping keeper.new) (fault_of result) }
     ensures fulls { (K.keeping keeper.new).counts.fulls ≡ counted (is_full (fault_of result)) (K.keeping keeper.old).counts.fulls }
     ensures gives { (m : State) (c : Content) → (K.keeping keeper.old).content ≡ Some c → Stands c m → Gives m (call_effect m pack.now procedure.now args.now) c (K.keeping keeper.old) (K.keeping keeper.new) result }
+    ensures looks { is_sync_call pack.now procedure.now ≡ false → Looks (K.keeping keeper.old) (K.keeping keeper.new) result }
+    ensures tells { is_sync_call pack.now procedure.now ≡ true → Returns call_done (K.keeping keeper.old) (K.keeping keeper.new) result }
+    ensures fixed { (m : State) → is_sync_call pack.now procedure.now ≡ false → IfOk result (λ reply. reply.items ≡ reply_by (call_effect m pack.now procedure.now args.now)) }
     ensures may { result ≡ Err KeepFault.Full → may_fill_by pack.now ≡ true }
 {
     if is_sync(pack, procedure) {
@@ -153,6 +158,9 @@ fn index_statement<K: Keeper>(
     ensures kept { Kept (K.keeping keeper.old) (K.keeping keeper.new) (fault_of result) }
     ensures fulls { (K.keeping keeper.new).counts.fulls ≡ counted (is_full (fault_of result)) (K.keeping keeper.old).counts.fulls }
     ensures gives { (m : State) (c : Content) → (K.keeping keeper.old).content ≡ Some c → Stands c m → Gives m (refuse (not built) NotUnderstood (create_index_effect m index.now table.now column.now)) c (K.keeping keeper.old) (K.keeping keeper.new) result }
+    ensures looks { built ≡ false → Looks (K.keeping keeper.old) (K.keeping keeper.new) result }
+    ensures tells { built ≡ true → Returns index_created (K.keeping keeper.old) (K.keeping keeper.new) result }
+    ensures fixed { built ≡ false → IfOk result (λ reply. reply.items ≡ refusal_line NotUnderstood) }
 {
     if !built {
         return Ok(not_built(alloc)?);
@@ -171,6 +179,8 @@ fn reply_to<K: Keeper>(
     ensures kept { Kept (K.keeping keeper.old) (K.keeping keeper.new) (fault_of result) }
     ensures fulls { (K.keeping keeper.new).counts.fulls ≡ counted (is_full (fault_of result)) (K.keeping keeper.old).counts.fulls }
     ensures gives { (m : State) (c : Content) → (K.keeping keeper.old).content ≡ Some c → Stands c m → Gives m (effect m statement.now) c (K.keeping keeper.old) (K.keeping keeper.new) result }
+    ensures tells { ReturnsBy (done_line statement.now) (K.keeping keeper.old) (K.keeping keeper.new) result }
+    ensures fixed { (m : State) → is_fixed statement.now ≡ true → IfOk result (λ reply. reply.items ≡ reply_by (effect m statement.now)) }
     ensures may { result ≡ Err KeepFault.Full → may_fill statement.now ≡ true }
 {
     match statement {
@@ -223,11 +233,12 @@ fn full_reply(alloc: Global) -> Reply
 }
 
 /// Executes a statement, by at most one commit: the reply is the whole text, with its newlines, or NoMemory, with which the
-/// content is as before. A statement that is refused leaves the content as it was. `degree` parts of it may be done at once;
-/// so far none is.
+/// content is as before. A statement that is refused leaves the content as it was, and one that only looks makes no commit,
+/// whether or not the content stands for a state. At most `degree` threads may work on it; for now one does.
 ///
-/// Its cost is that of the statement: a SELECT reads the rows of its word and the fields that it asks for, an INSERT writes
-/// one row, a synchronisation costs what the texts of the rows that wait hold, times a logarithm.
+/// Its cost is that of the statement: a SELECT reads the rows of its word and the fields that it asks for. An INSERT writes
+/// one row, reads the entries of all indexes, and, where a key of the table lies over 99,998 above its least, takes a look-up
+/// for each row of the table. A synchronisation costs what the texts of the rows that wait hold, times a logarithm.
 ///
 /// # Errors
 ///
@@ -243,6 +254,10 @@ pub fn execute<R: Threads + Sync, K: Keeper>(
     requires takes { TakesAll (K.keeping keeper.old).well }
     ensures kept { Kept (K.keeping keeper.old) (K.keeping keeper.new) (fault_of_stop result) }
     ensures executes { (m : State) (c : Content) → (K.keeping keeper.old).content ≡ Some c → Stands c m → Executes m (effect m statement.now) (may_fill statement.now) c (K.keeping keeper.old) (K.keeping keeper.new) result }
+    ensures reads { done_line statement.now ≡ None → Reads (K.keeping keeper.old) (K.keeping keeper.new) (fault_of_stop result) }
+    ensures tells { (done : List ℕ) → done_line statement.now ≡ Some done → Tells done (K.keeping keeper.old) (K.keeping keeper.new) result }
+    ensures full { (done : List ℕ) → done_line statement.now ≡ Some done → IfText (λ reply. reply ≡ store_full_line → Rose (K.keeping keeper.old).counts.fulls (K.keeping keeper.new).counts.fulls) result }
+    ensures fixed { (m : State) → is_fixed statement.now ≡ true → IfText (λ reply. reply ≡ reply_by (effect m statement.now)) result }
 {
     match reply_to(alloc, keeper, statement) {
         Ok(lines) => Ok(Reply::Text(Bytes::of(lines))),

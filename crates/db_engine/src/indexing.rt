@@ -13,7 +13,7 @@ ghost use Rattle.db_engine.specs.States.{State, Stands, TakesAll, indexes_on, mo
 ghost use Rattle.db_engine.specs.Refusals.{Effect, Does};
 ghost use Rattle.db_engine.specs.Creating.{all_rows, check_index, create_index as create_index_effect, create_index_on, has_index_on as column_has_index, index_created, is_text_at as text_at, is_text_sort as sort_of_texts, target, with_new_index, IsFreeIndex};
 ghost use Rattle.db_engine.specs.Checking.{Checks};
-ghost use Rattle.db_engine.specs.Executing.{Gives};
+ghost use Rattle.db_engine.specs.Executing.{Gives, Returns};
 
 use crate::columns::place_of;
 use crate::committing::{commit, fixed_reply};
@@ -170,6 +170,7 @@ fn commit_index<K: Keeper>(
     ensures kept { Kept (K.keeping keeper.old) (K.keeping keeper.new) (fault_of result) }
     ensures fulls { (K.keeping keeper.new).counts.fulls ≡ counted (is_full (fault_of result)) (K.keeping keeper.old).counts.fulls }
     ensures gives { (m : State) (c : Content) (x : Table) → (K.keeping keeper.old).content ≡ Some c → Stands c m → place < 256 → IsFreeIndex m index.now table.now x place → Gives m (Does (with_new_index m index.now table.now place) index_created) c (K.keeping keeper.old) (K.keeping keeper.new) result }
+    ensures tells { Returns index_created (K.keeping keeper.old) (K.keeping keeper.new) result }
 {
     let Some(batch) = created(alloc, keeper, index, table, place)? else {
         return Ok(fault_line(alloc, Fault::LimitReached)?);
@@ -192,6 +193,7 @@ fn create_on<K: Keeper>(
     ensures kept { Kept (K.keeping keeper.old) (K.keeping keeper.new) (fault_of result) }
     ensures fulls { (K.keeping keeper.new).counts.fulls ≡ counted (is_full (fault_of result)) (K.keeping keeper.old).counts.fulls }
     ensures gives { (m : State) (c : Content) (x : Table) → (K.keeping keeper.old).content ≡ Some c → Stands c m → place < 256 → get m.tables table.now ≡ Some x → columns.now ≡ x.columns → Gives m (create_index_on m index.now table.now x place) c (K.keeping keeper.old) (K.keeping keeper.new) result }
+    ensures tells { Returns index_created (K.keeping keeper.old) (K.keeping keeper.new) result }
 {
     let there = is_taken(alloc, keeper, index, table, place)?;
     let many = has_most_indexes(alloc, keeper, table)?;
@@ -215,6 +217,7 @@ pub(crate) fn create_index<K: Keeper>(
     ensures kept { Kept (K.keeping keeper.old) (K.keeping keeper.new) (fault_of result) }
     ensures fulls { (K.keeping keeper.new).counts.fulls ≡ counted (is_full (fault_of result)) (K.keeping keeper.old).counts.fulls }
     ensures gives { (m : State) (c : Content) → (K.keeping keeper.old).content ≡ Some c → Stands c m → Gives m (create_index_effect m index.now table.now column.now) c (K.keeping keeper.old) (K.keeping keeper.new) result }
+    ensures tells { Returns index_created (K.keeping keeper.old) (K.keeping keeper.new) result }
 {
     let Some(columns) = table_columns(alloc, keeper, table)? else {
         return Ok(fault_line(alloc, Fault::UnknownName(table.as_str()))?);

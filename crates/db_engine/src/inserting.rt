@@ -16,7 +16,7 @@ ghost use Rattle.db_engine.specs.States.{State, Stands, TakesAll};
 ghost use Rattle.db_engine.specs.Refusals.{Effect, Does, first_unknown as unknown_name};
 ghost use Rattle.db_engine.specs.Inserting.{are_of_sorts as all_of_sorts, arranged as arranged_values, behind_key as others_of, check_list, check_values, covers as covers_columns, has_row as has_row_of, has_too_long as any_too_long, insert_into as insert_into_effect, insert_values as insert_values_effect, is_beyond_range, is_of_sort as sort_takes, is_too_long as too_long_for, key_in as key_of, kept_value, number_value, text_value, IsNumberKept, IsTextKept, note_all_words, most_rows, names_of, others_kept, row_created, value_under as named_value, with_new_row, IsFreeRow};
 ghost use Rattle.db_engine.specs.Checking.{Checks};
-ghost use Rattle.db_engine.specs.Executing.{Gives};
+ghost use Rattle.db_engine.specs.Executing.{Gives, Returns};
 
 use crate::columns::{TEXT_LIMIT, has_column};
 use crate::committing::{commit, fixed_reply};
@@ -390,6 +390,7 @@ fn commit_row<K: Keeper>(
     ensures kept { Kept (K.keeping keeper.old) (K.keeping keeper.new) (fault_of result) }
     ensures fulls { (K.keeping keeper.new).counts.fulls ≡ counted (is_full (fault_of result)) (K.keeping keeper.old).counts.fulls }
     ensures gives { (m : State) (c : Content) (x : Table) → (K.keeping keeper.old).content ≡ Some c → Stands c m → get m.tables table.now ≡ Some x → IsFreeRow x values.now row.0 → Gives m (Does (with_new_row m table.now row.0 (others_kept values.now)) row_created) c (K.keeping keeper.old) (K.keeping keeper.new) result }
+    ensures tells { Returns row_created (K.keeping keeper.old) (K.keeping keeper.new) result }
 {
     let mut batch = row_batch(alloc, table, row, behind_key(values))?;
     let indexes = indexes_of(alloc, keeper, table)?;
@@ -442,6 +443,7 @@ fn insert_values<K: Keeper>(
     ensures kept { Kept (K.keeping keeper.old) (K.keeping keeper.new) (fault_of result) }
     ensures fulls { (K.keeping keeper.new).counts.fulls ≡ counted (is_full (fault_of result)) (K.keeping keeper.old).counts.fulls }
     ensures gives { (m : State) (c : Content) (x : Table) → (K.keeping keeper.old).content ≡ Some c → Stands c m → get m.tables table.now ≡ Some x → x.columns ≡ columns.now → Gives m (insert_values_effect m table.now x values.now) c (K.keeping keeper.old) (K.keeping keeper.new) result }
+    ensures tells { Returns row_created (K.keeping keeper.old) (K.keeping keeper.new) result }
 {
     let key = key_in(values);
     let taken = is_taken(alloc, keeper, table, key)?;
@@ -456,7 +458,8 @@ fn insert_values<K: Keeper>(
 }
 
 /// INSERT. Beside the table's columns it reads whether the key is taken, whether the table has room for a row, and the entries
-/// of all indexes; its cost is theirs, and that of the values' bytes.
+/// of all indexes; its cost is theirs, and that of the values' bytes. Where a key of the table lies over 99,998 above its
+/// least, whether there is room takes a look-up for each row of the table.
 pub(crate) fn insert_into<K: Keeper>(
     alloc: Global,
     keeper: &mut K,
@@ -469,6 +472,7 @@ pub(crate) fn insert_into<K: Keeper>(
     ensures kept { Kept (K.keeping keeper.old) (K.keeping keeper.new) (fault_of result) }
     ensures fulls { (K.keeping keeper.new).counts.fulls ≡ counted (is_full (fault_of result)) (K.keeping keeper.old).counts.fulls }
     ensures gives { (m : State) (c : Content) → (K.keeping keeper.old).content ≡ Some c → Stands c m → Gives m (insert_into_effect m table.now names.now values.now) c (K.keeping keeper.old) (K.keeping keeper.new) result }
+    ensures tells { Returns row_created (K.keeping keeper.old) (K.keeping keeper.new) result }
 {
     let Some(columns) = table_columns(alloc, keeper, table)? else {
         return Ok(fault_line(alloc, Fault::UnknownName(table.as_str()))?);

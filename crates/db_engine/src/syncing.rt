@@ -11,9 +11,9 @@ ghost use Rattle.ix_context.specs.Indexes.{Index};
 ghost use Rattle.ix_context.specs.Changes.{sync_words};
 ghost use Rattle.db_engine.specs.States.{State, Stands, TakesAll};
 ghost use Rattle.db_engine.specs.Refusals.{Effect};
-ghost use Rattle.db_engine.specs.Calling.{are_sync_args as sync_args, check_sync, has_index as has_named_index, has_too_many, is_bad_size as bad_size, is_memory_size as memory_size, is_size_from as size_from, is_unit as unit_letter, name_arg as first_name, spelt_name as name_spelt, sync_found, sync_index as sync_effect, unknown_name as name_unknown};
+ghost use Rattle.db_engine.specs.Calling.{are_sync_args as sync_args, call_done, check_sync, has_index as has_named_index, has_too_many, is_bad_size as bad_size, is_memory_size as memory_size, is_size_from as size_from, is_unit as unit_letter, name_arg as first_name, spelt_name as name_spelt, sync_found, sync_index as sync_effect, unknown_name as name_unknown};
 ghost use Rattle.db_engine.specs.Checking.{Checks};
-ghost use Rattle.db_engine.specs.Executing.{Gives};
+ghost use Rattle.db_engine.specs.Executing.{Gives, Returns};
 
 use crate::committing::{commit, fixed_reply};
 use ct_base::{Memory, Name, NameFault};
@@ -178,6 +178,7 @@ fn commit_sync<K: Keeper>(alloc: Global, keeper: &mut K, index: &Name) -> Result
     ensures kept { Kept (K.keeping keeper.old) (K.keeping keeper.new) (fault_of result) }
     ensures fulls { (K.keeping keeper.new).counts.fulls ≡ counted (is_full (fault_of result)) (K.keeping keeper.old).counts.fulls }
     ensures gives { (m : State) (c : Content) (x : Index) → (K.keeping keeper.old).content ≡ Some c → Stands c m → get m.indexes index.now ≡ Some x → Gives m (sync_found m index.now x) c (K.keeping keeper.old) (K.keeping keeper.new) result }
+    ensures tells { Returns call_done (K.keeping keeper.old) (K.keeping keeper.new) result }
 {
     let Some(batch) = synced(alloc, keeper, index)? else {
         return Ok(fault_line(alloc, Fault::LimitReached)?);
@@ -198,6 +199,7 @@ pub(crate) fn sync_index<K: Keeper>(
     ensures kept { Kept (K.keeping keeper.old) (K.keeping keeper.new) (fault_of result) }
     ensures fulls { (K.keeping keeper.new).counts.fulls ≡ counted (is_full (fault_of result)) (K.keeping keeper.old).counts.fulls }
     ensures gives { (m : State) (c : Content) → (K.keeping keeper.old).content ≡ Some c → Stands c m → Gives m (sync_effect m args.now) c (K.keeping keeper.old) (K.keeping keeper.new) result }
+    ensures tells { Returns call_done (K.keeping keeper.old) (K.keeping keeper.new) result }
 {
     let name = name_arg(alloc, args)?;
     let there = has_named(alloc, keeper, &name)?;

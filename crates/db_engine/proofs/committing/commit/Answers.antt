@@ -1,9 +1,10 @@
-use Rattle.std.proofs.Common.{◌≡◌, true, false, map, Bool, List, ℕ, Option, sym, ap, ◌∙◌}
+use Rattle.std.proofs.Common.{◌≡◌, true, false, sym, ap, ◌∙◌}
 use Rattle.std.proofs.lemmas.Result.{err_from_is_err_and}
 use Rattle.ct_keep.specs.Content.{after}
-use Rattle.ct_keep.specs.Spoken.{spoken}
 use Rattle.db_engine.specs.Committing.{are_bounded}
 use Rattle.db_engine.proofs.Moving.{well_bounded, bounded_spoken, gives_committed, gives_uncommitted}
+use Rattle.db_engine.proofs.Telling.{stays_read, returns_uncommitted, returns_committed}
+use Rattle.ct_keep.specs.Composing.{reads_none}
 use Rattle.db_engine.proofs.committing.commit.Goals as goal
 
 pub returns-then-not-are_bounded-clause-gives : goal.returns-then-not-are_bounded-clause-gives
@@ -24,3 +25,17 @@ returns-in_err-commit-clause-gives g c = λ m n k holds bounded stands.
 pub returns-clause-gives : goal.returns-clause-gives
 returns-clause-gives g c = λ m n k holds bounded stands.
     gives_committed m n c.args.reply k (after c.args.batch k) _ _ stands (c.in_ok-commit.ensures.goes k holds)
+
+-- ---- what it tells over any content
+
+pub returns-then-not-are_bounded-clause-tells : goal.returns-then-not-are_bounded-clause-tells
+returns-then-not-are_bounded-clause-tells g c =
+    stays_read (g.K.Keeper.keeping c.args.keeper.now) (g.K.Keeper.keeping c.args.keeper.now) (g.met.K.Keeper.settled c.args.keeper.now c.requires.ready) (reads_none (g.K.Keeper.keeping c.args.keeper.now) c.requires.ready)
+
+pub returns-in_err-commit-clause-tells : goal.returns-in_err-commit-clause-tells
+returns-in_err-commit-clause-tells g c =
+    returns_uncommitted c.args.reply.items (g.K.Keeper.keeping c.args.keeper.now) (g.K.Keeper.keeping c.commit.new.self) (after c.args.batch) c.from_residual.result c.in_err-commit.field-0.0 c.in_err-commit.ensures.goes (err_from_is_err_and c.from_residual.result c.from_residual.ensures.1)
+
+pub returns-clause-tells : goal.returns-clause-tells
+returns-clause-tells g c =
+    returns_committed (g.K.Keeper.keeping c.args.keeper.now) (g.K.Keeper.keeping c.commit.new.self) (after c.args.batch) c.args.reply c.in_ok-commit.ensures.goes

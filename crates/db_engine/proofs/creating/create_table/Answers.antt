@@ -10,6 +10,7 @@ use Rattle.db_engine.specs.Creating.{check_table, table_created, with_new_table}
 use Rattle.db_engine.proofs.Chains.{checked, refused}
 use Rattle.db_engine.proofs.Moving.{gives_failed, gives_short, gives_line, gives_then, gives_as}
 use Rattle.db_engine.proofs.NewTables.{table_free}
+use Rattle.db_engine.proofs.Telling.{returns_by_read, returns_short, returns_refusal, returns_then}
 use Rattle.db_engine.proofs.creating.create_table.Goals as goal
 
 pub returns-in_err-there-clause-gives : goal.returns-in_err-there-clause-gives
@@ -46,3 +47,25 @@ returns-clause-gives g c = λ m k holds stands.
     let reads = reads_on _ _ _ _ c.in_ok-there.ensures.reads c.in_ok-many.ensures.reads in
     gives_as m _ done k _ _ c.commit_table.result is
     (gives_then m done k _ _ _ c.commit_table.result reads (c.commit_table.ensures.gives m k (reads_hold _ _ k reads holds) stands (table_free m c.args.table.now c.args.columns.now _ _ is)))
+
+-- ---- what it tells over any content
+
+pub returns-in_err-there-clause-tells : goal.returns-in_err-there-clause-tells
+returns-in_err-there-clause-tells g c =
+    returns_by_read table_created (g.K.Keeper.keeping c.args.keeper.now) (g.K.Keeper.keeping c.has_table.new.keeper) c.from_residual.result c.in_err-there.field-0.0 (g.met.K.Keeper.settled c.args.keeper.now c.requires.ready) c.in_err-there.ensures.reads (err_from_is_err_and c.from_residual.result c.from_residual.ensures.1)
+
+pub returns-in_err-many-clause-tells : goal.returns-in_err-many-clause-tells
+returns-in_err-many-clause-tells g c =
+    returns_by_read table_created (g.K.Keeper.keeping c.args.keeper.now) (g.K.Keeper.keeping c.has_most_tables.new.keeper) c.from_residual-in_err-many.result c.in_err-many.field-0.0 (g.met.K.Keeper.settled c.args.keeper.now c.requires.ready) (reads_on _ _ _ _ c.in_ok-there.ensures.reads c.in_err-many.ensures.reads) (err_from_is_err_and c.from_residual-in_err-many.result c.from_residual-in_err-many.ensures.1)
+
+pub returns-in_err-fault_line-clause-tells : goal.returns-in_err-fault_line-clause-tells
+returns-in_err-fault_line-clause-tells g c =
+    returns_short table_created (g.K.Keeper.keeping c.args.keeper.now) (g.K.Keeper.keeping c.has_most_tables.new.keeper) c.from_residual-in_err-fault_line.result (g.met.K.Keeper.settled c.args.keeper.now c.requires.ready) (reads_on _ _ _ _ c.in_ok-there.ensures.reads c.in_ok-many.ensures.reads) (err_from_is_err_and c.from_residual-in_err-fault_line.result c.from_residual-in_err-fault_line.ensures.1)
+
+pub returns-in-Some-clause-tells : goal.returns-in-Some-clause-tells
+returns-in-Some-clause-tells g c =
+    returns_refusal table_created (g.K.Keeper.keeping c.args.keeper.now) (g.K.Keeper.keeping c.has_most_tables.new.keeper) c.in_ok-fault_line.field-0 c.in-Some.fault (reads_on _ _ _ _ c.in_ok-there.ensures.reads c.in_ok-many.ensures.reads) c.in_ok-fault_line.ensures
+
+pub returns-clause-tells : goal.returns-clause-tells
+returns-clause-tells g c =
+    returns_then table_created (g.K.Keeper.keeping c.args.keeper.now) (g.K.Keeper.keeping c.has_most_tables.new.keeper) (g.K.Keeper.keeping c.commit_table.new.keeper) c.commit_table.result (reads_on _ _ _ _ c.in_ok-there.ensures.reads c.in_ok-many.ensures.reads) c.commit_table.ensures.tells

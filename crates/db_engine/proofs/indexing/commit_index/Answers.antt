@@ -1,14 +1,16 @@
-use Rattle.std.proofs.Common.{◌≡◌, ℕ, List, Option, Some, None, Err, sym, ap, subst, ◌∙◌}
+use Rattle.std.proofs.Common.{ℕ, List, Option, Err, sym, ap, subst, ◌∙◌}
 use Rattle.std.proofs.lemmas.Result.{err_from_is_err_and}
 use Rattle.ct_keep.specs.Content.{after}
 use Rattle.ct_keep.specs.Composing.{reads_hold}
 use Rattle.db_engine.specs.Committing.{are_bounded}
-use Rattle.db_engine.specs.Creating.{with_new_index}
+use Rattle.db_engine.specs.Creating.{with_new_index, index_created}
 use Rattle.db_engine.specs.Refusals.{Does}
 use Rattle.db_engine.specs.Executing.{Gives}
 use Rattle.db_engine.specs.States.{Stands}
 use Rattle.db_engine.proofs.Moving.{gives_failed, gives_short, gives_then}
 use Rattle.db_engine.proofs.NewMarks.{found_none, found_some, new_index_stands, new_index_bounded}
+use Rattle.db_engine.proofs.Telling.{returns_by_read, returns_short, returns_refusal, returns_done}
+use Rattle.db_cond.specs.declared.faults.Fault.TheVariants as fault
 use Rattle.db_engine.proofs.indexing.commit_index.Goals as goal
 
 pub returns-in_err-batch-clause-gives : goal.returns-in_err-batch-clause-gives
@@ -41,3 +43,25 @@ returns-clause-gives g c = λ m k x holds stands small free.
     (c.commit.ensures.gives m (with_new_index m i t place) k (reads_hold _ _ k c.in_ok-batch.ensures.reads holds)
     (ap are_bounded words ∙ new_index_bounded k m i t x place stands c.requires.named free)
     (subst (λ (b : List (List ℕ × Option (List ℕ))). Stands (after b k) (with_new_index m i t place)) (sym words) (new_index_stands k m i t x place stands c.requires.named free))))
+
+-- ---- what it tells over any content
+
+pub returns-in_err-batch-clause-tells : goal.returns-in_err-batch-clause-tells
+returns-in_err-batch-clause-tells g c =
+    returns_by_read index_created (g.K.Keeper.keeping c.args.keeper.now) (g.K.Keeper.keeping c.created.new.keeper) c.from_residual.result c.in_err-batch.field-0.0 (g.met.K.Keeper.settled c.args.keeper.now c.requires.ready) c.in_err-batch.ensures.reads (err_from_is_err_and c.from_residual.result c.from_residual.ensures.1)
+
+pub returns-in_err-fault_line-clause-tells : goal.returns-in_err-fault_line-clause-tells
+returns-in_err-fault_line-clause-tells g c =
+    returns_short index_created (g.K.Keeper.keeping c.args.keeper.now) (g.K.Keeper.keeping c.created.new.keeper) c.from_residual-in_err-fault_line.result (g.met.K.Keeper.settled c.args.keeper.now c.requires.ready) c.in_ok-batch.ensures.reads (err_from_is_err_and c.from_residual-in_err-fault_line.result c.from_residual-in_err-fault_line.ensures.1)
+
+pub returns-in_default-clause-tells : goal.returns-in_default-clause-tells
+returns-in_default-clause-tells g c =
+    returns_refusal index_created (g.K.Keeper.keeping c.args.keeper.now) (g.K.Keeper.keeping c.created.new.keeper) c.in_ok-fault_line.field-0 fault.LimitReached c.in_ok-batch.ensures.reads c.in_ok-fault_line.ensures
+
+pub returns-in_err-reply-clause-tells : goal.returns-in_err-reply-clause-tells
+returns-in_err-reply-clause-tells g c =
+    returns_short index_created (g.K.Keeper.keeping c.args.keeper.now) (g.K.Keeper.keeping c.created.new.keeper) c.from_residual-in_err-reply.result (g.met.K.Keeper.settled c.args.keeper.now c.requires.ready) c.in_ok-batch.ensures.reads (err_from_is_err_and c.from_residual-in_err-reply.result c.from_residual-in_err-reply.ensures.1)
+
+pub returns-clause-tells : goal.returns-clause-tells
+returns-clause-tells g c =
+    returns_done index_created _ (g.K.Keeper.keeping c.args.keeper.now) (g.K.Keeper.keeping c.created.new.keeper) (g.K.Keeper.keeping c.commit.new.keeper) c.commit.result c.in_ok-batch.ensures.reads c.in_ok-reply.ensures c.commit.ensures.tells

@@ -1,4 +1,4 @@
-use Rattle.std.proofs.Common.{Err, sym, ap, ◌∙◌}
+use Rattle.std.proofs.Common.{Err, ap, ◌∙◌}
 use Rattle.std.proofs.lemmas.Result.{err_from_is_err_and}
 use Rattle.ct_keep.specs.Composing.{reads_on, reads_hold}
 use Rattle.db_cond.specs.Refused.{refusal_of}
@@ -7,6 +7,7 @@ use Rattle.db_engine.specs.Creating.{index_created, is_text_at, with_new_index}
 use Rattle.db_engine.proofs.Chains.{checked, refused}
 use Rattle.db_engine.proofs.Moving.{gives_failed, gives_short, gives_line, gives_then, gives_as}
 use Rattle.db_engine.proofs.IndexChecks.{index_as, index_free}
+use Rattle.db_engine.proofs.Telling.{returns_by_read, returns_short, returns_refusal, returns_then}
 use Rattle.db_engine.proofs.indexing.create_on.Goals as goal
 
 pub returns-in_err-there-clause-gives : goal.returns-in_err-there-clause-gives
@@ -44,3 +45,25 @@ returns-clause-gives g c = λ m k x holds stands small there columns.
     ∙ checked c.index_fault.result _ _ c.in_default.is (c.index_fault.ensures.checks done) in
     gives_as m _ done k _ _ c.commit_index.result is
     (gives_then m done k _ _ _ c.commit_index.result reads (c.commit_index.ensures.gives m k x (reads_hold _ _ k reads holds) stands small (index_free m i t x place _ _ there is)))
+
+-- ---- what it tells over any content
+
+pub returns-in_err-there-clause-tells : goal.returns-in_err-there-clause-tells
+returns-in_err-there-clause-tells g c =
+    returns_by_read index_created (g.K.Keeper.keeping c.args.keeper.now) (g.K.Keeper.keeping c.is_taken.new.keeper) c.from_residual.result c.in_err-there.field-0.0 (g.met.K.Keeper.settled c.args.keeper.now c.requires.ready) c.in_err-there.ensures.reads (err_from_is_err_and c.from_residual.result c.from_residual.ensures.1)
+
+pub returns-in_err-many-clause-tells : goal.returns-in_err-many-clause-tells
+returns-in_err-many-clause-tells g c =
+    returns_by_read index_created (g.K.Keeper.keeping c.args.keeper.now) (g.K.Keeper.keeping c.has_most_indexes.new.keeper) c.from_residual-in_err-many.result c.in_err-many.field-0.0 (g.met.K.Keeper.settled c.args.keeper.now c.requires.ready) (reads_on _ _ _ _ c.in_ok-there.ensures.reads c.in_err-many.ensures.reads) (err_from_is_err_and c.from_residual-in_err-many.result c.from_residual-in_err-many.ensures.1)
+
+pub returns-in_err-fault_line-clause-tells : goal.returns-in_err-fault_line-clause-tells
+returns-in_err-fault_line-clause-tells g c =
+    returns_short index_created (g.K.Keeper.keeping c.args.keeper.now) (g.K.Keeper.keeping c.has_most_indexes.new.keeper) c.from_residual-in_err-fault_line.result (g.met.K.Keeper.settled c.args.keeper.now c.requires.ready) (reads_on _ _ _ _ c.in_ok-there.ensures.reads c.in_ok-many.ensures.reads) (err_from_is_err_and c.from_residual-in_err-fault_line.result c.from_residual-in_err-fault_line.ensures.1)
+
+pub returns-in-Some-clause-tells : goal.returns-in-Some-clause-tells
+returns-in-Some-clause-tells g c =
+    returns_refusal index_created (g.K.Keeper.keeping c.args.keeper.now) (g.K.Keeper.keeping c.has_most_indexes.new.keeper) c.in_ok-fault_line.field-0 c.in-Some.fault (reads_on _ _ _ _ c.in_ok-there.ensures.reads c.in_ok-many.ensures.reads) c.in_ok-fault_line.ensures
+
+pub returns-clause-tells : goal.returns-clause-tells
+returns-clause-tells g c =
+    returns_then index_created (g.K.Keeper.keeping c.args.keeper.now) (g.K.Keeper.keeping c.has_most_indexes.new.keeper) (g.K.Keeper.keeping c.commit_index.new.keeper) c.commit_index.result (reads_on _ _ _ _ c.in_ok-there.ensures.reads c.in_ok-many.ensures.reads) c.commit_index.ensures.tells

@@ -1,14 +1,15 @@
-use Rattle.std.proofs.Common.{◌≡◌, ℕ, List, [], Option, Some, None, Err, sym, ap, ◌∙◌}
-use Rattle.std.specs.Option.{option_map}
+use Rattle.std.proofs.Common.{[], Err, sym, ap, ◌∙◌}
 use Rattle.std.proofs.lemmas.Result.{err_from_is_err_and}
 use Rattle.ct_keep.specs.Composing.{reads_none, reads_hold}
 use Rattle.db_cond.specs.Faults.{BadValue}
 use Rattle.db_cond.specs.Refused.{refusal_of}
 use Rattle.db_engine.specs.Refusals.{Does}
-use Rattle.db_engine.specs.Calling.{name_arg, check_sync, sync_named}
+use Rattle.db_engine.specs.Calling.{name_arg, sync_named, call_done}
 use Rattle.db_engine.proofs.Chains.{checked, refused}
 use Rattle.db_engine.proofs.Moving.{gives_failed, gives_short, gives_line, gives_then, gives_as}
 use Rattle.db_engine.proofs.SyncChecks.{sync_as, passed_by, index_there, found_is}
+use Rattle.db_engine.proofs.Telling.{returns_by_read, returns_short, returns_refusal, returns_then}
+use Rattle.db_cond.specs.declared.faults.Fault.TheVariants as fault
 use Rattle.db_engine.proofs.syncing.sync_index.Goals as goal
 
 pub returns-in_err-name-clause-gives : goal.returns-in_err-name-clause-gives
@@ -58,3 +59,33 @@ returns-clause-gives g c = λ m k holds stands.
     ∙ ap (sync_named m) (sym c.in_ok-name.ensures)
     ∙ found_is m c.in_ok-name.name c.in-Some-name.index x.0 c.in-Some-name.is x.1)
     (gives_then m _ k _ _ _ c.commit_sync.result c.in_ok-there.ensures.reads (c.commit_sync.ensures.gives m k x.0 (reads_hold _ _ k c.in_ok-there.ensures.reads holds) stands x.1))
+
+-- ---- what it tells over any content
+
+pub returns-in_err-name-clause-tells : goal.returns-in_err-name-clause-tells
+returns-in_err-name-clause-tells g c =
+    returns_short call_done (g.K.Keeper.keeping c.args.keeper.now) (g.K.Keeper.keeping c.args.keeper.now) c.from_residual.result (g.met.K.Keeper.settled c.args.keeper.now c.requires.ready) (reads_none (g.K.Keeper.keeping c.args.keeper.now) c.requires.ready) (err_from_is_err_and c.from_residual.result c.from_residual.ensures.1)
+
+pub returns-in_err-there-clause-tells : goal.returns-in_err-there-clause-tells
+returns-in_err-there-clause-tells g c =
+    returns_by_read call_done (g.K.Keeper.keeping c.args.keeper.now) (g.K.Keeper.keeping c.has_named.new.keeper) c.from_residual-in_err-there.result c.in_err-there.field-0.0 (g.met.K.Keeper.settled c.args.keeper.now c.requires.ready) c.in_err-there.ensures.reads (err_from_is_err_and c.from_residual-in_err-there.result c.from_residual-in_err-there.ensures.1)
+
+pub returns-in_err-fault_line-clause-tells : goal.returns-in_err-fault_line-clause-tells
+returns-in_err-fault_line-clause-tells g c =
+    returns_short call_done (g.K.Keeper.keeping c.args.keeper.now) (g.K.Keeper.keeping c.has_named.new.keeper) c.from_residual-in_err-fault_line.result (g.met.K.Keeper.settled c.args.keeper.now c.requires.ready) c.in_ok-there.ensures.reads (err_from_is_err_and c.from_residual-in_err-fault_line.result c.from_residual-in_err-fault_line.ensures.1)
+
+pub returns-in-Some-clause-tells : goal.returns-in-Some-clause-tells
+returns-in-Some-clause-tells g c =
+    returns_refusal call_done (g.K.Keeper.keeping c.args.keeper.now) (g.K.Keeper.keeping c.has_named.new.keeper) c.in_ok-fault_line.field-0 c.in-Some.fault c.in_ok-there.ensures.reads c.in_ok-fault_line.ensures
+
+pub returns-in_err-fault_line-2-clause-tells : goal.returns-in_err-fault_line-2-clause-tells
+returns-in_err-fault_line-2-clause-tells g c =
+    returns_short call_done (g.K.Keeper.keeping c.args.keeper.now) (g.K.Keeper.keeping c.has_named.new.keeper) c.from_residual-in_err-fault_line-2.result (g.met.K.Keeper.settled c.args.keeper.now c.requires.ready) c.in_ok-there.ensures.reads (err_from_is_err_and c.from_residual-in_err-fault_line-2.result c.from_residual-in_err-fault_line-2.ensures.1)
+
+pub returns-in_default-name-clause-tells : goal.returns-in_default-name-clause-tells
+returns-in_default-name-clause-tells g c =
+    returns_refusal call_done (g.K.Keeper.keeping c.args.keeper.now) (g.K.Keeper.keeping c.has_named.new.keeper) c.in_ok-fault_line-2.field-0 fault.BadValue c.in_ok-there.ensures.reads c.in_ok-fault_line-2.ensures
+
+pub returns-clause-tells : goal.returns-clause-tells
+returns-clause-tells g c =
+    returns_then call_done (g.K.Keeper.keeping c.args.keeper.now) (g.K.Keeper.keeping c.has_named.new.keeper) (g.K.Keeper.keeping c.commit_sync.new.keeper) c.commit_sync.result c.in_ok-there.ensures.reads c.commit_sync.ensures.tells

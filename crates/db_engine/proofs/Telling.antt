@@ -1,0 +1,226 @@
+-- What the ways out of a statement tell over any content.
+use Rattle.std.proofs.Common.{◌≡◌, ℕ, Bool, true, false, List, ◌∷◌, Option, Some, None, Result, Ok, Err, Vec, refl, sym, ap, subst, ◌∙◌, inl, inr, arith}
+use Rattle.std.specs.Prelude.{not}
+use Rattle.std.specs.Bool.{if◌then◌else◌}
+use Rattle.std.specs.declared.alloc.Global.{Global}
+use Rattle.ct_base.specs.Causes.{Rose}
+use Rattle.ct_base.specs.Moments.{passes_more}
+use Rattle.ct_keep.specs.declared.keepers.KeepFault.{KeepFault}
+use Rattle.ct_keep.specs.declared.keepers.KeepFault.TheVariants.{Memory, Disk, Full as NoRoom}
+use Rattle.ct_keep.specs.Content.{Content}
+use Rattle.ct_keep.specs.Keeping.{Keeping, Reads, Goes, IsSettled}
+use Rattle.ct_keep.specs.Composing.{reads_on, reads_hold, reads_then, reads_only, reads_failed, reads_short}
+use Rattle.db_cond.specs.declared.faults.Fault.{Fault}
+use Rattle.db_cond.specs.declared.faults.Fault.TheVariants as fault
+use Rattle.db_cond.specs.Refused.{refusal_of}
+use Rattle.db_cond.specs.Faults.{Refusal, NotUnderstood, UnknownName, ExistsAlready, WrongValues, KeyExists, ValueTooLong, StatementTooLong, NotInProfile, OutOfRange, NoIndexOfKind, BadValue, LimitReached, StoreFull, refusal_line, store_full}
+use Rattle.st_parse.specs.declared.statements.Statement.{Statement}
+use Rattle.st_parse.specs.declared.statements.Statement.TheVariants.{CreateTable, DropTable, DropIndex, CreateIndex, Insert, Update, Delete, Select, Exec, Commit}
+use Rattle.db_engine.specs.Creating.{table_created, index_created}
+use Rattle.db_engine.specs.Inserting.{row_created}
+use Rattle.db_engine.specs.Calling.{call_done}
+use Rattle.db_engine.specs.Steps.{is_built_index}
+use Rattle.db_engine.specs.Executing.{is_sync, done_line, is_fixed, CommitsOnce, ContentStays, Looks, Returns, ReturnsBy, IsFullReply, Tells, IfText}
+use Rattle.db_engine.specs.declared.replies.Reply.{Reply}
+use Rattle.db_engine.specs.declared.replies.Reply.TheVariants.{Text as ReplyText, NoMemory as ReplyNoMemory}
+use Rattle.db_engine.proofs.Answering.{kept_memory, kept_full}
+
+-- ---- lines
+
+second : List ℕ → ℕ
+second (a ∷ b ∷ bs) = b
+second bs = 0
+
+-- a refusal of another cause has another line than that the store is full
+pub not_full : (r : Refusal) → (r ≡ StoreFull → ⊥) → refusal_line r ≡ store_full → ⊥
+unfolding second
+not_full NotUnderstood other is = let e : 49 ≡ 56 = ap second is in omega (arith, e)
+not_full (UnknownName name) other is = let e : 49 ≡ 56 = ap second is in omega (arith, e)
+not_full (ExistsAlready name) other is = let e : 49 ≡ 56 = ap second is in omega (arith, e)
+not_full WrongValues other is = let e : 49 ≡ 56 = ap second is in omega (arith, e)
+not_full (KeyExists key) other is = let e : 49 ≡ 56 = ap second is in omega (arith, e)
+not_full ValueTooLong other is = let e : 49 ≡ 56 = ap second is in omega (arith, e)
+not_full StatementTooLong other is = let e : 49 ≡ 56 = ap second is in omega (arith, e)
+not_full (NotInProfile place) other is = let e : 50 ≡ 56 = ap second is in omega (arith, e)
+not_full OutOfRange other is = let e : 50 ≡ 56 = ap second is in omega (arith, e)
+not_full NoIndexOfKind other is = let e : 50 ≡ 56 = ap second is in omega (arith, e)
+not_full BadValue other is = let e : 51 ≡ 56 = ap second is in omega (arith, e)
+not_full LimitReached other is = let e : 51 ≡ 56 = ap second is in omega (arith, e)
+not_full StoreFull other is = other refl
+
+-- the refusals that code makes are none of a full store
+other_fault : (f : Fault) → refusal_of f ≡ StoreFull → ⊥
+other_fault (fault.UnknownName name) is = cc
+other_fault (fault.ExistsAlready name) is = cc
+other_fault fault.WrongValues is = cc
+other_fault (fault.KeyExists key) is = cc
+other_fault fault.ValueTooLong is = cc
+other_fault (fault.NotInProfile place) is = cc
+other_fault fault.OutOfRange is = cc
+other_fault fault.NoIndexOfKind is = cc
+other_fault fault.BadValue is = cc
+other_fault fault.LimitReached is = cc
+
+if_some : (b : Bool) (line done : List ℕ) → (if b then Some line else None) ≡ Some done → line ≡ done
+if_some true line done is = cc
+if_some false line done is = cc
+
+-- and no change is said to be made by that line
+pub not_done : (s : Statement) (done : List ℕ) → done_line s ≡ Some done → done ≡ store_full → ⊥
+unfolding second
+not_done (CreateTable name columns) done is full = let line : table_created ≡ done = cc in let e : 97 ≡ 56 = ap second (line ∙ full) in omega (arith, e)
+not_done (CreateIndex name table column kind parameters parallel) done is full = let e : 110 ≡ 56 = ap second (if_some (is_built_index kind parameters parallel) index_created done is ∙ full) in omega (arith, e)
+not_done (Insert table columns values) done is full = let line : row_created ≡ done = cc in let e : 32 ≡ 56 = ap second (line ∙ full) in omega (arith, e)
+not_done (Exec pack procedure args) done is full = let e : 76 ≡ 56 = ap second (if_some (is_sync pack procedure) call_done done is ∙ full) in omega (arith, e)
+not_done (DropTable name) done is full = cc
+not_done (DropIndex name) done is full = cc
+not_done (Update table assigns conds) done is full = cc
+not_done (Delete table conds) done is full = cc
+not_done (Select list table preds orders) done is full = cc
+not_done Commit done is full = cc
+
+-- ---- before a commit
+
+-- reads that ended for want of memory or of room are reads
+pub reads_memory : (old new : Keeping) → Reads old new (Some Memory) → Reads old new None
+reads_memory old new reads = record { kept = kept_memory old new reads.kept; content = reads.content; time = reads.time; now = reads.now; fulls = reads.fulls }
+
+pub reads_full : (old new : Keeping) → Reads old new (Some NoRoom) → Reads old new None
+reads_full old new reads = record { kept = kept_full old new reads.kept; content = reads.content; time = reads.time; now = reads.now; fulls = reads.fulls }
+
+-- they leave the content
+pub stays_read : (old new : Keeping) → IsSettled old → Reads old new None → ContentStays old new
+stays_read old new settled reads = λ c holds. reads_only c old new settled holds reads
+
+returns_failed : (done : List ℕ) (old new : Keeping) (fault : KeepFault) → IsSettled old → Reads old new (Some fault) → Returns done old new (Err fault)
+returns_failed done old new Memory settled reads = stays_read old new settled (reads_memory old new reads)
+returns_failed done old new NoRoom settled reads = stays_read old new settled (reads_full old new reads)
+returns_failed done old new Disk settled reads = λ c holds. record { next = c; goes = reads_failed c c old new Disk settled holds reads }
+
+-- by the fault of a read
+pub returns_by_read : (done : List ℕ) (old new : Keeping) (result : Result (Vec ℕ Global) KeepFault) (fault : KeepFault) → IsSettled old → Reads old new (Some fault) → (x : KeepFault) × (result ≡ Err x) × (x ≡ fault) → Returns done old new result
+returns_by_read done old new result fault settled reads p =
+    subst (Returns done old new) (sym p.1)
+    (subst (λ (x : KeepFault). Returns done old new (Err x)) (sym p.2) (returns_failed done old new fault settled reads))
+
+-- after reads, for want of memory
+pub returns_short : (done : List ℕ) (old new : Keeping) (result : Result (Vec ℕ Global) KeepFault) → IsSettled old → Reads old new None → (x : KeepFault) × (result ≡ Err x) × (x ≡ Memory) → Returns done old new result
+returns_short done old new result settled reads p = returns_by_read done old new result Memory settled (reads_short old new reads) p
+
+pub looks_short : (old new : Keeping) (result : Result (Vec ℕ Global) KeepFault) → Reads old new None → (x : KeepFault) × (result ≡ Err x) × (x ≡ Memory) → Looks old new result
+looks_short old new result reads p =
+    subst (Looks old new) (sym p.1)
+    (subst (λ (x : KeepFault). Looks old new (Err x)) (sym p.2) (record { reads = reads_short old new reads; never_full = λ e. cc }))
+
+-- after reads, with the line of a refusal
+pub returns_refusal : (done : List ℕ) (old new : Keeping) (line : Vec ℕ Global) (fault : Fault) → Reads old new None → line.items ≡ refusal_line (refusal_of fault) → Returns done old new (Ok line)
+returns_refusal done old new line fault reads says = inr (record { refusal = refusal_of fault; says = says; other = other_fault fault; reads = reads })
+
+-- ---- a commit
+
+came_failed : (c next : Content) (old new : Keeping) → Goes c next old new (Some Memory) → Goes c c old new None
+came_failed c next old new goes = record {
+  content = goes.content;
+  time = passes_more old.time new.time _ _ goes.time (λ stopped said p. (inl p.0, p.1));
+  now = λ stopped said now. let p = goes.now stopped said now in (inl p.0, p.1);
+}
+
+came_full : (c next : Content) (old new : Keeping) → Goes c next old new (Some NoRoom) → Goes c c old new None
+came_full c next old new goes = record {
+  content = goes.content;
+  time = passes_more old.time new.time _ _ goes.time (λ stopped said p. (inl p.0, p.1));
+  now = λ stopped said now. let p = goes.now stopped said now in (inl p.0, p.1);
+}
+
+pub returns_uncommitted : (done : List ℕ) (old new : Keeping) (next : Content → Content) (result : Result (Vec ℕ Global) KeepFault) (fault : KeepFault) → ((c : Content) → old.content ≡ Some c → Goes c (next c) old new (Some fault))
+    → (x : KeepFault) × (result ≡ Err x) × (x ≡ fault) → Returns done old new result
+returns_uncommitted done old new next result fault goes p =
+    subst (Returns done old new) (sym p.1)
+    (subst (λ (x : KeepFault). Returns done old new (Err x)) (sym p.2) (failed fault goes))
+  where
+    failed : (fault : KeepFault) → ((c : Content) → old.content ≡ Some c → Goes c (next c) old new (Some fault)) → Returns done old new (Err fault)
+    failed Memory goes = λ c holds. came_failed c (next c) old new (goes c holds)
+    failed NoRoom goes = λ c holds. came_full c (next c) old new (goes c holds)
+    failed Disk goes = λ c holds. record { next = next c; goes = goes c holds }
+
+pub returns_committed : (old new : Keeping) (next : Content → Content) (reply : Vec ℕ Global) → ((c : Content) → old.content ≡ Some c → Goes c (next c) old new None) → Returns reply.items old new (Ok reply)
+returns_committed old new next reply goes = inl (record { says = refl; commits = λ c holds. record { next = next c; goes = goes c holds } })
+
+-- ---- reads, and then more
+
+stays_then : (old mid new : Keeping) → Reads old mid None → ContentStays mid new → ContentStays old new
+stays_then old mid new reads stays = λ c holds. reads_then c c old mid new None reads (stays c (reads_hold old mid c reads holds))
+
+commits_then : (old mid new : Keeping) (fault : Option KeepFault) → Reads old mid None → CommitsOnce mid new fault → CommitsOnce old new fault
+commits_then old mid new fault reads commits = λ c holds.
+    let x = commits c (reads_hold old mid c reads holds) in
+    record { next = x.next; goes = reads_then c x.next old mid new fault reads x.goes }
+
+pub returns_then : (done : List ℕ) (old mid new : Keeping) (result : Result (Vec ℕ Global) KeepFault) → Reads old mid None → Returns done mid new result → Returns done old new result
+returns_then done old mid new (Ok reply) reads (inl made) = inl (record { says = made.says; commits = commits_then old mid new None reads made.commits })
+returns_then done old mid new (Ok reply) reads (inr refused) = inr (record { refusal = refused.refusal; says = refused.says; other = refused.other; reads = reads_on old mid new None reads refused.reads })
+returns_then done old mid new (Err Memory) reads stays = stays_then old mid new reads stays
+returns_then done old mid new (Err NoRoom) reads stays = stays_then old mid new reads stays
+returns_then done old mid new (Err Disk) reads commits = commits_then old mid new (Some Disk) reads commits
+
+-- reads, and then a commit with this line
+pub returns_done : (done line : List ℕ) (old mid new : Keeping) (result : Result (Vec ℕ Global) KeepFault) → Reads old mid None → line ≡ done → Returns line mid new result → Returns done old new result
+returns_done done line old mid new result reads is returns = returns_then done old mid new result reads (subst (λ (l : List ℕ). Returns l mid new result) is returns)
+
+-- ---- by the line that a statement has
+
+-- one that isn't built yet is refused without a look
+pub returns_unbuilt : (done : List ℕ) (old new : Keeping) (line : Vec ℕ Global) → Reads old new None → line.items ≡ refusal_line NotUnderstood → Returns done old new (Ok line)
+returns_unbuilt done old new line reads says = inr (record { refusal = NotUnderstood; says = says; other = λ e. cc; reads = reads })
+
+pub returns_if : (b : Bool) (done : List ℕ) (old new : Keeping) (result : Result (Vec ℕ Global) KeepFault) → (b ≡ false → Looks old new result) → (b ≡ true → Returns done old new result) → ReturnsBy (if b then Some done else None) old new result
+returns_if true done old new result looks returns = returns refl
+returns_if false done old new result looks returns = looks refl
+
+pub looks_none : (line : Option (List ℕ)) (old new : Keeping) (result : Result (Vec ℕ Global) KeepFault) → line ≡ None → ReturnsBy line old new result → Looks old new result
+looks_none None old new result is looks = looks
+looks_none (Some done) old new result is returns = cc
+
+pub returns_some : (line : Option (List ℕ)) (done : List ℕ) (old new : Keeping) (result : Result (Vec ℕ Global) KeepFault) → line ≡ Some done → ReturnsBy line old new result → Returns done old new result
+returns_some None done old new result is looks = cc
+returns_some (Some line) done old new result is returns = let same : line ≡ done = cc in subst (λ (l : List ℕ). Returns l old new result) same returns
+
+pub is_not : (b : Bool) → not b ≡ true → b ≡ false
+is_not true is = cc
+is_not false is = refl
+
+-- a statement that isn't built yet, or asks of a text alone, has no such line
+if_none : (b : Bool) (line : List ℕ) → not b ≡ true → (if b then Some line else None) ≡ None
+if_none true line is = cc
+if_none false line is = refl
+
+pub fixed_looks : (s : Statement) → is_fixed s ≡ true → done_line s ≡ None
+fixed_looks (CreateTable name columns) is = cc
+fixed_looks (CreateIndex name table column kind parameters parallel) is = if_none (is_built_index kind parameters parallel) index_created is
+fixed_looks (Insert table columns values) is = cc
+fixed_looks (Exec pack procedure args) is = if_none (is_sync pack procedure) call_done is
+fixed_looks (DropTable name) is = refl
+fixed_looks (DropIndex name) is = refl
+fixed_looks (Update table assigns conds) is = refl
+fixed_looks (Delete table conds) is = refl
+fixed_looks (Select list table preds orders) is = refl
+fixed_looks Commit is = refl
+
+-- ---- the reply
+
+pub tells_text : (done : List ℕ) (old new : Keeping) (lines : Vec ℕ Global) (reply : List ℕ) → reply ≡ lines.items → Returns done old new (Ok lines) → Tells done old new (Ok (ReplyText reply))
+tells_text done old new lines reply is (inl made) = inl (record { says = is ∙ made.says; commits = made.commits })
+tells_text done old new lines reply is (inr refused) = inr (inl (record { refusal = refused.refusal; says = is ∙ refused.says; other = refused.other; reads = refused.reads }))
+
+-- a line of it that says that the store is full is by the keeper's answer
+pub text_not_full : (s : Statement) (done : List ℕ) (old new : Keeping) (lines : Vec ℕ Global) (reply : List ℕ) → done_line s ≡ Some done → reply ≡ lines.items → Returns done old new (Ok lines) → reply ≡ store_full → ⊥
+text_not_full s done old new lines reply has is (inl made) full = not_done s done has (sym made.says ∙ sym is ∙ full)
+text_not_full s done old new lines reply has is (inr refused) full = not_full refused.refusal refused.other (sym refused.says ∙ sym is ∙ full)
+
+pub tells_full : (done : List ℕ) (old new : Keeping) (reply : Reply) → IsFullReply reply → ContentStays old new → Rose old.counts.fulls new.counts.fulls → Tells done old new (Ok reply)
+tells_full done old new (ReplyText reply) says stays rose = inr (inr (record { says = says; stays = stays; rose = rose }))
+tells_full done old new ReplyNoMemory says stays rose = stays
+
+pub if_text : (says : List ℕ → Type 0) (reply : Reply) → ((text : List ℕ) → says text) → IfText says (Ok reply)
+if_text says (ReplyText reply) all = all reply
+if_text says ReplyNoMemory all = tt
