@@ -23,7 +23,7 @@ pub enum Fault<'a> {
     KeyExists(i64),
     /// A value is over its length.
     ValueTooLong,
-    /// A query text has no operator of the profile at this place, counted from 1.
+    /// What stands at this place of a query text, counted from 1, isn't in the profile.
     NotInProfile(u32),
     /// A number of the statement is out of its range.
     OutOfRange,

@@ -61,7 +61,7 @@ is_threshold (Some n) = nat_le n 100
 
 -- ---- the query text
 
--- the words that are operators, functions or refused, in lower case; so they are no words of a text
+-- the words that are operators, functions or refused, in lower case; so no query text is one of them
 unfoldable pub reserved_words : List (List ℕ)
 reserved_words =
     codes "and" ∷ codes "or" ∷ codes "not" ∷ codes "minus" ∷ codes "equiv" ∷ codes "near" ∷ codes "within" ∷ codes "accum"
