@@ -13,7 +13,7 @@ use Rattle.ct_keep.specs.Composing.{reads_on, reads_hold, reads_then, reads_only
 use Rattle.db_cond.specs.declared.faults.Fault.{Fault}
 use Rattle.db_cond.specs.declared.faults.Fault.TheVariants as fault
 use Rattle.db_cond.specs.Refused.{refusal_of}
-use Rattle.db_cond.specs.Faults.{Refusal, NotUnderstood, UnknownName, ExistsAlready, WrongValues, KeyExists, ValueTooLong, StatementTooLong, NotInProfile, OutOfRange, NoIndexOfKind, BadValue, LimitReached, StoreFull, refusal_line, store_full}
+use Rattle.db_cond.specs.Faults.{Refusal, NotUnderstood, UnknownName, ExistsAlready, WrongValues, KeyExists, ValueTooLong, StatementTooLong, NotInProfile, OutOfRange, NoIndexOfKind, BadValue, LimitReached, refusal_line, store_full}
 use Rattle.st_parse.specs.declared.statements.Statement.{Statement}
 use Rattle.st_parse.specs.declared.statements.Statement.TheVariants.{CreateTable, DropTable, DropIndex, CreateIndex, Insert, Update, Delete, Select, Exec, Commit}
 use Rattle.db_engine.specs.Creating.{table_created, index_created}
@@ -31,35 +31,21 @@ second : List ℕ → ℕ
 second (a ∷ b ∷ bs) = b
 second bs = 0
 
--- a refusal of another cause has another line than that the store is full
-pub not_full : (r : Refusal) → (r ≡ StoreFull → ⊥) → refusal_line r ≡ store_full → ⊥
+-- no refusal has the line that the store is full
+pub not_full : (r : Refusal) → refusal_line r ≡ store_full → ⊥
 unfolding second
-not_full NotUnderstood other is = let e : 49 ≡ 56 = ap second is in omega (arith, e)
-not_full (UnknownName name) other is = let e : 49 ≡ 56 = ap second is in omega (arith, e)
-not_full (ExistsAlready name) other is = let e : 49 ≡ 56 = ap second is in omega (arith, e)
-not_full WrongValues other is = let e : 49 ≡ 56 = ap second is in omega (arith, e)
-not_full (KeyExists key) other is = let e : 49 ≡ 56 = ap second is in omega (arith, e)
-not_full ValueTooLong other is = let e : 49 ≡ 56 = ap second is in omega (arith, e)
-not_full StatementTooLong other is = let e : 49 ≡ 56 = ap second is in omega (arith, e)
-not_full (NotInProfile place) other is = let e : 50 ≡ 56 = ap second is in omega (arith, e)
-not_full OutOfRange other is = let e : 50 ≡ 56 = ap second is in omega (arith, e)
-not_full NoIndexOfKind other is = let e : 50 ≡ 56 = ap second is in omega (arith, e)
-not_full BadValue other is = let e : 51 ≡ 56 = ap second is in omega (arith, e)
-not_full LimitReached other is = let e : 51 ≡ 56 = ap second is in omega (arith, e)
-not_full StoreFull other is = other refl
-
--- the refusals that code makes are none of a full store
-other_fault : (f : Fault) → refusal_of f ≡ StoreFull → ⊥
-other_fault (fault.UnknownName name) is = cc
-other_fault (fault.ExistsAlready name) is = cc
-other_fault fault.WrongValues is = cc
-other_fault (fault.KeyExists key) is = cc
-other_fault fault.ValueTooLong is = cc
-other_fault (fault.NotInProfile place) is = cc
-other_fault fault.OutOfRange is = cc
-other_fault fault.NoIndexOfKind is = cc
-other_fault fault.BadValue is = cc
-other_fault fault.LimitReached is = cc
+not_full NotUnderstood is = let e : 49 ≡ 56 = ap second is in omega (arith, e)
+not_full (UnknownName name) is = let e : 49 ≡ 56 = ap second is in omega (arith, e)
+not_full (ExistsAlready name) is = let e : 49 ≡ 56 = ap second is in omega (arith, e)
+not_full WrongValues is = let e : 49 ≡ 56 = ap second is in omega (arith, e)
+not_full (KeyExists key) is = let e : 49 ≡ 56 = ap second is in omega (arith, e)
+not_full ValueTooLong is = let e : 49 ≡ 56 = ap second is in omega (arith, e)
+not_full StatementTooLong is = let e : 49 ≡ 56 = ap second is in omega (arith, e)
+not_full (NotInProfile place) is = let e : 50 ≡ 56 = ap second is in omega (arith, e)
+not_full OutOfRange is = let e : 50 ≡ 56 = ap second is in omega (arith, e)
+not_full NoIndexOfKind is = let e : 50 ≡ 56 = ap second is in omega (arith, e)
+not_full BadValue is = let e : 51 ≡ 56 = ap second is in omega (arith, e)
+not_full LimitReached is = let e : 51 ≡ 56 = ap second is in omega (arith, e)
 
 if_some : (b : Bool) (line done : List ℕ) → (if b then Some line else None) ≡ Some done → line ≡ done
 if_some true line done is = cc
@@ -114,7 +100,7 @@ looks_short old new result reads p =
 
 -- after reads, with the line of a refusal
 pub returns_refusal : (done : List ℕ) (old new : Keeping) (line : Vec ℕ Global) (fault : Fault) → Reads old new None → line.items ≡ refusal_line (refusal_of fault) → Returns done old new (Ok line)
-returns_refusal done old new line fault reads says = inr (record { refusal = refusal_of fault; says = says; other = other_fault fault; reads = reads })
+returns_refusal done old new line fault reads says = inr (record { refusal = refusal_of fault; says = says; reads = reads })
 
 -- ---- a commit
 
@@ -158,7 +144,7 @@ commits_then old mid new fault reads commits = λ c holds.
 
 pub returns_then : (done : List ℕ) (old mid new : Keeping) (result : Result (Vec ℕ Global) KeepFault) → Reads old mid None → Returns done mid new result → Returns done old new result
 returns_then done old mid new (Ok reply) reads (inl made) = inl (record { says = made.says; commits = commits_then old mid new None reads made.commits })
-returns_then done old mid new (Ok reply) reads (inr refused) = inr (record { refusal = refused.refusal; says = refused.says; other = refused.other; reads = reads_on old mid new None reads refused.reads })
+returns_then done old mid new (Ok reply) reads (inr refused) = inr (record { refusal = refused.refusal; says = refused.says; reads = reads_on old mid new None reads refused.reads })
 returns_then done old mid new (Err Memory) reads stays = stays_then old mid new reads stays
 returns_then done old mid new (Err NoRoom) reads stays = stays_then old mid new reads stays
 returns_then done old mid new (Err Disk) reads commits = commits_then old mid new (Some Disk) reads commits
@@ -171,7 +157,7 @@ returns_done done line old mid new result reads is returns = returns_then done o
 
 -- one that isn't built yet is refused without a look
 pub returns_unbuilt : (done : List ℕ) (old new : Keeping) (line : Vec ℕ Global) → Reads old new None → line.items ≡ refusal_line NotUnderstood → Returns done old new (Ok line)
-returns_unbuilt done old new line reads says = inr (record { refusal = NotUnderstood; says = says; other = λ e. cc; reads = reads })
+returns_unbuilt done old new line reads says = inr (record { refusal = NotUnderstood; says = says; reads = reads })
 
 pub returns_if : (b : Bool) (done : List ℕ) (old new : Keeping) (result : Result (Vec ℕ Global) KeepFault) → (b ≡ false → Looks old new result) → (b ≡ true → Returns done old new result) → ReturnsBy (if b then Some done else None) old new result
 returns_if true done old new result looks returns = returns refl
@@ -210,12 +196,12 @@ fixed_looks Commit is = refl
 
 pub tells_text : (done : List ℕ) (old new : Keeping) (lines : Vec ℕ Global) (reply : List ℕ) → reply ≡ lines.items → Returns done old new (Ok lines) → Tells done old new (Ok (ReplyText reply))
 tells_text done old new lines reply is (inl made) = inl (record { says = is ∙ made.says; commits = made.commits })
-tells_text done old new lines reply is (inr refused) = inr (inl (record { refusal = refused.refusal; says = is ∙ refused.says; other = refused.other; reads = refused.reads }))
+tells_text done old new lines reply is (inr refused) = inr (inl (record { refusal = refused.refusal; says = is ∙ refused.says; reads = refused.reads }))
 
 -- a line of it that says that the store is full is by the keeper's answer
 pub text_not_full : (s : Statement) (done : List ℕ) (old new : Keeping) (lines : Vec ℕ Global) (reply : List ℕ) → done_line s ≡ Some done → reply ≡ lines.items → Returns done old new (Ok lines) → reply ≡ store_full → ⊥
 text_not_full s done old new lines reply has is (inl made) full = not_done s done has (sym made.says ∙ sym is ∙ full)
-text_not_full s done old new lines reply has is (inr refused) full = not_full refused.refusal refused.other (sym refused.says ∙ sym is ∙ full)
+text_not_full s done old new lines reply has is (inr refused) full = not_full refused.refusal (sym refused.says ∙ sym is ∙ full)
 
 pub tells_full : (done : List ℕ) (old new : Keeping) (reply : Reply) → IsFullReply reply → ContentStays old new → Rose old.counts.fulls new.counts.fulls → Tells done old new (Ok reply)
 tells_full done old new (ReplyText reply) says stays rose = inr (inr (record { says = says; stays = stays; rose = rose }))

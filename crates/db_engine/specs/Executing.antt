@@ -10,7 +10,7 @@ use Rattle.ct_keep.specs.Keeping.{Keeping, Reads, Goes, fault_of}
 use Rattle.st_parse.specs.declared.statements.SelectList.TheVariants.{Star}
 use Rattle.st_parse.specs.declared.statements.Statement.{Statement}
 use Rattle.st_parse.specs.declared.statements.Statement.TheVariants.{CreateTable, CreateIndex, Insert, Select, Exec}
-use Rattle.db_cond.specs.Faults.{Refusal, StoreFull, refusal_line, store_full}
+use Rattle.db_cond.specs.Faults.{Refusal, refusal_line, store_full}
 use Rattle.db_engine.specs.States.{State, Stands}
 use Rattle.db_engine.specs.Refusals.{Effect, state_by, reply_by, is_done}
 use Rattle.db_engine.specs.Creating.{table_created, index_created}
@@ -131,11 +131,10 @@ pub record IsMade (done reply : List ℕ) (old new : Keeping) : Type 0 where
   pub says : reply ≡ done
   pub commits : CommitsOnce old new None
 
--- The reply is the line of a refusal, and nothing was done but reading. That the store is full is none of these.
+-- The reply is the line of a refusal, and nothing was done but reading. That the store is full is no refusal.
 pub record IsRefused (reply : List ℕ) (old new : Keeping) : Type 0 where
   pub refusal : Refusal
   pub says : reply ≡ refusal_line refusal
-  pub other : refusal ≡ StoreFull → ⊥
   pub reads : Reads old new None
 
 -- The reply says that the store is full: how often the keeper found that rose, and the content stays as it is.

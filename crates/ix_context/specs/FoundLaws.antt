@@ -8,7 +8,8 @@ use Rattle.std.specs.Ordering.{int_cmp}
 use Rattle.std.specs.FinMap.{get, entries, find, get-entries, int_cmp-IsAntisymmetric}
 use Rattle.std.proofs.lemmas.Bool.{lt-ltb, ltb-true}
 use Rattle.std.proofs.lemmas.Cmp.{int_cmp_total}
-use Rattle.ct_entry.specs.Rising.{rises, entries_rise, pair_found, found_pair}
+use Rattle.ct_keep.specs.RisingKeys.{rises, entries_rise}
+use Rattle.ct_entry.specs.Rising.{pair_found, found_pair}
 use Rattle.tb_table.specs.Tables.{Tables}
 use Rattle.ix_context.specs.Postings.{word_score}
 use Rattle.ix_context.specs.Indexes.{Index, Mark, Pending, Marked, text_seen, scored, found_at, found}
