@@ -3,7 +3,7 @@
 use crate::running::{run, serve};
 use ct_base::{Memory, Numbers};
 use ct_keep::MemKeeper;
-use ct_site::{Disk, Failed, Faults, MemSite, Rooms, Site};
+use ct_site::{Disk, Failed, Faults, MemSite, QuietSite, Rooms, Site};
 use std::alloc::Global;
 use std::test::Fail;
 use std::thread::Threads;
@@ -345,13 +345,31 @@ E16: value too long
     ),
 ];
 
-/// What is said to a script behind the schema, by a run.
-fn said_to<R: Threads + Sync>(rt: &R, alloc: Global, script: &str) -> Result<Vec<u8>, Memory> {
+/// The schema, and then a script.
+fn behind_schema(alloc: Global, script: &[u8]) -> Result<Vec<u8>, Memory> {
     let mut whole = Vec::from_slice(alloc, SCHEMA.as_bytes())?;
-    whole.extend_from_slice(script.as_bytes())?;
+    whole.extend_from_slice(script)?;
+    Ok(whole)
+}
+
+/// What is said to a script behind the schema, by a run.
+fn said_to<R: Threads + Sync>(rt: &R, alloc: Global, script: &[u8]) -> Result<Vec<u8>, Memory> {
+    let whole = behind_schema(alloc, script)?;
     let site = site_of(alloc, &whole, 4096, &[], &[])?;
     let (_, said) = outcome(rt, alloc, site)?;
     Ok(said)
+}
+
+/// The same over a site that has no list of faults.
+fn said_quietly<R: Threads + Sync>(
+    rt: &R,
+    alloc: Global,
+    script: &[u8],
+) -> Result<Vec<u8>, Memory> {
+    let whole = behind_schema(alloc, script)?;
+    let mut site = QuietSite::new(alloc, whole, Vec::new(alloc), AMPLE)?;
+    let _ = run(rt, alloc, &[], &mut site);
+    Ok(Vec::from_slice(alloc, site.said())?)
 }
 
 /// Whether what was said is the replies to the schema, and then this.
@@ -366,9 +384,30 @@ fn is_behind_schema(said: &[u8], want: &str) -> bool {
 fn rows_are_kept_and_found(rt: HostRuntime) -> Result<(), Fail> {
     let alloc = rt.alloc();
     for (script, want) in INDEXED.iter() {
-        let said = said_to(&rt, alloc, script)?;
+        let said = said_to(&rt, alloc, script.as_bytes())?;
         assert!(rt; is_behind_schema(&said, want), "{want}");
     }
+    Ok(())
+}
+
+#[test]
+fn the_first_index_over_a_quiet_site(rt: HostRuntime) -> Result<(), Fail> {
+    let alloc = rt.alloc();
+    let (script, want) = INDEXED[0];
+    let said = said_quietly(&rt, alloc, script.as_bytes())?;
+    assert!(rt; is_behind_schema(&said, want));
+    Ok(())
+}
+
+#[test]
+fn a_text_of_4001_letters_is_too_long(rt: HostRuntime) -> Result<(), Fail> {
+    let alloc = rt.alloc();
+    let mut script = Vec::from_slice(alloc, b"INSERT INTO docs VALUES (1,'")?;
+    let letters = Vec::from_elem(alloc, b'a', 4001)?;
+    script.extend_from_slice(&letters)?;
+    script.extend_from_slice(b"',0);\n")?;
+    let said = said_to(&rt, alloc, &script)?;
+    assert!(rt; is_behind_schema(&said, "E16: value too long\n"));
     Ok(())
 }
 
@@ -383,8 +422,7 @@ fn a_word_that_occurs_often_scores_100(rt: HostRuntime) -> Result<(), Fail> {
         b"',0);\nINSERT INTO docs VALUES (2,'quick',0);\nEXEC CTX_DDL.SYNC_INDEX('di');\n",
     )?;
     script.extend_from_slice(QUICK.as_bytes())?;
-    let mut whole = Vec::from_slice(alloc, SCHEMA.as_bytes())?;
-    whole.extend_from_slice(&script)?;
+    let whole = behind_schema(alloc, &script)?;
     let site = site_of(alloc, &whole, 4096, &[], &[])?;
     let (status, said) = outcome(&rt, alloc, site)?;
     assert_eq!(rt; status, 0);
