@@ -1,5 +1,5 @@
 -- What calls of a keeper make together: each of its relations of one call after another.
-use Rattle.std.specs.Prelude.{ℕ, ◌≡◌, ◌<◌, ◌+◌, List, [], ◌++◌, length, Bool, Option, Some, None, refl}
+use Rattle.std.specs.Prelude.{ℕ, ◌≡◌, List, [], ◌++◌, Bool, Option, Some, None, refl}
 use Rattle.std.proofs.Common.{sym, ap, subst, inl, ◌∙◌, arith, length-append}
 use Rattle.ct_base.specs.Causes.{Rose}
 use Rattle.ct_base.specs.Told.{IsSaid, ahead, behind, ahead_none, ahead_twice, SaysPart, behind_none, behind_twice, says_front, says_back}

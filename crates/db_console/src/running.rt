@@ -29,8 +29,8 @@ const BAD_WORDS: u8 = 2;
 
 /// Serves a script of at most `most` bytes over a keeper, and answers a status: 0 where all of the script was answered, 3, 4 and 6
 /// for a fault of hearing, of saying and of the disk, 5 where there was no memory to begin with, and 8 for a script of over `most`
-/// bytes. At most `degree` threads are at work on a statement. After 6 the keeper may not be called again. Its cost is that of
-/// the statements.
+/// bytes. At most `degree` threads are at work on a statement. After 6 the keeper may be asked to hear and to say alone. Its
+/// cost is that of the statements.
 pub fn serve<R: Threads + Sync, K: Keeper>(
     rt: &R,
     alloc: Global,

@@ -11,7 +11,7 @@ use ct_site::Failed;
 pub enum Stop {
     /// Saying failed.
     Say,
-    /// The disk failed; the keeper may not be called again.
+    /// The disk failed. From then on the keeper may be asked to hear and to say alone.
     Disk,
 }
 
