@@ -48,12 +48,7 @@ fn named(alloc: Global, text: &str) -> Result<Name, Memory> {
 }
 
 /// Puts a row with one text into a table.
-fn add_row(
-    alloc: Global,
-    keeper: &mut MemKeeper,
-    row: i64,
-    text: &str,
-) -> Result<(), Fail> {
+fn add_row(alloc: Global, keeper: &mut MemKeeper, row: i64, text: &str) -> Result<(), Fail> {
     let table = named(alloc, "docs")?;
     let mut texts = Vec::new(alloc);
     texts
@@ -79,12 +74,7 @@ fn add_index(
 }
 
 /// Lets a row wait.
-fn add_note(
-    alloc: Global,
-    keeper: &mut MemKeeper,
-    index: &Name,
-    row: i64,
-) -> Result<(), Fail> {
+fn add_note(alloc: Global, keeper: &mut MemKeeper, index: &Name, row: i64) -> Result<(), Fail> {
     let mut batch = Batch::new(alloc);
     note_insert(alloc, &mut batch, index, RowKey(row))?;
     commit(alloc, keeper, batch)
@@ -108,12 +98,7 @@ fn say_hit(alloc: Global, line: &mut String, hit: Hit) -> Result<(), Memory> {
 }
 
 /// The rows that have a word, each with its score.
-fn found(
-    alloc: Global,
-    keeper: &mut MemKeeper,
-    index: &Name,
-    word: &str,
-) -> Result<String, Fail> {
+fn found(alloc: Global, keeper: &mut MemKeeper, index: &Name, word: &str) -> Result<String, Fail> {
     let word = key(alloc, word)?;
     let hits = search(alloc, keeper, index, &word)?;
     let mut line = String::new(alloc);
