@@ -1,5 +1,5 @@
 -- Why a statement is refused, and the line that says so; and the reply of a query without a line.
-use Rattle.std.specs.Prelude.{ℕ, ℤ, pos, List, [], ◌∷◌, ◌++◌, codes, ◌≡◌, refl}
+use Rattle.std.specs.Prelude.{ℕ, ℤ, pos, List, ◌++◌, codes, ◌≡◌, refl}
 use Rattle.std.specs.Fmt.{signed_decimal, digits}
 use Rattle.db_cond.specs.Lines.{printed_text}
 

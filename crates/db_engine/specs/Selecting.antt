@@ -155,7 +155,7 @@ two_words = refl
 no_threshold : is_threshold (as_count (Fits (pos 101))) ≡ false
 no_threshold = refl
 
--- SCORE(1) without a label; then an empty query text, which is no word
+-- SCORE(1) where CONTAINS has no label, an empty query text, which is no word, and a threshold over 100
 label_and_threshold : (done : Effect) → check_select (Score (Fits (pos 1)) ∷ []) [] None (Some 101) done ≡ Refused WrongValues
 label_and_threshold done = refl
 

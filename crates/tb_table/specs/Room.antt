@@ -1,5 +1,5 @@
 -- How much room tables take: what their entries weigh.
-use Rattle.std.specs.Prelude.{ℕ, ℤ, ◌+◌, sum_by, List, [], pos, ◌≡◌, ◌∷◌, ◌++◌, replicate, codes, refl}
+use Rattle.std.specs.Prelude.{ℕ, ℤ, ◌+◌, sum_by, List, [], pos, ◌≡◌, ◌∷◌, replicate, codes, refl}
 use Rattle.std.specs.FinMap.{entries, entries-from_sorted}
 use Rattle.ct_base.specs.declared.lists.Value.{Value}
 use Rattle.ct_keep.specs.Content.{entry_weight}
