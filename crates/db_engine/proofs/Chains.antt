@@ -1,5 +1,5 @@
 -- The chain of checks by the answer of each.
-use Rattle.std.proofs.Common.{◌≡◌, ℕ, Bool, true, false, List, Option, Some, None, refl, sym, ap, ◌∙◌}
+use Rattle.std.proofs.Common.{◌≡◌, ℕ, Bool, true, false, List, Option, Some, None, refl, ap, ◌∙◌}
 use Rattle.db_cond.specs.declared.faults.Fault.{Fault}
 use Rattle.db_cond.specs.Faults.{Refusal}
 use Rattle.db_cond.specs.Refused.{refusal_of}

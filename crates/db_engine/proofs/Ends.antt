@@ -1,5 +1,5 @@
 -- How a statement ends before its commit.
-use Rattle.std.proofs.Common.{◌≡◌, ℕ, Option, Some, None, Result, Ok, Err, Vec, sym, subst}
+use Rattle.std.proofs.Common.{◌≡◌, ℕ, Some, None, Result, Ok, Err, Vec, sym, subst}
 use Rattle.std.specs.declared.alloc.Global.{Global}
 use Rattle.ct_keep.specs.declared.keepers.KeepFault.{KeepFault}
 use Rattle.ct_keep.specs.declared.keepers.KeepFault.TheVariants.{Memory, Full}

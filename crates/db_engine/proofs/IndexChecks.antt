@@ -1,21 +1,21 @@
 -- What the checks of CREATE INDEX read.
-use Rattle.std.proofs.Common.{◌≡◌, ℕ, zero, suc, ◌+◌, ◌<◌, ◌≤◌, Bool, true, false, cond, List, [], ◌∷◌, length, Option, Some, None, refl, sym, ap, subst, ◌∙◌, arith}
-use Rattle.std.specs.Prelude.{◌==◌, ◌&&◌, ◌||◌, is_some, not, filter, map, nat_lt, nat_le}
+use Rattle.std.proofs.Common.{◌≡◌, ℕ, suc, ◌+◌, ◌<◌, ◌≤◌, Bool, true, false, cond, List, [], ◌∷◌, length, Option, Some, None, refl, sym, ap, ◌∙◌, arith}
+use Rattle.std.specs.Prelude.{◌==◌, ◌&&◌, ◌||◌, is_some, not, filter, map, nat_le}
 use Rattle.std.specs.List.{list_any}
 use Rattle.std.specs.Option.{option_map}
 use Rattle.std.specs.Ordering.{nat_cmp, eq_by_cmp}
 use Rattle.std.specs.Cmp.Lexicographic.{slice_cmp}
-use Rattle.std.specs.FinMap.{FinMap, get, insert, entries, from_entries, find, get-from_entries, empty, len-entries, len-empty}
+use Rattle.std.specs.FinMap.{get, entries, from_entries, find, get-from_entries, empty, len-entries, len-empty}
 use Rattle.std.proofs.lemmas.Bool.{le-ltb, ltb-false}
 use Rattle.ct_keep.specs.Content.{Content}
 use Rattle.tb_table.specs.declared.columns.Target.{Target}
 use Rattle.ix_context.specs.Stands.{HoldsTables}
 use Rattle.std.proofs.lemmas.Cmp.{nat_list_cmp_total}
 use Rattle.ct_entry.specs.Keys.{same_list}
-use Rattle.ct_entry.specs.Maps.{Names, each_value}
+use Rattle.ct_entry.specs.Maps.{Names}
 use Rattle.ct_entry.specs.MapLaws.{names_tie}
 use Rattle.ct_entry.specs.Listings.{key_order}
-use Rattle.ct_entry.specs.OwnerLaws.{key_order_total, key_order_tie, in_key_order}
+use Rattle.ct_entry.specs.OwnerLaws.{key_order_total, key_order_tie}
 use Rattle.ct_entry.specs.Rising.{none_below}
 use Rattle.ct_keep.specs.RisingKeys.{and_true, below, rises, entries_rise}
 use Rattle.tb_table.specs.declared.columns.Column.{Column}
@@ -31,10 +31,10 @@ use Rattle.db_cond.specs.Faults.{UnknownName}
 use Rattle.db_engine.specs.States.{State, Stands, indexes_on, most_indexes}
 use Rattle.db_engine.specs.Refusals.{Refused, Does, with_found, place_of, place_from}
 use Rattle.db_engine.specs.Creating.{has_index_on, has_too_many_rows, all_rows, target, is_text_at, check_index, index_created, with_new_index, create_index_on, create_index, IsFreeIndex}
-use Rattle.db_engine.specs.Selecting.{index_among, index_on}
+use Rattle.db_engine.specs.Selecting.{index_among}
 use Rattle.db_engine.specs.Locating.{FoundOn}
 use Rattle.db_engine.proofs.Chains.{passed}
-use Rattle.db_engine.proofs.Counting.{one, count, counted, count-cons, count_insert}
+use Rattle.db_engine.proofs.Counting.{counted, count-cons, count_insert}
 use Rattle.db_engine.proofs.EachValue.{entries-each_value, count_alike}
 use Rattle.db_engine.proofs.Heads.{head_of_index, heads}
 use Rattle.db_engine.proofs.NewMarks.{every_row}

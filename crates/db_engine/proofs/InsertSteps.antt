@@ -9,10 +9,10 @@ use Rattle.st_parse.specs.declared.statements.Operand.{Operand}
 use Rattle.tb_table.specs.declared.columns.Column.{Column}
 use Rattle.tb_table.specs.Tables.{Table}
 use Rattle.db_cond.specs.declared.faults.Fault.{Fault}
-use Rattle.db_cond.specs.Faults.{Refusal, UnknownName, WrongValues, KeyExists, ValueTooLong, OutOfRange, LimitReached}
+use Rattle.db_cond.specs.Faults.{Refusal, UnknownName, KeyExists, OutOfRange}
 use Rattle.db_cond.specs.Refused.{refusal_of}
 use Rattle.db_engine.specs.States.{State}
-use Rattle.db_engine.specs.Refusals.{Effect, Refused, Does, refuse, refuse_by, with_found, first_unknown}
+use Rattle.db_engine.specs.Refusals.{Effect, Refused, Does, refuse, refuse_by, with_found}
 use Rattle.db_engine.specs.Checking.{Checks}
 use Rattle.db_engine.specs.Inserting.{are_of_sorts, arranged, check_list, check_values, has_row, has_too_long, insert_into, insert_row, insert_values, is_beyond_range, key_in, most_rows, others_kept, row_created, taken_key, with_new_row, IsFreeRow}
 

@@ -8,7 +8,7 @@ use Rattle.st_parse.specs.declared.statements.Item.TheVariants.{Column as Column
 use Rattle.st_parse.specs.declared.statements.Whole.{Whole}
 use Rattle.tb_table.specs.declared.columns.Column.{Column}
 use Rattle.tb_table.specs.Rules.{has_column}
-use Rattle.db_engine.specs.Refusals.{place_from, place_of, first_unknown}
+use Rattle.db_engine.specs.Refusals.{place_from, first_unknown}
 use Rattle.db_engine.specs.Selecting.{columns_among}
 
 pub some_place : (k : ℕ) (name : List ℕ) (columns : List Column) → is_some (place_from k name columns) ≡ has_column name columns

@@ -1,13 +1,12 @@
 -- What reads and a commit give of an effect.
-use Rattle.std.proofs.Common.{◌≡◌, ℕ, ◌<◌, ◌≤◌, Bool, true, false, List, [], ◌∷◌, length, Option, Some, None, Result, Ok, Err, Vec, refl, sym, ap, subst, ◌∙◌, inl, inr, arith}
+use Rattle.std.proofs.Common.{◌≡◌, ℕ, ◌<◌, Bool, true, false, List, [], ◌∷◌, length, Option, Some, None, Result, Ok, Err, Vec, refl, sym, ap, subst, inl, inr, arith}
 use Rattle.std.specs.Prelude.{◌&&◌, nat_le}
 use Rattle.std.specs.List.{list_all}
 use Rattle.std.specs.Result.{IfOk}
 use Rattle.std.specs.declared.alloc.Global.{Global}
-use Rattle.ct_base.specs.Moments.{passes_more}
 use Rattle.ct_keep.specs.declared.keepers.KeepFault.{KeepFault}
 use Rattle.ct_keep.specs.declared.keepers.KeepFault.TheVariants.{Memory, Disk, Full as NoRoom}
-use Rattle.ct_keep.specs.Content.{Content, IsEntry, after, weight}
+use Rattle.ct_keep.specs.Content.{Content}
 use Rattle.std.specs.Prelude.{map}
 use Rattle.std.proofs.lemmas.Bool.{leb-true}
 use Rattle.ct_keep.specs.declared.batches.Word.{Word}
@@ -19,7 +18,7 @@ use Rattle.db_cond.specs.Faults.{Refusal, refusal_line}
 use Rattle.db_engine.specs.States.{State, Stands}
 use Rattle.db_engine.specs.Refusals.{Effect, Refused, Does, state_by, reply_by}
 use Rattle.db_engine.specs.Room.{room}
-use Rattle.db_engine.specs.Executing.{Moves, StandsBy, HasNoPlace, Gives}
+use Rattle.db_engine.specs.Executing.{StandsBy, Gives}
 use Rattle.db_engine.specs.Committing.{is_bounded, are_bounded}
 use Rattle.db_engine.proofs.Weighing.{weighs}
 

@@ -1,6 +1,6 @@
 -- The state after a synchronisation, and after a new index.
 use Rattle.std.proofs.Common.{◌≡◌, ℕ, ℤ, pos, negsuc, ◌+◌, ◌-◌, ◌^◌, ◌≤◌, ◌<◌, Bool, false, true, cond, List, [], ◌∷◌, length, Option, Some, None, refl, sym, ap, subst, ◌∙◌, arith}
-use Rattle.std.specs.Prelude.{MatchOption, is_some, ◌||◌, ◌&&◌, ◌==◌, not, zero, suc, nat_lt, nat_le, int_lt}
+use Rattle.std.specs.Prelude.{MatchOption, is_some, ◌||◌, ◌&&◌, ◌==◌, not, zero, suc, nat_le, int_lt}
 use Rattle.std.specs.List.{list_any}
 use Rattle.std.specs.declared.cmp.Ordering.TheVariants.{Less, Equal, Greater}
 use Rattle.std.specs.Ordering.{nat_cmp, int_cmp, is_lt, eq_by_cmp}
@@ -16,7 +16,7 @@ use Rattle.ct_keep.specs.RisingKeys.{and_both}
 use Rattle.ct_entry.specs.Keys.{Key, at, same_list, IsRow}
 use Rattle.ct_entry.specs.KeyLaws.{list_from_same, list_same}
 use Rattle.ct_entry.specs.Maps.{Names, altered}
-use Rattle.ct_entry.specs.Words.{spell, AllOf}
+use Rattle.ct_entry.specs.Words.{spell}
 use Rattle.ct_entry.specs.WordLaws.{at_view, at-after, only-after, told_frame}
 use Rattle.tb_table.specs.declared.columns.Sort.{Sort}
 use Rattle.tb_table.specs.declared.columns.Sort.TheVariants.{Number as NumberSort, Varchar2, Clob}

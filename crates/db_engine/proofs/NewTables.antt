@@ -1,9 +1,9 @@
 -- The state after a new table.
-use Rattle.std.proofs.Common.{◌≡◌, ℕ, ℤ, ◌<◌, ◌≤◌, Bool, true, false, cond, List, [], ◌∷◌, length, map, Option, Some, None, refl, sym, ap, subst, ◌∙◌, arith}
+use Rattle.std.proofs.Common.{◌≡◌, ℕ, ◌<◌, ◌≤◌, Bool, true, false, cond, List, [], ◌∷◌, length, map, Option, Some, None, refl, sym, ap, subst, ◌∙◌, arith}
 use Rattle.std.proofs.lemmas.List.{length-map}
 use Rattle.std.specs.Prelude.{◌&&◌, ◌||◌, not, nat_lt, nat_le, is_some}
 use Rattle.std.specs.List.{list_any, list_all}
-use Rattle.std.specs.FinMap.{get, insert, empty, entries}
+use Rattle.std.specs.FinMap.{get, empty, entries}
 use Rattle.std.proofs.lemmas.Bool.{leb-true}
 use Rattle.ct_base.specs.Names.{IsName}
 use Rattle.ct_keep.specs.Content.{Content, after}
@@ -12,17 +12,17 @@ use Rattle.ct_entry.specs.declared.kinds.Kind.TheVariants as kind
 use Rattle.ct_entry.specs.Keys.{Key, at, same_list}
 use Rattle.ct_entry.specs.KeyLaws.{list_from_same}
 use Rattle.ct_entry.specs.Maps.{Names}
-use Rattle.ct_entry.specs.Words.{spell, view}
+use Rattle.ct_entry.specs.Words.{spell}
 use Rattle.ct_entry.specs.WordLaws.{at_view, at-after, only-after, told_frame}
 use Rattle.tb_table.specs.declared.columns.Column.{Column}
 use Rattle.tb_table.specs.Tables.{Table, Tables, with_table}
 use Rattle.tb_table.specs.Spelling.{TablesStand, create_words}
-use Rattle.tb_table.specs.Rules.{AreColumns, AreTables}
+use Rattle.tb_table.specs.Rules.{AreColumns}
 use Rattle.tb_table.specs.ChangeLaws.{is_of_tables, all_create, stand_create, get-with_table, row_at-with_table}
 use Rattle.tb_table.specs.RuleLaws.{create_keeps}
 use Rattle.tb_table.specs.WellLaws.{are_create}
 use Rattle.ix_context.specs.Indexes.{Index}
-use Rattle.ix_context.specs.Rules.{AreIndexes, IsIndex, IsTarget}
+use Rattle.ix_context.specs.Rules.{AreIndexes, IsTarget}
 use Rattle.ix_context.specs.Spelling.{IndexesStand}
 use Rattle.ix_context.specs.Standing.{is_of_indexes, indexes_frame}
 use Rattle.ix_context.specs.ChangeLaws.{stay_with_table}
@@ -36,7 +36,7 @@ use Rattle.tb_table.specs.declared.columns.Sort.TheVariants.{Number}
 use Rattle.tb_table.specs.Rules.{IsSort, IsKeyFirst, AllColumns, AreApart, has_column, text_limit}
 use Rattle.db_engine.specs.Refusals.{Does, as_count}
 use Rattle.db_engine.specs.Creating.{is_number, is_key_first, are_apart, is_size, is_sized, all_sized, sort_of, column_of, most_columns, IsFreeTable, with_new_table, create_table}
-use Rattle.db_engine.specs.States.{State, IsState, Stands, is_view, is_built, most_tables}
+use Rattle.db_engine.specs.States.{State, Stands, is_view, is_built, most_tables}
 use Rattle.ct_entry.specs.Keys.{bytes}
 use Rattle.tb_table.specs.WellLaws.{TakesTables, well_create}
 use Rattle.db_engine.specs.Committing.{are_bounded}

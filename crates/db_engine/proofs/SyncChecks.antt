@@ -6,7 +6,7 @@ use Rattle.st_parse.specs.declared.statements.Arg.{Arg}
 use Rattle.ix_context.specs.Indexes.{Index}
 use Rattle.db_cond.specs.Faults.{Refusal, UnknownName}
 use Rattle.db_engine.specs.States.{State}
-use Rattle.db_engine.specs.Refusals.{Effect, Refused, Does, refuse_by, with_found}
+use Rattle.db_engine.specs.Refusals.{Effect, Does, refuse_by, with_found}
 use Rattle.db_engine.specs.Calling.{name_arg, unknown_name, check_sync, sync_found, sync_named, has_index, sync_index}
 
 -- the effect by what was read

@@ -11,7 +11,6 @@ use Rattle.ct_keep.specs.Content.{Content}
 use Rattle.ct_keep.specs.Keeping.{Keeping, Reads, Goes, IsSettled}
 use Rattle.ct_keep.specs.Composing.{reads_on, reads_hold, reads_then, reads_only, reads_failed, reads_short}
 use Rattle.db_cond.specs.declared.faults.Fault.{Fault}
-use Rattle.db_cond.specs.declared.faults.Fault.TheVariants as fault
 use Rattle.db_cond.specs.Refused.{refusal_of}
 use Rattle.db_cond.specs.Faults.{Refusal, NotUnderstood, UnknownName, ExistsAlready, WrongValues, KeyExists, ValueTooLong, StatementTooLong, NotInProfile, OutOfRange, NoIndexOfKind, BadValue, LimitReached, refusal_line, store_full}
 use Rattle.st_parse.specs.declared.statements.Statement.{Statement}

@@ -1,9 +1,8 @@
 -- What the calls of procedures do.
-use Rattle.std.specs.Prelude.{ℕ, pos, ◌+◌, ◌-◌, ◌==◌, nat_le, nat_lt, Bool, true, false, not, ◌||◌, ◌&&◌, is_some, List, [], ◌∷◌, length, map, Option, Some, None, codes, bytes_eq, ◌≡◌, refl, replicate}
+use Rattle.std.specs.Prelude.{ℕ, pos, ◌+◌, ◌-◌, ◌==◌, nat_lt, Bool, true, false, not, ◌||◌, ◌&&◌, is_some, List, [], ◌∷◌, length, map, Option, Some, None, codes, bytes_eq, ◌≡◌, refl, replicate}
 use Rattle.std.specs.Bool.{if◌then◌else◌}
 use Rattle.std.specs.Char.{to_ascii_lowercase, is_ascii_digit}
 use Rattle.std.specs.List.{flat_map}
-use Rattle.std.specs.Option.{option_and_then}
 use Rattle.std.specs.Str.{chars}
 use Rattle.std.specs.FinMap.{get}
 use Rattle.ct_base.specs.Names.{is_spelling}
@@ -12,7 +11,7 @@ use Rattle.ct_base.specs.declared.lists.Value.TheVariants.{Number, Text}
 use Rattle.tx_lexer.specs.declared.tokens.Token.{Token}
 use Rattle.tx_lexer.specs.Tokens.{tokens, default}
 use Rattle.st_parse.specs.declared.statements.Arg.{Arg}
-use Rattle.st_parse.specs.declared.statements.Arg.TheVariants.{Text as TextArg, Number as NumberArg, Flag}
+use Rattle.st_parse.specs.declared.statements.Arg.TheVariants.{Text as TextArg, Number as NumberArg}
 use Rattle.ix_context.specs.Indexes.{Index, pending_rows, synced}
 use Rattle.ix_context.specs.Rules.{most_given}
 use Rattle.tb_table.specs.Rules.{text_limit}

@@ -1,7 +1,6 @@
 -- Which words a commit takes.
-use Rattle.std.specs.Prelude.{ℕ, nat_le, Bool, true, ◌&&◌, List, [], ◌∷◌, length, Option, Some, None}
+use Rattle.std.specs.Prelude.{ℕ, nat_le, Bool, true, ◌&&◌, List, length, Option, Some, None}
 use Rattle.std.specs.List.{list_all}
-use Rattle.ct_keep.specs.Content.{Word}
 
 -- a word that puts an entry puts one within the bounds of every keeper
 abbrev pub is_bounded : List ℕ × Option (List ℕ) → Bool

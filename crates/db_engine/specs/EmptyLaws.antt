@@ -15,7 +15,7 @@ use Rattle.tb_table.specs.Rules.{AreTables}
 use Rattle.ix_context.specs.Indexes.{Index}
 use Rattle.ix_context.specs.Spelling.{Numbering, IsNumbering, IndexesSpelled}
 use Rattle.ix_context.specs.Rules.{AreIndexes}
-use Rattle.db_engine.specs.States.{empty_state, IsState, Stands}
+use Rattle.db_engine.specs.States.{empty_state, Stands}
 
 abbrev no_content : Content
 no_content = empty

@@ -1,7 +1,6 @@
 -- What a statement does: it is refused, or it leads to a state with a reply.
-use Rattle.std.specs.Prelude.{ℕ, suc, pos, negsuc, Bool, true, false, List, [], ◌∷◌, Option, Some, None, not, ◌||◌, ◌≡◌, codes, refl}
+use Rattle.std.specs.Prelude.{ℕ, suc, pos, negsuc, Bool, true, false, List, [], ◌∷◌, Option, Some, None, ◌≡◌, codes, refl}
 use Rattle.std.specs.Bool.{if◌then◌else◌}
-use Rattle.std.specs.FinMap.{FinMap, get}
 use Rattle.ct_entry.specs.Keys.{same_list}
 use Rattle.st_parse.specs.declared.statements.Whole.{Whole}
 use Rattle.st_parse.specs.declared.statements.Whole.TheVariants.{Fits, Beyond}

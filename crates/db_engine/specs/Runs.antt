@@ -3,7 +3,6 @@ use Rattle.std.specs.Prelude.{ℕ, ◌≡◌, ◌≤◌, ◌<◌, Bool, true, fa
 use Rattle.std.specs.Bool.{if◌then◌else◌}
 use Rattle.std.proofs.Common.{ap, sym, ◌∙◌, append_assoc}
 use Rattle.db_cond.specs.Faults.{out_of_memory, store_full}
-use Rattle.st_parse.specs.declared.statements.Statement.{Statement}
 use Rattle.st_parse.specs.Grammar.{Read, Blank, NoStatement, Found}
 use Rattle.db_engine.specs.States.{State, empty_state}
 use Rattle.db_engine.specs.Refusals.{Effect, state_by, reply_by, is_done}

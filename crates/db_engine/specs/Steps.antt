@@ -1,5 +1,5 @@
 -- What one statement does: the state after it, and its reply.
-use Rattle.std.specs.Prelude.{ℕ, pos, ◌≡◌, nat_le, nat_lt, Bool, true, false, not, ◌&&◌, ◌||◌, is_none, List, [], ◌∷◌, length, Option, Some, None, codes, bytes_eq, refl}
+use Rattle.std.specs.Prelude.{ℕ, ◌≡◌, nat_le, nat_lt, Bool, true, false, not, ◌&&◌, ◌||◌, is_none, List, [], ◌∷◌, length, Option, codes, bytes_eq, refl}
 use Rattle.std.specs.Bool.{if◌then◌else◌}
 use Rattle.std.specs.List.{list_all}
 use Rattle.std.specs.Str.{chars}
@@ -13,11 +13,11 @@ use Rattle.st_parse.specs.declared.statements.Pred.TheVariants.{Contains}
 use Rattle.st_parse.specs.declared.statements.SelectList.{SelectList}
 use Rattle.st_parse.specs.declared.statements.SelectList.TheVariants.{Items}
 use Rattle.st_parse.specs.declared.statements.Statement.{Statement}
-use Rattle.st_parse.specs.declared.statements.Statement.TheVariants.{CreateTable, DropTable, DropIndex, CreateIndex, Insert, Update, Delete, Select, Exec, Commit}
+use Rattle.st_parse.specs.declared.statements.Statement.TheVariants.{CreateTable, DropTable, DropIndex, CreateIndex, Insert, Delete, Select, Exec, Commit}
 use Rattle.st_parse.specs.Grammar.{Read, Blank, NoStatement, Found, read}
-use Rattle.db_cond.specs.Faults.{NotUnderstood, StatementTooLong, refusal_line}
+use Rattle.db_cond.specs.Faults.{NotUnderstood, StatementTooLong}
 use Rattle.db_engine.specs.States.{State, empty_state, is_view}
-use Rattle.db_engine.specs.Refusals.{Effect, Refused, Does, refuse, state_by, reply_by}
+use Rattle.db_engine.specs.Refusals.{Effect, Refused, Does, refuse, reply_by}
 use Rattle.db_engine.specs.Creating.{create_table, create_index}
 use Rattle.db_engine.specs.Inserting.{insert_into}
 use Rattle.db_engine.specs.Calling.{call}

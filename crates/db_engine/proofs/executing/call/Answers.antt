@@ -2,7 +2,7 @@ use Rattle.std.proofs.Common.{sym, ◌∙◌}
 use Rattle.std.proofs.lemmas.Result.{err_from_is_err_and}
 use Rattle.ct_keep.specs.Composing.{reads_none}
 use Rattle.db_cond.specs.Faults.{NotUnderstood}
-use Rattle.db_engine.proofs.Answering.{call_sync, call_tokens, call_other}
+use Rattle.db_engine.proofs.Answering.{call_tokens, call_other}
 use Rattle.db_engine.proofs.Moving.{gives_short, gives_line, gives_as, gives_reply}
 use Rattle.db_engine.proofs.executing.call.Goals as goal
 

@@ -1,7 +1,7 @@
 use Rattle.std.proofs.lemmas.Result.{err_from_is_err_and}
 use Rattle.ct_keep.specs.Composing.{reads_none}
 use Rattle.db_cond.specs.Faults.{NotUnderstood}
-use Rattle.std.proofs.Common.{Bool, ap}
+use Rattle.std.proofs.Common.{ap}
 use Rattle.std.specs.Prelude.{not}
 use Rattle.db_engine.proofs.Chains.{fails, passes}
 use Rattle.db_engine.proofs.Moving.{gives_short, gives_line, gives_as}

@@ -1,8 +1,8 @@
-use Rattle.std.proofs.Common.{◌≡◌, ℕ, ℤ, ◌≤◌, List, length, ap, ◌∙◌, subst, Option}
+use Rattle.std.proofs.Common.{ℕ, ◌≤◌, length, ap, ◌∙◌, subst}
 use Rattle.std.specs.Prelude.{IsTrue, ◌↔◌}
 use Rattle.std.specs.FinMap.{entries}
 use Rattle.std.proofs.lemmas.List.{length-map}
-use Rattle.tb_table.specs.Tables.{Table, keys_in}
+use Rattle.tb_table.specs.Tables.{keys_in}
 use Rattle.tb_table.specs.ReadLaws.{rows_read}
 use Rattle.db_engine.proofs.InsertSteps.{many_rows}
 use Rattle.db_engine.proofs.inserting.has_most_rows.Goals as goal

@@ -1,4 +1,4 @@
-use Rattle.std.proofs.Common.{Option, sym, ap, ◌∙◌}
+use Rattle.std.proofs.Common.{Option, ap, ◌∙◌}
 use Rattle.std.specs.Prelude.{is_some}
 use Rattle.ct_entry.specs.Keys.{at}
 use Rattle.db_names.specs.declared.heads.IndexHead.{IndexHead}
