@@ -9,7 +9,7 @@ mod reading;
 mod texts;
 
 pub use faults::Memory;
-pub use lists::{Bytes, Numbers, Pairs, Value, Values};
+pub use lists::{Bytes, Listed, Numbers, Pairs, Value, Values};
 pub use names::{Name, NameFault};
 pub use numbers::{DocId, Pair, RowKey};
 pub use reading::{first_char, push_ascii, push_char, split_first};

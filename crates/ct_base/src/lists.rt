@@ -1,9 +1,11 @@
 //! Lists that own their items, and that contracts see as these items in their order.
 
-ghost use Rattle.std.specs.Prelude.{◌≡◌};
+ghost use Rattle.std.specs.Prelude.{◌≡◌, ◌++◌, ◌∷◌, [], IfOk};
 
+use crate::faults::Memory;
 use crate::numbers::Pair;
 use crate::texts::Text;
+use std::alloc::Global;
 use std::marker::Model;
 
 /// The value of a column in a row.
@@ -13,120 +15,72 @@ pub enum Value {
     Text(Text),
 }
 
-/// A list of bytes.
+/// A list that owns its items. Contracts see it as the list of these items, and see a list of lists as such.
 #[derive(Clone, Debug, Drop)]
-pub struct Bytes {
-    items: Vec<u8>,
+pub struct Listed<T> {
+    items: Vec<T>,
 }
 
-impl Model for Bytes {
-    ghost use Rattle.std.specs.Prelude.{ℕ, List};
+impl<T> Model for Listed<T> {
+    ghost use Rattle.std.specs.Prelude.{List};
 
-    ghost Value = { List ℕ };
+    ghost Value = { List T };
 
     ghost view = { λ l. l.items.items };
 }
 
-impl Bytes {
-    /// The same list, without a copy.
-    pub fn of(items: Vec<u8>) -> Bytes
-        ensures { result ≡ items.items }
+impl<T> Listed<T> {
+    /// The list without items. It takes no memory.
+    pub fn empty(alloc: Global) -> Listed<T>
+        ensures { result ≡ [] }
     {
-        Bytes { items }
+        Listed {
+            items: Vec::new(alloc),
+        }
     }
 
-    pub fn as_slice(&self) -> &[u8]
+    /// The same list, without a copy.
+    pub fn of(items: Vec<T>) -> Listed<T>
+        ensures { result ≡ items.items }
+    {
+        Listed { items }
+    }
+
+    /// The same list, without a copy.
+    pub fn into_vec(self) -> Vec<T>
+        ensures { result.items ≡ self }
+    {
+        self.items
+    }
+
+    pub fn as_slice(&self) -> &[T]
         ensures { result.now ≡ self.now }
     {
         self.items.as_slice()
     }
 }
+
+impl<T: Drop> Listed<T> {
+    /// The list with one item more at its end.
+    pub fn with(self, item: T) -> Result<Listed<T>, Memory>
+        ensures { IfOk result (λ more. more ≡ self ++ item ∷ []) }
+    {
+        let mut items = self.items;
+        match items.push(item) {
+            Ok(()) => Ok(Listed { items }),
+            Err(_) => Err(Memory),
+        }
+    }
+}
+
+/// A list of bytes.
+pub type Bytes = Listed<u8>;
 
 /// A list of numbers.
-#[derive(Clone, Debug, Drop)]
-pub struct Numbers {
-    items: Vec<u64>,
-}
-
-impl Model for Numbers {
-    ghost use Rattle.std.specs.Prelude.{ℕ, List};
-
-    ghost Value = { List ℕ };
-
-    ghost view = { λ l. l.items.items };
-}
-
-impl Numbers {
-    /// The same list, without a copy.
-    pub fn of(items: Vec<u64>) -> Numbers
-        ensures { result ≡ items.items }
-    {
-        Numbers { items }
-    }
-
-    pub fn as_slice(&self) -> &[u64]
-        ensures { result.now ≡ self.now }
-    {
-        self.items.as_slice()
-    }
-}
+pub type Numbers = Listed<u64>;
 
 /// A list of pairs of word positions.
-#[derive(Clone, Debug, Drop)]
-pub struct Pairs {
-    items: Vec<Pair>,
-}
-
-impl Model for Pairs {
-    ghost use Rattle.std.specs.Prelude.{List};
-    ghost use Rattle.ct_base.specs.declared.numbers.Pair.{Pair};
-
-    ghost Value = { List Pair };
-
-    ghost view = { λ l. l.items.items };
-}
-
-impl Pairs {
-    /// The same list, without a copy.
-    pub fn of(items: Vec<Pair>) -> Pairs
-        ensures { result ≡ items.items }
-    {
-        Pairs { items }
-    }
-
-    pub fn as_slice(&self) -> &[Pair]
-        ensures { result.now ≡ self.now }
-    {
-        self.items.as_slice()
-    }
-}
+pub type Pairs = Listed<Pair>;
 
 /// A list of values, as those of a row.
-#[derive(Clone, Debug, Drop)]
-pub struct Values {
-    items: Vec<Value>,
-}
-
-impl Model for Values {
-    ghost use Rattle.std.specs.Prelude.{List};
-    ghost use Rattle.ct_base.specs.declared.lists.Value.{Value as RowValue};
-
-    ghost Value = { List RowValue };
-
-    ghost view = { λ l. l.items.items };
-}
-
-impl Values {
-    /// The same list, without a copy.
-    pub fn of(items: Vec<Value>) -> Values
-        ensures { result ≡ items.items }
-    {
-        Values { items }
-    }
-
-    pub fn as_slice(&self) -> &[Value]
-        ensures { result.now ≡ self.now }
-    {
-        self.items.as_slice()
-    }
-}
+pub type Values = Listed<Value>;

@@ -3,8 +3,8 @@
 ghost use Rattle.std.specs.Prelude.{◌≡◌, ◌++◌, ◌∷◌, [], IfOk, OnOk, OnErr, Some, None, Err, is_some};
 ghost use Rattle.std.specs.Option.{option_map};
 ghost use Rattle.ct_keep.specs.Content.{Content};
-ghost use Rattle.ct_keep.specs.Keeping.{Reads, fault_of};
-ghost use Rattle.ct_keep.specs.Looks.{look, raised, RisesBy};
+ghost use Rattle.ct_keep.specs.Keeping.{Finds, OnlyReads};
+ghost use Rattle.ct_keep.specs.Looks.{look, LooksAtMost};
 ghost use Rattle.ct_entry.specs.Keys.{key, bytes, at, prefix_of};
 ghost use Rattle.ct_entry.specs.Words.{spell, put, drop_key};
 
@@ -74,11 +74,9 @@ pub fn fetch_entry<K: Keeper>(
     part: &[u8],
 ) -> Result<Option<Vec<u8>>, KeepFault>
     requires { (K.keeping keeper.old).ready }
-    ensures value { (m : Content) → (K.keeping keeper.old).content ≡ Some m → IfOk result (λ found. option_map (λ v. v.items) found ≡ at m (key kind owner.now part.now)) }
-    ensures reads { Reads (K.keeping keeper.old) (K.keeping keeper.new) (fault_of result) }
-    ensures counts { OnOk result ((K.keeping keeper.new).counts ≡ raised (look (bytes (key kind owner.now part.now)) None) (K.keeping keeper.old).counts) }
-    ensures at_most { RisesBy (look (bytes (key kind owner.now part.now)) None) (K.keeping keeper.old).counts (K.keeping keeper.new).counts }
-    ensures never_full { result ≡ Err KeepFault.Full → ⊥ }
+    ensures value { Finds K.keeping keeper.old result (λ m found. option_map (λ v. v.items) found ≡ at m (key kind owner.now part.now)) }
+    ensures reads { OnlyReads K.keeping keeper.old keeper.new result }
+    ensures at_most { LooksAtMost K.keeping keeper.old keeper.new (look (bytes (key kind owner.now part.now)) None) }
 {
     let key = key_bytes(alloc, kind, owner, part)?;
     keeper.fetch(alloc, &key)
@@ -93,11 +91,9 @@ pub fn has_entry<K: Keeper>(
     part: &[u8],
 ) -> Result<bool, KeepFault>
     requires { (K.keeping keeper.old).ready }
-    ensures value { (m : Content) → (K.keeping keeper.old).content ≡ Some m → IfOk result (λ there. there ≡ is_some (at m (key kind owner.now part.now))) }
-    ensures reads { Reads (K.keeping keeper.old) (K.keeping keeper.new) (fault_of result) }
-    ensures counts { OnOk result ((K.keeping keeper.new).counts ≡ raised (look (bytes (key kind owner.now part.now)) None) (K.keeping keeper.old).counts) }
-    ensures at_most { RisesBy (look (bytes (key kind owner.now part.now)) None) (K.keeping keeper.old).counts (K.keeping keeper.new).counts }
-    ensures never_full { result ≡ Err KeepFault.Full → ⊥ }
+    ensures value { Finds K.keeping keeper.old result (λ m there. there ≡ is_some (at m (key kind owner.now part.now))) }
+    ensures reads { OnlyReads K.keeping keeper.old keeper.new result }
+    ensures at_most { LooksAtMost K.keeping keeper.old keeper.new (look (bytes (key kind owner.now part.now)) None) }
 {
     let found = fetch_entry(alloc, keeper, kind, owner, part)?;
     Ok(found.is_some())

@@ -4,8 +4,8 @@ ghost use Rattle.std.specs.Prelude.{◌≡◌, ◌++◌, ◌∷◌, [], IfOk, On
 ghost use Rattle.std.specs.Option.{option_map};
 ghost use Rattle.std.specs.FinMap.{entries};
 ghost use Rattle.ct_keep.specs.Content.{Content, entries_above, first_entry};
-ghost use Rattle.ct_keep.specs.Keeping.{Reads, fault_of};
-ghost use Rattle.ct_keep.specs.Looks.{next_looks, scan_looks, raised, RisesBy};
+ghost use Rattle.ct_keep.specs.Keeping.{Finds, OnlyReads, Told};
+ghost use Rattle.ct_keep.specs.Looks.{next_looks, scan_looks, LooksAtMost};
 ghost use Rattle.ct_keep.specs.Tail.{tail};
 ghost use Rattle.ct_entry.specs.Kinds.{code};
 ghost use Rattle.ct_entry.specs.Keys.{prefix_of};
@@ -33,11 +33,9 @@ pub fn entries_of<K: Keeper>(
     front: &[u8],
 ) -> Result<Vec<(Vec<u8>, Vec<u8>)>, KeepFault>
     requires { (K.keeping keeper.old).ready }
-    ensures entries { (m : Content) → (K.keeping keeper.old).content ≡ Some m → IfOk result (λ found. map (λ e. (e.0.items, e.1.items)) found.items ≡ entries (tail (prefix_of kind owner.now ++ front.now) m)) }
-    ensures reads { Reads (K.keeping keeper.old) (K.keeping keeper.new) (fault_of result) }
-    ensures counts { (m : Content) → (K.keeping keeper.old).content ≡ Some m → OnOk result ((K.keeping keeper.new).counts ≡ raised (scan_looks (prefix_of kind owner.now ++ front.now) m) (K.keeping keeper.old).counts) }
-    ensures at_most { (m : Content) → (K.keeping keeper.old).content ≡ Some m → RisesBy (scan_looks (prefix_of kind owner.now ++ front.now) m) (K.keeping keeper.old).counts (K.keeping keeper.new).counts }
-    ensures never_full { result ≡ Err KeepFault.Full → ⊥ }
+    ensures entries { Finds K.keeping keeper.old result (λ m found. map (λ e. (e.0.items, e.1.items)) found.items ≡ entries (tail (prefix_of kind owner.now ++ front.now) m)) }
+    ensures reads { OnlyReads K.keeping keeper.old keeper.new result }
+    ensures at_most { Told K.keeping keeper.old (λ m. LooksAtMost K.keeping keeper.old keeper.new (scan_looks (prefix_of kind owner.now ++ front.now) m)) }
 {
     let prefix = key_bytes(alloc, kind, owner, front)?;
     scan(alloc, keeper, &prefix)
@@ -74,11 +72,9 @@ pub fn row_keys<K: Keeper>(
     owner: &Name,
 ) -> Result<Vec<RowKey>, KeepFault>
     requires { (K.keeping keeper.old).ready }
-    ensures rows { (m : Content) → (K.keeping keeper.old).content ≡ Some m → IfOk result (λ rows. map (λ r. r.0) rows.items ≡ rows_under kind owner.now m) }
-    ensures reads { Reads (K.keeping keeper.old) (K.keeping keeper.new) (fault_of result) }
-    ensures counts { (m : Content) → (K.keeping keeper.old).content ≡ Some m → OnOk result ((K.keeping keeper.new).counts ≡ raised (scan_looks (prefix_of kind owner.now) m) (K.keeping keeper.old).counts) }
-    ensures at_most { (m : Content) → (K.keeping keeper.old).content ≡ Some m → RisesBy (scan_looks (prefix_of kind owner.now) m) (K.keeping keeper.old).counts (K.keeping keeper.new).counts }
-    ensures never_full { result ≡ Err KeepFault.Full → ⊥ }
+    ensures rows { Finds K.keeping keeper.old result (λ m rows. map (λ r. r.0) rows.items ≡ rows_under kind owner.now m) }
+    ensures reads { OnlyReads K.keeping keeper.old keeper.new result }
+    ensures at_most { Told K.keeping keeper.old (λ m. LooksAtMost K.keeping keeper.old keeper.new (scan_looks (prefix_of kind owner.now) m)) }
 {
     let prefix = prefix_bytes(alloc, kind, owner)?;
     let found = scan(alloc, keeper, &prefix)?;
@@ -94,11 +90,9 @@ fn next_in<K: Keeper>(
     after: Option<RowKey>,
 ) -> Result<Option<Entry>, KeepFault>
     requires { (K.keeping keeper.old).ready }
-    ensures entry { (m : Content) → (K.keeping keeper.old).content ≡ Some m → IfOk result (λ found. option_map (λ e. (e.0.items, e.1.items)) found ≡ first_entry (entries_above (place_after (option_map (λ r. r.0) after)) (tail prefix.now m))) }
-    ensures reads { Reads (K.keeping keeper.old) (K.keeping keeper.new) (fault_of result) }
-    ensures counts { (m : Content) → (K.keeping keeper.old).content ≡ Some m → OnOk result ((K.keeping keeper.new).counts ≡ raised (next_looks (prefix.now ++ place_after (option_map (λ r. r.0) after)) m) (K.keeping keeper.old).counts) }
-    ensures at_most { (m : Content) → (K.keeping keeper.old).content ≡ Some m → RisesBy (next_looks (prefix.now ++ place_after (option_map (λ r. r.0) after)) m) (K.keeping keeper.old).counts (K.keeping keeper.new).counts }
-    ensures never_full { result ≡ Err KeepFault.Full → ⊥ }
+    ensures entry { Finds K.keeping keeper.old result (λ m found. option_map (λ e. (e.0.items, e.1.items)) found ≡ first_entry (entries_above (place_after (option_map (λ r. r.0) after)) (tail prefix.now m))) }
+    ensures reads { OnlyReads K.keeping keeper.old keeper.new result }
+    ensures at_most { Told K.keeping keeper.old (λ m. LooksAtMost K.keeping keeper.old keeper.new (next_looks (prefix.now ++ place_after (option_map (λ r. r.0) after)) m)) }
 {
     match after {
         None => next_under(alloc, keeper, prefix, &[]),
@@ -118,11 +112,9 @@ pub fn next_row_key<K: Keeper>(
     after: Option<RowKey>,
 ) -> Result<Option<RowKey>, KeepFault>
     requires { (K.keeping keeper.old).ready }
-    ensures row { (m : Content) → (K.keeping keeper.old).content ≡ Some m → IfOk result (λ row. option_map (λ r. r.0) row ≡ row_after (option_map (λ r. r.0) after) kind owner.now m) }
-    ensures reads { Reads (K.keeping keeper.old) (K.keeping keeper.new) (fault_of result) }
-    ensures counts { (m : Content) → (K.keeping keeper.old).content ≡ Some m → OnOk result ((K.keeping keeper.new).counts ≡ raised (next_looks (prefix_of kind owner.now ++ place_after (option_map (λ r. r.0) after)) m) (K.keeping keeper.old).counts) }
-    ensures at_most { (m : Content) → (K.keeping keeper.old).content ≡ Some m → RisesBy (next_looks (prefix_of kind owner.now ++ place_after (option_map (λ r. r.0) after)) m) (K.keeping keeper.old).counts (K.keeping keeper.new).counts }
-    ensures never_full { result ≡ Err KeepFault.Full → ⊥ }
+    ensures row { Finds K.keeping keeper.old result (λ m row. option_map (λ r. r.0) row ≡ row_after (option_map (λ r. r.0) after) kind owner.now m) }
+    ensures reads { OnlyReads K.keeping keeper.old keeper.new result }
+    ensures at_most { Told K.keeping keeper.old (λ m. LooksAtMost K.keeping keeper.old keeper.new (next_looks (prefix_of kind owner.now ++ place_after (option_map (λ r. r.0) after)) m)) }
 {
     let prefix = prefix_bytes(alloc, kind, owner)?;
     match next_in(alloc, keeper, &prefix, after)? {
@@ -163,11 +155,9 @@ fn owners_among(alloc: Global, found: &[Entry]) -> Result<Vec<Name>, Memory>
 /// It costs what it finds. It never answers Full.
 pub fn owners<K: Keeper>(alloc: Global, keeper: &mut K, kind: Kind) -> Result<Vec<Name>, KeepFault>
     requires { (K.keeping keeper.old).ready }
-    ensures owners { (m : Content) → (K.keeping keeper.old).content ≡ Some m → IfOk result (λ names. names.items ≡ owners_under kind m) }
-    ensures reads { Reads (K.keeping keeper.old) (K.keeping keeper.new) (fault_of result) }
-    ensures counts { (m : Content) → (K.keeping keeper.old).content ≡ Some m → OnOk result ((K.keeping keeper.new).counts ≡ raised (scan_looks (code kind ∷ []) m) (K.keeping keeper.old).counts) }
-    ensures at_most { (m : Content) → (K.keeping keeper.old).content ≡ Some m → RisesBy (scan_looks (code kind ∷ []) m) (K.keeping keeper.old).counts (K.keeping keeper.new).counts }
-    ensures never_full { result ≡ Err KeepFault.Full → ⊥ }
+    ensures owners { Finds K.keeping keeper.old result (λ m names. names.items ≡ owners_under kind m) }
+    ensures reads { OnlyReads K.keeping keeper.old keeper.new result }
+    ensures at_most { Told K.keeping keeper.old (λ m. LooksAtMost K.keeping keeper.old keeper.new (scan_looks (code kind ∷ []) m)) }
 {
     let found = scan(alloc, keeper, &[kind.code()])?;
     let names = owners_among(alloc, &found)?;

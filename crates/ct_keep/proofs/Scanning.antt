@@ -8,31 +8,17 @@ use Rattle.ct_keep.specs.Keeping.{Counts}
 use Rattle.ct_keep.specs.Rising.{Entry, beginning, first_then, none_then, stops}
 use Rattle.ct_keep.specs.Tail.{cut, tail, left_under, rest_under}
 use Rattle.ct_keep.specs.TailLaws.{entries-tail, front_and_rest}
-use Rattle.ct_keep.specs.Looks.{look, plus, no_looks, looks, next_looks, scan_looks, raised, RisesBy}
-use Rattle.ct_keep.specs.LookLaws.{raised-plus, rises_raised}
+use Rattle.ct_keep.specs.Looks.{look, plus, no_looks, looks, next_looks, scan_looks, RisesBy}
 
 -- A scan of the prefix has come to this key: what it found and what is left are all, and so with the counts.
 pub record Scanning (p k : List ℕ) (m : Content) (found : List Entry) (old now : Counts) : Type 0 where
   pub entries : found ++ cut (length p) (left_under p k m) ≡ cut (length p) (entries_under p m)
-  pub counts : raised (looks p k (entries_above k m)) now ≡ raised (scan_looks p m) old
   pub texts : now.texts + (looks p k (entries_above k m)).texts ≤ old.texts + (scan_looks p m).texts
   pub rows : now.rows + (looks p k (entries_above k m)).rows ≤ old.rows + (scan_looks p m).rows
   pub rules : now.rules + (looks p k (entries_above k m)).rules ≤ old.rules + (scan_looks p m).rules
 
 pub scanning_none : (p : List ℕ) (m : Content) (old : Counts) → Scanning p p m [] old old
-scanning_none p m old = record { entries = refl; counts = refl; texts = omega arith; rows = omega arith; rules = omega arith }
-
--- nothing but the next look-up is left, where it hands out no entry under the prefix
-last_look : (p k : List ℕ) (m : Content) (c : Counts) → None ≡ rest_under p (first_entry (entries_above k m)) → raised (looks p k (entries_above k m)) c ≡ raised (next_looks k m) c
-last_look p k m c is = go (entries_above k m) is
-  where
-    at : (e : Entry) (es : List Entry) (b : Bool) → ◌≡◌ {A = Option Entry} None (cond b (Some (drop (length p) e.0, e.1)) None) → raised (plus (look k (Some e.0)) (cond b (looks p e.0 es) no_looks)) c ≡ raised (look k (Some e.0)) c
-    at e es true is = cc
-    at e es false is = sym (raised-plus (look k (Some e.0)) no_looks c)
-
-    go : (es : List Entry) → None ≡ rest_under p (first_entry es) → raised (looks p k es) c ≡ raised (look k (option_map (λ e. e.0) (first_entry es))) c
-    go [] is = refl
-    go (e ∷ es) is = at e es (begins_with p e.0) is
+scanning_none p m old = record { entries = refl; texts = omega arith; rows = omega arith; rules = omega arith }
 
 -- the entry that a step hands out
 abbrev Stepped : List ℕ → List ℕ → Content → Entry → Type 0
@@ -71,24 +57,23 @@ next_le p k m = go (entries_above k m)
 
 module _ (p k : List ℕ) (m : Content) (found : List Entry) (old now new : Counts) (scanning : Scanning p k m found old now) where
   -- the look-up handed out an entry under the prefix
-  stepped_on : (e : Entry) → begins_with p e.0 ≡ true → entries_above k m ≡ e ∷ entries_above e.0 m → new ≡ raised (next_looks k m) now → Scanning p e.0 m (found ++ (drop (length p) e.0, e.1) ∷ []) old new
+  stepped_on : (e : Entry) → begins_with p e.0 ≡ true → entries_above k m ≡ e ∷ entries_above e.0 m → RisesBy (next_looks k m) now new → Scanning p e.0 m (found ++ (drop (length p) e.0, e.1) ∷ []) old new
   stepped_on e b above added =
       let rest = looks p e.0 (entries_above e.0 m) in
       let all : looks p k (entries_above k m) ≡ plus (look k (Some e.0)) rest = ap (looks p k) above ∙ ap (λ (t : Bool). plus (look k (Some e.0)) (cond t rest no_looks)) b in
-      let next : new ≡ raised (look k (Some e.0)) now = added ∙ ap (λ (es : List Entry). raised (look k (option_map (λ e. e.0) (first_entry es))) now) above in
-      let rises = subst (λ (c : Counts). RisesBy (look k (Some e.0)) now c) (sym next) (rises_raised (look k (Some e.0)) now) in
+      let next : next_looks k m ≡ look k (Some e.0) = ap (λ (es : List Entry). look k (option_map (λ e. e.0) (first_entry es))) above in
+      let rises = subst (λ (c : Counts). RisesBy c now new) next added in
       record {
         entries =
             append_assoc found ((drop (length p) e.0, e.1) ∷ []) (cut (length p) (left_under p e.0 m))
             ∙ ap (λ (t : Bool). found ++ cut (length p) (cond t (e ∷ left_under p e.0 m) (left_under p e.0 m))) (sym b)
             ∙ ap (λ (es : List Entry). found ++ cut (length p) (beginning p es)) (sym above) ∙ scanning.entries;
-        counts = ap (raised rest) next ∙ raised-plus (look k (Some e.0)) rest now ∙ ap (λ (c : Counts). raised c now) (sym all) ∙ scanning.counts;
         texts = omega (arith, scanning.texts, rises.texts, ap (λ (c : Counts). c.texts) all);
         rows = omega (arith, scanning.rows, rises.rows, ap (λ (c : Counts). c.rows) all);
         rules = omega (arith, scanning.rules, rises.rules, ap (λ (c : Counts). c.rules) all);
       }
 
-  pub scanning_more : (f : Entry) (k' : List ℕ) → Some f ≡ rest_under p (first_entry (entries_above k m)) → k' ≡ p ++ f.0 → new ≡ raised (next_looks k m) now → Scanning p k' m (found ++ f ∷ []) old new
+  pub scanning_more : (f : Entry) (k' : List ℕ) → Some f ≡ rest_under p (first_entry (entries_above k m)) → k' ≡ p ++ f.0 → RisesBy (next_looks k m) now new → Scanning p k' m (found ++ f ∷ []) old new
   scanning_more f k' is key added =
       let s = stepped p k m f is in
       let at : k' ≡ s.0.0 = key ∙ ap (λ (g : Entry). p ++ g.0) s.2 ∙ front_and_rest p s.0.0 s.1 in
@@ -98,9 +83,6 @@ module _ (p k : List ℕ) (m : Content) (found : List Entry) (old now new : Coun
   -- it handed out none
   pub scanning_ends : None ≡ rest_under p (first_entry (entries_above k m)) → begins_with p k ≡ true → found ≡ entries (tail p m)
   scanning_ends is pk = sym (append-nil found) ∙ ap (λ (es : List Entry). found ++ cut (length p) es) (sym (none_left p k m pk is)) ∙ scanning.entries ∙ sym (entries-tail p m)
-
-  pub scanning_counts : None ≡ rest_under p (first_entry (entries_above k m)) → new ≡ raised (next_looks k m) now → new ≡ raised (scan_looks p m) old
-  scanning_counts is added = added ∙ sym (last_look p k m now is) ∙ scanning.counts
 
   -- however it went
   pub scanning_rises : RisesBy (next_looks k m) now new → RisesBy (scan_looks p m) old new

@@ -9,25 +9,38 @@ use Rattle.ct_keep.specs.declared.keepers.KeepFault.{KeepFault}
 use Rattle.ct_keep.specs.declared.keepers.KeepFault.TheVariants.{Memory, Disk, Full}
 use Rattle.ct_keep.specs.Content.{Content}
 use Rattle.ct_keep.specs.Words.{AreWell}
-use Rattle.ct_keep.specs.Keeping.{Keeping, Counts, Kept, Reads, Goes, Answers, Came, Leaves, IsSettled, Apart, KeeperHears, KeeperSays, PassesRoom, UnlessDisk, OnDisk, counted, is_full, committed}
+use Rattle.ct_keep.specs.Keeping.{Keeping, Fixed, Counts, Kept, Reads, Goes, Answers, Came, Leaves, IsSettled, Apart, KeeperHears, KeeperSays, PassesRoom, UnlessDisk, OnDisk, counted, is_full, committed}
+
+-- ---- what never changes, by its fields
+
+pub same_limit : {f g : Fixed} → g ≡ f → g.limit ≡ f.limit
+same_limit e = ap (λ (x : Fixed). x.limit) e
+
+pub same_well : {f g : Fixed} → g ≡ f → g.well ≡ f.well
+same_well e = ap (λ (x : Fixed). x.well) e
+
+pub same_say_room : {f g : Fixed} → g ≡ f → g.say_room ≡ f.say_room
+same_say_room e = ap (λ (x : Fixed). x.say_room) e
+
+pub same_aside : {f g : Fixed} → g ≡ f → g.aside ≡ f.aside
+same_aside e = ap (λ (x : Fixed). x.aside) e
+
+pub same_lender : {f g : Fixed} → g ≡ f → g.lender ≡ f.lender
+same_lender e = ap (λ (x : Fixed). x.lender) e
 
 -- ---- what every call keeps
 
 pub kept_all : (k : Keeping) → k.ready → Kept k k None
-kept_all k ready = record { ready = ready; beside = refl; say_room = refl; well = refl; limit = refl; lender = refl; later = omega arith; cause = tt; aside = refl; calls = tt }
+kept_all k ready = record { ready = ready; beside = refl; fixed = refl; later = omega arith; cause = tt; calls = tt }
 
 -- a call that succeeded, and then another
 pub kept_then : (old mid new : Keeping) (fault : Option KeepFault) → Kept old mid None → Kept mid new fault → Kept old new fault
 kept_then old mid new fault first second = record {
   ready = second.ready;
   beside = second.beside ∙ first.beside;
-  say_room = second.say_room ∙ first.say_room;
-  well = second.well ∙ first.well;
-  limit = second.limit ∙ first.limit;
-  lender = second.lender ∙ first.lender;
+  fixed = second.fixed ∙ first.fixed;
   later = omega (arith, first.later, second.later);
   cause = rose fault second.cause;
-  aside = second.aside ∙ first.aside;
   calls = called fault second.calls;
 }
   where
@@ -37,24 +50,25 @@ kept_then old mid new fault first second = record {
     rose (Some Full) c = c
     rose (Some Disk) c = let l = first.later in omega (arith, c, l)
 
-    called : (fault : Option KeepFault) → OnDisk fault (mid.aside ≡ None) → OnDisk fault (old.aside ≡ None)
+    called : (fault : Option KeepFault) → OnDisk fault (mid.fixed.aside ≡ None) → OnDisk fault (old.fixed.aside ≡ None)
     called None c = c
     called (Some Memory) c = c
     called (Some Full) c = c
-    called (Some Disk) c = sym first.aside ∙ c
+    called (Some Disk) c = sym (same_aside first.fixed) ∙ c
 
 -- calls that succeeded, and then no memory
 pub kept_short : (old new : Keeping) → Kept old new None → Kept old new (Some Memory)
-kept_short old new kept = record { ready = kept.ready; beside = kept.beside; say_room = kept.say_room; well = kept.well; limit = kept.limit; lender = kept.lender; later = kept.later; cause = tt; aside = kept.aside; calls = tt }
+kept_short old new kept = record { ready = kept.ready; beside = kept.beside; fixed = kept.fixed; later = kept.later; cause = tt; calls = tt }
 
 -- ---- reads
 
 pub reads_none : (k : Keeping) → k.ready → Reads k k None
-reads_none k ready = record { kept = kept_all k ready; content = refl; time = stays_all k.time; now = λ stopped said now. now; fulls = refl }
+reads_none k ready = record { not_full = λ e. cc; kept = kept_all k ready; content = refl; time = stays_all k.time; now = λ stopped said now. now; fulls = refl }
 
 -- reads that succeeded, and then others
 pub reads_on : (old mid new : Keeping) (fault : Option KeepFault) → Reads old mid None → Reads mid new fault → Reads old new fault
 reads_on old mid new fault first second = record {
+  not_full = second.not_full;
   kept = kept_then old mid new fault first.kept second.kept;
   content = same fault second.content;
   time = stays_then old.time mid.time new.time first.time second.time;
@@ -70,15 +84,15 @@ reads_on old mid new fault first second = record {
 
 -- reads that succeeded, and then no memory
 pub reads_short : (old new : Keeping) → Reads old new None → Reads old new (Some Memory)
-reads_short old new reads = record { kept = kept_short old new reads.kept; content = reads.content; time = reads.time; now = reads.now; fulls = reads.fulls }
+reads_short old new reads = record { not_full = λ e. cc; kept = kept_short old new reads.kept; content = reads.content; time = reads.time; now = reads.now; fulls = reads.fulls }
 
 -- what is held after them
 pub reads_hold : (old new : Keeping) (m : Content) → Reads old new None → old.content ≡ Some m → new.content ≡ Some m
 reads_hold old new m reads holds = reads.content ∙ holds
 
 -- what a batch needs after them
-pub reads_well : (old new : Keeping) (batch : List (List ℕ × Option (List ℕ))) → Reads old new None → AreWell old.well batch → AreWell new.well batch
-reads_well old new batch reads well = subst (λ (w : List ℕ → List ℕ → Bool). AreWell w batch) (sym reads.kept.well) well
+pub reads_well : (old new : Keeping) (batch : List (List ℕ × Option (List ℕ))) → Reads old new None → AreWell old.fixed.well batch → AreWell new.fixed.well batch
+reads_well old new batch reads well = subst (λ (w : List ℕ → List ℕ → Bool). AreWell w batch) (sym (same_well reads.kept.fixed)) well
 
 -- ---- reads, and then at most one commit
 
@@ -128,8 +142,8 @@ goes_on m next old mid new goes reads = record {
 }
 
 -- the answer of the commit, by the limit before the reads
-pub answers_then : (m next : Content) (old mid : Keeping) (fault : Option KeepFault) → Reads old mid None → Answers fault mid.limit m next → Answers fault old.limit m next
-answers_then m next old mid fault reads answers = subst (λ (limit : ℕ). Answers fault limit m next) reads.kept.limit answers
+pub answers_then : (m next : Content) (old mid : Keeping) (fault : Option KeepFault) → Reads old mid None → Answers fault mid.fixed.limit m next → Answers fault old.fixed.limit m next
+answers_then m next old mid fault reads answers = subst (λ (limit : ℕ). Answers fault limit m next) (same_limit reads.kept.fixed) answers
 
 -- where the reads failed, no commit was tried
 pub answers_failed : (fault : KeepFault) (limit : ℕ) (m next : Content) → (fault ≡ Full → ⊥) → Answers (Some fault) limit m next
@@ -144,19 +158,15 @@ fulls_then old mid new fault reads commits = ap (λ (c : Counts). c.fulls) commi
 -- ---- hearing and saying
 
 pub apart_all : (k : Keeping) → Apart k k
-apart_all k = record { ready = λ ready. ready; say_room = refl; content = refl; well = refl; limit = refl; counts = refl; disk_faults = refl; aside = refl; lender = refl }
+apart_all k = record { ready = λ ready. ready; fixed = refl; content = refl; counts = refl; disk_faults = refl }
 
 pub apart_then : (old mid new : Keeping) → Apart old mid → Apart mid new → Apart old new
 apart_then old mid new first second = record {
   ready = λ ready. second.ready (first.ready ready);
-  say_room = second.say_room ∙ first.say_room;
+  fixed = second.fixed ∙ first.fixed;
   content = second.content ∙ first.content;
-  well = second.well ∙ first.well;
-  limit = second.limit ∙ first.limit;
   counts = second.counts ∙ first.counts;
   disk_faults = second.disk_faults ∙ first.disk_faults;
-  aside = second.aside ∙ first.aside;
-  lender = second.lender ∙ first.lender;
 }
 
 pub hears_none : (k : Keeping) → KeeperHears [] k k

@@ -32,15 +32,11 @@ in_memory m limit counts beside say_room aside lender = record {
   ready = Unit {0};
   content = Some m;
   beside = beside;
-  say_room = say_room;
   time = record { clock = 0; since = λ t stopped said. (stopped ≡ Some m) × IsSaid beside.said said };
   now = λ stopped said. (stopped ≡ Some m) × IsSaid beside.said said;
-  well = λ key value. true;
-  limit = limit;
   counts = counts;
   disk_faults = aside.faults;
-  aside = Some aside;
-  lender = lender;
+  fixed = record { say_room = say_room; well = λ key value. true; limit = limit; aside = Some aside; lender = lender };
 }
 
 pub settled_in_memory : (m : Content) (limit : ℕ) (counts : Counts) (beside : Beside) (say_room : Option ℕ) (aside : Aside) (lender : Option GName) → IsSettled (in_memory m limit counts beside say_room aside lender)
@@ -52,4 +48,4 @@ holds_in_memory m entries n is = let one : m ≡ n = cc in subst HoldsEntries on
 -- It may be called, and takes every entry.
 pub record TakesAll (k : Keeping) : Type 0 where
   pub ready : k.ready
-  pub well : (key value : List ℕ) → k.well key value ≡ true
+  pub well : (key value : List ℕ) → k.fixed.well key value ≡ true

@@ -1,6 +1,7 @@
 -- What is known of a keeper, and what its calls make of that.
 use Rattle.std.specs.Prelude.{ℕ, ◌≡◌, ◌⊎◌, ◌+◌, ◌-◌, ◌^◌, ◌<◌, ◌≤◌, ◌==◌, ◌||◌, min, Bool, true, false, List, [], ◌∷◌, length, Option, Some, None, Result, Ok, Err, refl}
 use Rattle.std.specs.Bool.{if◌then◌else◌}
+use Rattle.std.specs.Result.{IfOk}
 use base.Fml.{GName}
 use Rattle.ct_base.specs.Causes.{Rose}
 use Rattle.ct_base.specs.Told.{IsSaid, ahead, behind, SaysPart}
@@ -22,6 +23,19 @@ pub record Aside : Type 0 where
   pub image : Option (List ℕ)
   pub faults : ℕ
 
+-- What never changes.
+pub record Fixed : Type 0 where
+  -- how many bytes may be said in all, where that is told
+  pub say_room : Option ℕ
+  -- which entries it may hold, beside the bounds on each
+  pub well : List ℕ → List ℕ → Bool
+  -- how much its content may weigh
+  pub limit : ℕ
+  -- the disk, if it makes no call of it
+  pub aside : Option Aside
+  -- the reference to the site that it stands over, if it stands over one
+  pub lender : Option GName
+
 pub record Keeping : Type 1 where
   -- it may be read and changed: none of its calls has answered Disk
   pub ready : Type 0
@@ -29,22 +43,13 @@ pub record Keeping : Type 1 where
   pub content : Option Content
   -- the script, the bytes said, and their counts of faults
   pub beside : Beside
-  -- how many bytes may be said in all, where that is told; never changes
-  pub say_room : Option ℕ
   -- at each moment, the content that would be recovered, if any, and the bytes said by then
   pub time : Timeline (Option Content)
   -- what a stop now would leave, and the bytes said
   pub now : Option Content → List ℕ → Type 0
-  -- which entries it may hold, beside the bounds on each; never changes
-  pub well : List ℕ → List ℕ → Bool
-  -- how much its content may weigh; never changes
-  pub limit : ℕ
   pub counts : Counts
   pub disk_faults : ℕ
-  -- the disk, if it makes no call of it
-  pub aside : Option Aside
-  -- the reference to the site that it stands over, if it stands over one
-  pub lender : Option GName
+  pub fixed : Fixed
 
 -- how a call failed, if it did
 abbrev pub fault_of : {T : Type 0} → Result T KeepFault → Option KeepFault
@@ -68,27 +73,36 @@ OnDisk (Some Disk) P = P
 pub record Kept (old new : Keeping) (fault : Option KeepFault) : Type 0 where
   pub ready : UnlessDisk fault new.ready
   pub beside : new.beside ≡ old.beside
-  pub say_room : new.say_room ≡ old.say_room
-  pub well : new.well ≡ old.well
-  pub limit : new.limit ≡ old.limit
-  pub lender : new.lender ≡ old.lender
+  pub fixed : new.fixed ≡ old.fixed
   pub later : old.disk_faults ≤ new.disk_faults
   pub cause : OnDisk fault (Rose old.disk_faults new.disk_faults)
-  pub aside : new.aside ≡ old.aside
   -- one that makes no call of the disk doesn't fail by it
-  pub calls : OnDisk fault (old.aside ≡ None)
+  pub calls : OnDisk fault (old.fixed.aside ≡ None)
 
 -- A stop between two calls leaves what it holds.
 pub record IsSettled (k : Keeping) : Type 0 where
   pub here : (m : Content) → k.content ≡ Some m → (stopped : Option Content) (said : List ℕ) → k.now stopped said → (stopped ≡ Some m) × IsSaid k.beside.said said
 
--- A call, or some calls, only read.
+-- A call, or some calls, only read. They commit nothing, so they don't find the store full.
 pub record Reads (old new : Keeping) (fault : Option KeepFault) : Type 0 where
+  pub not_full : fault ≡ Some Full → ⊥
   pub kept : Kept old new fault
   pub content : UnlessDisk fault (new.content ≡ old.content)
   pub time : Stays old.time new.time
   pub now : (stopped : Option Content) (said : List ℕ) → new.now stopped said → old.now stopped said
   pub fulls : new.counts.fulls ≡ old.counts.fulls
+
+-- A call with this result only read, by the view of a keeper before and after it.
+abbrev pub OnlyReads : {K T : Type 0} → (K → Keeping) → K → K → Result T KeepFault → Type 0
+OnlyReads view old new result = Reads (view old) (view new) (fault_of result)
+
+-- what holds of the content, where that is told
+abbrev pub Told : {K : Type 0} → (K → Keeping) → K → (Content → Type 0) → Type 0
+Told view k holds = (m : Content) → (view k).content ≡ Some m → holds m
+
+-- What a call gave of the content, where that is told, unless it failed.
+abbrev pub Finds : {K T : Type 0} → (K → Keeping) → K → Result T KeepFault → (Content → T → Type 0) → Type 0
+Finds view old result gives = Told view old (λ m. IfOk result (gives m))
 
 -- ---- counts
 
@@ -167,14 +181,10 @@ Answers (Some Disk) limit m next = Unit {0}
 -- what hearing and saying keep
 pub record Apart (old new : Keeping) : Type 0 where
   pub ready : old.ready → new.ready
-  pub say_room : new.say_room ≡ old.say_room
+  pub fixed : new.fixed ≡ old.fixed
   pub content : new.content ≡ old.content
-  pub well : new.well ≡ old.well
-  pub limit : new.limit ≡ old.limit
   pub counts : new.counts ≡ old.counts
   pub disk_faults : new.disk_faults ≡ old.disk_faults
-  pub aside : new.aside ≡ old.aside
-  pub lender : new.lender ≡ old.lender
 
 -- Bytes of the script were heard, and nothing else was done.
 pub record KeeperHears (heard : List ℕ) (old new : Keeping) : Type 0 where

@@ -7,7 +7,7 @@ ghost use Rattle.ct_base.specs.Told.{took, IsNothing};
 ghost use Rattle.ct_base.specs.Causes.{HasCause};
 ghost use Rattle.ct_keep.specs.Content.{Content, after, entries_above, first_entry};
 ghost use Rattle.ct_keep.specs.Words.{AreWell, HoldsWell};
-ghost use Rattle.ct_keep.specs.Keeping.{Keeping, Kept, Reads, Goes, Answers, IsSettled, KeeperHears, KeeperSays, PassesRoom, fault_of, looked_up, committed};
+ghost use Rattle.ct_keep.specs.Keeping.{Finds, Keeping, Kept, OnlyReads, Goes, Answers, IsSettled, KeeperHears, KeeperSays, PassesRoom, fault_of, looked_up, committed};
 ghost use Rattle.ct_keep.specs.Handed.{handed};
 
 use crate::batches::Batch;
@@ -50,10 +50,9 @@ pub trait Keeper {
     /// The value of a key; None exactly where the content has no such entry. It never answers Full.
     fn fetch(&mut self, alloc: Global, key: &[u8]) -> Result<Option<Vec<u8>>, KeepFault>
         requires { (keeping self.old).ready }
-        ensures value { (m : Content) → (keeping self.old).content ≡ Some m → IfOk result (λ found. option_map (λ v. v.items) found ≡ get m key.now) }
-        ensures reads { Reads (keeping self.old) (keeping self.new) (fault_of result) }
-        ensures counts { (keeping self.new).counts ≡ looked_up key.now None (keeping self.old).counts }
-        ensures never_full { result ≡ Err KeepFault.Full → ⊥ };
+        ensures value { Finds keeping self.old result (λ m found. option_map (λ v. v.items) found ≡ get m key.now) }
+        ensures reads { OnlyReads keeping self.old self.new result }
+        ensures counts { (keeping self.new).counts ≡ looked_up key.now None (keeping self.old).counts };
 
     /// The entry with the least key that is greater; None exactly where there is none. It never answers Full.
     fn next_after(
@@ -62,19 +61,18 @@ pub trait Keeper {
         key: &[u8],
     ) -> Result<Option<(Vec<u8>, Vec<u8>)>, KeepFault>
         requires { (keeping self.old).ready }
-        ensures entry { (m : Content) → (keeping self.old).content ≡ Some m → IfOk result (λ found. option_map (λ e. (e.0.items, e.1.items)) found ≡ first_entry (entries_above key.now m)) }
-        ensures reads { Reads (keeping self.old) (keeping self.new) (fault_of result) }
-        ensures counts { (keeping self.new).counts ≡ looked_up key.now (handed result) (keeping self.old).counts }
-        ensures never_full { result ≡ Err KeepFault.Full → ⊥ };
+        ensures entry { Finds keeping self.old result (λ m found. option_map (λ e. (e.0.items, e.1.items)) found ≡ first_entry (entries_above key.now m)) }
+        ensures reads { OnlyReads keeping self.old self.new result }
+        ensures counts { (keeping self.new).counts ≡ looked_up key.now (handed result) (keeping self.old).counts };
 
     /// Does what the batch says, all of it or none. At each moment a stop leaves the old content or the new one, and after
     /// Ok the new one.
     fn commit(&mut self, alloc: Global, batch: Batch) -> Result<(), KeepFault>
         requires ready { (keeping self.old).ready }
-        requires well { AreWell (keeping self.old).well batch }
+        requires well { AreWell (keeping self.old).fixed.well batch }
         ensures kept { Kept (keeping self.old) (keeping self.new) (fault_of result) }
         ensures goes { (m : Content) → (keeping self.old).content ≡ Some m → Goes m (after batch m) (keeping self.old) (keeping self.new) (fault_of result) }
-        ensures answers { (m : Content) → (keeping self.old).content ≡ Some m → Answers (fault_of result) (keeping self.old).limit m (after batch m) }
+        ensures answers { (m : Content) → (keeping self.old).content ≡ Some m → Answers (fault_of result) (keeping self.old).fixed.limit m (after batch m) }
         ensures counts { (keeping self.new).counts ≡ committed (fault_of result) (keeping self.old).counts };
 
     /// Takes bytes of the script into the front of `into`, and answers how many. 0 means the end of the script. It may be
@@ -93,14 +91,14 @@ pub trait Keeper {
         ensures bound { IfOk result (λ count. count ≤ length bytes.now) }
         ensures some { IfOk result (λ count. 0 < count) }
         ensures says { KeeperSays (took result bytes.now) (keeping self.old) (keeping self.new) }
-        ensures passes { OnErr result (PassesRoom (keeping self.old).say_room (keeping self.old).beside.said bytes.now) }
+        ensures passes { OnErr result (PassesRoom (keeping self.old).fixed.say_room (keeping self.old).beside.said bytes.now) }
         ensures cause { HasCause (keeping self.old).beside.say_faults (keeping self.new).beside.say_faults result };
 
     /// Between two calls a stop leaves what it holds.
     ghost settled: { (k : Self) → (keeping k).ready → IsSettled (keeping k) };
 
     /// Each entry that it holds is within the bounds, and one that it may hold.
-    ghost holds: { (k : Self) → (keeping k).ready → (m : Content) → (keeping k).content ≡ Some m → HoldsWell (keeping k).well m };
+    ghost holds: { (k : Self) → (keeping k).ready → (m : Content) → (keeping k).content ≡ Some m → HoldsWell (keeping k).fixed.well m };
 
     /// Since now there is no other moment.
     ghost only_now: { (k : Self) (stopped : Option Content) (said : List ℕ) → (keeping k).time.since (keeping k).time.clock stopped said → (keeping k).now stopped said };

@@ -1,13 +1,13 @@
 //! What a keeper holds under a prefix of its keys.
 #![tactic(auto, using(crate::specs::Composing::reads_on, crate::specs::Composing::reads_short))]
 
-ghost use Rattle.std.specs.Prelude.{◌≡◌, ◌≤◌, ◌++◌, true, IfOk, OnOk, IfSome, IsTrue, Some, Err, [], ◌∷◌, map, length, drop};
+ghost use Rattle.std.specs.Prelude.{◌≡◌, ◌≤◌, ◌++◌, true, IfOk, OnOk, IfSome, IsTrue, [], ◌∷◌, map, length, drop};
 ghost use Rattle.std.specs.Option.{option_map};
 ghost use Rattle.std.specs.FinMap.{entries};
-ghost use Rattle.ct_keep.specs.Content.{Content, begins_with, entries_above, first_entry};
-ghost use Rattle.ct_keep.specs.Keeping.{Reads, fault_of};
+ghost use Rattle.ct_keep.specs.Content.{begins_with, entries_above, first_entry};
+ghost use Rattle.ct_keep.specs.Keeping.{Finds, OnlyReads, Told};
 ghost use Rattle.ct_keep.specs.Tail.{tail, rest_under};
-ghost use Rattle.ct_keep.specs.Looks.{next_looks, scan_looks, raised, RisesBy};
+ghost use Rattle.ct_keep.specs.Looks.{next_looks, scan_looks, LooksAtMost};
 
 use crate::keepers::{KeepFault, Keeper};
 use ct_base::Memory;
@@ -58,12 +58,10 @@ fn step_under<K: Keeper>(
 ) -> Result<Option<Entry>, KeepFault>
     requires ready { (K.keeping keeper.old).ready }
     requires begins { begins_with prefix.now last.old.items ≡ true }
-    ensures entry { (m : Content) → (K.keeping keeper.old).content ≡ Some m → IfOk result (λ found. option_map (λ e. (e.0.items, e.1.items)) found ≡ rest_under prefix.now (first_entry (entries_above last.old.items m))) }
+    ensures entry { Finds K.keeping keeper.old result (λ m found. option_map (λ e. (e.0.items, e.1.items)) found ≡ rest_under prefix.now (first_entry (entries_above last.old.items m))) }
     ensures last { IfOk result (λ found. IfSome found (λ e. last.new.items ≡ prefix.now ++ e.0.items)) }
-    ensures reads { Reads (K.keeping keeper.old) (K.keeping keeper.new) (fault_of result) }
-    ensures counts { (m : Content) → (K.keeping keeper.old).content ≡ Some m → OnOk result ((K.keeping keeper.new).counts ≡ raised (next_looks last.old.items m) (K.keeping keeper.old).counts) }
-    ensures at_most { (m : Content) → (K.keeping keeper.old).content ≡ Some m → RisesBy (next_looks last.old.items m) (K.keeping keeper.old).counts (K.keeping keeper.new).counts }
-    ensures never_full { result ≡ Err KeepFault.Full → ⊥ }
+    ensures reads { OnlyReads K.keeping keeper.old keeper.new result }
+    ensures at_most { Told K.keeping keeper.old (λ m. LooksAtMost K.keeping keeper.old keeper.new (next_looks last.old.items m)) }
 {
     let Some((key, value)) = keeper.next_after(alloc, last)? else {
         return Ok(None);
@@ -85,11 +83,9 @@ pub fn scan<K: Keeper>(
     prefix: &[u8],
 ) -> Result<Vec<(Vec<u8>, Vec<u8>)>, KeepFault>
     requires { (K.keeping keeper.old).ready }
-    ensures entries { (m : Content) → (K.keeping keeper.old).content ≡ Some m → IfOk result (λ found. map (λ e. (e.0.items, e.1.items)) found.items ≡ entries (tail prefix.now m)) }
-    ensures reads { Reads (K.keeping keeper.old) (K.keeping keeper.new) (fault_of result) }
-    ensures counts { (m : Content) → (K.keeping keeper.old).content ≡ Some m → OnOk result ((K.keeping keeper.new).counts ≡ raised (scan_looks prefix.now m) (K.keeping keeper.old).counts) }
-    ensures at_most { (m : Content) → (K.keeping keeper.old).content ≡ Some m → RisesBy (scan_looks prefix.now m) (K.keeping keeper.old).counts (K.keeping keeper.new).counts }
-    ensures never_full { result ≡ Err KeepFault.Full → ⊥ }
+    ensures entries { Finds K.keeping keeper.old result (λ m found. map (λ e. (e.0.items, e.1.items)) found.items ≡ entries (tail prefix.now m)) }
+    ensures reads { OnlyReads K.keeping keeper.old keeper.new result }
+    ensures at_most { Told K.keeping keeper.old (λ m. LooksAtMost K.keeping keeper.old keeper.new (scan_looks prefix.now m)) }
 {
     let mut found = Vec::new(alloc);
     let mut last = joined(alloc, prefix, &[])?;
@@ -113,11 +109,9 @@ pub fn next_under<K: Keeper>(
     after: &[u8],
 ) -> Result<Option<(Vec<u8>, Vec<u8>)>, KeepFault>
     requires { (K.keeping keeper.old).ready }
-    ensures entry { (m : Content) → (K.keeping keeper.old).content ≡ Some m → IfOk result (λ found. option_map (λ e. (e.0.items, e.1.items)) found ≡ first_entry (entries_above after.now (tail prefix.now m))) }
-    ensures reads { Reads (K.keeping keeper.old) (K.keeping keeper.new) (fault_of result) }
-    ensures counts { (m : Content) → (K.keeping keeper.old).content ≡ Some m → OnOk result ((K.keeping keeper.new).counts ≡ raised (next_looks (prefix.now ++ after.now) m) (K.keeping keeper.old).counts) }
-    ensures at_most { (m : Content) → (K.keeping keeper.old).content ≡ Some m → RisesBy (next_looks (prefix.now ++ after.now) m) (K.keeping keeper.old).counts (K.keeping keeper.new).counts }
-    ensures never_full { result ≡ Err KeepFault.Full → ⊥ }
+    ensures entry { Finds K.keeping keeper.old result (λ m found. option_map (λ e. (e.0.items, e.1.items)) found ≡ first_entry (entries_above after.now (tail prefix.now m))) }
+    ensures reads { OnlyReads K.keeping keeper.old keeper.new result }
+    ensures at_most { Told K.keeping keeper.old (λ m. LooksAtMost K.keeping keeper.old keeper.new (next_looks (prefix.now ++ after.now) m)) }
 {
     let mut last = joined(alloc, prefix, after)?;
     step_under(alloc, keeper, prefix, &mut last)
@@ -132,11 +126,9 @@ pub fn first_under<K: Keeper>(
     prefix: &[u8],
 ) -> Result<Option<(Vec<u8>, Vec<u8>)>, KeepFault>
     requires { (K.keeping keeper.old).ready }
-    ensures entry { (m : Content) → (K.keeping keeper.old).content ≡ Some m → IfOk result (λ found. option_map (λ e. (e.0.items, e.1.items)) found ≡ first_entry (entries (tail prefix.now m))) }
-    ensures reads { Reads (K.keeping keeper.old) (K.keeping keeper.new) (fault_of result) }
-    ensures counts { (m : Content) → (K.keeping keeper.old).content ≡ Some m → OnOk result ((K.keeping keeper.new).counts ≡ raised (next_looks prefix.now m) (K.keeping keeper.old).counts) }
-    ensures at_most { (m : Content) → (K.keeping keeper.old).content ≡ Some m → RisesBy (next_looks prefix.now m) (K.keeping keeper.old).counts (K.keeping keeper.new).counts }
-    ensures never_full { result ≡ Err KeepFault.Full → ⊥ }
+    ensures entry { Finds K.keeping keeper.old result (λ m found. option_map (λ e. (e.0.items, e.1.items)) found ≡ first_entry (entries (tail prefix.now m))) }
+    ensures reads { OnlyReads K.keeping keeper.old keeper.new result }
+    ensures at_most { Told K.keeping keeper.old (λ m. LooksAtMost K.keeping keeper.old keeper.new (next_looks prefix.now m)) }
 {
     next_under(alloc, keeper, prefix, &[])
 }

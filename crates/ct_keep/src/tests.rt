@@ -85,7 +85,7 @@ fn committed<K: Keeper>(alloc: Global, keeper: &mut K, words: &[Word]) -> Result
     requires { TakesAll (K.keeping keeper.old) }
     ensures takes { OnOk result (TakesAll (K.keeping keeper.new)) }
     ensures beside { (K.keeping keeper.new).beside ≡ (K.keeping keeper.old).beside }
-    ensures lender { (K.keeping keeper.new).lender ≡ (K.keeping keeper.old).lender }
+    ensures lender { (K.keeping keeper.new).fixed.lender ≡ (K.keeping keeper.old).fixed.lender }
 {
     let batch = batch_of(alloc, words)?;
     match keeper.commit(alloc, batch) {
@@ -305,7 +305,7 @@ fn use_keeper<K: Keeper>(alloc: Global, keeper: &mut K, bytes: &[u8]) -> Result<
     requires some { 0 < length bytes.now }
     ensures said { (K.keeping keeper.new).beside.said ≡ behind (K.keeping keeper.old).beside.said (took result bytes.now) }
     ensures left { (K.keeping keeper.new).beside.left ≡ (K.keeping keeper.old).beside.left }
-    ensures lender { (K.keeping keeper.new).lender ≡ (K.keeping keeper.old).lender }
+    ensures lender { (K.keeping keeper.new).fixed.lender ≡ (K.keeping keeper.old).fixed.lender }
 {
     if committed(alloc, keeper, &[("a", Some(1))]).is_err() {
         return Err(Failed);

@@ -7,7 +7,7 @@ use Rattle.ct_site.specs.Disks.{Beside}
 use Rattle.ct_keep.specs.Content.{Content}
 use Rattle.ct_keep.specs.declared.keepers.KeepFault.TheVariants as fault
 use Rattle.ct_keep.specs.Keeping.{Keeping, Kept, Goes, Leaves, IsSettled}
-use Rattle.ct_keep.specs.Composing.{reads_none, reads_short, reads_only, reads_failed, passes_as}
+use Rattle.ct_keep.specs.Composing.{same_say_room, reads_none, reads_short, reads_only, reads_failed, passes_as}
 use Rattle.db_engine.specs.States.{State, Stands}
 use Rattle.db_engine.specs.Refusals.{Effect, state_by}
 use Rattle.db_engine.specs.Runs.{Piece, Answer, Step, NoMemory, Full, Turn, turn, turn_by, effect_by, IsAllowed}
@@ -77,12 +77,12 @@ module _ (limit : ℕ) (piece : Piece) (was : World) (old new : Keeping) (shows 
   in_commit Full next stands x w left said = before limit was (one Full) shows.content x w left shows.stands (told w said)
 
   replied_with : (a : Answer) (bytes : List ℕ) (next : Content) → StandsBy (fault_for a) was.state does shows.content next → Goes shows.content next old new (fault_for a)
-      → IsAllowed limit old.limit was.state piece a → bytes ≡ (turn limit was.state (one a)).1 → Replied limit piece was old new bytes
+      → IsAllowed limit old.fixed.limit was.state piece a → bytes ≡ (turn limit was.state (one a)).1 → Replied limit piece was old new bytes
   replied_with Step bytes next stands goes allowed is = record { answer = Step; allowed = allowed; is = is; content = next; holds = goes.content; stands = stands; moments = passes_more old.time new.time _ _ goes.time (λ x w p. in_commit Step next stands x w p.0 p.1) }
   replied_with NoMemory bytes next stands goes allowed is = record { answer = NoMemory; allowed = allowed; is = is; content = shows.content; holds = goes.content; stands = shows.stands; moments = passes_more old.time new.time _ _ goes.time (λ x w p. in_commit NoMemory next stands x w p.0 p.1) }
   replied_with Full bytes next stands goes allowed is = record { answer = Full; allowed = allowed; is = is; content = shows.content; holds = goes.content; stands = shows.stands; moments = passes_more old.time new.time _ _ goes.time (λ x w p. in_commit Full next stands x w p.0 p.1) }
 
-  pub replied_by : (a : Answer) (bytes : List ℕ) → Moves was.state does shows.content old new (fault_for a) → IsAllowed limit old.limit was.state piece a → bytes ≡ (turn limit was.state (one a)).1 → Replied limit piece was old new bytes
+  pub replied_by : (a : Answer) (bytes : List ℕ) → Moves was.state does shows.content old new (fault_for a) → IsAllowed limit old.fixed.limit was.state piece a → bytes ≡ (turn limit was.state (one a)).1 → Replied limit piece was old new bytes
   replied_by a bytes moves allowed is = replied_with a bytes moves.next moves.stands moves.goes allowed is
 
   -- the disk failed
@@ -123,7 +123,7 @@ module _ (limit : ℕ) (piece : Piece) (was : World) (old mid new : Keeping) (by
   shows_said : (part : List ℕ) → Spoke part mid new → Shows new (record { state = (turn limit was.state made).0; said = behind was.said part })
   shows_said part s = record { said = s.says.said ∙ ap (λ (o : Option (List ℕ)). behind o part) said_mid; content = r.content; holds = s.says.apart.content ∙ r.holds; stands = r.stands }
 
-  pub answered_by : Spoke bytes mid new → (now : World) × Shows new now × Answered limit old.limit piece was now old.time new.time
+  pub answered_by : Spoke bytes mid new → (now : World) × Shows new now × Answered limit old.fixed.limit piece was now old.time new.time
   answered_by s = (
     record { state = (turn limit was.state made).0; said = behind was.said bytes },
     shows_said bytes s,
@@ -144,7 +144,7 @@ module _ (limit : ℕ) (piece : Piece) (was : World) (old mid new : Keeping) (by
     answer = r.answer;
     allowed = r.allowed;
     moments = moments_said s.part s.is.rest s.is.is s.spoke;
-    by = record { part = s.part; reply = subst (IsPartOf s.part) r.is s.is; passes = passes_as _ _ _ _ _ _ s.passes s.spoke.says.apart.say_room (sym said_mid) (sym r.is); shows = shows_said s.part s.spoke; settled = settled };
+    by = record { part = s.part; reply = subst (IsPartOf s.part) r.is s.is; passes = passes_as _ _ _ _ _ _ s.passes (same_say_room s.spoke.says.apart.fixed) (sym said_mid) (sym r.is); shows = shows_said s.part s.spoke; settled = settled };
   }
 
 -- the answer to a piece, from the response to it and what was said of that

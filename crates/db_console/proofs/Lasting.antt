@@ -2,6 +2,7 @@
 use Rattle.std.proofs.Common.{◌≤◌, ℕ, List, Bool, Option, refl, sym, ap, ◌∙◌, subst, arith}
 use Rattle.ct_base.specs.Causes.{Rose}
 use Rattle.ct_site.specs.Disks.{Beside}
+use Rattle.ct_keep.specs.Composing.{same_aside, same_well}
 use Rattle.ct_keep.specs.declared.keepers.KeepFault.{KeepFault}
 use Rattle.ct_keep.specs.Keeping.{Keeping, Kept}
 use Rattle.db_engine.specs.States.{TakesAll}
@@ -13,18 +14,14 @@ pub rose_after : (a b c : ℕ) → a ≤ b → Rose b c → Rose a c
 rose_after a b c h k = omega arith
 
 pub lasts_none : (k : Keeping) → Lasts k k
-lasts_none k = record { hear_later = omega arith; say_later = omega arith; disk_later = omega arith; well = refl; limit = refl; say_room = refl; aside = refl; lender = refl }
+lasts_none k = record { hear_later = omega arith; say_later = omega arith; disk_later = omega arith; fixed = refl }
 
 pub lasts_then : (a b c : Keeping) → Lasts a b → Lasts b c → Lasts a c
 lasts_then a b c f g = record {
   hear_later = omega (arith, f.hear_later, g.hear_later);
   say_later = omega (arith, f.say_later, g.say_later);
   disk_later = omega (arith, f.disk_later, g.disk_later);
-  well = g.well ∙ f.well;
-  limit = g.limit ∙ f.limit;
-  say_room = g.say_room ∙ f.say_room;
-  aside = g.aside ∙ f.aside;
-  lender = g.lender ∙ f.lender;
+  fixed = g.fixed ∙ f.fixed;
 }
 
 pub lasts_kept : (a b : Keeping) (fault : Option KeepFault) → Kept a b fault → Lasts a b
@@ -32,11 +29,7 @@ lasts_kept a b fault k = record {
   hear_later = let e = ap (λ (s : Beside). s.hear_faults) k.beside in omega (arith, e);
   say_later = let e = ap (λ (s : Beside). s.say_faults) k.beside in omega (arith, e);
   disk_later = k.later;
-  well = k.well;
-  limit = k.limit;
-  say_room = k.say_room;
-  aside = k.aside;
-  lender = k.lender;
+  fixed = k.fixed;
 }
 
 pub lasts_heard : (a b : Keeping) (bytes : List ℕ) → Heard bytes a b → Lasts a b
@@ -44,11 +37,7 @@ lasts_heard a b bytes h = record {
   hear_later = h.later;
   say_later = omega (arith, h.hears.say_faults);
   disk_later = omega (arith, h.hears.apart.disk_faults);
-  well = h.hears.apart.well;
-  limit = h.hears.apart.limit;
-  say_room = h.hears.apart.say_room;
-  aside = h.hears.apart.aside;
-  lender = h.hears.apart.lender;
+  fixed = h.hears.apart.fixed;
 }
 
 pub lasts_said : (a b : Keeping) (bytes : List ℕ) → Spoke bytes a b → Lasts a b
@@ -56,11 +45,7 @@ lasts_said a b bytes s = record {
   hear_later = omega (arith, s.says.hear_faults);
   say_later = s.later;
   disk_later = omega (arith, s.says.apart.disk_faults);
-  well = s.says.apart.well;
-  limit = s.says.apart.limit;
-  say_room = s.says.apart.say_room;
-  aside = s.says.apart.aside;
-  lender = s.says.apart.lender;
+  fixed = s.says.apart.fixed;
 }
 
 -- ---- what answering leaves
@@ -79,8 +64,8 @@ frame_said a b bytes s = record { left = s.says.left; hear_faults = s.says.hear_
 
 pub rose_by : (stop : Stop) (a b c : Keeping) → Frame a b → RoseBy stop b c → RoseBy stop a c
 rose_by Say a b c f r = rose_after a.beside.say_faults b.beside.say_faults c.beside.say_faults f.lasts.say_later r
-rose_by Disk a b c f r = (rose_after a.disk_faults b.disk_faults c.disk_faults f.lasts.disk_later r.0, sym f.lasts.aside ∙ r.1)
+rose_by Disk a b c f r = (rose_after a.disk_faults b.disk_faults c.disk_faults f.lasts.disk_later r.0, sym (same_aside f.lasts.fixed) ∙ r.1)
 
 -- it still takes every entry
-pub takes_still : (a b : Keeping) → Lasts a b → TakesAll a.well → TakesAll b.well
-takes_still a b l takes = subst (λ (well : List ℕ → List ℕ → Bool). TakesAll well) (sym l.well) takes
+pub takes_still : (a b : Keeping) → Lasts a b → TakesAll a.fixed.well → TakesAll b.fixed.well
+takes_still a b l takes = subst (λ (well : List ℕ → List ℕ → Bool). TakesAll well) (sym (same_well l.fixed)) takes

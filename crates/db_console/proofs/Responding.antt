@@ -91,14 +91,14 @@ module _ (limit : ℕ) (ended : List ℕ) (was : World) (old : Keeping) (shows :
     same_step : effect_of was.state (read (chars ended)) ≡ step limit was.state ended
     same_step = sym (step_text limit was.state ended short text)
 
-    allowed_by : (a : Answer) → (a ≡ Full → HasNoPlace was.state (effect_of was.state (read (chars ended))) old.limit) → (a ≡ Full → can_fill (read (chars ended)) ≡ true) → IsAllowed limit old.limit was.state (statement ended) a
+    allowed_by : (a : Answer) → (a ≡ Full → HasNoPlace was.state (effect_of was.state (read (chars ended))) old.fixed.limit) → (a ≡ Full → can_fill (read (chars ended)) ≡ true) → IsAllowed limit old.fixed.limit was.state (statement ended) a
     allowed_by Step place can = tt
     allowed_by NoMemory place can = (refl, short, text)
     allowed_by Full place can = (
       refl,
       ap is_done (sym same_step) ∙ (place refl).done,
       ap can_fill (read_text ended text) ∙ can refl,
-      subst (λ (f : Effect). old.limit < room (state_by was.state f)) same_step (place refl).over,
+      subst (λ (f : Effect). old.fixed.limit < room (state_by was.state f)) same_step (place refl).over,
     )
 
     pub replied_text : (bytes : List ℕ) → HasReply was.state (read (chars ended)) shows.content old new bytes → Replied limit (statement ended) was old new bytes

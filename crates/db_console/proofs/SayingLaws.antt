@@ -4,7 +4,7 @@ use Rattle.std.proofs.lemmas.List.{take_all, take-append-drop}
 use Rattle.std.proofs.Math.Seq.{take-add, take-length}
 use Rattle.ct_base.specs.Told.{behind}
 use Rattle.ct_keep.specs.Keeping.{Keeping, KeeperSays, PassesRoom}
-use Rattle.ct_keep.specs.Composing.{says_none, says_then, passes_behind, passes_as}
+use Rattle.ct_keep.specs.Composing.{same_say_room, says_none, says_then, passes_behind, passes_as}
 use Rattle.db_console.specs.Views.{SayRose, Spoke, SpokeInPart}
 use Rattle.db_console.proofs.Lasting.{rose_after}
 
@@ -30,14 +30,14 @@ pub spoke_whole : (a b : Keeping) (bytes : List ℕ) (at : ℕ) → length bytes
 spoke_whole a b bytes at h s = rw (take_all at bytes h) at s
 
 -- what was left would have been too much, and so would have been all
-all_passes : (a b : Keeping) (bytes : List ℕ) (at : ℕ) → Spoke (take at bytes) a b → PassesRoom b.say_room b.beside.said (take (length bytes - at) (drop at bytes)) → PassesRoom a.say_room a.beside.said bytes
+all_passes : (a b : Keeping) (bytes : List ℕ) (at : ℕ) → Spoke (take at bytes) a b → PassesRoom b.fixed.say_room b.beside.said (take (length bytes - at) (drop at bytes)) → PassesRoom a.fixed.say_room a.beside.said bytes
 all_passes a b bytes at s p =
-    let rest : PassesRoom a.say_room (behind a.beside.said (take at bytes)) (drop at bytes) =
-    passes_as _ _ _ _ _ _ p (sym s.says.apart.say_room) (sym s.says.said) (sym (from_place bytes at)) in
-    subst (PassesRoom a.say_room a.beside.said) (take-append-drop at bytes) (passes_behind a.say_room a.beside.said (take at bytes) (drop at bytes) rest)
+    let rest : PassesRoom a.fixed.say_room (behind a.beside.said (take at bytes)) (drop at bytes) =
+    passes_as _ _ _ _ _ _ p (sym (same_say_room s.says.apart.fixed)) (sym s.says.said) (sym (from_place bytes at)) in
+    subst (PassesRoom a.fixed.say_room a.beside.said) (take-append-drop at bytes) (passes_behind a.fixed.say_room a.beside.said (take at bytes) (drop at bytes) rest)
 
 pub spoke_part : (a b c : Keeping) (bytes : List ℕ) (at : ℕ) → at < length bytes → Spoke (take at bytes) a b → KeeperSays [] b c → b.beside.say_faults ≤ c.beside.say_faults → SayRose b.beside c.beside
-    → PassesRoom b.say_room b.beside.said (take (length bytes - at) (drop at bytes)) → SpokeInPart bytes a c
+    → PassesRoom b.fixed.say_room b.beside.said (take (length bytes - at) (drop at bytes)) → SpokeInPart bytes a c
 spoke_part a b c bytes at h s t k r p = record {
   part = take at bytes;
   is = record { rest = drop at bytes; is = sym (take-append-drop at bytes); more = omega (arith, length-drop at bytes) };

@@ -3,6 +3,7 @@ use Rattle.std.proofs.Common.{◌≡◌, ℕ, Some, refl, subst, ap}
 use Rattle.std.specs.FinMap.{empty}
 use base.Fml.{GName}
 use Rattle.ct_site.specs.Disks.{DiskView}
+use Rattle.ct_keep.specs.Composing.{same_aside, same_lender, same_limit}
 use Rattle.ct_keep.specs.Content.{Content}
 use Rattle.ct_keep.specs.Keeping.{Counts, Aside}
 use Rattle.ct_keep.specs.InMemory.{aside_of}
@@ -26,8 +27,8 @@ ran_over limit most store old new name last content weight counts ending o = rec
   content = content;
   counts = counts;
   begins = record { said = refl; content = empty; holds = refl; stands = empty_stands };
-  untouched = same_image old new o.lasts.aside;
+  untouched = same_image old new (same_aside o.lasts.fixed);
   outcome =
-      subst (λ (n : GName). Outcome limit most (over_site empty store no_counts old name) (over_site content store counts new n) ending) (same_name last name o.lasts.lender)
-      (subst (λ (w : ℕ). Outcome limit most (over_site empty store no_counts old name) (over_site content w counts new last) ending) o.lasts.limit o);
+      subst (λ (n : GName). Outcome limit most (over_site empty store no_counts old name) (over_site content store counts new n) ending) (same_name last name (same_lender o.lasts.fixed))
+      (subst (λ (w : ℕ). Outcome limit most (over_site empty store no_counts old name) (over_site content w counts new last) ending) (same_limit o.lasts.fixed) o);
 }

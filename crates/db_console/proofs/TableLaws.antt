@@ -5,7 +5,7 @@ use Rattle.ct_base.specs.Moments.{passes_none, passes_stays, passes_then}
 use Rattle.ct_base.specs.Told.{ahead, ahead_none, ahead_twice, behind, behind_none, behind_twice, IsNothing}
 use Rattle.ct_keep.specs.Content.{Content}
 use Rattle.ct_keep.specs.Keeping.{Keeping, PassesRoom, IsSettled}
-use Rattle.ct_keep.specs.Composing.{passes_behind, passes_as}
+use Rattle.ct_keep.specs.Composing.{same_aside, same_limit, passes_behind, passes_as}
 use Rattle.st_cut.specs.Seen.{Seen, Stands as StandsOpen}
 use Rattle.db_engine.specs.States.{State, Stands}
 use Rattle.db_engine.specs.Runs.{Turn, turn, pieces, state_after, transcript, state_after-append, transcript-append, AllAllowed}
@@ -48,7 +48,7 @@ pub record Going (limit taken : ℕ) (piece : List ℕ) (old now : Keeping) (cut
   pub front : old.beside.left ≡ ahead (heard ++ piece) now.beside.left
   pub lasts : Lasts old now
   pub ready : now.ready
-  pub going : (was : World) → Shows old was → (is : World) × Shows now is × ServedTo limit old.limit [] heard was is old.time now.time cutter
+  pub going : (was : World) → Shows old was → (is : World) × Shows now is × ServedTo limit old.fixed.limit [] heard was is old.time now.time cutter
 
 pub going_start : (limit : ℕ) (view : Keeping) (cutter : Seen) → view.ready → StandsOpen limit cutter [] → Going limit 0 [] view view cutter
 going_start limit view cutter ready s = record {
@@ -57,7 +57,7 @@ going_start limit view cutter ready s = record {
   front = sym (ahead_none view.beside.left);
   lasts = lasts_none view;
   ready = ready;
-  going = λ was w. (was, w, served_start limit view.limit [] was view.time cutter s);
+  going = λ was w. (was, w, served_start limit view.fixed.limit [] was view.time cutter s);
 }
 
 pub going_heard : (limit taken : ℕ) (piece : List ℕ) (old mid now : Keeping) (cutter : Seen) → Going limit taken [] old mid cutter → Heard piece mid now → Going limit taken piece old now cutter
@@ -68,8 +68,8 @@ going_heard limit taken piece old mid now cutter s h = record {
   lasts = lasts_then old mid now s.lasts (lasts_heard mid now piece h);
   ready = h.hears.apart.ready s.ready;
   going = λ was w.
-      let x : (is : World) × Shows mid is × ServedTo limit old.limit [] s.heard was is old.time mid.time cutter = s.going was w in
-      (x.0, shows_heard mid now piece x.0 h x.1, served_heard limit old.limit s.heard piece was x.0 old mid now cutter h x.2);
+      let x : (is : World) × Shows mid is × ServedTo limit old.fixed.limit [] s.heard was is old.time mid.time cutter = s.going was w in
+      (x.0, shows_heard mid now piece x.0 h x.1, served_heard limit old.fixed.limit s.heard piece was x.0 old mid now cutter h x.2);
 }
 
 pub going_on : (limit taken count : ℕ) (piece : List ℕ) (old now new : Keeping) (cutter later : Seen) → Going limit taken piece old now cutter → length piece ≡ count
@@ -81,12 +81,12 @@ going_on limit taken count piece old now new cutter later s n k = record {
   lasts = lasts_then old now new s.lasts k.frame.lasts;
   ready = k.ready;
   going = λ was w.
-      let x : (is : World) × Shows now is × ServedTo limit old.limit [] s.heard was is old.time now.time cutter = s.going was w in
-      let y : (is : World) × Shows new is × ServedTo limit now.limit x.2.served.rest piece x.0 is now.time new.time later = k.serves limit x.2.served.rest x.2.stands x.0 x.1 in (
+      let x : (is : World) × Shows now is × ServedTo limit old.fixed.limit [] s.heard was is old.time now.time cutter = s.going was w in
+      let y : (is : World) × Shows new is × ServedTo limit now.fixed.limit x.2.served.rest piece x.0 is now.time new.time later = k.serves limit x.2.served.rest x.2.stands x.0 x.1 in (
         y.0,
         y.1,
-        served_then limit old.limit [] s.heard piece was x.0 y.0 old.time now.time new.time later x.2.served
-            (subst (λ (store : ℕ). ServedTo limit store x.2.served.rest piece x.0 y.0 now.time new.time later) s.lasts.limit y.2),
+        served_then limit old.fixed.limit [] s.heard piece was x.0 y.0 old.time now.time new.time later x.2.served
+            (subst (λ (store : ℕ). ServedTo limit store x.2.served.rest piece x.0 y.0 now.time new.time later) (same_limit s.lasts.fixed) y.2),
       );
 }
 
@@ -115,7 +115,7 @@ moment_now limit was turns new said rest front settled shows x w n =
     }
 
 -- all was said
-turns_all : (limit most store : ℕ) (whole : Bool) (taken script : List ℕ) (was now : World) (old new : Keeping) (ending : Ending) → store ≡ old.limit → IsSettled new → Shows new now → (s : Served limit store whole [] script was now old.time new.time)
+turns_all : (limit most store : ℕ) (whole : Bool) (taken script : List ℕ) (was now : World) (old new : Keeping) (ending : Ending) → store ≡ old.fixed.limit → IsSettled new → Shows new now → (s : Served limit store whole [] script was now old.time new.time)
     → (SaidAll limit whole script was s.turns new → Ends limit most taken was s.turns new ending) → Course limit most taken was old new ending
 turns_all limit most store whole taken script was now old new ending is settled w s ends =
     let shows : Shows new (world_after limit was s.turns) = shows_after limit store was now s.turns new s.leads w in
@@ -153,8 +153,8 @@ out_fault limit most taken old mid now cutter settled before h k r =
       because = (rw s.count h, rose_after old.beside.hear_faults mid.beside.hear_faults now.beside.hear_faults before.lasts.hear_later r);
       ready = s.ready;
       course = λ was w.
-          let x : (is : World) × Shows now is × ServedTo limit old.limit [] s.heard was is old.time now.time cutter = s.going was w in
-          turns_all limit most old.limit false s.heard s.heard was x.0 old now HearFault refl (settled s.ready) x.1 x.2.served (λ e. e);
+          let x : (is : World) × Shows now is × ServedTo limit old.fixed.limit [] s.heard was is old.time now.time cutter = s.going was w in
+          turns_all limit most old.fixed.limit false s.heard s.heard was x.0 old now HearFault refl (settled s.ready) x.1 x.2.served (λ e. e);
     }
 
 -- ---- where it was stopped
@@ -199,8 +199,8 @@ said_in_part limit store whole taken was old new k = record {
   };
   front = record { rest = k.by.part; is = rw k.leads.run.says refl };
   passes =
-      let last : PassesRoom new.say_room (behind was.said k.leads.said) (turn limit k.mid.state k.last).1 = passes_as _ _ _ _ _ _ k.by.passes refl (sym k.leads.told) refl in
-      passes_as _ _ _ _ _ _ (passes_behind new.say_room was.said k.leads.said (turn limit k.mid.state k.last).1 last) refl refl (said_last limit store whole Say taken was old new k);
+      let last : PassesRoom new.fixed.say_room (behind was.said k.leads.said) (turn limit k.mid.state k.last).1 = passes_as _ _ _ _ _ _ k.by.passes refl (sym k.leads.told) refl in
+      passes_as _ _ _ _ _ _ (passes_behind new.fixed.say_room was.said k.leads.said (turn limit k.mid.state k.last).1 last) refl refl (said_last limit store whole Say taken was old new k);
   settled = k.by.settled;
 }
 
@@ -214,7 +214,7 @@ failed_in_last limit store whole taken was old new k = record {
       (subst (λ (m : State). LeavesState x k.mid.state ⊎ LeavesState x m) (sym (state_last limit store whole Disk taken was old new k)) (k.by.now x w n).leaves);
 }
 
-turns_stopped : (stop : Stop) (limit most store : ℕ) (whole : Bool) (taken : List ℕ) (was : World) (old new : Keeping) → store ≡ old.limit → (whole ≡ true → EndsHere new.beside) → Broke limit store whole stop [] taken was old new
+turns_stopped : (stop : Stop) (limit most store : ℕ) (whole : Bool) (taken : List ℕ) (was : World) (old new : Keeping) → store ≡ old.fixed.limit → (whole ≡ true → EndsHere new.beside) → Broke limit store whole stop [] taken was old new
     → Course limit most taken was old new (ending_of stop)
 turns_stopped Say limit most store whole taken was old new is n k =
     let s : SaidInPart limit whole taken was (k.turns ++ k.last ∷ []) new = said_in_part limit store whole taken was old new k in
@@ -235,7 +235,7 @@ turns_stopped Disk limit most store whole taken was old new is n k = record {
 
 because_of : (stop : Stop) (most : ℕ) (taken : List ℕ) (old now new : Keeping) → Lasts old now → length taken ≤ most → RoseBy stop now new → Because most taken old new (ending_of stop)
 because_of Say most taken old now new s h r = (h, rose_after old.beside.say_faults now.beside.say_faults new.beside.say_faults s.say_later r)
-because_of Disk most taken old now new s h r = (h, rose_after old.disk_faults now.disk_faults new.disk_faults s.disk_later r.0, sym s.aside ∙ r.1)
+because_of Disk most taken old now new s h r = (h, rose_after old.disk_faults now.disk_faults new.disk_faults s.disk_later r.0, sym (same_aside s.fixed) ∙ r.1)
 
 ready_after : (stop : Stop) (new : Keeping) → UnlessByDisk stop new.ready → IsReadyAfter (ending_of stop) new
 ready_after Say new r = r
@@ -250,10 +250,10 @@ out_broke stop limit most taken piece old now new cutter ending s h whole n k e 
   because = because_of stop most (s.heard ++ piece) old now new s.lasts (omega (arith, length-append s.heard piece, s.count, h)) k.cause;
   ready = ready_after stop new k.ready;
   course = λ was w.
-      let x : (is : World) × Shows now is × ServedTo limit old.limit [] s.heard was is old.time now.time cutter = s.going was w in
-      turns_stopped stop limit most old.limit whole (s.heard ++ piece) was old new refl (λ x. subst IsNothing (sym k.frame.left) (n x))
-      (broke_then limit old.limit whole stop [] s.heard piece was x.0 old now new x.2.served
-      (subst (λ (store : ℕ). Broke limit store whole stop x.2.served.rest piece x.0 now new) s.lasts.limit (k.breaks limit x.2.served.rest x.2.stands x.0 x.1)));
+      let x : (is : World) × Shows now is × ServedTo limit old.fixed.limit [] s.heard was is old.time now.time cutter = s.going was w in
+      turns_stopped stop limit most old.fixed.limit whole (s.heard ++ piece) was old new refl (λ x. subst IsNothing (sym k.frame.left) (n x))
+      (broke_then limit old.fixed.limit whole stop [] s.heard piece was x.0 old now new x.2.served
+      (subst (λ (store : ℕ). Broke limit store whole stop x.2.served.rest piece x.0 now new) (same_limit s.lasts.fixed) (k.breaks limit x.2.served.rest x.2.stands x.0 x.1)));
 })
 
 out_done : (limit most taken : ℕ) (old now new : Keeping) (cutter : Seen) → (new.ready → IsSettled new) → Going limit taken [] old now cutter → taken ≤ most → EndsHere now.beside → Finishes now new cutter → Outcome limit most old new Done
@@ -264,11 +264,11 @@ out_done limit most taken old now new cutter settled s h n k = record {
   because = (rw s.count h, subst IsNothing (sym k.frame.left) n);
   ready = k.ready;
   course = λ was w.
-      let x : (is : World) × Shows now is × ServedTo limit old.limit [] s.heard was is old.time now.time cutter = s.going was w in
-      let y : (is : World) × Shows new is × Served limit now.limit true x.2.served.rest [] x.0 is now.time new.time = k.serves limit x.2.served.rest x.2.stands x.0 x.1 in
-      let z : Served limit old.limit true [] (s.heard ++ []) was y.0 old.time new.time = served_on limit old.limit true [] s.heard [] was x.0 y.0 old.time now.time new.time x.2.served
-      (subst (λ (store : ℕ). Served limit store true x.2.served.rest [] x.0 y.0 now.time new.time) s.lasts.limit y.2) in
-      turns_all limit most old.limit true s.heard s.heard was y.0 old new Done refl (settled k.ready) y.1 (subst (λ (xs : List ℕ). Served limit old.limit true [] xs was y.0 old.time new.time) (append-nil s.heard) z) (λ e. e);
+      let x : (is : World) × Shows now is × ServedTo limit old.fixed.limit [] s.heard was is old.time now.time cutter = s.going was w in
+      let y : (is : World) × Shows new is × Served limit now.fixed.limit true x.2.served.rest [] x.0 is now.time new.time = k.serves limit x.2.served.rest x.2.stands x.0 x.1 in
+      let z : Served limit old.fixed.limit true [] (s.heard ++ []) was y.0 old.time new.time = served_on limit old.fixed.limit true [] s.heard [] was x.0 y.0 old.time now.time new.time x.2.served
+      (subst (λ (store : ℕ). Served limit store true x.2.served.rest [] x.0 y.0 now.time new.time) (same_limit s.lasts.fixed) y.2) in
+      turns_all limit most old.fixed.limit true s.heard s.heard was y.0 old new Done refl (settled k.ready) y.1 (subst (λ (xs : List ℕ). Served limit old.fixed.limit true [] xs was y.0 old.time new.time) (append-nil s.heard) z) (λ e. e);
 }
 
 pub out_closed : (ending : Ending) (limit most taken : ℕ) (old mid now new : Keeping) (cutter : Seen) → (new.ready → IsSettled new) → Going limit taken [] old mid cutter → Heard [] mid now → taken ≤ most → EndsHere now.beside
@@ -292,8 +292,8 @@ out_past limit most taken byte old mid now cutter settled before k h =
       because = omega (arith, length-append s.heard (byte ∷ []), s.count);
       ready = s.ready;
       course = λ was w.
-          let x : (is : World) × Shows now is × ServedTo limit old.limit [] s.heard was is old.time now.time cutter = s.going was w in
-          turns_all limit most old.limit false (s.heard ++ byte ∷ []) s.heard was x.0 old now PastLimit refl (settled s.ready) x.1 x.2.served (λ e. (s.heard, byte, refl, s.count ∙ h, e));
+          let x : (is : World) × Shows now is × ServedTo limit old.fixed.limit [] s.heard was is old.time now.time cutter = s.going was w in
+          turns_all limit most old.fixed.limit false (s.heard ++ byte ∷ []) s.heard was x.0 old now PastLimit refl (settled s.ready) x.1 x.2.served (λ e. (s.heard, byte, refl, s.count ∙ h, e));
     }
 
 -- ---- what follows of a run

@@ -5,6 +5,7 @@ use Rattle.std.proofs.lemmas.List.{take_all, take_more, take-append-drop}
 use Rattle.st_cut.specs.Cut.{Cuts, first_statement}
 use Rattle.st_cut.specs.Seen.{Seen, Stands as StandsOpen, Shows as ShowsText}
 use Rattle.st_cut.proofs.Cutting.{ended_text, no_text, some_cut}
+use Rattle.ct_keep.specs.Composing.{same_limit}
 use Rattle.ct_keep.specs.Keeping.{Keeping}
 use Rattle.db_engine.specs.Runs.{Piece, statement, rest_piece, turn_by, pieces}
 use Rattle.db_console.specs.declared.saying.Stop.{Stop}
@@ -21,11 +22,11 @@ if_err_weaker (Err e) P Q f h = f e h
 
 -- in the first piece
 broke_first : (limit : ℕ) (whole : Bool) (stop : Stop) (held bytes : List ℕ) (last : Piece) (later : List Piece) (rest : List ℕ) (was : World) (old new : Keeping)
-    → HasPieces whole (held ++ bytes) (last ∷ later) rest → Stopped limit last stop was old new → Broke limit old.limit whole stop held bytes was old new
+    → HasPieces whole (held ++ bytes) (last ∷ later) rest → Stopped limit last stop was old new → Broke limit old.fixed.limit whole stop held bytes was old new
 broke_first limit whole stop held bytes last later rest was old new p a = record {
   turns = [];
   mid = was;
-  leads = leads_none limit old.limit was;
+  leads = leads_none limit old.fixed.limit was;
   last = turn_by last a.answer;
   allowed = a.allowed;
   later = later;
@@ -77,7 +78,7 @@ pub serves_push : (view : Keeping) (bytes : List ℕ) (before after : Seen) → 
 serves_push view bytes before after ready h = record {
   frame = frame_none view;
   ready = ready;
-  serves = λ limit held s was w. (was, w, served_open limit view.limit held bytes was view.time after (h limit held s));
+  serves = λ limit held s was w. (was, w, served_open limit view.fixed.limit held bytes was view.time after (h limit held s));
 }
 
 pub serves_none : (view : Keeping) (cutter : Seen) → view.ready → Serves [] view view cutter cutter
@@ -88,12 +89,12 @@ serves_then a b old mid new before between after s t = record {
   frame = frame_then old mid new s.frame t.frame;
   ready = t.ready;
   serves = λ limit held h was w.
-      let x : (now : World) × Shows mid now × ServedTo limit old.limit held a was now old.time mid.time between = s.serves limit held h was w in
-      let y : (now : World) × Shows new now × ServedTo limit mid.limit x.2.served.rest b x.0 now mid.time new.time after = t.serves limit x.2.served.rest x.2.stands x.0 x.1 in (
+      let x : (now : World) × Shows mid now × ServedTo limit old.fixed.limit held a was now old.time mid.time between = s.serves limit held h was w in
+      let y : (now : World) × Shows new now × ServedTo limit mid.fixed.limit x.2.served.rest b x.0 now mid.time new.time after = t.serves limit x.2.served.rest x.2.stands x.0 x.1 in (
         y.0,
         y.1,
-        served_then limit old.limit held a b was x.0 y.0 old.time mid.time new.time after x.2.served
-            (subst (λ (store : ℕ). ServedTo limit store x.2.served.rest b x.0 y.0 mid.time new.time after) s.frame.lasts.limit y.2),
+        served_then limit old.fixed.limit held a b was x.0 y.0 old.time mid.time new.time after x.2.served
+            (subst (λ (store : ℕ). ServedTo limit store x.2.served.rest b x.0 y.0 mid.time new.time after) (same_limit s.frame.lasts.fixed) y.2),
       );
 }
 
@@ -103,9 +104,9 @@ breaks_then whole stop a b old mid new before between s t = record {
   cause = rose_by stop old mid new s.frame t.cause;
   ready = t.ready;
   breaks = λ limit held h was w.
-      let x : (now : World) × Shows mid now × ServedTo limit old.limit held a was now old.time mid.time between = s.serves limit held h was w in
-      broke_then limit old.limit whole stop held a b was x.0 old mid new x.2.served
-      (subst (λ (store : ℕ). Broke limit store whole stop x.2.served.rest b x.0 mid new) s.frame.lasts.limit (t.breaks limit x.2.served.rest x.2.stands x.0 x.1));
+      let x : (now : World) × Shows mid now × ServedTo limit old.fixed.limit held a was now old.time mid.time between = s.serves limit held h was w in
+      broke_then limit old.fixed.limit whole stop held a b was x.0 old mid new x.2.served
+      (subst (λ (store : ℕ). Broke limit store whole stop x.2.served.rest b x.0 mid new) (same_limit s.frame.lasts.fixed) (t.breaks limit x.2.served.rest x.2.stands x.0 x.1));
 }
 
 breaks_before : (stop : Stop) (a b : List ℕ) (old new : Keeping) (before : Seen) → Breaks false stop a old new before → Breaks false stop (a ++ b) old new before
@@ -113,7 +114,7 @@ breaks_before stop a b old new before t = record {
   frame = t.frame;
   cause = t.cause;
   ready = t.ready;
-  breaks = λ limit held h was w. broke_before limit old.limit stop held a b was old new (t.breaks limit held h was w);
+  breaks = λ limit held h was w. broke_before limit old.fixed.limit stop held a b was old new (t.breaks limit held h was w);
 }
 
 -- ---- a statement that ends, from the calls that answer it
@@ -144,8 +145,8 @@ serves_statement old new before after text e show answers n = record {
   ready = let x = shown text in (answers x.0 x.1 x.2).ready;
   serves = λ limit held h was w.
       let t : (s : List ℕ) × (first_statement true held ≡ Some (s, [])) = ended_text limit before held h e in
-      let a : (now : World) × Shows new now × Answered limit old.limit (statement t.0) was now old.time new.time = (answers limit t.0 (show limit held t.0 h t.1)).answers was w in
-      (a.0, a.1, served_statement limit old.limit held t.0 was a.0 old.time new.time after h.opened t.1 a.2 (subst (λ (x : ℕ). StandsOpen x after []) h.limited n));
+      let a : (now : World) × Shows new now × Answered limit old.fixed.limit (statement t.0) was now old.time new.time = (answers limit t.0 (show limit held t.0 h t.1)).answers was w in
+      (a.0, a.1, served_statement limit old.fixed.limit held t.0 was a.0 old.time new.time after h.opened t.1 a.2 (subst (λ (x : ℕ). StandsOpen x after []) h.limited n));
 }
 
 pub breaks_statement : (stop : Stop) (old new : Keeping) (before : Seen) (text : Option (Bor (List ℕ))) → is_some before.stop ≡ true → ShowsEnded text before → StopsShown statement stop text old new
@@ -166,8 +167,8 @@ finishes_statement old new before text e show answers = record {
   ready = let x = shown text in (answers x.0 x.1 x.2).ready;
   serves = λ limit held h was w.
       let t : (s : List ℕ) × (first_statement true held ≡ Some (s, [])) = ended_text limit before held h e in
-      let a : (now : World) × Shows new now × Answered limit old.limit (statement t.0) was now old.time new.time = (answers limit t.0 (show limit held t.0 h t.1)).answers was w in
-      (a.0, a.1, served_last limit old.limit held t.0 was a.0 old.time new.time t.1 a.2);
+      let a : (now : World) × Shows new now × Answered limit old.fixed.limit (statement t.0) was now old.time new.time = (answers limit t.0 (show limit held t.0 h t.1)).answers was w in
+      (a.0, a.1, served_last limit old.fixed.limit held t.0 was a.0 old.time new.time t.1 a.2);
 }
 
 pub breaks_last : (stop : Stop) (old new : Keeping) (before : Seen) (text : Option (Bor (List ℕ))) → is_some before.stop ≡ true → ShowsEnded text before → StopsShown statement stop text old new
@@ -187,8 +188,8 @@ finishes_rest old new before text e show answers = record {
   frame = let x = shown text in (answers x.0 x.1 x.2).frame;
   ready = let x = shown text in (answers x.0 x.1 x.2).ready;
   serves = λ limit held h was w.
-      let a : (now : World) × Shows new now × Answered limit old.limit (rest_piece held) was now old.time new.time = (answers limit held (show limit held h)).answers was w in
-      (a.0, a.1, served_rest limit old.limit held was a.0 old.time new.time (no_text limit before held h e) a.2);
+      let a : (now : World) × Shows new now × Answered limit old.fixed.limit (rest_piece held) was now old.time new.time = (answers limit held (show limit held h)).answers was w in
+      (a.0, a.1, served_rest limit old.fixed.limit held was a.0 old.time new.time (no_text limit before held h e) a.2);
 }
 
 pub breaks_rest : (stop : Stop) (old new : Keeping) (before : Seen) (text : Option (Bor (List ℕ))) → is_some before.stop ≡ false → ShowsRest text before → StopsShown rest_piece stop text old new

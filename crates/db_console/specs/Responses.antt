@@ -32,7 +32,7 @@ pub record HasReply (m : State) (r : Read) (c : Content) (old new : Keeping) (re
   pub answer : Answer
   pub moves : Moves m (effect_of m r) c old new (fault_for answer)
   pub is : reply ≡ (answered answer m (effect_of m r)).1
-  pub place : answer ≡ Full → HasNoPlace m (effect_of m r) old.limit
+  pub place : answer ≡ Full → HasNoPlace m (effect_of m r) old.fixed.limit
   pub can : answer ≡ Full → can_fill r ≡ true
 
 -- the same, or the disk failed

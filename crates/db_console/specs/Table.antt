@@ -69,7 +69,7 @@ pub record SaidInPart (limit : ℕ) (whole : Bool) (script : List ℕ) (was : Wo
   pub shows : Shows new (record { state = state_after limit was.state turns; said = behind was.said said })
   pub part : IsPartOf said (transcript limit was.state turns)
   pub front : IsFrontOf (transcript limit was.state done) said
-  pub passes : PassesRoom new.say_room was.said (transcript limit was.state turns)
+  pub passes : PassesRoom new.fixed.say_room was.said (transcript limit was.state turns)
   pub settled : IsSettled new
 
 -- The disk failed in the last one: all was said that the turns before it say, and a stop leaves the state before it or after it.
@@ -98,7 +98,7 @@ Ends limit most taken was turns new PastLimit = (first : List ℕ) × (more : �
 -- and what was said by then is a front of what these say.
 pub record Course (limit most : ℕ) (taken : List ℕ) (was : World) (old new : Keeping) (ending : Ending) : Type 0 where
   pub turns : List Turn
-  pub allowed : AllAllowed limit old.limit was.state turns
+  pub allowed : AllAllowed limit old.fixed.limit was.state turns
   pub ends : Ends limit most taken was turns new ending
   pub moments : Passes old.time new.time (IsMoment limit was turns)
   pub now : (stopped : Option Content) (said : List ℕ) → new.now stopped said → IsMoment limit was turns stopped said
@@ -113,7 +113,7 @@ Because most taken old new SayFault = (length taken ≤ most) × SayRose old.bes
 -- nothing was heard or said
 Because most taken old new NoMemory = (taken ≡ []) × (new.beside ≡ old.beside)
 -- the disk failed, and the keeper is one that makes calls of it
-Because most taken old new DiskFault = (length taken ≤ most) × DiskRose old new × (old.aside ≡ None)
+Because most taken old new DiskFault = (length taken ≤ most) × DiskRose old new × (old.fixed.aside ≡ None)
 Because most taken old new PastLimit = length taken ≡ suc most
 
 -- whether the keeper may be called again

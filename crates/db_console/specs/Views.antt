@@ -39,11 +39,7 @@ pub record Lasts (old new : Keeping) : Type 0 where
   pub hear_later : old.beside.hear_faults ≤ new.beside.hear_faults
   pub say_later : old.beside.say_faults ≤ new.beside.say_faults
   pub disk_later : old.disk_faults ≤ new.disk_faults
-  pub well : new.well ≡ old.well
-  pub limit : new.limit ≡ old.limit
-  pub say_room : new.say_room ≡ old.say_room
-  pub aside : new.aside ≡ old.aside
-  pub lender : new.lender ≡ old.lender
+  pub fixed : new.fixed ≡ old.fixed
 
 -- Bytes were heard, and nothing else was done.
 pub record Heard (heard : List ℕ) (old new : Keeping) : Type 0 where
@@ -61,7 +57,7 @@ pub record SpokeInPart (bytes : List ℕ) (old new : Keeping) : Type 0 where
   pub is : IsPartOf part bytes
   pub spoke : Spoke part old new
   pub cause : SayRose old.beside new.beside
-  pub passes : PassesRoom old.say_room old.beside.said bytes
+  pub passes : PassesRoom old.fixed.say_room old.beside.said bytes
 
 -- what answering leaves
 pub record Frame (old new : Keeping) : Type 0 where
@@ -74,7 +70,7 @@ pub record Frame (old new : Keeping) : Type 0 where
 -- A piece has this reply, by at most one commit, and nothing of it was said yet.
 pub record Replied (limit : ℕ) (piece : Piece) (was : World) (old new : Keeping) (reply : List ℕ) : Type 0 where
   pub answer : Answer
-  pub allowed : IsAllowed limit old.limit was.state piece answer
+  pub allowed : IsAllowed limit old.fixed.limit was.state piece answer
   pub is : reply ≡ (turn limit was.state (turn_by piece answer)).1
   pub content : Content
   pub holds : new.content ≡ Some content
@@ -95,12 +91,12 @@ pub record Halted (limit : ℕ) (piece : Piece) (was : World) (old new : Keeping
 pub record Answers (limit : ℕ) (piece : Piece) (old new : Keeping) : Type 0 where
   pub frame : Frame old new
   pub ready : new.ready
-  pub answers : (was : World) → Shows old was → (now : World) × Shows new now × Answered limit old.limit piece was now old.time new.time
+  pub answers : (was : World) → Shows old was → (now : World) × Shows new now × Answered limit old.fixed.limit piece was now old.time new.time
 
 -- the cause of a stop
 abbrev pub RoseBy : Stop → Keeping → Keeping → Type 0
 RoseBy Say old new = SayRose old.beside new.beside
-RoseBy Disk old new = DiskRose old new × (old.aside ≡ None)
+RoseBy Disk old new = DiskRose old new × (old.fixed.aside ≡ None)
 
 -- what holds unless the stop came from the disk
 abbrev pub UnlessByDisk : Stop → Type 0 → Type 0
@@ -111,7 +107,7 @@ UnlessByDisk Disk P = Unit {0}
 pub record SaysInPart (limit : ℕ) (was : World) (last : Turn) (new : Keeping) : Type 0 where
   pub part : List ℕ
   pub reply : IsPartOf part (turn limit was.state last).1
-  pub passes : PassesRoom new.say_room was.said (turn limit was.state last).1
+  pub passes : PassesRoom new.fixed.say_room was.said (turn limit was.state last).1
   pub shows : Shows new (record { state = (turn limit was.state last).0; said = behind was.said part })
   pub settled : IsSettled new
 
@@ -128,7 +124,7 @@ StopsBy Disk limit was last new = FailsInTurn limit was last new
 -- The answer to a piece was stopped.
 pub record Stopped (limit : ℕ) (piece : Piece) (stop : Stop) (was : World) (old new : Keeping) : Type 0 where
   pub answer : Answer
-  pub allowed : IsAllowed limit old.limit was.state piece answer
+  pub allowed : IsAllowed limit old.fixed.limit was.state piece answer
   pub moments : Passes old.time new.time (IsMoment limit was (turn_by piece answer ∷ []))
   pub by : StopsBy stop limit was (turn_by piece answer) new
 
@@ -144,7 +140,7 @@ pub record Stops (limit : ℕ) (piece : Piece) (stop : Stop) (old new : Keeping)
 pub record Serves (bytes : List ℕ) (old new : Keeping) (before after : Seen) : Type 0 where
   pub frame : Frame old new
   pub ready : new.ready
-  pub serves : (limit : ℕ) (held : List ℕ) → StandsOpen limit before held → (was : World) → Shows old was → (now : World) × Shows new now × ServedTo limit old.limit held bytes was now old.time new.time after
+  pub serves : (limit : ℕ) (held : List ℕ) → StandsOpen limit before held → (was : World) → Shows old was → (now : World) × Shows new now × ServedTo limit old.fixed.limit held bytes was now old.time new.time after
 
 -- Where `held` stood open, serving `bytes` answered some pieces of them, and then was stopped in the answer to the next one.
 -- Each moment that came between is one of these turns.
@@ -165,10 +161,10 @@ pub record Breaks (whole : Bool) (stop : Stop) (bytes : List ℕ) (old new : Kee
   pub frame : Frame old new
   pub cause : RoseBy stop old new
   pub ready : UnlessByDisk stop new.ready
-  pub breaks : (limit : ℕ) (held : List ℕ) → StandsOpen limit before held → (was : World) → Shows old was → Broke limit old.limit whole stop held bytes was old new
+  pub breaks : (limit : ℕ) (held : List ℕ) → StandsOpen limit before held → (was : World) → Shows old was → Broke limit old.fixed.limit whole stop held bytes was old new
 
 -- The end of the script was served.
 pub record Finishes (old new : Keeping) (before : Seen) : Type 0 where
   pub frame : Frame old new
   pub ready : new.ready
-  pub serves : (limit : ℕ) (held : List ℕ) → StandsOpen limit before held → (was : World) → Shows old was → (now : World) × Shows new now × Served limit old.limit true held [] was now old.time new.time
+  pub serves : (limit : ℕ) (held : List ℕ) → StandsOpen limit before held → (was : World) → Shows old was → (now : World) × Shows new now × Served limit old.fixed.limit true held [] was now old.time new.time

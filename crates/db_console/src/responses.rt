@@ -74,7 +74,7 @@ fn respond_to_text<R: Threads + Sync, K: Keeper>(
     text: &str,
 ) -> Result<Response, Stop>
     requires ready { (K.keeping keeper.old).ready }
-    requires takes { TakesAll (K.keeping keeper.old).well }
+    requires takes { TakesAll (K.keeping keeper.old).fixed.well }
     ensures kept { Kept (K.keeping keeper.old) (K.keeping keeper.new) (fault_of_stop result) }
     ensures responds { (m : State) (c : Content) → (K.keeping keeper.old).content ≡ Some c → Stands c m → Responds m (read (chars text.now)) c (K.keeping keeper.old) (K.keeping keeper.new) result }
 {
@@ -99,7 +99,7 @@ pub fn respond<R: Threads + Sync, K: Keeper>(
     text: Option<&[u8]>,
 ) -> Result<Response, Stop>
     requires ready { (K.keeping keeper.old).ready }
-    requires takes { TakesAll (K.keeping keeper.old).well }
+    requires takes { TakesAll (K.keeping keeper.old).fixed.well }
     ensures kept { Kept (K.keeping keeper.old) (K.keeping keeper.new) (fault_of_stop result) }
     ensures replied { IfOk result (λ response. (limit : ℕ) (ended : List ℕ) → ShowsText limit text.entry ended → (was : World) → Shows (K.keeping keeper.old) was → Replied limit (statement ended) was (K.keeping keeper.old) (K.keeping keeper.new) (bytes_of response)) }
     ensures halted { OnErr result ((limit : ℕ) (ended : List ℕ) → ShowsText limit text.entry ended → (was : World) → Shows (K.keeping keeper.old) was → Halted limit (statement ended) was (K.keeping keeper.old) (K.keeping keeper.new)) }

@@ -39,7 +39,7 @@ pub fn serve<R: Threads + Sync, K: Keeper>(
     keeper: &mut K,
 ) -> u8
     requires ready { (K.keeping keeper.old).ready }
-    requires takes { TakesAll (K.keeping keeper.old).well }
+    requires takes { TakesAll (K.keeping keeper.old).fixed.well }
 
     // the table of statuses, with the moments of a stop
     ensures table { (ending : Ending) × (result ≡ status_of ending) × Outcome 65536 most (K.keeping keeper.old) (K.keeping keeper.new) ending }
@@ -48,7 +48,7 @@ pub fn serve<R: Threads + Sync, K: Keeper>(
     ensures hear { result ≡ 3 → HearRose (K.keeping keeper.old).beside (K.keeping keeper.new).beside }
     ensures say { result ≡ 4 → SayRose (K.keeping keeper.old).beside (K.keeping keeper.new).beside }
     ensures memory { result ≡ 5 → keeper.new ≡ keeper.old }
-    ensures disk { result ≡ 6 → DiskRose (K.keeping keeper.old) (K.keeping keeper.new) × ((K.keeping keeper.old).aside ≡ None) }
+    ensures disk { result ≡ 6 → DiskRose (K.keeping keeper.old) (K.keeping keeper.new) × ((K.keeping keeper.old).fixed.aside ≡ None) }
     ensures past { TellsPast most result (K.keeping keeper.old).beside (K.keeping keeper.new).beside }
     ensures complete { Completes most result (K.keeping keeper.old).beside (K.keeping keeper.new).beside (¬ DiskRose (K.keeping keeper.old) (K.keeping keeper.new)) }
 {

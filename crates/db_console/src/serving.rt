@@ -29,7 +29,7 @@ fn answer<R: Threads + Sync, K: Keeper>(
     text: Option<&[u8]>,
 ) -> Result<(), Stop>
     requires ready { (K.keeping keeper.old).ready }
-    requires takes { TakesAll (K.keeping keeper.old).well }
+    requires takes { TakesAll (K.keeping keeper.old).fixed.well }
     ensures all { OnOk result ((limit : ℕ) (ended : List ℕ) → ShowsText limit text.entry ended → Answers limit (statement ended) (K.keeping keeper.old) (K.keeping keeper.new)) }
     ensures part { IfErr result (λ stop. (limit : ℕ) (ended : List ℕ) → ShowsText limit text.entry ended → Stops limit (statement ended) stop (K.keeping keeper.old) (K.keeping keeper.new)) }
 {
@@ -59,7 +59,7 @@ fn serve_byte<R: Threads + Sync, K: Keeper>(
     byte: u8,
 ) -> Result<(), Stop>
     requires ready { (K.keeping keeper.old).ready }
-    requires takes { TakesAll (K.keeping keeper.old).well }
+    requires takes { TakesAll (K.keeping keeper.old).fixed.well }
     ensures served { OnOk result (Serves (byte ∷ []) (K.keeping keeper.old) (K.keeping keeper.new) cutter.old cutter.new) }
     ensures broke { IfErr result (λ stop. Breaks false stop (byte ∷ []) (K.keeping keeper.old) (K.keeping keeper.new) cutter.old) }
 {
@@ -82,7 +82,7 @@ fn serve_bytes<R: Threads + Sync, K: Keeper>(
     bytes: &[u8],
 ) -> Result<(), Stop>
     requires ready { (K.keeping keeper.old).ready }
-    requires takes { TakesAll (K.keeping keeper.old).well }
+    requires takes { TakesAll (K.keeping keeper.old).fixed.well }
     ensures served { OnOk result (Serves bytes.now (K.keeping keeper.old) (K.keeping keeper.new) cutter.old cutter.new) }
     ensures broke { IfErr result (λ stop. Breaks false stop bytes.now (K.keeping keeper.old) (K.keeping keeper.new) cutter.old) }
 {
@@ -101,7 +101,7 @@ fn finish<R: Threads + Sync, K: Keeper>(
     cutter: &Cutter,
 ) -> Result<(), Stop>
     requires ready { (K.keeping keeper.old).ready }
-    requires takes { TakesAll (K.keeping keeper.old).well }
+    requires takes { TakesAll (K.keeping keeper.old).fixed.well }
     ensures served { OnOk result (Finishes (K.keeping keeper.old) (K.keeping keeper.new) cutter.now) }
     ensures broke { IfErr result (λ stop. Breaks true stop [] (K.keeping keeper.old) (K.keeping keeper.new) cutter.now) }
 {
@@ -120,7 +120,7 @@ fn close<R: Threads + Sync, K: Keeper>(
     cutter: &Cutter,
 ) -> Ending
     requires ready { (K.keeping keeper.old).ready }
-    requires takes { TakesAll (K.keeping keeper.old).well }
+    requires takes { TakesAll (K.keeping keeper.old).fixed.well }
     ensures { Closes result (K.keeping keeper.old) (K.keeping keeper.new) cutter.now }
 {
     match finish(rt, alloc, degree, keeper, cutter) {
@@ -164,7 +164,7 @@ pub fn serve_script<R: Threads + Sync, K: Keeper>(
     keeper: &mut K,
 ) -> Ending
     requires ready { (K.keeping keeper.old).ready }
-    requires takes { TakesAll (K.keeping keeper.old).well }
+    requires takes { TakesAll (K.keeping keeper.old).fixed.well }
     ensures outcome { Outcome limit most (K.keeping keeper.old) (K.keeping keeper.new) result }
     ensures memory { result ≡ Ending.NoMemory → keeper.new ≡ keeper.old }
 {

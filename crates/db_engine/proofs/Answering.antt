@@ -18,10 +18,10 @@ use Rattle.db_engine.specs.declared.replies.Reply.TheVariants.{Text as ReplyText
 
 -- what is kept unless the disk failed
 pub kept_memory : (old new : Keeping) → Kept old new (Some Memory) → Kept old new None
-kept_memory old new kept = record { ready = kept.ready; beside = kept.beside; say_room = kept.say_room; well = kept.well; limit = kept.limit; lender = kept.lender; later = kept.later; cause = kept.cause; aside = kept.aside; calls = kept.calls }
+kept_memory old new kept = record { ready = kept.ready; beside = kept.beside; fixed = kept.fixed; later = kept.later; cause = kept.cause; calls = kept.calls }
 
 pub kept_full : (old new : Keeping) → Kept old new (Some NoRoom) → Kept old new None
-kept_full old new kept = record { ready = kept.ready; beside = kept.beside; say_room = kept.say_room; well = kept.well; limit = kept.limit; lender = kept.lender; later = kept.later; cause = kept.cause; aside = kept.aside; calls = kept.calls }
+kept_full old new kept = record { ready = kept.ready; beside = kept.beside; fixed = kept.fixed; later = kept.later; cause = kept.cause; calls = kept.calls }
 
 pub answers_step : (m : State) (effect : Effect) (may : Bool) (c : Content) (old new : Keeping) (v : Vec ℕ Global) (reply : List ℕ) → reply ≡ v.items → Gives m effect c old new (Ok v) → Answers m effect may c old new (ReplyText reply)
 answers_step m effect may c old new v reply is gives = record {

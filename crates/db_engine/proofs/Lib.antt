@@ -16,7 +16,6 @@ pub mod NewRows
 pub mod NewValues
 pub mod KeptValues
 pub mod NoteSteps
-pub mod Ends
 pub mod RowSteps
 pub mod InsertSteps
 pub mod Listed
@@ -34,3 +33,4 @@ pub mod FieldSteps
 pub mod FieldLaws
 pub mod LineSteps
 pub mod Selects
+pub mod Serving

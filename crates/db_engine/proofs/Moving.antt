@@ -13,7 +13,7 @@ use Rattle.ct_keep.specs.declared.batches.Word.{Word}
 use Rattle.ct_keep.specs.Spoken.{spoken}
 use Rattle.ct_keep.specs.Words.{AreWell}
 use Rattle.ct_keep.specs.Keeping.{Keeping, Reads, Goes, Answers, IsSettled, fault_of, is_full, counted}
-use Rattle.ct_keep.specs.Composing.{reads_none, reads_then, reads_only, reads_failed, reads_short}
+use Rattle.ct_keep.specs.Composing.{same_limit, reads_then, reads_only, reads_failed}
 use Rattle.db_cond.specs.Faults.{Refusal, refusal_line}
 use Rattle.db_engine.specs.States.{State, Stands}
 use Rattle.db_engine.specs.Refusals.{Effect, Refused, Does, state_by, reply_by}
@@ -57,14 +57,11 @@ stands_failed m effect c Memory stands = refl
 stands_failed m effect c NoRoom stands = refl
 stands_failed m effect c Disk stands = inl stands
 
-some_same : {A : Type 0} {a b : A} → Some a ≡ Some b → a ≡ b
-some_same e = cc
-
-pub gives_failed : (m : State) (effect : Effect) (c : Content) (old new : Keeping) (fault : KeepFault) → IsSettled old → old.content ≡ Some c → Stands c m → Reads old new (Some fault) → (fault ≡ NoRoom → ⊥) → Gives m effect c old new (Err fault)
-gives_failed m effect c old new fault settled holds stands reads other = record {
+pub gives_failed : (m : State) (effect : Effect) (c : Content) (old new : Keeping) (fault : KeepFault) → IsSettled old → old.content ≡ Some c → Stands c m → Reads old new (Some fault) → Gives m effect c old new (Err fault)
+gives_failed m effect c old new fault settled holds stands reads = record {
   moves = record { next = c; stands = stands_failed m effect c fault stands; goes = reads_failed c c old new fault settled holds reads; same = λ e. refl };
   reply = tt;
-  full = λ e. absurd (other (some_same e));
+  full = λ e. absurd (reads.not_full e);
 }
 
 -- ---- reads, and then more
@@ -73,7 +70,7 @@ pub gives_then : (m : State) (effect : Effect) (c : Content) (old mid new : Keep
 gives_then m effect c old mid new result reads gives = record {
   moves = record { next = gives.moves.next; stands = gives.moves.stands; goes = reads_then c gives.moves.next old mid new (fault_of result) reads gives.moves.goes; same = gives.moves.same };
   reply = gives.reply;
-  full = λ e. let place = gives.full e in record { done = place.done; over = subst (λ (limit : ℕ). limit < room (state_by m effect)) reads.kept.limit place.over };
+  full = λ e. let place = gives.full e in record { done = place.done; over = subst (λ (limit : ℕ). limit < room (state_by m effect)) (same_limit reads.kept.fixed) place.over };
 }
 
 -- ---- a commit
@@ -92,7 +89,7 @@ gives_committed m n reply c next old new stands goes = record {
   full = λ e. cc;
 }
 
-pub gives_uncommitted : (m n : State) (reply : List ℕ) (c next : Content) (old new : Keeping) (fault : KeepFault) → Stands next n → Goes c next old new (Some fault) → Answers (Some fault) old.limit c next → Gives m (Does n reply) c old new (Err fault)
+pub gives_uncommitted : (m n : State) (reply : List ℕ) (c next : Content) (old new : Keeping) (fault : KeepFault) → Stands next n → Goes c next old new (Some fault) → Answers (Some fault) old.fixed.limit c next → Gives m (Does n reply) c old new (Err fault)
 gives_uncommitted m n reply c next old new Memory stands goes answers = record {
   moves = record { next = c; stands = refl; goes = stayed c next old new goes; same = λ e. refl };
   reply = tt;
@@ -111,10 +108,6 @@ gives_uncommitted m n reply c next old new NoRoom stands goes answers = record {
 
 -- ---- ways out that say what they return
 
--- want of memory
-pub gives_short : (m : State) (effect : Effect) (c : Content) (old new : Keeping) → IsSettled old → old.content ≡ Some c → Stands c m → Reads old new None → Gives m effect c old new (Err Memory)
-gives_short m effect c old new settled holds stands reads = gives_failed m effect c old new Memory settled holds stands (reads_short old new reads) (λ e. cc)
-
 -- a refusal, by its line
 pub gives_line : (m : State) (effect : Effect) (refusal : Refusal) (c : Content) (old new : Keeping) (v : Vec ℕ Global) → IsSettled old → old.content ≡ Some c → Stands c m → Reads old new None → effect ≡ Refused refusal → v.items ≡ refusal_line refusal → Gives m effect c old new (Ok v)
 gives_line m effect refusal c old new v settled holds stands reads is line =
@@ -127,18 +120,14 @@ gives_as m effect done c old new result is gives = subst (λ (e : Effect). Gives
 -- ---- statements that only read
 
 -- what reads alone give of an effect that leaves the state
-pub gives_read : (m : State) (effect : Effect) (c : Content) (old new : Keeping) (result : Result (Vec ℕ Global) KeepFault) → IsSettled old → old.content ≡ Some c → Stands c m → Reads old new (fault_of result) → (result ≡ Err NoRoom → ⊥)
+pub gives_read : (m : State) (effect : Effect) (c : Content) (old new : Keeping) (result : Result (Vec ℕ Global) KeepFault) → IsSettled old → old.content ≡ Some c → Stands c m → Reads old new (fault_of result)
     → IfOk result (λ v. v.items ≡ reply_by effect) → state_by m effect ≡ m → Gives m effect c old new result
-gives_read m effect c old new (Ok v) settled holds stands reads never reply same = gives_refused m effect c old new v settled holds (subst (Stands c) (sym same) stands) reads reply
-gives_read m effect c old new (Err fault) settled holds stands reads never reply same = gives_failed m effect c old new fault settled holds stands reads (λ e. never (ap Err e))
+gives_read m effect c old new (Ok v) settled holds stands reads reply same = gives_refused m effect c old new v settled holds (subst (Stands c) (sym same) stands) reads reply
+gives_read m effect c old new (Err fault) settled holds stands reads reply same = gives_failed m effect c old new fault settled holds stands reads
 
 -- how often a commit was refused: they make none
-pub reads_fulls : (old new : Keeping) (result : Result (Vec ℕ Global) KeepFault) → Reads old new (fault_of result) → (result ≡ Err NoRoom → ⊥) → new.counts.fulls ≡ counted (is_full (fault_of result)) old.counts.fulls
-reads_fulls old new (Ok v) reads never = reads.fulls
-reads_fulls old new (Err Memory) reads never = reads.fulls
-reads_fulls old new (Err Disk) reads never = reads.fulls
-reads_fulls old new (Err NoRoom) reads never = absurd (never refl)
-
--- a reply without a look at the keeper
-pub gives_reply : (m : State) (effect : Effect) (c : Content) (old : Keeping) (v : Vec ℕ Global) → old.ready → IsSettled old → old.content ≡ Some c → Stands c m → state_by m effect ≡ m → v.items ≡ reply_by effect → Gives m effect c old old (Ok v)
-gives_reply m effect c old v ready settled holds stands same reply = gives_refused m effect c old old v settled holds (subst (Stands c) (sym same) stands) (reads_none old ready) reply
+pub reads_fulls : (old new : Keeping) (result : Result (Vec ℕ Global) KeepFault) → Reads old new (fault_of result) → new.counts.fulls ≡ counted (is_full (fault_of result)) old.counts.fulls
+reads_fulls old new (Ok v) reads = reads.fulls
+reads_fulls old new (Err Memory) reads = reads.fulls
+reads_fulls old new (Err Disk) reads = reads.fulls
+reads_fulls old new (Err NoRoom) reads = absurd (reads.not_full refl)

@@ -35,7 +35,7 @@ use Rattle.std.proofs.lemmas.Bool.{leb-false, ltb-false}
 use Rattle.tb_table.specs.declared.columns.Sort.TheVariants.{Number}
 use Rattle.tb_table.specs.Rules.{IsSort, IsKeyFirst, AllColumns, AreApart, has_column, text_limit}
 use Rattle.db_engine.specs.Refusals.{Does, as_count}
-use Rattle.db_engine.specs.Creating.{is_number, is_key_first, are_apart, is_size, is_sized, all_sized, sort_of, column_of, most_columns, IsFreeTable, with_new_table, create_table}
+use Rattle.db_engine.specs.Creating.{is_number, is_key_first, are_apart, is_size, is_sized, all_sized, sort_of, column_of, most_columns, IsFreeTable, with_new_table, check_table, create_table, table_created}
 use Rattle.db_engine.specs.States.{State, Stands, is_view, is_built, most_tables}
 use Rattle.ct_entry.specs.Keys.{bytes}
 use Rattle.tb_table.specs.WellLaws.{TakesTables, well_create}
@@ -211,3 +211,20 @@ takes_all well takes = λ k value of. takes (bytes k) value
 
 pub table_bounded : (m : State) (t : List ℕ) (cs : List ColumnText) → IsName t → AllNamed cs → IsFreeTable m t cs → are_bounded (spell (create_words t (map column_of cs))) ≡ true
 table_bounded m t cs name named free = bounded_well (λ key value. true) (spell (create_words t (map column_of cs))) (well_create (λ key value. true) t (map column_of cs) (takes_all (λ key value. true) (λ key value. refl)) name (columns_pass m t cs named free))
+
+-- the statement by what was read of the state
+pub table_read : (m : State) (t : List ℕ) (cs : List ColumnText) (there many : Bool) → there ≡ is_some (get m.tables t) → many ≡ nat_le most_tables (length (entries m.tables)) → create_table m t cs ≡ check_table there many t cs (Does (with_new_table m t cs) table_created)
+table_read m t cs there many is most = ap (λ (b : Bool). check_table b (nat_le most_tables (length (entries m.tables))) t cs (Does (with_new_table m t cs) table_created)) (sym is) ∙ ap (λ (b : Bool). check_table there b t cs (Does (with_new_table m t cs) table_created)) (sym most)
+
+-- the batch of a table that no check refuses
+pub table_made : (m : State) (k : Content) (t : List ℕ) (cs : List ColumnText) (batch : List (List ℕ × Option (List ℕ))) → Stands k m → IsName t
+    → (all_sized cs ≡ true → batch ≡ spell (create_words t (map column_of cs))) → (all_sized cs ≡ true → All (λ (x : Column). IsName x.name) (map column_of cs)) → create_table m t cs ≡ Does (with_new_table m t cs) table_created
+    → (n : State) × (create_table m t cs ≡ Does n table_created) × (are_bounded batch ≡ true) × Stands (after batch k) n
+table_made m k t cs batch stands name words named is =
+    let free = table_free m t cs _ _ is in
+    let named = all_named cs (named free.sized) in (
+      with_new_table m t cs,
+      is,
+      ap are_bounded (words free.sized) ∙ table_bounded m t cs name named free,
+      subst (λ (b : List (List ℕ × Option (List ℕ))). Stands (after b k) (with_new_table m t cs)) (sym (words free.sized)) (created_table_stands k m t cs stands name named free),
+    )

@@ -8,10 +8,8 @@ use Rattle.ct_base.specs.Moments.{passes_more}
 use Rattle.ct_keep.specs.declared.keepers.KeepFault.{KeepFault}
 use Rattle.ct_keep.specs.declared.keepers.KeepFault.TheVariants.{Memory, Disk, Full as NoRoom}
 use Rattle.ct_keep.specs.Content.{Content}
-use Rattle.ct_keep.specs.Keeping.{Keeping, Reads, Goes, IsSettled}
-use Rattle.ct_keep.specs.Composing.{reads_on, reads_hold, reads_then, reads_only, reads_failed, reads_short}
-use Rattle.db_cond.specs.declared.faults.Fault.{Fault}
-use Rattle.db_cond.specs.Refused.{refusal_of}
+use Rattle.ct_keep.specs.Keeping.{Keeping, Reads, Goes, IsSettled, fault_of}
+use Rattle.ct_keep.specs.Composing.{reads_on, reads_hold, reads_then, reads_only, reads_failed}
 use Rattle.db_cond.specs.Faults.{Refusal, NotUnderstood, UnknownName, ExistsAlready, WrongValues, KeyExists, ValueTooLong, StatementTooLong, NotInProfile, OutOfRange, NoIndexOfKind, BadValue, LimitReached, refusal_line, store_full}
 use Rattle.st_parse.specs.declared.statements.Statement.{Statement}
 use Rattle.st_parse.specs.declared.statements.Statement.TheVariants.{CreateTable, DropTable, DropIndex, CreateIndex, Insert, Update, Delete, Select, Exec, Commit}
@@ -19,10 +17,10 @@ use Rattle.db_engine.specs.Creating.{table_created, index_created}
 use Rattle.db_engine.specs.Inserting.{row_created}
 use Rattle.db_engine.specs.Calling.{call_done}
 use Rattle.db_engine.specs.Steps.{is_built_index}
-use Rattle.db_engine.specs.Executing.{is_sync, done_line, is_fixed, CommitsOnce, ContentStays, Looks, Returns, ReturnsBy, IsFullReply, Tells, IfText}
+use Rattle.db_engine.specs.Executing.{is_sync, done_line, is_fixed, CommitsOnce, ContentStays, Returns, ReturnsBy, IsFullReply, Tells, IfText}
 use Rattle.db_engine.specs.declared.replies.Reply.{Reply}
 use Rattle.db_engine.specs.declared.replies.Reply.TheVariants.{Text as ReplyText, NoMemory as ReplyNoMemory}
-use Rattle.db_engine.proofs.Answering.{kept_memory, kept_full}
+use Rattle.db_engine.proofs.Answering.{kept_memory}
 
 -- ---- lines
 
@@ -68,38 +66,16 @@ not_done Commit done is full = cc
 
 -- reads that ended for want of memory or of room are reads
 pub reads_memory : (old new : Keeping) → Reads old new (Some Memory) → Reads old new None
-reads_memory old new reads = record { kept = kept_memory old new reads.kept; content = reads.content; time = reads.time; now = reads.now; fulls = reads.fulls }
-
-pub reads_full : (old new : Keeping) → Reads old new (Some NoRoom) → Reads old new None
-reads_full old new reads = record { kept = kept_full old new reads.kept; content = reads.content; time = reads.time; now = reads.now; fulls = reads.fulls }
+reads_memory old new reads = record { not_full = λ e. cc; kept = kept_memory old new reads.kept; content = reads.content; time = reads.time; now = reads.now; fulls = reads.fulls }
 
 -- they leave the content
 pub stays_read : (old new : Keeping) → IsSettled old → Reads old new None → ContentStays old new
 stays_read old new settled reads = λ c holds. reads_only c old new settled holds reads
 
-returns_failed : (done : List ℕ) (old new : Keeping) (fault : KeepFault) → IsSettled old → Reads old new (Some fault) → Returns done old new (Err fault)
+pub returns_failed : (done : List ℕ) (old new : Keeping) (fault : KeepFault) → IsSettled old → Reads old new (Some fault) → Returns done old new (Err fault)
 returns_failed done old new Memory settled reads = stays_read old new settled (reads_memory old new reads)
-returns_failed done old new NoRoom settled reads = stays_read old new settled (reads_full old new reads)
+returns_failed done old new NoRoom settled reads = absurd (reads.not_full refl)
 returns_failed done old new Disk settled reads = λ c holds. record { next = c; goes = reads_failed c c old new Disk settled holds reads }
-
--- by the fault of a read
-pub returns_by_read : (done : List ℕ) (old new : Keeping) (result : Result (Vec ℕ Global) KeepFault) (fault : KeepFault) → IsSettled old → Reads old new (Some fault) → (x : KeepFault) × (result ≡ Err x) × (x ≡ fault) → Returns done old new result
-returns_by_read done old new result fault settled reads p =
-    subst (Returns done old new) (sym p.1)
-    (subst (λ (x : KeepFault). Returns done old new (Err x)) (sym p.2) (returns_failed done old new fault settled reads))
-
--- after reads, for want of memory
-pub returns_short : (done : List ℕ) (old new : Keeping) (result : Result (Vec ℕ Global) KeepFault) → IsSettled old → Reads old new None → (x : KeepFault) × (result ≡ Err x) × (x ≡ Memory) → Returns done old new result
-returns_short done old new result settled reads p = returns_by_read done old new result Memory settled (reads_short old new reads) p
-
-pub looks_short : (old new : Keeping) (result : Result (Vec ℕ Global) KeepFault) → Reads old new None → (x : KeepFault) × (result ≡ Err x) × (x ≡ Memory) → Looks old new result
-looks_short old new result reads p =
-    subst (Looks old new) (sym p.1)
-    (subst (λ (x : KeepFault). Looks old new (Err x)) (sym p.2) (record { reads = reads_short old new reads; never_full = λ e. cc }))
-
--- after reads, with the line of a refusal
-pub returns_refusal : (done : List ℕ) (old new : Keeping) (line : Vec ℕ Global) (fault : Fault) → Reads old new None → line.items ≡ refusal_line (refusal_of fault) → Returns done old new (Ok line)
-returns_refusal done old new line fault reads says = inr (record { refusal = refusal_of fault; says = says; reads = reads })
 
 -- ---- a commit
 
@@ -148,21 +124,9 @@ returns_then done old mid new (Err Memory) reads stays = stays_then old mid new 
 returns_then done old mid new (Err NoRoom) reads stays = stays_then old mid new reads stays
 returns_then done old mid new (Err Disk) reads commits = commits_then old mid new (Some Disk) reads commits
 
--- reads, and then a commit with this line
-pub returns_done : (done line : List ℕ) (old mid new : Keeping) (result : Result (Vec ℕ Global) KeepFault) → Reads old mid None → line ≡ done → Returns line mid new result → Returns done old new result
-returns_done done line old mid new result reads is returns = returns_then done old mid new result reads (subst (λ (l : List ℕ). Returns l mid new result) is returns)
-
 -- ---- by the line that a statement has
 
--- one that isn't built yet is refused without a look
-pub returns_unbuilt : (done : List ℕ) (old new : Keeping) (line : Vec ℕ Global) → Reads old new None → line.items ≡ refusal_line NotUnderstood → Returns done old new (Ok line)
-returns_unbuilt done old new line reads says = inr (record { refusal = NotUnderstood; says = says; reads = reads })
-
-pub returns_if : (b : Bool) (done : List ℕ) (old new : Keeping) (result : Result (Vec ℕ Global) KeepFault) → (b ≡ false → Looks old new result) → (b ≡ true → Returns done old new result) → ReturnsBy (if b then Some done else None) old new result
-returns_if true done old new result looks returns = returns refl
-returns_if false done old new result looks returns = looks refl
-
-pub looks_none : (line : Option (List ℕ)) (old new : Keeping) (result : Result (Vec ℕ Global) KeepFault) → line ≡ None → ReturnsBy line old new result → Looks old new result
+pub looks_none : (line : Option (List ℕ)) (old new : Keeping) (result : Result (Vec ℕ Global) KeepFault) → line ≡ None → ReturnsBy line old new result → Reads old new (fault_of result)
 looks_none None old new result is looks = looks
 looks_none (Some done) old new result is returns = cc
 

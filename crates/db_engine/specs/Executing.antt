@@ -3,22 +3,26 @@ use Rattle.std.specs.Prelude.{ℕ, ◌≡◌, ◌<◌, ◌⊎◌, ◌&&◌, Bool
 use Rattle.std.specs.Bool.{if◌then◌else◌}
 use Rattle.std.specs.declared.alloc.Global.{Global}
 use Rattle.ct_base.specs.Causes.{Rose}
-use Rattle.ct_keep.specs.Content.{Content}
+use Rattle.ct_keep.specs.Content.{Content, after}
 use Rattle.ct_keep.specs.declared.keepers.KeepFault.{KeepFault}
 use Rattle.ct_keep.specs.declared.keepers.KeepFault.TheVariants.{Memory, Disk, Full as NoRoom}
-use Rattle.ct_keep.specs.Keeping.{Keeping, Reads, Goes, fault_of}
+use Rattle.ct_keep.specs.Keeping.{Keeping, Kept, Reads, Goes, IsSettled, fault_of, counted, is_full}
 use Rattle.st_parse.specs.declared.statements.SelectList.TheVariants.{Star}
 use Rattle.st_parse.specs.declared.statements.Statement.{Statement}
 use Rattle.st_parse.specs.declared.statements.Statement.TheVariants.{CreateTable, CreateIndex, Insert, Select, Exec}
 use Rattle.db_cond.specs.Faults.{Refusal, refusal_line, store_full}
 use Rattle.db_engine.specs.States.{State, Stands}
-use Rattle.db_engine.specs.Refusals.{Effect, state_by, reply_by, is_done}
+use Rattle.db_engine.specs.Refusals.{Effect, Refused, Does, state_by, reply_by, is_done}
+use Rattle.db_engine.specs.Committing.{are_bounded}
 use Rattle.db_engine.specs.Creating.{table_created, index_created}
 use Rattle.db_engine.specs.Inserting.{row_created}
 use Rattle.db_engine.specs.Calling.{call_done}
 use Rattle.db_engine.specs.Steps.{is_built_index}
 use Rattle.db_engine.specs.Room.{room}
 use Rattle.db_engine.specs.Runs.{Answer, Step, NoMemory, Full}
+use Rattle.db_cond.specs.Refused.{refusal_of}
+use Rattle.db_engine.specs.declared.plans.Plan.{Plan}
+use Rattle.db_engine.specs.declared.plans.Plan.TheVariants.{Refused as PlanRefused, Done as PlanDone}
 use Rattle.db_engine.specs.declared.replies.Reply.{Reply}
 use Rattle.db_engine.specs.declared.replies.Reply.TheVariants.{Text as ReplyText, NoMemory as ReplyNoMemory}
 use Rattle.db_engine.specs.declared.replies.Stop.{Stop}
@@ -49,7 +53,7 @@ pub record HasNoPlace (m : State) (effect : Effect) (limit : ℕ) : Type 0 where
 pub record Gives (m : State) (effect : Effect) (c : Content) (old new : Keeping) (result : Result (Vec ℕ Global) KeepFault) : Type 0 where
   pub moves : Moves m effect c old new (fault_of result)
   pub reply : IfOk result (λ reply. reply.items ≡ reply_by effect)
-  pub full : fault_of result ≡ Some NoRoom → HasNoPlace m effect old.limit
+  pub full : fault_of result ≡ Some NoRoom → HasNoPlace m effect old.fixed.limit
 
 -- ---- the answers of `execute`
 
@@ -78,7 +82,7 @@ pub record Answers (m : State) (effect : Effect) (may : Bool) (c : Content) (old
   pub answer : Answer
   pub moves : Moves m effect c old new (fault_for answer)
   pub says : IsReplyBy answer effect reply
-  pub place : answer ≡ Full → HasNoPlace m effect old.limit
+  pub place : answer ≡ Full → HasNoPlace m effect old.fixed.limit
   pub may_fill : answer ≡ Full → may ≡ true
   pub fulls : answer ≡ Full → Rose old.counts.fulls new.counts.fulls
 
@@ -150,15 +154,33 @@ Returns done old new (Err Memory) = ContentStays old new
 Returns done old new (Err NoRoom) = ContentStays old new
 Returns done old new (Err Disk) = CommitsOnce old new (Some Disk)
 
--- The function of a statement with no such line only read, and never found the store full.
-pub record Looks (old new : Keeping) (result : Result (Vec ℕ Global) KeepFault) : Type 0 where
-  pub reads : Reads old new (fault_of result)
-  pub never_full : result ≡ Err NoRoom → ⊥
-
--- what the function of a statement returned, by its line
+-- what the function of a statement returned, by its line: with none it only read
 abbrev pub ReturnsBy : Option (List ℕ) → Keeping → Keeping → Result (Vec ℕ Global) KeepFault → Type 0
-ReturnsBy None old new result = Looks old new result
+ReturnsBy None old new result = Reads old new (fault_of result)
 ReturnsBy (Some done) old new result = Returns done old new result
+
+-- ---- the function of a statement
+
+-- What it returned, by the statement's effect in each state, and by the line by which the statement says that its change is made (None where it changes nothing).
+-- It is all that `execute` needs of a statement: of a content that stands for a state, and of any content.
+pub record Serves (effect : State → Effect) (line : Option (List ℕ)) (old new : Keeping) (result : Result (Vec ℕ Global) KeepFault) : Type 0 where
+  pub kept : Kept old new (fault_of result)
+  pub fulls : new.counts.fulls ≡ counted (is_full (fault_of result)) old.counts.fulls
+  pub gives : IsSettled old → (m : State) (c : Content) → old.content ≡ Some c → Stands c m → Gives m (effect m) c old new result
+  pub tells : IsSettled old → ReturnsBy line old new result
+
+-- What a statement with this effect comes to over the content c: the line of its refusal, or a batch that makes of c a content that stands for its state, with this line.
+abbrev pub IsPlan : Effect → List ℕ → Content → Plan → Type 0
+IsPlan effect line c (PlanRefused fault) = effect ≡ Refused (refusal_of fault)
+IsPlan effect line c (PlanDone batch) = (n : State) × (effect ≡ Does n line) × (are_bounded batch ≡ true) × Stands (after batch c) n
+
+-- A plan is that of the statement over each state that the content stands for.
+pub record Fits (effect : State → Effect) (line : List ℕ) (old : Keeping) (plan : Plan) : Type 0 where
+  pub made : (m : State) (c : Content) → old.content ≡ Some c → Stands c m → IsPlan (effect m) line c plan
+
+-- The call gave a plan of the statement, unless it failed.
+abbrev pub Plans : {K : Type 0} → (K → Keeping) → K → Result Plan KeepFault → (State → Effect) → List ℕ → Type 0
+Plans view old result effect line = IfOk result (Fits effect line (view old))
 
 -- How a statement was answered that says by this line that its change is made.
 abbrev pub Tells : List ℕ → Keeping → Keeping → Result Reply Stop → Type 0

@@ -55,7 +55,7 @@ pub(crate) fn commit<K: Keeper>(
     reply: Vec<u8>,
 ) -> Result<Vec<u8>, KeepFault>
     requires ready { (K.keeping keeper.old).ready }
-    requires takes { TakesAll (K.keeping keeper.old).well }
+    requires takes { TakesAll (K.keeping keeper.old).fixed.well }
     ensures kept { Kept (K.keeping keeper.old) (K.keeping keeper.new) (fault_of result) }
     ensures fulls { (K.keeping keeper.new).counts.fulls ≡ counted (is_full (fault_of result)) (K.keeping keeper.old).counts.fulls }
     ensures gives { (m n : State) (c : Content) → (K.keeping keeper.old).content ≡ Some c → are_bounded batch ≡ true → Stands (after batch c) n → Gives m (Does n reply.items) c (K.keeping keeper.old) (K.keeping keeper.new) result }

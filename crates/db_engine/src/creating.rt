@@ -1,28 +1,28 @@
 //! CREATE TABLE.
 #![tactic(auto, using(ct_keep::specs::Composing::reads_on, ct_keep::specs::Composing::reads_short))]
 
-ghost use Rattle.std.specs.Prelude.{All, ◌≡◌, ◌≤◌, IfOk, Some, None, Err, true, not, ◌&&◌, nat_le, length, map, is_some};
+ghost use Rattle.std.specs.Prelude.{All, ◌≡◌, ◌≤◌, IfOk, Some, None, true, not, ◌&&◌, nat_le, length, map};
 ghost use Rattle.std.specs.List.{list_any, list_all};
 ghost use Rattle.std.specs.Option.{unwrap_or};
-ghost use Rattle.std.specs.FinMap.{get, entries};
 ghost use Rattle.ct_base.specs.Names.{IsName};
-ghost use Rattle.ct_keep.specs.Content.{Content};
-ghost use Rattle.ct_keep.specs.Keeping.{Kept, Reads, counted, fault_of, is_full};
+ghost use Rattle.ct_keep.specs.Keeping.{OnlyReads};
 ghost use Rattle.ct_entry.specs.Keys.{same_list};
+ghost use Rattle.ct_entry.specs.Words.{spell};
 ghost use Rattle.st_parse.specs.declared.statements.ColumnText.{ColumnText};
+ghost use Rattle.tb_table.specs.Spelling.{create_words};
 ghost use Rattle.tb_table.specs.declared.columns.Column.{Column};
-ghost use Rattle.db_engine.specs.States.{State, Stands, TakesAll, is_view as is_view_name, most_tables};
-ghost use Rattle.db_engine.specs.Refusals.{Effect, Does, as_count};
-ghost use Rattle.db_engine.specs.Creating.{are_apart as columns_apart, check_table, column_of, all_sized, is_size, create_table as create_table_effect, is_key_first as key_first, is_number as sort_is_number, is_sized as sort_sized, sort_of, table_created, with_new_table, IsFreeTable};
+ghost use Rattle.db_engine.specs.States.{TakesAll, is_view as is_view_name};
+ghost use Rattle.db_engine.specs.Refusals.{Effect, as_count};
+ghost use Rattle.db_engine.specs.Creating.{are_apart as columns_apart, check_table, column_of, all_sized, is_size, create_table as create_table_effect, is_key_first as key_first, is_number as sort_is_number, is_sized as sort_sized, sort_of, table_created};
 ghost use Rattle.db_engine.specs.Checking.{Checks};
-ghost use Rattle.db_engine.specs.Executing.{Gives, Returns};
+ghost use Rattle.db_engine.specs.Executing.{Plans, Serves};
 
 use crate::columns::TEXT_LIMIT;
-use crate::committing::{commit, fixed_reply};
 use crate::looking::{has_most_tables, has_table};
+use crate::plans::{Plan, carry_out};
 use ct_base::{Memory, Name};
 use ct_keep::{Batch, KeepFault, Keeper};
-use db_cond::{Fault, fault_line};
+use db_cond::Fault;
 use st_parse::{ColumnText, SortText, Whole};
 use std::alloc::Global;
 use tb_table::{Column, Sort, create};
@@ -179,27 +179,36 @@ fn kept_columns(alloc: Global, columns: &[ColumnText]) -> Result<Vec<Column>, Me
     Ok(kept)
 }
 
-/// Makes a table that has passed the checks.
-fn commit_table<K: Keeper>(
-    alloc: Global,
-    keeper: &mut K,
-    table: &Name,
-    columns: &[ColumnText],
-) -> Result<Vec<u8>, KeepFault>
-    requires ready { (K.keeping keeper.old).ready }
-    requires takes { TakesAll (K.keeping keeper.old).well }
-    requires few { length columns.now ≤ 16 }
-    requires named { IsName table.now }
-    ensures kept { Kept (K.keeping keeper.old) (K.keeping keeper.new) (fault_of result) }
-    ensures fulls { (K.keeping keeper.new).counts.fulls ≡ counted (is_full (fault_of result)) (K.keeping keeper.old).counts.fulls }
-    ensures gives { (m : State) (c : Content) → (K.keeping keeper.old).content ≡ Some c → Stands c m → IsFreeTable m table.now columns.now → Gives m (Does (with_new_table m table.now columns.now) table_created) c (K.keeping keeper.old) (K.keeping keeper.new) result }
-    ensures tells { Returns table_created (K.keeping keeper.old) (K.keeping keeper.new) result }
+/// The batch that makes a table.
+fn table_batch(alloc: Global, table: &Name, columns: &[ColumnText]) -> Result<Batch, Memory>
+    requires { length columns.now ≤ 16 }
+    ensures words { IfOk result (λ batch. all_sized columns.now ≡ true → batch ≡ spell (create_words table.now (map column_of columns.now))) }
+    ensures named { IfOk result (λ batch. all_sized columns.now ≡ true → All (λ (k : Column). IsName k.name) (map column_of columns.now)) }
 {
     let columns = kept_columns(alloc, columns)?;
     let mut batch = Batch::new(alloc);
     create(alloc, &mut batch, table, &columns)?;
-    let reply = fixed_reply(alloc, b"Table created.\n")?;
-    commit(alloc, keeper, batch, reply)
+    Ok(batch)
+}
+
+/// What CREATE TABLE comes to.
+fn table_plan<'a, K: Keeper>(
+    alloc: Global,
+    keeper: &mut K,
+    table: &'a Name,
+    columns: &[ColumnText],
+) -> Result<Plan<'a>, KeepFault>
+    requires { (K.keeping keeper.old).ready }
+    ensures plan { Plans K.keeping keeper.old result (λ m. create_table_effect m table.now columns.now) table_created }
+    ensures reads { OnlyReads K.keeping keeper.old keeper.new result }
+{
+    let there = has_table(alloc, keeper, table)?;
+    let many = has_most_tables(alloc, keeper)?;
+    if let Some(fault) = table_fault(there, many, table, columns) {
+        return Ok(Plan::Refused(fault));
+    }
+    let batch = table_batch(alloc, table, columns)?;
+    Ok(Plan::Done(batch))
 }
 
 /// CREATE TABLE.
@@ -210,16 +219,11 @@ pub(crate) fn create_table<K: Keeper>(
     columns: &[ColumnText],
 ) -> Result<Vec<u8>, KeepFault>
     requires ready { (K.keeping keeper.old).ready }
-    requires takes { TakesAll (K.keeping keeper.old).well }
-    ensures kept { Kept (K.keeping keeper.old) (K.keeping keeper.new) (fault_of result) }
-    ensures fulls { (K.keeping keeper.new).counts.fulls ≡ counted (is_full (fault_of result)) (K.keeping keeper.old).counts.fulls }
-    ensures gives { (m : State) (c : Content) → (K.keeping keeper.old).content ≡ Some c → Stands c m → Gives m (create_table_effect m table.now columns.now) c (K.keeping keeper.old) (K.keeping keeper.new) result }
-    ensures tells { Returns table_created (K.keeping keeper.old) (K.keeping keeper.new) result }
+    requires takes { TakesAll (K.keeping keeper.old).fixed.well }
+    ensures { Serves (λ m. create_table_effect m table.now columns.now) (Some table_created) (K.keeping keeper.old) (K.keeping keeper.new) result }
 {
-    let there = has_table(alloc, keeper, table)?;
-    let many = has_most_tables(alloc, keeper)?;
-    if let Some(fault) = table_fault(there, many, table, columns) {
-        return Ok(fault_line(alloc, fault)?);
+    match table_plan(alloc, keeper, table, columns) {
+        Ok(plan) => carry_out(alloc, keeper, plan, b"Table created.\n"),
+        Err(fault) => Err(fault),
     }
-    commit_table(alloc, keeper, table, columns)
 }

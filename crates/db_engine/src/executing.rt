@@ -4,14 +4,15 @@
 ghost use Rattle.std.specs.Prelude.{ℕ, ◌≡◌, ◌&&◌, List, IfOk, Some, None, Err, true, false, not, codes, bytes_eq};
 ghost use Rattle.ct_base.specs.Causes.{Rose};
 ghost use Rattle.ct_keep.specs.Content.{Content};
-ghost use Rattle.ct_keep.specs.Keeping.{Kept, Reads, counted, fault_of, is_full};
+ghost use Rattle.ct_keep.specs.Keeping.{Kept, OnlyReads, Reads};
 ghost use Rattle.db_cond.specs.Faults.{NotUnderstood, refusal_line, store_full as store_full_line};
+ghost use Rattle.std.specs.Bool.{if◌then◌else◌};
 ghost use Rattle.db_engine.specs.Refusals.{refuse, reply_by, state_by};
 ghost use Rattle.db_engine.specs.Creating.{create_index as create_index_effect, index_created};
-ghost use Rattle.db_engine.specs.States.{State, Stands, TakesAll};
+ghost use Rattle.db_engine.specs.States.{Sees, Stands, State, TakesAll};
 ghost use Rattle.db_engine.specs.Steps.{effect, is_built_index as built_index, may_fill, may_fill_by, select_by as select_effect};
 ghost use Rattle.db_engine.specs.Calling.{call as call_effect, call_done};
-ghost use Rattle.db_engine.specs.Executing.{Executes, Gives, IfText, IsFullReply, Looks, Returns, ReturnsBy, Tells, done_line, fault_of_stop, is_fixed, is_sync as is_sync_call};
+ghost use Rattle.db_engine.specs.Executing.{Executes, IfText, IsFullReply, Serves, Tells, done_line, fault_of_stop, is_fixed, is_sync as is_sync_call};
 
 use crate::calling::policy_tokens;
 use crate::committing::fixed_reply;
@@ -44,9 +45,8 @@ fn selected<K: Keeper>(
     preds: &[Pred],
 ) -> Result<Vec<u8>, KeepFault>
     requires { (K.keeping keeper.old).ready }
-    ensures reads { Reads (K.keeping keeper.old) (K.keeping keeper.new) (fault_of result) }
-    ensures never_full { result ≡ Err KeepFault.Full → ⊥ }
-    ensures reply { (m : State) (c : Content) → (K.keeping keeper.old).content ≡ Some c → Stands c m → IfOk result (λ reply. reply.items ≡ reply_by (select_effect m list.now table.now preds.now)) }
+    ensures reads { OnlyReads K.keeping keeper.old keeper.new result }
+    ensures reply { Sees K.keeping keeper.old result (λ m reply. reply.items ≡ reply_by (select_effect m list.now table.now preds.now)) }
     ensures state { (m : State) → state_by m (select_effect m list.now table.now preds.now) ≡ m }
 {
     let SelectList::Items(items) = list else {
@@ -78,24 +78,6 @@ fn selected<K: Keeper>(
     )
 }
 
-/// SELECT.
-fn select_statement<K: Keeper>(
-    alloc: Global,
-    keeper: &mut K,
-    list: &SelectList,
-    table: &Name,
-    preds: &[Pred],
-) -> Result<Vec<u8>, KeepFault>
-    requires { (K.keeping keeper.old).ready }
-    ensures kept { Kept (K.keeping keeper.old) (K.keeping keeper.new) (fault_of result) }
-    ensures fulls { (K.keeping keeper.new).counts.fulls ≡ counted (is_full (fault_of result)) (K.keeping keeper.old).counts.fulls }
-    ensures gives { (m : State) (c : Content) → (K.keeping keeper.old).content ≡ Some c → Stands c m → Gives m (select_effect m list.now table.now preds.now) c (K.keeping keeper.old) (K.keeping keeper.new) result }
-    ensures reads { Reads (K.keeping keeper.old) (K.keeping keeper.new) (fault_of result) }
-    ensures never_full { result ≡ Err KeepFault.Full → ⊥ }
-{
-    selected(alloc, keeper, list, table, preds)
-}
-
 /// Whether a procedure is CTX_DDL.SYNC_INDEX.
 fn is_sync(pack: &Name, procedure: &Name) -> bool
     ensures { result ≡ is_sync_call pack.now procedure.now }
@@ -119,12 +101,8 @@ fn call<K: Keeper>(
     args: &[Arg],
 ) -> Result<Vec<u8>, KeepFault>
     requires ready { (K.keeping keeper.old).ready }
-    requires takes { TakesAll (K.keeping keeper.old).well }
-    ensures kept { Kept (K.keeping keeper.old) (K.keeping keeper.new) (fault_of result) }
-    ensures fulls { (K.keeping keeper.new).counts.fulls ≡ counted (is_full (fault_of result)) (K.keeping keeper.old).counts.fulls }
-    ensures gives { (m : State) (c : Content) → (K.keeping keeper.old).content ≡ Some c → Stands c m → Gives m (call_effect m pack.now procedure.now args.now) c (K.keeping keeper.old) (K.keeping keeper.new) result }
-    ensures looks { is_sync_call pack.now procedure.now ≡ false → Looks (K.keeping keeper.old) (K.keeping keeper.new) result }
-    ensures tells { is_sync_call pack.now procedure.now ≡ true → Returns call_done (K.keeping keeper.old) (K.keeping keeper.new) result }
+    requires takes { TakesAll (K.keeping keeper.old).fixed.well }
+    ensures serves { Serves (λ m. call_effect m pack.now procedure.now args.now) (if is_sync_call pack.now procedure.now then Some call_done else None) (K.keeping keeper.old) (K.keeping keeper.new) result }
     ensures fixed { (m : State) → is_sync_call pack.now procedure.now ≡ false → IfOk result (λ reply. reply.items ≡ reply_by (call_effect m pack.now procedure.now args.now)) }
     ensures may { result ≡ Err KeepFault.Full → may_fill_by pack.now ≡ true }
 {
@@ -154,12 +132,8 @@ fn index_statement<K: Keeper>(
     built: bool,
 ) -> Result<Vec<u8>, KeepFault>
     requires ready { (K.keeping keeper.old).ready }
-    requires takes { TakesAll (K.keeping keeper.old).well }
-    ensures kept { Kept (K.keeping keeper.old) (K.keeping keeper.new) (fault_of result) }
-    ensures fulls { (K.keeping keeper.new).counts.fulls ≡ counted (is_full (fault_of result)) (K.keeping keeper.old).counts.fulls }
-    ensures gives { (m : State) (c : Content) → (K.keeping keeper.old).content ≡ Some c → Stands c m → Gives m (refuse (not built) NotUnderstood (create_index_effect m index.now table.now column.now)) c (K.keeping keeper.old) (K.keeping keeper.new) result }
-    ensures looks { built ≡ false → Looks (K.keeping keeper.old) (K.keeping keeper.new) result }
-    ensures tells { built ≡ true → Returns index_created (K.keeping keeper.old) (K.keeping keeper.new) result }
+    requires takes { TakesAll (K.keeping keeper.old).fixed.well }
+    ensures serves { Serves (λ m. refuse (not built) NotUnderstood (create_index_effect m index.now table.now column.now)) (if built then Some index_created else None) (K.keeping keeper.old) (K.keeping keeper.new) result }
     ensures fixed { built ≡ false → IfOk result (λ reply. reply.items ≡ refusal_line NotUnderstood) }
 {
     if !built {
@@ -175,11 +149,8 @@ fn reply_to<K: Keeper>(
     statement: &Statement,
 ) -> Result<Vec<u8>, KeepFault>
     requires ready { (K.keeping keeper.old).ready }
-    requires takes { TakesAll (K.keeping keeper.old).well }
-    ensures kept { Kept (K.keeping keeper.old) (K.keeping keeper.new) (fault_of result) }
-    ensures fulls { (K.keeping keeper.new).counts.fulls ≡ counted (is_full (fault_of result)) (K.keeping keeper.old).counts.fulls }
-    ensures gives { (m : State) (c : Content) → (K.keeping keeper.old).content ≡ Some c → Stands c m → Gives m (effect m statement.now) c (K.keeping keeper.old) (K.keeping keeper.new) result }
-    ensures tells { ReturnsBy (done_line statement.now) (K.keeping keeper.old) (K.keeping keeper.new) result }
+    requires takes { TakesAll (K.keeping keeper.old).fixed.well }
+    ensures serves { Serves (λ m. effect m statement.now) (done_line statement.now) (K.keeping keeper.old) (K.keeping keeper.new) result }
     ensures fixed { (m : State) → is_fixed statement.now ≡ true → IfOk result (λ reply. reply.items ≡ reply_by (effect m statement.now)) }
     ensures may { result ≡ Err KeepFault.Full → may_fill statement.now ≡ true }
 {
@@ -208,7 +179,7 @@ fn reply_to<K: Keeper>(
             table,
             preds,
             ..
-        } => select_statement(alloc, keeper, list, table, preds.as_slice()),
+        } => selected(alloc, keeper, list, table, preds.as_slice()),
         Statement::Exec {
             package,
             procedure,
@@ -251,7 +222,7 @@ pub fn execute<R: Threads + Sync, K: Keeper>(
     statement: &Statement,
 ) -> Result<Reply, Stop>
     requires ready { (K.keeping keeper.old).ready }
-    requires takes { TakesAll (K.keeping keeper.old).well }
+    requires takes { TakesAll (K.keeping keeper.old).fixed.well }
     ensures kept { Kept (K.keeping keeper.old) (K.keeping keeper.new) (fault_of_stop result) }
     ensures executes { (m : State) (c : Content) → (K.keeping keeper.old).content ≡ Some c → Stands c m → Executes m (effect m statement.now) (may_fill statement.now) c (K.keeping keeper.old) (K.keeping keeper.new) result }
     ensures reads { done_line statement.now ≡ None → Reads (K.keeping keeper.old) (K.keeping keeper.new) (fault_of_stop result) }

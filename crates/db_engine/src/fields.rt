@@ -8,9 +8,9 @@ ghost use Rattle.std.specs.Map.{lookup};
 ghost use Rattle.std.specs.Option.{option_map};
 ghost use Rattle.ct_base.specs.declared.lists.Value.TheVariants.{Number};
 ghost use Rattle.ct_keep.specs.Content.{Content};
-ghost use Rattle.ct_keep.specs.Keeping.{Reads, fault_of};
+ghost use Rattle.ct_keep.specs.Keeping.{OnlyReads};
 ghost use Rattle.tb_table.specs.Tables.{numbers_of, text_of as row_text};
-ghost use Rattle.db_engine.specs.States.{State, Stands};
+ghost use Rattle.db_engine.specs.States.{State, Stands, Sees};
 ghost use Rattle.db_engine.specs.Sources.{KnowTexts, fields_by, reads_numbers, row_values, source_value};
 
 use crate::sources::{Source, read_numbers};
@@ -47,8 +47,7 @@ fn text_once<K: Keeper>(
     requires { (K.keeping keeper.old).ready }
     ensures text { (m : State) (c : Content) → (K.keeping keeper.old).content ≡ Some c → Stands c m → KnowTexts (row_values m.tables table.now row.0) texts.old.items → IfOk result (λ text. text ≡ row_text (row_values m.tables table.now row.0) column) }
     ensures texts { (m : State) (c : Content) → (K.keeping keeper.old).content ≡ Some c → Stands c m → KnowTexts (row_values m.tables table.now row.0) texts.old.items → OnOk result (KnowTexts (row_values m.tables table.now row.0) texts.new.items) }
-    ensures reads { Reads (K.keeping keeper.old) (K.keeping keeper.new) (fault_of result) }
-    ensures never_full { result ≡ Err KeepFault.Full → ⊥ }
+    ensures reads { OnlyReads K.keeping keeper.old keeper.new result }
 {
     if let Some(text) = known_text(texts, column)? {
         return Ok(text);
@@ -87,8 +86,7 @@ fn field<K: Keeper>(
     requires { (K.keeping keeper.old).ready }
     ensures value { (m : State) (c : Content) → (K.keeping keeper.old).content ≡ Some c → Stands c m → KnowTexts (row_values m.tables table.now hit.key.0) texts.old.items → IfOk result (λ value. value ≡ source_value hit.key.0 numbers.now (row_values m.tables table.now hit.key.0) hit.score source) }
     ensures texts { (m : State) (c : Content) → (K.keeping keeper.old).content ≡ Some c → Stands c m → KnowTexts (row_values m.tables table.now hit.key.0) texts.old.items → OnOk result (KnowTexts (row_values m.tables table.now hit.key.0) texts.new.items) }
-    ensures reads { Reads (K.keeping keeper.old) (K.keeping keeper.new) (fault_of result) }
-    ensures never_full { result ≡ Err KeepFault.Full → ⊥ }
+    ensures reads { OnlyReads K.keeping keeper.old keeper.new result }
 {
     match source {
         Source::Key => Ok(Some(Value::Number(hit.key.0))),
@@ -111,9 +109,8 @@ pub(crate) fn row_numbers<K: Keeper>(
     row: RowKey,
 ) -> Result<Vec<i64>, KeepFault>
     requires { (K.keeping keeper.old).ready }
-    ensures numbers { (m : State) (c : Content) → (K.keeping keeper.old).content ≡ Some c → Stands c m → IfOk result (λ numbers. numbers.items ≡ (if list_any reads_numbers sources.now then numbers_of (row_values m.tables table.now row.0) else [])) }
-    ensures reads { Reads (K.keeping keeper.old) (K.keeping keeper.new) (fault_of result) }
-    ensures never_full { result ≡ Err KeepFault.Full → ⊥ }
+    ensures numbers { Sees K.keeping keeper.old result (λ m numbers. numbers.items ≡ (if list_any reads_numbers sources.now then numbers_of (row_values m.tables table.now row.0) else [])) }
+    ensures reads { OnlyReads K.keeping keeper.old keeper.new result }
 {
     if !read_numbers(sources) {
         return Ok(Vec::new(alloc));
@@ -144,9 +141,8 @@ pub(crate) fn row_fields<K: Keeper>(
     hit: Hit,
 ) -> Result<Vec<Value>, KeepFault>
     requires { (K.keeping keeper.old).ready }
-    ensures fields { (m : State) (c : Content) → (K.keeping keeper.old).content ≡ Some c → Stands c m → IfOk result (λ fields. fields.items ≡ fields_by hit.key.0 numbers.now (row_values m.tables table.now hit.key.0) hit.score sources.now) }
-    ensures reads { Reads (K.keeping keeper.old) (K.keeping keeper.new) (fault_of result) }
-    ensures never_full { result ≡ Err KeepFault.Full → ⊥ }
+    ensures fields { Sees K.keeping keeper.old result (λ m fields. fields.items ≡ fields_by hit.key.0 numbers.now (row_values m.tables table.now hit.key.0) hit.score sources.now) }
+    ensures reads { OnlyReads K.keeping keeper.old keeper.new result }
 {
     let mut texts = Vec::new(alloc);
     let mut fields = Vec::new(alloc);

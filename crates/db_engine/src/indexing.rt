@@ -5,24 +5,24 @@ ghost use Rattle.std.specs.Prelude.{◌≡◌, ◌<◌, ◌||◌, IfOk, Some, Er
 ghost use Rattle.std.specs.FinMap.{get};
 ghost use Rattle.ct_base.specs.Names.{IsName};
 ghost use Rattle.ct_keep.specs.Content.{Content};
-ghost use Rattle.ct_keep.specs.Keeping.{Kept, Reads, counted, fault_of, is_full};
+ghost use Rattle.ct_keep.specs.Keeping.{OnlyReads};
 ghost use Rattle.ct_entry.specs.Words.{spell};
 ghost use Rattle.tb_table.specs.Tables.{Table};
 ghost use Rattle.ix_context.specs.Changes.{create_words};
-ghost use Rattle.db_engine.specs.States.{State, Stands, TakesAll, indexes_on, most_indexes};
-ghost use Rattle.db_engine.specs.Refusals.{Effect, Does};
-ghost use Rattle.db_engine.specs.Creating.{all_rows, check_index, create_index as create_index_effect, create_index_on, has_index_on as column_has_index, index_created, is_text_at as text_at, is_text_sort as sort_of_texts, target, with_new_index, IsFreeIndex};
+ghost use Rattle.db_engine.specs.States.{State, Stands, TakesAll, indexes_on, most_indexes, Sees};
+ghost use Rattle.db_engine.specs.Refusals.{Effect};
+ghost use Rattle.db_engine.specs.Creating.{all_rows, check_index, create_index as create_index_effect, create_index_on, has_index_on as column_has_index, index_created, is_text_at as text_at, is_text_sort as sort_of_texts, target, IsFreeIndex};
 ghost use Rattle.db_engine.specs.Checking.{Checks};
-ghost use Rattle.db_engine.specs.Executing.{Gives, Returns};
+ghost use Rattle.db_engine.specs.Executing.{IsPlan, Plans, Serves};
 
 use crate::columns::place_of;
-use crate::committing::{commit, fixed_reply};
 use crate::looking::table_columns;
+use crate::plans::{Plan, carry_out};
 use crate::seeking::{context_index, target_of};
 use crate::syncing::has_index;
 use ct_base::Name;
 use ct_keep::{Batch, KeepFault, Keeper};
-use db_cond::{Fault, fault_line};
+use db_cond::Fault;
 use db_names::{IndexHead, indexes_of};
 use ix_context::{ContextFault, KeyRange, create};
 use std::alloc::Global;
@@ -64,8 +64,7 @@ fn has_index_on<K: Keeper>(
 ) -> Result<bool, KeepFault>
     requires { (K.keeping keeper.old).ready }
     ensures there { (m : State) (c : Content) → (K.keeping keeper.old).content ≡ Some c → Stands c m → place < 256 → IfOk result (λ there. there ≡ column_has_index m.indexes table.now place) }
-    ensures reads { Reads (K.keeping keeper.old) (K.keeping keeper.new) (fault_of result) }
-    ensures never_full { result ≡ Err KeepFault.Full → ⊥ }
+    ensures reads { OnlyReads K.keeping keeper.old keeper.new result }
 {
     let other = context_index(alloc, keeper, table, place)?;
     Ok(other.is_some())
@@ -81,8 +80,7 @@ fn is_taken<K: Keeper>(
 ) -> Result<bool, KeepFault>
     requires { (K.keeping keeper.old).ready }
     ensures taken { (m : State) (c : Content) → (K.keeping keeper.old).content ≡ Some c → Stands c m → place < 256 → IfOk result (λ taken. taken ≡ (is_some (get m.indexes index.now) || column_has_index m.indexes table.now place)) }
-    ensures reads { Reads (K.keeping keeper.old) (K.keeping keeper.new) (fault_of result) }
-    ensures never_full { result ≡ Err KeepFault.Full → ⊥ }
+    ensures reads { OnlyReads K.keeping keeper.old keeper.new result }
 {
     let there = has_index(alloc, keeper, index)?;
     let other = has_index_on(alloc, keeper, table, place)?;
@@ -103,9 +101,8 @@ fn has_most_indexes<K: Keeper>(
     table: &Name,
 ) -> Result<bool, KeepFault>
     requires { (K.keeping keeper.old).ready }
-    ensures many { (m : State) (c : Content) → (K.keeping keeper.old).content ≡ Some c → Stands c m → IfOk result (λ many. many ≡ nat_le most_indexes (length (indexes_on m.indexes table.now))) }
-    ensures reads { Reads (K.keeping keeper.old) (K.keeping keeper.new) (fault_of result) }
-    ensures never_full { result ≡ Err KeepFault.Full → ⊥ }
+    ensures many { Sees K.keeping keeper.old result (λ m many. many ≡ nat_le most_indexes (length (indexes_on m.indexes table.now))) }
+    ensures reads { OnlyReads K.keeping keeper.old keeper.new result }
 {
     let indexes = indexes_of(alloc, keeper, table)?;
     Ok(are_most(&indexes))
@@ -140,8 +137,7 @@ fn created<K: Keeper>(
 ) -> Result<Option<Batch>, KeepFault>
     requires { (K.keeping keeper.old).ready }
     ensures words { (m : State) (c : Content) (x : Table) → (K.keeping keeper.old).content ≡ Some c → Stands c m → place < 256 → IsFreeIndex m index.now table.now x place → IfOk result (λ batch. MatchOption batch ⊥ (λ words. words ≡ spell (create_words m.tables index.now (target table.now place) all_rows))) }
-    ensures reads { Reads (K.keeping keeper.old) (K.keeping keeper.new) (fault_of result) }
-    ensures never_full { result ≡ Err KeepFault.Full → ⊥ }
+    ensures reads { OnlyReads K.keeping keeper.old keeper.new result }
 {
     let Ok(column) = u8::try_from(place) else {
         return Ok(None);
@@ -156,51 +152,50 @@ fn created<K: Keeper>(
     }
 }
 
-/// Makes an index that has passed the checks.
-fn commit_index<K: Keeper>(
+/// What CREATE INDEX comes to on a column of a table that is there.
+fn plan_on<'a, K: Keeper>(
     alloc: Global,
     keeper: &mut K,
-    index: &Name,
-    table: &Name,
-    place: usize,
-) -> Result<Vec<u8>, KeepFault>
-    requires ready { (K.keeping keeper.old).ready }
-    requires takes { TakesAll (K.keeping keeper.old).well }
-    requires named { IsName index.now }
-    ensures kept { Kept (K.keeping keeper.old) (K.keeping keeper.new) (fault_of result) }
-    ensures fulls { (K.keeping keeper.new).counts.fulls ≡ counted (is_full (fault_of result)) (K.keeping keeper.old).counts.fulls }
-    ensures gives { (m : State) (c : Content) (x : Table) → (K.keeping keeper.old).content ≡ Some c → Stands c m → place < 256 → IsFreeIndex m index.now table.now x place → Gives m (Does (with_new_index m index.now table.now place) index_created) c (K.keeping keeper.old) (K.keeping keeper.new) result }
-    ensures tells { Returns index_created (K.keeping keeper.old) (K.keeping keeper.new) result }
-{
-    let Some(batch) = created(alloc, keeper, index, table, place)? else {
-        return Ok(fault_line(alloc, Fault::LimitReached)?);
-    };
-    let reply = fixed_reply(alloc, b"Index created.\n")?;
-    commit(alloc, keeper, batch, reply)
-}
-
-/// Makes an index on a column of a table that is there.
-fn create_on<K: Keeper>(
-    alloc: Global,
-    keeper: &mut K,
-    index: &Name,
+    index: &'a Name,
     table: &Name,
     columns: &[Column],
     place: usize,
-) -> Result<Vec<u8>, KeepFault>
-    requires ready { (K.keeping keeper.old).ready }
-    requires takes { TakesAll (K.keeping keeper.old).well }
-    ensures kept { Kept (K.keeping keeper.old) (K.keeping keeper.new) (fault_of result) }
-    ensures fulls { (K.keeping keeper.new).counts.fulls ≡ counted (is_full (fault_of result)) (K.keeping keeper.old).counts.fulls }
-    ensures gives { (m : State) (c : Content) (x : Table) → (K.keeping keeper.old).content ≡ Some c → Stands c m → place < 256 → get m.tables table.now ≡ Some x → columns.now ≡ x.columns → Gives m (create_index_on m index.now table.now x place) c (K.keeping keeper.old) (K.keeping keeper.new) result }
-    ensures tells { Returns index_created (K.keeping keeper.old) (K.keeping keeper.new) result }
+) -> Result<Plan<'a>, KeepFault>
+    requires { (K.keeping keeper.old).ready }
+    ensures plan { (m : State) (c : Content) (x : Table) → (K.keeping keeper.old).content ≡ Some c → Stands c m → place < 256 → get m.tables table.now ≡ Some x → columns.now ≡ x.columns → IfOk result (IsPlan (create_index_on m index.now table.now x place) index_created c) }
+    ensures reads { OnlyReads K.keeping keeper.old keeper.new result }
 {
     let there = is_taken(alloc, keeper, index, table, place)?;
     let many = has_most_indexes(alloc, keeper, table)?;
     if let Some(fault) = index_fault(there, is_text_at(columns, place), many, index) {
-        return Ok(fault_line(alloc, fault)?);
+        return Ok(Plan::Refused(fault));
     }
-    commit_index(alloc, keeper, index, table, place)
+    let found = created(alloc, keeper, index, table, place)?;
+    let Some(batch) = found else {
+        return Ok(Plan::Refused(Fault::LimitReached));
+    };
+    Ok(Plan::Done(batch))
+}
+
+/// What CREATE INDEX comes to.
+fn index_plan<'a, K: Keeper>(
+    alloc: Global,
+    keeper: &mut K,
+    index: &'a Name,
+    table: &'a Name,
+    column: &'a Name,
+) -> Result<Plan<'a>, KeepFault>
+    requires { (K.keeping keeper.old).ready }
+    ensures plan { Plans K.keeping keeper.old result (λ m. create_index_effect m index.now table.now column.now) index_created }
+    ensures reads { OnlyReads K.keeping keeper.old keeper.new result }
+{
+    let Some(columns) = table_columns(alloc, keeper, table)? else {
+        return Ok(Plan::Refused(Fault::UnknownName(table.as_str())));
+    };
+    let Some(place) = place_of(column, &columns) else {
+        return Ok(Plan::Refused(Fault::UnknownName(column.as_str())));
+    };
+    plan_on(alloc, keeper, index, table, &columns, place)
 }
 
 /// CREATE INDEX of kind CONTEXT: each row that is there becomes a document of the index. Its cost is what their texts hold,
@@ -213,17 +208,11 @@ pub(crate) fn create_index<K: Keeper>(
     column: &Name,
 ) -> Result<Vec<u8>, KeepFault>
     requires ready { (K.keeping keeper.old).ready }
-    requires takes { TakesAll (K.keeping keeper.old).well }
-    ensures kept { Kept (K.keeping keeper.old) (K.keeping keeper.new) (fault_of result) }
-    ensures fulls { (K.keeping keeper.new).counts.fulls ≡ counted (is_full (fault_of result)) (K.keeping keeper.old).counts.fulls }
-    ensures gives { (m : State) (c : Content) → (K.keeping keeper.old).content ≡ Some c → Stands c m → Gives m (create_index_effect m index.now table.now column.now) c (K.keeping keeper.old) (K.keeping keeper.new) result }
-    ensures tells { Returns index_created (K.keeping keeper.old) (K.keeping keeper.new) result }
+    requires takes { TakesAll (K.keeping keeper.old).fixed.well }
+    ensures { Serves (λ m. create_index_effect m index.now table.now column.now) (Some index_created) (K.keeping keeper.old) (K.keeping keeper.new) result }
 {
-    let Some(columns) = table_columns(alloc, keeper, table)? else {
-        return Ok(fault_line(alloc, Fault::UnknownName(table.as_str()))?);
-    };
-    let Some(place) = place_of(column, &columns) else {
-        return Ok(fault_line(alloc, Fault::UnknownName(column.as_str()))?);
-    };
-    create_on(alloc, keeper, index, table, &columns, place)
+    match index_plan(alloc, keeper, index, table, column) {
+        Ok(plan) => carry_out(alloc, keeper, plan, b"Index created.\n"),
+        Err(fault) => Err(fault),
+    }
 }

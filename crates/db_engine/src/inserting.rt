@@ -5,25 +5,26 @@ ghost use Rattle.std.specs.Prelude.{◌≡◌, ◌≤◌, ◌<◌, ◌+◌, ◌+
 ghost use Rattle.std.specs.List.{list_any, list_all, filter_map, All};
 ghost use Rattle.std.specs.Option.{option_map};
 ghost use Rattle.std.specs.FinMap.{get, entries};
-ghost use Rattle.ct_keep.specs.Content.{Content};
-ghost use Rattle.ct_keep.specs.Keeping.{Kept, Reads, counted, fault_of, is_full};
+ghost use Rattle.ct_keep.specs.Content.{Content, after};
+ghost use Rattle.db_engine.specs.Committing.{are_bounded};
+ghost use Rattle.ct_keep.specs.Keeping.{OnlyReads};
 ghost use Rattle.ct_entry.specs.Keys.{same_list};
 ghost use Rattle.ct_entry.specs.Words.{spell};
 ghost use Rattle.tb_table.specs.declared.columns.Column.{Column};
 ghost use Rattle.tb_table.specs.Tables.{Table, numbers_of, texts_of};
 ghost use Rattle.tb_table.specs.Spelling.{insert_words};
 ghost use Rattle.db_engine.specs.States.{State, Stands, TakesAll};
-ghost use Rattle.db_engine.specs.Refusals.{Effect, Does, first_unknown as unknown_name};
+ghost use Rattle.db_engine.specs.Refusals.{Effect, first_unknown as unknown_name};
 ghost use Rattle.db_engine.specs.Inserting.{are_of_sorts as all_of_sorts, arranged as arranged_values, behind_key as others_of, check_list, check_values, covers as covers_columns, has_row as has_row_of, has_too_long as any_too_long, insert_into as insert_into_effect, insert_values as insert_values_effect, is_beyond_range, is_of_sort as sort_takes, is_too_long as too_long_for, key_in as key_of, kept_value, number_value, text_value, IsNumberKept, IsTextKept, note_all_words, most_rows, names_of, others_kept, row_created, value_under as named_value, with_new_row, IsFreeRow};
 ghost use Rattle.db_engine.specs.Checking.{Checks};
-ghost use Rattle.db_engine.specs.Executing.{Gives, Returns};
+ghost use Rattle.db_engine.specs.Executing.{IsPlan, Plans, Serves};
 
 use crate::columns::{TEXT_LIMIT, has_column};
-use crate::committing::{commit, fixed_reply};
 use crate::looking::table_columns;
+use crate::plans::{Plan, carry_out};
 use ct_base::{Memory, Name, RowKey, Text};
 use ct_keep::{Batch, KeepFault, Keeper};
-use db_cond::{Fault, fault_line};
+use db_cond::Fault;
 use db_names::{IndexHead, indexes_of};
 use ix_context::note_insert;
 use st_parse::{ColumnNames, Operand, Whole};
@@ -377,26 +378,22 @@ fn behind_key(values: &[Operand]) -> &[Operand]
     }
 }
 
-/// Makes a row that has passed the checks: its words and those that it waits in each index on the table.
-fn commit_row<K: Keeper>(
+/// The batch of a row that has passed the checks: its words and those that it waits in each index on the table.
+fn noted_batch<K: Keeper>(
     alloc: Global,
     keeper: &mut K,
     table: &Name,
     row: RowKey,
     values: &[Operand],
-) -> Result<Vec<u8>, KeepFault>
-    requires ready { (K.keeping keeper.old).ready }
-    requires takes { TakesAll (K.keeping keeper.old).well }
-    ensures kept { Kept (K.keeping keeper.old) (K.keeping keeper.new) (fault_of result) }
-    ensures fulls { (K.keeping keeper.new).counts.fulls ≡ counted (is_full (fault_of result)) (K.keeping keeper.old).counts.fulls }
-    ensures gives { (m : State) (c : Content) (x : Table) → (K.keeping keeper.old).content ≡ Some c → Stands c m → get m.tables table.now ≡ Some x → IsFreeRow x values.now row.0 → Gives m (Does (with_new_row m table.now row.0 (others_kept values.now)) row_created) c (K.keeping keeper.old) (K.keeping keeper.new) result }
-    ensures tells { Returns row_created (K.keeping keeper.old) (K.keeping keeper.new) result }
+) -> Result<Batch, KeepFault>
+    requires { (K.keeping keeper.old).ready }
+    ensures batch { (m : State) (c : Content) (x : Table) → (K.keeping keeper.old).content ≡ Some c → Stands c m → get m.tables table.now ≡ Some x → IsFreeRow x values.now row.0 → IfOk result (λ batch. (are_bounded batch ≡ true) × Stands (after batch c) (with_new_row m table.now row.0 (others_kept values.now))) }
+    ensures reads { OnlyReads K.keeping keeper.old keeper.new result }
 {
     let mut batch = row_batch(alloc, table, row, behind_key(values))?;
     let indexes = indexes_of(alloc, keeper, table)?;
     note_all(alloc, &mut batch, &indexes, row)?;
-    let reply = fixed_reply(alloc, b"1 row created.\n")?;
-    commit(alloc, keeper, batch, reply)
+    Ok(batch)
 }
 
 // ---- the statement
@@ -410,8 +407,7 @@ fn is_taken<K: Keeper>(
 ) -> Result<bool, KeepFault>
     requires { (K.keeping keeper.old).ready }
     ensures taken { (m : State) (c : Content) (x : Table) → (K.keeping keeper.old).content ≡ Some c → Stands c m → get m.tables table.now ≡ Some x → IfOk result (λ taken. taken ≡ has_row_of x (option_map (λ key. key.0) key)) }
-    ensures reads { Reads (K.keeping keeper.old) (K.keeping keeper.new) (fault_of result) }
-    ensures never_full { result ≡ Err KeepFault.Full → ⊥ }
+    ensures reads { OnlyReads K.keeping keeper.old keeper.new result }
 {
     match key {
         None => Ok(false),
@@ -423,38 +419,57 @@ fn is_taken<K: Keeper>(
 fn has_most_rows<K: Keeper>(alloc: Global, keeper: &mut K, table: &Name) -> Result<bool, KeepFault>
     requires { (K.keeping keeper.old).ready }
     ensures many { (m : State) (c : Content) (x : Table) → (K.keeping keeper.old).content ≡ Some c → Stands c m → get m.tables table.now ≡ Some x → IfOk result (λ many. many ≡ nat_le most_rows (length (entries x.rows))) }
-    ensures reads { Reads (K.keeping keeper.old) (K.keeping keeper.new) (fault_of result) }
-    ensures never_full { result ≡ Err KeepFault.Full → ⊥ }
+    ensures reads { OnlyReads K.keeping keeper.old keeper.new result }
 {
     let few = row_count_at_most(alloc, keeper, table, MOST_ROWS_BEFORE)?;
     Ok(!few)
 }
 
-/// INSERT of values in the order of the columns of a table that is there.
-fn insert_values<K: Keeper>(
+/// What an INSERT of values in the order of the columns of a table that is there comes to.
+fn values_plan<'a, K: Keeper>(
     alloc: Global,
     keeper: &mut K,
-    table: &Name,
+    table: &'a Name,
     columns: &[Column],
     values: &[Operand],
-) -> Result<Vec<u8>, KeepFault>
-    requires ready { (K.keeping keeper.old).ready }
-    requires takes { TakesAll (K.keeping keeper.old).well }
-    ensures kept { Kept (K.keeping keeper.old) (K.keeping keeper.new) (fault_of result) }
-    ensures fulls { (K.keeping keeper.new).counts.fulls ≡ counted (is_full (fault_of result)) (K.keeping keeper.old).counts.fulls }
-    ensures gives { (m : State) (c : Content) (x : Table) → (K.keeping keeper.old).content ≡ Some c → Stands c m → get m.tables table.now ≡ Some x → x.columns ≡ columns.now → Gives m (insert_values_effect m table.now x values.now) c (K.keeping keeper.old) (K.keeping keeper.new) result }
-    ensures tells { Returns row_created (K.keeping keeper.old) (K.keeping keeper.new) result }
+) -> Result<Plan<'a>, KeepFault>
+    requires { (K.keeping keeper.old).ready }
+    ensures plan { (m : State) (c : Content) (x : Table) → (K.keeping keeper.old).content ≡ Some c → Stands c m → get m.tables table.now ≡ Some x → x.columns ≡ columns.now → IfOk result (IsPlan (insert_values_effect m table.now x values.now) row_created c) }
+    ensures reads { OnlyReads K.keeping keeper.old keeper.new result }
 {
     let key = key_in(values);
     let taken = is_taken(alloc, keeper, table, key)?;
     let many = has_most_rows(alloc, keeper, table)?;
     if let Some(fault) = values_fault(taken, many, columns, values) {
-        return Ok(fault_line(alloc, fault)?);
+        return Ok(Plan::Refused(fault));
     }
     let Some(key) = key else {
-        return Ok(fault_line(alloc, Fault::OutOfRange)?);
+        return Ok(Plan::Refused(Fault::OutOfRange));
     };
-    commit_row(alloc, keeper, table, key, values)
+    let batch = noted_batch(alloc, keeper, table, key, values)?;
+    Ok(Plan::Done(batch))
+}
+
+/// What an INSERT comes to.
+fn insert_plan<'a, K: Keeper>(
+    alloc: Global,
+    keeper: &mut K,
+    table: &'a Name,
+    names: &'a Option<ColumnNames>,
+    values: &[Operand],
+) -> Result<Plan<'a>, KeepFault>
+    requires { (K.keeping keeper.old).ready }
+    ensures plan { Plans K.keeping keeper.old result (λ m. insert_into_effect m table.now names.now values.now) row_created }
+    ensures reads { OnlyReads K.keeping keeper.old keeper.new result }
+{
+    let Some(columns) = table_columns(alloc, keeper, table)? else {
+        return Ok(Plan::Refused(Fault::UnknownName(table.as_str())));
+    };
+    if let Some(fault) = list_fault(&columns, names, values) {
+        return Ok(Plan::Refused(fault));
+    }
+    let values = arrange(alloc, names, &columns, values)?;
+    values_plan(alloc, keeper, table, &columns, &values)
 }
 
 /// INSERT. Beside the table's columns it reads whether the key is taken, whether the table has room for a row, and the entries
@@ -468,18 +483,11 @@ pub(crate) fn insert_into<K: Keeper>(
     values: &[Operand],
 ) -> Result<Vec<u8>, KeepFault>
     requires ready { (K.keeping keeper.old).ready }
-    requires takes { TakesAll (K.keeping keeper.old).well }
-    ensures kept { Kept (K.keeping keeper.old) (K.keeping keeper.new) (fault_of result) }
-    ensures fulls { (K.keeping keeper.new).counts.fulls ≡ counted (is_full (fault_of result)) (K.keeping keeper.old).counts.fulls }
-    ensures gives { (m : State) (c : Content) → (K.keeping keeper.old).content ≡ Some c → Stands c m → Gives m (insert_into_effect m table.now names.now values.now) c (K.keeping keeper.old) (K.keeping keeper.new) result }
-    ensures tells { Returns row_created (K.keeping keeper.old) (K.keeping keeper.new) result }
+    requires takes { TakesAll (K.keeping keeper.old).fixed.well }
+    ensures { Serves (λ m. insert_into_effect m table.now names.now values.now) (Some row_created) (K.keeping keeper.old) (K.keeping keeper.new) result }
 {
-    let Some(columns) = table_columns(alloc, keeper, table)? else {
-        return Ok(fault_line(alloc, Fault::UnknownName(table.as_str()))?);
-    };
-    if let Some(fault) = list_fault(&columns, names, values) {
-        return Ok(fault_line(alloc, fault)?);
+    match insert_plan(alloc, keeper, table, names, values) {
+        Ok(plan) => carry_out(alloc, keeper, plan, b"1 row created.\n"),
+        Err(fault) => Err(fault),
     }
-    let values = arrange(alloc, names, &columns, values)?;
-    insert_values(alloc, keeper, table, &columns, &values)
 }

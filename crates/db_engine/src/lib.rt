@@ -13,6 +13,7 @@ mod indexing;
 mod inserting;
 mod listing;
 mod looking;
+mod plans;
 mod querying;
 mod replies;
 mod seeking;

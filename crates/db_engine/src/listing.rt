@@ -3,9 +3,9 @@
 
 ghost use Rattle.std.specs.Prelude.{◌≡◌, ◌++◌, map, IfOk, OnOk, Some, Err};
 ghost use Rattle.ct_keep.specs.Content.{Content};
-ghost use Rattle.ct_keep.specs.Keeping.{Reads, fault_of};
+ghost use Rattle.ct_keep.specs.Keeping.{OnlyReads};
 ghost use Rattle.db_cond.specs.Lines.{line as printed_line};
-ghost use Rattle.db_engine.specs.States.{State, Stands};
+ghost use Rattle.db_engine.specs.States.{State, Stands, Sees};
 ghost use Rattle.db_engine.specs.Calling.{lines_or_none};
 ghost use Rattle.db_engine.specs.Sources.{hit_fields};
 
@@ -29,8 +29,7 @@ fn push_row<K: Keeper>(
 ) -> Result<(), KeepFault>
     requires { (K.keeping keeper.old).ready }
     ensures line { (m : State) (c : Content) → (K.keeping keeper.old).content ≡ Some c → Stands c m → OnOk result (lines.new.items ≡ lines.old.items ++ printed_line (hit_fields m.tables table.now sources.now (hit.key.0, hit.score))) }
-    ensures reads { Reads (K.keeping keeper.old) (K.keeping keeper.new) (fault_of result) }
-    ensures never_full { result ≡ Err KeepFault.Full → ⊥ }
+    ensures reads { OnlyReads K.keeping keeper.old keeper.new result }
 {
     let numbers = row_numbers(alloc, keeper, table, sources, hit.key)?;
     let fields = row_fields(alloc, keeper, table, sources, &numbers, hit)?;
@@ -48,9 +47,8 @@ pub(crate) fn hit_lines<K: Keeper>(
     hits: &[Hit],
 ) -> Result<Vec<u8>, KeepFault>
     requires { (K.keeping keeper.old).ready }
-    ensures lines { (m : State) (c : Content) → (K.keeping keeper.old).content ≡ Some c → Stands c m → IfOk result (λ lines. lines.items ≡ lines_or_none (map (λ h. hit_fields m.tables table.now sources.now (h.key.0, h.score)) hits.now)) }
-    ensures reads { Reads (K.keeping keeper.old) (K.keeping keeper.new) (fault_of result) }
-    ensures never_full { result ≡ Err KeepFault.Full → ⊥ }
+    ensures lines { Sees K.keeping keeper.old result (λ m lines. lines.items ≡ lines_or_none (map (λ h. hit_fields m.tables table.now sources.now (h.key.0, h.score)) hits.now)) }
+    ensures reads { OnlyReads K.keeping keeper.old keeper.new result }
 {
     if hits.is_empty() {
         return Ok(fixed_reply(alloc, no_rows())?);

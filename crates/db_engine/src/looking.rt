@@ -5,9 +5,9 @@ ghost use Rattle.std.specs.Prelude.{◌≡◌, IfOk, Some, Err, is_some, nat_le,
 ghost use Rattle.std.specs.Option.{option_map};
 ghost use Rattle.std.specs.FinMap.{get, entries};
 ghost use Rattle.ct_keep.specs.Content.{Content};
-ghost use Rattle.ct_keep.specs.Keeping.{Reads, fault_of};
+ghost use Rattle.ct_keep.specs.Keeping.{OnlyReads};
 ghost use Rattle.tb_table.specs.Tables.{Table};
-ghost use Rattle.db_engine.specs.States.{State, Stands, most_tables};
+ghost use Rattle.db_engine.specs.States.{State, Stands, most_tables, Sees};
 
 use ct_base::Name;
 use ct_keep::{KeepFault, Keeper};
@@ -24,9 +24,8 @@ pub(crate) fn table_columns<K: Keeper>(
     table: &Name,
 ) -> Result<Option<Vec<Column>>, KeepFault>
     requires { (K.keeping keeper.old).ready }
-    ensures columns { (m : State) (c : Content) → (K.keeping keeper.old).content ≡ Some c → Stands c m → IfOk result (λ found. option_map (λ v. v.items) found ≡ option_map (λ (x : Table). x.columns) (get m.tables table.now)) }
-    ensures reads { Reads (K.keeping keeper.old) (K.keeping keeper.new) (fault_of result) }
-    ensures never_full { result ≡ Err KeepFault.Full → ⊥ }
+    ensures columns { Sees K.keeping keeper.old result (λ m found. option_map (λ v. v.items) found ≡ option_map (λ (x : Table). x.columns) (get m.tables table.now)) }
+    ensures reads { OnlyReads K.keeping keeper.old keeper.new result }
 {
     columns_of(alloc, keeper, table)
 }
@@ -38,9 +37,8 @@ pub(crate) fn has_table<K: Keeper>(
     table: &Name,
 ) -> Result<bool, KeepFault>
     requires { (K.keeping keeper.old).ready }
-    ensures there { (m : State) (c : Content) → (K.keeping keeper.old).content ≡ Some c → Stands c m → IfOk result (λ there. there ≡ is_some (get m.tables table.now)) }
-    ensures reads { Reads (K.keeping keeper.old) (K.keeping keeper.new) (fault_of result) }
-    ensures never_full { result ≡ Err KeepFault.Full → ⊥ }
+    ensures there { Sees K.keeping keeper.old result (λ m there. there ≡ is_some (get m.tables table.now)) }
+    ensures reads { OnlyReads K.keeping keeper.old keeper.new result }
 {
     let columns = table_columns(alloc, keeper, table)?;
     Ok(columns.is_some())
@@ -56,9 +54,8 @@ fn are_most(names: &[Name]) -> bool
 /// Whether there are as many tables as there may be.
 pub(crate) fn has_most_tables<K: Keeper>(alloc: Global, keeper: &mut K) -> Result<bool, KeepFault>
     requires { (K.keeping keeper.old).ready }
-    ensures many { (m : State) (c : Content) → (K.keeping keeper.old).content ≡ Some c → Stands c m → IfOk result (λ many. many ≡ nat_le most_tables (length (entries m.tables))) }
-    ensures reads { Reads (K.keeping keeper.old) (K.keeping keeper.new) (fault_of result) }
-    ensures never_full { result ≡ Err KeepFault.Full → ⊥ }
+    ensures many { Sees K.keeping keeper.old result (λ m many. many ≡ nat_le most_tables (length (entries m.tables))) }
+    ensures reads { OnlyReads K.keeping keeper.old keeper.new result }
 {
     let names = tables(alloc, keeper)?;
     Ok(are_most(&names))

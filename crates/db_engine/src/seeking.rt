@@ -3,7 +3,7 @@
 
 ghost use Rattle.std.specs.Prelude.{◌≡◌, ◌≤◌, ◌<◌, length, IfOk, Some, Err};
 ghost use Rattle.ct_keep.specs.Content.{Content};
-ghost use Rattle.ct_keep.specs.Keeping.{Reads, fault_of};
+ghost use Rattle.ct_keep.specs.Keeping.{OnlyReads};
 ghost use Rattle.db_engine.specs.States.{State, Stands};
 ghost use Rattle.db_engine.specs.Locating.{FoundOn, Searches, with_searched};
 
@@ -34,8 +34,7 @@ pub(crate) fn context_index<K: Keeper>(
 ) -> Result<Option<Name>, KeepFault>
     requires { (K.keeping keeper.old).ready }
     ensures found { (m : State) (c : Content) → (K.keeping keeper.old).content ≡ Some c → Stands c m → place < 256 → IfOk result (λ found. FoundOn m.indexes table.now place found) }
-    ensures reads { Reads (K.keeping keeper.old) (K.keeping keeper.new) (fault_of result) }
-    ensures never_full { result ≡ Err KeepFault.Full → ⊥ }
+    ensures reads { OnlyReads K.keeping keeper.old keeper.new result }
 {
     let Ok(column) = u8::try_from(place) else {
         return Ok(None);
@@ -55,8 +54,7 @@ pub(crate) fn searched_index<'a, K: Keeper>(
 ) -> Result<Searched<'a>, KeepFault>
     requires { (K.keeping keeper.old).ready }
     ensures searched { (m : State) (c : Content) → (K.keeping keeper.old).content ≡ Some c → Stands c m → length columns.now ≤ 256 → IfOk result (λ found. Searches m.indexes found (with_searched m table.now columns.now items.now column.now)) }
-    ensures reads { Reads (K.keeping keeper.old) (K.keeping keeper.new) (fault_of result) }
-    ensures never_full { result ≡ Err KeepFault.Full → ⊥ }
+    ensures reads { OnlyReads K.keeping keeper.old keeper.new result }
 {
     if let Some(name) = first_unknown(items, columns) {
         return Ok(Searched::Refused(Fault::UnknownName(name.as_str())));

@@ -3,8 +3,8 @@
 
 ghost use Rattle.std.specs.Prelude.{◌≡◌, IfOk, Some, Err};
 ghost use Rattle.ct_keep.specs.Content.{Content};
-ghost use Rattle.ct_keep.specs.Keeping.{Reads, fault_of};
-ghost use Rattle.db_engine.specs.States.{State, Stands};
+ghost use Rattle.ct_keep.specs.Keeping.{OnlyReads};
+ghost use Rattle.db_engine.specs.States.{State, Stands, Sees};
 ghost use Rattle.db_engine.specs.Refusals.{reply_by, state_by};
 ghost use Rattle.db_engine.specs.Selecting.{select as select_effect};
 
@@ -36,10 +36,9 @@ pub(crate) fn select<K: Keeper>(
     above: Whole,
 ) -> Result<Vec<u8>, KeepFault>
     requires ready { (K.keeping keeper.old).ready }
-    ensures reply { (m : State) (c : Content) → (K.keeping keeper.old).content ≡ Some c → Stands c m → IfOk result (λ reply. reply.items ≡ reply_by (select_effect m items.now table.now column.now query.now label above)) }
+    ensures reply { Sees K.keeping keeper.old result (λ m reply. reply.items ≡ reply_by (select_effect m items.now table.now column.now query.now label above)) }
     ensures state { (m : State) → state_by m (select_effect m items.now table.now column.now query.now label above) ≡ m }
-    ensures reads { Reads (K.keeping keeper.old) (K.keeping keeper.new) (fault_of result) }
-    ensures never_full { result ≡ Err KeepFault.Full → ⊥ }
+    ensures reads { OnlyReads K.keeping keeper.old keeper.new result }
 {
     let Some(columns) = table_columns(alloc, keeper, table)? else {
         return Ok(fault_line(alloc, Fault::UnknownName(table.as_str()))?);

@@ -5,20 +5,20 @@ ghost use Rattle.std.specs.Prelude.{◌≡◌, IfOk, Some, None, Err, MatchOptio
 ghost use Rattle.std.specs.Option.{option_map};
 ghost use Rattle.std.specs.FinMap.{get};
 ghost use Rattle.ct_keep.specs.Content.{Content};
-ghost use Rattle.ct_keep.specs.Keeping.{Kept, Reads, counted, fault_of, is_full};
+ghost use Rattle.ct_keep.specs.Keeping.{OnlyReads};
 ghost use Rattle.ct_entry.specs.Words.{spell};
 ghost use Rattle.ix_context.specs.Indexes.{Index};
 ghost use Rattle.ix_context.specs.Changes.{sync_words};
-ghost use Rattle.db_engine.specs.States.{State, Stands, TakesAll};
+ghost use Rattle.db_engine.specs.States.{State, Stands, TakesAll, Sees};
 ghost use Rattle.db_engine.specs.Refusals.{Effect};
-ghost use Rattle.db_engine.specs.Calling.{are_sync_args as sync_args, call_done, check_sync, has_index as has_named_index, has_too_many, is_bad_size as bad_size, is_memory_size as memory_size, is_size_from as size_from, is_unit as unit_letter, name_arg as first_name, spelt_name as name_spelt, sync_found, sync_index as sync_effect, unknown_name as name_unknown};
+ghost use Rattle.db_engine.specs.Calling.{are_sync_args as sync_args, call_done, check_sync, has_index as has_named_index, has_too_many, is_bad_size as bad_size, is_memory_size as memory_size, is_size_from as size_from, is_unit as unit_letter, name_arg as first_name, spelt_name as name_spelt, sync_index as sync_effect, unknown_name as name_unknown};
 ghost use Rattle.db_engine.specs.Checking.{Checks};
-ghost use Rattle.db_engine.specs.Executing.{Gives, Returns};
+ghost use Rattle.db_engine.specs.Executing.{Plans, Serves};
 
-use crate::committing::{commit, fixed_reply};
+use crate::plans::{Plan, carry_out};
 use ct_base::{Memory, Name, NameFault};
 use ct_keep::{Batch, KeepFault, Keeper};
-use db_cond::{Fault, fault_line};
+use db_cond::Fault;
 use db_names::index_of;
 use ix_context::{ContextFault, sync};
 use st_parse::Arg;
@@ -126,9 +126,8 @@ pub(crate) fn has_index<K: Keeper>(
     index: &Name,
 ) -> Result<bool, KeepFault>
     requires { (K.keeping keeper.old).ready }
-    ensures there { (m : State) (c : Content) → (K.keeping keeper.old).content ≡ Some c → Stands c m → IfOk result (λ there. there ≡ is_some (get m.indexes index.now)) }
-    ensures reads { Reads (K.keeping keeper.old) (K.keeping keeper.new) (fault_of result) }
-    ensures never_full { result ≡ Err KeepFault.Full → ⊥ }
+    ensures there { Sees K.keeping keeper.old result (λ m there. there ≡ is_some (get m.indexes index.now)) }
+    ensures reads { OnlyReads K.keeping keeper.old keeper.new result }
 {
     let head = index_of(alloc, keeper, index)?;
     Ok(head.is_some())
@@ -141,9 +140,8 @@ fn has_named<K: Keeper>(
     name: &Option<Name>,
 ) -> Result<bool, KeepFault>
     requires { (K.keeping keeper.old).ready }
-    ensures there { (m : State) (c : Content) → (K.keeping keeper.old).content ≡ Some c → Stands c m → IfOk result (λ there. there ≡ has_named_index m name.now) }
-    ensures reads { Reads (K.keeping keeper.old) (K.keeping keeper.new) (fault_of result) }
-    ensures never_full { result ≡ Err KeepFault.Full → ⊥ }
+    ensures there { Sees K.keeping keeper.old result (λ m there. there ≡ has_named_index m name.now) }
+    ensures reads { OnlyReads K.keeping keeper.old keeper.new result }
 {
     match name {
         Some(index) => has_index(alloc, keeper, index),
@@ -159,8 +157,7 @@ fn synced<K: Keeper>(
 ) -> Result<Option<Batch>, KeepFault>
     requires { (K.keeping keeper.old).ready }
     ensures words { (m : State) (c : Content) (x : Index) → (K.keeping keeper.old).content ≡ Some c → Stands c m → get m.indexes index.now ≡ Some x → IfOk result (λ batch. MatchOption batch (has_too_many x ≡ true) (λ words. (has_too_many x ≡ false) × (words ≡ spell (sync_words m.tables index.now x)))) }
-    ensures reads { Reads (K.keeping keeper.old) (K.keeping keeper.new) (fault_of result) }
-    ensures never_full { result ≡ Err KeepFault.Full → ⊥ }
+    ensures reads { OnlyReads K.keeping keeper.old keeper.new result }
 {
     let mut batch = Batch::new(alloc);
     match sync(alloc, keeper, &mut batch, index) {
@@ -171,20 +168,30 @@ fn synced<K: Keeper>(
     }
 }
 
-/// Synchronises an index that is there.
-fn commit_sync<K: Keeper>(alloc: Global, keeper: &mut K, index: &Name) -> Result<Vec<u8>, KeepFault>
+/// What a synchronisation comes to: of the index of this name, by these arguments.
+fn sync_plan<'a, K: Keeper>(
+    alloc: Global,
+    keeper: &mut K,
+    name: &'a Option<Name>,
+    args: &[Arg],
+) -> Result<Plan<'a>, KeepFault>
     requires ready { (K.keeping keeper.old).ready }
-    requires takes { TakesAll (K.keeping keeper.old).well }
-    ensures kept { Kept (K.keeping keeper.old) (K.keeping keeper.new) (fault_of result) }
-    ensures fulls { (K.keeping keeper.new).counts.fulls ≡ counted (is_full (fault_of result)) (K.keeping keeper.old).counts.fulls }
-    ensures gives { (m : State) (c : Content) (x : Index) → (K.keeping keeper.old).content ≡ Some c → Stands c m → get m.indexes index.now ≡ Some x → Gives m (sync_found m index.now x) c (K.keeping keeper.old) (K.keeping keeper.new) result }
-    ensures tells { Returns call_done (K.keeping keeper.old) (K.keeping keeper.new) result }
+    requires named { name.now ≡ first_name args.now }
+    ensures plan { Plans K.keeping keeper.old result (λ m. sync_effect m args.now) call_done }
+    ensures reads { OnlyReads K.keeping keeper.old keeper.new result }
 {
-    let Some(batch) = synced(alloc, keeper, index)? else {
-        return Ok(fault_line(alloc, Fault::LimitReached)?);
+    let there = has_named(alloc, keeper, name)?;
+    if let Some(fault) = sync_fault(unknown_name(there, name), args) {
+        return Ok(Plan::Refused(fault));
+    }
+    let Some(index) = name else {
+        return Ok(Plan::Refused(Fault::BadValue));
     };
-    let reply = fixed_reply(alloc, b"PL/SQL procedure successfully completed.\n")?;
-    commit(alloc, keeper, batch, reply)
+    let found = synced(alloc, keeper, index)?;
+    let Some(batch) = found else {
+        return Ok(Plan::Refused(Fault::LimitReached));
+    };
+    Ok(Plan::Done(batch))
 }
 
 /// CTX_DDL.SYNC_INDEX: each row that waits becomes a document of the index. Its cost is what their texts hold, times a
@@ -195,19 +202,17 @@ pub(crate) fn sync_index<K: Keeper>(
     args: &[Arg],
 ) -> Result<Vec<u8>, KeepFault>
     requires ready { (K.keeping keeper.old).ready }
-    requires takes { TakesAll (K.keeping keeper.old).well }
-    ensures kept { Kept (K.keeping keeper.old) (K.keeping keeper.new) (fault_of result) }
-    ensures fulls { (K.keeping keeper.new).counts.fulls ≡ counted (is_full (fault_of result)) (K.keeping keeper.old).counts.fulls }
-    ensures gives { (m : State) (c : Content) → (K.keeping keeper.old).content ≡ Some c → Stands c m → Gives m (sync_effect m args.now) c (K.keeping keeper.old) (K.keeping keeper.new) result }
-    ensures tells { Returns call_done (K.keeping keeper.old) (K.keeping keeper.new) result }
+    requires takes { TakesAll (K.keeping keeper.old).fixed.well }
+    ensures { Serves (λ m. sync_effect m args.now) (Some call_done) (K.keeping keeper.old) (K.keeping keeper.new) result }
 {
     let name = name_arg(alloc, args)?;
-    let there = has_named(alloc, keeper, &name)?;
-    if let Some(fault) = sync_fault(unknown_name(there, &name), args) {
-        return Ok(fault_line(alloc, fault)?);
+    match sync_plan(alloc, keeper, &name, args) {
+        Ok(plan) => carry_out(
+            alloc,
+            keeper,
+            plan,
+            b"PL/SQL procedure successfully completed.\n",
+        ),
+        Err(fault) => Err(fault),
     }
-    let Some(index) = name else {
-        return Ok(fault_line(alloc, Fault::BadValue)?);
-    };
-    commit_sync(alloc, keeper, &index)
 }

@@ -3,8 +3,8 @@
 
 ghost use Rattle.std.specs.Prelude.{◌≡◌, ◌∷◌, [], IfOk, OnOk, Some, Err, map};
 ghost use Rattle.ct_keep.specs.Content.{Content};
-ghost use Rattle.ct_keep.specs.Keeping.{Reads, fault_of};
-ghost use Rattle.ct_keep.specs.Looks.{scan_looks, raised, RisesBy};
+ghost use Rattle.ct_keep.specs.Keeping.{Finds, OnlyReads, Told};
+ghost use Rattle.ct_keep.specs.Looks.{scan_looks, LooksAtMost};
 ghost use Rattle.ct_entry.specs.declared.kinds.Kind.TheVariants as entry;
 ghost use Rattle.ct_entry.specs.Kinds.{code};
 ghost use Rattle.ct_entry.specs.Keys.{at};
@@ -49,11 +49,9 @@ pub fn index_on<K: Keeper>(
     kind: IndexKind,
 ) -> Result<Option<Name>, KeepFault>
     requires { (K.keeping keeper.old).ready }
-    ensures value { (m : Content) → (K.keeping keeper.old).content ≡ Some m → IfOk result (λ found. IsIndexOn (at m) target.now kind found) }
-    ensures reads { Reads (K.keeping keeper.old) (K.keeping keeper.new) (fault_of result) }
-    ensures counts { (m : Content) → (K.keeping keeper.old).content ≡ Some m → OnOk result ((K.keeping keeper.new).counts ≡ raised (scan_looks (code entry.Indexes ∷ []) m) (K.keeping keeper.old).counts) }
-    ensures at_most { (m : Content) → (K.keeping keeper.old).content ≡ Some m → RisesBy (scan_looks (code entry.Indexes ∷ []) m) (K.keeping keeper.old).counts (K.keeping keeper.new).counts }
-    ensures never_full { result ≡ Err KeepFault.Full → ⊥ }
+    ensures value { Finds K.keeping keeper.old result (λ m found. IsIndexOn (at m) target.now kind found) }
+    ensures reads { OnlyReads K.keeping keeper.old keeper.new result }
+    ensures at_most { Told K.keeping keeper.old (λ m. LooksAtMost K.keeping keeper.old keeper.new (scan_looks (code entry.Indexes ∷ []) m)) }
 {
     let found = scan(alloc, keeper, &[Kind::Indexes.code()])?;
     let first = first_on(alloc, &found, target, kind)?;
@@ -87,11 +85,9 @@ pub fn indexes_of<K: Keeper>(
     table: &Name,
 ) -> Result<Vec<(Name, IndexHead)>, KeepFault>
     requires { (K.keeping keeper.old).ready }
-    ensures value { (m : Content) → (K.keeping keeper.old).content ≡ Some m → IfOk result (λ found. AreIndexesOf (at m) table.now found.items) }
-    ensures reads { Reads (K.keeping keeper.old) (K.keeping keeper.new) (fault_of result) }
-    ensures counts { (m : Content) → (K.keeping keeper.old).content ≡ Some m → OnOk result ((K.keeping keeper.new).counts ≡ raised (scan_looks (code entry.Indexes ∷ []) m) (K.keeping keeper.old).counts) }
-    ensures at_most { (m : Content) → (K.keeping keeper.old).content ≡ Some m → RisesBy (scan_looks (code entry.Indexes ∷ []) m) (K.keeping keeper.old).counts (K.keeping keeper.new).counts }
-    ensures never_full { result ≡ Err KeepFault.Full → ⊥ }
+    ensures value { Finds K.keeping keeper.old result (λ m found. AreIndexesOf (at m) table.now found.items) }
+    ensures reads { OnlyReads K.keeping keeper.old keeper.new result }
+    ensures at_most { Told K.keeping keeper.old (λ m. LooksAtMost K.keeping keeper.old keeper.new (scan_looks (code entry.Indexes ∷ []) m)) }
 {
     let found = scan(alloc, keeper, &[Kind::Indexes.code()])?;
     let pairs = pairs_among(alloc, &found, table)?;

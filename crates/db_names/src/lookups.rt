@@ -3,8 +3,8 @@
 
 ghost use Rattle.std.specs.Prelude.{◌≡◌, IfOk, OnOk, Some, None, Err, []};
 ghost use Rattle.ct_keep.specs.Content.{Content};
-ghost use Rattle.ct_keep.specs.Keeping.{Reads, fault_of};
-ghost use Rattle.ct_keep.specs.Looks.{look, raised, RisesBy};
+ghost use Rattle.ct_keep.specs.Keeping.{Finds, OnlyReads};
+ghost use Rattle.ct_keep.specs.Looks.{look, LooksAtMost};
 ghost use Rattle.ct_entry.specs.declared.kinds.Kind.TheVariants as entry;
 ghost use Rattle.ct_entry.specs.Keys.{key, bytes, at};
 ghost use Rattle.db_names.specs.Heads.{SpellsHead};
@@ -25,11 +25,9 @@ pub fn index_of<K: Keeper>(
     index: &Name,
 ) -> Result<Option<IndexHead>, KeepFault>
     requires { (K.keeping keeper.old).ready }
-    ensures value { (m : Content) → (K.keeping keeper.old).content ≡ Some m → IfOk result (λ found. SpellsHead (at m (key entry.Indexes index.now [])) found) }
-    ensures reads { Reads (K.keeping keeper.old) (K.keeping keeper.new) (fault_of result) }
-    ensures counts { OnOk result ((K.keeping keeper.new).counts ≡ raised (look (bytes (key entry.Indexes index.now [])) None) (K.keeping keeper.old).counts) }
-    ensures at_most { RisesBy (look (bytes (key entry.Indexes index.now [])) None) (K.keeping keeper.old).counts (K.keeping keeper.new).counts }
-    ensures never_full { result ≡ Err KeepFault.Full → ⊥ }
+    ensures value { Finds K.keeping keeper.old result (λ m found. SpellsHead (at m (key entry.Indexes index.now [])) found) }
+    ensures reads { OnlyReads K.keeping keeper.old keeper.new result }
+    ensures at_most { LooksAtMost K.keeping keeper.old keeper.new (look (bytes (key entry.Indexes index.now [])) None) }
 {
     let Some(value) = fetch_entry(alloc, keeper, Kind::Indexes, index, &[])? else {
         return Ok(None);

@@ -15,8 +15,6 @@ use Rattle.ix_context.specs.Postings.{postings_of, fox_and_quick}
 use Rattle.ix_context.specs.Indexes.{Index, pending_rows, text_seen, synced_index, created, rows_in}
 use Rattle.ix_context.specs.Spelling.{index_bytes, index_entry}
 use Rattle.std.proofs.Common.{ap}
-use Rattle.std.specs.Str.{chars}
-use lib.Utf8.{encode}
 use Rattle.ct_bytes.specs.Varints.{varint}
 
 -- a row that is new in an index waits

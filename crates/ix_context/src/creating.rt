@@ -3,7 +3,7 @@
 
 ghost use Rattle.std.specs.Prelude.{◌≡◌, ◌+◌, ◌≤◌, ◌<◌, ◌^◌, ◌++◌, IfOk, OnOk, OnErr, Some, Err, MatchOption, filter, length, map};
 ghost use Rattle.ct_keep.specs.Content.{Content};
-ghost use Rattle.ct_keep.specs.Keeping.{Reads, fault_of};
+ghost use Rattle.ct_keep.specs.Keeping.{OnlyReads, Reads};
 ghost use Rattle.ct_entry.specs.Each.{each};
 ghost use Rattle.ct_entry.specs.Words.{spell};
 ghost use Rattle.tb_table.specs.Tables.{Tables};
@@ -45,8 +45,7 @@ fn rows_of<K: Keeper>(
 ) -> Result<Vec<RowKey>, KeepFault>
     requires { (K.keeping keeper.old).ready }
     ensures rows { (m : Content) (ts : Tables) → (K.keeping keeper.old).content ≡ Some m → HoldsTables m ts → IfOk result (λ rows. map (λ r. r.0) rows.items ≡ rows_in ts table.now range) }
-    ensures reads { Reads (K.keeping keeper.old) (K.keeping keeper.new) (fault_of result) }
-    ensures never_full { result ≡ Err KeepFault.Full → ⊥ }
+    ensures reads { OnlyReads K.keeping keeper.old keeper.new result }
 {
     let rows = row_keys(alloc, keeper, Kind::RowNumbers, table)?;
     let kept = rows_within(alloc, &rows, range)?;
@@ -65,8 +64,7 @@ fn mark_rows<K: Keeper>(
     requires ready { (K.keeping keeper.old).ready }
     requires room { 1 + length rows.now < 2 ^ 32 }
     ensures words { (m : Content) (ts : Tables) → (K.keeping keeper.old).content ≡ Some m → HoldsTables m ts → OnOk result (words.new ≡ words.old ++ spell (each (mark_with index.now (target_text ts target.now)) (numbered 1 (map (λ r. r.0) rows.now)))) }
-    ensures reads { Reads (K.keeping keeper.old) (K.keeping keeper.new) (fault_of result) }
-    ensures never_full { result ≡ Err KeepFault.Full → ⊥ }
+    ensures reads { OnlyReads K.keeping keeper.old keeper.new result }
 {
     let mut document = 1;
     for row in rows {
@@ -86,8 +84,7 @@ fn words_of_create<K: Keeper>(
 ) -> Result<Option<Batch>, KeepFault>
     requires { (K.keeping keeper.old).ready }
     ensures words { (m : Content) (ts : Tables) → (K.keeping keeper.old).content ≡ Some m → HoldsTables m ts → IfOk result (λ words. MatchOption words (most_given < length (rows_in ts target.now.table range)) (λ ws. (length (rows_in ts target.now.table range) ≤ most_given) × (ws ≡ spell (create_words ts index.now target.now range)))) }
-    ensures reads { Reads (K.keeping keeper.old) (K.keeping keeper.new) (fault_of result) }
-    ensures never_full { result ≡ Err KeepFault.Full → ⊥ }
+    ensures reads { OnlyReads K.keeping keeper.old keeper.new result }
 {
     let rows = rows_of(alloc, keeper, &target.table, range)?;
     let Some(next) = number_behind(1, rows.len()) else {

@@ -4,8 +4,8 @@
 ghost use Rattle.std.specs.Prelude.{◌≡◌, ◌++◌, [], ◌∷◌, IfOk, OnOk, OnErr, Some, None, Err};
 ghost use Rattle.std.specs.Option.{option_map};
 ghost use Rattle.ct_keep.specs.Content.{Content};
-ghost use Rattle.ct_keep.specs.Keeping.{Reads, fault_of};
-ghost use Rattle.ct_keep.specs.Looks.{look, raised, RisesBy};
+ghost use Rattle.ct_keep.specs.Keeping.{Finds, OnlyReads};
+ghost use Rattle.ct_keep.specs.Looks.{look, LooksAtMost};
 ghost use Rattle.ct_entry.specs.declared.kinds.Kind.TheVariants as kind;
 ghost use Rattle.ct_entry.specs.Keys.{key, bytes, at};
 ghost use Rattle.ct_entry.specs.Words.{spell, put};
@@ -84,11 +84,9 @@ pub(crate) fn read_index<K: Keeper>(
     index: &Name,
 ) -> Result<Option<(Target, u32)>, KeepFault>
     requires { (K.keeping keeper.old).ready }
-    ensures value { (m : Content) → (K.keeping keeper.old).content ≡ Some m → IfOk result (λ found. SpellsIndex (at m (key kind.Indexes index.now [])) found) }
-    ensures reads { Reads (K.keeping keeper.old) (K.keeping keeper.new) (fault_of result) }
-    ensures counts { OnOk result ((K.keeping keeper.new).counts ≡ raised (look (bytes (key kind.Indexes index.now [])) None) (K.keeping keeper.old).counts) }
-    ensures at_most { RisesBy (look (bytes (key kind.Indexes index.now [])) None) (K.keeping keeper.old).counts (K.keeping keeper.new).counts }
-    ensures never_full { result ≡ Err KeepFault.Full → ⊥ }
+    ensures value { Finds K.keeping keeper.old result (λ m found. SpellsIndex (at m (key kind.Indexes index.now [])) found) }
+    ensures reads { OnlyReads K.keeping keeper.old keeper.new result }
+    ensures at_most { LooksAtMost K.keeping keeper.old keeper.new (look (bytes (key kind.Indexes index.now [])) None) }
 {
     let Some(value) = fetch_entry(alloc, keeper, Kind::Indexes, index, &[])? else {
         return Ok(None);

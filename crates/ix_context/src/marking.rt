@@ -3,7 +3,7 @@
 
 ghost use Rattle.std.specs.Prelude.{◌≡◌, ◌+◌, ◌<◌, ◌≤◌, ◌^◌, ◌++◌, ◌∷◌, [], All, IfOk, OnOk, Some, Err, MatchOption, length, map};
 ghost use Rattle.ct_keep.specs.Content.{Content};
-ghost use Rattle.ct_keep.specs.Keeping.{Reads, fault_of};
+ghost use Rattle.ct_keep.specs.Keeping.{OnlyReads};
 ghost use Rattle.ct_entry.specs.Keys.{posting_part};
 ghost use Rattle.ct_entry.specs.Words.{spell};
 ghost use Rattle.ix_posting.specs.Rows.{IsRow, row_bytes as posting_bytes};
@@ -168,8 +168,7 @@ fn seen_text<K: Keeper>(
     requires { (K.keeping keeper.old).ready }
     ensures text { (m : Content) (ts : Tables) → (K.keeping keeper.old).content ≡ Some m → HoldsTables m ts → IfOk result (λ text. text ≡ target_text ts target.now row.0) }
     ensures short { IfOk result (λ text. HasShortText text) }
-    ensures reads { Reads (K.keeping keeper.old) (K.keeping keeper.new) (fault_of result) }
-    ensures never_full { result ≡ Err KeepFault.Full → ⊥ }
+    ensures reads { OnlyReads K.keeping keeper.old keeper.new result }
 {
     let text = text_of(alloc, keeper, &target.table, target.column, row)?;
     Ok(if_short(text))
@@ -188,8 +187,7 @@ pub(crate) fn mark_next<K: Keeper>(
     requires ready { (K.keeping keeper.old).ready }
     requires some { 1 ≤ document }
     ensures words { (m : Content) (ts : Tables) → (K.keeping keeper.old).content ≡ Some m → HoldsTables m ts → OnOk result (words.new ≡ words.old ++ spell (document_words index.now document row.0 (target_text ts target.now row.0))) }
-    ensures reads { Reads (K.keeping keeper.old) (K.keeping keeper.new) (fault_of result) }
-    ensures never_full { result ≡ Err KeepFault.Full → ⊥ }
+    ensures reads { OnlyReads K.keeping keeper.old keeper.new result }
 {
     let text = seen_text(alloc, keeper, target, row)?;
     mark_row(alloc, words, index, document, row, text)?;

@@ -4,8 +4,8 @@
 ghost use Rattle.std.specs.Prelude.{◌≡◌, ◌++◌, ◌<◌, ◌∷◌, List, IfOk, OnOk, Some, Err, map, length, MatchOption};
 ghost use Rattle.std.specs.Option.{option_map};
 ghost use Rattle.ct_keep.specs.Content.{Content};
-ghost use Rattle.ct_keep.specs.Keeping.{Reads, fault_of};
-ghost use Rattle.ct_keep.specs.Looks.{no_looks, scan_looks, RisesBy};
+ghost use Rattle.ct_keep.specs.Keeping.{Finds, OnlyReads, Told};
+ghost use Rattle.ct_keep.specs.Looks.{no_looks, scan_looks, LooksAtMost};
 ghost use Rattle.ct_entry.specs.Keys.{at, prefix_of, IsToken, HasKeysOnly};
 ghost use Rattle.std.specs.FinMap.{get, empty};
 ghost use Rattle.ct_entry.specs.declared.kinds.Kind.TheVariants as kind;
@@ -35,10 +35,9 @@ fn row_of_document<K: Keeper>(
     document: u32,
 ) -> Result<Option<RowKey>, KeepFault>
     requires { (K.keeping keeper.old).ready }
-    ensures row { (m : Content) → (K.keeping keeper.old).content ≡ Some m → IfOk result (λ row. option_map (λ r. r.0) row ≡ document_row (at m) index.now document) }
-    ensures reads { Reads (K.keeping keeper.old) (K.keeping keeper.new) (fault_of result) }
-    ensures at_most { RisesBy no_looks (K.keeping keeper.old).counts (K.keeping keeper.new).counts }
-    ensures never_full { result ≡ Err KeepFault.Full → ⊥ }
+    ensures row { Finds K.keeping keeper.old result (λ m row. option_map (λ r. r.0) row ≡ document_row (at m) index.now document) }
+    ensures reads { OnlyReads K.keeping keeper.old keeper.new result }
+    ensures at_most { LooksAtMost K.keeping keeper.old keeper.new no_looks }
 {
     let part = document.to_be_bytes();
     let Some(value) = fetch_entry(alloc, keeper, Kind::DocumentRows, index, &part)? else {
@@ -57,9 +56,8 @@ fn score_documents<K: Keeper>(
 ) -> Result<(), KeepFault>
     requires { (K.keeping keeper.old).ready }
     ensures scores { (m : Content) → (K.keeping keeper.old).content ≡ Some m → OnOk result (scores.new ≡ with_documents (at m) index.now documents.now scores.old) }
-    ensures reads { Reads (K.keeping keeper.old) (K.keeping keeper.new) (fault_of result) }
-    ensures at_most { RisesBy no_looks (K.keeping keeper.old).counts (K.keeping keeper.new).counts }
-    ensures never_full { result ≡ Err KeepFault.Full → ⊥ }
+    ensures reads { OnlyReads K.keeping keeper.old keeper.new result }
+    ensures at_most { LooksAtMost K.keeping keeper.old keeper.new no_looks }
 {
     for found in documents {
         if let Some(row) = row_of_document(alloc, keeper, index, found.document)? {
@@ -80,9 +78,8 @@ fn score_row<K: Keeper>(
 ) -> Result<(), KeepFault>
     requires { (K.keeping keeper.old).ready }
     ensures scores { (m : Content) (row : List RowDocument) → (K.keeping keeper.old).content ≡ Some m → IsRow row → row_bytes row ≡ value.now → OnOk result (scores.new ≡ with_documents (at m) index.now row scores.old) }
-    ensures reads { Reads (K.keeping keeper.old) (K.keeping keeper.new) (fault_of result) }
-    ensures at_most { RisesBy no_looks (K.keeping keeper.old).counts (K.keeping keeper.new).counts }
-    ensures never_full { result ≡ Err KeepFault.Full → ⊥ }
+    ensures reads { OnlyReads K.keeping keeper.old keeper.new result }
+    ensures at_most { LooksAtMost K.keeping keeper.old keeper.new no_looks }
 {
     match Row::decode(alloc, value) {
         Ok(row) => score_documents(alloc, keeper, index, scores, row.documents()),
@@ -100,9 +97,8 @@ fn scores_of<K: Keeper>(
 ) -> Result<Scores, KeepFault>
     requires { (K.keeping keeper.old).ready }
     ensures scores { (m : Content) (held : List (List RowDocument)) → (K.keeping keeper.old).content ≡ Some m → HoldRows (map (λ e. (e.0.items, e.1.items)) rows.now) held → IfOk result (λ scores. scores ≡ with_postings (at m) index.now held empty) }
-    ensures reads { Reads (K.keeping keeper.old) (K.keeping keeper.new) (fault_of result) }
-    ensures at_most { RisesBy no_looks (K.keeping keeper.old).counts (K.keeping keeper.new).counts }
-    ensures never_full { result ≡ Err KeepFault.Full → ⊥ }
+    ensures reads { OnlyReads K.keeping keeper.old keeper.new result }
+    ensures at_most { LooksAtMost K.keeping keeper.old keeper.new no_looks }
 {
     let mut scores = Scores::new(alloc);
     for (_, value) in rows {
@@ -140,9 +136,8 @@ pub fn search<K: Keeper>(
 ) -> Result<Vec<Hit>, KeepFault>
     requires { (K.keeping keeper.old).ready }
     ensures found { (m : Content) (ts : Tables) (xs : Names Index) (x : Index) → (K.keeping keeper.old).content ≡ Some m → HasKeysOnly m → IndexesStand (at m) ts xs → get xs index.now ≡ Some x → IsWithinLimits ts x → IfOk result (λ hits. map (λ h. (h.key.0, h.score)) hits.items ≡ found ts x word.now 0) }
-    ensures reads { Reads (K.keeping keeper.old) (K.keeping keeper.new) (fault_of result) }
-    ensures at_most { (m : Content) → (K.keeping keeper.old).content ≡ Some m → RisesBy (scan_looks (prefix_of kind.Postings index.now ++ 0 ∷ length word.now ∷ word.now) m) (K.keeping keeper.old).counts (K.keeping keeper.new).counts }
-    ensures never_full { result ≡ Err KeepFault.Full → ⊥ }
+    ensures reads { OnlyReads K.keeping keeper.old keeper.new result }
+    ensures at_most { Told K.keeping keeper.old (λ m. LooksAtMost K.keeping keeper.old keeper.new (scan_looks (prefix_of kind.Postings index.now ++ 0 ∷ length word.now ∷ word.now) m)) }
 {
     let Some(front) = front_of(alloc, word)? else {
         return Ok(Vec::new(alloc));

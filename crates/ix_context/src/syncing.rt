@@ -5,7 +5,7 @@ ghost use Rattle.std.specs.Prelude.{◌≡◌, ◌+◌, ◌≤◌, ◌<◌, ◌^
 ghost use Rattle.std.specs.Option.{option_map};
 ghost use Rattle.std.specs.FinMap.{get};
 ghost use Rattle.ct_keep.specs.Content.{Content};
-ghost use Rattle.ct_keep.specs.Keeping.{Reads, fault_of};
+ghost use Rattle.ct_keep.specs.Keeping.{OnlyReads, Reads};
 ghost use Rattle.ct_entry.specs.Each.{each};
 ghost use Rattle.ct_entry.specs.Maps.{Names};
 ghost use Rattle.ct_entry.specs.Words.{spell};
@@ -39,8 +39,7 @@ fn settle_row<K: Keeper>(
     requires ready { (K.keeping keeper.old).ready }
     requires some { 1 ≤ document }
     ensures words { (m : Content) (ts : Tables) → (K.keeping keeper.old).content ≡ Some m → HoldsTables m ts → OnOk result (words.new ≡ words.old ++ spell (settle_with index.now (target_text ts target.now) (document, row.0))) }
-    ensures reads { Reads (K.keeping keeper.old) (K.keeping keeper.new) (fault_of result) }
-    ensures never_full { result ≡ Err KeepFault.Full → ⊥ }
+    ensures reads { OnlyReads K.keeping keeper.old keeper.new result }
 {
     let part = row_key_bytes(row);
     remove_entry(alloc, words, Kind::Pending, index, &part)?;
@@ -61,8 +60,7 @@ fn settle_rows<K: Keeper>(
     requires some { 1 ≤ first }
     requires room { first + length rows.now < 2 ^ 32 }
     ensures words { (m : Content) (ts : Tables) → (K.keeping keeper.old).content ≡ Some m → HoldsTables m ts → OnOk result (words.new ≡ words.old ++ spell (each (settle_with index.now (target_text ts target.now)) (numbered first (map (λ r. r.0) rows.now)))) }
-    ensures reads { Reads (K.keeping keeper.old) (K.keeping keeper.new) (fault_of result) }
-    ensures never_full { result ≡ Err KeepFault.Full → ⊥ }
+    ensures reads { OnlyReads K.keeping keeper.old keeper.new result }
 {
     let mut document = first;
     for row in rows {
@@ -85,8 +83,7 @@ fn settled_words<K: Keeper>(
     requires ready { (K.keeping keeper.old).ready }
     requires some { 1 ≤ first }
     ensures words { (m : Content) (ts : Tables) → (K.keeping keeper.old).content ≡ Some m → HoldsTables m ts → IfOk result (λ words. MatchOption words (2 ^ 32 ≤ first + length rows.now) (λ ws. (first + length rows.now < 2 ^ 32) × (ws ≡ spell (settled_with index.now target.now (target_text ts target.now) first (map (λ r. r.0) rows.now))))) }
-    ensures reads { Reads (K.keeping keeper.old) (K.keeping keeper.new) (fault_of result) }
-    ensures never_full { result ≡ Err KeepFault.Full → ⊥ }
+    ensures reads { OnlyReads K.keeping keeper.old keeper.new result }
 {
     let mut words = Batch::new(alloc);
     if rows.is_empty() {
@@ -109,8 +106,7 @@ fn words_of_sync<K: Keeper>(
 ) -> Result<Option<Batch>, KeepFault>
     requires { (K.keeping keeper.old).ready }
     ensures words { (m : Content) (ts : Tables) (xs : Names Index) (x : Index) → (K.keeping keeper.old).content ≡ Some m → HoldsIndexes m ts xs → get xs index.now ≡ Some x → IfOk result (λ words. MatchOption words (most_given < x.given + length (pending_rows x)) (λ ws. (x.given + length (pending_rows x) ≤ most_given) × (ws ≡ spell (sync_words ts index.now x)))) }
-    ensures reads { Reads (K.keeping keeper.old) (K.keeping keeper.new) (fault_of result) }
-    ensures never_full { result ≡ Err KeepFault.Full → ⊥ }
+    ensures reads { OnlyReads K.keeping keeper.old keeper.new result }
 {
     let Some((target, next)) = read_index(alloc, keeper, index)? else {
         return Ok(Some(Batch::new(alloc)));

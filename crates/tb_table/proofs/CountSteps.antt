@@ -1,7 +1,6 @@
 -- The steps of counting a table's rows, where each of its entries is that of a row.
-use Rattle.std.proofs.Common.{◌≡◌, ℕ, ℤ, pos, negsuc, suc, ◌+◌, ◌-◌, ◌^◌, ◌<◌, ◌≤◌, Bool, true, false, cond, List, [], ◌∷◌, ◌++◌, length, Option, Some, None, Result, Ok, Err, refl, sym, ap, ◌∙◌, subst, arith, inl, inr}
-use Rattle.std.specs.Prelude.{◌↔◌, IsTrue, IfOk, OnOk, OnSome, is_some, is_none, not}
-use Rattle.std.specs.Bool.{if◌then◌else◌}
+use Rattle.std.proofs.Common.{◌≡◌, ℕ, ℤ, pos, negsuc, suc, ◌+◌, ◌-◌, ◌^◌, ◌<◌, ◌≤◌, Bool, true, false, cond, List, [], ◌∷◌, length, Option, Some, None, Result, Ok, Err, refl, sym, ap, ◌∙◌, subst, arith, inl, inr}
+use Rattle.std.specs.Prelude.{◌↔◌, IsTrue, IfOk, is_some, not}
 use Rattle.std.specs.Option.{option_map, option_and_then}
 use Rattle.std.specs.List.{cons_option}
 use Rattle.std.specs.Ordering.{nat_cmp, is_lt}
@@ -14,8 +13,6 @@ use Rattle.ct_bytes.specs.RowKeys.{raised as raised_key, row_bytes}
 use Rattle.ct_bytes.specs.ByteOrder.{nat_cmp_less, eight_bytes_in_order}
 use Rattle.ct_keep.specs.declared.keepers.KeepFault.{KeepFault}
 use Rattle.ct_keep.specs.Content.{Content, entries_above, first_entry}
-use Rattle.ct_keep.specs.Keeping.{Counts}
-use Rattle.ct_keep.specs.Looks.{no_looks, next_looks, scan_looks, raised, RisesBy}
 use Rattle.ct_keep.specs.Rising.{Entry, above, less as is_less, first_then, none_then, lt_from_less}
 use Rattle.ct_keep.specs.RisingKeys.{and_true, below, rises, entries_rise}
 use Rattle.ct_keep.specs.Tail.{tail}
@@ -27,7 +24,6 @@ use Rattle.ct_entry.specs.Rising.{AllKeys, all_keys}
 use Rattle.ct_entry.specs.Listings.{row_of, rows_of, rows_under, place_after, row_after}
 use Rattle.ct_entry.specs.RowLaws.{row_of-row_part}
 use Rattle.tb_table.specs.RowCounts.{rows_behind}
-use Rattle.tb_table.proofs.LookSteps.{next_adds_nothing, last_adds_scan}
 
 -- ---- each rest is that of a row
 
@@ -102,45 +98,6 @@ none_behind t m after only is = ap rows_of (none_then (tail (prefix_of kind.RowN
 -- all rows are behind none
 pub all_behind : (t : List ℕ) (m : Content) → rows_behind None t m ≡ rows_under kind.RowNumbers t m
 all_behind t m = ap rows_of (entries_above-tail_nil (prefix_of kind.RowNumbers t) m)
-
--- ---- what a step adds to the counts
-
-some_first : (after : Option ℤ) (t : List ℕ) (m : Content) (next : ℤ) → row_after after kind.RowNumbers t m ≡ Some next → next_looks (prefix_of kind.RowNumbers t ++ place_after after) m ≡ no_looks
-some_first after t m next is = go (first_entry (entries_above (place_after after) (tail (prefix_of kind.RowNumbers t) m))) refl is
-  where
-    go : (o : Option Entry) → first_entry (entries_above (place_after after) (tail (prefix_of kind.RowNumbers t) m)) ≡ o → option_and_then (λ e. row_of e.0) o ≡ Some next → next_looks (prefix_of kind.RowNumbers t ++ place_after after) m ≡ no_looks
-    go None first found = cc
-    go (Some e) first found = next_adds_nothing (prefix_of kind.RowNumbers t) (place_after after) m e refl first
-
-abbrev Row : Type 0
-Row = Result (Option RowKey) KeepFault
-
-abbrev IsNext : List ℕ → Content → Option ℤ → Row → Type 0
-IsNext t m after r = IfOk r (λ row. option_map (λ x. x.0) row ≡ row_after after kind.RowNumbers t m)
-
-abbrev Adds : List ℕ → Content → Option ℤ → Row → Counts → Counts → Type 0
-Adds t m after r old new = OnOk r (new ≡ raised (next_looks (prefix_of kind.RowNumbers t ++ place_after after) m) old)
-
-pub step_same : (t : List ℕ) (m : Content) (after : Option ℤ) (r : Row) (old new : Counts) → IsNext t m after r → Adds t m after r old new → IfOk r (λ row. OnSome row (new ≡ old))
-step_same t m after (Err fault) old new next adds = tt
-step_same t m after (Ok None) old new next adds = tt
-step_same t m after (Ok (Some row)) old new next adds = adds ∙ ap (λ (c : Counts). raised c old) (some_first after t m row.0 (sym next))
-
-pub step_counts : (t : List ℕ) (m : Content) (after : Option ℤ) (r : Row) (old new : Counts) → HasKeysOnly m → IsNext t m after r → Adds t m after r old new
-    → IfOk r (λ row. new ≡ (if is_none row then raised (scan_looks (prefix_of kind.RowNumbers t) m) old else old))
-step_counts t m after (Err fault) old new only next adds = tt
-step_counts t m after (Ok None) old new only next adds =
-    adds ∙ ap (λ (c : Counts). raised c old) (last_adds_scan (prefix_of kind.RowNumbers t) (place_after after) m refl (step_none t m after only (sym next)))
-step_counts t m after (Ok (Some row)) old new only next adds = adds ∙ ap (λ (c : Counts). raised c old) (some_first after t m row.0 (sym next))
-
-pub step_rises : (t : List ℕ) (m : Content) (after : Option ℤ) (old new : Counts) → RisesBy (next_looks (prefix_of kind.RowNumbers t ++ place_after after) m) old new → RisesBy (scan_looks (prefix_of kind.RowNumbers t) m) old new
-step_rises t m after old new rises = go (first_entry (entries_above (place_after after) (tail (prefix_of kind.RowNumbers t) m))) refl
-  where
-    go : (o : Option Entry) → first_entry (entries_above (place_after after) (tail (prefix_of kind.RowNumbers t) m)) ≡ o → RisesBy (scan_looks (prefix_of kind.RowNumbers t) m) old new
-    go None first = subst (λ (c : Counts). RisesBy c old new) (last_adds_scan (prefix_of kind.RowNumbers t) (place_after after) m refl first) rises
-    go (Some e) first =
-        let none : RisesBy no_looks old new = subst (λ (c : Counts). RisesBy c old new) (next_adds_nothing (prefix_of kind.RowNumbers t) (place_after after) m e refl first) rises in
-        record { texts = omega (arith, none.texts); rows = omega (arith, none.rows); rules = omega (arith, none.rules) }
 
 -- ---- keys in a row
 
@@ -237,8 +194,8 @@ few_in_none t m most only none =
     few_none 0 (length (rows_under kind.RowNumbers t m)) most (rows_under kind.RowNumbers t m) (omega arith) (sym (all_behind t m) ∙ none_behind t m None only none) (omega arith)
 
 -- the rows behind the first are one less
-pub behind_first : (t : List ℕ) (m : Content) (first : ℤ) → HasKeysOnly m → row_after None kind.RowNumbers t m ≡ Some first → length (rows_under kind.RowNumbers t m) ≡ length (rows_behind (Some first) t m) + 1
-behind_first t m first only is =
+pub behind_first : (t : List ℕ) (m : Content) (first : ℤ) → row_after None kind.RowNumbers t m ≡ Some first → HasKeysOnly m → length (rows_under kind.RowNumbers t m) ≡ length (rows_behind (Some first) t m) + 1
+behind_first t m first is only =
     ap length (sym (all_behind t m) ∙ (step_some t m None first only is).rows) ∙ (let n : suc (length (rows_behind (Some first) t m)) ≡ length (rows_behind (Some first) t m) + 1 = omega arith in n)
 
 -- one row where none may be
@@ -250,6 +207,6 @@ pub none_from : (o : Option RowKey) (x : Option ℤ) (b : Bool) → is_some o �
 none_from None x b is none e = sym e
 none_from (Some row) x b is none e = cc
 
-pub few_more : (r : Result Bool KeepFault) (n all most : ℕ) → all ≡ n + 1 → 0 < most → IfOk r (λ few. IsTrue few ↔ (n ≤ most - 1)) → IfOk r (λ few. IsTrue few ↔ (all ≤ most))
-few_more (Err fault) n all most e some h = tt
-few_more (Ok b) n all most e some h = (λ t. let l = h.0 t in omega (arith, l), λ l. h.1 (omega (arith, l)))
+pub few_more : (only : Type 0) (r : Result Bool KeepFault) (n all most : ℕ) → (only → all ≡ n + 1) → 0 < most → IfOk r (λ few. only → IsTrue few ↔ (n ≤ most - 1)) → IfOk r (λ few. only → IsTrue few ↔ (all ≤ most))
+few_more only (Err fault) n all most e some h = tt
+few_more only (Ok b) n all most e some h = λ o. let more = e o in let few = h o in (λ t. let l = few.0 t in omega (arith, more, l), λ l. few.1 (omega (arith, more, l)))

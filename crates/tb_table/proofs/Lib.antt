@@ -3,5 +3,4 @@ pub mod ColumnSteps
 pub mod NumberSteps
 pub mod NameSteps
 pub mod TestWords
-pub mod LookSteps
 pub mod CountSteps

@@ -1,17 +1,13 @@
 //! What tables there are, and the rows of a table.
 #![tactic(auto, using(ct_keep::specs::Composing::reads_short))]
 
-ghost use Rattle.std.specs.Prelude.{◌≡◌, ◌++◌, ◌∷◌, [], IfOk, OnOk, Some, Err, IsPermutation, IsSorted};
+ghost use Rattle.std.specs.Prelude.{◌≡◌, OnOk, IsPermutation, IsSorted};
 ghost use Rattle.std.specs.Option.{option_map};
 ghost use Rattle.std.specs.Ordering.{nat_cmp};
 ghost use Rattle.std.specs.Cmp.Lexicographic.{slice_cmp};
-ghost use Rattle.ct_keep.specs.Content.{Content};
-ghost use Rattle.ct_keep.specs.Keeping.{Reads, fault_of};
-ghost use Rattle.ct_keep.specs.Looks.{next_looks, scan_looks, raised, RisesBy};
+ghost use Rattle.ct_keep.specs.Keeping.{Finds, OnlyReads};
 ghost use Rattle.ct_entry.specs.declared.kinds.Kind.TheVariants as kind;
-ghost use Rattle.ct_entry.specs.Kinds.{code};
-ghost use Rattle.ct_entry.specs.Keys.{prefix_of};
-ghost use Rattle.ct_entry.specs.Listings.{place_after, row_after};
+ghost use Rattle.ct_entry.specs.Listings.{row_after};
 ghost use Rattle.tb_table.specs.Readings.{AreTableNames};
 
 use ct_base::{Memory, Name, RowKey};
@@ -30,11 +26,8 @@ pub fn next_row<K: Keeper>(
     after: Option<RowKey>,
 ) -> Result<Option<RowKey>, KeepFault>
     requires { (K.keeping keeper.old).ready }
-    ensures row { (m : Content) → (K.keeping keeper.old).content ≡ Some m → IfOk result (λ row. option_map (λ r. r.0) row ≡ row_after (option_map (λ r. r.0) after) kind.RowNumbers table.now m) }
-    ensures reads { Reads (K.keeping keeper.old) (K.keeping keeper.new) (fault_of result) }
-    ensures counts { (m : Content) → (K.keeping keeper.old).content ≡ Some m → OnOk result ((K.keeping keeper.new).counts ≡ raised (next_looks (prefix_of kind.RowNumbers table.now ++ place_after (option_map (λ r. r.0) after)) m) (K.keeping keeper.old).counts) }
-    ensures at_most { (m : Content) → (K.keeping keeper.old).content ≡ Some m → RisesBy (next_looks (prefix_of kind.RowNumbers table.now ++ place_after (option_map (λ r. r.0) after)) m) (K.keeping keeper.old).counts (K.keeping keeper.new).counts }
-    ensures never_full { result ≡ Err KeepFault.Full → ⊥ }
+    ensures row { Finds K.keeping keeper.old result (λ m row. option_map (λ r. r.0) row ≡ row_after (option_map (λ r. r.0) after) kind.RowNumbers table.now m) }
+    ensures reads { OnlyReads K.keeping keeper.old keeper.new result }
 {
     next_row_key(alloc, keeper, Kind::RowNumbers, table, after)
 }
@@ -60,11 +53,8 @@ fn sort_names(names: &mut Vec<Name>) -> Result<(), Memory>
 /// It costs what it finds, and sorts it. It never answers Full.
 pub fn tables<K: Keeper>(alloc: Global, keeper: &mut K) -> Result<Vec<Name>, KeepFault>
     requires { (K.keeping keeper.old).ready }
-    ensures names { (m : Content) → (K.keeping keeper.old).content ≡ Some m → IfOk result (λ names. AreTableNames m names.items) }
-    ensures reads { Reads (K.keeping keeper.old) (K.keeping keeper.new) (fault_of result) }
-    ensures counts { (m : Content) → (K.keeping keeper.old).content ≡ Some m → OnOk result ((K.keeping keeper.new).counts ≡ raised (scan_looks (code kind.Tables ∷ []) m) (K.keeping keeper.old).counts) }
-    ensures at_most { (m : Content) → (K.keeping keeper.old).content ≡ Some m → RisesBy (scan_looks (code kind.Tables ∷ []) m) (K.keeping keeper.old).counts (K.keeping keeper.new).counts }
-    ensures never_full { result ≡ Err KeepFault.Full → ⊥ }
+    ensures names { Finds K.keeping keeper.old result (λ m names. AreTableNames m names.items) }
+    ensures reads { OnlyReads K.keeping keeper.old keeper.new result }
 {
     let mut names = owners(alloc, keeper, Kind::Tables)?;
     sort_names(&mut names)?;

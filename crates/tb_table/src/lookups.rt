@@ -1,11 +1,10 @@
 //! What tables and rows a keeper holds, each by one look-up.
 #![tactic(auto, using(ct_keep::specs::Composing::reads_short))]
 
-ghost use Rattle.std.specs.Prelude.{◌≡◌, IfOk, OnOk, Some, None, Err, [], is_some};
+ghost use Rattle.std.specs.Prelude.{◌≡◌, None, [], is_some};
 ghost use Rattle.std.specs.Option.{option_map};
-ghost use Rattle.ct_keep.specs.Content.{Content};
-ghost use Rattle.ct_keep.specs.Keeping.{Reads, fault_of};
-ghost use Rattle.ct_keep.specs.Looks.{look, raised, RisesBy};
+ghost use Rattle.ct_keep.specs.Keeping.{Finds, OnlyReads};
+ghost use Rattle.ct_keep.specs.Looks.{look, LooksAtMost};
 ghost use Rattle.ct_entry.specs.declared.kinds.Kind.TheVariants as kind;
 ghost use Rattle.ct_entry.specs.Keys.{key, bytes, at, row_part, text_part};
 ghost use Rattle.tb_table.specs.Readings.{SpellsColumns, SpellsNumbers, SpellsText};
@@ -26,11 +25,9 @@ pub fn columns_of<K: Keeper>(
     table: &Name,
 ) -> Result<Option<Vec<Column>>, KeepFault>
     requires { (K.keeping keeper.old).ready }
-    ensures value { (m : Content) → (K.keeping keeper.old).content ≡ Some m → IfOk result (λ found. SpellsColumns (at m (key kind.Tables table.now [])) (option_map (λ v. v.items) found)) }
-    ensures reads { Reads (K.keeping keeper.old) (K.keeping keeper.new) (fault_of result) }
-    ensures counts { OnOk result ((K.keeping keeper.new).counts ≡ raised (look (bytes (key kind.Tables table.now [])) None) (K.keeping keeper.old).counts) }
-    ensures at_most { RisesBy (look (bytes (key kind.Tables table.now [])) None) (K.keeping keeper.old).counts (K.keeping keeper.new).counts }
-    ensures never_full { result ≡ Err KeepFault.Full → ⊥ }
+    ensures value { Finds K.keeping keeper.old result (λ m found. SpellsColumns (at m (key kind.Tables table.now [])) (option_map (λ v. v.items) found)) }
+    ensures reads { OnlyReads K.keeping keeper.old keeper.new result }
+    ensures at_most { LooksAtMost K.keeping keeper.old keeper.new (look (bytes (key kind.Tables table.now [])) None) }
 {
     let Some(value) = fetch_entry(alloc, keeper, Kind::Tables, table, &[])? else {
         return Ok(None);
@@ -48,11 +45,9 @@ pub fn number_row<K: Keeper>(
     row: RowKey,
 ) -> Result<Option<Vec<i64>>, KeepFault>
     requires { (K.keeping keeper.old).ready }
-    ensures value { (m : Content) → (K.keeping keeper.old).content ≡ Some m → IfOk result (λ found. SpellsNumbers (at m (key kind.RowNumbers table.now (row_part row.0))) (option_map (λ v. v.items) found)) }
-    ensures reads { Reads (K.keeping keeper.old) (K.keeping keeper.new) (fault_of result) }
-    ensures counts { OnOk result ((K.keeping keeper.new).counts ≡ raised (look (bytes (key kind.RowNumbers table.now (row_part row.0))) None) (K.keeping keeper.old).counts) }
-    ensures at_most { RisesBy (look (bytes (key kind.RowNumbers table.now (row_part row.0))) None) (K.keeping keeper.old).counts (K.keeping keeper.new).counts }
-    ensures never_full { result ≡ Err KeepFault.Full → ⊥ }
+    ensures value { Finds K.keeping keeper.old result (λ m found. SpellsNumbers (at m (key kind.RowNumbers table.now (row_part row.0))) (option_map (λ v. v.items) found)) }
+    ensures reads { OnlyReads K.keeping keeper.old keeper.new result }
+    ensures at_most { LooksAtMost K.keeping keeper.old keeper.new (look (bytes (key kind.RowNumbers table.now (row_part row.0))) None) }
 {
     let part = row_key_bytes(row);
     let Some(value) = fetch_entry(alloc, keeper, Kind::RowNumbers, table, &part)? else {
@@ -70,11 +65,9 @@ pub fn has_row<K: Keeper>(
     row: RowKey,
 ) -> Result<bool, KeepFault>
     requires { (K.keeping keeper.old).ready }
-    ensures value { (m : Content) → (K.keeping keeper.old).content ≡ Some m → IfOk result (λ there. there ≡ is_some (at m (key kind.RowNumbers table.now (row_part row.0)))) }
-    ensures reads { Reads (K.keeping keeper.old) (K.keeping keeper.new) (fault_of result) }
-    ensures counts { OnOk result ((K.keeping keeper.new).counts ≡ raised (look (bytes (key kind.RowNumbers table.now (row_part row.0))) None) (K.keeping keeper.old).counts) }
-    ensures at_most { RisesBy (look (bytes (key kind.RowNumbers table.now (row_part row.0))) None) (K.keeping keeper.old).counts (K.keeping keeper.new).counts }
-    ensures never_full { result ≡ Err KeepFault.Full → ⊥ }
+    ensures value { Finds K.keeping keeper.old result (λ m there. there ≡ is_some (at m (key kind.RowNumbers table.now (row_part row.0)))) }
+    ensures reads { OnlyReads K.keeping keeper.old keeper.new result }
+    ensures at_most { LooksAtMost K.keeping keeper.old keeper.new (look (bytes (key kind.RowNumbers table.now (row_part row.0))) None) }
 {
     let part = row_key_bytes(row);
     has_entry(alloc, keeper, Kind::RowNumbers, table, &part)
@@ -90,11 +83,9 @@ pub fn text_of<K: Keeper>(
     row: RowKey,
 ) -> Result<Option<Text>, KeepFault>
     requires { (K.keeping keeper.old).ready }
-    ensures value { (m : Content) → (K.keeping keeper.old).content ≡ Some m → IfOk result (λ found. SpellsText (at m (key kind.RowTexts table.now (text_part column row.0))) found) }
-    ensures reads { Reads (K.keeping keeper.old) (K.keeping keeper.new) (fault_of result) }
-    ensures counts { OnOk result ((K.keeping keeper.new).counts ≡ raised (look (bytes (key kind.RowTexts table.now (text_part column row.0))) None) (K.keeping keeper.old).counts) }
-    ensures at_most { RisesBy (look (bytes (key kind.RowTexts table.now (text_part column row.0))) None) (K.keeping keeper.old).counts (K.keeping keeper.new).counts }
-    ensures never_full { result ≡ Err KeepFault.Full → ⊥ }
+    ensures value { Finds K.keeping keeper.old result (λ m found. SpellsText (at m (key kind.RowTexts table.now (text_part column row.0))) found) }
+    ensures reads { OnlyReads K.keeping keeper.old keeper.new result }
+    ensures at_most { LooksAtMost K.keeping keeper.old keeper.new (look (bytes (key kind.RowTexts table.now (text_part column row.0))) None) }
 {
     let part = text_part(column, row);
     let Some(value) = fetch_entry(alloc, keeper, Kind::RowTexts, table, &part)? else {

@@ -27,5 +27,5 @@ steps-preserved g c =
       told = λ m holds.
           let here = reads_hold _ _ m c.steps.invariant.reads holds in
           let some = rw c.in-Some.is at (c.in_ok-step_under.ensures.entry m here) in
-          rw (c.in_ok-push-in-Some.ensures, map-append) (scanning_more _ _ m _ _ _ _ (c.steps.invariant.told m holds) (c.in-Some.entry.0.items, c.in-Some.entry.1.items) _ some last (c.in_ok-step_under.ensures.counts m here));
+          rw (c.in_ok-push-in-Some.ensures, map-append) (scanning_more _ _ m _ _ _ _ (c.steps.invariant.told m holds) (c.in-Some.entry.0.items, c.in-Some.entry.1.items) _ some last (c.in_ok-step_under.ensures.at_most m here));
     }

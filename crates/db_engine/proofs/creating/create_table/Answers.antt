@@ -1,71 +1,8 @@
-use Rattle.std.proofs.Common.{Err, Bool, length, sym, ap, ◌∙◌}
-use Rattle.std.specs.Prelude.{nat_le}
-use Rattle.std.specs.FinMap.{entries}
-use Rattle.db_engine.specs.States.{most_tables}
-use Rattle.std.proofs.lemmas.Result.{err_from_is_err_and}
-use Rattle.ct_keep.specs.Composing.{reads_on, reads_hold}
-use Rattle.db_cond.specs.Refused.{refusal_of}
-use Rattle.db_engine.specs.Refusals.{Does}
-use Rattle.db_engine.specs.Creating.{check_table, table_created, with_new_table}
-use Rattle.db_engine.proofs.Chains.{checked, refused}
-use Rattle.db_engine.proofs.Moving.{gives_failed, gives_short, gives_line, gives_then, gives_as}
-use Rattle.db_engine.proofs.NewTables.{table_free}
-use Rattle.db_engine.proofs.Telling.{returns_by_read, returns_short, returns_refusal, returns_then}
+use Rattle.db_engine.proofs.Serving.{serves_err, serves_then, fits_then}
 use Rattle.db_engine.proofs.creating.create_table.Goals as goal
 
-pub returns-in_err-there-clause-gives : goal.returns-in_err-there-clause-gives
-returns-in_err-there-clause-gives g c = λ m k holds stands.
-    let p = err_from_is_err_and c.from_residual.result c.from_residual.ensures.1 in
-    rw (p.1, p.2) (gives_failed m _ k _ _ c.in_err-there.field-0.0 (g.met.K.Keeper.settled c.args.keeper.now c.requires.ready) holds stands c.in_err-there.ensures.reads (λ e. c.in_err-there.ensures.never_full (ap Err e)))
+pub returns-in-Ok : goal.returns-in-Ok
+returns-in-Ok g c = serves_then _ _ _ _ _ _ c.in-Ok.ensures.reads (c.carry_out.ensures _ (fits_then _ _ _ _ _ c.in-Ok.ensures.reads c.in-Ok.ensures.plan))
 
-pub returns-in_err-many-clause-gives : goal.returns-in_err-many-clause-gives
-returns-in_err-many-clause-gives g c = λ m k holds stands.
-    let p = err_from_is_err_and c.from_residual-in_err-many.result c.from_residual-in_err-many.ensures.1 in
-    rw (p.1, p.2) (gives_failed m _ k _ _ c.in_err-many.field-0.0 (g.met.K.Keeper.settled c.args.keeper.now c.requires.ready) holds stands (reads_on _ _ _ _ c.in_ok-there.ensures.reads c.in_err-many.ensures.reads) (λ e. c.in_err-many.ensures.never_full (ap Err e)))
-
-pub returns-in_err-fault_line-clause-gives : goal.returns-in_err-fault_line-clause-gives
-returns-in_err-fault_line-clause-gives g c = λ m k holds stands.
-    let p = err_from_is_err_and c.from_residual-in_err-fault_line.result c.from_residual-in_err-fault_line.ensures.1 in
-    rw (p.1, p.2) (gives_short m _ k _ _ (g.met.K.Keeper.settled c.args.keeper.now c.requires.ready) holds stands (reads_on _ _ _ _ c.in_ok-there.ensures.reads c.in_ok-many.ensures.reads))
-
-pub returns-in-Some-clause-gives : goal.returns-in-Some-clause-gives
-returns-in-Some-clause-gives g c = λ m k holds stands.
-    let done = Does (with_new_table m c.args.table.now c.args.columns.now) table_created in
-    gives_line m _ (refusal_of c.in-Some.fault) k _ _ c.in_ok-fault_line.field-0 (g.met.K.Keeper.settled c.args.keeper.now c.requires.ready) holds stands (reads_on _ _ _ _ c.in_ok-there.ensures.reads c.in_ok-many.ensures.reads)
-    (ap (λ (b : Bool). check_table b (nat_le most_tables (length (entries m.tables))) c.args.table.now c.args.columns.now done) (sym (c.in_ok-there.ensures.there m k holds stands))
-    ∙ ap (λ (b : Bool). check_table c.in_ok-there.there b c.args.table.now c.args.columns.now done) (sym (c.in_ok-many.ensures.many m k (reads_hold _ _ k c.in_ok-there.ensures.reads holds) stands))
-    ∙ refused c.table_fault.result c.in-Some.fault _ done c.in-Some.is (c.table_fault.ensures.checks done))
-    c.in_ok-fault_line.ensures
-
-pub returns-clause-gives : goal.returns-clause-gives
-returns-clause-gives g c = λ m k holds stands.
-    let done = Does (with_new_table m c.args.table.now c.args.columns.now) table_created in
-    let is =
-    ap (λ (b : Bool). check_table b (nat_le most_tables (length (entries m.tables))) c.args.table.now c.args.columns.now done) (sym (c.in_ok-there.ensures.there m k holds stands))
-    ∙ ap (λ (b : Bool). check_table c.in_ok-there.there b c.args.table.now c.args.columns.now done) (sym (c.in_ok-many.ensures.many m k (reads_hold _ _ k c.in_ok-there.ensures.reads holds) stands))
-    ∙ checked c.table_fault.result _ done c.in_default.is (c.table_fault.ensures.checks done) in
-    let reads = reads_on _ _ _ _ c.in_ok-there.ensures.reads c.in_ok-many.ensures.reads in
-    gives_as m _ done k _ _ c.commit_table.result is
-    (gives_then m done k _ _ _ c.commit_table.result reads (c.commit_table.ensures.gives m k (reads_hold _ _ k reads holds) stands (table_free m c.args.table.now c.args.columns.now _ _ is)))
-
--- ---- what it tells over any content
-
-pub returns-in_err-there-clause-tells : goal.returns-in_err-there-clause-tells
-returns-in_err-there-clause-tells g c =
-    returns_by_read table_created (g.K.Keeper.keeping c.args.keeper.now) (g.K.Keeper.keeping c.has_table.new.keeper) c.from_residual.result c.in_err-there.field-0.0 (g.met.K.Keeper.settled c.args.keeper.now c.requires.ready) c.in_err-there.ensures.reads (err_from_is_err_and c.from_residual.result c.from_residual.ensures.1)
-
-pub returns-in_err-many-clause-tells : goal.returns-in_err-many-clause-tells
-returns-in_err-many-clause-tells g c =
-    returns_by_read table_created (g.K.Keeper.keeping c.args.keeper.now) (g.K.Keeper.keeping c.has_most_tables.new.keeper) c.from_residual-in_err-many.result c.in_err-many.field-0.0 (g.met.K.Keeper.settled c.args.keeper.now c.requires.ready) (reads_on _ _ _ _ c.in_ok-there.ensures.reads c.in_err-many.ensures.reads) (err_from_is_err_and c.from_residual-in_err-many.result c.from_residual-in_err-many.ensures.1)
-
-pub returns-in_err-fault_line-clause-tells : goal.returns-in_err-fault_line-clause-tells
-returns-in_err-fault_line-clause-tells g c =
-    returns_short table_created (g.K.Keeper.keeping c.args.keeper.now) (g.K.Keeper.keeping c.has_most_tables.new.keeper) c.from_residual-in_err-fault_line.result (g.met.K.Keeper.settled c.args.keeper.now c.requires.ready) (reads_on _ _ _ _ c.in_ok-there.ensures.reads c.in_ok-many.ensures.reads) (err_from_is_err_and c.from_residual-in_err-fault_line.result c.from_residual-in_err-fault_line.ensures.1)
-
-pub returns-in-Some-clause-tells : goal.returns-in-Some-clause-tells
-returns-in-Some-clause-tells g c =
-    returns_refusal table_created (g.K.Keeper.keeping c.args.keeper.now) (g.K.Keeper.keeping c.has_most_tables.new.keeper) c.in_ok-fault_line.field-0 c.in-Some.fault (reads_on _ _ _ _ c.in_ok-there.ensures.reads c.in_ok-many.ensures.reads) c.in_ok-fault_line.ensures
-
-pub returns-clause-tells : goal.returns-clause-tells
-returns-clause-tells g c =
-    returns_then table_created (g.K.Keeper.keeping c.args.keeper.now) (g.K.Keeper.keeping c.has_most_tables.new.keeper) (g.K.Keeper.keeping c.commit_table.new.keeper) c.commit_table.result (reads_on _ _ _ _ c.in_ok-there.ensures.reads c.in_ok-many.ensures.reads) c.commit_table.ensures.tells
+pub returns-in-Err : goal.returns-in-Err
+returns-in-Err g c = serves_err _ _ _ _ _ c.in-Err.ensures.reads

@@ -1,79 +1,63 @@
-use Rattle.std.proofs.Common.{◌≡◌, ⊎_elim, ap, ℕ, List, Option, None, Ok, sym, subst, ◌∙◌}
-use Rattle.db_cond.specs.Faults.{NotUnderstood}
-use Rattle.db_engine.specs.Refusals.{Refused, reply_by}
-use Rattle.db_engine.specs.Steps.{effect, is_built_index}
+use Rattle.std.proofs.Common.{◌≡◌, ⊎_elim, ap, sym, ◌∙◌, List, Bool, Some, None}
+use Rattle.std.specs.Prelude.{not}
+use Rattle.std.specs.Bool.{if◌then◌else◌}
 use Rattle.std.proofs.lemmas.Result.{err_from_is_err_and, IfOk-weaker}
 use Rattle.ct_keep.specs.Composing.{reads_none}
-use Rattle.db_engine.proofs.Moving.{gives_short, gives_line}
 use Rattle.st_parse.specs.declared.statements.Arg.{Arg}
+use Rattle.st_parse.specs.declared.statements.ColumnText.{ColumnText}
 use Rattle.st_parse.specs.declared.statements.Statement.{Statement}
-use Rattle.db_engine.specs.Creating.{index_created}
-use Rattle.db_engine.specs.Calling.{call, call_done}
-use Rattle.db_engine.specs.Executing.{ReturnsBy, done_line, is_fixed, is_sync}
-use Rattle.db_engine.proofs.Telling.{returns_if, looks_short, is_not}
+use Rattle.db_cond.specs.Faults.{NotUnderstood}
+use Rattle.db_engine.specs.Refusals.{Refused, refuse, reply_by}
+use Rattle.db_engine.specs.Creating.{create_table, create_index, index_created}
+use Rattle.db_engine.specs.Inserting.{insert_into}
+use Rattle.db_engine.specs.Steps.{effect, select_by}
+use Rattle.db_engine.specs.Calling.{call}
+use Rattle.db_engine.specs.Executing.{done_line, is_fixed, is_sync}
+use Rattle.db_engine.proofs.Telling.{is_not}
+use Rattle.db_engine.proofs.Serving.{serves_short, serves_refused, serves_look, serves_as}
 use Rattle.db_engine.proofs.executing.reply_to.Goals as goal
 
-pub returns-in_err-not_built-in-DropTable-clause-gives : goal.returns-in_err-not_built-in-DropTable-clause-gives
-returns-in_err-not_built-in-DropTable-clause-gives g c = λ m k holds stands.
-    let p = err_from_is_err_and c.from_residual.result c.from_residual.ensures.1 in
-    rw (p.1, p.2) (gives_short m _ k _ _ (g.met.K.Keeper.settled c.args.keeper.now c.requires.ready) holds stands (reads_none _ c.requires.ready))
+pub returns-in-CreateTable-clause-serves : goal.returns-in-CreateTable-clause-serves
+returns-in-CreateTable-clause-serves g c =
+    serves_as _ _ _ _ _ _ c.create_table.result
+    (λ m. ap (effect m) c.in-CreateTable.is ∙ ap (λ (cs : List ColumnText). create_table m c.in-CreateTable.name cs) (sym c.as_slice.ensures)) (ap done_line c.in-CreateTable.is) c.create_table.ensures
 
-pub returns-in_ok-not_built-in-DropTable-clause-gives : goal.returns-in_ok-not_built-in-DropTable-clause-gives
-returns-in_ok-not_built-in-DropTable-clause-gives g c = λ m k holds stands.
-    let is : effect m c.args.statement.now ≡ Refused NotUnderstood =
+pub returns-in-CreateIndex-clause-serves : goal.returns-in-CreateIndex-clause-serves
+returns-in-CreateIndex-clause-serves g c =
+    let kind = c.in-CreateIndex.kind in let parameters = c.in-CreateIndex.parameters in let parallel = c.in-CreateIndex.parallel in
+    serves_as _ _ _ _ _ _ c.index_statement.result
+    (λ m. ap (effect m) c.in-CreateIndex.is ∙ ap (λ (b : Bool). refuse (not b) NotUnderstood (create_index m c.in-CreateIndex.name c.in-CreateIndex.table c.in-CreateIndex.column)) (sym c.is_built_index-built.ensures))
+    (ap done_line c.in-CreateIndex.is ∙ ap (λ (b : Bool). if b then Some index_created else None) (sym c.is_built_index-built.ensures)) c.index_statement.ensures.serves
+
+pub returns-in-Insert-clause-serves : goal.returns-in-Insert-clause-serves
+returns-in-Insert-clause-serves g c =
+    serves_as (λ m. insert_into m c.in-Insert.table c.in-Insert.columns c.as_slice-in-Insert.result.now) _ _ _ _ _ c.insert_into.result
+    (λ m. ap (effect m) c.in-Insert.is ∙ ap (insert_into m c.in-Insert.table c.in-Insert.columns) (sym c.as_slice-in-Insert.ensures)) (ap done_line c.in-Insert.is) c.insert_into.ensures
+
+pub returns-in-Select-clause-serves : goal.returns-in-Select-clause-serves
+returns-in-Select-clause-serves g c =
+    serves_as (λ m. select_by m c.in-Select.list c.in-Select.table c.as_slice-in-Select.result.now) _ None _ _ _ c.selected.result
+    (λ m. ap (effect m) c.in-Select.is ∙ ap (select_by m c.in-Select.list c.in-Select.table) (sym c.as_slice-in-Select.ensures)) (ap done_line c.in-Select.is)
+    (serves_look _ _ _ _ c.selected.ensures.reads c.selected.ensures.reply c.selected.ensures.state)
+
+pub returns-in-Exec-clause-serves : goal.returns-in-Exec-clause-serves
+returns-in-Exec-clause-serves g c =
+    serves_as _ _ _ _ _ _ c.call.result
+    (λ m. ap (effect m) c.in-Exec.is ∙ ap (λ (args : List Arg). call m c.in-Exec.package c.in-Exec.procedure args) (sym c.as_slice-in-Exec.ensures)) (ap done_line c.in-Exec.is) c.call.ensures.serves
+
+-- ---- what isn't built yet
+
+pub returns-in_err-not_built-in-DropTable-clause-serves : goal.returns-in_err-not_built-in-DropTable-clause-serves
+returns-in_err-not_built-in-DropTable-clause-serves g c = serves_short _ _ _ _ _ (reads_none _ c.requires.ready) (err_from_is_err_and _ c.from_residual.ensures.1)
+
+pub returns-in_ok-not_built-in-DropTable-clause-serves : goal.returns-in_ok-not_built-in-DropTable-clause-serves
+returns-in_ok-not_built-in-DropTable-clause-serves g c =
+    serves_refused _ _ _ _ NotUnderstood _ (reads_none _ c.requires.ready) (λ m k holds stands.
     ⊎_elim {C = effect m c.args.statement.now ≡ Refused NotUnderstood} (λ p. ap (effect m) p.1) (λ p.
     ⊎_elim {C = effect m c.args.statement.now ≡ Refused NotUnderstood} (λ p. ap (effect m) p.1) (λ p.
     ⊎_elim {C = effect m c.args.statement.now ≡ Refused NotUnderstood} (λ p. ap (effect m) p.3) (λ p.
-    ⊎_elim {C = effect m c.args.statement.now ≡ Refused NotUnderstood} (λ p. ap (effect m) p.2) (λ p. ap (effect m) p) p) p) p) c.in-DropTable.is in
-    gives_line m _ NotUnderstood k _ _ c.in_ok-not_built-in-DropTable.field-0 (g.met.K.Keeper.settled c.args.keeper.now c.requires.ready) holds stands (reads_none _ c.requires.ready) is c.in_ok-not_built-in-DropTable.ensures
-
--- ---- what it tells over any content
-
-pub returns-in-CreateTable-clause-tells : goal.returns-in-CreateTable-clause-tells
-returns-in-CreateTable-clause-tells g c =
-    subst (λ (line : Option (List ℕ)). ReturnsBy line (g.K.Keeper.keeping c.args.keeper.now) (g.K.Keeper.keeping c.create_table.new.keeper) c.create_table.result) (sym (ap done_line c.in-CreateTable.is)) c.create_table.ensures.tells
-
-pub returns-in-CreateIndex-clause-tells : goal.returns-in-CreateIndex-clause-tells
-returns-in-CreateIndex-clause-tells g c =
-    let kind = c.in-CreateIndex.kind in let parameters = c.in-CreateIndex.parameters in let parallel = c.in-CreateIndex.parallel in
-    subst (λ (line : Option (List ℕ)). ReturnsBy line (g.K.Keeper.keeping c.args.keeper.now) (g.K.Keeper.keeping c.index_statement.new.keeper) c.index_statement.result) (sym (ap done_line c.in-CreateIndex.is))
-    (returns_if (is_built_index kind parameters parallel) index_created (g.K.Keeper.keeping c.args.keeper.now) (g.K.Keeper.keeping c.index_statement.new.keeper) c.index_statement.result
-    (λ f. c.index_statement.ensures.looks (c.is_built_index-built.ensures ∙ f)) (λ b. c.index_statement.ensures.tells (c.is_built_index-built.ensures ∙ b)))
-
-pub returns-in-Insert-clause-tells : goal.returns-in-Insert-clause-tells
-returns-in-Insert-clause-tells g c =
-    subst (λ (line : Option (List ℕ)). ReturnsBy line (g.K.Keeper.keeping c.args.keeper.now) (g.K.Keeper.keeping c.insert_into.new.keeper) c.insert_into.result) (sym (ap done_line c.in-Insert.is)) c.insert_into.ensures.tells
-
-pub returns-in-Select-clause-tells : goal.returns-in-Select-clause-tells
-returns-in-Select-clause-tells g c =
-    subst (λ (line : Option (List ℕ)). ReturnsBy line (g.K.Keeper.keeping c.args.keeper.now) (g.K.Keeper.keeping c.select_statement.new.keeper) c.select_statement.result) (sym (ap done_line c.in-Select.is))
-    (record { reads = c.select_statement.ensures.reads; never_full = c.select_statement.ensures.never_full })
-
-pub returns-in-Exec-clause-tells : goal.returns-in-Exec-clause-tells
-returns-in-Exec-clause-tells g c =
-    subst (λ (line : Option (List ℕ)). ReturnsBy line (g.K.Keeper.keeping c.args.keeper.now) (g.K.Keeper.keeping c.call.new.keeper) c.call.result) (sym (ap done_line c.in-Exec.is))
-    (returns_if (is_sync c.in-Exec.package c.in-Exec.procedure) call_done (g.K.Keeper.keeping c.args.keeper.now) (g.K.Keeper.keeping c.call.new.keeper) c.call.result c.call.ensures.looks c.call.ensures.tells)
-
-pub returns-in_err-not_built-in-DropTable-clause-tells : goal.returns-in_err-not_built-in-DropTable-clause-tells
-returns-in_err-not_built-in-DropTable-clause-tells g c =
-    let none : done_line c.args.statement.now ≡ None =
-    ⊎_elim {C = done_line c.args.statement.now ≡ None} (λ p. ap done_line p.1) (λ p.
-    ⊎_elim {C = done_line c.args.statement.now ≡ None} (λ p. ap done_line p.1) (λ p.
-    ⊎_elim {C = done_line c.args.statement.now ≡ None} (λ p. ap done_line p.3) (λ p.
-    ⊎_elim {C = done_line c.args.statement.now ≡ None} (λ p. ap done_line p.2) (λ p. ap done_line p) p) p) p) c.in-DropTable.is in
-    let p = (err_from_is_err_and c.from_residual.result c.from_residual.ensures.1) in
-    subst (λ (line : Option (List ℕ)). ReturnsBy line (g.K.Keeper.keeping c.args.keeper.now) (g.K.Keeper.keeping c.args.keeper.now) c.from_residual.result) (sym none)
-    (looks_short (g.K.Keeper.keeping c.args.keeper.now) (g.K.Keeper.keeping c.args.keeper.now) c.from_residual.result (reads_none (g.K.Keeper.keeping c.args.keeper.now) c.requires.ready) p)
-
-pub returns-in_ok-not_built-in-DropTable-clause-tells : goal.returns-in_ok-not_built-in-DropTable-clause-tells
-returns-in_ok-not_built-in-DropTable-clause-tells g c =
-    let none : done_line c.args.statement.now ≡ None =
-    ⊎_elim {C = done_line c.args.statement.now ≡ None} (λ p. ap done_line p.1) (λ p.
-    ⊎_elim {C = done_line c.args.statement.now ≡ None} (λ p. ap done_line p.1) (λ p.
-    ⊎_elim {C = done_line c.args.statement.now ≡ None} (λ p. ap done_line p.3) (λ p.
-    ⊎_elim {C = done_line c.args.statement.now ≡ None} (λ p. ap done_line p.2) (λ p. ap done_line p) p) p) p) c.in-DropTable.is in
-    subst (λ (line : Option (List ℕ)). ReturnsBy line (g.K.Keeper.keeping c.args.keeper.now) (g.K.Keeper.keeping c.args.keeper.now) (Ok c.in_ok-not_built-in-DropTable.field-0)) (sym none)
-    (record { reads = (reads_none (g.K.Keeper.keeping c.args.keeper.now) c.requires.ready); never_full = λ e. cc })
+    ⊎_elim {C = effect m c.args.statement.now ≡ Refused NotUnderstood} (λ p. ap (effect m) p.2) (λ p. ap (effect m) p) p) p) p) c.in-DropTable.is)
+    c.in_ok-not_built-in-DropTable.ensures
 
 pub returns-in_ok-not_built-in-DropTable-clause-fixed : goal.returns-in_ok-not_built-in-DropTable-clause-fixed
 returns-in_ok-not_built-in-DropTable-clause-fixed g c =

@@ -18,7 +18,6 @@ returns-in_default-clause-few g c = λ m holds only.
 pub rows-preserved : goal.rows-preserved
 rows-preserved g c = record {
   reads = reads_on _ _ _ _ c.rows.invariant.reads c.in_ok-row.ensures.reads;
-  same = λ m holds. (rw c.in-Some.is at (c.in_ok-row.ensures.same m (reads_hold _ _ m c.rows.invariant.reads holds))) ∙ c.rows.invariant.same m holds;
   told = λ m holds only.
       let t = c.args.table.now in
       let row = c.in_ok-row.ensures.row m (reads_hold _ _ m c.rows.invariant.reads holds) in

@@ -8,6 +8,5 @@ use Rattle.tb_table.proofs.row_counts.has_few_behind.Given as goal
 abbrev pub invariant-rows : goal.invariant-rows
 invariant-rows g l = record {
   reads : Reads (g.K.Keeper.keeping l.fn.keeper) (g.K.Keeper.keeping l.keeper) None;
-  same : (m : Content) → (g.K.Keeper.keeping l.fn.keeper).content ≡ Some m → (g.K.Keeper.keeping l.keeper).counts ≡ (g.K.Keeper.keeping l.fn.keeper).counts;
   told : (m : Content) → (g.K.Keeper.keeping l.fn.keeper).content ≡ Some m → HasKeysOnly m → l._count + length (rows_behind (Some l.last.0) l.table m) ≡ length (rows_behind (Some l.fn.first.0) l.table m);
 }

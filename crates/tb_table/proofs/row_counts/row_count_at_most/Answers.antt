@@ -23,7 +23,7 @@ returns-then-is_none-clause-few g c = λ m holds only.
     (λ _. narrow c.args.table.now m c.in-Some.first.0 c.last_of-last.result.0 c.args.most only first fits c.last_of-last.ensures (none_from c.in_ok-behind.behind _ c.is_none.result c.is_none.ensures c.if-is_none.true behind), λ _. refl)
 
 pub returns-clause-few : goal.returns-clause-few
-returns-clause-few g c = λ m holds only.
+returns-clause-few g c = λ m holds.
     let first : row_after None kind.RowNumbers c.args.table.now m ≡ Some c.in-Some.first.0 = sym (c.in_ok-first.ensures.row m holds) ∙ ap (option_map (λ (r : RowKey). r.0)) c.in-Some.is in
     let twice = reads_on _ _ _ _ c.in_ok-first.ensures.reads c.in_ok-behind.ensures.reads in
-    few_more c.has_few_behind.result _ _ c.args.most (behind_first c.args.table.now m c.in-Some.first.0 only first) (omega arith) (c.has_few_behind.ensures.few m (reads_hold _ _ m twice holds) only)
+    few_more _ c.has_few_behind.result _ _ c.args.most (behind_first c.args.table.now m c.in-Some.first.0 first) (omega arith) (c.has_few_behind.ensures.few m (reads_hold _ _ m twice holds))
