@@ -1,14 +1,14 @@
--- Words for each of several things, as owners or rows.
+-- Changes for each of several things, as owners or rows.
 use Rattle.std.specs.Prelude.{ℕ, Bool, cond, List, [], ◌∷◌, ◌++◌, Option, ◌≡◌, nat_lt, true, false, Some, None, codes, refl}
 use Rattle.std.specs.List.{list_any}
 use Rattle.ct_entry.specs.Keys.{Key, same_list, key}
 use Rattle.ct_entry.specs.declared.kinds.Kind.TheVariants.{Pending}
-use Rattle.ct_entry.specs.Words.{put, drop_key}
+use Rattle.ct_entry.specs.Changes.{put, drop_key}
 
--- the words for each, in order
+-- the changes for each, in order
 abbrev pub each : {I : Type 0} → (I → List (Key × Option (List ℕ))) → List I → List (Key × Option (List ℕ))
-each words [] = []
-each words (i ∷ is) = words i ++ each words is
+each changes [] = []
+each changes (i ∷ is) = changes i ++ each changes is
 
 -- the value by the last that the test hits, or else the old one
 abbrev pub latest : {I : Type 0} → (I → Bool) → (I → Option (List ℕ)) → List I → Option (List ℕ) → Option (List ℕ)

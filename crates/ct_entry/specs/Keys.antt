@@ -129,7 +129,7 @@ unfolding row_bytes
 numbers_of_row_seven = refl
 
 -- The keys of a table `docs` with two rows, each with a text in the column 1 and a number, and of an index `di` on that column,
--- of which the row 1 is the document 1, with the words `fox` and `quick`, and the row 2 waits.
+-- of which the row 1 is the document 1, with the changes `fox` and `quick`, and the row 2 waits.
 the_table : bytes (key Tables (codes "docs") []) ≡ 0x01 ∷ 4 ∷ 0x64 ∷ 0x6f ∷ 0x63 ∷ 0x73 ∷ []
 the_table = refl
 

@@ -1,8 +1,8 @@
 pub mod Kinds
 pub mod Keys
-pub mod Words
+pub mod Changes
 pub mod KeyLaws
-pub mod WordLaws
+pub mod ChangeLaws
 pub mod Each
 pub mod EachLaws
 pub mod PartLaws
@@ -15,4 +15,4 @@ pub mod ListingLaws
 pub mod RowLaws
 pub mod OwnerLaws
 pub mod DocumentLaws
-pub mod MapWords
+pub mod MapChanges

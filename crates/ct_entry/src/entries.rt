@@ -3,10 +3,10 @@
 ghost use Rattle.std.specs.Prelude.{◌≡◌, ◌++◌, ◌∷◌, [], IfOk, OnOk, OnErr, Some, None, Err, is_some};
 ghost use Rattle.std.specs.Option.{option_map};
 ghost use Rattle.ct_keep.specs.Content.{Content};
-ghost use Rattle.ct_keep.specs.Keeping.{Finds, OnlyReads};
+ghost use Rattle.ct_keep.specs.KeeperViews.{Finds, OnlyReads};
 ghost use Rattle.ct_keep.specs.Looks.{look, LooksAtMost};
 ghost use Rattle.ct_entry.specs.Keys.{key, bytes, at, prefix_of};
-ghost use Rattle.ct_entry.specs.Words.{spell, put, drop_key};
+ghost use Rattle.ct_entry.specs.Changes.{spell, put, drop_key};
 
 use crate::kinds::Kind;
 use ct_base::{Memory, Name};
@@ -34,7 +34,7 @@ pub fn key_bytes(alloc: Global, kind: Kind, owner: &Name, part: &[u8]) -> Result
     Ok(key)
 }
 
-/// Adds the word that a key is to have a value.
+/// Adds the change that a key is to have a value.
 pub fn put_entry(
     alloc: Global,
     batch: &mut Batch,
@@ -50,7 +50,7 @@ pub fn put_entry(
     batch.put(key, value)
 }
 
-/// Adds the word that an entry is to go.
+/// Adds the change that an entry is to go.
 pub fn remove_entry(
     alloc: Global,
     batch: &mut Batch,
@@ -73,10 +73,10 @@ pub fn fetch_entry<K: Keeper>(
     owner: &Name,
     part: &[u8],
 ) -> Result<Option<Vec<u8>>, KeepFault>
-    requires { (K.keeping keeper.old).ready }
-    ensures value { Finds K.keeping keeper.old result (λ m found. option_map (λ v. v.items) found ≡ at m (key kind owner.now part.now)) }
-    ensures reads { OnlyReads K.keeping keeper.old keeper.new result }
-    ensures at_most { LooksAtMost K.keeping keeper.old keeper.new (look (bytes (key kind owner.now part.now)) None) }
+    requires { (K.view keeper.old).ready }
+    ensures value { Finds K.view keeper.old result (λ m found. option_map (λ v. v.items) found ≡ at m (key kind owner.now part.now)) }
+    ensures reads { OnlyReads K.view keeper.old keeper.new result }
+    ensures at_most { LooksAtMost K.view keeper.old keeper.new (look (bytes (key kind owner.now part.now)) None) }
 {
     let key = key_bytes(alloc, kind, owner, part)?;
     keeper.fetch(alloc, &key)
@@ -90,10 +90,10 @@ pub fn has_entry<K: Keeper>(
     owner: &Name,
     part: &[u8],
 ) -> Result<bool, KeepFault>
-    requires { (K.keeping keeper.old).ready }
-    ensures value { Finds K.keeping keeper.old result (λ m there. there ≡ is_some (at m (key kind owner.now part.now))) }
-    ensures reads { OnlyReads K.keeping keeper.old keeper.new result }
-    ensures at_most { LooksAtMost K.keeping keeper.old keeper.new (look (bytes (key kind owner.now part.now)) None) }
+    requires { (K.view keeper.old).ready }
+    ensures value { Finds K.view keeper.old result (λ m there. there ≡ is_some (at m (key kind owner.now part.now))) }
+    ensures reads { OnlyReads K.view keeper.old keeper.new result }
+    ensures at_most { LooksAtMost K.view keeper.old keeper.new (look (bytes (key kind owner.now part.now)) None) }
 {
     let found = fetch_entry(alloc, keeper, kind, owner, part)?;
     Ok(found.is_some())

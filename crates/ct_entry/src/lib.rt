@@ -1,4 +1,4 @@
-//! The entries of a store: their kinds, their keys, and words on them.
+//! The entries of a store: their kinds, their keys, and changes on them.
 #![tactic(auto)]
 
 mod entries;

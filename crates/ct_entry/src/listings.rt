@@ -4,7 +4,7 @@ ghost use Rattle.std.specs.Prelude.{◌≡◌, ◌++◌, ◌∷◌, [], IfOk, On
 ghost use Rattle.std.specs.Option.{option_map};
 ghost use Rattle.std.specs.FinMap.{entries};
 ghost use Rattle.ct_keep.specs.Content.{Content, entries_above, first_entry};
-ghost use Rattle.ct_keep.specs.Keeping.{Finds, OnlyReads, Told};
+ghost use Rattle.ct_keep.specs.KeeperViews.{Finds, OnlyReads, Told};
 ghost use Rattle.ct_keep.specs.Looks.{next_looks, scan_looks, LooksAtMost};
 ghost use Rattle.ct_keep.specs.Tail.{tail};
 ghost use Rattle.ct_entry.specs.Kinds.{code};
@@ -32,10 +32,10 @@ pub fn entries_of<K: Keeper>(
     owner: &Name,
     front: &[u8],
 ) -> Result<Vec<(Vec<u8>, Vec<u8>)>, KeepFault>
-    requires { (K.keeping keeper.old).ready }
-    ensures entries { Finds K.keeping keeper.old result (λ m found. map (λ e. (e.0.items, e.1.items)) found.items ≡ entries (tail (prefix_of kind owner.now ++ front.now) m)) }
-    ensures reads { OnlyReads K.keeping keeper.old keeper.new result }
-    ensures at_most { Told K.keeping keeper.old (λ m. LooksAtMost K.keeping keeper.old keeper.new (scan_looks (prefix_of kind owner.now ++ front.now) m)) }
+    requires { (K.view keeper.old).ready }
+    ensures entries { Finds K.view keeper.old result (λ m found. map (λ e. (e.0.items, e.1.items)) found.items ≡ entries (tail (prefix_of kind owner.now ++ front.now) m)) }
+    ensures reads { OnlyReads K.view keeper.old keeper.new result }
+    ensures at_most { Told K.view keeper.old (λ m. LooksAtMost K.view keeper.old keeper.new (scan_looks (prefix_of kind owner.now ++ front.now) m)) }
 {
     let prefix = key_bytes(alloc, kind, owner, front)?;
     scan(alloc, keeper, &prefix)
@@ -71,10 +71,10 @@ pub fn row_keys<K: Keeper>(
     kind: Kind,
     owner: &Name,
 ) -> Result<Vec<RowKey>, KeepFault>
-    requires { (K.keeping keeper.old).ready }
-    ensures rows { Finds K.keeping keeper.old result (λ m rows. map (λ r. r.0) rows.items ≡ rows_under kind owner.now m) }
-    ensures reads { OnlyReads K.keeping keeper.old keeper.new result }
-    ensures at_most { Told K.keeping keeper.old (λ m. LooksAtMost K.keeping keeper.old keeper.new (scan_looks (prefix_of kind owner.now) m)) }
+    requires { (K.view keeper.old).ready }
+    ensures rows { Finds K.view keeper.old result (λ m rows. map (λ r. r.0) rows.items ≡ rows_under kind owner.now m) }
+    ensures reads { OnlyReads K.view keeper.old keeper.new result }
+    ensures at_most { Told K.view keeper.old (λ m. LooksAtMost K.view keeper.old keeper.new (scan_looks (prefix_of kind owner.now) m)) }
 {
     let prefix = prefix_bytes(alloc, kind, owner)?;
     let found = scan(alloc, keeper, &prefix)?;
@@ -89,10 +89,10 @@ fn next_in<K: Keeper>(
     prefix: &[u8],
     after: Option<RowKey>,
 ) -> Result<Option<Entry>, KeepFault>
-    requires { (K.keeping keeper.old).ready }
-    ensures entry { Finds K.keeping keeper.old result (λ m found. option_map (λ e. (e.0.items, e.1.items)) found ≡ first_entry (entries_above (place_after (option_map (λ r. r.0) after)) (tail prefix.now m))) }
-    ensures reads { OnlyReads K.keeping keeper.old keeper.new result }
-    ensures at_most { Told K.keeping keeper.old (λ m. LooksAtMost K.keeping keeper.old keeper.new (next_looks (prefix.now ++ place_after (option_map (λ r. r.0) after)) m)) }
+    requires { (K.view keeper.old).ready }
+    ensures entry { Finds K.view keeper.old result (λ m found. option_map (λ e. (e.0.items, e.1.items)) found ≡ first_entry (entries_above (place_after (option_map (λ r. r.0) after)) (tail prefix.now m))) }
+    ensures reads { OnlyReads K.view keeper.old keeper.new result }
+    ensures at_most { Told K.view keeper.old (λ m. LooksAtMost K.view keeper.old keeper.new (next_looks (prefix.now ++ place_after (option_map (λ r. r.0) after)) m)) }
 {
     match after {
         None => next_under(alloc, keeper, prefix, &[]),
@@ -111,10 +111,10 @@ pub fn next_row_key<K: Keeper>(
     owner: &Name,
     after: Option<RowKey>,
 ) -> Result<Option<RowKey>, KeepFault>
-    requires { (K.keeping keeper.old).ready }
-    ensures row { Finds K.keeping keeper.old result (λ m row. option_map (λ r. r.0) row ≡ row_after (option_map (λ r. r.0) after) kind owner.now m) }
-    ensures reads { OnlyReads K.keeping keeper.old keeper.new result }
-    ensures at_most { Told K.keeping keeper.old (λ m. LooksAtMost K.keeping keeper.old keeper.new (next_looks (prefix_of kind owner.now ++ place_after (option_map (λ r. r.0) after)) m)) }
+    requires { (K.view keeper.old).ready }
+    ensures row { Finds K.view keeper.old result (λ m row. option_map (λ r. r.0) row ≡ row_after (option_map (λ r. r.0) after) kind owner.now m) }
+    ensures reads { OnlyReads K.view keeper.old keeper.new result }
+    ensures at_most { Told K.view keeper.old (λ m. LooksAtMost K.view keeper.old keeper.new (next_looks (prefix_of kind owner.now ++ place_after (option_map (λ r. r.0) after)) m)) }
 {
     let prefix = prefix_bytes(alloc, kind, owner)?;
     match next_in(alloc, keeper, &prefix, after)? {
@@ -154,10 +154,10 @@ fn owners_among(alloc: Global, found: &[Entry]) -> Result<Vec<Name>, Memory>
 ///
 /// It costs what it finds. It never answers Full.
 pub fn owners<K: Keeper>(alloc: Global, keeper: &mut K, kind: Kind) -> Result<Vec<Name>, KeepFault>
-    requires { (K.keeping keeper.old).ready }
-    ensures owners { Finds K.keeping keeper.old result (λ m names. names.items ≡ owners_under kind m) }
-    ensures reads { OnlyReads K.keeping keeper.old keeper.new result }
-    ensures at_most { Told K.keeping keeper.old (λ m. LooksAtMost K.keeping keeper.old keeper.new (scan_looks (code kind ∷ []) m)) }
+    requires { (K.view keeper.old).ready }
+    ensures owners { Finds K.view keeper.old result (λ m names. names.items ≡ owners_under kind m) }
+    ensures reads { OnlyReads K.view keeper.old keeper.new result }
+    ensures at_most { Told K.view keeper.old (λ m. LooksAtMost K.view keeper.old keeper.new (scan_looks (code kind ∷ []) m)) }
 {
     let found = scan(alloc, keeper, &[kind.code()])?;
     let names = owners_among(alloc, &found)?;

@@ -2,7 +2,7 @@
 
 ghost use Rattle.std.specs.Prelude.{◌≤◌, length, true, IfOk, OnOk};
 ghost use Rattle.ct_base.specs.Names.{IsName};
-ghost use Rattle.ct_keep.specs.Words.{AreWell};
+ghost use Rattle.ct_keep.specs.Changes.{AreWell};
 ghost use Rattle.ct_keep.specs.InMemory.{TakesAll};
 
 use crate::{
@@ -15,10 +15,10 @@ use ct_keep::{Batch, KeepFault, Keeper, MemKeeper};
 use std::alloc::Global;
 use std::test::Fail;
 
-/// A word: a kind, an owner, the row that the key ends in, if it ends in one, and the value, or None where the entry is to go.
-type Word = (Kind, &'static str, Option<i64>, Option<&'static str>);
+/// A change: a kind, an owner, the row that the key ends in, if it ends in one, and the value, or None where the entry is to go.
+type Change = (Kind, &'static str, Option<i64>, Option<&'static str>);
 
-const WORDS: &[Word] = &[
+const WORDS: &[Change] = &[
     (Kind::Tables, "zoo", None, Some("three")),
     (Kind::Tables, "docs", None, Some("four")),
     (Kind::Tables, "ab", None, Some("two")),
@@ -54,11 +54,11 @@ fn part_of(alloc: Global, row: Option<i64>) -> Result<Vec<u8>, Memory>
     }
 }
 
-/// Adds a word, unless its value is too long.
-fn add_word(alloc: Global, batch: &mut Batch, word: Word) -> Result<(), Memory>
+/// Adds a change, unless its value is too long.
+fn add_change(alloc: Global, batch: &mut Batch, change: Change) -> Result<(), Memory>
     ensures { AreWell (λ _ _. true) batch.old → OnOk result (AreWell (λ _ _. true) batch.new) }
 {
-    let (kind, owner, row, value) = word;
+    let (kind, owner, row, value) = change;
     let owner = named(alloc, owner)?;
     let part = part_of(alloc, row)?;
     let Some(value) = value else {
@@ -71,26 +71,26 @@ fn add_word(alloc: Global, batch: &mut Batch, word: Word) -> Result<(), Memory>
     put_entry(alloc, batch, kind, &owner, &part, value)
 }
 
-fn batch_of(alloc: Global, words: &[Word]) -> Result<Batch, Memory>
+fn batch_of(alloc: Global, changes: &[Change]) -> Result<Batch, Memory>
     ensures { IfOk result (AreWell (λ _ _. true)) }
 {
     let mut batch = Batch::new(alloc);
-    for word in words {
-        add_word(alloc, &mut batch, *word)?;
+    for change in changes {
+        add_change(alloc, &mut batch, *change)?;
     }
     Ok(batch)
 }
 
-/// Commits the words.
-fn commit<K: Keeper>(alloc: Global, keeper: &mut K, words: &[Word]) -> Result<(), KeepFault>
-    requires { TakesAll (K.keeping keeper.old) }
-    ensures { OnOk result (TakesAll (K.keeping keeper.new)) }
+/// Commits the changes.
+fn commit<K: Keeper>(alloc: Global, keeper: &mut K, changes: &[Change]) -> Result<(), KeepFault>
+    requires { TakesAll (K.view keeper.old) }
+    ensures { OnOk result (TakesAll (K.view keeper.new)) }
 {
-    let batch = batch_of(alloc, words)?;
+    let batch = batch_of(alloc, changes)?;
     keeper.commit(alloc, batch)
 }
 
-/// A keeper in memory that holds what the words say.
+/// A keeper in memory that holds what the changes say.
 fn kept(alloc: Global) -> Result<MemKeeper, KeepFault> {
     let mut keeper = MemKeeper::new(alloc, Vec::new(alloc), 100_000, 0)?;
     commit(alloc, &mut keeper, WORDS)?;

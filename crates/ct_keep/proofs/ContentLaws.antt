@@ -13,7 +13,7 @@ use Rattle.ct_keep.specs.Trials.{staying, removals}
 pub get-insert_here : (m : Content) (k v : List ℕ) → get (insert m k v) k ≡ Some v
 get-insert_here m k v = get-insert nat_list_cmp_total m k v k ∙ ap (λ (b : Bool). cond b (Some v) (get m k)) (same_itself k)
 
--- a word takes back what another made of its key
+-- a change takes back what another made of its key
 pub set_back : (k : List ℕ) (o : Option (List ℕ)) (m : Content) → set_to k (get m k) (set_to k o m) ≡ m
 set_back k o m = same_content (set_to k (get m k) (set_to k o m)) m (λ q.
     get-set_to k (get m k) (set_to k o m) q ∙ ap (cond (same q k) (get m k)) (get-set_to k o m q)

@@ -2,4 +2,4 @@ pub mod Scanning
 pub mod SortedPairs
 pub mod ContentLaws
 pub mod Courses
-pub mod WellWords
+pub mod WellChanges

@@ -4,7 +4,7 @@ use Rattle.std.proofs.Common.{cond, sym, ap, subst, ◌∙◌, arith, append-nil
 use Rattle.std.specs.FinMap.{entries}
 use Rattle.std.specs.Option.{option_map}
 use Rattle.ct_keep.specs.Content.{Content, begins_with, entries_above, entries_under, first_entry}
-use Rattle.ct_keep.specs.Keeping.{Counts}
+use Rattle.ct_keep.specs.KeeperViews.{Counts}
 use Rattle.ct_keep.specs.Rising.{Entry, beginning, first_then, none_then, stops}
 use Rattle.ct_keep.specs.Tail.{cut, tail, left_under, rest_under}
 use Rattle.ct_keep.specs.TailLaws.{entries-tail, front_and_rest}

@@ -8,8 +8,8 @@ use Rattle.ct_site.specs.Disks.{Beside}
 use Rattle.ct_keep.specs.declared.keepers.KeepFault.{KeepFault}
 use Rattle.ct_keep.specs.declared.keepers.KeepFault.TheVariants.{Memory, Disk, Full}
 use Rattle.ct_keep.specs.Content.{Content}
-use Rattle.ct_keep.specs.Words.{AreWell}
-use Rattle.ct_keep.specs.Keeping.{Keeping, Fixed, Counts, Kept, Reads, Goes, Answers, Came, Leaves, IsSettled, Apart, KeeperHears, KeeperSays, PassesRoom, UnlessDisk, OnDisk, counted, is_full, committed}
+use Rattle.ct_keep.specs.Changes.{AreWell}
+use Rattle.ct_keep.specs.KeeperViews.{KeeperView, Fixed, Counts, Kept, Reads, Goes, Answers, Came, Leaves, IsSettled, Apart, KeeperHears, KeeperSays, PassesRoom, UnlessDisk, OnDisk, counted, is_full, committed}
 
 -- ---- what never changes, by its fields
 
@@ -30,11 +30,11 @@ same_lender e = ap (λ (x : Fixed). x.lender) e
 
 -- ---- what every call keeps
 
-pub kept_all : (k : Keeping) → k.ready → Kept k k None
+pub kept_all : (k : KeeperView) → k.ready → Kept k k None
 kept_all k ready = record { ready = ready; beside = refl; fixed = refl; later = omega arith; cause = tt; calls = tt }
 
 -- a call that succeeded, and then another
-pub kept_then : (old mid new : Keeping) (fault : Option KeepFault) → Kept old mid None → Kept mid new fault → Kept old new fault
+pub kept_then : (old mid new : KeeperView) (fault : Option KeepFault) → Kept old mid None → Kept mid new fault → Kept old new fault
 kept_then old mid new fault first second = record {
   ready = second.ready;
   beside = second.beside ∙ first.beside;
@@ -57,16 +57,16 @@ kept_then old mid new fault first second = record {
     called (Some Disk) c = sym (same_aside first.fixed) ∙ c
 
 -- calls that succeeded, and then no memory
-pub kept_short : (old new : Keeping) → Kept old new None → Kept old new (Some Memory)
+pub kept_short : (old new : KeeperView) → Kept old new None → Kept old new (Some Memory)
 kept_short old new kept = record { ready = kept.ready; beside = kept.beside; fixed = kept.fixed; later = kept.later; cause = tt; calls = tt }
 
 -- ---- reads
 
-pub reads_none : (k : Keeping) → k.ready → Reads k k None
+pub reads_none : (k : KeeperView) → k.ready → Reads k k None
 reads_none k ready = record { not_full = λ e. cc; kept = kept_all k ready; content = refl; time = stays_all k.time; now = λ stopped said now. now; fulls = refl }
 
 -- reads that succeeded, and then others
-pub reads_on : (old mid new : Keeping) (fault : Option KeepFault) → Reads old mid None → Reads mid new fault → Reads old new fault
+pub reads_on : (old mid new : KeeperView) (fault : Option KeepFault) → Reads old mid None → Reads mid new fault → Reads old new fault
 reads_on old mid new fault first second = record {
   not_full = second.not_full;
   kept = kept_then old mid new fault first.kept second.kept;
@@ -83,20 +83,20 @@ reads_on old mid new fault first second = record {
     same (Some Disk) c = c
 
 -- reads that succeeded, and then no memory
-pub reads_short : (old new : Keeping) → Reads old new None → Reads old new (Some Memory)
+pub reads_short : (old new : KeeperView) → Reads old new None → Reads old new (Some Memory)
 reads_short old new reads = record { not_full = λ e. cc; kept = kept_short old new reads.kept; content = reads.content; time = reads.time; now = reads.now; fulls = reads.fulls }
 
 -- what is held after them
-pub reads_hold : (old new : Keeping) (m : Content) → Reads old new None → old.content ≡ Some m → new.content ≡ Some m
+pub reads_hold : (old new : KeeperView) (m : Content) → Reads old new None → old.content ≡ Some m → new.content ≡ Some m
 reads_hold old new m reads holds = reads.content ∙ holds
 
 -- what a batch needs after them
-pub reads_well : (old new : Keeping) (batch : List (List ℕ × Option (List ℕ))) → Reads old new None → AreWell old.fixed.well batch → AreWell new.fixed.well batch
+pub reads_well : (old new : KeeperView) (batch : List (List ℕ × Option (List ℕ))) → Reads old new None → AreWell old.fixed.well batch → AreWell new.fixed.well batch
 reads_well old new batch reads well = subst (λ (w : List ℕ → List ℕ → Bool). AreWell w batch) (sym (same_well reads.kept.fixed)) well
 
 -- ---- reads, and then at most one commit
 
-pub reads_then : (m next : Content) (old mid new : Keeping) (fault : Option KeepFault) → Reads old mid None → Goes m next mid new fault → Goes m next old new fault
+pub reads_then : (m next : Content) (old mid new : KeeperView) (fault : Option KeepFault) → Reads old mid None → Goes m next mid new fault → Goes m next old new fault
 reads_then m next old mid new fault reads goes = record {
   content = goes.content;
   time = passes_then old.time mid.time new.time _ (passes_stays old.time mid.time _ reads.time)
@@ -108,7 +108,7 @@ reads_then m next old mid new fault reads goes = record {
     before said is = ap (λ (b : Beside). b.said) (sym reads.kept.beside) ∙ is
 
 -- reads alone, which succeeded
-pub reads_only : (m : Content) (old new : Keeping) → IsSettled old → old.content ≡ Some m → Reads old new None → Goes m m old new None
+pub reads_only : (m : Content) (old new : KeeperView) → IsSettled old → old.content ≡ Some m → Reads old new None → Goes m m old new None
 reads_only m old new settled holds reads = record {
   content = reads.content ∙ holds;
   time = passes_stays old.time new.time _ reads.time;
@@ -116,7 +116,7 @@ reads_only m old new settled holds reads = record {
 }
 
 -- or which failed
-pub reads_failed : (m next : Content) (old new : Keeping) (fault : KeepFault) → IsSettled old → old.content ≡ Some m → Reads old new (Some fault) → Goes m next old new (Some fault)
+pub reads_failed : (m next : Content) (old new : KeeperView) (fault : KeepFault) → IsSettled old → old.content ≡ Some m → Reads old new (Some fault) → Goes m next old new (Some fault)
 reads_failed m next old new fault settled holds reads = record {
   content = came fault reads.content;
   time = passes_stays old.time new.time _ reads.time;
@@ -134,7 +134,7 @@ reads_failed m next old new fault settled holds reads = record {
     left Disk stopped is = inl is
 
 -- a commit, and then reads that succeeded
-pub goes_on : (m next : Content) (old mid new : Keeping) → Goes m next old mid None → Reads mid new None → Goes m next old new None
+pub goes_on : (m next : Content) (old mid new : KeeperView) → Goes m next old mid None → Reads mid new None → Goes m next old new None
 goes_on m next old mid new goes reads = record {
   content = reads.content ∙ goes.content;
   time = passes_then old.time mid.time new.time _ goes.time (passes_stays mid.time new.time _ reads.time);
@@ -142,7 +142,7 @@ goes_on m next old mid new goes reads = record {
 }
 
 -- the answer of the commit, by the limit before the reads
-pub answers_then : (m next : Content) (old mid : Keeping) (fault : Option KeepFault) → Reads old mid None → Answers fault mid.fixed.limit m next → Answers fault old.fixed.limit m next
+pub answers_then : (m next : Content) (old mid : KeeperView) (fault : Option KeepFault) → Reads old mid None → Answers fault mid.fixed.limit m next → Answers fault old.fixed.limit m next
 answers_then m next old mid fault reads answers = subst (λ (limit : ℕ). Answers fault limit m next) (same_limit reads.kept.fixed) answers
 
 -- where the reads failed, no commit was tried
@@ -152,15 +152,15 @@ answers_failed Disk limit m next not_full = tt
 answers_failed Full limit m next not_full = absurd (not_full refl)
 
 -- how often a commit was refused
-pub fulls_then : (old mid : Keeping) (new : Counts) (fault : Option KeepFault) → Reads old mid None → new ≡ committed fault mid.counts → new.fulls ≡ counted (is_full fault) old.counts.fulls
+pub fulls_then : (old mid : KeeperView) (new : Counts) (fault : Option KeepFault) → Reads old mid None → new ≡ committed fault mid.counts → new.fulls ≡ counted (is_full fault) old.counts.fulls
 fulls_then old mid new fault reads commits = ap (λ (c : Counts). c.fulls) commits ∙ ap (counted (is_full fault)) reads.fulls
 
 -- ---- hearing and saying
 
-pub apart_all : (k : Keeping) → Apart k k
+pub apart_all : (k : KeeperView) → Apart k k
 apart_all k = record { ready = λ ready. ready; fixed = refl; content = refl; counts = refl; disk_faults = refl }
 
-pub apart_then : (old mid new : Keeping) → Apart old mid → Apart mid new → Apart old new
+pub apart_then : (old mid new : KeeperView) → Apart old mid → Apart mid new → Apart old new
 apart_then old mid new first second = record {
   ready = λ ready. second.ready (first.ready ready);
   fixed = second.fixed ∙ first.fixed;
@@ -169,11 +169,11 @@ apart_then old mid new first second = record {
   disk_faults = second.disk_faults ∙ first.disk_faults;
 }
 
-pub hears_none : (k : Keeping) → KeeperHears [] k k
+pub hears_none : (k : KeeperView) → KeeperHears [] k k
 hears_none k = record { apart = apart_all k; left = sym (ahead_none k.beside.left); said = refl; say_faults = refl; time = stays_all k.time }
 
 -- one piece of the script, and then another
-pub hears_then : (old mid new : Keeping) (a b : List ℕ) → KeeperHears a old mid → KeeperHears b mid new → KeeperHears (a ++ b) old new
+pub hears_then : (old mid new : KeeperView) (a b : List ℕ) → KeeperHears a old mid → KeeperHears b mid new → KeeperHears (a ++ b) old new
 hears_then old mid new a b first second = record {
   apart = apart_then old mid new first.apart second.apart;
   left = first.left ∙ ap (ahead a) second.left ∙ ahead_twice a b new.beside.left;
@@ -182,11 +182,11 @@ hears_then old mid new a b first second = record {
   time = stays_then old.time mid.time new.time first.time second.time;
 }
 
-pub says_none : (k : Keeping) → KeeperSays [] k k
+pub says_none : (k : KeeperView) → KeeperSays [] k k
 says_none k = record { apart = apart_all k; said = sym (behind_none k.beside.said); left = refl; hear_faults = refl; time = λ ready m holds. passes_none k.time _ }
 
 -- one piece said, and then another
-pub says_then : (old mid new : Keeping) (a b : List ℕ) → KeeperSays a old mid → KeeperSays b mid new → KeeperSays (a ++ b) old new
+pub says_then : (old mid new : KeeperView) (a b : List ℕ) → KeeperSays a old mid → KeeperSays b mid new → KeeperSays (a ++ b) old new
 says_then old mid new a b first second = record {
   apart = apart_then old mid new first.apart second.apart;
   said = second.said ∙ ap (λ (told : Option (List ℕ)). behind told b) first.said ∙ behind_twice old.beside.said a b;

@@ -1,4 +1,4 @@
--- What a keeper holds, and what the words of a batch make of it.
+-- What a keeper holds, and what the changes of a batch make of it.
 use Rattle.std.specs.Prelude.{ℕ, ◌+◌, ◌==◌, ◌≤◌, max, sum_by, Bool, true, false, ◌&&◌, List, [], ◌∷◌, length, filter, Option, Some, None}
 use Rattle.std.specs.Ordering.{nat_cmp, is_lt}
 use Rattle.std.specs.Cmp.Lexicographic.{slice_cmp}
@@ -9,15 +9,15 @@ abbrev pub Content : Type 0
 Content = FinMap (slice_cmp nat_cmp) (List ℕ)
 
 -- a key, and the value that it is to have, or None where it is to go
-abbrev pub Word : Type 0
-Word = List ℕ × Option (List ℕ)
+abbrev pub Change : Type 0
+Change = List ℕ × Option (List ℕ)
 
 abbrev pub set_to : List ℕ → Option (List ℕ) → Content → Content
 set_to key (Some value) m = insert m key value
 set_to key None m = remove m key
 
--- the content after some words, the first of them first: the last word on a key counts
-abbrev pub after : List Word → Content → Content
+-- the content after some changes, the first of them first: the last change on a key counts
+abbrev pub after : List Change → Content → Content
 after [] m = m
 after (w ∷ ws) m = after ws (set_to w.0 w.1 m)
 

@@ -7,8 +7,8 @@ use Rattle.ct_site.specs.Disks.{Beside, DiskView}
 use Rattle.ct_keep.specs.declared.keepers.KeepFault.{KeepFault}
 use Rattle.ct_keep.specs.declared.keepers.KeepFault.TheVariants.{Memory, Disk, Full}
 use Rattle.ct_keep.specs.Content.{Content}
-use Rattle.ct_keep.specs.Words.{HoldsEntries}
-use Rattle.ct_keep.specs.Keeping.{Keeping, Counts, Aside, IsSettled}
+use Rattle.ct_keep.specs.Changes.{HoldsEntries}
+use Rattle.ct_keep.specs.KeeperViews.{KeeperView, Counts, Aside, IsSettled}
 
 -- It makes no call of a disk, so that none of its calls fails by the disk.
 abbrev pub NotDisk : Option KeepFault → Type 0
@@ -27,7 +27,7 @@ abbrev pub aside_of : DiskView → Aside
 aside_of disk = record { image = disk.image; faults = disk.faults }
 
 -- what is known of it
-abbrev pub in_memory : Content → ℕ → Counts → Beside → Option ℕ → Aside → Option GName → Keeping
+abbrev pub in_memory : Content → ℕ → Counts → Beside → Option ℕ → Aside → Option GName → KeeperView
 in_memory m limit counts beside say_room aside lender = record {
   ready = Unit {0};
   content = Some m;
@@ -46,6 +46,6 @@ pub holds_in_memory : (m : Content) → HoldsEntries m → (n : Content) → Som
 holds_in_memory m entries n is = let one : m ≡ n = cc in subst HoldsEntries one entries
 
 -- It may be called, and takes every entry.
-pub record TakesAll (k : Keeping) : Type 0 where
+pub record TakesAll (k : KeeperView) : Type 0 where
   pub ready : k.ready
   pub well : (key value : List ℕ) → k.fixed.well key value ≡ true

@@ -6,9 +6,9 @@ use Rattle.std.specs.Coded.{Coded, code_by, coded_ℕ, coded_list, coded×, prop
 use denote.Struct.Codes.{also_coded}
 use Rattle.std.specs.declared.alloc.Global.{Global}
 use Rattle.ct_keep.specs.Content.{Content}
-use Rattle.ct_keep.specs.Words.{HoldsEntries}
+use Rattle.ct_keep.specs.Changes.{HoldsEntries}
 use Rattle.ct_keep.specs.WellLaws.{HoldsWell-prop}
-use Rattle.ct_keep.specs.Keeping.{Keeping, Counts, Aside}
+use Rattle.ct_keep.specs.KeeperViews.{KeeperView, Counts, Aside}
 use Rattle.ct_keep.specs.Pairs.{content_code}
 use Rattle.ct_keep.specs.InMemory.{in_memory}
 
@@ -42,8 +42,8 @@ pub record IsNew (script : List ℕ) (most room : ℕ) (k : KeeperState) : Type 
   pub said_room : k.said_room ≡ room
   pub say_faults : k.say_faults ≡ 0
 
-abbrev pub mem_keeping : KeeperState → Keeping
-mem_keeping s = in_memory s.content s.limit s.counts (record { left = Some s.left; said = Some s.said; hear_faults = 0; say_faults = s.say_faults }) (Some s.said_room) no_disk None
+abbrev pub mem_view : KeeperState → KeeperView
+mem_view s = in_memory s.content s.limit s.counts (record { left = Some s.left; said = Some s.said; hear_faults = 0; say_faults = s.say_faults }) (Some s.said_room) no_disk None
 
 -- The script has been heard up to here, and what may be said has its room.
 pub record IsRoomy (script : List ℕ) (heard : ℕ) (said : Vec ℕ Global) (said_room : ℕ) : Type 0 where

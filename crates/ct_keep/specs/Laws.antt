@@ -1,4 +1,4 @@
--- Laws of contents: what words make of them, and what they weigh.
+-- Laws of contents: what changes make of them, and what they weigh.
 use Rattle.std.specs.Prelude.{ℕ, ◌≡◌, ◌≢◌, ◌+◌, ◌*◌, ◌≤◌, sum_by, Bool, true, false, not, List, [], ◌∷◌, ◌++◌, length, filter, Option, Some, None, unwrap_or, codes, refl}
 use Rattle.std.proofs.Common.{cond, sym, ap, ◌∙◌, arith}
 use Rattle.std.specs.Option.{option_or}
@@ -11,7 +11,7 @@ use Rattle.std.specs.FinMap.{get, insert, remove, entries, empty, find, put, fro
 use Rattle.std.proofs.lemmas.Cmp.{tied_itself, nat_cmp_total, nat_list_cmp_total, eq_by_cmp_equiv}
 use Rattle.std.proofs.lemmas.Map.Lookups.{exact_bytes}
 use Rattle.std.proofs.lemmas.List.Sums.{sum_by-cons}
-use Rattle.ct_keep.specs.Content.{Content, Word, set_to, after, entry_weight, weight, begins_with, entries_under}
+use Rattle.ct_keep.specs.Content.{Content, Change, set_to, after, entry_weight, weight, begins_with, entries_under}
 use Rattle.ct_keep.specs.Rising.{Entry, order, below, rises, rises_filter, entries_rise, sorted_from_rises, less, below_lower}
 use Rattle.ct_keep.specs.RisingKeys.{and_true, T_from_true}
 
@@ -41,27 +41,27 @@ pub same-front : (p a b : List ℕ) → same (p ++ a) (p ++ b) ≡ same a b
 same-front [] a b = refl
 same-front (x ∷ p) a b = ap (λ (o : Ordering). is_eq (ordering_then o (order (p ++ a) (p ++ b)))) (tied_itself nat_cmp_total x) ∙ same-front p a b
 
--- ---- what a content has after words
+-- ---- what a content has after changes
 
 pub get-set_to : (key : List ℕ) (o : Option (List ℕ)) (m : Content) (q : List ℕ) → get (set_to key o m) q ≡ cond (same q key) o (get m q)
 get-set_to key None m q = get-remove nat_list_cmp_total m key q
 get-set_to key (Some value) m q = get-insert nat_list_cmp_total m key value q
 
--- what the last word on a key says, if there is one
-abbrev pub last_word : List ℕ → List Word → Option (Option (List ℕ))
-last_word q [] = None
-last_word q (w ∷ ws) = option_or (last_word q ws) (if same q w.0 then Some w.1 else None)
+-- what the last change on a key says, if there is one
+abbrev pub last_change : List ℕ → List Change → Option (Option (List ℕ))
+last_change q [] = None
+last_change q (w ∷ ws) = option_or (last_change q ws) (if same q w.0 then Some w.1 else None)
 
-pub get-after : (ws : List Word) (m : Content) (q : List ℕ) → get (after ws m) q ≡ unwrap_or (last_word q ws) (get m q)
+pub get-after : (ws : List Change) (m : Content) (q : List ℕ) → get (after ws m) q ≡ unwrap_or (last_change q ws) (get m q)
 get-after [] m q = refl
-get-after (w ∷ ws) m q = get-after ws (set_to w.0 w.1 m) q ∙ ap (unwrap_or (last_word q ws)) (get-set_to w.0 w.1 m q) ∙ either (last_word q ws) (same q w.0)
+get-after (w ∷ ws) m q = get-after ws (set_to w.0 w.1 m) q ∙ ap (unwrap_or (last_change q ws)) (get-set_to w.0 w.1 m q) ∙ either (last_change q ws) (same q w.0)
   where
     either : (o : Option (Option (List ℕ))) (b : Bool) → unwrap_or o (cond b w.1 (get m q)) ≡ unwrap_or (option_or o (cond b (Some w.1) None)) (get m q)
     either None true = refl
     either None false = refl
     either (Some x) b = refl
 
-pub after-append : (us ws : List Word) (m : Content) → after (us ++ ws) m ≡ after ws (after us m)
+pub after-append : (us ws : List Change) (m : Content) → after (us ++ ws) m ≡ after ws (after us m)
 after-append [] ws m = refl
 after-append (u ∷ us) ws m = after-append us ws (set_to u.0 u.1 m)
 
@@ -69,7 +69,7 @@ after-append (u ∷ us) ws m = after-append us ws (set_to u.0 u.1 m)
 pub same_content : (m n : Content) → ((q : List ℕ) → get m q ≡ get n q) → m ≡ n
 same_content m n is = same_map nat_list_cmp_total exact_bytes m n is
 
--- ---- the entries after one word
+-- ---- the entries after one change
 
 pub entries-empty : entries (empty {X = List ℕ} {R = slice_cmp nat_cmp}) ≡ []
 entries-empty = none (entries (empty {X = List ℕ} {R = slice_cmp nat_cmp})) (sym (len-entries (empty {X = List ℕ} {R = slice_cmp nat_cmp})) ∙ len-empty (slice_cmp nat_cmp) (List ℕ))
@@ -174,7 +174,7 @@ total_without key (e ∷ es) h =
       | false ↦ λ t. let rest = total_without key es b.1 in omega (arith, rest)
     ] refl
 
--- One word takes the weight of the entry that it replaces, and brings that of its own.
+-- One change takes the weight of the entry that it replaces, and brings that of its own.
 pub weight-set_to : (key : List ℕ) (o : Option (List ℕ)) (m : Content) → weight (set_to key o m) + value_weight key (get m key) ≡ weight m + value_weight key o
 weight-set_to key None m =
     let before = sum-total (entries m) in
@@ -189,13 +189,13 @@ weight-set_to key (Some value) m =
     let both = total_put key value (entries m) (entries_rise m) in
     omega (arith, before, behind, found, both)
 
--- what some words weigh by themselves
-abbrev pub words_weight : List Word → ℕ
-words_weight [] = 0
-words_weight (w ∷ ws) = value_weight w.0 w.1 + words_weight ws
+-- what some changes weigh by themselves
+abbrev pub changes_weight : List Change → ℕ
+changes_weight [] = 0
+changes_weight (w ∷ ws) = value_weight w.0 w.1 + changes_weight ws
 
--- words add no more than they weigh
-pub weight-after_le : (ws : List Word) (m : Content) → weight (after ws m) ≤ weight m + words_weight ws
+-- changes add no more than they weigh
+pub weight-after_le : (ws : List Change) (m : Content) → weight (after ws m) ≤ weight m + changes_weight ws
 weight-after_le [] m = omega arith
 weight-after_le (w ∷ ws) m =
     let one = weight-set_to w.0 w.1 m in
@@ -213,10 +213,10 @@ weight_of_length m = let each = total_of_length (entries m) in let sum = sum-tot
 
 -- ---- the definitions at work
 
-abbrev pub three_words : List Word
-three_words = (codes "b", Some (codes "x")) ∷ (codes "ab", Some (codes "y")) ∷ (codes "a", Some (codes "z")) ∷ []
+abbrev pub three_changes : List Change
+three_changes = (codes "b", Some (codes "x")) ∷ (codes "ab", Some (codes "y")) ∷ (codes "a", Some (codes "z")) ∷ []
 
--- the last word on a key counts, and one word says nothing of other keys
+-- the last change on a key counts, and one change says nothing of other keys
 last_counts : (m : Content) → get (after ((codes "a", None) ∷ (codes "a", Some (codes "one")) ∷ (codes "ab", None) ∷ (codes "a", Some (codes "two")) ∷ []) m) (codes "a") ≡ Some (codes "two")
 last_counts m = get-after ((codes "a", None) ∷ (codes "a", Some (codes "one")) ∷ (codes "ab", None) ∷ (codes "a", Some (codes "two")) ∷ []) m (codes "a")
 
@@ -227,14 +227,14 @@ others_stay : (m : Content) → get (after ((codes "a", Some (codes "one")) ∷ 
 others_stay m = get-after ((codes "a", Some (codes "one")) ∷ (codes "ab", None) ∷ []) m (codes "b")
 
 -- entries stand in the order of their keys
-pub in_order : entries (after three_words empty) ≡ (codes "a", codes "z") ∷ (codes "ab", codes "y") ∷ (codes "b", codes "x") ∷ []
+pub in_order : entries (after three_changes empty) ≡ (codes "a", codes "z") ∷ (codes "ab", codes "y") ∷ (codes "b", codes "x") ∷ []
 in_order = entries_put _ (codes "a") (codes "z") _ (entries_put _ (codes "ab") (codes "y") _ (entries-insert_empty (codes "b") (codes "x")))
 
 -- of the entries under a prefix neither is the one of the prefix itself, nor one that begins otherwise
-pub under_a : entries_under (codes "a") (after three_words empty) ≡ (codes "ab", codes "y") ∷ []
+pub under_a : entries_under (codes "a") (after three_changes empty) ≡ (codes "ab", codes "y") ∷ []
 under_a = ap (λ (es : List Entry). filter (λ e. begins_with (codes "a") e.0) (filter (λ e. is_lt (order (codes "a") e.0)) es)) in_order
 
-three_weigh : weight (after three_words empty) ≡ 192
+three_weigh : weight (after three_changes empty) ≡ 192
 three_weigh = ap (sum_by entry_weight) in_order
 
 -- an entry of over 64 bytes weighs its bytes

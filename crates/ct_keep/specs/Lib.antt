@@ -1,8 +1,8 @@
 pub mod Content
-pub mod Words
+pub mod Changes
 pub mod Spoken
 pub mod Handed
-pub mod Keeping
+pub mod KeeperViews
 pub mod Composing
 pub mod RisingKeys
 pub mod Rising

@@ -9,7 +9,7 @@ use Rattle.std.specs.declared.cmp.Ordering.TheVariants.{Less}
 use Rattle.std.specs.Ordering.{nat_cmp, is_lt}
 use Rattle.std.specs.FinMap.{entries}
 use Rattle.ct_keep.specs.Content.{Content, begins_with, entries_above, entries_under}
-use Rattle.ct_keep.specs.Keeping.{Counts, counted, is_kind, is_kind_of, is_either, looked_up}
+use Rattle.ct_keep.specs.KeeperViews.{Counts, counted, is_kind, is_kind_of, is_either, looked_up}
 use Rattle.ct_keep.specs.Rising.{Entry, order, above, beginning, below, rises, rises_filter, entries_rise, begins_itself, less, none_later, then_less, lt_from_less, eq_from_equal}
 use Rattle.ct_keep.specs.RisingKeys.{and_true}
 use Rattle.ct_keep.specs.Tail.{tail}

@@ -3,7 +3,7 @@ use Rattle.std.specs.Prelude.{ℕ, ◌≡◌, ◌+◌, ◌-◌, ◌^◌, ◌≤�
 use Rattle.std.specs.Option.{option_map}
 use Rattle.std.specs.Bool.{if◌then◌else◌}
 use Rattle.ct_keep.specs.Content.{Content, begins_with, entries_above, first_entry}
-use Rattle.ct_keep.specs.Keeping.{Keeping, Counts, is_either}
+use Rattle.ct_keep.specs.KeeperViews.{KeeperView, Counts, is_either}
 
 abbrev pub one_if : Bool → ℕ
 one_if true = 1
@@ -57,7 +57,7 @@ pub record RisesBy (most old new : Counts) : Type 0 where
   pub rules : new.rules ≤ old.rules + most.rules
 
 -- The counts rose by no more than this, however the call went.
-abbrev pub LooksAtMost : {K : Type 0} → (K → Keeping) → K → K → Counts → Type 0
+abbrev pub LooksAtMost : {K : Type 0} → (K → KeeperView) → K → K → Counts → Type 0
 LooksAtMost view old new most = RisesBy most (view old).counts (view new).counts
 
 -- computed examples: a scan of two posting rows, behind which a text stands, asks three times, and the last look-up hands out the text

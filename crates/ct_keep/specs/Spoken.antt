@@ -1,7 +1,7 @@
--- A word as contracts see it.
+-- A change as contracts see it.
 use Rattle.std.specs.Prelude.{ℕ, List, Option}
 use Rattle.std.specs.Option.{option_map}
-use Rattle.ct_keep.specs.declared.batches.Word.{Word}
+use Rattle.ct_keep.specs.declared.batches.Change.{Change}
 
-abbrev pub spoken : Word → List ℕ × Option (List ℕ)
+abbrev pub spoken : Change → List ℕ × Option (List ℕ)
 spoken w = (w.key.items, option_map (λ v. v.items) w.value)

@@ -11,7 +11,7 @@ use Rattle.std.specs.FinMap.{get, entries, is_sorted, find, entries-from_sorted,
 use Rattle.ct_keep.specs.Content.{Content, set_to, after, first_entry, entries_above, entries_under, begins_with}
 use Rattle.ct_keep.specs.Rising.{Entry, order, above, beginning, below, rises, rises_filter, entries_rise, sorted_from_rises, less, begins_front, begins_itself, stops, first_then, none_then}
 use Rattle.ct_keep.specs.RisingKeys.{and_true, and_both, T_from_true}
-use Rattle.ct_keep.specs.Laws.{same, same_keys, same_other, same-front, get-set_to, same_content, three_words, under_a}
+use Rattle.ct_keep.specs.Laws.{same, same_keys, same_other, same-front, get-set_to, same_content, three_changes, under_a}
 use Rattle.ct_keep.specs.Tail.{cut, tail, left_under, rest_under}
 
 -- ---- keys that begin alike, and their rests
@@ -219,5 +219,5 @@ tail-set_to_other p key o m differs = same_content _ _ at
         ∙ sym (get-tail p m y r)
 
 -- computed example: the rests of the keys, without the prefix itself and without a neighbour
-behind_a : entries (tail (codes "a") (after three_words empty)) ≡ (codes "b", codes "y") ∷ []
-behind_a = entries-tail (codes "a") (after three_words empty) ∙ ap (cut 1) under_a
+behind_a : entries (tail (codes "a") (after three_changes empty)) ≡ (codes "b", codes "y") ∷ []
+behind_a = entries-tail (codes "a") (after three_changes empty) ∙ ap (cut 1) under_a

@@ -7,17 +7,17 @@ use ct_base::Memory;
 use std::alloc::Global;
 use std::marker::Model;
 
-/// A word of a batch: a key, and the value that it is to have, or None where the entry is to go.
+/// A change of a batch: a key, and the value that it is to have, or None where the entry is to go.
 #[derive(Debug, Drop)]
-pub struct Word {
+pub struct Change {
     pub key: Vec<u8>,
     pub value: Option<Vec<u8>>,
 }
 
-/// The words of one commit, in order; the last word on a key counts. It is seen as the list of its words.
+/// The changes of one commit, in order; the last change on a key counts. It is seen as the list of its changes.
 #[derive(Debug, Drop)]
 pub struct Batch {
-    words: Vec<Word>,
+    changes: Vec<Change>,
 }
 
 impl Model for Batch {
@@ -26,61 +26,61 @@ impl Model for Batch {
 
     ghost Value = { List (List ℕ × Option (List ℕ)) };
 
-    ghost view = { λ b. map spoken b.words.items };
+    ghost view = { λ b. map spoken b.changes.items };
 }
 
 impl Batch {
-    /// A batch without a word. It takes no memory; its later words do.
+    /// A batch without a change. It takes no memory; its later changes do.
     pub fn new(alloc: Global) -> Batch
         ensures { result ≡ [] }
     {
         Batch {
-            words: Vec::new(alloc),
+            changes: Vec::new(alloc),
         }
     }
 
-    /// Adds the word that a key is to have a value.
+    /// Adds the change that a key is to have a value.
     pub fn put(&mut self, key: Vec<u8>, value: Vec<u8>) -> Result<(), Memory>
         ensures ok { OnOk result (self.new ≡ self.old ++ (key.items, Some value.items) ∷ []) }
         ensures err { OnErr result (self.new ≡ self.old) }
     {
-        self.words.push(Word {
+        self.changes.push(Change {
             key,
             value: Some(value),
         })?;
         Ok(())
     }
 
-    /// Adds the word that an entry is to go.
+    /// Adds the change that an entry is to go.
     pub fn remove(&mut self, key: Vec<u8>) -> Result<(), Memory>
         ensures ok { OnOk result (self.new ≡ self.old ++ (key.items, None) ∷ []) }
         ensures err { OnErr result (self.new ≡ self.old) }
     {
-        self.words.push(Word { key, value: None })?;
+        self.changes.push(Change { key, value: None })?;
         Ok(())
     }
 
-    /// Adds the words of another batch, in order: all of them or none.
+    /// Adds the changes of another batch, in order: all of them or none.
     pub fn append(&mut self, other: Batch) -> Result<(), Memory>
         ensures ok { OnOk result (self.new ≡ self.old ++ other) }
         ensures err { OnErr result (self.new ≡ self.old) }
     {
-        let mut words = other.words;
-        self.words.append(&mut words)?;
+        let mut changes = other.changes;
+        self.changes.append(&mut changes)?;
         Ok(())
     }
 
-    /// The words, in order.
-    pub fn words(&self) -> &[Word]
+    /// The changes, in order.
+    pub fn changes(&self) -> &[Change]
         ensures { map spoken result.now ≡ self.now }
     {
-        self.words.as_slice()
+        self.changes.as_slice()
     }
 
-    /// The words, in order, without a copy.
-    pub fn into_words(self) -> Vec<Word>
+    /// The changes, in order, without a copy.
+    pub fn into_changes(self) -> Vec<Change>
         ensures { map spoken result.items ≡ self }
     {
-        self.words
+        self.changes
     }
 }

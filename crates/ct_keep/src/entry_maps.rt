@@ -5,10 +5,10 @@ ghost use Rattle.std.specs.Option.{option_map};
 ghost use Rattle.std.specs.FinMap.{get, empty};
 ghost use Rattle.ct_keep.specs.Content.{after, weight, entries_above, first_entry};
 ghost use Rattle.ct_keep.specs.Spoken.{spoken};
-ghost use Rattle.ct_keep.specs.Keeping.{Answers, fault_of};
+ghost use Rattle.ct_keep.specs.KeeperViews.{Answers, fault_of};
 ghost use Rattle.ct_keep.specs.InMemory.{NotDisk};
 
-use crate::batches::Word;
+use crate::batches::Change;
 use crate::keepers::KeepFault;
 use crate::sorted_entries::SortedEntries;
 use crate::trials::Trial;
@@ -17,7 +17,7 @@ use std::alloc::Global;
 use std::marker::Model;
 use std::mem::replace;
 
-/// A content in memory, and its weight. A look-up, and each word of a commit, cost the logarithm of the number of entries.
+/// A content in memory, and its weight. A look-up, and each change of a commit, cost the logarithm of the number of entries.
 #[derive(Debug, Drop)]
 pub(crate) struct EntryMap {
     held: SortedEntries,
@@ -77,21 +77,21 @@ impl EntryMap {
         }
     }
 
-    /// Does what the words say, all of it or none: Full exactly where the content would weigh more than the limit and more than before.
+    /// Does what the changes say, all of it or none: Full exactly where the content would weigh more than the limit and more than before.
     pub(crate) fn commit(
         &mut self,
         alloc: Global,
-        words: Vec<Word>,
+        changes: Vec<Change>,
         limit: u64,
     ) -> Result<(), KeepFault>
-        ensures ok { OnOk result (self.new ≡ after (map spoken words.items) self.old) }
+        ensures ok { OnOk result (self.new ≡ after (map spoken changes.items) self.old) }
         ensures err { OnErr result (self.new ≡ self.old) }
-        ensures answers { Answers (fault_of result) limit self.old (after (map spoken words.items) self.old) }
+        ensures answers { Answers (fault_of result) limit self.old (after (map spoken changes.items) self.old) }
         ensures not_disk { NotDisk (fault_of result) }
     {
         let held = replace(&mut self.held, SortedEntries::new(alloc));
         let mut trial = Trial::begin(alloc, held, self.total);
-        if trial.do_words(alloc, words).is_err() {
+        if trial.do_changes(alloc, changes).is_err() {
             self.held = trial.roll_back();
             return Err(KeepFault::Memory);
         }

@@ -5,8 +5,8 @@ ghost use Rattle.std.specs.Option.{option_map};
 ghost use Rattle.std.specs.FinMap.{get, empty};
 ghost use Rattle.ct_keep.specs.Content.{after, entries_above, first_entry};
 ghost use Rattle.ct_keep.specs.Handed.{handed};
-ghost use Rattle.ct_keep.specs.Words.{AreWell, HoldsEntries};
-ghost use Rattle.ct_keep.specs.Keeping.{Answers, fault_of, looked_up, committed};
+ghost use Rattle.ct_keep.specs.Changes.{AreWell, HoldsEntries};
+ghost use Rattle.ct_keep.specs.KeeperViews.{Answers, fault_of, looked_up, committed};
 ghost use Rattle.ct_keep.specs.InMemory.{NotDisk, come_to};
 
 use crate::batches::Batch;
@@ -90,7 +90,7 @@ impl Holding {
         ensures answers { Answers (fault_of result) self.old.limit self.old.content (after batch self.old.content) }
         ensures not_disk { NotDisk (fault_of result) }
     {
-        let done = self.content.commit(alloc, batch.into_words(), self.limit);
+        let done = self.content.commit(alloc, batch.into_changes(), self.limit);
         if let Err(KeepFault::Full) = done {
             self.counts.refuse();
         }

@@ -6,8 +6,8 @@ ghost use Rattle.std.specs.FinMap.{get};
 ghost use Rattle.ct_base.specs.Told.{took, IsNothing};
 ghost use Rattle.ct_base.specs.Causes.{HasCause};
 ghost use Rattle.ct_keep.specs.Content.{Content, after, entries_above, first_entry};
-ghost use Rattle.ct_keep.specs.Words.{AreWell, HoldsWell};
-ghost use Rattle.ct_keep.specs.Keeping.{Finds, Keeping, Kept, OnlyReads, Goes, Answers, IsSettled, KeeperHears, KeeperSays, PassesRoom, fault_of, looked_up, committed};
+ghost use Rattle.ct_keep.specs.Changes.{AreWell, HoldsWell};
+ghost use Rattle.ct_keep.specs.KeeperViews.{Finds, KeeperView, Kept, OnlyReads, Goes, Answers, IsSettled, KeeperHears, KeeperSays, PassesRoom, fault_of, looked_up, committed};
 ghost use Rattle.ct_keep.specs.Handed.{handed};
 
 use crate::batches::Batch;
@@ -45,14 +45,14 @@ impl From<Memory> for KeepFault {
 /// A keeper of a content, beside which a script is heard and replies are said.
 pub trait Keeper {
     /// What is known of the keeper.
-    ghost keeping: { Self → Keeping };
+    ghost view: { Self → KeeperView };
 
     /// The value of a key; None exactly where the content has no such entry. It never answers Full.
     fn fetch(&mut self, alloc: Global, key: &[u8]) -> Result<Option<Vec<u8>>, KeepFault>
-        requires { (keeping self.old).ready }
-        ensures value { Finds keeping self.old result (λ m found. option_map (λ v. v.items) found ≡ get m key.now) }
-        ensures reads { OnlyReads keeping self.old self.new result }
-        ensures counts { (keeping self.new).counts ≡ looked_up key.now None (keeping self.old).counts };
+        requires { (view self.old).ready }
+        ensures value { Finds view self.old result (λ m found. option_map (λ v. v.items) found ≡ get m key.now) }
+        ensures reads { OnlyReads view self.old self.new result }
+        ensures counts { (view self.new).counts ≡ looked_up key.now None (view self.old).counts };
 
     /// The entry with the least key that is greater; None exactly where there is none. It never answers Full.
     fn next_after(
@@ -60,29 +60,29 @@ pub trait Keeper {
         alloc: Global,
         key: &[u8],
     ) -> Result<Option<(Vec<u8>, Vec<u8>)>, KeepFault>
-        requires { (keeping self.old).ready }
-        ensures entry { Finds keeping self.old result (λ m found. option_map (λ e. (e.0.items, e.1.items)) found ≡ first_entry (entries_above key.now m)) }
-        ensures reads { OnlyReads keeping self.old self.new result }
-        ensures counts { (keeping self.new).counts ≡ looked_up key.now (handed result) (keeping self.old).counts };
+        requires { (view self.old).ready }
+        ensures entry { Finds view self.old result (λ m found. option_map (λ e. (e.0.items, e.1.items)) found ≡ first_entry (entries_above key.now m)) }
+        ensures reads { OnlyReads view self.old self.new result }
+        ensures counts { (view self.new).counts ≡ looked_up key.now (handed result) (view self.old).counts };
 
     /// Does what the batch says, all of it or none. At each moment a stop leaves the old content or the new one, and after
     /// Ok the new one.
     fn commit(&mut self, alloc: Global, batch: Batch) -> Result<(), KeepFault>
-        requires ready { (keeping self.old).ready }
-        requires well { AreWell (keeping self.old).fixed.well batch }
-        ensures kept { Kept (keeping self.old) (keeping self.new) (fault_of result) }
-        ensures goes { (m : Content) → (keeping self.old).content ≡ Some m → Goes m (after batch m) (keeping self.old) (keeping self.new) (fault_of result) }
-        ensures answers { (m : Content) → (keeping self.old).content ≡ Some m → Answers (fault_of result) (keeping self.old).fixed.limit m (after batch m) }
-        ensures counts { (keeping self.new).counts ≡ committed (fault_of result) (keeping self.old).counts };
+        requires ready { (view self.old).ready }
+        requires well { AreWell (view self.old).fixed.well batch }
+        ensures kept { Kept (view self.old) (view self.new) (fault_of result) }
+        ensures goes { (m : Content) → (view self.old).content ≡ Some m → Goes m (after batch m) (view self.old) (view self.new) (fault_of result) }
+        ensures answers { (m : Content) → (view self.old).content ≡ Some m → Answers (fault_of result) (view self.old).fixed.limit m (after batch m) }
+        ensures counts { (view self.new).counts ≡ committed (fault_of result) (view self.old).counts };
 
     /// Takes bytes of the script into the front of `into`, and answers how many. 0 means the end of the script. It may be
     /// called after Disk too.
     fn hear(&mut self, into: &mut [u8]) -> Result<usize, Failed>
         requires { 0 < length into.old }
         ensures bound { IfOk result (λ count. count ≤ length into.old) }
-        ensures hears { KeeperHears (took result into.new) (keeping self.old) (keeping self.new) }
-        ensures end { result ≡ Ok 0 → IsNothing (keeping self.new).beside.left }
-        ensures cause { HasCause (keeping self.old).beside.hear_faults (keeping self.new).beside.hear_faults result };
+        ensures hears { KeeperHears (took result into.new) (view self.old) (view self.new) }
+        ensures end { result ≡ Ok 0 → IsNothing (view self.new).beside.left }
+        ensures cause { HasCause (view self.old).beside.hear_faults (view self.new).beside.hear_faults result };
 
     /// Says bytes of the front of `bytes`, at least one, and answers how many. Where it is told what was said and how many bytes
     /// may be said in all, it fails only where these would be too many. It may be called after Disk too.
@@ -90,18 +90,18 @@ pub trait Keeper {
         requires { 0 < length bytes.now }
         ensures bound { IfOk result (λ count. count ≤ length bytes.now) }
         ensures some { IfOk result (λ count. 0 < count) }
-        ensures says { KeeperSays (took result bytes.now) (keeping self.old) (keeping self.new) }
-        ensures passes { OnErr result (PassesRoom (keeping self.old).fixed.say_room (keeping self.old).beside.said bytes.now) }
-        ensures cause { HasCause (keeping self.old).beside.say_faults (keeping self.new).beside.say_faults result };
+        ensures says { KeeperSays (took result bytes.now) (view self.old) (view self.new) }
+        ensures passes { OnErr result (PassesRoom (view self.old).fixed.say_room (view self.old).beside.said bytes.now) }
+        ensures cause { HasCause (view self.old).beside.say_faults (view self.new).beside.say_faults result };
 
     /// Between two calls a stop leaves what it holds.
-    ghost settled: { (k : Self) → (keeping k).ready → IsSettled (keeping k) };
+    ghost settled: { (k : Self) → (view k).ready → IsSettled (view k) };
 
     /// Each entry that it holds is within the bounds, and one that it may hold.
-    ghost holds: { (k : Self) → (keeping k).ready → (m : Content) → (keeping k).content ≡ Some m → HoldsWell (keeping k).fixed.well m };
+    ghost holds: { (k : Self) → (view k).ready → (m : Content) → (view k).content ≡ Some m → HoldsWell (view k).fixed.well m };
 
     /// Since now there is no other moment.
-    ghost only_now: { (k : Self) (stopped : Option Content) (said : List ℕ) → (keeping k).time.since (keeping k).time.clock stopped said → (keeping k).now stopped said };
+    ghost only_now: { (k : Self) (stopped : Option Content) (said : List ℕ) → (view k).time.since (view k).time.clock stopped said → (view k).now stopped said };
 }
 
 /// Tells which entries a store may hold, each by itself.

@@ -14,7 +14,7 @@ mod tallies;
 mod tests;
 mod trials;
 
-pub use batches::{Batch, Word};
+pub use batches::{Batch, Change};
 pub use keepers::{KeepFault, Keeper, Shape};
 pub use mem_keepers::MemKeeper;
 pub use scans::{first_under, next_under, scan};

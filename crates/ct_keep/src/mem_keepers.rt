@@ -6,10 +6,10 @@ ghost use Rattle.std.specs.Option.{option_map};
 ghost use Rattle.ct_base.specs.Causes.{HasCause};
 ghost use Rattle.ct_keep.specs.Content.{after, entries_above, first_entry};
 ghost use Rattle.ct_keep.specs.Handed.{handed};
-ghost use Rattle.ct_keep.specs.Words.{AreWell};
-ghost use Rattle.ct_keep.specs.Keeping.{Answers, looked_up, committed, fault_of};
+ghost use Rattle.ct_keep.specs.Changes.{AreWell};
+ghost use Rattle.ct_keep.specs.KeeperViews.{Answers, looked_up, committed, fault_of};
 ghost use Rattle.ct_keep.specs.InMemory.{NotDisk, come_to, settled_in_memory, holds_in_memory};
-ghost use Rattle.ct_keep.specs.KeeperStates.{no_disk, mem_keeping, IsNew};
+ghost use Rattle.ct_keep.specs.KeeperStates.{no_disk, mem_view, IsNew};
 
 use crate::batches::Batch;
 use crate::holdings::Holding;
@@ -21,7 +21,7 @@ use std::marker::Model;
 
 /// A keeper in memory. It never answers Disk, its `hear` never fails and takes as much as fits, and its `say` takes all,
 /// or fails where its room for what is said would be passed. It takes every entry.
-/// A look-up, and each word of a commit, cost the logarithm of the number of entries.
+/// A look-up, and each change of a commit, cost the logarithm of the number of entries.
 #[derive(Debug, Drop)]
 pub struct MemKeeper {
     held: Holding,
@@ -75,7 +75,7 @@ impl MemKeeper {
 }
 
 impl Keeper for MemKeeper {
-    ghost keeping = { mem_keeping };
+    ghost view = { mem_view };
 
     fn fetch(&mut self, alloc: Global, key: &[u8]) -> Result<Option<Vec<u8>>, KeepFault>
         ensures value { IfOk result (λ found. option_map (λ v. v.items) found ≡ get self.old.content key.now) }
@@ -139,7 +139,7 @@ impl Keeper for MemKeeper {
         Ok(bytes.len())
     }
 
-    ghost settled = { λ k ready. settled_in_memory k.content k.limit k.counts (mem_keeping k).beside (Some k.said_room) no_disk None };
+    ghost settled = { λ k ready. settled_in_memory k.content k.limit k.counts (mem_view k).beside (Some k.said_room) no_disk None };
 
     ghost holds = { λ k ready m is. holds_in_memory k.content k.entries m is };
 

@@ -5,7 +5,7 @@ ghost use Rattle.std.specs.Prelude.{◌≡◌, ◌≤◌, ◌++◌, true, IfOk, 
 ghost use Rattle.std.specs.Option.{option_map};
 ghost use Rattle.std.specs.FinMap.{entries};
 ghost use Rattle.ct_keep.specs.Content.{begins_with, entries_above, first_entry};
-ghost use Rattle.ct_keep.specs.Keeping.{Finds, OnlyReads, Told};
+ghost use Rattle.ct_keep.specs.KeeperViews.{Finds, OnlyReads, Told};
 ghost use Rattle.ct_keep.specs.Tail.{tail, rest_under};
 ghost use Rattle.ct_keep.specs.Looks.{next_looks, scan_looks, LooksAtMost};
 
@@ -56,12 +56,12 @@ fn step_under<K: Keeper>(
     prefix: &[u8],
     last: &mut Vec<u8>,
 ) -> Result<Option<Entry>, KeepFault>
-    requires ready { (K.keeping keeper.old).ready }
+    requires ready { (K.view keeper.old).ready }
     requires begins { begins_with prefix.now last.old.items ≡ true }
-    ensures entry { Finds K.keeping keeper.old result (λ m found. option_map (λ e. (e.0.items, e.1.items)) found ≡ rest_under prefix.now (first_entry (entries_above last.old.items m))) }
+    ensures entry { Finds K.view keeper.old result (λ m found. option_map (λ e. (e.0.items, e.1.items)) found ≡ rest_under prefix.now (first_entry (entries_above last.old.items m))) }
     ensures last { IfOk result (λ found. IfSome found (λ e. last.new.items ≡ prefix.now ++ e.0.items)) }
-    ensures reads { OnlyReads K.keeping keeper.old keeper.new result }
-    ensures at_most { Told K.keeping keeper.old (λ m. LooksAtMost K.keeping keeper.old keeper.new (next_looks last.old.items m)) }
+    ensures reads { OnlyReads K.view keeper.old keeper.new result }
+    ensures at_most { Told K.view keeper.old (λ m. LooksAtMost K.view keeper.old keeper.new (next_looks last.old.items m)) }
 {
     let Some((key, value)) = keeper.next_after(alloc, last)? else {
         return Ok(None);
@@ -82,10 +82,10 @@ pub fn scan<K: Keeper>(
     keeper: &mut K,
     prefix: &[u8],
 ) -> Result<Vec<(Vec<u8>, Vec<u8>)>, KeepFault>
-    requires { (K.keeping keeper.old).ready }
-    ensures entries { Finds K.keeping keeper.old result (λ m found. map (λ e. (e.0.items, e.1.items)) found.items ≡ entries (tail prefix.now m)) }
-    ensures reads { OnlyReads K.keeping keeper.old keeper.new result }
-    ensures at_most { Told K.keeping keeper.old (λ m. LooksAtMost K.keeping keeper.old keeper.new (scan_looks prefix.now m)) }
+    requires { (K.view keeper.old).ready }
+    ensures entries { Finds K.view keeper.old result (λ m found. map (λ e. (e.0.items, e.1.items)) found.items ≡ entries (tail prefix.now m)) }
+    ensures reads { OnlyReads K.view keeper.old keeper.new result }
+    ensures at_most { Told K.view keeper.old (λ m. LooksAtMost K.view keeper.old keeper.new (scan_looks prefix.now m)) }
 {
     let mut found = Vec::new(alloc);
     let mut last = joined(alloc, prefix, &[])?;
@@ -108,10 +108,10 @@ pub fn next_under<K: Keeper>(
     prefix: &[u8],
     after: &[u8],
 ) -> Result<Option<(Vec<u8>, Vec<u8>)>, KeepFault>
-    requires { (K.keeping keeper.old).ready }
-    ensures entry { Finds K.keeping keeper.old result (λ m found. option_map (λ e. (e.0.items, e.1.items)) found ≡ first_entry (entries_above after.now (tail prefix.now m))) }
-    ensures reads { OnlyReads K.keeping keeper.old keeper.new result }
-    ensures at_most { Told K.keeping keeper.old (λ m. LooksAtMost K.keeping keeper.old keeper.new (next_looks (prefix.now ++ after.now) m)) }
+    requires { (K.view keeper.old).ready }
+    ensures entry { Finds K.view keeper.old result (λ m found. option_map (λ e. (e.0.items, e.1.items)) found ≡ first_entry (entries_above after.now (tail prefix.now m))) }
+    ensures reads { OnlyReads K.view keeper.old keeper.new result }
+    ensures at_most { Told K.view keeper.old (λ m. LooksAtMost K.view keeper.old keeper.new (next_looks (prefix.now ++ after.now) m)) }
 {
     let mut last = joined(alloc, prefix, after)?;
     step_under(alloc, keeper, prefix, &mut last)
@@ -125,10 +125,10 @@ pub fn first_under<K: Keeper>(
     keeper: &mut K,
     prefix: &[u8],
 ) -> Result<Option<(Vec<u8>, Vec<u8>)>, KeepFault>
-    requires { (K.keeping keeper.old).ready }
-    ensures entry { Finds K.keeping keeper.old result (λ m found. option_map (λ e. (e.0.items, e.1.items)) found ≡ first_entry (entries (tail prefix.now m))) }
-    ensures reads { OnlyReads K.keeping keeper.old keeper.new result }
-    ensures at_most { Told K.keeping keeper.old (λ m. LooksAtMost K.keeping keeper.old keeper.new (next_looks prefix.now m)) }
+    requires { (K.view keeper.old).ready }
+    ensures entry { Finds K.view keeper.old result (λ m found. option_map (λ e. (e.0.items, e.1.items)) found ≡ first_entry (entries (tail prefix.now m))) }
+    ensures reads { OnlyReads K.view keeper.old keeper.new result }
+    ensures at_most { Told K.view keeper.old (λ m. LooksAtMost K.view keeper.old keeper.new (next_looks prefix.now m)) }
 {
     next_under(alloc, keeper, prefix, &[])
 }

@@ -12,7 +12,7 @@ use ct_site::{Failed, Site};
 use std::alloc::Global;
 
 /// A keeper in memory that hears and says by a site. It makes no call of the site's disk, and never answers Disk.
-/// It takes every entry. A look-up, and each word of a commit, cost the logarithm of the number of entries.
+/// It takes every entry. A look-up, and each change of a commit, cost the logarithm of the number of entries.
 pub struct SiteMap<'a, S> {
     site: &'a mut S,
     held: Holding,
@@ -44,7 +44,7 @@ impl<'a, S: Site> SiteMap<'a, S> {
 }
 
 impl<'a, S: Site> Keeper for SiteMap<'a, S> {
-    ghost keeping = { λ k. in_memory k.held.content k.held.limit k.held.counts (S.disk k.site.now).beside None (aside_of (S.disk k.site.now)) (Some k.site.ghost_name) };
+    ghost view = { λ k. in_memory k.held.content k.held.limit k.held.counts (S.disk k.site.now).beside None (aside_of (S.disk k.site.now)) (Some k.site.ghost_name) };
 
     fn fetch(&mut self, alloc: Global, key: &[u8]) -> Result<Option<Vec<u8>>, KeepFault> {
         self.held.fetch(alloc, key)

@@ -6,7 +6,7 @@ ghost use Rattle.std.specs.FinMap.{get, insert, remove, empty};
 ghost use Rattle.ct_keep.specs.Content.{set_to, after, entries_above, first_entry};
 ghost use Rattle.ct_keep.specs.Trials.{staying, undoing, AreInPlace};
 
-use crate::batches::Word;
+use crate::batches::Change;
 use ct_base::Memory;
 use std::alloc::Global;
 use std::collections::BTreeMap;
@@ -77,12 +77,12 @@ impl SortedEntries {
         self.entries.remove(key)
     }
 
-    /// Does a word that needs no memory: one that takes an entry out, or gives another value to one that is there.
-    fn set_in_place(&mut self, word: Word)
-        requires { IsSome word.value → IsSome (get self.old word.key.items) }
-        ensures { self.new ≡ set_to word.key.items (option_map (λ v. v.items) word.value) self.old }
+    /// Does a change that needs no memory: one that takes an entry out, or gives another value to one that is there.
+    fn set_in_place(&mut self, change: Change)
+        requires { IsSome change.value → IsSome (get self.old change.key.items) }
+        ensures { self.new ≡ set_to change.key.items (option_map (λ v. v.items) change.value) self.old }
     {
-        let Word { key, value } = word;
+        let Change { key, value } = change;
         match value {
             Some(value) => {
                 let Ok(_) = self.put(key, value) else {
@@ -95,13 +95,13 @@ impl SortedEntries {
         }
     }
 
-    /// Undoes changes, each noted by the word on what stood there before, the last of them first. It needs no memory.
-    pub(crate) fn undo(&mut self, mut notes: Vec<Word>)
+    /// Undoes changes, each noted by the change on what stood there before, the last of them first. It needs no memory.
+    pub(crate) fn undo(&mut self, mut notes: Vec<Change>)
         requires { AreInPlace (undoing notes.items) self.old }
         ensures { self.new ≡ after (undoing notes.items) self.old }
     {
-        while let Some(word) = notes.pop() {
-            self.set_in_place(word);
+        while let Some(change) = notes.pop() {
+            self.set_in_place(change);
         }
     }
 

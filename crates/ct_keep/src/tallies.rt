@@ -2,7 +2,7 @@
 
 ghost use Rattle.std.specs.Prelude.{◌≡◌, Some};
 ghost use Rattle.std.specs.Option.{option_map};
-ghost use Rattle.ct_keep.specs.Keeping.{counted, is_kind, is_either, looked_up, committed};
+ghost use Rattle.ct_keep.specs.KeeperViews.{counted, is_kind, is_either, looked_up, committed};
 ghost use Rattle.ct_keep.specs.declared.keepers.KeepFault.TheVariants.{Full};
 
 use std::marker::Model;
@@ -27,7 +27,7 @@ pub(crate) struct Tally {
 }
 
 impl Model for Tally {
-    ghost use Rattle.ct_keep.specs.Keeping.{Counts};
+    ghost use Rattle.ct_keep.specs.KeeperViews.{Counts};
 
     ghost Value = { Counts };
 

@@ -2,7 +2,7 @@
 
 ghost use Rattle.std.specs.Prelude.{◌≡◌, ◌<◌, true, IfOk, OnOk, length};
 ghost use Rattle.ct_base.specs.Told.{behind, took};
-ghost use Rattle.ct_keep.specs.Words.{AreWell};
+ghost use Rattle.ct_keep.specs.Changes.{AreWell};
 ghost use Rattle.ct_keep.specs.InMemory.{TakesAll};
 
 use crate::entry_maps::EntryMap;
@@ -12,15 +12,15 @@ use ct_site::{Failed, Faults, MemSite, Rooms, Site};
 use std::alloc::Global;
 use std::test::Fail;
 
-/// A word: a key, and how long its value is to be, or None where the entry is to go.
-type Word = (&'static str, Option<usize>);
+/// A change: a key, and how long its value is to be, or None where the entry is to go.
+type Change = (&'static str, Option<usize>);
 
 /// A call of a keeper.
 #[derive(Clone, Copy)]
 enum Call {
     Fetch(&'static str),
     Next(&'static str),
-    Commit(&'static [Word]),
+    Commit(&'static [Change]),
     Hear(usize),
     Say(&'static str),
 }
@@ -34,11 +34,11 @@ fn count_text(alloc: Global, count: usize) -> Result<Vec<u8>, Memory> {
     bytes_of(alloc, text.as_bytes())
 }
 
-/// Adds a word, unless its entry has no key or one that is too long, or too long a value.
-fn add_word(alloc: Global, batch: &mut Batch, word: Word) -> Result<(), Memory>
+/// Adds a change, unless its entry has no key or one that is too long, or too long a value.
+fn add_change(alloc: Global, batch: &mut Batch, change: Change) -> Result<(), Memory>
     ensures { AreWell (λ _ _. true) batch.old → OnOk result (AreWell (λ _ _. true) batch.new) }
 {
-    let (key, length) = word;
+    let (key, length) = change;
     let key = Vec::from_slice(alloc, key.as_bytes())?;
     let Some(length) = length else {
         return batch.remove(key);
@@ -49,20 +49,20 @@ fn add_word(alloc: Global, batch: &mut Batch, word: Word) -> Result<(), Memory>
     batch.put(key, Vec::from_elem(alloc, b'v', length)?)
 }
 
-fn batch_of(alloc: Global, words: &[Word]) -> Result<Batch, Memory>
+fn batch_of(alloc: Global, changes: &[Change]) -> Result<Batch, Memory>
     ensures { IfOk result (AreWell (λ _ _. true)) }
 {
     let mut batch = Batch::new(alloc);
-    for word in words {
-        add_word(alloc, &mut batch, *word)?;
+    for change in changes {
+        add_change(alloc, &mut batch, *change)?;
     }
     Ok(batch)
 }
 
 /// How long the value of a key is.
 fn fetched<K: Keeper>(alloc: Global, keeper: &mut K, key: &str) -> Result<Vec<u8>, KeepFault>
-    requires { TakesAll (K.keeping keeper.old) }
-    ensures { OnOk result (TakesAll (K.keeping keeper.new)) }
+    requires { TakesAll (K.view keeper.old) }
+    ensures { OnOk result (TakesAll (K.view keeper.new)) }
 {
     match keeper.fetch(alloc, key.as_bytes())? {
         Some(value) => Ok(count_text(alloc, value.len())?),
@@ -72,8 +72,8 @@ fn fetched<K: Keeper>(alloc: Global, keeper: &mut K, key: &str) -> Result<Vec<u8
 
 /// The next key.
 fn next_key<K: Keeper>(alloc: Global, keeper: &mut K, key: &str) -> Result<Vec<u8>, KeepFault>
-    requires { TakesAll (K.keeping keeper.old) }
-    ensures { OnOk result (TakesAll (K.keeping keeper.new)) }
+    requires { TakesAll (K.view keeper.old) }
+    ensures { OnOk result (TakesAll (K.view keeper.new)) }
 {
     match keeper.next_after(alloc, key.as_bytes())? {
         Some((key, _)) => Ok(key),
@@ -81,13 +81,17 @@ fn next_key<K: Keeper>(alloc: Global, keeper: &mut K, key: &str) -> Result<Vec<u
     }
 }
 
-fn committed<K: Keeper>(alloc: Global, keeper: &mut K, words: &[Word]) -> Result<Vec<u8>, KeepFault>
-    requires { TakesAll (K.keeping keeper.old) }
-    ensures takes { OnOk result (TakesAll (K.keeping keeper.new)) }
-    ensures beside { (K.keeping keeper.new).beside ≡ (K.keeping keeper.old).beside }
-    ensures lender { (K.keeping keeper.new).fixed.lender ≡ (K.keeping keeper.old).fixed.lender }
+fn committed<K: Keeper>(
+    alloc: Global,
+    keeper: &mut K,
+    changes: &[Change],
+) -> Result<Vec<u8>, KeepFault>
+    requires { TakesAll (K.view keeper.old) }
+    ensures takes { OnOk result (TakesAll (K.view keeper.new)) }
+    ensures beside { (K.view keeper.new).beside ≡ (K.view keeper.old).beside }
+    ensures lender { (K.view keeper.new).fixed.lender ≡ (K.view keeper.old).fixed.lender }
 {
-    let batch = batch_of(alloc, words)?;
+    let batch = batch_of(alloc, changes)?;
     match keeper.commit(alloc, batch) {
         Ok(()) => Ok(bytes_of(alloc, b".")?),
         Err(KeepFault::Full) => Ok(bytes_of(alloc, b"full")?),
@@ -96,8 +100,8 @@ fn committed<K: Keeper>(alloc: Global, keeper: &mut K, words: &[Word]) -> Result
 }
 
 fn heard<K: Keeper>(alloc: Global, keeper: &mut K, count: usize) -> Result<Vec<u8>, KeepFault>
-    requires { TakesAll (K.keeping keeper.old) }
-    ensures { OnOk result (TakesAll (K.keeping keeper.new)) }
+    requires { TakesAll (K.view keeper.old) }
+    ensures { OnOk result (TakesAll (K.view keeper.new)) }
 {
     let mut bytes = zeros(alloc, count)?;
     if count == 0 {
@@ -119,8 +123,8 @@ fn zeros(alloc: Global, count: usize) -> Result<Vec<u8>, Memory>
 }
 
 fn said<K: Keeper>(alloc: Global, keeper: &mut K, text: &str) -> Result<Vec<u8>, KeepFault>
-    requires { TakesAll (K.keeping keeper.old) }
-    ensures { OnOk result (TakesAll (K.keeping keeper.new)) }
+    requires { TakesAll (K.view keeper.old) }
+    ensures { OnOk result (TakesAll (K.view keeper.new)) }
 {
     if text.is_empty() {
         return Ok(Vec::new(alloc));
@@ -132,13 +136,13 @@ fn said<K: Keeper>(alloc: Global, keeper: &mut K, text: &str) -> Result<Vec<u8>,
 }
 
 fn answer<K: Keeper>(alloc: Global, keeper: &mut K, call: Call) -> Result<Vec<u8>, KeepFault>
-    requires { TakesAll (K.keeping keeper.old) }
-    ensures { OnOk result (TakesAll (K.keeping keeper.new)) }
+    requires { TakesAll (K.view keeper.old) }
+    ensures { OnOk result (TakesAll (K.view keeper.new)) }
 {
     match call {
         Call::Fetch(key) => fetched(alloc, keeper, key),
         Call::Next(key) => next_key(alloc, keeper, key),
-        Call::Commit(words) => committed(alloc, keeper, words),
+        Call::Commit(changes) => committed(alloc, keeper, changes),
         Call::Hear(count) => heard(alloc, keeper, count),
         Call::Say(text) => said(alloc, keeper, text),
     }
@@ -146,7 +150,7 @@ fn answer<K: Keeper>(alloc: Global, keeper: &mut K, call: Call) -> Result<Vec<u8
 
 /// The answers, with a blank behind each.
 fn answers<K: Keeper>(alloc: Global, keeper: &mut K, calls: &[Call]) -> Result<Vec<u8>, KeepFault>
-    requires { TakesAll (K.keeping keeper.old) }
+    requires { TakesAll (K.view keeper.old) }
 {
     let mut all = Vec::new(alloc);
     for call in calls {
@@ -202,7 +206,7 @@ const ROWS: &[Row] = &[
         answers: ". . full 127 ",
         said: "",
     },
-    // the last word on a key counts
+    // the last change on a key counts
     Row {
         limit: 128,
         calls: &[
@@ -301,11 +305,11 @@ fn a_keeper_in_memory_over_a_site(rt: HostRuntime) -> Result<(), Fail> {
 
 /// Commits an entry and says some bytes, as a call that takes any keeper does.
 fn use_keeper<K: Keeper>(alloc: Global, keeper: &mut K, bytes: &[u8]) -> Result<usize, Failed>
-    requires takes { TakesAll (K.keeping keeper.old) }
+    requires takes { TakesAll (K.view keeper.old) }
     requires some { 0 < length bytes.now }
-    ensures said { (K.keeping keeper.new).beside.said ≡ behind (K.keeping keeper.old).beside.said (took result bytes.now) }
-    ensures left { (K.keeping keeper.new).beside.left ≡ (K.keeping keeper.old).beside.left }
-    ensures lender { (K.keeping keeper.new).fixed.lender ≡ (K.keeping keeper.old).fixed.lender }
+    ensures said { (K.view keeper.new).beside.said ≡ behind (K.view keeper.old).beside.said (took result bytes.now) }
+    ensures left { (K.view keeper.new).beside.left ≡ (K.view keeper.old).beside.left }
+    ensures lender { (K.view keeper.new).fixed.lender ≡ (K.view keeper.old).fixed.lender }
 {
     if committed(alloc, keeper, &[("a", Some(1))]).is_err() {
         return Err(Failed);
@@ -330,17 +334,17 @@ fn say_over<S: Site>(alloc: Global, site: &mut S, bytes: &[u8]) -> Result<usize,
 fn a_content_over_its_limit_may_shrink(rt: HostRuntime) -> Result<(), Fail> {
     let alloc = rt.alloc();
     let mut map = EntryMap::new(alloc);
-    let words = batch_of(alloc, &[("a", Some(500)), ("b", Some(99))])?;
-    map.commit(alloc, words.into_words(), 1000)?;
+    let changes = batch_of(alloc, &[("a", Some(500)), ("b", Some(99))])?;
+    map.commit(alloc, changes.into_changes(), 1000)?;
     let heavier = batch_of(alloc, &[("a", Some(501))])?;
     assert_eq!(rt;
-        map.commit(alloc, heavier.into_words(), 128),
+        map.commit(alloc, heavier.into_changes(), 128),
         Err(KeepFault::Full)
     );
     let as_heavy = batch_of(alloc, &[("a", Some(501)), ("b", Some(98))])?;
-    map.commit(alloc, as_heavy.into_words(), 128)?;
+    map.commit(alloc, as_heavy.into_changes(), 128)?;
     let lighter = batch_of(alloc, &[("a", Some(400)), ("c", Some(3)), ("b", None)])?;
-    map.commit(alloc, lighter.into_words(), 128)?;
+    map.commit(alloc, lighter.into_changes(), 128)?;
     let Some(value) = map.fetch(alloc, b"a")? else {
         return Err(Fail::from(Memory));
     };

@@ -7,7 +7,7 @@ ghost use Rattle.ct_keep.specs.Spoken.{spoken};
 ghost use Rattle.ct_keep.specs.Content.{set_to, after, entry_weight, weight};
 ghost use Rattle.ct_keep.specs.Laws.{value_weight};
 
-use crate::batches::Word;
+use crate::batches::Change;
 use crate::sorted_entries::SortedEntries;
 use ct_base::Memory;
 use std::alloc::Global;
@@ -20,15 +20,15 @@ fn entry_weight(key: &[u8], value: &[u8]) -> u64
     (key.len() as u64 + value.len() as u64).max(64)
 }
 
-/// Entries that change word by word, and that can go back to what they were without taking memory.
+/// Entries that change change by change, and that can go back to what they were without taking memory.
 /// So an entry that is to go stays among them until the end.
 #[derive(Drop)]
 pub(crate) struct Trial {
     held: SortedEntries,
     /// The keys of the entries that are to go.
     gone: SortedEntries,
-    /// For each change of `held`, the word on what stood there before.
-    notes: Vec<Word>,
+    /// For each change of `held`, the change on what stood there before.
+    notes: Vec<Change>,
     /// The weight of the entries without those that are to go.
     total: u128,
 }
@@ -87,7 +87,7 @@ impl Trial {
         let more = entry_weight(&key, &value);
         let value = self.held.put(key, value)?;
         let _ = self.gone.take(&copy);
-        self.notes.push_reserved(Word { key: copy, value });
+        self.notes.push_reserved(Change { key: copy, value });
         self.total = self.total - less as u128 + more as u128;
         Ok(())
     }
@@ -104,40 +104,40 @@ impl Trial {
         Ok(())
     }
 
-    /// Does one word.
-    fn do_word(&mut self, alloc: Global, word: Word) -> Result<(), Memory>
+    /// Does one change.
+    fn do_change(&mut self, alloc: Global, change: Change) -> Result<(), Memory>
         requires { weight self.old.seen < 2 ^ 127 }
         ensures before { self.new.before ≡ self.old.before }
-        ensures seen { OnOk result (self.new.seen ≡ set_to word.key.items (option_map (λ v. v.items) word.value) self.old.seen) }
+        ensures seen { OnOk result (self.new.seen ≡ set_to change.key.items (option_map (λ v. v.items) change.value) self.old.seen) }
         ensures heavier { OnOk result (weight self.new.seen ≤ weight self.old.seen + 2 ^ 64) }
     {
-        let Word { key, value } = word;
+        let Change { key, value } = change;
         match value {
             Some(value) => self.put(alloc, key, value),
             None => self.remove(alloc, key),
         }
     }
 
-    /// Does some words, the first of them first. Where memory is wanting, some of them may have been done.
-    pub(crate) fn do_words(&mut self, alloc: Global, words: Vec<Word>) -> Result<(), Memory>
+    /// Does some changes, the first of them first. Where memory is wanting, some of them may have been done.
+    pub(crate) fn do_changes(&mut self, alloc: Global, changes: Vec<Change>) -> Result<(), Memory>
         requires { weight self.old.seen < 2 ^ 64 }
         ensures before { self.new.before ≡ self.old.before }
-        ensures seen { OnOk result (self.new.seen ≡ after (map spoken words.items) self.old.seen) }
+        ensures seen { OnOk result (self.new.seen ≡ after (map spoken changes.items) self.old.seen) }
     {
-        for word in words {
-            self.do_word(alloc, word)?;
+        for change in changes {
+            self.do_change(alloc, change)?;
         }
         Ok(())
     }
 
-    /// The weight of what the words have made so far.
+    /// The weight of what the changes have made so far.
     pub(crate) fn weight(&self) -> u128
         ensures { result ≡ weight self.now.seen }
     {
         self.total
     }
 
-    /// The entries as they were before the words. It needs no memory.
+    /// The entries as they were before the changes. It needs no memory.
     pub(crate) fn roll_back(self) -> SortedEntries
         ensures { result ≡ self.before }
     {
@@ -146,7 +146,7 @@ impl Trial {
         held
     }
 
-    /// The entries that the words have made. It needs no memory.
+    /// The entries that the changes have made. It needs no memory.
     pub(crate) fn finish(self) -> SortedEntries
         ensures { result ≡ self.seen }
     {

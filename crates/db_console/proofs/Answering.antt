@@ -6,7 +6,7 @@ use Rattle.ct_base.specs.Told.{behind, behind_none, IsSaid, SaysPart, says_front
 use Rattle.ct_site.specs.Disks.{Beside}
 use Rattle.ct_keep.specs.Content.{Content}
 use Rattle.ct_keep.specs.declared.keepers.KeepFault.TheVariants as fault
-use Rattle.ct_keep.specs.Keeping.{Keeping, Kept, Goes, Leaves, IsSettled}
+use Rattle.ct_keep.specs.KeeperViews.{KeeperView, Kept, Goes, Leaves, IsSettled}
 use Rattle.ct_keep.specs.Composing.{same_say_room, reads_none, reads_short, reads_only, reads_failed, passes_as}
 use Rattle.db_engine.specs.States.{State, Stands}
 use Rattle.db_engine.specs.Refusals.{Effect, state_by}
@@ -23,10 +23,10 @@ use Rattle.db_console.proofs.Lasting.{lasts_kept, frame_kept, frame_said, frame_
 
 -- ---- nothing is committed
 
-pub moves_not : (m : State) (effect : Effect) (c : Content) (k : Keeping) → k.ready → IsSettled k → k.content ≡ Some c → Stands c (state_by m effect) → Moves m effect c k k None
+pub moves_not : (m : State) (effect : Effect) (c : Content) (k : KeeperView) → k.ready → IsSettled k → k.content ≡ Some c → Stands c (state_by m effect) → Moves m effect c k k None
 moves_not m effect c k ready settled holds stands = record { next = c; stands = stands; goes = reads_only c k k settled holds (reads_none k ready); same = λ e. refl }
 
-pub moves_short : (m : State) (effect : Effect) (c : Content) (k : Keeping) → k.ready → IsSettled k → k.content ≡ Some c → Moves m effect c k k (Some fault.Memory)
+pub moves_short : (m : State) (effect : Effect) (c : Content) (k : KeeperView) → k.ready → IsSettled k → k.content ≡ Some c → Moves m effect c k k (Some fault.Memory)
 moves_short m effect c k ready settled holds = record { next = c; stands = refl; goes = reads_failed c c k k fault.Memory settled holds (reads_short k k (reads_none k ready)); same = λ e. refl }
 
 -- ---- the moments of one turn
@@ -57,7 +57,7 @@ module _ (limit : ℕ) (was : World) (t : Turn) where
 
 -- ---- what executing did
 
-module _ (limit : ℕ) (piece : Piece) (was : World) (old new : Keeping) (shows : Shows old was) where
+module _ (limit : ℕ) (piece : Piece) (was : World) (old new : KeeperView) (shows : Shows old was) where
   abbrev does : Effect
   does = effect_by limit was.state piece
 
@@ -105,7 +105,7 @@ module _ (limit : ℕ) (piece : Piece) (was : World) (old new : Keeping) (shows 
 -- ---- and then the reply
 
 -- what saying a front of the reply adds
-module _ (limit : ℕ) (piece : Piece) (was : World) (old mid new : Keeping) (bytes : List ℕ) (ready : mid.ready) (shows : Shows old was) (beside : mid.beside ≡ old.beside) (r : Replied limit piece was old mid bytes) where
+module _ (limit : ℕ) (piece : Piece) (was : World) (old mid new : KeeperView) (bytes : List ℕ) (ready : mid.ready) (shows : Shows old was) (beside : mid.beside ≡ old.beside) (r : Replied limit piece was old mid bytes) where
   abbrev made : Turn
   made = turn_by piece r.answer
 
@@ -148,14 +148,14 @@ module _ (limit : ℕ) (piece : Piece) (was : World) (old mid new : Keeping) (by
   }
 
 -- the answer to a piece, from the response to it and what was said of that
-pub answers_said : (limit : ℕ) (piece : Piece) (bytes : List ℕ) (old mid new : Keeping) → Kept old mid None → ((was : World) → Shows old was → Replied limit piece was old mid bytes) → Spoke bytes mid new → Answers limit piece old new
+pub answers_said : (limit : ℕ) (piece : Piece) (bytes : List ℕ) (old mid new : KeeperView) → Kept old mid None → ((was : World) → Shows old was → Replied limit piece was old mid bytes) → Spoke bytes mid new → Answers limit piece old new
 answers_said limit piece bytes old mid new kept r s = record {
   frame = frame_then old mid new (frame_kept old mid None kept) (frame_said mid new bytes s);
   ready = s.says.apart.ready kept.ready;
   answers = λ was w. answered_by limit piece was old mid new bytes kept.ready w kept.beside (r was w) s;
 }
 
-pub stops_saying : (limit : ℕ) (piece : Piece) (bytes : List ℕ) (stop : Stop) (old mid new : Keeping) → Kept old mid None → ((was : World) → Shows old was → Replied limit piece was old mid bytes)
+pub stops_saying : (limit : ℕ) (piece : Piece) (bytes : List ℕ) (stop : Stop) (old mid new : KeeperView) → Kept old mid None → ((was : World) → Shows old was → Replied limit piece was old mid bytes)
     → (new.ready → IsSettled new) → (stop ≡ Say) × SpokeInPart bytes mid new → Stops limit piece stop old new
 stops_saying limit piece bytes stop old mid new kept r settled s = rw s.0 (record {
   frame = frame_then old mid new (frame_kept old mid None kept) (frame_said mid new s.1.part s.1.spoke);
@@ -165,7 +165,7 @@ stops_saying limit piece bytes stop old mid new kept r settled s = rw s.0 (recor
 })
 
 -- or where the disk failed
-pub stops_halted : (limit : ℕ) (piece : Piece) (old new : Keeping) → Kept old new (Some fault.Disk) → ((was : World) → Shows old was → Halted limit piece was old new) → Stops limit piece Disk old new
+pub stops_halted : (limit : ℕ) (piece : Piece) (old new : KeeperView) → Kept old new (Some fault.Disk) → ((was : World) → Shows old was → Halted limit piece was old new) → Stops limit piece Disk old new
 stops_halted limit piece old new kept h = record {
   frame = frame_kept old new (Some fault.Disk) kept;
   cause = (kept.cause, kept.calls);
@@ -179,5 +179,5 @@ stops_halted limit piece old new kept h = record {
 }
 
 -- a stop of `execute` is one by the disk
-pub kept_stopped : (stop : Halt) (old new : Keeping) → Kept old new (fault_of_stop {T = Response} (Err stop)) → Kept old new (Some fault.Disk)
+pub kept_stopped : (stop : Halt) (old new : KeeperView) → Kept old new (fault_of_stop {T = Response} (Err stop)) → Kept old new (Some fault.Disk)
 kept_stopped DiskHalt old new kept = kept

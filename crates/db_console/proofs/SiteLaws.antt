@@ -5,7 +5,7 @@ use base.Fml.{GName}
 use Rattle.ct_site.specs.Disks.{DiskView}
 use Rattle.ct_keep.specs.Composing.{same_aside, same_lender, same_limit}
 use Rattle.ct_keep.specs.Content.{Content}
-use Rattle.ct_keep.specs.Keeping.{Counts, Aside}
+use Rattle.ct_keep.specs.KeeperViews.{Counts, Aside}
 use Rattle.ct_keep.specs.InMemory.{aside_of}
 use Rattle.ct_keep.specs.KeeperStates.{no_counts}
 use Rattle.db_engine.specs.EmptyLaws.{empty_stands}

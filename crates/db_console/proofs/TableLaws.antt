@@ -4,7 +4,7 @@ use Rattle.std.specs.Prelude.{◌↔◌, ◌⊎◌}
 use Rattle.ct_base.specs.Moments.{passes_none, passes_stays, passes_then}
 use Rattle.ct_base.specs.Told.{ahead, ahead_none, ahead_twice, behind, behind_none, behind_twice, IsNothing}
 use Rattle.ct_keep.specs.Content.{Content}
-use Rattle.ct_keep.specs.Keeping.{Keeping, PassesRoom, IsSettled}
+use Rattle.ct_keep.specs.KeeperViews.{KeeperView, PassesRoom, IsSettled}
 use Rattle.ct_keep.specs.Composing.{same_aside, same_limit, passes_behind, passes_as}
 use Rattle.st_cut.specs.Seen.{Seen, Stands as StandsOpen}
 use Rattle.db_engine.specs.States.{State, Stands}
@@ -22,11 +22,11 @@ use Rattle.db_console.proofs.Answering.{either}
 use Rattle.db_console.proofs.ViewLaws.{broke_then}
 
 -- hearing shows the same world
-shows_heard : (old new : Keeping) (bytes : List ℕ) (world : World) → Heard bytes old new → Shows old world → Shows new world
+shows_heard : (old new : KeeperView) (bytes : List ℕ) (world : World) → Heard bytes old new → Shows old world → Shows new world
 shows_heard old new bytes world h w = record { said = h.hears.said ∙ w.said; content = w.content; holds = h.hears.apart.content ∙ w.holds; stands = w.stands }
 
 -- and adds no moment
-served_heard : (limit store : ℕ) (bytes heard : List ℕ) (was is : World) (old mid new : Keeping) (cutter : Seen) → Heard heard mid new
+served_heard : (limit store : ℕ) (bytes heard : List ℕ) (was is : World) (old mid new : KeeperView) (cutter : Seen) → Heard heard mid new
     → ServedTo limit store [] bytes was is old.time mid.time cutter → ServedTo limit store [] bytes was is old.time new.time cutter
 served_heard limit store bytes heard was is old mid new cutter h s = record {
   served = record {
@@ -42,7 +42,7 @@ served_heard limit store bytes heard was is old mid new cutter h s = record {
 -- ---- how serving goes on
 
 -- so many bytes were taken and served, and then this piece was heard
-pub record Going (limit taken : ℕ) (piece : List ℕ) (old now : Keeping) (cutter : Seen) : Type 0 where
+pub record Going (limit taken : ℕ) (piece : List ℕ) (old now : KeeperView) (cutter : Seen) : Type 0 where
   pub heard : List ℕ
   pub count : length heard ≡ taken
   pub front : old.beside.left ≡ ahead (heard ++ piece) now.beside.left
@@ -50,7 +50,7 @@ pub record Going (limit taken : ℕ) (piece : List ℕ) (old now : Keeping) (cut
   pub ready : now.ready
   pub going : (was : World) → Shows old was → (is : World) × Shows now is × ServedTo limit old.fixed.limit [] heard was is old.time now.time cutter
 
-pub going_start : (limit : ℕ) (view : Keeping) (cutter : Seen) → view.ready → StandsOpen limit cutter [] → Going limit 0 [] view view cutter
+pub going_start : (limit : ℕ) (view : KeeperView) (cutter : Seen) → view.ready → StandsOpen limit cutter [] → Going limit 0 [] view view cutter
 going_start limit view cutter ready s = record {
   heard = [];
   count = refl;
@@ -60,7 +60,7 @@ going_start limit view cutter ready s = record {
   going = λ was w. (was, w, served_start limit view.fixed.limit [] was view.time cutter s);
 }
 
-pub going_heard : (limit taken : ℕ) (piece : List ℕ) (old mid now : Keeping) (cutter : Seen) → Going limit taken [] old mid cutter → Heard piece mid now → Going limit taken piece old now cutter
+pub going_heard : (limit taken : ℕ) (piece : List ℕ) (old mid now : KeeperView) (cutter : Seen) → Going limit taken [] old mid cutter → Heard piece mid now → Going limit taken piece old now cutter
 going_heard limit taken piece old mid now cutter s h = record {
   heard = s.heard;
   count = s.count;
@@ -72,7 +72,7 @@ going_heard limit taken piece old mid now cutter s h = record {
       (x.0, shows_heard mid now piece x.0 h x.1, served_heard limit old.fixed.limit s.heard piece was x.0 old mid now cutter h x.2);
 }
 
-pub going_on : (limit taken count : ℕ) (piece : List ℕ) (old now new : Keeping) (cutter later : Seen) → Going limit taken piece old now cutter → length piece ≡ count
+pub going_on : (limit taken count : ℕ) (piece : List ℕ) (old now new : KeeperView) (cutter later : Seen) → Going limit taken piece old now cutter → length piece ≡ count
     → Serves piece now new cutter later → Going limit (taken + count) [] old new later
 going_on limit taken count piece old now new cutter later s n k = record {
   heard = s.heard ++ piece;
@@ -93,7 +93,7 @@ going_on limit taken count piece old now new cutter later s n k = record {
 -- ---- how it ends
 
 -- the world shown is the one after the turns
-shows_after : (limit store : ℕ) (was now : World) (turns : List Turn) (new : Keeping) → Leads limit store was turns now → Shows new now → Shows new (world_after limit was turns)
+shows_after : (limit store : ℕ) (was now : World) (turns : List Turn) (new : KeeperView) → Leads limit store was turns now → Shows new now → Shows new (world_after limit was turns)
 shows_after limit store was now turns new l w = record {
   said = w.said ∙ rw (l.told, l.run.says) refl;
   content = w.content;
@@ -102,7 +102,7 @@ shows_after limit store was now turns new l w = record {
 }
 
 -- what a stop leaves now, where a front of all that the turns say was said
-moment_now : (limit : ℕ) (was : World) (turns : List Turn) (new : Keeping) (said rest : List ℕ) → transcript limit was.state turns ≡ said ++ rest → IsSettled new
+moment_now : (limit : ℕ) (was : World) (turns : List Turn) (new : KeeperView) (said rest : List ℕ) → transcript limit was.state turns ≡ said ++ rest → IsSettled new
     → Shows new (record { state = state_after limit was.state turns; said = behind was.said said }) → (x : Option Content) (w : List ℕ) → new.now x w → IsMoment limit was turns x w
 moment_now limit was turns new said rest front settled shows x w n =
     let p = settled.here shows.content shows.holds x w n in
@@ -115,7 +115,7 @@ moment_now limit was turns new said rest front settled shows x w n =
     }
 
 -- all was said
-turns_all : (limit most store : ℕ) (whole : Bool) (taken script : List ℕ) (was now : World) (old new : Keeping) (ending : Ending) → store ≡ old.fixed.limit → IsSettled new → Shows new now → (s : Served limit store whole [] script was now old.time new.time)
+turns_all : (limit most store : ℕ) (whole : Bool) (taken script : List ℕ) (was now : World) (old new : KeeperView) (ending : Ending) → store ≡ old.fixed.limit → IsSettled new → Shows new now → (s : Served limit store whole [] script was now old.time new.time)
     → (SaidAll limit whole script was s.turns new → Ends limit most taken was s.turns new ending) → Course limit most taken was old new ending
 turns_all limit most store whole taken script was now old new ending is settled w s ends =
     let shows : Shows new (world_after limit was s.turns) = shows_after limit store was now s.turns new s.leads w in
@@ -127,7 +127,7 @@ turns_all limit most store whole taken script was now old new ending is settled 
       now = moment_now limit was s.turns new (transcript limit was.state s.turns) [] (sym (append-nil (transcript limit was.state s.turns))) settled shows;
     }
 
-pub out_memory : (limit most : ℕ) (view : Keeping) → view.ready → IsSettled view → Outcome limit most view view NoMemory
+pub out_memory : (limit most : ℕ) (view : KeeperView) → view.ready → IsSettled view → Outcome limit most view view NoMemory
 out_memory limit most view ready settled = record {
   taken = [];
   front = sym (ahead_none view.beside.left);
@@ -143,7 +143,7 @@ out_memory limit most view ready settled = record {
   };
 }
 
-pub out_fault : (limit most taken : ℕ) (old mid now : Keeping) (cutter : Seen) → (now.ready → IsSettled now) → Going limit taken [] old mid cutter → taken ≤ most → Heard [] mid now → HearRose mid.beside now.beside → Outcome limit most old now HearFault
+pub out_fault : (limit most taken : ℕ) (old mid now : KeeperView) (cutter : Seen) → (now.ready → IsSettled now) → Going limit taken [] old mid cutter → taken ≤ most → Heard [] mid now → HearRose mid.beside now.beside → Outcome limit most old now HearFault
 out_fault limit most taken old mid now cutter settled before h k r =
     let s : Going limit taken [] old now cutter = going_heard limit taken [] old mid now cutter before k in
     record {
@@ -159,7 +159,7 @@ out_fault limit most taken old mid now cutter settled before h k r =
 
 -- ---- where it was stopped
 
-module _ (limit store : ℕ) (whole : Bool) (stop : Stop) (taken : List ℕ) (was : World) (old new : Keeping) (k : Broke limit store whole stop [] taken was old new) where
+module _ (limit store : ℕ) (whole : Bool) (stop : Stop) (taken : List ℕ) (was : World) (old new : KeeperView) (k : Broke limit store whole stop [] taken was old new) where
   abbrev all : List Turn
   all = k.turns ++ k.last ∷ []
 
@@ -181,7 +181,7 @@ module _ (limit store : ℕ) (whole : Bool) (stop : Stop) (taken : List ℕ) (wa
   all_allowed : AllAllowed limit store was.state all
   all_allowed = allowed_then limit store was k.mid k.turns (k.last ∷ []) k.leads (k.allowed, tt)
 
-said_in_part : (limit store : ℕ) (whole : Bool) (taken : List ℕ) (was : World) (old new : Keeping) (k : Broke limit store whole Say [] taken was old new) → SaidInPart limit whole taken was (k.turns ++ k.last ∷ []) new
+said_in_part : (limit store : ℕ) (whole : Bool) (taken : List ℕ) (was : World) (old new : KeeperView) (k : Broke limit store whole Say [] taken was old new) → SaidInPart limit whole taken was (k.turns ++ k.last ∷ []) new
 said_in_part limit store whole taken was old new k = record {
   done = k.turns;
   first = first limit store whole Say taken was old new k;
@@ -204,7 +204,7 @@ said_in_part limit store whole taken was old new k = record {
   settled = k.by.settled;
 }
 
-failed_in_last : (limit store : ℕ) (whole : Bool) (taken : List ℕ) (was : World) (old new : Keeping) (k : Broke limit store whole Disk [] taken was old new) → FailedInLast limit whole taken was (k.turns ++ k.last ∷ []) new
+failed_in_last : (limit store : ℕ) (whole : Bool) (taken : List ℕ) (was : World) (old new : KeeperView) (k : Broke limit store whole Disk [] taken was old new) → FailedInLast limit whole taken was (k.turns ++ k.last ∷ []) new
 failed_in_last limit store whole taken was old new k = record {
   done = k.turns;
   first = first limit store whole Disk taken was old new k;
@@ -214,7 +214,7 @@ failed_in_last limit store whole taken was old new k = record {
       (subst (λ (m : State). LeavesState x k.mid.state ⊎ LeavesState x m) (sym (state_last limit store whole Disk taken was old new k)) (k.by.now x w n).leaves);
 }
 
-turns_stopped : (stop : Stop) (limit most store : ℕ) (whole : Bool) (taken : List ℕ) (was : World) (old new : Keeping) → store ≡ old.fixed.limit → (whole ≡ true → EndsHere new.beside) → Broke limit store whole stop [] taken was old new
+turns_stopped : (stop : Stop) (limit most store : ℕ) (whole : Bool) (taken : List ℕ) (was : World) (old new : KeeperView) → store ≡ old.fixed.limit → (whole ≡ true → EndsHere new.beside) → Broke limit store whole stop [] taken was old new
     → Course limit most taken was old new (ending_of stop)
 turns_stopped Say limit most store whole taken was old new is n k =
     let s : SaidInPart limit whole taken was (k.turns ++ k.last ∷ []) new = said_in_part limit store whole taken was old new k in
@@ -233,15 +233,15 @@ turns_stopped Disk limit most store whole taken was old new is n k = record {
   now = λ x w m. moment_later limit store was k.mid k.turns (k.last ∷ []) k.leads x w (either limit k.mid k.last x w (k.by.now x w m));
 }
 
-because_of : (stop : Stop) (most : ℕ) (taken : List ℕ) (old now new : Keeping) → Lasts old now → length taken ≤ most → RoseBy stop now new → Because most taken old new (ending_of stop)
+because_of : (stop : Stop) (most : ℕ) (taken : List ℕ) (old now new : KeeperView) → Lasts old now → length taken ≤ most → RoseBy stop now new → Because most taken old new (ending_of stop)
 because_of Say most taken old now new s h r = (h, rose_after old.beside.say_faults now.beside.say_faults new.beside.say_faults s.say_later r)
 because_of Disk most taken old now new s h r = (h, rose_after old.disk_faults now.disk_faults new.disk_faults s.disk_later r.0, sym (same_aside s.fixed) ∙ r.1)
 
-ready_after : (stop : Stop) (new : Keeping) → UnlessByDisk stop new.ready → IsReadyAfter (ending_of stop) new
+ready_after : (stop : Stop) (new : KeeperView) → UnlessByDisk stop new.ready → IsReadyAfter (ending_of stop) new
 ready_after Say new r = r
 ready_after Disk new r = tt
 
-pub out_broke : (stop : Stop) (limit most taken : ℕ) (piece : List ℕ) (old now new : Keeping) (cutter : Seen) (ending : Ending) → Going limit taken piece old now cutter → taken + length piece ≤ most
+pub out_broke : (stop : Stop) (limit most taken : ℕ) (piece : List ℕ) (old now new : KeeperView) (cutter : Seen) (ending : Ending) → Going limit taken piece old now cutter → taken + length piece ≤ most
     → (whole : Bool) → (whole ≡ true → EndsHere now.beside) → Breaks whole stop piece now new cutter → ending ≡ ending_of stop → Outcome limit most old new ending
 out_broke stop limit most taken piece old now new cutter ending s h whole n k e = rw e (record {
   taken = s.heard ++ piece;
@@ -256,7 +256,7 @@ out_broke stop limit most taken piece old now new cutter ending s h whole n k e 
       (subst (λ (store : ℕ). Broke limit store whole stop x.2.served.rest piece x.0 now new) (same_limit s.lasts.fixed) (k.breaks limit x.2.served.rest x.2.stands x.0 x.1)));
 })
 
-out_done : (limit most taken : ℕ) (old now new : Keeping) (cutter : Seen) → (new.ready → IsSettled new) → Going limit taken [] old now cutter → taken ≤ most → EndsHere now.beside → Finishes now new cutter → Outcome limit most old new Done
+out_done : (limit most taken : ℕ) (old now new : KeeperView) (cutter : Seen) → (new.ready → IsSettled new) → Going limit taken [] old now cutter → taken ≤ most → EndsHere now.beside → Finishes now new cutter → Outcome limit most old new Done
 out_done limit most taken old now new cutter settled s h n k = record {
   taken = s.heard;
   front = rw k.frame.left (rw (append-nil s.heard) at s.front);
@@ -271,7 +271,7 @@ out_done limit most taken old now new cutter settled s h n k = record {
       turns_all limit most old.fixed.limit true s.heard s.heard was y.0 old new Done refl (settled k.ready) y.1 (subst (λ (xs : List ℕ). Served limit old.fixed.limit true [] xs was y.0 old.time new.time) (append-nil s.heard) z) (λ e. e);
 }
 
-pub out_closed : (ending : Ending) (limit most taken : ℕ) (old mid now new : Keeping) (cutter : Seen) → (new.ready → IsSettled new) → Going limit taken [] old mid cutter → Heard [] mid now → taken ≤ most → EndsHere now.beside
+pub out_closed : (ending : Ending) (limit most taken : ℕ) (old mid now new : KeeperView) (cutter : Seen) → (new.ready → IsSettled new) → Going limit taken [] old mid cutter → Heard [] mid now → taken ≤ most → EndsHere now.beside
     → Closes ending now new cutter → Outcome limit most old new ending
 out_closed Done limit most taken old mid now new cutter settled s h t n k = out_done limit most taken old now new cutter settled (going_heard limit taken [] old mid now cutter s h) t n k
 out_closed HearFault limit most taken old mid now new cutter settled s h t n k = absurd k
@@ -282,7 +282,7 @@ out_closed DiskFault limit most taken old mid now new cutter settled s h t n k =
     out_broke Disk limit most taken [] old now new cutter DiskFault (going_heard limit taken [] old mid now cutter s h) (omega arith) true (λ e. n) k refl
 out_closed PastLimit limit most taken old mid now new cutter settled s h t n k = absurd k
 
-pub out_past : (limit most taken byte : ℕ) (old mid now : Keeping) (cutter : Seen) → (now.ready → IsSettled now) → Going limit taken [] old mid cutter → Heard (byte ∷ []) mid now → taken ≡ most → Outcome limit most old now PastLimit
+pub out_past : (limit most taken byte : ℕ) (old mid now : KeeperView) (cutter : Seen) → (now.ready → IsSettled now) → Going limit taken [] old mid cutter → Heard (byte ∷ []) mid now → taken ≡ most → Outcome limit most old now PastLimit
 out_past limit most taken byte old mid now cutter settled before k h =
     let s : Going limit taken (byte ∷ []) old now cutter = going_heard limit taken (byte ∷ []) old mid now cutter before k in
     record {
@@ -299,7 +299,7 @@ out_past limit most taken byte old mid now cutter settled before k h =
 -- ---- what follows of a run
 
 -- how many bytes were taken, by the ending
-past_taken : (ending : Ending) (most : ℕ) (taken : List ℕ) (old new : Keeping) → Because most taken old new ending → (status_of ending ≡ 8) ↔ (length taken ≡ suc most)
+past_taken : (ending : Ending) (most : ℕ) (taken : List ℕ) (old new : KeeperView) → Because most taken old new ending → (status_of ending ≡ 8) ↔ (length taken ≡ suc most)
 past_taken Done most taken old new b = (λ e. absurd (omega arith), λ e. absurd (omega (arith, b.0)))
 past_taken HearFault most taken old new b = (λ e. absurd (omega arith), λ e. absurd (omega (arith, b.0)))
 past_taken SayFault most taken old new b = (λ e. absurd (omega arith), λ e. absurd (omega (arith, b.0)))
@@ -313,7 +313,7 @@ taken_told taken other left e =
     let p : taken ++ left ≡ other ++ left = cc in
     omega (arith, ap length p, length-append taken left, length-append other left)
 
-pub tells_past : (ending : Ending) (limit most : ℕ) (old new : Keeping) → Outcome limit most old new ending → TellsPast most (status_of ending) old.beside new.beside
+pub tells_past : (ending : Ending) (limit most : ℕ) (old new : KeeperView) → Outcome limit most old new ending → TellsPast most (status_of ending) old.beside new.beside
 tells_past ending limit most old new o = record {
   tells = λ taken left before after.
       let f : Some (taken ++ left) ≡ Some (o.taken ++ left) = sym before ∙ o.front ∙ ap (ahead o.taken) after in

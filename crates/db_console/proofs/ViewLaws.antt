@@ -6,7 +6,7 @@ use Rattle.st_cut.specs.Cut.{Cuts, first_statement}
 use Rattle.st_cut.specs.Seen.{Seen, Stands as StandsOpen, Shows as ShowsText}
 use Rattle.st_cut.proofs.Cutting.{ended_text, no_text, some_cut}
 use Rattle.ct_keep.specs.Composing.{same_limit}
-use Rattle.ct_keep.specs.Keeping.{Keeping}
+use Rattle.ct_keep.specs.KeeperViews.{KeeperView}
 use Rattle.db_engine.specs.Runs.{Piece, statement, rest_piece, turn_by, pieces}
 use Rattle.db_console.specs.declared.saying.Stop.{Stop}
 use Rattle.db_console.specs.Worlds.{World, HasPieces, Served, ServedTo, Answered}
@@ -21,7 +21,7 @@ if_err_weaker (Err e) P Q f h = f e h
 -- ---- where serving stopped
 
 -- in the first piece
-broke_first : (limit : ℕ) (whole : Bool) (stop : Stop) (held bytes : List ℕ) (last : Piece) (later : List Piece) (rest : List ℕ) (was : World) (old new : Keeping)
+broke_first : (limit : ℕ) (whole : Bool) (stop : Stop) (held bytes : List ℕ) (last : Piece) (later : List Piece) (rest : List ℕ) (was : World) (old new : KeeperView)
     → HasPieces whole (held ++ bytes) (last ∷ later) rest → Stopped limit last stop was old new → Broke limit old.fixed.limit whole stop held bytes was old new
 broke_first limit whole stop held bytes last later rest was old new p a = record {
   turns = [];
@@ -37,7 +37,7 @@ broke_first limit whole stop held bytes last later rest was old new p a = record
 }
 
 -- behind other bytes that were served
-pub broke_then : (limit store : ℕ) (whole : Bool) (stop : Stop) (held a b : List ℕ) (was is : World) (old mid new : Keeping)
+pub broke_then : (limit store : ℕ) (whole : Bool) (stop : Stop) (held a b : List ℕ) (was is : World) (old mid new : KeeperView)
     → (s : Served limit store false held a was is old.time mid.time) → Broke limit store whole stop s.rest b is mid new → Broke limit store whole stop held (a ++ b) was old new
 broke_then limit store whole stop held a b was is old mid new s k = record {
   turns = s.turns ++ k.turns;
@@ -54,7 +54,7 @@ broke_then limit store whole stop held a b was is old mid new s k = record {
 }
 
 -- the bytes behind the stop have pieces too, which nothing answers
-broke_before : (limit store : ℕ) (stop : Stop) (held a b : List ℕ) (was : World) (old new : Keeping) → Broke limit store false stop held a was old new → Broke limit store false stop held (a ++ b) was old new
+broke_before : (limit store : ℕ) (stop : Stop) (held a b : List ℕ) (was : World) (old new : KeeperView) → Broke limit store false stop held a was old new → Broke limit store false stop held (a ++ b) was old new
 broke_before limit store stop held a b was old new k =
     let c : (ss : List (List ℕ)) × (rest : List ℕ) × Cuts false (k.rest ++ b) ss rest = some_cut false (k.rest ++ b) in
     record {
@@ -74,17 +74,17 @@ broke_before limit store stop held a b was old new k =
 -- ---- serving
 
 -- nothing is answered by bytes that stay open
-pub serves_push : (view : Keeping) (bytes : List ℕ) (before after : Seen) → view.ready → ((limit : ℕ) (held : List ℕ) → StandsOpen limit before held → StandsOpen limit after (held ++ bytes)) → Serves bytes view view before after
+pub serves_push : (view : KeeperView) (bytes : List ℕ) (before after : Seen) → view.ready → ((limit : ℕ) (held : List ℕ) → StandsOpen limit before held → StandsOpen limit after (held ++ bytes)) → Serves bytes view view before after
 serves_push view bytes before after ready h = record {
   frame = frame_none view;
   ready = ready;
   serves = λ limit held s was w. (was, w, served_open limit view.fixed.limit held bytes was view.time after (h limit held s));
 }
 
-pub serves_none : (view : Keeping) (cutter : Seen) → view.ready → Serves [] view view cutter cutter
+pub serves_none : (view : KeeperView) (cutter : Seen) → view.ready → Serves [] view view cutter cutter
 serves_none view cutter ready = serves_push view [] cutter cutter ready (λ limit held s. rw (append-nil held) s)
 
-serves_then : (a b : List ℕ) (old mid new : Keeping) (before between after : Seen) → Serves a old mid before between → Serves b mid new between after → Serves (a ++ b) old new before after
+serves_then : (a b : List ℕ) (old mid new : KeeperView) (before between after : Seen) → Serves a old mid before between → Serves b mid new between after → Serves (a ++ b) old new before after
 serves_then a b old mid new before between after s t = record {
   frame = frame_then old mid new s.frame t.frame;
   ready = t.ready;
@@ -98,7 +98,7 @@ serves_then a b old mid new before between after s t = record {
       );
 }
 
-breaks_then : (whole : Bool) (stop : Stop) (a b : List ℕ) (old mid new : Keeping) (before between : Seen) → Serves a old mid before between → Breaks whole stop b mid new between → Breaks whole stop (a ++ b) old new before
+breaks_then : (whole : Bool) (stop : Stop) (a b : List ℕ) (old mid new : KeeperView) (before between : Seen) → Serves a old mid before between → Breaks whole stop b mid new between → Breaks whole stop (a ++ b) old new before
 breaks_then whole stop a b old mid new before between s t = record {
   frame = frame_then old mid new s.frame t.frame;
   cause = rose_by stop old mid new s.frame t.cause;
@@ -109,7 +109,7 @@ breaks_then whole stop a b old mid new before between s t = record {
       (subst (λ (store : ℕ). Broke limit store whole stop x.2.served.rest b x.0 mid new) (same_limit s.frame.lasts.fixed) (t.breaks limit x.2.served.rest x.2.stands x.0 x.1));
 }
 
-breaks_before : (stop : Stop) (a b : List ℕ) (old new : Keeping) (before : Seen) → Breaks false stop a old new before → Breaks false stop (a ++ b) old new before
+breaks_before : (stop : Stop) (a b : List ℕ) (old new : KeeperView) (before : Seen) → Breaks false stop a old new before → Breaks false stop (a ++ b) old new before
 breaks_before stop a b old new before t = record {
   frame = t.frame;
   cause = t.cause;
@@ -132,13 +132,13 @@ abbrev pub ShowsRest : Option (Bor (List ℕ)) → Seen → Type 0
 ShowsRest text before = (limit : ℕ) (held : List ℕ) → StandsOpen limit before held → ShowsText limit text held
 
 -- what answering a text that is so shown does
-abbrev pub AnswersShown : (List ℕ → Piece) → Option (Bor (List ℕ)) → Keeping → Keeping → Type 0
+abbrev pub AnswersShown : (List ℕ → Piece) → Option (Bor (List ℕ)) → KeeperView → KeeperView → Type 0
 AnswersShown piece text old new = (limit : ℕ) (s : List ℕ) → ShowsText limit text s → Answers limit (piece s) old new
 
-abbrev pub StopsShown : (List ℕ → Piece) → Stop → Option (Bor (List ℕ)) → Keeping → Keeping → Type 0
+abbrev pub StopsShown : (List ℕ → Piece) → Stop → Option (Bor (List ℕ)) → KeeperView → KeeperView → Type 0
 StopsShown piece stop text old new = (limit : ℕ) (s : List ℕ) → ShowsText limit text s → Stops limit (piece s) stop old new
 
-pub serves_statement : (old new : Keeping) (before after : Seen) (text : Option (Bor (List ℕ))) → is_some before.stop ≡ true → ShowsEnded text before → AnswersShown statement text old new
+pub serves_statement : (old new : KeeperView) (before after : Seen) (text : Option (Bor (List ℕ))) → is_some before.stop ≡ true → ShowsEnded text before → AnswersShown statement text old new
     → StandsOpen before.limit after [] → Serves (10 ∷ []) old new before after
 serves_statement old new before after text e show answers n = record {
   frame = let x = shown text in (answers x.0 x.1 x.2).frame;
@@ -149,7 +149,7 @@ serves_statement old new before after text e show answers n = record {
       (a.0, a.1, served_statement limit old.fixed.limit held t.0 was a.0 old.time new.time after h.opened t.1 a.2 (subst (λ (x : ℕ). StandsOpen x after []) h.limited n));
 }
 
-pub breaks_statement : (stop : Stop) (old new : Keeping) (before : Seen) (text : Option (Bor (List ℕ))) → is_some before.stop ≡ true → ShowsEnded text before → StopsShown statement stop text old new
+pub breaks_statement : (stop : Stop) (old new : KeeperView) (before : Seen) (text : Option (Bor (List ℕ))) → is_some before.stop ≡ true → ShowsEnded text before → StopsShown statement stop text old new
     → Breaks false stop (10 ∷ []) old new before
 breaks_statement stop old new before text e show answers = record {
   frame = let x = shown text in (answers x.0 x.1 x.2).frame;
@@ -160,7 +160,7 @@ breaks_statement stop old new before text e show answers = record {
       broke_first limit false stop held (10 ∷ []) (statement t.0) [] [] was old new (newline_piece held t.0 h.opened t.1) ((answers limit t.0 (show limit held t.0 h t.1)).stops was w);
 }
 
-pub finishes_statement : (old new : Keeping) (before : Seen) (text : Option (Bor (List ℕ))) → is_some before.stop ≡ true → ShowsEnded text before → AnswersShown statement text old new
+pub finishes_statement : (old new : KeeperView) (before : Seen) (text : Option (Bor (List ℕ))) → is_some before.stop ≡ true → ShowsEnded text before → AnswersShown statement text old new
     → Finishes old new before
 finishes_statement old new before text e show answers = record {
   frame = let x = shown text in (answers x.0 x.1 x.2).frame;
@@ -171,7 +171,7 @@ finishes_statement old new before text e show answers = record {
       (a.0, a.1, served_last limit old.fixed.limit held t.0 was a.0 old.time new.time t.1 a.2);
 }
 
-pub breaks_last : (stop : Stop) (old new : Keeping) (before : Seen) (text : Option (Bor (List ℕ))) → is_some before.stop ≡ true → ShowsEnded text before → StopsShown statement stop text old new
+pub breaks_last : (stop : Stop) (old new : KeeperView) (before : Seen) (text : Option (Bor (List ℕ))) → is_some before.stop ≡ true → ShowsEnded text before → StopsShown statement stop text old new
     → Breaks true stop [] old new before
 breaks_last stop old new before text e show answers = record {
   frame = let x = shown text in (answers x.0 x.1 x.2).frame;
@@ -182,7 +182,7 @@ breaks_last stop old new before text e show answers = record {
       broke_first limit true stop held [] (statement t.0) (rest_piece [] ∷ []) [] was old new (ended_piece held t.0 t.1) ((answers limit t.0 (show limit held t.0 h t.1)).stops was w);
 }
 
-pub finishes_rest : (old new : Keeping) (before : Seen) (text : Option (Bor (List ℕ))) → is_some before.stop ≡ false → ShowsRest text before → AnswersShown rest_piece text old new
+pub finishes_rest : (old new : KeeperView) (before : Seen) (text : Option (Bor (List ℕ))) → is_some before.stop ≡ false → ShowsRest text before → AnswersShown rest_piece text old new
     → Finishes old new before
 finishes_rest old new before text e show answers = record {
   frame = let x = shown text in (answers x.0 x.1 x.2).frame;
@@ -192,7 +192,7 @@ finishes_rest old new before text e show answers = record {
       (a.0, a.1, served_rest limit old.fixed.limit held was a.0 old.time new.time (no_text limit before held h e) a.2);
 }
 
-pub breaks_rest : (stop : Stop) (old new : Keeping) (before : Seen) (text : Option (Bor (List ℕ))) → is_some before.stop ≡ false → ShowsRest text before → StopsShown rest_piece stop text old new
+pub breaks_rest : (stop : Stop) (old new : KeeperView) (before : Seen) (text : Option (Bor (List ℕ))) → is_some before.stop ≡ false → ShowsRest text before → StopsShown rest_piece stop text old new
     → Breaks true stop [] old new before
 breaks_rest stop old new before text e show answers = record {
   frame = let x = shown text in (answers x.0 x.1 x.2).frame;
@@ -204,17 +204,17 @@ breaks_rest stop old new before text e show answers = record {
 
 -- ---- the steps of a loop over bytes
 
-pub serves_more : (bytes : List ℕ) (i : ℕ) (old mid new : Keeping) (before between after : Seen) → i < length bytes
+pub serves_more : (bytes : List ℕ) (i : ℕ) (old mid new : KeeperView) (before between after : Seen) → i < length bytes
     → Serves (take i bytes) old mid before between → Serves (get_or bytes i 0 ∷ []) mid new between after → Serves (take (i + 1) bytes) old new before after
 serves_more bytes i old mid new before between after h s t =
     rw (take_more bytes i 0 h) (serves_then (take i bytes) (get_or bytes i 0 ∷ []) old mid new before between after s t)
 
-pub breaks_at : (stop : Stop) (bytes : List ℕ) (i : ℕ) (old mid new : Keeping) (before between : Seen) → i < length bytes
+pub breaks_at : (stop : Stop) (bytes : List ℕ) (i : ℕ) (old mid new : KeeperView) (before between : Seen) → i < length bytes
     → Serves (take i bytes) old mid before between → Breaks false stop (get_or bytes i 0 ∷ []) mid new between → Breaks false stop bytes old new before
 breaks_at stop bytes i old mid new before between h s t =
     let p : take i bytes ++ (get_or bytes i 0 ∷ drop (i + 1) bytes) ≡ bytes = rw (add-one, sym (drop-cons bytes i 0 h)) (take-append-drop i bytes) in
     subst (λ (xs : List ℕ). Breaks false stop xs old new before) p
     (breaks_then false stop (take i bytes) (get_or bytes i 0 ∷ drop (i + 1) bytes) old mid new before between s (breaks_before stop (get_or bytes i 0 ∷ []) (drop (i + 1) bytes) mid new between t))
 
-pub serves_all : (bytes : List ℕ) (i : ℕ) (old new : Keeping) (before after : Seen) → length bytes ≤ i → Serves (take i bytes) old new before after → Serves bytes old new before after
+pub serves_all : (bytes : List ℕ) (i : ℕ) (old new : KeeperView) (before after : Seen) → length bytes ≤ i → Serves (take i bytes) old new before after → Serves bytes old new before after
 serves_all bytes i old new before after h s = rw (take_all i bytes h) at s

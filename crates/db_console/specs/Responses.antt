@@ -4,7 +4,7 @@ use Rattle.std.specs.Option.{MatchOption}
 use denote.Ref.{Bor}
 use Rattle.ct_keep.specs.Content.{Content}
 use Rattle.ct_keep.specs.declared.keepers.KeepFault.TheVariants.{Disk}
-use Rattle.ct_keep.specs.Keeping.{Keeping}
+use Rattle.ct_keep.specs.KeeperViews.{KeeperView}
 use Rattle.st_parse.specs.Grammar.{Read}
 use Rattle.db_cond.specs.Faults.{not_understood, statement_too_long, out_of_memory}
 use Rattle.db_engine.specs.States.{State}
@@ -28,7 +28,7 @@ abbrev pub IsTextOf : Option (Bor (List ℕ)) → List ℕ → Type 0
 IsTextOf found bytes = MatchOption found (is_text bytes ≡ false) (λ text. (is_text bytes ≡ true) × (text.now ≡ bytes))
 
 -- What was read has this reply, by at most one commit.
-pub record HasReply (m : State) (r : Read) (c : Content) (old new : Keeping) (reply : List ℕ) : Type 0 where
+pub record HasReply (m : State) (r : Read) (c : Content) (old new : KeeperView) (reply : List ℕ) : Type 0 where
   pub answer : Answer
   pub moves : Moves m (effect_of m r) c old new (fault_for answer)
   pub is : reply ≡ (answered answer m (effect_of m r)).1
@@ -36,6 +36,6 @@ pub record HasReply (m : State) (r : Read) (c : Content) (old new : Keeping) (re
   pub can : answer ≡ Full → can_fill r ≡ true
 
 -- the same, or the disk failed
-abbrev pub Responds : State → Read → Content → Keeping → Keeping → Result Response Stop → Type 0
+abbrev pub Responds : State → Read → Content → KeeperView → KeeperView → Result Response Stop → Type 0
 Responds m r c old new (Ok response) = HasReply m r c old new (bytes_of response)
 Responds m r c old new (Err DiskStop) = Moves m (effect_of m r) c old new (Some Disk)

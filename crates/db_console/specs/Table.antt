@@ -8,9 +8,9 @@ use Rattle.ct_base.specs.Told.{ahead, behind}
 use Rattle.ct_base.specs.Moments.{Passes}
 use Rattle.ct_site.specs.Disks.{DiskView, Beside}
 use Rattle.ct_keep.specs.Content.{Content}
-use Rattle.ct_keep.specs.Keeping.{Keeping, Counts, PassesRoom, IsSettled}
+use Rattle.ct_keep.specs.KeeperViews.{KeeperView, Counts, PassesRoom, IsSettled}
 use Rattle.ct_keep.specs.InMemory.{in_memory, settled_in_memory, aside_of}
-use Rattle.ct_keep.specs.KeeperStates.{KeeperState, no_counts, no_disk, mem_keeping}
+use Rattle.ct_keep.specs.KeeperStates.{KeeperState, no_counts, no_disk, mem_view}
 use Rattle.st_cut.specs.Seen.{Seen}
 use Rattle.db_engine.specs.States.{empty_state}
 use Rattle.db_engine.specs.EmptyLaws.{empty_stands}
@@ -35,7 +35,7 @@ ending_of Say = SayFault
 ending_of Disk = DiskFault
 
 -- The end of the script was served, and the run ends so.
-abbrev pub Closes : Ending → Keeping → Keeping → Seen → Type 0
+abbrev pub Closes : Ending → KeeperView → KeeperView → Seen → Type 0
 Closes Done old new before = Finishes old new before
 Closes SayFault old new before = Breaks true Say [] old new before
 Closes DiskFault old new before = Breaks true Disk [] old new before
@@ -45,7 +45,7 @@ Closes ending old new before = ⊥
 
 -- The turns are those of a script, whole or as far as it has come: each piece of it was answered, and each reply was said.
 -- A stop now leaves the state after them.
-pub record SaidAll (limit : ℕ) (whole : Bool) (script : List ℕ) (was : World) (turns : List Turn) (new : Keeping) : Type 0 where
+pub record SaidAll (limit : ℕ) (whole : Bool) (script : List ℕ) (was : World) (turns : List Turn) (new : KeeperView) : Type 0 where
   pub rest : List ℕ
   pub cut : HasPieces whole script (pieces turns) rest
   pub shows : Shows new (world_after limit was turns)
@@ -62,7 +62,7 @@ pub record AreFirst (whole : Bool) (script : List ℕ) (turns done : List Turn) 
 -- The reply to the last one was said in part: the bytes said are a front of all that the turns say, and not all of it,
 -- and have in front all that the turns before the last one say. Where it is told what was said before and how many bytes may
 -- be said in all, all that the turns say would have been too many. A stop now leaves the state after all of them.
-pub record SaidInPart (limit : ℕ) (whole : Bool) (script : List ℕ) (was : World) (turns : List Turn) (new : Keeping) : Type 0 where
+pub record SaidInPart (limit : ℕ) (whole : Bool) (script : List ℕ) (was : World) (turns : List Turn) (new : KeeperView) : Type 0 where
   pub done : List Turn
   pub first : AreFirst whole script turns done
   pub said : List ℕ
@@ -73,14 +73,14 @@ pub record SaidInPart (limit : ℕ) (whole : Bool) (script : List ℕ) (was : Wo
   pub settled : IsSettled new
 
 -- The disk failed in the last one: all was said that the turns before it say, and a stop leaves the state before it or after it.
-pub record FailedInLast (limit : ℕ) (whole : Bool) (script : List ℕ) (was : World) (turns : List Turn) (new : Keeping) : Type 0 where
+pub record FailedInLast (limit : ℕ) (whole : Bool) (script : List ℕ) (was : World) (turns : List Turn) (new : KeeperView) : Type 0 where
   pub done : List Turn
   pub first : AreFirst whole script turns done
   pub told : new.beside.said ≡ behind was.said (transcript limit was.state done)
   pub leaves : (stopped : Option Content) (said : List ℕ) → new.now stopped said → LeavesState stopped (state_after limit was.state done) ⊎ LeavesState stopped (state_after limit was.state turns)
 
 -- which turns were answered and what was said of them, by how the run ended and by the bytes taken from the script
-abbrev pub Ends : ℕ → ℕ → List ℕ → World → List Turn → Keeping → Ending → Type 0
+abbrev pub Ends : ℕ → ℕ → List ℕ → World → List Turn → KeeperView → Ending → Type 0
 -- each statement of the script, and the rest
 Ends limit most taken was turns new Done = SaidAll limit true taken was turns new
 -- the statements that a newline ends in the bytes taken
@@ -96,7 +96,7 @@ Ends limit most taken was turns new PastLimit = (first : List ℕ) × (more : �
 
 -- The answers of a run. At each moment since its start, and now, a stop leaves the state after some of the first turns,
 -- and what was said by then is a front of what these say.
-pub record Course (limit most : ℕ) (taken : List ℕ) (was : World) (old new : Keeping) (ending : Ending) : Type 0 where
+pub record Course (limit most : ℕ) (taken : List ℕ) (was : World) (old new : KeeperView) (ending : Ending) : Type 0 where
   pub turns : List Turn
   pub allowed : AllAllowed limit old.fixed.limit was.state turns
   pub ends : Ends limit most taken was turns new ending
@@ -105,7 +105,7 @@ pub record Course (limit most : ℕ) (taken : List ℕ) (was : World) (old new :
 
 -- ---- why it ended so
 
-abbrev pub Because : ℕ → List ℕ → Keeping → Keeping → Ending → Type 0
+abbrev pub Because : ℕ → List ℕ → KeeperView → KeeperView → Ending → Type 0
 -- `hear` answered that the script ends
 Because most taken old new Done = (length taken ≤ most) × EndsHere new.beside
 Because most taken old new HearFault = (length taken ≤ most) × HearRose old.beside new.beside
@@ -117,12 +117,12 @@ Because most taken old new DiskFault = (length taken ≤ most) × DiskRose old n
 Because most taken old new PastLimit = length taken ≡ suc most
 
 -- whether the keeper may be called again
-abbrev pub IsReadyAfter : Ending → Keeping → Type 0
+abbrev pub IsReadyAfter : Ending → KeeperView → Type 0
 IsReadyAfter DiskFault new = Unit {0}
 IsReadyAfter ending new = new.ready
 
 -- What a run of the console did that ended so. It takes statements of at most `limit` bytes, and scripts of at most `most`.
-pub record Outcome (limit most : ℕ) (old new : Keeping) (ending : Ending) : Type 0 where
+pub record Outcome (limit most : ℕ) (old new : KeeperView) (ending : Ending) : Type 0 where
   -- the bytes taken from the script
   pub taken : List ℕ
   pub front : old.beside.left ≡ ahead taken new.beside.left
@@ -144,7 +144,7 @@ pub record Completes (most status : ℕ) (old new : Beside) (quiet : Type 0) : T
 -- ---- over a keeper in memory
 
 -- Hearing doesn't fail there, and there is no disk: a run ends with 0, 4, 5 or 8.
-pub in_memory_ends : (limit most : ℕ) (old new : KeeperState) (ending : Ending) → Outcome limit most (mem_keeping old) (mem_keeping new) ending → (status_of ending ≢ 3) × (status_of ending ≢ 6)
+pub in_memory_ends : (limit most : ℕ) (old new : KeeperState) (ending : Ending) → Outcome limit most (mem_view old) (mem_view new) ending → (status_of ending ≢ 3) × (status_of ending ≢ 6)
 in_memory_ends limit most old new Done o = (λ is. omega arith, λ is. omega arith)
 in_memory_ends limit most old new HearFault o = (λ is. let rose = o.because.1 in omega (arith, rose), λ is. omega arith)
 in_memory_ends limit most old new SayFault o = (λ is. omega arith, λ is. omega arith)
@@ -160,7 +160,7 @@ pub record Untouched (old new : DiskView) : Type 0 where
   pub faults : new.faults ≡ old.faults
 
 -- a keeper in memory that stands over a site, by the reference of this name
-abbrev pub over_site : Content → ℕ → Counts → DiskView → GName → Keeping
+abbrev pub over_site : Content → ℕ → Counts → DiskView → GName → KeeperView
 over_site content limit counts site name = in_memory content limit counts site.beside None (aside_of site) (Some name)
 
 -- The run over a site that a keeper in memory made, which was empty to begin with. Its content may weigh `store`.
@@ -176,7 +176,7 @@ pub record RanOver (limit most store : ℕ) (old new : DiskView) (ending : Endin
 abbrev bad : List ℕ → Turn
 bad text = turn_by (statement text) Step
 
-abbrev telling : List ℕ → List ℕ → Keeping
+abbrev telling : List ℕ → List ℕ → KeeperView
 telling left said = in_memory empty 0 no_counts (record { left = Some left; said = Some said; hear_faults = 0; say_faults = 0 }) (Some 40) no_disk None
 
 ten_bytes : Ends 65536 10 (codes "SELEC;\nSELE") (world []) (bad (codes "SELEC") ∷ []) (telling (codes "C;\n") (codes "E10: statement not understood\n")) PastLimit

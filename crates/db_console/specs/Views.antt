@@ -5,7 +5,7 @@ use Rattle.ct_base.specs.Told.{behind, IsNothing, IsSaid}
 use Rattle.ct_base.specs.Moments.{Passes}
 use Rattle.ct_site.specs.Disks.{Beside}
 use Rattle.ct_keep.specs.Content.{Content}
-use Rattle.ct_keep.specs.Keeping.{Keeping, KeeperHears, KeeperSays, PassesRoom, IsSettled}
+use Rattle.ct_keep.specs.KeeperViews.{KeeperView, KeeperHears, KeeperSays, PassesRoom, IsSettled}
 use Rattle.st_cut.specs.Seen.{Seen, Stands as StandsOpen}
 use Rattle.db_engine.specs.States.{Stands}
 use Rattle.db_engine.specs.Runs.{Piece, Answer, Step, Turn, turn_by, turn, pieces, IsAllowed}
@@ -14,7 +14,7 @@ use Rattle.db_console.specs.declared.saying.Stop.{Stop}
 use Rattle.db_console.specs.declared.saying.Stop.TheVariants.{Say, Disk}
 
 -- This is a world that the keeper shows: its content stands for the state, and it tells that so much was said.
-pub record Shows (view : Keeping) (world : World) : Type 0 where
+pub record Shows (view : KeeperView) (world : World) : Type 0 where
   pub said : view.beside.said ≡ world.said
   pub content : Content
   pub holds : view.content ≡ Some content
@@ -27,7 +27,7 @@ HearRose old new = Rose old.hear_faults new.hear_faults
 abbrev pub SayRose : Beside → Beside → Type 0
 SayRose old new = Rose old.say_faults new.say_faults
 
-abbrev pub DiskRose : Keeping → Keeping → Type 0
+abbrev pub DiskRose : KeeperView → KeeperView → Type 0
 DiskRose old new = Rose old.disk_faults new.disk_faults
 
 -- the script ends here, where it is told
@@ -35,24 +35,24 @@ abbrev pub EndsHere : Beside → Type 0
 EndsHere beside = IsNothing beside.left
 
 -- What a run keeps, whatever it does: no count of faults falls.
-pub record Lasts (old new : Keeping) : Type 0 where
+pub record Lasts (old new : KeeperView) : Type 0 where
   pub hear_later : old.beside.hear_faults ≤ new.beside.hear_faults
   pub say_later : old.beside.say_faults ≤ new.beside.say_faults
   pub disk_later : old.disk_faults ≤ new.disk_faults
   pub fixed : new.fixed ≡ old.fixed
 
 -- Bytes were heard, and nothing else was done.
-pub record Heard (heard : List ℕ) (old new : Keeping) : Type 0 where
+pub record Heard (heard : List ℕ) (old new : KeeperView) : Type 0 where
   pub hears : KeeperHears heard old new
   pub later : old.beside.hear_faults ≤ new.beside.hear_faults
 
 -- Bytes were said, by any number of calls, and nothing else was done.
-pub record Spoke (bytes : List ℕ) (old new : Keeping) : Type 0 where
+pub record Spoke (bytes : List ℕ) (old new : KeeperView) : Type 0 where
   pub says : KeeperSays bytes old new
   pub later : old.beside.say_faults ≤ new.beside.say_faults
 
 -- The front of the bytes was said, and not all of them, for a fault. Where the room for what is said is told, all of them would have passed it.
-pub record SpokeInPart (bytes : List ℕ) (old new : Keeping) : Type 0 where
+pub record SpokeInPart (bytes : List ℕ) (old new : KeeperView) : Type 0 where
   pub part : List ℕ
   pub is : IsPartOf part bytes
   pub spoke : Spoke part old new
@@ -60,7 +60,7 @@ pub record SpokeInPart (bytes : List ℕ) (old new : Keeping) : Type 0 where
   pub passes : PassesRoom old.fixed.say_room old.beside.said bytes
 
 -- what answering leaves
-pub record Frame (old new : Keeping) : Type 0 where
+pub record Frame (old new : KeeperView) : Type 0 where
   pub left : new.beside.left ≡ old.beside.left
   pub hear_faults : new.beside.hear_faults ≡ old.beside.hear_faults
   pub lasts : Lasts old new
@@ -68,7 +68,7 @@ pub record Frame (old new : Keeping) : Type 0 where
 -- ---- one piece
 
 -- A piece has this reply, by at most one commit, and nothing of it was said yet.
-pub record Replied (limit : ℕ) (piece : Piece) (was : World) (old new : Keeping) (reply : List ℕ) : Type 0 where
+pub record Replied (limit : ℕ) (piece : Piece) (was : World) (old new : KeeperView) (reply : List ℕ) : Type 0 where
   pub answer : Answer
   pub allowed : IsAllowed limit old.fixed.limit was.state piece answer
   pub is : reply ≡ (turn limit was.state (turn_by piece answer)).1
@@ -83,18 +83,18 @@ pub record LeavesEither (limit : ℕ) (was : World) (last : Turn) (stopped : Opt
   pub said_before : IsSaid was.said said
 
 -- The disk failed in the answer to a piece, which counts as one by its step.
-pub record Halted (limit : ℕ) (piece : Piece) (was : World) (old new : Keeping) : Type 0 where
+pub record Halted (limit : ℕ) (piece : Piece) (was : World) (old new : KeeperView) : Type 0 where
   pub moments : Passes old.time new.time (IsMoment limit was (turn_by piece Step ∷ []))
   pub now : (stopped : Option Content) (said : List ℕ) → new.now stopped said → LeavesEither limit was (turn_by piece Step) stopped said
 
 -- A piece was answered, and the reply was said.
-pub record Answers (limit : ℕ) (piece : Piece) (old new : Keeping) : Type 0 where
+pub record Answers (limit : ℕ) (piece : Piece) (old new : KeeperView) : Type 0 where
   pub frame : Frame old new
   pub ready : new.ready
   pub answers : (was : World) → Shows old was → (now : World) × Shows new now × Answered limit old.fixed.limit piece was now old.time new.time
 
 -- the cause of a stop
-abbrev pub RoseBy : Stop → Keeping → Keeping → Type 0
+abbrev pub RoseBy : Stop → KeeperView → KeeperView → Type 0
 RoseBy Say old new = SayRose old.beside new.beside
 RoseBy Disk old new = DiskRose old new × (old.fixed.aside ≡ None)
 
@@ -104,7 +104,7 @@ UnlessByDisk Say P = P
 UnlessByDisk Disk P = Unit {0}
 
 -- The reply of the last turn was said in part, behind what had been said; where the room for that is told, the whole of it would have passed it.
-pub record SaysInPart (limit : ℕ) (was : World) (last : Turn) (new : Keeping) : Type 0 where
+pub record SaysInPart (limit : ℕ) (was : World) (last : Turn) (new : KeeperView) : Type 0 where
   pub part : List ℕ
   pub reply : IsPartOf part (turn limit was.state last).1
   pub passes : PassesRoom new.fixed.say_room was.said (turn limit was.state last).1
@@ -112,23 +112,23 @@ pub record SaysInPart (limit : ℕ) (was : World) (last : Turn) (new : Keeping) 
   pub settled : IsSettled new
 
 -- The disk failed in the last turn, and nothing of its reply was said.
-pub record FailsInTurn (limit : ℕ) (was : World) (last : Turn) (new : Keeping) : Type 0 where
+pub record FailsInTurn (limit : ℕ) (was : World) (last : Turn) (new : KeeperView) : Type 0 where
   pub told : new.beside.said ≡ was.said
   pub now : (stopped : Option Content) (said : List ℕ) → new.now stopped said → LeavesEither limit was last stopped said
 
 -- how a turn stopped
-abbrev pub StopsBy : Stop → ℕ → World → Turn → Keeping → Type 0
+abbrev pub StopsBy : Stop → ℕ → World → Turn → KeeperView → Type 0
 StopsBy Say limit was last new = SaysInPart limit was last new
 StopsBy Disk limit was last new = FailsInTurn limit was last new
 
 -- The answer to a piece was stopped.
-pub record Stopped (limit : ℕ) (piece : Piece) (stop : Stop) (was : World) (old new : Keeping) : Type 0 where
+pub record Stopped (limit : ℕ) (piece : Piece) (stop : Stop) (was : World) (old new : KeeperView) : Type 0 where
   pub answer : Answer
   pub allowed : IsAllowed limit old.fixed.limit was.state piece answer
   pub moments : Passes old.time new.time (IsMoment limit was (turn_by piece answer ∷ []))
   pub by : StopsBy stop limit was (turn_by piece answer) new
 
-pub record Stops (limit : ℕ) (piece : Piece) (stop : Stop) (old new : Keeping) : Type 0 where
+pub record Stops (limit : ℕ) (piece : Piece) (stop : Stop) (old new : KeeperView) : Type 0 where
   pub frame : Frame old new
   pub cause : RoseBy stop old new
   pub ready : UnlessByDisk stop new.ready
@@ -137,14 +137,14 @@ pub record Stops (limit : ℕ) (piece : Piece) (stop : Stop) (old new : Keeping)
 -- ---- some bytes
 
 -- Bytes were served: each statement that a newline ends in them was answered.
-pub record Serves (bytes : List ℕ) (old new : Keeping) (before after : Seen) : Type 0 where
+pub record Serves (bytes : List ℕ) (old new : KeeperView) (before after : Seen) : Type 0 where
   pub frame : Frame old new
   pub ready : new.ready
   pub serves : (limit : ℕ) (held : List ℕ) → StandsOpen limit before held → (was : World) → Shows old was → (now : World) × Shows new now × ServedTo limit old.fixed.limit held bytes was now old.time new.time after
 
 -- Where `held` stood open, serving `bytes` answered some pieces of them, and then was stopped in the answer to the next one.
 -- Each moment that came between is one of these turns.
-pub record Broke (limit store : ℕ) (whole : Bool) (stop : Stop) (held bytes : List ℕ) (was : World) (old new : Keeping) : Type 0 where
+pub record Broke (limit store : ℕ) (whole : Bool) (stop : Stop) (held bytes : List ℕ) (was : World) (old new : KeeperView) : Type 0 where
   pub turns : List Turn
   pub mid : World
   pub leads : Leads limit store was turns mid
@@ -157,14 +157,14 @@ pub record Broke (limit store : ℕ) (whole : Bool) (stop : Stop) (held bytes : 
   pub by : StopsBy stop limit mid last new
 
 -- Serving bytes was stopped.
-pub record Breaks (whole : Bool) (stop : Stop) (bytes : List ℕ) (old new : Keeping) (before : Seen) : Type 0 where
+pub record Breaks (whole : Bool) (stop : Stop) (bytes : List ℕ) (old new : KeeperView) (before : Seen) : Type 0 where
   pub frame : Frame old new
   pub cause : RoseBy stop old new
   pub ready : UnlessByDisk stop new.ready
   pub breaks : (limit : ℕ) (held : List ℕ) → StandsOpen limit before held → (was : World) → Shows old was → Broke limit old.fixed.limit whole stop held bytes was old new
 
 -- The end of the script was served.
-pub record Finishes (old new : Keeping) (before : Seen) : Type 0 where
+pub record Finishes (old new : KeeperView) (before : Seen) : Type 0 where
   pub frame : Frame old new
   pub ready : new.ready
   pub serves : (limit : ℕ) (held : List ℕ) → StandsOpen limit before held → (was : World) → Shows old was → (now : World) × Shows new now × Served limit old.fixed.limit true held [] was now old.time new.time

@@ -3,7 +3,7 @@
 ghost use Rattle.std.specs.Prelude.{◌≡◌, ℕ, List, Some, IfOk, OnErr, true};
 ghost use Rattle.std.specs.Str.{chars};
 ghost use Rattle.ct_keep.specs.Content.{Content};
-ghost use Rattle.ct_keep.specs.Keeping.{Kept};
+ghost use Rattle.ct_keep.specs.KeeperViews.{Kept};
 ghost use Rattle.st_parse.specs.Grammar.{read};
 ghost use Rattle.st_cut.specs.Seen.{Shows as ShowsText};
 ghost use Rattle.db_engine.specs.States.{State, Stands, TakesAll};
@@ -73,10 +73,10 @@ fn respond_to_text<R: Threads + Sync, K: Keeper>(
     keeper: &mut K,
     text: &str,
 ) -> Result<Response, Stop>
-    requires ready { (K.keeping keeper.old).ready }
-    requires takes { TakesAll (K.keeping keeper.old).fixed.well }
-    ensures kept { Kept (K.keeping keeper.old) (K.keeping keeper.new) (fault_of_stop result) }
-    ensures responds { (m : State) (c : Content) → (K.keeping keeper.old).content ≡ Some c → Stands c m → Responds m (read (chars text.now)) c (K.keeping keeper.old) (K.keeping keeper.new) result }
+    requires ready { (K.view keeper.old).ready }
+    requires takes { TakesAll (K.view keeper.old).fixed.well }
+    ensures kept { Kept (K.view keeper.old) (K.view keeper.new) (fault_of_stop result) }
+    ensures responds { (m : State) (c : Content) → (K.view keeper.old).content ≡ Some c → Stands c m → Responds m (read (chars text.now)) c (K.view keeper.old) (K.view keeper.new) result }
 {
     match parse(alloc, text) {
         Ok(None) => Ok(Response::Nothing),
@@ -98,11 +98,11 @@ pub fn respond<R: Threads + Sync, K: Keeper>(
     keeper: &mut K,
     text: Option<&[u8]>,
 ) -> Result<Response, Stop>
-    requires ready { (K.keeping keeper.old).ready }
-    requires takes { TakesAll (K.keeping keeper.old).fixed.well }
-    ensures kept { Kept (K.keeping keeper.old) (K.keeping keeper.new) (fault_of_stop result) }
-    ensures replied { IfOk result (λ response. (limit : ℕ) (ended : List ℕ) → ShowsText limit text.entry ended → (was : World) → Shows (K.keeping keeper.old) was → Replied limit (statement ended) was (K.keeping keeper.old) (K.keeping keeper.new) (bytes_of response)) }
-    ensures halted { OnErr result ((limit : ℕ) (ended : List ℕ) → ShowsText limit text.entry ended → (was : World) → Shows (K.keeping keeper.old) was → Halted limit (statement ended) was (K.keeping keeper.old) (K.keeping keeper.new)) }
+    requires ready { (K.view keeper.old).ready }
+    requires takes { TakesAll (K.view keeper.old).fixed.well }
+    ensures kept { Kept (K.view keeper.old) (K.view keeper.new) (fault_of_stop result) }
+    ensures replied { IfOk result (λ response. (limit : ℕ) (ended : List ℕ) → ShowsText limit text.entry ended → (was : World) → Shows (K.view keeper.old) was → Replied limit (statement ended) was (K.view keeper.old) (K.view keeper.new) (bytes_of response)) }
+    ensures halted { OnErr result ((limit : ℕ) (ended : List ℕ) → ShowsText limit text.entry ended → (was : World) → Shows (K.view keeper.old) was → Halted limit (statement ended) was (K.view keeper.old) (K.view keeper.new)) }
 {
     let Some(bytes) = text else {
         return Ok(Response::TooLong);

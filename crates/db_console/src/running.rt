@@ -38,19 +38,19 @@ pub fn serve<R: Threads + Sync, K: Keeper>(
     most: u64,
     keeper: &mut K,
 ) -> u8
-    requires ready { (K.keeping keeper.old).ready }
-    requires takes { TakesAll (K.keeping keeper.old).fixed.well }
+    requires ready { (K.view keeper.old).ready }
+    requires takes { TakesAll (K.view keeper.old).fixed.well }
 
     // the table of statuses, with the moments of a stop
-    ensures table { (ending : Ending) × (result ≡ status_of ending) × Outcome 65536 most (K.keeping keeper.old) (K.keeping keeper.new) ending }
+    ensures table { (ending : Ending) × (result ≡ status_of ending) × Outcome 65536 most (K.view keeper.old) (K.view keeper.new) ending }
 
     // causes
-    ensures hear { result ≡ 3 → HearRose (K.keeping keeper.old).beside (K.keeping keeper.new).beside }
-    ensures say { result ≡ 4 → SayRose (K.keeping keeper.old).beside (K.keeping keeper.new).beside }
+    ensures hear { result ≡ 3 → HearRose (K.view keeper.old).beside (K.view keeper.new).beside }
+    ensures say { result ≡ 4 → SayRose (K.view keeper.old).beside (K.view keeper.new).beside }
     ensures memory { result ≡ 5 → keeper.new ≡ keeper.old }
-    ensures disk { result ≡ 6 → DiskRose (K.keeping keeper.old) (K.keeping keeper.new) × ((K.keeping keeper.old).fixed.aside ≡ None) }
-    ensures past { TellsPast most result (K.keeping keeper.old).beside (K.keeping keeper.new).beside }
-    ensures complete { Completes most result (K.keeping keeper.old).beside (K.keeping keeper.new).beside (¬ DiskRose (K.keeping keeper.old) (K.keeping keeper.new)) }
+    ensures disk { result ≡ 6 → DiskRose (K.view keeper.old) (K.view keeper.new) × ((K.view keeper.old).fixed.aside ≡ None) }
+    ensures past { TellsPast most result (K.view keeper.old).beside (K.view keeper.new).beside }
+    ensures complete { Completes most result (K.view keeper.old).beside (K.view keeper.new).beside (¬ DiskRose (K.view keeper.old) (K.view keeper.new)) }
 {
     serve_script(rt, alloc, degree, STATEMENT_LIMIT, most, keeper).status()
 }

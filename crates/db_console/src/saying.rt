@@ -17,8 +17,8 @@ pub enum Stop {
 
 /// Says all the bytes, by as many calls as it takes.
 fn say_all<K: Keeper>(keeper: &mut K, bytes: &[u8]) -> Result<(), Failed>
-    ensures all { OnOk result (Spoke bytes.now (K.keeping keeper.old) (K.keeping keeper.new)) }
-    ensures part { OnErr result (SpokeInPart bytes.now (K.keeping keeper.old) (K.keeping keeper.new)) }
+    ensures all { OnOk result (Spoke bytes.now (K.view keeper.old) (K.view keeper.new)) }
+    ensures part { OnErr result (SpokeInPart bytes.now (K.view keeper.old) (K.view keeper.new)) }
 {
     let mut at = 0;
     while at < bytes.len() {
@@ -29,8 +29,8 @@ fn say_all<K: Keeper>(keeper: &mut K, bytes: &[u8]) -> Result<(), Failed>
 
 /// Says a reply.
 pub fn say_reply<K: Keeper>(keeper: &mut K, reply: &[u8]) -> Result<(), Stop>
-    ensures all { OnOk result (Spoke reply.now (K.keeping keeper.old) (K.keeping keeper.new)) }
-    ensures part { IfErr result (λ stop. (stop ≡ Stop.Say) × SpokeInPart reply.now (K.keeping keeper.old) (K.keeping keeper.new)) }
+    ensures all { OnOk result (Spoke reply.now (K.view keeper.old) (K.view keeper.new)) }
+    ensures part { IfErr result (λ stop. (stop ≡ Stop.Say) × SpokeInPart reply.now (K.view keeper.old) (K.view keeper.new)) }
 {
     match say_all(keeper, reply) {
         Ok(()) => Ok(()),

@@ -28,10 +28,10 @@ fn answer<R: Threads + Sync, K: Keeper>(
     keeper: &mut K,
     text: Option<&[u8]>,
 ) -> Result<(), Stop>
-    requires ready { (K.keeping keeper.old).ready }
-    requires takes { TakesAll (K.keeping keeper.old).fixed.well }
-    ensures all { OnOk result ((limit : ℕ) (ended : List ℕ) → ShowsText limit text.entry ended → Answers limit (statement ended) (K.keeping keeper.old) (K.keeping keeper.new)) }
-    ensures part { IfErr result (λ stop. (limit : ℕ) (ended : List ℕ) → ShowsText limit text.entry ended → Stops limit (statement ended) stop (K.keeping keeper.old) (K.keeping keeper.new)) }
+    requires ready { (K.view keeper.old).ready }
+    requires takes { TakesAll (K.view keeper.old).fixed.well }
+    ensures all { OnOk result ((limit : ℕ) (ended : List ℕ) → ShowsText limit text.entry ended → Answers limit (statement ended) (K.view keeper.old) (K.view keeper.new)) }
+    ensures part { IfErr result (λ stop. (limit : ℕ) (ended : List ℕ) → ShowsText limit text.entry ended → Stops limit (statement ended) stop (K.view keeper.old) (K.view keeper.new)) }
 {
     match respond(rt, alloc, degree, keeper, text) {
         Ok(response) => say_reply(keeper, response.bytes()),
@@ -41,9 +41,9 @@ fn answer<R: Threads + Sync, K: Keeper>(
 
 /// Answers the rest of a script, which is given where it isn't too long.
 fn answer_rest<K: Keeper>(keeper: &mut K, text: Option<&[u8]>) -> Result<(), Stop>
-    requires { (K.keeping keeper.old).ready }
-    ensures all { OnOk result ((limit : ℕ) (rest : List ℕ) → ShowsText limit text.entry rest → Answers limit (rest_piece rest) (K.keeping keeper.old) (K.keeping keeper.new)) }
-    ensures part { IfErr result (λ stop. (limit : ℕ) (rest : List ℕ) → ShowsText limit text.entry rest → Stops limit (rest_piece rest) stop (K.keeping keeper.old) (K.keeping keeper.new)) }
+    requires { (K.view keeper.old).ready }
+    ensures all { OnOk result ((limit : ℕ) (rest : List ℕ) → ShowsText limit text.entry rest → Answers limit (rest_piece rest) (K.view keeper.old) (K.view keeper.new)) }
+    ensures part { IfErr result (λ stop. (limit : ℕ) (rest : List ℕ) → ShowsText limit text.entry rest → Stops limit (rest_piece rest) stop (K.view keeper.old) (K.view keeper.new)) }
 {
     let response = respond_to_rest(text);
     say_reply(keeper, response.bytes())
@@ -58,10 +58,10 @@ fn serve_byte<R: Threads + Sync, K: Keeper>(
     cutter: &mut Cutter,
     byte: u8,
 ) -> Result<(), Stop>
-    requires ready { (K.keeping keeper.old).ready }
-    requires takes { TakesAll (K.keeping keeper.old).fixed.well }
-    ensures served { OnOk result (Serves (byte ∷ []) (K.keeping keeper.old) (K.keeping keeper.new) cutter.old cutter.new) }
-    ensures broke { IfErr result (λ stop. Breaks false stop (byte ∷ []) (K.keeping keeper.old) (K.keeping keeper.new) cutter.old) }
+    requires ready { (K.view keeper.old).ready }
+    requires takes { TakesAll (K.view keeper.old).fixed.well }
+    ensures served { OnOk result (Serves (byte ∷ []) (K.view keeper.old) (K.view keeper.new) cutter.old cutter.new) }
+    ensures broke { IfErr result (λ stop. Breaks false stop (byte ∷ []) (K.view keeper.old) (K.view keeper.new) cutter.old) }
 {
     if byte == b'\n' && cutter.is_ending() {
         answer(rt, alloc, degree, keeper, cutter.statement())?;
@@ -81,10 +81,10 @@ fn serve_bytes<R: Threads + Sync, K: Keeper>(
     cutter: &mut Cutter,
     bytes: &[u8],
 ) -> Result<(), Stop>
-    requires ready { (K.keeping keeper.old).ready }
-    requires takes { TakesAll (K.keeping keeper.old).fixed.well }
-    ensures served { OnOk result (Serves bytes.now (K.keeping keeper.old) (K.keeping keeper.new) cutter.old cutter.new) }
-    ensures broke { IfErr result (λ stop. Breaks false stop bytes.now (K.keeping keeper.old) (K.keeping keeper.new) cutter.old) }
+    requires ready { (K.view keeper.old).ready }
+    requires takes { TakesAll (K.view keeper.old).fixed.well }
+    ensures served { OnOk result (Serves bytes.now (K.view keeper.old) (K.view keeper.new) cutter.old cutter.new) }
+    ensures broke { IfErr result (λ stop. Breaks false stop bytes.now (K.view keeper.old) (K.view keeper.new) cutter.old) }
 {
     for byte in bytes {
         serve_byte(rt, alloc, degree, keeper, cutter, *byte)?;
@@ -100,10 +100,10 @@ fn finish<R: Threads + Sync, K: Keeper>(
     keeper: &mut K,
     cutter: &Cutter,
 ) -> Result<(), Stop>
-    requires ready { (K.keeping keeper.old).ready }
-    requires takes { TakesAll (K.keeping keeper.old).fixed.well }
-    ensures served { OnOk result (Finishes (K.keeping keeper.old) (K.keeping keeper.new) cutter.now) }
-    ensures broke { IfErr result (λ stop. Breaks true stop [] (K.keeping keeper.old) (K.keeping keeper.new) cutter.now) }
+    requires ready { (K.view keeper.old).ready }
+    requires takes { TakesAll (K.view keeper.old).fixed.well }
+    ensures served { OnOk result (Finishes (K.view keeper.old) (K.view keeper.new) cutter.now) }
+    ensures broke { IfErr result (λ stop. Breaks true stop [] (K.view keeper.old) (K.view keeper.new) cutter.now) }
 {
     if cutter.is_ending() {
         return answer(rt, alloc, degree, keeper, cutter.statement());
@@ -119,9 +119,9 @@ fn close<R: Threads + Sync, K: Keeper>(
     keeper: &mut K,
     cutter: &Cutter,
 ) -> Ending
-    requires ready { (K.keeping keeper.old).ready }
-    requires takes { TakesAll (K.keeping keeper.old).fixed.well }
-    ensures { Closes result (K.keeping keeper.old) (K.keeping keeper.new) cutter.now }
+    requires ready { (K.view keeper.old).ready }
+    requires takes { TakesAll (K.view keeper.old).fixed.well }
+    ensures { Closes result (K.view keeper.old) (K.view keeper.new) cutter.now }
 {
     match finish(rt, alloc, degree, keeper, cutter) {
         Ok(()) => Ending::Done,
@@ -135,18 +135,18 @@ fn hear_some<K: Keeper>(keeper: &mut K, chunk: &mut [u8], room: usize) -> Result
     requires within { room ≤ length chunk.old }
     ensures bound { IfOk result (λ count. count ≤ room) }
     ensures sized { IfOk result (λ count. length (take count chunk.new) ≡ count) }
-    ensures heard { Heard (took result chunk.new) (K.keeping keeper.old) (K.keeping keeper.new) }
-    ensures end { result ≡ Ok 0 → EndsHere (K.keeping keeper.new).beside }
-    ensures failed { OnErr result (HearRose (K.keeping keeper.old).beside (K.keeping keeper.new).beside) }
+    ensures heard { Heard (took result chunk.new) (K.view keeper.old) (K.view keeper.new) }
+    ensures end { result ≡ Ok 0 → EndsHere (K.view keeper.new).beside }
+    ensures failed { OnErr result (HearRose (K.view keeper.old).beside (K.view keeper.new).beside) }
 {
     keeper.hear(&mut chunk[..room])
 }
 
 /// Hears one byte past those that a script may have, and answers whether there is one.
 fn hear_past<K: Keeper>(keeper: &mut K) -> Result<bool, Failed>
-    ensures end { result ≡ Ok false → Heard [] (K.keeping keeper.old) (K.keeping keeper.new) × EndsHere (K.keeping keeper.new).beside }
-    ensures more { result ≡ Ok true → (byte : ℕ) × Heard (byte ∷ []) (K.keeping keeper.old) (K.keeping keeper.new) }
-    ensures failed { OnErr result (Heard [] (K.keeping keeper.old) (K.keeping keeper.new) × HearRose (K.keeping keeper.old).beside (K.keeping keeper.new).beside) }
+    ensures end { result ≡ Ok false → Heard [] (K.view keeper.old) (K.view keeper.new) × EndsHere (K.view keeper.new).beside }
+    ensures more { result ≡ Ok true → (byte : ℕ) × Heard (byte ∷ []) (K.view keeper.old) (K.view keeper.new) }
+    ensures failed { OnErr result (Heard [] (K.view keeper.old) (K.view keeper.new) × HearRose (K.view keeper.old).beside (K.view keeper.new).beside) }
 {
     let mut byte = [0u8; 1];
     let count = keeper.hear(&mut byte)?;
@@ -163,9 +163,9 @@ pub fn serve_script<R: Threads + Sync, K: Keeper>(
     most: u64,
     keeper: &mut K,
 ) -> Ending
-    requires ready { (K.keeping keeper.old).ready }
-    requires takes { TakesAll (K.keeping keeper.old).fixed.well }
-    ensures outcome { Outcome limit most (K.keeping keeper.old) (K.keeping keeper.new) result }
+    requires ready { (K.view keeper.old).ready }
+    requires takes { TakesAll (K.view keeper.old).fixed.well }
+    ensures outcome { Outcome limit most (K.view keeper.old) (K.view keeper.new) result }
     ensures memory { result ≡ Ending.NoMemory → keeper.new ≡ keeper.old }
 {
     let Ok(mut cutter) = Cutter::new(alloc, limit) else {

@@ -172,7 +172,7 @@ fn faults_end_the_run(rt: HostRuntime) -> Result<(), Fail> {
 }
 
 #[test]
-fn a_word_is_refused(rt: HostRuntime) -> Result<(), Fail> {
+fn a_change_is_refused(rt: HostRuntime) -> Result<(), Fail> {
     let alloc = rt.alloc();
     let mut site = site_of(alloc, TWO.as_bytes(), 4096, &[], &[])?;
     let words = [String::from_str(alloc, "--limit")?];
@@ -412,7 +412,7 @@ fn a_text_of_4001_letters_is_too_long(rt: HostRuntime) -> Result<(), Fail> {
 }
 
 #[test]
-fn a_word_that_occurs_often_scores_100(rt: HostRuntime) -> Result<(), Fail> {
+fn a_change_that_occurs_often_scores_100(rt: HostRuntime) -> Result<(), Fail> {
     let alloc = rt.alloc();
     let mut script = Vec::from_slice(alloc, b"INSERT INTO docs VALUES (1,'")?;
     for _ in 0..101 {

@@ -5,7 +5,7 @@ use Rattle.std.specs.declared.alloc.Global.{Global}
 use Rattle.ct_base.specs.Causes.{Rose}
 use Rattle.ct_keep.specs.Content.{Content}
 use Rattle.ct_keep.specs.declared.keepers.KeepFault.TheVariants.{Memory, Full as NoRoom}
-use Rattle.ct_keep.specs.Keeping.{Keeping, Kept, counted}
+use Rattle.ct_keep.specs.KeeperViews.{KeeperView, Kept, counted}
 use Rattle.db_engine.specs.States.{State}
 use Rattle.st_parse.specs.declared.statements.Arg.{Arg}
 use Rattle.db_cond.specs.Faults.{NotUnderstood}
@@ -17,13 +17,13 @@ use Rattle.db_engine.specs.declared.replies.Reply.{Reply}
 use Rattle.db_engine.specs.declared.replies.Reply.TheVariants.{Text as ReplyText, NoMemory as ReplyNoMemory}
 
 -- what is kept unless the disk failed
-pub kept_memory : (old new : Keeping) → Kept old new (Some Memory) → Kept old new None
+pub kept_memory : (old new : KeeperView) → Kept old new (Some Memory) → Kept old new None
 kept_memory old new kept = record { ready = kept.ready; beside = kept.beside; fixed = kept.fixed; later = kept.later; cause = kept.cause; calls = kept.calls }
 
-pub kept_full : (old new : Keeping) → Kept old new (Some NoRoom) → Kept old new None
+pub kept_full : (old new : KeeperView) → Kept old new (Some NoRoom) → Kept old new None
 kept_full old new kept = record { ready = kept.ready; beside = kept.beside; fixed = kept.fixed; later = kept.later; cause = kept.cause; calls = kept.calls }
 
-pub answers_step : (m : State) (effect : Effect) (may : Bool) (c : Content) (old new : Keeping) (v : Vec ℕ Global) (reply : List ℕ) → reply ≡ v.items → Gives m effect c old new (Ok v) → Answers m effect may c old new (ReplyText reply)
+pub answers_step : (m : State) (effect : Effect) (may : Bool) (c : Content) (old new : KeeperView) (v : Vec ℕ Global) (reply : List ℕ) → reply ≡ v.items → Gives m effect c old new (Ok v) → Answers m effect may c old new (ReplyText reply)
 answers_step m effect may c old new v reply is gives = record {
   answer = Step;
   moves = gives.moves;
@@ -33,7 +33,7 @@ answers_step m effect may c old new v reply is gives = record {
   fulls = λ e. cc;
 }
 
-pub answers_memory : (m : State) (effect : Effect) (may : Bool) (c : Content) (old new : Keeping) → Gives m effect c old new (Err Memory) → Answers m effect may c old new ReplyNoMemory
+pub answers_memory : (m : State) (effect : Effect) (may : Bool) (c : Content) (old new : KeeperView) → Gives m effect c old new (Err Memory) → Answers m effect may c old new ReplyNoMemory
 answers_memory m effect may c old new gives = record {
   answer = NoMemory;
   moves = gives.moves;
@@ -48,7 +48,7 @@ pub rose : (old new : ℕ) → new ≡ counted true old → Rose old new
 rose old new is = let e : new ≡ min (old + 1) (2 ^ 64 - 1) = is in omega (arith, e)
 
 -- with no memory for the line the content is as before, too
-moves_short : (m : State) (effect : Effect) (c : Content) (old new : Keeping) → Moves m effect c old new (Some NoRoom) → Moves m effect c old new (Some Memory)
+moves_short : (m : State) (effect : Effect) (c : Content) (old new : KeeperView) → Moves m effect c old new (Some NoRoom) → Moves m effect c old new (Some Memory)
 moves_short m effect c old new moves = record {
   next = moves.next;
   stands = moves.stands;
@@ -56,7 +56,7 @@ moves_short m effect c old new moves = record {
   same = moves.same;
 }
 
-pub answers_full : (m : State) (effect : Effect) (may : Bool) (c : Content) (old new : Keeping) (reply : Reply) → IsFullReply reply → may ≡ true → new.counts.fulls ≡ counted true old.counts.fulls → Gives m effect c old new (Err NoRoom) → Answers m effect may c old new reply
+pub answers_full : (m : State) (effect : Effect) (may : Bool) (c : Content) (old new : KeeperView) (reply : Reply) → IsFullReply reply → may ≡ true → new.counts.fulls ≡ counted true old.counts.fulls → Gives m effect c old new (Err NoRoom) → Answers m effect may c old new reply
 answers_full m effect may c old new (ReplyText reply) is fills fulls gives = record {
   answer = Full;
   moves = gives.moves;

@@ -1,9 +1,9 @@
--- Words that a keeper may hold are within the bounds of every keeper.
+-- Changes that a keeper may hold are within the bounds of every keeper.
 use Rattle.std.proofs.Common.{◌≡◌, ℕ, Bool, true, List, [], ◌∷◌, length, Option, Some, None, refl}
 use Rattle.std.specs.List.{list_all}
 use Rattle.std.proofs.lemmas.Bool.{le-leb}
 use Rattle.ct_keep.specs.RisingKeys.{and_both}
-use Rattle.ct_keep.specs.Words.{AreWell}
+use Rattle.ct_keep.specs.Changes.{AreWell}
 use Rattle.db_engine.specs.Committing.{is_bounded, are_bounded}
 
 -- no condition on what entries have

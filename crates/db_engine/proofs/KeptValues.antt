@@ -11,8 +11,8 @@ use Rattle.st_parse.specs.declared.statements.Operand.{Operand}
 use Rattle.st_parse.specs.declared.statements.Operand.TheVariants.{Text, Number}
 use Rattle.st_parse.specs.declared.statements.Whole.TheVariants.{Fits, Beyond}
 use Rattle.ct_keep.specs.RisingKeys.{and_true}
-use Rattle.ct_entry.specs.Words.{spell}
-use Rattle.tb_table.specs.Spelling.{insert_words}
+use Rattle.ct_entry.specs.Changes.{spell}
+use Rattle.tb_table.specs.Spelling.{insert_changes}
 use Rattle.tb_table.specs.declared.columns.Sort.{Sort}
 use Rattle.tb_table.specs.declared.columns.Sort.TheVariants.{Number as NumberSort, Varchar2, Clob}
 use Rattle.tb_table.specs.declared.columns.Column.{Column}
@@ -127,12 +127,12 @@ behind_length (v ∷ vs) = omega arith
 pub few_others : (x : Table) (values : List Operand) (r : ℤ) → length x.columns ≤ 16 → IsFreeRow x values r → length (behind_key values) ≤ 255
 few_others x values r few free = let same = sorts_length x.columns values free.sorts in let fewer = behind_length values in omega (arith, same, fewer, few)
 
--- ---- words
+-- ---- changes
 
-pub words_kept : (t : List ℕ) (r : ℤ) (vs : List Operand) (ns : List ℤ) (ts : List (ℕ × List ℕ)) (none new : List (List ℕ × Option (List ℕ))) → none ≡ [] → new ≡ none ++ spell (insert_words t r ns ts) → ns ≡ filter_map number_value vs → ts ≡ texts_of (map kept_value vs)
-    → new ≡ spell (insert_words t r (numbers_of (map kept_value vs)) (texts_of (map kept_value vs)))
-words_kept t r vs ns ts none new empty is numbers texts =
+pub changes_kept : (t : List ℕ) (r : ℤ) (vs : List Operand) (ns : List ℤ) (ts : List (ℕ × List ℕ)) (none new : List (List ℕ × Option (List ℕ))) → none ≡ [] → new ≡ none ++ spell (insert_changes t r ns ts) → ns ≡ filter_map number_value vs → ts ≡ texts_of (map kept_value vs)
+    → new ≡ spell (insert_changes t r (numbers_of (map kept_value vs)) (texts_of (map kept_value vs)))
+changes_kept t r vs ns ts none new empty is numbers texts =
     is
-    ∙ ap (λ (b : List (List ℕ × Option (List ℕ))). b ++ spell (insert_words t r ns ts)) empty
-    ∙ ap (λ (ms : List ℤ). spell (insert_words t r ms ts)) (numbers ∙ sym (numbers_kept vs))
-    ∙ ap (λ (us : List (ℕ × List ℕ)). spell (insert_words t r (numbers_of (map kept_value vs)) us)) texts
+    ∙ ap (λ (b : List (List ℕ × Option (List ℕ))). b ++ spell (insert_changes t r ns ts)) empty
+    ∙ ap (λ (ms : List ℤ). spell (insert_changes t r ms ts)) (numbers ∙ sym (numbers_kept vs))
+    ∙ ap (λ (us : List (ℕ × List ℕ)). spell (insert_changes t r (numbers_of (map kept_value vs)) us)) texts

@@ -16,8 +16,8 @@ use Rattle.ct_keep.specs.RisingKeys.{and_both}
 use Rattle.ct_entry.specs.Keys.{Key, at, same_list, IsRow}
 use Rattle.ct_entry.specs.KeyLaws.{list_from_same, list_same}
 use Rattle.ct_entry.specs.Maps.{Names, altered}
-use Rattle.ct_entry.specs.Words.{spell}
-use Rattle.ct_entry.specs.WordLaws.{at_view, at-after, only-after, told_frame}
+use Rattle.ct_entry.specs.Changes.{spell}
+use Rattle.ct_entry.specs.ChangeLaws.{at_view, at-after, only-after, told_frame}
 use Rattle.tb_table.specs.declared.columns.Sort.{Sort}
 use Rattle.tb_table.specs.declared.columns.Sort.TheVariants.{Number as NumberSort, Varchar2, Clob}
 use Rattle.tb_table.specs.declared.columns.Column.{Column}
@@ -25,13 +25,13 @@ use Rattle.tb_table.specs.Tables.{Table}
 use Rattle.tb_table.specs.Spelling.{TablesStand}
 use Rattle.tb_table.specs.ChangeLaws.{is_of_tables, tables_frame}
 use Rattle.ix_context.specs.Indexes.{Index, pending_rows, synced, synced_index, rows_in, created, with_index}
-use Rattle.ix_context.specs.Changes.{sync_words, create_words}
+use Rattle.ix_context.specs.Changes.{sync_changes, create_changes}
 use Rattle.ix_context.specs.Rules.{most_given, IsTextSort, HasTextAt, IsTarget}
 use Rattle.ix_context.specs.Spelling.{IndexesStand}
 use Rattle.ix_context.specs.Standing.{is_of_indexes}
 use Rattle.ix_context.specs.ChangeLaws.{sync_stands, create_stands}
 use Rattle.ix_context.specs.RuleLaws.{HasAllRows, IsFreeColumn, sync_keeps, create_keeps}
-use Rattle.ix_context.specs.WellLaws.{are_words, all_of_indexes, well_words, index_words_sync, index_words_create}
+use Rattle.ix_context.specs.WellLaws.{are_changes, all_of_indexes, well_changes, index_changes_sync, index_changes_create}
 use Rattle.db_engine.specs.Calling.{has_too_many, with_synced}
 use Rattle.db_engine.specs.Committing.{are_bounded}
 use Rattle.db_engine.specs.Creating.{is_text_sort, is_text_at, has_index_on, has_too_many_rows, all_rows, target, with_new_index, IsFreeIndex}
@@ -97,12 +97,12 @@ few_synced xs i x there t =
         let same : counted {K = List ℕ} (slice_cmp nat_cmp) (λ (z : Index). same_list z.table t) (Some y) ≡ one (same_list x.table t) = ap (counted {K = List ℕ} (slice_cmp nat_cmp) (λ (z : Index). same_list z.table t)) e in
         omega (arith, counts, same)
 
-pub synced_stands : (c : Content) (m : State) (i : List ℕ) (x : Index) → Stands c m → get m.indexes i ≡ Some x → has_too_many x ≡ false → Stands (after (spell (sync_words m.tables i x)) c) (with_synced m i)
+pub synced_stands : (c : Content) (m : State) (i : List ℕ) (x : Index) → Stands c m → get m.indexes i ≡ Some x → has_too_many x ≡ false → Stands (after (spell (sync_changes m.tables i x)) c) (with_synced m i)
 synced_stands c m i x stands there few =
-    let ws = sync_words m.tables i x in
-    let are = index_words_sync m.tables m.indexes i x stands.state.tables stands.state.indexes there (room_left x few) in
+    let ws = sync_changes m.tables i x in
+    let are = index_changes_sync m.tables m.indexes i x stands.state.tables stands.state.indexes there (room_left x few) in
     record {
-      only = only-after ws c stands.only (are_words ws are);
+      only = only-after ws c stands.only (are_changes ws are);
       unbuilt = λ k h. at-after ws c k ∙ told_frame is_of_indexes ws k (at c k) (all_of_indexes ws are) (indexes_built k.kind h) ∙ stands.unbuilt k h;
       tables = subst (λ (f : Key → Option (List ℕ)). TablesStand f m.tables) (sym (at_view ws c)) (tables_frame is_of_indexes ws (at c) m.tables (all_of_indexes ws are) apart stands.tables);
       indexes = subst (λ (f : Key → Option (List ℕ)). IndexesStand f m.tables (synced m.indexes i)) (sym (at_view ws c)) (sync_stands (at c) m.tables m.indexes i x there (room_left x few) stands.state.tables stands.state.indexes stands.indexes);
@@ -114,10 +114,10 @@ synced_stands c m i x stands there few =
       };
     }
 
-pub synced_bounded : (c : Content) (m : State) (i : List ℕ) (x : Index) → Stands c m → get m.indexes i ≡ Some x → has_too_many x ≡ false → are_bounded (spell (sync_words m.tables i x)) ≡ true
+pub synced_bounded : (c : Content) (m : State) (i : List ℕ) (x : Index) → Stands c m → get m.indexes i ≡ Some x → has_too_many x ≡ false → are_bounded (spell (sync_changes m.tables i x)) ≡ true
 synced_bounded c m i x stands there few =
-    let ws = sync_words m.tables i x in
-    bounded_well any_entry (spell ws) (well_words any_entry ws (λ k value of. refl) (index_words_sync m.tables m.indexes i x stands.state.tables stands.state.indexes there (room_left x few)))
+    let ws = sync_changes m.tables i x in
+    bounded_well any_entry (spell ws) (well_changes any_entry ws (λ k value of. refl) (index_changes_sync m.tables m.indexes i x stands.state.tables stands.state.indexes there (room_left x few)))
 
 -- ---- the state after a new index
 
@@ -202,16 +202,16 @@ few_created xs i x none t room few =
         let more : one (same_list x.table t) ≡ 0 = ap one is ∙ one_false in
         omega (arith, counts, free, more, few)
 
-pub new_index_stands : (c : Content) (m : State) (i t : List ℕ) (x : Table) (place : ℕ) → Stands c m → IsName i → IsFreeIndex m i t x place → Stands (after (spell (create_words m.tables i (target t place) all_rows)) c) (with_new_index m i t place)
+pub new_index_stands : (c : Content) (m : State) (i t : List ℕ) (x : Table) (place : ℕ) → Stands c m → IsName i → IsFreeIndex m i t x place → Stands (after (spell (create_changes m.tables i (target t place) all_rows)) c) (with_new_index m i t place)
 new_index_stands c m i t x place stands name free =
-    let ws = create_words m.tables i (target t place) all_rows in
+    let ws = create_changes m.tables i (target t place) all_rows in
     let few = either (nat_le most_indexes (length (indexes_on m.indexes t))) (has_too_many_rows m t) free.few in
     let room = ltb-false most_given (length (rows_in m.tables t all_rows)) few.1 in
     let taken = either (is_some (get m.indexes i)) (has_index_on m.indexes t place) free.free in
     let none : get m.indexes i ≡ None = no_some (get m.indexes i) taken.0 in
-    let are = index_words_create m.tables i (target t place) all_rows stands.state.tables name (stands.state.tables.names t x free.there) room in
+    let are = index_changes_create m.tables i (target t place) all_rows stands.state.tables name (stands.state.tables.names t x free.there) room in
     record {
-      only = only-after ws c stands.only (are_words ws are);
+      only = only-after ws c stands.only (are_changes ws are);
       unbuilt = λ k h. at-after ws c k ∙ told_frame is_of_indexes ws k (at c k) (all_of_indexes ws are) (indexes_built k.kind h) ∙ stands.unbuilt k h;
       tables = subst (λ (f : Key → Option (List ℕ)). TablesStand f m.tables) (sym (at_view ws c)) (tables_frame is_of_indexes ws (at c) m.tables (all_of_indexes ws are) apart stands.tables);
       indexes = subst (λ (f : Key → Option (List ℕ)). IndexesStand f m.tables (with_index m.tables m.indexes i (target t place) all_rows)) (sym (at_view ws c)) (create_stands (at c) m.tables m.indexes i (target t place) all_rows none room stands.state.tables stands.indexes);
@@ -223,9 +223,9 @@ new_index_stands c m i t x place stands name free =
       };
     }
 
-pub new_index_bounded : (c : Content) (m : State) (i t : List ℕ) (x : Table) (place : ℕ) → Stands c m → IsName i → IsFreeIndex m i t x place → are_bounded (spell (create_words m.tables i (target t place) all_rows)) ≡ true
+pub new_index_bounded : (c : Content) (m : State) (i t : List ℕ) (x : Table) (place : ℕ) → Stands c m → IsName i → IsFreeIndex m i t x place → are_bounded (spell (create_changes m.tables i (target t place) all_rows)) ≡ true
 new_index_bounded c m i t x place stands name free =
-    let ws = create_words m.tables i (target t place) all_rows in
+    let ws = create_changes m.tables i (target t place) all_rows in
     let few = either (nat_le most_indexes (length (indexes_on m.indexes t))) (has_too_many_rows m t) free.few in
-    bounded_well any_entry (spell ws) (well_words any_entry ws (λ k value of. refl)
-    (index_words_create m.tables i (target t place) all_rows stands.state.tables name (stands.state.tables.names t x free.there) (ltb-false most_given (length (rows_in m.tables t all_rows)) few.1)))
+    bounded_well any_entry (spell ws) (well_changes any_entry ws (λ k value of. refl)
+    (index_changes_create m.tables i (target t place) all_rows stands.state.tables name (stands.state.tables.names t x free.there) (ltb-false most_given (length (rows_in m.tables t all_rows)) few.1)))

@@ -22,10 +22,10 @@ use Rattle.ct_entry.specs.PartLaws.{is_short}
 use Rattle.ct_entry.specs.Each.{is_among}
 use Rattle.ct_entry.specs.EachLaws.{all_each}
 use Rattle.ct_entry.specs.WellLaws.{IsWellAt, are_well, puts-append}
-use Rattle.ct_entry.specs.Words.{spell, told, view, AreWords, AllOf, AllPut}
-use Rattle.ct_entry.specs.WordLaws.{at_view, at-after, only-after, told_frame, told-append, view-append, are-append, all-append}
+use Rattle.ct_entry.specs.Changes.{spell, told, view, AreChanges, AllOf, AllPut}
+use Rattle.ct_entry.specs.ChangeLaws.{at_view, at-after, only-after, told_frame, told-append, view-append, are-append, all-append}
 use Rattle.tb_table.specs.Tables.{Table, Tables, numbers_of, texts_of, row_at, with_row}
-use Rattle.tb_table.specs.Spelling.{TablesStand, insert_words}
+use Rattle.tb_table.specs.Spelling.{TablesStand, insert_changes}
 use Rattle.tb_table.specs.Rules.{FitColumns, others}
 use Rattle.tb_table.specs.ChangeLaws.{is_of_tables, all_insert, stand_insert, tables_frame, get-with_row}
 use Rattle.tb_table.specs.RuleLaws.{insert_keeps}
@@ -33,7 +33,7 @@ use Rattle.tb_table.specs.WellLaws.{are_insert, short_insert, puts_insert, row_p
 use Rattle.ix_context.specs.Indexes.{Index, Pending, waiting_on, noted_on}
 use Rattle.ix_context.specs.Rules.{AreIndexes}
 use Rattle.ix_context.specs.Spelling.{IndexesStand}
-use Rattle.ix_context.specs.Changes.{note_insert_words}
+use Rattle.ix_context.specs.Changes.{note_insert_changes}
 use Rattle.ix_context.specs.Standing.{is_of_indexes, indexes_frame}
 use Rattle.ix_context.specs.ChangeLaws.{stay_with_row}
 use Rattle.db_names.specs.declared.heads.IndexHead.{IndexHead}
@@ -41,7 +41,7 @@ use Rattle.db_names.specs.HeadLaws.{head_of, heads_of, heads_at, heads_rise}
 use Rattle.db_names.specs.PairLaws.{lookup-find}
 use Rattle.db_engine.specs.States.{State, IsState, Stands, is_view, is_built, indexes_on, most_indexes}
 use Rattle.db_engine.specs.Committing.{are_bounded}
-use Rattle.db_engine.specs.Inserting.{note_all_words, with_new_row}
+use Rattle.db_engine.specs.Inserting.{note_all_changes, with_new_row}
 use Rattle.db_engine.proofs.Heads.{heads, get-heads, head_of_index}
 use Rattle.db_engine.proofs.Bounded.{any_entry, bounded_well}
 use Rattle.db_engine.proofs.EachValue.{entries-each_value, count_alike}
@@ -87,51 +87,51 @@ names_are ts xs are t i there = go (get xs i) refl (sym (names_listed xs t i) �
     go None here on = cc
     go (Some x) here on = are.names i x here
 
--- ---- words
+-- ---- changes
 
 -- what an INSERT puts into its batch
-abbrev pub row_words : List ℕ → ℤ → List Value → List (List ℕ) → List (Key × Option (List ℕ))
-row_words t r vs names = insert_words t r (numbers_of vs) (texts_of vs) ++ note_all_words names r
+abbrev pub row_changes : List ℕ → ℤ → List Value → List (List ℕ) → List (Key × Option (List ℕ))
+row_changes t r vs names = insert_changes t r (numbers_of vs) (texts_of vs) ++ note_all_changes names r
 
 abbrev is_pending : Kind → Bool
 is_pending kind.Pending = true
 is_pending k = false
 
-notes_pending : (names : List (List ℕ)) (r : ℤ) → AllOf is_pending (note_all_words names r)
-notes_pending names r = all_each is_pending (λ i. note_insert_words i r) (λ i. (refl, tt)) names
+notes_pending : (names : List (List ℕ)) (r : ℤ) → AllOf is_pending (note_all_changes names r)
+notes_pending names r = all_each is_pending (λ i. note_insert_changes i r) (λ i. (refl, tt)) names
 
-notes_short : (names : List (List ℕ)) (r : ℤ) → AllOf is_short (note_all_words names r)
-notes_short names r = all_each is_short (λ i. note_insert_words i r) (λ i. (refl, tt)) names
+notes_short : (names : List (List ℕ)) (r : ℤ) → AllOf is_short (note_all_changes names r)
+notes_short names r = all_each is_short (λ i. note_insert_changes i r) (λ i. (refl, tt)) names
 
 or_right : (a b : Bool) → b ≡ true → (a || b) ≡ true
 or_right true b h = refl
 or_right false b h = h
 
-notes_are : (names : List (List ℕ)) (r : ℤ) → IsRow r → ((i : List ℕ) → is_among i names ≡ true → IsName i) → AreWords (note_all_words names r)
+notes_are : (names : List (List ℕ)) (r : ℤ) → IsRow r → ((i : List ℕ) → is_among i names ≡ true → IsName i) → AreChanges (note_all_changes names r)
 notes_are [] r row named = tt
 notes_are (i ∷ is) r row named = (
   record { owner = named i (ap (λ (b : Bool). b || is_among i is) (list_same i)); part = (r, row, refl) },
   notes_are is r row (λ j there. named j (or_right (same_list j i) (is_among j is) there)),
 )
 
-notes_put : (names : List (List ℕ)) (r : ℤ) → AllPut (IsWellAt any_entry) (note_all_words names r)
+notes_put : (names : List (List ℕ)) (r : ℤ) → AllPut (IsWellAt any_entry) (note_all_changes names r)
 notes_put [] r = tt
 notes_put (i ∷ is) r = (record { bounded = omega arith; shaped = refl }, notes_put is r)
 
 module _ (m : State) (t : List ℕ) (x : Table) (r : ℤ) (vs : List Value) (is : get m.tables t ≡ Some x) (state : IsState m) (row : IsRow r) (fit : FitColumns (others x.columns) vs) where
-  pub row_words_are : AreWords (row_words t r vs (names_on m.indexes t))
-  row_words_are =
-      are-append (insert_words t r (numbers_of vs) (texts_of vs)) (note_all_words (names_on m.indexes t) r)
+  pub row_changes_are : AreChanges (row_changes t r vs (names_on m.indexes t))
+  row_changes_are =
+      are-append (insert_changes t r (numbers_of vs) (texts_of vs)) (note_all_changes (names_on m.indexes t) r)
       (are_insert t r (numbers_of vs) (texts_of vs) (state.tables.names t x is) row (row_places x.columns vs (state.tables.each t x is).columns fit))
       (notes_are (names_on m.indexes t) r row (names_are m.tables m.indexes state.indexes t))
 
   -- a keeper takes them
-  pub row_words_bounded : are_bounded (spell (row_words t r vs (names_on m.indexes t))) ≡ true
-  row_words_bounded =
-      bounded_well any_entry (spell (row_words t r vs (names_on m.indexes t)))
-      (are_well any_entry (row_words t r vs (names_on m.indexes t)) row_words_are
-      (all-append is_short (insert_words t r (numbers_of vs) (texts_of vs)) (note_all_words (names_on m.indexes t) r) (short_insert t r (numbers_of vs) (texts_of vs)) (notes_short (names_on m.indexes t) r))
-      (puts-append (IsWellAt any_entry) (insert_words t r (numbers_of vs) (texts_of vs)) (note_all_words (names_on m.indexes t) r) (puts_insert any_entry t r x.columns vs (λ k v h. refl) (state.tables.each t x is).columns fit) (notes_put (names_on m.indexes t) r)))
+  pub row_changes_bounded : are_bounded (spell (row_changes t r vs (names_on m.indexes t))) ≡ true
+  row_changes_bounded =
+      bounded_well any_entry (spell (row_changes t r vs (names_on m.indexes t)))
+      (are_well any_entry (row_changes t r vs (names_on m.indexes t)) row_changes_are
+      (all-append is_short (insert_changes t r (numbers_of vs) (texts_of vs)) (note_all_changes (names_on m.indexes t) r) (short_insert t r (numbers_of vs) (texts_of vs)) (notes_short (names_on m.indexes t) r))
+      (puts-append (IsWellAt any_entry) (insert_changes t r (numbers_of vs) (texts_of vs)) (note_all_changes (names_on m.indexes t) r) (puts_insert any_entry t r x.columns vs (λ k v h. refl) (state.tables.each t x is).columns fit) (notes_put (names_on m.indexes t) r)))
 
 -- ---- the state keeps its rules
 
@@ -197,14 +197,14 @@ free_marks ts xs t x r is none are i y here on = gone (get y.marks r) ((are.each
     no_row = rw is none
 
 pub new_row_stands : (c : Content) (m : State) (t : List ℕ) (x : Table) (r : ℤ) (vs : List Value) → Stands c m → get m.tables t ≡ Some x → get x.rows r ≡ None → IsRow r → FitColumns (others x.columns) vs → length (entries x.rows) < 100000
-    → Stands (after (spell (row_words t r vs (names_on m.indexes t))) c) (with_new_row m t r vs)
+    → Stands (after (spell (row_changes t r vs (names_on m.indexes t))) c) (with_new_row m t r vs)
 new_row_stands c m t x r vs stands is none row fit room =
-    let a = insert_words t r (numbers_of vs) (texts_of vs) in
-    let b = note_all_words (names_on m.indexes t) r in
+    let a = insert_changes t r (numbers_of vs) (texts_of vs) in
+    let b = note_all_changes (names_on m.indexes t) r in
     let us = with_row m.tables t r vs in
     let seen = at_view (a ++ b) c ∙ view-append a b (at c) in
     record {
-      only = only-after (a ++ b) c stands.only (row_words_are m t x r vs is stands.state row fit);
+      only = only-after (a ++ b) c stands.only (row_changes_are m t x r vs is stands.state row fit);
       tables = subst (λ (f : Key → Option (List ℕ)). TablesStand f us) (sym seen)
           (tables_frame is_pending b (view a (at c)) us (notes_pending (names_on m.indexes t) r) tables_pending (stand_insert (at c) m.tables t r vs x is none row stands.tables));
       indexes = subst (λ (f : Key → Option (List ℕ)). IndexesStand f us (noted_on m.indexes t r)) (sym seen)

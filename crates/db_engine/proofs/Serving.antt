@@ -6,7 +6,7 @@ use Rattle.ct_keep.specs.declared.keepers.KeepFault.{KeepFault}
 use Rattle.ct_keep.specs.declared.keepers.KeepFault.TheVariants.{Memory}
 use Rattle.ct_keep.specs.Content.{Content, after}
 use Rattle.ct_base.specs.Told.{IsSaid}
-use Rattle.ct_keep.specs.Keeping.{Keeping, Kept, Reads, IsSettled, fault_of, counted, is_full}
+use Rattle.ct_keep.specs.KeeperViews.{KeeperView, Kept, Reads, IsSettled, fault_of, counted, is_full}
 use Rattle.ct_keep.specs.Composing.{kept_then, reads_hold, reads_on, reads_short}
 use Rattle.db_cond.specs.Faults.{Refusal, refusal_line}
 use Rattle.db_engine.specs.States.{State, Stands}
@@ -25,7 +25,7 @@ IsFault result fault = (x : KeepFault) × (result ≡ Err x) × (x ≡ fault)
 on_fault : (P : Result (Vec ℕ Global) KeepFault → Type 0) (result : Result (Vec ℕ Global) KeepFault) (fault : KeepFault) → IsFault result fault → P (Err fault) → P result
 on_fault P result fault p holds = subst P (sym p.1) (subst (λ (x : KeepFault). P (Err x)) (sym p.2) holds)
 
-module _ (effect : State → Effect) (line : Option (List ℕ)) (old new : Keeping) where
+module _ (effect : State → Effect) (line : Option (List ℕ)) (old new : KeeperView) where
   failed_by : (line : Option (List ℕ)) (fault : KeepFault) → IsSettled old → Reads old new (Some fault) → ReturnsBy line old new (Err fault)
   failed_by None fault settled reads = reads
   failed_by (Some done) fault settled reads = returns_failed done old new fault settled reads
@@ -60,7 +60,7 @@ module _ (effect : State → Effect) (line : Option (List ℕ)) (old new : Keepi
   }
 
 -- it only reads
-pub serves_look : (effect : State → Effect) (old new : Keeping) (result : Result (Vec ℕ Global) KeepFault) → Reads old new (fault_of result)
+pub serves_look : (effect : State → Effect) (old new : KeeperView) (result : Result (Vec ℕ Global) KeepFault) → Reads old new (fault_of result)
     → ((m : State) (c : Content) → old.content ≡ Some c → Stands c m → IfOk result (λ reply. reply.items ≡ reply_by (effect m))) → ((m : State) → state_by m (effect m) ≡ m) → Serves effect None old new result
 serves_look effect old new result reads reply stays = record {
   kept = reads.kept;
@@ -71,18 +71,18 @@ serves_look effect old new result reads reply stays = record {
 
 -- ---- reads, and then more
 
-settled_then : (old mid : Keeping) → Reads old mid None → IsSettled old → IsSettled mid
+settled_then : (old mid : KeeperView) → Reads old mid None → IsSettled old → IsSettled mid
 settled_then old mid reads settled = record {
   here = λ m holds stopped said now.
       let p = settled.here m (sym reads.content ∙ holds) stopped said (reads.now stopped said now) in
       (p.0, subst (λ b. IsSaid b.said said) (sym reads.kept.beside) p.1);
 }
 
-returns_by_then : (line : Option (List ℕ)) (old mid new : Keeping) (result : Result (Vec ℕ Global) KeepFault) → Reads old mid None → ReturnsBy line mid new result → ReturnsBy line old new result
+returns_by_then : (line : Option (List ℕ)) (old mid new : KeeperView) (result : Result (Vec ℕ Global) KeepFault) → Reads old mid None → ReturnsBy line mid new result → ReturnsBy line old new result
 returns_by_then None old mid new result reads looks = reads_on old mid new (fault_of result) reads looks
 returns_by_then (Some done) old mid new result reads returns = returns_then done old mid new result reads returns
 
-pub serves_then : (effect : State → Effect) (line : Option (List ℕ)) (old mid new : Keeping) (result : Result (Vec ℕ Global) KeepFault) → Reads old mid None → Serves effect line mid new result → Serves effect line old new result
+pub serves_then : (effect : State → Effect) (line : Option (List ℕ)) (old mid new : KeeperView) (result : Result (Vec ℕ Global) KeepFault) → Reads old mid None → Serves effect line mid new result → Serves effect line old new result
 serves_then effect line old mid new result reads serves = record {
   kept = kept_then old mid new (fault_of result) reads.kept serves.kept;
   fulls = serves.fulls ∙ ap (counted (is_full (fault_of result))) reads.fulls;
@@ -91,11 +91,11 @@ serves_then effect line old mid new result reads serves = record {
 }
 
 -- a plan that was made by the reads
-pub fits_then : (effect : State → Effect) (line : List ℕ) (old mid : Keeping) (plan : Plan) → Reads old mid None → Fits effect line old plan → Fits effect line mid plan
+pub fits_then : (effect : State → Effect) (line : List ℕ) (old mid : KeeperView) (plan : Plan) → Reads old mid None → Fits effect line old plan → Fits effect line mid plan
 fits_then effect line old mid plan reads fits = record { made = λ m c holds stands. fits.made m c (sym reads.content ∙ holds) stands }
 
 -- the commit of a batch, by what is promised of it for every state
-pub serves_batch : (effect : State → Effect) (line : List ℕ) (batch : List (List ℕ × Option (List ℕ))) (reply : List ℕ) (old new : Keeping) (result : Result (Vec ℕ Global) KeepFault) → reply ≡ line → Fits effect line old (Done batch)
+pub serves_batch : (effect : State → Effect) (line : List ℕ) (batch : List (List ℕ × Option (List ℕ))) (reply : List ℕ) (old new : KeeperView) (result : Result (Vec ℕ Global) KeepFault) → reply ≡ line → Fits effect line old (Done batch)
     → Kept old new (fault_of result) → new.counts.fulls ≡ counted (is_full (fault_of result)) old.counts.fulls
     → ((m n : State) (c : Content) → old.content ≡ Some c → are_bounded batch ≡ true → Stands (after batch c) n → Gives m (Does n reply) c old new result) → Returns reply old new result → Serves effect (Some line) old new result
 serves_batch effect line batch reply old new result same fits kept fulls gives tells = record {
@@ -108,7 +108,7 @@ serves_batch effect line batch reply old new result same fits kept fulls gives t
 }
 
 -- the same effect and line by other names
-pub serves_as : (effect effect' : State → Effect) (line line' : Option (List ℕ)) (old new : Keeping) (result : Result (Vec ℕ Global) KeepFault) → ((m : State) → effect' m ≡ effect m) → line' ≡ line → Serves effect line old new result → Serves effect' line' old new result
+pub serves_as : (effect effect' : State → Effect) (line line' : Option (List ℕ)) (old new : KeeperView) (result : Result (Vec ℕ Global) KeepFault) → ((m : State) → effect' m ≡ effect m) → line' ≡ line → Serves effect line old new result → Serves effect' line' old new result
 serves_as effect effect' line line' old new result same is serves = record {
   kept = serves.kept;
   fulls = serves.fulls;
@@ -117,7 +117,7 @@ serves_as effect effect' line line' old new result same is serves = record {
 }
 
 -- a plan that another call made, of the effect as it is computed in each state
-pub plans_as : (effect : State → Effect) (line : List ℕ) (old : Keeping) (result : Result Plan KeepFault)
+pub plans_as : (effect : State → Effect) (line : List ℕ) (old : KeeperView) (result : Result Plan KeepFault)
     → ((m : State) (c : Content) → old.content ≡ Some c → Stands c m → (e : Effect) × (effect m ≡ e) × IfOk result (IsPlan e line c)) → IfOk result (Fits effect line old)
 plans_as effect line old (Err fault) of = tt
 plans_as effect line old (Ok plan) of = record { made = λ m c holds stands. let p = of m c holds stands in subst (λ (e : Effect). IsPlan e line c plan) (sym p.1) p.2 }

@@ -8,7 +8,7 @@ use Rattle.ct_base.specs.Moments.{passes_more}
 use Rattle.ct_keep.specs.declared.keepers.KeepFault.{KeepFault}
 use Rattle.ct_keep.specs.declared.keepers.KeepFault.TheVariants.{Memory, Disk, Full as NoRoom}
 use Rattle.ct_keep.specs.Content.{Content}
-use Rattle.ct_keep.specs.Keeping.{Keeping, Reads, Goes, IsSettled, fault_of}
+use Rattle.ct_keep.specs.KeeperViews.{KeeperView, Reads, Goes, IsSettled, fault_of}
 use Rattle.ct_keep.specs.Composing.{reads_on, reads_hold, reads_then, reads_only, reads_failed}
 use Rattle.db_cond.specs.Faults.{Refusal, NotUnderstood, UnknownName, ExistsAlready, WrongValues, KeyExists, ValueTooLong, StatementTooLong, NotInProfile, OutOfRange, NoIndexOfKind, BadValue, LimitReached, refusal_line, store_full}
 use Rattle.st_parse.specs.declared.statements.Statement.{Statement}
@@ -65,35 +65,35 @@ not_done Commit done is full = cc
 -- ---- before a commit
 
 -- reads that ended for want of memory or of room are reads
-pub reads_memory : (old new : Keeping) → Reads old new (Some Memory) → Reads old new None
+pub reads_memory : (old new : KeeperView) → Reads old new (Some Memory) → Reads old new None
 reads_memory old new reads = record { not_full = λ e. cc; kept = kept_memory old new reads.kept; content = reads.content; time = reads.time; now = reads.now; fulls = reads.fulls }
 
 -- they leave the content
-pub stays_read : (old new : Keeping) → IsSettled old → Reads old new None → ContentStays old new
+pub stays_read : (old new : KeeperView) → IsSettled old → Reads old new None → ContentStays old new
 stays_read old new settled reads = λ c holds. reads_only c old new settled holds reads
 
-pub returns_failed : (done : List ℕ) (old new : Keeping) (fault : KeepFault) → IsSettled old → Reads old new (Some fault) → Returns done old new (Err fault)
+pub returns_failed : (done : List ℕ) (old new : KeeperView) (fault : KeepFault) → IsSettled old → Reads old new (Some fault) → Returns done old new (Err fault)
 returns_failed done old new Memory settled reads = stays_read old new settled (reads_memory old new reads)
 returns_failed done old new NoRoom settled reads = absurd (reads.not_full refl)
 returns_failed done old new Disk settled reads = λ c holds. record { next = c; goes = reads_failed c c old new Disk settled holds reads }
 
 -- ---- a commit
 
-came_failed : (c next : Content) (old new : Keeping) → Goes c next old new (Some Memory) → Goes c c old new None
+came_failed : (c next : Content) (old new : KeeperView) → Goes c next old new (Some Memory) → Goes c c old new None
 came_failed c next old new goes = record {
   content = goes.content;
   time = passes_more old.time new.time _ _ goes.time (λ stopped said p. (inl p.0, p.1));
   now = λ stopped said now. let p = goes.now stopped said now in (inl p.0, p.1);
 }
 
-came_full : (c next : Content) (old new : Keeping) → Goes c next old new (Some NoRoom) → Goes c c old new None
+came_full : (c next : Content) (old new : KeeperView) → Goes c next old new (Some NoRoom) → Goes c c old new None
 came_full c next old new goes = record {
   content = goes.content;
   time = passes_more old.time new.time _ _ goes.time (λ stopped said p. (inl p.0, p.1));
   now = λ stopped said now. let p = goes.now stopped said now in (inl p.0, p.1);
 }
 
-pub returns_uncommitted : (done : List ℕ) (old new : Keeping) (next : Content → Content) (result : Result (Vec ℕ Global) KeepFault) (fault : KeepFault) → ((c : Content) → old.content ≡ Some c → Goes c (next c) old new (Some fault))
+pub returns_uncommitted : (done : List ℕ) (old new : KeeperView) (next : Content → Content) (result : Result (Vec ℕ Global) KeepFault) (fault : KeepFault) → ((c : Content) → old.content ≡ Some c → Goes c (next c) old new (Some fault))
     → (x : KeepFault) × (result ≡ Err x) × (x ≡ fault) → Returns done old new result
 returns_uncommitted done old new next result fault goes p =
     subst (Returns done old new) (sym p.1)
@@ -104,20 +104,20 @@ returns_uncommitted done old new next result fault goes p =
     failed NoRoom goes = λ c holds. came_full c (next c) old new (goes c holds)
     failed Disk goes = λ c holds. record { next = next c; goes = goes c holds }
 
-pub returns_committed : (old new : Keeping) (next : Content → Content) (reply : Vec ℕ Global) → ((c : Content) → old.content ≡ Some c → Goes c (next c) old new None) → Returns reply.items old new (Ok reply)
+pub returns_committed : (old new : KeeperView) (next : Content → Content) (reply : Vec ℕ Global) → ((c : Content) → old.content ≡ Some c → Goes c (next c) old new None) → Returns reply.items old new (Ok reply)
 returns_committed old new next reply goes = inl (record { says = refl; commits = λ c holds. record { next = next c; goes = goes c holds } })
 
 -- ---- reads, and then more
 
-stays_then : (old mid new : Keeping) → Reads old mid None → ContentStays mid new → ContentStays old new
+stays_then : (old mid new : KeeperView) → Reads old mid None → ContentStays mid new → ContentStays old new
 stays_then old mid new reads stays = λ c holds. reads_then c c old mid new None reads (stays c (reads_hold old mid c reads holds))
 
-commits_then : (old mid new : Keeping) (fault : Option KeepFault) → Reads old mid None → CommitsOnce mid new fault → CommitsOnce old new fault
+commits_then : (old mid new : KeeperView) (fault : Option KeepFault) → Reads old mid None → CommitsOnce mid new fault → CommitsOnce old new fault
 commits_then old mid new fault reads commits = λ c holds.
     let x = commits c (reads_hold old mid c reads holds) in
     record { next = x.next; goes = reads_then c x.next old mid new fault reads x.goes }
 
-pub returns_then : (done : List ℕ) (old mid new : Keeping) (result : Result (Vec ℕ Global) KeepFault) → Reads old mid None → Returns done mid new result → Returns done old new result
+pub returns_then : (done : List ℕ) (old mid new : KeeperView) (result : Result (Vec ℕ Global) KeepFault) → Reads old mid None → Returns done mid new result → Returns done old new result
 returns_then done old mid new (Ok reply) reads (inl made) = inl (record { says = made.says; commits = commits_then old mid new None reads made.commits })
 returns_then done old mid new (Ok reply) reads (inr refused) = inr (record { refusal = refused.refusal; says = refused.says; reads = reads_on old mid new None reads refused.reads })
 returns_then done old mid new (Err Memory) reads stays = stays_then old mid new reads stays
@@ -126,11 +126,11 @@ returns_then done old mid new (Err Disk) reads commits = commits_then old mid ne
 
 -- ---- by the line that a statement has
 
-pub looks_none : (line : Option (List ℕ)) (old new : Keeping) (result : Result (Vec ℕ Global) KeepFault) → line ≡ None → ReturnsBy line old new result → Reads old new (fault_of result)
+pub looks_none : (line : Option (List ℕ)) (old new : KeeperView) (result : Result (Vec ℕ Global) KeepFault) → line ≡ None → ReturnsBy line old new result → Reads old new (fault_of result)
 looks_none None old new result is looks = looks
 looks_none (Some done) old new result is returns = cc
 
-pub returns_some : (line : Option (List ℕ)) (done : List ℕ) (old new : Keeping) (result : Result (Vec ℕ Global) KeepFault) → line ≡ Some done → ReturnsBy line old new result → Returns done old new result
+pub returns_some : (line : Option (List ℕ)) (done : List ℕ) (old new : KeeperView) (result : Result (Vec ℕ Global) KeepFault) → line ≡ Some done → ReturnsBy line old new result → Returns done old new result
 returns_some None done old new result is looks = cc
 returns_some (Some line) done old new result is returns = let same : line ≡ done = cc in subst (λ (l : List ℕ). Returns l old new result) same returns
 
@@ -157,16 +157,16 @@ fixed_looks Commit is = refl
 
 -- ---- the reply
 
-pub tells_text : (done : List ℕ) (old new : Keeping) (lines : Vec ℕ Global) (reply : List ℕ) → reply ≡ lines.items → Returns done old new (Ok lines) → Tells done old new (Ok (ReplyText reply))
+pub tells_text : (done : List ℕ) (old new : KeeperView) (lines : Vec ℕ Global) (reply : List ℕ) → reply ≡ lines.items → Returns done old new (Ok lines) → Tells done old new (Ok (ReplyText reply))
 tells_text done old new lines reply is (inl made) = inl (record { says = is ∙ made.says; commits = made.commits })
 tells_text done old new lines reply is (inr refused) = inr (inl (record { refusal = refused.refusal; says = is ∙ refused.says; reads = refused.reads }))
 
 -- a line of it that says that the store is full is by the keeper's answer
-pub text_not_full : (s : Statement) (done : List ℕ) (old new : Keeping) (lines : Vec ℕ Global) (reply : List ℕ) → done_line s ≡ Some done → reply ≡ lines.items → Returns done old new (Ok lines) → reply ≡ store_full → ⊥
+pub text_not_full : (s : Statement) (done : List ℕ) (old new : KeeperView) (lines : Vec ℕ Global) (reply : List ℕ) → done_line s ≡ Some done → reply ≡ lines.items → Returns done old new (Ok lines) → reply ≡ store_full → ⊥
 text_not_full s done old new lines reply has is (inl made) full = not_done s done has (sym made.says ∙ sym is ∙ full)
 text_not_full s done old new lines reply has is (inr refused) full = not_full refused.refusal (sym refused.says ∙ sym is ∙ full)
 
-pub tells_full : (done : List ℕ) (old new : Keeping) (reply : Reply) → IsFullReply reply → ContentStays old new → Rose old.counts.fulls new.counts.fulls → Tells done old new (Ok reply)
+pub tells_full : (done : List ℕ) (old new : KeeperView) (reply : Reply) → IsFullReply reply → ContentStays old new → Rose old.counts.fulls new.counts.fulls → Tells done old new (Ok reply)
 tells_full done old new (ReplyText reply) says stays rose = inr (inr (record { says = says; stays = stays; rose = rose }))
 tells_full done old new ReplyNoMemory says stays rose = stays
 

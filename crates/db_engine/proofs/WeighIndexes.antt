@@ -48,7 +48,7 @@ mark_there (Some x) r m h = (x, refl, h)
 
 -- ---- postings
 
--- a word that stands somewhere is found among the words
+-- a change that stands somewhere is found among the changes
 word_found : (g : List ℕ → List ℕ) (token : List ℕ) (ws : List (List ℕ)) (from p : ℕ) (ps : List ℕ) → positions_from from token ws ≡ p ∷ ps → find (slice_cmp nat_cmp) token (map (λ w. (w, g w)) ws) ≡ Some (g token)
 word_found g token [] from p ps is = cc
 word_found g token (w ∷ ws) from p ps is =

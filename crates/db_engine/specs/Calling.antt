@@ -150,7 +150,7 @@ bad_size done = refl
 in_any_case : name_arg (TextArg (codes "DI") ∷ []) ≡ Some (codes "di")
 in_any_case = refl
 
--- the word `site` of `Web-site`: its key, its place and its length
+-- the change `site` of `Web-site`: its key, its place and its length
 site : line (token_line (record { key = codes "site"; start = 4; end = 8; ends_sentence = false; ends_paragraph = false })) ≡ codes "site|4|4\n"
 unfolding digits
 site = refl

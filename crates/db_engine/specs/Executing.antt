@@ -6,7 +6,7 @@ use Rattle.ct_base.specs.Causes.{Rose}
 use Rattle.ct_keep.specs.Content.{Content, after}
 use Rattle.ct_keep.specs.declared.keepers.KeepFault.{KeepFault}
 use Rattle.ct_keep.specs.declared.keepers.KeepFault.TheVariants.{Memory, Disk, Full as NoRoom}
-use Rattle.ct_keep.specs.Keeping.{Keeping, Kept, Reads, Goes, IsSettled, fault_of, counted, is_full}
+use Rattle.ct_keep.specs.KeeperViews.{KeeperView, Kept, Reads, Goes, IsSettled, fault_of, counted, is_full}
 use Rattle.st_parse.specs.declared.statements.SelectList.TheVariants.{Star}
 use Rattle.st_parse.specs.declared.statements.Statement.{Statement}
 use Rattle.st_parse.specs.declared.statements.Statement.TheVariants.{CreateTable, CreateIndex, Insert, Select, Exec}
@@ -37,7 +37,7 @@ StandsBy (Some NoRoom) m effect c next = next ≡ c
 StandsBy (Some Disk) m effect c next = Stands next m ⊎ Stands next (state_by m effect)
 
 -- From a content that stands for the state m to the next one by at most one commit, which failed so if it did.
-pub record Moves (m : State) (effect : Effect) (c : Content) (old new : Keeping) (fault : Option KeepFault) : Type 0 where
+pub record Moves (m : State) (effect : Effect) (c : Content) (old new : KeeperView) (fault : Option KeepFault) : Type 0 where
   pub next : Content
   pub stands : StandsBy fault m effect c next
   pub goes : Goes c next old new fault
@@ -50,7 +50,7 @@ pub record HasNoPlace (m : State) (effect : Effect) (limit : ℕ) : Type 0 where
   pub over : limit < room (state_by m effect)
 
 -- What the function of a statement returned, against the statement's effect.
-pub record Gives (m : State) (effect : Effect) (c : Content) (old new : Keeping) (result : Result (Vec ℕ Global) KeepFault) : Type 0 where
+pub record Gives (m : State) (effect : Effect) (c : Content) (old new : KeeperView) (result : Result (Vec ℕ Global) KeepFault) : Type 0 where
   pub moves : Moves m effect c old new (fault_of result)
   pub reply : IfOk result (λ reply. reply.items ≡ reply_by effect)
   pub full : fault_of result ≡ Some NoRoom → HasNoPlace m effect old.fixed.limit
@@ -78,7 +78,7 @@ IsFullReply (ReplyText reply) = reply ≡ store_full
 IsFullReply ReplyNoMemory = Unit {0}
 
 -- A statement with this effect was answered. `may` tells whether it may fill the store.
-pub record Answers (m : State) (effect : Effect) (may : Bool) (c : Content) (old new : Keeping) (reply : Reply) : Type 0 where
+pub record Answers (m : State) (effect : Effect) (may : Bool) (c : Content) (old new : KeeperView) (reply : Reply) : Type 0 where
   pub answer : Answer
   pub moves : Moves m effect c old new (fault_for answer)
   pub says : IsReplyBy answer effect reply
@@ -86,7 +86,7 @@ pub record Answers (m : State) (effect : Effect) (may : Bool) (c : Content) (old
   pub may_fill : answer ≡ Full → may ≡ true
   pub fulls : answer ≡ Full → Rose old.counts.fulls new.counts.fulls
 
-abbrev pub Executes : State → Effect → Bool → Content → Keeping → Keeping → Result Reply Stop → Type 0
+abbrev pub Executes : State → Effect → Bool → Content → KeeperView → KeeperView → Result Reply Stop → Type 0
 Executes m effect may c old new (Ok reply) = Answers m effect may c old new reply
 Executes m effect may c old new (Err DiskStop) = Moves m effect c old new (Some Disk)
 
@@ -118,44 +118,44 @@ is_fixed (Exec pack procedure args) = not (is_sync pack procedure)
 is_fixed statement = true
 
 -- from this content to some other by at most one commit, which failed so if it did
-pub record Commits (c : Content) (old new : Keeping) (fault : Option KeepFault) : Type 0 where
+pub record Commits (c : Content) (old new : KeeperView) (fault : Option KeepFault) : Type 0 where
   pub next : Content
   pub goes : Goes c next old new fault
 
 -- the same from the content that is told, where one is
-abbrev pub CommitsOnce : Keeping → Keeping → Option KeepFault → Type 0
+abbrev pub CommitsOnce : KeeperView → KeeperView → Option KeepFault → Type 0
 CommitsOnce old new fault = (c : Content) → old.content ≡ Some c → Commits c old new fault
 
 -- The content stays as it is, where it is told, and a stop leaves it at each moment.
-abbrev pub ContentStays : Keeping → Keeping → Type 0
+abbrev pub ContentStays : KeeperView → KeeperView → Type 0
 ContentStays old new = (c : Content) → old.content ≡ Some c → Goes c c old new None
 
 -- The reply says that the change is made, by at most one commit.
-pub record IsMade (done reply : List ℕ) (old new : Keeping) : Type 0 where
+pub record IsMade (done reply : List ℕ) (old new : KeeperView) : Type 0 where
   pub says : reply ≡ done
   pub commits : CommitsOnce old new None
 
 -- The reply is the line of a refusal, and nothing was done but reading. That the store is full is no refusal.
-pub record IsRefused (reply : List ℕ) (old new : Keeping) : Type 0 where
+pub record IsRefused (reply : List ℕ) (old new : KeeperView) : Type 0 where
   pub refusal : Refusal
   pub says : reply ≡ refusal_line refusal
   pub reads : Reads old new None
 
 -- The reply says that the store is full: how often the keeper found that rose, and the content stays as it is.
-pub record IsFull (reply : List ℕ) (old new : Keeping) : Type 0 where
+pub record IsFull (reply : List ℕ) (old new : KeeperView) : Type 0 where
   pub says : reply ≡ store_full
   pub stays : ContentStays old new
   pub rose : Rose old.counts.fulls new.counts.fulls
 
 -- What the function of a statement returned that says by this line that its change is made.
-abbrev pub Returns : List ℕ → Keeping → Keeping → Result (Vec ℕ Global) KeepFault → Type 0
+abbrev pub Returns : List ℕ → KeeperView → KeeperView → Result (Vec ℕ Global) KeepFault → Type 0
 Returns done old new (Ok reply) = IsMade done reply.items old new ⊎ IsRefused reply.items old new
 Returns done old new (Err Memory) = ContentStays old new
 Returns done old new (Err NoRoom) = ContentStays old new
 Returns done old new (Err Disk) = CommitsOnce old new (Some Disk)
 
 -- what the function of a statement returned, by its line: with none it only read
-abbrev pub ReturnsBy : Option (List ℕ) → Keeping → Keeping → Result (Vec ℕ Global) KeepFault → Type 0
+abbrev pub ReturnsBy : Option (List ℕ) → KeeperView → KeeperView → Result (Vec ℕ Global) KeepFault → Type 0
 ReturnsBy None old new result = Reads old new (fault_of result)
 ReturnsBy (Some done) old new result = Returns done old new result
 
@@ -163,7 +163,7 @@ ReturnsBy (Some done) old new result = Returns done old new result
 
 -- What it returned, by the statement's effect in each state, and by the line by which the statement says that its change is made (None where it changes nothing).
 -- It is all that `execute` needs of a statement: of a content that stands for a state, and of any content.
-pub record Serves (effect : State → Effect) (line : Option (List ℕ)) (old new : Keeping) (result : Result (Vec ℕ Global) KeepFault) : Type 0 where
+pub record Serves (effect : State → Effect) (line : Option (List ℕ)) (old new : KeeperView) (result : Result (Vec ℕ Global) KeepFault) : Type 0 where
   pub kept : Kept old new (fault_of result)
   pub fulls : new.counts.fulls ≡ counted (is_full (fault_of result)) old.counts.fulls
   pub gives : IsSettled old → (m : State) (c : Content) → old.content ≡ Some c → Stands c m → Gives m (effect m) c old new result
@@ -175,15 +175,15 @@ IsPlan effect line c (PlanRefused fault) = effect ≡ Refused (refusal_of fault)
 IsPlan effect line c (PlanDone batch) = (n : State) × (effect ≡ Does n line) × (are_bounded batch ≡ true) × Stands (after batch c) n
 
 -- A plan is that of the statement over each state that the content stands for.
-pub record Fits (effect : State → Effect) (line : List ℕ) (old : Keeping) (plan : Plan) : Type 0 where
+pub record Fits (effect : State → Effect) (line : List ℕ) (old : KeeperView) (plan : Plan) : Type 0 where
   pub made : (m : State) (c : Content) → old.content ≡ Some c → Stands c m → IsPlan (effect m) line c plan
 
 -- The call gave a plan of the statement, unless it failed.
-abbrev pub Plans : {K : Type 0} → (K → Keeping) → K → Result Plan KeepFault → (State → Effect) → List ℕ → Type 0
+abbrev pub Plans : {K : Type 0} → (K → KeeperView) → K → Result Plan KeepFault → (State → Effect) → List ℕ → Type 0
 Plans view old result effect line = IfOk result (Fits effect line (view old))
 
 -- How a statement was answered that says by this line that its change is made.
-abbrev pub Tells : List ℕ → Keeping → Keeping → Result Reply Stop → Type 0
+abbrev pub Tells : List ℕ → KeeperView → KeeperView → Result Reply Stop → Type 0
 Tells done old new (Ok (ReplyText reply)) = IsMade done reply old new ⊎ (IsRefused reply old new ⊎ IsFull reply old new)
 Tells done old new (Ok ReplyNoMemory) = ContentStays old new
 Tells done old new (Err DiskStop) = CommitsOnce old new (Some Disk)

@@ -18,7 +18,7 @@ use Rattle.tb_table.specs.declared.columns.Column.{Column}
 use Rattle.tb_table.specs.Tables.{Table, with_row}
 use Rattle.tb_table.specs.Rules.{text_limit}
 use Rattle.ix_context.specs.Indexes.{noted_on}
-use Rattle.ix_context.specs.Changes.{note_insert_words}
+use Rattle.ix_context.specs.Changes.{note_insert_changes}
 use Rattle.db_cond.specs.Faults.{UnknownName, WrongValues, KeyExists, ValueTooLong, OutOfRange, LimitReached}
 use Rattle.db_engine.specs.States.{State}
 use Rattle.db_engine.specs.Refusals.{Effect, Does, refuse, refuse_by, with_found, first_unknown, is_beyond, Refused}
@@ -124,9 +124,9 @@ abbrev pub IsTextKept : Operand → Type 0
 IsTextKept (Text text) = IsUtf8 text
 IsTextKept (Number n) = Unit {0}
 
--- the words that a row waits in each of these indexes
-abbrev pub note_all_words : List (List ℕ) → ℤ → List (Key × Option (List ℕ))
-note_all_words names r = each (λ i. note_insert_words i r) names
+-- the changes that a row waits in each of these indexes
+abbrev pub note_all_changes : List (List ℕ) → ℤ → List (Key × Option (List ℕ))
+note_all_changes names r = each (λ i. note_insert_changes i r) names
 
 -- how many rows a table has at most
 abbrev pub most_rows : ℕ
@@ -183,9 +183,9 @@ insert_into m t names values =
     check_list x.columns names values
     (insert_values m t x (arranged names x.columns values)))
 
--- computed examples: a table of id NUMBER PRIMARY KEY, word VARCHAR2(3), price NUMBER
+-- computed examples: a table of id NUMBER PRIMARY KEY, change VARCHAR2(3), price NUMBER
 abbrev word_columns : List Column
-word_columns = record { name = codes "id"; sort = NumberSort } ∷ record { name = codes "word"; sort = Varchar2 3 } ∷ record { name = codes "price"; sort = NumberSort } ∷ []
+word_columns = record { name = codes "id"; sort = NumberSort } ∷ record { name = codes "change"; sort = Varchar2 3 } ∷ record { name = codes "price"; sort = NumberSort } ∷ []
 
 abbrev one : Operand
 one = Number (Fits (pos 1))
@@ -196,16 +196,16 @@ beyond = Number Beyond
 unknown_and_too_many : (done : Effect) → check_list word_columns (Some (codes "id" ∷ codes "nope" ∷ [])) (one ∷ one ∷ one ∷ []) done ≡ Refused (UnknownName (codes "nope"))
 unknown_and_too_many done = refl
 
-one_twice : (done : Effect) → check_list word_columns (Some (codes "id" ∷ codes "id" ∷ codes "word" ∷ [])) (one ∷ one ∷ Text (codes "fox") ∷ []) done ≡ Refused WrongValues
+one_twice : (done : Effect) → check_list word_columns (Some (codes "id" ∷ codes "id" ∷ codes "change" ∷ [])) (one ∷ one ∷ Text (codes "fox") ∷ []) done ≡ Refused WrongValues
 one_twice done = refl
 
 too_few_values : (done : Effect) → check_list word_columns None (one ∷ []) done ≡ Refused WrongValues
 too_few_values done = refl
 
-any_order : (done : Effect) → check_list word_columns (Some (codes "price" ∷ codes "id" ∷ codes "word" ∷ [])) (beyond ∷ one ∷ Text (codes "fox") ∷ []) done ≡ done
+any_order : (done : Effect) → check_list word_columns (Some (codes "price" ∷ codes "id" ∷ codes "change" ∷ [])) (beyond ∷ one ∷ Text (codes "fox") ∷ []) done ≡ done
 any_order done = refl
 
-in_order : arranged (Some (codes "price" ∷ codes "id" ∷ codes "word" ∷ [])) word_columns (beyond ∷ one ∷ Text (codes "fox") ∷ []) ≡ one ∷ Text (codes "fox") ∷ beyond ∷ []
+in_order : arranged (Some (codes "price" ∷ codes "id" ∷ codes "change" ∷ [])) word_columns (beyond ∷ one ∷ Text (codes "fox") ∷ []) ≡ one ∷ Text (codes "fox") ∷ beyond ∷ []
 in_order = refl
 
 wrong_sort_and_taken : (done : Effect) → check_values true true word_columns (one ∷ one ∷ one ∷ []) done ≡ Refused WrongValues

@@ -3,7 +3,7 @@ use Rattle.std.specs.Prelude.{ℕ, ◌≡◌, ◌≤◌, Bool, true, false, ◌|
 use Rattle.std.specs.FinMap.{get, empty, entries}
 use Rattle.ct_keep.specs.declared.keepers.KeepFault.{KeepFault}
 use Rattle.ct_keep.specs.Content.{Content}
-use Rattle.ct_keep.specs.Keeping.{Keeping}
+use Rattle.ct_keep.specs.KeeperViews.{KeeperView}
 use Rattle.ct_entry.specs.declared.kinds.Kind.{Kind}
 use Rattle.ct_entry.specs.declared.kinds.Kind.TheVariants as kind
 use Rattle.ct_entry.specs.Keys.{Key, HasKeysOnly, at, same_list}
@@ -82,5 +82,5 @@ pub record Stands (c : Content) (m : State) : Type 0 where
   pub state : IsState m
 
 -- What a call gave over each state that the content stands for, unless it failed.
-abbrev pub Sees : {K T : Type 0} → (K → Keeping) → K → Result T KeepFault → (State → T → Type 0) → Type 0
+abbrev pub Sees : {K T : Type 0} → (K → KeeperView) → K → Result T KeepFault → (State → T → Type 0) → Type 0
 Sees view old result gives = (m : State) (c : Content) → (view old).content ≡ Some c → Stands c m → IfOk result (gives m)

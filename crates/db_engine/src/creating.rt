@@ -5,11 +5,11 @@ ghost use Rattle.std.specs.Prelude.{All, ◌≡◌, ◌≤◌, IfOk, Some, None,
 ghost use Rattle.std.specs.List.{list_any, list_all};
 ghost use Rattle.std.specs.Option.{unwrap_or};
 ghost use Rattle.ct_base.specs.Names.{IsName};
-ghost use Rattle.ct_keep.specs.Keeping.{OnlyReads};
+ghost use Rattle.ct_keep.specs.KeeperViews.{OnlyReads};
 ghost use Rattle.ct_entry.specs.Keys.{same_list};
-ghost use Rattle.ct_entry.specs.Words.{spell};
+ghost use Rattle.ct_entry.specs.Changes.{spell};
 ghost use Rattle.st_parse.specs.declared.statements.ColumnText.{ColumnText};
-ghost use Rattle.tb_table.specs.Spelling.{create_words};
+ghost use Rattle.tb_table.specs.Spelling.{create_changes};
 ghost use Rattle.tb_table.specs.declared.columns.Column.{Column};
 ghost use Rattle.db_engine.specs.States.{TakesAll, is_view as is_view_name};
 ghost use Rattle.db_engine.specs.Refusals.{Effect, as_count};
@@ -182,7 +182,7 @@ fn kept_columns(alloc: Global, columns: &[ColumnText]) -> Result<Vec<Column>, Me
 /// The batch that makes a table.
 fn table_batch(alloc: Global, table: &Name, columns: &[ColumnText]) -> Result<Batch, Memory>
     requires { length columns.now ≤ 16 }
-    ensures words { IfOk result (λ batch. all_sized columns.now ≡ true → batch ≡ spell (create_words table.now (map column_of columns.now))) }
+    ensures changes { IfOk result (λ batch. all_sized columns.now ≡ true → batch ≡ spell (create_changes table.now (map column_of columns.now))) }
     ensures named { IfOk result (λ batch. all_sized columns.now ≡ true → All (λ (k : Column). IsName k.name) (map column_of columns.now)) }
 {
     let columns = kept_columns(alloc, columns)?;
@@ -198,9 +198,9 @@ fn table_plan<'a, K: Keeper>(
     table: &'a Name,
     columns: &[ColumnText],
 ) -> Result<Plan<'a>, KeepFault>
-    requires { (K.keeping keeper.old).ready }
-    ensures plan { Plans K.keeping keeper.old result (λ m. create_table_effect m table.now columns.now) table_created }
-    ensures reads { OnlyReads K.keeping keeper.old keeper.new result }
+    requires { (K.view keeper.old).ready }
+    ensures plan { Plans K.view keeper.old result (λ m. create_table_effect m table.now columns.now) table_created }
+    ensures reads { OnlyReads K.view keeper.old keeper.new result }
 {
     let there = has_table(alloc, keeper, table)?;
     let many = has_most_tables(alloc, keeper)?;
@@ -218,9 +218,9 @@ pub(crate) fn create_table<K: Keeper>(
     table: &Name,
     columns: &[ColumnText],
 ) -> Result<Vec<u8>, KeepFault>
-    requires ready { (K.keeping keeper.old).ready }
-    requires takes { TakesAll (K.keeping keeper.old).fixed.well }
-    ensures { Serves (λ m. create_table_effect m table.now columns.now) (Some table_created) (K.keeping keeper.old) (K.keeping keeper.new) result }
+    requires ready { (K.view keeper.old).ready }
+    requires takes { TakesAll (K.view keeper.old).fixed.well }
+    ensures { Serves (λ m. create_table_effect m table.now columns.now) (Some table_created) (K.view keeper.old) (K.view keeper.new) result }
 {
     match table_plan(alloc, keeper, table, columns) {
         Ok(plan) => carry_out(alloc, keeper, plan, b"Table created.\n"),

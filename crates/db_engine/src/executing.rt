@@ -4,7 +4,7 @@
 ghost use Rattle.std.specs.Prelude.{ℕ, ◌≡◌, ◌&&◌, List, IfOk, Some, None, Err, true, false, not, codes, bytes_eq};
 ghost use Rattle.ct_base.specs.Causes.{Rose};
 ghost use Rattle.ct_keep.specs.Content.{Content};
-ghost use Rattle.ct_keep.specs.Keeping.{Kept, OnlyReads, Reads};
+ghost use Rattle.ct_keep.specs.KeeperViews.{Kept, OnlyReads, Reads};
 ghost use Rattle.db_cond.specs.Faults.{NotUnderstood, refusal_line, store_full as store_full_line};
 ghost use Rattle.std.specs.Bool.{if◌then◌else◌};
 ghost use Rattle.db_engine.specs.Refusals.{refuse, reply_by, state_by};
@@ -44,9 +44,9 @@ fn selected<K: Keeper>(
     table: &Name,
     preds: &[Pred],
 ) -> Result<Vec<u8>, KeepFault>
-    requires { (K.keeping keeper.old).ready }
-    ensures reads { OnlyReads K.keeping keeper.old keeper.new result }
-    ensures reply { Sees K.keeping keeper.old result (λ m reply. reply.items ≡ reply_by (select_effect m list.now table.now preds.now)) }
+    requires { (K.view keeper.old).ready }
+    ensures reads { OnlyReads K.view keeper.old keeper.new result }
+    ensures reply { Sees K.view keeper.old result (λ m reply. reply.items ≡ reply_by (select_effect m list.now table.now preds.now)) }
     ensures state { (m : State) → state_by m (select_effect m list.now table.now preds.now) ≡ m }
 {
     let SelectList::Items(items) = list else {
@@ -100,9 +100,9 @@ fn call<K: Keeper>(
     procedure: &Name,
     args: &[Arg],
 ) -> Result<Vec<u8>, KeepFault>
-    requires ready { (K.keeping keeper.old).ready }
-    requires takes { TakesAll (K.keeping keeper.old).fixed.well }
-    ensures serves { Serves (λ m. call_effect m pack.now procedure.now args.now) (if is_sync_call pack.now procedure.now then Some call_done else None) (K.keeping keeper.old) (K.keeping keeper.new) result }
+    requires ready { (K.view keeper.old).ready }
+    requires takes { TakesAll (K.view keeper.old).fixed.well }
+    ensures serves { Serves (λ m. call_effect m pack.now procedure.now args.now) (if is_sync_call pack.now procedure.now then Some call_done else None) (K.view keeper.old) (K.view keeper.new) result }
     ensures fixed { (m : State) → is_sync_call pack.now procedure.now ≡ false → IfOk result (λ reply. reply.items ≡ reply_by (call_effect m pack.now procedure.now args.now)) }
     ensures may { result ≡ Err KeepFault.Full → may_fill_by pack.now ≡ true }
 {
@@ -131,9 +131,9 @@ fn index_statement<K: Keeper>(
     column: &Name,
     built: bool,
 ) -> Result<Vec<u8>, KeepFault>
-    requires ready { (K.keeping keeper.old).ready }
-    requires takes { TakesAll (K.keeping keeper.old).fixed.well }
-    ensures serves { Serves (λ m. refuse (not built) NotUnderstood (create_index_effect m index.now table.now column.now)) (if built then Some index_created else None) (K.keeping keeper.old) (K.keeping keeper.new) result }
+    requires ready { (K.view keeper.old).ready }
+    requires takes { TakesAll (K.view keeper.old).fixed.well }
+    ensures serves { Serves (λ m. refuse (not built) NotUnderstood (create_index_effect m index.now table.now column.now)) (if built then Some index_created else None) (K.view keeper.old) (K.view keeper.new) result }
     ensures fixed { built ≡ false → IfOk result (λ reply. reply.items ≡ refusal_line NotUnderstood) }
 {
     if !built {
@@ -148,9 +148,9 @@ fn reply_to<K: Keeper>(
     keeper: &mut K,
     statement: &Statement,
 ) -> Result<Vec<u8>, KeepFault>
-    requires ready { (K.keeping keeper.old).ready }
-    requires takes { TakesAll (K.keeping keeper.old).fixed.well }
-    ensures serves { Serves (λ m. effect m statement.now) (done_line statement.now) (K.keeping keeper.old) (K.keeping keeper.new) result }
+    requires ready { (K.view keeper.old).ready }
+    requires takes { TakesAll (K.view keeper.old).fixed.well }
+    ensures serves { Serves (λ m. effect m statement.now) (done_line statement.now) (K.view keeper.old) (K.view keeper.new) result }
     ensures fixed { (m : State) → is_fixed statement.now ≡ true → IfOk result (λ reply. reply.items ≡ reply_by (effect m statement.now)) }
     ensures may { result ≡ Err KeepFault.Full → may_fill statement.now ≡ true }
 {
@@ -221,13 +221,13 @@ pub fn execute<R: Threads + Sync, K: Keeper>(
     keeper: &mut K,
     statement: &Statement,
 ) -> Result<Reply, Stop>
-    requires ready { (K.keeping keeper.old).ready }
-    requires takes { TakesAll (K.keeping keeper.old).fixed.well }
-    ensures kept { Kept (K.keeping keeper.old) (K.keeping keeper.new) (fault_of_stop result) }
-    ensures executes { (m : State) (c : Content) → (K.keeping keeper.old).content ≡ Some c → Stands c m → Executes m (effect m statement.now) (may_fill statement.now) c (K.keeping keeper.old) (K.keeping keeper.new) result }
-    ensures reads { done_line statement.now ≡ None → Reads (K.keeping keeper.old) (K.keeping keeper.new) (fault_of_stop result) }
-    ensures tells { (done : List ℕ) → done_line statement.now ≡ Some done → Tells done (K.keeping keeper.old) (K.keeping keeper.new) result }
-    ensures full { (done : List ℕ) → done_line statement.now ≡ Some done → IfText (λ reply. reply ≡ store_full_line → Rose (K.keeping keeper.old).counts.fulls (K.keeping keeper.new).counts.fulls) result }
+    requires ready { (K.view keeper.old).ready }
+    requires takes { TakesAll (K.view keeper.old).fixed.well }
+    ensures kept { Kept (K.view keeper.old) (K.view keeper.new) (fault_of_stop result) }
+    ensures executes { (m : State) (c : Content) → (K.view keeper.old).content ≡ Some c → Stands c m → Executes m (effect m statement.now) (may_fill statement.now) c (K.view keeper.old) (K.view keeper.new) result }
+    ensures reads { done_line statement.now ≡ None → Reads (K.view keeper.old) (K.view keeper.new) (fault_of_stop result) }
+    ensures tells { (done : List ℕ) → done_line statement.now ≡ Some done → Tells done (K.view keeper.old) (K.view keeper.new) result }
+    ensures full { (done : List ℕ) → done_line statement.now ≡ Some done → IfText (λ reply. reply ≡ store_full_line → Rose (K.view keeper.old).counts.fulls (K.view keeper.new).counts.fulls) result }
     ensures fixed { (m : State) → is_fixed statement.now ≡ true → IfText (λ reply. reply ≡ reply_by (effect m statement.now)) result }
 {
     match reply_to(alloc, keeper, statement) {

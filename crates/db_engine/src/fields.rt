@@ -8,7 +8,7 @@ ghost use Rattle.std.specs.Map.{lookup};
 ghost use Rattle.std.specs.Option.{option_map};
 ghost use Rattle.ct_base.specs.declared.lists.Value.TheVariants.{Number};
 ghost use Rattle.ct_keep.specs.Content.{Content};
-ghost use Rattle.ct_keep.specs.Keeping.{OnlyReads};
+ghost use Rattle.ct_keep.specs.KeeperViews.{OnlyReads};
 ghost use Rattle.tb_table.specs.Tables.{numbers_of, text_of as row_text};
 ghost use Rattle.db_engine.specs.States.{State, Stands, Sees};
 ghost use Rattle.db_engine.specs.Sources.{KnowTexts, fields_by, reads_numbers, row_values, source_value};
@@ -44,10 +44,10 @@ fn text_once<K: Keeper>(
     texts: &mut Vec<ReadText>,
     column: u8,
 ) -> Result<Option<Text>, KeepFault>
-    requires { (K.keeping keeper.old).ready }
-    ensures text { (m : State) (c : Content) → (K.keeping keeper.old).content ≡ Some c → Stands c m → KnowTexts (row_values m.tables table.now row.0) texts.old.items → IfOk result (λ text. text ≡ row_text (row_values m.tables table.now row.0) column) }
-    ensures texts { (m : State) (c : Content) → (K.keeping keeper.old).content ≡ Some c → Stands c m → KnowTexts (row_values m.tables table.now row.0) texts.old.items → OnOk result (KnowTexts (row_values m.tables table.now row.0) texts.new.items) }
-    ensures reads { OnlyReads K.keeping keeper.old keeper.new result }
+    requires { (K.view keeper.old).ready }
+    ensures text { (m : State) (c : Content) → (K.view keeper.old).content ≡ Some c → Stands c m → KnowTexts (row_values m.tables table.now row.0) texts.old.items → IfOk result (λ text. text ≡ row_text (row_values m.tables table.now row.0) column) }
+    ensures texts { (m : State) (c : Content) → (K.view keeper.old).content ≡ Some c → Stands c m → KnowTexts (row_values m.tables table.now row.0) texts.old.items → OnOk result (KnowTexts (row_values m.tables table.now row.0) texts.new.items) }
+    ensures reads { OnlyReads K.view keeper.old keeper.new result }
 {
     if let Some(text) = known_text(texts, column)? {
         return Ok(text);
@@ -83,10 +83,10 @@ fn field<K: Keeper>(
     texts: &mut Vec<ReadText>,
     source: Source,
 ) -> Result<Option<Value>, KeepFault>
-    requires { (K.keeping keeper.old).ready }
-    ensures value { (m : State) (c : Content) → (K.keeping keeper.old).content ≡ Some c → Stands c m → KnowTexts (row_values m.tables table.now hit.key.0) texts.old.items → IfOk result (λ value. value ≡ source_value hit.key.0 numbers.now (row_values m.tables table.now hit.key.0) hit.score source) }
-    ensures texts { (m : State) (c : Content) → (K.keeping keeper.old).content ≡ Some c → Stands c m → KnowTexts (row_values m.tables table.now hit.key.0) texts.old.items → OnOk result (KnowTexts (row_values m.tables table.now hit.key.0) texts.new.items) }
-    ensures reads { OnlyReads K.keeping keeper.old keeper.new result }
+    requires { (K.view keeper.old).ready }
+    ensures value { (m : State) (c : Content) → (K.view keeper.old).content ≡ Some c → Stands c m → KnowTexts (row_values m.tables table.now hit.key.0) texts.old.items → IfOk result (λ value. value ≡ source_value hit.key.0 numbers.now (row_values m.tables table.now hit.key.0) hit.score source) }
+    ensures texts { (m : State) (c : Content) → (K.view keeper.old).content ≡ Some c → Stands c m → KnowTexts (row_values m.tables table.now hit.key.0) texts.old.items → OnOk result (KnowTexts (row_values m.tables table.now hit.key.0) texts.new.items) }
+    ensures reads { OnlyReads K.view keeper.old keeper.new result }
 {
     match source {
         Source::Key => Ok(Some(Value::Number(hit.key.0))),
@@ -108,9 +108,9 @@ pub(crate) fn row_numbers<K: Keeper>(
     sources: &[Source],
     row: RowKey,
 ) -> Result<Vec<i64>, KeepFault>
-    requires { (K.keeping keeper.old).ready }
-    ensures numbers { Sees K.keeping keeper.old result (λ m numbers. numbers.items ≡ (if list_any reads_numbers sources.now then numbers_of (row_values m.tables table.now row.0) else [])) }
-    ensures reads { OnlyReads K.keeping keeper.old keeper.new result }
+    requires { (K.view keeper.old).ready }
+    ensures numbers { Sees K.view keeper.old result (λ m numbers. numbers.items ≡ (if list_any reads_numbers sources.now then numbers_of (row_values m.tables table.now row.0) else [])) }
+    ensures reads { OnlyReads K.view keeper.old keeper.new result }
 {
     if !read_numbers(sources) {
         return Ok(Vec::new(alloc));
@@ -140,9 +140,9 @@ pub(crate) fn row_fields<K: Keeper>(
     numbers: &[i64],
     hit: Hit,
 ) -> Result<Vec<Value>, KeepFault>
-    requires { (K.keeping keeper.old).ready }
-    ensures fields { Sees K.keeping keeper.old result (λ m fields. fields.items ≡ fields_by hit.key.0 numbers.now (row_values m.tables table.now hit.key.0) hit.score sources.now) }
-    ensures reads { OnlyReads K.keeping keeper.old keeper.new result }
+    requires { (K.view keeper.old).ready }
+    ensures fields { Sees K.view keeper.old result (λ m fields. fields.items ≡ fields_by hit.key.0 numbers.now (row_values m.tables table.now hit.key.0) hit.score sources.now) }
+    ensures reads { OnlyReads K.view keeper.old keeper.new result }
 {
     let mut texts = Vec::new(alloc);
     let mut fields = Vec::new(alloc);

@@ -4,7 +4,7 @@
 ghost use Rattle.std.specs.Prelude.{◌≡◌, nat_lt, map, filter, IfOk, Some, Err};
 ghost use Rattle.std.specs.FinMap.{get};
 ghost use Rattle.ct_keep.specs.Content.{Content};
-ghost use Rattle.ct_keep.specs.Keeping.{OnlyReads};
+ghost use Rattle.ct_keep.specs.KeeperViews.{OnlyReads};
 ghost use Rattle.ix_context.specs.Indexes.{Index, found};
 ghost use Rattle.db_engine.specs.States.{State, Stands};
 ghost use Rattle.db_engine.specs.Selecting.{query_key};
@@ -30,9 +30,9 @@ pub(crate) fn hits_above<K: Keeper>(
     query: &str,
     above: u32,
 ) -> Result<Vec<Hit>, KeepFault>
-    requires { (K.keeping keeper.old).ready }
-    ensures found { (m : State) (c : Content) (x : Index) → (K.keeping keeper.old).content ≡ Some c → Stands c m → get m.indexes index.now ≡ Some x → IfOk result (λ hits. map (λ h. (h.key.0, h.score)) hits.items ≡ found m.tables x (query_key query.now) above) }
-    ensures reads { OnlyReads K.keeping keeper.old keeper.new result }
+    requires { (K.view keeper.old).ready }
+    ensures found { (m : State) (c : Content) (x : Index) → (K.view keeper.old).content ≡ Some c → Stands c m → get m.indexes index.now ≡ Some x → IfOk result (λ hits. map (λ h. (h.key.0, h.score)) hits.items ≡ found m.tables x (query_key query.now) above) }
+    ensures reads { OnlyReads K.view keeper.old keeper.new result }
 {
     let word = key(alloc, query)?;
     let mut hits = search(alloc, keeper, index, &word)?;

@@ -5,10 +5,10 @@ ghost use Rattle.std.specs.Prelude.{◌≡◌, ◌<◌, ◌||◌, IfOk, Some, Er
 ghost use Rattle.std.specs.FinMap.{get};
 ghost use Rattle.ct_base.specs.Names.{IsName};
 ghost use Rattle.ct_keep.specs.Content.{Content};
-ghost use Rattle.ct_keep.specs.Keeping.{OnlyReads};
-ghost use Rattle.ct_entry.specs.Words.{spell};
+ghost use Rattle.ct_keep.specs.KeeperViews.{OnlyReads};
+ghost use Rattle.ct_entry.specs.Changes.{spell};
 ghost use Rattle.tb_table.specs.Tables.{Table};
-ghost use Rattle.ix_context.specs.Changes.{create_words};
+ghost use Rattle.ix_context.specs.Changes.{create_changes};
 ghost use Rattle.db_engine.specs.States.{State, Stands, TakesAll, indexes_on, most_indexes, Sees};
 ghost use Rattle.db_engine.specs.Refusals.{Effect};
 ghost use Rattle.db_engine.specs.Creating.{all_rows, check_index, create_index as create_index_effect, create_index_on, has_index_on as column_has_index, index_created, is_text_at as text_at, is_text_sort as sort_of_texts, target, IsFreeIndex};
@@ -62,9 +62,9 @@ fn has_index_on<K: Keeper>(
     table: &Name,
     place: usize,
 ) -> Result<bool, KeepFault>
-    requires { (K.keeping keeper.old).ready }
-    ensures there { (m : State) (c : Content) → (K.keeping keeper.old).content ≡ Some c → Stands c m → place < 256 → IfOk result (λ there. there ≡ column_has_index m.indexes table.now place) }
-    ensures reads { OnlyReads K.keeping keeper.old keeper.new result }
+    requires { (K.view keeper.old).ready }
+    ensures there { (m : State) (c : Content) → (K.view keeper.old).content ≡ Some c → Stands c m → place < 256 → IfOk result (λ there. there ≡ column_has_index m.indexes table.now place) }
+    ensures reads { OnlyReads K.view keeper.old keeper.new result }
 {
     let other = context_index(alloc, keeper, table, place)?;
     Ok(other.is_some())
@@ -78,9 +78,9 @@ fn is_taken<K: Keeper>(
     table: &Name,
     place: usize,
 ) -> Result<bool, KeepFault>
-    requires { (K.keeping keeper.old).ready }
-    ensures taken { (m : State) (c : Content) → (K.keeping keeper.old).content ≡ Some c → Stands c m → place < 256 → IfOk result (λ taken. taken ≡ (is_some (get m.indexes index.now) || column_has_index m.indexes table.now place)) }
-    ensures reads { OnlyReads K.keeping keeper.old keeper.new result }
+    requires { (K.view keeper.old).ready }
+    ensures taken { (m : State) (c : Content) → (K.view keeper.old).content ≡ Some c → Stands c m → place < 256 → IfOk result (λ taken. taken ≡ (is_some (get m.indexes index.now) || column_has_index m.indexes table.now place)) }
+    ensures reads { OnlyReads K.view keeper.old keeper.new result }
 {
     let there = has_index(alloc, keeper, index)?;
     let other = has_index_on(alloc, keeper, table, place)?;
@@ -100,9 +100,9 @@ fn has_most_indexes<K: Keeper>(
     keeper: &mut K,
     table: &Name,
 ) -> Result<bool, KeepFault>
-    requires { (K.keeping keeper.old).ready }
-    ensures many { Sees K.keeping keeper.old result (λ m many. many ≡ nat_le most_indexes (length (indexes_on m.indexes table.now))) }
-    ensures reads { OnlyReads K.keeping keeper.old keeper.new result }
+    requires { (K.view keeper.old).ready }
+    ensures many { Sees K.view keeper.old result (λ m many. many ≡ nat_le most_indexes (length (indexes_on m.indexes table.now))) }
+    ensures reads { OnlyReads K.view keeper.old keeper.new result }
 {
     let indexes = indexes_of(alloc, keeper, table)?;
     Ok(are_most(&indexes))
@@ -126,7 +126,7 @@ fn index_fault<'a>(there: bool, texts: bool, many: bool, index: &'a Name) -> Opt
     None
 }
 
-/// The words of a new index on a column, by its place; None where the index would need more documents than there are numbers,
+/// The changes of a new index on a column, by its place; None where the index would need more documents than there are numbers,
 /// or there is no such place.
 fn created<K: Keeper>(
     alloc: Global,
@@ -135,9 +135,9 @@ fn created<K: Keeper>(
     table: &Name,
     place: usize,
 ) -> Result<Option<Batch>, KeepFault>
-    requires { (K.keeping keeper.old).ready }
-    ensures words { (m : State) (c : Content) (x : Table) → (K.keeping keeper.old).content ≡ Some c → Stands c m → place < 256 → IsFreeIndex m index.now table.now x place → IfOk result (λ batch. MatchOption batch ⊥ (λ words. words ≡ spell (create_words m.tables index.now (target table.now place) all_rows))) }
-    ensures reads { OnlyReads K.keeping keeper.old keeper.new result }
+    requires { (K.view keeper.old).ready }
+    ensures changes { (m : State) (c : Content) (x : Table) → (K.view keeper.old).content ≡ Some c → Stands c m → place < 256 → IsFreeIndex m index.now table.now x place → IfOk result (λ batch. MatchOption batch ⊥ (λ changes. changes ≡ spell (create_changes m.tables index.now (target table.now place) all_rows))) }
+    ensures reads { OnlyReads K.view keeper.old keeper.new result }
 {
     let Ok(column) = u8::try_from(place) else {
         return Ok(None);
@@ -161,9 +161,9 @@ fn plan_on<'a, K: Keeper>(
     columns: &[Column],
     place: usize,
 ) -> Result<Plan<'a>, KeepFault>
-    requires { (K.keeping keeper.old).ready }
-    ensures plan { (m : State) (c : Content) (x : Table) → (K.keeping keeper.old).content ≡ Some c → Stands c m → place < 256 → get m.tables table.now ≡ Some x → columns.now ≡ x.columns → IfOk result (IsPlan (create_index_on m index.now table.now x place) index_created c) }
-    ensures reads { OnlyReads K.keeping keeper.old keeper.new result }
+    requires { (K.view keeper.old).ready }
+    ensures plan { (m : State) (c : Content) (x : Table) → (K.view keeper.old).content ≡ Some c → Stands c m → place < 256 → get m.tables table.now ≡ Some x → columns.now ≡ x.columns → IfOk result (IsPlan (create_index_on m index.now table.now x place) index_created c) }
+    ensures reads { OnlyReads K.view keeper.old keeper.new result }
 {
     let there = is_taken(alloc, keeper, index, table, place)?;
     let many = has_most_indexes(alloc, keeper, table)?;
@@ -185,9 +185,9 @@ fn index_plan<'a, K: Keeper>(
     table: &'a Name,
     column: &'a Name,
 ) -> Result<Plan<'a>, KeepFault>
-    requires { (K.keeping keeper.old).ready }
-    ensures plan { Plans K.keeping keeper.old result (λ m. create_index_effect m index.now table.now column.now) index_created }
-    ensures reads { OnlyReads K.keeping keeper.old keeper.new result }
+    requires { (K.view keeper.old).ready }
+    ensures plan { Plans K.view keeper.old result (λ m. create_index_effect m index.now table.now column.now) index_created }
+    ensures reads { OnlyReads K.view keeper.old keeper.new result }
 {
     let Some(columns) = table_columns(alloc, keeper, table)? else {
         return Ok(Plan::Refused(Fault::UnknownName(table.as_str())));
@@ -207,9 +207,9 @@ pub(crate) fn create_index<K: Keeper>(
     table: &Name,
     column: &Name,
 ) -> Result<Vec<u8>, KeepFault>
-    requires ready { (K.keeping keeper.old).ready }
-    requires takes { TakesAll (K.keeping keeper.old).fixed.well }
-    ensures { Serves (λ m. create_index_effect m index.now table.now column.now) (Some index_created) (K.keeping keeper.old) (K.keeping keeper.new) result }
+    requires ready { (K.view keeper.old).ready }
+    requires takes { TakesAll (K.view keeper.old).fixed.well }
+    ensures { Serves (λ m. create_index_effect m index.now table.now column.now) (Some index_created) (K.view keeper.old) (K.view keeper.new) result }
 {
     match index_plan(alloc, keeper, index, table, column) {
         Ok(plan) => carry_out(alloc, keeper, plan, b"Index created.\n"),

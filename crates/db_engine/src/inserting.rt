@@ -7,15 +7,15 @@ ghost use Rattle.std.specs.Option.{option_map};
 ghost use Rattle.std.specs.FinMap.{get, entries};
 ghost use Rattle.ct_keep.specs.Content.{Content, after};
 ghost use Rattle.db_engine.specs.Committing.{are_bounded};
-ghost use Rattle.ct_keep.specs.Keeping.{OnlyReads};
+ghost use Rattle.ct_keep.specs.KeeperViews.{OnlyReads};
 ghost use Rattle.ct_entry.specs.Keys.{same_list};
-ghost use Rattle.ct_entry.specs.Words.{spell};
+ghost use Rattle.ct_entry.specs.Changes.{spell};
 ghost use Rattle.tb_table.specs.declared.columns.Column.{Column};
 ghost use Rattle.tb_table.specs.Tables.{Table, numbers_of, texts_of};
-ghost use Rattle.tb_table.specs.Spelling.{insert_words};
+ghost use Rattle.tb_table.specs.Spelling.{insert_changes};
 ghost use Rattle.db_engine.specs.States.{State, Stands, TakesAll};
 ghost use Rattle.db_engine.specs.Refusals.{Effect, first_unknown as unknown_name};
-ghost use Rattle.db_engine.specs.Inserting.{are_of_sorts as all_of_sorts, arranged as arranged_values, behind_key as others_of, check_list, check_values, covers as covers_columns, has_row as has_row_of, has_too_long as any_too_long, insert_into as insert_into_effect, insert_values as insert_values_effect, is_beyond_range, is_of_sort as sort_takes, is_too_long as too_long_for, key_in as key_of, kept_value, number_value, text_value, IsNumberKept, IsTextKept, note_all_words, most_rows, names_of, others_kept, row_created, value_under as named_value, with_new_row, IsFreeRow};
+ghost use Rattle.db_engine.specs.Inserting.{are_of_sorts as all_of_sorts, arranged as arranged_values, behind_key as others_of, check_list, check_values, covers as covers_columns, has_row as has_row_of, has_too_long as any_too_long, insert_into as insert_into_effect, insert_values as insert_values_effect, is_beyond_range, is_of_sort as sort_takes, is_too_long as too_long_for, key_in as key_of, kept_value, number_value, text_value, IsNumberKept, IsTextKept, note_all_changes, most_rows, names_of, others_kept, row_created, value_under as named_value, with_new_row, IsFreeRow};
 ghost use Rattle.db_engine.specs.Checking.{Checks};
 ghost use Rattle.db_engine.specs.Executing.{IsPlan, Plans, Serves};
 
@@ -340,9 +340,9 @@ fn texts_in(alloc: Global, values: &[Operand]) -> Result<Vec<(u8, Text)>, Memory
     Ok(texts)
 }
 
-/// The words of a row.
+/// The changes of a row.
 fn row_batch(alloc: Global, table: &Name, row: RowKey, values: &[Operand]) -> Result<Batch, Memory>
-    ensures words { IfOk result (λ batch. length values.now ≤ 255 → batch ≡ spell (insert_words table.now row.0 (numbers_of (map kept_value values.now)) (texts_of (map kept_value values.now)))) }
+    ensures changes { IfOk result (λ batch. length values.now ≤ 255 → batch ≡ spell (insert_changes table.now row.0 (numbers_of (map kept_value values.now)) (texts_of (map kept_value values.now)))) }
     ensures numbers { IfOk result (λ _. All IsNumberKept values.now) }
     ensures texts { IfOk result (λ _. All IsTextKept values.now) }
 {
@@ -353,14 +353,14 @@ fn row_batch(alloc: Global, table: &Name, row: RowKey, values: &[Operand]) -> Re
     Ok(batch)
 }
 
-/// Adds the words that the row waits in each of the indexes.
+/// Adds the changes that the row waits in each of the indexes.
 fn note_all(
     alloc: Global,
     batch: &mut Batch,
     indexes: &[(Name, IndexHead)],
     row: RowKey,
 ) -> Result<(), Memory>
-    ensures { OnOk result (batch.new ≡ batch.old ++ spell (note_all_words (map (λ e. e.0) indexes.now) row.0)) }
+    ensures { OnOk result (batch.new ≡ batch.old ++ spell (note_all_changes (map (λ e. e.0) indexes.now) row.0)) }
 {
     for (index, _) in indexes {
         note_insert(alloc, batch, index, row).map_err(|_| Memory)?;
@@ -378,7 +378,7 @@ fn behind_key(values: &[Operand]) -> &[Operand]
     }
 }
 
-/// The batch of a row that has passed the checks: its words and those that it waits in each index on the table.
+/// The batch of a row that has passed the checks: its changes and those that it waits in each index on the table.
 fn noted_batch<K: Keeper>(
     alloc: Global,
     keeper: &mut K,
@@ -386,9 +386,9 @@ fn noted_batch<K: Keeper>(
     row: RowKey,
     values: &[Operand],
 ) -> Result<Batch, KeepFault>
-    requires { (K.keeping keeper.old).ready }
-    ensures batch { (m : State) (c : Content) (x : Table) → (K.keeping keeper.old).content ≡ Some c → Stands c m → get m.tables table.now ≡ Some x → IsFreeRow x values.now row.0 → IfOk result (λ batch. (are_bounded batch ≡ true) × Stands (after batch c) (with_new_row m table.now row.0 (others_kept values.now))) }
-    ensures reads { OnlyReads K.keeping keeper.old keeper.new result }
+    requires { (K.view keeper.old).ready }
+    ensures batch { (m : State) (c : Content) (x : Table) → (K.view keeper.old).content ≡ Some c → Stands c m → get m.tables table.now ≡ Some x → IsFreeRow x values.now row.0 → IfOk result (λ batch. (are_bounded batch ≡ true) × Stands (after batch c) (with_new_row m table.now row.0 (others_kept values.now))) }
+    ensures reads { OnlyReads K.view keeper.old keeper.new result }
 {
     let mut batch = row_batch(alloc, table, row, behind_key(values))?;
     let indexes = indexes_of(alloc, keeper, table)?;
@@ -405,9 +405,9 @@ fn is_taken<K: Keeper>(
     table: &Name,
     key: Option<RowKey>,
 ) -> Result<bool, KeepFault>
-    requires { (K.keeping keeper.old).ready }
-    ensures taken { (m : State) (c : Content) (x : Table) → (K.keeping keeper.old).content ≡ Some c → Stands c m → get m.tables table.now ≡ Some x → IfOk result (λ taken. taken ≡ has_row_of x (option_map (λ key. key.0) key)) }
-    ensures reads { OnlyReads K.keeping keeper.old keeper.new result }
+    requires { (K.view keeper.old).ready }
+    ensures taken { (m : State) (c : Content) (x : Table) → (K.view keeper.old).content ≡ Some c → Stands c m → get m.tables table.now ≡ Some x → IfOk result (λ taken. taken ≡ has_row_of x (option_map (λ key. key.0) key)) }
+    ensures reads { OnlyReads K.view keeper.old keeper.new result }
 {
     match key {
         None => Ok(false),
@@ -417,9 +417,9 @@ fn is_taken<K: Keeper>(
 
 /// Whether the table has as many rows as it may have.
 fn has_most_rows<K: Keeper>(alloc: Global, keeper: &mut K, table: &Name) -> Result<bool, KeepFault>
-    requires { (K.keeping keeper.old).ready }
-    ensures many { (m : State) (c : Content) (x : Table) → (K.keeping keeper.old).content ≡ Some c → Stands c m → get m.tables table.now ≡ Some x → IfOk result (λ many. many ≡ nat_le most_rows (length (entries x.rows))) }
-    ensures reads { OnlyReads K.keeping keeper.old keeper.new result }
+    requires { (K.view keeper.old).ready }
+    ensures many { (m : State) (c : Content) (x : Table) → (K.view keeper.old).content ≡ Some c → Stands c m → get m.tables table.now ≡ Some x → IfOk result (λ many. many ≡ nat_le most_rows (length (entries x.rows))) }
+    ensures reads { OnlyReads K.view keeper.old keeper.new result }
 {
     let few = row_count_at_most(alloc, keeper, table, MOST_ROWS_BEFORE)?;
     Ok(!few)
@@ -433,9 +433,9 @@ fn values_plan<'a, K: Keeper>(
     columns: &[Column],
     values: &[Operand],
 ) -> Result<Plan<'a>, KeepFault>
-    requires { (K.keeping keeper.old).ready }
-    ensures plan { (m : State) (c : Content) (x : Table) → (K.keeping keeper.old).content ≡ Some c → Stands c m → get m.tables table.now ≡ Some x → x.columns ≡ columns.now → IfOk result (IsPlan (insert_values_effect m table.now x values.now) row_created c) }
-    ensures reads { OnlyReads K.keeping keeper.old keeper.new result }
+    requires { (K.view keeper.old).ready }
+    ensures plan { (m : State) (c : Content) (x : Table) → (K.view keeper.old).content ≡ Some c → Stands c m → get m.tables table.now ≡ Some x → x.columns ≡ columns.now → IfOk result (IsPlan (insert_values_effect m table.now x values.now) row_created c) }
+    ensures reads { OnlyReads K.view keeper.old keeper.new result }
 {
     let key = key_in(values);
     let taken = is_taken(alloc, keeper, table, key)?;
@@ -458,9 +458,9 @@ fn insert_plan<'a, K: Keeper>(
     names: &'a Option<ColumnNames>,
     values: &[Operand],
 ) -> Result<Plan<'a>, KeepFault>
-    requires { (K.keeping keeper.old).ready }
-    ensures plan { Plans K.keeping keeper.old result (λ m. insert_into_effect m table.now names.now values.now) row_created }
-    ensures reads { OnlyReads K.keeping keeper.old keeper.new result }
+    requires { (K.view keeper.old).ready }
+    ensures plan { Plans K.view keeper.old result (λ m. insert_into_effect m table.now names.now values.now) row_created }
+    ensures reads { OnlyReads K.view keeper.old keeper.new result }
 {
     let Some(columns) = table_columns(alloc, keeper, table)? else {
         return Ok(Plan::Refused(Fault::UnknownName(table.as_str())));
@@ -482,9 +482,9 @@ pub(crate) fn insert_into<K: Keeper>(
     names: &Option<ColumnNames>,
     values: &[Operand],
 ) -> Result<Vec<u8>, KeepFault>
-    requires ready { (K.keeping keeper.old).ready }
-    requires takes { TakesAll (K.keeping keeper.old).fixed.well }
-    ensures { Serves (λ m. insert_into_effect m table.now names.now values.now) (Some row_created) (K.keeping keeper.old) (K.keeping keeper.new) result }
+    requires ready { (K.view keeper.old).ready }
+    requires takes { TakesAll (K.view keeper.old).fixed.well }
+    ensures { Serves (λ m. insert_into_effect m table.now names.now values.now) (Some row_created) (K.view keeper.old) (K.view keeper.new) result }
 {
     match insert_plan(alloc, keeper, table, names, values) {
         Ok(plan) => carry_out(alloc, keeper, plan, b"1 row created.\n"),

@@ -3,7 +3,7 @@
 
 ghost use Rattle.std.specs.Prelude.{◌≡◌, ◌++◌, map, IfOk, OnOk, Some, Err};
 ghost use Rattle.ct_keep.specs.Content.{Content};
-ghost use Rattle.ct_keep.specs.Keeping.{OnlyReads};
+ghost use Rattle.ct_keep.specs.KeeperViews.{OnlyReads};
 ghost use Rattle.db_cond.specs.Lines.{line as printed_line};
 ghost use Rattle.db_engine.specs.States.{State, Stands, Sees};
 ghost use Rattle.db_engine.specs.Calling.{lines_or_none};
@@ -27,9 +27,9 @@ fn push_row<K: Keeper>(
     sources: &[Source],
     hit: Hit,
 ) -> Result<(), KeepFault>
-    requires { (K.keeping keeper.old).ready }
-    ensures line { (m : State) (c : Content) → (K.keeping keeper.old).content ≡ Some c → Stands c m → OnOk result (lines.new.items ≡ lines.old.items ++ printed_line (hit_fields m.tables table.now sources.now (hit.key.0, hit.score))) }
-    ensures reads { OnlyReads K.keeping keeper.old keeper.new result }
+    requires { (K.view keeper.old).ready }
+    ensures line { (m : State) (c : Content) → (K.view keeper.old).content ≡ Some c → Stands c m → OnOk result (lines.new.items ≡ lines.old.items ++ printed_line (hit_fields m.tables table.now sources.now (hit.key.0, hit.score))) }
+    ensures reads { OnlyReads K.view keeper.old keeper.new result }
 {
     let numbers = row_numbers(alloc, keeper, table, sources, hit.key)?;
     let fields = row_fields(alloc, keeper, table, sources, &numbers, hit)?;
@@ -46,9 +46,9 @@ pub(crate) fn hit_lines<K: Keeper>(
     sources: &[Source],
     hits: &[Hit],
 ) -> Result<Vec<u8>, KeepFault>
-    requires { (K.keeping keeper.old).ready }
-    ensures lines { Sees K.keeping keeper.old result (λ m lines. lines.items ≡ lines_or_none (map (λ h. hit_fields m.tables table.now sources.now (h.key.0, h.score)) hits.now)) }
-    ensures reads { OnlyReads K.keeping keeper.old keeper.new result }
+    requires { (K.view keeper.old).ready }
+    ensures lines { Sees K.view keeper.old result (λ m lines. lines.items ≡ lines_or_none (map (λ h. hit_fields m.tables table.now sources.now (h.key.0, h.score)) hits.now)) }
+    ensures reads { OnlyReads K.view keeper.old keeper.new result }
 {
     if hits.is_empty() {
         return Ok(fixed_reply(alloc, no_rows())?);

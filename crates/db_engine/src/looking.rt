@@ -5,7 +5,7 @@ ghost use Rattle.std.specs.Prelude.{◌≡◌, IfOk, Some, Err, is_some, nat_le,
 ghost use Rattle.std.specs.Option.{option_map};
 ghost use Rattle.std.specs.FinMap.{get, entries};
 ghost use Rattle.ct_keep.specs.Content.{Content};
-ghost use Rattle.ct_keep.specs.Keeping.{OnlyReads};
+ghost use Rattle.ct_keep.specs.KeeperViews.{OnlyReads};
 ghost use Rattle.tb_table.specs.Tables.{Table};
 ghost use Rattle.db_engine.specs.States.{State, Stands, most_tables, Sees};
 
@@ -23,9 +23,9 @@ pub(crate) fn table_columns<K: Keeper>(
     keeper: &mut K,
     table: &Name,
 ) -> Result<Option<Vec<Column>>, KeepFault>
-    requires { (K.keeping keeper.old).ready }
-    ensures columns { Sees K.keeping keeper.old result (λ m found. option_map (λ v. v.items) found ≡ option_map (λ (x : Table). x.columns) (get m.tables table.now)) }
-    ensures reads { OnlyReads K.keeping keeper.old keeper.new result }
+    requires { (K.view keeper.old).ready }
+    ensures columns { Sees K.view keeper.old result (λ m found. option_map (λ v. v.items) found ≡ option_map (λ (x : Table). x.columns) (get m.tables table.now)) }
+    ensures reads { OnlyReads K.view keeper.old keeper.new result }
 {
     columns_of(alloc, keeper, table)
 }
@@ -36,9 +36,9 @@ pub(crate) fn has_table<K: Keeper>(
     keeper: &mut K,
     table: &Name,
 ) -> Result<bool, KeepFault>
-    requires { (K.keeping keeper.old).ready }
-    ensures there { Sees K.keeping keeper.old result (λ m there. there ≡ is_some (get m.tables table.now)) }
-    ensures reads { OnlyReads K.keeping keeper.old keeper.new result }
+    requires { (K.view keeper.old).ready }
+    ensures there { Sees K.view keeper.old result (λ m there. there ≡ is_some (get m.tables table.now)) }
+    ensures reads { OnlyReads K.view keeper.old keeper.new result }
 {
     let columns = table_columns(alloc, keeper, table)?;
     Ok(columns.is_some())
@@ -53,9 +53,9 @@ fn are_most(names: &[Name]) -> bool
 
 /// Whether there are as many tables as there may be.
 pub(crate) fn has_most_tables<K: Keeper>(alloc: Global, keeper: &mut K) -> Result<bool, KeepFault>
-    requires { (K.keeping keeper.old).ready }
-    ensures many { Sees K.keeping keeper.old result (λ m many. many ≡ nat_le most_tables (length (entries m.tables))) }
-    ensures reads { OnlyReads K.keeping keeper.old keeper.new result }
+    requires { (K.view keeper.old).ready }
+    ensures many { Sees K.view keeper.old result (λ m many. many ≡ nat_le most_tables (length (entries m.tables))) }
+    ensures reads { OnlyReads K.view keeper.old keeper.new result }
 {
     let names = tables(alloc, keeper)?;
     Ok(are_most(&names))

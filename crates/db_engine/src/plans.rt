@@ -27,9 +27,9 @@ fn commit_batch<K: Keeper>(
     batch: Batch,
     line: &[u8],
 ) -> Result<Vec<u8>, KeepFault>
-    requires ready { (K.keeping keeper.old).ready }
-    requires takes { TakesAll (K.keeping keeper.old).fixed.well }
-    ensures { (effect : State → Effect) → Fits effect line.now (K.keeping keeper.old) (Plan.Done batch) → Serves effect (Some line.now) (K.keeping keeper.old) (K.keeping keeper.new) result }
+    requires ready { (K.view keeper.old).ready }
+    requires takes { TakesAll (K.view keeper.old).fixed.well }
+    ensures { (effect : State → Effect) → Fits effect line.now (K.view keeper.old) (Plan.Done batch) → Serves effect (Some line.now) (K.view keeper.old) (K.view keeper.new) result }
 {
     let reply = fixed_reply(alloc, line)?;
     commit(alloc, keeper, batch, reply)
@@ -42,9 +42,9 @@ pub(crate) fn carry_out<K: Keeper>(
     plan: Plan,
     line: &[u8],
 ) -> Result<Vec<u8>, KeepFault>
-    requires ready { (K.keeping keeper.old).ready }
-    requires takes { TakesAll (K.keeping keeper.old).fixed.well }
-    ensures { (effect : State → Effect) → Fits effect line.now (K.keeping keeper.old) plan.entry → Serves effect (Some line.now) (K.keeping keeper.old) (K.keeping keeper.new) result }
+    requires ready { (K.view keeper.old).ready }
+    requires takes { TakesAll (K.view keeper.old).fixed.well }
+    ensures { (effect : State → Effect) → Fits effect line.now (K.view keeper.old) plan.entry → Serves effect (Some line.now) (K.view keeper.old) (K.view keeper.new) result }
 {
     match plan {
         Plan::Refused(fault) => Ok(fault_line(alloc, fault)?),

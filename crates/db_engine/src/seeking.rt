@@ -3,7 +3,7 @@
 
 ghost use Rattle.std.specs.Prelude.{◌≡◌, ◌≤◌, ◌<◌, length, IfOk, Some, Err};
 ghost use Rattle.ct_keep.specs.Content.{Content};
-ghost use Rattle.ct_keep.specs.Keeping.{OnlyReads};
+ghost use Rattle.ct_keep.specs.KeeperViews.{OnlyReads};
 ghost use Rattle.db_engine.specs.States.{State, Stands};
 ghost use Rattle.db_engine.specs.Locating.{FoundOn, Searches, with_searched};
 
@@ -32,9 +32,9 @@ pub(crate) fn context_index<K: Keeper>(
     table: &Name,
     place: usize,
 ) -> Result<Option<Name>, KeepFault>
-    requires { (K.keeping keeper.old).ready }
-    ensures found { (m : State) (c : Content) → (K.keeping keeper.old).content ≡ Some c → Stands c m → place < 256 → IfOk result (λ found. FoundOn m.indexes table.now place found) }
-    ensures reads { OnlyReads K.keeping keeper.old keeper.new result }
+    requires { (K.view keeper.old).ready }
+    ensures found { (m : State) (c : Content) → (K.view keeper.old).content ≡ Some c → Stands c m → place < 256 → IfOk result (λ found. FoundOn m.indexes table.now place found) }
+    ensures reads { OnlyReads K.view keeper.old keeper.new result }
 {
     let Ok(column) = u8::try_from(place) else {
         return Ok(None);
@@ -52,9 +52,9 @@ pub(crate) fn searched_index<'a, K: Keeper>(
     columns: &[Column],
     column: &'a Name,
 ) -> Result<Searched<'a>, KeepFault>
-    requires { (K.keeping keeper.old).ready }
-    ensures searched { (m : State) (c : Content) → (K.keeping keeper.old).content ≡ Some c → Stands c m → length columns.now ≤ 256 → IfOk result (λ found. Searches m.indexes found (with_searched m table.now columns.now items.now column.now)) }
-    ensures reads { OnlyReads K.keeping keeper.old keeper.new result }
+    requires { (K.view keeper.old).ready }
+    ensures searched { (m : State) (c : Content) → (K.view keeper.old).content ≡ Some c → Stands c m → length columns.now ≤ 256 → IfOk result (λ found. Searches m.indexes found (with_searched m table.now columns.now items.now column.now)) }
+    ensures reads { OnlyReads K.view keeper.old keeper.new result }
 {
     if let Some(name) = first_unknown(items, columns) {
         return Ok(Searched::Refused(Fault::UnknownName(name.as_str())));

@@ -3,7 +3,7 @@
 
 ghost use Rattle.std.specs.Prelude.{◌≡◌, IfOk, Some, Err};
 ghost use Rattle.ct_keep.specs.Content.{Content};
-ghost use Rattle.ct_keep.specs.Keeping.{OnlyReads};
+ghost use Rattle.ct_keep.specs.KeeperViews.{OnlyReads};
 ghost use Rattle.db_engine.specs.States.{State, Stands, Sees};
 ghost use Rattle.db_engine.specs.Refusals.{reply_by, state_by};
 ghost use Rattle.db_engine.specs.Selecting.{select as select_effect};
@@ -35,10 +35,10 @@ pub(crate) fn select<K: Keeper>(
     label: Option<Whole>,
     above: Whole,
 ) -> Result<Vec<u8>, KeepFault>
-    requires ready { (K.keeping keeper.old).ready }
-    ensures reply { Sees K.keeping keeper.old result (λ m reply. reply.items ≡ reply_by (select_effect m items.now table.now column.now query.now label above)) }
+    requires ready { (K.view keeper.old).ready }
+    ensures reply { Sees K.view keeper.old result (λ m reply. reply.items ≡ reply_by (select_effect m items.now table.now column.now query.now label above)) }
     ensures state { (m : State) → state_by m (select_effect m items.now table.now column.now query.now label above) ≡ m }
-    ensures reads { OnlyReads K.keeping keeper.old keeper.new result }
+    ensures reads { OnlyReads K.view keeper.old keeper.new result }
 {
     let Some(columns) = table_columns(alloc, keeper, table)? else {
         return Ok(fault_line(alloc, Fault::UnknownName(table.as_str()))?);

@@ -5,10 +5,10 @@ ghost use Rattle.std.specs.Prelude.{◌≡◌, IfOk, Some, None, Err, MatchOptio
 ghost use Rattle.std.specs.Option.{option_map};
 ghost use Rattle.std.specs.FinMap.{get};
 ghost use Rattle.ct_keep.specs.Content.{Content};
-ghost use Rattle.ct_keep.specs.Keeping.{OnlyReads};
-ghost use Rattle.ct_entry.specs.Words.{spell};
+ghost use Rattle.ct_keep.specs.KeeperViews.{OnlyReads};
+ghost use Rattle.ct_entry.specs.Changes.{spell};
 ghost use Rattle.ix_context.specs.Indexes.{Index};
-ghost use Rattle.ix_context.specs.Changes.{sync_words};
+ghost use Rattle.ix_context.specs.Changes.{sync_changes};
 ghost use Rattle.db_engine.specs.States.{State, Stands, TakesAll, Sees};
 ghost use Rattle.db_engine.specs.Refusals.{Effect};
 ghost use Rattle.db_engine.specs.Calling.{are_sync_args as sync_args, call_done, check_sync, has_index as has_named_index, has_too_many, is_bad_size as bad_size, is_memory_size as memory_size, is_size_from as size_from, is_unit as unit_letter, name_arg as first_name, spelt_name as name_spelt, sync_index as sync_effect, unknown_name as name_unknown};
@@ -125,9 +125,9 @@ pub(crate) fn has_index<K: Keeper>(
     keeper: &mut K,
     index: &Name,
 ) -> Result<bool, KeepFault>
-    requires { (K.keeping keeper.old).ready }
-    ensures there { Sees K.keeping keeper.old result (λ m there. there ≡ is_some (get m.indexes index.now)) }
-    ensures reads { OnlyReads K.keeping keeper.old keeper.new result }
+    requires { (K.view keeper.old).ready }
+    ensures there { Sees K.view keeper.old result (λ m there. there ≡ is_some (get m.indexes index.now)) }
+    ensures reads { OnlyReads K.view keeper.old keeper.new result }
 {
     let head = index_of(alloc, keeper, index)?;
     Ok(head.is_some())
@@ -139,9 +139,9 @@ fn has_named<K: Keeper>(
     keeper: &mut K,
     name: &Option<Name>,
 ) -> Result<bool, KeepFault>
-    requires { (K.keeping keeper.old).ready }
-    ensures there { Sees K.keeping keeper.old result (λ m there. there ≡ has_named_index m name.now) }
-    ensures reads { OnlyReads K.keeping keeper.old keeper.new result }
+    requires { (K.view keeper.old).ready }
+    ensures there { Sees K.view keeper.old result (λ m there. there ≡ has_named_index m name.now) }
+    ensures reads { OnlyReads K.view keeper.old keeper.new result }
 {
     match name {
         Some(index) => has_index(alloc, keeper, index),
@@ -149,15 +149,15 @@ fn has_named<K: Keeper>(
     }
 }
 
-/// The words of a synchronisation; None where the index would need more documents than there are numbers.
+/// The changes of a synchronisation; None where the index would need more documents than there are numbers.
 fn synced<K: Keeper>(
     alloc: Global,
     keeper: &mut K,
     index: &Name,
 ) -> Result<Option<Batch>, KeepFault>
-    requires { (K.keeping keeper.old).ready }
-    ensures words { (m : State) (c : Content) (x : Index) → (K.keeping keeper.old).content ≡ Some c → Stands c m → get m.indexes index.now ≡ Some x → IfOk result (λ batch. MatchOption batch (has_too_many x ≡ true) (λ words. (has_too_many x ≡ false) × (words ≡ spell (sync_words m.tables index.now x)))) }
-    ensures reads { OnlyReads K.keeping keeper.old keeper.new result }
+    requires { (K.view keeper.old).ready }
+    ensures changes { (m : State) (c : Content) (x : Index) → (K.view keeper.old).content ≡ Some c → Stands c m → get m.indexes index.now ≡ Some x → IfOk result (λ batch. MatchOption batch (has_too_many x ≡ true) (λ changes. (has_too_many x ≡ false) × (changes ≡ spell (sync_changes m.tables index.now x)))) }
+    ensures reads { OnlyReads K.view keeper.old keeper.new result }
 {
     let mut batch = Batch::new(alloc);
     match sync(alloc, keeper, &mut batch, index) {
@@ -175,10 +175,10 @@ fn sync_plan<'a, K: Keeper>(
     name: &'a Option<Name>,
     args: &[Arg],
 ) -> Result<Plan<'a>, KeepFault>
-    requires ready { (K.keeping keeper.old).ready }
+    requires ready { (K.view keeper.old).ready }
     requires named { name.now ≡ first_name args.now }
-    ensures plan { Plans K.keeping keeper.old result (λ m. sync_effect m args.now) call_done }
-    ensures reads { OnlyReads K.keeping keeper.old keeper.new result }
+    ensures plan { Plans K.view keeper.old result (λ m. sync_effect m args.now) call_done }
+    ensures reads { OnlyReads K.view keeper.old keeper.new result }
 {
     let there = has_named(alloc, keeper, name)?;
     if let Some(fault) = sync_fault(unknown_name(there, name), args) {
@@ -201,9 +201,9 @@ pub(crate) fn sync_index<K: Keeper>(
     keeper: &mut K,
     args: &[Arg],
 ) -> Result<Vec<u8>, KeepFault>
-    requires ready { (K.keeping keeper.old).ready }
-    requires takes { TakesAll (K.keeping keeper.old).fixed.well }
-    ensures { Serves (λ m. sync_effect m args.now) (Some call_done) (K.keeping keeper.old) (K.keeping keeper.new) result }
+    requires ready { (K.view keeper.old).ready }
+    requires takes { TakesAll (K.view keeper.old).fixed.well }
+    ensures { Serves (λ m. sync_effect m args.now) (Some call_done) (K.view keeper.old) (K.view keeper.new) result }
 {
     let name = name_arg(alloc, args)?;
     match sync_plan(alloc, keeper, &name, args) {

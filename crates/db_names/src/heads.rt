@@ -8,7 +8,7 @@ use tb_table::Target;
 /// The kind of an index.
 #[derive(Clone, Copy, Debug, PartialEq, Eq)]
 pub enum IndexKind {
-    /// CONTEXT: the documents of a column by their words.
+    /// CONTEXT: the documents of a column by their changes.
     Context,
     /// CTXCAT: short texts with sub-indexes.
     Catalogue,

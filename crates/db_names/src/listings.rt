@@ -3,7 +3,7 @@
 
 ghost use Rattle.std.specs.Prelude.{◌≡◌, ◌∷◌, [], IfOk, OnOk, Some, Err, map};
 ghost use Rattle.ct_keep.specs.Content.{Content};
-ghost use Rattle.ct_keep.specs.Keeping.{Finds, OnlyReads, Told};
+ghost use Rattle.ct_keep.specs.KeeperViews.{Finds, OnlyReads, Told};
 ghost use Rattle.ct_keep.specs.Looks.{scan_looks, LooksAtMost};
 ghost use Rattle.ct_entry.specs.declared.kinds.Kind.TheVariants as entry;
 ghost use Rattle.ct_entry.specs.Kinds.{code};
@@ -48,10 +48,10 @@ pub fn index_on<K: Keeper>(
     target: &Target,
     kind: IndexKind,
 ) -> Result<Option<Name>, KeepFault>
-    requires { (K.keeping keeper.old).ready }
-    ensures value { Finds K.keeping keeper.old result (λ m found. IsIndexOn (at m) target.now kind found) }
-    ensures reads { OnlyReads K.keeping keeper.old keeper.new result }
-    ensures at_most { Told K.keeping keeper.old (λ m. LooksAtMost K.keeping keeper.old keeper.new (scan_looks (code entry.Indexes ∷ []) m)) }
+    requires { (K.view keeper.old).ready }
+    ensures value { Finds K.view keeper.old result (λ m found. IsIndexOn (at m) target.now kind found) }
+    ensures reads { OnlyReads K.view keeper.old keeper.new result }
+    ensures at_most { Told K.view keeper.old (λ m. LooksAtMost K.view keeper.old keeper.new (scan_looks (code entry.Indexes ∷ []) m)) }
 {
     let found = scan(alloc, keeper, &[Kind::Indexes.code()])?;
     let first = first_on(alloc, &found, target, kind)?;
@@ -84,10 +84,10 @@ pub fn indexes_of<K: Keeper>(
     keeper: &mut K,
     table: &Name,
 ) -> Result<Vec<(Name, IndexHead)>, KeepFault>
-    requires { (K.keeping keeper.old).ready }
-    ensures value { Finds K.keeping keeper.old result (λ m found. AreIndexesOf (at m) table.now found.items) }
-    ensures reads { OnlyReads K.keeping keeper.old keeper.new result }
-    ensures at_most { Told K.keeping keeper.old (λ m. LooksAtMost K.keeping keeper.old keeper.new (scan_looks (code entry.Indexes ∷ []) m)) }
+    requires { (K.view keeper.old).ready }
+    ensures value { Finds K.view keeper.old result (λ m found. AreIndexesOf (at m) table.now found.items) }
+    ensures reads { OnlyReads K.view keeper.old keeper.new result }
+    ensures at_most { Told K.view keeper.old (λ m. LooksAtMost K.view keeper.old keeper.new (scan_looks (code entry.Indexes ∷ []) m)) }
 {
     let found = scan(alloc, keeper, &[Kind::Indexes.code()])?;
     let pairs = pairs_among(alloc, &found, table)?;

@@ -3,7 +3,7 @@
 
 ghost use Rattle.std.specs.Prelude.{◌≡◌, IfOk, OnOk, Some, None, Err, []};
 ghost use Rattle.ct_keep.specs.Content.{Content};
-ghost use Rattle.ct_keep.specs.Keeping.{Finds, OnlyReads};
+ghost use Rattle.ct_keep.specs.KeeperViews.{Finds, OnlyReads};
 ghost use Rattle.ct_keep.specs.Looks.{look, LooksAtMost};
 ghost use Rattle.ct_entry.specs.declared.kinds.Kind.TheVariants as entry;
 ghost use Rattle.ct_entry.specs.Keys.{key, bytes, at};
@@ -24,10 +24,10 @@ pub fn index_of<K: Keeper>(
     keeper: &mut K,
     index: &Name,
 ) -> Result<Option<IndexHead>, KeepFault>
-    requires { (K.keeping keeper.old).ready }
-    ensures value { Finds K.keeping keeper.old result (λ m found. SpellsHead (at m (key entry.Indexes index.now [])) found) }
-    ensures reads { OnlyReads K.keeping keeper.old keeper.new result }
-    ensures at_most { LooksAtMost K.keeping keeper.old keeper.new (look (bytes (key entry.Indexes index.now [])) None) }
+    requires { (K.view keeper.old).ready }
+    ensures value { Finds K.view keeper.old result (λ m found. SpellsHead (at m (key entry.Indexes index.now [])) found) }
+    ensures reads { OnlyReads K.view keeper.old keeper.new result }
+    ensures at_most { LooksAtMost K.view keeper.old keeper.new (look (bytes (key entry.Indexes index.now [])) None) }
 {
     let Some(value) = fetch_entry(alloc, keeper, Kind::Indexes, index, &[])? else {
         return Ok(None);

@@ -1,7 +1,7 @@
 //! Entries of indexes over a keeper in memory.
 
 ghost use Rattle.std.specs.Prelude.{true, IfOk};
-ghost use Rattle.ct_keep.specs.Words.{AreWell};
+ghost use Rattle.ct_keep.specs.Changes.{AreWell};
 
 use crate::{IndexHead, IndexKind, index_of, index_on, indexes_of};
 use ct_base::{Memory, Name};
@@ -42,8 +42,8 @@ fn named(alloc: Global, text: &str) -> Result<Name, Memory> {
     Name::read(alloc, text).map_err(|_| Memory)
 }
 
-/// The word that an index has this entry, if it isn't too long.
-fn word_of(alloc: Global, index: &Name, value: &[u8]) -> Result<Batch, Memory>
+/// The change that an index has this entry, if it isn't too long.
+fn change_of(alloc: Global, index: &Name, value: &[u8]) -> Result<Batch, Memory>
     ensures { IfOk result (AreWell (λ _ _. true)) }
 {
     let name = index.as_str();
@@ -63,7 +63,7 @@ fn put_raw(
     value: &[u8],
 ) -> Result<(), KeepFault> {
     let index = named(alloc, index)?;
-    let batch = word_of(alloc, &index, value)?;
+    let batch = change_of(alloc, &index, value)?;
     keeper.commit(alloc, batch)
 }
 

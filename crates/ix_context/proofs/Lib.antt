@@ -4,4 +4,4 @@ pub mod MarkSteps
 pub mod SearchSteps
 pub mod SearchLaws
 pub mod SyncSteps
-pub mod TestWords
+pub mod TestChanges

@@ -6,8 +6,8 @@ use Rattle.ct_base.specs.declared.numbers.RowKey.{RowKey}
 use Rattle.ct_keep.specs.declared.keepers.KeepFault.{KeepFault}
 use Rattle.ct_entry.specs.declared.kinds.Kind.TheVariants as kind
 use Rattle.ct_entry.specs.Keys.{key}
-use Rattle.ct_entry.specs.Words.{put, spell}
-use Rattle.ct_entry.specs.WordLaws.{spell-append}
+use Rattle.ct_entry.specs.Changes.{put, spell}
+use Rattle.ct_entry.specs.ChangeLaws.{spell-append}
 use Rattle.ct_entry.specs.Each.{each}
 use Rattle.tb_table.specs.declared.columns.Target.{Target}
 use Rattle.tb_table.specs.Tables.{Tables}
@@ -15,11 +15,11 @@ use Rattle.ix_context.specs.declared.ranges.KeyRange.{KeyRange}
 use Rattle.ix_context.specs.Indexes.{Index, pending_rows, rows_in, target_text}
 use Rattle.ix_context.specs.Rules.{most_given}
 use Rattle.ix_context.specs.Spelling.{index_bytes}
-use Rattle.ix_context.specs.Changes.{numbered, mark_with, settle_with, settled_with, sync_rows_words, sync_words, create_words}
+use Rattle.ix_context.specs.Changes.{numbered, mark_with, settle_with, settled_with, sync_rows_changes, sync_changes, create_changes}
 use Rattle.ix_context.specs.ReadLaws.{target_of}
 
-abbrev Words : Type 0
-Words = List (List ℕ × Option (List ℕ))
+abbrev Changes : Type 0
+Changes = List (List ℕ × Option (List ℕ))
 
 abbrev keys : List RowKey → List ℤ
 keys rows = map (λ (r : RowKey). r.0) rows
@@ -52,47 +52,47 @@ at_least_one first next given is n = omega (arith, is, n)
 
 -- ---- a synchronisation
 
--- the words of the rows were added, and then that of the entry
-pub settled_added : (i : List ℕ) (target : Target) (text : ℤ → Option (List ℕ)) (first next : ℕ) (rows : List RowKey) (none before new : Words) → (length rows == 0) ≡ false → none ≡ []
+-- the changes of the rows were added, and then that of the entry
+pub settled_added : (i : List ℕ) (target : Target) (text : ℤ → Option (List ℕ)) (first next : ℕ) (rows : List RowKey) (none before new : Changes) → (length rows == 0) ≡ false → none ≡ []
     → before ≡ none ++ spell (each (settle_with i text) (numbered first (keys rows)))
     → new ≡ before ++ spell (put (key kind.Indexes i []) (index_bytes target.table target.column next) ∷ [])
     → next ≡ first + length rows → new ≡ spell (settled_with i target text first (keys rows))
 settled_added i target text first next [] none before new some empty settled last next_is = cc
 settled_added i target text first next (r ∷ rs) none before new some empty settled last next_is =
-    let words = each (settle_with i text) (numbered first (keys (r ∷ rs))) in
+    let changes = each (settle_with i text) (numbered first (keys (r ∷ rs))) in
     let count : next ≡ first + length (keys (r ∷ rs)) = next_is ∙ ap (λ n. first + n) (sym (length-map (r ∷ rs) (λ (r : RowKey). r.0))) in
     last
-    ∙ ap (λ (b : Words). b ++ spell (put (key kind.Indexes i []) (index_bytes target.table target.column next) ∷ [])) (settled ∙ ap (λ (b : Words). b ++ spell words) empty)
-    ∙ sym (spell-append words (put (key kind.Indexes i []) (index_bytes target.table target.column next) ∷ []))
-    ∙ ap (λ n. spell (words ++ put (key kind.Indexes i []) (index_bytes target.table target.column n) ∷ [])) count
+    ∙ ap (λ (b : Changes). b ++ spell (put (key kind.Indexes i []) (index_bytes target.table target.column next) ∷ [])) (settled ∙ ap (λ (b : Changes). b ++ spell changes) empty)
+    ∙ sym (spell-append changes (put (key kind.Indexes i []) (index_bytes target.table target.column next) ∷ []))
+    ∙ ap (λ n. spell (changes ++ put (key kind.Indexes i []) (index_bytes target.table target.column n) ∷ [])) count
 
-settled_rows : (ts : Tables) (i : List ℕ) (x : Index) (rows : List ℤ) → pending_rows x ≡ rows → settled_with i (target_of x) (target_text ts (target_of x)) (x.given + 1) rows ≡ sync_rows_words ts i x rows
+settled_rows : (ts : Tables) (i : List ℕ) (x : Index) (rows : List ℤ) → pending_rows x ≡ rows → settled_with i (target_of x) (target_text ts (target_of x)) (x.given + 1) rows ≡ sync_rows_changes ts i x rows
 settled_rows ts i x [] is = refl
 settled_rows ts i x (r ∷ rs) is =
     let count : x.given + 1 + length (r ∷ rs) ≡ x.given + length (pending_rows x) + 1 = let l : length (pending_rows x) ≡ length (r ∷ rs) = ap length is in omega arith in
     ap (λ n. each (settle_with i (target_text ts (target_of x))) (numbered (x.given + 1) (r ∷ rs)) ++ put (key kind.Indexes i []) (index_bytes x.table x.column n) ∷ []) count
 
--- the words for what was read of the index are those of its synchronisation
+-- the changes for what was read of the index are those of its synchronisation
 settled_is : (ts : Tables) (i : List ℕ) (x : Index) (target : Target) (first : ℕ) (rows : List ℤ) → target ≡ target_of x → first ≡ x.given + 1 → rows ≡ pending_rows x
-    → settled_with i target (target_text ts target) first rows ≡ sync_words ts i x
+    → settled_with i target (target_text ts target) first rows ≡ sync_changes ts i x
 settled_is ts i x target first rows t f r =
     ap (λ (u : Target). settled_with i u (target_text ts u) first rows) t
     ∙ ap (λ n. settled_with i (target_of x) (target_text ts (target_of x)) n rows) f
     ∙ ap (settled_with i (target_of x) (target_text ts (target_of x)) (x.given + 1)) r
     ∙ settled_rows ts i x (pending_rows x) refl
 
--- what the words for what was read say of the index
-pub settled_says : (ts : Tables) (i : List ℕ) (x : Index) (target : Target) (first : ℕ) (rows : List RowKey) → target ≡ target_of x → first ≡ x.given + 1 → keys rows ≡ pending_rows x → (result : Result (Option Words) KeepFault)
-    → IfOk result (λ words. MatchOption words (2 ^ 32 ≤ first + length rows) (λ ws. (first + length rows < 2 ^ 32) × (ws ≡ spell (settled_with i target (target_text ts target) first (keys rows)))))
-    → IfOk result (λ words. MatchOption words (most_given < x.given + length (pending_rows x)) (λ ws. (x.given + length (pending_rows x) ≤ most_given) × (ws ≡ spell (sync_words ts i x))))
+-- what the changes for what was read say of the index
+pub settled_says : (ts : Tables) (i : List ℕ) (x : Index) (target : Target) (first : ℕ) (rows : List RowKey) → target ≡ target_of x → first ≡ x.given + 1 → keys rows ≡ pending_rows x → (result : Result (Option Changes) KeepFault)
+    → IfOk result (λ changes. MatchOption changes (2 ^ 32 ≤ first + length rows) (λ ws. (first + length rows < 2 ^ 32) × (ws ≡ spell (settled_with i target (target_text ts target) first (keys rows)))))
+    → IfOk result (λ changes. MatchOption changes (most_given < x.given + length (pending_rows x)) (λ ws. (x.given + length (pending_rows x) ≤ most_given) × (ws ≡ spell (sync_changes ts i x))))
 settled_says ts i x target first rows t f r result says = go result says
   where
     count : length rows ≡ length (pending_rows x)
     count = sym (length-map rows (λ (r : RowKey). r.0)) ∙ ap length r
 
-    go : (result : Result (Option Words) KeepFault)
-        → IfOk result (λ words. MatchOption words (2 ^ 32 ≤ first + length rows) (λ ws. (first + length rows < 2 ^ 32) × (ws ≡ spell (settled_with i target (target_text ts target) first (keys rows)))))
-        → IfOk result (λ words. MatchOption words (most_given < x.given + length (pending_rows x)) (λ ws. (x.given + length (pending_rows x) ≤ most_given) × (ws ≡ spell (sync_words ts i x))))
+    go : (result : Result (Option Changes) KeepFault)
+        → IfOk result (λ changes. MatchOption changes (2 ^ 32 ≤ first + length rows) (λ ws. (first + length rows < 2 ^ 32) × (ws ≡ spell (settled_with i target (target_text ts target) first (keys rows)))))
+        → IfOk result (λ changes. MatchOption changes (most_given < x.given + length (pending_rows x)) (λ ws. (x.given + length (pending_rows x) ≤ most_given) × (ws ≡ spell (sync_changes ts i x))))
     go (Err fault) says = tt
     go (Ok None) says = let n = count in omega arith
     go (Ok (Some ws)) says = (let n = count in let room = says.0 in omega arith, says.1 ∙ ap spell (settled_is ts i x target first (keys rows) t f r))
@@ -103,14 +103,14 @@ settled_says ts i x target first rows t f r result says = go result says
 pub count_created : (ts : Tables) (t : List ℕ) (range : KeyRange) (rows : List RowKey) → keys rows ≡ rows_in ts t range → length rows ≡ length (rows_in ts t range)
 count_created ts t range rows are = sym (length-map rows (λ (r : RowKey). r.0)) ∙ ap length are
 
--- the word of its entry was added, and then those of its rows
-pub created_added : (ts : Tables) (i : List ℕ) (target : Target) (range : KeyRange) (rows : List RowKey) (next : ℕ) (none first new : Words) → keys rows ≡ rows_in ts target.table range → next ≡ 1 + length rows → none ≡ []
+-- the change of its entry was added, and then those of its rows
+pub created_added : (ts : Tables) (i : List ℕ) (target : Target) (range : KeyRange) (rows : List RowKey) (next : ℕ) (none first new : Changes) → keys rows ≡ rows_in ts target.table range → next ≡ 1 + length rows → none ≡ []
     → first ≡ none ++ spell (put (key kind.Indexes i []) (index_bytes target.table target.column next) ∷ [])
     → new ≡ first ++ spell (each (mark_with i (target_text ts target)) (numbered 1 (keys rows)))
-    → new ≡ spell (create_words ts i target range)
+    → new ≡ spell (create_changes ts i target range)
 created_added ts i target range rows next none first new are next_is empty entry marks =
     let number : next ≡ length (rows_in ts target.table range) + 1 = let count = count_created ts target.table range rows are in omega (arith, next_is, count) in
     marks
-    ∙ ap (λ (b : Words). b ++ spell (each (mark_with i (target_text ts target)) (numbered 1 (keys rows)))) (entry ∙ ap (λ (b : Words). b ++ spell (put (key kind.Indexes i []) (index_bytes target.table target.column next) ∷ [])) empty)
+    ∙ ap (λ (b : Changes). b ++ spell (each (mark_with i (target_text ts target)) (numbered 1 (keys rows)))) (entry ∙ ap (λ (b : Changes). b ++ spell (put (key kind.Indexes i []) (index_bytes target.table target.column next) ∷ [])) empty)
     ∙ ap (λ n. spell (put (key kind.Indexes i []) (index_bytes target.table target.column n) ∷ each (mark_with i (target_text ts target)) (numbered 1 (keys rows)))) number
     ∙ ap (λ l. spell (put (key kind.Indexes i []) (index_bytes target.table target.column (length (rows_in ts target.table range) + 1)) ∷ each (mark_with i (target_text ts target)) (numbered 1 l))) are

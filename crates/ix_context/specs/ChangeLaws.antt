@@ -1,4 +1,4 @@
--- What words make of entries that spell indexes: what statements make of the indexes.
+-- What changes make of entries that spell indexes: what statements make of the indexes.
 use Rattle.std.proofs.Common.{◌≡◌, ℕ, ℤ, ◌+◌, ◌≤◌, ◌<◌, ◌^◌, Bool, true, false, cond, List, [], ◌∷◌, length, map, Option, Some, None, refl, sym, ap, subst, ◌∙◌, arith}
 use Rattle.std.specs.Prelude.{◌||◌, is_some, not, filter}
 use Rattle.std.specs.Option.{option_map, option_and_then}
@@ -10,7 +10,7 @@ use Rattle.ct_base.specs.declared.lists.Value.{Value}
 use Rattle.ct_entry.specs.declared.kinds.Kind.{Kind}
 use Rattle.ct_entry.specs.declared.kinds.Kind.TheVariants as kind
 use Rattle.ct_entry.specs.Keys.{Key, key, same_list, IsRow}
-use Rattle.ct_entry.specs.Words.{put, told, view, AllOf}
+use Rattle.ct_entry.specs.Changes.{put, told, view, AllOf}
 use Rattle.ct_entry.specs.Each.{each}
 use Rattle.ct_entry.specs.EachLaws.{all_each}
 use Rattle.ct_entry.specs.KeyLaws.{list_from_same, list_same, key_same}
@@ -19,7 +19,7 @@ use Rattle.ct_entry.specs.Maps.{Names, alter}
 use Rattle.ct_entry.specs.MapLaws.{get_name-insert, get_name-alter, get_row-insert, get-each_value}
 use Rattle.ct_entry.specs.Listings.{keys_where}
 use Rattle.ct_entry.specs.RowLaws.{keys_below, keys_rise, listed_rise, has_key, keys_always}
-use Rattle.ct_entry.specs.WordLaws.{told_frame, told-append, view-append}
+use Rattle.ct_entry.specs.ChangeLaws.{told_frame, told-append, view-append}
 use Rattle.ct_keep.specs.RisingKeys.{and_true, and_both}
 use Rattle.tb_table.specs.declared.columns.Column.{Column}
 use Rattle.tb_table.specs.declared.columns.Target.{Target}
@@ -32,7 +32,7 @@ use Rattle.ix_context.specs.Indexes.{Index, Mark, Pending, Marked, mark_of, is_m
 use Rattle.ix_context.specs.Rules.{IsIndex, AreIndexes, most_given}
 use Rattle.ix_context.specs.Postings.{postings_of}
 use Rattle.ix_context.specs.Spelling.{IndexesStand, index_bytes, index_entry, queued}
-use Rattle.ix_context.specs.Changes.{note_insert_words, posting_word, text_words, document_words, mark_words, numbered, settle_words, sync_rows_words, sync_words, create_words}
+use Rattle.ix_context.specs.Changes.{note_insert_changes, posting_change, text_changes, document_changes, mark_changes, numbered, settle_changes, sync_rows_changes, sync_changes, create_changes}
 use Rattle.ix_context.specs.Standing.{MarksStand, IndexStands, seen_in, stand_at, stand_all, index_sees, marks_see, one_changes, AllOn, all_on-append, all_on-each}
 use Rattle.ix_context.specs.MarkLaws.{with_mark, marks_marked, marks_queued, marks_settled, EachRow, each_among, marked_in, marked_in-at, marks_all}
 
@@ -50,17 +50,17 @@ IndexesStayWithRows = (f : Key → Option (List ℕ)) (ts : Tables) (xs : Names 
 -- after the note of a row that is new in an index
 abbrev pub NotedRowsStand : Type 0
 NotedRowsStand = (f : Key → Option (List ℕ)) (ts : Tables) (xs : Names Index) (i : List ℕ) (x : Index) (r : ℤ) → get xs i ≡ Some x → get x.marks r ≡ None → IsRow r → IndexesStand f ts xs
-    → IndexesStand (view (note_insert_words i r) f) ts (noted xs i r)
+    → IndexesStand (view (note_insert_changes i r) f) ts (noted xs i r)
 
 -- after a synchronisation that has numbers for the rows that wait
 abbrev pub SyncedIndexesStand : Type 0
 SyncedIndexesStand = (f : Key → Option (List ℕ)) (ts : Tables) (xs : Names Index) (i : List ℕ) (x : Index) → get xs i ≡ Some x → x.given + length (pending_rows x) ≤ most_given → AreTables ts → AreIndexes ts xs → IndexesStand f ts xs
-    → IndexesStand (view (sync_words ts i x) f) ts (synced xs i)
+    → IndexesStand (view (sync_changes ts i x) f) ts (synced xs i)
 
 -- after CREATE INDEX of a name that is free, where there are numbers for the rows
 abbrev pub CreatedIndexesStand : Type 0
 CreatedIndexesStand = (f : Key → Option (List ℕ)) (ts : Tables) (xs : Names Index) (i : List ℕ) (target : Target) (range : KeyRange) → get xs i ≡ None → length (rows_in ts target.table range) ≤ most_given → AreTables ts → IndexesStand f ts xs
-    → IndexesStand (view (create_words ts i target range) f) ts (with_index ts xs i target range)
+    → IndexesStand (view (create_changes ts i target range) f) ts (with_index ts xs i target range)
 
 -- ---- new tables and rows
 
@@ -123,16 +123,16 @@ pub note_stands : NotedRowsStand
 note_stands f ts xs i x r is free is_row stand =
     let before : IndexStands f ts i (Some x) = subst (IndexStands f ts i) is (stand_at f ts xs stand i) in
     let waits = marks_queued f i (text_seen ts x) (get x.marks) x.given r (Some Pending) is_row (ap is_marked free) refl before.marks in
-    one_changes f ts xs (noted xs i r) i (note_insert_words i r) (refl, tt) (get-alter_other xs i (waiting r)) stand
-    (subst (IndexStands (view (note_insert_words i r) f) ts i) (sym (get-alter_there xs i (waiting r) x is))
+    one_changes f ts xs (noted xs i r) i (note_insert_changes i r) (refl, tt) (get-alter_other xs i (waiting r)) stand
+    (subst (IndexStands (view (note_insert_changes i r) f) ts i) (sym (get-alter_there xs i (waiting r) x is))
     (record {
       entry = before.entry;
-      marks = marks_alike (view (note_insert_words i r) f) i (text_seen ts x) (with_mark r (Some Pending) (get x.marks)) (get (insert x.marks r Pending)) x.given x.given (λ s. sym (get_row-insert x.marks r Pending s)) refl waits;
+      marks = marks_alike (view (note_insert_changes i r) f) i (text_seen ts x) (with_mark r (Some Pending) (get x.marks)) (get (insert x.marks r Pending)) x.given x.given (λ s. sym (get_row-insert x.marks r Pending s)) refl waits;
     }))
 
 -- ---- the entry of the index
 
--- its word leaves the marks
+-- its change leaves the marks
 entry_put : (f : Key → Option (List ℕ)) (i : List ℕ) (v : List ℕ) (text : ℤ → Option (List ℕ)) (mark : ℤ → Option Mark) (given : ℕ) → MarksStand f i text mark given → MarksStand (view (put (key kind.Indexes i []) v ∷ []) f) i text mark given
 entry_put f i v text mark given marks = record {
   document = marks.document;
@@ -151,7 +151,7 @@ entry_put f i v text mark given marks = record {
 entry_here : (i : List ℕ) (v : List ℕ) (old : Option (List ℕ)) → told (put (key kind.Indexes i []) v ∷ []) (key kind.Indexes i []) old ≡ Some v
 entry_here i v old = ap (λ (b : Bool). cond b (Some v) old) (key_same (key kind.Indexes i []))
 
--- the kinds of the words that mark rows
+-- the kinds of the changes that mark rows
 abbrev pub is_of_marks : Kind → Bool
 is_of_marks kind.DocumentRows = true
 is_of_marks kind.RowDocuments = true
@@ -159,36 +159,36 @@ is_of_marks kind.Pending = true
 is_of_marks kind.Postings = true
 is_of_marks k = false
 
-pub all_document : (i : List ℕ) (d : ℕ) (r : ℤ) (text : Option (List ℕ)) → AllOf is_of_marks (document_words i d r text)
+pub all_document : (i : List ℕ) (d : ℕ) (r : ℤ) (text : Option (List ℕ)) → AllOf is_of_marks (document_changes i d r text)
 all_document i d r text = (refl, (refl, of_text text))
   where
-    of_entries : (es : List (List ℕ × List ℕ)) → AllOf is_of_marks (map (posting_word i d) es)
+    of_entries : (es : List (List ℕ × List ℕ)) → AllOf is_of_marks (map (posting_change i d) es)
     of_entries [] = tt
     of_entries (e ∷ es) = (refl, of_entries es)
 
-    of_text : (text : Option (List ℕ)) → AllOf is_of_marks (text_words i d text)
+    of_text : (text : Option (List ℕ)) → AllOf is_of_marks (text_changes i d text)
     of_text None = tt
     of_text (Some t) = of_entries (entries (postings_of t))
 
-all_on_texts : (i : List ℕ) (d : ℕ) (text : Option (List ℕ)) → AllOn i (text_words i d text)
+all_on_texts : (i : List ℕ) (d : ℕ) (text : Option (List ℕ)) → AllOn i (text_changes i d text)
 all_on_texts i d None = tt
 all_on_texts i d (Some t) = go (entries (postings_of t))
   where
-    go : (es : List (List ℕ × List ℕ)) → AllOn i (map (posting_word i d) es)
+    go : (es : List (List ℕ × List ℕ)) → AllOn i (map (posting_change i d) es)
     go [] = tt
     go (e ∷ es) = (refl, go es)
 
-pub all_on_document : (i : List ℕ) (d : ℕ) (r : ℤ) (text : Option (List ℕ)) → AllOn i (document_words i d r text)
+pub all_on_document : (i : List ℕ) (d : ℕ) (r : ℤ) (text : Option (List ℕ)) → AllOn i (document_changes i d r text)
 all_on_document i d r text = (refl, (refl, all_on_texts i d text))
 
-pub all_on_sync : (ts : Tables) (i : List ℕ) (x : Index) (rows : List ℤ) → AllOn i (sync_rows_words ts i x rows)
+pub all_on_sync : (ts : Tables) (i : List ℕ) (x : Index) (rows : List ℤ) → AllOn i (sync_rows_changes ts i x rows)
 all_on_sync ts i x [] = tt
-all_on_sync ts i x (r ∷ rs) = all_on-append i (each (settle_words ts i x) (numbered (x.given + 1) (r ∷ rs))) _ (all_on-each i (settle_words ts i x) (λ p. (refl, all_on_document i p.0 p.1 (text_seen ts x p.1))) (numbered (x.given + 1) (r ∷ rs))) (refl, tt)
+all_on_sync ts i x (r ∷ rs) = all_on-append i (each (settle_changes ts i x) (numbered (x.given + 1) (r ∷ rs))) _ (all_on-each i (settle_changes ts i x) (λ p. (refl, all_on_document i p.0 p.1 (text_seen ts x p.1))) (numbered (x.given + 1) (r ∷ rs))) (refl, tt)
 
-pub all_on_create : (ts : Tables) (i : List ℕ) (target : Target) (range : KeyRange) → AllOn i (create_words ts i target range)
+pub all_on_create : (ts : Tables) (i : List ℕ) (target : Target) (range : KeyRange) → AllOn i (create_changes ts i target range)
 all_on_create ts i target range = (
   refl,
-  all_on-each i (λ (p : ℕ × ℤ). mark_words ts i (created ts target range) p.0 p.1) (λ p. all_on_document i p.0 p.1 (text_seen ts (created ts target range) p.1)) (numbered 1 (rows_in ts target.table range)),
+  all_on-each i (λ (p : ℕ × ℤ). mark_changes ts i (created ts target range) p.0 p.1) (λ p. all_on_document i p.0 p.1 (text_seen ts (created ts target range) p.1)) (numbered 1 (rows_in ts target.table range)),
 )
 
 -- ---- a synchronisation
@@ -242,35 +242,35 @@ synced_mark x r =
     go (Some Marked) = refl
 
 marks_synced : (f : Key → Option (List ℕ)) (ts : Tables) (i : List ℕ) (x : Index) → x.given + length (pending_rows x) ≤ most_given → AreTables ts → IsIndex ts x → MarksStand f i (text_seen ts x) (get x.marks) x.given
-    → MarksStand (view (each (settle_words ts i x) (numbered (x.given + 1) (pending_rows x))) f) i (text_seen ts x) (get (synced_index x).marks) (synced_index x).given
+    → MarksStand (view (each (settle_changes ts i x) (numbered (x.given + 1) (pending_rows x))) f) i (text_seen ts x) (get (synced_index x).marks) (synced_index x).given
 marks_synced f ts i x room are is marks =
-    marks_alike (view (each (settle_words ts i x) (numbered (x.given + 1) (pending_rows x))) f) i (text_seen ts x) (marked_in (pending_rows x) (get x.marks)) (get (synced_index x).marks) (x.given + length (pending_rows x)) (synced_index x).given (synced_mark x) refl
-    (marks_all (settle_words ts i x) i (text_seen ts x) (λ m. not (is_marked m)) step (pending_rows x) f (get x.marks) x.given (pending_rise x) (pending_free ts x are is) (omega arith) marks)
+    marks_alike (view (each (settle_changes ts i x) (numbered (x.given + 1) (pending_rows x))) f) i (text_seen ts x) (marked_in (pending_rows x) (get x.marks)) (get (synced_index x).marks) (x.given + length (pending_rows x)) (synced_index x).given (synced_mark x) refl
+    (marks_all (settle_changes ts i x) i (text_seen ts x) (λ m. not (is_marked m)) step (pending_rows x) f (get x.marks) x.given (pending_rise x) (pending_free ts x are is) (omega arith) marks)
   where
     step : (g : Key → Option (List ℕ)) (mark : ℤ → Option Mark) (given : ℕ) (r : ℤ) → IsRow r → not (is_marked (mark r)) ≡ true → given + 1 < 2 ^ 32 → MarksStand g i (text_seen ts x) mark given
-        → MarksStand (view (settle_words ts i x (given + 1, r)) g) i (text_seen ts x) (with_mark r (Some Marked) mark) (given + 1)
+        → MarksStand (view (settle_changes ts i x (given + 1, r)) g) i (text_seen ts x) (with_mark r (Some Marked) mark) (given + 1)
     step g mark given r is_row free room marks = marks_settled g i (text_seen ts x) mark given r is_row (not_true _ free) room marks
 
-synced_stands : (f : Key → Option (List ℕ)) (ts : Tables) (i : List ℕ) (x : Index) → x.given + length (pending_rows x) ≤ most_given → AreTables ts → IsIndex ts x → IndexStands f ts i (Some x) → IndexStands (view (sync_words ts i x) f) ts i (Some (synced_index x))
+synced_stands : (f : Key → Option (List ℕ)) (ts : Tables) (i : List ℕ) (x : Index) → x.given + length (pending_rows x) ≤ most_given → AreTables ts → IsIndex ts x → IndexStands f ts i (Some x) → IndexStands (view (sync_changes ts i x) f) ts i (Some (synced_index x))
 synced_stands f ts i x room are is stand = go (pending_rows x) refl (marks_synced f ts i x room are is stand.marks)
   where
-    go : (rows : List ℤ) → pending_rows x ≡ rows → MarksStand (view (each (settle_words ts i x) (numbered (x.given + 1) rows)) f) i (text_seen ts x) (get (synced_index x).marks) (synced_index x).given
-        → IndexStands (view (sync_rows_words ts i x rows) f) ts i (Some (synced_index x))
+    go : (rows : List ℤ) → pending_rows x ≡ rows → MarksStand (view (each (settle_changes ts i x) (numbered (x.given + 1) rows)) f) i (text_seen ts x) (get (synced_index x).marks) (synced_index x).given
+        → IndexStands (view (sync_rows_changes ts i x rows) f) ts i (Some (synced_index x))
     go [] none marks =
         let same : x.given ≡ (synced_index x).given = let count : length (pending_rows x) ≡ 0 = ap length none in omega arith in
         record { entry = stand.entry ∙ ap (λ (n : ℕ). Some (index_bytes x.table x.column (n + 1))) same; marks = marks }
     go (r ∷ rs) some marks =
-        let words = each (settle_words ts i x) (numbered (x.given + 1) (r ∷ rs)) in
+        let changes = each (settle_changes ts i x) (numbered (x.given + 1) (r ∷ rs)) in
         let last = put (key kind.Indexes i []) (index_entry (synced_index x)) ∷ [] in
         record {
-          entry = told-append words last (key kind.Indexes i []) (f (key kind.Indexes i [])) ∙ entry_here i (index_entry (synced_index x)) (told words (key kind.Indexes i []) (f (key kind.Indexes i [])));
-          marks = subst (λ (g : Key → Option (List ℕ)). MarksStand g i (text_seen ts x) (get (synced_index x).marks) (synced_index x).given) (sym (view-append words last f)) (entry_put (view words f) i (index_entry (synced_index x)) (text_seen ts x) (get (synced_index x).marks) (synced_index x).given marks);
+          entry = told-append changes last (key kind.Indexes i []) (f (key kind.Indexes i [])) ∙ entry_here i (index_entry (synced_index x)) (told changes (key kind.Indexes i []) (f (key kind.Indexes i [])));
+          marks = subst (λ (g : Key → Option (List ℕ)). MarksStand g i (text_seen ts x) (get (synced_index x).marks) (synced_index x).given) (sym (view-append changes last f)) (entry_put (view changes f) i (index_entry (synced_index x)) (text_seen ts x) (get (synced_index x).marks) (synced_index x).given marks);
         }
 
 pub sync_stands : SyncedIndexesStand
 sync_stands f ts xs i x is room are rules stand =
-    one_changes f ts xs (synced xs i) i (sync_words ts i x) (all_on_sync ts i x (pending_rows x)) (get-alter_other xs i synced_index) stand
-    (subst (IndexStands (view (sync_words ts i x) f) ts i) (sym (get-alter_there xs i synced_index x is))
+    one_changes f ts xs (synced xs i) i (sync_changes ts i x) (all_on_sync ts i x (pending_rows x)) (get-alter_other xs i synced_index) stand
+    (subst (IndexStands (view (sync_changes ts i x) f) ts i) (sym (get-alter_there xs i synced_index x is))
     (synced_stands f ts i x room are (rules.each i x is) (subst (IndexStands f ts i) is (stand_at f ts xs stand i))))
 
 -- ---- a new index
@@ -354,26 +354,26 @@ not_some (Some m) h = cc
 
 marks_created : (f : Key → Option (List ℕ)) (ts : Tables) (i : List ℕ) (target : Target) (range : KeyRange) → length (rows_in ts target.table range) ≤ most_given → AreTables ts
     → MarksStand f i (λ _. None) no_marks 0
-    → MarksStand (view (each (λ (p : ℕ × ℤ). mark_words ts i (created ts target range) p.0 p.1) (numbered 1 (rows_in ts target.table range))) f) i (text_seen ts (created ts target range)) (get (created ts target range).marks) (created ts target range).given
+    → MarksStand (view (each (λ (p : ℕ × ℤ). mark_changes ts i (created ts target range) p.0 p.1) (numbered 1 (rows_in ts target.table range))) f) i (text_seen ts (created ts target range)) (get (created ts target range).marks) (created ts target range).given
 marks_created f ts i target range room are marks =
     let x = created ts target range in
     let rows = rows_in ts target.table range in
-    marks_alike (view (each (λ (p : ℕ × ℤ). mark_words ts i x p.0 p.1) (numbered 1 rows)) f) i (text_seen ts x) (marked_in rows no_marks) (get x.marks) (0 + length rows) x.given (λ s. marked_in-at rows no_marks s ∙ sym (marked_row rows s)) (omega arith)
-    (marks_all (λ (p : ℕ × ℤ). mark_words ts i x p.0 p.1) i (text_seen ts x) (λ m. not (is_some m)) step rows f no_marks 0 (filter_rise (in_range range) (row_keys ts target.table) (rows_rise ts target.table)) (rows_free ts are target.table range) (omega arith)
+    marks_alike (view (each (λ (p : ℕ × ℤ). mark_changes ts i x p.0 p.1) (numbered 1 rows)) f) i (text_seen ts x) (marked_in rows no_marks) (get x.marks) (0 + length rows) x.given (λ s. marked_in-at rows no_marks s ∙ sym (marked_row rows s)) (omega arith)
+    (marks_all (λ (p : ℕ × ℤ). mark_changes ts i x p.0 p.1) i (text_seen ts x) (λ m. not (is_some m)) step rows f no_marks 0 (filter_rise (in_range range) (row_keys ts target.table) (rows_rise ts target.table)) (rows_free ts are target.table range) (omega arith)
     (marks_see f i (λ _. None) (text_seen ts x) no_marks 0 (λ r h. cc) marks))
   where
     step : (g : Key → Option (List ℕ)) (mark : ℤ → Option Mark) (given : ℕ) (r : ℤ) → IsRow r → not (is_some (mark r)) ≡ true → given + 1 < 2 ^ 32 → MarksStand g i (text_seen ts (created ts target range)) mark given
-        → MarksStand (view (mark_words ts i (created ts target range) (given + 1) r) g) i (text_seen ts (created ts target range)) (with_mark r (Some Marked) mark) (given + 1)
+        → MarksStand (view (mark_changes ts i (created ts target range) (given + 1) r) g) i (text_seen ts (created ts target range)) (with_mark r (Some Marked) mark) (given + 1)
     step g mark given r is_row free room marks = marks_marked g i (text_seen ts (created ts target range)) mark given r is_row (not_some _ free) room marks
 
-created_stands : (f : Key → Option (List ℕ)) (ts : Tables) (i : List ℕ) (target : Target) (range : KeyRange) → length (rows_in ts target.table range) ≤ most_given → AreTables ts → IndexStands f ts i None → IndexStands (view (create_words ts i target range) f) ts i (Some (created ts target range))
+created_stands : (f : Key → Option (List ℕ)) (ts : Tables) (i : List ℕ) (target : Target) (range : KeyRange) → length (rows_in ts target.table range) ≤ most_given → AreTables ts → IndexStands f ts i None → IndexStands (view (create_changes ts i target range) f) ts i (Some (created ts target range))
 created_stands f ts i target range room are stand =
     let x = created ts target range in
     let first = put (key kind.Indexes i []) (index_entry x) ∷ [] in
-    let words = each (λ (p : ℕ × ℤ). mark_words ts i x p.0 p.1) (numbered 1 (rows_in ts target.table range)) in
+    let changes = each (λ (p : ℕ × ℤ). mark_changes ts i x p.0 p.1) (numbered 1 (rows_in ts target.table range)) in
     record {
       entry =
-          told_frame is_of_marks words (key kind.Indexes i []) (told first (key kind.Indexes i []) (f (key kind.Indexes i []))) (all_each is_of_marks (λ (p : ℕ × ℤ). mark_words ts i x p.0 p.1) (λ p. all_document i p.0 p.1 (text_seen ts x p.1)) (numbered 1 (rows_in ts target.table range))) refl
+          told_frame is_of_marks changes (key kind.Indexes i []) (told first (key kind.Indexes i []) (f (key kind.Indexes i []))) (all_each is_of_marks (λ (p : ℕ × ℤ). mark_changes ts i x p.0 p.1) (λ p. all_document i p.0 p.1 (text_seen ts x p.1)) (numbered 1 (rows_in ts target.table range))) refl
           ∙ entry_here i (index_entry x) (f (key kind.Indexes i []));
       marks = marks_created (view first f) ts i target range room are (entry_put f i (index_entry x) (λ _. None) no_marks 0 stand.marks);
     }
@@ -381,6 +381,6 @@ created_stands f ts i target range room are stand =
 pub create_stands : CreatedIndexesStand
 create_stands f ts xs i target range free room are stand =
     let x = created ts target range in
-    one_changes f ts xs (with_index ts xs i target range) i (create_words ts i target range) (all_on_create ts i target range) (λ q other. get_name-insert xs i x q ∙ ap (λ (b : Bool). cond b (Some x) (get xs q)) other) stand
-    (subst (IndexStands (view (create_words ts i target range) f) ts i) (sym (get_name-insert xs i x i ∙ ap (λ (b : Bool). cond b (Some x) (get xs i)) (list_same i)))
+    one_changes f ts xs (with_index ts xs i target range) i (create_changes ts i target range) (all_on_create ts i target range) (λ q other. get_name-insert xs i x q ∙ ap (λ (b : Bool). cond b (Some x) (get xs q)) other) stand
+    (subst (IndexStands (view (create_changes ts i target range) f) ts i) (sym (get_name-insert xs i x i ∙ ap (λ (b : Bool). cond b (Some x) (get xs i)) (list_same i)))
     (created_stands f ts i target range room are (subst (IndexStands f ts i) free (stand_at f ts xs stand i))))

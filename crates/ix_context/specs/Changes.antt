@@ -5,7 +5,7 @@ use Rattle.std.specs.FinMap.{entries}
 use Rattle.ct_bytes.specs.RowKeys.{row_bytes}
 use Rattle.ct_entry.specs.declared.kinds.Kind.TheVariants as kind
 use Rattle.ct_entry.specs.Keys.{Key, key, row_part, document_part, posting_part}
-use Rattle.ct_entry.specs.Words.{put, drop_key, spell}
+use Rattle.ct_entry.specs.Changes.{put, drop_key, spell}
 use Rattle.ct_entry.specs.Each.{each}
 use Rattle.tb_table.specs.declared.columns.Target.{Target}
 use Rattle.tb_table.specs.Tables.{Tables}
@@ -18,32 +18,32 @@ use Rattle.std.proofs.Common.{ap}
 use Rattle.ct_bytes.specs.Varints.{varint}
 
 -- a row that is new in an index waits
-abbrev pub note_insert_words : List ℕ → ℤ → List (Key × Option (List ℕ))
-note_insert_words i r = put (key kind.Pending i (row_part r)) [] ∷ []
+abbrev pub note_insert_changes : List ℕ → ℤ → List (Key × Option (List ℕ))
+note_insert_changes i r = put (key kind.Pending i (row_part r)) [] ∷ []
 
 -- the row of postings of a key that one document has at these positions
-abbrev pub posting_word : List ℕ → ℕ → List ℕ × List ℕ → Key × Option (List ℕ)
-posting_word i d e = put (key kind.Postings i (posting_part 0 e.0 d)) (posting_bytes (record { document = d; positions = e.1 } ∷ []))
+abbrev pub posting_change : List ℕ → ℕ → List ℕ × List ℕ → Key × Option (List ℕ)
+posting_change i d e = put (key kind.Postings i (posting_part 0 e.0 d)) (posting_bytes (record { document = d; positions = e.1 } ∷ []))
 
 -- a row of postings for each key of a document's text, in the order of the keys' bytes; none where there is no text
-abbrev pub text_words : List ℕ → ℕ → Option (List ℕ) → List (Key × Option (List ℕ))
-text_words i d None = []
-text_words i d (Some text) = map (posting_word i d) (entries (postings_of text))
+abbrev pub text_changes : List ℕ → ℕ → Option (List ℕ) → List (Key × Option (List ℕ))
+text_changes i d None = []
+text_changes i d (Some text) = map (posting_change i d) (entries (postings_of text))
 
 -- a row becomes this document of an index, with the postings of its text, if it has one
-abbrev pub document_words : List ℕ → ℕ → ℤ → Option (List ℕ) → List (Key × Option (List ℕ))
-document_words i d r text =
+abbrev pub document_changes : List ℕ → ℕ → ℤ → Option (List ℕ) → List (Key × Option (List ℕ))
+document_changes i d r text =
     put (key kind.DocumentRows i (document_part d)) (row_bytes r)
     ∷ put (key kind.RowDocuments i (row_part r)) (to_be_bytes w32 d)
-    ∷ text_words i d text
+    ∷ text_changes i d text
 
 -- the same, with the text that the index sees
-abbrev pub mark_words : Tables → List ℕ → Index → ℕ → ℤ → List (Key × Option (List ℕ))
-mark_words ts i x d r = document_words i d r (text_seen ts x r)
+abbrev pub mark_changes : Tables → List ℕ → Index → ℕ → ℤ → List (Key × Option (List ℕ))
+mark_changes ts i x d r = document_changes i d r (text_seen ts x r)
 
 -- a row becomes a document, where rows have these texts
 abbrev pub mark_with : List ℕ → (ℤ → Option (List ℕ)) → ℕ × ℤ → List (Key × Option (List ℕ))
-mark_with i text p = document_words i p.0 p.1 (text p.1)
+mark_with i text p = document_changes i p.0 p.1 (text p.1)
 
 -- rows, each with a document: the first has this one, and each other the next
 abbrev pub numbered : ℕ → List ℤ → List (ℕ × ℤ)
@@ -55,46 +55,46 @@ abbrev pub settle_with : List ℕ → (ℤ → Option (List ℕ)) → ℕ × ℤ
 settle_with i text p = drop_key (key kind.Pending i (row_part p.1)) ∷ mark_with i text p
 
 -- the same, with the texts that the index sees
-abbrev pub settle_words : Tables → List ℕ → Index → ℕ × ℤ → List (Key × Option (List ℕ))
-settle_words ts i x p = settle_with i (text_seen ts x) p
+abbrev pub settle_changes : Tables → List ℕ → Index → ℕ × ℤ → List (Key × Option (List ℕ))
+settle_changes ts i x p = settle_with i (text_seen ts x) p
 
 -- each row that waits becomes a document, and the index has given these; nothing where no row waits
-abbrev pub sync_rows_words : Tables → List ℕ → Index → List ℤ → List (Key × Option (List ℕ))
-sync_rows_words ts i x [] = []
-sync_rows_words ts i x (r ∷ rs) = each (settle_words ts i x) (numbered (x.given + 1) (r ∷ rs)) ++ put (key kind.Indexes i []) (index_entry (synced_index x)) ∷ []
+abbrev pub sync_rows_changes : Tables → List ℕ → Index → List ℤ → List (Key × Option (List ℕ))
+sync_rows_changes ts i x [] = []
+sync_rows_changes ts i x (r ∷ rs) = each (settle_changes ts i x) (numbered (x.given + 1) (r ∷ rs)) ++ put (key kind.Indexes i []) (index_entry (synced_index x)) ∷ []
 
 -- the same for an index on a target that gives this document next, where rows have these texts
 abbrev pub settled_with : List ℕ → Target → (ℤ → Option (List ℕ)) → ℕ → List ℤ → List (Key × Option (List ℕ))
 settled_with i target text first [] = []
 settled_with i target text first (r ∷ rs) = each (settle_with i text) (numbered first (r ∷ rs)) ++ put (key kind.Indexes i []) (index_bytes target.table target.column (first + length (r ∷ rs))) ∷ []
 
-abbrev pub sync_words : Tables → List ℕ → Index → List (Key × Option (List ℕ))
-sync_words ts i x = sync_rows_words ts i x (pending_rows x)
+abbrev pub sync_changes : Tables → List ℕ → Index → List (Key × Option (List ℕ))
+sync_changes ts i x = sync_rows_changes ts i x (pending_rows x)
 
 -- a new index, of which each row in its range is a document
-abbrev pub create_words : Tables → List ℕ → Target → KeyRange → List (Key × Option (List ℕ))
-create_words ts i target range =
+abbrev pub create_changes : Tables → List ℕ → Target → KeyRange → List (Key × Option (List ℕ))
+create_changes ts i target range =
     put (key kind.Indexes i []) (index_entry (created ts target range))
-    ∷ each (λ (p : ℕ × ℤ). mark_words ts i (created ts target range) p.0 p.1) (numbered 1 (rows_in ts target.table range))
+    ∷ each (λ (p : ℕ × ℤ). mark_changes ts i (created ts target range) p.0 p.1) (numbered 1 (rows_in ts target.table range))
 
 -- computed examples
 one_after_the_other : numbered 5 (negsuc 2 ∷ pos 0 ∷ pos 7 ∷ []) ≡ (5, negsuc 2) ∷ (6, pos 0) ∷ (7, pos 7) ∷ []
 one_after_the_other = refl
 
-row_two_waits : spell (note_insert_words (codes "di") (pos 2)) ≡ (0x23 ∷ 2 ∷ 0x64 ∷ 0x69 ∷ 0x80 ∷ 0 ∷ 0 ∷ 0 ∷ 0 ∷ 0 ∷ 0 ∷ 2 ∷ [], Some []) ∷ []
+row_two_waits : spell (note_insert_changes (codes "di") (pos 2)) ≡ (0x23 ∷ 2 ∷ 0x64 ∷ 0x69 ∷ 0x80 ∷ 0 ∷ 0 ∷ 0 ∷ 0 ∷ 0 ∷ 0 ∷ 2 ∷ [], Some []) ∷ []
 unfolding row_bytes
 row_two_waits = refl
 
 -- the row 1 becomes the document 1, with a row of postings for each of its two words
-row_one_becomes_a_document : spell (document_words (codes "di") 1 (pos 1) (Some (codes "quick fox quick")))
+row_one_becomes_a_document : spell (document_changes (codes "di") 1 (pos 1) (Some (codes "quick fox quick")))
     ≡ (0x21 ∷ 2 ∷ 0x64 ∷ 0x69 ∷ 0 ∷ 0 ∷ 0 ∷ 1 ∷ [], Some (0x80 ∷ 0 ∷ 0 ∷ 0 ∷ 0 ∷ 0 ∷ 0 ∷ 1 ∷ []))
     ∷ (0x22 ∷ 2 ∷ 0x64 ∷ 0x69 ∷ 0x80 ∷ 0 ∷ 0 ∷ 0 ∷ 0 ∷ 0 ∷ 0 ∷ 1 ∷ [], Some (0 ∷ 0 ∷ 0 ∷ 1 ∷ []))
     ∷ (0x24 ∷ 2 ∷ 0x64 ∷ 0x69 ∷ 0 ∷ 3 ∷ codes "fox" ++ 0 ∷ 0 ∷ 0 ∷ 1 ∷ [], Some (1 ∷ 1 ∷ 1 ∷ 2 ∷ []))
     ∷ (0x24 ∷ 2 ∷ 0x64 ∷ 0x69 ∷ 0 ∷ 5 ∷ codes "quick" ++ 0 ∷ 0 ∷ 0 ∷ 1 ∷ [], Some (1 ∷ 1 ∷ 2 ∷ 1 ∷ 2 ∷ [])) ∷ []
 unfolding row_bytes varint
 row_one_becomes_a_document =
-    ap (λ (es : List (List ℕ × List ℕ)). spell (put (key kind.DocumentRows (codes "di") (document_part 1)) (row_bytes (pos 1)) ∷ put (key kind.RowDocuments (codes "di") (row_part (pos 1))) (to_be_bytes w32 1) ∷ map (posting_word (codes "di") 1) es)) fox_and_quick
+    ap (λ (es : List (List ℕ × List ℕ)). spell (put (key kind.DocumentRows (codes "di") (document_part 1)) (row_bytes (pos 1)) ∷ put (key kind.RowDocuments (codes "di") (row_part (pos 1))) (to_be_bytes w32 1) ∷ map (posting_change (codes "di") 1) es)) fox_and_quick
 
 -- nothing is put where no row waits
-nothing_to_settle : (ts : Tables) (x : Index) → sync_rows_words ts (codes "di") x [] ≡ []
+nothing_to_settle : (ts : Tables) (x : Index) → sync_rows_changes ts (codes "di") x [] ≡ []
 nothing_to_settle ts x = refl

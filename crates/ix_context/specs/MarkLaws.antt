@@ -1,4 +1,4 @@
--- What words make of the marks of one index.
+-- What changes make of the marks of one index.
 use Rattle.std.proofs.Common.{◌≡◌, ℕ, ℤ, ◌+◌, ◌≤◌, ◌<◌, ◌^◌, Bool, true, false, cond, List, [], ◌∷◌, length, map, Option, Some, None, refl, sym, ap, subst, ◌∙◌, arith}
 use Rattle.std.specs.Prelude.{◌==◌, ◌&&◌, ◌||◌, is_some}
 use Rattle.std.specs.Int.{to_be_bytes, w32}
@@ -13,54 +13,54 @@ use Rattle.ct_bytes.specs.RowKeys.{row_bytes}
 use Rattle.ct_entry.specs.declared.kinds.Kind.{Kind}
 use Rattle.ct_entry.specs.declared.kinds.Kind.TheVariants as kind
 use Rattle.ct_entry.specs.Keys.{Key, key, same, same_list, row_part, document_part, posting_part, span_part, IsRow, IsDocument, IsToken}
-use Rattle.ct_entry.specs.Words.{drop_key, told, view, AllOf}
+use Rattle.ct_entry.specs.Changes.{drop_key, told, view, AllOf}
 use Rattle.ct_entry.specs.Each.{each}
 use Rattle.ct_entry.specs.EachLaws.{told_each_none, map-each}
 use Rattle.ct_entry.specs.KeyLaws.{list_same}
 use Rattle.ct_entry.specs.PartLaws.{rows_tie, documents_tie, postings_tie, same_kind, int_from_eq, int_same}
 use Rattle.ct_entry.specs.MapLaws.{names_tie}
-use Rattle.ct_entry.specs.MapWords.{told_entries}
+use Rattle.ct_entry.specs.MapChanges.{told_entries}
 use Rattle.ct_entry.specs.RowLaws.{keys_below, keys_rise}
-use Rattle.ct_entry.specs.WordLaws.{told_frame, view-append}
+use Rattle.ct_entry.specs.ChangeLaws.{told_frame, view-append}
 use Rattle.ct_keep.specs.RisingKeys.{and_true}
 use Rattle.ix_posting.specs.Rows.{row_bytes as posting_bytes}
 use Rattle.ix_context.specs.Postings.{positions, postings_of, if_any}
 use Rattle.ix_context.specs.PostingLaws.{get-postings_of}
 use Rattle.ix_context.specs.Indexes.{Mark, Marked, is_marked}
 use Rattle.ix_context.specs.Spelling.{queued, posting_value}
-use Rattle.ix_context.specs.Changes.{posting_word, text_words, document_words, numbered}
+use Rattle.ix_context.specs.Changes.{posting_change, text_changes, document_changes, numbered}
 use Rattle.ix_context.specs.Standing.{AreNumbers, RowsStand, MarksStand}
 
--- ---- the kinds of a document's words
+-- ---- the kinds of a document's changes
 
 abbrev pub is_of_postings : Kind → Bool
 is_of_postings kind.Postings = true
 is_of_postings k = false
 
-all_of_map : (i : List ℕ) (d : ℕ) (es : List (List ℕ × List ℕ)) → AllOf is_of_postings (map (posting_word i d) es)
+all_of_map : (i : List ℕ) (d : ℕ) (es : List (List ℕ × List ℕ)) → AllOf is_of_postings (map (posting_change i d) es)
 all_of_map i d [] = tt
 all_of_map i d (e ∷ es) = (refl, all_of_map i d es)
 
-pub all_texts : (i : List ℕ) (d : ℕ) (text : Option (List ℕ)) → AllOf is_of_postings (text_words i d text)
+pub all_texts : (i : List ℕ) (d : ℕ) (text : Option (List ℕ)) → AllOf is_of_postings (text_changes i d text)
 all_texts i d None = tt
 all_texts i d (Some t) = all_of_map i d (entries (postings_of t))
 
--- ---- what keys have after a document's words
+-- ---- what keys have after a document's changes
 
 -- keys of one kind and owner
 pub same_own : (kind : Kind) (i p q : List ℕ) → same (key kind i p) (key kind i q) ≡ same_list p q
 same_own kind i p q = same_kind kind i i p q ∙ ap (λ (b : Bool). b && same_list p q) (list_same i)
 
 told_row_of : (i : List ℕ) (d : ℕ) (r : ℤ) (text : Option (List ℕ)) (e : ℕ) (old : Option (List ℕ)) → IsDocument d → IsDocument e
-    → told (document_words i d r text) (key kind.DocumentRows i (document_part e)) old ≡ cond (e == d) (Some (row_bytes r)) old
+    → told (document_changes i d r text) (key kind.DocumentRows i (document_part e)) old ≡ cond (e == d) (Some (row_bytes r)) old
 told_row_of i d r text e old doc doc' =
-    told_frame is_of_postings (text_words i d text) (key kind.DocumentRows i (document_part e)) (cond (same (key kind.DocumentRows i (document_part e)) (key kind.DocumentRows i (document_part d))) (Some (row_bytes r)) old) (all_texts i d text) refl
+    told_frame is_of_postings (text_changes i d text) (key kind.DocumentRows i (document_part e)) (cond (same (key kind.DocumentRows i (document_part e)) (key kind.DocumentRows i (document_part d))) (Some (row_bytes r)) old) (all_texts i d text) refl
     ∙ ap (λ (b : Bool). cond b (Some (row_bytes r)) old) (same_own kind.DocumentRows i (document_part e) (document_part d) ∙ documents_tie e d doc' doc)
 
 told_document_of : (i : List ℕ) (d : ℕ) (r : ℤ) (text : Option (List ℕ)) (s : ℤ) (old : Option (List ℕ)) → IsRow r → IsRow s
-    → told (document_words i d r text) (key kind.RowDocuments i (row_part s)) old ≡ cond (int_eq s r) (Some (to_be_bytes w32 d)) old
+    → told (document_changes i d r text) (key kind.RowDocuments i (row_part s)) old ≡ cond (int_eq s r) (Some (to_be_bytes w32 d)) old
 told_document_of i d r text s old row row' =
-    told_frame is_of_postings (text_words i d text) (key kind.RowDocuments i (row_part s)) (cond (same (key kind.RowDocuments i (row_part s)) (key kind.RowDocuments i (row_part r))) (Some (to_be_bytes w32 d)) old) (all_texts i d text) refl
+    told_frame is_of_postings (text_changes i d text) (key kind.RowDocuments i (row_part s)) (cond (same (key kind.RowDocuments i (row_part s)) (key kind.RowDocuments i (row_part r))) (Some (to_be_bytes w32 d)) old) (all_texts i d text) refl
     ∙ ap (λ (b : Bool). cond b (Some (to_be_bytes w32 d)) old) (same_own kind.RowDocuments i (row_part s) (row_part r) ∙ rows_tie s r row' row)
 
 -- the value of a row of postings with one document
@@ -73,10 +73,10 @@ same_posting i s s' token token' d d' doc doc' = same_own kind.Postings i (posti
 
 -- a key's row of postings in the document
 told_posting_of : (i : List ℕ) (d : ℕ) (t token : List ℕ) (old : Option (List ℕ)) → IsDocument d
-    → told (text_words i d (Some t)) (key kind.Postings i (posting_part 0 token d)) old ≡ option_map_or (one_row d) (if_any (positions token t)) old
+    → told (text_changes i d (Some t)) (key kind.Postings i (posting_part 0 token d)) old ≡ option_map_or (one_row d) (if_any (positions token t)) old
 told_posting_of i d t token old doc =
-    ap (λ ws. told ws (key kind.Postings i (posting_part 0 token d)) old) (map-each (posting_word i d) (entries (postings_of t)))
-    ∙ told_entries (slice_cmp nat_cmp) nat_list_cmp_total token (one_row d) (λ e. posting_word i d e ∷ []) (key kind.Postings i (posting_part 0 token d))
+    ap (λ ws. told ws (key kind.Postings i (posting_part 0 token d)) old) (map-each (posting_change i d) (entries (postings_of t)))
+    ∙ told_entries (slice_cmp nat_cmp) nat_list_cmp_total token (one_row d) (λ e. posting_change i d e ∷ []) (key kind.Postings i (posting_part 0 token d))
     (λ e old. ap (λ (b : Bool). cond b (one_row d e.1) old) (same_posting i 0 0 token e.0 d d doc doc ∙ here (same_list token e.0) (d == d) (eq-eqb d d refl) ∙ sym (names_tie token e.0)))
     (postings_of t) old
     ∙ ap (λ (o : Option (List ℕ)). option_map_or (one_row d) o old) (get-postings_of t token)
@@ -87,11 +87,11 @@ told_posting_of i d t token old doc =
 
 -- and all others, which stay
 told_other_posting : (i : List ℕ) (d : ℕ) (text : Option (List ℕ)) (s : ℕ) (token : List ℕ) (e : ℕ) (old : Option (List ℕ)) → IsDocument d → IsDocument e → ((s == 0) && (e == d)) ≡ false
-    → told (text_words i d text) (key kind.Postings i (posting_part s token e)) old ≡ old
+    → told (text_changes i d text) (key kind.Postings i (posting_part s token e)) old ≡ old
 told_other_posting i d None s token e old doc doc' other = refl
 told_other_posting i d (Some t) s token e old doc doc' other =
-    ap (λ ws. told ws (key kind.Postings i (posting_part s token e)) old) (map-each (posting_word i d) (entries (postings_of t)))
-    ∙ told_each_none (λ w. posting_word i d w ∷ []) (key kind.Postings i (posting_part s token e))
+    ap (λ ws. told ws (key kind.Postings i (posting_part s token e)) old) (map-each (posting_change i d) (entries (postings_of t)))
+    ∙ told_each_none (λ w. posting_change i d w ∷ []) (key kind.Postings i (posting_part s token e))
     (λ w old. ap (λ (b : Bool). cond b (one_row d w.1) old) (same_posting i s 0 token w.0 e d doc' doc ∙ apart (s == 0) (same_list token w.0) (e == d) other))
     (entries (postings_of t)) old
   where
@@ -165,7 +165,7 @@ more_numbers mark given document row r free are = record {
 -- a row whose text an index sees becomes its next document
 rows_marked : (f : Key → Option (List ℕ)) (i : List ℕ) (text : ℤ → Option (List ℕ)) (mark : ℤ → Option Mark) (given : ℕ) (document : ℤ → Option ℕ) (row : ℕ → Option ℤ) (r : ℤ)
     → IsRow r → mark r ≡ None → given + 1 < 2 ^ 32 → AreNumbers mark given document row → RowsStand f i text mark document row
-    → RowsStand (view (document_words i (given + 1) r (text r)) f) i text (with_mark r (Some Marked) mark) (with_document r (given + 1) document) (with_row_of (given + 1) r row)
+    → RowsStand (view (document_changes i (given + 1) r (text r)) f) i text (with_mark r (Some Marked) mark) (with_document r (given + 1) document) (with_row_of (given + 1) r row)
 rows_marked f i text mark given document row r is_row free room are stand = record {
   rows = λ e doc.
       told_row_of i (given + 1) r (text r) e (f (key kind.DocumentRows i (document_part e))) room doc
@@ -174,14 +174,14 @@ rows_marked f i text mark given document row r is_row free room are stand = reco
       told_document_of i (given + 1) r (text r) s (f (key kind.RowDocuments i (row_part s))) is_row fits
       ∙ ap (cond (int_eq s r) (Some (to_be_bytes w32 (given + 1)))) (stand.documents s fits) ∙ at_document (int_eq s r) (document s);
   queue = λ s fits.
-      told_frame is_of_postings (text_words i (given + 1) (text r)) (key kind.Pending i (row_part s)) (f (key kind.Pending i (row_part s))) (all_texts i (given + 1) (text r)) refl
+      told_frame is_of_postings (text_changes i (given + 1) (text r)) (key kind.Pending i (row_part s)) (f (key kind.Pending i (row_part s))) (all_texts i (given + 1) (text r)) refl
       ∙ stand.queue s fits ∙ at_mark s (int_eq s r) refl;
   postings = λ token e tok doc. at_posting token e tok doc (e == given + 1) refl;
   streams = λ token s e low high tok doc.
       told_other_posting i (given + 1) (text r) s token e (f (key kind.Postings i (posting_part s token e))) room doc (ap (λ (b : Bool). b && (e == given + 1)) (ne_eqb s 0 (λ zero. omega (arith, zero))))
       ∙ stand.streams token s e low high tok doc;
   spans = λ section e name doc.
-      told_frame is_of_postings (text_words i (given + 1) (text r)) (key kind.Spans i (span_part section e)) (f (key kind.Spans i (span_part section e))) (all_texts i (given + 1) (text r)) refl
+      told_frame is_of_postings (text_changes i (given + 1) (text r)) (key kind.Spans i (span_part section e)) (f (key kind.Spans i (span_part section e))) (all_texts i (given + 1) (text r)) refl
       ∙ stand.spans section e name doc;
 }
   where
@@ -201,7 +201,7 @@ rows_marked f i text mark given document row r is_row free room are stand = reco
     any_row [] = refl
     any_row (p ∷ ps) = refl
 
-    new_posting : (token : List ℕ) (t : Option (List ℕ)) → told (text_words i (given + 1) t) (key kind.Postings i (posting_part 0 token (given + 1))) None ≡ option_and_then (λ t. posting_value (given + 1) (positions token t)) t
+    new_posting : (token : List ℕ) (t : Option (List ℕ)) → told (text_changes i (given + 1) t) (key kind.Postings i (posting_part 0 token (given + 1))) None ≡ option_and_then (λ t. posting_value (given + 1) (positions token t)) t
     new_posting token None = refl
     new_posting token (Some t) = told_posting_of i (given + 1) t token None room ∙ any_row (positions token t)
 
@@ -211,12 +211,12 @@ rows_marked f i text mark given document row r is_row free room are stand = reco
         ∙ ap (λ (o : Option ℤ). option_and_then (λ t. posting_value (given + 1) (positions token t)) (option_and_then text o)) (not_given mark given document row are (given + 1) (omega arith))
 
     at_posting : (token : List ℕ) (e : ℕ) → IsToken token → IsDocument e → (b : Bool) → (e == given + 1) ≡ b
-        → told (text_words i (given + 1) (text r)) (key kind.Postings i (posting_part 0 token e)) (f (key kind.Postings i (posting_part 0 token e)))
+        → told (text_changes i (given + 1) (text r)) (key kind.Postings i (posting_part 0 token e)) (f (key kind.Postings i (posting_part 0 token e)))
         ≡ option_and_then (λ t. posting_value e (positions token t)) (option_and_then text (cond (e == given + 1) (Some r) (row e)))
     at_posting token e tok doc true h =
         let one : e ≡ given + 1 = eqb-true e (given + 1) h in
-        ap (λ (d : ℕ). told (text_words i (given + 1) (text r)) (key kind.Postings i (posting_part 0 token d)) (f (key kind.Postings i (posting_part 0 token d)))) one
-        ∙ ap (told (text_words i (given + 1) (text r)) (key kind.Postings i (posting_part 0 token (given + 1)))) (old_posting token tok)
+        ap (λ (d : ℕ). told (text_changes i (given + 1) (text r)) (key kind.Postings i (posting_part 0 token d)) (f (key kind.Postings i (posting_part 0 token d)))) one
+        ∙ ap (told (text_changes i (given + 1) (text r)) (key kind.Postings i (posting_part 0 token (given + 1)))) (old_posting token tok)
         ∙ new_posting token (text r)
         ∙ ap (λ (d : ℕ). option_and_then (λ t. posting_value d (positions token t)) (text r)) (sym one)
         ∙ ap (λ (b : Bool). option_and_then (λ t. posting_value e (positions token t)) (option_and_then text (cond b (Some r) (row e)))) (sym h)
@@ -226,7 +226,7 @@ rows_marked f i text mark given document row r is_row free room are stand = reco
         ∙ ap (λ (b : Bool). option_and_then (λ t. posting_value e (positions token t)) (option_and_then text (cond b (Some r) (row e)))) (sym h)
 
 pub marks_marked : (f : Key → Option (List ℕ)) (i : List ℕ) (text : ℤ → Option (List ℕ)) (mark : ℤ → Option Mark) (given : ℕ) (r : ℤ)
-    → IsRow r → mark r ≡ None → given + 1 < 2 ^ 32 → MarksStand f i text mark given → MarksStand (view (document_words i (given + 1) r (text r)) f) i text (with_mark r (Some Marked) mark) (given + 1)
+    → IsRow r → mark r ≡ None → given + 1 < 2 ^ 32 → MarksStand f i text mark given → MarksStand (view (document_changes i (given + 1) r (text r)) f) i text (with_mark r (Some Marked) mark) (given + 1)
 marks_marked f i text mark given r is_row free room marks = record {
   document = with_document r (given + 1) marks.document;
   row = with_row_of (given + 1) r marks.row;
@@ -267,11 +267,11 @@ marks_queued f i text mark given r m is_row free unmarked marks = record {
 -- a row that waits, or is new, leaves the queue and becomes the next document
 pub marks_settled : (f : Key → Option (List ℕ)) (i : List ℕ) (text : ℤ → Option (List ℕ)) (mark : ℤ → Option Mark) (given : ℕ) (r : ℤ)
     → IsRow r → is_marked (mark r) ≡ false → given + 1 < 2 ^ 32 → MarksStand f i text mark given
-    → MarksStand (view (drop_key (key kind.Pending i (row_part r)) ∷ document_words i (given + 1) r (text r)) f) i text (with_mark r (Some Marked) mark) (given + 1)
+    → MarksStand (view (drop_key (key kind.Pending i (row_part r)) ∷ document_changes i (given + 1) r (text r)) f) i text (with_mark r (Some Marked) mark) (given + 1)
 marks_settled f i text mark given r is_row free room marks =
     let waits = marks_queued f i text mark given r None is_row free refl marks in
     let gone : with_mark r None mark r ≡ None = ap (λ (b : Bool). cond b None (mark r)) (int_same r) in
-    subst (λ (m : ℤ → Option Mark). MarksStand (view (drop_key (key kind.Pending i (row_part r)) ∷ document_words i (given + 1) r (text r)) f) i text m (given + 1)) (λ j s. once (int_eq s r) (mark s) j)
+    subst (λ (m : ℤ → Option Mark). MarksStand (view (drop_key (key kind.Pending i (row_part r)) ∷ document_changes i (given + 1) r (text r)) f) i text m (given + 1)) (λ j s. once (int_eq s r) (mark s) j)
     (marks_marked (view (drop_key (key kind.Pending i (row_part r)) ∷ []) f) i text (with_mark r None mark) given r is_row gone room waits)
   where
     once : (b : Bool) (o : Option Mark) → cond b (Some Marked) (cond b None o) ≡ cond b (Some Marked) o
@@ -325,16 +325,16 @@ still_free free mark r (s ∷ rows) low all =
     let b = and_true (is_lt (int_cmp r s)) (keys_below int_cmp r rows) low in
     ((all.0.0, ap (λ (t : Bool). free (cond t (Some Marked) (mark s))) (above_apart r s b.0) ∙ all.0.1), still_free free mark r rows b.1 all.1)
 
--- words that mark one row with the next document mark several, one after the other
-pub marks_all : (words : ℕ × ℤ → List (Key × Option (List ℕ))) (i : List ℕ) (text : ℤ → Option (List ℕ)) (free : Option Mark → Bool)
-    → ((f : Key → Option (List ℕ)) (mark : ℤ → Option Mark) (given : ℕ) (r : ℤ) → IsRow r → free (mark r) ≡ true → given + 1 < 2 ^ 32 → MarksStand f i text mark given → MarksStand (view (words (given + 1, r)) f) i text (with_mark r (Some Marked) mark) (given + 1))
+-- changes that mark one row with the next document mark several, one after the other
+pub marks_all : (changes : ℕ × ℤ → List (Key × Option (List ℕ))) (i : List ℕ) (text : ℤ → Option (List ℕ)) (free : Option Mark → Bool)
+    → ((f : Key → Option (List ℕ)) (mark : ℤ → Option Mark) (given : ℕ) (r : ℤ) → IsRow r → free (mark r) ≡ true → given + 1 < 2 ^ 32 → MarksStand f i text mark given → MarksStand (view (changes (given + 1, r)) f) i text (with_mark r (Some Marked) mark) (given + 1))
     → (rows : List ℤ) (f : Key → Option (List ℕ)) (mark : ℤ → Option Mark) (given : ℕ) → keys_rise int_cmp rows ≡ true → EachRow (λ s. IsRow s × (free (mark s) ≡ true)) rows → given + length rows < 2 ^ 32 → MarksStand f i text mark given
-    → MarksStand (view (each words (numbered (given + 1) rows)) f) i text (marked_in rows mark) (given + length rows)
-marks_all words i text free step [] f mark given rise all room marks = let none : given ≡ given + 0 = omega arith in subst (MarksStand f i text mark) none marks
-marks_all words i text free step (r ∷ rs) f mark given rise all room marks =
+    → MarksStand (view (each changes (numbered (given + 1) rows)) f) i text (marked_in rows mark) (given + length rows)
+marks_all changes i text free step [] f mark given rise all room marks = let none : given ≡ given + 0 = omega arith in subst (MarksStand f i text mark) none marks
+marks_all changes i text free step (r ∷ rs) f mark given rise all room marks =
     let b = and_true (keys_below int_cmp r rs) (keys_rise int_cmp rs) rise in
     let one = step f mark given r all.0.0 all.0.1 (omega arith) marks in
-    let rest = marks_all words i text free step rs (view (words (given + 1, r)) f) (with_mark r (Some Marked) mark) (given + 1) b.1 (still_free free mark r rs b.0 all.1) (omega arith) one in
+    let rest = marks_all changes i text free step rs (view (changes (given + 1, r)) f) (with_mark r (Some Marked) mark) (given + 1) b.1 (still_free free mark r rs b.0 all.1) (omega arith) one in
     let count : given + 1 + length rs ≡ given + length (r ∷ rs) = omega arith in
-    subst (λ (g : Key → Option (List ℕ)). MarksStand g i text (marked_in (r ∷ rs) mark) (given + length (r ∷ rs))) (sym (view-append (words (given + 1, r)) (each words (numbered (given + 1 + 1) rs)) f))
-    (subst (MarksStand (view (each words (numbered (given + 1 + 1) rs)) (view (words (given + 1, r)) f)) i text (marked_in (r ∷ rs) mark)) count rest)
+    subst (λ (g : Key → Option (List ℕ)). MarksStand g i text (marked_in (r ∷ rs) mark) (given + length (r ∷ rs))) (sym (view-append (changes (given + 1, r)) (each changes (numbered (given + 1 + 1) rs)) f))
+    (subst (MarksStand (view (each changes (numbered (given + 1 + 1) rs)) (view (changes (given + 1, r)) f)) i text (marked_in (r ∷ rs) mark)) count rest)

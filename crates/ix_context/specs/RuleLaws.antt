@@ -15,9 +15,9 @@ use Rattle.std.specs.FinMap.{get, insert, empty, same_map}
 use Rattle.ct_base.specs.Names.{IsName}
 use Rattle.ct_base.specs.declared.lists.Value.{Value}
 use Rattle.ct_entry.specs.Keys.{Key, same_list, IsRow}
-use Rattle.ct_entry.specs.Words.{view}
+use Rattle.ct_entry.specs.Changes.{view}
 use Rattle.ct_entry.specs.Each.{each, is_among}
-use Rattle.ct_entry.specs.WordLaws.{view-append}
+use Rattle.ct_entry.specs.ChangeLaws.{view-append}
 use Rattle.ct_entry.specs.KeyLaws.{list_from_same, list_same}
 use Rattle.ct_entry.specs.Maps.{Names}
 use Rattle.ct_entry.specs.MapLaws.{get_name-insert, get_name-alter, get_row-insert, get-each_value, option_map_some}
@@ -30,7 +30,7 @@ use Rattle.ix_context.specs.declared.ranges.KeyRange.{KeyRange}
 use Rattle.ix_context.specs.Indexes.{Index, Mark, Pending, Marked, pending_rows, noted, waiting_on, noted_on, synced_index, synced, in_range, rows_in, created, with_index}
 use Rattle.ix_context.specs.Rules.{IsTarget, HasTextAt, IsIndex, AreIndexes, most_given}
 use Rattle.ix_context.specs.Spelling.{IndexesStand}
-use Rattle.ix_context.specs.Changes.{note_insert_words}
+use Rattle.ix_context.specs.Changes.{note_insert_changes}
 use Rattle.ix_context.specs.MarkLaws.{EachRow, each_among}
 use Rattle.ix_context.specs.ChangeLaws.{get-alter_other, note_stands, row_listed, row_is_row, marked_row}
 
@@ -204,7 +204,7 @@ noted_each_is xs t r names are = same_map nat_list_cmp_total exact_bytes (noted_
     go None = refl
     go (Some x) = here x (same_list x.table t)
 
--- ---- and their words
+-- ---- and their changes
 
 -- the indexes of these names are there, and have no mark of the row
 abbrev pub AreNewIn : Names Index → ℤ → List (List ℕ) → Type 0
@@ -234,21 +234,21 @@ still_new xs i r (j ∷ js) apart are =
     turned true h other = let wrong : true ≡ false = sym (list_same i) ∙ ap (same_list i) (sym (list_from_same j i h)) ∙ other in cc
     turned false h other = refl
 
-notes_stand : (names : List (List ℕ)) (f : Key → Option (List ℕ)) (ts : Tables) (xs : Names Index) (r : ℤ) → IsRow r → AreDistinct names → AreNewIn xs r names → IndexesStand f ts xs → IndexesStand (view (each (λ i. note_insert_words i r) names) f) ts (noted_each xs names r)
+notes_stand : (names : List (List ℕ)) (f : Key → Option (List ℕ)) (ts : Tables) (xs : Names Index) (r : ℤ) → IsRow r → AreDistinct names → AreNewIn xs r names → IndexesStand f ts xs → IndexesStand (view (each (λ i. note_insert_changes i r) names) f) ts (noted_each xs names r)
 notes_stand [] f ts xs r row distinct new stand = stand
 notes_stand (i ∷ is) f ts xs r row distinct new stand =
     let one = note_stands f ts xs i new.0.0 r new.0.1 new.0.2 row stand in
-    let rest = notes_stand is (view (note_insert_words i r) f) ts (noted xs i r) r row distinct.1 (still_new xs i r is distinct.0 new.1) one in
-    subst (λ (g : Key → Option (List ℕ)). IndexesStand g ts (noted_each (noted xs i r) is r)) (sym (view-append (note_insert_words i r) (each (λ i. note_insert_words i r) is) f)) rest
+    let rest = notes_stand is (view (note_insert_changes i r) f) ts (noted xs i r) r row distinct.1 (still_new xs i r is distinct.0 new.1) one in
+    subst (λ (g : Key → Option (List ℕ)). IndexesStand g ts (noted_each (noted xs i r) is r)) (sym (view-append (note_insert_changes i r) (each (λ i. note_insert_changes i r) is) f)) rest
 
 -- after a note of a row that is new in each index on its table
 abbrev pub NotesOfRowsStand : Type 0
 NotesOfRowsStand = (f : Key → Option (List ℕ)) (ts : Tables) (xs : Names Index) (t : List ℕ) (r : ℤ) (names : List (List ℕ)) → AreIndexesOn xs t names → ((i : List ℕ) (x : Index) → get xs i ≡ Some x → x.table ≡ t → get x.marks r ≡ None) → IsRow r → IndexesStand f ts xs
-    → IndexesStand (view (each (λ i. note_insert_words i r) names) f) ts (noted_on xs t r)
+    → IndexesStand (view (each (λ i. note_insert_changes i r) names) f) ts (noted_on xs t r)
 
 pub row_notes_stand : NotesOfRowsStand
 row_notes_stand f ts xs t r names are free row stand =
-    subst (IndexesStand (view (each (λ i. note_insert_words i r) names) f) ts) (noted_each_is xs t r names are)
+    subst (IndexesStand (view (each (λ i. note_insert_changes i r) names) f) ts) (noted_each_is xs t r names are)
     (notes_stand names f ts xs r row are.distinct (new_among xs r names (λ i there. here i (get xs i) refl (sym (are.each i) ∙ there))) stand)
   where
     here : (i : List ℕ) (o : Option Index) → get xs i ≡ o → is_on t o ≡ true → (x : Index) × (get xs i ≡ Some x) × (get x.marks r ≡ None)

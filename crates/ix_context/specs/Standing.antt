@@ -9,10 +9,10 @@ use Rattle.ct_bytes.specs.RowKeys.{row_bytes}
 use Rattle.ct_entry.specs.declared.kinds.Kind.{Kind}
 use Rattle.ct_entry.specs.declared.kinds.Kind.TheVariants as kind
 use Rattle.ct_entry.specs.Keys.{Key, key, same, same_list, row_part, document_part, posting_part, span_part, IsRow, IsDocument, IsToken}
-use Rattle.ct_entry.specs.Words.{told, view, AllOf}
+use Rattle.ct_entry.specs.Changes.{told, view, AllOf}
 use Rattle.ct_entry.specs.Each.{each}
 use Rattle.ct_entry.specs.KeyLaws.{list_from_same, list_same, key_from_same}
-use Rattle.ct_entry.specs.WordLaws.{told_frame}
+use Rattle.ct_entry.specs.ChangeLaws.{told_frame}
 use Rattle.ct_entry.specs.Maps.{Names}
 use Rattle.tb_table.specs.Tables.{Tables}
 use Rattle.ix_context.specs.Postings.{positions}
@@ -174,9 +174,9 @@ marks_see f i text seen mark given same marks = record {
 pub index_sees : (f : Key → Option (List ℕ)) (ts us : Tables) (i : List ℕ) (o : Option Index) → ((r : ℤ) → is_marked (mark_of o r) ≡ true → seen_in us o r ≡ seen_in ts o r) → IndexStands f ts i o → IndexStands f us i o
 index_sees f ts us i o same stand = record { entry = stand.entry; marks = marks_see f i (seen_in ts o) (seen_in us o) (mark_of o) (given_of o) same stand.marks }
 
--- ---- words on the entries of one owner
+-- ---- changes on the entries of one owner
 
--- the words are on keys of this owner
+-- the changes are on keys of this owner
 abbrev pub AllOn : List ℕ → List (Key × Option (List ℕ)) → Type 0
 AllOn i [] = Unit {0}
 AllOn i (w ∷ ws) = (w.0.owner ≡ i) × AllOn i ws
@@ -185,9 +185,9 @@ pub all_on-append : (i : List ℕ) (xs ys : List (Key × Option (List ℕ))) →
 all_on-append i [] ys a b = b
 all_on-append i (x ∷ xs) ys a b = (a.0, all_on-append i xs ys a.1 b)
 
-pub all_on-each : {I : Type 0} (i : List ℕ) (words : I → List (Key × Option (List ℕ))) → ((p : I) → AllOn i (words p)) → (ps : List I) → AllOn i (each words ps)
-all_on-each i words one [] = tt
-all_on-each i words one (p ∷ ps) = all_on-append i (words p) (each words ps) (one p) (all_on-each i words one ps)
+pub all_on-each : {I : Type 0} (i : List ℕ) (changes : I → List (Key × Option (List ℕ))) → ((p : I) → AllOn i (changes p)) → (ps : List I) → AllOn i (each changes ps)
+all_on-each i changes one [] = tt
+all_on-each i changes one (p ∷ ps) = all_on-append i (changes p) (each changes ps) (one p) (all_on-each i changes one ps)
 
 -- they leave the keys of others
 pub told_others : (i : List ℕ) (ws : List (Key × Option (List ℕ))) (k : Key) (old : Option (List ℕ)) → AllOn i ws → same_list k.owner i ≡ false → told ws k old ≡ old
@@ -201,7 +201,7 @@ told_others i (w ∷ ws) k old all other = told_others i ws k (cond (same k w.0)
         cc
     apart false h = refl
 
--- Words on one index, by which its entries come to spell it as it is in ys, where ys has what xs has at all other names.
+-- Changes on one index, by which its entries come to spell it as it is in ys, where ys has what xs has at all other names.
 pub one_changes : (f : Key → Option (List ℕ)) (ts : Tables) (xs ys : Names Index) (i : List ℕ) (ws : List (Key × Option (List ℕ))) → AllOn i ws → ((q : List ℕ) → same_list q i ≡ false → get ys q ≡ get xs q)
     → IndexesStand f ts xs → IndexStands (view ws f) ts i (get ys i) → IndexesStand (view ws f) ts ys
 one_changes f ts xs ys i ws on others stand one = stand_all (view ws f) ts ys (λ q. go q (same_list q i) refl)
@@ -212,12 +212,12 @@ one_changes f ts xs ys i ws on others stand one = stand_all (view ws f) ts ys (�
         subst (IndexStands (view ws f) ts q) (sym (others q h))
         (index_agree f (view ws f) ts q (get xs q) (λ k owner of. told_others i ws k (f k) on (ap (λ (l : List ℕ). same_list l i) owner ∙ h)) (stand_at f ts xs stand q))
 
--- ---- words on other kinds
+-- ---- changes on other kinds
 
 -- only the entries of these kinds matter
 pub indexes_agree : (f g : Key → Option (List ℕ)) (ts : Tables) (xs : Names Index) → ((k : Key) → is_of_indexes k.kind ≡ true → g k ≡ f k) → IndexesStand f ts xs → IndexesStand g ts xs
 indexes_agree f g ts xs same stand = stand_all g ts xs (λ i. index_agree f g ts i (get xs i) (λ k owner of. same k of) (stand_at f ts xs stand i))
 
--- words on other kinds change nothing
+-- changes on other kinds change nothing
 pub indexes_frame : (p : Kind → Bool) (ws : List (Key × Option (List ℕ))) (f : Key → Option (List ℕ)) (ts : Tables) (xs : Names Index) → AllOf p ws → ((k : Kind) → is_of_indexes k ≡ true → p k ≡ false) → IndexesStand f ts xs → IndexesStand (view ws f) ts xs
 indexes_frame p ws f ts xs all other stand = indexes_agree f (view ws f) ts xs (λ k of. told_frame p ws k (f k) all (other k.kind of)) stand

@@ -1,4 +1,4 @@
--- The words of notes, synchronisations and new indexes are on keys of their kinds, and put what a keeper may hold.
+-- The changes of notes, synchronisations and new indexes are on keys of their kinds, and put what a keeper may hold.
 use Rattle.std.proofs.Common.{◌≡◌, ℕ, ℤ, ◌+◌, ◌*◌, ◌^◌, ◌<◌, ◌≤◌, Bool, true, List, [], ◌∷◌, ◌++◌, length, map, Option, Some, None, refl, arith, length-append}
 use Rattle.std.specs.Prelude.{All, ◌-◌, not, is_some}
 use Rattle.std.specs.FinMap.{get, entries}
@@ -8,12 +8,12 @@ use Rattle.ct_base.specs.NameLaws.{name_length}
 use Rattle.ct_bytes.specs.Varints.{varint, text_bytes}
 use Rattle.ct_bytes.specs.VarintLaws.{varint_length}
 use Rattle.ct_bytes.specs.RowKeyLaws.{length-row_bytes}
-use Rattle.ct_keep.specs.Words.{AreWell}
+use Rattle.ct_keep.specs.Changes.{AreWell}
 use Rattle.ct_entry.specs.declared.kinds.Kind.{Kind}
 use Rattle.ct_entry.specs.declared.kinds.Kind.TheVariants as kind
 use Rattle.ct_entry.specs.Keys.{Key, key, bytes, IsRow, IsKey}
 use Rattle.ct_entry.specs.Maps.{Names}
-use Rattle.ct_entry.specs.Words.{put, spell, AreWords, AllOf, Puts, AllPut}
+use Rattle.ct_entry.specs.Changes.{put, spell, AreChanges, AllOf, Puts, AllPut}
 use Rattle.ct_entry.specs.Each.{each}
 use Rattle.ct_entry.specs.PartLaws.{is_short}
 use Rattle.ct_entry.specs.WellLaws.{IsWellAt, are_well}
@@ -27,30 +27,30 @@ use Rattle.ix_context.specs.TokenLaws.{IsPosting, postings_fit, postings_few}
 use Rattle.ix_context.specs.Indexes.{Index, is_marked, pending_rows, text_seen, synced_index, rows_in, created, target_text}
 use Rattle.ix_context.specs.Rules.{AreIndexes, most_given}
 use Rattle.ix_context.specs.Spelling.{index_bytes, behind_table, index_entry}
-use Rattle.ix_context.specs.Changes.{note_insert_words, posting_word, text_words, document_words, mark_words, settle_words, numbered, sync_rows_words, sync_words, create_words}
+use Rattle.ix_context.specs.Changes.{note_insert_changes, posting_change, text_changes, document_changes, mark_changes, settle_changes, numbered, sync_rows_changes, sync_changes, create_changes}
 use Rattle.ix_context.specs.Standing.{is_of_indexes}
 use Rattle.ix_context.specs.MarkLaws.{EachRow}
 use Rattle.ix_context.specs.ChangeLaws.{pending_free, no_marks, rows_free}
 use Rattle.ix_context.specs.ReadLaws.{target_short, target_of}
 
--- ---- words on entries of indexes
+-- ---- changes on entries of indexes
 
--- A word on an entry of an index, with a value that an entry may have.
-pub record IsIndexWord (w : Key × Option (List ℕ)) : Type 0 where
+-- A change on an entry of an index, with a value that an entry may have.
+pub record IsIndexChange (w : Key × Option (List ℕ)) : Type 0 where
   pub key : IsKey w.0
   pub of : is_of_indexes w.0.kind ≡ true
   pub bounded : Puts (λ k v. length v ≤ 67108864) w.0 w.1
 
-abbrev pub AreIndexWords : List (Key × Option (List ℕ)) → Type 0
-AreIndexWords [] = Unit {0}
-AreIndexWords (w ∷ ws) = IsIndexWord w × AreIndexWords ws
+abbrev pub AreIndexChanges : List (Key × Option (List ℕ)) → Type 0
+AreIndexChanges [] = Unit {0}
+AreIndexChanges (w ∷ ws) = IsIndexChange w × AreIndexChanges ws
 
 -- they are on keys of the kinds
-pub are_words : (ws : List (Key × Option (List ℕ))) → AreIndexWords ws → AreWords ws
-are_words [] are = tt
-are_words (w ∷ ws) are = (are.0.key, are_words ws are.1)
+pub are_changes : (ws : List (Key × Option (List ℕ))) → AreIndexChanges ws → AreChanges ws
+are_changes [] are = tt
+are_changes (w ∷ ws) are = (are.0.key, are_changes ws are.1)
 
-pub all_of_indexes : (ws : List (Key × Option (List ℕ))) → AreIndexWords ws → AllOf is_of_indexes ws
+pub all_of_indexes : (ws : List (Key × Option (List ℕ))) → AreIndexChanges ws → AllOf is_of_indexes ws
 all_of_indexes [] are = tt
 all_of_indexes (w ∷ ws) are = (are.0.of, all_of_indexes ws are.1)
 
@@ -63,26 +63,26 @@ short_kind kind.Catalogue of = cc
 short_kind k of = refl
 
 -- then they may be committed
-pub well_words : (well : List ℕ → List ℕ → Bool) (ws : List (Key × Option (List ℕ))) → TakesIndexes well → AreIndexWords ws → AreWell well (spell ws)
-well_words well ws takes are = are_well well ws (are_words ws are) (short ws are) (puts ws are)
+pub well_changes : (well : List ℕ → List ℕ → Bool) (ws : List (Key × Option (List ℕ))) → TakesIndexes well → AreIndexChanges ws → AreWell well (spell ws)
+well_changes well ws takes are = are_well well ws (are_changes ws are) (short ws are) (puts ws are)
   where
-    short : (ws : List (Key × Option (List ℕ))) → AreIndexWords ws → AllOf is_short ws
+    short : (ws : List (Key × Option (List ℕ))) → AreIndexChanges ws → AllOf is_short ws
     short [] are = tt
     short (w ∷ ws) are = (short_kind w.0.kind are.0.of, short ws are.1)
 
-    puts : (ws : List (Key × Option (List ℕ))) → AreIndexWords ws → AllPut (IsWellAt well) ws
+    puts : (ws : List (Key × Option (List ℕ))) → AreIndexChanges ws → AllPut (IsWellAt well) ws
     puts [] are = tt
     puts ((k, None) ∷ ws) are = (tt, puts ws are.1)
     puts ((k, Some v) ∷ ws) are = (record { bounded = are.0.bounded; shaped = takes k v are.0.of }, puts ws are.1)
 
-pub index_words-append : (xs ys : List (Key × Option (List ℕ))) → AreIndexWords xs → AreIndexWords ys → AreIndexWords (xs ++ ys)
-index_words-append [] ys a b = b
-index_words-append (x ∷ xs) ys a b = (a.0, index_words-append xs ys a.1 b)
+pub index_changes-append : (xs ys : List (Key × Option (List ℕ))) → AreIndexChanges xs → AreIndexChanges ys → AreIndexChanges (xs ++ ys)
+index_changes-append [] ys a b = b
+index_changes-append (x ∷ xs) ys a b = (a.0, index_changes-append xs ys a.1 b)
 
--- words for each of some rows with their documents
-pub index_words-each : (words : ℕ × ℤ → List (Key × Option (List ℕ))) → ((d : ℕ) (r : ℤ) → d < 2 ^ 32 → IsRow r → AreIndexWords (words (d, r))) → (rows : List ℤ) (d : ℕ) → d + length rows ≤ 2 ^ 32 → EachRow IsRow rows → AreIndexWords (each words (numbered d rows))
-index_words-each words one [] d few are = tt
-index_words-each words one (r ∷ rs) d few are = index_words-append (words (d, r)) (each words (numbered (d + 1) rs)) (one d r (omega arith) are.0) (index_words-each words one rs (d + 1) (omega arith) are.1)
+-- changes for each of some rows with their documents
+pub index_changes-each : (changes : ℕ × ℤ → List (Key × Option (List ℕ))) → ((d : ℕ) (r : ℤ) → d < 2 ^ 32 → IsRow r → AreIndexChanges (changes (d, r))) → (rows : List ℤ) (d : ℕ) → d + length rows ≤ 2 ^ 32 → EachRow IsRow rows → AreIndexChanges (each changes (numbered d rows))
+index_changes-each changes one [] d few are = tt
+index_changes-each changes one (r ∷ rs) d few are = index_changes-append (changes (d, r)) (each changes (numbered (d + 1) rs)) (one d r (omega arith) are.0) (index_changes-each changes one rs (d + 1) (omega arith) are.1)
 
 -- ---- values
 
@@ -116,32 +116,32 @@ length-entry_le t c n name =
     let short = (name_length t name).1 in
     omega (arith, front, text, count, short)
 
--- ---- the words of a document
+-- ---- the changes of a document
 
 -- a text that a table may have, or none
 abbrev pub IsTableText : Option (List ℕ) → Type 0
 IsTableText None = Unit {0}
 IsTableText (Some text) = length text ≤ 4000
 
-posting_words : (i : List ℕ) (d : ℕ) (es : List (List ℕ × List ℕ)) → IsName i → d < 2 ^ 32 → All IsPosting es → All (λ e. length e.1 ≤ 4000) es → AreIndexWords (map (posting_word i d) es)
-posting_words i d [] name doc fit few = tt
-posting_words i d (e ∷ es) name doc fit few =
+posting_changes : (i : List ℕ) (d : ℕ) (es : List (List ℕ × List ℕ)) → IsName i → d < 2 ^ 32 → All IsPosting es → All (λ e. length e.1 ≤ 4000) es → AreIndexChanges (map (posting_change i d) es)
+posting_changes i d [] name doc fit few = tt
+posting_changes i d (e ∷ es) name doc fit few =
     let here = All-head IsPosting e es fit in
     let short = All-head (λ (e : List ℕ × List ℕ). length e.1 ≤ 4000) e es few in
     let long = length-one_row_le d e.1 in (
       record { key = record { owner = name; part = (0, d, (e.0, omega arith, here.token, doc, refl)) }; of = refl; bounded = omega (arith, long, short) },
-      posting_words i d es name doc (All-tail IsPosting e es fit) (All-tail (λ (e : List ℕ × List ℕ). length e.1 ≤ 4000) e es few),
+      posting_changes i d es name doc (All-tail IsPosting e es fit) (All-tail (λ (e : List ℕ × List ℕ). length e.1 ≤ 4000) e es few),
     )
 
 few_of_text : (text : List ℕ) → length text ≤ 4000 → All (λ (e : List ℕ × List ℕ). length e.1 ≤ 4000) (entries (postings_of text))
 few_of_text text short = λ k e less. let few = postings_few text k e less in omega (arith, few)
 
-words_of_text : (i : List ℕ) (d : ℕ) (text : Option (List ℕ)) → IsName i → d < 2 ^ 32 → IsTableText text → AreIndexWords (text_words i d text)
+words_of_text : (i : List ℕ) (d : ℕ) (text : Option (List ℕ)) → IsName i → d < 2 ^ 32 → IsTableText text → AreIndexChanges (text_changes i d text)
 words_of_text i d None name doc short = tt
-words_of_text i d (Some text) name doc short = posting_words i d (entries (postings_of text)) name doc (postings_fit text (omega arith)) (few_of_text text short)
+words_of_text i d (Some text) name doc short = posting_changes i d (entries (postings_of text)) name doc (postings_fit text (omega arith)) (few_of_text text short)
 
-pub index_words_document : (i : List ℕ) (d : ℕ) (r : ℤ) (text : Option (List ℕ)) → IsName i → d < 2 ^ 32 → IsRow r → IsTableText text → AreIndexWords (document_words i d r text)
-index_words_document i d r text name doc row short = (
+pub index_changes_document : (i : List ℕ) (d : ℕ) (r : ℤ) (text : Option (List ℕ)) → IsName i → d < 2 ^ 32 → IsRow r → IsTableText text → AreIndexChanges (document_changes i d r text)
+index_changes_document i d r text name doc row short = (
   record { key = record { owner = name; part = (d, doc, refl) }; of = refl; bounded = let eight = length-row_bytes r in omega (arith, eight) },
   (record { key = record { owner = name; part = (r, row, refl) }; of = refl; bounded = omega arith }, words_of_text i d text name doc short),
 )
@@ -155,58 +155,58 @@ target_is_table_text ts are target r = go (target_text ts target r) refl
 
 -- ---- notes, synchronisations, new indexes
 
-pub index_words_note : (i : List ℕ) (r : ℤ) → IsName i → IsRow r → AreIndexWords (note_insert_words i r)
-index_words_note i r name row = (record { key = record { owner = name; part = (r, row, refl) }; of = refl; bounded = omega arith }, tt)
+pub index_changes_note : (i : List ℕ) (r : ℤ) → IsName i → IsRow r → AreIndexChanges (note_insert_changes i r)
+index_changes_note i r name row = (record { key = record { owner = name; part = (r, row, refl) }; of = refl; bounded = omega arith }, tt)
 
-entry_word : (i : List ℕ) (t : List ℕ) (c n : ℕ) → IsName i → IsName t → IsIndexWord (put (key kind.Indexes i []) (index_bytes t c n))
-entry_word i t c n name table = record { key = record { owner = name; part = refl }; of = refl; bounded = let long = length-entry_le t c n table in omega (arith, long) }
+entry_change : (i : List ℕ) (t : List ℕ) (c n : ℕ) → IsName i → IsName t → IsIndexChange (put (key kind.Indexes i []) (index_bytes t c n))
+entry_change i t c n name table = record { key = record { owner = name; part = refl }; of = refl; bounded = let long = length-entry_le t c n table in omega (arith, long) }
 
 each_row : (P : ℤ → Type 0) (rows : List ℤ) → EachRow (λ s. IsRow s × P s) rows → EachRow IsRow rows
 each_row P [] each = tt
 each_row P (r ∷ rs) each = (each.0.0, each_row P rs each.1)
 
-pub index_words_sync : (ts : Tables) (xs : Names Index) (i : List ℕ) (x : Index) → AreTables ts → AreIndexes ts xs → get xs i ≡ Some x → x.given + length (pending_rows x) ≤ most_given → AreIndexWords (sync_words ts i x)
-index_words_sync ts xs i x are rules is room = go (pending_rows x) (each_row (λ s. not (is_marked (get x.marks s)) ≡ true) (pending_rows x) (pending_free ts x are (rules.each i x is))) room
+pub index_changes_sync : (ts : Tables) (xs : Names Index) (i : List ℕ) (x : Index) → AreTables ts → AreIndexes ts xs → get xs i ≡ Some x → x.given + length (pending_rows x) ≤ most_given → AreIndexChanges (sync_changes ts i x)
+index_changes_sync ts xs i x are rules is room = go (pending_rows x) (each_row (λ s. not (is_marked (get x.marks s)) ≡ true) (pending_rows x) (pending_free ts x are (rules.each i x is))) room
   where
-    one : (d : ℕ) (r : ℤ) → d < 2 ^ 32 → IsRow r → AreIndexWords (settle_words ts i x (d, r))
+    one : (d : ℕ) (r : ℤ) → d < 2 ^ 32 → IsRow r → AreIndexChanges (settle_changes ts i x (d, r))
     one d r doc row = (
       record { key = record { owner = rules.names i x is; part = (r, row, refl) }; of = refl; bounded = tt },
-      index_words_document i d r (text_seen ts x r) (rules.names i x is) doc row (target_is_table_text ts are (target_of x) r),
+      index_changes_document i d r (text_seen ts x r) (rules.names i x is) doc row (target_is_table_text ts are (target_of x) r),
     )
 
     table : IsName x.table
     table = let target = (rules.each i x is).target in are.names x.table target.table target.there
 
-    go : (rows : List ℤ) → EachRow IsRow rows → x.given + length rows ≤ most_given → AreIndexWords (sync_rows_words ts i x rows)
+    go : (rows : List ℤ) → EachRow IsRow rows → x.given + length rows ≤ most_given → AreIndexChanges (sync_rows_changes ts i x rows)
     go [] rows_are room = tt
     go (r ∷ rs) rows_are room =
-        index_words-append (each (settle_words ts i x) (numbered (x.given + 1) (r ∷ rs))) (put (key kind.Indexes i []) (index_entry (synced_index x)) ∷ []) (index_words-each (settle_words ts i x) one (r ∷ rs) (x.given + 1) (omega arith) rows_are)
-        (entry_word i x.table x.column (x.given + length (pending_rows x) + 1) (rules.names i x is) table, tt)
+        index_changes-append (each (settle_changes ts i x) (numbered (x.given + 1) (r ∷ rs))) (put (key kind.Indexes i []) (index_entry (synced_index x)) ∷ []) (index_changes-each (settle_changes ts i x) one (r ∷ rs) (x.given + 1) (omega arith) rows_are)
+        (entry_change i x.table x.column (x.given + length (pending_rows x) + 1) (rules.names i x is) table, tt)
 
-pub index_words_create : (ts : Tables) (i : List ℕ) (target : Target) (range : KeyRange) → AreTables ts → IsName i → IsName target.table → length (rows_in ts target.table range) ≤ most_given → AreIndexWords (create_words ts i target range)
-index_words_create ts i target range are name table room = (
-  entry_word i target.table target.column (length (rows_in ts target.table range) + 1) name table,
-  index_words-each (λ (p : ℕ × ℤ). mark_words ts i (created ts target range) p.0 p.1) (λ d r doc row. index_words_document i d r (target_text ts target r) name doc row (target_is_table_text ts are target r)) (rows_in ts target.table range) 1 (omega arith)
+pub index_changes_create : (ts : Tables) (i : List ℕ) (target : Target) (range : KeyRange) → AreTables ts → IsName i → IsName target.table → length (rows_in ts target.table range) ≤ most_given → AreIndexChanges (create_changes ts i target range)
+index_changes_create ts i target range are name table room = (
+  entry_change i target.table target.column (length (rows_in ts target.table range) + 1) name table,
+  index_changes-each (λ (p : ℕ × ℤ). mark_changes ts i (created ts target range) p.0 p.1) (λ d r doc row. index_changes_document i d r (target_text ts target r) name doc row (target_is_table_text ts are target r)) (rows_in ts target.table range) 1 (omega arith)
       (each_row (λ s. not (is_some (no_marks s)) ≡ true) (rows_in ts target.table range) (rows_free ts are target.table range)),
 )
 
 -- ---- the laws
 
--- what the words of a note, a synchronisation and a new index put may be committed
+-- what the changes of a note, a synchronisation and a new index put may be committed
 abbrev pub NotesAreWell : Type 0
-NotesAreWell = (well : List ℕ → List ℕ → Bool) (i : List ℕ) (r : ℤ) → TakesIndexes well → IsName i → IsRow r → AreWell well (spell (note_insert_words i r))
+NotesAreWell = (well : List ℕ → List ℕ → Bool) (i : List ℕ) (r : ℤ) → TakesIndexes well → IsName i → IsRow r → AreWell well (spell (note_insert_changes i r))
 
 abbrev pub SyncsAreWell : Type 0
-SyncsAreWell = (well : List ℕ → List ℕ → Bool) (ts : Tables) (xs : Names Index) (i : List ℕ) (x : Index) → TakesIndexes well → AreTables ts → AreIndexes ts xs → get xs i ≡ Some x → x.given + length (pending_rows x) ≤ most_given → AreWell well (spell (sync_words ts i x))
+SyncsAreWell = (well : List ℕ → List ℕ → Bool) (ts : Tables) (xs : Names Index) (i : List ℕ) (x : Index) → TakesIndexes well → AreTables ts → AreIndexes ts xs → get xs i ≡ Some x → x.given + length (pending_rows x) ≤ most_given → AreWell well (spell (sync_changes ts i x))
 
 abbrev pub CreatesAreWell : Type 0
-CreatesAreWell = (well : List ℕ → List ℕ → Bool) (ts : Tables) (i : List ℕ) (target : Target) (range : KeyRange) → TakesIndexes well → AreTables ts → IsName i → IsName target.table → length (rows_in ts target.table range) ≤ most_given → AreWell well (spell (create_words ts i target range))
+CreatesAreWell = (well : List ℕ → List ℕ → Bool) (ts : Tables) (i : List ℕ) (target : Target) (range : KeyRange) → TakesIndexes well → AreTables ts → IsName i → IsName target.table → length (rows_in ts target.table range) ≤ most_given → AreWell well (spell (create_changes ts i target range))
 
 pub well_note : NotesAreWell
-well_note well i r takes name row = well_words well (note_insert_words i r) takes (index_words_note i r name row)
+well_note well i r takes name row = well_changes well (note_insert_changes i r) takes (index_changes_note i r name row)
 
 pub well_sync : SyncsAreWell
-well_sync well ts xs i x takes are rules is room = well_words well (sync_words ts i x) takes (index_words_sync ts xs i x are rules is room)
+well_sync well ts xs i x takes are rules is room = well_changes well (sync_changes ts i x) takes (index_changes_sync ts xs i x are rules is room)
 
 pub well_create : CreatesAreWell
-well_create well ts i target range takes are name table room = well_words well (create_words ts i target range) takes (index_words_create ts i target range are name table room)
+well_create well ts i target range takes are name table room = well_changes well (create_changes ts i target range) takes (index_changes_create ts i target range are name table room)

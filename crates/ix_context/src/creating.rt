@@ -3,12 +3,12 @@
 
 ghost use Rattle.std.specs.Prelude.{◌≡◌, ◌+◌, ◌≤◌, ◌<◌, ◌^◌, ◌++◌, IfOk, OnOk, OnErr, Some, Err, MatchOption, filter, length, map};
 ghost use Rattle.ct_keep.specs.Content.{Content};
-ghost use Rattle.ct_keep.specs.Keeping.{OnlyReads, Reads};
+ghost use Rattle.ct_keep.specs.KeeperViews.{OnlyReads, Reads};
 ghost use Rattle.ct_entry.specs.Each.{each};
-ghost use Rattle.ct_entry.specs.Words.{spell};
+ghost use Rattle.ct_entry.specs.Changes.{spell};
 ghost use Rattle.tb_table.specs.Tables.{Tables};
 ghost use Rattle.ix_context.specs.Indexes.{in_range, rows_in, target_text};
-ghost use Rattle.ix_context.specs.Changes.{numbered, mark_with, create_words};
+ghost use Rattle.ix_context.specs.Changes.{numbered, mark_with, create_changes};
 ghost use Rattle.ix_context.specs.Faults.{context_fault_of};
 ghost use Rattle.ix_context.specs.Rules.{most_given};
 ghost use Rattle.ix_context.specs.Stands.{HoldsTables};
@@ -43,60 +43,60 @@ fn rows_of<K: Keeper>(
     table: &Name,
     range: KeyRange,
 ) -> Result<Vec<RowKey>, KeepFault>
-    requires { (K.keeping keeper.old).ready }
-    ensures rows { (m : Content) (ts : Tables) → (K.keeping keeper.old).content ≡ Some m → HoldsTables m ts → IfOk result (λ rows. map (λ r. r.0) rows.items ≡ rows_in ts table.now range) }
-    ensures reads { OnlyReads K.keeping keeper.old keeper.new result }
+    requires { (K.view keeper.old).ready }
+    ensures rows { (m : Content) (ts : Tables) → (K.view keeper.old).content ≡ Some m → HoldsTables m ts → IfOk result (λ rows. map (λ r. r.0) rows.items ≡ rows_in ts table.now range) }
+    ensures reads { OnlyReads K.view keeper.old keeper.new result }
 {
     let rows = row_keys(alloc, keeper, Kind::RowNumbers, table)?;
     let kept = rows_within(alloc, &rows, range)?;
     Ok(kept)
 }
 
-/// Adds the words by which rows become documents of an index on this target, the first of them the document 1.
+/// Adds the changes by which rows become documents of an index on this target, the first of them the document 1.
 fn mark_rows<K: Keeper>(
     alloc: Global,
     keeper: &mut K,
-    words: &mut Batch,
+    changes: &mut Batch,
     index: &Name,
     target: &Target,
     rows: &[RowKey],
 ) -> Result<(), KeepFault>
-    requires ready { (K.keeping keeper.old).ready }
+    requires ready { (K.view keeper.old).ready }
     requires room { 1 + length rows.now < 2 ^ 32 }
-    ensures words { (m : Content) (ts : Tables) → (K.keeping keeper.old).content ≡ Some m → HoldsTables m ts → OnOk result (words.new ≡ words.old ++ spell (each (mark_with index.now (target_text ts target.now)) (numbered 1 (map (λ r. r.0) rows.now)))) }
-    ensures reads { OnlyReads K.keeping keeper.old keeper.new result }
+    ensures changes { (m : Content) (ts : Tables) → (K.view keeper.old).content ≡ Some m → HoldsTables m ts → OnOk result (changes.new ≡ changes.old ++ spell (each (mark_with index.now (target_text ts target.now)) (numbered 1 (map (λ r. r.0) rows.now)))) }
+    ensures reads { OnlyReads K.view keeper.old keeper.new result }
 {
     let mut document = 1;
     for row in rows {
-        mark_next(alloc, keeper, words, index, target, document, *row)?;
+        mark_next(alloc, keeper, changes, index, target, document, *row)?;
         document += 1;
     }
     Ok(())
 }
 
-/// The words of a new index. None where more rows lie in its range than there are numbers.
-fn words_of_create<K: Keeper>(
+/// The changes of a new index. None where more rows lie in its range than there are numbers.
+fn changes_of_create<K: Keeper>(
     alloc: Global,
     keeper: &mut K,
     index: &Name,
     target: &Target,
     range: KeyRange,
 ) -> Result<Option<Batch>, KeepFault>
-    requires { (K.keeping keeper.old).ready }
-    ensures words { (m : Content) (ts : Tables) → (K.keeping keeper.old).content ≡ Some m → HoldsTables m ts → IfOk result (λ words. MatchOption words (most_given < length (rows_in ts target.now.table range)) (λ ws. (length (rows_in ts target.now.table range) ≤ most_given) × (ws ≡ spell (create_words ts index.now target.now range)))) }
-    ensures reads { OnlyReads K.keeping keeper.old keeper.new result }
+    requires { (K.view keeper.old).ready }
+    ensures changes { (m : Content) (ts : Tables) → (K.view keeper.old).content ≡ Some m → HoldsTables m ts → IfOk result (λ changes. MatchOption changes (most_given < length (rows_in ts target.now.table range)) (λ ws. (length (rows_in ts target.now.table range) ≤ most_given) × (ws ≡ spell (create_changes ts index.now target.now range)))) }
+    ensures reads { OnlyReads K.view keeper.old keeper.new result }
 {
     let rows = rows_of(alloc, keeper, &target.table, range)?;
     let Some(next) = number_behind(1, rows.len()) else {
         return Ok(None);
     };
-    let mut words = Batch::new(alloc);
-    put_index(alloc, &mut words, index, target, next)?;
-    mark_rows(alloc, keeper, &mut words, index, target, &rows)?;
-    Ok(Some(words))
+    let mut changes = Batch::new(alloc);
+    put_index(alloc, &mut changes, index, target, next)?;
+    mark_rows(alloc, keeper, &mut changes, index, target, &rows)?;
+    Ok(Some(changes))
 }
 
-/// Adds the words of a new index on this target, of which each row that the table has in the range becomes a document, in
+/// Adds the changes of a new index on this target, of which each row that the table has in the range becomes a document, in
 /// order of the keys from 1 on, and the tokens of these rows' texts get postings.
 ///
 /// It costs what these texts hold, times a logarithm, and a scan of the table's keys. TooMany where over 2^32 - 2 rows lie
@@ -109,20 +109,20 @@ pub fn create<K: Keeper>(
     target: &Target,
     range: KeyRange,
 ) -> Result<(), ContextFault>
-    requires { (K.keeping keeper.old).ready }
-    ensures words { (m : Content) (ts : Tables) → (K.keeping keeper.old).content ≡ Some m → HoldsTables m ts → OnOk result (batch.new ≡ batch.old ++ spell (create_words ts index.now target.now range)) }
-    ensures room { (m : Content) (ts : Tables) → (K.keeping keeper.old).content ≡ Some m → HoldsTables m ts → OnOk result (length (rows_in ts target.now.table range) ≤ most_given) }
-    ensures many { (m : Content) (ts : Tables) → (K.keeping keeper.old).content ≡ Some m → HoldsTables m ts → result ≡ Err ContextFault.TooMany → most_given < length (rows_in ts target.now.table range) }
+    requires { (K.view keeper.old).ready }
+    ensures changes { (m : Content) (ts : Tables) → (K.view keeper.old).content ≡ Some m → HoldsTables m ts → OnOk result (batch.new ≡ batch.old ++ spell (create_changes ts index.now target.now range)) }
+    ensures room { (m : Content) (ts : Tables) → (K.view keeper.old).content ≡ Some m → HoldsTables m ts → OnOk result (length (rows_in ts target.now.table range) ≤ most_given) }
+    ensures many { (m : Content) (ts : Tables) → (K.view keeper.old).content ≡ Some m → HoldsTables m ts → result ≡ Err ContextFault.TooMany → most_given < length (rows_in ts target.now.table range) }
     ensures err { OnErr result (batch.new ≡ batch.old) }
-    ensures reads { Reads (K.keeping keeper.old) (K.keeping keeper.new) (context_fault_of result) }
+    ensures reads { Reads (K.view keeper.old) (K.view keeper.new) (context_fault_of result) }
 {
-    let found = match words_of_create(alloc, keeper, index, target, range) {
+    let found = match changes_of_create(alloc, keeper, index, target, range) {
         Ok(found) => found,
         Err(fault) => return Err(fault_of_reads(fault)),
     };
-    let Some(words) = found else {
+    let Some(changes) = found else {
         return Err(ContextFault::TooMany);
     };
-    batch.append(words)?;
+    batch.append(changes)?;
     Ok(())
 }

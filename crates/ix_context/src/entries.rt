@@ -4,11 +4,11 @@
 ghost use Rattle.std.specs.Prelude.{◌≡◌, ◌++◌, [], ◌∷◌, IfOk, OnOk, OnErr, Some, None, Err};
 ghost use Rattle.std.specs.Option.{option_map};
 ghost use Rattle.ct_keep.specs.Content.{Content};
-ghost use Rattle.ct_keep.specs.Keeping.{Finds, OnlyReads};
+ghost use Rattle.ct_keep.specs.KeeperViews.{Finds, OnlyReads};
 ghost use Rattle.ct_keep.specs.Looks.{look, LooksAtMost};
 ghost use Rattle.ct_entry.specs.declared.kinds.Kind.TheVariants as kind;
 ghost use Rattle.ct_entry.specs.Keys.{key, bytes, at};
-ghost use Rattle.ct_entry.specs.Words.{spell, put};
+ghost use Rattle.ct_entry.specs.Changes.{spell, put};
 ghost use Rattle.ix_context.specs.Spelling.{index_bytes, SpellsIndex};
 ghost use Rattle.ix_context.specs.EntryParts.{HasParts};
 
@@ -32,7 +32,7 @@ fn index_value(alloc: Global, target: &Target, next_document: u32) -> Result<Vec
     Ok(value)
 }
 
-/// Adds the word that an index is on this target and gives this document next.
+/// Adds the change that an index is on this target and gives this document next.
 pub(crate) fn put_index(
     alloc: Global,
     batch: &mut Batch,
@@ -83,10 +83,10 @@ pub(crate) fn read_index<K: Keeper>(
     keeper: &mut K,
     index: &Name,
 ) -> Result<Option<(Target, u32)>, KeepFault>
-    requires { (K.keeping keeper.old).ready }
-    ensures value { Finds K.keeping keeper.old result (λ m found. SpellsIndex (at m (key kind.Indexes index.now [])) found) }
-    ensures reads { OnlyReads K.keeping keeper.old keeper.new result }
-    ensures at_most { LooksAtMost K.keeping keeper.old keeper.new (look (bytes (key kind.Indexes index.now [])) None) }
+    requires { (K.view keeper.old).ready }
+    ensures value { Finds K.view keeper.old result (λ m found. SpellsIndex (at m (key kind.Indexes index.now [])) found) }
+    ensures reads { OnlyReads K.view keeper.old keeper.new result }
+    ensures at_most { LooksAtMost K.view keeper.old keeper.new (look (bytes (key kind.Indexes index.now [])) None) }
 {
     let Some(value) = fetch_entry(alloc, keeper, Kind::Indexes, index, &[])? else {
         return Ok(None);

@@ -7,9 +7,9 @@ ghost use Rattle.ix_context.specs.FoundLaws.{FoundIsExact, FoundRises};
 
 use crate::ranges::KeyRange;
 
-/// Where entries spell indexes, they still do after a new table or row, and the words of a note, a synchronisation or a new
+/// Where entries spell indexes, they still do after a new table or row, and the changes of a note, a synchronisation or a new
 /// index make them spell the indexes that these lead to.
-pub fn words_stand()
+pub fn changes_stand()
     ensures table { IndexesStayWithTables }
     ensures row { IndexesStayWithRows }
     ensures note { NotedRowsStand }
@@ -36,8 +36,8 @@ pub fn all_in_range()
     ensures { HasAllRows KeyRange.ALL }
 {}
 
-/// A keeper that takes whatever entries of indexes may commit the words of a note, a synchronisation and a new index.
-pub fn words_are_well()
+/// A keeper that takes whatever entries of indexes may commit the changes of a note, a synchronisation and a new index.
+pub fn changes_are_well()
     ensures note { NotesAreWell }
     ensures sync { SyncsAreWell }
     ensures create { CreatesAreWell }

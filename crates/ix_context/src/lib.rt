@@ -21,7 +21,7 @@ pub use creating::create;
 pub use faults::ContextFault;
 pub use hits::Hit;
 pub use inverting::postings;
-pub use laws::{all_in_range, notes_stand, rules_stay, words_are_well, words_stand};
+pub use laws::{all_in_range, changes_are_well, changes_stand, notes_stand, rules_stay};
 pub use noting::note_insert;
 pub use ranges::KeyRange;
 pub use searching::search;

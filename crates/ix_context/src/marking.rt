@@ -3,14 +3,14 @@
 
 ghost use Rattle.std.specs.Prelude.{◌≡◌, ◌+◌, ◌<◌, ◌≤◌, ◌^◌, ◌++◌, ◌∷◌, [], All, IfOk, OnOk, Some, Err, MatchOption, length, map};
 ghost use Rattle.ct_keep.specs.Content.{Content};
-ghost use Rattle.ct_keep.specs.Keeping.{OnlyReads};
+ghost use Rattle.ct_keep.specs.KeeperViews.{OnlyReads};
 ghost use Rattle.ct_entry.specs.Keys.{posting_part};
-ghost use Rattle.ct_entry.specs.Words.{spell};
+ghost use Rattle.ct_entry.specs.Changes.{spell};
 ghost use Rattle.ix_posting.specs.Rows.{IsRow, row_bytes as posting_bytes};
 ghost use Rattle.tb_table.specs.Tables.{Tables};
 ghost use Rattle.ix_context.specs.Indexes.{target_text};
 ghost use Rattle.ix_context.specs.Stands.{HoldsTables};
-ghost use Rattle.ix_context.specs.Changes.{posting_word, text_words, document_words};
+ghost use Rattle.ix_context.specs.Changes.{posting_change, text_changes, document_changes};
 ghost use Rattle.ix_context.specs.TokenLaws.{IsPosting, HasShortText, if_short};
 
 use crate::inverting::postings;
@@ -54,7 +54,7 @@ fn posting_value(alloc: Global, document: u32, positions: Positions) -> Result<V
     Ok(value)
 }
 
-/// Adds the word of a token's row of postings with one document.
+/// Adds the change of a token's row of postings with one document.
 fn put_posting(
     alloc: Global,
     batch: &mut Batch,
@@ -65,14 +65,14 @@ fn put_posting(
 ) -> Result<(), Memory>
     requires some { 1 ≤ document }
     requires posting { IsPosting (token.now, positions) }
-    ensures { OnOk result (batch.new ≡ batch.old ++ spell (posting_word index.now document (token.now, positions) ∷ [])) }
+    ensures { OnOk result (batch.new ≡ batch.old ++ spell (posting_change index.now document (token.now, positions) ∷ [])) }
 {
     let part = posting_part(alloc, token, document)?;
     let value = posting_value(alloc, document, positions)?;
     put_entry(alloc, batch, Kind::Postings, index, &part, value)
 }
 
-/// Adds a word for each token's row of postings with one document.
+/// Adds a change for each token's row of postings with one document.
 fn put_postings(
     alloc: Global,
     batch: &mut Batch,
@@ -82,7 +82,7 @@ fn put_postings(
 ) -> Result<(), Memory>
     requires some { 1 ≤ document }
     requires postings { All IsPosting list.items }
-    ensures { OnOk result (batch.new ≡ batch.old ++ spell (map (posting_word index.now document) list.items)) }
+    ensures { OnOk result (batch.new ≡ batch.old ++ spell (map (posting_change index.now document) list.items)) }
 {
     for (token, positions) in list {
         put_posting(alloc, batch, index, document, token.as_slice(), positions)?;
@@ -90,7 +90,7 @@ fn put_postings(
     Ok(())
 }
 
-/// Adds a word for each token's row of postings in a document's text, if it has one.
+/// Adds a change for each token's row of postings in a document's text, if it has one.
 fn put_text(
     alloc: Global,
     batch: &mut Batch,
@@ -100,7 +100,7 @@ fn put_text(
 ) -> Result<(), Memory>
     requires some { 1 ≤ document }
     requires short { HasShortText text }
-    ensures { OnOk result (batch.new ≡ batch.old ++ spell (text_words index.now document text)) }
+    ensures { OnOk result (batch.new ≡ batch.old ++ spell (text_changes index.now document text)) }
 {
     let Some(text) = text else {
         return Ok(());
@@ -109,7 +109,7 @@ fn put_text(
     put_postings(alloc, batch, index, document, list)
 }
 
-/// Adds the words by which a row becomes a document of an index, with the postings of its text of at most 2^24 bytes, if it
+/// Adds the changes by which a row becomes a document of an index, with the postings of its text of at most 2^24 bytes, if it
 /// has one.
 ///
 /// Its cost is that of reading the text, and of a logarithm for each token.
@@ -123,7 +123,7 @@ pub(crate) fn mark_row(
 ) -> Result<(), Memory>
     requires some { 1 ≤ document }
     requires short { HasShortText text }
-    ensures { OnOk result (batch.new ≡ batch.old ++ spell (document_words index.now document row.0 text)) }
+    ensures { OnOk result (batch.new ≡ batch.old ++ spell (document_changes index.now document row.0 text)) }
 {
     let row_part = row_key_bytes(row);
     let document_part = document.to_be_bytes();
@@ -165,32 +165,32 @@ fn seen_text<K: Keeper>(
     target: &Target,
     row: RowKey,
 ) -> Result<Option<Text>, KeepFault>
-    requires { (K.keeping keeper.old).ready }
-    ensures text { (m : Content) (ts : Tables) → (K.keeping keeper.old).content ≡ Some m → HoldsTables m ts → IfOk result (λ text. text ≡ target_text ts target.now row.0) }
+    requires { (K.view keeper.old).ready }
+    ensures text { (m : Content) (ts : Tables) → (K.view keeper.old).content ≡ Some m → HoldsTables m ts → IfOk result (λ text. text ≡ target_text ts target.now row.0) }
     ensures short { IfOk result (λ text. HasShortText text) }
-    ensures reads { OnlyReads K.keeping keeper.old keeper.new result }
+    ensures reads { OnlyReads K.view keeper.old keeper.new result }
 {
     let text = text_of(alloc, keeper, &target.table, target.column, row)?;
     Ok(if_short(text))
 }
 
-/// Adds the words by which a row becomes a document of an index on this target, with the postings of the row's text.
+/// Adds the changes by which a row becomes a document of an index on this target, with the postings of the row's text.
 pub(crate) fn mark_next<K: Keeper>(
     alloc: Global,
     keeper: &mut K,
-    words: &mut Batch,
+    changes: &mut Batch,
     index: &Name,
     target: &Target,
     document: u32,
     row: RowKey,
 ) -> Result<(), KeepFault>
-    requires ready { (K.keeping keeper.old).ready }
+    requires ready { (K.view keeper.old).ready }
     requires some { 1 ≤ document }
-    ensures words { (m : Content) (ts : Tables) → (K.keeping keeper.old).content ≡ Some m → HoldsTables m ts → OnOk result (words.new ≡ words.old ++ spell (document_words index.now document row.0 (target_text ts target.now row.0))) }
-    ensures reads { OnlyReads K.keeping keeper.old keeper.new result }
+    ensures changes { (m : Content) (ts : Tables) → (K.view keeper.old).content ≡ Some m → HoldsTables m ts → OnOk result (changes.new ≡ changes.old ++ spell (document_changes index.now document row.0 (target_text ts target.now row.0))) }
+    ensures reads { OnlyReads K.view keeper.old keeper.new result }
 {
     let text = seen_text(alloc, keeper, target, row)?;
-    mark_row(alloc, words, index, document, row, text)?;
+    mark_row(alloc, changes, index, document, row, text)?;
     Ok(())
 }
 

@@ -1,8 +1,8 @@
 //! Noting changes of rows in indexes.
 
 ghost use Rattle.std.specs.Prelude.{◌≡◌, ◌++◌, OnOk, OnErr, Err};
-ghost use Rattle.ct_entry.specs.Words.{spell};
-ghost use Rattle.ix_context.specs.Changes.{note_insert_words};
+ghost use Rattle.ct_entry.specs.Changes.{spell};
+ghost use Rattle.ix_context.specs.Changes.{note_insert_changes};
 
 use crate::faults::ContextFault;
 use ct_base::{Name, RowKey};
@@ -11,14 +11,14 @@ use ct_entry::{Kind, put_entry};
 use ct_keep::Batch;
 use std::alloc::Global;
 
-/// Adds the word that a row waits for the next synchronisation of an index. It fails only for want of memory.
+/// Adds the change that a row waits for the next synchronisation of an index. It fails only for want of memory.
 pub fn note_insert(
     alloc: Global,
     batch: &mut Batch,
     index: &Name,
     key: RowKey,
 ) -> Result<(), ContextFault>
-    ensures ok { OnOk result (batch.new ≡ batch.old ++ spell (note_insert_words index.now key.0)) }
+    ensures ok { OnOk result (batch.new ≡ batch.old ++ spell (note_insert_changes index.now key.0)) }
     ensures err { OnErr result (batch.new ≡ batch.old) }
     ensures no_disk { result ≡ Err ContextFault.Disk → ⊥ }
     ensures never_too_many { result ≡ Err ContextFault.TooMany → ⊥ }

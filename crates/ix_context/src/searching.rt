@@ -4,7 +4,7 @@
 ghost use Rattle.std.specs.Prelude.{◌≡◌, ◌++◌, ◌<◌, ◌∷◌, List, IfOk, OnOk, Some, Err, map, length, MatchOption};
 ghost use Rattle.std.specs.Option.{option_map};
 ghost use Rattle.ct_keep.specs.Content.{Content};
-ghost use Rattle.ct_keep.specs.Keeping.{Finds, OnlyReads, Told};
+ghost use Rattle.ct_keep.specs.KeeperViews.{Finds, OnlyReads, Told};
 ghost use Rattle.ct_keep.specs.Looks.{no_looks, scan_looks, LooksAtMost};
 ghost use Rattle.ct_entry.specs.Keys.{at, prefix_of, IsToken, HasKeysOnly};
 ghost use Rattle.std.specs.FinMap.{get, empty};
@@ -34,10 +34,10 @@ fn row_of_document<K: Keeper>(
     index: &Name,
     document: u32,
 ) -> Result<Option<RowKey>, KeepFault>
-    requires { (K.keeping keeper.old).ready }
-    ensures row { Finds K.keeping keeper.old result (λ m row. option_map (λ r. r.0) row ≡ document_row (at m) index.now document) }
-    ensures reads { OnlyReads K.keeping keeper.old keeper.new result }
-    ensures at_most { LooksAtMost K.keeping keeper.old keeper.new no_looks }
+    requires { (K.view keeper.old).ready }
+    ensures row { Finds K.view keeper.old result (λ m row. option_map (λ r. r.0) row ≡ document_row (at m) index.now document) }
+    ensures reads { OnlyReads K.view keeper.old keeper.new result }
+    ensures at_most { LooksAtMost K.view keeper.old keeper.new no_looks }
 {
     let part = document.to_be_bytes();
     let Some(value) = fetch_entry(alloc, keeper, Kind::DocumentRows, index, &part)? else {
@@ -54,10 +54,10 @@ fn score_documents<K: Keeper>(
     scores: &mut Scores,
     documents: &[RowDocument],
 ) -> Result<(), KeepFault>
-    requires { (K.keeping keeper.old).ready }
-    ensures scores { (m : Content) → (K.keeping keeper.old).content ≡ Some m → OnOk result (scores.new ≡ with_documents (at m) index.now documents.now scores.old) }
-    ensures reads { OnlyReads K.keeping keeper.old keeper.new result }
-    ensures at_most { LooksAtMost K.keeping keeper.old keeper.new no_looks }
+    requires { (K.view keeper.old).ready }
+    ensures scores { (m : Content) → (K.view keeper.old).content ≡ Some m → OnOk result (scores.new ≡ with_documents (at m) index.now documents.now scores.old) }
+    ensures reads { OnlyReads K.view keeper.old keeper.new result }
+    ensures at_most { LooksAtMost K.view keeper.old keeper.new no_looks }
 {
     for found in documents {
         if let Some(row) = row_of_document(alloc, keeper, index, found.document)? {
@@ -76,10 +76,10 @@ fn score_row<K: Keeper>(
     scores: &mut Scores,
     value: &[u8],
 ) -> Result<(), KeepFault>
-    requires { (K.keeping keeper.old).ready }
-    ensures scores { (m : Content) (row : List RowDocument) → (K.keeping keeper.old).content ≡ Some m → IsRow row → row_bytes row ≡ value.now → OnOk result (scores.new ≡ with_documents (at m) index.now row scores.old) }
-    ensures reads { OnlyReads K.keeping keeper.old keeper.new result }
-    ensures at_most { LooksAtMost K.keeping keeper.old keeper.new no_looks }
+    requires { (K.view keeper.old).ready }
+    ensures scores { (m : Content) (row : List RowDocument) → (K.view keeper.old).content ≡ Some m → IsRow row → row_bytes row ≡ value.now → OnOk result (scores.new ≡ with_documents (at m) index.now row scores.old) }
+    ensures reads { OnlyReads K.view keeper.old keeper.new result }
+    ensures at_most { LooksAtMost K.view keeper.old keeper.new no_looks }
 {
     match Row::decode(alloc, value) {
         Ok(row) => score_documents(alloc, keeper, index, scores, row.documents()),
@@ -95,10 +95,10 @@ fn scores_of<K: Keeper>(
     index: &Name,
     rows: &[(Vec<u8>, Vec<u8>)],
 ) -> Result<Scores, KeepFault>
-    requires { (K.keeping keeper.old).ready }
-    ensures scores { (m : Content) (held : List (List RowDocument)) → (K.keeping keeper.old).content ≡ Some m → HoldRows (map (λ e. (e.0.items, e.1.items)) rows.now) held → IfOk result (λ scores. scores ≡ with_postings (at m) index.now held empty) }
-    ensures reads { OnlyReads K.keeping keeper.old keeper.new result }
-    ensures at_most { LooksAtMost K.keeping keeper.old keeper.new no_looks }
+    requires { (K.view keeper.old).ready }
+    ensures scores { (m : Content) (held : List (List RowDocument)) → (K.view keeper.old).content ≡ Some m → HoldRows (map (λ e. (e.0.items, e.1.items)) rows.now) held → IfOk result (λ scores. scores ≡ with_postings (at m) index.now held empty) }
+    ensures reads { OnlyReads K.view keeper.old keeper.new result }
+    ensures at_most { LooksAtMost K.view keeper.old keeper.new no_looks }
 {
     let mut scores = Scores::new(alloc);
     for (_, value) in rows {
@@ -126,7 +126,7 @@ fn front_of(alloc: Global, word: &Key) -> Result<Option<Vec<u8>>, Memory>
 /// The rows that have a word, with their scores, in order of their keys. A word of no byte or of over 255 is the key of no
 /// token, and finds nothing without a look-up.
 ///
-/// It costs that word's rows of postings, and for each document of theirs a look-up and the logarithm of their number. It
+/// It costs that change's rows of postings, and for each document of theirs a look-up and the logarithm of their number. It
 /// reads no text, and never answers Full.
 pub fn search<K: Keeper>(
     alloc: Global,
@@ -134,10 +134,10 @@ pub fn search<K: Keeper>(
     index: &Name,
     word: &Key,
 ) -> Result<Vec<Hit>, KeepFault>
-    requires { (K.keeping keeper.old).ready }
-    ensures found { (m : Content) (ts : Tables) (xs : Names Index) (x : Index) → (K.keeping keeper.old).content ≡ Some m → HasKeysOnly m → IndexesStand (at m) ts xs → get xs index.now ≡ Some x → IsWithinLimits ts x → IfOk result (λ hits. map (λ h. (h.key.0, h.score)) hits.items ≡ found ts x word.now 0) }
-    ensures reads { OnlyReads K.keeping keeper.old keeper.new result }
-    ensures at_most { Told K.keeping keeper.old (λ m. LooksAtMost K.keeping keeper.old keeper.new (scan_looks (prefix_of kind.Postings index.now ++ 0 ∷ length word.now ∷ word.now) m)) }
+    requires { (K.view keeper.old).ready }
+    ensures found { (m : Content) (ts : Tables) (xs : Names Index) (x : Index) → (K.view keeper.old).content ≡ Some m → HasKeysOnly m → IndexesStand (at m) ts xs → get xs index.now ≡ Some x → IsWithinLimits ts x → IfOk result (λ hits. map (λ h. (h.key.0, h.score)) hits.items ≡ found ts x word.now 0) }
+    ensures reads { OnlyReads K.view keeper.old keeper.new result }
+    ensures at_most { Told K.view keeper.old (λ m. LooksAtMost K.view keeper.old keeper.new (scan_looks (prefix_of kind.Postings index.now ++ 0 ∷ length word.now ∷ word.now) m)) }
 {
     let Some(front) = front_of(alloc, word)? else {
         return Ok(Vec::new(alloc));

@@ -5,13 +5,13 @@ ghost use Rattle.std.specs.Prelude.{◌≡◌, ◌+◌, ◌≤◌, ◌<◌, ◌^
 ghost use Rattle.std.specs.Option.{option_map};
 ghost use Rattle.std.specs.FinMap.{get};
 ghost use Rattle.ct_keep.specs.Content.{Content};
-ghost use Rattle.ct_keep.specs.Keeping.{OnlyReads, Reads};
+ghost use Rattle.ct_keep.specs.KeeperViews.{OnlyReads, Reads};
 ghost use Rattle.ct_entry.specs.Each.{each};
 ghost use Rattle.ct_entry.specs.Maps.{Names};
-ghost use Rattle.ct_entry.specs.Words.{spell};
+ghost use Rattle.ct_entry.specs.Changes.{spell};
 ghost use Rattle.tb_table.specs.Tables.{Tables};
 ghost use Rattle.ix_context.specs.Indexes.{Index, pending_rows, target_text};
-ghost use Rattle.ix_context.specs.Changes.{numbered, settle_with, settled_with, sync_words};
+ghost use Rattle.ix_context.specs.Changes.{numbered, settle_with, settled_with, sync_changes};
 ghost use Rattle.ix_context.specs.Faults.{context_fault_of};
 ghost use Rattle.ix_context.specs.Rules.{most_given};
 ghost use Rattle.ix_context.specs.Stands.{HoldsTables, HoldsIndexes};
@@ -26,53 +26,53 @@ use ct_keep::{Batch, KeepFault, Keeper};
 use std::alloc::Global;
 use tb_table::Target;
 
-/// Adds the words by which a row that waits becomes a document of an index on this target.
+/// Adds the changes by which a row that waits becomes a document of an index on this target.
 fn settle_row<K: Keeper>(
     alloc: Global,
     keeper: &mut K,
-    words: &mut Batch,
+    changes: &mut Batch,
     index: &Name,
     target: &Target,
     document: u32,
     row: RowKey,
 ) -> Result<(), KeepFault>
-    requires ready { (K.keeping keeper.old).ready }
+    requires ready { (K.view keeper.old).ready }
     requires some { 1 ≤ document }
-    ensures words { (m : Content) (ts : Tables) → (K.keeping keeper.old).content ≡ Some m → HoldsTables m ts → OnOk result (words.new ≡ words.old ++ spell (settle_with index.now (target_text ts target.now) (document, row.0))) }
-    ensures reads { OnlyReads K.keeping keeper.old keeper.new result }
+    ensures changes { (m : Content) (ts : Tables) → (K.view keeper.old).content ≡ Some m → HoldsTables m ts → OnOk result (changes.new ≡ changes.old ++ spell (settle_with index.now (target_text ts target.now) (document, row.0))) }
+    ensures reads { OnlyReads K.view keeper.old keeper.new result }
 {
     let part = row_key_bytes(row);
-    remove_entry(alloc, words, Kind::Pending, index, &part)?;
-    mark_next(alloc, keeper, words, index, target, document, row)
+    remove_entry(alloc, changes, Kind::Pending, index, &part)?;
+    mark_next(alloc, keeper, changes, index, target, document, row)
 }
 
-/// Adds the words by which rows that wait become documents of an index on this target, the first of them this one.
+/// Adds the changes by which rows that wait become documents of an index on this target, the first of them this one.
 fn settle_rows<K: Keeper>(
     alloc: Global,
     keeper: &mut K,
-    words: &mut Batch,
+    changes: &mut Batch,
     index: &Name,
     target: &Target,
     first: u32,
     rows: &[RowKey],
 ) -> Result<(), KeepFault>
-    requires ready { (K.keeping keeper.old).ready }
+    requires ready { (K.view keeper.old).ready }
     requires some { 1 ≤ first }
     requires room { first + length rows.now < 2 ^ 32 }
-    ensures words { (m : Content) (ts : Tables) → (K.keeping keeper.old).content ≡ Some m → HoldsTables m ts → OnOk result (words.new ≡ words.old ++ spell (each (settle_with index.now (target_text ts target.now)) (numbered first (map (λ r. r.0) rows.now)))) }
-    ensures reads { OnlyReads K.keeping keeper.old keeper.new result }
+    ensures changes { (m : Content) (ts : Tables) → (K.view keeper.old).content ≡ Some m → HoldsTables m ts → OnOk result (changes.new ≡ changes.old ++ spell (each (settle_with index.now (target_text ts target.now)) (numbered first (map (λ r. r.0) rows.now)))) }
+    ensures reads { OnlyReads K.view keeper.old keeper.new result }
 {
     let mut document = first;
     for row in rows {
-        settle_row(alloc, keeper, words, index, target, document, *row)?;
+        settle_row(alloc, keeper, changes, index, target, document, *row)?;
         document += 1;
     }
     Ok(())
 }
 
-/// The words by which rows that wait become documents of an index on this target that gives this document next. None where
+/// The changes by which rows that wait become documents of an index on this target that gives this document next. None where
 /// there are more rows than numbers.
-fn settled_words<K: Keeper>(
+fn settled_changes<K: Keeper>(
     alloc: Global,
     keeper: &mut K,
     index: &Name,
@@ -80,42 +80,42 @@ fn settled_words<K: Keeper>(
     first: u32,
     rows: &[RowKey],
 ) -> Result<Option<Batch>, KeepFault>
-    requires ready { (K.keeping keeper.old).ready }
+    requires ready { (K.view keeper.old).ready }
     requires some { 1 ≤ first }
-    ensures words { (m : Content) (ts : Tables) → (K.keeping keeper.old).content ≡ Some m → HoldsTables m ts → IfOk result (λ words. MatchOption words (2 ^ 32 ≤ first + length rows.now) (λ ws. (first + length rows.now < 2 ^ 32) × (ws ≡ spell (settled_with index.now target.now (target_text ts target.now) first (map (λ r. r.0) rows.now))))) }
-    ensures reads { OnlyReads K.keeping keeper.old keeper.new result }
+    ensures changes { (m : Content) (ts : Tables) → (K.view keeper.old).content ≡ Some m → HoldsTables m ts → IfOk result (λ changes. MatchOption changes (2 ^ 32 ≤ first + length rows.now) (λ ws. (first + length rows.now < 2 ^ 32) × (ws ≡ spell (settled_with index.now target.now (target_text ts target.now) first (map (λ r. r.0) rows.now))))) }
+    ensures reads { OnlyReads K.view keeper.old keeper.new result }
 {
-    let mut words = Batch::new(alloc);
+    let mut changes = Batch::new(alloc);
     if rows.is_empty() {
-        return Ok(Some(words));
+        return Ok(Some(changes));
     }
     let Some(next) = number_behind(first, rows.len()) else {
         return Ok(None);
     };
-    settle_rows(alloc, keeper, &mut words, index, target, first, rows)?;
-    put_index(alloc, &mut words, index, target, next)?;
-    Ok(Some(words))
+    settle_rows(alloc, keeper, &mut changes, index, target, first, rows)?;
+    put_index(alloc, &mut changes, index, target, next)?;
+    Ok(Some(changes))
 }
 
-/// The words of a synchronisation of an index; none where there is no such index. None where more rows wait than it has
+/// The changes of a synchronisation of an index; none where there is no such index. None where more rows wait than it has
 /// numbers for.
-fn words_of_sync<K: Keeper>(
+fn changes_of_sync<K: Keeper>(
     alloc: Global,
     keeper: &mut K,
     index: &Name,
 ) -> Result<Option<Batch>, KeepFault>
-    requires { (K.keeping keeper.old).ready }
-    ensures words { (m : Content) (ts : Tables) (xs : Names Index) (x : Index) → (K.keeping keeper.old).content ≡ Some m → HoldsIndexes m ts xs → get xs index.now ≡ Some x → IfOk result (λ words. MatchOption words (most_given < x.given + length (pending_rows x)) (λ ws. (x.given + length (pending_rows x) ≤ most_given) × (ws ≡ spell (sync_words ts index.now x)))) }
-    ensures reads { OnlyReads K.keeping keeper.old keeper.new result }
+    requires { (K.view keeper.old).ready }
+    ensures changes { (m : Content) (ts : Tables) (xs : Names Index) (x : Index) → (K.view keeper.old).content ≡ Some m → HoldsIndexes m ts xs → get xs index.now ≡ Some x → IfOk result (λ changes. MatchOption changes (most_given < x.given + length (pending_rows x)) (λ ws. (x.given + length (pending_rows x) ≤ most_given) × (ws ≡ spell (sync_changes ts index.now x)))) }
+    ensures reads { OnlyReads K.view keeper.old keeper.new result }
 {
     let Some((target, next)) = read_index(alloc, keeper, index)? else {
         return Ok(Some(Batch::new(alloc)));
     };
     let rows = row_keys(alloc, keeper, Kind::Pending, index)?;
-    settled_words(alloc, keeper, index, &target, next.max(1), &rows)
+    settled_changes(alloc, keeper, index, &target, next.max(1), &rows)
 }
 
-/// Adds the words by which each row that waits becomes a document of the index: in order of their keys they take the next
+/// Adds the changes by which each row that waits becomes a document of the index: in order of their keys they take the next
 /// document numbers, and the tokens of their texts get postings. Nothing where no row waits, and where there is no such
 /// index.
 ///
@@ -127,20 +127,20 @@ pub fn sync<K: Keeper>(
     batch: &mut Batch,
     index: &Name,
 ) -> Result<(), ContextFault>
-    requires { (K.keeping keeper.old).ready }
-    ensures words { (m : Content) (ts : Tables) (xs : Names Index) (x : Index) → (K.keeping keeper.old).content ≡ Some m → HoldsIndexes m ts xs → get xs index.now ≡ Some x → OnOk result (batch.new ≡ batch.old ++ spell (sync_words ts index.now x)) }
-    ensures room { (m : Content) (ts : Tables) (xs : Names Index) (x : Index) → (K.keeping keeper.old).content ≡ Some m → HoldsIndexes m ts xs → get xs index.now ≡ Some x → OnOk result (x.given + length (pending_rows x) ≤ most_given) }
-    ensures many { (m : Content) (ts : Tables) (xs : Names Index) (x : Index) → (K.keeping keeper.old).content ≡ Some m → HoldsIndexes m ts xs → get xs index.now ≡ Some x → result ≡ Err ContextFault.TooMany → most_given < x.given + length (pending_rows x) }
+    requires { (K.view keeper.old).ready }
+    ensures changes { (m : Content) (ts : Tables) (xs : Names Index) (x : Index) → (K.view keeper.old).content ≡ Some m → HoldsIndexes m ts xs → get xs index.now ≡ Some x → OnOk result (batch.new ≡ batch.old ++ spell (sync_changes ts index.now x)) }
+    ensures room { (m : Content) (ts : Tables) (xs : Names Index) (x : Index) → (K.view keeper.old).content ≡ Some m → HoldsIndexes m ts xs → get xs index.now ≡ Some x → OnOk result (x.given + length (pending_rows x) ≤ most_given) }
+    ensures many { (m : Content) (ts : Tables) (xs : Names Index) (x : Index) → (K.view keeper.old).content ≡ Some m → HoldsIndexes m ts xs → get xs index.now ≡ Some x → result ≡ Err ContextFault.TooMany → most_given < x.given + length (pending_rows x) }
     ensures err { OnErr result (batch.new ≡ batch.old) }
-    ensures reads { Reads (K.keeping keeper.old) (K.keeping keeper.new) (context_fault_of result) }
+    ensures reads { Reads (K.view keeper.old) (K.view keeper.new) (context_fault_of result) }
 {
-    let found = match words_of_sync(alloc, keeper, index) {
+    let found = match changes_of_sync(alloc, keeper, index) {
         Ok(found) => found,
         Err(fault) => return Err(fault_of_reads(fault)),
     };
-    let Some(words) = found else {
+    let Some(changes) = found else {
         return Err(ContextFault::TooMany);
     };
-    batch.append(words)?;
+    batch.append(changes)?;
     Ok(())
 }

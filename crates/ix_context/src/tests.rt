@@ -2,39 +2,39 @@
 
 ghost use Rattle.std.specs.Prelude.{true, IsTrue, [], ◌∷◌};
 ghost use Rattle.ct_keep.specs.Spoken.{spoken};
-ghost use Rattle.ct_keep.specs.Words.{AreWell};
+ghost use Rattle.ct_keep.specs.Changes.{AreWell};
 
 use crate::{Hit, KeyRange, create, note_insert, search, sync};
 use ct_base::{Memory, Name, RowKey, Text};
-use ct_keep::{Batch, Keeper, MemKeeper, Word};
+use ct_keep::{Batch, Change, Keeper, MemKeeper};
 use std::alloc::Global;
 use std::test::Fail;
 use tb_table::{Target, insert};
 use tx_chars::key;
 
-/// Whether a keeper may hold what the word puts.
-fn is_entry(word: &Word) -> bool
-    ensures { IsTrue result → AreWell (λ _ _. true) (spoken word.now ∷ []) }
+/// Whether a keeper may hold what the change puts.
+fn is_entry(change: &Change) -> bool
+    ensures { IsTrue result → AreWell (λ _ _. true) (spoken change.now ∷ []) }
 {
-    match &word.value {
+    match &change.value {
         None => true,
-        Some(value) => !word.key.is_empty() && word.key.len() <= 600 && value.len() <= 10_000,
+        Some(value) => !change.key.is_empty() && change.key.len() <= 600 && value.len() <= 10_000,
     }
 }
 
-/// Whether a keeper may hold what the words put.
+/// Whether a keeper may hold what the changes put.
 fn are_entries(batch: &Batch) -> bool
     ensures { IsTrue result → AreWell (λ _ _. true) batch.now }
 {
-    for word in batch.words() {
-        if !is_entry(word) {
+    for change in batch.changes() {
+        if !is_entry(change) {
             return false;
         }
     }
     true
 }
 
-/// Commits the words, if the keeper may hold what they put.
+/// Commits the changes, if the keeper may hold what they put.
 fn commit(alloc: Global, keeper: &mut MemKeeper, batch: Batch) -> Result<(), Fail> {
     if !are_entries(&batch) {
         return Err(Fail::new("no keeper holds such an entry"));
@@ -80,11 +80,11 @@ fn add_note(alloc: Global, keeper: &mut MemKeeper, index: &Name, row: i64) -> Re
     commit(alloc, keeper, batch)
 }
 
-/// Synchronises an index, and counts the words that this took.
+/// Synchronises an index, and counts the changes that this took.
 fn settle(alloc: Global, keeper: &mut MemKeeper, index: &Name) -> Result<usize, Fail> {
     let mut batch = Batch::new(alloc);
     sync(alloc, keeper, &mut batch, index)?;
-    let count = batch.words().len();
+    let count = batch.changes().len();
     commit(alloc, keeper, batch)?;
     Ok(count)
 }
@@ -98,9 +98,14 @@ fn say_hit(alloc: Global, line: &mut String, hit: Hit) -> Result<(), Memory> {
 }
 
 /// The rows that have a word, each with its score.
-fn found(alloc: Global, keeper: &mut MemKeeper, index: &Name, word: &str) -> Result<String, Fail> {
-    let word = key(alloc, word)?;
-    let hits = search(alloc, keeper, index, &word)?;
+fn found(
+    alloc: Global,
+    keeper: &mut MemKeeper,
+    index: &Name,
+    change: &str,
+) -> Result<String, Fail> {
+    let change = key(alloc, change)?;
+    let hits = search(alloc, keeper, index, &change)?;
     let mut line = String::new(alloc);
     for hit in hits.iter() {
         say_hit(alloc, &mut line, *hit)?;
@@ -134,7 +139,7 @@ fn found_later(alloc: Global, word: &str, times: u32) -> Result<(String, usize),
     for _ in 0..times {
         count = settle(alloc, &mut keeper, &index)?;
     }
-    let line = found(alloc, &mut keeper, &index, word)?;
+    let line = found(alloc, &mut keeper, &index, change)?;
     Ok((line, count))
 }
 

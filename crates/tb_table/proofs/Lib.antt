@@ -1,6 +1,6 @@
-pub mod TextWords
+pub mod TextChanges
 pub mod ColumnSteps
 pub mod NumberSteps
 pub mod NameSteps
-pub mod TestWords
+pub mod TestChanges
 pub mod CountSteps

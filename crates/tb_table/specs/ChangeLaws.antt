@@ -1,4 +1,4 @@
--- What words make of entries that spell tables: what statements make of the tables.
+-- What changes make of entries that spell tables: what statements make of the tables.
 use Rattle.std.proofs.Common.{◌≡◌, ℕ, ℤ, zero, suc, ◌+◌, ◌<◌, Bool, true, false, cond, List, [], ◌∷◌, Option, Some, None, refl, sym, ap, ◌∙◌, arith}
 use Rattle.std.specs.Prelude.{◌==◌, ◌&&◌}
 use Rattle.std.specs.Option.{option_map, option_and_then, option_or}
@@ -10,25 +10,25 @@ use Rattle.ct_base.specs.declared.lists.Value.TheVariants.{Number as NumberValue
 use Rattle.ct_entry.specs.declared.kinds.Kind.{Kind}
 use Rattle.ct_entry.specs.declared.kinds.Kind.TheVariants as kind
 use Rattle.ct_entry.specs.Keys.{Key, key, same, same_list, row_part, text_part, IsRow}
-use Rattle.ct_entry.specs.Words.{told, view, AllOf}
+use Rattle.ct_entry.specs.Changes.{told, view, AllOf}
 use Rattle.ct_entry.specs.KeyLaws.{list_from_same}
 use Rattle.ct_entry.specs.PartLaws.{rows_tie, texts_tie, same_kind, int_from_eq}
 use Rattle.ct_entry.specs.MapLaws.{get_name-insert, get_row-insert}
-use Rattle.ct_entry.specs.WordLaws.{told_frame}
+use Rattle.ct_entry.specs.ChangeLaws.{told_frame}
 use Rattle.tb_table.specs.declared.columns.Column.{Column}
 use Rattle.tb_table.specs.Tables.{Table, Tables, row_in, row_at, numbers_of, as_text, text_in, text_of, texts_from, texts_of, with_table, altered, with_row}
-use Rattle.tb_table.specs.Spelling.{columns_bytes, numbers_bytes, TablesStand, create_words, text_words, insert_words}
+use Rattle.tb_table.specs.Spelling.{columns_bytes, numbers_bytes, TablesStand, create_changes, text_changes, insert_changes}
 
 -- ---- the laws
 
 -- after CREATE TABLE of a name that is free
 abbrev pub NewTablesStand : Type 0
-NewTablesStand = (f : Key → Option (List ℕ)) (ts : Tables) (t : List ℕ) (columns : List Column) → get ts t ≡ None → TablesStand f ts → TablesStand (view (create_words t columns) f) (with_table ts t columns)
+NewTablesStand = (f : Key → Option (List ℕ)) (ts : Tables) (t : List ℕ) (columns : List Column) → get ts t ≡ None → TablesStand f ts → TablesStand (view (create_changes t columns) f) (with_table ts t columns)
 
 -- after INSERT of a row that isn't there into a table that is
 abbrev pub NewRowsStand : Type 0
 NewRowsStand = (f : Key → Option (List ℕ)) (ts : Tables) (t : List ℕ) (r : ℤ) (vs : List Value) (x : Table) → get ts t ≡ Some x → get x.rows r ≡ None → IsRow r → TablesStand f ts
-    → TablesStand (view (insert_words t r (numbers_of vs) (texts_of vs)) f) (with_row ts t r vs)
+    → TablesStand (view (insert_changes t r (numbers_of vs) (texts_of vs)) f) (with_row ts t r vs)
 
 -- ---- the kinds of tables
 
@@ -42,17 +42,17 @@ abbrev pub is_of_texts : Kind → Bool
 is_of_texts kind.RowTexts = true
 is_of_texts k = false
 
-pub all_create : (t : List ℕ) (columns : List Column) → AllOf is_of_tables (create_words t columns)
+pub all_create : (t : List ℕ) (columns : List Column) → AllOf is_of_tables (create_changes t columns)
 all_create t columns = (refl, tt)
 
-pub all_texts : (t : List ℕ) (r : ℤ) (texts : List (ℕ × List ℕ)) → AllOf is_of_texts (text_words t r texts)
+pub all_texts : (t : List ℕ) (r : ℤ) (texts : List (ℕ × List ℕ)) → AllOf is_of_texts (text_changes t r texts)
 all_texts t r [] = tt
 all_texts t r (x ∷ texts) = (refl, all_texts t r texts)
 
-pub all_insert : (t : List ℕ) (r : ℤ) (numbers : List ℤ) (texts : List (ℕ × List ℕ)) → AllOf is_of_tables (insert_words t r numbers texts)
+pub all_insert : (t : List ℕ) (r : ℤ) (numbers : List ℤ) (texts : List (ℕ × List ℕ)) → AllOf is_of_tables (insert_changes t r numbers texts)
 all_insert t r numbers texts = (refl, each texts)
   where
-    each : (texts : List (ℕ × List ℕ)) → AllOf is_of_tables (text_words t r texts)
+    each : (texts : List (ℕ × List ℕ)) → AllOf is_of_tables (text_changes t r texts)
     each [] = tt
     each (x ∷ texts) = (refl, each texts)
 
@@ -64,7 +64,7 @@ tables_agree f g ts same stand = record {
   texts = λ t c r few row. same (key kind.RowTexts t (text_part c r)) refl ∙ stand.texts t c r few row;
 }
 
--- words on other kinds change nothing
+-- changes on other kinds change nothing
 pub tables_frame : (p : Kind → Bool) (ws : List (Key × Option (List ℕ))) (f : Key → Option (List ℕ)) (ts : Tables) → AllOf p ws → ((k : Kind) → is_of_tables k ≡ true → p k ≡ false) → TablesStand f ts → TablesStand (view ws f) ts
 tables_frame p ws f ts all other stand = tables_agree f (view ws f) ts (λ k of. told_frame p ws k (f k) all (other k.kind of)) stand
 
@@ -153,9 +153,9 @@ text_from-text_of : (vs : List Value) (c : ℕ) → text_from 1 vs c ≡ text_of
 text_from-text_of vs zero = text_from_behind 1 vs 0 (omega arith)
 text_from-text_of vs (suc place) = ap (text_from 1 vs) (let e : suc place ≡ place + 1 = omega arith in e) ∙ text_from_at 1 place vs
 
--- what a text's key has after words for texts
+-- what a text's key has after changes for texts
 told_texts : (t : List ℕ) (r : ℤ) (q : List ℕ) (c : ℕ) (s : ℤ) → IsRow r → IsRow s → (from : ℕ) (vs : List Value) (old : Option (List ℕ))
-    → told (text_words t r (texts_from from vs)) (key kind.RowTexts q (text_part c s)) old ≡ cond (same_list q t && int_eq s r) (option_or (text_from from vs c) old) old
+    → told (text_changes t r (texts_from from vs)) (key kind.RowTexts q (text_part c s)) old ≡ cond (same_list q t && int_eq s r) (option_or (text_from from vs c) old) old
 told_texts t r q c s row here from [] old = neither (same_list q t && int_eq s r)
   where
     neither : (b : Bool) → old ≡ cond b old old
@@ -191,10 +191,10 @@ no_row ts t r x is none = ap (λ (o : Option Table). row_in o r) is ∙ none
 pub stand_insert : NewRowsStand
 stand_insert f ts t r vs x is none row stand = record {
   tables = λ q.
-      told_frame is_of_texts (text_words t r (texts_of vs)) (key kind.Tables q []) (f (key kind.Tables q [])) (all_texts t r (texts_of vs)) refl
+      told_frame is_of_texts (text_changes t r (texts_of vs)) (key kind.Tables q []) (f (key kind.Tables q [])) (all_texts t r (texts_of vs)) refl
       ∙ stand.tables q ∙ spelt_columns (get ts q) ∙ ap (option_map columns_bytes) (sym (columns-with_row ts t r vs x is q)) ∙ sym (spelt_columns (get (with_row ts t r vs) q));
   numbers = λ q s here.
-      told_frame is_of_texts (text_words t r (texts_of vs)) (key kind.RowNumbers q (row_part s)) (cond (same (key kind.RowNumbers q (row_part s)) (key kind.RowNumbers t (row_part r))) (Some (numbers_bytes (numbers_of vs))) (f (key kind.RowNumbers q (row_part s)))) (all_texts t r (texts_of vs)) refl
+      told_frame is_of_texts (text_changes t r (texts_of vs)) (key kind.RowNumbers q (row_part s)) (cond (same (key kind.RowNumbers q (row_part s)) (key kind.RowNumbers t (row_part r))) (Some (numbers_bytes (numbers_of vs))) (f (key kind.RowNumbers q (row_part s)))) (all_texts t r (texts_of vs)) refl
       ∙ ap (cond (same (key kind.RowNumbers q (row_part s)) (key kind.RowNumbers t (row_part r))) (Some (numbers_bytes (numbers_of vs)))) (stand.numbers q s here)
       ∙ ap (λ (b : Bool). cond b (Some (numbers_bytes (numbers_of vs))) (option_map (λ ws. numbers_bytes (numbers_of ws)) (row_at ts q s))) (same_kind kind.RowNumbers q t (row_part s) (row_part r) ∙ ap (λ (b : Bool). same_list q t && b) (rows_tie s r here row))
       ∙ at_numbers (same_list q t) (int_eq s r) (row_at ts q s)

@@ -8,7 +8,7 @@ use Rattle.ct_bytes.specs.Varints.{varint, text_bytes}
 use Rattle.ct_bytes.specs.RowKeys.{row_bytes}
 use Rattle.ct_entry.specs.declared.kinds.Kind.TheVariants as kind
 use Rattle.ct_entry.specs.Keys.{Key, key, row_part, text_part, IsRow}
-use Rattle.ct_entry.specs.Words.{put, spell}
+use Rattle.ct_entry.specs.Changes.{put, spell}
 use Rattle.tb_table.specs.declared.columns.Sort.{Sort}
 use Rattle.tb_table.specs.declared.columns.Sort.TheVariants.{Number, Varchar2, Clob}
 use Rattle.tb_table.specs.declared.columns.Column.{Column}
@@ -46,15 +46,15 @@ pub record TablesStand (f : Key → Option (List ℕ)) (ts : Tables) : Type 0 wh
 
 -- ---- what calls put into a batch
 
-abbrev pub create_words : List ℕ → List Column → List (Key × Option (List ℕ))
-create_words t columns = put (key kind.Tables t []) (columns_bytes columns) ∷ []
+abbrev pub create_changes : List ℕ → List Column → List (Key × Option (List ℕ))
+create_changes t columns = put (key kind.Tables t []) (columns_bytes columns) ∷ []
 
--- a word for each text, by its column
-abbrev pub text_words : List ℕ → ℤ → List (ℕ × List ℕ) → List (Key × Option (List ℕ))
-text_words t r texts = map (λ (x : ℕ × List ℕ). put (key kind.RowTexts t (text_part x.0 r)) x.1) texts
+-- a change for each text, by its column
+abbrev pub text_changes : List ℕ → ℤ → List (ℕ × List ℕ) → List (Key × Option (List ℕ))
+text_changes t r texts = map (λ (x : ℕ × List ℕ). put (key kind.RowTexts t (text_part x.0 r)) x.1) texts
 
-abbrev pub insert_words : List ℕ → ℤ → List ℤ → List (ℕ × List ℕ) → List (Key × Option (List ℕ))
-insert_words t r numbers texts = put (key kind.RowNumbers t (row_part r)) (numbers_bytes numbers) ∷ text_words t r texts
+abbrev pub insert_changes : List ℕ → ℤ → List ℤ → List (ℕ × List ℕ) → List (Key × Option (List ℕ))
+insert_changes t r numbers texts = put (key kind.RowNumbers t (row_part r)) (numbers_bytes numbers) ∷ text_changes t r texts
 
 -- computed examples
 
@@ -64,14 +64,14 @@ two_columns : columns_bytes (record { name = codes "id"; sort = Number } ∷ rec
 unfolding varint
 two_columns = refl
 
--- the words of the row 1 of a table `docs` with a text and a number behind the key
-a_row : spell (insert_words (codes "docs") (pos 1) (numbers_of (Text (codes "quick fox quick") ∷ NumberValue (pos 0) ∷ [])) (texts_of (Text (codes "quick fox quick") ∷ NumberValue (pos 0) ∷ [])))
+-- the changes of the row 1 of a table `docs` with a text and a number behind the key
+a_row : spell (insert_changes (codes "docs") (pos 1) (numbers_of (Text (codes "quick fox quick") ∷ NumberValue (pos 0) ∷ [])) (texts_of (Text (codes "quick fox quick") ∷ NumberValue (pos 0) ∷ [])))
     ≡ (0x02 ∷ 4 ∷ codes "docs" ++ 0x80 ∷ 0 ∷ 0 ∷ 0 ∷ 0 ∷ 0 ∷ 0 ∷ 1 ∷ [], Some (0x80 ∷ 0 ∷ 0 ∷ 0 ∷ 0 ∷ 0 ∷ 0 ∷ 0 ∷ []))
     ∷ (0x03 ∷ 4 ∷ codes "docs" ++ 1 ∷ 0x80 ∷ 0 ∷ 0 ∷ 0 ∷ 0 ∷ 0 ∷ 0 ∷ 1 ∷ [], Some (codes "quick fox quick")) ∷ []
 unfolding row_bytes
 a_row = refl
 
 -- a row without numbers and texts has an entry all the same
-a_bare_row : spell (insert_words (codes "t") (pos 7) [] []) ≡ (0x02 ∷ 1 ∷ 0x74 ∷ 0x80 ∷ 0 ∷ 0 ∷ 0 ∷ 0 ∷ 0 ∷ 0 ∷ 7 ∷ [], Some []) ∷ []
+a_bare_row : spell (insert_changes (codes "t") (pos 7) [] []) ≡ (0x02 ∷ 1 ∷ 0x74 ∷ 0x80 ∷ 0 ∷ 0 ∷ 0 ∷ 0 ∷ 0 ∷ 0 ∷ 7 ∷ [], Some []) ∷ []
 unfolding row_bytes
 a_bare_row = refl

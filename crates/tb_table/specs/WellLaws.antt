@@ -1,4 +1,4 @@
--- The words of new tables and rows are on keys of their kinds, and put what a keeper may hold.
+-- The changes of new tables and rows are on keys of their kinds, and put what a keeper may hold.
 use Rattle.std.proofs.Common.{◌≡◌, ℕ, ℤ, suc, ◌+◌, ◌*◌, ◌<◌, ◌≤◌, Bool, true, List, [], ◌∷◌, length, refl, arith, length-append}
 use Rattle.std.specs.List.{flat_map}
 use Rattle.ct_base.specs.Names.{IsName}
@@ -7,17 +7,17 @@ use Rattle.ct_base.specs.declared.lists.Value.{Value}
 use Rattle.ct_base.specs.declared.lists.Value.TheVariants.{Number as NumberValue, Text as TextValue}
 use Rattle.ct_bytes.specs.Varints.{varint, text_bytes}
 use Rattle.ct_bytes.specs.VarintLaws.{varint_length}
-use Rattle.ct_keep.specs.Words.{AreWell}
+use Rattle.ct_keep.specs.Changes.{AreWell}
 use Rattle.ct_entry.specs.declared.kinds.Kind.TheVariants as kind
 use Rattle.ct_entry.specs.Keys.{Key, key, bytes, row_part, text_part, IsRow}
-use Rattle.ct_entry.specs.Words.{spell, AreWords, AllOf, AllPut}
+use Rattle.ct_entry.specs.Changes.{spell, AreChanges, AllOf, AllPut}
 use Rattle.ct_entry.specs.PartLaws.{is_short}
 use Rattle.ct_entry.specs.WellLaws.{IsWellAt, are_well}
 use Rattle.tb_table.specs.declared.columns.Sort.{Sort}
 use Rattle.tb_table.specs.declared.columns.Sort.TheVariants.{Number, Varchar2, Clob}
 use Rattle.tb_table.specs.declared.columns.Column.{Column}
 use Rattle.tb_table.specs.Tables.{numbers_of, texts_from, texts_of}
-use Rattle.tb_table.specs.Spelling.{column_bytes, columns_bytes, numbers_bytes, create_words, text_words, insert_words}
+use Rattle.tb_table.specs.Spelling.{column_bytes, columns_bytes, numbers_bytes, create_changes, text_changes, insert_changes}
 use Rattle.tb_table.specs.Rules.{IsSort, Fits, FitColumns, AllColumns, AreColumns, others}
 use Rattle.tb_table.specs.SpellingLaws.{length-numbers_bytes}
 use Rattle.tb_table.specs.Readings.{sort_bytes}
@@ -34,23 +34,23 @@ abbrev pub EachPlace : List (ℕ × List ℕ) → Type 0
 EachPlace [] = Unit {0}
 EachPlace (x ∷ texts) = (x.0 < 256) × EachPlace texts
 
-pub are_create : (t : List ℕ) (columns : List Column) → IsName t → AreWords (create_words t columns)
+pub are_create : (t : List ℕ) (columns : List Column) → IsName t → AreChanges (create_changes t columns)
 are_create t columns name = (record { owner = name; part = refl }, tt)
 
-pub are_insert : (t : List ℕ) (r : ℤ) (numbers : List ℤ) (texts : List (ℕ × List ℕ)) → IsName t → IsRow r → EachPlace texts → AreWords (insert_words t r numbers texts)
+pub are_insert : (t : List ℕ) (r : ℤ) (numbers : List ℤ) (texts : List (ℕ × List ℕ)) → IsName t → IsRow r → EachPlace texts → AreChanges (insert_changes t r numbers texts)
 are_insert t r numbers texts name row places = (record { owner = name; part = (r, row, refl) }, each texts places)
   where
-    each : (texts : List (ℕ × List ℕ)) → EachPlace texts → AreWords (text_words t r texts)
+    each : (texts : List (ℕ × List ℕ)) → EachPlace texts → AreChanges (text_changes t r texts)
     each [] places = tt
     each (x ∷ texts) places = (record { owner = name; part = (x.0, (r, places.0, row, refl)) }, each texts places.1)
 
-pub short_create : (t : List ℕ) (columns : List Column) → AllOf is_short (create_words t columns)
+pub short_create : (t : List ℕ) (columns : List Column) → AllOf is_short (create_changes t columns)
 short_create t columns = (refl, tt)
 
-pub short_insert : (t : List ℕ) (r : ℤ) (numbers : List ℤ) (texts : List (ℕ × List ℕ)) → AllOf is_short (insert_words t r numbers texts)
+pub short_insert : (t : List ℕ) (r : ℤ) (numbers : List ℤ) (texts : List (ℕ × List ℕ)) → AllOf is_short (insert_changes t r numbers texts)
 short_insert t r numbers texts = (refl, each texts)
   where
-    each : (texts : List (ℕ × List ℕ)) → AllOf is_short (text_words t r texts)
+    each : (texts : List (ℕ × List ℕ)) → AllOf is_short (text_changes t r texts)
     each [] = tt
     each (x ∷ texts) = (refl, each texts)
 
@@ -132,12 +132,12 @@ all_others (c ∷ cs) are = are.2
 pub row_texts_short : (cs : List Column) (vs : List Value) → AreColumns cs → FitColumns (others cs) vs → EachShort (texts_of vs)
 row_texts_short cs vs are fit = each_short 1 (others cs) vs (all_others cs are.each) fit
 
--- ---- a keeper may hold what the words put
+-- ---- a keeper may hold what the changes put
 
-pub puts_create : (well : List ℕ → List ℕ → Bool) (t : List ℕ) (cs : List Column) → TakesTables well → AreColumns cs → AllPut (IsWellAt well) (create_words t cs)
+pub puts_create : (well : List ℕ → List ℕ → Bool) (t : List ℕ) (cs : List Column) → TakesTables well → AreColumns cs → AllPut (IsWellAt well) (create_changes t cs)
 puts_create well t cs takes are = (record { bounded = let l = length-columns_bytes_le cs are in omega arith; shaped = takes (key kind.Tables t []) (columns_bytes cs) refl }, tt)
 
-pub puts_insert : (well : List ℕ → List ℕ → Bool) (t : List ℕ) (r : ℤ) (cs : List Column) (vs : List Value) → TakesTables well → AreColumns cs → FitColumns (others cs) vs → AllPut (IsWellAt well) (insert_words t r (numbers_of vs) (texts_of vs))
+pub puts_insert : (well : List ℕ → List ℕ → Bool) (t : List ℕ) (r : ℤ) (cs : List Column) (vs : List Value) → TakesTables well → AreColumns cs → FitColumns (others cs) vs → AllPut (IsWellAt well) (insert_changes t r (numbers_of vs) (texts_of vs))
 puts_insert well t r cs vs takes are fit = (
   record {
     bounded =
@@ -150,9 +150,9 @@ puts_insert well t r cs vs takes are fit = (
   each (texts_of vs) (row_texts_short cs vs are fit),
 )
   where
-    each : (texts : List (ℕ × List ℕ)) → EachShort texts → AllPut (IsWellAt well) (text_words t r texts)
+    each : (texts : List (ℕ × List ℕ)) → EachShort texts → AllPut (IsWellAt well) (text_changes t r texts)
     each [] short = tt
     each (x ∷ texts) short = (record { bounded = let s = short.0 in omega arith; shaped = takes (key kind.RowTexts t (text_part x.0 r)) x.1 refl }, each texts short.1)
 
-pub well_create : (well : List ℕ → List ℕ → Bool) (t : List ℕ) (cs : List Column) → TakesTables well → IsName t → AreColumns cs → AreWell well (spell (create_words t cs))
-well_create well t cs takes name are = are_well well (create_words t cs) (are_create t cs name) (short_create t cs) (puts_create well t cs takes are)
+pub well_create : (well : List ℕ → List ℕ → Bool) (t : List ℕ) (cs : List Column) → TakesTables well → IsName t → AreColumns cs → AreWell well (spell (create_changes t cs))
+well_create well t cs takes name are = are_well well (create_changes t cs) (are_create t cs name) (short_create t cs) (puts_create well t cs takes are)

@@ -1,10 +1,10 @@
 //! What calls put into a batch.
 
 ghost use Rattle.std.specs.Prelude.{◌≡◌, [], ◌∷◌, ◌++◌, ◌^◌, ◌<◌, length, IfOk, OnOk, OnErr};
-ghost use Rattle.ct_entry.specs.Words.{spell, put};
+ghost use Rattle.ct_entry.specs.Changes.{spell, put};
 ghost use Rattle.ct_entry.specs.declared.kinds.Kind.TheVariants as kind;
 ghost use Rattle.ct_entry.specs.Keys.{key, text_part};
-ghost use Rattle.tb_table.specs.Spelling.{create_words, text_words, insert_words};
+ghost use Rattle.tb_table.specs.Spelling.{create_changes, text_changes, insert_changes};
 
 use crate::columns::Column;
 use crate::writing::{columns_bytes, numbers_bytes, text_part};
@@ -14,7 +14,7 @@ use ct_entry::{Kind, put_entry};
 use ct_keep::Batch;
 use std::alloc::Global;
 
-/// Adds the word of a new table. The batch is unchanged where there is no memory.
+/// Adds the change of a new table. The batch is unchanged where there is no memory.
 pub fn create(
     alloc: Global,
     batch: &mut Batch,
@@ -22,14 +22,14 @@ pub fn create(
     columns: &[Column],
 ) -> Result<(), Memory>
     requires { length columns.now < 2 ^ 32 }
-    ensures ok { OnOk result (batch.new ≡ batch.old ++ spell (create_words table.now columns.now)) }
+    ensures ok { OnOk result (batch.new ≡ batch.old ++ spell (create_changes table.now columns.now)) }
     ensures err { OnErr result (batch.new ≡ batch.old) }
 {
     let value = columns_bytes(alloc, columns)?;
     put_entry(alloc, batch, Kind::Tables, table, &[], value)
 }
 
-/// Adds the word of a text of a row.
+/// Adds the change of a text of a row.
 fn put_text(
     alloc: Global,
     batch: &mut Batch,
@@ -45,7 +45,7 @@ fn put_text(
     put_entry(alloc, batch, Kind::RowTexts, table, &part, value)
 }
 
-/// Adds a word for each text of a row.
+/// Adds a change for each text of a row.
 fn put_texts(
     alloc: Global,
     batch: &mut Batch,
@@ -53,7 +53,7 @@ fn put_texts(
     key: RowKey,
     texts: &[(u8, Text)],
 ) -> Result<(), Memory>
-    ensures { OnOk result (batch.new ≡ batch.old ++ spell (text_words table.now key.0 texts.now)) }
+    ensures { OnOk result (batch.new ≡ batch.old ++ spell (text_changes table.now key.0 texts.now)) }
 {
     for (column, text) in texts {
         put_text(alloc, batch, table, key, *column, text)?;
@@ -61,7 +61,7 @@ fn put_texts(
     Ok(())
 }
 
-/// Adds the words of a new row: one for its numbers, in the order of their columns, and one for each of its texts, by the
+/// Adds the changes of a new row: one for its numbers, in the order of their columns, and one for each of its texts, by the
 /// places of their columns, that of the key being 0. The batch is unchanged where there is no memory.
 pub fn insert(
     alloc: Global,
@@ -71,13 +71,13 @@ pub fn insert(
     numbers: &[i64],
     texts: &[(u8, Text)],
 ) -> Result<(), Memory>
-    ensures ok { OnOk result (batch.new ≡ batch.old ++ spell (insert_words table.now key.0 numbers.now texts.now)) }
+    ensures ok { OnOk result (batch.new ≡ batch.old ++ spell (insert_changes table.now key.0 numbers.now texts.now)) }
     ensures err { OnErr result (batch.new ≡ batch.old) }
 {
-    let mut words = Batch::new(alloc);
+    let mut changes = Batch::new(alloc);
     let value = numbers_bytes(alloc, numbers)?;
     let part = row_key_bytes(key);
-    put_entry(alloc, &mut words, Kind::RowNumbers, table, &part, value)?;
-    put_texts(alloc, &mut words, table, key, texts)?;
-    batch.append(words)
+    put_entry(alloc, &mut changes, Kind::RowNumbers, table, &part, value)?;
+    put_texts(alloc, &mut changes, table, key, texts)?;
+    batch.append(changes)
 }

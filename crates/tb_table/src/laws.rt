@@ -10,8 +10,8 @@ pub fn entries_are_exact()
     ensures numbers { NumbersHaveTheirOwnBytes }
 {}
 
-/// Where entries spell tables, the words of a new table or row make them spell the tables with it.
-pub fn words_stand()
+/// Where entries spell tables, the changes of a new table or row make them spell the tables with it.
+pub fn changes_stand()
     ensures create { NewTablesStand }
     ensures insert { NewRowsStand }
 {}

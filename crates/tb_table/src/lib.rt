@@ -14,7 +14,7 @@ mod writing;
 
 pub use changes::{create, insert};
 pub use columns::{Column, Sort, Target};
-pub use laws::{entries_are_exact, rules_stay, words_stand};
+pub use laws::{changes_stand, entries_are_exact, rules_stay};
 pub use listings::{next_row, tables};
 pub use lookups::{columns_of, has_row, number_row, text_of};
 pub use row_counts::row_count_at_most;

@@ -5,7 +5,7 @@ ghost use Rattle.std.specs.Prelude.{◌≡◌, OnOk, IsPermutation, IsSorted};
 ghost use Rattle.std.specs.Option.{option_map};
 ghost use Rattle.std.specs.Ordering.{nat_cmp};
 ghost use Rattle.std.specs.Cmp.Lexicographic.{slice_cmp};
-ghost use Rattle.ct_keep.specs.Keeping.{Finds, OnlyReads};
+ghost use Rattle.ct_keep.specs.KeeperViews.{Finds, OnlyReads};
 ghost use Rattle.ct_entry.specs.declared.kinds.Kind.TheVariants as kind;
 ghost use Rattle.ct_entry.specs.Listings.{row_after};
 ghost use Rattle.tb_table.specs.Readings.{AreTableNames};
@@ -25,9 +25,9 @@ pub fn next_row<K: Keeper>(
     table: &Name,
     after: Option<RowKey>,
 ) -> Result<Option<RowKey>, KeepFault>
-    requires { (K.keeping keeper.old).ready }
-    ensures row { Finds K.keeping keeper.old result (λ m row. option_map (λ r. r.0) row ≡ row_after (option_map (λ r. r.0) after) kind.RowNumbers table.now m) }
-    ensures reads { OnlyReads K.keeping keeper.old keeper.new result }
+    requires { (K.view keeper.old).ready }
+    ensures row { Finds K.view keeper.old result (λ m row. option_map (λ r. r.0) row ≡ row_after (option_map (λ r. r.0) after) kind.RowNumbers table.now m) }
+    ensures reads { OnlyReads K.view keeper.old keeper.new result }
 {
     next_row_key(alloc, keeper, Kind::RowNumbers, table, after)
 }
@@ -52,9 +52,9 @@ fn sort_names(names: &mut Vec<Name>) -> Result<(), Memory>
 ///
 /// It costs what it finds, and sorts it. It never answers Full.
 pub fn tables<K: Keeper>(alloc: Global, keeper: &mut K) -> Result<Vec<Name>, KeepFault>
-    requires { (K.keeping keeper.old).ready }
-    ensures names { Finds K.keeping keeper.old result (λ m names. AreTableNames m names.items) }
-    ensures reads { OnlyReads K.keeping keeper.old keeper.new result }
+    requires { (K.view keeper.old).ready }
+    ensures names { Finds K.view keeper.old result (λ m names. AreTableNames m names.items) }
+    ensures reads { OnlyReads K.view keeper.old keeper.new result }
 {
     let mut names = owners(alloc, keeper, Kind::Tables)?;
     sort_names(&mut names)?;

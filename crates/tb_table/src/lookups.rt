@@ -3,7 +3,7 @@
 
 ghost use Rattle.std.specs.Prelude.{◌≡◌, None, [], is_some};
 ghost use Rattle.std.specs.Option.{option_map};
-ghost use Rattle.ct_keep.specs.Keeping.{Finds, OnlyReads};
+ghost use Rattle.ct_keep.specs.KeeperViews.{Finds, OnlyReads};
 ghost use Rattle.ct_keep.specs.Looks.{look, LooksAtMost};
 ghost use Rattle.ct_entry.specs.declared.kinds.Kind.TheVariants as kind;
 ghost use Rattle.ct_entry.specs.Keys.{key, bytes, at, row_part, text_part};
@@ -24,10 +24,10 @@ pub fn columns_of<K: Keeper>(
     keeper: &mut K,
     table: &Name,
 ) -> Result<Option<Vec<Column>>, KeepFault>
-    requires { (K.keeping keeper.old).ready }
-    ensures value { Finds K.keeping keeper.old result (λ m found. SpellsColumns (at m (key kind.Tables table.now [])) (option_map (λ v. v.items) found)) }
-    ensures reads { OnlyReads K.keeping keeper.old keeper.new result }
-    ensures at_most { LooksAtMost K.keeping keeper.old keeper.new (look (bytes (key kind.Tables table.now [])) None) }
+    requires { (K.view keeper.old).ready }
+    ensures value { Finds K.view keeper.old result (λ m found. SpellsColumns (at m (key kind.Tables table.now [])) (option_map (λ v. v.items) found)) }
+    ensures reads { OnlyReads K.view keeper.old keeper.new result }
+    ensures at_most { LooksAtMost K.view keeper.old keeper.new (look (bytes (key kind.Tables table.now [])) None) }
 {
     let Some(value) = fetch_entry(alloc, keeper, Kind::Tables, table, &[])? else {
         return Ok(None);
@@ -44,10 +44,10 @@ pub fn number_row<K: Keeper>(
     table: &Name,
     row: RowKey,
 ) -> Result<Option<Vec<i64>>, KeepFault>
-    requires { (K.keeping keeper.old).ready }
-    ensures value { Finds K.keeping keeper.old result (λ m found. SpellsNumbers (at m (key kind.RowNumbers table.now (row_part row.0))) (option_map (λ v. v.items) found)) }
-    ensures reads { OnlyReads K.keeping keeper.old keeper.new result }
-    ensures at_most { LooksAtMost K.keeping keeper.old keeper.new (look (bytes (key kind.RowNumbers table.now (row_part row.0))) None) }
+    requires { (K.view keeper.old).ready }
+    ensures value { Finds K.view keeper.old result (λ m found. SpellsNumbers (at m (key kind.RowNumbers table.now (row_part row.0))) (option_map (λ v. v.items) found)) }
+    ensures reads { OnlyReads K.view keeper.old keeper.new result }
+    ensures at_most { LooksAtMost K.view keeper.old keeper.new (look (bytes (key kind.RowNumbers table.now (row_part row.0))) None) }
 {
     let part = row_key_bytes(row);
     let Some(value) = fetch_entry(alloc, keeper, Kind::RowNumbers, table, &part)? else {
@@ -64,10 +64,10 @@ pub fn has_row<K: Keeper>(
     table: &Name,
     row: RowKey,
 ) -> Result<bool, KeepFault>
-    requires { (K.keeping keeper.old).ready }
-    ensures value { Finds K.keeping keeper.old result (λ m there. there ≡ is_some (at m (key kind.RowNumbers table.now (row_part row.0)))) }
-    ensures reads { OnlyReads K.keeping keeper.old keeper.new result }
-    ensures at_most { LooksAtMost K.keeping keeper.old keeper.new (look (bytes (key kind.RowNumbers table.now (row_part row.0))) None) }
+    requires { (K.view keeper.old).ready }
+    ensures value { Finds K.view keeper.old result (λ m there. there ≡ is_some (at m (key kind.RowNumbers table.now (row_part row.0)))) }
+    ensures reads { OnlyReads K.view keeper.old keeper.new result }
+    ensures at_most { LooksAtMost K.view keeper.old keeper.new (look (bytes (key kind.RowNumbers table.now (row_part row.0))) None) }
 {
     let part = row_key_bytes(row);
     has_entry(alloc, keeper, Kind::RowNumbers, table, &part)
@@ -82,10 +82,10 @@ pub fn text_of<K: Keeper>(
     column: u8,
     row: RowKey,
 ) -> Result<Option<Text>, KeepFault>
-    requires { (K.keeping keeper.old).ready }
-    ensures value { Finds K.keeping keeper.old result (λ m found. SpellsText (at m (key kind.RowTexts table.now (text_part column row.0))) found) }
-    ensures reads { OnlyReads K.keeping keeper.old keeper.new result }
-    ensures at_most { LooksAtMost K.keeping keeper.old keeper.new (look (bytes (key kind.RowTexts table.now (text_part column row.0))) None) }
+    requires { (K.view keeper.old).ready }
+    ensures value { Finds K.view keeper.old result (λ m found. SpellsText (at m (key kind.RowTexts table.now (text_part column row.0))) found) }
+    ensures reads { OnlyReads K.view keeper.old keeper.new result }
+    ensures at_most { LooksAtMost K.view keeper.old keeper.new (look (bytes (key kind.RowTexts table.now (text_part column row.0))) None) }
 {
     let part = text_part(column, row);
     let Some(value) = fetch_entry(alloc, keeper, Kind::RowTexts, table, &part)? else {

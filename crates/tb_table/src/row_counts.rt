@@ -3,7 +3,7 @@
 
 ghost use Rattle.std.specs.Prelude.{◌+◌, ◌-◌, ◌<◌, ◌≤◌, ◌↔◌, IsTrue, Some, length};
 ghost use Rattle.ct_bytes.specs.RowKeys.{raised as raised_key};
-ghost use Rattle.ct_keep.specs.Keeping.{Finds, OnlyReads};
+ghost use Rattle.ct_keep.specs.KeeperViews.{Finds, OnlyReads};
 ghost use Rattle.ct_entry.specs.declared.kinds.Kind.TheVariants as kind;
 ghost use Rattle.ct_entry.specs.Keys.{HasKeysOnly};
 ghost use Rattle.ct_entry.specs.Listings.{rows_under};
@@ -30,9 +30,9 @@ fn has_few_behind<K: Keeper>(
     first: RowKey,
     most: u32,
 ) -> Result<bool, KeepFault>
-    requires { (K.keeping keeper.old).ready }
-    ensures few { Finds K.keeping keeper.old result (λ m few. HasKeysOnly m → IsTrue few ↔ (length (rows_behind (Some first.0) table.now m) ≤ most)) }
-    ensures reads { OnlyReads K.keeping keeper.old keeper.new result }
+    requires { (K.view keeper.old).ready }
+    ensures few { Finds K.view keeper.old result (λ m few. HasKeysOnly m → IsTrue few ↔ (length (rows_behind (Some first.0) table.now m) ≤ most)) }
+    ensures reads { OnlyReads K.view keeper.old keeper.new result }
 {
     let mut last = first;
     'rows: for _count in 0..most {
@@ -55,9 +55,9 @@ pub fn row_count_at_most<K: Keeper>(
     table: &Name,
     most: u32,
 ) -> Result<bool, KeepFault>
-    requires { (K.keeping keeper.old).ready }
-    ensures few { Finds K.keeping keeper.old result (λ m few. HasKeysOnly m → IsTrue few ↔ (length (rows_under kind.RowNumbers table.now m) ≤ most)) }
-    ensures reads { OnlyReads K.keeping keeper.old keeper.new result }
+    requires { (K.view keeper.old).ready }
+    ensures few { Finds K.view keeper.old result (λ m few. HasKeysOnly m → IsTrue few ↔ (length (rows_under kind.RowNumbers table.now m) ≤ most)) }
+    ensures reads { OnlyReads K.view keeper.old keeper.new result }
 {
     let Some(first) = next_row(alloc, keeper, table, None)? else {
         return Ok(true);

@@ -2,7 +2,7 @@
 
 ghost use Rattle.std.specs.Prelude.{true, IsTrue, [], ◌∷◌};
 ghost use Rattle.ct_keep.specs.Spoken.{spoken};
-ghost use Rattle.ct_keep.specs.Words.{AreWell};
+ghost use Rattle.ct_keep.specs.Changes.{AreWell};
 
 use crate::{
     Column, Sort, columns_of, create, has_row, insert, next_row, number_row, row_count_at_most,
@@ -11,7 +11,7 @@ use crate::{
 use ct_base::{Memory, Name, RowKey, Text};
 use ct_bytes::row_key_bytes;
 use ct_entry::{Kind, fetch_entry, put_entry};
-use ct_keep::{Batch, KeepFault, Keeper, MemKeeper, Word};
+use ct_keep::{Batch, Change, KeepFault, Keeper, MemKeeper};
 use std::alloc::Global;
 use std::test::Fail;
 
@@ -29,29 +29,29 @@ static SPOILT: [&[u8]; 9] = [
     b"\x81\x00\x02id\x01\0\0",
 ];
 
-/// Whether a keeper may hold what the word puts.
-fn is_entry(word: &Word) -> bool
-    ensures { IsTrue result → AreWell (λ _ _. true) (spoken word.now ∷ []) }
+/// Whether a keeper may hold what the change puts.
+fn is_entry(change: &Change) -> bool
+    ensures { IsTrue result → AreWell (λ _ _. true) (spoken change.now ∷ []) }
 {
-    match &word.value {
+    match &change.value {
         None => true,
-        Some(value) => !word.key.is_empty() && word.key.len() <= 600 && value.len() <= 10_000,
+        Some(value) => !change.key.is_empty() && change.key.len() <= 600 && value.len() <= 10_000,
     }
 }
 
-/// Whether a keeper may hold what the words put.
+/// Whether a keeper may hold what the changes put.
 fn are_entries(batch: &Batch) -> bool
     ensures { IsTrue result → AreWell (λ _ _. true) batch.now }
 {
-    for word in batch.words() {
-        if !is_entry(word) {
+    for change in batch.changes() {
+        if !is_entry(change) {
             return false;
         }
     }
     true
 }
 
-/// Commits the words, if the keeper may hold what they put.
+/// Commits the changes, if the keeper may hold what they put.
 fn commit(alloc: Global, keeper: &mut MemKeeper, batch: Batch) -> Result<(), KeepFault> {
     if !are_entries(&batch) {
         return Err(KeepFault::Full);

@@ -16,7 +16,7 @@ pub returns-in-None-clause-entries : goal.returns-in-None-clause-entries
 returns-in-None-clause-entries g c m holds =
     let here = reads_hold _ _ m c.steps.invariant.reads holds in
     let none = rw c.in-None.is at (c.in_ok-step_under.ensures.entry m here) in
-    scanning_ends _ _ m _ _ _ (g.K.Keeper.keeping c.step_under.new.keeper).counts (c.steps.invariant.told m holds) none c.steps.invariant.begins
+    scanning_ends _ _ m _ _ _ (g.K.Keeper.view c.step_under.new.keeper).counts (c.steps.invariant.told m holds) none c.steps.invariant.begins
 
 pub steps-preserved : goal.steps-preserved
 steps-preserved g c =

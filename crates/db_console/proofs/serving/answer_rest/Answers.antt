@@ -8,7 +8,7 @@ use Rattle.db_console.proofs.serving.answer_rest.Goals as goal
 
 pub returns-clause-all : goal.returns-clause-all
 returns-clause-all g c =
-    let k = g.K.Keeper.keeping c.args.keeper.now in
+    let k = g.K.Keeper.view c.args.keeper.now in
     on_ok_weaker c.say_reply.result (λ spoke limit rest shown.
     answers_said limit (rest_piece rest) _ k k _ (kept_all k c.requires)
     (λ was w. replied_rest limit rest _ was k c.requires (g.met.K.Keeper.settled c.args.keeper.now c.requires) (c.respond_to_rest-response.ensures limit rest shown was.state) w)
@@ -16,7 +16,7 @@ returns-clause-all g c =
 
 pub returns-clause-part : goal.returns-clause-part
 returns-clause-part g c =
-    let k = g.K.Keeper.keeping c.args.keeper.now in
+    let k = g.K.Keeper.view c.args.keeper.now in
     if_err_weaker c.say_reply.result _ _ (λ stop spoke limit rest shown.
     stops_saying limit (rest_piece rest) _ stop k k _ (kept_all k c.requires)
     (λ was w. replied_rest limit rest _ was k c.requires (g.met.K.Keeper.settled c.args.keeper.now c.requires) (c.respond_to_rest-response.ensures limit rest shown was.state) w)

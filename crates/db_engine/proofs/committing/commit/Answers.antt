@@ -9,13 +9,13 @@ use Rattle.db_engine.proofs.committing.commit.Goals as goal
 
 pub returns-then-not-are_bounded-clause-gives : goal.returns-then-not-are_bounded-clause-gives
 returns-then-not-are_bounded-clause-gives g c = λ m n k holds bounded stands.
-    let e : false ≡ true = sym c.if-not-are_bounded.true ∙ c.are_bounded.ensures ∙ bounded_spoken c.words.result.now ∙ ap are_bounded c.words.ensures ∙ bounded in
+    let e : false ≡ true = sym c.if-not-are_bounded.true ∙ c.are_bounded.ensures ∙ bounded_spoken c.changes.result.now ∙ ap are_bounded c.changes.ensures ∙ bounded in
     cc
 
 pub commit-requires-clause-well : goal.commit-requires-clause-well
 commit-requires-clause-well g c =
-    well_bounded (g.K.Keeper.keeping c.args.keeper.now).fixed.well c.requires.takes c.args.batch
-    (ap are_bounded (sym c.words.ensures) ∙ sym (bounded_spoken c.words.result.now) ∙ sym c.are_bounded.ensures ∙ c.if-not-are_bounded.false)
+    well_bounded (g.K.Keeper.view c.args.keeper.now).fixed.well c.requires.takes c.args.batch
+    (ap are_bounded (sym c.changes.ensures) ∙ sym (bounded_spoken c.changes.result.now) ∙ sym c.are_bounded.ensures ∙ c.if-not-are_bounded.false)
 
 pub returns-in_err-commit-clause-gives : goal.returns-in_err-commit-clause-gives
 returns-in_err-commit-clause-gives g c = λ m n k holds bounded stands.
@@ -30,12 +30,12 @@ returns-clause-gives g c = λ m n k holds bounded stands.
 
 pub returns-then-not-are_bounded-clause-tells : goal.returns-then-not-are_bounded-clause-tells
 returns-then-not-are_bounded-clause-tells g c =
-    stays_read (g.K.Keeper.keeping c.args.keeper.now) (g.K.Keeper.keeping c.args.keeper.now) (g.met.K.Keeper.settled c.args.keeper.now c.requires.ready) (reads_none (g.K.Keeper.keeping c.args.keeper.now) c.requires.ready)
+    stays_read (g.K.Keeper.view c.args.keeper.now) (g.K.Keeper.view c.args.keeper.now) (g.met.K.Keeper.settled c.args.keeper.now c.requires.ready) (reads_none (g.K.Keeper.view c.args.keeper.now) c.requires.ready)
 
 pub returns-in_err-commit-clause-tells : goal.returns-in_err-commit-clause-tells
 returns-in_err-commit-clause-tells g c =
-    returns_uncommitted c.args.reply.items (g.K.Keeper.keeping c.args.keeper.now) (g.K.Keeper.keeping c.commit.new.self) (after c.args.batch) c.from_residual.result c.in_err-commit.field-0.0 c.in_err-commit.ensures.goes (err_from_is_err_and c.from_residual.result c.from_residual.ensures.1)
+    returns_uncommitted c.args.reply.items (g.K.Keeper.view c.args.keeper.now) (g.K.Keeper.view c.commit.new.self) (after c.args.batch) c.from_residual.result c.in_err-commit.field-0.0 c.in_err-commit.ensures.goes (err_from_is_err_and c.from_residual.result c.from_residual.ensures.1)
 
 pub returns-clause-tells : goal.returns-clause-tells
 returns-clause-tells g c =
-    returns_committed (g.K.Keeper.keeping c.args.keeper.now) (g.K.Keeper.keeping c.commit.new.self) (after c.args.batch) c.args.reply c.in_ok-commit.ensures.goes
+    returns_committed (g.K.Keeper.view c.args.keeper.now) (g.K.Keeper.view c.commit.new.self) (after c.args.batch) c.args.reply c.in_ok-commit.ensures.goes

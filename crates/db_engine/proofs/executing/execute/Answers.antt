@@ -22,15 +22,15 @@ returns-in-Err-Disk-clause-executes g c = λ m k holds stands.
 
 pub returns-in-Ok-clause-reads : goal.returns-in-Ok-clause-reads
 returns-in-Ok-clause-reads g c =
-    λ none. looks_none (done_line c.args.statement.now) (g.K.Keeper.keeping c.args.keeper.now) (g.K.Keeper.keeping c.reply_to.new.keeper) (Ok c.in-Ok.lines) none (c.in-Ok.ensures.serves.tells (g.met.K.Keeper.settled c.args.keeper.now c.requires.ready))
+    λ none. looks_none (done_line c.args.statement.now) (g.K.Keeper.view c.args.keeper.now) (g.K.Keeper.view c.reply_to.new.keeper) (Ok c.in-Ok.lines) none (c.in-Ok.ensures.serves.tells (g.met.K.Keeper.settled c.args.keeper.now c.requires.ready))
 
 pub returns-in-Ok-clause-tells : goal.returns-in-Ok-clause-tells
 returns-in-Ok-clause-tells g c =
-    λ done has. tells_text done (g.K.Keeper.keeping c.args.keeper.now) (g.K.Keeper.keeping c.reply_to.new.keeper) c.in-Ok.lines c.of.result c.of.ensures (returns_some (done_line c.args.statement.now) done (g.K.Keeper.keeping c.args.keeper.now) (g.K.Keeper.keeping c.reply_to.new.keeper) (Ok c.in-Ok.lines) has (c.in-Ok.ensures.serves.tells (g.met.K.Keeper.settled c.args.keeper.now c.requires.ready)))
+    λ done has. tells_text done (g.K.Keeper.view c.args.keeper.now) (g.K.Keeper.view c.reply_to.new.keeper) c.in-Ok.lines c.of.result c.of.ensures (returns_some (done_line c.args.statement.now) done (g.K.Keeper.view c.args.keeper.now) (g.K.Keeper.view c.reply_to.new.keeper) (Ok c.in-Ok.lines) has (c.in-Ok.ensures.serves.tells (g.met.K.Keeper.settled c.args.keeper.now c.requires.ready)))
 
 pub returns-in-Ok-clause-full : goal.returns-in-Ok-clause-full
 returns-in-Ok-clause-full g c =
-    λ done has full. absurd (text_not_full c.args.statement.now done (g.K.Keeper.keeping c.args.keeper.now) (g.K.Keeper.keeping c.reply_to.new.keeper) c.in-Ok.lines c.of.result has c.of.ensures (returns_some (done_line c.args.statement.now) done (g.K.Keeper.keeping c.args.keeper.now) (g.K.Keeper.keeping c.reply_to.new.keeper) (Ok c.in-Ok.lines) has (c.in-Ok.ensures.serves.tells (g.met.K.Keeper.settled c.args.keeper.now c.requires.ready))) full)
+    λ done has full. absurd (text_not_full c.args.statement.now done (g.K.Keeper.view c.args.keeper.now) (g.K.Keeper.view c.reply_to.new.keeper) c.in-Ok.lines c.of.result has c.of.ensures (returns_some (done_line c.args.statement.now) done (g.K.Keeper.view c.args.keeper.now) (g.K.Keeper.view c.reply_to.new.keeper) (Ok c.in-Ok.lines) has (c.in-Ok.ensures.serves.tells (g.met.K.Keeper.settled c.args.keeper.now c.requires.ready))) full)
 
 pub returns-in-Ok-clause-fixed : goal.returns-in-Ok-clause-fixed
 returns-in-Ok-clause-fixed g c =
@@ -38,35 +38,35 @@ returns-in-Ok-clause-fixed g c =
 
 pub returns-in-Err-Memory-clause-reads : goal.returns-in-Err-Memory-clause-reads
 returns-in-Err-Memory-clause-reads g c =
-    λ none. reads_memory (g.K.Keeper.keeping c.args.keeper.now) (g.K.Keeper.keeping c.reply_to.new.keeper) (looks_none (done_line c.args.statement.now) (g.K.Keeper.keeping c.args.keeper.now) (g.K.Keeper.keeping c.reply_to.new.keeper) (Err Memory) none (rw c.in-Err-Memory.field-0-is at c.in-Err-Memory.ensures.serves.tells (g.met.K.Keeper.settled c.args.keeper.now c.requires.ready)))
+    λ none. reads_memory (g.K.Keeper.view c.args.keeper.now) (g.K.Keeper.view c.reply_to.new.keeper) (looks_none (done_line c.args.statement.now) (g.K.Keeper.view c.args.keeper.now) (g.K.Keeper.view c.reply_to.new.keeper) (Err Memory) none (rw c.in-Err-Memory.field-0-is at c.in-Err-Memory.ensures.serves.tells (g.met.K.Keeper.settled c.args.keeper.now c.requires.ready)))
 
 pub returns-in-Err-Memory-clause-tells : goal.returns-in-Err-Memory-clause-tells
 returns-in-Err-Memory-clause-tells g c =
-    λ done has. returns_some (done_line c.args.statement.now) done (g.K.Keeper.keeping c.args.keeper.now) (g.K.Keeper.keeping c.reply_to.new.keeper) (Err Memory) has (rw c.in-Err-Memory.field-0-is at c.in-Err-Memory.ensures.serves.tells (g.met.K.Keeper.settled c.args.keeper.now c.requires.ready))
+    λ done has. returns_some (done_line c.args.statement.now) done (g.K.Keeper.view c.args.keeper.now) (g.K.Keeper.view c.reply_to.new.keeper) (Err Memory) has (rw c.in-Err-Memory.field-0-is at c.in-Err-Memory.ensures.serves.tells (g.met.K.Keeper.settled c.args.keeper.now c.requires.ready))
 
 pub returns-in-Err-Full-clause-reads : goal.returns-in-Err-Full-clause-reads
 returns-in-Err-Full-clause-reads g c =
-    λ none. absurd ((looks_none (done_line c.args.statement.now) (g.K.Keeper.keeping c.args.keeper.now) (g.K.Keeper.keeping c.reply_to.new.keeper) (Err NoRoom) none (rw c.in-Err-Full.field-0-is at c.in-Err-Full.ensures.serves.tells (g.met.K.Keeper.settled c.args.keeper.now c.requires.ready))).not_full refl)
+    λ none. absurd ((looks_none (done_line c.args.statement.now) (g.K.Keeper.view c.args.keeper.now) (g.K.Keeper.view c.reply_to.new.keeper) (Err NoRoom) none (rw c.in-Err-Full.field-0-is at c.in-Err-Full.ensures.serves.tells (g.met.K.Keeper.settled c.args.keeper.now c.requires.ready))).not_full refl)
 
 pub returns-in-Err-Full-clause-tells : goal.returns-in-Err-Full-clause-tells
 returns-in-Err-Full-clause-tells g c =
-    λ done has. tells_full done (g.K.Keeper.keeping c.args.keeper.now) (g.K.Keeper.keeping c.reply_to.new.keeper) c.full_reply.result c.full_reply.ensures (returns_some (done_line c.args.statement.now) done (g.K.Keeper.keeping c.args.keeper.now) (g.K.Keeper.keeping c.reply_to.new.keeper) (Err NoRoom) has (rw c.in-Err-Full.field-0-is at c.in-Err-Full.ensures.serves.tells (g.met.K.Keeper.settled c.args.keeper.now c.requires.ready))) (rose (g.K.Keeper.keeping c.args.keeper.now).counts.fulls (g.K.Keeper.keeping c.reply_to.new.keeper).counts.fulls (rw c.in-Err-Full.field-0-is at c.in-Err-Full.ensures.serves.fulls))
+    λ done has. tells_full done (g.K.Keeper.view c.args.keeper.now) (g.K.Keeper.view c.reply_to.new.keeper) c.full_reply.result c.full_reply.ensures (returns_some (done_line c.args.statement.now) done (g.K.Keeper.view c.args.keeper.now) (g.K.Keeper.view c.reply_to.new.keeper) (Err NoRoom) has (rw c.in-Err-Full.field-0-is at c.in-Err-Full.ensures.serves.tells (g.met.K.Keeper.settled c.args.keeper.now c.requires.ready))) (rose (g.K.Keeper.view c.args.keeper.now).counts.fulls (g.K.Keeper.view c.reply_to.new.keeper).counts.fulls (rw c.in-Err-Full.field-0-is at c.in-Err-Full.ensures.serves.fulls))
 
 pub returns-in-Err-Full-clause-full : goal.returns-in-Err-Full-clause-full
 returns-in-Err-Full-clause-full g c =
-    λ done has. if_text (λ (reply : List ℕ). reply ≡ store_full → Rose (g.K.Keeper.keeping c.args.keeper.now).counts.fulls (g.K.Keeper.keeping c.reply_to.new.keeper).counts.fulls) c.full_reply.result (λ text full. (rose (g.K.Keeper.keeping c.args.keeper.now).counts.fulls (g.K.Keeper.keeping c.reply_to.new.keeper).counts.fulls (rw c.in-Err-Full.field-0-is at c.in-Err-Full.ensures.serves.fulls)))
+    λ done has. if_text (λ (reply : List ℕ). reply ≡ store_full → Rose (g.K.Keeper.view c.args.keeper.now).counts.fulls (g.K.Keeper.view c.reply_to.new.keeper).counts.fulls) c.full_reply.result (λ text full. (rose (g.K.Keeper.view c.args.keeper.now).counts.fulls (g.K.Keeper.view c.reply_to.new.keeper).counts.fulls (rw c.in-Err-Full.field-0-is at c.in-Err-Full.ensures.serves.fulls)))
 
 pub returns-in-Err-Full-clause-fixed : goal.returns-in-Err-Full-clause-fixed
 returns-in-Err-Full-clause-fixed g c =
-    λ m fixed. absurd ((looks_none (done_line c.args.statement.now) (g.K.Keeper.keeping c.args.keeper.now) (g.K.Keeper.keeping c.reply_to.new.keeper) (Err NoRoom) (fixed_looks c.args.statement.now fixed) (rw c.in-Err-Full.field-0-is at c.in-Err-Full.ensures.serves.tells (g.met.K.Keeper.settled c.args.keeper.now c.requires.ready))).not_full refl)
+    λ m fixed. absurd ((looks_none (done_line c.args.statement.now) (g.K.Keeper.view c.args.keeper.now) (g.K.Keeper.view c.reply_to.new.keeper) (Err NoRoom) (fixed_looks c.args.statement.now fixed) (rw c.in-Err-Full.field-0-is at c.in-Err-Full.ensures.serves.tells (g.met.K.Keeper.settled c.args.keeper.now c.requires.ready))).not_full refl)
 
 pub returns-in-Err-Disk-clause-reads : goal.returns-in-Err-Disk-clause-reads
 returns-in-Err-Disk-clause-reads g c =
-    λ none. looks_none (done_line c.args.statement.now) (g.K.Keeper.keeping c.args.keeper.now) (g.K.Keeper.keeping c.reply_to.new.keeper) (Err Disk) none (rw c.in-Err-Disk.field-0-is at c.in-Err-Disk.ensures.serves.tells (g.met.K.Keeper.settled c.args.keeper.now c.requires.ready))
+    λ none. looks_none (done_line c.args.statement.now) (g.K.Keeper.view c.args.keeper.now) (g.K.Keeper.view c.reply_to.new.keeper) (Err Disk) none (rw c.in-Err-Disk.field-0-is at c.in-Err-Disk.ensures.serves.tells (g.met.K.Keeper.settled c.args.keeper.now c.requires.ready))
 
 pub returns-in-Err-Disk-clause-tells : goal.returns-in-Err-Disk-clause-tells
 returns-in-Err-Disk-clause-tells g c =
-    λ done has. returns_some (done_line c.args.statement.now) done (g.K.Keeper.keeping c.args.keeper.now) (g.K.Keeper.keeping c.reply_to.new.keeper) (Err Disk) has (rw c.in-Err-Disk.field-0-is at c.in-Err-Disk.ensures.serves.tells (g.met.K.Keeper.settled c.args.keeper.now c.requires.ready))
+    λ done has. returns_some (done_line c.args.statement.now) done (g.K.Keeper.view c.args.keeper.now) (g.K.Keeper.view c.reply_to.new.keeper) (Err Disk) has (rw c.in-Err-Disk.field-0-is at c.in-Err-Disk.ensures.serves.tells (g.met.K.Keeper.settled c.args.keeper.now c.requires.ready))
 
 -- ---- what is kept
 

@@ -25,7 +25,7 @@ returns-in_default-found-clause-plan g c = λ m k x holds stands small there col
     index_as m i t x place c.in_ok-there.there c.is_text_at.result c.in_ok-many.many stands.state.tables there (c.in_ok-there.ensures.taken m k holds stands small) (c.is_text_at.ensures ∙ ap (λ cs. is_text_at cs place) columns)
     (c.in_ok-many.ensures.many m k (reads_hold _ _ k c.in_ok-there.ensures.reads holds) stands)
     ∙ checked c.index_fault.result _ _ c.in_default.is (c.index_fault.ensures.checks (Does (with_new_index m i t place) index_created)) in
-    absurd (found_none c.in_ok-found.found _ _ c.in_default-found.is (c.in_ok-found.ensures.words m k x after stands small (index_free m i t x place _ _ there is)))
+    absurd (found_none c.in_ok-found.found _ _ c.in_default-found.is (c.in_ok-found.ensures.changes m k x after stands small (index_free m i t x place _ _ there is)))
 
 pub returns-clause-plan : goal.returns-clause-plan
 returns-clause-plan g c = λ m k x holds stands small there columns.
@@ -36,9 +36,9 @@ returns-clause-plan g c = λ m k x holds stands small there columns.
     (c.in_ok-many.ensures.many m k (reads_hold _ _ k c.in_ok-there.ensures.reads holds) stands)
     ∙ checked c.index_fault.result _ _ c.in_default.is (c.index_fault.ensures.checks (Does (with_new_index m i t place) index_created)) in
     let free = index_free m i t x place _ _ there is in
-    let words = found_some c.in_ok-found.found c.in-Some-found.batch _ _ c.in-Some-found.is (c.in_ok-found.ensures.words m k x held stands small free) in (
+    let changes = found_some c.in_ok-found.found c.in-Some-found.batch _ _ c.in-Some-found.is (c.in_ok-found.ensures.changes m k x held stands small free) in (
       with_new_index m i t place,
       is,
-      ap are_bounded words ∙ new_index_bounded k m i t x place stands c.index_fault.ensures.named free,
-      subst (λ (b : List (List ℕ × Option (List ℕ))). Stands (after b k) (with_new_index m i t place)) (sym words) (new_index_stands k m i t x place stands c.index_fault.ensures.named free),
+      ap are_bounded changes ∙ new_index_bounded k m i t x place stands c.index_fault.ensures.named free,
+      subst (λ (b : List (List ℕ × Option (List ℕ))). Stands (after b k) (with_new_index m i t place)) (sym changes) (new_index_stands k m i t x place stands c.index_fault.ensures.named free),
     )

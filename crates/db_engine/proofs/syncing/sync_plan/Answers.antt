@@ -37,7 +37,7 @@ returns-in_default-found-clause-plan g c = record {
       ∙ checked c.sync_fault.result _ _ c.in_default.is (c.sync_fault.ensures (sync_named m (name_arg c.args.args.now)))
       ∙ ap (sync_named m) (sym c.requires.named)
       ∙ found_is m c.args.name.now i x.0 c.in-Some-name.is x.1
-      ∙ fails _ LimitReached _ (found_none c.in_ok-found.found _ _ c.in_default-found.is (c.in_ok-found.ensures.words m k x.0 (reads_hold _ _ k c.in_ok-there.ensures.reads holds) stands x.1));
+      ∙ fails _ LimitReached _ (found_none c.in_ok-found.found _ _ c.in_default-found.is (c.in_ok-found.ensures.changes m k x.0 (reads_hold _ _ k c.in_ok-there.ensures.reads holds) stands x.1));
 }
 
 pub returns-clause-plan : goal.returns-clause-plan
@@ -47,7 +47,7 @@ returns-clause-plan g c = record {
       let there_is = c.in_ok-there.ensures.there m k holds stands in
       let none = passed_by _ _ _ m [] (checked c.sync_fault.result _ _ c.in_default.is (c.sync_fault.ensures (Does m []))) in
       let x = index_there m c.args.name.now i c.in_ok-there.there _ c.in-Some-name.is there_is c.unknown_name.ensures none in
-      let found = found_some c.in_ok-found.found c.in-Some-found.batch _ _ c.in-Some-found.is (c.in_ok-found.ensures.words m k x.0 (reads_hold _ _ k c.in_ok-there.ensures.reads holds) stands x.1) in (
+      let found = found_some c.in_ok-found.found c.in-Some-found.batch _ _ c.in-Some-found.is (c.in_ok-found.ensures.changes m k x.0 (reads_hold _ _ k c.in_ok-there.ensures.reads holds) stands x.1) in (
         with_synced m i,
         sync_as m c.args.args.now c.args.name.now c.in_ok-there.there _ c.requires.named there_is c.unknown_name.ensures
             ∙ checked c.sync_fault.result _ _ c.in_default.is (c.sync_fault.ensures (sync_named m (name_arg c.args.args.now)))

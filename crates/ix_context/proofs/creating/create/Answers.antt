@@ -3,12 +3,12 @@ use Rattle.ix_context.proofs.SyncSteps.{none_says, some_says}
 use Rattle.ix_context.proofs.creating.create.Goals as goal
 
 pub returns-in_default-clause-many : goal.returns-in_default-clause-many
-returns-in_default-clause-many g c = λ m ts holds told many. none_says _ _ _ c.in_default.is (c.in-Ok.ensures.words m ts holds told)
+returns-in_default-clause-many g c = λ m ts holds told many. none_says _ _ _ c.in_default.is (c.in-Ok.ensures.changes m ts holds told)
 
-pub returns-clause-words : goal.returns-clause-words
-returns-clause-words g c = λ m ts holds told.
-    let says = some_says _ _ _ c.in-Some.words c.in-Some.is (c.in-Ok.ensures.words m ts holds told) in
+pub returns-clause-changes : goal.returns-clause-changes
+returns-clause-changes g c = λ m ts holds told.
+    let says = some_says _ _ _ c.in-Some.changes c.in-Some.is (c.in-Ok.ensures.changes m ts holds told) in
     c.in_ok-append.ensures.ok ∙ ap (λ w. c.args.batch.now ++ w) says.1
 
 pub returns-clause-room : goal.returns-clause-room
-returns-clause-room g c = λ m ts holds told. (some_says _ _ _ c.in-Some.words c.in-Some.is (c.in-Ok.ensures.words m ts holds told)).0
+returns-clause-room g c = λ m ts holds told. (some_says _ _ _ c.in-Some.changes c.in-Some.is (c.in-Ok.ensures.changes m ts holds told)).0

@@ -9,9 +9,9 @@ pub loop-row-preserved : goal.loop-row-preserved
 loop-row-preserved g c = record {
   reads = reads_on _ _ _ _ c.loop-row.invariant.reads c.in_ok-mark_next.ensures.reads;
   place = let place = c.loop-row.invariant.place in omega arith;
-  words = λ m ts holds told.
-      row_added (mark_with c.args.index.now (target_text ts c.args.target.now)) _ c.loop-row.words c.mark_next.new.words c.loop-row.document _ _ _
-      (c.loop-row.invariant.words m ts holds told)
+  changes = λ m ts holds told.
+      row_added (mark_with c.args.index.now (target_text ts c.args.target.now)) _ c.loop-row.changes c.mark_next.new.changes c.loop-row.document _ _ _
+      (c.loop-row.invariant.changes m ts holds told)
       (rows_left c.args.rows.now c.loop-row.row-index (record { 0 = pos 0 }) c.loop-row-test.true)
-      (c.in_ok-mark_next.ensures.words m ts (reads_hold _ _ m c.loop-row.invariant.reads holds) told);
+      (c.in_ok-mark_next.ensures.changes m ts (reads_hold _ _ m c.loop-row.invariant.reads holds) told);
 }

@@ -1,12 +1,12 @@
 use Rattle.std.proofs.Common.{◌≡◌, ◌++◌, map}
 use Rattle.std.specs.Prelude.{All}
-use Rattle.ct_entry.specs.Words.{spell}
-use Rattle.ix_context.specs.Changes.{posting_word}
+use Rattle.ct_entry.specs.Changes.{spell}
+use Rattle.ix_context.specs.Changes.{posting_change}
 use Rattle.ix_context.specs.TokenLaws.{IsPosting}
 use Rattle.ix_context.proofs.marking.put_postings.Given as goal
 
 abbrev pub invariant-loop-token : goal.invariant-loop-token
 invariant-loop-token l = record {
-  words : l.batch ++ spell (map (posting_word l.index l.document) l.token-iterator.rest.items) ≡ l.fn.batch ++ spell (map (posting_word l.index l.document) l.fn.list.items);
+  changes : l.batch ++ spell (map (posting_change l.index l.document) l.token-iterator.rest.items) ≡ l.fn.batch ++ spell (map (posting_change l.index l.document) l.fn.list.items);
   fit : All IsPosting l.token-iterator.rest.items;
 }

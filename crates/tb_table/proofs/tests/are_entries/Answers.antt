@@ -1,6 +1,6 @@
-use Rattle.tb_table.proofs.TestWords.{well_next}
+use Rattle.tb_table.proofs.TestChanges.{well_next}
 use Rattle.tb_table.proofs.tests.are_entries.Goals as goal
 
-pub loop-word-preserved : goal.loop-word-preserved
-loop-word-preserved c =
-    well_next c.words-word-items.result.now c.loop-word.word-index c.word-item.result c.loop-word-test.true c.word-item.is c.loop-word.invariant (c.is_entry.ensures c.if-not-is_entry.false)
+pub loop-change-preserved : goal.loop-change-preserved
+loop-change-preserved c =
+    well_next c.changes-change-items.result.now c.loop-change.change-index c.change-item.result c.loop-change-test.true c.change-item.is c.loop-change.invariant (c.is_entry.ensures c.if-not-is_entry.false)

@@ -1,6 +1,6 @@
 use Rattle.std.proofs.Common.{◌≡◌, ◌++◌, [], ◌∷◌, List, ℕ, arith, sym, ap, ◌∙◌}
 use Rattle.std.specs.FinMap.{get, insert, remove}
-use Rattle.ct_keep.specs.declared.batches.Word.{Word}
+use Rattle.ct_keep.specs.declared.batches.Change.{Change}
 use Rattle.ct_keep.specs.Spoken.{spoken}
 use Rattle.ct_keep.specs.Content.{entry_weight, weight}
 use Rattle.ct_keep.specs.Trials.{Course, staying}
@@ -22,7 +22,7 @@ copied c = c.in_ok-copy.ensures.items ∙ c.deref.ensures.value
 gone_is : (c : After-push_reserved) → c.take.new.self ≡ remove c.self.inside.gone c.args.key.items
 gone_is c = c.take.ensures.content ∙ ap (remove c.self.inside.gone) (c.deref-5.ensures.value ∙ copied c)
 
-note_of : (c : After-push_reserved) → Word
+note_of : (c : After-push_reserved) → Change
 note_of c = record { key = c.in_ok-copy.copy; value = c.in_ok-value.value }
 
 noted : (c : After-push_reserved) → spoken (note_of c) ≡ (c.args.key.items, get c.self.inside.held c.args.key.items)
@@ -31,7 +31,7 @@ noted c = λ i. (copied c i, c.in_ok-value.ensures.before i)
 
 notes_are : (c : After-push_reserved) → c.push_reserved.new.self.items ≡ c.self.inside.notes.items ++ note_of c ∷ []
 unfolding note_of
-notes_are c = c.push_reserved.ensures.items ∙ ap (λ (l : List Word). l ++ note_of c ∷ []) c.reserve.ensures.items
+notes_are c = c.push_reserved.ensures.items ∙ ap (λ (l : List Change). l ++ note_of c ∷ []) c.reserve.ensures.items
 
 seen_is : (c : After-push_reserved) → staying c.put.new.self c.take.new.self ≡ insert c.args.self.now.seen c.args.key.items c.args.value.items
 seen_is c =

@@ -1,11 +1,11 @@
 use Rattle.std.proofs.Common.{List, [], ◌∷◌, true, Some, None, refl, rules}
 use Rattle.std.proofs.lemmas.Result.{on_ok_weaker}
-use Rattle.ct_keep.specs.Content.{Word, IsEntry}
-use Rattle.ct_keep.specs.Words.{AreWell}
-use Rattle.ct_keep.proofs.WellWords.{well_more}
-use Rattle.ct_keep.proofs.tests.add_word.Goals as goal
+use Rattle.ct_keep.specs.Content.{Change, IsEntry}
+use Rattle.ct_keep.specs.Changes.{AreWell}
+use Rattle.ct_keep.proofs.WellChanges.{well_more}
+use Rattle.ct_keep.proofs.tests.add_change.Goals as goal
 
-abbrev AllWell : List Word → Type 0
+abbrev AllWell : List Change → Type 0
 AllWell ws = AreWell (λ _ _. true) ws
 
 pub returns-in_default : goal.returns-in_default

@@ -1,16 +1,16 @@
 use Rattle.std.proofs.Common.{◌≡◌, ◌≤◌, ◌+◌, ◌++◌, List, length, map, ap, ◌∙◌, arith}
 use Rattle.ct_base.specs.declared.numbers.RowKey.{RowKey}
 use Rattle.ct_entry.specs.Each.{each}
-use Rattle.ct_entry.specs.Words.{spell}
+use Rattle.ct_entry.specs.Changes.{spell}
 use Rattle.ct_keep.specs.Composing.{reads_hold}
 use Rattle.ix_context.specs.Indexes.{rows_in, target_text}
 use Rattle.ix_context.specs.Rules.{most_given}
 use Rattle.ix_context.specs.Changes.{numbered, mark_with}
 use Rattle.ix_context.proofs.SyncSteps.{created_added, count_created}
-use Rattle.ix_context.proofs.creating.words_of_create.Goals as goal
+use Rattle.ix_context.proofs.creating.changes_of_create.Goals as goal
 
-pub returns-clause-words : goal.returns-clause-words
-returns-clause-words g c = λ m ts holds told.
+pub returns-clause-changes : goal.returns-clause-changes
+returns-clause-changes g c = λ m ts holds told.
     let rows = c.in_ok-rows.ensures.rows m ts holds told in
     let again = reads_hold _ _ m c.in_ok-rows.ensures.reads holds in
     let count = count_created ts c.args.target.now.table c.args.range c.in_ok-rows.rows.items rows in
@@ -18,8 +18,8 @@ returns-clause-words g c = λ m ts holds told.
     let fits = c.in-Some.ensures.1 in
     let few : length (rows_in ts c.args.target.now.table c.args.range) ≤ most_given = omega arith in
     let next : c.in-Some.next ≡ 1 + length c.in_ok-rows.rows.items = omega arith in
-    let marks = c.in_ok-mark_rows.ensures.words m ts again told in (
+    let marks = c.in_ok-mark_rows.ensures.changes m ts again told in (
       few,
-      created_added ts c.args.index.now c.args.target.now c.args.range c.in_ok-rows.rows.items c.in-Some.next c.new-words.result c.put_index.new.batch c.mark_rows.new.words rows next c.new-words.ensures c.in_ok-put_index.ensures.ok
+      created_added ts c.args.index.now c.args.target.now c.args.range c.in_ok-rows.rows.items c.in-Some.next c.new-changes.result c.put_index.new.batch c.mark_rows.new.changes rows next c.new-changes.ensures c.in_ok-put_index.ensures.ok
           (marks ∙ ap (λ (l : List RowKey). c.put_index.new.batch ++ spell (each (mark_with c.args.index.now (target_text ts c.args.target.now)) (numbered 1 (map (λ (r : RowKey). r.0) l)))) c.deref.ensures.value),
     )

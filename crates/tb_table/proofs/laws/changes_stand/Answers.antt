@@ -1,5 +1,5 @@
 use Rattle.tb_table.specs.ChangeLaws.{stand_create, stand_insert}
-use Rattle.tb_table.proofs.laws.words_stand.Goals as goal
+use Rattle.tb_table.proofs.laws.changes_stand.Goals as goal
 
 pub returns-clause-create : goal.returns-clause-create
 returns-clause-create c = stand_create

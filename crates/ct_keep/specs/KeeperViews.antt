@@ -36,7 +36,7 @@ pub record Fixed : Type 0 where
   -- the reference to the site that it stands over, if it stands over one
   pub lender : Option GName
 
-pub record Keeping : Type 1 where
+pub record KeeperView : Type 1 where
   -- it may be read and changed: none of its calls has answered Disk
   pub ready : Type 0
   -- what it holds, where it is told
@@ -70,7 +70,7 @@ OnDisk (Some Full) P = Unit {0}
 OnDisk (Some Disk) P = P
 
 -- What each call but hear and say keeps, whatever is told.
-pub record Kept (old new : Keeping) (fault : Option KeepFault) : Type 0 where
+pub record Kept (old new : KeeperView) (fault : Option KeepFault) : Type 0 where
   pub ready : UnlessDisk fault new.ready
   pub beside : new.beside ≡ old.beside
   pub fixed : new.fixed ≡ old.fixed
@@ -80,11 +80,11 @@ pub record Kept (old new : Keeping) (fault : Option KeepFault) : Type 0 where
   pub calls : OnDisk fault (old.fixed.aside ≡ None)
 
 -- A stop between two calls leaves what it holds.
-pub record IsSettled (k : Keeping) : Type 0 where
+pub record IsSettled (k : KeeperView) : Type 0 where
   pub here : (m : Content) → k.content ≡ Some m → (stopped : Option Content) (said : List ℕ) → k.now stopped said → (stopped ≡ Some m) × IsSaid k.beside.said said
 
 -- A call, or some calls, only read. They commit nothing, so they don't find the store full.
-pub record Reads (old new : Keeping) (fault : Option KeepFault) : Type 0 where
+pub record Reads (old new : KeeperView) (fault : Option KeepFault) : Type 0 where
   pub not_full : fault ≡ Some Full → ⊥
   pub kept : Kept old new fault
   pub content : UnlessDisk fault (new.content ≡ old.content)
@@ -93,15 +93,15 @@ pub record Reads (old new : Keeping) (fault : Option KeepFault) : Type 0 where
   pub fulls : new.counts.fulls ≡ old.counts.fulls
 
 -- A call with this result only read, by the view of a keeper before and after it.
-abbrev pub OnlyReads : {K T : Type 0} → (K → Keeping) → K → K → Result T KeepFault → Type 0
+abbrev pub OnlyReads : {K T : Type 0} → (K → KeeperView) → K → K → Result T KeepFault → Type 0
 OnlyReads view old new result = Reads (view old) (view new) (fault_of result)
 
 -- what holds of the content, where that is told
-abbrev pub Told : {K : Type 0} → (K → Keeping) → K → (Content → Type 0) → Type 0
+abbrev pub Told : {K : Type 0} → (K → KeeperView) → K → (Content → Type 0) → Type 0
 Told view k holds = (m : Content) → (view k).content ≡ Some m → holds m
 
 -- What a call gave of the content, where that is told, unless it failed.
-abbrev pub Finds : {K T : Type 0} → (K → Keeping) → K → Result T KeepFault → (Content → T → Type 0) → Type 0
+abbrev pub Finds : {K T : Type 0} → (K → KeeperView) → K → Result T KeepFault → (Content → T → Type 0) → Type 0
 Finds view old result gives = Told view old (λ m. IfOk result (gives m))
 
 -- ---- counts
@@ -164,7 +164,7 @@ Leaves (Some Memory) old next stopped = stopped ≡ Some old
 Leaves (Some Full) old next stopped = stopped ≡ Some old
 
 -- From this content to that by at most one commit.
-pub record Goes (m next : Content) (old new : Keeping) (fault : Option KeepFault) : Type 0 where
+pub record Goes (m next : Content) (old new : KeeperView) (fault : Option KeepFault) : Type 0 where
   pub content : Came fault m next new.content
   pub time : Passes old.time new.time (λ stopped said. Leaves fault m next stopped × IsSaid old.beside.said said)
   pub now : (stopped : Option Content) (said : List ℕ) → new.now stopped said → Leaves fault m next stopped × IsSaid old.beside.said said
@@ -179,7 +179,7 @@ Answers (Some Disk) limit m next = Unit {0}
 -- ---- hearing and saying
 
 -- what hearing and saying keep
-pub record Apart (old new : Keeping) : Type 0 where
+pub record Apart (old new : KeeperView) : Type 0 where
   pub ready : old.ready → new.ready
   pub fixed : new.fixed ≡ old.fixed
   pub content : new.content ≡ old.content
@@ -187,7 +187,7 @@ pub record Apart (old new : Keeping) : Type 0 where
   pub disk_faults : new.disk_faults ≡ old.disk_faults
 
 -- Bytes of the script were heard, and nothing else was done.
-pub record KeeperHears (heard : List ℕ) (old new : Keeping) : Type 0 where
+pub record KeeperHears (heard : List ℕ) (old new : KeeperView) : Type 0 where
   pub apart : Apart old new
   pub left : old.beside.left ≡ ahead heard new.beside.left
   pub said : new.beside.said ≡ old.beside.said
@@ -195,7 +195,7 @@ pub record KeeperHears (heard : List ℕ) (old new : Keeping) : Type 0 where
   pub time : Stays old.time new.time
 
 -- Bytes were said, and nothing else was done.
-pub record KeeperSays (told : List ℕ) (old new : Keeping) : Type 0 where
+pub record KeeperSays (told : List ℕ) (old new : KeeperView) : Type 0 where
   pub apart : Apart old new
   pub said : new.beside.said ≡ behind old.beside.said told
   pub left : new.beside.left ≡ old.beside.left

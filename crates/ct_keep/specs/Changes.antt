@@ -1,9 +1,9 @@
--- The words of a batch, as contracts see them, and what a keeper may hold.
+-- The changes of a batch, as contracts see them, and what a keeper may hold.
 use Rattle.std.specs.Prelude.{ℕ, ◌≡◌, Bool, true, List, [], ◌∷◌, Option, Some, None}
 use Rattle.std.specs.FinMap.{get}
 use Rattle.ct_keep.specs.Content.{Content, IsEntry}
 
--- Each word that puts an entry puts one that the keeper may hold.
+-- Each change that puts an entry puts one that the keeper may hold.
 abbrev pub AreWell : (List ℕ → List ℕ → Bool) → List (List ℕ × Option (List ℕ)) → Type 0
 AreWell well [] = Unit {0}
 AreWell well ((key, None) ∷ ws) = AreWell well ws

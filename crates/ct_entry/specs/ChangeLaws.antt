@@ -1,4 +1,4 @@
--- What a content has after words on keys, and what words leave alone.
+-- What a content has after changes on keys, and what changes leave alone.
 use Rattle.std.proofs.Common.{◌≡◌, ℕ, Bool, true, false, cond, List, [], ◌∷◌, ◌++◌, Option, Some, None, refl, sym, ap, ◌∙◌}
 use Rattle.std.specs.Prelude.{is_some}
 use Rattle.std.proofs.lemmas.Cmp.{nat_list_cmp_total}
@@ -9,16 +9,16 @@ use Rattle.std.specs.FinMap.{get, get-insert, get-remove}
 use Rattle.ct_keep.specs.Content.{Content, set_to, after}
 use Rattle.ct_entry.specs.declared.kinds.Kind.{Kind}
 use Rattle.ct_entry.specs.Keys.{Key, bytes, same, at, IsKey, HasKeysOnly}
-use Rattle.ct_entry.specs.Words.{spell, told, view, AreWords, AllOf}
+use Rattle.ct_entry.specs.Changes.{spell, told, view, AreChanges, AllOf}
 use Rattle.ct_entry.specs.KeyLaws.{is_eq_Equal, key_from_same, bytes_same}
 
--- ---- what the words say
+-- ---- what the changes say
 
 pub at-set_to : (m : Content) (j : Key) (v : Option (List ℕ)) (k : Key) → at (set_to (bytes j) v m) k ≡ cond (same k j) v (at m k)
 at-set_to m j (Some v) k = get-insert nat_list_cmp_total m (bytes j) v (bytes k) ∙ ap (λ b. cond b (Some v) (at m k)) (bytes_same k j)
 at-set_to m j None k = get-remove nat_list_cmp_total m (bytes j) (bytes k) ∙ ap (λ b. cond b None (at m k)) (bytes_same k j)
 
--- after a batch each key has what its words say
+-- after a batch each key has what its changes say
 pub at-after : (ws : List (Key × Option (List ℕ))) (m : Content) (k : Key) → at (after (spell ws) m) k ≡ told ws k (at m k)
 at-after [] m k = refl
 at-after (w ∷ ws) m k = at-after ws (set_to (bytes w.0) w.1 m) k ∙ ap (told ws k) (at-set_to m w.0 w.1 k)
@@ -51,17 +51,17 @@ only-set_to m j v only is b has =
     ] refl (sym (ap is_some (get-set_to m (bytes j) v b)) ∙ has)
 
 -- a batch on keys of the kinds leaves no other entry
-pub only-after : (ws : List (Key × Option (List ℕ))) (m : Content) → HasKeysOnly m → AreWords ws → HasKeysOnly (after (spell ws) m)
+pub only-after : (ws : List (Key × Option (List ℕ))) (m : Content) → HasKeysOnly m → AreChanges ws → HasKeysOnly (after (spell ws) m)
 only-after [] m only are = only
 only-after (w ∷ ws) m only are = only-after ws (set_to (bytes w.0) w.1 m) (only-set_to m w.0 w.1 only are.0) are.1
 
-pub are-append : (xs ys : List (Key × Option (List ℕ))) → AreWords xs → AreWords ys → AreWords (xs ++ ys)
+pub are-append : (xs ys : List (Key × Option (List ℕ))) → AreChanges xs → AreChanges ys → AreChanges (xs ++ ys)
 are-append [] ys a b = b
 are-append (x ∷ xs) ys a b = (a.0, are-append xs ys a.1 b)
 
 -- ---- what is left alone
 
--- words on some kinds leave each key of another kind
+-- changes on some kinds leave each key of another kind
 pub told_frame : (p : Kind → Bool) (ws : List (Key × Option (List ℕ))) (k : Key) (old : Option (List ℕ)) → AllOf p ws → p k.kind ≡ false → told ws k old ≡ old
 told_frame p [] k old all other = refl
 told_frame p (w ∷ ws) k old all other = told_frame p ws k (cond (same k w.0) w.1 old) all.1 other ∙ ap (λ (b : Bool). cond b w.1 old) apart

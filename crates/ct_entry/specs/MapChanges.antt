@@ -1,4 +1,4 @@
--- What a key has after words for each entry of a finite map.
+-- What a key has after changes for each entry of a finite map.
 use Rattle.std.proofs.Common.{◌≡◌, ℕ, Bool, true, false, cond, List, [], ◌∷◌, Option, Some, refl, sym, ap, ◌∙◌}
 use Rattle.std.specs.Option.{option_map_or}
 use Rattle.std.specs.declared.cmp.Ordering.{Ordering}
@@ -7,7 +7,7 @@ use Rattle.std.specs.Cmp.{IsTotalOrder}
 use Rattle.std.specs.FinMap.{FinMap, get, entries, find, get-entries}
 use Rattle.ct_keep.specs.RisingKeys.{and_true, below, rises, entries_rise}
 use Rattle.ct_entry.specs.Keys.{Key}
-use Rattle.ct_entry.specs.Words.{told}
+use Rattle.ct_entry.specs.Changes.{told}
 use Rattle.ct_entry.specs.Each.{each, latest}
 use Rattle.ct_entry.specs.EachLaws.{told_latest}
 use Rattle.ct_entry.specs.Rising.{no_tie, below_tied}
@@ -36,10 +36,10 @@ module _ {K X : Type 0} (R : K → K → Ordering) (total : IsTotalOrder R) (q :
           ∙ rest
           ∙ sym (ap (λ (x : Bool). option_map_or value (cond x (Some e.1) (find R q es)) old) t)
 
-  -- where the words of an entry give a key its value exactly if it is that of q, those of all give it what the map has at q
-  pub told_entries : (words : K × X → List (Key × Option (List ℕ))) (k : Key) → ((e : K × X) (old : Option (List ℕ)) → told (words e) k old ≡ cond (eq_by_cmp R q e.0) (value e.1) old)
-      → (m : FinMap R X) (old : Option (List ℕ)) → told (each words (entries m)) k old ≡ option_map_or value (get m q) old
-  told_entries words k one m old =
-      told_latest words k (λ e. eq_by_cmp R q e.0) (λ e. value e.1) one (entries m) old
+  -- where the changes of an entry give a key its value exactly if it is that of q, those of all give it what the map has at q
+  pub told_entries : (changes : K × X → List (Key × Option (List ℕ))) (k : Key) → ((e : K × X) (old : Option (List ℕ)) → told (changes e) k old ≡ cond (eq_by_cmp R q e.0) (value e.1) old)
+      → (m : FinMap R X) (old : Option (List ℕ)) → told (each changes (entries m)) k old ≡ option_map_or value (get m q) old
+  told_entries changes k one m old =
+      told_latest changes k (λ e. eq_by_cmp R q e.0) (λ e. value e.1) one (entries m) old
       ∙ latest_found (entries m) old (entries_rise R m)
       ∙ ap (λ (o : Option X). option_map_or value o old) (sym (get-entries m q))

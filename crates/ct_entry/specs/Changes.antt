@@ -1,4 +1,4 @@
--- Words on keys: what a call puts into a batch.
+-- Changes on keys: what a call puts into a batch.
 use Rattle.std.specs.Prelude.{◌≡◌, ℕ, Bool, true, cond, List, [], ◌∷◌, Option, Some, None, pos, codes, refl}
 use Rattle.ct_entry.specs.declared.kinds.Kind.{Kind}
 use Rattle.ct_entry.specs.Keys.{Key, bytes, same, IsKey, key, row_part}
@@ -6,13 +6,13 @@ use Rattle.ct_bytes.specs.RowKeys.{row_bytes}
 use Rattle.ct_entry.specs.declared.kinds.Kind.TheVariants.{RowNumbers, Pending}
 
 -- a key, and the value that it is to have, or None where it is to go
-abbrev pub KeyWord : Type 0
-KeyWord = Key × Option (List ℕ)
+abbrev pub KeyChange : Type 0
+KeyChange = Key × Option (List ℕ)
 
-abbrev pub put : Key → List ℕ → KeyWord
+abbrev pub put : Key → List ℕ → KeyChange
 put k v = (k, Some v)
 
-abbrev pub drop_key : Key → KeyWord
+abbrev pub drop_key : Key → KeyChange
 drop_key k = (k, None)
 
 -- as a batch has them
@@ -20,26 +20,26 @@ abbrev pub spell : List (Key × Option (List ℕ)) → List (List ℕ × Option 
 spell [] = []
 spell (w ∷ ws) = (bytes w.0, w.1) ∷ spell ws
 
--- what a key has after the words, where it had `old` before
+-- what a key has after the changes, where it had `old` before
 abbrev pub told : List (Key × Option (List ℕ)) → Key → Option (List ℕ) → Option (List ℕ)
 told [] k old = old
 told (w ∷ ws) k old = told ws k (cond (same k w.0) w.1 old)
 
--- what the words make of a view: of what each key has
+-- what the changes make of a view: of what each key has
 abbrev pub view : List (Key × Option (List ℕ)) → (Key → Option (List ℕ)) → Key → Option (List ℕ)
 view ws f k = told ws k (f k)
 
--- the words are on keys of the kinds
-abbrev pub AreWords : List (Key × Option (List ℕ)) → Type 0
-AreWords [] = Unit {0}
-AreWords (w ∷ ws) = IsKey w.0 × AreWords ws
+-- the changes are on keys of the kinds
+abbrev pub AreChanges : List (Key × Option (List ℕ)) → Type 0
+AreChanges [] = Unit {0}
+AreChanges (w ∷ ws) = IsKey w.0 × AreChanges ws
 
--- the words are on kinds that pass the test
+-- the changes are on kinds that pass the test
 abbrev pub AllOf : (Kind → Bool) → List (Key × Option (List ℕ)) → Type 0
 AllOf p [] = Unit {0}
 AllOf p (w ∷ ws) = (p w.0.kind ≡ true) × AllOf p ws
 
--- of the words that put, what is put fits its key
+-- of the changes that put, what is put fits its key
 abbrev pub Puts : (Key → List ℕ → Type 0) → Key → Option (List ℕ) → Type 0
 Puts P k None = Unit {0}
 Puts P k (Some v) = P k v
@@ -55,7 +55,7 @@ row_one = key Pending (codes "di") (row_part (pos 1))
 abbrev row_two : Key
 row_two = key Pending (codes "di") (row_part (pos 2))
 
--- the last word on a key counts
+-- the last change on a key counts
 last_counts : (old : Option (List ℕ)) → told (drop_key row_one ∷ put row_one (codes "x") ∷ put row_one (codes "y") ∷ []) row_one old ≡ Some (codes "y")
 unfolding row_bytes
 last_counts old = refl
@@ -64,7 +64,7 @@ goes_again : (old : Option (List ℕ)) → told (put row_one (codes "x") ∷ dro
 unfolding row_bytes
 goes_again old = refl
 
--- words on one key say nothing of another, nor of that with the same rest under another kind
+-- changes on one key say nothing of another, nor of that with the same rest under another kind
 other_rows_stay : (old : Option (List ℕ)) → told (put row_one [] ∷ drop_key row_one ∷ []) row_two old ≡ old
 unfolding row_bytes
 other_rows_stay old = refl

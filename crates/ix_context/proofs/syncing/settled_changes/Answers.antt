@@ -1,0 +1,12 @@
+use Rattle.std.proofs.Common.{sym, ◌∙◌, arith}
+use Rattle.ix_context.specs.Indexes.{target_text}
+use Rattle.ix_context.proofs.SyncSteps.{settled_added}
+use Rattle.ix_context.proofs.syncing.settled_changes.Goals as goal
+
+pub returns-clause-changes : goal.returns-clause-changes
+returns-clause-changes g c = λ m ts holds told.
+    let behind = c.in-Some.ensures in (
+      let is = behind.0 in let fits = behind.1 in omega arith,
+      settled_added c.args.index.now c.args.target.now (target_text ts c.args.target.now) c.args.first c.in-Some.next c.args.rows.now _ c.settle_rows.new.changes c.put_index.new.batch
+          (sym c.is_empty.ensures ∙ c.if-is_empty.false) c.new-changes.ensures (c.in_ok-settle_rows.ensures.changes m ts holds told) c.in_ok-put_index.ensures.ok behind.0,
+    )
