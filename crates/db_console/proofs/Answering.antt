@@ -8,10 +8,11 @@ use Rattle.ct_keep.specs.Content.{Content}
 use Rattle.ct_keep.specs.declared.keepers.KeepFault.TheVariants as fault
 use Rattle.ct_keep.specs.KeeperViews.{KeeperView, Kept, Goes, Leaves, IsSettled}
 use Rattle.ct_keep.specs.Composing.{same_say_room, reads_none, reads_short, reads_only, reads_failed, passes_as}
-use Rattle.db_engine.specs.States.{State, Stands}
-use Rattle.db_engine.specs.Refusals.{Effect, state_by}
+use Rattle.db_state.specs.States.{State, Stands}
+use Rattle.db_state.specs.Effects.{Effect, state_by}
 use Rattle.db_engine.specs.Runs.{Piece, Answer, Step, NoMemory, Full, Turn, turn, turn_by, effect_by, IsAllowed}
-use Rattle.db_engine.specs.Executing.{StandsBy, Moves, fault_for, fault_of_stop}
+use Rattle.db_state.specs.Plans.{StandsBy, Moves}
+use Rattle.db_engine.specs.Executing.{fault_for, fault_of_stop}
 use Rattle.db_engine.specs.declared.replies.Stop.{Stop as Halt}
 use Rattle.db_engine.specs.declared.replies.Stop.TheVariants.{Disk as DiskHalt}
 use Rattle.db_console.specs.declared.responses.Response.{Response}

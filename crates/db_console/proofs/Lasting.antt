@@ -5,7 +5,7 @@ use Rattle.ct_site.specs.Disks.{Beside}
 use Rattle.ct_keep.specs.Composing.{same_aside, same_well}
 use Rattle.ct_keep.specs.declared.keepers.KeepFault.{KeepFault}
 use Rattle.ct_keep.specs.KeeperViews.{KeeperView, Kept}
-use Rattle.db_engine.specs.States.{TakesAll}
+use Rattle.db_state.specs.States.{TakesAll}
 use Rattle.db_console.specs.declared.saying.Stop.{Stop}
 use Rattle.db_console.specs.declared.saying.Stop.TheVariants.{Say, Disk}
 use Rattle.db_console.specs.Views.{Lasts, Heard, Spoke, Frame, RoseBy}

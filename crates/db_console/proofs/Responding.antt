@@ -8,12 +8,13 @@ use Rattle.ct_keep.specs.KeeperViews.{KeeperView, IsSettled}
 use Rattle.st_cut.specs.Seen.{Shows as ShowsText}
 use Rattle.st_parse.specs.Grammar.{Read, Blank, NoStatement, Found, read}
 use Rattle.db_cond.specs.Faults.{NotUnderstood, StatementTooLong, out_of_memory, not_understood, statement_too_long}
-use Rattle.db_engine.specs.States.{State, Stands}
-use Rattle.db_engine.specs.Refusals.{Effect, Refused, state_by, reply_by, is_done}
-use Rattle.db_engine.specs.Room.{room}
+use Rattle.db_state.specs.States.{State, Stands}
+use Rattle.db_state.specs.Effects.{Effect, Refused, state_by, reply_by, is_done}
+use Rattle.db_state.specs.Room.{room}
 use Rattle.db_engine.specs.Steps.{effect_of, is_text, read_bytes, step, rest_of, rest_step}
 use Rattle.db_engine.specs.Runs.{Answer, Step, NoMemory, Full, statement, rest_piece, answered, can_fill, IsAllowed}
-use Rattle.db_engine.specs.Executing.{Moves, HasNoPlace, fault_for}
+use Rattle.db_state.specs.Plans.{Moves, HasNoPlace}
+use Rattle.db_engine.specs.Executing.{fault_for}
 use Rattle.db_console.specs.Worlds.{World}
 use Rattle.db_engine.specs.declared.replies.Stop.{Stop}
 use Rattle.db_engine.specs.declared.replies.Stop.TheVariants.{Disk as DiskStop}

@@ -8,7 +8,7 @@ use Rattle.ct_keep.specs.Content.{Content}
 use Rattle.ct_keep.specs.KeeperViews.{Counts, Aside}
 use Rattle.ct_keep.specs.InMemory.{aside_of}
 use Rattle.ct_keep.specs.KeeperStates.{no_counts}
-use Rattle.db_engine.specs.EmptyLaws.{empty_stands}
+use Rattle.db_state.specs.laws.Empty.{empty_stands}
 use Rattle.db_console.specs.declared.endings.Ending.{Ending}
 use Rattle.db_console.specs.Table.{Outcome, RanOver, Untouched, over_site}
 

@@ -8,8 +8,8 @@ use Rattle.ct_keep.specs.Content.{Content}
 use Rattle.st_cut.specs.Cut.{first_statement}
 use Rattle.st_cut.specs.Seen.{Seen, Stands as StandsOpen}
 use Rattle.st_cut.proofs.Cuts.{cuts_go_on, open_newline}
-use Rattle.db_engine.specs.States.{State}
-use Rattle.db_engine.specs.Refusals.{state_by, reply_by}
+use Rattle.db_state.specs.States.{State}
+use Rattle.db_state.specs.Effects.{state_by, reply_by}
 use Rattle.db_engine.specs.Steps.{rest_step}
 use Rattle.db_engine.specs.Runs.{Piece, statement, rest_piece, Step, Turn, turn_by, pieces, state_after, transcript, state_after-append, transcript-append, allowed-append, AllAllowed, Ran}
 use Rattle.db_console.specs.Worlds.{HasPieces, World, Times, LeavesState, IsMoment, Leads, Served, ServedTo, Answered}

@@ -7,10 +7,11 @@ use Rattle.ct_keep.specs.declared.keepers.KeepFault.TheVariants.{Disk}
 use Rattle.ct_keep.specs.KeeperViews.{KeeperView}
 use Rattle.st_parse.specs.Grammar.{Read}
 use Rattle.db_cond.specs.Faults.{not_understood, statement_too_long, out_of_memory}
-use Rattle.db_engine.specs.States.{State}
+use Rattle.db_state.specs.States.{State}
 use Rattle.db_engine.specs.Steps.{effect_of, is_text}
 use Rattle.db_engine.specs.Runs.{Answer, Full, answered, can_fill}
-use Rattle.db_engine.specs.Executing.{Moves, HasNoPlace, fault_for}
+use Rattle.db_state.specs.Plans.{Moves, HasNoPlace}
+use Rattle.db_engine.specs.Executing.{fault_for}
 use Rattle.db_engine.specs.declared.replies.Stop.{Stop}
 use Rattle.db_engine.specs.declared.replies.Stop.TheVariants.{Disk as DiskStop}
 use Rattle.db_console.specs.declared.responses.Response.{Response}

@@ -12,8 +12,8 @@ use Rattle.ct_keep.specs.KeeperViews.{KeeperView, Counts, PassesRoom, IsSettled}
 use Rattle.ct_keep.specs.InMemory.{in_memory, settled_in_memory, aside_of}
 use Rattle.ct_keep.specs.KeeperStates.{KeeperState, no_counts, no_disk, mem_view}
 use Rattle.st_cut.specs.Seen.{Seen}
-use Rattle.db_engine.specs.States.{empty_state}
-use Rattle.db_engine.specs.EmptyLaws.{empty_stands}
+use Rattle.db_state.specs.States.{empty_state}
+use Rattle.db_state.specs.laws.Empty.{empty_stands}
 use Rattle.db_engine.specs.Runs.{Piece, Turn, pieces, state_after, transcript, AllAllowed, statement, rest_piece, Step, turn_by}
 use Rattle.db_console.specs.Worlds.{World, HasPieces, LeavesState, IsMoment, IsPartOf, IsFrontOf, world_after, world}
 use Rattle.db_console.specs.Views.{Shows, EndsHere, HearRose, SayRose, DiskRose, Lasts, Breaks, Finishes}

@@ -1,7 +1,7 @@
 //! A whole run.
 
 ghost use Rattle.std.specs.Prelude.{◌≡◌, ◌^◌, ◌<◌, ◌↔◌, None, length};
-ghost use Rattle.db_engine.specs.States.{TakesAll};
+ghost use Rattle.db_state.specs.States.{TakesAll};
 ghost use Rattle.db_console.specs.Views.{HearRose, SayRose, DiskRose};
 ghost use Rattle.db_console.specs.Table.{Completes, Outcome, RanOver, TellsPast, Untouched, status_of};
 ghost use Rattle.db_console.specs.declared.endings.Ending.{Ending};

@@ -1,27 +1,23 @@
 -- From what the function of a statement returned to the answer.
-use Rattle.std.proofs.Common.{◌≡◌, ℕ, ◌+◌, ◌-◌, ◌^◌, Bool, true, false, cond, List, Some, None, Ok, Err, Vec, refl, ap, ◌∙◌, arith, min}
+use Rattle.std.proofs.Common.{◌≡◌, ℕ, ◌+◌, ◌-◌, ◌^◌, Bool, true, false, cond, List, Some, Ok, Err, Vec, refl, ap, ◌∙◌, arith, min}
 use Rattle.std.specs.Prelude.{codes, bytes_eq, ◌&&◌}
 use Rattle.std.specs.declared.alloc.Global.{Global}
 use Rattle.ct_base.specs.Causes.{Rose}
 use Rattle.ct_keep.specs.Content.{Content}
 use Rattle.ct_keep.specs.declared.keepers.KeepFault.TheVariants.{Memory, Full as NoRoom}
-use Rattle.ct_keep.specs.KeeperViews.{KeeperView, Kept, counted}
-use Rattle.db_engine.specs.States.{State}
+use Rattle.ct_keep.specs.KeeperViews.{KeeperView, counted}
+use Rattle.db_state.specs.States.{State}
 use Rattle.st_parse.specs.declared.statements.Arg.{Arg}
 use Rattle.db_cond.specs.Faults.{NotUnderstood}
-use Rattle.db_engine.specs.Refusals.{Effect, Refused}
-use Rattle.db_engine.specs.Calling.{call, sync_index, policy_tokens}
+use Rattle.db_state.specs.Effects.{Effect, Refused}
+use Rattle.db_engine.specs.Steps.{call}
+use Rattle.db_index.specs.Syncing.{sync_index}
+use Rattle.db_index.specs.Tokenizing.{policy_tokens}
 use Rattle.db_engine.specs.Runs.{Step, NoMemory, Full}
-use Rattle.db_engine.specs.Executing.{Moves, Gives, IsFullReply, Answers}
+use Rattle.db_state.specs.Plans.{Moves, Gives}
+use Rattle.db_engine.specs.Executing.{IsFullReply, Answers}
 use Rattle.db_engine.specs.declared.replies.Reply.{Reply}
 use Rattle.db_engine.specs.declared.replies.Reply.TheVariants.{Text as ReplyText, NoMemory as ReplyNoMemory}
-
--- what is kept unless the disk failed
-pub kept_memory : (old new : KeeperView) → Kept old new (Some Memory) → Kept old new None
-kept_memory old new kept = record { ready = kept.ready; beside = kept.beside; fixed = kept.fixed; later = kept.later; cause = kept.cause; calls = kept.calls }
-
-pub kept_full : (old new : KeeperView) → Kept old new (Some NoRoom) → Kept old new None
-kept_full old new kept = record { ready = kept.ready; beside = kept.beside; fixed = kept.fixed; later = kept.later; cause = kept.cause; calls = kept.calls }
 
 pub answers_step : (m : State) (effect : Effect) (may : Bool) (c : Content) (old new : KeeperView) (v : Vec ℕ Global) (reply : List ℕ) → reply ≡ v.items → Gives m effect c old new (Ok v) → Answers m effect may c old new (ReplyText reply)
 answers_step m effect may c old new v reply is gives = record {

@@ -1,15 +1,3 @@
-pub mod States
-pub mod EmptyLaws
-pub mod Refusals
-pub mod Creating
-pub mod Inserting
-pub mod Calling
-pub mod Selecting
 pub mod Steps
-pub mod Room
-pub mod Runs
 pub mod Executing
-pub mod Committing
-pub mod Checking
-pub mod Sources
-pub mod Locating
+pub mod Runs

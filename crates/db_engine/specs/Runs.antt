@@ -4,9 +4,9 @@ use Rattle.std.specs.Bool.{if◌then◌else◌}
 use Rattle.std.proofs.Common.{ap, sym, ◌∙◌, append_assoc}
 use Rattle.db_cond.specs.Faults.{out_of_memory, store_full}
 use Rattle.st_parse.specs.Grammar.{Read, Blank, NoStatement, Found}
-use Rattle.db_engine.specs.States.{State, empty_state}
-use Rattle.db_engine.specs.Refusals.{Effect, state_by, reply_by, is_done}
-use Rattle.db_engine.specs.Room.{room}
+use Rattle.db_state.specs.States.{State, empty_state}
+use Rattle.db_state.specs.Effects.{Effect, state_by, reply_by, is_done}
+use Rattle.db_state.specs.Room.{room}
 use Rattle.db_engine.specs.Steps.{step, rest_step, is_text, read_bytes, may_fill}
 use Rattle.std.specs.Str.{chars}
 use Rattle.std.proofs.lemmas.Bool.{false≢true}

@@ -1,8 +1,12 @@
 -- What one statement does: the state after it, and its reply.
-use Rattle.std.specs.Prelude.{ℕ, ◌≡◌, nat_le, nat_lt, Bool, true, false, not, ◌&&◌, ◌||◌, is_none, List, [], ◌∷◌, length, Option, codes, bytes_eq, refl}
+use Rattle.std.specs.Prelude.{ℕ, ◌-◌, nat_lt, Bool, true, false, not, ◌||◌, ◌&&◌, List, [], ◌∷◌, length, Option, codes, bytes_eq, ◌≡◌, refl, nat_le, is_none}
 use Rattle.std.specs.Bool.{if◌then◌else◌}
 use Rattle.std.specs.List.{list_all}
 use Rattle.std.specs.Str.{chars}
+use Rattle.st_parse.specs.declared.statements.Arg.{Arg}
+use Rattle.db_cond.specs.Faults.{NotUnderstood, StatementTooLong}
+use Rattle.db_state.specs.States.{State, empty_state, is_view}
+use Rattle.db_state.specs.Effects.{Effect, Refused, Does, refuse, reply_by}
 use Rattle.std.specs.Fmt.{digits}
 use lib.Utf8.{encode}
 use Rattle.st_parse.specs.declared.statements.IndexKind.{IndexKind}
@@ -15,13 +19,21 @@ use Rattle.st_parse.specs.declared.statements.SelectList.TheVariants.{Items}
 use Rattle.st_parse.specs.declared.statements.Statement.{Statement}
 use Rattle.st_parse.specs.declared.statements.Statement.TheVariants.{CreateTable, DropTable, DropIndex, CreateIndex, Insert, Delete, Select, Exec, Commit}
 use Rattle.st_parse.specs.Grammar.{Read, Blank, NoStatement, Found, read}
-use Rattle.db_cond.specs.Faults.{NotUnderstood, StatementTooLong}
-use Rattle.db_engine.specs.States.{State, empty_state, is_view}
-use Rattle.db_engine.specs.Refusals.{Effect, Refused, Does, refuse, reply_by}
-use Rattle.db_engine.specs.Creating.{create_table, create_index}
-use Rattle.db_engine.specs.Inserting.{insert_into}
-use Rattle.db_engine.specs.Calling.{call}
-use Rattle.db_engine.specs.Selecting.{select}
+use Rattle.db_change.specs.Creating.{create_table}
+use Rattle.db_index.specs.Indexing.{create_index}
+use Rattle.db_change.specs.Inserting.{insert_into}
+use Rattle.db_select.specs.Selecting.{select}
+use Rattle.db_index.specs.Tokenizing.{policy_tokens}
+use Rattle.db_index.specs.Syncing.{sync_index}
+
+-- ---- which procedure is called
+
+-- so far there are CTX_DDL.SYNC_INDEX and CTX_DOC.POLICY_TOKENS
+abbrev pub call : State → List ℕ → List ℕ → List Arg → Effect
+call m pack procedure args =
+    if bytes_eq pack (codes "ctx_ddl") && bytes_eq procedure (codes "sync_index") then sync_index m args
+    else (if bytes_eq pack (codes "ctx_doc") && bytes_eq procedure (codes "policy_tokens") then policy_tokens m args
+    else Refused NotUnderstood)
 
 -- SELECT of a list with exactly one CONTAINS as its condition; the grammar has no other yet, and what is only looked at can't be asked yet
 abbrev pub select_by : State → SelectList → List ℕ → List Pred → Effect

@@ -3,9 +3,9 @@ use Rattle.std.specs.Bool.{if◌then◌else◌}
 use Rattle.std.proofs.lemmas.Result.{err_from_is_err_and}
 use Rattle.ct_keep.specs.Composing.{reads_none}
 use Rattle.db_cond.specs.Faults.{NotUnderstood}
-use Rattle.db_engine.specs.Calling.{call_done}
+use Rattle.db_state.specs.Lines.{call_done}
 use Rattle.db_engine.proofs.Answering.{call_sync, call_tokens, call_other}
-use Rattle.db_engine.proofs.Serving.{serves_short, serves_refused, serves_look, serves_as}
+use Rattle.db_state.specs.laws.Serving.{serves_short, serves_refused, serves_look, serves_as}
 use Rattle.db_engine.proofs.executing.call.Goals as goal
 
 pub returns-then-is_sync-clause-serves : goal.returns-then-is_sync-clause-serves

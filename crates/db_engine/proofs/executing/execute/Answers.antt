@@ -1,10 +1,12 @@
 use Rattle.std.proofs.Common.{Err, ap, ◌≡◌, ℕ, List, Ok, refl, ◌∙◌}
-use Rattle.db_engine.proofs.Answering.{answers_full, answers_memory, answers_step, kept_full, kept_memory, rose}
+use Rattle.db_engine.proofs.Answering.{answers_full, answers_memory, answers_step, rose}
+use Rattle.db_state.specs.laws.Returning.{kept_full, kept_memory}
 use Rattle.ct_base.specs.Causes.{Rose}
 use Rattle.ct_keep.specs.declared.keepers.KeepFault.TheVariants.{Memory, Disk, Full as NoRoom}
 use Rattle.db_cond.specs.Faults.{store_full}
 use Rattle.db_engine.specs.Executing.{done_line}
-use Rattle.db_engine.proofs.Telling.{looks_none, returns_some, fixed_looks, reads_memory, tells_text, tells_full, text_not_full, if_text}
+use Rattle.db_state.specs.laws.Returning.{looks_none, returns_some, reads_memory}
+use Rattle.db_engine.proofs.Telling.{fixed_looks, tells_text, tells_full, text_not_full, if_text}
 use Rattle.db_engine.proofs.executing.execute.Goals as goal
 
 pub returns-in-Err-Full-clause-executes : goal.returns-in-Err-Full-clause-executes

@@ -4,9 +4,9 @@ use Rattle.std.specs.Prelude.{not}
 use Rattle.std.specs.Bool.{if◌then◌else◌}
 use Rattle.ct_keep.specs.Composing.{reads_none}
 use Rattle.db_cond.specs.Faults.{NotUnderstood}
-use Rattle.db_engine.specs.Creating.{index_created}
-use Rattle.db_engine.proofs.Chains.{fails, passes}
-use Rattle.db_engine.proofs.Serving.{serves_short, serves_refused, serves_as}
+use Rattle.db_index.specs.Indexing.{index_created}
+use Rattle.db_state.specs.laws.Chains.{fails, passes}
+use Rattle.db_state.specs.laws.Serving.{serves_short, serves_refused, serves_as}
 use Rattle.db_engine.proofs.executing.index_statement.Goals as goal
 
 pub returns-in_err-not_built-clause-serves : goal.returns-in_err-not_built-clause-serves

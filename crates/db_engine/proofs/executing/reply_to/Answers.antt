@@ -7,14 +7,15 @@ use Rattle.st_parse.specs.declared.statements.Arg.{Arg}
 use Rattle.st_parse.specs.declared.statements.ColumnText.{ColumnText}
 use Rattle.st_parse.specs.declared.statements.Statement.{Statement}
 use Rattle.db_cond.specs.Faults.{NotUnderstood}
-use Rattle.db_engine.specs.Refusals.{Refused, refuse, reply_by}
-use Rattle.db_engine.specs.Creating.{create_table, create_index, index_created}
-use Rattle.db_engine.specs.Inserting.{insert_into}
+use Rattle.db_state.specs.Effects.{Refused, refuse, reply_by}
+use Rattle.db_change.specs.Creating.{create_table}
+use Rattle.db_index.specs.Indexing.{create_index, index_created}
+use Rattle.db_change.specs.Inserting.{insert_into}
 use Rattle.db_engine.specs.Steps.{effect, select_by}
-use Rattle.db_engine.specs.Calling.{call}
+use Rattle.db_engine.specs.Steps.{call}
 use Rattle.db_engine.specs.Executing.{done_line, is_fixed, is_sync}
 use Rattle.db_engine.proofs.Telling.{is_not}
-use Rattle.db_engine.proofs.Serving.{serves_short, serves_refused, serves_look, serves_as}
+use Rattle.db_state.specs.laws.Serving.{serves_short, serves_refused, serves_look, serves_as}
 use Rattle.db_engine.proofs.executing.reply_to.Goals as goal
 
 pub returns-in-CreateTable-clause-serves : goal.returns-in-CreateTable-clause-serves

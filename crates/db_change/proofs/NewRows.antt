@@ -1,0 +1,219 @@
+-- The state after a new row.
+use Rattle.std.proofs.Common.{◌≡◌, ℕ, ℤ, ◌<◌, ◌≤◌, Bool, true, false, cond, List, [], ◌∷◌, ◌++◌, length, map, Option, Some, None, refl, sym, ap, subst, ◌∙◌, arith}
+use Rattle.std.specs.Prelude.{◌||◌, is_some, filter}
+use Rattle.std.specs.Option.{option_map}
+use Rattle.std.specs.FinMap.{get, insert, entries}
+use Rattle.std.proofs.lemmas.Cmp.{nat_list_cmp_total}
+use Rattle.std.proofs.lemmas.Map.Made.{is_some-lookup}
+use Rattle.std.specs.Cmp.Lexicographic.{slice_cmp}
+use Rattle.std.specs.Ordering.{nat_cmp}
+use Rattle.ct_base.specs.Names.{IsName}
+use Rattle.ct_base.specs.declared.lists.Value.{Value}
+use Rattle.ct_keep.specs.Content.{Content, after}
+use Rattle.ct_entry.specs.declared.kinds.Kind.{Kind}
+use Rattle.ct_entry.specs.declared.kinds.Kind.TheVariants as kind
+use Rattle.ct_entry.specs.Keys.{Key, at, same_list, IsRow}
+use Rattle.ct_entry.specs.KeyLaws.{list_from_same, list_same}
+use Rattle.ct_entry.specs.Maps.{Names}
+use Rattle.ct_entry.specs.Rising.{none_below}
+use Rattle.ct_entry.specs.Listings.{key_order}
+use Rattle.ct_keep.specs.RisingKeys.{and_true, below, rises}
+use Rattle.ct_entry.specs.PartLaws.{is_short}
+use Rattle.ct_entry.specs.Each.{is_among}
+use Rattle.ct_entry.specs.EachLaws.{all_each}
+use Rattle.ct_entry.specs.WellLaws.{IsWellAt, are_well, puts-append}
+use Rattle.ct_entry.specs.Changes.{spell, told, view, AreChanges, AllOf, AllPut}
+use Rattle.ct_entry.specs.ChangeLaws.{at_view, at-after, only-after, told_frame, told-append, view-append, are-append, all-append}
+use Rattle.tb_table.specs.Tables.{Table, Tables, numbers_of, texts_of, row_at, with_row}
+use Rattle.tb_table.specs.Spelling.{TablesStand, insert_changes}
+use Rattle.tb_table.specs.Rules.{FitColumns, others}
+use Rattle.tb_table.specs.ChangeLaws.{is_of_tables, all_insert, stand_insert, tables_frame, get-with_row}
+use Rattle.tb_table.specs.RuleLaws.{insert_keeps}
+use Rattle.tb_table.specs.WellLaws.{are_insert, short_insert, puts_insert, row_places}
+use Rattle.ix_context.specs.Indexes.{Index, Pending, waiting_on, noted_on}
+use Rattle.ix_context.specs.Rules.{AreIndexes}
+use Rattle.ix_context.specs.Spelling.{IndexesStand}
+use Rattle.ix_context.specs.Changes.{note_insert_changes}
+use Rattle.ix_context.specs.Standing.{is_of_indexes, indexes_frame}
+use Rattle.ix_context.specs.ChangeLaws.{stay_with_row}
+use Rattle.db_names.specs.declared.heads.IndexHead.{IndexHead}
+use Rattle.db_names.specs.HeadLaws.{head_of, heads_of, heads_at, heads_rise}
+use Rattle.db_names.specs.PairLaws.{lookup-find}
+use Rattle.db_state.specs.States.{State, IsState, Stands, is_view, is_built, indexes_on, most_indexes}
+use Rattle.db_state.specs.Committing.{are_bounded}
+use Rattle.db_change.specs.Inserting.{note_all_changes, with_new_row}
+use Rattle.db_state.specs.laws.Heads.{heads, get-heads, head_of_index}
+use Rattle.db_state.specs.laws.Bounded.{any_entry, bounded_well}
+use Rattle.db_state.specs.laws.EachValue.{entries-each_value, count_alike}
+use Rattle.ix_context.specs.RuleLaws.{is_on, AreDistinct, AreIndexesOn, row_keeps, row_notes_stand}
+
+-- ---- the indexes on a table
+
+-- their names, in the order of their keys
+abbrev pub names_on : Names Index → List ℕ → List (List ℕ)
+names_on xs t = map (λ e. e.0) (heads_of t (heads xs))
+
+on_table : (t : List ℕ) (o : Option Index) → is_some (head_of t (option_map head_of_index o)) ≡ is_on t o
+on_table t None = refl
+on_table t (Some x) = go (same_list x.table t)
+  where
+    go : (b : Bool) → is_some (cond b (Some (head_of_index x)) None) ≡ b
+    go true = refl
+    go false = refl
+
+pub names_listed : (xs : Names Index) (t i : List ℕ) → is_among i (names_on xs t) ≡ is_on t (get xs i)
+names_listed xs t i =
+    sym (is_some-lookup (same_list i) (heads_of t (heads xs)))
+    ∙ ap is_some (heads_at t (heads xs) i)
+    ∙ ap (λ (o : Option IndexHead). is_some (head_of t o)) (get-heads xs i)
+    ∙ on_table t (get xs i)
+
+-- no name stands twice
+distinct : (es : List (List ℕ × IndexHead)) → rises key_order es ≡ true → AreDistinct (map (λ e. e.0) es)
+distinct [] up = tt
+distinct (e ∷ es) up =
+    let b = and_true (below key_order e.0 es) (rises key_order es) up in (
+      sym (is_some-lookup (same_list e.0) es) ∙ ap is_some (lookup-find e.0 es ∙ none_below key_order e.0 es b.0),
+      distinct es b.1,
+    )
+
+names_on_table : (xs : Names Index) (t : List ℕ) → AreIndexesOn xs t (names_on xs t)
+names_on_table xs t = record { distinct = distinct (heads_of t (heads xs)) (heads_rise t (heads xs)); each = names_listed xs t }
+
+names_are : (ts : Tables) (xs : Names Index) → AreIndexes ts xs → (t i : List ℕ) → is_among i (names_on xs t) ≡ true → IsName i
+names_are ts xs are t i there = go (get xs i) refl (sym (names_listed xs t i) ∙ there)
+  where
+    go : (o : Option Index) → get xs i ≡ o → is_on t o ≡ true → IsName i
+    go None here on = cc
+    go (Some x) here on = are.names i x here
+
+-- ---- changes
+
+-- what an INSERT puts into its batch
+abbrev pub row_changes : List ℕ → ℤ → List Value → List (List ℕ) → List (Key × Option (List ℕ))
+row_changes t r vs names = insert_changes t r (numbers_of vs) (texts_of vs) ++ note_all_changes names r
+
+abbrev is_pending : Kind → Bool
+is_pending kind.Pending = true
+is_pending k = false
+
+notes_pending : (names : List (List ℕ)) (r : ℤ) → AllOf is_pending (note_all_changes names r)
+notes_pending names r = all_each is_pending (λ i. note_insert_changes i r) (λ i. (refl, tt)) names
+
+notes_short : (names : List (List ℕ)) (r : ℤ) → AllOf is_short (note_all_changes names r)
+notes_short names r = all_each is_short (λ i. note_insert_changes i r) (λ i. (refl, tt)) names
+
+or_right : (a b : Bool) → b ≡ true → (a || b) ≡ true
+or_right true b h = refl
+or_right false b h = h
+
+notes_are : (names : List (List ℕ)) (r : ℤ) → IsRow r → ((i : List ℕ) → is_among i names ≡ true → IsName i) → AreChanges (note_all_changes names r)
+notes_are [] r row named = tt
+notes_are (i ∷ is) r row named = (
+  record { owner = named i (ap (λ (b : Bool). b || is_among i is) (list_same i)); part = (r, row, refl) },
+  notes_are is r row (λ j there. named j (or_right (same_list j i) (is_among j is) there)),
+)
+
+notes_put : (names : List (List ℕ)) (r : ℤ) → AllPut (IsWellAt any_entry) (note_all_changes names r)
+notes_put [] r = tt
+notes_put (i ∷ is) r = (record { bounded = omega arith; shaped = refl }, notes_put is r)
+
+module _ (m : State) (t : List ℕ) (x : Table) (r : ℤ) (vs : List Value) (is : get m.tables t ≡ Some x) (state : IsState m) (row : IsRow r) (fit : FitColumns (others x.columns) vs) where
+  pub row_changes_are : AreChanges (row_changes t r vs (names_on m.indexes t))
+  row_changes_are =
+      are-append (insert_changes t r (numbers_of vs) (texts_of vs)) (note_all_changes (names_on m.indexes t) r)
+      (are_insert t r (numbers_of vs) (texts_of vs) (state.tables.names t x is) row (row_places x.columns vs (state.tables.each t x is).columns fit))
+      (notes_are (names_on m.indexes t) r row (names_are m.tables m.indexes state.indexes t))
+
+  -- a keeper takes them
+  pub row_changes_bounded : are_bounded (spell (row_changes t r vs (names_on m.indexes t))) ≡ true
+  row_changes_bounded =
+      bounded_well any_entry (spell (row_changes t r vs (names_on m.indexes t)))
+      (are_well any_entry (row_changes t r vs (names_on m.indexes t)) row_changes_are
+      (all-append is_short (insert_changes t r (numbers_of vs) (texts_of vs)) (note_all_changes (names_on m.indexes t) r) (short_insert t r (numbers_of vs) (texts_of vs)) (notes_short (names_on m.indexes t) r))
+      (puts-append (IsWellAt any_entry) (insert_changes t r (numbers_of vs) (texts_of vs)) (note_all_changes (names_on m.indexes t) r) (puts_insert any_entry t r x.columns vs (λ k v h. refl) (state.tables.each t x is).columns fit) (notes_put (names_on m.indexes t) r)))
+
+-- ---- the state keeps its rules
+
+tables_pending : (k : Kind) → is_of_tables k ≡ true → is_pending k ≡ false
+tables_pending kind.Pending h = cc
+tables_pending k h = refl
+
+tables_built : (k : Kind) → is_built k ≡ false → is_of_tables k ≡ false
+tables_built kind.Tables h = cc
+tables_built kind.RowNumbers h = cc
+tables_built kind.RowTexts h = cc
+tables_built k h = refl
+
+pending_built : (k : Kind) → is_built k ≡ false → is_pending k ≡ false
+pending_built kind.Pending h = cc
+pending_built k h = refl
+
+apart : (k : Kind) → is_of_indexes k ≡ true → is_of_tables k ≡ false
+apart kind.Tables h = cc
+apart kind.RowNumbers h = cc
+apart kind.RowTexts h = cc
+apart k h = refl
+
+views_stay : (m : State) (t : List ℕ) (x : Table) (r : ℤ) (vs : List Value) → get m.tables t ≡ Some x → ((q : List ℕ) (y : Table) → get m.tables q ≡ Some y → is_view q ≡ false)
+    → (q : List ℕ) (y : Table) → get (with_row m.tables t r vs) q ≡ Some y → is_view q ≡ false
+views_stay m t x r vs here views q y is = go (same_list q t) refl (sym (get-with_row m.tables t r vs x here q) ∙ is)
+  where
+    go : (b : Bool) → same_list q t ≡ b → cond b (Some (record x { rows = insert x.rows r vs })) (get m.tables q) ≡ Some y → is_view q ≡ false
+    go true h e = ap is_view (list_from_same q t h) ∙ views t x here
+    go false h e = views q y e
+
+-- what an index becomes keeps its table
+noted_table : (t : List ℕ) (r : ℤ) (x : Index) → (waiting_on t r x).table ≡ x.table
+noted_table t r x = go (same_list x.table t)
+  where
+    go : (b : Bool) → (cond b (record x { marks = insert x.marks r Pending }) x).table ≡ x.table
+    go true = refl
+    go false = refl
+
+few_stay : (xs : Names Index) (t : List ℕ) (r : ℤ) (q : List ℕ) → length (indexes_on (noted_on xs t r) q) ≡ length (indexes_on xs q)
+few_stay xs t r q =
+    ap (λ (es : List (List ℕ × Index)). length (filter (λ e. same_list e.1.table q) es)) (entries-each_value (slice_cmp nat_cmp) (waiting_on t r) nat_list_cmp_total xs)
+    ∙ count_alike (λ (e : List ℕ × Index). (e.0, waiting_on t r e.1)) (λ e. same_list e.1.table q) (λ e. same_list e.1.table q) (λ e. ap (λ (u : List ℕ). same_list u q) (noted_table t r e.1)) (entries xs)
+
+new_row_state : (m : State) (t : List ℕ) (x : Table) (r : ℤ) (vs : List Value) → get m.tables t ≡ Some x → IsState m → IsRow r → FitColumns (others x.columns) vs → length (entries x.rows) < 100000 → IsState (with_new_row m t r vs)
+new_row_state m t x r vs is state row fit room = record {
+  tables = insert_keeps m.tables t r vs x state.tables is row fit room;
+  indexes = row_keeps m.tables m.indexes t r vs x is state.indexes;
+  views = views_stay m t x r vs is state.views;
+  few = λ q. subst (λ (n : ℕ). n ≤ most_indexes) (sym (few_stay m.indexes t r q)) (state.few q);
+}
+
+-- ---- the entries
+
+free_marks : (ts : Tables) (xs : Names Index) (t : List ℕ) (x : Table) (r : ℤ) → get ts t ≡ Some x → get x.rows r ≡ None → AreIndexes ts xs → (i : List ℕ) (y : Index) → get xs i ≡ Some y → y.table ≡ t → get y.marks r ≡ None
+free_marks ts xs t x r is none are i y here on = gone (get y.marks r) ((are.each i y here).marks r ∙ ap is_some (ap (λ (u : List ℕ). row_at ts u r) on ∙ no_row))
+  where
+    gone : {X : Type 0} (o : Option X) → is_some o ≡ false → o ≡ None
+    gone None h = refl
+    gone (Some v) h = cc
+
+    no_row : row_at ts t r ≡ None
+    no_row = rw is none
+
+pub new_row_stands : (c : Content) (m : State) (t : List ℕ) (x : Table) (r : ℤ) (vs : List Value) → Stands c m → get m.tables t ≡ Some x → get x.rows r ≡ None → IsRow r → FitColumns (others x.columns) vs → length (entries x.rows) < 100000
+    → Stands (after (spell (row_changes t r vs (names_on m.indexes t))) c) (with_new_row m t r vs)
+new_row_stands c m t x r vs stands is none row fit room =
+    let a = insert_changes t r (numbers_of vs) (texts_of vs) in
+    let b = note_all_changes (names_on m.indexes t) r in
+    let us = with_row m.tables t r vs in
+    let seen = at_view (a ++ b) c ∙ view-append a b (at c) in
+    record {
+      only = only-after (a ++ b) c stands.only (row_changes_are m t x r vs is stands.state row fit);
+      tables = subst (λ (f : Key → Option (List ℕ)). TablesStand f us) (sym seen)
+          (tables_frame is_pending b (view a (at c)) us (notes_pending (names_on m.indexes t) r) tables_pending (stand_insert (at c) m.tables t r vs x is none row stands.tables));
+      indexes = subst (λ (f : Key → Option (List ℕ)). IndexesStand f us (noted_on m.indexes t r)) (sym seen)
+          (row_notes_stand (view a (at c)) us m.indexes t r (names_on m.indexes t) (names_on_table m.indexes t) (free_marks m.tables m.indexes t x r is none stands.state.indexes) row
+          (indexes_frame is_of_tables a (at c) us m.indexes (all_insert t r (numbers_of vs) (texts_of vs)) apart (stay_with_row (at c) m.tables m.indexes t r vs x is none stands.state.indexes stands.indexes)));
+      unbuilt = λ k h.
+          at-after (a ++ b) c k ∙ told-append a b k (at c k)
+          ∙ told_frame is_pending b k (told a k (at c k)) (notes_pending (names_on m.indexes t) r) (pending_built k.kind h)
+          ∙ told_frame is_of_tables a k (at c k) (all_insert t r (numbers_of vs) (texts_of vs)) (tables_built k.kind h)
+          ∙ stands.unbuilt k h;
+      state = new_row_state m t x r vs is stands.state row fit room;
+    }

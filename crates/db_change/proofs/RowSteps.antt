@@ -1,0 +1,50 @@
+-- The changes of a row that has passed the checks.
+use Rattle.std.proofs.Common.{◌≡◌, ℕ, ℤ, ◌≤◌, true, List, ◌++◌, length, map, Option, Some, sym, ap, subst, ◌∙◌}
+use Rattle.std.specs.List.{All}
+use Rattle.std.specs.FinMap.{get, entries}
+use Rattle.std.proofs.lemmas.Bool.{leb-false}
+use Rattle.st_parse.specs.declared.statements.Operand.{Operand}
+use Rattle.ct_keep.specs.Content.{Content, after}
+use Rattle.ct_entry.specs.Keys.{at, IsRow}
+use Rattle.ct_entry.specs.Changes.{spell}
+use Rattle.ct_entry.specs.ChangeLaws.{spell-append}
+use Rattle.tb_table.specs.Tables.{Table, numbers_of, texts_of}
+use Rattle.tb_table.specs.Spelling.{insert_changes}
+use Rattle.db_names.specs.declared.heads.IndexHead.{IndexHead}
+use Rattle.db_names.specs.Findings.{AreIndexesOf}
+use Rattle.db_names.specs.HeadLaws.{heads_of, indexes_of_read}
+use Rattle.db_state.specs.States.{State, Stands}
+use Rattle.db_state.specs.Committing.{are_bounded}
+use Rattle.db_change.specs.Inserting.{behind_key, kept_value, others_kept, most_rows, note_all_changes, with_new_row, IsFreeRow, IsNumberKept, IsTextKept}
+use Rattle.db_state.specs.laws.Heads.{heads, heads_stand}
+use Rattle.db_change.proofs.KeptValues.{others_fit, few_others}
+use Rattle.db_change.proofs.NewRows.{names_on, row_changes, row_changes_bounded, new_row_stands}
+
+module _ (c : Content) (m : State) (t : List ℕ) (x : Table) (r : ℤ) (values vs : List Operand) (stands : Stands c m) (here : get m.tables t ≡ Some x) (free : IsFreeRow x values r) (row : IsRow r)
+    (behind : vs ≡ behind_key values) (numbers : All IsNumberKept vs) (texts : All IsTextKept vs) (shown found : List (List ℕ × IndexHead)) (same : shown ≡ found) (are : AreIndexesOf (at c) t found)
+    (changes batch : List (List ℕ × Option (List ℕ))) (changes_are : length vs ≤ 255 → changes ≡ spell (insert_changes t r (numbers_of (map kept_value vs)) (texts_of (map kept_value vs))))
+    (whole : batch ≡ changes ++ spell (note_all_changes (map (λ e. e.0) shown) r)) where
+  names_found : found ≡ heads_of t (heads m.indexes)
+  names_found = indexes_of_read (at c) (heads m.indexes) (heads_stand (at c) m.tables m.indexes stands.state.tables stands.state.indexes stands.indexes) t found are
+
+  few : length vs ≤ 255
+  few = subst (λ (us : List Operand). length us ≤ 255) (sym behind) (few_others x values r (stands.state.tables.each t x here).columns.few free)
+
+  batch_is : batch ≡ spell (row_changes t r (others_kept values) (names_on m.indexes t))
+  batch_is =
+      whole
+      ∙ ap (λ (es : List (List ℕ × IndexHead)). changes ++ spell (note_all_changes (map (λ e. e.0) es) r)) same
+      ∙ ap (λ (ws : List (List ℕ × Option (List ℕ))). ws ++ spell (note_all_changes (map (λ e. e.0) found) r)) (changes_are few)
+      ∙ ap (λ (us : List Operand). spell (insert_changes t r (numbers_of (map kept_value us)) (texts_of (map kept_value us))) ++ spell (note_all_changes (map (λ e. e.0) found) r)) behind
+      ∙ ap (λ (es : List (List ℕ × IndexHead)). spell (insert_changes t r (numbers_of (others_kept values)) (texts_of (others_kept values))) ++ spell (note_all_changes (map (λ e. e.0) es) r)) names_found
+      ∙ sym (spell-append (insert_changes t r (numbers_of (others_kept values)) (texts_of (others_kept values))) (note_all_changes (names_on m.indexes t) r))
+
+  pub batch_bounded : are_bounded batch ≡ true
+  batch_bounded =
+      ap are_bounded batch_is
+      ∙ row_changes_bounded m t x r (others_kept values) here stands.state row (others_fit x values r free (subst (All IsNumberKept) behind numbers) (subst (All IsTextKept) behind texts))
+
+  pub batch_stands : Stands (after batch c) (with_new_row m t r (others_kept values))
+  batch_stands =
+      subst (λ (ws : List (List ℕ × Option (List ℕ))). Stands (after ws c) (with_new_row m t r (others_kept values))) (sym batch_is)
+      (new_row_stands c m t x r (others_kept values) stands here free.free row (others_fit x values r free (subst (All IsNumberKept) behind numbers) (subst (All IsTextKept) behind texts)) (leb-false most_rows (length (entries x.rows)) free.few))

@@ -1,0 +1,492 @@
+//! INSERT.
+#![tactic(auto, using(ct_keep::specs::Composing::reads_on, ct_keep::specs::Composing::reads_short))]
+
+ghost use Rattle.std.specs.Prelude.{◌≡◌, ◌≤◌, ◌<◌, ◌+◌, ◌++◌, IfOk, OnOk, Some, None, Err, true, false, nat_le, length, map};
+ghost use Rattle.std.specs.List.{list_any, list_all, filter_map, All};
+ghost use Rattle.std.specs.Option.{option_map};
+ghost use Rattle.std.specs.FinMap.{get, entries};
+ghost use Rattle.ct_keep.specs.Content.{Content, after};
+ghost use Rattle.db_state.specs.Committing.{are_bounded};
+ghost use Rattle.ct_keep.specs.KeeperViews.{OnlyReads};
+ghost use Rattle.ct_entry.specs.Keys.{same_list};
+ghost use Rattle.ct_entry.specs.Changes.{spell};
+ghost use Rattle.tb_table.specs.declared.columns.Column.{Column};
+ghost use Rattle.tb_table.specs.Tables.{Table, numbers_of, texts_of};
+ghost use Rattle.tb_table.specs.Spelling.{insert_changes};
+ghost use Rattle.db_state.specs.States.{State, Stands, TakesAll};
+ghost use Rattle.db_state.specs.Effects.{Effect};
+ghost use Rattle.db_state.specs.Columns.{first_unknown as unknown_name};
+ghost use Rattle.db_change.specs.Inserting.{are_of_sorts as all_of_sorts, arranged as arranged_values, behind_key as others_of, check_list, check_values, covers as covers_columns, has_row as has_row_of, has_too_long as any_too_long, insert_into as insert_into_effect, insert_values as insert_values_effect, is_beyond_range, is_of_sort as sort_takes, is_too_long as too_long_for, key_in as key_of, kept_value, number_value, text_value, IsNumberKept, IsTextKept, note_all_changes, most_rows, names_of, others_kept, row_created, value_under as named_value, with_new_row, IsFreeRow};
+ghost use Rattle.db_state.specs.Effects.{Checks};
+ghost use Rattle.db_state.specs.Plans.{IsPlan, Plans, Serves};
+
+use ct_base::{Memory, Name, RowKey, Text};
+use ct_keep::{Batch, KeepFault, Keeper};
+use db_cond::Fault;
+use db_names::{IndexHead, indexes_of};
+use db_state::{Plan, TEXT_LIMIT, carry_out, has_column, table_columns};
+use ix_context::note_insert;
+use st_parse::{ColumnNames, Operand, Whole};
+use std::alloc::Global;
+use tb_table::{Column, Sort, has_row, insert, row_count_at_most};
+
+/// How many rows a table has at most where one more fits.
+const MOST_ROWS_BEFORE: u32 = 99_999;
+
+// ---- the list of columns
+
+/// The first of the names that is no column's.
+fn first_unknown<'a>(names: &'a [Name], columns: &[Column]) -> Option<&'a Name>
+    ensures { option_map (λ name. name.now) result ≡ unknown_name names.now columns.now }
+{
+    for name in names {
+        if !has_column(name, columns) {
+            return Some(name);
+        }
+    }
+    None
+}
+
+/// The names of the list, if there is one.
+fn names_in(names: &Option<ColumnNames>) -> &[Name]
+    ensures { result.now ≡ names_of names.now }
+{
+    match names {
+        None => &[],
+        Some(names) => names.as_slice(),
+    }
+}
+
+/// Whether one of the names is this.
+fn has_name(name: &Name, names: &[Name]) -> bool
+    ensures { result ≡ list_any (same_list name.now) names.now }
+{
+    names.iter().any(|other| name.as_str() == other.as_str())
+}
+
+/// Whether each column has one of the names.
+fn are_named(columns: &[Column], names: &[Name]) -> bool
+    ensures { result ≡ list_all (λ (c : Column). list_any (same_list c.name) names.now) columns.now }
+{
+    columns.iter().all(|column| has_name(&column.name, names))
+}
+
+/// Whether the list names each column once; where there is none, all are meant.
+fn covers(names: &Option<ColumnNames>, columns: &[Column]) -> bool
+    ensures { result ≡ covers_columns names.now columns.now }
+{
+    match names {
+        None => true,
+        Some(names) => {
+            let names = names.as_slice();
+            names.len() == columns.len() && are_named(columns, names)
+        }
+    }
+}
+
+/// The first check that fails of the list of columns.
+fn list_fault<'a>(
+    columns: &[Column],
+    names: &'a Option<ColumnNames>,
+    values: &[Operand],
+) -> Option<Fault<'a>>
+    ensures { (done : Effect) → Checks result (check_list columns.now names.now values.now done) done }
+{
+    if let Some(name) = first_unknown(names_in(names), columns) {
+        return Some(Fault::UnknownName(name.as_str()));
+    }
+    if !covers(names, columns) || values.len() != columns.len() {
+        return Some(Fault::WrongValues);
+    }
+    None
+}
+
+// ---- the values in the order of the columns
+
+/// A copy of a value.
+fn copy_of(alloc: Global, value: &Operand) -> Result<Operand, Memory>
+    ensures { IfOk result (λ copy. copy ≡ value.now) }
+{
+    match value {
+        Operand::Text(text) => Ok(Operand::Text(Text::of(alloc, text.as_str())?)),
+        Operand::Number(number) => Ok(Operand::Number(*number)),
+    }
+}
+
+fn copies_of(alloc: Global, values: &[Operand]) -> Result<Vec<Operand>, Memory>
+    ensures { IfOk result (λ copies. copies.items ≡ values.now) }
+{
+    let mut copies = Vec::new(alloc);
+    for value in values {
+        copies.push(copy_of(alloc, value)?)?;
+    }
+    Ok(copies)
+}
+
+/// The value at the place where the name stands.
+#[tactic(auto, using(crate::proofs::NewValues::value_step))]
+fn value_under<'a>(name: &Name, names: &[Name], values: &'a [Operand]) -> Option<&'a Operand>
+    ensures { option_map (λ value. value.now) result ≡ named_value name.now names.now values.now }
+{
+    for (place, other) in names.iter().enumerate() {
+        if name.as_str() == other.as_str() {
+            return values.get(place);
+        }
+    }
+    None
+}
+
+/// The values in the order of the columns. Its cost is the product of the numbers of columns and names.
+fn arranged(
+    alloc: Global,
+    names: &[Name],
+    columns: &[Column],
+    values: &[Operand],
+) -> Result<Vec<Operand>, Memory>
+    ensures { IfOk result (λ arranged. arranged.items ≡ arranged_values (Some names.now) columns.now values.now) }
+{
+    let mut arranged = Vec::new(alloc);
+    for column in columns {
+        let Some(value) = value_under(&column.name, names, values) else {
+            continue;
+        };
+        arranged.push(copy_of(alloc, value)?)?;
+    }
+    Ok(arranged)
+}
+
+/// The values in the order of the columns, by the list of columns if there is one.
+fn arrange(
+    alloc: Global,
+    names: &Option<ColumnNames>,
+    columns: &[Column],
+    values: &[Operand],
+) -> Result<Vec<Operand>, Memory>
+    ensures { IfOk result (λ arranged. arranged.items ≡ arranged_values names.now columns.now values.now) }
+{
+    match names {
+        None => copies_of(alloc, values),
+        Some(names) => arranged(alloc, names.as_slice(), columns, values),
+    }
+}
+
+// ---- the values, each with its column
+
+fn is_of_sort(sort: Sort, value: &Operand) -> bool
+    ensures { result ≡ sort_takes sort value.now }
+{
+    match (sort, value) {
+        (Sort::Number, Operand::Number(_)) => true,
+        (Sort::Varchar2(_) | Sort::Clob, Operand::Text(_)) => true,
+        _ => false,
+    }
+}
+
+/// Whether there are as many values as columns, each of its column's type.
+#[tactic(auto, using(crate::proofs::NewValues::sorts_at))]
+fn are_of_sorts(columns: &[Column], values: &[Operand]) -> bool
+    ensures { result ≡ all_of_sorts columns.now values.now }
+{
+    if columns.len() != values.len() {
+        return false;
+    }
+    for (place, column) in columns.iter().enumerate() {
+        if !is_of_sort(column.sort, &values[place]) {
+            return false;
+        }
+    }
+    true
+}
+
+fn is_too_long(sort: Sort, value: &Operand) -> bool
+    ensures { result ≡ too_long_for sort value.now }
+{
+    match (sort, value) {
+        (Sort::Varchar2(size), Operand::Text(text)) => text.as_str().len() > usize::from(size),
+        (Sort::Clob, Operand::Text(text)) => text.as_str().len() > usize::from(TEXT_LIMIT),
+        _ => false,
+    }
+}
+
+/// Whether a text is longer than its column takes.
+#[tactic(auto, using(crate::proofs::NewValues::long_at))]
+fn has_too_long(columns: &[Column], values: &[Operand]) -> bool
+    ensures { result ≡ any_too_long columns.now values.now }
+{
+    for (place, column) in columns.iter().enumerate() {
+        let Some(value) = values.get(place) else {
+            return false;
+        };
+        if is_too_long(column.sort, value) {
+            return true;
+        }
+    }
+    false
+}
+
+fn is_beyond(value: &Operand) -> bool
+    ensures { result ≡ is_beyond_range value.now }
+{
+    match value {
+        Operand::Number(Whole::Beyond) => true,
+        Operand::Number(Whole::Fits(_)) | Operand::Text(_) => false,
+    }
+}
+
+fn has_beyond(values: &[Operand]) -> bool
+    ensures { result ≡ list_any is_beyond_range values.now }
+{
+    values.iter().any(|value| is_beyond(value))
+}
+
+/// The key of a row: its first value, where that is a number of 64 bits.
+fn key_in(values: &[Operand]) -> Option<RowKey>
+    ensures { option_map (λ key. key.0) result ≡ key_of values.now }
+{
+    match values {
+        [Operand::Number(Whole::Fits(key)), ..] => Some(RowKey(*key)),
+        _ => None,
+    }
+}
+
+/// The first check that fails of the values; `taken` tells whether the table has a row of the key, `many` whether it has as
+/// many rows as it may have.
+fn values_fault(
+    taken: bool,
+    many: bool,
+    columns: &[Column],
+    values: &[Operand],
+) -> Option<Fault<'static>>
+    ensures { (done : Effect) → Checks result (check_values taken many columns.now values.now done) done }
+{
+    if !are_of_sorts(columns, values) {
+        return Some(Fault::WrongValues);
+    }
+    if taken && let Some(key) = key_in(values) {
+        return Some(Fault::KeyExists(key.0));
+    }
+    if has_too_long(columns, values) {
+        return Some(Fault::ValueTooLong);
+    }
+    if has_beyond(values) {
+        return Some(Fault::OutOfRange);
+    }
+    if many {
+        return Some(Fault::LimitReached);
+    }
+    None
+}
+
+// ---- what a row keeps
+
+/// The number that a row keeps of a value, if any; in place of one that is out of its range, 0.
+fn number_in(value: &Operand) -> Option<i64>
+    ensures number { result ≡ number_value value.now }
+    ensures fits { IsNumberKept value.now }
+{
+    match value {
+        Operand::Text(_) => None,
+        Operand::Number(Whole::Fits(number)) => Some(*number),
+        Operand::Number(Whole::Beyond) => Some(0),
+    }
+}
+
+/// The numbers of a row by its values but the key, in the order of their columns.
+fn numbers_in(alloc: Global, values: &[Operand]) -> Result<Vec<i64>, Memory>
+    ensures numbers { IfOk result (λ numbers. numbers.items ≡ filter_map number_value values.now) }
+    ensures fit { IfOk result (λ _. All IsNumberKept values.now) }
+{
+    let mut numbers = Vec::new(alloc);
+    for value in values {
+        let Some(number) = number_in(value) else {
+            continue;
+        };
+        numbers.push(number)?;
+    }
+    Ok(numbers)
+}
+
+/// The text that a row keeps of a value, if any.
+fn text_in(value: &Operand) -> Option<&str>
+    ensures text { option_map (λ text. text.now) result ≡ text_value value.now }
+    ensures utf8 { IsTextKept value.now }
+{
+    match value {
+        Operand::Text(text) => Some(text.as_str()),
+        Operand::Number(_) => None,
+    }
+}
+
+/// The column of a value by its place behind the key, or the last that there can be.
+fn column_of(place: usize) -> u8
+    ensures { place < 255 → result ≡ place + 1 }
+{
+    u8::try_from(place.saturating_add(1)).unwrap_or(u8::MAX)
+}
+
+/// The texts of a row by its values but the key, each with its column.
+fn texts_in(alloc: Global, values: &[Operand]) -> Result<Vec<(u8, Text)>, Memory>
+    ensures texts { IfOk result (λ texts. length values.now ≤ 255 → texts.items ≡ texts_of (map kept_value values.now)) }
+    ensures utf8 { IfOk result (λ _. All IsTextKept values.now) }
+{
+    let mut texts = Vec::new(alloc);
+    for (place, value) in values.iter().enumerate() {
+        let Some(text) = text_in(value) else {
+            continue;
+        };
+        texts.push((column_of(place), Text::of(alloc, text)?))?;
+    }
+    Ok(texts)
+}
+
+/// The changes of a row.
+fn row_batch(alloc: Global, table: &Name, row: RowKey, values: &[Operand]) -> Result<Batch, Memory>
+    ensures changes { IfOk result (λ batch. length values.now ≤ 255 → batch ≡ spell (insert_changes table.now row.0 (numbers_of (map kept_value values.now)) (texts_of (map kept_value values.now)))) }
+    ensures numbers { IfOk result (λ _. All IsNumberKept values.now) }
+    ensures texts { IfOk result (λ _. All IsTextKept values.now) }
+{
+    let numbers = numbers_in(alloc, values)?;
+    let texts = texts_in(alloc, values)?;
+    let mut batch = Batch::new(alloc);
+    insert(alloc, &mut batch, table, row, &numbers, &texts)?;
+    Ok(batch)
+}
+
+/// Adds the changes that the row waits in each of the indexes.
+fn note_all(
+    alloc: Global,
+    batch: &mut Batch,
+    indexes: &[(Name, IndexHead)],
+    row: RowKey,
+) -> Result<(), Memory>
+    ensures { OnOk result (batch.new ≡ batch.old ++ spell (note_all_changes (map (λ e. e.0) indexes.now) row.0)) }
+{
+    for (index, _) in indexes {
+        note_insert(alloc, batch, index, row).map_err(|_| Memory)?;
+    }
+    Ok(())
+}
+
+/// The values but the key.
+fn behind_key(values: &[Operand]) -> &[Operand]
+    ensures { result.now ≡ others_of values.now }
+{
+    match values {
+        [] => &[],
+        [_, others @ ..] => others,
+    }
+}
+
+/// The batch of a row that has passed the checks: its changes and those that it waits in each index on the table.
+fn noted_batch<K: Keeper>(
+    alloc: Global,
+    keeper: &mut K,
+    table: &Name,
+    row: RowKey,
+    values: &[Operand],
+) -> Result<Batch, KeepFault>
+    requires { (K.view keeper.old).ready }
+    ensures batch { (m : State) (c : Content) (x : Table) → (K.view keeper.old).content ≡ Some c → Stands c m → get m.tables table.now ≡ Some x → IsFreeRow x values.now row.0 → IfOk result (λ batch. (are_bounded batch ≡ true) × Stands (after batch c) (with_new_row m table.now row.0 (others_kept values.now))) }
+    ensures reads { OnlyReads K.view keeper.old keeper.new result }
+{
+    let mut batch = row_batch(alloc, table, row, behind_key(values))?;
+    let indexes = indexes_of(alloc, keeper, table)?;
+    note_all(alloc, &mut batch, &indexes, row)?;
+    Ok(batch)
+}
+
+// ---- the statement
+
+/// Whether the table has a row of the key, if there is a key.
+fn is_taken<K: Keeper>(
+    alloc: Global,
+    keeper: &mut K,
+    table: &Name,
+    key: Option<RowKey>,
+) -> Result<bool, KeepFault>
+    requires { (K.view keeper.old).ready }
+    ensures taken { (m : State) (c : Content) (x : Table) → (K.view keeper.old).content ≡ Some c → Stands c m → get m.tables table.now ≡ Some x → IfOk result (λ taken. taken ≡ has_row_of x (option_map (λ key. key.0) key)) }
+    ensures reads { OnlyReads K.view keeper.old keeper.new result }
+{
+    match key {
+        None => Ok(false),
+        Some(key) => has_row(alloc, keeper, table, key),
+    }
+}
+
+/// Whether the table has as many rows as it may have.
+fn has_most_rows<K: Keeper>(alloc: Global, keeper: &mut K, table: &Name) -> Result<bool, KeepFault>
+    requires { (K.view keeper.old).ready }
+    ensures many { (m : State) (c : Content) (x : Table) → (K.view keeper.old).content ≡ Some c → Stands c m → get m.tables table.now ≡ Some x → IfOk result (λ many. many ≡ nat_le most_rows (length (entries x.rows))) }
+    ensures reads { OnlyReads K.view keeper.old keeper.new result }
+{
+    let few = row_count_at_most(alloc, keeper, table, MOST_ROWS_BEFORE)?;
+    Ok(!few)
+}
+
+/// What an INSERT of values in the order of the columns of a table that is there comes to.
+fn values_plan<'a, K: Keeper>(
+    alloc: Global,
+    keeper: &mut K,
+    table: &'a Name,
+    columns: &[Column],
+    values: &[Operand],
+) -> Result<Plan<'a>, KeepFault>
+    requires { (K.view keeper.old).ready }
+    ensures plan { (m : State) (c : Content) (x : Table) → (K.view keeper.old).content ≡ Some c → Stands c m → get m.tables table.now ≡ Some x → x.columns ≡ columns.now → IfOk result (IsPlan (insert_values_effect m table.now x values.now) row_created c) }
+    ensures reads { OnlyReads K.view keeper.old keeper.new result }
+{
+    let key = key_in(values);
+    let taken = is_taken(alloc, keeper, table, key)?;
+    let many = has_most_rows(alloc, keeper, table)?;
+    if let Some(fault) = values_fault(taken, many, columns, values) {
+        return Ok(Plan::Refused(fault));
+    }
+    let Some(key) = key else {
+        return Ok(Plan::Refused(Fault::OutOfRange));
+    };
+    let batch = noted_batch(alloc, keeper, table, key, values)?;
+    Ok(Plan::Done(batch))
+}
+
+/// What an INSERT comes to.
+fn insert_plan<'a, K: Keeper>(
+    alloc: Global,
+    keeper: &mut K,
+    table: &'a Name,
+    names: &'a Option<ColumnNames>,
+    values: &[Operand],
+) -> Result<Plan<'a>, KeepFault>
+    requires { (K.view keeper.old).ready }
+    ensures plan { Plans K.view keeper.old result (λ m. insert_into_effect m table.now names.now values.now) row_created }
+    ensures reads { OnlyReads K.view keeper.old keeper.new result }
+{
+    let Some(columns) = table_columns(alloc, keeper, table)? else {
+        return Ok(Plan::Refused(Fault::UnknownName(table.as_str())));
+    };
+    if let Some(fault) = list_fault(&columns, names, values) {
+        return Ok(Plan::Refused(fault));
+    }
+    let values = arrange(alloc, names, &columns, values)?;
+    values_plan(alloc, keeper, table, &columns, &values)
+}
+
+/// INSERT. Beside the table's columns it reads whether the key is taken, whether the table has room for a row, and the entries
+/// of all indexes; its cost is theirs, and that of the values' bytes. Where a key of the table lies over 99,998 above its
+/// least, whether there is room takes a look-up for each row of the table.
+pub fn insert_into<K: Keeper>(
+    alloc: Global,
+    keeper: &mut K,
+    table: &Name,
+    names: &Option<ColumnNames>,
+    values: &[Operand],
+) -> Result<Vec<u8>, KeepFault>
+    requires ready { (K.view keeper.old).ready }
+    requires takes { TakesAll (K.view keeper.old).fixed.well }
+    ensures { Serves (λ m. insert_into_effect m table.now names.now values.now) (Some row_created) (K.view keeper.old) (K.view keeper.new) result }
+{
+    match insert_plan(alloc, keeper, table, names, values) {
+        Ok(plan) => carry_out(alloc, keeper, plan, b"1 row created.\n"),
+        Err(fault) => Err(fault),
+    }
+}

@@ -1,0 +1,181 @@
+-- What the checks of CREATE INDEX read.
+use Rattle.std.proofs.Common.{◌≡◌, ℕ, suc, ◌+◌, ◌<◌, ◌≤◌, Bool, true, false, cond, List, [], ◌∷◌, length, Option, Some, None, refl, sym, ap, ◌∙◌, arith}
+use Rattle.std.specs.Prelude.{◌==◌, ◌&&◌, ◌||◌, is_some, not, filter, map, nat_le}
+use Rattle.std.specs.List.{list_any}
+use Rattle.std.specs.Option.{option_map}
+use Rattle.std.specs.Ordering.{nat_cmp, eq_by_cmp}
+use Rattle.std.specs.Cmp.Lexicographic.{slice_cmp}
+use Rattle.std.specs.FinMap.{get, entries, from_entries, find, get-from_entries, empty, len-entries, len-empty}
+use Rattle.std.proofs.lemmas.Bool.{le-ltb, ltb-false}
+use Rattle.ct_keep.specs.Content.{Content}
+use Rattle.tb_table.specs.declared.columns.Target.{Target}
+use Rattle.ix_context.specs.Stands.{HoldsTables}
+use Rattle.std.proofs.lemmas.Cmp.{nat_list_cmp_total}
+use Rattle.ct_entry.specs.Keys.{same_list}
+use Rattle.ct_entry.specs.Maps.{Names}
+use Rattle.ct_entry.specs.MapLaws.{names_tie}
+use Rattle.ct_entry.specs.Listings.{key_order}
+use Rattle.ct_entry.specs.OwnerLaws.{key_order_total, key_order_tie}
+use Rattle.ct_entry.specs.Rising.{none_below}
+use Rattle.ct_keep.specs.RisingKeys.{and_true, below, rises, entries_rise}
+use Rattle.tb_table.specs.declared.columns.Column.{Column}
+use Rattle.std.proofs.lemmas.List.{length-map}
+use Rattle.tb_table.specs.Tables.{Table, keys_in, row_keys}
+use Rattle.tb_table.specs.Rules.{AreTables}
+use Rattle.ix_context.specs.Indexes.{Index, rows_in}
+use Rattle.ix_context.specs.Rules.{most_given}
+use Rattle.ix_context.specs.RuleLaws.{rows_in-all}
+use Rattle.db_names.specs.declared.heads.IndexHead.{IndexHead}
+use Rattle.db_names.specs.HeadLaws.{is_of, heads_of}
+use Rattle.db_cond.specs.Faults.{UnknownName}
+use Rattle.db_state.specs.States.{State, Stands, indexes_on, most_indexes}
+use Rattle.db_state.specs.Effects.{Refused, Does, with_found}
+use Rattle.db_state.specs.Columns.{place_of, place_from}
+use Rattle.db_index.specs.Indexing.{has_index_on, has_too_many_rows, all_rows, target, is_text_at, check_index, index_created, with_new_index, create_index_on, create_index, IsFreeIndex}
+use Rattle.db_state.specs.Lookups.{index_among, FoundOn}
+use Rattle.db_state.specs.laws.Chains.{passed}
+use Rattle.db_index.proofs.Counting.{counted, count-cons, count_insert}
+use Rattle.db_state.specs.laws.EachValue.{entries-each_value, count_alike}
+use Rattle.db_state.specs.laws.Heads.{head_of_index, heads}
+use Rattle.db_index.proofs.NewMarks.{every_row}
+
+-- ---- the index on a column
+
+any_among : (t : List ℕ) (place : ℕ) (es : List (List ℕ × Index)) → is_some (index_among t place es) ≡ list_any (λ (e : List ℕ × Index). same_list e.1.table t && (e.1.column == place)) es
+any_among t place [] = refl
+any_among t place (e ∷ es) = go (same_list e.1.table t && (e.1.column == place)) (any_among t place es)
+  where
+    go : (b : Bool) → is_some (index_among t place es) ≡ list_any (λ (e : List ℕ × Index). same_list e.1.table t && (e.1.column == place)) es
+        → is_some (cond b (Some e.1) (index_among t place es)) ≡ (b || list_any (λ (e : List ℕ × Index). same_list e.1.table t && (e.1.column == place)) es)
+    go true rest = refl
+    go false rest = rest
+
+pub found_on : (xs : Names Index) (t : List ℕ) (place : ℕ) (found : Option (List ℕ)) → FoundOn xs t place found → is_some found ≡ has_index_on xs t place
+found_on xs t place None is = sym (ap is_some is) ∙ any_among t place (entries xs)
+found_on xs t place (Some i) is = sym (ap is_some is.1.1) ∙ any_among t place (entries xs)
+
+-- ---- how many indexes a table has
+
+module _ {X : Type 0} (p : X → Bool) where
+  apart : (k : List ℕ) (es : List (List ℕ × X)) → below (slice_cmp nat_cmp) k es ≡ true → find key_order k es ≡ None
+  apart k es low = alike es ∙ none_below (slice_cmp nat_cmp) k es low
+    where
+      alike : (es : List (List ℕ × X)) → find key_order k es ≡ find (slice_cmp nat_cmp) k es
+      alike [] = refl
+      alike (e ∷ es) =
+          ap (λ (b : Bool). cond b (Some e.1) (find key_order k es)) (key_order_tie k e.0 ∙ sym (names_tie k e.0))
+          ∙ ap (cond (eq_by_cmp (slice_cmp nat_cmp) k e.0) (Some e.1)) (alike es)
+
+  reordered : (es : List (List ℕ × X)) → rises (slice_cmp nat_cmp) es ≡ true → length (filter (λ (e : List ℕ × X). p e.1) (entries (from_entries {R = key_order} es))) ≡ length (filter (λ (e : List ℕ × X). p e.1) es)
+  reordered [] h = ap (λ (es : List (List ℕ × X)). length (filter (λ (e : List ℕ × X). p e.1) es)) (nothing (entries (empty {X = X} {R = key_order})) (sym (len-entries (empty {X = X} {R = key_order})) ∙ len-empty key_order X))
+    where
+      nothing : (es : List (List ℕ × X)) → length es ≡ 0 → es ≡ []
+      nothing [] h = refl
+      nothing (e ∷ es) h = absurd (omega arith)
+  reordered (e ∷ es) h =
+      let b = and_true (below (slice_cmp nat_cmp) e.0 es) (rises (slice_cmp nat_cmp) es) h in
+      let counts = count_insert key_order p key_order_total (from_entries es) e.0 e.1 in
+      let free : counted key_order p (get (from_entries {R = key_order} es) e.0) ≡ 0 = ap (counted key_order p) (get-from_entries key_order_total es e.0 ∙ apart e.0 es b.0) in
+      let more = count-cons key_order p e.0 e.1 es in
+      let rest = reordered es b.1 in
+      omega (arith, counts, free, more, rest)
+
+-- as many as the indexes on it
+pub heads_count : (xs : Names Index) (t : List ℕ) → length (heads_of t (heads xs)) ≡ length (indexes_on xs t)
+heads_count xs t =
+    reordered (is_of t) (entries (heads xs)) (entries_rise (slice_cmp nat_cmp) (heads xs))
+    ∙ ap (λ (es : List (List ℕ × IndexHead)). length (filter (λ (e : List ℕ × IndexHead). is_of t e.1) es)) (entries-each_value (slice_cmp nat_cmp) head_of_index nat_list_cmp_total xs)
+    ∙ count_alike (λ (e : List ℕ × Index). (e.0, head_of_index e.1)) (λ (e : List ℕ × IndexHead). is_of t e.1) (λ (e : List ℕ × Index). same_list e.1.table t) (λ e. refl) (entries xs)
+
+-- ---- the checks
+
+or_false : (a b : Bool) → b ≡ false → (a || b) ≡ a
+or_false true b h = refl
+or_false false b h = h
+
+-- no table has more rows than an index has numbers
+few_rows : (m : State) (t : List ℕ) (x : Table) → AreTables m.tables → get m.tables t ≡ Some x → has_too_many_rows m t ≡ false
+few_rows m t x are there =
+    let all : rows_in m.tables t all_rows ≡ row_keys m.tables t = rows_in-all m.tables are t all_rows every_row in
+    let keys = keys_few m t x are there in
+    le-ltb most_given (length (rows_in m.tables t all_rows)) (let same = ap length all in omega (arith, same, keys))
+  where
+    keys_few : (m : State) (t : List ℕ) (x : Table) → AreTables m.tables → get m.tables t ≡ Some x → length (row_keys m.tables t) ≤ 100000
+    keys_few m t x are there =
+        let keys : row_keys m.tables t ≡ map (λ e. e.0) (entries x.rows) = ap keys_in there in
+        let same = ap length keys ∙ length-map (entries x.rows) (λ e. e.0) in
+        let few = (are.each t x there).few in
+        omega (arith, same, few)
+
+-- the effect by what was read
+pub index_as : (m : State) (i t : List ℕ) (x : Table) (place : ℕ) (taken texts many : Bool) → AreTables m.tables → get m.tables t ≡ Some x
+    → taken ≡ (is_some (get m.indexes i) || has_index_on m.indexes t place) → texts ≡ is_text_at x.columns place → many ≡ nat_le most_indexes (length (indexes_on m.indexes t))
+    → create_index_on m i t x place ≡ check_index taken texts many i (Does (with_new_index m i t place) index_created)
+index_as m i t x place taken texts many are there taken_is texts_is many_is =
+    let done = Does (with_new_index m i t place) index_created in
+    ap (λ (b : Bool). check_index b (is_text_at x.columns place) (nat_le most_indexes (length (indexes_on m.indexes t)) || has_too_many_rows m t) i done) (sym taken_is)
+    ∙ ap (λ (b : Bool). check_index taken b (nat_le most_indexes (length (indexes_on m.indexes t)) || has_too_many_rows m t) i done) (sym texts_is)
+    ∙ ap (λ (b : Bool). check_index taken texts b i done) (or_false _ _ (few_rows m t x are there) ∙ sym many_is)
+
+-- no check holds of what is done
+pub index_free : (m : State) (i t : List ℕ) (x : Table) (place : ℕ) (n : State) (reply : List ℕ) → get m.tables t ≡ Some x → create_index_on m i t x place ≡ Does n reply → IsFreeIndex m i t x place
+index_free m i t x place n reply there is =
+    let p = passed _ _ _ n reply is in
+    let q = passed _ _ _ n reply p.1 in
+    let r = passed _ _ _ n reply q.1 in
+    record { there = there; free = p.0; texts = not_false (is_text_at x.columns place) q.0; few = r.0 }
+  where
+    not_false : (b : Bool) → not b ≡ false → b ≡ true
+    not_false true h = refl
+    not_false false h = cc
+
+-- ---- the table and the column
+
+pub no_table : (m : State) (t : List ℕ) (o : Option (List Column)) → o ≡ option_map (λ (x : Table). x.columns) (get m.tables t) → o ≡ None → get m.tables t ≡ None
+no_table m t o is none = go (get m.tables t) (sym none ∙ is)
+  where
+    go : (p : Option Table) → None ≡ option_map (λ (x : Table). x.columns) p → p ≡ None
+    go None h = refl
+    go (Some x) h = cc
+
+pub the_table : (m : State) (t : List ℕ) (o : Option (List Column)) (cs : List Column) → o ≡ option_map (λ (x : Table). x.columns) (get m.tables t) → o ≡ Some cs → (x : Table) × (get m.tables t ≡ Some x) × (cs ≡ x.columns)
+the_table m t o cs is some = go (get m.tables t) refl (sym some ∙ is)
+  where
+    go : (p : Option Table) → get m.tables t ≡ p → Some cs ≡ option_map (λ (x : Table). x.columns) p → (x : Table) × (get m.tables t ≡ Some x) × (cs ≡ x.columns)
+    go None there h = cc
+    go (Some x) there h = (x, there, cc)
+
+pub place_within : (name : List ℕ) (cs : List Column) (place : ℕ) → place_of name cs ≡ Some place → place < length cs
+place_within name cs place is = let far = go 0 cs is in omega (arith, far)
+  where
+    go : (from : ℕ) (cs : List Column) → place_from from name cs ≡ Some place → place < from + length cs
+    go from [] h = cc
+    go from (c ∷ cs) h = at_head (same_list name c.name) h (go (suc from) cs)
+      where
+        at_head : (b : Bool) → cond b (Some from) (place_from (suc from) name cs) ≡ Some place → (place_from (suc from) name cs ≡ Some place → place < suc from + length cs) → place < from + length (c ∷ cs)
+        at_head true h rest = let same : from ≡ place = cc in omega (arith, same)
+        at_head false h rest = let far = rest h in omega (arith, far)
+
+pub holds_tables : (c : Content) (m : State) → Stands c m → HoldsTables c m.tables
+holds_tables c m stands = record { only = stands.only; stand = stands.tables; rules = stands.state.tables }
+
+pub rows_given : (m : State) (on : Target) (t : List ℕ) (place : ℕ) (x : Table) → AreTables m.tables → get m.tables t ≡ Some x → on ≡ target t place → most_given < length (rows_in m.tables on.table all_rows) → ⊥
+rows_given m on t place x are there is over =
+    let few = ltb-false most_given (length (rows_in m.tables t all_rows)) (few_rows m t x are there) in
+    let same = ap (λ (y : Target). length (rows_in m.tables y.table all_rows)) is in
+    omega (arith, few, same, over)
+
+-- ---- the effect by the table and the column
+
+pub unknown_table : (m : State) (i t column : List ℕ) → get m.tables t ≡ None → create_index m i t column ≡ Refused (UnknownName t)
+unknown_table m i t column none = ap (λ (o : Option Table). with_found o (UnknownName t) (λ (x : Table). with_found (place_of column x.columns) (UnknownName column) (λ (place : ℕ). create_index_on m i t x place))) none
+
+pub unknown_column : (m : State) (i t column : List ℕ) (x : Table) → get m.tables t ≡ Some x → place_of column x.columns ≡ None → create_index m i t column ≡ Refused (UnknownName column)
+unknown_column m i t column x there none =
+    ap (λ (o : Option Table). with_found o (UnknownName t) (λ (x : Table). with_found (place_of column x.columns) (UnknownName column) (λ (place : ℕ). create_index_on m i t x place))) there
+    ∙ ap (λ (o : Option ℕ). with_found o (UnknownName column) (λ (place : ℕ). create_index_on m i t x place)) none
+
+pub known_column : (m : State) (i t column : List ℕ) (x : Table) (place : ℕ) → get m.tables t ≡ Some x → place_of column x.columns ≡ Some place → create_index m i t column ≡ create_index_on m i t x place
+known_column m i t column x place there some =
+    ap (λ (o : Option Table). with_found o (UnknownName t) (λ (x : Table). with_found (place_of column x.columns) (UnknownName column) (λ (place : ℕ). create_index_on m i t x place))) there
+    ∙ ap (λ (o : Option ℕ). with_found o (UnknownName column) (λ (place : ℕ). create_index_on m i t x place)) some

@@ -1,0 +1,4 @@
+pub mod Counting
+pub mod IndexChecks
+pub mod NewMarks
+pub mod SyncChecks

@@ -1,0 +1,231 @@
+-- The state after a synchronisation, and after a new index.
+use Rattle.std.proofs.Common.{◌≡◌, ℕ, ℤ, pos, negsuc, ◌+◌, ◌-◌, ◌^◌, ◌≤◌, ◌<◌, Bool, false, true, cond, List, [], ◌∷◌, length, Option, Some, None, refl, sym, ap, subst, ◌∙◌, arith}
+use Rattle.std.specs.Prelude.{MatchOption, is_some, ◌||◌, ◌&&◌, ◌==◌, not, zero, suc, nat_le, int_lt}
+use Rattle.std.specs.List.{list_any}
+use Rattle.std.specs.declared.cmp.Ordering.TheVariants.{Less, Equal, Greater}
+use Rattle.std.specs.Ordering.{nat_cmp, int_cmp, is_lt, eq_by_cmp}
+use Rattle.std.specs.Cmp.Lexicographic.{slice_cmp}
+use Rattle.std.specs.FinMap.{get, insert, entries, find, get-entries}
+use Rattle.std.proofs.lemmas.Bool.{ltb-false, leb-false, le-ltb, eq-eqb}
+use Rattle.std.proofs.lemmas.Cmp.{nat_list_cmp_total}
+use Rattle.ct_keep.specs.Content.{Content, after}
+use Rattle.ct_entry.specs.declared.kinds.Kind.{Kind}
+use Rattle.ct_entry.specs.declared.kinds.Kind.TheVariants as kind
+use Rattle.ct_base.specs.Names.{IsName}
+use Rattle.ct_keep.specs.RisingKeys.{and_both}
+use Rattle.ct_entry.specs.Keys.{Key, at, same_list, IsRow}
+use Rattle.ct_entry.specs.KeyLaws.{list_from_same, list_same}
+use Rattle.ct_entry.specs.Maps.{Names, altered}
+use Rattle.ct_entry.specs.Changes.{spell}
+use Rattle.ct_entry.specs.ChangeLaws.{at_view, at-after, only-after, told_frame}
+use Rattle.tb_table.specs.declared.columns.Sort.{Sort}
+use Rattle.tb_table.specs.declared.columns.Sort.TheVariants.{Number as NumberSort, Varchar2, Clob}
+use Rattle.tb_table.specs.declared.columns.Column.{Column}
+use Rattle.tb_table.specs.Tables.{Table}
+use Rattle.tb_table.specs.Spelling.{TablesStand}
+use Rattle.tb_table.specs.ChangeLaws.{is_of_tables, tables_frame}
+use Rattle.ix_context.specs.Indexes.{Index, pending_rows, synced, synced_index, rows_in, created, with_index}
+use Rattle.ix_context.specs.Changes.{sync_changes, create_changes}
+use Rattle.ix_context.specs.Rules.{most_given, IsTextSort, HasTextAt, IsTarget}
+use Rattle.ix_context.specs.Spelling.{IndexesStand}
+use Rattle.ix_context.specs.Standing.{is_of_indexes}
+use Rattle.ix_context.specs.ChangeLaws.{sync_stands, create_stands}
+use Rattle.ix_context.specs.RuleLaws.{HasAllRows, IsFreeColumn, sync_keeps, create_keeps}
+use Rattle.ix_context.specs.WellLaws.{are_changes, all_of_indexes, well_changes, index_changes_sync, index_changes_create}
+use Rattle.db_index.specs.Syncing.{has_too_many, with_synced}
+use Rattle.db_state.specs.Committing.{are_bounded}
+use Rattle.db_index.specs.Indexing.{is_text_sort, is_text_at, has_index_on, has_too_many_rows, all_rows, target, with_new_index, IsFreeIndex}
+use Rattle.db_state.specs.States.{State, Stands, indexes_on, most_indexes, is_built}
+use Rattle.db_index.proofs.Counting.{one, counted, count_insert, one_true, one_false}
+use Rattle.db_state.specs.laws.Bounded.{any_entry, bounded_well}
+
+-- ---- what was found, by whether it is there
+
+pub found_none : {X : Type 0} (o : Option X) (P : Type 0) (Q : X → Type 0) → o ≡ None → MatchOption o P Q → P
+found_none None P Q is p = p
+found_none (Some x) P Q is p = cc
+
+pub found_some : {X : Type 0} (o : Option X) (x : X) (P : Type 0) (Q : X → Type 0) → o ≡ Some x → MatchOption o P Q → Q x
+found_some None x P Q is p = cc
+found_some (Some y) x P Q is p = subst Q (let e : y ≡ x = cc in e) p
+
+-- ---- kinds
+
+pub apart : (k : Kind) → is_of_tables k ≡ true → is_of_indexes k ≡ false
+apart kind.Tables h = refl
+apart kind.RowNumbers h = refl
+apart kind.RowTexts h = refl
+apart k h = cc
+
+pub indexes_built : (k : Kind) → is_built k ≡ false → is_of_indexes k ≡ false
+indexes_built kind.Tables h = cc
+indexes_built kind.RowNumbers h = cc
+indexes_built kind.RowTexts h = cc
+indexes_built kind.Preferences h = refl
+indexes_built kind.Stoplists h = refl
+indexes_built kind.SectionGroups h = refl
+indexes_built kind.IndexSets h = refl
+indexes_built kind.Thesauri h = refl
+indexes_built kind.Relations h = refl
+indexes_built kind.Indexes h = cc
+indexes_built kind.DocumentRows h = cc
+indexes_built kind.RowDocuments h = cc
+indexes_built kind.Pending h = cc
+indexes_built kind.Postings h = cc
+indexes_built kind.Spans h = cc
+indexes_built kind.Catalogue h = refl
+indexes_built kind.Rules h = refl
+indexes_built kind.Anchors h = refl
+indexes_built kind.RuleFaults h = refl
+
+-- ---- the state after a synchronisation
+
+room_left : (x : Index) → has_too_many x ≡ false → x.given + length (pending_rows x) ≤ most_given
+room_left x h = ltb-false most_given (x.given + length (pending_rows x)) h
+
+-- a table has as many indexes as before
+few_synced : (xs : Names Index) (i : List ℕ) (x : Index) → get xs i ≡ Some x → (t : List ℕ) → length (indexes_on (synced xs i) t) ≡ length (indexes_on xs t)
+few_synced xs i x there t =
+    let is : synced xs i ≡ insert xs i (synced_index x) = ap (altered xs i synced_index) there in
+    let counts = count_insert (slice_cmp nat_cmp) (λ (y : Index). same_list y.table t) nat_list_cmp_total xs i (synced_index x) in
+    ap (λ (ys : Names Index). length (indexes_on ys t)) is ∙ alike (get xs i) there counts
+  where
+    alike : (o : Option Index) → o ≡ Some x → length (indexes_on (insert xs i (synced_index x)) t) + counted (slice_cmp nat_cmp) (λ (y : Index). same_list y.table t) o ≡ length (indexes_on xs t) + one (same_list x.table t)
+        → length (indexes_on (insert xs i (synced_index x)) t) ≡ length (indexes_on xs t)
+    alike None e counts = cc
+    alike (Some y) e counts =
+        let same : counted {K = List ℕ} (slice_cmp nat_cmp) (λ (z : Index). same_list z.table t) (Some y) ≡ one (same_list x.table t) = ap (counted {K = List ℕ} (slice_cmp nat_cmp) (λ (z : Index). same_list z.table t)) e in
+        omega (arith, counts, same)
+
+pub synced_stands : (c : Content) (m : State) (i : List ℕ) (x : Index) → Stands c m → get m.indexes i ≡ Some x → has_too_many x ≡ false → Stands (after (spell (sync_changes m.tables i x)) c) (with_synced m i)
+synced_stands c m i x stands there few =
+    let ws = sync_changes m.tables i x in
+    let are = index_changes_sync m.tables m.indexes i x stands.state.tables stands.state.indexes there (room_left x few) in
+    record {
+      only = only-after ws c stands.only (are_changes ws are);
+      unbuilt = λ k h. at-after ws c k ∙ told_frame is_of_indexes ws k (at c k) (all_of_indexes ws are) (indexes_built k.kind h) ∙ stands.unbuilt k h;
+      tables = subst (λ (f : Key → Option (List ℕ)). TablesStand f m.tables) (sym (at_view ws c)) (tables_frame is_of_indexes ws (at c) m.tables (all_of_indexes ws are) apart stands.tables);
+      indexes = subst (λ (f : Key → Option (List ℕ)). IndexesStand f m.tables (synced m.indexes i)) (sym (at_view ws c)) (sync_stands (at c) m.tables m.indexes i x there (room_left x few) stands.state.tables stands.state.indexes stands.indexes);
+      state = record {
+        tables = stands.state.tables;
+        indexes = sync_keeps m.tables m.indexes i x there (room_left x few) stands.state.indexes;
+        views = stands.state.views;
+        few = λ t. subst (λ (n : ℕ). n ≤ most_indexes) (sym (few_synced m.indexes i x there t)) (stands.state.few t);
+      };
+    }
+
+pub synced_bounded : (c : Content) (m : State) (i : List ℕ) (x : Index) → Stands c m → get m.indexes i ≡ Some x → has_too_many x ≡ false → are_bounded (spell (sync_changes m.tables i x)) ≡ true
+synced_bounded c m i x stands there few =
+    let ws = sync_changes m.tables i x in
+    bounded_well any_entry (spell ws) (well_changes any_entry ws (λ k value of. refl) (index_changes_sync m.tables m.indexes i x stands.state.tables stands.state.indexes there (room_left x few)))
+
+-- ---- the state after a new index
+
+either : (a b : Bool) → (a || b) ≡ false → (a ≡ false) × (b ≡ false)
+either true b h = cc
+either false b h = (refl, h)
+
+no_some : {X : Type 0} (o : Option X) → is_some o ≡ false → o ≡ None
+no_some None h = refl
+no_some (Some x) h = cc
+
+text_column : (cs : List Column) (place : ℕ) → is_text_at cs place ≡ true → HasTextAt cs place
+text_column [] place h = cc
+text_column (c ∷ cs) zero h = sort c.sort h
+  where
+    sort : (s : Sort) → is_text_sort s ≡ true → IsTextSort s
+    sort NumberSort h = cc
+    sort (Varchar2 size) h = tt
+    sort Clob h = tt
+text_column (c ∷ cs) (suc place) h = text_column cs place h
+
+target_of_texts : (m : State) (t : List ℕ) (x : Table) (place : ℕ) → get m.tables t ≡ Some x → is_text_at x.columns place ≡ true → IsTarget m.tables t place
+target_of_texts m t x place there texts = record { table = x; there = there; texts = text_column x.columns place texts }
+
+-- no index is on the column
+no_entry : (t : List ℕ) (place : ℕ) (es : List (List ℕ × Index)) → list_any (λ (e : List ℕ × Index). same_list e.1.table t && (e.1.column == place)) es ≡ false
+    → (j : List ℕ) (y : Index) → find (slice_cmp nat_cmp) j es ≡ Some y → (same_list y.table t && (y.column == place)) ≡ false
+no_entry t place [] h j y is = cc
+no_entry t place (e ∷ es) h j y is =
+    let b = either (same_list e.1.table t && (e.1.column == place)) (list_any (λ (e : List ℕ × Index). same_list e.1.table t && (e.1.column == place)) es) h in
+    go (eq_by_cmp (slice_cmp nat_cmp) j e.0) is b.0 (no_entry t place es b.1 j y)
+  where
+    go : (b : Bool) → cond b (Some e.1) (find (slice_cmp nat_cmp) j es) ≡ Some y → (same_list e.1.table t && (e.1.column == place)) ≡ false → (find (slice_cmp nat_cmp) j es ≡ Some y → (same_list y.table t && (y.column == place)) ≡ false) → (same_list y.table t && (y.column == place)) ≡ false
+    go true is none rest = let e1 : e.1 ≡ y = cc in subst (λ (z : Index). (same_list z.table t && (z.column == place)) ≡ false) e1 none
+    go false is none rest = rest is
+
+column_free : (xs : Names Index) (t : List ℕ) (place : ℕ) → has_index_on xs t place ≡ false → IsFreeColumn xs t place
+column_free xs t place h j y is table column =
+    let none = no_entry t place (entries xs) h j y (sym (get-entries xs j) ∙ is) in
+    let yes : (same_list y.table t && (y.column == place)) ≡ true = and_both (same_list y.table t) (y.column == place) (ap (λ (u : List ℕ). same_list u t) table ∙ list_same t) (eq-eqb y.column place column) in
+    let wrong : true ≡ false = sym yes ∙ none in
+    cc
+
+pub every_row : HasAllRows all_rows
+every_row r row = both_in (is_lt (int_cmp r all_rows.from.0)) (is_lt (int_cmp all_rows.to.0 r)) (not_below r row) (not_above r row)
+  where
+    both_in : (a b : Bool) → a ≡ false → b ≡ false → (not a && not b) ≡ true
+    both_in true b h k = cc
+    both_in false true h k = cc
+    both_in false false h k = refl
+
+    not_less : (a b : Bool) → a ≡ false → is_lt (cond a Less (cond b Greater Equal)) ≡ false
+    not_less true b h = cc
+    not_less false true h = refl
+    not_less false false h = refl
+
+    not_below : (r : ℤ) → IsRow r → is_lt (int_cmp r all_rows.from.0) ≡ false
+    not_below (pos n) row = refl
+    not_below (negsuc n) row = not_less (int_lt (negsuc n) all_rows.from.0) (int_lt all_rows.from.0 (negsuc n)) (le-ltb (2 ^ 63 - 1) n (omega arith))
+
+    not_above : (r : ℤ) → IsRow r → is_lt (int_cmp all_rows.to.0 r) ≡ false
+    not_above (pos n) row = not_less (int_lt all_rows.to.0 (pos n)) (int_lt (pos n) all_rows.to.0) (le-ltb (2 ^ 63 - 1) n (omega arith))
+    not_above (negsuc n) row = refl
+
+-- a table has at most one index more
+few_created : (xs : Names Index) (i : List ℕ) (x : Index) → get xs i ≡ None → (t : List ℕ) → length (indexes_on xs x.table) < most_indexes → ((q : List ℕ) → length (indexes_on xs q) ≤ most_indexes)
+    → length (indexes_on (insert xs i x) t) ≤ most_indexes
+few_created xs i x none t room few =
+    let counts = count_insert (slice_cmp nat_cmp) (λ (y : Index). same_list y.table t) nat_list_cmp_total xs i x in
+    let free : counted {K = List ℕ} (slice_cmp nat_cmp) (λ (y : Index). same_list y.table t) (get xs i) ≡ 0 = ap (counted {K = List ℕ} (slice_cmp nat_cmp) (λ (y : Index). same_list y.table t)) none in
+    go (same_list x.table t) refl counts free (few t)
+  where
+    go : (b : Bool) → same_list x.table t ≡ b
+        → length (indexes_on (insert xs i x) t) + counted {K = List ℕ} (slice_cmp nat_cmp) (λ (y : Index). same_list y.table t) (get xs i) ≡ length (indexes_on xs t) + one (same_list x.table t)
+        → counted {K = List ℕ} (slice_cmp nat_cmp) (λ (y : Index). same_list y.table t) (get xs i) ≡ 0 → length (indexes_on xs t) ≤ most_indexes
+        → length (indexes_on (insert xs i x) t) ≤ most_indexes
+    go true is counts free few =
+        let more : one (same_list x.table t) ≡ 1 = ap one is ∙ one_true in
+        let here : length (indexes_on xs t) ≡ length (indexes_on xs x.table) = ap (λ (q : List ℕ). length (indexes_on xs q)) (sym (list_from_same x.table t is)) in
+        omega (arith, counts, free, more, here, room)
+    go false is counts free few =
+        let more : one (same_list x.table t) ≡ 0 = ap one is ∙ one_false in
+        omega (arith, counts, free, more, few)
+
+pub new_index_stands : (c : Content) (m : State) (i t : List ℕ) (x : Table) (place : ℕ) → Stands c m → IsName i → IsFreeIndex m i t x place → Stands (after (spell (create_changes m.tables i (target t place) all_rows)) c) (with_new_index m i t place)
+new_index_stands c m i t x place stands name free =
+    let ws = create_changes m.tables i (target t place) all_rows in
+    let few = either (nat_le most_indexes (length (indexes_on m.indexes t))) (has_too_many_rows m t) free.few in
+    let room = ltb-false most_given (length (rows_in m.tables t all_rows)) few.1 in
+    let taken = either (is_some (get m.indexes i)) (has_index_on m.indexes t place) free.free in
+    let none : get m.indexes i ≡ None = no_some (get m.indexes i) taken.0 in
+    let are = index_changes_create m.tables i (target t place) all_rows stands.state.tables name (stands.state.tables.names t x free.there) room in
+    record {
+      only = only-after ws c stands.only (are_changes ws are);
+      unbuilt = λ k h. at-after ws c k ∙ told_frame is_of_indexes ws k (at c k) (all_of_indexes ws are) (indexes_built k.kind h) ∙ stands.unbuilt k h;
+      tables = subst (λ (f : Key → Option (List ℕ)). TablesStand f m.tables) (sym (at_view ws c)) (tables_frame is_of_indexes ws (at c) m.tables (all_of_indexes ws are) apart stands.tables);
+      indexes = subst (λ (f : Key → Option (List ℕ)). IndexesStand f m.tables (with_index m.tables m.indexes i (target t place) all_rows)) (sym (at_view ws c)) (create_stands (at c) m.tables m.indexes i (target t place) all_rows none room stands.state.tables stands.indexes);
+      state = record {
+        tables = stands.state.tables;
+        indexes = create_keeps m.tables m.indexes i (target t place) all_rows name none (target_of_texts m t x place free.there free.texts) (column_free m.indexes t place taken.1) every_row room stands.state.tables stands.state.indexes;
+        views = stands.state.views;
+        few = λ q. few_created m.indexes i (created m.tables (target t place) all_rows) none q (leb-false most_indexes (length (indexes_on m.indexes t)) few.0) stands.state.few;
+      };
+    }
+
+pub new_index_bounded : (c : Content) (m : State) (i t : List ℕ) (x : Table) (place : ℕ) → Stands c m → IsName i → IsFreeIndex m i t x place → are_bounded (spell (create_changes m.tables i (target t place) all_rows)) ≡ true
+new_index_bounded c m i t x place stands name free =
+    let ws = create_changes m.tables i (target t place) all_rows in
+    let few = either (nat_le most_indexes (length (indexes_on m.indexes t))) (has_too_many_rows m t) free.few in
+    bounded_well any_entry (spell ws) (well_changes any_entry ws (λ k value of. refl)
+    (index_changes_create m.tables i (target t place) all_rows stands.state.tables name (stands.state.tables.names t x free.there) (ltb-false most_given (length (rows_in m.tables t all_rows)) few.1)))

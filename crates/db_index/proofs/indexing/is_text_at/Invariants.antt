@@ -1,0 +1,6 @@
+use Rattle.std.proofs.Common.{◌≡◌, drop}
+use Rattle.db_index.specs.Indexing.{is_text_at}
+use Rattle.db_index.proofs.indexing.is_text_at.Given as goal
+
+abbrev pub invariant-loop-column : goal.invariant-loop-column
+invariant-loop-column l = is_text_at (drop l.column-index l.columns) l.before ≡ is_text_at l.columns l.place

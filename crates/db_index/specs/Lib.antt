@@ -1,0 +1,3 @@
+pub mod Tokenizing
+pub mod Syncing
+pub mod Indexing

@@ -1,0 +1,111 @@
+-- What CTX_DDL.SYNC_INDEX does.
+use Rattle.std.specs.Prelude.{ℕ, pos, ◌+◌, ◌==◌, nat_lt, Bool, true, false, not, ◌||◌, ◌&&◌, is_some, List, [], ◌∷◌, length, map, Option, Some, None, codes, ◌≡◌, refl}
+use Rattle.std.specs.Bool.{if◌then◌else◌}
+use Rattle.std.specs.Char.{to_ascii_lowercase, is_ascii_digit}
+use Rattle.std.specs.FinMap.{get}
+use Rattle.ct_base.specs.Names.{is_spelling}
+use Rattle.st_parse.specs.declared.statements.Arg.{Arg}
+use Rattle.st_parse.specs.declared.statements.Arg.TheVariants.{Text as TextArg, Number as NumberArg}
+use Rattle.ix_context.specs.Indexes.{Index, pending_rows, synced}
+use Rattle.ix_context.specs.Rules.{most_given}
+use Rattle.db_cond.specs.Faults.{UnknownName, WrongValues, BadValue, LimitReached}
+use Rattle.db_state.specs.States.{State}
+use Rattle.db_state.specs.Effects.{Effect, Refused, Does, refuse, refuse_by, with_found}
+use Rattle.st_parse.specs.declared.statements.Whole.TheVariants.{Fits}
+use Rattle.db_state.specs.Lines.{call_done}
+
+-- ---- CTX_DDL.SYNC_INDEX
+
+-- the name that an argument spells, in lower case
+abbrev pub spelt_name : List ℕ → Option (List ℕ)
+spelt_name text = if is_spelling text then Some (map to_ascii_lowercase text) else None
+
+abbrev pub name_arg : List Arg → Option (List ℕ)
+name_arg (TextArg text ∷ args) = spelt_name text
+name_arg args = None
+
+-- the index by its name, and a size of memory, which has no effect
+abbrev pub are_sync_args : List Arg → Bool
+are_sync_args (TextArg name ∷ []) = true
+are_sync_args (TextArg name ∷ TextArg memory ∷ []) = true
+are_sync_args args = false
+
+-- digits, and then one of K, M and G in any case; `some` tells whether there was a digit
+abbrev pub is_unit : ℕ → Bool
+is_unit b = (to_ascii_lowercase b == 0x6b) || ((to_ascii_lowercase b == 0x6d) || (to_ascii_lowercase b == 0x67))
+
+abbrev pub is_size_from : Bool → List ℕ → Bool
+is_size_from some [] = false
+is_size_from some (b ∷ []) = some && is_unit b
+is_size_from some (b ∷ c ∷ bs) = is_ascii_digit b && is_size_from true (c ∷ bs)
+
+abbrev pub is_memory_size : List ℕ → Bool
+is_memory_size text = is_size_from false text
+
+abbrev pub is_bad_size : List Arg → Bool
+is_bad_size (TextArg name ∷ TextArg memory ∷ []) = not (is_memory_size memory)
+is_bad_size args = false
+
+-- the name, where no index has it
+abbrev pub unknown_name : Bool → Option (List ℕ) → Option (List ℕ)
+unknown_name true name = None
+unknown_name false name = name
+
+-- the checks in their order, by the name that no index has, if it is one
+abbrev pub check_sync : Option (List ℕ) → List Arg → Effect → Effect
+check_sync unknown args done =
+    refuse_by unknown UnknownName
+    (refuse (not (are_sync_args args)) WrongValues
+    (refuse (is_bad_size args) BadValue
+    done))
+
+-- there are too few numbers for the rows that wait
+abbrev pub has_too_many : Index → Bool
+has_too_many x = nat_lt most_given (x.given + length (pending_rows x))
+
+abbrev pub with_synced : State → List ℕ → State
+with_synced m i = record m { indexes = synced m.indexes i }
+
+abbrev pub sync_found : State → List ℕ → Index → Effect
+sync_found m i x = refuse (has_too_many x) LimitReached (Does (with_synced m i) call_done)
+
+-- What the checks let pass has the name of an index, or is spelt as no name, which is a bad value. So the UnknownName here is never reached.
+abbrev pub sync_named : State → Option (List ℕ) → Effect
+sync_named m None = Refused BadValue
+sync_named m (Some i) = with_found (get m.indexes i) (UnknownName i) (λ (x : Index). sync_found m i x)
+
+abbrev pub has_index : State → Option (List ℕ) → Bool
+has_index m None = false
+has_index m (Some i) = is_some (get m.indexes i)
+
+abbrev pub sync_index : State → List Arg → Effect
+sync_index m args = check_sync (unknown_name (has_index m (name_arg args)) (name_arg args)) args (sync_named m (name_arg args))
+
+-- computed examples
+sixteen_megabytes : is_memory_size (codes "16m") ≡ true
+sixteen_megabytes = refl
+
+no_digits : is_memory_size (codes "M") ≡ false
+no_digits = refl
+
+no_unit : is_memory_size (codes "16") ≡ false
+no_unit = refl
+
+-- the name that no index has comes before the number of arguments
+unknown_and_too_many : (done : Effect) → check_sync (unknown_name false (name_arg (TextArg (codes "nope") ∷ NumberArg (Fits (pos 1)) ∷ NumberArg (Fits (pos 2)) ∷ []))) (TextArg (codes "nope") ∷ NumberArg (Fits (pos 1)) ∷ NumberArg (Fits (pos 2)) ∷ []) done
+    ≡ Refused (UnknownName (codes "nope"))
+unknown_and_too_many done = refl
+
+-- a text that isn't spelt as a name is none that could be unknown
+no_name_and_a_number : (done : Effect) → check_sync (unknown_name false (name_arg (TextArg (codes "no name") ∷ NumberArg (Fits (pos 1)) ∷ []))) (TextArg (codes "no name") ∷ NumberArg (Fits (pos 1)) ∷ []) done
+    ≡ Refused WrongValues
+no_name_and_a_number done = refl
+
+no_name_alone : (m : State) → sync_index m (TextArg (codes "no name") ∷ []) ≡ Refused BadValue
+no_name_alone m = refl
+
+bad_size : (done : Effect) → check_sync (unknown_name true (Some (codes "di"))) (TextArg (codes "di") ∷ TextArg (codes "16") ∷ []) done ≡ Refused BadValue
+bad_size done = refl
+
+in_any_case : name_arg (TextArg (codes "DI") ∷ []) ≡ Some (codes "di")
+in_any_case = refl

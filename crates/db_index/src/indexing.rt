@@ -1,0 +1,214 @@
+//! CREATE INDEX.
+#![tactic(auto, using(ct_keep::specs::Composing::reads_on, ct_keep::specs::Composing::reads_short))]
+
+ghost use Rattle.std.specs.Prelude.{◌≡◌, ◌<◌, ◌||◌, IfOk, Some, Err, MatchOption, nat_le, is_some, length};
+ghost use Rattle.std.specs.FinMap.{get};
+ghost use Rattle.ct_base.specs.Names.{IsName};
+ghost use Rattle.ct_keep.specs.Content.{Content};
+ghost use Rattle.ct_keep.specs.KeeperViews.{OnlyReads};
+ghost use Rattle.ct_entry.specs.Changes.{spell};
+ghost use Rattle.tb_table.specs.Tables.{Table};
+ghost use Rattle.ix_context.specs.Changes.{create_changes};
+ghost use Rattle.db_state.specs.States.{State, Stands, TakesAll, indexes_on, most_indexes, Sees};
+ghost use Rattle.db_state.specs.Effects.{Effect};
+ghost use Rattle.db_index.specs.Indexing.{all_rows, check_index, create_index as create_index_effect, create_index_on, has_index_on as column_has_index, index_created, is_text_at as text_at, is_text_sort as sort_of_texts, target, IsFreeIndex};
+ghost use Rattle.db_state.specs.Effects.{Checks};
+ghost use Rattle.db_state.specs.Plans.{IsPlan, Plans, Serves};
+
+use ct_base::Name;
+use ct_keep::{Batch, KeepFault, Keeper};
+use db_cond::Fault;
+use db_names::{IndexHead, indexes_of};
+use db_state::{Plan, carry_out, context_index, has_index, place_of, table_columns, target_of};
+use ix_context::{ContextFault, KeyRange, create};
+use std::alloc::Global;
+use tb_table::{Column, Sort};
+
+/// How many indexes a table has at most.
+const MOST_INDEXES: usize = 16;
+
+/// Whether the type is one of texts.
+fn is_text_sort(sort: Sort) -> bool
+    ensures { result ≡ sort_of_texts sort }
+{
+    match sort {
+        Sort::Number => false,
+        Sort::Varchar2(_) | Sort::Clob => true,
+    }
+}
+
+/// Whether a column of texts stands at a place.
+fn is_text_at(columns: &[Column], place: usize) -> bool
+    ensures { result ≡ text_at columns.now place }
+{
+    let mut before = place;
+    for column in columns {
+        if before == 0 {
+            return is_text_sort(column.sort);
+        }
+        before -= 1;
+    }
+    false
+}
+
+/// Whether there is an index on a column, by its place.
+fn has_index_on<K: Keeper>(
+    alloc: Global,
+    keeper: &mut K,
+    table: &Name,
+    place: usize,
+) -> Result<bool, KeepFault>
+    requires { (K.view keeper.old).ready }
+    ensures there { (m : State) (c : Content) → (K.view keeper.old).content ≡ Some c → Stands c m → place < 256 → IfOk result (λ there. there ≡ column_has_index m.indexes table.now place) }
+    ensures reads { OnlyReads K.view keeper.old keeper.new result }
+{
+    let other = context_index(alloc, keeper, table, place)?;
+    Ok(other.is_some())
+}
+
+/// Whether there is an index of the name, or one on the column.
+fn is_taken<K: Keeper>(
+    alloc: Global,
+    keeper: &mut K,
+    index: &Name,
+    table: &Name,
+    place: usize,
+) -> Result<bool, KeepFault>
+    requires { (K.view keeper.old).ready }
+    ensures taken { (m : State) (c : Content) → (K.view keeper.old).content ≡ Some c → Stands c m → place < 256 → IfOk result (λ taken. taken ≡ (is_some (get m.indexes index.now) || column_has_index m.indexes table.now place)) }
+    ensures reads { OnlyReads K.view keeper.old keeper.new result }
+{
+    let there = has_index(alloc, keeper, index)?;
+    let other = has_index_on(alloc, keeper, table, place)?;
+    Ok(there || other)
+}
+
+/// Whether these are as many indexes as a table may have.
+fn are_most(indexes: &[(Name, IndexHead)]) -> bool
+    ensures { result ≡ nat_le most_indexes (length indexes.now) }
+{
+    indexes.len() >= MOST_INDEXES
+}
+
+/// Whether a table has as many indexes as it may have.
+fn has_most_indexes<K: Keeper>(
+    alloc: Global,
+    keeper: &mut K,
+    table: &Name,
+) -> Result<bool, KeepFault>
+    requires { (K.view keeper.old).ready }
+    ensures many { Sees K.view keeper.old result (λ m many. many ≡ nat_le most_indexes (length (indexes_on m.indexes table.now))) }
+    ensures reads { OnlyReads K.view keeper.old keeper.new result }
+{
+    let indexes = indexes_of(alloc, keeper, table)?;
+    Ok(are_most(&indexes))
+}
+
+/// The first check that fails.
+fn index_fault<'a>(there: bool, texts: bool, many: bool, index: &'a Name) -> Option<Fault<'a>>
+    ensures checks { (done : Effect) → Checks result (check_index there texts many index.now done) done }
+    ensures named { IsName index.now }
+{
+    let name = index.as_str();
+    if there {
+        return Some(Fault::ExistsAlready(name));
+    }
+    if !texts {
+        return Some(Fault::WrongValues);
+    }
+    if many {
+        return Some(Fault::LimitReached);
+    }
+    None
+}
+
+/// The changes of a new index on a column, by its place; None where the index would need more documents than there are numbers,
+/// or there is no such place.
+fn created<K: Keeper>(
+    alloc: Global,
+    keeper: &mut K,
+    index: &Name,
+    table: &Name,
+    place: usize,
+) -> Result<Option<Batch>, KeepFault>
+    requires { (K.view keeper.old).ready }
+    ensures changes { (m : State) (c : Content) (x : Table) → (K.view keeper.old).content ≡ Some c → Stands c m → place < 256 → IsFreeIndex m index.now table.now x place → IfOk result (λ batch. MatchOption batch ⊥ (λ changes. changes ≡ spell (create_changes m.tables index.now (target table.now place) all_rows))) }
+    ensures reads { OnlyReads K.view keeper.old keeper.new result }
+{
+    let Ok(column) = u8::try_from(place) else {
+        return Ok(None);
+    };
+    let target = target_of(table, column)?;
+    let mut batch = Batch::new(alloc);
+    match create(alloc, keeper, &mut batch, index, &target, KeyRange::ALL) {
+        Ok(()) => Ok(Some(batch)),
+        Err(ContextFault::TooMany) => Ok(None),
+        Err(ContextFault::Memory) => Err(KeepFault::Memory),
+        Err(ContextFault::Disk) => Err(KeepFault::Disk),
+    }
+}
+
+/// What CREATE INDEX comes to on a column of a table that is there.
+fn plan_on<'a, K: Keeper>(
+    alloc: Global,
+    keeper: &mut K,
+    index: &'a Name,
+    table: &Name,
+    columns: &[Column],
+    place: usize,
+) -> Result<Plan<'a>, KeepFault>
+    requires { (K.view keeper.old).ready }
+    ensures plan { (m : State) (c : Content) (x : Table) → (K.view keeper.old).content ≡ Some c → Stands c m → place < 256 → get m.tables table.now ≡ Some x → columns.now ≡ x.columns → IfOk result (IsPlan (create_index_on m index.now table.now x place) index_created c) }
+    ensures reads { OnlyReads K.view keeper.old keeper.new result }
+{
+    let there = is_taken(alloc, keeper, index, table, place)?;
+    let many = has_most_indexes(alloc, keeper, table)?;
+    if let Some(fault) = index_fault(there, is_text_at(columns, place), many, index) {
+        return Ok(Plan::Refused(fault));
+    }
+    let found = created(alloc, keeper, index, table, place)?;
+    let Some(batch) = found else {
+        return Ok(Plan::Refused(Fault::LimitReached));
+    };
+    Ok(Plan::Done(batch))
+}
+
+/// What CREATE INDEX comes to.
+fn index_plan<'a, K: Keeper>(
+    alloc: Global,
+    keeper: &mut K,
+    index: &'a Name,
+    table: &'a Name,
+    column: &'a Name,
+) -> Result<Plan<'a>, KeepFault>
+    requires { (K.view keeper.old).ready }
+    ensures plan { Plans K.view keeper.old result (λ m. create_index_effect m index.now table.now column.now) index_created }
+    ensures reads { OnlyReads K.view keeper.old keeper.new result }
+{
+    let Some(columns) = table_columns(alloc, keeper, table)? else {
+        return Ok(Plan::Refused(Fault::UnknownName(table.as_str())));
+    };
+    let Some(place) = place_of(column, &columns) else {
+        return Ok(Plan::Refused(Fault::UnknownName(column.as_str())));
+    };
+    plan_on(alloc, keeper, index, table, &columns, place)
+}
+
+/// CREATE INDEX of kind CONTEXT: each row that is there becomes a document of the index. Its cost is what their texts hold,
+/// times a logarithm.
+pub fn create_index<K: Keeper>(
+    alloc: Global,
+    keeper: &mut K,
+    index: &Name,
+    table: &Name,
+    column: &Name,
+) -> Result<Vec<u8>, KeepFault>
+    requires ready { (K.view keeper.old).ready }
+    requires takes { TakesAll (K.view keeper.old).fixed.well }
+    ensures { Serves (λ m. create_index_effect m index.now table.now column.now) (Some index_created) (K.view keeper.old) (K.view keeper.new) result }
+{
+    match index_plan(alloc, keeper, index, table, column) {
+        Ok(plan) => carry_out(alloc, keeper, plan, b"Index created.\n"),
+        Err(fault) => Err(fault),
+    }
+}

@@ -1,0 +1,205 @@
+//! CTX_DDL.SYNC_INDEX.
+#![tactic(auto, using(ct_keep::specs::Composing::reads_on, ct_keep::specs::Composing::reads_short))]
+
+ghost use Rattle.std.specs.Prelude.{◌≡◌, IfOk, Some, None, Err, MatchOption, true, false};
+ghost use Rattle.std.specs.Option.{option_map};
+ghost use Rattle.std.specs.FinMap.{get};
+ghost use Rattle.ct_keep.specs.Content.{Content};
+ghost use Rattle.ct_keep.specs.KeeperViews.{OnlyReads};
+ghost use Rattle.ct_entry.specs.Changes.{spell};
+ghost use Rattle.ix_context.specs.Indexes.{Index};
+ghost use Rattle.ix_context.specs.Changes.{sync_changes};
+ghost use Rattle.db_state.specs.States.{State, Stands, TakesAll, Sees};
+ghost use Rattle.db_state.specs.Effects.{Effect};
+ghost use Rattle.db_index.specs.Syncing.{are_sync_args as sync_args, check_sync, has_index as has_named_index, has_too_many, is_bad_size as bad_size, is_memory_size as memory_size, is_unit as unit_letter, name_arg as first_name, spelt_name as name_spelt, sync_index as sync_effect, unknown_name as name_unknown};
+ghost use Rattle.db_state.specs.Lines.{call_done};
+ghost use Rattle.db_state.specs.Effects.{Checks};
+ghost use Rattle.db_state.specs.Plans.{Plans, Serves};
+
+use ct_base::{Memory, Name, NameFault};
+use ct_keep::{Batch, KeepFault, Keeper};
+use db_cond::Fault;
+use db_names::index_of;
+use db_state::{Plan, carry_out, has_index};
+use ix_context::{ContextFault, sync};
+use st_parse::Arg;
+use std::alloc::Global;
+
+/// The name that a text spells, in any ASCII case.
+fn spelt_name(alloc: Global, text: &str) -> Result<Option<Name>, Memory>
+    ensures { IfOk result (λ found. found ≡ name_spelt text.now) }
+{
+    match Name::read(alloc, text) {
+        Ok(name) => Ok(Some(name)),
+        Err(NameFault::NotAName) => Ok(None),
+        Err(NameFault::Memory) => Err(Memory),
+    }
+}
+
+/// The name that the first argument spells, where it is a text that spells one.
+fn name_arg(alloc: Global, args: &[Arg]) -> Result<Option<Name>, Memory>
+    ensures { IfOk result (λ found. found ≡ first_name args.now) }
+{
+    match args {
+        [Arg::Text(text), ..] => spelt_name(alloc, text.as_str()),
+        _ => Ok(None),
+    }
+}
+
+/// Whether the arguments are one text, or two.
+fn are_sync_args(args: &[Arg]) -> bool
+    ensures { result ≡ sync_args args.now }
+{
+    match args {
+        [Arg::Text(_)] => true,
+        [Arg::Text(_), Arg::Text(_)] => true,
+        _ => false,
+    }
+}
+
+/// Whether the byte is K, M or G, in any case.
+fn is_unit(byte: u8) -> bool
+    ensures { result ≡ unit_letter byte }
+{
+    let byte = byte.to_ascii_lowercase();
+    byte == b'k' || byte == b'm' || byte == b'g'
+}
+
+/// Whether the bytes are digits and one of K, M and G.
+fn is_memory_size(text: &[u8]) -> bool
+    ensures { result ≡ memory_size text.now }
+{
+    let mut some = false;
+    let mut rest = text;
+    while let [first, others @ ..] = rest {
+        if others.is_empty() {
+            return some && is_unit(*first);
+        }
+        if !first.is_ascii_digit() {
+            return false;
+        }
+        some = true;
+        rest = others;
+    }
+    false
+}
+
+/// Whether the second argument is a text that is no size of memory.
+fn is_bad_size(args: &[Arg]) -> bool
+    ensures { result ≡ bad_size args.now }
+{
+    match args {
+        [Arg::Text(_), Arg::Text(memory)] => !is_memory_size(memory.as_str().as_bytes()),
+        _ => false,
+    }
+}
+
+/// The name, where no index has it.
+fn unknown_name(there: bool, name: &Option<Name>) -> Option<&str>
+    ensures { option_map (λ n. n.now) result ≡ name_unknown there name.now }
+{
+    match name {
+        Some(name) if !there => Some(name.as_str()),
+        _ => None,
+    }
+}
+
+/// The first check that fails.
+fn sync_fault<'a>(unknown: Option<&'a str>, args: &[Arg]) -> Option<Fault<'a>>
+    ensures { (done : Effect) → Checks result (check_sync (option_map (λ n. n.now) unknown.entry) args.now done) done }
+{
+    if let Some(name) = unknown {
+        return Some(Fault::UnknownName(name));
+    }
+    if !are_sync_args(args) {
+        return Some(Fault::WrongValues);
+    }
+    if is_bad_size(args) {
+        return Some(Fault::BadValue);
+    }
+    None
+}
+
+/// Whether an index has the name, if there is one.
+fn has_named<K: Keeper>(
+    alloc: Global,
+    keeper: &mut K,
+    name: &Option<Name>,
+) -> Result<bool, KeepFault>
+    requires { (K.view keeper.old).ready }
+    ensures there { Sees K.view keeper.old result (λ m there. there ≡ has_named_index m name.now) }
+    ensures reads { OnlyReads K.view keeper.old keeper.new result }
+{
+    match name {
+        Some(index) => has_index(alloc, keeper, index),
+        None => Ok(false),
+    }
+}
+
+/// The changes of a synchronisation; None where the index would need more documents than there are numbers.
+fn synced<K: Keeper>(
+    alloc: Global,
+    keeper: &mut K,
+    index: &Name,
+) -> Result<Option<Batch>, KeepFault>
+    requires { (K.view keeper.old).ready }
+    ensures changes { (m : State) (c : Content) (x : Index) → (K.view keeper.old).content ≡ Some c → Stands c m → get m.indexes index.now ≡ Some x → IfOk result (λ batch. MatchOption batch (has_too_many x ≡ true) (λ changes. (has_too_many x ≡ false) × (changes ≡ spell (sync_changes m.tables index.now x)))) }
+    ensures reads { OnlyReads K.view keeper.old keeper.new result }
+{
+    let mut batch = Batch::new(alloc);
+    match sync(alloc, keeper, &mut batch, index) {
+        Ok(()) => Ok(Some(batch)),
+        Err(ContextFault::TooMany) => Ok(None),
+        Err(ContextFault::Memory) => Err(KeepFault::Memory),
+        Err(ContextFault::Disk) => Err(KeepFault::Disk),
+    }
+}
+
+/// What a synchronisation comes to: of the index of this name, by these arguments.
+fn sync_plan<'a, K: Keeper>(
+    alloc: Global,
+    keeper: &mut K,
+    name: &'a Option<Name>,
+    args: &[Arg],
+) -> Result<Plan<'a>, KeepFault>
+    requires ready { (K.view keeper.old).ready }
+    requires named { name.now ≡ first_name args.now }
+    ensures plan { Plans K.view keeper.old result (λ m. sync_effect m args.now) call_done }
+    ensures reads { OnlyReads K.view keeper.old keeper.new result }
+{
+    let there = has_named(alloc, keeper, name)?;
+    if let Some(fault) = sync_fault(unknown_name(there, name), args) {
+        return Ok(Plan::Refused(fault));
+    }
+    let Some(index) = name else {
+        return Ok(Plan::Refused(Fault::BadValue));
+    };
+    let found = synced(alloc, keeper, index)?;
+    let Some(batch) = found else {
+        return Ok(Plan::Refused(Fault::LimitReached));
+    };
+    Ok(Plan::Done(batch))
+}
+
+/// CTX_DDL.SYNC_INDEX: each row that waits becomes a document of the index. Its cost is what their texts hold, times a
+/// logarithm.
+pub fn sync_index<K: Keeper>(
+    alloc: Global,
+    keeper: &mut K,
+    args: &[Arg],
+) -> Result<Vec<u8>, KeepFault>
+    requires ready { (K.view keeper.old).ready }
+    requires takes { TakesAll (K.view keeper.old).fixed.well }
+    ensures { Serves (λ m. sync_effect m args.now) (Some call_done) (K.view keeper.old) (K.view keeper.new) result }
+{
+    let name = name_arg(alloc, args)?;
+    match sync_plan(alloc, keeper, &name, args) {
+        Ok(plan) => carry_out(
+            alloc,
+            keeper,
+            plan,
+            b"PL/SQL procedure successfully completed.\n",
+        ),
+        Err(fault) => Err(fault),
+    }
+}

@@ -1,0 +1,7 @@
+use Rattle.std.proofs.Common.{refl}
+use Rattle.db_select.specs.Selecting.{reserved_words}
+use Rattle.db_select.proofs.querying.reserved.Goals as goal
+
+pub returns : goal.returns
+unfolding reserved_words
+returns c = refl

@@ -1,0 +1,100 @@
+-- Where the fields of a line come from: the row's key, its numbers, its texts, or the score.
+use Rattle.std.specs.Prelude.{ℕ, ℤ, pos, suc, ◌-◌, ◌==◌, nat_lt, Bool, true, false, List, [], ◌∷◌, map, Option, Some, None, codes, ◌≡◌, refl}
+use Rattle.std.specs.Bool.{if◌then◌else◌}
+use Rattle.std.specs.List.{filter_map, slice_get}
+use Rattle.std.specs.Option.{option_map}
+use Rattle.ct_base.specs.declared.lists.Value.{Value}
+use Rattle.ct_base.specs.declared.lists.Value.TheVariants.{Number as NumberValue, Text as TextValue}
+use Rattle.ct_entry.specs.Keys.{same_list}
+use Rattle.st_parse.specs.declared.statements.Item.{Item}
+use Rattle.st_parse.specs.declared.statements.Item.TheVariants.{Column as ColumnItem, Score as ScoreItem}
+use Rattle.tb_table.specs.declared.columns.Sort.{Sort}
+use Rattle.tb_table.specs.declared.columns.Sort.TheVariants.{Number as NumberSort, Varchar2, Clob}
+use Rattle.tb_table.specs.declared.columns.Column.{Column}
+use Rattle.std.specs.Map.{lookup}
+use Rattle.tb_table.specs.Tables.{Tables, row_at, numbers_of, text_of}
+use Rattle.db_select.specs.Selecting.{values_of}
+use Rattle.db_select.specs.declared.sources.Source.{Source}
+use Rattle.db_select.specs.declared.sources.Source.TheVariants.{Key, Number, Text, Score, Nothing}
+
+-- of a NUMBER column with so many NUMBER columns before it: the key, which is the first, or one of the numbers of the row
+abbrev pub number_source : ℕ → Source
+number_source before = if before == 0 then Key else Number (before - 1)
+
+-- of a column of texts at a place, which has one byte
+abbrev pub text_source : ℕ → Source
+text_source place = if nat_lt place 256 then Text place else Nothing
+
+abbrev pub source_by : Sort → ℕ → ℕ → Source
+source_by NumberSort place before = number_source before
+source_by (Varchar2 size) place before = text_source place
+source_by Clob place before = text_source place
+
+-- how many NUMBER columns there are before the next column
+abbrev pub with_sort : Sort → ℕ → ℕ
+with_sort NumberSort before = suc before
+with_sort (Varchar2 size) before = before
+with_sort Clob before = before
+
+abbrev pub source_from : ℕ → ℕ → List ℕ → List Column → Source
+source_from place before name [] = Nothing
+source_from place before name (c ∷ cs) = if same_list name c.name then source_by c.sort place before else source_from (suc place) (with_sort c.sort before) name cs
+
+abbrev pub source_of : List Column → Item → Source
+source_of columns (ColumnItem name) = source_from 0 0 name columns
+source_of columns (ScoreItem label) = Score
+
+-- ---- the values
+
+abbrev pub reads_numbers : Source → Bool
+reads_numbers Key = false
+reads_numbers (Number place) = true
+reads_numbers (Text column) = false
+reads_numbers Score = false
+reads_numbers Nothing = false
+
+-- the value of a field of a row, by its key, its numbers, all its values and its score
+abbrev pub source_value : ℤ → List ℤ → List Value → ℕ → Source → Option Value
+source_value r numbers vs score Key = Some (NumberValue r)
+source_value r numbers vs score (Number place) = option_map NumberValue (slice_get numbers place)
+source_value r numbers vs score (Text column) = option_map TextValue (text_of vs column)
+source_value r numbers vs score Score = Some (NumberValue (pos score))
+source_value r numbers vs score Nothing = None
+
+abbrev pub fields_by : ℤ → List ℤ → List Value → ℕ → List Source → List Value
+fields_by r numbers vs score sources = filter_map (source_value r numbers vs score) sources
+
+abbrev pub fields : List Source → ℤ → List Value → ℕ → List Value
+fields sources r vs score = fields_by r (numbers_of vs) vs score sources
+
+-- ---- what is read of a row
+
+-- the values of a row; none where it isn't there
+abbrev pub row_values : Tables → List ℕ → ℤ → List Value
+row_values ts t r = values_of (row_at ts t r)
+
+-- texts that were read, each with its column, are those of the row
+abbrev pub KnowTexts : List Value → List (ℕ × Option (List ℕ)) → Type 0
+KnowTexts vs texts = (column : ℕ) (text : Option (List ℕ)) → lookup (λ place. column == place) texts ≡ Some text → text ≡ text_of vs column
+
+-- the fields of a row that was found, with its score
+abbrev pub hit_fields : Tables → List ℕ → List Source → ℤ × ℕ → List Value
+hit_fields ts t sources h = fields sources h.0 (row_values ts t h.0) h.1
+
+-- computed examples: of a table with a key, a number and two texts
+abbrev of_columns : List Column
+of_columns =
+    record { name = codes "id"; sort = NumberSort } ∷ record { name = codes "a"; sort = Clob } ∷ record { name = codes "n"; sort = NumberSort } ∷ record { name = codes "b"; sort = Varchar2 10 } ∷ []
+
+its_key : source_of of_columns (ColumnItem (codes "id")) ≡ Key
+its_key = refl
+
+its_number : source_of of_columns (ColumnItem (codes "n")) ≡ Number 0
+its_number = refl
+
+its_texts : map (source_of of_columns) (ColumnItem (codes "b") ∷ ColumnItem (codes "a") ∷ []) ≡ Text 3 ∷ Text 1 ∷ []
+its_texts = refl
+
+its_fields : fields (Number 0 ∷ Text 3 ∷ Score ∷ Key ∷ []) (pos 7) (TextValue (codes "x") ∷ NumberValue (pos 5) ∷ TextValue (codes "y") ∷ []) 2
+    ≡ NumberValue (pos 5) ∷ TextValue (codes "y") ∷ NumberValue (pos 2) ∷ NumberValue (pos 7) ∷ []
+its_fields = refl

@@ -1,0 +1,14 @@
+//! SELECT.
+#![tactic(auto)]
+
+mod checks;
+mod fields;
+mod hits;
+mod listing;
+mod querying;
+mod seeking;
+mod selecting;
+mod sources;
+
+pub use checks::{Searched, first_unknown};
+pub use selecting::select;

@@ -1,0 +1,9 @@
+pub mod Lines
+pub mod Effects
+pub mod Committing
+pub mod Plans
+pub mod Lookups
+pub mod Columns
+pub mod Room
+pub mod States
+pub mod laws

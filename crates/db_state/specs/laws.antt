@@ -1,0 +1,9 @@
+pub mod Empty
+pub mod Returning
+pub mod Bounded
+pub mod Chains
+pub mod EachValue
+pub mod Heads
+pub mod Giving
+pub mod PrintedLines
+pub mod Serving

@@ -1,0 +1,20 @@
+-- Changes that a keeper may hold are within the bounds of every keeper.
+use Rattle.std.proofs.Common.{◌≡◌, ℕ, Bool, true, List, [], ◌∷◌, length, Option, Some, None, refl}
+use Rattle.std.specs.List.{list_all}
+use Rattle.std.proofs.lemmas.Bool.{le-leb}
+use Rattle.ct_keep.specs.RisingKeys.{and_both}
+use Rattle.ct_keep.specs.Changes.{AreWell}
+use Rattle.db_state.specs.Committing.{is_bounded, are_bounded}
+
+-- no condition on what entries have
+abbrev pub any_entry : List ℕ → List ℕ → Bool
+any_entry key value = true
+
+pub bounded_well : (well : List ℕ → List ℕ → Bool) (ws : List (List ℕ × Option (List ℕ))) → AreWell well ws → are_bounded ws ≡ true
+bounded_well well [] are = refl
+bounded_well well ((key, None) ∷ ws) are = bounded_well well ws are
+bounded_well well ((key, Some value) ∷ ws) are =
+    let some = le-leb 1 (length key) are.0.some in
+    let short = le-leb (length key) 600 are.0.short in
+    let bounded = le-leb (length value) 67108864 are.0.bounded in
+    and_both (is_bounded (key, Some value)) (list_all is_bounded ws) (and_both _ _ some (and_both _ _ short bounded)) (bounded_well well ws are.2)

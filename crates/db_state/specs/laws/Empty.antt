@@ -1,0 +1,106 @@
+-- A new store: the empty content stands for the empty state.
+use Rattle.std.specs.Prelude.{ℕ, ◌≡◌, List, [], ◌∷◌, length, filter, IsSome, Option, Some, None, refl}
+use Rattle.std.proofs.Common.{sym, ap, ◌∙◌, subst, arith}
+use Rattle.std.proofs.lemmas.Bool.{false≢true}
+use Rattle.std.specs.Ordering.{nat_cmp}
+use Rattle.std.specs.Cmp.Lexicographic.{slice_cmp}
+use Rattle.std.specs.FinMap.{get, empty, entries, get-empty, len-entries, len-empty}
+use Rattle.ct_keep.specs.Content.{Content}
+use Rattle.ct_entry.specs.declared.kinds.Kind.TheVariants as kind
+use Rattle.ct_entry.specs.Keys.{Key, key, bytes, at, same_list, row_part, text_part, document_part, posting_part, span_part}
+use Rattle.ct_entry.specs.Maps.{Names}
+use Rattle.tb_table.specs.Tables.{Table, Tables}
+use Rattle.tb_table.specs.Spelling.{TablesStand}
+use Rattle.tb_table.specs.Rules.{AreTables}
+use Rattle.ix_context.specs.Indexes.{Index}
+use Rattle.ix_context.specs.Spelling.{Numbering, IsNumbering, IndexesSpelled}
+use Rattle.ix_context.specs.Rules.{AreIndexes}
+use Rattle.db_state.specs.States.{empty_state, Stands}
+
+abbrev no_content : Content
+no_content = empty
+
+abbrev no_tables : Tables
+no_tables = empty
+
+abbrev no_indexes : Names Index
+no_indexes = empty
+
+module _ {X : Type 0} where
+  abbrev none : Names X
+  none = empty
+
+  not_there : (name : List ℕ) → get none name ≡ None
+  not_there name = get-empty (slice_cmp nat_cmp) name
+
+  not_found : (name : List ℕ) (x : X) → get none name ≡ Some x → ⊥
+  not_found name x is = let no : get none name ≡ None = not_there name in cc
+
+  no_entries : entries none ≡ []
+  no_entries = nothing (entries none) (sym (len-entries none) ∙ len-empty (slice_cmp nat_cmp) X)
+    where
+      nothing : (es : List (List ℕ × X)) → length es ≡ 0 → es ≡ []
+      nothing [] e = refl
+      nothing (e ∷ es) is = absurd (omega arith)
+
+no_key : (k : Key) → at no_content k ≡ None
+no_key k = get-empty (slice_cmp nat_cmp) (bytes k)
+
+tables_stand : TablesStand (at no_content) no_tables
+tables_stand = record {
+  tables = λ t. no_key (key kind.Tables t []) ∙ rw (not_there {X = Table} t) refl;
+  numbers = λ t r is. no_key (key kind.RowNumbers t (row_part r)) ∙ rw (not_there {X = Table} t) refl;
+  texts = λ t c r below is. no_key (key kind.RowTexts t (text_part c r)) ∙ rw (not_there {X = Table} t) refl;
+}
+
+no_numbers : Numbering
+no_numbers = record { document = λ i r. None; row = λ i d. None }
+
+are_numbers : IsNumbering no_numbers no_indexes
+unfolding no_numbers
+are_numbers = record {
+  marked = λ i r. rw (not_there {X = Index} i) refl;
+  there = λ i r d is. absurd (cc);
+  back = λ i r d is. absurd (cc);
+  within = λ i r d x there is. absurd (cc);
+}
+
+indexes_spelled : IndexesSpelled no_numbers (at no_content) no_tables no_indexes
+unfolding no_numbers
+indexes_spelled = record {
+  indexes = λ i. no_key (key kind.Indexes i []) ∙ rw (not_there {X = Index} i) refl;
+  rows = λ i d is. no_key (key kind.DocumentRows i (document_part d));
+  documents = λ i r is. no_key (key kind.RowDocuments i (row_part r));
+  queue = λ i r is. no_key (key kind.Pending i (row_part r)) ∙ rw (not_there {X = Index} i) refl;
+  postings = λ i token d some is. no_key (key kind.Postings i (posting_part 0 token d)) ∙ rw (not_there {X = Index} i) refl;
+  streams = λ i token s d least most some is. no_key (key kind.Postings i (posting_part s token d));
+  spans = λ i section d name is. no_key (key kind.Spans i (span_part section d));
+}
+
+are_tables : AreTables no_tables
+are_tables = record {
+  names = λ t x is. absurd (not_found t x is);
+  each = λ t x is. absurd (not_found t x is);
+  few = let e = ap length (no_entries {X = Table}) in omega (arith, e);
+}
+
+are_indexes : AreIndexes no_tables no_indexes
+are_indexes = record {
+  names = λ i x is. absurd (not_found i x is);
+  each = λ i x is. absurd (not_found i x is);
+  one = λ i j x y is other table column. absurd (not_found i x is);
+}
+
+pub empty_stands : Stands empty empty_state
+empty_stands = record {
+  only = λ b some. absurd (false≢true (subst (λ (o : Option (List ℕ)). IsSome o) (not_there b) some));
+  unbuilt = λ k h. not_there (bytes k);
+  tables = tables_stand;
+  indexes = (no_numbers, are_numbers, indexes_spelled);
+  state = record {
+    tables = are_tables;
+    indexes = are_indexes;
+    views = λ t x is. absurd (not_found t x is);
+    few = λ t. let e = ap (λ (es : List (List ℕ × Index)). length (filter (λ e. same_list e.1.table t) es)) (no_entries {X = Index}) in omega (arith, e);
+  };
+}

@@ -1,0 +1,123 @@
+-- The ways out of the function of a statement: each is proved once, by one of these.
+use Rattle.std.proofs.Common.{◌≡◌, ℕ, true, List, Option, Some, None, Result, Ok, Err, Vec, sym, ap, subst, ◌∙◌, inr}
+use Rattle.std.specs.Result.{IfOk}
+use Rattle.std.specs.declared.alloc.Global.{Global}
+use Rattle.ct_keep.specs.declared.keepers.KeepFault.{KeepFault}
+use Rattle.ct_keep.specs.declared.keepers.KeepFault.TheVariants.{Memory}
+use Rattle.ct_keep.specs.Content.{Content, after}
+use Rattle.ct_base.specs.Told.{IsSaid}
+use Rattle.ct_keep.specs.KeeperViews.{KeeperView, Kept, Reads, IsSettled, fault_of, counted, is_full}
+use Rattle.ct_keep.specs.Composing.{kept_then, reads_hold, reads_on, reads_short}
+use Rattle.db_cond.specs.Faults.{Refusal, refusal_line}
+use Rattle.db_state.specs.States.{State, Stands}
+use Rattle.db_state.specs.Effects.{Effect, Refused, Does, state_by, reply_by}
+use Rattle.db_state.specs.Committing.{are_bounded}
+use Rattle.db_state.specs.Plans.{Gives, Returns, ReturnsBy, Serves, Fits, IsPlan}
+use Rattle.db_state.specs.declared.plans.Plan.{Plan}
+use Rattle.db_state.specs.declared.plans.Plan.TheVariants.{Done}
+use Rattle.db_state.specs.laws.Giving.{gives_failed, gives_line, gives_then, gives_as, gives_read, reads_fulls}
+use Rattle.db_state.specs.laws.Returning.{returns_failed, returns_then}
+
+-- a fault, as `?` hands it on
+abbrev pub IsFault : Result (Vec ℕ Global) KeepFault → KeepFault → Type 0
+IsFault result fault = (x : KeepFault) × (result ≡ Err x) × (x ≡ fault)
+
+on_fault : (P : Result (Vec ℕ Global) KeepFault → Type 0) (result : Result (Vec ℕ Global) KeepFault) (fault : KeepFault) → IsFault result fault → P (Err fault) → P result
+on_fault P result fault p holds = subst P (sym p.1) (subst (λ (x : KeepFault). P (Err x)) (sym p.2) holds)
+
+module _ (effect : State → Effect) (line : Option (List ℕ)) (old new : KeeperView) where
+  failed_by : (line : Option (List ℕ)) (fault : KeepFault) → IsSettled old → Reads old new (Some fault) → ReturnsBy line old new (Err fault)
+  failed_by None fault settled reads = reads
+  failed_by (Some done) fault settled reads = returns_failed done old new fault settled reads
+
+  pub serves_err : (fault : KeepFault) → Reads old new (Some fault) → Serves effect line old new (Err fault)
+  serves_err fault reads = record {
+    kept = reads.kept;
+    fulls = reads_fulls old new (Err fault) reads;
+    gives = λ settled m c holds stands. gives_failed m (effect m) c old new fault settled holds stands reads;
+    tells = λ settled. failed_by line fault settled reads;
+  }
+
+  -- a read failed
+  pub serves_failed : (result : Result (Vec ℕ Global) KeepFault) (fault : KeepFault) → Reads old new (Some fault) → IsFault result fault → Serves effect line old new result
+  serves_failed result fault reads p = on_fault (Serves effect line old new) result fault p (serves_err fault reads)
+
+  -- after reads there was no memory
+  pub serves_short : (result : Result (Vec ℕ Global) KeepFault) → Reads old new None → IsFault result Memory → Serves effect line old new result
+  serves_short result reads p = serves_failed result Memory (reads_short old new reads) p
+
+  refused_by : (line : Option (List ℕ)) (refusal : Refusal) (reply : Vec ℕ Global) → Reads old new None → reply.items ≡ refusal_line refusal → ReturnsBy line old new (Ok reply)
+  refused_by None refusal reply reads says = reads
+  refused_by (Some done) refusal reply reads says = inr (record { refusal = refusal; says = says; reads = reads })
+
+  -- after reads it is refused
+  pub serves_refused : (refusal : Refusal) (reply : Vec ℕ Global) → Reads old new None → ((m : State) (c : Content) → old.content ≡ Some c → Stands c m → effect m ≡ Refused refusal) → reply.items ≡ refusal_line refusal → Serves effect line old new (Ok reply)
+  serves_refused refusal reply reads is says = record {
+    kept = reads.kept;
+    fulls = reads.fulls;
+    gives = λ settled m c holds stands. gives_line m (effect m) refusal c old new reply settled holds stands reads (is m c holds stands) says;
+    tells = λ settled. refused_by line refusal reply reads says;
+  }
+
+-- it only reads
+pub serves_look : (effect : State → Effect) (old new : KeeperView) (result : Result (Vec ℕ Global) KeepFault) → Reads old new (fault_of result)
+    → ((m : State) (c : Content) → old.content ≡ Some c → Stands c m → IfOk result (λ reply. reply.items ≡ reply_by (effect m))) → ((m : State) → state_by m (effect m) ≡ m) → Serves effect None old new result
+serves_look effect old new result reads reply stays = record {
+  kept = reads.kept;
+  fulls = reads_fulls old new result reads;
+  gives = λ settled m c holds stands. gives_read m (effect m) c old new result settled holds stands reads (reply m c holds stands) (stays m);
+  tells = λ settled. reads;
+}
+
+-- ---- reads, and then more
+
+settled_then : (old mid : KeeperView) → Reads old mid None → IsSettled old → IsSettled mid
+settled_then old mid reads settled = record {
+  here = λ m holds stopped said now.
+      let p = settled.here m (sym reads.content ∙ holds) stopped said (reads.now stopped said now) in
+      (p.0, subst (λ b. IsSaid b.said said) (sym reads.kept.beside) p.1);
+}
+
+returns_by_then : (line : Option (List ℕ)) (old mid new : KeeperView) (result : Result (Vec ℕ Global) KeepFault) → Reads old mid None → ReturnsBy line mid new result → ReturnsBy line old new result
+returns_by_then None old mid new result reads looks = reads_on old mid new (fault_of result) reads looks
+returns_by_then (Some done) old mid new result reads returns = returns_then done old mid new result reads returns
+
+pub serves_then : (effect : State → Effect) (line : Option (List ℕ)) (old mid new : KeeperView) (result : Result (Vec ℕ Global) KeepFault) → Reads old mid None → Serves effect line mid new result → Serves effect line old new result
+serves_then effect line old mid new result reads serves = record {
+  kept = kept_then old mid new (fault_of result) reads.kept serves.kept;
+  fulls = serves.fulls ∙ ap (counted (is_full (fault_of result))) reads.fulls;
+  gives = λ settled m c holds stands. gives_then m (effect m) c old mid new result reads (serves.gives (settled_then old mid reads settled) m c (reads_hold old mid c reads holds) stands);
+  tells = λ settled. returns_by_then line old mid new result reads (serves.tells (settled_then old mid reads settled));
+}
+
+-- a plan that was made by the reads
+pub fits_then : (effect : State → Effect) (line : List ℕ) (old mid : KeeperView) (plan : Plan) → Reads old mid None → Fits effect line old plan → Fits effect line mid plan
+fits_then effect line old mid plan reads fits = record { made = λ m c holds stands. fits.made m c (sym reads.content ∙ holds) stands }
+
+-- the commit of a batch, by what is promised of it for every state
+pub serves_batch : (effect : State → Effect) (line : List ℕ) (batch : List (List ℕ × Option (List ℕ))) (reply : List ℕ) (old new : KeeperView) (result : Result (Vec ℕ Global) KeepFault) → reply ≡ line → Fits effect line old (Done batch)
+    → Kept old new (fault_of result) → new.counts.fulls ≡ counted (is_full (fault_of result)) old.counts.fulls
+    → ((m n : State) (c : Content) → old.content ≡ Some c → are_bounded batch ≡ true → Stands (after batch c) n → Gives m (Does n reply) c old new result) → Returns reply old new result → Serves effect (Some line) old new result
+serves_batch effect line batch reply old new result same fits kept fulls gives tells = record {
+  kept = kept;
+  fulls = fulls;
+  gives = λ settled m c holds stands.
+      let made = fits.made m c holds stands in
+      gives_as m (effect m) (Does made.0 reply) c old new result (made.1 ∙ ap (Does made.0) (sym same)) (gives m made.0 c holds made.2 made.3);
+  tells = λ settled. subst (λ (l : List ℕ). Returns l old new result) same tells;
+}
+
+-- the same effect and line by other names
+pub serves_as : (effect effect' : State → Effect) (line line' : Option (List ℕ)) (old new : KeeperView) (result : Result (Vec ℕ Global) KeepFault) → ((m : State) → effect' m ≡ effect m) → line' ≡ line → Serves effect line old new result → Serves effect' line' old new result
+serves_as effect effect' line line' old new result same is serves = record {
+  kept = serves.kept;
+  fulls = serves.fulls;
+  gives = λ settled m c holds stands. gives_as m (effect' m) (effect m) c old new result (same m) (serves.gives settled m c holds stands);
+  tells = λ settled. subst (λ (l : Option (List ℕ)). ReturnsBy l old new result) (sym is) (serves.tells settled);
+}
+
+-- a plan that another call made, of the effect as it is computed in each state
+pub plans_as : (effect : State → Effect) (line : List ℕ) (old : KeeperView) (result : Result Plan KeepFault)
+    → ((m : State) (c : Content) → old.content ≡ Some c → Stands c m → (e : Effect) × (effect m ≡ e) × IfOk result (IsPlan e line c)) → IfOk result (Fits effect line old)
+plans_as effect line old (Err fault) of = tt
+plans_as effect line old (Ok plan) of = record { made = λ m c holds stands. let p = of m c holds stands in subst (λ (e : Effect). IsPlan e line c plan) (sym p.1) p.2 }

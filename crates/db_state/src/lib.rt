@@ -1,0 +1,14 @@
+//! The state, what it means that a store stands for it, and how a statement's plan is carried out.
+#![tactic(auto)]
+
+mod columns;
+mod committing;
+mod lookups;
+mod plans;
+
+pub use columns::{TEXT_LIMIT, has_column, place_of};
+pub use committing::fixed_reply;
+pub use lookups::{
+    context_index, has_index, has_most_tables, has_table, is_view, table_columns, target_of,
+};
+pub use plans::{Plan, carry_out};

@@ -1,0 +1,103 @@
+//! What statements ask of the tables and the indexes.
+#![tactic(auto, using(ct_keep::specs::Composing::reads_on, ct_keep::specs::Composing::reads_short))]
+
+ghost use Rattle.std.specs.Prelude.{◌≡◌, ◌<◌, IfOk, Some, is_some, nat_le, length};
+ghost use Rattle.std.specs.Option.{option_map};
+ghost use Rattle.std.specs.FinMap.{get, entries};
+ghost use Rattle.ct_keep.specs.Content.{Content};
+ghost use Rattle.ct_keep.specs.KeeperViews.{OnlyReads};
+ghost use Rattle.tb_table.specs.Tables.{Table};
+ghost use Rattle.db_state.specs.States.{State, Stands, is_view as is_view_name, most_tables, Sees};
+ghost use Rattle.db_state.specs.Lookups.{FoundOn};
+
+use ct_base::{Memory, Name};
+use ct_keep::{KeepFault, Keeper};
+use db_names::{IndexKind, index_of, index_on};
+use std::alloc::Global;
+use tb_table::{Column, Target, columns_of, tables};
+
+/// Whether a name is kept for what is only looked at.
+pub fn is_view(name: &str) -> bool
+    ensures { result ≡ is_view_name name.now }
+{
+    name == "ctx_user_pending" || name == "ctx_user_index_errors"
+}
+
+/// How many tables there are at most.
+const MOST_TABLES: usize = 64;
+
+/// The columns of a table, where it is there.
+pub fn table_columns<K: Keeper>(
+    alloc: Global,
+    keeper: &mut K,
+    table: &Name,
+) -> Result<Option<Vec<Column>>, KeepFault>
+    requires { (K.view keeper.old).ready }
+    ensures columns { Sees K.view keeper.old result (λ m found. option_map (λ v. v.items) found ≡ option_map (λ (x : Table). x.columns) (get m.tables table.now)) }
+    ensures reads { OnlyReads K.view keeper.old keeper.new result }
+{
+    columns_of(alloc, keeper, table)
+}
+
+/// Whether there is a table of the name.
+pub fn has_table<K: Keeper>(alloc: Global, keeper: &mut K, table: &Name) -> Result<bool, KeepFault>
+    requires { (K.view keeper.old).ready }
+    ensures there { Sees K.view keeper.old result (λ m there. there ≡ is_some (get m.tables table.now)) }
+    ensures reads { OnlyReads K.view keeper.old keeper.new result }
+{
+    let columns = table_columns(alloc, keeper, table)?;
+    Ok(columns.is_some())
+}
+
+/// Whether these are the names of as many tables as there may be.
+fn are_most(names: &[Name]) -> bool
+    ensures { result ≡ nat_le most_tables (length names.now) }
+{
+    names.len() >= MOST_TABLES
+}
+
+/// Whether there are as many tables as there may be.
+pub fn has_most_tables<K: Keeper>(alloc: Global, keeper: &mut K) -> Result<bool, KeepFault>
+    requires { (K.view keeper.old).ready }
+    ensures many { Sees K.view keeper.old result (λ m many. many ≡ nat_le most_tables (length (entries m.tables))) }
+    ensures reads { OnlyReads K.view keeper.old keeper.new result }
+{
+    let names = tables(alloc, keeper)?;
+    Ok(are_most(&names))
+}
+
+/// A column of a table.
+pub fn target_of(table: &Name, column: u8) -> Result<Target, Memory>
+    ensures { IfOk result (λ target. target ≡ record { table = table.now; column = column }) }
+{
+    let table = table.clone()?;
+    Ok(Target { table, column })
+}
+
+/// The CONTEXT index on a column of a table by its place.
+pub fn context_index<K: Keeper>(
+    alloc: Global,
+    keeper: &mut K,
+    table: &Name,
+    place: usize,
+) -> Result<Option<Name>, KeepFault>
+    requires { (K.view keeper.old).ready }
+    ensures found { (m : State) (c : Content) → (K.view keeper.old).content ≡ Some c → Stands c m → place < 256 → IfOk result (λ found. FoundOn m.indexes table.now place found) }
+    ensures reads { OnlyReads K.view keeper.old keeper.new result }
+{
+    let Ok(column) = u8::try_from(place) else {
+        return Ok(None);
+    };
+    let target = target_of(table, column)?;
+    index_on(alloc, keeper, &target, IndexKind::Context)
+}
+
+/// Whether there is an index of the name.
+pub fn has_index<K: Keeper>(alloc: Global, keeper: &mut K, index: &Name) -> Result<bool, KeepFault>
+    requires { (K.view keeper.old).ready }
+    ensures there { Sees K.view keeper.old result (λ m there. there ≡ is_some (get m.indexes index.now)) }
+    ensures reads { OnlyReads K.view keeper.old keeper.new result }
+{
+    let head = index_of(alloc, keeper, index)?;
+    Ok(head.is_some())
+}

@@ -1,0 +1,53 @@
+//! What a statement that changes something comes to, before its commit.
+#![tactic(auto, using(ct_keep::specs::Composing::reads_on, ct_keep::specs::Composing::reads_short))]
+
+ghost use Rattle.std.specs.Prelude.{Some};
+ghost use Rattle.db_state.specs.States.{State, TakesAll};
+ghost use Rattle.db_state.specs.Effects.{Effect};
+ghost use Rattle.db_state.specs.Plans.{Fits, Serves};
+
+use crate::committing::{commit, fixed_reply};
+use ct_keep::{Batch, KeepFault, Keeper};
+use db_cond::{Fault, fault_line};
+use std::alloc::Global;
+
+/// What a statement comes to.
+#[derive(Drop)]
+pub enum Plan<'a> {
+    /// It is refused.
+    Refused(Fault<'a>),
+    /// Its change is to be committed.
+    Done(Batch),
+}
+
+/// Commits a batch, and replies by the line. There is no commit where there is no memory for the line.
+fn commit_batch<K: Keeper>(
+    alloc: Global,
+    keeper: &mut K,
+    batch: Batch,
+    line: &[u8],
+) -> Result<Vec<u8>, KeepFault>
+    requires ready { (K.view keeper.old).ready }
+    requires takes { TakesAll (K.view keeper.old).fixed.well }
+    ensures { (effect : State → Effect) → Fits effect line.now (K.view keeper.old) (Plan.Done batch) → Serves effect (Some line.now) (K.view keeper.old) (K.view keeper.new) result }
+{
+    let reply = fixed_reply(alloc, line)?;
+    commit(alloc, keeper, batch, reply)
+}
+
+/// Carries out a plan, by at most one commit: the line of the refusal, or that of the statement, with its change.
+pub fn carry_out<K: Keeper>(
+    alloc: Global,
+    keeper: &mut K,
+    plan: Plan,
+    line: &[u8],
+) -> Result<Vec<u8>, KeepFault>
+    requires ready { (K.view keeper.old).ready }
+    requires takes { TakesAll (K.view keeper.old).fixed.well }
+    ensures { (effect : State → Effect) → Fits effect line.now (K.view keeper.old) plan.entry → Serves effect (Some line.now) (K.view keeper.old) (K.view keeper.new) result }
+{
+    match plan {
+        Plan::Refused(fault) => Ok(fault_line(alloc, fault)?),
+        Plan::Done(batch) => commit_batch(alloc, keeper, batch, line),
+    }
+}
