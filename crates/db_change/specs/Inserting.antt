@@ -1,5 +1,5 @@
 -- What INSERT does.
-use Rattle.std.specs.Prelude.{◌≡◌, ℕ, ℤ, pos, ◌==◌, nat_le, nat_lt, Bool, true, false, not, ◌||◌, ◌&&◌, is_some, List, [], ◌∷◌, length, map, Option, Some, None, codes, FitsSigned, refl}
+use Rattle.std.specs.Prelude.{◌≡◌, Result, IfOk, ℕ, ℤ, pos, ◌==◌, nat_le, nat_lt, Bool, true, false, not, ◌||◌, ◌&&◌, is_some, List, [], ◌∷◌, length, map, Option, Some, None, codes, FitsSigned, refl}
 use Rattle.std.specs.Int.{w64}
 use Rattle.std.specs.Str.{IsUtf8}
 use Rattle.std.specs.Bool.{if◌then◌else◌}
@@ -15,12 +15,18 @@ use Rattle.st_parse.specs.declared.statements.Whole.TheVariants.{Fits, Beyond}
 use Rattle.tb_table.specs.declared.columns.Sort.{Sort}
 use Rattle.tb_table.specs.declared.columns.Sort.TheVariants.{Number as NumberSort, Varchar2, Clob}
 use Rattle.tb_table.specs.declared.columns.Column.{Column}
-use Rattle.tb_table.specs.Tables.{Table, with_row}
+use Rattle.tb_table.specs.Tables.{Table, numbers_of, texts_of, with_row}
 use Rattle.tb_table.specs.Rules.{text_limit}
 use Rattle.ix_context.specs.Indexes.{noted_on}
 use Rattle.ix_context.specs.Changes.{note_insert_changes}
 use Rattle.db_cond.specs.Faults.{UnknownName, WrongValues, KeyExists, ValueTooLong, OutOfRange, LimitReached}
-use Rattle.db_state.specs.States.{State}
+use Rattle.ct_keep.specs.declared.keepers.KeepFault.{KeepFault}
+use Rattle.ct_keep.specs.Content.{Content, after}
+use Rattle.tb_table.specs.Spelling.{insert_changes}
+use Rattle.db_state.specs.Committing.{are_bounded}
+use Rattle.db_state.specs.declared.plans.Plan.{Plan}
+use Rattle.db_state.specs.Plans.{IsPlan}
+use Rattle.db_state.specs.States.{State, Stands}
 use Rattle.db_state.specs.Effects.{Effect, Does, refuse, refuse_by, with_found, is_beyond, Refused}
 use Rattle.db_state.specs.Columns.{first_unknown}
 
@@ -183,6 +189,20 @@ insert_into m t names values =
     with_found (get m.tables t) (UnknownName t) (λ (x : Table).
     check_list x.columns names values
     (insert_values m t x (arranged names x.columns values)))
+
+-- ---- what its functions give
+
+-- the changes of a row of these values behind the key
+abbrev pub row_changes : List ℕ → ℤ → List Operand → List (Key × Option (List ℕ))
+row_changes t r values = insert_changes t r (numbers_of (map kept_value values)) (texts_of (map kept_value values))
+
+-- a batch that makes of the content one that stands for the state with the new row
+abbrev pub MakesRow : State → Content → List ℕ → ℤ → List Operand → List (List ℕ × Option (List ℕ)) → Type 0
+MakesRow m c t r values batch = (are_bounded batch ≡ true) × Stands (after batch c) (with_new_row m t r (others_kept values))
+
+-- what the statement comes to in a table with these columns
+abbrev pub PlansRow : State → Content → Table → List ℕ → List Column → List Operand → Result Plan KeepFault → Type 0
+PlansRow m c x t columns values result = x.columns ≡ columns → IfOk result (IsPlan (insert_values m t x values) row_created c)
 
 -- computed examples: a table of id NUMBER PRIMARY KEY, word VARCHAR2(3), price NUMBER
 abbrev word_columns : List Column

@@ -15,7 +15,7 @@ ghost use Rattle.db_state.specs.States.{TakesAll};
 ghost use Rattle.db_state.specs.Effects.{Effect, as_count};
 ghost use Rattle.db_change.specs.Creating.{are_apart as columns_apart, check_table, column_of, all_sized, is_size, create_table as create_table_effect, is_key_first as key_first, is_number as sort_is_number, is_sized as sort_sized, sort_of, table_created};
 ghost use Rattle.db_state.specs.Effects.{Checks};
-ghost use Rattle.db_state.specs.Plans.{Plans, Serves};
+ghost use Rattle.db_state.specs.Plans.{Plans, Replies};
 
 use ct_base::{Memory, Name};
 use ct_keep::{Batch, KeepFault, Keeper};
@@ -211,7 +211,7 @@ pub fn create_table<K: Keeper>(
 ) -> Result<Vec<u8>, KeepFault>
     requires ready { (K.view keeper.old).ready }
     requires takes { TakesAll (K.view keeper.old).fixed.well }
-    ensures { Serves (λ m. create_table_effect m table.now columns.now) (Some table_created) (K.view keeper.old) (K.view keeper.new) result }
+    ensures { Replies K.view keeper.old keeper.new result (λ m. create_table_effect m table.now columns.now) (Some table_created) }
 {
     match table_plan(alloc, keeper, table, columns) {
         Ok(plan) => carry_out(alloc, keeper, plan, b"Table created.\n"),

@@ -5,20 +5,17 @@ ghost use Rattle.std.specs.Prelude.{◌≡◌, ◌≤◌, ◌<◌, ◌+◌, ◌+
 ghost use Rattle.std.specs.List.{list_any, list_all, filter_map, All};
 ghost use Rattle.std.specs.Option.{option_map};
 ghost use Rattle.std.specs.FinMap.{get, entries};
-ghost use Rattle.ct_keep.specs.Content.{Content, after};
-ghost use Rattle.db_state.specs.Committing.{are_bounded};
 ghost use Rattle.ct_keep.specs.KeeperViews.{OnlyReads};
 ghost use Rattle.ct_entry.specs.Keys.{same_list};
 ghost use Rattle.ct_entry.specs.Changes.{spell};
 ghost use Rattle.tb_table.specs.declared.columns.Column.{Column};
 ghost use Rattle.tb_table.specs.Tables.{Table, numbers_of, texts_of};
-ghost use Rattle.tb_table.specs.Spelling.{insert_changes};
-ghost use Rattle.db_state.specs.States.{State, Stands, TakesAll};
+ghost use Rattle.db_state.specs.States.{OverTable, TakesAll};
 ghost use Rattle.db_state.specs.Effects.{Effect};
 ghost use Rattle.db_state.specs.Columns.{first_unknown as unknown_name};
-ghost use Rattle.db_change.specs.Inserting.{are_of_sorts as all_of_sorts, arranged as arranged_values, behind_key as others_of, check_list, check_values, covers as covers_columns, has_row as has_row_of, has_too_long as any_too_long, insert_into as insert_into_effect, insert_values as insert_values_effect, is_beyond_range, is_of_sort as sort_takes, is_too_long as too_long_for, key_in as key_of, kept_value, number_value, text_value, IsNumberKept, IsTextKept, note_all_changes, most_rows, names_of, others_kept, row_created, value_under as named_value, with_new_row, IsFreeRow};
+ghost use Rattle.db_change.specs.Inserting.{MakesRow, PlansRow, row_changes, are_of_sorts as all_of_sorts, arranged as arranged_values, behind_key as others_of, check_list, check_values, covers as covers_columns, has_row as has_row_of, has_too_long as any_too_long, insert_into as insert_into_effect, is_beyond_range, is_of_sort as sort_takes, is_too_long as too_long_for, key_in as key_of, kept_value, number_value, text_value, IsNumberKept, IsTextKept, note_all_changes, most_rows, names_of, row_created, value_under as named_value, IsFreeRow};
 ghost use Rattle.db_state.specs.Effects.{Checks};
-ghost use Rattle.db_state.specs.Plans.{IsPlan, Plans, Serves};
+ghost use Rattle.db_state.specs.Plans.{Plans, Replies};
 
 use ct_base::{Memory, Name, RowKey, Text};
 use ct_keep::{Batch, KeepFault, Keeper};
@@ -341,7 +338,7 @@ fn texts_in(alloc: Global, values: &[Operand]) -> Result<Vec<(u8, Text)>, Memory
 
 /// The changes of a row.
 fn row_batch(alloc: Global, table: &Name, row: RowKey, values: &[Operand]) -> Result<Batch, Memory>
-    ensures changes { IfOk result (λ batch. length values.now ≤ 255 → batch ≡ spell (insert_changes table.now row.0 (numbers_of (map kept_value values.now)) (texts_of (map kept_value values.now)))) }
+    ensures changes { IfOk result (λ batch. length values.now ≤ 255 → batch ≡ spell (row_changes table.now row.0 values.now)) }
     ensures numbers { IfOk result (λ _. All IsNumberKept values.now) }
     ensures texts { IfOk result (λ _. All IsTextKept values.now) }
 {
@@ -386,7 +383,7 @@ fn noted_batch<K: Keeper>(
     values: &[Operand],
 ) -> Result<Batch, KeepFault>
     requires { (K.view keeper.old).ready }
-    ensures batch { (m : State) (c : Content) (x : Table) → (K.view keeper.old).content ≡ Some c → Stands c m → get m.tables table.now ≡ Some x → IsFreeRow x values.now row.0 → IfOk result (λ batch. (are_bounded batch ≡ true) × Stands (after batch c) (with_new_row m table.now row.0 (others_kept values.now))) }
+    ensures batch { OverTable K.view keeper.old table.now (λ m c x. IsFreeRow x values.now row.0 → IfOk result (MakesRow m c table.now row.0 values.now)) }
     ensures reads { OnlyReads K.view keeper.old keeper.new result }
 {
     let mut batch = row_batch(alloc, table, row, behind_key(values))?;
@@ -405,7 +402,7 @@ fn is_taken<K: Keeper>(
     key: Option<RowKey>,
 ) -> Result<bool, KeepFault>
     requires { (K.view keeper.old).ready }
-    ensures taken { (m : State) (c : Content) (x : Table) → (K.view keeper.old).content ≡ Some c → Stands c m → get m.tables table.now ≡ Some x → IfOk result (λ taken. taken ≡ has_row_of x (option_map (λ key. key.0) key)) }
+    ensures taken { OverTable K.view keeper.old table.now (λ m c x. IfOk result (λ taken. taken ≡ has_row_of x (option_map (λ key. key.0) key))) }
     ensures reads { OnlyReads K.view keeper.old keeper.new result }
 {
     match key {
@@ -417,7 +414,7 @@ fn is_taken<K: Keeper>(
 /// Whether the table has as many rows as it may have.
 fn has_most_rows<K: Keeper>(alloc: Global, keeper: &mut K, table: &Name) -> Result<bool, KeepFault>
     requires { (K.view keeper.old).ready }
-    ensures many { (m : State) (c : Content) (x : Table) → (K.view keeper.old).content ≡ Some c → Stands c m → get m.tables table.now ≡ Some x → IfOk result (λ many. many ≡ nat_le most_rows (length (entries x.rows))) }
+    ensures many { OverTable K.view keeper.old table.now (λ m c x. IfOk result (λ many. many ≡ nat_le most_rows (length (entries x.rows)))) }
     ensures reads { OnlyReads K.view keeper.old keeper.new result }
 {
     let few = row_count_at_most(alloc, keeper, table, MOST_ROWS_BEFORE)?;
@@ -433,7 +430,7 @@ fn values_plan<'a, K: Keeper>(
     values: &[Operand],
 ) -> Result<Plan<'a>, KeepFault>
     requires { (K.view keeper.old).ready }
-    ensures plan { (m : State) (c : Content) (x : Table) → (K.view keeper.old).content ≡ Some c → Stands c m → get m.tables table.now ≡ Some x → x.columns ≡ columns.now → IfOk result (IsPlan (insert_values_effect m table.now x values.now) row_created c) }
+    ensures plan { OverTable K.view keeper.old table.now (λ m c x. PlansRow m c x table.now columns.now values.now result) }
     ensures reads { OnlyReads K.view keeper.old keeper.new result }
 {
     let key = key_in(values);
@@ -483,7 +480,7 @@ pub fn insert_into<K: Keeper>(
 ) -> Result<Vec<u8>, KeepFault>
     requires ready { (K.view keeper.old).ready }
     requires takes { TakesAll (K.view keeper.old).fixed.well }
-    ensures { Serves (λ m. insert_into_effect m table.now names.now values.now) (Some row_created) (K.view keeper.old) (K.view keeper.new) result }
+    ensures { Replies K.view keeper.old keeper.new result (λ m. insert_into_effect m table.now names.now values.now) (Some row_created) }
 {
     match insert_plan(alloc, keeper, table, names, values) {
         Ok(plan) => carry_out(alloc, keeper, plan, b"1 row created.\n"),

@@ -10,13 +10,13 @@ use Rattle.st_parse.specs.declared.statements.SelectList.TheVariants.{Star}
 use Rattle.st_parse.specs.declared.statements.Statement.{Statement}
 use Rattle.st_parse.specs.declared.statements.Statement.TheVariants.{CreateTable, CreateIndex, Insert, Select, Exec}
 use Rattle.db_cond.specs.Faults.{store_full}
-use Rattle.db_state.specs.States.{State}
+use Rattle.db_state.specs.States.{State, Stands}
 use Rattle.db_state.specs.Effects.{Effect, reply_by}
 use Rattle.db_change.specs.Creating.{table_created}
 use Rattle.db_index.specs.Indexing.{index_created}
 use Rattle.db_change.specs.Inserting.{row_created}
 use Rattle.db_state.specs.Lines.{call_done}
-use Rattle.db_engine.specs.Steps.{is_built_index}
+use Rattle.db_engine.specs.Steps.{effect, is_built_index, may_fill}
 use Rattle.db_engine.specs.Runs.{Answer, Step, NoMemory, Full}
 use Rattle.db_engine.specs.declared.replies.Reply.{Reply}
 use Rattle.db_engine.specs.declared.replies.Reply.TheVariants.{Text as ReplyText, NoMemory as ReplyNoMemory}
@@ -59,6 +59,10 @@ abbrev pub Executes : State → Effect → Bool → Content → KeeperView → K
 Executes m effect may c old new (Ok reply) = Answers m effect may c old new reply
 Executes m effect may c old new (Err DiskStop) = Moves m effect c old new (Some Disk)
 
+-- The statement was answered so over each state that the content stands for, where it is told.
+abbrev pub ExecutesStatement : Statement → KeeperView → KeeperView → Result Reply Stop → Type 0
+ExecutesStatement s old new result = (m : State) (c : Content) → old.content ≡ Some c → Stands c m → Executes m (effect m s) (may_fill s) c old new result
+
 abbrev pub fault_of_stop : {T : Type 0} → Result T Stop → Option KeepFault
 fault_of_stop (Ok x) = None
 fault_of_stop (Err DiskStop) = Some Disk
@@ -69,12 +73,19 @@ fault_of_stop (Err DiskStop) = Some Disk
 abbrev pub is_sync : List ℕ → List ℕ → Bool
 is_sync pack procedure = bytes_eq pack (codes "ctx_ddl") && bytes_eq procedure (codes "sync_index")
 
+-- the lines by which CREATE INDEX, where it is built, and the call of a procedure say that their change is made
+abbrev pub index_line : Bool → Option (List ℕ)
+index_line built = if built then Some index_created else None
+
+abbrev pub call_line : List ℕ → List ℕ → Option (List ℕ)
+call_line pack procedure = if is_sync pack procedure then Some call_done else None
+
 -- The line by which a statement says that its change is made. None where it changes nothing: it only looks, or is refused since it isn't built yet.
 abbrev pub done_line : Statement → Option (List ℕ)
 done_line (CreateTable name columns) = Some table_created
-done_line (CreateIndex name table column kind parameters parallel) = if is_built_index kind parameters parallel then Some index_created else None
+done_line (CreateIndex name table column kind parameters parallel) = index_line (is_built_index kind parameters parallel)
 done_line (Insert table columns values) = Some row_created
-done_line (Exec pack procedure args) = if is_sync pack procedure then Some call_done else None
+done_line (Exec pack procedure args) = call_line pack procedure
 done_line statement = None
 
 -- Whether the reply to a statement is the same in every state: it asks of a text alone, or isn't built yet.
@@ -103,6 +114,10 @@ abbrev pub IfText : (List ℕ → Type 0) → Result Reply Stop → Type 0
 IfText says (Ok (ReplyText reply)) = says reply
 IfText says (Ok ReplyNoMemory) = Unit {0}
 IfText says (Err stop) = Unit {0}
+
+-- A reply that says that the store is full is by the keeper: how often it found that rose.
+abbrev pub FullRose : KeeperView → KeeperView → Result Reply Stop → Type 0
+FullRose old new result = IfText (λ reply. reply ≡ store_full → Rose old.counts.fulls new.counts.fulls) result
 
 -- computed examples
 row_line : done_line (Insert (codes "docs") None []) ≡ Some (codes "1 row created.\n")

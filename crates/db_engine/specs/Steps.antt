@@ -49,10 +49,14 @@ is_context Ctxrule = false
 abbrev pub is_built_index : IndexKind → Option (List ℕ) → Option Whole → Bool
 is_built_index kind parameters parallel = is_context kind && (is_none parameters && is_none parallel)
 
+-- CREATE INDEX, where it is built
+abbrev pub create_index_if : Bool → State → List ℕ → List ℕ → List ℕ → Effect
+create_index_if built m i t column = refuse (not built) NotUnderstood (create_index m i t column)
+
 -- what a statement does; the grammar has no others yet
 abbrev pub effect : State → Statement → Effect
 effect m (CreateTable name columns) = create_table m name columns
-effect m (CreateIndex name table column kind parameters parallel) = refuse (not (is_built_index kind parameters parallel)) NotUnderstood (create_index m name table column)
+effect m (CreateIndex name table column kind parameters parallel) = create_index_if (is_built_index kind parameters parallel) m name table column
 effect m (Insert table columns values) = insert_into m table columns values
 effect m (Select list table preds orders) = select_by m list table preds
 effect m (Exec pack procedure args) = call m pack procedure args

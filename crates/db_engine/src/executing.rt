@@ -2,19 +2,13 @@
 #![tactic(auto, using(ct_keep::specs::Composing::reads_on, ct_keep::specs::Composing::reads_short))]
 
 ghost use Rattle.std.specs.Prelude.{ℕ, ◌≡◌, ◌&&◌, List, IfOk, Some, None, Err, true, false, not, codes, bytes_eq};
-ghost use Rattle.ct_base.specs.Causes.{Rose};
-ghost use Rattle.ct_keep.specs.Content.{Content};
 ghost use Rattle.ct_keep.specs.KeeperViews.{Kept, OnlyReads, Reads};
-ghost use Rattle.db_cond.specs.Faults.{NotUnderstood, refusal_line, store_full as store_full_line};
-ghost use Rattle.std.specs.Bool.{if◌then◌else◌};
-ghost use Rattle.db_state.specs.Effects.{refuse, reply_by, state_by};
-ghost use Rattle.db_index.specs.Indexing.{create_index as create_index_effect, index_created};
-ghost use Rattle.db_state.specs.States.{Sees, Stands, State, TakesAll};
-ghost use Rattle.db_engine.specs.Steps.{effect, is_built_index as built_index, may_fill, may_fill_by, select_by as select_effect};
-ghost use Rattle.db_engine.specs.Steps.{call as call_effect};
-ghost use Rattle.db_state.specs.Lines.{call_done};
-ghost use Rattle.db_engine.specs.Executing.{Executes, IfText, IsFullReply, Tells, done_line, fault_of_stop, is_fixed, is_sync as is_sync_call};
-ghost use Rattle.db_state.specs.Plans.{Serves};
+ghost use Rattle.db_cond.specs.Faults.{NotUnderstood, refusal_line};
+ghost use Rattle.db_state.specs.Effects.{reply_by, state_by};
+ghost use Rattle.db_state.specs.States.{Sees, State, TakesAll};
+ghost use Rattle.db_engine.specs.Steps.{call as call_effect, create_index_if, effect, is_built_index as built_index, may_fill, may_fill_by, select_by as select_effect};
+ghost use Rattle.db_engine.specs.Executing.{ExecutesStatement, FullRose, IfText, IsFullReply, Tells, call_line, done_line, fault_of_stop, index_line, is_fixed, is_sync as is_sync_call};
+ghost use Rattle.db_state.specs.Plans.{GivesReply, Replies};
 
 use crate::replies::{Reply, Stop};
 use ct_base::{Bytes, Memory, Name, Text};
@@ -101,8 +95,8 @@ fn call<K: Keeper>(
 ) -> Result<Vec<u8>, KeepFault>
     requires ready { (K.view keeper.old).ready }
     requires takes { TakesAll (K.view keeper.old).fixed.well }
-    ensures serves { Serves (λ m. call_effect m pack.now procedure.now args.now) (if is_sync_call pack.now procedure.now then Some call_done else None) (K.view keeper.old) (K.view keeper.new) result }
-    ensures fixed { (m : State) → is_sync_call pack.now procedure.now ≡ false → IfOk result (λ reply. reply.items ≡ reply_by (call_effect m pack.now procedure.now args.now)) }
+    ensures serves { Replies K.view keeper.old keeper.new result (λ m. call_effect m pack.now procedure.now args.now) (call_line pack.now procedure.now) }
+    ensures fixed { (m : State) → is_sync_call pack.now procedure.now ≡ false → GivesReply result (call_effect m pack.now procedure.now args.now) }
     ensures may { result ≡ Err KeepFault.Full → may_fill_by pack.now ≡ true }
 {
     if is_sync(pack, procedure) {
@@ -132,7 +126,7 @@ fn index_statement<K: Keeper>(
 ) -> Result<Vec<u8>, KeepFault>
     requires ready { (K.view keeper.old).ready }
     requires takes { TakesAll (K.view keeper.old).fixed.well }
-    ensures serves { Serves (λ m. refuse (not built) NotUnderstood (create_index_effect m index.now table.now column.now)) (if built then Some index_created else None) (K.view keeper.old) (K.view keeper.new) result }
+    ensures serves { Replies K.view keeper.old keeper.new result (λ m. create_index_if built m index.now table.now column.now) (index_line built) }
     ensures fixed { built ≡ false → IfOk result (λ reply. reply.items ≡ refusal_line NotUnderstood) }
 {
     if !built {
@@ -149,8 +143,8 @@ fn reply_to<K: Keeper>(
 ) -> Result<Vec<u8>, KeepFault>
     requires ready { (K.view keeper.old).ready }
     requires takes { TakesAll (K.view keeper.old).fixed.well }
-    ensures serves { Serves (λ m. effect m statement.now) (done_line statement.now) (K.view keeper.old) (K.view keeper.new) result }
-    ensures fixed { (m : State) → is_fixed statement.now ≡ true → IfOk result (λ reply. reply.items ≡ reply_by (effect m statement.now)) }
+    ensures serves { Replies K.view keeper.old keeper.new result (λ m. effect m statement.now) (done_line statement.now) }
+    ensures fixed { (m : State) → is_fixed statement.now ≡ true → GivesReply result (effect m statement.now) }
     ensures may { result ≡ Err KeepFault.Full → may_fill statement.now ≡ true }
 {
     match statement {
@@ -223,10 +217,10 @@ pub fn execute<R: Threads + Sync, K: Keeper>(
     requires ready { (K.view keeper.old).ready }
     requires takes { TakesAll (K.view keeper.old).fixed.well }
     ensures kept { Kept (K.view keeper.old) (K.view keeper.new) (fault_of_stop result) }
-    ensures executes { (m : State) (c : Content) → (K.view keeper.old).content ≡ Some c → Stands c m → Executes m (effect m statement.now) (may_fill statement.now) c (K.view keeper.old) (K.view keeper.new) result }
+    ensures executes { ExecutesStatement statement.now (K.view keeper.old) (K.view keeper.new) result }
     ensures reads { done_line statement.now ≡ None → Reads (K.view keeper.old) (K.view keeper.new) (fault_of_stop result) }
     ensures tells { (done : List ℕ) → done_line statement.now ≡ Some done → Tells done (K.view keeper.old) (K.view keeper.new) result }
-    ensures full { (done : List ℕ) → done_line statement.now ≡ Some done → IfText (λ reply. reply ≡ store_full_line → Rose (K.view keeper.old).counts.fulls (K.view keeper.new).counts.fulls) result }
+    ensures full { (done : List ℕ) → done_line statement.now ≡ Some done → FullRose (K.view keeper.old) (K.view keeper.new) result }
     ensures fixed { (m : State) → is_fixed statement.now ≡ true → IfText (λ reply. reply ≡ reply_by (effect m statement.now)) result }
 {
     match reply_to(alloc, keeper, statement) {

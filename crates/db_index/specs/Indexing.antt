@@ -1,5 +1,5 @@
 -- What CREATE INDEX does.
-use Rattle.std.specs.Prelude.{ℕ, zero, suc, pos, negsuc, ◌-◌, ◌^◌, ◌≡◌, ◌==◌, nat_le, nat_lt, Bool, true, false, not, ◌||◌, ◌&&◌, is_some, List, [], ◌∷◌, length, map, Some, codes, refl}
+use Rattle.std.specs.Prelude.{ℕ, zero, suc, pos, negsuc, ◌-◌, ◌^◌, ◌≡◌, ◌==◌, nat_le, nat_lt, Bool, true, false, not, ◌||◌, ◌&&◌, is_some, ◌<◌, List, [], ◌∷◌, length, Option, Some, Result, IfOk, MatchOption, codes, refl}
 use Rattle.std.specs.List.{list_any}
 use Rattle.std.specs.FinMap.{get, entries}
 use Rattle.ct_entry.specs.Keys.{same_list}
@@ -17,6 +17,12 @@ use Rattle.db_state.specs.States.{State, indexes_on, most_indexes}
 use Rattle.db_state.specs.Effects.{Effect, Does, refuse, with_found, Refused}
 use Rattle.db_state.specs.Columns.{place_of}
 use Rattle.tb_table.specs.Tables.{docs_columns}
+use Rattle.ct_keep.specs.declared.keepers.KeepFault.{KeepFault}
+use Rattle.ct_keep.specs.Content.{Content}
+use Rattle.ct_entry.specs.Changes.{spell}
+use Rattle.ix_context.specs.Changes.{create_changes}
+use Rattle.db_state.specs.declared.plans.Plan.{Plan}
+use Rattle.db_state.specs.Plans.{IsPlan}
 
 -- ---- CREATE INDEX
 
@@ -56,10 +62,14 @@ with_new_index m i t place = record m { indexes = with_index m.tables m.indexes 
 abbrev pub has_too_many_rows : State → List ℕ → Bool
 has_too_many_rows m t = nat_lt most_given (length (rows_in m.tables t all_rows))
 
+-- whether the name is that of an index, or the column has one
+abbrev pub is_index_taken : State → List ℕ → List ℕ → ℕ → Bool
+is_index_taken m i t place = is_some (get m.indexes i) || has_index_on m.indexes t place
+
 abbrev pub create_index_on : State → List ℕ → List ℕ → Table → ℕ → Effect
 create_index_on m i t x place =
     check_index
-    (is_some (get m.indexes i) || has_index_on m.indexes t place)
+    (is_index_taken m i t place)
     (is_text_at x.columns place)
     (nat_le most_indexes (length (indexes_on m.indexes t)) || has_too_many_rows m t)
     i
@@ -68,7 +78,7 @@ create_index_on m i t x place =
 -- no check holds
 pub record IsFreeIndex (m : State) (i t : List ℕ) (x : Table) (place : ℕ) : Type 0 where
   pub there : get m.tables t ≡ Some x
-  pub free : (is_some (get m.indexes i) || has_index_on m.indexes t place) ≡ false
+  pub free : is_index_taken m i t place ≡ false
   pub texts : is_text_at x.columns place ≡ true
   pub few : (nat_le most_indexes (length (indexes_on m.indexes t)) || has_too_many_rows m t) ≡ false
 
@@ -77,6 +87,16 @@ create_index m i t column =
     with_found (get m.tables t) (UnknownName t) (λ (x : Table).
     with_found (place_of column x.columns) (UnknownName column) (λ (place : ℕ).
     create_index_on m i t x place))
+
+-- ---- what its functions give
+
+-- the changes of the new index: there are some
+abbrev pub MakesIndex : State → List ℕ → List ℕ → ℕ → Option (List (List ℕ × Option (List ℕ))) → Type 0
+MakesIndex m i t place batch = MatchOption batch ⊥ (λ changes. changes ≡ spell (create_changes m.tables i (target t place) all_rows))
+
+-- what the statement comes to on a column, by its place, of a table with these columns
+abbrev pub PlansIndex : State → Content → Table → List ℕ → List ℕ → List Column → ℕ → Result Plan KeepFault → Type 0
+PlansIndex m c x i t columns place result = place < 256 → columns ≡ x.columns → IfOk result (IsPlan (create_index_on m i t x place) index_created c)
 
 -- computed examples: an index on a column of a table with the columns id, body and price; the body, a CLOB, is at the place 1
 a_good_index : (done : Effect) → check_index false (is_text_at docs_columns 1) false (codes "di") done ≡ done

@@ -1,11 +1,13 @@
 -- What CTX_DDL.SYNC_INDEX does.
-use Rattle.std.specs.Prelude.{ℕ, pos, ◌+◌, ◌==◌, nat_lt, Bool, true, false, not, ◌||◌, ◌&&◌, is_some, List, [], ◌∷◌, length, map, Option, Some, None, codes, ◌≡◌, refl}
+use Rattle.std.specs.Prelude.{ℕ, pos, ◌+◌, ◌==◌, nat_lt, Bool, true, false, not, ◌||◌, ◌&&◌, is_some, List, [], ◌∷◌, length, map, Option, Some, None, codes, ◌≡◌, refl, MatchOption}
 use Rattle.std.specs.Bool.{if◌then◌else◌}
 use Rattle.std.specs.Char.{to_ascii_lowercase, is_ascii_digit}
 use Rattle.std.specs.FinMap.{get}
 use Rattle.ct_base.specs.Names.{is_spelling}
 use Rattle.st_parse.specs.declared.statements.Arg.{Arg}
 use Rattle.st_parse.specs.declared.statements.Arg.TheVariants.{Text as TextArg, Number as NumberArg}
+use Rattle.ct_entry.specs.Changes.{spell}
+use Rattle.ix_context.specs.Changes.{sync_changes}
 use Rattle.ix_context.specs.Indexes.{Index, pending_rows, synced}
 use Rattle.ix_context.specs.Rules.{most_given}
 use Rattle.db_cond.specs.Faults.{UnknownName, WrongValues, BadValue, LimitReached}
@@ -80,6 +82,12 @@ has_index m (Some i) = is_some (get m.indexes i)
 
 abbrev pub sync_index : State → List Arg → Effect
 sync_index m args = check_sync (unknown_name (has_index m (name_arg args)) (name_arg args)) args (sync_named m (name_arg args))
+
+-- ---- what its functions give
+
+-- the changes of the synchronisation; none where the index would need more documents than there are numbers
+abbrev pub MakesSync : List ℕ → State → Index → Option (List (List ℕ × Option (List ℕ))) → Type 0
+MakesSync i m x batch = MatchOption batch (has_too_many x ≡ true) (λ changes. (has_too_many x ≡ false) × (changes ≡ spell (sync_changes m.tables i x)))
 
 -- computed examples
 sixteen_megabytes : is_memory_size (codes "16m") ≡ true

@@ -1,19 +1,15 @@
 //! CREATE INDEX.
 #![tactic(auto, using(ct_keep::specs::Composing::reads_on, ct_keep::specs::Composing::reads_short))]
 
-ghost use Rattle.std.specs.Prelude.{◌≡◌, ◌<◌, ◌||◌, IfOk, Some, Err, MatchOption, nat_le, is_some, length};
-ghost use Rattle.std.specs.FinMap.{get};
+ghost use Rattle.std.specs.Prelude.{◌≡◌, ◌<◌, IfOk, Some, nat_le, length};
 ghost use Rattle.ct_base.specs.Names.{IsName};
-ghost use Rattle.ct_keep.specs.Content.{Content};
 ghost use Rattle.ct_keep.specs.KeeperViews.{OnlyReads};
-ghost use Rattle.ct_entry.specs.Changes.{spell};
 ghost use Rattle.tb_table.specs.Tables.{Table};
-ghost use Rattle.ix_context.specs.Changes.{create_changes};
-ghost use Rattle.db_state.specs.States.{State, Stands, TakesAll, indexes_on, most_indexes, Sees};
+ghost use Rattle.db_state.specs.States.{OverStates, OverTable, TakesAll, indexes_on, most_indexes, Sees};
 ghost use Rattle.db_state.specs.Effects.{Effect};
-ghost use Rattle.db_index.specs.Indexing.{all_rows, check_index, create_index as create_index_effect, create_index_on, has_index_on as column_has_index, index_created, is_text_at as text_at, is_text_sort as sort_of_texts, target, IsFreeIndex};
+ghost use Rattle.db_index.specs.Indexing.{MakesIndex, PlansIndex, check_index, create_index as create_index_effect, has_index_on as column_has_index, index_created, is_index_taken, is_text_at as text_at, is_text_sort as sort_of_texts, IsFreeIndex};
 ghost use Rattle.db_state.specs.Effects.{Checks};
-ghost use Rattle.db_state.specs.Plans.{IsPlan, Plans, Serves};
+ghost use Rattle.db_state.specs.Plans.{Plans, Replies};
 
 use ct_base::Name;
 use ct_keep::{Batch, KeepFault, Keeper};
@@ -59,7 +55,7 @@ fn has_index_on<K: Keeper>(
     place: usize,
 ) -> Result<bool, KeepFault>
     requires { (K.view keeper.old).ready }
-    ensures there { (m : State) (c : Content) → (K.view keeper.old).content ≡ Some c → Stands c m → place < 256 → IfOk result (λ there. there ≡ column_has_index m.indexes table.now place) }
+    ensures there { OverStates K.view keeper.old (λ m c. place < 256 → IfOk result (λ there. there ≡ column_has_index m.indexes table.now place)) }
     ensures reads { OnlyReads K.view keeper.old keeper.new result }
 {
     let other = context_index(alloc, keeper, table, place)?;
@@ -75,7 +71,7 @@ fn is_taken<K: Keeper>(
     place: usize,
 ) -> Result<bool, KeepFault>
     requires { (K.view keeper.old).ready }
-    ensures taken { (m : State) (c : Content) → (K.view keeper.old).content ≡ Some c → Stands c m → place < 256 → IfOk result (λ taken. taken ≡ (is_some (get m.indexes index.now) || column_has_index m.indexes table.now place)) }
+    ensures taken { OverStates K.view keeper.old (λ m c. place < 256 → IfOk result (λ taken. taken ≡ is_index_taken m index.now table.now place)) }
     ensures reads { OnlyReads K.view keeper.old keeper.new result }
 {
     let there = has_index(alloc, keeper, index)?;
@@ -132,7 +128,7 @@ fn created<K: Keeper>(
     place: usize,
 ) -> Result<Option<Batch>, KeepFault>
     requires { (K.view keeper.old).ready }
-    ensures changes { (m : State) (c : Content) (x : Table) → (K.view keeper.old).content ≡ Some c → Stands c m → place < 256 → IsFreeIndex m index.now table.now x place → IfOk result (λ batch. MatchOption batch ⊥ (λ changes. changes ≡ spell (create_changes m.tables index.now (target table.now place) all_rows))) }
+    ensures changes { OverStates K.view keeper.old (λ m c. (x : Table) → place < 256 → IsFreeIndex m index.now table.now x place → IfOk result (MakesIndex m index.now table.now place)) }
     ensures reads { OnlyReads K.view keeper.old keeper.new result }
 {
     let Ok(column) = u8::try_from(place) else {
@@ -158,7 +154,7 @@ fn plan_on<'a, K: Keeper>(
     place: usize,
 ) -> Result<Plan<'a>, KeepFault>
     requires { (K.view keeper.old).ready }
-    ensures plan { (m : State) (c : Content) (x : Table) → (K.view keeper.old).content ≡ Some c → Stands c m → place < 256 → get m.tables table.now ≡ Some x → columns.now ≡ x.columns → IfOk result (IsPlan (create_index_on m index.now table.now x place) index_created c) }
+    ensures plan { OverTable K.view keeper.old table.now (λ m c x. PlansIndex m c x index.now table.now columns.now place result) }
     ensures reads { OnlyReads K.view keeper.old keeper.new result }
 {
     let there = is_taken(alloc, keeper, index, table, place)?;
@@ -205,7 +201,7 @@ pub fn create_index<K: Keeper>(
 ) -> Result<Vec<u8>, KeepFault>
     requires ready { (K.view keeper.old).ready }
     requires takes { TakesAll (K.view keeper.old).fixed.well }
-    ensures { Serves (λ m. create_index_effect m index.now table.now column.now) (Some index_created) (K.view keeper.old) (K.view keeper.new) result }
+    ensures { Replies K.view keeper.old keeper.new result (λ m. create_index_effect m index.now table.now column.now) (Some index_created) }
 {
     match index_plan(alloc, keeper, index, table, column) {
         Ok(plan) => carry_out(alloc, keeper, plan, b"Index created.\n"),

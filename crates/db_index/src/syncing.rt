@@ -1,20 +1,15 @@
 //! CTX_DDL.SYNC_INDEX.
 #![tactic(auto, using(ct_keep::specs::Composing::reads_on, ct_keep::specs::Composing::reads_short))]
 
-ghost use Rattle.std.specs.Prelude.{◌≡◌, IfOk, Some, None, Err, MatchOption, true, false};
+ghost use Rattle.std.specs.Prelude.{◌≡◌, IfOk, Some, None, Err, true, false};
 ghost use Rattle.std.specs.Option.{option_map};
-ghost use Rattle.std.specs.FinMap.{get};
-ghost use Rattle.ct_keep.specs.Content.{Content};
 ghost use Rattle.ct_keep.specs.KeeperViews.{OnlyReads};
-ghost use Rattle.ct_entry.specs.Changes.{spell};
-ghost use Rattle.ix_context.specs.Indexes.{Index};
-ghost use Rattle.ix_context.specs.Changes.{sync_changes};
-ghost use Rattle.db_state.specs.States.{State, Stands, TakesAll, Sees};
+ghost use Rattle.db_state.specs.States.{OverIndex, TakesAll, Sees};
 ghost use Rattle.db_state.specs.Effects.{Effect};
-ghost use Rattle.db_index.specs.Syncing.{are_sync_args as sync_args, check_sync, has_index as has_named_index, has_too_many, is_bad_size as bad_size, is_memory_size as memory_size, is_unit as unit_letter, name_arg as first_name, spelt_name as name_spelt, sync_index as sync_effect, unknown_name as name_unknown};
+ghost use Rattle.db_index.specs.Syncing.{MakesSync, are_sync_args as sync_args, check_sync, has_index as has_named_index, is_bad_size as bad_size, is_memory_size as memory_size, is_unit as unit_letter, name_arg as first_name, spelt_name as name_spelt, sync_index as sync_effect, unknown_name as name_unknown};
 ghost use Rattle.db_state.specs.Lines.{call_done};
 ghost use Rattle.db_state.specs.Effects.{Checks};
-ghost use Rattle.db_state.specs.Plans.{Plans, Serves};
+ghost use Rattle.db_state.specs.Plans.{Plans, Replies};
 
 use ct_base::{Memory, Name, NameFault};
 use ct_keep::{Batch, KeepFault, Keeper};
@@ -143,7 +138,7 @@ fn synced<K: Keeper>(
     index: &Name,
 ) -> Result<Option<Batch>, KeepFault>
     requires { (K.view keeper.old).ready }
-    ensures changes { (m : State) (c : Content) (x : Index) → (K.view keeper.old).content ≡ Some c → Stands c m → get m.indexes index.now ≡ Some x → IfOk result (λ batch. MatchOption batch (has_too_many x ≡ true) (λ changes. (has_too_many x ≡ false) × (changes ≡ spell (sync_changes m.tables index.now x)))) }
+    ensures changes { OverIndex K.view keeper.old index.now (λ m x. IfOk result (MakesSync index.now m x)) }
     ensures reads { OnlyReads K.view keeper.old keeper.new result }
 {
     let mut batch = Batch::new(alloc);
@@ -190,7 +185,7 @@ pub fn sync_index<K: Keeper>(
 ) -> Result<Vec<u8>, KeepFault>
     requires ready { (K.view keeper.old).ready }
     requires takes { TakesAll (K.view keeper.old).fixed.well }
-    ensures { Serves (λ m. sync_effect m args.now) (Some call_done) (K.view keeper.old) (K.view keeper.new) result }
+    ensures { Replies K.view keeper.old keeper.new result (λ m. sync_effect m args.now) (Some call_done) }
 {
     let name = name_arg(alloc, args)?;
     match sync_plan(alloc, keeper, &name, args) {

@@ -32,3 +32,7 @@ with_searched m t columns items column of =
 abbrev pub Searches : Names Index → Searched → ((Index → Effect) → Effect) → Type 0
 Searches xs (IndexNamed i) with_index = (x : Index) × ((get xs i ≡ Some x) × ((of : Index → Effect) → with_index of ≡ of x))
 Searches xs (RefusedBy fault) with_index = (of : Index → Effect) → with_index of ≡ Refused (refusal_of fault)
+
+-- the same of a SELECT of these items by this column
+abbrev pub SearchesBy : State → List ℕ → List Column → List Item → List ℕ → Searched → Type 0
+SearchesBy m t columns items column searched = Searches m.indexes searched (with_searched m t columns items column)

@@ -1,7 +1,7 @@
 -- Where the fields of a line come from: the row's key, its numbers, its texts, or the score.
 use Rattle.std.specs.Prelude.{ℕ, ℤ, pos, suc, ◌-◌, ◌==◌, nat_lt, Bool, true, false, List, [], ◌∷◌, map, Option, Some, None, codes, ◌≡◌, refl}
 use Rattle.std.specs.Bool.{if◌then◌else◌}
-use Rattle.std.specs.List.{filter_map, slice_get}
+use Rattle.std.specs.List.{filter_map, list_any, slice_get}
 use Rattle.std.specs.Option.{option_map}
 use Rattle.ct_base.specs.declared.lists.Value.{Value}
 use Rattle.ct_base.specs.declared.lists.Value.TheVariants.{Number as NumberValue, Text as TextValue}
@@ -12,7 +12,11 @@ use Rattle.tb_table.specs.declared.columns.Sort.{Sort}
 use Rattle.tb_table.specs.declared.columns.Sort.TheVariants.{Number as NumberSort, Varchar2, Clob}
 use Rattle.tb_table.specs.declared.columns.Column.{Column}
 use Rattle.std.specs.Map.{lookup}
+use Rattle.ix_context.specs.declared.hits.Hit.{Hit}
 use Rattle.tb_table.specs.Tables.{Tables, row_at, numbers_of, text_of}
+use Rattle.ct_keep.specs.Content.{Content}
+use Rattle.ct_keep.specs.KeeperViews.{KeeperView}
+use Rattle.db_state.specs.States.{State, Stands}
 use Rattle.db_select.specs.Selecting.{values_of}
 use Rattle.db_select.specs.declared.sources.Source.{Source}
 use Rattle.db_select.specs.declared.sources.Source.TheVariants.{Key, Number, Text, Score, Nothing}
@@ -77,9 +81,25 @@ row_values ts t r = values_of (row_at ts t r)
 abbrev pub KnowTexts : List Value → List (ℕ × Option (List ℕ)) → Type 0
 KnowTexts vs texts = (column : ℕ) (text : Option (List ℕ)) → lookup (λ place. column == place) texts ≡ Some text → text ≡ text_of vs column
 
+-- This holds of the values of a row in each state that the content stands for, where the texts that were read of it before are its own.
+abbrev pub OverRow : {K : Type 0} → (K → KeeperView) → K → List ℕ → ℤ → List (ℕ × Option (List ℕ)) → (List Value → Type 0) → Type 0
+OverRow view old t r texts holds = (m : State) (c : Content) → (view old).content ≡ Some c → Stands c m → KnowTexts (row_values m.tables t r) texts → holds (row_values m.tables t r)
+
+-- the numbers of a row, where one of the fields takes a number
+abbrev pub numbers_read : Tables → List ℕ → List Source → ℤ → List ℤ
+numbers_read ts t sources r = if list_any reads_numbers sources then numbers_of (row_values ts t r) else []
+
 -- the fields of a row that was found, with its score
 abbrev pub hit_fields : Tables → List ℕ → List Source → ℤ × ℕ → List Value
 hit_fields ts t sources h = fields sources h.0 (row_values ts t h.0) h.1
+
+-- the fields of a row that was found, by numbers that were read of it
+abbrev pub row_fields_of : Tables → List ℕ → List ℤ → Hit → List Source → List Value
+row_fields_of ts t numbers hit sources = fields_by hit.key.0 numbers (row_values ts t hit.key.0) hit.score sources
+
+-- the fields of a row as it was found
+abbrev pub found_fields : Tables → List ℕ → List Source → Hit → List Value
+found_fields ts t sources hit = hit_fields ts t sources (hit.key.0, hit.score)
 
 -- computed examples: of a table with a key, a number and two texts
 abbrev of_columns : List Column

@@ -2,16 +2,14 @@
 #![tactic(auto, using(ct_keep::specs::Composing::reads_on, ct_keep::specs::Composing::reads_short))]
 
 ghost use Rattle.std.specs.Prelude.{◌≡◌, ◌==◌, [], ◌∷◌, ◌++◌, IfOk, OnOk, Some};
-ghost use Rattle.std.specs.Bool.{if◌then◌else◌};
-ghost use Rattle.std.specs.List.{cons_option, list_any, slice_get};
+ghost use Rattle.std.specs.List.{cons_option, slice_get};
 ghost use Rattle.std.specs.Map.{lookup};
 ghost use Rattle.std.specs.Option.{option_map};
 ghost use Rattle.ct_base.specs.declared.lists.Value.TheVariants.{Number};
-ghost use Rattle.ct_keep.specs.Content.{Content};
 ghost use Rattle.ct_keep.specs.KeeperViews.{OnlyReads};
-ghost use Rattle.tb_table.specs.Tables.{numbers_of, text_of as row_text};
-ghost use Rattle.db_state.specs.States.{State, Stands, Sees};
-ghost use Rattle.db_select.specs.Sources.{KnowTexts, fields_by, reads_numbers, row_values, source_value};
+ghost use Rattle.tb_table.specs.Tables.{text_of as row_text};
+ghost use Rattle.db_state.specs.States.{Sees};
+ghost use Rattle.db_select.specs.Sources.{KnowTexts, OverRow, numbers_read, row_fields_of, source_value};
 
 use crate::sources::{Source, read_numbers};
 use ct_base::{Memory, Name, RowKey, Text, Value};
@@ -45,8 +43,8 @@ fn text_once<K: Keeper>(
     column: u8,
 ) -> Result<Option<Text>, KeepFault>
     requires { (K.view keeper.old).ready }
-    ensures text { (m : State) (c : Content) → (K.view keeper.old).content ≡ Some c → Stands c m → KnowTexts (row_values m.tables table.now row.0) texts.old.items → IfOk result (λ text. text ≡ row_text (row_values m.tables table.now row.0) column) }
-    ensures texts { (m : State) (c : Content) → (K.view keeper.old).content ≡ Some c → Stands c m → KnowTexts (row_values m.tables table.now row.0) texts.old.items → OnOk result (KnowTexts (row_values m.tables table.now row.0) texts.new.items) }
+    ensures text { OverRow K.view keeper.old table.now row.0 texts.old.items (λ vs. IfOk result (λ text. text ≡ row_text vs column)) }
+    ensures texts { OverRow K.view keeper.old table.now row.0 texts.old.items (λ vs. OnOk result (KnowTexts vs texts.new.items)) }
     ensures reads { OnlyReads K.view keeper.old keeper.new result }
 {
     if let Some(text) = known_text(texts, column)? {
@@ -84,8 +82,8 @@ fn field<K: Keeper>(
     source: Source,
 ) -> Result<Option<Value>, KeepFault>
     requires { (K.view keeper.old).ready }
-    ensures value { (m : State) (c : Content) → (K.view keeper.old).content ≡ Some c → Stands c m → KnowTexts (row_values m.tables table.now hit.key.0) texts.old.items → IfOk result (λ value. value ≡ source_value hit.key.0 numbers.now (row_values m.tables table.now hit.key.0) hit.score source) }
-    ensures texts { (m : State) (c : Content) → (K.view keeper.old).content ≡ Some c → Stands c m → KnowTexts (row_values m.tables table.now hit.key.0) texts.old.items → OnOk result (KnowTexts (row_values m.tables table.now hit.key.0) texts.new.items) }
+    ensures value { OverRow K.view keeper.old table.now hit.key.0 texts.old.items (λ vs. IfOk result (λ value. value ≡ source_value hit.key.0 numbers.now vs hit.score source)) }
+    ensures texts { OverRow K.view keeper.old table.now hit.key.0 texts.old.items (λ vs. OnOk result (KnowTexts vs texts.new.items)) }
     ensures reads { OnlyReads K.view keeper.old keeper.new result }
 {
     match source {
@@ -109,7 +107,7 @@ pub(crate) fn row_numbers<K: Keeper>(
     row: RowKey,
 ) -> Result<Vec<i64>, KeepFault>
     requires { (K.view keeper.old).ready }
-    ensures numbers { Sees K.view keeper.old result (λ m numbers. numbers.items ≡ (if list_any reads_numbers sources.now then numbers_of (row_values m.tables table.now row.0) else [])) }
+    ensures numbers { Sees K.view keeper.old result (λ m numbers. numbers.items ≡ numbers_read m.tables table.now sources.now row.0) }
     ensures reads { OnlyReads K.view keeper.old keeper.new result }
 {
     if !read_numbers(sources) {
@@ -141,7 +139,7 @@ pub(crate) fn row_fields<K: Keeper>(
     hit: Hit,
 ) -> Result<Vec<Value>, KeepFault>
     requires { (K.view keeper.old).ready }
-    ensures fields { Sees K.view keeper.old result (λ m fields. fields.items ≡ fields_by hit.key.0 numbers.now (row_values m.tables table.now hit.key.0) hit.score sources.now) }
+    ensures fields { Sees K.view keeper.old result (λ m fields. fields.items ≡ row_fields_of m.tables table.now numbers.now hit sources.now) }
     ensures reads { OnlyReads K.view keeper.old keeper.new result }
 {
     let mut texts = Vec::new(alloc);

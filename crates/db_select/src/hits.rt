@@ -2,11 +2,9 @@
 #![tactic(auto, using(ct_keep::specs::Composing::reads_on, ct_keep::specs::Composing::reads_short))]
 
 ghost use Rattle.std.specs.Prelude.{◌≡◌, nat_lt, map, filter, IfOk, Some};
-ghost use Rattle.std.specs.FinMap.{get};
-ghost use Rattle.ct_keep.specs.Content.{Content};
 ghost use Rattle.ct_keep.specs.KeeperViews.{OnlyReads};
-ghost use Rattle.ix_context.specs.Indexes.{Index, found};
-ghost use Rattle.db_state.specs.States.{State, Stands};
+ghost use Rattle.ix_context.specs.Indexes.{found};
+ghost use Rattle.db_state.specs.States.{OverIndex};
 ghost use Rattle.db_select.specs.Selecting.{query_key};
 
 use ct_base::Name;
@@ -31,7 +29,7 @@ pub(crate) fn hits_above<K: Keeper>(
     above: u32,
 ) -> Result<Vec<Hit>, KeepFault>
     requires { (K.view keeper.old).ready }
-    ensures found { (m : State) (c : Content) (x : Index) → (K.view keeper.old).content ≡ Some c → Stands c m → get m.indexes index.now ≡ Some x → IfOk result (λ hits. map (λ h. (h.key.0, h.score)) hits.items ≡ found m.tables x (query_key query.now) above) }
+    ensures found { OverIndex K.view keeper.old index.now (λ m x. IfOk result (λ hits. map (λ h. (h.key.0, h.score)) hits.items ≡ found m.tables x (query_key query.now) above)) }
     ensures reads { OnlyReads K.view keeper.old keeper.new result }
 {
     let word = key(alloc, query)?;

@@ -2,12 +2,11 @@
 #![tactic(auto, using(ct_keep::specs::Composing::reads_on, ct_keep::specs::Composing::reads_short))]
 
 ghost use Rattle.std.specs.Prelude.{◌≡◌, ◌++◌, map, OnOk, Some};
-ghost use Rattle.ct_keep.specs.Content.{Content};
 ghost use Rattle.ct_keep.specs.KeeperViews.{OnlyReads};
 ghost use Rattle.db_cond.specs.Lines.{line as printed_line};
-ghost use Rattle.db_state.specs.States.{State, Stands, Sees};
+ghost use Rattle.db_state.specs.States.{OverStates, Sees};
 ghost use Rattle.db_state.specs.Lines.{lines_or_none};
-ghost use Rattle.db_select.specs.Sources.{hit_fields};
+ghost use Rattle.db_select.specs.Sources.{found_fields};
 
 use crate::fields::{row_fields, row_numbers};
 use crate::sources::Source;
@@ -28,7 +27,7 @@ fn push_row<K: Keeper>(
     hit: Hit,
 ) -> Result<(), KeepFault>
     requires { (K.view keeper.old).ready }
-    ensures line { (m : State) (c : Content) → (K.view keeper.old).content ≡ Some c → Stands c m → OnOk result (lines.new.items ≡ lines.old.items ++ printed_line (hit_fields m.tables table.now sources.now (hit.key.0, hit.score))) }
+    ensures line { OverStates K.view keeper.old (λ m c. OnOk result (lines.new.items ≡ lines.old.items ++ printed_line (found_fields m.tables table.now sources.now hit))) }
     ensures reads { OnlyReads K.view keeper.old keeper.new result }
 {
     let numbers = row_numbers(alloc, keeper, table, sources, hit.key)?;
@@ -47,7 +46,7 @@ pub(crate) fn hit_lines<K: Keeper>(
     hits: &[Hit],
 ) -> Result<Vec<u8>, KeepFault>
     requires { (K.view keeper.old).ready }
-    ensures lines { Sees K.view keeper.old result (λ m lines. lines.items ≡ lines_or_none (map (λ h. hit_fields m.tables table.now sources.now (h.key.0, h.score)) hits.now)) }
+    ensures lines { Sees K.view keeper.old result (λ m lines. lines.items ≡ lines_or_none (map (found_fields m.tables table.now sources.now) hits.now)) }
     ensures reads { OnlyReads K.view keeper.old keeper.new result }
 {
     if hits.is_empty() {

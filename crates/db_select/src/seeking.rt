@@ -2,10 +2,9 @@
 #![tactic(auto, using(ct_keep::specs::Composing::reads_on, ct_keep::specs::Composing::reads_short))]
 
 ghost use Rattle.std.specs.Prelude.{◌≡◌, ◌≤◌, ◌<◌, length, IfOk, Some};
-ghost use Rattle.ct_keep.specs.Content.{Content};
 ghost use Rattle.ct_keep.specs.KeeperViews.{OnlyReads};
-ghost use Rattle.db_state.specs.States.{State, Stands};
-ghost use Rattle.db_select.specs.Seeking.{Searches, with_searched};
+ghost use Rattle.db_state.specs.States.{OverStates};
+ghost use Rattle.db_select.specs.Seeking.{SearchesBy};
 
 use crate::checks::{Searched, first_unknown};
 use ct_base::{Memory, Name};
@@ -27,7 +26,7 @@ pub(crate) fn searched_index<'a, K: Keeper>(
     column: &'a Name,
 ) -> Result<Searched<'a>, KeepFault>
     requires { (K.view keeper.old).ready }
-    ensures searched { (m : State) (c : Content) → (K.view keeper.old).content ≡ Some c → Stands c m → length columns.now ≤ 256 → IfOk result (λ found. Searches m.indexes found (with_searched m table.now columns.now items.now column.now)) }
+    ensures searched { OverStates K.view keeper.old (λ m c. length columns.now ≤ 256 → IfOk result (SearchesBy m table.now columns.now items.now column.now)) }
     ensures reads { OnlyReads K.view keeper.old keeper.new result }
 {
     if let Some(name) = first_unknown(items, columns) {

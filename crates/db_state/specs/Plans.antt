@@ -77,6 +77,15 @@ abbrev pub ReturnsBy : Option (List ℕ) → KeeperView → KeeperView → Resul
 ReturnsBy None old new result = Reads old new (fault_of result)
 ReturnsBy (Some done) old new result = Returns done old new result
 
+-- the reply of this effect, unless the call failed
+abbrev pub GivesReply : Result (Vec ℕ Global) KeepFault → Effect → Type 0
+GivesReply result effect = IfOk result (λ reply. reply.items ≡ reply_by effect)
+
+-- What a commit of this batch with this reply gave, of each state from which the batch may have been made.
+abbrev pub CommitGives : List (List ℕ × Option (List ℕ)) → List ℕ → KeeperView → KeeperView → Result (Vec ℕ Global) KeepFault → Type 0
+CommitGives batch reply old new result =
+    (m n : State) (c : Content) → old.content ≡ Some c → are_bounded batch ≡ true → Stands (after batch c) n → Gives m (Does n reply) c old new result
+
 -- ---- the function of a statement
 
 -- What it returned, by the statement's effect in each state, and by the line by which the statement says that its change is made (None where it changes nothing).
@@ -95,6 +104,14 @@ IsPlan effect line c (PlanDone batch) = (n : State) × (effect ≡ Does n line) 
 -- A plan is that of the statement over each state that the content stands for.
 pub record Fits (effect : State → Effect) (line : List ℕ) (old : KeeperView) (plan : Plan) : Type 0 where
   pub made : (m : State) (c : Content) → old.content ≡ Some c → Stands c m → IsPlan (effect m) line c plan
+
+-- What a call that carries out a plan returned: of each statement whose plan it is.
+abbrev pub CarriesOut : {K : Type 0} → (K → KeeperView) → K → K → Result (Vec ℕ Global) KeepFault → Plan → List ℕ → Type 0
+CarriesOut view old new result plan line = (effect : State → Effect) → Fits effect line (view old) plan → Serves effect (Some line) (view old) (view new) result
+
+-- What the function of a statement returned, by the view of the keeper before and after it.
+abbrev pub Replies : {K : Type 0} → (K → KeeperView) → K → K → Result (Vec ℕ Global) KeepFault → (State → Effect) → Option (List ℕ) → Type 0
+Replies view old new result effect line = Serves effect line (view old) (view new) result
 
 -- The call gave a plan of the statement, unless it failed.
 abbrev pub Plans : {K : Type 0} → (K → KeeperView) → K → Result Plan KeepFault → (State → Effect) → List ℕ → Type 0

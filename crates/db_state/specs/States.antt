@@ -81,6 +81,20 @@ pub record Stands (c : Content) (m : State) : Type 0 where
   pub indexes : IndexesStand (at c) m.tables m.indexes
   pub state : IsState m
 
--- What a call gave over each state that the content stands for, unless it failed.
+-- ---- what calls say of the states that a keeper's content stands for, by the view of the keeper before them
+
+-- This holds over each state that the content stands for, where it is told.
+abbrev pub OverStates : {K : Type 0} → (K → KeeperView) → K → (State → Content → Type 0) → Type 0
+OverStates view old holds = (m : State) (c : Content) → (view old).content ≡ Some c → Stands c m → holds m c
+
+-- This holds of the table of this name, where there is one.
+abbrev pub OverTable : {K : Type 0} → (K → KeeperView) → K → List ℕ → (State → Content → Table → Type 0) → Type 0
+OverTable view old t holds = (m : State) (c : Content) (x : Table) → (view old).content ≡ Some c → Stands c m → get m.tables t ≡ Some x → holds m c x
+
+-- This holds of the index of this name, where there is one.
+abbrev pub OverIndex : {K : Type 0} → (K → KeeperView) → K → List ℕ → (State → Index → Type 0) → Type 0
+OverIndex view old i holds = (m : State) (c : Content) (x : Index) → (view old).content ≡ Some c → Stands c m → get m.indexes i ≡ Some x → holds m x
+
+-- What a call gave, unless it failed.
 abbrev pub Sees : {K T : Type 0} → (K → KeeperView) → K → Result T KeepFault → (State → T → Type 0) → Type 0
-Sees view old result gives = (m : State) (c : Content) → (view old).content ≡ Some c → Stands c m → IfOk result (gives m)
+Sees view old result gives = OverStates view old (λ m c. IfOk result (gives m))

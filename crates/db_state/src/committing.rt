@@ -8,7 +8,7 @@ ghost use Rattle.ct_keep.specs.KeeperViews.{Kept, counted, fault_of, is_full};
 ghost use Rattle.ct_keep.specs.Spoken.{spoken};
 ghost use Rattle.db_state.specs.States.{State, Stands, TakesAll};
 ghost use Rattle.db_state.specs.Effects.{Does};
-ghost use Rattle.db_state.specs.Plans.{Gives, Returns};
+ghost use Rattle.db_state.specs.Plans.{CommitGives, Returns};
 ghost use Rattle.db_state.specs.Committing.{are_bounded, is_bounded};
 
 use ct_base::Memory;
@@ -58,7 +58,7 @@ pub(crate) fn commit<K: Keeper>(
     requires takes { TakesAll (K.view keeper.old).fixed.well }
     ensures kept { Kept (K.view keeper.old) (K.view keeper.new) (fault_of result) }
     ensures fulls { (K.view keeper.new).counts.fulls ≡ counted (is_full (fault_of result)) (K.view keeper.old).counts.fulls }
-    ensures gives { (m n : State) (c : Content) → (K.view keeper.old).content ≡ Some c → are_bounded batch ≡ true → Stands (after batch c) n → Gives m (Does n reply.items) c (K.view keeper.old) (K.view keeper.new) result }
+    ensures gives { CommitGives batch reply.items (K.view keeper.old) (K.view keeper.new) result }
     ensures tells { Returns reply.items (K.view keeper.old) (K.view keeper.new) result }
 {
     if !are_bounded(batch.changes()) {

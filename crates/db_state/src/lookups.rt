@@ -7,7 +7,7 @@ ghost use Rattle.std.specs.FinMap.{get, entries};
 ghost use Rattle.ct_keep.specs.Content.{Content};
 ghost use Rattle.ct_keep.specs.KeeperViews.{OnlyReads};
 ghost use Rattle.tb_table.specs.Tables.{Table};
-ghost use Rattle.db_state.specs.States.{State, Stands, is_view as is_view_name, most_tables, Sees};
+ghost use Rattle.db_state.specs.States.{OverStates, State, Stands, is_view as is_view_name, most_tables, Sees};
 ghost use Rattle.db_state.specs.Lookups.{FoundOn};
 
 use ct_base::{Memory, Name};
@@ -82,7 +82,7 @@ pub fn context_index<K: Keeper>(
     place: usize,
 ) -> Result<Option<Name>, KeepFault>
     requires { (K.view keeper.old).ready }
-    ensures found { (m : State) (c : Content) → (K.view keeper.old).content ≡ Some c → Stands c m → place < 256 → IfOk result (λ found. FoundOn m.indexes table.now place found) }
+    ensures found { OverStates K.view keeper.old (λ m c. place < 256 → IfOk result (FoundOn m.indexes table.now place)) }
     ensures reads { OnlyReads K.view keeper.old keeper.new result }
 {
     let Ok(column) = u8::try_from(place) else {

@@ -1,10 +1,8 @@
 //! What a statement that changes something comes to, before its commit.
 #![tactic(auto, using(ct_keep::specs::Composing::reads_on, ct_keep::specs::Composing::reads_short))]
 
-ghost use Rattle.std.specs.Prelude.{Some};
-ghost use Rattle.db_state.specs.States.{State, TakesAll};
-ghost use Rattle.db_state.specs.Effects.{Effect};
-ghost use Rattle.db_state.specs.Plans.{Fits, Serves};
+ghost use Rattle.db_state.specs.States.{TakesAll};
+ghost use Rattle.db_state.specs.Plans.{CarriesOut};
 
 use crate::committing::{commit, fixed_reply};
 use ct_keep::{Batch, KeepFault, Keeper};
@@ -29,7 +27,7 @@ fn commit_batch<K: Keeper>(
 ) -> Result<Vec<u8>, KeepFault>
     requires ready { (K.view keeper.old).ready }
     requires takes { TakesAll (K.view keeper.old).fixed.well }
-    ensures { (effect : State → Effect) → Fits effect line.now (K.view keeper.old) (Plan.Done batch) → Serves effect (Some line.now) (K.view keeper.old) (K.view keeper.new) result }
+    ensures { CarriesOut K.view keeper.old keeper.new result (Plan.Done batch) line.now }
 {
     let reply = fixed_reply(alloc, line)?;
     commit(alloc, keeper, batch, reply)
@@ -44,7 +42,7 @@ pub fn carry_out<K: Keeper>(
 ) -> Result<Vec<u8>, KeepFault>
     requires ready { (K.view keeper.old).ready }
     requires takes { TakesAll (K.view keeper.old).fixed.well }
-    ensures { (effect : State → Effect) → Fits effect line.now (K.view keeper.old) plan.entry → Serves effect (Some line.now) (K.view keeper.old) (K.view keeper.new) result }
+    ensures { CarriesOut K.view keeper.old keeper.new result plan.entry line.now }
 {
     match plan {
         Plan::Refused(fault) => Ok(fault_line(alloc, fault)?),

@@ -7,10 +7,10 @@ use Rattle.db_index.proofs.IndexChecks.{holds_tables}
 use Rattle.db_index.proofs.indexing.created.Goals as goal
 
 pub returns-in_default-clause-changes : goal.returns-in_default-clause-changes
-returns-in_default-clause-changes g c = λ m k x holds stands small free. absurd (omega (arith, small, c.in_default.ensures))
+returns-in_default-clause-changes g c = λ m k holds stands x small free. absurd (omega (arith, small, c.in_default.ensures))
 
 pub returns-in-Ok-create-clause-changes : goal.returns-in-Ok-create-clause-changes
-returns-in-Ok-create-clause-changes g c = λ m k x holds stands small free.
+returns-in-Ok-create-clause-changes g c = λ m k holds stands x small free.
     let i = c.args.index.now in
     let on : c.in_ok-target.target ≡ target c.args.table.now c.args.place = c.in_ok-target.ensures ∙ ap (λ (n : ℕ). target c.args.table.now n) c.in-Ok.ensures.1 in
     c.in-Ok-create.ensures.changes k m.tables holds (holds_tables k m stands) ∙ ap (λ (b : List (List ℕ × Option (List ℕ))). b ++ spell (create_changes m.tables i c.in_ok-target.target all_rows)) c.new-batch.ensures

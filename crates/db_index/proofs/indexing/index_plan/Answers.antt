@@ -41,5 +41,5 @@ returns-clause-plan g c =
     let few = (stands.state.tables.each c.args.table.now x.0 x.1).columns.few in (
       _,
       known_column m c.args.index.now c.args.table.now c.args.column.now x.0 c.in-Some-place_of.place x.1 place,
-      c.plan_on.ensures.plan m k x.0 (reads_hold _ _ k c.in_ok-columns.ensures.reads holds) stands (omega (arith, within, few)) x.1 (c.deref-2.ensures.value ∙ x.2),
+      c.plan_on.ensures.plan m k x.0 (reads_hold _ _ k c.in_ok-columns.ensures.reads holds) stands x.1 (omega (arith, within, few)) (c.deref-2.ensures.value ∙ x.2),
     ))

@@ -11,24 +11,24 @@ use Rattle.db_index.proofs.NewMarks.{found_none, found_some, new_index_stands, n
 use Rattle.db_index.proofs.indexing.plan_on.Goals as goal
 
 pub returns-in-Some-clause-plan : goal.returns-in-Some-clause-plan
-returns-in-Some-clause-plan g c = λ m k x holds stands small there columns.
+returns-in-Some-clause-plan g c = λ m k x holds stands there small columns.
     let i = c.args.index.now in let t = c.args.table.now in let place = c.args.place in
     index_as m i t x place c.in_ok-there.there c.is_text_at.result c.in_ok-many.many stands.state.tables there (c.in_ok-there.ensures.taken m k holds stands small) (c.is_text_at.ensures ∙ ap (λ cs. is_text_at cs place) columns)
     (c.in_ok-many.ensures.many m k (reads_hold _ _ k c.in_ok-there.ensures.reads holds) stands)
     ∙ refused c.index_fault.result c.in-Some.fault _ _ c.in-Some.is (c.index_fault.ensures.checks (Does (with_new_index m i t place) index_created))
 
 pub returns-in_default-found-clause-plan : goal.returns-in_default-found-clause-plan
-returns-in_default-found-clause-plan g c = λ m k x holds stands small there columns.
+returns-in_default-found-clause-plan g c = λ m k x holds stands there small columns.
     let i = c.args.index.now in let t = c.args.table.now in let place = c.args.place in
     let after = reads_hold _ _ k (reads_on _ _ _ _ c.in_ok-there.ensures.reads c.in_ok-many.ensures.reads) holds in
     let is =
     index_as m i t x place c.in_ok-there.there c.is_text_at.result c.in_ok-many.many stands.state.tables there (c.in_ok-there.ensures.taken m k holds stands small) (c.is_text_at.ensures ∙ ap (λ cs. is_text_at cs place) columns)
     (c.in_ok-many.ensures.many m k (reads_hold _ _ k c.in_ok-there.ensures.reads holds) stands)
     ∙ checked c.index_fault.result _ _ c.in_default.is (c.index_fault.ensures.checks (Does (with_new_index m i t place) index_created)) in
-    absurd (found_none c.in_ok-found.found _ _ c.in_default-found.is (c.in_ok-found.ensures.changes m k x after stands small (index_free m i t x place _ _ there is)))
+    absurd (found_none c.in_ok-found.found _ _ c.in_default-found.is (c.in_ok-found.ensures.changes m k after stands x small (index_free m i t x place _ _ there is)))
 
 pub returns-clause-plan : goal.returns-clause-plan
-returns-clause-plan g c = λ m k x holds stands small there columns.
+returns-clause-plan g c = λ m k x holds stands there small columns.
     let i = c.args.index.now in let t = c.args.table.now in let place = c.args.place in
     let held = reads_hold _ _ k (reads_on _ _ _ _ c.in_ok-there.ensures.reads c.in_ok-many.ensures.reads) holds in
     let is =
@@ -36,7 +36,7 @@ returns-clause-plan g c = λ m k x holds stands small there columns.
     (c.in_ok-many.ensures.many m k (reads_hold _ _ k c.in_ok-there.ensures.reads holds) stands)
     ∙ checked c.index_fault.result _ _ c.in_default.is (c.index_fault.ensures.checks (Does (with_new_index m i t place) index_created)) in
     let free = index_free m i t x place _ _ there is in
-    let changes = found_some c.in_ok-found.found c.in-Some-found.batch _ _ c.in-Some-found.is (c.in_ok-found.ensures.changes m k x held stands small free) in (
+    let changes = found_some c.in_ok-found.found c.in-Some-found.batch _ _ c.in-Some-found.is (c.in_ok-found.ensures.changes m k held stands x small free) in (
       with_new_index m i t place,
       is,
       ap are_bounded changes ∙ new_index_bounded k m i t x place stands c.index_fault.ensures.named free,
