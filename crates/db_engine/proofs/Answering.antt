@@ -15,11 +15,11 @@ use Rattle.db_index.specs.Syncing.{sync_index}
 use Rattle.db_index.specs.Tokenizing.{policy_tokens}
 use Rattle.db_engine.specs.Runs.{Step, NoMemory, Full}
 use Rattle.db_state.specs.Plans.{Moves, Gives}
-use Rattle.db_engine.specs.Executing.{IsFullReply, Answers}
+use Rattle.db_engine.specs.Executing.{IsFullReply, IsAnswered}
 use Rattle.db_engine.specs.declared.replies.Reply.{Reply}
 use Rattle.db_engine.specs.declared.replies.Reply.TheVariants.{Text as ReplyText, NoMemory as ReplyNoMemory}
 
-pub answers_step : (m : State) (effect : Effect) (may : Bool) (c : Content) (old new : KeeperView) (v : Vec ℕ Global) (reply : List ℕ) → reply ≡ v.items → Gives m effect c old new (Ok v) → Answers m effect may c old new (ReplyText reply)
+pub answers_step : (m : State) (effect : Effect) (may : Bool) (c : Content) (old new : KeeperView) (v : Vec ℕ Global) (reply : List ℕ) → reply ≡ v.items → Gives m effect c old new (Ok v) → IsAnswered m effect may c old new (ReplyText reply)
 answers_step m effect may c old new v reply is gives = record {
   answer = Step;
   moves = gives.moves;
@@ -29,7 +29,7 @@ answers_step m effect may c old new v reply is gives = record {
   fulls = λ e. cc;
 }
 
-pub answers_memory : (m : State) (effect : Effect) (may : Bool) (c : Content) (old new : KeeperView) → Gives m effect c old new (Err Memory) → Answers m effect may c old new ReplyNoMemory
+pub answers_memory : (m : State) (effect : Effect) (may : Bool) (c : Content) (old new : KeeperView) → Gives m effect c old new (Err Memory) → IsAnswered m effect may c old new ReplyNoMemory
 answers_memory m effect may c old new gives = record {
   answer = NoMemory;
   moves = gives.moves;
@@ -52,7 +52,7 @@ moves_short m effect c old new moves = record {
   same = moves.same;
 }
 
-pub answers_full : (m : State) (effect : Effect) (may : Bool) (c : Content) (old new : KeeperView) (reply : Reply) → IsFullReply reply → may ≡ true → new.counts.fulls ≡ counted true old.counts.fulls → Gives m effect c old new (Err NoRoom) → Answers m effect may c old new reply
+pub answers_full : (m : State) (effect : Effect) (may : Bool) (c : Content) (old new : KeeperView) (reply : Reply) → IsFullReply reply → may ≡ true → new.counts.fulls ≡ counted true old.counts.fulls → Gives m effect c old new (Err NoRoom) → IsAnswered m effect may c old new reply
 answers_full m effect may c old new (ReplyText reply) is fills fulls gives = record {
   answer = Full;
   moves = gives.moves;

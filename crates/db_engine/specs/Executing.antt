@@ -47,7 +47,7 @@ IsFullReply (ReplyText reply) = reply ≡ store_full
 IsFullReply ReplyNoMemory = Unit {0}
 
 -- A statement with this effect was answered. `may` tells whether it may fill the store.
-pub record Answers (m : State) (effect : Effect) (may : Bool) (c : Content) (old new : KeeperView) (reply : Reply) : Type 0 where
+pub record IsAnswered (m : State) (effect : Effect) (may : Bool) (c : Content) (old new : KeeperView) (reply : Reply) : Type 0 where
   pub answer : Answer
   pub moves : Moves m effect c old new (fault_for answer)
   pub says : IsReplyBy answer effect reply
@@ -56,7 +56,7 @@ pub record Answers (m : State) (effect : Effect) (may : Bool) (c : Content) (old
   pub fulls : answer ≡ Full → Rose old.counts.fulls new.counts.fulls
 
 abbrev pub Executes : State → Effect → Bool → Content → KeeperView → KeeperView → Result Reply Stop → Type 0
-Executes m effect may c old new (Ok reply) = Answers m effect may c old new reply
+Executes m effect may c old new (Ok reply) = IsAnswered m effect may c old new reply
 Executes m effect may c old new (Err DiskStop) = Moves m effect c old new (Some Disk)
 
 -- The statement was answered so over each state that the content stands for, where it is told.

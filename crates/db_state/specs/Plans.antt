@@ -102,12 +102,12 @@ IsPlan effect line c (PlanRefused fault) = effect ≡ Refused (refusal_of fault)
 IsPlan effect line c (PlanDone batch) = (n : State) × (effect ≡ Does n line) × (are_bounded batch ≡ true) × Stands (after batch c) n
 
 -- A plan is that of the statement over each state that the content stands for.
-pub record Fits (effect : State → Effect) (line : List ℕ) (old : KeeperView) (plan : Plan) : Type 0 where
+pub record IsPlanOf (effect : State → Effect) (line : List ℕ) (old : KeeperView) (plan : Plan) : Type 0 where
   pub made : (m : State) (c : Content) → old.content ≡ Some c → Stands c m → IsPlan (effect m) line c plan
 
 -- What a call that carries out a plan returned: of each statement whose plan it is.
 abbrev pub CarriesOut : {K : Type 0} → (K → KeeperView) → K → K → Result (Vec ℕ Global) KeepFault → Plan → List ℕ → Type 0
-CarriesOut view old new result plan line = (effect : State → Effect) → Fits effect line (view old) plan → Serves effect (Some line) (view old) (view new) result
+CarriesOut view old new result plan line = (effect : State → Effect) → IsPlanOf effect line (view old) plan → Serves effect (Some line) (view old) (view new) result
 
 -- What the function of a statement returned, by the view of the keeper before and after it.
 abbrev pub Replies : {K : Type 0} → (K → KeeperView) → K → K → Result (Vec ℕ Global) KeepFault → (State → Effect) → Option (List ℕ) → Type 0
@@ -115,4 +115,4 @@ Replies view old new result effect line = Serves effect line (view old) (view ne
 
 -- The call gave a plan of the statement, unless it failed.
 abbrev pub Plans : {K : Type 0} → (K → KeeperView) → K → Result Plan KeepFault → (State → Effect) → List ℕ → Type 0
-Plans view old result effect line = IfOk result (Fits effect line (view old))
+Plans view old result effect line = IfOk result (IsPlanOf effect line (view old))

@@ -12,7 +12,7 @@ use Rattle.db_cond.specs.Faults.{Refusal, refusal_line}
 use Rattle.db_state.specs.States.{State, Stands}
 use Rattle.db_state.specs.Effects.{Effect, Refused, Does, state_by, reply_by}
 use Rattle.db_state.specs.Committing.{are_bounded}
-use Rattle.db_state.specs.Plans.{Gives, Returns, ReturnsBy, Serves, Fits, IsPlan}
+use Rattle.db_state.specs.Plans.{Gives, Returns, ReturnsBy, Serves, IsPlanOf, IsPlan}
 use Rattle.db_state.specs.declared.plans.Plan.{Plan}
 use Rattle.db_state.specs.declared.plans.Plan.TheVariants.{Done}
 use Rattle.db_state.specs.laws.Giving.{gives_failed, gives_line, gives_then, gives_as, gives_read, reads_fulls}
@@ -91,11 +91,11 @@ serves_then effect line old mid new result reads serves = record {
 }
 
 -- a plan that was made by the reads
-pub fits_then : (effect : State → Effect) (line : List ℕ) (old mid : KeeperView) (plan : Plan) → Reads old mid None → Fits effect line old plan → Fits effect line mid plan
-fits_then effect line old mid plan reads fits = record { made = λ m c holds stands. fits.made m c (sym reads.content ∙ holds) stands }
+pub plan_then : (effect : State → Effect) (line : List ℕ) (old mid : KeeperView) (plan : Plan) → Reads old mid None → IsPlanOf effect line old plan → IsPlanOf effect line mid plan
+plan_then effect line old mid plan reads fits = record { made = λ m c holds stands. fits.made m c (sym reads.content ∙ holds) stands }
 
 -- the commit of a batch, by what is promised of it for every state
-pub serves_batch : (effect : State → Effect) (line : List ℕ) (batch : List (List ℕ × Option (List ℕ))) (reply : List ℕ) (old new : KeeperView) (result : Result (Vec ℕ Global) KeepFault) → reply ≡ line → Fits effect line old (Done batch)
+pub serves_batch : (effect : State → Effect) (line : List ℕ) (batch : List (List ℕ × Option (List ℕ))) (reply : List ℕ) (old new : KeeperView) (result : Result (Vec ℕ Global) KeepFault) → reply ≡ line → IsPlanOf effect line old (Done batch)
     → Kept old new (fault_of result) → new.counts.fulls ≡ counted (is_full (fault_of result)) old.counts.fulls
     → ((m n : State) (c : Content) → old.content ≡ Some c → are_bounded batch ≡ true → Stands (after batch c) n → Gives m (Does n reply) c old new result) → Returns reply old new result → Serves effect (Some line) old new result
 serves_batch effect line batch reply old new result same fits kept fulls gives tells = record {
@@ -118,6 +118,6 @@ serves_as effect effect' line line' old new result same is serves = record {
 
 -- a plan that another call made, of the effect as it is computed in each state
 pub plans_as : (effect : State → Effect) (line : List ℕ) (old : KeeperView) (result : Result Plan KeepFault)
-    → ((m : State) (c : Content) → old.content ≡ Some c → Stands c m → (e : Effect) × (effect m ≡ e) × IfOk result (IsPlan e line c)) → IfOk result (Fits effect line old)
+    → ((m : State) (c : Content) → old.content ≡ Some c → Stands c m → (e : Effect) × (effect m ≡ e) × IfOk result (IsPlan e line c)) → IfOk result (IsPlanOf effect line old)
 plans_as effect line old (Err fault) of = tt
 plans_as effect line old (Ok plan) of = record { made = λ m c holds stands. let p = of m c holds stands in subst (λ (e : Effect). IsPlan e line c plan) (sym p.1) p.2 }
