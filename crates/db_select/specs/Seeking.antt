@@ -1,11 +1,12 @@
 -- What the checks of a SELECT find: the index that is searched, and the number above which scores are.
-use Rattle.std.specs.Prelude.{ℕ, ◌≡◌, List, Option, Some, Result, Ok, Err}
+use Rattle.std.specs.Prelude.{ℕ, ◌≡◌, List, Option, Some, Result, Ok, Err, refl}
 use Rattle.std.specs.FinMap.{get}
 use Rattle.ct_entry.specs.Maps.{Names}
 use Rattle.st_parse.specs.declared.statements.Item.{Item}
 use Rattle.tb_table.specs.declared.columns.Column.{Column}
 use Rattle.ix_context.specs.Indexes.{Index}
 use Rattle.db_cond.specs.declared.faults.Fault.{Fault}
+use Rattle.db_cond.specs.declared.faults.Fault.TheVariants.{NoIndexOfKind as NoIndex}
 use Rattle.db_cond.specs.Refused.{refusal_of}
 use Rattle.db_cond.specs.Faults.{UnknownName, NoIndexOfKind}
 use Rattle.db_state.specs.States.{State}
@@ -36,3 +37,10 @@ Searches xs (RefusedBy fault) with_index = (of : Index → Effect) → with_inde
 -- the same of a SELECT of these items by this column
 abbrev pub SearchesBy : State → List ℕ → List Column → List Item → List ℕ → Searched → Type 0
 SearchesBy m t columns items column searched = Searches m.indexes searched (with_searched m t columns items column)
+
+-- computed examples: a threshold that no check refuses, and a search that is refused
+above_five : ChecksAbove (Ok 5) (Some 5) (λ done. done)
+above_five = (refl, λ done. refl)
+
+no_index : (xs : Names Index) → Searches xs (RefusedBy NoIndex) (λ of. Refused NoIndexOfKind)
+no_index xs = λ of. refl

@@ -1,8 +1,8 @@
 -- The index on a column, and its name.
-use Rattle.std.specs.Prelude.{ℕ, ◌≡◌, List, Option, Some, None, ◌==◌, ◌&&◌, [], ◌∷◌}
+use Rattle.std.specs.Prelude.{ℕ, ◌≡◌, List, Option, Some, None, ◌==◌, ◌&&◌, [], ◌∷◌, codes, refl}
 use Rattle.std.specs.FinMap.{get, entries}
-use Rattle.ct_entry.specs.Maps.{Names}
-use Rattle.ix_context.specs.Indexes.{Index}
+use Rattle.ct_entry.specs.Maps.{Names, Rows}
+use Rattle.ix_context.specs.Indexes.{Index, Mark}
 use Rattle.std.specs.Bool.{if◌then◌else◌}
 use Rattle.ct_entry.specs.Keys.{same_list}
 
@@ -18,3 +18,13 @@ index_on xs t place = index_among t place (entries xs)
 abbrev pub FoundOn : Names Index → List ℕ → ℕ → Option (List ℕ) → Type 0
 FoundOn xs t place (Some i) = (x : Index) × ((get xs i ≡ Some x) × (index_on xs t place ≡ Some x))
 FoundOn xs t place None = index_on xs t place ≡ None
+
+-- computed examples: two indexes on columns of `docs`, whatever their marks, and none on another column
+abbrev on_docs : ℕ → Rows Mark → Index
+on_docs column marks = record { table = codes "docs"; column = column; given = 0; marks = marks }
+
+the_second : (ms : Rows Mark) → index_among (codes "docs") 2 ((codes "di", on_docs 1 ms) ∷ (codes "dj", on_docs 2 ms) ∷ []) ≡ Some (on_docs 2 ms)
+the_second ms = refl
+
+none_on_it : (ms : Rows Mark) → index_among (codes "docs") 3 ((codes "di", on_docs 1 ms) ∷ (codes "dj", on_docs 2 ms) ∷ []) ≡ None
+none_on_it ms = refl

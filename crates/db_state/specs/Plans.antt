@@ -1,11 +1,12 @@
 -- What executing a statement does to what is known of a keeper.
-use Rattle.std.specs.Prelude.{ℕ, ◌≡◌, ◌<◌, ◌⊎◌, true, false, List, Option, Some, None, Result, Ok, Err, Vec, IfOk}
+use Rattle.std.specs.Prelude.{ℕ, ◌≡◌, ◌<◌, ◌⊎◌, true, false, List, Option, Some, None, Result, Ok, Err, Vec, IfOk, [], refl}
 use Rattle.std.specs.declared.alloc.Global.{Global}
 use Rattle.ct_keep.specs.Content.{Content, after}
 use Rattle.ct_keep.specs.declared.keepers.KeepFault.{KeepFault}
 use Rattle.ct_keep.specs.declared.keepers.KeepFault.TheVariants.{Memory, Disk, Full as NoRoom}
 use Rattle.ct_keep.specs.KeeperViews.{KeeperView, Kept, Reads, Goes, IsSettled, fault_of, counted, is_full}
-use Rattle.db_cond.specs.Faults.{Refusal, refusal_line}
+use Rattle.db_cond.specs.Faults.{Refusal, WrongValues, refusal_line}
+use Rattle.db_cond.specs.declared.faults.Fault.TheVariants.{WrongValues as WrongValuesFault}
 use Rattle.db_state.specs.States.{State, Stands}
 use Rattle.db_state.specs.Effects.{Effect, Refused, Does, state_by, reply_by, is_done}
 use Rattle.db_state.specs.Committing.{are_bounded}
@@ -116,3 +117,10 @@ Replies view old new result effect line = Serves effect line (view old) (view ne
 -- The call gave a plan of the statement, unless it failed.
 abbrev pub Plans : {K : Type 0} → (K → KeeperView) → K → Result Plan KeepFault → (State → Effect) → List ℕ → Type 0
 Plans view old result effect line = IfOk result (IsPlanOf effect line (view old))
+
+-- computed examples: the plan of a statement that is refused, and the reply that an effect gives
+a_refusal : (c : Content) → IsPlan (Refused WrongValues) [] c (PlanRefused WrongValuesFault)
+a_refusal c = refl
+
+its_content : (m : State) (c : Content) → StandsBy (Some Memory) m (Refused WrongValues) c c
+its_content m c = refl

@@ -1,5 +1,5 @@
 -- What the statements so far have made.
-use Rattle.std.specs.Prelude.{ℕ, ◌≡◌, ◌≤◌, Bool, true, false, ◌||◌, List, length, filter, Some, None, Result, IfOk, codes, bytes_eq}
+use Rattle.std.specs.Prelude.{ℕ, ◌≡◌, ◌≤◌, Bool, true, false, ◌||◌, List, length, filter, Some, None, Result, IfOk, codes, bytes_eq, refl}
 use Rattle.std.specs.FinMap.{get, empty, entries}
 use Rattle.ct_keep.specs.declared.keepers.KeepFault.{KeepFault}
 use Rattle.ct_keep.specs.Content.{Content}
@@ -98,3 +98,13 @@ OverIndex view old i holds = (m : State) (c : Content) (x : Index) → (view old
 -- What a call gave, unless it failed.
 abbrev pub Sees : {K T : Type 0} → (K → KeeperView) → K → Result T KeepFault → (State → T → Type 0) → Type 0
 Sees view old result gives = OverStates view old (λ m c. IfOk result (gives m))
+
+-- computed examples: a name that no table has, one that a table may have, and a kind of entries that nothing has yet
+a_view : is_view (codes "ctx_user_pending") ≡ true
+a_view = refl
+
+no_view : is_view (codes "ctx_user") ≡ false
+no_view = refl
+
+rules_to_come : is_built kind.Rules ≡ false
+rules_to_come = refl
