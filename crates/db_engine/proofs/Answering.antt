@@ -15,9 +15,9 @@ use Rattle.db_index.specs.Syncing.{sync_index}
 use Rattle.db_index.specs.Tokenizing.{policy_tokens}
 use Rattle.db_engine.specs.Runs.{Step, NoMemory, Full}
 use Rattle.db_state.specs.Plans.{Moves, Gives}
-use Rattle.db_engine.specs.Executing.{IsFullReply, IsAnswered}
+use Rattle.db_engine.specs.Executing.{IsAnswered}
 use Rattle.db_engine.specs.declared.replies.Reply.{Reply}
-use Rattle.db_engine.specs.declared.replies.Reply.TheVariants.{Text as ReplyText, NoMemory as ReplyNoMemory}
+use Rattle.db_engine.specs.declared.replies.Reply.TheVariants.{Text as ReplyText, Full as ReplyFull, NoMemory as ReplyNoMemory}
 
 pub answers_step : (m : State) (effect : Effect) (may : Bool) (c : Content) (old new : KeeperView) (v : Vec ℕ Global) (reply : List ℕ) → reply ≡ v.items → Gives m effect c old new (Ok v) → IsAnswered m effect may c old new (ReplyText reply)
 answers_step m effect may c old new v reply is gives = record {
@@ -43,31 +43,14 @@ answers_memory m effect may c old new gives = record {
 pub rose : (old new : ℕ) → new ≡ counted true old → Rose old new
 rose old new is = let e : new ≡ min (old + 1) (2 ^ 64 - 1) = is in omega (arith, e)
 
--- with no memory for the line the content is as before, too
-moves_short : (m : State) (effect : Effect) (c : Content) (old new : KeeperView) → Moves m effect c old new (Some NoRoom) → Moves m effect c old new (Some Memory)
-moves_short m effect c old new moves = record {
-  next = moves.next;
-  stands = moves.stands;
-  goes = record { content = moves.goes.content; time = moves.goes.time; now = moves.goes.now };
-  same = moves.same;
-}
-
-pub answers_full : (m : State) (effect : Effect) (may : Bool) (c : Content) (old new : KeeperView) (reply : Reply) → IsFullReply reply → may ≡ true → new.counts.fulls ≡ counted true old.counts.fulls → Gives m effect c old new (Err NoRoom) → IsAnswered m effect may c old new reply
-answers_full m effect may c old new (ReplyText reply) is fills fulls gives = record {
+pub answers_full : (m : State) (effect : Effect) (may : Bool) (c : Content) (old new : KeeperView) → may ≡ true → new.counts.fulls ≡ counted true old.counts.fulls → Gives m effect c old new (Err NoRoom) → IsAnswered m effect may c old new ReplyFull
+answers_full m effect may c old new fills fulls gives = record {
   answer = Full;
   moves = gives.moves;
-  says = is;
+  says = tt;
   place = λ e. gives.full refl;
   may_fill = λ e. fills;
   fulls = λ e. rose old.counts.fulls new.counts.fulls fulls;
-}
-answers_full m effect may c old new ReplyNoMemory is fills fulls gives = record {
-  answer = NoMemory;
-  moves = moves_short m effect c old new gives.moves;
-  says = tt;
-  place = λ e. cc;
-  may_fill = λ e. cc;
-  fulls = λ e. cc;
 }
 
 -- ---- which procedure is called

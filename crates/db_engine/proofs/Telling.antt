@@ -13,7 +13,7 @@ use Rattle.db_index.specs.Indexing.{index_created}
 use Rattle.db_change.specs.Inserting.{row_created}
 use Rattle.db_state.specs.Lines.{call_done}
 use Rattle.db_engine.specs.Steps.{is_built_index}
-use Rattle.db_engine.specs.Executing.{is_sync, done_line, is_fixed, IsFullReply, Tells, IfText}
+use Rattle.db_engine.specs.Executing.{is_sync, done_line, is_fixed, Tells}
 use Rattle.db_state.specs.Plans.{ContentStays, Returns}
 use Rattle.db_engine.specs.declared.replies.Reply.{Reply}
 use Rattle.db_engine.specs.declared.replies.Reply.TheVariants.{Text as ReplyText, NoMemory as ReplyNoMemory}
@@ -83,17 +83,9 @@ fixed_looks Commit is = refl
 
 pub tells_text : (done : List ℕ) (old new : KeeperView) (lines : Vec ℕ Global) (reply : List ℕ) → reply ≡ lines.items → Returns done old new (Ok lines) → Tells done old new (Ok (ReplyText reply))
 tells_text done old new lines reply is (inl made) = inl (record { says = is ∙ made.says; commits = made.commits })
-tells_text done old new lines reply is (inr refused) = inr (inl (record { refusal = refused.refusal; says = is ∙ refused.says; reads = refused.reads }))
+tells_text done old new lines reply is (inr refused) = inr (record { refusal = refused.refusal; says = is ∙ refused.says; reads = refused.reads })
 
--- a line of it that says that the store is full is by the keeper's answer
+-- no line of it says that the store is full
 pub text_not_full : (s : Statement) (done : List ℕ) (old new : KeeperView) (lines : Vec ℕ Global) (reply : List ℕ) → done_line s ≡ Some done → reply ≡ lines.items → Returns done old new (Ok lines) → reply ≡ store_full → ⊥
 text_not_full s done old new lines reply has is (inl made) full = not_done s done has (sym made.says ∙ sym is ∙ full)
 text_not_full s done old new lines reply has is (inr refused) full = not_full refused.refusal (sym refused.says ∙ sym is ∙ full)
-
-pub tells_full : (done : List ℕ) (old new : KeeperView) (reply : Reply) → IsFullReply reply → ContentStays old new → Rose old.counts.fulls new.counts.fulls → Tells done old new (Ok reply)
-tells_full done old new (ReplyText reply) says stays rose = inr (inr (record { says = says; stays = stays; rose = rose }))
-tells_full done old new ReplyNoMemory says stays rose = stays
-
-pub if_text : (says : List ℕ → Type 0) (reply : Reply) → ((text : List ℕ) → says text) → IfText says (Ok reply)
-if_text says (ReplyText reply) all = all reply
-if_text says ReplyNoMemory all = tt

@@ -19,7 +19,7 @@ use Rattle.db_state.specs.Lines.{call_done}
 use Rattle.db_engine.specs.Steps.{effect, is_built_index, may_fill}
 use Rattle.db_engine.specs.Runs.{Answer, Step, NoMemory, Full}
 use Rattle.db_engine.specs.declared.replies.Reply.{Reply}
-use Rattle.db_engine.specs.declared.replies.Reply.TheVariants.{Text as ReplyText, NoMemory as ReplyNoMemory}
+use Rattle.db_engine.specs.declared.replies.Reply.TheVariants.{Text as ReplyText, Full as ReplyFull, NoMemory as ReplyNoMemory}
 use Rattle.db_engine.specs.declared.replies.Stop.{Stop}
 use Rattle.db_engine.specs.declared.replies.Stop.TheVariants.{Disk as DiskStop}
 use Rattle.db_state.specs.Plans.{Moves, HasNoPlace, CommitsOnce, ContentStays, IsMade, IsRefused}
@@ -35,16 +35,14 @@ fault_for Full = Some NoRoom
 -- the reply by the answer
 abbrev pub IsReplyBy : Answer → Effect → Reply → Type 0
 IsReplyBy Step effect (ReplyText reply) = reply ≡ reply_by effect
+IsReplyBy Step effect ReplyFull = ⊥
 IsReplyBy Step effect ReplyNoMemory = ⊥
 IsReplyBy NoMemory effect (ReplyText reply) = ⊥
+IsReplyBy NoMemory effect ReplyFull = ⊥
 IsReplyBy NoMemory effect ReplyNoMemory = Unit {0}
-IsReplyBy Full effect (ReplyText reply) = reply ≡ store_full
+IsReplyBy Full effect (ReplyText reply) = ⊥
+IsReplyBy Full effect ReplyFull = Unit {0}
 IsReplyBy Full effect ReplyNoMemory = ⊥
-
--- that there is no room, or no memory to say so
-abbrev pub IsFullReply : Reply → Type 0
-IsFullReply (ReplyText reply) = reply ≡ store_full
-IsFullReply ReplyNoMemory = Unit {0}
 
 -- A statement with this effect was answered. `may` tells whether it may fill the store.
 pub record IsAnswered (m : State) (effect : Effect) (may : Bool) (c : Content) (old new : KeeperView) (reply : Reply) : Type 0 where
@@ -97,27 +95,32 @@ is_fixed (Select list table preds orders) = false
 is_fixed (Exec pack procedure args) = not (is_sync pack procedure)
 is_fixed statement = true
 
--- The reply says that the store is full: how often the keeper found that rose, and the content stays as it is.
-pub record IsFull (reply : List ℕ) (old new : KeeperView) : Type 0 where
-  pub says : reply ≡ store_full
+-- The store was full: how often the keeper found that rose, and the content stays as it is.
+pub record IsFull (old new : KeeperView) : Type 0 where
   pub stays : ContentStays old new
   pub rose : Rose old.counts.fulls new.counts.fulls
 
 -- How a statement was answered that says by this line that its change is made.
 abbrev pub Tells : List ℕ → KeeperView → KeeperView → Result Reply Stop → Type 0
-Tells done old new (Ok (ReplyText reply)) = IsMade done reply old new ⊎ (IsRefused reply old new ⊎ IsFull reply old new)
+Tells done old new (Ok (ReplyText reply)) = IsMade done reply old new ⊎ IsRefused reply old new
+Tells done old new (Ok ReplyFull) = IsFull old new
 Tells done old new (Ok ReplyNoMemory) = ContentStays old new
 Tells done old new (Err DiskStop) = CommitsOnce old new (Some Disk)
 
 -- this holds of the reply, where it is a text
 abbrev pub IfText : (List ℕ → Type 0) → Result Reply Stop → Type 0
 IfText says (Ok (ReplyText reply)) = says reply
+IfText says (Ok ReplyFull) = Unit {0}
 IfText says (Ok ReplyNoMemory) = Unit {0}
 IfText says (Err stop) = Unit {0}
 
--- A reply that says that the store is full is by the keeper: how often it found that rose.
+-- That the store is full is answered only where how often the keeper found that rose.
 abbrev pub FullRose : KeeperView → KeeperView → Result Reply Stop → Type 0
-FullRose old new result = IfText (λ reply. reply ≡ store_full → Rose old.counts.fulls new.counts.fulls) result
+FullRose old new result = result ≡ Ok ReplyFull → Rose old.counts.fulls new.counts.fulls
+
+-- no text says that the store is full
+abbrev pub NoTextIsFull : Result Reply Stop → Type 0
+NoTextIsFull result = IfText (λ reply. reply ≡ store_full → ⊥) result
 
 -- computed examples
 row_line : done_line (Insert (codes "docs") None []) ≡ Some (codes "1 row created.\n")

@@ -7,14 +7,14 @@ ghost use Rattle.db_cond.specs.Faults.{NotUnderstood, refusal_line};
 ghost use Rattle.db_state.specs.Effects.{reply_by, state_by};
 ghost use Rattle.db_state.specs.States.{Sees, State, TakesAll};
 ghost use Rattle.db_engine.specs.Steps.{call as call_effect, create_index_if, effect, is_built_index as built_index, may_fill, may_fill_by, select_by as select_effect};
-ghost use Rattle.db_engine.specs.Executing.{ExecutesStatement, FullRose, IfText, IsFullReply, Tells, call_line, done_line, fault_of_stop, index_line, is_fixed, is_sync as is_sync_call};
+ghost use Rattle.db_engine.specs.Executing.{ExecutesStatement, FullRose, IfText, NoTextIsFull, Tells, call_line, done_line, fault_of_stop, index_line, is_fixed, is_sync as is_sync_call};
 ghost use Rattle.db_state.specs.Plans.{GivesReply, Replies};
 
 use crate::replies::{Reply, Stop};
 use ct_base::{Bytes, Memory, Name, Text};
 use ct_keep::{KeepFault, Keeper};
 use db_change::{create_table, insert_into};
-use db_cond::{not_understood, store_full};
+use db_cond::not_understood;
 use db_index::{create_index, policy_tokens, sync_index};
 use db_select::select;
 use db_state::{fixed_reply, is_view};
@@ -186,18 +186,8 @@ fn reply_to<K: Keeper>(
     }
 }
 
-/// The reply that there is no room, or that there is no memory for it.
-fn full_reply(alloc: Global) -> Reply
-    ensures { IsFullReply result }
-{
-    match fixed_reply(alloc, store_full()) {
-        Ok(lines) => Reply::Text(Bytes::of(lines)),
-        Err(Memory) => Reply::NoMemory,
-    }
-}
-
-/// Executes a statement, by at most one commit: the reply is the whole text, with its newlines, or NoMemory, with which the
-/// content is as before. A statement that is refused leaves the content as it was, and one that only looks makes no commit,
+/// Executes a statement, by at most one commit: the reply is the whole text, with its newlines, or Full or NoMemory, with which
+/// the content is as before. A statement that is refused leaves the content as it was, and one that only looks makes no commit,
 /// whether or not the content stands for a state. At most `degree` threads may work on it; for now one does.
 ///
 /// Its cost is that of the statement: a SELECT reads the rows of its word and the fields that it asks for. An INSERT writes
@@ -220,13 +210,14 @@ pub fn execute<R: Threads + Sync, K: Keeper>(
     ensures executes { ExecutesStatement statement.now (K.view keeper.old) (K.view keeper.new) result }
     ensures reads { done_line statement.now ≡ None → Reads (K.view keeper.old) (K.view keeper.new) (fault_of_stop result) }
     ensures tells { (done : List ℕ) → done_line statement.now ≡ Some done → Tells done (K.view keeper.old) (K.view keeper.new) result }
-    ensures full { (done : List ℕ) → done_line statement.now ≡ Some done → FullRose (K.view keeper.old) (K.view keeper.new) result }
+    ensures full { FullRose (K.view keeper.old) (K.view keeper.new) result }
+    ensures no_text { (done : List ℕ) → done_line statement.now ≡ Some done → NoTextIsFull result }
     ensures fixed { (m : State) → is_fixed statement.now ≡ true → IfText (λ reply. reply ≡ reply_by (effect m statement.now)) result }
 {
     match reply_to(alloc, keeper, statement) {
         Ok(lines) => Ok(Reply::Text(Bytes::of(lines))),
         Err(KeepFault::Memory) => Ok(Reply::NoMemory),
-        Err(KeepFault::Full) => Ok(full_reply(alloc)),
+        Err(KeepFault::Full) => Ok(Reply::Full),
         Err(KeepFault::Disk) => Err(Stop::Disk),
     }
 }

@@ -7,6 +7,8 @@ use ct_base::Bytes;
 pub enum Reply {
     /// All its lines, with their newlines.
     Text(Bytes),
+    /// The store is full; the state is as before. Saying so takes no memory.
+    Full,
     /// There was no memory for it; the state is as before.
     NoMemory,
 }

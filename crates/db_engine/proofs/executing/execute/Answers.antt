@@ -6,12 +6,12 @@ use Rattle.ct_keep.specs.declared.keepers.KeepFault.TheVariants.{Memory, Disk, F
 use Rattle.db_cond.specs.Faults.{store_full}
 use Rattle.db_engine.specs.Executing.{done_line}
 use Rattle.db_state.specs.laws.Returning.{looks_none, returns_some, reads_memory}
-use Rattle.db_engine.proofs.Telling.{fixed_looks, tells_text, tells_full, text_not_full, if_text}
+use Rattle.db_engine.proofs.Telling.{tells_text, text_not_full}
 use Rattle.db_engine.proofs.executing.execute.Goals as goal
 
 pub returns-in-Err-Full-clause-executes : goal.returns-in-Err-Full-clause-executes
 returns-in-Err-Full-clause-executes g c = λ m k holds stands.
-    answers_full m _ _ k _ _ c.full_reply.result c.full_reply.ensures
+    answers_full m _ _ k _ _
     (c.in-Err-Full.ensures.may (ap Err c.in-Err-Full.field-0-is))
     (rw c.in-Err-Full.field-0-is at c.in-Err-Full.ensures.serves.fulls)
     (rw c.in-Err-Full.field-0-is at (c.in-Err-Full.ensures.serves.gives (g.met.K.Keeper.settled c.args.keeper.now c.requires.ready) m k holds stands))
@@ -30,9 +30,10 @@ pub returns-in-Ok-clause-tells : goal.returns-in-Ok-clause-tells
 returns-in-Ok-clause-tells g c =
     λ done has. tells_text done (g.K.Keeper.view c.args.keeper.now) (g.K.Keeper.view c.reply_to.new.keeper) c.in-Ok.lines c.of.result c.of.ensures (returns_some (done_line c.args.statement.now) done (g.K.Keeper.view c.args.keeper.now) (g.K.Keeper.view c.reply_to.new.keeper) (Ok c.in-Ok.lines) has (c.in-Ok.ensures.serves.tells (g.met.K.Keeper.settled c.args.keeper.now c.requires.ready)))
 
-pub returns-in-Ok-clause-full : goal.returns-in-Ok-clause-full
-returns-in-Ok-clause-full g c =
-    λ done has full. absurd (text_not_full c.args.statement.now done (g.K.Keeper.view c.args.keeper.now) (g.K.Keeper.view c.reply_to.new.keeper) c.in-Ok.lines c.of.result has c.of.ensures (returns_some (done_line c.args.statement.now) done (g.K.Keeper.view c.args.keeper.now) (g.K.Keeper.view c.reply_to.new.keeper) (Ok c.in-Ok.lines) has (c.in-Ok.ensures.serves.tells (g.met.K.Keeper.settled c.args.keeper.now c.requires.ready))) full)
+pub returns-in-Ok-clause-no_text : goal.returns-in-Ok-clause-no_text
+returns-in-Ok-clause-no_text g c =
+    λ done has full. text_not_full c.args.statement.now done (g.K.Keeper.view c.args.keeper.now) (g.K.Keeper.view c.reply_to.new.keeper) c.in-Ok.lines c.of.result has c.of.ensures
+    (returns_some (done_line c.args.statement.now) done (g.K.Keeper.view c.args.keeper.now) (g.K.Keeper.view c.reply_to.new.keeper) (Ok c.in-Ok.lines) has (c.in-Ok.ensures.serves.tells (g.met.K.Keeper.settled c.args.keeper.now c.requires.ready))) full
 
 pub returns-in-Ok-clause-fixed : goal.returns-in-Ok-clause-fixed
 returns-in-Ok-clause-fixed g c =
@@ -51,16 +52,14 @@ returns-in-Err-Full-clause-reads g c =
     λ none. absurd ((looks_none (done_line c.args.statement.now) (g.K.Keeper.view c.args.keeper.now) (g.K.Keeper.view c.reply_to.new.keeper) (Err NoRoom) none (rw c.in-Err-Full.field-0-is at c.in-Err-Full.ensures.serves.tells (g.met.K.Keeper.settled c.args.keeper.now c.requires.ready))).not_full refl)
 
 pub returns-in-Err-Full-clause-tells : goal.returns-in-Err-Full-clause-tells
-returns-in-Err-Full-clause-tells g c =
-    λ done has. tells_full done (g.K.Keeper.view c.args.keeper.now) (g.K.Keeper.view c.reply_to.new.keeper) c.full_reply.result c.full_reply.ensures (returns_some (done_line c.args.statement.now) done (g.K.Keeper.view c.args.keeper.now) (g.K.Keeper.view c.reply_to.new.keeper) (Err NoRoom) has (rw c.in-Err-Full.field-0-is at c.in-Err-Full.ensures.serves.tells (g.met.K.Keeper.settled c.args.keeper.now c.requires.ready))) (rose (g.K.Keeper.view c.args.keeper.now).counts.fulls (g.K.Keeper.view c.reply_to.new.keeper).counts.fulls (rw c.in-Err-Full.field-0-is at c.in-Err-Full.ensures.serves.fulls))
+returns-in-Err-Full-clause-tells g c = λ done has. record {
+  stays = returns_some (done_line c.args.statement.now) done (g.K.Keeper.view c.args.keeper.now) (g.K.Keeper.view c.reply_to.new.keeper) (Err NoRoom) has
+      (rw c.in-Err-Full.field-0-is at c.in-Err-Full.ensures.serves.tells (g.met.K.Keeper.settled c.args.keeper.now c.requires.ready));
+  rose = rose _ _ (rw c.in-Err-Full.field-0-is at c.in-Err-Full.ensures.serves.fulls);
+}
 
 pub returns-in-Err-Full-clause-full : goal.returns-in-Err-Full-clause-full
-returns-in-Err-Full-clause-full g c =
-    λ done has. if_text (λ (reply : List ℕ). reply ≡ store_full → Rose (g.K.Keeper.view c.args.keeper.now).counts.fulls (g.K.Keeper.view c.reply_to.new.keeper).counts.fulls) c.full_reply.result (λ text full. (rose (g.K.Keeper.view c.args.keeper.now).counts.fulls (g.K.Keeper.view c.reply_to.new.keeper).counts.fulls (rw c.in-Err-Full.field-0-is at c.in-Err-Full.ensures.serves.fulls)))
-
-pub returns-in-Err-Full-clause-fixed : goal.returns-in-Err-Full-clause-fixed
-returns-in-Err-Full-clause-fixed g c =
-    λ m fixed. absurd ((looks_none (done_line c.args.statement.now) (g.K.Keeper.view c.args.keeper.now) (g.K.Keeper.view c.reply_to.new.keeper) (Err NoRoom) (fixed_looks c.args.statement.now fixed) (rw c.in-Err-Full.field-0-is at c.in-Err-Full.ensures.serves.tells (g.met.K.Keeper.settled c.args.keeper.now c.requires.ready))).not_full refl)
+returns-in-Err-Full-clause-full g c = λ e. rose _ _ (rw c.in-Err-Full.field-0-is at c.in-Err-Full.ensures.serves.fulls)
 
 pub returns-in-Err-Disk-clause-reads : goal.returns-in-Err-Disk-clause-reads
 returns-in-Err-Disk-clause-reads g c =
