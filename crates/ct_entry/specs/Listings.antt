@@ -1,5 +1,5 @@
 -- What scans list: the entries of a finite map, after a prefix, in the order of its keys.
-use Rattle.std.specs.Prelude.{ℕ, ℤ, pos, negsuc, ◌-◌, ◌^◌, ◌≡◌, ◌==◌, nat_lt, List, [], ◌∷◌, length, filter, Option, Some, None, codes, refl}
+use Rattle.std.specs.Prelude.{ℕ, ℤ, pos, negsuc, ◌-◌, ◌^◌, ◌≡◌, ◌==◌, nat_lt, List, [], ◌∷◌, ◌++◌, length, filter, Option, Some, None, codes, refl}
 use Rattle.std.specs.Bool.{if◌then◌else◌}
 use Rattle.std.specs.Int.{from_be_bytes, w64}
 use Rattle.std.specs.List.{filter_map}
@@ -29,9 +29,9 @@ listed part g es = filter_map (λ e. option_map (λ v. (part e.0, v)) (g e.1)) e
 abbrev pub keys_where : {K X : Type 0} → (X → Option (List ℕ)) → List (K × X) → List K
 keys_where g es = filter_map (λ e. option_map (λ _. e.0) (g e.1)) es
 
--- the entries under a prefix, each with the rest of its key
-abbrev pub rests_under : List ℕ → Content → List (List ℕ × List ℕ)
-rests_under prefix m = entries (tail prefix m)
+-- an owner's entries of a kind whose rests begin with a prefix and are longer: what stands after it, and the value
+abbrev pub owner_entries : Kind → List ℕ → List ℕ → Content → List (List ℕ × List ℕ)
+owner_entries kind owner prefix m = entries (tail (prefix_of kind owner ++ prefix) m)
 
 -- ---- row keys
 
@@ -61,8 +61,11 @@ abbrev pub place_after : Option ℤ → List ℕ
 place_after None = []
 place_after (Some r) = row_part r
 
-abbrev pub place_of : Option RowKey → List ℕ
-place_of after = place_after (option_map (λ r. r.0) after)
+abbrev pub number_of : Option RowKey → Option ℤ
+number_of after = option_map (λ r. r.0) after
+
+abbrev pub start_after : Option RowKey → List ℕ
+start_after after = place_after (number_of after)
 
 -- the first entry under a prefix that stands after a row key, or the first of all: the rest of its key, and its value
 abbrev pub entry_after : Option ℤ → List ℕ → Content → Option (List ℕ × List ℕ)
