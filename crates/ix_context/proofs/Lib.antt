@@ -4,4 +4,3 @@ pub mod MarkSteps
 pub mod SearchSteps
 pub mod SearchLaws
 pub mod SyncSteps
-pub mod TestChanges

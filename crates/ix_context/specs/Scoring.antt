@@ -7,7 +7,7 @@ use Rattle.ct_entry.specs.Keys.{Key, key, document_part}
 use Rattle.ct_entry.specs.Listings.{row_of}
 use Rattle.ct_entry.specs.Maps.{Rows}
 use Rattle.ix_posting.specs.declared.rows.RowDocument.{RowDocument}
-use Rattle.ix_posting.specs.Rows.{IsRow, row_bytes}
+use Rattle.ix_posting.specs.Rows.{IsPostingRow, posting_bytes}
 
 -- the row of a document of an index; none where the document has no entry, or one that isn't 8 bytes long
 abbrev pub document_row : (Key → Option (List ℕ)) → List ℕ → ℕ → Option ℤ
@@ -37,4 +37,4 @@ abbrev pub HoldRows : List (List ℕ × List ℕ) → List (List RowDocument) �
 HoldRows [] [] = Unit {0}
 HoldRows [] (row ∷ rows) = ⊥
 HoldRows (e ∷ es) [] = ⊥
-HoldRows (e ∷ es) (row ∷ rows) = IsRow row × (row_bytes row ≡ e.1) × HoldRows es rows
+HoldRows (e ∷ es) (row ∷ rows) = IsPostingRow row × (posting_bytes row ≡ e.1) × HoldRows es rows

@@ -10,7 +10,7 @@ ghost use Rattle.ct_entry.specs.Keys.{at, prefix_of, IsToken, HasKeysOnly};
 ghost use Rattle.std.specs.FinMap.{get, empty};
 ghost use Rattle.ct_entry.specs.declared.kinds.Kind.TheVariants as kind;
 ghost use Rattle.ix_posting.specs.declared.rows.RowDocument.{RowDocument};
-ghost use Rattle.ix_posting.specs.Rows.{IsRow, row_bytes};
+ghost use Rattle.ix_posting.specs.Rows.{IsPostingRow, posting_bytes};
 ghost use Rattle.ct_entry.specs.Maps.{Names};
 ghost use Rattle.tb_table.specs.Tables.{Tables};
 ghost use Rattle.ix_context.specs.Indexes.{Index, found};
@@ -77,7 +77,7 @@ fn score_row<K: Keeper>(
     value: &[u8],
 ) -> Result<(), KeepFault>
     requires { (K.view keeper.old).ready }
-    ensures scores { (m : Content) (row : List RowDocument) → (K.view keeper.old).content ≡ Some m → IsRow row → row_bytes row ≡ value.now → OnOk result (scores.new ≡ with_documents (at m) index.now row scores.old) }
+    ensures scores { (m : Content) (row : List RowDocument) → (K.view keeper.old).content ≡ Some m → IsPostingRow row → posting_bytes row ≡ value.now → OnOk result (scores.new ≡ with_documents (at m) index.now row scores.old) }
     ensures reads { OnlyReads K.view keeper.old keeper.new result }
     ensures at_most { LooksAtMost K.view keeper.old keeper.new no_looks }
 {
