@@ -1,4 +1,4 @@
--- What noting the changes of a text one by one comes to.
+-- What noting the words of a text one by one comes to.
 use Rattle.std.proofs.Common.{◌≡◌, ℕ, ◌+◌, ◌<◌, ◌≤◌, length, arith, Bool, true, false, cond, List, [], ◌∷◌, ◌++◌, Option, Some, None, Vec, refl, sym, ap, ◌∙◌, append_assoc}
 use Rattle.std.specs.Option.{option_map, unwrap_or}
 use Rattle.std.specs.declared.alloc.Global.{Global}
@@ -55,7 +55,7 @@ noted_all_at (w ∷ ws) m p q =
         ∙ ap (λ (k : List ℕ). joined (get m k) (p ∷ positions_from (p + 1) q ws)) (sym (list_from_same q w is))
     here false is = refl
 
--- what all changes of a text come to
+-- what all words of a text come to
 pub noted_postings : (text : List ℕ) → noted_all empty 1 (words_of text) ≡ postings_of text
 noted_postings text = same_map nat_list_cmp_total exact_bytes (noted_all empty 1 (words_of text)) (postings_of text) (λ q.
     noted_all_at (words_of text) empty 1 q

@@ -291,12 +291,12 @@ module _ (m : Content) (ts : Tables) (xs : Names Index) (x : Index) (i w : List 
       go false any (Some s) is = let same : false ≡ true = sym any ∙ right_any r s is all in cc
 
   -- The entries of the word hold rows of postings whose scores are what a scan of the rows finds.
-  pub record Finds : Type 0 where
+  pub record AreFound : Type 0 where
     pub rows : List (List RowDocument)
     pub hold : HoldRows (entries (tail prefix m)) rows
     pub scores : entries (with_postings (at m) i rows empty) ≡ found ts x w 0
 
-  pub finds : Finds
+  pub finds : AreFound
   finds =
       let all : AllPosted (entries (tail prefix m)) = recursion_from_All (λ e. Posted e.0 e.1) (entries (tail prefix m)) (all_entries (slice_cmp nat_cmp) nat_list_cmp_total (λ e. Posted e.0 e.1) (tail prefix m) posted) in
       record {

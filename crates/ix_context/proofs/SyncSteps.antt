@@ -1,5 +1,5 @@
 -- Steps of synchronisations and of new indexes.
-use Rattle.std.proofs.Common.{◌≡◌, ℕ, ℤ, ◌+◌, ◌≤◌, ◌<◌, ◌^◌, max, false, List, [], ◌∷◌, ◌++◌, length, map, Option, Some, None, Result, Ok, Err, refl, sym, ap, subst, ◌∙◌, arith}
+use Rattle.std.proofs.Common.{◌≡◌, ℕ, ℤ, ◌+◌, max, false, List, [], ◌∷◌, ◌++◌, length, map, Option, Some, None, Result, Ok, Err, refl, sym, ap, subst, ◌∙◌, arith}
 use Rattle.std.specs.Prelude.{◌==◌, MatchOption, IfOk}
 use Rattle.std.proofs.lemmas.List.{length-map}
 use Rattle.ct_base.specs.declared.numbers.RowKey.{RowKey}
@@ -13,9 +13,8 @@ use Rattle.tb_table.specs.declared.columns.Target.{Target}
 use Rattle.tb_table.specs.Tables.{Tables}
 use Rattle.ix_context.specs.declared.ranges.KeyRange.{KeyRange}
 use Rattle.ix_context.specs.Indexes.{Index, pending_rows, rows_in, target_text}
-use Rattle.ix_context.specs.Rules.{most_given}
 use Rattle.ix_context.specs.Spelling.{index_bytes}
-use Rattle.ix_context.specs.Changes.{numbered, mark_with, settle_with, settled_with, sync_rows_changes, sync_changes, create_changes}
+use Rattle.ix_context.specs.Changes.{numbered, mark_with, settle_with, settled_with, sync_rows_changes, sync_changes, create_changes, AreSettleChanges, AreSyncChanges}
 use Rattle.ix_context.specs.ReadLaws.{target_of}
 
 abbrev Changes : Type 0
@@ -83,16 +82,13 @@ settled_is ts i x target first rows t f r =
 
 -- what the changes for what was read say of the index
 pub settled_says : (ts : Tables) (i : List ℕ) (x : Index) (target : Target) (first : ℕ) (rows : List RowKey) → target ≡ target_of x → first ≡ x.given + 1 → keys rows ≡ pending_rows x → (result : Result (Option Changes) KeepFault)
-    → IfOk result (λ changes. MatchOption changes (2 ^ 32 ≤ first + length rows) (λ ws. (first + length rows < 2 ^ 32) × (ws ≡ spell (settled_with i target (target_text ts target) first (keys rows)))))
-    → IfOk result (λ changes. MatchOption changes (most_given < x.given + length (pending_rows x)) (λ ws. (x.given + length (pending_rows x) ≤ most_given) × (ws ≡ spell (sync_changes ts i x))))
+    → IfOk result (AreSettleChanges ts i target first rows) → IfOk result (AreSyncChanges ts i x)
 settled_says ts i x target first rows t f r result says = go result says
   where
     count : length rows ≡ length (pending_rows x)
     count = sym (length-map rows (λ (r : RowKey). r.0)) ∙ ap length r
 
-    go : (result : Result (Option Changes) KeepFault)
-        → IfOk result (λ changes. MatchOption changes (2 ^ 32 ≤ first + length rows) (λ ws. (first + length rows < 2 ^ 32) × (ws ≡ spell (settled_with i target (target_text ts target) first (keys rows)))))
-        → IfOk result (λ changes. MatchOption changes (most_given < x.given + length (pending_rows x)) (λ ws. (x.given + length (pending_rows x) ≤ most_given) × (ws ≡ spell (sync_changes ts i x))))
+    go : (result : Result (Option Changes) KeepFault) → IfOk result (AreSettleChanges ts i target first rows) → IfOk result (AreSyncChanges ts i x)
     go (Err fault) says = tt
     go (Ok None) says = let n = count in omega arith
     go (Ok (Some ws)) says = (let n = count in let room = says.0 in omega arith, says.1 ∙ ap spell (settled_is ts i x target first (keys rows) t f r))

@@ -17,6 +17,7 @@ pub mod ChangeLaws
 pub mod TokenLaws
 pub mod Faults
 pub mod Stands
+pub mod Sees
 pub mod ReadLaws
 pub mod WellLaws
 pub mod RuleLaws

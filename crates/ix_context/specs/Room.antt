@@ -1,4 +1,4 @@
--- How much room indexes take at most: what their entries weigh, with the rows of postings as if each document had an entry of its own for each change.
+-- How much room indexes take at most: what their entries weigh, with the rows of postings as if each document had an entry of its own for each word.
 use Rattle.std.specs.Prelude.{ℕ, ℤ, ◌+◌, ◌-◌, ◌^◌, max, sum_by, List, [], ◌∷◌, length, Option, Some, None, pos, ◌≡◌, replicate, codes, refl}
 use Rattle.std.specs.Int.{to_be_bytes, w32}
 use Rattle.std.specs.FinMap.{entries, from_sorted, entries-from_sorted}

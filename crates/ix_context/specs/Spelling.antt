@@ -1,5 +1,5 @@
 -- The entries that spell the indexes.
-use Rattle.std.specs.Prelude.{ℕ, ℤ, ◌≡◌, ◌+◌, ◌≤◌, ◌<◌, ◌^◌, List, [], ◌∷◌, ◌++◌, Option, Some, None, is_some, codes, refl}
+use Rattle.std.specs.Prelude.{ℕ, ℤ, ◌≡◌, ◌+◌, ◌≤◌, ◌<◌, ◌^◌, List, [], ◌∷◌, ◌++◌, Option, Some, None, is_some, length, codes, refl}
 use Rattle.std.specs.Int.{to_be_bytes, w32}
 use Rattle.std.specs.Option.{option_map, option_and_then}
 use Rattle.std.specs.FinMap.{get}
@@ -7,7 +7,8 @@ use Rattle.ct_bytes.specs.Varints.{varint, text_bytes}
 use Rattle.ct_bytes.specs.RowKeys.{row_bytes}
 use Rattle.ct_base.specs.Names.{IsName}
 use Rattle.ct_entry.specs.declared.kinds.Kind.TheVariants as kind
-use Rattle.ct_entry.specs.Keys.{Key, key, row_part, document_part, posting_part, span_part, IsRow, IsDocument, IsToken}
+use Rattle.ct_entry.specs.Keys.{Key, key, prefix_of, row_part, document_part, posting_part, span_part, IsRow, IsDocument, IsToken}
+use Rattle.ct_entry.specs.Changes.{put}
 use Rattle.ct_entry.specs.Maps.{Names}
 use Rattle.tb_table.specs.declared.columns.Target.{Target}
 use Rattle.tb_table.specs.Tables.{Tables}
@@ -27,6 +28,10 @@ behind_table column next = column ∷ 0 ∷ default_bytes ++ (to_be_bytes w32 ne
 -- The entry of a CONTEXT index: its kind 1, its table as a text, and the rest.
 abbrev pub index_bytes : List ℕ → ℕ → ℕ → List ℕ
 index_bytes table column next = 1 ∷ text_bytes table ++ behind_table column next
+
+-- the change that gives an index on this target its entry, with the document that it gives next
+abbrev pub index_change : List ℕ → Target → ℕ → Key × Option (List ℕ)
+index_change i target next = put (key kind.Indexes i []) (index_bytes target.table target.column next)
 
 abbrev pub index_entry : Index → List ℕ
 index_entry x = index_bytes x.table x.column (x.given + 1)
@@ -53,6 +58,10 @@ queued (Some Marked) = None
 abbrev pub posting_value : ℕ → List ℕ → Option (List ℕ)
 posting_value document [] = None
 posting_value document (p ∷ ps) = Some (posting_bytes (record { document = document; positions = p ∷ ps } ∷ []))
+
+-- what the keys of a word's rows of postings in the main stream begin with
+abbrev pub postings_prefix : List ℕ → List ℕ → List ℕ
+postings_prefix i word = prefix_of kind.Postings i ++ 0 ∷ length word ∷ word
 
 -- the text of the row that a document is
 abbrev pub document_text : Numbering → Tables → Names Index → List ℕ → ℕ → Option (List ℕ)

@@ -136,14 +136,14 @@ posting_changes i d (e ∷ es) name doc fit few =
 few_of_text : (text : List ℕ) → length text ≤ 4000 → All (λ (e : List ℕ × List ℕ). length e.1 ≤ 4000) (entries (postings_of text))
 few_of_text text short = λ k e less. let few = postings_few text k e less in omega (arith, few)
 
-words_of_text : (i : List ℕ) (d : ℕ) (text : Option (List ℕ)) → IsName i → d < 2 ^ 32 → IsTableText text → AreIndexChanges (text_changes i d text)
-words_of_text i d None name doc short = tt
-words_of_text i d (Some text) name doc short = posting_changes i d (entries (postings_of text)) name doc (postings_fit text (omega arith)) (few_of_text text short)
+changes_of_text : (i : List ℕ) (d : ℕ) (text : Option (List ℕ)) → IsName i → d < 2 ^ 32 → IsTableText text → AreIndexChanges (text_changes i d text)
+changes_of_text i d None name doc short = tt
+changes_of_text i d (Some text) name doc short = posting_changes i d (entries (postings_of text)) name doc (postings_fit text (omega arith)) (few_of_text text short)
 
 pub index_changes_document : (i : List ℕ) (d : ℕ) (r : ℤ) (text : Option (List ℕ)) → IsName i → d < 2 ^ 32 → IsRow r → IsTableText text → AreIndexChanges (document_changes i d r text)
 index_changes_document i d r text name doc row short = (
   record { key = record { owner = name; part = (d, doc, refl) }; of = refl; bounded = let eight = length-row_bytes r in omega (arith, eight) },
-  (record { key = record { owner = name; part = (r, row, refl) }; of = refl; bounded = omega arith }, words_of_text i d text name doc short),
+  (record { key = record { owner = name; part = (r, row, refl) }; of = refl; bounded = omega arith }, changes_of_text i d text name doc short),
 )
 
 target_is_table_text : (ts : Tables) → AreTables ts → (target : Target) (r : ℤ) → IsTableText (target_text ts target r)

@@ -1,6 +1,6 @@
 //! At which positions keys occur.
 
-ghost use Rattle.std.specs.Prelude.{◌≡◌, ◌++◌, ◌∷◌, [], IfOk, OnOk};
+ghost use Rattle.std.specs.Prelude.{◌≡◌, IfOk, OnOk};
 ghost use Rattle.std.specs.FinMap.{get, insert, remove, empty, entries};
 ghost use Rattle.ix_context.specs.Occurrences.{had, noted};
 

@@ -15,5 +15,5 @@ note_all-requires c =
 pub returns : goal.returns
 returns c =
     let keys : List Token → List (List ℕ) = λ ts. map (λ (t : Token). t.key) ts in
-    let changes : keys c.deref.result.now ≡ words_of c.args.text.now = ap keys (c.deref.ensures.value ∙ c.in_ok-tokens.ensures.tokens) in
-    record { listed = c.in_ok-list.ensures ∙ ap entries (c.in_ok-found.ensures ∙ ap (noted_all empty 1) changes ∙ noted_postings c.args.text.now) }
+    let words : keys c.deref.result.now ≡ words_of c.args.text.now = ap keys (c.deref.ensures.value ∙ c.in_ok-tokens.ensures.tokens) in
+    record { listed = c.in_ok-list.ensures ∙ ap entries (c.in_ok-found.ensures ∙ ap (noted_all empty 1) words ∙ noted_postings c.args.text.now) }

@@ -29,5 +29,5 @@ returns-clause-found g c = λ m ts xs x holds only stand there fit.
     ∙ ap (λ (l : List ℕ). entries (tail (prefix_of kind.Postings index ++ l) m)) (c.deref.ensures.value ∙ token.1) in
     let hold : HoldRows (pairs_of c.deref-2.result.now) all.rows = subst (λ (es : List (List ℕ × List ℕ)). HoldRows es all.rows) (sym rows) all.hold in
     c.in_ok-hits.ensures
-    ∙ ap entries (c.in_ok-scores.ensures.scores m all.rows (reads_hold _ _ m c.in_ok-rows.ensures.reads holds) hold)
+    ∙ ap entries (c.in_ok-scores.ensures.scores m (reads_hold _ _ m c.in_ok-rows.ensures.reads holds) all.rows hold)
     ∙ all.scores
