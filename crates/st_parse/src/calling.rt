@@ -1,7 +1,7 @@
 //! EXEC.
 
 ghost use Rattle.std.specs.Prelude.{◌≡◌};
-ghost use Rattle.st_parse.specs.Calling.{arg_at, args_of, is_call, call_of, exec_of};
+ghost use Rattle.st_parse.specs.Calling.{arg_at, args_of, is_call, exec_of};
 ghost use Rattle.st_parse.specs.Reading.{Gives, StatementGives};
 
 use crate::lexemes::{Keyword, Lexeme, Symbol};

@@ -1,6 +1,5 @@
 //! INSERT.
 
-ghost use Rattle.std.specs.Prelude.{◌≡◌};
 ghost use Rattle.st_parse.specs.Inserting.{name_at, values_of, columns_of, insert_of};
 ghost use Rattle.st_parse.specs.Reading.{StatementGives};
 

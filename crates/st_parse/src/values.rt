@@ -1,6 +1,6 @@
 //! Values: texts, and numbers with a sign.
 
-ghost use Rattle.std.specs.Prelude.{◌≡◌, ◌≤◌, length, IfOk};
+ghost use Rattle.std.specs.Prelude.{◌≤◌, length, IfOk};
 ghost use Rattle.st_parse.specs.Reading.{Gives};
 ghost use Rattle.st_parse.specs.Values.{signed_at, value_at};
 
