@@ -6,7 +6,7 @@ use Rattle.ct_base.specs.Names.{is_name_byte}
 use Rattle.st_parse.specs.declared.lexemes.Lexeme.{Lexeme}
 use Rattle.st_parse.specs.declared.lexing.LexFault.{LexFault}
 use Rattle.st_parse.specs.declared.lexing.LexFault.TheVariants.{NoLexeme, Memory as NoMemory}
-use Rattle.st_parse.specs.Lexemes.{is_in_line, run, after, text_at, ◌>>=◌, lexeme_at, begins_comment, lexemes_in, lexemes}
+use Rattle.st_parse.specs.Lexemes.{is_in_line, run, after_run, text_at, ◌>>=◌, lexeme_at, begins_comment, lexemes_in, lexemes}
 use Rattle.st_parse.specs.Reading.{LexFails}
 
 lower_again : (c : ℕ) → to_ascii_lowercase (to_ascii_lowercase c) ≡ to_ascii_lowercase c
@@ -29,23 +29,23 @@ pub text-quote : (front front' text mid cs : List ℕ) (c : ℕ) → text ≡ c 
 text-quote front front' text mid cs c split second quote more = rw (split, second, quote, more) refl
 
 -- a run and what follows it are the whole, and what follows is no longer
-pub run-joins : (p : ℕ → Bool) (cs : List ℕ) → run p cs ++ after p cs ≡ cs
+pub run-joins : (p : ℕ → Bool) (cs : List ℕ) → run p cs ++ after_run p cs ≡ cs
 run-joins p [] = refl
-run-joins p (c ∷ cs) = elim (p c) as (λ b. cond b (c ∷ run p cs) [] ++ cond b (after p cs) (c ∷ cs) ≡ c ∷ cs) [ true ↦ ap (λ x. c ∷ x) (run-joins p cs) | false ↦ refl ]
+run-joins p (c ∷ cs) = elim (p c) as (λ b. cond b (c ∷ run p cs) [] ++ cond b (after_run p cs) (c ∷ cs) ≡ c ∷ cs) [ true ↦ ap (λ x. c ∷ x) (run-joins p cs) | false ↦ refl ]
 
-pub after-shorter : (p : ℕ → Bool) (cs : List ℕ) → length (after p cs) ≤ length cs
+pub after-shorter : (p : ℕ → Bool) (cs : List ℕ) → length (after_run p cs) ≤ length cs
 after-shorter p [] = omega arith
 after-shorter p (c ∷ cs) =
     let shorter = after-shorter p cs in
-    elim (p c) as (λ b. length (cond b (after p cs) (c ∷ cs)) ≤ length (c ∷ cs)) [ true ↦ omega arith | false ↦ omega arith ]
+    elim (p c) as (λ b. length (cond b (after_run p cs) (c ∷ cs)) ≤ length (c ∷ cs)) [ true ↦ omega arith | false ↦ omega arith ]
 
 pub letter-word : (c : ℕ) → is_ascii_alphabetic c ≡ true → is_name_byte c ≡ true
 letter-word c h = grind arith
 
-pub word-shorter : (text cs : List ℕ) (c : ℕ) → text ≡ c ∷ cs → is_ascii_alphabetic c ≡ true → length (after is_name_byte text) < length text
+pub word-shorter : (text cs : List ℕ) (c : ℕ) → text ≡ c ∷ cs → is_ascii_alphabetic c ≡ true → length (after_run is_name_byte text) < length text
 word-shorter text cs c split letter = let shorter = after-shorter is_name_byte cs in rw (split, letter-word c letter) (omega arith)
 
-pub digits-shorter : (text cs : List ℕ) (c : ℕ) → text ≡ c ∷ cs → is_ascii_digit c ≡ true → length (after is_ascii_digit text) < length text
+pub digits-shorter : (text cs : List ℕ) (c : ℕ) → text ≡ c ∷ cs → is_ascii_digit c ≡ true → length (after_run is_ascii_digit text) < length text
 digits-shorter text cs c split digit = let shorter = after-shorter is_ascii_digit cs in rw (split, digit) (omega arith)
 
 -- the lexemes of the whole, where those of a front are read
@@ -66,7 +66,7 @@ pub step-white : (front : List Lexeme) (text cs : List ℕ) (c : ℕ) (all : Opt
 step-white front text cs c all split white (zero, le, so) = absurd (omega (arith, ap length split))
 step-white front text cs c all split white (suc n, le, so) = (n, omega (arith, ap length split), sym (ap (λ x. with_front front (lexemes_in (suc n) x)) split ∙ rw white refl) ∙ so)
 
-pub step-comment : (front : List Lexeme) (text cs : List ℕ) (c : ℕ) (all : Option (List Lexeme)) → text ≡ c ∷ cs → is_whitespace c ≡ false → begins_comment c cs ≡ true → GoesOn front text all → GoesOn front (after is_in_line cs) all
+pub step-comment : (front : List Lexeme) (text cs : List ℕ) (c : ℕ) (all : Option (List Lexeme)) → text ≡ c ∷ cs → is_whitespace c ≡ false → begins_comment c cs ≡ true → GoesOn front text all → GoesOn front (after_run is_in_line cs) all
 step-comment front text cs c all split dark dashes (zero, le, so) = absurd (omega (arith, ap length split))
 step-comment front text cs c all split dark dashes (suc n, le, so) = (n, omega (arith, ap length split, after-shorter is_in_line cs), sym (ap (λ x. with_front front (lexemes_in (suc n) x)) split ∙ rw (dark, dashes) refl) ∙ so)
 

@@ -9,7 +9,7 @@ use Rattle.st_parse.specs.declared.lexemes.Symbol.{Symbol}
 use Rattle.st_parse.specs.declared.lexemes.Symbol.TheVariants.{Open, Close, Comma, Dot, Star, Equal, Less, AtMost, Greater, AtLeast, Minus}
 use Rattle.st_parse.specs.declared.lexemes.Lexeme.{Lexeme}
 use Rattle.st_parse.specs.declared.lexemes.Lexeme.TheVariants.{Word, Name, Text, Number, Sign}
-use Rattle.st_parse.specs.Lexemes.{is_in_line, run, after, text_at, ◌>>=◌, lexeme_at, begins_comment, lexemes_in, lexemes}
+use Rattle.st_parse.specs.Lexemes.{is_in_line, run, after_run, text_at, ◌>>=◌, lexeme_at, begins_comment, lexemes_in, lexemes}
 use Rattle.st_parse.specs.Writing.{Blank, White, Comment, IsGap, starts, quoted, sign, IsWordOf, IsDigits, IsWritten, joins_sign, joins, IsText}
 use Rattle.st_parse.proofs.Steps.{letter-word, text-char}
 
@@ -22,7 +22,7 @@ run-all p [] [] h parted = refl
 run-all p [] (c ∷ rest) h parted = rw parted refl
 run-all p (c ∷ w) rest h parted = let parts = and_parts (p c) (list_all p w) h in rw (parts.0, run-all p w rest parts.1 parted) refl
 
-after-all : (p : ℕ → Bool) (w rest : List ℕ) → list_all p w ≡ true → starts p rest ≡ false → after p (w ++ rest) ≡ rest
+after-all : (p : ℕ → Bool) (w rest : List ℕ) → list_all p w ≡ true → starts p rest ≡ false → after_run p (w ++ rest) ≡ rest
 after-all p [] [] h parted = refl
 after-all p [] (c ∷ rest) h parted = rw parted refl
 after-all p (c ∷ w) rest h parted = let parts = and_parts (p c) (list_all p w) h in rw (parts.0, after-all p w rest parts.1 parted) refl

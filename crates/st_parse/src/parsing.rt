@@ -4,7 +4,7 @@ ghost use Rattle.std.specs.Prelude.{◌≡◌, ◌≢◌, List, [], IfOk, IfSome
 ghost use Rattle.std.specs.Str.{chars};
 ghost use Rattle.st_parse.specs.Lexemes.{lexemes};
 ghost use Rattle.st_parse.specs.Grammar.{IsStatement, statement_of, read, ParseGives};
-ghost use Rattle.st_parse.specs.Reading.{StatementGives, fault_of};
+ghost use Rattle.st_parse.specs.Reading.{StatementGives, statement_fault};
 ghost use Rattle.st_parse.specs.declared.lexemes.Lexeme.{Lexeme};
 ghost use Rattle.st_parse.specs.declared.statements.Statement.{Statement};
 ghost use Rattle.st_parse.specs.declared.parsing.StatementFault.TheVariants.{Memory as NoMemory};
@@ -55,7 +55,7 @@ impl<T: Drop> From<AllocFailed<T>> for StatementFault {
 }
 
 impl From<LexFault> for StatementFault {
-    ghost from_gives = { λ lexical fault. fault ≡ fault_of lexical };
+    ghost from_gives = { λ lexical fault. fault ≡ statement_fault lexical };
 
     fn from(fault: LexFault) -> StatementFault {
         match fault {
