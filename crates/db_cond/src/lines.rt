@@ -3,7 +3,7 @@
 ghost use Rattle.std.specs.Prelude.{◌≡◌, ◌++◌, ◌∷◌, [], pos, OnOk, OnErr};
 ghost use Rattle.std.specs.Fmt.{signed_decimal};
 ghost use Rattle.ct_base.specs.declared.lists.Value.TheVariants.{Number, Text};
-ghost use Rattle.db_cond.specs.Lines.{line as line_text, parted, printed, printed_byte, printed_text};
+ghost use Rattle.db_cond.specs.Lines.{line as line_text, fields_behind_bars, printed, printed_byte, printed_text};
 
 use ct_base::{Memory, Value};
 use std::alloc::Global;
@@ -52,8 +52,8 @@ fn push_value(alloc: Global, out: &mut Vec<u8>, value: &Value) -> Result<(), Mem
 }
 
 /// Puts values, each behind a `|`.
-fn push_parted(alloc: Global, out: &mut Vec<u8>, values: &[Value]) -> Result<(), Memory>
-    ensures { OnOk result (out.new.items ≡ out.old.items ++ parted values.now) }
+fn push_behind_bars(alloc: Global, out: &mut Vec<u8>, values: &[Value]) -> Result<(), Memory>
+    ensures { OnOk result (out.new.items ≡ out.old.items ++ fields_behind_bars values.now) }
 {
     for value in values {
         out.push(b'|')?;
@@ -70,7 +70,7 @@ fn push_fields(alloc: Global, out: &mut Vec<u8>, fields: &[Value]) -> Result<(),
         [] => Ok(()),
         [first, others @ ..] => {
             push_value(alloc, out, first)?;
-            push_parted(alloc, out, others)
+            push_behind_bars(alloc, out, others)
         }
     }
 }

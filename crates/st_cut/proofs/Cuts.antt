@@ -1,6 +1,6 @@
 -- What has been cut, and what one more byte does to what stands open.
 use Rattle.std.proofs.Common.{ℕ, ◌≡◌, Bool, true, false, eqb, List, [], ◌∷◌, ◌++◌, Some, None, refl, sym, ap, ◌∙◌, subst, length, take, ◌<◌, arith}
-use Rattle.st_cut.specs.Cut.{is_blank, line_end, first_statement, Cuts}
+use Rattle.st_cut.specs.Cut.{is_blank_byte, line_end, first_statement, Cuts}
 
 -- what has been cut stays cut, whatever comes
 pub line_end_goes_on : (w : Bool) (bs next more : List ℕ) → line_end false bs ≡ Some next → line_end w (bs ++ more) ≡ Some (next ++ more)
@@ -44,20 +44,20 @@ open_last [] found h e = cc
 open_last (c ∷ cs) found h e = grind (arith, line_last, open_last cs)
 
 -- a blank leaves the end where it is
-pub line_blank : (bs : List ℕ) (b : ℕ) → line_end false bs ≡ None → is_blank b ≡ true → line_end true (bs ++ b ∷ []) ≡ line_end true bs
+pub line_blank : (bs : List ℕ) (b : ℕ) → line_end false bs ≡ None → is_blank_byte b ≡ true → line_end true (bs ++ b ∷ []) ≡ line_end true bs
 line_blank [] b h e = grind arith
 line_blank (c ∷ cs) b h e = grind (arith, line_blank cs b)
 
-pub open_blank : (held : List ℕ) (b : ℕ) → first_statement false held ≡ None → is_blank b ≡ true → first_statement true (held ++ b ∷ []) ≡ first_statement true held
+pub open_blank : (held : List ℕ) (b : ℕ) → first_statement false held ≡ None → is_blank_byte b ≡ true → first_statement true (held ++ b ∷ []) ≡ first_statement true held
 open_blank [] b h e = grind arith
 open_blank (c ∷ cs) b h e = grind (arith, line_blank, open_blank cs b)
 
 -- any other byte puts the end off
-pub line_byte : (bs : List ℕ) (b : ℕ) → line_end false bs ≡ None → is_blank b ≡ false → eqb b 10 ≡ false → line_end true (bs ++ b ∷ []) ≡ None
+pub line_byte : (bs : List ℕ) (b : ℕ) → line_end false bs ≡ None → is_blank_byte b ≡ false → eqb b 10 ≡ false → line_end true (bs ++ b ∷ []) ≡ None
 line_byte [] b h e n = grind arith
 line_byte (c ∷ cs) b h e n = grind (arith, line_byte cs b)
 
-pub open_byte : (held : List ℕ) (b : ℕ) → first_statement false held ≡ None → is_blank b ≡ false → eqb b 10 ≡ false → eqb b 59 ≡ false → first_statement true (held ++ b ∷ []) ≡ None
+pub open_byte : (held : List ℕ) (b : ℕ) → first_statement false held ≡ None → is_blank_byte b ≡ false → eqb b 10 ≡ false → eqb b 59 ≡ false → first_statement true (held ++ b ∷ []) ≡ None
 open_byte [] b h e n s = grind arith
 open_byte (c ∷ cs) b h e n s = grind (arith, line_byte, open_byte cs b)
 

@@ -2,14 +2,14 @@
 use Rattle.std.specs.Prelude.{ℕ, ◌≡◌, Bool, true, false, ◌||◌, ◌==◌, List, [], ◌∷◌, ◌++◌, Option, Some, None, codes, refl}
 use Rattle.std.specs.Bool.{if◌then◌else◌}
 
-abbrev pub is_blank : ℕ → Bool
-is_blank b = (b == 32) || ((b == 9) || (b == 13))
+abbrev pub is_blank_byte : ℕ → Bool
+is_blank_byte b = (b == 32) || ((b == 9) || (b == 13))
 
 -- What stands behind the newline, where there are only blanks before it.
 -- The end of a whole script counts as a newline; the end of what has come so far does not.
 abbrev pub line_end : Bool → List ℕ → Option (List ℕ)
 line_end whole [] = if whole then Some [] else None
-line_end whole (b ∷ bs) = if b == 10 then Some bs else (if is_blank b then line_end whole bs else None)
+line_end whole (b ∷ bs) = if b == 10 then Some bs else (if is_blank_byte b then line_end whole bs else None)
 
 -- a statement and what stands behind its end, with one more byte in front
 abbrev pub after_byte : ℕ → Option (List ℕ × List ℕ) → Option (List ℕ × List ℕ)

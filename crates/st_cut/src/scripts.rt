@@ -2,7 +2,7 @@
 
 ghost use Rattle.std.specs.Prelude.{◌≡◌, ◌≤◌, ◌++◌, ◌∷◌, [], ℕ, List, IfOk, OnOk, length};
 ghost use Rattle.st_cut.specs.Cut.{IsCut};
-ghost use Rattle.st_cut.specs.Seen.{Cutting, Shows, texts};
+ghost use Rattle.st_cut.specs.Seen.{Cutting, ShowsText, texts};
 
 use crate::cutters::Cutter;
 use ct_base::Memory;
@@ -10,7 +10,7 @@ use std::alloc::Global;
 
 /// Adds a text, where it is given.
 fn push_text(alloc: Global, items: &mut Vec<Vec<u8>>, text: Option<&[u8]>) -> Result<(), Memory>
-    ensures { OnOk result ((limit : ℕ) (shown : List ℕ) → Shows limit text.entry shown → length shown ≤ limit
+    ensures { OnOk result ((limit : ℕ) (shown : List ℕ) → ShowsText limit text.entry shown → length shown ≤ limit
         → texts items.new.items ≡ texts items.old.items ++ shown ∷ []) }
 {
     let Some(text) = text else {
