@@ -6,7 +6,7 @@ use Rattle.ct_base.specs.Moments.{Passes, passes_none, passes_more, passes_then}
 use Rattle.ct_base.specs.Told.{behind_none, behind_twice, SaysPart, says_back}
 use Rattle.ct_keep.specs.Content.{Content}
 use Rattle.st_cut.specs.Cut.{first_statement}
-use Rattle.st_cut.specs.Seen.{Seen, Stands as StandsOpen}
+use Rattle.st_cut.specs.Seen.{Seen, StandsOpen}
 use Rattle.st_cut.proofs.Cuts.{cuts_go_on, open_newline}
 use Rattle.db_engine.specs.States.{State}
 use Rattle.db_engine.specs.Refusals.{state_by, reply_by}

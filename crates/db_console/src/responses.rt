@@ -5,7 +5,7 @@ ghost use Rattle.std.specs.Str.{chars};
 ghost use Rattle.ct_keep.specs.Content.{Content};
 ghost use Rattle.ct_keep.specs.KeeperViews.{Kept};
 ghost use Rattle.st_parse.specs.Grammar.{read};
-ghost use Rattle.st_cut.specs.Seen.{Shows as ShowsText};
+ghost use Rattle.st_cut.specs.Seen.{ShowsText};
 ghost use Rattle.db_engine.specs.States.{State, Stands, TakesAll};
 ghost use Rattle.db_engine.specs.Refusals.{reply_by};
 ghost use Rattle.db_engine.specs.Steps.{effect_of, rest_step, is_text as is_text_bytes};
