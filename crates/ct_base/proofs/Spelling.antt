@@ -1,14 +1,12 @@
 -- A name's bytes are ASCII.
 use Rattle.std.proofs.Common.{refl, ap, ◌∙◌, ◌≡◌, ℕ, ◌+◌, ◌<◌, ◌≤◌, ltb, cond, Bool, true, false, List, [], ◌∷◌, ◌++◌, get_or, arith, zero, suc, length, map, take}
-use Rattle.std.specs.Prelude.{◌&&◌, nat_le}
+use Rattle.std.specs.Prelude.{nat_lt}
 use Rattle.std.specs.Char.{is_ascii_alphabetic, to_ascii_lowercase}
 use Rattle.std.specs.List.{list_all}
+use Rattle.std.proofs.lemmas.Bool.{and_parts}
 use Rattle.std.proofs.lemmas.List.{take_more, map-append, length-map}
+use Rattle.ct_base.specs.Limits.{name_limit}
 use Rattle.ct_base.specs.Names.{is_spelling, is_name_byte, IsName}
-
-and_parts : (a b : Bool) → (a && b) ≡ true → (a ≡ true) × (b ≡ true)
-and_parts true b h = (refl, h)
-and_parts false b h = cc
 
 name_byte_is_ascii : (b : ℕ) → is_name_byte b ≡ true → to_ascii_lowercase b < 128
 name_byte_is_ascii b h = grind arith
@@ -24,9 +22,9 @@ all_ascii (b ∷ bs) (suc i) h = all_ascii bs i ((and_parts (is_name_byte b) _ h
 pub spelling_is_ascii : (bs : List ℕ) (i : ℕ) → is_spelling bs ≡ true → to_ascii_lowercase (get_or bs i 0) < 128
 spelling_is_ascii [] i h = cc
 spelling_is_ascii (b ∷ bs) zero h = letter_is_ascii b ((and_parts (is_ascii_alphabetic b) _ h).0)
-spelling_is_ascii (b ∷ bs) (suc i) h = all_ascii bs i ((and_parts (nat_le (length bs) 29) _ ((and_parts (is_ascii_alphabetic b) _ h).1)).1)
+spelling_is_ascii (b ∷ bs) (suc i) h = all_ascii bs i ((and_parts (nat_lt (length bs) name_limit) _ ((and_parts (is_ascii_alphabetic b) _ h).1)).1)
 
--- a front in lower case, and one byte more
+-- a prefix in lower case, and one byte more
 pub lower-more : (bs : List ℕ) (i : ℕ) → i < length bs → map to_ascii_lowercase (take i bs) ++ to_ascii_lowercase (get_or bs i 0) ∷ [] ≡ map to_ascii_lowercase (take (i + 1) bs)
 lower-more bs i h = rw (take_more bs i 0 h, map-append) refl
 
@@ -66,5 +64,5 @@ lower_is_name bs h = record { spelt = spelt bs h; lower = twice bs }
     spelt [] h = cc
     spelt (b ∷ bs) h =
         let p = and_parts (is_ascii_alphabetic b) _ h in
-        let q = and_parts (nat_le (length bs) 29) _ p.1 in
+        let q = and_parts (nat_lt (length bs) name_limit) _ p.1 in
         rw (letter b p.0, long bs, q.0, bytes bs q.1) refl

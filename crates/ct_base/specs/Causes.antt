@@ -1,7 +1,7 @@
 -- Faults and their causes. A count rises at each fault, and stands still at the end of its type, 2^64 - 1.
 use Rattle.std.specs.Prelude.{ℕ, ◌+◌, ◌-◌, ◌^◌, ◌≤◌, min, Result}
 use Rattle.std.specs.Result.{OnErr}
-use Rattle.std.proofs.Common.{Ok, Err, arith}
+use Rattle.std.proofs.Common.{arith}
 
 -- the count rose, or stands at its last value
 abbrev pub Rose : ℕ → ℕ → Type 0
@@ -12,9 +12,12 @@ pub record HasCause {T E : Type 0} (before now : ℕ) (result : Result T E) : Ty
   pub later : before ≤ now
   pub failed : OnErr result (Rose before now)
 
-pub cause_then : {T E : Type 0} (old mid new : ℕ) (result : Result T E) → old ≤ mid → HasCause mid new result → HasCause old new result
-cause_then old mid new result first second = record { later = omega (arith, first, second.later); failed = rose result second.failed }
-  where
-    rose : {T E : Type 0} (result : Result T E) → OnErr result (Rose mid new) → OnErr result (Rose old new)
-    rose (Ok x) r = r
-    rose (Err e) r = omega (arith, first, r)
+-- computed examples: a count that rose, and one that stands at its last value, 2^64 - 1
+rose_once : Rose 3 4
+rose_once = omega arith
+
+not_without_a_rise : Rose 3 3 → ⊥
+not_without_a_rise h = omega (arith, h)
+
+at_its_last_value : Rose (2 ^ 64 - 1) (2 ^ 64 - 1)
+at_its_last_value = omega arith

@@ -1,6 +1,7 @@
+pub mod Limits
 pub mod Names
 pub mod Told
 pub mod Causes
 pub mod Characters
 pub mod Moments
-pub mod NameLaws
+pub mod laws

@@ -1,16 +1,17 @@
 -- How a name is spelt. Bytes: `_` is 95, `$` 36, `#` 35.
-use Rattle.std.specs.Prelude.{ℕ, ◌≡◌, ◌==◌, nat_le, Bool, true, false, ◌||◌, ◌&&◌, List, [], ◌∷◌, map, length, Option, Some, None, codes, refl}
+use Rattle.std.specs.Prelude.{ℕ, ◌≡◌, ◌==◌, nat_lt, Bool, true, false, ◌||◌, ◌&&◌, List, [], ◌∷◌, map, length, Option, Some, None, codes, refl}
 use Rattle.std.specs.Bool.{if◌then◌else◌}
 use Rattle.std.specs.List.{list_all}
 use Rattle.std.specs.Char.{is_ascii_alphabetic, is_ascii_alphanumeric, to_ascii_lowercase}
+use Rattle.ct_base.specs.Limits.{name_limit}
 
 abbrev pub is_name_byte : ℕ → Bool
 is_name_byte b = is_ascii_alphanumeric b || ((b == 95) || ((b == 36) || (b == 35)))
 
--- a letter, and then at most 29 letters, digits, `_`, `$` and `#`
+-- a letter, and then letters, digits, `_`, `$` and `#`, of which there are fewer than 30
 abbrev pub is_spelling : List ℕ → Bool
 is_spelling [] = false
-is_spelling (b ∷ bs) = is_ascii_alphabetic b && (nat_le (length bs) 29 && list_all is_name_byte bs)
+is_spelling (b ∷ bs) = is_ascii_alphabetic b && (nat_lt (length bs) name_limit && list_all is_name_byte bs)
 
 -- a name as it is kept: spelt as one, in lower case
 pub record IsName (name : List ℕ) : Type 0 where

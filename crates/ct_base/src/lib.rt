@@ -2,6 +2,7 @@
 #![tactic(auto)]
 
 mod faults;
+mod limits;
 mod lists;
 mod names;
 mod numbers;
@@ -9,6 +10,7 @@ mod reading;
 mod texts;
 
 pub use faults::Memory;
+pub use limits::{COLUMN_LIMIT, NAME_LIMIT, ROW_LIMIT, TABLE_LIMIT, TEXT_LIMIT, TOKEN_LIMIT};
 pub use lists::{Bytes, Listed, Numbers, Pairs, Value, Values};
 pub use names::{Name, NameFault};
 pub use numbers::{DocId, Pair, RowKey};

@@ -8,6 +8,7 @@ ghost use Rattle.ct_base.specs.declared.names.NameFault.TheVariants.{Memory as O
 ghost use Rattle.std.specs.String.{string_bytes};
 
 use crate::faults::Memory;
+use crate::limits::NAME_LIMIT;
 use crate::reading::push_ascii;
 use std::alloc::Global;
 use std::marker::Model;
@@ -56,12 +57,12 @@ fn is_spelling(bytes: &[u8]) -> bool
     match bytes {
         [] => false,
         [first, rest @ ..] => {
-            first.is_ascii_alphabetic() && rest.len() <= 29 && are_name_bytes(rest)
+            first.is_ascii_alphabetic() && rest.len() < NAME_LIMIT && are_name_bytes(rest)
         }
     }
 }
 
-/// Whether the byte may stand in a name behind its first letter.
+/// Whether the byte may stand in a name after its first letter.
 fn is_name_byte(byte: u8) -> bool
     ensures { result ≡ is_name_byte byte }
 {

@@ -7,7 +7,7 @@ use Rattle.std.proofs.Math.Numerals.{add-one}
 use Rattle.std.specs.Prelude.{Some, None, Result, Ok, Err}
 use Rattle.std.specs.Result.{OkIff, result_ok}
 use Rattle.ct_bytes.specs.Varints.{varint, varint_in, IsVarintAt}
-use Rattle.ct_bytes.specs.VarintLaws.{varint_last, varint_more, varint_apart, varint_length}
+use Rattle.ct_bytes.specs.laws.Varints.{varint_last, varint_more, varint_apart, varint_length}
 
 -- Bytes that more follow have been read, and whatever number the rest spells completes the number.
 pub record HasRead (bytes : List ℕ) (i number weight : ℕ) : Type 0 where
@@ -28,7 +28,7 @@ nothing_read bytes = record {
   spelt = λ more rest e h. let number : 0 + 1 * rest ≡ rest = omega arith in ap varint number ∙ all_of more rest (omega arith);
 }
 
--- a byte that more follow, and the bytes behind it
+-- a byte that more follow, and the bytes after it
 one_more : (more c rest : ℕ) → 128 ≤ c → c < 256 → 0 < rest → varint_in (suc more) (c % 128 + 128 * rest) ≡ c ∷ varint_in more rest
 one_more more c rest high byte some =
     let low : 128 + (c % 128 + 128 * rest) % 128 ≡ c = omega arith in
@@ -59,13 +59,13 @@ read_more bytes i number weight c read within at high byte = record {
 
 -- the last byte, which is 0 only where it is the only one
 pub read_last : (bytes : List ℕ) (i number weight c : ℕ) → HasRead bytes i number weight → i ≤ 4 → i < length bytes → c ≡ get_or bytes i 0 → c < 128 → (0 < c) ⊎ (i ≡ 0) → varint (number + c % 128 * weight) ≡ take (i + 1) bytes
-read_last bytes i number weight c read most within at low last = elim last [ inl some ↦ behind some | inr first ↦ alone first ]
+read_last bytes i number weight c read most within at low last = elim last [ inl some ↦ end some | inr first ↦ alone first ]
   where
     taken : take i bytes ++ c ∷ [] ≡ take (i + 1) bytes
     taken = ap (λ b. take i bytes ++ b ∷ []) at ∙ sym (take_more bytes i 0 within)
 
-    behind : 0 < c → varint (number + c % 128 * weight) ≡ take (i + 1) bytes
-    behind some =
+    end : 0 < c → varint (number + c % 128 * weight) ≡ take (i + 1) bytes
+    end some =
         let same : c % 128 ≡ c = omega arith in
         let number_is : number + c % 128 * weight ≡ number + weight * c = rw same (omega arith) in
         ap varint number_is ∙ read.spelt (4 - i) c (omega arith) some ∙ ap (λ x. take i bytes ++ x) (varint_last (4 - i) c low) ∙ taken
@@ -82,20 +82,20 @@ pub is_at : (bytes : List ℕ) (i n : ℕ) → varint n ≡ take (i + 1) bytes �
 is_at bytes i n spelt within small = record {
   small = small;
   spelt = sym (ap (λ x. x ++ drop (i + 1) bytes) spelt ∙ take-append-drop (i + 1) bytes);
-  behind = sym (omega (arith, ap length spelt ∙ length-take-le (i + 1) bytes (omega arith)));
+  end = sym (omega (arith, ap length spelt ∙ length-take-le (i + 1) bytes (omega arith)));
 }
 
 -- What the bytes before a place tell of the place, where a number's bytes and then others stand
 abbrev Later : ℕ → ℕ → List ℕ → List ℕ → Type 0
-Later n i s front = ((j : ℕ) → j < i → 128 ≤ get_or (front ++ s) j 0) → (i < length front) × (0 < n → 0 < get_or (front ++ s) i 0) × (0 < i → 0 < get_or (front ++ s) i 0)
+Later n i s prefix = ((j : ℕ) → j < i → 128 ≤ get_or (prefix ++ s) j 0) → (i < length prefix) × (0 < n → 0 < get_or (prefix ++ s) i 0) × (0 < i → 0 < get_or (prefix ++ s) i 0)
 
 alone_later : (n i : ℕ) (s : List ℕ) → n < 128 → Later n i s (n ∷ [])
 alone_later n zero s small high = (omega arith, λ p. p, λ p. absurd (omega arith))
 alone_later n (suc i) s small high = absurd (let first = high 0 (omega arith) in omega (arith, first))
 
-more_later : (b n rest i : ℕ) (s front : List ℕ) → 0 < b → 0 < rest → ((i : ℕ) → Later rest i s front) → Later n i s (b ∷ front)
-more_later b n rest zero s front byte some later high = (omega arith, λ _. byte, λ _. byte)
-more_later b n rest (suc i) s front byte some later high =
+more_later : (b n rest i : ℕ) (s prefix : List ℕ) → 0 < b → 0 < rest → ((i : ℕ) → Later rest i s prefix) → Later n i s (b ∷ prefix)
+more_later b n rest zero s prefix byte some later high = (omega arith, λ _. byte, λ _. byte)
+more_later b n rest (suc i) s prefix byte some later high =
     let t = later i (λ j h. high (suc j) (omega arith)) in
     (omega (arith, t.0), λ _. t.1 some, λ _. t.1 some)
 
@@ -108,7 +108,7 @@ last_later (suc more) n i s small = elim (cases_lt n 128) [
       subst (Later n i s) (sym (varint_more more n large)) (more_later _ n (n / 128) i s _ (omega arith) (omega arith) (λ k. last_later more (n / 128) k s rest_small))
 ]
 
--- The last byte comes behind those that more follow, and it is 0 only where it is the only one.
+-- The last byte comes after those that more follow, and it is 0 only where it is the only one.
 later_at : (bytes : List ℕ) (n next i : ℕ) → IsVarintAt bytes 0 n next → ((j : ℕ) → j < i → 128 ≤ get_or bytes j 0) → (i < length (varint n)) × (0 < n → 0 < get_or bytes i 0) × (0 < i → 0 < get_or bytes i 0)
 unfolding varint
 later_at bytes n next i is = rw is.spelt (last_later 4 n i (drop next bytes) (omega (arith, is.small)))
@@ -126,9 +126,9 @@ module _ (bytes : List ℕ) (n next i : ℕ) (is : IsVarintAt bytes 0 n next) wh
   not_longer high five = let later = later_at bytes n next i is high in omega (arith, later.0, varint_length n)
 
   pub not_zero : ((j : ℕ) → j < i → 128 ≤ get_or bytes j 0) → 0 < i → 0 ≡ get_or bytes i 0 → ⊥
-  not_zero high behind last =
+  not_zero high end last =
       let later = later_at bytes n next i is high in
-      omega (arith, later.2 behind)
+      omega (arith, later.2 end)
 
   pub not_large : (v : ℕ) → varint v ≡ take (i + 1) bytes → 2 ^ 32 ≤ v → ⊥
   not_large v spelt large =
@@ -147,15 +147,15 @@ cast_err (Err e) v iff is = iff
 
 -- a varint at a place, and at the front of what stands from there on
 pub at_place : (bytes rest : List ℕ) (at n len : ℕ) → rest ≡ drop at bytes → IsVarintAt rest 0 n len → IsVarintAt bytes at n (at + len)
-at_place bytes rest at n len is front = record {
-  small = front.small;
-  spelt = sym is ∙ front.spelt ∙ ap (λ x. varint n ++ x) (ap (drop len) is ∙ drop-drop len at bytes);
-  behind = omega (arith, front.behind);
+at_place bytes rest at n len is prefix = record {
+  small = prefix.small;
+  spelt = sym is ∙ prefix.spelt ∙ ap (λ x. varint n ++ x) (ap (drop len) is ∙ drop-drop len at bytes);
+  end = omega (arith, prefix.end);
 }
 
 pub at_front : (bytes rest : List ℕ) (at n next : ℕ) → rest ≡ drop at bytes → IsVarintAt bytes at n next → IsVarintAt rest 0 n (length (varint n))
 at_front bytes rest at n next is place = record {
   small = place.small;
-  spelt = is ∙ place.spelt ∙ ap (λ x. varint n ++ x) (ap (λ k. drop k bytes) place.behind ∙ sym (drop-drop (length (varint n)) at bytes) ∙ ap (drop (length (varint n))) (sym is));
-  behind = omega arith;
+  spelt = is ∙ place.spelt ∙ ap (λ x. varint n ++ x) (ap (λ k. drop k bytes) place.end ∙ sym (drop-drop (length (varint n)) at bytes) ∙ ap (drop (length (varint n))) (sym is));
+  end = omega arith;
 }

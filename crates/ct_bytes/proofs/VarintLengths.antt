@@ -1,7 +1,7 @@
 -- How many bytes a varint takes.
 use Rattle.std.proofs.Common.{◌≡◌, ℕ, suc, ◌/◌, ◌<◌, ◌≤◌, length, sym, ap, ◌∙◌, arith}
 use Rattle.ct_bytes.specs.Varints.{varint_in}
-use Rattle.ct_bytes.specs.VarintLaws.{varint_last, varint_more}
+use Rattle.ct_bytes.specs.laws.Varints.{varint_last, varint_more}
 
 pub one_byte : (more n : ℕ) → n < 128 → 1 ≡ length (varint_in more n)
 one_byte more n small = sym (ap length (varint_last more n small))

@@ -4,7 +4,7 @@ use Rattle.std.proofs.lemmas.Bool.{cases_lt}
 use Rattle.std.proofs.lemmas.List.{take_more_set}
 use Rattle.std.proofs.Math.Nat.{pow-suc}
 use Rattle.ct_bytes.specs.Varints.{varint, varint_in}
-use Rattle.ct_bytes.specs.VarintLaws.{varint_last, varint_more}
+use Rattle.ct_bytes.specs.laws.Varints.{varint_last, varint_more}
 
 -- Bytes that more follow have been written, and the rest completes them.
 pub record HasWritten (bytes : List ℕ) (at rest n : ℕ) : Type 0 where

@@ -3,13 +3,13 @@ use Rattle.std.specs.Prelude.{ℕ, ℤ, pos, negsuc, ◌≡◌, ◌+◌, ◌-◌
 use Rattle.std.specs.Int.{to_be_bytes, w64}
 
 -- a number of 64 bits with its sign bit turned: the least is 0
-abbrev pub raised : ℤ → ℕ
-raised (pos n) = n + 2 ^ 63
-raised (negsuc n) = 2 ^ 63 - 1 - n
+abbrev pub sign_turned : ℤ → ℕ
+sign_turned (pos n) = n + 2 ^ 63
+sign_turned (negsuc n) = 2 ^ 63 - 1 - n
 
 -- its eight bytes, the highest first
 unfoldable pub row_bytes : ℤ → List ℕ
-row_bytes z = to_be_bytes w64 (raised z)
+row_bytes z = to_be_bytes w64 (sign_turned z)
 
 -- computed examples
 seven : row_bytes (pos 7) ≡ 0x80 ∷ 0 ∷ 0 ∷ 0 ∷ 0 ∷ 0 ∷ 0 ∷ 7 ∷ []

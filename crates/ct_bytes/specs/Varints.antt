@@ -11,19 +11,19 @@ varint_in (suc more) n = if nat_lt n 128 then n ∷ [] else (128 + n % 128) ∷ 
 unfoldable pub varint : ℕ → List ℕ
 varint n = varint_in 4 n
 
--- From `at` on the bytes spell this number, and `next` is the place behind it.
+-- From `at` on the bytes spell this number, and `next` is the place after it.
 pub record IsVarintAt (bytes : List ℕ) (at n next : ℕ) : Type 0 where
   pub small : n < 2 ^ 32
   pub spelt : drop at bytes ≡ varint n ++ drop next bytes
-  pub behind : next ≡ at + length (varint n)
+  pub end : next ≡ at + length (varint n)
 
 -- From `at` on the bytes spell this text: its length as a varint, and its bytes.
 pub record IsTextAt (bytes : List ℕ) (at : ℕ) (text : List ℕ) (next : ℕ) : Type 0 where
   pub small : length text < 2 ^ 32
   pub spelt : drop at bytes ≡ varint (length text) ++ text ++ drop next bytes
-  pub behind : next ≡ at + length (varint (length text)) + length text
+  pub end : next ≡ at + length (varint (length text)) + length text
 
--- a text behind its length
+-- a text after its length
 abbrev pub text_bytes : List ℕ → List ℕ
 text_bytes text = varint (length text) ++ text
 

@@ -1,9 +1,6 @@
 //! What holds of the bytes of everything that is written. Each function here only states laws, which its contract proves.
 
-ghost use Rattle.ct_bytes.specs.VarintLaws.{NoVarintBeginsAnother, PlacesHaveOneVarint, VarintsAreReadBack, NoTextBeginsAnother, PlacesHaveOneText, TextsAreReadBack};
-ghost use Rattle.ct_bytes.specs.VarintSums.{VarintsAreSums, VarintsHaveTopBits, VarintsEndInNoZero};
-ghost use Rattle.ct_bytes.specs.RowKeyLaws.{KeysHaveEightBytes, KeysHaveTheirOwnBytes, BytesAreInKeyOrder};
-ghost use Rattle.ct_bytes.specs.NumberLaws.{TwoBytesAreOneNumber, FourBytesAreOneNumber, TwoBytesAreInOrder, FourBytesAreInOrder};
+ghost use Rattle.ct_bytes.specs.Promises.{NoVarintBeginsAnother, PlacesHaveOneVarint, VarintsAreReadBack, NoTextBeginsAnother, PlacesHaveOneText, TextsAreReadBack, VarintsAreSums, VarintsHaveTopBits, VarintsEndInNoZero, KeysHaveEightBytes, KeysHaveTheirOwnBytes, BytesAreInKeyOrder, TwoBytesAreOneNumber, FourBytesAreOneNumber, TwoBytesAreInOrder, FourBytesAreInOrder};
 
 /// No varint begins another, a place has one at most, and each number below 2^32 is read back from its bytes.
 pub fn varints_are_exact()
@@ -20,7 +17,7 @@ pub fn varints_are_sums()
     ensures no_zero { VarintsEndInNoZero }
 {}
 
-/// The same of texts behind their lengths.
+/// The same of texts after their lengths.
 pub fn texts_are_exact()
     ensures apart { NoTextBeginsAnother }
     ensures one { PlacesHaveOneText }

@@ -6,7 +6,7 @@ ghost use Rattle.ct_bytes.specs.Varints.{IsTextAt, text_bytes};
 use crate::varints::{put_varint, read_varint};
 use ct_base::Memory;
 
-/// The text that stands from `at` on, and the place behind it. Nothing is copied.
+/// The text that stands from `at` on, and the place after it. Nothing is copied.
 ///
 /// There is none where no varint stands, and where fewer bytes follow than it says.
 pub fn read_text(bytes: &[u8], at: usize) -> Option<(&[u8], usize)>
@@ -20,7 +20,7 @@ pub fn read_text(bytes: &[u8], at: usize) -> Option<(&[u8], usize)>
     Some((text, end))
 }
 
-/// Puts a text behind its length at the end.
+/// Puts a text after its length at the end.
 pub fn put_text(out: &mut Vec<u8>, text: &[u8]) -> Result<(), Memory>
     requires { length text.now < 2 ^ 32 }
     ensures ok { OnOk result (out.new.items ≡ out.old.items ++ text_bytes text.now) }

@@ -5,8 +5,8 @@ ghost use Rattle.ct_bytes.specs.Varints.{varint, IsVarintAt};
 
 use ct_base::Memory;
 
-/// The varint at the front of the bytes: its number, and how many bytes it takes.
-fn front_varint(bytes: &[u8]) -> Option<(u32, usize)>
+/// The varint with which the bytes begin: its number, and how many bytes it takes.
+fn first_varint(bytes: &[u8]) -> Option<(u32, usize)>
     ensures some { IfSome result (λ r. IsVarintAt bytes.now 0 r.0 r.1) }
     ensures none { IfNone result ((n next : ℕ) → IsVarintAt bytes.now 0 n next → ⊥) }
     ensures within { IfSome result (λ r. r.1 ≤ length bytes.now) }
@@ -29,7 +29,7 @@ fn front_varint(bytes: &[u8]) -> Option<(u32, usize)>
     None
 }
 
-/// The number that a varint spells from `at` on, and the place behind it. It reads five bytes at most.
+/// The number that a varint spells from `at` on, and the place after it. It reads five bytes at most.
 ///
 /// There is none where the bytes end early, where they spell a number from 2^32 on, or where they spell it with
 /// more bytes than it needs. Each number has one spelling.
@@ -39,7 +39,7 @@ pub fn read_varint(bytes: &[u8], at: usize) -> Option<(u32, usize)>
     ensures within { IfSome result (λ r. r.1 ≤ length bytes.now) }
 {
     let rest = bytes.get(at..)?;
-    let (number, len) = front_varint(rest)?;
+    let (number, len) = first_varint(rest)?;
     Some((number, at + len))
 }
 
@@ -56,7 +56,7 @@ pub fn varint_len(n: u32) -> usize
     }
 }
 
-/// The bytes of a varint at the front of five, and how many they are.
+/// Five bytes that begin with a varint, and how many bytes it has.
 fn spell(n: u32) -> ([u8; 5], usize)
     ensures spelt { take result.1 result.0 ≡ varint n }
     ensures within { result.1 ≤ length result.0 }

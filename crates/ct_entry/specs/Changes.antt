@@ -1,7 +1,7 @@
 -- Changes on keys: what a call puts into a batch.
 use Rattle.std.specs.Prelude.{◌≡◌, ℕ, Bool, true, cond, List, [], ◌∷◌, Option, Some, None, pos, codes, refl}
 use Rattle.ct_entry.specs.declared.kinds.Kind.{Kind}
-use Rattle.ct_entry.specs.Keys.{Key, bytes, same, IsKey, key, row_part}
+use Rattle.ct_entry.specs.Keys.{Key, bytes, same_key, IsKey, key, row_part}
 use Rattle.ct_bytes.specs.RowKeys.{row_bytes}
 use Rattle.ct_entry.specs.declared.kinds.Kind.TheVariants.{RowNumbers, Pending}
 
@@ -23,7 +23,7 @@ spell (w ∷ ws) = (bytes w.0, w.1) ∷ spell ws
 -- what a key has after the changes, where it had `old` before
 abbrev pub told : List (Key × Option (List ℕ)) → Key → Option (List ℕ) → Option (List ℕ)
 told [] k old = old
-told (w ∷ ws) k old = told ws k (cond (same k w.0) w.1 old)
+told (w ∷ ws) k old = told ws k (cond (same_key k w.0) w.1 old)
 
 -- what the changes make of a view: of what each key has
 abbrev pub view : List (Key × Option (List ℕ)) → (Key → Option (List ℕ)) → Key → Option (List ℕ)

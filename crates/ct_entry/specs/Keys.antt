@@ -3,6 +3,7 @@ use Rattle.std.specs.Prelude.{◌≡◌, ℕ, ℤ, pos, Bool, true, false, ◌==
 use Rattle.std.specs.Int.{to_be_bytes, w32, w64}
 use Rattle.std.specs.FinMap.{get}
 use Rattle.ct_base.specs.Names.{IsName}
+use Rattle.ct_base.specs.Limits.{token_limit, stream_limit, sub_index_limit}
 use Rattle.ct_bytes.specs.RowKeys.{row_bytes}
 use Rattle.ct_keep.specs.Content.{Content}
 use Rattle.ct_entry.specs.declared.kinds.Kind.{Kind}
@@ -41,8 +42,8 @@ same_list (x ∷ xs) [] = false
 same_list (x ∷ xs) (y ∷ ys) = (x == y) && same_list xs ys
 
 -- whether two keys are one
-abbrev pub same : Key → Key → Bool
-same a b = (code a.kind == code b.kind) && (same_list a.owner b.owner && same_list a.part b.part)
+abbrev pub same_key : Key → Key → Bool
+same_key a b = (code a.kind == code b.kind) && (same_list a.owner b.owner && same_list a.part b.part)
 
 -- ---- the rests of keys
 
@@ -90,7 +91,7 @@ IsDocument document = document < 2 ^ 32
 -- 1 to 255 bytes
 pub record IsToken (token : List ℕ) : Type 0 where
   pub some : 1 ≤ length token
-  pub short : length token ≤ 255
+  pub short : length token ≤ token_limit
 
 -- the rests that the keys of a kind have
 abbrev pub IsPart : Kind → List ℕ → Type 0
@@ -107,11 +108,11 @@ IsPart Indexes p = p ≡ []
 IsPart DocumentRows p = (document : ℕ) × IsDocument document × (p ≡ document_part document)
 IsPart RowDocuments p = IsRowPart p
 IsPart Pending p = IsRowPart p
-IsPart Postings p = (stream document : ℕ) × ((token : List ℕ) × (stream ≤ 64) × IsToken token × IsDocument document × (p ≡ posting_part stream token document))
+IsPart Postings p = (stream document : ℕ) × ((token : List ℕ) × (stream ≤ stream_limit) × IsToken token × IsDocument document × (p ≡ posting_part stream token document))
 IsPart Spans p = (document : ℕ) × ((section : List ℕ) × IsName section × IsDocument document × (p ≡ span_part section document))
-IsPart Catalogue p = (sub : ℕ) × ((token values : List ℕ) × ((row : ℤ) × (sub ≤ 16) × IsToken token × IsRow row × (p ≡ catalogue_part sub token values row)))
+IsPart Catalogue p = (sub : ℕ) × ((token values : List ℕ) × ((row : ℤ) × (sub ≤ sub_index_limit) × IsToken token × IsRow row × (p ≡ catalogue_part sub token values row)))
 IsPart Rules p = IsRowPart p
-IsPart Anchors p = (anchor : List ℕ) × ((row : ℤ) × (length anchor ≤ 255) × IsRow row × (p ≡ anchor_part anchor row))
+IsPart Anchors p = (anchor : List ℕ) × ((row : ℤ) × (length anchor ≤ token_limit) × IsRow row × (p ≡ anchor_part anchor row))
 IsPart RuleFaults p = IsRowPart p
 
 -- a key of one of the kinds, whose owner is a name
@@ -170,7 +171,7 @@ postings_of_quick : bytes (key Postings (codes "di") (posting_part 0 (codes "qui
 postings_of_quick = refl
 
 -- keys with one rest under two kinds are two
-apart_by_kind : same (key RowDocuments (codes "di") (row_part (pos 1))) (key Pending (codes "di") (row_part (pos 1))) ≡ false
+apart_by_kind : same_key (key RowDocuments (codes "di") (row_part (pos 1))) (key Pending (codes "di") (row_part (pos 1))) ≡ false
 apart_by_kind = refl
 
 -- the key of a table has no rest

@@ -1,4 +1,4 @@
--- What scans list: the entries of a finite map, behind a prefix, in the order of its keys.
+-- What scans list: the entries of a finite map, after a prefix, in the order of its keys.
 use Rattle.std.specs.Prelude.{ℕ, ℤ, pos, negsuc, ◌-◌, ◌^◌, ◌≡◌, ◌==◌, nat_lt, List, [], ◌∷◌, length, filter, Option, Some, None, codes, refl}
 use Rattle.std.specs.Bool.{if◌then◌else◌}
 use Rattle.std.specs.Int.{from_be_bytes, w64}
@@ -8,7 +8,7 @@ use Rattle.std.specs.Ordering.{nat_cmp, int_cmp, is_lt}
 use Rattle.std.specs.declared.cmp.Ordering.{Ordering}
 use Rattle.std.specs.declared.cmp.Ordering.TheVariants.{Less}
 use Rattle.std.specs.Cmp.Lexicographic.{slice_cmp}
-use Rattle.std.specs.FinMap.{entries}
+use Rattle.std.specs.FinMap.{FinMap, entries, from_entries}
 use Rattle.ct_bytes.specs.RowKeys.{row_bytes}
 use Rattle.ct_base.specs.Names.{kept_name}
 use Rattle.ct_keep.specs.Content.{Content, entries_above, first_entry}
@@ -16,6 +16,7 @@ use Rattle.ct_keep.specs.Tail.{tail}
 use Rattle.ct_entry.specs.declared.kinds.Kind.{Kind}
 use Rattle.ct_entry.specs.Kinds.{code}
 use Rattle.ct_entry.specs.Keys.{counted_bytes, prefix_of, row_part}
+use Rattle.ct_entry.specs.Maps.{Names}
 
 -- ---- the entries of a map
 
@@ -50,12 +51,12 @@ abbrev pub first_of : {X : Type 0} → List X → Option X
 first_of [] = None
 first_of (x ∷ xs) = Some x
 
--- the rest behind which a search begins: that of a row, or none
+-- the rest after which a search begins: that of a row, or none
 abbrev pub place_after : Option ℤ → List ℕ
 place_after None = []
 place_after (Some r) = row_part r
 
--- the row key of the first of an owner's entries of a kind behind that of a row, or of the first of all; none where that entry's rest hasn't 8 bytes
+-- the row key of the first of an owner's entries of a kind after that of a row, or of the first of all; none where that entry's rest hasn't 8 bytes
 abbrev pub row_after : Option ℤ → Kind → List ℕ → Content → Option ℤ
 row_after after kind owner m = option_and_then (λ e. row_of e.0) (first_entry (entries_above (place_after after) (tail (prefix_of kind owner) m)))
 
@@ -81,6 +82,10 @@ owners_under kind m = owners_of (entries (tail (code kind ∷ []) m))
 -- the order in which a scan finds names
 abbrev pub key_order : List ℕ → List ℕ → Ordering
 key_order a b = slice_cmp nat_cmp (counted_bytes a) (counted_bytes b)
+
+-- a map of names in the order in which a scan finds them
+abbrev pub in_key_order : {X : Type 0} → Names X → FinMap key_order X
+in_key_order m = from_entries (entries m)
 
 -- computed examples
 a_row : row_of (row_bytes (pos 7)) ≡ Some (pos 7)

@@ -25,7 +25,7 @@ pub fn prefix_bytes(alloc: Global, kind: Kind, owner: &Name) -> Result<Vec<u8>, 
     Ok(prefix)
 }
 
-/// The bytes of a key: the byte of its kind, its owner behind its length, and its rest.
+/// The bytes of a key: the byte of its kind, its owner after its length, and its rest.
 pub fn key_bytes(alloc: Global, kind: Kind, owner: &Name, part: &[u8]) -> Result<Vec<u8>, Memory>
     ensures { IfOk result (λ b. b.items ≡ bytes (key kind owner.now part.now)) }
 {

@@ -21,7 +21,7 @@ use std::alloc::Global;
 /// An entry: the rest of its key, and its value.
 type Entry = (Vec<u8>, Vec<u8>);
 
-/// An owner's entries of a kind whose rests begin with these bytes and are longer, in order: what stands behind these bytes,
+/// An owner's entries of a kind whose rests begin with these bytes and are longer, in order: what stands after these bytes,
 /// and the value.
 ///
 /// It costs what it finds. It never answers Full.
@@ -30,15 +30,15 @@ pub fn entries_of<K: Keeper>(
     keeper: &mut K,
     kind: Kind,
     owner: &Name,
-    front: &[u8],
+    prefix: &[u8],
 ) -> Result<Vec<(Vec<u8>, Vec<u8>)>, KeepFault>
     requires { (K.view keeper.old).ready }
-    ensures entries { Finds K.view keeper.old result (λ m found. map (λ e. (e.0.items, e.1.items)) found.items ≡ entries (tail (prefix_of kind owner.now ++ front.now) m)) }
+    ensures entries { Finds K.view keeper.old result (λ m found. map (λ e. (e.0.items, e.1.items)) found.items ≡ entries (tail (prefix_of kind owner.now ++ prefix.now) m)) }
     ensures reads { OnlyReads K.view keeper.old keeper.new result }
-    ensures at_most { Told K.view keeper.old (λ m. LooksAtMost K.view keeper.old keeper.new (scan_looks (prefix_of kind owner.now ++ front.now) m)) }
+    ensures at_most { Told K.view keeper.old (λ m. LooksAtMost K.view keeper.old keeper.new (scan_looks (prefix_of kind owner.now ++ prefix.now) m)) }
 {
-    let prefix = key_bytes(alloc, kind, owner, front)?;
-    scan(alloc, keeper, &prefix)
+    let beginning = key_bytes(alloc, kind, owner, prefix)?;
+    scan(alloc, keeper, &beginning)
 }
 
 /// The row key that a rest or a value spells; None where it hasn't 8 bytes.
@@ -100,7 +100,7 @@ fn next_in<K: Keeper>(
     }
 }
 
-/// The row key of the first of an owner's entries of a kind behind that of a row, or of the first of all. None where there
+/// The row key of the first of an owner's entries of a kind after that of a row, or of the first of all. None where there
 /// is none, or where the entry's rest isn't 8 bytes long.
 ///
 /// It takes one look-up, and never answers Full.
@@ -150,7 +150,7 @@ fn owners_among(alloc: Global, found: &[Entry]) -> Result<Vec<Name>, Memory>
 }
 
 /// The owners of a kind whose keys have no rest, in the order of the keys: the shorter names first, and those of a length
-/// in the order of their bytes. What is no name behind its length is left out.
+/// in the order of their bytes. What is no name after its length is left out.
 ///
 /// It costs what it finds. It never answers Full.
 pub fn owners<K: Keeper>(alloc: Global, keeper: &mut K, kind: Kind) -> Result<Vec<Name>, KeepFault>

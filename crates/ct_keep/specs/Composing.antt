@@ -2,8 +2,9 @@
 use Rattle.std.specs.Prelude.{ℕ, ◌≡◌, List, [], ◌++◌, Bool, Option, Some, None, refl}
 use Rattle.std.proofs.Common.{sym, ap, subst, inl, ◌∙◌, arith, length-append}
 use Rattle.ct_base.specs.Causes.{Rose}
-use Rattle.ct_base.specs.Told.{IsSaid, ahead, behind, ahead_none, ahead_twice, SaysPart, behind_none, behind_twice, says_front, says_back}
-use Rattle.ct_base.specs.Moments.{passes_none, passes_more, passes_then, passes_stays, stays_all, stays_then}
+use Rattle.ct_base.specs.Told.{IsSaid, with_prefix, with_suffix, SaysPart}
+use Rattle.ct_base.specs.laws.Told.{with_prefix-nil, with_prefix_twice, with_suffix-nil, with_suffix_twice, says_prefix, says_suffix}
+use Rattle.ct_base.specs.laws.Moments.{passes_none, passes_more, passes_then, passes_nothing, adds_nothing_itself, adds_nothing_then}
 use Rattle.ct_site.specs.Disks.{Beside}
 use Rattle.ct_keep.specs.declared.keepers.KeepFault.{KeepFault}
 use Rattle.ct_keep.specs.declared.keepers.KeepFault.TheVariants.{Memory, Disk, Full}
@@ -63,7 +64,7 @@ kept_short old new kept = record { ready = kept.ready; beside = kept.beside; fix
 -- ---- reads
 
 pub reads_none : (k : KeeperView) → k.ready → Reads k k None
-reads_none k ready = record { not_full = λ e. cc; kept = kept_all k ready; content = refl; time = stays_all k.time; now = λ stopped said now. now; fulls = refl }
+reads_none k ready = record { not_full = λ e. cc; kept = kept_all k ready; content = refl; time = adds_nothing_itself k.time; now = λ stopped said now. now; fulls = refl }
 
 -- reads that succeeded, and then others
 pub reads_on : (old mid new : KeeperView) (fault : Option KeepFault) → Reads old mid None → Reads mid new fault → Reads old new fault
@@ -71,7 +72,7 @@ reads_on old mid new fault first second = record {
   not_full = second.not_full;
   kept = kept_then old mid new fault first.kept second.kept;
   content = same fault second.content;
-  time = stays_then old.time mid.time new.time first.time second.time;
+  time = adds_nothing_then old.time mid.time new.time first.time second.time;
   now = λ stopped said now. first.now stopped said (second.now stopped said now);
   fulls = second.fulls ∙ first.fulls;
 }
@@ -99,7 +100,7 @@ reads_well old new batch reads well = subst (λ (w : List ℕ → List ℕ → B
 pub reads_then : (m next : Content) (old mid new : KeeperView) (fault : Option KeepFault) → Reads old mid None → Goes m next mid new fault → Goes m next old new fault
 reads_then m next old mid new fault reads goes = record {
   content = goes.content;
-  time = passes_then old.time mid.time new.time _ (passes_stays old.time mid.time _ reads.time)
+  time = passes_then old.time mid.time new.time _ (passes_nothing old.time mid.time _ reads.time)
       (passes_more mid.time new.time _ _ goes.time (λ stopped said p. (p.0, before said p.1)));
   now = λ stopped said now. let p = goes.now stopped said now in (p.0, before said p.1);
 }
@@ -111,7 +112,7 @@ reads_then m next old mid new fault reads goes = record {
 pub reads_only : (m : Content) (old new : KeeperView) → IsSettled old → old.content ≡ Some m → Reads old new None → Goes m m old new None
 reads_only m old new settled holds reads = record {
   content = reads.content ∙ holds;
-  time = passes_stays old.time new.time _ reads.time;
+  time = passes_nothing old.time new.time _ reads.time;
   now = λ stopped said now. let p = settled.here m holds stopped said (reads.now stopped said now) in (inl p.0, p.1);
 }
 
@@ -119,7 +120,7 @@ reads_only m old new settled holds reads = record {
 pub reads_failed : (m next : Content) (old new : KeeperView) (fault : KeepFault) → IsSettled old → old.content ≡ Some m → Reads old new (Some fault) → Goes m next old new (Some fault)
 reads_failed m next old new fault settled holds reads = record {
   content = came fault reads.content;
-  time = passes_stays old.time new.time _ reads.time;
+  time = passes_nothing old.time new.time _ reads.time;
   now = λ stopped said now. let p = settled.here m holds stopped said (reads.now stopped said now) in (left fault stopped p.0, p.1);
 }
   where
@@ -137,7 +138,7 @@ reads_failed m next old new fault settled holds reads = record {
 pub goes_on : (m next : Content) (old mid new : KeeperView) → Goes m next old mid None → Reads mid new None → Goes m next old new None
 goes_on m next old mid new goes reads = record {
   content = reads.content ∙ goes.content;
-  time = passes_then old.time mid.time new.time _ goes.time (passes_stays mid.time new.time _ reads.time);
+  time = passes_then old.time mid.time new.time _ goes.time (passes_nothing mid.time new.time _ reads.time);
   now = λ stopped said now. goes.now stopped said (reads.now stopped said now);
 }
 
@@ -170,41 +171,41 @@ apart_then old mid new first second = record {
 }
 
 pub hears_none : (k : KeeperView) → KeeperHears [] k k
-hears_none k = record { apart = apart_all k; left = sym (ahead_none k.beside.left); said = refl; say_faults = refl; time = stays_all k.time }
+hears_none k = record { apart = apart_all k; left = sym (with_prefix-nil k.beside.left); said = refl; say_faults = refl; time = adds_nothing_itself k.time }
 
 -- one piece of the script, and then another
 pub hears_then : (old mid new : KeeperView) (a b : List ℕ) → KeeperHears a old mid → KeeperHears b mid new → KeeperHears (a ++ b) old new
 hears_then old mid new a b first second = record {
   apart = apart_then old mid new first.apart second.apart;
-  left = first.left ∙ ap (ahead a) second.left ∙ ahead_twice a b new.beside.left;
+  left = first.left ∙ ap (with_prefix a) second.left ∙ with_prefix_twice a b new.beside.left;
   said = second.said ∙ first.said;
   say_faults = second.say_faults ∙ first.say_faults;
-  time = stays_then old.time mid.time new.time first.time second.time;
+  time = adds_nothing_then old.time mid.time new.time first.time second.time;
 }
 
 pub says_none : (k : KeeperView) → KeeperSays [] k k
-says_none k = record { apart = apart_all k; said = sym (behind_none k.beside.said); left = refl; hear_faults = refl; time = λ ready m holds. passes_none k.time _ }
+says_none k = record { apart = apart_all k; said = sym (with_suffix-nil k.beside.said); left = refl; hear_faults = refl; time = λ ready m holds. passes_none k.time _ }
 
 -- one piece said, and then another
 pub says_then : (old mid new : KeeperView) (a b : List ℕ) → KeeperSays a old mid → KeeperSays b mid new → KeeperSays (a ++ b) old new
 says_then old mid new a b first second = record {
   apart = apart_then old mid new first.apart second.apart;
-  said = second.said ∙ ap (λ (told : Option (List ℕ)). behind told b) first.said ∙ behind_twice old.beside.said a b;
+  said = second.said ∙ ap (λ (told : Option (List ℕ)). with_suffix told b) first.said ∙ with_suffix_twice old.beside.said a b;
   left = second.left ∙ first.left;
   hear_faults = second.hear_faults ∙ first.hear_faults;
   time = λ ready m holds.
       passes_then old.time mid.time new.time _
-      (passes_more old.time mid.time _ _ (first.time ready m holds) (λ stopped said p. (p.0, says_front old.beside.said a b said p.1)))
-      (passes_more mid.time new.time _ _ (second.time (first.apart.ready ready) m (first.apart.content ∙ holds)) (λ stopped said p. (p.0, says_back old.beside.said a b said (subst (λ (told : Option (List ℕ)). SaysPart told b said) first.said p.1))));
+      (passes_more old.time mid.time _ _ (first.time ready m holds) (λ stopped said p. (p.0, says_prefix old.beside.said a b said p.1)))
+      (passes_more mid.time new.time _ _ (second.time (first.apart.ready ready) m (first.apart.content ∙ holds)) (λ stopped said p. (p.0, says_suffix old.beside.said a b said (subst (λ (told : Option (List ℕ)). SaysPart told b said) first.said p.1))));
 }
 
 -- ---- the room for what is said
 
 -- some bytes that were said, and then others that are too many
-pub passes_behind : (room : Option ℕ) (told : Option (List ℕ)) (a b : List ℕ) → PassesRoom room (behind told a) b → PassesRoom room told (a ++ b)
+pub passes_behind : (room : Option ℕ) (told : Option (List ℕ)) (a b : List ℕ) → PassesRoom room (with_suffix told a) b → PassesRoom room told (a ++ b)
 passes_behind room told a b p = record {
   passes = λ most said is was.
-      let more = p.passes most (said ++ a) is (ap (λ (o : Option (List ℕ)). behind o a) was) in
+      let more = p.passes most (said ++ a) is (ap (λ (o : Option (List ℕ)). with_suffix o a) was) in
       omega (arith, more, length-append said a, length-append a b);
 }
 

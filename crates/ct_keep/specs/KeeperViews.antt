@@ -4,8 +4,8 @@ use Rattle.std.specs.Bool.{if◌then◌else◌}
 use Rattle.std.specs.Result.{IfOk}
 use base.Fml.{GName}
 use Rattle.ct_base.specs.Causes.{Rose}
-use Rattle.ct_base.specs.Told.{IsSaid, ahead, behind, SaysPart}
-use Rattle.ct_base.specs.Moments.{Timeline, Passes, Stays}
+use Rattle.ct_base.specs.Told.{IsSaid, with_prefix, with_suffix, SaysPart}
+use Rattle.ct_base.specs.Moments.{Timeline, Passes, AddsNothing}
 use Rattle.ct_site.specs.Disks.{Beside}
 use Rattle.ct_keep.specs.declared.keepers.KeepFault.{KeepFault}
 use Rattle.ct_keep.specs.declared.keepers.KeepFault.TheVariants.{Memory, Disk, Full}
@@ -88,7 +88,7 @@ pub record Reads (old new : KeeperView) (fault : Option KeepFault) : Type 0 wher
   pub not_full : fault ≡ Some Full → ⊥
   pub kept : Kept old new fault
   pub content : UnlessDisk fault (new.content ≡ old.content)
-  pub time : Stays old.time new.time
+  pub time : AddsNothing old.time new.time
   pub now : (stopped : Option Content) (said : List ℕ) → new.now stopped said → old.now stopped said
   pub fulls : new.counts.fulls ≡ old.counts.fulls
 
@@ -189,15 +189,15 @@ pub record Apart (old new : KeeperView) : Type 0 where
 -- Bytes of the script were heard, and nothing else was done.
 pub record KeeperHears (heard : List ℕ) (old new : KeeperView) : Type 0 where
   pub apart : Apart old new
-  pub left : old.beside.left ≡ ahead heard new.beside.left
+  pub left : old.beside.left ≡ with_prefix heard new.beside.left
   pub said : new.beside.said ≡ old.beside.said
   pub say_faults : new.beside.say_faults ≡ old.beside.say_faults
-  pub time : Stays old.time new.time
+  pub time : AddsNothing old.time new.time
 
 -- Bytes were said, and nothing else was done.
 pub record KeeperSays (told : List ℕ) (old new : KeeperView) : Type 0 where
   pub apart : Apart old new
-  pub said : new.beside.said ≡ behind old.beside.said told
+  pub said : new.beside.said ≡ with_suffix old.beside.said told
   pub left : new.beside.left ≡ old.beside.left
   pub hear_faults : new.beside.hear_faults ≡ old.beside.hear_faults
   pub time : old.ready → (m : Content) → old.content ≡ Some m → Passes old.time new.time (λ stopped said. (stopped ≡ Some m) × SaysPart old.beside.said told said)

@@ -12,8 +12,10 @@ use Rattle.std.proofs.lemmas.Cmp.{tied_itself, nat_cmp_total, nat_list_cmp_total
 use Rattle.std.proofs.lemmas.Map.Lookups.{exact_bytes}
 use Rattle.std.proofs.lemmas.List.Sums.{sum_by-cons}
 use Rattle.ct_keep.specs.Content.{Content, Change, set_to, after, entry_weight, weight, begins_with, entries_under}
-use Rattle.ct_keep.specs.Rising.{Entry, order, below, rises, rises_filter, entries_rise, sorted_from_rises, less, below_lower}
-use Rattle.ct_keep.specs.RisingKeys.{and_true, T_from_true}
+use Rattle.ct_keep.specs.Rising.{Entry, order, below, rises, rises_filter, entries_rise, sorted_from_rises, below_lower}
+use Rattle.ct_base.specs.laws.Orders.{less_from_test, equal_from_test}
+use Rattle.std.proofs.lemmas.Bool.{and_parts}
+use Rattle.ct_base.specs.laws.Bools.{T_from_true}
 
 -- ---- keys that are one
 
@@ -23,13 +25,8 @@ same a b = eq_by_cmp (slice_cmp nat_cmp) a b
 pub same_itself : (k : List ℕ) → same k k ≡ true
 same_itself k = ap is_eq (tied_itself nat_list_cmp_total k)
 
-equal : (o : Ordering) → is_eq o ≡ true → o ≡ Equal
-equal Less e = cc
-equal Equal e = refl
-equal Greater e = cc
-
 pub same_keys : (a b : List ℕ) → same a b ≡ true → a ≡ b
-same_keys a b e = exact_bytes a b (equal (order a b) e)
+same_keys a b e = exact_bytes a b (equal_from_test (order a b) e)
 
 pub same_other : (a b : List ℕ) → a ≢ b → same a b ≡ false
 same_other a b apart = elim (same a b) as (λ t. same a b ≡ t → same a b ≡ false) [ true ↦ λ t. absurd (apart (same_keys a b t)) | false ↦ λ t. t ] refl
@@ -131,11 +128,11 @@ weight-empty = ap (sum_by entry_weight) entries-empty
 
 not_found : (key : List ℕ) (es : List Entry) → below key es ≡ true → find (slice_cmp nat_cmp) key es ≡ None
 not_found key [] h = refl
-not_found key (e ∷ es) h = let b = and_true (is_lt (order key e.0)) (below key es) h in rw (less (order key e.0) b.0) (not_found key es b.1)
+not_found key (e ∷ es) h = let b = and_parts (is_lt (order key e.0)) (below key es) h in rw (less_from_test (order key e.0) b.0) (not_found key es b.1)
 
 nothing_without : (key : List ℕ) (es : List Entry) → below key es ≡ true → without key es ≡ es
 nothing_without key [] h = refl
-nothing_without key (e ∷ es) h = let b = and_true (is_lt (order key e.0)) (below key es) h in rw (less (order key e.0) b.0) (ap (λ (l : List Entry). e ∷ l) (nothing_without key es b.1))
+nothing_without key (e ∷ es) h = let b = and_parts (is_lt (order key e.0)) (below key es) h in rw (less_from_test (order key e.0) b.0) (ap (λ (l : List Entry). e ∷ l) (nothing_without key es b.1))
 
 -- the sum from the front
 total : List Entry → ℕ
@@ -157,7 +154,7 @@ total_put : (key value : List ℕ) (es : List Entry) → rises es ≡ true → t
 unfolding total
 total_put key value [] h = omega arith
 total_put key value (e ∷ es) h =
-    let b = and_true (below e.0 es) (rises es) h in
+    let b = and_parts (below e.0 es) (rises es) h in
     elim (order key e.0) as (λ o. order key e.0 ≡ o → total (by_order o ((key, value) ∷ e ∷ es) ((e.0, value) ∷ es) (e ∷ put (slice_cmp nat_cmp) key value es)) + value_weight key (cond (is_eq o) (Some e.1) (find (slice_cmp nat_cmp) key es)) ≡ (entry_weight e + total es) + entry_weight (key, value)) [
       | Less ↦ λ lt. rw (not_found key es (below_lower key e.0 es lt b.0)) (omega arith)
       | Equal ↦ λ eq. let one : key ≡ e.0 = exact_bytes key e.0 eq in rw one (omega arith)
@@ -168,7 +165,7 @@ total_without : (key : List ℕ) (es : List Entry) → rises es ≡ true → tot
 unfolding total
 total_without key [] h = refl
 total_without key (e ∷ es) h =
-    let b = and_true (below e.0 es) (rises es) h in
+    let b = and_parts (below e.0 es) (rises es) h in
     elim (same key e.0) as (λ t. same key e.0 ≡ t → total (cond (not t) (e ∷ without key es) (without key es)) + value_weight key (cond t (Some e.1) (find (slice_cmp nat_cmp) key es)) ≡ entry_weight e + total es) [
       | true ↦ λ t. let one : key ≡ e.0 = same_keys key e.0 t in rw (one, nothing_without e.0 es b.0) (omega arith)
       | false ↦ λ t. let rest = total_without key es b.1 in omega (arith, rest)

@@ -1,7 +1,7 @@
 -- Laws of counts: what look-ups add, one after the other, and how much at most.
 use Rattle.std.specs.Prelude.{ℕ, ◌≡◌, ◌+◌, ◌≤◌, ◌==◌, ◌||◌, Bool, true, false, List, [], ◌∷◌, length, drop, Option, Some, None, refl}
 use Rattle.std.proofs.Common.{cond, sym, ap, ◌∙◌, arith, inl, inr, ◌<◌}
-use Rattle.std.proofs.lemmas.Bool.{eqb-true}
+use Rattle.std.proofs.lemmas.Bool.{eqb-true, and_parts}
 use Rattle.std.proofs.lemmas.Bool.Decides.{nat_tests}
 use Rattle.std.proofs.lemmas.List.{length-map}
 use Rattle.std.specs.Bool.{if◌then◌else◌}
@@ -10,8 +10,8 @@ use Rattle.std.specs.Ordering.{nat_cmp, is_lt}
 use Rattle.std.specs.FinMap.{entries}
 use Rattle.ct_keep.specs.Content.{Content, begins_with, entries_above, entries_under}
 use Rattle.ct_keep.specs.KeeperViews.{Counts, counted, is_kind, is_kind_of, is_either, looked_up}
-use Rattle.ct_keep.specs.Rising.{Entry, order, above, beginning, below, rises, rises_filter, entries_rise, begins_itself, less, none_later, then_less, lt_from_less, eq_from_equal}
-use Rattle.ct_keep.specs.RisingKeys.{and_true}
+use Rattle.ct_keep.specs.Rising.{Entry, order, above, beginning, below, rises, rises_filter, entries_rise, begins_itself, none_later}
+use Rattle.ct_base.specs.laws.Orders.{less_from_test, less_by_parts, lt_from_less, eq_from_equal}
 use Rattle.ct_keep.specs.Tail.{tail}
 use Rattle.ct_keep.specs.TailLaws.{entries-tail}
 use Rattle.ct_keep.specs.Looks.{one_if, look, no_looks, plus, looks, scan_looks, behind, raised_by, raised, RisesBy}
@@ -71,11 +71,11 @@ fronts_are : (p k : List ℕ) (es : List Entry) → begins_with p k ≡ true →
 unfolding fronts
 fronts_are p k [] pk b r = refl
 fronts_are p k (e ∷ es) pk b r =
-    let b2 = and_true (is_lt (order k e.0)) (below k es) b in
-    let r2 = and_true (below e.0 es) (rises es) r in
+    let b2 = and_parts (is_lt (order k e.0)) (below k es) b in
+    let r2 = and_parts (below e.0 es) (rises es) r in
     elim (begins_with p e.0) as (λ t. begins_with p e.0 ≡ t → length (cond t (e ∷ beginning p es) (beginning p es)) ≡ cond t (fronts p es + 1) 0) [
       | true ↦ λ t. let rest = fronts_are p e.0 es t r2.0 r2.1 in omega (arith, rest)
-      | false ↦ λ t. ap length (none_later p k e.0 es pk (less _ b2.0) t r2.0)
+      | false ↦ λ t. ap length (none_later p k e.0 es pk (less_from_test _ b2.0) t r2.0)
     ] refl
 
 below_above : (k : List ℕ) (es : List Entry) → below k (above k es) ≡ true
@@ -138,7 +138,7 @@ scan-passing f false p m pass = passing_behind f p pass p (entries_above p m) (b
 
 kind_is : (kind b : ℕ) (bs k : List ℕ) → begins_with (b ∷ bs) k ≡ true → is_kind kind k ≡ (b == kind)
 kind_is kind b bs [] h = cc
-kind_is kind b bs (x ∷ k) h = let e : b ≡ x = eqb-true b x (and_true _ _ h).0 in ap (λ (n : ℕ). n == kind) (sym e)
+kind_is kind b bs (x ∷ k) h = let e : b ≡ x = eqb-true b x (and_parts _ _ h).0 in ap (λ (n : ℕ). n == kind) (sym e)
 
 one_kind : (kind : ℕ) (k : List ℕ) (h : Option (List ℕ)) → is_either kind k h ≡ passes (is_kind kind) k h
 unfolding passes
@@ -207,7 +207,7 @@ rows-scan_looks b bs m =
 
 lower_kind : (kind b : ℕ) (bs k : List ℕ) → kind < b → order (b ∷ bs) k ≡ Less → is_kind kind k ≡ false
 lower_kind kind b bs [] lower lt = refl
-lower_kind kind b bs (x ∷ k) lower lt = elim (then_less (nat_cmp b x) (order bs k) lt) [
+lower_kind kind b bs (x ∷ k) lower lt = elim (less_by_parts (nat_cmp b x) (order bs k) lt) [
   | inl before ↦ let up : b < x = lt_from_less b x before in grind (arith, nat_tests)
   | inr at ↦ let one : b ≡ x = eq_from_equal b x at.0 in grind (arith, nat_tests)
 ]
@@ -215,8 +215,8 @@ lower_kind kind b bs (x ∷ k) lower lt = elim (then_less (nat_cmp b x) (order b
 behind_lower : (kind b : ℕ) (bs : List ℕ) (es : List Entry) → kind < b → below (b ∷ bs) es ≡ true → is_kind_of kind (behind (b ∷ bs) es) ≡ false
 behind_lower kind b bs [] lower h = refl
 behind_lower kind b bs (e ∷ es) lower h =
-    let h2 = and_true (is_lt (order (b ∷ bs) e.0)) (below (b ∷ bs) es) h in
-    elim (begins_with (b ∷ bs) e.0) as (λ t. is_kind_of kind (cond t (behind (b ∷ bs) es) (Some e.0)) ≡ false) [ true ↦ behind_lower kind b bs es lower h2.1 | false ↦ lower_kind kind b bs e.0 lower (less _ h2.0) ]
+    let h2 = and_parts (is_lt (order (b ∷ bs) e.0)) (below (b ∷ bs) es) h in
+    elim (begins_with (b ∷ bs) e.0) as (λ t. is_kind_of kind (cond t (behind (b ∷ bs) es) (Some e.0)) ≡ false) [ true ↦ behind_lower kind b bs es lower h2.1 | false ↦ lower_kind kind b bs e.0 lower (less_from_test _ h2.0) ]
 
 -- the entry behind a prefix is of no lower kind
 pub behind_kind : (kind b : ℕ) (bs : List ℕ) (m : Content) → kind < b → is_kind_of kind (behind (b ∷ bs) (entries_above (b ∷ bs) m)) ≡ false

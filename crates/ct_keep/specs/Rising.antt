@@ -1,15 +1,16 @@
 -- Entries in the order of their keys: those above a key, and those whose keys begin alike.
 use Rattle.std.specs.Prelude.{ℕ, ◌≡◌, ◌<◌, Bool, true, false, List, [], ◌∷◌, ◌++◌, filter, Some, None, refl}
-use Rattle.std.proofs.Common.{cond, sym, ap, subst, ◌∙◌, arith, ◌⊎◌, inl, inr}
+use Rattle.std.proofs.Common.{cond, sym, ap, subst, ◌∙◌, arith, inl, inr}
 use Rattle.std.specs.declared.cmp.Ordering.{Ordering}
-use Rattle.std.specs.declared.cmp.Ordering.TheVariants.{Less, Equal, Greater}
-use Rattle.std.proofs.lemmas.Bool.{eqb-true, eq-eqb}
-use Rattle.std.proofs.lemmas.Cmp.{tied_itself, nat_list_cmp_total, ranked}
-use Rattle.std.specs.Ordering.{nat_cmp, MatchOrdering, is_lt, ordering_then, ordering_reverse}
+use Rattle.std.specs.declared.cmp.Ordering.TheVariants.{Less}
+use Rattle.std.proofs.lemmas.Bool.{eqb-true, eq-eqb, and_parts, and_from}
+use Rattle.std.proofs.lemmas.Cmp.{tied_itself, nat_list_cmp_total}
+use Rattle.std.specs.Ordering.{nat_cmp, is_lt, ordering_reverse}
 use Rattle.std.specs.Cmp.Lexicographic.{slice_cmp}
 use Rattle.std.specs.FinMap.{entries, is_sorted}
+use Rattle.ct_base.specs.laws.Orders.{less_from_test, less_by_parts, lt_from_less, eq_from_equal}
 use Rattle.ct_keep.specs.Content.{Content, entries_above, first_entry, begins_with}
-use Rattle.ct_keep.specs.RisingKeys.{and_true, and_both, below as below_by, rises as rises_by, sorted_from_rises as sorted_from_rises_by, entries_rise as entries_rise_by}
+use Rattle.ct_keep.specs.RisingKeys.{below as below_by, rises as rises_by, sorted_from_rises as sorted_from_rises_by, entries_rise as entries_rise_by}
 
 abbrev pub Entry : Type 0
 Entry = List ℕ × List ℕ
@@ -32,11 +33,6 @@ below x es = below_by (slice_cmp nat_cmp) x es
 abbrev pub rises : List Entry → Bool
 rises es = rises_by (slice_cmp nat_cmp) es
 
-pub less : (o : Ordering) → is_lt o ≡ true → o ≡ Less
-less Less e = refl
-less Equal e = cc
-less Greater e = cc
-
 not_back : (o : Ordering) → o ≡ Less → is_lt (ordering_reverse o) ≡ false
 not_back o e = subst (λ r. is_lt (ordering_reverse r) ≡ false) (sym e) refl
 
@@ -51,37 +47,37 @@ entries_rise m = entries_rise_by (slice_cmp nat_cmp) m
 pub below_filter : (p : Entry → Bool) (x : List ℕ) (es : List Entry) → below x es ≡ true → below x (filter p es) ≡ true
 below_filter p x [] h = refl
 below_filter p x (e ∷ es) h =
-    let b = and_true (is_lt (order x e.0)) (below x es) h in
-    elim (p e) as (λ t. below x (cond t (e ∷ filter p es) (filter p es)) ≡ true) [ true ↦ and_both _ _ b.0 (below_filter p x es b.1) | false ↦ below_filter p x es b.1 ]
+    let b = and_parts (is_lt (order x e.0)) (below x es) h in
+    elim (p e) as (λ t. below x (cond t (e ∷ filter p es) (filter p es)) ≡ true) [ true ↦ and_from _ _ b.0 (below_filter p x es b.1) | false ↦ below_filter p x es b.1 ]
 
 pub rises_filter : (p : Entry → Bool) (es : List Entry) → rises es ≡ true → rises (filter p es) ≡ true
 rises_filter p [] h = refl
 rises_filter p (e ∷ es) h =
-    let b = and_true (below e.0 es) (rises es) h in
-    elim (p e) as (λ t. rises (cond t (e ∷ filter p es) (filter p es)) ≡ true) [ true ↦ and_both _ _ (below_filter p e.0 es b.0) (rises_filter p es b.1) | false ↦ rises_filter p es b.1 ]
+    let b = and_parts (below e.0 es) (rises es) h in
+    elim (p e) as (λ t. rises (cond t (e ∷ filter p es) (filter p es)) ≡ true) [ true ↦ and_from _ _ (below_filter p e.0 es b.0) (rises_filter p es b.1) | false ↦ rises_filter p es b.1 ]
 
 -- a key below another is below all that the other is below
 pub below_lower : (k x : List ℕ) (es : List Entry) → order k x ≡ Less → below x es ≡ true → below k es ≡ true
 below_lower k x [] p h = refl
 below_lower k x (e ∷ es) p h =
-    let b = and_true (is_lt (order x e.0)) (below x es) h in
-    and_both _ _ (ap is_lt (nat_list_cmp_total.trans k x e.0 p (less _ b.0))) (below_lower k x es p b.1)
+    let b = and_parts (is_lt (order x e.0)) (below x es) h in
+    and_from _ _ (ap is_lt (nat_list_cmp_total.trans k x e.0 p (less_from_test _ b.0))) (below_lower k x es p b.1)
 
 -- ---- the entries above a key
 
 pub all_above : (k : List ℕ) (es : List Entry) → below k es ≡ true → above k es ≡ es
 all_above k [] h = refl
 all_above k (e ∷ es) h =
-    let b = and_true (is_lt (order k e.0)) (below k es) h in
-    rw (less _ b.0) (ap (λ xs. e ∷ xs) (all_above k es b.1))
+    let b = and_parts (is_lt (order k e.0)) (below k es) h in
+    rw (less_from_test _ b.0) (ap (λ xs. e ∷ xs) (all_above k es b.1))
 
 -- the first of them is above whatever the whole list is above
 first_over : (x k : List ℕ) (es : List Entry) (e : Entry) (rest : List Entry) → below x es ≡ true → above k es ≡ e ∷ rest → order x e.0 ≡ Less
 first_over x k [] e rest h is = cc
 first_over x k (y ∷ ys) e rest h is =
-    let b = and_true (is_lt (order x y.0)) (below x ys) h in
+    let b = and_parts (is_lt (order x y.0)) (below x ys) h in
     elim (is_lt (order k y.0)) as (λ t. cond t (y ∷ above k ys) (above k ys) ≡ e ∷ rest → order x e.0 ≡ Less) [
-      | true ↦ λ is. let same : y ≡ e = cc in subst (λ (z : Entry). order x z.0 ≡ Less) same (less _ b.0)
+      | true ↦ λ is. let same : y ≡ e = cc in subst (λ (z : Entry). order x z.0 ≡ Less) same (less_from_test _ b.0)
       | false ↦ λ is. first_over x k ys e rest b.1 is
     ] is
 
@@ -89,7 +85,7 @@ pub first_is_above : (k : List ℕ) (es : List Entry) (e : Entry) (rest : List E
 first_is_above k [] e rest is = cc
 first_is_above k (x ∷ xs) e rest is =
     elim (is_lt (order k x.0)) as (λ t. is_lt (order k x.0) ≡ t → cond t (x ∷ above k xs) (above k xs) ≡ e ∷ rest → order k e.0 ≡ Less) [
-      | true ↦ λ t is. let same : x ≡ e = cc in subst (λ (z : Entry). order k z.0 ≡ Less) same (less _ t)
+      | true ↦ λ t is. let same : x ≡ e = cc in subst (λ (z : Entry). order k z.0 ≡ Less) same (less_from_test _ t)
       | false ↦ λ t is. first_is_above k xs e rest is
     ] refl is
 
@@ -97,13 +93,13 @@ first_is_above k (x ∷ xs) e rest is =
 pub above_next : (k : List ℕ) (es : List Entry) (e : Entry) (rest : List Entry) → rises es ≡ true → above k es ≡ e ∷ rest → above e.0 es ≡ rest
 above_next k [] e rest s is = cc
 above_next k (x ∷ xs) e rest s is =
-    let b = and_true (below x.0 xs) (rises xs) s in
+    let b = and_parts (below x.0 xs) (rises xs) s in
     elim (is_lt (order k x.0)) as (λ t. is_lt (order k x.0) ≡ t → cond t (x ∷ above k xs) (above k xs) ≡ e ∷ rest → above e.0 (x ∷ xs) ≡ rest) [
       | true ↦ λ t is.
           let same : x ≡ e = cc in
           let rests : above k xs ≡ rest = cc in
           subst (λ (z : Entry). above z.0 (x ∷ xs) ≡ rest) same
-          (rw (tied_itself nat_list_cmp_total x.0) (all_above x.0 xs b.0 ∙ sym (all_above k xs (below_lower k x.0 xs (less _ t) b.0)) ∙ rests))
+          (rw (tied_itself nat_list_cmp_total x.0) (all_above x.0 xs b.0 ∙ sym (all_above k xs (below_lower k x.0 xs (less_from_test _ t) b.0)) ∙ rests))
       | false ↦ λ t is.
           let up : order x.0 e.0 ≡ Less = first_over x.0 k xs e rest b.0 is in
           let down : is_lt (order e.0 x.0) ≡ false = rw (nat_list_cmp_total.antisymm e.0 x.0) (not_back _ up) in
@@ -132,22 +128,11 @@ none_then m k is = go (entries_above k m) refl is
 
 pub begins_front : (p q : List ℕ) → begins_with p (p ++ q) ≡ true
 begins_front [] q = refl
-begins_front (x ∷ p) q = and_both _ _ (eq-eqb x x refl) (begins_front p q)
+begins_front (x ∷ p) q = and_from _ _ (eq-eqb x x refl) (begins_front p q)
 
 pub begins_itself : (p : List ℕ) → begins_with p p ≡ true
 begins_itself [] = refl
-begins_itself (x ∷ p) = and_both _ _ (eq-eqb x x refl) (begins_itself p)
-
-pub then_less : (o r : Ordering) → ordering_then o r ≡ Less → (o ≡ Less) ⊎ ((o ≡ Equal) × (r ≡ Less))
-then_less Less r e = inl refl
-then_less Equal r e = inr (refl, e)
-then_less Greater r e = cc
-
-pub lt_from_less : (a b : ℕ) → nat_cmp a b ≡ Less → a < b
-lt_from_less a b e = subst (λ r. MatchOrdering r (a < b) (a ≡ b) (b < a)) e (ranked a b (nat_cmp a b) refl)
-
-pub eq_from_equal : (a b : ℕ) → nat_cmp a b ≡ Equal → a ≡ b
-eq_from_equal a b e = subst (λ r. MatchOrdering r (a < b) (a ≡ b) (b < a)) e (ranked a b (nat_cmp a b) refl)
+begins_itself (x ∷ p) = and_from _ _ (eq-eqb x x refl) (begins_itself p)
 
 -- what lies between two keys that begin so begins so
 pub convex : (p a b c : List ℕ) → begins_with p a ≡ true → order a b ≡ Less → order b c ≡ Less → begins_with p c ≡ true → begins_with p b ≡ true
@@ -156,18 +141,18 @@ convex (x ∷ p) [] b c pa ab bc pc = cc
 convex (x ∷ p) (y ∷ a) b [] pa ab bc pc = cc
 convex (x ∷ p) (y ∷ a) [] (z ∷ c) pa ab bc pc = cc
 convex (x ∷ p) (y ∷ a) (w ∷ b) (z ∷ c) pa ab bc pc =
-    let e : x ≡ y = eqb-true x y (and_true _ _ pa).0 in
-    let f : x ≡ z = eqb-true x z (and_true _ _ pc).0 in
-    elim (then_less _ _ ab) [
+    let e : x ≡ y = eqb-true x y (and_parts _ _ pa).0 in
+    let f : x ≡ z = eqb-true x z (and_parts _ _ pc).0 in
+    elim (less_by_parts _ _ ab) [
       | inl yw ↦ let lt : y < w = lt_from_less y w yw in
-          elim (then_less _ _ bc) [
+          elim (less_by_parts _ _ bc) [
             | inl wz ↦ let lt' : w < z = lt_from_less w z wz in absurd (omega arith)
             | inr wz ↦ let eq' : w ≡ z = eq_from_equal w z wz.0 in absurd (omega arith)
           ]
       | inr yw ↦ let eq : y ≡ w = eq_from_equal y w yw.0 in
-          elim (then_less _ _ bc) [
+          elim (less_by_parts _ _ bc) [
             | inl wz ↦ let lt' : w < z = lt_from_less w z wz in absurd (omega arith)
-            | inr wz ↦ and_both _ _ (eq-eqb x w (e ∙ eq)) (convex p a b c (and_true _ _ pa).1 yw.1 wz.1 (and_true _ _ pc).1)
+            | inr wz ↦ and_from _ _ (eq-eqb x w (e ∙ eq)) (convex p a b c (and_parts _ _ pa).1 yw.1 wz.1 (and_parts _ _ pc).1)
           ]
     ]
 
@@ -175,9 +160,9 @@ convex (x ∷ p) (y ∷ a) (w ∷ b) (z ∷ c) pa ab bc pc =
 pub none_later : (p a b : List ℕ) (es : List Entry) → begins_with p a ≡ true → order a b ≡ Less → begins_with p b ≡ false → below b es ≡ true → beginning p es ≡ []
 none_later p a b [] pa ab differs s = refl
 none_later p a b (e ∷ es) pa ab differs s =
-    let s2 = and_true (is_lt (order b e.0)) (below b es) s in
+    let s2 = and_parts (is_lt (order b e.0)) (below b es) s in
     elim (begins_with p e.0) as (λ t. begins_with p e.0 ≡ t → cond t (e ∷ beginning p es) (beginning p es) ≡ []) [
-      | true ↦ λ t. absurd (clash (begins_with p b) (convex p a b e.0 pa ab (less _ s2.0) t) differs)
+      | true ↦ λ t. absurd (clash (begins_with p b) (convex p a b e.0 pa ab (less_from_test _ s2.0) t) differs)
       | false ↦ λ t. none_later p a b es pa ab differs s2.1
     ] refl
   where
@@ -190,4 +175,4 @@ stops m p k e pk is differs =
     let next = first_then m k e is in
     let rise : rises (entries_above k m) ≡ true = rises_filter (λ e. is_lt (order k e.0)) (entries m) (entries_rise m) in
     let rise' : rises (e ∷ entries_above e.0 m) ≡ true = subst (λ (es : List Entry). rises es ≡ true) next rise in
-    rw (next, differs) (none_later p k e.0 (entries_above e.0 m) pk (first_is_above k (entries m) e _ next) differs (and_true (below e.0 (entries_above e.0 m)) _ rise').0)
+    rw (next, differs) (none_later p k e.0 (entries_above e.0 m) pk (first_is_above k (entries m) e _ next) differs (and_parts (below e.0 (entries_above e.0 m)) _ rise').0)

@@ -4,13 +4,14 @@ use Rattle.std.proofs.Common.{cond, sym, ap, subst, ◌∙◌, append-nil, appen
 use Rattle.std.specs.declared.cmp.Ordering.{Ordering}
 use Rattle.std.specs.declared.cmp.Ordering.TheVariants.{Less, Equal}
 use Rattle.std.specs.Ordering.{nat_cmp, is_lt, is_eq}
-use Rattle.std.proofs.lemmas.Bool.{eqb-true}
+use Rattle.std.proofs.lemmas.Bool.{eqb-true, and_parts, and_from}
 use Rattle.std.proofs.lemmas.Cmp.{tied_itself, nat_cmp_total, nat_list_cmp_total}
 use Rattle.std.specs.Cmp.Lexicographic.{slice_cmp}
 use Rattle.std.specs.FinMap.{get, entries, is_sorted, find, entries-from_sorted, get-from_sorted, get-entries, empty}
 use Rattle.ct_keep.specs.Content.{Content, set_to, after, first_entry, entries_above, entries_under, begins_with}
-use Rattle.ct_keep.specs.Rising.{Entry, order, above, beginning, below, rises, rises_filter, entries_rise, sorted_from_rises, less, begins_front, begins_itself, stops, first_then, none_then}
-use Rattle.ct_keep.specs.RisingKeys.{and_true, and_both, T_from_true}
+use Rattle.ct_keep.specs.Rising.{Entry, order, above, beginning, below, rises, rises_filter, entries_rise, sorted_from_rises, begins_front, begins_itself, stops, first_then, none_then}
+use Rattle.ct_base.specs.laws.Orders.{less_from_test}
+use Rattle.ct_base.specs.laws.Bools.{T_from_true}
 use Rattle.ct_keep.specs.Laws.{same, same_keys, same_other, same-front, get-set_to, same_content, three_changes, under_a}
 use Rattle.ct_keep.specs.Tail.{cut, tail, left_under, rest_under}
 
@@ -22,10 +23,10 @@ cut_order [] a b pa pb = refl
 cut_order (x ∷ p) [] b pa pb = cc
 cut_order (x ∷ p) (y ∷ a) [] pa pb = cc
 cut_order (x ∷ p) (y ∷ a) (z ∷ b) pa pb =
-    let e : x ≡ y = eqb-true x y (and_true _ _ pa).0 in
-    let f : x ≡ z = eqb-true x z (and_true _ _ pb).0 in
+    let e : x ≡ y = eqb-true x y (and_parts _ _ pa).0 in
+    let f : x ≡ z = eqb-true x z (and_parts _ _ pb).0 in
     let same : nat_cmp y z ≡ Equal = rw (sym e, sym f) (tied_itself nat_cmp_total x) in
-    rw same (cut_order p a b (and_true _ _ pa).1 (and_true _ _ pb).1)
+    rw same (cut_order p a b (and_parts _ _ pa).1 (and_parts _ _ pb).1)
 
 pub drop_front : (p q : List ℕ) → drop (length p) (p ++ q) ≡ q
 drop_front [] q = refl
@@ -40,8 +41,8 @@ pub front_and_rest : (p k : List ℕ) → begins_with p k ≡ true → p ++ drop
 front_and_rest [] k b = refl
 front_and_rest (x ∷ p) [] b = cc
 front_and_rest (x ∷ p) (y ∷ k) b =
-    let e : x ≡ y = eqb-true x y (and_true _ _ b).0 in
-    ap (λ (z : ℕ). z ∷ (p ++ drop (length p) k)) e ∙ ap (λ (l : List ℕ). y ∷ l) (front_and_rest p k (and_true _ _ b).1)
+    let e : x ≡ y = eqb-true x y (and_parts _ _ b).0 in
+    ap (λ (z : ℕ). z ∷ (p ++ drop (length p) k)) e ∙ ap (λ (l : List ℕ). y ∷ l) (front_and_rest p k (and_parts _ _ b).1)
 
 front_order : (p a k : List ℕ) → begins_with p k ≡ true → order a (drop (length p) k) ≡ order (p ++ a) k
 front_order p a k b = ap (λ (r : List ℕ). order r (drop (length p) k)) (sym (drop_front p a)) ∙ cut_order p (p ++ a) k (begins_front p a) b
@@ -67,11 +68,11 @@ all_begin p (e ∷ es) = elim (begins_with p e.0) as (λ b. begins_with p e.0 �
 
 below_cut : (p a : List ℕ) (es : List Entry) → begins_with p a ≡ true → AllBegin p es → below a es ≡ true → below (drop (length p) a) (cut (length p) es) ≡ true
 below_cut p a [] pa h b = refl
-below_cut p a (e ∷ es) pa h b = let b2 = and_true (is_lt (order a e.0)) (below a es) b in and_both _ _ (ap is_lt (cut_order p a e.0 pa h.0) ∙ b2.0) (below_cut p a es pa h.1 b2.1)
+below_cut p a (e ∷ es) pa h b = let b2 = and_parts (is_lt (order a e.0)) (below a es) b in and_from _ _ (ap is_lt (cut_order p a e.0 pa h.0) ∙ b2.0) (below_cut p a es pa h.1 b2.1)
 
 rises_cut : (p : List ℕ) (es : List Entry) → AllBegin p es → rises es ≡ true → rises (cut (length p) es) ≡ true
 rises_cut p [] h r = refl
-rises_cut p (e ∷ es) h r = let r2 = and_true (below e.0 es) (rises es) r in and_both _ _ (below_cut p e.0 es h.0 h.1 r2.0) (rises_cut p es h.1 r2.1)
+rises_cut p (e ∷ es) h r = let r2 = and_parts (below e.0 es) (rises es) r in and_from _ _ (below_cut p e.0 es h.0 h.1 r2.0) (rises_cut p es h.1 r2.1)
 
 sorted_cut : (p : List ℕ) (m : Content) → is_sorted (slice_cmp nat_cmp) (cut (length p) (entries_under p m)) ≡ true
 sorted_cut p m =
@@ -87,7 +88,7 @@ above_one : (p a : List ℕ) (e : Entry) (xs ys : List Entry) → begins_with p 
     → (s t : Bool) → is_lt (order p e.0) ≡ s → is_lt (order (p ++ a) e.0) ≡ t → above a (cut (length p) (beginning p (cond s (e ∷ xs) xs))) ≡ cut (length p) (beginning p (cond t (e ∷ ys) ys))
 above_one p a e xs ys b rest true true s t = let u : is_lt (order a (drop (length p) e.0)) ≡ true = ap is_lt (front_order p a e.0 b) ∙ t in rw (b, u) (ap (λ (l : List Entry). (drop (length p) e.0, e.1) ∷ l) rest)
 above_one p a e xs ys b rest true false s t = let u : is_lt (order a (drop (length p) e.0)) ≡ false = ap is_lt (front_order p a e.0 b) ∙ t in rw (b, u) rest
-above_one p a e xs ys b rest false true s t = let u : is_lt (order p e.0) ≡ true = ap is_lt (front_lower p a e.0 (less _ t)) in cc
+above_one p a e xs ys b rest false true s t = let u : is_lt (order p e.0) ≡ true = ap is_lt (front_lower p a e.0 (less_from_test _ t)) in cc
 above_one p a e xs ys b rest false false s t = rest
 
 -- an entry whose key doesn't begin so
@@ -166,7 +167,7 @@ find_nil p (e ∷ es) =
     elim (is_lt (order p e.0)) as (λ a. is_lt (order p e.0) ≡ a → find (slice_cmp nat_cmp) [] (cut (length p) (beginning p (cond a (e ∷ above p es) (above p es)))) ≡ None) [
       | true ↦ λ a. elim (begins_with p e.0) as (λ b. begins_with p e.0 ≡ b → find (slice_cmp nat_cmp) [] (cut (length p) (cond b (e ∷ beginning p (above p es)) (beginning p (above p es)))) ≡ None) [
         | true ↦ λ b.
-            let key : order [] (drop (length p) e.0) ≡ Less = front_order p [] e.0 b ∙ ap (λ (k : List ℕ). order k e.0) (append-nil p) ∙ less _ a in
+            let key : order [] (drop (length p) e.0) ≡ Less = front_order p [] e.0 b ∙ ap (λ (k : List ℕ). order k e.0) (append-nil p) ∙ less_from_test _ a in
             ap (λ (o : Ordering). cond (is_eq o) (Some e.1) (find (slice_cmp nat_cmp) [] (cut (length p) (beginning p (above p es))))) key ∙ find_nil p es
         | false ↦ λ b. find_nil p es
       ] refl

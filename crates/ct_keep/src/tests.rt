@@ -1,7 +1,7 @@
 //! The keepers in memory over tables of calls.
 
 ghost use Rattle.std.specs.Prelude.{◌≡◌, ◌<◌, true, IfOk, OnOk, length};
-ghost use Rattle.ct_base.specs.Told.{behind, took};
+ghost use Rattle.ct_base.specs.Told.{with_suffix, took};
 ghost use Rattle.ct_keep.specs.Changes.{AreWell};
 ghost use Rattle.ct_keep.specs.InMemory.{TakesAll};
 
@@ -307,7 +307,7 @@ fn a_keeper_in_memory_over_a_site(rt: HostRuntime) -> Result<(), Fail> {
 fn use_keeper<K: Keeper>(alloc: Global, keeper: &mut K, bytes: &[u8]) -> Result<usize, Failed>
     requires takes { TakesAll (K.view keeper.old) }
     requires some { 0 < length bytes.now }
-    ensures said { (K.view keeper.new).beside.said ≡ behind (K.view keeper.old).beside.said (took result bytes.now) }
+    ensures said { (K.view keeper.new).beside.said ≡ with_suffix (K.view keeper.old).beside.said (took result bytes.now) }
     ensures left { (K.view keeper.new).beside.left ≡ (K.view keeper.old).beside.left }
     ensures lender { (K.view keeper.new).fixed.lender ≡ (K.view keeper.old).fixed.lender }
 {
@@ -320,7 +320,7 @@ fn use_keeper<K: Keeper>(alloc: Global, keeper: &mut K, bytes: &[u8]) -> Result<
 /// What is said over a keeper in memory is said by its site.
 fn say_over<S: Site>(alloc: Global, site: &mut S, bytes: &[u8]) -> Result<usize, Failed>
     requires { 0 < length bytes.now }
-    ensures said { (S.disk site.new).beside.said ≡ behind (S.disk site.old).beside.said (took result bytes.now) }
+    ensures said { (S.disk site.new).beside.said ≡ with_suffix (S.disk site.old).beside.said (took result bytes.now) }
     ensures left { (S.disk site.new).beside.left ≡ (S.disk site.old).beside.left }
 {
     let mut keeper = SiteMap::over(alloc, site, 128);

@@ -1,7 +1,7 @@
 -- What the calls of a site in memory make of what is known of it.
 use Rattle.std.specs.Prelude.{◌≡◌, ℕ, ◌≤◌, List, [], ◌∷◌, ◌++◌, length, Some, Ok, refl}
 use Rattle.std.proofs.Common.{inl, inr, sym, ◌∙◌, ap, subst, arith, append-nil}
-use Rattle.ct_base.specs.Moments.{keeps_all, stays_all}
+use Rattle.ct_base.specs.laws.Moments.{grows_itself, adds_nothing_itself}
 use Rattle.ct_site.specs.Images.{written, Torn}
 use Rattle.ct_site.specs.Pieces.{torn_written}
 use Rattle.ct_site.specs.Disks.{DiskView, IsNow, Follows, Works, Leaves, Hears, Says}
@@ -97,8 +97,8 @@ hears_of s bytes count is = record {
   left = ap Some is;
   said = refl;
   say_faults = refl;
-  same = record { image = refl; crash = λ image now. now; time = stays_all (timeline s.first s.log) };
-  kept = keeps_all (timeline s.first s.log);
+  same = record { image = refl; crash = λ image now. now; time = adds_nothing_itself (timeline s.first s.log) };
+  kept = grows_itself (timeline s.first s.log);
   faults = refl;
 }
 
@@ -109,7 +109,7 @@ says_of s bytes = subst (λ (v : DiskView). Says bytes (view_of s) v) (sym (view
   hear_faults = refl;
   image = refl;
   crash = λ image now. now;
-  time = passes_push s.first s.log (Said bytes) _ (λ image said now told. (now, record { part = bytes; later = []; front = sym (append-nil bytes); is = ap Some (sym told) }));
+  time = passes_push s.first s.log (Said bytes) _ (λ image said now told. (now, record { part = bytes; later = []; split = sym (append-nil bytes); is = ap Some (sym told) }));
   kept = keeps_push s.first s.log (Said bytes);
   faults = refl;
 })

@@ -2,9 +2,11 @@
 use Rattle.std.specs.Prelude.{◌≡◌, ℕ, List, Option, None, Some, Result, Ok}
 use Rattle.std.proofs.Common.{refl, ap, sym, ◌∙◌}
 use Rattle.ct_site.specs.declared.outside.Failed.{Failed}
-use Rattle.ct_base.specs.Causes.{HasCause, cause_then}
-use Rattle.ct_base.specs.Moments.{Timeline, Passes, Stays, Keeps, keeps_then, passes_none, passes_stays, passes_more, passes_then}
-use Rattle.ct_base.specs.Told.{ahead, behind, IsSaid, SaysPart}
+use Rattle.ct_base.specs.Causes.{HasCause}
+use Rattle.ct_base.specs.laws.Causes.{cause_then}
+use Rattle.ct_base.specs.Moments.{Timeline, Passes, AddsNothing, Grows}
+use Rattle.ct_base.specs.laws.Moments.{grows_then, passes_none, passes_nothing, passes_more, passes_then}
+use Rattle.ct_base.specs.Told.{with_prefix, with_suffix, IsSaid, SaysPart}
 
 -- What stands beside a disk. No call of the disk changes it.
 pub record Beside : Type 0 where
@@ -43,7 +45,7 @@ Follows step old new = (image : List ℕ) → new image → (before : List ℕ) 
 pub record IsSame (old new : DiskView) : Type 0 where
   pub image : new.image ≡ old.image
   pub crash : (image : List ℕ) → new.may_leave image → old.may_leave image
-  pub time : Stays old.time new.time
+  pub time : AddsNothing old.time new.time
 
 -- What every call of a disk keeps, and every function that makes such calls alone.
 pub record Works {T : Type 0} (old new : DiskView) (result : Result T Failed) : Type 0 where
@@ -51,7 +53,7 @@ pub record Works {T : Type 0} (old new : DiskView) (result : Result T Failed) : 
   -- a disk that tells no image goes on telling none
   pub untold : old.image ≡ None → new.image ≡ None
   -- no moment is forgotten
-  pub kept : Keeps old.time new.time
+  pub kept : Grows old.time new.time
   pub cause : HasCause old.faults new.faults result
 
 -- one after the other
@@ -59,7 +61,7 @@ pub works_then : {T U : Type 0} (old mid new : DiskView) (x : T) (result : Resul
 works_then old mid new x result first second = record {
   beside = second.beside ∙ first.beside;
   untold = λ none. second.untold (first.untold none);
-  kept = keeps_then old.time mid.time new.time first.kept second.kept;
+  kept = grows_then old.time mid.time new.time first.kept second.kept;
   cause = cause_then old.faults mid.faults new.faults result first.cause.later second.cause;
 }
 
@@ -74,7 +76,7 @@ pub leaves_none : (disk : DiskView) (P : List ℕ → Type 0) → ((image : List
 leaves_none disk P here = record { beside = refl; time = passes_none disk.time _; now = here }
 
 pub leaves_same : (old new : DiskView) (P : List ℕ → Type 0) → IsSame old new → new.beside ≡ old.beside → ((image : List ℕ) → old.may_leave image → P image) → Leaves old new P
-leaves_same old new P same beside here = record { beside = beside; time = passes_stays old.time new.time _ same.time; now = λ image left. here image (same.crash image left) }
+leaves_same old new P same beside here = record { beside = beside; time = passes_nothing old.time new.time _ same.time; now = λ image left. here image (same.crash image left) }
 
 pub leaves_more : (old new : DiskView) (P Q : List ℕ → Type 0) → Leaves old new P → ((image : List ℕ) → P image → Q image) → Leaves old new Q
 leaves_more old new P Q leaves more = record {
@@ -92,20 +94,20 @@ leaves_then old mid new P first second = record {
 
 -- Bytes of the script were heard, and nothing else was done.
 pub record Hears (heard : List ℕ) (old new : DiskView) : Type 0 where
-  pub left : old.beside.left ≡ ahead heard new.beside.left
+  pub left : old.beside.left ≡ with_prefix heard new.beside.left
   pub said : new.beside.said ≡ old.beside.said
   pub say_faults : new.beside.say_faults ≡ old.beside.say_faults
   pub same : IsSame old new
-  pub kept : Keeps old.time new.time
+  pub kept : Grows old.time new.time
   pub faults : new.faults ≡ old.faults
 
 -- Bytes were said, and nothing else was done. A crash among them found some front of them said.
 pub record Says (told : List ℕ) (old new : DiskView) : Type 0 where
-  pub said : new.beside.said ≡ behind old.beside.said told
+  pub said : new.beside.said ≡ with_suffix old.beside.said told
   pub left : new.beside.left ≡ old.beside.left
   pub hear_faults : new.beside.hear_faults ≡ old.beside.hear_faults
   pub image : new.image ≡ old.image
   pub crash : (image : List ℕ) → new.may_leave image → old.may_leave image
   pub time : Passes old.time new.time (λ image said. old.may_leave image × SaysPart old.beside.said told said)
-  pub kept : Keeps old.time new.time
+  pub kept : Grows old.time new.time
   pub faults : new.faults ≡ old.faults

@@ -3,7 +3,7 @@ use Rattle.std.specs.Prelude.{◌≡◌, ◌⊎◌, ℕ, ◌<◌, ◌≤◌, Lis
 use Rattle.std.proofs.Common.{inl, inr, sym, ◌∙◌, ap, subst, arith, length-append, append-nil, append_assoc}
 use Rattle.std.proofs.lemmas.Bool.{cases_lt}
 use Rattle.std.proofs.lemmas.List.{take_all, take-append-le}
-use Rattle.ct_base.specs.Moments.{Timeline, Passes, Keeps}
+use Rattle.ct_base.specs.Moments.{Timeline, Passes, Grows}
 use Rattle.ct_site.specs.Images.{written, Torn}
 
 -- a call that changed something
@@ -90,7 +90,7 @@ pub said_now : (first : List ℕ) (log : List Change) (image said : List ℕ) �
 said_now first log image said m = m.told ∙ ap said_by (take_all m.count log m.from)
 
 -- ---- one call more
-pub keeps_push : (first : List ℕ) (log : List Change) (c : Change) → Keeps (timeline first log) (timeline first (log ++ c ∷ []))
+pub keeps_push : (first : List ℕ) (log : List Change) (c : Change) → Grows (timeline first log) (timeline first (log ++ c ∷ []))
 keeps_push first log c = record {
   later = omega (arith, length-append log (c ∷ []));
   kept = λ t image said le m.

@@ -13,22 +13,24 @@ use Rattle.std.proofs.lemmas.List.{take_more, map-append}
 use Rattle.std.proofs.lemmas.List.Elements.{All-head, All-tail}
 use Rattle.std.proofs.lemmas.Map.Lookups.{exact_bytes}
 use Rattle.ct_keep.specs.Content.{Content}
-use Rattle.ct_keep.specs.RisingKeys.{and_true, and_both, below, rises, entries_rise}
+use Rattle.std.proofs.lemmas.Bool.{and_parts, and_from}
+use Rattle.ct_keep.specs.RisingKeys.{below, rises, entries_rise}
 use Rattle.ct_keep.specs.Tail.{tail}
 use Rattle.ct_keep.specs.TailLaws.{get-tail}
 use Rattle.ct_entry.specs.declared.kinds.Kind.TheVariants as entry
 use Rattle.ct_entry.specs.Kinds.{code}
 use Rattle.ct_entry.specs.Keys.{key, at, counted_bytes, same_list}
-use Rattle.ct_entry.specs.KeyLaws.{is_eq_Equal, list_from_same, list_same}
-use Rattle.ct_entry.specs.Rising.{none_below, below_tied}
+use Rattle.ct_base.specs.laws.Orders.{equal_from_test}
+use Rattle.ct_entry.specs.laws.Keys.{list_from_same, list_same}
+use Rattle.ct_entry.specs.laws.Rising.{none_below, below_tied}
 use Rattle.ct_entry.specs.Listings.{key_order}
 use Rattle.tb_table.specs.declared.columns.Target.{Target}
 use Rattle.db_names.specs.declared.heads.IndexKind.{IndexKind}
 use Rattle.db_names.specs.declared.heads.IndexHead.{IndexHead}
 use Rattle.db_names.specs.Heads.{SpellsHead}
-use Rattle.db_names.specs.HeadLaws.{has_one}
-use Rattle.db_names.specs.PairLaws.{pair_found}
-use Rattle.db_names.specs.Findings.{IsIndex, IsIndexOn, AreIndexesOf}
+use Rattle.db_names.specs.laws.Heads.{has_one}
+use Rattle.db_names.specs.laws.Pairs.{pair_found}
+use Rattle.db_names.specs.Findings.{IsIndexWith, IsIndexOn, AreIndexesOf}
 use Rattle.db_names.specs.Parts.{IsEntryOf, FirstOn, IsPairOf, PairOf, Listed}
 
 abbrev pub Entry : Type 0
@@ -88,7 +90,7 @@ all_find P (e ∷ es) q v all is = go (eq_by_cmp order q e.0) refl is (all_find 
   where
     go : (b : Bool) → eq_by_cmp order q e.0 ≡ b → cond b (Some e.1) (find order q es) ≡ Some v → (find order q es ≡ Some v → P (q, v)) → P (q, v)
     go true tie here rest =
-        let same : q ≡ e.0 = exact_bytes q e.0 (is_eq_Equal _ tie) in
+        let same : q ≡ e.0 = exact_bytes q e.0 (equal_from_test _ tie) in
         let value : e.1 ≡ v = cc in
         subst P (λ j. (sym same j, value j)) (All-head P e es all)
     go false apart there rest = rest there
@@ -104,7 +106,7 @@ on_found m target kind (Some i) found =
     record { name = found.2.name; entry = subst (λ o. SpellsHead o (Some (record { kind = kind; target = target }))) here found.2.head }
 on_found m target kind None none = λ i is. go i is (at m (key entry.Indexes i [])) refl
   where
-    go : (i : List ℕ) → IsIndex (at m) i (record { kind = kind; target = target }) → (o : Option (List ℕ)) → at m (key entry.Indexes i []) ≡ o → ⊥
+    go : (i : List ℕ) → IsIndexWith (at m) i (record { kind = kind; target = target }) → (o : Option (List ℕ)) → at m (key entry.Indexes i []) ≡ o → ⊥
     go i is None here = let wrong : None ≡ Some _ = sym here ∙ is.entry.1.whole in cc
     go i is (Some v) here =
         all_find (λ e. (i : List ℕ) → IsEntryOf e i (record { kind = kind; target = target }) → ⊥) (entries (tail (code entry.Indexes ∷ []) m)) (counted_bytes i) v none (find_at m i ∙ here) i
@@ -121,18 +123,18 @@ same_name i j e = rest (length i) (length j) i j e
 -- the names rise where the keys do
 below_listed : (t i q : List ℕ) (es : List Entry) (ps : List (List ℕ × IndexHead)) → q ≡ counted_bytes i → Listed (PairOf t) es ps → below order q es ≡ true → below key_order i ps ≡ true
 below_listed t i q [] ps same is low = ap (below key_order i) is
-below_listed t i q (e ∷ es) ps same (inl none) low = below_listed t i q es ps same none.1 (and_true (is_lt (order q e.0)) (below order q es) low).1
+below_listed t i q (e ∷ es) ps same (inl none) low = below_listed t i q es ps same none.1 (and_parts (is_lt (order q e.0)) (below order q es) low).1
 below_listed t i q (e ∷ es) ps same (inr more) low =
-    let b = and_true (is_lt (order q e.0)) (below order q es) low in
+    let b = and_parts (is_lt (order q e.0)) (below order q es) low in
     let first : is_lt (key_order i more.0.0) ≡ true = ap (λ l. is_lt (order l (counted_bytes more.0.0))) (sym same) ∙ ap (λ l. is_lt (order q l)) (sym more.1.2.entry.spelt) ∙ b.0 in
-    ap (below key_order i) more.1.1 ∙ and_both _ _ first (below_listed t i q es more.1.0 same more.1.3 b.1)
+    ap (below key_order i) more.1.1 ∙ and_from _ _ first (below_listed t i q es more.1.0 same more.1.3 b.1)
 
 listed_rise : (t : List ℕ) (es : List Entry) (ps : List (List ℕ × IndexHead)) → Listed (PairOf t) es ps → rises order es ≡ true → rises key_order ps ≡ true
 listed_rise t [] ps is up = ap (rises key_order) is
-listed_rise t (e ∷ es) ps (inl none) up = listed_rise t es ps none.1 (and_true (below order e.0 es) (rises order es) up).1
+listed_rise t (e ∷ es) ps (inl none) up = listed_rise t es ps none.1 (and_parts (below order e.0 es) (rises order es) up).1
 listed_rise t (e ∷ es) ps (inr more) up =
-    let b = and_true (below order e.0 es) (rises order es) up in
-    ap (rises key_order) more.1.1 ∙ and_both _ _ (below_listed t more.0.0 e.0 es more.1.0 more.1.2.entry.spelt more.1.3 b.0) (listed_rise t es more.1.0 more.1.3 b.1)
+    let b = and_parts (below order e.0 es) (rises order es) up in
+    ap (rises key_order) more.1.1 ∙ and_from _ _ (below_listed t more.0.0 e.0 es more.1.0 more.1.2.entry.spelt more.1.3 b.0) (listed_rise t es more.1.0 more.1.3 b.1)
 
 -- what the list has at a name, by what the entries have there
 abbrev Outcome : List ℕ → List ℕ → Option (List ℕ) → Option IndexHead → Type 0
@@ -143,18 +145,18 @@ Outcome t i (Some v) (Some h) = IsPairOf t (counted_bytes i, v) (i, h)
 outcome : (t i : List ℕ) (es : List Entry) (ps : List (List ℕ × IndexHead)) → Listed (PairOf t) es ps → rises order es ≡ true → Outcome t i (find order (counted_bytes i) es) (lookup (same_list i) ps)
 outcome t i [] ps is up = ap (lookup (same_list i)) is
 outcome t i (e ∷ es) ps (inl none) up =
-    let b = and_true (below order e.0 es) (rises order es) up in
+    let b = and_parts (below order e.0 es) (rises order es) up in
     go (eq_by_cmp order (counted_bytes i) e.0) refl b.0 (outcome t i es ps none.1 b.1)
   where
     go : (b : Bool) → eq_by_cmp order (counted_bytes i) e.0 ≡ b → below order e.0 es ≡ true → Outcome t i (find order (counted_bytes i) es) (lookup (same_list i) ps) → Outcome t i (cond b (Some e.1) (find order (counted_bytes i) es)) (lookup (same_list i) ps)
     go true tie low rest =
-        let here : counted_bytes i ≡ e.0 = exact_bytes (counted_bytes i) e.0 (is_eq_Equal _ tie) in
+        let here : counted_bytes i ≡ e.0 = exact_bytes (counted_bytes i) e.0 (equal_from_test _ tie) in
         let gone : find order (counted_bytes i) es ≡ None = none_below order (counted_bytes i) es (below_tied order nat_list_cmp_total (counted_bytes i) e.0 es tie low) in
         let absent : lookup (same_list i) ps ≡ None = subst (λ o. Outcome t i o (lookup (same_list i) ps)) gone rest in
         subst (Outcome t i (Some e.1)) (sym absent) (λ h is. none.0 (i, h) (subst (λ q. IsPairOf t (q, e.1) (i, h)) here is))
     go false apart low rest = rest
 outcome t i (e ∷ es) ps (inr more) up =
-    let b = and_true (below order e.0 es) (rises order es) up in
+    let b = and_parts (below order e.0 es) (rises order es) up in
     subst (λ qs. Outcome t i (find order (counted_bytes i) (e ∷ es)) (lookup (same_list i) qs)) (sym more.1.1)
     (go (eq_by_cmp order (counted_bytes i) e.0) refl (same_list i more.0.0) refl (outcome t i es more.1.0 more.1.3 b.1))
   where
@@ -164,11 +166,11 @@ outcome t i (e ∷ es) ps (inr more) up =
     go : (b : Bool) → eq_by_cmp order (counted_bytes i) e.0 ≡ b → (s : Bool) → same_list i more.0.0 ≡ s → Outcome t i (find order (counted_bytes i) es) (lookup (same_list i) more.1.0)
         → Outcome t i (cond b (Some e.1) (find order (counted_bytes i) es)) (cond s (Some more.0.1) (lookup (same_list i) more.1.0))
     go true tie true one rest =
-        let here : counted_bytes i ≡ e.0 = exact_bytes (counted_bytes i) e.0 (is_eq_Equal _ tie) in
+        let here : counted_bytes i ≡ e.0 = exact_bytes (counted_bytes i) e.0 (equal_from_test _ tie) in
         let name : i ≡ more.0.0 = list_from_same i more.0.0 one in
         subst (λ q. IsPairOf t (q, e.1) (i, more.0.1)) (sym here) (subst (λ j. IsPairOf t e (j, more.0.1)) (sym name) more.1.2)
     go true tie false two rest =
-        let here : counted_bytes i ≡ counted_bytes more.0.0 = exact_bytes (counted_bytes i) e.0 (is_eq_Equal _ tie) ∙ spelt in
+        let here : counted_bytes i ≡ counted_bytes more.0.0 = exact_bytes (counted_bytes i) e.0 (equal_from_test _ tie) ∙ spelt in
         let one : same_list i more.0.0 ≡ true = subst (λ j. same_list i j ≡ true) (same_name i more.0.0 here) (list_same i) in
         cc
     go false apart true one rest =
@@ -183,14 +185,14 @@ of_found m t found listed = record {
   each = λ i h. go i h (at m (key entry.Indexes i [])) refl (lookup (same_list i) found) refl (subst (λ o. Outcome t i o (lookup (same_list i) found)) (find_at m i) (outcome t i (entries (tail (code entry.Indexes ∷ []) m)) found listed (entries_rise order (tail (code entry.Indexes ∷ []) m))));
 }
   where
-    pair : (i : List ℕ) (h : IndexHead) (v : List ℕ) → at m (key entry.Indexes i []) ≡ Some v → IsIndex (at m) i h × (h.target.table ≡ t) → IsPairOf t (counted_bytes i, v) (i, h)
+    pair : (i : List ℕ) (h : IndexHead) (v : List ℕ) → at m (key entry.Indexes i []) ≡ Some v → IsIndexWith (at m) i h × (h.target.table ≡ t) → IsPairOf t (counted_bytes i, v) (i, h)
     pair i h v here is = record { entry = record { name = is.0.name; spelt = refl; head = subst (λ o. SpellsHead o (Some h)) here is.0.entry }; table = is.1 }
 
-    index : (i : List ℕ) (h : IndexHead) (v : List ℕ) → at m (key entry.Indexes i []) ≡ Some v → IsPairOf t (counted_bytes i, v) (i, h) → IsIndex (at m) i h × (h.target.table ≡ t)
+    index : (i : List ℕ) (h : IndexHead) (v : List ℕ) → at m (key entry.Indexes i []) ≡ Some v → IsPairOf t (counted_bytes i, v) (i, h) → IsIndexWith (at m) i h × (h.target.table ≡ t)
     index i h v here is = (record { name = is.entry.name; entry = subst (λ o. SpellsHead o (Some h)) (sym here) is.entry.head }, is.table)
 
     go : (i : List ℕ) (h : IndexHead) (o : Option (List ℕ)) → at m (key entry.Indexes i []) ≡ o → (r : Option IndexHead) → lookup (same_list i) found ≡ r → Outcome t i o (lookup (same_list i) found)
-        → (lookup (same_list i) found ≡ Some h) ↔ (IsIndex (at m) i h × (h.target.table ≡ t))
+        → (lookup (same_list i) found ≡ Some h) ↔ (IsIndexWith (at m) i h × (h.target.table ≡ t))
     go i h None here r at_name is = (
       λ e. let wrong : None ≡ Some h = sym is ∙ e in cc,
       λ p. let wrong : None ≡ Some _ = sym here ∙ p.0.entry.1.whole in cc,

@@ -4,7 +4,7 @@ use Rattle.std.specs.Map.{lookup}
 use Rattle.ct_base.specs.Names.{IsName}
 use Rattle.ct_keep.specs.RisingKeys.{rises}
 use Rattle.ct_entry.specs.declared.kinds.Kind.TheVariants as entry
-use Rattle.ct_entry.specs.Keys.{Key, key, same_list, same}
+use Rattle.ct_entry.specs.Keys.{Key, key, same_list, same_key}
 use Rattle.ct_entry.specs.Listings.{key_order}
 use Rattle.tb_table.specs.declared.columns.Target.{Target}
 use Rattle.db_names.specs.declared.heads.IndexKind.{IndexKind}
@@ -16,24 +16,24 @@ use Rattle.ct_bytes.specs.Varints.{varint}
 use Rattle.db_names.specs.declared.heads.IndexKind.TheVariants.{Context, Catalogue}
 
 -- The index with this name has this head.
-pub record IsIndex (f : Key → Option (List ℕ)) (i : List ℕ) (h : IndexHead) : Type 0 where
+pub record IsIndexWith (f : Key → Option (List ℕ)) (i : List ℕ) (h : IndexHead) : Type 0 where
   pub name : IsName i
   pub entry : SpellsHead (f (key entry.Indexes i [])) (Some h)
 
 -- this is the name of an index of the kind on the target; or no index is
 abbrev pub IsIndexOn : (Key → Option (List ℕ)) → Target → IndexKind → Option (List ℕ) → Type 0
-IsIndexOn f target kind (Some i) = IsIndex f i (record { kind = kind; target = target })
-IsIndexOn f target kind None = (i : List ℕ) → IsIndex f i (record { kind = kind; target = target }) → ⊥
+IsIndexOn f target kind (Some i) = IsIndexWith f i (record { kind = kind; target = target })
+IsIndexOn f target kind None = (i : List ℕ) → IsIndexWith f i (record { kind = kind; target = target }) → ⊥
 
 -- The indexes on a table, each once with its head, in the order of their keys. What the list has at a name is the head of
 -- the index with that name, where there is one on the table.
 pub record AreIndexesOf (f : Key → Option (List ℕ)) (t : List ℕ) (found : List (List ℕ × IndexHead)) : Type 0 where
   pub rising : rises key_order found ≡ true
-  pub each : (i : List ℕ) (h : IndexHead) → (lookup (same_list i) found ≡ Some h) ↔ (IsIndex f i h × (h.target.table ≡ t))
+  pub each : (i : List ℕ) (h : IndexHead) → (lookup (same_list i) found ≡ Some h) ↔ (IsIndexWith f i h × (h.target.table ≡ t))
 
 -- computed examples: there is one index, `ci`, of the kind CTXCAT on the column 1 of the table `items`
 abbrev one_entry : Key → Option (List ℕ)
-one_entry k = if same k (key entry.Indexes (codes "ci") []) then Some (2 ∷ 5 ∷ codes "items" ++ 1 ∷ 9 ∷ []) else None
+one_entry k = if same_key k (key entry.Indexes (codes "ci") []) then Some (2 ∷ 5 ∷ codes "items" ++ 1 ∷ 9 ∷ []) else None
 
 abbrev items_title : Target
 items_title = record { table = codes "items"; column = 1 }
@@ -50,7 +50,7 @@ the_index = record {
 
 none_of_another_kind : IsIndexOn one_entry items_title Context None
 unfolding varint
-none_of_another_kind i is = go (same (key entry.Indexes i []) (key entry.Indexes (codes "ci") [])) is.entry.1.rest is.entry.1.whole
+none_of_another_kind i is = go (same_key (key entry.Indexes i []) (key entry.Indexes (codes "ci") [])) is.entry.1.rest is.entry.1.whole
   where
     go : (b : Bool) (rest : List ℕ) → cond b (Some (2 ∷ 5 ∷ codes "items" ++ 1 ∷ 9 ∷ [])) None ≡ Some ((1 ∷ 5 ∷ codes "items" ++ 1 ∷ []) ++ rest) → ⊥
     go true rest e = let differ : ◌≡◌ {A = ℕ} 2 1 = cc in omega (arith, differ)

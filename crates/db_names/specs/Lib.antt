@@ -1,5 +1,5 @@
 pub mod Heads
 pub mod Findings
 pub mod Parts
-pub mod PairLaws
-pub mod HeadLaws
+pub mod Promises
+pub mod laws

@@ -1,6 +1,6 @@
 //! What holds of all indexes. Each function here only states laws, which its contract proves.
 
-ghost use Rattle.db_names.specs.HeadLaws.{EntriesHaveOneHead, HeadsAreRead, IndexesOnAreRead, IndexesOfAreRead};
+ghost use Rattle.db_names.specs.Promises.{EntriesHaveOneHead, HeadsAreRead, IndexesOnAreRead, IndexesOfAreRead};
 
 /// An entry spells one head at most. Where entries stand for indexes, what is read of them are their heads.
 pub fn heads_are_exact()

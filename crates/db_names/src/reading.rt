@@ -3,7 +3,7 @@
 ghost use Rattle.std.specs.Prelude.{◌≡◌, ◌↔◌, ℕ, List, IfOk, IfSome, IfNone, IsTrue, Some};
 ghost use Rattle.db_names.specs.declared.heads.IndexKind.{IndexKind as Kind};
 ghost use Rattle.db_names.specs.Heads.{index_code, SpellsHead};
-ghost use Rattle.db_names.specs.Parts.{HasParts, NameOn, PairOf};
+ghost use Rattle.db_names.specs.Parts.{HasHeadParts, NameOn, PairOf};
 
 use crate::heads::{IndexHead, IndexKind};
 use ct_base::{Memory, Name};
@@ -25,10 +25,10 @@ fn kind_of(code: u8) -> Option<IndexKind>
     }
 }
 
-/// The first byte, the text behind it, and the byte behind that.
+/// The first byte, the text after it, and the byte after that.
 fn parts(value: &[u8]) -> Option<(u8, &[u8], u8)>
-    ensures some { IfSome result (λ r. HasParts value.now r.0 r.1.now r.2) }
-    ensures none { IfNone result ((code : ℕ) (table : List ℕ) (column : ℕ) → HasParts value.now code table column → ⊥) }
+    ensures some { IfSome result (λ r. HasHeadParts value.now r.0 r.1.now r.2) }
+    ensures none { IfNone result ((code : ℕ) (table : List ℕ) (column : ℕ) → HasHeadParts value.now code table column → ⊥) }
 {
     let code = *value.first()?;
     let (table, at) = read_text(value, 1)?;

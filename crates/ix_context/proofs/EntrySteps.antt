@@ -4,11 +4,12 @@ use Rattle.std.specs.Int.{to_be_bytes, w32}
 use Rattle.std.specs.Str.{bytes_eq}
 use Rattle.std.proofs.lemmas.Slice.Eq.{bytes_eq-Decides}
 use Rattle.std.proofs.lemmas.List.{drop_at, drop-drop, get_or-drop}
+use Rattle.std.proofs.lemmas.Option.{same_Some}
 use Rattle.ct_base.specs.Names.{IsName, kept_name}
-use Rattle.ct_base.specs.NameLaws.{name_length, kept_name-name}
+use Rattle.ct_base.specs.laws.Names.{name_length, kept_name-name}
 use Rattle.ct_bytes.specs.Varints.{text_bytes, IsTextAt}
-use Rattle.ct_bytes.specs.VarintLaws.{text_at_one, text_placed}
-use Rattle.ct_bytes.specs.NumberLaws.{four_bytes_one}
+use Rattle.ct_bytes.specs.laws.Varints.{text_at_one, text_placed}
+use Rattle.ct_bytes.specs.laws.Numbers.{four_bytes_one}
 use Rattle.ix_context.specs.Spelling.{index_bytes, behind_table}
 use Rattle.ix_context.specs.EntryParts.{HasParts}
 
@@ -46,16 +47,13 @@ next_read bytes c n at next fits small rest is =
 pub name_small : (t : List ℕ) → IsName t → length t < 2 ^ 32
 name_small t name = let l = name_length t name in omega (arith, l)
 
-some_same : {A : Type 0} {a b : A} → Some a ≡ Some b → a ≡ b
-some_same e = cc
-
 -- the entry of an index has parts
 pub no_parts : (bytes : List ℕ) → HasParts bytes None → (t : List ℕ) (c n : ℕ) → IsName t → c < 256 → n < 2 ^ 32 → Some bytes ≡ Some (index_bytes t c n) → ⊥
-no_parts bytes has t c n name col fits is = let e = has t c n (name_small t name) fits (some_same is) in cc
+no_parts bytes has t c n name col fits is = let e = has t c n (name_small t name) fits (same_Some _ _ is) in cc
 
 pub same_parts : (bytes text : List ℕ) (column next : ℕ) → HasParts bytes (Some (text, column, next)) → (t : List ℕ) (c n : ℕ) → IsName t → n < 2 ^ 32 → Some bytes ≡ Some (index_bytes t c n) → (text ≡ t) × (column ≡ c) × (next ≡ n) × (kept_name text ≡ Some t)
 same_parts bytes text column next has t c n name fits is =
-    let e : (text, column, next) ≡ (t, c, n) = some_same (has t c n (name_small t name) fits (some_same is)) in
+    let e : (text, column, next) ≡ (t, c, n) = same_Some _ _ (has t c n (name_small t name) fits (same_Some _ _ is)) in
     let same : text ≡ t = ap (λ (p : List ℕ × ℕ × ℕ). p.0) e in
     (same, ap (λ (p : List ℕ × ℕ × ℕ). p.1) e, ap (λ (p : List ℕ × ℕ × ℕ). p.2) e, ap kept_name same ∙ kept_name-name t name)
 
@@ -70,8 +68,8 @@ no_name bytes text column next has none t c n name col fits is =
 pub written_again : (bytes text table : List ℕ) (column next : ℕ) → HasParts bytes (Some (text, column, next)) → kept_name text ≡ Some table → (bytes ≡ index_bytes table column next → ⊥) → (t : List ℕ) (c n : ℕ) → IsName t → c < 256 → n < 2 ^ 32 → Some bytes ≡ Some (index_bytes t c n) → ⊥
 written_again bytes text table column next has kept other t c n name col fits is =
     let s = same_parts bytes text column next has t c n name fits is in
-    let same : table ≡ t = some_same (sym kept ∙ s.3) in
-    other (some_same is ∙ ap (λ x. index_bytes x c n) (sym same) ∙ ap (λ x. index_bytes table x n) (sym s.1) ∙ ap (index_bytes table column) (sym s.2))
+    let same : table ≡ t = same_Some _ _ (sym kept ∙ s.3) in
+    other (same_Some _ _ is ∙ ap (λ x. index_bytes x c n) (sym same) ∙ ap (λ x. index_bytes table x n) (sym s.1) ∙ ap (index_bytes table column) (sym s.2))
 
 -- what was found to differ
 pub differs : (written bytes : List ℕ) (r : Bool) → r ≡ bytes_eq written bytes → r ≡ false → bytes ≡ written → ⊥

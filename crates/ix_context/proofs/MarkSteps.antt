@@ -3,7 +3,7 @@ use Rattle.std.proofs.Common.{◌≡◌, ℕ, ℤ, ◌+◌, ◌<◌, List, [], �
 use Rattle.ct_base.specs.declared.numbers.RowKey.{RowKey}
 use Rattle.ct_entry.specs.Keys.{Key}
 use Rattle.ct_entry.specs.Changes.{spell}
-use Rattle.ct_entry.specs.ChangeLaws.{spell-append}
+use Rattle.ct_entry.specs.laws.Changes.{spell-append}
 use Rattle.ct_entry.specs.Each.{each}
 use Rattle.ix_context.specs.Changes.{numbered}
 

@@ -15,8 +15,8 @@ use Rattle.std.proofs.lemmas.Map.Lookups.{exact_bytes}
 use Rattle.ix_context.specs.Postings.{positions_from, positions, words_of, if_any, postings_of}
 use Rattle.ix_context.specs.PostingLaws.{get-postings_of}
 use Rattle.ix_context.specs.Occurrences.{had, noted, noted_all}
-use Rattle.ct_entry.specs.KeyLaws.{list_from_same}
-use Rattle.ct_entry.specs.MapLaws.{get_name-insert, get_name-remove}
+use Rattle.ct_entry.specs.laws.Keys.{list_from_same}
+use Rattle.ct_entry.specs.laws.Maps.{get_name-insert, get_name-remove}
 
 get-noted : (m : Content) (w : List ℕ) (p : ℕ) (q : List ℕ) → get (noted m w p) q ≡ cond (same_list q w) (Some (had (get m w) ++ p ∷ [])) (get m q)
 get-noted m w p q =

@@ -11,23 +11,27 @@ use Rattle.std.proofs.lemmas.Bool.Decides.{nat_tests}
 use Rattle.std.proofs.lemmas.List.Elements.{recursion_from_All}
 use Rattle.std.proofs.lemmas.Cmp.{nat_list_cmp_total, int_cmp_total}
 use Rattle.std.proofs.lemmas.Map.Lookups.{exact_bytes, exact_signed}
+use Rattle.std.proofs.lemmas.Option.{same_Some}
+use Rattle.std.proofs.lemmas.Bool.{or_right}
+use Rattle.ct_base.specs.laws.Options.{some_value, and_then_some}
 use Rattle.ct_bytes.specs.RowKeys.{row_bytes}
 use Rattle.ct_keep.specs.Content.{Content}
 use Rattle.ct_keep.specs.Tail.{tail}
 use Rattle.ct_keep.specs.TailLaws.{get-tail, get-tail_nil}
 use Rattle.ct_entry.specs.declared.kinds.Kind.TheVariants as kind
 use Rattle.ct_entry.specs.Keys.{Key, key, bytes, at, prefix_of, document_part, posting_part, IsPart, IsRow as IsRowKey, IsDocument, IsToken, HasKeysOnly}
-use Rattle.ct_entry.specs.KeyLaws.{is_eq_Equal, key_from_bytes}
-use Rattle.ct_entry.specs.Rising.{all_entries}
-use Rattle.ct_entry.specs.PartLaws.{document_part_apart, int_same}
-use Rattle.ct_entry.specs.DocumentLaws.{posting_front}
+use Rattle.ct_base.specs.laws.Orders.{equal_from_test}
+use Rattle.ct_entry.specs.laws.Keys.{key_from_bytes}
+use Rattle.ct_entry.specs.laws.Rising.{all_entries}
+use Rattle.ct_entry.specs.laws.Parts.{document_part_apart, int_same}
+use Rattle.ct_entry.specs.laws.Documents.{posting_prefix}
 use Rattle.ct_entry.specs.Listings.{row_of}
-use Rattle.ct_entry.specs.RowLaws.{row_of-row_part}
+use Rattle.ct_entry.specs.laws.Rows.{row_of-row_part}
 use Rattle.ct_entry.specs.Maps.{Names, Rows}
-use Rattle.ct_entry.specs.MapLaws.{and_then_some, get_row-insert}
+use Rattle.ct_entry.specs.laws.Maps.{get_row-insert}
 use Rattle.tb_table.specs.Tables.{Tables}
 use Rattle.ix_posting.specs.declared.rows.RowDocument.{RowDocument}
-use Rattle.ix_posting.specs.Rows.{IsRow, row_bytes as posting_bytes}
+use Rattle.ix_posting.specs.Rows.{IsPostingRow, posting_bytes}
 use Rattle.ix_context.specs.Postings.{positions, word_score}
 use Rattle.ix_context.specs.PostingLaws.{positions_rise}
 use Rattle.ix_context.specs.Indexes.{Index, Mark, Pending, Marked, is_marked, mark_of, text_seen, if_above, scored, found, found_at}
@@ -35,13 +39,6 @@ use Rattle.ix_context.specs.Spelling.{Numbering, IsNumbering, IndexesSpelled, po
 use Rattle.ix_context.specs.Limits.{IsWithinLimits}
 use Rattle.ix_context.specs.Scoring.{document_row, with_score, positions_score, with_postings, HoldRows}
 use Rattle.ix_context.specs.Picked.{entries_picked}
-
-some_same : {A : Type 0} {a b : A} → Some a ≡ Some b → a ≡ b
-some_same e = cc
-
-some_there : {X : Type 0} (o : Option X) → is_some o ≡ true → (x : X) × (o ≡ Some x)
-some_there None h = cc
-some_there (Some x) h = (x, refl)
 
 there_some : {X : Type 0} (o : Option X) (x : X) → o ≡ Some x → is_some o ≡ true
 there_some o x is = ap is_some is
@@ -89,7 +86,7 @@ finds_none ts x w nowhere = go (entries x.marks)
 
 posting_some : (d : ℕ) (ps v : List ℕ) → posting_value d ps ≡ Some v → (1 ≤ length ps) × (v ≡ posting_bytes (record { document = d; positions = ps } ∷ []))
 posting_some d [] v is = cc
-posting_some d (p ∷ ps) v is = (omega arith, sym (some_same is))
+posting_some d (p ∷ ps) v is = (omega arith, sym (same_Some _ _ is))
 
 value_of_some : (d : ℕ) (ps : List ℕ) → 1 ≤ length ps → posting_value d ps ≡ Some (posting_bytes (record { document = d; positions = ps } ∷ []))
 value_of_some d [] some = absurd (omega arith)
@@ -116,11 +113,6 @@ either false false v old = refl
 first_holds : (a b : Bool) → a ≡ true → (a || b) ≡ true
 first_holds true b h = refl
 first_holds false b h = cc
-
-second_holds : (a b : Bool) → b ≡ true → (a || b) ≡ true
-second_holds true b h = refl
-second_holds false true h = refl
-second_holds false false h = cc
 
 module _ (m : Content) (ts : Tables) (xs : Names Index) (x : Index) (i w : List ℕ) (n : Numbering) (only : HasKeysOnly m) (num : IsNumbering n xs) (spelled : IndexesSpelled n (at m) ts xs) (there : get xs i ≡ Some x) (fit : IsWithinLimits ts x) (token : IsToken w) where
   abbrev front : List ℕ
@@ -157,7 +149,7 @@ module _ (m : Content) (ts : Tables) (xs : Names Index) (x : Index) (i w : List 
   posted_at q v is =
       let k = only (prefix ++ q) (there_some (get m (prefix ++ q)) v is) in
       let same : k.0 ≡ key kind.Postings i (front ++ q) = key_from_bytes k.0 (key kind.Postings i (front ++ q)) (sym k.1 ∙ assoc q) in
-      let form = posting_front 0 w q (subst (λ (j : Key). IsPart j.kind j.part) same k.2.part) in
+      let form = posting_prefix 0 w q (subst (λ (j : Key). IsPart j.kind j.part) same k.2.part) in
       let here : at m (key kind.Postings i (posting_part 0 w form.0)) ≡ Some v = ap (λ (l : List ℕ). at m (key kind.Postings i (front ++ l))) (sym form.2) ∙ ap (get m) (sym (assoc q)) ∙ is in
       let told = sym (value_at form.0 form.1) ∙ here in
       let text = and_then_some (λ text. posting_value form.0 (positions w text)) (option_and_then (λ r. text_seen ts x r) (n.row i form.0)) v told in
@@ -193,7 +185,7 @@ module _ (m : Content) (ts : Tables) (xs : Names Index) (x : Index) (i w : List 
   abbrev document_of : (q v : List ℕ) → Posted q v → RowDocument
   document_of q v p = record { document = p.document; positions = positions w p.text }
 
-  is_row_of : (q v : List ℕ) (p : Posted q v) → IsRow (document_of q v p ∷ [])
+  is_row_of : (q v : List ℕ) (p : Posted q v) → IsPostingRow (document_of q v p ∷ [])
   is_row_of q v p =
       let least = (num.within i p.row p.document x there (num.back i p.row p.document p.is_row)).0 in
       record {
@@ -227,7 +219,7 @@ module _ (m : Content) (ts : Tables) (xs : Names Index) (x : Index) (i w : List 
       ∙ go (int_eq r p.row) refl
     where
       go : (b : Bool) → int_eq r p.row ≡ b → cond b (Some (positions_score (positions w p.text))) (get scores r) ≡ cond b (right r) (get scores r)
-      go true is = sym (ap right (exact_signed r p.row (is_eq_Equal (int_cmp r p.row) is)) ∙ right_at q v p)
+      go true is = sym (ap right (exact_signed r p.row (equal_from_test (int_cmp r p.row) is)) ∙ right_at q v p)
       go false is = refl
 
   scores_at : (es : List (List ℕ × List ℕ)) (all : AllPosted es) (scores : Rows ℕ) (r : ℤ) → get (with_postings (at m) i (rows_of es all) scores) r ≡ cond (any_row r es all) (right r) (get scores r)
@@ -249,10 +241,10 @@ module _ (m : Content) (ts : Tables) (xs : Names Index) (x : Index) (i w : List 
       go : (b : Bool) → eq_by_cmp (slice_cmp nat_cmp) (document_part d) e.0 ≡ b → cond b (Some e.1) (find (slice_cmp nat_cmp) (document_part d) es) ≡ Some v
           → (find (slice_cmp nat_cmp) (document_part d) es ≡ Some v → any_row r es all.1 ≡ true) → (int_eq r all.0.row || any_row r es all.1) ≡ true
       go true tie found rest =
-          let same : d ≡ all.0.document = document_part_apart d all.0.document fits all.0.within (exact_bytes (document_part d) e.0 (is_eq_Equal _ tie) ∙ all.0.place) in
-          let row : r ≡ all.0.row = some_same (sym is ∙ ap (n.row i) same ∙ all.0.is_row) in
+          let same : d ≡ all.0.document = document_part_apart d all.0.document fits all.0.within (exact_bytes (document_part d) e.0 (equal_from_test _ tie) ∙ all.0.place) in
+          let row : r ≡ all.0.row = same_Some _ _ (sym is ∙ ap (n.row i) same ∙ all.0.is_row) in
           first_holds (int_eq r all.0.row) (any_row r es all.1) (ap (int_eq r) (sym row) ∙ int_same r)
-      go false tie found rest = second_holds (int_eq r all.0.row) (any_row r es all.1) (rest found)
+      go false tie found rest = or_right (int_eq r all.0.row) (any_row r es all.1) (rest found)
 
   tail_at : (q v : List ℕ) → (q ≡ [] → ⊥) → get m (prefix ++ q) ≡ Some v → get (tail prefix m) q ≡ Some v
   tail_at [] v some is = absurd (some refl)
@@ -268,7 +260,7 @@ module _ (m : Content) (ts : Tables) (xs : Names Index) (x : Index) (i w : List 
           let text = and_then_some (λ text. if_some (word_score w text)) (text_seen ts x r) s is in
           let some = score_some (positions w text.0) s text.2 in
           let has : is_some (n.document i r) ≡ true = num.marked i r ∙ ap (λ (o : Option Index). is_marked (mark_of o r)) there ∙ ap is_marked mark in
-          let d = some_there (n.document i r) has in
+          let d = some_value (n.document i r) has in
           let row : n.row i d.0 ≡ Some r = num.there i r d.0 d.1 in
           let most = (num.within i r d.0 x there d.1).1 in
           let given = fit.given in

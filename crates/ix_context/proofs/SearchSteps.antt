@@ -5,7 +5,7 @@ use Rattle.std.specs.declared.alloc.Global.{Global}
 use Rattle.ct_entry.specs.Keys.{Key}
 use Rattle.ct_entry.specs.Maps.{Rows}
 use Rattle.ix_posting.specs.declared.rows.RowDocument.{RowDocument}
-use Rattle.ix_posting.specs.Rows.{IsRow, row_bytes}
+use Rattle.ix_posting.specs.Rows.{IsPostingRow, posting_bytes}
 use Rattle.ix_context.specs.Scoring.{with_documents, with_postings, HoldRows}
 
 -- The rows of postings that are left lead from these scores to those.
@@ -16,7 +16,7 @@ pub record Left (f : Key → Option (List ℕ)) (i : List ℕ) (es : List (List 
 
 -- one entry more
 pub step : (f : Key → Option (List ℕ)) (i : List ℕ) (e : List ℕ × List ℕ) (es : List (List ℕ × List ℕ)) (scores next all : Rows ℕ) → Left f i (e ∷ es) scores all
-    → ((row : List RowDocument) → IsRow row → row_bytes row ≡ e.1 → next ≡ with_documents f i row scores) → Left f i es next all
+    → ((row : List RowDocument) → IsPostingRow row → posting_bytes row ≡ e.1 → next ≡ with_documents f i row scores) → Left f i es next all
 step f i e es scores next all left scored = go left.rows left.hold left.lead
   where
     go : (rows : List (List RowDocument)) → HoldRows (e ∷ es) rows → with_postings f i rows scores ≡ all → Left f i es next all

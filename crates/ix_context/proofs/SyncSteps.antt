@@ -7,7 +7,7 @@ use Rattle.ct_keep.specs.declared.keepers.KeepFault.{KeepFault}
 use Rattle.ct_entry.specs.declared.kinds.Kind.TheVariants as kind
 use Rattle.ct_entry.specs.Keys.{key}
 use Rattle.ct_entry.specs.Changes.{put, spell}
-use Rattle.ct_entry.specs.ChangeLaws.{spell-append}
+use Rattle.ct_entry.specs.laws.Changes.{spell-append}
 use Rattle.ct_entry.specs.Each.{each}
 use Rattle.tb_table.specs.declared.columns.Target.{Target}
 use Rattle.tb_table.specs.Tables.{Tables}

@@ -6,27 +6,28 @@ use Rattle.std.specs.List.{list_any, filter_map}
 use Rattle.std.specs.Ordering.{int_cmp, int_eq, is_lt}
 use Rattle.std.proofs.lemmas.Cmp.{int_cmp_total}
 use Rattle.std.specs.FinMap.{get, insert, entries, find, get-from_entries, contains_key-keys}
+use Rattle.std.proofs.lemmas.Bool.{not-true, and_parts, and_from}
 use Rattle.ct_base.specs.declared.lists.Value.{Value}
+use Rattle.ct_base.specs.laws.Options.{some_value}
 use Rattle.ct_entry.specs.declared.kinds.Kind.{Kind}
 use Rattle.ct_entry.specs.declared.kinds.Kind.TheVariants as kind
 use Rattle.ct_entry.specs.Keys.{Key, key, same_list, IsRow}
 use Rattle.ct_entry.specs.Changes.{put, told, view, AllOf}
 use Rattle.ct_entry.specs.Each.{each}
-use Rattle.ct_entry.specs.EachLaws.{all_each}
-use Rattle.ct_entry.specs.KeyLaws.{list_from_same, list_same, key_same}
-use Rattle.ct_entry.specs.PartLaws.{int_from_eq}
+use Rattle.ct_entry.specs.laws.Each.{all_each}
+use Rattle.ct_entry.specs.laws.Keys.{list_from_same, list_same, key_same}
+use Rattle.ct_entry.specs.laws.Parts.{int_from_eq}
 use Rattle.ct_entry.specs.Maps.{Names, alter}
-use Rattle.ct_entry.specs.MapLaws.{get_name-insert, get_name-alter, get_row-insert, get-each_value}
+use Rattle.ct_entry.specs.laws.Maps.{get_name-insert, get_name-alter, get_row-insert, get-each_value}
 use Rattle.ct_entry.specs.Listings.{keys_where}
-use Rattle.ct_entry.specs.RowLaws.{keys_below, keys_rise, listed_rise, has_key, keys_always}
-use Rattle.ct_entry.specs.ChangeLaws.{told_frame, told-append, view-append}
-use Rattle.ct_keep.specs.RisingKeys.{and_true, and_both}
+use Rattle.ct_entry.specs.laws.Rows.{keys_below, keys_rise, listed_rise, has_key, keys_always}
+use Rattle.ct_entry.specs.laws.Changes.{told_frame, told-append, view-append}
 use Rattle.tb_table.specs.declared.columns.Column.{Column}
 use Rattle.tb_table.specs.declared.columns.Target.{Target}
 use Rattle.tb_table.specs.Tables.{Table, Tables, row_in, row_at, text_of, keys_in, row_keys, with_table, with_row}
 use Rattle.tb_table.specs.Rules.{AreTables}
-use Rattle.tb_table.specs.ChangeLaws.{row_at-with_table, row_at-with_row}
-use Rattle.tb_table.specs.ReadLaws.{row_of_table}
+use Rattle.tb_table.specs.laws.Changes.{row_at-with_table, row_at-with_row}
+use Rattle.tb_table.specs.laws.Reading.{row_of_table}
 use Rattle.ix_context.specs.declared.ranges.KeyRange.{KeyRange}
 use Rattle.ix_context.specs.Indexes.{Index, Mark, Pending, Marked, mark_of, is_marked, if_pending, pending_rows, text_seen, noted, synced_index, synced, in_range, rows_in, all_marked, created, with_index}
 use Rattle.ix_context.specs.Rules.{IsIndex, AreIndexes, most_given}
@@ -63,10 +64,6 @@ CreatedIndexesStand = (f : Key → Option (List ℕ)) (ts : Tables) (xs : Names 
     → IndexesStand (view (create_changes ts i target range) f) ts (with_index ts xs i target range)
 
 -- ---- new tables and rows
-
-some_value : {X : Type 0} (o : Option X) → is_some o ≡ true → (v : X) × (o ≡ Some v)
-some_value None h = cc
-some_value (Some v) h = (v, refl)
 
 marked_there : (m : Option Mark) → is_marked m ≡ true → is_some m ≡ true
 marked_there None h = cc
@@ -225,10 +222,6 @@ pending_free ts x are is = each_among (λ s. IsRow s × (not (is_marked (get x.m
     go r (Some Pending) here there = (mark_is_row ts x are is r (ap is_some here), ap (λ (p : Option Mark). not (is_marked p)) here)
     go r (Some Marked) here there = cc
 
-not_true : (b : Bool) → not b ≡ true → b ≡ false
-not_true true h = cc
-not_true false h = refl
-
 synced_mark : (x : Index) (r : ℤ) → marked_in (pending_rows x) (get x.marks) r ≡ get (synced_index x).marks r
 synced_mark x r =
     marked_in-at (pending_rows x) (get x.marks) r
@@ -249,7 +242,7 @@ marks_synced f ts i x room are is marks =
   where
     step : (g : Key → Option (List ℕ)) (mark : ℤ → Option Mark) (given : ℕ) (r : ℤ) → IsRow r → not (is_marked (mark r)) ≡ true → given + 1 < 2 ^ 32 → MarksStand g i (text_seen ts x) mark given
         → MarksStand (view (settle_changes ts i x (given + 1, r)) g) i (text_seen ts x) (with_mark r (Some Marked) mark) (given + 1)
-    step g mark given r is_row free room marks = marks_settled g i (text_seen ts x) mark given r is_row (not_true _ free) room marks
+    step g mark given r is_row free room marks = marks_settled g i (text_seen ts x) mark given r is_row (not-true _ free) room marks
 
 synced_stands : (f : Key → Option (List ℕ)) (ts : Tables) (i : List ℕ) (x : Index) → x.given + length (pending_rows x) ≤ most_given → AreTables ts → IsIndex ts x → IndexStands f ts i (Some x) → IndexStands (view (sync_changes ts i x) f) ts i (Some (synced_index x))
 synced_stands f ts i x room are is stand = go (pending_rows x) refl (marks_synced f ts i x room are is stand.marks)
@@ -294,18 +287,18 @@ filter_among p (r ∷ rows) s h = go (p r) (filter_among p rows s) h
 
 filter_below : (p : ℤ → Bool) (k : ℤ) (rows : List ℤ) → keys_below int_cmp k rows ≡ true → keys_below int_cmp k (filter p rows) ≡ true
 filter_below p k [] h = refl
-filter_below p k (r ∷ rows) h = let b = and_true (is_lt (int_cmp k r)) (keys_below int_cmp k rows) h in go (p r) b.0 (filter_below p k rows b.1)
+filter_below p k (r ∷ rows) h = let b = and_parts (is_lt (int_cmp k r)) (keys_below int_cmp k rows) h in go (p r) b.0 (filter_below p k rows b.1)
   where
     go : (b : Bool) → is_lt (int_cmp k r) ≡ true → keys_below int_cmp k (filter p rows) ≡ true → keys_below int_cmp k (cond b (r ∷ filter p rows) (filter p rows)) ≡ true
-    go true low rest = and_both _ _ low rest
+    go true low rest = and_from _ _ low rest
     go false low rest = rest
 
 filter_rise : (p : ℤ → Bool) (rows : List ℤ) → keys_rise int_cmp rows ≡ true → keys_rise int_cmp (filter p rows) ≡ true
 filter_rise p [] h = refl
-filter_rise p (r ∷ rows) h = let b = and_true (keys_below int_cmp r rows) (keys_rise int_cmp rows) h in go (p r) (filter_below p r rows b.0) (filter_rise p rows b.1)
+filter_rise p (r ∷ rows) h = let b = and_parts (keys_below int_cmp r rows) (keys_rise int_cmp rows) h in go (p r) (filter_below p r rows b.0) (filter_rise p rows b.1)
   where
     go : (b : Bool) → keys_below int_cmp r (filter p rows) ≡ true → keys_rise int_cmp (filter p rows) ≡ true → keys_rise int_cmp (cond b (r ∷ filter p rows) (filter p rows)) ≡ true
-    go true low rest = and_both _ _ low rest
+    go true low rest = and_from _ _ low rest
     go false low rest = rest
 
 rows_rise : (ts : Tables) (t : List ℕ) → keys_rise int_cmp (row_keys ts t) ≡ true

@@ -10,7 +10,7 @@ use Rattle.ct_entry.specs.Changes.{put, drop_key, spell}
 use Rattle.ct_entry.specs.Each.{each}
 use Rattle.tb_table.specs.declared.columns.Target.{Target}
 use Rattle.tb_table.specs.Tables.{Tables}
-use Rattle.ix_posting.specs.Rows.{row_bytes as posting_bytes}
+use Rattle.ix_posting.specs.Rows.{posting_bytes}
 use Rattle.ix_context.specs.declared.ranges.KeyRange.{KeyRange}
 use Rattle.ix_context.specs.Postings.{postings_of, fox_and_quick}
 use Rattle.ix_context.specs.Indexes.{Index, pending_rows, text_seen, target_text, synced_index, created, rows_in}

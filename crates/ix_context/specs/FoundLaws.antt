@@ -8,8 +8,9 @@ use Rattle.std.specs.Ordering.{int_cmp}
 use Rattle.std.specs.FinMap.{get, entries, find, get-entries, int_cmp-IsAntisymmetric}
 use Rattle.std.proofs.lemmas.Bool.{lt-ltb, ltb-true}
 use Rattle.std.proofs.lemmas.Cmp.{int_cmp_total}
+use Rattle.std.proofs.lemmas.Option.{same_Some}
 use Rattle.ct_keep.specs.RisingKeys.{rises, entries_rise}
-use Rattle.ct_entry.specs.Rising.{pair_found, found_pair}
+use Rattle.ct_entry.specs.laws.Rising.{pair_found, found_pair}
 use Rattle.tb_table.specs.Tables.{Tables}
 use Rattle.ix_context.specs.Postings.{word_score}
 use Rattle.ix_context.specs.Indexes.{Index, Mark, Pending, Marked, text_seen, scored, found_at, found}
@@ -34,9 +35,6 @@ abbrev pub FoundRises : Type 0
 FoundRises = (ts : Tables) (x : Index) (key : List ℕ) (n : ℕ) → rises int_cmp (found ts x key n) ≡ true
 
 -- ---- their proofs
-
-some_same : {A : Type 0} {a b : A} → Some a ≡ Some b → a ≡ b
-some_same e = cc
 
 -- a score, where it is above n
 abbrev score_above : ℕ → ℕ → Option ℕ
@@ -84,7 +82,7 @@ is_found ts x key n r score (Some Marked) at is = by_text (text_seen ts x r) ref
   where
     by_score : (text : List ℕ) → text_seen ts x r ≡ Some text → (b : Bool) → nat_lt n (word_score key text) ≡ b → cond b (Some (word_score key text)) None ≡ Some score → IsFound ts x key n r score
     by_score text seen true above is =
-        let same : word_score key text ≡ score = some_same is in
+        let same : word_score key text ≡ score = same_Some _ _ is in
         let over = ltb-true n (word_score key text) above in
         record { marked = at; text = text; seen = seen; scores = sym same; above = rw (sym same) over }
     by_score text seen false above is = absurd (cc)

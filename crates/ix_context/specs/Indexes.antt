@@ -15,7 +15,7 @@ use Rattle.std.specs.Str.{chars}
 use lib.Utf8.{encode}
 use Rattle.std.proofs.Common.{ap, ◌∙◌}
 use Rattle.std.proofs.lemmas.Cmp.{int_cmp_total}
-use Rattle.ct_entry.specs.MapLaws.{get-each_value}
+use Rattle.ct_entry.specs.laws.Maps.{get-each_value}
 
 -- A row of an index waits for the next synchronisation, or is found by queries.
 pub data Mark : Type 0 where

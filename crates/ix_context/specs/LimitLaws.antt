@@ -1,20 +1,19 @@
 -- The rules of a state keep each index within the limits of a search.
-use Rattle.std.proofs.Common.{◌≡◌, ℕ, ℤ, zero, suc, ◌≤◌, true, List, [], ◌∷◌, length, Option, Some, None, refl, sym, ap, ◌∙◌, arith}
-use Rattle.std.specs.Prelude.{is_some}
+use Rattle.std.proofs.Common.{◌≡◌, ℕ, ℤ, zero, suc, ◌≤◌, List, [], ◌∷◌, length, Option, Some, None, refl, sym, ap, ◌∙◌, arith}
 use Rattle.std.specs.FinMap.{get}
 use Rattle.ct_base.specs.declared.lists.Value.{Value}
 use Rattle.ct_base.specs.declared.lists.Value.TheVariants.{Number as NumberValue, Text as TextValue}
+use Rattle.ct_base.specs.laws.Options.{some_value, and_then_some}
 use Rattle.tb_table.specs.declared.columns.Sort.{Sort}
 use Rattle.tb_table.specs.declared.columns.Sort.TheVariants.{Number, Varchar2, Clob}
 use Rattle.tb_table.specs.declared.columns.Column.{Column}
-use Rattle.ct_entry.specs.MapLaws.{and_then_some}
 use Rattle.tb_table.specs.Tables.{Table, Tables, row_in, row_at, text_in, text_of, as_text}
-use Rattle.tb_table.specs.Rules.{AreTables, IsTable, AllColumns, IsSort, Fits, FitColumns, others}
+use Rattle.tb_table.specs.Rules.{AreTables, IsTable, AllColumns, HasAllowedSize, IsOfSort, FitColumns, others}
 use Rattle.ix_context.specs.Indexes.{Index}
 use Rattle.ix_context.specs.Rules.{IsIndex}
 use Rattle.ix_context.specs.Limits.{IsWithinLimits}
 
-short_value : (s : Sort) (v : Value) (text : List ℕ) → IsSort s → Fits s v → as_text v ≡ Some text → length text ≤ 4000
+short_value : (s : Sort) (v : Value) (text : List ℕ) → HasAllowedSize s → IsOfSort s v → as_text v ≡ Some text → length text ≤ 4000
 short_value s (NumberValue n) text sort fits is = cc
 short_value Number (TextValue t) text sort fits is = absurd fits
 short_value (Varchar2 size) (TextValue t) text sort fits is = let e : t ≡ text = cc in omega (arith, ap length e, sort.1, fits.0)
@@ -47,14 +46,10 @@ row_kept ts t r vs are is = go (get ts t) refl is
     go None at is = cc
     go (Some x) at is = record { table = x; is = are.each t x at; there = is }
 
-some_there : {X : Type 0} (o : Option X) → is_some o ≡ true → (x : X) × (o ≡ Some x)
-some_there None h = cc
-some_there (Some x) h = (x, refl)
-
 pub within_limits : (ts : Tables) (x : Index) → AreTables ts → IsIndex ts x → IsWithinLimits ts x
 within_limits ts x are is = record {
   rows = λ r has.
-      let row = some_there (row_at ts x.table r) (sym (is.marks r) ∙ has) in
+      let row = some_value (row_at ts x.table r) (sym (is.marks r) ∙ has) in
       let kept = row_kept ts x.table r row.0 are row.1 in
       kept.is.keys r row.0 kept.there;
   given = let l = is.given in omega (arith, l);

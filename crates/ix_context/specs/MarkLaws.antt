@@ -7,23 +7,23 @@ use Rattle.std.specs.List.{list_any}
 use Rattle.std.specs.Ordering.{nat_cmp, int_cmp, int_eq, is_lt}
 use Rattle.std.specs.Cmp.Lexicographic.{slice_cmp}
 use Rattle.std.specs.FinMap.{entries}
-use Rattle.std.proofs.lemmas.Bool.{eqb-true, eq-eqb, ne_eqb}
+use Rattle.std.proofs.lemmas.Bool.{eqb-true, eq-eqb, ne_eqb, and_parts}
 use Rattle.std.proofs.lemmas.Cmp.{nat_list_cmp_total, int_cmp_total, tied_itself}
+use Rattle.std.proofs.lemmas.Option.{same_Some}
 use Rattle.ct_bytes.specs.RowKeys.{row_bytes}
 use Rattle.ct_entry.specs.declared.kinds.Kind.{Kind}
 use Rattle.ct_entry.specs.declared.kinds.Kind.TheVariants as kind
-use Rattle.ct_entry.specs.Keys.{Key, key, same, same_list, row_part, document_part, posting_part, span_part, IsRow, IsDocument, IsToken}
+use Rattle.ct_entry.specs.Keys.{Key, key, same_key, same_list, row_part, document_part, posting_part, span_part, IsRow, IsDocument, IsToken}
 use Rattle.ct_entry.specs.Changes.{drop_key, told, view, AllOf}
 use Rattle.ct_entry.specs.Each.{each}
-use Rattle.ct_entry.specs.EachLaws.{told_each_none, map-each}
-use Rattle.ct_entry.specs.KeyLaws.{list_same}
-use Rattle.ct_entry.specs.PartLaws.{rows_tie, documents_tie, postings_tie, same_kind, int_from_eq, int_same}
-use Rattle.ct_entry.specs.MapLaws.{names_tie}
-use Rattle.ct_entry.specs.MapChanges.{told_entries}
-use Rattle.ct_entry.specs.RowLaws.{keys_below, keys_rise}
-use Rattle.ct_entry.specs.ChangeLaws.{told_frame, view-append}
-use Rattle.ct_keep.specs.RisingKeys.{and_true}
-use Rattle.ix_posting.specs.Rows.{row_bytes as posting_bytes}
+use Rattle.ct_entry.specs.laws.Each.{told_each_none, map-each}
+use Rattle.ct_entry.specs.laws.Keys.{list_same}
+use Rattle.ct_entry.specs.laws.Parts.{rows_tie, documents_tie, postings_tie, same_kind, int_from_eq, int_same}
+use Rattle.ct_entry.specs.laws.Maps.{names_tie}
+use Rattle.ct_entry.specs.laws.MapChanges.{told_entries}
+use Rattle.ct_entry.specs.laws.Rows.{keys_below, keys_rise}
+use Rattle.ct_entry.specs.laws.Changes.{told_frame, view-append}
+use Rattle.ix_posting.specs.Rows.{posting_bytes}
 use Rattle.ix_context.specs.Postings.{positions, postings_of, if_any}
 use Rattle.ix_context.specs.PostingLaws.{get-postings_of}
 use Rattle.ix_context.specs.Indexes.{Mark, Marked, is_marked}
@@ -48,19 +48,19 @@ all_texts i d (Some t) = all_of_map i d (entries (postings_of t))
 -- ---- what keys have after a document's changes
 
 -- keys of one kind and owner
-pub same_own : (kind : Kind) (i p q : List ℕ) → same (key kind i p) (key kind i q) ≡ same_list p q
+pub same_own : (kind : Kind) (i p q : List ℕ) → same_key (key kind i p) (key kind i q) ≡ same_list p q
 same_own kind i p q = same_kind kind i i p q ∙ ap (λ (b : Bool). b && same_list p q) (list_same i)
 
 told_row_of : (i : List ℕ) (d : ℕ) (r : ℤ) (text : Option (List ℕ)) (e : ℕ) (old : Option (List ℕ)) → IsDocument d → IsDocument e
     → told (document_changes i d r text) (key kind.DocumentRows i (document_part e)) old ≡ cond (e == d) (Some (row_bytes r)) old
 told_row_of i d r text e old doc doc' =
-    told_frame is_of_postings (text_changes i d text) (key kind.DocumentRows i (document_part e)) (cond (same (key kind.DocumentRows i (document_part e)) (key kind.DocumentRows i (document_part d))) (Some (row_bytes r)) old) (all_texts i d text) refl
+    told_frame is_of_postings (text_changes i d text) (key kind.DocumentRows i (document_part e)) (cond (same_key (key kind.DocumentRows i (document_part e)) (key kind.DocumentRows i (document_part d))) (Some (row_bytes r)) old) (all_texts i d text) refl
     ∙ ap (λ (b : Bool). cond b (Some (row_bytes r)) old) (same_own kind.DocumentRows i (document_part e) (document_part d) ∙ documents_tie e d doc' doc)
 
 told_document_of : (i : List ℕ) (d : ℕ) (r : ℤ) (text : Option (List ℕ)) (s : ℤ) (old : Option (List ℕ)) → IsRow r → IsRow s
     → told (document_changes i d r text) (key kind.RowDocuments i (row_part s)) old ≡ cond (int_eq s r) (Some (to_be_bytes w32 d)) old
 told_document_of i d r text s old row row' =
-    told_frame is_of_postings (text_changes i d text) (key kind.RowDocuments i (row_part s)) (cond (same (key kind.RowDocuments i (row_part s)) (key kind.RowDocuments i (row_part r))) (Some (to_be_bytes w32 d)) old) (all_texts i d text) refl
+    told_frame is_of_postings (text_changes i d text) (key kind.RowDocuments i (row_part s)) (cond (same_key (key kind.RowDocuments i (row_part s)) (key kind.RowDocuments i (row_part r))) (Some (to_be_bytes w32 d)) old) (all_texts i d text) refl
     ∙ ap (λ (b : Bool). cond b (Some (to_be_bytes w32 d)) old) (same_own kind.RowDocuments i (row_part s) (row_part r) ∙ rows_tie s r row' row)
 
 -- the value of a row of postings with one document
@@ -68,7 +68,7 @@ abbrev one_row : ℕ → List ℕ → Option (List ℕ)
 one_row d ps = Some (posting_bytes (record { document = d; positions = ps } ∷ []))
 
 same_posting : (i : List ℕ) (s s' : ℕ) (token token' : List ℕ) (d d' : ℕ) → IsDocument d → IsDocument d'
-    → same (key kind.Postings i (posting_part s token d)) (key kind.Postings i (posting_part s' token' d')) ≡ ((s == s') && (same_list token token' && (d == d')))
+    → same_key (key kind.Postings i (posting_part s token d)) (key kind.Postings i (posting_part s' token' d')) ≡ ((s == s') && (same_list token token' && (d == d')))
 same_posting i s s' token token' d d' doc doc' = same_own kind.Postings i (posting_part s token d) (posting_part s' token' d') ∙ postings_tie s s' token token' d d' doc doc'
 
 -- a key's row of postings in the document
@@ -112,9 +112,6 @@ with_document r d document s = cond (int_eq s r) (Some d) (document s)
 abbrev with_row_of : ℕ → ℤ → (ℕ → Option ℤ) → ℕ → Option ℤ
 with_row_of d r row e = cond (e == d) (Some r) (row e)
 
-one_some : {X : Type 0} (x y : X) → Some x ≡ Some y → x ≡ y
-one_some x y e = cc
-
 -- no row has a document that wasn't given
 pub not_given : (mark : ℤ → Option Mark) (given : ℕ) (document : ℤ → Option ℕ) (row : ℕ → Option ℤ) → AreNumbers mark given document row → (d : ℕ) → given < d → row d ≡ None
 not_given mark given document row are d more = go (row d) refl
@@ -139,7 +136,7 @@ more_numbers mark given document row r free are = record {
 
     there : (s : ℤ) (e : ℕ) (b : Bool) → int_eq s r ≡ b → cond b (Some (given + 1)) (document s) ≡ Some e → cond (e == given + 1) (Some r) (row e) ≡ Some s
     there s e true h is =
-        let one : given + 1 ≡ e = one_some (given + 1) e is in
+        let one : given + 1 ≡ e = same_Some (given + 1) e is in
         ap (λ (b : Bool). cond b (Some r) (row e)) (eq-eqb e (given + 1) (sym one)) ∙ ap (λ (z : ℤ). Some z) (sym (int_from_eq s r h))
     there s e false h is =
         let low = (are.within s e is).1 in
@@ -154,12 +151,12 @@ more_numbers mark given document row r free are = record {
 
     back : (s : ℤ) (e : ℕ) (b : Bool) → (e == given + 1) ≡ b → cond b (Some r) (row e) ≡ Some s → cond (int_eq s r) (Some (given + 1)) (document s) ≡ Some e
     back s e true h is =
-        let one : r ≡ s = one_some r s is in
+        let one : r ≡ s = same_Some r s is in
         ap (λ (b : Bool). cond b (Some (given + 1)) (document s)) (ap (λ (z : ℤ). int_eq z r) (sym one) ∙ int_same r) ∙ ap (λ (n : ℕ). Some n) (sym (eqb-true e (given + 1) h))
     back s e false h is = let was = are.back s e is in ap (λ (b : Bool). cond b (Some (given + 1)) (document s)) (other s e (int_eq s r) refl was) ∙ was
 
     within : (s : ℤ) (e : ℕ) (b : Bool) → cond b (Some (given + 1)) (document s) ≡ Some e → (1 ≤ e) × (e ≤ given + 1)
-    within s e true is = let one : given + 1 ≡ e = one_some (given + 1) e is in (omega (arith, one), omega (arith, one))
+    within s e true is = let one : given + 1 ≡ e = same_Some (given + 1) e is in (omega (arith, one), omega (arith, one))
     within s e false is = let old = are.within s e is in (old.0, omega (arith, old.1))
 
 -- a row whose text an index sees becomes its next document
@@ -247,7 +244,7 @@ marks_queued f i text mark given r m is_row free unmarked marks = record {
     rows = marks.stand.rows;
     documents = marks.stand.documents;
     queue = λ s fits.
-        ap (cond (same (key kind.Pending i (row_part s)) (key kind.Pending i (row_part r))) (queued m)) (marks.stand.queue s fits)
+        ap (cond (same_key (key kind.Pending i (row_part s)) (key kind.Pending i (row_part r))) (queued m)) (marks.stand.queue s fits)
         ∙ ap (λ (b : Bool). cond b (queued m) (queued (mark s))) (same_own kind.Pending i (row_part s) (row_part r) ∙ rows_tie s r fits is_row)
         ∙ at_mark (int_eq s r) (mark s);
     postings = marks.stand.postings;
@@ -322,7 +319,7 @@ above_apart r s low = go (int_eq s r) refl
 still_free : (free : Option Mark → Bool) (mark : ℤ → Option Mark) (r : ℤ) (rows : List ℤ) → keys_below int_cmp r rows ≡ true → EachRow (λ s. IsRow s × (free (mark s) ≡ true)) rows → EachRow (λ s. IsRow s × (free (with_mark r (Some Marked) mark s) ≡ true)) rows
 still_free free mark r [] low all = tt
 still_free free mark r (s ∷ rows) low all =
-    let b = and_true (is_lt (int_cmp r s)) (keys_below int_cmp r rows) low in
+    let b = and_parts (is_lt (int_cmp r s)) (keys_below int_cmp r rows) low in
     ((all.0.0, ap (λ (t : Bool). free (cond t (Some Marked) (mark s))) (above_apart r s b.0) ∙ all.0.1), still_free free mark r rows b.1 all.1)
 
 -- changes that mark one row with the next document mark several, one after the other
@@ -332,7 +329,7 @@ pub marks_all : (changes : ℕ × ℤ → List (Key × Option (List ℕ))) (i : 
     → MarksStand (view (each changes (numbered (given + 1) rows)) f) i text (marked_in rows mark) (given + length rows)
 marks_all changes i text free step [] f mark given rise all room marks = let none : given ≡ given + 0 = omega arith in subst (MarksStand f i text mark) none marks
 marks_all changes i text free step (r ∷ rs) f mark given rise all room marks =
-    let b = and_true (keys_below int_cmp r rs) (keys_rise int_cmp rs) rise in
+    let b = and_parts (keys_below int_cmp r rs) (keys_rise int_cmp rs) rise in
     let one = step f mark given r all.0.0 all.0.1 (omega arith) marks in
     let rest = marks_all changes i text free step rs (view (changes (given + 1, r)) f) (with_mark r (Some Marked) mark) (given + 1) b.1 (still_free free mark r rs b.0 all.1) (omega arith) one in
     let count : given + 1 + length rs ≡ given + length (r ∷ rs) = omega arith in

@@ -7,9 +7,11 @@ use Rattle.std.specs.declared.cmp.Ordering.{Ordering}
 use Rattle.std.specs.Ordering.{is_lt, eq_by_cmp}
 use Rattle.std.specs.Cmp.{IsTotalOrder}
 use Rattle.std.specs.FinMap.{FinMap, IsAntisymmetric, get, entries, find, is_sorted, from_sorted, entries-from_sorted, get-from_sorted, get-entries, same_map}
-use Rattle.ct_keep.specs.RisingKeys.{and_true, and_both, T_from_true, below, rises, sorted_from_rises, entries_rise}
-use Rattle.ct_entry.specs.KeyLaws.{is_eq_Equal}
-use Rattle.ct_entry.specs.Rising.{none_below, below_tied}
+use Rattle.std.proofs.lemmas.Bool.{and_parts, and_from}
+use Rattle.ct_base.specs.laws.Bools.{T_from_true}
+use Rattle.ct_keep.specs.RisingKeys.{below, rises, sorted_from_rises, entries_rise}
+use Rattle.ct_base.specs.laws.Orders.{equal_from_test}
+use Rattle.ct_entry.specs.laws.Rising.{none_below, below_tied}
 
 -- what g makes of a key and its value, under the same key, where it makes something of them
 abbrev pub picked : {K X Y : Type 0} → (K → X → Option Y) → List (K × X) → List (K × Y)
@@ -22,32 +24,32 @@ module _ {K X Y : Type 0} (R : K → K → Ordering) (total : IsTotalOrder R) (e
   below_picked : (k : K) (es : List (K × X)) → below R k es ≡ true → below R k (picked g es) ≡ true
   below_picked k [] h = refl
   below_picked k (e ∷ es) h =
-      let b = and_true (is_lt (R k e.0)) (below R k es) h in
+      let b = and_parts (is_lt (R k e.0)) (below R k es) h in
       at_head (g e.0 e.1) b.0 (below_picked k es b.1)
     where
       at_head : (o : Option Y) → is_lt (R k e.0) ≡ true → below R k (picked g es) ≡ true → below R k (picked_at e.0 o (picked g es)) ≡ true
       at_head None l rest = rest
-      at_head (Some y) l rest = and_both _ _ l rest
+      at_head (Some y) l rest = and_from _ _ l rest
 
   pub picked_rise : (es : List (K × X)) → rises R es ≡ true → rises R (picked g es) ≡ true
   picked_rise [] h = refl
   picked_rise (e ∷ es) h =
-      let b = and_true (below R e.0 es) (rises R es) h in
+      let b = and_parts (below R e.0 es) (rises R es) h in
       at_head (g e.0 e.1) (below_picked e.0 es b.0) (picked_rise es b.1)
     where
       at_head : (o : Option Y) → below R e.0 (picked g es) ≡ true → rises R (picked g es) ≡ true → rises R (picked_at e.0 o (picked g es)) ≡ true
       at_head None l rest = rest
-      at_head (Some y) l rest = and_both _ _ l rest
+      at_head (Some y) l rest = and_from _ _ l rest
 
   pub find_picked : (k : K) (es : List (K × X)) → rises R es ≡ true → find R k (picked g es) ≡ option_and_then (g k) (find R k es)
   find_picked k [] h = refl
   find_picked k (e ∷ es) h =
-      let b = and_true (below R e.0 es) (rises R es) h in
+      let b = and_parts (below R e.0 es) (rises R es) h in
       let rest = find_picked k es b.1 in
       elim (eq_by_cmp R k e.0) as (λ t. eq_by_cmp R k e.0 ≡ t → find R k (picked_at e.0 (g e.0 e.1) (picked g es)) ≡ option_and_then (g k) (cond t (Some e.1) (find R k es))) [
         | true ↦ λ t.
             let gone : find R k es ≡ None = none_below R k es (below_tied R total k e.0 es t b.0) in
-            here (g e.0 e.1) t (rest ∙ ap (option_and_then (g k)) gone) ∙ ap (λ (x : K). g x e.1) (sym (exact k e.0 (is_eq_Equal (R k e.0) t)))
+            here (g e.0 e.1) t (rest ∙ ap (option_and_then (g k)) gone) ∙ ap (λ (x : K). g x e.1) (sym (exact k e.0 (equal_from_test (R k e.0) t)))
         | false ↦ λ t. there (g e.0 e.1) t ∙ rest
       ] refl
     where

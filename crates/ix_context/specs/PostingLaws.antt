@@ -13,8 +13,8 @@ use Rattle.tx_lexer.specs.declared.tokens.Token.{Token}
 use Rattle.tx_lexer.specs.Tokens.{Rules, Place, places, keyed, token, tokens_after, uncut, text_of, stop_of, after_of, is_cut, default}
 use Rattle.ix_posting.specs.Rows.{Rise}
 use Rattle.ct_entry.specs.Keys.{same_list}
-use Rattle.ct_entry.specs.KeyLaws.{list_from_same}
-use Rattle.ct_entry.specs.MapLaws.{names_tie}
+use Rattle.ct_entry.specs.laws.Keys.{list_from_same}
+use Rattle.ct_entry.specs.laws.Maps.{names_tie}
 use Rattle.ix_context.specs.Postings.{positions_from, positions, words_of, if_any, postings_of}
 
 -- this, where there is a position

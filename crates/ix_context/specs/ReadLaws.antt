@@ -4,25 +4,27 @@ use Rattle.std.specs.Prelude.{is_some}
 use Rattle.std.specs.Option.{option_map, option_and_then}
 use Rattle.std.specs.Int.{to_be_bytes, w32}
 use Rattle.std.specs.FinMap.{get}
+use Rattle.std.proofs.lemmas.Option.{same_Some}
 use Rattle.ct_base.specs.declared.lists.Value.{Value}
 use Rattle.ct_base.specs.declared.lists.Value.TheVariants.{Number as NumberValue, Text as TextValue}
+use Rattle.ct_base.specs.laws.Lists.{cons_parts}
 use Rattle.ct_bytes.specs.Varints.{text_bytes}
-use Rattle.ct_bytes.specs.VarintLaws.{text_apart}
-use Rattle.ct_bytes.specs.NumberLaws.{four_bytes_one}
+use Rattle.ct_bytes.specs.laws.Varints.{text_apart}
+use Rattle.ct_bytes.specs.laws.Numbers.{four_bytes_one}
 use Rattle.ct_keep.specs.Content.{Content}
 use Rattle.ct_entry.specs.declared.kinds.Kind.TheVariants as kind
 use Rattle.ct_entry.specs.Keys.{key, at, text_part, IsRow}
 use Rattle.ct_entry.specs.Maps.{Names}
 use Rattle.ct_entry.specs.Listings.{rows_under}
-use Rattle.ct_entry.specs.RowLaws.{rows_listed}
+use Rattle.ct_entry.specs.laws.Rows.{rows_listed}
 use Rattle.tb_table.specs.declared.columns.Column.{Column}
 use Rattle.tb_table.specs.declared.columns.Target.{Target}
 use Rattle.tb_table.specs.declared.columns.Sort.{Sort}
 use Rattle.tb_table.specs.declared.columns.Sort.TheVariants.{Number, Varchar2, Clob}
 use Rattle.tb_table.specs.Tables.{Tables, row_at, text_of, text_in, as_text}
-use Rattle.tb_table.specs.Rules.{AreTables, FitColumns, Fits, IsSort, AllColumns, others}
+use Rattle.tb_table.specs.Rules.{AreTables, FitColumns, IsOfSort, HasAllowedSize, AllColumns, others}
 use Rattle.tb_table.specs.Readings.{SpellsText}
-use Rattle.tb_table.specs.ReadLaws.{text_read, row_of_table}
+use Rattle.tb_table.specs.laws.Reading.{text_read, row_of_table}
 use Rattle.ix_context.specs.Indexes.{Index, Mark, mark_of, pending_rows, target_text}
 use Rattle.ix_context.specs.Rules.{IsTarget, HasTextAt}
 use Rattle.ix_context.specs.Spelling.{index_bytes, index_entry, behind_table, queued, SpellsIndex}
@@ -32,9 +34,6 @@ use Rattle.ix_context.specs.TokenLaws.{HasShortText}
 use Rattle.ix_context.specs.Stands.{HoldsTables, HoldsIndexes}
 
 -- ---- the entry of an index
-
-one_some : {X : Type 0} (x y : X) → Some x ≡ Some y → x ≡ y
-one_some x y e = cc
 
 -- a column of texts is one of at most 16
 text_at_few : (cs : List Column) (place : ℕ) → HasTextAt cs place → place < length cs
@@ -48,14 +47,11 @@ column_few ts are t column is =
     let place = text_at_few is.table.columns column is.texts in
     omega (arith, few, place)
 
-heads : (a b : ℕ) (xs ys : List ℕ) → a ∷ xs ≡ b ∷ ys → (a ≡ b) × (xs ≡ ys)
-heads a b xs ys e = (cc, cc)
-
 -- no other target and document have the same bytes
 pub index_bytes_one : (t u : List ℕ) (c d n k : ℕ) → n < 2 ^ 32 → k < 2 ^ 32 → index_bytes t c n ≡ index_bytes u d k → (t ≡ u) × (c ≡ d) × (n ≡ k)
 index_bytes_one t u c d n k small small' e =
-    let tables = text_apart t u (behind_table c n) (behind_table d k) (heads 1 1 (text_bytes t ++ behind_table c n) (text_bytes u ++ behind_table d k) e).1 in
-    let columns = heads c d _ _ tables.1 in
+    let tables = text_apart t u (behind_table c n) (behind_table d k) (cons_parts 1 1 (text_bytes t ++ behind_table c n) (text_bytes u ++ behind_table d k) e).1 in
+    let columns = cons_parts c d _ _ tables.1 in
     let next : to_be_bytes w32 n ≡ to_be_bytes w32 k = ap (λ (l : List ℕ). take 4 (drop 8 l)) tables.1 in
     (tables.0, columns.0, four_bytes_one n k small small' next)
 
@@ -79,7 +75,7 @@ index_read m ts xs holds i x is found spelt = go found spelt
         let few = column_few ts holds.tables.rules x.table x.column target in
         absurd (none x.table x.column (x.given + 1) (holds.tables.rules.names x.table target.table target.there) (omega (arith, few)) small entry)
     go (Some p) read =
-        let one = index_bytes_one p.0.table x.table p.0.column x.column p.1 (x.given + 1) read.2 small (one_some _ _ (sym read.3 ∙ entry)) in
+        let one = index_bytes_one p.0.table x.table p.0.column x.column p.1 (x.given + 1) read.2 small (same_Some _ _ (sym read.3 ∙ entry)) in
         λ j. Some (record { table = one.0 j; column = one.1 j }, one.2 j)
 
 -- ---- the queue
@@ -102,7 +98,7 @@ pending_read m ts xs holds i x is =
 pub target_read : (m : Content) (ts : Tables) → HoldsTables m ts → (target : Target) (r : ℤ) → target.column < 256 → IsRow r → (found : Option (List ℕ)) → SpellsText (at m (key kind.RowTexts target.table (text_part target.column r))) found → found ≡ target_text ts target r
 target_read m ts holds target r few row found spelt = text_read (at m) ts holds.stand holds.rules target.table target.column r few row found spelt
 
-fits_short : (s : Sort) (v : Value) (text : List ℕ) → IsSort s → Fits s v → as_text v ≡ Some text → length text ≤ 4000
+fits_short : (s : Sort) (v : Value) (text : List ℕ) → HasAllowedSize s → IsOfSort s v → as_text v ≡ Some text → length text ≤ 4000
 fits_short Number (NumberValue n) text is fits e = cc
 fits_short Number (TextValue u) text is fits e = absurd fits
 fits_short (Varchar2 size) (NumberValue n) text is fits e = absurd fits

@@ -7,7 +7,7 @@ use Rattle.ct_entry.specs.declared.kinds.Kind.TheVariants as kind
 use Rattle.ct_entry.specs.Keys.{key, bytes, row_part, document_part, posting_part}
 use Rattle.tb_table.specs.Tables.{Tables, docs_alone, row_one, text_of}
 use Rattle.tb_table.specs.Room.{key_weight}
-use Rattle.ix_posting.specs.Rows.{row_bytes as posting_bytes}
+use Rattle.ix_posting.specs.Rows.{posting_bytes}
 use Rattle.ix_context.specs.Postings.{postings_of, fox_and_quick}
 use Rattle.ix_context.specs.Indexes.{Index, Mark, Pending, Marked, text_seen}
 use Rattle.ix_context.specs.Spelling.{index_entry}

@@ -8,24 +8,26 @@ use Rattle.std.specs.declared.cmp.Ordering.TheVariants.{Less, Equal, Greater}
 use Rattle.std.specs.Ordering.{int_cmp, int_eq, is_lt, MatchOrdering}
 use Rattle.std.specs.Cmp.{int_ranks}
 use Rattle.std.proofs.lemmas.Int.{ints}
-use Rattle.ct_keep.specs.RisingKeys.{and_both}
+use Rattle.std.proofs.lemmas.Bool.{and_from}
 use Rattle.std.proofs.lemmas.Cmp.{nat_list_cmp_total, int_cmp_total}
 use Rattle.std.proofs.lemmas.Map.Lookups.{exact_bytes}
 use Rattle.std.specs.FinMap.{get, insert, empty, same_map}
+use Rattle.std.proofs.lemmas.Option.{same_Some}
 use Rattle.ct_base.specs.Names.{IsName}
 use Rattle.ct_base.specs.declared.lists.Value.{Value}
 use Rattle.ct_entry.specs.Keys.{Key, same_list, IsRow}
 use Rattle.ct_entry.specs.Changes.{view}
 use Rattle.ct_entry.specs.Each.{each, is_among}
-use Rattle.ct_entry.specs.ChangeLaws.{view-append}
-use Rattle.ct_entry.specs.KeyLaws.{list_from_same, list_same}
+use Rattle.ct_entry.specs.laws.Changes.{view-append}
+use Rattle.ct_entry.specs.laws.Keys.{list_from_same, list_same}
 use Rattle.ct_entry.specs.Maps.{Names}
-use Rattle.ct_entry.specs.MapLaws.{get_name-insert, get_name-alter, get_row-insert, get-each_value, option_map_some}
+use Rattle.ct_entry.specs.laws.Maps.{get_name-insert, get_name-alter, get_row-insert, get-each_value}
+use Rattle.ct_base.specs.laws.Options.{option_map_some}
 use Rattle.tb_table.specs.declared.columns.Column.{Column}
 use Rattle.tb_table.specs.declared.columns.Target.{Target}
 use Rattle.tb_table.specs.Tables.{Table, Tables, row_at, row_keys, with_table, with_row}
 use Rattle.tb_table.specs.Rules.{AreTables}
-use Rattle.tb_table.specs.ChangeLaws.{get-with_table, row_at-with_table, row_at-with_row, columns-with_row}
+use Rattle.tb_table.specs.laws.Changes.{get-with_table, row_at-with_table, row_at-with_row, columns-with_row}
 use Rattle.ix_context.specs.declared.ranges.KeyRange.{KeyRange}
 use Rattle.ix_context.specs.Indexes.{Index, Mark, Pending, Marked, pending_rows, noted, waiting_on, noted_on, synced_index, synced, in_range, rows_in, created, with_index}
 use Rattle.ix_context.specs.Rules.{IsTarget, HasTextAt, IsIndex, AreIndexes, most_given}
@@ -62,9 +64,6 @@ CreatesKeepIndexRules = (ts : Tables) (xs : Names Index) (i : List ℕ) (target 
     → length (rows_in ts target.table range) ≤ most_given → AreTables ts → AreIndexes ts xs → AreIndexes ts (with_index ts xs i target range)
 
 -- ---- a new table
-
-some_one : {X : Type 0} (x y : X) → Some x ≡ Some y → x ≡ y
-some_one x y e = cc
 
 none_some : {X : Type 0} (o : Option X) (x : X) → o ≡ None → o ≡ Some x → ⊥
 none_some o x none is = let wrong : None ≡ Some x = sym none ∙ is in cc
@@ -291,7 +290,7 @@ sync_keeps ts xs i x is room are = record {
     index : (q : List ℕ) (y : Index) (b : Bool) → same_list q i ≡ b → cond b (option_map synced_index (get xs q)) (get xs q) ≡ Some y → IsIndex ts y
     index q y true h e =
         let here : option_map synced_index (get xs q) ≡ Some (synced_index x) = ap (λ (l : List ℕ). option_map synced_index (get xs l)) (list_from_same q i h) ∙ ap (option_map synced_index) is in
-        subst (IsIndex ts) (some_one (synced_index x) y (sym here ∙ e)) synced_is
+        subst (IsIndex ts) (same_Some (synced_index x) y (sym here ∙ e)) synced_is
     index q y false h e = are.each q y e
 
 -- ---- a new index
@@ -330,17 +329,17 @@ create_keeps ts xs i target range name free there column has room tables are = r
     named q y false h e = are.names q y e
 
     index : (q : List ℕ) (y : Index) (b : Bool) → cond b (Some (created ts target range)) (get xs q) ≡ Some y → IsIndex ts y
-    index q y true e = subst (IsIndex ts) (some_one (created ts target range) y e) (created_is ts target range there has room tables)
+    index q y true e = subst (IsIndex ts) (same_Some (created ts target range) y e) (created_is ts target range there has room tables)
     index q y false e = are.each q y e
 
     one : (p q : List ℕ) (y z : Index) (a : Bool) → same_list p i ≡ a → (b : Bool) → same_list q i ≡ b → cond a (Some (created ts target range)) (get xs p) ≡ Some y → cond b (Some (created ts target range)) (get xs q) ≡ Some z
         → y.table ≡ z.table → y.column ≡ z.column → p ≡ q
     one p q y z true h true k e f same same' = list_from_same p i h ∙ sym (list_from_same q i k)
     one p q y z true h false k e f same same' =
-        let new = some_one (created ts target range) y e in
+        let new = same_Some (created ts target range) y e in
         absurd (column q z f (sym same ∙ sym (ap (λ (x : Index). x.table) new)) (sym same' ∙ sym (ap (λ (x : Index). x.column) new)))
     one p q y z false h true k e f same same' =
-        let new = some_one (created ts target range) z f in
+        let new = same_Some (created ts target range) z f in
         absurd (column p y e (same ∙ sym (ap (λ (x : Index). x.table) new)) (same' ∙ sym (ap (λ (x : Index). x.column) new)))
     one p q y z false h false k e f same same' = are.one p q y z e f same same'
 
@@ -363,6 +362,6 @@ greatest_above (pos n) row less = absurd (omega (arith, ints, less, row))
 greatest_above (negsuc n) row less = absurd (omega (arith, ints, less))
 
 pub whole_range : (range : KeyRange) → range.from.0 ≡ negsuc (2 ^ 63 - 1) → range.to.0 ≡ pos (2 ^ 63 - 1) → HasAllRows range
-whole_range range least greatest r row = and_both _ _
+whole_range range least greatest r row = and_from _ _
     (not_less r range.from.0 (λ less. least_below r row (subst (λ (z : ℤ). r <ℤ z) least less)))
     (not_less range.to.0 r (λ less. greatest_above r row (subst (λ (z : ℤ). z <ℤ r) greatest less)))

@@ -7,7 +7,7 @@ use Rattle.ct_entry.specs.Keys.{Key, key, document_part}
 use Rattle.ct_entry.specs.Listings.{row_of}
 use Rattle.ct_entry.specs.Maps.{Rows}
 use Rattle.ix_posting.specs.declared.rows.RowDocument.{RowDocument}
-use Rattle.ix_posting.specs.Rows.{IsRow, row_bytes}
+use Rattle.ix_posting.specs.Rows.{IsPostingRow, posting_bytes}
 use Rattle.ix_context.specs.declared.hits.Hit.{Hit}
 
 -- the row of a document of an index; none where the document has no entry, or one that isn't 8 bytes long
@@ -42,13 +42,13 @@ abbrev pub HoldRows : List (List ℕ × List ℕ) → List (List RowDocument) �
 HoldRows [] [] = Unit {0}
 HoldRows [] (row ∷ rows) = ⊥
 HoldRows (e ∷ es) [] = ⊥
-HoldRows (e ∷ es) (row ∷ rows) = IsRow row × (row_bytes row ≡ e.1) × HoldRows es rows
+HoldRows (e ∷ es) (row ∷ rows) = IsPostingRow row × (posting_bytes row ≡ e.1) × HoldRows es rows
 
 -- ---- what calls make of scores
 
 -- Where a value spells a row of postings, and unless the call failed, the rows of its documents have their scores more.
 abbrev pub ScoresRow : {T E : Type 0} → (Key → Option (List ℕ)) → List ℕ → List ℕ → Rows ℕ → Rows ℕ → Result T E → Type 0
-ScoresRow f i value old new result = (row : List RowDocument) → IsRow row → row_bytes row ≡ value → OnOk result (new ≡ with_documents f i row old)
+ScoresRow f i value old new result = (row : List RowDocument) → IsPostingRow row → posting_bytes row ≡ value → OnOk result (new ≡ with_documents f i row old)
 
 -- Where entries hold rows of postings, these are the scores of their documents.
 abbrev pub AreScores : (Key → Option (List ℕ)) → List ℕ → List (List ℕ × List ℕ) → Rows ℕ → Type 0

@@ -12,7 +12,7 @@ use Rattle.ct_entry.specs.Changes.{put}
 use Rattle.ct_entry.specs.Maps.{Names}
 use Rattle.tb_table.specs.declared.columns.Target.{Target}
 use Rattle.tb_table.specs.Tables.{Tables}
-use Rattle.ix_posting.specs.Rows.{row_bytes as posting_bytes}
+use Rattle.ix_posting.specs.Rows.{posting_bytes}
 use Rattle.ix_context.specs.Postings.{positions}
 use Rattle.ix_context.specs.Indexes.{Index, Mark, Pending, Marked, mark_at, is_marked, text_seen}
 

@@ -8,11 +8,11 @@ use Rattle.ct_base.specs.Names.{IsName}
 use Rattle.ct_bytes.specs.RowKeys.{row_bytes}
 use Rattle.ct_entry.specs.declared.kinds.Kind.{Kind}
 use Rattle.ct_entry.specs.declared.kinds.Kind.TheVariants as kind
-use Rattle.ct_entry.specs.Keys.{Key, key, same, same_list, row_part, document_part, posting_part, span_part, IsRow, IsDocument, IsToken}
+use Rattle.ct_entry.specs.Keys.{Key, key, same_key, same_list, row_part, document_part, posting_part, span_part, IsRow, IsDocument, IsToken}
 use Rattle.ct_entry.specs.Changes.{told, view, AllOf}
 use Rattle.ct_entry.specs.Each.{each}
-use Rattle.ct_entry.specs.KeyLaws.{list_from_same, list_same, key_from_same}
-use Rattle.ct_entry.specs.ChangeLaws.{told_frame}
+use Rattle.ct_entry.specs.laws.Keys.{list_from_same, list_same, key_from_same}
+use Rattle.ct_entry.specs.laws.Changes.{told_frame}
 use Rattle.ct_entry.specs.Maps.{Names}
 use Rattle.tb_table.specs.Tables.{Tables}
 use Rattle.ix_context.specs.Postings.{positions}
@@ -192,9 +192,9 @@ all_on-each i changes one (p ∷ ps) = all_on-append i (changes p) (each changes
 -- they leave the keys of others
 pub told_others : (i : List ℕ) (ws : List (Key × Option (List ℕ))) (k : Key) (old : Option (List ℕ)) → AllOn i ws → same_list k.owner i ≡ false → told ws k old ≡ old
 told_others i [] k old all other = refl
-told_others i (w ∷ ws) k old all other = told_others i ws k (cond (same k w.0) w.1 old) all.1 other ∙ ap (λ (b : Bool). cond b w.1 old) (apart (same k w.0) refl)
+told_others i (w ∷ ws) k old all other = told_others i ws k (cond (same_key k w.0) w.1 old) all.1 other ∙ ap (λ (b : Bool). cond b w.1 old) (apart (same_key k w.0) refl)
   where
-    apart : (b : Bool) → same k w.0 ≡ b → b ≡ false
+    apart : (b : Bool) → same_key k w.0 ≡ b → b ≡ false
     apart true h =
         let one : k.owner ≡ i = ap (λ (j : Key). j.owner) (key_from_same k w.0 h) ∙ all.0 in
         let wrong : true ≡ false = sym (list_same i) ∙ ap (λ (l : List ℕ). same_list l i) (sym one) ∙ other in

@@ -4,10 +4,10 @@ use Rattle.std.specs.Prelude.{All, ◌-◌, not, is_some}
 use Rattle.std.specs.FinMap.{get, entries}
 use Rattle.std.proofs.lemmas.List.Elements.{All-head, All-tail}
 use Rattle.ct_base.specs.Names.{IsName}
-use Rattle.ct_base.specs.NameLaws.{name_length}
+use Rattle.ct_base.specs.laws.Names.{name_length}
 use Rattle.ct_bytes.specs.Varints.{varint, text_bytes}
-use Rattle.ct_bytes.specs.VarintLaws.{varint_length}
-use Rattle.ct_bytes.specs.RowKeyLaws.{length-row_bytes}
+use Rattle.ct_bytes.specs.laws.Varints.{varint_length}
+use Rattle.ct_bytes.specs.laws.RowKeys.{length-row_bytes}
 use Rattle.ct_keep.specs.Changes.{AreWell}
 use Rattle.ct_entry.specs.declared.kinds.Kind.{Kind}
 use Rattle.ct_entry.specs.declared.kinds.Kind.TheVariants as kind
@@ -15,12 +15,12 @@ use Rattle.ct_entry.specs.Keys.{Key, key, bytes, IsRow, IsKey}
 use Rattle.ct_entry.specs.Maps.{Names}
 use Rattle.ct_entry.specs.Changes.{put, spell, AreChanges, AllOf, Puts, AllPut}
 use Rattle.ct_entry.specs.Each.{each}
-use Rattle.ct_entry.specs.PartLaws.{is_short}
-use Rattle.ct_entry.specs.WellLaws.{IsWellAt, are_well}
+use Rattle.ct_entry.specs.laws.Parts.{is_short}
+use Rattle.ct_entry.specs.laws.Well.{IsWellAt, are_well}
 use Rattle.tb_table.specs.declared.columns.Target.{Target}
 use Rattle.tb_table.specs.Tables.{Tables}
 use Rattle.tb_table.specs.Rules.{AreTables}
-use Rattle.ix_posting.specs.Rows.{steps, varints, row_bytes as posting_bytes}
+use Rattle.ix_posting.specs.Rows.{steps, varints, posting_bytes}
 use Rattle.ix_context.specs.declared.ranges.KeyRange.{KeyRange}
 use Rattle.ix_context.specs.Postings.{postings_of}
 use Rattle.ix_context.specs.TokenLaws.{IsPosting, postings_fit, postings_few}

@@ -4,7 +4,7 @@
 ghost use Rattle.std.specs.Prelude.{◌≡◌, ◌+◌, ◌<◌, ◌≤◌, ◌^◌, ◌∷◌, [], All, IfOk, Some, MatchOption, length, map};
 ghost use Rattle.ct_keep.specs.KeeperViews.{OnlyReads};
 ghost use Rattle.ct_entry.specs.Keys.{posting_part};
-ghost use Rattle.ix_posting.specs.Rows.{IsRow, row_bytes as posting_bytes};
+ghost use Rattle.ix_posting.specs.Rows.{IsPostingRow, posting_bytes};
 ghost use Rattle.ix_context.specs.Indexes.{target_text};
 ghost use Rattle.ix_context.specs.Changes.{posting_change, text_changes, document_changes, Adds, mark_row_changes};
 ghost use Rattle.ix_context.specs.TokenLaws.{IsPosting, HasShortText, if_short};
@@ -39,7 +39,7 @@ fn posting_part(alloc: Global, token: &[u8], document: u32) -> Result<Vec<u8>, M
 
 /// The bytes of a row of postings with one document.
 fn posting_value(alloc: Global, document: u32, positions: Positions) -> Result<Vec<u8>, Memory>
-    requires { IsRow (record { document = document; positions = positions } ∷ []) }
+    requires { IsPostingRow (record { document = document; positions = positions } ∷ []) }
     ensures { IfOk result (λ value. value.items ≡ posting_bytes (record { document = document; positions = positions } ∷ [])) }
 {
     let mut documents = Vec::new(alloc);

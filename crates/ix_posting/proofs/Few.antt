@@ -3,7 +3,7 @@ use Rattle.std.proofs.Common.{◌≡◌, ℕ, ◌+◌, ◌<◌, ◌^◌, List, �
 use Rattle.std.proofs.lemmas.List.{drop_more}
 use Rattle.ix_posting.specs.Rows.{DocumentsRise}
 use Rattle.ix_posting.specs.SpanRows.{SpanDocumentsRise}
-use Rattle.ix_posting.specs.NumberItems.{few_rise}
+use Rattle.ix_posting.specs.laws.Numbers.{few_rise}
 use Rattle.ix_posting.specs.declared.rows.RowDocument.{RowDocument}
 use Rattle.ix_posting.specs.declared.span_rows.SpanDocument.{SpanDocument}
 

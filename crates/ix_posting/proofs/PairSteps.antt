@@ -2,9 +2,9 @@
 use Rattle.std.proofs.Common.{◌≡◌, ℕ, ◌+◌, ◌-◌, List, arith}
 use Rattle.ct_base.specs.declared.numbers.Pair.{Pair}
 use Rattle.ct_bytes.specs.Varints.{IsVarintAt}
-use Rattle.ct_bytes.specs.VarintLaws.{varint_at_one}
+use Rattle.ct_bytes.specs.laws.Varints.{varint_at_one}
 use Rattle.ix_posting.specs.Places.{IsPairAt}
-use Rattle.ix_posting.specs.PairItems.{first-follows}
+use Rattle.ix_posting.specs.laws.Pairs.{first-follows}
 
 pub extent_at : (bytes : List ℕ) (before : Pair) (at : ℕ) (p : Pair) (i step mid : ℕ) → IsVarintAt bytes at step mid → IsPairAt bytes before at p i → IsVarintAt bytes mid (p.last - p.first) i
 extent_at bytes before at p i step mid step_is is =

@@ -1,16 +1,25 @@
 -- What stands in bytes from a place on: the parts of rows.
-use Rattle.std.specs.Prelude.{ℕ, ◌≡◌, ◌+◌, ◌-◌, ◌<◌, ◌≤◌, ◌^◌, List, ◌++◌, length, drop}
+use Rattle.std.specs.Prelude.{ℕ, ◌≡◌, ◌+◌, ◌-◌, ◌<◌, ◌≤◌, ◌^◌, List, [], ◌∷◌, ◌++◌, length, drop, refl}
+use Rattle.std.proofs.Common.{arith}
 use Rattle.ct_base.specs.declared.numbers.Pair.{Pair}
-use Rattle.ct_bytes.specs.Varints.{IsVarintAt}
+use Rattle.ct_bytes.specs.Varints.{varint, IsVarintAt}
 use Rattle.ix_posting.specs.Rows.{Rise, DocumentsRise, steps, varints, documents_bytes}
-use Rattle.ix_posting.specs.SpanRows.{Follows, PairsRise, SpanDocumentsRise, no_pair, pair_steps, span_documents_bytes}
+use Rattle.ix_posting.specs.SpanRows.{ComesAfter, PairsRise, SpanDocumentsRise, no_pair, pair_steps, span_documents_bytes}
 use Rattle.ix_posting.specs.declared.rows.RowDocument.{RowDocument}
 use Rattle.ix_posting.specs.declared.span_rows.SpanDocument.{SpanDocument}
 
--- From `at` on stand these bytes, and `next` is the place behind them.
+-- From `at` on stand these bytes, and `next` is the place after them.
 pub record StandsAt (bytes : List ℕ) (at : ℕ) (piece : List ℕ) (next : ℕ) : Type 0 where
   pub spelt : drop at bytes ≡ piece ++ drop next bytes
-  pub behind : next ≡ at + length piece
+  pub end : next ≡ at + length piece
+
+-- So many items, each after the one before it: `Rises before items` says that they may stand after `before`, and `spelling` is their bytes there.
+pub record AreItemsAt {S X : Type 0} (Rises : S → List X → Type 0) (spelling : S → List X → List ℕ) (bytes : List ℕ) (before : S) (at count : ℕ) (items : List X) (next : ℕ) : Type 0 where
+  pub many : length items ≡ count
+  pub rise : Rises before items
+  pub stand : StandsAt bytes at (spelling before items) next
+
+-- ---- the places of a document
 
 -- A number greater than the one before it, as their difference.
 pub record IsNumberAt (bytes : List ℕ) (before at n next : ℕ) : Type 0 where
@@ -18,11 +27,29 @@ pub record IsNumberAt (bytes : List ℕ) (before at n next : ℕ) : Type 0 where
   pub small : n < 2 ^ 32
   pub step : IsVarintAt bytes at (n - before) next
 
--- So many numbers, each greater than the one before it.
-pub record AreNumbersAt (bytes : List ℕ) (before at count : ℕ) (ns : List ℕ) (next : ℕ) : Type 0 where
-  pub many : length ns ≡ count
-  pub rise : Rise before ns
-  pub stand : StandsAt bytes at (varints (steps before ns)) next
+abbrev pub numbers_bytes : ℕ → List ℕ → List ℕ
+numbers_bytes before ns = varints (steps before ns)
+
+abbrev pub AreNumbersAt : List ℕ → ℕ → ℕ → ℕ → List ℕ → ℕ → Type 0
+AreNumbersAt = AreItemsAt Rise numbers_bytes
+
+-- A pair after the one before it.
+pub record IsPairAt (bytes : List ℕ) (before : Pair) (at : ℕ) (p : Pair) (next : ℕ) : Type 0 where
+  pub follows : ComesAfter before p
+  pub some : 1 ≤ p.first
+  pub ordered : p.first ≤ p.last
+  pub small : p.last < 2 ^ 32
+  pub mid : ℕ
+  pub step : IsVarintAt bytes at (p.first - before.first) mid
+  pub extent : IsVarintAt bytes mid (p.last - p.first) next
+
+abbrev pub pairs_bytes : Pair → List Pair → List ℕ
+pairs_bytes before ps = varints (pair_steps before ps)
+
+abbrev pub ArePairsAt : List ℕ → Pair → ℕ → ℕ → List Pair → ℕ → Type 0
+ArePairsAt = AreItemsAt PairsRise pairs_bytes
+
+-- ---- documents
 
 -- What a document begins with: its number, and how many places it has.
 pub record IsHeadAt (bytes : List ℕ) (before at document count next : ℕ) : Type 0 where
@@ -31,42 +58,27 @@ pub record IsHeadAt (bytes : List ℕ) (before at document count next : ℕ) : T
   pub places : IsVarintAt bytes mid count next
   pub some : 1 ≤ count
 
--- A document: what it begins with, and its positions.
-pub record IsDocumentAt (bytes : List ℕ) (before at : ℕ) (d : RowDocument) (next : ℕ) : Type 0 where
+-- A document by its number and its places `ps`: what it begins with, and so many places after `origin`, as AreAt says.
+pub record HasParts {S P : Type 0} (AreAt : List ℕ → S → ℕ → ℕ → List P → ℕ → Type 0) (origin : S) (bytes : List ℕ) (before at number : ℕ) (ps : List P) (next : ℕ) : Type 0 where
   pub start : ℕ
-  pub head : IsHeadAt bytes before at d.document (length d.positions) start
-  pub positions : AreNumbersAt bytes 0 start (length d.positions) d.positions next
+  pub head : IsHeadAt bytes before at number (length ps) start
+  pub places : AreAt bytes origin start (length ps) ps next
 
--- So many documents, each behind the one before it.
-pub record AreDocumentsAt (bytes : List ℕ) (before at count : ℕ) (ds : List RowDocument) (next : ℕ) : Type 0 where
-  pub many : length ds ≡ count
-  pub rise : DocumentsRise before ds
-  pub stand : StandsAt bytes at (documents_bytes before ds) next
+-- with positions
+abbrev pub IsDocumentAt : List ℕ → ℕ → ℕ → RowDocument → ℕ → Type 0
+IsDocumentAt bytes before at d next = HasParts AreNumbersAt 0 bytes before at d.document d.positions next
 
--- A pair behind the one before it.
-pub record IsPairAt (bytes : List ℕ) (before : Pair) (at : ℕ) (p : Pair) (next : ℕ) : Type 0 where
-  pub follows : Follows before p
-  pub some : 1 ≤ p.first
-  pub ordered : p.first ≤ p.last
-  pub small : p.last < 2 ^ 32
-  pub mid : ℕ
-  pub step : IsVarintAt bytes at (p.first - before.first) mid
-  pub extent : IsVarintAt bytes mid (p.last - p.first) next
+abbrev pub AreDocumentsAt : List ℕ → ℕ → ℕ → ℕ → List RowDocument → ℕ → Type 0
+AreDocumentsAt = AreItemsAt DocumentsRise documents_bytes
 
--- So many pairs, each behind the one before it.
-pub record ArePairsAt (bytes : List ℕ) (before : Pair) (at count : ℕ) (ps : List Pair) (next : ℕ) : Type 0 where
-  pub many : length ps ≡ count
-  pub rise : PairsRise before ps
-  pub stand : StandsAt bytes at (varints (pair_steps before ps)) next
+-- with pairs
+abbrev pub IsSpanDocumentAt : List ℕ → ℕ → ℕ → SpanDocument → ℕ → Type 0
+IsSpanDocumentAt bytes before at d next = HasParts ArePairsAt no_pair bytes before at d.document d.pairs next
 
--- A document: what it begins with, and its pairs.
-pub record IsSpanDocumentAt (bytes : List ℕ) (before at : ℕ) (d : SpanDocument) (next : ℕ) : Type 0 where
-  pub start : ℕ
-  pub head : IsHeadAt bytes before at d.document (length d.pairs) start
-  pub pairs : ArePairsAt bytes no_pair start (length d.pairs) d.pairs next
+abbrev pub AreSpanDocumentsAt : List ℕ → ℕ → ℕ → ℕ → List SpanDocument → ℕ → Type 0
+AreSpanDocumentsAt = AreItemsAt SpanDocumentsRise span_documents_bytes
 
--- So many documents, each behind the one before it.
-pub record AreSpanDocumentsAt (bytes : List ℕ) (before at count : ℕ) (ds : List SpanDocument) (next : ℕ) : Type 0 where
-  pub many : length ds ≡ count
-  pub rise : SpanDocumentsRise before ds
-  pub stand : StandsAt bytes at (span_documents_bytes before ds) next
+-- computed example: the positions 1 and 3 after two other bytes, as their differences
+two_numbers : AreNumbersAt (9 ∷ 9 ∷ 1 ∷ 2 ∷ []) 0 2 2 (1 ∷ 3 ∷ []) 4
+unfolding varint
+two_numbers = record { many = refl; rise = (omega arith, omega arith, (omega arith, omega arith, tt)); stand = record { spelt = refl; end = refl } }

@@ -14,7 +14,7 @@ abbrev pub DocumentsRise : ℕ → List RowDocument → Type 0
 DocumentsRise before [] = Unit {0}
 DocumentsRise before (d ∷ ds) = (before < d.document) × (d.document < 2 ^ 32) × (1 ≤ length d.positions) × Rise 0 d.positions × DocumentsRise d.document ds
 
-pub record IsRow (row : List RowDocument) : Type 0 where
+pub record IsPostingRow (row : List RowDocument) : Type 0 where
   pub some : 1 ≤ length row
   pub few : length row < 2 ^ 32
   pub rise : DocumentsRise 0 row
@@ -27,7 +27,7 @@ steps before (n ∷ ns) = (n - before) ∷ steps n ns
 abbrev pub varints : List ℕ → List ℕ
 varints ns = flat_map varint ns
 
--- a document behind the one before it: the step to it, how many positions it has, and their steps
+-- a document after the one before it: the step to it, how many positions it has, and their steps
 abbrev pub document_bytes : ℕ → RowDocument → List ℕ
 document_bytes before d = varint (d.document - before) ++ varint (length d.positions) ++ varints (steps 0 d.positions)
 
@@ -36,18 +36,18 @@ documents_bytes before [] = []
 documents_bytes before (d ∷ ds) = document_bytes before d ++ documents_bytes d.document ds
 
 -- the bytes of a row: how many documents, and each in turn
-abbrev pub row_bytes : List RowDocument → List ℕ
-row_bytes row = varint (length row) ++ documents_bytes 0 row
+abbrev pub posting_bytes : List RowDocument → List ℕ
+posting_bytes row = varint (length row) ++ documents_bytes 0 row
 
 -- computed examples
-one_document : row_bytes (record { document = 1; positions = 1 ∷ 3 ∷ [] } ∷ []) ≡ 1 ∷ 1 ∷ 2 ∷ 1 ∷ 2 ∷ []
+one_document : posting_bytes (record { document = 1; positions = 1 ∷ 3 ∷ [] } ∷ []) ≡ 1 ∷ 1 ∷ 2 ∷ 1 ∷ 2 ∷ []
 unfolding varint
 one_document = refl
 
-larger_numbers : row_bytes (record { document = 300; positions = 1 ∷ 200 ∷ [] } ∷ []) ≡ 0x01 ∷ 0xac ∷ 0x02 ∷ 0x02 ∷ 0x01 ∷ 0xc7 ∷ 0x01 ∷ []
+larger_numbers : posting_bytes (record { document = 300; positions = 1 ∷ 200 ∷ [] } ∷ []) ≡ 0x01 ∷ 0xac ∷ 0x02 ∷ 0x02 ∷ 0x01 ∷ 0xc7 ∷ 0x01 ∷ []
 unfolding varint
 larger_numbers = refl
 
-two_documents : row_bytes (record { document = 1; positions = 1 ∷ [] } ∷ record { document = 2; positions = 1 ∷ [] } ∷ []) ≡ 2 ∷ 1 ∷ 1 ∷ 1 ∷ 1 ∷ 1 ∷ 1 ∷ []
+two_documents : posting_bytes (record { document = 1; positions = 1 ∷ [] } ∷ record { document = 2; positions = 1 ∷ [] } ∷ []) ≡ 2 ∷ 1 ∷ 1 ∷ 1 ∷ 1 ∷ 1 ∷ 1 ∷ []
 unfolding varint
 two_documents = refl

@@ -6,13 +6,13 @@ use Rattle.ix_posting.specs.Rows.{varints}
 use Rattle.ix_posting.specs.declared.span_rows.SpanDocument.{SpanDocument}
 
 -- the second pair has a greater first, or the same first and a greater last
-abbrev pub Follows : Pair → Pair → Type 0
-Follows a b = (a.first < b.first) ⊎ ((a.first ≡ b.first) × (a.last < b.last))
+abbrev pub ComesAfter : Pair → Pair → Type 0
+ComesAfter a b = (a.first < b.first) ⊎ ((a.first ≡ b.first) × (a.last < b.last))
 
 -- each pair follows the one before it; its first is at least 1 and at most its last, which is below 2 ^ 32
 abbrev pub PairsRise : Pair → List Pair → Type 0
 PairsRise before [] = Unit {0}
-PairsRise before (p ∷ ps) = Follows before p × (1 ≤ p.first) × (p.first ≤ p.last) × (p.last < 2 ^ 32) × PairsRise p ps
+PairsRise before (p ∷ ps) = ComesAfter before p × (1 ≤ p.first) × (p.first ≤ p.last) × (p.last < 2 ^ 32) × PairsRise p ps
 
 -- what stands before the first pair
 abbrev pub no_pair : Pair
@@ -34,7 +34,7 @@ abbrev pub pair_steps : Pair → List Pair → List ℕ
 pair_steps before [] = []
 pair_steps before (p ∷ ps) = (p.first - before.first) ∷ (p.last - p.first) ∷ pair_steps p ps
 
--- a document behind the one before it: the step to it, how many pairs it has, and their steps
+-- a document after the one before it: the step to it, how many pairs it has, and their steps
 abbrev pub span_document_bytes : ℕ → SpanDocument → List ℕ
 span_document_bytes before d = varint (d.document - before) ++ varint (length d.pairs) ++ varints (pair_steps no_pair d.pairs)
 

@@ -1,7 +1,6 @@
 //! What holds of the bytes of all rows. Each function here only states laws, which its contract proves.
 
-ghost use Rattle.ix_posting.specs.RowLaws.{RowsHaveOneSpelling, RowsAreReadBack};
-ghost use Rattle.ix_posting.specs.SpanRowLaws.{SpanRowsHaveOneSpelling, SpanRowsAreReadBack};
+ghost use Rattle.ix_posting.specs.Promises.{RowsHaveOneSpelling, RowsAreReadBack, SpanRowsHaveOneSpelling, SpanRowsAreReadBack};
 
 /// A row has one spelling, and from its bytes it is read back.
 pub fn rows_are_exact()

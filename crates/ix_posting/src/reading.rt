@@ -9,7 +9,7 @@ use crate::rows::{Positions, RowDocument};
 use ct_bytes::read_varint;
 use std::alloc::Global;
 
-/// What a document begins with: its number and how many places it has; and the place behind it.
+/// What a document begins with: its number and how many places it has; and the place after it.
 #[derive(Clone, Copy)]
 pub(crate) struct Head {
     pub(crate) document: u32,
@@ -17,7 +17,7 @@ pub(crate) struct Head {
     pub(crate) next: usize,
 }
 
-/// The number greater than `before` that stands from `at` on as their difference, and the place behind it.
+/// The number greater than `before` that stands from `at` on as their difference, and the place after it.
 fn read_number(bytes: &[u8], at: usize, before: u32) -> Option<(u32, usize)>
     ensures some { IfSome result (λ r. IsNumberAt bytes.now before at r.0 r.1) }
     ensures none { IfNone result ((n next : ℕ) → IsNumberAt bytes.now before at n next → ⊥) }
@@ -30,7 +30,7 @@ fn read_number(bytes: &[u8], at: usize, before: u32) -> Option<(u32, usize)>
     Some((number, next))
 }
 
-/// So many numbers that rise from `before`, from `at` on, and the place behind them.
+/// So many numbers that rise from `before`, from `at` on, and the place after them.
 fn read_numbers(
     alloc: Global,
     bytes: &[u8],
@@ -55,7 +55,7 @@ fn read_numbers(
     Ok((numbers, place))
 }
 
-/// What a document behind `before` begins with, from `at` on.
+/// What a document after `before` begins with, from `at` on.
 pub(crate) fn read_head(bytes: &[u8], at: usize, before: u32) -> Option<Head>
     ensures some { IfSome result (λ h. IsHeadAt bytes.now before at h.document h.count h.next) }
     ensures none { IfNone result ((document count next : ℕ) → IsHeadAt bytes.now before at document count next → ⊥) }
@@ -72,7 +72,7 @@ pub(crate) fn read_head(bytes: &[u8], at: usize, before: u32) -> Option<Head>
     })
 }
 
-/// The document behind `before` that stands from `at` on, and the place behind it.
+/// The document after `before` that stands from `at` on, and the place after it.
 fn read_document(
     alloc: Global,
     bytes: &[u8],
@@ -93,7 +93,7 @@ fn read_document(
     Ok((document, next))
 }
 
-/// So many documents from `at` on, and the place behind them. Memory is taken only as documents are read.
+/// So many documents from `at` on, and the place after them. Memory is taken only as documents are read.
 pub(crate) fn read_documents(
     alloc: Global,
     bytes: &[u8],

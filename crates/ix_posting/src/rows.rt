@@ -1,7 +1,7 @@
 //! Rows of postings whose places are positions of words.
 
 ghost use Rattle.std.specs.Prelude.{◌≡◌, List, IfOk, Err};
-ghost use Rattle.ix_posting.specs.Rows.{IsRow, row_bytes};
+ghost use Rattle.ix_posting.specs.Rows.{IsPostingRow, posting_bytes};
 
 use crate::faults::RowFault;
 use crate::reading::read_documents;
@@ -63,11 +63,11 @@ impl Model for Row {
 
     ghost Value = { List RowDocument };
 
-    ghost use Rattle.ix_posting.specs.Rows.{IsRow};
+    ghost use Rattle.ix_posting.specs.Rows.{IsPostingRow};
 
     ghost view = { λ r. r.documents.items };
 
-    ghost invariant = { λ r. IsRow r.documents.items };
+    ghost invariant = { λ r. IsPostingRow r.documents.items };
 }
 
 impl Row {
@@ -75,7 +75,7 @@ impl Row {
 
     /// The row of these documents.
     pub fn of(documents: Vec<RowDocument>) -> Row
-        requires { IsRow documents.items }
+        requires { IsPostingRow documents.items }
         ensures { result ≡ documents.items }
     {
         Row { documents }
@@ -84,7 +84,7 @@ impl Row {
     /// The documents, in rising order: at least one.
     pub fn documents(&self) -> &[RowDocument]
         ensures documents { result.now ≡ self.now }
-        ensures row { IsRow self.now }
+        ensures row { IsPostingRow self.now }
     {
         self.documents.as_slice()
     }
@@ -95,7 +95,7 @@ impl Row {
     /// it has, and each position less the one before it. 0 stands before the first document, and before the first
     /// position of each.
     pub fn encode(&self, alloc: Global) -> Result<Vec<u8>, Memory>
-        ensures { IfOk result (λ v. v.items ≡ row_bytes self.now) }
+        ensures { IfOk result (λ v. v.items ≡ posting_bytes self.now) }
     {
         let mut out = Vec::new(alloc);
         put_varint(&mut out, self.documents.len() as u32)?;
@@ -103,16 +103,16 @@ impl Row {
         Ok(out)
     }
 
-    /// The row that the bytes spell, with no byte behind it.
+    /// The row that the bytes spell, with no byte after it.
     ///
     /// BadRow where they spell none: each number has one spelling, no count is 0, each document and position is greater
     /// than the one before it, and all are below 2^32. It goes over the bytes once, and takes memory only for what it
     /// has read: a count that the bytes claim takes none.
     pub fn decode(alloc: Global, bytes: &[u8]) -> Result<Row, RowFault>
-        ensures row { IfOk result (λ r. row_bytes r ≡ bytes.now) }
-        ensures rules { IfOk result (λ r. IsRow r) }
-        ensures bad { result ≡ Err RowFault.BadRow → (row : List RowDocument) → IsRow row → row_bytes row ≡ bytes.now → ⊥ }
-        ensures read_back { (row : List RowDocument) → IsRow row → row_bytes row ≡ bytes.now → IfOk result (λ r. r ≡ row) }
+        ensures row { IfOk result (λ r. posting_bytes r ≡ bytes.now) }
+        ensures rules { IfOk result (λ r. IsPostingRow r) }
+        ensures bad { result ≡ Err RowFault.BadRow → (row : List RowDocument) → IsPostingRow row → posting_bytes row ≡ bytes.now → ⊥ }
+        ensures read_back { (row : List RowDocument) → IsPostingRow row → posting_bytes row ≡ bytes.now → IfOk result (λ r. r ≡ row) }
     {
         let Some((count, start)) = read_varint(bytes, 0) else {
             return Err(RowFault::BadRow);

@@ -2,7 +2,7 @@
 
 ghost use Rattle.std.specs.Prelude.{◌≡◌, ◌↔◌, ℕ, List, IfOk, IfSome, IfNone, IsTrue, Err};
 ghost use Rattle.ct_base.specs.declared.numbers.Pair.{Pair};
-ghost use Rattle.ix_posting.specs.SpanRows.{Follows, no_pair};
+ghost use Rattle.ix_posting.specs.SpanRows.{ComesAfter, no_pair};
 ghost use Rattle.ix_posting.specs.Places.{IsPairAt, ArePairsAt, IsSpanDocumentAt, AreSpanDocumentsAt};
 ghost use Rattle.ix_posting.specs.declared.span_rows.SpanDocument.{SpanDocument};
 
@@ -15,12 +15,12 @@ use std::alloc::Global;
 
 /// Whether the second pair has a greater first, or the same first and a greater last.
 fn follows(before: Pair, pair: Pair) -> bool
-    ensures { IsTrue result ↔ Follows before pair }
+    ensures { IsTrue result ↔ ComesAfter before pair }
 {
     before.first < pair.first || (before.first == pair.first && before.last < pair.last)
 }
 
-/// The pair behind `before` that stands from `at` on, and the place behind it.
+/// The pair after `before` that stands from `at` on, and the place after it.
 fn read_pair(bytes: &[u8], at: usize, before: Pair) -> Option<(Pair, usize)>
     ensures some { IfSome result (λ r. IsPairAt bytes.now before at r.0 r.1) }
     ensures none { IfNone result ((p : Pair) (next : ℕ) → IsPairAt bytes.now before at p next → ⊥) }
@@ -36,7 +36,7 @@ fn read_pair(bytes: &[u8], at: usize, before: Pair) -> Option<(Pair, usize)>
     Some((pair, next))
 }
 
-/// So many rising pairs from `at` on, and the place behind them.
+/// So many rising pairs from `at` on, and the place after them.
 fn read_pairs(
     alloc: Global,
     bytes: &[u8],
@@ -60,7 +60,7 @@ fn read_pairs(
     Ok((pairs, place))
 }
 
-/// The document behind `before` that stands from `at` on, and the place behind it.
+/// The document after `before` that stands from `at` on, and the place after it.
 fn read_span_document(
     alloc: Global,
     bytes: &[u8],
@@ -81,7 +81,7 @@ fn read_span_document(
     Ok((document, next))
 }
 
-/// So many documents from `at` on, and the place behind them. Memory is taken only as documents are read.
+/// So many documents from `at` on, and the place after them. Memory is taken only as documents are read.
 pub(crate) fn read_span_documents(
     alloc: Global,
     bytes: &[u8],

@@ -73,7 +73,7 @@ impl SpanRow {
         Ok(out)
     }
 
-    /// The row that the bytes spell, with no byte behind it.
+    /// The row that the bytes spell, with no byte after it.
     ///
     /// BadRow where they spell none: each number has one spelling, no count is 0, each document is greater than the one
     /// before it, each pair follows the one before it, and all numbers are below 2^32. It goes over the bytes once, and

@@ -22,7 +22,7 @@ fn put_pairs(out: &mut Vec<u8>, pairs: &[Pair]) -> Result<(), Memory>
     Ok(())
 }
 
-/// Puts a document behind `before`.
+/// Puts a document after `before`.
 fn put_span_document(out: &mut Vec<u8>, before: u32, document: &SpanDocument) -> Result<(), Memory>
     requires { length document.now.pairs < 2 ^ 32 }
     ensures { OnOk result (out.new.items ≡ out.old.items ++ span_document_bytes before document.now) }
@@ -32,7 +32,7 @@ fn put_span_document(out: &mut Vec<u8>, before: u32, document: &SpanDocument) ->
     put_pairs(out, pairs)
 }
 
-/// Puts documents, each behind the one before it.
+/// Puts documents, each after the one before it.
 pub(crate) fn put_span_documents(
     out: &mut Vec<u8>,
     documents: &[SpanDocument],

@@ -20,7 +20,7 @@ fn put_numbers(out: &mut Vec<u8>, numbers: &[u32]) -> Result<(), Memory>
     Ok(())
 }
 
-/// Puts what a document behind `before` begins with.
+/// Puts what a document after `before` begins with.
 pub(crate) fn put_head(
     out: &mut Vec<u8>,
     before: u32,
@@ -33,7 +33,7 @@ pub(crate) fn put_head(
     put_varint(out, count)
 }
 
-/// Puts a document behind `before`.
+/// Puts a document after `before`.
 fn put_document(out: &mut Vec<u8>, before: u32, document: &RowDocument) -> Result<(), Memory>
     requires { length document.now.positions < 2 ^ 32 }
     ensures { OnOk result (out.new.items ≡ out.old.items ++ document_bytes before document.now) }
@@ -43,7 +43,7 @@ fn put_document(out: &mut Vec<u8>, before: u32, document: &RowDocument) -> Resul
     put_numbers(out, positions)
 }
 
-/// Puts documents, each behind the one before it.
+/// Puts documents, each after the one before it.
 pub(crate) fn put_documents(out: &mut Vec<u8>, documents: &[RowDocument]) -> Result<(), Memory>
     requires { DocumentsRise 0 documents.now }
     ensures { OnOk result (out.new.items ≡ out.old.items ++ documents_bytes 0 documents.now) }

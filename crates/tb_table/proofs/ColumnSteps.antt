@@ -1,18 +1,18 @@
 -- The steps of reading columns.
-use Rattle.std.proofs.Common.{◌≡◌, ℕ, ◌+◌, ◌^◌, ◌<◌, ◌≤◌, Bool, true, false, cond, List, [], ◌∷◌, ◌++◌, length, take, drop, Option, Some, None, refl, sym, ap, subst, ◌∙◌, arith, append_assoc, append-nil, length-append, length-drop, add_assoc}
+use Rattle.std.proofs.Common.{◌≡◌, ℕ, ◌+◌, ◌^◌, ◌<◌, ◌≤◌, List, [], ◌∷◌, ◌++◌, length, take, drop, Option, Some, None, refl, sym, ap, subst, ◌∙◌, arith, append_assoc, append-nil, length-append, length-drop, add_assoc}
 use Rattle.std.specs.Prelude.{IfNone, IfSome}
 use Rattle.std.specs.List.{flat_map}
 use Rattle.std.proofs.lemmas.List.{length-take, drop-drop, drop_at, take_at, drop_all, take-append-drop}
 use Rattle.std.proofs.lemmas.Grind.{flat_map-append}
-use Rattle.ct_base.specs.Names.{IsName, is_kept, kept_name}
-use Rattle.ct_base.specs.NameLaws.{name_length, kept_is_name, kept_name-name}
+use Rattle.ct_base.specs.Names.{kept_name}
+use Rattle.ct_base.specs.laws.Names.{name_length, kept_name-name, kept_some}
 use Rattle.ct_bytes.specs.Varints.{varint, text_bytes, IsVarintAt, IsTextAt}
-use Rattle.ct_bytes.specs.VarintLaws.{varint_apart, text_at_one}
+use Rattle.ct_bytes.specs.laws.Varints.{varint_apart, text_at_one}
 use Rattle.tb_table.specs.declared.columns.Sort.{Sort}
 use Rattle.tb_table.specs.declared.columns.Column.{Column}
 use Rattle.tb_table.specs.Spelling.{sort_size, column_bytes, columns_bytes}
 use Rattle.tb_table.specs.Readings.{IsSpellable, EachSpellable, AreSpellable, sort_bytes, IsColumnAt}
-use Rattle.tb_table.specs.SpellingLaws.{each_column_apart}
+use Rattle.tb_table.specs.laws.Spelling.{each_column_apart}
 
 -- ---- sorts
 
@@ -26,13 +26,6 @@ sort_within bytes at s e = let l = simp (length-take, length-drop) at (ap length
 
 -- ---- one column
 
-kept_some : (text name : List ℕ) → kept_name text ≡ Some name → (text ≡ name) × IsName text
-kept_some text name = go (is_kept text) refl
-  where
-    go : (b : Bool) → is_kept text ≡ b → cond b (Some text) None ≡ Some name → (text ≡ name) × IsName text
-    go true h e = (cc, kept_is_name text h)
-    go false h e = cc
-
 pub column_made : (bytes : List ℕ) (at : ℕ) (text name : List ℕ) (start : ℕ) (s : Sort) → IsTextAt bytes at text start → kept_name text ≡ Some name → sort_size s < 2 ^ 16 → take 3 (drop start bytes) ≡ sort_bytes s
     → IsColumnAt bytes at (record { name = name; sort = s }) (start + 3)
 column_made bytes at text name start s there kept fits is =
@@ -44,10 +37,10 @@ column_made bytes at text name start s there kept fits is =
           ∙ ap (λ x. text_bytes text ++ (x ++ drop 3 (drop start bytes))) is
           ∙ ap (λ x. text_bytes text ++ (sort_bytes s ++ x)) (drop-drop 3 start bytes)
           ∙ sym (append_assoc (text_bytes text) (sort_bytes s) (drop (start + 3) bytes));
-      behind =
+      end =
           let whole = length-append (text_bytes text) (sort_bytes s) in
-          let front = length-append (varint (length text)) text in
-          omega (arith, there.behind, whole, front);
+          let prefix = length-append (varint (length text)) text in
+          omega (arith, there.end, whole, prefix);
     })
 
 -- what a column is made of
@@ -59,18 +52,18 @@ parts_of : (bytes : List ℕ) (at : ℕ) (c : Column) (next : ℕ) → IsColumnA
 parts_of bytes at c next is = record {
   text = record {
     small = let l = name_length c.name is.spellable.name in omega arith;
-    spelt = front ∙ ap (λ x. text_bytes c.name ++ x) (sym behind);
-    behind = ap (λ n. at + n) (length-append (varint (length c.name)) c.name) ∙ sym (add_assoc at (length (varint (length c.name))) (length c.name));
+    spelt = prefix ∙ ap (λ x. text_bytes c.name ++ x) (sym end);
+    end = ap (λ n. at + n) (length-append (varint (length c.name)) c.name) ∙ sym (add_assoc at (length (varint (length c.name))) (length c.name));
   };
-  sort = ap (take 3) behind ∙ take_at (sort_bytes c.sort) (drop next bytes) 3 refl;
+  sort = ap (take 3) end ∙ take_at (sort_bytes c.sort) (drop next bytes) 3 refl;
 }
   where
-    front : drop at bytes ≡ text_bytes c.name ++ (sort_bytes c.sort ++ drop next bytes)
-    front = is.spelt ∙ append_assoc (text_bytes c.name) (sort_bytes c.sort) (drop next bytes)
+    prefix : drop at bytes ≡ text_bytes c.name ++ (sort_bytes c.sort ++ drop next bytes)
+    prefix = is.spelt ∙ append_assoc (text_bytes c.name) (sort_bytes c.sort) (drop next bytes)
 
-    behind : drop (at + length (text_bytes c.name)) bytes ≡ sort_bytes c.sort ++ drop next bytes
-    behind =
-        sym (drop-drop (length (text_bytes c.name)) at bytes) ∙ ap (drop (length (text_bytes c.name))) front
+    end : drop (at + length (text_bytes c.name)) bytes ≡ sort_bytes c.sort ++ drop next bytes
+    end =
+        sym (drop-drop (length (text_bytes c.name)) at bytes) ∙ ap (drop (length (text_bytes c.name))) prefix
         ∙ drop_at (text_bytes c.name) (sort_bytes c.sort ++ drop next bytes) (length (text_bytes c.name)) refl
 
 pub no_text : (bytes : List ℕ) (at : ℕ) → ((text : List ℕ) (next : ℕ) → IsTextAt bytes at text next → ⊥) → (c : Column) (next : ℕ) → IsColumnAt bytes at c next → ⊥
@@ -120,7 +113,7 @@ counted bytes count start ds there e =
     let whole : bytes ≡ columns_bytes ds = cc in
     varint_apart (length ds) count (flat_map column_bytes ds) (drop start bytes) (sym whole ∙ there.spelt)
 
--- behind fewer columns than there are stands another
+-- after fewer columns than there are stands another
 next_column : (cs ds : List Column) (x : List ℕ) → EachSpellable cs → EachSpellable ds → length cs < length ds → flat_map column_bytes cs ++ x ≡ flat_map column_bytes ds
     → (d : Column) × ((rest : List ℕ) × IsSpellable d × (x ≡ column_bytes d ++ rest))
 next_column [] [] x f g l e = absurd (omega arith)
@@ -138,7 +131,7 @@ stuck bytes count start at cs there read fewer none ds are e =
     none n.0 (at + length (column_bytes n.0)) (record {
       spellable = n.1.1;
       spelt = n.1.2 ∙ ap (λ x. column_bytes n.0 ++ x) (sym (sym (drop-drop (length (column_bytes n.0)) at bytes) ∙ ap (drop (length (column_bytes n.0))) n.1.2 ∙ drop_at (column_bytes n.0) n.1.0 (length (column_bytes n.0)) refl));
-      behind = refl;
+      end = refl;
     })
 
 pub all_read : (bytes : List ℕ) (count start at : ℕ) (cs : List Column) → IsVarintAt bytes 0 count start → AreRead bytes start at cs → length cs ≡ count → at ≡ length bytes → AreSpellable cs × (Some bytes ≡ Some (columns_bytes cs))
@@ -162,12 +155,8 @@ no_count bytes none ds are e =
     none (length ds) (length (varint (length ds))) (record {
       small = are.few;
       spelt = whole ∙ ap (λ x. varint (length ds) ++ x) (sym (ap (drop (length (varint (length ds)))) whole ∙ drop_at (varint (length ds)) (flat_map column_bytes ds) (length (varint (length ds))) refl));
-      behind = omega arith;
+      end = omega arith;
     })
-
-pub if_none : {X : Type 0} (o : Option X) (P : Type 0) → P → IfNone o P
-if_none None P p = p
-if_none (Some x) P p = tt
 
 -- what is known of an answer, where it is None, and where it is something
 pub from_none : {X : Type 0} (o : Option X) (P : Type 0) → o ≡ None → IfNone o P → P

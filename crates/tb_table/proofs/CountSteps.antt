@@ -6,24 +6,25 @@ use Rattle.std.specs.List.{cons_option}
 use Rattle.std.specs.Ordering.{nat_cmp, is_lt}
 use Rattle.std.specs.Cmp.Lexicographic.{slice_cmp}
 use Rattle.std.specs.FinMap.{entries, get}
-use Rattle.std.proofs.lemmas.Bool.{cases_lt}
+use Rattle.std.proofs.lemmas.Bool.{cases_lt, and_parts}
 use Rattle.std.proofs.lemmas.Cmp.{nat_list_cmp_total}
 use Rattle.ct_base.specs.declared.numbers.RowKey.{RowKey}
-use Rattle.ct_bytes.specs.RowKeys.{raised as raised_key, row_bytes}
-use Rattle.ct_bytes.specs.ByteOrder.{nat_cmp_less, eight_bytes_in_order}
+use Rattle.ct_bytes.specs.RowKeys.{sign_turned as raised_key, row_bytes}
+use Rattle.ct_bytes.specs.laws.ByteOrder.{nat_cmp_less, eight_bytes_in_order}
 use Rattle.ct_keep.specs.declared.keepers.KeepFault.{KeepFault}
 use Rattle.ct_keep.specs.Content.{Content, entries_above, first_entry}
-use Rattle.ct_keep.specs.Rising.{Entry, above, less as is_less, first_then, none_then, lt_from_less}
-use Rattle.ct_keep.specs.RisingKeys.{and_true, below, rises, entries_rise}
+use Rattle.ct_keep.specs.Rising.{Entry, above, first_then, none_then}
+use Rattle.ct_base.specs.laws.Orders.{less_from_test as is_less, lt_from_less}
+use Rattle.ct_keep.specs.RisingKeys.{below, rises, entries_rise}
 use Rattle.ct_keep.specs.Tail.{tail}
 use Rattle.ct_keep.specs.TailLaws.{get-tail, get-tail_nil, entries_above-tail_nil}
 use Rattle.ct_entry.specs.declared.kinds.Kind.TheVariants as kind
 use Rattle.ct_entry.specs.Keys.{Key, key, bytes, prefix_of, row_part, IsRow, IsRowPart, IsPart, HasKeysOnly}
-use Rattle.ct_entry.specs.KeyLaws.{key_from_bytes}
-use Rattle.ct_entry.specs.Rising.{AllKeys, all_keys}
+use Rattle.ct_entry.specs.laws.Keys.{key_from_bytes}
+use Rattle.ct_entry.specs.laws.Rising.{AllKeys, all_keys}
 use Rattle.ct_entry.specs.Listings.{row_of, rows_of, rows_under, place_after, row_after}
-use Rattle.ct_entry.specs.RowLaws.{row_of-row_part}
-use Rattle.tb_table.specs.RowCounts.{rows_behind}
+use Rattle.ct_entry.specs.laws.Rows.{row_of-row_part}
+use Rattle.tb_table.specs.RowCounts.{rows_after}
 
 -- ---- each rest is that of a row
 
@@ -50,10 +51,10 @@ rows_above a (e ∷ es) all = go (is_lt (slice_cmp nat_cmp a e.0)) (rows_above a
 
 -- ---- a step
 
--- the next row behind a place, and what is behind that
+-- the next row after a place, and what is after that
 pub record Stepped (t : List ℕ) (m : Content) (after : Option ℤ) (next : ℤ) : Type 0 where
   pub fits : IsRow next
-  pub rows : rows_behind after t m ≡ next ∷ rows_behind (Some next) t m
+  pub rows : rows_after after t m ≡ next ∷ rows_after (Some next) t m
 
 same_row : (q : List ℕ) (next : ℤ) → IsRowPart q → row_of q ≡ Some next → IsRow next × (q ≡ row_part next)
 same_row q next is found =
@@ -79,7 +80,7 @@ step_some t m after next only is = go (first_entry (entries_above (place_after a
         let all : AllRows (e ∷ entries_above e.0 (tail (prefix_of kind.RowNumbers t) m)) = subst AllRows whole (rows_above (place_after after) (entries (tail (prefix_of kind.RowNumbers t) m)) (all_rows t m only)) in
         at e whole found (same_row e.0 next all.0 found)
 
--- no entry is behind a place where no row is
+-- no entry is after a place where no row is
 step_none : (t : List ℕ) (m : Content) (after : Option ℤ) → HasKeysOnly m → row_after after kind.RowNumbers t m ≡ None → first_entry (entries_above (place_after after) (tail (prefix_of kind.RowNumbers t) m)) ≡ None
 step_none t m after only is = go (first_entry (entries_above (place_after after) (tail (prefix_of kind.RowNumbers t) m))) refl is
   where
@@ -92,12 +93,12 @@ step_none t m after only is = go (first_entry (entries_above (place_after after)
         let wrong : None ≡ Some row.0 = sym found ∙ ap row_of row.2 ∙ row_of-row_part row.0 row.1 in
         cc
 
-pub none_behind : (t : List ℕ) (m : Content) (after : Option ℤ) → HasKeysOnly m → row_after after kind.RowNumbers t m ≡ None → rows_behind after t m ≡ []
-none_behind t m after only is = ap rows_of (none_then (tail (prefix_of kind.RowNumbers t) m) (place_after after) (sym (step_none t m after only is)))
+pub none_after : (t : List ℕ) (m : Content) (after : Option ℤ) → HasKeysOnly m → row_after after kind.RowNumbers t m ≡ None → rows_after after t m ≡ []
+none_after t m after only is = ap rows_of (none_then (tail (prefix_of kind.RowNumbers t) m) (place_after after) (sym (step_none t m after only is)))
 
--- all rows are behind none
-pub all_behind : (t : List ℕ) (m : Content) → rows_behind None t m ≡ rows_under kind.RowNumbers t m
-all_behind t m = ap rows_of (entries_above-tail_nil (prefix_of kind.RowNumbers t) m)
+-- all rows are after none
+pub all_after : (t : List ℕ) (m : Content) → rows_after None t m ≡ rows_under kind.RowNumbers t m
+all_after t m = ap rows_of (entries_above-tail_nil (prefix_of kind.RowNumbers t) m)
 
 -- ---- keys in a row
 
@@ -118,12 +119,12 @@ not_lower_key a b f g h = elim (cases_lt (raised_key a) (raised_key b)) [
   | inr high ↦ high
 ]
 
--- rows behind one, none of which is behind another, are no more than the keys from the one to the other
+-- rows after one, none of which is after another, are no more than the keys from the one to the other
 within : (last : ℤ) → IsRow last → (es : List Entry) → AllRows es → rises (slice_cmp nat_cmp) es ≡ true → above (row_part last) es ≡ [] → (r : ℤ) → IsRow r → below (slice_cmp nat_cmp) (row_part r) es ≡ true → length (rows_of es) ≤ raised_key last - raised_key r
 within last fits [] all up none r row low = omega arith
 within last fits (e ∷ es) all up none r row low =
-    let u = and_true (below (slice_cmp nat_cmp) e.0 es) (rises (slice_cmp nat_cmp) es) up in
-    let l = and_true (is_lt (slice_cmp nat_cmp (row_part r) e.0)) (below (slice_cmp nat_cmp) (row_part r) es) low in
+    let u = and_parts (below (slice_cmp nat_cmp) e.0 es) (rises (slice_cmp nat_cmp) es) up in
+    let l = and_parts (is_lt (slice_cmp nat_cmp (row_part r) e.0)) (below (slice_cmp nat_cmp) (row_part r) es) low in
     let s = all.0 in
     let h = none_at (is_lt (slice_cmp nat_cmp (row_part last) e.0)) refl none in
     let lower : raised_key r < raised_key s.0 = lower_key r s.0 row s.1 (subst (λ (q : List ℕ). is_lt (slice_cmp nat_cmp (row_part r) q) ≡ true) s.2 l.0) in
@@ -151,17 +152,17 @@ narrow t m first last most only is fits near none =
     go : (es : List Entry) → AllRows es → rises (slice_cmp nat_cmp) es ≡ true → above (row_part last) es ≡ [] → option_and_then (λ e. row_of e.0) (first_entry es) ≡ Some first → length (rows_of es) ≤ most
     go [] all up none found = omega arith
     go (e ∷ es) all up none found =
-        let u = and_true (below (slice_cmp nat_cmp) e.0 es) (rises (slice_cmp nat_cmp) es) up in
+        let u = and_parts (below (slice_cmp nat_cmp) e.0 es) (rises (slice_cmp nat_cmp) es) up in
         let row = same_row e.0 first all.0 found in
-        let b = behind (is_lt (slice_cmp nat_cmp (row_part last) e.0)) refl none in
+        let b = end (is_lt (slice_cmp nat_cmp (row_part last) e.0)) refl none in
         let rest = within last fits es all.1 u.1 b.1 first row.0 (subst (λ (q : List ℕ). below (slice_cmp nat_cmp) q es ≡ true) row.1 u.0) in
         let upper : raised_key first ≤ raised_key last = not_lower_key last first fits row.0 (subst (λ (q : List ℕ). is_lt (slice_cmp nat_cmp (row_part last) q) ≡ false) row.1 b.0) in
         let one : length (rows_of (e ∷ es)) ≡ length (rows_of es) + 1 = ap (λ (o : Option ℤ). length (cons_option o (rows_of es))) found ∙ (let n : suc (length (rows_of es)) ≡ length (rows_of es) + 1 = omega arith in n) in
         omega (arith, one, rest, near, upper)
       where
-        behind : (b : Bool) → is_lt (slice_cmp nat_cmp (row_part last) e.0) ≡ b → cond b (e ∷ above (row_part last) es) (above (row_part last) es) ≡ [] → (is_lt (slice_cmp nat_cmp (row_part last) e.0) ≡ false) × (above (row_part last) es ≡ [])
-        behind true is none = cc
-        behind false is none = (is, none)
+        end : (b : Bool) → is_lt (slice_cmp nat_cmp (row_part last) e.0) ≡ b → cond b (e ∷ above (row_part last) es) (above (row_part last) es) ≡ [] → (is_lt (slice_cmp nat_cmp (row_part last) e.0) ≡ false) × (above (row_part last) es ≡ [])
+        end true is none = cc
+        end false is none = (is, none)
 
 -- ---- decisions
 
@@ -180,28 +181,28 @@ not_not false true e = refl
 not_not false false e = cc
 
 -- the look-up that decides
-pub few_last : (t : List ℕ) (m : Content) (last : ℤ) (o : Option RowKey) (b : Bool) (n all most : ℕ) → HasKeysOnly m → is_some o ≡ not b → option_map (λ x. x.0) o ≡ row_after (Some last) kind.RowNumbers t m → n + length (rows_behind (Some last) t m) ≡ all → n ≡ most
+pub few_last : (t : List ℕ) (m : Content) (last : ℤ) (o : Option RowKey) (b : Bool) (n all most : ℕ) → HasKeysOnly m → is_some o ≡ not b → option_map (λ x. x.0) o ≡ row_after (Some last) kind.RowNumbers t m → n + length (rows_after (Some last) t m) ≡ all → n ≡ most
     → IsTrue b ↔ (all ≤ most)
 few_last t m last None b n all most only is next whole full =
-    subst (λ (x : Bool). IsTrue x ↔ (all ≤ most)) (sym (not_not _ b is)) (few_none n all most (rows_behind (Some last) t m) whole (none_behind t m (Some last) only (sym next)) (omega arith))
+    subst (λ (x : Bool). IsTrue x ↔ (all ≤ most)) (sym (not_not _ b is)) (few_none n all most (rows_after (Some last) t m) whole (none_after t m (Some last) only (sym next)) (omega arith))
 few_last t m last (Some row) b n all most only is next whole full =
     subst (λ (x : Bool). IsTrue x ↔ (all ≤ most)) (sym (not_not _ b is))
-    (few_some n all most (rows_behind (Some last) t m) row.0 (rows_behind (Some row.0) t m) whole (step_some t m (Some last) row.0 only (sym next)).rows full)
+    (few_some n all most (rows_after (Some last) t m) row.0 (rows_after (Some row.0) t m) whole (step_some t m (Some last) row.0 only (sym next)).rows full)
 
 -- no row at all
 pub few_in_none : (t : List ℕ) (m : Content) (most : ℕ) → HasKeysOnly m → row_after None kind.RowNumbers t m ≡ None → IsTrue true ↔ (length (rows_under kind.RowNumbers t m) ≤ most)
 few_in_none t m most only none =
-    few_none 0 (length (rows_under kind.RowNumbers t m)) most (rows_under kind.RowNumbers t m) (omega arith) (sym (all_behind t m) ∙ none_behind t m None only none) (omega arith)
+    few_none 0 (length (rows_under kind.RowNumbers t m)) most (rows_under kind.RowNumbers t m) (omega arith) (sym (all_after t m) ∙ none_after t m None only none) (omega arith)
 
--- the rows behind the first are one less
-pub behind_first : (t : List ℕ) (m : Content) (first : ℤ) → row_after None kind.RowNumbers t m ≡ Some first → HasKeysOnly m → length (rows_under kind.RowNumbers t m) ≡ length (rows_behind (Some first) t m) + 1
-behind_first t m first is only =
-    ap length (sym (all_behind t m) ∙ (step_some t m None first only is).rows) ∙ (let n : suc (length (rows_behind (Some first) t m)) ≡ length (rows_behind (Some first) t m) + 1 = omega arith in n)
+-- the rows after the first are one less
+pub after_first : (t : List ℕ) (m : Content) (first : ℤ) → row_after None kind.RowNumbers t m ≡ Some first → HasKeysOnly m → length (rows_under kind.RowNumbers t m) ≡ length (rows_after (Some first) t m) + 1
+after_first t m first is only =
+    ap length (sym (all_after t m) ∙ (step_some t m None first only is).rows) ∙ (let n : suc (length (rows_after (Some first) t m)) ≡ length (rows_after (Some first) t m) + 1 = omega arith in n)
 
 -- one row where none may be
 pub few_in_some : (t : List ℕ) (m : Content) (first : ℤ) (most : ℕ) → HasKeysOnly m → row_after None kind.RowNumbers t m ≡ Some first → most ≡ 0 → IsTrue false ↔ (length (rows_under kind.RowNumbers t m) ≤ most)
 few_in_some t m first most only is full =
-    few_some 0 (length (rows_under kind.RowNumbers t m)) most (rows_under kind.RowNumbers t m) first (rows_behind (Some first) t m) (omega arith) (sym (all_behind t m) ∙ (step_some t m None first only is).rows) (sym full)
+    few_some 0 (length (rows_under kind.RowNumbers t m)) most (rows_under kind.RowNumbers t m) first (rows_after (Some first) t m) (omega arith) (sym (all_after t m) ∙ (step_some t m None first only is).rows) (sym full)
 
 pub none_from : (o : Option RowKey) (x : Option ℤ) (b : Bool) → is_some o ≡ not b → b ≡ true → option_map (λ r. r.0) o ≡ x → x ≡ None
 none_from None x b is none e = sym e

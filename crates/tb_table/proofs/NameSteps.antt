@@ -7,7 +7,7 @@ use Rattle.std.specs.declared.cmp.Ordering.TheVariants.{Less, Equal, Greater}
 use Rattle.std.specs.Ordering.{nat_cmp, is_eq, eq_by_cmp, ordering_reverse}
 use Rattle.std.specs.Cmp.Lexicographic.{slice_cmp}
 use Rattle.std.specs.FinMap.{entries, find, get, get-entries}
-use Rattle.std.proofs.lemmas.Bool.{eq-eqb}
+use Rattle.std.proofs.lemmas.Bool.{eq-eqb, and_parts, and_from}
 use Rattle.std.proofs.lemmas.Cmp.{nat_list_cmp_total, tied_itself}
 use Rattle.std.proofs.lemmas.Map.Lookups.{exact_bytes}
 use Rattle.std.proofs.lemmas.List.MinMax.{ranks_by}
@@ -18,15 +18,16 @@ use Rattle.ct_keep.specs.Content.{Content}
 use Rattle.ct_keep.specs.Looks.{one_if}
 use Rattle.ct_keep.specs.Tail.{tail}
 use Rattle.ct_keep.specs.TailLaws.{get-tail}
-use Rattle.ct_keep.specs.RisingKeys.{and_true, and_both, below, rises, entries_rise}
+use Rattle.ct_keep.specs.RisingKeys.{below, rises, entries_rise}
 use Rattle.ct_entry.specs.declared.kinds.Kind.TheVariants as kind
 use Rattle.ct_entry.specs.Kinds.{code}
 use Rattle.ct_entry.specs.Keys.{counted_bytes, same_list}
 use Rattle.ct_entry.specs.Each.{is_among}
-use Rattle.ct_entry.specs.KeyLaws.{is_eq_Equal, list_from_same, list_same}
-use Rattle.ct_entry.specs.Rising.{none_below, below_tied}
+use Rattle.ct_base.specs.laws.Orders.{equal_from_test}
+use Rattle.ct_entry.specs.laws.Keys.{list_from_same, list_same}
+use Rattle.ct_entry.specs.laws.Rising.{none_below, below_tied}
 use Rattle.ct_entry.specs.Listings.{owner_of, owners_of, owners_under}
-use Rattle.ct_entry.specs.OwnerLaws.{owner_some}
+use Rattle.ct_entry.specs.laws.Owners.{owner_some}
 use Rattle.tb_table.specs.Readings.{all_above, names_rise, has_table, AreTableNames}
 
 abbrev order : List ℕ → List ℕ → Ordering
@@ -86,7 +87,7 @@ nothing false = refl
 tally-owners : (t : List ℕ) (es : List (List ℕ × List ℕ)) → rises order es ≡ true → tally t (owners_of es) ≡ one_if (is_kept t && is_some (find order (counted_bytes t) es))
 tally-owners t [] h = sym (nothing (is_kept t))
 tally-owners t (e ∷ es) h =
-    let b = and_true (below order e.0 es) (rises order es) h in
+    let b = and_parts (below order e.0 es) (rises order es) h in
     at_head (owner_of e.0) refl (eq_by_cmp order (counted_bytes t) e.0) refl b.0 (tally-owners t es b.1)
   where
     whole : (u : List ℕ) (k : Bool) → is_kept t ≡ k → k ≡ true → t ≡ u → tally t (owners_of es) ≡ 0 → tally t (u ∷ owners_of es) ≡ one_if (is_kept t && true)
@@ -98,7 +99,7 @@ tally-owners t (e ∷ es) h =
     at_head : (o : Option (List ℕ)) → owner_of e.0 ≡ o → (tie : Bool) → eq_by_cmp order (counted_bytes t) e.0 ≡ tie → below order e.0 es ≡ true → tally t (owners_of es) ≡ one_if (is_kept t && is_some (find order (counted_bytes t) es))
         → tally t (cons_option o (owners_of es)) ≡ one_if (is_kept t && is_some (cond tie (Some e.1) (find order (counted_bytes t) es)))
     at_head o is true tie low rest =
-        let here : counted_bytes t ≡ e.0 = exact_bytes (counted_bytes t) e.0 (is_eq_Equal _ tie) in
+        let here : counted_bytes t ≡ e.0 = exact_bytes (counted_bytes t) e.0 (equal_from_test _ tie) in
         let kept : kept_name t ≡ o = sym (owner_counted t) ∙ ap owner_of here ∙ is in
         let gone : find order (counted_bytes t) es ≡ None = none_below order (counted_bytes t) es (below_tied order nat_list_cmp_total (counted_bytes t) e.0 es tie low) in
         let none : tally t (owners_of es) ≡ 0 = rest ∙ ap (λ (x : Option (List ℕ)). one_if (is_kept t && is_some x)) gone ∙ nothing (is_kept t) in
@@ -133,7 +134,7 @@ above : (t : List ℕ) (us : List (List ℕ)) → ((k : ℕ) (d : List ℕ) → 
 above t [] low none = refl
 above t (u ∷ us) low none =
     let apart = neither (same_list t u) (is_among t us) none in
-    and_both _ _ (less (order t u) refl (low 0 [] (omega arith)) apart.0) (above t us (λ k d h. low (suc k) d (omega arith)) apart.1)
+    and_from _ _ (less (order t u) refl (low 0 [] (omega arith)) apart.0) (above t us (λ k d h. low (suc k) d (omega arith)) apart.1)
   where
     neither : (a b : Bool) → (a || b) ≡ false → (a ≡ false) × (b ≡ false)
     neither true b h = cc
@@ -153,7 +154,7 @@ rise : (us : List (List ℕ)) → NeverFalls us → ((t : List ℕ) → tally t 
 rise [] far once = refl
 rise (u ∷ us) far once =
     let here : tally u us ≡ 0 = (let e = tally-cons u u us in let o = once u in let s : same_list u u ≡ true = list_same u in let c : one_if (same_list u u) ≡ 1 = rw s refl in omega (arith, e, o, c)) in
-    and_both _ _ (above u us (λ k d h. far 0 (suc k) d (omega arith) (omega arith)) (tally_none u us here))
+    and_from _ _ (above u us (λ k d h. far 0 (suc k) d (omega arith) (omega arith)) (tally_none u us here))
     (rise us (λ i j d le h. far (suc i) (suc j) d (omega arith) (omega arith)) (λ t. let e = tally-cons t u us in let o = once t in omega (arith, e, o)))
 
 at_most_one : (b : Bool) → one_if b ≤ 1

@@ -7,7 +7,7 @@ use Rattle.std.proofs.Math.Seq.{take-add}
 use Rattle.ct_bytes.specs.RowKeys.{row_bytes}
 use Rattle.tb_table.specs.Spelling.{numbers_bytes}
 use Rattle.tb_table.specs.Readings.{EachFits}
-use Rattle.tb_table.specs.SpellingLaws.{length-numbers_bytes}
+use Rattle.tb_table.specs.laws.Spelling.{length-numbers_bytes}
 
 -- there was not enough
 pub too_few : (need have : ℕ) → (need ≤ have → false ≡ true) → have < need

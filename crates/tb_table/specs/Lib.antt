@@ -2,10 +2,7 @@ pub mod Tables
 pub mod Spelling
 pub mod Rules
 pub mod Readings
-pub mod SpellingLaws
-pub mod ReadLaws
-pub mod ChangeLaws
-pub mod RuleLaws
-pub mod WellLaws
 pub mod RowCounts
 pub mod Room
+pub mod Promises
+pub mod laws

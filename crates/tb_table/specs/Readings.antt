@@ -37,15 +37,15 @@ abbrev pub SpellsColumns : Option (List ℕ) → Option (List Column) → Type 0
 SpellsColumns entry (Some cs) = AreSpellable cs × (entry ≡ Some (columns_bytes cs))
 SpellsColumns entry None = (cs : List Column) → AreSpellable cs → entry ≡ Some (columns_bytes cs) → ⊥
 
--- what stands in a column behind its name
+-- what stands in a column after its name
 abbrev pub sort_bytes : Sort → List ℕ
 sort_bytes s = sort_code s ∷ to_be_bytes w16 (sort_size s)
 
--- From `at` on the bytes spell this column, and `next` is the place behind it.
+-- From `at` on the bytes spell this column, and `next` is the place after it.
 pub record IsColumnAt (bytes : List ℕ) (at : ℕ) (c : Column) (next : ℕ) : Type 0 where
   pub spellable : IsSpellable c
   pub spelt : drop at bytes ≡ column_bytes c ++ drop next bytes
-  pub behind : next ≡ at + length (column_bytes c)
+  pub end : next ≡ at + length (column_bytes c)
 
 -- ---- numbers and texts
 

@@ -46,15 +46,15 @@ pub record TablesStand (f : Key → Option (List ℕ)) (ts : Tables) : Type 0 wh
 
 -- ---- what calls put into a batch
 
-abbrev pub create_changes : List ℕ → List Column → List (Key × Option (List ℕ))
-create_changes t columns = put (key kind.Tables t []) (columns_bytes columns) ∷ []
+abbrev pub table_changes : List ℕ → List Column → List (Key × Option (List ℕ))
+table_changes t columns = put (key kind.Tables t []) (columns_bytes columns) ∷ []
 
 -- a change for each text, by its column
-abbrev pub text_changes : List ℕ → ℤ → List (ℕ × List ℕ) → List (Key × Option (List ℕ))
-text_changes t r texts = map (λ (x : ℕ × List ℕ). put (key kind.RowTexts t (text_part x.0 r)) x.1) texts
+abbrev pub row_text_changes : List ℕ → ℤ → List (ℕ × List ℕ) → List (Key × Option (List ℕ))
+row_text_changes t r texts = map (λ (x : ℕ × List ℕ). put (key kind.RowTexts t (text_part x.0 r)) x.1) texts
 
 abbrev pub insert_changes : List ℕ → ℤ → List ℤ → List (ℕ × List ℕ) → List (Key × Option (List ℕ))
-insert_changes t r numbers texts = put (key kind.RowNumbers t (row_part r)) (numbers_bytes numbers) ∷ text_changes t r texts
+insert_changes t r numbers texts = put (key kind.RowNumbers t (row_part r)) (numbers_bytes numbers) ∷ row_text_changes t r texts
 
 -- computed examples
 
@@ -64,7 +64,7 @@ two_columns : columns_bytes (record { name = codes "id"; sort = Number } ∷ rec
 unfolding varint
 two_columns = refl
 
--- the changes of the row 1 of a table `docs` with a text and a number behind the key
+-- the changes of the row 1 of a table `docs` with a text and a number after the key
 a_row : spell (insert_changes (codes "docs") (pos 1) (numbers_of (Text (codes "quick fox quick") ∷ NumberValue (pos 0) ∷ [])) (texts_of (Text (codes "quick fox quick") ∷ NumberValue (pos 0) ∷ [])))
     ≡ (0x02 ∷ 4 ∷ codes "docs" ++ 0x80 ∷ 0 ∷ 0 ∷ 0 ∷ 0 ∷ 0 ∷ 0 ∷ 1 ∷ [], Some (0x80 ∷ 0 ∷ 0 ∷ 0 ∷ 0 ∷ 0 ∷ 0 ∷ 0 ∷ []))
     ∷ (0x03 ∷ 4 ∷ codes "docs" ++ 1 ∷ 0x80 ∷ 0 ∷ 0 ∷ 0 ∷ 0 ∷ 0 ∷ 0 ∷ 1 ∷ [], Some (codes "quick fox quick")) ∷ []

@@ -8,6 +8,7 @@ use Rattle.ct_base.specs.declared.lists.Value.TheVariants.{Number, Text}
 use Rattle.tb_table.specs.declared.columns.Column.{Column}
 use Rattle.std.proofs.Common.{ap, ◌∙◌}
 use Rattle.std.proofs.lemmas.Cmp.{nat_list_cmp_total, int_cmp_total}
+use Rattle.ct_entry.specs.Maps.{altered, alter}
 use Rattle.tb_table.specs.declared.columns.Sort.TheVariants.{Number as NumberSort, Clob}
 
 -- a table: its columns, of which the first is the key, and its rows by their keys, each with the values of the other columns in their order
@@ -71,14 +72,6 @@ row_keys ts t = keys_in (get ts t)
 abbrev pub with_table : Tables → List ℕ → List Column → Tables
 with_table ts t columns = insert ts t (record { columns = columns; rows = empty })
 
-abbrev pub altered : Tables → List ℕ → (Table → Table) → Option Table → Tables
-altered ts t f None = ts
-altered ts t f (Some x) = insert ts t (f x)
-
--- f of the table, where it is there
-abbrev pub alter : Tables → List ℕ → (Table → Table) → Tables
-alter ts t f = altered ts t f (get ts t)
-
 abbrev pub with_row : Tables → List ℕ → ℤ → List Value → Tables
 with_row ts t r vs = alter ts t (λ (x : Table). record x { rows = insert x.rows r vs })
 
@@ -123,7 +116,7 @@ mixed_row = Text (codes "a b") ∷ Number (pos 7) ∷ Text [] ∷ []
 its_numbers : numbers_of mixed_row ≡ pos 7 ∷ []
 its_numbers = refl
 
--- behind the key, which is the column 0
+-- after the key, which is the column 0
 its_texts : texts_of mixed_row ≡ (1, codes "a b") ∷ (3, []) ∷ []
 its_texts = refl
 

@@ -4,7 +4,7 @@ ghost use Rattle.std.specs.Prelude.{◌≡◌, [], ◌∷◌, ◌++◌, ◌^◌,
 ghost use Rattle.ct_entry.specs.Changes.{spell, put};
 ghost use Rattle.ct_entry.specs.declared.kinds.Kind.TheVariants as kind;
 ghost use Rattle.ct_entry.specs.Keys.{key, text_part};
-ghost use Rattle.tb_table.specs.Spelling.{create_changes, text_changes, insert_changes};
+ghost use Rattle.tb_table.specs.Spelling.{table_changes, row_text_changes, insert_changes};
 
 use crate::columns::Column;
 use crate::writing::{columns_bytes, numbers_bytes, text_part};
@@ -22,7 +22,7 @@ pub fn create(
     columns: &[Column],
 ) -> Result<(), Memory>
     requires { length columns.now < 2 ^ 32 }
-    ensures ok { OnOk result (batch.new ≡ batch.old ++ spell (create_changes table.now columns.now)) }
+    ensures ok { OnOk result (batch.new ≡ batch.old ++ spell (table_changes table.now columns.now)) }
     ensures err { OnErr result (batch.new ≡ batch.old) }
 {
     let value = columns_bytes(alloc, columns)?;
@@ -53,7 +53,7 @@ fn put_texts(
     key: RowKey,
     texts: &[(u8, Text)],
 ) -> Result<(), Memory>
-    ensures { OnOk result (batch.new ≡ batch.old ++ spell (text_changes table.now key.0 texts.now)) }
+    ensures { OnOk result (batch.new ≡ batch.old ++ spell (row_text_changes table.now key.0 texts.now)) }
 {
     for (column, text) in texts {
         put_text(alloc, batch, table, key, *column, text)?;

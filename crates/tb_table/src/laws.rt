@@ -1,8 +1,6 @@
 //! What holds of all tables. Each function here only states laws, which its contract proves.
 
-ghost use Rattle.tb_table.specs.SpellingLaws.{ColumnsHaveTheirOwnBytes, NumbersHaveTheirOwnBytes};
-ghost use Rattle.tb_table.specs.ChangeLaws.{NewTablesStand, NewRowsStand};
-ghost use Rattle.tb_table.specs.RuleLaws.{NewTablesKeepTheRules, NewRowsKeepTheRules};
+ghost use Rattle.tb_table.specs.Promises.{ColumnsHaveTheirOwnBytes, NumbersHaveTheirOwnBytes, NewTablesStand, NewRowsStand, NewTablesKeepTheRules, NewRowsKeepTheRules};
 
 /// No columns have the bytes of others, nor have the numbers of a row.
 pub fn entries_are_exact()

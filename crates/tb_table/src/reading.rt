@@ -36,7 +36,7 @@ fn read_sort(bytes: &[u8], at: usize) -> Option<Sort>
     sort_of(code, size)
 }
 
-/// The column that stands from `at` on, and the place behind it.
+/// The column that stands from `at` on, and the place after it.
 fn read_column(alloc: Global, bytes: &[u8], at: usize) -> Result<Option<(Column, usize)>, Memory>
     ensures some { IfOk result (λ r. IfSome r (λ p. IsColumnAt bytes.now at p.0 p.1)) }
     ensures none { IfOk result (λ r. IfNone r ((c : ColumnValue) (next : ℕ) → IsColumnAt bytes.now at c next → ⊥)) }

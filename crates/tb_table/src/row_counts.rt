@@ -2,12 +2,12 @@
 #![tactic(auto, using(ct_keep::specs::Composing::reads_on, ct_keep::specs::Composing::reads_short))]
 
 ghost use Rattle.std.specs.Prelude.{◌+◌, ◌-◌, ◌<◌, ◌≤◌, ◌↔◌, IsTrue, Some, length};
-ghost use Rattle.ct_bytes.specs.RowKeys.{raised as raised_key};
+ghost use Rattle.ct_bytes.specs.RowKeys.{sign_turned as raised_key};
 ghost use Rattle.ct_keep.specs.KeeperViews.{Finds, OnlyReads};
 ghost use Rattle.ct_entry.specs.declared.kinds.Kind.TheVariants as kind;
 ghost use Rattle.ct_entry.specs.Keys.{HasKeysOnly};
 ghost use Rattle.ct_entry.specs.Listings.{rows_under};
-ghost use Rattle.tb_table.specs.RowCounts.{rows_behind};
+ghost use Rattle.tb_table.specs.RowCounts.{rows_after};
 
 use crate::listings::next_row;
 use ct_base::{Name, RowKey};
@@ -22,8 +22,8 @@ fn last_of(first: RowKey, most: u32) -> RowKey
     RowKey(first.0.saturating_add(i64::from(most - 1)))
 }
 
-/// Whether at most so many rows stand behind one. It takes one look-up more than it finds.
-fn has_few_behind<K: Keeper>(
+/// Whether at most so many rows stand after one. It takes one look-up more than it finds.
+fn has_few_after<K: Keeper>(
     alloc: Global,
     keeper: &mut K,
     table: &Name,
@@ -31,7 +31,7 @@ fn has_few_behind<K: Keeper>(
     most: u32,
 ) -> Result<bool, KeepFault>
     requires { (K.view keeper.old).ready }
-    ensures few { Finds K.view keeper.old result (λ m few. HasKeysOnly m → IsTrue few ↔ (length (rows_behind (Some first.0) table.now m) ≤ most)) }
+    ensures few { Finds K.view keeper.old result (λ m few. HasKeysOnly m → IsTrue few ↔ (length (rows_after (Some first.0) table.now m) ≤ most)) }
     ensures reads { OnlyReads K.view keeper.old keeper.new result }
 {
     let mut last = first;
@@ -47,7 +47,7 @@ fn has_few_behind<K: Keeper>(
 
 /// Whether a table has at most so many rows.
 ///
-/// Where no row stands behind the first so many keys from that of the first row on, it takes two look-ups; else it counts,
+/// Where no row stands after the first so many keys from that of the first row on, it takes two look-ups; else it counts,
 /// with a look-up for each row, to one row more. It never answers Full.
 pub fn row_count_at_most<K: Keeper>(
     alloc: Global,
@@ -66,9 +66,9 @@ pub fn row_count_at_most<K: Keeper>(
         return Ok(false);
     }
     let last = last_of(first, most);
-    let behind = next_row(alloc, keeper, table, Some(last))?;
-    if behind.is_none() {
+    let beyond = next_row(alloc, keeper, table, Some(last))?;
+    if beyond.is_none() {
         return Ok(true);
     }
-    has_few_behind(alloc, keeper, table, first, most - 1)
+    has_few_after(alloc, keeper, table, first, most - 1)
 }

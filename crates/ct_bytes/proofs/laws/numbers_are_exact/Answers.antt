@@ -1,5 +1,5 @@
-use Rattle.ct_bytes.specs.NumberLaws.{two_bytes_one, four_bytes_one}
-use Rattle.ct_bytes.specs.ByteOrder.{two_bytes_in_order, four_bytes_in_order}
+use Rattle.ct_bytes.specs.laws.Numbers.{two_bytes_one, four_bytes_one}
+use Rattle.ct_bytes.specs.laws.ByteOrder.{two_bytes_in_order, four_bytes_in_order}
 use Rattle.ct_bytes.proofs.laws.numbers_are_exact.Goals as goal
 
 pub returns-clause-two : goal.returns-clause-two

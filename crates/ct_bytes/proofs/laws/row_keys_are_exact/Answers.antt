@@ -1,4 +1,4 @@
-use Rattle.ct_bytes.specs.RowKeyLaws.{length-row_bytes, row_bytes_one, row_bytes_in_order}
+use Rattle.ct_bytes.specs.laws.RowKeys.{length-row_bytes, row_bytes_one, row_bytes_in_order}
 use Rattle.ct_bytes.proofs.laws.row_keys_are_exact.Goals as goal
 
 pub returns-clause-eight : goal.returns-clause-eight

@@ -1,4 +1,4 @@
-use Rattle.ct_bytes.specs.VarintLaws.{text_apart, text_at_one, text_placed}
+use Rattle.ct_bytes.specs.laws.Varints.{text_apart, text_at_one, text_placed}
 use Rattle.ct_bytes.proofs.laws.texts_are_exact.Goals as goal
 
 pub returns-clause-apart : goal.returns-clause-apart

@@ -1,4 +1,4 @@
-use Rattle.ct_bytes.specs.VarintLaws.{varint_apart, varint_at_one, varint_placed}
+use Rattle.ct_bytes.specs.laws.Varints.{varint_apart, varint_at_one, varint_placed}
 use Rattle.ct_bytes.proofs.laws.varints_are_exact.Goals as goal
 
 pub returns-clause-apart : goal.returns-clause-apart

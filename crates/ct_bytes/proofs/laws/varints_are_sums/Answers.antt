@@ -1,4 +1,4 @@
-use Rattle.ct_bytes.specs.VarintSums.{varints_are_sums, varints_have_top_bits, varints_end_in_no_zero}
+use Rattle.ct_bytes.specs.laws.VarintSums.{varints_are_sums, varints_have_top_bits, varints_end_in_no_zero}
 use Rattle.ct_bytes.proofs.laws.varints_are_sums.Goals as goal
 
 pub returns-clause-sums : goal.returns-clause-sums

@@ -1,5 +1,5 @@
 use Rattle.std.proofs.Common.{◌≡◌, ◌+◌, ◌-◌, take, drop, ap, ◌∙◌, arith}
-use Rattle.ct_bytes.specs.VarintLaws.{text_within, text_length_at, text_from_parts, varint_at_one}
+use Rattle.ct_bytes.specs.laws.Varints.{text_within, text_length_at, text_from_parts, varint_at_one}
 use Rattle.ct_bytes.proofs.texts.read_text.Goals as goal
 
 pub returns-in_err-len-clause-none : goal.returns-in_err-len-clause-none
@@ -10,7 +10,7 @@ returns-in_err-text-clause-none c = rw c.from_residual-in_err-text.ensures (λ t
     let same = varint_at_one _ _ _ _ _ _ c.in_ok-len.ensures.some (text_length_at _ _ text next is) in
     let within = text_within _ _ text next is in
     let past = c.in_err-text.ensures.lookup.0 in
-    omega (arith, same.0, same.1, is.behind))
+    omega (arith, same.0, same.1, is.end))
 
 pub returns-clause-some : goal.returns-clause-some
 returns-clause-some c =

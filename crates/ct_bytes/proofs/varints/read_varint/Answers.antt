@@ -1,6 +1,6 @@
 use Rattle.std.proofs.Common.{length, ◌∙◌, arith}
 use Rattle.std.proofs.lemmas.Slice.{between_to_end}
-use Rattle.ct_bytes.specs.VarintLaws.{varint_within}
+use Rattle.ct_bytes.specs.laws.Varints.{varint_within}
 use Rattle.ct_bytes.proofs.ReadingSteps.{at_place, at_front}
 use Rattle.ct_bytes.proofs.varints.read_varint.Goals as goal
 

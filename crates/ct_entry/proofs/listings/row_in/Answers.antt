@@ -2,7 +2,7 @@ use Rattle.std.proofs.Common.{◌≡◌, ℕ, ℤ, List, length, take, Some, sym
 use Rattle.std.proofs.lemmas.List.{take_all}
 use Rattle.ct_bytes.specs.RowKeys.{row_bytes}
 use Rattle.ct_entry.specs.Listings.{row_of}
-use Rattle.ct_entry.specs.RowLaws.{row_of-row_part}
+use Rattle.ct_entry.specs.laws.Rows.{row_of-row_part}
 use Rattle.ct_entry.proofs.listings.row_in.Goals as goal
 
 read : (rest : List ℕ) (row : ℤ) → FitsSigned w64 row → row_bytes row ≡ take 8 rest → length rest ≡ 8 → Some row ≡ row_of rest

@@ -2,11 +2,11 @@ use Rattle.std.proofs.Common.{ℕ, ◌≤◌, List, [], ◌∷◌, true, length,
 use Rattle.std.proofs.lemmas.List.{length-append}
 use Rattle.std.proofs.lemmas.Result.{on_ok_weaker}
 use Rattle.ct_base.specs.Names.{IsName}
-use Rattle.ct_base.specs.NameLaws.{name_length}
+use Rattle.ct_base.specs.laws.Names.{name_length}
 use Rattle.ct_keep.specs.Content.{IsEntry}
 use Rattle.ct_entry.specs.declared.kinds.Kind.{Kind}
 use Rattle.ct_entry.specs.Keys.{key, bytes}
-use Rattle.ct_entry.specs.WellLaws.{well-append}
+use Rattle.ct_entry.specs.laws.Well.{well-append}
 use Rattle.ct_entry.proofs.tests.add_change.Goals as goal
 
 entry : (kind : Kind) (owner part value : List ℕ) → IsName owner → length part ≤ 8 → length value ≤ 1000 → IsEntry (bytes (key kind owner part)) value

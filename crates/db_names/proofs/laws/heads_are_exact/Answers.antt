@@ -1,4 +1,4 @@
-use Rattle.db_names.specs.HeadLaws.{head_one, head_read, index_on_read, indexes_of_read}
+use Rattle.db_names.specs.laws.Heads.{head_one, head_read, index_on_read, indexes_of_read}
 use Rattle.db_names.proofs.laws.heads_are_exact.Goals as goal
 
 pub returns-clause-one : goal.returns-clause-one

@@ -1,7 +1,7 @@
 use Rattle.std.proofs.Common.{List, map, ap, ◌∙◌}
 use Rattle.std.specs.Prelude.{filter}
 use Rattle.ct_base.specs.declared.numbers.RowKey.{RowKey}
-use Rattle.tb_table.specs.ReadLaws.{rows_read}
+use Rattle.tb_table.specs.laws.Reading.{rows_read}
 use Rattle.ix_context.specs.Indexes.{in_range}
 use Rattle.ix_context.proofs.creating.rows_of.Goals as goal
 

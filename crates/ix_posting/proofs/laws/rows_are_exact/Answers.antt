@@ -1,4 +1,4 @@
-use Rattle.ix_posting.specs.RowLaws.{rows_one, rows_read_back}
+use Rattle.ix_posting.specs.laws.Rows.{rows_one, rows_read_back}
 use Rattle.ix_posting.proofs.laws.rows_are_exact.Goals as goal
 
 pub returns-clause-one : goal.returns-clause-one

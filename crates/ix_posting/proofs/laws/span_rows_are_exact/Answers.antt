@@ -1,4 +1,4 @@
-use Rattle.ix_posting.specs.SpanRowLaws.{span_rows_one, span_rows_read_back}
+use Rattle.ix_posting.specs.laws.Rows.{span_rows_one, span_rows_read_back}
 use Rattle.ix_posting.proofs.laws.span_rows_are_exact.Goals as goal
 
 pub returns-clause-one : goal.returns-clause-one

@@ -1,6 +1,6 @@
 use Rattle.std.proofs.Common.{arith}
-use Rattle.ct_bytes.specs.VarintLaws.{varint_at_one}
-use Rattle.ix_posting.specs.NumberItems.{number_alone}
+use Rattle.ct_bytes.specs.laws.Varints.{varint_at_one}
+use Rattle.ix_posting.specs.laws.Numbers.{number_alone}
 use Rattle.ix_posting.proofs.reading.read_head.Goals as goal
 
 pub returns-in_err-count-clause-none : goal.returns-in_err-count-clause-none

@@ -1,5 +1,5 @@
 use Rattle.std.proofs.Common.{arith}
-use Rattle.ct_bytes.specs.VarintLaws.{varint_at_one}
+use Rattle.ct_bytes.specs.laws.Varints.{varint_at_one}
 use Rattle.ix_posting.proofs.reading.read_number.Goals as goal
 
 pub returns-in_err-number-clause-none : goal.returns-in_err-number-clause-none

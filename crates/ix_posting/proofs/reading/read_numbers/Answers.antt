@@ -1,6 +1,6 @@
 use Rattle.std.proofs.Common.{◌+◌, ◌-◌, arith}
-use Rattle.ix_posting.specs.Items.{read_more, read_all, none_more}
-use Rattle.ix_posting.specs.NumberItems.{numbers}
+use Rattle.ix_posting.specs.laws.Items.{read_more, read_all, none_more}
+use Rattle.ix_posting.specs.laws.Numbers.{numbers}
 use Rattle.ix_posting.proofs.reading.read_numbers.Goals as goal
 
 pub returns-in_default-clause-bad : goal.returns-in_default-clause-bad

@@ -1,6 +1,6 @@
 use Rattle.std.proofs.Common.{◌-◌}
 use Rattle.ix_posting.specs.Places.{AreNumbersAt}
-use Rattle.ix_posting.specs.Items.{HasRead}
+use Rattle.ix_posting.specs.laws.Items.{HasRead}
 use Rattle.ix_posting.proofs.reading.read_numbers.Given as goal
 
 abbrev pub invariant-loop : goal.invariant-loop

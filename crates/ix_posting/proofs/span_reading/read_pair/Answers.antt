@@ -1,8 +1,8 @@
 use Rattle.std.proofs.Common.{arith, subst}
 use Rattle.std.proofs.lemmas.Bool.{false≢true}
 use Rattle.ct_base.specs.declared.numbers.Pair.{Pair}
-use Rattle.ix_posting.specs.SpanRows.{Follows}
-use Rattle.ix_posting.specs.PairItems.{same_pair}
+use Rattle.ix_posting.specs.SpanRows.{ComesAfter}
+use Rattle.ix_posting.specs.laws.Pairs.{same_pair}
 use Rattle.ix_posting.proofs.PairSteps.{extent_at, pair_sums}
 use Rattle.ix_posting.proofs.span_reading.read_pair.Goals as goal
 use Rattle.ix_posting.proofs.span_reading.read_pair.Goals.{then-first-eq0-via-then-first-eq0, then-first-eq0-via-else-first-eq0+then-not-follows}
@@ -28,5 +28,5 @@ returns-then-first-eq0-clause-none c = λ p next is.
       | then-first-eq0-via-else-first-eq0+then-not-follows w ↦
           let pair : Pair = record { first = c.in_ok-first.first; last = c.in_ok-last.last } in
           let same = same_pair p pair (omega (arith, sums.0, c.in_ok-first.ensures.1)) (omega (arith, sums.1, c.in_ok-first.ensures.1, c.in_ok-last.ensures.1)) in
-          false≢true (w.if-not-follows.ensures.1 (subst (Follows c.args.before) same is.follows))
+          false≢true (w.if-not-follows.ensures.1 (subst (ComesAfter c.args.before) same is.follows))
     ]

@@ -1,6 +1,6 @@
 use Rattle.std.proofs.Common.{◌+◌, ◌-◌, arith}
-use Rattle.ix_posting.specs.Items.{read_more, read_all, none_more}
-use Rattle.ix_posting.specs.PairItems.{pairs}
+use Rattle.ix_posting.specs.laws.Items.{read_more, read_all, none_more}
+use Rattle.ix_posting.specs.laws.Pairs.{pairs}
 use Rattle.ix_posting.proofs.span_reading.read_pairs.Goals as goal
 
 pub returns-in_default-clause-bad : goal.returns-in_default-clause-bad

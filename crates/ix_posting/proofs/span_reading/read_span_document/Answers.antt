@@ -1,5 +1,5 @@
 use Rattle.std.proofs.lemmas.Result.{err_from_is_err_and}
-use Rattle.ix_posting.specs.Heads.{head_alone}
+use Rattle.ix_posting.specs.laws.Heads.{head_alone}
 use Rattle.ix_posting.proofs.span_reading.read_span_document.Goals as goal
 
 pub returns-in_default-clause-bad : goal.returns-in_default-clause-bad
@@ -9,4 +9,4 @@ pub returns-in_err-pairs-clause-bad : goal.returns-in_err-pairs-clause-bad
 returns-in_err-pairs-clause-bad c = λ bad d next is.
     let fault = err_from_is_err_and c.from_residual.result c.from_residual.ensures.1 in
     let head = head_alone _ _ _ _ _ _ _ _ _ is.head c.in-Some.ensures.some in
-    c.in_err-pairs.ensures.bad (cc (fault.1, fault.2)) _ _ (rw (head.1, head.2) at is.pairs)
+    c.in_err-pairs.ensures.bad (cc (fault.1, fault.2)) _ _ (rw (head.1, head.2) at is.places)

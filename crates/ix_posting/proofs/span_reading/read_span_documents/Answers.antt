@@ -1,7 +1,7 @@
 use Rattle.std.proofs.Common.{◌+◌, ◌-◌, arith}
 use Rattle.std.proofs.lemmas.Result.{err_from_is_err_and}
-use Rattle.ix_posting.specs.Items.{read_more, read_all, none_more}
-use Rattle.ix_posting.specs.SpanDocumentItems.{span_documents}
+use Rattle.ix_posting.specs.laws.Items.{read_more, read_all, none_more}
+use Rattle.ix_posting.specs.laws.Documents.{span_documents}
 use Rattle.ix_posting.proofs.span_reading.read_span_documents.Goals as goal
 
 pub returns-in_err-document-clause-bad : goal.returns-in_err-document-clause-bad

@@ -1,4 +1,4 @@
-use Rattle.tb_table.specs.ChangeLaws.{stand_create, stand_insert}
+use Rattle.tb_table.specs.laws.Changes.{stand_create, stand_insert}
 use Rattle.tb_table.proofs.laws.changes_stand.Goals as goal
 
 pub returns-clause-create : goal.returns-clause-create

@@ -1,4 +1,4 @@
-use Rattle.tb_table.specs.SpellingLaws.{columns_apart, numbers_apart}
+use Rattle.tb_table.specs.laws.Spelling.{columns_apart, numbers_apart}
 use Rattle.tb_table.proofs.laws.entries_are_exact.Goals as goal
 
 pub returns-clause-columns : goal.returns-clause-columns

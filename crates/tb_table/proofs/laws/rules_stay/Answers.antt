@@ -1,4 +1,4 @@
-use Rattle.tb_table.specs.RuleLaws.{create_keeps, insert_keeps}
+use Rattle.tb_table.specs.laws.Rules.{create_keeps, insert_keeps}
 use Rattle.tb_table.proofs.laws.rules_stay.Goals as goal
 
 pub returns-clause-create : goal.returns-clause-create

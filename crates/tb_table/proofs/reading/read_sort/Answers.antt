@@ -2,7 +2,8 @@ use Rattle.std.proofs.Common.{◌<◌, ◌^◌, ◌+◌, length, arith}
 use Rattle.tb_table.specs.declared.columns.Sort.{Sort}
 use Rattle.tb_table.specs.Spelling.{sort_size}
 use Rattle.tb_table.proofs.NumberSteps.{too_few}
-use Rattle.tb_table.proofs.ColumnSteps.{sort_short, if_none}
+use Rattle.tb_table.proofs.ColumnSteps.{sort_short}
+use Rattle.ct_base.specs.laws.Options.{if_none}
 use Rattle.tb_table.proofs.reading.read_sort.Goals as goal
 
 pub returns-in_err-size-clause-none : goal.returns-in_err-size-clause-none

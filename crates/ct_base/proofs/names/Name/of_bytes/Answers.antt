@@ -1,7 +1,7 @@
 use Rattle.std.proofs.Common.{◌≡◌, ℕ, List, map, true, Some, sym, ◌∙◌, ap}
 use Rattle.std.specs.Char.{to_ascii_lowercase}
 use Rattle.ct_base.specs.Names.{is_kept, kept_name}
-use Rattle.ct_base.specs.NameLaws.{kept_is_name, kept_name-name}
+use Rattle.ct_base.specs.laws.Names.{kept_is_name, kept_name-name}
 use Rattle.ct_base.proofs.Spelling.{lower_is_name}
 use Rattle.ct_base.proofs.names.Name.of_bytes.Goals as goal
 

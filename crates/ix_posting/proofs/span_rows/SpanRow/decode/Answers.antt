@@ -1,7 +1,7 @@
 use Rattle.std.proofs.Common.{length, ap, arith}
 use Rattle.std.proofs.lemmas.Result.{err_from_is_err_and}
-use Rattle.ix_posting.specs.Wholes.{whole_behind, whole_alone}
-use Rattle.ix_posting.specs.SpanDocumentItems.{span_documents, span_row_parts}
+use Rattle.ix_posting.specs.laws.Wholes.{whole_rest, whole_alone}
+use Rattle.ix_posting.specs.laws.Documents.{span_documents, span_row_parts}
 use Rattle.ix_posting.proofs.span_rows.SpanRow.decode.Goals as goal
 use Rattle.ix_posting.proofs.span_rows.SpanRow.decode.Goals.{then-count-eq0-via-then-count-eq0, then-count-eq0-via-else-count-eq0+then-end-bytes}
 
@@ -11,7 +11,7 @@ returns-in_default-clause-bad c = λ bad row is spelt. c.in_default.ensures.none
 pub returns-in_err-documents-clause-bad : goal.returns-in_err-documents-clause-bad
 returns-in_err-documents-clause-bad c = λ bad row is spelt.
     let fault = err_from_is_err_and c.from_residual.result c.from_residual.ensures.1 in
-    c.in_err-documents.ensures.bad (cc (fault.1, fault.2)) _ _ (whole_behind _ _ _ _ row c.in-Some.ensures.some (span_row_parts _ row is spelt))
+    c.in_err-documents.ensures.bad (cc (fault.1, fault.2)) _ _ (whole_rest _ _ _ _ row c.in-Some.ensures.some (span_row_parts _ row is spelt))
 
 pub returns-then-count-eq0-clause-bad : goal.returns-then-count-eq0-clause-bad
 returns-then-count-eq0-clause-bad c = λ bad row is spelt.

@@ -1,0 +1,9 @@
+-- Laws of what this crate defines, and those that every crate needs of truth values, options, lists and orders, where the standard library has none.
+pub mod Bools
+pub mod Options
+pub mod Lists
+pub mod Orders
+pub mod Names
+pub mod Told
+pub mod Causes
+pub mod Moments

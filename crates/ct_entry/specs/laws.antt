@@ -1,0 +1,12 @@
+pub mod Keys
+pub mod Changes
+pub mod Each
+pub mod Parts
+pub mod Well
+pub mod Rising
+pub mod Maps
+pub mod MapChanges
+pub mod Listings
+pub mod Rows
+pub mod Owners
+pub mod Documents

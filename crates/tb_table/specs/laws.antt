@@ -1,0 +1,5 @@
+pub mod Spelling
+pub mod Reading
+pub mod Changes
+pub mod Rules
+pub mod Well
