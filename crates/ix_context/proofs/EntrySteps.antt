@@ -11,7 +11,7 @@ use Rattle.ct_bytes.specs.Varints.{text_bytes, IsTextAt}
 use Rattle.ct_bytes.specs.laws.Varints.{text_at_one, text_placed}
 use Rattle.ct_bytes.specs.laws.Numbers.{four_bytes_one}
 use Rattle.ix_context.specs.Spelling.{index_bytes, behind_table}
-use Rattle.ix_context.specs.EntryParts.{HasParts}
+use Rattle.ix_context.specs.Spelling.{HasIndexParts}
 
 pub stands : (bytes t : List ℕ) (c n : ℕ) → length t < 2 ^ 32 → bytes ≡ index_bytes t c n → IsTextAt bytes 1 t (1 + length (text_bytes t))
 stands bytes t c n small is = subst (λ b. IsTextAt b 1 t (1 + length (text_bytes t))) (sym is) (text_placed (1 ∷ []) (behind_table c n) t small)
@@ -48,24 +48,24 @@ pub name_small : (t : List ℕ) → IsName t → length t < 2 ^ 32
 name_small t name = let l = name_length t name in omega (arith, l)
 
 -- the entry of an index has parts
-pub no_parts : (bytes : List ℕ) → HasParts bytes None → (t : List ℕ) (c n : ℕ) → IsName t → c < 256 → n < 2 ^ 32 → Some bytes ≡ Some (index_bytes t c n) → ⊥
+pub no_parts : (bytes : List ℕ) → HasIndexParts bytes None → (t : List ℕ) (c n : ℕ) → IsName t → c < 256 → n < 2 ^ 32 → Some bytes ≡ Some (index_bytes t c n) → ⊥
 no_parts bytes has t c n name col fits is = let e = has t c n (name_small t name) fits (same_Some _ _ is) in cc
 
-pub same_parts : (bytes text : List ℕ) (column next : ℕ) → HasParts bytes (Some (text, column, next)) → (t : List ℕ) (c n : ℕ) → IsName t → n < 2 ^ 32 → Some bytes ≡ Some (index_bytes t c n) → (text ≡ t) × (column ≡ c) × (next ≡ n) × (kept_name text ≡ Some t)
+pub same_parts : (bytes text : List ℕ) (column next : ℕ) → HasIndexParts bytes (Some (text, column, next)) → (t : List ℕ) (c n : ℕ) → IsName t → n < 2 ^ 32 → Some bytes ≡ Some (index_bytes t c n) → (text ≡ t) × (column ≡ c) × (next ≡ n) × (kept_name text ≡ Some t)
 same_parts bytes text column next has t c n name fits is =
     let e : (text, column, next) ≡ (t, c, n) = same_Some _ _ (has t c n (name_small t name) fits (same_Some _ _ is)) in
     let same : text ≡ t = ap (λ (p : List ℕ × ℕ × ℕ). p.0) e in
     (same, ap (λ (p : List ℕ × ℕ × ℕ). p.1) e, ap (λ (p : List ℕ × ℕ × ℕ). p.2) e, ap kept_name same ∙ kept_name-name t name)
 
 -- its table is a name
-pub no_name : (bytes text : List ℕ) (column next : ℕ) → HasParts bytes (Some (text, column, next)) → kept_name text ≡ None → (t : List ℕ) (c n : ℕ) → IsName t → c < 256 → n < 2 ^ 32 → Some bytes ≡ Some (index_bytes t c n) → ⊥
+pub no_name : (bytes text : List ℕ) (column next : ℕ) → HasIndexParts bytes (Some (text, column, next)) → kept_name text ≡ None → (t : List ℕ) (c n : ℕ) → IsName t → c < 256 → n < 2 ^ 32 → Some bytes ≡ Some (index_bytes t c n) → ⊥
 no_name bytes text column next has none t c n name col fits is =
     let s = same_parts bytes text column next has t c n name fits is in
     let e : None ≡ Some t = sym none ∙ s.3 in
     cc
 
 -- it is what was written again
-pub written_again : (bytes text table : List ℕ) (column next : ℕ) → HasParts bytes (Some (text, column, next)) → kept_name text ≡ Some table → (bytes ≡ index_bytes table column next → ⊥) → (t : List ℕ) (c n : ℕ) → IsName t → c < 256 → n < 2 ^ 32 → Some bytes ≡ Some (index_bytes t c n) → ⊥
+pub written_again : (bytes text table : List ℕ) (column next : ℕ) → HasIndexParts bytes (Some (text, column, next)) → kept_name text ≡ Some table → (bytes ≡ index_bytes table column next → ⊥) → (t : List ℕ) (c n : ℕ) → IsName t → c < 256 → n < 2 ^ 32 → Some bytes ≡ Some (index_bytes t c n) → ⊥
 written_again bytes text table column next has kept other t c n name col fits is =
     let s = same_parts bytes text column next has t c n name fits is in
     let same : table ≡ t = same_Some _ _ (sym kept ∙ s.3) in

@@ -13,13 +13,13 @@ use Rattle.ct_keep.specs.Content.{Content}
 use Rattle.ct_entry.specs.Keys.{same_list}
 use Rattle.std.proofs.lemmas.Map.Lookups.{exact_bytes}
 use Rattle.ix_context.specs.Postings.{positions_from, positions, words_of, if_any, postings_of}
-use Rattle.ix_context.specs.PostingLaws.{get-postings_of}
-use Rattle.ix_context.specs.Occurrences.{had, noted, noted_all}
+use Rattle.ix_context.specs.laws.Postings.{get-postings_of}
+use Rattle.ix_context.specs.Occurrences.{had, with_position, with_positions}
 use Rattle.ct_entry.specs.laws.Keys.{list_from_same}
 use Rattle.ct_entry.specs.laws.Maps.{get_name-insert, get_name-remove}
 
-get-noted : (m : Content) (w : List ℕ) (p : ℕ) (q : List ℕ) → get (noted m w p) q ≡ cond (same_list q w) (Some (had (get m w) ++ p ∷ [])) (get m q)
-get-noted m w p q =
+get-with_position : (m : Content) (w : List ℕ) (p : ℕ) (q : List ℕ) → get (with_position m w p) q ≡ cond (same_list q w) (Some (had (get m w) ++ p ∷ [])) (get m q)
+get-with_position m w p q =
     get_name-insert (remove m w) w (had (get m w) ++ p ∷ []) q
     ∙ ap (cond (same_list q w) (Some (had (get m w) ++ p ∷ []))) (get_name-remove m w q)
     ∙ once (same_list q w)
@@ -41,11 +41,11 @@ joined_more : (o : Option (List ℕ)) (p : ℕ) (ps : List ℕ) → joined (Some
 joined_more None p ps = refl
 joined_more (Some qs) p ps = ap (λ (l : List ℕ). Some l) (append_assoc qs (p ∷ []) ps)
 
-noted_all_at : (ws : List (List ℕ)) (m : Content) (p : ℕ) (q : List ℕ) → get (noted_all m p ws) q ≡ joined (get m q) (positions_from p q ws)
-noted_all_at [] m p q = sym (joined_none (get m q))
-noted_all_at (w ∷ ws) m p q =
-    noted_all_at ws (noted m w p) (p + 1) q
-    ∙ ap (λ (o : Option (List ℕ)). joined o (positions_from (p + 1) q ws)) (get-noted m w p q)
+with_positions_at : (ws : List (List ℕ)) (m : Content) (p : ℕ) (q : List ℕ) → get (with_positions m p ws) q ≡ joined (get m q) (positions_from p q ws)
+with_positions_at [] m p q = sym (joined_none (get m q))
+with_positions_at (w ∷ ws) m p q =
+    with_positions_at ws (with_position m w p) (p + 1) q
+    ∙ ap (λ (o : Option (List ℕ)). joined o (positions_from (p + 1) q ws)) (get-with_position m w p q)
     ∙ here (same_list q w) refl
   where
     here : (b : Bool) → same_list q w ≡ b
@@ -56,9 +56,9 @@ noted_all_at (w ∷ ws) m p q =
     here false is = refl
 
 -- what all words of a text come to
-pub noted_postings : (text : List ℕ) → noted_all empty 1 (words_of text) ≡ postings_of text
-noted_postings text = same_map nat_list_cmp_total exact_bytes (noted_all empty 1 (words_of text)) (postings_of text) (λ q.
-    noted_all_at (words_of text) empty 1 q
+pub with_positions-postings : (text : List ℕ) → with_positions empty 1 (words_of text) ≡ postings_of text
+with_positions-postings text = same_map nat_list_cmp_total exact_bytes (with_positions empty 1 (words_of text)) (postings_of text) (λ q.
+    with_positions_at (words_of text) empty 1 q
     ∙ ap (λ (o : Option (List ℕ)). joined o (positions q text)) (get-empty (slice_cmp nat_cmp) q)
     ∙ sym (get-postings_of text q))
 

@@ -33,12 +33,12 @@ use Rattle.tb_table.specs.Tables.{Tables}
 use Rattle.ix_posting.specs.declared.rows.RowDocument.{RowDocument}
 use Rattle.ix_posting.specs.Rows.{IsPostingRow, posting_bytes}
 use Rattle.ix_context.specs.Postings.{positions, word_score}
-use Rattle.ix_context.specs.PostingLaws.{positions_rise}
+use Rattle.ix_context.specs.laws.Postings.{positions_rise}
 use Rattle.ix_context.specs.Indexes.{Index, Mark, Pending, Marked, is_marked, mark_of, text_seen, if_above, scored, found, found_at}
 use Rattle.ix_context.specs.Spelling.{Numbering, IsNumbering, IndexesSpelled, posting_value}
 use Rattle.ix_context.specs.Limits.{IsWithinLimits}
 use Rattle.ix_context.specs.Scoring.{document_row, with_score, positions_score, with_postings, HoldRows}
-use Rattle.ix_context.specs.Picked.{entries_picked}
+use Rattle.ix_context.proofs.MappedEntries.{entries_mapped}
 
 there_some : {X : Type 0} (o : Option X) (x : X) → o ≡ Some x → is_some o ≡ true
 there_some o x is = ap is_some is
@@ -295,6 +295,6 @@ module _ (m : Content) (ts : Tables) (xs : Names Index) (x : Index) (i w : List 
         rows = rows_of (entries (tail prefix m)) all;
         hold = hold (entries (tail prefix m)) all;
         scores =
-            entries_picked int_cmp int_cmp_total exact_signed (scored_as ts x w) (with_postings (at m) i (rows_of (entries (tail prefix m)) all) empty) x.marks (right_scores all)
+            entries_mapped int_cmp int_cmp_total exact_signed (scored_as ts x w) (with_postings (at m) i (rows_of (entries (tail prefix m)) all) empty) x.marks (right_scores all)
             ∙ (λ j. filter_map (λ e. scored_found ts x w e.0 e.1 j) (entries x.marks));
       }

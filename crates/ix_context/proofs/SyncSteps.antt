@@ -15,7 +15,7 @@ use Rattle.ix_context.specs.declared.ranges.KeyRange.{KeyRange}
 use Rattle.ix_context.specs.Indexes.{Index, pending_rows, rows_in, target_text}
 use Rattle.ix_context.specs.Spelling.{index_bytes}
 use Rattle.ix_context.specs.Changes.{numbered, mark_with, settle_with, settled_with, sync_rows_changes, sync_changes, create_changes, AreSettleChanges, AreSyncChanges}
-use Rattle.ix_context.specs.ReadLaws.{target_of}
+use Rattle.ix_context.specs.laws.Reading.{target_of}
 
 abbrev Changes : Type 0
 Changes = List (List ℕ × Option (List ℕ))

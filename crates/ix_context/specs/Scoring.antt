@@ -1,5 +1,5 @@
 -- How the rows of postings of a word score rows of a table.
-use Rattle.std.specs.Prelude.{ℕ, ℤ, ◌≡◌, min, List, [], ◌∷◌, length, map, Option, Some, None, Result, OnOk}
+use Rattle.std.specs.Prelude.{ℕ, ℤ, ◌≡◌, pos, replicate, codes, refl, min, List, [], ◌∷◌, length, map, Option, Some, None, Result, OnOk}
 use Rattle.std.specs.Option.{option_and_then}
 use Rattle.std.specs.FinMap.{insert, empty}
 use Rattle.ct_entry.specs.declared.kinds.Kind.TheVariants as kind
@@ -53,3 +53,16 @@ ScoresRow f i value old new result = (row : List RowDocument) → IsPostingRow r
 -- Where entries hold rows of postings, these are the scores of their documents.
 abbrev pub AreScores : (Key → Option (List ℕ)) → List ℕ → List (List ℕ × List ℕ) → Rows ℕ → Type 0
 AreScores f i entries scores = (rows : List (List RowDocument)) → HoldRows entries rows → scores ≡ with_postings f i rows empty
+
+-- computed examples
+the_row_seven : document_row (λ k. Some (0x80 ∷ 0 ∷ 0 ∷ 0 ∷ 0 ∷ 0 ∷ 0 ∷ 7 ∷ [])) (codes "di") 1 ≡ Some (pos 7)
+the_row_seven = refl
+
+too_short_for_a_row : document_row (λ k. Some (7 ∷ [])) (codes "di") 1 ≡ None
+too_short_for_a_row = refl
+
+at_most_a_hundred : positions_score (replicate 120 1) ≡ 100
+at_most_a_hundred = refl
+
+a_hit : hit_rows (record { key = record { 0 = pos 7 }; score = 2 } ∷ []) ≡ (pos 7, 2) ∷ []
+a_hit = refl

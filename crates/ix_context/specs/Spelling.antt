@@ -1,11 +1,12 @@
 -- The entries that spell the indexes.
-use Rattle.std.specs.Prelude.{ℕ, ℤ, ◌≡◌, ◌+◌, ◌≤◌, ◌<◌, ◌^◌, List, [], ◌∷◌, ◌++◌, Option, Some, None, is_some, length, codes, refl}
+use Rattle.std.specs.Prelude.{Bool, true, false, ℕ, ℤ, ◌≡◌, ◌+◌, ◌≤◌, ◌<◌, ◌^◌, List, [], ◌∷◌, ◌++◌, Option, Some, None, is_some, length, codes, refl}
 use Rattle.std.specs.Int.{to_be_bytes, w32}
 use Rattle.std.specs.Option.{option_map, option_and_then}
 use Rattle.std.specs.FinMap.{get}
 use Rattle.ct_bytes.specs.Varints.{varint, text_bytes}
 use Rattle.ct_bytes.specs.RowKeys.{row_bytes}
 use Rattle.ct_base.specs.Names.{IsName}
+use Rattle.ct_entry.specs.declared.kinds.Kind.{Kind}
 use Rattle.ct_entry.specs.declared.kinds.Kind.TheVariants as kind
 use Rattle.ct_entry.specs.Keys.{Key, key, prefix_of, row_part, document_part, posting_part, span_part, IsRow, IsDocument, IsToken}
 use Rattle.ct_entry.specs.Changes.{put}
@@ -80,12 +81,29 @@ pub record IndexesSpelled (n : Numbering) (f : Key → Option (List ℕ)) (ts : 
 abbrev pub IndexesStand : (Key → Option (List ℕ)) → Tables → Names Index → Type 0
 IndexesStand f ts xs = (n : Numbering) × IsNumbering n xs × IndexesSpelled n f ts xs
 
+-- ---- the kinds
+
+-- the kinds of the entries of indexes
+abbrev pub is_of_indexes : Kind → Bool
+is_of_indexes kind.Indexes = true
+is_of_indexes kind.DocumentRows = true
+is_of_indexes kind.RowDocuments = true
+is_of_indexes kind.Pending = true
+is_of_indexes kind.Postings = true
+is_of_indexes kind.Spans = true
+is_of_indexes k = false
+
 -- ---- what is read from the entry of an index
 
 -- the entry is that of an index on this target with this next document; or of none
 abbrev pub SpellsIndex : Option (List ℕ) → Option (Target × ℕ) → Type 0
 SpellsIndex entry (Some p) = IsName p.0.table × (p.0.column < 256) × (p.1 < 2 ^ 32) × (entry ≡ Some (index_bytes p.0.table p.0.column p.1))
 SpellsIndex entry None = (table : List ℕ) (column next : ℕ) → IsName table → column < 256 → next < 2 ^ 32 → entry ≡ Some (index_bytes table column next) → ⊥
+
+-- Where the bytes are the entry of an index, these are its table, its column and its next document.
+abbrev pub HasIndexParts : List ℕ → Option (List ℕ × ℕ × ℕ) → Type 0
+HasIndexParts value parts =
+    (table : List ℕ) (column next : ℕ) → length table < 2 ^ 32 → next < 2 ^ 32 → value ≡ index_bytes table column next → parts ≡ Some (table, column, next)
 
 -- computed examples
 

@@ -8,7 +8,7 @@ ghost use Rattle.ct_keep.specs.Looks.{look, LooksAtMost};
 ghost use Rattle.ct_entry.specs.declared.kinds.Kind.TheVariants as kind;
 ghost use Rattle.ct_entry.specs.Keys.{key, bytes, at};
 ghost use Rattle.ix_context.specs.Spelling.{index_bytes, SpellsIndex, index_change};
-ghost use Rattle.ix_context.specs.EntryParts.{HasParts};
+ghost use Rattle.ix_context.specs.Spelling.{HasIndexParts};
 ghost use Rattle.ix_context.specs.Changes.{Adds};
 
 use ct_base::{Memory, Name};
@@ -48,7 +48,7 @@ pub(crate) fn put_index(
 
 /// The table, the column and the next document, where the bytes are those of an index.
 fn parts(value: &[u8]) -> Option<(&[u8], u8, u32)>
-    ensures { HasParts value.now (option_map (λ r. (r.0.now, r.1, r.2)) result) }
+    ensures { HasIndexParts value.now (option_map (λ r. (r.0.now, r.1, r.2)) result) }
 {
     let (table, at) = read_text(value, 1)?;
     let column = *value.get(at)?;

@@ -7,7 +7,7 @@ ghost use Rattle.ct_entry.specs.Keys.{posting_part};
 ghost use Rattle.ix_posting.specs.Rows.{IsPostingRow, posting_bytes};
 ghost use Rattle.ix_context.specs.Indexes.{target_text};
 ghost use Rattle.ix_context.specs.Changes.{posting_change, text_changes, document_changes, Adds, mark_row_changes};
-ghost use Rattle.ix_context.specs.TokenLaws.{IsPosting, HasShortText, if_short};
+ghost use Rattle.ix_context.specs.Postings.{IsPosting, HasShortText, if_short};
 ghost use Rattle.ix_context.specs.Sees.{ToldTables, SeesTables};
 
 use crate::inverting::postings;

@@ -7,7 +7,7 @@ use Rattle.ct_entry.specs.Keys.{prefix_of}
 use Rattle.ix_context.specs.Indexes.{found}
 use Rattle.ix_context.specs.Scoring.{HoldRows}
 use Rattle.ix_context.proofs.SearchSteps.{pairs_of}
-use Rattle.ix_context.specs.TokenLaws.{stands_nowhere}
+use Rattle.ix_context.specs.laws.Tokens.{stands_nowhere}
 use Rattle.ix_context.proofs.SyncSteps.{none_says, some_says}
 use Rattle.ix_context.proofs.SearchLaws.{finds, finds_none}
 use Rattle.ix_context.proofs.searching.search.Goals as goal

@@ -22,7 +22,6 @@ use Rattle.ct_entry.specs.laws.Maps.{get_name-insert, get_name-alter, get_row-in
 use Rattle.ct_entry.specs.Listings.{keys_where}
 use Rattle.ct_entry.specs.laws.Rows.{keys_below, keys_rise, listed_rise, has_key, keys_always}
 use Rattle.ct_entry.specs.laws.Changes.{told_frame, told-append, view-append}
-use Rattle.tb_table.specs.declared.columns.Column.{Column}
 use Rattle.tb_table.specs.declared.columns.Target.{Target}
 use Rattle.tb_table.specs.Tables.{Table, Tables, row_in, row_at, text_of, keys_in, row_keys, with_table, with_row}
 use Rattle.tb_table.specs.Rules.{AreTables}
@@ -30,38 +29,13 @@ use Rattle.tb_table.specs.laws.Changes.{row_at-with_table, row_at-with_row}
 use Rattle.tb_table.specs.laws.Reading.{row_of_table}
 use Rattle.ix_context.specs.declared.ranges.KeyRange.{KeyRange}
 use Rattle.ix_context.specs.Indexes.{Index, Mark, Pending, Marked, mark_of, is_marked, if_pending, pending_rows, text_seen, noted, synced_index, synced, in_range, rows_in, all_marked, created, with_index}
-use Rattle.ix_context.specs.Rules.{IsIndex, AreIndexes, most_given}
+use Rattle.ix_context.specs.Rules.{IsIndex, most_given}
 use Rattle.ix_context.specs.Postings.{postings_of}
 use Rattle.ix_context.specs.Spelling.{IndexesStand, index_bytes, index_entry, queued}
 use Rattle.ix_context.specs.Changes.{note_insert_changes, posting_change, text_changes, document_changes, mark_changes, numbered, settle_changes, sync_rows_changes, sync_changes, create_changes}
-use Rattle.ix_context.specs.Standing.{MarksStand, IndexStands, seen_in, stand_at, stand_all, index_sees, marks_see, one_changes, AllOn, all_on-append, all_on-each}
-use Rattle.ix_context.specs.MarkLaws.{with_mark, marks_marked, marks_queued, marks_settled, EachRow, each_among, marked_in, marked_in-at, marks_all}
-
--- ---- the laws
-
--- after CREATE TABLE of a name that is free
-abbrev pub IndexesStayWithTables : Type 0
-IndexesStayWithTables = (f : Key → Option (List ℕ)) (ts : Tables) (xs : Names Index) (t : List ℕ) (columns : List Column) → get ts t ≡ None → IndexesStand f ts xs → IndexesStand f (with_table ts t columns) xs
-
--- after INSERT of a row that isn't there
-abbrev pub IndexesStayWithRows : Type 0
-IndexesStayWithRows = (f : Key → Option (List ℕ)) (ts : Tables) (xs : Names Index) (t : List ℕ) (r : ℤ) (vs : List Value) (x : Table) → get ts t ≡ Some x → get x.rows r ≡ None → AreIndexes ts xs → IndexesStand f ts xs
-    → IndexesStand f (with_row ts t r vs) xs
-
--- after the note of a row that is new in an index
-abbrev pub NotedRowsStand : Type 0
-NotedRowsStand = (f : Key → Option (List ℕ)) (ts : Tables) (xs : Names Index) (i : List ℕ) (x : Index) (r : ℤ) → get xs i ≡ Some x → get x.marks r ≡ None → IsRow r → IndexesStand f ts xs
-    → IndexesStand (view (note_insert_changes i r) f) ts (noted xs i r)
-
--- after a synchronisation that has numbers for the rows that wait
-abbrev pub SyncedIndexesStand : Type 0
-SyncedIndexesStand = (f : Key → Option (List ℕ)) (ts : Tables) (xs : Names Index) (i : List ℕ) (x : Index) → get xs i ≡ Some x → x.given + length (pending_rows x) ≤ most_given → AreTables ts → AreIndexes ts xs → IndexesStand f ts xs
-    → IndexesStand (view (sync_changes ts i x) f) ts (synced xs i)
-
--- after CREATE INDEX of a name that is free, where there are numbers for the rows
-abbrev pub CreatedIndexesStand : Type 0
-CreatedIndexesStand = (f : Key → Option (List ℕ)) (ts : Tables) (xs : Names Index) (i : List ℕ) (target : Target) (range : KeyRange) → get xs i ≡ None → length (rows_in ts target.table range) ≤ most_given → AreTables ts → IndexesStand f ts xs
-    → IndexesStand (view (create_changes ts i target range) f) ts (with_index ts xs i target range)
+use Rattle.ix_context.specs.laws.Standing.{MarksStand, IndexStands, seen_in, stand_at, stand_all, index_sees, marks_see, one_changes, AllOn, all_on-append, all_on-each}
+use Rattle.ix_context.specs.laws.Marks.{with_mark, marks_marked, marks_queued, marks_settled, EachRow, each_among, marked_in, marked_in-at, marks_all}
+use Rattle.ix_context.specs.Promises.{IndexesStayWithTables, IndexesStayWithRows, NotedRowsStand, SyncedIndexesStand, CreatedIndexesStand}
 
 -- ---- new tables and rows
 

@@ -17,7 +17,7 @@ use Rattle.ct_entry.specs.Maps.{Names}
 use Rattle.tb_table.specs.Tables.{Tables}
 use Rattle.ix_context.specs.Postings.{positions}
 use Rattle.ix_context.specs.Indexes.{Index, Mark, mark_of, is_marked, text_seen}
-use Rattle.ix_context.specs.Spelling.{Numbering, IndexesStand, index_entry, queued, posting_value, document_text}
+use Rattle.ix_context.specs.Spelling.{Numbering, IndexesStand, index_entry, queued, posting_value, document_text, is_of_indexes}
 
 -- how many marks an index ever made; none where there is no index
 abbrev pub given_of : Option Index → ℕ
@@ -120,16 +120,6 @@ stand_all f ts xs each = (
     within i r d x here b = rw here at b
 
 -- ---- what matters to an index
-
--- the kinds of the entries of indexes
-abbrev pub is_of_indexes : Kind → Bool
-is_of_indexes kind.Indexes = true
-is_of_indexes kind.DocumentRows = true
-is_of_indexes kind.RowDocuments = true
-is_of_indexes kind.Pending = true
-is_of_indexes kind.Postings = true
-is_of_indexes kind.Spans = true
-is_of_indexes k = false
 
 -- only its own entries of these kinds
 pub index_agree : (f g : Key → Option (List ℕ)) (ts : Tables) (i : List ℕ) (o : Option Index) → ((k : Key) → k.owner ≡ i → is_of_indexes k.kind ≡ true → g k ≡ f k) → IndexStands f ts i o → IndexStands g ts i o

@@ -11,7 +11,7 @@ use Rattle.ct_bytes.specs.laws.RowKeys.{length-row_bytes}
 use Rattle.ct_keep.specs.Changes.{AreWell}
 use Rattle.ct_entry.specs.declared.kinds.Kind.{Kind}
 use Rattle.ct_entry.specs.declared.kinds.Kind.TheVariants as kind
-use Rattle.ct_entry.specs.Keys.{Key, key, bytes, IsRow, IsKey}
+use Rattle.ct_entry.specs.Keys.{Key, key, IsRow, IsKey}
 use Rattle.ct_entry.specs.Maps.{Names}
 use Rattle.ct_entry.specs.Changes.{put, spell, AreChanges, AllOf, Puts, AllPut}
 use Rattle.ct_entry.specs.Each.{each}
@@ -22,16 +22,16 @@ use Rattle.tb_table.specs.Tables.{Tables}
 use Rattle.tb_table.specs.Rules.{AreTables}
 use Rattle.ix_posting.specs.Rows.{steps, varints, posting_bytes}
 use Rattle.ix_context.specs.declared.ranges.KeyRange.{KeyRange}
-use Rattle.ix_context.specs.Postings.{postings_of}
-use Rattle.ix_context.specs.TokenLaws.{IsPosting, postings_fit, postings_few}
+use Rattle.ix_context.specs.Postings.{postings_of, IsPosting}
+use Rattle.ix_context.specs.laws.Tokens.{postings_fit, postings_few}
 use Rattle.ix_context.specs.Indexes.{Index, is_marked, pending_rows, text_seen, synced_index, rows_in, created, target_text}
 use Rattle.ix_context.specs.Rules.{AreIndexes, most_given}
-use Rattle.ix_context.specs.Spelling.{index_bytes, behind_table, index_entry}
+use Rattle.ix_context.specs.Spelling.{index_bytes, behind_table, index_entry, is_of_indexes}
 use Rattle.ix_context.specs.Changes.{note_insert_changes, posting_change, text_changes, document_changes, mark_changes, settle_changes, numbered, sync_rows_changes, sync_changes, create_changes}
-use Rattle.ix_context.specs.Standing.{is_of_indexes}
-use Rattle.ix_context.specs.MarkLaws.{EachRow}
-use Rattle.ix_context.specs.ChangeLaws.{pending_free, no_marks, rows_free}
-use Rattle.ix_context.specs.ReadLaws.{target_short, target_of}
+use Rattle.ix_context.specs.laws.Marks.{EachRow}
+use Rattle.ix_context.specs.laws.Changes.{pending_free, no_marks, rows_free}
+use Rattle.ix_context.specs.laws.Reading.{target_short, target_of}
+use Rattle.ix_context.specs.Promises.{TakesIndexes, NotesAreWell, SyncsAreWell, CreatesAreWell}
 
 -- ---- changes on entries of indexes
 
@@ -53,10 +53,6 @@ are_changes (w ∷ ws) are = (are.0.key, are_changes ws are.1)
 pub all_of_indexes : (ws : List (Key × Option (List ℕ))) → AreIndexChanges ws → AllOf is_of_indexes ws
 all_of_indexes [] are = tt
 all_of_indexes (w ∷ ws) are = (are.0.of, all_of_indexes ws are.1)
-
--- the keeper may hold whatever entries of indexes
-abbrev pub TakesIndexes : (List ℕ → List ℕ → Bool) → Type 0
-TakesIndexes well = (k : Key) (value : List ℕ) → is_of_indexes k.kind ≡ true → well (bytes k) value ≡ true
 
 short_kind : (k : Kind) → is_of_indexes k ≡ true → is_short k ≡ true
 short_kind kind.Catalogue of = cc
@@ -191,16 +187,6 @@ index_changes_create ts i target range are name table room = (
 )
 
 -- ---- the laws
-
--- what the changes of a note, a synchronisation and a new index put may be committed
-abbrev pub NotesAreWell : Type 0
-NotesAreWell = (well : List ℕ → List ℕ → Bool) (i : List ℕ) (r : ℤ) → TakesIndexes well → IsName i → IsRow r → AreWell well (spell (note_insert_changes i r))
-
-abbrev pub SyncsAreWell : Type 0
-SyncsAreWell = (well : List ℕ → List ℕ → Bool) (ts : Tables) (xs : Names Index) (i : List ℕ) (x : Index) → TakesIndexes well → AreTables ts → AreIndexes ts xs → get xs i ≡ Some x → x.given + length (pending_rows x) ≤ most_given → AreWell well (spell (sync_changes ts i x))
-
-abbrev pub CreatesAreWell : Type 0
-CreatesAreWell = (well : List ℕ → List ℕ → Bool) (ts : Tables) (i : List ℕ) (target : Target) (range : KeyRange) → TakesIndexes well → AreTables ts → IsName i → IsName target.table → length (rows_in ts target.table range) ≤ most_given → AreWell well (spell (create_changes ts i target range))
 
 pub well_note : NotesAreWell
 well_note well i r takes name row = well_changes well (note_insert_changes i r) takes (index_changes_note i r name row)

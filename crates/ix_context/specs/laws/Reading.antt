@@ -28,9 +28,9 @@ use Rattle.tb_table.specs.laws.Reading.{text_read, row_of_table}
 use Rattle.ix_context.specs.Indexes.{Index, Mark, mark_of, pending_rows, target_text}
 use Rattle.ix_context.specs.Rules.{IsTarget, HasTextAt}
 use Rattle.ix_context.specs.Spelling.{index_bytes, index_entry, behind_table, queued, SpellsIndex}
-use Rattle.ix_context.specs.Standing.{stand_at}
-use Rattle.ix_context.specs.ChangeLaws.{mark_is_row, pending_rows-where}
-use Rattle.ix_context.specs.TokenLaws.{HasShortText}
+use Rattle.ix_context.specs.laws.Standing.{stand_at}
+use Rattle.ix_context.specs.laws.Changes.{mark_is_row, pending_rows-where}
+use Rattle.ix_context.specs.Postings.{HasShortText}
 use Rattle.ix_context.specs.Stands.{HoldsTables, HoldsIndexes}
 
 -- ---- the entry of an index

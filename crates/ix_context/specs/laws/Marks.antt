@@ -25,11 +25,11 @@ use Rattle.ct_entry.specs.laws.Rows.{keys_below, keys_rise}
 use Rattle.ct_entry.specs.laws.Changes.{told_frame, view-append}
 use Rattle.ix_posting.specs.Rows.{posting_bytes}
 use Rattle.ix_context.specs.Postings.{positions, postings_of, if_any}
-use Rattle.ix_context.specs.PostingLaws.{get-postings_of}
+use Rattle.ix_context.specs.laws.Postings.{get-postings_of}
 use Rattle.ix_context.specs.Indexes.{Mark, Marked, is_marked}
 use Rattle.ix_context.specs.Spelling.{queued, posting_value}
 use Rattle.ix_context.specs.Changes.{posting_change, text_changes, document_changes, numbered}
-use Rattle.ix_context.specs.Standing.{AreNumbers, RowsStand, MarksStand}
+use Rattle.ix_context.specs.laws.Standing.{AreNumbers, RowsStand, MarksStand}
 
 -- ---- the kinds of a document's changes
 

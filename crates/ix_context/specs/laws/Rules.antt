@@ -1,5 +1,5 @@
 -- What statements make of the indexes keeps their rules.
-use Rattle.std.proofs.Common.{◌≡◌, ℕ, ℤ, pos, negsuc, ◌<ℤ◌, ◌+◌, ◌-◌, ◌^◌, ◌≤◌, Bool, true, false, cond, List, [], ◌∷◌, length, Option, Some, None, refl, sym, ap, subst, ◌∙◌, arith}
+use Rattle.std.proofs.Common.{◌≡◌, ℕ, ℤ, pos, negsuc, ◌<ℤ◌, ◌-◌, ◌^◌, ◌≤◌, Bool, true, false, cond, List, [], ◌∷◌, length, Option, Some, None, refl, sym, ap, subst, ◌∙◌, arith}
 use Rattle.std.specs.Prelude.{◌||◌, is_some, not, filter}
 use Rattle.std.specs.Option.{option_map}
 use Rattle.std.specs.List.{list_any}
@@ -29,39 +29,13 @@ use Rattle.tb_table.specs.Tables.{Table, Tables, row_at, row_keys, with_table, w
 use Rattle.tb_table.specs.Rules.{AreTables}
 use Rattle.tb_table.specs.laws.Changes.{get-with_table, row_at-with_table, row_at-with_row, columns-with_row}
 use Rattle.ix_context.specs.declared.ranges.KeyRange.{KeyRange}
-use Rattle.ix_context.specs.Indexes.{Index, Mark, Pending, Marked, pending_rows, noted, waiting_on, noted_on, synced_index, synced, in_range, rows_in, created, with_index}
-use Rattle.ix_context.specs.Rules.{IsTarget, HasTextAt, IsIndex, AreIndexes, most_given}
+use Rattle.ix_context.specs.Indexes.{Index, Mark, Pending, Marked, noted, waiting_on, noted_on, synced_index, synced, in_range, rows_in, created, with_index}
+use Rattle.ix_context.specs.Rules.{IsTarget, HasTextAt, IsIndex, most_given}
 use Rattle.ix_context.specs.Spelling.{IndexesStand}
 use Rattle.ix_context.specs.Changes.{note_insert_changes}
-use Rattle.ix_context.specs.MarkLaws.{EachRow, each_among}
-use Rattle.ix_context.specs.ChangeLaws.{get-alter_other, note_stands, row_listed, row_is_row, marked_row}
-
--- ---- the laws
-
--- a new table
-abbrev pub NewTablesKeepIndexRules : Type 0
-NewTablesKeepIndexRules = (ts : Tables) (xs : Names Index) (t : List ℕ) (columns : List Column) → get ts t ≡ None → AreIndexes ts xs → AreIndexes (with_table ts t columns) xs
-
--- a new row, which waits in each index on its table
-abbrev pub NewRowsKeepIndexRules : Type 0
-NewRowsKeepIndexRules = (ts : Tables) (xs : Names Index) (t : List ℕ) (r : ℤ) (vs : List Value) (x : Table) → get ts t ≡ Some x → AreIndexes ts xs → AreIndexes (with_row ts t r vs) (noted_on xs t r)
-
--- a synchronisation
-abbrev pub SyncsKeepIndexRules : Type 0
-SyncsKeepIndexRules = (ts : Tables) (xs : Names Index) (i : List ℕ) (x : Index) → get xs i ≡ Some x → x.given + length (pending_rows x) ≤ most_given → AreIndexes ts xs → AreIndexes ts (synced xs i)
-
--- the range has every row key
-abbrev pub HasAllRows : KeyRange → Type 0
-HasAllRows range = (r : ℤ) → IsRow r → in_range range r ≡ true
-
--- no index is on this column
-abbrev pub IsFreeColumn : Names Index → List ℕ → ℕ → Type 0
-IsFreeColumn xs t column = (j : List ℕ) (y : Index) → get xs j ≡ Some y → y.table ≡ t → y.column ≡ column → ⊥
-
--- a new index of a name that is free, over all rows, on a column of texts that has none
-abbrev pub CreatesKeepIndexRules : Type 0
-CreatesKeepIndexRules = (ts : Tables) (xs : Names Index) (i : List ℕ) (target : Target) (range : KeyRange) → IsName i → get xs i ≡ None → IsTarget ts target.table target.column → IsFreeColumn xs target.table target.column → HasAllRows range
-    → length (rows_in ts target.table range) ≤ most_given → AreTables ts → AreIndexes ts xs → AreIndexes ts (with_index ts xs i target range)
+use Rattle.ix_context.specs.laws.Marks.{EachRow, each_among}
+use Rattle.ix_context.specs.laws.Changes.{get-alter_other, note_stands, row_listed, row_is_row, marked_row}
+use Rattle.ix_context.specs.Promises.{NewTablesKeepIndexRules, NewRowsKeepIndexRules, SyncsKeepIndexRules, HasAllRows, CreatesKeepIndexRules, AreDistinct, is_on, AreIndexesOn, NotesOfRowsStand}
 
 -- ---- a new table
 
@@ -154,20 +128,6 @@ abbrev pub noted_each : Names Index → List (List ℕ) → ℤ → Names Index
 noted_each xs [] r = xs
 noted_each xs (i ∷ is) r = noted_each (noted xs i r) is r
 
--- no name stands twice
-abbrev pub AreDistinct : List (List ℕ) → Type 0
-AreDistinct [] = Unit {0}
-AreDistinct (i ∷ is) = (is_among i is ≡ false) × AreDistinct is
-
-abbrev pub is_on : List ℕ → Option Index → Bool
-is_on t None = false
-is_on t (Some x) = same_list x.table t
-
--- these are the names of the indexes on the table, each once
-pub record AreIndexesOn (xs : Names Index) (t : List ℕ) (names : List (List ℕ)) : Type 0 where
-  pub distinct : AreDistinct names
-  pub each : (i : List ℕ) → is_among i names ≡ is_on t (get xs i)
-
 abbrev waiting : ℤ → Index → Index
 waiting r x = record x { marks = insert x.marks r Pending }
 
@@ -239,11 +199,6 @@ notes_stand (i ∷ is) f ts xs r row distinct new stand =
     let one = note_stands f ts xs i new.0.0 r new.0.1 new.0.2 row stand in
     let rest = notes_stand is (view (note_insert_changes i r) f) ts (noted xs i r) r row distinct.1 (still_new xs i r is distinct.0 new.1) one in
     subst (λ (g : Key → Option (List ℕ)). IndexesStand g ts (noted_each (noted xs i r) is r)) (sym (view-append (note_insert_changes i r) (each (λ i. note_insert_changes i r) is) f)) rest
-
--- after a note of a row that is new in each index on its table
-abbrev pub NotesOfRowsStand : Type 0
-NotesOfRowsStand = (f : Key → Option (List ℕ)) (ts : Tables) (xs : Names Index) (t : List ℕ) (r : ℤ) (names : List (List ℕ)) → AreIndexesOn xs t names → ((i : List ℕ) (x : Index) → get xs i ≡ Some x → x.table ≡ t → get x.marks r ≡ None) → IsRow r → IndexesStand f ts xs
-    → IndexesStand (view (each (λ i. note_insert_changes i r) names) f) ts (noted_on xs t r)
 
 pub row_notes_stand : NotesOfRowsStand
 row_notes_stand f ts xs t r names are free row stand =
