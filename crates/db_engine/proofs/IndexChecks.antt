@@ -24,7 +24,7 @@ use Rattle.tb_table.specs.Tables.{Table, keys_in, row_keys}
 use Rattle.tb_table.specs.Rules.{AreTables}
 use Rattle.ix_context.specs.Indexes.{Index, rows_in}
 use Rattle.ix_context.specs.Rules.{most_given}
-use Rattle.ix_context.specs.RuleLaws.{rows_in-all}
+use Rattle.ix_context.specs.laws.Rules.{rows_in-all}
 use Rattle.db_names.specs.declared.heads.IndexHead.{IndexHead}
 use Rattle.db_names.specs.HeadLaws.{is_of, heads_of}
 use Rattle.db_cond.specs.Faults.{UnknownName}

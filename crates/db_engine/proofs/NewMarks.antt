@@ -27,11 +27,11 @@ use Rattle.tb_table.specs.ChangeLaws.{is_of_tables, tables_frame}
 use Rattle.ix_context.specs.Indexes.{Index, pending_rows, synced, synced_index, rows_in, created, with_index}
 use Rattle.ix_context.specs.Changes.{sync_changes, create_changes}
 use Rattle.ix_context.specs.Rules.{most_given, IsTextSort, HasTextAt, IsTarget}
-use Rattle.ix_context.specs.Spelling.{IndexesStand}
-use Rattle.ix_context.specs.Standing.{is_of_indexes}
-use Rattle.ix_context.specs.ChangeLaws.{sync_stands, create_stands}
-use Rattle.ix_context.specs.RuleLaws.{HasAllRows, IsFreeColumn, sync_keeps, create_keeps}
-use Rattle.ix_context.specs.WellLaws.{are_changes, all_of_indexes, well_changes, index_changes_sync, index_changes_create}
+use Rattle.ix_context.specs.Spelling.{IndexesStand, is_of_indexes}
+use Rattle.ix_context.specs.laws.Changes.{sync_stands, create_stands}
+use Rattle.ix_context.specs.Promises.{HasAllRows, IsFreeColumn}
+use Rattle.ix_context.specs.laws.Rules.{sync_keeps, create_keeps}
+use Rattle.ix_context.specs.laws.Well.{are_changes, all_of_indexes, well_changes, index_changes_sync, index_changes_create}
 use Rattle.db_engine.specs.Calling.{has_too_many, with_synced}
 use Rattle.db_engine.specs.Committing.{are_bounded}
 use Rattle.db_engine.specs.Creating.{is_text_sort, is_text_at, has_index_on, has_too_many_rows, all_rows, target, with_new_index, IsFreeIndex}

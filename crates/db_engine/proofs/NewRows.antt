@@ -32,10 +32,10 @@ use Rattle.tb_table.specs.RuleLaws.{insert_keeps}
 use Rattle.tb_table.specs.WellLaws.{are_insert, short_insert, puts_insert, row_places}
 use Rattle.ix_context.specs.Indexes.{Index, Pending, waiting_on, noted_on}
 use Rattle.ix_context.specs.Rules.{AreIndexes}
-use Rattle.ix_context.specs.Spelling.{IndexesStand}
+use Rattle.ix_context.specs.Spelling.{IndexesStand, is_of_indexes}
 use Rattle.ix_context.specs.Changes.{note_insert_changes}
-use Rattle.ix_context.specs.Standing.{is_of_indexes, indexes_frame}
-use Rattle.ix_context.specs.ChangeLaws.{stay_with_row}
+use Rattle.ix_context.specs.laws.Standing.{indexes_frame}
+use Rattle.ix_context.specs.laws.Changes.{stay_with_row}
 use Rattle.db_names.specs.declared.heads.IndexHead.{IndexHead}
 use Rattle.db_names.specs.HeadLaws.{head_of, heads_of, heads_at, heads_rise}
 use Rattle.db_names.specs.PairLaws.{lookup-find}
@@ -45,7 +45,8 @@ use Rattle.db_engine.specs.Inserting.{note_all_changes, with_new_row}
 use Rattle.db_engine.proofs.Heads.{heads, get-heads, head_of_index}
 use Rattle.db_engine.proofs.Bounded.{any_entry, bounded_well}
 use Rattle.db_engine.proofs.EachValue.{entries-each_value, count_alike}
-use Rattle.ix_context.specs.RuleLaws.{is_on, AreDistinct, AreIndexesOn, row_keeps, row_notes_stand}
+use Rattle.ix_context.specs.Promises.{is_on, AreDistinct, AreIndexesOn}
+use Rattle.ix_context.specs.laws.Rules.{row_keeps, row_notes_stand}
 
 -- ---- the indexes on a table
 

@@ -23,9 +23,9 @@ use Rattle.tb_table.specs.RuleLaws.{create_keeps}
 use Rattle.tb_table.specs.WellLaws.{are_create}
 use Rattle.ix_context.specs.Indexes.{Index}
 use Rattle.ix_context.specs.Rules.{AreIndexes, IsTarget}
-use Rattle.ix_context.specs.Spelling.{IndexesStand}
-use Rattle.ix_context.specs.Standing.{is_of_indexes, indexes_frame}
-use Rattle.ix_context.specs.ChangeLaws.{stay_with_table}
+use Rattle.ix_context.specs.Spelling.{IndexesStand, is_of_indexes}
+use Rattle.ix_context.specs.laws.Standing.{indexes_frame}
+use Rattle.ix_context.specs.laws.Changes.{stay_with_table}
 use Rattle.st_parse.specs.declared.statements.ColumnText.{ColumnText}
 use Rattle.st_parse.specs.declared.statements.SortText.{SortText}
 use Rattle.st_parse.specs.declared.statements.SortText.TheVariants.{Number as NumberText, Varchar2 as Varchar2Text, Clob as ClobText}
