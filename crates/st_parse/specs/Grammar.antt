@@ -40,6 +40,10 @@ IsStatement ls (Exec pack procedure args) =
     (word : Keyword) × ((list : List Lexeme) × IsExec word × AreArgs list args × IsCall pack procedure args × (ls ≡ Word word ∷ Name pack ∷ Sign Dot ∷ Name procedure ∷ list))
 IsStatement ls statement = ⊥
 
+-- they are none
+abbrev pub IsNoStatement : List Lexeme → Type 0
+IsNoStatement ls = (s : Statement) → ¬ (IsStatement ls s)
+
 -- The same as a function: the statement of some lexemes.
 abbrev pub statement_of : List Lexeme → Option Statement
 statement_of (Word CREATE ∷ ls) = create_of ls
