@@ -28,7 +28,8 @@ abbrev score_at : Tables → Index → List ℕ → ℕ → ℤ → Mark → Opt
 score_at ts x key n r Pending = None
 score_at ts x key n r Marked = option_and_then (λ text. score_above n (word_score key text)) (text_seen ts x r)
 
-at_row : (ts : Tables) (x : Index) (key : List ℕ) (n : ℕ) (r : ℤ) (m : Mark) → found_at ts x key n r m ≡ option_map {U = ℤ × ℕ} (λ s. (r, s)) (score_at ts x key n r m)
+at_row : (ts : Tables) (x : Index) (key : List ℕ) (n : ℕ) (r : ℤ) (m : Mark)
+    → found_at ts x key n r m ≡ option_map {U = ℤ × ℕ} (λ s. (r, s)) (score_at ts x key n r m)
 at_row ts x key n r Pending = refl
 at_row ts x key n r Marked = go (text_seen ts x r)
   where
@@ -40,7 +41,8 @@ at_row ts x key n r Marked = go (text_seen ts x r)
     go None = refl
     go (Some text) = above (nat_lt n (word_score key text)) (word_score key text)
 
-as_mapped : (ts : Tables) (x : Index) (key : List ℕ) (n : ℕ) (es : List (ℤ × Mark)) → filter_map (λ e. found_at ts x key n e.0 e.1) es ≡ mapped_entries (score_at ts x key n) es
+as_mapped : (ts : Tables) (x : Index) (key : List ℕ) (n : ℕ) (es : List (ℤ × Mark))
+    → filter_map (λ e. found_at ts x key n e.0 e.1) es ≡ mapped_entries (score_at ts x key n) es
 as_mapped ts x key n [] = refl
 as_mapped ts x key n (e ∷ es) =
     ap (λ (o : Option (ℤ × ℕ)). cons_option o (filter_map (λ e. found_at ts x key n e.0 e.1) es)) (at_row ts x key n e.0 e.1)
@@ -58,19 +60,22 @@ at_key ts x key n r =
     ∙ find_mapped int_cmp int_cmp_total int_cmp-IsAntisymmetric (score_at ts x key n) r (entries x.marks) (entries_rise int_cmp x.marks)
     ∙ ap (option_and_then (score_at ts x key n r)) (sym (get-entries x.marks r))
 
-is_found : (ts : Tables) (x : Index) (key : List ℕ) (n : ℕ) (r : ℤ) (score : ℕ) → (o : Option Mark) → get x.marks r ≡ o → option_and_then (score_at ts x key n r) o ≡ Some score → IsFound ts x key n r score
+is_found : (ts : Tables) (x : Index) (key : List ℕ) (n : ℕ) (r : ℤ) (score : ℕ) → (o : Option Mark) → get x.marks r ≡ o
+    → option_and_then (score_at ts x key n r) o ≡ Some score → IsFound ts x key n r score
 is_found ts x key n r score None at is = absurd (cc)
 is_found ts x key n r score (Some Pending) at is = absurd (cc)
 is_found ts x key n r score (Some Marked) at is = by_text (text_seen ts x r) refl is
   where
-    by_score : (text : List ℕ) → text_seen ts x r ≡ Some text → (b : Bool) → nat_lt n (word_score key text) ≡ b → cond b (Some (word_score key text)) None ≡ Some score → IsFound ts x key n r score
+    by_score : (text : List ℕ) → text_seen ts x r ≡ Some text → (b : Bool) → nat_lt n (word_score key text) ≡ b
+        → cond b (Some (word_score key text)) None ≡ Some score → IsFound ts x key n r score
     by_score text seen true above is =
         let same : word_score key text ≡ score = same_Some _ _ is in
         let over = ltb-true n (word_score key text) above in
         record { marked = at; text = text; seen = seen; scores = sym same; above = rw (sym same) over }
     by_score text seen false above is = absurd (cc)
 
-    by_text : (o : Option (List ℕ)) → text_seen ts x r ≡ o → option_and_then (λ text. score_above n (word_score key text)) o ≡ Some score → IsFound ts x key n r score
+    by_text : (o : Option (List ℕ)) → text_seen ts x r ≡ o → option_and_then (λ text. score_above n (word_score key text)) o ≡ Some score
+        → IsFound ts x key n r score
     by_text None seen is = absurd (cc)
     by_text (Some text) seen is = by_score text seen (nat_lt n (word_score key text)) refl is
 

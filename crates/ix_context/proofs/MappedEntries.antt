@@ -37,7 +37,8 @@ module _ {K X Y : Type 0} (R : K → K → Ordering) (total : IsTotalOrder R) (e
       let b = and_parts (below R e.0 es) (rises R es) h in
       at_head (g e.0 e.1) (below_mapped e.0 es b.0) (mapped_rise es b.1)
     where
-      at_head : (o : Option Y) → below R e.0 (mapped_entries g es) ≡ true → rises R (mapped_entries g es) ≡ true → rises R (mapped_at e.0 o (mapped_entries g es)) ≡ true
+      at_head : (o : Option Y) → below R e.0 (mapped_entries g es) ≡ true → rises R (mapped_entries g es) ≡ true
+          → rises R (mapped_at e.0 o (mapped_entries g es)) ≡ true
       at_head None l rest = rest
       at_head (Some y) l rest = and_from _ _ l rest
 

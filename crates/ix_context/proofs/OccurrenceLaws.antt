@@ -18,7 +18,8 @@ use Rattle.ix_context.specs.Occurrences.{had, with_position, with_positions}
 use Rattle.ct_entry.specs.laws.Keys.{list_from_same}
 use Rattle.ct_entry.specs.laws.Maps.{get_name-insert, get_name-remove}
 
-get-with_position : (m : Content) (w : List ℕ) (p : ℕ) (q : List ℕ) → get (with_position m w p) q ≡ cond (same_list q w) (Some (had (get m w) ++ p ∷ [])) (get m q)
+get-with_position : (m : Content) (w : List ℕ) (p : ℕ) (q : List ℕ)
+    → get (with_position m w p) q ≡ cond (same_list q w) (Some (had (get m w) ++ p ∷ [])) (get m q)
 get-with_position m w p q =
     get_name-insert (remove m w) w (had (get m w) ++ p ∷ []) q
     ∙ ap (cond (same_list q w) (Some (had (get m w) ++ p ∷ []))) (get_name-remove m w q)

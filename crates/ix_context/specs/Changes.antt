@@ -63,12 +63,14 @@ settle_changes ts i x p = settle_with i (text_seen ts x) p
 -- each row that waits becomes a document, and the index has given these; nothing where no row waits
 abbrev pub sync_rows_changes : Tables → List ℕ → Index → List ℤ → List (Key × Option (List ℕ))
 sync_rows_changes ts i x [] = []
-sync_rows_changes ts i x (r ∷ rs) = each (settle_changes ts i x) (numbered (x.given + 1) (r ∷ rs)) ++ put (key kind.Indexes i []) (index_entry (synced_index x)) ∷ []
+sync_rows_changes ts i x (r ∷ rs) =
+    each (settle_changes ts i x) (numbered (x.given + 1) (r ∷ rs)) ++ put (key kind.Indexes i []) (index_entry (synced_index x)) ∷ []
 
 -- the same for an index on a target that gives this document next, where rows have these texts
 abbrev pub settled_with : List ℕ → Target → (ℤ → Option (List ℕ)) → ℕ → List ℤ → List (Key × Option (List ℕ))
 settled_with i target text first [] = []
-settled_with i target text first (r ∷ rs) = each (settle_with i text) (numbered first (r ∷ rs)) ++ put (key kind.Indexes i []) (index_bytes target.table target.column (first + length (r ∷ rs))) ∷ []
+settled_with i target text first (r ∷ rs) =
+    each (settle_with i text) (numbered first (r ∷ rs)) ++ put (key kind.Indexes i []) (index_bytes target.table target.column (first + length (r ∷ rs))) ∷ []
 
 abbrev pub sync_changes : Tables → List ℕ → Index → List (Key × Option (List ℕ))
 sync_changes ts i x = sync_rows_changes ts i x (pending_rows x)

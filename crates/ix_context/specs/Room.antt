@@ -23,7 +23,8 @@ last_document = 2 ^ 32 - 1
 
 -- what a document costs: for each of its words the entry that has this posting alone, under the greatest number
 abbrev pub posting_room : List ℕ → List ℕ × List ℕ → ℕ
-posting_room i e = key_weight (key kind.Postings i (posting_part 0 e.0 last_document)) (posting_bytes (record { document = last_document; positions = e.1 } ∷ []))
+posting_room i e =
+    key_weight (key kind.Postings i (posting_part 0 e.0 last_document)) (posting_bytes (record { document = last_document; positions = e.1 } ∷ []))
 
 abbrev pub document_cost : List ℕ → Option (List ℕ) → ℕ
 document_cost i None = 0
@@ -41,7 +42,8 @@ abbrev pub longest_resume : ℕ
 longest_resume = 258
 
 abbrev pub index_room : Tables → List ℕ × Index → ℕ
-index_room ts e = max 64 (length (bytes (key kind.Indexes e.0 [])) + (length (index_entry e.1) - 2 + longest_resume)) + sum_by (mark_room ts e.0 e.1) (entries e.1.marks)
+index_room ts e =
+    max 64 (length (bytes (key kind.Indexes e.0 [])) + (length (index_entry e.1) - 2 + longest_resume)) + sum_by (mark_room ts e.0 e.1) (entries e.1.marks)
 
 -- computed examples
 

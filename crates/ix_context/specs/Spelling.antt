@@ -74,7 +74,8 @@ pub record IndexesSpelled (n : Numbering) (f : Key → Option (List ℕ)) (ts : 
   pub rows : (i : List ℕ) (d : ℕ) → IsDocument d → f (key kind.DocumentRows i (document_part d)) ≡ option_map row_bytes (n.row i d)
   pub documents : (i : List ℕ) (r : ℤ) → IsRow r → f (key kind.RowDocuments i (row_part r)) ≡ option_map (to_be_bytes w32) (n.document i r)
   pub queue : (i : List ℕ) (r : ℤ) → IsRow r → f (key kind.Pending i (row_part r)) ≡ queued (mark_at xs i r)
-  pub postings : (i token : List ℕ) (d : ℕ) → IsToken token → IsDocument d → f (key kind.Postings i (posting_part 0 token d)) ≡ option_and_then (λ text. posting_value d (positions token text)) (document_text n ts xs i d)
+  pub postings : (i token : List ℕ) (d : ℕ) → IsToken token → IsDocument d
+      → f (key kind.Postings i (posting_part 0 token d)) ≡ option_and_then (λ text. posting_value d (positions token text)) (document_text n ts xs i d)
   pub streams : (i token : List ℕ) (s d : ℕ) → 1 ≤ s → s ≤ 64 → IsToken token → IsDocument d → f (key kind.Postings i (posting_part s token d)) ≡ None
   pub spans : (i section : List ℕ) (d : ℕ) → IsName section → IsDocument d → f (key kind.Spans i (span_part section d)) ≡ None
 

@@ -39,7 +39,8 @@ opened_push limit held b h k = elim (cases_Bool (eqb b 10)) [
 
 -- one more byte
 pub stands_push : (limit : ℕ) (now new : Seen) (held : List ℕ) (b : ℕ) → StandsOpen limit now held → (b ≡ 10 → now.stop ≡ None)
-    → new.limit ≡ now.limit → new.kept ≡ take now.limit (now.kept ++ b ∷ []) → new.count ≡ min (now.count + 1) (now.limit + 1) → new.stop ≡ next_stop now.stop now.count b
+    → new.limit ≡ now.limit → new.kept ≡ take now.limit (now.kept ++ b ∷ []) → new.count ≡ min (now.count + 1) (now.limit + 1)
+    → new.stop ≡ next_stop now.stop now.count b
     → StandsOpen limit new (held ++ b ∷ [])
 stands_push limit now new held b s k l e c t = record {
   opened = opened_push limit held b s.opened (λ x. sym s.stop ∙ k x);
@@ -51,7 +52,8 @@ stands_push limit now new held b s k l e c t = record {
 
 -- the same, from the fields that make up what is seen
 pub stands_push_inside : (limit : ℕ) (inside now new : Seen) (held : List ℕ) (b : ℕ) → inside ≡ now → StandsOpen limit now held → (b ≡ 10 → now.stop ≡ None)
-    → new.limit ≡ inside.limit → new.kept ≡ take inside.limit (inside.kept ++ b ∷ []) → new.count ≡ min (inside.count + 1) (inside.limit + 1) → new.stop ≡ next_stop inside.stop inside.count b
+    → new.limit ≡ inside.limit → new.kept ≡ take inside.limit (inside.kept ++ b ∷ []) → new.count ≡ min (inside.count + 1) (inside.limit + 1)
+    → new.stop ≡ next_stop inside.stop inside.count b
     → StandsOpen limit new (held ++ b ∷ [])
 stands_push_inside limit inside now new held b v s k =
     stands_push limit inside new held b (subst (λ (x : Seen). StandsOpen limit x held) (sym v) s) (λ n. ap (λ (x : Seen). x.stop) v ∙ k n)
@@ -60,11 +62,14 @@ some_is : (a b : ℕ) → Some a ≡ Some b → a ≡ b
 some_is a b h = cc
 
 -- the statement that ends now, from what is seen
-pub stands_statement : (limit stop : ℕ) (now : Seen) (held statement : List ℕ) → StandsOpen limit now held → first_statement true held ≡ Some (statement, []) → now.stop ≡ Some stop
+pub stands_statement : (limit stop : ℕ) (now : Seen) (held statement : List ℕ) → StandsOpen limit now held
+    → first_statement true held ≡ Some (statement, []) → now.stop ≡ Some stop
     → stop ≡ clip limit (length statement)
-stands_statement limit stop now held statement s h e = let p : Some stop ≡ end_count limit (first_statement true held) = sym e ∙ s.stop in some_is _ _ (rw h at p)
+stands_statement limit stop now held statement s h e =
+    let p : Some stop ≡ end_count limit (first_statement true held) = sym e ∙ s.stop in some_is _ _ (rw h at p)
 
-pub statement_kept : (limit stop : ℕ) (now : Seen) (held statement : List ℕ) → StandsOpen limit now held → first_statement true held ≡ Some (statement, []) → now.stop ≡ Some stop
+pub statement_kept : (limit stop : ℕ) (now : Seen) (held statement : List ℕ) → StandsOpen limit now held
+    → first_statement true held ≡ Some (statement, []) → now.stop ≡ Some stop
     → stop ≤ limit → (take stop now.kept ≡ statement) × (length statement ≤ limit)
 statement_kept limit stop now held statement s h e w =
     let p : stop ≡ clip limit (length statement) = stands_statement limit stop now held statement s h e in

@@ -18,7 +18,8 @@ use Rattle.st_parse.proofs.Spelt.{Spelt, Follows, Wholly, enclosed_last-spelt, e
 
 sort-spelt : (ls : List Lexeme) → Spelt IsSortText (sort_text_at ls) ls
 sort-spelt (Word NUMBER ∷ ls) = (Word NUMBER ∷ [], refl, refl)
-sort-spelt (Word VARCHAR2 ∷ Sign Open ∷ Number digits ∷ Sign Close ∷ ls) = (Word VARCHAR2 ∷ Sign Open ∷ Number digits ∷ Sign Close ∷ [], (digits, refl, refl), refl)
+sort-spelt (Word VARCHAR2 ∷ Sign Open ∷ Number digits ∷ Sign Close ∷ ls) =
+    (Word VARCHAR2 ∷ Sign Open ∷ Number digits ∷ Sign Close ∷ [], (digits, refl, refl), refl)
 sort-spelt (Word CLOB ∷ ls) = (Word CLOB ∷ [], refl, refl)
 sort-spelt ls = tt
 
@@ -26,7 +27,8 @@ key-spelt : (ls : List Lexeme) → ls ≡ primary_key (primary_key_at ls).0 ++ (
 key-spelt (Word PRIMARY ∷ Word KEY ∷ ls) = refl
 key-spelt ls = refl
 
-sorted-spelt : (name : List ℕ) (o : Option (SortText × List Lexeme)) (ls : List Lexeme) → Spelt IsSortText o ls → Spelt IsColumn (o >>= λ sort. Some (column_text name sort.0 (primary_key_at sort.1))) (Name name ∷ ls)
+sorted-spelt : (name : List ℕ) (o : Option (SortText × List Lexeme)) (ls : List Lexeme) → Spelt IsSortText o ls
+    → Spelt IsColumn (o >>= λ sort. Some (column_text name sort.0 (primary_key_at sort.1))) (Name name ∷ ls)
 sorted-spelt name None ls is = tt
 sorted-spelt name (Some (sort, rest)) ls (front, is, e) =
     let found = primary_key_at rest in
@@ -85,7 +87,8 @@ create_table-means (Name name ∷ ls) = table-means name (enclosed_last column_a
 create_table-means ls = tt
 
 create_index-means : (ls : List Lexeme) → Wholly IsStatement (create_index_of ls) (Word CREATE ∷ Word INDEX ∷ ls)
-create_index-means (Name name ∷ Word ON ∷ Name table ∷ Sign Open ∷ Name column ∷ Sign Close ∷ ls) = index-means name table column (kind_of ls) ls (kind-spelt ls)
+create_index-means (Name name ∷ Word ON ∷ Name table ∷ Sign Open ∷ Name column ∷ Sign Close ∷ ls) =
+    index-means name table column (kind_of ls) ls (kind-spelt ls)
 create_index-means ls = tt
 
 pub create-means : (ls : List Lexeme) → Wholly IsStatement (create_of ls) (Word CREATE ∷ ls)
@@ -93,8 +96,10 @@ create-means (Word TABLE ∷ ls) = create_table-means ls
 create-means (Word INDEX ∷ ls) = create_index-means ls
 create-means ls = tt
 
-pub table-again : (name : List ℕ) (columns : List ColumnText) (list : List Lexeme) → AreEnclosed IsColumn list columns → create_of (Word TABLE ∷ Name name ∷ list) ≡ Some (CreateTable name columns)
-table-again name columns list are = ap (λ o. o >>= λ found. Some (CreateTable name found)) (enclosed_last-again IsColumn column_at column-again list columns are)
+pub table-again : (name : List ℕ) (columns : List ColumnText) (list : List Lexeme) → AreEnclosed IsColumn list columns
+    → create_of (Word TABLE ∷ Name name ∷ list) ≡ Some (CreateTable name columns)
+table-again name columns list are =
+    ap (λ o. o >>= λ found. Some (CreateTable name found)) (enclosed_last-again IsColumn column_at column-again list columns are)
 
 pub index-again : (name table column : List ℕ) (kind : IndexKind) (kinds : List Lexeme) → IsKind kinds kind
     → create_of (Word INDEX ∷ Name name ∷ Word ON ∷ Name table ∷ Sign Open ∷ Name column ∷ Sign Close ∷ Word INDEXTYPE ∷ Word IS ∷ kinds) ≡ Some (CreateIndex name table column kind None None)

@@ -70,7 +70,8 @@ refused-lexemes (l ∷ ls) is = (λ e. cc, λ s statement. differ s (sym (statem
     differ : (s : Statement) → Some s ≡ None → ⊥
     differ s e = cc
 
-pub refused : (r : Result (Option Statement) StatementFault) (text : List ℕ) → ParseGives r (read text) → IsErrOf r Syntax → (ls : List Lexeme) → lexemes text ≡ Some ls → IsRefused ls
+pub refused : (r : Result (Option Statement) StatementFault) (text : List ℕ) → ParseGives r (read text) → IsErrOf r Syntax → (ls : List Lexeme)
+    → lexemes text ≡ Some ls → IsRefused ls
 refused (Ok None) text gives is ls lexed = cc
 refused (Ok (Some s)) text gives is ls lexed = cc
 refused (Err Syntax) text gives is ls lexed = refused-lexemes ls (sym (ap read_lexemes lexed) ∙ gives)

@@ -64,9 +64,11 @@ from-means : (items : List Item) (list ls : List Lexeme) → AreListed IsItem li
 from-means items list (Word FROM ∷ Name table ∷ Word WHERE ∷ ls) are = made-means items table list ls (pred_of ls) are (pred-spelt ls)
 from-means items list ls are = tt
 
-list_at-means : (o : Option (List Item × List Lexeme)) (ls : List Lexeme) → Spelt (AreListed IsItem) o ls → Wholly IsStatement (o >>= λ items. from_of items.0 items.1) (Word SELECT ∷ ls)
+list_at-means : (o : Option (List Item × List Lexeme)) (ls : List Lexeme) → Spelt (AreListed IsItem) o ls
+    → Wholly IsStatement (o >>= λ items. from_of items.0 items.1) (Word SELECT ∷ ls)
 list_at-means None ls are = tt
-list_at-means (Some (items, rest)) ls (list, are, e) = subst (λ x. Wholly IsStatement (from_of items rest) (Word SELECT ∷ x)) (sym e) (from-means items list rest are)
+list_at-means (Some (items, rest)) ls (list, are, e) =
+    subst (λ x. Wholly IsStatement (from_of items rest) (Word SELECT ∷ x)) (sym e) (from-means items list rest are)
 
 pub select-means : (ls : List Lexeme) → Wholly IsStatement (select_of ls) (Word SELECT ∷ ls)
 select-means ls = list_at-means (list_at item_at ls) ls (list_at-spelt IsItem item_at item-spelt ls)

@@ -26,14 +26,16 @@ Follows (Word FROM ∷ ls) = Unit {0}
 Follows ls = ⊥
 
 module _ {A : Type 0} (Is : List Lexeme → A → Type 0) (item : Reader A) (spelt : (ls : List Lexeme) → Spelt Is (item ls) ls) where
-  more-spelt : (a : A) (front next ls : List Lexeme) (o : Option (List A × List Lexeme)) → Is front a → ls ≡ front ++ Sign Comma ∷ next → Spelt (AreListed Is) o next
+  more-spelt : (a : A) (front next ls : List Lexeme) (o : Option (List A × List Lexeme)) → Is front a → ls ≡ front ++ Sign Comma ∷ next
+      → Spelt (AreListed Is) o next
       → Spelt (AreListed Is) (o >>= λ more. Some (a ∷ more.0, more.1)) ls
   more-spelt a front next ls None is e more = tt
   more-spelt a front next ls (Some ([], rest)) is e (back, none, e') = absurd none
   more-spelt a front next ls (Some (b ∷ bs, rest)) is e (back, are, e') =
       (front ++ Sign Comma ∷ back, (front, back, refl, is, are), e ∙ ap (λ x. front ++ Sign Comma ∷ x) e' ∙ sym (append_assoc front (Sign Comma ∷ back) rest))
 
-  joined-spelt : (o : Option (A × List Lexeme)) (ls : List Lexeme) (next : Reader (List A)) → Spelt Is o ls → ((ms : List Lexeme) → Spelt (AreListed Is) (next ms) ms)
+  joined-spelt : (o : Option (A × List Lexeme)) (ls : List Lexeme) (next : Reader (List A)) → Spelt Is o ls
+      → ((ms : List Lexeme) → Spelt (AreListed Is) (next ms) ms)
       → Spelt (AreListed Is) (o >>= λ a. joined a.0 a.1 next) ls
   joined-spelt None ls next is more = tt
   joined-spelt (Some (a, Sign Comma ∷ ms)) ls next (front, is, e) more = more-spelt a front ms ls (next ms) is e (more ms)
@@ -64,7 +66,8 @@ module _ {A : Type 0} (Is : List Lexeme → A → Type 0) (item : Reader A) (spe
   enclosed_last-spelt ls = last-spelt (enclosed item ls) ls (enclosed-spelt ls)
 
 module _ {A : Type 0} (Is : List Lexeme → A → Type 0) (item : Reader A) (again : (front rest : List Lexeme) (a : A) → Is front a → Follows rest → item (front ++ rest) ≡ Some (a, rest)) where
-  limited_list_at-again : (most : ℕ) (a : A) (more : List A) (ls rest : List Lexeme) → AreListed Is ls (a ∷ more) → Follows rest → EndsList rest → length (ls ++ rest) < most
+  limited_list_at-again : (most : ℕ) (a : A) (more : List A) (ls rest : List Lexeme) → AreListed Is ls (a ∷ more) → Follows rest → EndsList rest
+      → length (ls ++ rest) < most
       → limited_list_at item most (ls ++ rest) ≡ Some (a ∷ more, rest)
   limited_list_at-again zero a more ls rest are follows ends less = absurd (omega arith)
   limited_list_at-again (suc most) a [] ls rest is follows ends less =
@@ -76,7 +79,8 @@ module _ {A : Type 0} (Is : List Lexeme → A → Type 0) (item : Reader A) (aga
       ∙ ap (λ o. o >>= λ a. joined a.0 a.1 (limited_list_at item most)) (again front (Sign Comma ∷ (back ++ rest)) a is tt)
       ∙ ap (λ o. o >>= λ more. Some (a ∷ more.0, more.1)) (limited_list_at-again most b bs back rest are follows ends shorter)
 
-  pub list_at-again : (ls rest : List Lexeme) (items : List A) → AreListed Is ls items → Follows rest → EndsList rest → list_at item (ls ++ rest) ≡ Some (items, rest)
+  pub list_at-again : (ls rest : List Lexeme) (items : List A) → AreListed Is ls items → Follows rest → EndsList rest
+      → list_at item (ls ++ rest) ≡ Some (items, rest)
   list_at-again ls rest [] are follows ends = absurd are
   list_at-again ls rest (a ∷ more) are follows ends = limited_list_at-again (suc (length (ls ++ rest))) a more ls rest are follows ends (omega arith)
 

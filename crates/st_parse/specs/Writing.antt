@@ -73,7 +73,8 @@ pub data Blank : Type 0 where
 abbrev pub IsGap : List Blank → List ℕ → List ℕ → Type 0
 IsGap [] text rest = text ≡ rest
 IsGap (White c ∷ bs) text rest = (mid : List ℕ) × (text ≡ c ∷ mid) × (is_whitespace c ≡ true) × IsGap bs mid rest
-IsGap (Comment line ∷ bs) text rest = (mid : List ℕ) × (text ≡ 45 ∷ 45 ∷ (line ++ mid)) × (list_all is_in_line line ≡ true) × (starts is_in_line mid ≡ false) × IsGap bs mid rest
+IsGap (Comment line ∷ bs) text rest =
+    (mid : List ℕ) × (text ≡ 45 ∷ 45 ∷ (line ++ mid)) × (list_all is_in_line line ≡ true) × (starts is_in_line mid ≡ false) × IsGap bs mid rest
 
 -- the text is these lexemes with gaps between them, and no lexeme could be longer
 abbrev pub IsText : List Lexeme → List ℕ → Type 0

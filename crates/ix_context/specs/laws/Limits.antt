@@ -19,7 +19,8 @@ short_value Number (TextValue t) text sort fits is = absurd fits
 short_value (Varchar2 size) (TextValue t) text sort fits is = let e : t ≡ text = cc in omega (arith, ap length e, sort.1, fits.0)
 short_value Clob (TextValue t) text sort fits is = let e : t ≡ text = cc in omega (arith, ap length e, fits.0)
 
-short_text : (cs : List Column) (vs : List Value) (place : ℕ) (text : List ℕ) → AllColumns cs → FitColumns cs vs → text_in vs place ≡ Some text → length text ≤ 4000
+short_text : (cs : List Column) (vs : List Value) (place : ℕ) (text : List ℕ) → AllColumns cs → FitColumns cs vs → text_in vs place ≡ Some text
+    → length text ≤ 4000
 short_text cs [] place text all fits is = cc
 short_text [] (v ∷ vs) place text all fits is = absurd fits
 short_text (c ∷ cs) (v ∷ vs) zero text all fits is = short_value c.sort v text all.1 fits.0 is
@@ -29,7 +30,8 @@ others_all : (cs : List Column) → AllColumns cs → AllColumns (others cs)
 others_all [] all = all
 others_all (c ∷ cs) all = all.2
 
-short_column : (cs : List Column) (vs : List Value) (column : ℕ) (text : List ℕ) → AllColumns cs → FitColumns (others cs) vs → text_of vs column ≡ Some text → length text ≤ 4000
+short_column : (cs : List Column) (vs : List Value) (column : ℕ) (text : List ℕ) → AllColumns cs → FitColumns (others cs) vs
+    → text_of vs column ≡ Some text → length text ≤ 4000
 short_column cs vs zero text all fits is = cc
 short_column cs vs (suc place) text all fits is = short_text (others cs) vs place text (others_all cs all) fits is
 

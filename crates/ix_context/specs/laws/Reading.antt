@@ -60,7 +60,8 @@ abbrev pub target_of : Index → Target
 target_of x = record { table = x.table; column = x.column }
 
 -- an index is read as its target and its next document
-pub index_read : (m : Content) (ts : Tables) (xs : Names Index) → HoldsIndexes m ts xs → (i : List ℕ) (x : Index) → get xs i ≡ Some x → (found : Option (Target × ℕ)) → SpellsIndex (at m (key kind.Indexes i [])) found → found ≡ Some (target_of x, x.given + 1)
+pub index_read : (m : Content) (ts : Tables) (xs : Names Index) → HoldsIndexes m ts xs → (i : List ℕ) (x : Index) → get xs i ≡ Some x
+    → (found : Option (Target × ℕ)) → SpellsIndex (at m (key kind.Indexes i [])) found → found ≡ Some (target_of x, x.given + 1)
 index_read m ts xs holds i x is found spelt = go found spelt
   where
     entry : at m (key kind.Indexes i []) ≡ Some (index_entry x)
@@ -81,7 +82,8 @@ index_read m ts xs holds i x is found spelt = go found spelt
 -- ---- the queue
 
 -- the rows in the queue are those that wait
-pub pending_read : (m : Content) (ts : Tables) (xs : Names Index) → HoldsIndexes m ts xs → (i : List ℕ) (x : Index) → get xs i ≡ Some x → rows_under kind.Pending i m ≡ pending_rows x
+pub pending_read : (m : Content) (ts : Tables) (xs : Names Index) → HoldsIndexes m ts xs → (i : List ℕ) (x : Index) → get xs i ≡ Some x
+    → rows_under kind.Pending i m ≡ pending_rows x
 pending_read m ts xs holds i x is =
     rows_listed (λ (o : Mark). queued (Some o)) m kind.Pending i x.marks holds.tables.only (λ q p. p)
     (λ r o e. mark_is_row ts x holds.tables.rules (holds.rules.each i x is) r (ap is_some e))
@@ -95,7 +97,9 @@ pending_read m ts xs holds i x is =
 -- ---- texts
 
 -- the text that is read is that of the row in the column
-pub target_read : (m : Content) (ts : Tables) → HoldsTables m ts → (target : Target) (r : ℤ) → target.column < 256 → IsRow r → (found : Option (List ℕ)) → SpellsText (at m (key kind.RowTexts target.table (text_part target.column r))) found → found ≡ target_text ts target r
+pub target_read : (m : Content) (ts : Tables) → HoldsTables m ts → (target : Target) (r : ℤ) → target.column < 256 → IsRow r
+    → (found : Option (List ℕ)) → SpellsText (at m (key kind.RowTexts target.table (text_part target.column r))) found
+    → found ≡ target_text ts target r
 target_read m ts holds target r few row found spelt = text_read (at m) ts holds.stand holds.rules target.table target.column r few row found spelt
 
 fits_short : (s : Sort) (v : Value) (text : List ℕ) → HasAllowedSize s → IsOfSort s v → as_text v ≡ Some text → length text ≤ 4000
@@ -106,7 +110,8 @@ fits_short (Varchar2 size) (TextValue u) text is fits e = let same : u ≡ text 
 fits_short Clob (NumberValue n) text is fits e = absurd fits
 fits_short Clob (TextValue u) text is fits e = let same : u ≡ text = cc in subst (λ (l : List ℕ). length l ≤ 4000) same fits.0
 
-texts_short : (cs : List Column) (vs : List Value) (place : ℕ) (text : List ℕ) → AllColumns cs → FitColumns cs vs → text_in vs place ≡ Some text → length text ≤ 4000
+texts_short : (cs : List Column) (vs : List Value) (place : ℕ) (text : List ℕ) → AllColumns cs → FitColumns cs vs → text_in vs place ≡ Some text
+    → length text ≤ 4000
 texts_short cs [] place text are fit e = cc
 texts_short [] (v ∷ vs) place text are fit e = absurd fit
 texts_short (c ∷ cs) (v ∷ vs) zero text are fit e = fits_short c.sort v text are.1 fit.0 e

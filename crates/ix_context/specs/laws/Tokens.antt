@@ -25,7 +25,8 @@ abbrev pub AllTokens : List (List ℕ) → Type 0
 AllTokens [] = Unit {0}
 AllTokens (w ∷ ws) = IsToken w × AllTokens ws
 
-keys_are_tokens : (ts : List Token) → All (λ (t : Token). 0 < length t.key) ts → All (λ (t : Token). length t.key ≤ 255) ts → AllTokens (map (λ (t : Token). t.key) ts)
+keys_are_tokens : (ts : List Token) → All (λ (t : Token). 0 < length t.key) ts → All (λ (t : Token). length t.key ≤ 255) ts
+    → AllTokens (map (λ (t : Token). t.key) ts)
 keys_are_tokens [] some short = tt
 keys_are_tokens (t ∷ ts) some short = (
   record { some = let first = All-head (λ (t : Token). 0 < length t.key) t ts some in omega (arith, first); short = All-head (λ (t : Token). length t.key ≤ 255) t ts short },
@@ -39,7 +40,8 @@ found_is_token : (key : List ℕ) (place : ℕ) (ws : List (List ℕ)) → AllTo
 found_is_token key place [] all p ps is = cc
 found_is_token key place (w ∷ ws) all p ps is = go (same_list key w) refl (found_is_token key (place + 1) ws all.1 p ps) is
   where
-    go : (b : Bool) → same_list key w ≡ b → (positions_from (place + 1) key ws ≡ p ∷ ps → IsToken key) → cond b (place ∷ positions_from (place + 1) key ws) (positions_from (place + 1) key ws) ≡ p ∷ ps → IsToken key
+    go : (b : Bool) → same_list key w ≡ b → (positions_from (place + 1) key ws ≡ p ∷ ps → IsToken key)
+        → cond b (place ∷ positions_from (place + 1) key ws) (positions_from (place + 1) key ws) ≡ p ∷ ps → IsToken key
     go true here rest is = subst IsToken (sym (list_from_same key w here)) all.0
     go false here rest is = rest is
 
@@ -74,13 +76,15 @@ few_positions : (place : ℕ) (key : List ℕ) (ws : List (List ℕ)) → length
 few_positions place key [] = omega arith
 few_positions place key (w ∷ ws) = go (same_list key w) (few_positions (place + 1) key ws)
   where
-    go : (b : Bool) → length (positions_from (place + 1) key ws) ≤ length ws → length (cond b (place ∷ positions_from (place + 1) key ws) (positions_from (place + 1) key ws)) ≤ length (w ∷ ws)
+    go : (b : Bool) → length (positions_from (place + 1) key ws) ≤ length ws
+        → length (cond b (place ∷ positions_from (place + 1) key ws) (positions_from (place + 1) key ws)) ≤ length (w ∷ ws)
     go true few = omega arith
     go false few = omega arith
 
 -- and has no more of them than the text has bytes
 pub postings_few : (text : List ℕ) → All (λ e. length e.1 ≤ length text) (entries (postings_of text))
-postings_few text = all_entries (slice_cmp nat_cmp) nat_list_cmp_total (λ e. length e.1 ≤ length text) (postings_of text) (λ key ps is. few key ps (positions key text) refl (sym (get-postings_of text key) ∙ is))
+postings_few text =
+    all_entries (slice_cmp nat_cmp) nat_list_cmp_total (λ e. length e.1 ≤ length text) (postings_of text) (λ key ps is. few key ps (positions key text) refl (sym (get-postings_of text key) ∙ is))
   where
     few : (key ps qs : List ℕ) → positions key text ≡ qs → if_any qs ≡ Some ps → length ps ≤ length text
     few key ps [] here is = cc
