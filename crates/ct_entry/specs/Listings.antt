@@ -1,5 +1,5 @@
 -- What scans list: the entries of a finite map, after a prefix, in the order of its keys.
-use Rattle.std.specs.Prelude.{ℕ, ℤ, pos, negsuc, ◌-◌, ◌^◌, ◌≡◌, ◌==◌, nat_lt, List, [], ◌∷◌, length, filter, Option, Some, None, codes, refl}
+use Rattle.std.specs.Prelude.{ℕ, ℤ, pos, negsuc, ◌-◌, ◌^◌, ◌≡◌, ◌==◌, nat_lt, List, [], ◌∷◌, ◌++◌, length, filter, Option, Some, None, codes, refl}
 use Rattle.std.specs.Bool.{if◌then◌else◌}
 use Rattle.std.specs.Int.{from_be_bytes, w64}
 use Rattle.std.specs.List.{filter_map}
@@ -11,6 +11,7 @@ use Rattle.std.specs.Cmp.Lexicographic.{slice_cmp}
 use Rattle.std.specs.FinMap.{FinMap, entries, from_entries}
 use Rattle.ct_bytes.specs.RowKeys.{row_bytes}
 use Rattle.ct_base.specs.Names.{kept_name}
+use Rattle.ct_base.specs.declared.numbers.RowKey.{RowKey}
 use Rattle.ct_keep.specs.Content.{Content, entries_above, first_entry}
 use Rattle.ct_keep.specs.Tail.{tail}
 use Rattle.ct_entry.specs.declared.kinds.Kind.{Kind}
@@ -27,6 +28,10 @@ listed part g es = filter_map (λ e. option_map (λ v. (part e.0, v)) (g e.1)) e
 -- the keys that have a value by g, in order
 abbrev pub keys_where : {K X : Type 0} → (X → Option (List ℕ)) → List (K × X) → List K
 keys_where g es = filter_map (λ e. option_map (λ _. e.0) (g e.1)) es
+
+-- an owner's entries of a kind whose rests begin with a prefix and are longer: what stands after it, and the value
+abbrev pub owner_entries : Kind → List ℕ → List ℕ → Content → List (List ℕ × List ℕ)
+owner_entries kind owner prefix m = entries (tail (prefix_of kind owner ++ prefix) m)
 
 -- ---- row keys
 
@@ -56,9 +61,19 @@ abbrev pub place_after : Option ℤ → List ℕ
 place_after None = []
 place_after (Some r) = row_part r
 
+abbrev pub number_of : Option RowKey → Option ℤ
+number_of after = option_map (λ r. r.0) after
+
+abbrev pub start_after : Option RowKey → List ℕ
+start_after after = place_after (number_of after)
+
+-- the first entry under a prefix that stands after a row key, or the first of all: the rest of its key, and its value
+abbrev pub entry_after : Option ℤ → List ℕ → Content → Option (List ℕ × List ℕ)
+entry_after after prefix m = first_entry (entries_above (place_after after) (tail prefix m))
+
 -- the row key of the first of an owner's entries of a kind after that of a row, or of the first of all; none where that entry's rest hasn't 8 bytes
 abbrev pub row_after : Option ℤ → Kind → List ℕ → Content → Option ℤ
-row_after after kind owner m = option_and_then (λ e. row_of e.0) (first_entry (entries_above (place_after after) (tail (prefix_of kind owner) m)))
+row_after after kind owner m = option_and_then (λ e. row_of e.0) (entry_after after (prefix_of kind owner) m)
 
 -- those above a row key, or all
 abbrev pub rows_above : Option ℤ → List ℤ → List ℤ

@@ -9,7 +9,7 @@ ghost use Rattle.ct_keep.specs.Looks.{next_looks, scan_looks, LooksAtMost};
 ghost use Rattle.ct_keep.specs.Tail.{tail};
 ghost use Rattle.ct_entry.specs.Kinds.{code};
 ghost use Rattle.ct_entry.specs.Keys.{prefix_of};
-ghost use Rattle.ct_entry.specs.Listings.{row_of, rows_of, rows_under, place_after, row_after, owner_of, owners_of, owners_under};
+ghost use Rattle.ct_entry.specs.Listings.{row_of, rows_of, rows_under, number_of, start_after, entry_after, row_after, owner_entries, owner_of, owners_of, owners_under};
 
 use crate::entries::{key_bytes, prefix_bytes};
 use crate::kinds::Kind;
@@ -33,7 +33,7 @@ pub fn entries_of<K: Keeper>(
     prefix: &[u8],
 ) -> Result<Vec<(Vec<u8>, Vec<u8>)>, KeepFault>
     requires { (K.view keeper.old).ready }
-    ensures entries { Finds K.view keeper.old result (λ m found. map (λ e. (e.0.items, e.1.items)) found.items ≡ entries (tail (prefix_of kind owner.now ++ prefix.now) m)) }
+    ensures entries { Finds K.view keeper.old result (λ m found. map (λ e. (e.0.items, e.1.items)) found.items ≡ owner_entries kind owner.now prefix.now m) }
     ensures reads { OnlyReads K.view keeper.old keeper.new result }
     ensures at_most { Told K.view keeper.old (λ m. LooksAtMost K.view keeper.old keeper.new (scan_looks (prefix_of kind owner.now ++ prefix.now) m)) }
 {
@@ -90,9 +90,9 @@ fn next_in<K: Keeper>(
     after: Option<RowKey>,
 ) -> Result<Option<Entry>, KeepFault>
     requires { (K.view keeper.old).ready }
-    ensures entry { Finds K.view keeper.old result (λ m found. option_map (λ e. (e.0.items, e.1.items)) found ≡ first_entry (entries_above (place_after (option_map (λ r. r.0) after)) (tail prefix.now m))) }
+    ensures entry { Finds K.view keeper.old result (λ m found. option_map (λ e. (e.0.items, e.1.items)) found ≡ entry_after (number_of after) prefix.now m) }
     ensures reads { OnlyReads K.view keeper.old keeper.new result }
-    ensures at_most { Told K.view keeper.old (λ m. LooksAtMost K.view keeper.old keeper.new (next_looks (prefix.now ++ place_after (option_map (λ r. r.0) after)) m)) }
+    ensures at_most { Told K.view keeper.old (λ m. LooksAtMost K.view keeper.old keeper.new (next_looks (prefix.now ++ start_after after) m)) }
 {
     match after {
         None => next_under(alloc, keeper, prefix, &[]),
@@ -112,9 +112,9 @@ pub fn next_row_key<K: Keeper>(
     after: Option<RowKey>,
 ) -> Result<Option<RowKey>, KeepFault>
     requires { (K.view keeper.old).ready }
-    ensures row { Finds K.view keeper.old result (λ m row. option_map (λ r. r.0) row ≡ row_after (option_map (λ r. r.0) after) kind owner.now m) }
+    ensures row { Finds K.view keeper.old result (λ m row. option_map (λ r. r.0) row ≡ row_after (number_of after) kind owner.now m) }
     ensures reads { OnlyReads K.view keeper.old keeper.new result }
-    ensures at_most { Told K.view keeper.old (λ m. LooksAtMost K.view keeper.old keeper.new (next_looks (prefix_of kind owner.now ++ place_after (option_map (λ r. r.0) after)) m)) }
+    ensures at_most { Told K.view keeper.old (λ m. LooksAtMost K.view keeper.old keeper.new (next_looks (prefix_of kind owner.now ++ start_after after) m)) }
 {
     let prefix = prefix_bytes(alloc, kind, owner)?;
     match next_in(alloc, keeper, &prefix, after)? {

@@ -1,8 +1,10 @@
 -- One piece: at most one commit, and then the reply.
 use Rattle.std.proofs.Common.{◌≡◌, ◌++◌, ◌∷◌, [], ℕ, List, Option, Some, None, Err, inl, inr, ⊎_elim, refl, sym, ap, ◌∙◌, subst, append-nil}
 use Rattle.std.specs.Prelude.{◌⊎◌}
-use Rattle.ct_base.specs.Moments.{Passes, passes_more, passes_then}
-use Rattle.ct_base.specs.Told.{behind, behind_none, IsSaid, SaysPart, says_front}
+use Rattle.ct_base.specs.Moments.{Passes}
+use Rattle.ct_base.specs.laws.Moments.{passes_more, passes_then}
+use Rattle.ct_base.specs.Told.{with_suffix, IsSaid, SaysPart}
+use Rattle.ct_base.specs.laws.Told.{with_suffix-nil, says_prefix}
 use Rattle.ct_site.specs.Disks.{Beside}
 use Rattle.ct_keep.specs.Content.{Content}
 use Rattle.ct_keep.specs.declared.keepers.KeepFault.TheVariants as fault
@@ -33,7 +35,7 @@ moves_short m effect c k ready settled holds = record { next = c; stands = refl;
 
 module _ (limit : ℕ) (was : World) (t : Turn) where
   nothing_said : (w : List ℕ) → IsSaid was.said w → SaysPart was.said [] w
-  nothing_said w said = record { part = []; later = []; front = refl; is = behind_none was.said ∙ said }
+  nothing_said w said = record { part = []; later = []; split = refl; is = with_suffix-nil was.said ∙ said }
 
   abbrev pub reply : List ℕ
   reply = (turn limit was.state t).1
@@ -43,10 +45,10 @@ module _ (limit : ℕ) (was : World) (t : Turn) where
   before c x w is stands said = record { done = []; later = t ∷ []; split = refl; leaves = record { content = c; is = is; stands = stands }; says = nothing_said w said }
 
   pub after : (c : Content) (x : Option Content) (w : List ℕ) → x ≡ Some c → Stands c (turn limit was.state t).0 → SaysPart was.said reply w → IsMoment limit was (t ∷ []) x w
-  after c x w is stands said = record { done = t ∷ []; later = []; split = refl; leaves = record { content = c; is = is; stands = stands }; says = says_front was.said reply [] w said }
+  after c x w is stands said = record { done = t ∷ []; later = []; split = refl; leaves = record { content = c; is = is; stands = stands }; says = says_prefix was.said reply [] w said }
 
   pub unsaid : (w : List ℕ) → IsSaid was.said w → SaysPart was.said reply w
-  unsaid w said = says_front was.said [] reply w (nothing_said w said)
+  unsaid w said = says_prefix was.said [] reply w (nothing_said w said)
 
   -- a stop leaves the one or the other
   pub either : (x : Option Content) (w : List ℕ) → LeavesEither limit was t x w → IsMoment limit was (t ∷ []) x w
@@ -118,14 +120,14 @@ module _ (limit : ℕ) (piece : Piece) (was : World) (old mid new : KeeperView) 
       (passes_more mid.time new.time _ _ (s.says.time ready r.content r.holds)
       (λ x w p. after limit was made r.content x w p.0 r.stands
       (subst (λ (l : List ℕ). SaysPart was.said l w) (sym front ∙ r.is)
-      (says_front was.said part rest w (subst (λ (o : Option (List ℕ)). SaysPart o part w) said_mid p.1)))))
+      (says_prefix was.said part rest w (subst (λ (o : Option (List ℕ)). SaysPart o part w) said_mid p.1)))))
 
-  shows_said : (part : List ℕ) → Spoke part mid new → Shows new (record { state = (turn limit was.state made).0; said = behind was.said part })
-  shows_said part s = record { said = s.says.said ∙ ap (λ (o : Option (List ℕ)). behind o part) said_mid; content = r.content; holds = s.says.apart.content ∙ r.holds; stands = r.stands }
+  shows_said : (part : List ℕ) → Spoke part mid new → Shows new (record { state = (turn limit was.state made).0; said = with_suffix was.said part })
+  shows_said part s = record { said = s.says.said ∙ ap (λ (o : Option (List ℕ)). with_suffix o part) said_mid; content = r.content; holds = s.says.apart.content ∙ r.holds; stands = r.stands }
 
   pub answered_by : Spoke bytes mid new → (now : World) × Shows new now × Answered limit old.fixed.limit piece was now old.time new.time
   answered_by s = (
-    record { state = (turn limit was.state made).0; said = behind was.said bytes },
+    record { state = (turn limit was.state made).0; said = with_suffix was.said bytes },
     shows_said bytes s,
     record {
       answer = r.answer;

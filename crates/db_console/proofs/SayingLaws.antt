@@ -2,7 +2,7 @@
 use Rattle.std.proofs.Common.{◌≡◌, ◌≤◌, ◌<◌, ◌+◌, ◌-◌, ◌++◌, [], ℕ, List, length, take, drop, sym, subst, arith, append-nil, length-drop}
 use Rattle.std.proofs.lemmas.List.{take_all, take-append-drop}
 use Rattle.std.proofs.Math.Seq.{take-add, take-length}
-use Rattle.ct_base.specs.Told.{behind}
+use Rattle.ct_base.specs.Told.{with_suffix}
 use Rattle.ct_keep.specs.KeeperViews.{KeeperView, KeeperSays, PassesRoom}
 use Rattle.ct_keep.specs.Composing.{same_say_room, says_none, says_then, passes_behind, passes_as}
 use Rattle.db_console.specs.Views.{SayRose, Spoke, SpokeInPart}
@@ -32,7 +32,7 @@ spoke_whole a b bytes at h s = rw (take_all at bytes h) at s
 -- what was left would have been too much, and so would have been all
 all_passes : (a b : KeeperView) (bytes : List ℕ) (at : ℕ) → Spoke (take at bytes) a b → PassesRoom b.fixed.say_room b.beside.said (take (length bytes - at) (drop at bytes)) → PassesRoom a.fixed.say_room a.beside.said bytes
 all_passes a b bytes at s p =
-    let rest : PassesRoom a.fixed.say_room (behind a.beside.said (take at bytes)) (drop at bytes) =
+    let rest : PassesRoom a.fixed.say_room (with_suffix a.beside.said (take at bytes)) (drop at bytes) =
     passes_as _ _ _ _ _ _ p (sym (same_say_room s.says.apart.fixed)) (sym s.says.said) (sym (from_place bytes at)) in
     subst (PassesRoom a.fixed.say_room a.beside.said) (take-append-drop at bytes) (passes_behind a.fixed.say_room a.beside.said (take at bytes) (drop at bytes) rest)
 

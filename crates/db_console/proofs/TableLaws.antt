@@ -1,8 +1,9 @@
 -- How serving goes on, how it ends, and what follows of a run.
 use Rattle.std.proofs.Common.{◌≡◌, ◌≤◌, ◌+◌, ◌++◌, ◌∷◌, [], ℕ, suc, List, Bool, true, false, Option, Some, length, refl, sym, ap, ◌∙◌, subst, arith, append-nil, append_assoc, length-append}
 use Rattle.std.specs.Prelude.{◌↔◌, ◌⊎◌}
-use Rattle.ct_base.specs.Moments.{passes_none, passes_stays, passes_then}
-use Rattle.ct_base.specs.Told.{ahead, ahead_none, ahead_twice, behind, behind_none, behind_twice, IsNothing}
+use Rattle.ct_base.specs.laws.Moments.{passes_none, passes_nothing, passes_then}
+use Rattle.ct_base.specs.Told.{with_prefix, with_suffix, IsNothing}
+use Rattle.ct_base.specs.laws.Told.{with_prefix-nil, with_prefix_twice, with_suffix-nil, with_suffix_twice}
 use Rattle.ct_keep.specs.Content.{Content}
 use Rattle.ct_keep.specs.KeeperViews.{KeeperView, PassesRoom, IsSettled}
 use Rattle.ct_keep.specs.Composing.{same_aside, same_limit, passes_behind, passes_as}
@@ -34,7 +35,7 @@ served_heard limit store bytes heard was is old mid new cutter h s = record {
     rest = s.served.rest;
     cut = s.served.cut;
     leads = s.served.leads;
-    moments = passes_then old.time mid.time new.time _ s.served.moments (passes_stays mid.time new.time _ h.hears.time);
+    moments = passes_then old.time mid.time new.time _ s.served.moments (passes_nothing mid.time new.time _ h.hears.time);
   };
   stands = s.stands;
 }
@@ -45,7 +46,7 @@ served_heard limit store bytes heard was is old mid new cutter h s = record {
 pub record Going (limit taken : ℕ) (piece : List ℕ) (old now : KeeperView) (cutter : Seen) : Type 0 where
   pub heard : List ℕ
   pub count : length heard ≡ taken
-  pub front : old.beside.left ≡ ahead (heard ++ piece) now.beside.left
+  pub front : old.beside.left ≡ with_prefix (heard ++ piece) now.beside.left
   pub lasts : Lasts old now
   pub ready : now.ready
   pub going : (was : World) → Shows old was → (is : World) × Shows now is × ServedTo limit old.fixed.limit [] heard was is old.time now.time cutter
@@ -54,7 +55,7 @@ pub going_start : (limit : ℕ) (view : KeeperView) (cutter : Seen) → view.rea
 going_start limit view cutter ready s = record {
   heard = [];
   count = refl;
-  front = sym (ahead_none view.beside.left);
+  front = sym (with_prefix-nil view.beside.left);
   lasts = lasts_none view;
   ready = ready;
   going = λ was w. (was, w, served_start limit view.fixed.limit [] was view.time cutter s);
@@ -64,7 +65,7 @@ pub going_heard : (limit taken : ℕ) (piece : List ℕ) (old mid now : KeeperVi
 going_heard limit taken piece old mid now cutter s h = record {
   heard = s.heard;
   count = s.count;
-  front = s.front ∙ rw (append-nil s.heard, h.hears.left) (ahead_twice s.heard piece now.beside.left);
+  front = s.front ∙ rw (append-nil s.heard, h.hears.left) (with_prefix_twice s.heard piece now.beside.left);
   lasts = lasts_then old mid now s.lasts (lasts_heard mid now piece h);
   ready = h.hears.apart.ready s.ready;
   going = λ was w.
@@ -103,7 +104,7 @@ shows_after limit store was now turns new l w = record {
 
 -- what a stop leaves now, where a front of all that the turns say was said
 moment_now : (limit : ℕ) (was : World) (turns : List Turn) (new : KeeperView) (said rest : List ℕ) → transcript limit was.state turns ≡ said ++ rest → IsSettled new
-    → Shows new (record { state = state_after limit was.state turns; said = behind was.said said }) → (x : Option Content) (w : List ℕ) → new.now x w → IsMoment limit was turns x w
+    → Shows new (record { state = state_after limit was.state turns; said = with_suffix was.said said }) → (x : Option Content) (w : List ℕ) → new.now x w → IsMoment limit was turns x w
 moment_now limit was turns new said rest front settled shows x w n =
     let p = settled.here shows.content shows.holds x w n in
     record {
@@ -111,7 +112,7 @@ moment_now limit was turns new said rest front settled shows x w n =
       later = [];
       split = sym (append-nil turns);
       leaves = record { content = shows.content; is = p.0; stands = shows.stands };
-      says = record { part = said; later = rest; front = front; is = sym shows.said ∙ p.1 };
+      says = record { part = said; later = rest; split = front; is = sym shows.said ∙ p.1 };
     }
 
 -- all was said
@@ -130,7 +131,7 @@ turns_all limit most store whole taken script was now old new ending is settled 
 pub out_memory : (limit most : ℕ) (view : KeeperView) → view.ready → IsSettled view → Outcome limit most view view NoMemory
 out_memory limit most view ready settled = record {
   taken = [];
-  front = sym (ahead_none view.beside.left);
+  front = sym (with_prefix-nil view.beside.left);
   lasts = lasts_none view;
   because = (refl, refl);
   ready = ready;
@@ -139,7 +140,7 @@ out_memory limit most view ready settled = record {
     allowed = tt;
     ends = (refl, w, settled);
     moments = passes_none view.time _;
-    now = moment_now limit was [] view [] [] refl settled (record { said = w.said ∙ sym (behind_none was.said); content = w.content; holds = w.holds; stands = w.stands });
+    now = moment_now limit was [] view [] [] refl settled (record { said = w.said ∙ sym (with_suffix-nil was.said); content = w.content; holds = w.holds; stands = w.stands });
   };
 }
 
@@ -187,7 +188,7 @@ said_in_part limit store whole taken was old new k = record {
   first = first limit store whole Say taken was old new k;
   said = k.leads.said ++ k.by.part;
   shows = record {
-    said = k.by.shows.said ∙ rw k.leads.told (behind_twice was.said k.leads.said k.by.part);
+    said = k.by.shows.said ∙ rw k.leads.told (with_suffix_twice was.said k.leads.said k.by.part);
     content = k.by.shows.content;
     holds = k.by.shows.holds;
     stands = subst (Stands k.by.shows.content) (sym (state_last limit store whole Say taken was old new k)) k.by.shows.stands;
@@ -199,7 +200,7 @@ said_in_part limit store whole taken was old new k = record {
   };
   front = record { rest = k.by.part; is = rw k.leads.run.says refl };
   passes =
-      let last : PassesRoom new.fixed.say_room (behind was.said k.leads.said) (turn limit k.mid.state k.last).1 = passes_as _ _ _ _ _ _ k.by.passes refl (sym k.leads.told) refl in
+      let last : PassesRoom new.fixed.say_room (with_suffix was.said k.leads.said) (turn limit k.mid.state k.last).1 = passes_as _ _ _ _ _ _ k.by.passes refl (sym k.leads.told) refl in
       passes_as _ _ _ _ _ _ (passes_behind new.fixed.say_room was.said k.leads.said (turn limit k.mid.state k.last).1 last) refl refl (said_last limit store whole Say taken was old new k);
   settled = k.by.settled;
 }
@@ -316,6 +317,6 @@ taken_told taken other left e =
 pub tells_past : (ending : Ending) (limit most : ℕ) (old new : KeeperView) → Outcome limit most old new ending → TellsPast most (status_of ending) old.beside new.beside
 tells_past ending limit most old new o = record {
   tells = λ taken left before after.
-      let f : Some (taken ++ left) ≡ Some (o.taken ++ left) = sym before ∙ o.front ∙ ap (ahead o.taken) after in
+      let f : Some (taken ++ left) ≡ Some (o.taken ++ left) = sym before ∙ o.front ∙ ap (with_prefix o.taken) after in
       rw (taken_told taken o.taken left f) (past_taken ending most o.taken old new o.because);
 }

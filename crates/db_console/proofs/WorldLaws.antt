@@ -2,8 +2,10 @@
 use Rattle.std.proofs.Common.{◌≡◌, ◌++◌, ◌∷◌, [], ℕ, List, Bool, true, false, leb, Option, Some, None, map, refl, sym, ap, subst, ◌∙◌, arith, append_assoc, append-nil}
 use Rattle.std.proofs.lemmas.List.{map-append}
 use Rattle.std.specs.Str.{chars}
-use Rattle.ct_base.specs.Moments.{Passes, passes_none, passes_more, passes_then}
-use Rattle.ct_base.specs.Told.{behind_none, behind_twice, SaysPart, says_back}
+use Rattle.ct_base.specs.Moments.{Passes}
+use Rattle.ct_base.specs.laws.Moments.{passes_none, passes_more, passes_then}
+use Rattle.ct_base.specs.laws.Told.{with_suffix-nil, with_suffix_twice, says_suffix}
+use Rattle.ct_base.specs.Told.{SaysPart}
 use Rattle.ct_keep.specs.Content.{Content}
 use Rattle.st_cut.specs.Cut.{first_statement}
 use Rattle.st_cut.specs.Seen.{Seen, StandsOpen}
@@ -23,7 +25,7 @@ ran_then limit old mid new ts us a b r s = record {
 }
 
 pub leads_none : (limit store : ℕ) (world : World) → Leads limit store world [] world
-leads_none limit store world = record { said = []; run = record { state = refl; says = refl }; told = sym (behind_none world.said); allowed = tt }
+leads_none limit store world = record { said = []; run = record { state = refl; says = refl }; told = sym (with_suffix-nil world.said); allowed = tt }
 
 pub allowed_then : (limit store : ℕ) (old mid : World) (ts us : List Turn) → Leads limit store old ts mid → AllAllowed limit store mid.state us → AllAllowed limit store old.state (ts ++ us)
 allowed_then limit store old mid ts us a h = allowed-append limit store old.state ts us a.allowed (subst (λ (m : State). AllAllowed limit store m us) a.run.state h)
@@ -32,7 +34,7 @@ pub leads_then : (limit store : ℕ) (old mid new : World) (ts us : List Turn) �
 leads_then limit store old mid new ts us a b = record {
   said = a.said ++ b.said;
   run = ran_then limit old.state mid.state new.state ts us a.said b.said a.run b.run;
-  told = b.told ∙ rw a.told (behind_twice old.said a.said b.said);
+  told = b.told ∙ rw a.told (with_suffix_twice old.said a.said b.said);
   allowed = allowed_then limit store old mid ts us a b.allowed;
 }
 
@@ -59,7 +61,7 @@ moment_later limit store old mid ts us a x w p =
       split = ap (λ (l : List Turn). ts ++ l) p.split ∙ sym (append_assoc ts p.done p.later);
       leaves = subst (LeavesState x) state p.leaves;
       says = subst (λ (l : List ℕ). SaysPart old.said l w) says
-          (says_back old.said a.said (transcript limit mid.state p.done) w (subst (λ (o : Option (List ℕ)). SaysPart o (transcript limit mid.state p.done) w) a.told p.says));
+          (says_suffix old.said a.said (transcript limit mid.state p.done) w (subst (λ (o : Option (List ℕ)). SaysPart o (transcript limit mid.state p.done) w) a.told p.says));
     }
 
 -- the moments of some turns, and then of others
@@ -159,7 +161,7 @@ empty_rest : (limit store : ℕ) (world : World) → Leads limit store world (tu
 empty_rest limit store world = record {
   said = [];
   run = record { state = sym (empty_state_by limit world.state); says = sym (ap (λ (xs : List ℕ). xs ++ []) (empty_reply limit world.state)) };
-  told = sym (behind_none world.said);
+  told = sym (with_suffix-nil world.said);
   allowed = (tt, tt);
 }
 

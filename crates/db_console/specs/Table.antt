@@ -4,7 +4,7 @@ use Rattle.std.specs.Str.{chars}
 use Rattle.std.proofs.Common.{lit<, arith}
 use Rattle.std.specs.FinMap.{empty}
 use base.Fml.{GName}
-use Rattle.ct_base.specs.Told.{ahead, behind}
+use Rattle.ct_base.specs.Told.{with_prefix, with_suffix}
 use Rattle.ct_base.specs.Moments.{Passes}
 use Rattle.ct_site.specs.Disks.{DiskView, Beside}
 use Rattle.ct_keep.specs.Content.{Content}
@@ -66,7 +66,7 @@ pub record SaidInPart (limit : ℕ) (whole : Bool) (script : List ℕ) (was : Wo
   pub done : List Turn
   pub first : AreFirst whole script turns done
   pub said : List ℕ
-  pub shows : Shows new (record { state = state_after limit was.state turns; said = behind was.said said })
+  pub shows : Shows new (record { state = state_after limit was.state turns; said = with_suffix was.said said })
   pub part : IsPartOf said (transcript limit was.state turns)
   pub front : IsFrontOf (transcript limit was.state done) said
   pub passes : PassesRoom new.fixed.say_room was.said (transcript limit was.state turns)
@@ -76,7 +76,7 @@ pub record SaidInPart (limit : ℕ) (whole : Bool) (script : List ℕ) (was : Wo
 pub record FailedInLast (limit : ℕ) (whole : Bool) (script : List ℕ) (was : World) (turns : List Turn) (new : KeeperView) : Type 0 where
   pub done : List Turn
   pub first : AreFirst whole script turns done
-  pub told : new.beside.said ≡ behind was.said (transcript limit was.state done)
+  pub told : new.beside.said ≡ with_suffix was.said (transcript limit was.state done)
   pub leaves : (stopped : Option Content) (said : List ℕ) → new.now stopped said → LeavesState stopped (state_after limit was.state done) ⊎ LeavesState stopped (state_after limit was.state turns)
 
 -- which turns were answered and what was said of them, by how the run ended and by the bytes taken from the script
@@ -125,7 +125,7 @@ IsReadyAfter ending new = new.ready
 pub record Outcome (limit most : ℕ) (old new : KeeperView) (ending : Ending) : Type 0 where
   -- the bytes taken from the script
   pub taken : List ℕ
-  pub front : old.beside.left ≡ ahead taken new.beside.left
+  pub front : old.beside.left ≡ with_prefix taken new.beside.left
   pub lasts : Lasts old new
   pub because : Because most taken old new ending
   pub ready : IsReadyAfter ending new
@@ -194,7 +194,7 @@ ten_bytes = (
   },
 )
 
--- hearing failed behind a whole statement, which no newline had ended yet
+-- hearing failed with_suffix a whole statement, which no newline had ended yet
 not_ended : Ends 65536 10 (codes "SELEC;") (world []) [] (telling (codes "\n") []) HearFault
 not_ended = record {
   rest = codes "SELEC;";
@@ -231,5 +231,5 @@ a_moment = record {
   later = bad (codes "SELEC") ∷ [];
   split = refl;
   leaves = record { content = empty; is = refl; stands = empty_stands };
-  says = record { part = codes "E10: stat"; later = codes "ement not understood\n"; front = refl; is = refl };
+  says = record { part = codes "E10: stat"; later = codes "ement not understood\n"; split = refl; is = refl };
 }

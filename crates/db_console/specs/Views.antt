@@ -1,7 +1,7 @@
 -- What the console does to what is known of a keeper.
 use Rattle.std.specs.Prelude.{ℕ, ◌≡◌, ◌≤◌, ◌⊎◌, Bool, true, List, [], ◌∷◌, ◌++◌, Option, Some, None}
 use Rattle.ct_base.specs.Causes.{Rose}
-use Rattle.ct_base.specs.Told.{behind, IsNothing, IsSaid}
+use Rattle.ct_base.specs.Told.{with_suffix, IsNothing, IsSaid}
 use Rattle.ct_base.specs.Moments.{Passes}
 use Rattle.ct_site.specs.Disks.{Beside}
 use Rattle.ct_keep.specs.Content.{Content}
@@ -103,12 +103,12 @@ abbrev pub UnlessByDisk : Stop → Type 0 → Type 0
 UnlessByDisk Say P = P
 UnlessByDisk Disk P = Unit {0}
 
--- The reply of the last turn was said in part, behind what had been said; where the room for that is told, the whole of it would have passed it.
+-- The reply of the last turn was said in part, with_suffix what had been said; where the room for that is told, the whole of it would have passed it.
 pub record SaysInPart (limit : ℕ) (was : World) (last : Turn) (new : KeeperView) : Type 0 where
   pub part : List ℕ
   pub reply : IsPartOf part (turn limit was.state last).1
   pub passes : PassesRoom new.fixed.say_room was.said (turn limit was.state last).1
-  pub shows : Shows new (record { state = (turn limit was.state last).0; said = behind was.said part })
+  pub shows : Shows new (record { state = (turn limit was.state last).0; said = with_suffix was.said part })
   pub settled : IsSettled new
 
 -- The disk failed in the last turn, and nothing of its reply was said.

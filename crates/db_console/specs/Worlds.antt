@@ -3,8 +3,9 @@ use Rattle.std.specs.Prelude.{ℕ, ◌≡◌, ◌<◌, Bool, true, false, List, 
 use Rattle.std.specs.Str.{chars}
 use Rattle.std.specs.Fmt.{digits}
 use lib.Utf8.{encode}
-use Rattle.ct_base.specs.Told.{behind, SaysPart}
-use Rattle.ct_base.specs.Moments.{Timeline, Passes, passes_none}
+use Rattle.ct_base.specs.Told.{with_suffix, SaysPart}
+use Rattle.ct_base.specs.Moments.{Timeline, Passes}
+use Rattle.ct_base.specs.laws.Moments.{passes_none}
 use Rattle.ct_keep.specs.Content.{Content}
 use Rattle.st_cut.specs.Cut.{Cuts}
 use Rattle.st_cut.specs.Seen.{Seen, StandsOpen}
@@ -16,7 +17,7 @@ abbrev pub pieces_of : Bool → List (List ℕ) → List ℕ → List Piece
 pieces_of false statements rest = map statement statements
 pieces_of true statements rest = map statement statements ++ rest_piece rest ∷ []
 
--- The script, whole or as far as it has come, has these pieces, and this stands behind its last end.
+-- The script, whole or as far as it has come, has these pieces, and this stands with_suffix its last end.
 pub record HasPieces (whole : Bool) (script : List ℕ) (all : List Piece) (rest : List ℕ) : Type 0 where
   pub statements : List (List ℕ)
   pub cut : Cuts whole script statements rest
@@ -29,7 +30,7 @@ pub record World : Type 0 where
 
 -- the world after these turns, in which all that they say was said
 abbrev pub world_after : ℕ → World → List Turn → World
-world_after limit old turns = record { state = state_after limit old.state turns; said = behind old.said (transcript limit old.state turns) }
+world_after limit old turns = record { state = state_after limit old.state turns; said = with_suffix old.said (transcript limit old.state turns) }
 
 -- the moments of a keeper: at each, the content that would be recovered, if any, and the bytes said by then
 abbrev pub Times : Type 1
@@ -54,7 +55,7 @@ pub record IsMoment (limit : ℕ) (old : World) (turns : List Turn) (stopped : O
 pub record Leads (limit store : ℕ) (old : World) (turns : List Turn) (new : World) : Type 0 where
   pub said : List ℕ
   pub run : Ran limit old.state turns new.state said
-  pub told : new.said ≡ behind old.said said
+  pub told : new.said ≡ with_suffix old.said said
   pub allowed : AllAllowed limit store old.state turns
 
 -- Where `held` stood open, serving `bytes` answered each statement that ends in them, and said each reply.

@@ -1,9 +1,10 @@
 -- The fields of a line are the values of the items of the list.
 use Rattle.std.proofs.Common.{◌≡◌, ◌<◌, ◌≤◌, ◌+◌, ◌-◌, ℕ, ℤ, zero, suc, Bool, true, false, cond, eqb, List, [], ◌∷◌, length, map, Option, Some, None, refl, sym, ap, ◌∙◌, arith, add-zero, zero-add, eqb-true, subst, ltb-false}
-use Rattle.std.specs.Prelude.{◌||◌, nat_lt}
+use Rattle.std.specs.Prelude.{nat_lt}
 use Rattle.std.specs.List.{list_any, filter_map, cons_option, slice_get}
 use Rattle.std.specs.Option.{option_map}
 use Rattle.std.specs.FinMap.{get}
+use Rattle.std.proofs.lemmas.Bool.{or_parts}
 use Rattle.ct_base.specs.declared.lists.Value.{Value}
 use Rattle.ct_base.specs.declared.lists.Value.TheVariants.{Number as NumberValue, Text as TextValue}
 use Rattle.ct_entry.specs.Keys.{same_list}
@@ -13,7 +14,7 @@ use Rattle.tb_table.specs.declared.columns.Sort.{Sort}
 use Rattle.tb_table.specs.declared.columns.Sort.TheVariants.{Number as NumberSort, Varchar2, Clob}
 use Rattle.tb_table.specs.declared.columns.Column.{Column}
 use Rattle.tb_table.specs.Tables.{Table, Tables, row_in, numbers_of, text_in, text_of}
-use Rattle.tb_table.specs.Rules.{Fits, FitColumns, IsKeyFirst, IsTable, AreTables, others}
+use Rattle.tb_table.specs.Rules.{IsOfSort, FitColumns, IsKeyFirst, IsTable, AreTables, others}
 use Rattle.db_engine.specs.declared.sources.Source.{Source}
 use Rattle.db_engine.specs.declared.sources.Source.TheVariants.{Key, Number, Text, Score, Nothing}
 use Rattle.db_engine.specs.Refusals.{place_from}
@@ -29,14 +30,10 @@ unread r numbers vs score (Text column) h = refl
 unread r numbers vs score Score h = refl
 unread r numbers vs score Nothing h = refl
 
-neither : (a b : Bool) → (a || b) ≡ false → (a ≡ false) × (b ≡ false)
-neither true b h = cc
-neither false b h = (refl, h)
-
 all_unread : (r : ℤ) (numbers : List ℤ) (vs : List Value) (score : ℕ) (sources : List Source) → list_any reads_numbers sources ≡ false → fields_by r [] vs score sources ≡ fields_by r numbers vs score sources
 all_unread r numbers vs score [] h = refl
 all_unread r numbers vs score (s ∷ ss) h =
-    let p = neither (reads_numbers s) (list_any reads_numbers ss) h in
+    let p = or_parts (reads_numbers s) (list_any reads_numbers ss) h in
     ap (λ (o : Option Value). cons_option o (fields_by r [] vs score ss)) (unread r numbers vs score s p.0)
     ∙ ap (cons_option (source_value r numbers vs score s)) (all_unread r numbers vs score ss p.1)
 
@@ -63,7 +60,7 @@ SuitAsFar cs [] = Unit {0}
 SuitAsFar [] (v ∷ vs) = ⊥
 SuitAsFar (c ∷ cs) (v ∷ vs) = Suits c.sort v × SuitAsFar cs vs
 
-suits : (s : Sort) (v : Value) → Fits s v → Suits s v
+suits : (s : Sort) (v : Value) → IsOfSort s v → Suits s v
 suits NumberSort (NumberValue n) fits = tt
 suits NumberSort (TextValue text) fits = fits
 suits (Varchar2 size) (NumberValue n) fits = fits

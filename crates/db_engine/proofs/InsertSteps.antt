@@ -1,10 +1,11 @@
 -- What the checks of an INSERT leave of its effect.
 use Rattle.std.proofs.Common.{◌≡◌, ℕ, ℤ, ◌<◌, ◌≤◌, Bool, true, false, List, [], length, Option, Some, None, refl, sym, ap, ◌∙◌, arith, inl, inr}
-use Rattle.std.specs.Prelude.{nat_le, not, is_some, IsTrue, ◌↔◌, ◌⊎◌}
+use Rattle.std.specs.Prelude.{nat_le, not, IsTrue, ◌↔◌, ◌⊎◌}
 use Rattle.std.specs.Option.{option_map}
 use Rattle.std.specs.List.{list_any}
 use Rattle.std.specs.FinMap.{get, entries}
 use Rattle.std.proofs.lemmas.Bool.{lt-leb, le-leb, cases_lt, false≢true}
+use Rattle.ct_base.specs.laws.Options.{no_value}
 use Rattle.st_parse.specs.declared.statements.Operand.{Operand}
 use Rattle.tb_table.specs.declared.columns.Column.{Column}
 use Rattle.tb_table.specs.Tables.{Table}
@@ -44,10 +45,6 @@ not_taken : (taken : Bool) (r : ℤ) → taken_key taken (Some r) ≡ None → t
 not_taken true r h = cc
 not_taken false r h = refl
 
-gone : {X : Type 0} (o : Option X) → is_some o ≡ false → o ≡ None
-gone None h = refl
-gone (Some x) h = cc
-
 -- ---- the values
 
 module _ (m : State) (t : List ℕ) (x : Table) (values : List Operand) (taken many : Bool) (columns : List Column)
@@ -79,7 +76,7 @@ module _ (m : State) (t : List ℕ) (x : Table) (values : List Operand) (taken m
         let f = refuse_passed many _ _ m e.1 in
         record {
           key = is;
-          free = gone (get x.rows r) (sym (taken_is ∙ ap (has_row x) is) ∙ not_taken taken r (sym (ap (taken_key taken) is) ∙ b.0));
+          free = no_value (get x.rows r) (sym (taken_is ∙ ap (has_row x) is) ∙ not_taken taken r (sym (ap (taken_key taken) is) ∙ b.0));
           sorts = ap (λ (cs : List Column). are_of_sorts cs values) columns_are ∙ not_false (are_of_sorts columns values) a.0;
           short = ap (λ (cs : List Column). has_too_long cs values) columns_are ∙ d.0;
           within = e.0;

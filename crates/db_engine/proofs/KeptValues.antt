@@ -1,23 +1,22 @@
 -- What a row keeps of values.
-use Rattle.std.proofs.Common.{◌≡◌, ℕ, ℤ, suc, ◌+◌, ◌<◌, ◌≤◌, Bool, true, false, List, [], ◌∷◌, ◌++◌, length, map, take, get_or, pos, Option, Some, None, refl, sym, ap, subst, ◌∙◌, arith, append-nil}
-use Rattle.std.specs.Prelude.{◌||◌}
+use Rattle.std.proofs.Common.{◌≡◌, ℕ, ℤ, suc, ◌+◌, ◌<◌, ◌≤◌, true, false, List, [], ◌∷◌, ◌++◌, length, map, take, get_or, pos, Option, Some, None, refl, sym, ap, subst, ◌∙◌, arith, append-nil}
 use Rattle.std.specs.List.{All, list_any, filter_map}
 use Rattle.std.proofs.lemmas.List.{take_more, map-append, length-take, length-map}
 use Rattle.std.proofs.lemmas.List.Elements.{All-more}
-use Rattle.std.proofs.lemmas.Bool.{ltb-false}
+use Rattle.std.proofs.lemmas.Bool.{ltb-false, or_parts, and_parts}
 use Rattle.ct_base.specs.declared.lists.Value.{Value}
 use Rattle.ct_base.specs.declared.lists.Value.TheVariants.{Number as NumberValue, Text as TextValue}
 use Rattle.st_parse.specs.declared.statements.Operand.{Operand}
 use Rattle.st_parse.specs.declared.statements.Operand.TheVariants.{Text, Number}
 use Rattle.st_parse.specs.declared.statements.Whole.TheVariants.{Fits, Beyond}
-use Rattle.ct_keep.specs.RisingKeys.{and_true}
 use Rattle.ct_entry.specs.Changes.{spell}
 use Rattle.tb_table.specs.Spelling.{insert_changes}
 use Rattle.tb_table.specs.declared.columns.Sort.{Sort}
 use Rattle.tb_table.specs.declared.columns.Sort.TheVariants.{Number as NumberSort, Varchar2, Clob}
 use Rattle.tb_table.specs.declared.columns.Column.{Column}
 use Rattle.tb_table.specs.Tables.{Table, numbers_of, texts_from, texts_of}
-use Rattle.tb_table.specs.Rules.{text_limit, Fits as FitsSort, FitColumns, others}
+use Rattle.ct_base.specs.Limits.{text_limit}
+use Rattle.tb_table.specs.Rules.{IsOfSort as FitsSort, FitColumns, others}
 use Rattle.db_engine.specs.Inserting.{is_of_sort, are_of_sorts, is_too_long, has_too_long, is_beyond_range, kept_value, number_value, text_value, IsNumberKept, IsTextKept, behind_key, others_kept, IsFreeRow}
 
 -- ---- numbers
@@ -74,10 +73,6 @@ kept_more P vs i x so_far less is p = All-more P vs i x less so_far (subst P is 
 
 -- ---- the columns
 
-or_false : (a b : Bool) → (a || b) ≡ false → (a ≡ false) × (b ≡ false)
-or_false true b h = cc
-or_false false b h = (refl, h)
-
 fits_one : (s : Sort) (v : Operand) → is_of_sort s v ≡ true → is_too_long s v ≡ false → is_beyond_range v ≡ false → IsNumberKept v → IsTextKept v → FitsSort s (kept_value v)
 fits_one NumberSort (Text text) sort short within number utf8 = cc
 fits_one NumberSort (Number (Fits n)) sort short within number utf8 = number
@@ -95,9 +90,9 @@ fit_columns [] [] sorts short within numbers texts = tt
 fit_columns [] (v ∷ vs) sorts short within numbers texts = cc
 fit_columns (c ∷ cs) [] sorts short within numbers texts = cc
 fit_columns (c ∷ cs) (v ∷ vs) sorts short within numbers texts =
-    let s = and_true (is_of_sort c.sort v) (are_of_sorts cs vs) sorts in
-    let l = or_false (is_too_long c.sort v) (has_too_long cs vs) short in
-    let w = or_false (is_beyond_range v) (list_any is_beyond_range vs) within in (
+    let s = and_parts (is_of_sort c.sort v) (are_of_sorts cs vs) sorts in
+    let l = or_parts (is_too_long c.sort v) (has_too_long cs vs) short in
+    let w = or_parts (is_beyond_range v) (list_any is_beyond_range vs) within in (
       fits_one c.sort v s.0 l.0 w.0 (numbers 0 v (omega arith)) (texts 0 v (omega arith)),
       fit_columns cs vs s.1 l.1 w.1 (all_rest IsNumberKept v vs numbers) (all_rest IsTextKept v vs texts),
     )
@@ -112,13 +107,13 @@ others_fit x values r free numbers texts = go x.columns values free.sorts free.s
     go [] (v ∷ vs) sorts short within numbers texts = cc
     go (c ∷ cs) [] sorts short within numbers texts = cc
     go (c ∷ cs) (v ∷ vs) sorts short within numbers texts =
-        fit_columns cs vs (and_true (is_of_sort c.sort v) (are_of_sorts cs vs) sorts).1 (or_false (is_too_long c.sort v) (has_too_long cs vs) short).1 (or_false (is_beyond_range v) (list_any is_beyond_range vs) within).1 numbers texts
+        fit_columns cs vs (and_parts (is_of_sort c.sort v) (are_of_sorts cs vs) sorts).1 (or_parts (is_too_long c.sort v) (has_too_long cs vs) short).1 (or_parts (is_beyond_range v) (list_any is_beyond_range vs) within).1 numbers texts
 
 sorts_length : (cs : List Column) (vs : List Operand) → are_of_sorts cs vs ≡ true → length vs ≡ length cs
 sorts_length [] [] sorts = refl
 sorts_length [] (v ∷ vs) sorts = cc
 sorts_length (c ∷ cs) [] sorts = cc
-sorts_length (c ∷ cs) (v ∷ vs) sorts = ap suc (sorts_length cs vs (and_true (is_of_sort c.sort v) (are_of_sorts cs vs) sorts).1)
+sorts_length (c ∷ cs) (v ∷ vs) sorts = ap suc (sorts_length cs vs (and_parts (is_of_sort c.sort v) (are_of_sorts cs vs) sorts).1)
 
 behind_length : (vs : List Operand) → length (behind_key vs) ≤ length vs
 behind_length [] = omega arith

@@ -1,14 +1,13 @@
 -- What reads and a commit give of an effect.
-use Rattle.std.proofs.Common.{◌≡◌, ℕ, ◌<◌, Bool, true, false, List, [], ◌∷◌, length, Option, Some, None, Result, Ok, Err, Vec, refl, sym, ap, subst, inl, inr, arith}
-use Rattle.std.specs.Prelude.{◌&&◌, nat_le}
+use Rattle.std.proofs.Common.{◌≡◌, ℕ, ◌<◌, Bool, true, List, [], ◌∷◌, length, Option, Some, None, Result, Ok, Err, Vec, refl, sym, ap, subst, inl, inr, arith}
+use Rattle.std.specs.Prelude.{◌&&◌, nat_le, map}
 use Rattle.std.specs.List.{list_all}
 use Rattle.std.specs.Result.{IfOk}
 use Rattle.std.specs.declared.alloc.Global.{Global}
 use Rattle.ct_keep.specs.declared.keepers.KeepFault.{KeepFault}
 use Rattle.ct_keep.specs.declared.keepers.KeepFault.TheVariants.{Memory, Disk, Full as NoRoom}
 use Rattle.ct_keep.specs.Content.{Content}
-use Rattle.std.specs.Prelude.{map}
-use Rattle.std.proofs.lemmas.Bool.{leb-true}
+use Rattle.std.proofs.lemmas.Bool.{leb-true, and_parts}
 use Rattle.ct_keep.specs.declared.batches.Change.{Change}
 use Rattle.ct_keep.specs.Spoken.{spoken}
 use Rattle.ct_keep.specs.Changes.{AreWell}
@@ -24,18 +23,14 @@ use Rattle.db_engine.proofs.Weighing.{weighs}
 
 -- ---- bounds
 
-both : (a b : Bool) → (a && b) ≡ true → (a ≡ true) × (b ≡ true)
-both true b h = (refl, h)
-both false b h = cc
-
 -- changes within the bounds, of a keeper that takes all entries
 pub well_bounded : (well : List ℕ → List ℕ → Bool) → ((key value : List ℕ) → well key value ≡ true) → (ws : List (List ℕ × Option (List ℕ))) → are_bounded ws ≡ true → AreWell well ws
 well_bounded well takes [] h = tt
-well_bounded well takes ((key, None) ∷ ws) h = well_bounded well takes ws (both true (list_all is_bounded ws) h).1
+well_bounded well takes ((key, None) ∷ ws) h = well_bounded well takes ws (and_parts true (list_all is_bounded ws) h).1
 well_bounded well takes ((key, Some value) ∷ ws) h =
-    let b = both (nat_le 1 (length key) && (nat_le (length key) 600 && nat_le (length value) 67108864)) (list_all is_bounded ws) h in
-    let k = both (nat_le 1 (length key)) (nat_le (length key) 600 && nat_le (length value) 67108864) b.0 in
-    let v = both (nat_le (length key) 600) (nat_le (length value) 67108864) k.1 in
+    let b = and_parts (nat_le 1 (length key) && (nat_le (length key) 600 && nat_le (length value) 67108864)) (list_all is_bounded ws) h in
+    let k = and_parts (nat_le 1 (length key)) (nat_le (length key) 600 && nat_le (length value) 67108864) b.0 in
+    let v = and_parts (nat_le (length key) 600) (nat_le (length value) 67108864) k.1 in
     (record { some = leb-true 1 (length key) k.0; short = leb-true (length key) 600 v.0; bounded = leb-true (length value) 67108864 v.1 }, takes key value, well_bounded well takes ws b.1)
 
 -- the test on the changes as they stand in memory

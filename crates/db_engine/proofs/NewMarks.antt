@@ -1,29 +1,29 @@
 -- The state after a synchronisation, and after a new index.
 use Rattle.std.proofs.Common.{◌≡◌, ℕ, ℤ, pos, negsuc, ◌+◌, ◌-◌, ◌^◌, ◌≤◌, ◌<◌, Bool, false, true, cond, List, [], ◌∷◌, length, Option, Some, None, refl, sym, ap, subst, ◌∙◌, arith}
-use Rattle.std.specs.Prelude.{MatchOption, is_some, ◌||◌, ◌&&◌, ◌==◌, not, zero, suc, nat_le, int_lt}
+use Rattle.std.specs.Prelude.{MatchOption, is_some, ◌&&◌, ◌==◌, not, zero, suc, nat_le, int_lt}
 use Rattle.std.specs.List.{list_any}
 use Rattle.std.specs.declared.cmp.Ordering.TheVariants.{Less, Equal, Greater}
 use Rattle.std.specs.Ordering.{nat_cmp, int_cmp, is_lt, eq_by_cmp}
 use Rattle.std.specs.Cmp.Lexicographic.{slice_cmp}
 use Rattle.std.specs.FinMap.{get, insert, entries, find, get-entries}
-use Rattle.std.proofs.lemmas.Bool.{ltb-false, leb-false, le-ltb, eq-eqb}
+use Rattle.std.proofs.lemmas.Bool.{ltb-false, leb-false, le-ltb, eq-eqb, or_parts, and_from}
 use Rattle.std.proofs.lemmas.Cmp.{nat_list_cmp_total}
 use Rattle.ct_keep.specs.Content.{Content, after}
 use Rattle.ct_entry.specs.declared.kinds.Kind.{Kind}
 use Rattle.ct_entry.specs.declared.kinds.Kind.TheVariants as kind
 use Rattle.ct_base.specs.Names.{IsName}
-use Rattle.ct_keep.specs.RisingKeys.{and_both}
+use Rattle.ct_base.specs.laws.Options.{no_value}
 use Rattle.ct_entry.specs.Keys.{Key, at, same_list, IsRow}
-use Rattle.ct_entry.specs.KeyLaws.{list_from_same, list_same}
+use Rattle.ct_entry.specs.laws.Keys.{list_from_same, list_same}
 use Rattle.ct_entry.specs.Maps.{Names, altered}
 use Rattle.ct_entry.specs.Changes.{spell}
-use Rattle.ct_entry.specs.ChangeLaws.{at_view, at-after, only-after, told_frame}
+use Rattle.ct_entry.specs.laws.Changes.{at_view, at-after, only-after, told_frame}
 use Rattle.tb_table.specs.declared.columns.Sort.{Sort}
 use Rattle.tb_table.specs.declared.columns.Sort.TheVariants.{Number as NumberSort, Varchar2, Clob}
 use Rattle.tb_table.specs.declared.columns.Column.{Column}
 use Rattle.tb_table.specs.Tables.{Table}
 use Rattle.tb_table.specs.Spelling.{TablesStand}
-use Rattle.tb_table.specs.ChangeLaws.{is_of_tables, tables_frame}
+use Rattle.tb_table.specs.laws.Changes.{is_of_tables, tables_frame}
 use Rattle.ix_context.specs.Indexes.{Index, pending_rows, synced, synced_index, rows_in, created, with_index}
 use Rattle.ix_context.specs.Changes.{sync_changes, create_changes}
 use Rattle.ix_context.specs.Rules.{most_given, IsTextSort, HasTextAt, IsTarget}
@@ -121,14 +121,6 @@ synced_bounded c m i x stands there few =
 
 -- ---- the state after a new index
 
-either : (a b : Bool) → (a || b) ≡ false → (a ≡ false) × (b ≡ false)
-either true b h = cc
-either false b h = (refl, h)
-
-no_some : {X : Type 0} (o : Option X) → is_some o ≡ false → o ≡ None
-no_some None h = refl
-no_some (Some x) h = cc
-
 text_column : (cs : List Column) (place : ℕ) → is_text_at cs place ≡ true → HasTextAt cs place
 text_column [] place h = cc
 text_column (c ∷ cs) zero h = sort c.sort h
@@ -147,7 +139,7 @@ no_entry : (t : List ℕ) (place : ℕ) (es : List (List ℕ × Index)) → list
     → (j : List ℕ) (y : Index) → find (slice_cmp nat_cmp) j es ≡ Some y → (same_list y.table t && (y.column == place)) ≡ false
 no_entry t place [] h j y is = cc
 no_entry t place (e ∷ es) h j y is =
-    let b = either (same_list e.1.table t && (e.1.column == place)) (list_any (λ (e : List ℕ × Index). same_list e.1.table t && (e.1.column == place)) es) h in
+    let b = or_parts (same_list e.1.table t && (e.1.column == place)) (list_any (λ (e : List ℕ × Index). same_list e.1.table t && (e.1.column == place)) es) h in
     go (eq_by_cmp (slice_cmp nat_cmp) j e.0) is b.0 (no_entry t place es b.1 j y)
   where
     go : (b : Bool) → cond b (Some e.1) (find (slice_cmp nat_cmp) j es) ≡ Some y → (same_list e.1.table t && (e.1.column == place)) ≡ false → (find (slice_cmp nat_cmp) j es ≡ Some y → (same_list y.table t && (y.column == place)) ≡ false) → (same_list y.table t && (y.column == place)) ≡ false
@@ -157,7 +149,7 @@ no_entry t place (e ∷ es) h j y is =
 column_free : (xs : Names Index) (t : List ℕ) (place : ℕ) → has_index_on xs t place ≡ false → IsFreeColumn xs t place
 column_free xs t place h j y is table column =
     let none = no_entry t place (entries xs) h j y (sym (get-entries xs j) ∙ is) in
-    let yes : (same_list y.table t && (y.column == place)) ≡ true = and_both (same_list y.table t) (y.column == place) (ap (λ (u : List ℕ). same_list u t) table ∙ list_same t) (eq-eqb y.column place column) in
+    let yes : (same_list y.table t && (y.column == place)) ≡ true = and_from (same_list y.table t) (y.column == place) (ap (λ (u : List ℕ). same_list u t) table ∙ list_same t) (eq-eqb y.column place column) in
     let wrong : true ≡ false = sym yes ∙ none in
     cc
 
@@ -205,10 +197,10 @@ few_created xs i x none t room few =
 pub new_index_stands : (c : Content) (m : State) (i t : List ℕ) (x : Table) (place : ℕ) → Stands c m → IsName i → IsFreeIndex m i t x place → Stands (after (spell (create_changes m.tables i (target t place) all_rows)) c) (with_new_index m i t place)
 new_index_stands c m i t x place stands name free =
     let ws = create_changes m.tables i (target t place) all_rows in
-    let few = either (nat_le most_indexes (length (indexes_on m.indexes t))) (has_too_many_rows m t) free.few in
+    let few = or_parts (nat_le most_indexes (length (indexes_on m.indexes t))) (has_too_many_rows m t) free.few in
     let room = ltb-false most_given (length (rows_in m.tables t all_rows)) few.1 in
-    let taken = either (is_some (get m.indexes i)) (has_index_on m.indexes t place) free.free in
-    let none : get m.indexes i ≡ None = no_some (get m.indexes i) taken.0 in
+    let taken = or_parts (is_some (get m.indexes i)) (has_index_on m.indexes t place) free.free in
+    let none : get m.indexes i ≡ None = no_value (get m.indexes i) taken.0 in
     let are = index_changes_create m.tables i (target t place) all_rows stands.state.tables name (stands.state.tables.names t x free.there) room in
     record {
       only = only-after ws c stands.only (are_changes ws are);
@@ -226,6 +218,6 @@ new_index_stands c m i t x place stands name free =
 pub new_index_bounded : (c : Content) (m : State) (i t : List ℕ) (x : Table) (place : ℕ) → Stands c m → IsName i → IsFreeIndex m i t x place → are_bounded (spell (create_changes m.tables i (target t place) all_rows)) ≡ true
 new_index_bounded c m i t x place stands name free =
     let ws = create_changes m.tables i (target t place) all_rows in
-    let few = either (nat_le most_indexes (length (indexes_on m.indexes t))) (has_too_many_rows m t) free.few in
+    let few = or_parts (nat_le most_indexes (length (indexes_on m.indexes t))) (has_too_many_rows m t) free.few in
     bounded_well any_entry (spell ws) (well_changes any_entry ws (λ k value of. refl)
     (index_changes_create m.tables i (target t place) all_rows stands.state.tables name (stands.state.tables.names t x free.there) (ltb-false most_given (length (rows_in m.tables t all_rows)) few.1)))

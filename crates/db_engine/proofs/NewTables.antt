@@ -1,26 +1,27 @@
 -- The state after a new table.
 use Rattle.std.proofs.Common.{◌≡◌, ℕ, ◌<◌, ◌≤◌, Bool, true, false, cond, List, [], ◌∷◌, length, map, Option, Some, None, refl, sym, ap, subst, ◌∙◌, arith}
 use Rattle.std.proofs.lemmas.List.{length-map}
-use Rattle.std.specs.Prelude.{◌&&◌, ◌||◌, not, nat_lt, nat_le, is_some}
+use Rattle.std.specs.Prelude.{◌&&◌, ◌||◌, not, nat_lt, nat_le, is_some, All}
 use Rattle.std.specs.List.{list_any, list_all}
 use Rattle.std.specs.FinMap.{get, empty, entries}
-use Rattle.std.proofs.lemmas.Bool.{leb-true}
+use Rattle.std.proofs.lemmas.Bool.{leb-true, leb-false, ltb-false, and_parts, or_parts, not-true}
 use Rattle.ct_base.specs.Names.{IsName}
 use Rattle.ct_keep.specs.Content.{Content, after}
 use Rattle.ct_entry.specs.declared.kinds.Kind.{Kind}
 use Rattle.ct_entry.specs.declared.kinds.Kind.TheVariants as kind
-use Rattle.ct_entry.specs.Keys.{Key, at, same_list}
-use Rattle.ct_entry.specs.KeyLaws.{list_from_same}
+use Rattle.ct_entry.specs.Keys.{Key, at, same_list, bytes}
+use Rattle.ct_entry.specs.laws.Keys.{list_from_same}
 use Rattle.ct_entry.specs.Maps.{Names}
 use Rattle.ct_entry.specs.Changes.{spell}
-use Rattle.ct_entry.specs.ChangeLaws.{at_view, at-after, only-after, told_frame}
+use Rattle.ct_entry.specs.laws.Changes.{at_view, at-after, only-after, told_frame}
 use Rattle.tb_table.specs.declared.columns.Column.{Column}
 use Rattle.tb_table.specs.Tables.{Table, Tables, with_table}
-use Rattle.tb_table.specs.Spelling.{TablesStand, create_changes}
-use Rattle.tb_table.specs.Rules.{AreColumns}
-use Rattle.tb_table.specs.ChangeLaws.{is_of_tables, all_create, stand_create, get-with_table, row_at-with_table}
-use Rattle.tb_table.specs.RuleLaws.{create_keeps}
-use Rattle.tb_table.specs.WellLaws.{are_create}
+use Rattle.tb_table.specs.Spelling.{TablesStand, table_changes}
+use Rattle.tb_table.specs.Rules.{AreColumns, HasAllowedSize, IsKeyFirst, AllColumns, AreApart, has_column}
+use Rattle.ct_base.specs.Limits.{text_limit}
+use Rattle.tb_table.specs.laws.Changes.{is_of_tables, all_create, stand_create, get-with_table, row_at-with_table}
+use Rattle.tb_table.specs.laws.Rules.{create_keeps}
+use Rattle.tb_table.specs.laws.Well.{are_create, TakesTables, well_create}
 use Rattle.ix_context.specs.Indexes.{Index}
 use Rattle.ix_context.specs.Rules.{AreIndexes, IsTarget}
 use Rattle.ix_context.specs.Spelling.{IndexesStand, is_of_indexes}
@@ -29,20 +30,16 @@ use Rattle.ix_context.specs.laws.Changes.{stay_with_table}
 use Rattle.st_parse.specs.declared.statements.ColumnText.{ColumnText}
 use Rattle.st_parse.specs.declared.statements.SortText.{SortText}
 use Rattle.st_parse.specs.declared.statements.SortText.TheVariants.{Number as NumberText, Varchar2 as Varchar2Text, Clob as ClobText}
-use Rattle.std.specs.Prelude.{All}
 use Rattle.std.specs.Option.{unwrap_or}
-use Rattle.std.proofs.lemmas.Bool.{leb-false, ltb-false}
 use Rattle.tb_table.specs.declared.columns.Sort.TheVariants.{Number}
-use Rattle.tb_table.specs.Rules.{IsSort, IsKeyFirst, AllColumns, AreApart, has_column, text_limit}
 use Rattle.db_engine.specs.Refusals.{Does, as_count}
 use Rattle.db_engine.specs.Creating.{is_number, is_key_first, are_apart, is_size, is_sized, all_sized, sort_of, column_of, most_columns, IsFreeTable, with_new_table, check_table, create_table, table_created}
 use Rattle.db_engine.specs.States.{State, Stands, is_view, is_built, most_tables}
-use Rattle.ct_entry.specs.Keys.{bytes}
-use Rattle.tb_table.specs.WellLaws.{TakesTables, well_create}
 use Rattle.db_engine.specs.Committing.{are_bounded}
 use Rattle.db_engine.proofs.Chains.{passed}
 use Rattle.db_engine.proofs.Bounded.{bounded_well}
 use Rattle.std.proofs.lemmas.List.Elements.{All-head, All-tail}
+use Rattle.ct_base.specs.laws.Options.{no_value}
 
 -- ---- the indexes keep their rules
 
@@ -93,9 +90,9 @@ apart kind.RowTexts h = cc
 apart k h = refl
 
 pub new_table_stands : (c : Content) (m : State) (t : List ℕ) (columns : List Column) → Stands c m → get m.tables t ≡ None → is_view t ≡ false → IsName t → AreColumns columns → length (entries m.tables) < 64
-    → Stands (after (spell (create_changes t columns)) c) (record m { tables = with_table m.tables t columns })
+    → Stands (after (spell (table_changes t columns)) c) (record m { tables = with_table m.tables t columns })
 new_table_stands c m t columns stands none free name are few =
-    let ws = create_changes t columns in
+    let ws = table_changes t columns in
     record {
       only = only-after ws c stands.only (are_create t columns name);
       tables = subst (λ (f : Key → Option (List ℕ)). TablesStand f (with_table m.tables t columns)) (sym (at_view ws c)) (stand_create (at c) m.tables t columns none stands.tables);
@@ -112,25 +109,13 @@ new_table_stands c m t columns stands none free name are few =
 
 -- ---- columns that pass the checks
 
-no_some : {X : Type 0} (o : Option X) → is_some o ≡ false → o ≡ None
-no_some None h = refl
-no_some (Some x) h = cc
-
-either : (a b : Bool) → (a || b) ≡ false → (a ≡ false) × (b ≡ false)
-either true b h = cc
-either false b h = (refl, h)
-
-both : (a b : Bool) → (a && b) ≡ true → (a ≡ true) × (b ≡ true)
-both true b h = (refl, h)
-both false b h = cc
-
-is_sort : (s : SortText) → is_sized s ≡ true → IsSort (sort_of s)
+is_sort : (s : SortText) → is_sized s ≡ true → HasAllowedSize (sort_of s)
 is_sort NumberText h = tt
 is_sort (Varchar2Text size) h = go (as_count size) h
   where
     go : (o : Option ℕ) → is_size o ≡ true → (1 ≤ unwrap_or o 0) × (unwrap_or o 0 ≤ text_limit)
     go None h = cc
-    go (Some n) h = let b = both (nat_le 1 n) (nat_le n text_limit) h in (leb-true 1 n b.0, leb-true n text_limit b.1)
+    go (Some n) h = let b = and_parts (nat_le 1 n) (nat_le n text_limit) h in (leb-true 1 n b.0, leb-true n text_limit b.1)
 is_sort ClobText h = tt
 
 names_apart : (name : List ℕ) (cs : List ColumnText) → has_column name (map column_of cs) ≡ list_any (λ (d : ColumnText). same_list name d.name) cs
@@ -148,21 +133,17 @@ AllNamed (c ∷ cs) = IsName c.name × AllNamed cs
 
 all_columns : (cs : List ColumnText) → AllNamed cs → all_sized cs ≡ true → AllColumns (map column_of cs)
 all_columns [] named h = tt
-all_columns (c ∷ cs) named h = let b = both (is_sized c.sort) (all_sized cs) h in (named.0, is_sort c.sort b.0, all_columns cs named.1 b.1)
-
-not_true : (b : Bool) → not b ≡ true → b ≡ false
-not_true true h = cc
-not_true false h = refl
+all_columns (c ∷ cs) named h = let b = and_parts (is_sized c.sort) (all_sized cs) h in (named.0, is_sort c.sort b.0, all_columns cs named.1 b.1)
 
 apart_columns : (cs : List ColumnText) → are_apart cs ≡ true → AreApart (map column_of cs)
 apart_columns [] h = tt
 apart_columns (c ∷ cs) h =
-    let b = both (not (list_any (λ (d : ColumnText). same_list c.name d.name) cs)) (are_apart cs) h in
-    (names_apart c.name cs ∙ not_true (list_any (λ (d : ColumnText). same_list c.name d.name) cs) b.0, apart_columns cs b.1)
+    let b = and_parts (not (list_any (λ (d : ColumnText). same_list c.name d.name) cs)) (are_apart cs) h in
+    (names_apart c.name cs ∙ not-true (list_any (λ (d : ColumnText). same_list c.name d.name) cs) b.0, apart_columns cs b.1)
 
 key_first : (cs : List ColumnText) → is_key_first cs ≡ true → IsKeyFirst (map column_of cs)
 key_first [] h = cc
-key_first (c ∷ cs) h = number c.sort (both (is_number c.sort) c.primary (both (is_number c.sort && c.primary) (list_all (λ (d : ColumnText). not d.primary) cs) h).0).0
+key_first (c ∷ cs) h = number c.sort (and_parts (is_number c.sort) c.primary (and_parts (is_number c.sort && c.primary) (list_all (λ (d : ColumnText). not d.primary) cs) h).0).0
   where
     number : (s : SortText) → is_number s ≡ true → sort_of s ≡ Number
     number NumberText h = refl
@@ -171,8 +152,8 @@ key_first (c ∷ cs) h = number c.sort (both (is_number c.sort) c.primary (both 
 
 pub columns_pass : (m : State) (t : List ℕ) (cs : List ColumnText) → AllNamed cs → IsFreeTable m t cs → AreColumns (map column_of cs)
 columns_pass m t cs named free =
-    let formed = both (is_key_first cs) (are_apart cs) free.formed in
-    let few = either (nat_lt most_columns (length cs)) (nat_le most_tables (length (entries m.tables))) free.few in
+    let formed = and_parts (is_key_first cs) (are_apart cs) free.formed in
+    let few = or_parts (nat_lt most_columns (length cs)) (nat_le most_tables (length (entries m.tables))) free.few in
     record {
       each = all_columns cs named free.sized;
       key = key_first cs formed.0;
@@ -185,11 +166,11 @@ all_named [] all = tt
 all_named (c ∷ cs) all = (All-head (λ (k : Column). IsName k.name) (column_of c) (map column_of cs) all, all_named cs (All-tail (λ (k : Column). IsName k.name) (column_of c) (map column_of cs) all))
 
 -- the state after CREATE TABLE
-pub created_table_stands : (c : Content) (m : State) (t : List ℕ) (cs : List ColumnText) → Stands c m → IsName t → AllNamed cs → IsFreeTable m t cs → Stands (after (spell (create_changes t (map column_of cs))) c) (with_new_table m t cs)
+pub created_table_stands : (c : Content) (m : State) (t : List ℕ) (cs : List ColumnText) → Stands c m → IsName t → AllNamed cs → IsFreeTable m t cs → Stands (after (spell (table_changes t (map column_of cs))) c) (with_new_table m t cs)
 created_table_stands c m t cs stands name named free =
-    let there = either (is_some (get m.tables t)) (is_view t) free.free in
-    let few = either (nat_lt most_columns (length cs)) (nat_le most_tables (length (entries m.tables))) free.few in
-    new_table_stands c m t (map column_of cs) stands (no_some (get m.tables t) there.0) there.1 name (columns_pass m t cs named free) (leb-false 64 (length (entries m.tables)) few.1)
+    let there = or_parts (is_some (get m.tables t)) (is_view t) free.free in
+    let few = or_parts (nat_lt most_columns (length cs)) (nat_le most_tables (length (entries m.tables))) free.few in
+    new_table_stands c m t (map column_of cs) stands (no_value (get m.tables t) there.0) there.1 name (columns_pass m t cs named free) (leb-false 64 (length (entries m.tables)) few.1)
 
 -- no check holds of what is done
 pub table_free : (m : State) (t : List ℕ) (cs : List ColumnText) (n : State) (reply : List ℕ) → create_table m t cs ≡ Does n reply → IsFreeTable m t cs
@@ -209,8 +190,8 @@ table_free m t cs n reply is =
 takes_all : (well : List ℕ → List ℕ → Bool) → ((key value : List ℕ) → well key value ≡ true) → TakesTables well
 takes_all well takes = λ k value of. takes (bytes k) value
 
-pub table_bounded : (m : State) (t : List ℕ) (cs : List ColumnText) → IsName t → AllNamed cs → IsFreeTable m t cs → are_bounded (spell (create_changes t (map column_of cs))) ≡ true
-table_bounded m t cs name named free = bounded_well (λ key value. true) (spell (create_changes t (map column_of cs))) (well_create (λ key value. true) t (map column_of cs) (takes_all (λ key value. true) (λ key value. refl)) name (columns_pass m t cs named free))
+pub table_bounded : (m : State) (t : List ℕ) (cs : List ColumnText) → IsName t → AllNamed cs → IsFreeTable m t cs → are_bounded (spell (table_changes t (map column_of cs))) ≡ true
+table_bounded m t cs name named free = bounded_well (λ key value. true) (spell (table_changes t (map column_of cs))) (well_create (λ key value. true) t (map column_of cs) (takes_all (λ key value. true) (λ key value. refl)) name (columns_pass m t cs named free))
 
 -- the statement by what was read of the state
 pub table_read : (m : State) (t : List ℕ) (cs : List ColumnText) (there many : Bool) → there ≡ is_some (get m.tables t) → many ≡ nat_le most_tables (length (entries m.tables)) → create_table m t cs ≡ check_table there many t cs (Does (with_new_table m t cs) table_created)
@@ -218,7 +199,7 @@ table_read m t cs there many is most = ap (λ (b : Bool). check_table b (nat_le 
 
 -- the batch of a table that no check refuses
 pub table_made : (m : State) (k : Content) (t : List ℕ) (cs : List ColumnText) (batch : List (List ℕ × Option (List ℕ))) → Stands k m → IsName t
-    → (all_sized cs ≡ true → batch ≡ spell (create_changes t (map column_of cs))) → (all_sized cs ≡ true → All (λ (x : Column). IsName x.name) (map column_of cs)) → create_table m t cs ≡ Does (with_new_table m t cs) table_created
+    → (all_sized cs ≡ true → batch ≡ spell (table_changes t (map column_of cs))) → (all_sized cs ≡ true → All (λ (x : Column). IsName x.name) (map column_of cs)) → create_table m t cs ≡ Does (with_new_table m t cs) table_created
     → (n : State) × (create_table m t cs ≡ Does n table_created) × (are_bounded batch ≡ true) × Stands (after batch k) n
 table_made m k t cs batch stands name changes named is =
     let free = table_free m t cs _ _ is in

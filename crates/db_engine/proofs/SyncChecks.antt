@@ -1,7 +1,7 @@
 -- The checks of a synchronisation.
 use Rattle.std.proofs.Common.{◌≡◌, ℕ, Bool, true, false, List, Option, Some, None, refl, sym, ap, ◌∙◌}
-use Rattle.std.specs.Prelude.{is_some}
 use Rattle.std.specs.FinMap.{get}
+use Rattle.ct_base.specs.laws.Options.{some_value}
 use Rattle.st_parse.specs.declared.statements.Arg.{Arg}
 use Rattle.ix_context.specs.Indexes.{Index}
 use Rattle.db_cond.specs.Faults.{Refusal, UnknownName}
@@ -21,10 +21,6 @@ sync_as m args name there unknown is there_is unknown_is =
 pub passed_by : {X : Type 0} (o : Option X) (r : X → Refusal) (e : Effect) (n : State) (reply : List ℕ) → refuse_by o r e ≡ Does n reply → o ≡ None
 passed_by None r e n reply is = refl
 passed_by (Some x) r e n reply is = cc
-
-some_value : {X : Type 0} (o : Option X) → is_some o ≡ true → (x : X) × (o ≡ Some x)
-some_value None h = cc
-some_value (Some x) h = (x, refl)
 
 known : (there : Bool) (i : List ℕ) → None ≡ unknown_name there (Some i) → there ≡ true
 known true i h = refl

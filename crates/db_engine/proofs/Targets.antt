@@ -8,10 +8,12 @@ use Rattle.std.specs.Cmp.Lexicographic.{slice_cmp}
 use Rattle.std.specs.FinMap.{get, find, entries, get-entries}
 use Rattle.std.proofs.lemmas.Cmp.{nat_list_cmp_total}
 use Rattle.std.proofs.lemmas.List.Elements.{Contains-append_right}
-use Rattle.ct_keep.specs.RisingKeys.{and_true, and_both, entries_rise}
+use Rattle.std.proofs.lemmas.Option.{same_Some}
+use Rattle.std.proofs.lemmas.Bool.{and_parts, and_from}
+use Rattle.ct_keep.specs.RisingKeys.{entries_rise}
 use Rattle.ct_entry.specs.Keys.{Key, same_list}
 use Rattle.ct_entry.specs.Maps.{Names}
-use Rattle.ct_entry.specs.KeyLaws.{list_from_same, list_same}
+use Rattle.ct_entry.specs.laws.Keys.{list_from_same, list_same}
 use Rattle.tb_table.specs.Tables.{Tables}
 use Rattle.tb_table.specs.Rules.{AreTables}
 use Rattle.ix_context.specs.Indexes.{Index}
@@ -20,8 +22,8 @@ use Rattle.ix_context.specs.Spelling.{IndexesStand}
 use Rattle.db_names.specs.declared.heads.IndexKind.TheVariants.{Context}
 use Rattle.db_names.specs.declared.heads.IndexHead.{IndexHead}
 use Rattle.db_names.specs.Findings.{IsIndexOn}
-use Rattle.db_names.specs.HeadLaws.{index_on_read}
-use Rattle.db_names.specs.PairLaws.{pair_found}
+use Rattle.db_names.specs.laws.Heads.{index_on_read}
+use Rattle.db_names.specs.laws.Pairs.{pair_found}
 use Rattle.db_engine.specs.Selecting.{index_among, index_on}
 use Rattle.db_engine.specs.Locating.{FoundOn}
 use Rattle.db_engine.proofs.Heads.{head_of_index, heads, get-heads, head_found, heads_stand}
@@ -33,9 +35,6 @@ pub record IsOnColumn (xs : Names Index) (t : List ℕ) (place : ℕ) (x : Index
   pub table : x.table ≡ t
   pub column : x.column ≡ place
 
-some_same : {A : Type 0} {a b : A} → Some a ≡ Some b → a ≡ b
-some_same e = cc
-
 -- one that is found among pairs is on the column
 among_on : (xs : Names Index) (t : List ℕ) (place : ℕ) (es : List (List ℕ × Index)) (x : Index) → ((e : List ℕ × Index) → Contains es e → get xs e.0 ≡ Some e.1) → index_among t place es ≡ Some x → IsOnColumn xs t place x
 among_on xs t place [] x all is = cc
@@ -43,8 +42,8 @@ among_on xs t place (e ∷ es) x all is = go (same_list e.1.table t && eqb e.1.c
   where
     go : (b : Bool) → (same_list e.1.table t && eqb e.1.column place) ≡ b → cond b (Some e.1) (index_among t place es) ≡ Some x → (index_among t place es ≡ Some x → IsOnColumn xs t place x) → IsOnColumn xs t place x
     go true on is rest =
-        let same : e.1 ≡ x = some_same is in
-        let both = and_true (same_list e.1.table t) (eqb e.1.column place) on in
+        let same : e.1 ≡ x = same_Some _ _ is in
+        let both = and_parts (same_list e.1.table t) (eqb e.1.column place) on in
         record {
           name = e.0;
           there = all e (0, omega arith, refl) ∙ ap Some same;
@@ -61,7 +60,7 @@ among_some t place (e ∷ es) i x is on none = go (same_list e.1.table t && eqb 
     at_name : (b : Bool) → (same_list e.1.table t && eqb e.1.column place) ≡ false → cond b (Some e.1) (find (slice_cmp nat_cmp) i es) ≡ Some x → index_among t place es ≡ None
         → (find (slice_cmp nat_cmp) i es ≡ Some x → (same_list x.table t && eqb x.column place) ≡ true → index_among t place es ≡ None → ⊥) → ⊥
     at_name true off is none rest =
-        let same : e.1 ≡ x = some_same is in
+        let same : e.1 ≡ x = same_Some _ _ is in
         let wrong : true ≡ false = sym on ∙ ap (λ (y : Index). same_list y.table t && eqb y.column place) (sym same) ∙ off in
         cc
     at_name false off is none rest = rest is on none
@@ -105,7 +104,7 @@ index_found f ts xs tables are stand t place (Some i) is = (x, (found.1, one (in
     one : (o : Option Index) → index_on xs t place ≡ o → o ≡ Some x
     one None e =
         absurd (among_some t place (entries xs) i x (sym (get-entries xs i) ∙ found.1)
-        (and_both _ _ (subst (λ (u : List ℕ). same_list x.table u ≡ true) table (list_same x.table)) (eq-eqb x.column place column)) e)
+        (and_from _ _ (subst (λ (u : List ℕ). same_list x.table u ≡ true) table (list_same x.table)) (eq-eqb x.column place column)) e)
     one (Some y) e =
         let on = among_on xs t place (entries xs) y (all_there xs) e in
         let same : on.name ≡ i = are.one on.name i y x on.there found.1 (on.table ∙ sym table) (on.column ∙ sym column) in

@@ -14,7 +14,7 @@ use Rattle.st_parse.specs.declared.statements.Arg.{Arg}
 use Rattle.st_parse.specs.declared.statements.Arg.TheVariants.{Text as TextArg, Number as NumberArg}
 use Rattle.ix_context.specs.Indexes.{Index, pending_rows, synced}
 use Rattle.ix_context.specs.Rules.{most_given}
-use Rattle.tb_table.specs.Rules.{text_limit}
+use Rattle.ct_base.specs.Limits.{text_limit}
 use Rattle.db_cond.specs.Faults.{NotUnderstood, UnknownName, WrongValues, ValueTooLong, BadValue, LimitReached, no_rows}
 use Rattle.db_cond.specs.Lines.{line}
 use Rattle.db_engine.specs.States.{State}

@@ -14,7 +14,7 @@ use Rattle.tb_table.specs.declared.columns.Sort.TheVariants.{Number, Varchar2, C
 use Rattle.tb_table.specs.declared.columns.Column.{Column}
 use Rattle.tb_table.specs.declared.columns.Target.{Target}
 use Rattle.tb_table.specs.Tables.{Table, with_table}
-use Rattle.tb_table.specs.Rules.{text_limit}
+use Rattle.ct_base.specs.Limits.{text_limit}
 use Rattle.ix_context.specs.declared.ranges.KeyRange.{KeyRange}
 use Rattle.ix_context.specs.Indexes.{Index, rows_in, with_index}
 use Rattle.ix_context.specs.Rules.{most_given}

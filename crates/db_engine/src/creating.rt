@@ -9,7 +9,7 @@ ghost use Rattle.ct_keep.specs.KeeperViews.{OnlyReads};
 ghost use Rattle.ct_entry.specs.Keys.{same_list};
 ghost use Rattle.ct_entry.specs.Changes.{spell};
 ghost use Rattle.st_parse.specs.declared.statements.ColumnText.{ColumnText};
-ghost use Rattle.tb_table.specs.Spelling.{create_changes};
+ghost use Rattle.tb_table.specs.Spelling.{table_changes};
 ghost use Rattle.tb_table.specs.declared.columns.Column.{Column};
 ghost use Rattle.db_engine.specs.States.{TakesAll, is_view as is_view_name};
 ghost use Rattle.db_engine.specs.Refusals.{Effect, as_count};
@@ -182,7 +182,7 @@ fn kept_columns(alloc: Global, columns: &[ColumnText]) -> Result<Vec<Column>, Me
 /// The batch that makes a table.
 fn table_batch(alloc: Global, table: &Name, columns: &[ColumnText]) -> Result<Batch, Memory>
     requires { length columns.now ≤ 16 }
-    ensures changes { IfOk result (λ batch. all_sized columns.now ≡ true → batch ≡ spell (create_changes table.now (map column_of columns.now))) }
+    ensures changes { IfOk result (λ batch. all_sized columns.now ≡ true → batch ≡ spell (table_changes table.now (map column_of columns.now))) }
     ensures named { IfOk result (λ batch. all_sized columns.now ≡ true → All (λ (k : Column). IsName k.name) (map column_of columns.now)) }
 {
     let columns = kept_columns(alloc, columns)?;

@@ -6,4 +6,3 @@ pub mod MarkSteps
 pub mod SearchSteps
 pub mod SearchLaws
 pub mod SyncSteps
-pub mod TestChanges

@@ -27,11 +27,11 @@ pub record IsNumberAt (bytes : List ℕ) (before at n next : ℕ) : Type 0 where
   pub small : n < 2 ^ 32
   pub step : IsVarintAt bytes at (n - before) next
 
-abbrev pub numbers_bytes : ℕ → List ℕ → List ℕ
-numbers_bytes before ns = varints (steps before ns)
+abbrev pub steps_bytes : ℕ → List ℕ → List ℕ
+steps_bytes before ns = varints (steps before ns)
 
 abbrev pub AreNumbersAt : List ℕ → ℕ → ℕ → ℕ → List ℕ → ℕ → Type 0
-AreNumbersAt = AreItemsAt Rise numbers_bytes
+AreNumbersAt = AreItemsAt Rise steps_bytes
 
 -- A pair after the one before it.
 pub record IsPairAt (bytes : List ℕ) (before : Pair) (at : ℕ) (p : Pair) (next : ℕ) : Type 0 where
@@ -43,11 +43,11 @@ pub record IsPairAt (bytes : List ℕ) (before : Pair) (at : ℕ) (p : Pair) (ne
   pub step : IsVarintAt bytes at (p.first - before.first) mid
   pub extent : IsVarintAt bytes mid (p.last - p.first) next
 
-abbrev pub pairs_bytes : Pair → List Pair → List ℕ
-pairs_bytes before ps = varints (pair_steps before ps)
+abbrev pub pair_steps_bytes : Pair → List Pair → List ℕ
+pair_steps_bytes before ps = varints (pair_steps before ps)
 
 abbrev pub ArePairsAt : List ℕ → Pair → ℕ → ℕ → List Pair → ℕ → Type 0
-ArePairsAt = AreItemsAt PairsRise pairs_bytes
+ArePairsAt = AreItemsAt PairsRise pair_steps_bytes
 
 -- ---- documents
 
@@ -59,21 +59,21 @@ pub record IsHeadAt (bytes : List ℕ) (before at document count next : ℕ) : T
   pub some : 1 ≤ count
 
 -- A document by its number and its places `ps`: what it begins with, and so many places after `origin`, as AreAt says.
-pub record HasParts {S P : Type 0} (AreAt : List ℕ → S → ℕ → ℕ → List P → ℕ → Type 0) (origin : S) (bytes : List ℕ) (before at number : ℕ) (ps : List P) (next : ℕ) : Type 0 where
+pub record HasDocumentParts {S P : Type 0} (AreAt : List ℕ → S → ℕ → ℕ → List P → ℕ → Type 0) (origin : S) (bytes : List ℕ) (before at number : ℕ) (ps : List P) (next : ℕ) : Type 0 where
   pub start : ℕ
   pub head : IsHeadAt bytes before at number (length ps) start
   pub places : AreAt bytes origin start (length ps) ps next
 
 -- with positions
 abbrev pub IsDocumentAt : List ℕ → ℕ → ℕ → RowDocument → ℕ → Type 0
-IsDocumentAt bytes before at d next = HasParts AreNumbersAt 0 bytes before at d.document d.positions next
+IsDocumentAt bytes before at d next = HasDocumentParts AreNumbersAt 0 bytes before at d.document d.positions next
 
 abbrev pub AreDocumentsAt : List ℕ → ℕ → ℕ → ℕ → List RowDocument → ℕ → Type 0
 AreDocumentsAt = AreItemsAt DocumentsRise documents_bytes
 
 -- with pairs
 abbrev pub IsSpanDocumentAt : List ℕ → ℕ → ℕ → SpanDocument → ℕ → Type 0
-IsSpanDocumentAt bytes before at d next = HasParts ArePairsAt no_pair bytes before at d.document d.pairs next
+IsSpanDocumentAt bytes before at d next = HasDocumentParts ArePairsAt no_pair bytes before at d.document d.pairs next
 
 abbrev pub AreSpanDocumentsAt : List ℕ → ℕ → ℕ → ℕ → List SpanDocument → ℕ → Type 0
 AreSpanDocumentsAt = AreItemsAt SpanDocumentsRise span_documents_bytes

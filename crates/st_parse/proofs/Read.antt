@@ -14,14 +14,13 @@ use Rattle.st_parse.specs.Keywords.{keyword_of}
 use Rattle.st_parse.specs.Lexemes.{word_or, word_of, is_in_line, run, after_run, text_at, sign_of, sign_at, ◌>>=◌, lexeme_at, begins_comment, lexemes_in, lexemes}
 use Rattle.st_parse.specs.Writing.{White, Comment, starts, quoted, sign, IsWordOf, IsDigits, IsWritten, joins_sign, joins, IsText}
 use Rattle.st_parse.proofs.Steps.{letter-word, run-joins, after-shorter}
-use Rattle.st_parse.proofs.Written.{and_parts, is-eq, quote-bytes, one-some}
+use Rattle.std.proofs.lemmas.Bool.{and_parts}
+use Rattle.std.proofs.lemmas.Option.{same_Some}
+use Rattle.st_parse.proofs.Written.{is-eq, quote-bytes, one-some}
 
 abbrev value : {A : Type 0} → A → Option A → A
 value d None = d
 value d (Some a) = a
-
-some-is : {A : Type 0} (a b : A) → Some a ≡ Some b → a ≡ b
-some-is a b e = ap (λ o. value a o) e
 
 -- a choice that gives something
 chosen : {A : Type 0} (b : Bool) (x y : Option A) (a : A) → cond b x y ≡ Some a → ((b ≡ true) × (x ≡ Some a)) ⊎ ((b ≡ false) × (y ≡ Some a))
@@ -61,11 +60,11 @@ abbrev IsWordPiece : Lexeme → Type 0
 IsWordPiece p = ((w : List ℕ) → IsWordOf p w → IsWritten p w) × ((rest : List ℕ) → starts is_name_byte rest ≡ false → starts (joins p) rest ≡ false)
 
 name-piece : (b : Bool) (word : List ℕ) (p : Lexeme) → cond b (Some (Name word)) None ≡ Some p → IsWordPiece p
-name-piece true word p e = subst (λ p. IsWordPiece p) (some-is (Name word) p e) (λ w is. is, λ rest h. h)
+name-piece true word p e = subst (λ p. IsWordPiece p) (same_Some (Name word) p e) (λ w is. is, λ rest h. h)
 name-piece false word p e = cc
 
 word-piece-or : (o : Option Keyword) (word : List ℕ) (p : Lexeme) → word_or word o ≡ Some p → IsWordPiece p
-word-piece-or (Some k) word p e = subst (λ p. IsWordPiece p) (some-is (Word k) p e) (λ w is. is, λ rest h. h)
+word-piece-or (Some k) word p e = subst (λ p. IsWordPiece p) (same_Some (Word k) p e) (λ w is. is, λ rest h. h)
 word-piece-or None word p e = name-piece (is_spelling word) word p e
 
 word-written : (c : ℕ) (cs : List ℕ) (p : Lexeme) → is_ascii_alphabetic c ≡ true
@@ -89,7 +88,7 @@ TextReads front t cs rest = (mid : List ℕ) × (t ≡ front ++ encode_utf8_all 
 text-last : (b : Bool) (front t rest : List ℕ) (c : ℕ) → (c == 39) ≡ b
     → cond {A = Option (List ℕ × List ℕ)} b (Some (front, [])) None ≡ Some (t, rest) → TextReads front t (c ∷ []) rest
 text-last true front t rest c e h =
-    let pr : (front, []) ≡ (t, rest) = some-is (front, []) (t, rest) h in
+    let pr : (front, []) ≡ (t, rest) = same_Some (front, []) (t, rest) h in
     ([], sym (ap (λ x. x.0) pr) ∙ sym (append-nil front), ap (λ x. x ∷ []) (is-eq c 39 e) ∙ ap (λ x. 39 ∷ x.1) pr, subst (λ x. starts (λ c. c == 39) x.1 ≡ false) pr refl)
 text-last false front t rest c e h = cc
 
@@ -102,7 +101,7 @@ text-next true true front t rest cs c d e e' one two h =
     let r = one h in
     (39 ∷ r.0, r.1 ∙ append_assoc front (39 ∷ []) (encode_utf8_all r.0) ∙ ap (λ x. front ++ (x ++ encode_utf8_all r.0)) (sym quote-bytes), ap (λ x. x ∷ d ∷ cs) (is-eq c 39 e) ∙ ap (λ x. 39 ∷ x ∷ cs) (is-eq d 39 e') ∙ ap (λ x. 39 ∷ 39 ∷ x) r.2, r.3)
 text-next true false front t rest cs c d e e' one two h =
-    let pr : (front, d ∷ cs) ≡ (t, rest) = some-is (front, d ∷ cs) (t, rest) h in
+    let pr : (front, d ∷ cs) ≡ (t, rest) = same_Some (front, d ∷ cs) (t, rest) h in
     ([], sym (ap (λ x. x.0) pr) ∙ sym (append-nil front), ap (λ x. x ∷ d ∷ cs) (is-eq c 39 e) ∙ ap (λ x. 39 ∷ x.1) pr, subst (λ x. starts (λ c. c == 39) x.1 ≡ false) pr e')
 text-next false b' front t rest cs c d e e' one two h =
     let r = two h in
@@ -116,7 +115,7 @@ text-written (c ∷ d ∷ cs) front t rest h =
 
 pick : (b : Bool) (k : ℕ) (t s : Symbol) (y : Option Symbol) (c : ℕ) → (c == k) ≡ b → k ∷ [] ≡ sign t → (y ≡ Some s → c ∷ [] ≡ sign s)
     → cond b (Some t) y ≡ Some s → c ∷ [] ≡ sign s
-pick true k t s y c e spelled more h = ap (λ x. x ∷ []) (is-eq c k e) ∙ spelled ∙ ap sign (some-is t s h)
+pick true k t s y c e spelled more h = ap (λ x. x ∷ []) (is-eq c k e) ∙ spelled ∙ ap sign (same_Some t s h)
 pick false k t s y c e spelled more h = more h
 
 sign-is : (c : ℕ) (s : Symbol) → sign_of c ≡ Some s → c ∷ [] ≡ sign s
@@ -151,16 +150,16 @@ sign-step : (a b : Bool) (c : ℕ) (cs rest : List ℕ) (s : Symbol) → ((c == 
     → Reads (Sign s) (c ∷ cs) rest
 sign-step true b c cs rest s e e' d h =
     let parts = and_parts (c == 60) (is_first 61 cs) e in
-    let pr : (AtMost, drop 1 cs) ≡ (s, rest) = some-is (AtMost, drop 1 cs) (s, rest) h in
+    let pr : (AtMost, drop 1 cs) ≡ (s, rest) = same_Some (AtMost, drop 1 cs) (s, rest) h in
     subst (λ x. Reads (Sign x.0) (c ∷ cs) x.1) pr (60 ∷ 61 ∷ [], ap (λ x. x ∷ cs) (is-eq c 60 parts.0) ∙ ap (λ x. 60 ∷ x) (second cs parts.1), refl, no-start (drop 1 cs))
 sign-step false true c cs rest s e e' d h =
     let parts = and_parts (c == 62) (is_first 61 cs) e' in
-    let pr : (AtLeast, drop 1 cs) ≡ (s, rest) = some-is (AtLeast, drop 1 cs) (s, rest) h in
+    let pr : (AtLeast, drop 1 cs) ≡ (s, rest) = same_Some (AtLeast, drop 1 cs) (s, rest) h in
     subst (λ x. Reads (Sign x.0) (c ∷ cs) x.1) pr (62 ∷ 61 ∷ [], ap (λ x. x ∷ cs) (is-eq c 62 parts.0) ∙ ap (λ x. 62 ∷ x) (second cs parts.1), refl, no-start (drop 1 cs))
 sign-step false false c cs rest s e e' d h =
     let found = bound (sign_of c) (λ s. Some (s, cs)) (s, rest) h in
     let spelled = sign-is c found.0 found.1 in
-    let pr : (found.0, cs) ≡ (s, rest) = some-is (found.0, cs) (s, rest) found.2 in
+    let pr : (found.0, cs) ≡ (s, rest) = same_Some (found.0, cs) (s, rest) found.2 in
     subst (λ x. Reads (Sign x.0) (c ∷ cs) x.1) pr (c ∷ [], refl, spelled, sign-parted found.0 c cs spelled e e' d)
 
 one-step : (letter digit quote : Bool) (c : ℕ) (cs rest : List ℕ) (p : Lexeme) → is_ascii_alphabetic c ≡ letter → is_ascii_digit c ≡ digit
@@ -171,19 +170,19 @@ one-step : (letter digit quote : Bool) (c : ℕ) (cs rest : List ℕ) (p : Lexem
     → Reads p (c ∷ cs) rest
 one-step true digit quote c cs rest p e e' e'' d h =
     let found = bound (word_of (map to_ascii_lowercase (run is_name_byte (c ∷ cs)))) (λ w. Some (w, after_run is_name_byte (c ∷ cs))) (p, rest) h in
-    let pr : (found.0, after_run is_name_byte (c ∷ cs)) ≡ (p, rest) = some-is (found.0, after_run is_name_byte (c ∷ cs)) (p, rest) found.2 in
+    let pr : (found.0, after_run is_name_byte (c ∷ cs)) ≡ (p, rest) = same_Some (found.0, after_run is_name_byte (c ∷ cs)) (p, rest) found.2 in
     subst (λ x. Reads x.0 (c ∷ cs) x.1) pr (word-written c cs found.0 e found.1)
 one-step false true quote c cs rest p e e' e'' d h =
-    let pr : (Number (run is_ascii_digit (c ∷ cs)), after_run is_ascii_digit (c ∷ cs)) ≡ (p, rest) = some-is (Number (run is_ascii_digit (c ∷ cs)), after_run is_ascii_digit (c ∷ cs)) (p, rest) h in
+    let pr : (Number (run is_ascii_digit (c ∷ cs)), after_run is_ascii_digit (c ∷ cs)) ≡ (p, rest) = same_Some (Number (run is_ascii_digit (c ∷ cs)), after_run is_ascii_digit (c ∷ cs)) (p, rest) h in
     subst (λ x. Reads x.0 (c ∷ cs) x.1) pr (digits-written c cs e')
 one-step false false true c cs rest p e e' e'' d h =
     let found = bound (text_at [] cs) (λ t. Some (Text t.0, t.1)) (p, rest) h in
-    let pr : (Text found.0.0, found.0.1) ≡ (p, rest) = some-is (Text found.0.0, found.0.1) (p, rest) found.2 in
+    let pr : (Text found.0.0, found.0.1) ≡ (p, rest) = same_Some (Text found.0.0, found.0.1) (p, rest) found.2 in
     let r = text-written cs [] found.0.0 found.0.1 found.1 in
     subst (λ x. Reads x.0 (c ∷ cs) x.1) pr (39 ∷ quoted r.0, ap (λ x. x ∷ cs) (is-eq c 39 e'') ∙ ap (λ x. 39 ∷ x) r.2, (r.0, r.1, refl), r.3)
 one-step false false false c cs rest p e e' e'' d h =
     let found = bound (sign_at c cs) (λ s. Some (Sign s.0, s.1)) (p, rest) h in
-    let pr : (Sign found.0.0, found.0.1) ≡ (p, rest) = some-is (Sign found.0.0, found.0.1) (p, rest) found.2 in
+    let pr : (Sign found.0.0, found.0.1) ≡ (p, rest) = same_Some (Sign found.0.0, found.0.1) (p, rest) found.2 in
     subst (λ x. Reads x.0 (c ∷ cs) x.1) pr (sign-step ((c == 60) && is_first 61 cs) ((c == 62) && is_first 61 cs) c cs found.0.1 found.0.0 refl refl d found.1)
 
 one-written : (c : ℕ) (cs rest : List ℕ) (p : Lexeme) → begins_comment c cs ≡ false → lexeme_at (c ∷ cs) ≡ Some (p, rest) → Reads p (c ∷ cs) rest
@@ -230,12 +229,12 @@ sound-step false false None n c cs ps e d l ih le h = cc
 sound-step false false (Some (p, rest)) n c cs ps e d l ih le h =
     let found = bound (lexemes_in n rest) (λ ls. Some (p ∷ ls)) ps h in
     let reads = one-written c cs rest p d l in
-    subst (λ x. IsText x (c ∷ cs)) (some-is (p ∷ found.0) ps found.2) (more-one p found.0 (c ∷ cs) rest reads (ih rest found.0 (omega (arith, rest-shorter p c cs rest reads)) found.1))
+    subst (λ x. IsText x (c ∷ cs)) (same_Some (p ∷ found.0) ps found.2) (more-one p found.0 (c ∷ cs) rest reads (ih rest found.0 (omega (arith, rest-shorter p c cs rest reads)) found.1))
 
 sound : (n : ℕ) → Sound n
-sound zero [] ps le h = subst (λ x. IsText x []) (some-is [] ps h) ([], refl)
+sound zero [] ps le h = subst (λ x. IsText x []) (same_Some [] ps h) ([], refl)
 sound zero (c ∷ cs) ps le h = absurd (omega arith)
-sound (suc n) [] ps le h = subst (λ x. IsText x []) (some-is [] ps h) ([], refl)
+sound (suc n) [] ps le h = subst (λ x. IsText x []) (same_Some [] ps h) ([], refl)
 sound (suc n) (c ∷ cs) ps le h = sound-step (is_whitespace c) (begins_comment c cs) (lexeme_at (c ∷ cs)) n c cs ps refl refl refl (sound n) (omega arith) h
 
 pub read_is_written : (text : List ℕ) (ps : List Lexeme) → lexemes text ≡ Some ps → IsText ps text

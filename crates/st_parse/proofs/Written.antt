@@ -2,7 +2,8 @@
 use Rattle.std.proofs.Common.{◌≡◌, ℕ, ◌<◌, ◌≤◌, Bool, true, false, cond, List, [], ◌∷◌, ◌++◌, length, refl, sym, ap, ◌∙◌, append_assoc, append-nil, length-append, arith, Some}
 use Rattle.std.specs.Char.{is_ascii_digit, is_ascii_alphabetic, is_whitespace, encode_utf8}
 use Rattle.std.specs.List.{list_all}
-use Rattle.std.specs.Prelude.{◌==◌, ◌&&◌, zero, suc, nat_lt, ◌≢◌, encode_utf8_all}
+use Rattle.std.specs.Prelude.{◌==◌, zero, suc, nat_lt, ◌≢◌, encode_utf8_all}
+use Rattle.std.proofs.lemmas.Bool.{and_parts}
 use lib.Utf8.{encode}
 use Rattle.ct_base.specs.Names.{is_name_byte}
 use Rattle.st_parse.specs.declared.lexemes.Symbol.{Symbol}
@@ -12,10 +13,6 @@ use Rattle.st_parse.specs.declared.lexemes.Lexeme.TheVariants.{Word, Name, Text,
 use Rattle.st_parse.specs.Lexemes.{is_in_line, run, after_run, text_at, ◌>>=◌, lexeme_at, begins_comment, lexemes_in, lexemes}
 use Rattle.st_parse.specs.Writing.{Blank, White, Comment, IsGap, starts, quoted, sign, IsWordOf, IsDigits, IsWritten, joins_sign, joins, IsText}
 use Rattle.st_parse.proofs.Steps.{letter-word, text-char}
-
-pub and_parts : (a b : Bool) → (a && b) ≡ true → (a ≡ true) × (b ≡ true)
-and_parts true b h = (refl, h)
-and_parts false b h = cc
 
 run-all : (p : ℕ → Bool) (w rest : List ℕ) → list_all p w ≡ true → starts p rest ≡ false → run p (w ++ rest) ≡ w
 run-all p [] [] h parted = refl

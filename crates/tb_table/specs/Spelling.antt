@@ -38,6 +38,10 @@ columns_bytes cs = varint (length cs) ++ flat_map column_bytes cs
 abbrev pub numbers_bytes : List ℤ → List ℕ
 numbers_bytes zs = flat_map row_bytes zs
 
+-- the key under which the numbers of a row stand
+abbrev pub numbers_key : List ℕ → ℤ → Key
+numbers_key t r = key kind.RowNumbers t (row_part r)
+
 -- The entries of the kinds Tables, RowNumbers and RowTexts spell the tables.
 pub record TablesStand (f : Key → Option (List ℕ)) (ts : Tables) : Type 0 where
   pub tables : (t : List ℕ) → f (key kind.Tables t []) ≡ option_map (λ (x : Table). columns_bytes x.columns) (get ts t)

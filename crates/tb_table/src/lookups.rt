@@ -6,7 +6,8 @@ ghost use Rattle.std.specs.Option.{option_map};
 ghost use Rattle.ct_keep.specs.KeeperViews.{Finds, OnlyReads};
 ghost use Rattle.ct_keep.specs.Looks.{look, LooksAtMost};
 ghost use Rattle.ct_entry.specs.declared.kinds.Kind.TheVariants as kind;
-ghost use Rattle.ct_entry.specs.Keys.{key, bytes, at, row_part, text_part};
+ghost use Rattle.ct_entry.specs.Keys.{key, bytes, at, text_part};
+ghost use Rattle.tb_table.specs.Spelling.{numbers_key};
 ghost use Rattle.tb_table.specs.Readings.{SpellsColumns, SpellsNumbers, SpellsText};
 
 use crate::columns::Column;
@@ -45,9 +46,9 @@ pub fn number_row<K: Keeper>(
     row: RowKey,
 ) -> Result<Option<Vec<i64>>, KeepFault>
     requires { (K.view keeper.old).ready }
-    ensures value { Finds K.view keeper.old result (λ m found. SpellsNumbers (at m (key kind.RowNumbers table.now (row_part row.0))) (option_map (λ v. v.items) found)) }
+    ensures value { Finds K.view keeper.old result (λ m found. SpellsNumbers (at m (numbers_key table.now row.0)) (option_map (λ v. v.items) found)) }
     ensures reads { OnlyReads K.view keeper.old keeper.new result }
-    ensures at_most { LooksAtMost K.view keeper.old keeper.new (look (bytes (key kind.RowNumbers table.now (row_part row.0))) None) }
+    ensures at_most { LooksAtMost K.view keeper.old keeper.new (look (bytes (numbers_key table.now row.0)) None) }
 {
     let part = row_key_bytes(row);
     let Some(value) = fetch_entry(alloc, keeper, Kind::RowNumbers, table, &part)? else {
@@ -65,9 +66,9 @@ pub fn has_row<K: Keeper>(
     row: RowKey,
 ) -> Result<bool, KeepFault>
     requires { (K.view keeper.old).ready }
-    ensures value { Finds K.view keeper.old result (λ m there. there ≡ is_some (at m (key kind.RowNumbers table.now (row_part row.0)))) }
+    ensures value { Finds K.view keeper.old result (λ m there. there ≡ is_some (at m (numbers_key table.now row.0))) }
     ensures reads { OnlyReads K.view keeper.old keeper.new result }
-    ensures at_most { LooksAtMost K.view keeper.old keeper.new (look (bytes (key kind.RowNumbers table.now (row_part row.0))) None) }
+    ensures at_most { LooksAtMost K.view keeper.old keeper.new (look (bytes (numbers_key table.now row.0)) None) }
 {
     let part = row_key_bytes(row);
     has_entry(alloc, keeper, Kind::RowNumbers, table, &part)

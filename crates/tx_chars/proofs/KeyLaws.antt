@@ -5,11 +5,8 @@ use Rattle.std.specs.Char.{to_ascii_lowercase, encode_utf8, len_utf8}
 use Rattle.std.specs.Str.{IsUtf8, all_scalars, encode_utf8_all}
 use lib.Utf8.{scalar}
 use Rattle.std.proofs.lemmas.Str.{length-encode, len_utf8_bounds, IsUtf8-append, IsUtf8-encode, IsUtf8-nil}
+use Rattle.std.proofs.lemmas.Bool.{and_parts}
 use Rattle.tx_chars.specs.Keys.{cut_at, key_of}
-
-and_parts : (a b : Bool) → (a && b) ≡ true → (a ≡ true) × (b ≡ true)
-and_parts true b h = (refl, h)
-and_parts false b h = cc
 
 -- characters are cut whole
 utf8-step : (b : Bool) (front rest : List ℕ) → IsUtf8 front → IsUtf8 rest → IsUtf8 (cond b (front ++ rest) [])

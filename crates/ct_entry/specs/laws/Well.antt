@@ -1,6 +1,9 @@
 -- Changes on keys that a keeper takes.
-use Rattle.std.proofs.Common.{◌≡◌, ℕ, ◌≤◌, Bool, true, List, [], ◌∷◌, ◌++◌, length, Option, Some, None}
+use Rattle.std.proofs.Common.{◌≡◌, ℕ, ◌+◌, ◌<◌, ◌≤◌, Bool, true, List, [], ◌∷◌, ◌++◌, length, map, take, get_or, Option, Some, None, sym, ap, subst, ◌∙◌}
+use Rattle.std.proofs.lemmas.List.{take_more, map-append}
+use Rattle.ct_keep.specs.declared.batches.Change.{Change}
 use Rattle.ct_keep.specs.Content.{IsEntry}
+use Rattle.ct_keep.specs.Spoken.{spoken}
 use Rattle.ct_keep.specs.Changes.{AreWell}
 use Rattle.ct_entry.specs.Keys.{Key, bytes, IsKey}
 use Rattle.ct_entry.specs.Changes.{spell, AreChanges, AllOf, AllPut}
@@ -28,3 +31,10 @@ pub well-append : (well : List ℕ → List ℕ → Bool) (xs ys : List (List �
 well-append well [] ys a b = b
 well-append well ((key, None) ∷ xs) ys a b = well-append well xs ys a b
 well-append well ((key, Some value) ∷ xs) ys a b = (a.0, a.1, well-append well xs ys a.2 b)
+
+-- the changes of a batch may be made where those before the next and the next may
+pub well_next : (well : List ℕ → List ℕ → Bool) (cs : List Change) (i : ℕ) (c : Change) → i < length cs → c ≡ get_or cs i c → AreWell well (map spoken (take i cs)) → AreWell well (spoken c ∷ []) → AreWell well (map spoken (take (i + 1) cs))
+well_next well cs i c less is before one =
+    subst (AreWell well)
+    (ap (λ (d : Change). map spoken (take i cs) ++ spoken d ∷ []) is ∙ sym (ap (map spoken) (take_more cs i c less) ∙ map-append spoken (take i cs) (get_or cs i c ∷ [])))
+    (well-append well (map spoken (take i cs)) (spoken c ∷ []) before one)

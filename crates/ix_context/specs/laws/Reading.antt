@@ -1,13 +1,13 @@
 -- What the entries of indexes are read as: what the indexes have.
-use Rattle.std.proofs.Common.{◌≡◌, ℕ, ℤ, zero, suc, ◌+◌, ◌≤◌, ◌<◌, ◌^◌, List, [], ◌∷◌, ◌++◌, length, take, drop, Option, Some, None, refl, sym, ap, subst, ◌∙◌, arith}
+use Rattle.std.proofs.Common.{◌≡◌, ℕ, ℤ, zero, suc, ◌+◌, ◌≤◌, ◌<◌, ◌^◌, List, [], ◌∷◌, ◌++◌, length, take, drop, Option, Some, None, refl, sym, ap, ◌∙◌, arith}
 use Rattle.std.specs.Prelude.{is_some}
 use Rattle.std.specs.Option.{option_map, option_and_then}
 use Rattle.std.specs.Int.{to_be_bytes, w32}
 use Rattle.std.specs.FinMap.{get}
 use Rattle.std.proofs.lemmas.Option.{same_Some}
 use Rattle.ct_base.specs.declared.lists.Value.{Value}
-use Rattle.ct_base.specs.declared.lists.Value.TheVariants.{Number as NumberValue, Text as TextValue}
 use Rattle.ct_base.specs.laws.Lists.{cons_parts}
+use Rattle.tb_table.specs.laws.Rules.{short_text, all_others}
 use Rattle.ct_bytes.specs.Varints.{text_bytes}
 use Rattle.ct_bytes.specs.laws.Varints.{text_apart}
 use Rattle.ct_bytes.specs.laws.Numbers.{four_bytes_one}
@@ -19,10 +19,8 @@ use Rattle.ct_entry.specs.Listings.{rows_under}
 use Rattle.ct_entry.specs.laws.Rows.{rows_listed}
 use Rattle.tb_table.specs.declared.columns.Column.{Column}
 use Rattle.tb_table.specs.declared.columns.Target.{Target}
-use Rattle.tb_table.specs.declared.columns.Sort.{Sort}
-use Rattle.tb_table.specs.declared.columns.Sort.TheVariants.{Number, Varchar2, Clob}
-use Rattle.tb_table.specs.Tables.{Tables, row_at, text_of, text_in, as_text}
-use Rattle.tb_table.specs.Rules.{AreTables, FitColumns, IsOfSort, HasAllowedSize, AllColumns, others}
+use Rattle.tb_table.specs.Tables.{Tables, row_at, text_of}
+use Rattle.tb_table.specs.Rules.{AreTables, others}
 use Rattle.tb_table.specs.Readings.{SpellsText}
 use Rattle.tb_table.specs.laws.Reading.{text_read, row_of_table}
 use Rattle.ix_context.specs.Indexes.{Index, Mark, mark_of, pending_rows, target_text}
@@ -102,25 +100,6 @@ pub target_read : (m : Content) (ts : Tables) → HoldsTables m ts → (target :
     → found ≡ target_text ts target r
 target_read m ts holds target r few row found spelt = text_read (at m) ts holds.stand holds.rules target.table target.column r few row found spelt
 
-fits_short : (s : Sort) (v : Value) (text : List ℕ) → HasAllowedSize s → IsOfSort s v → as_text v ≡ Some text → length text ≤ 4000
-fits_short Number (NumberValue n) text is fits e = cc
-fits_short Number (TextValue u) text is fits e = absurd fits
-fits_short (Varchar2 size) (NumberValue n) text is fits e = absurd fits
-fits_short (Varchar2 size) (TextValue u) text is fits e = let same : u ≡ text = cc in subst (λ (l : List ℕ). length l ≤ 4000) same (omega (arith, is.1, fits.0))
-fits_short Clob (NumberValue n) text is fits e = absurd fits
-fits_short Clob (TextValue u) text is fits e = let same : u ≡ text = cc in subst (λ (l : List ℕ). length l ≤ 4000) same fits.0
-
-texts_short : (cs : List Column) (vs : List Value) (place : ℕ) (text : List ℕ) → AllColumns cs → FitColumns cs vs → text_in vs place ≡ Some text
-    → length text ≤ 4000
-texts_short cs [] place text are fit e = cc
-texts_short [] (v ∷ vs) place text are fit e = absurd fit
-texts_short (c ∷ cs) (v ∷ vs) zero text are fit e = fits_short c.sort v text are.1 fit.0 e
-texts_short (c ∷ cs) (v ∷ vs) (suc place) text are fit e = texts_short cs vs place text are.2 fit.1 e
-
-all_others : (cs : List Column) → AllColumns cs → AllColumns (others cs)
-all_others [] are = tt
-all_others (c ∷ cs) are = are.2
-
 -- the texts of rows have at most 4000 bytes
 pub target_short : (ts : Tables) → AreTables ts → (target : Target) (r : ℤ) (text : List ℕ) → target_text ts target r ≡ Some text → length text ≤ 4000
 target_short ts are target r text is = go (row_at ts target.table r) refl is
@@ -130,7 +109,7 @@ target_short ts are target r text is = go (row_at ts target.table r) refl is
     of_row (suc place) vs here e =
         let row = row_of_table ts target.table r vs here in
         let table = are.each target.table row.table row.here in
-        texts_short (others row.table.columns) vs place text (all_others row.table.columns table.columns.each) (table.rows r vs row.row) e
+        short_text (others row.table.columns) vs place text (all_others row.table.columns table.columns.each) (table.rows r vs row.row) e
 
     go : (o : Option (List Value)) → row_at ts target.table r ≡ o → option_and_then (λ vs. text_of vs target.column) o ≡ Some text → length text ≤ 4000
     go None here e = cc

@@ -3,7 +3,7 @@ use Rattle.std.proofs.Common.{◌≡◌, ℕ, ◌+◌, ◌<◌, ◌≤◌, ◌^�
 use Rattle.ct_base.specs.declared.numbers.Pair.{Pair}
 use Rattle.ix_posting.specs.Rows.{Rise, DocumentsRise, IsPostingRow, document_bytes, documents_bytes, posting_bytes}
 use Rattle.ix_posting.specs.SpanRows.{PairsRise, SpanDocumentsRise, IsSpanRow, no_pair, span_document_bytes, span_documents_bytes, span_row_bytes}
-use Rattle.ix_posting.specs.Places.{StandsAt, AreItemsAt, HasParts, numbers_bytes, pairs_bytes, IsDocumentAt, AreDocumentsAt, IsSpanDocumentAt, AreSpanDocumentsAt}
+use Rattle.ix_posting.specs.Places.{StandsAt, AreItemsAt, HasDocumentParts, steps_bytes, pair_steps_bytes, IsDocumentAt, AreDocumentsAt, IsSpanDocumentAt, AreSpanDocumentsAt}
 use Rattle.ix_posting.specs.declared.rows.RowDocument.{RowDocument}
 use Rattle.ix_posting.specs.declared.span_rows.SpanDocument.{SpanDocument}
 use Rattle.ix_posting.specs.laws.Standing.{joined, first_part, second_part}
@@ -16,12 +16,12 @@ use Rattle.ix_posting.specs.laws.Wholes.{IsWhole, whole_parts}
 -- ---- the parts of a document, by the rules and the bytes of its places
 
 module _ {S P : Type 0} (Rises : S → List P → Type 0) (spelling : S → List P → List ℕ) (origin : S) (bytes : List ℕ) where
-  pub parts_stand : (before at n : ℕ) (ps : List P) (next : ℕ) → HasParts (AreItemsAt Rises spelling) origin bytes before at n ps next → StandsAt bytes at (document_head before n (length ps) ++ spelling origin ps) next
+  pub parts_stand : (before at n : ℕ) (ps : List P) (next : ℕ) → HasDocumentParts (AreItemsAt Rises spelling) origin bytes before at n ps next → StandsAt bytes at (document_head before n (length ps) ++ spelling origin ps) next
   parts_stand before at n ps next has =
       joined bytes at (document_head before n (length ps)) has.start (spelling origin ps) next (head_whole bytes before at n (length ps) has.start has.head) has.places.stand
 
-  pub has_parts : (before at n : ℕ) (ps : List P) (next : ℕ) → before < n → n < 2 ^ 32 → 1 ≤ length ps → length ps < 2 ^ 32 → Rises origin ps → StandsAt bytes at (document_head before n (length ps) ++ spelling origin ps) next → HasParts (AreItemsAt Rises spelling) origin bytes before at n ps next
-  has_parts before at n ps next rises small some few rise stands =
+  pub has_document_parts : (before at n : ℕ) (ps : List P) (next : ℕ) → before < n → n < 2 ^ 32 → 1 ≤ length ps → length ps < 2 ^ 32 → Rises origin ps → StandsAt bytes at (document_head before n (length ps) ++ spelling origin ps) next → HasDocumentParts (AreItemsAt Rises spelling) origin bytes before at n ps next
+  has_document_parts before at n ps next rises small some few rise stands =
       let head : List ℕ = document_head before n (length ps) in
       record {
         start = at + length head;
@@ -30,7 +30,7 @@ module _ {S P : Type 0} (Rises : S → List P → Type 0) (spelling : S → List
       }
 
   pub parts_alone : (One : S → ℕ → P → ℕ → Type 0) (after : P → S) → AreItems One (AreItemsAt Rises spelling bytes) after → (before at m : ℕ) (ps : List P) (i n : ℕ) (qs : List P) (j : ℕ)
-      → HasParts (AreItemsAt Rises spelling) origin bytes before at m ps i → HasParts (AreItemsAt Rises spelling) origin bytes before at n qs j → (m ≡ n) × (ps ≡ qs) × (i ≡ j)
+      → HasDocumentParts (AreItemsAt Rises spelling) origin bytes before at m ps i → HasDocumentParts (AreItemsAt Rises spelling) origin bytes before at n qs j → (m ≡ n) × (ps ≡ qs) × (i ≡ j)
   parts_alone One after places before at m ps i n qs j first second =
       let head = head_alone bytes before at m (length ps) first.start n (length qs) second.start first.head second.head in
       let mine : AreItemsAt Rises spelling bytes origin second.start (length qs) ps i = rw (← head.1, ← head.2) first.places in
@@ -44,7 +44,7 @@ with_positions n ps = record { document = n; positions = ps }
 
 document_alone : (bytes : List ℕ) (before at : ℕ) (d : RowDocument) (i : ℕ) (e : RowDocument) (j : ℕ) → IsDocumentAt bytes before at d i → IsDocumentAt bytes before at e j → (d ≡ e) × (i ≡ j)
 document_alone bytes before at d i e j first second =
-    let same = parts_alone Rise numbers_bytes 0 bytes _ _ (numbers bytes) before at d.document d.positions i e.document e.positions j first second in
+    let same = parts_alone Rise steps_bytes 0 bytes _ _ (numbers bytes) before at d.document d.positions i e.document e.positions j first second in
     (ap (λ n. with_positions n d.positions) same.0 ∙ ap (with_positions e.document) same.1, same.2)
 
 pub documents : (bytes : List ℕ) → AreItems (IsDocumentAt bytes) (AreDocumentsAt bytes) (λ d. d.document)
@@ -52,9 +52,9 @@ documents bytes = items_of (IsDocumentAt bytes) DocumentsRise documents_bytes do
   none = λ before. tt;
   no_bytes = λ before. refl;
   more_bytes = λ before d ds. refl;
-  stands = λ before at d next is. parts_stand Rise numbers_bytes 0 bytes before at d.document d.positions next is;
+  stands = λ before at d next is. parts_stand Rise steps_bytes 0 bytes before at d.document d.positions next is;
   rises = λ before at d next ds is others. (is.head.number.rises, is.head.number.small, is.head.some, is.places.rise, others);
-  one = λ before at d next ds rise stands. has_parts Rise numbers_bytes 0 bytes before at d.document d.positions next rise.0 rise.1 rise.2 (omega (arith, few_rise 0 d.positions (omega arith) rise.3)) rise.3 stands;
+  one = λ before at d next ds rise stands. has_document_parts Rise steps_bytes 0 bytes before at d.document d.positions next rise.0 rise.1 rise.2 (omega (arith, few_rise 0 d.positions (omega arith) rise.3)) rise.3 stands;
   others = λ before d ds rise. rise.4;
   alone = document_alone bytes;
 }
@@ -69,7 +69,7 @@ with_pairs n ps = record { document = n; pairs = ps }
 
 span_document_alone : (bytes : List ℕ) (before at : ℕ) (d : SpanDocument) (i : ℕ) (e : SpanDocument) (j : ℕ) → IsSpanDocumentAt bytes before at d i → IsSpanDocumentAt bytes before at e j → (d ≡ e) × (i ≡ j)
 span_document_alone bytes before at d i e j first second =
-    let same = parts_alone PairsRise pairs_bytes no_pair bytes _ _ (pairs bytes) before at d.document d.pairs i e.document e.pairs j first second in
+    let same = parts_alone PairsRise pair_steps_bytes no_pair bytes _ _ (pairs bytes) before at d.document d.pairs i e.document e.pairs j first second in
     (ap (λ n. with_pairs n d.pairs) same.0 ∙ ap (with_pairs e.document) same.1, same.2)
 
 pub span_documents : (bytes : List ℕ) → AreItems (IsSpanDocumentAt bytes) (AreSpanDocumentsAt bytes) (λ d. d.document)
@@ -77,9 +77,9 @@ span_documents bytes = items_of (IsSpanDocumentAt bytes) SpanDocumentsRise span_
   none = λ before. tt;
   no_bytes = λ before. refl;
   more_bytes = λ before d ds. refl;
-  stands = λ before at d next is. parts_stand PairsRise pairs_bytes no_pair bytes before at d.document d.pairs next is;
+  stands = λ before at d next is. parts_stand PairsRise pair_steps_bytes no_pair bytes before at d.document d.pairs next is;
   rises = λ before at d next ds is others. (is.head.number.rises, is.head.number.small, is.head.some, is.head.places.small, is.places.rise, others);
-  one = λ before at d next ds rise stands. has_parts PairsRise pairs_bytes no_pair bytes before at d.document d.pairs next rise.0 rise.1 rise.2 rise.3 rise.4 stands;
+  one = λ before at d next ds rise stands. has_document_parts PairsRise pair_steps_bytes no_pair bytes before at d.document d.pairs next rise.0 rise.1 rise.2 rise.3 rise.4 stands;
   others = λ before d ds rise. rise.5;
   alone = span_document_alone bytes;
 }

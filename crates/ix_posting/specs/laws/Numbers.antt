@@ -3,7 +3,7 @@ use Rattle.std.proofs.Common.{◌≡◌, ℕ, ◌+◌, ◌-◌, ◌<◌, ◌^◌
 use Rattle.ct_bytes.specs.Varints.{varint}
 use Rattle.ct_bytes.specs.laws.Varints.{varint_at_one}
 use Rattle.ix_posting.specs.Rows.{Rise}
-use Rattle.ix_posting.specs.Places.{IsNumberAt, AreNumbersAt, numbers_bytes}
+use Rattle.ix_posting.specs.Places.{IsNumberAt, AreNumbersAt, steps_bytes}
 use Rattle.ix_posting.specs.laws.Items.{AreItems, items_of}
 use Rattle.ix_posting.specs.laws.Standing.{varint_stands, varint_is}
 
@@ -18,7 +18,7 @@ number_alone bytes before at n i m j first second =
     (omega (arith, same.0, first.rises, second.rises), same.1)
 
 pub numbers : (bytes : List ℕ) → AreItems (IsNumberAt bytes) (AreNumbersAt bytes) (λ n. n)
-numbers bytes = items_of (IsNumberAt bytes) Rise numbers_bytes (λ before n. varint (n - before)) (λ n. n) bytes record {
+numbers bytes = items_of (IsNumberAt bytes) Rise steps_bytes (λ before n. varint (n - before)) (λ n. n) bytes record {
   none = λ before. tt;
   no_bytes = λ before. refl;
   more_bytes = λ before n ns. refl;

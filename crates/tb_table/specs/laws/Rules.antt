@@ -1,5 +1,5 @@
 -- New tables and rows keep the rules.
-use Rattle.std.proofs.Common.{◌≡◌, ℕ, ℤ, ◌+◌, ◌<◌, ◌≤◌, Bool, true, false, cond, List, length, Option, Some, None, refl, sym, ap, subst, ◌∙◌, arith}
+use Rattle.std.proofs.Common.{◌≡◌, ℕ, ℤ, ◌+◌, ◌<◌, ◌≤◌, Bool, true, false, cond, List, length, Option, Some, None, refl, sym, ap, subst, ◌∙◌, arith, zero, suc, [], ◌∷◌}
 use Rattle.std.specs.Prelude.{is_some}
 use Rattle.std.specs.declared.cmp.Ordering.{Ordering}
 use Rattle.std.specs.Cmp.{IsTotalOrder}
@@ -9,16 +9,19 @@ use Rattle.std.specs.FinMap.{FinMap, get, insert, entries, empty, len, len-inser
 use Rattle.std.proofs.lemmas.Option.{same_Some}
 use Rattle.ct_base.specs.Names.{IsName}
 use Rattle.ct_base.specs.declared.lists.Value.{Value}
-use Rattle.ct_base.specs.Limits.{row_limit}
+use Rattle.ct_base.specs.Limits.{row_limit, text_limit}
+use Rattle.ct_base.specs.declared.lists.Value.TheVariants.{Number as NumberValue, Text as TextValue}
+use Rattle.tb_table.specs.declared.columns.Sort.TheVariants.{Number, Varchar2, Clob}
+use Rattle.tb_table.specs.declared.columns.Sort.{Sort}
 use Rattle.tb_table.specs.Promises.{NewTablesKeepTheRules, NewRowsKeepTheRules}
 use Rattle.ct_entry.specs.Keys.{same_list, IsRow}
 use Rattle.ct_entry.specs.laws.Keys.{list_from_same}
 use Rattle.ct_entry.specs.laws.Parts.{int_from_eq}
 use Rattle.ct_entry.specs.laws.Maps.{get_row-insert}
 use Rattle.tb_table.specs.declared.columns.Column.{Column}
-use Rattle.tb_table.specs.Tables.{Table}
+use Rattle.tb_table.specs.Tables.{Table, text_in, text_of, as_text}
 use Rattle.ct_entry.specs.Maps.{altered}
-use Rattle.tb_table.specs.Rules.{FitColumns, AreColumns, others, IsTable}
+use Rattle.tb_table.specs.Rules.{FitColumns, AreColumns, others, IsTable, AllColumns, HasAllowedSize, IsOfSort}
 use Rattle.tb_table.specs.laws.Changes.{get-with_table, get-with_row}
 
 -- ---- the laws
@@ -105,3 +108,27 @@ insert_keeps ts t r vs x are is row fit room = record {
     table : (q : List ℕ) (y : Table) (b : Bool) → cond b (Some (record x { rows = insert x.rows r vs })) (get ts q) ≡ Some y → IsTable y
     table q y true e = subst IsTable (same_Some _ y e) (more_is_table x r vs (are.each t x is) row fit room)
     table q y false e = are.each q y e
+
+-- ---- how long texts are
+
+-- the columns but the key are columns too
+pub all_others : (cs : List Column) → AllColumns cs → AllColumns (others cs)
+all_others [] are = tt
+all_others (c ∷ cs) are = are.2
+
+pub short_value : (s : Sort) (v : Value) (text : List ℕ) → HasAllowedSize s → IsOfSort s v → as_text v ≡ Some text → length text ≤ text_limit
+short_value s (NumberValue n) text sort fits is = cc
+short_value Number (TextValue t) text sort fits is = absurd fits
+short_value (Varchar2 size) (TextValue t) text sort fits is = let e : t ≡ text = cc in omega (arith, ap length e, sort.1, fits.0)
+short_value Clob (TextValue t) text sort fits is = let e : t ≡ text = cc in omega (arith, ap length e, fits.0)
+
+pub short_text : (cs : List Column) (vs : List Value) (place : ℕ) (text : List ℕ) → AllColumns cs → FitColumns cs vs → text_in vs place ≡ Some text → length text ≤ text_limit
+short_text cs [] place text are fit is = cc
+short_text [] (v ∷ vs) place text are fit is = absurd fit
+short_text (c ∷ cs) (v ∷ vs) zero text are fit is = short_value c.sort v text are.1 fit.0 is
+short_text (c ∷ cs) (v ∷ vs) (suc place) text are fit is = short_text cs vs place text are.2 fit.1 is
+
+-- the text of a column of a row
+pub short_column : (cs : List Column) (vs : List Value) (column : ℕ) (text : List ℕ) → AllColumns cs → FitColumns (others cs) vs → text_of vs column ≡ Some text → length text ≤ text_limit
+short_column cs vs zero text are fit is = cc
+short_column cs vs (suc place) text are fit is = short_text (others cs) vs place text (all_others cs are) fit is

@@ -6,6 +6,7 @@ use Rattle.ct_base.specs.laws.Names.{name_length}
 use Rattle.ct_base.specs.declared.lists.Value.{Value}
 use Rattle.ct_base.specs.declared.lists.Value.TheVariants.{Number as NumberValue, Text as TextValue}
 use Rattle.ct_base.specs.Limits.{column_limit, text_limit}
+use Rattle.tb_table.specs.laws.Rules.{all_others, short_value}
 use Rattle.ct_bytes.specs.Varints.{varint, text_bytes}
 use Rattle.ct_bytes.specs.laws.Varints.{varint_length}
 use Rattle.ct_keep.specs.Changes.{AreWell}
@@ -14,12 +15,10 @@ use Rattle.ct_entry.specs.Keys.{Key, key, bytes, row_part, text_part, IsRow}
 use Rattle.ct_entry.specs.Changes.{spell, AreChanges, AllOf, AllPut}
 use Rattle.ct_entry.specs.laws.Parts.{is_short}
 use Rattle.ct_entry.specs.laws.Well.{IsWellAt, are_well}
-use Rattle.tb_table.specs.declared.columns.Sort.{Sort}
-use Rattle.tb_table.specs.declared.columns.Sort.TheVariants.{Number, Varchar2, Clob}
 use Rattle.tb_table.specs.declared.columns.Column.{Column}
 use Rattle.tb_table.specs.Tables.{numbers_of, texts_from, texts_of}
 use Rattle.tb_table.specs.Spelling.{column_bytes, columns_bytes, numbers_bytes, table_changes, row_text_changes, insert_changes}
-use Rattle.tb_table.specs.Rules.{HasAllowedSize, IsOfSort, FitColumns, AllColumns, AreColumns, others}
+use Rattle.tb_table.specs.Rules.{FitColumns, AllColumns, AreColumns, others}
 use Rattle.tb_table.specs.laws.Spelling.{length-numbers_bytes}
 use Rattle.tb_table.specs.Readings.{sort_bytes}
 use Rattle.tb_table.specs.laws.Changes.{is_of_tables}
@@ -114,21 +113,12 @@ abbrev pub EachShort : List (ℕ × List ℕ) → Type 0
 EachShort [] = Unit {0}
 EachShort (x ∷ texts) = (length x.1 ≤ text_limit) × EachShort texts
 
-short_text : (s : Sort) (text : List ℕ) → HasAllowedSize s → IsOfSort s (TextValue text) → length text ≤ text_limit
-short_text Number text is fits = absurd fits
-short_text (Varchar2 size) text is fits = omega (arith, is.1, fits.0)
-short_text Clob text is fits = fits.0
-
 each_short : (from : ℕ) (cs : List Column) (vs : List Value) → AllColumns cs → FitColumns cs vs → EachShort (texts_from from vs)
 each_short from [] [] are fit = tt
 each_short from [] (v ∷ vs) are fit = absurd fit
 each_short from (c ∷ cs) [] are fit = absurd fit
 each_short from (c ∷ cs) (NumberValue n ∷ vs) are fit = each_short (suc from) cs vs are.2 fit.1
-each_short from (c ∷ cs) (TextValue text ∷ vs) are fit = (short_text c.sort text are.1 fit.0, each_short (suc from) cs vs are.2 fit.1)
-
-all_others : (cs : List Column) → AllColumns cs → AllColumns (others cs)
-all_others [] are = tt
-all_others (c ∷ cs) are = are.2
+each_short from (c ∷ cs) (TextValue text ∷ vs) are fit = (short_value c.sort (TextValue text) text are.1 fit.0 refl, each_short (suc from) cs vs are.2 fit.1)
 
 pub row_texts_short : (cs : List Column) (vs : List Value) → AreColumns cs → FitColumns (others cs) vs → EachShort (texts_of vs)
 row_texts_short cs vs are fit = each_short 1 (others cs) vs (all_others cs are.each) fit
