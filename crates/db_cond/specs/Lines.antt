@@ -27,7 +27,7 @@ printed (Text text) = printed_text text
 abbrev pub fields_behind_bars : List Value → List ℕ
 fields_behind_bars fields = flat_map (λ field. 124 ∷ printed field) fields
 
--- the line of some fields: the first one, each other one behind a `|`, and a newline
+-- the line of some fields: the first one, each other one after a `|`, and a newline
 abbrev pub line : List Value → List ℕ
 line [] = 10 ∷ []
 line (field ∷ fields) = printed field ++ fields_behind_bars fields ++ 10 ∷ []

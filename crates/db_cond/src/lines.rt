@@ -51,7 +51,7 @@ fn push_value(alloc: Global, out: &mut Vec<u8>, value: &Value) -> Result<(), Mem
     }
 }
 
-/// Puts values, each behind a `|`.
+/// Puts values, each after a `|`.
 fn push_behind_bars(alloc: Global, out: &mut Vec<u8>, values: &[Value]) -> Result<(), Memory>
     ensures { OnOk result (out.new.items ≡ out.old.items ++ fields_behind_bars values.now) }
 {
@@ -62,7 +62,7 @@ fn push_behind_bars(alloc: Global, out: &mut Vec<u8>, values: &[Value]) -> Resul
     Ok(())
 }
 
-/// Puts the first value, and the others each behind a `|`.
+/// Puts the first value, and the others each after a `|`.
 fn push_fields(alloc: Global, out: &mut Vec<u8>, fields: &[Value]) -> Result<(), Memory>
     ensures { OnOk result (out.new.items ++ 10 ∷ [] ≡ out.old.items ++ line_text fields.now) }
 {
@@ -75,7 +75,7 @@ fn push_fields(alloc: Global, out: &mut Vec<u8>, fields: &[Value]) -> Result<(),
     }
 }
 
-/// Puts the line of some fields, with its newline, behind what `out` holds. Where there is no memory, `out` stays as it
+/// Puts the line of some fields, with its newline, after what `out` holds. Where there is no memory, `out` stays as it
 /// was. Its cost is the length of the line.
 pub fn line(alloc: Global, out: &mut Vec<u8>, fields: &[Value]) -> Result<(), Memory>
     ensures ok { OnOk result (out.new.items ≡ out.old.items ++ line_text fields.now) }

@@ -10,37 +10,37 @@ use Rattle.ct_base.specs.laws.Names.{name_length, kept_name-name}
 use Rattle.ct_bytes.specs.Varints.{text_bytes, IsTextAt}
 use Rattle.ct_bytes.specs.laws.Varints.{text_at_one, text_placed}
 use Rattle.ct_bytes.specs.laws.Numbers.{four_bytes_one}
-use Rattle.ix_context.specs.Spelling.{index_bytes, behind_table}
+use Rattle.ix_context.specs.Spelling.{index_bytes, after_table}
 use Rattle.ix_context.specs.Spelling.{HasIndexParts}
 
 pub stands : (bytes t : List ℕ) (c n : ℕ) → length t < 2 ^ 32 → bytes ≡ index_bytes t c n → IsTextAt bytes 1 t (1 + length (text_bytes t))
-stands bytes t c n small is = subst (λ b. IsTextAt b 1 t (1 + length (text_bytes t))) (sym is) (text_placed (1 ∷ []) (behind_table c n) t small)
+stands bytes t c n small is = subst (λ b. IsTextAt b 1 t (1 + length (text_bytes t))) (sym is) (text_placed (1 ∷ []) (after_table c n) t small)
 
-behind : (bytes t : List ℕ) (c n : ℕ) → bytes ≡ index_bytes t c n → drop (1 + length (text_bytes t)) bytes ≡ behind_table c n
-behind bytes t c n is = ap (drop (1 + length (text_bytes t))) is ∙ drop_at (1 ∷ text_bytes t) (behind_table c n) (1 + length (text_bytes t)) (omega arith)
+behind : (bytes t : List ℕ) (c n : ℕ) → bytes ≡ index_bytes t c n → drop (1 + length (text_bytes t)) bytes ≡ after_table c n
+behind bytes t c n is = ap (drop (1 + length (text_bytes t))) is ∙ drop_at (1 ∷ text_bytes t) (after_table c n) (1 + length (text_bytes t)) (omega arith)
 
 -- what was read against what the bytes spell
 pub record Found (bytes t : List ℕ) (c n : ℕ) (text : List ℕ) (at : ℕ) : Type 0 where
   pub same : t ≡ text
-  pub rest : drop at bytes ≡ behind_table c n
+  pub rest : drop at bytes ≡ after_table c n
   pub enough : at + 15 ≤ length bytes
 
 pub found : (bytes t : List ℕ) (c n : ℕ) (text : List ℕ) (at : ℕ) → length t < 2 ^ 32 → bytes ≡ index_bytes t c n → IsTextAt bytes 1 text at
     → Found bytes t c n text at
 found bytes t c n text at small is there =
     let one = text_at_one bytes 1 t (1 + length (text_bytes t)) text at (stands bytes t c n small is) there in
-    let rest : drop at bytes ≡ behind_table c n = subst (λ k. drop k bytes ≡ behind_table c n) one.1 (behind bytes t c n is) in
+    let rest : drop at bytes ≡ after_table c n = subst (λ k. drop k bytes ≡ after_table c n) one.1 (behind bytes t c n is) in
     record {
       same = one.0;
       rest = rest;
       enough = let l = simp length-drop at (ap length rest) in omega (arith, l);
     }
 
-pub column_read : (bytes : List ℕ) (c n at d : ℕ) → drop at bytes ≡ behind_table c n → get_or bytes at d ≡ c
+pub column_read : (bytes : List ℕ) (c n at d : ℕ) → drop at bytes ≡ after_table c n → get_or bytes at d ≡ c
 column_read bytes c n at d rest =
     ap (λ k. get_or bytes k d) (omega arith) ∙ sym (get_or-drop at bytes 0 d) ∙ ap (λ l. get_or l 0 d) rest
 
-pub next_read : (bytes : List ℕ) (c n at next : ℕ) → n < 2 ^ 32 → next < 2 ^ 32 → drop at bytes ≡ behind_table c n
+pub next_read : (bytes : List ℕ) (c n at next : ℕ) → n < 2 ^ 32 → next < 2 ^ 32 → drop at bytes ≡ after_table c n
     → to_be_bytes w32 next ≡ take 4 (drop (at + 8) bytes) → n ≡ next
 next_read bytes c n at next fits small rest is =
     let here : take 4 (drop (at + 8) bytes) ≡ to_be_bytes w32 n = ap (take 4) (sym (drop-drop 8 at bytes)) ∙ ap (λ l. take 4 (drop 8 l)) rest in

@@ -37,7 +37,7 @@ mark_room ts i x (r, Marked) =
     + key_weight (key kind.RowDocuments i (row_part r)) (to_be_bytes w32 last_document)
     + document_cost i (text_seen ts x r)
 
--- the longest place to resume at has a stream, and a token of 255 bytes behind its length in two bytes; the entry as it is has two bytes for none
+-- the longest place to resume at has a stream, and a token of 255 bytes after its length in two bytes; the entry as it is has two bytes for none
 abbrev pub longest_resume : ℕ
 longest_resume = 258
 

@@ -21,14 +21,14 @@ use Rattle.ix_context.specs.Indexes.{Index, Mark, Pending, Marked, mark_at, is_m
 abbrev pub default_bytes : List ℕ
 default_bytes = 0 ∷ 0 ∷ 2 ∷ 0 ∷ 0 ∷ 0 ∷ []
 
--- what stands in the entry of an index behind its table: its column in one byte, that it isn't transactional, its preferences,
+-- what follows the table in the entry of an index: its column in one byte, that it isn't transactional, its preferences,
 -- the next document in four bytes, its tidiness 0, and no place to resume at
-abbrev pub behind_table : ℕ → ℕ → List ℕ
-behind_table column next = column ∷ 0 ∷ default_bytes ++ (to_be_bytes w32 next ++ 0 ∷ 0 ∷ 0 ∷ [])
+abbrev pub after_table : ℕ → ℕ → List ℕ
+after_table column next = column ∷ 0 ∷ default_bytes ++ (to_be_bytes w32 next ++ 0 ∷ 0 ∷ 0 ∷ [])
 
 -- The entry of a CONTEXT index: its kind 1, its table as a text, and the rest.
 abbrev pub index_bytes : List ℕ → ℕ → ℕ → List ℕ
-index_bytes table column next = 1 ∷ text_bytes table ++ behind_table column next
+index_bytes table column next = 1 ∷ text_bytes table ++ after_table column next
 
 -- the change that gives an index on this target its entry, with the document that it gives next
 abbrev pub index_change : List ℕ → Target → ℕ → Key × Option (List ℕ)
@@ -60,9 +60,13 @@ abbrev pub posting_value : ℕ → List ℕ → Option (List ℕ)
 posting_value document [] = None
 posting_value document (p ∷ ps) = Some (posting_bytes (record { document = document; positions = p ∷ ps } ∷ []))
 
--- what the keys of a word's rows of postings in the main stream begin with
+-- what follows the index in the keys of a word's rows of postings in the main stream, up to the end of the word
+abbrev pub word_prefix : List ℕ → List ℕ
+word_prefix word = 0 ∷ length word ∷ word
+
+-- what these keys begin with
 abbrev pub postings_prefix : List ℕ → List ℕ → List ℕ
-postings_prefix i word = prefix_of kind.Postings i ++ 0 ∷ length word ∷ word
+postings_prefix i word = prefix_of kind.Postings i ++ word_prefix word
 
 -- the text of the row that a document is
 abbrev pub document_text : Numbering → Tables → Names Index → List ℕ → ℕ → Option (List ℕ)

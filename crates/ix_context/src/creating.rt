@@ -11,7 +11,7 @@ ghost use Rattle.ix_context.specs.Sees.{ToldTables, SeesTables};
 
 use crate::entries::put_index;
 use crate::faults::{ContextFault, fault_of_reads};
-use crate::marking::{mark_next, number_behind};
+use crate::marking::{mark_next, number_after};
 use crate::ranges::KeyRange;
 use ct_base::{Memory, Name, RowKey};
 use ct_entry::{Kind, row_keys};
@@ -83,7 +83,7 @@ fn changes_of_create<K: Keeper>(
     ensures reads { OnlyReads K.view keeper.old keeper.new result }
 {
     let rows = rows_of(alloc, keeper, &target.table, range)?;
-    let Some(next) = number_behind(1, rows.len()) else {
+    let Some(next) = number_after(1, rows.len()) else {
         return Ok(None);
     };
     let mut changes = Batch::new(alloc);

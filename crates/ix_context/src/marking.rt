@@ -23,7 +23,7 @@ use tx_chars::Key;
 /// How many bytes of text a document may have: far more than a text of a table.
 const MOST_BYTES: usize = 1 << 24;
 
-/// The rest of the key of a token's row of postings in the main stream: the stream 0, the token behind its length, and the
+/// The rest of the key of a token's row of postings in the main stream: the stream 0, the token after its length, and the
 /// row's first document.
 fn posting_part(alloc: Global, token: &[u8], document: u32) -> Result<Vec<u8>, Memory>
     requires { length token.now ≤ 255 }
@@ -191,8 +191,8 @@ pub(crate) fn mark_next<K: Keeper>(
     Ok(())
 }
 
-/// The number behind so many that begin with this one; None where it has over 32 bits.
-pub(crate) fn number_behind(first: u32, count: usize) -> Option<u32>
+/// The number that follows so many, of which this is the first; None where it has over 32 bits.
+pub(crate) fn number_after(first: u32, count: usize) -> Option<u32>
     ensures { MatchOption result (2 ^ 32 ≤ first + count) (λ number. (number ≡ first + count) × (number < 2 ^ 32)) }
 {
     if count <= (u32::MAX - first) as usize {

@@ -1,7 +1,7 @@
 //! The rows that have a word.
 #![tactic(auto, using(ct_keep::specs::Composing::reads_on, ct_keep::specs::Composing::reads_short))]
 
-ghost use Rattle.std.specs.Prelude.{◌≡◌, ◌<◌, ◌∷◌, IfOk, OnOk, Some, Err, map, length, MatchOption};
+ghost use Rattle.std.specs.Prelude.{◌≡◌, ◌<◌, IfOk, OnOk, Some, Err, map, MatchOption};
 ghost use Rattle.std.specs.Option.{option_map};
 ghost use Rattle.ct_keep.specs.KeeperViews.{Finds, OnlyReads, Told};
 ghost use Rattle.ct_keep.specs.Looks.{no_looks, scan_looks, LooksAtMost};
@@ -9,7 +9,7 @@ ghost use Rattle.ct_entry.specs.Keys.{at, IsToken};
 ghost use Rattle.ct_entry.specs.declared.kinds.Kind.TheVariants as kind;
 ghost use Rattle.ix_posting.specs.declared.rows.RowDocument.{RowDocument};
 ghost use Rattle.ix_context.specs.Indexes.{found};
-ghost use Rattle.ix_context.specs.Spelling.{postings_prefix};
+ghost use Rattle.ix_context.specs.Spelling.{word_prefix, postings_prefix};
 ghost use Rattle.ix_context.specs.Scoring.{document_row, with_documents, hit_rows, ScoresRow, AreScores};
 ghost use Rattle.ix_context.specs.Sees.{SeesWithinLimits};
 
@@ -102,20 +102,20 @@ fn scores_of<K: Keeper>(
     Ok(scores)
 }
 
-/// What the rests of the rows of postings of a word begin with: the main stream, and the word behind its length in one
-/// byte. None for a word of no byte or of over 255, which has no rows.
-fn front_of(alloc: Global, word: &Key) -> Result<Option<Vec<u8>>, Memory>
-    ensures { IfOk result (λ front. MatchOption front (IsToken word.now → ⊥) (λ v. IsToken word.now × (v.items ≡ 0 ∷ length word.now ∷ word.now))) }
+/// What follows the index in the key of each row of postings of a word, up to the end of the word: the main stream, the
+/// length of the word in one byte, and the word. None for a word of no byte or of over 255, which has no rows.
+fn word_prefix(alloc: Global, word: &Key) -> Result<Option<Vec<u8>>, Memory>
+    ensures { IfOk result (λ prefix. MatchOption prefix (IsToken word.now → ⊥) (λ v. IsToken word.now × (v.items ≡ word_prefix word.now))) }
 {
     let word = word.as_slice();
     if word.is_empty() || word.len() > 255 {
         return Ok(None);
     }
-    let mut front = Vec::new(alloc);
-    front.push(0)?;
-    front.push(word.len() as u8)?;
-    front.extend_from_slice(word)?;
-    Ok(Some(front))
+    let mut prefix = Vec::new(alloc);
+    prefix.push(0)?;
+    prefix.push(word.len() as u8)?;
+    prefix.extend_from_slice(word)?;
+    Ok(Some(prefix))
 }
 
 /// The rows that have a word, with their scores, in order of their keys. A word of no byte or of over 255 is the key of no
@@ -134,10 +134,10 @@ pub fn search<K: Keeper>(
     ensures reads { OnlyReads K.view keeper.old keeper.new result }
     ensures at_most { Told K.view keeper.old (λ m. LooksAtMost K.view keeper.old keeper.new (scan_looks (postings_prefix index.now word.now) m)) }
 {
-    let Some(front) = front_of(alloc, word)? else {
+    let Some(prefix) = word_prefix(alloc, word)? else {
         return Ok(Vec::new(alloc));
     };
-    let rows = entries_of(alloc, keeper, Kind::Postings, index, &front)?;
+    let rows = entries_of(alloc, keeper, Kind::Postings, index, &prefix)?;
     let scores = scores_of(alloc, keeper, index, &rows)?;
     let hits = scores.into_hits(alloc)?;
     Ok(hits)

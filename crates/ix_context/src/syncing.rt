@@ -11,7 +11,7 @@ ghost use Rattle.ix_context.specs.Sees.{ToldTables, SeesTables, ToldIndex, SeesI
 
 use crate::entries::{put_index, read_index};
 use crate::faults::{ContextFault, fault_of_reads};
-use crate::marking::{mark_next, number_behind};
+use crate::marking::{mark_next, number_after};
 use ct_base::{Name, RowKey};
 use ct_bytes::row_key_bytes;
 use ct_entry::{Kind, remove_entry, row_keys};
@@ -82,7 +82,7 @@ fn settled_changes<K: Keeper>(
     if rows.is_empty() {
         return Ok(Some(changes));
     }
-    let Some(next) = number_behind(first, rows.len()) else {
+    let Some(next) = number_after(first, rows.len()) else {
         return Ok(None);
     };
     settle_rows(alloc, keeper, &mut changes, index, target, first, rows)?;

@@ -1,4 +1,4 @@
--- What is kept of the bytes that stand open, where a statement of more than `limit` bytes is not kept whole.
+-- What a cutter keeps of the bytes in which no statement has ended yet. It keeps no statement of more than `limit` bytes whole.
 use Rattle.std.specs.Prelude.{ℕ, ◌≡◌, ◌≤◌, ◌<◌, ◌+◌, min, take, length, true, false, ◌==◌, List, [], ◌∷◌, codes, Option, Some, None, refl}
 use Rattle.std.specs.Bool.{if◌then◌else◌}
 use denote.Ref.{Bor}
@@ -24,7 +24,7 @@ abbrev pub end_count : ℕ → Option (List ℕ × List ℕ) → Option ℕ
 end_count limit None = None
 end_count limit (Some found) = Some (clip limit (length found.0))
 
--- The bytes `held` stand open: no newline in them ends a statement, and this is seen of them.
+-- No newline in the bytes `held` ends a statement, and this is what a cutter keeps of them.
 pub record StandsOpen (limit : ℕ) (now : Seen) (held : List ℕ) : Type 0 where
   pub opened : first_statement false held ≡ None
   pub limited : now.limit ≡ limit
@@ -57,7 +57,7 @@ pub record Cutting (limit : ℕ) (script : List ℕ) (items : List (List ℕ)) (
   pub cut : Cuts false script items held
   pub stands : StandsOpen limit cutter held
 
--- computed examples: a statement of two bytes and a blank behind its `;`, within the limit and beyond it
+-- computed examples: a statement of two bytes and a blank after its `;`, within the limit and beyond it
 within_the_limit : StandsOpen 4 (record { limit = 4; kept = codes "ab; "; count = 4; stop = Some 2 }) (codes "ab; ")
 within_the_limit = record { opened = refl; limited = refl; kept = refl; count = refl; stop = refl }
 

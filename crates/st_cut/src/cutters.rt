@@ -9,7 +9,7 @@ use ct_base::Memory;
 use std::alloc::Global;
 use std::marker::Model;
 
-/// The bytes that stand open behind the last statement. Of these it keeps the first `limit`.
+/// The bytes that follow the last statement that has ended. Of these it keeps the first `limit`.
 #[derive(Drop)]
 pub struct Cutter {
     limit: usize,
@@ -103,7 +103,7 @@ impl Cutter {
         }
     }
 
-    /// All that stands open, or nothing where that is over `limit` bytes.
+    /// All bytes since the last statement, or nothing where these are over `limit` bytes.
     pub fn rest(&self) -> Option<&[u8]>
         ensures { (limit : ℕ) (held : List ℕ) → StandsOpen limit self.now held → ShowsText limit result held }
     {
@@ -114,7 +114,7 @@ impl Cutter {
         }
     }
 
-    /// Nothing stands open any more.
+    /// Forgets all bytes: a statement has ended.
     pub fn clear(&mut self)
         ensures { StandsOpen self.old.limit self.new [] }
     {

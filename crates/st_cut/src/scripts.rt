@@ -53,7 +53,7 @@ fn cut_end(alloc: Global, items: &mut Vec<Vec<u8>>, cutter: &Cutter) -> Result<(
     Ok(())
 }
 
-/// Cuts a whole script: its statements, each without its `;`, and as the last item what stands behind them.
+/// Cuts a whole script: its statements, each without its `;`, and as the last item what follows them.
 /// Its cost is the length of the script.
 pub fn cut(alloc: Global, script: &[u8]) -> Result<Vec<Vec<u8>>, Memory>
     ensures { IfOk result (λ items. IsCut script.now (texts items.items)) }
@@ -77,7 +77,7 @@ pub fn one_cut()
 mod tests {
     use super::*;
 
-    /// The items with a `|` behind each.
+    /// The items with a `|` after each.
     fn marked(alloc: Global, items: &Vec<Vec<u8>>) -> Result<Vec<u8>, Memory> {
         let mut all = Vec::new(alloc);
         for item in items {

@@ -13,7 +13,7 @@ use Rattle.st_parse.specs.declared.lexemes.Lexeme.{Lexeme}
 use Rattle.st_parse.specs.declared.lexemes.Lexeme.TheVariants.{Word, Name, Text, Number, Sign}
 use Rattle.st_parse.specs.Keywords.{keyword_of}
 
--- what follows, where something is there
+-- the value goes on into the function; None where there is none
 infixl 10 ◌>>=◌
 abbrev pub ◌>>=◌ : {A B : Type 0} → Option A → (A → Option B) → Option B
 None >>= f = None
@@ -43,7 +43,7 @@ word_or word None = name_lexeme word
 abbrev pub word_of : List ℕ → Option Lexeme
 word_of word = word_or word (keyword_of word)
 
--- Of a text that is open and has these bytes so far: all its bytes, and what follows its end. A quote is 39.
+-- Of a text whose quote was opened and that has these bytes so far: all its bytes, and what follows its last quote. A quote is 39.
 abbrev pub text_at : List ℕ → List ℕ → Option (List ℕ × List ℕ)
 text_at front [] = None
 text_at front (c ∷ []) = if c == 39 then Some (front, []) else None
@@ -64,7 +64,7 @@ sign_of c =
     else (if c == 45 then Some Minus
     else None))))))))
 
--- the sign that c is, with a `=` behind it where one stands there, and what follows it
+-- the sign that c is, with a `=` after it where one stands there, and what follows it
 abbrev pub sign_at : ℕ → List ℕ → Option (Symbol × List ℕ)
 sign_at c cs =
     if (c == 60) && is_first 61 cs then Some (AtMost, drop 1 cs)

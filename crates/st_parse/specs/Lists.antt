@@ -19,6 +19,7 @@ AreEnclosed Is ls items = (list : List Lexeme) × AreListed Is list items × (ls
 abbrev pub Reader : Type 0 → Type 0
 Reader A = List Lexeme → Option (A × List Lexeme)
 
+-- an item that was read, with the further items where a comma follows it
 abbrev pub joined : {A : Type 0} → A → List Lexeme → Reader (List A) → Option (List A × List Lexeme)
 joined a (Sign Comma ∷ ls) next = next ls >>= λ more. Some (a ∷ more.0, more.1)
 joined a ls next = Some (a ∷ [], ls)
@@ -36,16 +37,17 @@ abbrev pub EndsList : List Lexeme → Type 0
 EndsList (Sign Comma ∷ ls) = ⊥
 EndsList ls = Unit {0}
 
--- a list in parentheses
+-- what was read, where a `)` follows it
 abbrev pub closed : {A : Type 0} → A × List Lexeme → Option (A × List Lexeme)
 closed (a, Sign Close ∷ ls) = Some (a, ls)
 closed (a, ls) = None
 
+-- a list in parentheses
 abbrev pub enclosed : {A : Type 0} → Reader A → Reader (List A)
 enclosed item (Sign Open ∷ ls) = list_at item ls >>= closed
 enclosed item ls = None
 
--- the same, with nothing behind it
+-- the same, where nothing follows it
 abbrev pub ended : {A : Type 0} → A × List Lexeme → Option A
 ended (a, []) = Some a
 ended (a, l ∷ ls) = None

@@ -16,7 +16,7 @@ positive n = if nat_lt n (2 ^ 63) then Fits (pos n) else Beyond
 abbrev pub negative : ℕ → Whole
 negative n = if nat_le n (2 ^ 63) then Fits (neg_ℤ (pos n)) else Beyond
 
--- the number of these digits, without a sign and behind a minus
+-- the number of these digits, without a sign and after a minus
 abbrev pub number : List ℕ → Whole
 number digits = positive (value digits)
 

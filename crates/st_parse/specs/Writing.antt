@@ -50,7 +50,7 @@ IsWritten (Text t) w = (cs : List ℕ) × (t ≡ encode_utf8_all cs) × (w ≡ 3
 IsWritten (Number ds) w = (w ≡ ds) × IsDigits ds
 IsWritten (Sign s) w = w ≡ sign s
 
--- a character that would belong to the lexeme if it stood behind it
+-- a character that would belong to the lexeme if it stood right after it
 abbrev pub joins_sign : Symbol → ℕ → Bool
 joins_sign Less c = c == 61
 joins_sign Greater c = c == 61

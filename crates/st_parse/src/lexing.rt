@@ -49,7 +49,7 @@ fn is_next(text: &str, wanted: char) -> bool
     }
 }
 
-/// Whether the character may stand in a name behind its first letter.
+/// Whether the character may stand in a name after its first letter.
 fn is_name_char(c: char) -> bool
     ensures { result ≡ is_name_byte c }
 {
@@ -192,7 +192,7 @@ fn sign_of(c: char) -> Option<Symbol>
     }
 }
 
-/// The sign that the character is, with a `=` behind it where one stands there, and what follows it.
+/// The sign that the character is, with a `=` after it where one stands there, and what follows it.
 fn sign_at(c: char, text: &str) -> Option<(Symbol, &str)>
     ensures sign { MatchOption result (sign_at c (chars text.now) ≡ None) (λ x. sign_at c (chars text.now) ≡ Some (x.0, chars x.1.now)) }
     ensures shorter { IfSome result (λ x. length (chars x.1.now) ≤ length (chars text.now)) }

@@ -25,7 +25,7 @@ use Rattle.tb_table.specs.Readings.{SpellsText}
 use Rattle.tb_table.specs.laws.Reading.{text_read, row_of_table}
 use Rattle.ix_context.specs.Indexes.{Index, Mark, mark_of, pending_rows, target_text}
 use Rattle.ix_context.specs.Rules.{IsTarget, HasTextAt}
-use Rattle.ix_context.specs.Spelling.{index_bytes, index_entry, behind_table, queued, SpellsIndex}
+use Rattle.ix_context.specs.Spelling.{index_bytes, index_entry, after_table, queued, SpellsIndex}
 use Rattle.ix_context.specs.laws.Standing.{stand_at}
 use Rattle.ix_context.specs.laws.Changes.{mark_is_row, pending_rows-where}
 use Rattle.ix_context.specs.Postings.{HasShortText}
@@ -48,7 +48,7 @@ column_few ts are t column is =
 -- no other target and document have the same bytes
 pub index_bytes_one : (t u : List ℕ) (c d n k : ℕ) → n < 2 ^ 32 → k < 2 ^ 32 → index_bytes t c n ≡ index_bytes u d k → (t ≡ u) × (c ≡ d) × (n ≡ k)
 index_bytes_one t u c d n k small small' e =
-    let tables = text_apart t u (behind_table c n) (behind_table d k) (cons_parts 1 1 (text_bytes t ++ behind_table c n) (text_bytes u ++ behind_table d k) e).1 in
+    let tables = text_apart t u (after_table c n) (after_table d k) (cons_parts 1 1 (text_bytes t ++ after_table c n) (text_bytes u ++ after_table d k) e).1 in
     let columns = cons_parts c d _ _ tables.1 in
     let next : to_be_bytes w32 n ≡ to_be_bytes w32 k = ap (λ (l : List ℕ). take 4 (drop 8 l)) tables.1 in
     (tables.0, columns.0, four_bytes_one n k small small' next)

@@ -26,7 +26,7 @@ use Rattle.ix_context.specs.Postings.{postings_of, IsPosting}
 use Rattle.ix_context.specs.laws.Tokens.{postings_fit, postings_few}
 use Rattle.ix_context.specs.Indexes.{Index, is_marked, pending_rows, text_seen, synced_index, rows_in, created, target_text}
 use Rattle.ix_context.specs.Rules.{AreIndexes, most_given}
-use Rattle.ix_context.specs.Spelling.{index_bytes, behind_table, index_entry, is_of_indexes}
+use Rattle.ix_context.specs.Spelling.{index_bytes, after_table, index_entry, is_of_indexes}
 use Rattle.ix_context.specs.Changes.{note_insert_changes, posting_change, text_changes, document_changes, mark_changes, settle_changes, numbered, sync_rows_changes, sync_changes, create_changes}
 use Rattle.ix_context.specs.laws.Marks.{EachRow}
 use Rattle.ix_context.specs.laws.Changes.{pending_free, no_marks, rows_free}
@@ -109,7 +109,7 @@ length-one_row_le d ps =
 
 length-entry_le : (t : List ℕ) (c n : ℕ) → IsName t → length (index_bytes t c n) ≤ 51
 length-entry_le t c n name =
-    let front = length-append (text_bytes t) (behind_table c n) in
+    let front = length-append (text_bytes t) (after_table c n) in
     let text = length-append (varint (length t)) t in
     let count = varint_length (length t) in
     let short = (name_length t name).1 in

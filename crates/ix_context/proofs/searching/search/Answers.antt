@@ -14,7 +14,7 @@ use Rattle.ix_context.proofs.searching.search.Goals as goal
 
 pub returns-in_default-clause-found : goal.returns-in_default-clause-found
 returns-in_default-clause-found g c = λ m ts xs x holds only stand there fit.
-    let none = none_says _ _ _ c.in_default.is c.in_ok-front.ensures in
+    let none = none_says _ _ _ c.in_default.is c.in_ok-prefix.ensures in
     let nothing : found ts x c.args.word.now 0 ≡ [] = finds_none ts x c.args.word.now (stands_nowhere c.args.word.now none) in
     rw nothing (search rules)
 
@@ -22,7 +22,7 @@ pub returns-clause-found : goal.returns-clause-found
 returns-clause-found g c = λ m ts xs x holds only stand there fit.
     let index = c.args.index.now in
     let word = c.args.word.now in
-    let token = some_says _ _ _ c.in-Some.front c.in-Some.is c.in_ok-front.ensures in
+    let token = some_says _ _ _ c.in-Some.prefix c.in-Some.is c.in_ok-prefix.ensures in
     let all = finds m ts xs x index word stand.0 only stand.1 stand.2 there fit token.0 in
     let rows : pairs_of c.deref-2.result.now ≡ entries (tail (prefix_of kind.Postings index ++ 0 ∷ length word ∷ word) m) =
     ap pairs_of c.deref-2.ensures.value ∙ c.in_ok-rows.ensures.entries m holds
