@@ -24,13 +24,13 @@ printed (Number n) = signed_decimal n
 printed (Text text) = printed_text text
 
 -- fields, each with a `|` before it
-abbrev pub parted : List Value → List ℕ
-parted fields = flat_map (λ field. 124 ∷ printed field) fields
+abbrev pub fields_behind_bars : List Value → List ℕ
+fields_behind_bars fields = flat_map (λ field. 124 ∷ printed field) fields
 
--- the line of some fields: the first one, each other one behind a `|`, and a newline
+-- the line of some fields: the first one, each other one after a `|`, and a newline
 abbrev pub line : List Value → List ℕ
 line [] = 10 ∷ []
-line (field ∷ fields) = printed field ++ parted fields ++ 10 ∷ []
+line (field ∷ fields) = printed field ++ fields_behind_bars fields ++ 10 ∷ []
 
 -- computed examples
 token : line (Text (codes "web") ∷ Number (pos 0) ∷ Number (pos 3) ∷ []) ≡ codes "web|0|3\n"

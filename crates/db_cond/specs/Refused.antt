@@ -1,7 +1,9 @@
 -- The refusals that code makes, as refusals of the definitions.
+use Rattle.std.specs.Prelude.{◌≡◌, negsuc, codes, refl}
+use Rattle.std.specs.Fmt.{digits}
 use Rattle.db_cond.specs.declared.faults.Fault.{Fault}
 use Rattle.db_cond.specs.declared.faults.Fault.TheVariants as fault
-use Rattle.db_cond.specs.Faults.{Refusal, UnknownName, ExistsAlready, WrongValues, KeyExists, ValueTooLong, NotInProfile, OutOfRange, NoIndexOfKind, BadValue, LimitReached}
+use Rattle.db_cond.specs.Faults.{Refusal, UnknownName, ExistsAlready, WrongValues, KeyExists, ValueTooLong, NotInProfile, OutOfRange, NoIndexOfKind, BadValue, LimitReached, refusal_line}
 
 abbrev pub refusal_of : Fault → Refusal
 refusal_of (fault.UnknownName name) = UnknownName name.now
@@ -14,3 +16,8 @@ refusal_of fault.OutOfRange = OutOfRange
 refusal_of fault.NoIndexOfKind = NoIndexOfKind
 refusal_of fault.BadValue = BadValue
 refusal_of fault.LimitReached = LimitReached
+
+-- computed example
+key_of_a_row : refusal_line (refusal_of (fault.KeyExists (negsuc 6))) ≡ codes "E14: key -7 exists\n"
+unfolding digits
+key_of_a_row = refl

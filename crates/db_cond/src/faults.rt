@@ -44,12 +44,12 @@ fn push_fixed(out: &mut Vec<u8>, text: &[u8]) -> Result<(), Memory>
 }
 
 /// Puts a text, what is printed of a name, and a text.
-fn push_named(out: &mut Vec<u8>, before: &[u8], name: &str, behind: &[u8]) -> Result<(), Memory>
-    ensures { OnOk result (out.new.items ≡ out.old.items ++ (before.now ++ (printed_text name.now ++ behind.now))) }
+fn push_named(out: &mut Vec<u8>, before: &[u8], name: &str, after: &[u8]) -> Result<(), Memory>
+    ensures { OnOk result (out.new.items ≡ out.old.items ++ (before.now ++ (printed_text name.now ++ after.now))) }
 {
     out.extend_from_slice(before)?;
     push_text(out, name.as_bytes())?;
-    out.extend_from_slice(behind)?;
+    out.extend_from_slice(after)?;
     Ok(())
 }
 
@@ -59,13 +59,13 @@ fn push_numbered(
     out: &mut Vec<u8>,
     before: &[u8],
     number: i64,
-    behind: &[u8],
+    after: &[u8],
 ) -> Result<(), Memory>
-    ensures { OnOk result (out.new.items ≡ out.old.items ++ (before.now ++ (signed_decimal number ++ behind.now))) }
+    ensures { OnOk result (out.new.items ≡ out.old.items ++ (before.now ++ (signed_decimal number ++ after.now))) }
 {
     out.extend_from_slice(before)?;
     push_number(alloc, out, number)?;
-    out.extend_from_slice(behind)?;
+    out.extend_from_slice(after)?;
     Ok(())
 }
 

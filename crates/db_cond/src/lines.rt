@@ -3,7 +3,7 @@
 ghost use Rattle.std.specs.Prelude.{◌≡◌, ◌++◌, ◌∷◌, [], pos, OnOk, OnErr};
 ghost use Rattle.std.specs.Fmt.{signed_decimal};
 ghost use Rattle.ct_base.specs.declared.lists.Value.TheVariants.{Number, Text};
-ghost use Rattle.db_cond.specs.Lines.{line as line_text, parted, printed, printed_byte, printed_text};
+ghost use Rattle.db_cond.specs.Lines.{line as line_text, fields_behind_bars, printed, printed_byte, printed_text};
 
 use ct_base::{Memory, Value};
 use std::alloc::Global;
@@ -51,9 +51,9 @@ fn push_value(alloc: Global, out: &mut Vec<u8>, value: &Value) -> Result<(), Mem
     }
 }
 
-/// Puts values, each behind a `|`.
-fn push_parted(alloc: Global, out: &mut Vec<u8>, values: &[Value]) -> Result<(), Memory>
-    ensures { OnOk result (out.new.items ≡ out.old.items ++ parted values.now) }
+/// Puts values, each after a `|`.
+fn push_behind_bars(alloc: Global, out: &mut Vec<u8>, values: &[Value]) -> Result<(), Memory>
+    ensures { OnOk result (out.new.items ≡ out.old.items ++ fields_behind_bars values.now) }
 {
     for value in values {
         out.push(b'|')?;
@@ -62,7 +62,7 @@ fn push_parted(alloc: Global, out: &mut Vec<u8>, values: &[Value]) -> Result<(),
     Ok(())
 }
 
-/// Puts the first value, and the others each behind a `|`.
+/// Puts the first value, and the others each after a `|`.
 fn push_fields(alloc: Global, out: &mut Vec<u8>, fields: &[Value]) -> Result<(), Memory>
     ensures { OnOk result (out.new.items ++ 10 ∷ [] ≡ out.old.items ++ line_text fields.now) }
 {
@@ -70,12 +70,12 @@ fn push_fields(alloc: Global, out: &mut Vec<u8>, fields: &[Value]) -> Result<(),
         [] => Ok(()),
         [first, others @ ..] => {
             push_value(alloc, out, first)?;
-            push_parted(alloc, out, others)
+            push_behind_bars(alloc, out, others)
         }
     }
 }
 
-/// Puts the line of some fields, with its newline, behind what `out` holds. Where there is no memory, `out` stays as it
+/// Puts the line of some fields, with its newline, after what `out` holds. Where there is no memory, `out` stays as it
 /// was. Its cost is the length of the line.
 pub fn line(alloc: Global, out: &mut Vec<u8>, fields: &[Value]) -> Result<(), Memory>
     ensures ok { OnOk result (out.new.items ≡ out.old.items ++ line_text fields.now) }

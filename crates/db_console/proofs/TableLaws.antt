@@ -7,8 +7,8 @@ use Rattle.ct_base.specs.laws.Told.{with_prefix-nil, with_prefix_twice, with_suf
 use Rattle.ct_keep.specs.Content.{Content}
 use Rattle.ct_keep.specs.KeeperViews.{KeeperView, PassesRoom, IsSettled}
 use Rattle.ct_keep.specs.Composing.{same_aside, same_limit, passes_behind, passes_as}
-use Rattle.st_cut.specs.Seen.{Seen, Stands as StandsOpen}
-use Rattle.db_state.specs.States.{State, Stands}
+use Rattle.st_cut.specs.Seen.{Seen, StandsOpen}
+use Rattle.db_engine.specs.States.{State, Stands}
 use Rattle.db_engine.specs.Runs.{Turn, turn, pieces, state_after, transcript, state_after-append, transcript-append, AllAllowed}
 use Rattle.db_console.specs.declared.saying.Stop.{Stop}
 use Rattle.db_console.specs.declared.saying.Stop.TheVariants.{Say, Disk}

@@ -3,7 +3,7 @@ use Rattle.std.specs.Result.{IfErr}
 use Rattle.std.proofs.Common.{◌≡◌, ◌≤◌, ◌<◌, ◌+◌, ◌++◌, ◌∷◌, [], ℕ, List, Bool, true, false, Option, Some, None, is_some, Result, Ok, Err, Bor, length, take, drop, get_or, map, refl, sym, subst, arith, append_assoc, append-nil, add-one, drop-cons}
 use Rattle.std.proofs.lemmas.List.{take_all, take_more, take-append-drop}
 use Rattle.st_cut.specs.Cut.{Cuts, first_statement}
-use Rattle.st_cut.specs.Seen.{Seen, Stands as StandsOpen, Shows as ShowsText}
+use Rattle.st_cut.specs.Seen.{Seen, StandsOpen, ShowsText}
 use Rattle.st_cut.proofs.Cutting.{ended_text, no_text, some_cut}
 use Rattle.ct_keep.specs.Composing.{same_limit}
 use Rattle.ct_keep.specs.KeeperViews.{KeeperView}

@@ -8,7 +8,7 @@ use Rattle.ct_base.specs.laws.Told.{with_suffix-nil, with_suffix_twice, says_suf
 use Rattle.ct_base.specs.Told.{SaysPart}
 use Rattle.ct_keep.specs.Content.{Content}
 use Rattle.st_cut.specs.Cut.{first_statement}
-use Rattle.st_cut.specs.Seen.{Seen, Stands as StandsOpen}
+use Rattle.st_cut.specs.Seen.{Seen, StandsOpen}
 use Rattle.st_cut.proofs.Cuts.{cuts_go_on, open_newline}
 use Rattle.db_state.specs.States.{State}
 use Rattle.db_state.specs.Effects.{state_by, reply_by}

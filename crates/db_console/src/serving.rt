@@ -2,8 +2,8 @@
 
 ghost use Rattle.std.specs.Prelude.{◌≡◌, ◌≤◌, ◌<◌, ◌∷◌, [], ℕ, List, true, false, Ok, IfOk, OnOk, OnErr, IfErr, length, take};
 ghost use Rattle.ct_base.specs.Told.{took};
-ghost use Rattle.st_cut.specs.Seen.{Shows as ShowsText};
-ghost use Rattle.db_state.specs.States.{TakesAll};
+ghost use Rattle.st_cut.specs.Seen.{ShowsText};
+ghost use Rattle.db_engine.specs.States.{TakesAll};
 ghost use Rattle.db_engine.specs.Runs.{statement, rest_piece};
 ghost use Rattle.db_console.specs.Views.{Heard, EndsHere, HearRose, Answers, Stops, Serves, Breaks, Finishes};
 ghost use Rattle.db_console.specs.Table.{Closes, Outcome};

@@ -1,3 +1,5 @@
+pub mod MappedEntries
+pub mod FoundLaws
 pub mod OccurrenceLaws
 pub mod EntrySteps
 pub mod MarkSteps

@@ -15,7 +15,8 @@ change_added change all batch new left rest e before is added =
 
 -- the changes of the first row of those that are left were added
 pub row_added : (changes : ℕ × ℤ → List (Key × Option (List ℕ))) (all batch new : List (List ℕ × Option (List ℕ))) (d : ℕ) (r : ℤ) (left rest : List ℤ)
-    → batch ++ spell (each changes (numbered d left)) ≡ all → left ≡ r ∷ rest → new ≡ batch ++ spell (changes (d, r)) → new ++ spell (each changes (numbered (d + 1) rest)) ≡ all
+    → batch ++ spell (each changes (numbered d left)) ≡ all → left ≡ r ∷ rest → new ≡ batch ++ spell (changes (d, r))
+    → new ++ spell (each changes (numbered (d + 1) rest)) ≡ all
 row_added changes all batch new d r left rest before is added =
     ap (λ b. b ++ spell (each changes (numbered (d + 1) rest))) added
     ∙ append_assoc batch (spell (changes (d, r))) (spell (each changes (numbered (d + 1) rest)))
@@ -23,7 +24,8 @@ row_added changes all batch new d r left rest before is added =
     ∙ ap (λ l. batch ++ spell (each changes (numbered d l))) (sym is) ∙ before
 
 -- the first of the row keys that are left
-pub rows_left : (rows : List RowKey) (i : ℕ) (row : RowKey) → i < length rows → map (λ (r : RowKey). r.0) (drop i rows) ≡ (get_or rows i row).0 ∷ map (λ (r : RowKey). r.0) (drop (i + 1) rows)
+pub rows_left : (rows : List RowKey) (i : ℕ) (row : RowKey) → i < length rows
+    → map (λ (r : RowKey). r.0) (drop i rows) ≡ (get_or rows i row).0 ∷ map (λ (r : RowKey). r.0) (drop (i + 1) rows)
 rows_left rows i row less =
     let e : drop i rows ≡ get_or rows i row ∷ drop (i + 1) rows = rw (add-one, drop-cons rows i row) refl in
     ap (λ (l : List RowKey). map (λ (r : RowKey). r.0) l) e

@@ -1,4 +1,4 @@
--- What noting the changes of a text one by one comes to.
+-- What noting the words of a text one by one comes to.
 use Rattle.std.proofs.Common.{◌≡◌, ℕ, ◌+◌, ◌<◌, ◌≤◌, length, arith, Bool, true, false, cond, List, [], ◌∷◌, ◌++◌, Option, Some, None, Vec, refl, sym, ap, ◌∙◌, append_assoc}
 use Rattle.std.specs.Option.{option_map, unwrap_or}
 use Rattle.std.specs.declared.alloc.Global.{Global}
@@ -13,13 +13,14 @@ use Rattle.ct_keep.specs.Content.{Content}
 use Rattle.ct_entry.specs.Keys.{same_list}
 use Rattle.std.proofs.lemmas.Map.Lookups.{exact_bytes}
 use Rattle.ix_context.specs.Postings.{positions_from, positions, words_of, if_any, postings_of}
-use Rattle.ix_context.specs.PostingLaws.{get-postings_of}
-use Rattle.ix_context.specs.Occurrences.{had, noted, noted_all}
+use Rattle.ix_context.specs.laws.Postings.{get-postings_of}
+use Rattle.ix_context.specs.Occurrences.{had, with_position, with_positions}
 use Rattle.ct_entry.specs.laws.Keys.{list_from_same}
 use Rattle.ct_entry.specs.laws.Maps.{get_name-insert, get_name-remove}
 
-get-noted : (m : Content) (w : List ℕ) (p : ℕ) (q : List ℕ) → get (noted m w p) q ≡ cond (same_list q w) (Some (had (get m w) ++ p ∷ [])) (get m q)
-get-noted m w p q =
+get-with_position : (m : Content) (w : List ℕ) (p : ℕ) (q : List ℕ)
+    → get (with_position m w p) q ≡ cond (same_list q w) (Some (had (get m w) ++ p ∷ [])) (get m q)
+get-with_position m w p q =
     get_name-insert (remove m w) w (had (get m w) ++ p ∷ []) q
     ∙ ap (cond (same_list q w) (Some (had (get m w) ++ p ∷ []))) (get_name-remove m w q)
     ∙ once (same_list q w)
@@ -41,11 +42,11 @@ joined_more : (o : Option (List ℕ)) (p : ℕ) (ps : List ℕ) → joined (Some
 joined_more None p ps = refl
 joined_more (Some qs) p ps = ap (λ (l : List ℕ). Some l) (append_assoc qs (p ∷ []) ps)
 
-noted_all_at : (ws : List (List ℕ)) (m : Content) (p : ℕ) (q : List ℕ) → get (noted_all m p ws) q ≡ joined (get m q) (positions_from p q ws)
-noted_all_at [] m p q = sym (joined_none (get m q))
-noted_all_at (w ∷ ws) m p q =
-    noted_all_at ws (noted m w p) (p + 1) q
-    ∙ ap (λ (o : Option (List ℕ)). joined o (positions_from (p + 1) q ws)) (get-noted m w p q)
+with_positions_at : (ws : List (List ℕ)) (m : Content) (p : ℕ) (q : List ℕ) → get (with_positions m p ws) q ≡ joined (get m q) (positions_from p q ws)
+with_positions_at [] m p q = sym (joined_none (get m q))
+with_positions_at (w ∷ ws) m p q =
+    with_positions_at ws (with_position m w p) (p + 1) q
+    ∙ ap (λ (o : Option (List ℕ)). joined o (positions_from (p + 1) q ws)) (get-with_position m w p q)
     ∙ here (same_list q w) refl
   where
     here : (b : Bool) → same_list q w ≡ b
@@ -55,10 +56,10 @@ noted_all_at (w ∷ ws) m p q =
         ∙ ap (λ (k : List ℕ). joined (get m k) (p ∷ positions_from (p + 1) q ws)) (sym (list_from_same q w is))
     here false is = refl
 
--- what all changes of a text come to
-pub noted_postings : (text : List ℕ) → noted_all empty 1 (words_of text) ≡ postings_of text
-noted_postings text = same_map nat_list_cmp_total exact_bytes (noted_all empty 1 (words_of text)) (postings_of text) (λ q.
-    noted_all_at (words_of text) empty 1 q
+-- what all words of a text come to
+pub with_positions-postings : (text : List ℕ) → with_positions empty 1 (words_of text) ≡ postings_of text
+with_positions-postings text = same_map nat_list_cmp_total exact_bytes (with_positions empty 1 (words_of text)) (postings_of text) (λ q.
+    with_positions_at (words_of text) empty 1 q
     ∙ ap (λ (o : Option (List ℕ)). joined o (positions q text)) (get-empty (slice_cmp nat_cmp) q)
     ∙ sym (get-postings_of text q))
 

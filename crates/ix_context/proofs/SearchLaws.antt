@@ -33,12 +33,12 @@ use Rattle.tb_table.specs.Tables.{Tables}
 use Rattle.ix_posting.specs.declared.rows.RowDocument.{RowDocument}
 use Rattle.ix_posting.specs.Rows.{IsPostingRow, posting_bytes}
 use Rattle.ix_context.specs.Postings.{positions, word_score}
-use Rattle.ix_context.specs.PostingLaws.{positions_rise}
+use Rattle.ix_context.specs.laws.Postings.{positions_rise}
 use Rattle.ix_context.specs.Indexes.{Index, Mark, Pending, Marked, is_marked, mark_of, text_seen, if_above, scored, found, found_at}
 use Rattle.ix_context.specs.Spelling.{Numbering, IsNumbering, IndexesSpelled, posting_value}
 use Rattle.ix_context.specs.Limits.{IsWithinLimits}
 use Rattle.ix_context.specs.Scoring.{document_row, with_score, positions_score, with_postings, HoldRows}
-use Rattle.ix_context.specs.Picked.{entries_picked}
+use Rattle.ix_context.proofs.MappedEntries.{entries_mapped}
 
 there_some : {X : Type 0} (o : Option X) (x : X) → o ≡ Some x → is_some o ≡ true
 there_some o x is = ap is_some is
@@ -52,7 +52,8 @@ abbrev scored_as : Tables → Index → List ℕ → ℤ → Mark → Option ℕ
 scored_as ts x w r Pending = None
 scored_as ts x w r Marked = option_and_then (λ text. if_some (word_score w text)) (text_seen ts x r)
 
-scored_found : (ts : Tables) (x : Index) (w : List ℕ) (r : ℤ) (mark : Mark) → option_map {U = ℤ × ℕ} (λ s. (r, s)) (scored_as ts x w r mark) ≡ found_at ts x w 0 r mark
+scored_found : (ts : Tables) (x : Index) (w : List ℕ) (r : ℤ) (mark : Mark)
+    → option_map {U = ℤ × ℕ} (λ s. (r, s)) (scored_as ts x w r mark) ≡ found_at ts x w 0 r mark
 scored_found ts x w r Pending = refl
 scored_found ts x w r Marked = go (text_seen ts x r)
   where
@@ -93,7 +94,8 @@ value_of_some d [] some = absurd (omega arith)
 value_of_some d (p ∷ ps) some = refl
 
 some_score : (ps : List ℕ) → 1 ≤ length ps → if_some (positions_score ps) ≡ Some (positions_score ps)
-some_score ps some = let above : nat_lt 0 (min 100 (length ps)) ≡ true = grind (arith, nat_tests) in ap (λ (b : Bool). cond b (Some (positions_score ps)) None) above
+some_score ps some =
+    let above : nat_lt 0 (min 100 (length ps)) ≡ true = grind (arith, nat_tests) in ap (λ (b : Bool). cond b (Some (positions_score ps)) None) above
 
 score_some : (ps : List ℕ) (s : ℕ) → if_some (positions_score ps) ≡ Some s → 1 ≤ length ps
 score_some [] s is = cc
@@ -137,7 +139,8 @@ module _ (m : Content) (ts : Tables) (xs : Names Index) (x : Index) (i w : List 
     some : 1 ≤ length (positions w text)
     value : v ≡ posting_bytes (record { document = document; positions = positions w text } ∷ [])
 
-  value_at : (d : ℕ) → IsDocument d → at m (key kind.Postings i (posting_part 0 w d)) ≡ option_and_then (λ text. posting_value d (positions w text)) (option_and_then (λ r. text_seen ts x r) (n.row i d))
+  value_at : (d : ℕ) → IsDocument d
+      → at m (key kind.Postings i (posting_part 0 w d)) ≡ option_and_then (λ text. posting_value d (positions w text)) (option_and_then (λ r. text_seen ts x r) (n.row i d))
   value_at d fits =
       spelled.postings i w d token fits
       ∙ ap (λ (o : Option Index). option_and_then (λ text. posting_value d (positions w text)) (option_and_then (λ y. option_and_then (λ r. text_seen ts y r) (n.row i d)) o)) there
@@ -212,7 +215,8 @@ module _ (m : Content) (ts : Tables) (xs : Names Index) (x : Index) (i w : List 
   any_row r [] all = false
   any_row r (e ∷ es) all = int_eq r all.0.row || any_row r es all.1
 
-  scored_at : (q v : List ℕ) (p : Posted q v) (scores : Rows ℕ) (r : ℤ) → get (with_score (document_row (at m) i p.document) (positions_score (positions w p.text)) scores) r ≡ cond (int_eq r p.row) (right r) (get scores r)
+  scored_at : (q v : List ℕ) (p : Posted q v) (scores : Rows ℕ) (r : ℤ)
+      → get (with_score (document_row (at m) i p.document) (positions_score (positions w p.text)) scores) r ≡ cond (int_eq r p.row) (right r) (get scores r)
   scored_at q v p scores r =
       ap (λ (o : Option ℤ). get (with_score o (positions_score (positions w p.text)) scores) r) (row_found p.document p.row p.within p.is_row)
       ∙ get_row-insert scores p.row (positions_score (positions w p.text)) r
@@ -222,7 +226,8 @@ module _ (m : Content) (ts : Tables) (xs : Names Index) (x : Index) (i w : List 
       go true is = sym (ap right (exact_signed r p.row (equal_from_test (int_cmp r p.row) is)) ∙ right_at q v p)
       go false is = refl
 
-  scores_at : (es : List (List ℕ × List ℕ)) (all : AllPosted es) (scores : Rows ℕ) (r : ℤ) → get (with_postings (at m) i (rows_of es all) scores) r ≡ cond (any_row r es all) (right r) (get scores r)
+  scores_at : (es : List (List ℕ × List ℕ)) (all : AllPosted es) (scores : Rows ℕ) (r : ℤ)
+      → get (with_postings (at m) i (rows_of es all) scores) r ≡ cond (any_row r es all) (right r) (get scores r)
   unfolding rows_of any_row
   scores_at [] all scores r = refl
   scores_at (e ∷ es) all scores r =
@@ -233,7 +238,8 @@ module _ (m : Content) (ts : Tables) (xs : Names Index) (x : Index) (i w : List 
 
   -- ---- none is missed
 
-  found_any : (d : ℕ) (v : List ℕ) (r : ℤ) → IsDocument d → n.row i d ≡ Some r → (es : List (List ℕ × List ℕ)) (all : AllPosted es) → find (slice_cmp nat_cmp) (document_part d) es ≡ Some v → any_row r es all ≡ true
+  found_any : (d : ℕ) (v : List ℕ) (r : ℤ) → IsDocument d → n.row i d ≡ Some r → (es : List (List ℕ × List ℕ)) (all : AllPosted es)
+      → find (slice_cmp nat_cmp) (document_part d) es ≡ Some v → any_row r es all ≡ true
   unfolding any_row
   found_any d v r fits is [] all found = cc
   found_any d v r fits is (e ∷ es) all found = go (eq_by_cmp (slice_cmp nat_cmp) (document_part d) e.0) refl found (found_any d v r fits is es all.1)
@@ -283,18 +289,18 @@ module _ (m : Content) (ts : Tables) (xs : Names Index) (x : Index) (i w : List 
       go false any (Some s) is = let same : false ≡ true = sym any ∙ right_any r s is all in cc
 
   -- The entries of the word hold rows of postings whose scores are what a scan of the rows finds.
-  pub record Finds : Type 0 where
+  pub record AreFound : Type 0 where
     pub rows : List (List RowDocument)
     pub hold : HoldRows (entries (tail prefix m)) rows
     pub scores : entries (with_postings (at m) i rows empty) ≡ found ts x w 0
 
-  pub finds : Finds
+  pub finds : AreFound
   finds =
       let all : AllPosted (entries (tail prefix m)) = recursion_from_All (λ e. Posted e.0 e.1) (entries (tail prefix m)) (all_entries (slice_cmp nat_cmp) nat_list_cmp_total (λ e. Posted e.0 e.1) (tail prefix m) posted) in
       record {
         rows = rows_of (entries (tail prefix m)) all;
         hold = hold (entries (tail prefix m)) all;
         scores =
-            entries_picked int_cmp int_cmp_total exact_signed (scored_as ts x w) (with_postings (at m) i (rows_of (entries (tail prefix m)) all) empty) x.marks (right_scores all)
+            entries_mapped int_cmp int_cmp_total exact_signed (scored_as ts x w) (with_postings (at m) i (rows_of (entries (tail prefix m)) all) empty) x.marks (right_scores all)
             ∙ (λ j. filter_map (λ e. scored_found ts x w e.0 e.1 j) (entries x.marks));
       }

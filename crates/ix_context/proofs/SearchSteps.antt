@@ -15,7 +15,8 @@ pub record Left (f : Key → Option (List ℕ)) (i : List ℕ) (es : List (List 
   pub lead : with_postings f i rows scores ≡ all
 
 -- one entry more
-pub step : (f : Key → Option (List ℕ)) (i : List ℕ) (e : List ℕ × List ℕ) (es : List (List ℕ × List ℕ)) (scores next all : Rows ℕ) → Left f i (e ∷ es) scores all
+pub step : (f : Key → Option (List ℕ)) (i : List ℕ) (e : List ℕ × List ℕ) (es : List (List ℕ × List ℕ)) (scores next all : Rows ℕ)
+    → Left f i (e ∷ es) scores all
     → ((row : List RowDocument) → IsPostingRow row → posting_bytes row ≡ e.1 → next ≡ with_documents f i row scores) → Left f i es next all
 step f i e es scores next all left scored = go left.rows left.hold left.lead
   where
@@ -34,7 +35,8 @@ ended f i scores all left = go left.rows left.hold left.lead
 abbrev pub pairs_of : List (Vec ℕ Global × Vec ℕ Global) → List (List ℕ × List ℕ)
 pairs_of es = map (λ e. (e.0.items, e.1.items)) es
 
-pub next_pair : (es : List (Vec ℕ Global × Vec ℕ Global)) (k : ℕ) (e : Vec ℕ Global × Vec ℕ Global) → k < length es → e ≡ get_or es k e → pairs_of (drop k es) ≡ (e.0.items, e.1.items) ∷ pairs_of (drop (k + 1) es)
+pub next_pair : (es : List (Vec ℕ Global × Vec ℕ Global)) (k : ℕ) (e : Vec ℕ Global × Vec ℕ Global) → k < length es → e ≡ get_or es k e
+    → pairs_of (drop k es) ≡ (e.0.items, e.1.items) ∷ pairs_of (drop (k + 1) es)
 next_pair es k e lt is =
     ap pairs_of (drop-cons es k e lt ∙ ap (λ (x : Vec ℕ Global × Vec ℕ Global). x ∷ drop (suc k) es) (sym is))
     ∙ ap (λ (j : ℕ). (e.0.items, e.1.items) ∷ pairs_of (drop j es)) next

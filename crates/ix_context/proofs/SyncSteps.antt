@@ -1,5 +1,5 @@
 -- Steps of synchronisations and of new indexes.
-use Rattle.std.proofs.Common.{◌≡◌, ℕ, ℤ, ◌+◌, ◌≤◌, ◌<◌, ◌^◌, max, false, List, [], ◌∷◌, ◌++◌, length, map, Option, Some, None, Result, Ok, Err, refl, sym, ap, subst, ◌∙◌, arith}
+use Rattle.std.proofs.Common.{◌≡◌, ℕ, ℤ, ◌+◌, max, false, List, [], ◌∷◌, ◌++◌, length, map, Option, Some, None, Result, Ok, Err, refl, sym, ap, subst, ◌∙◌, arith}
 use Rattle.std.specs.Prelude.{◌==◌, MatchOption, IfOk}
 use Rattle.std.proofs.lemmas.List.{length-map}
 use Rattle.ct_base.specs.declared.numbers.RowKey.{RowKey}
@@ -13,10 +13,9 @@ use Rattle.tb_table.specs.declared.columns.Target.{Target}
 use Rattle.tb_table.specs.Tables.{Tables}
 use Rattle.ix_context.specs.declared.ranges.KeyRange.{KeyRange}
 use Rattle.ix_context.specs.Indexes.{Index, pending_rows, rows_in, target_text}
-use Rattle.ix_context.specs.Rules.{most_given}
 use Rattle.ix_context.specs.Spelling.{index_bytes}
-use Rattle.ix_context.specs.Changes.{numbered, mark_with, settle_with, settled_with, sync_rows_changes, sync_changes, create_changes}
-use Rattle.ix_context.specs.ReadLaws.{target_of}
+use Rattle.ix_context.specs.Changes.{numbered, mark_with, settle_with, settled_with, sync_rows_changes, sync_changes, create_changes, AreSettleChanges, AreSyncChanges}
+use Rattle.ix_context.specs.laws.Reading.{target_of}
 
 abbrev Changes : Type 0
 Changes = List (List ℕ × Option (List ℕ))
@@ -53,7 +52,8 @@ at_least_one first next given is n = omega (arith, is, n)
 -- ---- a synchronisation
 
 -- the changes of the rows were added, and then that of the entry
-pub settled_added : (i : List ℕ) (target : Target) (text : ℤ → Option (List ℕ)) (first next : ℕ) (rows : List RowKey) (none before new : Changes) → (length rows == 0) ≡ false → none ≡ []
+pub settled_added : (i : List ℕ) (target : Target) (text : ℤ → Option (List ℕ)) (first next : ℕ) (rows : List RowKey) (none before new : Changes)
+    → (length rows == 0) ≡ false → none ≡ []
     → before ≡ none ++ spell (each (settle_with i text) (numbered first (keys rows)))
     → new ≡ before ++ spell (put (key kind.Indexes i []) (index_bytes target.table target.column next) ∷ [])
     → next ≡ first + length rows → new ≡ spell (settled_with i target text first (keys rows))
@@ -66,14 +66,16 @@ settled_added i target text first next (r ∷ rs) none before new some empty set
     ∙ sym (spell-append changes (put (key kind.Indexes i []) (index_bytes target.table target.column next) ∷ []))
     ∙ ap (λ n. spell (changes ++ put (key kind.Indexes i []) (index_bytes target.table target.column n) ∷ [])) count
 
-settled_rows : (ts : Tables) (i : List ℕ) (x : Index) (rows : List ℤ) → pending_rows x ≡ rows → settled_with i (target_of x) (target_text ts (target_of x)) (x.given + 1) rows ≡ sync_rows_changes ts i x rows
+settled_rows : (ts : Tables) (i : List ℕ) (x : Index) (rows : List ℤ) → pending_rows x ≡ rows
+    → settled_with i (target_of x) (target_text ts (target_of x)) (x.given + 1) rows ≡ sync_rows_changes ts i x rows
 settled_rows ts i x [] is = refl
 settled_rows ts i x (r ∷ rs) is =
     let count : x.given + 1 + length (r ∷ rs) ≡ x.given + length (pending_rows x) + 1 = let l : length (pending_rows x) ≡ length (r ∷ rs) = ap length is in omega arith in
     ap (λ n. each (settle_with i (target_text ts (target_of x))) (numbered (x.given + 1) (r ∷ rs)) ++ put (key kind.Indexes i []) (index_bytes x.table x.column n) ∷ []) count
 
 -- the changes for what was read of the index are those of its synchronisation
-settled_is : (ts : Tables) (i : List ℕ) (x : Index) (target : Target) (first : ℕ) (rows : List ℤ) → target ≡ target_of x → first ≡ x.given + 1 → rows ≡ pending_rows x
+settled_is : (ts : Tables) (i : List ℕ) (x : Index) (target : Target) (first : ℕ) (rows : List ℤ) → target ≡ target_of x → first ≡ x.given + 1
+    → rows ≡ pending_rows x
     → settled_with i target (target_text ts target) first rows ≡ sync_changes ts i x
 settled_is ts i x target first rows t f r =
     ap (λ (u : Target). settled_with i u (target_text ts u) first rows) t
@@ -82,17 +84,15 @@ settled_is ts i x target first rows t f r =
     ∙ settled_rows ts i x (pending_rows x) refl
 
 -- what the changes for what was read say of the index
-pub settled_says : (ts : Tables) (i : List ℕ) (x : Index) (target : Target) (first : ℕ) (rows : List RowKey) → target ≡ target_of x → first ≡ x.given + 1 → keys rows ≡ pending_rows x → (result : Result (Option Changes) KeepFault)
-    → IfOk result (λ changes. MatchOption changes (2 ^ 32 ≤ first + length rows) (λ ws. (first + length rows < 2 ^ 32) × (ws ≡ spell (settled_with i target (target_text ts target) first (keys rows)))))
-    → IfOk result (λ changes. MatchOption changes (most_given < x.given + length (pending_rows x)) (λ ws. (x.given + length (pending_rows x) ≤ most_given) × (ws ≡ spell (sync_changes ts i x))))
+pub settled_says : (ts : Tables) (i : List ℕ) (x : Index) (target : Target) (first : ℕ) (rows : List RowKey) → target ≡ target_of x
+    → first ≡ x.given + 1 → keys rows ≡ pending_rows x → (result : Result (Option Changes) KeepFault)
+    → IfOk result (AreSettleChanges ts i target first rows) → IfOk result (AreSyncChanges ts i x)
 settled_says ts i x target first rows t f r result says = go result says
   where
     count : length rows ≡ length (pending_rows x)
     count = sym (length-map rows (λ (r : RowKey). r.0)) ∙ ap length r
 
-    go : (result : Result (Option Changes) KeepFault)
-        → IfOk result (λ changes. MatchOption changes (2 ^ 32 ≤ first + length rows) (λ ws. (first + length rows < 2 ^ 32) × (ws ≡ spell (settled_with i target (target_text ts target) first (keys rows)))))
-        → IfOk result (λ changes. MatchOption changes (most_given < x.given + length (pending_rows x)) (λ ws. (x.given + length (pending_rows x) ≤ most_given) × (ws ≡ spell (sync_changes ts i x))))
+    go : (result : Result (Option Changes) KeepFault) → IfOk result (AreSettleChanges ts i target first rows) → IfOk result (AreSyncChanges ts i x)
     go (Err fault) says = tt
     go (Ok None) says = let n = count in omega arith
     go (Ok (Some ws)) says = (let n = count in let room = says.0 in omega arith, says.1 ∙ ap spell (settled_is ts i x target first (keys rows) t f r))
@@ -100,11 +100,13 @@ settled_says ts i x target first rows t f r result says = go result says
 -- ---- a new index
 
 -- how many rows there are
-pub count_created : (ts : Tables) (t : List ℕ) (range : KeyRange) (rows : List RowKey) → keys rows ≡ rows_in ts t range → length rows ≡ length (rows_in ts t range)
+pub count_created : (ts : Tables) (t : List ℕ) (range : KeyRange) (rows : List RowKey) → keys rows ≡ rows_in ts t range
+    → length rows ≡ length (rows_in ts t range)
 count_created ts t range rows are = sym (length-map rows (λ (r : RowKey). r.0)) ∙ ap length are
 
 -- the change of its entry was added, and then those of its rows
-pub created_added : (ts : Tables) (i : List ℕ) (target : Target) (range : KeyRange) (rows : List RowKey) (next : ℕ) (none first new : Changes) → keys rows ≡ rows_in ts target.table range → next ≡ 1 + length rows → none ≡ []
+pub created_added : (ts : Tables) (i : List ℕ) (target : Target) (range : KeyRange) (rows : List RowKey) (next : ℕ) (none first new : Changes)
+    → keys rows ≡ rows_in ts target.table range → next ≡ 1 + length rows → none ≡ []
     → first ≡ none ++ spell (put (key kind.Indexes i []) (index_bytes target.table target.column next) ∷ [])
     → new ≡ first ++ spell (each (mark_with i (target_text ts target)) (numbered 1 (keys rows)))
     → new ≡ spell (create_changes ts i target range)

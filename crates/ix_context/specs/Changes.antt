@@ -1,7 +1,8 @@
 -- What calls put into a batch.
-use Rattle.std.specs.Prelude.{ℕ, ℤ, ◌+◌, List, [], ◌∷◌, ◌++◌, length, map, Option, Some, None, pos, negsuc, ◌≡◌, codes, refl}
+use Rattle.std.specs.Prelude.{ℕ, ℤ, ◌+◌, ◌-◌, ◌^◌, ◌<◌, ◌≤◌, MatchOption, Result, OnOk, List, [], ◌∷◌, ◌++◌, length, map, Option, Some, None, pos, negsuc, ◌≡◌, codes, refl}
 use Rattle.std.specs.Int.{to_be_bytes, w32}
 use Rattle.std.specs.FinMap.{entries}
+use Rattle.ct_base.specs.declared.numbers.RowKey.{RowKey}
 use Rattle.ct_bytes.specs.RowKeys.{row_bytes}
 use Rattle.ct_entry.specs.declared.kinds.Kind.TheVariants as kind
 use Rattle.ct_entry.specs.Keys.{Key, key, row_part, document_part, posting_part}
@@ -12,7 +13,8 @@ use Rattle.tb_table.specs.Tables.{Tables}
 use Rattle.ix_posting.specs.Rows.{posting_bytes}
 use Rattle.ix_context.specs.declared.ranges.KeyRange.{KeyRange}
 use Rattle.ix_context.specs.Postings.{postings_of, fox_and_quick}
-use Rattle.ix_context.specs.Indexes.{Index, pending_rows, text_seen, synced_index, created, rows_in}
+use Rattle.ix_context.specs.Indexes.{Index, pending_rows, text_seen, target_text, synced_index, created, rows_in}
+use Rattle.ix_context.specs.Rules.{most_given}
 use Rattle.ix_context.specs.Spelling.{index_bytes, index_entry}
 use Rattle.std.proofs.Common.{ap}
 use Rattle.ct_bytes.specs.Varints.{varint}
@@ -61,12 +63,14 @@ settle_changes ts i x p = settle_with i (text_seen ts x) p
 -- each row that waits becomes a document, and the index has given these; nothing where no row waits
 abbrev pub sync_rows_changes : Tables → List ℕ → Index → List ℤ → List (Key × Option (List ℕ))
 sync_rows_changes ts i x [] = []
-sync_rows_changes ts i x (r ∷ rs) = each (settle_changes ts i x) (numbered (x.given + 1) (r ∷ rs)) ++ put (key kind.Indexes i []) (index_entry (synced_index x)) ∷ []
+sync_rows_changes ts i x (r ∷ rs) =
+    each (settle_changes ts i x) (numbered (x.given + 1) (r ∷ rs)) ++ put (key kind.Indexes i []) (index_entry (synced_index x)) ∷ []
 
 -- the same for an index on a target that gives this document next, where rows have these texts
 abbrev pub settled_with : List ℕ → Target → (ℤ → Option (List ℕ)) → ℕ → List ℤ → List (Key × Option (List ℕ))
 settled_with i target text first [] = []
-settled_with i target text first (r ∷ rs) = each (settle_with i text) (numbered first (r ∷ rs)) ++ put (key kind.Indexes i []) (index_bytes target.table target.column (first + length (r ∷ rs))) ∷ []
+settled_with i target text first (r ∷ rs) =
+    each (settle_with i text) (numbered first (r ∷ rs)) ++ put (key kind.Indexes i []) (index_bytes target.table target.column (first + length (r ∷ rs))) ∷ []
 
 abbrev pub sync_changes : Tables → List ℕ → Index → List (Key × Option (List ℕ))
 sync_changes ts i x = sync_rows_changes ts i x (pending_rows x)
@@ -76,6 +80,45 @@ abbrev pub create_changes : Tables → List ℕ → Target → KeyRange → List
 create_changes ts i target range =
     put (key kind.Indexes i []) (index_entry (created ts target range))
     ∷ each (λ (p : ℕ × ℤ). mark_changes ts i (created ts target range) p.0 p.1) (numbered 1 (rows_in ts target.table range))
+
+-- ---- what calls add to a batch
+
+-- Unless the call failed, the batch has these changes more.
+abbrev pub Adds : {T E : Type 0} → List (List ℕ × Option (List ℕ)) → List (List ℕ × Option (List ℕ)) → Result T E → List (Key × Option (List ℕ)) → Type 0
+Adds old new result changes = OnOk result (new ≡ old ++ spell changes)
+
+-- a row becomes this document of an index on this target
+abbrev pub mark_row_changes : Tables → List ℕ → Target → ℕ → RowKey → List (Key × Option (List ℕ))
+mark_row_changes ts i target document row = document_changes i document row.0 (target_text ts target row.0)
+
+-- rows become documents of it, the first of them this one
+abbrev pub mark_rows_changes : Tables → List ℕ → Target → ℕ → List RowKey → List (Key × Option (List ℕ))
+mark_rows_changes ts i target first rows = each (mark_with i (target_text ts target)) (numbered first (map (λ r. r.0) rows))
+
+-- a row that waits becomes this document of it, and rows that wait become documents of it, the first of them this one
+abbrev pub settle_row_changes : Tables → List ℕ → Target → ℕ → RowKey → List (Key × Option (List ℕ))
+settle_row_changes ts i target document row = settle_with i (target_text ts target) (document, row.0)
+
+abbrev pub settle_rows_changes : Tables → List ℕ → Target → ℕ → List RowKey → List (Key × Option (List ℕ))
+settle_rows_changes ts i target first rows = each (settle_with i (target_text ts target)) (numbered first (map (λ r. r.0) rows))
+
+-- ---- what calls find to do, or not
+
+-- these changes, where a count is at most so much; nothing, where it is more
+abbrev pub ChangesWithin : ℕ → ℕ → List (Key × Option (List ℕ)) → Option (List (List ℕ × Option (List ℕ))) → Type 0
+ChangesWithin most count changes found = MatchOption found (most < count) (λ batch. (count ≤ most) × (batch ≡ spell changes))
+
+-- by which rows that wait become documents of an index on this target that gives this document next, where the next one after them has a number of 32 bits
+abbrev pub AreSettleChanges : Tables → List ℕ → Target → ℕ → List RowKey → Option (List (List ℕ × Option (List ℕ))) → Type 0
+AreSettleChanges ts i target first rows found =
+    ChangesWithin (2 ^ 32 - 1) (first + length rows) (settled_with i target (target_text ts target) first (map (λ r. r.0) rows)) found
+
+-- of a synchronisation, and of a new index, where these have at most as many documents as there are numbers
+abbrev pub AreSyncChanges : Tables → List ℕ → Index → Option (List (List ℕ × Option (List ℕ))) → Type 0
+AreSyncChanges ts i x found = ChangesWithin most_given (x.given + length (pending_rows x)) (sync_changes ts i x) found
+
+abbrev pub AreCreateChanges : Tables → List ℕ → Target → KeyRange → Option (List (List ℕ × Option (List ℕ))) → Type 0
+AreCreateChanges ts i target range found = ChangesWithin most_given (length (rows_in ts target.table range)) (create_changes ts i target range) found
 
 -- computed examples
 one_after_the_other : numbered 5 (negsuc 2 ∷ pos 0 ∷ pos 7 ∷ []) ≡ (5, negsuc 2) ∷ (6, pos 0) ∷ (7, pos 7) ∷ []

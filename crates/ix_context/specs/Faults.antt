@@ -1,5 +1,5 @@
 -- How calls on indexes fail, against the faults of a keeper.
-use Rattle.std.specs.Prelude.{Option, Some, None, Result, Ok, Err}
+use Rattle.std.specs.Prelude.{ℕ, ◌≡◌, refl, Option, Some, None, Result, Ok, Err}
 use Rattle.ct_keep.specs.declared.keepers.KeepFault.{KeepFault}
 use Rattle.ct_keep.specs.declared.keepers.KeepFault.TheVariants.{Memory, Disk}
 use Rattle.ix_context.specs.declared.faults.ContextFault.{ContextFault}
@@ -15,3 +15,10 @@ keeper_fault TooMany = None
 abbrev pub context_fault_of : {T : Type 0} → Result T ContextFault → Option KeepFault
 context_fault_of (Ok x) = None
 context_fault_of (Err fault) = keeper_fault fault
+
+-- computed examples
+the_disk_failed : context_fault_of {T = ℕ} (Err DiskFailed) ≡ Some Disk
+the_disk_failed = refl
+
+no_fault_of_the_keeper : context_fault_of {T = ℕ} (Err TooMany) ≡ None
+no_fault_of_the_keeper = refl

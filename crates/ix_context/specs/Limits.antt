@@ -1,8 +1,12 @@
 -- What a search needs of an index.
-use Rattle.std.specs.Prelude.{ℕ, ℤ, ◌≡◌, ◌≤◌, ◌<◌, ◌^◌, true, is_some, List, length, Some}
-use Rattle.std.specs.FinMap.{get}
+use Rattle.std.specs.Prelude.{ℕ, ℤ, ◌≡◌, ◌≤◌, ◌<◌, ◌^◌, true, false, is_some, List, length, codes, Option, Some, None}
+use Rattle.std.specs.Option.{option_and_then}
+use Rattle.std.specs.Ordering.{nat_cmp, int_cmp}
+use Rattle.std.specs.Cmp.Lexicographic.{slice_cmp}
+use Rattle.std.specs.FinMap.{get, empty, get-empty}
+use Rattle.std.proofs.Common.{sym, ap, ◌∙◌, arith}
 use Rattle.ct_entry.specs.Keys.{IsRow}
-use Rattle.tb_table.specs.Tables.{Tables}
+use Rattle.tb_table.specs.Tables.{Table, Tables, row_in, text_of}
 use Rattle.ix_context.specs.Indexes.{Index, text_seen}
 
 -- Its row keys fit 64 bits, its documents 32, and the texts that it sees have at most 2 ^ 24 bytes.
@@ -10,3 +14,14 @@ pub record IsWithinLimits (ts : Tables) (x : Index) : Type 0 where
   pub rows : (r : ℤ) → is_some (get x.marks r) ≡ true → IsRow r
   pub given : x.given < 2 ^ 32
   pub texts : (r : ℤ) (text : List ℕ) → text_seen ts x r ≡ Some text → length text ≤ 2 ^ 24
+
+-- an example: an index of no row, on a table that isn't there
+of_no_row : IsWithinLimits empty (record { table = codes "docs"; column = 1; given = 0; marks = empty })
+of_no_row = record {
+  rows = λ r marked. let wrong : false ≡ true = sym (ap is_some (get-empty int_cmp r)) ∙ marked in cc;
+  given = omega arith;
+  texts = λ r text seen.
+      let none : text_seen empty (record { table = codes "docs"; column = 1; given = 0; marks = empty }) r ≡ None =
+      ap (λ (t : Option Table). option_and_then (λ vs. text_of vs 1) (row_in t r)) (get-empty (slice_cmp nat_cmp) (codes "docs")) in
+      let wrong : None ≡ Some text = sym none ∙ seen in cc;
+}

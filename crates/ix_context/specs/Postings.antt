@@ -1,5 +1,5 @@
 -- The postings of a text: at which positions each key stands.
-use Rattle.std.specs.Prelude.{ℕ, ◌≡◌, ◌+◌, min, List, [], ◌∷◌, length, map, Option, Some, None, codes, refl}
+use Rattle.std.specs.Prelude.{ℕ, ◌≡◌, ◌+◌, ◌≤◌, ◌^◌, nat_le, min, List, [], ◌∷◌, length, map, Option, Some, None, codes, refl}
 use Rattle.std.specs.Bool.{if◌then◌else◌}
 use Rattle.std.specs.Str.{chars}
 use Rattle.std.specs.Ordering.{nat_cmp}
@@ -8,7 +8,8 @@ use Rattle.std.specs.FinMap.{FinMap, from_entries, entries}
 use lib.Utf8.{encode}
 use Rattle.tx_lexer.specs.declared.tokens.Token.{Token}
 use Rattle.tx_lexer.specs.Tokens.{tokens, default}
-use Rattle.ct_entry.specs.Keys.{same_list}
+use Rattle.ct_entry.specs.Keys.{same_list, IsToken}
+use Rattle.ix_posting.specs.Rows.{Rise}
 use Rattle.ct_keep.specs.Laws.{entries_put, entries-insert_empty}
 
 -- the words of a text by their keys, in order; the first stands at position 1
@@ -35,6 +36,24 @@ if_any (p ∷ ps) = Some (p ∷ ps)
 -- each key that stands in the text, with its positions
 abbrev pub postings_of : List ℕ → FinMap (slice_cmp nat_cmp) (List ℕ)
 postings_of text = from_entries (map (λ w. (w, positions w text)) (words_of text))
+
+-- ---- what a row of postings needs of a text
+
+-- what an entry of postings needs
+pub record IsPosting (e : List ℕ × List ℕ) : Type 0 where
+  pub token : IsToken e.0
+  pub some : 1 ≤ length e.1
+  pub rise : Rise 0 e.1
+
+-- a text of at most 2 ^ 24 bytes, or none
+abbrev pub HasShortText : Option (List ℕ) → Type 0
+HasShortText None = Unit {0}
+HasShortText (Some text) = length text ≤ 2 ^ 24
+
+-- the text, if it is one
+abbrev pub if_short : Option (List ℕ) → Option (List ℕ)
+if_short None = None
+if_short (Some text) = if nat_le (length text) (2 ^ 24) then Some text else None
 
 -- computed examples
 quick : positions (codes "quick") (codes "quick fox quick") ≡ 1 ∷ 3 ∷ []

@@ -1,4 +1,4 @@
--- How much room indexes take at most: what their entries weigh, with the rows of postings as if each document had an entry of its own for each change.
+-- How much room indexes take at most: what their entries weigh, with the rows of postings as if each document had an entry of its own for each word.
 use Rattle.std.specs.Prelude.{ℕ, ℤ, ◌+◌, ◌-◌, ◌^◌, max, sum_by, List, [], ◌∷◌, length, Option, Some, None, pos, ◌≡◌, replicate, codes, refl}
 use Rattle.std.specs.Int.{to_be_bytes, w32}
 use Rattle.std.specs.FinMap.{entries, from_sorted, entries-from_sorted}
@@ -23,7 +23,8 @@ last_document = 2 ^ 32 - 1
 
 -- what a document costs: for each of its words the entry that has this posting alone, under the greatest number
 abbrev pub posting_room : List ℕ → List ℕ × List ℕ → ℕ
-posting_room i e = key_weight (key kind.Postings i (posting_part 0 e.0 last_document)) (posting_bytes (record { document = last_document; positions = e.1 } ∷ []))
+posting_room i e =
+    key_weight (key kind.Postings i (posting_part 0 e.0 last_document)) (posting_bytes (record { document = last_document; positions = e.1 } ∷ []))
 
 abbrev pub document_cost : List ℕ → Option (List ℕ) → ℕ
 document_cost i None = 0
@@ -36,12 +37,13 @@ mark_room ts i x (r, Marked) =
     + key_weight (key kind.RowDocuments i (row_part r)) (to_be_bytes w32 last_document)
     + document_cost i (text_seen ts x r)
 
--- the longest place to resume at has a stream, and a token of 255 bytes behind its length in two bytes; the entry as it is has two bytes for none
+-- the longest place to resume at has a stream, and a token of 255 bytes after its length in two bytes; the entry as it is has two bytes for none
 abbrev pub longest_resume : ℕ
 longest_resume = 258
 
 abbrev pub index_room : Tables → List ℕ × Index → ℕ
-index_room ts e = max 64 (length (bytes (key kind.Indexes e.0 [])) + (length (index_entry e.1) - 2 + longest_resume)) + sum_by (mark_room ts e.0 e.1) (entries e.1.marks)
+index_room ts e =
+    max 64 (length (bytes (key kind.Indexes e.0 [])) + (length (index_entry e.1) - 2 + longest_resume)) + sum_by (mark_room ts e.0 e.1) (entries e.1.marks)
 
 -- computed examples
 

@@ -1,21 +1,17 @@
 //! New indexes.
 #![tactic(auto, using(ct_keep::specs::Composing::reads_on, ct_keep::specs::Composing::reads_short))]
 
-ghost use Rattle.std.specs.Prelude.{◌≡◌, ◌+◌, ◌≤◌, ◌<◌, ◌^◌, ◌++◌, IfOk, OnOk, OnErr, Some, Err, MatchOption, filter, length, map};
-ghost use Rattle.ct_keep.specs.Content.{Content};
+ghost use Rattle.std.specs.Prelude.{◌≡◌, ◌+◌, ◌≤◌, ◌<◌, ◌^◌, IfOk, OnOk, OnErr, Some, Err, filter, length, map};
 ghost use Rattle.ct_keep.specs.KeeperViews.{OnlyReads, Reads};
-ghost use Rattle.ct_entry.specs.Each.{each};
-ghost use Rattle.ct_entry.specs.Changes.{spell};
-ghost use Rattle.tb_table.specs.Tables.{Tables};
-ghost use Rattle.ix_context.specs.Indexes.{in_range, rows_in, target_text};
-ghost use Rattle.ix_context.specs.Changes.{numbered, mark_with, create_changes};
+ghost use Rattle.ix_context.specs.Indexes.{in_range, rows_in};
+ghost use Rattle.ix_context.specs.Changes.{create_changes, Adds, mark_rows_changes, AreCreateChanges};
 ghost use Rattle.ix_context.specs.Faults.{context_fault_of};
 ghost use Rattle.ix_context.specs.Rules.{most_given};
-ghost use Rattle.ix_context.specs.Stands.{HoldsTables};
+ghost use Rattle.ix_context.specs.Sees.{ToldTables, SeesTables};
 
 use crate::entries::put_index;
 use crate::faults::{ContextFault, fault_of_reads};
-use crate::marking::{mark_next, number_behind};
+use crate::marking::{mark_next, number_after};
 use crate::ranges::KeyRange;
 use ct_base::{Memory, Name, RowKey};
 use ct_entry::{Kind, row_keys};
@@ -44,7 +40,7 @@ fn rows_of<K: Keeper>(
     range: KeyRange,
 ) -> Result<Vec<RowKey>, KeepFault>
     requires { (K.view keeper.old).ready }
-    ensures rows { (m : Content) (ts : Tables) → (K.view keeper.old).content ≡ Some m → HoldsTables m ts → IfOk result (λ rows. map (λ r. r.0) rows.items ≡ rows_in ts table.now range) }
+    ensures rows { SeesTables K.view keeper.old result (λ ts rows. map (λ r. r.0) rows.items ≡ rows_in ts table.now range) }
     ensures reads { OnlyReads K.view keeper.old keeper.new result }
 {
     let rows = row_keys(alloc, keeper, Kind::RowNumbers, table)?;
@@ -63,7 +59,7 @@ fn mark_rows<K: Keeper>(
 ) -> Result<(), KeepFault>
     requires ready { (K.view keeper.old).ready }
     requires room { 1 + length rows.now < 2 ^ 32 }
-    ensures changes { (m : Content) (ts : Tables) → (K.view keeper.old).content ≡ Some m → HoldsTables m ts → OnOk result (changes.new ≡ changes.old ++ spell (each (mark_with index.now (target_text ts target.now)) (numbered 1 (map (λ r. r.0) rows.now)))) }
+    ensures changes { ToldTables K.view keeper.old (λ ts. Adds changes.old changes.new result (mark_rows_changes ts index.now target.now 1 rows.now)) }
     ensures reads { OnlyReads K.view keeper.old keeper.new result }
 {
     let mut document = 1;
@@ -83,11 +79,11 @@ fn changes_of_create<K: Keeper>(
     range: KeyRange,
 ) -> Result<Option<Batch>, KeepFault>
     requires { (K.view keeper.old).ready }
-    ensures changes { (m : Content) (ts : Tables) → (K.view keeper.old).content ≡ Some m → HoldsTables m ts → IfOk result (λ changes. MatchOption changes (most_given < length (rows_in ts target.now.table range)) (λ ws. (length (rows_in ts target.now.table range) ≤ most_given) × (ws ≡ spell (create_changes ts index.now target.now range)))) }
+    ensures changes { SeesTables K.view keeper.old result (λ ts. AreCreateChanges ts index.now target.now range) }
     ensures reads { OnlyReads K.view keeper.old keeper.new result }
 {
     let rows = rows_of(alloc, keeper, &target.table, range)?;
-    let Some(next) = number_behind(1, rows.len()) else {
+    let Some(next) = number_after(1, rows.len()) else {
         return Ok(None);
     };
     let mut changes = Batch::new(alloc);
@@ -110,9 +106,9 @@ pub fn create<K: Keeper>(
     range: KeyRange,
 ) -> Result<(), ContextFault>
     requires { (K.view keeper.old).ready }
-    ensures changes { (m : Content) (ts : Tables) → (K.view keeper.old).content ≡ Some m → HoldsTables m ts → OnOk result (batch.new ≡ batch.old ++ spell (create_changes ts index.now target.now range)) }
-    ensures room { (m : Content) (ts : Tables) → (K.view keeper.old).content ≡ Some m → HoldsTables m ts → OnOk result (length (rows_in ts target.now.table range) ≤ most_given) }
-    ensures many { (m : Content) (ts : Tables) → (K.view keeper.old).content ≡ Some m → HoldsTables m ts → result ≡ Err ContextFault.TooMany → most_given < length (rows_in ts target.now.table range) }
+    ensures changes { ToldTables K.view keeper.old (λ ts. Adds batch.old batch.new result (create_changes ts index.now target.now range)) }
+    ensures room { ToldTables K.view keeper.old (λ ts. OnOk result (length (rows_in ts target.now.table range) ≤ most_given)) }
+    ensures many { ToldTables K.view keeper.old (λ ts. result ≡ Err ContextFault.TooMany → most_given < length (rows_in ts target.now.table range)) }
     ensures err { OnErr result (batch.new ≡ batch.old) }
     ensures reads { Reads (K.view keeper.old) (K.view keeper.new) (context_fault_of result) }
 {

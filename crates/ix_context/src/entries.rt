@@ -1,16 +1,15 @@
 //! The entries of indexes.
 #![tactic(auto, using(ct_keep::specs::Composing::reads_short))]
 
-ghost use Rattle.std.specs.Prelude.{◌≡◌, ◌++◌, [], ◌∷◌, IfOk, OnOk, OnErr, Some, None, Err};
+ghost use Rattle.std.specs.Prelude.{◌≡◌, [], ◌∷◌, IfOk, OnErr, Some, None};
 ghost use Rattle.std.specs.Option.{option_map};
-ghost use Rattle.ct_keep.specs.Content.{Content};
 ghost use Rattle.ct_keep.specs.KeeperViews.{Finds, OnlyReads};
 ghost use Rattle.ct_keep.specs.Looks.{look, LooksAtMost};
 ghost use Rattle.ct_entry.specs.declared.kinds.Kind.TheVariants as kind;
 ghost use Rattle.ct_entry.specs.Keys.{key, bytes, at};
-ghost use Rattle.ct_entry.specs.Changes.{spell, put};
-ghost use Rattle.ix_context.specs.Spelling.{index_bytes, SpellsIndex};
-ghost use Rattle.ix_context.specs.EntryParts.{HasParts};
+ghost use Rattle.ix_context.specs.Spelling.{index_bytes, SpellsIndex, index_change};
+ghost use Rattle.ix_context.specs.Spelling.{HasIndexParts};
+ghost use Rattle.ix_context.specs.Changes.{Adds};
 
 use ct_base::{Memory, Name};
 use ct_bytes::{put_text, put_u32, read_text, read_u32};
@@ -40,7 +39,7 @@ pub(crate) fn put_index(
     target: &Target,
     next_document: u32,
 ) -> Result<(), Memory>
-    ensures ok { OnOk result (batch.new ≡ batch.old ++ spell (put (key kind.Indexes index.now []) (index_bytes target.now.table target.now.column next_document) ∷ [])) }
+    ensures ok { Adds batch.old batch.new result (index_change index.now target.now next_document ∷ []) }
     ensures err { OnErr result (batch.new ≡ batch.old) }
 {
     let value = index_value(alloc, target, next_document)?;
@@ -49,7 +48,7 @@ pub(crate) fn put_index(
 
 /// The table, the column and the next document, where the bytes are those of an index.
 fn parts(value: &[u8]) -> Option<(&[u8], u8, u32)>
-    ensures { HasParts value.now (option_map (λ r. (r.0.now, r.1, r.2)) result) }
+    ensures { HasIndexParts value.now (option_map (λ r. (r.0.now, r.1, r.2)) result) }
 {
     let (table, at) = read_text(value, 1)?;
     let column = *value.get(at)?;

@@ -2,7 +2,7 @@
 
 ghost use Rattle.std.specs.Prelude.{◌≡◌, ◌≤◌, ◌<◌, ◌^◌, IfOk, length, map};
 ghost use Rattle.std.specs.FinMap.{empty, entries};
-ghost use Rattle.ix_context.specs.Occurrences.{noted_all};
+ghost use Rattle.ix_context.specs.Occurrences.{with_positions};
 ghost use Rattle.ix_context.specs.Postings.{postings_of};
 
 use crate::occurrences::Occurrences;
@@ -15,7 +15,7 @@ use tx_lexer::{Lexer, Token};
 /// Notes each token at its place, the first at position 1.
 fn note_all(alloc: Global, tokens: &[Token]) -> Result<Occurrences, Memory>
     requires { length tokens.now < 2 ^ 32 }
-    ensures { IfOk result (λ found. found ≡ noted_all empty 1 (map (λ t. t.key) tokens.now)) }
+    ensures { IfOk result (λ found. found ≡ with_positions empty 1 (map (λ t. t.key) tokens.now)) }
 {
     let mut found = Occurrences::new(alloc);
     let mut position = 0;

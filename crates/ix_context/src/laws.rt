@@ -1,9 +1,6 @@
 //! What holds of all indexes. Each function here only states laws, which its contract proves.
 
-ghost use Rattle.ix_context.specs.ChangeLaws.{IndexesStayWithTables, IndexesStayWithRows, NotedRowsStand, SyncedIndexesStand, CreatedIndexesStand};
-ghost use Rattle.ix_context.specs.RuleLaws.{NotesOfRowsStand, NewTablesKeepIndexRules, NewRowsKeepIndexRules, SyncsKeepIndexRules, CreatesKeepIndexRules, HasAllRows};
-ghost use Rattle.ix_context.specs.WellLaws.{NotesAreWell, SyncsAreWell, CreatesAreWell};
-ghost use Rattle.ix_context.specs.FoundLaws.{FoundIsExact, FoundRises};
+ghost use Rattle.ix_context.specs.Promises.{IndexesStayWithTables, IndexesStayWithRows, NotedRowsStand, SyncedIndexesStand, CreatedIndexesStand, NotesOfRowsStand, NewTablesKeepIndexRules, NewRowsKeepIndexRules, SyncsKeepIndexRules, CreatesKeepIndexRules, HasAllRows, NotesAreWell, SyncsAreWell, CreatesAreWell, FoundIsExact, FoundRises};
 
 use crate::ranges::KeyRange;
 

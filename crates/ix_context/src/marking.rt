@@ -1,17 +1,14 @@
 //! Making rows documents of indexes.
 #![tactic(auto, using(ct_keep::specs::Composing::reads_on, ct_keep::specs::Composing::reads_short))]
 
-ghost use Rattle.std.specs.Prelude.{◌≡◌, ◌+◌, ◌<◌, ◌≤◌, ◌^◌, ◌++◌, ◌∷◌, [], All, IfOk, OnOk, Some, Err, MatchOption, length, map};
-ghost use Rattle.ct_keep.specs.Content.{Content};
+ghost use Rattle.std.specs.Prelude.{◌≡◌, ◌+◌, ◌<◌, ◌≤◌, ◌^◌, ◌∷◌, [], All, IfOk, Some, MatchOption, length, map};
 ghost use Rattle.ct_keep.specs.KeeperViews.{OnlyReads};
 ghost use Rattle.ct_entry.specs.Keys.{posting_part};
-ghost use Rattle.ct_entry.specs.Changes.{spell};
 ghost use Rattle.ix_posting.specs.Rows.{IsPostingRow, posting_bytes};
-ghost use Rattle.tb_table.specs.Tables.{Tables};
 ghost use Rattle.ix_context.specs.Indexes.{target_text};
-ghost use Rattle.ix_context.specs.Stands.{HoldsTables};
-ghost use Rattle.ix_context.specs.Changes.{posting_change, text_changes, document_changes};
-ghost use Rattle.ix_context.specs.TokenLaws.{IsPosting, HasShortText, if_short};
+ghost use Rattle.ix_context.specs.Changes.{posting_change, text_changes, document_changes, Adds, mark_row_changes};
+ghost use Rattle.ix_context.specs.Postings.{IsPosting, HasShortText, if_short};
+ghost use Rattle.ix_context.specs.Sees.{ToldTables, SeesTables};
 
 use crate::inverting::postings;
 use ct_base::{Memory, Name, RowKey, Text};
@@ -26,7 +23,7 @@ use tx_chars::Key;
 /// How many bytes of text a document may have: far more than a text of a table.
 const MOST_BYTES: usize = 1 << 24;
 
-/// The rest of the key of a token's row of postings in the main stream: the stream 0, the token behind its length, and the
+/// The rest of the key of a token's row of postings in the main stream: the stream 0, the token after its length, and the
 /// row's first document.
 fn posting_part(alloc: Global, token: &[u8], document: u32) -> Result<Vec<u8>, Memory>
     requires { length token.now ≤ 255 }
@@ -65,7 +62,7 @@ fn put_posting(
 ) -> Result<(), Memory>
     requires some { 1 ≤ document }
     requires posting { IsPosting (token.now, positions) }
-    ensures { OnOk result (batch.new ≡ batch.old ++ spell (posting_change index.now document (token.now, positions) ∷ [])) }
+    ensures { Adds batch.old batch.new result (posting_change index.now document (token.now, positions) ∷ []) }
 {
     let part = posting_part(alloc, token, document)?;
     let value = posting_value(alloc, document, positions)?;
@@ -82,7 +79,7 @@ fn put_postings(
 ) -> Result<(), Memory>
     requires some { 1 ≤ document }
     requires postings { All IsPosting list.items }
-    ensures { OnOk result (batch.new ≡ batch.old ++ spell (map (posting_change index.now document) list.items)) }
+    ensures { Adds batch.old batch.new result (map (posting_change index.now document) list.items) }
 {
     for (token, positions) in list {
         put_posting(alloc, batch, index, document, token.as_slice(), positions)?;
@@ -100,7 +97,7 @@ fn put_text(
 ) -> Result<(), Memory>
     requires some { 1 ≤ document }
     requires short { HasShortText text }
-    ensures { OnOk result (batch.new ≡ batch.old ++ spell (text_changes index.now document text)) }
+    ensures { Adds batch.old batch.new result (text_changes index.now document text) }
 {
     let Some(text) = text else {
         return Ok(());
@@ -123,7 +120,7 @@ pub(crate) fn mark_row(
 ) -> Result<(), Memory>
     requires some { 1 ≤ document }
     requires short { HasShortText text }
-    ensures { OnOk result (batch.new ≡ batch.old ++ spell (document_changes index.now document row.0 text)) }
+    ensures { Adds batch.old batch.new result (document_changes index.now document row.0 text) }
 {
     let row_part = row_key_bytes(row);
     let document_part = document.to_be_bytes();
@@ -166,7 +163,7 @@ fn seen_text<K: Keeper>(
     row: RowKey,
 ) -> Result<Option<Text>, KeepFault>
     requires { (K.view keeper.old).ready }
-    ensures text { (m : Content) (ts : Tables) → (K.view keeper.old).content ≡ Some m → HoldsTables m ts → IfOk result (λ text. text ≡ target_text ts target.now row.0) }
+    ensures text { SeesTables K.view keeper.old result (λ ts text. text ≡ target_text ts target.now row.0) }
     ensures short { IfOk result (λ text. HasShortText text) }
     ensures reads { OnlyReads K.view keeper.old keeper.new result }
 {
@@ -186,7 +183,7 @@ pub(crate) fn mark_next<K: Keeper>(
 ) -> Result<(), KeepFault>
     requires ready { (K.view keeper.old).ready }
     requires some { 1 ≤ document }
-    ensures changes { (m : Content) (ts : Tables) → (K.view keeper.old).content ≡ Some m → HoldsTables m ts → OnOk result (changes.new ≡ changes.old ++ spell (document_changes index.now document row.0 (target_text ts target.now row.0))) }
+    ensures changes { ToldTables K.view keeper.old (λ ts. Adds changes.old changes.new result (mark_row_changes ts index.now target.now document row)) }
     ensures reads { OnlyReads K.view keeper.old keeper.new result }
 {
     let text = seen_text(alloc, keeper, target, row)?;
@@ -194,8 +191,8 @@ pub(crate) fn mark_next<K: Keeper>(
     Ok(())
 }
 
-/// The number behind so many that begin with this one; None where it has over 32 bits.
-pub(crate) fn number_behind(first: u32, count: usize) -> Option<u32>
+/// The number that follows so many, of which this is the first; None where it has over 32 bits.
+pub(crate) fn number_after(first: u32, count: usize) -> Option<u32>
     ensures { MatchOption result (2 ^ 32 ≤ first + count) (λ number. (number ≡ first + count) × (number < 2 ^ 32)) }
 {
     if count <= (u32::MAX - first) as usize {

@@ -1,8 +1,7 @@
 //! Noting changes of rows in indexes.
 
-ghost use Rattle.std.specs.Prelude.{◌≡◌, ◌++◌, OnOk, OnErr, Err};
-ghost use Rattle.ct_entry.specs.Changes.{spell};
-ghost use Rattle.ix_context.specs.Changes.{note_insert_changes};
+ghost use Rattle.std.specs.Prelude.{◌≡◌, OnErr, Err};
+ghost use Rattle.ix_context.specs.Changes.{note_insert_changes, Adds};
 
 use crate::faults::ContextFault;
 use ct_base::{Name, RowKey};
@@ -18,7 +17,7 @@ pub fn note_insert(
     index: &Name,
     key: RowKey,
 ) -> Result<(), ContextFault>
-    ensures ok { OnOk result (batch.new ≡ batch.old ++ spell (note_insert_changes index.now key.0)) }
+    ensures ok { Adds batch.old batch.new result (note_insert_changes index.now key.0) }
     ensures err { OnErr result (batch.new ≡ batch.old) }
     ensures no_disk { result ≡ Err ContextFault.Disk → ⊥ }
     ensures never_too_many { result ≡ Err ContextFault.TooMany → ⊥ }

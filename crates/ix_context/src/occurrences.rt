@@ -1,8 +1,8 @@
 //! At which positions keys occur.
 
-ghost use Rattle.std.specs.Prelude.{◌≡◌, ◌++◌, ◌∷◌, [], IfOk, OnOk};
+ghost use Rattle.std.specs.Prelude.{◌≡◌, IfOk, OnOk};
 ghost use Rattle.std.specs.FinMap.{get, insert, remove, empty, entries};
-ghost use Rattle.ix_context.specs.Occurrences.{had, noted};
+ghost use Rattle.ix_context.specs.Occurrences.{had, with_position};
 
 use ct_base::Memory;
 use ix_posting::Positions;
@@ -59,7 +59,7 @@ impl Occurrences {
 
     /// Notes a further position of a key. Its cost is the logarithm of the number of keys.
     pub(crate) fn note(&mut self, alloc: Global, key: &[u8], position: u32) -> Result<(), Memory>
-        ensures { OnOk result (self.new ≡ noted self.old key.now position) }
+        ensures { OnOk result (self.new ≡ with_position self.old key.now position) }
     {
         let mut positions = self.take(alloc, key);
         positions.push(position)?;

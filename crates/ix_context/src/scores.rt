@@ -1,7 +1,8 @@
 //! Scores of rows.
 
-ghost use Rattle.std.specs.Prelude.{◌≡◌, map, IfOk, OnOk};
+ghost use Rattle.std.specs.Prelude.{◌≡◌, IfOk, OnOk};
 ghost use Rattle.std.specs.FinMap.{insert, empty, entries};
+ghost use Rattle.ix_context.specs.Scoring.{hit_rows};
 
 use crate::hits::Hit;
 use ct_base::{Memory, RowKey};
@@ -51,7 +52,7 @@ impl Scores {
 
     /// The rows with their scores, in order of their keys.
     pub(crate) fn into_hits(self, alloc: Global) -> Result<Vec<Hit>, Memory>
-        ensures { IfOk result (λ hits. map (λ h. (h.key.0, h.score)) hits.items ≡ entries self) }
+        ensures { IfOk result (λ hits. hit_rows hits.items ≡ entries self) }
     {
         let mut hits = Vec::new(alloc);
         for (key, score) in self.scores {

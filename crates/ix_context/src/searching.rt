@@ -1,22 +1,17 @@
 //! The rows that have a word.
 #![tactic(auto, using(ct_keep::specs::Composing::reads_on, ct_keep::specs::Composing::reads_short))]
 
-ghost use Rattle.std.specs.Prelude.{◌≡◌, ◌++◌, ◌<◌, ◌∷◌, List, IfOk, OnOk, Some, Err, map, length, MatchOption};
+ghost use Rattle.std.specs.Prelude.{◌≡◌, ◌<◌, IfOk, OnOk, Some, Err, map, MatchOption};
 ghost use Rattle.std.specs.Option.{option_map};
-ghost use Rattle.ct_keep.specs.Content.{Content};
 ghost use Rattle.ct_keep.specs.KeeperViews.{Finds, OnlyReads, Told};
 ghost use Rattle.ct_keep.specs.Looks.{no_looks, scan_looks, LooksAtMost};
-ghost use Rattle.ct_entry.specs.Keys.{at, prefix_of, IsToken, HasKeysOnly};
-ghost use Rattle.std.specs.FinMap.{get, empty};
+ghost use Rattle.ct_entry.specs.Keys.{at, IsToken};
 ghost use Rattle.ct_entry.specs.declared.kinds.Kind.TheVariants as kind;
 ghost use Rattle.ix_posting.specs.declared.rows.RowDocument.{RowDocument};
-ghost use Rattle.ix_posting.specs.Rows.{IsPostingRow, posting_bytes};
-ghost use Rattle.ct_entry.specs.Maps.{Names};
-ghost use Rattle.tb_table.specs.Tables.{Tables};
-ghost use Rattle.ix_context.specs.Indexes.{Index, found};
-ghost use Rattle.ix_context.specs.Spelling.{IndexesStand};
-ghost use Rattle.ix_context.specs.Limits.{IsWithinLimits};
-ghost use Rattle.ix_context.specs.Scoring.{document_row, with_documents, with_postings, HoldRows};
+ghost use Rattle.ix_context.specs.Indexes.{found};
+ghost use Rattle.ix_context.specs.Spelling.{word_prefix, postings_prefix};
+ghost use Rattle.ix_context.specs.Scoring.{document_row, with_documents, hit_rows, ScoresRow, AreScores};
+ghost use Rattle.ix_context.specs.Sees.{SeesWithinLimits};
 
 use crate::hits::Hit;
 use crate::scores::Scores;
@@ -55,7 +50,7 @@ fn score_documents<K: Keeper>(
     documents: &[RowDocument],
 ) -> Result<(), KeepFault>
     requires { (K.view keeper.old).ready }
-    ensures scores { (m : Content) → (K.view keeper.old).content ≡ Some m → OnOk result (scores.new ≡ with_documents (at m) index.now documents.now scores.old) }
+    ensures scores { Told K.view keeper.old (λ m. OnOk result (scores.new ≡ with_documents (at m) index.now documents.now scores.old)) }
     ensures reads { OnlyReads K.view keeper.old keeper.new result }
     ensures at_most { LooksAtMost K.view keeper.old keeper.new no_looks }
 {
@@ -77,7 +72,7 @@ fn score_row<K: Keeper>(
     value: &[u8],
 ) -> Result<(), KeepFault>
     requires { (K.view keeper.old).ready }
-    ensures scores { (m : Content) (row : List RowDocument) → (K.view keeper.old).content ≡ Some m → IsPostingRow row → posting_bytes row ≡ value.now → OnOk result (scores.new ≡ with_documents (at m) index.now row scores.old) }
+    ensures scores { Told K.view keeper.old (λ m. ScoresRow (at m) index.now value.now scores.old scores.new result) }
     ensures reads { OnlyReads K.view keeper.old keeper.new result }
     ensures at_most { LooksAtMost K.view keeper.old keeper.new no_looks }
 {
@@ -96,7 +91,7 @@ fn scores_of<K: Keeper>(
     rows: &[(Vec<u8>, Vec<u8>)],
 ) -> Result<Scores, KeepFault>
     requires { (K.view keeper.old).ready }
-    ensures scores { (m : Content) (held : List (List RowDocument)) → (K.view keeper.old).content ≡ Some m → HoldRows (map (λ e. (e.0.items, e.1.items)) rows.now) held → IfOk result (λ scores. scores ≡ with_postings (at m) index.now held empty) }
+    ensures scores { Finds K.view keeper.old result (λ m. AreScores (at m) index.now (map (λ e. (e.0.items, e.1.items)) rows.now)) }
     ensures reads { OnlyReads K.view keeper.old keeper.new result }
     ensures at_most { LooksAtMost K.view keeper.old keeper.new no_looks }
 {
@@ -107,26 +102,26 @@ fn scores_of<K: Keeper>(
     Ok(scores)
 }
 
-/// What the rests of the rows of postings of a word begin with: the main stream, and the word behind its length in one
-/// byte. None for a word of no byte or of over 255, which has no rows.
-fn front_of(alloc: Global, word: &Key) -> Result<Option<Vec<u8>>, Memory>
-    ensures { IfOk result (λ front. MatchOption front (IsToken word.now → ⊥) (λ v. IsToken word.now × (v.items ≡ 0 ∷ length word.now ∷ word.now))) }
+/// What follows the index in the key of each row of postings of a word, up to the end of the word: the main stream, the
+/// length of the word in one byte, and the word. None for a word of no byte or of over 255, which has no rows.
+fn word_prefix(alloc: Global, word: &Key) -> Result<Option<Vec<u8>>, Memory>
+    ensures { IfOk result (λ prefix. MatchOption prefix (IsToken word.now → ⊥) (λ v. IsToken word.now × (v.items ≡ word_prefix word.now))) }
 {
     let word = word.as_slice();
     if word.is_empty() || word.len() > 255 {
         return Ok(None);
     }
-    let mut front = Vec::new(alloc);
-    front.push(0)?;
-    front.push(word.len() as u8)?;
-    front.extend_from_slice(word)?;
-    Ok(Some(front))
+    let mut prefix = Vec::new(alloc);
+    prefix.push(0)?;
+    prefix.push(word.len() as u8)?;
+    prefix.extend_from_slice(word)?;
+    Ok(Some(prefix))
 }
 
 /// The rows that have a word, with their scores, in order of their keys. A word of no byte or of over 255 is the key of no
 /// token, and finds nothing without a look-up.
 ///
-/// It costs that change's rows of postings, and for each document of theirs a look-up and the logarithm of their number. It
+/// It costs the word's rows of postings, and for each document of theirs a look-up and the logarithm of their number. It
 /// reads no text, and never answers Full.
 pub fn search<K: Keeper>(
     alloc: Global,
@@ -135,14 +130,14 @@ pub fn search<K: Keeper>(
     word: &Key,
 ) -> Result<Vec<Hit>, KeepFault>
     requires { (K.view keeper.old).ready }
-    ensures found { (m : Content) (ts : Tables) (xs : Names Index) (x : Index) → (K.view keeper.old).content ≡ Some m → HasKeysOnly m → IndexesStand (at m) ts xs → get xs index.now ≡ Some x → IsWithinLimits ts x → IfOk result (λ hits. map (λ h. (h.key.0, h.score)) hits.items ≡ found ts x word.now 0) }
+    ensures found { SeesWithinLimits K.view keeper.old index.now result (λ ts x hits. hit_rows hits.items ≡ found ts x word.now 0) }
     ensures reads { OnlyReads K.view keeper.old keeper.new result }
-    ensures at_most { Told K.view keeper.old (λ m. LooksAtMost K.view keeper.old keeper.new (scan_looks (prefix_of kind.Postings index.now ++ 0 ∷ length word.now ∷ word.now) m)) }
+    ensures at_most { Told K.view keeper.old (λ m. LooksAtMost K.view keeper.old keeper.new (scan_looks (postings_prefix index.now word.now) m)) }
 {
-    let Some(front) = front_of(alloc, word)? else {
+    let Some(prefix) = word_prefix(alloc, word)? else {
         return Ok(Vec::new(alloc));
     };
-    let rows = entries_of(alloc, keeper, Kind::Postings, index, &front)?;
+    let rows = entries_of(alloc, keeper, Kind::Postings, index, &prefix)?;
     let scores = scores_of(alloc, keeper, index, &rows)?;
     let hits = scores.into_hits(alloc)?;
     Ok(hits)

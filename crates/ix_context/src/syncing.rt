@@ -1,24 +1,17 @@
 //! Synchronising indexes.
 #![tactic(auto, using(ct_keep::specs::Composing::reads_on, ct_keep::specs::Composing::reads_short))]
 
-ghost use Rattle.std.specs.Prelude.{◌≡◌, ◌+◌, ◌≤◌, ◌<◌, ◌^◌, ◌++◌, List, ℕ, IfOk, OnOk, OnErr, Some, Err, MatchOption, length, map, max};
-ghost use Rattle.std.specs.Option.{option_map};
-ghost use Rattle.std.specs.FinMap.{get};
-ghost use Rattle.ct_keep.specs.Content.{Content};
+ghost use Rattle.std.specs.Prelude.{◌≡◌, ◌+◌, ◌≤◌, ◌<◌, ◌^◌, OnOk, OnErr, Some, Err, length};
 ghost use Rattle.ct_keep.specs.KeeperViews.{OnlyReads, Reads};
-ghost use Rattle.ct_entry.specs.Each.{each};
-ghost use Rattle.ct_entry.specs.Maps.{Names};
-ghost use Rattle.ct_entry.specs.Changes.{spell};
-ghost use Rattle.tb_table.specs.Tables.{Tables};
-ghost use Rattle.ix_context.specs.Indexes.{Index, pending_rows, target_text};
-ghost use Rattle.ix_context.specs.Changes.{numbered, settle_with, settled_with, sync_changes};
+ghost use Rattle.ix_context.specs.Indexes.{pending_rows};
+ghost use Rattle.ix_context.specs.Changes.{sync_changes, Adds, settle_row_changes, settle_rows_changes, AreSettleChanges, AreSyncChanges};
 ghost use Rattle.ix_context.specs.Faults.{context_fault_of};
 ghost use Rattle.ix_context.specs.Rules.{most_given};
-ghost use Rattle.ix_context.specs.Stands.{HoldsTables, HoldsIndexes};
+ghost use Rattle.ix_context.specs.Sees.{ToldTables, SeesTables, ToldIndex, SeesIndex};
 
 use crate::entries::{put_index, read_index};
 use crate::faults::{ContextFault, fault_of_reads};
-use crate::marking::{mark_next, number_behind};
+use crate::marking::{mark_next, number_after};
 use ct_base::{Name, RowKey};
 use ct_bytes::row_key_bytes;
 use ct_entry::{Kind, remove_entry, row_keys};
@@ -38,7 +31,7 @@ fn settle_row<K: Keeper>(
 ) -> Result<(), KeepFault>
     requires ready { (K.view keeper.old).ready }
     requires some { 1 ≤ document }
-    ensures changes { (m : Content) (ts : Tables) → (K.view keeper.old).content ≡ Some m → HoldsTables m ts → OnOk result (changes.new ≡ changes.old ++ spell (settle_with index.now (target_text ts target.now) (document, row.0))) }
+    ensures changes { ToldTables K.view keeper.old (λ ts. Adds changes.old changes.new result (settle_row_changes ts index.now target.now document row)) }
     ensures reads { OnlyReads K.view keeper.old keeper.new result }
 {
     let part = row_key_bytes(row);
@@ -59,7 +52,7 @@ fn settle_rows<K: Keeper>(
     requires ready { (K.view keeper.old).ready }
     requires some { 1 ≤ first }
     requires room { first + length rows.now < 2 ^ 32 }
-    ensures changes { (m : Content) (ts : Tables) → (K.view keeper.old).content ≡ Some m → HoldsTables m ts → OnOk result (changes.new ≡ changes.old ++ spell (each (settle_with index.now (target_text ts target.now)) (numbered first (map (λ r. r.0) rows.now)))) }
+    ensures changes { ToldTables K.view keeper.old (λ ts. Adds changes.old changes.new result (settle_rows_changes ts index.now target.now first rows.now)) }
     ensures reads { OnlyReads K.view keeper.old keeper.new result }
 {
     let mut document = first;
@@ -82,14 +75,14 @@ fn settled_changes<K: Keeper>(
 ) -> Result<Option<Batch>, KeepFault>
     requires ready { (K.view keeper.old).ready }
     requires some { 1 ≤ first }
-    ensures changes { (m : Content) (ts : Tables) → (K.view keeper.old).content ≡ Some m → HoldsTables m ts → IfOk result (λ changes. MatchOption changes (2 ^ 32 ≤ first + length rows.now) (λ ws. (first + length rows.now < 2 ^ 32) × (ws ≡ spell (settled_with index.now target.now (target_text ts target.now) first (map (λ r. r.0) rows.now))))) }
+    ensures changes { SeesTables K.view keeper.old result (λ ts. AreSettleChanges ts index.now target.now first rows.now) }
     ensures reads { OnlyReads K.view keeper.old keeper.new result }
 {
     let mut changes = Batch::new(alloc);
     if rows.is_empty() {
         return Ok(Some(changes));
     }
-    let Some(next) = number_behind(first, rows.len()) else {
+    let Some(next) = number_after(first, rows.len()) else {
         return Ok(None);
     };
     settle_rows(alloc, keeper, &mut changes, index, target, first, rows)?;
@@ -105,7 +98,7 @@ fn changes_of_sync<K: Keeper>(
     index: &Name,
 ) -> Result<Option<Batch>, KeepFault>
     requires { (K.view keeper.old).ready }
-    ensures changes { (m : Content) (ts : Tables) (xs : Names Index) (x : Index) → (K.view keeper.old).content ≡ Some m → HoldsIndexes m ts xs → get xs index.now ≡ Some x → IfOk result (λ changes. MatchOption changes (most_given < x.given + length (pending_rows x)) (λ ws. (x.given + length (pending_rows x) ≤ most_given) × (ws ≡ spell (sync_changes ts index.now x)))) }
+    ensures changes { SeesIndex K.view keeper.old index.now result (λ ts x. AreSyncChanges ts index.now x) }
     ensures reads { OnlyReads K.view keeper.old keeper.new result }
 {
     let Some((target, next)) = read_index(alloc, keeper, index)? else {
@@ -128,9 +121,9 @@ pub fn sync<K: Keeper>(
     index: &Name,
 ) -> Result<(), ContextFault>
     requires { (K.view keeper.old).ready }
-    ensures changes { (m : Content) (ts : Tables) (xs : Names Index) (x : Index) → (K.view keeper.old).content ≡ Some m → HoldsIndexes m ts xs → get xs index.now ≡ Some x → OnOk result (batch.new ≡ batch.old ++ spell (sync_changes ts index.now x)) }
-    ensures room { (m : Content) (ts : Tables) (xs : Names Index) (x : Index) → (K.view keeper.old).content ≡ Some m → HoldsIndexes m ts xs → get xs index.now ≡ Some x → OnOk result (x.given + length (pending_rows x) ≤ most_given) }
-    ensures many { (m : Content) (ts : Tables) (xs : Names Index) (x : Index) → (K.view keeper.old).content ≡ Some m → HoldsIndexes m ts xs → get xs index.now ≡ Some x → result ≡ Err ContextFault.TooMany → most_given < x.given + length (pending_rows x) }
+    ensures changes { ToldIndex K.view keeper.old index.now (λ ts x. Adds batch.old batch.new result (sync_changes ts index.now x)) }
+    ensures room { ToldIndex K.view keeper.old index.now (λ ts x. OnOk result (x.given + length (pending_rows x) ≤ most_given)) }
+    ensures many { ToldIndex K.view keeper.old index.now (λ ts x. result ≡ Err ContextFault.TooMany → most_given < x.given + length (pending_rows x)) }
     ensures err { OnErr result (batch.new ≡ batch.old) }
     ensures reads { Reads (K.view keeper.old) (K.view keeper.new) (context_fault_of result) }
 {

@@ -98,14 +98,9 @@ fn say_hit(alloc: Global, line: &mut String, hit: Hit) -> Result<(), Memory> {
 }
 
 /// The rows that have a word, each with its score.
-fn found(
-    alloc: Global,
-    keeper: &mut MemKeeper,
-    index: &Name,
-    change: &str,
-) -> Result<String, Fail> {
-    let change = key(alloc, change)?;
-    let hits = search(alloc, keeper, index, &change)?;
+fn found(alloc: Global, keeper: &mut MemKeeper, index: &Name, word: &str) -> Result<String, Fail> {
+    let word = key(alloc, word)?;
+    let hits = search(alloc, keeper, index, &word)?;
     let mut line = String::new(alloc);
     for hit in hits.iter() {
         say_hit(alloc, &mut line, *hit)?;
@@ -139,7 +134,7 @@ fn found_later(alloc: Global, word: &str, times: u32) -> Result<(String, usize),
     for _ in 0..times {
         count = settle(alloc, &mut keeper, &index)?;
     }
-    let line = found(alloc, &mut keeper, &index, change)?;
+    let line = found(alloc, &mut keeper, &index, word)?;
     Ok((line, count))
 }
 

@@ -1,6 +1,6 @@
 -- What has been cut, and what one more byte does to what stands open.
 use Rattle.std.proofs.Common.{ℕ, ◌≡◌, Bool, true, false, eqb, List, [], ◌∷◌, ◌++◌, Some, None, refl, sym, ap, ◌∙◌, subst, length, take, ◌<◌, arith}
-use Rattle.st_cut.specs.Cut.{is_blank, line_end, first_statement, Cuts}
+use Rattle.st_cut.specs.Cut.{is_blank_byte, line_end, first_statement, Cuts}
 
 -- what has been cut stays cut, whatever comes
 pub line_end_goes_on : (w : Bool) (bs next more : List ℕ) → line_end false bs ≡ Some next → line_end w (bs ++ more) ≡ Some (next ++ more)
@@ -8,11 +8,13 @@ line_end_goes_on w [] next more h = cc
 line_end_goes_on w (b ∷ bs) next more h = grind (arith, line_end_goes_on w bs next more)
 
 -- a line in which an end comes later is no end yet
-pub line_busy : (w : Bool) (bs more : List ℕ) (found : List ℕ × List ℕ) → line_end false bs ≡ None → first_statement false bs ≡ Some found → line_end w (bs ++ more) ≡ None
+pub line_busy : (w : Bool) (bs more : List ℕ) (found : List ℕ × List ℕ) → line_end false bs ≡ None → first_statement false bs ≡ Some found
+    → line_end w (bs ++ more) ≡ None
 line_busy w [] more found e h = cc
 line_busy w (b ∷ bs) more found e h = grind (arith, line_busy w bs more)
 
-pub first_goes_on : (w : Bool) (bs more : List ℕ) (found : List ℕ × List ℕ) → first_statement false bs ≡ Some found → first_statement w (bs ++ more) ≡ Some (found.0, found.1 ++ more)
+pub first_goes_on : (w : Bool) (bs more : List ℕ) (found : List ℕ × List ℕ) → first_statement false bs ≡ Some found
+    → first_statement w (bs ++ more) ≡ Some (found.0, found.1 ++ more)
 first_goes_on w [] more found h = cc
 first_goes_on w (b ∷ bs) more found h = grind (arith, line_end_goes_on, line_busy, first_goes_on w bs more)
 
@@ -44,20 +46,22 @@ open_last [] found h e = cc
 open_last (c ∷ cs) found h e = grind (arith, line_last, open_last cs)
 
 -- a blank leaves the end where it is
-pub line_blank : (bs : List ℕ) (b : ℕ) → line_end false bs ≡ None → is_blank b ≡ true → line_end true (bs ++ b ∷ []) ≡ line_end true bs
+pub line_blank : (bs : List ℕ) (b : ℕ) → line_end false bs ≡ None → is_blank_byte b ≡ true → line_end true (bs ++ b ∷ []) ≡ line_end true bs
 line_blank [] b h e = grind arith
 line_blank (c ∷ cs) b h e = grind (arith, line_blank cs b)
 
-pub open_blank : (held : List ℕ) (b : ℕ) → first_statement false held ≡ None → is_blank b ≡ true → first_statement true (held ++ b ∷ []) ≡ first_statement true held
+pub open_blank : (held : List ℕ) (b : ℕ) → first_statement false held ≡ None → is_blank_byte b ≡ true
+    → first_statement true (held ++ b ∷ []) ≡ first_statement true held
 open_blank [] b h e = grind arith
 open_blank (c ∷ cs) b h e = grind (arith, line_blank, open_blank cs b)
 
 -- any other byte puts the end off
-pub line_byte : (bs : List ℕ) (b : ℕ) → line_end false bs ≡ None → is_blank b ≡ false → eqb b 10 ≡ false → line_end true (bs ++ b ∷ []) ≡ None
+pub line_byte : (bs : List ℕ) (b : ℕ) → line_end false bs ≡ None → is_blank_byte b ≡ false → eqb b 10 ≡ false → line_end true (bs ++ b ∷ []) ≡ None
 line_byte [] b h e n = grind arith
 line_byte (c ∷ cs) b h e n = grind (arith, line_byte cs b)
 
-pub open_byte : (held : List ℕ) (b : ℕ) → first_statement false held ≡ None → is_blank b ≡ false → eqb b 10 ≡ false → eqb b 59 ≡ false → first_statement true (held ++ b ∷ []) ≡ None
+pub open_byte : (held : List ℕ) (b : ℕ) → first_statement false held ≡ None → is_blank_byte b ≡ false → eqb b 10 ≡ false → eqb b 59 ≡ false
+    → first_statement true (held ++ b ∷ []) ≡ None
 open_byte [] b h e n s = grind arith
 open_byte (c ∷ cs) b h e n s = grind (arith, line_byte, open_byte cs b)
 
@@ -90,7 +94,8 @@ cut_open w script [] rest h = rw h.1 h.0
 cut_open w script (s ∷ ss) rest h = cut_open w h.0 ss rest h.2
 
 -- a cut goes on from what it left
-pub cuts_go_on : (w : Bool) (a b : List ℕ) (ss ts : List (List ℕ)) (mid rest : List ℕ) → Cuts false a ss mid → Cuts w (mid ++ b) ts rest → Cuts w (a ++ b) (ss ++ ts) rest
+pub cuts_go_on : (w : Bool) (a b : List ℕ) (ss ts : List (List ℕ)) (mid rest : List ℕ) → Cuts false a ss mid → Cuts w (mid ++ b) ts rest
+    → Cuts w (a ++ b) (ss ++ ts) rest
 cuts_go_on w a b [] ts mid rest h k = rw (sym h.1) k
 cuts_go_on w a b (s ∷ ss) ts mid rest h k = (h.0 ++ b, first_goes_on w a b (s, h.0) h.1, cuts_go_on w h.0 b ss ts mid rest h.2 k)
 

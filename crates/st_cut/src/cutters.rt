@@ -2,14 +2,14 @@
 
 ghost use Rattle.std.specs.Prelude.{◌≡◌, true, None, ◌<◌, ◌≤◌, ◌+◌, ◌++◌, ◌∷◌, [], ℕ, List, IsSome, is_some, IfOk, length, take};
 ghost use Rattle.std.specs.Vec.{vec_capacity};
-ghost use Rattle.st_cut.specs.Cut.{first_statement, is_blank as is_blank_byte};
-ghost use Rattle.st_cut.specs.Seen.{Shows, Stands, next_stop};
+ghost use Rattle.st_cut.specs.Cut.{first_statement, is_blank_byte};
+ghost use Rattle.st_cut.specs.Seen.{ShowsText, StandsOpen, next_stop};
 
 use ct_base::Memory;
 use std::alloc::Global;
 use std::marker::Model;
 
-/// The bytes that stand open behind the last statement. Of these it keeps the first `limit`.
+/// The bytes that follow the last statement that has ended. Of these it keeps the first `limit`.
 #[derive(Drop)]
 pub struct Cutter {
     limit: usize,
@@ -64,7 +64,7 @@ fn keep(limit: usize, kept: &mut Vec<u8>, byte: u8)
 impl Cutter {
     /// Reserves all that it needs, so no later call takes memory. A text of over `limit` bytes is not kept whole.
     pub fn new(alloc: Global, limit: usize) -> Result<Cutter, Memory>
-        ensures { IfOk result (λ cutter. Stands limit cutter []) }
+        ensures { IfOk result (λ cutter. StandsOpen limit cutter []) }
     {
         Ok(Cutter {
             limit,
@@ -84,7 +84,7 @@ impl Cutter {
     /// Takes a byte that ends no statement.
     pub fn push(&mut self, byte: u8)
         requires { byte ≡ 10 → self.old.stop ≡ None }
-        ensures { (limit : ℕ) (held : List ℕ) → Stands limit self.old held → Stands limit self.new (held ++ byte ∷ []) }
+        ensures { (limit : ℕ) (held : List ℕ) → StandsOpen limit self.old held → StandsOpen limit self.new (held ++ byte ∷ []) }
     {
         self.stop = stop_after(self.stop, self.count, byte);
         keep(self.limit, &mut self.kept, byte);
@@ -94,8 +94,8 @@ impl Cutter {
     /// The statement that ends now, without its `;`, or nothing where it has over `limit` bytes.
     pub fn statement(&self) -> Option<&[u8]>
         requires { IsSome self.now.stop }
-        ensures { (limit : ℕ) (held statement : List ℕ) → Stands limit self.now held → first_statement true held ≡ Some (statement, [])
-            → Shows limit result statement }
+        ensures { (limit : ℕ) (held statement : List ℕ) → StandsOpen limit self.now held → first_statement true held ≡ Some (statement, [])
+            → ShowsText limit result statement }
     {
         match self.stop {
             Some(stop) if stop <= self.limit => Some(&self.kept[..stop]),
@@ -103,9 +103,9 @@ impl Cutter {
         }
     }
 
-    /// All that stands open, or nothing where that is over `limit` bytes.
+    /// All bytes since the last statement, or nothing where these are over `limit` bytes.
     pub fn rest(&self) -> Option<&[u8]>
-        ensures { (limit : ℕ) (held : List ℕ) → Stands limit self.now held → Shows limit result held }
+        ensures { (limit : ℕ) (held : List ℕ) → StandsOpen limit self.now held → ShowsText limit result held }
     {
         if self.count <= self.limit {
             Some(&self.kept)
@@ -114,9 +114,9 @@ impl Cutter {
         }
     }
 
-    /// Nothing stands open any more.
+    /// Forgets all bytes: a statement has ended.
     pub fn clear(&mut self)
-        ensures { Stands self.old.limit self.new [] }
+        ensures { StandsOpen self.old.limit self.new [] }
     {
         self.kept.clear();
         self.count = 0;

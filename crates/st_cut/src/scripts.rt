@@ -2,7 +2,7 @@
 
 ghost use Rattle.std.specs.Prelude.{◌≡◌, ◌≤◌, ◌++◌, ◌∷◌, [], ℕ, List, IfOk, OnOk, length};
 ghost use Rattle.st_cut.specs.Cut.{IsCut};
-ghost use Rattle.st_cut.specs.Seen.{Cutting, Shows, texts};
+ghost use Rattle.st_cut.specs.Seen.{Cutting, ShowsText, texts};
 
 use crate::cutters::Cutter;
 use ct_base::Memory;
@@ -10,7 +10,7 @@ use std::alloc::Global;
 
 /// Adds a text, where it is given.
 fn push_text(alloc: Global, items: &mut Vec<Vec<u8>>, text: Option<&[u8]>) -> Result<(), Memory>
-    ensures { OnOk result ((limit : ℕ) (shown : List ℕ) → Shows limit text.entry shown → length shown ≤ limit
+    ensures { OnOk result ((limit : ℕ) (shown : List ℕ) → ShowsText limit text.entry shown → length shown ≤ limit
         → texts items.new.items ≡ texts items.old.items ++ shown ∷ []) }
 {
     let Some(text) = text else {
@@ -53,7 +53,7 @@ fn cut_end(alloc: Global, items: &mut Vec<Vec<u8>>, cutter: &Cutter) -> Result<(
     Ok(())
 }
 
-/// Cuts a whole script: its statements, each without its `;`, and as the last item what stands behind them.
+/// Cuts a whole script: its statements, each without its `;`, and as the last item what follows them.
 /// Its cost is the length of the script.
 pub fn cut(alloc: Global, script: &[u8]) -> Result<Vec<Vec<u8>>, Memory>
     ensures { IfOk result (λ items. IsCut script.now (texts items.items)) }
@@ -77,7 +77,7 @@ pub fn one_cut()
 mod tests {
     use super::*;
 
-    /// The items with a `|` behind each.
+    /// The items with a `|` after each.
     fn marked(alloc: Global, items: &Vec<Vec<u8>>) -> Result<Vec<u8>, Memory> {
         let mut all = Vec::new(alloc);
         for item in items {

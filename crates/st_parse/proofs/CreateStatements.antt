@@ -12,36 +12,38 @@ use Rattle.st_parse.specs.declared.statements.IndexKind.TheVariants.{Context}
 use Rattle.st_parse.specs.declared.statements.Statement.TheVariants.{CreateTable, CreateIndex}
 use Rattle.st_parse.specs.Lexemes.{◌>>=◌}
 use Rattle.st_parse.specs.Lists.{AreEnclosed, enclosed_last}
-use Rattle.st_parse.specs.Creating.{IsSort, key, IsColumn, IsKind, sort_at, key_at, column_of, column_at, kind_of, create_table_of, create_index_of, create_of}
+use Rattle.st_parse.specs.Creating.{IsSortText, primary_key, IsColumn, IsKind, sort_text_at, primary_key_at, column_text, column_at, kind_of, create_table_of, create_index_of, create_of}
 use Rattle.st_parse.specs.Grammar.{IsStatement}
 use Rattle.st_parse.proofs.Spelt.{Spelt, Follows, Wholly, enclosed_last-spelt, enclosed_last-again}
 
-sort-spelt : (ls : List Lexeme) → Spelt IsSort (sort_at ls) ls
+sort-spelt : (ls : List Lexeme) → Spelt IsSortText (sort_text_at ls) ls
 sort-spelt (Word NUMBER ∷ ls) = (Word NUMBER ∷ [], refl, refl)
-sort-spelt (Word VARCHAR2 ∷ Sign Open ∷ Number digits ∷ Sign Close ∷ ls) = (Word VARCHAR2 ∷ Sign Open ∷ Number digits ∷ Sign Close ∷ [], (digits, refl, refl), refl)
+sort-spelt (Word VARCHAR2 ∷ Sign Open ∷ Number digits ∷ Sign Close ∷ ls) =
+    (Word VARCHAR2 ∷ Sign Open ∷ Number digits ∷ Sign Close ∷ [], (digits, refl, refl), refl)
 sort-spelt (Word CLOB ∷ ls) = (Word CLOB ∷ [], refl, refl)
 sort-spelt ls = tt
 
-key-spelt : (ls : List Lexeme) → ls ≡ key (key_at ls).0 ++ (key_at ls).1
+key-spelt : (ls : List Lexeme) → ls ≡ primary_key (primary_key_at ls).0 ++ (primary_key_at ls).1
 key-spelt (Word PRIMARY ∷ Word KEY ∷ ls) = refl
 key-spelt ls = refl
 
-sorted-spelt : (name : List ℕ) (o : Option (SortText × List Lexeme)) (ls : List Lexeme) → Spelt IsSort o ls → Spelt IsColumn (o >>= λ sort. Some (column_of name sort.0 (key_at sort.1))) (Name name ∷ ls)
+sorted-spelt : (name : List ℕ) (o : Option (SortText × List Lexeme)) (ls : List Lexeme) → Spelt IsSortText o ls
+    → Spelt IsColumn (o >>= λ sort. Some (column_text name sort.0 (primary_key_at sort.1))) (Name name ∷ ls)
 sorted-spelt name None ls is = tt
 sorted-spelt name (Some (sort, rest)) ls (front, is, e) =
-    let found = key_at rest in
-    (Name name ∷ (front ++ key found.0), (front, is, refl), ap (λ x. Name name ∷ x) (e ∙ ap (λ x. front ++ x) (key-spelt rest) ∙ sym (append_assoc front (key found.0) found.1)))
+    let found = primary_key_at rest in
+    (Name name ∷ (front ++ primary_key found.0), (front, is, refl), ap (λ x. Name name ∷ x) (e ∙ ap (λ x. front ++ x) (key-spelt rest) ∙ sym (append_assoc front (primary_key found.0) found.1)))
 
 column-spelt : (ls : List Lexeme) → Spelt IsColumn (column_at ls) ls
-column-spelt (Name name ∷ ls) = sorted-spelt name (sort_at ls) ls (sort-spelt ls)
+column-spelt (Name name ∷ ls) = sorted-spelt name (sort_text_at ls) ls (sort-spelt ls)
 column-spelt ls = tt
 
-sort-again : (front rest : List Lexeme) (sort : SortText) → IsSort front sort → sort_at (front ++ rest) ≡ Some (sort, rest)
-sort-again front rest NumberSort e = ap (λ x. sort_at (x ++ rest)) e
-sort-again front rest (Varchar2 size) (digits, value, e) = ap (λ x. sort_at (x ++ rest)) e ∙ ap (λ x. Some (Varchar2 x, rest)) (sym value)
-sort-again front rest Clob e = ap (λ x. sort_at (x ++ rest)) e
+sort-again : (front rest : List Lexeme) (sort : SortText) → IsSortText front sort → sort_text_at (front ++ rest) ≡ Some (sort, rest)
+sort-again front rest NumberSort e = ap (λ x. sort_text_at (x ++ rest)) e
+sort-again front rest (Varchar2 size) (digits, value, e) = ap (λ x. sort_text_at (x ++ rest)) e ∙ ap (λ x. Some (Varchar2 x, rest)) (sym value)
+sort-again front rest Clob e = ap (λ x. sort_text_at (x ++ rest)) e
 
-key-again : (primary : Bool) (rest : List Lexeme) → Follows rest → key_at (key primary ++ rest) ≡ (primary, rest)
+key-again : (primary : Bool) (rest : List Lexeme) → Follows rest → primary_key_at (primary_key primary ++ rest) ≡ (primary, rest)
 key-again true rest follows = refl
 key-again false (Sign Comma ∷ rest) follows = refl
 key-again false (Sign Close ∷ rest) follows = refl
@@ -51,9 +53,9 @@ key-again false rest follows = absurd follows
 column-again : (front rest : List Lexeme) (column : ColumnText) → IsColumn front column → Follows rest → column_at (front ++ rest) ≡ Some (column, rest)
 column-again front rest column (sort, is, e) follows =
     ap (λ x. column_at (x ++ rest)) e
-    ∙ ap (λ x. column_at (Name column.name ∷ x)) (append_assoc sort (key column.primary) rest)
-    ∙ ap (λ o. o >>= λ s. Some (column_of column.name s.0 (key_at s.1))) (sort-again sort (key column.primary ++ rest) column.sort is)
-    ∙ ap (λ k. Some (column_of column.name column.sort k)) (key-again column.primary rest follows)
+    ∙ ap (λ x. column_at (Name column.name ∷ x)) (append_assoc sort (primary_key column.primary) rest)
+    ∙ ap (λ o. o >>= λ s. Some (column_text column.name s.0 (primary_key_at s.1))) (sort-again sort (primary_key column.primary ++ rest) column.sort is)
+    ∙ ap (λ k. Some (column_text column.name column.sort k)) (key-again column.primary rest follows)
 
 -- a type of index behind the words before it
 abbrev IsTyped : List Lexeme → IndexKind → Type 0
@@ -85,7 +87,8 @@ create_table-means (Name name ∷ ls) = table-means name (enclosed_last column_a
 create_table-means ls = tt
 
 create_index-means : (ls : List Lexeme) → Wholly IsStatement (create_index_of ls) (Word CREATE ∷ Word INDEX ∷ ls)
-create_index-means (Name name ∷ Word ON ∷ Name table ∷ Sign Open ∷ Name column ∷ Sign Close ∷ ls) = index-means name table column (kind_of ls) ls (kind-spelt ls)
+create_index-means (Name name ∷ Word ON ∷ Name table ∷ Sign Open ∷ Name column ∷ Sign Close ∷ ls) =
+    index-means name table column (kind_of ls) ls (kind-spelt ls)
 create_index-means ls = tt
 
 pub create-means : (ls : List Lexeme) → Wholly IsStatement (create_of ls) (Word CREATE ∷ ls)
@@ -93,8 +96,10 @@ create-means (Word TABLE ∷ ls) = create_table-means ls
 create-means (Word INDEX ∷ ls) = create_index-means ls
 create-means ls = tt
 
-pub table-again : (name : List ℕ) (columns : List ColumnText) (list : List Lexeme) → AreEnclosed IsColumn list columns → create_of (Word TABLE ∷ Name name ∷ list) ≡ Some (CreateTable name columns)
-table-again name columns list are = ap (λ o. o >>= λ found. Some (CreateTable name found)) (enclosed_last-again IsColumn column_at column-again list columns are)
+pub table-again : (name : List ℕ) (columns : List ColumnText) (list : List Lexeme) → AreEnclosed IsColumn list columns
+    → create_of (Word TABLE ∷ Name name ∷ list) ≡ Some (CreateTable name columns)
+table-again name columns list are =
+    ap (λ o. o >>= λ found. Some (CreateTable name found)) (enclosed_last-again IsColumn column_at column-again list columns are)
 
 pub index-again : (name table column : List ℕ) (kind : IndexKind) (kinds : List Lexeme) → IsKind kinds kind
     → create_of (Word INDEX ∷ Name name ∷ Word ON ∷ Name table ∷ Sign Open ∷ Name column ∷ Sign Close ∷ Word INDEXTYPE ∷ Word IS ∷ kinds) ≡ Some (CreateIndex name table column kind None None)

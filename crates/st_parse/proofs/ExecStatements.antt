@@ -61,14 +61,16 @@ either a b c true true h = inr (refl, refl)
 either a b c d e h = cc
 
 call-is : (pack procedure : List ℕ) (args : List Arg) → is_call pack procedure args ≡ true → IsCall pack procedure args
-call-is pack procedure args h = from (either (bytes_eq pack (codes "ctx_doc")) (bytes_eq procedure (codes "policy_tokens")) (length args == 2) (bytes_eq pack (codes "ctx_ddl")) (bytes_eq procedure (codes "sync_index")) h)
+call-is pack procedure args h =
+    from (either (bytes_eq pack (codes "ctx_doc")) (bytes_eq procedure (codes "policy_tokens")) (length args == 2) (bytes_eq pack (codes "ctx_ddl")) (bytes_eq procedure (codes "sync_index")) h)
   where
     differ : true ≡ false → ⊥
     differ e = cc
 
     from : ((bytes_eq pack (codes "ctx_doc") ≡ true) × (bytes_eq procedure (codes "policy_tokens") ≡ true) × ((length args == 2) ≡ false)) ⊎ ((bytes_eq pack (codes "ctx_ddl") ≡ true) × (bytes_eq procedure (codes "sync_index") ≡ true))
         → IsCall pack procedure args
-    from (inl (p, q, other)) = inl ((bytes_eq-Decides pack (codes "ctx_doc")).0 p, (bytes_eq-Decides procedure (codes "policy_tokens")).0 q, λ two. differ (sym (ap (λ k. k == 2) two) ∙ other))
+    from (inl (p, q, other)) =
+        inl ((bytes_eq-Decides pack (codes "ctx_doc")).0 p, (bytes_eq-Decides procedure (codes "policy_tokens")).0 q, λ two. differ (sym (ap (λ k. k == 2) two) ∙ other))
     from (inr (p, q)) = inr ((bytes_eq-Decides pack (codes "ctx_ddl")).0 p, (bytes_eq-Decides procedure (codes "sync_index")).0 q)
 
 first : (a b c d : Bool) → a ≡ true → b ≡ true → c ≡ false → ((a && (b && not c)) || d) ≡ true
@@ -93,7 +95,8 @@ call-again pack procedure args (inr (p, q)) =
     second (bytes_eq pack (codes "ctx_doc") && (bytes_eq procedure (codes "policy_tokens") && not (length args == 2))) (bytes_eq pack (codes "ctx_ddl")) (bytes_eq procedure (codes "sync_index"))
     ((bytes_eq-Decides pack (codes "ctx_ddl")).1 p) ((bytes_eq-Decides procedure (codes "sync_index")).1 q)
 
-made-means : (b : Bool) (word : Keyword) (pack procedure : List ℕ) (args : List Arg) (ls : List Lexeme) → IsExec word → AreArgs ls args → is_call pack procedure args ≡ b
+made-means : (b : Bool) (word : Keyword) (pack procedure : List ℕ) (args : List Arg) (ls : List Lexeme) → IsExec word → AreArgs ls args
+    → is_call pack procedure args ≡ b
     → Wholly IsStatement (cond b (Some (Exec pack procedure args)) None) (Word word ∷ Name pack ∷ Sign Dot ∷ Name procedure ∷ ls)
 made-means true word pack procedure args ls is are e = (word, (ls, is, are, call-is pack procedure args e, refl))
 made-means false word pack procedure args ls is are e = tt

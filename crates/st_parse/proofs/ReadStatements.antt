@@ -13,7 +13,7 @@ use Rattle.st_parse.specs.declared.parsing.StatementFault.{StatementFault}
 use Rattle.st_parse.specs.declared.parsing.StatementFault.TheVariants.{Syntax, Memory}
 use Rattle.st_parse.specs.Lexemes.{lexemes}
 use Rattle.st_parse.specs.Calling.{IsExec, exec_of}
-use Rattle.st_parse.specs.Grammar.{IsStatement, statement_of, NoStatement, Found, found, read_lexemes, read, ParseGives}
+use Rattle.st_parse.specs.Grammar.{IsStatement, statement_of, NoStatement, Found, statement_read, read_lexemes, read, ParseGives}
 use Rattle.st_parse.proofs.Spelt.{Wholly}
 use Rattle.st_parse.proofs.CreateStatements.{create-means, table-again, index-again}
 use Rattle.st_parse.proofs.InsertStatements.{insert-means, insert-again}
@@ -46,11 +46,11 @@ pub statement-read : (ls : List Lexeme) (s : Statement) → (IsStatement ls s �
 statement-read ls s = (statement-again ls s, λ read. subst (λ x. Wholly IsStatement x ls) read (statement-means ls))
 
 -- a statement that was found is what the lexemes are
-found-some : (o : Option Statement) (s : Statement) → found o ≡ Found s → o ≡ Some s
+found-some : (o : Option Statement) (s : Statement) → statement_read o ≡ Found s → o ≡ Some s
 found-some None s is = cc
 found-some (Some t) s is = cc
 
-found-none : (o : Option Statement) → found o ≡ NoStatement → o ≡ None
+found-none : (o : Option Statement) → statement_read o ≡ NoStatement → o ≡ None
 found-none None is = refl
 found-none (Some t) is = cc
 
@@ -70,7 +70,8 @@ refused-lexemes (l ∷ ls) is = (λ e. cc, λ s statement. differ s (sym (statem
     differ : (s : Statement) → Some s ≡ None → ⊥
     differ s e = cc
 
-pub refused : (r : Result (Option Statement) StatementFault) (text : List ℕ) → ParseGives r (read text) → IsErrOf r Syntax → (ls : List Lexeme) → lexemes text ≡ Some ls → IsRefused ls
+pub refused : (r : Result (Option Statement) StatementFault) (text : List ℕ) → ParseGives r (read text) → IsErrOf r Syntax → (ls : List Lexeme)
+    → lexemes text ≡ Some ls → IsRefused ls
 refused (Ok None) text gives is ls lexed = cc
 refused (Ok (Some s)) text gives is ls lexed = cc
 refused (Err Syntax) text gives is ls lexed = refused-lexemes ls (sym (ap read_lexemes lexed) ∙ gives)

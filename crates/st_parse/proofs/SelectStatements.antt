@@ -12,10 +12,10 @@ use Rattle.st_parse.specs.declared.statements.Pred.TheVariants.{Contains}
 use Rattle.st_parse.specs.declared.statements.SelectList.TheVariants.{Items}
 use Rattle.st_parse.specs.declared.statements.Statement.TheVariants.{Select}
 use Rattle.st_parse.specs.Lexemes.{◌>>=◌}
-use Rattle.st_parse.specs.Lists.{AreListed, listed}
+use Rattle.st_parse.specs.Lists.{AreListed, list_at}
 use Rattle.st_parse.specs.Selecting.{IsItem, IsLabel, IsPred, item_at, label_at, above_of, pred_of, from_of, select_of}
 use Rattle.st_parse.specs.Grammar.{IsStatement}
-use Rattle.st_parse.proofs.Spelt.{Spelt, Wholly, Follows, listed-spelt, listed-again}
+use Rattle.st_parse.proofs.Spelt.{Spelt, Wholly, Follows, list_at-spelt, list_at-again}
 
 item-spelt : (ls : List Lexeme) → Spelt IsItem (item_at ls) ls
 item-spelt (Name name ∷ ls) = (Name name ∷ [], refl, refl)
@@ -64,15 +64,17 @@ from-means : (items : List Item) (list ls : List Lexeme) → AreListed IsItem li
 from-means items list (Word FROM ∷ Name table ∷ Word WHERE ∷ ls) are = made-means items table list ls (pred_of ls) are (pred-spelt ls)
 from-means items list ls are = tt
 
-listed-means : (o : Option (List Item × List Lexeme)) (ls : List Lexeme) → Spelt (AreListed IsItem) o ls → Wholly IsStatement (o >>= λ items. from_of items.0 items.1) (Word SELECT ∷ ls)
-listed-means None ls are = tt
-listed-means (Some (items, rest)) ls (list, are, e) = subst (λ x. Wholly IsStatement (from_of items rest) (Word SELECT ∷ x)) (sym e) (from-means items list rest are)
+list_at-means : (o : Option (List Item × List Lexeme)) (ls : List Lexeme) → Spelt (AreListed IsItem) o ls
+    → Wholly IsStatement (o >>= λ items. from_of items.0 items.1) (Word SELECT ∷ ls)
+list_at-means None ls are = tt
+list_at-means (Some (items, rest)) ls (list, are, e) =
+    subst (λ x. Wholly IsStatement (from_of items rest) (Word SELECT ∷ x)) (sym e) (from-means items list rest are)
 
 pub select-means : (ls : List Lexeme) → Wholly IsStatement (select_of ls) (Word SELECT ∷ ls)
-select-means ls = listed-means (listed item_at ls) ls (listed-spelt IsItem item_at item-spelt ls)
+select-means ls = list_at-means (list_at item_at ls) ls (list_at-spelt IsItem item_at item-spelt ls)
 
 pub select-again : (items : List Item) (table : List ℕ) (pred : Pred) (list preds : List Lexeme) → AreListed IsItem list items → IsPred preds pred
     → select_of (list ++ Word FROM ∷ Name table ∷ Word WHERE ∷ preds) ≡ Some (Select (Items items) table (pred ∷ []) [])
 select-again items table pred list preds are is =
-    ap (λ o. o >>= λ found. from_of found.0 found.1) (listed-again IsItem item_at item-again list (Word FROM ∷ Name table ∷ Word WHERE ∷ preds) items are tt tt)
+    ap (λ o. o >>= λ found. from_of found.0 found.1) (list_at-again IsItem item_at item-again list (Word FROM ∷ Name table ∷ Word WHERE ∷ preds) items are tt tt)
     ∙ ap (λ o. o >>= λ found. Some (Select (Items items) table (found ∷ []) [])) (pred-again preds pred is)

@@ -7,7 +7,7 @@ use Rattle.st_parse.specs.declared.statements.Whole.{Whole}
 use Rattle.st_parse.specs.declared.statements.Operand.{Operand}
 use Rattle.st_parse.specs.declared.statements.Operand.TheVariants.{Text as TextValue, Number as NumberValue}
 use Rattle.st_parse.specs.Lexemes.{◌>>=◌}
-use Rattle.st_parse.specs.Values.{IsSigned, IsValue, signed_at, value_at}
+use Rattle.st_parse.specs.Values.{IsSigned, IsOperand, signed_at, operand_at}
 use Rattle.st_parse.proofs.Spelt.{Spelt, Follows}
 
 pub signed-spelt : (ls : List Lexeme) → Spelt IsSigned (signed_at ls) ls
@@ -19,15 +19,15 @@ pub signed-again : (front rest : List Lexeme) (n : Whole) → IsSigned front n �
 signed-again front rest n (digits, inl (value, e)) = ap (λ x. signed_at (x ++ rest)) e ∙ ap (λ x. Some (x, rest)) (sym value)
 signed-again front rest n (digits, inr (value, e)) = ap (λ x. signed_at (x ++ rest)) e ∙ ap (λ x. Some (x, rest)) (sym value)
 
-number-spelt : (o : Option (Whole × List Lexeme)) (ls : List Lexeme) → Spelt IsSigned o ls → Spelt IsValue (o >>= λ n. Some (NumberValue n.0, n.1)) ls
+number-spelt : (o : Option (Whole × List Lexeme)) (ls : List Lexeme) → Spelt IsSigned o ls → Spelt IsOperand (o >>= λ n. Some (NumberValue n.0, n.1)) ls
 number-spelt None ls is = tt
 number-spelt (Some (n, rest)) ls is = is
 
-pub value-spelt : (ls : List Lexeme) → Spelt IsValue (value_at ls) ls
+pub value-spelt : (ls : List Lexeme) → Spelt IsOperand (operand_at ls) ls
 value-spelt (Text text ∷ ls) = (Text text ∷ [], refl, refl)
 value-spelt ls = number-spelt (signed_at ls) ls (signed-spelt ls)
 
-pub value-again : (front rest : List Lexeme) (value : Operand) → IsValue front value → Follows rest → value_at (front ++ rest) ≡ Some (value, rest)
-value-again front rest (TextValue text) e follows = ap (λ x. value_at (x ++ rest)) e
-value-again front rest (NumberValue n) (digits, inl (value, e)) follows = ap (λ x. value_at (x ++ rest)) e ∙ ap (λ x. Some (NumberValue x, rest)) (sym value)
-value-again front rest (NumberValue n) (digits, inr (value, e)) follows = ap (λ x. value_at (x ++ rest)) e ∙ ap (λ x. Some (NumberValue x, rest)) (sym value)
+pub value-again : (front rest : List Lexeme) (value : Operand) → IsOperand front value → Follows rest → operand_at (front ++ rest) ≡ Some (value, rest)
+value-again front rest (TextValue text) e follows = ap (λ x. operand_at (x ++ rest)) e
+value-again front rest (NumberValue n) (digits, inl (value, e)) follows = ap (λ x. operand_at (x ++ rest)) e ∙ ap (λ x. Some (NumberValue x, rest)) (sym value)
+value-again front rest (NumberValue n) (digits, inr (value, e)) follows = ap (λ x. operand_at (x ++ rest)) e ∙ ap (λ x. Some (NumberValue x, rest)) (sym value)

@@ -6,7 +6,7 @@ use Rattle.ct_base.specs.Names.{is_name_byte}
 use Rattle.st_parse.specs.declared.lexemes.Lexeme.{Lexeme}
 use Rattle.st_parse.specs.declared.lexing.LexFault.{LexFault}
 use Rattle.st_parse.specs.declared.lexing.LexFault.TheVariants.{NoLexeme, Memory as NoMemory}
-use Rattle.st_parse.specs.Lexemes.{is_in_line, run, after, text_at, ◌>>=◌, lexeme_at, begins_comment, lexemes_in, lexemes}
+use Rattle.st_parse.specs.Lexemes.{is_in_line, run, after_run, text_at, ◌>>=◌, lexeme_at, begins_comment, lexemes_in, lexemes}
 use Rattle.st_parse.specs.Reading.{LexFails}
 
 lower_again : (c : ℕ) → to_ascii_lowercase (to_ascii_lowercase c) ≡ to_ascii_lowercase c
@@ -22,30 +22,33 @@ pub text-char : (front cs : List ℕ) (c : ℕ) → nat_eq c 39 ≡ false → te
 text-char front [] c h = rw h refl
 text-char front (d ∷ cs) c h = rw h refl
 
-pub text-step : (front front' text cs : List ℕ) (c : ℕ) → text ≡ c ∷ cs → (c == 39) ≡ false → front' ≡ front ++ encode_utf8 c → text_at front' cs ≡ text_at front text
+pub text-step : (front front' text cs : List ℕ) (c : ℕ) → text ≡ c ∷ cs → (c == 39) ≡ false → front' ≡ front ++ encode_utf8 c
+    → text_at front' cs ≡ text_at front text
 text-step front front' text cs c split other more = rw (split, more) (sym (text-char front cs c other))
 
-pub text-quote : (front front' text mid cs : List ℕ) (c : ℕ) → text ≡ c ∷ mid → mid ≡ 39 ∷ cs → c ≡ 39 → front' ≡ front ++ 39 ∷ [] → text_at front' cs ≡ text_at front text
+pub text-quote : (front front' text mid cs : List ℕ) (c : ℕ) → text ≡ c ∷ mid → mid ≡ 39 ∷ cs → c ≡ 39 → front' ≡ front ++ 39 ∷ []
+    → text_at front' cs ≡ text_at front text
 text-quote front front' text mid cs c split second quote more = rw (split, second, quote, more) refl
 
 -- a run and what follows it are the whole, and what follows is no longer
-pub run-joins : (p : ℕ → Bool) (cs : List ℕ) → run p cs ++ after p cs ≡ cs
+pub run-joins : (p : ℕ → Bool) (cs : List ℕ) → run p cs ++ after_run p cs ≡ cs
 run-joins p [] = refl
-run-joins p (c ∷ cs) = elim (p c) as (λ b. cond b (c ∷ run p cs) [] ++ cond b (after p cs) (c ∷ cs) ≡ c ∷ cs) [ true ↦ ap (λ x. c ∷ x) (run-joins p cs) | false ↦ refl ]
+run-joins p (c ∷ cs) =
+    elim (p c) as (λ b. cond b (c ∷ run p cs) [] ++ cond b (after_run p cs) (c ∷ cs) ≡ c ∷ cs) [ true ↦ ap (λ x. c ∷ x) (run-joins p cs) | false ↦ refl ]
 
-pub after-shorter : (p : ℕ → Bool) (cs : List ℕ) → length (after p cs) ≤ length cs
+pub after-shorter : (p : ℕ → Bool) (cs : List ℕ) → length (after_run p cs) ≤ length cs
 after-shorter p [] = omega arith
 after-shorter p (c ∷ cs) =
     let shorter = after-shorter p cs in
-    elim (p c) as (λ b. length (cond b (after p cs) (c ∷ cs)) ≤ length (c ∷ cs)) [ true ↦ omega arith | false ↦ omega arith ]
+    elim (p c) as (λ b. length (cond b (after_run p cs) (c ∷ cs)) ≤ length (c ∷ cs)) [ true ↦ omega arith | false ↦ omega arith ]
 
 pub letter-word : (c : ℕ) → is_ascii_alphabetic c ≡ true → is_name_byte c ≡ true
 letter-word c h = grind arith
 
-pub word-shorter : (text cs : List ℕ) (c : ℕ) → text ≡ c ∷ cs → is_ascii_alphabetic c ≡ true → length (after is_name_byte text) < length text
+pub word-shorter : (text cs : List ℕ) (c : ℕ) → text ≡ c ∷ cs → is_ascii_alphabetic c ≡ true → length (after_run is_name_byte text) < length text
 word-shorter text cs c split letter = let shorter = after-shorter is_name_byte cs in rw (split, letter-word c letter) (omega arith)
 
-pub digits-shorter : (text cs : List ℕ) (c : ℕ) → text ≡ c ∷ cs → is_ascii_digit c ≡ true → length (after is_ascii_digit text) < length text
+pub digits-shorter : (text cs : List ℕ) (c : ℕ) → text ≡ c ∷ cs → is_ascii_digit c ≡ true → length (after_run is_ascii_digit text) < length text
 digits-shorter text cs c split digit = let shorter = after-shorter is_ascii_digit cs in rw (split, digit) (omega arith)
 
 -- the lexemes of the whole, where those of a front are read
@@ -62,34 +65,42 @@ begins cs = (length cs, omega arith, whole (lexemes cs))
     whole None = refl
     whole (Some ls) = refl
 
-pub step-white : (front : List Lexeme) (text cs : List ℕ) (c : ℕ) (all : Option (List Lexeme)) → text ≡ c ∷ cs → is_whitespace c ≡ true → GoesOn front text all → GoesOn front cs all
+pub step-white : (front : List Lexeme) (text cs : List ℕ) (c : ℕ) (all : Option (List Lexeme)) → text ≡ c ∷ cs → is_whitespace c ≡ true
+    → GoesOn front text all → GoesOn front cs all
 step-white front text cs c all split white (zero, le, so) = absurd (omega (arith, ap length split))
-step-white front text cs c all split white (suc n, le, so) = (n, omega (arith, ap length split), sym (ap (λ x. with_front front (lexemes_in (suc n) x)) split ∙ rw white refl) ∙ so)
+step-white front text cs c all split white (suc n, le, so) =
+    (n, omega (arith, ap length split), sym (ap (λ x. with_front front (lexemes_in (suc n) x)) split ∙ rw white refl) ∙ so)
 
-pub step-comment : (front : List Lexeme) (text cs : List ℕ) (c : ℕ) (all : Option (List Lexeme)) → text ≡ c ∷ cs → is_whitespace c ≡ false → begins_comment c cs ≡ true → GoesOn front text all → GoesOn front (after is_in_line cs) all
+pub step-comment : (front : List Lexeme) (text cs : List ℕ) (c : ℕ) (all : Option (List Lexeme)) → text ≡ c ∷ cs → is_whitespace c ≡ false
+    → begins_comment c cs ≡ true → GoesOn front text all → GoesOn front (after_run is_in_line cs) all
 step-comment front text cs c all split dark dashes (zero, le, so) = absurd (omega (arith, ap length split))
-step-comment front text cs c all split dark dashes (suc n, le, so) = (n, omega (arith, ap length split, after-shorter is_in_line cs), sym (ap (λ x. with_front front (lexemes_in (suc n) x)) split ∙ rw (dark, dashes) refl) ∙ so)
+step-comment front text cs c all split dark dashes (suc n, le, so) =
+    (n, omega (arith, ap length split, after-shorter is_in_line cs), sym (ap (λ x. with_front front (lexemes_in (suc n) x)) split ∙ rw (dark, dashes) refl) ∙ so)
 
 joined : (front : List Lexeme) (l : Lexeme) (o : Option (List Lexeme)) → with_front front (o >>= λ ls. Some (l ∷ ls)) ≡ with_front (front ++ l ∷ []) o
 joined front l None = refl
 joined front l (Some ls) = ap Some (sym (append_assoc front (l ∷ []) ls))
 
-pub step-lexeme : (front front' : List Lexeme) (l : Lexeme) (text cs rest : List ℕ) (c : ℕ) (all : Option (List Lexeme)) → text ≡ c ∷ cs → is_whitespace c ≡ false → begins_comment c cs ≡ false
+pub step-lexeme : (front front' : List Lexeme) (l : Lexeme) (text cs rest : List ℕ) (c : ℕ) (all : Option (List Lexeme)) → text ≡ c ∷ cs
+    → is_whitespace c ≡ false → begins_comment c cs ≡ false
     → lexeme_at text ≡ Some (l, rest) → length rest < length text → front' ≡ front ++ l ∷ [] → GoesOn front text all → GoesOn front' rest all
 step-lexeme front front' l text cs rest c all split dark plain is shorter more (zero, le, so) = absurd (omega arith)
 step-lexeme front front' l text cs rest c all split dark plain is shorter more (suc n, le, so) =
     (n, omega arith, ap (λ x. with_front x (lexemes_in n rest)) more ∙ sym (ap (λ x. with_front front (lexemes_in (suc n) x)) split ∙ rw (dark, plain, sym (ap lexeme_at split) ∙ is) (joined front l (lexemes_in n rest))) ∙ so)
 
-pub step-none : (front : List Lexeme) (text cs : List ℕ) (c : ℕ) (all : Option (List Lexeme)) → text ≡ c ∷ cs → is_whitespace c ≡ false → begins_comment c cs ≡ false
+pub step-none : (front : List Lexeme) (text cs : List ℕ) (c : ℕ) (all : Option (List Lexeme)) → text ≡ c ∷ cs → is_whitespace c ≡ false
+    → begins_comment c cs ≡ false
     → lexeme_at text ≡ None → GoesOn front text all → all ≡ None
 step-none front text cs c all split dark plain is (zero, le, so) = absurd (omega (arith, ap length split))
-step-none front text cs c all split dark plain is (suc n, le, so) = sym so ∙ ap (λ x. with_front front (lexemes_in (suc n) x)) split ∙ rw (dark, plain, sym (ap lexeme_at split) ∙ is) refl
+step-none front text cs c all split dark plain is (suc n, le, so) =
+    sym so ∙ ap (λ x. with_front front (lexemes_in (suc n) x)) split ∙ rw (dark, plain, sym (ap lexeme_at split) ∙ is) refl
 
 pub ends : (front : List Lexeme) (text : List ℕ) (all : Option (List Lexeme)) → text ≡ [] → GoesOn front text all → all ≡ Some front
 ends front text all nil (zero, le, so) = sym so ∙ ap Some (append-nil front)
 ends front text all nil (suc n, le, so) = sym so ∙ ap (λ x. with_front front (lexemes_in (suc n) x)) nil ∙ ap Some (append-nil front)
 
-pub step-fault : (front : List Lexeme) (text cs : List ℕ) (c : ℕ) (all : Option (List Lexeme)) (fault : LexFault) → text ≡ c ∷ cs → is_whitespace c ≡ false → begins_comment c cs ≡ false
+pub step-fault : (front : List Lexeme) (text cs : List ℕ) (c : ℕ) (all : Option (List Lexeme)) (fault : LexFault) → text ≡ c ∷ cs
+    → is_whitespace c ≡ false → begins_comment c cs ≡ false
     → LexFails fault (lexeme_at text) → GoesOn front text all → LexFails fault all
 step-fault front text cs c all NoLexeme split dark plain is on = step-none front text cs c all split dark plain is on
 step-fault front text cs c all NoMemory split dark plain is on = tt
@@ -99,9 +110,11 @@ differ None l e = cc
 differ (Some ls) l e = cc
 
 -- a place that is neither white space nor a comment
-pub other_place : (text cs : List ℕ) (c : ℕ) (all : Option (List Lexeme)) → text ≡ c ∷ cs → is_whitespace c ≡ false → begins_comment c cs ≡ false → GoesOn [] text all → all ≡ Some [] → ⊥
+pub other_place : (text cs : List ℕ) (c : ℕ) (all : Option (List Lexeme)) → text ≡ c ∷ cs → is_whitespace c ≡ false → begins_comment c cs ≡ false
+    → GoesOn [] text all → all ≡ Some [] → ⊥
 other_place text cs c all split dark plain (zero, le, so) none = absurd (omega (arith, ap length split))
-other_place text cs c all split dark plain (suc n, le, so) none = no (lexeme_at (c ∷ cs)) (sym (ap (λ x. with_front [] (lexemes_in (suc n) x)) split ∙ rw (dark, plain) refl) ∙ so ∙ none)
+other_place text cs c all split dark plain (suc n, le, so) none =
+    no (lexeme_at (c ∷ cs)) (sym (ap (λ x. with_front [] (lexemes_in (suc n) x)) split ∙ rw (dark, plain) refl) ∙ so ∙ none)
   where
     no : (o : Option (Lexeme × List ℕ)) → with_front [] (o >>= λ l. lexemes_in n l.1 >>= λ ls. Some (l.0 ∷ ls)) ≡ Some [] → ⊥
     no None e = cc

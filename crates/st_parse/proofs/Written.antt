@@ -10,7 +10,7 @@ use Rattle.st_parse.specs.declared.lexemes.Symbol.{Symbol}
 use Rattle.st_parse.specs.declared.lexemes.Symbol.TheVariants.{Open, Close, Comma, Dot, Star, Equal, Less, AtMost, Greater, AtLeast, Minus}
 use Rattle.st_parse.specs.declared.lexemes.Lexeme.{Lexeme}
 use Rattle.st_parse.specs.declared.lexemes.Lexeme.TheVariants.{Word, Name, Text, Number, Sign}
-use Rattle.st_parse.specs.Lexemes.{is_in_line, run, after, text_at, ◌>>=◌, lexeme_at, begins_comment, lexemes_in, lexemes}
+use Rattle.st_parse.specs.Lexemes.{is_in_line, run, after_run, text_at, ◌>>=◌, lexeme_at, begins_comment, lexemes_in, lexemes}
 use Rattle.st_parse.specs.Writing.{Blank, White, Comment, IsGap, starts, quoted, sign, IsWordOf, IsDigits, IsWritten, joins_sign, joins, IsText}
 use Rattle.st_parse.proofs.Steps.{letter-word, text-char}
 
@@ -19,7 +19,7 @@ run-all p [] [] h parted = refl
 run-all p [] (c ∷ rest) h parted = rw parted refl
 run-all p (c ∷ w) rest h parted = let parts = and_parts (p c) (list_all p w) h in rw (parts.0, run-all p w rest parts.1 parted) refl
 
-after-all : (p : ℕ → Bool) (w rest : List ℕ) → list_all p w ≡ true → starts p rest ≡ false → after p (w ++ rest) ≡ rest
+after-all : (p : ℕ → Bool) (w rest : List ℕ) → list_all p w ≡ true → starts p rest ≡ false → after_run p (w ++ rest) ≡ rest
 after-all p [] [] h parted = refl
 after-all p [] (c ∷ rest) h parted = rw parted refl
 after-all p (c ∷ w) rest h parted = let parts = and_parts (p c) (list_all p w) h in rw (parts.0, after-all p w rest parts.1 parted) refl
@@ -41,9 +41,11 @@ quoted-step : (b : Bool) (front t rest : List ℕ) (c : ℕ) → (c == 39) ≡ b
     → text_at front (cond b (39 ∷ 39 ∷ quoted t) (c ∷ quoted t) ++ rest) ≡ Some (front ++ encode_utf8_all (c ∷ t), rest)
 quoted-step true front t rest c e is more =
     more (front ++ 39 ∷ []) ∙ ap (λ x. Some (x, rest)) (append_assoc front (39 ∷ []) (encode_utf8_all t) ∙ ap (λ x. front ++ (x ++ encode_utf8_all t)) (sym (ap encode_utf8 (is refl) ∙ quote-bytes)))
-quoted-step false front t rest c e is more = text-char front (quoted t ++ rest) c e ∙ more (front ++ encode_utf8 c) ∙ ap (λ x. Some (x, rest)) (append_assoc front (encode_utf8 c) (encode_utf8_all t))
+quoted-step false front t rest c e is more =
+    text-char front (quoted t ++ rest) c e ∙ more (front ++ encode_utf8 c) ∙ ap (λ x. Some (x, rest)) (append_assoc front (encode_utf8 c) (encode_utf8_all t))
 
-quoted-read : (t rest : List ℕ) → starts (λ c. c == 39) rest ≡ false → (front : List ℕ) → text_at front (quoted t ++ rest) ≡ Some (front ++ encode_utf8_all t, rest)
+quoted-read : (t rest : List ℕ) → starts (λ c. c == 39) rest ≡ false → (front : List ℕ)
+    → text_at front (quoted t ++ rest) ≡ Some (front ++ encode_utf8_all t, rest)
 quoted-read [] rest parted front = end-of-text front rest parted ∙ ap (λ x. Some (x, rest)) (sym (append-nil front))
 quoted-read (c ∷ t) rest parted front = quoted-step (c == 39) front t rest c refl (is-eq c 39) (quoted-read t rest parted)
 
@@ -175,7 +177,8 @@ one-some (Sign s) w is = rw is (sign-some s)
 white-step : (c : ℕ) (cs : List ℕ) (n : ℕ) → is_whitespace c ≡ true → lexemes_in (suc n) (c ∷ cs) ≡ lexemes_in n cs
 white-step c cs n white = rw white refl
 
-skip-gap : (bs : List Blank) (text rest : List ℕ) (n : ℕ) → IsGap bs text rest → length text ≤ n → (m : ℕ) × (length rest ≤ m) × (lexemes_in n text ≡ lexemes_in m rest)
+skip-gap : (bs : List Blank) (text rest : List ℕ) (n : ℕ) → IsGap bs text rest → length text ≤ n
+    → (m : ℕ) × (length rest ≤ m) × (lexemes_in n text ≡ lexemes_in m rest)
 skip-gap [] text rest n same le = (n, omega (arith, ap length same), ap (λ x. lexemes_in n x) same)
 skip-gap (White c ∷ bs) text rest zero (mid, same, white, more) le = absurd (omega (arith, ap length same))
 skip-gap (White c ∷ bs) text rest (suc n) (mid, same, white, more) le =
@@ -186,7 +189,8 @@ skip-gap (Comment line ∷ bs) text rest (suc n) (mid, same, inside, ends, more)
     let next = skip-gap bs mid rest n more (omega (arith, ap length same, length-append line mid)) in
     (next.0, next.1, ap (λ x. lexemes_in (suc n) x) same ∙ ap (λ x. lexemes_in n x) (after-all is_in_line line mid inside ends) ∙ next.2)
 
-read-one : (text rest : List ℕ) (p : Lexeme) (ps : List Lexeme) (n : ℕ) → Begins text → lexeme_at text ≡ Some (p, rest) → length text ≤ n → length rest < length text
+read-one : (text rest : List ℕ) (p : Lexeme) (ps : List Lexeme) (n : ℕ) → Begins text → lexeme_at text ≡ Some (p, rest) → length text ≤ n
+    → length rest < length text
     → ((m : ℕ) → length rest ≤ m → lexemes_in m rest ≡ Some ps) → lexemes_in n text ≡ Some (p ∷ ps)
 read-one [] rest p ps n begins is le shorter more = absurd begins
 read-one (c ∷ cs) rest p ps zero begins is le shorter more = absurd (omega arith)

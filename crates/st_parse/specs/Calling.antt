@@ -1,11 +1,12 @@
 -- EXEC, as it is spelt and as it is read.
-use Rattle.std.specs.Prelude.{ℕ, ◌≡◌, ◌≢◌, ◌==◌, ◌⊎◌, Bool, true, false, not, ◌&&◌, ◌||◌, List, [], ◌∷◌, length, codes, bytes_eq, Option, Some, None}
+use Rattle.std.specs.Prelude.{ℕ, ◌≡◌, ◌≢◌, ◌==◌, negsuc, refl, ◌⊎◌, Bool, true, false, not, ◌&&◌, ◌||◌, List, [], ◌∷◌, length, codes, bytes_eq, Option, Some, None}
 use Rattle.std.specs.Bool.{if◌then◌else◌}
 use Rattle.st_parse.specs.declared.lexemes.Keyword.{Keyword}
 use Rattle.st_parse.specs.declared.lexemes.Keyword.TheVariants.{Exec as EXEC, Execute as EXECUTE, True as TRUE, False as FALSE}
-use Rattle.st_parse.specs.declared.lexemes.Symbol.TheVariants.{Open, Close, Dot}
+use Rattle.st_parse.specs.declared.lexemes.Symbol.TheVariants.{Open, Close, Comma, Dot, Minus}
 use Rattle.st_parse.specs.declared.lexemes.Lexeme.{Lexeme}
-use Rattle.st_parse.specs.declared.lexemes.Lexeme.TheVariants.{Word, Name, Text, Sign}
+use Rattle.st_parse.specs.declared.lexemes.Lexeme.TheVariants.{Word, Name, Text, Number, Sign}
+use Rattle.st_parse.specs.declared.statements.Whole.TheVariants.{Fits}
 use Rattle.st_parse.specs.declared.statements.Arg.{Arg}
 use Rattle.st_parse.specs.declared.statements.Arg.TheVariants.{Text as TextArg, Number as NumberArg, Flag}
 use Rattle.st_parse.specs.declared.statements.Statement.{Statement}
@@ -59,3 +60,17 @@ call_of pack procedure args = if is_call pack procedure args then Some (Exec pac
 abbrev pub exec_of : List Lexeme → Option Statement
 exec_of (Name pack ∷ Sign Dot ∷ Name procedure ∷ ls) = args_of ls >>= λ args. call_of pack procedure args
 exec_of ls = None
+
+-- computed examples
+three_arguments : args_of (Sign Open ∷ Text (codes "i") ∷ Sign Comma ∷ Sign Minus ∷ Number (codes "5") ∷ Sign Comma ∷ Word TRUE ∷ Sign Close ∷ [])
+    ≡ Some (TextArg (codes "i") ∷ NumberArg (Fits (negsuc 4)) ∷ Flag true ∷ [])
+three_arguments = refl
+
+no_argument : args_of (Sign Open ∷ Sign Close ∷ []) ≡ Some []
+no_argument = refl
+
+an_argument_is_missing : args_of (Sign Open ∷ Text (codes "i") ∷ Sign Comma ∷ Sign Close ∷ []) ≡ None
+an_argument_is_missing = refl
+
+tokens_of_two_arguments : is_call (codes "ctx_doc") (codes "policy_tokens") (TextArg (codes "a") ∷ TextArg (codes "b") ∷ []) ≡ false
+tokens_of_two_arguments = refl

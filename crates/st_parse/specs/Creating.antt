@@ -1,9 +1,10 @@
 -- CREATE TABLE and CREATE INDEX, as they are spelt and as they are read.
-use Rattle.std.specs.Prelude.{ℕ, ◌≡◌, ◌⊎◌, Bool, true, false, List, [], ◌∷◌, ◌++◌, Option, Some, None}
+use Rattle.std.specs.Prelude.{ℕ, ◌≡◌, ◌⊎◌, Bool, true, false, pos, List, [], ◌∷◌, ◌++◌, codes, Option, Some, None, refl}
 use Rattle.st_parse.specs.declared.lexemes.Keyword.TheVariants.{Table as TABLE, Index as INDEX, On as ON, Indextype as INDEXTYPE, Is as IS, Ctxsys as CTXSYS, Context as CONTEXT, Number as NUMBER, Varchar2 as VARCHAR2, Clob as CLOB, Primary as PRIMARY, Key as KEY}
-use Rattle.st_parse.specs.declared.lexemes.Symbol.TheVariants.{Open, Close, Dot}
+use Rattle.st_parse.specs.declared.lexemes.Symbol.TheVariants.{Open, Close, Comma, Dot}
 use Rattle.st_parse.specs.declared.lexemes.Lexeme.{Lexeme}
 use Rattle.st_parse.specs.declared.lexemes.Lexeme.TheVariants.{Word, Name, Number, Sign}
+use Rattle.st_parse.specs.declared.statements.Whole.TheVariants.{Fits}
 use Rattle.st_parse.specs.declared.statements.SortText.{SortText}
 use Rattle.st_parse.specs.declared.statements.SortText.TheVariants.{Number as NumberSort, Varchar2, Clob}
 use Rattle.st_parse.specs.declared.statements.ColumnText.{ColumnText}
@@ -16,18 +17,18 @@ use Rattle.st_parse.specs.Numbers.{number}
 use Rattle.st_parse.specs.Lists.{Reader, enclosed_last}
 
 -- These lexemes are this type of a column.
-abbrev pub IsSort : List Lexeme → SortText → Type 0
-IsSort ls NumberSort = ls ≡ Word NUMBER ∷ []
-IsSort ls (Varchar2 size) = (digits : List ℕ) × (size ≡ number digits) × (ls ≡ Word VARCHAR2 ∷ Sign Open ∷ Number digits ∷ Sign Close ∷ [])
-IsSort ls Clob = ls ≡ Word CLOB ∷ []
+abbrev pub IsSortText : List Lexeme → SortText → Type 0
+IsSortText ls NumberSort = ls ≡ Word NUMBER ∷ []
+IsSortText ls (Varchar2 size) = (digits : List ℕ) × (size ≡ number digits) × (ls ≡ Word VARCHAR2 ∷ Sign Open ∷ Number digits ∷ Sign Close ∷ [])
+IsSortText ls Clob = ls ≡ Word CLOB ∷ []
 
 -- what calls a column the primary key
-abbrev pub key : Bool → List Lexeme
-key true = Word PRIMARY ∷ Word KEY ∷ []
-key false = []
+abbrev pub primary_key : Bool → List Lexeme
+primary_key true = Word PRIMARY ∷ Word KEY ∷ []
+primary_key false = []
 
 abbrev pub IsColumn : List Lexeme → ColumnText → Type 0
-IsColumn ls column = (sort : List Lexeme) × IsSort sort column.sort × (ls ≡ Name column.name ∷ (sort ++ key column.primary))
+IsColumn ls column = (sort : List Lexeme) × IsSortText sort column.sort × (ls ≡ Name column.name ∷ (sort ++ primary_key column.primary))
 
 -- the type of an index, with its owner or without
 abbrev pub IsKind : List Lexeme → IndexKind → Type 0
@@ -35,21 +36,21 @@ IsKind ls Context = (ls ≡ Word CONTEXT ∷ []) ⊎ (ls ≡ Word CTXSYS ∷ Sig
 IsKind ls kind = ⊥
 
 -- The same as functions.
-abbrev pub sort_at : Reader SortText
-sort_at (Word NUMBER ∷ ls) = Some (NumberSort, ls)
-sort_at (Word VARCHAR2 ∷ Sign Open ∷ Number digits ∷ Sign Close ∷ ls) = Some (Varchar2 (number digits), ls)
-sort_at (Word CLOB ∷ ls) = Some (Clob, ls)
-sort_at ls = None
+abbrev pub sort_text_at : Reader SortText
+sort_text_at (Word NUMBER ∷ ls) = Some (NumberSort, ls)
+sort_text_at (Word VARCHAR2 ∷ Sign Open ∷ Number digits ∷ Sign Close ∷ ls) = Some (Varchar2 (number digits), ls)
+sort_text_at (Word CLOB ∷ ls) = Some (Clob, ls)
+sort_text_at ls = None
 
-abbrev pub key_at : List Lexeme → Bool × List Lexeme
-key_at (Word PRIMARY ∷ Word KEY ∷ ls) = (true, ls)
-key_at ls = (false, ls)
+abbrev pub primary_key_at : List Lexeme → Bool × List Lexeme
+primary_key_at (Word PRIMARY ∷ Word KEY ∷ ls) = (true, ls)
+primary_key_at ls = (false, ls)
 
-abbrev pub column_of : List ℕ → SortText → Bool × List Lexeme → ColumnText × List Lexeme
-column_of name sort key = (record { name = name; sort = sort; primary = key.0 }, key.1)
+abbrev pub column_text : List ℕ → SortText → Bool × List Lexeme → ColumnText × List Lexeme
+column_text name sort key = (record { name = name; sort = sort; primary = key.0 }, key.1)
 
 abbrev pub column_at : Reader ColumnText
-column_at (Name name ∷ ls) = sort_at ls >>= λ sort. Some (column_of name sort.0 (key_at sort.1))
+column_at (Name name ∷ ls) = sort_text_at ls >>= λ sort. Some (column_text name sort.0 (primary_key_at sort.1))
 column_at ls = None
 
 abbrev pub kind_of : List Lexeme → Option IndexKind
@@ -74,3 +75,17 @@ abbrev pub create_of : List Lexeme → Option Statement
 create_of (Word TABLE ∷ ls) = create_table_of ls
 create_of (Word INDEX ∷ ls) = create_index_of ls
 create_of ls = None
+
+-- computed examples
+the_key : column_at (Name (codes "id") ∷ Word NUMBER ∷ Word PRIMARY ∷ Word KEY ∷ Sign Close ∷ []) ≡ Some (record { name = codes "id"; sort = NumberSort; primary = true }, Sign Close ∷ [])
+the_key = refl
+
+a_short_text : column_at (Name (codes "title") ∷ Word VARCHAR2 ∷ Sign Open ∷ Number (codes "80") ∷ Sign Close ∷ Sign Close ∷ [])
+    ≡ Some (record { name = codes "title"; sort = Varchar2 (Fits (pos 80)); primary = false }, Sign Close ∷ [])
+a_short_text = refl
+
+of_its_owner : kind_of (Word INDEXTYPE ∷ Word IS ∷ Word CTXSYS ∷ Sign Dot ∷ Word CONTEXT ∷ []) ≡ Some Context
+of_its_owner = refl
+
+two_columns : create_of (Word INDEX ∷ Name (codes "i") ∷ Word ON ∷ Name (codes "t") ∷ Sign Open ∷ Name (codes "a") ∷ Sign Comma ∷ Name (codes "b") ∷ Sign Close ∷ Word INDEXTYPE ∷ Word IS ∷ Word CONTEXT ∷ []) ≡ None
+two_columns = refl

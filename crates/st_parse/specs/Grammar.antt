@@ -20,7 +20,7 @@ use Rattle.st_parse.specs.declared.parsing.StatementFault.{StatementFault}
 use Rattle.st_parse.specs.declared.parsing.StatementFault.TheVariants.{Syntax, Memory}
 use Rattle.st_parse.specs.Lexemes.{lexemes}
 use Rattle.st_parse.specs.Lists.{AreListed, AreEnclosed}
-use Rattle.st_parse.specs.Values.{IsValue}
+use Rattle.st_parse.specs.Values.{IsOperand}
 use Rattle.st_parse.specs.Creating.{IsColumn, IsKind, create_of}
 use Rattle.st_parse.specs.Inserting.{AreColumnNames, insert_of}
 use Rattle.st_parse.specs.Selecting.{IsItem, IsPred, select_of}
@@ -33,12 +33,16 @@ IsStatement ls (CreateTable name columns) =
 IsStatement ls (CreateIndex name table column kind None None) =
     (kinds : List Lexeme) × IsKind kinds kind × (ls ≡ Word CREATE ∷ Word INDEX ∷ Name name ∷ Word ON ∷ Name table ∷ Sign Open ∷ Name column ∷ Sign Close ∷ Word INDEXTYPE ∷ Word IS ∷ kinds)
 IsStatement ls (Insert table columns values) =
-    (names list : List Lexeme) × AreColumnNames names columns × AreEnclosed IsValue list values × (ls ≡ Word INSERT ∷ Word INTO ∷ Name table ∷ (names ++ Word VALUES ∷ list))
+    (names list : List Lexeme) × AreColumnNames names columns × AreEnclosed IsOperand list values × (ls ≡ Word INSERT ∷ Word INTO ∷ Name table ∷ (names ++ Word VALUES ∷ list))
 IsStatement ls (Select (Items items) table (pred ∷ []) []) =
     (list preds : List Lexeme) × AreListed IsItem list items × IsPred preds pred × (ls ≡ Word SELECT ∷ (list ++ Word FROM ∷ Name table ∷ Word WHERE ∷ preds))
 IsStatement ls (Exec pack procedure args) =
     (word : Keyword) × ((list : List Lexeme) × IsExec word × AreArgs list args × IsCall pack procedure args × (ls ≡ Word word ∷ Name pack ∷ Sign Dot ∷ Name procedure ∷ list))
 IsStatement ls statement = ⊥
+
+-- they are none
+abbrev pub IsNoStatement : List Lexeme → Type 0
+IsNoStatement ls = (s : Statement) → ¬ (IsStatement ls s)
 
 -- The same as a function: the statement of some lexemes.
 abbrev pub statement_of : List Lexeme → Option Statement
@@ -55,14 +59,14 @@ pub data Read : Type 0 where
   NoStatement : Read
   Found : Statement → Read
 
-abbrev pub found : Option Statement → Read
-found None = NoStatement
-found (Some statement) = Found statement
+abbrev pub statement_read : Option Statement → Read
+statement_read None = NoStatement
+statement_read (Some statement) = Found statement
 
 abbrev pub read_lexemes : Option (List Lexeme) → Read
 read_lexemes None = NoStatement
 read_lexemes (Some []) = Blank
-read_lexemes (Some (l ∷ ls)) = found (statement_of (l ∷ ls))
+read_lexemes (Some (l ∷ ls)) = statement_read (statement_of (l ∷ ls))
 
 -- what the characters of a text are
 abbrev pub read : List ℕ → Read

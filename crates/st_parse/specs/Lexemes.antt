@@ -13,7 +13,7 @@ use Rattle.st_parse.specs.declared.lexemes.Lexeme.{Lexeme}
 use Rattle.st_parse.specs.declared.lexemes.Lexeme.TheVariants.{Word, Name, Text, Number, Sign}
 use Rattle.st_parse.specs.Keywords.{keyword_of}
 
--- what follows, where something is there
+-- the value goes on into the function; None where there is none
 infixl 10 ◌>>=◌
 abbrev pub ◌>>=◌ : {A B : Type 0} → Option A → (A → Option B) → Option B
 None >>= f = None
@@ -24,26 +24,26 @@ abbrev pub run : (ℕ → Bool) → List ℕ → List ℕ
 run p [] = []
 run p (c ∷ cs) = if p c then c ∷ run p cs else []
 
-abbrev pub after : (ℕ → Bool) → List ℕ → List ℕ
-after p [] = []
-after p (c ∷ cs) = if p c then after p cs else c ∷ cs
+abbrev pub after_run : (ℕ → Bool) → List ℕ → List ℕ
+after_run p [] = []
+after_run p (c ∷ cs) = if p c then after_run p cs else c ∷ cs
 
 -- all but a newline
 abbrev pub is_in_line : ℕ → Bool
 is_in_line c = not (c == 10)
 
 -- A word in lower case is a keyword, or else a name where it isn't too long for one.
-abbrev pub named : List ℕ → Option Lexeme
-named word = if is_spelling word then Some (Name word) else None
+abbrev pub name_lexeme : List ℕ → Option Lexeme
+name_lexeme word = if is_spelling word then Some (Name word) else None
 
 abbrev pub word_or : List ℕ → Option Keyword → Option Lexeme
 word_or word (Some k) = Some (Word k)
-word_or word None = named word
+word_or word None = name_lexeme word
 
 abbrev pub word_of : List ℕ → Option Lexeme
 word_of word = word_or word (keyword_of word)
 
--- Of a text that is open and has these bytes so far: all its bytes, and what follows its end. A quote is 39.
+-- Of a text whose quote was opened and that has these bytes so far: all its bytes, and what follows its last quote. A quote is 39.
 abbrev pub text_at : List ℕ → List ℕ → Option (List ℕ × List ℕ)
 text_at front [] = None
 text_at front (c ∷ []) = if c == 39 then Some (front, []) else None
@@ -64,7 +64,7 @@ sign_of c =
     else (if c == 45 then Some Minus
     else None))))))))
 
--- the sign that c is, with a `=` behind it where one stands there, and what follows it
+-- the sign that c is, with a `=` after it where one stands there, and what follows it
 abbrev pub sign_at : ℕ → List ℕ → Option (Symbol × List ℕ)
 sign_at c cs =
     if (c == 60) && is_first 61 cs then Some (AtMost, drop 1 cs)
@@ -75,8 +75,8 @@ sign_at c cs =
 abbrev pub lexeme_at : List ℕ → Option (Lexeme × List ℕ)
 lexeme_at [] = None
 lexeme_at (c ∷ cs) =
-    if is_ascii_alphabetic c then (word_of (map to_ascii_lowercase (run is_name_byte (c ∷ cs))) >>= λ w. Some (w, after is_name_byte (c ∷ cs)))
-    else (if is_ascii_digit c then Some (Number (run is_ascii_digit (c ∷ cs)), after is_ascii_digit (c ∷ cs))
+    if is_ascii_alphabetic c then (word_of (map to_ascii_lowercase (run is_name_byte (c ∷ cs))) >>= λ w. Some (w, after_run is_name_byte (c ∷ cs)))
+    else (if is_ascii_digit c then Some (Number (run is_ascii_digit (c ∷ cs)), after_run is_ascii_digit (c ∷ cs))
     else (if c == 39 then (text_at [] cs >>= λ t. Some (Text t.0, t.1))
     else (sign_at c cs >>= λ s. Some (Sign s.0, s.1))))
 
@@ -90,7 +90,7 @@ lexemes_in zero cs = Some []
 lexemes_in (suc n) [] = Some []
 lexemes_in (suc n) (c ∷ cs) =
     if is_whitespace c then lexemes_in n cs
-    else (if begins_comment c cs then lexemes_in n (after is_in_line cs)
+    else (if begins_comment c cs then lexemes_in n (after_run is_in_line cs)
     else (lexeme_at (c ∷ cs) >>= λ l. lexemes_in n l.1 >>= λ ls. Some (l.0 ∷ ls)))
 
 abbrev pub lexemes : List ℕ → Option (List Lexeme)

@@ -10,18 +10,18 @@ abbrev pub value : List ℕ → ℕ
 value digits = fold (λ n d. n * 10 + (d - 48)) 0 digits
 
 -- the number n, and the number -n, where `i64` has it
-abbrev pub plus : ℕ → Whole
-plus n = if nat_lt n (2 ^ 63) then Fits (pos n) else Beyond
+abbrev pub positive : ℕ → Whole
+positive n = if nat_lt n (2 ^ 63) then Fits (pos n) else Beyond
 
-abbrev pub minus : ℕ → Whole
-minus n = if nat_le n (2 ^ 63) then Fits (neg_ℤ (pos n)) else Beyond
+abbrev pub negative : ℕ → Whole
+negative n = if nat_le n (2 ^ 63) then Fits (neg_ℤ (pos n)) else Beyond
 
--- the number of these digits, without a sign and behind a minus
+-- the number of these digits, without a sign and after a minus
 abbrev pub number : List ℕ → Whole
-number digits = plus (value digits)
+number digits = positive (value digits)
 
 abbrev pub negated : List ℕ → Whole
-negated digits = minus (value digits)
+negated digits = negative (value digits)
 
 -- computed examples
 leading_zeros : number (codes "0012") ≡ Fits (pos 12)

@@ -1,10 +1,11 @@
 -- SELECT, as it is spelt and as it is read.
-use Rattle.std.specs.Prelude.{ℕ, ◌≡◌, List, [], ◌∷◌, ◌++◌, Option, Some, None}
+use Rattle.std.specs.Prelude.{ℕ, ◌≡◌, pos, List, [], ◌∷◌, ◌++◌, codes, Option, Some, None, refl}
 use Rattle.st_parse.specs.declared.lexemes.Keyword.TheVariants.{Score as SCORE, From as FROM, Where as WHERE, Contains as CONTAINS}
 use Rattle.st_parse.specs.declared.lexemes.Symbol.TheVariants.{Open, Close, Comma, Greater}
 use Rattle.st_parse.specs.declared.lexemes.Lexeme.{Lexeme}
 use Rattle.st_parse.specs.declared.lexemes.Lexeme.TheVariants.{Word, Name, Text, Number, Sign}
 use Rattle.st_parse.specs.declared.statements.Whole.{Whole}
+use Rattle.st_parse.specs.declared.statements.Whole.TheVariants.{Fits}
 use Rattle.st_parse.specs.declared.statements.Item.{Item}
 use Rattle.st_parse.specs.declared.statements.Item.TheVariants.{Column, Score}
 use Rattle.st_parse.specs.declared.statements.Pred.{Pred}
@@ -14,7 +15,7 @@ use Rattle.st_parse.specs.declared.statements.Statement.{Statement}
 use Rattle.st_parse.specs.declared.statements.Statement.TheVariants.{Select}
 use Rattle.st_parse.specs.Lexemes.{◌>>=◌}
 use Rattle.st_parse.specs.Numbers.{number}
-use Rattle.st_parse.specs.Lists.{Reader, listed}
+use Rattle.st_parse.specs.Lists.{Reader, list_at}
 
 -- These lexemes are this item of a list.
 abbrev pub IsItem : List Lexeme → Item → Type 0
@@ -57,4 +58,16 @@ from_of items ls = None
 
 -- what follows SELECT
 abbrev pub select_of : List Lexeme → Option Statement
-select_of ls = listed item_at ls >>= λ items. from_of items.0 items.1
+select_of ls = list_at item_at ls >>= λ items. from_of items.0 items.1
+
+-- computed examples
+a_score : item_at (Word SCORE ∷ Sign Open ∷ Number (codes "10") ∷ Sign Close ∷ Word FROM ∷ []) ≡ Some (Score (Fits (pos 10)), Word FROM ∷ [])
+a_score = refl
+
+with_a_label : pred_of (Word CONTAINS ∷ Sign Open ∷ Name (codes "body") ∷ Sign Comma ∷ Text (codes "fox") ∷ Sign Comma ∷ Number (codes "2") ∷ Sign Close ∷ Sign Greater ∷ Number (codes "50") ∷ [])
+    ≡ Some (Contains (codes "body") (codes "fox") (Some (Fits (pos 2))) (Fits (pos 50)))
+with_a_label = refl
+
+without_one : pred_of (Word CONTAINS ∷ Sign Open ∷ Name (codes "body") ∷ Sign Comma ∷ Text (codes "fox") ∷ Sign Close ∷ Sign Greater ∷ Number (codes "0") ∷ [])
+    ≡ Some (Contains (codes "body") (codes "fox") None (Fits (pos 0)))
+without_one = refl

@@ -1,5 +1,5 @@
 -- How a text is written as lexemes, said without reading it.
-use Rattle.std.specs.Prelude.{ℕ, ◌≡◌, ◌==◌, Bool, true, false, List, [], ◌∷◌, ◌++◌, map, Some, encode_utf8_all}
+use Rattle.std.specs.Prelude.{ℕ, ◌≡◌, ◌==◌, Bool, true, false, List, [], ◌∷◌, ◌++◌, map, codes, Some, encode_utf8_all, refl}
 use Rattle.std.specs.Bool.{if◌then◌else◌}
 use Rattle.std.specs.Char.{is_ascii_digit, is_ascii_alphabetic, is_whitespace, to_ascii_lowercase}
 use Rattle.std.specs.List.{list_all}
@@ -50,7 +50,7 @@ IsWritten (Text t) w = (cs : List ℕ) × (t ≡ encode_utf8_all cs) × (w ≡ 3
 IsWritten (Number ds) w = (w ≡ ds) × IsDigits ds
 IsWritten (Sign s) w = w ≡ sign s
 
--- a character that would belong to the lexeme if it stood behind it
+-- a character that would belong to the lexeme if it stood right after it
 abbrev pub joins_sign : Symbol → ℕ → Bool
 joins_sign Less c = c == 61
 joins_sign Greater c = c == 61
@@ -73,9 +73,22 @@ pub data Blank : Type 0 where
 abbrev pub IsGap : List Blank → List ℕ → List ℕ → Type 0
 IsGap [] text rest = text ≡ rest
 IsGap (White c ∷ bs) text rest = (mid : List ℕ) × (text ≡ c ∷ mid) × (is_whitespace c ≡ true) × IsGap bs mid rest
-IsGap (Comment line ∷ bs) text rest = (mid : List ℕ) × (text ≡ 45 ∷ 45 ∷ (line ++ mid)) × (list_all is_in_line line ≡ true) × (starts is_in_line mid ≡ false) × IsGap bs mid rest
+IsGap (Comment line ∷ bs) text rest =
+    (mid : List ℕ) × (text ≡ 45 ∷ 45 ∷ (line ++ mid)) × (list_all is_in_line line ≡ true) × (starts is_in_line mid ≡ false) × IsGap bs mid rest
 
 -- the text is these lexemes with gaps between them, and no lexeme could be longer
 abbrev pub IsText : List Lexeme → List ℕ → Type 0
 IsText [] text = (gap : List Blank) × IsGap gap text []
 IsText (l ∷ ls) text = (gap : List Blank) × ((w rest : List ℕ) × IsGap gap text (w ++ rest) × IsWritten l w × (starts (joins l) rest ≡ false) × IsText ls rest)
+
+-- computed examples
+a_quote_twice : quoted (codes "it's") ≡ codes "it''s'"
+a_quote_twice = refl
+
+-- a minus, a blank, and a number of one digit
+minus_one : IsText (Sign Minus ∷ Number (codes "1") ∷ []) (codes "- 1")
+minus_one = ([], (codes "-", codes " 1", refl, refl, refl, (White 32 ∷ [], (codes "1", [], (codes "1", refl, refl, refl), (refl, refl), refl, ([], refl)))))
+
+-- a digit more would belong to the number
+longest : starts (joins (Number (codes "1"))) (codes "2") ≡ true
+longest = refl

@@ -1,11 +1,11 @@
 //! EXEC.
 
 ghost use Rattle.std.specs.Prelude.{◌≡◌};
-ghost use Rattle.st_parse.specs.Calling.{arg_at, args_of, is_call, call_of, exec_of};
-ghost use Rattle.st_parse.specs.Reading.{Gives, StatementGives};
+ghost use Rattle.st_parse.specs.Calling.{arg_at, args_of, is_call, exec_of};
+ghost use Rattle.st_parse.specs.Reading.{ReadGives, StatementGives};
 
 use crate::lexemes::{Keyword, Lexeme, Symbol};
-use crate::listing::{Element, enclosed_last};
+use crate::listing::{Element, read_enclosed_last};
 use crate::parsing::StatementFault;
 use crate::statements::{Arg, Args, Statement};
 use crate::values::read_signed;
@@ -30,11 +30,11 @@ impl Element for Arg {
 
 /// The arguments in their parentheses, where nothing follows.
 fn args(alloc: Global, lexemes: &[Lexeme]) -> Result<Vec<Arg>, StatementFault>
-    ensures { Gives (λ v. v.items) result (args_of lexemes.now) }
+    ensures { ReadGives (λ v. v.items) result (args_of lexemes.now) }
 {
     match lexemes {
         [Lexeme::Sign(Symbol::Open), Lexeme::Sign(Symbol::Close)] => Ok(Vec::new(alloc)),
-        _ => enclosed_last(alloc, lexemes),
+        _ => read_enclosed_last(alloc, lexemes),
     }
 }
 

@@ -1,11 +1,11 @@
 //! CREATE TABLE and CREATE INDEX.
 
 ghost use Rattle.std.specs.Prelude.{◌≡◌, ◌≤◌, length, IfOk};
-ghost use Rattle.st_parse.specs.Creating.{sort_at, key_at, column_at, kind_of, index_of, create_table_of, create_index_of, create_of};
-ghost use Rattle.st_parse.specs.Reading.{Gives, StatementGives};
+ghost use Rattle.st_parse.specs.Creating.{sort_text_at, primary_key_at, column_at, kind_of, index_of, create_table_of, create_index_of, create_of};
+ghost use Rattle.st_parse.specs.Reading.{ReadGives, StatementGives};
 
 use crate::lexemes::{Keyword, Lexeme, Symbol};
-use crate::listing::{Element, enclosed_last};
+use crate::listing::{Element, read_enclosed_last};
 use crate::numbers::number;
 use crate::parsing::StatementFault;
 use crate::statements::{ColumnText, ColumnTexts, IndexKind, SortText, Statement};
@@ -14,7 +14,7 @@ use std::alloc::Global;
 
 /// The type of a column at the front, and what follows it.
 fn read_sort(lexemes: &[Lexeme]) -> Result<(SortText, &[Lexeme]), StatementFault>
-    ensures gives { Gives (λ x. (x.0, x.1.now)) result (sort_at lexemes.now) }
+    ensures gives { ReadGives (λ x. (x.0, x.1.now)) result (sort_text_at lexemes.now) }
     ensures rest { IfOk result (λ x. length x.1.now ≤ length lexemes.now) }
 {
     match lexemes {
@@ -33,7 +33,7 @@ fn read_sort(lexemes: &[Lexeme]) -> Result<(SortText, &[Lexeme]), StatementFault
 
 /// Whether PRIMARY KEY stands at the front, and what follows it.
 fn read_key(lexemes: &[Lexeme]) -> (bool, &[Lexeme])
-    ensures key { (result.0, result.1.now) ≡ key_at lexemes.now }
+    ensures key { (result.0, result.1.now) ≡ primary_key_at lexemes.now }
     ensures rest { length result.1.now ≤ length lexemes.now }
 {
     match lexemes {
@@ -75,7 +75,7 @@ fn create_table(alloc: Global, lexemes: &[Lexeme]) -> Result<Statement, Statemen
 {
     match lexemes {
         [Lexeme::Name(name), rest @ ..] => {
-            let columns = enclosed_last(alloc, rest)?;
+            let columns = read_enclosed_last(alloc, rest)?;
             Ok(Statement::CreateTable {
                 name: name.clone()?,
                 columns: ColumnTexts::of(columns),
@@ -87,7 +87,7 @@ fn create_table(alloc: Global, lexemes: &[Lexeme]) -> Result<Statement, Statemen
 
 /// The type of an index and the words before it, where nothing follows.
 fn kind(lexemes: &[Lexeme]) -> Result<IndexKind, StatementFault>
-    ensures { Gives (λ k. k) result (kind_of lexemes.now) }
+    ensures { ReadGives (λ k. k) result (kind_of lexemes.now) }
 {
     match lexemes {
         [

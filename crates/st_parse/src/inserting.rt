@@ -1,11 +1,10 @@
 //! INSERT.
 
-ghost use Rattle.std.specs.Prelude.{◌≡◌};
-ghost use Rattle.st_parse.specs.Inserting.{name_at, values_of, columns_of, insert_of};
+ghost use Rattle.st_parse.specs.Inserting.{name_at, insert_values_of, insert_columns_of, insert_of};
 ghost use Rattle.st_parse.specs.Reading.{StatementGives};
 
 use crate::lexemes::{Keyword, Lexeme};
-use crate::listing::{Element, enclosed, enclosed_last};
+use crate::listing::{Element, read_enclosed, read_enclosed_last};
 use crate::parsing::StatementFault;
 use crate::statements::{ColumnNames, Operands, Statement};
 use ct_base::Name;
@@ -29,11 +28,11 @@ fn values(
     columns: Option<ColumnNames>,
     lexemes: &[Lexeme],
 ) -> Result<Statement, StatementFault>
-    ensures { StatementGives result (values_of table.now columns lexemes.now) }
+    ensures { StatementGives result (insert_values_of table.now columns lexemes.now) }
 {
     match lexemes {
         [Lexeme::Word(Keyword::Values), rest @ ..] => {
-            let values = enclosed_last(alloc, rest)?;
+            let values = read_enclosed_last(alloc, rest)?;
             Ok(Statement::Insert {
                 table: table.clone()?,
                 columns,
@@ -46,11 +45,11 @@ fn values(
 
 /// What follows the table.
 fn columns(alloc: Global, table: &Name, lexemes: &[Lexeme]) -> Result<Statement, StatementFault>
-    ensures { StatementGives result (columns_of table.now lexemes.now) }
+    ensures { StatementGives result (insert_columns_of table.now lexemes.now) }
 {
     match lexemes {
         [Lexeme::Word(Keyword::Values), ..] => values(alloc, table, None, lexemes),
-        _ => match enclosed(alloc, lexemes) {
+        _ => match read_enclosed(alloc, lexemes) {
             Ok((names, rest)) => values(alloc, table, Some(ColumnNames::of(names)), rest),
             Err(fault) => Err(fault),
         },

@@ -7,7 +7,7 @@ ghost use Rattle.std.specs.String.{string_bytes};
 ghost use Rattle.ct_base.specs.Characters.{is_first};
 ghost use Rattle.ct_base.specs.Names.{is_name_byte};
 ghost use Rattle.st_parse.specs.Keywords.{keyword_of};
-ghost use Rattle.st_parse.specs.Lexemes.{run, after, is_in_line, named, word_of, text_at, sign_of, sign_at, lexeme_at, begins_comment, lexemes};
+ghost use Rattle.st_parse.specs.Lexemes.{run, after_run, is_in_line, name_lexeme, word_of, text_at, sign_of, sign_at, lexeme_at, begins_comment, lexemes};
 ghost use Rattle.st_parse.specs.Reading.{LexGives};
 ghost use Rattle.st_parse.specs.declared.lexing.LexFault.TheVariants.{NoLexeme, Memory as NoMemory};
 
@@ -49,7 +49,7 @@ fn is_next(text: &str, wanted: char) -> bool
     }
 }
 
-/// Whether the character may stand in a name behind its first letter.
+/// Whether the character may stand in a name after its first letter.
 fn is_name_char(c: char) -> bool
     ensures { result ≡ is_name_byte c }
 {
@@ -60,16 +60,20 @@ fn is_name_char(c: char) -> bool
 fn keyword_of(word: &str) -> Option<Keyword>
     ensures { result ≡ keyword_of word.now }
 {
-    KEYWORDS
-        .iter()
-        .copied()
-        .find(|keyword| keyword.spelling() == word)
+    let mut rest = KEYWORDS;
+    'keywords: while let [(keyword, spelling), others @ ..] = rest {
+        if *spelling == word {
+            return Some(*keyword);
+        }
+        rest = others;
+    }
+    None
 }
 
 /// The word at the front in lower case, and what follows it.
 fn read_word(alloc: Global, text: &str) -> Result<(String, &str), Memory>
     ensures word { IfOk result (λ x. string_bytes x.0 ≡ map to_ascii_lowercase (run is_name_byte (chars text.now))) }
-    ensures rest { IfOk result (λ x. chars x.1.now ≡ after is_name_byte (chars text.now)) }
+    ensures rest { IfOk result (λ x. chars x.1.now ≡ after_run is_name_byte (chars text.now)) }
 {
     let mut word = String::new(alloc);
     let mut rest = text;
@@ -86,7 +90,7 @@ fn read_word(alloc: Global, text: &str) -> Result<(String, &str), Memory>
 /// The digits at the front, and what follows them.
 fn read_digits(alloc: Global, text: &str) -> Result<(String, &str), Memory>
     ensures digits { IfOk result (λ x. string_bytes x.0 ≡ run is_ascii_digit (chars text.now)) }
-    ensures rest { IfOk result (λ x. chars x.1.now ≡ after is_ascii_digit (chars text.now)) }
+    ensures rest { IfOk result (λ x. chars x.1.now ≡ after_run is_ascii_digit (chars text.now)) }
 {
     let mut digits = String::new(alloc);
     let mut rest = text;
@@ -102,7 +106,7 @@ fn read_digits(alloc: Global, text: &str) -> Result<(String, &str), Memory>
 
 /// What follows the line: a newline, or nothing.
 fn after_line(text: &str) -> &str
-    ensures { chars result.now ≡ after is_in_line (chars text.now) }
+    ensures { chars result.now ≡ after_run is_in_line (chars text.now) }
 {
     let mut rest = text;
     while let Some((c, after)) = split_first(rest) {
@@ -151,7 +155,7 @@ fn read_text(alloc: Global, text: &str) -> Result<(String, &str), LexFault>
 /// The name that a word is.
 fn name_of(alloc: Global, word: &str) -> Result<Lexeme, LexFault>
     requires { map to_ascii_lowercase word.now ≡ word.now }
-    ensures { LexGives (λ l. l) result (named word.now) }
+    ensures { LexGives (λ l. l) result (name_lexeme word.now) }
 {
     match Name::read(alloc, word) {
         Ok(name) => Ok(Lexeme::Name(name)),
@@ -188,7 +192,7 @@ fn sign_of(c: char) -> Option<Symbol>
     }
 }
 
-/// The sign that the character is, with a `=` behind it where one stands there, and what follows it.
+/// The sign that the character is, with a `=` after it where one stands there, and what follows it.
 fn sign_at(c: char, text: &str) -> Option<(Symbol, &str)>
     ensures sign { MatchOption result (sign_at c (chars text.now) ≡ None) (λ x. sign_at c (chars text.now) ≡ Some (x.0, chars x.1.now)) }
     ensures shorter { IfSome result (λ x. length (chars x.1.now) ≤ length (chars text.now)) }

@@ -1,8 +1,8 @@
 //! Lists of items with commas between them.
 
 ghost use Rattle.std.specs.Prelude.{◌≡◌, ◌≤◌, ◌∷◌, length, IfOk, MatchOption};
-ghost use Rattle.st_parse.specs.Lists.{EndsList, Reader, listed, enclosed, enclosed_last};
-ghost use Rattle.st_parse.specs.Reading.{Gives};
+ghost use Rattle.st_parse.specs.Lists.{EndsList, Reader, list_at, enclosed, enclosed_last};
+ghost use Rattle.st_parse.specs.Reading.{ReadGives};
 ghost use Rattle.st_parse.specs.declared.lexemes.Symbol.TheVariants.{Comma};
 ghost use Rattle.st_parse.specs.declared.lexemes.Lexeme.TheVariants.{Sign};
 
@@ -17,7 +17,7 @@ pub(crate) trait Element: Drop + Sized {
 
     /// Reads the item at the front; gives what follows it too.
     fn read(lexemes: &[Lexeme]) -> Result<(Self, &[Lexeme]), StatementFault>
-        ensures gives { Gives (λ x. (x.0, x.1.now)) result (item_at lexemes.now) }
+        ensures gives { ReadGives (λ x. (x.0, x.1.now)) result (item_at lexemes.now) }
         ensures rest { IfOk result (λ x. length x.1.now ≤ length lexemes.now) };
 }
 
@@ -32,11 +32,11 @@ fn after_comma(lexemes: &[Lexeme]) -> Option<&[Lexeme]>
 }
 
 /// Reads one item or more, with commas between them; gives what follows them too.
-pub(crate) fn listed<T: Element>(
+pub(crate) fn read_list<T: Element>(
     alloc: Global,
     lexemes: &[Lexeme],
 ) -> Result<(Vec<T>, &[Lexeme]), StatementFault>
-    ensures { Gives (λ x. (x.0.items, x.1.now)) result (listed T.item_at lexemes.now) }
+    ensures { ReadGives (λ x. (x.0.items, x.1.now)) result (list_at T.item_at lexemes.now) }
 {
     let mut items = Vec::new(alloc);
     let mut rest = lexemes;
@@ -55,16 +55,16 @@ pub(crate) fn listed<T: Element>(
 }
 
 /// Reads a list in parentheses; gives what follows it too.
-pub(crate) fn enclosed<T: Element>(
+pub(crate) fn read_enclosed<T: Element>(
     alloc: Global,
     lexemes: &[Lexeme],
 ) -> Result<(Vec<T>, &[Lexeme]), StatementFault>
-    ensures { Gives (λ x. (x.0.items, x.1.now)) result (enclosed T.item_at lexemes.now) }
+    ensures { ReadGives (λ x. (x.0.items, x.1.now)) result (enclosed T.item_at lexemes.now) }
 {
     let [Lexeme::Sign(Symbol::Open), rest @ ..] = lexemes else {
         return Err(StatementFault::Syntax);
     };
-    match listed(alloc, rest) {
+    match read_list(alloc, rest) {
         Ok((items, after)) => match after {
             [Lexeme::Sign(Symbol::Close), rest @ ..] => Ok((items, rest)),
             _ => Err(StatementFault::Syntax),
@@ -74,13 +74,13 @@ pub(crate) fn enclosed<T: Element>(
 }
 
 /// Reads a list in parentheses, where nothing follows it.
-pub(crate) fn enclosed_last<T: Element>(
+pub(crate) fn read_enclosed_last<T: Element>(
     alloc: Global,
     lexemes: &[Lexeme],
 ) -> Result<Vec<T>, StatementFault>
-    ensures { Gives (λ v. v.items) result (enclosed_last T.item_at lexemes.now) }
+    ensures { ReadGives (λ v. v.items) result (enclosed_last T.item_at lexemes.now) }
 {
-    match enclosed(alloc, lexemes) {
+    match read_enclosed(alloc, lexemes) {
         Ok((items, [])) => Ok(items),
         Ok(_) => Err(StatementFault::Syntax),
         Err(fault) => Err(fault),

@@ -32,7 +32,7 @@ pub(crate) fn number(digits: &Text) -> Whole
     }
 }
 
-/// The number of digits behind a minus. Its cost is how many digits there are.
+/// The number of digits after a minus. Its cost is how many digits there are.
 pub(crate) fn negated(digits: &Text) -> Whole
     ensures { result ≡ negated digits.now }
 {

@@ -3,8 +3,8 @@
 ghost use Rattle.std.specs.Prelude.{◌≡◌, ◌≢◌, List, [], IfOk, IfSome, IfNone, IsErrOf, Some};
 ghost use Rattle.std.specs.Str.{chars};
 ghost use Rattle.st_parse.specs.Lexemes.{lexemes};
-ghost use Rattle.st_parse.specs.Grammar.{IsStatement, statement_of, read, ParseGives};
-ghost use Rattle.st_parse.specs.Reading.{StatementGives, fault_of};
+ghost use Rattle.st_parse.specs.Grammar.{IsStatement, IsNoStatement, statement_of, read, ParseGives};
+ghost use Rattle.st_parse.specs.Reading.{StatementGives, statement_fault};
 ghost use Rattle.st_parse.specs.declared.lexemes.Lexeme.{Lexeme};
 ghost use Rattle.st_parse.specs.declared.statements.Statement.{Statement};
 ghost use Rattle.st_parse.specs.declared.parsing.StatementFault.TheVariants.{Memory as NoMemory};
@@ -55,7 +55,7 @@ impl<T: Drop> From<AllocFailed<T>> for StatementFault {
 }
 
 impl From<LexFault> for StatementFault {
-    ghost from_gives = { λ lexical fault. fault ≡ fault_of lexical };
+    ghost from_gives = { λ lexical fault. fault ≡ statement_fault lexical };
 
     fn from(fault: LexFault) -> StatementFault {
         match fault {
@@ -85,7 +85,7 @@ pub fn parse(alloc: Global, text: &str) -> Result<Option<Statement>, StatementFa
     // the same in the grammar's own words
     ensures blank { IfOk result (λ found. IfNone found (lexemes (chars text.now) ≡ Some [])) }
     ensures statement { IfOk result (λ found. IfSome found (λ s. (ls : List Lexeme) × (lexemes (chars text.now) ≡ Some ls) × IsStatement ls s)) }
-    ensures syntax { IsErrOf result StatementFault.Syntax → (ls : List Lexeme) → lexemes (chars text.now) ≡ Some ls → (ls ≢ []) × ((s : Statement) → ¬ (IsStatement ls s)) }
+    ensures syntax { IsErrOf result StatementFault.Syntax → (ls : List Lexeme) → lexemes (chars text.now) ≡ Some ls → (ls ≢ []) × IsNoStatement ls }
 {
     let lexemes = lex(alloc, text)?;
     if lexemes.is_empty() {

@@ -2,10 +2,10 @@
 
 ghost use Rattle.std.specs.Prelude.{◌≡◌};
 ghost use Rattle.st_parse.specs.Selecting.{item_at, label_at, above_of, pred_of, from_of, select_of};
-ghost use Rattle.st_parse.specs.Reading.{Gives, StatementGives};
+ghost use Rattle.st_parse.specs.Reading.{ReadGives, StatementGives};
 
 use crate::lexemes::{Keyword, Lexeme, Symbol};
-use crate::listing::{Element, listed};
+use crate::listing::{Element, read_list};
 use crate::numbers::number;
 use crate::parsing::StatementFault;
 use crate::statements::{Item, Items, Orders, Pred, Preds, SelectList, Statement, Whole};
@@ -51,7 +51,7 @@ fn above(
     label: Option<Whole>,
     lexemes: &[Lexeme],
 ) -> Result<Pred, StatementFault>
-    ensures { Gives (λ p. p) result (above_of column.now query.now (label, lexemes.now)) }
+    ensures { ReadGives (λ p. p) result (above_of column.now query.now (label, lexemes.now)) }
 {
     match lexemes {
         [
@@ -70,7 +70,7 @@ fn above(
 
 /// The predicate, where nothing follows it.
 fn pred(lexemes: &[Lexeme]) -> Result<Pred, StatementFault>
-    ensures { Gives (λ p. p) result (pred_of lexemes.now) }
+    ensures { ReadGives (λ p. p) result (pred_of lexemes.now) }
 {
     match lexemes {
         [
@@ -116,7 +116,7 @@ fn from(alloc: Global, items: Vec<Item>, lexemes: &[Lexeme]) -> Result<Statement
 pub(crate) fn select(alloc: Global, lexemes: &[Lexeme]) -> Result<Statement, StatementFault>
     ensures { StatementGives result (select_of lexemes.now) }
 {
-    match listed(alloc, lexemes) {
+    match read_list(alloc, lexemes) {
         Ok((items, rest)) => from(alloc, items, rest),
         Err(fault) => Err(fault),
     }

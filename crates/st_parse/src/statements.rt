@@ -1,9 +1,6 @@
 //! Statements.
 
-ghost use Rattle.std.specs.Prelude.{◌≡◌};
-
-use ct_base::{Name, Text};
-use std::marker::Model;
+use ct_base::{Listed, Name, Text};
 
 /// A number with its sign, where it has one.
 #[derive(Clone, Copy, Debug, PartialEq, Eq)]
@@ -21,35 +18,7 @@ pub enum Operand {
 }
 
 /// Values, in their order.
-#[derive(Debug, Drop)]
-pub struct Operands {
-    items: Vec<Operand>,
-}
-
-impl Model for Operands {
-    ghost use Rattle.std.specs.Prelude.{List};
-    ghost use Rattle.st_parse.specs.declared.statements.Operand.{Operand};
-
-    ghost Value = { List Operand };
-
-    ghost view = { λ l. l.items.items };
-}
-
-impl Operands {
-    /// The same list, without a copy.
-    pub fn of(items: Vec<Operand>) -> Operands
-        ensures { result ≡ items.items }
-    {
-        Operands { items }
-    }
-
-    /// The values in their order.
-    pub fn as_slice(&self) -> &[Operand]
-        ensures { result.now ≡ self.now }
-    {
-        self.items.as_slice()
-    }
-}
+pub type Operands = Listed<Operand>;
 
 /// The type of a column.
 #[derive(Clone, Copy, Debug, PartialEq, Eq)]
@@ -70,65 +39,10 @@ pub struct ColumnText {
 }
 
 /// The columns of a table, in their order.
-#[derive(Debug, Drop)]
-pub struct ColumnTexts {
-    items: Vec<ColumnText>,
-}
-
-impl Model for ColumnTexts {
-    ghost use Rattle.std.specs.Prelude.{List};
-    ghost use Rattle.st_parse.specs.declared.statements.ColumnText.{ColumnText};
-
-    ghost Value = { List ColumnText };
-
-    ghost view = { λ l. l.items.items };
-}
-
-impl ColumnTexts {
-    /// The same list, without a copy.
-    pub fn of(items: Vec<ColumnText>) -> ColumnTexts
-        ensures { result ≡ items.items }
-    {
-        ColumnTexts { items }
-    }
-
-    /// The columns in their order.
-    pub fn as_slice(&self) -> &[ColumnText]
-        ensures { result.now ≡ self.now }
-    {
-        self.items.as_slice()
-    }
-}
+pub type ColumnTexts = Listed<ColumnText>;
 
 /// The names of columns, in their order.
-#[derive(Debug, Drop)]
-pub struct ColumnNames {
-    items: Vec<Name>,
-}
-
-impl Model for ColumnNames {
-    ghost use Rattle.std.specs.Prelude.{ℕ, List};
-
-    ghost Value = { List (List ℕ) };
-
-    ghost view = { λ l. l.items.items };
-}
-
-impl ColumnNames {
-    /// The same list, without a copy.
-    pub fn of(items: Vec<Name>) -> ColumnNames
-        ensures { result ≡ items.items }
-    {
-        ColumnNames { items }
-    }
-
-    /// The names in their order.
-    pub fn as_slice(&self) -> &[Name]
-        ensures { result.now ≡ self.now }
-    {
-        self.items.as_slice()
-    }
-}
+pub type ColumnNames = Listed<Name>;
 
 /// The type of an index.
 #[derive(Clone, Copy, Debug, PartialEq, Eq)]
@@ -170,35 +84,7 @@ pub enum Cond {
 }
 
 /// Conditions, all of which hold, in their order.
-#[derive(Debug, Drop)]
-pub struct Conds {
-    items: Vec<Cond>,
-}
-
-impl Model for Conds {
-    ghost use Rattle.std.specs.Prelude.{List};
-    ghost use Rattle.st_parse.specs.declared.statements.Cond.{Cond};
-
-    ghost Value = { List Cond };
-
-    ghost view = { λ l. l.items.items };
-}
-
-impl Conds {
-    /// The same list, without a copy.
-    pub fn of(items: Vec<Cond>) -> Conds
-        ensures { result ≡ items.items }
-    {
-        Conds { items }
-    }
-
-    /// The conditions in their order.
-    pub fn as_slice(&self) -> &[Cond]
-        ensures { result.now ≡ self.now }
-    {
-        self.items.as_slice()
-    }
-}
+pub type Conds = Listed<Cond>;
 
 /// A predicate of a SELECT.
 #[derive(Debug, Drop)]
@@ -225,35 +111,7 @@ pub enum Pred {
 }
 
 /// Predicates, all of which hold, in their order.
-#[derive(Debug, Drop)]
-pub struct Preds {
-    items: Vec<Pred>,
-}
-
-impl Model for Preds {
-    ghost use Rattle.std.specs.Prelude.{List};
-    ghost use Rattle.st_parse.specs.declared.statements.Pred.{Pred};
-
-    ghost Value = { List Pred };
-
-    ghost view = { λ l. l.items.items };
-}
-
-impl Preds {
-    /// The same list, without a copy.
-    pub fn of(items: Vec<Pred>) -> Preds
-        ensures { result ≡ items.items }
-    {
-        Preds { items }
-    }
-
-    /// The predicates in their order.
-    pub fn as_slice(&self) -> &[Pred]
-        ensures { result.now ≡ self.now }
-    {
-        self.items.as_slice()
-    }
-}
+pub type Preds = Listed<Pred>;
 
 /// An item of a SELECT's list, and of its order.
 #[derive(Debug, Drop)]
@@ -264,35 +122,7 @@ pub enum Item {
 }
 
 /// The items of a SELECT, in their order.
-#[derive(Debug, Drop)]
-pub struct Items {
-    items: Vec<Item>,
-}
-
-impl Model for Items {
-    ghost use Rattle.std.specs.Prelude.{List};
-    ghost use Rattle.st_parse.specs.declared.statements.Item.{Item};
-
-    ghost Value = { List Item };
-
-    ghost view = { λ l. l.items.items };
-}
-
-impl Items {
-    /// The same list, without a copy.
-    pub fn of(items: Vec<Item>) -> Items
-        ensures { result ≡ items.items }
-    {
-        Items { items }
-    }
-
-    /// The items in their order.
-    pub fn as_slice(&self) -> &[Item]
-        ensures { result.now ≡ self.now }
-    {
-        self.items.as_slice()
-    }
-}
+pub type Items = Listed<Item>;
 
 /// What a SELECT gives of each row.
 #[derive(Debug, Drop)]
@@ -313,35 +143,7 @@ pub struct OrderItem {
 }
 
 /// What rows are ordered by, the first first.
-#[derive(Debug, Drop)]
-pub struct Orders {
-    items: Vec<OrderItem>,
-}
-
-impl Model for Orders {
-    ghost use Rattle.std.specs.Prelude.{List};
-    ghost use Rattle.st_parse.specs.declared.statements.OrderItem.{OrderItem};
-
-    ghost Value = { List OrderItem };
-
-    ghost view = { λ l. l.items.items };
-}
-
-impl Orders {
-    /// The same list, without a copy.
-    pub fn of(items: Vec<OrderItem>) -> Orders
-        ensures { result ≡ items.items }
-    {
-        Orders { items }
-    }
-
-    /// The items in their order.
-    pub fn as_slice(&self) -> &[OrderItem]
-        ensures { result.now ≡ self.now }
-    {
-        self.items.as_slice()
-    }
-}
+pub type Orders = Listed<OrderItem>;
 
 /// A value that an UPDATE sets.
 #[derive(Debug, Drop)]
@@ -351,35 +153,7 @@ pub struct Assign {
 }
 
 /// The values that an UPDATE sets, in their order.
-#[derive(Debug, Drop)]
-pub struct Assigns {
-    items: Vec<Assign>,
-}
-
-impl Model for Assigns {
-    ghost use Rattle.std.specs.Prelude.{List};
-    ghost use Rattle.st_parse.specs.declared.statements.Assign.{Assign};
-
-    ghost Value = { List Assign };
-
-    ghost view = { λ l. l.items.items };
-}
-
-impl Assigns {
-    /// The same list, without a copy.
-    pub fn of(items: Vec<Assign>) -> Assigns
-        ensures { result ≡ items.items }
-    {
-        Assigns { items }
-    }
-
-    /// The assignments in their order.
-    pub fn as_slice(&self) -> &[Assign]
-        ensures { result.now ≡ self.now }
-    {
-        self.items.as_slice()
-    }
-}
+pub type Assigns = Listed<Assign>;
 
 /// An argument of a procedure.
 #[derive(Debug, Drop)]
@@ -390,35 +164,7 @@ pub enum Arg {
 }
 
 /// The arguments of a call, in their order.
-#[derive(Debug, Drop)]
-pub struct Args {
-    items: Vec<Arg>,
-}
-
-impl Model for Args {
-    ghost use Rattle.std.specs.Prelude.{List};
-    ghost use Rattle.st_parse.specs.declared.statements.Arg.{Arg};
-
-    ghost Value = { List Arg };
-
-    ghost view = { λ l. l.items.items };
-}
-
-impl Args {
-    /// The same list, without a copy.
-    pub fn of(items: Vec<Arg>) -> Args
-        ensures { result ≡ items.items }
-    {
-        Args { items }
-    }
-
-    /// The arguments in their order.
-    pub fn as_slice(&self) -> &[Arg]
-        ensures { result.now ≡ self.now }
-    {
-        self.items.as_slice()
-    }
-}
+pub type Args = Listed<Arg>;
 
 /// A statement of a script.
 #[derive(Debug, Drop)]

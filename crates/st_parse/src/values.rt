@@ -1,8 +1,8 @@
 //! Values: texts, and numbers with a sign.
 
-ghost use Rattle.std.specs.Prelude.{◌≡◌, ◌≤◌, length, IfOk};
-ghost use Rattle.st_parse.specs.Reading.{Gives};
-ghost use Rattle.st_parse.specs.Values.{signed_at, value_at};
+ghost use Rattle.std.specs.Prelude.{◌≤◌, length, IfOk};
+ghost use Rattle.st_parse.specs.Reading.{ReadGives};
+ghost use Rattle.st_parse.specs.Values.{signed_at, operand_at};
 
 use crate::lexemes::{Lexeme, Symbol};
 use crate::listing::Element;
@@ -12,7 +12,7 @@ use crate::statements::{Operand, Whole};
 
 /// The number at the front, with its sign if it has one, and what follows it.
 pub(crate) fn read_signed(lexemes: &[Lexeme]) -> Result<(Whole, &[Lexeme]), StatementFault>
-    ensures gives { Gives (λ x. (x.0, x.1.now)) result (signed_at lexemes.now) }
+    ensures gives { ReadGives (λ x. (x.0, x.1.now)) result (signed_at lexemes.now) }
     ensures rest { IfOk result (λ x. length x.1.now ≤ length lexemes.now) }
 {
     match lexemes {
@@ -27,7 +27,7 @@ pub(crate) fn read_signed(lexemes: &[Lexeme]) -> Result<(Whole, &[Lexeme]), Stat
 }
 
 impl Element for Operand {
-    ghost item_at = { value_at };
+    ghost item_at = { operand_at };
 
     fn read(lexemes: &[Lexeme]) -> Result<(Operand, &[Lexeme]), StatementFault> {
         match lexemes {

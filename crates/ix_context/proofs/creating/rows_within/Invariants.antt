@@ -4,4 +4,5 @@ use Rattle.ix_context.specs.Indexes.{in_range}
 use Rattle.ix_context.proofs.creating.rows_within.Given as goal
 
 abbrev pub invariant-loop-row : goal.invariant-loop-row
-invariant-loop-row l = map (λ r. r.0) l.kept.items ++ filter (in_range l.range) (map (λ r. r.0) (drop l.row-index l.rows)) ≡ filter (in_range l.range) (map (λ r. r.0) l.rows)
+invariant-loop-row l =
+    map (λ r. r.0) l.kept.items ++ filter (in_range l.range) (map (λ r. r.0) (drop l.row-index l.rows)) ≡ filter (in_range l.range) (map (λ r. r.0) l.rows)

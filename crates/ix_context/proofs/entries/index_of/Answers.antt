@@ -6,7 +6,8 @@ pub returns-in_default : goal.returns-in_default
 returns-in_default c = no_parts c.args.value.now c.in_default.ensures
 
 pub returns-in_default-2 : goal.returns-in_default-2
-returns-in_default-2 c = no_name c.args.value.now c.in-Some.table.now c.in-Some.column c.in-Some.next_document c.in-Some.ensures (sym c.in_ok-table.ensures ∙ c.in_default-2.is)
+returns-in_default-2 c =
+    no_name c.args.value.now c.in-Some.table.now c.in-Some.column c.in-Some.next_document c.in-Some.ensures (sym c.in_ok-table.ensures ∙ c.in_default-2.is)
 
 pub returns-else-eq : goal.returns-else-eq
 returns-else-eq c = written_again c.args.value.now c.in-Some.table.now c.in-Some-2.table c.in-Some.column c.in-Some.next_document c.in-Some.ensures (sym c.in_ok-table.ensures ∙ c.in-Some-2.is)

@@ -2,8 +2,8 @@ use Rattle.std.proofs.Common.{◌≡◌, ℕ, List, length, map, ap, ◌∙◌, 
 use Rattle.std.specs.FinMap.{empty, entries}
 use Rattle.tx_lexer.specs.declared.tokens.Token.{Token}
 use Rattle.ix_context.specs.Postings.{words_of}
-use Rattle.ix_context.specs.Occurrences.{noted_all}
-use Rattle.ix_context.proofs.OccurrenceLaws.{few_tokens, noted_postings}
+use Rattle.ix_context.specs.Occurrences.{with_positions}
+use Rattle.ix_context.proofs.OccurrenceLaws.{few_tokens, with_positions-postings}
 use Rattle.ix_context.proofs.inverting.postings.Goals as goal
 
 pub note_all-requires : goal.note_all-requires
@@ -15,5 +15,5 @@ note_all-requires c =
 pub returns : goal.returns
 returns c =
     let keys : List Token → List (List ℕ) = λ ts. map (λ (t : Token). t.key) ts in
-    let changes : keys c.deref.result.now ≡ words_of c.args.text.now = ap keys (c.deref.ensures.value ∙ c.in_ok-tokens.ensures.tokens) in
-    record { listed = c.in_ok-list.ensures ∙ ap entries (c.in_ok-found.ensures ∙ ap (noted_all empty 1) changes ∙ noted_postings c.args.text.now) }
+    let words : keys c.deref.result.now ≡ words_of c.args.text.now = ap keys (c.deref.ensures.value ∙ c.in_ok-tokens.ensures.tokens) in
+    record { listed = c.in_ok-list.ensures ∙ ap entries (c.in_ok-found.ensures ∙ ap (with_positions empty 1) words ∙ with_positions-postings c.args.text.now) }

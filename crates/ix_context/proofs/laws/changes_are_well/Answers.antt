@@ -1,4 +1,4 @@
-use Rattle.ix_context.specs.WellLaws.{well_note, well_sync, well_create}
+use Rattle.ix_context.specs.laws.Well.{well_note, well_sync, well_create}
 use Rattle.ix_context.proofs.laws.changes_are_well.Goals as goal
 
 pub returns : goal.returns

@@ -1,4 +1,4 @@
-use Rattle.ix_context.specs.ChangeLaws.{stay_with_table, stay_with_row, note_stands, sync_stands, create_stands}
+use Rattle.ix_context.specs.laws.Changes.{stay_with_table, stay_with_row, note_stands, sync_stands, create_stands}
 use Rattle.ix_context.proofs.laws.changes_stand.Goals as goal
 
 pub returns : goal.returns

@@ -1,4 +1,4 @@
-use Rattle.ix_context.specs.FoundLaws.{found_is_exact, found_rises}
+use Rattle.ix_context.proofs.FoundLaws.{found_is_exact, found_rises}
 use Rattle.ix_context.proofs.laws.found_is_exact.Goals as goal
 
 pub returns-clause-exact : goal.returns-clause-exact

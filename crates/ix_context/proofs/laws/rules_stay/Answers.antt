@@ -1,4 +1,4 @@
-use Rattle.ix_context.specs.RuleLaws.{table_keeps, row_keeps, sync_keeps, create_keeps}
+use Rattle.ix_context.specs.laws.Rules.{table_keeps, row_keeps, sync_keeps, create_keeps}
 use Rattle.ix_context.proofs.laws.rules_stay.Goals as goal
 
 pub returns : goal.returns

@@ -3,7 +3,7 @@ use Rattle.std.specs.Prelude.{All}
 use Rattle.std.proofs.lemmas.List.Elements.{All-tail}
 use Rattle.ct_entry.specs.Changes.{spell}
 use Rattle.ix_context.specs.Changes.{posting_change}
-use Rattle.ix_context.specs.TokenLaws.{IsPosting}
+use Rattle.ix_context.specs.Postings.{IsPosting}
 use Rattle.ix_context.proofs.MarkSteps.{change_added}
 use Rattle.ix_context.proofs.marking.put_postings.Goals as goal
 

@@ -2,7 +2,7 @@ use Rattle.std.proofs.Common.{◌≡◌, ◌++◌, map}
 use Rattle.std.specs.Prelude.{All}
 use Rattle.ct_entry.specs.Changes.{spell}
 use Rattle.ix_context.specs.Changes.{posting_change}
-use Rattle.ix_context.specs.TokenLaws.{IsPosting}
+use Rattle.ix_context.specs.Postings.{IsPosting}
 use Rattle.ix_context.proofs.marking.put_postings.Given as goal
 
 abbrev pub invariant-loop-token : goal.invariant-loop-token

@@ -1,8 +1,8 @@
 use Rattle.std.proofs.Common.{List, ℕ, ap, sym, subst, ◌∙◌}
 use Rattle.std.specs.Prelude.{All}
 use Rattle.std.specs.FinMap.{entries}
-use Rattle.ix_context.specs.Postings.{postings_of}
-use Rattle.ix_context.specs.TokenLaws.{IsPosting, HasShortText, postings_fit}
+use Rattle.ix_context.specs.Postings.{postings_of, IsPosting, HasShortText}
+use Rattle.ix_context.specs.laws.Tokens.{postings_fit}
 use Rattle.ix_context.proofs.marking.put_text.Goals as goal
 
 pub put_postings-requires-clause-postings : goal.put_postings-requires-clause-postings

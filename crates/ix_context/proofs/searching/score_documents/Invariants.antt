@@ -10,5 +10,6 @@ abbrev pub invariant-loop-found : goal.invariant-loop-found
 invariant-loop-found g l = record {
   reads : Reads (g.K.Keeper.view l.fn.keeper) (g.K.Keeper.view l.keeper) None;
   at_most : RisesBy no_looks (g.K.Keeper.view l.fn.keeper).counts (g.K.Keeper.view l.keeper).counts;
-  scores : (m : Content) → (g.K.Keeper.view l.fn.keeper).content ≡ Some m → with_documents (at m) l.index (drop l.found-index l.documents) l.scores ≡ with_documents (at m) l.index l.documents l.fn.scores;
+  scores : (m : Content) → (g.K.Keeper.view l.fn.keeper).content ≡ Some m
+      → with_documents (at m) l.index (drop l.found-index l.documents) l.scores ≡ with_documents (at m) l.index l.documents l.fn.scores;
 }

@@ -13,6 +13,7 @@ abbrev pub invariant-loop-value : goal.invariant-loop-value
 invariant-loop-value g l = record {
   reads : Reads (g.K.Keeper.view l.fn.keeper) (g.K.Keeper.view l.keeper) None;
   at_most : RisesBy no_looks (g.K.Keeper.view l.fn.keeper).counts (g.K.Keeper.view l.keeper).counts;
-  scores : (m : Content) (held : List (List RowDocument)) → (g.K.Keeper.view l.fn.keeper).content ≡ Some m → HoldRows (map (λ e. (e.0.items, e.1.items)) l.rows) held
+  scores : (m : Content) (held : List (List RowDocument)) → (g.K.Keeper.view l.fn.keeper).content ≡ Some m
+      → HoldRows (map (λ e. (e.0.items, e.1.items)) l.rows) held
       → Left (at m) l.index (map (λ e. (e.0.items, e.1.items)) (drop l.value-index l.rows)) l.scores (with_postings (at m) l.index held empty);
 }

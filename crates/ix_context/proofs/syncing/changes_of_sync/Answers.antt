@@ -1,7 +1,7 @@
 use Rattle.std.proofs.Common.{◌+◌, List, map, ap, ◌∙◌}
 use Rattle.ct_base.specs.declared.numbers.RowKey.{RowKey}
 use Rattle.ct_keep.specs.Composing.{reads_hold}
-use Rattle.ix_context.specs.ReadLaws.{target_of, index_read, pending_read}
+use Rattle.ix_context.specs.laws.Reading.{target_of, index_read, pending_read}
 use Rattle.ix_context.proofs.SyncSteps.{settled_says, not_read, read_parts, at_least_one}
 use Rattle.ix_context.proofs.syncing.changes_of_sync.Goals as goal
 

@@ -7,4 +7,5 @@ loop-byte-preserved c = cutting_more _ _ _ _ _ c.loop-byte-test.true
     (c.in_ok-cut_byte.ensures (length c.args.script.now) (take c.loop-byte.byte-index c.args.script.now) (omega (arith, length-take c.loop-byte.byte-index c.args.script.now)) c.loop-byte.invariant)
 
 pub returns : goal.returns
-returns c = c.in_ok-cut_end.ensures (length c.args.script.now) c.args.script.now (omega arith) (cutting_all _ _ _ _ _ c.loop-byte-test.false c.loop-byte.invariant)
+returns c =
+    c.in_ok-cut_end.ensures (length c.args.script.now) c.args.script.now (omega arith) (cutting_all _ _ _ _ _ c.loop-byte-test.false c.loop-byte.invariant)

@@ -11,7 +11,8 @@ loop-c-preserved-then-is_whitespace c = record {
 }
 
 pub returns-then-not-begins_comment : goal.returns-then-not-begins_comment
-returns-then-not-begins_comment c = (λ t. cc, λ none. absurd (other_place _ _ c.in-Some.c (lexemes (chars c.args.text.now)) c.in-Some.ensures.chars (search rules) (search rules) c.loop-c.invariant.so_far none))
+returns-then-not-begins_comment c =
+    (λ t. cc, λ none. absurd (other_place _ _ c.in-Some.c (lexemes (chars c.args.text.now)) c.in-Some.ensures.chars (search rules) (search rules) c.loop-c.invariant.so_far none))
 
 pub loop-c-smaller : goal.loop-c-smaller
 loop-c-smaller c = omega (arith, ap length c.in-Some.ensures.chars, ap length c.after_line-rest.ensures, after-shorter is_in_line (chars c.in-Some.after.now))

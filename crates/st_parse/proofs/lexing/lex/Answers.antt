@@ -12,7 +12,8 @@ loop-c-preserved-then-is_whitespace c = record {
 }
 
 pub loop-c-smaller-then-begins_comment : goal.loop-c-smaller-then-begins_comment
-loop-c-smaller-then-begins_comment c = omega (arith, ap length c.in-Some.ensures.chars, ap length c.after_line-rest.ensures, after-shorter is_in_line (chars c.in-Some.after.now))
+loop-c-smaller-then-begins_comment c =
+    omega (arith, ap length c.in-Some.ensures.chars, ap length c.after_line-rest.ensures, after-shorter is_in_line (chars c.in-Some.after.now))
 
 pub loop-c-preserved-then-begins_comment : goal.loop-c-preserved-then-begins_comment
 loop-c-preserved-then-begins_comment c = record {
@@ -29,7 +30,8 @@ loop-c-preserved c =
     }
 
 pub returns-in-Err : goal.returns-in-Err
-returns-in-Err c = step-fault c.loop-c.lexemes.items _ _ c.in-Some.c (lexemes (chars c.args.text.now)) c.in-Err.fault c.in-Some.ensures.chars (search rules) (search rules) c.in-Err.ensures.gives c.loop-c.invariant.so_far
+returns-in-Err c =
+    step-fault c.loop-c.lexemes.items _ _ c.in-Some.c (lexemes (chars c.args.text.now)) c.in-Err.fault c.in-Some.ensures.chars (search rules) (search rules) c.in-Err.ensures.gives c.loop-c.invariant.so_far
 
 pub returns : goal.returns
 returns c = ends c.loop-c.lexemes.items _ _ c.in_default.ensures.chars c.loop-c.invariant.so_far

@@ -1,6 +1,6 @@
 use Rattle.std.proofs.Common.{◌≡◌, ◌≤◌, take, length, sym, subst, arith}
 use Rattle.std.proofs.lemmas.Grind.{common_steps}
-use Rattle.st_cut.specs.Seen.{Seen, Stands, IsStopWithin}
+use Rattle.st_cut.specs.Seen.{Seen, StandsOpen, IsStopWithin}
 use Rattle.st_cut.proofs.Standing.{statement_kept}
 use Rattle.st_cut.specs.contracts.cutters.Cutter.{the_view}
 use Rattle.st_cut.proofs.cutters.Cutter.statement.Goals as goal
@@ -14,6 +14,6 @@ slice_bounds-result-end c =
 
 pub returns-in-Some : goal.returns-in-Some
 returns-in-Some c limit held statement s h =
-    let t : Stands limit (the_view c.self.inside) held = subst (λ (x : Seen). Stands limit x held) (sym c.self.view_is) s in
+    let t : StandsOpen limit (the_view c.self.inside) held = subst (λ (x : Seen). StandsOpen limit x held) (sym c.self.view_is) s in
     let r : (take c.in-Some.stop c.self.inside.kept.items ≡ statement) × (length statement ≤ limit) = statement_kept limit c.in-Some.stop (the_view c.self.inside) held statement t h c.in-Some.is (rw t.limited at c.if-stop-self.true) in
     rw c.deref.ensures.value r

@@ -27,13 +27,15 @@ any_positions [] = refl
 any_positions (p ∷ ps) = refl
 
 -- of words, each with what f gives it, those that have a key stand where it has positions
-find_word : (f : List ℕ → List ℕ) (key : List ℕ) (place : ℕ) (ws : List (List ℕ)) → find (slice_cmp nat_cmp) key (map (λ w. (w, f w)) ws) ≡ where_any (positions_from place key ws) (Some (f key))
+find_word : (f : List ℕ → List ℕ) (key : List ℕ) (place : ℕ) (ws : List (List ℕ))
+    → find (slice_cmp nat_cmp) key (map (λ w. (w, f w)) ws) ≡ where_any (positions_from place key ws) (Some (f key))
 find_word f key place [] = refl
 find_word f key place (w ∷ ws) =
     ap (λ (b : Bool). cond b (Some (f w)) (find (slice_cmp nat_cmp) key (map (λ w. (w, f w)) ws))) (names_tie key w)
     ∙ here (same_list key w) refl (find_word f key (place + 1) ws)
   where
-    here : (b : Bool) → same_list key w ≡ b → find (slice_cmp nat_cmp) key (map (λ w. (w, f w)) ws) ≡ where_any (positions_from (place + 1) key ws) (Some (f key))
+    here : (b : Bool) → same_list key w ≡ b
+        → find (slice_cmp nat_cmp) key (map (λ w. (w, f w)) ws) ≡ where_any (positions_from (place + 1) key ws) (Some (f key))
         → cond b (Some (f w)) (find (slice_cmp nat_cmp) key (map (λ w. (w, f w)) ws)) ≡ where_any (cond b (place ∷ positions_from (place + 1) key ws) (positions_from (place + 1) key ws)) (Some (f key))
     here true is rest = ap (λ (k : List ℕ). Some (f k)) (sym (list_from_same key w is))
     here false is rest = rest
@@ -106,7 +108,8 @@ rise_from (w ∷ ws) before place key below fits =
     let rest : place + 1 + length ws ≤ 2 ^ 32 = omega arith in
     go (same_list key w) here (rise_from ws place (place + 1) key next rest) (rise_from ws before (place + 1) key skipped rest)
   where
-    go : (b : Bool) → place < 2 ^ 32 → Rise place (positions_from (place + 1) key ws) → Rise before (positions_from (place + 1) key ws) → Rise before (cond b (place ∷ positions_from (place + 1) key ws) (positions_from (place + 1) key ws))
+    go : (b : Bool) → place < 2 ^ 32 → Rise place (positions_from (place + 1) key ws) → Rise before (positions_from (place + 1) key ws)
+        → Rise before (cond b (place ∷ positions_from (place + 1) key ws) (positions_from (place + 1) key ws))
     go true here taken skipped = (below, here, taken)
     go false here taken skipped = skipped
 

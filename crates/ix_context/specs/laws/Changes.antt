@@ -22,7 +22,6 @@ use Rattle.ct_entry.specs.laws.Maps.{get_name-insert, get_name-alter, get_row-in
 use Rattle.ct_entry.specs.Listings.{keys_where}
 use Rattle.ct_entry.specs.laws.Rows.{keys_below, keys_rise, listed_rise, has_key, keys_always}
 use Rattle.ct_entry.specs.laws.Changes.{told_frame, told-append, view-append}
-use Rattle.tb_table.specs.declared.columns.Column.{Column}
 use Rattle.tb_table.specs.declared.columns.Target.{Target}
 use Rattle.tb_table.specs.Tables.{Table, Tables, row_in, row_at, text_of, keys_in, row_keys, with_table, with_row}
 use Rattle.tb_table.specs.Rules.{AreTables}
@@ -30,38 +29,13 @@ use Rattle.tb_table.specs.laws.Changes.{row_at-with_table, row_at-with_row}
 use Rattle.tb_table.specs.laws.Reading.{row_of_table}
 use Rattle.ix_context.specs.declared.ranges.KeyRange.{KeyRange}
 use Rattle.ix_context.specs.Indexes.{Index, Mark, Pending, Marked, mark_of, is_marked, if_pending, pending_rows, text_seen, noted, synced_index, synced, in_range, rows_in, all_marked, created, with_index}
-use Rattle.ix_context.specs.Rules.{IsIndex, AreIndexes, most_given}
+use Rattle.ix_context.specs.Rules.{IsIndex, most_given}
 use Rattle.ix_context.specs.Postings.{postings_of}
 use Rattle.ix_context.specs.Spelling.{IndexesStand, index_bytes, index_entry, queued}
 use Rattle.ix_context.specs.Changes.{note_insert_changes, posting_change, text_changes, document_changes, mark_changes, numbered, settle_changes, sync_rows_changes, sync_changes, create_changes}
-use Rattle.ix_context.specs.Standing.{MarksStand, IndexStands, seen_in, stand_at, stand_all, index_sees, marks_see, one_changes, AllOn, all_on-append, all_on-each}
-use Rattle.ix_context.specs.MarkLaws.{with_mark, marks_marked, marks_queued, marks_settled, EachRow, each_among, marked_in, marked_in-at, marks_all}
-
--- ---- the laws
-
--- after CREATE TABLE of a name that is free
-abbrev pub IndexesStayWithTables : Type 0
-IndexesStayWithTables = (f : Key → Option (List ℕ)) (ts : Tables) (xs : Names Index) (t : List ℕ) (columns : List Column) → get ts t ≡ None → IndexesStand f ts xs → IndexesStand f (with_table ts t columns) xs
-
--- after INSERT of a row that isn't there
-abbrev pub IndexesStayWithRows : Type 0
-IndexesStayWithRows = (f : Key → Option (List ℕ)) (ts : Tables) (xs : Names Index) (t : List ℕ) (r : ℤ) (vs : List Value) (x : Table) → get ts t ≡ Some x → get x.rows r ≡ None → AreIndexes ts xs → IndexesStand f ts xs
-    → IndexesStand f (with_row ts t r vs) xs
-
--- after the note of a row that is new in an index
-abbrev pub NotedRowsStand : Type 0
-NotedRowsStand = (f : Key → Option (List ℕ)) (ts : Tables) (xs : Names Index) (i : List ℕ) (x : Index) (r : ℤ) → get xs i ≡ Some x → get x.marks r ≡ None → IsRow r → IndexesStand f ts xs
-    → IndexesStand (view (note_insert_changes i r) f) ts (noted xs i r)
-
--- after a synchronisation that has numbers for the rows that wait
-abbrev pub SyncedIndexesStand : Type 0
-SyncedIndexesStand = (f : Key → Option (List ℕ)) (ts : Tables) (xs : Names Index) (i : List ℕ) (x : Index) → get xs i ≡ Some x → x.given + length (pending_rows x) ≤ most_given → AreTables ts → AreIndexes ts xs → IndexesStand f ts xs
-    → IndexesStand (view (sync_changes ts i x) f) ts (synced xs i)
-
--- after CREATE INDEX of a name that is free, where there are numbers for the rows
-abbrev pub CreatedIndexesStand : Type 0
-CreatedIndexesStand = (f : Key → Option (List ℕ)) (ts : Tables) (xs : Names Index) (i : List ℕ) (target : Target) (range : KeyRange) → get xs i ≡ None → length (rows_in ts target.table range) ≤ most_given → AreTables ts → IndexesStand f ts xs
-    → IndexesStand (view (create_changes ts i target range) f) ts (with_index ts xs i target range)
+use Rattle.ix_context.specs.laws.Standing.{MarksStand, IndexStands, seen_in, stand_at, stand_all, index_sees, marks_see, one_changes, AllOn, all_on-append, all_on-each}
+use Rattle.ix_context.specs.laws.Marks.{with_mark, marks_marked, marks_queued, marks_settled, EachRow, each_among, marked_in, marked_in-at, marks_all}
+use Rattle.ix_context.specs.Promises.{IndexesStayWithTables, IndexesStayWithRows, NotedRowsStand, SyncedIndexesStand, CreatedIndexesStand}
 
 -- ---- new tables and rows
 
@@ -70,7 +44,9 @@ marked_there None h = cc
 marked_there (Some m) h = refl
 
 -- the indexes see the texts of their marked rows alone
-pub indexes_see : (f : Key → Option (List ℕ)) (ts us : Tables) (xs : Names Index) → ((i : List ℕ) (x : Index) (r : ℤ) → get xs i ≡ Some x → is_some (get x.marks r) ≡ true → row_at us x.table r ≡ row_at ts x.table r) → IndexesStand f ts xs → IndexesStand f us xs
+pub indexes_see : (f : Key → Option (List ℕ)) (ts us : Tables) (xs : Names Index)
+    → ((i : List ℕ) (x : Index) (r : ℤ) → get xs i ≡ Some x → is_some (get x.marks r) ≡ true → row_at us x.table r ≡ row_at ts x.table r)
+    → IndexesStand f ts xs → IndexesStand f us xs
 indexes_see f ts us xs same stand = stand_all f us xs (λ i. index_sees f ts us i (get xs i) (alike i (get xs i) refl) (stand_at f ts xs stand i))
   where
     alike : (i : List ℕ) (o : Option Index) → get xs i ≡ o → (r : ℤ) → is_marked (mark_of o r) ≡ true → seen_in us o r ≡ seen_in ts o r
@@ -78,7 +54,8 @@ indexes_see f ts us xs same stand = stand_all f us xs (λ i. index_sees f ts us 
     alike i (Some x) is r marked = ap (option_and_then (λ vs. text_of vs x.column)) (same i x r is (marked_there (get x.marks r) marked))
 
 pub stay_with_table : IndexesStayWithTables
-stay_with_table f ts xs t columns free stand = indexes_see f ts (with_table ts t columns) xs (λ i x r is marked. row_at-with_table ts t columns free x.table r) stand
+stay_with_table f ts xs t columns free stand =
+    indexes_see f ts (with_table ts t columns) xs (λ i x r is marked. row_at-with_table ts t columns free x.table r) stand
 
 pub stay_with_row : IndexesStayWithRows
 stay_with_row f ts xs t r vs x is none rules stand = indexes_see f ts (with_row ts t r vs) xs same stand
@@ -108,8 +85,10 @@ pub get-alter_other : {X : Type 0} (m : Names X) (i : List ℕ) (h : X → X) (q
 get-alter_other m i h q other = get_name-alter m i h q ∙ ap (λ (b : Bool). cond b (option_map h (get m q)) (get m q)) other
 
 -- other marks of the same number, which are the same at each row
-marks_alike : (f : Key → Option (List ℕ)) (i : List ℕ) (text : ℤ → Option (List ℕ)) (mark other : ℤ → Option Mark) (given count : ℕ) → ((r : ℤ) → mark r ≡ other r) → given ≡ count → MarksStand f i text mark given → MarksStand f i text other count
-marks_alike f i text mark other given count same number marks = subst (λ (m : ℤ → Option Mark). MarksStand f i text m count) (λ j r. same r j) (subst (MarksStand f i text mark) number marks)
+marks_alike : (f : Key → Option (List ℕ)) (i : List ℕ) (text : ℤ → Option (List ℕ)) (mark other : ℤ → Option Mark) (given count : ℕ)
+    → ((r : ℤ) → mark r ≡ other r) → given ≡ count → MarksStand f i text mark given → MarksStand f i text other count
+marks_alike f i text mark other given count same number marks =
+    subst (λ (m : ℤ → Option Mark). MarksStand f i text m count) (λ j r. same r j) (subst (MarksStand f i text mark) number marks)
 
 -- ---- a note
 
@@ -130,7 +109,8 @@ note_stands f ts xs i x r is free is_row stand =
 -- ---- the entry of the index
 
 -- its change leaves the marks
-entry_put : (f : Key → Option (List ℕ)) (i : List ℕ) (v : List ℕ) (text : ℤ → Option (List ℕ)) (mark : ℤ → Option Mark) (given : ℕ) → MarksStand f i text mark given → MarksStand (view (put (key kind.Indexes i []) v ∷ []) f) i text mark given
+entry_put : (f : Key → Option (List ℕ)) (i : List ℕ) (v : List ℕ) (text : ℤ → Option (List ℕ)) (mark : ℤ → Option Mark) (given : ℕ)
+    → MarksStand f i text mark given → MarksStand (view (put (key kind.Indexes i []) v ∷ []) f) i text mark given
 entry_put f i v text mark given marks = record {
   document = marks.document;
   row = marks.row;
@@ -180,7 +160,8 @@ all_on_document i d r text = (refl, (refl, all_on_texts i d text))
 
 pub all_on_sync : (ts : Tables) (i : List ℕ) (x : Index) (rows : List ℤ) → AllOn i (sync_rows_changes ts i x rows)
 all_on_sync ts i x [] = tt
-all_on_sync ts i x (r ∷ rs) = all_on-append i (each (settle_changes ts i x) (numbered (x.given + 1) (r ∷ rs))) _ (all_on-each i (settle_changes ts i x) (λ p. (refl, all_on_document i p.0 p.1 (text_seen ts x p.1))) (numbered (x.given + 1) (r ∷ rs))) (refl, tt)
+all_on_sync ts i x (r ∷ rs) =
+    all_on-append i (each (settle_changes ts i x) (numbered (x.given + 1) (r ∷ rs))) _ (all_on-each i (settle_changes ts i x) (λ p. (refl, all_on_document i p.0 p.1 (text_seen ts x p.1))) (numbered (x.given + 1) (r ∷ rs))) (refl, tt)
 
 pub all_on_create : (ts : Tables) (i : List ℕ) (target : Target) (range : KeyRange) → AllOn i (create_changes ts i target range)
 all_on_create ts i target range = (
@@ -215,9 +196,11 @@ mark_is_row ts x are is r marked =
     (are.each x.table row.table row.here).keys r there.0 row.row
 
 pub pending_free : (ts : Tables) (x : Index) → AreTables ts → IsIndex ts x → EachRow (λ s. IsRow s × (not (is_marked (get x.marks s)) ≡ true)) (pending_rows x)
-pending_free ts x are is = each_among (λ s. IsRow s × (not (is_marked (get x.marks s)) ≡ true)) (pending_rows x) (λ r there. go r (get x.marks r) refl (sym (pending_there x r) ∙ there))
+pending_free ts x are is =
+    each_among (λ s. IsRow s × (not (is_marked (get x.marks s)) ≡ true)) (pending_rows x) (λ r there. go r (get x.marks r) refl (sym (pending_there x r) ∙ there))
   where
-    go : (r : ℤ) (o : Option Mark) → get x.marks r ≡ o → is_some (option_and_then (λ m. queued (Some m)) o) ≡ true → IsRow r × (not (is_marked (get x.marks r)) ≡ true)
+    go : (r : ℤ) (o : Option Mark) → get x.marks r ≡ o → is_some (option_and_then (λ m. queued (Some m)) o) ≡ true
+        → IsRow r × (not (is_marked (get x.marks r)) ≡ true)
     go r None here there = cc
     go r (Some Pending) here there = (mark_is_row ts x are is r (ap is_some here), ap (λ (p : Option Mark). not (is_marked p)) here)
     go r (Some Marked) here there = cc
@@ -234,20 +217,24 @@ synced_mark x r =
     go (Some Pending) = refl
     go (Some Marked) = refl
 
-marks_synced : (f : Key → Option (List ℕ)) (ts : Tables) (i : List ℕ) (x : Index) → x.given + length (pending_rows x) ≤ most_given → AreTables ts → IsIndex ts x → MarksStand f i (text_seen ts x) (get x.marks) x.given
+marks_synced : (f : Key → Option (List ℕ)) (ts : Tables) (i : List ℕ) (x : Index) → x.given + length (pending_rows x) ≤ most_given → AreTables ts
+    → IsIndex ts x → MarksStand f i (text_seen ts x) (get x.marks) x.given
     → MarksStand (view (each (settle_changes ts i x) (numbered (x.given + 1) (pending_rows x))) f) i (text_seen ts x) (get (synced_index x).marks) (synced_index x).given
 marks_synced f ts i x room are is marks =
     marks_alike (view (each (settle_changes ts i x) (numbered (x.given + 1) (pending_rows x))) f) i (text_seen ts x) (marked_in (pending_rows x) (get x.marks)) (get (synced_index x).marks) (x.given + length (pending_rows x)) (synced_index x).given (synced_mark x) refl
     (marks_all (settle_changes ts i x) i (text_seen ts x) (λ m. not (is_marked m)) step (pending_rows x) f (get x.marks) x.given (pending_rise x) (pending_free ts x are is) (omega arith) marks)
   where
-    step : (g : Key → Option (List ℕ)) (mark : ℤ → Option Mark) (given : ℕ) (r : ℤ) → IsRow r → not (is_marked (mark r)) ≡ true → given + 1 < 2 ^ 32 → MarksStand g i (text_seen ts x) mark given
+    step : (g : Key → Option (List ℕ)) (mark : ℤ → Option Mark) (given : ℕ) (r : ℤ) → IsRow r → not (is_marked (mark r)) ≡ true → given + 1 < 2 ^ 32
+        → MarksStand g i (text_seen ts x) mark given
         → MarksStand (view (settle_changes ts i x (given + 1, r)) g) i (text_seen ts x) (with_mark r (Some Marked) mark) (given + 1)
     step g mark given r is_row free room marks = marks_settled g i (text_seen ts x) mark given r is_row (not-true _ free) room marks
 
-synced_stands : (f : Key → Option (List ℕ)) (ts : Tables) (i : List ℕ) (x : Index) → x.given + length (pending_rows x) ≤ most_given → AreTables ts → IsIndex ts x → IndexStands f ts i (Some x) → IndexStands (view (sync_changes ts i x) f) ts i (Some (synced_index x))
+synced_stands : (f : Key → Option (List ℕ)) (ts : Tables) (i : List ℕ) (x : Index) → x.given + length (pending_rows x) ≤ most_given → AreTables ts
+    → IsIndex ts x → IndexStands f ts i (Some x) → IndexStands (view (sync_changes ts i x) f) ts i (Some (synced_index x))
 synced_stands f ts i x room are is stand = go (pending_rows x) refl (marks_synced f ts i x room are is stand.marks)
   where
-    go : (rows : List ℤ) → pending_rows x ≡ rows → MarksStand (view (each (settle_changes ts i x) (numbered (x.given + 1) rows)) f) i (text_seen ts x) (get (synced_index x).marks) (synced_index x).given
+    go : (rows : List ℤ) → pending_rows x ≡ rows
+        → MarksStand (view (each (settle_changes ts i x) (numbered (x.given + 1) rows)) f) i (text_seen ts x) (get (synced_index x).marks) (synced_index x).given
         → IndexStands (view (sync_rows_changes ts i x rows) f) ts i (Some (synced_index x))
     go [] none marks =
         let same : x.given ≡ (synced_index x).given = let count : length (pending_rows x) ≡ 0 = ap length none in omega arith in
@@ -281,7 +268,8 @@ filter_among p (r ∷ rows) s h = go (p r) (filter_among p rows s) h
     or_true true b h = refl
     or_true false b h = h
 
-    go : (b : Bool) → (list_any (int_eq s) (filter p rows) ≡ true → list_any (int_eq s) rows ≡ true) → list_any (int_eq s) (cond b (r ∷ filter p rows) (filter p rows)) ≡ true → (int_eq s r || list_any (int_eq s) rows) ≡ true
+    go : (b : Bool) → (list_any (int_eq s) (filter p rows) ≡ true → list_any (int_eq s) rows ≡ true)
+        → list_any (int_eq s) (cond b (r ∷ filter p rows) (filter p rows)) ≡ true → (int_eq s r || list_any (int_eq s) rows) ≡ true
     go true rest h = either (int_eq s r) (list_any (int_eq s) (filter p rows)) (list_any (int_eq s) rows) rest h
     go false rest h = or_true (int_eq s r) (list_any (int_eq s) rows) (rest h)
 
@@ -289,15 +277,18 @@ filter_below : (p : ℤ → Bool) (k : ℤ) (rows : List ℤ) → keys_below int
 filter_below p k [] h = refl
 filter_below p k (r ∷ rows) h = let b = and_parts (is_lt (int_cmp k r)) (keys_below int_cmp k rows) h in go (p r) b.0 (filter_below p k rows b.1)
   where
-    go : (b : Bool) → is_lt (int_cmp k r) ≡ true → keys_below int_cmp k (filter p rows) ≡ true → keys_below int_cmp k (cond b (r ∷ filter p rows) (filter p rows)) ≡ true
+    go : (b : Bool) → is_lt (int_cmp k r) ≡ true → keys_below int_cmp k (filter p rows) ≡ true
+        → keys_below int_cmp k (cond b (r ∷ filter p rows) (filter p rows)) ≡ true
     go true low rest = and_from _ _ low rest
     go false low rest = rest
 
 filter_rise : (p : ℤ → Bool) (rows : List ℤ) → keys_rise int_cmp rows ≡ true → keys_rise int_cmp (filter p rows) ≡ true
 filter_rise p [] h = refl
-filter_rise p (r ∷ rows) h = let b = and_parts (keys_below int_cmp r rows) (keys_rise int_cmp rows) h in go (p r) (filter_below p r rows b.0) (filter_rise p rows b.1)
+filter_rise p (r ∷ rows) h =
+    let b = and_parts (keys_below int_cmp r rows) (keys_rise int_cmp rows) h in go (p r) (filter_below p r rows b.0) (filter_rise p rows b.1)
   where
-    go : (b : Bool) → keys_below int_cmp r (filter p rows) ≡ true → keys_rise int_cmp (filter p rows) ≡ true → keys_rise int_cmp (cond b (r ∷ filter p rows) (filter p rows)) ≡ true
+    go : (b : Bool) → keys_below int_cmp r (filter p rows) ≡ true → keys_rise int_cmp (filter p rows) ≡ true
+        → keys_rise int_cmp (cond b (r ∷ filter p rows) (filter p rows)) ≡ true
     go true low rest = and_from _ _ low rest
     go false low rest = rest
 
@@ -326,8 +317,10 @@ row_is_row ts are t r there =
 abbrev pub no_marks : ℤ → Option Mark
 no_marks r = None
 
-pub rows_free : (ts : Tables) → AreTables ts → (t : List ℕ) (range : KeyRange) → EachRow (λ s. IsRow s × (not (is_some (no_marks s)) ≡ true)) (rows_in ts t range)
-rows_free ts are t range = each_among (λ s. IsRow s × (not (is_some (no_marks s)) ≡ true)) (rows_in ts t range) (λ r there. (row_is_row ts are t r (sym (row_listed ts t r) ∙ filter_among (in_range range) (row_keys ts t) r there), refl))
+pub rows_free : (ts : Tables) → AreTables ts → (t : List ℕ) (range : KeyRange)
+    → EachRow (λ s. IsRow s × (not (is_some (no_marks s)) ≡ true)) (rows_in ts t range)
+rows_free ts are t range =
+    each_among (λ s. IsRow s × (not (is_some (no_marks s)) ≡ true)) (rows_in ts t range) (λ r there. (row_is_row ts are t r (sym (row_listed ts t r) ∙ filter_among (in_range range) (row_keys ts t) r there), refl))
 
 pub marked_row : (rows : List ℤ) (s : ℤ) → get (all_marked rows) s ≡ cond (list_any (int_eq s) rows) (Some Marked) None
 marked_row rows s = get-from_entries int_cmp_total (map (λ r. (r, Marked)) rows) s ∙ go rows
@@ -345,7 +338,8 @@ not_some : (o : Option Mark) → not (is_some o) ≡ true → o ≡ None
 not_some None h = refl
 not_some (Some m) h = cc
 
-marks_created : (f : Key → Option (List ℕ)) (ts : Tables) (i : List ℕ) (target : Target) (range : KeyRange) → length (rows_in ts target.table range) ≤ most_given → AreTables ts
+marks_created : (f : Key → Option (List ℕ)) (ts : Tables) (i : List ℕ) (target : Target) (range : KeyRange)
+    → length (rows_in ts target.table range) ≤ most_given → AreTables ts
     → MarksStand f i (λ _. None) no_marks 0
     → MarksStand (view (each (λ (p : ℕ × ℤ). mark_changes ts i (created ts target range) p.0 p.1) (numbered 1 (rows_in ts target.table range))) f) i (text_seen ts (created ts target range)) (get (created ts target range).marks) (created ts target range).given
 marks_created f ts i target range room are marks =
@@ -355,11 +349,14 @@ marks_created f ts i target range room are marks =
     (marks_all (λ (p : ℕ × ℤ). mark_changes ts i x p.0 p.1) i (text_seen ts x) (λ m. not (is_some m)) step rows f no_marks 0 (filter_rise (in_range range) (row_keys ts target.table) (rows_rise ts target.table)) (rows_free ts are target.table range) (omega arith)
     (marks_see f i (λ _. None) (text_seen ts x) no_marks 0 (λ r h. cc) marks))
   where
-    step : (g : Key → Option (List ℕ)) (mark : ℤ → Option Mark) (given : ℕ) (r : ℤ) → IsRow r → not (is_some (mark r)) ≡ true → given + 1 < 2 ^ 32 → MarksStand g i (text_seen ts (created ts target range)) mark given
+    step : (g : Key → Option (List ℕ)) (mark : ℤ → Option Mark) (given : ℕ) (r : ℤ) → IsRow r → not (is_some (mark r)) ≡ true → given + 1 < 2 ^ 32
+        → MarksStand g i (text_seen ts (created ts target range)) mark given
         → MarksStand (view (mark_changes ts i (created ts target range) (given + 1) r) g) i (text_seen ts (created ts target range)) (with_mark r (Some Marked) mark) (given + 1)
     step g mark given r is_row free room marks = marks_marked g i (text_seen ts (created ts target range)) mark given r is_row (not_some _ free) room marks
 
-created_stands : (f : Key → Option (List ℕ)) (ts : Tables) (i : List ℕ) (target : Target) (range : KeyRange) → length (rows_in ts target.table range) ≤ most_given → AreTables ts → IndexStands f ts i None → IndexStands (view (create_changes ts i target range) f) ts i (Some (created ts target range))
+created_stands : (f : Key → Option (List ℕ)) (ts : Tables) (i : List ℕ) (target : Target) (range : KeyRange)
+    → length (rows_in ts target.table range) ≤ most_given → AreTables ts → IndexStands f ts i None
+    → IndexStands (view (create_changes ts i target range) f) ts i (Some (created ts target range))
 created_stands f ts i target range room are stand =
     let x = created ts target range in
     let first = put (key kind.Indexes i []) (index_entry x) ∷ [] in

@@ -1,7 +1,6 @@
 -- What holds of the keys and positions of every text, as a row of postings needs them.
 use Rattle.std.proofs.Common.{◌≡◌, ℕ, ◌+◌, ◌≤◌, ◌<◌, ◌^◌, Bool, true, false, cond, List, [], ◌∷◌, length, map, leb-true, leb-false, Option, Some, None, refl, sym, subst, ◌∙◌, arith}
 use Rattle.std.specs.Prelude.{All, nat_le}
-use Rattle.std.specs.Bool.{if◌then◌else◌}
 use Rattle.std.specs.Str.{chars}
 use Rattle.std.specs.Ordering.{nat_cmp}
 use Rattle.std.specs.Cmp.Lexicographic.{slice_cmp}
@@ -16,8 +15,8 @@ use Rattle.tx_lexer.specs.declared.tokens.Token.{Token}
 use Rattle.tx_lexer.specs.Tokens.{tokens, default}
 use Rattle.tx_lexer.specs.TokenKeys.{some_keys, limit}
 use Rattle.ix_posting.specs.Rows.{Rise}
-use Rattle.ix_context.specs.Postings.{positions_from, positions, words_of, if_any, postings_of}
-use Rattle.ix_context.specs.PostingLaws.{get-postings_of, few_words, positions_rise}
+use Rattle.ix_context.specs.Postings.{positions_from, positions, words_of, if_any, postings_of, IsPosting, HasShortText, if_short}
+use Rattle.ix_context.specs.laws.Postings.{get-postings_of, few_words, positions_rise}
 
 -- ---- keys
 
@@ -26,7 +25,8 @@ abbrev pub AllTokens : List (List ℕ) → Type 0
 AllTokens [] = Unit {0}
 AllTokens (w ∷ ws) = IsToken w × AllTokens ws
 
-keys_are_tokens : (ts : List Token) → All (λ (t : Token). 0 < length t.key) ts → All (λ (t : Token). length t.key ≤ 255) ts → AllTokens (map (λ (t : Token). t.key) ts)
+keys_are_tokens : (ts : List Token) → All (λ (t : Token). 0 < length t.key) ts → All (λ (t : Token). length t.key ≤ 255) ts
+    → AllTokens (map (λ (t : Token). t.key) ts)
 keys_are_tokens [] some short = tt
 keys_are_tokens (t ∷ ts) some short = (
   record { some = let first = All-head (λ (t : Token). 0 < length t.key) t ts some in omega (arith, first); short = All-head (λ (t : Token). length t.key ≤ 255) t ts short },
@@ -40,7 +40,8 @@ found_is_token : (key : List ℕ) (place : ℕ) (ws : List (List ℕ)) → AllTo
 found_is_token key place [] all p ps is = cc
 found_is_token key place (w ∷ ws) all p ps is = go (same_list key w) refl (found_is_token key (place + 1) ws all.1 p ps) is
   where
-    go : (b : Bool) → same_list key w ≡ b → (positions_from (place + 1) key ws ≡ p ∷ ps → IsToken key) → cond b (place ∷ positions_from (place + 1) key ws) (positions_from (place + 1) key ws) ≡ p ∷ ps → IsToken key
+    go : (b : Bool) → same_list key w ≡ b → (positions_from (place + 1) key ws ≡ p ∷ ps → IsToken key)
+        → cond b (place ∷ positions_from (place + 1) key ws) (positions_from (place + 1) key ws) ≡ p ∷ ps → IsToken key
     go true here rest is = subst IsToken (sym (list_from_same key w here)) all.0
     go false here rest is = rest is
 
@@ -53,12 +54,6 @@ stands_nowhere key none text = go (positions key text) refl
     go (p ∷ ps) is = absurd (none (found_is_token key 1 (words_of text) (words_are_tokens text) p ps is))
 
 -- ---- entries
-
--- what an entry of postings needs
-pub record IsPosting (e : List ℕ × List ℕ) : Type 0 where
-  pub token : IsToken e.0
-  pub some : 1 ≤ length e.1
-  pub rise : Rise 0 e.1
 
 posting_at : (text : List ℕ) → length text ≤ 2 ^ 24 → (key ps : List ℕ) → get (postings_of text) key ≡ Some ps → IsPosting (key, ps)
 posting_at text short key ps is = go (positions key text) refl (sym (get-postings_of text key) ∙ is)
@@ -81,13 +76,15 @@ few_positions : (place : ℕ) (key : List ℕ) (ws : List (List ℕ)) → length
 few_positions place key [] = omega arith
 few_positions place key (w ∷ ws) = go (same_list key w) (few_positions (place + 1) key ws)
   where
-    go : (b : Bool) → length (positions_from (place + 1) key ws) ≤ length ws → length (cond b (place ∷ positions_from (place + 1) key ws) (positions_from (place + 1) key ws)) ≤ length (w ∷ ws)
+    go : (b : Bool) → length (positions_from (place + 1) key ws) ≤ length ws
+        → length (cond b (place ∷ positions_from (place + 1) key ws) (positions_from (place + 1) key ws)) ≤ length (w ∷ ws)
     go true few = omega arith
     go false few = omega arith
 
 -- and has no more of them than the text has bytes
 pub postings_few : (text : List ℕ) → All (λ e. length e.1 ≤ length text) (entries (postings_of text))
-postings_few text = all_entries (slice_cmp nat_cmp) nat_list_cmp_total (λ e. length e.1 ≤ length text) (postings_of text) (λ key ps is. few key ps (positions key text) refl (sym (get-postings_of text key) ∙ is))
+postings_few text =
+    all_entries (slice_cmp nat_cmp) nat_list_cmp_total (λ e. length e.1 ≤ length text) (postings_of text) (λ key ps is. few key ps (positions key text) refl (sym (get-postings_of text key) ∙ is))
   where
     few : (key ps qs : List ℕ) → positions key text ≡ qs → if_any qs ≡ Some ps → length ps ≤ length text
     few key ps [] here is = cc
@@ -96,16 +93,6 @@ postings_few text = all_entries (slice_cmp nat_cmp) nat_list_cmp_total (λ e. le
         let at_most = few_positions 1 key (words_of text) in
         let bytes = few_words text in
         subst (λ (l : List ℕ). length l ≤ length text) same (omega (arith, at_most, bytes))
-
--- a text of at most 2 ^ 24 bytes, or none
-abbrev pub HasShortText : Option (List ℕ) → Type 0
-HasShortText None = Unit {0}
-HasShortText (Some text) = length text ≤ 2 ^ 24
-
--- the text, if it is one
-abbrev pub if_short : Option (List ℕ) → Option (List ℕ)
-if_short None = None
-if_short (Some text) = if nat_le (length text) (2 ^ 24) then Some text else None
 
 pub short_kept : (o : Option (List ℕ)) → HasShortText o → if_short o ≡ o
 short_kept None short = refl

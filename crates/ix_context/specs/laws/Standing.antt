@@ -17,7 +17,7 @@ use Rattle.ct_entry.specs.Maps.{Names}
 use Rattle.tb_table.specs.Tables.{Tables}
 use Rattle.ix_context.specs.Postings.{positions}
 use Rattle.ix_context.specs.Indexes.{Index, Mark, mark_of, is_marked, text_seen}
-use Rattle.ix_context.specs.Spelling.{Numbering, IndexesStand, index_entry, queued, posting_value, document_text}
+use Rattle.ix_context.specs.Spelling.{Numbering, IndexesStand, index_entry, queued, posting_value, document_text, is_of_indexes}
 
 -- how many marks an index ever made; none where there is no index
 abbrev pub given_of : Option Index → ℕ
@@ -41,7 +41,8 @@ pub record RowsStand (f : Key → Option (List ℕ)) (i : List ℕ) (text : ℤ 
   pub rows : (d : ℕ) → IsDocument d → f (key kind.DocumentRows i (document_part d)) ≡ option_map row_bytes (row d)
   pub documents : (r : ℤ) → IsRow r → f (key kind.RowDocuments i (row_part r)) ≡ option_map (to_be_bytes w32) (document r)
   pub queue : (r : ℤ) → IsRow r → f (key kind.Pending i (row_part r)) ≡ queued (mark r)
-  pub postings : (token : List ℕ) (d : ℕ) → IsToken token → IsDocument d → f (key kind.Postings i (posting_part 0 token d)) ≡ option_and_then (λ t. posting_value d (positions token t)) (option_and_then text (row d))
+  pub postings : (token : List ℕ) (d : ℕ) → IsToken token → IsDocument d
+      → f (key kind.Postings i (posting_part 0 token d)) ≡ option_and_then (λ t. posting_value d (positions token t)) (option_and_then text (row d))
   pub streams : (token : List ℕ) (s d : ℕ) → 1 ≤ s → s ≤ 64 → IsToken token → IsDocument d → f (key kind.Postings i (posting_part s token d)) ≡ None
   pub spans : (section : List ℕ) (d : ℕ) → IsName section → IsDocument d → f (key kind.Spans i (span_part section d)) ≡ None
 
@@ -62,7 +63,8 @@ pub record IndexStands (f : Key → Option (List ℕ)) (ts : Tables) (i : List �
 some_none : {X : Type 0} (o : Option X) (x : X) → o ≡ Some x → is_some o ≡ false → ⊥
 some_none o x is none = let wrong : true ≡ false = sym (ap is_some is) ∙ none in cc
 
-document_text-seen : (n : Numbering) (ts : Tables) (xs : Names Index) (i : List ℕ) (d : ℕ) → document_text n ts xs i d ≡ option_and_then (seen_in ts (get xs i)) (n.row i d)
+document_text-seen : (n : Numbering) (ts : Tables) (xs : Names Index) (i : List ℕ) (d : ℕ)
+    → document_text n ts xs i d ≡ option_and_then (seen_in ts (get xs i)) (n.row i d)
 document_text-seen n ts xs i d = go (get xs i) (n.row i d)
   where
     go : (o : Option Index) (p : Option ℤ) → option_and_then (λ x. option_and_then (λ r. text_seen ts x r) p) o ≡ option_and_then (seen_in ts o) p
@@ -90,7 +92,8 @@ stand_at f ts xs stand i =
       };
     }
   where
-    within : (o : Option Index) → get xs i ≡ o → (r : ℤ) (d : ℕ) → is_some (stand.0.document i r) ≡ is_marked (mark_of o r) → ((x : Index) → get xs i ≡ Some x → (1 ≤ d) × (d ≤ x.given)) → stand.0.document i r ≡ Some d → (1 ≤ d) × (d ≤ given_of o)
+    within : (o : Option Index) → get xs i ≡ o → (r : ℤ) (d : ℕ) → is_some (stand.0.document i r) ≡ is_marked (mark_of o r)
+        → ((x : Index) → get xs i ≡ Some x → (1 ≤ d) × (d ≤ x.given)) → stand.0.document i r ≡ Some d → (1 ≤ d) × (d ≤ given_of o)
     within None here r d marked bound e = absurd (some_none (stand.0.document i r) d e marked)
     within (Some x) here r d marked bound e = bound x here
 
@@ -121,18 +124,9 @@ stand_all f ts xs each = (
 
 -- ---- what matters to an index
 
--- the kinds of the entries of indexes
-abbrev pub is_of_indexes : Kind → Bool
-is_of_indexes kind.Indexes = true
-is_of_indexes kind.DocumentRows = true
-is_of_indexes kind.RowDocuments = true
-is_of_indexes kind.Pending = true
-is_of_indexes kind.Postings = true
-is_of_indexes kind.Spans = true
-is_of_indexes k = false
-
 -- only its own entries of these kinds
-pub index_agree : (f g : Key → Option (List ℕ)) (ts : Tables) (i : List ℕ) (o : Option Index) → ((k : Key) → k.owner ≡ i → is_of_indexes k.kind ≡ true → g k ≡ f k) → IndexStands f ts i o → IndexStands g ts i o
+pub index_agree : (f g : Key → Option (List ℕ)) (ts : Tables) (i : List ℕ) (o : Option Index)
+    → ((k : Key) → k.owner ≡ i → is_of_indexes k.kind ≡ true → g k ≡ f k) → IndexStands f ts i o → IndexStands g ts i o
 index_agree f g ts i o same stand = record {
   entry = same (key kind.Indexes i []) refl refl ∙ stand.entry;
   marks = record {
@@ -171,8 +165,10 @@ marks_see f i text seen mark given same marks = record {
     alike d None is = refl
     alike d (Some r) is = same r (sym (marks.numbers.marked r) ∙ ap is_some (marks.numbers.back r d is))
 
-pub index_sees : (f : Key → Option (List ℕ)) (ts us : Tables) (i : List ℕ) (o : Option Index) → ((r : ℤ) → is_marked (mark_of o r) ≡ true → seen_in us o r ≡ seen_in ts o r) → IndexStands f ts i o → IndexStands f us i o
-index_sees f ts us i o same stand = record { entry = stand.entry; marks = marks_see f i (seen_in ts o) (seen_in us o) (mark_of o) (given_of o) same stand.marks }
+pub index_sees : (f : Key → Option (List ℕ)) (ts us : Tables) (i : List ℕ) (o : Option Index)
+    → ((r : ℤ) → is_marked (mark_of o r) ≡ true → seen_in us o r ≡ seen_in ts o r) → IndexStands f ts i o → IndexStands f us i o
+index_sees f ts us i o same stand =
+    record { entry = stand.entry; marks = marks_see f i (seen_in ts o) (seen_in us o) (mark_of o) (given_of o) same stand.marks }
 
 -- ---- changes on the entries of one owner
 
@@ -185,14 +181,17 @@ pub all_on-append : (i : List ℕ) (xs ys : List (Key × Option (List ℕ))) →
 all_on-append i [] ys a b = b
 all_on-append i (x ∷ xs) ys a b = (a.0, all_on-append i xs ys a.1 b)
 
-pub all_on-each : {I : Type 0} (i : List ℕ) (changes : I → List (Key × Option (List ℕ))) → ((p : I) → AllOn i (changes p)) → (ps : List I) → AllOn i (each changes ps)
+pub all_on-each : {I : Type 0} (i : List ℕ) (changes : I → List (Key × Option (List ℕ))) → ((p : I) → AllOn i (changes p)) → (ps : List I)
+    → AllOn i (each changes ps)
 all_on-each i changes one [] = tt
 all_on-each i changes one (p ∷ ps) = all_on-append i (changes p) (each changes ps) (one p) (all_on-each i changes one ps)
 
 -- they leave the keys of others
-pub told_others : (i : List ℕ) (ws : List (Key × Option (List ℕ))) (k : Key) (old : Option (List ℕ)) → AllOn i ws → same_list k.owner i ≡ false → told ws k old ≡ old
+pub told_others : (i : List ℕ) (ws : List (Key × Option (List ℕ))) (k : Key) (old : Option (List ℕ)) → AllOn i ws → same_list k.owner i ≡ false
+    → told ws k old ≡ old
 told_others i [] k old all other = refl
-told_others i (w ∷ ws) k old all other = told_others i ws k (cond (same_key k w.0) w.1 old) all.1 other ∙ ap (λ (b : Bool). cond b w.1 old) (apart (same_key k w.0) refl)
+told_others i (w ∷ ws) k old all other =
+    told_others i ws k (cond (same_key k w.0) w.1 old) all.1 other ∙ ap (λ (b : Bool). cond b w.1 old) (apart (same_key k w.0) refl)
   where
     apart : (b : Bool) → same_key k w.0 ≡ b → b ≡ false
     apart true h =
@@ -202,7 +201,8 @@ told_others i (w ∷ ws) k old all other = told_others i ws k (cond (same_key k 
     apart false h = refl
 
 -- Changes on one index, by which its entries come to spell it as it is in ys, where ys has what xs has at all other names.
-pub one_changes : (f : Key → Option (List ℕ)) (ts : Tables) (xs ys : Names Index) (i : List ℕ) (ws : List (Key × Option (List ℕ))) → AllOn i ws → ((q : List ℕ) → same_list q i ≡ false → get ys q ≡ get xs q)
+pub one_changes : (f : Key → Option (List ℕ)) (ts : Tables) (xs ys : Names Index) (i : List ℕ) (ws : List (Key × Option (List ℕ))) → AllOn i ws
+    → ((q : List ℕ) → same_list q i ≡ false → get ys q ≡ get xs q)
     → IndexesStand f ts xs → IndexStands (view ws f) ts i (get ys i) → IndexesStand (view ws f) ts ys
 one_changes f ts xs ys i ws on others stand one = stand_all (view ws f) ts ys (λ q. go q (same_list q i) refl)
   where
@@ -215,9 +215,11 @@ one_changes f ts xs ys i ws on others stand one = stand_all (view ws f) ts ys (�
 -- ---- changes on other kinds
 
 -- only the entries of these kinds matter
-pub indexes_agree : (f g : Key → Option (List ℕ)) (ts : Tables) (xs : Names Index) → ((k : Key) → is_of_indexes k.kind ≡ true → g k ≡ f k) → IndexesStand f ts xs → IndexesStand g ts xs
+pub indexes_agree : (f g : Key → Option (List ℕ)) (ts : Tables) (xs : Names Index) → ((k : Key) → is_of_indexes k.kind ≡ true → g k ≡ f k)
+    → IndexesStand f ts xs → IndexesStand g ts xs
 indexes_agree f g ts xs same stand = stand_all g ts xs (λ i. index_agree f g ts i (get xs i) (λ k owner of. same k of) (stand_at f ts xs stand i))
 
 -- changes on other kinds change nothing
-pub indexes_frame : (p : Kind → Bool) (ws : List (Key × Option (List ℕ))) (f : Key → Option (List ℕ)) (ts : Tables) (xs : Names Index) → AllOf p ws → ((k : Kind) → is_of_indexes k ≡ true → p k ≡ false) → IndexesStand f ts xs → IndexesStand (view ws f) ts xs
+pub indexes_frame : (p : Kind → Bool) (ws : List (Key × Option (List ℕ))) (f : Key → Option (List ℕ)) (ts : Tables) (xs : Names Index) → AllOf p ws
+    → ((k : Kind) → is_of_indexes k ≡ true → p k ≡ false) → IndexesStand f ts xs → IndexesStand (view ws f) ts xs
 indexes_frame p ws f ts xs all other stand = indexes_agree f (view ws f) ts xs (λ k of. told_frame p ws k (f k) all (other k.kind of)) stand

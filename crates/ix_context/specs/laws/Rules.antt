@@ -1,5 +1,5 @@
 -- What statements make of the indexes keeps their rules.
-use Rattle.std.proofs.Common.{◌≡◌, ℕ, ℤ, pos, negsuc, ◌<ℤ◌, ◌+◌, ◌-◌, ◌^◌, ◌≤◌, Bool, true, false, cond, List, [], ◌∷◌, length, Option, Some, None, refl, sym, ap, subst, ◌∙◌, arith}
+use Rattle.std.proofs.Common.{◌≡◌, ℕ, ℤ, pos, negsuc, ◌<ℤ◌, ◌-◌, ◌^◌, ◌≤◌, Bool, true, false, cond, List, [], ◌∷◌, length, Option, Some, None, refl, sym, ap, subst, ◌∙◌, arith}
 use Rattle.std.specs.Prelude.{◌||◌, is_some, not, filter}
 use Rattle.std.specs.Option.{option_map}
 use Rattle.std.specs.List.{list_any}
@@ -29,39 +29,13 @@ use Rattle.tb_table.specs.Tables.{Table, Tables, row_at, row_keys, with_table, w
 use Rattle.tb_table.specs.Rules.{AreTables}
 use Rattle.tb_table.specs.laws.Changes.{get-with_table, row_at-with_table, row_at-with_row, columns-with_row}
 use Rattle.ix_context.specs.declared.ranges.KeyRange.{KeyRange}
-use Rattle.ix_context.specs.Indexes.{Index, Mark, Pending, Marked, pending_rows, noted, waiting_on, noted_on, synced_index, synced, in_range, rows_in, created, with_index}
-use Rattle.ix_context.specs.Rules.{IsTarget, HasTextAt, IsIndex, AreIndexes, most_given}
+use Rattle.ix_context.specs.Indexes.{Index, Mark, Pending, Marked, noted, waiting_on, noted_on, synced_index, synced, in_range, rows_in, created, with_index}
+use Rattle.ix_context.specs.Rules.{IsTarget, HasTextAt, IsIndex, most_given}
 use Rattle.ix_context.specs.Spelling.{IndexesStand}
 use Rattle.ix_context.specs.Changes.{note_insert_changes}
-use Rattle.ix_context.specs.MarkLaws.{EachRow, each_among}
-use Rattle.ix_context.specs.ChangeLaws.{get-alter_other, note_stands, row_listed, row_is_row, marked_row}
-
--- ---- the laws
-
--- a new table
-abbrev pub NewTablesKeepIndexRules : Type 0
-NewTablesKeepIndexRules = (ts : Tables) (xs : Names Index) (t : List ℕ) (columns : List Column) → get ts t ≡ None → AreIndexes ts xs → AreIndexes (with_table ts t columns) xs
-
--- a new row, which waits in each index on its table
-abbrev pub NewRowsKeepIndexRules : Type 0
-NewRowsKeepIndexRules = (ts : Tables) (xs : Names Index) (t : List ℕ) (r : ℤ) (vs : List Value) (x : Table) → get ts t ≡ Some x → AreIndexes ts xs → AreIndexes (with_row ts t r vs) (noted_on xs t r)
-
--- a synchronisation
-abbrev pub SyncsKeepIndexRules : Type 0
-SyncsKeepIndexRules = (ts : Tables) (xs : Names Index) (i : List ℕ) (x : Index) → get xs i ≡ Some x → x.given + length (pending_rows x) ≤ most_given → AreIndexes ts xs → AreIndexes ts (synced xs i)
-
--- the range has every row key
-abbrev pub HasAllRows : KeyRange → Type 0
-HasAllRows range = (r : ℤ) → IsRow r → in_range range r ≡ true
-
--- no index is on this column
-abbrev pub IsFreeColumn : Names Index → List ℕ → ℕ → Type 0
-IsFreeColumn xs t column = (j : List ℕ) (y : Index) → get xs j ≡ Some y → y.table ≡ t → y.column ≡ column → ⊥
-
--- a new index of a name that is free, over all rows, on a column of texts that has none
-abbrev pub CreatesKeepIndexRules : Type 0
-CreatesKeepIndexRules = (ts : Tables) (xs : Names Index) (i : List ℕ) (target : Target) (range : KeyRange) → IsName i → get xs i ≡ None → IsTarget ts target.table target.column → IsFreeColumn xs target.table target.column → HasAllRows range
-    → length (rows_in ts target.table range) ≤ most_given → AreTables ts → AreIndexes ts xs → AreIndexes ts (with_index ts xs i target range)
+use Rattle.ix_context.specs.laws.Marks.{EachRow, each_among}
+use Rattle.ix_context.specs.laws.Changes.{get-alter_other, note_stands, row_listed, row_is_row, marked_row}
+use Rattle.ix_context.specs.Promises.{NewTablesKeepIndexRules, NewRowsKeepIndexRules, SyncsKeepIndexRules, HasAllRows, CreatesKeepIndexRules, AreDistinct, is_on, AreIndexesOn, NotesOfRowsStand}
 
 -- ---- a new table
 
@@ -89,20 +63,24 @@ table_keeps ts xs t columns free are = record {
 -- ---- a new row
 
 -- the table and column of an index that a row waits in
-waiting_alike : (t : List ℕ) (r : ℤ) (x : Index) → (x.table ≡ (waiting_on t r x).table) × (x.column ≡ (waiting_on t r x).column) × (x.given ≡ (waiting_on t r x).given)
+waiting_alike : (t : List ℕ) (r : ℤ) (x : Index)
+    → (x.table ≡ (waiting_on t r x).table) × (x.column ≡ (waiting_on t r x).column) × (x.given ≡ (waiting_on t r x).given)
 waiting_alike t r x = go (same_list x.table t)
   where
-    go : (b : Bool) → (x.table ≡ (cond b (record x { marks = insert x.marks r Pending }) x).table) × (x.column ≡ (cond b (record x { marks = insert x.marks r Pending }) x).column) × (x.given ≡ (cond b (record x { marks = insert x.marks r Pending }) x).given)
+    go : (b : Bool)
+        → (x.table ≡ (cond b (record x { marks = insert x.marks r Pending }) x).table) × (x.column ≡ (cond b (record x { marks = insert x.marks r Pending }) x).column) × (x.given ≡ (cond b (record x { marks = insert x.marks r Pending }) x).given)
     go true = (refl, refl, refl)
     go false = (refl, refl, refl)
 
-target_with_row : (ts : Tables) (t : List ℕ) (r : ℤ) (vs : List Value) (x : Table) → get ts t ≡ Some x → (q : List ℕ) (column : ℕ) → IsTarget ts q column → IsTarget (with_row ts t r vs) q column
+target_with_row : (ts : Tables) (t : List ℕ) (r : ℤ) (vs : List Value) (x : Table) → get ts t ≡ Some x → (q : List ℕ) (column : ℕ)
+    → IsTarget ts q column → IsTarget (with_row ts t r vs) q column
 target_with_row ts t r vs x is q column target =
     let same : option_map (λ (y : Table). y.columns) (get (with_row ts t r vs) q) ≡ Some target.table.columns = columns-with_row ts t r vs x is q ∙ ap (option_map (λ (y : Table). y.columns)) target.there in
     let there = option_map_some (λ (y : Table). y.columns) (get (with_row ts t r vs) q) target.table.columns same in
     record { table = there.0; there = there.1; texts = subst (λ (cs : List Column). HasTextAt cs column) (sym there.2) target.texts }
 
-index_with_row : (ts : Tables) (t : List ℕ) (r : ℤ) (vs : List Value) (x : Table) → get ts t ≡ Some x → (y : Index) → IsIndex ts y → IsIndex (with_row ts t r vs) (waiting_on t r y)
+index_with_row : (ts : Tables) (t : List ℕ) (r : ℤ) (vs : List Value) (x : Table) → get ts t ≡ Some x → (y : Index) → IsIndex ts y
+    → IsIndex (with_row ts t r vs) (waiting_on t r y)
 index_with_row ts t r vs x is y index = go (same_list y.table t) refl
   where
     at_row : (s : ℤ) (b : Bool) → is_some (cond b (Some Pending) (get y.marks s)) ≡ is_some (cond b (Some vs) (row_at ts y.table s))
@@ -154,34 +132,22 @@ abbrev pub noted_each : Names Index → List (List ℕ) → ℤ → Names Index
 noted_each xs [] r = xs
 noted_each xs (i ∷ is) r = noted_each (noted xs i r) is r
 
--- no name stands twice
-abbrev pub AreDistinct : List (List ℕ) → Type 0
-AreDistinct [] = Unit {0}
-AreDistinct (i ∷ is) = (is_among i is ≡ false) × AreDistinct is
-
-abbrev pub is_on : List ℕ → Option Index → Bool
-is_on t None = false
-is_on t (Some x) = same_list x.table t
-
--- these are the names of the indexes on the table, each once
-pub record AreIndexesOn (xs : Names Index) (t : List ℕ) (names : List (List ℕ)) : Type 0 where
-  pub distinct : AreDistinct names
-  pub each : (i : List ℕ) → is_among i names ≡ is_on t (get xs i)
-
 abbrev waiting : ℤ → Index → Index
 waiting r x = record x { marks = insert x.marks r Pending }
 
 get-noted : (xs : Names Index) (i : List ℕ) (r : ℤ) (q : List ℕ) → get (noted xs i r) q ≡ cond (same_list q i) (option_map (waiting r) (get xs q)) (get xs q)
 get-noted xs i r q = get_name-alter xs i (waiting r) q
 
-get-noted_each : (names : List (List ℕ)) (xs : Names Index) (r : ℤ) (q : List ℕ) → AreDistinct names → get (noted_each xs names r) q ≡ cond (is_among q names) (option_map (waiting r) (get xs q)) (get xs q)
+get-noted_each : (names : List (List ℕ)) (xs : Names Index) (r : ℤ) (q : List ℕ) → AreDistinct names
+    → get (noted_each xs names r) q ≡ cond (is_among q names) (option_map (waiting r) (get xs q)) (get xs q)
 get-noted_each [] xs r q distinct = refl
 get-noted_each (i ∷ is) xs r q distinct =
     get-noted_each is (noted xs i r) r q distinct.1
     ∙ ap (λ (o : Option Index). cond (is_among q is) (option_map (waiting r) o) o) (get-noted xs i r q)
     ∙ go (same_list q i) (is_among q is) (λ h. ap (λ (k : List ℕ). is_among k is) (list_from_same q i h) ∙ distinct.0)
   where
-    go : (a b : Bool) → (a ≡ true → b ≡ false) → cond b (option_map (waiting r) (cond a (option_map (waiting r) (get xs q)) (get xs q))) (cond a (option_map (waiting r) (get xs q)) (get xs q)) ≡ cond (a || b) (option_map (waiting r) (get xs q)) (get xs q)
+    go : (a b : Bool) → (a ≡ true → b ≡ false)
+        → cond b (option_map (waiting r) (cond a (option_map (waiting r) (get xs q)) (get xs q))) (cond a (option_map (waiting r) (get xs q)) (get xs q)) ≡ cond (a || b) (option_map (waiting r) (get xs q)) (get xs q)
     go true true h = let wrong : true ≡ false = h refl in cc
     go true false h = refl
     go false true h = refl
@@ -210,9 +176,11 @@ abbrev pub AreNewIn : Names Index → ℤ → List (List ℕ) → Type 0
 AreNewIn xs r [] = Unit {0}
 AreNewIn xs r (i ∷ is) = ((x : Index) × (get xs i ≡ Some x) × (get x.marks r ≡ None)) × AreNewIn xs r is
 
-new_among : (xs : Names Index) (r : ℤ) (names : List (List ℕ)) → ((i : List ℕ) → is_among i names ≡ true → (x : Index) × (get xs i ≡ Some x) × (get x.marks r ≡ None)) → AreNewIn xs r names
+new_among : (xs : Names Index) (r : ℤ) (names : List (List ℕ))
+    → ((i : List ℕ) → is_among i names ≡ true → (x : Index) × (get xs i ≡ Some x) × (get x.marks r ≡ None)) → AreNewIn xs r names
 new_among xs r [] each = tt
-new_among xs r (i ∷ is) each = (each i (ap (λ (b : Bool). b || is_among i is) (list_same i)), new_among xs r is (λ j there. each j (later (same_list j i) (is_among j is) there)))
+new_among xs r (i ∷ is) each =
+    (each i (ap (λ (b : Bool). b || is_among i is) (list_same i)), new_among xs r is (λ j there. each j (later (same_list j i) (is_among j is) there)))
   where
     later : (a b : Bool) → b ≡ true → (a || b) ≡ true
     later true b h = refl
@@ -233,17 +201,13 @@ still_new xs i r (j ∷ js) apart are =
     turned true h other = let wrong : true ≡ false = sym (list_same i) ∙ ap (same_list i) (sym (list_from_same j i h)) ∙ other in cc
     turned false h other = refl
 
-notes_stand : (names : List (List ℕ)) (f : Key → Option (List ℕ)) (ts : Tables) (xs : Names Index) (r : ℤ) → IsRow r → AreDistinct names → AreNewIn xs r names → IndexesStand f ts xs → IndexesStand (view (each (λ i. note_insert_changes i r) names) f) ts (noted_each xs names r)
+notes_stand : (names : List (List ℕ)) (f : Key → Option (List ℕ)) (ts : Tables) (xs : Names Index) (r : ℤ) → IsRow r → AreDistinct names
+    → AreNewIn xs r names → IndexesStand f ts xs → IndexesStand (view (each (λ i. note_insert_changes i r) names) f) ts (noted_each xs names r)
 notes_stand [] f ts xs r row distinct new stand = stand
 notes_stand (i ∷ is) f ts xs r row distinct new stand =
     let one = note_stands f ts xs i new.0.0 r new.0.1 new.0.2 row stand in
     let rest = notes_stand is (view (note_insert_changes i r) f) ts (noted xs i r) r row distinct.1 (still_new xs i r is distinct.0 new.1) one in
     subst (λ (g : Key → Option (List ℕ)). IndexesStand g ts (noted_each (noted xs i r) is r)) (sym (view-append (note_insert_changes i r) (each (λ i. note_insert_changes i r) is) f)) rest
-
--- after a note of a row that is new in each index on its table
-abbrev pub NotesOfRowsStand : Type 0
-NotesOfRowsStand = (f : Key → Option (List ℕ)) (ts : Tables) (xs : Names Index) (t : List ℕ) (r : ℤ) (names : List (List ℕ)) → AreIndexesOn xs t names → ((i : List ℕ) (x : Index) → get xs i ≡ Some x → x.table ≡ t → get x.marks r ≡ None) → IsRow r → IndexesStand f ts xs
-    → IndexesStand (view (each (λ i. note_insert_changes i r) names) f) ts (noted_on xs t r)
 
 pub row_notes_stand : NotesOfRowsStand
 row_notes_stand f ts xs t r names are free row stand =
@@ -269,8 +233,10 @@ sync_keeps ts xs i x is room are = record {
     get-synced : (q : List ℕ) → get (synced xs i) q ≡ cond (same_list q i) (option_map synced_index (get xs q)) (get xs q)
     get-synced q = get_name-alter xs i synced_index q
 
-    before : (q : List ℕ) (y : Index) (b : Bool) → same_list q i ≡ b → cond b (option_map synced_index (get xs q)) (get xs q) ≡ Some y → (z : Index) × (get xs q ≡ Some z) × (z.table ≡ y.table) × (z.column ≡ y.column)
-    before q y true h e = let was = option_map_some synced_index (get xs q) y e in (was.0, was.1, ap (λ (k : Index). k.table) was.2, ap (λ (k : Index). k.column) was.2)
+    before : (q : List ℕ) (y : Index) (b : Bool) → same_list q i ≡ b → cond b (option_map synced_index (get xs q)) (get xs q) ≡ Some y
+        → (z : Index) × (get xs q ≡ Some z) × (z.table ≡ y.table) × (z.column ≡ y.column)
+    before q y true h e =
+        let was = option_map_some synced_index (get xs q) y e in (was.0, was.1, ap (λ (k : Index). k.table) was.2, ap (λ (k : Index). k.column) was.2)
     before q y false h e = (y, e, refl, refl)
 
     named : (q : List ℕ) (y : Index) (b : Bool) → same_list q i ≡ b → cond b (option_map synced_index (get xs q)) (get xs q) ≡ Some y → IsName q
@@ -301,9 +267,11 @@ filter_all p (r ∷ rows) all = ap (λ (b : Bool). cond b (r ∷ filter p rows) 
 
 -- in such a range lie all rows
 pub rows_in-all : (ts : Tables) → AreTables ts → (t : List ℕ) (range : KeyRange) → HasAllRows range → rows_in ts t range ≡ row_keys ts t
-rows_in-all ts are t range has = filter_all (in_range range) (row_keys ts t) (each_among (λ r. in_range range r ≡ true) (row_keys ts t) (λ r there. has r (row_is_row ts are t r (sym (row_listed ts t r) ∙ there))))
+rows_in-all ts are t range has =
+    filter_all (in_range range) (row_keys ts t) (each_among (λ r. in_range range r ≡ true) (row_keys ts t) (λ r there. has r (row_is_row ts are t r (sym (row_listed ts t r) ∙ there))))
 
-created_is : (ts : Tables) (target : Target) (range : KeyRange) → IsTarget ts target.table target.column → HasAllRows range → length (rows_in ts target.table range) ≤ most_given → AreTables ts → IsIndex ts (created ts target range)
+created_is : (ts : Tables) (target : Target) (range : KeyRange) → IsTarget ts target.table target.column → HasAllRows range
+    → length (rows_in ts target.table range) ≤ most_given → AreTables ts → IsIndex ts (created ts target range)
 created_is ts target range there has room are = record {
   target = there;
   marks = λ r. ap is_some (marked_row (rows_in ts target.table range) r) ∙ any (list_any (int_eq r) (rows_in ts target.table range)) ∙ ap (list_any (int_eq r)) (rows_in-all ts are target.table range has) ∙ row_listed ts target.table r;
@@ -332,7 +300,8 @@ create_keeps ts xs i target range name free there column has room tables are = r
     index q y true e = subst (IsIndex ts) (same_Some (created ts target range) y e) (created_is ts target range there has room tables)
     index q y false e = are.each q y e
 
-    one : (p q : List ℕ) (y z : Index) (a : Bool) → same_list p i ≡ a → (b : Bool) → same_list q i ≡ b → cond a (Some (created ts target range)) (get xs p) ≡ Some y → cond b (Some (created ts target range)) (get xs q) ≡ Some z
+    one : (p q : List ℕ) (y z : Index) (a : Bool) → same_list p i ≡ a → (b : Bool) → same_list q i ≡ b
+        → cond a (Some (created ts target range)) (get xs p) ≡ Some y → cond b (Some (created ts target range)) (get xs q) ≡ Some z
         → y.table ≡ z.table → y.column ≡ z.column → p ≡ q
     one p q y z true h true k e f same same' = list_from_same p i h ∙ sym (list_from_same q i k)
     one p q y z true h false k e f same same' =

@@ -11,7 +11,7 @@ use Rattle.ct_bytes.specs.laws.RowKeys.{length-row_bytes}
 use Rattle.ct_keep.specs.Changes.{AreWell}
 use Rattle.ct_entry.specs.declared.kinds.Kind.{Kind}
 use Rattle.ct_entry.specs.declared.kinds.Kind.TheVariants as kind
-use Rattle.ct_entry.specs.Keys.{Key, key, bytes, IsRow, IsKey}
+use Rattle.ct_entry.specs.Keys.{Key, key, IsRow, IsKey}
 use Rattle.ct_entry.specs.Maps.{Names}
 use Rattle.ct_entry.specs.Changes.{put, spell, AreChanges, AllOf, Puts, AllPut}
 use Rattle.ct_entry.specs.Each.{each}
@@ -22,16 +22,16 @@ use Rattle.tb_table.specs.Tables.{Tables}
 use Rattle.tb_table.specs.Rules.{AreTables}
 use Rattle.ix_posting.specs.Rows.{steps, varints, posting_bytes}
 use Rattle.ix_context.specs.declared.ranges.KeyRange.{KeyRange}
-use Rattle.ix_context.specs.Postings.{postings_of}
-use Rattle.ix_context.specs.TokenLaws.{IsPosting, postings_fit, postings_few}
+use Rattle.ix_context.specs.Postings.{postings_of, IsPosting}
+use Rattle.ix_context.specs.laws.Tokens.{postings_fit, postings_few}
 use Rattle.ix_context.specs.Indexes.{Index, is_marked, pending_rows, text_seen, synced_index, rows_in, created, target_text}
 use Rattle.ix_context.specs.Rules.{AreIndexes, most_given}
-use Rattle.ix_context.specs.Spelling.{index_bytes, behind_table, index_entry}
+use Rattle.ix_context.specs.Spelling.{index_bytes, after_table, index_entry, is_of_indexes}
 use Rattle.ix_context.specs.Changes.{note_insert_changes, posting_change, text_changes, document_changes, mark_changes, settle_changes, numbered, sync_rows_changes, sync_changes, create_changes}
-use Rattle.ix_context.specs.Standing.{is_of_indexes}
-use Rattle.ix_context.specs.MarkLaws.{EachRow}
-use Rattle.ix_context.specs.ChangeLaws.{pending_free, no_marks, rows_free}
-use Rattle.ix_context.specs.ReadLaws.{target_short, target_of}
+use Rattle.ix_context.specs.laws.Marks.{EachRow}
+use Rattle.ix_context.specs.laws.Changes.{pending_free, no_marks, rows_free}
+use Rattle.ix_context.specs.laws.Reading.{target_short, target_of}
+use Rattle.ix_context.specs.Promises.{TakesIndexes, NotesAreWell, SyncsAreWell, CreatesAreWell}
 
 -- ---- changes on entries of indexes
 
@@ -53,10 +53,6 @@ are_changes (w ∷ ws) are = (are.0.key, are_changes ws are.1)
 pub all_of_indexes : (ws : List (Key × Option (List ℕ))) → AreIndexChanges ws → AllOf is_of_indexes ws
 all_of_indexes [] are = tt
 all_of_indexes (w ∷ ws) are = (are.0.of, all_of_indexes ws are.1)
-
--- the keeper may hold whatever entries of indexes
-abbrev pub TakesIndexes : (List ℕ → List ℕ → Bool) → Type 0
-TakesIndexes well = (k : Key) (value : List ℕ) → is_of_indexes k.kind ≡ true → well (bytes k) value ≡ true
 
 short_kind : (k : Kind) → is_of_indexes k ≡ true → is_short k ≡ true
 short_kind kind.Catalogue of = cc
@@ -80,9 +76,12 @@ index_changes-append [] ys a b = b
 index_changes-append (x ∷ xs) ys a b = (a.0, index_changes-append xs ys a.1 b)
 
 -- changes for each of some rows with their documents
-pub index_changes-each : (changes : ℕ × ℤ → List (Key × Option (List ℕ))) → ((d : ℕ) (r : ℤ) → d < 2 ^ 32 → IsRow r → AreIndexChanges (changes (d, r))) → (rows : List ℤ) (d : ℕ) → d + length rows ≤ 2 ^ 32 → EachRow IsRow rows → AreIndexChanges (each changes (numbered d rows))
+pub index_changes-each : (changes : ℕ × ℤ → List (Key × Option (List ℕ)))
+    → ((d : ℕ) (r : ℤ) → d < 2 ^ 32 → IsRow r → AreIndexChanges (changes (d, r))) → (rows : List ℤ) (d : ℕ) → d + length rows ≤ 2 ^ 32
+    → EachRow IsRow rows → AreIndexChanges (each changes (numbered d rows))
 index_changes-each changes one [] d few are = tt
-index_changes-each changes one (r ∷ rs) d few are = index_changes-append (changes (d, r)) (each changes (numbered (d + 1) rs)) (one d r (omega arith) are.0) (index_changes-each changes one rs (d + 1) (omega arith) are.1)
+index_changes-each changes one (r ∷ rs) d few are =
+    index_changes-append (changes (d, r)) (each changes (numbered (d + 1) rs)) (one d r (omega arith) are.0) (index_changes-each changes one rs (d + 1) (omega arith) are.1)
 
 -- ---- values
 
@@ -110,7 +109,7 @@ length-one_row_le d ps =
 
 length-entry_le : (t : List ℕ) (c n : ℕ) → IsName t → length (index_bytes t c n) ≤ 51
 length-entry_le t c n name =
-    let front = length-append (text_bytes t) (behind_table c n) in
+    let front = length-append (text_bytes t) (after_table c n) in
     let text = length-append (varint (length t)) t in
     let count = varint_length (length t) in
     let short = (name_length t name).1 in
@@ -123,7 +122,8 @@ abbrev pub IsTableText : Option (List ℕ) → Type 0
 IsTableText None = Unit {0}
 IsTableText (Some text) = length text ≤ 4000
 
-posting_changes : (i : List ℕ) (d : ℕ) (es : List (List ℕ × List ℕ)) → IsName i → d < 2 ^ 32 → All IsPosting es → All (λ e. length e.1 ≤ 4000) es → AreIndexChanges (map (posting_change i d) es)
+posting_changes : (i : List ℕ) (d : ℕ) (es : List (List ℕ × List ℕ)) → IsName i → d < 2 ^ 32 → All IsPosting es → All (λ e. length e.1 ≤ 4000) es
+    → AreIndexChanges (map (posting_change i d) es)
 posting_changes i d [] name doc fit few = tt
 posting_changes i d (e ∷ es) name doc fit few =
     let here = All-head IsPosting e es fit in
@@ -136,14 +136,16 @@ posting_changes i d (e ∷ es) name doc fit few =
 few_of_text : (text : List ℕ) → length text ≤ 4000 → All (λ (e : List ℕ × List ℕ). length e.1 ≤ 4000) (entries (postings_of text))
 few_of_text text short = λ k e less. let few = postings_few text k e less in omega (arith, few)
 
-words_of_text : (i : List ℕ) (d : ℕ) (text : Option (List ℕ)) → IsName i → d < 2 ^ 32 → IsTableText text → AreIndexChanges (text_changes i d text)
-words_of_text i d None name doc short = tt
-words_of_text i d (Some text) name doc short = posting_changes i d (entries (postings_of text)) name doc (postings_fit text (omega arith)) (few_of_text text short)
+changes_of_text : (i : List ℕ) (d : ℕ) (text : Option (List ℕ)) → IsName i → d < 2 ^ 32 → IsTableText text → AreIndexChanges (text_changes i d text)
+changes_of_text i d None name doc short = tt
+changes_of_text i d (Some text) name doc short =
+    posting_changes i d (entries (postings_of text)) name doc (postings_fit text (omega arith)) (few_of_text text short)
 
-pub index_changes_document : (i : List ℕ) (d : ℕ) (r : ℤ) (text : Option (List ℕ)) → IsName i → d < 2 ^ 32 → IsRow r → IsTableText text → AreIndexChanges (document_changes i d r text)
+pub index_changes_document : (i : List ℕ) (d : ℕ) (r : ℤ) (text : Option (List ℕ)) → IsName i → d < 2 ^ 32 → IsRow r → IsTableText text
+    → AreIndexChanges (document_changes i d r text)
 index_changes_document i d r text name doc row short = (
   record { key = record { owner = name; part = (d, doc, refl) }; of = refl; bounded = let eight = length-row_bytes r in omega (arith, eight) },
-  (record { key = record { owner = name; part = (r, row, refl) }; of = refl; bounded = omega arith }, words_of_text i d text name doc short),
+  (record { key = record { owner = name; part = (r, row, refl) }; of = refl; bounded = omega arith }, changes_of_text i d text name doc short),
 )
 
 target_is_table_text : (ts : Tables) → AreTables ts → (target : Target) (r : ℤ) → IsTableText (target_text ts target r)
@@ -159,14 +161,17 @@ pub index_changes_note : (i : List ℕ) (r : ℤ) → IsName i → IsRow r → A
 index_changes_note i r name row = (record { key = record { owner = name; part = (r, row, refl) }; of = refl; bounded = omega arith }, tt)
 
 entry_change : (i : List ℕ) (t : List ℕ) (c n : ℕ) → IsName i → IsName t → IsIndexChange (put (key kind.Indexes i []) (index_bytes t c n))
-entry_change i t c n name table = record { key = record { owner = name; part = refl }; of = refl; bounded = let long = length-entry_le t c n table in omega (arith, long) }
+entry_change i t c n name table =
+    record { key = record { owner = name; part = refl }; of = refl; bounded = let long = length-entry_le t c n table in omega (arith, long) }
 
 each_row : (P : ℤ → Type 0) (rows : List ℤ) → EachRow (λ s. IsRow s × P s) rows → EachRow IsRow rows
 each_row P [] each = tt
 each_row P (r ∷ rs) each = (each.0.0, each_row P rs each.1)
 
-pub index_changes_sync : (ts : Tables) (xs : Names Index) (i : List ℕ) (x : Index) → AreTables ts → AreIndexes ts xs → get xs i ≡ Some x → x.given + length (pending_rows x) ≤ most_given → AreIndexChanges (sync_changes ts i x)
-index_changes_sync ts xs i x are rules is room = go (pending_rows x) (each_row (λ s. not (is_marked (get x.marks s)) ≡ true) (pending_rows x) (pending_free ts x are (rules.each i x is))) room
+pub index_changes_sync : (ts : Tables) (xs : Names Index) (i : List ℕ) (x : Index) → AreTables ts → AreIndexes ts xs → get xs i ≡ Some x
+    → x.given + length (pending_rows x) ≤ most_given → AreIndexChanges (sync_changes ts i x)
+index_changes_sync ts xs i x are rules is room =
+    go (pending_rows x) (each_row (λ s. not (is_marked (get x.marks s)) ≡ true) (pending_rows x) (pending_free ts x are (rules.each i x is))) room
   where
     one : (d : ℕ) (r : ℤ) → d < 2 ^ 32 → IsRow r → AreIndexChanges (settle_changes ts i x (d, r))
     one d r doc row = (
@@ -183,7 +188,8 @@ index_changes_sync ts xs i x are rules is room = go (pending_rows x) (each_row (
         index_changes-append (each (settle_changes ts i x) (numbered (x.given + 1) (r ∷ rs))) (put (key kind.Indexes i []) (index_entry (synced_index x)) ∷ []) (index_changes-each (settle_changes ts i x) one (r ∷ rs) (x.given + 1) (omega arith) rows_are)
         (entry_change i x.table x.column (x.given + length (pending_rows x) + 1) (rules.names i x is) table, tt)
 
-pub index_changes_create : (ts : Tables) (i : List ℕ) (target : Target) (range : KeyRange) → AreTables ts → IsName i → IsName target.table → length (rows_in ts target.table range) ≤ most_given → AreIndexChanges (create_changes ts i target range)
+pub index_changes_create : (ts : Tables) (i : List ℕ) (target : Target) (range : KeyRange) → AreTables ts → IsName i → IsName target.table
+    → length (rows_in ts target.table range) ≤ most_given → AreIndexChanges (create_changes ts i target range)
 index_changes_create ts i target range are name table room = (
   entry_change i target.table target.column (length (rows_in ts target.table range) + 1) name table,
   index_changes-each (λ (p : ℕ × ℤ). mark_changes ts i (created ts target range) p.0 p.1) (λ d r doc row. index_changes_document i d r (target_text ts target r) name doc row (target_is_table_text ts are target r)) (rows_in ts target.table range) 1 (omega arith)
@@ -192,16 +198,6 @@ index_changes_create ts i target range are name table room = (
 
 -- ---- the laws
 
--- what the changes of a note, a synchronisation and a new index put may be committed
-abbrev pub NotesAreWell : Type 0
-NotesAreWell = (well : List ℕ → List ℕ → Bool) (i : List ℕ) (r : ℤ) → TakesIndexes well → IsName i → IsRow r → AreWell well (spell (note_insert_changes i r))
-
-abbrev pub SyncsAreWell : Type 0
-SyncsAreWell = (well : List ℕ → List ℕ → Bool) (ts : Tables) (xs : Names Index) (i : List ℕ) (x : Index) → TakesIndexes well → AreTables ts → AreIndexes ts xs → get xs i ≡ Some x → x.given + length (pending_rows x) ≤ most_given → AreWell well (spell (sync_changes ts i x))
-
-abbrev pub CreatesAreWell : Type 0
-CreatesAreWell = (well : List ℕ → List ℕ → Bool) (ts : Tables) (i : List ℕ) (target : Target) (range : KeyRange) → TakesIndexes well → AreTables ts → IsName i → IsName target.table → length (rows_in ts target.table range) ≤ most_given → AreWell well (spell (create_changes ts i target range))
-
 pub well_note : NotesAreWell
 well_note well i r takes name row = well_changes well (note_insert_changes i r) takes (index_changes_note i r name row)
 
@@ -209,4 +205,5 @@ pub well_sync : SyncsAreWell
 well_sync well ts xs i x takes are rules is room = well_changes well (sync_changes ts i x) takes (index_changes_sync ts xs i x are rules is room)
 
 pub well_create : CreatesAreWell
-well_create well ts i target range takes are name table room = well_changes well (create_changes ts i target range) takes (index_changes_create ts i target range are name table room)
+well_create well ts i target range takes are name table room =
+    well_changes well (create_changes ts i target range) takes (index_changes_create ts i target range are name table room)

@@ -25,10 +25,10 @@ use Rattle.tb_table.specs.Readings.{SpellsText}
 use Rattle.tb_table.specs.laws.Reading.{text_read, row_of_table}
 use Rattle.ix_context.specs.Indexes.{Index, Mark, mark_of, pending_rows, target_text}
 use Rattle.ix_context.specs.Rules.{IsTarget, HasTextAt}
-use Rattle.ix_context.specs.Spelling.{index_bytes, index_entry, behind_table, queued, SpellsIndex}
-use Rattle.ix_context.specs.Standing.{stand_at}
-use Rattle.ix_context.specs.ChangeLaws.{mark_is_row, pending_rows-where}
-use Rattle.ix_context.specs.TokenLaws.{HasShortText}
+use Rattle.ix_context.specs.Spelling.{index_bytes, index_entry, after_table, queued, SpellsIndex}
+use Rattle.ix_context.specs.laws.Standing.{stand_at}
+use Rattle.ix_context.specs.laws.Changes.{mark_is_row, pending_rows-where}
+use Rattle.ix_context.specs.Postings.{HasShortText}
 use Rattle.ix_context.specs.Stands.{HoldsTables, HoldsIndexes}
 
 -- ---- the entry of an index
@@ -48,7 +48,7 @@ column_few ts are t column is =
 -- no other target and document have the same bytes
 pub index_bytes_one : (t u : List ℕ) (c d n k : ℕ) → n < 2 ^ 32 → k < 2 ^ 32 → index_bytes t c n ≡ index_bytes u d k → (t ≡ u) × (c ≡ d) × (n ≡ k)
 index_bytes_one t u c d n k small small' e =
-    let tables = text_apart t u (behind_table c n) (behind_table d k) (cons_parts 1 1 (text_bytes t ++ behind_table c n) (text_bytes u ++ behind_table d k) e).1 in
+    let tables = text_apart t u (after_table c n) (after_table d k) (cons_parts 1 1 (text_bytes t ++ after_table c n) (text_bytes u ++ after_table d k) e).1 in
     let columns = cons_parts c d _ _ tables.1 in
     let next : to_be_bytes w32 n ≡ to_be_bytes w32 k = ap (λ (l : List ℕ). take 4 (drop 8 l)) tables.1 in
     (tables.0, columns.0, four_bytes_one n k small small' next)
@@ -58,7 +58,8 @@ abbrev pub target_of : Index → Target
 target_of x = record { table = x.table; column = x.column }
 
 -- an index is read as its target and its next document
-pub index_read : (m : Content) (ts : Tables) (xs : Names Index) → HoldsIndexes m ts xs → (i : List ℕ) (x : Index) → get xs i ≡ Some x → (found : Option (Target × ℕ)) → SpellsIndex (at m (key kind.Indexes i [])) found → found ≡ Some (target_of x, x.given + 1)
+pub index_read : (m : Content) (ts : Tables) (xs : Names Index) → HoldsIndexes m ts xs → (i : List ℕ) (x : Index) → get xs i ≡ Some x
+    → (found : Option (Target × ℕ)) → SpellsIndex (at m (key kind.Indexes i [])) found → found ≡ Some (target_of x, x.given + 1)
 index_read m ts xs holds i x is found spelt = go found spelt
   where
     entry : at m (key kind.Indexes i []) ≡ Some (index_entry x)
@@ -79,7 +80,8 @@ index_read m ts xs holds i x is found spelt = go found spelt
 -- ---- the queue
 
 -- the rows in the queue are those that wait
-pub pending_read : (m : Content) (ts : Tables) (xs : Names Index) → HoldsIndexes m ts xs → (i : List ℕ) (x : Index) → get xs i ≡ Some x → rows_under kind.Pending i m ≡ pending_rows x
+pub pending_read : (m : Content) (ts : Tables) (xs : Names Index) → HoldsIndexes m ts xs → (i : List ℕ) (x : Index) → get xs i ≡ Some x
+    → rows_under kind.Pending i m ≡ pending_rows x
 pending_read m ts xs holds i x is =
     rows_listed (λ (o : Mark). queued (Some o)) m kind.Pending i x.marks holds.tables.only (λ q p. p)
     (λ r o e. mark_is_row ts x holds.tables.rules (holds.rules.each i x is) r (ap is_some e))
@@ -93,7 +95,9 @@ pending_read m ts xs holds i x is =
 -- ---- texts
 
 -- the text that is read is that of the row in the column
-pub target_read : (m : Content) (ts : Tables) → HoldsTables m ts → (target : Target) (r : ℤ) → target.column < 256 → IsRow r → (found : Option (List ℕ)) → SpellsText (at m (key kind.RowTexts target.table (text_part target.column r))) found → found ≡ target_text ts target r
+pub target_read : (m : Content) (ts : Tables) → HoldsTables m ts → (target : Target) (r : ℤ) → target.column < 256 → IsRow r
+    → (found : Option (List ℕ)) → SpellsText (at m (key kind.RowTexts target.table (text_part target.column r))) found
+    → found ≡ target_text ts target r
 target_read m ts holds target r few row found spelt = text_read (at m) ts holds.stand holds.rules target.table target.column r few row found spelt
 
 -- the texts of rows have at most 4000 bytes

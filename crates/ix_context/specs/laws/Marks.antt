@@ -25,11 +25,11 @@ use Rattle.ct_entry.specs.laws.Rows.{keys_below, keys_rise}
 use Rattle.ct_entry.specs.laws.Changes.{told_frame, view-append}
 use Rattle.ix_posting.specs.Rows.{posting_bytes}
 use Rattle.ix_context.specs.Postings.{positions, postings_of, if_any}
-use Rattle.ix_context.specs.PostingLaws.{get-postings_of}
+use Rattle.ix_context.specs.laws.Postings.{get-postings_of}
 use Rattle.ix_context.specs.Indexes.{Mark, Marked, is_marked}
 use Rattle.ix_context.specs.Spelling.{queued, posting_value}
 use Rattle.ix_context.specs.Changes.{posting_change, text_changes, document_changes, numbered}
-use Rattle.ix_context.specs.Standing.{AreNumbers, RowsStand, MarksStand}
+use Rattle.ix_context.specs.laws.Standing.{AreNumbers, RowsStand, MarksStand}
 
 -- ---- the kinds of a document's changes
 
@@ -69,7 +69,8 @@ one_row d ps = Some (posting_bytes (record { document = d; positions = ps } ∷ 
 
 same_posting : (i : List ℕ) (s s' : ℕ) (token token' : List ℕ) (d d' : ℕ) → IsDocument d → IsDocument d'
     → same_key (key kind.Postings i (posting_part s token d)) (key kind.Postings i (posting_part s' token' d')) ≡ ((s == s') && (same_list token token' && (d == d')))
-same_posting i s s' token token' d d' doc doc' = same_own kind.Postings i (posting_part s token d) (posting_part s' token' d') ∙ postings_tie s s' token token' d d' doc doc'
+same_posting i s s' token token' d d' doc doc' =
+    same_own kind.Postings i (posting_part s token d) (posting_part s' token' d') ∙ postings_tie s s' token token' d d' doc doc'
 
 -- a key's row of postings in the document
 told_posting_of : (i : List ℕ) (d : ℕ) (t token : List ℕ) (old : Option (List ℕ)) → IsDocument d
@@ -86,7 +87,8 @@ told_posting_of i d t token old doc =
     here false b h = refl
 
 -- and all others, which stay
-told_other_posting : (i : List ℕ) (d : ℕ) (text : Option (List ℕ)) (s : ℕ) (token : List ℕ) (e : ℕ) (old : Option (List ℕ)) → IsDocument d → IsDocument e → ((s == 0) && (e == d)) ≡ false
+told_other_posting : (i : List ℕ) (d : ℕ) (text : Option (List ℕ)) (s : ℕ) (token : List ℕ) (e : ℕ) (old : Option (List ℕ)) → IsDocument d
+    → IsDocument e → ((s == 0) && (e == d)) ≡ false
     → told (text_changes i d text) (key kind.Postings i (posting_part s token e)) old ≡ old
 told_other_posting i d None s token e old doc doc' other = refl
 told_other_posting i d (Some t) s token e old doc doc' other =
@@ -113,7 +115,8 @@ abbrev with_row_of : ℕ → ℤ → (ℕ → Option ℤ) → ℕ → Option ℤ
 with_row_of d r row e = cond (e == d) (Some r) (row e)
 
 -- no row has a document that wasn't given
-pub not_given : (mark : ℤ → Option Mark) (given : ℕ) (document : ℤ → Option ℕ) (row : ℕ → Option ℤ) → AreNumbers mark given document row → (d : ℕ) → given < d → row d ≡ None
+pub not_given : (mark : ℤ → Option Mark) (given : ℕ) (document : ℤ → Option ℕ) (row : ℕ → Option ℤ) → AreNumbers mark given document row → (d : ℕ)
+    → given < d → row d ≡ None
 not_given mark given document row are d more = go (row d) refl
   where
     go : (o : Option ℤ) → row d ≡ o → o ≡ None
@@ -121,7 +124,8 @@ not_given mark given document row are d more = go (row d) refl
     go (Some r) is = let within = (are.within r d (are.back r d is)).1 in absurd (omega (arith, within))
 
 -- a row gets the next document
-more_numbers : (mark : ℤ → Option Mark) (given : ℕ) (document : ℤ → Option ℕ) (row : ℕ → Option ℤ) (r : ℤ) → is_marked (mark r) ≡ false → AreNumbers mark given document row
+more_numbers : (mark : ℤ → Option Mark) (given : ℕ) (document : ℤ → Option ℕ) (row : ℕ → Option ℤ) (r : ℤ) → is_marked (mark r) ≡ false
+    → AreNumbers mark given document row
     → AreNumbers (with_mark r (Some Marked) mark) (given + 1) (with_document r (given + 1) document) (with_row_of (given + 1) r row)
 more_numbers mark given document row r free are = record {
   marked = λ s. marked s (int_eq s r) (are.marked s);
@@ -130,7 +134,8 @@ more_numbers mark given document row r free are = record {
   within = λ s e. within s e (int_eq s r);
 }
   where
-    marked : (s : ℤ) (b : Bool) → is_some (document s) ≡ is_marked (mark s) → is_some (cond b (Some (given + 1)) (document s)) ≡ is_marked (cond b (Some Marked) (mark s))
+    marked : (s : ℤ) (b : Bool) → is_some (document s) ≡ is_marked (mark s)
+        → is_some (cond b (Some (given + 1)) (document s)) ≡ is_marked (cond b (Some Marked) (mark s))
     marked s true h = refl
     marked s false h = h
 
@@ -186,7 +191,8 @@ rows_marked f i text mark given document row r is_row free room are stand = reco
     at_row true o = refl
     at_row false o = refl
 
-    at_document : (b : Bool) (o : Option ℕ) → cond b (Some (to_be_bytes w32 (given + 1))) (option_map (to_be_bytes w32) o) ≡ option_map (to_be_bytes w32) (cond b (Some (given + 1)) o)
+    at_document : (b : Bool) (o : Option ℕ)
+        → cond b (Some (to_be_bytes w32 (given + 1))) (option_map (to_be_bytes w32) o) ≡ option_map (to_be_bytes w32) (cond b (Some (given + 1)) o)
     at_document true o = refl
     at_document false o = refl
 
@@ -198,7 +204,8 @@ rows_marked f i text mark given document row r is_row free room are stand = reco
     any_row [] = refl
     any_row (p ∷ ps) = refl
 
-    new_posting : (token : List ℕ) (t : Option (List ℕ)) → told (text_changes i (given + 1) t) (key kind.Postings i (posting_part 0 token (given + 1))) None ≡ option_and_then (λ t. posting_value (given + 1) (positions token t)) t
+    new_posting : (token : List ℕ) (t : Option (List ℕ))
+        → told (text_changes i (given + 1) t) (key kind.Postings i (posting_part 0 token (given + 1))) None ≡ option_and_then (λ t. posting_value (given + 1) (positions token t)) t
     new_posting token None = refl
     new_posting token (Some t) = told_posting_of i (given + 1) t token None room ∙ any_row (positions token t)
 
@@ -223,7 +230,8 @@ rows_marked f i text mark given document row r is_row free room are stand = reco
         ∙ ap (λ (b : Bool). option_and_then (λ t. posting_value e (positions token t)) (option_and_then text (cond b (Some r) (row e)))) (sym h)
 
 pub marks_marked : (f : Key → Option (List ℕ)) (i : List ℕ) (text : ℤ → Option (List ℕ)) (mark : ℤ → Option Mark) (given : ℕ) (r : ℤ)
-    → IsRow r → mark r ≡ None → given + 1 < 2 ^ 32 → MarksStand f i text mark given → MarksStand (view (document_changes i (given + 1) r (text r)) f) i text (with_mark r (Some Marked) mark) (given + 1)
+    → IsRow r → mark r ≡ None → given + 1 < 2 ^ 32 → MarksStand f i text mark given
+    → MarksStand (view (document_changes i (given + 1) r (text r)) f) i text (with_mark r (Some Marked) mark) (given + 1)
 marks_marked f i text mark given r is_row free room marks = record {
   document = with_document r (given + 1) marks.document;
   row = with_row_of (given + 1) r marks.row;
@@ -235,7 +243,8 @@ marks_marked f i text mark given r is_row free room marks = record {
 
 -- a row without a document has this in the queue now
 pub marks_queued : (f : Key → Option (List ℕ)) (i : List ℕ) (text : ℤ → Option (List ℕ)) (mark : ℤ → Option Mark) (given : ℕ) (r : ℤ) (m : Option Mark)
-    → IsRow r → is_marked (mark r) ≡ false → is_marked m ≡ false → MarksStand f i text mark given → MarksStand (view ((key kind.Pending i (row_part r), queued m) ∷ []) f) i text (with_mark r m mark) given
+    → IsRow r → is_marked (mark r) ≡ false → is_marked m ≡ false → MarksStand f i text mark given
+    → MarksStand (view ((key kind.Pending i (row_part r), queued m) ∷ []) f) i text (with_mark r m mark) given
 marks_queued f i text mark given r m is_row free unmarked marks = record {
   document = marks.document;
   row = marks.row;
@@ -285,7 +294,8 @@ EachRow P (r ∷ rs) = P r × EachRow P rs
 -- what holds of whatever is among them
 pub each_among : (P : ℤ → Type 0) (rows : List ℤ) → ((r : ℤ) → list_any (int_eq r) rows ≡ true → P r) → EachRow P rows
 each_among P [] among = tt
-each_among P (r ∷ rs) among = (among r (ap (λ (b : Bool). b || list_any (int_eq r) rs) (int_same r)), each_among P rs (λ s there. among s (later (int_eq s r) (list_any (int_eq s) rs) there)))
+each_among P (r ∷ rs) among =
+    (among r (ap (λ (b : Bool). b || list_any (int_eq r) rs) (int_same r)), each_among P rs (λ s there. among s (later (int_eq s r) (list_any (int_eq s) rs) there)))
   where
     later : (a b : Bool) → b ≡ true → (a || b) ≡ true
     later true b h = refl
@@ -316,7 +326,8 @@ above_apart r s low = go (int_eq s r) refl
     go false h = refl
 
 -- a mark of a row leaves those of the rows above it
-still_free : (free : Option Mark → Bool) (mark : ℤ → Option Mark) (r : ℤ) (rows : List ℤ) → keys_below int_cmp r rows ≡ true → EachRow (λ s. IsRow s × (free (mark s) ≡ true)) rows → EachRow (λ s. IsRow s × (free (with_mark r (Some Marked) mark s) ≡ true)) rows
+still_free : (free : Option Mark → Bool) (mark : ℤ → Option Mark) (r : ℤ) (rows : List ℤ) → keys_below int_cmp r rows ≡ true
+    → EachRow (λ s. IsRow s × (free (mark s) ≡ true)) rows → EachRow (λ s. IsRow s × (free (with_mark r (Some Marked) mark s) ≡ true)) rows
 still_free free mark r [] low all = tt
 still_free free mark r (s ∷ rows) low all =
     let b = and_parts (is_lt (int_cmp r s)) (keys_below int_cmp r rows) low in
@@ -325,9 +336,11 @@ still_free free mark r (s ∷ rows) low all =
 -- changes that mark one row with the next document mark several, one after the other
 pub marks_all : (changes : ℕ × ℤ → List (Key × Option (List ℕ))) (i : List ℕ) (text : ℤ → Option (List ℕ)) (free : Option Mark → Bool)
     → ((f : Key → Option (List ℕ)) (mark : ℤ → Option Mark) (given : ℕ) (r : ℤ) → IsRow r → free (mark r) ≡ true → given + 1 < 2 ^ 32 → MarksStand f i text mark given → MarksStand (view (changes (given + 1, r)) f) i text (with_mark r (Some Marked) mark) (given + 1))
-    → (rows : List ℤ) (f : Key → Option (List ℕ)) (mark : ℤ → Option Mark) (given : ℕ) → keys_rise int_cmp rows ≡ true → EachRow (λ s. IsRow s × (free (mark s) ≡ true)) rows → given + length rows < 2 ^ 32 → MarksStand f i text mark given
+    → (rows : List ℤ) (f : Key → Option (List ℕ)) (mark : ℤ → Option Mark) (given : ℕ) → keys_rise int_cmp rows ≡ true
+    → EachRow (λ s. IsRow s × (free (mark s) ≡ true)) rows → given + length rows < 2 ^ 32 → MarksStand f i text mark given
     → MarksStand (view (each changes (numbered (given + 1) rows)) f) i text (marked_in rows mark) (given + length rows)
-marks_all changes i text free step [] f mark given rise all room marks = let none : given ≡ given + 0 = omega arith in subst (MarksStand f i text mark) none marks
+marks_all changes i text free step [] f mark given rise all room marks =
+    let none : given ≡ given + 0 = omega arith in subst (MarksStand f i text mark) none marks
 marks_all changes i text free step (r ∷ rs) f mark given rise all room marks =
     let b = and_parts (keys_below int_cmp r rs) (keys_rise int_cmp rs) rise in
     let one = step f mark given r all.0.0 all.0.1 (omega arith) marks in

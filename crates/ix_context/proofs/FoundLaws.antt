@@ -1,5 +1,5 @@
 -- What a query finds, row by row: which rows are listed, with which score.
-use Rattle.std.proofs.Common.{◌≡◌, ◌↔◌, ℕ, ℤ, ◌<◌, Bool, true, false, cond, List, [], ◌∷◌, Contains, Option, Some, None, refl, sym, ap, ◌∙◌}
+use Rattle.std.proofs.Common.{◌≡◌, ℕ, ℤ, Bool, true, false, cond, List, [], ◌∷◌, Option, Some, None, refl, sym, ap, ◌∙◌}
 use Rattle.std.specs.Prelude.{nat_lt}
 use Rattle.std.specs.Bool.{if◌then◌else◌}
 use Rattle.std.specs.Option.{option_map, option_and_then}
@@ -14,25 +14,8 @@ use Rattle.ct_entry.specs.laws.Rising.{pair_found, found_pair}
 use Rattle.tb_table.specs.Tables.{Tables}
 use Rattle.ix_context.specs.Postings.{word_score}
 use Rattle.ix_context.specs.Indexes.{Index, Mark, Pending, Marked, text_seen, scored, found_at, found}
-use Rattle.ix_context.specs.Picked.{picked, find_picked, picked_rise}
-
--- The row is marked, the index sees a text of it, and the word has this score on the text, which is above n.
-pub record IsFound (ts : Tables) (x : Index) (key : List ℕ) (n : ℕ) (r : ℤ) (score : ℕ) : Type 0 where
-  pub marked : get x.marks r ≡ Some Marked
-  pub text : List ℕ
-  pub seen : text_seen ts x r ≡ Some text
-  pub scores : score ≡ word_score key text
-  pub above : n < score
-
--- ---- the laws
-
--- Exactly the rows that are so are listed, each with its score.
-abbrev pub FoundIsExact : Type 0
-FoundIsExact = (ts : Tables) (x : Index) (key : List ℕ) (n : ℕ) (r : ℤ) (score : ℕ) → Contains (found ts x key n) (r, score) ↔ IsFound ts x key n r score
-
--- Their keys strictly rise, so none is listed twice.
-abbrev pub FoundRises : Type 0
-FoundRises = (ts : Tables) (x : Index) (key : List ℕ) (n : ℕ) → rises int_cmp (found ts x key n) ≡ true
+use Rattle.ix_context.proofs.MappedEntries.{mapped_entries, find_mapped, mapped_rise}
+use Rattle.ix_context.specs.Promises.{IsFound, FoundIsExact, FoundRises}
 
 -- ---- their proofs
 
@@ -45,7 +28,8 @@ abbrev score_at : Tables → Index → List ℕ → ℕ → ℤ → Mark → Opt
 score_at ts x key n r Pending = None
 score_at ts x key n r Marked = option_and_then (λ text. score_above n (word_score key text)) (text_seen ts x r)
 
-at_row : (ts : Tables) (x : Index) (key : List ℕ) (n : ℕ) (r : ℤ) (m : Mark) → found_at ts x key n r m ≡ option_map {U = ℤ × ℕ} (λ s. (r, s)) (score_at ts x key n r m)
+at_row : (ts : Tables) (x : Index) (key : List ℕ) (n : ℕ) (r : ℤ) (m : Mark)
+    → found_at ts x key n r m ≡ option_map {U = ℤ × ℕ} (λ s. (r, s)) (score_at ts x key n r m)
 at_row ts x key n r Pending = refl
 at_row ts x key n r Marked = go (text_seen ts x r)
   where
@@ -57,37 +41,41 @@ at_row ts x key n r Marked = go (text_seen ts x r)
     go None = refl
     go (Some text) = above (nat_lt n (word_score key text)) (word_score key text)
 
-as_picked : (ts : Tables) (x : Index) (key : List ℕ) (n : ℕ) (es : List (ℤ × Mark)) → filter_map (λ e. found_at ts x key n e.0 e.1) es ≡ picked (score_at ts x key n) es
-as_picked ts x key n [] = refl
-as_picked ts x key n (e ∷ es) =
+as_mapped : (ts : Tables) (x : Index) (key : List ℕ) (n : ℕ) (es : List (ℤ × Mark))
+    → filter_map (λ e. found_at ts x key n e.0 e.1) es ≡ mapped_entries (score_at ts x key n) es
+as_mapped ts x key n [] = refl
+as_mapped ts x key n (e ∷ es) =
     ap (λ (o : Option (ℤ × ℕ)). cons_option o (filter_map (λ e. found_at ts x key n e.0 e.1) es)) (at_row ts x key n e.0 e.1)
-    ∙ ap (cons_option (option_map {U = ℤ × ℕ} (λ s. (e.0, s)) (score_at ts x key n e.0 e.1))) (as_picked ts x key n es)
+    ∙ ap (cons_option (option_map {U = ℤ × ℕ} (λ s. (e.0, s)) (score_at ts x key n e.0 e.1))) (as_mapped ts x key n es)
 
 pub found_rises : FoundRises
 found_rises ts x key n =
-    ap (rises int_cmp) (as_picked ts x key n (entries x.marks))
-    ∙ picked_rise int_cmp int_cmp_total int_cmp-IsAntisymmetric (score_at ts x key n) (entries x.marks) (entries_rise int_cmp x.marks)
+    ap (rises int_cmp) (as_mapped ts x key n (entries x.marks))
+    ∙ mapped_rise int_cmp int_cmp_total int_cmp-IsAntisymmetric (score_at ts x key n) (entries x.marks) (entries_rise int_cmp x.marks)
 
 -- what the list has at a row
 at_key : (ts : Tables) (x : Index) (key : List ℕ) (n : ℕ) (r : ℤ) → find int_cmp r (found ts x key n) ≡ option_and_then (score_at ts x key n r) (get x.marks r)
 at_key ts x key n r =
-    ap (find int_cmp r) (as_picked ts x key n (entries x.marks))
-    ∙ find_picked int_cmp int_cmp_total int_cmp-IsAntisymmetric (score_at ts x key n) r (entries x.marks) (entries_rise int_cmp x.marks)
+    ap (find int_cmp r) (as_mapped ts x key n (entries x.marks))
+    ∙ find_mapped int_cmp int_cmp_total int_cmp-IsAntisymmetric (score_at ts x key n) r (entries x.marks) (entries_rise int_cmp x.marks)
     ∙ ap (option_and_then (score_at ts x key n r)) (sym (get-entries x.marks r))
 
-is_found : (ts : Tables) (x : Index) (key : List ℕ) (n : ℕ) (r : ℤ) (score : ℕ) → (o : Option Mark) → get x.marks r ≡ o → option_and_then (score_at ts x key n r) o ≡ Some score → IsFound ts x key n r score
+is_found : (ts : Tables) (x : Index) (key : List ℕ) (n : ℕ) (r : ℤ) (score : ℕ) → (o : Option Mark) → get x.marks r ≡ o
+    → option_and_then (score_at ts x key n r) o ≡ Some score → IsFound ts x key n r score
 is_found ts x key n r score None at is = absurd (cc)
 is_found ts x key n r score (Some Pending) at is = absurd (cc)
 is_found ts x key n r score (Some Marked) at is = by_text (text_seen ts x r) refl is
   where
-    by_score : (text : List ℕ) → text_seen ts x r ≡ Some text → (b : Bool) → nat_lt n (word_score key text) ≡ b → cond b (Some (word_score key text)) None ≡ Some score → IsFound ts x key n r score
+    by_score : (text : List ℕ) → text_seen ts x r ≡ Some text → (b : Bool) → nat_lt n (word_score key text) ≡ b
+        → cond b (Some (word_score key text)) None ≡ Some score → IsFound ts x key n r score
     by_score text seen true above is =
         let same : word_score key text ≡ score = same_Some _ _ is in
         let over = ltb-true n (word_score key text) above in
         record { marked = at; text = text; seen = seen; scores = sym same; above = rw (sym same) over }
     by_score text seen false above is = absurd (cc)
 
-    by_text : (o : Option (List ℕ)) → text_seen ts x r ≡ o → option_and_then (λ text. score_above n (word_score key text)) o ≡ Some score → IsFound ts x key n r score
+    by_text : (o : Option (List ℕ)) → text_seen ts x r ≡ o → option_and_then (λ text. score_above n (word_score key text)) o ≡ Some score
+        → IsFound ts x key n r score
     by_text None seen is = absurd (cc)
     by_text (Some text) seen is = by_score text seen (nat_lt n (word_score key text)) refl is
 

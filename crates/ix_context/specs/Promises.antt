@@ -1,0 +1,162 @@
+-- What the functions of `src/laws.rt` promise of all indexes.
+use Rattle.std.specs.Prelude.{ℕ, ℤ, ◌≡◌, ◌↔◌, ◌+◌, ◌<◌, ◌≤◌, Bool, true, false, List, [], ◌∷◌, length, Contains, Option, Some, None, codes, refl}
+use Rattle.std.specs.Ordering.{int_cmp}
+use Rattle.std.specs.FinMap.{get}
+use Rattle.ct_base.specs.Names.{IsName}
+use Rattle.ct_base.specs.declared.lists.Value.{Value}
+use Rattle.ct_keep.specs.RisingKeys.{rises}
+use Rattle.ct_keep.specs.Changes.{AreWell}
+use Rattle.ct_entry.specs.Keys.{Key, bytes, same_list, IsRow}
+use Rattle.ct_entry.specs.Changes.{spell, view}
+use Rattle.ct_entry.specs.Each.{each, is_among}
+use Rattle.ct_entry.specs.Maps.{Names}
+use Rattle.tb_table.specs.declared.columns.Column.{Column}
+use Rattle.tb_table.specs.declared.columns.Target.{Target}
+use Rattle.tb_table.specs.Tables.{Table, Tables, with_table, with_row}
+use Rattle.tb_table.specs.Rules.{AreTables}
+use Rattle.ix_context.specs.declared.ranges.KeyRange.{KeyRange}
+use Rattle.ix_context.specs.Postings.{word_score}
+use Rattle.ix_context.specs.Indexes.{Index, Marked, pending_rows, text_seen, found, noted, noted_on, synced, in_range, rows_in, with_index}
+use Rattle.ix_context.specs.Rules.{IsTarget, AreIndexes, most_given}
+use Rattle.ix_context.specs.Spelling.{IndexesStand, is_of_indexes}
+use Rattle.ix_context.specs.Changes.{note_insert_changes, sync_changes, create_changes}
+
+-- ---- the entries that statements leave spell the indexes that they make
+
+-- after CREATE TABLE of a name that is free
+abbrev pub IndexesStayWithTables : Type 0
+IndexesStayWithTables =
+    (f : Key → Option (List ℕ)) (ts : Tables) (xs : Names Index) (t : List ℕ) (columns : List Column)
+    → get ts t ≡ None → IndexesStand f ts xs → IndexesStand f (with_table ts t columns) xs
+
+-- after INSERT of a row that isn't there
+abbrev pub IndexesStayWithRows : Type 0
+IndexesStayWithRows =
+    (f : Key → Option (List ℕ)) (ts : Tables) (xs : Names Index) (t : List ℕ) (r : ℤ) (vs : List Value) (x : Table)
+    → get ts t ≡ Some x → get x.rows r ≡ None → AreIndexes ts xs → IndexesStand f ts xs → IndexesStand f (with_row ts t r vs) xs
+
+-- after the note of a row that is new in an index
+abbrev pub NotedRowsStand : Type 0
+NotedRowsStand =
+    (f : Key → Option (List ℕ)) (ts : Tables) (xs : Names Index) (i : List ℕ) (x : Index) (r : ℤ)
+    → get xs i ≡ Some x → get x.marks r ≡ None → IsRow r → IndexesStand f ts xs
+    → IndexesStand (view (note_insert_changes i r) f) ts (noted xs i r)
+
+-- after a synchronisation that has numbers for the rows that wait
+abbrev pub SyncedIndexesStand : Type 0
+SyncedIndexesStand =
+    (f : Key → Option (List ℕ)) (ts : Tables) (xs : Names Index) (i : List ℕ) (x : Index)
+    → get xs i ≡ Some x → x.given + length (pending_rows x) ≤ most_given → AreTables ts → AreIndexes ts xs → IndexesStand f ts xs
+    → IndexesStand (view (sync_changes ts i x) f) ts (synced xs i)
+
+-- after CREATE INDEX of a name that is free, where there are numbers for the rows
+abbrev pub CreatedIndexesStand : Type 0
+CreatedIndexesStand =
+    (f : Key → Option (List ℕ)) (ts : Tables) (xs : Names Index) (i : List ℕ) (target : Target) (range : KeyRange)
+    → get xs i ≡ None → length (rows_in ts target.table range) ≤ most_given → AreTables ts → IndexesStand f ts xs
+    → IndexesStand (view (create_changes ts i target range) f) ts (with_index ts xs i target range)
+
+-- ---- the notes of a row, one by one
+
+-- no name stands twice
+abbrev pub AreDistinct : List (List ℕ) → Type 0
+AreDistinct [] = Unit {0}
+AreDistinct (i ∷ is) = (is_among i is ≡ false) × AreDistinct is
+
+-- there is an index, and it is on this table
+abbrev pub is_on : List ℕ → Option Index → Bool
+is_on t None = false
+is_on t (Some x) = same_list x.table t
+
+-- these are the names of the indexes on the table, each once
+pub record AreIndexesOn (xs : Names Index) (t : List ℕ) (names : List (List ℕ)) : Type 0 where
+  pub distinct : AreDistinct names
+  pub each : (i : List ℕ) → is_among i names ≡ is_on t (get xs i)
+
+-- after a note of a row that is new in each index on its table
+abbrev pub NotesOfRowsStand : Type 0
+NotesOfRowsStand =
+    (f : Key → Option (List ℕ)) (ts : Tables) (xs : Names Index) (t : List ℕ) (r : ℤ) (names : List (List ℕ))
+    → AreIndexesOn xs t names → ((i : List ℕ) (x : Index) → get xs i ≡ Some x → x.table ≡ t → get x.marks r ≡ None) → IsRow r → IndexesStand f ts xs
+    → IndexesStand (view (each (λ i. note_insert_changes i r) names) f) ts (noted_on xs t r)
+
+-- ---- statements keep the rules of indexes
+
+-- a new table
+abbrev pub NewTablesKeepIndexRules : Type 0
+NewTablesKeepIndexRules =
+    (ts : Tables) (xs : Names Index) (t : List ℕ) (columns : List Column) → get ts t ≡ None → AreIndexes ts xs → AreIndexes (with_table ts t columns) xs
+
+-- a new row, which waits in each index on its table
+abbrev pub NewRowsKeepIndexRules : Type 0
+NewRowsKeepIndexRules =
+    (ts : Tables) (xs : Names Index) (t : List ℕ) (r : ℤ) (vs : List Value) (x : Table)
+    → get ts t ≡ Some x → AreIndexes ts xs → AreIndexes (with_row ts t r vs) (noted_on xs t r)
+
+-- a synchronisation
+abbrev pub SyncsKeepIndexRules : Type 0
+SyncsKeepIndexRules =
+    (ts : Tables) (xs : Names Index) (i : List ℕ) (x : Index)
+    → get xs i ≡ Some x → x.given + length (pending_rows x) ≤ most_given → AreIndexes ts xs → AreIndexes ts (synced xs i)
+
+-- the range has every row key
+abbrev pub HasAllRows : KeyRange → Type 0
+HasAllRows range = (r : ℤ) → IsRow r → in_range range r ≡ true
+
+-- no index is on this column
+abbrev pub IsFreeColumn : Names Index → List ℕ → ℕ → Type 0
+IsFreeColumn xs t column = (j : List ℕ) (y : Index) → get xs j ≡ Some y → y.table ≡ t → y.column ≡ column → ⊥
+
+-- a new index of a name that is free, over all rows, on a column of texts that has none
+abbrev pub CreatesKeepIndexRules : Type 0
+CreatesKeepIndexRules =
+    (ts : Tables) (xs : Names Index) (i : List ℕ) (target : Target) (range : KeyRange)
+    → IsName i → get xs i ≡ None → IsTarget ts target.table target.column → IsFreeColumn xs target.table target.column → HasAllRows range
+    → length (rows_in ts target.table range) ≤ most_given → AreTables ts → AreIndexes ts xs → AreIndexes ts (with_index ts xs i target range)
+
+-- ---- what calls put into a batch may be committed
+
+-- the keeper may hold whatever entries of indexes
+abbrev pub TakesIndexes : (List ℕ → List ℕ → Bool) → Type 0
+TakesIndexes well = (k : Key) (value : List ℕ) → is_of_indexes k.kind ≡ true → well (bytes k) value ≡ true
+
+abbrev pub NotesAreWell : Type 0
+NotesAreWell = (well : List ℕ → List ℕ → Bool) (i : List ℕ) (r : ℤ) → TakesIndexes well → IsName i → IsRow r → AreWell well (spell (note_insert_changes i r))
+
+abbrev pub SyncsAreWell : Type 0
+SyncsAreWell =
+    (well : List ℕ → List ℕ → Bool) (ts : Tables) (xs : Names Index) (i : List ℕ) (x : Index)
+    → TakesIndexes well → AreTables ts → AreIndexes ts xs → get xs i ≡ Some x → x.given + length (pending_rows x) ≤ most_given
+    → AreWell well (spell (sync_changes ts i x))
+
+abbrev pub CreatesAreWell : Type 0
+CreatesAreWell =
+    (well : List ℕ → List ℕ → Bool) (ts : Tables) (i : List ℕ) (target : Target) (range : KeyRange)
+    → TakesIndexes well → AreTables ts → IsName i → IsName target.table → length (rows_in ts target.table range) ≤ most_given
+    → AreWell well (spell (create_changes ts i target range))
+
+-- ---- what a query finds, row by row
+
+-- The row is marked, the index sees a text of it, and the word has this score on the text, which is above n.
+pub record IsFound (ts : Tables) (x : Index) (key : List ℕ) (n : ℕ) (r : ℤ) (score : ℕ) : Type 0 where
+  pub marked : get x.marks r ≡ Some Marked
+  pub text : List ℕ
+  pub seen : text_seen ts x r ≡ Some text
+  pub scores : score ≡ word_score key text
+  pub above : n < score
+
+-- Exactly the rows that are so are listed, each with its score.
+abbrev pub FoundIsExact : Type 0
+FoundIsExact =
+    (ts : Tables) (x : Index) (key : List ℕ) (n : ℕ) (r : ℤ) (score : ℕ) → Contains (found ts x key n) (r, score) ↔ IsFound ts x key n r score
+
+-- Their keys strictly rise, so none is listed twice.
+abbrev pub FoundRises : Type 0
+FoundRises = (ts : Tables) (x : Index) (key : List ℕ) (n : ℕ) → rises int_cmp (found ts x key n) ≡ true
+
+-- computed examples
+two_names : AreDistinct (codes "di" ∷ codes "ti" ∷ [])
+two_names = (refl, (refl, tt))
+
+one_name_twice : AreDistinct (codes "di" ∷ codes "di" ∷ []) → ⊥
+one_name_twice (different, rest) = cc

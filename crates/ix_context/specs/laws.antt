@@ -1,0 +1,9 @@
+pub mod Postings
+pub mod Tokens
+pub mod Standing
+pub mod Marks
+pub mod Changes
+pub mod Rules
+pub mod Reading
+pub mod Limits
+pub mod Well
