@@ -4,20 +4,20 @@ use Rattle.std.specs.Prelude.{◌||◌}
 use Rattle.std.specs.List.{All, list_any, filter_map}
 use Rattle.std.proofs.lemmas.List.{take_more, map-append, length-take, length-map}
 use Rattle.std.proofs.lemmas.List.Elements.{All-more}
-use Rattle.std.proofs.lemmas.Bool.{ltb-false}
+use Rattle.std.proofs.lemmas.Bool.{ltb-false, and_parts}
 use Rattle.ct_base.specs.declared.lists.Value.{Value}
 use Rattle.ct_base.specs.declared.lists.Value.TheVariants.{Number as NumberValue, Text as TextValue}
 use Rattle.st_parse.specs.declared.statements.Operand.{Operand}
 use Rattle.st_parse.specs.declared.statements.Operand.TheVariants.{Text, Number}
 use Rattle.st_parse.specs.declared.statements.Whole.TheVariants.{Fits, Beyond}
-use Rattle.ct_keep.specs.RisingKeys.{and_true}
 use Rattle.ct_entry.specs.Changes.{spell}
 use Rattle.tb_table.specs.Spelling.{insert_changes}
 use Rattle.tb_table.specs.declared.columns.Sort.{Sort}
 use Rattle.tb_table.specs.declared.columns.Sort.TheVariants.{Number as NumberSort, Varchar2, Clob}
 use Rattle.tb_table.specs.declared.columns.Column.{Column}
 use Rattle.tb_table.specs.Tables.{Table, numbers_of, texts_from, texts_of}
-use Rattle.tb_table.specs.Rules.{text_limit, Fits as FitsSort, FitColumns, others}
+use Rattle.ct_base.specs.Limits.{text_limit}
+use Rattle.tb_table.specs.Rules.{IsOfSort as FitsSort, FitColumns, others}
 use Rattle.db_change.specs.Inserting.{is_of_sort, are_of_sorts, is_too_long, has_too_long, is_beyond_range, kept_value, number_value, text_value, IsNumberKept, IsTextKept, behind_key, others_kept, IsFreeRow}
 
 -- ---- numbers
@@ -95,7 +95,7 @@ fit_columns [] [] sorts short within numbers texts = tt
 fit_columns [] (v ∷ vs) sorts short within numbers texts = cc
 fit_columns (c ∷ cs) [] sorts short within numbers texts = cc
 fit_columns (c ∷ cs) (v ∷ vs) sorts short within numbers texts =
-    let s = and_true (is_of_sort c.sort v) (are_of_sorts cs vs) sorts in
+    let s = and_parts (is_of_sort c.sort v) (are_of_sorts cs vs) sorts in
     let l = or_false (is_too_long c.sort v) (has_too_long cs vs) short in
     let w = or_false (is_beyond_range v) (list_any is_beyond_range vs) within in (
       fits_one c.sort v s.0 l.0 w.0 (numbers 0 v (omega arith)) (texts 0 v (omega arith)),
@@ -112,13 +112,13 @@ others_fit x values r free numbers texts = go x.columns values free.sorts free.s
     go [] (v ∷ vs) sorts short within numbers texts = cc
     go (c ∷ cs) [] sorts short within numbers texts = cc
     go (c ∷ cs) (v ∷ vs) sorts short within numbers texts =
-        fit_columns cs vs (and_true (is_of_sort c.sort v) (are_of_sorts cs vs) sorts).1 (or_false (is_too_long c.sort v) (has_too_long cs vs) short).1 (or_false (is_beyond_range v) (list_any is_beyond_range vs) within).1 numbers texts
+        fit_columns cs vs (and_parts (is_of_sort c.sort v) (are_of_sorts cs vs) sorts).1 (or_false (is_too_long c.sort v) (has_too_long cs vs) short).1 (or_false (is_beyond_range v) (list_any is_beyond_range vs) within).1 numbers texts
 
 sorts_length : (cs : List Column) (vs : List Operand) → are_of_sorts cs vs ≡ true → length vs ≡ length cs
 sorts_length [] [] sorts = refl
 sorts_length [] (v ∷ vs) sorts = cc
 sorts_length (c ∷ cs) [] sorts = cc
-sorts_length (c ∷ cs) (v ∷ vs) sorts = ap suc (sorts_length cs vs (and_true (is_of_sort c.sort v) (are_of_sorts cs vs) sorts).1)
+sorts_length (c ∷ cs) (v ∷ vs) sorts = ap suc (sorts_length cs vs (and_parts (is_of_sort c.sort v) (are_of_sorts cs vs) sorts).1)
 
 behind_length : (vs : List Operand) → length (behind_key vs) ≤ length vs
 behind_length [] = omega arith

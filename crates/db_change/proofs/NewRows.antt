@@ -13,39 +13,43 @@ use Rattle.ct_keep.specs.Content.{Content, after}
 use Rattle.ct_entry.specs.declared.kinds.Kind.{Kind}
 use Rattle.ct_entry.specs.declared.kinds.Kind.TheVariants as kind
 use Rattle.ct_entry.specs.Keys.{Key, at, same_list, IsRow}
-use Rattle.ct_entry.specs.KeyLaws.{list_from_same, list_same}
+use Rattle.ct_entry.specs.laws.Keys.{list_from_same, list_same}
 use Rattle.ct_entry.specs.Maps.{Names}
-use Rattle.ct_entry.specs.Rising.{none_below}
+use Rattle.ct_entry.specs.laws.Rising.{none_below}
 use Rattle.ct_entry.specs.Listings.{key_order}
-use Rattle.ct_keep.specs.RisingKeys.{and_true, below, rises}
-use Rattle.ct_entry.specs.PartLaws.{is_short}
+use Rattle.std.proofs.lemmas.Bool.{and_parts}
+use Rattle.ct_keep.specs.RisingKeys.{below, rises}
+use Rattle.ct_entry.specs.laws.Parts.{is_short}
 use Rattle.ct_entry.specs.Each.{is_among}
-use Rattle.ct_entry.specs.EachLaws.{all_each}
-use Rattle.ct_entry.specs.WellLaws.{IsWellAt, are_well, puts-append}
+use Rattle.ct_entry.specs.laws.Each.{all_each}
+use Rattle.ct_entry.specs.laws.Well.{IsWellAt, are_well, puts-append}
 use Rattle.ct_entry.specs.Changes.{spell, told, view, AreChanges, AllOf, AllPut}
-use Rattle.ct_entry.specs.ChangeLaws.{at_view, at-after, only-after, told_frame, told-append, view-append, are-append, all-append}
+use Rattle.ct_entry.specs.laws.Changes.{at_view, at-after, only-after, told_frame, told-append, view-append, are-append, all-append}
 use Rattle.tb_table.specs.Tables.{Table, Tables, numbers_of, texts_of, row_at, with_row}
 use Rattle.tb_table.specs.Spelling.{TablesStand, insert_changes}
 use Rattle.tb_table.specs.Rules.{FitColumns, others}
-use Rattle.tb_table.specs.ChangeLaws.{is_of_tables, all_insert, stand_insert, tables_frame, get-with_row}
-use Rattle.tb_table.specs.RuleLaws.{insert_keeps}
-use Rattle.tb_table.specs.WellLaws.{are_insert, short_insert, puts_insert, row_places}
+use Rattle.tb_table.specs.laws.Changes.{is_of_tables, all_insert, stand_insert, tables_frame, get-with_row}
+use Rattle.tb_table.specs.laws.Rules.{insert_keeps}
+use Rattle.tb_table.specs.laws.Well.{are_insert, short_insert, puts_insert, row_places}
 use Rattle.ix_context.specs.Indexes.{Index, Pending, waiting_on, noted_on}
 use Rattle.ix_context.specs.Rules.{AreIndexes}
 use Rattle.ix_context.specs.Spelling.{IndexesStand}
 use Rattle.ix_context.specs.Changes.{note_insert_changes}
-use Rattle.ix_context.specs.Standing.{is_of_indexes, indexes_frame}
-use Rattle.ix_context.specs.ChangeLaws.{stay_with_row}
+use Rattle.ix_context.specs.Spelling.{is_of_indexes}
+use Rattle.ix_context.specs.laws.Standing.{indexes_frame}
+use Rattle.ix_context.specs.laws.Changes.{stay_with_row}
 use Rattle.db_names.specs.declared.heads.IndexHead.{IndexHead}
-use Rattle.db_names.specs.HeadLaws.{head_of, heads_of, heads_at, heads_rise}
-use Rattle.db_names.specs.PairLaws.{lookup-find}
+use Rattle.db_names.specs.Promises.{head_of, heads_of}
+use Rattle.db_names.specs.laws.Heads.{heads_at, heads_rise}
+use Rattle.db_names.specs.laws.Pairs.{lookup-find}
 use Rattle.db_state.specs.States.{State, IsState, Stands, is_view, is_built, indexes_on, most_indexes}
 use Rattle.db_state.specs.Committing.{are_bounded}
 use Rattle.db_change.specs.Inserting.{note_all_changes, with_new_row}
 use Rattle.db_state.specs.laws.Heads.{heads, get-heads, head_of_index}
 use Rattle.db_state.specs.laws.Bounded.{any_entry, bounded_well}
 use Rattle.db_state.specs.laws.EachValue.{entries-each_value, count_alike}
-use Rattle.ix_context.specs.RuleLaws.{is_on, AreDistinct, AreIndexesOn, row_keeps, row_notes_stand}
+use Rattle.ix_context.specs.Promises.{is_on, AreDistinct, AreIndexesOn}
+use Rattle.ix_context.specs.laws.Rules.{row_keeps, row_notes_stand}
 
 -- ---- the indexes on a table
 
@@ -72,7 +76,7 @@ names_listed xs t i =
 distinct : (es : List (List ℕ × IndexHead)) → rises key_order es ≡ true → AreDistinct (map (λ e. e.0) es)
 distinct [] up = tt
 distinct (e ∷ es) up =
-    let b = and_true (below key_order e.0 es) (rises key_order es) up in (
+    let b = and_parts (below key_order e.0 es) (rises key_order es) up in (
       sym (is_some-lookup (same_list e.0) es) ∙ ap is_some (lookup-find e.0 es ∙ none_below key_order e.0 es b.0),
       distinct es b.1,
     )

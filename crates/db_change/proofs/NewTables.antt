@@ -10,22 +10,24 @@ use Rattle.ct_keep.specs.Content.{Content, after}
 use Rattle.ct_entry.specs.declared.kinds.Kind.{Kind}
 use Rattle.ct_entry.specs.declared.kinds.Kind.TheVariants as kind
 use Rattle.ct_entry.specs.Keys.{Key, at, same_list, bytes}
-use Rattle.ct_entry.specs.KeyLaws.{list_from_same}
+use Rattle.ct_entry.specs.laws.Keys.{list_from_same}
 use Rattle.ct_entry.specs.Maps.{Names}
 use Rattle.ct_entry.specs.Changes.{spell}
-use Rattle.ct_entry.specs.ChangeLaws.{at_view, at-after, only-after, told_frame}
+use Rattle.ct_entry.specs.laws.Changes.{at_view, at-after, only-after, told_frame}
 use Rattle.tb_table.specs.declared.columns.Column.{Column}
 use Rattle.tb_table.specs.Tables.{Table, Tables, with_table}
-use Rattle.tb_table.specs.Spelling.{TablesStand, create_changes}
-use Rattle.tb_table.specs.Rules.{AreColumns, IsSort, IsKeyFirst, AllColumns, AreApart, has_column, text_limit}
-use Rattle.tb_table.specs.ChangeLaws.{is_of_tables, all_create, stand_create, get-with_table, row_at-with_table}
-use Rattle.tb_table.specs.RuleLaws.{create_keeps}
-use Rattle.tb_table.specs.WellLaws.{are_create, TakesTables, well_create}
+use Rattle.tb_table.specs.Spelling.{TablesStand, table_changes}
+use Rattle.tb_table.specs.Rules.{AreColumns, HasAllowedSize, IsKeyFirst, AllColumns, AreApart, has_column}
+use Rattle.ct_base.specs.Limits.{text_limit}
+use Rattle.tb_table.specs.laws.Changes.{is_of_tables, all_create, stand_create, get-with_table, row_at-with_table}
+use Rattle.tb_table.specs.laws.Rules.{create_keeps}
+use Rattle.tb_table.specs.laws.Well.{are_create, TakesTables, well_create}
 use Rattle.ix_context.specs.Indexes.{Index}
 use Rattle.ix_context.specs.Rules.{AreIndexes, IsTarget}
 use Rattle.ix_context.specs.Spelling.{IndexesStand}
-use Rattle.ix_context.specs.Standing.{is_of_indexes, indexes_frame}
-use Rattle.ix_context.specs.ChangeLaws.{stay_with_table}
+use Rattle.ix_context.specs.Spelling.{is_of_indexes}
+use Rattle.ix_context.specs.laws.Standing.{indexes_frame}
+use Rattle.ix_context.specs.laws.Changes.{stay_with_table}
 use Rattle.st_parse.specs.declared.statements.ColumnText.{ColumnText}
 use Rattle.st_parse.specs.declared.statements.SortText.{SortText}
 use Rattle.st_parse.specs.declared.statements.SortText.TheVariants.{Number as NumberText, Varchar2 as Varchar2Text, Clob as ClobText}
@@ -88,9 +90,9 @@ apart kind.RowTexts h = cc
 apart k h = refl
 
 pub new_table_stands : (c : Content) (m : State) (t : List ℕ) (columns : List Column) → Stands c m → get m.tables t ≡ None → is_view t ≡ false → IsName t → AreColumns columns → length (entries m.tables) < 64
-    → Stands (after (spell (create_changes t columns)) c) (record m { tables = with_table m.tables t columns })
+    → Stands (after (spell (table_changes t columns)) c) (record m { tables = with_table m.tables t columns })
 new_table_stands c m t columns stands none free name are few =
-    let ws = create_changes t columns in
+    let ws = table_changes t columns in
     record {
       only = only-after ws c stands.only (are_create t columns name);
       tables = subst (λ (f : Key → Option (List ℕ)). TablesStand f (with_table m.tables t columns)) (sym (at_view ws c)) (stand_create (at c) m.tables t columns none stands.tables);
@@ -119,7 +121,7 @@ both : (a b : Bool) → (a && b) ≡ true → (a ≡ true) × (b ≡ true)
 both true b h = (refl, h)
 both false b h = cc
 
-is_sort : (s : SortText) → is_sized s ≡ true → IsSort (sort_of s)
+is_sort : (s : SortText) → is_sized s ≡ true → HasAllowedSize (sort_of s)
 is_sort NumberText h = tt
 is_sort (Varchar2Text size) h = go (as_count size) h
   where
@@ -180,7 +182,7 @@ all_named [] all = tt
 all_named (c ∷ cs) all = (All-head (λ (k : Column). IsName k.name) (column_of c) (map column_of cs) all, all_named cs (All-tail (λ (k : Column). IsName k.name) (column_of c) (map column_of cs) all))
 
 -- the state after CREATE TABLE
-pub created_table_stands : (c : Content) (m : State) (t : List ℕ) (cs : List ColumnText) → Stands c m → IsName t → AllNamed cs → IsFreeTable m t cs → Stands (after (spell (create_changes t (map column_of cs))) c) (with_new_table m t cs)
+pub created_table_stands : (c : Content) (m : State) (t : List ℕ) (cs : List ColumnText) → Stands c m → IsName t → AllNamed cs → IsFreeTable m t cs → Stands (after (spell (table_changes t (map column_of cs))) c) (with_new_table m t cs)
 created_table_stands c m t cs stands name named free =
     let there = either (is_some (get m.tables t)) (is_view t) free.free in
     let few = either (nat_lt most_columns (length cs)) (nat_le most_tables (length (entries m.tables))) free.few in
@@ -204,8 +206,8 @@ table_free m t cs n reply is =
 takes_all : (well : List ℕ → List ℕ → Bool) → ((key value : List ℕ) → well key value ≡ true) → TakesTables well
 takes_all well takes = λ k value of. takes (bytes k) value
 
-pub table_bounded : (m : State) (t : List ℕ) (cs : List ColumnText) → IsName t → AllNamed cs → IsFreeTable m t cs → are_bounded (spell (create_changes t (map column_of cs))) ≡ true
-table_bounded m t cs name named free = bounded_well (λ key value. true) (spell (create_changes t (map column_of cs))) (well_create (λ key value. true) t (map column_of cs) (takes_all (λ key value. true) (λ key value. refl)) name (columns_pass m t cs named free))
+pub table_bounded : (m : State) (t : List ℕ) (cs : List ColumnText) → IsName t → AllNamed cs → IsFreeTable m t cs → are_bounded (spell (table_changes t (map column_of cs))) ≡ true
+table_bounded m t cs name named free = bounded_well (λ key value. true) (spell (table_changes t (map column_of cs))) (well_create (λ key value. true) t (map column_of cs) (takes_all (λ key value. true) (λ key value. refl)) name (columns_pass m t cs named free))
 
 -- the statement by what was read of the state
 pub table_read : (m : State) (t : List ℕ) (cs : List ColumnText) (there many : Bool) → there ≡ is_some (get m.tables t) → many ≡ nat_le most_tables (length (entries m.tables)) → create_table m t cs ≡ check_table there many t cs (Does (with_new_table m t cs) table_created)
@@ -213,7 +215,7 @@ table_read m t cs there many is most = ap (λ (b : Bool). check_table b (nat_le 
 
 -- the batch of a table that no check refuses
 pub table_made : (m : State) (k : Content) (t : List ℕ) (cs : List ColumnText) (batch : List (List ℕ × Option (List ℕ))) → Stands k m → IsName t
-    → (all_sized cs ≡ true → batch ≡ spell (create_changes t (map column_of cs))) → (all_sized cs ≡ true → All (λ (x : Column). IsName x.name) (map column_of cs)) → create_table m t cs ≡ Does (with_new_table m t cs) table_created
+    → (all_sized cs ≡ true → batch ≡ spell (table_changes t (map column_of cs))) → (all_sized cs ≡ true → All (λ (x : Column). IsName x.name) (map column_of cs)) → create_table m t cs ≡ Does (with_new_table m t cs) table_created
     → (n : State) × (create_table m t cs ≡ Does n table_created) × (are_bounded batch ≡ true) × Stands (after batch k) n
 table_made m k t cs batch stands name changes named is =
     let free = table_free m t cs _ _ is in

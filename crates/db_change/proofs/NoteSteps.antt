@@ -2,9 +2,9 @@
 use Rattle.std.proofs.Common.{◌≡◌, ℕ, ℤ, ◌+◌, ◌<◌, List, [], ◌∷◌, ◌++◌, length, map, take, get_or, Option, Result, Ok, Err, true, sym, ap, ◌∙◌, append_assoc}
 use Rattle.std.specs.Result.{is_ok, OnOk}
 use Rattle.std.proofs.lemmas.List.{take_more, map-append}
-use Rattle.ct_entry.specs.EachLaws.{each-append}
+use Rattle.ct_entry.specs.laws.Each.{each-append}
 use Rattle.ct_entry.specs.Changes.{spell}
-use Rattle.ct_entry.specs.ChangeLaws.{spell-append}
+use Rattle.ct_entry.specs.laws.Changes.{spell-append}
 use Rattle.ix_context.specs.Changes.{note_insert_changes}
 use Rattle.db_names.specs.declared.heads.IndexHead.{IndexHead}
 use Rattle.db_change.specs.Inserting.{note_all_changes}

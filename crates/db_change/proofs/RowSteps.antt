@@ -7,12 +7,13 @@ use Rattle.st_parse.specs.declared.statements.Operand.{Operand}
 use Rattle.ct_keep.specs.Content.{Content, after}
 use Rattle.ct_entry.specs.Keys.{at, IsRow}
 use Rattle.ct_entry.specs.Changes.{spell}
-use Rattle.ct_entry.specs.ChangeLaws.{spell-append}
+use Rattle.ct_entry.specs.laws.Changes.{spell-append}
 use Rattle.tb_table.specs.Tables.{Table, numbers_of, texts_of}
 use Rattle.tb_table.specs.Spelling.{insert_changes}
 use Rattle.db_names.specs.declared.heads.IndexHead.{IndexHead}
 use Rattle.db_names.specs.Findings.{AreIndexesOf}
-use Rattle.db_names.specs.HeadLaws.{heads_of, indexes_of_read}
+use Rattle.db_names.specs.Promises.{heads_of}
+use Rattle.db_names.specs.laws.Heads.{indexes_of_read}
 use Rattle.db_state.specs.States.{State, Stands}
 use Rattle.db_state.specs.Committing.{are_bounded}
 use Rattle.db_change.specs.Inserting.{behind_key, kept_value, others_kept, most_rows, note_all_changes, with_new_row, IsFreeRow, IsNumberKept, IsTextKept}

@@ -12,7 +12,7 @@ use Rattle.tb_table.specs.declared.columns.Sort.{Sort}
 use Rattle.tb_table.specs.declared.columns.Sort.TheVariants.{Number, Varchar2, Clob}
 use Rattle.tb_table.specs.declared.columns.Column.{Column}
 use Rattle.tb_table.specs.Tables.{Table, with_table}
-use Rattle.tb_table.specs.Rules.{text_limit}
+use Rattle.ct_base.specs.Limits.{text_limit}
 use Rattle.db_cond.specs.Faults.{ExistsAlready, WrongValues, OutOfRange, LimitReached}
 use Rattle.db_state.specs.States.{State, is_view, most_tables}
 use Rattle.db_state.specs.Effects.{Effect, Does, refuse, as_count, Refused}

@@ -16,7 +16,7 @@ use Rattle.tb_table.specs.declared.columns.Sort.{Sort}
 use Rattle.tb_table.specs.declared.columns.Sort.TheVariants.{Number as NumberSort, Varchar2, Clob}
 use Rattle.tb_table.specs.declared.columns.Column.{Column}
 use Rattle.tb_table.specs.Tables.{Table, numbers_of, texts_of, with_row}
-use Rattle.tb_table.specs.Rules.{text_limit}
+use Rattle.ct_base.specs.Limits.{text_limit}
 use Rattle.ix_context.specs.Indexes.{noted_on}
 use Rattle.ix_context.specs.Changes.{note_insert_changes}
 use Rattle.db_cond.specs.Faults.{UnknownName, WrongValues, KeyExists, ValueTooLong, OutOfRange, LimitReached}

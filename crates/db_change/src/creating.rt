@@ -9,12 +9,11 @@ ghost use Rattle.ct_keep.specs.KeeperViews.{OnlyReads};
 ghost use Rattle.ct_entry.specs.Keys.{same_list};
 ghost use Rattle.ct_entry.specs.Changes.{spell};
 ghost use Rattle.st_parse.specs.declared.statements.ColumnText.{ColumnText};
-ghost use Rattle.tb_table.specs.Spelling.{create_changes};
+ghost use Rattle.tb_table.specs.Spelling.{table_changes};
 ghost use Rattle.tb_table.specs.declared.columns.Column.{Column};
 ghost use Rattle.db_state.specs.States.{TakesAll};
-ghost use Rattle.db_state.specs.Effects.{Effect, as_count};
+ghost use Rattle.db_state.specs.Effects.{Effect, as_count, Checks};
 ghost use Rattle.db_change.specs.Creating.{are_apart as columns_apart, check_table, column_of, all_sized, is_size, create_table as create_table_effect, is_key_first as key_first, is_number as sort_is_number, is_sized as sort_sized, sort_of, table_created};
-ghost use Rattle.db_state.specs.Effects.{Checks};
 ghost use Rattle.db_state.specs.Plans.{Plans, Replies};
 
 use ct_base::{Memory, Name};
@@ -173,7 +172,7 @@ fn kept_columns(alloc: Global, columns: &[ColumnText]) -> Result<Vec<Column>, Me
 /// The batch that makes a table.
 fn table_batch(alloc: Global, table: &Name, columns: &[ColumnText]) -> Result<Batch, Memory>
     requires { length columns.now ≤ 16 }
-    ensures changes { IfOk result (λ batch. all_sized columns.now ≡ true → batch ≡ spell (create_changes table.now (map column_of columns.now))) }
+    ensures changes { IfOk result (λ batch. all_sized columns.now ≡ true → batch ≡ spell (table_changes table.now (map column_of columns.now))) }
     ensures named { IfOk result (λ batch. all_sized columns.now ≡ true → All (λ (k : Column). IsName k.name) (map column_of columns.now)) }
 {
     let columns = kept_columns(alloc, columns)?;

@@ -11,10 +11,9 @@ ghost use Rattle.ct_entry.specs.Changes.{spell};
 ghost use Rattle.tb_table.specs.declared.columns.Column.{Column};
 ghost use Rattle.tb_table.specs.Tables.{Table, numbers_of, texts_of};
 ghost use Rattle.db_state.specs.States.{OverTable, TakesAll};
-ghost use Rattle.db_state.specs.Effects.{Effect};
+ghost use Rattle.db_state.specs.Effects.{Effect, Checks};
 ghost use Rattle.db_state.specs.Columns.{first_unknown as unknown_name};
 ghost use Rattle.db_change.specs.Inserting.{MakesRow, PlansRow, row_changes, are_of_sorts as all_of_sorts, arranged as arranged_values, behind_key as others_of, check_list, check_values, covers as covers_columns, has_row as has_row_of, has_too_long as any_too_long, insert_into as insert_into_effect, is_beyond_range, is_of_sort as sort_takes, is_too_long as too_long_for, key_in as key_of, kept_value, number_value, text_value, IsNumberKept, IsTextKept, note_all_changes, most_rows, names_of, row_created, value_under as named_value, IsFreeRow};
-ghost use Rattle.db_state.specs.Effects.{Checks};
 ghost use Rattle.db_state.specs.Plans.{Plans, Replies};
 
 use ct_base::{Memory, Name, RowKey, Text};

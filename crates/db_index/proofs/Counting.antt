@@ -6,8 +6,9 @@ use Rattle.std.specs.declared.cmp.Ordering.TheVariants.{Less, Equal, Greater}
 use Rattle.std.specs.Ordering.{is_lt}
 use Rattle.std.specs.Cmp.{IsTotalOrder}
 use Rattle.std.specs.FinMap.{FinMap, get, insert, entries, find, put, entries-insert, get-entries}
-use Rattle.ct_keep.specs.RisingKeys.{and_true, and_both, below, rises, entries_rise}
-use Rattle.ct_entry.specs.Rising.{none_below}
+use Rattle.std.proofs.lemmas.Bool.{and_parts, and_from}
+use Rattle.ct_keep.specs.RisingKeys.{below, rises, entries_rise}
+use Rattle.ct_entry.specs.laws.Rising.{none_below}
 
 less : (o : Ordering) → is_lt o ≡ true → o ≡ Less
 less Less h = refl
@@ -44,14 +45,14 @@ module _ {K X : Type 0} (R : K → K → Ordering) (p : X → Bool) where
   below_lower : IsTotalOrder R → (k x : K) (es : List (K × X)) → R k x ≡ Less → below R x es ≡ true → below R k es ≡ true
   below_lower o k x [] l h = refl
   below_lower o k x (e ∷ es) l h =
-      let b = and_true (is_lt (R x e.0)) (below R x es) h in
-      and_both (is_lt (R k e.0)) (below R k es) (ap is_lt (o.trans k x e.0 l (less (R x e.0) b.0))) (below_lower o k x es l b.1)
+      let b = and_parts (is_lt (R x e.0)) (below R x es) h in
+      and_from (is_lt (R k e.0)) (below R k es) (ap is_lt (o.trans k x e.0 l (less (R x e.0) b.0))) (below_lower o k x es l b.1)
 
   -- the entry that was there counts no more
   count_put : IsTotalOrder R → (k : K) (v : X) (es : List (K × X)) → rises R es ≡ true → count (put R k v es) + counted (find R k es) ≡ count es + one (p v)
   count_put o k v [] h = let c = count-cons k v [] in omega (arith, c)
   count_put o k v (e ∷ es) h =
-      let b = and_true (below R e.0 es) (rises R es) h in
+      let b = and_parts (below R e.0 es) (rises R es) h in
       at_head (R k e.0) refl b.0 (count_put o k v es b.1)
     where
       at_head : (r : Ordering) → R k e.0 ≡ r → below R e.0 es ≡ true → count (put R k v es) + counted (find R k es) ≡ count es + one (p v) → count (put R k v (e ∷ es)) + counted (find R k (e ∷ es)) ≡ count (e ∷ es) + one (p v)

@@ -6,27 +6,27 @@ use Rattle.std.specs.Option.{option_map}
 use Rattle.std.specs.Ordering.{nat_cmp, eq_by_cmp}
 use Rattle.std.specs.Cmp.Lexicographic.{slice_cmp}
 use Rattle.std.specs.FinMap.{get, entries, from_entries, find, get-from_entries, empty, len-entries, len-empty}
-use Rattle.std.proofs.lemmas.Bool.{le-ltb, ltb-false}
+use Rattle.std.proofs.lemmas.Bool.{le-ltb, ltb-false, and_parts}
 use Rattle.ct_keep.specs.Content.{Content}
 use Rattle.tb_table.specs.declared.columns.Target.{Target}
 use Rattle.ix_context.specs.Stands.{HoldsTables}
 use Rattle.std.proofs.lemmas.Cmp.{nat_list_cmp_total}
 use Rattle.ct_entry.specs.Keys.{same_list}
 use Rattle.ct_entry.specs.Maps.{Names}
-use Rattle.ct_entry.specs.MapLaws.{names_tie}
+use Rattle.ct_entry.specs.laws.Maps.{names_tie}
 use Rattle.ct_entry.specs.Listings.{key_order}
-use Rattle.ct_entry.specs.OwnerLaws.{key_order_total, key_order_tie}
-use Rattle.ct_entry.specs.Rising.{none_below}
-use Rattle.ct_keep.specs.RisingKeys.{and_true, below, rises, entries_rise}
+use Rattle.ct_entry.specs.laws.Owners.{key_order_total, key_order_tie}
+use Rattle.ct_entry.specs.laws.Rising.{none_below}
+use Rattle.ct_keep.specs.RisingKeys.{below, rises, entries_rise}
 use Rattle.tb_table.specs.declared.columns.Column.{Column}
 use Rattle.std.proofs.lemmas.List.{length-map}
 use Rattle.tb_table.specs.Tables.{Table, keys_in, row_keys}
 use Rattle.tb_table.specs.Rules.{AreTables}
 use Rattle.ix_context.specs.Indexes.{Index, rows_in}
 use Rattle.ix_context.specs.Rules.{most_given}
-use Rattle.ix_context.specs.RuleLaws.{rows_in-all}
+use Rattle.ix_context.specs.laws.Rules.{rows_in-all}
 use Rattle.db_names.specs.declared.heads.IndexHead.{IndexHead}
-use Rattle.db_names.specs.HeadLaws.{is_of, heads_of}
+use Rattle.db_names.specs.Promises.{is_of, heads_of}
 use Rattle.db_cond.specs.Faults.{UnknownName}
 use Rattle.db_state.specs.States.{State, Stands, indexes_on, most_indexes}
 use Rattle.db_state.specs.Effects.{Refused, Does, with_found}
@@ -73,7 +73,7 @@ module _ {X : Type 0} (p : X → Bool) where
       nothing [] h = refl
       nothing (e ∷ es) h = absurd (omega arith)
   reordered (e ∷ es) h =
-      let b = and_true (below (slice_cmp nat_cmp) e.0 es) (rises (slice_cmp nat_cmp) es) h in
+      let b = and_parts (below (slice_cmp nat_cmp) e.0 es) (rises (slice_cmp nat_cmp) es) h in
       let counts = count_insert key_order p key_order_total (from_entries es) e.0 e.1 in
       let free : counted key_order p (get (from_entries {R = key_order} es) e.0) ≡ 0 = ap (counted key_order p) (get-from_entries key_order_total es e.0 ∙ apart e.0 es b.0) in
       let more = count-cons key_order p e.0 e.1 es in

@@ -6,32 +6,32 @@ use Rattle.std.specs.declared.cmp.Ordering.TheVariants.{Less, Equal, Greater}
 use Rattle.std.specs.Ordering.{nat_cmp, int_cmp, is_lt, eq_by_cmp}
 use Rattle.std.specs.Cmp.Lexicographic.{slice_cmp}
 use Rattle.std.specs.FinMap.{get, insert, entries, find, get-entries}
-use Rattle.std.proofs.lemmas.Bool.{ltb-false, leb-false, le-ltb, eq-eqb}
+use Rattle.std.proofs.lemmas.Bool.{ltb-false, leb-false, le-ltb, eq-eqb, and_from}
 use Rattle.std.proofs.lemmas.Cmp.{nat_list_cmp_total}
 use Rattle.ct_keep.specs.Content.{Content, after}
 use Rattle.ct_entry.specs.declared.kinds.Kind.{Kind}
 use Rattle.ct_entry.specs.declared.kinds.Kind.TheVariants as kind
 use Rattle.ct_base.specs.Names.{IsName}
-use Rattle.ct_keep.specs.RisingKeys.{and_both}
 use Rattle.ct_entry.specs.Keys.{Key, at, same_list, IsRow}
-use Rattle.ct_entry.specs.KeyLaws.{list_from_same, list_same}
+use Rattle.ct_entry.specs.laws.Keys.{list_from_same, list_same}
 use Rattle.ct_entry.specs.Maps.{Names, altered}
 use Rattle.ct_entry.specs.Changes.{spell}
-use Rattle.ct_entry.specs.ChangeLaws.{at_view, at-after, only-after, told_frame}
+use Rattle.ct_entry.specs.laws.Changes.{at_view, at-after, only-after, told_frame}
 use Rattle.tb_table.specs.declared.columns.Sort.{Sort}
 use Rattle.tb_table.specs.declared.columns.Sort.TheVariants.{Number as NumberSort, Varchar2, Clob}
 use Rattle.tb_table.specs.declared.columns.Column.{Column}
 use Rattle.tb_table.specs.Tables.{Table}
 use Rattle.tb_table.specs.Spelling.{TablesStand}
-use Rattle.tb_table.specs.ChangeLaws.{is_of_tables, tables_frame}
+use Rattle.tb_table.specs.laws.Changes.{is_of_tables, tables_frame}
 use Rattle.ix_context.specs.Indexes.{Index, pending_rows, synced, synced_index, rows_in, created, with_index}
 use Rattle.ix_context.specs.Changes.{sync_changes, create_changes}
 use Rattle.ix_context.specs.Rules.{most_given, IsTextSort, HasTextAt, IsTarget}
 use Rattle.ix_context.specs.Spelling.{IndexesStand}
-use Rattle.ix_context.specs.Standing.{is_of_indexes}
-use Rattle.ix_context.specs.ChangeLaws.{sync_stands, create_stands}
-use Rattle.ix_context.specs.RuleLaws.{HasAllRows, IsFreeColumn, sync_keeps, create_keeps}
-use Rattle.ix_context.specs.WellLaws.{are_changes, all_of_indexes, well_changes, index_changes_sync, index_changes_create}
+use Rattle.ix_context.specs.Spelling.{is_of_indexes}
+use Rattle.ix_context.specs.laws.Changes.{sync_stands, create_stands}
+use Rattle.ix_context.specs.Promises.{HasAllRows, IsFreeColumn}
+use Rattle.ix_context.specs.laws.Rules.{sync_keeps, create_keeps}
+use Rattle.ix_context.specs.laws.Well.{are_changes, all_of_indexes, well_changes, index_changes_sync, index_changes_create}
 use Rattle.db_index.specs.Syncing.{has_too_many, with_synced}
 use Rattle.db_state.specs.Committing.{are_bounded}
 use Rattle.db_index.specs.Indexing.{is_text_sort, is_text_at, has_index_on, has_too_many_rows, all_rows, target, with_new_index, IsFreeIndex}
@@ -157,7 +157,7 @@ no_entry t place (e ∷ es) h j y is =
 column_free : (xs : Names Index) (t : List ℕ) (place : ℕ) → has_index_on xs t place ≡ false → IsFreeColumn xs t place
 column_free xs t place h j y is table column =
     let none = no_entry t place (entries xs) h j y (sym (get-entries xs j) ∙ is) in
-    let yes : (same_list y.table t && (y.column == place)) ≡ true = and_both (same_list y.table t) (y.column == place) (ap (λ (u : List ℕ). same_list u t) table ∙ list_same t) (eq-eqb y.column place column) in
+    let yes : (same_list y.table t && (y.column == place)) ≡ true = and_from (same_list y.table t) (y.column == place) (ap (λ (u : List ℕ). same_list u t) table ∙ list_same t) (eq-eqb y.column place column) in
     let wrong : true ≡ false = sym yes ∙ none in
     cc
 

@@ -8,7 +8,7 @@ use Rattle.tb_table.specs.declared.columns.Sort.{Sort}
 use Rattle.tb_table.specs.declared.columns.Sort.TheVariants.{Number, Varchar2, Clob}
 use Rattle.tb_table.specs.declared.columns.Column.{Column}
 use Rattle.tb_table.specs.declared.columns.Target.{Target}
-use Rattle.tb_table.specs.Tables.{Table}
+use Rattle.tb_table.specs.Tables.{Table, docs_columns}
 use Rattle.ix_context.specs.declared.ranges.KeyRange.{KeyRange}
 use Rattle.ix_context.specs.Indexes.{Index, rows_in, with_index}
 use Rattle.ix_context.specs.Rules.{most_given}
@@ -16,7 +16,6 @@ use Rattle.db_cond.specs.Faults.{UnknownName, ExistsAlready, WrongValues, LimitR
 use Rattle.db_state.specs.States.{State, indexes_on, most_indexes}
 use Rattle.db_state.specs.Effects.{Effect, Does, refuse, with_found, Refused}
 use Rattle.db_state.specs.Columns.{place_of}
-use Rattle.tb_table.specs.Tables.{docs_columns}
 use Rattle.ct_keep.specs.declared.keepers.KeepFault.{KeepFault}
 use Rattle.ct_keep.specs.Content.{Content}
 use Rattle.ct_entry.specs.Changes.{spell}

@@ -7,7 +7,7 @@ use Rattle.tx_lexer.specs.declared.tokens.Token.{Token}
 use Rattle.tx_lexer.specs.Tokens.{tokens, default}
 use Rattle.st_parse.specs.declared.statements.Arg.{Arg}
 use Rattle.st_parse.specs.declared.statements.Arg.TheVariants.{Text as TextArg}
-use Rattle.tb_table.specs.Rules.{text_limit}
+use Rattle.ct_base.specs.Limits.{text_limit}
 use Rattle.db_cond.specs.Faults.{WrongValues, ValueTooLong}
 use Rattle.db_cond.specs.Lines.{line}
 use Rattle.db_state.specs.States.{State}

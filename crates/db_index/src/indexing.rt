@@ -6,9 +6,8 @@ ghost use Rattle.ct_base.specs.Names.{IsName};
 ghost use Rattle.ct_keep.specs.KeeperViews.{OnlyReads};
 ghost use Rattle.tb_table.specs.Tables.{Table};
 ghost use Rattle.db_state.specs.States.{OverStates, OverTable, TakesAll, indexes_on, most_indexes, Sees};
-ghost use Rattle.db_state.specs.Effects.{Effect};
+ghost use Rattle.db_state.specs.Effects.{Effect, Checks};
 ghost use Rattle.db_index.specs.Indexing.{MakesIndex, PlansIndex, check_index, create_index as create_index_effect, has_index_on as column_has_index, index_created, is_index_taken, is_text_at as text_at, is_text_sort as sort_of_texts, IsFreeIndex};
-ghost use Rattle.db_state.specs.Effects.{Checks};
 ghost use Rattle.db_state.specs.Plans.{Plans, Replies};
 
 use ct_base::Name;

@@ -5,10 +5,9 @@ ghost use Rattle.std.specs.Prelude.{◌≡◌, IfOk, Some, None, Err, true, fals
 ghost use Rattle.std.specs.Option.{option_map};
 ghost use Rattle.ct_keep.specs.KeeperViews.{OnlyReads};
 ghost use Rattle.db_state.specs.States.{OverIndex, TakesAll, Sees};
-ghost use Rattle.db_state.specs.Effects.{Effect};
+ghost use Rattle.db_state.specs.Effects.{Effect, Checks};
 ghost use Rattle.db_index.specs.Syncing.{MakesSync, are_sync_args as sync_args, check_sync, has_index as has_named_index, is_bad_size as bad_size, is_memory_size as memory_size, is_unit as unit_letter, name_arg as first_name, spelt_name as name_spelt, sync_index as sync_effect, unknown_name as name_unknown};
 ghost use Rattle.db_state.specs.Lines.{call_done};
-ghost use Rattle.db_state.specs.Effects.{Checks};
 ghost use Rattle.db_state.specs.Plans.{Plans, Replies};
 
 use ct_base::{Memory, Name, NameFault};

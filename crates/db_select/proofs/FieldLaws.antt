@@ -13,7 +13,7 @@ use Rattle.tb_table.specs.declared.columns.Sort.{Sort}
 use Rattle.tb_table.specs.declared.columns.Sort.TheVariants.{Number as NumberSort, Varchar2, Clob}
 use Rattle.tb_table.specs.declared.columns.Column.{Column}
 use Rattle.tb_table.specs.Tables.{Table, Tables, row_in, numbers_of, text_in, text_of}
-use Rattle.tb_table.specs.Rules.{Fits, FitColumns, IsKeyFirst, IsTable, AreTables, others}
+use Rattle.tb_table.specs.Rules.{IsOfSort, FitColumns, IsKeyFirst, IsTable, AreTables, others}
 use Rattle.db_select.specs.declared.sources.Source.{Source}
 use Rattle.db_select.specs.declared.sources.Source.TheVariants.{Key, Number, Text, Score, Nothing}
 use Rattle.db_state.specs.Columns.{place_from}
@@ -63,7 +63,7 @@ SuitAsFar cs [] = Unit {0}
 SuitAsFar [] (v ∷ vs) = ⊥
 SuitAsFar (c ∷ cs) (v ∷ vs) = Suits c.sort v × SuitAsFar cs vs
 
-suits : (s : Sort) (v : Value) → Fits s v → Suits s v
+suits : (s : Sort) (v : Value) → IsOfSort s v → Suits s v
 suits NumberSort (NumberValue n) fits = tt
 suits NumberSort (TextValue text) fits = fits
 suits (Varchar2 size) (NumberValue n) fits = fits

@@ -8,7 +8,7 @@ use Rattle.ct_entry.specs.declared.kinds.Kind.TheVariants as kind
 use Rattle.ct_entry.specs.Keys.{at, key, row_part, text_part, IsRow}
 use Rattle.tb_table.specs.Tables.{row_at, numbers_of, text_of}
 use Rattle.tb_table.specs.Readings.{SpellsText, SpellsNumbers}
-use Rattle.tb_table.specs.ReadLaws.{text_read, numbers_read}
+use Rattle.tb_table.specs.laws.Reading.{text_read, numbers_read}
 use Rattle.db_state.specs.States.{State, Stands}
 use Rattle.db_select.specs.Selecting.{values_of}
 use Rattle.db_select.specs.Sources.{row_values, KnowTexts}

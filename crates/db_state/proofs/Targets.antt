@@ -8,10 +8,11 @@ use Rattle.std.specs.Cmp.Lexicographic.{slice_cmp}
 use Rattle.std.specs.FinMap.{get, find, entries, get-entries}
 use Rattle.std.proofs.lemmas.Cmp.{nat_list_cmp_total}
 use Rattle.std.proofs.lemmas.List.Elements.{Contains-append_right}
-use Rattle.ct_keep.specs.RisingKeys.{and_true, and_both, entries_rise}
+use Rattle.std.proofs.lemmas.Bool.{and_parts, and_from}
+use Rattle.ct_keep.specs.RisingKeys.{entries_rise}
 use Rattle.ct_entry.specs.Keys.{Key, same_list}
 use Rattle.ct_entry.specs.Maps.{Names}
-use Rattle.ct_entry.specs.KeyLaws.{list_from_same, list_same}
+use Rattle.ct_entry.specs.laws.Keys.{list_from_same, list_same}
 use Rattle.tb_table.specs.Tables.{Tables}
 use Rattle.tb_table.specs.Rules.{AreTables}
 use Rattle.ix_context.specs.Indexes.{Index}
@@ -20,8 +21,8 @@ use Rattle.ix_context.specs.Spelling.{IndexesStand}
 use Rattle.db_names.specs.declared.heads.IndexKind.TheVariants.{Context}
 use Rattle.db_names.specs.declared.heads.IndexHead.{IndexHead}
 use Rattle.db_names.specs.Findings.{IsIndexOn}
-use Rattle.db_names.specs.HeadLaws.{index_on_read}
-use Rattle.db_names.specs.PairLaws.{pair_found}
+use Rattle.db_names.specs.laws.Heads.{index_on_read}
+use Rattle.db_names.specs.laws.Pairs.{pair_found}
 use Rattle.db_state.specs.Lookups.{index_among, index_on, FoundOn}
 use Rattle.db_state.specs.laws.Heads.{head_of_index, heads, get-heads, head_found, heads_stand}
 
@@ -43,7 +44,7 @@ among_on xs t place (e ∷ es) x all is = go (same_list e.1.table t && eqb e.1.c
     go : (b : Bool) → (same_list e.1.table t && eqb e.1.column place) ≡ b → cond b (Some e.1) (index_among t place es) ≡ Some x → (index_among t place es ≡ Some x → IsOnColumn xs t place x) → IsOnColumn xs t place x
     go true on is rest =
         let same : e.1 ≡ x = some_same is in
-        let both = and_true (same_list e.1.table t) (eqb e.1.column place) on in
+        let both = and_parts (same_list e.1.table t) (eqb e.1.column place) on in
         record {
           name = e.0;
           there = all e (0, omega arith, refl) ∙ ap Some same;
@@ -104,7 +105,7 @@ index_found f ts xs tables are stand t place (Some i) is = (x, (found.1, one (in
     one : (o : Option Index) → index_on xs t place ≡ o → o ≡ Some x
     one None e =
         absurd (among_some t place (entries xs) i x (sym (get-entries xs i) ∙ found.1)
-        (and_both _ _ (subst (λ (u : List ℕ). same_list x.table u ≡ true) table (list_same x.table)) (eq-eqb x.column place column)) e)
+        (and_from _ _ (subst (λ (u : List ℕ). same_list x.table u ≡ true) table (list_same x.table)) (eq-eqb x.column place column)) e)
     one (Some y) e =
         let on = among_on xs t place (entries xs) y (all_there xs) e in
         let same : on.name ≡ i = are.one on.name i y x on.there found.1 (on.table ∙ sym table) (on.column ∙ sym column) in

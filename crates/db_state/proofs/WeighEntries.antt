@@ -9,7 +9,7 @@ use Rattle.ct_entry.specs.declared.kinds.Kind.TheVariants as kind
 use Rattle.ct_entry.specs.Keys.{Key, key, bytes, row_part, text_part, document_part, posting_part}
 use Rattle.tb_table.specs.Tables.{Table, Tables, numbers_of, texts_of}
 use Rattle.tb_table.specs.Spelling.{columns_bytes, numbers_bytes}
-use Rattle.ix_posting.specs.Rows.{row_bytes as posting_bytes}
+use Rattle.ix_posting.specs.Rows.{posting_bytes}
 use Rattle.ix_context.specs.Postings.{postings_of}
 use Rattle.ix_context.specs.Indexes.{Index, Mark, Pending, Marked, text_seen}
 use Rattle.ix_context.specs.Spelling.{Numbering, index_entry}

@@ -11,11 +11,12 @@ use Rattle.std.specs.FinMap.{get, entries, find, get-from_entries, nat_cmp-IsAnt
 use Rattle.ct_bytes.specs.RowKeys.{row_bytes}
 use Rattle.ct_entry.specs.declared.kinds.Kind.TheVariants as kind
 use Rattle.ct_entry.specs.Keys.{Key, key, row_part, document_part, posting_part, same_list, IsRow, IsDocument, IsToken}
-use Rattle.ct_entry.specs.KeyLaws.{list_from_same}
+use Rattle.ct_entry.specs.laws.Keys.{list_from_same}
 use Rattle.ct_entry.specs.Maps.{Names}
-use Rattle.ct_entry.specs.MapLaws.{names_tie, option_map_some, and_then_some}
+use Rattle.ct_entry.specs.laws.Maps.{names_tie}
+use Rattle.ct_base.specs.laws.Options.{option_map_some, and_then_some}
 use Rattle.tb_table.specs.Tables.{Tables}
-use Rattle.ix_posting.specs.Rows.{row_bytes as posting_bytes}
+use Rattle.ix_posting.specs.Rows.{posting_bytes}
 use Rattle.ix_context.specs.Postings.{words_of, positions_from, positions, postings_of}
 use Rattle.ix_context.specs.Indexes.{Index, Mark, Pending, Marked, is_marked, mark_of, mark_at, text_seen}
 use Rattle.ix_context.specs.Spelling.{Numbering, IsNumbering, IndexesSpelled, index_entry, queued, posting_value, document_text}

@@ -8,13 +8,13 @@ use Rattle.std.proofs.lemmas.List.Sums.{sum_by-cons, sum_by-append}
 use Rattle.ct_base.specs.declared.lists.Value.{Value}
 use Rattle.ct_bytes.specs.RowKeys.{row_bytes}
 use Rattle.ct_bytes.specs.Varints.{varint}
-use Rattle.ct_bytes.specs.VarintLaws.{varint_length}
+use Rattle.ct_bytes.specs.laws.Varints.{varint_length}
 use Rattle.ct_keep.specs.Content.{entry_weight}
 use Rattle.ct_entry.specs.declared.kinds.Kind.TheVariants as kind
 use Rattle.ct_entry.specs.Keys.{key, bytes, row_part, document_part, posting_part}
 use Rattle.tb_table.specs.Tables.{Table, Tables, numbers_of, texts_of}
 use Rattle.tb_table.specs.Spelling.{columns_bytes, numbers_bytes}
-use Rattle.ix_posting.specs.Rows.{row_bytes as posting_bytes, steps, varints}
+use Rattle.ix_posting.specs.Rows.{posting_bytes, steps, varints}
 use Rattle.ix_context.specs.Postings.{postings_of}
 use Rattle.ix_context.specs.Indexes.{Index, Mark, Pending, Marked, text_seen}
 use Rattle.ix_context.specs.Spelling.{Numbering, index_entry}

@@ -6,7 +6,7 @@ use Rattle.ct_base.specs.declared.lists.Value.{Value}
 use Rattle.ct_base.specs.declared.lists.Value.TheVariants.{Number, Text}
 use Rattle.ct_entry.specs.declared.kinds.Kind.TheVariants as kind
 use Rattle.ct_entry.specs.Keys.{Key, key, row_part, text_part, IsRow}
-use Rattle.ct_entry.specs.MapLaws.{option_map_some, and_then_some}
+use Rattle.ct_base.specs.laws.Options.{option_map_some, and_then_some}
 use Rattle.tb_table.specs.Tables.{Table, Tables, row_in, row_at, numbers_of, as_text, text_in, text_of, texts_from, texts_of}
 use Rattle.tb_table.specs.Spelling.{columns_bytes, numbers_bytes, TablesStand}
 use Rattle.db_state.proofs.WeighLists.{IsIn, in_map, in_flat_map}

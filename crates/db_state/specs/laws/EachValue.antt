@@ -7,13 +7,14 @@ use Rattle.std.specs.Ordering.{is_lt}
 use Rattle.std.specs.Cmp.{IsTotalOrder}
 use Rattle.std.specs.FinMap.{FinMap, empty, entries, from_entries, entries-insert, len-entries, len-empty}
 use Rattle.std.specs.FinMap.Entries.{put, by_order}
-use Rattle.ct_keep.specs.RisingKeys.{and_true, below, rises, entries_rise}
+use Rattle.std.proofs.lemmas.Bool.{and_parts}
+use Rattle.ct_keep.specs.RisingKeys.{below, rises, entries_rise}
 use Rattle.ct_entry.specs.Maps.{each_value}
 
 module _ {K X : Type 0} (R : K → K → Ordering) where
   put_first : (k : K) (v : X) (es : List (K × X)) → below R k es ≡ true → put R k v es ≡ (k, v) ∷ es
   put_first k v [] h = refl
-  put_first k v (e ∷ es) h = go (R k e.0) (and_true (is_lt (R k e.0)) (below R k es) h).0
+  put_first k v (e ∷ es) h = go (R k e.0) (and_parts (is_lt (R k e.0)) (below R k es) h).0
     where
       go : (o : Ordering) → is_lt o ≡ true → by_order o ((k, v) ∷ e ∷ es) ((e.0, v) ∷ es) (e ∷ put R k v es) ≡ (k, v) ∷ e ∷ es
       go Less h = refl
@@ -30,7 +31,7 @@ module _ {K X : Type 0} (R : K → K → Ordering) where
   pub entries-from_rising : IsTotalOrder R → (es : List (K × X)) → rises R es ≡ true → entries (from_entries {R = R} es) ≡ es
   entries-from_rising o [] up = none_in_empty
   entries-from_rising o (e ∷ es) up =
-      let b = and_true (below R e.0 es) (rises R es) up in
+      let b = and_parts (below R e.0 es) (rises R es) up in
       entries-insert o (from_entries es) e.0 e.1 ∙ ap (put R e.0 e.1) (entries-from_rising o es b.1) ∙ put_first e.0 e.1 es b.0
 
 module _ {K X Y : Type 0} (R : K → K → Ordering) (f : X → Y) where

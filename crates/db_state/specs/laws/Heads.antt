@@ -9,7 +9,7 @@ use Rattle.ct_bytes.specs.Varints.{text_bytes}
 use Rattle.ct_entry.specs.declared.kinds.Kind.TheVariants as kind
 use Rattle.ct_entry.specs.Keys.{Key, key}
 use Rattle.ct_entry.specs.Maps.{Names, each_value}
-use Rattle.ct_entry.specs.MapLaws.{get-each_value}
+use Rattle.ct_entry.specs.laws.Maps.{get-each_value}
 use Rattle.tb_table.specs.declared.columns.Column.{Column}
 use Rattle.tb_table.specs.Tables.{Tables}
 use Rattle.tb_table.specs.Rules.{AreTables}

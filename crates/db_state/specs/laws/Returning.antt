@@ -5,7 +5,7 @@ use Rattle.ct_keep.specs.Content.{Content}
 use Rattle.ct_keep.specs.declared.keepers.KeepFault.TheVariants.{Memory, Full as NoRoom, Disk}
 use Rattle.ct_keep.specs.KeeperViews.{KeeperView, Kept, Reads, Goes, IsSettled, fault_of}
 use Rattle.db_state.specs.Plans.{CommitsOnce, ContentStays, Returns, ReturnsBy}
-use Rattle.ct_base.specs.Moments.{passes_more}
+use Rattle.ct_base.specs.laws.Moments.{passes_more}
 use Rattle.ct_keep.specs.declared.keepers.KeepFault.{KeepFault}
 use Rattle.ct_keep.specs.Composing.{reads_on, reads_hold, reads_then, reads_only, reads_failed}
 

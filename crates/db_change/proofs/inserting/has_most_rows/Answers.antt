@@ -3,7 +3,7 @@ use Rattle.std.specs.Prelude.{IsTrue, ◌↔◌}
 use Rattle.std.specs.FinMap.{entries}
 use Rattle.std.proofs.lemmas.List.{length-map}
 use Rattle.tb_table.specs.Tables.{keys_in}
-use Rattle.tb_table.specs.ReadLaws.{rows_read}
+use Rattle.tb_table.specs.laws.Reading.{rows_read}
 use Rattle.db_change.proofs.InsertSteps.{many_rows}
 use Rattle.db_change.proofs.inserting.has_most_rows.Goals as goal
 

@@ -5,7 +5,7 @@ use Rattle.ct_base.specs.declared.numbers.RowKey.{RowKey}
 use Rattle.std.proofs.lemmas.Result.{IfOk-weaker}
 use Rattle.ct_entry.specs.Keys.{at, IsRow}
 use Rattle.tb_table.specs.Tables.{Table, row_in}
-use Rattle.tb_table.specs.ReadLaws.{row_read}
+use Rattle.tb_table.specs.laws.Reading.{row_read}
 use Rattle.db_change.specs.Inserting.{has_row}
 use Rattle.db_change.proofs.inserting.is_taken.Goals as goal
 

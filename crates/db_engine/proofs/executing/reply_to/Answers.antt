@@ -11,8 +11,7 @@ use Rattle.db_state.specs.Effects.{Refused, refuse, reply_by}
 use Rattle.db_change.specs.Creating.{create_table}
 use Rattle.db_index.specs.Indexing.{create_index, index_created}
 use Rattle.db_change.specs.Inserting.{insert_into}
-use Rattle.db_engine.specs.Steps.{effect, select_by}
-use Rattle.db_engine.specs.Steps.{call}
+use Rattle.db_engine.specs.Steps.{effect, select_by, call}
 use Rattle.db_engine.specs.Executing.{done_line, is_fixed, is_sync}
 use Rattle.db_engine.proofs.Telling.{is_not}
 use Rattle.db_state.specs.laws.Serving.{serves_short, serves_refused, serves_look, serves_as}

@@ -1,7 +1,7 @@
 use Rattle.std.proofs.Common.{length, ap, ◌∙◌}
 use Rattle.std.specs.Prelude.{nat_le}
 use Rattle.ct_entry.specs.Keys.{at}
-use Rattle.db_names.specs.HeadLaws.{indexes_of_read}
+use Rattle.db_names.specs.laws.Heads.{indexes_of_read}
 use Rattle.db_state.specs.States.{most_indexes}
 use Rattle.db_state.specs.laws.Heads.{heads, heads_stand}
 use Rattle.db_index.proofs.IndexChecks.{heads_count}

@@ -1,6 +1,6 @@
 use Rattle.std.proofs.Common.{map, sym}
 use Rattle.std.specs.Char.{to_ascii_lowercase}
-use Rattle.ct_entry.specs.KeyLaws.{lists_tie}
+use Rattle.ct_entry.specs.laws.Keys.{lists_tie}
 use Rattle.db_select.proofs.querying.is_same_word.Goals as goal
 
 pub returns : goal.returns

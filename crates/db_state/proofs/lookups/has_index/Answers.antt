@@ -2,7 +2,7 @@ use Rattle.std.proofs.Common.{Option, ap, ◌∙◌}
 use Rattle.std.specs.Prelude.{is_some}
 use Rattle.ct_entry.specs.Keys.{at}
 use Rattle.db_names.specs.declared.heads.IndexHead.{IndexHead}
-use Rattle.db_names.specs.HeadLaws.{head_read}
+use Rattle.db_names.specs.laws.Heads.{head_read}
 use Rattle.db_state.specs.laws.Heads.{heads, heads_stand, get-heads, some_heads}
 use Rattle.db_state.proofs.lookups.has_index.Goals as goal
 

@@ -2,7 +2,7 @@ use Rattle.std.proofs.Common.{length, ap, ◌∙◌}
 use Rattle.std.specs.Prelude.{nat_le}
 use Rattle.std.specs.FinMap.{entries}
 use Rattle.std.proofs.lemmas.List.{length-map}
-use Rattle.tb_table.specs.ReadLaws.{tables_read}
+use Rattle.tb_table.specs.laws.Reading.{tables_read}
 use Rattle.db_state.specs.States.{most_tables}
 use Rattle.db_state.proofs.lookups.has_most_tables.Goals as goal
 

@@ -4,7 +4,7 @@ use Rattle.std.proofs.lemmas.Result.{IfOk-weaker}
 use Rattle.std.specs.declared.alloc.Global.{Global}
 use Rattle.ct_entry.specs.Keys.{at}
 use Rattle.tb_table.specs.declared.columns.Column.{Column}
-use Rattle.tb_table.specs.ReadLaws.{columns_read}
+use Rattle.tb_table.specs.laws.Reading.{columns_read}
 use Rattle.db_state.proofs.lookups.table_columns.Goals as goal
 
 pub returns-clause-columns : goal.returns-clause-columns
