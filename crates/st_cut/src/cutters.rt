@@ -30,7 +30,7 @@ impl Model for Cutter {
     ghost invariant = { λ c. (c.limit ≤ vec_capacity c.kept) × (length c.kept.items ≡ min c.count c.limit) × (c.count ≤ c.limit + 1) × IsStopWithin c.stop c.count };
 }
 
-fn is_blank(byte: u8) -> bool
+fn is_blank_byte(byte: u8) -> bool
     ensures { result ≡ is_blank_byte byte }
 {
     byte == b' ' || byte == b'\t' || byte == b'\r'
@@ -42,7 +42,7 @@ fn stop_after(stop: Option<usize>, count: usize, byte: u8) -> Option<usize>
 {
     if byte == b';' {
         Some(count)
-    } else if is_blank(byte) {
+    } else if is_blank_byte(byte) {
         stop
     } else {
         None

@@ -138,7 +138,19 @@ head (c ∷ cs) = c
 sign-parted : (s : Symbol) (c : ℕ) (cs : List ℕ) → c ∷ [] ≡ sign s → ((c == 60) && is_first 61 cs) ≡ false → ((c == 62) && is_first 61 cs) ≡ false
     → begins_comment c cs ≡ false → starts (joins_sign s) cs ≡ false
 sign-parted s c cs e a b d =
-    elim s as (λ s. c ∷ [] ≡ sign s → starts (joins_sign s) cs ≡ false) [ Less ↦ λ e. not-first 61 cs (subst (λ x. ((x == 60) && is_first 61 cs) ≡ false) (ap (λ x. head x) e) a) | Greater ↦ λ e. not-first 61 cs (subst (λ x. ((x == 62) && is_first 61 cs) ≡ false) (ap (λ x. head x) e) b) | Minus ↦ λ e. not-first 45 cs (subst (λ x. begins_comment x cs ≡ false) (ap (λ x. head x) e) d) | Open ↦ λ e. no-start cs | Close ↦ λ e. no-start cs | Comma ↦ λ e. no-start cs | Dot ↦ λ e. no-start cs | Star ↦ λ e. no-start cs | Equal ↦ λ e. no-start cs | AtMost ↦ λ e. no-start cs | AtLeast ↦ λ e. no-start cs ] e
+    elim s as (λ s. c ∷ [] ≡ sign s → starts (joins_sign s) cs ≡ false) [
+      | Less ↦ λ e. not-first 61 cs (subst (λ x. ((x == 60) && is_first 61 cs) ≡ false) (ap (λ x. head x) e) a)
+      | Greater ↦ λ e. not-first 61 cs (subst (λ x. ((x == 62) && is_first 61 cs) ≡ false) (ap (λ x. head x) e) b)
+      | Minus ↦ λ e. not-first 45 cs (subst (λ x. begins_comment x cs ≡ false) (ap (λ x. head x) e) d)
+      | Open ↦ λ e. no-start cs
+      | Close ↦ λ e. no-start cs
+      | Comma ↦ λ e. no-start cs
+      | Dot ↦ λ e. no-start cs
+      | Star ↦ λ e. no-start cs
+      | Equal ↦ λ e. no-start cs
+      | AtMost ↦ λ e. no-start cs
+      | AtLeast ↦ λ e. no-start cs
+    ] e
 
 second : (cs : List ℕ) → is_first 61 cs ≡ true → cs ≡ 61 ∷ drop 1 cs
 second [] h = cc

@@ -77,7 +77,8 @@ create_of (Word INDEX ∷ ls) = create_index_of ls
 create_of ls = None
 
 -- computed examples
-the_key : column_at (Name (codes "id") ∷ Word NUMBER ∷ Word PRIMARY ∷ Word KEY ∷ Sign Close ∷ []) ≡ Some (record { name = codes "id"; sort = NumberSort; primary = true }, Sign Close ∷ [])
+the_key : column_at (Name (codes "id") ∷ Word NUMBER ∷ Word PRIMARY ∷ Word KEY ∷ Sign Close ∷ [])
+    ≡ Some (record { name = codes "id"; sort = NumberSort; primary = true }, Sign Close ∷ [])
 the_key = refl
 
 a_short_text : column_at (Name (codes "title") ∷ Word VARCHAR2 ∷ Sign Open ∷ Number (codes "80") ∷ Sign Close ∷ Sign Close ∷ [])
@@ -87,5 +88,6 @@ a_short_text = refl
 of_its_owner : kind_of (Word INDEXTYPE ∷ Word IS ∷ Word CTXSYS ∷ Sign Dot ∷ Word CONTEXT ∷ []) ≡ Some Context
 of_its_owner = refl
 
-two_columns : create_of (Word INDEX ∷ Name (codes "i") ∷ Word ON ∷ Name (codes "t") ∷ Sign Open ∷ Name (codes "a") ∷ Sign Comma ∷ Name (codes "b") ∷ Sign Close ∷ Word INDEXTYPE ∷ Word IS ∷ Word CONTEXT ∷ []) ≡ None
+two_columns : create_of (Word INDEX ∷ Name (codes "i") ∷ Word ON ∷ Name (codes "t") ∷ Sign Open ∷ Name (codes "a") ∷ Sign Comma
+    ∷ Name (codes "b") ∷ Sign Close ∷ Word INDEXTYPE ∷ Word IS ∷ Word CONTEXT ∷ []) ≡ None
 two_columns = refl

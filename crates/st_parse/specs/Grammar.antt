@@ -31,7 +31,8 @@ abbrev pub IsStatement : List Lexeme → Statement → Type 0
 IsStatement ls (CreateTable name columns) =
     (list : List Lexeme) × AreEnclosed IsColumn list columns × (ls ≡ Word CREATE ∷ Word TABLE ∷ Name name ∷ list)
 IsStatement ls (CreateIndex name table column kind None None) =
-    (kinds : List Lexeme) × IsKind kinds kind × (ls ≡ Word CREATE ∷ Word INDEX ∷ Name name ∷ Word ON ∷ Name table ∷ Sign Open ∷ Name column ∷ Sign Close ∷ Word INDEXTYPE ∷ Word IS ∷ kinds)
+    (kinds : List Lexeme) × IsKind kinds kind
+    × (ls ≡ Word CREATE ∷ Word INDEX ∷ Name name ∷ Word ON ∷ Name table ∷ Sign Open ∷ Name column ∷ Sign Close ∷ Word INDEXTYPE ∷ Word IS ∷ kinds)
 IsStatement ls (Insert table columns values) =
     (names list : List Lexeme) × AreColumnNames names columns × AreEnclosed IsOperand list values × (ls ≡ Word INSERT ∷ Word INTO ∷ Name table ∷ (names ++ Word VALUES ∷ list))
 IsStatement ls (Select (Items items) table (pred ∷ []) []) =
@@ -95,7 +96,8 @@ index = refl
 index_of_later : read (codes "CREATE INDEX di ON docs(body) INDEXTYPE IS CTXCAT") ≡ NoStatement
 index_of_later = refl
 
-row : read (codes "INSERT INTO docs VALUES (1,'quick fox quick',0)") ≡ Found (Insert (codes "docs") None (NumberValue (Fits (pos 1)) ∷ TextValue (codes "quick fox quick") ∷ NumberValue (Fits (pos 0)) ∷ []))
+row : read (codes "INSERT INTO docs VALUES (1,'quick fox quick',0)")
+    ≡ Found (Insert (codes "docs") None (NumberValue (Fits (pos 1)) ∷ TextValue (codes "quick fox quick") ∷ NumberValue (Fits (pos 0)) ∷ []))
 unfolding encode
 row = refl
 

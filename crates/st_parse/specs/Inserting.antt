@@ -38,7 +38,8 @@ insert_of (Word INTO ∷ Name table ∷ ls) = insert_columns_of table ls
 insert_of ls = None
 
 -- computed examples
-of_two_columns : insert_of (Word INTO ∷ Name (codes "t") ∷ Sign Open ∷ Name (codes "a") ∷ Sign Comma ∷ Name (codes "b") ∷ Sign Close ∷ Word VALUES ∷ Sign Open ∷ Text (codes "x") ∷ Sign Close ∷ [])
+of_two_columns : insert_of (Word INTO ∷ Name (codes "t") ∷ Sign Open ∷ Name (codes "a") ∷ Sign Comma ∷ Name (codes "b") ∷ Sign Close
+    ∷ Word VALUES ∷ Sign Open ∷ Text (codes "x") ∷ Sign Close ∷ [])
     ≡ Some (Insert (codes "t") (Some (codes "a" ∷ codes "b" ∷ [])) (TextValue (codes "x") ∷ []))
 of_two_columns = refl
 

@@ -98,7 +98,8 @@ lexemes text = lexemes_in (length text) text
 
 -- computed examples
 call : lexemes (codes "EXEC Ctx_Doc.Policy_Tokens('it''s', <=-12a) -- no 'text")
-    ≡ Some (Word Exec ∷ Name (codes "ctx_doc") ∷ Sign Dot ∷ Name (codes "policy_tokens") ∷ Sign Open ∷ Text (codes "it's") ∷ Sign Comma ∷ Sign AtMost ∷ Sign Minus ∷ Number (codes "12") ∷ Name (codes "a") ∷ Sign Close ∷ [])
+    ≡ Some (Word Exec ∷ Name (codes "ctx_doc") ∷ Sign Dot ∷ Name (codes "policy_tokens") ∷ Sign Open
+    ∷ Text (codes "it's") ∷ Sign Comma ∷ Sign AtMost ∷ Sign Minus ∷ Number (codes "12") ∷ Name (codes "a") ∷ Sign Close ∷ [])
 unfolding encode
 call = refl
 

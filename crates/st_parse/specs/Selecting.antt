@@ -64,7 +64,8 @@ select_of ls = list_at item_at ls >>= λ items. from_of items.0 items.1
 a_score : item_at (Word SCORE ∷ Sign Open ∷ Number (codes "10") ∷ Sign Close ∷ Word FROM ∷ []) ≡ Some (Score (Fits (pos 10)), Word FROM ∷ [])
 a_score = refl
 
-with_a_label : pred_of (Word CONTAINS ∷ Sign Open ∷ Name (codes "body") ∷ Sign Comma ∷ Text (codes "fox") ∷ Sign Comma ∷ Number (codes "2") ∷ Sign Close ∷ Sign Greater ∷ Number (codes "50") ∷ [])
+with_a_label : pred_of (Word CONTAINS ∷ Sign Open ∷ Name (codes "body") ∷ Sign Comma ∷ Text (codes "fox")
+    ∷ Sign Comma ∷ Number (codes "2") ∷ Sign Close ∷ Sign Greater ∷ Number (codes "50") ∷ [])
     ≡ Some (Contains (codes "body") (codes "fox") (Some (Fits (pos 2))) (Fits (pos 50)))
 with_a_label = refl
 
