@@ -4,3 +4,5 @@ pub mod Causes
 pub mod Characters
 pub mod Moments
 pub mod NameLaws
+pub mod Zeros
+pub mod laws
