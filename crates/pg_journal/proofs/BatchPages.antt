@@ -200,6 +200,7 @@ homes_of_root homes (w ∷ ws) root is = of (cases_eq w.0 2)
   where
     some_same : {x y : List ℕ} → Some x ≡ Some y → x ≡ y
     some_same e = cc
+
     of : (w.0 ≡ 2) ⊎ (w.0 ≢ 2) → homes_in root ≡ homes_with homes (w ∷ ws)
     of (inl two) = let same : w.1 ≡ root = some_same (sym (root_same w.0 w.1 ws two) ∙ is) in ap (λ (l : List ℕ). homes_in l) (sym same) ∙ grind (arith, nat_tests)
     of (inr other) = absurd (cc (root_other w.0 w.1 ws other, is))
@@ -218,6 +219,7 @@ root_put_on end (w ∷ ws) f root between is = of (cases_eq w.0 2)
   where
     some_same : {x y : List ℕ} → Some x ≡ Some y → x ≡ y
     some_same e = cc
+
     of : (w.0 ≡ 2) ⊎ (w.0 ≢ 2) → root ≡ put_on (w ∷ ws) f 2
     of (inl two) =
         let same : root ≡ w.1 = some_same (sym is ∙ root_same w.0 w.1 ws two) in

@@ -38,7 +38,7 @@ impl Model for Journal {
 }
 
 impl Journal {
-    /// Makes the store on an unborn disk, or puts home a batch that a stop has left, and gives the journal of the store. At
+    /// Makes the store on an unborn disk, or puts home a batch that a crash has left, and gives the journal of the store. At
     /// each moment the disk recovers to what it did. NotAStore exactly where it recovers to no pages, and nothing was written
     /// then. What a crash leaves is told where nothing was pending.
     pub fn load<D: Disk>(alloc: Global, disk: &mut D) -> Result<Journal, LoadFault>
@@ -103,10 +103,10 @@ fn load_unborn<D: Disk>(disk: &mut D, empty: bool) -> Result<Journal, LoadFault>
     ensures length { Grows 12288 (D.disk disk.old) (D.disk disk.new) }
     ensures loads { Loads (D.disk disk.old) (D.disk disk.new) result }
 {
-    let Ok(()) = make_store(disk, empty) else {
-        return Err(LoadFault::Disk);
-    };
-    Ok(Journal { homes: 3 })
+    match make_store(disk, empty) {
+        Ok(()) => Ok(Journal { homes: 3 }),
+        Err(Failed) => Err(LoadFault::Disk),
+    }
 }
 
 /// Loads a store whose gate is closed.

@@ -56,11 +56,7 @@ fn number_page(numbers: &[u32]) -> [u8; 4096]
 }
 
 /// Writes numbers, four bytes each, and zeros that fill the last page; a page at a time.
-pub(crate) fn write_numbers<D: Disk>(
-    disk: &mut D,
-    at: u64,
-    numbers: &[u32],
-) -> Result<(), Failed>
+pub(crate) fn write_numbers<D: Disk>(disk: &mut D, at: u64, numbers: &[u32]) -> Result<(), Failed>
     requires within { IsWithin at (D.disk disk.old) }
     requires fits { at + 4 * length numbers.now < 2 ^ 45 }
     ensures writes { Writes at (spelled numbers.now ++ zeros (filling (length numbers.now))) (D.disk disk.old) (D.disk disk.new) result }

@@ -19,13 +19,20 @@ put c =
 
 pub insert-requires : goal.insert-requires
 insert-requires c =
-    omega (arith, place_within c.args.page c.self.inside.numbers.items c.self.inside.bytes.items,
-    seen_place c.self.inside.numbers.items _ c.self.inside.bytes.items c.args.page c.place_of-at.result c.deref.ensures.value c.self.invariant.numbers c.place_of-at.ensures)
+    omega (
+      arith,
+      place_within c.args.page c.self.inside.numbers.items c.self.inside.bytes.items,
+      seen_place c.self.inside.numbers.items _ c.self.inside.bytes.items c.args.page c.place_of-at.result c.deref.ensures.value c.self.invariant.numbers c.place_of-at.ensures,
+    )
 
 pub insert_page-requires-clause-within : goal.insert_page-requires-clause-within
 insert_page-requires-clause-within c =
-    omega (arith, place_within c.args.page c.self.inside.numbers.items c.self.inside.bytes.items, c.self.invariant.long,
-    seen_place c.self.inside.numbers.items _ c.self.inside.bytes.items c.args.page c.place_of-at.result c.deref.ensures.value c.self.invariant.numbers c.place_of-at.ensures)
+    omega (
+      arith,
+      place_within c.args.page c.self.inside.numbers.items c.self.inside.bytes.items,
+      c.self.invariant.long,
+      seen_place c.self.inside.numbers.items _ c.self.inside.bytes.items c.args.page c.place_of-at.result c.deref.ensures.value c.self.invariant.numbers c.place_of-at.ensures,
+    )
 
 pub insert_page-requires-clause-room : goal.insert_page-requires-clause-room
 insert_page-requires-clause-room c =
