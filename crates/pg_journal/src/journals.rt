@@ -77,6 +77,15 @@ impl Journal {
             load_closed(disk, size)
         }
     }
+    /// How many home pages there are, page 0 and page 1 counted.
+    pub fn homes(&self) -> u32
+        ensures homes { result ≡ self.now }
+        ensures least { 3 ≤ result }
+        ensures most { result ≤ 2 ^ 31 }
+    {
+        self.homes
+    }
+
     /// Puts the pages of a batch on those of the store, all of them or none. At each moment the recovered pages are the old
     /// ones or those with the batch put on them, and after Ok the latter. After an error the journal is loaded again.
     pub fn commit<D: Disk>(&mut self, disk: &mut D, batch: &PageBatch) -> Result<(), Failed>

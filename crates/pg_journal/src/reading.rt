@@ -86,7 +86,7 @@ pub(crate) fn has_mark<D: Disk>(disk: &mut D) -> Result<bool, Failed>
 }
 
 /// The bytes of a root with so many homes.
-fn root_bytes(homes: u32) -> [u8; 4096]
+pub(crate) fn root_bytes(homes: u32) -> [u8; 4096]
     ensures { result ≡ root_page homes }
 {
     let mut bytes = [0; 4096];

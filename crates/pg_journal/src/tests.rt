@@ -1,6 +1,10 @@
 //! A store in memory: stopped at each call, on a disk of which each call fails in turn, and loaded from damaged images.
 
-use crate::{Journal, LoadFault, PageBatch};
+ghost use Rattle.std.specs.Prelude.{◌≤◌, ℕ, IfOk};
+ghost use Rattle.pg_journal.specs.Standing.{MayCommit};
+
+use crate::reading::root_bytes;
+use crate::{Journal, PageBatch};
 use ct_base::{Memory, Numbers};
 use ct_site::{Disk, Faults, MemSite, Pick, Rooms};
 use std::alloc::Global;
@@ -18,19 +22,29 @@ const PICKS: [Pick; 4] = [Pick::Old, Pick::New, Pick::Zeros, Pick::Ones];
 fn stopped(alloc: Global, image: &[u8], stop: Option<u64>) -> Result<MemSite, Memory> {
     let mut faults = Faults::none(alloc);
     faults.stop = stop;
-    let image = Vec::from_slice(alloc, image)?;
+    let count = image.len().min(ROOMS.image);
+    let image = Vec::from_slice(alloc, &image[..count])?;
     MemSite::new(alloc, Vec::new(alloc), image, faults, ROOMS)
 }
 
 /// A batch that makes four homes of three; the page behind the old ones is full of sevens.
-fn grown(alloc: Global) -> Result<PageBatch, Memory> {
+fn grown(alloc: Global) -> Result<PageBatch, Memory>
+    ensures { IfOk result (λ batch. (homes : ℕ) → 3 ≤ homes → MayCommit homes batch.pages) }
+{
     let mut batch = PageBatch::new(alloc, 2)?;
-    let mut root = [0; 4096];
-    root[0] = 4;
-    root[7] = 4;
     batch.put(3, &[7; 4096]);
-    batch.put(2, &root);
+    batch.put(2, &root_bytes(4));
     Ok(batch)
+}
+
+/// Whether a store is there, and the batch was committed to it.
+fn is_committed(alloc: Global, site: &mut MemSite) -> Result<bool, Memory> {
+    let batch = grown(alloc)?;
+    let Ok(mut journal) = Journal::load(alloc, site) else {
+        return Ok(false);
+    };
+    let _homes = journal.homes();
+    Ok(journal.commit(site, &batch).is_ok())
 }
 
 /// How many homes a store has, 3 or 4; 1 where it has four and page 3 isn't whole.
@@ -47,10 +61,7 @@ fn homes_of(image: &[u8]) -> u8 {
 /// What is loaded after a stop at this call and a crash; 0 where it is no store.
 fn outcome(alloc: Global, stop: u64, pick: Pick) -> Result<u8, Memory> {
     let mut first = stopped(alloc, b"", Some(stop))?;
-    let batch = grown(alloc)?;
-    if let Ok(mut journal) = Journal::load(alloc, &mut first) {
-        let _ = journal.commit(&mut first, &batch);
-    }
+    let _ = is_committed(alloc, &mut first)?;
     let left = first.crash(alloc, pick)?;
     let mut second = stopped(alloc, &left, None)?;
     if Journal::load(alloc, &mut second).is_err() {
@@ -62,39 +73,28 @@ fn outcome(alloc: Global, stop: u64, pick: Pick) -> Result<u8, Memory> {
 #[test]
 fn a_stop_leaves_the_old_pages_or_the_new_ones(rt: HostRuntime) -> Result<(), Fail> {
     let alloc = rt.alloc();
-    let mut old = 0;
-    let mut new = 0;
+    let mut old = false;
+    let mut new = false;
     for stop in 0..30 {
         for pick in PICKS {
             let homes = outcome(alloc, stop, pick)?;
             assert!(rt; homes == 3 || homes == 4);
-            if homes == 3 {
-                old += 1;
-            } else {
-                new += 1;
-            }
+            old = old || homes == 3;
+            new = new || homes == 4;
         }
     }
-    assert!(rt; old > 0);
-    assert!(rt; new > 0);
+    assert!(rt; old && new);
     Ok(())
 }
 
-/// Whether a load from an empty image and a commit fail where this call of the disk fails, and the store stands after another
+/// Whether a load from an empty image or a commit fails where this call of the disk fails, and the store stands after another
 /// load.
 fn is_mended(alloc: Global, call: u64) -> Result<bool, Memory> {
     let mut faults = Faults::none(alloc);
     faults.disk = Numbers::of(Vec::from_slice(alloc, &[call])?);
     let mut site = MemSite::new(alloc, Vec::new(alloc), Vec::new(alloc), faults, ROOMS)?;
-    let batch = grown(alloc)?;
-    match Journal::load(alloc, &mut site) {
-        Ok(mut journal) => {
-            if journal.commit(&mut site, &batch).is_ok() {
-                return Ok(false);
-            }
-        }
-        Err(LoadFault::Disk) => {}
-        Err(_) => return Ok(false),
+    if is_committed(alloc, &mut site)? {
+        return Ok(false);
     }
     Ok(Journal::load(alloc, &mut site).is_ok() && homes_of(site.image()) >= 3)
 }

@@ -18,12 +18,12 @@ loop-done-init g c = record {
 pub overflow_mul-run : goal.overflow_mul-run
 overflow_mul-run g c =
     let long = long_kept c.args.batch.now.pages _ _ _ c.numbers-numbers.ensures.between c.numbers-numbers.ensures.numbers c.bytes-bytes.ensures in
-    omega (arith, long, c.loop-done.invariant.most, c.type_inv.bytes)
+    omega (arith, long, c.loop-done.invariant.most)
 
 pub overflow_mul-run-in-loop-done : goal.overflow_mul-run-in-loop-done
 overflow_mul-run-in-loop-done g c =
     let long = long_kept c.args.batch.now.pages _ _ _ c.numbers-numbers.ensures.between c.numbers-numbers.ensures.numbers c.bytes-bytes.ensures in
-    omega (arith, long, c.run_end-end.ensures.within, c.type_inv.bytes)
+    omega (arith, long, c.run_end-end.ensures.within)
 
 pub slice_bounds-run-end : goal.slice_bounds-run-end
 slice_bounds-run-end g c =
