@@ -9,8 +9,6 @@ use Rattle.pg_journal.specs.Recovered.{IsRecovered, gate}
 use Rattle.pg_journal.specs.Standing.{IsShut, Stands, homes_with, HasGoodRoot, MayCommit, IsEither}
 use Rattle.pg_journal.specs.Staging.{IsStaged, Staged, IsGoal, IsSettling, AtHome, IsGateWrite, IsGateSet}
 use Rattle.std.specs.Prelude.{◌^◌}
-use Rattle.std.specs.Prelude.{OnOk}
-use Rattle.std.proofs.Common.{None, Result, Ok, Err}
 use Rattle.pg_journal.proofs.Pages.{with_same, with_other, put_on_below, put_on_root, changed_homes, between_length}
 use Rattle.pg_journal.proofs.Shut.{shut_still, shut_recovers, opened, settling_recovers, settling_again, shut_again}
 

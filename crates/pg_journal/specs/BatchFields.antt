@@ -1,5 +1,5 @@
 -- The fields of a batch.
-use Rattle.std.specs.Prelude.{◌≡◌, ◌^◌, ◌*◌, ◌≤◌, length, vec_len}
+use Rattle.std.specs.Prelude.{◌≡◌, ◌^◌, ◌*◌, ◌≤◌, vec_len}
 use Rattle.std.specs.Vec.{vec_capacity}
 use Rattle.pg_journal.specs.declared.batches.PageBatch.TheInside.{Inside}
 use Rattle.pg_journal.specs.Pages.{AreBetween}

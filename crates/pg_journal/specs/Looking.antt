@@ -3,8 +3,8 @@ use Rattle.std.specs.Prelude.{◌≡◌, ◌≢◌, ℕ, ◌+◌, ◌*◌, ◌�
 use Rattle.std.proofs.Common.{◌∙◌, arith}
 use Rattle.ct_site.specs.declared.outside.Failed.{Failed}
 use Rattle.ct_base.specs.Causes.{Rose}
-use Rattle.ct_base.specs.Moments.{Keeps, keeps_then, stays_then}
-use Rattle.ct_site.specs.Disks.{DiskView, Works, IsSame}
+use Rattle.ct_base.specs.Moments.{Keeps, keeps_then}
+use Rattle.ct_site.specs.Disks.{DiskView, Works}
 use Rattle.pg_journal.specs.declared.faults.LoadFault.{LoadFault}
 use Rattle.pg_journal.specs.declared.faults.LoadFault.TheVariants.{Disk}
 use Rattle.pg_journal.specs.Pages.{page, byte, Numbered, AreBetween, put_on, homes_in, IsRoot}

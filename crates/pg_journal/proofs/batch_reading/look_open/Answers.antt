@@ -1,8 +1,8 @@
-use Rattle.std.proofs.Common.{ℕ, List, subst, sym, ap, ◌∙◌, ◌≡◌}
+use Rattle.std.proofs.Common.{List, subst, ap, ◌∙◌}
 use Rattle.std.specs.Option.{option_map}
 use Rattle.pg_journal.specs.BatchStates.{BatchState}
-use Rattle.pg_journal.specs.Pages.{page, Numbered, AreBetween, put_on}
-use Rattle.pg_journal.specs.Recovered.{IsOpen, batch_page, batch_in}
+use Rattle.pg_journal.specs.Pages.{Numbered, AreBetween}
+use Rattle.pg_journal.specs.Recovered.{batch_page}
 use Rattle.ct_site.specs.laws.Calls.{same_then}
 use Rattle.pg_journal.specs.Looking.{loads_then, loads_more, ok_is_no_fault}
 use Rattle.pg_journal.proofs.BatchReads.{no_batch, batch_of, no_root, root_of, root_too_far, found_opened}

@@ -1,7 +1,7 @@
-use Rattle.std.proofs.Common.{rules, ◌≡◌, ◌+◌, ◌*◌, ◌≤◌, ◌++◌, ◌∷◌, [], length, ℕ, List, sym, ap, subst, ◌∙◌, arith}
+use Rattle.std.proofs.Common.{rules, ◌≡◌, ◌+◌, ◌*◌, ◌++◌, ◌∷◌, [], length, ℕ, List, sym, ap, subst, ◌∙◌, arith}
 use Rattle.ct_site.specs.Disks.{works_then}
 use Rattle.pg_journal.specs.BatchStates.{BatchState}
-use Rattle.pg_journal.specs.Pages.{number, page, Numbered, AreBetween, with_more}
+use Rattle.pg_journal.specs.Pages.{number, page, Numbered, AreBetween}
 use Rattle.pg_journal.specs.Recovered.{number_pages, batch_count, batch_page}
 use Rattle.ct_site.specs.laws.Calls.{same_then, works_as}
 use Rattle.pg_journal.specs.Looking.{IsRead}

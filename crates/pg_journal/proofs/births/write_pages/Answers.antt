@@ -3,7 +3,6 @@ use Rattle.std.proofs.lemmas.Result.{on_ok_weaker}
 use Rattle.ct_site.specs.Disks.{leaves_then, leaves_more}
 use Rattle.pg_journal.specs.Births.{born, IsCleared}
 use Rattle.ct_site.specs.laws.Lengths.{grows_more, grows_then, grows_same}
-use Rattle.ct_site.specs.laws.Writing.{on_ok_always}
 use Rattle.pg_journal.proofs.Birth.{keep_from, cleared_torn, cleared_all_unborn, given, settled_after, born_given, length-born}
 use Rattle.pg_journal.proofs.births.write_pages.Goals as goal
 

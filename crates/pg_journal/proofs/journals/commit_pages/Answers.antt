@@ -1,8 +1,5 @@
-use Rattle.std.proofs.Common.{refl, ◌+◌, ◌*◌, length, ◌+◌, ◌*◌, arith}
+use Rattle.std.proofs.Common.{◌+◌, ◌*◌, ◌+◌, ◌*◌, arith}
 use Rattle.std.proofs.lemmas.Result.{on_ok_weaker}
-use Rattle.std.proofs.lemmas.List.{length-map}
-use Rattle.std.specs.Prelude.{max}
-use Rattle.pg_journal.specs.Recovered.{number_pages}
 use Rattle.ct_site.specs.laws.Lengths.{grows_then, grows_more, within_less, within_grown}
 use Rattle.pg_journal.specs.Pages.{page, put_on}
 use Rattle.pg_journal.proofs.Pages.{has_between}

@@ -1,6 +1,5 @@
-use Rattle.std.proofs.Common.{List, Some, sym, ap, ◌∙◌}
+use Rattle.std.proofs.Common.{ap}
 use Rattle.std.specs.Option.{option_map}
-use Rattle.pg_journal.specs.BatchStates.{BatchState}
 use Rattle.ct_site.specs.laws.Calls.{settled_same}
 use Rattle.ct_site.specs.laws.Lengths.{grows_then, grows_same}
 use Rattle.pg_journal.proofs.Loading.{nothing_written, open_none, to_finish, finished, finish_moments, finish_inside}

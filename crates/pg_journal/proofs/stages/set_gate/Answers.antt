@@ -1,4 +1,4 @@
-use Rattle.std.proofs.Common.{[], ◌∷◌, arith}
+use Rattle.std.proofs.Common.{arith}
 use Rattle.std.proofs.lemmas.Result.{on_ok_weaker}
 use Rattle.pg_journal.proofs.Gates.{gate_cut, gate_given, gate_set}
 use Rattle.ct_site.specs.Disks.{leaves_then, leaves_more}

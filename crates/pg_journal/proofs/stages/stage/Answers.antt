@@ -1,10 +1,9 @@
-use Rattle.std.proofs.Common.{◌+◌, ◌*◌, List, ◌++◌, sym, ap, ◌*◌, ◌-◌, ◌≡◌, ◌∙◌, ℕ, length, arith}
-use Rattle.std.proofs.lemmas.List.{length-replicate, length-map}
+use Rattle.std.proofs.Common.{◌*◌, List, ◌++◌, ap, ◌*◌, ◌-◌, ◌≡◌, ◌∙◌, ℕ, length, arith}
+use Rattle.std.proofs.lemmas.List.{length-replicate}
 use Rattle.std.proofs.lemmas.Result.{on_ok_weaker}
 use Rattle.std.specs.Int.{to_be_bytes, w32}
 use Rattle.pg_journal.specs.BatchStates.{numbers_in}
 use Rattle.pg_journal.specs.Pages.{Numbered}
-use Rattle.pg_journal.specs.Recovered.{number_pages}
 use Rattle.pg_journal.proofs.BatchBytes.{length-batch}
 use Rattle.ct_site.specs.laws.Lengths.{within_less, within_same, within_grown, grows_then, grows_more, grows_same}
 use Rattle.pg_journal.proofs.BatchPages.{count_of_numbers}

@@ -1,6 +1,4 @@
-use Rattle.std.proofs.Common.{◌≡◌, ◌≤◌, ◌+◌, ◌*◌, ◌++◌, ℕ, List, length, refl, sym, ap, ◌∙◌, arith}
-use Rattle.pg_journal.specs.BatchStates.{numbers_in}
-use Rattle.pg_journal.specs.Recovered.{number_pages, images_bytes}
+use Rattle.std.proofs.Common.{ℕ, List, length, ap, arith}
 use Rattle.pg_journal.proofs.BatchPages.{count_of_numbers}
 use Rattle.pg_journal.proofs.BatchBytes.{length-images}
 use Rattle.pg_journal.proofs.Pages.{between_length}

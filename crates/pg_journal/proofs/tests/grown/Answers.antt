@@ -1,8 +1,7 @@
-use Rattle.std.specs.Prelude.{max, ◌^◌}
-use Rattle.std.proofs.Common.{rules, ◌≡◌, ◌≤◌, ◌<◌, inl, inr, ℕ, List, [], ◌∷◌, length, refl, sym, ap, subst, ◌∙◌, arith}
+use Rattle.std.proofs.Common.{rules, ◌≡◌, ◌≤◌, inl, inr, ℕ, List, [], ◌∷◌, length, sym, ap, subst, ◌∙◌, arith}
 use Rattle.pg_journal.specs.BatchStates.{BatchState}
-use Rattle.pg_journal.specs.Pages.{Numbered, AreBetween, Has, IsRoot, root_page, homes_in, with_more}
-use Rattle.pg_journal.specs.Standing.{MayCommit, homes_with}
+use Rattle.pg_journal.specs.Pages.{root_page, homes_in, with_more}
+use Rattle.pg_journal.specs.Standing.{MayCommit}
 use Rattle.pg_journal.proofs.Birth.{root_of, length-root}
 use Rattle.pg_journal.proofs.tests.grown.Goals as goal
 

@@ -1,4 +1,4 @@
-use Rattle.std.proofs.Common.{◌+◌, ◌*◌, ◌∙◌, arith}
+use Rattle.std.proofs.Common.{◌∙◌, arith}
 use Rattle.pg_journal.proofs.BatchPages.{page_step}
 use Rattle.pg_journal.proofs.writing.number_page.Goals as goal
 

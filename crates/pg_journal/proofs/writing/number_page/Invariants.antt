@@ -1,4 +1,4 @@
-use Rattle.std.proofs.Common.{length, take, ◌-◌, ◌≡◌, ◌*◌, ◌++◌}
+use Rattle.std.proofs.Common.{take, ◌-◌, ◌≡◌, ◌*◌, ◌++◌}
 use Rattle.ct_base.specs.Zeros.{zeros}
 use Rattle.pg_journal.specs.BatchStates.{spelled}
 use Rattle.pg_journal.proofs.writing.number_page.Given as goal

@@ -1,11 +1,7 @@
-use Rattle.std.proofs.Common.{◌≡◌, ◌+◌, ◌-◌, ◌*◌, ◌<◌, ◌++◌, ℕ, List, length, take, drop, ap, sym, ◌∙◌, arith, length-append, length-drop}
-use Rattle.std.proofs.lemmas.List.{length-take-le, drop_all}
-use Rattle.ct_base.specs.Zeros.{zeros}
-use Rattle.ct_base.specs.laws.Zeros.{length-zeros}
+use Rattle.std.proofs.Common.{◌+◌, arith}
 use Rattle.ct_site.specs.Disks.{works_then}
-use Rattle.ct_site.specs.laws.Writing.{progress_none, progress_step, progress_failed, progress_done}
-use Rattle.pg_journal.specs.BatchStates.{spelled}
-use Rattle.pg_journal.proofs.BatchPages.{number_area, area_rest, length-number_page}
+use Rattle.ct_site.specs.laws.Writing.{progress_step, progress_failed}
+use Rattle.pg_journal.proofs.BatchPages.{area_rest, length-number_page}
 use Rattle.pg_journal.proofs.writing.write_numbers.Goals as goal
 
 pub returns-in_err-write-clause-writes : goal.returns-in_err-write-clause-writes

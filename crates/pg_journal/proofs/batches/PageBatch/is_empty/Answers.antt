@@ -1,7 +1,7 @@
-use Rattle.std.proofs.Common.{◌≡◌, ◌≤◌, ℕ, List, length, ap, sym, ◌∙◌, arith, Bool, true, false}
+use Rattle.std.proofs.Common.{◌≡◌, ◌≤◌, ℕ, length, ap, arith, Bool, false}
 use Rattle.std.specs.Prelude.{vec_len, ◌==◌}
 use Rattle.std.proofs.lemmas.Bool.Decides.{nat_tests}
-use Rattle.pg_journal.specs.BatchStates.{BatchState, pages_in}
+use Rattle.pg_journal.specs.BatchStates.{BatchState}
 use Rattle.pg_journal.proofs.BatchPages.{length-pages}
 use Rattle.pg_journal.proofs.batches.PageBatch.is_empty.Goals as goal
 

@@ -1,9 +1,7 @@
-use Rattle.std.proofs.Common.{rules, ◌≡◌, ℕ, ◌*◌, ◌+◌, ◌≤◌, ◌<◌, List, length, sym, ap, subst, ◌∙◌, arith}
-use Rattle.std.specs.Prelude.{vec_len, ◌^◌}
-use Rattle.std.specs.Vec.{vec_capacity}
+use Rattle.std.proofs.Common.{rules, List, ap, subst, ◌∙◌, arith}
 use Rattle.std.specs.Result.{is_ok}
-use Rattle.pg_journal.specs.BatchStates.{BatchState, pages_in, place_in}
-use Rattle.pg_journal.specs.Pages.{Numbered, Has, AreBetween, with_more}
+use Rattle.pg_journal.specs.BatchStates.{BatchState}
+use Rattle.pg_journal.specs.Pages.{Numbered, Has, with_more}
 use Rattle.pg_journal.proofs.BatchPages.{seen_place, room_left, place_within, inserted, IsPut, is_put}
 use Rattle.pg_journal.proofs.batches.PageBatch.put.Goals as goal
 use Rattle.pg_journal.proofs.batches.PageBatch.put.Goals.{After-insert_page}
