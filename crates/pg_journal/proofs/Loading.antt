@@ -10,7 +10,7 @@ use Rattle.pg_journal.specs.Standing.{Stands}
 use Rattle.pg_journal.specs.Staging.{IsGoal, IsSettling}
 use Rattle.pg_journal.specs.Looking.{IsBorn, IsUnbornOr, HasMark, IsClosedOr, IsOpenedOr, IsNoStore, Loaded}
 use Rattle.ct_site.specs.Lengths.{IsWithin}
-use Rattle.pg_journal.specs.RecoveredLaws.{born_or_not, alike_of, alike_itself}
+use Rattle.pg_journal.specs.laws.Recovered.{born_or_not, alike_of, alike_itself}
 use Rattle.pg_journal.proofs.Pages.{has_between}
 use Rattle.pg_journal.proofs.Shut.{settling_recovers}
 

@@ -1,5 +1,5 @@
 -- The bytes that birth writes.
-use Rattle.std.specs.Prelude.{◌≡◌, ℕ, ◌≤◌, Bool, true, false, List, ◌++◌, length}
+use Rattle.std.specs.Prelude.{◌≡◌, ℕ, ◌≤◌, Bool, true, false, List, ◌++◌, length, take, codes, refl}
 use Rattle.ct_site.specs.Disks.{DiskView, IsSettled}
 use Rattle.pg_journal.specs.Pages.{byte, root_page}
 use Rattle.ct_base.specs.Zeros.{zeros}
@@ -24,3 +24,8 @@ pub record Cleared (disk : DiskView) : Type 0 where
 abbrev pub IsUnbornAs : Bool → List ℕ → Type 0
 IsUnbornAs true image = length image ≤ 1
 IsUnbornAs false image = IsCleared image
+
+-- ---- computed example: behind the first byte the mark begins
+mark_first : take 8 born ≡ codes "CTXSTORE"
+unfolding born mark
+mark_first = refl

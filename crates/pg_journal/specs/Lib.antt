@@ -1,6 +1,5 @@
 pub mod Pages
 pub mod Recovered
-pub mod RecoveredLaws
 pub mod Standing
 pub mod BatchFields
 pub mod BatchStates
@@ -8,3 +7,4 @@ pub mod Staging
 pub mod JournalFields
 pub mod Births
 pub mod Looking
+pub mod laws

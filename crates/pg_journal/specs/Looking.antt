@@ -1,5 +1,5 @@
 -- What is found where an image is looked at.
-use Rattle.std.specs.Prelude.{◌≡◌, ◌≢◌, ℕ, ◌+◌, ◌*◌, ◌≤◌, ◌<◌, ◌⊎◌, Bool, true, false, List, length, take, drop, Option, Some, None, Result, Ok, Err}
+use Rattle.std.specs.Prelude.{◌≡◌, ◌≢◌, ℕ, ◌+◌, ◌*◌, ◌≤◌, ◌<◌, ◌⊎◌, Bool, true, false, List, [], ◌∷◌, refl, length, take, drop, Option, Some, None, Result, Ok, Err}
 use Rattle.std.proofs.Common.{◌∙◌, arith}
 use Rattle.ct_site.specs.declared.outside.Failed.{Failed}
 use Rattle.ct_base.specs.Causes.{Rose}
@@ -118,3 +118,7 @@ loads_more old mid new x y result other first second = record {
 
 pub ok_is_no_fault : {T : Type 0} (x : T) (fault : LoadFault) → ◌≡◌ {A = Result T LoadFault} (Ok x) (Err fault) → ⊥
 ok_is_no_fault x fault is = cc is
+
+-- ---- computed example
+two_zeros : AreZeros true 2 (0 ∷ 0 ∷ [])
+two_zeros = refl

@@ -1,4 +1,4 @@
-//! A batch that a stop has left, as it is read.
+//! A batch that a crash has left, as it is read.
 
 ghost use Rattle.std.specs.Prelude.{◌≡◌, ◌≤◌, ◌<◌, ◌+◌, ◌*◌, ◌/◌, ◌^◌, ℕ, List, Option, Some, Ok, Err, IfOk, IfSome, OnOk, length, take, drop};
 ghost use Rattle.std.specs.Option.{option_map};
