@@ -4,4 +4,5 @@ pub mod Told
 pub mod Causes
 pub mod Characters
 pub mod Moments
+pub mod Zeros
 pub mod laws

@@ -7,3 +7,4 @@ pub mod Names
 pub mod Told
 pub mod Causes
 pub mod Moments
+pub mod Zeros

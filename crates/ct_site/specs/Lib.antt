@@ -3,8 +3,12 @@ pub mod Crashes
 pub mod Disks
 pub mod Histories
 pub mod Images
+pub mod Lengths
 pub mod Logs
 pub mod Memory
 pub mod MemoryFields
 pub mod Pieces
+pub mod Ranges
 pub mod Real
+pub mod Writing
+pub mod laws

@@ -6,6 +6,7 @@ ghost use Rattle.std.specs.Vec.{vec_capacity};
 ghost use Rattle.ct_base.specs.Told.{took, IsNothing};
 ghost use Rattle.ct_base.specs.Causes.{HasCause};
 ghost use Rattle.ct_site.specs.Images.{written, Torn};
+ghost use Rattle.ct_site.specs.Lengths.{Grows};
 ghost use Rattle.ct_site.specs.Disks.{DiskView, Follows, IsSame, Leaves, Works, Hears, Says};
 
 use crate::counts::{count_call, count_fault, count_stop};
@@ -222,6 +223,7 @@ impl Disk for MemSite {
         ensures too_far { 2 ^ 43 < at + length bytes.now → IsErr result }
         ensures crash { Follows (Torn at (length bytes.now)) (view_of self.old).may_leave (view_of self.new).may_leave }
         ensures leaves { Leaves (view_of self.old) (view_of self.new) (view_of self.new).may_leave }
+        ensures grows { Grows (at + length bytes.now) (view_of self.old) (view_of self.new) }
         ensures works { Works (view_of self.old) (view_of self.new) result }
 
         ensures fails { IsErr result ↔ IsTrue (write_fails self.old at (length bytes.now)) }

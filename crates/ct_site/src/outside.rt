@@ -5,6 +5,7 @@ ghost use Rattle.std.specs.Option.{option_map};
 ghost use Rattle.ct_base.specs.Told.{took, IsNothing};
 ghost use Rattle.ct_base.specs.Causes.{HasCause};
 ghost use Rattle.ct_site.specs.Images.{written, Torn};
+ghost use Rattle.ct_site.specs.Lengths.{Grows};
 ghost use Rattle.ct_site.specs.Disks.{DiskView, Follows, IsNow, IsSame, Leaves, Works, Hears, Says};
 
 use thiserror::Error;
@@ -37,6 +38,7 @@ pub trait Disk {
 
     /// Writes the bytes at this place, and lengthens the image where they end past it. No image is longer than 2^43 bytes.
     /// Until a sync succeeds, a crash may leave any bytes in the range and past the old end.
+    /// Where it fails, the image has a length between the old one and the one that the write would have given.
     fn write_at(&mut self, at: u64, bytes: &[u8]) -> Result<(), Failed>
         requires within { (image : List ℕ) → (disk self.old).image ≡ Some image → at ≤ length image }
         requires some { 0 < length bytes.now }
@@ -44,6 +46,7 @@ pub trait Disk {
         ensures too_far { 2 ^ 43 < at + length bytes.now → IsErr result }
         ensures crash { Follows (Torn at (length bytes.now)) (disk self.old).may_leave (disk self.new).may_leave }
         ensures leaves { Leaves (disk self.old) (disk self.new) (disk self.new).may_leave }
+        ensures grows { Grows (at + length bytes.now) (disk self.old) (disk self.new) }
         ensures works { Works (disk self.old) (disk self.new) result };
 
     /// Makes what was written last: after it a crash leaves what a read gives.

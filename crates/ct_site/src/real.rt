@@ -5,6 +5,7 @@ ghost use Rattle.std.specs.Option.{option_map};
 ghost use Rattle.ct_base.specs.Told.{took, IsNothing};
 ghost use Rattle.ct_base.specs.Causes.{HasCause};
 ghost use Rattle.ct_site.specs.Images.{written, Torn};
+ghost use Rattle.ct_site.specs.Lengths.{Grows};
 ghost use Rattle.ct_site.specs.Disks.{Follows, IsSame, Leaves, Works, Hears, Says};
 
 use crate::counts::count_fault;
@@ -138,6 +139,7 @@ impl<R: Input + Print + Files> Disk for RealSite<'_, R> {
         ensures too_far { 2 ^ 43 < at + length bytes.now → IsErr result }
         ensures crash { Follows (Torn at (length bytes.now)) (view_of self.old).may_leave (view_of self.new).may_leave }
         ensures leaves { Leaves (view_of self.old) (view_of self.new) (view_of self.new).may_leave }
+        ensures grows { Grows (at + length bytes.now) (view_of self.old) (view_of self.new) }
         ensures works { Works (view_of self.old) (view_of self.new) result }
         ensures uses { UsesFile self.old self.new result }
     {

@@ -108,6 +108,14 @@ impl Page {
         &self.bytes
     }
 
+    /// How many strings it has.
+    pub fn count(&self) -> usize
+        ensures count { result ≡ length self.now }
+        ensures fits { Fits self.now }
+    {
+        self.count
+    }
+
     /// Puts a string behind the others, and gives its number. None, with the page as it was, exactly where its length and the
     /// four bytes of its slot are more than the bytes that are free.
     pub fn put(&mut self, string: &[u8]) -> Option<Slot>

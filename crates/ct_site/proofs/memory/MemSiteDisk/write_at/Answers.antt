@@ -2,6 +2,8 @@ use Rattle.std.proofs.Common.{◌≡◌, ◌≤◌, ◌+◌, ◌++◌, ◌∷◌
 use Rattle.std.proofs.lemmas.Bool.{ltb-false}
 use Rattle.ct_site.specs.Images.{written, Torn}
 use Rattle.ct_site.specs.Pieces.{length-written}
+use Rattle.ct_site.specs.Lengths.{Grows}
+use Rattle.ct_site.specs.laws.Lengths.{grows_written}
 use Rattle.ct_site.specs.Disks.{Leaves, Works, Follows}
 use Rattle.ct_site.specs.Histories.{Change, Wrote, DiskState, begun, after, after-push}
 use Rattle.ct_site.specs.Crashes.{AreWithin, within_after}
@@ -54,3 +56,9 @@ returns-clause-leaves c = subst (λ (s : MemState). Leaves (view_of c.args.self.
 
 pub returns-clause-works : goal.returns-clause-works
 returns-clause-works c = subst (λ (s : MemState). Works {T = Unit {0}} (view_of c.args.self.now) (view_of s) (Ok tt)) (sym (new_is c)) (write_works c.args.self.now c.args.at c.args.bytes.now)
+
+pub returns-clause-grows : goal.returns-clause-grows
+returns-clause-grows c =
+    subst (λ (s : MemState). Grows (c.args.at + length c.args.bytes.now) (view_of c.args.self.now) (view_of s)) (sym (new_is c))
+    (grows_written c.args.at c.args.bytes.now (view_of c.args.self.now) (view_of (wrote c.args.self.now c.args.at c.args.bytes.now)) (record { least = c.requires.within })
+    (ap Some (write_image c.args.self.now c.args.at c.args.bytes.now)))

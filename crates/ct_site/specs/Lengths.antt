@@ -1,0 +1,26 @@
+-- How long an image is after calls of a disk, however they ended.
+use Rattle.std.specs.Prelude.{◌≡◌, ℕ, ◌≤◌, max, List, length, Option, None, Some, codes}
+use Rattle.std.proofs.Common.{ap, arith}
+use Rattle.ct_site.specs.Disks.{DiskView}
+
+-- What a read gives is no shorter than it was, and no longer than it was or than `end` bytes.
+pub record Grows (end : ℕ) (old new : DiskView) : Type 0 where
+  pub bounds : (image x : List ℕ) → old.image ≡ Some image → new.image ≡ Some x → (length image ≤ length x) × (length x ≤ max (length image) end)
+
+-- A place within what a read gives, or at its end.
+pub record IsWithin (at : ℕ) (disk : DiskView) : Type 0 where
+  pub least : (image : List ℕ) → disk.image ≡ Some image → at ≤ length image
+
+-- ---- computed example: an image of four bytes that was lengthened by two of the three that were to be written at its end
+module _ (disk : DiskView) where
+  longer : Grows 7 (record disk { image = Some (codes "abcd") }) (record disk { image = Some (codes "abcdXY") })
+  longer = record {
+    bounds = λ image x told given.
+        let was : 4 ≡ length image = ap size_of told in
+        let now : 6 ≡ length x = ap size_of given in
+        (omega (arith, was, now), omega (arith, was, now));
+  }
+    where
+      size_of : Option (List ℕ) → ℕ
+      size_of (Some l) = length l
+      size_of None = 0

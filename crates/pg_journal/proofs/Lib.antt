@@ -1,0 +1,13 @@
+pub mod BatchPages
+pub mod BatchBytes
+pub mod BatchReads
+pub mod Birth
+pub mod Committing
+pub mod Gates
+pub mod Homes
+pub mod Loading
+pub mod Pages
+pub mod PageRanges
+pub mod Shut
+pub mod Staging
+pub mod Zeros

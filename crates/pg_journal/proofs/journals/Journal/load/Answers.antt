@@ -1,0 +1,122 @@
+use Rattle.std.proofs.Common.{true, false, sym, ◌∙◌, arith}
+use Rattle.ct_site.specs.laws.Calls.{same_then}
+use Rattle.ct_site.specs.laws.Lengths.{grows_then, grows_same, grows_more}
+use Rattle.pg_journal.proofs.Loading.{nothing_written, unborn_is, born_is, born_within, after_same, marked_is, no_mark, too_short, is_store, unborn_no_store}
+use Rattle.ct_site.specs.laws.Calls.{settled_same}
+use Rattle.pg_journal.proofs.journals.Journal.load.Goals as goal
+
+pub returns-in_default-clause-moments : goal.returns-in_default-clause-moments
+returns-in_default-clause-moments g c = λ image settled. nothing_written _ _ image settled c.size.ensures.same c.size.ensures.works.beside
+
+pub returns-in_default-unborn-clause-moments : goal.returns-in_default-unborn-clause-moments
+returns-in_default-unborn-clause-moments g c = λ image settled.
+    nothing_written _ _ image settled (same_then _ _ _ c.size.ensures.same c.unborn.ensures.same) (c.unborn.ensures.works.beside ∙ c.size.ensures.works.beside)
+
+pub load_unborn-requires : goal.load_unborn-requires
+load_unborn-requires g c = record { within = born_within _ _ c.in-Ok-unborn.found c.in-Some.empty c.in-Ok-unborn.ensures.is c.unborn.ensures.same c.in-Some.is }
+
+pub returns-in-Some-clause-moments : goal.returns-in-Some-clause-moments
+returns-in-Some-clause-moments g c = λ image settled.
+    let same = same_then _ _ _ c.size.ensures.same c.unborn.ensures.same in
+    let unborn = unborn_is c.in-Ok-unborn.found c.in-Some.empty image (c.in-Ok-unborn.ensures.is image (c.size.ensures.same.image ∙ settled.told)) c.in-Some.is in
+    after_same _ _ _ image settled same (c.unborn.ensures.works.beside ∙ c.size.ensures.works.beside) (c.load_unborn.ensures.moments image (settled_same _ _ image same settled) unborn)
+
+pub returns-in-Some-clause-loaded : goal.returns-in-Some-clause-loaded
+returns-in-Some-clause-loaded g c = λ image settled.
+    let same = same_then _ _ _ c.size.ensures.same c.unborn.ensures.same in
+    c.load_unborn.ensures.loaded image (settled_same _ _ image same settled) (unborn_is c.in-Ok-unborn.found c.in-Some.empty image (c.in-Ok-unborn.ensures.is image (c.size.ensures.same.image ∙ settled.told)) c.in-Some.is)
+
+pub returns-then-size-lt12288-clause-moments : goal.returns-then-size-lt12288-clause-moments
+returns-then-size-lt12288-clause-moments g c = λ image settled.
+    nothing_written _ _ image settled (same_then _ _ _ c.size.ensures.same c.unborn.ensures.same) (c.unborn.ensures.works.beside ∙ c.size.ensures.works.beside)
+
+pub returns-then-size-lt12288-clause-no_store : goal.returns-then-size-lt12288-clause-no_store
+returns-then-size-lt12288-clause-no_store g c = λ image told is.
+    too_short image (born_is c.in-Ok-unborn.found image (c.in-Ok-unborn.ensures.is image (c.size.ensures.same.image ∙ told)) c.in_default-found.is) (omega (arith, c.in-Ok.ensures.size image told, c.if-size-lt12288.true))
+
+pub returns-in_default-has_mark-clause-moments : goal.returns-in_default-has_mark-clause-moments
+returns-in_default-has_mark-clause-moments g c = λ image settled.
+    nothing_written _ _ image settled (same_then _ _ _ c.size.ensures.same (same_then _ _ _ c.unborn.ensures.same c.has_mark.ensures.same))
+    (c.has_mark.ensures.works.beside ∙ c.unborn.ensures.works.beside ∙ c.size.ensures.works.beside)
+
+pub returns-then-not-marked-clause-moments : goal.returns-then-not-marked-clause-moments
+returns-then-not-marked-clause-moments g c = λ image settled.
+    nothing_written _ _ image settled (same_then _ _ _ c.size.ensures.same (same_then _ _ _ c.unborn.ensures.same c.has_mark.ensures.same))
+    (c.has_mark.ensures.works.beside ∙ c.unborn.ensures.works.beside ∙ c.size.ensures.works.beside)
+
+pub returns-then-not-marked-clause-no_store : goal.returns-then-not-marked-clause-no_store
+returns-then-not-marked-clause-no_store g c = λ image told is.
+    let told1 = c.size.ensures.same.image ∙ told in
+    no_mark image (born_is c.in-Ok-unborn.found image (c.in-Ok-unborn.ensures.is image told1) c.in_default-found.is)
+    (marked_is c.in-Ok-has_mark.marked false image (c.in-Ok-has_mark.ensures.is image (c.unborn.ensures.same.image ∙ told1)) c.if-not-marked.true)
+
+pub returns-in_default-read_byte-clause-moments : goal.returns-in_default-read_byte-clause-moments
+returns-in_default-read_byte-clause-moments g c = λ image settled.
+    nothing_written _ _ image settled (same_then _ _ _ c.size.ensures.same (same_then _ _ _ c.unborn.ensures.same (same_then _ _ _ c.has_mark.ensures.same c.read_byte.ensures.same)))
+    (c.read_byte.ensures.works.beside ∙ c.has_mark.ensures.works.beside ∙ c.unborn.ensures.works.beside ∙ c.size.ensures.works.beside)
+
+pub load_open-requires-clause-store : goal.load_open-requires-clause-store
+load_open-requires-clause-store g c = λ image told3.
+    let told2 = sym c.read_byte.ensures.same.image ∙ told3 in
+    let told1 = sym c.has_mark.ensures.same.image ∙ told2 in
+    let told0 = sym c.unborn.ensures.same.image ∙ told1 in
+    let told = sym c.size.ensures.same.image ∙ told0 in
+    is_store image (born_is c.in-Ok-unborn.found image (c.in-Ok-unborn.ensures.is image told0) c.in_default-found.is)
+    (marked_is c.in-Ok-has_mark.marked true image (c.in-Ok-has_mark.ensures.is image told1) c.if-not-marked.false) (omega (arith, c.in-Ok.ensures.size image told, c.if-size-lt12288.false))
+
+pub load_closed-requires-clause-store : goal.load_closed-requires-clause-store
+load_closed-requires-clause-store g c = λ image told3.
+    let told2 = sym c.read_byte.ensures.same.image ∙ told3 in
+    let told1 = sym c.has_mark.ensures.same.image ∙ told2 in
+    let told0 = sym c.unborn.ensures.same.image ∙ told1 in
+    let told = sym c.size.ensures.same.image ∙ told0 in
+    is_store image (born_is c.in-Ok-unborn.found image (c.in-Ok-unborn.ensures.is image told0) c.in_default-found.is)
+    (marked_is c.in-Ok-has_mark.marked true image (c.in-Ok-has_mark.ensures.is image told1) c.if-not-marked.false) (omega (arith, c.in-Ok.ensures.size image told, c.if-size-lt12288.false))
+
+pub returns-then-gate-eq1-clause-moments : goal.returns-then-gate-eq1-clause-moments
+returns-then-gate-eq1-clause-moments g c = λ image settled.
+    let same = same_then _ _ _ c.size.ensures.same (same_then _ _ _ c.unborn.ensures.same (same_then _ _ _ c.has_mark.ensures.same c.read_byte.ensures.same)) in
+    after_same _ _ _ image settled same (c.read_byte.ensures.works.beside ∙ c.has_mark.ensures.works.beside ∙ c.unborn.ensures.works.beside ∙ c.size.ensures.works.beside)
+    (c.load_open.ensures.moments image (settled_same _ _ image same settled))
+
+pub returns-else-gate-eq1-clause-moments : goal.returns-else-gate-eq1-clause-moments
+returns-else-gate-eq1-clause-moments g c = λ image settled.
+    let same = same_then _ _ _ c.size.ensures.same (same_then _ _ _ c.unborn.ensures.same (same_then _ _ _ c.has_mark.ensures.same (same_then _ _ _ c.read_byte.ensures.same c.load_closed.ensures.same))) in
+    nothing_written _ _ image settled same (c.load_closed.ensures.loads.beside ∙ c.read_byte.ensures.works.beside ∙ c.has_mark.ensures.works.beside ∙ c.unborn.ensures.works.beside ∙ c.size.ensures.works.beside)
+
+pub returns-in-Some-clause-kept : goal.returns-in-Some-clause-kept
+returns-in-Some-clause-kept g c = λ image told store closed.
+    absurd (unborn_no_store c.in-Ok-unborn.found c.in-Some.empty image (c.in-Ok-unborn.ensures.is image (c.size.ensures.same.image ∙ told)) c.in-Some.is store)
+
+pub returns-then-gate-eq1-clause-kept : goal.returns-then-gate-eq1-clause-kept
+returns-then-gate-eq1-clause-kept g c = λ image told store closed.
+    absurd (closed (sym (c.in-Ok-read_byte.ensures.is image (c.has_mark.ensures.same.image ∙ c.unborn.ensures.same.image ∙ c.size.ensures.same.image ∙ told)) ∙ c.if-gate-eq1.true))
+
+pub returns-in-Some-clause-length : goal.returns-in-Some-clause-length
+returns-in-Some-clause-length g c = grows_then 12288 _ _ _ c.load_unborn.ensures.loads.untold (grows_same 12288 _ _ (c.unborn.ensures.same.image ∙ c.size.ensures.same.image)) c.load_unborn.ensures.length
+
+pub returns-then-gate-eq1-clause-length : goal.returns-then-gate-eq1-clause-length
+returns-then-gate-eq1-clause-length g c =
+    grows_then 12288 _ _ _ c.load_open.ensures.loads.untold
+    (grows_same 12288 _ _ (c.read_byte.ensures.same.image ∙ c.has_mark.ensures.same.image ∙ c.unborn.ensures.same.image ∙ c.size.ensures.same.image)) (grows_more 0 12288 _ _ (omega arith) c.load_open.ensures.length)
+
+pub returns-in_default-clause-length : goal.returns-in_default-clause-length
+returns-in_default-clause-length g c = grows_same 12288 _ _ c.size.ensures.same.image
+
+pub returns-in_default-unborn-clause-length : goal.returns-in_default-unborn-clause-length
+returns-in_default-unborn-clause-length g c = grows_same 12288 _ _ (c.unborn.ensures.same.image ∙ c.size.ensures.same.image)
+
+pub returns-then-size-lt12288-clause-length : goal.returns-then-size-lt12288-clause-length
+returns-then-size-lt12288-clause-length g c = grows_same 12288 _ _ (c.unborn.ensures.same.image ∙ c.size.ensures.same.image)
+
+pub returns-in_default-has_mark-clause-length : goal.returns-in_default-has_mark-clause-length
+returns-in_default-has_mark-clause-length g c = grows_same 12288 _ _ (c.has_mark.ensures.same.image ∙ c.unborn.ensures.same.image ∙ c.size.ensures.same.image)
+
+pub returns-then-not-marked-clause-length : goal.returns-then-not-marked-clause-length
+returns-then-not-marked-clause-length g c = grows_same 12288 _ _ (c.has_mark.ensures.same.image ∙ c.unborn.ensures.same.image ∙ c.size.ensures.same.image)
+
+pub returns-in_default-read_byte-clause-length : goal.returns-in_default-read_byte-clause-length
+returns-in_default-read_byte-clause-length g c = grows_same 12288 _ _ (c.read_byte.ensures.same.image ∙ c.has_mark.ensures.same.image ∙ c.unborn.ensures.same.image ∙ c.size.ensures.same.image)
+
+pub returns-else-gate-eq1-clause-length : goal.returns-else-gate-eq1-clause-length
+returns-else-gate-eq1-clause-length g c = grows_same 12288 _ _ (c.load_closed.ensures.same.image ∙ c.read_byte.ensures.same.image ∙ c.has_mark.ensures.same.image ∙ c.unborn.ensures.same.image ∙ c.size.ensures.same.image)

@@ -1,0 +1,10 @@
+pub mod Pages
+pub mod Recovered
+pub mod Standing
+pub mod BatchFields
+pub mod BatchStates
+pub mod Staging
+pub mod JournalFields
+pub mod Births
+pub mod Looking
+pub mod laws

@@ -1,0 +1,124 @@
+-- What is found where an image is looked at.
+use Rattle.std.specs.Prelude.{◌≡◌, ◌≢◌, ℕ, ◌+◌, ◌*◌, ◌≤◌, ◌<◌, ◌⊎◌, Bool, true, false, List, [], ◌∷◌, refl, length, take, drop, Option, Some, None, Result, Ok, Err}
+use Rattle.std.proofs.Common.{◌∙◌, arith}
+use Rattle.ct_site.specs.declared.outside.Failed.{Failed}
+use Rattle.ct_base.specs.Causes.{Rose}
+use Rattle.ct_base.specs.Moments.{Keeps, keeps_then}
+use Rattle.ct_site.specs.Disks.{DiskView, Works}
+use Rattle.pg_journal.specs.declared.faults.LoadFault.{LoadFault}
+use Rattle.pg_journal.specs.declared.faults.LoadFault.TheVariants.{Disk}
+use Rattle.pg_journal.specs.Pages.{page, byte, Numbered, AreBetween, put_on, homes_in, IsRoot}
+use Rattle.ct_base.specs.Zeros.{zeros}
+use Rattle.pg_journal.specs.Recovered.{mark, IsRecovered, IsOpen, IsOpened, batch_page, batch_count, batch_in, filling, table, numbered_at}
+use Rattle.pg_journal.specs.Births.{IsUnbornAs}
+use Rattle.pg_journal.specs.Standing.{Stands}
+
+-- a disk of so many bytes, where they are told
+pub record IsSized (size : ℕ) (disk : DiskView) : Type 0 where
+  pub is : (image : List ℕ) → disk.image ≡ Some image → size ≡ length image
+
+abbrev pub IsBorn : List ℕ → Type 0
+IsBorn image = (1 < length image) × ((byte image 0 ≢ 0) ⊎ (12288 < length image))
+
+-- unborn, and how; or born
+abbrev pub IsUnbornOr : Option Bool → List ℕ → Type 0
+IsUnbornOr (Some empty) image = IsUnbornAs empty image
+IsUnbornOr None image = IsBorn image
+
+abbrev pub HasMark : Bool → List ℕ → Type 0
+HasMark true image = take 4095 (drop 1 image) ≡ mark
+HasMark false image = take 4095 (drop 1 image) ≢ mark
+
+-- how many homes a page tells of, if it is a root
+abbrev pub IsRootOr : Option ℕ → List ℕ → Type 0
+IsRootOr (Some homes) root = IsRoot root × (homes ≡ homes_in root)
+IsRootOr None root = IsRoot root → ⊥
+
+-- how many homes there are, if page 2 is a root and they are inside the file
+abbrev pub IsClosedOr : Option ℕ → List ℕ → Type 0
+IsClosedOr (Some homes) image = IsRoot (page image 2) × (homes ≡ homes_in (page image 2)) × (4096 * homes ≤ length image)
+IsClosedOr None image = IsRoot (page image 2) → 4096 * homes_in (page image 2) ≤ length image → ⊥
+
+pub record IsNoStore (image : List ℕ) : Type 0 where
+  pub no : (pages : List (List ℕ)) → IsRecovered image pages → ⊥
+
+-- What each function that loads keeps: as `Works`, with the faults of loading.
+pub record Loads {T : Type 0} (old new : DiskView) (result : Result T LoadFault) : Type 0 where
+  pub beside : new.beside ≡ old.beside
+  pub untold : old.image ≡ None → new.image ≡ None
+  pub kept : Keeps old.time new.time
+  pub later : old.faults ≤ new.faults
+  pub cause : result ≡ Err Disk → Rose old.faults new.faults
+
+pub loads_then : {T U : Type 0} (old mid new : DiskView) (x : T) (result : Result U LoadFault) → Works old mid (Ok x) → Loads mid new result → Loads old new result
+loads_then old mid new x result first second = record {
+  beside = second.beside ∙ first.beside;
+  untold = λ none. second.untold (first.untold none);
+  kept = keeps_then old.time mid.time new.time first.kept second.kept;
+  later = omega (arith, first.cause.later, second.later);
+  cause = λ is. let rose = second.cause is in omega (arith, rose, first.cause.later);
+}
+
+-- a call of the disk failed
+pub loads_failed : {T U : Type 0} (old new : DiskView) (fault : Failed) (result : Result U LoadFault) → Works {T = T} old new (Err fault) → Loads old new result
+loads_failed old new fault result works = record { beside = works.beside; untold = works.untold; kept = works.kept; later = works.cause.later; cause = λ is. works.cause.failed }
+
+-- all went well with the disk
+pub loads_well : {T U : Type 0} (old new : DiskView) (x : T) (result : Result U LoadFault) → (result ≡ Err Disk → ⊥) → Works old new (Ok x) → Loads old new result
+loads_well old new x result other works = record { beside = works.beside; untold = works.untold; kept = works.kept; later = works.cause.later; cause = λ is. absurd (other is) }
+
+-- ---- a batch before which the gate is open
+
+-- The first i items of the batch were read, and the next number is to be at least `low`.
+pub record IsRead (image : List ℕ) (count low i : ℕ) (items : List Numbered) : Type 0 where
+  pub is : items ≡ table (numbered_at image) 0 i
+  pub onward : (rest : ℕ) → AreBetween low (batch_page image) (table (numbered_at image) i rest) → AreBetween 2 (batch_page image) (table (numbered_at image) 0 (i + rest))
+  pub back : (rest : ℕ) → i + rest ≡ count → AreBetween 2 (batch_page image) (table (numbered_at image) 0 count) → AreBetween low (batch_page image) (table (numbered_at image) i rest)
+
+-- the items, if their numbers are those of a batch
+abbrev pub ArePagesOr : Option (List Numbered) → List ℕ → Type 0
+ArePagesOr (Some pages) image = AreBetween 2 (batch_page image) (batch_in image) × (batch_in image ≡ pages)
+ArePagesOr None image = AreBetween 2 (batch_page image) (batch_in image) → ⊥
+
+-- so many zeros, or other bytes
+abbrev pub AreZeros : Bool → ℕ → List ℕ → Type 0
+AreZeros true n bytes = bytes ≡ zeros n
+AreZeros false n bytes = bytes ≢ zeros n
+
+-- where zeros are to stand
+abbrev pub IsFilledOr : Bool → List ℕ → Type 0
+IsFilledOr true image = take (filling (batch_count image)) (drop (4096 * batch_page image + 4 * batch_count image) image) ≡ zeros (filling (batch_count image))
+IsFilledOr false image = take (filling (batch_count image)) (drop (4096 * batch_page image + 4 * batch_count image) image) ≢ zeros (filling (batch_count image))
+
+abbrev pub IsBatchOr : Option (List Numbered) → List ℕ → Type 0
+IsBatchOr (Some pages) image = IsOpen image × (batch_in image ≡ pages)
+IsBatchOr None image = IsOpen image → ⊥
+
+-- the pages of the batch and how many homes there are with it, if the store may be one whose gate is open
+abbrev pub IsOpenedOr : Option (List Numbered × ℕ) → List ℕ → Type 0
+IsOpenedOr (Some found) image = IsOpen image × (batch_in image ≡ found.0) × IsRoot (put_on found.0 (page image) 2) × (found.1 ≡ homes_in (put_on found.0 (page image) 2)) × (found.1 ≤ batch_page image)
+IsOpenedOr None image = (pages : List (List ℕ)) → IsOpened image pages → ⊥
+
+-- ---- loading
+
+-- The image recovers to pages, and the disk stands for them now.
+pub record Loaded (image : List ℕ) (disk : DiskView) (homes : ℕ) : Type 0 where
+  pub pages : List (List ℕ)
+  pub recovered : IsRecovered image pages
+  pub stands : Stands disk homes pages
+
+pub loads_more : {T U V : Type 0} (old mid new : DiskView) (x : T) (y : U) (result : Result V LoadFault) → (result ≡ Err Disk → ⊥) → Loads old mid (Ok x) → Works mid new (Ok y) → Loads old new result
+loads_more old mid new x y result other first second = record {
+  beside = second.beside ∙ first.beside;
+  untold = λ none. second.untold (first.untold none);
+  kept = keeps_then old.time mid.time new.time first.kept second.kept;
+  later = omega (arith, first.later, second.cause.later);
+  cause = λ is. absurd (other is);
+}
+
+pub ok_is_no_fault : {T : Type 0} (x : T) (fault : LoadFault) → ◌≡◌ {A = Result T LoadFault} (Ok x) (Err fault) → ⊥
+ok_is_no_fault x fault is = cc is
+
+-- ---- computed example
+two_zeros : AreZeros true 2 (0 ∷ 0 ∷ [])
+two_zeros = refl

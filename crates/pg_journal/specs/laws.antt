@@ -1,0 +1,2 @@
+-- Laws of what the definitions beside this folder speak of.
+pub mod Recovered

@@ -1,0 +1,126 @@
+//! The four steps of a commit, each with one sync.
+
+ghost use Rattle.std.specs.Prelude.{◌≡◌, ◌≤◌, ◌<◌, ◌+◌, ◌-◌, ◌*◌, ◌^◌, ◌++◌, ℕ, List, Option, Some, Ok, OnOk, length};
+ghost use Rattle.std.specs.Int.{to_be_bytes, w32};
+ghost use Rattle.ct_base.specs.Zeros.{zeros};
+ghost use Rattle.ct_site.specs.Disks.{IsSettled, Leaves, Works};
+ghost use Rattle.ct_site.specs.Lengths.{Grows, IsWithin};
+ghost use Rattle.ct_site.specs.Writing.{Writes};
+ghost use Rattle.pg_journal.specs.BatchStates.{IsRun};
+ghost use Rattle.pg_journal.specs.Pages.{Has, AreBetween};
+ghost use Rattle.pg_journal.specs.Recovered.{batch_bytes, number_pages};
+ghost use Rattle.pg_journal.specs.Staging.{Staged, IsGateWrite, IsGateSet, IsSettling, AtHome};
+ghost use Rattle.pg_journal.specs.Standing.{IsShut, Stands};
+
+use crate::batches::PageBatch;
+use crate::writing::{write, write_numbers, write_zeros};
+use ct_site::{Disk, Failed};
+
+/// Writes zeros from the end of the file up to this place, where it ends before.
+fn lengthen<D: Disk>(disk: &mut D, end: u64) -> Result<(), Failed>
+    requires fits { end ≤ 2 ^ 43 }
+    ensures writes { (image : List ℕ) → (D.disk disk.old).image ≡ Some image → Writes (length image) (zeros (end - length image)) (D.disk disk.old) (D.disk disk.new) result }
+    ensures within { OnOk result (IsWithin end (D.disk disk.new)) }
+    ensures works { Works (D.disk disk.old) (D.disk disk.new) result }
+{
+    let size = disk.size()?;
+    if size < end {
+        write_zeros(disk, size, end - size)
+    } else {
+        Ok(())
+    }
+}
+
+/// Writes a batch, which isn't empty, at this page.
+fn write_batch<D: Disk>(disk: &mut D, place: u32, batch: &PageBatch) -> Result<(), Failed>
+    requires within { IsWithin (4096 * place) (D.disk disk.old) }
+    requires place { place ≤ 2 ^ 31 }
+    requires some { 1 ≤ length batch.now.pages }
+    requires between { AreBetween 2 place batch.now.pages }
+    ensures writes { Writes (4096 * place) (batch_bytes batch.now.pages) (D.disk disk.old) (D.disk disk.new) result }
+    ensures works { Works (D.disk disk.old) (D.disk disk.new) result }
+{
+    let at = 4096 * place as u64;
+    let numbers = batch.numbers();
+    write_numbers(disk, at, numbers)?;
+    let number_pages = (numbers.len() as u64 + 1023) / 1024;
+    write(disk, at + 4096 * number_pages, batch.bytes())
+}
+
+/// Two numbers of four bytes each.
+fn two_numbers(first: u32, second: u32) -> [u8; 8]
+    ensures { result ≡ to_be_bytes w32 first ++ to_be_bytes w32 second }
+{
+    let [a, b, c, d] = first.to_be_bytes();
+    let [e, f, g, h] = second.to_be_bytes();
+    [a, b, c, d, e, f, g, h]
+}
+
+/// Writes a batch behind the homes, and says in page 1 where it is.
+pub(crate) fn stage<D: Disk>(disk: &mut D, place: u32, batch: &PageBatch) -> Result<(), Failed>
+    requires least { 3 ≤ place }
+    requires place { place ≤ 2 ^ 31 }
+    requires some { 1 ≤ length batch.now.pages }
+    requires between { AreBetween 2 place batch.now.pages }
+    ensures moments { (homes : ℕ) (ps : List (List ℕ)) → homes ≤ place → Stands (D.disk disk.old) homes ps → Leaves (D.disk disk.old) (D.disk disk.new) (IsShut homes ps) }
+    ensures staged { (homes : ℕ) (ps : List (List ℕ)) → homes ≤ place → Stands (D.disk disk.old) homes ps → OnOk result (Staged (D.disk disk.new) homes ps place (batch.now.pages)) }
+    ensures within { OnOk result (IsWithin (4096 * place) (D.disk disk.new)) }
+    ensures length { Grows (4096 * (place + number_pages (length batch.now.pages) + length batch.now.pages)) (D.disk disk.old) (D.disk disk.new) }
+    ensures works { Works (D.disk disk.old) (D.disk disk.new) result }
+{
+    lengthen(disk, 4096 * place as u64)?;
+    write_batch(disk, place, batch)?;
+    let count = batch.numbers().len() as u32;
+    write(disk, 4104, &two_numbers(place, count))?;
+    disk.sync()
+}
+
+/// Writes the gate.
+pub(crate) fn set_gate<D: Disk>(disk: &mut D, gate: u8) -> Result<(), Failed>
+    requires within { IsWithin 4097 (D.disk disk.old) }
+    ensures moments { (image : List ℕ) → IsSettled (D.disk disk.old) image → Leaves (D.disk disk.old) (D.disk disk.new) (IsGateWrite image) }
+    ensures set { (image : List ℕ) → IsSettled (D.disk disk.old) image → OnOk result (IsGateSet gate image (D.disk disk.new)) }
+    ensures length { Grows 0 (D.disk disk.old) (D.disk disk.new) }
+    ensures works { Works (D.disk disk.old) (D.disk disk.new) result }
+{
+    write(disk, 4096, &[gate])?;
+    disk.sync()
+}
+
+/// Where the run of numbers ends that begins at this place, each of which is the one before it and 1.
+fn run_end(numbers: &[u32], from: usize) -> usize
+    requires { from < length numbers.now }
+    ensures more { from < result }
+    ensures within { result ≤ length numbers.now }
+    ensures run { IsRun numbers.now from result }
+{
+    let mut end = from + 1;
+    let mut next = numbers[from] as u64 + 1;
+    while end < numbers.len() && numbers[end] as u64 == next {
+        end += 1;
+        next += 1;
+    }
+    end
+}
+
+/// Writes the pages of a batch home, pages that follow each other at once.
+pub(crate) fn put_home<D: Disk>(disk: &mut D, batch: &PageBatch) -> Result<(), Failed>
+    requires within { (i : ℕ) → Has batch.now.pages i → IsWithin (4096 * i + 4096) (D.disk disk.old) }
+    ensures moments { (place : ℕ) (goal : ℕ → List ℕ) (image : List ℕ) → IsSettled (D.disk disk.old) image → IsSettling place batch.now.pages goal image
+        → Leaves (D.disk disk.old) (D.disk disk.new) (IsSettling place batch.now.pages goal) }
+    ensures home { (place : ℕ) (goal : ℕ → List ℕ) (image : List ℕ) → IsSettled (D.disk disk.old) image → IsSettling place batch.now.pages goal image
+        → OnOk result (AtHome (D.disk disk.new) place batch.now.pages goal) }
+    ensures length { Grows 0 (D.disk disk.old) (D.disk disk.new) }
+    ensures works { Works (D.disk disk.old) (D.disk disk.new) result }
+{
+    let numbers = batch.numbers();
+    let bytes = batch.bytes();
+    let mut done = 0;
+    while done < numbers.len() {
+        let end = run_end(numbers, done);
+        let run = &bytes[4096 * done..4096 * end];
+        write(disk, 4096 * numbers[done] as u64, run)?;
+        done = end;
+    }
+    disk.sync()
+}
