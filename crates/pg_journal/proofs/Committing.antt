@@ -1,5 +1,5 @@
 -- What a commit comes to, over the views of the disk between its steps.
-use Rattle.std.specs.Prelude.{max}
+use Rattle.std.specs.Prelude.{max, ◌^◌}
 use Rattle.std.proofs.Common.{◌≡◌, inl, inr, ℕ, suc, ◌*◌, ◌≤◌, ◌<◌, List, [], ◌∷◌, length, sym, ap, subst, ◌∙◌, arith}
 use Rattle.std.proofs.lemmas.Bool.{cases_eq}
 use Rattle.std.proofs.lemmas.Bool.Decides.{nat_tests}
@@ -8,7 +8,6 @@ use Rattle.pg_journal.specs.Pages.{page, Numbered, with_page, put_on, AreBetween
 use Rattle.pg_journal.specs.Recovered.{IsRecovered, gate}
 use Rattle.pg_journal.specs.Standing.{IsShut, Stands, homes_with, HasGoodRoot, MayCommit, IsEither}
 use Rattle.pg_journal.specs.Staging.{IsStaged, Staged, IsGoal, IsSettling, AtHome, IsGateWrite, IsGateSet}
-use Rattle.std.specs.Prelude.{◌^◌}
 use Rattle.pg_journal.proofs.Pages.{with_same, with_other, put_on_below, put_on_root, changed_homes, between_length}
 use Rattle.pg_journal.proofs.Shut.{shut_still, shut_recovers, opened, settling_recovers, settling_again, shut_again}
 

@@ -1,8 +1,7 @@
 -- A batch as contracts see it, and how its pages are kept.
-use Rattle.std.specs.Prelude.{◌≡◌, ℕ, ◌+◌, ◌<◌, ◌≤◌, List, [], ◌∷◌, ◌++◌, suc, map, take, drop, nat_lt, get_or, Option, None, Some, replicate, refl}
+use Rattle.std.specs.Prelude.{◌≡◌, ℕ, ◌+◌, ◌<◌, ◌≤◌, List, [], ◌∷◌, ◌++◌, suc, map, take, drop, nat_lt, get_or, Option, None, Some, replicate, refl, ◌==◌}
 use Rattle.std.specs.Bool.{if◌then◌else◌}
 use Rattle.std.specs.Int.{to_be_bytes, w32}
-use Rattle.std.specs.Prelude.{◌==◌}
 use Rattle.pg_journal.specs.Pages.{Numbered}
 
 -- how many pages a batch may have, and its pages in order of their numbers

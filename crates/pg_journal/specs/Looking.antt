@@ -3,7 +3,8 @@ use Rattle.std.specs.Prelude.{◌≡◌, ◌≢◌, ℕ, ◌+◌, ◌*◌, ◌�
 use Rattle.std.proofs.Common.{◌∙◌, arith}
 use Rattle.ct_site.specs.declared.outside.Failed.{Failed}
 use Rattle.ct_base.specs.Causes.{Rose}
-use Rattle.ct_base.specs.Moments.{Keeps, keeps_then}
+use Rattle.ct_base.specs.Moments.{Grows}
+use Rattle.ct_base.specs.laws.Moments.{grows_then}
 use Rattle.ct_site.specs.Disks.{DiskView, Works}
 use Rattle.pg_journal.specs.declared.faults.LoadFault.{LoadFault}
 use Rattle.pg_journal.specs.declared.faults.LoadFault.TheVariants.{Disk}
@@ -46,7 +47,7 @@ pub record IsNoStore (image : List ℕ) : Type 0 where
 pub record Loads {T : Type 0} (old new : DiskView) (result : Result T LoadFault) : Type 0 where
   pub beside : new.beside ≡ old.beside
   pub untold : old.image ≡ None → new.image ≡ None
-  pub kept : Keeps old.time new.time
+  pub kept : Grows old.time new.time
   pub later : old.faults ≤ new.faults
   pub cause : result ≡ Err Disk → Rose old.faults new.faults
 
@@ -54,7 +55,7 @@ pub loads_then : {T U : Type 0} (old mid new : DiskView) (x : T) (result : Resul
 loads_then old mid new x result first second = record {
   beside = second.beside ∙ first.beside;
   untold = λ none. second.untold (first.untold none);
-  kept = keeps_then old.time mid.time new.time first.kept second.kept;
+  kept = grows_then old.time mid.time new.time first.kept second.kept;
   later = omega (arith, first.cause.later, second.later);
   cause = λ is. let rose = second.cause is in omega (arith, rose, first.cause.later);
 }
@@ -111,7 +112,7 @@ pub loads_more : {T U V : Type 0} (old mid new : DiskView) (x : T) (y : U) (resu
 loads_more old mid new x y result other first second = record {
   beside = second.beside ∙ first.beside;
   untold = λ none. second.untold (first.untold none);
-  kept = keeps_then old.time mid.time new.time first.kept second.kept;
+  kept = grows_then old.time mid.time new.time first.kept second.kept;
   later = omega (arith, first.later, second.cause.later);
   cause = λ is. absurd (other is);
 }

@@ -1,14 +1,14 @@
 -- Laws of calls that follow each other.
 use Rattle.std.specs.Prelude.{ℕ, List, Ok}
 use Rattle.std.proofs.Common.{◌∙◌}
-use Rattle.ct_base.specs.Moments.{stays_then}
+use Rattle.ct_base.specs.laws.Moments.{adds_nothing_then}
 use Rattle.ct_site.specs.Disks.{DiskView, IsSame, IsSettled, Works}
 
 pub same_then : (old mid new : DiskView) → IsSame old mid → IsSame mid new → IsSame old new
 same_then old mid new first second = record {
   image = second.image ∙ first.image;
   crash = λ image left. first.crash image (second.crash image left);
-  time = stays_then old.time mid.time new.time first.time second.time;
+  time = adds_nothing_then old.time mid.time new.time first.time second.time;
 }
 
 pub settled_same : (old new : DiskView) (image : List ℕ) → IsSame old new → IsSettled old image → IsSettled new image

@@ -1,6 +1,5 @@
-use Rattle.std.proofs.Common.{arith}
+use Rattle.std.proofs.Common.{arith, ◌∷◌, [], refl}
 use Rattle.ct_site.specs.laws.Lengths.{grows_more, grows_then, grows_same}
-use Rattle.std.proofs.Common.{◌∷◌, [], refl}
 use Rattle.std.proofs.lemmas.Result.{on_ok_weaker}
 use Rattle.ct_site.specs.Disks.{leaves_then, leaves_more}
 use Rattle.pg_journal.specs.Births.{born}

@@ -1,4 +1,4 @@
-use Rattle.std.proofs.Common.{◌+◌, ◌*◌, ◌+◌, ◌*◌, arith}
+use Rattle.std.proofs.Common.{◌+◌, ◌*◌, arith}
 use Rattle.std.proofs.lemmas.Result.{on_ok_weaker}
 use Rattle.ct_site.specs.laws.Lengths.{grows_then, grows_more, within_less, within_grown}
 use Rattle.pg_journal.specs.Pages.{page, put_on}

@@ -3,7 +3,6 @@ use Rattle.std.specs.Option.{option_map}
 use Rattle.ct_site.specs.laws.Calls.{settled_same}
 use Rattle.ct_site.specs.laws.Lengths.{grows_then, grows_same}
 use Rattle.pg_journal.proofs.Loading.{nothing_written, open_none, to_finish, finished, finish_moments, finish_inside}
-use Rattle.ct_site.specs.laws.Calls.{settled_same}
 use Rattle.pg_journal.proofs.journals.load_open.Goals as goal
 
 pub returns-in_err-batch-clause-moments : goal.returns-in_err-batch-clause-moments

@@ -1,4 +1,4 @@
-use Rattle.std.proofs.Common.{◌*◌, List, ◌++◌, ap, ◌*◌, ◌-◌, ◌≡◌, ◌∙◌, ℕ, length, arith}
+use Rattle.std.proofs.Common.{◌*◌, List, ◌++◌, ap, ◌-◌, ◌≡◌, ◌∙◌, ℕ, length, arith}
 use Rattle.std.proofs.lemmas.List.{length-replicate}
 use Rattle.std.proofs.lemmas.Result.{on_ok_weaker}
 use Rattle.std.specs.Int.{to_be_bytes, w32}

@@ -1,8 +1,7 @@
 use Rattle.std.proofs.Common.{true, false, sym, ◌∙◌, arith}
-use Rattle.ct_site.specs.laws.Calls.{same_then}
+use Rattle.ct_site.specs.laws.Calls.{same_then, settled_same}
 use Rattle.ct_site.specs.laws.Lengths.{grows_then, grows_same, grows_more}
 use Rattle.pg_journal.proofs.Loading.{nothing_written, unborn_is, born_is, born_within, after_same, marked_is, no_mark, too_short, is_store, unborn_no_store}
-use Rattle.ct_site.specs.laws.Calls.{settled_same}
 use Rattle.pg_journal.proofs.journals.Journal.load.Goals as goal
 
 pub returns-in_default-clause-moments : goal.returns-in_default-clause-moments
