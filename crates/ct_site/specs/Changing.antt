@@ -45,7 +45,7 @@ works_push s c nothing = record {
   beside = ap (λ (l : List ℕ). record { left = Some s.left; said = Some l; hear_faults = s.hear_faults; say_faults = s.say_faults }) (ap (λ (l : List ℕ). said_by s.log ++ l) nothing ∙ append-nil (said_by s.log));
   untold = λ none. absurd (cc none);
   kept = keeps_push s.first s.log c;
-  cause = record { later = omega arith; failed = tt };
+  cause = record { later = omega arith; passed = refl; failed = tt };
 }
 
 leaves_push : (s : MemState) (c : Change) (P : List ℕ → Type 0) → said_in c ≡ [] → ((image : List ℕ) → (next (after (begun s.first) s.log) c).may_leave image → P image) → Leaves (view_of s) (pushed s c) P

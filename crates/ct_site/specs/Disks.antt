@@ -2,7 +2,7 @@
 use Rattle.std.specs.Prelude.{◌≡◌, ℕ, List, Option, None, Some, Result, Ok}
 use Rattle.std.proofs.Common.{refl, ap, sym, ◌∙◌}
 use Rattle.ct_site.specs.declared.outside.Failed.{Failed}
-use Rattle.ct_base.specs.Causes.{HasCause, cause_then}
+use Rattle.ct_site.specs.FaultCounts.{CountsFaults, counts_then}
 use Rattle.ct_base.specs.Moments.{Timeline, Passes, Stays, Keeps, keeps_then, passes_none, passes_stays, passes_more, passes_then}
 use Rattle.ct_base.specs.Told.{ahead, behind, IsSaid, SaysPart}
 
@@ -52,7 +52,8 @@ pub record Works {T : Type 0} (old new : DiskView) (result : Result T Failed) : 
   pub untold : old.image ≡ None → new.image ≡ None
   -- no moment is forgotten
   pub kept : Keeps old.time new.time
-  pub cause : HasCause old.faults new.faults result
+  -- a fault is counted, and nothing else is: none is passed over
+  pub cause : CountsFaults old.faults new.faults result
 
 -- one after the other
 pub works_then : {T U : Type 0} (old mid new : DiskView) (x : T) (result : Result U Failed) → Works old mid (Ok x) → Works mid new result → Works old new result
@@ -60,7 +61,7 @@ works_then old mid new x result first second = record {
   beside = second.beside ∙ first.beside;
   untold = λ none. second.untold (first.untold none);
   kept = keeps_then old.time mid.time new.time first.kept second.kept;
-  cause = cause_then old.faults mid.faults new.faults result first.cause.later second.cause;
+  cause = counts_then old.faults mid.faults new.faults result first.cause.passed second.cause;
 }
 
 -- Between the two a crash left images that have P, and nothing was said.

@@ -2,6 +2,7 @@ pub mod Changing
 pub mod Crashes
 pub mod Disks
 pub mod Histories
+pub mod FaultCounts
 pub mod Images
 pub mod Logs
 pub mod Memory

@@ -3,6 +3,7 @@ use Rattle.std.specs.Prelude.{◌≡◌, ℕ, ◌+◌, ◌-◌, ◌^◌, ◌==�
 use Rattle.std.specs.List.{list_any}
 use Rattle.ct_site.specs.declared.fault_lists.Faults.{Faults}
 use Rattle.ct_site.specs.declared.room_sizes.Rooms.{Rooms}
+use Rattle.ct_site.specs.FaultCounts.{raised}
 use Rattle.ct_site.specs.Disks.{DiskView}
 use Rattle.ct_site.specs.Histories.{Change, Wrote, Synced, Said, begun, after, said_by, timeline}
 
@@ -64,10 +65,6 @@ fresh script image faults rooms = record {
   say_faults = 0;
   disk_faults = 0;
 }
-
--- a count after one more, up to 2^64 - 1
-abbrev pub raised : ℕ → ℕ
-raised n = min (n + 1) (2 ^ 64 - 1)
 
 -- whether the call after so many calls is listed as one that fails
 abbrev pub is_listed : ℕ → List ℕ → Bool
