@@ -1,16 +1,19 @@
 -- What is known of a disk and of what stands beside it, and what each call makes of that.
-use Rattle.std.specs.Prelude.{◌≡◌, ℕ, List, Option, None, Some, Result, Ok}
+use Rattle.std.specs.Prelude.{◌≡◌, ◌⊎◌, ℕ, true, List, Option, None, Some, is_some, Result, Ok}
 use Rattle.std.proofs.Common.{refl, ap, sym, ◌∙◌}
 use Rattle.ct_site.specs.declared.outside.Failed.{Failed}
 use Rattle.ct_site.specs.FaultCounts.{CountsFaults, counts_then}
 use Rattle.ct_base.specs.Moments.{Timeline, Passes, Stays, Keeps, keeps_then, passes_none, passes_stays, passes_more, passes_then}
 use Rattle.ct_base.specs.Told.{ahead, behind, IsSaid, SaysPart}
+use Rattle.ct_site.specs.Hearings.{Hearing, WasCalled}
 
 -- What stands beside a disk. No call of the disk changes it.
 pub record Beside : Type 0 where
   -- what is left of the script, and the bytes said, where they are told
   pub left : Option (List ℕ)
   pub said : Option (List ℕ)
+  -- the calls of `hear` so far, where they are told; one more between which and the last nothing was heard or said may be left out
+  pub hearings : Option (List Hearing)
   -- how often hearing and saying failed, up to 2^64 - 1
   pub hear_faults : ℕ
   pub say_faults : ℕ
@@ -91,10 +94,22 @@ leaves_then old mid new P first second = record {
   now = second.now;
 }
 
--- Bytes of the script were heard, and nothing else was done.
+-- `hear` is called where this is left and this was said
+abbrev pub IsHearing : Beside → Hearing → Type 0
+IsHearing beside h = (beside.left ≡ Some h.left) × (beside.said ≡ Some h.said)
+
+-- `hear` was called once: where its calls are told, so are those before and this one, and no other.
+pub record Asks (old new : Beside) : Type 0 where
+  pub told : is_some new.hearings ≡ is_some old.hearings
+  pub keeps : (h : Hearing) → WasCalled old.hearings h → WasCalled new.hearings h
+  pub notes : (h : Hearing) → is_some old.hearings ≡ true → IsHearing old h → WasCalled new.hearings h
+  pub adds : (h : Hearing) → WasCalled new.hearings h → WasCalled old.hearings h ⊎ IsHearing old h
+
+-- Bytes of the script were heard by one call, and nothing else was done.
 pub record Hears (heard : List ℕ) (old new : DiskView) : Type 0 where
   pub left : old.beside.left ≡ ahead heard new.beside.left
   pub said : new.beside.said ≡ old.beside.said
+  pub asks : Asks old.beside new.beside
   pub say_faults : new.beside.say_faults ≡ old.beside.say_faults
   pub same : IsSame old new
   pub kept : Keeps old.time new.time
@@ -104,6 +119,7 @@ pub record Hears (heard : List ℕ) (old new : DiskView) : Type 0 where
 pub record Says (told : List ℕ) (old new : DiskView) : Type 0 where
   pub said : new.beside.said ≡ behind old.beside.said told
   pub left : new.beside.left ≡ old.beside.left
+  pub hearings : new.beside.hearings ≡ old.beside.hearings
   pub hear_faults : new.beside.hear_faults ≡ old.beside.hear_faults
   pub image : new.image ≡ old.image
   pub crash : (image : List ℕ) → new.may_leave image → old.may_leave image

@@ -3,9 +3,11 @@ pub mod Crashes
 pub mod Disks
 pub mod Histories
 pub mod FaultCounts
+pub mod Hearings
 pub mod Images
 pub mod Logs
 pub mod Memory
 pub mod MemoryFields
 pub mod Pieces
+pub mod Places
 pub mod Real

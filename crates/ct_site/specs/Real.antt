@@ -16,7 +16,7 @@ abbrev pub view_of : RealState → DiskView
 view_of s = record {
   image = None;
   may_leave = λ image. ⊥;
-  beside = record { left = None; said = None; hear_faults = s.hear_faults; say_faults = s.say_faults };
+  beside = record { left = None; said = None; hearings = None; hear_faults = s.hear_faults; say_faults = s.say_faults };
   time = record { clock = 0; since = λ t image said. ⊥ };
   faults = s.disk_faults;
 }

@@ -7,6 +7,7 @@ mod logs;
 mod memory;
 mod outside;
 mod picks;
+mod places;
 mod quiet;
 mod real;
 mod room_sizes;

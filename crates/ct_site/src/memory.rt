@@ -13,6 +13,7 @@ use crate::fault_lists::Faults;
 use crate::logs::Log;
 use crate::outside::{Disk, Failed, LONGEST, Site};
 use crate::picks::Pick;
+use crate::places::{Place, keep_place, places_for};
 use crate::room_sizes::Rooms;
 use ct_base::Memory;
 use std::alloc::Global;
@@ -28,6 +29,9 @@ pub struct MemSite {
     first: Vec<u8>,
     image: Vec<u8>,
     log: Log,
+    /// The calls of `hear` before the last byte was heard or said, and whether there was one since.
+    hearings: Vec<Place>,
+    has_asked: bool,
     faults: Faults,
     calls: u64,
     hear_calls: u64,
@@ -69,12 +73,15 @@ impl MemSite {
         let first = Vec::from_slice(alloc, &image)?;
         let mut image = image;
         image.reserve_exact(rooms.image - image.len())?;
+        let hearings = places_for(alloc, script.len(), rooms.calls)?;
         Ok(MemSite {
             script,
             taken: 0,
             first,
             image,
             log: Log::new(alloc, rooms)?,
+            hearings,
+            has_asked: false,
             faults,
             calls: 0,
             hear_calls: 0,
@@ -278,10 +285,17 @@ impl Site for MemSite {
         ensures failed { OnErr result ((self.new ≡ hear_failed self.old) × (into.new ≡ into.old)) }
     {
         if self.count_hear() {
+            self.has_asked = true;
             return Err(count_fault(&mut self.hear_faults));
         }
         let count = into.len().min(self.script.len() - self.taken);
         into[..count].copy_from_slice(&self.script[self.taken..self.taken + count]);
+        let here = Place {
+            taken: self.taken,
+            said: self.log.said_count(),
+        };
+        keep_place(&mut self.hearings, count > 0, here);
+        self.has_asked = count == 0;
         self.taken += count;
         Ok(count)
     }
@@ -301,6 +315,12 @@ impl Site for MemSite {
         if self.count_say() || !self.may_say(bytes.len()) {
             return Err(count_fault(&mut self.say_faults));
         }
+        let here = Place {
+            taken: self.taken,
+            said: self.log.said_count(),
+        };
+        keep_place(&mut self.hearings, self.has_asked, here);
+        self.has_asked = false;
         self.log.say(bytes);
         Ok(bytes.len())
     }
