@@ -10,6 +10,8 @@ mod picks;
 mod places;
 mod quiet;
 mod real;
+#[cfg(test)]
+mod real_tests;
 mod room_sizes;
 #[cfg(test)]
 mod tests;
