@@ -130,6 +130,7 @@ fn close<R: Threads + Sync, K: Keeper>(
 }
 
 /// Hears at most `room` bytes.
+#[tactic(auto, using(crate::proofs::Lasting::heard_by))]
 fn hear_some<K: Keeper>(keeper: &mut K, chunk: &mut [u8], room: usize) -> Result<usize, Failed>
     requires some { 0 < room }
     requires within { room ≤ length chunk.old }
