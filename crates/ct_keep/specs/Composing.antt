@@ -1,16 +1,15 @@
 -- What calls of a keeper make together: each of its relations of one call after another.
-use Rattle.std.specs.Prelude.{ℕ, ◌≡◌, List, [], ◌++◌, Bool, Option, Some, None, refl}
-use Rattle.std.proofs.Common.{sym, ap, subst, inl, ◌∙◌, arith, length-append}
-use Rattle.ct_base.specs.Causes.{Rose}
-use Rattle.ct_base.specs.Told.{IsSaid, with_prefix, with_suffix, SaysPart}
-use Rattle.ct_base.specs.laws.Told.{with_prefix-nil, with_prefix_twice, with_suffix-nil, with_suffix_twice, says_prefix, says_suffix}
+use Rattle.std.specs.Prelude.{ℕ, ◌≡◌, List, [], ◌++◌, Bool, true, Option, Some, None, refl}
+use Rattle.std.proofs.Common.{sym, ap, subst, inl, inr, ◌∙◌, arith, length-append}
+use Rattle.ct_base.specs.Told.{IsSaid, with_suffix, SaysPart}
+use Rattle.ct_base.specs.laws.Told.{with_suffix-nil, with_suffix_twice, says_prefix, says_suffix}
 use Rattle.ct_base.specs.laws.Moments.{passes_none, passes_more, passes_then, passes_nothing, adds_nothing_itself, adds_nothing_then}
 use Rattle.ct_site.specs.Disks.{Beside}
 use Rattle.ct_keep.specs.declared.keepers.KeepFault.{KeepFault}
 use Rattle.ct_keep.specs.declared.keepers.KeepFault.TheVariants.{Memory, Disk, Full}
 use Rattle.ct_keep.specs.Content.{Content}
 use Rattle.ct_keep.specs.Changes.{AreWell}
-use Rattle.ct_keep.specs.KeeperViews.{KeeperView, Fixed, Counts, Kept, Reads, Goes, Answers, Came, Leaves, IsSettled, Apart, KeeperHears, KeeperSays, PassesRoom, UnlessDisk, OnDisk, counted, is_full, committed}
+use Rattle.ct_keep.specs.KeeperViews.{KeeperView, Fixed, Counts, Kept, Reads, Goes, Answers, Came, Leaves, IsSettled, Apart, KeeperHears, KeeperSays, PassesRoom, UnlessDisk, OnDisk, counted, disk_counted, is_full, committed, AtMostOneCommit}
 
 -- ---- what never changes, by its fields
 
@@ -32,7 +31,7 @@ same_lender e = ap (λ (x : Fixed). x.lender) e
 -- ---- what every call keeps
 
 pub kept_all : (k : KeeperView) → k.ready → Kept k k None
-kept_all k ready = record { ready = ready; beside = refl; fixed = refl; later = omega arith; cause = tt; calls = tt }
+kept_all k ready = record { ready = ready; beside = refl; fixed = refl; later = omega arith; cause = refl; calls = tt }
 
 -- a call that succeeded, and then another
 pub kept_then : (old mid new : KeeperView) (fault : Option KeepFault) → Kept old mid None → Kept mid new fault → Kept old new fault
@@ -41,16 +40,10 @@ kept_then old mid new fault first second = record {
   beside = second.beside ∙ first.beside;
   fixed = second.fixed ∙ first.fixed;
   later = omega (arith, first.later, second.later);
-  cause = rose fault second.cause;
+  cause = second.cause ∙ ap (disk_counted fault) first.cause;
   calls = called fault second.calls;
 }
   where
-    rose : (fault : Option KeepFault) → OnDisk fault (Rose mid.disk_faults new.disk_faults) → OnDisk fault (Rose old.disk_faults new.disk_faults)
-    rose None c = c
-    rose (Some Memory) c = c
-    rose (Some Full) c = c
-    rose (Some Disk) c = let l = first.later in omega (arith, c, l)
-
     called : (fault : Option KeepFault) → OnDisk fault (mid.fixed.aside ≡ None) → OnDisk fault (old.fixed.aside ≡ None)
     called None c = c
     called (Some Memory) c = c
@@ -59,12 +52,12 @@ kept_then old mid new fault first second = record {
 
 -- calls that succeeded, and then no memory
 pub kept_short : (old new : KeeperView) → Kept old new None → Kept old new (Some Memory)
-kept_short old new kept = record { ready = kept.ready; beside = kept.beside; fixed = kept.fixed; later = kept.later; cause = tt; calls = tt }
+kept_short old new kept = record { ready = kept.ready; beside = kept.beside; fixed = kept.fixed; later = kept.later; cause = kept.cause; calls = tt }
 
 -- ---- reads
 
 pub reads_none : (k : KeeperView) → k.ready → Reads k k None
-reads_none k ready = record { not_full = λ e. cc; kept = kept_all k ready; content = refl; time = adds_nothing_itself k.time; now = λ stopped said now. now; fulls = refl }
+reads_none k ready = record { not_full = λ e. cc; kept = kept_all k ready; content = refl; time = adds_nothing_itself k.time; now = λ stopped said now. now; fulls = refl; commits = refl }
 
 -- reads that succeeded, and then others
 pub reads_on : (old mid new : KeeperView) (fault : Option KeepFault) → Reads old mid None → Reads mid new fault → Reads old new fault
@@ -75,6 +68,7 @@ reads_on old mid new fault first second = record {
   time = adds_nothing_then old.time mid.time new.time first.time second.time;
   now = λ stopped said now. first.now stopped said (second.now stopped said now);
   fulls = second.fulls ∙ first.fulls;
+  commits = second.commits ∙ first.commits;
 }
   where
     same : (fault : Option KeepFault) → UnlessDisk fault (new.content ≡ mid.content) → UnlessDisk fault (new.content ≡ old.content)
@@ -85,7 +79,7 @@ reads_on old mid new fault first second = record {
 
 -- reads that succeeded, and then no memory
 pub reads_short : (old new : KeeperView) → Reads old new None → Reads old new (Some Memory)
-reads_short old new reads = record { not_full = λ e. cc; kept = kept_short old new reads.kept; content = reads.content; time = reads.time; now = reads.now; fulls = reads.fulls }
+reads_short old new reads = record { not_full = λ e. cc; kept = kept_short old new reads.kept; content = reads.content; time = reads.time; now = reads.now; fulls = reads.fulls; commits = reads.commits }
 
 -- what is held after them
 pub reads_hold : (old new : KeeperView) (m : Content) → Reads old new None → old.content ≡ Some m → new.content ≡ Some m
@@ -156,6 +150,13 @@ answers_failed Full limit m next not_full = absurd (not_full refl)
 pub fulls_then : (old mid : KeeperView) (new : Counts) (fault : Option KeepFault) → Reads old mid None → new ≡ committed fault mid.counts → new.fulls ≡ counted (is_full fault) old.counts.fulls
 fulls_then old mid new fault reads commits = ap (λ (c : Counts). c.fulls) commits ∙ ap (counted (is_full fault)) reads.fulls
 
+-- how often a commit was called by reads and then one: once, and by reads alone never
+pub commits_then : (old mid : KeeperView) (new : Counts) (fault : Option KeepFault) → Reads old mid None → new ≡ committed fault mid.counts → AtMostOneCommit old.counts new
+commits_then old mid new fault reads commits = inr (ap (λ (c : Counts). c.commits) commits ∙ ap (counted true) reads.commits)
+
+pub commits_read : (old new : KeeperView) (fault : Option KeepFault) → Reads old new fault → AtMostOneCommit old.counts new.counts
+commits_read old new fault reads = inl reads.commits
+
 -- ---- hearing and saying
 
 pub apart_all : (k : KeeperView) → Apart k k
@@ -170,21 +171,8 @@ apart_then old mid new first second = record {
   disk_faults = second.disk_faults ∙ first.disk_faults;
 }
 
-pub hears_none : (k : KeeperView) → KeeperHears [] k k
-hears_none k = record { apart = apart_all k; left = sym (with_prefix-nil k.beside.left); said = refl; say_faults = refl; time = adds_nothing_itself k.time }
-
--- one piece of the script, and then another
-pub hears_then : (old mid new : KeeperView) (a b : List ℕ) → KeeperHears a old mid → KeeperHears b mid new → KeeperHears (a ++ b) old new
-hears_then old mid new a b first second = record {
-  apart = apart_then old mid new first.apart second.apart;
-  left = first.left ∙ ap (with_prefix a) second.left ∙ with_prefix_twice a b new.beside.left;
-  said = second.said ∙ first.said;
-  say_faults = second.say_faults ∙ first.say_faults;
-  time = adds_nothing_then old.time mid.time new.time first.time second.time;
-}
-
 pub says_none : (k : KeeperView) → KeeperSays [] k k
-says_none k = record { apart = apart_all k; said = sym (with_suffix-nil k.beside.said); left = refl; hear_faults = refl; time = λ ready m holds. passes_none k.time _ }
+says_none k = record { apart = apart_all k; said = sym (with_suffix-nil k.beside.said); left = refl; hearings = refl; hear_faults = refl; time = λ ready m holds. passes_none k.time _ }
 
 -- one piece said, and then another
 pub says_then : (old mid new : KeeperView) (a b : List ℕ) → KeeperSays a old mid → KeeperSays b mid new → KeeperSays (a ++ b) old new
@@ -192,6 +180,7 @@ says_then old mid new a b first second = record {
   apart = apart_then old mid new first.apart second.apart;
   said = second.said ∙ ap (λ (told : Option (List ℕ)). with_suffix told b) first.said ∙ with_suffix_twice old.beside.said a b;
   left = second.left ∙ first.left;
+  hearings = second.hearings ∙ first.hearings;
   hear_faults = second.hear_faults ∙ first.hear_faults;
   time = λ ready m holds.
       passes_then old.time mid.time new.time _

@@ -26,7 +26,7 @@ pub record KeeperState : Type 0 where
   pub say_faults : ℕ
 
 abbrev pub no_counts : Counts
-no_counts = record { texts = 0; rows = 0; rules = 0; fulls = 0 }
+no_counts = record { texts = 0; rows = 0; rules = 0; fulls = 0; commits = 0 }
 
 -- there is none
 abbrev pub no_disk : Aside
@@ -43,7 +43,7 @@ pub record IsNew (script : List ℕ) (most room : ℕ) (k : KeeperState) : Type 
   pub say_faults : k.say_faults ≡ 0
 
 abbrev pub mem_view : KeeperState → KeeperView
-mem_view s = in_memory s.content s.limit s.counts (record { left = Some s.left; said = Some s.said; hear_faults = 0; say_faults = s.say_faults }) (Some s.said_room) no_disk None
+mem_view s = in_memory s.content s.limit s.counts (record { left = Some s.left; said = Some s.said; hearings = None; hear_faults = 0; say_faults = s.say_faults }) (Some s.said_room) no_disk None
 
 -- The script has been heard up to here, and what may be said has its room.
 pub record IsRoomy (script : List ℕ) (heard : ℕ) (said : Vec ℕ Global) (said_room : ℕ) : Type 0 where
@@ -52,7 +52,11 @@ pub record IsRoomy (script : List ℕ) (heard : ℕ) (said : Vec ℕ Global) (sa
   pub room : said_room ≤ vec_capacity said
 
 abbrev pub counts_code : Coded Counts
-counts_code = code_by (ℕ × (ℕ × (ℕ × ℕ))) (coded× coded_ℕ (coded× coded_ℕ (coded× coded_ℕ coded_ℕ))) (λ c. (c.texts, (c.rows, (c.rules, c.fulls)))) (λ p. record { texts = p.0; rows = p.1.0; rules = p.1.1.0; fulls = p.1.1.1 }) (λ _. refl)
+counts_code =
+    code_by (ℕ × (ℕ × (ℕ × (ℕ × ℕ)))) (coded× coded_ℕ (coded× coded_ℕ (coded× coded_ℕ (coded× coded_ℕ coded_ℕ))))
+    (λ c. (c.texts, (c.rows, (c.rules, (c.fulls, c.commits)))))
+    (λ p. record { texts = p.0; rows = p.1.0; rules = p.1.1.0; fulls = p.1.1.1.0; commits = p.1.1.1.1 })
+    (λ _. refl)
 
 -- a content with the proof that each of its entries is within the bounds
 abbrev Held : Type 0

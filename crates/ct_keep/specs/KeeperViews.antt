@@ -3,20 +3,22 @@ use Rattle.std.specs.Prelude.{ℕ, ◌≡◌, ◌⊎◌, ◌+◌, ◌-◌, ◌^�
 use Rattle.std.specs.Bool.{if◌then◌else◌}
 use Rattle.std.specs.Result.{IfOk}
 use base.Fml.{GName}
-use Rattle.ct_base.specs.Causes.{Rose}
 use Rattle.ct_base.specs.Told.{IsSaid, with_prefix, with_suffix, SaysPart}
 use Rattle.ct_base.specs.Moments.{Timeline, Passes, AddsNothing}
-use Rattle.ct_site.specs.Disks.{Beside}
+use Rattle.ct_site.specs.FaultCounts.{raised}
+use Rattle.ct_site.specs.Disks.{Asks, Beside}
 use Rattle.ct_keep.specs.declared.keepers.KeepFault.{KeepFault}
 use Rattle.ct_keep.specs.declared.keepers.KeepFault.TheVariants.{Memory, Disk, Full}
 use Rattle.ct_keep.specs.Content.{Content, weight}
 
--- How often entries of some kinds were asked for or handed out, and how often a commit was refused for want of room; each up to 2 ^ 64 - 1.
+-- How often entries of some kinds were asked for or handed out, how often a commit was refused for want of room, and how often one
+-- was called, however it ended; each up to 2 ^ 64 - 1.
 pub record Counts : Type 0 where
   pub texts : ℕ
   pub rows : ℕ
   pub rules : ℕ
   pub fulls : ℕ
+  pub commits : ℕ
 
 -- The disk beside a keeper that makes no call of it: what a read gives, where it is told, and how often a call of it failed.
 pub record Aside : Type 0 where
@@ -56,6 +58,13 @@ abbrev pub fault_of : {T : Type 0} → Result T KeepFault → Option KeepFault
 fault_of (Ok x) = None
 fault_of (Err fault) = Some fault
 
+-- The count of faults of the disk after a call that so failed: it rises by one where the disk failed, and is else as it was.
+abbrev pub disk_counted : Option KeepFault → ℕ → ℕ
+disk_counted (Some Disk) n = raised n
+disk_counted (Some Memory) n = n
+disk_counted (Some Full) n = n
+disk_counted None n = n
+
 -- what holds unless the disk failed, and what holds where it did
 abbrev pub UnlessDisk : Option KeepFault → Type 0 → Type 0
 UnlessDisk None P = P
@@ -75,7 +84,8 @@ pub record Kept (old new : KeeperView) (fault : Option KeepFault) : Type 0 where
   pub beside : new.beside ≡ old.beside
   pub fixed : new.fixed ≡ old.fixed
   pub later : old.disk_faults ≤ new.disk_faults
-  pub cause : OnDisk fault (Rose old.disk_faults new.disk_faults)
+  -- a fault of the disk is answered, and nothing else is: none is passed over
+  pub cause : new.disk_faults ≡ disk_counted fault old.disk_faults
   -- one that makes no call of the disk doesn't fail by it
   pub calls : OnDisk fault (old.fixed.aside ≡ None)
 
@@ -91,6 +101,7 @@ pub record Reads (old new : KeeperView) (fault : Option KeepFault) : Type 0 wher
   pub time : AddsNothing old.time new.time
   pub now : (stopped : Option Content) (said : List ℕ) → new.now stopped said → old.now stopped said
   pub fulls : new.counts.fulls ≡ old.counts.fulls
+  pub commits : new.counts.commits ≡ old.counts.commits
 
 -- A call with this result only read, by the view of a keeper before and after it.
 abbrev pub OnlyReads : {K T : Type 0} → (K → KeeperView) → K → K → Result T KeepFault → Type 0
@@ -128,6 +139,7 @@ looked_up asked handed c = record {
   rows = counted (is_either 0x24 asked handed || is_either 0x25 asked handed) c.rows;
   rules = counted (is_either 0x2a asked handed) c.rules;
   fulls = c.fulls;
+  commits = c.commits;
 }
 
 abbrev pub is_full : Option KeepFault → Bool
@@ -136,7 +148,17 @@ is_full fault = false
 
 -- the counts after a commit
 abbrev pub committed : Option KeepFault → Counts → Counts
-committed fault c = record { texts = c.texts; rows = c.rows; rules = c.rules; fulls = counted (is_full fault) c.fulls }
+committed fault c = record {
+  texts = c.texts;
+  rows = c.rows;
+  rules = c.rules;
+  fulls = counted (is_full fault) c.fulls;
+  commits = counted true c.commits;
+}
+
+-- A commit was called once, or none was.
+abbrev pub AtMostOneCommit : Counts → Counts → Type 0
+AtMostOneCommit old new = (new.commits ≡ old.commits) ⊎ (new.commits ≡ counted true old.commits)
 
 -- ---- commits
 
@@ -186,11 +208,12 @@ pub record Apart (old new : KeeperView) : Type 0 where
   pub counts : new.counts ≡ old.counts
   pub disk_faults : new.disk_faults ≡ old.disk_faults
 
--- Bytes of the script were heard, and nothing else was done.
+-- Bytes of the script were heard by one call, and nothing else was done.
 pub record KeeperHears (heard : List ℕ) (old new : KeeperView) : Type 0 where
   pub apart : Apart old new
   pub left : old.beside.left ≡ with_prefix heard new.beside.left
   pub said : new.beside.said ≡ old.beside.said
+  pub asks : Asks old.beside new.beside
   pub say_faults : new.beside.say_faults ≡ old.beside.say_faults
   pub time : AddsNothing old.time new.time
 
@@ -199,6 +222,7 @@ pub record KeeperSays (told : List ℕ) (old new : KeeperView) : Type 0 where
   pub apart : Apart old new
   pub said : new.beside.said ≡ with_suffix old.beside.said told
   pub left : new.beside.left ≡ old.beside.left
+  pub hearings : new.beside.hearings ≡ old.beside.hearings
   pub hear_faults : new.beside.hear_faults ≡ old.beside.hear_faults
   pub time : old.ready → (m : Content) → old.content ≡ Some m → Passes old.time new.time (λ stopped said. (stopped ≡ Some m) × SaysPart old.beside.said told said)
 
@@ -208,13 +232,23 @@ pub record PassesRoom (room : Option ℕ) (told : Option (List ℕ)) (bytes : Li
 
 -- computed examples: a text that is asked for, a posting row that is handed out where a document was asked for, and a count at its end
 abbrev nothing_yet : Counts
-nothing_yet = record { texts = 0; rows = 0; rules = 0; fulls = 0 }
+nothing_yet = record { texts = 0; rows = 0; rules = 0; fulls = 0; commits = 0 }
 
-one_text : looked_up (0x03 ∷ 1 ∷ []) None nothing_yet ≡ record { texts = 1; rows = 0; rules = 0; fulls = 0 }
+one_text : looked_up (0x03 ∷ 1 ∷ []) None nothing_yet ≡ record { texts = 1; rows = 0; rules = 0; fulls = 0; commits = 0 }
 one_text = refl
 
-one_row : looked_up (0x22 ∷ []) (Some (0x24 ∷ 1 ∷ [])) nothing_yet ≡ record { texts = 0; rows = 1; rules = 0; fulls = 0 }
+one_row : looked_up (0x22 ∷ []) (Some (0x24 ∷ 1 ∷ [])) nothing_yet ≡ record { texts = 0; rows = 1; rules = 0; fulls = 0; commits = 0 }
 one_row = refl
+
+-- a commit that was refused for want of room was called too
+one_commit : committed (Some Full) nothing_yet ≡ record { texts = 0; rows = 0; rules = 0; fulls = 1; commits = 1 }
+one_commit = refl
+
+disk_failed : disk_counted (Some Disk) 4 ≡ 5
+disk_failed = refl
+
+disk_left : disk_counted (Some Full) 4 ≡ 4
+disk_left = refl
 
 at_its_end : counted true (2 ^ 64 - 1) ≡ 2 ^ 64 - 1
 at_its_end = refl

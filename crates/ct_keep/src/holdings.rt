@@ -39,7 +39,7 @@ impl Holding {
     pub(crate) fn new(alloc: Global, limit: u64) -> Holding
         ensures content { result.content ≡ empty }
         ensures limit { result.limit ≡ limit }
-        ensures counts { result.counts ≡ record { texts = 0; rows = 0; rules = 0; fulls = 0 } }
+        ensures counts { result.counts ≡ record { texts = 0; rows = 0; rules = 0; fulls = 0; commits = 0 } }
     {
         Holding {
             content: EntryMap::new(alloc),
@@ -91,9 +91,7 @@ impl Holding {
         ensures not_disk { NotDisk (fault_of result) }
     {
         let done = self.content.commit(alloc, batch.into_changes(), self.limit);
-        if let Err(KeepFault::Full) = done {
-            self.counts.refuse();
-        }
+        self.counts.commit(&done);
         done
     }
 }

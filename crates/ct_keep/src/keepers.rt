@@ -4,7 +4,7 @@ ghost use Rattle.std.specs.Prelude.{◌≡◌, ◌≤◌, ◌<◌, ℕ, List, Bo
 ghost use Rattle.std.specs.Option.{option_map};
 ghost use Rattle.std.specs.FinMap.{get};
 ghost use Rattle.ct_base.specs.Told.{took, IsNothing};
-ghost use Rattle.ct_base.specs.Causes.{HasCause};
+ghost use Rattle.ct_site.specs.FaultCounts.{CountsFaults};
 ghost use Rattle.ct_keep.specs.Content.{Content, after, entries_above, first_entry};
 ghost use Rattle.ct_keep.specs.Changes.{AreWell, HoldsWell};
 ghost use Rattle.ct_keep.specs.KeeperViews.{Finds, KeeperView, Kept, OnlyReads, Goes, Answers, IsSettled, KeeperHears, KeeperSays, PassesRoom, fault_of, looked_up, committed};
@@ -19,14 +19,15 @@ use thiserror::Error;
 /// Why a call of a keeper failed.
 #[derive(Clone, Copy, Debug, PartialEq, Eq, Error)]
 pub enum KeepFault {
-    /// There was no memory. All is as before the call, but that the counts of look-ups may have risen.
+    /// There was no memory. All is as before the call, but that the counts of look-ups and of commits may have risen.
     #[error("out of memory")]
     Memory,
-    /// The disk failed. From then on the keeper may be asked to hear and to say alone.
+    /// The disk failed: its count of faults rose by one, or stands at its type's end. From then on the keeper may be asked to hear
+    /// and to say alone.
     #[error("the disk failed")]
     Disk,
-    /// The content would weigh too much. All is as before the call, but that the count of such refusals rose, or stands at its
-    /// type's end, and that the counts of look-ups may have risen where the call makes some before it commits.
+    /// The content would weigh too much. All is as before the call, but that the counts of commits and of such refusals rose, or
+    /// stand at their type's end, and that the counts of look-ups may have risen where the call makes some before it commits.
     #[error("the store is full")]
     Full,
 }
@@ -82,7 +83,7 @@ pub trait Keeper {
         ensures bound { IfOk result (λ count. count ≤ length into.old) }
         ensures hears { KeeperHears (took result into.new) (view self.old) (view self.new) }
         ensures end { result ≡ Ok 0 → IsNothing (view self.new).beside.left }
-        ensures cause { HasCause (view self.old).beside.hear_faults (view self.new).beside.hear_faults result };
+        ensures cause { CountsFaults (view self.old).beside.hear_faults (view self.new).beside.hear_faults result };
 
     /// Says bytes of the front of `bytes`, at least one, and answers how many. Where it is told what was said and how many bytes
     /// may be said in all, it fails only where these would be too many. It may be called after Disk too.
@@ -92,7 +93,7 @@ pub trait Keeper {
         ensures some { IfOk result (λ count. 0 < count) }
         ensures says { KeeperSays (took result bytes.now) (view self.old) (view self.new) }
         ensures passes { OnErr result (PassesRoom (view self.old).fixed.say_room (view self.old).beside.said bytes.now) }
-        ensures cause { HasCause (view self.old).beside.say_faults (view self.new).beside.say_faults result };
+        ensures cause { CountsFaults (view self.old).beside.say_faults (view self.new).beside.say_faults result };
 
     /// Between two calls a stop leaves what it holds.
     ghost settled: { (k : Self) → (view k).ready → IsSettled (view k) };

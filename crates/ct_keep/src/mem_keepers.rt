@@ -3,7 +3,7 @@
 ghost use Rattle.std.specs.Prelude.{◌≡◌, ◌+◌, ◌-◌, ◌^◌, ◌≤◌, ◌↔◌, ◌++◌, [], true, Some, None, Ok, Err, IfOk, OnOk, OnErr, IsOk, length, min, take, drop};
 ghost use Rattle.std.specs.FinMap.{get};
 ghost use Rattle.std.specs.Option.{option_map};
-ghost use Rattle.ct_base.specs.Causes.{HasCause};
+ghost use Rattle.ct_site.specs.FaultCounts.{CountsFaults};
 ghost use Rattle.ct_keep.specs.Content.{after, entries_above, first_entry};
 ghost use Rattle.ct_keep.specs.Handed.{handed};
 ghost use Rattle.ct_keep.specs.Changes.{AreWell};
@@ -123,7 +123,7 @@ impl Keeper for MemKeeper {
 
     /// It takes all of the bytes, or fails exactly where they would pass its room.
     fn say(&mut self, bytes: &[u8]) -> Result<usize, Failed>
-        ensures cause { HasCause self.old.say_faults self.new.say_faults result }
+        ensures cause { CountsFaults self.old.say_faults self.new.say_faults result }
         ensures room { IsOk result ↔ (length self.old.said + length bytes.now ≤ self.old.said_room) }
         ensures all { IfOk result (λ count. count ≡ length bytes.now) }
         ensures ok { OnOk result (self.new ≡ record self.old { said = self.old.said ++ bytes.now }) }

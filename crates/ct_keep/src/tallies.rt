@@ -1,10 +1,10 @@
 //! The counts that every keeper keeps.
 
-ghost use Rattle.std.specs.Prelude.{◌≡◌, Some};
+ghost use Rattle.std.specs.Prelude.{◌≡◌};
 ghost use Rattle.std.specs.Option.{option_map};
-ghost use Rattle.ct_keep.specs.KeeperViews.{counted, is_kind, is_either, looked_up, committed};
-ghost use Rattle.ct_keep.specs.declared.keepers.KeepFault.TheVariants.{Full};
+ghost use Rattle.ct_keep.specs.KeeperViews.{counted, fault_of, is_full, is_kind, is_either, looked_up, committed};
 
+use crate::keepers::KeepFault;
 use std::marker::Model;
 
 /// The kinds of entries whose look-ups are counted: the first byte of their keys.
@@ -16,7 +16,8 @@ const SECTION_ROW: u8 = 0x25;
 
 const RULE: u8 = 0x2a;
 
-/// How often entries of some kinds were asked for or handed out, and how often a commit was refused for want of room.
+/// How often entries of some kinds were asked for or handed out, how often a commit was refused for want of room, and how often
+/// one was called.
 /// Each count stands still at its type's end.
 #[derive(Debug, Drop)]
 pub(crate) struct Tally {
@@ -24,6 +25,7 @@ pub(crate) struct Tally {
     rows: u64,
     rules: u64,
     fulls: u64,
+    commits: u64,
 }
 
 impl Model for Tally {
@@ -31,7 +33,7 @@ impl Model for Tally {
 
     ghost Value = { Counts };
 
-    ghost view = { λ t. record { texts = t.texts; rows = t.rows; rules = t.rules; fulls = t.fulls } };
+    ghost view = { λ t. record { texts = t.texts; rows = t.rows; rules = t.rules; fulls = t.fulls; commits = t.commits } };
 }
 
 /// Whether the key is one of this kind.
@@ -54,6 +56,16 @@ fn is_either(kind: u8, asked: &[u8], handed: Option<&[u8]>) -> bool
     }
 }
 
+/// Whether a commit was refused for want of room.
+fn is_full(done: &Result<(), KeepFault>) -> bool
+    ensures { result ≡ is_full (fault_of done.now) }
+{
+    match done {
+        Err(KeepFault::Full) => true,
+        Err(KeepFault::Memory | KeepFault::Disk) | Ok(()) => false,
+    }
+}
+
 /// One more, where it is counted.
 fn counted(here: bool, count: u64) -> u64
     ensures { result ≡ counted here count }
@@ -63,13 +75,14 @@ fn counted(here: bool, count: u64) -> u64
 
 impl Tally {
     pub(crate) fn new() -> Tally
-        ensures { result ≡ record { texts = 0; rows = 0; rules = 0; fulls = 0 } }
+        ensures { result ≡ record { texts = 0; rows = 0; rules = 0; fulls = 0; commits = 0 } }
     {
         Tally {
             texts: 0,
             rows: 0,
             rules: 0,
             fulls: 0,
+            commits: 0,
         }
     }
 
@@ -83,10 +96,11 @@ impl Tally {
         self.rules = counted(is_either(RULE, asked, handed), self.rules);
     }
 
-    /// Counts a commit that was refused for want of room.
-    pub(crate) fn refuse(&mut self)
-        ensures { self.new ≡ committed (Some Full) self.old }
+    /// Counts a commit, which ended so.
+    pub(crate) fn commit(&mut self, done: &Result<(), KeepFault>)
+        ensures { self.new ≡ committed (fault_of done.now) self.old }
     {
-        self.fulls = counted(true, self.fulls);
+        self.fulls = counted(is_full(done), self.fulls);
+        self.commits = counted(true, self.commits);
     }
 }

@@ -1,12 +1,14 @@
 -- What the calls of a site in memory make of what is known of it.
-use Rattle.std.specs.Prelude.{◌≡◌, ℕ, ◌≤◌, List, [], ◌∷◌, ◌++◌, length, Some, Ok, refl}
-use Rattle.std.proofs.Common.{inl, inr, sym, ◌∙◌, ap, subst, arith, append-nil}
+use Rattle.std.specs.Prelude.{◌≡◌, ℕ, zero, suc, ◌≤◌, ◌==◌, nat_lt, List, [], ◌∷◌, ◌++◌, length, Option, Some, is_some, true, false, Ok, refl}
+use Rattle.std.specs.List.{Contains}
+use Rattle.std.proofs.Common.{inl, inr, ⊎_elim, sym, ◌∙◌, ap, subst, arith, append-nil}
 use Rattle.ct_base.specs.laws.Moments.{grows_itself, adds_nothing_itself}
 use Rattle.ct_site.specs.Images.{written, Torn}
 use Rattle.ct_site.specs.Pieces.{torn_written}
-use Rattle.ct_site.specs.Disks.{DiskView, IsNow, Follows, Works, Leaves, Hears, Says}
+use Rattle.ct_site.specs.Hearings.{Hearing, WasCalled, with_present, present_there, present_adds, present_keeps}
+use Rattle.ct_site.specs.Disks.{DiskView, Beside, IsNow, Follows, Works, Leaves, Asks, Hears, Says}
 use Rattle.ct_site.specs.Histories.{Change, Wrote, Synced, Said, DiskState, begun, next, after, said_in, said_by, after-push, said_by-push, image_left, timeline, moment_now, left_now, said_now, keeps_push, passes_push}
-use Rattle.ct_site.specs.Memory.{MemState, view_of, image_of, wrote, synced, spoken, heard}
+use Rattle.ct_site.specs.Memory.{MemState, view_of, image_of, said_of, hearings_of, wrote, synced, spoken, heard, hear_failed}
 
 some_same : {x y : List ℕ} → Some x ≡ Some y → x ≡ y
 some_same e = cc
@@ -23,7 +25,7 @@ abbrev pub pushed : MemState → Change → DiskView
 pushed s c = record {
   image = Some (next (after (begun s.first) s.log) c).image;
   may_leave = (next (after (begun s.first) s.log) c).may_leave;
-  beside = record { left = Some s.left; said = Some (said_by s.log ++ said_in c); hear_faults = s.hear_faults; say_faults = s.say_faults };
+  beside = record { left = Some s.left; said = Some (said_by s.log ++ said_in c); hearings = Some (with_present s.hearings s.has_asked s.left (said_by s.log ++ said_in c)); hear_faults = s.hear_faults; say_faults = s.say_faults };
   time = timeline s.first (s.log ++ c ∷ []);
   faults = s.disk_faults;
 }
@@ -35,17 +37,17 @@ view_pushed s c =
     λ i. record {
       image = Some (state i).image;
       may_leave = (state i).may_leave;
-      beside = record { left = Some s.left; said = Some (said i); hear_faults = s.hear_faults; say_faults = s.say_faults };
+      beside = record { left = Some s.left; said = Some (said i); hearings = Some (with_present s.hearings s.has_asked s.left (said i)); hear_faults = s.hear_faults; say_faults = s.say_faults };
       time = timeline s.first (s.log ++ c ∷ []);
       faults = s.disk_faults;
     }
 
 works_push : (s : MemState) (c : Change) → said_in c ≡ [] → Works {T = Unit {0}} (view_of s) (pushed s c) (Ok tt)
 works_push s c nothing = record {
-  beside = ap (λ (l : List ℕ). record { left = Some s.left; said = Some l; hear_faults = s.hear_faults; say_faults = s.say_faults }) (ap (λ (l : List ℕ). said_by s.log ++ l) nothing ∙ append-nil (said_by s.log));
+  beside = ap (λ (l : List ℕ). record { left = Some s.left; said = Some l; hearings = Some (with_present s.hearings s.has_asked s.left l); hear_faults = s.hear_faults; say_faults = s.say_faults }) (ap (λ (l : List ℕ). said_by s.log ++ l) nothing ∙ append-nil (said_by s.log));
   untold = λ none. absurd (cc none);
   kept = keeps_push s.first s.log c;
-  cause = record { later = omega arith; failed = tt };
+  cause = record { later = omega arith; passed = refl; failed = tt };
 }
 
 leaves_push : (s : MemState) (c : Change) (P : List ℕ → Type 0) → said_in c ≡ [] → ((image : List ℕ) → (next (after (begun s.first) s.log) c).may_leave image → P image) → Leaves (view_of s) (pushed s c) P
@@ -92,10 +94,45 @@ pub sync_crash : (s : MemState) (x : List ℕ) → (view_of (synced s)).may_leav
 sync_crash s x = subst (λ (d : DiskState). d.may_leave x → (view_of s).may_leave x) (sym (after-push (begun s.first) s.log Synced)) (only_image s x)
 
 -- ---- hearing and saying
+asks_present : (s : MemState) (new : Beside) → new.hearings ≡ Some (with_present s.hearings true s.left (said_of s)) → Asks (view_of s).beside new
+asks_present s new is = record {
+  told = ap is_some is;
+  keeps = λ h was. subst (λ (o : Option (List Hearing)). WasCalled o h) (sym is) (present_keeps s.hearings s.has_asked s.left (said_of s) h was);
+  notes = λ h told here. subst (λ (o : Option (List Hearing)). WasCalled o h) (sym is) (note h here.0 here.1);
+  adds = λ h now. ⊎_elim inl (λ e. inr (ap (λ (x : Hearing). Some x.left) (sym e), ap (λ (x : Hearing). Some x.said) (sym e))) (present_adds s.hearings s.has_asked s.left (said_of s) h (subst (λ (o : Option (List Hearing)). WasCalled o h) is now));
+}
+  where
+    note : (h : Hearing) → Some s.left ≡ Some h.left → Some (said_of s) ≡ Some h.said → Contains (with_present s.hearings true s.left (said_of s)) h
+    note h left said =
+        let same : record { left = s.left; said = said_of s } ≡ h = λ i. record { left = some_same left i; said = some_same said i } in
+        subst (Contains (with_present s.hearings true s.left (said_of s))) same (present_there s.hearings s.left (said_of s))
+
+some_taken : (n : ℕ) → nat_lt 0 (suc n) ≡ true
+some_taken n = grind arith
+
+not_none : (n : ℕ) → (suc n == 0) ≡ false
+not_none n = grind arith
+
+told_heard : (s : MemState) (count : ℕ) → hearings_of (heard s count) ≡ with_present s.hearings true s.left (said_of s)
+told_heard s zero = refl
+told_heard s (suc n) = rw (some_taken n, not_none n) refl
+
+pub hears_failed : (s : MemState) → Hears [] (view_of s) (view_of (hear_failed s))
+hears_failed s = record {
+  left = refl;
+  said = refl;
+  asks = asks_present s (view_of (hear_failed s)).beside refl;
+  say_faults = refl;
+  same = record { image = refl; crash = λ image now. now; time = adds_nothing_itself (timeline s.first s.log) };
+  kept = grows_itself (timeline s.first s.log);
+  faults = refl;
+}
+
 pub hears_of : (s : MemState) (bytes : List ℕ) (count : ℕ) → s.left ≡ bytes ++ (heard s count).left → Hears bytes (view_of s) (view_of (heard s count))
 hears_of s bytes count is = record {
   left = ap Some is;
   said = refl;
+  asks = asks_present s (view_of (heard s count)).beside (ap Some (told_heard s count));
   say_faults = refl;
   same = record { image = refl; crash = λ image now. now; time = adds_nothing_itself (timeline s.first s.log) };
   kept = grows_itself (timeline s.first s.log);
@@ -103,9 +140,10 @@ hears_of s bytes count is = record {
 }
 
 pub says_of : (s : MemState) (bytes : List ℕ) → Says bytes (view_of s) (view_of (spoken s bytes))
-says_of s bytes = subst (λ (v : DiskView). Says bytes (view_of s) v) (sym (view_pushed s (Said bytes))) (record {
+says_of s bytes = subst (λ (v : DiskView). Says bytes (view_of s) v) (sym (view_pushed (record s { hearings = hearings_of s; has_asked = false }) (Said bytes))) (record {
   said = refl;
   left = refl;
+  hearings = refl;
   hear_faults = refl;
   image = refl;
   crash = λ image now. now;

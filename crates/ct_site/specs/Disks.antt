@@ -1,18 +1,20 @@
 -- What is known of a disk and of what stands beside it, and what each call makes of that.
-use Rattle.std.specs.Prelude.{◌≡◌, ℕ, List, Option, None, Some, Result, Ok}
+use Rattle.std.specs.Prelude.{◌≡◌, ◌⊎◌, ℕ, true, List, Option, None, Some, is_some, Result, Ok}
 use Rattle.std.proofs.Common.{refl, ap, sym, ◌∙◌}
 use Rattle.ct_site.specs.declared.outside.Failed.{Failed}
-use Rattle.ct_base.specs.Causes.{HasCause}
-use Rattle.ct_base.specs.laws.Causes.{cause_then}
+use Rattle.ct_site.specs.FaultCounts.{CountsFaults, counts_then}
 use Rattle.ct_base.specs.Moments.{Timeline, Passes, AddsNothing, Grows}
 use Rattle.ct_base.specs.laws.Moments.{grows_then, passes_none, passes_nothing, passes_more, passes_then}
 use Rattle.ct_base.specs.Told.{with_prefix, with_suffix, IsSaid, SaysPart}
+use Rattle.ct_site.specs.Hearings.{Hearing, WasCalled}
 
 -- What stands beside a disk. No call of the disk changes it.
 pub record Beside : Type 0 where
   -- what is left of the script, and the bytes said, where they are told
   pub left : Option (List ℕ)
   pub said : Option (List ℕ)
+  -- the calls of `hear` so far, where they are told; one more between which and the last nothing was heard or said may be left out
+  pub hearings : Option (List Hearing)
   -- how often hearing and saying failed, up to 2^64 - 1
   pub hear_faults : ℕ
   pub say_faults : ℕ
@@ -54,7 +56,8 @@ pub record Works {T : Type 0} (old new : DiskView) (result : Result T Failed) : 
   pub untold : old.image ≡ None → new.image ≡ None
   -- no moment is forgotten
   pub kept : Grows old.time new.time
-  pub cause : HasCause old.faults new.faults result
+  -- a fault is counted, and nothing else is: none is passed over
+  pub cause : CountsFaults old.faults new.faults result
 
 -- one after the other
 pub works_then : {T U : Type 0} (old mid new : DiskView) (x : T) (result : Result U Failed) → Works old mid (Ok x) → Works mid new result → Works old new result
@@ -62,7 +65,7 @@ works_then old mid new x result first second = record {
   beside = second.beside ∙ first.beside;
   untold = λ none. second.untold (first.untold none);
   kept = grows_then old.time mid.time new.time first.kept second.kept;
-  cause = cause_then old.faults mid.faults new.faults result first.cause.later second.cause;
+  cause = counts_then old.faults mid.faults new.faults result first.cause.passed second.cause;
 }
 
 -- Between the two a crash left images that have P, and nothing was said.
@@ -92,10 +95,22 @@ leaves_then old mid new P first second = record {
   now = second.now;
 }
 
--- Bytes of the script were heard, and nothing else was done.
+-- `hear` is called where this is left and this was said
+abbrev pub IsHearing : Beside → Hearing → Type 0
+IsHearing beside h = (beside.left ≡ Some h.left) × (beside.said ≡ Some h.said)
+
+-- `hear` was called once: where its calls are told, so are those before and this one, and no other.
+pub record Asks (old new : Beside) : Type 0 where
+  pub told : is_some new.hearings ≡ is_some old.hearings
+  pub keeps : (h : Hearing) → WasCalled old.hearings h → WasCalled new.hearings h
+  pub notes : (h : Hearing) → is_some old.hearings ≡ true → IsHearing old h → WasCalled new.hearings h
+  pub adds : (h : Hearing) → WasCalled new.hearings h → WasCalled old.hearings h ⊎ IsHearing old h
+
+-- Bytes of the script were heard by one call, and nothing else was done.
 pub record Hears (heard : List ℕ) (old new : DiskView) : Type 0 where
   pub left : old.beside.left ≡ with_prefix heard new.beside.left
   pub said : new.beside.said ≡ old.beside.said
+  pub asks : Asks old.beside new.beside
   pub say_faults : new.beside.say_faults ≡ old.beside.say_faults
   pub same : IsSame old new
   pub kept : Grows old.time new.time
@@ -105,6 +120,7 @@ pub record Hears (heard : List ℕ) (old new : DiskView) : Type 0 where
 pub record Says (told : List ℕ) (old new : DiskView) : Type 0 where
   pub said : new.beside.said ≡ with_suffix old.beside.said told
   pub left : new.beside.left ≡ old.beside.left
+  pub hearings : new.beside.hearings ≡ old.beside.hearings
   pub hear_faults : new.beside.hear_faults ≡ old.beside.hear_faults
   pub image : new.image ≡ old.image
   pub crash : (image : List ℕ) → new.may_leave image → old.may_leave image

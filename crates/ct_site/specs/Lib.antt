@@ -2,6 +2,8 @@ pub mod Changing
 pub mod Crashes
 pub mod Disks
 pub mod Histories
+pub mod FaultCounts
+pub mod Hearings
 pub mod Images
 pub mod Lengths
 pub mod Logs
@@ -9,6 +11,7 @@ pub mod Memory
 pub mod MemoryFields
 pub mod Pieces
 pub mod Ranges
+pub mod Places
 pub mod Real
 pub mod Writing
 pub mod laws

@@ -3,6 +3,8 @@ use Rattle.std.specs.Prelude.{◌≡◌, ℕ, ◌+◌, ◌-◌, ◌^◌, ◌==�
 use Rattle.std.specs.List.{list_any}
 use Rattle.ct_site.specs.declared.fault_lists.Faults.{Faults}
 use Rattle.ct_site.specs.declared.room_sizes.Rooms.{Rooms}
+use Rattle.ct_site.specs.FaultCounts.{raised}
+use Rattle.ct_site.specs.Hearings.{Hearing, with_present}
 use Rattle.ct_site.specs.Disks.{DiskView}
 use Rattle.ct_site.specs.Histories.{Change, Wrote, Synced, Said, begun, after, said_by, timeline}
 
@@ -20,6 +22,9 @@ pub record MemState : Type 0 where
   pub hear_calls : ℕ
   pub say_calls : ℕ
   pub disk_calls : ℕ
+  -- the calls of `hear` before the last byte was heard or said, and whether there was one since
+  pub hearings : List Hearing
+  pub has_asked : Bool
   -- how many bytes `write_at` took
   pub written_bytes : ℕ
   -- how many calls of each kind failed, up to 2^64 - 1
@@ -34,12 +39,16 @@ image_of s = (after (begun s.first) s.log).image
 abbrev pub said_of : MemState → List ℕ
 said_of s = said_by s.log
 
+-- the calls of `hear` so far; one more between which and the last nothing was heard or said is left out
+abbrev pub hearings_of : MemState → List Hearing
+hearings_of s = with_present s.hearings s.has_asked s.left (said_of s)
+
 -- what a site in memory tells: all
 abbrev pub view_of : MemState → DiskView
 view_of s = record {
   image = Some (image_of s);
   may_leave = (after (begun s.first) s.log).may_leave;
-  beside = record { left = Some s.left; said = Some (said_of s); hear_faults = s.hear_faults; say_faults = s.say_faults };
+  beside = record { left = Some s.left; said = Some (said_of s); hearings = Some (hearings_of s); hear_faults = s.hear_faults; say_faults = s.say_faults };
   time = timeline s.first s.log;
   faults = s.disk_faults;
 }
@@ -59,15 +68,13 @@ fresh script image faults rooms = record {
   hear_calls = 0;
   say_calls = 0;
   disk_calls = 0;
+  hearings = [];
+  has_asked = false;
   written_bytes = 0;
   hear_faults = 0;
   say_faults = 0;
   disk_faults = 0;
 }
-
--- a count after one more, up to 2^64 - 1
-abbrev pub raised : ℕ → ℕ
-raised n = min (n + 1) (2 ^ 64 - 1)
 
 -- whether the call after so many calls is listed as one that fails
 abbrev pub is_listed : ℕ → List ℕ → Bool
@@ -126,7 +133,7 @@ disk_counted s = record s { calls = raised s.calls; disk_calls = raised s.disk_c
 
 -- after each call that failed
 abbrev pub hear_failed : MemState → MemState
-hear_failed s = record s { calls = raised s.calls; hear_calls = raised s.hear_calls; hear_faults = raised s.hear_faults }
+hear_failed s = record s { calls = raised s.calls; hear_calls = raised s.hear_calls; has_asked = true; hear_faults = raised s.hear_faults }
 
 abbrev pub say_failed : MemState → MemState
 say_failed s = record s { calls = raised s.calls; say_calls = raised s.say_calls; say_faults = raised s.say_faults }
@@ -136,11 +143,23 @@ disk_failed s = record s { calls = raised s.calls; disk_calls = raised s.disk_ca
 
 -- after so many bytes of the script were heard
 abbrev pub heard : MemState → ℕ → MemState
-heard s count = record s { calls = raised s.calls; hear_calls = raised s.hear_calls; left = drop count s.left }
+heard s count = record s {
+  calls = raised s.calls;
+  hear_calls = raised s.hear_calls;
+  left = drop count s.left;
+  hearings = with_present s.hearings (nat_lt 0 count) s.left (said_of s);
+  has_asked = count == 0;
+}
 
 -- after these bytes were said
 abbrev pub spoken : MemState → List ℕ → MemState
-spoken s bytes = record s { calls = raised s.calls; say_calls = raised s.say_calls; log = s.log ++ Said bytes ∷ [] }
+spoken s bytes = record s {
+  calls = raised s.calls;
+  say_calls = raised s.say_calls;
+  log = s.log ++ Said bytes ∷ [];
+  hearings = hearings_of s;
+  has_asked = false;
+}
 
 -- after the size was told, or bytes were read
 abbrev pub looked : MemState → MemState
@@ -168,8 +187,20 @@ hearing = refl
 hearing_again : hear_fails (heard example 2) ≡ true
 hearing_again = refl
 
-after_a_fault : hear_failed (heard example 2) ≡ record example { left = codes "c"; calls = 2; hear_calls = 2; hear_faults = 1 }
+after_a_fault : hear_failed (heard example 2) ≡ record example {
+  left = codes "c";
+  calls = 2;
+  hear_calls = 2;
+  hearings = record { left = codes "abc"; said = [] } ∷ [];
+  has_asked = true;
+  hear_faults = 1;
+}
 after_a_fault = refl
+
+-- the second hearing failed, and was tried again after a saying
+hearings_told : hearings_of (heard (spoken (hear_failed (heard example 2)) (codes "ok")) 1)
+    ≡ record { left = codes "abc"; said = [] } ∷ record { left = codes "c"; said = [] } ∷ record { left = codes "c"; said = codes "ok" } ∷ []
+hearings_told = refl
 
 saying : say_fails example 1 ≡ true
 saying = refl

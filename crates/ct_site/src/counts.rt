@@ -1,7 +1,8 @@
 //! Counts of calls and of faults, which stand still at 2^64 - 1.
 
 ghost use Rattle.std.specs.Prelude.{◌≡◌, ◌≤◌};
-ghost use Rattle.ct_site.specs.Memory.{raised, is_listed, is_past};
+ghost use Rattle.ct_site.specs.FaultCounts.{raised};
+ghost use Rattle.ct_site.specs.Memory.{is_listed, is_past};
 
 use crate::outside::Failed;
 use ct_base::Numbers;

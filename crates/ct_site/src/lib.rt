@@ -7,8 +7,11 @@ mod logs;
 mod memory;
 mod outside;
 mod picks;
+mod places;
 mod quiet;
 mod real;
+#[cfg(test)]
+mod real_tests;
 mod room_sizes;
 #[cfg(test)]
 mod tests;

@@ -149,6 +149,14 @@ impl Log {
         self.said.as_slice()
     }
 
+    /// How many bytes were said so far. The calls that are noted pass no room.
+    pub(crate) fn said_count(&self) -> usize
+        ensures count { result ≡ length (said_by self.now.changes) }
+        ensures room { length self.now.changes ≤ self.now.rooms.calls }
+    {
+        self.said.len()
+    }
+
     /// Whether one more change passes no room.
     pub(crate) fn may_change(&self) -> bool
         ensures { result ≡ not (nat_lt self.now.rooms.calls (length self.now.changes + 1)) }

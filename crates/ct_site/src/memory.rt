@@ -4,7 +4,7 @@ ghost use Rattle.std.specs.Prelude.{◌≡◌, ◌≤◌, ◌<◌, ◌+◌, ◌^
 ghost use Rattle.std.specs.Option.{option_map};
 ghost use Rattle.std.specs.Vec.{vec_capacity};
 ghost use Rattle.ct_base.specs.Told.{took, IsNothing};
-ghost use Rattle.ct_base.specs.Causes.{HasCause};
+ghost use Rattle.ct_site.specs.FaultCounts.{CountsFaults};
 ghost use Rattle.ct_site.specs.Images.{written, Torn};
 ghost use Rattle.ct_site.specs.Lengths.{Grows};
 ghost use Rattle.ct_site.specs.Disks.{DiskView, Follows, IsSame, Leaves, Works, Hears, Says};
@@ -14,6 +14,7 @@ use crate::fault_lists::Faults;
 use crate::logs::Log;
 use crate::outside::{Disk, Failed, LONGEST, Site};
 use crate::picks::Pick;
+use crate::places::{Place, keep_place, places_for};
 use crate::room_sizes::Rooms;
 use ct_base::Memory;
 use std::alloc::Global;
@@ -29,6 +30,9 @@ pub struct MemSite {
     first: Vec<u8>,
     image: Vec<u8>,
     log: Log,
+    /// The calls of `hear` before the last byte was heard or said, and whether there was one since.
+    hearings: Vec<Place>,
+    has_asked: bool,
     faults: Faults,
     calls: u64,
     hear_calls: u64,
@@ -70,12 +74,15 @@ impl MemSite {
         let first = Vec::from_slice(alloc, &image)?;
         let mut image = image;
         image.reserve_exact(rooms.image - image.len())?;
+        let hearings = places_for(alloc, script.len(), rooms.calls)?;
         Ok(MemSite {
             script,
             taken: 0,
             first,
             image,
             log: Log::new(alloc, rooms)?,
+            hearings,
+            has_asked: false,
             faults,
             calls: 0,
             hear_calls: 0,
@@ -271,7 +278,7 @@ impl Site for MemSite {
         ensures bound { IfOk result (λ count. count ≤ length into.old) }
         ensures hears { Hears (took result into.new) (view_of self.old) (view_of self.new) }
         ensures end { result ≡ Ok 0 → IsNothing (view_of self.new).beside.left }
-        ensures cause { HasCause self.old.hear_faults self.new.hear_faults result }
+        ensures cause { CountsFaults self.old.hear_faults self.new.hear_faults result }
 
         ensures fails { IsErr result ↔ IsTrue (hear_fails self.old) }
         ensures count { IfOk result (λ count. count ≡ min (length into.old) (length self.old.left)) }
@@ -280,10 +287,17 @@ impl Site for MemSite {
         ensures failed { OnErr result ((self.new ≡ hear_failed self.old) × (into.new ≡ into.old)) }
     {
         if self.count_hear() {
+            self.has_asked = true;
             return Err(count_fault(&mut self.hear_faults));
         }
         let count = into.len().min(self.script.len() - self.taken);
         into[..count].copy_from_slice(&self.script[self.taken..self.taken + count]);
+        let here = Place {
+            taken: self.taken,
+            said: self.log.said_count(),
+        };
+        keep_place(&mut self.hearings, count > 0, here);
+        self.has_asked = count == 0;
         self.taken += count;
         Ok(count)
     }
@@ -294,7 +308,7 @@ impl Site for MemSite {
         ensures bound { IfOk result (λ count. count ≤ length bytes.now) }
         ensures some { IfOk result (λ count. 0 < count) }
         ensures says { Says (took result bytes.now) (view_of self.old) (view_of self.new) }
-        ensures cause { HasCause self.old.say_faults self.new.say_faults result }
+        ensures cause { CountsFaults self.old.say_faults self.new.say_faults result }
 
         ensures fails { IsErr result ↔ IsTrue (say_fails self.old (length bytes.now)) }
         ensures done { IfOk result (λ count. (count ≡ length bytes.now) × (self.new ≡ spoken self.old bytes.now)) }
@@ -303,6 +317,12 @@ impl Site for MemSite {
         if self.count_say() || !self.may_say(bytes.len()) {
             return Err(count_fault(&mut self.say_faults));
         }
+        let here = Place {
+            taken: self.taken,
+            said: self.log.said_count(),
+        };
+        keep_place(&mut self.hearings, self.has_asked, here);
+        self.has_asked = false;
         self.log.say(bytes);
         Ok(bytes.len())
     }

@@ -3,14 +3,15 @@
 ghost use Rattle.std.specs.Prelude.{◌≡◌, ◌≤◌, ◌<◌, ◌+◌, ◌^◌, ℕ, List, Option, Some, Ok, IfOk, OnOk, IsErr, length, take, drop};
 ghost use Rattle.std.specs.Option.{option_map};
 ghost use Rattle.ct_base.specs.Told.{took, IsNothing};
-ghost use Rattle.ct_base.specs.Causes.{HasCause};
+ghost use Rattle.ct_site.specs.FaultCounts.{CountsFaults};
 ghost use Rattle.ct_site.specs.Images.{written, Torn};
 ghost use Rattle.ct_site.specs.Lengths.{Grows};
 ghost use Rattle.ct_site.specs.Disks.{DiskView, Follows, IsNow, IsSame, Leaves, Works, Hears, Says};
 
 use thiserror::Error;
 
-/// A fault of a device. It comes only where the device's count of such faults rose in this call, or stands at its last value.
+/// A fault of a device. It comes exactly where the device's count of such faults rises by one in this call, or stands at its last
+/// value.
 #[derive(Clone, Copy, Debug, PartialEq, Eq, Error)]
 #[error("a device failed")]
 pub struct Failed;
@@ -72,7 +73,7 @@ pub trait Site: Disk {
         ensures bound { IfOk result (λ count. count ≤ length into.old) }
         ensures hears { Hears (took result into.new) (Self.disk self.old) (Self.disk self.new) }
         ensures end { result ≡ Ok 0 → IsNothing (Self.disk self.new).beside.left }
-        ensures cause { HasCause (Self.disk self.old).beside.hear_faults (Self.disk self.new).beside.hear_faults result };
+        ensures cause { CountsFaults (Self.disk self.old).beside.hear_faults (Self.disk self.new).beside.hear_faults result };
 
     /// Says bytes of the front of `bytes`, at least one, and answers how many.
     fn say(&mut self, bytes: &[u8]) -> Result<usize, Failed>
@@ -80,5 +81,5 @@ pub trait Site: Disk {
         ensures bound { IfOk result (λ count. count ≤ length bytes.now) }
         ensures some { IfOk result (λ count. 0 < count) }
         ensures says { Says (took result bytes.now) (Self.disk self.old) (Self.disk self.new) }
-        ensures cause { HasCause (Self.disk self.old).beside.say_faults (Self.disk self.new).beside.say_faults result };
+        ensures cause { CountsFaults (Self.disk self.old).beside.say_faults (Self.disk self.new).beside.say_faults result };
 }

@@ -3,7 +3,7 @@
 ghost use Rattle.std.specs.Prelude.{◌≡◌, ◌≤◌, ◌<◌, ◌+◌, ◌^◌, ◌++◌, ◌↔◌, ℕ, List, Some, Ok, IfOk, OnOk, OnErr, IsOk, IsErr, IsTrue, length, take, drop, min, vec_len};
 ghost use Rattle.std.specs.Option.{option_map};
 ghost use Rattle.ct_base.specs.Told.{took, IsNothing};
-ghost use Rattle.ct_base.specs.Causes.{HasCause};
+ghost use Rattle.ct_site.specs.FaultCounts.{CountsFaults};
 ghost use Rattle.ct_site.specs.Images.{written, Torn};
 ghost use Rattle.ct_site.specs.Lengths.{Grows};
 ghost use Rattle.ct_site.specs.Disks.{Follows, IsSame, Leaves, Works, Hears, Says};
@@ -144,7 +144,7 @@ impl Site for QuietSite {
         ensures bound { IfOk result (λ count. count ≤ length into.old) }
         ensures hears { Hears (took result into.new) (view_of self.old) (view_of self.new) }
         ensures end { result ≡ Ok 0 → IsNothing (view_of self.new).beside.left }
-        ensures cause { HasCause self.old.hear_faults self.new.hear_faults result }
+        ensures cause { CountsFaults self.old.hear_faults self.new.hear_faults result }
 
         ensures succeeds { IsOk result }
         ensures count { IfOk result (λ count. count ≡ min (length into.old) (length self.old.left)) }
@@ -160,7 +160,7 @@ impl Site for QuietSite {
         ensures bound { IfOk result (λ count. count ≤ length bytes.now) }
         ensures some { IfOk result (λ count. 0 < count) }
         ensures says { Says (took result bytes.now) (view_of self.old) (view_of self.new) }
-        ensures cause { HasCause self.old.say_faults self.new.say_faults result }
+        ensures cause { CountsFaults self.old.say_faults self.new.say_faults result }
 
         ensures fails { IsErr result ↔ IsTrue (say_passes self.old (length bytes.now)) }
         ensures done { IfOk result (λ count. (count ≡ length bytes.now) × (self.new ≡ spoken self.old bytes.now)) }

@@ -3,7 +3,7 @@
 ghost use Rattle.std.specs.Prelude.{◌≡◌, ◌≤◌, ◌<◌, ◌+◌, ◌^◌, ℕ, List, Some, Ok, IfOk, OnOk, IsErr, IsNone, is_some, false, length, take, drop};
 ghost use Rattle.std.specs.Option.{option_map};
 ghost use Rattle.ct_base.specs.Told.{took, IsNothing};
-ghost use Rattle.ct_base.specs.Causes.{HasCause};
+ghost use Rattle.ct_site.specs.FaultCounts.{CountsFaults};
 ghost use Rattle.ct_site.specs.Images.{written, Torn};
 ghost use Rattle.ct_site.specs.Lengths.{Grows};
 ghost use Rattle.ct_site.specs.Disks.{Follows, IsSame, Leaves, Works, Hears, Says};
@@ -175,7 +175,8 @@ impl<R: Input + Print + Files> Disk for RealSite<'_, R> {
 }
 
 impl<R: Input + Print + Files> Site for RealSite<'_, R> {
-    ghost use Rattle.ct_site.specs.Real.{view_of, counted};
+    ghost use Rattle.ct_site.specs.FaultCounts.{counted};
+    ghost use Rattle.ct_site.specs.Real.{view_of};
 
     /// One read of standard input. A read that fails or is interrupted is a fault.
     fn hear(&mut self, into: &mut [u8]) -> Result<usize, Failed>
@@ -183,7 +184,7 @@ impl<R: Input + Print + Files> Site for RealSite<'_, R> {
         ensures bound { IfOk result (λ count. count ≤ length into.old) }
         ensures hears { Hears (took result into.new) (view_of self.old) (view_of self.new) }
         ensures end { result ≡ Ok 0 → IsNothing (view_of self.new).beside.left }
-        ensures cause { HasCause self.old.hear_faults self.new.hear_faults result }
+        ensures cause { CountsFaults self.old.hear_faults self.new.hear_faults result }
         ensures counted { self.new ≡ record self.old { hear_faults = counted result self.old.hear_faults } }
     {
         if self.input.is_none() {
@@ -204,7 +205,7 @@ impl<R: Input + Print + Files> Site for RealSite<'_, R> {
         ensures bound { IfOk result (λ count. count ≤ length bytes.now) }
         ensures some { IfOk result (λ count. 0 < count) }
         ensures says { Says (took result bytes.now) (view_of self.old) (view_of self.new) }
-        ensures cause { HasCause self.old.say_faults self.new.say_faults result }
+        ensures cause { CountsFaults self.old.say_faults self.new.say_faults result }
         ensures counted { self.new ≡ record self.old { say_faults = counted result self.old.say_faults } }
     {
         match self.rt.write_some(bytes) {

@@ -1,5 +1,5 @@
 -- One piece: at most one commit, and then the reply.
-use Rattle.std.proofs.Common.{◌≡◌, ◌++◌, ◌∷◌, [], ℕ, List, Option, Some, None, Err, inl, inr, ⊎_elim, refl, sym, ap, ◌∙◌, subst, append-nil}
+use Rattle.std.proofs.Common.{◌≡◌, ◌++◌, ◌∷◌, [], ℕ, true, false, List, Option, Some, None, Err, inl, inr, ⊎_elim, refl, sym, ap, ◌∙◌, subst, append-nil}
 use Rattle.std.specs.Prelude.{◌⊎◌}
 use Rattle.ct_base.specs.Moments.{Passes}
 use Rattle.ct_base.specs.laws.Moments.{passes_more, passes_then}
@@ -8,7 +8,7 @@ use Rattle.ct_base.specs.laws.Told.{with_suffix-nil, says_prefix}
 use Rattle.ct_site.specs.Disks.{Beside}
 use Rattle.ct_keep.specs.Content.{Content}
 use Rattle.ct_keep.specs.declared.keepers.KeepFault.TheVariants as fault
-use Rattle.ct_keep.specs.KeeperViews.{KeeperView, Kept, Goes, Leaves, IsSettled}
+use Rattle.ct_keep.specs.KeeperViews.{KeeperView, KeeperSays, Kept, Goes, Leaves, IsSettled}
 use Rattle.ct_keep.specs.Composing.{same_say_room, reads_none, reads_short, reads_only, reads_failed, passes_as}
 use Rattle.db_state.specs.States.{State, Stands}
 use Rattle.db_state.specs.Effects.{Effect, state_by}
@@ -22,7 +22,7 @@ use Rattle.db_console.specs.declared.saying.Stop.{Stop}
 use Rattle.db_console.specs.declared.saying.Stop.TheVariants.{Say, Disk}
 use Rattle.db_console.specs.Worlds.{World, LeavesState, IsMoment, IsPartOf, Answered}
 use Rattle.db_console.specs.Views.{Shows, Spoke, SpokeInPart, Replied, Halted, LeavesEither, Answers, Stopped, Stops}
-use Rattle.db_console.proofs.Lasting.{lasts_kept, frame_kept, frame_said, frame_then, rose_after}
+use Rattle.db_console.proofs.Lasting.{faults_kept, faults_said, faults_then, stops_for_disk, frame_kept, frame_said, frame_then}
 
 -- ---- nothing is committed
 
@@ -115,18 +115,18 @@ module _ (limit : ℕ) (piece : Piece) (was : World) (old mid new : KeeperView) 
   said_mid : mid.beside.said ≡ was.said
   said_mid = ap (λ (b : Beside). b.said) beside ∙ shows.said
 
-  moments_said : (part rest : List ℕ) → bytes ≡ part ++ rest → Spoke part mid new → Passes old.time new.time (IsMoment limit was (made ∷ []))
+  moments_said : (part rest : List ℕ) → bytes ≡ part ++ rest → KeeperSays part mid new → Passes old.time new.time (IsMoment limit was (made ∷ []))
   moments_said part rest front s =
       passes_then old.time mid.time new.time _ r.moments
-      (passes_more mid.time new.time _ _ (s.says.time ready r.content r.holds)
+      (passes_more mid.time new.time _ _ (s.time ready r.content r.holds)
       (λ x w p. after limit was made r.content x w p.0 r.stands
       (subst (λ (l : List ℕ). SaysPart was.said l w) (sym front ∙ r.is)
       (says_prefix was.said part rest w (subst (λ (o : Option (List ℕ)). SaysPart o part w) said_mid p.1)))))
 
-  shows_said : (part : List ℕ) → Spoke part mid new → Shows new (record { state = (turn limit was.state made).0; said = with_suffix was.said part })
-  shows_said part s = record { said = s.says.said ∙ ap (λ (o : Option (List ℕ)). with_suffix o part) said_mid; content = r.content; holds = s.says.apart.content ∙ r.holds; stands = r.stands }
+  shows_said : (part : List ℕ) → KeeperSays part mid new → Shows new (record { state = (turn limit was.state made).0; said = behind was.said part })
+  shows_said part s = record { said = s.said ∙ ap (λ (o : Option (List ℕ)). behind o part) said_mid; content = r.content; holds = s.apart.content ∙ r.holds; stands = r.stands }
 
-  pub answered_by : Spoke bytes mid new → (now : World) × Shows new now × Answered limit old.fixed.limit piece was now old.time new.time
+  pub answered_by : KeeperSays bytes mid new → (now : World) × Shows new now × Answered limit old.fixed.limit piece was now old.time new.time
   answered_by s = (
     record { state = (turn limit was.state made).0; said = with_suffix was.said bytes },
     shows_said bytes s,
@@ -146,23 +146,24 @@ module _ (limit : ℕ) (piece : Piece) (was : World) (old mid new : KeeperView) 
   stopped_saying settled s = record {
     answer = r.answer;
     allowed = r.allowed;
-    moments = moments_said s.part s.is.rest s.is.is s.spoke;
-    by = record { part = s.part; reply = subst (IsPartOf s.part) r.is s.is; passes = passes_as _ _ _ _ _ _ s.passes (same_say_room s.spoke.says.apart.fixed) (sym said_mid) (sym r.is); shows = shows_said s.part s.spoke; settled = settled };
+    moments = moments_said s.part s.is.rest s.is.is s.spoke.says;
+    by = record { part = s.part; reply = subst (IsPartOf s.part) r.is s.is; passes = passes_as _ _ _ _ _ _ s.passes (same_say_room s.spoke.says.apart.fixed) (sym said_mid) (sym r.is); shows = shows_said s.part s.spoke.says; settled = settled };
   }
 
 -- the answer to a piece, from the response to it and what was said of that
-pub answers_said : (limit : ℕ) (piece : Piece) (bytes : List ℕ) (old mid new : KeeperView) → Kept old mid None → ((was : World) → Shows old was → Replied limit piece was old mid bytes) → Spoke bytes mid new → Answers limit piece old new
+pub answers_said : (limit : ℕ) (piece : Piece) (bytes : List ℕ) (old mid new : KeeperView) → Kept old mid None → ((was : World) → Shows old was → Replied limit piece was old mid bytes) → Spoke false bytes mid new → Answers limit piece old new
 answers_said limit piece bytes old mid new kept r s = record {
-  frame = frame_then old mid new (frame_kept old mid None kept) (frame_said mid new bytes s);
+  frame = frame_then old mid new (frame_kept old mid None kept) (frame_said false mid new bytes s);
+  faults = faults_then false false false old mid new (faults_kept old mid kept) (faults_said false mid new bytes s);
   ready = s.says.apart.ready kept.ready;
-  answers = λ was w. answered_by limit piece was old mid new bytes kept.ready w kept.beside (r was w) s;
+  answers = λ was w. answered_by limit piece was old mid new bytes kept.ready w kept.beside (r was w) s.says;
 }
 
 pub stops_saying : (limit : ℕ) (piece : Piece) (bytes : List ℕ) (stop : Stop) (old mid new : KeeperView) → Kept old mid None → ((was : World) → Shows old was → Replied limit piece was old mid bytes)
     → (new.ready → IsSettled new) → (stop ≡ Say) × SpokeInPart bytes mid new → Stops limit piece stop old new
 stops_saying limit piece bytes stop old mid new kept r settled s = rw s.0 (record {
-  frame = frame_then old mid new (frame_kept old mid None kept) (frame_said mid new s.1.part s.1.spoke);
-  cause = rose_after old.beside.say_faults mid.beside.say_faults new.beside.say_faults (lasts_kept old mid None kept).say_later s.1.cause;
+  frame = frame_then old mid new (frame_kept old mid None kept) (frame_said true mid new s.1.part s.1.spoke);
+  cause = record { faults = faults_then false true false old mid new (faults_kept old mid kept) (faults_said true mid new s.1.part s.1.spoke); calls = tt };
   ready = s.1.spoke.says.apart.ready kept.ready;
   stops = λ was w. stopped_saying limit piece was old mid new bytes kept.ready w kept.beside (r was w) (settled (s.1.spoke.says.apart.ready kept.ready)) s.1;
 })
@@ -171,7 +172,7 @@ stops_saying limit piece bytes stop old mid new kept r settled s = rw s.0 (recor
 pub stops_halted : (limit : ℕ) (piece : Piece) (old new : KeeperView) → Kept old new (Some fault.Disk) → ((was : World) → Shows old was → Halted limit piece was old new) → Stops limit piece Disk old new
 stops_halted limit piece old new kept h = record {
   frame = frame_kept old new (Some fault.Disk) kept;
-  cause = (kept.cause, kept.calls);
+  cause = stops_for_disk old new kept;
   ready = tt;
   stops = λ was w. record {
     answer = Step;

@@ -1,71 +1,72 @@
 -- What hearing, answering and saying keep.
-use Rattle.std.proofs.Common.{◌≤◌, ℕ, List, Bool, Option, refl, sym, ap, ◌∙◌, subst, arith}
-use Rattle.ct_base.specs.Causes.{Rose}
+use Rattle.std.specs.Result.{IfOk}
+use Rattle.std.proofs.lemmas.List.{take-append-le}
+use Rattle.std.proofs.Common.{◌≡◌, ◌≤◌, ◌++◌, length, ℕ, List, Bool, true, false, Option, Some, None, Result, Ok, Err, is_err, refl, sym, ap, ◌∙◌, subst}
+use Rattle.ct_base.specs.Told.{took}
+use Rattle.ct_site.specs.FaultCounts.{CountsFaults}
 use Rattle.ct_site.specs.Disks.{Beside}
 use Rattle.ct_keep.specs.Composing.{same_aside, same_well}
 use Rattle.ct_keep.specs.declared.keepers.KeepFault.{KeepFault}
-use Rattle.ct_keep.specs.KeeperViews.{KeeperView, Kept}
+use Rattle.ct_keep.specs.declared.keepers.KeepFault.TheVariants.{Disk as DiskFailed}
+use Rattle.ct_keep.specs.KeeperViews.{KeeperView, KeeperHears, Kept, counted}
 use Rattle.db_state.specs.States.{TakesAll}
 use Rattle.db_console.specs.declared.saying.Stop.{Stop}
 use Rattle.db_console.specs.declared.saying.Stop.TheVariants.{Say, Disk}
-use Rattle.db_console.specs.Views.{Lasts, Heard, Spoke, Frame, RoseBy}
+use Rattle.db_console.specs.Views.{FaultsAre, NoFault, Heard, Spoke, Frame, StopsFor}
 
-pub rose_after : (a b c : ℕ) → a ≤ b → Rose b c → Rose a c
-rose_after a b c h k = omega arith
+-- ---- counts of faults
 
-pub lasts_none : (k : KeeperView) → Lasts k k
-lasts_none k = record { hear_later = omega arith; say_later = omega arith; disk_later = omega arith; fixed = refl }
+pub faults_none : (k : KeeperView) → NoFault k k
+faults_none k = record { hear = refl; say = refl; disk = refl }
 
-pub lasts_then : (a b c : KeeperView) → Lasts a b → Lasts b c → Lasts a c
-lasts_then a b c f g = record {
-  hear_later = omega (arith, f.hear_later, g.hear_later);
-  say_later = omega (arith, f.say_later, g.say_later);
-  disk_later = omega (arith, f.disk_later, g.disk_later);
-  fixed = g.fixed ∙ f.fixed;
+-- none, and then these
+pub faults_then : (hear say disk : Bool) (a b c : KeeperView) → NoFault a b → FaultsAre hear say disk b c → FaultsAre hear say disk a c
+faults_then hear say disk a b c f g = record {
+  hear = g.hear ∙ ap (counted hear) f.hear;
+  say = g.say ∙ ap (counted say) f.say;
+  disk = g.disk ∙ ap (counted disk) f.disk;
 }
 
-pub lasts_kept : (a b : KeeperView) (fault : Option KeepFault) → Kept a b fault → Lasts a b
-lasts_kept a b fault k = record {
-  hear_later = let e = ap (λ (s : Beside). s.hear_faults) k.beside in omega (arith, e);
-  say_later = let e = ap (λ (s : Beside). s.say_faults) k.beside in omega (arith, e);
-  disk_later = k.later;
-  fixed = k.fixed;
+pub faults_kept : (a b : KeeperView) → Kept a b None → NoFault a b
+faults_kept a b k = record { hear = ap (λ (s : Beside). s.hear_faults) k.beside; say = ap (λ (s : Beside). s.say_faults) k.beside; disk = k.cause }
+
+-- a call of `hear` into the first bytes of a buffer, by its result
+pub heard_by : {E : Type 0} (result : Result ℕ E) (bytes rest : List ℕ) (a b : KeeperView) → IfOk result (λ count. count ≤ length bytes) → KeeperHears (took result bytes) a b
+    → CountsFaults a.beside.hear_faults b.beside.hear_faults result → Heard (is_err result) (took result (bytes ++ rest)) a b
+heard_by (Ok count) bytes rest a b bound hears counts = rw (take-append-le count bytes rest bound) (record { hears = hears; counts = counts.passed })
+heard_by (Err fault) bytes rest a b bound hears counts = record { hears = hears; counts = counts.failed }
+
+pub faults_heard : (failed : Bool) (a b : KeeperView) (bytes : List ℕ) → Heard failed bytes a b → FaultsAre failed false false a b
+faults_heard failed a b bytes h = record { hear = h.counts; say = h.hears.say_faults; disk = h.hears.apart.disk_faults }
+
+pub faults_said : (failed : Bool) (a b : KeeperView) (bytes : List ℕ) → Spoke failed bytes a b → FaultsAre false failed false a b
+faults_said failed a b bytes s = record { hear = s.says.hear_faults; say = s.counts; disk = s.says.apart.disk_faults }
+
+-- the disk failed
+pub stops_for_disk : (a b : KeeperView) → Kept a b (Some DiskFailed) → StopsFor Disk a b
+stops_for_disk a b k = record {
+  faults = record { hear = ap (λ (s : Beside). s.hear_faults) k.beside; say = ap (λ (s : Beside). s.say_faults) k.beside; disk = k.cause };
+  calls = k.calls;
 }
 
-pub lasts_heard : (a b : KeeperView) (bytes : List ℕ) → Heard bytes a b → Lasts a b
-lasts_heard a b bytes h = record {
-  hear_later = h.later;
-  say_later = omega (arith, h.hears.say_faults);
-  disk_later = omega (arith, h.hears.apart.disk_faults);
-  fixed = h.hears.apart.fixed;
-}
-
-pub lasts_said : (a b : KeeperView) (bytes : List ℕ) → Spoke bytes a b → Lasts a b
-lasts_said a b bytes s = record {
-  hear_later = omega (arith, s.says.hear_faults);
-  say_later = s.later;
-  disk_later = omega (arith, s.says.apart.disk_faults);
-  fixed = s.says.apart.fixed;
-}
+pub stops_for_then : (stop : Stop) (a b c : KeeperView) → NoFault a b → b.fixed ≡ a.fixed → StopsFor stop b c → StopsFor stop a c
+stops_for_then Say a b c f same r = record { faults = faults_then false true false a b c f r.faults; calls = tt }
+stops_for_then Disk a b c f same r = record { faults = faults_then false false true a b c f r.faults; calls = sym (same_aside same) ∙ r.calls }
 
 -- ---- what answering leaves
 
 pub frame_none : (k : KeeperView) → Frame k k
-frame_none k = record { left = refl; hear_faults = refl; lasts = lasts_none k }
+frame_none k = record { left = refl; hearings = refl; fixed = refl }
 
 pub frame_then : (a b c : KeeperView) → Frame a b → Frame b c → Frame a c
-frame_then a b c f g = record { left = g.left ∙ f.left; hear_faults = g.hear_faults ∙ f.hear_faults; lasts = lasts_then a b c f.lasts g.lasts }
+frame_then a b c f g = record { left = g.left ∙ f.left; hearings = g.hearings ∙ f.hearings; fixed = g.fixed ∙ f.fixed }
 
 pub frame_kept : (a b : KeeperView) (fault : Option KeepFault) → Kept a b fault → Frame a b
-frame_kept a b fault k = record { left = ap (λ (s : Beside). s.left) k.beside; hear_faults = ap (λ (s : Beside). s.hear_faults) k.beside; lasts = lasts_kept a b fault k }
+frame_kept a b fault k = record { left = ap (λ (s : Beside). s.left) k.beside; hearings = ap (λ (s : Beside). s.hearings) k.beside; fixed = k.fixed }
 
-pub frame_said : (a b : KeeperView) (bytes : List ℕ) → Spoke bytes a b → Frame a b
-frame_said a b bytes s = record { left = s.says.left; hear_faults = s.says.hear_faults; lasts = lasts_said a b bytes s }
-
-pub rose_by : (stop : Stop) (a b c : KeeperView) → Frame a b → RoseBy stop b c → RoseBy stop a c
-rose_by Say a b c f r = rose_after a.beside.say_faults b.beside.say_faults c.beside.say_faults f.lasts.say_later r
-rose_by Disk a b c f r = (rose_after a.disk_faults b.disk_faults c.disk_faults f.lasts.disk_later r.0, sym (same_aside f.lasts.fixed) ∙ r.1)
+pub frame_said : (failed : Bool) (a b : KeeperView) (bytes : List ℕ) → Spoke failed bytes a b → Frame a b
+frame_said failed a b bytes s = record { left = s.says.left; hearings = s.says.hearings; fixed = s.says.apart.fixed }
 
 -- it still takes every entry
-pub takes_still : (a b : KeeperView) → Lasts a b → TakesAll a.fixed.well → TakesAll b.fixed.well
-takes_still a b l takes = subst (λ (well : List ℕ → List ℕ → Bool). TakesAll well) (sym (same_well l.fixed)) takes
+pub takes_still : (a b : KeeperView) → b.fixed ≡ a.fixed → TakesAll a.fixed.well → TakesAll b.fixed.well
+takes_still a b same takes = subst (λ (well : List ℕ → List ℕ → Bool). TakesAll well) (sym (same_well same)) takes

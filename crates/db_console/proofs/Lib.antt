@@ -2,6 +2,7 @@ pub mod Texts
 pub mod Lasting
 pub mod SayingLaws
 pub mod WorldLaws
+pub mod Asked
 pub mod Answering
 pub mod Responding
 pub mod ViewLaws

@@ -27,8 +27,8 @@ ran_over limit most store old new name last content weight counts ending o = rec
   content = content;
   counts = counts;
   begins = record { said = refl; content = empty; holds = refl; stands = empty_stands };
-  untouched = same_image old new (same_aside o.lasts.fixed);
+  untouched = same_image old new (same_aside o.fixed);
   outcome =
-      subst (λ (n : GName). Outcome limit most (over_site empty store no_counts old name) (over_site content store counts new n) ending) (same_name last name (same_lender o.lasts.fixed))
-      (subst (λ (w : ℕ). Outcome limit most (over_site empty store no_counts old name) (over_site content w counts new last) ending) (same_limit o.lasts.fixed) o);
+      subst (λ (n : GName). Outcome limit most (over_site empty store no_counts old name) (over_site content store counts new n) ending) (same_name last name (same_lender o.fixed))
+      (subst (λ (w : ℕ). Outcome limit most (over_site empty store no_counts old name) (over_site content w counts new last) ending) (same_limit o.fixed) o);
 }

@@ -8,28 +8,30 @@ use Rattle.ct_keep.specs.Content.{Content}
 use Rattle.ct_keep.specs.KeeperViews.{KeeperView, PassesRoom, IsSettled}
 use Rattle.ct_keep.specs.Composing.{same_aside, same_limit, passes_behind, passes_as}
 use Rattle.st_cut.specs.Seen.{Seen, StandsOpen}
-use Rattle.db_engine.specs.States.{State, Stands}
+use Rattle.db_state.specs.States.{State, Stands}
 use Rattle.db_engine.specs.Runs.{Turn, turn, pieces, state_after, transcript, state_after-append, transcript-append, AllAllowed}
 use Rattle.db_console.specs.declared.saying.Stop.{Stop}
 use Rattle.db_console.specs.declared.saying.Stop.TheVariants.{Say, Disk}
 use Rattle.db_console.specs.declared.endings.Ending.{Ending}
 use Rattle.db_console.specs.declared.endings.Ending.TheVariants.{Done, HearFault, SayFault, NoMemory, DiskFault, PastLimit}
 use Rattle.db_console.specs.Worlds.{World, LeavesState, IsMoment, Leads, Served, ServedTo, world_after}
-use Rattle.db_console.specs.Views.{Shows, EndsHere, HearRose, Heard, RoseBy, Serves, Broke, Breaks, Finishes, Lasts, UnlessByDisk}
-use Rattle.db_console.specs.Table.{status_of, ending_of, Closes, AreFirst, SaidInPart, FailedInLast, SaidAll, Ends, Course, Because, Outcome, TellsPast, IsReadyAfter}
-use Rattle.db_console.proofs.WorldLaws.{pieces-append, served_on, served_then, served_start, allowed_then, moment_later}
-use Rattle.db_console.proofs.Lasting.{rose_after, lasts_none, lasts_then, lasts_heard}
+use Rattle.db_console.specs.Asking.{AskedThen, Calls}
+use Rattle.db_console.specs.Views.{Shows, EndsHere, FaultsAre, NoFault, Heard, StopsFor, Serves, Broke, Breaks, Finishes, UnlessByDisk}
+use Rattle.db_console.specs.Table.{status_of, ending_of, Closes, AreFirst, SaidInPart, FailedInLast, SaidAll, Ends, Course, Because, FaultsBy, Outcome, TellsPast, IsReadyAfter}
+use Rattle.db_console.proofs.Asked.{calls_none, calls_more, calls_same, calls_asked, asked_now, asked_taken, asked_as, asked_turns}
+use Rattle.db_console.proofs.WorldLaws.{pieces-append, served_as, served_on, served_then, served_start, allowed_then, moment_later}
+use Rattle.db_console.proofs.Lasting.{faults_none, faults_then, faults_heard}
 use Rattle.db_console.proofs.Answering.{either}
 use Rattle.db_console.proofs.ViewLaws.{broke_then}
 
 -- hearing shows the same world
-shows_heard : (old new : KeeperView) (bytes : List ℕ) (world : World) → Heard bytes old new → Shows old world → Shows new world
-shows_heard old new bytes world h w = record { said = h.hears.said ∙ w.said; content = w.content; holds = h.hears.apart.content ∙ w.holds; stands = w.stands }
+shows_heard : (failed : Bool) (old new : KeeperView) (bytes : List ℕ) (world : World) → Heard failed bytes old new → Shows old world → Shows new world
+shows_heard failed old new bytes world h w = record { said = h.hears.said ∙ w.said; content = w.content; holds = h.hears.apart.content ∙ w.holds; stands = w.stands }
 
 -- and adds no moment
-served_heard : (limit store : ℕ) (bytes heard : List ℕ) (was is : World) (old mid new : KeeperView) (cutter : Seen) → Heard heard mid new
+unfoldable served_heard : (limit store : ℕ) (failed : Bool) (bytes heard : List ℕ) (was is : World) (old mid new : KeeperView) (cutter : Seen) → Heard failed heard mid new
     → ServedTo limit store [] bytes was is old.time mid.time cutter → ServedTo limit store [] bytes was is old.time new.time cutter
-served_heard limit store bytes heard was is old mid new cutter h s = record {
+served_heard limit store failed bytes heard was is old mid new cutter h s = record {
   served = record {
     turns = s.served.turns;
     rest = s.served.rest;
@@ -42,53 +44,80 @@ served_heard limit store bytes heard was is old mid new cutter h s = record {
 
 -- ---- how serving goes on
 
--- so many bytes were taken and served, and then this piece was heard
-pub record Going (limit taken : ℕ) (piece : List ℕ) (old now : KeeperView) (cutter : Seen) : Type 0 where
+-- What was answered so far: `heard` was taken and served, and then `piece` was taken.
+pub record SoFar (limit : ℕ) (heard piece : List ℕ) (was : World) (old now : KeeperView) (cutter : Seen) : Type 0 where
+  pub is : World
+  pub shows : Shows now is
+  pub served : ServedTo limit old.fixed.limit [] heard was is old.time now.time cutter
+  pub asked : Calls old.beside.hearings now.beside.hearings (AskedThen old.beside.left (heard ++ piece) limit was served.served.turns)
+
+-- so many bytes were taken and served, and then this piece was heard, by a call that may have failed
+pub record Going (failed : Bool) (limit taken : ℕ) (piece : List ℕ) (old now : KeeperView) (cutter : Seen) : Type 0 where
   pub heard : List ℕ
   pub count : length heard ≡ taken
-  pub front : old.beside.left ≡ with_prefix (heard ++ piece) now.beside.left
-  pub lasts : Lasts old now
+  pub front : old.beside.left ≡ ahead (heard ++ piece) now.beside.left
+  pub faults : FaultsAre failed false false old now
+  pub fixed : now.fixed ≡ old.fixed
   pub ready : now.ready
-  pub going : (was : World) → Shows old was → (is : World) × Shows now is × ServedTo limit old.fixed.limit [] heard was is old.time now.time cutter
+  pub going : (was : World) → Shows old was → SoFar limit heard piece was old now cutter
 
-pub going_start : (limit : ℕ) (view : KeeperView) (cutter : Seen) → view.ready → StandsOpen limit cutter [] → Going limit 0 [] view view cutter
+pub going_start : (limit : ℕ) (view : KeeperView) (cutter : Seen) → view.ready → StandsOpen limit cutter [] → Going false limit 0 [] view view cutter
 going_start limit view cutter ready s = record {
   heard = [];
   count = refl;
-  front = sym (with_prefix-nil view.beside.left);
-  lasts = lasts_none view;
+  front = sym (ahead_none view.beside.left);
+  faults = faults_none view;
+  fixed = refl;
   ready = ready;
-  going = λ was w. (was, w, served_start limit view.fixed.limit [] was view.time cutter s);
+  going = λ was w. record { is = was; shows = w; served = served_start limit view.fixed.limit [] was view.time cutter s; asked = calls_none view.beside.hearings _ };
 }
 
-pub going_heard : (limit taken : ℕ) (piece : List ℕ) (old mid now : KeeperView) (cutter : Seen) → Going limit taken [] old mid cutter → Heard piece mid now → Going limit taken piece old now cutter
-going_heard limit taken piece old mid now cutter s h = record {
+pub going_heard : (failed : Bool) (limit taken : ℕ) (piece : List ℕ) (old mid now : KeeperView) (cutter : Seen) → Going false limit taken [] old mid cutter → Heard failed piece mid now → Going failed limit taken piece old now cutter
+unfolding served_heard
+going_heard failed limit taken piece old mid now cutter s h = record {
   heard = s.heard;
   count = s.count;
-  front = s.front ∙ rw (append-nil s.heard, h.hears.left) (with_prefix_twice s.heard piece now.beside.left);
-  lasts = lasts_then old mid now s.lasts (lasts_heard mid now piece h);
+  front = s.front ∙ rw (append-nil s.heard, h.hears.left) (ahead_twice s.heard piece now.beside.left);
+  faults = faults_then failed false false old mid now s.faults (faults_heard failed mid now piece h);
+  fixed = h.hears.apart.fixed ∙ s.fixed;
   ready = h.hears.apart.ready s.ready;
   going = λ was w.
-      let x : (is : World) × Shows mid is × ServedTo limit old.fixed.limit [] s.heard was is old.time mid.time cutter = s.going was w in
-      (x.0, shows_heard mid now piece x.0 h x.1, served_heard limit old.fixed.limit s.heard piece was x.0 old mid now cutter h x.2);
+      let x : SoFar limit s.heard [] was old mid cutter = s.going was w in
+      record {
+        is = x.is;
+        shows = shows_heard failed mid now piece x.is h x.shows;
+        served = served_heard limit old.fixed.limit failed s.heard piece was x.is old mid now cutter h x.served;
+        asked = calls_asked old.beside.hearings mid.beside now.beside _ h.hears.asks
+            (calls_more old.beside.hearings mid.beside.hearings _ _ x.asked (asked_taken old.beside.left limit was s.heard piece x.served.served.turns))
+            (asked_now old.beside.left limit was s.heard piece x.served.served.turns x.served.served.rest mid.beside (rw (append-nil s.heard) at s.front) x.served.served.cut
+            (x.shows.said ∙ x.served.served.leads.told ∙ ap (behind was.said) x.served.served.leads.run.says));
+      };
 }
 
-pub going_on : (limit taken count : ℕ) (piece : List ℕ) (old now new : KeeperView) (cutter later : Seen) → Going limit taken piece old now cutter → length piece ≡ count
-    → Serves piece now new cutter later → Going limit (taken + count) [] old new later
+pub going_on : (limit taken count : ℕ) (piece : List ℕ) (old now new : KeeperView) (cutter later : Seen) → Going false limit taken piece old now cutter → length piece ≡ count
+    → Serves piece now new cutter later → Going false limit (taken + count) [] old new later
+unfolding served_on served_then
 going_on limit taken count piece old now new cutter later s n k = record {
   heard = s.heard ++ piece;
   count = length-append s.heard piece ∙ rw (s.count, n) refl;
   front = rw (append-nil (s.heard ++ piece), k.frame.left) s.front;
-  lasts = lasts_then old now new s.lasts k.frame.lasts;
+  faults = faults_then false false false old now new s.faults k.faults;
+  fixed = k.frame.fixed ∙ s.fixed;
   ready = k.ready;
   going = λ was w.
-      let x : (is : World) × Shows now is × ServedTo limit old.fixed.limit [] s.heard was is old.time now.time cutter = s.going was w in
-      let y : (is : World) × Shows new is × ServedTo limit now.fixed.limit x.2.served.rest piece x.0 is now.time new.time later = k.serves limit x.2.served.rest x.2.stands x.0 x.1 in (
-        y.0,
-        y.1,
-        served_then limit old.fixed.limit [] s.heard piece was x.0 y.0 old.time now.time new.time later x.2.served
-            (subst (λ (store : ℕ). ServedTo limit store x.2.served.rest piece x.0 y.0 now.time new.time later) (same_limit s.lasts.fixed) y.2),
-      );
+      let x : SoFar limit s.heard piece was old now cutter = s.going was w in
+      let y : (is : World) × Shows new is × ServedTo limit now.fixed.limit x.served.served.rest piece x.is is now.time new.time later = k.serves limit x.served.served.rest x.served.stands x.is x.shows in
+      let z : ServedTo limit old.fixed.limit x.served.served.rest piece x.is y.0 now.time new.time later =
+      subst (λ (store : ℕ). ServedTo limit store x.served.served.rest piece x.is y.0 now.time new.time later) (same_limit s.fixed) y.2 in
+      record {
+        is = y.0;
+        shows = y.1;
+        served = served_then limit old.fixed.limit [] s.heard piece was x.is y.0 old.time now.time new.time later x.served.served z;
+        asked = calls_same old.beside.hearings now.beside.hearings new.beside.hearings _ k.frame.hearings
+            (calls_more old.beside.hearings now.beside.hearings _ _ x.asked
+            (λ h a. asked_as old.beside.left limit was (s.heard ++ piece) ((s.heard ++ piece) ++ []) _ h (append-nil (s.heard ++ piece))
+            (asked_turns old.beside.left limit was (s.heard ++ piece) x.served.served.turns z.served.turns h a)));
+      };
 }
 
 -- ---- how it ends
@@ -117,8 +146,8 @@ moment_now limit was turns new said rest front settled shows x w n =
 
 -- all was said
 turns_all : (limit most store : ℕ) (whole : Bool) (taken script : List ℕ) (was now : World) (old new : KeeperView) (ending : Ending) → store ≡ old.fixed.limit → IsSettled new → Shows new now → (s : Served limit store whole [] script was now old.time new.time)
-    → (SaidAll limit whole script was s.turns new → Ends limit most taken was s.turns new ending) → Course limit most taken was old new ending
-turns_all limit most store whole taken script was now old new ending is settled w s ends =
+    → Calls old.beside.hearings new.beside.hearings (AskedThen old.beside.left taken limit was s.turns) → (SaidAll limit whole script was s.turns new → Ends limit most taken was s.turns new ending) → Course limit most taken was old new ending
+turns_all limit most store whole taken script was now old new ending is settled w s asked ends =
     let shows : Shows new (world_after limit was s.turns) = shows_after limit store was now s.turns new s.leads w in
     record {
       turns = s.turns;
@@ -126,13 +155,15 @@ turns_all limit most store whole taken script was now old new ending is settled 
       ends = ends (record { rest = s.rest; cut = s.cut; shows = shows; settled = settled });
       moments = s.moments;
       now = moment_now limit was s.turns new (transcript limit was.state s.turns) [] (sym (append-nil (transcript limit was.state s.turns))) settled shows;
+      asked = asked;
     }
 
 pub out_memory : (limit most : ℕ) (view : KeeperView) → view.ready → IsSettled view → Outcome limit most view view NoMemory
 out_memory limit most view ready settled = record {
   taken = [];
-  front = sym (with_prefix-nil view.beside.left);
-  lasts = lasts_none view;
+  front = sym (ahead_none view.beside.left);
+  faults = faults_none view;
+  fixed = refl;
   because = (refl, refl);
   ready = ready;
   course = λ was w. record {
@@ -140,22 +171,29 @@ out_memory limit most view ready settled = record {
     allowed = tt;
     ends = (refl, w, settled);
     moments = passes_none view.time _;
-    now = moment_now limit was [] view [] [] refl settled (record { said = w.said ∙ sym (with_suffix-nil was.said); content = w.content; holds = w.holds; stands = w.stands });
+    now = moment_now limit was [] view [] [] refl settled (record { said = w.said ∙ sym (behind_none was.said); content = w.content; holds = w.holds; stands = w.stands });
+    asked = calls_none view.beside.hearings _;
   };
 }
 
-pub out_fault : (limit most taken : ℕ) (old mid now : KeeperView) (cutter : Seen) → (now.ready → IsSettled now) → Going limit taken [] old mid cutter → taken ≤ most → Heard [] mid now → HearRose mid.beside now.beside → Outcome limit most old now HearFault
-out_fault limit most taken old mid now cutter settled before h k r =
-    let s : Going limit taken [] old now cutter = going_heard limit taken [] old mid now cutter before k in
+-- the bytes that were heard and served are those taken
+asked_whole : (limit : ℕ) (taken : List ℕ) (was : World) (turns : List Turn) (old new : KeeperView) → Calls old.beside.hearings new.beside.hearings (AskedThen old.beside.left (taken ++ []) limit was turns)
+    → Calls old.beside.hearings new.beside.hearings (AskedThen old.beside.left taken limit was turns)
+asked_whole limit taken was turns old new calls = calls_more _ _ _ _ calls (λ h a. asked_as old.beside.left limit was (taken ++ []) taken turns h (sym (append-nil taken)) a)
+
+pub out_fault : (limit most taken : ℕ) (old mid now : KeeperView) (cutter : Seen) → (now.ready → IsSettled now) → Going false limit taken [] old mid cutter → taken ≤ most → Heard true [] mid now → Outcome limit most old now HearFault
+out_fault limit most taken old mid now cutter settled before h k =
+    let s : Going true limit taken [] old now cutter = going_heard true limit taken [] old mid now cutter before k in
     record {
       taken = s.heard;
       front = rw (append-nil s.heard) at s.front;
-      lasts = s.lasts;
-      because = (rw s.count h, rose_after old.beside.hear_faults mid.beside.hear_faults now.beside.hear_faults before.lasts.hear_later r);
+      faults = s.faults;
+      fixed = s.fixed;
+      because = rw s.count h;
       ready = s.ready;
       course = λ was w.
-          let x : (is : World) × Shows now is × ServedTo limit old.fixed.limit [] s.heard was is old.time now.time cutter = s.going was w in
-          turns_all limit most old.fixed.limit false s.heard s.heard was x.0 old now HearFault refl (settled s.ready) x.1 x.2.served (λ e. e);
+          let x : SoFar limit s.heard [] was old now cutter = s.going was w in
+          turns_all limit most old.fixed.limit false s.heard s.heard was x.is old now HearFault refl (settled s.ready) x.shows x.served.served (asked_whole limit s.heard was x.served.served.turns old now x.asked) (λ e. e);
     }
 
 -- ---- where it was stopped
@@ -215,9 +253,9 @@ failed_in_last limit store whole taken was old new k = record {
       (subst (λ (m : State). LeavesState x k.mid.state ⊎ LeavesState x m) (sym (state_last limit store whole Disk taken was old new k)) (k.by.now x w n).leaves);
 }
 
-turns_stopped : (stop : Stop) (limit most store : ℕ) (whole : Bool) (taken : List ℕ) (was : World) (old new : KeeperView) → store ≡ old.fixed.limit → (whole ≡ true → EndsHere new.beside) → Broke limit store whole stop [] taken was old new
-    → Course limit most taken was old new (ending_of stop)
-turns_stopped Say limit most store whole taken was old new is n k =
+turns_stopped : (stop : Stop) (limit most store : ℕ) (whole : Bool) (taken : List ℕ) (was : World) (old new : KeeperView) → store ≡ old.fixed.limit → (whole ≡ true → EndsHere new.beside) → (k : Broke limit store whole stop [] taken was old new)
+    → Calls old.beside.hearings new.beside.hearings (AskedThen old.beside.left taken limit was (k.turns ++ k.last ∷ [])) → Course limit most taken was old new (ending_of stop)
+turns_stopped Say limit most store whole taken was old new is n k asked =
     let s : SaidInPart limit whole taken was (k.turns ++ k.last ∷ []) new = said_in_part limit store whole taken was old new k in
     record {
       turns = k.turns ++ k.last ∷ [];
@@ -225,76 +263,96 @@ turns_stopped Say limit most store whole taken was old new is n k =
       ends = (whole, n, s);
       moments = k.moments;
       now = moment_now limit was (k.turns ++ k.last ∷ []) new s.said s.part.rest s.part.is k.by.settled s.shows;
+      asked = asked;
     }
-turns_stopped Disk limit most store whole taken was old new is n k = record {
+turns_stopped Disk limit most store whole taken was old new is n k asked = record {
   turns = k.turns ++ k.last ∷ [];
   allowed = subst (λ (n : ℕ). AllAllowed limit n was.state (k.turns ++ k.last ∷ [])) is (all_allowed limit store whole Disk taken was old new k);
   ends = (whole, n, failed_in_last limit store whole taken was old new k);
   moments = k.moments;
   now = λ x w m. moment_later limit store was k.mid k.turns (k.last ∷ []) k.leads x w (either limit k.mid k.last x w (k.by.now x w m));
+  asked = asked;
 }
 
-because_of : (stop : Stop) (most : ℕ) (taken : List ℕ) (old now new : KeeperView) → Lasts old now → length taken ≤ most → RoseBy stop now new → Because most taken old new (ending_of stop)
-because_of Say most taken old now new s h r = (h, rose_after old.beside.say_faults now.beside.say_faults new.beside.say_faults s.say_later r)
-because_of Disk most taken old now new s h r = (h, rose_after old.disk_faults now.disk_faults new.disk_faults s.disk_later r.0, sym (same_aside s.fixed) ∙ r.1)
+because_of : (stop : Stop) (most : ℕ) (taken : List ℕ) (old now new : KeeperView) → now.fixed ≡ old.fixed → length taken ≤ most → StopsFor stop now new → Because most taken old new (ending_of stop)
+because_of Say most taken old now new same h r = h
+because_of Disk most taken old now new same h r = (h, sym (same_aside same) ∙ r.calls)
+
+faults_of : (stop : Stop) (old now new : KeeperView) → NoFault old now → StopsFor stop now new → FaultsBy (status_of (ending_of stop)) old new
+faults_of Say old now new f r = faults_then false true false old now new f r.faults
+faults_of Disk old now new f r = faults_then false false true old now new f r.faults
 
 ready_after : (stop : Stop) (new : KeeperView) → UnlessByDisk stop new.ready → IsReadyAfter (ending_of stop) new
 ready_after Say new r = r
 ready_after Disk new r = tt
 
-pub out_broke : (stop : Stop) (limit most taken : ℕ) (piece : List ℕ) (old now new : KeeperView) (cutter : Seen) (ending : Ending) → Going limit taken piece old now cutter → taken + length piece ≤ most
+pub out_broke : (stop : Stop) (limit most taken : ℕ) (piece : List ℕ) (old now new : KeeperView) (cutter : Seen) (ending : Ending) → Going false limit taken piece old now cutter → taken + length piece ≤ most
     → (whole : Bool) → (whole ≡ true → EndsHere now.beside) → Breaks whole stop piece now new cutter → ending ≡ ending_of stop → Outcome limit most old new ending
+unfolding broke_then
 out_broke stop limit most taken piece old now new cutter ending s h whole n k e = rw e (record {
   taken = s.heard ++ piece;
   front = rw k.frame.left s.front;
-  lasts = lasts_then old now new s.lasts k.frame.lasts;
-  because = because_of stop most (s.heard ++ piece) old now new s.lasts (omega (arith, length-append s.heard piece, s.count, h)) k.cause;
+  faults = faults_of stop old now new s.faults k.cause;
+  fixed = k.frame.fixed ∙ s.fixed;
+  because = because_of stop most (s.heard ++ piece) old now new s.fixed (omega (arith, length-append s.heard piece, s.count, h)) k.cause;
   ready = ready_after stop new k.ready;
   course = λ was w.
-      let x : (is : World) × Shows now is × ServedTo limit old.fixed.limit [] s.heard was is old.time now.time cutter = s.going was w in
+      let x : SoFar limit s.heard piece was old now cutter = s.going was w in
+      let b : Broke limit old.fixed.limit whole stop x.served.served.rest piece x.is now new =
+      subst (λ (store : ℕ). Broke limit store whole stop x.served.served.rest piece x.is now new) (same_limit s.fixed) (k.breaks limit x.served.served.rest x.served.stands x.is x.shows) in
       turns_stopped stop limit most old.fixed.limit whole (s.heard ++ piece) was old new refl (λ x. subst IsNothing (sym k.frame.left) (n x))
-      (broke_then limit old.fixed.limit whole stop [] s.heard piece was x.0 old now new x.2.served
-      (subst (λ (store : ℕ). Broke limit store whole stop x.2.served.rest piece x.0 now new) (same_limit s.lasts.fixed) (k.breaks limit x.2.served.rest x.2.stands x.0 x.1)));
+      (broke_then limit old.fixed.limit whole stop [] s.heard piece was x.is old now new x.served.served b)
+      (calls_same old.beside.hearings now.beside.hearings new.beside.hearings _ k.frame.hearings
+      (calls_more old.beside.hearings now.beside.hearings _ _ x.asked
+      (λ h a. asked_turns old.beside.left limit was (s.heard ++ piece) (x.served.served.turns ++ b.turns) (b.last ∷ []) h (asked_turns old.beside.left limit was (s.heard ++ piece) x.served.served.turns b.turns h a))));
 })
 
-out_done : (limit most taken : ℕ) (old now new : KeeperView) (cutter : Seen) → (new.ready → IsSettled new) → Going limit taken [] old now cutter → taken ≤ most → EndsHere now.beside → Finishes now new cutter → Outcome limit most old new Done
+out_done : (limit most taken : ℕ) (old now new : KeeperView) (cutter : Seen) → (new.ready → IsSettled new) → Going false limit taken [] old now cutter → taken ≤ most → EndsHere now.beside → Finishes now new cutter → Outcome limit most old new Done
+unfolding served_on served_as
 out_done limit most taken old now new cutter settled s h n k = record {
   taken = s.heard;
   front = rw k.frame.left (rw (append-nil s.heard) at s.front);
-  lasts = lasts_then old now new s.lasts k.frame.lasts;
+  faults = faults_then false false false old now new s.faults k.faults;
+  fixed = k.frame.fixed ∙ s.fixed;
   because = (rw s.count h, subst IsNothing (sym k.frame.left) n);
   ready = k.ready;
   course = λ was w.
-      let x : (is : World) × Shows now is × ServedTo limit old.fixed.limit [] s.heard was is old.time now.time cutter = s.going was w in
-      let y : (is : World) × Shows new is × Served limit now.fixed.limit true x.2.served.rest [] x.0 is now.time new.time = k.serves limit x.2.served.rest x.2.stands x.0 x.1 in
-      let z : Served limit old.fixed.limit true [] (s.heard ++ []) was y.0 old.time new.time = served_on limit old.fixed.limit true [] s.heard [] was x.0 y.0 old.time now.time new.time x.2.served
-      (subst (λ (store : ℕ). Served limit store true x.2.served.rest [] x.0 y.0 now.time new.time) (same_limit s.lasts.fixed) y.2) in
-      turns_all limit most old.fixed.limit true s.heard s.heard was y.0 old new Done refl (settled k.ready) y.1 (subst (λ (xs : List ℕ). Served limit old.fixed.limit true [] xs was y.0 old.time new.time) (append-nil s.heard) z) (λ e. e);
+      let x : SoFar limit s.heard [] was old now cutter = s.going was w in
+      let y : (is : World) × Shows new is × Served limit now.fixed.limit true x.served.served.rest [] x.is is now.time new.time = k.serves limit x.served.served.rest x.served.stands x.is x.shows in
+      let last : Served limit old.fixed.limit true x.served.served.rest [] x.is y.0 now.time new.time =
+      subst (λ (store : ℕ). Served limit store true x.served.served.rest [] x.is y.0 now.time new.time) (same_limit s.fixed) y.2 in
+      turns_all limit most old.fixed.limit true s.heard s.heard was y.0 old new Done refl (settled k.ready) y.1
+      (served_as limit old.fixed.limit true [] (s.heard ++ []) s.heard was y.0 old.time new.time (append-nil s.heard) (served_on limit old.fixed.limit true [] s.heard [] was x.is y.0 old.time now.time new.time x.served.served last))
+      (calls_same old.beside.hearings now.beside.hearings new.beside.hearings _ k.frame.hearings
+      (calls_more old.beside.hearings now.beside.hearings _ _ (asked_whole limit s.heard was x.served.served.turns old now x.asked)
+      (asked_turns old.beside.left limit was s.heard x.served.served.turns last.turns)))
+      (λ e. e);
 }
 
-pub out_closed : (ending : Ending) (limit most taken : ℕ) (old mid now new : KeeperView) (cutter : Seen) → (new.ready → IsSettled new) → Going limit taken [] old mid cutter → Heard [] mid now → taken ≤ most → EndsHere now.beside
+pub out_closed : (ending : Ending) (limit most taken : ℕ) (old mid now new : KeeperView) (cutter : Seen) → (new.ready → IsSettled new) → Going false limit taken [] old mid cutter → Heard false [] mid now → taken ≤ most → EndsHere now.beside
     → Closes ending now new cutter → Outcome limit most old new ending
-out_closed Done limit most taken old mid now new cutter settled s h t n k = out_done limit most taken old now new cutter settled (going_heard limit taken [] old mid now cutter s h) t n k
+out_closed Done limit most taken old mid now new cutter settled s h t n k = out_done limit most taken old now new cutter settled (going_heard false limit taken [] old mid now cutter s h) t n k
 out_closed HearFault limit most taken old mid now new cutter settled s h t n k = absurd k
 out_closed SayFault limit most taken old mid now new cutter settled s h t n k =
-    out_broke Say limit most taken [] old now new cutter SayFault (going_heard limit taken [] old mid now cutter s h) (omega arith) true (λ e. n) k refl
+    out_broke Say limit most taken [] old now new cutter SayFault (going_heard false limit taken [] old mid now cutter s h) (omega arith) true (λ e. n) k refl
 out_closed NoMemory limit most taken old mid now new cutter settled s h t n k = absurd k
 out_closed DiskFault limit most taken old mid now new cutter settled s h t n k =
-    out_broke Disk limit most taken [] old now new cutter DiskFault (going_heard limit taken [] old mid now cutter s h) (omega arith) true (λ e. n) k refl
+    out_broke Disk limit most taken [] old now new cutter DiskFault (going_heard false limit taken [] old mid now cutter s h) (omega arith) true (λ e. n) k refl
 out_closed PastLimit limit most taken old mid now new cutter settled s h t n k = absurd k
 
-pub out_past : (limit most taken byte : ℕ) (old mid now : KeeperView) (cutter : Seen) → (now.ready → IsSettled now) → Going limit taken [] old mid cutter → Heard (byte ∷ []) mid now → taken ≡ most → Outcome limit most old now PastLimit
+pub out_past : (limit most taken byte : ℕ) (old mid now : KeeperView) (cutter : Seen) → (now.ready → IsSettled now) → Going false limit taken [] old mid cutter → Heard false (byte ∷ []) mid now → taken ≡ most → Outcome limit most old now PastLimit
 out_past limit most taken byte old mid now cutter settled before k h =
-    let s : Going limit taken (byte ∷ []) old now cutter = going_heard limit taken (byte ∷ []) old mid now cutter before k in
+    let s : Going false limit taken (byte ∷ []) old now cutter = going_heard false limit taken (byte ∷ []) old mid now cutter before k in
     record {
       taken = s.heard ++ byte ∷ [];
       front = s.front;
-      lasts = s.lasts;
+      faults = s.faults;
+      fixed = s.fixed;
       because = omega (arith, length-append s.heard (byte ∷ []), s.count);
       ready = s.ready;
       course = λ was w.
-          let x : (is : World) × Shows now is × ServedTo limit old.fixed.limit [] s.heard was is old.time now.time cutter = s.going was w in
-          turns_all limit most old.fixed.limit false (s.heard ++ byte ∷ []) s.heard was x.0 old now PastLimit refl (settled s.ready) x.1 x.2.served (λ e. (s.heard, byte, refl, s.count ∙ h, e));
+          let x : SoFar limit s.heard (byte ∷ []) was old now cutter = s.going was w in
+          turns_all limit most old.fixed.limit false (s.heard ++ byte ∷ []) s.heard was x.is old now PastLimit refl (settled s.ready) x.shows x.served.served x.asked (λ e. (s.heard, byte, refl, s.count ∙ h, e));
     }
 
 -- ---- what follows of a run
@@ -302,8 +360,8 @@ out_past limit most taken byte old mid now cutter settled before k h =
 -- how many bytes were taken, by the ending
 past_taken : (ending : Ending) (most : ℕ) (taken : List ℕ) (old new : KeeperView) → Because most taken old new ending → (status_of ending ≡ 8) ↔ (length taken ≡ suc most)
 past_taken Done most taken old new b = (λ e. absurd (omega arith), λ e. absurd (omega (arith, b.0)))
-past_taken HearFault most taken old new b = (λ e. absurd (omega arith), λ e. absurd (omega (arith, b.0)))
-past_taken SayFault most taken old new b = (λ e. absurd (omega arith), λ e. absurd (omega (arith, b.0)))
+past_taken HearFault most taken old new b = (λ e. absurd (omega arith), λ e. absurd (omega (arith, b)))
+past_taken SayFault most taken old new b = (λ e. absurd (omega arith), λ e. absurd (omega (arith, b)))
 past_taken NoMemory most taken old new b = (λ e. absurd (omega arith), λ e. absurd (omega (arith, ap length b.0)))
 past_taken DiskFault most taken old new b = (λ e. absurd (omega arith), λ e. absurd (omega (arith, b.0)))
 past_taken PastLimit most taken old new b = (λ e. b, λ e. refl)

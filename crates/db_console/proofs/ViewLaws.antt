@@ -12,7 +12,7 @@ use Rattle.db_console.specs.declared.saying.Stop.{Stop}
 use Rattle.db_console.specs.Worlds.{World, HasPieces, Served, ServedTo, Answered}
 use Rattle.db_console.specs.Views.{Shows, Answers, Stopped, Stops, Serves, Broke, Breaks, Finishes}
 use Rattle.db_console.proofs.WorldLaws.{leads_none, leads_then, moments_then, pieces_then, pieces-append, served_then, served_open, served_statement, served_last, served_rest, newline_piece, ended_piece, rest_alone}
-use Rattle.db_console.proofs.Lasting.{frame_none, frame_then, rose_by}
+use Rattle.db_console.proofs.Lasting.{faults_none, faults_then, frame_none, frame_then, stops_for_then}
 
 pub if_err_weaker : {T E : Type 0} (r : Result T E) (P Q : E → Type 0) → ((e : E) → P e → Q e) → IfErr r P → IfErr r Q
 if_err_weaker (Ok x) P Q f h = h
@@ -37,7 +37,7 @@ broke_first limit whole stop held bytes last later rest was old new p a = record
 }
 
 -- behind other bytes that were served
-pub broke_then : (limit store : ℕ) (whole : Bool) (stop : Stop) (held a b : List ℕ) (was is : World) (old mid new : KeeperView)
+unfoldable pub broke_then : (limit store : ℕ) (whole : Bool) (stop : Stop) (held a b : List ℕ) (was is : World) (old mid new : KeeperView)
     → (s : Served limit store false held a was is old.time mid.time) → Broke limit store whole stop s.rest b is mid new → Broke limit store whole stop held (a ++ b) was old new
 broke_then limit store whole stop held a b was is old mid new s k = record {
   turns = s.turns ++ k.turns;
@@ -77,6 +77,7 @@ broke_before limit store stop held a b was old new k =
 pub serves_push : (view : KeeperView) (bytes : List ℕ) (before after : Seen) → view.ready → ((limit : ℕ) (held : List ℕ) → StandsOpen limit before held → StandsOpen limit after (held ++ bytes)) → Serves bytes view view before after
 serves_push view bytes before after ready h = record {
   frame = frame_none view;
+  faults = faults_none view;
   ready = ready;
   serves = λ limit held s was w. (was, w, served_open limit view.fixed.limit held bytes was view.time after (h limit held s));
 }
@@ -87,6 +88,7 @@ serves_none view cutter ready = serves_push view [] cutter cutter ready (λ limi
 serves_then : (a b : List ℕ) (old mid new : KeeperView) (before between after : Seen) → Serves a old mid before between → Serves b mid new between after → Serves (a ++ b) old new before after
 serves_then a b old mid new before between after s t = record {
   frame = frame_then old mid new s.frame t.frame;
+  faults = faults_then false false false old mid new s.faults t.faults;
   ready = t.ready;
   serves = λ limit held h was w.
       let x : (now : World) × Shows mid now × ServedTo limit old.fixed.limit held a was now old.time mid.time between = s.serves limit held h was w in
@@ -94,19 +96,19 @@ serves_then a b old mid new before between after s t = record {
         y.0,
         y.1,
         served_then limit old.fixed.limit held a b was x.0 y.0 old.time mid.time new.time after x.2.served
-            (subst (λ (store : ℕ). ServedTo limit store x.2.served.rest b x.0 y.0 mid.time new.time after) (same_limit s.frame.lasts.fixed) y.2),
+            (subst (λ (store : ℕ). ServedTo limit store x.2.served.rest b x.0 y.0 mid.time new.time after) (same_limit s.frame.fixed) y.2),
       );
 }
 
 breaks_then : (whole : Bool) (stop : Stop) (a b : List ℕ) (old mid new : KeeperView) (before between : Seen) → Serves a old mid before between → Breaks whole stop b mid new between → Breaks whole stop (a ++ b) old new before
 breaks_then whole stop a b old mid new before between s t = record {
   frame = frame_then old mid new s.frame t.frame;
-  cause = rose_by stop old mid new s.frame t.cause;
+  cause = stops_for_then stop old mid new s.faults s.frame.fixed t.cause;
   ready = t.ready;
   breaks = λ limit held h was w.
       let x : (now : World) × Shows mid now × ServedTo limit old.fixed.limit held a was now old.time mid.time between = s.serves limit held h was w in
       broke_then limit old.fixed.limit whole stop held a b was x.0 old mid new x.2.served
-      (subst (λ (store : ℕ). Broke limit store whole stop x.2.served.rest b x.0 mid new) (same_limit s.frame.lasts.fixed) (t.breaks limit x.2.served.rest x.2.stands x.0 x.1));
+      (subst (λ (store : ℕ). Broke limit store whole stop x.2.served.rest b x.0 mid new) (same_limit s.frame.fixed) (t.breaks limit x.2.served.rest x.2.stands x.0 x.1));
 }
 
 breaks_before : (stop : Stop) (a b : List ℕ) (old new : KeeperView) (before : Seen) → Breaks false stop a old new before → Breaks false stop (a ++ b) old new before
@@ -142,6 +144,7 @@ pub serves_statement : (old new : KeeperView) (before after : Seen) (text : Opti
     → StandsOpen before.limit after [] → Serves (10 ∷ []) old new before after
 serves_statement old new before after text e show answers n = record {
   frame = let x = shown text in (answers x.0 x.1 x.2).frame;
+  faults = let x = shown text in (answers x.0 x.1 x.2).faults;
   ready = let x = shown text in (answers x.0 x.1 x.2).ready;
   serves = λ limit held h was w.
       let t : (s : List ℕ) × (first_statement true held ≡ Some (s, [])) = ended_text limit before held h e in
@@ -164,6 +167,7 @@ pub finishes_statement : (old new : KeeperView) (before : Seen) (text : Option (
     → Finishes old new before
 finishes_statement old new before text e show answers = record {
   frame = let x = shown text in (answers x.0 x.1 x.2).frame;
+  faults = let x = shown text in (answers x.0 x.1 x.2).faults;
   ready = let x = shown text in (answers x.0 x.1 x.2).ready;
   serves = λ limit held h was w.
       let t : (s : List ℕ) × (first_statement true held ≡ Some (s, [])) = ended_text limit before held h e in
@@ -186,6 +190,7 @@ pub finishes_rest : (old new : KeeperView) (before : Seen) (text : Option (Bor (
     → Finishes old new before
 finishes_rest old new before text e show answers = record {
   frame = let x = shown text in (answers x.0 x.1 x.2).frame;
+  faults = let x = shown text in (answers x.0 x.1 x.2).faults;
   ready = let x = shown text in (answers x.0 x.1 x.2).ready;
   serves = λ limit held h was w.
       let a : (now : World) × Shows new now × Answered limit old.fixed.limit (rest_piece held) was now old.time new.time = (answers limit held (show limit held h)).answers was w in

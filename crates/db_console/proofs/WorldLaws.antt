@@ -99,12 +99,22 @@ served_on limit store whole held a b old mid new t u v s k = record {
   moments = moments_then limit store old mid s.turns k.turns t u v s.leads s.moments k.moments;
 }
 
-pub served_then : (limit store : ℕ) (held a b : List ℕ) (old mid new : World) (t u v : Times) (cutter : Seen)
+unfoldable pub served_then : (limit store : ℕ) (held a b : List ℕ) (old mid new : World) (t u v : Times) (cutter : Seen)
     → (s : Served limit store false held a old mid t u) → ServedTo limit store s.rest b mid new u v cutter → ServedTo limit store held (a ++ b) old new t v cutter
 unfolding served_on
 served_then limit store held a b old mid new t u v cutter s k = record {
   served = served_on limit store false held a b old mid new t u v s k.served;
   stands = k.stands;
+}
+
+-- the same bytes by another name
+unfoldable pub served_as : (limit store : ℕ) (whole : Bool) (held a b : List ℕ) (old new : World) (t u : Times) → a ≡ b → Served limit store whole held a old new t u → Served limit store whole held b old new t u
+served_as limit store whole held a b old new t u is s = record {
+  turns = s.turns;
+  rest = s.rest;
+  cut = subst (λ (l : List ℕ). HasPieces whole (held ++ l) (pieces s.turns) s.rest) is s.cut;
+  leads = s.leads;
+  moments = s.moments;
 }
 
 -- ---- one piece

@@ -1,4 +1,5 @@
 pub mod Worlds
+pub mod Asking
 pub mod Responses
 pub mod Views
 pub mod Table

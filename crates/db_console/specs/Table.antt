@@ -1,5 +1,5 @@
 -- How a run of the console ends, by its status.
-use Rattle.std.specs.Prelude.{ℕ, suc, ◌≡◌, ◌≢◌, ◌≤◌, ◌⊎◌, ◌↔◌, Bool, true, false, List, [], ◌∷◌, ◌++◌, length, Option, Some, codes, refl, None}
+use Rattle.std.specs.Prelude.{ℕ, suc, ◌≡◌, ◌≢◌, ◌≤◌, ◌==◌, ◌⊎◌, ◌↔◌, Bool, true, false, List, [], ◌∷◌, ◌++◌, length, Option, Some, codes, refl, None}
 use Rattle.std.specs.Str.{chars}
 use Rattle.std.proofs.Common.{lit<, arith}
 use Rattle.std.specs.FinMap.{empty}
@@ -8,7 +8,7 @@ use Rattle.ct_base.specs.Told.{with_prefix, with_suffix}
 use Rattle.ct_base.specs.Moments.{Passes}
 use Rattle.ct_site.specs.Disks.{DiskView, Beside}
 use Rattle.ct_keep.specs.Content.{Content}
-use Rattle.ct_keep.specs.KeeperViews.{KeeperView, Counts, PassesRoom, IsSettled}
+use Rattle.ct_keep.specs.KeeperViews.{KeeperView, Counts, PassesRoom, IsSettled, counted}
 use Rattle.ct_keep.specs.InMemory.{in_memory, settled_in_memory, aside_of}
 use Rattle.ct_keep.specs.KeeperStates.{KeeperState, no_counts, no_disk, mem_view}
 use Rattle.st_cut.specs.Seen.{Seen}
@@ -16,7 +16,8 @@ use Rattle.db_state.specs.States.{empty_state}
 use Rattle.db_state.specs.laws.Empty.{empty_stands}
 use Rattle.db_engine.specs.Runs.{Piece, Turn, pieces, state_after, transcript, AllAllowed, statement, rest_piece, Step, turn_by}
 use Rattle.db_console.specs.Worlds.{World, HasPieces, LeavesState, IsMoment, IsPartOf, IsFrontOf, world_after, world}
-use Rattle.db_console.specs.Views.{Shows, EndsHere, HearRose, SayRose, DiskRose, Lasts, Breaks, Finishes}
+use Rattle.db_console.specs.Asking.{AskedThen, Calls}
+use Rattle.db_console.specs.Views.{Shows, EndsHere, HearRose, SayRose, FaultsAre, Breaks, Finishes}
 use Rattle.db_console.specs.declared.endings.Ending.{Ending}
 use Rattle.db_console.specs.declared.endings.Ending.TheVariants.{Done, HearFault, SayFault, NoMemory, DiskFault, PastLimit}
 use Rattle.db_console.specs.declared.saying.Stop.{Stop}
@@ -102,19 +103,25 @@ pub record Course (limit most : ℕ) (taken : List ℕ) (was : World) (old new :
   pub ends : Ends limit most taken was turns new ending
   pub moments : Passes old.time new.time (IsMoment limit was turns)
   pub now : (stopped : Option Content) (said : List ℕ) → new.now stopped said → IsMoment limit was turns stopped said
+  -- what was taken so far is answered before `hear` is called again
+  pub asked : Calls old.beside.hearings new.beside.hearings (AskedThen old.beside.left taken limit was turns)
 
 -- ---- why it ended so
 
 abbrev pub Because : ℕ → List ℕ → KeeperView → KeeperView → Ending → Type 0
 -- `hear` answered that the script ends
 Because most taken old new Done = (length taken ≤ most) × EndsHere new.beside
-Because most taken old new HearFault = (length taken ≤ most) × HearRose old.beside new.beside
-Because most taken old new SayFault = (length taken ≤ most) × SayRose old.beside new.beside
+Because most taken old new HearFault = length taken ≤ most
+Because most taken old new SayFault = length taken ≤ most
 -- nothing was heard or said
 Because most taken old new NoMemory = (taken ≡ []) × (new.beside ≡ old.beside)
--- the disk failed, and the keeper is one that makes calls of it
-Because most taken old new DiskFault = (length taken ≤ most) × DiskRose old new × (old.fixed.aside ≡ None)
+-- the keeper is one that makes calls of its disk
+Because most taken old new DiskFault = (length taken ≤ most) × (old.fixed.aside ≡ None)
 Because most taken old new PastLimit = length taken ≡ suc most
+
+-- The counts of faults after a run with this status: that of hearing rose exactly with 3, that of saying with 4, that of the disk with 6.
+abbrev pub FaultsBy : ℕ → KeeperView → KeeperView → Type 0
+FaultsBy status old new = FaultsAre (status == 3) (status == 4) (status == 6) old new
 
 -- whether the keeper may be called again
 abbrev pub IsReadyAfter : Ending → KeeperView → Type 0
@@ -125,8 +132,9 @@ IsReadyAfter ending new = new.ready
 pub record Outcome (limit most : ℕ) (old new : KeeperView) (ending : Ending) : Type 0 where
   -- the bytes taken from the script
   pub taken : List ℕ
-  pub front : old.beside.left ≡ with_prefix taken new.beside.left
-  pub lasts : Lasts old new
+  pub front : old.beside.left ≡ ahead taken new.beside.left
+  pub faults : FaultsBy (status_of ending) old new
+  pub fixed : new.fixed ≡ old.fixed
   pub because : Because most taken old new ending
   pub ready : IsReadyAfter ending new
   pub course : (was : World) → Shows old was → Course limit most taken was old new ending
@@ -146,13 +154,18 @@ pub record Completes (most status : ℕ) (old new : Beside) (quiet : Type 0) : T
 -- Hearing doesn't fail there, and there is no disk: a run ends with 0, 4, 5 or 8.
 pub in_memory_ends : (limit most : ℕ) (old new : KeeperState) (ending : Ending) → Outcome limit most (mem_view old) (mem_view new) ending → (status_of ending ≢ 3) × (status_of ending ≢ 6)
 in_memory_ends limit most old new Done o = (λ is. omega arith, λ is. omega arith)
-in_memory_ends limit most old new HearFault o = (λ is. let rose = o.because.1 in omega (arith, rose), λ is. omega arith)
+in_memory_ends limit most old new HearFault o = (λ is. let rose = o.faults.hear in omega (arith, rose), λ is. omega arith)
 in_memory_ends limit most old new SayFault o = (λ is. omega arith, λ is. omega arith)
 in_memory_ends limit most old new NoMemory o = (λ is. omega arith, λ is. omega arith)
-in_memory_ends limit most old new DiskFault o = (λ is. omega arith, λ is. let none = o.because.2 in cc)
+in_memory_ends limit most old new DiskFault o = (λ is. omega arith, λ is. let none = o.because.1 in cc)
 in_memory_ends limit most old new PastLimit o = (λ is. omega arith, λ is. omega arith)
 
 -- ---- over a site
+
+-- The counts of faults after a run with this status: that of hearing rose exactly with 3, and that of saying with 4.
+pub record SiteFaultsBy (status : ℕ) (old new : Beside) : Type 0 where
+  pub hear : new.hear_faults ≡ counted (status == 3) old.hear_faults
+  pub say : new.say_faults ≡ counted (status == 4) old.say_faults
 
 -- The disk is as before: no call of it failed, and a read gives what it gave.
 pub record Untouched (old new : DiskView) : Type 0 where
@@ -177,7 +190,7 @@ abbrev bad : List ℕ → Turn
 bad text = turn_by (statement text) Step
 
 abbrev telling : List ℕ → List ℕ → KeeperView
-telling left said = in_memory empty 0 no_counts (record { left = Some left; said = Some said; hear_faults = 0; say_faults = 0 }) (Some 40) no_disk None
+telling left said = in_memory empty 0 no_counts (record { left = Some left; said = Some said; hearings = None; hear_faults = 0; say_faults = 0 }) (Some 40) no_disk None
 
 ten_bytes : Ends 65536 10 (codes "SELEC;\nSELE") (world []) (bad (codes "SELEC") ∷ []) (telling (codes "C;\n") (codes "E10: statement not understood\n")) PastLimit
 unfolding chars

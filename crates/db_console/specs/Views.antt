@@ -1,13 +1,13 @@
 -- What the console does to what is known of a keeper.
-use Rattle.std.specs.Prelude.{ℕ, ◌≡◌, ◌≤◌, ◌⊎◌, Bool, true, List, [], ◌∷◌, ◌++◌, Option, Some, None}
+use Rattle.std.specs.Prelude.{ℕ, ◌≡◌, ◌⊎◌, Bool, true, false, List, [], ◌∷◌, ◌++◌, Option, Some, None}
 use Rattle.ct_base.specs.Causes.{Rose}
 use Rattle.ct_base.specs.Told.{with_suffix, IsNothing, IsSaid}
 use Rattle.ct_base.specs.Moments.{Passes}
 use Rattle.ct_site.specs.Disks.{Beside}
 use Rattle.ct_keep.specs.Content.{Content}
-use Rattle.ct_keep.specs.KeeperViews.{KeeperView, KeeperHears, KeeperSays, PassesRoom, IsSettled}
-use Rattle.st_cut.specs.Seen.{Seen, StandsOpen}
-use Rattle.db_engine.specs.States.{Stands}
+use Rattle.ct_keep.specs.KeeperViews.{KeeperView, KeeperHears, KeeperSays, PassesRoom, IsSettled, counted}
+use Rattle.st_cut.specs.Seen.{Seen, Stands as StandsOpen}
+use Rattle.db_state.specs.States.{Stands}
 use Rattle.db_engine.specs.Runs.{Piece, Answer, Step, Turn, turn_by, turn, pieces, IsAllowed}
 use Rattle.db_console.specs.Worlds.{World, HasPieces, LeavesState, IsMoment, Leads, Served, ServedTo, Answered, IsPartOf}
 use Rattle.db_console.specs.declared.saying.Stop.{Stop}
@@ -34,36 +34,38 @@ DiskRose old new = Rose old.disk_faults new.disk_faults
 abbrev pub EndsHere : Beside → Type 0
 EndsHere beside = IsNothing beside.left
 
--- What a run keeps, whatever it does: no count of faults falls.
-pub record Lasts (old new : KeeperView) : Type 0 where
-  pub hear_later : old.beside.hear_faults ≤ new.beside.hear_faults
-  pub say_later : old.beside.say_faults ≤ new.beside.say_faults
-  pub disk_later : old.disk_faults ≤ new.disk_faults
-  pub fixed : new.fixed ≡ old.fixed
+-- The counts of faults of hearing, of saying and of the disk: each rose by one, up to 2^64 - 1, where this says so, and is else as it was.
+pub record FaultsAre (of_hear of_say of_disk : Bool) (old new : KeeperView) : Type 0 where
+  pub hear : new.beside.hear_faults ≡ counted of_hear old.beside.hear_faults
+  pub say : new.beside.say_faults ≡ counted of_say old.beside.say_faults
+  pub disk : new.disk_faults ≡ counted of_disk old.disk_faults
 
--- Bytes were heard, and nothing else was done.
-pub record Heard (heard : List ℕ) (old new : KeeperView) : Type 0 where
+-- none of them rose
+abbrev pub NoFault : KeeperView → KeeperView → Type 0
+NoFault old new = FaultsAre false false false old new
+
+-- Bytes were heard by one call, which may have failed, and nothing else was done.
+pub record Heard (failed : Bool) (heard : List ℕ) (old new : KeeperView) : Type 0 where
   pub hears : KeeperHears heard old new
-  pub later : old.beside.hear_faults ≤ new.beside.hear_faults
+  pub counts : new.beside.hear_faults ≡ counted failed old.beside.hear_faults
 
--- Bytes were said, by any number of calls, and nothing else was done.
-pub record Spoke (bytes : List ℕ) (old new : KeeperView) : Type 0 where
+-- Bytes were said, by any number of calls of which the last one may have failed, and nothing else was done.
+pub record Spoke (failed : Bool) (bytes : List ℕ) (old new : KeeperView) : Type 0 where
   pub says : KeeperSays bytes old new
-  pub later : old.beside.say_faults ≤ new.beside.say_faults
+  pub counts : new.beside.say_faults ≡ counted failed old.beside.say_faults
 
--- The front of the bytes was said, and not all of them, for a fault. Where the room for what is said is told, all of them would have passed it.
+-- The first of the bytes were said, and not all of them, for a fault. Where the room for what is said is told, all of them would have passed it.
 pub record SpokeInPart (bytes : List ℕ) (old new : KeeperView) : Type 0 where
   pub part : List ℕ
   pub is : IsPartOf part bytes
-  pub spoke : Spoke part old new
-  pub cause : SayRose old.beside new.beside
+  pub spoke : Spoke true part old new
   pub passes : PassesRoom old.fixed.say_room old.beside.said bytes
 
--- what answering leaves
+-- what answering leaves, whether it fails or not
 pub record Frame (old new : KeeperView) : Type 0 where
   pub left : new.beside.left ≡ old.beside.left
-  pub hear_faults : new.beside.hear_faults ≡ old.beside.hear_faults
-  pub lasts : Lasts old new
+  pub hearings : new.beside.hearings ≡ old.beside.hearings
+  pub fixed : new.fixed ≡ old.fixed
 
 -- ---- one piece
 
@@ -90,20 +92,34 @@ pub record Halted (limit : ℕ) (piece : Piece) (was : World) (old new : KeeperV
 -- A piece was answered, and the reply was said.
 pub record Answers (limit : ℕ) (piece : Piece) (old new : KeeperView) : Type 0 where
   pub frame : Frame old new
+  pub faults : NoFault old new
   pub ready : new.ready
   pub answers : (was : World) → Shows old was → (now : World) × Shows new now × Answered limit old.fixed.limit piece was now old.time new.time
-
--- the cause of a stop
-abbrev pub RoseBy : Stop → KeeperView → KeeperView → Type 0
-RoseBy Say old new = SayRose old.beside new.beside
-RoseBy Disk old new = DiskRose old new × (old.fixed.aside ≡ None)
 
 -- what holds unless the stop came from the disk
 abbrev pub UnlessByDisk : Stop → Type 0 → Type 0
 UnlessByDisk Say P = P
 UnlessByDisk Disk P = Unit {0}
 
--- The reply of the last turn was said in part, with_suffix what had been said; where the room for that is told, the whole of it would have passed it.
+-- what holds where it did
+abbrev pub OnlyByDisk : Stop → Type 0 → Type 0
+OnlyByDisk Say P = Unit {0}
+OnlyByDisk Disk P = P
+
+abbrev pub is_say : Stop → Bool
+is_say Say = true
+is_say Disk = false
+
+abbrev pub is_disk : Stop → Bool
+is_disk Say = false
+is_disk Disk = true
+
+-- the cause of a stop: one fault of that device, and no other; the disk stops a keeper alone that makes calls of it
+pub record StopsFor (stop : Stop) (old new : KeeperView) : Type 0 where
+  pub faults : FaultsAre false (is_say stop) (is_disk stop) old new
+  pub calls : OnlyByDisk stop (old.fixed.aside ≡ None)
+
+-- The reply of the last turn was said in part, behind what had been said; where the room for that is told, the whole of it would have passed it.
 pub record SaysInPart (limit : ℕ) (was : World) (last : Turn) (new : KeeperView) : Type 0 where
   pub part : List ℕ
   pub reply : IsPartOf part (turn limit was.state last).1
@@ -130,7 +146,7 @@ pub record Stopped (limit : ℕ) (piece : Piece) (stop : Stop) (was : World) (ol
 
 pub record Stops (limit : ℕ) (piece : Piece) (stop : Stop) (old new : KeeperView) : Type 0 where
   pub frame : Frame old new
-  pub cause : RoseBy stop old new
+  pub cause : StopsFor stop old new
   pub ready : UnlessByDisk stop new.ready
   pub stops : (was : World) → Shows old was → Stopped limit piece stop was old new
 
@@ -139,6 +155,7 @@ pub record Stops (limit : ℕ) (piece : Piece) (stop : Stop) (old new : KeeperVi
 -- Bytes were served: each statement that a newline ends in them was answered.
 pub record Serves (bytes : List ℕ) (old new : KeeperView) (before after : Seen) : Type 0 where
   pub frame : Frame old new
+  pub faults : NoFault old new
   pub ready : new.ready
   pub serves : (limit : ℕ) (held : List ℕ) → StandsOpen limit before held → (was : World) → Shows old was → (now : World) × Shows new now × ServedTo limit old.fixed.limit held bytes was now old.time new.time after
 
@@ -159,12 +176,13 @@ pub record Broke (limit store : ℕ) (whole : Bool) (stop : Stop) (held bytes : 
 -- Serving bytes was stopped.
 pub record Breaks (whole : Bool) (stop : Stop) (bytes : List ℕ) (old new : KeeperView) (before : Seen) : Type 0 where
   pub frame : Frame old new
-  pub cause : RoseBy stop old new
+  pub cause : StopsFor stop old new
   pub ready : UnlessByDisk stop new.ready
   pub breaks : (limit : ℕ) (held : List ℕ) → StandsOpen limit before held → (was : World) → Shows old was → Broke limit old.fixed.limit whole stop held bytes was old new
 
 -- The end of the script was served.
 pub record Finishes (old new : KeeperView) (before : Seen) : Type 0 where
   pub frame : Frame old new
+  pub faults : NoFault old new
   pub ready : new.ready
   pub serves : (limit : ℕ) (held : List ℕ) → StandsOpen limit before held → (was : World) → Shows old was → (now : World) × Shows new now × Served limit old.fixed.limit true held [] was now old.time new.time

@@ -9,7 +9,7 @@ use Rattle.ct_base.specs.laws.Moments.{passes_none}
 use Rattle.ct_keep.specs.Content.{Content}
 use Rattle.st_cut.specs.Cut.{Cuts}
 use Rattle.st_cut.specs.Seen.{Seen, StandsOpen}
-use Rattle.db_engine.specs.States.{State, empty_state, Stands}
+use Rattle.db_state.specs.States.{State, empty_state, Stands}
 use Rattle.db_engine.specs.Runs.{Piece, statement, rest_piece, Answer, Step, Turn, turn_by, pieces, state_after, transcript, AllAllowed, Ran}
 
 -- all pieces of these statements, and of the rest where the script has ended

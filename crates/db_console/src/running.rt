@@ -3,7 +3,7 @@
 ghost use Rattle.std.specs.Prelude.{◌≡◌, ◌^◌, ◌<◌, ◌↔◌, None, length};
 ghost use Rattle.db_state.specs.States.{TakesAll};
 ghost use Rattle.db_console.specs.Views.{HearRose, SayRose, DiskRose};
-ghost use Rattle.db_console.specs.Table.{Completes, Outcome, RanOver, TellsPast, Untouched, status_of};
+ghost use Rattle.db_console.specs.Table.{Completes, FaultsBy, Outcome, RanOver, SiteFaultsBy, TellsPast, Untouched, status_of};
 ghost use Rattle.db_console.specs.declared.endings.Ending.{Ending};
 
 use crate::serving::serve_script;
@@ -28,7 +28,7 @@ const DEGREE: u32 = 1;
 const BAD_WORDS: u8 = 2;
 
 /// Serves a script of at most `most` bytes over a keeper, and answers a status: 0 where all of the script was answered, 3, 4 and 6
-/// for a fault of hearing, of saying and of the disk, 5 where there was no memory to begin with, and 8 for a script of over `most`
+/// exactly for a fault of hearing, of saying and of the disk, 5 where there was no memory to begin with, and 8 for a script of over `most`
 /// bytes. At most `degree` threads are at work on a statement. After 6 the keeper may be asked to hear and to say alone. Its
 /// cost is that of the statements.
 pub fn serve<R: Threads + Sync, K: Keeper>(
@@ -45,10 +45,9 @@ pub fn serve<R: Threads + Sync, K: Keeper>(
     ensures table { (ending : Ending) × (result ≡ status_of ending) × Outcome 65536 most (K.view keeper.old) (K.view keeper.new) ending }
 
     // causes
-    ensures hear { result ≡ 3 → HearRose (K.view keeper.old).beside (K.view keeper.new).beside }
-    ensures say { result ≡ 4 → SayRose (K.view keeper.old).beside (K.view keeper.new).beside }
+    ensures faults { FaultsBy result (K.view keeper.old) (K.view keeper.new) }
     ensures memory { result ≡ 5 → keeper.new ≡ keeper.old }
-    ensures disk { result ≡ 6 → DiskRose (K.view keeper.old) (K.view keeper.new) × ((K.view keeper.old).fixed.aside ≡ None) }
+    ensures disk { result ≡ 6 → (K.view keeper.old).fixed.aside ≡ None }
     ensures past { TellsPast most result (K.view keeper.old).beside (K.view keeper.new).beside }
     ensures complete { Completes most result (K.view keeper.old).beside (K.view keeper.new).beside (¬ DiskRose (K.view keeper.old) (K.view keeper.new)) }
 {
@@ -58,6 +57,7 @@ pub fn serve<R: Threads + Sync, K: Keeper>(
 /// Serves the script of a site over an empty keeper in memory.
 fn serve_over<R: Threads + Sync, S: Site>(rt: &R, alloc: Global, site: &mut S) -> u8
     ensures table { (ending : Ending) × (result ≡ status_of ending) × RanOver 65536 (2 ^ 40) (2 ^ 36) (S.disk site.old) (S.disk site.new) ending }
+    ensures faults { SiteFaultsBy result (S.disk site.old).beside (S.disk site.new).beside }
     ensures memory { result ≡ 5 → (S.disk site.new).beside ≡ (S.disk site.old).beside }
     ensures no_fault { result ≡ 6 → ⊥ }
     ensures no_disk { Untouched (S.disk site.old) (S.disk site.new) }
@@ -83,8 +83,7 @@ pub fn run<R: Threads + Sync, S: Site>(rt: &R, alloc: Global, words: &[String], 
     ensures table { length words.now ≡ 0 → (ending : Ending) × (result ≡ status_of ending) × RanOver 65536 (2 ^ 40) (2 ^ 36) (S.disk site.old) (S.disk site.new) ending }
 
     // causes
-    ensures hear { result ≡ 3 → HearRose (S.disk site.old).beside (S.disk site.new).beside }
-    ensures say { result ≡ 4 → SayRose (S.disk site.old).beside (S.disk site.new).beside }
+    ensures faults { SiteFaultsBy result (S.disk site.old).beside (S.disk site.new).beside }
     ensures memory { result ≡ 5 → (S.disk site.new).beside ≡ (S.disk site.old).beside }
     ensures no_fault { result ≡ 6 → ⊥ }
     ensures past { length words.now ≡ 0 → TellsPast (2 ^ 40) result (S.disk site.old).beside (S.disk site.new).beside }

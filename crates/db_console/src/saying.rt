@@ -1,6 +1,6 @@
 //! Saying replies.
 
-ghost use Rattle.std.specs.Prelude.{◌≡◌, ◌≤◌, ◌<◌, ◌+◌, OnOk, OnErr, IfErr, length, take, drop};
+ghost use Rattle.std.specs.Prelude.{false, ◌≡◌, ◌≤◌, ◌<◌, ◌+◌, OnOk, OnErr, IfErr, length, take, drop};
 ghost use Rattle.db_console.specs.Views.{Spoke, SpokeInPart};
 
 use ct_keep::Keeper;
@@ -17,7 +17,7 @@ pub enum Stop {
 
 /// Says all the bytes, by as many calls as it takes.
 fn say_all<K: Keeper>(keeper: &mut K, bytes: &[u8]) -> Result<(), Failed>
-    ensures all { OnOk result (Spoke bytes.now (K.view keeper.old) (K.view keeper.new)) }
+    ensures all { OnOk result (Spoke false bytes.now (K.view keeper.old) (K.view keeper.new)) }
     ensures part { OnErr result (SpokeInPart bytes.now (K.view keeper.old) (K.view keeper.new)) }
 {
     let mut at = 0;
@@ -29,7 +29,7 @@ fn say_all<K: Keeper>(keeper: &mut K, bytes: &[u8]) -> Result<(), Failed>
 
 /// Says a reply.
 pub fn say_reply<K: Keeper>(keeper: &mut K, reply: &[u8]) -> Result<(), Stop>
-    ensures all { OnOk result (Spoke reply.now (K.view keeper.old) (K.view keeper.new)) }
+    ensures all { OnOk result (Spoke false reply.now (K.view keeper.old) (K.view keeper.new)) }
     ensures part { IfErr result (λ stop. (stop ≡ Stop.Say) × SpokeInPart reply.now (K.view keeper.old) (K.view keeper.new)) }
 {
     match say_all(keeper, reply) {

@@ -1,11 +1,11 @@
 //! The serving loop.
 
-ghost use Rattle.std.specs.Prelude.{◌≡◌, ◌≤◌, ◌<◌, ◌∷◌, [], ℕ, List, true, false, Ok, IfOk, OnOk, OnErr, IfErr, length, take};
+ghost use Rattle.std.specs.Prelude.{◌≡◌, ◌≤◌, ◌<◌, ◌∷◌, [], ℕ, List, true, false, Ok, IfOk, OnOk, OnErr, IfErr, is_err, length, take};
 ghost use Rattle.ct_base.specs.Told.{took};
 ghost use Rattle.st_cut.specs.Seen.{ShowsText};
-ghost use Rattle.db_engine.specs.States.{TakesAll};
+ghost use Rattle.db_state.specs.States.{TakesAll};
 ghost use Rattle.db_engine.specs.Runs.{statement, rest_piece};
-ghost use Rattle.db_console.specs.Views.{Heard, EndsHere, HearRose, Answers, Stops, Serves, Breaks, Finishes};
+ghost use Rattle.db_console.specs.Views.{Heard, EndsHere, Answers, Stops, Serves, Breaks, Finishes};
 ghost use Rattle.db_console.specs.Table.{Closes, Outcome};
 
 use crate::endings::Ending;
@@ -130,23 +130,23 @@ fn close<R: Threads + Sync, K: Keeper>(
 }
 
 /// Hears at most `room` bytes.
+#[tactic(auto, using(crate::proofs::Lasting::heard_by))]
 fn hear_some<K: Keeper>(keeper: &mut K, chunk: &mut [u8], room: usize) -> Result<usize, Failed>
     requires some { 0 < room }
     requires within { room ≤ length chunk.old }
     ensures bound { IfOk result (λ count. count ≤ room) }
     ensures sized { IfOk result (λ count. length (take count chunk.new) ≡ count) }
-    ensures heard { Heard (took result chunk.new) (K.view keeper.old) (K.view keeper.new) }
+    ensures heard { Heard (is_err result) (took result chunk.new) (K.view keeper.old) (K.view keeper.new) }
     ensures end { result ≡ Ok 0 → EndsHere (K.view keeper.new).beside }
-    ensures failed { OnErr result (HearRose (K.view keeper.old).beside (K.view keeper.new).beside) }
 {
     keeper.hear(&mut chunk[..room])
 }
 
 /// Hears one byte past those that a script may have, and answers whether there is one.
 fn hear_past<K: Keeper>(keeper: &mut K) -> Result<bool, Failed>
-    ensures end { result ≡ Ok false → Heard [] (K.view keeper.old) (K.view keeper.new) × EndsHere (K.view keeper.new).beside }
-    ensures more { result ≡ Ok true → (byte : ℕ) × Heard (byte ∷ []) (K.view keeper.old) (K.view keeper.new) }
-    ensures failed { OnErr result (Heard [] (K.view keeper.old) (K.view keeper.new) × HearRose (K.view keeper.old).beside (K.view keeper.new).beside) }
+    ensures end { result ≡ Ok false → Heard false [] (K.view keeper.old) (K.view keeper.new) × EndsHere (K.view keeper.new).beside }
+    ensures more { result ≡ Ok true → (byte : ℕ) × Heard false (byte ∷ []) (K.view keeper.old) (K.view keeper.new) }
+    ensures failed { OnErr result (Heard true [] (K.view keeper.old) (K.view keeper.new)) }
 {
     let mut byte = [0u8; 1];
     let count = keeper.hear(&mut byte)?;

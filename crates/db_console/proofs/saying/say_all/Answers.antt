@@ -9,7 +9,7 @@ loop-at-init g c = record { within = omega arith; spoke = spoke_none _ }
 pub loop-at-preserved : goal.loop-at-preserved
 loop-at-preserved g c = record {
   within = within_more _ _ _ c.loop-at.invariant.within c.in_ok-at.ensures.bound;
-  spoke = spoke_more _ _ _ _ _ _ c.loop-at.invariant.spoke c.in_ok-at.ensures.says c.in_ok-at.ensures.cause.later;
+  spoke = spoke_more _ _ _ _ _ _ c.loop-at.invariant.spoke c.in_ok-at.ensures.says c.in_ok-at.ensures.cause.passed;
 }
 
 pub returns-clause-all : goal.returns-clause-all
@@ -17,4 +17,4 @@ returns-clause-all g c = spoke_whole _ _ _ _ c.loop-at-test.false c.loop-at.inva
 
 pub returns-in_err-at-clause-part : goal.returns-in_err-at-clause-part
 returns-in_err-at-clause-part g c = let p = err_from_is_err_and c.from_residual.result c.from_residual.ensures.1 in rw p.1
-    (spoke_part _ _ _ _ _ c.loop-at-test.true c.loop-at.invariant.spoke c.in_err-at.ensures.says c.in_err-at.ensures.cause.later c.in_err-at.ensures.cause.failed c.in_err-at.ensures.passes)
+    (spoke_part _ _ _ _ _ c.loop-at-test.true c.loop-at.invariant.spoke c.in_err-at.ensures.says c.in_err-at.ensures.cause.failed c.in_err-at.ensures.passes)

@@ -11,7 +11,7 @@ returns-in_default-clause-outcome g c = out_memory c.args.limit c.args.most _ c.
 
 pub returns-in_default-hear_some-clause-outcome : goal.returns-in_default-hear_some-clause-outcome
 returns-in_default-hear_some-clause-outcome g c =
-    out_fault _ _ _ _ _ _ _ (g.met.K.Keeper.settled c.hear_some.new.keeper) c.loop-taken.invariant.going c.loop-taken.invariant.within c.in_default-hear_some.ensures.heard c.in_default-hear_some.ensures.failed
+    out_fault _ _ _ _ _ _ _ (g.met.K.Keeper.settled c.hear_some.new.keeper) c.loop-taken.invariant.going c.loop-taken.invariant.within c.in_default-hear_some.ensures.heard
 
 pub returns-then-count-eq0-clause-outcome : goal.returns-then-count-eq0-clause-outcome
 returns-then-count-eq0-clause-outcome g c =
@@ -21,18 +21,18 @@ returns-then-count-eq0-clause-outcome g c =
 pub returns-in-Err-clause-outcome : goal.returns-in-Err-clause-outcome
 returns-in-Err-clause-outcome g c =
     let b : c.in-Ok-hear_some.count ≤ c.args.most - c.loop-taken.taken = omega (arith, c.in-Ok-hear_some.ensures.bound, c.min-room.ensures) in
-    out_broke c.in-Err.stop _ _ _ _ _ _ _ _ _ (going_heard _ _ _ _ _ _ _ c.loop-taken.invariant.going c.in-Ok-hear_some.ensures.heard)
+    out_broke c.in-Err.stop _ _ _ _ _ _ _ _ _ (going_heard false _ _ _ _ _ _ _ c.loop-taken.invariant.going c.in-Ok-hear_some.ensures.heard)
     (rw c.in-Ok-hear_some.ensures.sized (omega (arith, b, c.loop-taken-test.true, c.loop-taken.invariant.within))) false (λ e. absurd (false≢true e)) c.in-Err.ensures.broke c.ending.ensures
 
 pub loop-taken-preserved : goal.loop-taken-preserved
 loop-taken-preserved g c = record {
   within = omega (arith, c.in-Ok-hear_some.ensures.bound, c.min-room.ensures, c.loop-taken-test.true);
-  going = going_on _ _ _ _ _ _ _ _ _ (going_heard _ _ _ _ _ _ _ c.loop-taken.invariant.going c.in-Ok-hear_some.ensures.heard) c.in-Ok-hear_some.ensures.sized c.in_default-serve_bytes.ensures.served;
+  going = going_on _ _ _ _ _ _ _ _ _ (going_heard false _ _ _ _ _ _ _ c.loop-taken.invariant.going c.in-Ok-hear_some.ensures.heard) c.in-Ok-hear_some.ensures.sized c.in_default-serve_bytes.ensures.served;
 }
 
 pub returns-in_default-hear_past-clause-outcome : goal.returns-in_default-hear_past-clause-outcome
 returns-in_default-hear_past-clause-outcome g c =
-    out_fault _ _ _ _ _ _ _ (g.met.K.Keeper.settled c.hear_past.new.keeper) c.loop-taken.invariant.going c.loop-taken.invariant.within c.in_default-hear_past.ensures.failed.0 c.in_default-hear_past.ensures.failed.1
+    out_fault _ _ _ _ _ _ _ (g.met.K.Keeper.settled c.hear_past.new.keeper) c.loop-taken.invariant.going c.loop-taken.invariant.within c.in_default-hear_past.ensures.failed
 
 pub returns-then-is_more-clause-outcome : goal.returns-then-is_more-clause-outcome
 returns-then-is_more-clause-outcome g c =

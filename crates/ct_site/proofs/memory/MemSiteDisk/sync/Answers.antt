@@ -1,9 +1,10 @@
-use Rattle.std.proofs.Common.{◌≡◌, ◌++◌, ◌∷◌, [], List, Some, Ok, sym, ap, subst, ◌∙◌}
+use Rattle.std.proofs.Common.{◌≡◌, ◌++◌, ◌∷◌, [], List, Some, Ok, sym, ap, subst, ◌∙◌, length, arith, length-append}
 use Rattle.ct_site.specs.Disks.{Leaves, Works}
-use Rattle.ct_site.specs.Histories.{Change, Synced, DiskState, begun, after, after-push}
+use Rattle.ct_site.specs.Histories.{Change, Synced, DiskState, begun, after, after-push, said_by}
 use Rattle.ct_site.specs.Crashes.{AreWithin, within_after}
 use Rattle.ct_site.specs.Logs.{LogState}
-use Rattle.ct_site.specs.MemoryFields.{with_log}
+use Rattle.ct_site.specs.Places.{AreUpTo, up_to_log}
+use Rattle.ct_site.specs.MemoryFields.{with_log, with_log-push}
 use Rattle.ct_site.specs.Memory.{MemState, view_of, image_of, synced}
 use Rattle.ct_site.specs.Changing.{sync_works, sync_leaves, sync_crash, sync_image, sync_durable}
 use Rattle.ct_site.proofs.memory.MemSiteDisk.sync.Goals as goal
@@ -12,6 +13,7 @@ use Rattle.ct_site.proofs.memory.MemSiteDisk.sync.Goals.{After-sync}
 new_is : (c : After-sync) → with_log c.self-2.inside c.sync.new.self ≡ synced c.args.self.now
 new_is c =
     ap (with_log c.self-2.inside) c.sync.ensures
+    ∙ with_log-push c.self-2.inside Synced c.self-2.inside.log.written_bytes c.self-2.invariant.heard
     ∙ ap (λ (x : MemState). record x { log = x.log ++ Synced ∷ [] }) (c.self-2.view_is ∙ c.count_disk.ensures.counted)
 
 pub invariant_of-self-2 : goal.invariant_of-self-2
@@ -27,6 +29,9 @@ invariant_of-self-2 c =
       within = subst (AreWithin s.first.items) (sym log) (within_after s.first.items s.log.changes Synced c.self-2.invariant.within tt);
       image_room = rw rooms c.self-2.invariant.image_room;
       image_memory = rw rooms c.self-2.invariant.image_memory;
+      heard = subst (λ (cs : List Change). AreUpTo (length (said_by cs)) s.hearings.items) (sym log) (up_to_log s.log.changes Synced s.hearings.items c.self-2.invariant.heard);
+      heard_few = omega (arith, ap length log, length-append s.log.changes (Synced ∷ []), c.self-2.invariant.heard_few);
+      heard_memory = rw rooms c.self-2.invariant.heard_memory;
     }
 
 pub returns-clause-durable : goal.returns-clause-durable
@@ -43,3 +48,6 @@ returns-clause-leaves c = subst (λ (s : MemState). Leaves (view_of c.args.self.
 
 pub returns-clause-works : goal.returns-clause-works
 returns-clause-works c = subst (λ (s : MemState). Works {T = Unit {0}} (view_of c.args.self.now) (view_of s) (Ok tt)) (sym (new_is c)) (sync_works c.args.self.now)
+
+pub returns-clause-done : goal.returns-clause-done
+returns-clause-done c = new_is c

@@ -1,14 +1,15 @@
-use Rattle.std.proofs.Common.{◌≡◌, ◌≤◌, ◌+◌, ◌++◌, ◌∷◌, [], List, ℕ, Some, Ok, length, refl, sym, ap, subst, ◌∙◌, arith}
+use Rattle.std.proofs.Common.{◌≡◌, ◌≤◌, ◌+◌, ◌++◌, ◌∷◌, [], List, ℕ, Some, Ok, length, refl, sym, ap, subst, ◌∙◌, arith, length-append}
 use Rattle.std.proofs.lemmas.Bool.{ltb-false}
 use Rattle.ct_site.specs.Images.{written, Torn}
 use Rattle.ct_site.specs.Pieces.{length-written}
 use Rattle.ct_site.specs.Lengths.{Grows}
 use Rattle.ct_site.specs.laws.Lengths.{grows_written}
 use Rattle.ct_site.specs.Disks.{Leaves, Works, Follows}
-use Rattle.ct_site.specs.Histories.{Change, Wrote, DiskState, begun, after, after-push}
+use Rattle.ct_site.specs.Histories.{Change, Wrote, DiskState, begun, after, after-push, said_by}
 use Rattle.ct_site.specs.Crashes.{AreWithin, within_after}
 use Rattle.ct_site.specs.Logs.{LogState}
-use Rattle.ct_site.specs.MemoryFields.{state_of, with_log}
+use Rattle.ct_site.specs.Places.{AreUpTo, up_to_log}
+use Rattle.ct_site.specs.MemoryFields.{state_of, with_log, with_log-push}
 use Rattle.ct_site.specs.Memory.{MemState, view_of, image_of, wrote}
 use Rattle.ct_site.specs.Changing.{write_works, write_leaves, write_crash, write_image}
 use Rattle.ct_site.proofs.Growing.{passes_none}
@@ -18,6 +19,7 @@ use Rattle.ct_site.proofs.memory.MemSiteDisk.write_at.Goals.{After-write}
 new_is : (c : After-write) → with_log c.self-2.inside c.write.new.self ≡ wrote c.args.self.now c.args.at c.args.bytes.now
 new_is c =
     ap (with_log c.self-2.inside) c.write.ensures
+    ∙ with_log-push c.self-2.inside (Wrote c.args.at c.args.bytes.now) (c.self-2.inside.log.written_bytes + length c.args.bytes.now) c.self-2.invariant.heard
     ∙ ap (λ (x : MemState). record x { log = x.log ++ Wrote c.args.at c.args.bytes.now ∷ []; written_bytes = x.written_bytes + length c.args.bytes.now }) (c.self-2.view_is ∙ c.count_disk.ensures.counted)
 
 pub invariant_of-self-2 : goal.invariant_of-self-2
@@ -41,6 +43,9 @@ invariant_of-self-2 c =
       within = subst (AreWithin s.first.items) (sym log) (within_after s.first.items s.log.changes (Wrote c.args.at c.args.bytes.now) c.self-2.invariant.within (begins, tt));
       image_room = omega (arith, long, was, now, rooms, counted, fits, c.self-2.invariant.image_room);
       image_memory = omega (arith, rooms, c.overwrite.ensures.capacity, c.self-2.invariant.image_memory);
+      heard = subst (λ (cs : List Change). AreUpTo (length (said_by cs)) s.hearings.items) (sym log) (up_to_log s.log.changes (Wrote c.args.at c.args.bytes.now) s.hearings.items c.self-2.invariant.heard);
+      heard_few = omega (arith, ap length log, length-append s.log.changes (Wrote c.args.at c.args.bytes.now ∷ []), c.self-2.invariant.heard_few);
+      heard_memory = rw (ap (λ (l : LogState). l.rooms) c.write.ensures) c.self-2.invariant.heard_memory;
     }
 
 pub returns-clause-written : goal.returns-clause-written
@@ -62,3 +67,6 @@ returns-clause-grows c =
     subst (λ (s : MemState). Grows (c.args.at + length c.args.bytes.now) (view_of c.args.self.now) (view_of s)) (sym (new_is c))
     (grows_written c.args.at c.args.bytes.now (view_of c.args.self.now) (view_of (wrote c.args.self.now c.args.at c.args.bytes.now)) (record { least = c.requires.within })
     (ap Some (write_image c.args.self.now c.args.at c.args.bytes.now)))
+
+pub returns-clause-done : goal.returns-clause-done
+returns-clause-done c = new_is c
