@@ -1,9 +1,9 @@
 //! The real site over a runtime of the tests' own, whose devices do at each call as little as they may.
 
 use crate::{Disk, RealSite, Site};
+use std::alloc::Allocator;
 use std::cell::Cell;
 use std::fmt::Display;
-use std::alloc::Allocator;
 use std::fs::{File, Metadata, OpenFile, OpenOptions};
 use std::io::{BufRead, ErrorKind, Read, Seek, SeekFrom, Write};
 use std::rt::Files;

@@ -16,4 +16,4 @@ settled_same old new image same settled = record { told = same.image ∙ settled
 
 -- what holds of a call that went well holds whatever it gave
 pub works_as : {T U : Type 0} (old new : DiskView) (x : T) (y : U) → Works old new (Ok x) → Works old new (Ok y)
-works_as old new x y works = record { beside = works.beside; untold = works.untold; kept = works.kept; cause = record { later = works.cause.later; failed = tt } }
+works_as old new x y works = record { beside = works.beside; untold = works.untold; kept = works.kept; cause = record { later = works.cause.later; passed = works.cause.passed; failed = tt } }

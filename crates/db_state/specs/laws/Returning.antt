@@ -20,7 +20,7 @@ kept_full old new kept = record { ready = kept.ready; beside = kept.beside; fixe
 
 -- reads that ended for want of memory or of room are reads
 pub reads_memory : (old new : KeeperView) → Reads old new (Some Memory) → Reads old new None
-reads_memory old new reads = record { not_full = λ e. cc; kept = kept_memory old new reads.kept; content = reads.content; time = reads.time; now = reads.now; fulls = reads.fulls }
+reads_memory old new reads = record { not_full = λ e. cc; kept = kept_memory old new reads.kept; content = reads.content; time = reads.time; now = reads.now; fulls = reads.fulls; commits = reads.commits }
 
 -- they leave the content
 pub stays_read : (old new : KeeperView) → IsSettled old → Reads old new None → ContentStays old new
