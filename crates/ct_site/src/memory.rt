@@ -59,8 +59,8 @@ impl MemSite {
     ghost use Rattle.ct_site.specs.Memory.{fresh, image_of, said_of, view_of, change_passes, say_passes, write_passes, hear_fails, say_faulty, look_fails, hear_counted, say_counted, disk_counted};
     ghost use Rattle.ct_site.specs.Crashes.{crashed};
 
-    /// A site with this script and this image, on which no call was made. It takes all the memory that its rooms need, and
-    /// that of the image once more.
+    /// A site with this script and this image, on which no call was made. It takes all the memory that its rooms need, that of
+    /// the image once more, and for the calls of `hear` 16 bytes for each byte of the script and each call that there is room for.
     pub fn new(
         alloc: Global,
         script: Vec<u8>,

@@ -37,7 +37,7 @@ impl Model for QuietSite {
 impl QuietSite {
     ghost use Rattle.ct_site.specs.Memory.{fresh, image_of, said_of, no_faults};
 
-    /// A site with this script and this image, on which no call was made. It takes all the memory that its rooms need.
+    /// A site with this script and this image, on which no call was made. It takes the memory that `MemSite` takes.
     pub fn new(
         alloc: Global,
         script: Vec<u8>,

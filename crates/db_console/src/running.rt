@@ -2,7 +2,7 @@
 
 ghost use Rattle.std.specs.Prelude.{◌≡◌, ◌^◌, ◌<◌, ◌↔◌, None, length};
 ghost use Rattle.db_state.specs.States.{TakesAll};
-ghost use Rattle.db_console.specs.Views.{HearRose, SayRose, DiskRose};
+ghost use Rattle.db_console.specs.Views.{DiskRose};
 ghost use Rattle.db_console.specs.Table.{Completes, FaultsBy, Outcome, RanOver, SiteFaultsBy, TellsPast, Untouched, status_of};
 ghost use Rattle.db_console.specs.declared.endings.Ending.{Ending};
 

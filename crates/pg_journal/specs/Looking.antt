@@ -1,6 +1,7 @@
 -- What is found where an image is looked at.
 use Rattle.std.specs.Prelude.{◌≡◌, ◌≢◌, ℕ, ◌+◌, ◌*◌, ◌≤◌, ◌<◌, ◌⊎◌, Bool, true, false, List, [], ◌∷◌, refl, length, take, drop, Option, Some, None, Result, Ok, Err}
 use Rattle.std.proofs.Common.{◌∙◌, arith}
+use Rattle.ct_site.specs.FaultCounts.{rose_raised}
 use Rattle.ct_site.specs.declared.outside.Failed.{Failed}
 use Rattle.ct_base.specs.Causes.{Rose}
 use Rattle.ct_base.specs.Moments.{Grows}
@@ -62,7 +63,7 @@ loads_then old mid new x result first second = record {
 
 -- a call of the disk failed
 pub loads_failed : {T U : Type 0} (old new : DiskView) (fault : Failed) (result : Result U LoadFault) → Works {T = T} old new (Err fault) → Loads old new result
-loads_failed old new fault result works = record { beside = works.beside; untold = works.untold; kept = works.kept; later = works.cause.later; cause = λ is. works.cause.failed }
+loads_failed old new fault result works = record { beside = works.beside; untold = works.untold; kept = works.kept; later = works.cause.later; cause = λ is. rose_raised old.faults new.faults works.cause.failed }
 
 -- all went well with the disk
 pub loads_well : {T U : Type 0} (old new : DiskView) (x : T) (result : Result U LoadFault) → (result ≡ Err Disk → ⊥) → Works old new (Ok x) → Loads old new result
