@@ -1,12 +1,12 @@
 -- What is said to a text that isn't too long.
-use Rattle.std.specs.Prelude.{ℕ, ◌≡◌, true, false, List, [], Option, Some, Result, Ok, Err}
+use Rattle.std.specs.Prelude.{ℕ, ◌≡◌, true, false, List, [], Option, Some, Result, Ok, Err, codes, refl}
 use Rattle.std.specs.Option.{MatchOption}
 use denote.Ref.{Bor}
 use Rattle.ct_keep.specs.Content.{Content}
 use Rattle.ct_keep.specs.declared.keepers.KeepFault.TheVariants.{Disk}
 use Rattle.ct_keep.specs.KeeperViews.{KeeperView}
 use Rattle.st_parse.specs.Grammar.{Read}
-use Rattle.db_cond.specs.Faults.{not_understood, statement_too_long, out_of_memory}
+use Rattle.db_cond.specs.Faults.{not_understood, statement_too_long, store_full, out_of_memory}
 use Rattle.db_state.specs.States.{State}
 use Rattle.db_engine.specs.Steps.{effect_of, is_text}
 use Rattle.db_engine.specs.Runs.{Answer, Full, answered, can_fill}
@@ -15,13 +15,14 @@ use Rattle.db_engine.specs.Executing.{fault_for}
 use Rattle.db_engine.specs.declared.replies.Stop.{Stop}
 use Rattle.db_engine.specs.declared.replies.Stop.TheVariants.{Disk as DiskStop}
 use Rattle.db_console.specs.declared.responses.Response.{Response}
-use Rattle.db_console.specs.declared.responses.Response.TheVariants.{Nothing, Lines, NotUnderstood, TooLong, NoMemory}
+use Rattle.db_console.specs.declared.responses.Response.TheVariants.{Nothing, Lines, NotUnderstood, TooLong, Full as StoreFull, NoMemory}
 
 abbrev pub bytes_of : Response → List ℕ
 bytes_of Nothing = []
 bytes_of (Lines lines) = lines
 bytes_of NotUnderstood = not_understood
 bytes_of TooLong = statement_too_long
+bytes_of StoreFull = store_full
 bytes_of NoMemory = out_of_memory
 
 -- the bytes as a text, or nothing where they are none
@@ -40,3 +41,10 @@ pub record HasReply (m : State) (r : Read) (c : Content) (old new : KeeperView) 
 abbrev pub Responds : State → Read → Content → KeeperView → KeeperView → Result Response Stop → Type 0
 Responds m r c old new (Ok response) = HasReply m r c old new (bytes_of response)
 Responds m r c old new (Err DiskStop) = Moves m (effect_of m r) c old new (Some Disk)
+
+-- computed examples: what is said where the store is full, and to nothing
+full_line : bytes_of StoreFull ≡ codes "E80: store full\n"
+full_line = refl
+
+nothing_line : bytes_of Nothing ≡ []
+nothing_line = refl

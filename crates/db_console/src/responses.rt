@@ -17,7 +17,7 @@ ghost use Rattle.db_console.specs.Responses.{bytes_of, IsTextOf, Responds};
 
 use ct_base::Bytes;
 use ct_keep::Keeper;
-use db_cond::{not_understood, out_of_memory, statement_too_long};
+use db_cond::{not_understood, out_of_memory, statement_too_long, store_full};
 use db_engine::{Reply, Stop, execute};
 use st_parse::{StatementFault, is_blank, parse};
 use std::alloc::Global;
@@ -32,6 +32,7 @@ pub enum Response {
     Lines(Bytes),
     NotUnderstood,
     TooLong,
+    Full,
     NoMemory,
 }
 
@@ -44,6 +45,7 @@ impl Response {
             Response::Lines(lines) => lines.as_slice(),
             Response::NotUnderstood => not_understood(),
             Response::TooLong => statement_too_long(),
+            Response::Full => store_full(),
             Response::NoMemory => out_of_memory(),
         }
     }
@@ -82,6 +84,7 @@ fn respond_to_text<R: Threads + Sync, K: Keeper>(
         Ok(None) => Ok(Response::Nothing),
         Ok(Some(statement)) => match execute(rt, alloc, degree, keeper, &statement) {
             Ok(Reply::Text(lines)) => Ok(Response::Lines(lines)),
+            Ok(Reply::Full) => Ok(Response::Full),
             Ok(Reply::NoMemory) => Ok(Response::NoMemory),
             Err(stop) => Err(stop),
         },

@@ -2,7 +2,7 @@
 #![tactic(auto, using(ct_keep::specs::Composing::reads_on, ct_keep::specs::Composing::reads_short))]
 
 ghost use Rattle.std.specs.Prelude.{ℕ, ◌≡◌, ◌&&◌, List, IfOk, Some, None, Err, true, false, not, codes, bytes_eq};
-ghost use Rattle.ct_keep.specs.KeeperViews.{Kept, OnlyReads, Reads};
+ghost use Rattle.ct_keep.specs.KeeperViews.{AtMostOneCommit, Kept, OnlyReads, Reads};
 ghost use Rattle.db_cond.specs.Faults.{NotUnderstood, refusal_line};
 ghost use Rattle.db_state.specs.Effects.{reply_by, state_by};
 ghost use Rattle.db_state.specs.States.{Sees, State, TakesAll};
@@ -207,6 +207,7 @@ pub fn execute<R: Threads + Sync, K: Keeper>(
     requires ready { (K.view keeper.old).ready }
     requires takes { TakesAll (K.view keeper.old).fixed.well }
     ensures kept { Kept (K.view keeper.old) (K.view keeper.new) (fault_of_stop result) }
+    ensures once { AtMostOneCommit (K.view keeper.old).counts (K.view keeper.new).counts }
     ensures executes { ExecutesStatement statement.now (K.view keeper.old) (K.view keeper.new) result }
     ensures reads { done_line statement.now ≡ None → Reads (K.view keeper.old) (K.view keeper.new) (fault_of_stop result) }
     ensures tells { (done : List ℕ) → done_line statement.now ≡ Some done → Tells done (K.view keeper.old) (K.view keeper.new) result }

@@ -4,7 +4,7 @@ use Rattle.std.specs.declared.alloc.Global.{Global}
 use Rattle.ct_keep.specs.Content.{Content, after}
 use Rattle.ct_keep.specs.declared.keepers.KeepFault.{KeepFault}
 use Rattle.ct_keep.specs.declared.keepers.KeepFault.TheVariants.{Memory, Disk, Full as NoRoom}
-use Rattle.ct_keep.specs.KeeperViews.{KeeperView, Kept, Reads, Goes, IsSettled, fault_of, counted, is_full}
+use Rattle.ct_keep.specs.KeeperViews.{AtMostOneCommit, KeeperView, Kept, Reads, Goes, IsSettled, fault_of, counted, is_full}
 use Rattle.db_cond.specs.Faults.{Refusal, WrongValues, refusal_line}
 use Rattle.db_cond.specs.declared.faults.Fault.TheVariants.{WrongValues as WrongValuesFault}
 use Rattle.db_state.specs.States.{State, Stands}
@@ -94,6 +94,7 @@ CommitGives batch reply old new result =
 pub record Serves (effect : State → Effect) (line : Option (List ℕ)) (old new : KeeperView) (result : Result (Vec ℕ Global) KeepFault) : Type 0 where
   pub kept : Kept old new (fault_of result)
   pub fulls : new.counts.fulls ≡ counted (is_full (fault_of result)) old.counts.fulls
+  pub once : AtMostOneCommit old.counts new.counts
   pub gives : IsSettled old → (m : State) (c : Content) → old.content ≡ Some c → Stands c m → Gives m (effect m) c old new result
   pub tells : IsSettled old → ReturnsBy line old new result
 

@@ -4,7 +4,7 @@
 ghost use Rattle.std.specs.Prelude.{◌≡◌, Some, IfOk, true};
 ghost use Rattle.std.specs.List.{list_all};
 ghost use Rattle.ct_keep.specs.Content.{Content, after};
-ghost use Rattle.ct_keep.specs.KeeperViews.{Kept, counted, fault_of, is_full};
+ghost use Rattle.ct_keep.specs.KeeperViews.{AtMostOneCommit, Kept, counted, fault_of, is_full};
 ghost use Rattle.ct_keep.specs.Spoken.{spoken};
 ghost use Rattle.db_state.specs.States.{State, Stands, TakesAll};
 ghost use Rattle.db_state.specs.Effects.{Does};
@@ -58,6 +58,7 @@ pub(crate) fn commit<K: Keeper>(
     requires takes { TakesAll (K.view keeper.old).fixed.well }
     ensures kept { Kept (K.view keeper.old) (K.view keeper.new) (fault_of result) }
     ensures fulls { (K.view keeper.new).counts.fulls ≡ counted (is_full (fault_of result)) (K.view keeper.old).counts.fulls }
+    ensures once { AtMostOneCommit (K.view keeper.old).counts (K.view keeper.new).counts }
     ensures gives { CommitGives batch reply.items (K.view keeper.old) (K.view keeper.new) result }
     ensures tells { Returns reply.items (K.view keeper.old) (K.view keeper.new) result }
 {

@@ -1,13 +1,13 @@
 -- The ways out of the function of a statement: each is proved once, by one of these.
-use Rattle.std.proofs.Common.{◌≡◌, ℕ, true, List, Option, Some, None, Result, Ok, Err, Vec, sym, ap, subst, ◌∙◌, inr}
+use Rattle.std.proofs.Common.{◌≡◌, ℕ, true, List, Option, Some, None, Result, Ok, Err, Vec, sym, ap, subst, ◌∙◌, inr, inl}
 use Rattle.std.specs.Result.{IfOk}
 use Rattle.std.specs.declared.alloc.Global.{Global}
 use Rattle.ct_keep.specs.declared.keepers.KeepFault.{KeepFault}
 use Rattle.ct_keep.specs.declared.keepers.KeepFault.TheVariants.{Memory}
 use Rattle.ct_keep.specs.Content.{Content, after}
 use Rattle.ct_base.specs.Told.{IsSaid}
-use Rattle.ct_keep.specs.KeeperViews.{KeeperView, Kept, Reads, IsSettled, fault_of, counted, is_full}
-use Rattle.ct_keep.specs.Composing.{kept_then, reads_hold, reads_on, reads_short}
+use Rattle.ct_keep.specs.KeeperViews.{AtMostOneCommit, KeeperView, Kept, Reads, IsSettled, fault_of, counted, is_full}
+use Rattle.ct_keep.specs.Composing.{commits_read, kept_then, reads_hold, reads_on, reads_short}
 use Rattle.db_cond.specs.Faults.{Refusal, refusal_line}
 use Rattle.db_state.specs.States.{State, Stands}
 use Rattle.db_state.specs.Effects.{Effect, Refused, Does, state_by, reply_by}
@@ -34,6 +34,7 @@ module _ (effect : State → Effect) (line : Option (List ℕ)) (old new : Keepe
   serves_err fault reads = record {
     kept = reads.kept;
     fulls = reads_fulls old new (Err fault) reads;
+    once = commits_read old new (Some fault) reads;
     gives = λ settled m c holds stands. gives_failed m (effect m) c old new fault settled holds stands reads;
     tells = λ settled. failed_by line fault settled reads;
   }
@@ -55,6 +56,7 @@ module _ (effect : State → Effect) (line : Option (List ℕ)) (old new : Keepe
   serves_refused refusal reply reads is says = record {
     kept = reads.kept;
     fulls = reads.fulls;
+    once = commits_read old new None reads;
     gives = λ settled m c holds stands. gives_line m (effect m) refusal c old new reply settled holds stands reads (is m c holds stands) says;
     tells = λ settled. refused_by line refusal reply reads says;
   }
@@ -65,6 +67,7 @@ pub serves_look : (effect : State → Effect) (old new : KeeperView) (result : R
 serves_look effect old new result reads reply stays = record {
   kept = reads.kept;
   fulls = reads_fulls old new result reads;
+  once = commits_read old new (fault_of result) reads;
   gives = λ settled m c holds stands. gives_read m (effect m) c old new result settled holds stands reads (reply m c holds stands) (stays m);
   tells = λ settled. reads;
 }
@@ -82,10 +85,15 @@ returns_by_then : (line : Option (List ℕ)) (old mid new : KeeperView) (result 
 returns_by_then None old mid new result reads looks = reads_on old mid new (fault_of result) reads looks
 returns_by_then (Some done) old mid new result reads returns = returns_then done old mid new result reads returns
 
+once_then : (old mid new : KeeperView) → Reads old mid None → AtMostOneCommit mid.counts new.counts → AtMostOneCommit old.counts new.counts
+once_then old mid new reads (inl none) = inl (none ∙ reads.commits)
+once_then old mid new reads (inr one) = inr (one ∙ ap (counted true) reads.commits)
+
 pub serves_then : (effect : State → Effect) (line : Option (List ℕ)) (old mid new : KeeperView) (result : Result (Vec ℕ Global) KeepFault) → Reads old mid None → Serves effect line mid new result → Serves effect line old new result
 serves_then effect line old mid new result reads serves = record {
   kept = kept_then old mid new (fault_of result) reads.kept serves.kept;
   fulls = serves.fulls ∙ ap (counted (is_full (fault_of result))) reads.fulls;
+  once = once_then old mid new reads serves.once;
   gives = λ settled m c holds stands. gives_then m (effect m) c old mid new result reads (serves.gives (settled_then old mid reads settled) m c (reads_hold old mid c reads holds) stands);
   tells = λ settled. returns_by_then line old mid new result reads (serves.tells (settled_then old mid reads settled));
 }
@@ -96,11 +104,12 @@ plan_then effect line old mid plan reads fits = record { made = λ m c holds sta
 
 -- the commit of a batch, by what is promised of it for every state
 pub serves_batch : (effect : State → Effect) (line : List ℕ) (batch : List (List ℕ × Option (List ℕ))) (reply : List ℕ) (old new : KeeperView) (result : Result (Vec ℕ Global) KeepFault) → reply ≡ line → IsPlanOf effect line old (Done batch)
-    → Kept old new (fault_of result) → new.counts.fulls ≡ counted (is_full (fault_of result)) old.counts.fulls
+    → Kept old new (fault_of result) → new.counts.fulls ≡ counted (is_full (fault_of result)) old.counts.fulls → AtMostOneCommit old.counts new.counts
     → ((m n : State) (c : Content) → old.content ≡ Some c → are_bounded batch ≡ true → Stands (after batch c) n → Gives m (Does n reply) c old new result) → Returns reply old new result → Serves effect (Some line) old new result
-serves_batch effect line batch reply old new result same fits kept fulls gives tells = record {
+serves_batch effect line batch reply old new result same fits kept fulls once gives tells = record {
   kept = kept;
   fulls = fulls;
+  once = once;
   gives = λ settled m c holds stands.
       let made = fits.made m c holds stands in
       gives_as m (effect m) (Does made.0 reply) c old new result (made.1 ∙ ap (Does made.0) (sym same)) (gives m made.0 c holds made.2 made.3);
@@ -112,6 +121,7 @@ pub serves_as : (effect effect' : State → Effect) (line line' : Option (List �
 serves_as effect effect' line line' old new result same is serves = record {
   kept = serves.kept;
   fulls = serves.fulls;
+  once = serves.once;
   gives = λ settled m c holds stands. gives_as m (effect' m) (effect m) c old new result (same m) (serves.gives settled m c holds stands);
   tells = λ settled. subst (λ (l : Option (List ℕ)). ReturnsBy l old new result) (sym is) (serves.tells settled);
 }

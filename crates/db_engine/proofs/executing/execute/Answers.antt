@@ -88,3 +88,17 @@ returns-in-Ok-clause-executes g c = λ m k holds stands. answers_step m _ _ k _ 
 pub returns-in-Err-Memory-clause-executes : goal.returns-in-Err-Memory-clause-executes
 returns-in-Err-Memory-clause-executes g c = λ m k holds stands.
     answers_memory m _ _ k _ _ (rw c.in-Err-Memory.field-0-is at (c.in-Err-Memory.ensures.serves.gives (g.met.K.Keeper.settled c.args.keeper.now c.requires.ready) m k holds stands))
+
+-- ---- how many commits it made
+
+pub returns-in-Ok-clause-once : goal.returns-in-Ok-clause-once
+returns-in-Ok-clause-once g c = c.in-Ok.ensures.serves.once
+
+pub returns-in-Err-Memory-clause-once : goal.returns-in-Err-Memory-clause-once
+returns-in-Err-Memory-clause-once g c = c.in-Err-Memory.ensures.serves.once
+
+pub returns-in-Err-Full-clause-once : goal.returns-in-Err-Full-clause-once
+returns-in-Err-Full-clause-once g c = c.in-Err-Full.ensures.serves.once
+
+pub returns-in-Err-Disk-clause-once : goal.returns-in-Err-Disk-clause-once
+returns-in-Err-Disk-clause-once g c = c.in-Err-Disk.ensures.serves.once

@@ -1,9 +1,10 @@
-use Rattle.std.proofs.Common.{◌≡◌, true, false, sym, ap, ◌∙◌}
+use Rattle.std.proofs.Common.{◌≡◌, true, false, sym, ap, ◌∙◌, inl, inr, refl}
 use Rattle.std.proofs.lemmas.Result.{err_from_is_err_and}
 use Rattle.ct_keep.specs.Content.{after}
 use Rattle.db_state.specs.Committing.{are_bounded}
 use Rattle.db_state.proofs.Committed.{well_bounded, bounded_spoken, gives_committed, gives_uncommitted}
 use Rattle.db_state.specs.laws.Returning.{stays_read, returns_uncommitted, returns_committed}
+use Rattle.ct_keep.specs.KeeperViews.{Counts}
 use Rattle.ct_keep.specs.Composing.{reads_none}
 use Rattle.db_state.proofs.committing.commit.Goals as goal
 
@@ -39,3 +40,14 @@ returns-in_err-commit-clause-tells g c =
 pub returns-clause-tells : goal.returns-clause-tells
 returns-clause-tells g c =
     returns_committed (g.K.Keeper.view c.args.keeper.now) (g.K.Keeper.view c.commit.new.self) (after c.args.batch) c.args.reply c.in_ok-commit.ensures.goes
+
+-- ---- how many commits it made
+
+pub returns-then-not-are_bounded-clause-once : goal.returns-then-not-are_bounded-clause-once
+returns-then-not-are_bounded-clause-once g c = inl refl
+
+pub returns-in_err-commit-clause-once : goal.returns-in_err-commit-clause-once
+returns-in_err-commit-clause-once g c = inr (ap (λ (n : Counts). n.commits) c.in_err-commit.ensures.counts)
+
+pub returns-clause-once : goal.returns-clause-once
+returns-clause-once g c = inr (ap (λ (n : Counts). n.commits) c.in_ok-commit.ensures.counts)
