@@ -14,6 +14,7 @@ use Rattle.db_cond.specs.Refused.{refusal_of}
 use Rattle.db_state.specs.States.{State}
 use Rattle.db_state.specs.Effects.{Effect, Refused, Does, refuse, refuse_by, with_found, Checks}
 use Rattle.db_change.specs.Inserting.{are_of_sorts, arranged, check_list, check_values, has_row, has_too_long, insert_into, insert_row, insert_values, is_beyond_range, key_in, most_rows, others_kept, row_created, taken_key, with_new_row, IsFreeRow}
+use Rattle.ct_base.specs.laws.Options.{no_value as gone}
 
 -- ---- how many rows
 
@@ -42,10 +43,6 @@ not_false false h = cc
 not_taken : (taken : Bool) (r : ℤ) → taken_key taken (Some r) ≡ None → taken ≡ false
 not_taken true r h = cc
 not_taken false r h = refl
-
-gone : {X : Type 0} (o : Option X) → is_some o ≡ false → o ≡ None
-gone None h = refl
-gone (Some x) h = cc
 
 -- ---- the values
 
@@ -86,14 +83,6 @@ module _ (m : State) (t : List ℕ) (x : Table) (values : List Operand) (taken m
         }
 
 -- ---- the table, and the list of columns
-
-pub no_table : (o : Option Table) → None ≡ option_map (λ (x : Table). x.columns) o → o ≡ None
-no_table None h = refl
-no_table (Some x) h = cc
-
-pub some_table : (o : Option Table) (columns : List Column) → Some columns ≡ option_map (λ (x : Table). x.columns) o → (x : Table) × (o ≡ Some x) × (x.columns ≡ columns)
-some_table None columns h = cc
-some_table (Some x) columns h = (x, refl, cc)
 
 module _ (m : State) (t : List ℕ) (names : Option (List (List ℕ))) (values : List Operand) where
   pub into_none : get m.tables t ≡ None → insert_into m t names values ≡ Refused (UnknownName t)

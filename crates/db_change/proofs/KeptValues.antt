@@ -19,6 +19,7 @@ use Rattle.tb_table.specs.Tables.{Table, numbers_of, texts_from, texts_of}
 use Rattle.ct_base.specs.Limits.{text_limit}
 use Rattle.tb_table.specs.Rules.{IsOfSort as FitsSort, FitColumns, others}
 use Rattle.db_change.specs.Inserting.{is_of_sort, are_of_sorts, is_too_long, has_too_long, is_beyond_range, kept_value, number_value, text_value, IsNumberKept, IsTextKept, behind_key, others_kept, IsFreeRow}
+use Rattle.std.proofs.lemmas.Bool.{or_parts as or_false}
 
 -- ---- numbers
 
@@ -73,10 +74,6 @@ pub kept_more : (P : Operand → Type 0) (vs : List Operand) (i : ℕ) (x : Oper
 kept_more P vs i x so_far less is p = All-more P vs i x less so_far (subst P is p)
 
 -- ---- the columns
-
-or_false : (a b : Bool) → (a || b) ≡ false → (a ≡ false) × (b ≡ false)
-or_false true b h = cc
-or_false false b h = (refl, h)
 
 fits_one : (s : Sort) (v : Operand) → is_of_sort s v ≡ true → is_too_long s v ≡ false → is_beyond_range v ≡ false → IsNumberKept v → IsTextKept v → FitsSort s (kept_value v)
 fits_one NumberSort (Text text) sort short within number utf8 = cc

@@ -50,6 +50,8 @@ use Rattle.db_state.specs.laws.Bounded.{any_entry, bounded_well}
 use Rattle.db_state.specs.laws.EachValue.{entries-each_value, count_alike}
 use Rattle.ix_context.specs.Promises.{is_on, AreDistinct, AreIndexesOn}
 use Rattle.ix_context.specs.laws.Rules.{row_keeps, row_notes_stand}
+use Rattle.db_change.proofs.NewTables.{tables_built, apart}
+use Rattle.ct_base.specs.laws.Options.{no_value as gone}
 
 -- ---- the indexes on a table
 
@@ -143,21 +145,9 @@ tables_pending : (k : Kind) → is_of_tables k ≡ true → is_pending k ≡ fal
 tables_pending kind.Pending h = cc
 tables_pending k h = refl
 
-tables_built : (k : Kind) → is_built k ≡ false → is_of_tables k ≡ false
-tables_built kind.Tables h = cc
-tables_built kind.RowNumbers h = cc
-tables_built kind.RowTexts h = cc
-tables_built k h = refl
-
 pending_built : (k : Kind) → is_built k ≡ false → is_pending k ≡ false
 pending_built kind.Pending h = cc
 pending_built k h = refl
-
-apart : (k : Kind) → is_of_indexes k ≡ true → is_of_tables k ≡ false
-apart kind.Tables h = cc
-apart kind.RowNumbers h = cc
-apart kind.RowTexts h = cc
-apart k h = refl
 
 views_stay : (m : State) (t : List ℕ) (x : Table) (r : ℤ) (vs : List Value) → get m.tables t ≡ Some x → ((q : List ℕ) (y : Table) → get m.tables q ≡ Some y → is_view q ≡ false)
     → (q : List ℕ) (y : Table) → get (with_row m.tables t r vs) q ≡ Some y → is_view q ≡ false
@@ -193,10 +183,6 @@ new_row_state m t x r vs is state row fit room = record {
 free_marks : (ts : Tables) (xs : Names Index) (t : List ℕ) (x : Table) (r : ℤ) → get ts t ≡ Some x → get x.rows r ≡ None → AreIndexes ts xs → (i : List ℕ) (y : Index) → get xs i ≡ Some y → y.table ≡ t → get y.marks r ≡ None
 free_marks ts xs t x r is none are i y here on = gone (get y.marks r) ((are.each i y here).marks r ∙ ap is_some (ap (λ (u : List ℕ). row_at ts u r) on ∙ no_row))
   where
-    gone : {X : Type 0} (o : Option X) → is_some o ≡ false → o ≡ None
-    gone None h = refl
-    gone (Some v) h = cc
-
     no_row : row_at ts t r ≡ None
     no_row = rw is none
 

@@ -40,6 +40,8 @@ use Rattle.db_state.specs.Committing.{are_bounded}
 use Rattle.db_state.specs.laws.Chains.{passed}
 use Rattle.db_state.specs.laws.Bounded.{bounded_well}
 use Rattle.std.proofs.lemmas.List.Elements.{All-head, All-tail}
+use Rattle.std.proofs.lemmas.Bool.{or_parts as either, and_parts as both, not-true as not_true}
+use Rattle.ct_base.specs.laws.Options.{no_value as no_some}
 
 -- ---- the indexes keep their rules
 
@@ -77,13 +79,13 @@ views_stay m t columns free views q x is = go (same_list q t) refl (sym (get-wit
 
 -- ---- the entries
 
-tables_built : (k : Kind) → is_built k ≡ false → is_of_tables k ≡ false
+pub tables_built : (k : Kind) → is_built k ≡ false → is_of_tables k ≡ false
 tables_built kind.Tables h = cc
 tables_built kind.RowNumbers h = cc
 tables_built kind.RowTexts h = cc
 tables_built k h = refl
 
-apart : (k : Kind) → is_of_indexes k ≡ true → is_of_tables k ≡ false
+pub apart : (k : Kind) → is_of_indexes k ≡ true → is_of_tables k ≡ false
 apart kind.Tables h = cc
 apart kind.RowNumbers h = cc
 apart kind.RowTexts h = cc
@@ -108,18 +110,6 @@ new_table_stands c m t columns stands none free name are few =
     }
 
 -- ---- columns that pass the checks
-
-no_some : {X : Type 0} (o : Option X) → is_some o ≡ false → o ≡ None
-no_some None h = refl
-no_some (Some x) h = cc
-
-either : (a b : Bool) → (a || b) ≡ false → (a ≡ false) × (b ≡ false)
-either true b h = cc
-either false b h = (refl, h)
-
-both : (a b : Bool) → (a && b) ≡ true → (a ≡ true) × (b ≡ true)
-both true b h = (refl, h)
-both false b h = cc
 
 is_sort : (s : SortText) → is_sized s ≡ true → HasAllowedSize (sort_of s)
 is_sort NumberText h = tt
@@ -146,10 +136,6 @@ AllNamed (c ∷ cs) = IsName c.name × AllNamed cs
 all_columns : (cs : List ColumnText) → AllNamed cs → all_sized cs ≡ true → AllColumns (map column_of cs)
 all_columns [] named h = tt
 all_columns (c ∷ cs) named h = let b = both (is_sized c.sort) (all_sized cs) h in (named.0, is_sort c.sort b.0, all_columns cs named.1 b.1)
-
-not_true : (b : Bool) → not b ≡ true → b ≡ false
-not_true true h = cc
-not_true false h = refl
 
 apart_columns : (cs : List ColumnText) → are_apart cs ≡ true → AreApart (map column_of cs)
 apart_columns [] h = tt

@@ -123,8 +123,8 @@ module _ (limit : ℕ) (piece : Piece) (was : World) (old mid new : KeeperView) 
       (subst (λ (l : List ℕ). SaysPart was.said l w) (sym front ∙ r.is)
       (says_prefix was.said part rest w (subst (λ (o : Option (List ℕ)). SaysPart o part w) said_mid p.1)))))
 
-  shows_said : (part : List ℕ) → KeeperSays part mid new → Shows new (record { state = (turn limit was.state made).0; said = behind was.said part })
-  shows_said part s = record { said = s.said ∙ ap (λ (o : Option (List ℕ)). behind o part) said_mid; content = r.content; holds = s.apart.content ∙ r.holds; stands = r.stands }
+  shows_said : (part : List ℕ) → KeeperSays part mid new → Shows new (record { state = (turn limit was.state made).0; said = with_suffix was.said part })
+  shows_said part s = record { said = s.said ∙ ap (λ (o : Option (List ℕ)). with_suffix o part) said_mid; content = r.content; holds = s.apart.content ∙ r.holds; stands = r.stands }
 
   pub answered_by : KeeperSays bytes mid new → (now : World) × Shows new now × Answered limit old.fixed.limit piece was now old.time new.time
   answered_by s = (

@@ -7,7 +7,7 @@ use Rattle.ct_keep.specs.declared.keepers.KeepFault.TheVariants.{Disk}
 use Rattle.ct_keep.specs.KeeperViews.{KeeperView, IsSettled}
 use Rattle.st_cut.specs.Seen.{ShowsText}
 use Rattle.st_parse.specs.Grammar.{Read, NoStatement, Found, read}
-use Rattle.st_parse.specs.Writing.{Blank}
+use Rattle.st_parse.specs.Grammar.{Blank}
 use Rattle.db_cond.specs.Faults.{NotUnderstood, StatementTooLong, out_of_memory, not_understood, statement_too_long}
 use Rattle.db_state.specs.States.{State, Stands}
 use Rattle.db_state.specs.Effects.{Effect, Refused, state_by, reply_by, is_done}

@@ -55,7 +55,7 @@ pub record SoFar (limit : ℕ) (heard piece : List ℕ) (was : World) (old now :
 pub record Going (failed : Bool) (limit taken : ℕ) (piece : List ℕ) (old now : KeeperView) (cutter : Seen) : Type 0 where
   pub heard : List ℕ
   pub count : length heard ≡ taken
-  pub front : old.beside.left ≡ ahead (heard ++ piece) now.beside.left
+  pub front : old.beside.left ≡ with_prefix (heard ++ piece) now.beside.left
   pub faults : FaultsAre failed false false old now
   pub fixed : now.fixed ≡ old.fixed
   pub ready : now.ready
@@ -65,7 +65,7 @@ pub going_start : (limit : ℕ) (view : KeeperView) (cutter : Seen) → view.rea
 going_start limit view cutter ready s = record {
   heard = [];
   count = refl;
-  front = sym (ahead_none view.beside.left);
+  front = sym (with_prefix-nil view.beside.left);
   faults = faults_none view;
   fixed = refl;
   ready = ready;
@@ -77,7 +77,7 @@ unfolding served_heard
 going_heard failed limit taken piece old mid now cutter s h = record {
   heard = s.heard;
   count = s.count;
-  front = s.front ∙ rw (append-nil s.heard, h.hears.left) (ahead_twice s.heard piece now.beside.left);
+  front = s.front ∙ rw (append-nil s.heard, h.hears.left) (with_prefix_twice s.heard piece now.beside.left);
   faults = faults_then failed false false old mid now s.faults (faults_heard failed mid now piece h);
   fixed = h.hears.apart.fixed ∙ s.fixed;
   ready = h.hears.apart.ready s.ready;
@@ -90,7 +90,7 @@ going_heard failed limit taken piece old mid now cutter s h = record {
         asked = calls_asked old.beside.hearings mid.beside now.beside _ h.hears.asks
             (calls_more old.beside.hearings mid.beside.hearings _ _ x.asked (asked_taken old.beside.left limit was s.heard piece x.served.served.turns))
             (asked_now old.beside.left limit was s.heard piece x.served.served.turns x.served.served.rest mid.beside (rw (append-nil s.heard) at s.front) x.served.served.cut
-            (x.shows.said ∙ x.served.served.leads.told ∙ ap (behind was.said) x.served.served.leads.run.says));
+            (x.shows.said ∙ x.served.served.leads.told ∙ ap (with_suffix was.said) x.served.served.leads.run.says));
       };
 }
 
@@ -161,7 +161,7 @@ turns_all limit most store whole taken script was now old new ending is settled 
 pub out_memory : (limit most : ℕ) (view : KeeperView) → view.ready → IsSettled view → Outcome limit most view view NoMemory
 out_memory limit most view ready settled = record {
   taken = [];
-  front = sym (ahead_none view.beside.left);
+  front = sym (with_prefix-nil view.beside.left);
   faults = faults_none view;
   fixed = refl;
   because = (refl, refl);
@@ -171,7 +171,7 @@ out_memory limit most view ready settled = record {
     allowed = tt;
     ends = (refl, w, settled);
     moments = passes_none view.time _;
-    now = moment_now limit was [] view [] [] refl settled (record { said = w.said ∙ sym (behind_none was.said); content = w.content; holds = w.holds; stands = w.stands });
+    now = moment_now limit was [] view [] [] refl settled (record { said = w.said ∙ sym (with_suffix-nil was.said); content = w.content; holds = w.holds; stands = w.stands });
     asked = calls_none view.beside.hearings _;
   };
 }

@@ -132,7 +132,7 @@ IsReadyAfter ending new = new.ready
 pub record Outcome (limit most : ℕ) (old new : KeeperView) (ending : Ending) : Type 0 where
   -- the bytes taken from the script
   pub taken : List ℕ
-  pub front : old.beside.left ≡ ahead taken new.beside.left
+  pub front : old.beside.left ≡ with_prefix taken new.beside.left
   pub faults : FaultsBy (status_of ending) old new
   pub fixed : new.fixed ≡ old.fixed
   pub because : Because most taken old new ending

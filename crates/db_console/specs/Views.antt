@@ -6,7 +6,7 @@ use Rattle.ct_base.specs.Moments.{Passes}
 use Rattle.ct_site.specs.Disks.{Beside}
 use Rattle.ct_keep.specs.Content.{Content}
 use Rattle.ct_keep.specs.KeeperViews.{KeeperView, KeeperHears, KeeperSays, PassesRoom, IsSettled, counted}
-use Rattle.st_cut.specs.Seen.{Seen, Stands as StandsOpen}
+use Rattle.st_cut.specs.Seen.{Seen, StandsOpen}
 use Rattle.db_state.specs.States.{Stands}
 use Rattle.db_engine.specs.Runs.{Piece, Answer, Step, Turn, turn_by, turn, pieces, IsAllowed}
 use Rattle.db_console.specs.Worlds.{World, HasPieces, LeavesState, IsMoment, Leads, Served, ServedTo, Answered, IsPartOf}

@@ -58,10 +58,6 @@ not_done (Delete table conds) done is full = cc
 not_done (Select list table preds orders) done is full = cc
 not_done Commit done is full = cc
 
-pub is_not : (b : Bool) → not b ≡ true → b ≡ false
-is_not true is = cc
-is_not false is = refl
-
 -- a statement that isn't built yet, or asks of a text alone, has no such line
 if_none : (b : Bool) (line : List ℕ) → not b ≡ true → (if b then Some line else None) ≡ None
 if_none true line is = cc

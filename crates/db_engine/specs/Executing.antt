@@ -5,7 +5,7 @@ use Rattle.ct_base.specs.Causes.{Rose}
 use Rattle.ct_keep.specs.Content.{Content}
 use Rattle.ct_keep.specs.declared.keepers.KeepFault.{KeepFault}
 use Rattle.ct_keep.specs.declared.keepers.KeepFault.TheVariants.{Memory, Disk, Full as NoRoom}
-use Rattle.ct_keep.specs.KeeperViews.{KeeperView}
+use Rattle.ct_keep.specs.KeeperViews.{counted, KeeperView}
 use Rattle.st_parse.specs.declared.statements.SelectList.TheVariants.{Star}
 use Rattle.st_parse.specs.declared.statements.Statement.{Statement}
 use Rattle.st_parse.specs.declared.statements.Statement.TheVariants.{CreateTable, CreateIndex, Insert, Select, Exec}
@@ -114,9 +114,15 @@ IfText says (Ok ReplyFull) = Unit {0}
 IfText says (Ok ReplyNoMemory) = Unit {0}
 IfText says (Err stop) = Unit {0}
 
--- That the store is full is answered only where how often the keeper found that rose.
-abbrev pub FullRose : KeeperView → KeeperView → Result Reply Stop → Type 0
-FullRose old new result = result ≡ Ok ReplyFull → Rose old.counts.fulls new.counts.fulls
+abbrev pub is_full_reply : Result Reply Stop → Bool
+is_full_reply (Ok (ReplyText reply)) = false
+is_full_reply (Ok ReplyFull) = true
+is_full_reply (Ok ReplyNoMemory) = false
+is_full_reply (Err stop) = false
+
+-- That the store is full is answered exactly where the keeper answered so, by the count of it.
+abbrev pub FullByCount : KeeperView → KeeperView → Result Reply Stop → Type 0
+FullByCount old new result = new.counts.fulls ≡ counted (is_full_reply result) old.counts.fulls
 
 -- no text says that the store is full
 abbrev pub NoTextIsFull : Result Reply Stop → Type 0

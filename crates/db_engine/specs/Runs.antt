@@ -4,7 +4,7 @@ use Rattle.std.specs.Bool.{if◌then◌else◌}
 use Rattle.std.proofs.Common.{ap, sym, ◌∙◌, append_assoc}
 use Rattle.db_cond.specs.Faults.{out_of_memory, store_full}
 use Rattle.st_parse.specs.Grammar.{Read, NoStatement, Found}
-use Rattle.st_parse.specs.Writing.{Blank}
+use Rattle.st_parse.specs.Grammar.{Blank}
 use Rattle.db_state.specs.States.{State, empty_state}
 use Rattle.db_state.specs.Effects.{Effect, state_by, reply_by, is_done}
 use Rattle.db_state.specs.Room.{room}

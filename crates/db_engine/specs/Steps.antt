@@ -19,7 +19,7 @@ use Rattle.st_parse.specs.declared.statements.SelectList.TheVariants.{Items}
 use Rattle.st_parse.specs.declared.statements.Statement.{Statement}
 use Rattle.st_parse.specs.declared.statements.Statement.TheVariants.{CreateTable, DropTable, DropIndex, CreateIndex, Insert, Delete, Select, Exec, Commit}
 use Rattle.st_parse.specs.Grammar.{Read, NoStatement, Found, read}
-use Rattle.st_parse.specs.Writing.{Blank}
+use Rattle.st_parse.specs.Grammar.{Blank}
 use Rattle.db_change.specs.Creating.{create_table}
 use Rattle.db_index.specs.Indexing.{create_index}
 use Rattle.db_change.specs.Inserting.{insert_into}

@@ -7,7 +7,7 @@ ghost use Rattle.db_cond.specs.Faults.{NotUnderstood, refusal_line};
 ghost use Rattle.db_state.specs.Effects.{reply_by, state_by};
 ghost use Rattle.db_state.specs.States.{Sees, State, TakesAll};
 ghost use Rattle.db_engine.specs.Steps.{call as call_effect, create_index_if, effect, is_built_index as built_index, may_fill, may_fill_by, select_by as select_effect};
-ghost use Rattle.db_engine.specs.Executing.{ExecutesStatement, FullRose, IfText, NoTextIsFull, Tells, call_line, done_line, fault_of_stop, index_line, is_fixed, is_sync as is_sync_call};
+ghost use Rattle.db_engine.specs.Executing.{ExecutesStatement, FullByCount, IfText, NoTextIsFull, Tells, call_line, done_line, fault_of_stop, index_line, is_fixed, is_sync as is_sync_call};
 ghost use Rattle.db_state.specs.Plans.{GivesReply, Replies};
 
 use crate::replies::{Reply, Stop};
@@ -211,7 +211,7 @@ pub fn execute<R: Threads + Sync, K: Keeper>(
     ensures executes { ExecutesStatement statement.now (K.view keeper.old) (K.view keeper.new) result }
     ensures reads { done_line statement.now ≡ None → Reads (K.view keeper.old) (K.view keeper.new) (fault_of_stop result) }
     ensures tells { (done : List ℕ) → done_line statement.now ≡ Some done → Tells done (K.view keeper.old) (K.view keeper.new) result }
-    ensures full { FullRose (K.view keeper.old) (K.view keeper.new) result }
+    ensures full { FullByCount (K.view keeper.old) (K.view keeper.new) result }
     ensures no_text { (done : List ℕ) → done_line statement.now ≡ Some done → NoTextIsFull result }
     ensures fixed { (m : State) → is_fixed statement.now ≡ true → IfText (λ reply. reply ≡ reply_by (effect m statement.now)) result }
 {

@@ -9,11 +9,7 @@ use Rattle.std.specs.FinMap.{FinMap, get, insert, entries, find, put, entries-in
 use Rattle.std.proofs.lemmas.Bool.{and_parts, and_from}
 use Rattle.ct_keep.specs.RisingKeys.{below, rises, entries_rise}
 use Rattle.ct_entry.specs.laws.Rising.{none_below}
-
-less : (o : Ordering) → is_lt o ≡ true → o ≡ Less
-less Less h = refl
-less Equal h = cc
-less Greater h = cc
+use Rattle.ct_base.specs.laws.Orders.{less_from_test as less}
 
 pub one : Bool → ℕ
 one b = cond b 1 0

@@ -38,6 +38,8 @@ use Rattle.db_index.specs.Indexing.{is_text_sort, is_text_at, has_index_on, has_
 use Rattle.db_state.specs.States.{State, Stands, indexes_on, most_indexes, is_built}
 use Rattle.db_index.proofs.Counting.{one, counted, count_insert, one_true, one_false}
 use Rattle.db_state.specs.laws.Bounded.{any_entry, bounded_well}
+use Rattle.std.proofs.lemmas.Bool.{or_parts as either}
+use Rattle.ct_base.specs.laws.Options.{no_value as no_some}
 
 -- ---- what was found, by whether it is there
 
@@ -120,14 +122,6 @@ synced_bounded c m i x stands there few =
     bounded_well any_entry (spell ws) (well_changes any_entry ws (λ k value of. refl) (index_changes_sync m.tables m.indexes i x stands.state.tables stands.state.indexes there (room_left x few)))
 
 -- ---- the state after a new index
-
-either : (a b : Bool) → (a || b) ≡ false → (a ≡ false) × (b ≡ false)
-either true b h = cc
-either false b h = (refl, h)
-
-no_some : {X : Type 0} (o : Option X) → is_some o ≡ false → o ≡ None
-no_some None h = refl
-no_some (Some x) h = cc
 
 text_column : (cs : List Column) (place : ℕ) → is_text_at cs place ≡ true → HasTextAt cs place
 text_column [] place h = cc

@@ -19,6 +19,7 @@ use Rattle.db_select.specs.declared.sources.Source.TheVariants.{Key, Number, Tex
 use Rattle.db_state.specs.Columns.{place_from}
 use Rattle.db_select.specs.Selecting.{value_at, values_of, at_place, field, hit_line}
 use Rattle.db_select.specs.Sources.{number_source, text_source, source_by, with_sort, source_from, source_of, reads_numbers, source_value, fields_by, fields, row_values, hit_fields}
+use Rattle.std.proofs.lemmas.Bool.{or_parts as neither}
 
 -- ---- numbers are read where a field takes one
 
@@ -28,10 +29,6 @@ unread r numbers vs score (Number place) h = cc
 unread r numbers vs score (Text column) h = refl
 unread r numbers vs score Score h = refl
 unread r numbers vs score Nothing h = refl
-
-neither : (a b : Bool) → (a || b) ≡ false → (a ≡ false) × (b ≡ false)
-neither true b h = cc
-neither false b h = (refl, h)
 
 all_unread : (r : ℤ) (numbers : List ℤ) (vs : List Value) (score : ℕ) (sources : List Source) → list_any reads_numbers sources ≡ false → fields_by r [] vs score sources ≡ fields_by r numbers vs score sources
 all_unread r numbers vs score [] h = refl

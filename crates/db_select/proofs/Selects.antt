@@ -22,16 +22,9 @@ use Rattle.db_select.specs.Seeking.{with_searched}
 use Rattle.db_select.specs.declared.sources.Source.{Source}
 use Rattle.db_select.specs.Sources.{source_of, hit_fields}
 use Rattle.db_select.proofs.FieldLaws.{hit_line_is}
+use Rattle.db_state.specs.laws.Columns.{some_table, no_table}
 
 -- ---- the table
-
-pub some_table : (o : Option Table) (columns : List Column) → Some columns ≡ option_map (λ (x : Table). x.columns) o → (x : Table) × (o ≡ Some x) × (x.columns ≡ columns)
-some_table None columns e = cc
-some_table (Some x) columns e = (x, refl, cc)
-
-pub no_table : (o : Option Table) → None ≡ option_map (λ (x : Table). x.columns) o → o ≡ None
-no_table None e = refl
-no_table (Some x) e = cc
 
 pub few_columns : (m : State) (t : List ℕ) (x : Table) (columns : List Column) → AreTables m.tables → get m.tables t ≡ Some x → x.columns ≡ columns → length columns ≤ 256
 few_columns m t x columns are here same = let few = (are.each t x here).columns.few in omega (arith, few, ap length same)

@@ -16,12 +16,9 @@ use Rattle.db_state.specs.Effects.{Does}
 use Rattle.db_state.specs.Plans.{Gives}
 use Rattle.db_state.specs.Committing.{is_bounded, are_bounded}
 use Rattle.db_state.proofs.Weighing.{weighs}
+use Rattle.std.proofs.lemmas.Bool.{and_parts as both}
 
 -- ---- bounds
-
-both : (a b : Bool) → (a && b) ≡ true → (a ≡ true) × (b ≡ true)
-both true b h = (refl, h)
-both false b h = cc
 
 -- changes within the bounds, of a keeper that takes all entries
 pub well_bounded : (well : List ℕ → List ℕ → Bool) → ((key value : List ℕ) → well key value ≡ true) → (ws : List (List ℕ × Option (List ℕ))) → are_bounded ws ≡ true → AreWell well ws

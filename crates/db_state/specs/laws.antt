@@ -7,3 +7,4 @@ pub mod Heads
 pub mod Giving
 pub mod PrintedLines
 pub mod Serving
+pub mod Columns

@@ -22,7 +22,8 @@ fn read_pages<D: Disk>(
     count: u32,
 ) -> Result<Option<PageBatch>, LoadFault>
     requires within { IsWithin (4096 * (place + number_pages count + count)) (D.disk disk.old) }
-    ensures is { (image : List ℕ) → (D.disk disk.old).image ≡ Some image → place ≡ batch_page image → count ≡ batch_count image → IfOk result (λ found. ArePagesOr (option_map (λ b. b.pages) found) image) }
+    ensures is { (image : List ℕ) → (D.disk disk.old).image ≡ Some image → place ≡ batch_page image → count ≡ batch_count image
+        → IfOk result (λ found. ArePagesOr (option_map (λ b. b.pages) found) image) }
     ensures same { IsSame (D.disk disk.old) (D.disk disk.new) }
     ensures loads { Loads (D.disk disk.old) (D.disk disk.new) result }
     ensures store { result ≡ Err LoadFault.NotAStore → ⊥ }
@@ -56,7 +57,8 @@ fn read_pages<D: Disk>(
 fn read_zeros<D: Disk>(disk: &mut D, at: u64, into: &mut [u8]) -> Result<bool, Failed>
     requires within { IsWithin (at + length into.old) (D.disk disk.old) }
     requires few { length into.old ≤ 4096 }
-    ensures is { (image : List ℕ) → (D.disk disk.old).image ≡ Some image → IfOk result (λ found. AreZeros found (length into.old) (take (length into.old) (drop at image))) }
+    ensures is { (image : List ℕ) → (D.disk disk.old).image ≡ Some image
+        → IfOk result (λ found. AreZeros found (length into.old) (take (length into.old) (drop at image))) }
     ensures same { IsSame (D.disk disk.old) (D.disk disk.new) }
     ensures works { Works (D.disk disk.old) (D.disk disk.new) result }
 {
@@ -68,7 +70,8 @@ fn read_zeros<D: Disk>(disk: &mut D, at: u64, into: &mut [u8]) -> Result<bool, F
 /// Whether zeros stand where they fill the numbers of a batch to whole pages.
 fn is_filled<D: Disk>(disk: &mut D, place: u32, count: u32) -> Result<bool, Failed>
     requires within { IsWithin (4096 * (place + number_pages count)) (D.disk disk.old) }
-    ensures is { (image : List ℕ) → (D.disk disk.old).image ≡ Some image → IfOk result (λ found. AreZeros found (filling count) (take (filling count) (drop (4096 * place + 4 * count) image))) }
+    ensures is { (image : List ℕ) → (D.disk disk.old).image ≡ Some image
+        → IfOk result (λ found. AreZeros found (filling count) (take (filling count) (drop (4096 * place + 4 * count) image))) }
     ensures same { IsSame (D.disk disk.old) (D.disk disk.new) }
     ensures works { Works (D.disk disk.old) (D.disk disk.new) result }
 {
@@ -112,7 +115,8 @@ fn read_batch<D: Disk>(
 /// The root with these pages of a batch.
 fn root_with<D: Disk>(disk: &mut D, batch: &PageBatch) -> Result<[u8; 4096], Failed>
     requires within { IsWithin 12288 (D.disk disk.old) }
-    ensures is { (image : List ℕ) (end : ℕ) → (D.disk disk.old).image ≡ Some image → AreBetween 2 end batch.now.pages → IfOk result (λ root. root ≡ put_on batch.now.pages (page image) 2) }
+    ensures is { (image : List ℕ) (end : ℕ) → (D.disk disk.old).image ≡ Some image → AreBetween 2 end batch.now.pages
+        → IfOk result (λ root. root ≡ put_on batch.now.pages (page image) 2) }
     ensures same { IsSame (D.disk disk.old) (D.disk disk.new) }
     ensures works { Works (D.disk disk.old) (D.disk disk.new) result }
 {
@@ -130,7 +134,8 @@ pub(crate) fn look_open<D: Disk>(
 ) -> Result<Option<(PageBatch, u32)>, LoadFault>
     requires sized { IsSized size (D.disk disk.old) }
     requires long { 12288 ≤ size }
-    ensures is { (image : List ℕ) → (D.disk disk.old).image ≡ Some image → gate image ≡ 1 → IfOk result (λ found. IsOpenedOr (option_map (λ f. (f.0.pages, f.1)) found) image) }
+    ensures is { (image : List ℕ) → (D.disk disk.old).image ≡ Some image → gate image ≡ 1
+        → IfOk result (λ found. IsOpenedOr (option_map (λ f. (f.0.pages, f.1)) found) image) }
     ensures bounds { IfOk result (λ found. IfSome found (λ f. (3 ≤ f.1) × (f.1 ≤ 2 ^ 31))) }
     ensures same { IsSame (D.disk disk.old) (D.disk disk.new) }
     ensures loads { Loads (D.disk disk.old) (D.disk disk.new) result }

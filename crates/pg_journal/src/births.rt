@@ -79,7 +79,8 @@ fn clear_where<D: Disk>(disk: &mut D, empty: bool) -> Result<(), Failed>
 /// Makes an unborn file a store; `empty` says that it has at most one byte.
 pub(crate) fn make_store<D: Disk>(disk: &mut D, empty: bool) -> Result<(), Failed>
     requires within { empty ≡ false → IsWithin 1 (D.disk disk.old) }
-    ensures moments { (image : List ℕ) → IsSettled (D.disk disk.old) image → IsUnbornAs empty image → Leaves (D.disk disk.old) (D.disk disk.new) (λ x. IsRecovered x first_pages) }
+    ensures moments { (image : List ℕ) → IsSettled (D.disk disk.old) image → IsUnbornAs empty image
+        → Leaves (D.disk disk.old) (D.disk disk.new) (λ x. IsRecovered x first_pages) }
     ensures stands { (image : List ℕ) → IsSettled (D.disk disk.old) image → IsUnbornAs empty image → OnOk result (Stands (D.disk disk.new) 3 first_pages) }
     ensures length { Grows 12288 (D.disk disk.old) (D.disk disk.new) }
     ensures works { Works (D.disk disk.old) (D.disk disk.new) result }

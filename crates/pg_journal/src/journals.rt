@@ -8,7 +8,7 @@ ghost use Rattle.pg_journal.specs.Pages.{AreBetween, Has, changed, homes_in, hom
 ghost use Rattle.pg_journal.specs.Recovered.{Alike, IsRecovered, IsStore, gate, number_pages};
 ghost use Rattle.pg_journal.specs.Staging.{IsGoal, IsSettling};
 ghost use Rattle.ct_site.specs.Lengths.{IsWithin, Grows};
-ghost use Rattle.pg_journal.specs.Standing.{homes_with, IsEither, MayCommit, Stands};
+ghost use Rattle.pg_journal.specs.Standing.{commit_end, homes_with, IsEither, MayCommit, Stands};
 
 use crate::batch_reading::look_open;
 use crate::batches::PageBatch;
@@ -90,9 +90,11 @@ impl Journal {
     /// ones or those with the batch put on them, and after Ok the latter. After an error the journal is loaded again.
     pub fn commit<D: Disk>(&mut self, disk: &mut D, batch: &PageBatch) -> Result<(), Failed>
         requires { MayCommit self.old batch.now.pages }
-        ensures moments { (pages : List (List ℕ)) → Stands (D.disk disk.old) self.old pages → Leaves (D.disk disk.old) (D.disk disk.new) (IsEither pages batch.now.pages) }
-        ensures stands { (pages : List (List ℕ)) → Stands (D.disk disk.old) self.old pages → OnOk result (Stands (D.disk disk.new) self.new (changed batch.now.pages pages)) }
-        ensures length { Grows (4096 * (max self.old (homes_with self.old batch.now.pages) + number_pages (length batch.now.pages) + length batch.now.pages)) (D.disk disk.old) (D.disk disk.new) }
+        ensures moments { (pages : List (List ℕ)) → Stands (D.disk disk.old) self.old pages
+            → Leaves (D.disk disk.old) (D.disk disk.new) (IsEither pages batch.now.pages) }
+        ensures stands { (pages : List (List ℕ)) → Stands (D.disk disk.old) self.old pages
+            → OnOk result (Stands (D.disk disk.new) self.new (changed batch.now.pages pages)) }
+        ensures length { Grows (commit_end self.old batch.now.pages) (D.disk disk.old) (D.disk disk.new) }
         ensures works { Works (D.disk disk.old) (D.disk disk.new) result }
         ensures homes { OnOk result (self.new ≡ homes_with self.old batch.now.pages) }
     {
@@ -107,7 +109,8 @@ impl Journal {
 fn load_unborn<D: Disk>(disk: &mut D, empty: bool) -> Result<Journal, LoadFault>
     requires within { empty ≡ false → IsWithin 1 (D.disk disk.old) }
     ensures moments { (image : List ℕ) → IsSettled (D.disk disk.old) image → IsUnbornAs empty image → Leaves (D.disk disk.old) (D.disk disk.new) (Alike image) }
-    ensures loaded { (image : List ℕ) → IsSettled (D.disk disk.old) image → IsUnbornAs empty image → IfOk result (λ journal. Loaded image (D.disk disk.new) journal) }
+    ensures loaded { (image : List ℕ) → IsSettled (D.disk disk.old) image → IsUnbornAs empty image
+        → IfOk result (λ journal. Loaded image (D.disk disk.new) journal) }
     ensures store { result ≡ Err LoadFault.NotAStore → ⊥ }
     ensures length { Grows 12288 (D.disk disk.old) (D.disk disk.new) }
     ensures loads { Loads (D.disk disk.old) (D.disk disk.new) result }

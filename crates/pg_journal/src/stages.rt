@@ -62,8 +62,10 @@ pub(crate) fn stage<D: Disk>(disk: &mut D, place: u32, batch: &PageBatch) -> Res
     requires place { place ≤ 2 ^ 31 }
     requires some { 1 ≤ length batch.now.pages }
     requires between { AreBetween 2 place batch.now.pages }
-    ensures moments { (homes : ℕ) (ps : List (List ℕ)) → homes ≤ place → Stands (D.disk disk.old) homes ps → Leaves (D.disk disk.old) (D.disk disk.new) (IsShut homes ps) }
-    ensures staged { (homes : ℕ) (ps : List (List ℕ)) → homes ≤ place → Stands (D.disk disk.old) homes ps → OnOk result (Staged (D.disk disk.new) homes ps place (batch.now.pages)) }
+    ensures moments { (homes : ℕ) (ps : List (List ℕ)) → homes ≤ place → Stands (D.disk disk.old) homes ps
+        → Leaves (D.disk disk.old) (D.disk disk.new) (IsShut homes ps) }
+    ensures staged { (homes : ℕ) (ps : List (List ℕ)) → homes ≤ place → Stands (D.disk disk.old) homes ps
+        → OnOk result (Staged (D.disk disk.new) homes ps place (batch.now.pages)) }
     ensures within { OnOk result (IsWithin (4096 * place) (D.disk disk.new)) }
     ensures length { Grows (4096 * (place + number_pages (length batch.now.pages) + length batch.now.pages)) (D.disk disk.old) (D.disk disk.new) }
     ensures works { Works (D.disk disk.old) (D.disk disk.new) result }

@@ -7,7 +7,8 @@ use Rattle.ct_keep.specs.Composing.{reads_hold}
 use Rattle.db_cond.specs.Faults.{UnknownName}
 use Rattle.db_state.specs.Effects.{Refused}
 use Rattle.db_change.specs.Inserting.{arranged, insert_into}
-use Rattle.db_change.proofs.InsertSteps.{no_table, some_table, into_none, into_refused, into_values}
+use Rattle.db_state.specs.laws.Columns.{no_table, some_table}
+use Rattle.db_change.proofs.InsertSteps.{into_none, into_refused, into_values}
 use Rattle.db_state.specs.laws.Serving.{plans_as}
 use Rattle.db_change.proofs.inserting.insert_plan.Goals as goal
 

@@ -57,8 +57,17 @@ returns-in-Err-Full-clause-tells g c = λ done has. record {
   rose = rose _ _ (rw c.in-Err-Full.field-0-is at c.in-Err-Full.ensures.serves.fulls);
 }
 
+pub returns-in-Ok-clause-full : goal.returns-in-Ok-clause-full
+returns-in-Ok-clause-full g c = c.in-Ok.ensures.serves.fulls
+
+pub returns-in-Err-Memory-clause-full : goal.returns-in-Err-Memory-clause-full
+returns-in-Err-Memory-clause-full g c = rw c.in-Err-Memory.field-0-is at c.in-Err-Memory.ensures.serves.fulls
+
 pub returns-in-Err-Full-clause-full : goal.returns-in-Err-Full-clause-full
-returns-in-Err-Full-clause-full g c = λ e. rose _ _ (rw c.in-Err-Full.field-0-is at c.in-Err-Full.ensures.serves.fulls)
+returns-in-Err-Full-clause-full g c = rw c.in-Err-Full.field-0-is at c.in-Err-Full.ensures.serves.fulls
+
+pub returns-in-Err-Disk-clause-full : goal.returns-in-Err-Disk-clause-full
+returns-in-Err-Disk-clause-full g c = rw c.in-Err-Disk.field-0-is at c.in-Err-Disk.ensures.serves.fulls
 
 pub returns-in-Err-Disk-clause-reads : goal.returns-in-Err-Disk-clause-reads
 returns-in-Err-Disk-clause-reads g c =

@@ -13,7 +13,7 @@ use Rattle.db_index.specs.Indexing.{create_index, index_created}
 use Rattle.db_change.specs.Inserting.{insert_into}
 use Rattle.db_engine.specs.Steps.{effect, select_by, call}
 use Rattle.db_engine.specs.Executing.{done_line, is_fixed, is_sync}
-use Rattle.db_engine.proofs.Telling.{is_not}
+use Rattle.std.proofs.lemmas.Bool.{not-true as is_not}
 use Rattle.db_state.specs.laws.Serving.{serves_short, serves_refused, serves_look, serves_as}
 use Rattle.db_engine.proofs.executing.reply_to.Goals as goal
 
