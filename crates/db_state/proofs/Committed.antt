@@ -1,5 +1,5 @@
 -- What reads and a commit give of an effect.
-use Rattle.std.proofs.Common.{◌≡◌, ℕ, Bool, true, false, List, [], ◌∷◌, length, Option, Some, None, Ok, Err, Vec, refl, ap, inr, arith}
+use Rattle.std.proofs.Common.{◌≡◌, ℕ, Bool, true, List, [], ◌∷◌, length, Option, Some, None, Ok, Err, Vec, refl, ap, inr, arith}
 use Rattle.std.specs.Prelude.{◌&&◌, nat_le, map}
 use Rattle.std.specs.List.{list_all}
 use Rattle.std.specs.declared.alloc.Global.{Global}

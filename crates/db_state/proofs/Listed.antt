@@ -1,6 +1,5 @@
 -- Columns by their places.
-use Rattle.std.proofs.Common.{◌≡◌, ℕ, suc, ◌+◌, ◌<◌, length, get_or, drop, add-one, Bool, true, false, cond, List, [], ◌∷◌, Some, refl, sym, ap, ◌∙◌}
-use Rattle.std.proofs.Math.Seq.{drop-cons}
+use Rattle.std.proofs.Common.{◌≡◌, ℕ, suc, Bool, true, false, cond, List, [], ◌∷◌, Some, refl}
 use Rattle.std.specs.Prelude.{is_some}
 use Rattle.ct_entry.specs.Keys.{same_list}
 use Rattle.tb_table.specs.declared.columns.Column.{Column}

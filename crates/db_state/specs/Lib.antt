@@ -6,4 +6,5 @@ pub mod Lookups
 pub mod Columns
 pub mod Room
 pub mod States
+pub mod Promises
 pub mod laws

@@ -8,3 +8,4 @@ pub mod Giving
 pub mod PrintedLines
 pub mod Serving
 pub mod Columns
+pub mod OneState

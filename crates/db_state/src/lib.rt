@@ -3,11 +3,13 @@
 
 mod columns;
 mod committing;
+mod laws;
 mod lookups;
 mod plans;
 
 pub use columns::{TEXT_LIMIT, has_column, place_of};
 pub use committing::fixed_reply;
+pub use laws::one_state;
 pub use lookups::{
     context_index, has_index, has_most_tables, has_table, is_view, table_columns, target_of,
 };

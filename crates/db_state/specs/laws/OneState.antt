@@ -1,0 +1,220 @@
+-- A content stands for at most one state: its entries determine the tables, their rows, and the indexes with their marks.
+use Rattle.std.specs.Prelude.{ℕ, ℤ, suc, ◌+◌, ◌<◌, ◌≤◌, ◌≡◌, List, [], ◌∷◌, length, is_some, Option, Some, None, FitsSigned, refl}
+use Rattle.std.specs.Int.{to_be_bytes, w32, w64}
+use Rattle.std.specs.Option.{option_map, option_and_then}
+use Rattle.std.specs.FinMap.{get, same_map, int_cmp-IsAntisymmetric, nat_cmp-IsAntisymmetric, slice_cmp-IsAntisymmetric}
+use Rattle.std.proofs.Common.{sym, ap, subst, ◌∙◌, arith, true, false}
+use Rattle.std.proofs.lemmas.Cmp.{nat_list_cmp_total, int_cmp_total}
+use Rattle.ct_base.specs.declared.lists.Value.{Value}
+use Rattle.ct_base.specs.declared.lists.Value.TheVariants.{Number as NumberValue, Text as TextValue}
+use Rattle.ct_entry.specs.Keys.{Key, at, IsRow}
+use Rattle.ct_entry.specs.Maps.{Names}
+use Rattle.tb_table.specs.declared.columns.Sort.{Sort}
+use Rattle.tb_table.specs.declared.columns.Sort.TheVariants.{Number, Varchar2, Clob}
+use Rattle.tb_table.specs.declared.columns.Column.{Column}
+use Rattle.tb_table.specs.Tables.{Table, Tables, row_in, numbers_of, text_in, text_of}
+use Rattle.tb_table.specs.Spelling.{TablesStand, columns_bytes, numbers_bytes}
+use Rattle.tb_table.specs.Rules.{AreTables, FitColumns, IsOfSort, others}
+use Rattle.tb_table.specs.Readings.{EachFits}
+use Rattle.tb_table.specs.laws.Spelling.{columns_apart, numbers_apart}
+use Rattle.tb_table.specs.laws.Reading.{are_spellable}
+use Rattle.ix_context.specs.Indexes.{Index, Mark, Pending, Marked, is_marked, mark_of, mark_at}
+use Rattle.ix_context.specs.Spelling.{IndexesStand, index_entry, queued}
+use Rattle.ix_context.specs.Rules.{AreIndexes}
+use Rattle.ix_context.specs.laws.Reading.{index_bytes_one}
+use Rattle.db_state.specs.States.{State}
+use Rattle.db_state.specs.Promises.{OneState}
+
+-- ---- the values of a row
+
+-- values of the same columns with the same numbers and texts are one
+one_row : (cs : List Column) (vs ws : List Value) → FitColumns cs vs → FitColumns cs ws → numbers_of vs ≡ numbers_of ws → ((place : ℕ) → place < length cs → text_in vs place ≡ text_in ws place) → vs ≡ ws
+one_row [] [] [] fit fits numbers texts = refl
+one_row [] [] (w ∷ ws) fit fits numbers texts = absurd fits
+one_row [] (v ∷ vs) ws fit fits numbers texts = absurd fit
+one_row (c ∷ cs) [] ws fit fits numbers texts = absurd fit
+one_row (c ∷ cs) (v ∷ vs) [] fit fits numbers texts = absurd fits
+one_row (c ∷ cs) (NumberValue a ∷ vs) (NumberValue b ∷ ws) fit fits numbers texts =
+    let rest : numbers_of vs ≡ numbers_of ws = cc in
+    let more : vs ≡ ws = one_row cs vs ws fit.1 fits.1 rest (λ place less. texts (suc place) (omega (arith, less))) in
+    let same : a ≡ b = cc in
+    cc
+one_row (c ∷ cs) (NumberValue a ∷ vs) (TextValue t ∷ ws) fit fits numbers texts = let wrong : None ≡ Some t = texts 0 (omega arith) in cc
+one_row (c ∷ cs) (TextValue s ∷ vs) (NumberValue b ∷ ws) fit fits numbers texts = let wrong : Some s ≡ None = texts 0 (omega arith) in cc
+one_row (c ∷ cs) (TextValue s ∷ vs) (TextValue t ∷ ws) fit fits numbers texts =
+    let first : Some s ≡ Some t = texts 0 (omega arith) in
+    let more : vs ≡ ws = one_row cs vs ws fit.1 fits.1 numbers (λ place less. texts (suc place) (omega (arith, less))) in
+    cc
+
+numbers_in_range : (cs : List Column) (vs : List Value) → FitColumns cs vs → EachFits (numbers_of vs)
+numbers_in_range [] [] fit = tt
+numbers_in_range [] (v ∷ vs) fit = absurd fit
+numbers_in_range (c ∷ cs) [] fit = absurd fit
+numbers_in_range (c ∷ cs) (NumberValue n ∷ vs) fit = (number c.sort fit.0, numbers_in_range cs vs fit.1)
+  where
+    number : (s : Sort) → IsOfSort s (NumberValue n) → FitsSigned w64 n
+    number Number fits = fits
+    number (Varchar2 size) fits = absurd fits
+    number Clob fits = absurd fits
+numbers_in_range (c ∷ cs) (TextValue text ∷ vs) fit = numbers_in_range cs vs fit.1
+
+-- ---- tables
+
+table_is : (x y : Table) → x.columns ≡ y.columns → x.rows ≡ y.rows → x ≡ y
+table_is x y columns rows i = record { columns = columns i; rows = rows i }
+
+abbrev spelt_columns : Option Table → Option (List ℕ)
+spelt_columns o = option_map (λ (x : Table). columns_bytes x.columns) o
+
+abbrev spelt_numbers : Option (List Value) → Option (List ℕ)
+spelt_numbers o = option_map (λ (vs : List Value). numbers_bytes (numbers_of vs)) o
+
+abbrev text_at : ℕ → Option (List Value) → Option (List ℕ)
+text_at c o = option_and_then (λ (vs : List Value). text_of vs c) o
+
+module _ (f : Key → Option (List ℕ)) (ts us : Tables) (ts_stand : TablesStand f ts) (us_stand : TablesStand f us) (ts_are : AreTables ts) (us_are : AreTables us) where
+  module _ (t : List ℕ) (x y : Table) (here : get ts t ≡ Some x) (there : get us t ≡ Some y) where
+    same_columns : x.columns ≡ y.columns
+    same_columns =
+        let e : Some (columns_bytes x.columns) ≡ Some (columns_bytes y.columns) = sym (ap spelt_columns here) ∙ sym (ts_stand.tables t) ∙ us_stand.tables t ∙ ap spelt_columns there in
+        columns_apart x.columns y.columns (are_spellable x.columns (ts_are.each t x here).columns) (are_spellable y.columns (us_are.each t y there).columns) cc
+
+    same_numbers : (r : ℤ) → IsRow r → spelt_numbers (get x.rows r) ≡ spelt_numbers (get y.rows r)
+    same_numbers r row = sym (ap (λ o. spelt_numbers (row_in o r)) here) ∙ sym (ts_stand.numbers t r row) ∙ us_stand.numbers t r row ∙ ap (λ o. spelt_numbers (row_in o r)) there
+
+    same_texts : (c : ℕ) (r : ℤ) → c < 256 → IsRow r → text_at c (get x.rows r) ≡ text_at c (get y.rows r)
+    same_texts c r small row = sym (ap (λ o. text_at c (row_in o r)) here) ∙ sym (ts_stand.texts t c r small row) ∙ us_stand.texts t c r small row ∙ ap (λ o. text_at c (row_in o r)) there
+
+    few : length (others x.columns) < 17
+    few = go x.columns (ts_are.each t x here).columns.few
+      where
+        go : (cs : List Column) → length cs ≤ 16 → length (others cs) < 17
+        go [] h = omega arith
+        go (c ∷ cs) h = omega (arith, h)
+
+    same_rows : (r : ℤ) → get x.rows r ≡ get y.rows r
+    same_rows r = go (get x.rows r) (get y.rows r) refl refl
+      where
+        go : (o p : Option (List Value)) → get x.rows r ≡ o → get y.rows r ≡ p → get x.rows r ≡ get y.rows r
+        go None None e d = e ∙ sym d
+        go None (Some ws) e d =
+            let row = (us_are.each t y there).keys r ws d in
+            let wrong : None ≡ Some (numbers_bytes (numbers_of ws)) = sym (ap spelt_numbers e) ∙ same_numbers r row ∙ ap spelt_numbers d in
+            cc
+        go (Some vs) None e d =
+            let row = (ts_are.each t x here).keys r vs e in
+            let wrong : Some (numbers_bytes (numbers_of vs)) ≡ None = sym (ap spelt_numbers e) ∙ same_numbers r row ∙ ap spelt_numbers d in
+            cc
+        go (Some vs) (Some ws) e d =
+            let row = (ts_are.each t x here).keys r vs e in
+            let fit = (ts_are.each t x here).rows r vs e in
+            let fits : FitColumns (others x.columns) ws = subst (λ (cs : List Column). FitColumns (others cs) ws) (sym same_columns) ((us_are.each t y there).rows r ws d) in
+            let spelt : Some (numbers_bytes (numbers_of vs)) ≡ Some (numbers_bytes (numbers_of ws)) = sym (ap spelt_numbers e) ∙ same_numbers r row ∙ ap spelt_numbers d in
+            let numbers = numbers_apart (numbers_of vs) (numbers_of ws) (numbers_in_range (others x.columns) vs fit) (numbers_in_range (others x.columns) ws fits) cc in
+            let text : (place : ℕ) → place < length (others x.columns) → text_in vs place ≡ text_in ws place =
+            λ place less. sym (ap (text_at (suc place)) e) ∙ same_texts (suc place) r (omega (arith, less, few)) row ∙ ap (text_at (suc place)) d in
+            e ∙ ap Some (one_row (others x.columns) vs ws fit fits numbers text) ∙ sym d
+
+  same_tables : (t : List ℕ) → get ts t ≡ get us t
+  same_tables t = go (get ts t) (get us t) refl refl
+    where
+      spelt : spelt_columns (get ts t) ≡ spelt_columns (get us t)
+      spelt = sym (ts_stand.tables t) ∙ us_stand.tables t
+
+      go : (o p : Option Table) → get ts t ≡ o → get us t ≡ p → get ts t ≡ get us t
+      go None None e d = e ∙ sym d
+      go None (Some y) e d = let wrong : None ≡ Some (columns_bytes y.columns) = sym (ap spelt_columns e) ∙ spelt ∙ ap spelt_columns d in cc
+      go (Some x) None e d = let wrong : Some (columns_bytes x.columns) ≡ None = sym (ap spelt_columns e) ∙ spelt ∙ ap spelt_columns d in cc
+      go (Some x) (Some y) e d = e ∙ ap Some (table_is x y (same_columns t x y e d) (same_map int_cmp_total int_cmp-IsAntisymmetric x.rows y.rows (same_rows t x y e d))) ∙ sym d
+
+  pub one_tables : ts ≡ us
+  one_tables = same_map nat_list_cmp_total (slice_cmp-IsAntisymmetric nat_cmp-IsAntisymmetric) ts us same_tables
+
+-- ---- indexes
+
+index_is : (x y : Index) → x.table ≡ y.table → x.column ≡ y.column → x.given ≡ y.given → x.marks ≡ y.marks → x ≡ y
+index_is x y table column given marks i = record { table = table i; column = column i; given = given i; marks = marks i }
+
+one_mark : (o p : Option Mark) → is_marked o ≡ is_marked p → queued o ≡ queued p → o ≡ p
+one_mark None None marked queue = refl
+one_mark None (Some Pending) marked queue = cc
+one_mark None (Some Marked) marked queue = cc
+one_mark (Some Pending) None marked queue = cc
+one_mark (Some Pending) (Some Pending) marked queue = refl
+one_mark (Some Pending) (Some Marked) marked queue = cc
+one_mark (Some Marked) None marked queue = cc
+one_mark (Some Marked) (Some Pending) marked queue = cc
+one_mark (Some Marked) (Some Marked) marked queue = refl
+
+there_mapped : {X Y : Type 0} (h : X → Y) (o : Option X) → is_some (option_map h o) ≡ is_some o
+there_mapped h None = refl
+there_mapped h (Some x) = refl
+
+module _ (f : Key → Option (List ℕ)) (ts : Tables) (xs ys : Names Index) (ts_are : AreTables ts) (xs_stand : IndexesStand f ts xs) (ys_stand : IndexesStand f ts ys) (xs_are : AreIndexes ts xs) (ys_are : AreIndexes ts ys) where
+  row_of_mark : (zs : Names Index) → AreIndexes ts zs → (i : List ℕ) (z : Index) (r : ℤ) (mark : Mark) → get zs i ≡ Some z → get z.marks r ≡ Some mark → IsRow r
+  row_of_mark zs are i z r mark here marks = go (get ts z.table) refl (sym ((are.each i z here).marks r) ∙ ap is_some marks)
+    where
+      go : (o : Option Table) → get ts z.table ≡ o → is_some (row_in (get ts z.table) r) ≡ true → IsRow r
+      go None e some = let wrong : false ≡ true = sym (ap (λ p. is_some (row_in p r)) e) ∙ some in cc
+      go (Some x) e some = found (get x.rows r) refl (sym (ap (λ p. is_some (row_in p r)) e) ∙ some)
+        where
+          found : (p : Option (List Value)) → get x.rows r ≡ p → is_some (get x.rows r) ≡ true → IsRow r
+          found None d is = let wrong : false ≡ true = sym (ap is_some d) ∙ is in cc
+          found (Some vs) d is = (ts_are.each z.table x e).keys r vs d
+
+  same_marks_at : (i : List ℕ) (r : ℤ) → IsRow r → mark_at xs i r ≡ mark_at ys i r
+  same_marks_at i r row =
+      let n = xs_stand.0 in
+      let k = ys_stand.0 in
+      let marked : is_marked (mark_at xs i r) ≡ is_marked (mark_at ys i r) =
+      sym (xs_stand.1.marked i r) ∙ sym (there_mapped (to_be_bytes w32) (n.document i r)) ∙ ap is_some (sym (xs_stand.2.documents i r row) ∙ ys_stand.2.documents i r row)
+      ∙ there_mapped (to_be_bytes w32) (k.document i r) ∙ ys_stand.1.marked i r in
+      one_mark (mark_at xs i r) (mark_at ys i r) marked (sym (xs_stand.2.queue i r row) ∙ ys_stand.2.queue i r row)
+
+  module _ (i : List ℕ) (x y : Index) (here : get xs i ≡ Some x) (there : get ys i ≡ Some y) where
+    same_marks : (r : ℤ) → get x.marks r ≡ get y.marks r
+    same_marks r = go (get x.marks r) (get y.marks r) refl refl
+      where
+        by_row : IsRow r → get x.marks r ≡ get y.marks r
+        by_row row = sym (ap (λ o. mark_of o r) here) ∙ same_marks_at i r row ∙ ap (λ o. mark_of o r) there
+
+        go : (o p : Option Mark) → get x.marks r ≡ o → get y.marks r ≡ p → get x.marks r ≡ get y.marks r
+        go None None e d = e ∙ sym d
+        go None (Some mark) e d = by_row (row_of_mark ys ys_are i y r mark there d)
+        go (Some mark) p e d = by_row (row_of_mark xs xs_are i x r mark here e)
+
+    same_index : x ≡ y
+    same_index =
+        let entry : Some (index_entry x) ≡ Some (index_entry y) = sym (ap (option_map index_entry) here) ∙ sym (xs_stand.2.indexes i) ∙ ys_stand.2.indexes i ∙ ap (option_map index_entry) there in
+        let mine = (xs_are.each i x here).given in
+        let other = (ys_are.each i y there).given in
+        let parts = index_bytes_one x.table y.table x.column y.column (x.given + 1) (y.given + 1) (omega (arith, mine)) (omega (arith, other)) cc in
+        index_is x y parts.0 parts.1 (let next = parts.2 in omega (arith, next)) (same_map int_cmp_total int_cmp-IsAntisymmetric x.marks y.marks same_marks)
+
+  same_indexes : (i : List ℕ) → get xs i ≡ get ys i
+  same_indexes i = go (get xs i) (get ys i) refl refl
+    where
+      entry : option_map index_entry (get xs i) ≡ option_map index_entry (get ys i)
+      entry = sym (xs_stand.2.indexes i) ∙ ys_stand.2.indexes i
+
+      go : (o p : Option Index) → get xs i ≡ o → get ys i ≡ p → get xs i ≡ get ys i
+      go None None e d = e ∙ sym d
+      go None (Some y) e d = let wrong : None ≡ Some (index_entry y) = sym (ap (option_map index_entry) e) ∙ entry ∙ ap (option_map index_entry) d in cc
+      go (Some x) None e d = let wrong : Some (index_entry x) ≡ None = sym (ap (option_map index_entry) e) ∙ entry ∙ ap (option_map index_entry) d in cc
+      go (Some x) (Some y) e d = e ∙ ap Some (same_index i x y e d) ∙ sym d
+
+  pub one_indexes : xs ≡ ys
+  one_indexes = same_map nat_list_cmp_total (slice_cmp-IsAntisymmetric nat_cmp-IsAntisymmetric) xs ys same_indexes
+
+-- ---- the state
+
+state_is : (m n : State) → m.tables ≡ n.tables → m.indexes ≡ n.indexes → m ≡ n
+state_is m n tables indexes i = record { tables = tables i; indexes = indexes i }
+
+pub one_state : OneState
+one_state c m n first second =
+    let tables = one_tables (at c) m.tables n.tables first.tables second.tables first.state.tables second.state.tables in
+    state_is m n tables
+    (one_indexes (at c) m.tables m.indexes n.indexes first.state.tables first.indexes
+    (subst (λ (ts : Tables). IndexesStand (at c) ts n.indexes) (sym tables) second.indexes) first.state.indexes
+    (subst (λ (ts : Tables). AreIndexes ts n.indexes) (sym tables) second.state.indexes))
