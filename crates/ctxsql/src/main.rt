@@ -3,8 +3,10 @@
 
 mod program;
 
+use ct_site::RealSite;
 use program::{Ended, work};
 
 fn main(rt: HostRuntime) -> Ended {
-    work(&rt)
+    let mut site = RealSite::new(&rt, None);
+    work(&rt, &mut site)
 }

@@ -1,18 +1,18 @@
 //! The work of the program, over any runtime.
 
-ghost use Rattle.std.specs.Prelude.{◌≡◌, ◌↔◌, ◌<◌, ◌^◌, IfErr, IfOk, length};
+ghost use Rattle.std.specs.Prelude.{◌≡◌, ◌↔◌, ◌<◌, ◌⊎◌, ◌^◌, IfErr, IfOk, length};
 ghost use Rattle.std.specs.Process.{exit_status};
 ghost use Rattle.std_io.specs.IoError.{error_kind};
 ghost use Rattle.db_console.specs.Table.{RanOver, SiteFaultsBy, Untouched, status_of};
 ghost use Rattle.db_console.specs.declared.endings.Ending.{Ending};
-ghost use Rattle.ctxsql.specs.Program.{EndedBy, status_without};
+ghost use Rattle.ctxsql.specs.Program.{IsIdle, status_without};
 
-use ct_site::{RealSite, Site};
+use ct_site::Site;
 use db_console::run;
 use std::alloc::Global;
 use std::io::ErrorKind;
 use std::process::{ExitCode, Termination};
-use std::rt::{Env, Files};
+use std::rt::Env;
 use std::thread::Threads;
 use std::{env, io};
 
@@ -31,7 +31,7 @@ impl Termination for Ended {
     }
 }
 
-/// The words of the command, without the program's own name.
+/// The arguments of the command.
 fn words(rt: &(impl Env + AllocGlobal)) -> io::Result<Vec<String>> {
     let mut words = Vec::new(rt.alloc());
     for word in env::args(rt)?.skip(1) {
@@ -40,7 +40,7 @@ fn words(rt: &(impl Env + AllocGlobal)) -> io::Result<Vec<String>> {
     Ok(words)
 }
 
-/// The status where the words can't be had: 5 for want of memory, else 2.
+/// The status where the arguments can't be had: 5 for want of memory, else 2.
 fn status_without_words(error: &io::Error) -> u8
     ensures { result ≡ status_without (error_kind error.now) }
 {
@@ -51,7 +51,7 @@ fn status_without_words(error: &io::Error) -> u8
     }
 }
 
-/// Runs the script that the site gives, where the words of the command could be had, and answers the status of the program.
+/// Runs the script that the site gives, where the arguments of the command could be had, and gives the status of the program.
 fn run_with<R: Threads + Sync, S: Site>(
     rt: &R,
     alloc: Global,
@@ -77,12 +77,14 @@ fn run_with<R: Threads + Sync, S: Site>(
     }
 }
 
-/// Does the work of the program over standard input and standard output.
-pub fn work<R: Threads + Sync + Env + Input + Print + Files + AllocGlobal>(rt: &R) -> Ended
-    ensures { EndedBy result.status }
+/// Does the work of the program over a site: runs the script that it gives, where the command has no argument.
+pub fn work<R: Threads + Sync + Env + AllocGlobal, S: Site>(rt: &R, site: &mut S) -> Ended
+    // it did nothing, or it ran the script
+    ensures ended { ((site.new ≡ site.old) × IsIdle result.status) ⊎ ((ending : Ending) × (result.status ≡ status_of ending) × RanOver 65536 (2 ^ 40) (2 ^ 36) (S.disk site.old) (S.disk site.new) ending) }
+    ensures faults { SiteFaultsBy result.status (S.disk site.old).beside (S.disk site.new).beside }
+    ensures no_disk { Untouched (S.disk site.old) (S.disk site.new) }
 {
     let words = words(rt);
-    let mut site = RealSite::new(rt, None);
-    let status = run_with(rt, rt.alloc(), &words, &mut site);
+    let status = run_with(rt, rt.alloc(), &words, site);
     Ended { status }
 }

@@ -1,10 +1,10 @@
 -- What the checks of an INSERT leave of its effect.
 use Rattle.std.proofs.Common.{◌≡◌, ℕ, ℤ, ◌<◌, ◌≤◌, Bool, true, false, List, [], length, Option, Some, None, refl, sym, ap, ◌∙◌, arith, inl, inr}
-use Rattle.std.specs.Prelude.{nat_le, not, is_some, IsTrue, ◌↔◌, ◌⊎◌}
-use Rattle.std.specs.Option.{option_map}
+use Rattle.std.specs.Prelude.{nat_le, not, IsTrue, ◌↔◌, ◌⊎◌}
 use Rattle.std.specs.List.{list_any}
 use Rattle.std.specs.FinMap.{get, entries}
 use Rattle.std.proofs.lemmas.Bool.{lt-leb, le-leb, cases_lt, false≢true}
+use Rattle.ct_base.specs.Limits.{row_limit}
 use Rattle.st_parse.specs.declared.statements.Operand.{Operand}
 use Rattle.tb_table.specs.declared.columns.Column.{Column}
 use Rattle.tb_table.specs.Tables.{Table}
@@ -13,17 +13,17 @@ use Rattle.db_cond.specs.Faults.{Refusal, UnknownName, KeyExists, OutOfRange}
 use Rattle.db_cond.specs.Refused.{refusal_of}
 use Rattle.db_state.specs.States.{State}
 use Rattle.db_state.specs.Effects.{Effect, Refused, Does, refuse, refuse_by, with_found, Checks}
-use Rattle.db_change.specs.Inserting.{are_of_sorts, arranged, check_list, check_values, has_row, has_too_long, insert_into, insert_row, insert_values, is_beyond_range, key_in, most_rows, others_kept, row_created, taken_key, with_new_row, IsFreeRow}
+use Rattle.db_change.specs.Inserting.{are_of_sorts, arranged, check_list, check_values, has_row, has_too_long, insert_into, insert_row, insert_values, is_beyond_range, key_in, others_kept, row_created, taken_key, with_new_row, IsFreeRow}
 use Rattle.ct_base.specs.laws.Options.{no_value as gone}
 
 -- ---- how many rows
 
-pub many_rows : (few : Bool) (n : ℕ) → IsTrue few ↔ (n ≤ 99999) → not few ≡ nat_le most_rows n
-many_rows true n h = let least : n ≤ 99999 = h.0 refl in sym (lt-leb most_rows n (omega arith))
+pub many_rows : (few : Bool) (n : ℕ) → IsTrue few ↔ (n ≤ 99999) → not few ≡ nat_le row_limit n
+many_rows true n h = let least : n ≤ 99999 = h.0 refl in sym (lt-leb row_limit n (omega arith))
 many_rows false n h = go (cases_lt 99999 n)
   where
-    go : (99999 < n) ⊎ (n ≤ 99999) → true ≡ nat_le most_rows n
-    go (inl more) = sym (le-leb most_rows n (omega arith))
+    go : (99999 < n) ⊎ (n ≤ 99999) → true ≡ nat_le row_limit n
+    go (inl more) = sym (le-leb row_limit n (omega arith))
     go (inr few) = absurd (false≢true (h.1 few))
 
 -- ---- chains of checks that lead on
@@ -47,10 +47,10 @@ not_taken false r h = refl
 -- ---- the values
 
 module _ (m : State) (t : List ℕ) (x : Table) (values : List Operand) (taken many : Bool) (columns : List Column)
-    (taken_is : taken ≡ has_row x (key_in values)) (many_is : many ≡ nat_le most_rows (length (entries x.rows))) (columns_are : x.columns ≡ columns) where
+    (taken_is : taken ≡ has_row x (key_in values)) (many_is : many ≡ nat_le row_limit (length (entries x.rows))) (columns_are : x.columns ≡ columns) where
   checked : insert_values m t x values ≡ check_values taken many columns values (with_found (key_in values) OutOfRange (λ (r : ℤ). insert_row m t values r))
   checked =
-      ap (λ (b : Bool). check_values b (nat_le most_rows (length (entries x.rows))) x.columns values (with_found (key_in values) OutOfRange (λ (r : ℤ). insert_row m t values r))) (sym taken_is)
+      ap (λ (b : Bool). check_values b (nat_le row_limit (length (entries x.rows))) x.columns values (with_found (key_in values) OutOfRange (λ (r : ℤ). insert_row m t values r))) (sym taken_is)
       ∙ ap (λ (b : Bool). check_values taken b x.columns values (with_found (key_in values) OutOfRange (λ (r : ℤ). insert_row m t values r))) (sym many_is)
       ∙ ap (λ (cs : List Column). check_values taken many cs values (with_found (key_in values) OutOfRange (λ (r : ℤ). insert_row m t values r))) columns_are
 

@@ -35,14 +35,13 @@ use Rattle.ix_context.specs.Indexes.{Index, Pending, waiting_on, noted_on}
 use Rattle.ix_context.specs.Rules.{AreIndexes}
 use Rattle.ix_context.specs.Spelling.{IndexesStand}
 use Rattle.ix_context.specs.Changes.{note_insert_changes}
-use Rattle.ix_context.specs.Spelling.{is_of_indexes}
 use Rattle.ix_context.specs.laws.Standing.{indexes_frame}
 use Rattle.ix_context.specs.laws.Changes.{stay_with_row}
 use Rattle.db_names.specs.declared.heads.IndexHead.{IndexHead}
 use Rattle.db_names.specs.Promises.{head_of, heads_of}
 use Rattle.db_names.specs.laws.Heads.{heads_at, heads_rise}
 use Rattle.db_names.specs.laws.Pairs.{lookup-find}
-use Rattle.db_state.specs.States.{State, IsState, Stands, is_view, is_built, indexes_on, most_indexes}
+use Rattle.db_state.specs.States.{State, IsState, Stands, is_view, is_built, indexes_on, index_limit}
 use Rattle.db_state.specs.Committing.{are_bounded}
 use Rattle.db_change.specs.Inserting.{note_all_changes, with_new_row}
 use Rattle.db_state.specs.laws.Heads.{heads, get-heads, head_of_index}
@@ -175,7 +174,7 @@ new_row_state m t x r vs is state row fit room = record {
   tables = insert_keeps m.tables t r vs x state.tables is row fit room;
   indexes = row_keeps m.tables m.indexes t r vs x is state.indexes;
   views = views_stay m t x r vs is state.views;
-  few = λ q. subst (λ (n : ℕ). n ≤ most_indexes) (sym (few_stay m.indexes t r q)) (state.few q);
+  few = λ q. subst (λ (n : ℕ). n ≤ index_limit) (sym (few_stay m.indexes t r q)) (state.few q);
 }
 
 -- ---- the entries

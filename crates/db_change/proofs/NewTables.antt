@@ -18,7 +18,7 @@ use Rattle.tb_table.specs.declared.columns.Column.{Column}
 use Rattle.tb_table.specs.Tables.{Table, Tables, with_table}
 use Rattle.tb_table.specs.Spelling.{TablesStand, table_changes}
 use Rattle.tb_table.specs.Rules.{AreColumns, HasAllowedSize, IsKeyFirst, AllColumns, AreApart, has_column}
-use Rattle.ct_base.specs.Limits.{text_limit}
+use Rattle.ct_base.specs.Limits.{column_limit, table_limit, text_limit}
 use Rattle.tb_table.specs.laws.Changes.{is_of_tables, all_create, stand_create, get-with_table, row_at-with_table}
 use Rattle.tb_table.specs.laws.Rules.{create_keeps}
 use Rattle.tb_table.specs.laws.Well.{are_create, TakesTables, well_create}
@@ -34,8 +34,8 @@ use Rattle.st_parse.specs.declared.statements.SortText.TheVariants.{Number as Nu
 use Rattle.std.specs.Option.{unwrap_or}
 use Rattle.tb_table.specs.declared.columns.Sort.TheVariants.{Number}
 use Rattle.db_state.specs.Effects.{Does, as_count}
-use Rattle.db_change.specs.Creating.{is_number, is_key_first, are_apart, is_size, is_sized, all_sized, sort_of, column_of, most_columns, IsFreeTable, with_new_table, check_table, create_table, table_created}
-use Rattle.db_state.specs.States.{State, Stands, is_view, is_built, most_tables}
+use Rattle.db_change.specs.Creating.{is_number, is_key_first, are_apart, is_size, is_sized, all_sized, sort_of, column_of, IsFreeTable, with_new_table, check_table, create_table, table_created}
+use Rattle.db_state.specs.States.{State, Stands, is_view, is_built}
 use Rattle.db_state.specs.Committing.{are_bounded}
 use Rattle.db_state.specs.laws.Chains.{passed}
 use Rattle.db_state.specs.laws.Bounded.{bounded_well}
@@ -155,7 +155,7 @@ key_first (c ∷ cs) h = number c.sort (both (is_number c.sort) c.primary (both 
 pub columns_pass : (m : State) (t : List ℕ) (cs : List ColumnText) → AllNamed cs → IsFreeTable m t cs → AreColumns (map column_of cs)
 columns_pass m t cs named free =
     let formed = both (is_key_first cs) (are_apart cs) free.formed in
-    let few = either (nat_lt most_columns (length cs)) (nat_le most_tables (length (entries m.tables))) free.few in
+    let few = either (nat_lt column_limit (length cs)) (nat_le table_limit (length (entries m.tables))) free.few in
     record {
       each = all_columns cs named free.sized;
       key = key_first cs formed.0;
@@ -171,7 +171,7 @@ all_named (c ∷ cs) all = (All-head (λ (k : Column). IsName k.name) (column_of
 pub created_table_stands : (c : Content) (m : State) (t : List ℕ) (cs : List ColumnText) → Stands c m → IsName t → AllNamed cs → IsFreeTable m t cs → Stands (after (spell (table_changes t (map column_of cs))) c) (with_new_table m t cs)
 created_table_stands c m t cs stands name named free =
     let there = either (is_some (get m.tables t)) (is_view t) free.free in
-    let few = either (nat_lt most_columns (length cs)) (nat_le most_tables (length (entries m.tables))) free.few in
+    let few = either (nat_lt column_limit (length cs)) (nat_le table_limit (length (entries m.tables))) free.few in
     new_table_stands c m t (map column_of cs) stands (no_some (get m.tables t) there.0) there.1 name (columns_pass m t cs named free) (leb-false 64 (length (entries m.tables)) few.1)
 
 -- no check holds of what is done
@@ -196,8 +196,8 @@ pub table_bounded : (m : State) (t : List ℕ) (cs : List ColumnText) → IsName
 table_bounded m t cs name named free = bounded_well (λ key value. true) (spell (table_changes t (map column_of cs))) (well_create (λ key value. true) t (map column_of cs) (takes_all (λ key value. true) (λ key value. refl)) name (columns_pass m t cs named free))
 
 -- the statement by what was read of the state
-pub table_read : (m : State) (t : List ℕ) (cs : List ColumnText) (there many : Bool) → there ≡ is_some (get m.tables t) → many ≡ nat_le most_tables (length (entries m.tables)) → create_table m t cs ≡ check_table there many t cs (Does (with_new_table m t cs) table_created)
-table_read m t cs there many is most = ap (λ (b : Bool). check_table b (nat_le most_tables (length (entries m.tables))) t cs (Does (with_new_table m t cs) table_created)) (sym is) ∙ ap (λ (b : Bool). check_table there b t cs (Does (with_new_table m t cs) table_created)) (sym most)
+pub table_read : (m : State) (t : List ℕ) (cs : List ColumnText) (there many : Bool) → there ≡ is_some (get m.tables t) → many ≡ nat_le table_limit (length (entries m.tables)) → create_table m t cs ≡ check_table there many t cs (Does (with_new_table m t cs) table_created)
+table_read m t cs there many is most = ap (λ (b : Bool). check_table b (nat_le table_limit (length (entries m.tables))) t cs (Does (with_new_table m t cs) table_created)) (sym is) ∙ ap (λ (b : Bool). check_table there b t cs (Does (with_new_table m t cs) table_created)) (sym most)
 
 -- the batch of a table that no check refuses
 pub table_made : (m : State) (k : Content) (t : List ℕ) (cs : List ColumnText) (batch : List (List ℕ × Option (List ℕ))) → Stands k m → IsName t

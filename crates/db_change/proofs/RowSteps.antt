@@ -3,6 +3,7 @@ use Rattle.std.proofs.Common.{◌≡◌, ℕ, ℤ, ◌≤◌, true, List, ◌++�
 use Rattle.std.specs.List.{All}
 use Rattle.std.specs.FinMap.{get, entries}
 use Rattle.std.proofs.lemmas.Bool.{leb-false}
+use Rattle.ct_base.specs.Limits.{row_limit}
 use Rattle.st_parse.specs.declared.statements.Operand.{Operand}
 use Rattle.ct_keep.specs.Content.{Content, after}
 use Rattle.ct_entry.specs.Keys.{at, IsRow}
@@ -16,7 +17,7 @@ use Rattle.db_names.specs.Promises.{heads_of}
 use Rattle.db_names.specs.laws.Heads.{indexes_of_read}
 use Rattle.db_state.specs.States.{State, Stands}
 use Rattle.db_state.specs.Committing.{are_bounded}
-use Rattle.db_change.specs.Inserting.{behind_key, kept_value, others_kept, most_rows, note_all_changes, with_new_row, IsFreeRow, IsNumberKept, IsTextKept}
+use Rattle.db_change.specs.Inserting.{behind_key, kept_value, others_kept, note_all_changes, with_new_row, IsFreeRow, IsNumberKept, IsTextKept}
 use Rattle.db_state.specs.laws.Heads.{heads, heads_stand}
 use Rattle.db_change.proofs.KeptValues.{others_fit, few_others}
 use Rattle.db_change.proofs.NewRows.{names_on, row_changes, row_changes_bounded, new_row_stands}
@@ -48,4 +49,4 @@ module _ (c : Content) (m : State) (t : List ℕ) (x : Table) (r : ℤ) (values 
   pub batch_stands : Stands (after batch c) (with_new_row m t r (others_kept values))
   batch_stands =
       subst (λ (ws : List (List ℕ × Option (List ℕ))). Stands (after ws c) (with_new_row m t r (others_kept values))) (sym batch_is)
-      (new_row_stands c m t x r (others_kept values) stands here free.free row (others_fit x values r free (subst (All IsNumberKept) behind numbers) (subst (All IsTextKept) behind texts)) (leb-false most_rows (length (entries x.rows)) free.few))
+      (new_row_stands c m t x r (others_kept values) stands here free.free row (others_fit x values r free (subst (All IsNumberKept) behind numbers) (subst (All IsTextKept) behind texts)) (leb-false row_limit (length (entries x.rows)) free.few))

@@ -11,21 +11,19 @@ use Rattle.st_parse.specs.declared.statements.Whole.{Whole}
 use Rattle.tb_table.specs.declared.columns.Sort.{Sort}
 use Rattle.tb_table.specs.declared.columns.Sort.TheVariants.{Number, Varchar2, Clob}
 use Rattle.tb_table.specs.declared.columns.Column.{Column}
-use Rattle.tb_table.specs.Tables.{Table, with_table}
-use Rattle.ct_base.specs.Limits.{text_limit}
+use Rattle.tb_table.specs.Tables.{with_table}
+use Rattle.ct_base.specs.Limits.{column_limit, table_limit, text_limit}
 use Rattle.db_cond.specs.Faults.{ExistsAlready, WrongValues, OutOfRange, LimitReached}
-use Rattle.db_state.specs.States.{State, is_view, most_tables}
+use Rattle.db_state.specs.States.{State, is_view}
 use Rattle.db_state.specs.Effects.{Effect, Does, refuse, as_count, Refused}
 use Rattle.st_parse.specs.declared.statements.Whole.TheVariants.{Fits, Beyond}
 
--- ---- CREATE TABLE
-
--- the first column, and no other, is NUMBER PRIMARY KEY
 abbrev pub is_number : SortText → Bool
 is_number NumberText = true
 is_number (Varchar2Text size) = false
 is_number ClobText = false
 
+-- the first column, and no other, is NUMBER PRIMARY KEY
 abbrev pub is_key_first : List ColumnText → Bool
 is_key_first [] = false
 is_key_first (c ∷ cs) = (is_number c.sort && c.primary) && list_all (λ (d : ColumnText). not d.primary) cs
@@ -35,11 +33,12 @@ abbrev pub are_apart : List ColumnText → Bool
 are_apart [] = true
 are_apart (c ∷ cs) = not (list_any (λ (d : ColumnText). same_list c.name d.name) cs) && are_apart cs
 
--- a VARCHAR2 column has a size from 1 to 4000
+-- a size that VARCHAR2 may have, from 1 on
 abbrev pub is_size : Option ℕ → Bool
 is_size None = false
 is_size (Some n) = nat_le 1 n && nat_le n text_limit
 
+-- a VARCHAR2 column has such a size
 abbrev pub is_sized : SortText → Bool
 is_sized NumberText = true
 is_sized (Varchar2Text size) = is_size (as_count size)
@@ -56,17 +55,13 @@ sort_of ClobText = Clob
 abbrev pub column_of : ColumnText → Column
 column_of c = record { name = c.name; sort = sort_of c.sort }
 
--- how many columns a table has at most
-abbrev pub most_columns : ℕ
-most_columns = 16
-
 -- the checks in their order: whether the table is there, and whether there are as many tables as there may be
 abbrev pub check_table : Bool → Bool → List ℕ → List ColumnText → Effect → Effect
 check_table there many t columns done =
     refuse (there || is_view t) (ExistsAlready t)
     (refuse (not (is_key_first columns && are_apart columns)) WrongValues
     (refuse (not (all_sized columns)) OutOfRange
-    (refuse (nat_lt most_columns (length columns) || many) LimitReached
+    (refuse (nat_lt column_limit (length columns) || many) LimitReached
     done)))
 
 abbrev pub table_created : List ℕ
@@ -77,7 +72,7 @@ with_new_table m t columns = record m { tables = with_table m.tables t (map colu
 
 abbrev pub create_table : State → List ℕ → List ColumnText → Effect
 create_table m t columns =
-    check_table (is_some (get m.tables t)) (nat_le most_tables (length (entries m.tables))) t columns
+    check_table (is_some (get m.tables t)) (nat_le table_limit (length (entries m.tables))) t columns
     (Does (with_new_table m t columns) table_created)
 
 -- no check holds
@@ -85,7 +80,7 @@ pub record IsFreeTable (m : State) (t : List ℕ) (columns : List ColumnText) : 
   pub free : (is_some (get m.tables t) || is_view t) ≡ false
   pub formed : (is_key_first columns && are_apart columns) ≡ true
   pub sized : all_sized columns ≡ true
-  pub few : (nat_lt most_columns (length columns) || nat_le most_tables (length (entries m.tables))) ≡ false
+  pub few : (nat_lt column_limit (length columns) || nat_le table_limit (length (entries m.tables))) ≡ false
 
 -- computed examples
 abbrev number_text : List ℕ → Bool → ColumnText

@@ -16,7 +16,7 @@ use Rattle.tb_table.specs.declared.columns.Sort.{Sort}
 use Rattle.tb_table.specs.declared.columns.Sort.TheVariants.{Number as NumberSort, Varchar2, Clob}
 use Rattle.tb_table.specs.declared.columns.Column.{Column}
 use Rattle.tb_table.specs.Tables.{Table, numbers_of, texts_of, with_row}
-use Rattle.ct_base.specs.Limits.{text_limit}
+use Rattle.ct_base.specs.Limits.{row_limit, text_limit}
 use Rattle.ix_context.specs.Indexes.{noted_on}
 use Rattle.ix_context.specs.Changes.{note_insert_changes}
 use Rattle.db_cond.specs.Faults.{UnknownName, WrongValues, KeyExists, ValueTooLong, OutOfRange, LimitReached}
@@ -135,10 +135,6 @@ IsTextKept (Number n) = Unit {0}
 abbrev pub note_all_changes : List (List ℕ) → ℤ → List (Key × Option (List ℕ))
 note_all_changes names r = each (λ i. note_insert_changes i r) names
 
--- how many rows a table has at most
-abbrev pub most_rows : ℕ
-most_rows = 100000
-
 -- ---- the statement
 
 -- the checks of the list, in their order
@@ -172,7 +168,7 @@ insert_row m t values r = Does (with_new_row m t r (others_kept values)) row_cre
 -- of range is refused before. So the last OutOfRange here is never reached.
 abbrev pub insert_values : State → List ℕ → Table → List Operand → Effect
 insert_values m t x values =
-    check_values (has_row x (key_in values)) (nat_le most_rows (length (entries x.rows))) x.columns values
+    check_values (has_row x (key_in values)) (nat_le row_limit (length (entries x.rows))) x.columns values
     (with_found (key_in values) OutOfRange (λ (r : ℤ). insert_row m t values r))
 
 -- no check holds of values in the order of the columns, of which this is the key
@@ -182,7 +178,7 @@ pub record IsFreeRow (x : Table) (values : List Operand) (r : ℤ) : Type 0 wher
   pub sorts : are_of_sorts x.columns values ≡ true
   pub short : has_too_long x.columns values ≡ false
   pub within : list_any is_beyond_range values ≡ false
-  pub few : nat_le most_rows (length (entries x.rows)) ≡ false
+  pub few : nat_le row_limit (length (entries x.rows)) ≡ false
 
 abbrev pub insert_into : State → List ℕ → Option (List (List ℕ)) → List Operand → Effect
 insert_into m t names values =
@@ -204,9 +200,9 @@ MakesRow m c t r values batch = (are_bounded batch ≡ true) × Stands (after ba
 abbrev pub PlansRow : State → Content → Table → List ℕ → List Column → List Operand → Result Plan KeepFault → Type 0
 PlansRow m c x t columns values result = x.columns ≡ columns → IfOk result (IsPlan (insert_values m t x values) row_created c)
 
--- computed examples: a table of id NUMBER PRIMARY KEY, word VARCHAR2(3), price NUMBER
-abbrev word_columns : List Column
-word_columns = record { name = codes "id"; sort = NumberSort } ∷ record { name = codes "change"; sort = Varchar2 3 } ∷ record { name = codes "price"; sort = NumberSort } ∷ []
+-- computed examples: a table of id NUMBER PRIMARY KEY, title VARCHAR2(3), price NUMBER
+abbrev title_columns : List Column
+title_columns = record { name = codes "id"; sort = NumberSort } ∷ record { name = codes "title"; sort = Varchar2 3 } ∷ record { name = codes "price"; sort = NumberSort } ∷ []
 
 abbrev one : Operand
 one = Number (Fits (pos 1))
@@ -214,41 +210,41 @@ one = Number (Fits (pos 1))
 abbrev beyond : Operand
 beyond = Number Beyond
 
-unknown_and_too_many : (done : Effect) → check_list word_columns (Some (codes "id" ∷ codes "nope" ∷ [])) (one ∷ one ∷ one ∷ []) done ≡ Refused (UnknownName (codes "nope"))
+unknown_and_too_many : (done : Effect) → check_list title_columns (Some (codes "id" ∷ codes "nope" ∷ [])) (one ∷ one ∷ one ∷ []) done ≡ Refused (UnknownName (codes "nope"))
 unknown_and_too_many done = refl
 
-one_twice : (done : Effect) → check_list word_columns (Some (codes "id" ∷ codes "id" ∷ codes "change" ∷ [])) (one ∷ one ∷ Text (codes "fox") ∷ []) done ≡ Refused WrongValues
+one_twice : (done : Effect) → check_list title_columns (Some (codes "id" ∷ codes "id" ∷ codes "title" ∷ [])) (one ∷ one ∷ Text (codes "fox") ∷ []) done ≡ Refused WrongValues
 one_twice done = refl
 
-too_few_values : (done : Effect) → check_list word_columns None (one ∷ []) done ≡ Refused WrongValues
+too_few_values : (done : Effect) → check_list title_columns None (one ∷ []) done ≡ Refused WrongValues
 too_few_values done = refl
 
-any_order : (done : Effect) → check_list word_columns (Some (codes "price" ∷ codes "id" ∷ codes "change" ∷ [])) (beyond ∷ one ∷ Text (codes "fox") ∷ []) done ≡ done
+any_order : (done : Effect) → check_list title_columns (Some (codes "price" ∷ codes "id" ∷ codes "title" ∷ [])) (beyond ∷ one ∷ Text (codes "fox") ∷ []) done ≡ done
 any_order done = refl
 
-in_order : arranged (Some (codes "price" ∷ codes "id" ∷ codes "change" ∷ [])) word_columns (beyond ∷ one ∷ Text (codes "fox") ∷ []) ≡ one ∷ Text (codes "fox") ∷ beyond ∷ []
+in_order : arranged (Some (codes "price" ∷ codes "id" ∷ codes "title" ∷ [])) title_columns (beyond ∷ one ∷ Text (codes "fox") ∷ []) ≡ one ∷ Text (codes "fox") ∷ beyond ∷ []
 in_order = refl
 
-wrong_sort_and_taken : (done : Effect) → check_values true true word_columns (one ∷ one ∷ one ∷ []) done ≡ Refused WrongValues
+wrong_sort_and_taken : (done : Effect) → check_values true true title_columns (one ∷ one ∷ one ∷ []) done ≡ Refused WrongValues
 wrong_sort_and_taken done = refl
 
-taken_and_too_long : (done : Effect) → check_values true true word_columns (one ∷ Text (codes "four") ∷ beyond ∷ []) done ≡ Refused (KeyExists (pos 1))
+taken_and_too_long : (done : Effect) → check_values true true title_columns (one ∷ Text (codes "four") ∷ beyond ∷ []) done ≡ Refused (KeyExists (pos 1))
 taken_and_too_long done = refl
 
-too_long_and_beyond : (done : Effect) → check_values false true word_columns (one ∷ Text (codes "four") ∷ beyond ∷ []) done ≡ Refused ValueTooLong
+too_long_and_beyond : (done : Effect) → check_values false true title_columns (one ∷ Text (codes "four") ∷ beyond ∷ []) done ≡ Refused ValueTooLong
 too_long_and_beyond done = refl
 
-beyond_and_too_many : (done : Effect) → check_values false true word_columns (one ∷ Text (codes "fox") ∷ beyond ∷ []) done ≡ Refused OutOfRange
+beyond_and_too_many : (done : Effect) → check_values false true title_columns (one ∷ Text (codes "fox") ∷ beyond ∷ []) done ≡ Refused OutOfRange
 beyond_and_too_many done = refl
 
-too_many_rows : (done : Effect) → check_values false true word_columns (one ∷ Text (codes "fox") ∷ one ∷ []) done ≡ Refused LimitReached
+too_many_rows : (done : Effect) → check_values false true title_columns (one ∷ Text (codes "fox") ∷ one ∷ []) done ≡ Refused LimitReached
 too_many_rows done = refl
 
-a_good_row : (done : Effect) → check_values false false word_columns (one ∷ Text (codes "fox") ∷ one ∷ []) done ≡ done
+a_good_row : (done : Effect) → check_values false false title_columns (one ∷ Text (codes "fox") ∷ one ∷ []) done ≡ done
 a_good_row done = refl
 
 -- a key out of range is no key that could be taken
-key_beyond : (done : Effect) → check_values true false word_columns (beyond ∷ Text (codes "fox") ∷ one ∷ []) done ≡ Refused OutOfRange
+key_beyond : (done : Effect) → check_values true false title_columns (beyond ∷ Text (codes "fox") ∷ one ∷ []) done ≡ Refused OutOfRange
 key_beyond done = refl
 
 kept : others_kept (one ∷ Text (codes "fox") ∷ one ∷ []) ≡ TextValue (codes "fox") ∷ NumberValue (pos 1) ∷ []

@@ -16,16 +16,13 @@ ghost use Rattle.db_state.specs.Effects.{Effect, as_count, Checks};
 ghost use Rattle.db_change.specs.Creating.{are_apart as columns_apart, check_table, column_of, all_sized, is_size, create_table as create_table_effect, is_key_first as key_first, is_number as sort_is_number, is_sized as sort_sized, sort_of, table_created};
 ghost use Rattle.db_state.specs.Plans.{Plans, Replies};
 
-use ct_base::{Memory, Name};
+use ct_base::{COLUMN_LIMIT, Memory, Name, TEXT_LIMIT};
 use ct_keep::{Batch, KeepFault, Keeper};
 use db_cond::Fault;
-use db_state::{Plan, TEXT_LIMIT, carry_out, has_most_tables, has_table, is_view};
+use db_state::{Plan, carry_out, has_most_tables, has_table, is_view};
 use st_parse::{ColumnText, SortText, Whole};
 use std::alloc::Global;
 use tb_table::{Column, Sort, create};
-
-/// How many columns a table has at most.
-const MOST_COLUMNS: usize = 16;
 
 fn is_number(sort: SortText) -> bool
     ensures { result ≡ sort_is_number sort }
@@ -78,7 +75,7 @@ fn are_apart(columns: &[ColumnText]) -> bool
     true
 }
 
-/// Whether a VARCHAR2 column has a size from 1 to 4000.
+/// Whether a VARCHAR2 column has a size from 1 to the limit of texts.
 fn is_sized(column: &ColumnText) -> bool
     ensures { result ≡ sort_sized column.now.sort }
 {
@@ -89,7 +86,7 @@ fn is_sized(column: &ColumnText) -> bool
     }
 }
 
-/// Whether each VARCHAR2 column has a size from 1 to 4000.
+/// Whether each VARCHAR2 column has a size from 1 to the limit of texts.
 fn are_sized(columns: &[ColumnText]) -> bool
     ensures { result ≡ all_sized columns.now }
 {
@@ -118,7 +115,7 @@ fn table_fault<'a>(
     if !are_sized(columns) {
         return Some(Fault::OutOfRange);
     }
-    if columns.len() > MOST_COLUMNS || many {
+    if columns.len() > COLUMN_LIMIT || many {
         return Some(Fault::LimitReached);
     }
     None
@@ -201,7 +198,8 @@ fn table_plan<'a, K: Keeper>(
     Ok(Plan::Done(batch))
 }
 
-/// CREATE TABLE.
+/// CREATE TABLE: makes a table without rows. It reads whether the name is free, and which tables there are. Its cost grows with the
+/// square of the columns written, also past 16, since two of one name are refused before too many are.
 pub fn create_table<K: Keeper>(
     alloc: Global,
     keeper: &mut K,

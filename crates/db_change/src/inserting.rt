@@ -5,6 +5,7 @@ ghost use Rattle.std.specs.Prelude.{◌≡◌, ◌≤◌, ◌<◌, ◌+◌, ◌+
 ghost use Rattle.std.specs.List.{list_any, list_all, filter_map, All};
 ghost use Rattle.std.specs.Option.{option_map};
 ghost use Rattle.std.specs.FinMap.{get, entries};
+ghost use Rattle.ct_base.specs.Limits.{row_limit};
 ghost use Rattle.ct_keep.specs.KeeperViews.{OnlyReads};
 ghost use Rattle.ct_entry.specs.Keys.{same_list};
 ghost use Rattle.ct_entry.specs.Changes.{spell};
@@ -13,21 +14,21 @@ ghost use Rattle.tb_table.specs.Tables.{Table, numbers_of, texts_of};
 ghost use Rattle.db_state.specs.States.{OverTable, TakesAll};
 ghost use Rattle.db_state.specs.Effects.{Effect, Checks};
 ghost use Rattle.db_state.specs.Columns.{first_unknown as unknown_name};
-ghost use Rattle.db_change.specs.Inserting.{MakesRow, PlansRow, row_changes, are_of_sorts as all_of_sorts, arranged as arranged_values, behind_key as others_of, check_list, check_values, covers as covers_columns, has_row as has_row_of, has_too_long as any_too_long, insert_into as insert_into_effect, is_beyond_range, is_of_sort as sort_takes, is_too_long as too_long_for, key_in as key_of, kept_value, number_value, text_value, IsNumberKept, IsTextKept, note_all_changes, most_rows, names_of, row_created, value_under as named_value, IsFreeRow};
+ghost use Rattle.db_change.specs.Inserting.{MakesRow, PlansRow, row_changes, are_of_sorts as all_of_sorts, arranged as arranged_values, behind_key as others_of, check_list, check_values, covers as covers_columns, has_row as has_row_of, has_too_long as any_too_long, insert_into as insert_into_effect, is_beyond_range, is_of_sort as sort_takes, is_too_long as too_long_for, key_in as key_of, kept_value, number_value, text_value, IsNumberKept, IsTextKept, note_all_changes, names_of, row_created, value_under as named_value, IsFreeRow};
 ghost use Rattle.db_state.specs.Plans.{Plans, Replies};
 
-use ct_base::{Memory, Name, RowKey, Text};
+use ct_base::{Memory, Name, ROW_LIMIT, RowKey, TEXT_LIMIT, Text};
 use ct_keep::{Batch, KeepFault, Keeper};
 use db_cond::Fault;
 use db_names::{IndexHead, indexes_of};
-use db_state::{Plan, TEXT_LIMIT, carry_out, has_column, table_columns};
+use db_state::{Plan, carry_out, has_column, table_columns};
 use ix_context::note_insert;
 use st_parse::{ColumnNames, Operand, Whole};
 use std::alloc::Global;
 use tb_table::{Column, Sort, has_row, insert, row_count_at_most};
 
 /// How many rows a table has at most where one more fits.
-const MOST_ROWS_BEFORE: u32 = 99_999;
+const MOST_ROWS_BEFORE: u32 = ROW_LIMIT - 1;
 
 // ---- the list of columns
 
@@ -413,7 +414,7 @@ fn is_taken<K: Keeper>(
 /// Whether the table has as many rows as it may have.
 fn has_most_rows<K: Keeper>(alloc: Global, keeper: &mut K, table: &Name) -> Result<bool, KeepFault>
     requires { (K.view keeper.old).ready }
-    ensures many { OverTable K.view keeper.old table.now (λ m c x. IfOk result (λ many. many ≡ nat_le most_rows (length (entries x.rows)))) }
+    ensures many { OverTable K.view keeper.old table.now (λ m c x. IfOk result (λ many. many ≡ nat_le row_limit (length (entries x.rows)))) }
     ensures reads { OnlyReads K.view keeper.old keeper.new result }
 {
     let few = row_count_at_most(alloc, keeper, table, MOST_ROWS_BEFORE)?;

@@ -60,8 +60,8 @@ pub record AreFirst (whole : Bool) (script : List ℕ) (turns done : List Turn) 
   pub rest : List ℕ
   pub cut : HasPieces whole script (pieces turns ++ later) rest
 
--- The reply to the last one was said in part: the bytes said are a front of all that the turns say, and not all of it,
--- and have in front all that the turns before the last one say. Where it is told what was said before and how many bytes may
+-- The reply to the last one was said in part: the bytes said are a prefix of all that the turns say, and not all of it,
+-- and begin with all that the turns before the last one say. Where it is told what was said before and how many bytes may
 -- be said in all, all that the turns say would have been too many. A stop now leaves the state after all of them.
 pub record SaidInPart (limit : ℕ) (whole : Bool) (script : List ℕ) (was : World) (turns : List Turn) (new : KeeperView) : Type 0 where
   pub done : List Turn
@@ -96,7 +96,7 @@ Ends limit most taken was turns new DiskFault = (whole : Bool) × (whole ≡ tru
 Ends limit most taken was turns new PastLimit = (first : List ℕ) × (more : ℕ) × (taken ≡ first ++ more ∷ []) × (length first ≡ most) × SaidAll limit false first was turns new
 
 -- The answers of a run. At each moment since its start, and now, a stop leaves the state after some of the first turns,
--- and what was said by then is a front of what these say.
+-- and what was said by then is a prefix of what these say.
 pub record Course (limit most : ℕ) (taken : List ℕ) (was : World) (old new : KeeperView) (ending : Ending) : Type 0 where
   pub turns : List Turn
   pub allowed : AllAllowed limit old.fixed.limit was.state turns
@@ -207,7 +207,7 @@ ten_bytes = (
   },
 )
 
--- hearing failed with_suffix a whole statement, which no newline had ended yet
+-- hearing failed after a whole statement, which no newline had ended yet
 not_ended : Ends 65536 10 (codes "SELEC;") (world []) [] (telling (codes "\n") []) HearFault
 not_ended = record {
   rest = codes "SELEC;";
@@ -216,7 +216,7 @@ not_ended = record {
   settled = settled_in_memory empty 0 no_counts _ _ _ None;
 }
 
--- the first reply was said, and the front of the second one, since both have 54 bytes
+-- the first reply was said, and a prefix of the second one, since both have 54 bytes
 in_part : SaidInPart 4 true (codes "a;\nSELEC;") (world []) (bad (codes "a") ∷ bad (codes "SELEC") ∷ []) (telling [] (codes "E10: statement not understood\nE1"))
 unfolding chars
 in_part = record {

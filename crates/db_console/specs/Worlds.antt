@@ -1,4 +1,4 @@
--- What serving some bytes of a script does to the world, and what a stop in between leaves of it.
+-- What serving some bytes of a script does to the world, and what a crash in between leaves of it.
 use Rattle.std.specs.Prelude.{ℕ, ◌≡◌, ◌<◌, Bool, true, false, List, [], ◌∷◌, ◌++◌, length, map, codes, Option, Some, refl}
 use Rattle.std.specs.Str.{chars}
 use Rattle.std.specs.Fmt.{digits}
@@ -17,7 +17,7 @@ abbrev pub pieces_of : Bool → List (List ℕ) → List ℕ → List Piece
 pieces_of false statements rest = map statement statements
 pieces_of true statements rest = map statement statements ++ rest_piece rest ∷ []
 
--- The script, whole or as far as it has come, has these pieces, and this stands with_suffix its last end.
+-- The script, whole or as far as it has come, has these pieces, and this is what follows its last end.
 pub record HasPieces (whole : Bool) (script : List ℕ) (all : List Piece) (rest : List ℕ) : Type 0 where
   pub statements : List (List ℕ)
   pub cut : Cuts whole script statements rest
@@ -36,13 +36,13 @@ world_after limit old turns = record { state = state_after limit old.state turns
 abbrev pub Times : Type 1
 Times = Timeline (Option Content)
 
--- A stop leaves a content that stands for this state.
+-- A crash leaves a content that stands for this state.
 pub record LeavesState (stopped : Option Content) (m : State) : Type 0 where
   pub content : Content
   pub is : stopped ≡ Some content
   pub stands : Stands content m
 
--- A moment of these turns: a stop leaves the state after some of the first ones, and what was said by then is a front of what these say.
+-- A moment of these turns: a crash leaves the state after some of the first ones, and what was said by then is a prefix of what these say.
 pub record IsMoment (limit : ℕ) (old : World) (turns : List Turn) (stopped : Option Content) (said : List ℕ) : Type 0 where
   pub done : List Turn
   pub later : List Turn
@@ -72,12 +72,12 @@ pub record ServedTo (limit store : ℕ) (held bytes : List ℕ) (old new : World
   pub served : Served limit store false held bytes old new before after
   pub stands : StandsOpen limit cutter served.rest
 
--- the front of some bytes
+-- a prefix of some bytes
 pub record IsFrontOf (front all : List ℕ) : Type 0 where
   pub rest : List ℕ
   pub is : all ≡ front ++ rest
 
--- the front of some bytes, and not all of them
+-- a prefix of some bytes, and not all of them
 pub record IsPartOf (part all : List ℕ) : Type 0 where
   pub rest : List ℕ
   pub is : all ≡ part ++ rest

@@ -10,16 +10,20 @@ use crate::saying::Stop;
 pub enum Ending {
     /// All of the script was answered.
     Done,
+    /// Standard input failed.
     HearFault,
+    /// Standard output failed.
     SayFault,
     /// There was no memory for a statement's buffer.
     NoMemory,
+    /// The disk failed. From then on the keeper may only hear and say.
     DiskFault,
     /// The script is too long.
     PastLimit,
 }
 
 impl Stop {
+    /// How the run ends by it.
     pub fn ending(self) -> Ending
         ensures { result ≡ ending_of self }
     {
@@ -31,7 +35,7 @@ impl Stop {
 }
 
 impl Ending {
-    /// The status of the program.
+    /// The status of the program (docs/ERRORS.md).
     pub fn status(self) -> u8
         ensures { result ≡ status_of self }
     {

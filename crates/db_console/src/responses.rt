@@ -27,16 +27,22 @@ use std::thread::Threads;
 /// What is said to a piece of a script.
 #[derive(Drop)]
 pub enum Response {
+    /// Nothing, as to a blank rest.
     Nothing,
     /// The lines of a reply.
     Lines(Bytes),
+    /// E10.
     NotUnderstood,
+    /// E19.
     TooLong,
+    /// E80.
     Full,
+    /// E90.
     NoMemory,
 }
 
 impl Response {
+    /// The bytes that are said.
     pub fn bytes(&self) -> &[u8]
         ensures { result.now ≡ bytes_of self.now }
     {

@@ -24,13 +24,11 @@ pub const STORE_LIMIT: u64 = 1 << 36;
 /// How many threads are at work on a statement at most.
 const DEGREE: u32 = 1;
 
-/// The status of a run with words that aren't understood.
-const BAD_WORDS: u8 = 2;
+/// The status where the command has an argument.
+const HAS_ARGUMENTS: u8 = 2;
 
-/// Serves a script of at most `most` bytes over a keeper, and answers a status: 0 where all of the script was answered, 3, 4 and 6
-/// exactly for a fault of hearing, of saying and of the disk, 5 where there was no memory to begin with, and 8 for a script of over `most`
-/// bytes. At most `degree` threads are at work on a statement. After 6 the keeper may be asked to hear and to say alone. Its
-/// cost is that of the statements.
+/// Serves a script of at most `most` bytes over a keeper, and gives the status (docs/ERRORS.md). At most `degree` threads are at
+/// work on a statement. After the status 6 the keeper may only hear and say. Its cost is that of the statements.
 pub fn serve<R: Threads + Sync, K: Keeper>(
     rt: &R,
     alloc: Global,
@@ -41,7 +39,7 @@ pub fn serve<R: Threads + Sync, K: Keeper>(
     requires ready { (K.view keeper.old).ready }
     requires takes { TakesAll (K.view keeper.old).fixed.well }
 
-    // the table of statuses, with the moments of a stop
+    // the table of statuses, with the moments of a crash
     ensures table { (ending : Ending) × (result ≡ status_of ending) × Outcome 65536 most (K.view keeper.old) (K.view keeper.new) ending }
 
     // causes
@@ -70,10 +68,8 @@ fn serve_over<R: Threads + Sync, S: Site>(rt: &R, alloc: Global, site: &mut S) -
     status
 }
 
-/// Runs the script that the site gives, and answers the status of the program: 0 where all of the script was answered, 2 where
-/// there is a word, 3 and 4 for a fault of hearing and of saying, 5 where there was no memory to begin with, and 8 for a script of
-/// over 2^40 bytes. It makes no call of the disk. What the statements make is kept in memory, and may weigh 2^36. Its cost is that
-/// of the statements.
+/// Runs the script that the site gives over an empty store in memory, which may weigh 2^36, and gives the status of the program
+/// (docs/ERRORS.md). `words` are the arguments of the command. Its cost is that of the statements.
 pub fn run<R: Threads + Sync, S: Site>(rt: &R, alloc: Global, words: &[String], site: &mut S) -> u8
     // words
     ensures words { (result ≡ 2) ↔ (0 < length words.now) }
@@ -92,7 +88,7 @@ pub fn run<R: Threads + Sync, S: Site>(rt: &R, alloc: Global, words: &[String], 
     ensures no_disk { Untouched (S.disk site.old) (S.disk site.new) }
 {
     if !words.is_empty() {
-        return BAD_WORDS;
+        return HAS_ARGUMENTS;
     }
     serve_over(rt, alloc, site)
 }

@@ -186,17 +186,12 @@ fn reply_to<K: Keeper>(
     }
 }
 
-/// Executes a statement, by at most one commit: the reply is the whole text, with its newlines, or Full or NoMemory, with which
-/// the content is as before. A statement that is refused leaves the content as it was, and one that only looks makes no commit,
-/// whether or not the content stands for a state. At most `degree` threads may work on it; for now one does.
-///
-/// Its cost is that of the statement: a SELECT reads the rows of its word and the fields that it asks for. An INSERT writes
-/// one row, reads the entries of all indexes, and, where a key of the table lies over 99,998 above its least, takes a look-up
-/// for each row of the table. A synchronisation costs what the texts of the rows that wait hold, times a logarithm.
+/// Executes a statement, by at most one commit. The reply is the whole text, with its newlines. At most `degree` threads may work
+/// on it; for now one does. Its cost is that of the statement's own function.
 ///
 /// # Errors
 ///
-/// Disk, only where the count of faults of the keeper's disk rose; the keeper may not be called again.
+/// Disk, only where the count of faults of the keeper's disk rose. From then on the keeper may only hear and say.
 pub fn execute<R: Threads + Sync, K: Keeper>(
     _rt: &R,
     alloc: Global,

@@ -16,6 +16,6 @@ pub enum Reply {
 /// What ends the run in place of a reply.
 #[derive(Clone, Copy, Debug, PartialEq, Eq)]
 pub enum Stop {
-    /// The disk failed; the keeper may not be called again.
+    /// The disk failed. From then on the keeper may only hear and say.
     Disk,
 }

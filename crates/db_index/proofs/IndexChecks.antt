@@ -28,7 +28,7 @@ use Rattle.ix_context.specs.laws.Rules.{rows_in-all}
 use Rattle.db_names.specs.declared.heads.IndexHead.{IndexHead}
 use Rattle.db_names.specs.Promises.{is_of, heads_of}
 use Rattle.db_cond.specs.Faults.{UnknownName}
-use Rattle.db_state.specs.States.{State, Stands, indexes_on, most_indexes}
+use Rattle.db_state.specs.States.{State, Stands, indexes_on, index_limit}
 use Rattle.db_state.specs.Effects.{Refused, Does, with_found}
 use Rattle.db_state.specs.Columns.{place_of, place_from}
 use Rattle.db_index.specs.Indexing.{has_index_on, has_too_many_rows, all_rows, target, is_text_at, check_index, index_created, with_new_index, create_index_on, create_index, IsFreeIndex}
@@ -109,12 +109,12 @@ few_rows m t x are there =
 
 -- the effect by what was read
 pub index_as : (m : State) (i t : List ℕ) (x : Table) (place : ℕ) (taken texts many : Bool) → AreTables m.tables → get m.tables t ≡ Some x
-    → taken ≡ (is_some (get m.indexes i) || has_index_on m.indexes t place) → texts ≡ is_text_at x.columns place → many ≡ nat_le most_indexes (length (indexes_on m.indexes t))
+    → taken ≡ (is_some (get m.indexes i) || has_index_on m.indexes t place) → texts ≡ is_text_at x.columns place → many ≡ nat_le index_limit (length (indexes_on m.indexes t))
     → create_index_on m i t x place ≡ check_index taken texts many i (Does (with_new_index m i t place) index_created)
 index_as m i t x place taken texts many are there taken_is texts_is many_is =
     let done = Does (with_new_index m i t place) index_created in
-    ap (λ (b : Bool). check_index b (is_text_at x.columns place) (nat_le most_indexes (length (indexes_on m.indexes t)) || has_too_many_rows m t) i done) (sym taken_is)
-    ∙ ap (λ (b : Bool). check_index taken b (nat_le most_indexes (length (indexes_on m.indexes t)) || has_too_many_rows m t) i done) (sym texts_is)
+    ap (λ (b : Bool). check_index b (is_text_at x.columns place) (nat_le index_limit (length (indexes_on m.indexes t)) || has_too_many_rows m t) i done) (sym taken_is)
+    ∙ ap (λ (b : Bool). check_index taken b (nat_le index_limit (length (indexes_on m.indexes t)) || has_too_many_rows m t) i done) (sym texts_is)
     ∙ ap (λ (b : Bool). check_index taken texts b i done) (or_false _ _ (few_rows m t x are there) ∙ sym many_is)
 
 -- no check holds of what is done

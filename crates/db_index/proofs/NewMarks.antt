@@ -1,6 +1,6 @@
 -- The state after a synchronisation, and after a new index.
 use Rattle.std.proofs.Common.{◌≡◌, ℕ, ℤ, pos, negsuc, ◌+◌, ◌-◌, ◌^◌, ◌≤◌, ◌<◌, Bool, false, true, cond, List, [], ◌∷◌, length, Option, Some, None, refl, sym, ap, subst, ◌∙◌, arith}
-use Rattle.std.specs.Prelude.{MatchOption, is_some, ◌||◌, ◌&&◌, ◌==◌, not, zero, suc, nat_le, int_lt}
+use Rattle.std.specs.Prelude.{MatchOption, is_some, ◌&&◌, ◌==◌, not, zero, suc, nat_le, int_lt}
 use Rattle.std.specs.List.{list_any}
 use Rattle.std.specs.declared.cmp.Ordering.TheVariants.{Less, Equal, Greater}
 use Rattle.std.specs.Ordering.{nat_cmp, int_cmp, is_lt, eq_by_cmp}
@@ -35,7 +35,7 @@ use Rattle.ix_context.specs.laws.Well.{are_changes, all_of_indexes, well_changes
 use Rattle.db_index.specs.Syncing.{has_too_many, with_synced}
 use Rattle.db_state.specs.Committing.{are_bounded}
 use Rattle.db_index.specs.Indexing.{is_text_sort, is_text_at, has_index_on, has_too_many_rows, all_rows, target, with_new_index, IsFreeIndex}
-use Rattle.db_state.specs.States.{State, Stands, indexes_on, most_indexes, is_built}
+use Rattle.db_state.specs.States.{State, Stands, indexes_on, index_limit, is_built}
 use Rattle.db_index.proofs.Counting.{one, counted, count_insert, one_true, one_false}
 use Rattle.db_state.specs.laws.Bounded.{any_entry, bounded_well}
 use Rattle.std.proofs.lemmas.Bool.{or_parts as either}
@@ -112,7 +112,7 @@ synced_stands c m i x stands there few =
         tables = stands.state.tables;
         indexes = sync_keeps m.tables m.indexes i x there (room_left x few) stands.state.indexes;
         views = stands.state.views;
-        few = λ t. subst (λ (n : ℕ). n ≤ most_indexes) (sym (few_synced m.indexes i x there t)) (stands.state.few t);
+        few = λ t. subst (λ (n : ℕ). n ≤ index_limit) (sym (few_synced m.indexes i x there t)) (stands.state.few t);
       };
     }
 
@@ -177,8 +177,8 @@ every_row r row = both_in (is_lt (int_cmp r all_rows.from.0)) (is_lt (int_cmp al
     not_above (negsuc n) row = refl
 
 -- a table has at most one index more
-few_created : (xs : Names Index) (i : List ℕ) (x : Index) → get xs i ≡ None → (t : List ℕ) → length (indexes_on xs x.table) < most_indexes → ((q : List ℕ) → length (indexes_on xs q) ≤ most_indexes)
-    → length (indexes_on (insert xs i x) t) ≤ most_indexes
+few_created : (xs : Names Index) (i : List ℕ) (x : Index) → get xs i ≡ None → (t : List ℕ) → length (indexes_on xs x.table) < index_limit → ((q : List ℕ) → length (indexes_on xs q) ≤ index_limit)
+    → length (indexes_on (insert xs i x) t) ≤ index_limit
 few_created xs i x none t room few =
     let counts = count_insert (slice_cmp nat_cmp) (λ (y : Index). same_list y.table t) nat_list_cmp_total xs i x in
     let free : counted {K = List ℕ} (slice_cmp nat_cmp) (λ (y : Index). same_list y.table t) (get xs i) ≡ 0 = ap (counted {K = List ℕ} (slice_cmp nat_cmp) (λ (y : Index). same_list y.table t)) none in
@@ -186,8 +186,8 @@ few_created xs i x none t room few =
   where
     go : (b : Bool) → same_list x.table t ≡ b
         → length (indexes_on (insert xs i x) t) + counted {K = List ℕ} (slice_cmp nat_cmp) (λ (y : Index). same_list y.table t) (get xs i) ≡ length (indexes_on xs t) + one (same_list x.table t)
-        → counted {K = List ℕ} (slice_cmp nat_cmp) (λ (y : Index). same_list y.table t) (get xs i) ≡ 0 → length (indexes_on xs t) ≤ most_indexes
-        → length (indexes_on (insert xs i x) t) ≤ most_indexes
+        → counted {K = List ℕ} (slice_cmp nat_cmp) (λ (y : Index). same_list y.table t) (get xs i) ≡ 0 → length (indexes_on xs t) ≤ index_limit
+        → length (indexes_on (insert xs i x) t) ≤ index_limit
     go true is counts free few =
         let more : one (same_list x.table t) ≡ 1 = ap one is ∙ one_true in
         let here : length (indexes_on xs t) ≡ length (indexes_on xs x.table) = ap (λ (q : List ℕ). length (indexes_on xs q)) (sym (list_from_same x.table t is)) in
@@ -199,7 +199,7 @@ few_created xs i x none t room few =
 pub new_index_stands : (c : Content) (m : State) (i t : List ℕ) (x : Table) (place : ℕ) → Stands c m → IsName i → IsFreeIndex m i t x place → Stands (after (spell (create_changes m.tables i (target t place) all_rows)) c) (with_new_index m i t place)
 new_index_stands c m i t x place stands name free =
     let ws = create_changes m.tables i (target t place) all_rows in
-    let few = either (nat_le most_indexes (length (indexes_on m.indexes t))) (has_too_many_rows m t) free.few in
+    let few = either (nat_le index_limit (length (indexes_on m.indexes t))) (has_too_many_rows m t) free.few in
     let room = ltb-false most_given (length (rows_in m.tables t all_rows)) few.1 in
     let taken = either (is_some (get m.indexes i)) (has_index_on m.indexes t place) free.free in
     let none : get m.indexes i ≡ None = no_some (get m.indexes i) taken.0 in
@@ -213,13 +213,13 @@ new_index_stands c m i t x place stands name free =
         tables = stands.state.tables;
         indexes = create_keeps m.tables m.indexes i (target t place) all_rows name none (target_of_texts m t x place free.there free.texts) (column_free m.indexes t place taken.1) every_row room stands.state.tables stands.state.indexes;
         views = stands.state.views;
-        few = λ q. few_created m.indexes i (created m.tables (target t place) all_rows) none q (leb-false most_indexes (length (indexes_on m.indexes t)) few.0) stands.state.few;
+        few = λ q. few_created m.indexes i (created m.tables (target t place) all_rows) none q (leb-false index_limit (length (indexes_on m.indexes t)) few.0) stands.state.few;
       };
     }
 
 pub new_index_bounded : (c : Content) (m : State) (i t : List ℕ) (x : Table) (place : ℕ) → Stands c m → IsName i → IsFreeIndex m i t x place → are_bounded (spell (create_changes m.tables i (target t place) all_rows)) ≡ true
 new_index_bounded c m i t x place stands name free =
     let ws = create_changes m.tables i (target t place) all_rows in
-    let few = either (nat_le most_indexes (length (indexes_on m.indexes t))) (has_too_many_rows m t) free.few in
+    let few = either (nat_le index_limit (length (indexes_on m.indexes t))) (has_too_many_rows m t) free.few in
     bounded_well any_entry (spell ws) (well_changes any_entry ws (λ k value of. refl)
     (index_changes_create m.tables i (target t place) all_rows stands.state.tables name (stands.state.tables.names t x free.there) (ltb-false most_given (length (rows_in m.tables t all_rows)) few.1)))

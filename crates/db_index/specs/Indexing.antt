@@ -13,7 +13,7 @@ use Rattle.ix_context.specs.declared.ranges.KeyRange.{KeyRange}
 use Rattle.ix_context.specs.Indexes.{Index, rows_in, with_index}
 use Rattle.ix_context.specs.Rules.{most_given}
 use Rattle.db_cond.specs.Faults.{UnknownName, ExistsAlready, WrongValues, LimitReached}
-use Rattle.db_state.specs.States.{State, indexes_on, most_indexes}
+use Rattle.db_state.specs.States.{State, indexes_on, index_limit}
 use Rattle.db_state.specs.Effects.{Effect, Does, refuse, with_found, Refused}
 use Rattle.db_state.specs.Columns.{place_of}
 use Rattle.ct_keep.specs.declared.keepers.KeepFault.{KeepFault}
@@ -22,8 +22,6 @@ use Rattle.ct_entry.specs.Changes.{spell}
 use Rattle.ix_context.specs.Changes.{create_changes}
 use Rattle.db_state.specs.declared.plans.Plan.{Plan}
 use Rattle.db_state.specs.Plans.{IsPlan}
-
--- ---- CREATE INDEX
 
 abbrev pub is_text_sort : Sort → Bool
 is_text_sort Number = false
@@ -70,7 +68,7 @@ create_index_on m i t x place =
     check_index
     (is_index_taken m i t place)
     (is_text_at x.columns place)
-    (nat_le most_indexes (length (indexes_on m.indexes t)) || has_too_many_rows m t)
+    (nat_le index_limit (length (indexes_on m.indexes t)) || has_too_many_rows m t)
     i
     (Does (with_new_index m i t place) index_created)
 
@@ -79,7 +77,7 @@ pub record IsFreeIndex (m : State) (i t : List ℕ) (x : Table) (place : ℕ) : 
   pub there : get m.tables t ≡ Some x
   pub free : is_index_taken m i t place ≡ false
   pub texts : is_text_at x.columns place ≡ true
-  pub few : (nat_le most_indexes (length (indexes_on m.indexes t)) || has_too_many_rows m t) ≡ false
+  pub few : (nat_le index_limit (length (indexes_on m.indexes t)) || has_too_many_rows m t) ≡ false
 
 abbrev pub create_index : State → List ℕ → List ℕ → List ℕ → Effect
 create_index m i t column =

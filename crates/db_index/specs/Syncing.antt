@@ -16,8 +16,6 @@ use Rattle.db_state.specs.Effects.{Effect, Refused, Does, refuse, refuse_by, wit
 use Rattle.st_parse.specs.declared.statements.Whole.TheVariants.{Fits}
 use Rattle.db_state.specs.Lines.{call_done}
 
--- ---- CTX_DDL.SYNC_INDEX
-
 -- the name that an argument spells, in lower case
 abbrev pub spelt_name : List ℕ → Option (List ℕ)
 spelt_name text = if is_spelling text then Some (map to_ascii_lowercase text) else None
@@ -32,10 +30,11 @@ are_sync_args (TextArg name ∷ []) = true
 are_sync_args (TextArg name ∷ TextArg memory ∷ []) = true
 are_sync_args args = false
 
--- digits, and then one of K, M and G in any case; `some` tells whether there was a digit
+-- one of K, M and G, in any case
 abbrev pub is_unit : ℕ → Bool
 is_unit b = (to_ascii_lowercase b == 0x6b) || ((to_ascii_lowercase b == 0x6d) || (to_ascii_lowercase b == 0x67))
 
+-- digits, and then a unit; `some` tells whether there was a digit before
 abbrev pub is_size_from : Bool → List ℕ → Bool
 is_size_from some [] = false
 is_size_from some (b ∷ []) = some && is_unit b

@@ -15,8 +15,6 @@ use Rattle.db_state.specs.Effects.{Effect, Refused, Does, refuse}
 use Rattle.std.specs.Fmt.{digits}
 use Rattle.db_state.specs.Lines.{lines_or_none}
 
--- ---- CTX_DOC.POLICY_TOKENS
-
 -- the line of a token: its key, the place of its first byte, and how many bytes of the text it has
 abbrev pub token_line : Token → List Value
 token_line t = Text t.key ∷ Number (pos t.start) ∷ Number (pos (t.end - t.start)) ∷ []

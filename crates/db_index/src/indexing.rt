@@ -5,7 +5,7 @@ ghost use Rattle.std.specs.Prelude.{◌≡◌, ◌<◌, IfOk, Some, nat_le, leng
 ghost use Rattle.ct_base.specs.Names.{IsName};
 ghost use Rattle.ct_keep.specs.KeeperViews.{OnlyReads};
 ghost use Rattle.tb_table.specs.Tables.{Table};
-ghost use Rattle.db_state.specs.States.{OverStates, OverTable, TakesAll, indexes_on, most_indexes, Sees};
+ghost use Rattle.db_state.specs.States.{OverStates, OverTable, TakesAll, indexes_on, index_limit, Sees};
 ghost use Rattle.db_state.specs.Effects.{Effect, Checks};
 ghost use Rattle.db_index.specs.Indexing.{MakesIndex, PlansIndex, check_index, create_index as create_index_effect, has_index_on as column_has_index, index_created, is_index_taken, is_text_at as text_at, is_text_sort as sort_of_texts, IsFreeIndex};
 ghost use Rattle.db_state.specs.Plans.{Plans, Replies};
@@ -20,7 +20,7 @@ use std::alloc::Global;
 use tb_table::{Column, Sort};
 
 /// How many indexes a table has at most.
-const MOST_INDEXES: usize = 16;
+const INDEX_LIMIT: usize = 16;
 
 /// Whether the type is one of texts.
 fn is_text_sort(sort: Sort) -> bool
@@ -80,9 +80,9 @@ fn is_taken<K: Keeper>(
 
 /// Whether these are as many indexes as a table may have.
 fn are_most(indexes: &[(Name, IndexHead)]) -> bool
-    ensures { result ≡ nat_le most_indexes (length indexes.now) }
+    ensures { result ≡ nat_le index_limit (length indexes.now) }
 {
-    indexes.len() >= MOST_INDEXES
+    indexes.len() >= INDEX_LIMIT
 }
 
 /// Whether a table has as many indexes as it may have.
@@ -92,7 +92,7 @@ fn has_most_indexes<K: Keeper>(
     table: &Name,
 ) -> Result<bool, KeepFault>
     requires { (K.view keeper.old).ready }
-    ensures many { Sees K.view keeper.old result (λ m many. many ≡ nat_le most_indexes (length (indexes_on m.indexes table.now))) }
+    ensures many { Sees K.view keeper.old result (λ m many. many ≡ nat_le index_limit (length (indexes_on m.indexes table.now))) }
     ensures reads { OnlyReads K.view keeper.old keeper.new result }
 {
     let indexes = indexes_of(alloc, keeper, table)?;

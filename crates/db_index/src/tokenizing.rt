@@ -1,4 +1,4 @@
-//! The calls of procedures.
+//! CTX_DOC.POLICY_TOKENS.
 #![tactic(auto)]
 
 ghost use Rattle.std.specs.Prelude.{◌≡◌, ◌++◌, map, IfOk, OnOk};
@@ -8,9 +8,8 @@ ghost use Rattle.db_state.specs.Effects.{reply_by, state_by};
 ghost use Rattle.db_state.specs.Lines.{lines_or_none};
 ghost use Rattle.db_index.specs.Tokenizing.{policy_tokens as policy_tokens_effect, token_line, tokens_of_text};
 
-use ct_base::Memory;
+use ct_base::{Memory, TEXT_LIMIT};
 use db_cond::{Fault, fault_line, no_rows, word_line};
-use db_state::TEXT_LIMIT;
 use st_parse::Arg;
 use std::alloc::Global;
 use tx_lexer::{Lexer, Token};

@@ -1,4 +1,4 @@
--- What a statement does: it is refused, or it leads to a state with a reply.
+-- The columns of a table by their names.
 use Rattle.std.specs.Prelude.{ℕ, suc, List, [], ◌∷◌, Option, Some, None, ◌≡◌, codes, refl}
 use Rattle.std.specs.Bool.{if◌then◌else◌}
 use Rattle.ct_entry.specs.Keys.{same_list}

@@ -1,4 +1,4 @@
--- What executing a statement does to what is known of a keeper.
+-- What the function of a statement returns, against its effect; and the plan that is carried out.
 use Rattle.std.specs.Prelude.{ℕ, ◌≡◌, ◌<◌, ◌⊎◌, true, false, List, Option, Some, None, Result, Ok, Err, Vec, IfOk, [], refl}
 use Rattle.std.specs.declared.alloc.Global.{Global}
 use Rattle.ct_keep.specs.Content.{Content, after}

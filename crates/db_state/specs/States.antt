@@ -32,19 +32,16 @@ is_view name = bytes_eq name (codes "ctx_user_pending") || bytes_eq name (codes 
 abbrev pub indexes_on : Names Index → List ℕ → List (List ℕ × Index)
 indexes_on xs t = filter (λ e. same_list e.1.table t) (entries xs)
 
--- how many indexes a table has at most, and how many tables there are
-abbrev pub most_indexes : ℕ
-most_indexes = 16
-
-abbrev pub most_tables : ℕ
-most_tables = 64
+-- how many indexes a table has at most
+abbrev pub index_limit : ℕ
+index_limit = 16
 
 -- The rules that hold in every state.
 pub record IsState (m : State) : Type 0 where
   pub tables : AreTables m.tables
   pub indexes : AreIndexes m.tables m.indexes
   pub views : (t : List ℕ) (x : Table) → get m.tables t ≡ Some x → is_view t ≡ false
-  pub few : (t : List ℕ) → length (indexes_on m.indexes t) ≤ most_indexes
+  pub few : (t : List ℕ) → length (indexes_on m.indexes t) ≤ index_limit
 
 -- A keeper may hold any entry, within the bounds.
 abbrev pub TakesAll : (List ℕ → List ℕ → Bool) → Type 0

@@ -1,4 +1,4 @@
-//! The columns of a table by their names, and how long texts are.
+//! The columns of a table by their names.
 #![tactic(auto)]
 
 ghost use Rattle.std.specs.Prelude.{◌≡◌};
@@ -7,9 +7,6 @@ ghost use Rattle.db_state.specs.Columns.{place_of as column_place};
 
 use ct_base::Name;
 use tb_table::Column;
-
-/// How many bytes a text of any type has at most.
-pub const TEXT_LIMIT: u16 = 4000;
 
 /// The place of a column by its name, that of the key being 0. Its cost is the number of columns.
 pub fn place_of(name: &Name, columns: &[Column]) -> Option<usize>

@@ -7,7 +7,7 @@ mod laws;
 mod lookups;
 mod plans;
 
-pub use columns::{TEXT_LIMIT, has_column, place_of};
+pub use columns::{has_column, place_of};
 pub use committing::fixed_reply;
 pub use laws::one_state;
 pub use lookups::{

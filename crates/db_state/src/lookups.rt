@@ -4,27 +4,25 @@
 ghost use Rattle.std.specs.Prelude.{◌≡◌, ◌<◌, IfOk, Some, is_some, nat_le, length};
 ghost use Rattle.std.specs.Option.{option_map};
 ghost use Rattle.std.specs.FinMap.{get, entries};
+ghost use Rattle.ct_base.specs.Limits.{table_limit};
 ghost use Rattle.ct_keep.specs.Content.{Content};
 ghost use Rattle.ct_keep.specs.KeeperViews.{OnlyReads};
 ghost use Rattle.tb_table.specs.Tables.{Table};
-ghost use Rattle.db_state.specs.States.{OverStates, State, Stands, is_view as is_view_name, most_tables, Sees};
+ghost use Rattle.db_state.specs.States.{OverStates, State, Stands, is_view as is_view_name, Sees};
 ghost use Rattle.db_state.specs.Lookups.{FoundOn};
 
-use ct_base::{Memory, Name};
+use ct_base::{Memory, Name, TABLE_LIMIT};
 use ct_keep::{KeepFault, Keeper};
 use db_names::{IndexKind, index_of, index_on};
 use std::alloc::Global;
 use tb_table::{Column, Target, columns_of, tables};
 
-/// Whether a name is kept for what is only looked at.
+/// Whether the name is reserved for a view, so that no table has it.
 pub fn is_view(name: &str) -> bool
     ensures { result ≡ is_view_name name.now }
 {
     name == "ctx_user_pending" || name == "ctx_user_index_errors"
 }
-
-/// How many tables there are at most.
-const MOST_TABLES: usize = 64;
 
 /// The columns of a table, where it is there.
 pub fn table_columns<K: Keeper>(
@@ -51,15 +49,15 @@ pub fn has_table<K: Keeper>(alloc: Global, keeper: &mut K, table: &Name) -> Resu
 
 /// Whether these are the names of as many tables as there may be.
 fn are_most(names: &[Name]) -> bool
-    ensures { result ≡ nat_le most_tables (length names.now) }
+    ensures { result ≡ nat_le table_limit (length names.now) }
 {
-    names.len() >= MOST_TABLES
+    names.len() >= TABLE_LIMIT
 }
 
 /// Whether there are as many tables as there may be.
 pub fn has_most_tables<K: Keeper>(alloc: Global, keeper: &mut K) -> Result<bool, KeepFault>
     requires { (K.view keeper.old).ready }
-    ensures many { Sees K.view keeper.old result (λ m many. many ≡ nat_le most_tables (length (entries m.tables))) }
+    ensures many { Sees K.view keeper.old result (λ m many. many ≡ nat_le table_limit (length (entries m.tables))) }
     ensures reads { OnlyReads K.view keeper.old keeper.new result }
 {
     let names = tables(alloc, keeper)?;
