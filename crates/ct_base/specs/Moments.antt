@@ -1,5 +1,5 @@
 -- Moments: what a crash might have left at some time, and the bytes said by then.
-use Rattle.std.specs.Prelude.{ℕ, ◌≡◌, ◌≤◌, ◌⊎◌, List}
+use Rattle.std.specs.Prelude.{ℕ, ◌≡◌, ◌≤◌, ◌⊎◌, List, refl}
 use Rattle.std.proofs.Common.{inl, inr, ⊎_elim, arith}
 
 -- An object's own time. `since t x said` says that at some moment from t on a crash might have left x, when this was said.
@@ -32,3 +32,6 @@ grew = record { later = omega arith; kept = λ t x said le was. inl was }
 
 an_eight_came : Passes one_moment two_moments (λ x said. x ≡ 8)
 an_eight_came = record { adds = λ t x said now. ⊎_elim (λ was. inl was) (λ new. inr new.1) now }
+
+its_clock : two_moments.clock ≡ 2
+its_clock = refl

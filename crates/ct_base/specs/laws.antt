@@ -5,6 +5,5 @@ pub mod Lists
 pub mod Orders
 pub mod Names
 pub mod Told
-pub mod Causes
 pub mod Moments
 pub mod Zeros

@@ -44,4 +44,11 @@ impl Text {
     {
         self.text.as_str()
     }
+
+    /// Its bytes, without a copy.
+    pub fn into_bytes(self) -> Vec<u8>
+        ensures { result.items ≡ self }
+    {
+        self.text.into_bytes()
+    }
 }

@@ -145,7 +145,7 @@ pub cast_err : {E P : Type 0} (r : Result ℕ E) (v : ℕ) → OkIff r P v → N
 cast_err (Ok x) v iff is = cc
 cast_err (Err e) v iff is = iff
 
--- a varint at a place, and at the front of what stands from there on
+-- a varint at a place, and at the beginning of what stands from there on
 pub at_place : (bytes rest : List ℕ) (at n len : ℕ) → rest ≡ drop at bytes → IsVarintAt rest 0 n len → IsVarintAt bytes at n (at + len)
 at_place bytes rest at n len is prefix = record {
   small = prefix.small;
@@ -153,8 +153,8 @@ at_place bytes rest at n len is prefix = record {
   end = omega (arith, prefix.end);
 }
 
-pub at_front : (bytes rest : List ℕ) (at n next : ℕ) → rest ≡ drop at bytes → IsVarintAt bytes at n next → IsVarintAt rest 0 n (length (varint n))
-at_front bytes rest at n next is place = record {
+pub at_its_place : (bytes rest : List ℕ) (at n next : ℕ) → rest ≡ drop at bytes → IsVarintAt bytes at n next → IsVarintAt rest 0 n (length (varint n))
+at_its_place bytes rest at n next is place = record {
   small = place.small;
   spelt = is ∙ place.spelt ∙ ap (λ x. varint n ++ x) (ap (λ k. drop k bytes) place.end ∙ sym (drop-drop (length (varint n)) at bytes) ∙ ap (drop (length (varint n))) (sym is));
   end = omega arith;

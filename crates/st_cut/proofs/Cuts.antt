@@ -79,10 +79,10 @@ pub open_newline_none : (held : List ℕ) → first_statement false held ≡ Non
 open_newline_none [] h e = grind arith
 open_newline_none (c ∷ cs) h e = grind (arith, line_newline_none, open_newline_none cs)
 
--- the statement is the front of what stands
-pub first_front : (w : Bool) (bs : List ℕ) (found : List ℕ × List ℕ) → first_statement w bs ≡ Some found → take (length found.0) bs ≡ found.0
-first_front w [] found h = cc
-first_front w (c ∷ cs) found h = grind (arith, first_front w cs)
+-- the statement is the beginning of what stands
+pub first_prefix : (w : Bool) (bs : List ℕ) (found : List ℕ × List ℕ) → first_statement w bs ≡ Some found → take (length found.0) bs ≡ found.0
+first_prefix w [] found h = cc
+first_prefix w (c ∷ cs) found h = grind (arith, first_prefix w cs)
 
 pub first_short : (w : Bool) (bs : List ℕ) (found : List ℕ × List ℕ) → first_statement w bs ≡ Some found → length found.0 < length bs
 first_short w [] found h = cc

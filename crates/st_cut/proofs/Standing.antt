@@ -2,7 +2,7 @@ use Rattle.std.proofs.Common.{ℕ, ◌≡◌, ◌+◌, ◌≤◌, min, zero, suc
 use Rattle.std.proofs.lemmas.Bool.{cases_Bool}
 use Rattle.st_cut.specs.Cut.{is_blank_byte, first_statement}
 use Rattle.st_cut.specs.Seen.{Seen, clip, end_count, next_stop, StandsOpen}
-use Rattle.st_cut.proofs.Cuts.{open_other, open_newline, open_newline_none, open_blank, open_byte, open_semicolon, first_front}
+use Rattle.st_cut.proofs.Cuts.{open_other, open_newline, open_newline_none, open_blank, open_byte, open_semicolon, first_prefix}
 
 pub take_again : (n : ℕ) (xs : List ℕ) (b : ℕ) → take n (take n xs ++ b ∷ []) ≡ take n (xs ++ b ∷ [])
 take_again zero xs b = refl
@@ -74,5 +74,5 @@ pub statement_kept : (limit stop : ℕ) (now : Seen) (held statement : List ℕ)
 statement_kept limit stop now held statement s h e w =
     let p : stop ≡ clip limit (length statement) = stands_statement limit stop now held statement s h e in
     let q : stop ≡ length statement = omega arith in
-    let f : take (length statement) held ≡ statement = first_front true held (statement, []) h in
+    let f : take (length statement) held ≡ statement = first_prefix true held (statement, []) h in
     (rw (s.kept, q) (take-take (length statement) limit held (omega arith) ∙ f), omega arith)

@@ -12,7 +12,7 @@ use Rattle.st_parse.specs.declared.statements.IndexKind.TheVariants.{Context}
 use Rattle.st_parse.specs.declared.statements.Statement.TheVariants.{CreateTable, CreateIndex}
 use Rattle.st_parse.specs.Lexemes.{◌>>=◌}
 use Rattle.st_parse.specs.Lists.{AreEnclosed, enclosed_last}
-use Rattle.st_parse.specs.Creating.{IsSortText, primary_key, IsColumn, IsKind, sort_text_at, primary_key_at, column_text, column_at, kind_of, create_table_of, create_index_of, create_of}
+use Rattle.st_parse.specs.Creating.{IsSortText, primary_key, IsColumn, IsIndexKind, sort_text_at, primary_key_at, column_text, column_at, index_kind_of, create_table_of, create_index_of, create_of}
 use Rattle.st_parse.specs.Grammar.{IsStatement}
 use Rattle.st_parse.proofs.Spelt.{Spelt, Follows, Wholly, enclosed_last-spelt, enclosed_last-again}
 
@@ -30,18 +30,18 @@ key-spelt ls = refl
 sorted-spelt : (name : List ℕ) (o : Option (SortText × List Lexeme)) (ls : List Lexeme) → Spelt IsSortText o ls
     → Spelt IsColumn (o >>= λ sort. Some (column_text name sort.0 (primary_key_at sort.1))) (Name name ∷ ls)
 sorted-spelt name None ls is = tt
-sorted-spelt name (Some (sort, rest)) ls (front, is, e) =
+sorted-spelt name (Some (sort, rest)) ls (prefix, is, e) =
     let found = primary_key_at rest in
-    (Name name ∷ (front ++ primary_key found.0), (front, is, refl), ap (λ x. Name name ∷ x) (e ∙ ap (λ x. front ++ x) (key-spelt rest) ∙ sym (append_assoc front (primary_key found.0) found.1)))
+    (Name name ∷ (prefix ++ primary_key found.0), (prefix, is, refl), ap (λ x. Name name ∷ x) (e ∙ ap (λ x. prefix ++ x) (key-spelt rest) ∙ sym (append_assoc prefix (primary_key found.0) found.1)))
 
 column-spelt : (ls : List Lexeme) → Spelt IsColumn (column_at ls) ls
 column-spelt (Name name ∷ ls) = sorted-spelt name (sort_text_at ls) ls (sort-spelt ls)
 column-spelt ls = tt
 
-sort-again : (front rest : List Lexeme) (sort : SortText) → IsSortText front sort → sort_text_at (front ++ rest) ≡ Some (sort, rest)
-sort-again front rest NumberSort e = ap (λ x. sort_text_at (x ++ rest)) e
-sort-again front rest (Varchar2 size) (digits, value, e) = ap (λ x. sort_text_at (x ++ rest)) e ∙ ap (λ x. Some (Varchar2 x, rest)) (sym value)
-sort-again front rest Clob e = ap (λ x. sort_text_at (x ++ rest)) e
+sort-again : (prefix rest : List Lexeme) (sort : SortText) → IsSortText prefix sort → sort_text_at (prefix ++ rest) ≡ Some (sort, rest)
+sort-again prefix rest NumberSort e = ap (λ x. sort_text_at (x ++ rest)) e
+sort-again prefix rest (Varchar2 size) (digits, value, e) = ap (λ x. sort_text_at (x ++ rest)) e ∙ ap (λ x. Some (Varchar2 x, rest)) (sym value)
+sort-again prefix rest Clob e = ap (λ x. sort_text_at (x ++ rest)) e
 
 key-again : (primary : Bool) (rest : List Lexeme) → Follows rest → primary_key_at (primary_key primary ++ rest) ≡ (primary, rest)
 key-again true rest follows = refl
@@ -50,8 +50,8 @@ key-again false (Sign Close ∷ rest) follows = refl
 key-again false (Word FROM ∷ rest) follows = refl
 key-again false rest follows = absurd follows
 
-column-again : (front rest : List Lexeme) (column : ColumnText) → IsColumn front column → Follows rest → column_at (front ++ rest) ≡ Some (column, rest)
-column-again front rest column (sort, is, e) follows =
+column-again : (prefix rest : List Lexeme) (column : ColumnText) → IsColumn prefix column → Follows rest → column_at (prefix ++ rest) ≡ Some (column, rest)
+column-again prefix rest column (sort, is, e) follows =
     ap (λ x. column_at (x ++ rest)) e
     ∙ ap (λ x. column_at (Name column.name ∷ x)) (append_assoc sort (primary_key column.primary) rest)
     ∙ ap (λ o. o >>= λ s. Some (column_text column.name s.0 (primary_key_at s.1))) (sort-again sort (primary_key column.primary ++ rest) column.sort is)
@@ -59,16 +59,16 @@ column-again front rest column (sort, is, e) follows =
 
 -- a type of index behind the words before it
 abbrev IsTyped : List Lexeme → IndexKind → Type 0
-IsTyped ls kind = (kinds : List Lexeme) × IsKind kinds kind × (ls ≡ Word INDEXTYPE ∷ Word IS ∷ kinds)
+IsTyped ls kind = (kinds : List Lexeme) × IsIndexKind kinds kind × (ls ≡ Word INDEXTYPE ∷ Word IS ∷ kinds)
 
-kind-spelt : (ls : List Lexeme) → Wholly IsTyped (kind_of ls) ls
+kind-spelt : (ls : List Lexeme) → Wholly IsTyped (index_kind_of ls) ls
 kind-spelt (Word INDEXTYPE ∷ Word IS ∷ Word CONTEXT ∷ []) = (Word CONTEXT ∷ [], inl refl, refl)
 kind-spelt (Word INDEXTYPE ∷ Word IS ∷ Word CTXSYS ∷ Sign Dot ∷ Word CONTEXT ∷ []) = (Word CTXSYS ∷ Sign Dot ∷ Word CONTEXT ∷ [], inr refl, refl)
 kind-spelt ls = tt
 
-kind-again : (kinds : List Lexeme) (kind : IndexKind) → IsKind kinds kind → kind_of (Word INDEXTYPE ∷ Word IS ∷ kinds) ≡ Some kind
+kind-again : (kinds : List Lexeme) (kind : IndexKind) → IsIndexKind kinds kind → index_kind_of (Word INDEXTYPE ∷ Word IS ∷ kinds) ≡ Some kind
 kind-again kinds Context is =
-    ⊎_elim {C = kind_of (Word INDEXTYPE ∷ Word IS ∷ kinds) ≡ Some Context} (λ e. ap (λ x. kind_of (Word INDEXTYPE ∷ Word IS ∷ x)) e) (λ e. ap (λ x. kind_of (Word INDEXTYPE ∷ Word IS ∷ x)) e) is
+    ⊎_elim {C = index_kind_of (Word INDEXTYPE ∷ Word IS ∷ kinds) ≡ Some Context} (λ e. ap (λ x. index_kind_of (Word INDEXTYPE ∷ Word IS ∷ x)) e) (λ e. ap (λ x. index_kind_of (Word INDEXTYPE ∷ Word IS ∷ x)) e) is
 kind-again kinds kind is = absurd is
 
 table-means : (name : List ℕ) (o : Option (List ColumnText)) (ls : List Lexeme) → Wholly (AreEnclosed IsColumn) o ls
@@ -88,7 +88,7 @@ create_table-means ls = tt
 
 create_index-means : (ls : List Lexeme) → Wholly IsStatement (create_index_of ls) (Word CREATE ∷ Word INDEX ∷ ls)
 create_index-means (Name name ∷ Word ON ∷ Name table ∷ Sign Open ∷ Name column ∷ Sign Close ∷ ls) =
-    index-means name table column (kind_of ls) ls (kind-spelt ls)
+    index-means name table column (index_kind_of ls) ls (kind-spelt ls)
 create_index-means ls = tt
 
 pub create-means : (ls : List Lexeme) → Wholly IsStatement (create_of ls) (Word CREATE ∷ ls)
@@ -101,6 +101,6 @@ pub table-again : (name : List ℕ) (columns : List ColumnText) (list : List Lex
 table-again name columns list are =
     ap (λ o. o >>= λ found. Some (CreateTable name found)) (enclosed_last-again IsColumn column_at column-again list columns are)
 
-pub index-again : (name table column : List ℕ) (kind : IndexKind) (kinds : List Lexeme) → IsKind kinds kind
+pub index-again : (name table column : List ℕ) (kind : IndexKind) (kinds : List Lexeme) → IsIndexKind kinds kind
     → create_of (Word INDEX ∷ Name name ∷ Word ON ∷ Name table ∷ Sign Open ∷ Name column ∷ Sign Close ∷ Word INDEXTYPE ∷ Word IS ∷ kinds) ≡ Some (CreateIndex name table column kind None None)
 index-again name table column kind kinds is = ap (λ o. o >>= λ found. Some (CreateIndex name table column found None None)) (kind-again kinds kind is)

@@ -30,12 +30,12 @@ arg-spelt (Word TRUE ∷ ls) = (Word TRUE ∷ [], refl, refl)
 arg-spelt (Word FALSE ∷ ls) = (Word FALSE ∷ [], refl, refl)
 arg-spelt ls = number-spelt (signed_at ls) ls (signed-spelt ls)
 
-arg-again : (front rest : List Lexeme) (arg : Arg) → IsArg front arg → Follows rest → arg_at (front ++ rest) ≡ Some (arg, rest)
-arg-again front rest (TextArg text) e follows = ap (λ x. arg_at (x ++ rest)) e
-arg-again front rest (NumberArg n) (digits, inl (value, e)) follows = ap (λ x. arg_at (x ++ rest)) e ∙ ap (λ x. Some (NumberArg x, rest)) (sym value)
-arg-again front rest (NumberArg n) (digits, inr (value, e)) follows = ap (λ x. arg_at (x ++ rest)) e ∙ ap (λ x. Some (NumberArg x, rest)) (sym value)
-arg-again front rest (Flag true) e follows = ap (λ x. arg_at (x ++ rest)) e
-arg-again front rest (Flag false) e follows = ap (λ x. arg_at (x ++ rest)) e
+arg-again : (prefix rest : List Lexeme) (arg : Arg) → IsArg prefix arg → Follows rest → arg_at (prefix ++ rest) ≡ Some (arg, rest)
+arg-again prefix rest (TextArg text) e follows = ap (λ x. arg_at (x ++ rest)) e
+arg-again prefix rest (NumberArg n) (digits, inl (value, e)) follows = ap (λ x. arg_at (x ++ rest)) e ∙ ap (λ x. Some (NumberArg x, rest)) (sym value)
+arg-again prefix rest (NumberArg n) (digits, inr (value, e)) follows = ap (λ x. arg_at (x ++ rest)) e ∙ ap (λ x. Some (NumberArg x, rest)) (sym value)
+arg-again prefix rest (Flag true) e follows = ap (λ x. arg_at (x ++ rest)) e
+arg-again prefix rest (Flag false) e follows = ap (λ x. arg_at (x ++ rest)) e
 
 some-spelt : (o : Option (List Arg)) (ls : List Lexeme) → Wholly (AreEnclosed IsArg) o ls → Wholly AreArgs o ls
 some-spelt None ls are = tt

@@ -17,8 +17,8 @@ name-spelt : (ls : List Lexeme) → Spelt IsNamed (name_at ls) ls
 name-spelt (Name name ∷ ls) = (Name name ∷ [], refl, refl)
 name-spelt ls = tt
 
-name-again : (front rest : List Lexeme) (name : List ℕ) → IsNamed front name → Follows rest → name_at (front ++ rest) ≡ Some (name, rest)
-name-again front rest name e follows = ap (λ x. name_at (x ++ rest)) e
+name-again : (prefix rest : List Lexeme) (name : List ℕ) → IsNamed prefix name → Follows rest → name_at (prefix ++ rest) ≡ Some (name, rest)
+name-again prefix rest name e follows = ap (λ x. name_at (x ++ rest)) e
 
 -- what stands before the columns
 abbrev into : List ℕ → List Lexeme → List Lexeme
@@ -39,8 +39,8 @@ values-means table columns names ls are = tt
 names-means : (table : List ℕ) (o : Option (List (List ℕ) × List Lexeme)) (ls : List Lexeme) → Spelt (AreEnclosed IsNamed) o ls
     → Wholly IsStatement (o >>= λ names. insert_values_of table (Some names.0) names.1) (into table ls)
 names-means table None ls are = tt
-names-means table (Some (names, rest)) ls (front, are, e) =
-    subst (λ x. Wholly IsStatement (insert_values_of table (Some names) rest) (into table x)) (sym e) (values-means table (Some names) front rest are)
+names-means table (Some (names, rest)) ls (prefix, are, e) =
+    subst (λ x. Wholly IsStatement (insert_values_of table (Some names) rest) (into table x)) (sym e) (values-means table (Some names) prefix rest are)
 
 columns-means : (table : List ℕ) (ls : List Lexeme) → Wholly IsStatement (insert_columns_of table ls) (into table ls)
 columns-means table (Word VALUES ∷ ls) = values-means table None [] (Word VALUES ∷ ls) refl

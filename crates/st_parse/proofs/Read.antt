@@ -81,37 +81,37 @@ digits-written c cs digit =
     let first = run-first is_ascii_digit c cs digit in
     (run is_ascii_digit (c ∷ cs), sym (run-joins is_ascii_digit (c ∷ cs)), (refl, subst IsDigits (sym first) (subst (λ x. list_all is_ascii_digit x ≡ true) first all_pass)), stops is_ascii_digit (c ∷ cs))
 
--- what was read of a text: its characters, of which t are the bytes behind those of the front
+-- what was read of a text: its characters, of which t are the bytes behind those of the prefix
 abbrev TextReads : List ℕ → List ℕ → List ℕ → List ℕ → Type 0
-TextReads front t cs rest = (mid : List ℕ) × (t ≡ front ++ encode_utf8_all mid) × (cs ≡ quoted mid ++ rest) × (starts (λ c. c == 39) rest ≡ false)
+TextReads prefix t cs rest = (mid : List ℕ) × (t ≡ prefix ++ encode_utf8_all mid) × (cs ≡ quoted mid ++ rest) × (starts (λ c. c == 39) rest ≡ false)
 
-text-last : (b : Bool) (front t rest : List ℕ) (c : ℕ) → (c == 39) ≡ b
-    → cond {A = Option (List ℕ × List ℕ)} b (Some (front, [])) None ≡ Some (t, rest) → TextReads front t (c ∷ []) rest
-text-last true front t rest c e h =
-    let pr : (front, []) ≡ (t, rest) = same_Some (front, []) (t, rest) h in
-    ([], sym (ap (λ x. x.0) pr) ∙ sym (append-nil front), ap (λ x. x ∷ []) (is-eq c 39 e) ∙ ap (λ x. 39 ∷ x.1) pr, subst (λ x. starts (λ c. c == 39) x.1 ≡ false) pr refl)
-text-last false front t rest c e h = cc
+text-last : (b : Bool) (prefix t rest : List ℕ) (c : ℕ) → (c == 39) ≡ b
+    → cond {A = Option (List ℕ × List ℕ)} b (Some (prefix, [])) None ≡ Some (t, rest) → TextReads prefix t (c ∷ []) rest
+text-last true prefix t rest c e h =
+    let pr : (prefix, []) ≡ (t, rest) = same_Some (prefix, []) (t, rest) h in
+    ([], sym (ap (λ x. x.0) pr) ∙ sym (append-nil prefix), ap (λ x. x ∷ []) (is-eq c 39 e) ∙ ap (λ x. 39 ∷ x.1) pr, subst (λ x. starts (λ c. c == 39) x.1 ≡ false) pr refl)
+text-last false prefix t rest c e h = cc
 
-text-next : (b b' : Bool) (front t rest cs : List ℕ) (c d : ℕ) → (c == 39) ≡ b → (d == 39) ≡ b'
-    → (text_at (front ++ 39 ∷ []) cs ≡ Some (t, rest) → TextReads (front ++ 39 ∷ []) t cs rest)
-    → (text_at (front ++ encode_utf8 c) (d ∷ cs) ≡ Some (t, rest) → TextReads (front ++ encode_utf8 c) t (d ∷ cs) rest)
-    → cond b (cond b' (text_at (front ++ 39 ∷ []) cs) (Some (front, d ∷ cs))) (text_at (front ++ encode_utf8 c) (d ∷ cs)) ≡ Some (t, rest)
-    → TextReads front t (c ∷ d ∷ cs) rest
-text-next true true front t rest cs c d e e' one two h =
+text-next : (b b' : Bool) (prefix t rest cs : List ℕ) (c d : ℕ) → (c == 39) ≡ b → (d == 39) ≡ b'
+    → (text_at (prefix ++ 39 ∷ []) cs ≡ Some (t, rest) → TextReads (prefix ++ 39 ∷ []) t cs rest)
+    → (text_at (prefix ++ encode_utf8 c) (d ∷ cs) ≡ Some (t, rest) → TextReads (prefix ++ encode_utf8 c) t (d ∷ cs) rest)
+    → cond b (cond b' (text_at (prefix ++ 39 ∷ []) cs) (Some (prefix, d ∷ cs))) (text_at (prefix ++ encode_utf8 c) (d ∷ cs)) ≡ Some (t, rest)
+    → TextReads prefix t (c ∷ d ∷ cs) rest
+text-next true true prefix t rest cs c d e e' one two h =
     let r = one h in
-    (39 ∷ r.0, r.1 ∙ append_assoc front (39 ∷ []) (encode_utf8_all r.0) ∙ ap (λ x. front ++ (x ++ encode_utf8_all r.0)) (sym quote-bytes), ap (λ x. x ∷ d ∷ cs) (is-eq c 39 e) ∙ ap (λ x. 39 ∷ x ∷ cs) (is-eq d 39 e') ∙ ap (λ x. 39 ∷ 39 ∷ x) r.2, r.3)
-text-next true false front t rest cs c d e e' one two h =
-    let pr : (front, d ∷ cs) ≡ (t, rest) = same_Some (front, d ∷ cs) (t, rest) h in
-    ([], sym (ap (λ x. x.0) pr) ∙ sym (append-nil front), ap (λ x. x ∷ d ∷ cs) (is-eq c 39 e) ∙ ap (λ x. 39 ∷ x.1) pr, subst (λ x. starts (λ c. c == 39) x.1 ≡ false) pr e')
-text-next false b' front t rest cs c d e e' one two h =
+    (39 ∷ r.0, r.1 ∙ append_assoc prefix (39 ∷ []) (encode_utf8_all r.0) ∙ ap (λ x. prefix ++ (x ++ encode_utf8_all r.0)) (sym quote-bytes), ap (λ x. x ∷ d ∷ cs) (is-eq c 39 e) ∙ ap (λ x. 39 ∷ x ∷ cs) (is-eq d 39 e') ∙ ap (λ x. 39 ∷ 39 ∷ x) r.2, r.3)
+text-next true false prefix t rest cs c d e e' one two h =
+    let pr : (prefix, d ∷ cs) ≡ (t, rest) = same_Some (prefix, d ∷ cs) (t, rest) h in
+    ([], sym (ap (λ x. x.0) pr) ∙ sym (append-nil prefix), ap (λ x. x ∷ d ∷ cs) (is-eq c 39 e) ∙ ap (λ x. 39 ∷ x.1) pr, subst (λ x. starts (λ c. c == 39) x.1 ≡ false) pr e')
+text-next false b' prefix t rest cs c d e e' one two h =
     let r = two h in
-    (c ∷ r.0, r.1 ∙ append_assoc front (encode_utf8 c) (encode_utf8_all r.0), ap (λ x. c ∷ x) r.2 ∙ (rw e refl), r.3)
+    (c ∷ r.0, r.1 ∙ append_assoc prefix (encode_utf8 c) (encode_utf8_all r.0), ap (λ x. c ∷ x) r.2 ∙ (rw e refl), r.3)
 
-text-written : (cs front t rest : List ℕ) → text_at front cs ≡ Some (t, rest) → TextReads front t cs rest
-text-written [] front t rest h = cc
-text-written (c ∷ []) front t rest h = text-last (c == 39) front t rest c refl h
-text-written (c ∷ d ∷ cs) front t rest h =
-    text-next (c == 39) (d == 39) front t rest cs c d refl refl (text-written cs (front ++ 39 ∷ []) t rest) (text-written (d ∷ cs) (front ++ encode_utf8 c) t rest) h
+text-written : (cs prefix t rest : List ℕ) → text_at prefix cs ≡ Some (t, rest) → TextReads prefix t cs rest
+text-written [] prefix t rest h = cc
+text-written (c ∷ []) prefix t rest h = text-last (c == 39) prefix t rest c refl h
+text-written (c ∷ d ∷ cs) prefix t rest h =
+    text-next (c == 39) (d == 39) prefix t rest cs c d refl refl (text-written cs (prefix ++ 39 ∷ []) t rest) (text-written (d ∷ cs) (prefix ++ encode_utf8 c) t rest) h
 
 pick : (b : Bool) (k : ℕ) (t s : Symbol) (y : Option Symbol) (c : ℕ) → (c == k) ≡ b → k ∷ [] ≡ sign t → (y ≡ Some s → c ∷ [] ≡ sign s)
     → cond b (Some t) y ≡ Some s → c ∷ [] ≡ sign s

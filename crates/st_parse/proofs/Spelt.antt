@@ -11,7 +11,7 @@ use Rattle.st_parse.proofs.Lists.{joined-ends}
 -- what was read is spelt before what follows it
 abbrev pub Spelt : {A : Type 0} → (List Lexeme → A → Type 0) → Option (A × List Lexeme) → List Lexeme → Type 0
 Spelt Is None ls = Unit {0}
-Spelt Is (Some x) ls = (front : List Lexeme) × Is front x.0 × (ls ≡ front ++ x.1)
+Spelt Is (Some x) ls = (prefix : List Lexeme) × Is prefix x.0 × (ls ≡ prefix ++ x.1)
 
 -- the lexemes are what was read
 abbrev pub Wholly : {A : Type 0} → (List Lexeme → A → Type 0) → Option A → List Lexeme → Type 0
@@ -26,20 +26,20 @@ Follows (Word FROM ∷ ls) = Unit {0}
 Follows ls = ⊥
 
 module _ {A : Type 0} (Is : List Lexeme → A → Type 0) (item : Reader A) (spelt : (ls : List Lexeme) → Spelt Is (item ls) ls) where
-  more-spelt : (a : A) (front next ls : List Lexeme) (o : Option (List A × List Lexeme)) → Is front a → ls ≡ front ++ Sign Comma ∷ next
+  more-spelt : (a : A) (prefix next ls : List Lexeme) (o : Option (List A × List Lexeme)) → Is prefix a → ls ≡ prefix ++ Sign Comma ∷ next
       → Spelt (AreListed Is) o next
       → Spelt (AreListed Is) (o >>= λ more. Some (a ∷ more.0, more.1)) ls
-  more-spelt a front next ls None is e more = tt
-  more-spelt a front next ls (Some ([], rest)) is e (back, none, e') = absurd none
-  more-spelt a front next ls (Some (b ∷ bs, rest)) is e (back, are, e') =
-      (front ++ Sign Comma ∷ back, (front, back, refl, is, are), e ∙ ap (λ x. front ++ Sign Comma ∷ x) e' ∙ sym (append_assoc front (Sign Comma ∷ back) rest))
+  more-spelt a prefix next ls None is e more = tt
+  more-spelt a prefix next ls (Some ([], rest)) is e (back, none, e') = absurd none
+  more-spelt a prefix next ls (Some (b ∷ bs, rest)) is e (back, are, e') =
+      (prefix ++ Sign Comma ∷ back, (prefix, back, refl, is, are), e ∙ ap (λ x. prefix ++ Sign Comma ∷ x) e' ∙ sym (append_assoc prefix (Sign Comma ∷ back) rest))
 
   joined-spelt : (o : Option (A × List Lexeme)) (ls : List Lexeme) (next : Reader (List A)) → Spelt Is o ls
       → ((ms : List Lexeme) → Spelt (AreListed Is) (next ms) ms)
       → Spelt (AreListed Is) (o >>= λ a. joined a.0 a.1 next) ls
   joined-spelt None ls next is more = tt
-  joined-spelt (Some (a, Sign Comma ∷ ms)) ls next (front, is, e) more = more-spelt a front ms ls (next ms) is e (more ms)
-  joined-spelt (Some (a, ms)) ls next (front, is, e) more = (front, is, e)
+  joined-spelt (Some (a, Sign Comma ∷ ms)) ls next (prefix, is, e) more = more-spelt a prefix ms ls (next ms) is e (more ms)
+  joined-spelt (Some (a, ms)) ls next (prefix, is, e) more = (prefix, is, e)
 
   limited_list_at-spelt : (most : ℕ) (ls : List Lexeme) → Spelt (AreListed Is) (limited_list_at item most ls) ls
   limited_list_at-spelt zero ls = tt
@@ -60,23 +60,23 @@ module _ {A : Type 0} (Is : List Lexeme → A → Type 0) (item : Reader A) (spe
   last-spelt : (o : Option (List A × List Lexeme)) (ls : List Lexeme) → Spelt (AreEnclosed Is) o ls → Wholly (AreEnclosed Is) (o >>= ended) ls
   last-spelt None ls are = tt
   last-spelt (Some (items, l ∷ rest)) ls are = tt
-  last-spelt (Some (items, [])) ls (front, are, e) = subst (λ x. AreEnclosed Is x items) (sym (e ∙ append-nil front)) are
+  last-spelt (Some (items, [])) ls (prefix, are, e) = subst (λ x. AreEnclosed Is x items) (sym (e ∙ append-nil prefix)) are
 
   pub enclosed_last-spelt : (ls : List Lexeme) → Wholly (AreEnclosed Is) (enclosed_last item ls) ls
   enclosed_last-spelt ls = last-spelt (enclosed item ls) ls (enclosed-spelt ls)
 
-module _ {A : Type 0} (Is : List Lexeme → A → Type 0) (item : Reader A) (again : (front rest : List Lexeme) (a : A) → Is front a → Follows rest → item (front ++ rest) ≡ Some (a, rest)) where
+module _ {A : Type 0} (Is : List Lexeme → A → Type 0) (item : Reader A) (again : (prefix rest : List Lexeme) (a : A) → Is prefix a → Follows rest → item (prefix ++ rest) ≡ Some (a, rest)) where
   limited_list_at-again : (most : ℕ) (a : A) (more : List A) (ls rest : List Lexeme) → AreListed Is ls (a ∷ more) → Follows rest → EndsList rest
       → length (ls ++ rest) < most
       → limited_list_at item most (ls ++ rest) ≡ Some (a ∷ more, rest)
   limited_list_at-again zero a more ls rest are follows ends less = absurd (omega arith)
   limited_list_at-again (suc most) a [] ls rest is follows ends less =
       ap (λ o. o >>= λ a. joined a.0 a.1 (limited_list_at item most)) (again ls rest a is follows) ∙ joined-ends item a rest (limited_list_at item most) ends
-  limited_list_at-again (suc most) a (b ∷ bs) ls rest (front, back, e, is, are) follows ends less =
-      let whole : ls ++ rest ≡ front ++ Sign Comma ∷ (back ++ rest) = ap (λ x. x ++ rest) e ∙ append_assoc front (Sign Comma ∷ back) rest in
-      let shorter : length (back ++ rest) < most = omega (arith, less, ap length whole, length-append front (Sign Comma ∷ (back ++ rest))) in
+  limited_list_at-again (suc most) a (b ∷ bs) ls rest (prefix, back, e, is, are) follows ends less =
+      let whole : ls ++ rest ≡ prefix ++ Sign Comma ∷ (back ++ rest) = ap (λ x. x ++ rest) e ∙ append_assoc prefix (Sign Comma ∷ back) rest in
+      let shorter : length (back ++ rest) < most = omega (arith, less, ap length whole, length-append prefix (Sign Comma ∷ (back ++ rest))) in
       ap (λ x. limited_list_at item (suc most) x) whole
-      ∙ ap (λ o. o >>= λ a. joined a.0 a.1 (limited_list_at item most)) (again front (Sign Comma ∷ (back ++ rest)) a is tt)
+      ∙ ap (λ o. o >>= λ a. joined a.0 a.1 (limited_list_at item most)) (again prefix (Sign Comma ∷ (back ++ rest)) a is tt)
       ∙ ap (λ o. o >>= λ more. Some (a ∷ more.0, more.1)) (limited_list_at-again most b bs back rest are follows ends shorter)
 
   pub list_at-again : (ls rest : List Lexeme) (items : List A) → AreListed Is ls items → Follows rest → EndsList rest

@@ -15,9 +15,9 @@ signed-spelt (Number digits ∷ ls) = (Number digits ∷ [], (digits, inl (refl,
 signed-spelt (Sign Minus ∷ Number digits ∷ ls) = (Sign Minus ∷ Number digits ∷ [], (digits, inr (refl, refl)), refl)
 signed-spelt ls = tt
 
-pub signed-again : (front rest : List Lexeme) (n : Whole) → IsSigned front n → signed_at (front ++ rest) ≡ Some (n, rest)
-signed-again front rest n (digits, inl (value, e)) = ap (λ x. signed_at (x ++ rest)) e ∙ ap (λ x. Some (x, rest)) (sym value)
-signed-again front rest n (digits, inr (value, e)) = ap (λ x. signed_at (x ++ rest)) e ∙ ap (λ x. Some (x, rest)) (sym value)
+pub signed-again : (prefix rest : List Lexeme) (n : Whole) → IsSigned prefix n → signed_at (prefix ++ rest) ≡ Some (n, rest)
+signed-again prefix rest n (digits, inl (value, e)) = ap (λ x. signed_at (x ++ rest)) e ∙ ap (λ x. Some (x, rest)) (sym value)
+signed-again prefix rest n (digits, inr (value, e)) = ap (λ x. signed_at (x ++ rest)) e ∙ ap (λ x. Some (x, rest)) (sym value)
 
 number-spelt : (o : Option (Whole × List Lexeme)) (ls : List Lexeme) → Spelt IsSigned o ls → Spelt IsOperand (o >>= λ n. Some (NumberValue n.0, n.1)) ls
 number-spelt None ls is = tt
@@ -27,7 +27,7 @@ pub value-spelt : (ls : List Lexeme) → Spelt IsOperand (operand_at ls) ls
 value-spelt (Text text ∷ ls) = (Text text ∷ [], refl, refl)
 value-spelt ls = number-spelt (signed_at ls) ls (signed-spelt ls)
 
-pub value-again : (front rest : List Lexeme) (value : Operand) → IsOperand front value → Follows rest → operand_at (front ++ rest) ≡ Some (value, rest)
-value-again front rest (TextValue text) e follows = ap (λ x. operand_at (x ++ rest)) e
-value-again front rest (NumberValue n) (digits, inl (value, e)) follows = ap (λ x. operand_at (x ++ rest)) e ∙ ap (λ x. Some (NumberValue x, rest)) (sym value)
-value-again front rest (NumberValue n) (digits, inr (value, e)) follows = ap (λ x. operand_at (x ++ rest)) e ∙ ap (λ x. Some (NumberValue x, rest)) (sym value)
+pub value-again : (prefix rest : List Lexeme) (value : Operand) → IsOperand prefix value → Follows rest → operand_at (prefix ++ rest) ≡ Some (value, rest)
+value-again prefix rest (TextValue text) e follows = ap (λ x. operand_at (x ++ rest)) e
+value-again prefix rest (NumberValue n) (digits, inl (value, e)) follows = ap (λ x. operand_at (x ++ rest)) e ∙ ap (λ x. Some (NumberValue x, rest)) (sym value)
+value-again prefix rest (NumberValue n) (digits, inr (value, e)) follows = ap (λ x. operand_at (x ++ rest)) e ∙ ap (λ x. Some (NumberValue x, rest)) (sym value)

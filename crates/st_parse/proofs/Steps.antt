@@ -18,17 +18,17 @@ map-lower [] = refl
 map-lower (c ∷ cs) = ap (λ x. x ∷ map to_ascii_lowercase (map to_ascii_lowercase cs)) (lower_again c) ∙ ap (λ x. to_ascii_lowercase c ∷ x) (map-lower cs)
 
 -- one more character of an open text
-pub text-char : (front cs : List ℕ) (c : ℕ) → nat_eq c 39 ≡ false → text_at front (c ∷ cs) ≡ text_at (front ++ encode_utf8 c) cs
-text-char front [] c h = rw h refl
-text-char front (d ∷ cs) c h = rw h refl
+pub text-char : (prefix cs : List ℕ) (c : ℕ) → nat_eq c 39 ≡ false → text_at prefix (c ∷ cs) ≡ text_at (prefix ++ encode_utf8 c) cs
+text-char prefix [] c h = rw h refl
+text-char prefix (d ∷ cs) c h = rw h refl
 
-pub text-step : (front front' text cs : List ℕ) (c : ℕ) → text ≡ c ∷ cs → (c == 39) ≡ false → front' ≡ front ++ encode_utf8 c
-    → text_at front' cs ≡ text_at front text
-text-step front front' text cs c split other more = rw (split, more) (sym (text-char front cs c other))
+pub text-step : (prefix prefix' text cs : List ℕ) (c : ℕ) → text ≡ c ∷ cs → (c == 39) ≡ false → prefix' ≡ prefix ++ encode_utf8 c
+    → text_at prefix' cs ≡ text_at prefix text
+text-step prefix prefix' text cs c split other more = rw (split, more) (sym (text-char prefix cs c other))
 
-pub text-quote : (front front' text mid cs : List ℕ) (c : ℕ) → text ≡ c ∷ mid → mid ≡ 39 ∷ cs → c ≡ 39 → front' ≡ front ++ 39 ∷ []
-    → text_at front' cs ≡ text_at front text
-text-quote front front' text mid cs c split second quote more = rw (split, second, quote, more) refl
+pub text-quote : (prefix prefix' text mid cs : List ℕ) (c : ℕ) → text ≡ c ∷ mid → mid ≡ 39 ∷ cs → c ≡ 39 → prefix' ≡ prefix ++ 39 ∷ []
+    → text_at prefix' cs ≡ text_at prefix text
+text-quote prefix prefix' text mid cs c split second quote more = rw (split, second, quote, more) refl
 
 -- a run and what follows it are the whole, and what follows is no longer
 pub run-joins : (p : ℕ → Bool) (cs : List ℕ) → run p cs ++ after_run p cs ≡ cs
@@ -51,61 +51,61 @@ word-shorter text cs c split letter = let shorter = after-shorter is_name_byte c
 pub digits-shorter : (text cs : List ℕ) (c : ℕ) → text ≡ c ∷ cs → is_ascii_digit c ≡ true → length (after_run is_ascii_digit text) < length text
 digits-shorter text cs c split digit = let shorter = after-shorter is_ascii_digit cs in rw (split, digit) (omega arith)
 
--- the lexemes of the whole, where those of a front are read
-abbrev pub with_front : List Lexeme → Option (List Lexeme) → Option (List Lexeme)
-with_front front read = read >>= λ ls. Some (front ++ ls)
+-- the lexemes of the whole, where those of a prefix are read
+abbrev pub with_read : List Lexeme → Option (List Lexeme) → Option (List Lexeme)
+with_read prefix read = read >>= λ ls. Some (prefix ++ ls)
 
 abbrev pub GoesOn : List Lexeme → List ℕ → Option (List Lexeme) → Type 0
-GoesOn front cs all = (n : ℕ) × (length cs ≤ n) × (with_front front (lexemes_in n cs) ≡ all)
+GoesOn prefix cs all = (n : ℕ) × (length cs ≤ n) × (with_read prefix (lexemes_in n cs) ≡ all)
 
 pub begins : (cs : List ℕ) → GoesOn [] cs (lexemes cs)
 begins cs = (length cs, omega arith, whole (lexemes cs))
   where
-    whole : (o : Option (List Lexeme)) → with_front [] o ≡ o
+    whole : (o : Option (List Lexeme)) → with_read [] o ≡ o
     whole None = refl
     whole (Some ls) = refl
 
-pub step-white : (front : List Lexeme) (text cs : List ℕ) (c : ℕ) (all : Option (List Lexeme)) → text ≡ c ∷ cs → is_whitespace c ≡ true
-    → GoesOn front text all → GoesOn front cs all
-step-white front text cs c all split white (zero, le, so) = absurd (omega (arith, ap length split))
-step-white front text cs c all split white (suc n, le, so) =
-    (n, omega (arith, ap length split), sym (ap (λ x. with_front front (lexemes_in (suc n) x)) split ∙ rw white refl) ∙ so)
+pub step-white : (prefix : List Lexeme) (text cs : List ℕ) (c : ℕ) (all : Option (List Lexeme)) → text ≡ c ∷ cs → is_whitespace c ≡ true
+    → GoesOn prefix text all → GoesOn prefix cs all
+step-white prefix text cs c all split white (zero, le, so) = absurd (omega (arith, ap length split))
+step-white prefix text cs c all split white (suc n, le, so) =
+    (n, omega (arith, ap length split), sym (ap (λ x. with_read prefix (lexemes_in (suc n) x)) split ∙ rw white refl) ∙ so)
 
-pub step-comment : (front : List Lexeme) (text cs : List ℕ) (c : ℕ) (all : Option (List Lexeme)) → text ≡ c ∷ cs → is_whitespace c ≡ false
-    → begins_comment c cs ≡ true → GoesOn front text all → GoesOn front (after_run is_in_line cs) all
-step-comment front text cs c all split dark dashes (zero, le, so) = absurd (omega (arith, ap length split))
-step-comment front text cs c all split dark dashes (suc n, le, so) =
-    (n, omega (arith, ap length split, after-shorter is_in_line cs), sym (ap (λ x. with_front front (lexemes_in (suc n) x)) split ∙ rw (dark, dashes) refl) ∙ so)
+pub step-comment : (prefix : List Lexeme) (text cs : List ℕ) (c : ℕ) (all : Option (List Lexeme)) → text ≡ c ∷ cs → is_whitespace c ≡ false
+    → begins_comment c cs ≡ true → GoesOn prefix text all → GoesOn prefix (after_run is_in_line cs) all
+step-comment prefix text cs c all split dark dashes (zero, le, so) = absurd (omega (arith, ap length split))
+step-comment prefix text cs c all split dark dashes (suc n, le, so) =
+    (n, omega (arith, ap length split, after-shorter is_in_line cs), sym (ap (λ x. with_read prefix (lexemes_in (suc n) x)) split ∙ rw (dark, dashes) refl) ∙ so)
 
-joined : (front : List Lexeme) (l : Lexeme) (o : Option (List Lexeme)) → with_front front (o >>= λ ls. Some (l ∷ ls)) ≡ with_front (front ++ l ∷ []) o
-joined front l None = refl
-joined front l (Some ls) = ap Some (sym (append_assoc front (l ∷ []) ls))
+joined : (prefix : List Lexeme) (l : Lexeme) (o : Option (List Lexeme)) → with_read prefix (o >>= λ ls. Some (l ∷ ls)) ≡ with_read (prefix ++ l ∷ []) o
+joined prefix l None = refl
+joined prefix l (Some ls) = ap Some (sym (append_assoc prefix (l ∷ []) ls))
 
-pub step-lexeme : (front front' : List Lexeme) (l : Lexeme) (text cs rest : List ℕ) (c : ℕ) (all : Option (List Lexeme)) → text ≡ c ∷ cs
+pub step-lexeme : (prefix prefix' : List Lexeme) (l : Lexeme) (text cs rest : List ℕ) (c : ℕ) (all : Option (List Lexeme)) → text ≡ c ∷ cs
     → is_whitespace c ≡ false → begins_comment c cs ≡ false
-    → lexeme_at text ≡ Some (l, rest) → length rest < length text → front' ≡ front ++ l ∷ [] → GoesOn front text all → GoesOn front' rest all
-step-lexeme front front' l text cs rest c all split dark plain is shorter more (zero, le, so) = absurd (omega arith)
-step-lexeme front front' l text cs rest c all split dark plain is shorter more (suc n, le, so) =
-    (n, omega arith, ap (λ x. with_front x (lexemes_in n rest)) more ∙ sym (ap (λ x. with_front front (lexemes_in (suc n) x)) split ∙ rw (dark, plain, sym (ap lexeme_at split) ∙ is) (joined front l (lexemes_in n rest))) ∙ so)
+    → lexeme_at text ≡ Some (l, rest) → length rest < length text → prefix' ≡ prefix ++ l ∷ [] → GoesOn prefix text all → GoesOn prefix' rest all
+step-lexeme prefix prefix' l text cs rest c all split dark plain is shorter more (zero, le, so) = absurd (omega arith)
+step-lexeme prefix prefix' l text cs rest c all split dark plain is shorter more (suc n, le, so) =
+    (n, omega arith, ap (λ x. with_read x (lexemes_in n rest)) more ∙ sym (ap (λ x. with_read prefix (lexemes_in (suc n) x)) split ∙ rw (dark, plain, sym (ap lexeme_at split) ∙ is) (joined prefix l (lexemes_in n rest))) ∙ so)
 
-pub step-none : (front : List Lexeme) (text cs : List ℕ) (c : ℕ) (all : Option (List Lexeme)) → text ≡ c ∷ cs → is_whitespace c ≡ false
+pub step-none : (prefix : List Lexeme) (text cs : List ℕ) (c : ℕ) (all : Option (List Lexeme)) → text ≡ c ∷ cs → is_whitespace c ≡ false
     → begins_comment c cs ≡ false
-    → lexeme_at text ≡ None → GoesOn front text all → all ≡ None
-step-none front text cs c all split dark plain is (zero, le, so) = absurd (omega (arith, ap length split))
-step-none front text cs c all split dark plain is (suc n, le, so) =
-    sym so ∙ ap (λ x. with_front front (lexemes_in (suc n) x)) split ∙ rw (dark, plain, sym (ap lexeme_at split) ∙ is) refl
+    → lexeme_at text ≡ None → GoesOn prefix text all → all ≡ None
+step-none prefix text cs c all split dark plain is (zero, le, so) = absurd (omega (arith, ap length split))
+step-none prefix text cs c all split dark plain is (suc n, le, so) =
+    sym so ∙ ap (λ x. with_read prefix (lexemes_in (suc n) x)) split ∙ rw (dark, plain, sym (ap lexeme_at split) ∙ is) refl
 
-pub ends : (front : List Lexeme) (text : List ℕ) (all : Option (List Lexeme)) → text ≡ [] → GoesOn front text all → all ≡ Some front
-ends front text all nil (zero, le, so) = sym so ∙ ap Some (append-nil front)
-ends front text all nil (suc n, le, so) = sym so ∙ ap (λ x. with_front front (lexemes_in (suc n) x)) nil ∙ ap Some (append-nil front)
+pub ends : (prefix : List Lexeme) (text : List ℕ) (all : Option (List Lexeme)) → text ≡ [] → GoesOn prefix text all → all ≡ Some prefix
+ends prefix text all nil (zero, le, so) = sym so ∙ ap Some (append-nil prefix)
+ends prefix text all nil (suc n, le, so) = sym so ∙ ap (λ x. with_read prefix (lexemes_in (suc n) x)) nil ∙ ap Some (append-nil prefix)
 
-pub step-fault : (front : List Lexeme) (text cs : List ℕ) (c : ℕ) (all : Option (List Lexeme)) (fault : LexFault) → text ≡ c ∷ cs
+pub step-fault : (prefix : List Lexeme) (text cs : List ℕ) (c : ℕ) (all : Option (List Lexeme)) (fault : LexFault) → text ≡ c ∷ cs
     → is_whitespace c ≡ false → begins_comment c cs ≡ false
-    → LexFails fault (lexeme_at text) → GoesOn front text all → LexFails fault all
-step-fault front text cs c all NoLexeme split dark plain is on = step-none front text cs c all split dark plain is on
-step-fault front text cs c all NoMemory split dark plain is on = tt
+    → LexFails fault (lexeme_at text) → GoesOn prefix text all → LexFails fault all
+step-fault prefix text cs c all NoLexeme split dark plain is on = step-none prefix text cs c all split dark plain is on
+step-fault prefix text cs c all NoMemory split dark plain is on = tt
 
-differ : (o : Option (List Lexeme)) (l : Lexeme) → with_front [] (o >>= λ ls. Some (l ∷ ls)) ≡ Some [] → ⊥
+differ : (o : Option (List Lexeme)) (l : Lexeme) → with_read [] (o >>= λ ls. Some (l ∷ ls)) ≡ Some [] → ⊥
 differ None l e = cc
 differ (Some ls) l e = cc
 
@@ -114,8 +114,8 @@ pub other_place : (text cs : List ℕ) (c : ℕ) (all : Option (List Lexeme)) �
     → GoesOn [] text all → all ≡ Some [] → ⊥
 other_place text cs c all split dark plain (zero, le, so) none = absurd (omega (arith, ap length split))
 other_place text cs c all split dark plain (suc n, le, so) none =
-    no (lexeme_at (c ∷ cs)) (sym (ap (λ x. with_front [] (lexemes_in (suc n) x)) split ∙ rw (dark, plain) refl) ∙ so ∙ none)
+    no (lexeme_at (c ∷ cs)) (sym (ap (λ x. with_read [] (lexemes_in (suc n) x)) split ∙ rw (dark, plain) refl) ∙ so ∙ none)
   where
-    no : (o : Option (Lexeme × List ℕ)) → with_front [] (o >>= λ l. lexemes_in n l.1 >>= λ ls. Some (l.0 ∷ ls)) ≡ Some [] → ⊥
+    no : (o : Option (Lexeme × List ℕ)) → with_read [] (o >>= λ l. lexemes_in n l.1 >>= λ ls. Some (l.0 ∷ ls)) ≡ Some [] → ⊥
     no None e = cc
     no (Some l) e = differ (lexemes_in n l.1) l.0 e

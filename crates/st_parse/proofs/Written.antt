@@ -24,9 +24,9 @@ after-all p [] [] h parted = refl
 after-all p [] (c ∷ rest) h parted = rw parted refl
 after-all p (c ∷ w) rest h parted = let parts = and_parts (p c) (list_all p w) h in rw (parts.0, after-all p w rest parts.1 parted) refl
 
-end-of-text : (front rest : List ℕ) → starts (λ c. c == 39) rest ≡ false → text_at front (39 ∷ rest) ≡ Some (front, rest)
-end-of-text front [] parted = refl
-end-of-text front (d ∷ rest) parted = rw parted refl
+end-of-text : (prefix rest : List ℕ) → starts (λ c. c == 39) rest ≡ false → text_at prefix (39 ∷ rest) ≡ Some (prefix, rest)
+end-of-text prefix [] parted = refl
+end-of-text prefix (d ∷ rest) parted = rw parted refl
 
 pub is-eq : (c d : ℕ) → (c == d) ≡ true → c ≡ d
 is-eq c d h = grind arith
@@ -36,18 +36,18 @@ pub quote-bytes : encode_utf8 39 ≡ 39 ∷ []
 unfolding encode
 quote-bytes = refl
 
-quoted-step : (b : Bool) (front t rest : List ℕ) (c : ℕ) → (c == 39) ≡ b → (b ≡ true → c ≡ 39)
+quoted-step : (b : Bool) (prefix t rest : List ℕ) (c : ℕ) → (c == 39) ≡ b → (b ≡ true → c ≡ 39)
     → ((f : List ℕ) → text_at f (quoted t ++ rest) ≡ Some (f ++ encode_utf8_all t, rest))
-    → text_at front (cond b (39 ∷ 39 ∷ quoted t) (c ∷ quoted t) ++ rest) ≡ Some (front ++ encode_utf8_all (c ∷ t), rest)
-quoted-step true front t rest c e is more =
-    more (front ++ 39 ∷ []) ∙ ap (λ x. Some (x, rest)) (append_assoc front (39 ∷ []) (encode_utf8_all t) ∙ ap (λ x. front ++ (x ++ encode_utf8_all t)) (sym (ap encode_utf8 (is refl) ∙ quote-bytes)))
-quoted-step false front t rest c e is more =
-    text-char front (quoted t ++ rest) c e ∙ more (front ++ encode_utf8 c) ∙ ap (λ x. Some (x, rest)) (append_assoc front (encode_utf8 c) (encode_utf8_all t))
+    → text_at prefix (cond b (39 ∷ 39 ∷ quoted t) (c ∷ quoted t) ++ rest) ≡ Some (prefix ++ encode_utf8_all (c ∷ t), rest)
+quoted-step true prefix t rest c e is more =
+    more (prefix ++ 39 ∷ []) ∙ ap (λ x. Some (x, rest)) (append_assoc prefix (39 ∷ []) (encode_utf8_all t) ∙ ap (λ x. prefix ++ (x ++ encode_utf8_all t)) (sym (ap encode_utf8 (is refl) ∙ quote-bytes)))
+quoted-step false prefix t rest c e is more =
+    text-char prefix (quoted t ++ rest) c e ∙ more (prefix ++ encode_utf8 c) ∙ ap (λ x. Some (x, rest)) (append_assoc prefix (encode_utf8 c) (encode_utf8_all t))
 
-quoted-read : (t rest : List ℕ) → starts (λ c. c == 39) rest ≡ false → (front : List ℕ)
-    → text_at front (quoted t ++ rest) ≡ Some (front ++ encode_utf8_all t, rest)
-quoted-read [] rest parted front = end-of-text front rest parted ∙ ap (λ x. Some (x, rest)) (sym (append-nil front))
-quoted-read (c ∷ t) rest parted front = quoted-step (c == 39) front t rest c refl (is-eq c 39) (quoted-read t rest parted)
+quoted-read : (t rest : List ℕ) → starts (λ c. c == 39) rest ≡ false → (prefix : List ℕ)
+    → text_at prefix (quoted t ++ rest) ≡ Some (prefix ++ encode_utf8_all t, rest)
+quoted-read [] rest parted prefix = end-of-text prefix rest parted ∙ ap (λ x. Some (x, rest)) (sym (append-nil prefix))
+quoted-read (c ∷ t) rest parted prefix = quoted-step (c == 39) prefix t rest c refl (is-eq c 39) (quoted-read t rest parted)
 
 text-read-back : (t w rest : List ℕ) → IsWritten (Text t) w → starts (joins (Text t)) rest ≡ false → lexeme_at (w ++ rest) ≡ Some (Text t, rest)
 text-read-back t w rest (cs, bytes, spelt) parted =

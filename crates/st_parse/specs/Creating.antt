@@ -31,9 +31,9 @@ abbrev pub IsColumn : List Lexeme → ColumnText → Type 0
 IsColumn ls column = (sort : List Lexeme) × IsSortText sort column.sort × (ls ≡ Name column.name ∷ (sort ++ primary_key column.primary))
 
 -- the type of an index, with its owner or without
-abbrev pub IsKind : List Lexeme → IndexKind → Type 0
-IsKind ls Context = (ls ≡ Word CONTEXT ∷ []) ⊎ (ls ≡ Word CTXSYS ∷ Sign Dot ∷ Word CONTEXT ∷ [])
-IsKind ls kind = ⊥
+abbrev pub IsIndexKind : List Lexeme → IndexKind → Type 0
+IsIndexKind ls Context = (ls ≡ Word CONTEXT ∷ []) ⊎ (ls ≡ Word CTXSYS ∷ Sign Dot ∷ Word CONTEXT ∷ [])
+IsIndexKind ls kind = ⊥
 
 -- The same as functions.
 abbrev pub sort_text_at : Reader SortText
@@ -53,10 +53,10 @@ abbrev pub column_at : Reader ColumnText
 column_at (Name name ∷ ls) = sort_text_at ls >>= λ sort. Some (column_text name sort.0 (primary_key_at sort.1))
 column_at ls = None
 
-abbrev pub kind_of : List Lexeme → Option IndexKind
-kind_of (Word INDEXTYPE ∷ Word IS ∷ Word CONTEXT ∷ []) = Some Context
-kind_of (Word INDEXTYPE ∷ Word IS ∷ Word CTXSYS ∷ Sign Dot ∷ Word CONTEXT ∷ []) = Some Context
-kind_of ls = None
+abbrev pub index_kind_of : List Lexeme → Option IndexKind
+index_kind_of (Word INDEXTYPE ∷ Word IS ∷ Word CONTEXT ∷ []) = Some Context
+index_kind_of (Word INDEXTYPE ∷ Word IS ∷ Word CTXSYS ∷ Sign Dot ∷ Word CONTEXT ∷ []) = Some Context
+index_kind_of ls = None
 
 -- what follows CREATE TABLE, and what follows CREATE INDEX
 abbrev pub create_table_of : List Lexeme → Option Statement
@@ -64,7 +64,7 @@ create_table_of (Name name ∷ ls) = enclosed_last column_at ls >>= λ columns. 
 create_table_of ls = None
 
 abbrev pub index_of : List ℕ → List ℕ → List ℕ → List Lexeme → Option Statement
-index_of name table column ls = kind_of ls >>= λ kind. Some (CreateIndex name table column kind None None)
+index_of name table column ls = index_kind_of ls >>= λ kind. Some (CreateIndex name table column kind None None)
 
 abbrev pub create_index_of : List Lexeme → Option Statement
 create_index_of (Name name ∷ Word ON ∷ Name table ∷ Sign Open ∷ Name column ∷ Sign Close ∷ ls) = index_of name table column ls
@@ -85,7 +85,7 @@ a_short_text : column_at (Name (codes "title") ∷ Word VARCHAR2 ∷ Sign Open �
     ≡ Some (record { name = codes "title"; sort = Varchar2 (Fits (pos 80)); primary = false }, Sign Close ∷ [])
 a_short_text = refl
 
-of_its_owner : kind_of (Word INDEXTYPE ∷ Word IS ∷ Word CTXSYS ∷ Sign Dot ∷ Word CONTEXT ∷ []) ≡ Some Context
+of_its_owner : index_kind_of (Word INDEXTYPE ∷ Word IS ∷ Word CTXSYS ∷ Sign Dot ∷ Word CONTEXT ∷ []) ≡ Some Context
 of_its_owner = refl
 
 two_columns : create_of (Word INDEX ∷ Name (codes "i") ∷ Word ON ∷ Name (codes "t") ∷ Sign Open ∷ Name (codes "a") ∷ Sign Comma

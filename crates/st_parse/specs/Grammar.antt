@@ -21,9 +21,9 @@ use Rattle.st_parse.specs.declared.parsing.StatementFault.TheVariants.{Syntax, M
 use Rattle.st_parse.specs.Lexemes.{lexemes}
 use Rattle.st_parse.specs.Lists.{AreListed, AreEnclosed}
 use Rattle.st_parse.specs.Values.{IsOperand}
-use Rattle.st_parse.specs.Creating.{IsColumn, IsKind, create_of}
+use Rattle.st_parse.specs.Creating.{IsColumn, IsIndexKind, create_of}
 use Rattle.st_parse.specs.Inserting.{AreColumnNames, insert_of}
-use Rattle.st_parse.specs.Selecting.{IsItem, IsPred, select_of}
+use Rattle.st_parse.specs.Selecting.{IsSelectItem, IsPred, select_of}
 use Rattle.st_parse.specs.Calling.{IsExec, AreArgs, IsCall, exec_of}
 
 -- These lexemes are this statement. A statement without a case here isn't one of the language yet.
@@ -31,12 +31,12 @@ abbrev pub IsStatement : List Lexeme → Statement → Type 0
 IsStatement ls (CreateTable name columns) =
     (list : List Lexeme) × AreEnclosed IsColumn list columns × (ls ≡ Word CREATE ∷ Word TABLE ∷ Name name ∷ list)
 IsStatement ls (CreateIndex name table column kind None None) =
-    (kinds : List Lexeme) × IsKind kinds kind
+    (kinds : List Lexeme) × IsIndexKind kinds kind
     × (ls ≡ Word CREATE ∷ Word INDEX ∷ Name name ∷ Word ON ∷ Name table ∷ Sign Open ∷ Name column ∷ Sign Close ∷ Word INDEXTYPE ∷ Word IS ∷ kinds)
 IsStatement ls (Insert table columns values) =
     (names list : List Lexeme) × AreColumnNames names columns × AreEnclosed IsOperand list values × (ls ≡ Word INSERT ∷ Word INTO ∷ Name table ∷ (names ++ Word VALUES ∷ list))
 IsStatement ls (Select (Items items) table (pred ∷ []) []) =
-    (list preds : List Lexeme) × AreListed IsItem list items × IsPred preds pred × (ls ≡ Word SELECT ∷ (list ++ Word FROM ∷ Name table ∷ Word WHERE ∷ preds))
+    (list preds : List Lexeme) × AreListed IsSelectItem list items × IsPred preds pred × (ls ≡ Word SELECT ∷ (list ++ Word FROM ∷ Name table ∷ Word WHERE ∷ preds))
 IsStatement ls (Exec pack procedure args) =
     (word : Keyword) × ((list : List Lexeme) × IsExec word × AreArgs list args × IsCall pack procedure args × (ls ≡ Word word ∷ Name pack ∷ Sign Dot ∷ Name procedure ∷ list))
 IsStatement ls statement = ⊥

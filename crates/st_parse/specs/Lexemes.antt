@@ -19,7 +19,7 @@ abbrev pub ◌>>=◌ : {A B : Type 0} → Option A → (A → Option B) → Opti
 None >>= f = None
 (Some a) >>= f = f a
 
--- the characters at the front that pass, and what follows them
+-- the characters at the beginning that pass, and what follows them
 abbrev pub run : (ℕ → Bool) → List ℕ → List ℕ
 run p [] = []
 run p (c ∷ cs) = if p c then c ∷ run p cs else []
@@ -45,11 +45,11 @@ word_of word = word_or word (keyword_of word)
 
 -- Of a text whose quote was opened and that has these bytes so far: all its bytes, and what follows its last quote. A quote is 39.
 abbrev pub text_at : List ℕ → List ℕ → Option (List ℕ × List ℕ)
-text_at front [] = None
-text_at front (c ∷ []) = if c == 39 then Some (front, []) else None
-text_at front (c ∷ d ∷ cs) =
-    if c == 39 then (if d == 39 then text_at (front ++ 39 ∷ []) cs else Some (front, d ∷ cs))
-    else text_at (front ++ encode_utf8 c) (d ∷ cs)
+text_at prefix [] = None
+text_at prefix (c ∷ []) = if c == 39 then Some (prefix, []) else None
+text_at prefix (c ∷ d ∷ cs) =
+    if c == 39 then (if d == 39 then text_at (prefix ++ 39 ∷ []) cs else Some (prefix, d ∷ cs))
+    else text_at (prefix ++ encode_utf8 c) (d ∷ cs)
 
 abbrev pub sign_of : ℕ → Option Symbol
 sign_of c =
@@ -71,7 +71,7 @@ sign_at c cs =
     else (if (c == 62) && is_first 61 cs then Some (AtLeast, drop 1 cs)
     else (sign_of c >>= λ s. Some (s, cs)))
 
--- the lexeme at the front, and what follows it
+-- the lexeme at the beginning, and what follows it
 abbrev pub lexeme_at : List ℕ → Option (Lexeme × List ℕ)
 lexeme_at [] = None
 lexeme_at (c ∷ cs) =

@@ -9,13 +9,13 @@ use Rattle.st_parse.specs.Lexemes.{◌>>=◌}
 abbrev pub AreListed : {A : Type 0} → (List Lexeme → A → Type 0) → List Lexeme → List A → Type 0
 AreListed Is ls [] = ⊥
 AreListed Is ls (a ∷ []) = Is ls a
-AreListed Is ls (a ∷ b ∷ more) = (front back : List Lexeme) × (ls ≡ front ++ Sign Comma ∷ back) × Is front a × AreListed Is back (b ∷ more)
+AreListed Is ls (a ∷ b ∷ more) = (prefix back : List Lexeme) × (ls ≡ prefix ++ Sign Comma ∷ back) × Is prefix a × AreListed Is back (b ∷ more)
 
 -- The same in parentheses.
 abbrev pub AreEnclosed : {A : Type 0} → (List Lexeme → A → Type 0) → List Lexeme → List A → Type 0
 AreEnclosed Is ls items = (list : List Lexeme) × AreListed Is list items × (ls ≡ Sign Open ∷ (list ++ Sign Close ∷ []))
 
--- what reads an item at the front: the item, and what follows it
+-- what reads an item at the beginning: the item, and what follows it
 abbrev pub Reader : Type 0 → Type 0
 Reader A = List Lexeme → Option (A × List Lexeme)
 
@@ -32,7 +32,7 @@ limited_list_at item (suc most) ls = item ls >>= λ a. joined a.0 a.1 (limited_l
 abbrev pub list_at : {A : Type 0} → Reader A → Reader (List A)
 list_at item ls = limited_list_at item (suc (length ls)) ls
 
--- no comma stands at the front
+-- no comma stands at the beginning
 abbrev pub EndsList : List Lexeme → Type 0
 EndsList (Sign Comma ∷ ls) = ⊥
 EndsList ls = Unit {0}

@@ -18,9 +18,9 @@ use Rattle.st_parse.specs.Numbers.{number}
 use Rattle.st_parse.specs.Lists.{Reader, list_at}
 
 -- These lexemes are this item of a list.
-abbrev pub IsItem : List Lexeme → Item → Type 0
-IsItem ls (Column name) = ls ≡ Name name ∷ []
-IsItem ls (Score label) = (digits : List ℕ) × (label ≡ number digits) × (ls ≡ Word SCORE ∷ Sign Open ∷ Number digits ∷ Sign Close ∷ [])
+abbrev pub IsSelectItem : List Lexeme → Item → Type 0
+IsSelectItem ls (Column name) = ls ≡ Name name ∷ []
+IsSelectItem ls (Score label) = (digits : List ℕ) × (label ≡ number digits) × (ls ≡ Word SCORE ∷ Sign Open ∷ Number digits ∷ Sign Close ∷ [])
 
 -- a comma and a label, or nothing
 abbrev pub IsLabel : List Lexeme → Option Whole → Type 0

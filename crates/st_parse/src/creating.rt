@@ -1,7 +1,7 @@
 //! CREATE TABLE and CREATE INDEX.
 
 ghost use Rattle.std.specs.Prelude.{◌≡◌, ◌≤◌, length, IfOk};
-ghost use Rattle.st_parse.specs.Creating.{sort_text_at, primary_key_at, column_at, kind_of, index_of, create_table_of, create_index_of, create_of};
+ghost use Rattle.st_parse.specs.Creating.{sort_text_at, primary_key_at, column_at, index_kind_of, index_of, create_table_of, create_index_of, create_of};
 ghost use Rattle.st_parse.specs.Reading.{ReadGives, StatementGives};
 
 use crate::lexemes::{Keyword, Lexeme, Symbol};
@@ -12,7 +12,7 @@ use crate::statements::{ColumnText, ColumnTexts, IndexKind, SortText, Statement}
 use ct_base::Name;
 use std::alloc::Global;
 
-/// The type of a column at the front, and what follows it.
+/// The type of a column at the beginning, and what follows it.
 fn read_sort(lexemes: &[Lexeme]) -> Result<(SortText, &[Lexeme]), StatementFault>
     ensures gives { ReadGives (λ x. (x.0, x.1.now)) result (sort_text_at lexemes.now) }
     ensures rest { IfOk result (λ x. length x.1.now ≤ length lexemes.now) }
@@ -31,7 +31,7 @@ fn read_sort(lexemes: &[Lexeme]) -> Result<(SortText, &[Lexeme]), StatementFault
     }
 }
 
-/// Whether PRIMARY KEY stands at the front, and what follows it.
+/// Whether PRIMARY KEY stands at the beginning, and what follows it.
 fn read_key(lexemes: &[Lexeme]) -> (bool, &[Lexeme])
     ensures key { (result.0, result.1.now) ≡ primary_key_at lexemes.now }
     ensures rest { length result.1.now ≤ length lexemes.now }
@@ -87,7 +87,7 @@ fn create_table(alloc: Global, lexemes: &[Lexeme]) -> Result<Statement, Statemen
 
 /// The type of an index and the words before it, where nothing follows.
 fn kind(lexemes: &[Lexeme]) -> Result<IndexKind, StatementFault>
-    ensures { ReadGives (λ k. k) result (kind_of lexemes.now) }
+    ensures { ReadGives (λ k. k) result (index_kind_of lexemes.now) }
 {
     match lexemes {
         [

@@ -70,7 +70,7 @@ fn keyword_of(word: &str) -> Option<Keyword>
     None
 }
 
-/// The word at the front in lower case, and what follows it.
+/// The word at the beginning in lower case, and what follows it.
 fn read_word(alloc: Global, text: &str) -> Result<(String, &str), Memory>
     ensures word { IfOk result (λ x. string_bytes x.0 ≡ map to_ascii_lowercase (run is_name_byte (chars text.now))) }
     ensures rest { IfOk result (λ x. chars x.1.now ≡ after_run is_name_byte (chars text.now)) }
@@ -87,7 +87,7 @@ fn read_word(alloc: Global, text: &str) -> Result<(String, &str), Memory>
     Ok((word, rest))
 }
 
-/// The digits at the front, and what follows them.
+/// The digits at the beginning, and what follows them.
 fn read_digits(alloc: Global, text: &str) -> Result<(String, &str), Memory>
     ensures digits { IfOk result (λ x. string_bytes x.0 ≡ run is_ascii_digit (chars text.now)) }
     ensures rest { IfOk result (λ x. chars x.1.now ≡ after_run is_ascii_digit (chars text.now)) }
@@ -118,7 +118,7 @@ fn after_line(text: &str) -> &str
     rest
 }
 
-/// What follows the quote at the front, if one stands there.
+/// What follows the quote at the beginning, if one stands there.
 fn after_quote(text: &str) -> Option<&str>
     ensures { MatchOption result (is_first 39 (chars text.now) ≡ false) (λ next. chars text.now ≡ 39 ∷ chars next.now) }
 {
@@ -204,7 +204,7 @@ fn sign_at(c: char, text: &str) -> Option<(Symbol, &str)>
     }
 }
 
-/// The lexeme at the front, and what follows it.
+/// The lexeme at the beginning, and what follows it.
 fn lexeme_at(alloc: Global, text: &str) -> Result<(Lexeme, &str), LexFault>
     ensures gives { LexGives (λ x. (x.0, chars x.1.now)) result (lexeme_at (chars text.now)) }
     ensures shorter { IfOk result (λ x. length (chars x.1.now) < length (chars text.now)) }

@@ -12,16 +12,16 @@ use std::alloc::Global;
 
 /// What may stand in a list.
 pub(crate) trait Element: Drop + Sized {
-    /// The item at the front and what follows it, as the grammar reads them.
+    /// The item at the beginning and what follows it, as the grammar reads them.
     ghost item_at: { Reader Self };
 
-    /// Reads the item at the front; gives what follows it too.
+    /// Reads the item at the beginning; gives what follows it too.
     fn read(lexemes: &[Lexeme]) -> Result<(Self, &[Lexeme]), StatementFault>
         ensures gives { ReadGives (λ x. (x.0, x.1.now)) result (item_at lexemes.now) }
         ensures rest { IfOk result (λ x. length x.1.now ≤ length lexemes.now) };
 }
 
-/// What follows the comma at the front, if one stands there.
+/// What follows the comma at the beginning, if one stands there.
 fn after_comma(lexemes: &[Lexeme]) -> Option<&[Lexeme]>
     ensures { MatchOption result (EndsList lexemes.now) (λ next. lexemes.now ≡ Sign Comma ∷ next.now) }
 {

@@ -30,7 +30,7 @@ impl Element for Item {
     }
 }
 
-/// The label at the front, if there is one, and what follows it.
+/// The label at the beginning, if there is one, and what follows it.
 fn read_label(lexemes: &[Lexeme]) -> (Option<Whole>, &[Lexeme])
     ensures { (result.0, result.1.now) ≡ label_at lexemes.now }
 {

@@ -10,7 +10,7 @@ use crate::numbers::{negated, number};
 use crate::parsing::StatementFault;
 use crate::statements::{Operand, Whole};
 
-/// The number at the front, with its sign if it has one, and what follows it.
+/// The number at the beginning, with its sign if it has one, and what follows it.
 pub(crate) fn read_signed(lexemes: &[Lexeme]) -> Result<(Whole, &[Lexeme]), StatementFault>
     ensures gives { ReadGives (λ x. (x.0, x.1.now)) result (signed_at lexemes.now) }
     ensures rest { IfOk result (λ x. length x.1.now ≤ length lexemes.now) }

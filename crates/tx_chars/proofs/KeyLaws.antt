@@ -9,9 +9,9 @@ use Rattle.std.proofs.lemmas.Bool.{and_parts}
 use Rattle.tx_chars.specs.Keys.{cut_at, key_of}
 
 -- characters are cut whole
-utf8-step : (b : Bool) (front rest : List ℕ) → IsUtf8 front → IsUtf8 rest → IsUtf8 (cond b (front ++ rest) [])
-utf8-step true front rest f r = IsUtf8-append front rest f r
-utf8-step false front rest f r = IsUtf8-nil
+utf8-step : (b : Bool) (prefix rest : List ℕ) → IsUtf8 prefix → IsUtf8 rest → IsUtf8 (cond b (prefix ++ rest) [])
+utf8-step true prefix rest f r = IsUtf8-append prefix rest f r
+utf8-step false prefix rest f r = IsUtf8-nil
 
 utf8-cut : (room : ℕ) (cs : List ℕ) → all_scalars cs ≡ true → IsUtf8 (cut_at room cs)
 utf8-cut room [] h = IsUtf8-nil
@@ -32,9 +32,9 @@ pub utf8 : (text : List ℕ) → all_scalars text ≡ true → IsUtf8 (key_of te
 utf8 text h = utf8-cut 255 (map to_ascii_lowercase text) (lower_scalars text h)
 
 -- nothing is cut where all have room
-whole-step : (b : Bool) (room width : ℕ) (front rest all : List ℕ) → leb width room ≡ b → width ≤ room → rest ≡ all → cond b (front ++ rest) [] ≡ front ++ all
-whole-step true room width front rest all test fits same = ap (λ x. front ++ x) same
-whole-step false room width front rest all test fits same = absurd (omega (arith, leb-false width room test))
+whole-step : (b : Bool) (room width : ℕ) (prefix rest all : List ℕ) → leb width room ≡ b → width ≤ room → rest ≡ all → cond b (prefix ++ rest) [] ≡ prefix ++ all
+whole-step true room width prefix rest all test fits same = ap (λ x. prefix ++ x) same
+whole-step false room width prefix rest all test fits same = absurd (omega (arith, leb-false width room test))
 
 whole-cut : (room : ℕ) (cs : List ℕ) → length (encode_utf8_all cs) ≤ room → cut_at room cs ≡ encode_utf8_all cs
 whole-cut room [] h = refl
@@ -46,9 +46,9 @@ pub whole : (text : List ℕ) → length (encode_utf8_all (map to_ascii_lowercas
 whole text h = whole-cut 255 (map to_ascii_lowercase text) h
 
 -- the first character has room
-first-step : (b : Bool) (room width : ℕ) (front rest : List ℕ) → leb width room ≡ b → length front ≡ width → 1 ≤ width → width ≤ room → cond b (front ++ rest) [] ≡ [] → ⊥
-first-step true room width front rest test long one fits none = omega (arith, length-append front rest, ap length none)
-first-step false room width front rest test long one fits none = omega (arith, leb-false width room test)
+first-step : (b : Bool) (room width : ℕ) (prefix rest : List ℕ) → leb width room ≡ b → length prefix ≡ width → 1 ≤ width → width ≤ room → cond b (prefix ++ rest) [] ≡ [] → ⊥
+first-step true room width prefix rest test long one fits none = omega (arith, length-append prefix rest, ap length none)
+first-step false room width prefix rest test long one fits none = omega (arith, leb-false width room test)
 
 none_is_empty : (text : List ℕ) → key_of text ≡ [] → text ≡ []
 none_is_empty [] h = refl

@@ -3,6 +3,7 @@ use Rattle.std.specs.Prelude.{ℕ, ◌≡◌, ◌-◌, nat_le, Bool, List, [], �
 use Rattle.std.specs.Bool.{if◌then◌else◌}
 use Rattle.std.specs.Char.{is_ascii_digit, is_ascii_alphanumeric, to_ascii_lowercase, encode_utf8, len_utf8}
 use lib.Utf8.{encode}
+use Rattle.ct_base.specs.Limits.{token_limit}
 
 -- For now words are made of ASCII letters and digits.
 abbrev pub is_word : ℕ → Bool
@@ -11,18 +12,14 @@ is_word c = is_ascii_alphanumeric c
 abbrev pub is_digit : ℕ → Bool
 is_digit c = is_ascii_digit c
 
--- how many bytes a key has at most
-abbrev pub key_limit : ℕ
-key_limit = 255
-
--- the bytes of the characters at the front that have room, up to the first that has none
+-- the bytes of the characters at the beginning that have room, up to the first that has none
 abbrev pub cut_at : ℕ → List ℕ → List ℕ
 cut_at room [] = []
 cut_at room (c ∷ cs) = if nat_le (len_utf8 c) room then encode_utf8 c ++ cut_at (room - len_utf8 c) cs else []
 
 -- the key of some characters: their UTF-8 bytes in ASCII lower case, cut at the last character boundary at or below 255
 abbrev pub key_of : List ℕ → List ℕ
-key_of text = cut_at key_limit (map to_ascii_lowercase text)
+key_of text = cut_at token_limit (map to_ascii_lowercase text)
 
 -- computed examples
 lower : key_of (codes "Web2.0") ≡ codes "web2.0"

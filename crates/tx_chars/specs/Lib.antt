@@ -1,3 +1,3 @@
 pub mod Keys
 pub mod KeyLimit
-pub mod LongestFront
+pub mod LongestPrefix

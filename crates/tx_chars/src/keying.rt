@@ -3,15 +3,13 @@
 ghost use Rattle.std.specs.Prelude.{◌≡◌, ◌↔◌, ◌≤◌, ℕ, true, List, [], IfOk, length, map};
 ghost use Rattle.std.specs.Char.{to_ascii_lowercase};
 ghost use Rattle.std.specs.Str.{chars, IsUtf8, all_scalars, encode_utf8_all};
+ghost use Rattle.ct_base.specs.Limits.{token_limit};
 ghost use Rattle.tx_chars.specs.Keys.{is_word, is_digit, key_of};
-ghost use Rattle.tx_chars.specs.LongestFront.{KeysAreLongestFronts};
+ghost use Rattle.tx_chars.specs.LongestPrefix.{KeysAreLongestPrefixes};
 
 use crate::keys::Key;
-use ct_base::{Memory, push_char, split_first};
+use ct_base::{Memory, TOKEN_LIMIT, push_char, split_first};
 use std::alloc::Global;
-
-/// How many bytes a key has at most.
-const KEY_LIMIT: usize = 255;
 
 /// Whether the character stands in words: an ASCII letter or digit.
 pub fn is_word(c: char) -> bool
@@ -33,7 +31,7 @@ pub fn key(alloc: Global, text: &str) -> Result<Key, Memory>
     ensures { IfOk result (λ k. k ≡ key_of (chars text.now)) }
 {
     let mut lower = String::new(alloc);
-    let mut room = KEY_LIMIT;
+    let mut room = TOKEN_LIMIT;
     let mut rest = text;
     while let Some((c, after)) = split_first(rest) {
         let c = c.to_ascii_lowercase();
@@ -48,13 +46,13 @@ pub fn key(alloc: Global, text: &str) -> Result<Key, Memory>
     Ok(Key::of(lower.into_bytes()))
 }
 
-/// What holds of every key: it has at most 255 bytes, which are UTF-8; it is the longest front of a text in lower case, at a
+/// What holds of every key: it has at most 255 bytes, which are UTF-8; it is the longest prefix of a text in lower case, at a
 /// character boundary, that has no more, so all of a text that has no more; and it is empty exactly where the text is.
 pub fn key_laws()
-    ensures longest { KeysAreLongestFronts }
-    ensures limit { (text : List ℕ) → length (key_of text) ≤ 255 }
+    ensures longest { KeysAreLongestPrefixes }
+    ensures limit { (text : List ℕ) → length (key_of text) ≤ token_limit }
     ensures utf8 { (text : List ℕ) → all_scalars text ≡ true → IsUtf8 (key_of text) }
-    ensures whole { (text : List ℕ) → length (encode_utf8_all (map to_ascii_lowercase text)) ≤ 255
+    ensures whole { (text : List ℕ) → length (encode_utf8_all (map to_ascii_lowercase text)) ≤ token_limit
         → key_of text ≡ encode_utf8_all (map to_ascii_lowercase text) }
     ensures empty { (text : List ℕ) → (key_of text ≡ []) ↔ (text ≡ []) }
 {}

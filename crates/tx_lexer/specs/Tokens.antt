@@ -41,7 +41,7 @@ is_cut_before role = false
 abbrev pub is_cut : Role → Role → Bool
 is_cut role next = is_cut_after role || is_cut_before next
 
--- the places at the front that nothing cuts from a place of this role before them
+-- the places at the beginning that nothing cuts from a place of this role before them
 abbrev pub uncut : Role → List Place → List Place
 uncut role [] = []
 uncut role (p ∷ ps) = if is_cut role p.role then [] else p ∷ uncut p.role ps
@@ -51,9 +51,9 @@ abbrev pub own : Role → ℕ → List ℕ
 own Skip c = []
 own role c = c ∷ []
 
-abbrev pub text_of : List Place → List ℕ
-text_of [] = []
-text_of (p ∷ ps) = own p.role p.char ++ text_of ps
+abbrev pub run_text : List Place → List ℕ
+run_text [] = []
+run_text (p ∷ ps) = own p.role p.char ++ run_text ps
 
 -- where a run ends, and the characters behind it
 abbrev pub stop_of : ℕ → List Place → ℕ
@@ -98,7 +98,7 @@ token r role text start stop after = keyed r (r.key text) start stop after
 abbrev pub tokens_after : Rules → Role → List Place → List Token
 tokens_after r role [] = []
 tokens_after r role (p ∷ ps) =
-    (if is_cut role p.role then (let run = p ∷ uncut p.role ps in token r p.role (text_of run) p.byte (stop_of 0 run) (after_of [] run)) else []) ++ tokens_after r p.role ps
+    (if is_cut role p.role then (let run = p ∷ uncut p.role ps in token r p.role (run_text run) p.byte (stop_of 0 run) (after_of [] run)) else []) ++ tokens_after r p.role ps
 
 -- the tokens of the characters
 abbrev pub tokens : Rules → List ℕ → List Token

@@ -1,5 +1,8 @@
 -- Lists.
-use Rattle.std.proofs.Common.{◌≡◌, List, ◌∷◌, ◌++◌, length, take, drop, refl, sym, ap, ◌∙◌}
+use Rattle.std.proofs.Common.{◌≡◌, ℕ, true, List, [], ◌∷◌, ◌++◌, length, take, drop, refl, sym, ap, ◌∙◌}
+use Rattle.std.specs.Prelude.{nat_eq}
+use Rattle.std.specs.Cmp.Lexicographic.{pointwise}
+use Rattle.std.proofs.lemmas.Bool.{eq-eqb, and_from}
 use Rattle.std.proofs.lemmas.List.{take_at, drop_at}
 
 module _ {X : Type 0} where
@@ -13,3 +16,8 @@ module _ {X : Type 0} where
     sym (take_at a r (length a) refl) ∙ ap (take (length a)) e ∙ take_at b s (length a) (sym long),
     sym (drop_at a r (length a) refl) ∙ ap (drop (length a)) e ∙ drop_at b s (length a) (sym long),
   )
+
+-- a list of numbers is the same as itself, element by element
+pub same_as_itself : (xs : List ℕ) → pointwise nat_eq xs xs ≡ true
+same_as_itself [] = refl
+same_as_itself (x ∷ xs) = and_from _ _ (eq-eqb x x refl) (same_as_itself xs)

@@ -1,7 +1,7 @@
 use Rattle.tx_chars.specs.KeyLimit.{limit}
 use Rattle.tx_chars.proofs.KeyLaws.{utf8, whole, empty}
 use Rattle.tx_chars.proofs.keying.key_laws.Goals as goal
-use Rattle.tx_chars.specs.LongestFront.{keys_are_longest}
+use Rattle.tx_chars.specs.LongestPrefix.{keys_are_longest}
 
 pub returns-clause-limit : goal.returns-clause-limit
 returns-clause-limit c = limit
