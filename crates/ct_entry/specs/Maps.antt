@@ -1,5 +1,5 @@
 -- Finite maps from names and from row keys, and what is made of them.
-use Rattle.std.specs.Prelude.{ℕ, ◌≡◌, ◌+◌, [], ◌∷◌, map, Option, Some, None, codes}
+use Rattle.std.specs.Prelude.{ℕ, ◌≡◌, ◌+◌, [], ◌∷◌, map, Option, Some, None, codes, refl}
 use Rattle.std.specs.Ordering.{nat_cmp, int_cmp}
 use Rattle.std.specs.Cmp.Lexicographic.{slice_cmp}
 use Rattle.std.specs.declared.cmp.Ordering.{Ordering}
@@ -35,6 +35,10 @@ two_added : get (alter one_name (codes "di") (λ n. n + 2)) (codes "di") ≡ Som
 two_added =
     ap (λ (o : Option ℕ). get (altered one_name (codes "di") (λ n. n + 2) o) (codes "di")) (get-from_sorted (slice_cmp nat_cmp) ((codes "di", 1) ∷ []) (codes "di") tt)
     ∙ get-insert nat_list_cmp_total one_name (codes "di") 3 (codes "di")
+
+-- what a name has is put as it was altered
+put_as_altered : (m : Names ℕ) → altered m (codes "di") (λ n. n + 2) (Some 1) ≡ insert m (codes "di") 3
+put_as_altered m = refl
 
 -- a name that isn't there gets nothing
 nothing_added : alter one_name (codes "dj") (λ n. n + 2) ≡ one_name

@@ -3,7 +3,8 @@
 ghost use Rattle.std.specs.Prelude.{◌≡◌, ◌++◌, ◌∷◌, [], IfOk, OnOk, OnErr, Some, None, Err, is_some};
 ghost use Rattle.std.specs.Option.{option_map};
 ghost use Rattle.ct_keep.specs.Content.{Content};
-ghost use Rattle.ct_keep.specs.KeeperViews.{Finds, OnlyReads};
+ghost use Rattle.ct_keep.specs.Counting.{count_under};
+ghost use Rattle.ct_keep.specs.KeeperViews.{Finds, OnlyReads, Told};
 ghost use Rattle.ct_keep.specs.Looks.{look, LooksAtMost};
 ghost use Rattle.ct_entry.specs.Keys.{key, bytes, at, prefix_of};
 ghost use Rattle.ct_entry.specs.Changes.{spell, put, drop_key};
@@ -97,4 +98,18 @@ pub fn has_entry<K: Keeper>(
 {
     let found = fetch_entry(alloc, keeper, kind, owner, part)?;
     Ok(found.is_some())
+}
+
+/// How many entries of a kind an owner has. It makes no look-up; its cost is the logarithm of the number of owners.
+pub fn entry_count<K: Keeper>(
+    alloc: Global,
+    keeper: &K,
+    kind: Kind,
+    owner: &Name,
+) -> Result<u64, Memory>
+    requires { (K.view keeper.now).ready }
+    ensures { Told K.view keeper.now (λ m. IfOk result (λ count. count ≡ count_under (prefix_of kind owner.now) m)) }
+{
+    let prefix = prefix_bytes(alloc, kind, owner)?;
+    Ok(keeper.count(&prefix))
 }

@@ -7,6 +7,6 @@ mod listings;
 #[cfg(test)]
 mod tests;
 
-pub use entries::{fetch_entry, has_entry, key_bytes, put_entry, remove_entry};
+pub use entries::{entry_count, fetch_entry, has_entry, key_bytes, put_entry, remove_entry};
 pub use kinds::Kind;
 pub use listings::{entries_of, next_row_key, owner_in, owners, row_in, row_keys};

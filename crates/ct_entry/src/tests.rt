@@ -3,7 +3,7 @@
 ghost use Rattle.std.specs.Prelude.{◌≤◌, length, true, IfOk, OnOk};
 ghost use Rattle.ct_base.specs.Names.{IsName};
 ghost use Rattle.ct_keep.specs.Changes.{AreWell};
-ghost use Rattle.ct_keep.specs.InMemory.{TakesAll};
+ghost use Rattle.ct_keep.specs.KeeperViews.{AcceptsChanges};
 
 use crate::{
     Kind, entries_of, fetch_entry, has_entry, key_bytes, next_row_key, owners, put_entry,
@@ -83,8 +83,8 @@ fn batch_of(alloc: Global, changes: &[Change]) -> Result<Batch, Memory>
 
 /// Commits the changes.
 fn commit<K: Keeper>(alloc: Global, keeper: &mut K, changes: &[Change]) -> Result<(), KeepFault>
-    requires { TakesAll (K.view keeper.old) }
-    ensures { OnOk result (TakesAll (K.view keeper.new)) }
+    requires { AcceptsChanges (K.view keeper.old) }
+    ensures { OnOk result (AcceptsChanges (K.view keeper.new)) }
 {
     let batch = batch_of(alloc, changes)?;
     keeper.commit(alloc, batch)

@@ -8,7 +8,7 @@ use Rattle.std.proofs.lemmas.Cmp.{nat_list_cmp_total}
 use Rattle.std.proofs.lemmas.Map.Lookups.{exact_bytes}
 use Rattle.ct_keep.specs.Content.{Content, set_to, after, weight}
 use Rattle.ct_keep.specs.Laws.{same, same_itself, same_keys, same_content, get-set_to, value_weight, weight-set_to}
-use Rattle.ct_keep.specs.Trials.{staying, removals}
+use Rattle.ct_keep.specs.Transactions.{staying, removals}
 
 pub get-insert_here : (m : Content) (k v : List ℕ) → get (insert m k v) k ≡ Some v
 get-insert_here m k v = get-insert nat_list_cmp_total m k v k ∙ ap (λ (b : Bool). cond b (Some v) (get m k)) (same_itself k)

@@ -4,16 +4,16 @@ use Rattle.std.specs.Prelude.{is_some, IsSome, reverse}
 use Rattle.std.specs.FinMap.{get, insert, remove, empty}
 use Rattle.std.proofs.lemmas.List.{map-append, reverse-append}
 use Rattle.ct_keep.specs.declared.batches.Change as rust
-use Rattle.ct_keep.specs.Spoken.{spoken}
+use Rattle.ct_keep.specs.SeenChanges.{change_of}
 use Rattle.ct_keep.specs.Content.{Content, Change, after, entry_weight, weight}
 use Rattle.ct_keep.specs.Laws.{value_weight, weight-set_to}
-use Rattle.ct_keep.specs.Trials.{staying, undoing, AreInPlace, IsCourse}
+use Rattle.ct_keep.specs.Transactions.{staying, undoing, AreInPlace, IsTransaction}
 use Rattle.ct_keep.proofs.ContentLaws.{get-insert_here, set_back, get-staying, staying-none, staying-put, staying-gone, value_weight-le}
 
-undoing-push : (notes : List rust.Change) (note : rust.Change) → undoing (notes ++ note ∷ []) ≡ spoken note ∷ undoing notes
-undoing-push notes note = ap reverse (map-append spoken notes (note ∷ [])) ∙ reverse-append (map spoken notes) (spoken note ∷ [])
+undoing-push : (notes : List rust.Change) (note : rust.Change) → undoing (notes ++ note ∷ []) ≡ change_of note ∷ undoing notes
+undoing-push notes note = ap reverse (map-append change_of notes (note ∷ [])) ∙ reverse-append (map change_of notes) (change_of note ∷ [])
 
-pub course_begins : (held gone : Content) (notes : List rust.Change) (total : ℕ) → gone ≡ empty → notes ≡ [] → total ≡ weight held → IsCourse held gone notes total
+pub course_begins : (held gone : Content) (notes : List rust.Change) (total : ℕ) → gone ≡ empty → notes ≡ [] → total ≡ weight held → IsTransaction held gone notes total
 course_begins held gone notes total no_gone no_notes is = record {
   weighs = is ∙ ap weight (sym (staying-none held) ∙ ap (staying held) (sym no_gone));
   in_place = subst (λ (ns : List rust.Change). AreInPlace (undoing ns) held) (sym no_notes) tt;
@@ -26,7 +26,7 @@ get-staying_gone held gone key is = get-staying held gone key ∙ ap (λ (b : Bo
 pub get-staying_held : (held gone : Content) (key : List ℕ) → is_some (get gone key) ≡ false → get (staying held gone) key ≡ get held key
 get-staying_held held gone key is = get-staying held gone key ∙ ap (λ (b : Bool). cond b None (get held key)) is
 
-module _ (held : Content) (notes : List rust.Change) (note : rust.Change) (key value : List ℕ) (noted : spoken note ≡ (key, get held key)) where
+module _ (held : Content) (notes : List rust.Change) (note : rust.Change) (key value : List ℕ) (noted : change_of note ≡ (key, get held key)) where
   undoing_is : undoing (notes ++ note ∷ []) ≡ (key, get held key) ∷ undoing notes
   undoing_is = undoing-push notes note ∙ ap (λ (w : Change). w ∷ undoing notes) noted
 
@@ -38,8 +38,8 @@ module _ (held : Content) (notes : List rust.Change) (note : rust.Change) (key v
       subst (λ (ws : List Change). AreInPlace ws (insert held key value)) (sym undoing_is)
       (λ _. subst (λ (o : Option (List ℕ)). IsSome o) (sym (get-insert_here held key value)) refl, subst (AreInPlace (undoing notes)) (sym (set_back key (Some value) held)) in_place)
 
-  pub course_after_put : (gone : Content) (total : ℕ) → IsCourse held gone notes total
-      → IsCourse (insert held key value) (remove gone key) (notes ++ note ∷ []) (total - value_weight key (get (staying held gone) key) + entry_weight (key, value))
+  pub course_after_put : (gone : Content) (total : ℕ) → IsTransaction held gone notes total
+      → IsTransaction (insert held key value) (remove gone key) (notes ++ note ∷ []) (total - value_weight key (get (staying held gone) key) + entry_weight (key, value))
   course_after_put gone total course = record {
     weighs =
         let seen = staying held gone in
@@ -47,8 +47,8 @@ module _ (held : Content) (notes : List rust.Change) (note : rust.Change) (key v
     in_place = in_place_after_put course.in_place;
   }
 
-pub course_after_removal : (held gone : Content) (notes : List rust.Change) (total : ℕ) (key mark : List ℕ) → IsCourse held gone notes total
-    → IsCourse held (insert gone key mark) notes (total - value_weight key (get (staying held gone) key))
+pub course_after_removal : (held gone : Content) (notes : List rust.Change) (total : ℕ) (key mark : List ℕ) → IsTransaction held gone notes total
+    → IsTransaction held (insert gone key mark) notes (total - value_weight key (get (staying held gone) key))
 course_after_removal held gone notes total key mark course = record {
   weighs =
       let seen = staying held gone in
@@ -61,14 +61,14 @@ pub heavier_by : (m : Content) (key value : List ℕ) (more : ℕ) → entry_wei
 heavier_by m key value more is fits = omega (arith, weight-set_to key (Some value) m, is, fits)
 
 -- the same, by what the calls gave
-pub course_put : (held held' gone gone' : Content) (notes notes' : List rust.Change) (note : rust.Change) (key value : List ℕ) (total less more : ℕ) → IsCourse held gone notes total
-    → spoken note ≡ (key, get held key) → held' ≡ insert held key value → gone' ≡ remove gone key → notes' ≡ notes ++ note ∷ []
-    → less ≡ value_weight key (get (staying held gone) key) → more ≡ entry_weight (key, value) → IsCourse held' gone' notes' (total - less + more)
+pub course_put : (held held' gone gone' : Content) (notes notes' : List rust.Change) (note : rust.Change) (key value : List ℕ) (total less more : ℕ) → IsTransaction held gone notes total
+    → change_of note ≡ (key, get held key) → held' ≡ insert held key value → gone' ≡ remove gone key → notes' ≡ notes ++ note ∷ []
+    → less ≡ value_weight key (get (staying held gone) key) → more ≡ entry_weight (key, value) → IsTransaction held' gone' notes' (total - less + more)
 course_put held held' gone gone' notes notes' note key value total less more course noted h g n l m =
     rw (h, g, n, l, m) (course_after_put held notes note key value noted gone total course)
 
-pub course_removed : (held gone gone' : Content) (notes : List rust.Change) (key mark : List ℕ) (total less : ℕ) → IsCourse held gone notes total
-    → gone' ≡ insert gone key mark → less ≡ value_weight key (get (staying held gone) key) → IsCourse held gone' notes (total - less)
+pub course_removed : (held gone gone' : Content) (notes : List rust.Change) (key mark : List ℕ) (total less : ℕ) → IsTransaction held gone notes total
+    → gone' ≡ insert gone key mark → less ≡ value_weight key (get (staying held gone) key) → IsTransaction held gone' notes (total - less)
 course_removed held gone gone' notes key mark total less course g l = rw (g, l) (course_after_removal held gone notes total key mark course)
 
 pub no_heavier : (m : Content) (key : List ℕ) → weight (remove m key) ≤ weight m + 2 ^ 64

@@ -7,7 +7,7 @@ use Rattle.ct_keep.specs.Content.{Content, begins_with, entries_above, entries_u
 use Rattle.ct_keep.specs.KeeperViews.{Counts}
 use Rattle.ct_keep.specs.Rising.{Entry, beginning, first_then, none_then, stops}
 use Rattle.ct_keep.specs.Tail.{cut, tail, left_under, rest_under}
-use Rattle.ct_keep.specs.TailLaws.{entries-tail, front_and_rest}
+use Rattle.ct_keep.specs.TailLaws.{entries-tail, prefix_and_rest}
 use Rattle.ct_keep.specs.Looks.{look, plus, no_looks, looks, next_looks, scan_looks, RisesBy}
 
 -- A scan of the prefix has come to this key: what it found and what is left are all, and so with the counts.
@@ -76,7 +76,7 @@ module _ (p k : List ℕ) (m : Content) (found : List Entry) (old now new : Coun
   pub scanning_more : (f : Entry) (k' : List ℕ) → Some f ≡ rest_under p (first_entry (entries_above k m)) → k' ≡ p ++ f.0 → RisesBy (next_looks k m) now new → Scanning p k' m (found ++ f ∷ []) old new
   scanning_more f k' is key added =
       let s = stepped p k m f is in
-      let at : k' ≡ s.0.0 = key ∙ ap (λ (g : Entry). p ++ g.0) s.2 ∙ front_and_rest p s.0.0 s.1 in
+      let at : k' ≡ s.0.0 = key ∙ ap (λ (g : Entry). p ++ g.0) s.2 ∙ prefix_and_rest p s.0.0 s.1 in
       subst (λ (l : List ℕ). Scanning p l m (found ++ f ∷ []) old new) (sym at)
       (subst (λ (g : Entry). Scanning p s.0.0 m (found ++ g ∷ []) old new) (sym s.2) (stepped_on s.0 s.1 s.3 added))
 

@@ -1,5 +1,5 @@
 -- The changes of a batch, as contracts see them, and what a keeper may hold.
-use Rattle.std.specs.Prelude.{ℕ, ◌≡◌, Bool, true, List, [], ◌∷◌, Option, Some, None}
+use Rattle.std.specs.Prelude.{ℕ, ◌≡◌, Bool, true, List, [], ◌∷◌, Option, Some, None, codes, refl}
 use Rattle.std.specs.FinMap.{get}
 use Rattle.ct_keep.specs.Content.{Content, IsEntry}
 
@@ -20,3 +20,10 @@ pub record HoldsWell (well : List ℕ → List ℕ → Bool) (m : Content) : Typ
 -- each within the bounds
 abbrev pub HoldsEntries : Content → Type 0
 HoldsEntries m = HoldsWell (λ key value. true) m
+
+-- computed examples: a change that takes an entry away is always well, and one that puts an entry is where the entry is
+removal : (well : List ℕ → List ℕ → Bool) → AreWell well ((codes "a", None) ∷ []) ≡ Unit {0}
+removal well = refl
+
+one_put : (well : List ℕ → List ℕ → Bool) → AreWell well ((codes "a", Some (codes "1")) ∷ []) ≡ (IsEntry (codes "a") (codes "1") × (well (codes "a") (codes "1") ≡ true) × Unit {0})
+one_put well = refl

@@ -9,7 +9,7 @@ use Rattle.ct_keep.specs.declared.keepers.KeepFault.{KeepFault}
 use Rattle.ct_keep.specs.declared.keepers.KeepFault.TheVariants.{Memory, Disk, Full}
 use Rattle.ct_keep.specs.Content.{Content}
 use Rattle.ct_keep.specs.Changes.{AreWell}
-use Rattle.ct_keep.specs.KeeperViews.{KeeperView, Fixed, Counts, Kept, Reads, Goes, Answers, Came, Leaves, IsSettled, Apart, KeeperHears, KeeperSays, PassesRoom, UnlessDisk, OnDisk, counted, disk_counted, is_full, committed, AtMostOneCommit}
+use Rattle.ct_keep.specs.KeeperViews.{KeeperView, AcceptsChanges, Fixed, Counts, SameButContent, Reads, Goes, AnswersCommit, Came, IsLeft, IsDurable, SameStore, KeeperSays, PassesRoom, UnlessDisk, OnDisk, counted, disk_faults_after, is_full, committed, AtMostOneCommit}
 
 -- ---- what never changes, by its fields
 
@@ -30,17 +30,17 @@ same_lender e = ap (λ (x : Fixed). x.lender) e
 
 -- ---- what every call keeps
 
-pub kept_all : (k : KeeperView) → k.ready → Kept k k None
+pub kept_all : (k : KeeperView) → k.ready → SameButContent k k None
 kept_all k ready = record { ready = ready; beside = refl; fixed = refl; later = omega arith; cause = refl; calls = tt }
 
 -- a call that succeeded, and then another
-pub kept_then : (old mid new : KeeperView) (fault : Option KeepFault) → Kept old mid None → Kept mid new fault → Kept old new fault
+pub kept_then : (old mid new : KeeperView) (fault : Option KeepFault) → SameButContent old mid None → SameButContent mid new fault → SameButContent old new fault
 kept_then old mid new fault first second = record {
   ready = second.ready;
   beside = second.beside ∙ first.beside;
   fixed = second.fixed ∙ first.fixed;
   later = omega (arith, first.later, second.later);
-  cause = second.cause ∙ ap (disk_counted fault) first.cause;
+  cause = second.cause ∙ ap (disk_faults_after fault) first.cause;
   calls = called fault second.calls;
 }
   where
@@ -51,7 +51,7 @@ kept_then old mid new fault first second = record {
     called (Some Disk) c = sym (same_aside first.fixed) ∙ c
 
 -- calls that succeeded, and then no memory
-pub kept_short : (old new : KeeperView) → Kept old new None → Kept old new (Some Memory)
+pub kept_short : (old new : KeeperView) → SameButContent old new None → SameButContent old new (Some Memory)
 kept_short old new kept = record { ready = kept.ready; beside = kept.beside; fixed = kept.fixed; later = kept.later; cause = kept.cause; calls = tt }
 
 -- ---- reads
@@ -89,6 +89,10 @@ reads_hold old new m reads holds = reads.content ∙ holds
 pub reads_well : (old new : KeeperView) (batch : List (List ℕ × Option (List ℕ))) → Reads old new None → AreWell old.fixed.well batch → AreWell new.fixed.well batch
 reads_well old new batch reads well = subst (λ (w : List ℕ → List ℕ → Bool). AreWell w batch) (sym (same_well reads.kept.fixed)) well
 
+-- what may be changed before them may be changed after them
+pub accepts_on : (old new : KeeperView) → AcceptsChanges old → Reads old new None → AcceptsChanges new
+accepts_on old new accepts reads = record { ready = reads.kept.ready; takes = subst (λ (w : List ℕ → List ℕ → Bool). (key value : List ℕ) → w key value ≡ true) (sym (same_well reads.kept.fixed)) accepts.takes }
+
 -- ---- reads, and then at most one commit
 
 pub reads_then : (m next : Content) (old mid new : KeeperView) (fault : Option KeepFault) → Reads old mid None → Goes m next mid new fault → Goes m next old new fault
@@ -103,7 +107,7 @@ reads_then m next old mid new fault reads goes = record {
     before said is = ap (λ (b : Beside). b.said) (sym reads.kept.beside) ∙ is
 
 -- reads alone, which succeeded
-pub reads_only : (m : Content) (old new : KeeperView) → IsSettled old → old.content ≡ Some m → Reads old new None → Goes m m old new None
+pub reads_only : (m : Content) (old new : KeeperView) → IsDurable old → old.content ≡ Some m → Reads old new None → Goes m m old new None
 reads_only m old new settled holds reads = record {
   content = reads.content ∙ holds;
   time = passes_nothing old.time new.time _ reads.time;
@@ -111,7 +115,7 @@ reads_only m old new settled holds reads = record {
 }
 
 -- or which failed
-pub reads_failed : (m next : Content) (old new : KeeperView) (fault : KeepFault) → IsSettled old → old.content ≡ Some m → Reads old new (Some fault) → Goes m next old new (Some fault)
+pub reads_failed : (m next : Content) (old new : KeeperView) (fault : KeepFault) → IsDurable old → old.content ≡ Some m → Reads old new (Some fault) → Goes m next old new (Some fault)
 reads_failed m next old new fault settled holds reads = record {
   content = came fault reads.content;
   time = passes_nothing old.time new.time _ reads.time;
@@ -123,7 +127,7 @@ reads_failed m next old new fault settled holds reads = record {
     came Full c = c ∙ holds
     came Disk c = c
 
-    left : (fault : KeepFault) (stopped : Option Content) → stopped ≡ Some m → Leaves (Some fault) m next stopped
+    left : (fault : KeepFault) (stopped : Option Content) → stopped ≡ Some m → IsLeft (Some fault) m next stopped
     left Memory stopped is = is
     left Full stopped is = is
     left Disk stopped is = inl is
@@ -137,11 +141,11 @@ goes_on m next old mid new goes reads = record {
 }
 
 -- the answer of the commit, by the limit before the reads
-pub answers_then : (m next : Content) (old mid : KeeperView) (fault : Option KeepFault) → Reads old mid None → Answers fault mid.fixed.limit m next → Answers fault old.fixed.limit m next
-answers_then m next old mid fault reads answers = subst (λ (limit : ℕ). Answers fault limit m next) (same_limit reads.kept.fixed) answers
+pub answers_then : (m next : Content) (old mid : KeeperView) (fault : Option KeepFault) → Reads old mid None → AnswersCommit fault mid.fixed.limit m next → AnswersCommit fault old.fixed.limit m next
+answers_then m next old mid fault reads answers = subst (λ (limit : ℕ). AnswersCommit fault limit m next) (same_limit reads.kept.fixed) answers
 
 -- where the reads failed, no commit was tried
-pub answers_failed : (fault : KeepFault) (limit : ℕ) (m next : Content) → (fault ≡ Full → ⊥) → Answers (Some fault) limit m next
+pub answers_failed : (fault : KeepFault) (limit : ℕ) (m next : Content) → (fault ≡ Full → ⊥) → AnswersCommit (Some fault) limit m next
 answers_failed Memory limit m next not_full = tt
 answers_failed Disk limit m next not_full = tt
 answers_failed Full limit m next not_full = absurd (not_full refl)
@@ -159,10 +163,10 @@ commits_read old new fault reads = inl reads.commits
 
 -- ---- hearing and saying
 
-pub apart_all : (k : KeeperView) → Apart k k
+pub apart_all : (k : KeeperView) → SameStore k k
 apart_all k = record { ready = λ ready. ready; fixed = refl; content = refl; counts = refl; disk_faults = refl }
 
-pub apart_then : (old mid new : KeeperView) → Apart old mid → Apart mid new → Apart old new
+pub apart_then : (old mid new : KeeperView) → SameStore old mid → SameStore mid new → SameStore old new
 apart_then old mid new first second = record {
   ready = λ ready. second.ready (first.ready ready);
   fixed = second.fixed ∙ first.fixed;

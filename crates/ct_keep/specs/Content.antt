@@ -1,5 +1,5 @@
 -- What a keeper holds, and what the changes of a batch make of it.
-use Rattle.std.specs.Prelude.{ℕ, ◌+◌, ◌==◌, ◌≤◌, max, sum_by, Bool, true, false, ◌&&◌, List, [], ◌∷◌, length, filter, Option, Some, None}
+use Rattle.std.specs.Prelude.{ℕ, ◌+◌, ◌==◌, ◌≤◌, max, sum_by, Bool, true, false, ◌&&◌, List, [], ◌∷◌, length, filter, Option, Some, None, ◌≡◌, codes, refl}
 use Rattle.std.specs.Ordering.{nat_cmp, is_lt}
 use Rattle.std.specs.Cmp.Lexicographic.{slice_cmp}
 use Rattle.std.specs.FinMap.{FinMap, insert, remove, entries}
@@ -46,8 +46,28 @@ entry_weight e = max 64 (length e.0 + length e.1)
 abbrev pub weight : Content → ℕ
 weight m = sum_by entry_weight (entries m)
 
--- the bounds on an entry: a key of 1 to 600 bytes, and a value of at most 2 ^ 26
+-- how many bytes a key has at most, and a value (2 ^ 26), each with its constant of the same name in `src/limits.rt`
+abbrev pub key_limit : ℕ
+key_limit = 600
+
+abbrev pub value_limit : ℕ
+value_limit = 67108864
+
+-- the bounds on an entry, whose key has at least one byte
 pub record IsEntry (key value : List ℕ) : Type 0 where
   pub some : 1 ≤ length key
-  pub short : length key ≤ 600
-  pub bounded : length value ≤ 67108864
+  pub short : length key ≤ key_limit
+  pub bounded : length value ≤ value_limit
+
+-- computed examples: an entry weighs its bytes, and at least 64; and a key begins with itself
+short_entry : entry_weight (codes "ab", codes "c") ≡ 64
+short_entry = refl
+
+begins_itself : begins_with (codes "ab") (codes "ab") ≡ true
+begins_itself = refl
+
+begins_otherwise : begins_with (codes "ab") (codes "a") ≡ false
+begins_otherwise = refl
+
+first_of_two : first_entry ((codes "a", codes "1") ∷ (codes "b", codes "2") ∷ []) ≡ Some (codes "a", codes "1")
+first_of_two = refl

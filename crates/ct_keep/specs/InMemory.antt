@@ -1,6 +1,6 @@
 -- Keepers in memory. No stop leaves anything else of one than what it is now, so its time has one moment.
-use Rattle.std.specs.Prelude.{◌≡◌, ℕ, List, true, Option, Some, None}
-use Rattle.std.proofs.Common.{◌∙◌, subst}
+use Rattle.std.specs.Prelude.{◌≡◌, ℕ, List, true, Option, Some, None, refl}
+use Rattle.std.proofs.Common.{◌∙◌, sym, subst}
 use base.Fml.{GName}
 use Rattle.ct_base.specs.Told.{IsSaid}
 use Rattle.ct_site.specs.Disks.{Beside, DiskView}
@@ -8,7 +8,7 @@ use Rattle.ct_keep.specs.declared.keepers.KeepFault.{KeepFault}
 use Rattle.ct_keep.specs.declared.keepers.KeepFault.TheVariants.{Memory, Disk, Full}
 use Rattle.ct_keep.specs.Content.{Content}
 use Rattle.ct_keep.specs.Changes.{HoldsEntries}
-use Rattle.ct_keep.specs.KeeperViews.{KeeperView, Counts, Aside, IsSettled}
+use Rattle.ct_keep.specs.KeeperViews.{KeeperView, Counts, Aside, IsDurable}
 
 -- It makes no call of a disk, so that none of its calls fails by the disk.
 abbrev pub NotDisk : Option KeepFault → Type 0
@@ -39,13 +39,18 @@ in_memory m limit counts beside say_room aside lender = record {
   fixed = record { say_room = say_room; well = λ key value. true; limit = limit; aside = Some aside; lender = lender };
 }
 
-pub settled_in_memory : (m : Content) (limit : ℕ) (counts : Counts) (beside : Beside) (say_room : Option ℕ) (aside : Aside) (lender : Option GName) → IsSettled (in_memory m limit counts beside say_room aside lender)
+pub settled_in_memory : (m : Content) (limit : ℕ) (counts : Counts) (beside : Beside) (say_room : Option ℕ) (aside : Aside) (lender : Option GName) → IsDurable (in_memory m limit counts beside say_room aside lender)
 settled_in_memory m limit counts beside say_room aside lender = record { here = λ n holds stopped said now. (now.0 ∙ holds, now.1) }
 
 pub holds_in_memory : (m : Content) → HoldsEntries m → (n : Content) → Some m ≡ Some n → HoldsEntries n
 holds_in_memory m entries n is = let one : m ≡ n = cc in subst HoldsEntries one entries
 
--- It may be called, and takes every entry.
-pub record TakesAll (k : KeeperView) : Type 0 where
-  pub ready : k.ready
-  pub well : (key value : List ℕ) → k.fixed.well key value ≡ true
+pub stays_in_memory : (m n : Content) {told : Option (List ℕ)} (said : List ℕ) → Some m ≡ Some n → IsSaid told said → (Some n ≡ Some m) × IsSaid told said
+stays_in_memory m n said is told = (sym is, told)
+
+-- computed examples: a commit that succeeded, and one that was refused
+it_came : (old next : Content) → come_to None old next ≡ next
+it_came old next = refl
+
+it_stayed : (old next : Content) → come_to (Some Full) old next ≡ old
+it_stayed old next = refl

@@ -53,17 +53,22 @@ pub record KeeperView : Type 1 where
   pub disk_faults : ℕ
   pub fixed : Fixed
 
+-- It may be read and changed, and takes every entry within the bounds.
+pub record AcceptsChanges (k : KeeperView) : Type 0 where
+  pub ready : k.ready
+  pub takes : (key value : List ℕ) → k.fixed.well key value ≡ true
+
 -- how a call failed, if it did
 abbrev pub fault_of : {T : Type 0} → Result T KeepFault → Option KeepFault
 fault_of (Ok x) = None
 fault_of (Err fault) = Some fault
 
 -- The count of faults of the disk after a call that so failed: it rises by one where the disk failed, and is else as it was.
-abbrev pub disk_counted : Option KeepFault → ℕ → ℕ
-disk_counted (Some Disk) n = raised n
-disk_counted (Some Memory) n = n
-disk_counted (Some Full) n = n
-disk_counted None n = n
+abbrev pub disk_faults_after : Option KeepFault → ℕ → ℕ
+disk_faults_after (Some Disk) n = raised n
+disk_faults_after (Some Memory) n = n
+disk_faults_after (Some Full) n = n
+disk_faults_after None n = n
 
 -- what holds unless the disk failed, and what holds where it did
 abbrev pub UnlessDisk : Option KeepFault → Type 0 → Type 0
@@ -79,24 +84,24 @@ OnDisk (Some Full) P = Unit {0}
 OnDisk (Some Disk) P = P
 
 -- What each call but hear and say keeps, whatever is told.
-pub record Kept (old new : KeeperView) (fault : Option KeepFault) : Type 0 where
+pub record SameButContent (old new : KeeperView) (fault : Option KeepFault) : Type 0 where
   pub ready : UnlessDisk fault new.ready
   pub beside : new.beside ≡ old.beside
   pub fixed : new.fixed ≡ old.fixed
   pub later : old.disk_faults ≤ new.disk_faults
   -- a fault of the disk is answered, and nothing else is: none is passed over
-  pub cause : new.disk_faults ≡ disk_counted fault old.disk_faults
+  pub cause : new.disk_faults ≡ disk_faults_after fault old.disk_faults
   -- one that makes no call of the disk doesn't fail by it
   pub calls : OnDisk fault (old.fixed.aside ≡ None)
 
 -- A stop between two calls leaves what it holds.
-pub record IsSettled (k : KeeperView) : Type 0 where
+pub record IsDurable (k : KeeperView) : Type 0 where
   pub here : (m : Content) → k.content ≡ Some m → (stopped : Option Content) (said : List ℕ) → k.now stopped said → (stopped ≡ Some m) × IsSaid k.beside.said said
 
 -- A call, or some calls, only read. They commit nothing, so they don't find the store full.
 pub record Reads (old new : KeeperView) (fault : Option KeepFault) : Type 0 where
   pub not_full : fault ≡ Some Full → ⊥
-  pub kept : Kept old new fault
+  pub kept : SameButContent old new fault
   pub content : UnlessDisk fault (new.content ≡ old.content)
   pub time : AddsNothing old.time new.time
   pub now : (stopped : Option Content) (said : List ℕ) → new.now stopped said → old.now stopped said
@@ -163,13 +168,13 @@ AtMostOneCommit old new = (new.commits ≡ old.commits) ⊎ (new.commits ≡ cou
 -- ---- commits
 
 -- There is no room to go from the one content to the other: the second is over the limit, and heavier than the first.
-pub record HasNoRoom (limit : ℕ) (m next : Content) : Type 0 where
+pub record PassesLimit (limit : ℕ) (m next : Content) : Type 0 where
   pub over : limit < weight next
   pub heavier : weight m < weight next
 
 -- There is: the second is within the limit, or no heavier.
-abbrev pub HasRoom : ℕ → Content → Content → Type 0
-HasRoom limit m next = (weight next ≤ limit) ⊎ (weight next ≤ weight m)
+abbrev pub KeepsLimit : ℕ → Content → Content → Type 0
+KeepsLimit limit m next = (weight next ≤ limit) ⊎ (weight next ≤ weight m)
 
 -- the content after a call that was to make it this
 abbrev pub Came : Option KeepFault → Content → Content → Option Content → Type 0
@@ -179,29 +184,29 @@ Came (Some Full) old next content = content ≡ Some old
 Came (Some Disk) old next content = Unit {0}
 
 -- what a stop leaves in such a call
-abbrev pub Leaves : Option KeepFault → Content → Content → Option Content → Type 0
-Leaves None old next stopped = (stopped ≡ Some old) ⊎ (stopped ≡ Some next)
-Leaves (Some Disk) old next stopped = (stopped ≡ Some old) ⊎ (stopped ≡ Some next)
-Leaves (Some Memory) old next stopped = stopped ≡ Some old
-Leaves (Some Full) old next stopped = stopped ≡ Some old
+abbrev pub IsLeft : Option KeepFault → Content → Content → Option Content → Type 0
+IsLeft None old next stopped = (stopped ≡ Some old) ⊎ (stopped ≡ Some next)
+IsLeft (Some Disk) old next stopped = (stopped ≡ Some old) ⊎ (stopped ≡ Some next)
+IsLeft (Some Memory) old next stopped = stopped ≡ Some old
+IsLeft (Some Full) old next stopped = stopped ≡ Some old
 
 -- From this content to that by at most one commit.
 pub record Goes (m next : Content) (old new : KeeperView) (fault : Option KeepFault) : Type 0 where
   pub content : Came fault m next new.content
-  pub time : Passes old.time new.time (λ stopped said. Leaves fault m next stopped × IsSaid old.beside.said said)
-  pub now : (stopped : Option Content) (said : List ℕ) → new.now stopped said → Leaves fault m next stopped × IsSaid old.beside.said said
+  pub time : Passes old.time new.time (λ stopped said. IsLeft fault m next stopped × IsSaid old.beside.said said)
+  pub now : (stopped : Option Content) (said : List ℕ) → new.now stopped said → IsLeft fault m next stopped × IsSaid old.beside.said said
 
 -- why a commit was answered so: Full exactly where there is no room, unless memory or the disk failed
-abbrev pub Answers : Option KeepFault → ℕ → Content → Content → Type 0
-Answers None limit m next = HasRoom limit m next
-Answers (Some Full) limit m next = HasNoRoom limit m next
-Answers (Some Memory) limit m next = Unit {0}
-Answers (Some Disk) limit m next = Unit {0}
+abbrev pub AnswersCommit : Option KeepFault → ℕ → Content → Content → Type 0
+AnswersCommit None limit m next = KeepsLimit limit m next
+AnswersCommit (Some Full) limit m next = PassesLimit limit m next
+AnswersCommit (Some Memory) limit m next = Unit {0}
+AnswersCommit (Some Disk) limit m next = Unit {0}
 
 -- ---- hearing and saying
 
 -- what hearing and saying keep
-pub record Apart (old new : KeeperView) : Type 0 where
+pub record SameStore (old new : KeeperView) : Type 0 where
   pub ready : old.ready → new.ready
   pub fixed : new.fixed ≡ old.fixed
   pub content : new.content ≡ old.content
@@ -210,7 +215,7 @@ pub record Apart (old new : KeeperView) : Type 0 where
 
 -- Bytes of the script were heard by one call, and nothing else was done.
 pub record KeeperHears (heard : List ℕ) (old new : KeeperView) : Type 0 where
-  pub apart : Apart old new
+  pub apart : SameStore old new
   pub left : old.beside.left ≡ with_prefix heard new.beside.left
   pub said : new.beside.said ≡ old.beside.said
   pub asks : Asks old.beside new.beside
@@ -219,7 +224,7 @@ pub record KeeperHears (heard : List ℕ) (old new : KeeperView) : Type 0 where
 
 -- Bytes were said, and nothing else was done.
 pub record KeeperSays (told : List ℕ) (old new : KeeperView) : Type 0 where
-  pub apart : Apart old new
+  pub apart : SameStore old new
   pub said : new.beside.said ≡ with_suffix old.beside.said told
   pub left : new.beside.left ≡ old.beside.left
   pub hearings : new.beside.hearings ≡ old.beside.hearings
@@ -244,10 +249,10 @@ one_row = refl
 one_commit : committed (Some Full) nothing_yet ≡ record { texts = 0; rows = 0; rules = 0; fulls = 1; commits = 1 }
 one_commit = refl
 
-disk_failed : disk_counted (Some Disk) 4 ≡ 5
+disk_failed : disk_faults_after (Some Disk) 4 ≡ 5
 disk_failed = refl
 
-disk_left : disk_counted (Some Full) 4 ≡ 4
+disk_left : disk_faults_after (Some Full) 4 ≡ 4
 disk_left = refl
 
 at_its_end : counted true (2 ^ 64 - 1) ≡ 2 ^ 64 - 1

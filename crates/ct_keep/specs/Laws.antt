@@ -34,9 +34,9 @@ same_other a b apart = elim (same a b) as (λ t. same a b ≡ t → same a b ≡
 pub same_back : (a b : List ℕ) → same a b ≡ same b a
 same_back a b = (eq_by_cmp_equiv nat_list_cmp_total).symm a b
 
-pub same-front : (p a b : List ℕ) → same (p ++ a) (p ++ b) ≡ same a b
-same-front [] a b = refl
-same-front (x ∷ p) a b = ap (λ (o : Ordering). is_eq (ordering_then o (order (p ++ a) (p ++ b)))) (tied_itself nat_cmp_total x) ∙ same-front p a b
+pub same-prefix : (p a b : List ℕ) → same (p ++ a) (p ++ b) ≡ same a b
+same-prefix [] a b = refl
+same-prefix (x ∷ p) a b = ap (λ (o : Ordering). is_eq (ordering_then o (order (p ++ a) (p ++ b)))) (tied_itself nat_cmp_total x) ∙ same-prefix p a b
 
 -- ---- what a content has after changes
 
@@ -116,6 +116,17 @@ entries-remove m key =
     turned true false o e = cc
     turned false true o e = cc
 
+-- what changes make of entries in the order of their keys
+abbrev pub applied : List Change → List Entry → List Entry
+applied [] es = es
+applied ((key, Some value) ∷ ws) es = applied ws (put (slice_cmp nat_cmp) key value es)
+applied ((key, None) ∷ ws) es = applied ws (without key es)
+
+pub entries-after : (ws : List Change) (m : Content) → entries (after ws m) ≡ applied ws (entries m)
+entries-after [] m = refl
+entries-after ((key, Some value) ∷ ws) m = entries-after ws (insert m key value) ∙ ap (applied ws) (entries-insert nat_list_cmp_total m key value)
+entries-after ((key, None) ∷ ws) m = entries-after ws (remove m key) ∙ ap (applied ws) (entries-remove m key)
+
 -- ---- weights
 
 -- what an entry weighs that has this value, or is absent
@@ -134,7 +145,7 @@ nothing_without : (key : List ℕ) (es : List Entry) → below key es ≡ true �
 nothing_without key [] h = refl
 nothing_without key (e ∷ es) h = let b = and_parts (is_lt (order key e.0)) (below key es) h in rw (less_from_test (order key e.0) b.0) (ap (λ (l : List Entry). e ∷ l) (nothing_without key es b.1))
 
--- the sum from the front
+-- the sum from the first on
 total : List Entry → ℕ
 total [] = 0
 total (e ∷ es) = entry_weight e + total es

@@ -1,6 +1,6 @@
 pub mod Content
 pub mod Changes
-pub mod Spoken
+pub mod SeenChanges
 pub mod Handed
 pub mod KeeperViews
 pub mod Composing
@@ -13,7 +13,10 @@ pub mod TailLaws
 pub mod Looks
 pub mod LookLaws
 pub mod Pairs
+pub mod Counting
+pub mod CountingLaws
+pub mod CountedPairs
 pub mod SortedLaws
-pub mod Trials
+pub mod Transactions
 pub mod InMemory
 pub mod KeeperStates

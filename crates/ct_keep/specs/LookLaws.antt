@@ -14,7 +14,7 @@ use Rattle.ct_keep.specs.Rising.{Entry, order, above, beginning, below, rises, r
 use Rattle.ct_base.specs.laws.Orders.{less_from_test, less_by_parts, lt_from_less, eq_from_equal}
 use Rattle.ct_keep.specs.Tail.{tail}
 use Rattle.ct_keep.specs.TailLaws.{entries-tail}
-use Rattle.ct_keep.specs.Looks.{one_if, look, no_looks, plus, looks, scan_looks, behind, raised_by, raised, RisesBy}
+use Rattle.ct_keep.specs.Looks.{one_if, look, no_looks, plus, looks, scan_looks, behind, raised_by, with_looks, RisesBy}
 
 same_counts : (a b : Counts) → a.texts ≡ b.texts → a.rows ≡ b.rows → a.rules ≡ b.rules → a.fulls ≡ b.fulls → a.commits ≡ b.commits → a ≡ b
 same_counts a b texts rows rules fulls commits = λ i. record { texts = texts i; rows = rows i; rules = rules i; fulls = fulls i; commits = commits i }
@@ -31,14 +31,14 @@ raised_by_le n k = grind (arith, nat_tests)
 
 -- ---- counts to which so much was added
 
-pub raised-none : (c : Counts) → raised no_looks c ≡ c
+pub raised-none : (c : Counts) → with_looks no_looks c ≡ c
 raised-none c = refl
 
 -- one part after the other
-pub raised-plus : (a b c : Counts) → raised b (raised a c) ≡ raised (plus a b) c
+pub raised-plus : (a b c : Counts) → with_looks b (with_looks a c) ≡ with_looks (plus a b) c
 raised-plus a b c = same_counts _ _ (raised_by-plus a.texts b.texts c.texts) (raised_by-plus a.rows b.rows c.rows) (raised_by-plus a.rules b.rules c.rules) (raised_by-plus a.fulls b.fulls c.fulls) (raised_by-plus a.commits b.commits c.commits)
 
-pub looked_up-raised : (asked : List ℕ) (handed : Option (List ℕ)) (c : Counts) → looked_up asked handed c ≡ raised (look asked handed) c
+pub looked_up-raised : (asked : List ℕ) (handed : Option (List ℕ)) (c : Counts) → looked_up asked handed c ≡ with_looks (look asked handed) c
 looked_up-raised asked handed c = same_counts _ _
     (raised_by-one_if (is_either 0x03 asked handed) c.texts)
     (raised_by-one_if (is_either 0x24 asked handed || is_either 0x25 asked handed) c.rows)
@@ -58,24 +58,24 @@ rises_then a b old mid new first second = record {
   rules = omega (arith, first.rules, second.rules);
 }
 
-pub rises_raised : (more c : Counts) → RisesBy more c (raised more c)
+pub rises_raised : (more c : Counts) → RisesBy more c (with_looks more c)
 rises_raised more c = record { texts = raised_by_le more.texts c.texts; rows = raised_by_le more.rows c.rows; rules = raised_by_le more.rules c.rules }
 
 -- ---- what a scan adds: to the counts of its prefix's kind one more than it finds, and to another at most one, for the entry behind
 
--- how many entries at the front are under the prefix
-fronts : List ℕ → List Entry → ℕ
-fronts p [] = 0
-fronts p (e ∷ es) = if begins_with p e.0 then fronts p es + 1 else 0
+-- how many entries at the beginning are under the prefix
+prefixes : List ℕ → List Entry → ℕ
+prefixes p [] = 0
+prefixes p (e ∷ es) = if begins_with p e.0 then prefixes p es + 1 else 0
 
-fronts_are : (p k : List ℕ) (es : List Entry) → begins_with p k ≡ true → below k es ≡ true → rises es ≡ true → length (beginning p es) ≡ fronts p es
-unfolding fronts
-fronts_are p k [] pk b r = refl
-fronts_are p k (e ∷ es) pk b r =
+prefixes_are : (p k : List ℕ) (es : List Entry) → begins_with p k ≡ true → below k es ≡ true → rises es ≡ true → length (beginning p es) ≡ prefixes p es
+unfolding prefixes
+prefixes_are p k [] pk b r = refl
+prefixes_are p k (e ∷ es) pk b r =
     let b2 = and_parts (is_lt (order k e.0)) (below k es) b in
     let r2 = and_parts (below e.0 es) (rises es) r in
-    elim (begins_with p e.0) as (λ t. begins_with p e.0 ≡ t → length (cond t (e ∷ beginning p es) (beginning p es)) ≡ cond t (fronts p es + 1) 0) [
-      | true ↦ λ t. let rest = fronts_are p e.0 es t r2.0 r2.1 in omega (arith, rest)
+    elim (begins_with p e.0) as (λ t. begins_with p e.0 ≡ t → length (cond t (e ∷ beginning p es) (beginning p es)) ≡ cond t (prefixes p es + 1) 0) [
+      | true ↦ λ t. let rest = prefixes_are p e.0 es t r2.0 r2.1 in omega (arith, rest)
       | false ↦ λ t. ap length (none_later p k e.0 es pk (less_from_test _ b2.0) t r2.0)
     ] refl
 
@@ -83,9 +83,9 @@ below_above : (k : List ℕ) (es : List Entry) → below k (above k es) ≡ true
 below_above k [] = refl
 below_above k (e ∷ es) = elim (is_lt (order k e.0)) as (λ t. is_lt (order k e.0) ≡ t → below k (cond t (e ∷ above k es) (above k es)) ≡ true) [ true ↦ λ t. rw t (below_above k es) | false ↦ λ t. below_above k es ] refl
 
-fronts-tail : (p : List ℕ) (m : Content) → fronts p (entries_above p m) ≡ length (entries (tail p m))
-fronts-tail p m =
-    sym (fronts_are p p (entries_above p m) (begins_itself p) (below_above p (entries m)) (rises_filter (λ e. is_lt (order p e.0)) (entries m) (entries_rise m)))
+prefixes-tail : (p : List ℕ) (m : Content) → prefixes p (entries_above p m) ≡ length (entries (tail p m))
+prefixes-tail p m =
+    sym (prefixes_are p p (entries_above p m) (begins_itself p) (below_above p (entries m)) (rises_filter (λ e. is_lt (order p e.0)) (entries m) (entries_rise m)))
     ∙ sym (ap length (entries-tail p m) ∙ length-map (entries_under p m) (λ e. (drop (length p) e.0, e.1)))
 
 -- whether the key asked for or the one handed out passes a test
@@ -113,11 +113,11 @@ looks-passing f count none both one p k (e ∷ es) =
     both _ _ ∙ ap (λ (n : ℕ). n + count (if begins_with p e.0 then looks p e.0 es else no_looks)) (one k (Some e.0)) ∙ ap (λ (n : ℕ). one_if (passes f k (Some e.0)) + n) more
 
 -- where each key under the prefix passes
-passing_all : (f : List ℕ → Bool) (p : List ℕ) → ((k : List ℕ) → begins_with p k ≡ true → f k ≡ true) → (k : List ℕ) (es : List Entry) → begins_with p k ≡ true → passing f p k es ≡ fronts p es + 1
-unfolding passing passes fronts
+passing_all : (f : List ℕ → Bool) (p : List ℕ) → ((k : List ℕ) → begins_with p k ≡ true → f k ≡ true) → (k : List ℕ) (es : List Entry) → begins_with p k ≡ true → passing f p k es ≡ prefixes p es + 1
+unfolding passing passes prefixes
 passing_all f p pass k [] b = rw (pass k b) refl
 passing_all f p pass k (e ∷ es) b =
-    elim (begins_with p e.0) as (λ t. begins_with p e.0 ≡ t → one_if (f k || f e.0) + cond t (passing f p e.0 es) 0 ≡ cond t (fronts p es + 1) 0 + 1) [
+    elim (begins_with p e.0) as (λ t. begins_with p e.0 ≡ t → one_if (f k || f e.0) + cond t (passing f p e.0 es) 0 ≡ cond t (prefixes p es + 1) 0 + 1) [
       | true ↦ λ t. let rest = passing_all f p pass e.0 es t in rw (pass k b, rest) (omega arith)
       | false ↦ λ t. rw (pass k b) refl
     ] refl
@@ -134,7 +134,7 @@ passing_behind f p pass k (e ∷ es) b =
 
 scan-passing : (f : List ℕ → Bool) (v : Bool) (p : List ℕ) (m : Content) → ((k : List ℕ) → begins_with p k ≡ true → f k ≡ v)
     → passing f p p (entries_above p m) ≡ (if v then length (entries (tail p m)) + 1 else one_if (tests f (behind p (entries_above p m))))
-scan-passing f true p m pass = passing_all f p pass p (entries_above p m) (begins_itself p) ∙ ap (λ (n : ℕ). n + 1) (fronts-tail p m)
+scan-passing f true p m pass = passing_all f p pass p (entries_above p m) (begins_itself p) ∙ ap (λ (n : ℕ). n + 1) (prefixes-tail p m)
 scan-passing f false p m pass = passing_behind f p pass p (entries_above p m) (begins_itself p)
 
 kind_is : (kind b : ℕ) (bs k : List ℕ) → begins_with (b ∷ bs) k ≡ true → is_kind kind k ≡ (b == kind)

@@ -48,8 +48,8 @@ behind prefix (e ∷ es) = if begins_with prefix e.0 then behind prefix es else 
 abbrev pub raised_by : ℕ → ℕ → ℕ
 raised_by n count = if n == 0 then count else min (count + n) (2 ^ 64 - 1)
 
-abbrev pub raised : Counts → Counts → Counts
-raised more c = record { texts = raised_by more.texts c.texts; rows = raised_by more.rows c.rows; rules = raised_by more.rules c.rules; fulls = raised_by more.fulls c.fulls; commits = raised_by more.commits c.commits }
+abbrev pub with_looks : Counts → Counts → Counts
+with_looks more c = record { texts = raised_by more.texts c.texts; rows = raised_by more.rows c.rows; rules = raised_by more.rules c.rules; fulls = raised_by more.fulls c.fulls; commits = raised_by more.commits c.commits }
 
 -- Each of the three counts rose by no more than this.
 pub record RisesBy (most old new : Counts) : Type 0 where

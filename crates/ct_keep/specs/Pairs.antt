@@ -1,5 +1,5 @@
 -- The entries of a map in memory, seen as lists of bytes.
-use Rattle.std.specs.Prelude.{ℕ, List, map, Vec}
+use Rattle.std.specs.Prelude.{ℕ, List, map, Vec, ◌≡◌, [], ◌∷◌, refl}
 use Rattle.std.specs.declared.alloc.Global.{Global}
 use Rattle.std.specs.declared.cmp.Ordering.{Ordering}
 use Rattle.std.specs.Ordering.{nat_cmp}
@@ -21,3 +21,7 @@ content_of es = from_sorted (pairs es)
 
 abbrev pub content_code : Coded Content
 content_code = code (coded_list coded_ℕ) (coded_list coded_ℕ)
+
+-- computed example: one entry of a map in memory
+one_pair : (key value : Vec ℕ Global) → pairs ((key, value) ∷ []) ≡ (key.items, value.items) ∷ []
+one_pair key value = refl

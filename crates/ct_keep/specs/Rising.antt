@@ -126,9 +126,9 @@ none_then m k is = go (entries_above k m) refl is
 
 -- ---- keys that begin alike
 
-pub begins_front : (p q : List ℕ) → begins_with p (p ++ q) ≡ true
-begins_front [] q = refl
-begins_front (x ∷ p) q = and_from _ _ (eq-eqb x x refl) (begins_front p q)
+pub begins_with_prefix : (p q : List ℕ) → begins_with p (p ++ q) ≡ true
+begins_with_prefix [] q = refl
+begins_with_prefix (x ∷ p) q = and_from _ _ (eq-eqb x x refl) (begins_with_prefix p q)
 
 pub begins_itself : (p : List ℕ) → begins_with p p ≡ true
 begins_itself [] = refl

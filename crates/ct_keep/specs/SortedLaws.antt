@@ -1,6 +1,6 @@
 -- Entries of a map in memory, whose keys strictly rise, against the finite map that they are.
 use Rattle.std.proofs.Common.{◌≡◌, ℕ, Bool, true, false, cond, length, map, List, [], ◌∷◌, Some, None, Vec, refl, sym, ap, subst, ◌∙◌}
-use Rattle.std.specs.Prelude.{◌&&◌, T}
+use Rattle.std.specs.Prelude.{◌&&◌, T, is_some}
 use Rattle.std.specs.Option.{option_map}
 use Rattle.std.specs.declared.alloc.Global.{Global}
 use Rattle.std.specs.declared.cmp.Ordering.{Ordering}
@@ -10,11 +10,11 @@ use Rattle.std.specs.Cmp.{IsTotalOrder}
 use Rattle.std.specs.Cmp.Lexicographic.{slice_cmp}
 use Rattle.std.specs.List.{AllByRecursion, IsDistinct}
 use Rattle.std.specs.List.Sorted.{IsStrictlySortedBy}
-use Rattle.std.specs.Map.{keys_of, lookup, remove_entry}
+use Rattle.std.specs.Map.{keys_of, lookup, remove_entry, set_value}
 use Rattle.std.specs.BTreeMap.{insert_entry, is_at}
-use Rattle.std.specs.FinMap.{FinMap, get, insert, remove, entries, find, put, is_sorted, from_sorted, entries-from_sorted, entries-insert, same_entries_map, same_map, get-from_sorted, get-remove, empty, empty_of_len, len-entries}
+use Rattle.std.specs.FinMap.{FinMap, get, insert, remove, entries, find, put, is_sorted, from_sorted, entries-from_sorted, entries-insert, same_entries_map, same_map, get-from_sorted, get-insert, get-remove, empty, empty_of_len, len-entries}
 use Rattle.std.proofs.lemmas.Cmp.{nat_list_cmp_total, eq_by_cmp_equiv}
-use Rattle.std.proofs.lemmas.Map.{lookup-remove_entry}
+use Rattle.std.proofs.lemmas.Map.{lookup-remove_entry, lookup-set_value}
 use Rattle.std.proofs.lemmas.Map.Keys.{sorted_head, sorted_tail}
 use Rattle.std.proofs.lemmas.Map.Lookups.{exact_bytes}
 use Rattle.ct_keep.specs.Pairs.{byte_order, pairs, content_of}
@@ -124,6 +124,26 @@ module _ {J V K X : Type 0} (R : K → K → Ordering) (key : J → K) (value : 
       ∙ ap (cond (eq_by_cmp R q k) None) (sym (find_is_lookup q (seen old)) ∙ sym (get-seen old q s))
       ∙ sym (get-remove total (seen_map old) k q))
 
+  seen-set_value_entry : (k : K) (v : V) (es : List (J × V)) → seen (set_value (is_at (λ x. R k (key x))) es v) ≡ set_value (eq_by_cmp R k) (seen es) (value v)
+  seen-set_value_entry k v [] = refl
+  seen-set_value_entry k v (e ∷ es) =
+      elim (is_eq (R k (key e.0))) as (λ b. seen (cond b ((e.0, v) ∷ es) (e ∷ set_value (is_at (λ x. R k (key x))) es v)) ≡ cond b ((key e.0, value v) ∷ seen es) ((key e.0, value e.1) ∷ set_value (eq_by_cmp R k) (seen es) (value v))) [
+        | true ↦ refl
+        | false ↦ ap (λ (x : List (K × X)). (key e.0, value e.1) ∷ x) (seen-set_value_entry k v es)
+      ]
+
+  -- after another value is written where a key has one
+  pub seen-set_value : IsTotalOrder R → ((a b : K) → R a b ≡ Equal → a ≡ b) → (old new : List (J × V)) (k : K) (v : V) → IsStrictlySortedBy order (keys_of old) → IsStrictlySortedBy order (keys_of new) → is_some (get (seen_map old) k) ≡ true → new ≡ set_value (is_at (λ x. R k (key x))) old v
+      → seen_map new ≡ insert (seen_map old) k (value v)
+  seen-set_value total exact old new k v s t there is = same_map total exact (seen_map new) (insert (seen_map old) k (value v)) (λ q.
+      let laws = eq_by_cmp_equiv total in
+      get-seen new q t ∙ find_is_lookup q (seen new)
+      ∙ ap (lookup (eq_by_cmp R q)) (ap seen is ∙ seen-set_value_entry k v old)
+      ∙ lookup-set_value laws (eq_by_cmp R k) (λ x y e. laws.congr k x y e) q (value v) (seen old) (ap is_some (sym (get-seen old k s ∙ find_is_lookup k (seen old))) ∙ there)
+      ∙ ap (λ (b : Bool). cond b (Some (value v)) (lookup (eq_by_cmp R q) (seen old))) (laws.symm k q)
+      ∙ ap (cond (eq_by_cmp R q k) (Some (value v))) (sym (find_is_lookup q (seen old)) ∙ sym (get-seen old q s))
+      ∙ sym (get-insert total (seen_map old) k (value v) q))
+
 -- ---- keys and values as they are
 
 module _ {K X : Type 0} (R : K → K → Ordering) where
@@ -173,3 +193,7 @@ get-lookup es k s = lookup-seen bytes_order items items es k s
 pub content_of-remove : (old new : List VecEntry) (k : List ℕ) → IsStrictlySortedBy byte_order (keys_of old) → IsStrictlySortedBy byte_order (keys_of new) → new ≡ remove_entry (is_at (λ x. slice_cmp nat_cmp k x.items)) old
     → content_of new ≡ remove (content_of old) k
 content_of-remove old new k s t is = seen-remove bytes_order items items nat_list_cmp_total exact_bytes old new k s t is
+
+pub content_of-set_value : (old new : List VecEntry) (k : List ℕ) (v : Vec ℕ Global) → IsStrictlySortedBy byte_order (keys_of old) → IsStrictlySortedBy byte_order (keys_of new) → is_some (get (content_of old) k) ≡ true → new ≡ set_value (is_at (λ x. slice_cmp nat_cmp k x.items)) old v
+    → content_of new ≡ insert (content_of old) k v.items
+content_of-set_value old new k v s t there is = seen-set_value bytes_order items items nat_list_cmp_total exact_bytes old new k v s t there is

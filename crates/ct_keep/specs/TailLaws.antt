@@ -9,10 +9,10 @@ use Rattle.std.proofs.lemmas.Cmp.{tied_itself, nat_cmp_total, nat_list_cmp_total
 use Rattle.std.specs.Cmp.Lexicographic.{slice_cmp}
 use Rattle.std.specs.FinMap.{get, entries, is_sorted, find, entries-from_sorted, get-from_sorted, get-entries, empty}
 use Rattle.ct_keep.specs.Content.{Content, set_to, after, first_entry, entries_above, entries_under, begins_with}
-use Rattle.ct_keep.specs.Rising.{Entry, order, above, beginning, below, rises, rises_filter, entries_rise, sorted_from_rises, begins_front, begins_itself, stops, first_then, none_then}
+use Rattle.ct_keep.specs.Rising.{Entry, order, above, beginning, below, rises, rises_filter, entries_rise, sorted_from_rises, begins_itself, begins_with_prefix, stops, first_then, none_then}
 use Rattle.ct_base.specs.laws.Orders.{less_from_test}
 use Rattle.ct_base.specs.laws.Bools.{T_from_true}
-use Rattle.ct_keep.specs.Laws.{same, same_keys, same_other, same-front, get-set_to, same_content, three_changes, under_a}
+use Rattle.ct_keep.specs.Laws.{same, same_keys, same_other, same-prefix, get-set_to, same_content, three_changes, under_a}
 use Rattle.ct_keep.specs.Tail.{cut, tail, left_under, rest_under}
 
 -- ---- keys that begin alike, and their rests
@@ -28,33 +28,33 @@ cut_order (x ∷ p) (y ∷ a) (z ∷ b) pa pb =
     let same : nat_cmp y z ≡ Equal = rw (sym e, sym f) (tied_itself nat_cmp_total x) in
     rw same (cut_order p a b (and_parts _ _ pa).1 (and_parts _ _ pb).1)
 
-pub drop_front : (p q : List ℕ) → drop (length p) (p ++ q) ≡ q
-drop_front [] q = refl
-drop_front (x ∷ p) q = drop_front p q
+pub drop_prefix : (p q : List ℕ) → drop (length p) (p ++ q) ≡ q
+drop_prefix [] q = refl
+drop_prefix (x ∷ p) q = drop_prefix p q
 
 drop_all : (p : List ℕ) → drop (length p) p ≡ []
 drop_all [] = refl
 drop_all (x ∷ p) = drop_all p
 
 -- the prefix and the rest are the key
-pub front_and_rest : (p k : List ℕ) → begins_with p k ≡ true → p ++ drop (length p) k ≡ k
-front_and_rest [] k b = refl
-front_and_rest (x ∷ p) [] b = cc
-front_and_rest (x ∷ p) (y ∷ k) b =
+pub prefix_and_rest : (p k : List ℕ) → begins_with p k ≡ true → p ++ drop (length p) k ≡ k
+prefix_and_rest [] k b = refl
+prefix_and_rest (x ∷ p) [] b = cc
+prefix_and_rest (x ∷ p) (y ∷ k) b =
     let e : x ≡ y = eqb-true x y (and_parts _ _ b).0 in
-    ap (λ (z : ℕ). z ∷ (p ++ drop (length p) k)) e ∙ ap (λ (l : List ℕ). y ∷ l) (front_and_rest p k (and_parts _ _ b).1)
+    ap (λ (z : ℕ). z ∷ (p ++ drop (length p) k)) e ∙ ap (λ (l : List ℕ). y ∷ l) (prefix_and_rest p k (and_parts _ _ b).1)
 
-front_order : (p a k : List ℕ) → begins_with p k ≡ true → order a (drop (length p) k) ≡ order (p ++ a) k
-front_order p a k b = ap (λ (r : List ℕ). order r (drop (length p) k)) (sym (drop_front p a)) ∙ cut_order p (p ++ a) k (begins_front p a) b
+prefix_order : (p a k : List ℕ) → begins_with p k ≡ true → order a (drop (length p) k) ≡ order (p ++ a) k
+prefix_order p a k b = ap (λ (r : List ℕ). order r (drop (length p) k)) (sym (drop_prefix p a)) ∙ cut_order p (p ++ a) k (begins_with_prefix p a) b
 
 longer : (p : List ℕ) (x : ℕ) (q : List ℕ) → order p (p ++ x ∷ q) ≡ Less
 longer [] x q = refl
 longer (y ∷ p) x q = rw (tied_itself nat_cmp_total y) (longer p x q)
 
 -- what is above a key that begins so is above the prefix
-front_lower : (p a k : List ℕ) → order (p ++ a) k ≡ Less → order p k ≡ Less
-front_lower p [] k lt = ap (λ (r : List ℕ). order r k) (sym (append-nil p)) ∙ lt
-front_lower p (x ∷ a) k lt = nat_list_cmp_total.trans p (p ++ x ∷ a) k (longer p x a) lt
+prefix_lower : (p a k : List ℕ) → order (p ++ a) k ≡ Less → order p k ≡ Less
+prefix_lower p [] k lt = ap (λ (r : List ℕ). order r k) (sym (append-nil p)) ∙ lt
+prefix_lower p (x ∷ a) k lt = nat_list_cmp_total.trans p (p ++ x ∷ a) k (longer p x a) lt
 
 -- ---- the entries of a tail
 
@@ -86,9 +86,9 @@ entries-tail p m = entries-from_sorted (slice_cmp nat_cmp) (cut (length p) (entr
 -- an entry whose key begins so, kept by the one test where the other keeps it
 above_one : (p a : List ℕ) (e : Entry) (xs ys : List Entry) → begins_with p e.0 ≡ true → above a (cut (length p) (beginning p xs)) ≡ cut (length p) (beginning p ys)
     → (s t : Bool) → is_lt (order p e.0) ≡ s → is_lt (order (p ++ a) e.0) ≡ t → above a (cut (length p) (beginning p (cond s (e ∷ xs) xs))) ≡ cut (length p) (beginning p (cond t (e ∷ ys) ys))
-above_one p a e xs ys b rest true true s t = let u : is_lt (order a (drop (length p) e.0)) ≡ true = ap is_lt (front_order p a e.0 b) ∙ t in rw (b, u) (ap (λ (l : List Entry). (drop (length p) e.0, e.1) ∷ l) rest)
-above_one p a e xs ys b rest true false s t = let u : is_lt (order a (drop (length p) e.0)) ≡ false = ap is_lt (front_order p a e.0 b) ∙ t in rw (b, u) rest
-above_one p a e xs ys b rest false true s t = let u : is_lt (order p e.0) ≡ true = ap is_lt (front_lower p a e.0 (less_from_test _ t)) in cc
+above_one p a e xs ys b rest true true s t = let u : is_lt (order a (drop (length p) e.0)) ≡ true = ap is_lt (prefix_order p a e.0 b) ∙ t in rw (b, u) (ap (λ (l : List Entry). (drop (length p) e.0, e.1) ∷ l) rest)
+above_one p a e xs ys b rest true false s t = let u : is_lt (order a (drop (length p) e.0)) ≡ false = ap is_lt (prefix_order p a e.0 b) ∙ t in rw (b, u) rest
+above_one p a e xs ys b rest false true s t = let u : is_lt (order p e.0) ≡ true = ap is_lt (prefix_lower p a e.0 (less_from_test _ t)) in cc
 above_one p a e xs ys b rest false false s t = rest
 
 -- an entry whose key doesn't begin so
@@ -128,7 +128,7 @@ first_left p k m pk = go (first_entry (entries_above k m)) refl
 
 -- the first entry of a tail above a key, by one look-up behind the prefix and that key
 pub first_above-tail : (p a : List ℕ) (m : Content) → first_entry (entries_above a (tail p m)) ≡ rest_under p (first_entry (entries_above (p ++ a) m))
-first_above-tail p a m = ap first_entry (entries_above-tail p a m) ∙ first_left p (p ++ a) m (begins_front p a)
+first_above-tail p a m = ap first_entry (entries_above-tail p a m) ∙ first_left p (p ++ a) m (begins_with_prefix p a)
 
 -- the first entry of a tail
 pub first-tail : (p : List ℕ) (m : Content) → first_entry (entries (tail p m)) ≡ rest_under p (first_entry (entries_above p m))
@@ -149,9 +149,9 @@ find_under p x q (e ∷ es) =
     elim (is_lt (order p e.0)) as (λ a. is_lt (order p e.0) ≡ a → find (slice_cmp nat_cmp) (x ∷ q) (cut (length p) (beginning p (cond a (e ∷ above p es) (above p es)))) ≡ find (slice_cmp nat_cmp) (p ++ x ∷ q) (e ∷ es)) [
       | true ↦ λ a. elim (begins_with p e.0) as (λ b. begins_with p e.0 ≡ b → find (slice_cmp nat_cmp) (x ∷ q) (cut (length p) (cond b (e ∷ beginning p (above p es)) (beginning p (above p es)))) ≡ find (slice_cmp nat_cmp) (p ++ x ∷ q) (e ∷ es)) [
         | true ↦ λ b.
-            ap (λ (o : Ordering). cond (is_eq o) (Some e.1) (find (slice_cmp nat_cmp) (x ∷ q) (cut (length p) (beginning p (above p es))))) (front_order p (x ∷ q) e.0 b)
+            ap (λ (o : Ordering). cond (is_eq o) (Some e.1) (find (slice_cmp nat_cmp) (x ∷ q) (cut (length p) (beginning p (above p es))))) (prefix_order p (x ∷ q) e.0 b)
             ∙ ap (λ (o : Option (List ℕ)). cond (is_eq (order (p ++ x ∷ q) e.0)) (Some e.1) o) (find_under p x q es)
-        | false ↦ λ b. find_under p x q es ∙ sym (missed (p ++ x ∷ q) e es (λ h. let is : begins_with p e.0 ≡ true = subst (λ (k : List ℕ). begins_with p k ≡ true) h (begins_front p (x ∷ q)) in cc))
+        | false ↦ λ b. find_under p x q es ∙ sym (missed (p ++ x ∷ q) e es (λ h. let is : begins_with p e.0 ≡ true = subst (λ (k : List ℕ). begins_with p k ≡ true) h (begins_with_prefix p (x ∷ q)) in cc))
       ] refl
       | false ↦ λ a. find_under p x q es ∙ sym (missed (p ++ x ∷ q) e es (λ h. let is : is_lt (order p e.0) ≡ true = subst (λ (k : List ℕ). is_lt (order p k) ≡ true) h (ap is_lt (longer p x q)) in cc))
     ] refl
@@ -167,7 +167,7 @@ find_nil p (e ∷ es) =
     elim (is_lt (order p e.0)) as (λ a. is_lt (order p e.0) ≡ a → find (slice_cmp nat_cmp) [] (cut (length p) (beginning p (cond a (e ∷ above p es) (above p es)))) ≡ None) [
       | true ↦ λ a. elim (begins_with p e.0) as (λ b. begins_with p e.0 ≡ b → find (slice_cmp nat_cmp) [] (cut (length p) (cond b (e ∷ beginning p (above p es)) (beginning p (above p es)))) ≡ None) [
         | true ↦ λ b.
-            let key : order [] (drop (length p) e.0) ≡ Less = front_order p [] e.0 b ∙ ap (λ (k : List ℕ). order k e.0) (append-nil p) ∙ less_from_test _ a in
+            let key : order [] (drop (length p) e.0) ≡ Less = prefix_order p [] e.0 b ∙ ap (λ (k : List ℕ). order k e.0) (append-nil p) ∙ less_from_test _ a in
             ap (λ (o : Ordering). cond (is_eq o) (Some e.1) (find (slice_cmp nat_cmp) [] (cut (length p) (beginning p (above p es))))) key ∙ find_nil p es
         | false ↦ λ b. find_nil p es
       ] refl
@@ -201,7 +201,7 @@ tail-set_to p x q o m = same_content _ _ at
     at [] = get-tail_nil p (set_to (p ++ x ∷ q) o m) ∙ sym (get-set_to (x ∷ q) o (tail p m) [] ∙ get-tail_nil p m)
     at (y ∷ r) =
         get-tail p (set_to (p ++ x ∷ q) o m) y r ∙ get-set_to (p ++ x ∷ q) o m (p ++ y ∷ r)
-        ∙ ap (λ (b : Bool). cond b o (get m (p ++ y ∷ r))) (same-front p (y ∷ r) (x ∷ q))
+        ∙ ap (λ (b : Bool). cond b o (get m (p ++ y ∷ r))) (same-prefix p (y ∷ r) (x ∷ q))
         ∙ ap (cond (same (y ∷ r) (x ∷ q)) o) (sym (get-tail p m y r))
         ∙ sym (get-set_to (x ∷ q) o (tail p m) (y ∷ r))
 
@@ -210,7 +210,7 @@ pub tail-set_to_other : (p key : List ℕ) (o : Option (List ℕ)) (m : Content)
 tail-set_to_other p key o m differs = same_content _ _ at
   where
     apart : (k : List ℕ) → p ++ k ≢ key
-    apart k is = let begins : begins_with p key ≡ true = subst (λ (l : List ℕ). begins_with p l ≡ true) is (begins_front p k) in cc
+    apart k is = let begins : begins_with p key ≡ true = subst (λ (l : List ℕ). begins_with p l ≡ true) is (begins_with_prefix p k) in cc
 
     at : (k : List ℕ) → get (tail p (set_to key o m)) k ≡ get (tail p m) k
     at [] = get-tail_nil p (set_to key o m) ∙ sym (get-tail_nil p m)

@@ -1,7 +1,7 @@
 //! Changes that are made together.
 
 ghost use Rattle.std.specs.Prelude.{◌≡◌, ◌++◌, [], ◌∷◌, Some, None, OnOk, OnErr, map};
-ghost use Rattle.ct_keep.specs.Spoken.{spoken};
+ghost use Rattle.ct_keep.specs.SeenChanges.{change_of};
 
 use ct_base::Memory;
 use std::alloc::Global;
@@ -22,11 +22,11 @@ pub struct Batch {
 
 impl Model for Batch {
     ghost use Rattle.std.specs.Prelude.{List, ℕ, Option, map};
-    ghost use Rattle.ct_keep.specs.Spoken.{spoken};
+    ghost use Rattle.ct_keep.specs.SeenChanges.{change_of};
 
     ghost Value = { List (List ℕ × Option (List ℕ)) };
 
-    ghost view = { λ b. map spoken b.changes.items };
+    ghost view = { λ b. map change_of b.changes.items };
 }
 
 impl Batch {
@@ -72,14 +72,14 @@ impl Batch {
 
     /// The changes, in order.
     pub fn changes(&self) -> &[Change]
-        ensures { map spoken result.now ≡ self.now }
+        ensures { map change_of result.now ≡ self.now }
     {
         self.changes.as_slice()
     }
 
     /// The changes, in order, without a copy.
     pub fn into_changes(self) -> Vec<Change>
-        ensures { map spoken result.items ≡ self }
+        ensures { map change_of result.items ≡ self }
     {
         self.changes
     }

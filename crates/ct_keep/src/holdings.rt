@@ -4,9 +4,10 @@ ghost use Rattle.std.specs.Prelude.{◌≡◌, true, None, Err, IfOk};
 ghost use Rattle.std.specs.Option.{option_map};
 ghost use Rattle.std.specs.FinMap.{get, empty};
 ghost use Rattle.ct_keep.specs.Content.{after, entries_above, first_entry};
+ghost use Rattle.ct_keep.specs.Counting.{count_under, IsOwner};
 ghost use Rattle.ct_keep.specs.Handed.{handed};
 ghost use Rattle.ct_keep.specs.Changes.{AreWell, HoldsEntries};
-ghost use Rattle.ct_keep.specs.KeeperViews.{Answers, fault_of, looked_up, committed};
+ghost use Rattle.ct_keep.specs.KeeperViews.{AnswersCommit, fault_of, looked_up, committed};
 ghost use Rattle.ct_keep.specs.InMemory.{NotDisk, come_to};
 
 use crate::batches::Batch;
@@ -81,13 +82,21 @@ impl Holding {
         Ok(found)
     }
 
+    /// How many entries stand under an owner's prefix.
+    pub(crate) fn count(&self, owner: &[u8]) -> u64
+        requires { IsOwner owner.now }
+        ensures { result ≡ count_under owner.now self.now.content }
+    {
+        self.content.count(owner)
+    }
+
     /// Does what the batch says, all of it or none.
     pub(crate) fn commit(&mut self, alloc: Global, batch: Batch) -> Result<(), KeepFault>
         requires { AreWell (λ _ _. true) batch }
         ensures content { self.new.content ≡ come_to (fault_of result) self.old.content (after batch self.old.content) }
         ensures limit { self.new.limit ≡ self.old.limit }
         ensures counts { self.new.counts ≡ committed (fault_of result) self.old.counts }
-        ensures answers { Answers (fault_of result) self.old.limit self.old.content (after batch self.old.content) }
+        ensures answers { AnswersCommit (fault_of result) self.old.limit self.old.content (after batch self.old.content) }
         ensures not_disk { NotDisk (fault_of result) }
     {
         let done = self.content.commit(alloc, batch.into_changes(), self.limit);

@@ -3,11 +3,12 @@
 ghost use Rattle.std.specs.Prelude.{◌≡◌, ◌≤◌, ◌<◌, ℕ, List, Bool, Option, Some, None, Ok, Err, IfOk, OnErr, length};
 ghost use Rattle.std.specs.Option.{option_map};
 ghost use Rattle.std.specs.FinMap.{get};
-ghost use Rattle.ct_base.specs.Told.{took, IsNothing};
+ghost use Rattle.ct_base.specs.Told.{took, IsNothing, IsSaid};
 ghost use Rattle.ct_site.specs.FaultCounts.{CountsFaults};
 ghost use Rattle.ct_keep.specs.Content.{Content, after, entries_above, first_entry};
 ghost use Rattle.ct_keep.specs.Changes.{AreWell, HoldsWell};
-ghost use Rattle.ct_keep.specs.KeeperViews.{Finds, KeeperView, Kept, OnlyReads, Goes, Answers, IsSettled, KeeperHears, KeeperSays, PassesRoom, fault_of, looked_up, committed};
+ghost use Rattle.ct_keep.specs.Counting.{count_under, IsOwner};
+ghost use Rattle.ct_keep.specs.KeeperViews.{Finds, Told, KeeperView, SameButContent, OnlyReads, Goes, AnswersCommit, IsDurable, KeeperHears, KeeperSays, PassesRoom, fault_of, looked_up, committed};
 ghost use Rattle.ct_keep.specs.Handed.{handed};
 
 use crate::batches::Batch;
@@ -66,17 +67,24 @@ pub trait Keeper {
         ensures reads { OnlyReads view self.old self.new result }
         ensures counts { (view self.new).counts ≡ looked_up key.now (handed result) (view self.old).counts };
 
+    /// How many entries stand under an owner: those whose key begins with its prefix and is longer. A keeper keeps these counts
+    /// with its commits, so it costs the logarithm of the number of owners. It takes no memory, and makes no call of a disk.
+    fn count(&self, owner: &[u8]) -> u64
+        requires ready { (view self.now).ready }
+        requires owner { IsOwner owner.now }
+        ensures { Told view self.now (λ m. result ≡ count_under owner.now m) };
+
     /// Does what the batch says, all of it or none. At each moment a stop leaves the old content or the new one, and after
     /// Ok the new one.
     fn commit(&mut self, alloc: Global, batch: Batch) -> Result<(), KeepFault>
         requires ready { (view self.old).ready }
         requires well { AreWell (view self.old).fixed.well batch }
-        ensures kept { Kept (view self.old) (view self.new) (fault_of result) }
+        ensures kept { SameButContent (view self.old) (view self.new) (fault_of result) }
         ensures goes { (m : Content) → (view self.old).content ≡ Some m → Goes m (after batch m) (view self.old) (view self.new) (fault_of result) }
-        ensures answers { (m : Content) → (view self.old).content ≡ Some m → Answers (fault_of result) (view self.old).fixed.limit m (after batch m) }
+        ensures answers { (m : Content) → (view self.old).content ≡ Some m → AnswersCommit (fault_of result) (view self.old).fixed.limit m (after batch m) }
         ensures counts { (view self.new).counts ≡ committed (fault_of result) (view self.old).counts };
 
-    /// Takes bytes of the script into the front of `into`, and answers how many. 0 means the end of the script. It may be
+    /// Takes bytes of the script into the beginning of `into`, and answers how many. 0 means the end of the script. It may be
     /// called after Disk too.
     fn hear(&mut self, into: &mut [u8]) -> Result<usize, Failed>
         requires { 0 < length into.old }
@@ -85,7 +93,7 @@ pub trait Keeper {
         ensures end { result ≡ Ok 0 → IsNothing (view self.new).beside.left }
         ensures cause { CountsFaults (view self.old).beside.hear_faults (view self.new).beside.hear_faults result };
 
-    /// Says bytes of the front of `bytes`, at least one, and answers how many. Where it is told what was said and how many bytes
+    /// Says bytes from the beginning of `bytes`, at least one, and answers how many. Where it is told what was said and how many bytes
     /// may be said in all, it fails only where these would be too many. It may be called after Disk too.
     fn say(&mut self, bytes: &[u8]) -> Result<usize, Failed>
         requires { 0 < length bytes.now }
@@ -96,10 +104,16 @@ pub trait Keeper {
         ensures cause { CountsFaults (view self.old).beside.say_faults (view self.new).beside.say_faults result };
 
     /// Between two calls a stop leaves what it holds.
-    ghost settled: { (k : Self) → (view k).ready → IsSettled (view k) };
+    ghost settled: { (k : Self) → (view k).ready → IsDurable (view k) };
 
     /// Each entry that it holds is within the bounds, and one that it may hold.
     ghost holds: { (k : Self) → (view k).ready → (m : Content) → (view k).content ≡ Some m → HoldsWell (view k).fixed.well m };
+
+    /// A stop may leave what it holds, with what was said by now.
+    ghost may_stay: { (k : Self) → (view k).ready → (m : Content) (said : List ℕ) → (view k).content ≡ Some m → IsSaid (view k).beside.said said → (view k).now (Some m) said };
+
+    /// The present is a moment since each earlier time.
+    ghost counts_now: { (k : Self) (t : ℕ) (stopped : Option Content) (said : List ℕ) → t ≤ (view k).time.clock → (view k).now stopped said → (view k).time.since t stopped said };
 
     /// Since now there is no other moment.
     ghost only_now: { (k : Self) (stopped : Option Content) (said : List ℕ) → (view k).time.since (view k).time.clock stopped said → (view k).now stopped said };

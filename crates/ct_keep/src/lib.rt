@@ -5,17 +5,23 @@ mod batches;
 mod entry_maps;
 mod holdings;
 mod keepers;
+mod limits;
 mod mem_keepers;
+mod owner_counts;
 mod scans;
 mod site_maps;
 mod sorted_entries;
 mod tallies;
 #[cfg(test)]
 mod tests;
-mod trials;
+mod transactions;
 
 pub use batches::{Batch, Change};
+pub use entry_maps::EntryMap;
 pub use keepers::{KeepFault, Keeper, Shape};
+pub use limits::{KEY_LIMIT, VALUE_LIMIT};
 pub use mem_keepers::MemKeeper;
 pub use scans::{first_under, next_under, scan};
 pub use site_maps::SiteMap;
+pub use sorted_entries::SortedEntries;
+pub use transactions::Transaction;

@@ -5,10 +5,11 @@ ghost use Rattle.std.specs.FinMap.{get};
 ghost use Rattle.std.specs.Option.{option_map};
 ghost use Rattle.ct_site.specs.FaultCounts.{CountsFaults};
 ghost use Rattle.ct_keep.specs.Content.{after, entries_above, first_entry};
+ghost use Rattle.ct_keep.specs.Counting.{count_under, IsOwner};
 ghost use Rattle.ct_keep.specs.Handed.{handed};
 ghost use Rattle.ct_keep.specs.Changes.{AreWell};
-ghost use Rattle.ct_keep.specs.KeeperViews.{Answers, looked_up, committed, fault_of};
-ghost use Rattle.ct_keep.specs.InMemory.{NotDisk, come_to, settled_in_memory, holds_in_memory};
+ghost use Rattle.ct_keep.specs.KeeperViews.{AnswersCommit, looked_up, committed, fault_of};
+ghost use Rattle.ct_keep.specs.InMemory.{NotDisk, come_to, settled_in_memory, holds_in_memory, stays_in_memory};
 ghost use Rattle.ct_keep.specs.KeeperStates.{no_disk, mem_view, IsNew};
 
 use crate::batches::Batch;
@@ -21,7 +22,7 @@ use std::marker::Model;
 
 /// A keeper in memory. It never answers Disk, its `hear` never fails and takes as much as fits, and its `say` takes all,
 /// or fails where its room for what is said would be passed. It takes every entry.
-/// A look-up, and each change of a commit, cost the logarithm of the number of entries.
+/// A look-up, and each change of a commit, cost the logarithm of the number of entries; a count costs that of the number of owners.
 #[derive(Debug, Drop)]
 pub struct MemKeeper {
     held: Holding,
@@ -99,11 +100,18 @@ impl Keeper for MemKeeper {
         self.held.next_after(alloc, key)
     }
 
+    fn count(&self, owner: &[u8]) -> u64
+        requires { IsOwner owner.now }
+        ensures { result ≡ count_under owner.now self.now.content }
+    {
+        self.held.count(owner)
+    }
+
     fn commit(&mut self, alloc: Global, batch: Batch) -> Result<(), KeepFault>
         requires { AreWell (λ _ _. true) batch }
         ensures content { self.new.content ≡ come_to (fault_of result) self.old.content (after batch self.old.content) }
         ensures state { self.new ≡ record self.old { content = self.new.content; entries = self.new.entries; counts = committed (fault_of result) self.old.counts } }
-        ensures answers { Answers (fault_of result) self.old.limit self.old.content (after batch self.old.content) }
+        ensures answers { AnswersCommit (fault_of result) self.old.limit self.old.content (after batch self.old.content) }
         ensures not_disk { NotDisk (fault_of result) }
     {
         self.held.commit(alloc, batch)
@@ -142,6 +150,10 @@ impl Keeper for MemKeeper {
     ghost settled = { λ k ready. settled_in_memory k.content k.limit k.counts (mem_view k).beside (Some k.said_room) no_disk None };
 
     ghost holds = { λ k ready m is. holds_in_memory k.content k.entries m is };
+
+    ghost may_stay = { λ k ready m said is told. stays_in_memory k.content m said is told };
+
+    ghost counts_now = { λ k t stopped said le now. now };
 
     ghost only_now = { λ k stopped said now. now };
 }

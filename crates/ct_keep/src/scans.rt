@@ -2,8 +2,8 @@
 #![tactic(auto, using(crate::specs::Composing::reads_on, crate::specs::Composing::reads_short))]
 
 ghost use Rattle.std.specs.Prelude.{◌≡◌, ◌≤◌, ◌++◌, true, IfOk, OnOk, IfSome, IsTrue, [], ◌∷◌, map, length, drop};
-ghost use Rattle.std.specs.Option.{option_map};
 ghost use Rattle.std.specs.FinMap.{entries};
+ghost use Rattle.ct_keep.specs.Handed.{entry_seen};
 ghost use Rattle.ct_keep.specs.Content.{begins_with, entries_above, first_entry};
 ghost use Rattle.ct_keep.specs.KeeperViews.{Finds, OnlyReads, Told};
 ghost use Rattle.ct_keep.specs.Tail.{tail, rest_under};
@@ -33,11 +33,11 @@ fn rest_of(alloc: Global, prefix: &[u8], key: &[u8]) -> Result<Vec<u8>, Memory>
 }
 
 /// The one and then the other.
-fn joined(alloc: Global, front: &[u8], back: &[u8]) -> Result<Vec<u8>, Memory>
-    ensures { IfOk result (λ both. both.items ≡ front.now ++ back.now) }
+fn joined(alloc: Global, first: &[u8], second: &[u8]) -> Result<Vec<u8>, Memory>
+    ensures { IfOk result (λ both. both.items ≡ first.now ++ second.now) }
 {
-    let mut both = Vec::from_slice(alloc, front)?;
-    both.extend_from_slice(back)?;
+    let mut both = Vec::from_slice(alloc, first)?;
+    both.extend_from_slice(second)?;
     Ok(both)
 }
 
@@ -58,7 +58,7 @@ fn step_under<K: Keeper>(
 ) -> Result<Option<Entry>, KeepFault>
     requires ready { (K.view keeper.old).ready }
     requires begins { begins_with prefix.now last.old.items ≡ true }
-    ensures entry { Finds K.view keeper.old result (λ m found. option_map (λ e. (e.0.items, e.1.items)) found ≡ rest_under prefix.now (first_entry (entries_above last.old.items m))) }
+    ensures entry { Finds K.view keeper.old result (λ m found. entry_seen found ≡ rest_under prefix.now (first_entry (entries_above last.old.items m))) }
     ensures last { IfOk result (λ found. IfSome found (λ e. last.new.items ≡ prefix.now ++ e.0.items)) }
     ensures reads { OnlyReads K.view keeper.old keeper.new result }
     ensures at_most { Told K.view keeper.old (λ m. LooksAtMost K.view keeper.old keeper.new (next_looks last.old.items m)) }
@@ -109,7 +109,7 @@ pub fn next_under<K: Keeper>(
     after: &[u8],
 ) -> Result<Option<(Vec<u8>, Vec<u8>)>, KeepFault>
     requires { (K.view keeper.old).ready }
-    ensures entry { Finds K.view keeper.old result (λ m found. option_map (λ e. (e.0.items, e.1.items)) found ≡ first_entry (entries_above after.now (tail prefix.now m))) }
+    ensures entry { Finds K.view keeper.old result (λ m found. entry_seen found ≡ first_entry (entries_above after.now (tail prefix.now m))) }
     ensures reads { OnlyReads K.view keeper.old keeper.new result }
     ensures at_most { Told K.view keeper.old (λ m. LooksAtMost K.view keeper.old keeper.new (next_looks (prefix.now ++ after.now) m)) }
 {
@@ -126,7 +126,7 @@ pub fn first_under<K: Keeper>(
     prefix: &[u8],
 ) -> Result<Option<(Vec<u8>, Vec<u8>)>, KeepFault>
     requires { (K.view keeper.old).ready }
-    ensures entry { Finds K.view keeper.old result (λ m found. option_map (λ e. (e.0.items, e.1.items)) found ≡ first_entry (entries (tail prefix.now m))) }
+    ensures entry { Finds K.view keeper.old result (λ m found. entry_seen found ≡ first_entry (entries (tail prefix.now m))) }
     ensures reads { OnlyReads K.view keeper.old keeper.new result }
     ensures at_most { Told K.view keeper.old (λ m. LooksAtMost K.view keeper.old keeper.new (next_looks prefix.now m)) }
 {
@@ -137,12 +137,13 @@ pub fn first_under<K: Keeper>(
 mod tests {
     use super::*;
     use crate::batches::Batch;
+    use crate::limits::KEY_LIMIT;
     use crate::mem_keepers::MemKeeper;
     use std::test::Fail;
 
     /// Puts an entry whose value is its key.
     fn keep(alloc: Global, keeper: &mut MemKeeper, key: &str) -> Result<(), KeepFault> {
-        if key.is_empty() || key.len() > 600 {
+        if key.is_empty() || key.len() > KEY_LIMIT {
             return Ok(());
         }
         let mut batch = Batch::new(alloc);

@@ -2,7 +2,7 @@
 
 ghost use Rattle.std.specs.Prelude.{◌≡◌, Some, None};
 ghost use Rattle.std.specs.FinMap.{empty};
-ghost use Rattle.ct_keep.specs.InMemory.{in_memory, settled_in_memory, holds_in_memory, aside_of};
+ghost use Rattle.ct_keep.specs.InMemory.{in_memory, settled_in_memory, holds_in_memory, stays_in_memory, aside_of};
 ghost use Rattle.ct_keep.specs.KeeperStates.{no_counts};
 
 use crate::batches::Batch;
@@ -12,7 +12,8 @@ use ct_site::{Failed, Site};
 use std::alloc::Global;
 
 /// A keeper in memory that hears and says by a site. It makes no call of the site's disk, and never answers Disk.
-/// It takes every entry. A look-up, and each change of a commit, cost the logarithm of the number of entries.
+/// It takes every entry. A look-up, and each change of a commit, cost the logarithm of the number of entries; a count costs that of the
+/// number of owners.
 pub struct SiteMap<'a, S> {
     site: &'a mut S,
     held: Holding,
@@ -58,6 +59,10 @@ impl<'a, S: Site> Keeper for SiteMap<'a, S> {
         self.held.next_after(alloc, key)
     }
 
+    fn count(&self, owner: &[u8]) -> u64 {
+        self.held.count(owner)
+    }
+
     fn commit(&mut self, alloc: Global, batch: Batch) -> Result<(), KeepFault> {
         self.held.commit(alloc, batch)
     }
@@ -73,6 +78,10 @@ impl<'a, S: Site> Keeper for SiteMap<'a, S> {
     ghost settled = { λ k ready. settled_in_memory k.held.content k.held.limit k.held.counts (S.disk k.site.now).beside None (aside_of (S.disk k.site.now)) (Some k.site.ghost_name) };
 
     ghost holds = { λ k ready m is. holds_in_memory k.held.content k.held.entries m is };
+
+    ghost may_stay = { λ k ready m said is told. stays_in_memory k.held.content m said is told };
+
+    ghost counts_now = { λ k t stopped said le now. now };
 
     ghost only_now = { λ k stopped said now. now };
 }

@@ -1,28 +1,32 @@
 //! Entries in the order of their keys.
 
-ghost use Rattle.std.specs.Prelude.{◌≡◌, IfOk, OnOk, OnErr, IsSome, None};
+ghost use Rattle.std.specs.Prelude.{◌≡◌, IfOk, OnOk, OnErr, IsSome, Some, None};
 ghost use Rattle.std.specs.Option.{option_map};
 ghost use Rattle.std.specs.FinMap.{get, insert, remove, empty};
 ghost use Rattle.ct_keep.specs.Content.{set_to, after, entries_above, first_entry};
-ghost use Rattle.ct_keep.specs.Trials.{staying, undoing, AreInPlace};
+ghost use Rattle.ct_keep.specs.Counting.{count_under, IsOwner};
+ghost use Rattle.ct_keep.specs.Transactions.{staying, undoing, AreInPlace};
 
 use crate::batches::Change;
+use crate::owner_counts::OwnerCounts;
 use ct_base::Memory;
 use std::alloc::Global;
 use std::collections::BTreeMap;
 use std::marker::Model;
+use std::mem::replace;
 use std::ops::Bound;
 
-/// Entries in the order of their keys' bytes, seen as the content that they are.
+/// Entries in the order of their keys' bytes, seen as the content that they are, and how many there are of each owner.
 #[derive(Debug, Drop)]
-pub(crate) struct SortedEntries {
+pub struct SortedEntries {
     entries: BTreeMap<Vec<u8>, Vec<u8>>,
+    owner_counts: OwnerCounts,
 }
 
 impl Model for SortedEntries {
-    ghost use Rattle.std.specs.BTreeMap.{IsOrdered};
     ghost use Rattle.ct_keep.specs.Content.{Content};
-    ghost use Rattle.ct_keep.specs.Pairs.{byte_order, content_code, content_of};
+    ghost use Rattle.ct_keep.specs.Pairs.{content_code, content_of};
+    ghost use Rattle.ct_keep.specs.CountedPairs.{AreCounted};
 
     ghost Value = { Content };
 
@@ -30,7 +34,7 @@ impl Model for SortedEntries {
 
     ghost view = { λ e. content_of e.entries.entries };
 
-    ghost invariant = { λ e. IsOrdered byte_order e.entries };
+    ghost invariant = { λ e. AreCounted e.entries e.owner_counts };
 }
 
 impl SortedEntries {
@@ -40,7 +44,16 @@ impl SortedEntries {
     {
         SortedEntries {
             entries: BTreeMap::new(alloc),
+            owner_counts: OwnerCounts::new(alloc),
         }
+    }
+
+    /// How many entries stand under an owner's prefix. Its cost is the logarithm of the number of owners.
+    pub(crate) fn count(&self, owner: &[u8]) -> u64
+        requires { IsOwner owner.now }
+        ensures { result ≡ count_under owner.now self.now }
+    {
+        self.owner_counts.at(owner)
     }
 
     /// The value of a key. Its cost is the logarithm of the number of entries.
@@ -59,14 +72,53 @@ impl SortedEntries {
             .next()
     }
 
+    /// Gives another value to an entry that is there, and gives back the value that it had. It needs no memory.
+    fn replace(&mut self, key: &[u8], value: Vec<u8>) -> Vec<u8>
+        requires { IsSome (get self.old key.now) }
+        ensures content { self.new ≡ insert self.old key.now value.items }
+        ensures before { get self.old key.now ≡ Some result.items }
+    {
+        let Some(place) = self.entries.get_mut(key) else {
+            unreachable!()
+        };
+        replace(place, value)
+    }
+
+    /// Adds an entry whose key is new.
+    fn add(&mut self, alloc: Global, key: Vec<u8>, value: Vec<u8>) -> Result<(), Memory>
+        requires { get self.old key.items ≡ None }
+        ensures ok { OnOk result (self.new ≡ insert self.old key.items value.items) }
+        ensures err { OnErr result (self.new ≡ self.old) }
+    {
+        // No count is greater than the number of entries, which fits in a usize.
+        let _number = self.entries.len();
+        self.owner_counts.add(alloc, &key)?;
+        match self.entries.insert(key, value) {
+            Ok(_) => Ok(()),
+            Err(failed) => {
+                self.owner_counts.remove(&failed.value.0);
+                Err(Memory)
+            }
+        }
+    }
+
     /// Gives a key a value, and gives back the value that it had. It fails only where the key is new.
-    pub(crate) fn put(&mut self, key: Vec<u8>, value: Vec<u8>) -> Result<Option<Vec<u8>>, Memory>
+    pub(crate) fn put(
+        &mut self,
+        alloc: Global,
+        key: Vec<u8>,
+        value: Vec<u8>,
+    ) -> Result<Option<Vec<u8>>, Memory>
         ensures ok { OnOk result (self.new ≡ insert self.old key.items value.items) }
         ensures before { IfOk result (λ was. option_map (λ v. v.items) was ≡ get self.old key.items) }
         ensures err { OnErr result (self.new ≡ self.old) }
         ensures absent { OnErr result (get self.old key.items ≡ None) }
     {
-        Ok(self.entries.insert(key, value)?)
+        if self.value_at(&key).is_some() {
+            return Ok(Some(self.replace(&key, value)));
+        }
+        self.add(alloc, key, value)?;
+        Ok(None)
     }
 
     /// Takes an entry out, and gives its value back. It needs no memory.
@@ -74,7 +126,9 @@ impl SortedEntries {
         ensures content { self.new ≡ remove self.old key.now }
         ensures value { option_map (λ v. v.items) result ≡ get self.old key.now }
     {
-        self.entries.remove(key)
+        let value = self.entries.remove(key)?;
+        self.owner_counts.remove(key);
+        Some(value)
     }
 
     /// Does a change that needs no memory: one that takes an entry out, or gives another value to one that is there.
@@ -85,9 +139,7 @@ impl SortedEntries {
         let Change { key, value } = change;
         match value {
             Some(value) => {
-                let Ok(_) = self.put(key, value) else {
-                    unreachable!()
-                };
+                let _ = self.replace(&key, value);
             }
             None => {
                 let _ = self.take(&key);
@@ -109,7 +161,11 @@ impl SortedEntries {
     pub(crate) fn take_all(&mut self, gone: SortedEntries)
         ensures { self.new ≡ staying self.old gone }
     {
-        for (key, _) in gone.entries {
+        let SortedEntries {
+            entries,
+            owner_counts: _,
+        } = gone;
+        for (key, _) in entries {
             let _ = self.take(&key);
         }
     }

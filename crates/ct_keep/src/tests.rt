@@ -3,10 +3,11 @@
 ghost use Rattle.std.specs.Prelude.{◌≡◌, ◌<◌, true, IfOk, OnOk, length};
 ghost use Rattle.ct_base.specs.Told.{with_suffix, took};
 ghost use Rattle.ct_keep.specs.Changes.{AreWell};
-ghost use Rattle.ct_keep.specs.InMemory.{TakesAll};
+ghost use Rattle.ct_keep.specs.Counting.{IsOwner};
+ghost use Rattle.ct_keep.specs.KeeperViews.{AcceptsChanges};
 
 use crate::entry_maps::EntryMap;
-use crate::{Batch, KeepFault, Keeper, MemKeeper, SiteMap};
+use crate::{Batch, KEY_LIMIT, KeepFault, Keeper, MemKeeper, SiteMap};
 use ct_base::Memory;
 use ct_site::{Failed, Faults, MemSite, Rooms, Site};
 use std::alloc::Global;
@@ -20,6 +21,8 @@ type Change = (&'static str, Option<usize>);
 enum Call {
     Fetch(&'static str),
     Next(&'static str),
+    /// How many entries stand under the owner of this kind and name.
+    Count(u8, &'static str),
     Commit(&'static [Change]),
     Hear(usize),
     Say(&'static str),
@@ -43,7 +46,7 @@ fn add_change(alloc: Global, batch: &mut Batch, change: Change) -> Result<(), Me
     let Some(length) = length else {
         return batch.remove(key);
     };
-    if key.is_empty() || key.len() > 600 || length > 1000 {
+    if key.is_empty() || key.len() > KEY_LIMIT || length > 1000 {
         return Ok(());
     }
     batch.put(key, Vec::from_elem(alloc, b'v', length)?)
@@ -61,8 +64,8 @@ fn batch_of(alloc: Global, changes: &[Change]) -> Result<Batch, Memory>
 
 /// How long the value of a key is.
 fn fetched<K: Keeper>(alloc: Global, keeper: &mut K, key: &str) -> Result<Vec<u8>, KeepFault>
-    requires { TakesAll (K.view keeper.old) }
-    ensures { OnOk result (TakesAll (K.view keeper.new)) }
+    requires { AcceptsChanges (K.view keeper.old) }
+    ensures { OnOk result (AcceptsChanges (K.view keeper.new)) }
 {
     match keeper.fetch(alloc, key.as_bytes())? {
         Some(value) => Ok(count_text(alloc, value.len())?),
@@ -72,8 +75,8 @@ fn fetched<K: Keeper>(alloc: Global, keeper: &mut K, key: &str) -> Result<Vec<u8
 
 /// The next key.
 fn next_key<K: Keeper>(alloc: Global, keeper: &mut K, key: &str) -> Result<Vec<u8>, KeepFault>
-    requires { TakesAll (K.view keeper.old) }
-    ensures { OnOk result (TakesAll (K.view keeper.new)) }
+    requires { AcceptsChanges (K.view keeper.old) }
+    ensures { OnOk result (AcceptsChanges (K.view keeper.new)) }
 {
     match keeper.next_after(alloc, key.as_bytes())? {
         Some((key, _)) => Ok(key),
@@ -81,13 +84,36 @@ fn next_key<K: Keeper>(alloc: Global, keeper: &mut K, key: &str) -> Result<Vec<u
     }
 }
 
+/// The prefix of an owner.
+fn owner_bytes(alloc: Global, kind: u8, name: &str) -> Result<Vec<u8>, Memory>
+    requires { length name.now < 256 }
+    ensures { IfOk result (λ owner. IsOwner owner.items) }
+{
+    let mut owner = Vec::new(alloc);
+    owner.push(kind)?;
+    owner.push(name.len() as u8)?;
+    owner.extend_from_slice(name.as_bytes())?;
+    Ok(owner)
+}
+
+fn counted<K: Keeper>(alloc: Global, keeper: &K, kind: u8, name: &str) -> Result<Vec<u8>, KeepFault>
+    requires { AcceptsChanges (K.view keeper.now) }
+{
+    if name.len() > 255 {
+        return Ok(Vec::new(alloc));
+    }
+    let owner = owner_bytes(alloc, kind, name)?;
+    let count = keeper.count(&owner);
+    Ok(count_text(alloc, count as usize)?)
+}
+
 fn committed<K: Keeper>(
     alloc: Global,
     keeper: &mut K,
     changes: &[Change],
 ) -> Result<Vec<u8>, KeepFault>
-    requires { TakesAll (K.view keeper.old) }
-    ensures takes { OnOk result (TakesAll (K.view keeper.new)) }
+    requires { AcceptsChanges (K.view keeper.old) }
+    ensures takes { OnOk result (AcceptsChanges (K.view keeper.new)) }
     ensures beside { (K.view keeper.new).beside ≡ (K.view keeper.old).beside }
     ensures lender { (K.view keeper.new).fixed.lender ≡ (K.view keeper.old).fixed.lender }
 {
@@ -100,8 +126,8 @@ fn committed<K: Keeper>(
 }
 
 fn heard<K: Keeper>(alloc: Global, keeper: &mut K, count: usize) -> Result<Vec<u8>, KeepFault>
-    requires { TakesAll (K.view keeper.old) }
-    ensures { OnOk result (TakesAll (K.view keeper.new)) }
+    requires { AcceptsChanges (K.view keeper.old) }
+    ensures { OnOk result (AcceptsChanges (K.view keeper.new)) }
 {
     let mut bytes = zeros(alloc, count)?;
     if count == 0 {
@@ -123,8 +149,8 @@ fn zeros(alloc: Global, count: usize) -> Result<Vec<u8>, Memory>
 }
 
 fn said<K: Keeper>(alloc: Global, keeper: &mut K, text: &str) -> Result<Vec<u8>, KeepFault>
-    requires { TakesAll (K.view keeper.old) }
-    ensures { OnOk result (TakesAll (K.view keeper.new)) }
+    requires { AcceptsChanges (K.view keeper.old) }
+    ensures { OnOk result (AcceptsChanges (K.view keeper.new)) }
 {
     if text.is_empty() {
         return Ok(Vec::new(alloc));
@@ -136,12 +162,13 @@ fn said<K: Keeper>(alloc: Global, keeper: &mut K, text: &str) -> Result<Vec<u8>,
 }
 
 fn answer<K: Keeper>(alloc: Global, keeper: &mut K, call: Call) -> Result<Vec<u8>, KeepFault>
-    requires { TakesAll (K.view keeper.old) }
-    ensures { OnOk result (TakesAll (K.view keeper.new)) }
+    requires { AcceptsChanges (K.view keeper.old) }
+    ensures { OnOk result (AcceptsChanges (K.view keeper.new)) }
 {
     match call {
         Call::Fetch(key) => fetched(alloc, keeper, key),
         Call::Next(key) => next_key(alloc, keeper, key),
+        Call::Count(kind, name) => counted(alloc, keeper, kind, name),
         Call::Commit(changes) => committed(alloc, keeper, changes),
         Call::Hear(count) => heard(alloc, keeper, count),
         Call::Say(text) => said(alloc, keeper, text),
@@ -150,7 +177,7 @@ fn answer<K: Keeper>(alloc: Global, keeper: &mut K, call: Call) -> Result<Vec<u8
 
 /// The answers, with a blank behind each.
 fn answers<K: Keeper>(alloc: Global, keeper: &mut K, calls: &[Call]) -> Result<Vec<u8>, KeepFault>
-    requires { TakesAll (K.view keeper.old) }
+    requires { AcceptsChanges (K.view keeper.old) }
 {
     let mut all = Vec::new(alloc);
     for call in calls {
@@ -243,6 +270,49 @@ const ROWS: &[Row] = &[
         answers: ". a ab ab b - ",
         said: "",
     },
+    // the entries of several owners, after they are put, replaced, refused and removed; an entry of the prefix itself is none
+    Row {
+        limit: 320,
+        calls: &[
+            Call::Count(b'n', "t"),
+            Call::Commit(&[
+                ("n\u{1}ta", Some(1)),
+                ("n\u{1}tbc", Some(1)),
+                ("n\u{1}u", Some(0)),
+                ("n\u{1}ua", Some(2)),
+                ("x\u{1}ta", Some(3)),
+            ]),
+            Call::Count(b'n', "t"),
+            Call::Count(b'n', "u"),
+            Call::Count(b'x', "t"),
+            Call::Commit(&[("n\u{1}ta", Some(9)), ("n\u{1}ta", Some(8))]),
+            Call::Count(b'n', "t"),
+            Call::Commit(&[
+                ("n\u{1}tb", Some(1)),
+                ("n\u{1}ta", Some(7)),
+                ("n\u{1}ua", None),
+                ("v\u{1}ta", Some(1)),
+            ]),
+            Call::Count(b'n', "t"),
+            Call::Count(b'n', "u"),
+            Call::Count(b'v', "t"),
+            Call::Commit(&[
+                ("n\u{1}ta", None),
+                ("n\u{1}ta", Some(4)),
+                ("n\u{1}tbc", None),
+                ("n\u{1}tx", None),
+                ("n\u{1}ua", None),
+                ("v\u{0}a", Some(1)),
+            ]),
+            Call::Count(b'n', "t"),
+            Call::Count(b'n', "u"),
+            Call::Count(b'x', "t"),
+            Call::Count(b'v', ""),
+            Call::Count(b'x', ""),
+        ],
+        answers: "0 . 2 1 1 . 2 full 2 1 0 . 1 0 1 1 0 ",
+        said: "",
+    },
     // a script in pieces, and what is said up to its room
     Row {
         limit: 0,
@@ -305,7 +375,7 @@ fn a_keeper_in_memory_over_a_site(rt: HostRuntime) -> Result<(), Fail> {
 
 /// Commits an entry and says some bytes, as a call that takes any keeper does.
 fn use_keeper<K: Keeper>(alloc: Global, keeper: &mut K, bytes: &[u8]) -> Result<usize, Failed>
-    requires takes { TakesAll (K.view keeper.old) }
+    requires takes { AcceptsChanges (K.view keeper.old) }
     requires some { 0 < length bytes.now }
     ensures said { (K.view keeper.new).beside.said ≡ with_suffix (K.view keeper.old).beside.said (took result bytes.now) }
     ensures left { (K.view keeper.new).beside.left ≡ (K.view keeper.old).beside.left }
@@ -349,5 +419,27 @@ fn a_content_over_its_limit_may_shrink(rt: HostRuntime) -> Result<(), Fail> {
         return Err(Fail::from(Memory));
     };
     assert_eq!(rt; value.len(), 400);
+    Ok(())
+}
+
+/// Where there is no memory for a commit, the counts stay; run with each of its allocations failing in turn.
+#[test]
+fn counts_go_by_what_is_committed(rt: HostRuntime) -> Result<(), Fail> {
+    let alloc = rt.alloc();
+    let owner = owner_bytes(alloc, b'n', "t")?;
+    let other = owner_bytes(alloc, b'm', "t")?;
+    let mut keeper = MemKeeper::new(alloc, Vec::new(alloc), 1000, 0)?;
+    let first = batch_of(alloc, &[("n\u{1}ta", Some(1)), ("n\u{1}tb", Some(1))])?;
+    keeper.commit(alloc, first)?;
+    let changes = [
+        ("n\u{1}tc", Some(1)),
+        ("n\u{1}td", Some(1)),
+        ("m\u{1}ta", Some(1)),
+        ("n\u{1}ta", None),
+    ];
+    let second = batch_of(alloc, &changes)?;
+    let is_done = keeper.commit(alloc, second).is_ok();
+    assert_eq!(rt; keeper.count(&owner), if is_done { 3 } else { 2 });
+    assert_eq!(rt; keeper.count(&other), u64::from(is_done));
     Ok(())
 }

@@ -4,7 +4,7 @@ use Rattle.std.specs.Prelude.{not, ◌||◌, true, false, nat_lt, nat_le}
 use Rattle.std.proofs.lemmas.List.{take_all, drop_at}
 use Rattle.ct_site.specs.declared.logs.Entry.{Entry}
 use Rattle.ct_site.specs.declared.logs.Entry.TheVariants.{Write, Sync, Say}
-use Rattle.ct_site.specs.Histories.{Change, Wrote, Synced, Said}
+use Rattle.ct_site.specs.Histories.{DiskChange, Wrote, Synced, Said}
 use Rattle.ct_site.specs.Logs.{all_written, all_said, changes_of, changes_of-push, changes_of-written, changes_of-said}
 
 pub below : (n room : ℕ) → nat_lt n room ≡ not (nat_lt room (n + 1))
@@ -20,13 +20,13 @@ pushed_sync es es' w s is = ap (λ (l : List Entry). changes_of l w s) is ∙ ch
 pub pushed_write : (es es' : List Entry) (at n : ℕ) (w w' b s : List ℕ) → es' ≡ es ++ Write at n ∷ [] → n ≡ length b → w' ≡ w ++ b → all_written es ≡ length w → changes_of es' w' s ≡ changes_of es w s ++ Wrote at b ∷ []
 pushed_write es es' at n w w' b s is count more all =
     ap (λ (l : List Entry). changes_of l w' s) is ∙ ap (λ (l : List ℕ). changes_of (es ++ Write at n ∷ []) l s) more ∙ changes_of-push es (Write at n) (w ++ b) s
-    ∙ ap (λ (cs : List Change). cs ++ Wrote at (take n (drop (all_written es) (w ++ b))) ∷ []) (changes_of-written es w b s (omega (arith, all)))
+    ∙ ap (λ (cs : List DiskChange). cs ++ Wrote at (take n (drop (all_written es) (w ++ b))) ∷ []) (changes_of-written es w b s (omega (arith, all)))
     ∙ ap (λ (l : List ℕ). changes_of es w s ++ Wrote at l ∷ []) (ap (λ (l : List ℕ). take n l) (drop_at w b (all_written es) (sym all)) ∙ take_all n b (omega (arith, count)))
 
 pub pushed_say : (es es' : List Entry) (n : ℕ) (w s s' b : List ℕ) → es' ≡ es ++ Say n ∷ [] → n ≡ length b → s' ≡ s ++ b → all_said es ≡ length s → changes_of es' w s' ≡ changes_of es w s ++ Said b ∷ []
 pushed_say es es' n w s s' b is count more all =
     ap (λ (l : List Entry). changes_of l w s') is ∙ ap (λ (l : List ℕ). changes_of (es ++ Say n ∷ []) w l) more ∙ changes_of-push es (Say n) w (s ++ b)
-    ∙ ap (λ (cs : List Change). cs ++ Said (take n (drop (all_said es) (s ++ b))) ∷ []) (changes_of-said es w s b (omega (arith, all)))
+    ∙ ap (λ (cs : List DiskChange). cs ++ Said (take n (drop (all_said es) (s ++ b))) ∷ []) (changes_of-said es w s b (omega (arith, all)))
     ∙ ap (λ (l : List ℕ). changes_of es w s ++ Said l ∷ []) (ap (λ (l : List ℕ). take n l) (drop_at s b (all_said es) (sym all)) ∙ take_all n b (omega (arith, count)))
 
 -- ---- the room for an image, where no room is passed

@@ -7,30 +7,34 @@ use Rattle.ct_site.specs.Images.{written, Torn}
 use Rattle.ct_site.specs.Pieces.{torn_written}
 use Rattle.ct_site.specs.Hearings.{Hearing, WasCalled, with_present, present_there, present_adds, present_keeps}
 use Rattle.ct_site.specs.Disks.{DiskView, Beside, IsNow, Follows, Works, Leaves, Asks, Hears, Says}
-use Rattle.ct_site.specs.Histories.{Change, Wrote, Synced, Said, DiskState, begun, next, after, said_in, said_by, after-push, said_by-push, image_left, timeline, moment_now, left_now, said_now, keeps_push, passes_push}
-use Rattle.ct_site.specs.Memory.{MemState, view_of, image_of, said_of, hearings_of, wrote, synced, spoken, heard, hear_failed}
+use Rattle.ct_site.specs.Histories.{DiskChange, Wrote, Synced, Said, DiskState, begun, next, disk_after, said_in, said_by, after-push, said_by-push, image_left, timeline, moment_now, left_now, said_now, keeps_push, passes_push}
+use Rattle.ct_site.specs.Memory.{MemState, memory_view, image_of, said_of, hearings_of, wrote, after_sync, after_say, heard, hear_failed}
 
 some_same : {x y : List ℕ} → Some x ≡ Some y → x ≡ y
 some_same e = cc
 
+-- a crash may leave what a read gives
+pub may_stay : (s : MemState) (image : List ℕ) → (memory_view s).image ≡ Some image → (memory_view s).may_leave image
+may_stay s image is = subst (memory_view s).may_leave (some_same is) (image_left (begun s.first) s.log refl)
+
 -- the present is a moment, and since now the only one
-pub counts_now : (s : MemState) (t : ℕ) (image said : List ℕ) → t ≤ length s.log → IsNow (view_of s) image said → (view_of s).time.since t image said
+pub counts_now : (s : MemState) (t : ℕ) (image said : List ℕ) → t ≤ length s.log → IsNow (memory_view s) image said → (memory_view s).time.since t image said
 counts_now s t image said le now = moment_now s.first s.log t image said le now.0 (sym (some_same now.1))
 
-pub only_now : (s : MemState) (image said : List ℕ) → (view_of s).time.since (length s.log) image said → IsNow (view_of s) image said
+pub only_now : (s : MemState) (image said : List ℕ) → (memory_view s).time.since (length s.log) image said → IsNow (memory_view s) image said
 only_now s image said m = (left_now s.first s.log image said m, ap Some (sym (said_now s.first s.log image said m)))
 
 -- what is known after one call more that is logged
-abbrev pub pushed : MemState → Change → DiskView
+abbrev pub pushed : MemState → DiskChange → DiskView
 pushed s c = record {
-  image = Some (next (after (begun s.first) s.log) c).image;
-  may_leave = (next (after (begun s.first) s.log) c).may_leave;
+  image = Some (next (disk_after (begun s.first) s.log) c).image;
+  may_leave = (next (disk_after (begun s.first) s.log) c).may_leave;
   beside = record { left = Some s.left; said = Some (said_by s.log ++ said_in c); hearings = Some (with_present s.hearings s.has_asked s.left (said_by s.log ++ said_in c)); hear_faults = s.hear_faults; say_faults = s.say_faults };
   time = timeline s.first (s.log ++ c ∷ []);
   faults = s.disk_faults;
 }
 
-view_pushed : (s : MemState) (c : Change) → view_of (record s { log = s.log ++ c ∷ [] }) ≡ pushed s c
+view_pushed : (s : MemState) (c : DiskChange) → memory_view (record s { log = s.log ++ c ∷ [] }) ≡ pushed s c
 view_pushed s c =
     let state = after-push (begun s.first) s.log c in
     let said = said_by-push s.log c in
@@ -42,7 +46,7 @@ view_pushed s c =
       faults = s.disk_faults;
     }
 
-works_push : (s : MemState) (c : Change) → said_in c ≡ [] → Works {T = Unit {0}} (view_of s) (pushed s c) (Ok tt)
+works_push : (s : MemState) (c : DiskChange) → said_in c ≡ [] → Works {T = Unit {0}} (memory_view s) (pushed s c) (Ok tt)
 works_push s c nothing = record {
   beside = ap (λ (l : List ℕ). record { left = Some s.left; said = Some l; hearings = Some (with_present s.hearings s.has_asked s.left l); hear_faults = s.hear_faults; say_faults = s.say_faults }) (ap (λ (l : List ℕ). said_by s.log ++ l) nothing ∙ append-nil (said_by s.log));
   untold = λ none. absurd (cc none);
@@ -50,7 +54,7 @@ works_push s c nothing = record {
   cause = record { later = omega arith; passed = refl; failed = tt };
 }
 
-leaves_push : (s : MemState) (c : Change) (P : List ℕ → Type 0) → said_in c ≡ [] → ((image : List ℕ) → (next (after (begun s.first) s.log) c).may_leave image → P image) → Leaves (view_of s) (pushed s c) P
+leaves_push : (s : MemState) (c : DiskChange) (P : List ℕ → Type 0) → said_in c ≡ [] → ((image : List ℕ) → (next (disk_after (begun s.first) s.log) c).may_leave image → P image) → Leaves (memory_view s) (pushed s c) P
 leaves_push s c P nothing here = record {
   beside = (works_push s c nothing).beside;
   time = passes_push s.first s.log c _ (λ image said now told. (here image now, ap Some (sym (told ∙ ap (λ (l : List ℕ). said_by s.log ++ l) nothing ∙ append-nil (said_by s.log)))));
@@ -58,43 +62,43 @@ leaves_push s c P nothing here = record {
 }
 
 -- ---- a write
-crash_pushed : (s : MemState) (at : ℕ) (bytes : List ℕ) → at ≤ length (image_of s) → Follows (Torn at (length bytes)) (view_of s).may_leave (pushed s (Wrote at bytes)).may_leave
+crash_pushed : (s : MemState) (at : ℕ) (bytes : List ℕ) → at ≤ length (image_of s) → Follows (Torn at (length bytes)) (memory_view s).may_leave (pushed s (Wrote at bytes)).may_leave
 crash_pushed s at bytes within x (inl is) = (image_of s, image_left (begun s.first) s.log refl, subst (λ (y : List ℕ). Torn at (length bytes) (image_of s) y) (sym is) (torn_written at bytes (image_of s) within))
 crash_pushed s at bytes within x (inr torn) = (torn.from, torn.left, torn.torn)
 
-pub write_works : (s : MemState) (at : ℕ) (bytes : List ℕ) → Works {T = Unit {0}} (view_of s) (view_of (wrote s at bytes)) (Ok tt)
-write_works s at bytes = subst (λ (v : DiskView). Works {T = Unit {0}} (view_of s) v (Ok tt)) (sym (view_pushed s (Wrote at bytes))) (works_push s (Wrote at bytes) refl)
+pub write_works : (s : MemState) (at : ℕ) (bytes : List ℕ) → Works {T = Unit {0}} (memory_view s) (memory_view (wrote s at bytes)) (Ok tt)
+write_works s at bytes = subst (λ (v : DiskView). Works {T = Unit {0}} (memory_view s) v (Ok tt)) (sym (view_pushed s (Wrote at bytes))) (works_push s (Wrote at bytes) refl)
 
-pub write_leaves : (s : MemState) (at : ℕ) (bytes : List ℕ) → Leaves (view_of s) (view_of (wrote s at bytes)) (view_of (wrote s at bytes)).may_leave
-write_leaves s at bytes = subst (λ (v : DiskView). Leaves (view_of s) v v.may_leave) (sym (view_pushed s (Wrote at bytes))) (leaves_push s (Wrote at bytes) _ refl (λ image now. now))
+pub write_leaves : (s : MemState) (at : ℕ) (bytes : List ℕ) → Leaves (memory_view s) (memory_view (wrote s at bytes)) (memory_view (wrote s at bytes)).may_leave
+write_leaves s at bytes = subst (λ (v : DiskView). Leaves (memory_view s) v v.may_leave) (sym (view_pushed s (Wrote at bytes))) (leaves_push s (Wrote at bytes) _ refl (λ image now. now))
 
-pub write_crash : (s : MemState) (at : ℕ) (bytes : List ℕ) → at ≤ length (image_of s) → Follows (Torn at (length bytes)) (view_of s).may_leave (view_of (wrote s at bytes)).may_leave
-write_crash s at bytes within = subst (λ (v : DiskView). Follows (Torn at (length bytes)) (view_of s).may_leave v.may_leave) (sym (view_pushed s (Wrote at bytes))) (crash_pushed s at bytes within)
+pub write_crash : (s : MemState) (at : ℕ) (bytes : List ℕ) → at ≤ length (image_of s) → Follows (Torn at (length bytes)) (memory_view s).may_leave (memory_view (wrote s at bytes)).may_leave
+write_crash s at bytes within = subst (λ (v : DiskView). Follows (Torn at (length bytes)) (memory_view s).may_leave v.may_leave) (sym (view_pushed s (Wrote at bytes))) (crash_pushed s at bytes within)
 
 pub write_image : (s : MemState) (at : ℕ) (bytes : List ℕ) → image_of (wrote s at bytes) ≡ written at bytes (image_of s)
 write_image s at bytes = ap (λ (d : DiskState). d.image) (after-push (begun s.first) s.log (Wrote at bytes))
 
 -- ---- a sync
-only_image : (s : MemState) (x : List ℕ) → x ≡ image_of s → (view_of s).may_leave x
-only_image s x is = subst (view_of s).may_leave (sym is) (image_left (begun s.first) s.log refl)
+only_image : (s : MemState) (x : List ℕ) → x ≡ image_of s → (memory_view s).may_leave x
+only_image s x is = subst (memory_view s).may_leave (sym is) (image_left (begun s.first) s.log refl)
 
-pub sync_works : (s : MemState) → Works {T = Unit {0}} (view_of s) (view_of (synced s)) (Ok tt)
-sync_works s = subst (λ (v : DiskView). Works {T = Unit {0}} (view_of s) v (Ok tt)) (sym (view_pushed s Synced)) (works_push s Synced refl)
+pub sync_works : (s : MemState) → Works {T = Unit {0}} (memory_view s) (memory_view (after_sync s)) (Ok tt)
+sync_works s = subst (λ (v : DiskView). Works {T = Unit {0}} (memory_view s) v (Ok tt)) (sym (view_pushed s Synced)) (works_push s Synced refl)
 
-pub sync_leaves : (s : MemState) → Leaves (view_of s) (view_of (synced s)) (view_of s).may_leave
-sync_leaves s = subst (λ (v : DiskView). Leaves (view_of s) v (view_of s).may_leave) (sym (view_pushed s Synced)) (leaves_push s Synced _ refl (only_image s))
+pub sync_leaves : (s : MemState) → Leaves (memory_view s) (memory_view (after_sync s)) (memory_view s).may_leave
+sync_leaves s = subst (λ (v : DiskView). Leaves (memory_view s) v (memory_view s).may_leave) (sym (view_pushed s Synced)) (leaves_push s Synced _ refl (only_image s))
 
-pub sync_image : (s : MemState) → image_of (synced s) ≡ image_of s
+pub sync_image : (s : MemState) → image_of (after_sync s) ≡ image_of s
 sync_image s = ap (λ (d : DiskState). d.image) (after-push (begun s.first) s.log Synced)
 
-pub sync_durable : (s : MemState) (image x : List ℕ) → Some (image_of s) ≡ Some image → (view_of (synced s)).may_leave x → x ≡ image
+pub sync_durable : (s : MemState) (image x : List ℕ) → Some (image_of s) ≡ Some image → (memory_view (after_sync s)).may_leave x → x ≡ image
 sync_durable s image x told = subst (λ (d : DiskState). d.may_leave x → x ≡ image) (sym (after-push (begun s.first) s.log Synced)) (λ is. is ∙ some_same told)
 
-pub sync_crash : (s : MemState) (x : List ℕ) → (view_of (synced s)).may_leave x → (view_of s).may_leave x
-sync_crash s x = subst (λ (d : DiskState). d.may_leave x → (view_of s).may_leave x) (sym (after-push (begun s.first) s.log Synced)) (only_image s x)
+pub sync_crash : (s : MemState) (x : List ℕ) → (memory_view (after_sync s)).may_leave x → (memory_view s).may_leave x
+sync_crash s x = subst (λ (d : DiskState). d.may_leave x → (memory_view s).may_leave x) (sym (after-push (begun s.first) s.log Synced)) (only_image s x)
 
 -- ---- hearing and saying
-asks_present : (s : MemState) (new : Beside) → new.hearings ≡ Some (with_present s.hearings true s.left (said_of s)) → Asks (view_of s).beside new
+asks_present : (s : MemState) (new : Beside) → new.hearings ≡ Some (with_present s.hearings true s.left (said_of s)) → Asks (memory_view s).beside new
 asks_present s new is = record {
   told = ap is_some is;
   keeps = λ h was. subst (λ (o : Option (List Hearing)). WasCalled o h) (sym is) (present_keeps s.hearings s.has_asked s.left (said_of s) h was);
@@ -117,30 +121,30 @@ told_heard : (s : MemState) (count : ℕ) → hearings_of (heard s count) ≡ wi
 told_heard s zero = refl
 told_heard s (suc n) = rw (some_taken n, not_none n) refl
 
-pub hears_failed : (s : MemState) → Hears [] (view_of s) (view_of (hear_failed s))
+pub hears_failed : (s : MemState) → Hears [] (memory_view s) (memory_view (hear_failed s))
 hears_failed s = record {
   left = refl;
   said = refl;
-  asks = asks_present s (view_of (hear_failed s)).beside refl;
+  asks = asks_present s (memory_view (hear_failed s)).beside refl;
   say_faults = refl;
   same = record { image = refl; crash = λ image now. now; time = adds_nothing_itself (timeline s.first s.log) };
   kept = grows_itself (timeline s.first s.log);
   faults = refl;
 }
 
-pub hears_of : (s : MemState) (bytes : List ℕ) (count : ℕ) → s.left ≡ bytes ++ (heard s count).left → Hears bytes (view_of s) (view_of (heard s count))
+pub hears_of : (s : MemState) (bytes : List ℕ) (count : ℕ) → s.left ≡ bytes ++ (heard s count).left → Hears bytes (memory_view s) (memory_view (heard s count))
 hears_of s bytes count is = record {
   left = ap Some is;
   said = refl;
-  asks = asks_present s (view_of (heard s count)).beside (ap Some (told_heard s count));
+  asks = asks_present s (memory_view (heard s count)).beside (ap Some (told_heard s count));
   say_faults = refl;
   same = record { image = refl; crash = λ image now. now; time = adds_nothing_itself (timeline s.first s.log) };
   kept = grows_itself (timeline s.first s.log);
   faults = refl;
 }
 
-pub says_of : (s : MemState) (bytes : List ℕ) → Says bytes (view_of s) (view_of (spoken s bytes))
-says_of s bytes = subst (λ (v : DiskView). Says bytes (view_of s) v) (sym (view_pushed (record s { hearings = hearings_of s; has_asked = false }) (Said bytes))) (record {
+pub says_of : (s : MemState) (bytes : List ℕ) → Says bytes (memory_view s) (memory_view (after_say s bytes))
+says_of s bytes = subst (λ (v : DiskView). Says bytes (memory_view s) v) (sym (view_pushed (record s { hearings = hearings_of s; has_asked = false }) (Said bytes))) (record {
   said = refl;
   left = refl;
   hearings = refl;

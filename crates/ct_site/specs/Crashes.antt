@@ -6,7 +6,7 @@ use Rattle.ct_site.specs.declared.picks.Pick.TheVariants.{Old, New, Zeros, Ones}
 use Rattle.ct_site.specs.Images.{written, Torn}
 use Rattle.std.proofs.lemmas.List.{length-replicate}
 use Rattle.ct_site.specs.Pieces.{length-written, torn_written, torn_none}
-use Rattle.ct_site.specs.Histories.{Change, Wrote, Synced, Said, DiskState, begun, next, after}
+use Rattle.ct_site.specs.Histories.{DiskChange, Wrote, Synced, Said, DiskState, begun, next, disk_after}
 
 -- what stands in place of bytes that were written
 abbrev pub picked : Pick → List ℕ → List ℕ
@@ -23,26 +23,26 @@ left_with Zeros left at bytes = written at (picked Zeros bytes) left
 left_with Ones left at bytes = written at (picked Ones bytes) left
 
 -- with one call more, where this is what a read gave before it
-abbrev pub left_after : Pick → List ℕ → List ℕ → Change → List ℕ
+abbrev pub left_after : Pick → List ℕ → List ℕ → DiskChange → List ℕ
 left_after pick image left (Wrote at bytes) = left_with pick left at bytes
 left_after pick image left Synced = image
 left_after pick image left (Said bytes) = left
 
-abbrev pub image_after : List ℕ → Change → List ℕ
+abbrev pub image_after : List ℕ → DiskChange → List ℕ
 image_after image (Wrote at bytes) = written at bytes image
 image_after image Synced = image
 image_after image (Said bytes) = image
 
-abbrev pub crash_from : Pick → List ℕ → List ℕ → List Change → List ℕ
+abbrev pub crash_from : Pick → List ℕ → List ℕ → List DiskChange → List ℕ
 crash_from pick image left [] = left
 crash_from pick image left (c ∷ cs) = crash_from pick (image_after image c) (left_after pick image left c) cs
 
 -- what a crash leaves of a first image after these calls
-abbrev pub crashed : Pick → List ℕ → List Change → List ℕ
+abbrev pub crashed : Pick → List ℕ → List DiskChange → List ℕ
 crashed pick first log = crash_from pick first first log
 
 -- Each write begins within the image that is there.
-abbrev pub AreWithin : List ℕ → List Change → Type 0
+abbrev pub AreWithin : List ℕ → List DiskChange → Type 0
 AreWithin image [] = Unit {0}
 AreWithin image (Wrote at bytes ∷ cs) = (at ≤ length image) × AreWithin (written at bytes image) cs
 AreWithin image (Synced ∷ cs) = AreWithin image cs
@@ -91,28 +91,28 @@ long_itself New image = refl
 long_itself Zeros image = refl
 long_itself Ones image = refl
 
-crash_in : (pick : Pick) (s : DiskState) (left : List ℕ) (cs : List Change) → s.may_leave left → IsLong pick s.image left → AreWithin s.image cs → (after s cs).may_leave (crash_from pick s.image left cs)
+crash_in : (pick : Pick) (s : DiskState) (left : List ℕ) (cs : List DiskChange) → s.may_leave left → IsLong pick s.image left → AreWithin s.image cs → (disk_after s cs).may_leave (crash_from pick s.image left cs)
 crash_in pick s left [] may long within = may
 crash_in pick s left (Wrote at bytes ∷ cs) may long within =
     crash_in pick (next s (Wrote at bytes)) (left_with pick left at bytes) cs (inr (record { from = left; left = may; torn = torn_with pick s.image left bytes at long within.0 })) (long_with pick s.image left bytes at long within.0) within.1
 crash_in pick s left (Synced ∷ cs) may long within = crash_in pick (next s Synced) s.image cs refl (long_itself pick s.image) within
 crash_in pick s left (Said bytes ∷ cs) may long within = crash_in pick s left cs may long within
 
-pub crashed_left : (pick : Pick) (first : List ℕ) (log : List Change) → AreWithin first log → (after (begun first) log).may_leave (crashed pick first log)
+pub crashed_left : (pick : Pick) (first : List ℕ) (log : List DiskChange) → AreWithin first log → (disk_after (begun first) log).may_leave (crashed pick first log)
 crashed_left pick first log within = crash_in pick (begun first) first log refl (long_itself pick first) within
 
 -- one write more
-within_push : (s : DiskState) (cs : List Change) (c : Change) → AreWithin s.image cs → AreWithin (after s cs).image (c ∷ []) → AreWithin s.image (cs ++ c ∷ [])
+within_push : (s : DiskState) (cs : List DiskChange) (c : DiskChange) → AreWithin s.image cs → AreWithin (disk_after s cs).image (c ∷ []) → AreWithin s.image (cs ++ c ∷ [])
 within_push s [] c all one = one
 within_push s (Wrote at bytes ∷ cs) c all one = (all.0, within_push (next s (Wrote at bytes)) cs c all.1 one)
 within_push s (Synced ∷ cs) c all one = within_push (next s Synced) cs c all one
 within_push s (Said bytes ∷ cs) c all one = within_push s cs c all one
 
-pub within_after : (first : List ℕ) (log : List Change) (c : Change) → AreWithin first log → AreWithin (after (begun first) log).image (c ∷ []) → AreWithin first (log ++ c ∷ [])
+pub within_after : (first : List ℕ) (log : List DiskChange) (c : DiskChange) → AreWithin first log → AreWithin (disk_after (begun first) log).image (c ∷ []) → AreWithin first (log ++ c ∷ [])
 within_after first log c all one = within_push (begun first) log c all one
 
 -- ---- computed examples: of `abcd`, over which `XY` was written and synced, and then `Z` behind its end
-abbrev example : List Change
+abbrev example : List DiskChange
 example = Wrote 1 (codes "XY") ∷ Synced ∷ Wrote 4 (codes "Z") ∷ []
 
 old_bytes : crashed Old (codes "abcd") example ≡ codes "aXYd"

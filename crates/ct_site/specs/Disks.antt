@@ -116,7 +116,7 @@ pub record Hears (heard : List ℕ) (old new : DiskView) : Type 0 where
   pub kept : Grows old.time new.time
   pub faults : new.faults ≡ old.faults
 
--- Bytes were said, and nothing else was done. A crash among them found some front of them said.
+-- Bytes were said, and nothing else was done. A crash among them found some prefix of them said.
 pub record Says (told : List ℕ) (old new : DiskView) : Type 0 where
   pub said : new.beside.said ≡ with_suffix old.beside.said told
   pub left : new.beside.left ≡ old.beside.left

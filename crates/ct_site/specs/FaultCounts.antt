@@ -9,8 +9,8 @@ abbrev pub raised : ℕ → ℕ
 raised n = min (n + 1) (2 ^ 64 - 1)
 
 -- a count after a call that may have failed
-abbrev pub counted : {T E : Type 0} → Result T E → ℕ → ℕ
-counted result n = if is_err result then raised n else n
+abbrev pub faults_after : {T E : Type 0} → Result T E → ℕ → ℕ
+faults_after result n = if is_err result then raised n else n
 
 -- A call that succeeds leaves its count of faults as it was, and one that fails raises it by one. No count falls.
 pub record CountsFaults {T E : Type 0} (before now : ℕ) (result : Result T E) : Type 0 where
@@ -35,10 +35,10 @@ pub rose_raised : (before now : ℕ) → now ≡ raised before → Rose before n
 rose_raised before now is = omega (arith, is)
 
 -- computed examples
-a_fault : counted {T = ℕ} {E = ℕ} (Err 7) 4 ≡ 5
+a_fault : faults_after {T = ℕ} {E = ℕ} (Err 7) 4 ≡ 5
 a_fault = refl
 
-no_fault : counted {T = ℕ} {E = ℕ} (Ok 7) 4 ≡ 4
+no_fault : faults_after {T = ℕ} {E = ℕ} (Ok 7) 4 ≡ 4
 no_fault = refl
 
 at_its_end : raised (2 ^ 64 - 1) ≡ 2 ^ 64 - 1

@@ -4,7 +4,7 @@ use Rattle.std.proofs.Common.{ap, arith}
 use Rattle.ct_site.specs.Disks.{DiskView}
 
 -- What a read gives is no shorter than it was, and no longer than it was or than `end` bytes.
-pub record Grows (end : ℕ) (old new : DiskView) : Type 0 where
+pub record Lengthens (end : ℕ) (old new : DiskView) : Type 0 where
   pub bounds : (image x : List ℕ) → old.image ≡ Some image → new.image ≡ Some x → (length image ≤ length x) × (length x ≤ max (length image) end)
 
 -- A place within what a read gives, or at its end.
@@ -13,7 +13,7 @@ pub record IsWithin (at : ℕ) (disk : DiskView) : Type 0 where
 
 -- ---- computed example: an image of four bytes that was lengthened by two of the three that were to be written at its end
 module _ (disk : DiskView) where
-  longer : Grows 7 (record disk { image = Some (codes "abcd") }) (record disk { image = Some (codes "abcdXY") })
+  longer : Lengthens 7 (record disk { image = Some (codes "abcd") }) (record disk { image = Some (codes "abcdXY") })
   longer = record {
     bounds = λ image x told given.
         let was : 4 ≡ length image = ap size_of told in

@@ -6,14 +6,14 @@ use Rattle.ct_site.specs.declared.room_sizes.Rooms.{Rooms}
 use Rattle.ct_site.specs.FaultCounts.{raised}
 use Rattle.ct_site.specs.Hearings.{Hearing, with_present}
 use Rattle.ct_site.specs.Disks.{DiskView}
-use Rattle.ct_site.specs.Histories.{Change, Wrote, Synced, Said, begun, after, said_by, timeline}
+use Rattle.ct_site.specs.Histories.{DiskChange, Wrote, Synced, Said, begun, disk_after, said_by, timeline}
 
 pub record MemState : Type 0 where
   -- what is left of the script
   pub left : List ℕ
   -- the image at the beginning, and the calls since then that changed something
   pub first : List ℕ
-  pub log : List Change
+  pub log : List DiskChange
   -- which calls fail, and how much the site can hold
   pub faults : Faults
   pub rooms : Rooms
@@ -34,7 +34,7 @@ pub record MemState : Type 0 where
 
 -- the image as a read gives it, and the bytes said
 abbrev pub image_of : MemState → List ℕ
-image_of s = (after (begun s.first) s.log).image
+image_of s = (disk_after (begun s.first) s.log).image
 
 abbrev pub said_of : MemState → List ℕ
 said_of s = said_by s.log
@@ -44,10 +44,10 @@ abbrev pub hearings_of : MemState → List Hearing
 hearings_of s = with_present s.hearings s.has_asked s.left (said_of s)
 
 -- what a site in memory tells: all
-abbrev pub view_of : MemState → DiskView
-view_of s = record {
+abbrev pub memory_view : MemState → DiskView
+memory_view s = record {
   image = Some (image_of s);
-  may_leave = (after (begun s.first) s.log).may_leave;
+  may_leave = (disk_after (begun s.first) s.log).may_leave;
   beside = record { left = Some s.left; said = Some (said_of s); hearings = Some (hearings_of s); hear_faults = s.hear_faults; say_faults = s.say_faults };
   time = timeline s.first s.log;
   faults = s.disk_faults;
@@ -152,8 +152,8 @@ heard s count = record s {
 }
 
 -- after these bytes were said
-abbrev pub spoken : MemState → List ℕ → MemState
-spoken s bytes = record s {
+abbrev pub after_say : MemState → List ℕ → MemState
+after_say s bytes = record s {
   calls = raised s.calls;
   say_calls = raised s.say_calls;
   log = s.log ++ Said bytes ∷ [];
@@ -174,8 +174,8 @@ wrote s at bytes = record s {
   written_bytes = s.written_bytes + length bytes;
 }
 
-abbrev pub synced : MemState → MemState
-synced s = record s { calls = raised s.calls; disk_calls = raised s.disk_calls; log = s.log ++ Synced ∷ [] }
+abbrev pub after_sync : MemState → MemState
+after_sync s = record s { calls = raised s.calls; disk_calls = raised s.disk_calls; log = s.log ++ Synced ∷ [] }
 
 -- ---- computed examples, on a site whose second hearing, first saying and third call of the disk fail
 abbrev example : MemState
@@ -198,7 +198,7 @@ after_a_fault : hear_failed (heard example 2) ≡ record example {
 after_a_fault = refl
 
 -- the second hearing failed, and was tried again after a saying
-hearings_told : hearings_of (heard (spoken (hear_failed (heard example 2)) (codes "ok")) 1)
+hearings_told : hearings_of (heard (after_say (hear_failed (heard example 2)) (codes "ok")) 1)
     ≡ record { left = codes "abc"; said = [] } ∷ record { left = codes "c"; said = [] } ∷ record { left = codes "c"; said = codes "ok" } ∷ []
 hearings_told = refl
 
@@ -220,7 +220,7 @@ writing_past_room = refl
 third_call : sync_fails (looked (wrote example 0 (codes "z"))) ≡ true
 third_call = refl
 
-third_change : change_passes (synced (spoken example (codes "ok"))) ≡ true
+third_change : change_passes (after_sync (after_say example (codes "ok"))) ≡ true
 third_change = refl
 
 -- on one that stops after two calls

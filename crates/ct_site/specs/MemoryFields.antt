@@ -1,9 +1,9 @@
 -- The fields of a site in memory.
-use Rattle.std.specs.Prelude.{◌≡◌, ℕ, ◌≤◌, ◌+◌, ◌++◌, ◌∷◌, [], List, length, drop, vec_len}
+use Rattle.std.specs.Prelude.{◌≡◌, ℕ, ◌≤◌, ◌+◌, ◌++◌, ◌∷◌, [], List, length, drop, vec_len, refl}
 use Rattle.std.proofs.Common.{ap}
 use Rattle.std.specs.Vec.{vec_capacity}
 use Rattle.ct_site.specs.declared.memory.MemSite.TheInside.{Inside}
-use Rattle.ct_site.specs.Histories.{Change, begun, after, said_by}
+use Rattle.ct_site.specs.Histories.{DiskChange, begun, disk_after, said_by}
 use Rattle.ct_site.specs.Hearings.{Hearing}
 use Rattle.ct_site.specs.Places.{AreUpTo, hearings_at, hearings_at-push}
 use Rattle.ct_site.specs.Crashes.{AreWithin}
@@ -39,7 +39,7 @@ with_log s l = record (state_of s) {
 }
 
 -- a call more that is logged is that alone, where no more was said at the places that are kept than in the calls before
-pub with_log-push : (s : Inside) (c : Change) (written : ℕ) → AreUpTo (length (said_by s.log.changes)) s.hearings.items
+pub with_log-push : (s : Inside) (c : DiskChange) (written : ℕ) → AreUpTo (length (said_by s.log.changes)) s.hearings.items
     → with_log s (record s.log { changes = s.log.changes ++ c ∷ []; written_bytes = written }) ≡ record (state_of s) { log = s.log.changes ++ c ∷ []; written_bytes = written }
 with_log-push s c written within =
     ap (λ (hs : List Hearing). record (state_of s) { log = s.log.changes ++ c ∷ []; written_bytes = written; hearings = hs }) (hearings_at-push s.script.items s.log.changes c s.hearings.items within)
@@ -48,10 +48,14 @@ with_log-push s c written within =
 -- So is the memory for the calls of `hear`, which are kept where a byte was heard or said since.
 pub record IsKept (s : Inside) : Type 0 where
   pub taken : s.taken ≤ length s.script.items
-  pub image : s.image.items ≡ (after (begun s.first.items) s.log.changes).image
+  pub image : s.image.items ≡ (disk_after (begun s.first.items) s.log.changes).image
   pub within : AreWithin s.first.items s.log.changes
   pub image_room : vec_len s.image ≤ s.log.rooms.image
   pub image_memory : s.log.rooms.image ≤ vec_capacity s.image
   pub heard : AreUpTo (length (said_by s.log.changes)) s.hearings.items
   pub heard_few : vec_len s.hearings ≤ s.taken + length s.log.changes
   pub heard_memory : length s.script.items + s.log.rooms.calls ≤ vec_capacity s.hearings
+
+-- computed example: what is left of the script begins behind the bytes that were taken
+left_of_script : (s : Inside) → (state_of s).left ≡ drop s.taken s.script.items
+left_of_script s = refl

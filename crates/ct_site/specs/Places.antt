@@ -2,7 +2,7 @@
 use Rattle.std.specs.Prelude.{◌≡◌, ℕ, ◌≤◌, Bool, true, false, List, [], ◌∷◌, ◌++◌, length, map, drop, take, codes, refl}
 use Rattle.std.proofs.Common.{sym, ap, ◌∙◌, arith, length-append}
 use Rattle.std.proofs.lemmas.List.{take_all, take-append-le, map-append}
-use Rattle.ct_site.specs.Histories.{Change, said_in, said_by, said_by-push}
+use Rattle.ct_site.specs.Histories.{DiskChange, said_in, said_by, said_by-push}
 use Rattle.ct_site.specs.Hearings.{Hearing, with_present}
 use Rattle.ct_site.specs.declared.places.Place.{Place}
 
@@ -48,11 +48,11 @@ up_to_with n places false p h within = within
 up_to_with n places true p h within = up_to_push n places p h within
 
 -- a call more that is logged changes none of them
-pub hearings_at-push : (script : List ℕ) (log : List Change) (c : Change) (places : List Place) → AreUpTo (length (said_by log)) places
+pub hearings_at-push : (script : List ℕ) (log : List DiskChange) (c : DiskChange) (places : List Place) → AreUpTo (length (said_by log)) places
     → hearings_at script (said_by (log ++ c ∷ [])) places ≡ hearings_at script (said_by log) places
 hearings_at-push script log c places within = ap (λ (l : List ℕ). hearings_at script l places) (said_by-push log c) ∙ hearings_at-said script (said_by log) (said_in c) places within
 
-pub up_to_log : (log : List Change) (c : Change) (places : List Place) → AreUpTo (length (said_by log)) places → AreUpTo (length (said_by (log ++ c ∷ []))) places
+pub up_to_log : (log : List DiskChange) (c : DiskChange) (places : List Place) → AreUpTo (length (said_by log)) places → AreUpTo (length (said_by (log ++ c ∷ []))) places
 up_to_log log c places within = up_to_more (length (said_by log)) (length (said_by (log ++ c ∷ []))) places (omega (arith, ap length (said_by-push log c), length-append (said_by log) (said_in c))) within
 
 -- ---- computed examples

@@ -4,10 +4,10 @@ use Rattle.std.specs.Option.{option_map}
 use Rattle.ct_site.specs.declared.outside.Failed.{Failed}
 use Rattle.ct_site.specs.Images.{written, Torn}
 use Rattle.ct_site.specs.Disks.{DiskView, Leaves}
-use Rattle.ct_site.specs.Lengths.{Grows, IsWithin}
+use Rattle.ct_site.specs.Lengths.{Lengthens, IsWithin}
 
 -- An image that a crash may leave of one that it might have left before, after a write of so many bytes that was cut short.
-pub record IsCut (at n : ℕ) (old : DiskView) (image : List ℕ) : Type 0 where
+pub record IsCutShort (at n : ℕ) (old : DiskView) (image : List ℕ) : Type 0 where
   pub before : List ℕ
   pub left : old.may_leave before
   pub torn : Torn at n before image
@@ -15,8 +15,8 @@ pub record IsCut (at n : ℕ) (old : DiskView) (image : List ℕ) : Type 0 where
 -- The bytes were written at this place, in as many writes as it took, and nothing was synced.
 pub record Writes (at : ℕ) (bytes : List ℕ) (old new : DiskView) (result : Result (Unit {0}) Failed) : Type 0 where
   pub written : OnOk result (new.image ≡ option_map (written at bytes) old.image)
-  pub leaves : Leaves old new (IsCut at (length bytes) old)
-  pub grows : Grows (at + length bytes) old new
+  pub leaves : Leaves old new (IsCutShort at (length bytes) old)
+  pub grows : Lengthens (at + length bytes) old new
 
 -- Of all bytes some were written, and these are left, from the place `next` on.
 pub record Progress (at next : ℕ) (all rest : List ℕ) (old now : DiskView) : Type 0 where
@@ -28,7 +28,7 @@ pub record Progress (at next : ℕ) (all rest : List ℕ) (old now : DiskView) :
   pub writes : Writes at done old now (Ok tt)
 
 -- What a read gives has P.
-pub record Gives (P : List ℕ → Type 0) (disk : DiskView) : Type 0 where
+pub record DiskGives (P : List ℕ → Type 0) (disk : DiskView) : Type 0 where
   pub image : List ℕ
   pub is : disk.image ≡ Some image
   pub has : P image

@@ -31,13 +31,13 @@ pub(crate) struct Log {
 }
 
 impl Model for Log {
-    ghost use Rattle.ct_site.specs.Logs.{LogState, log_of, HasRoom};
+    ghost use Rattle.ct_site.specs.Logs.{LogState, log_of, IsLog};
 
     ghost Value = { LogState };
 
     ghost view = { log_of };
 
-    ghost invariant = { HasRoom };
+    ghost invariant = { IsLog };
 }
 
 /// Puts bytes at the end, in memory that is there.

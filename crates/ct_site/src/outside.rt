@@ -5,7 +5,7 @@ ghost use Rattle.std.specs.Option.{option_map};
 ghost use Rattle.ct_base.specs.Told.{took, IsNothing};
 ghost use Rattle.ct_site.specs.FaultCounts.{CountsFaults};
 ghost use Rattle.ct_site.specs.Images.{written, Torn};
-ghost use Rattle.ct_site.specs.Lengths.{Grows};
+ghost use Rattle.ct_site.specs.Lengths.{Lengthens};
 ghost use Rattle.ct_site.specs.Disks.{DiskView, Follows, IsNow, IsSame, Leaves, Works, Hears, Says};
 
 use thiserror::Error;
@@ -47,7 +47,7 @@ pub trait Disk {
         ensures too_far { 2 ^ 43 < at + length bytes.now → IsErr result }
         ensures crash { Follows (Torn at (length bytes.now)) (disk self.old).may_leave (disk self.new).may_leave }
         ensures leaves { Leaves (disk self.old) (disk self.new) (disk self.new).may_leave }
-        ensures grows { Grows (at + length bytes.now) (disk self.old) (disk self.new) }
+        ensures grows { Lengthens (at + length bytes.now) (disk self.old) (disk self.new) }
         ensures works { Works (disk self.old) (disk self.new) result };
 
     /// Makes what was written last: after it a crash leaves what a read gives.
@@ -58,6 +58,9 @@ pub trait Disk {
         ensures leaves { Leaves (disk self.old) (disk self.new) (disk self.old).may_leave }
         ensures works { Works (disk self.old) (disk self.new) result };
 
+    /// A crash may leave what a read gives.
+    ghost may_stay: { (d : Self) (image : List ℕ) → (disk d).image ≡ Some image → (disk d).may_leave image };
+
     /// The present is a moment since each earlier time.
     ghost counts_now: { (d : Self) (t : ℕ) (image said : List ℕ) → t ≤ (disk d).time.clock → IsNow (disk d) image said → (disk d).time.since t image said };
 
@@ -67,7 +70,7 @@ pub trait Disk {
 
 /// A disk beside which a script is heard and replies are said.
 pub trait Site: Disk {
-    /// Takes bytes of the script into the front of `into`, and answers how many. 0 means the end of the script.
+    /// Takes bytes of the script into the beginning of `into`, and answers how many. 0 means the end of the script.
     fn hear(&mut self, into: &mut [u8]) -> Result<usize, Failed>
         requires { 0 < length into.old }
         ensures bound { IfOk result (λ count. count ≤ length into.old) }
@@ -75,7 +78,7 @@ pub trait Site: Disk {
         ensures end { result ≡ Ok 0 → IsNothing (Self.disk self.new).beside.left }
         ensures cause { CountsFaults (Self.disk self.old).beside.hear_faults (Self.disk self.new).beside.hear_faults result };
 
-    /// Says bytes of the front of `bytes`, at least one, and answers how many.
+    /// Says bytes from the beginning of `bytes`, at least one, and answers how many.
     fn say(&mut self, bytes: &[u8]) -> Result<usize, Failed>
         requires { 0 < length bytes.now }
         ensures bound { IfOk result (λ count. count ≤ length bytes.now) }

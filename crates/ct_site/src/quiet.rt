@@ -5,7 +5,7 @@ ghost use Rattle.std.specs.Option.{option_map};
 ghost use Rattle.ct_base.specs.Told.{took, IsNothing};
 ghost use Rattle.ct_site.specs.FaultCounts.{CountsFaults};
 ghost use Rattle.ct_site.specs.Images.{written, Torn};
-ghost use Rattle.ct_site.specs.Lengths.{Grows};
+ghost use Rattle.ct_site.specs.Lengths.{Lengthens};
 ghost use Rattle.ct_site.specs.Disks.{Follows, IsSame, Leaves, Works, Hears, Says};
 
 use crate::fault_lists::Faults;
@@ -67,16 +67,16 @@ impl QuietSite {
 }
 
 impl Disk for QuietSite {
-    ghost use Rattle.ct_site.specs.Memory.{image_of, view_of, change_passes, write_passes, disk_failed, looked, wrote, synced};
-    ghost use Rattle.ct_site.specs.Changing.{counts_now, only_now};
+    ghost use Rattle.ct_site.specs.Memory.{image_of, memory_view, change_passes, write_passes, disk_failed, looked, wrote, after_sync};
+    ghost use Rattle.ct_site.specs.Changing.{may_stay, counts_now, only_now};
 
-    ghost disk = { view_of };
+    ghost disk = { memory_view };
 
     /// How many bytes the image has. It never fails.
     fn size(&mut self) -> Result<u64, Failed>
-        ensures size { (image : List ℕ) → (view_of self.old).image ≡ Some image → IfOk result (λ n. n ≡ length image) }
-        ensures same { IsSame (view_of self.old) (view_of self.new) }
-        ensures works { Works (view_of self.old) (view_of self.new) result }
+        ensures size { (image : List ℕ) → (memory_view self.old).image ≡ Some image → IfOk result (λ n. n ≡ length image) }
+        ensures same { IsSame (memory_view self.old) (memory_view self.new) }
+        ensures works { Works (memory_view self.old) (memory_view self.new) result }
 
         ensures succeeds { IsOk result }
         ensures done { IfOk result (λ n. (n ≡ length (image_of self.old)) × (self.new ≡ looked self.old)) }
@@ -86,10 +86,10 @@ impl Disk for QuietSite {
 
     /// Reads as many bytes as `into` has, from the byte `at` on. It never fails.
     fn read(&mut self, at: u64, into: &mut [u8]) -> Result<(), Failed>
-        requires within { (image : List ℕ) → (view_of self.old).image ≡ Some image → at + length into.old ≤ length image }
-        ensures bytes { (image : List ℕ) → (view_of self.old).image ≡ Some image → OnOk result (into.new ≡ take (length into.old) (drop at image)) }
-        ensures same { IsSame (view_of self.old) (view_of self.new) }
-        ensures works { Works (view_of self.old) (view_of self.new) result }
+        requires within { (image : List ℕ) → (memory_view self.old).image ≡ Some image → at + length into.old ≤ length image }
+        ensures bytes { (image : List ℕ) → (memory_view self.old).image ≡ Some image → OnOk result (into.new ≡ take (length into.old) (drop at image)) }
+        ensures same { IsSame (memory_view self.old) (memory_view self.new) }
+        ensures works { Works (memory_view self.old) (memory_view self.new) result }
 
         ensures succeeds { IsOk result }
         ensures done { OnOk result (self.new ≡ looked self.old) }
@@ -99,14 +99,14 @@ impl Disk for QuietSite {
 
     /// Writes the bytes at this place, and lengthens the image where they end past it.
     fn write_at(&mut self, at: u64, bytes: &[u8]) -> Result<(), Failed>
-        requires within { (image : List ℕ) → (view_of self.old).image ≡ Some image → at ≤ length image }
+        requires within { (image : List ℕ) → (memory_view self.old).image ≡ Some image → at ≤ length image }
         requires some { 0 < length bytes.now }
-        ensures written { OnOk result ((view_of self.new).image ≡ option_map (written at bytes.now) (view_of self.old).image) }
+        ensures written { OnOk result ((memory_view self.new).image ≡ option_map (written at bytes.now) (memory_view self.old).image) }
         ensures too_far { 2 ^ 43 < at + length bytes.now → IsErr result }
-        ensures crash { Follows (Torn at (length bytes.now)) (view_of self.old).may_leave (view_of self.new).may_leave }
-        ensures leaves { Leaves (view_of self.old) (view_of self.new) (view_of self.new).may_leave }
-        ensures grows { Grows (at + length bytes.now) (view_of self.old) (view_of self.new) }
-        ensures works { Works (view_of self.old) (view_of self.new) result }
+        ensures crash { Follows (Torn at (length bytes.now)) (memory_view self.old).may_leave (memory_view self.new).may_leave }
+        ensures leaves { Leaves (memory_view self.old) (memory_view self.new) (memory_view self.new).may_leave }
+        ensures grows { Lengthens (at + length bytes.now) (memory_view self.old) (memory_view self.new) }
+        ensures works { Works (memory_view self.old) (memory_view self.new) result }
 
         ensures fails { IsErr result ↔ IsTrue (write_passes self.old at (length bytes.now)) }
         ensures done { OnOk result (self.new ≡ wrote self.old at bytes.now) }
@@ -117,18 +117,20 @@ impl Disk for QuietSite {
 
     /// Makes what was written last.
     fn sync(&mut self) -> Result<(), Failed>
-        ensures durable { (image : List ℕ) → (view_of self.old).image ≡ Some image → OnOk result ((left : List ℕ) → (view_of self.new).may_leave left → left ≡ image) }
-        ensures image { (view_of self.new).image ≡ (view_of self.old).image }
-        ensures crash { (left : List ℕ) → (view_of self.new).may_leave left → (view_of self.old).may_leave left }
-        ensures leaves { Leaves (view_of self.old) (view_of self.new) (view_of self.old).may_leave }
-        ensures works { Works (view_of self.old) (view_of self.new) result }
+        ensures durable { (image : List ℕ) → (memory_view self.old).image ≡ Some image → OnOk result ((left : List ℕ) → (memory_view self.new).may_leave left → left ≡ image) }
+        ensures image { (memory_view self.new).image ≡ (memory_view self.old).image }
+        ensures crash { (left : List ℕ) → (memory_view self.new).may_leave left → (memory_view self.old).may_leave left }
+        ensures leaves { Leaves (memory_view self.old) (memory_view self.new) (memory_view self.old).may_leave }
+        ensures works { Works (memory_view self.old) (memory_view self.new) result }
 
         ensures fails { IsErr result ↔ IsTrue (change_passes self.old) }
-        ensures done { OnOk result (self.new ≡ synced self.old) }
+        ensures done { OnOk result (self.new ≡ after_sync self.old) }
         ensures failed { OnErr result (self.new ≡ disk_failed self.old) }
     {
         self.site.sync()
     }
+
+    ghost may_stay = { may_stay };
 
     ghost counts_now = { counts_now };
 
@@ -136,14 +138,14 @@ impl Disk for QuietSite {
 }
 
 impl Site for QuietSite {
-    ghost use Rattle.ct_site.specs.Memory.{view_of, say_passes, say_failed, heard, spoken};
+    ghost use Rattle.ct_site.specs.Memory.{memory_view, say_passes, say_failed, heard, after_say};
 
-    /// Takes bytes of the script into the front of `into`: as many as there are and fit. It never fails.
+    /// Takes bytes of the script into the beginning of `into`: as many as there are and fit. It never fails.
     fn hear(&mut self, into: &mut [u8]) -> Result<usize, Failed>
         requires { 0 < length into.old }
         ensures bound { IfOk result (λ count. count ≤ length into.old) }
-        ensures hears { Hears (took result into.new) (view_of self.old) (view_of self.new) }
-        ensures end { result ≡ Ok 0 → IsNothing (view_of self.new).beside.left }
+        ensures hears { Hears (took result into.new) (memory_view self.old) (memory_view self.new) }
+        ensures end { result ≡ Ok 0 → IsNothing (memory_view self.new).beside.left }
         ensures cause { CountsFaults self.old.hear_faults self.new.hear_faults result }
 
         ensures succeeds { IsOk result }
@@ -159,11 +161,11 @@ impl Site for QuietSite {
         requires { 0 < length bytes.now }
         ensures bound { IfOk result (λ count. count ≤ length bytes.now) }
         ensures some { IfOk result (λ count. 0 < count) }
-        ensures says { Says (took result bytes.now) (view_of self.old) (view_of self.new) }
+        ensures says { Says (took result bytes.now) (memory_view self.old) (memory_view self.new) }
         ensures cause { CountsFaults self.old.say_faults self.new.say_faults result }
 
         ensures fails { IsErr result ↔ IsTrue (say_passes self.old (length bytes.now)) }
-        ensures done { IfOk result (λ count. (count ≡ length bytes.now) × (self.new ≡ spoken self.old bytes.now)) }
+        ensures done { IfOk result (λ count. (count ≡ length bytes.now) × (self.new ≡ after_say self.old bytes.now)) }
         ensures failed { OnErr result (self.new ≡ say_failed self.old) }
     {
         self.site.say(bytes)

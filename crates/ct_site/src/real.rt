@@ -5,7 +5,7 @@ ghost use Rattle.std.specs.Option.{option_map};
 ghost use Rattle.ct_base.specs.Told.{took, IsNothing};
 ghost use Rattle.ct_site.specs.FaultCounts.{CountsFaults};
 ghost use Rattle.ct_site.specs.Images.{written, Torn};
-ghost use Rattle.ct_site.specs.Lengths.{Grows};
+ghost use Rattle.ct_site.specs.Lengths.{Lengthens};
 ghost use Rattle.ct_site.specs.Disks.{Follows, IsSame, Leaves, Works, Hears, Says};
 
 use crate::counts::count_fault;
@@ -96,15 +96,15 @@ fn sync_all<F: Write + OpenFile>(file: &mut F) -> io::Result<()> {
 }
 
 impl<R: Input + Print + Files> Disk for RealSite<'_, R> {
-    ghost use Rattle.ct_site.specs.Real.{view_of, UsesFile};
+    ghost use Rattle.ct_site.specs.Real.{real_view, UsesFile, may_stay};
 
-    ghost disk = { view_of };
+    ghost disk = { real_view };
 
     /// How many bytes the file has.
     fn size(&mut self) -> Result<u64, Failed>
-        ensures size { (image : List ℕ) → (view_of self.old).image ≡ Some image → IfOk result (λ n. n ≡ length image) }
-        ensures same { IsSame (view_of self.old) (view_of self.new) }
-        ensures works { Works (view_of self.old) (view_of self.new) result }
+        ensures size { (image : List ℕ) → (real_view self.old).image ≡ Some image → IfOk result (λ n. n ≡ length image) }
+        ensures same { IsSame (real_view self.old) (real_view self.new) }
+        ensures works { Works (real_view self.old) (real_view self.new) result }
         ensures uses { UsesFile self.old self.new result }
     {
         if let Some(file) = opened(self.rt, self.path, &mut self.file)
@@ -117,10 +117,10 @@ impl<R: Input + Print + Files> Disk for RealSite<'_, R> {
 
     /// Reads as many bytes as `into` has, from the byte `at` on.
     fn read(&mut self, at: u64, into: &mut [u8]) -> Result<(), Failed>
-        requires within { (image : List ℕ) → (view_of self.old).image ≡ Some image → at + length into.old ≤ length image }
-        ensures bytes { (image : List ℕ) → (view_of self.old).image ≡ Some image → OnOk result (into.new ≡ take (length into.old) (drop at image)) }
-        ensures same { IsSame (view_of self.old) (view_of self.new) }
-        ensures works { Works (view_of self.old) (view_of self.new) result }
+        requires within { (image : List ℕ) → (real_view self.old).image ≡ Some image → at + length into.old ≤ length image }
+        ensures bytes { (image : List ℕ) → (real_view self.old).image ≡ Some image → OnOk result (into.new ≡ take (length into.old) (drop at image)) }
+        ensures same { IsSame (real_view self.old) (real_view self.new) }
+        ensures works { Works (real_view self.old) (real_view self.new) result }
         ensures uses { UsesFile self.old self.new result }
     {
         if let Some(file) = opened(self.rt, self.path, &mut self.file)
@@ -133,14 +133,14 @@ impl<R: Input + Print + Files> Disk for RealSite<'_, R> {
 
     /// Writes the bytes at this place, and lengthens the file where they end past it.
     fn write_at(&mut self, at: u64, bytes: &[u8]) -> Result<(), Failed>
-        requires within { (image : List ℕ) → (view_of self.old).image ≡ Some image → at ≤ length image }
+        requires within { (image : List ℕ) → (real_view self.old).image ≡ Some image → at ≤ length image }
         requires some { 0 < length bytes.now }
-        ensures written { OnOk result ((view_of self.new).image ≡ option_map (written at bytes.now) (view_of self.old).image) }
+        ensures written { OnOk result ((real_view self.new).image ≡ option_map (written at bytes.now) (real_view self.old).image) }
         ensures too_far { 2 ^ 43 < at + length bytes.now → IsErr result }
-        ensures crash { Follows (Torn at (length bytes.now)) (view_of self.old).may_leave (view_of self.new).may_leave }
-        ensures leaves { Leaves (view_of self.old) (view_of self.new) (view_of self.new).may_leave }
-        ensures grows { Grows (at + length bytes.now) (view_of self.old) (view_of self.new) }
-        ensures works { Works (view_of self.old) (view_of self.new) result }
+        ensures crash { Follows (Torn at (length bytes.now)) (real_view self.old).may_leave (real_view self.new).may_leave }
+        ensures leaves { Leaves (real_view self.old) (real_view self.new) (real_view self.new).may_leave }
+        ensures grows { Lengthens (at + length bytes.now) (real_view self.old) (real_view self.new) }
+        ensures works { Works (real_view self.old) (real_view self.new) result }
         ensures uses { UsesFile self.old self.new result }
     {
         if bytes.len() as u64 <= LONGEST.saturating_sub(at)
@@ -154,11 +154,11 @@ impl<R: Input + Print + Files> Disk for RealSite<'_, R> {
 
     /// Makes what was written last. The entry of a new file in its folder isn't made last by it.
     fn sync(&mut self) -> Result<(), Failed>
-        ensures durable { (image : List ℕ) → (view_of self.old).image ≡ Some image → OnOk result ((left : List ℕ) → (view_of self.new).may_leave left → left ≡ image) }
-        ensures image { (view_of self.new).image ≡ (view_of self.old).image }
-        ensures crash { (left : List ℕ) → (view_of self.new).may_leave left → (view_of self.old).may_leave left }
-        ensures leaves { Leaves (view_of self.old) (view_of self.new) (view_of self.old).may_leave }
-        ensures works { Works (view_of self.old) (view_of self.new) result }
+        ensures durable { (image : List ℕ) → (real_view self.old).image ≡ Some image → OnOk result ((left : List ℕ) → (real_view self.new).may_leave left → left ≡ image) }
+        ensures image { (real_view self.new).image ≡ (real_view self.old).image }
+        ensures crash { (left : List ℕ) → (real_view self.new).may_leave left → (real_view self.old).may_leave left }
+        ensures leaves { Leaves (real_view self.old) (real_view self.new) (real_view self.old).may_leave }
+        ensures works { Works (real_view self.old) (real_view self.new) result }
         ensures uses { UsesFile self.old self.new result }
     {
         if let Some(file) = opened(self.rt, self.path, &mut self.file)
@@ -169,23 +169,25 @@ impl<R: Input + Print + Files> Disk for RealSite<'_, R> {
         Err(count_fault(&mut self.disk_faults))
     }
 
+    ghost may_stay = { may_stay };
+
     ghost counts_now = { λ s t image said le now. now.0 };
 
     ghost only_now = { λ s image said now. absurd now };
 }
 
 impl<R: Input + Print + Files> Site for RealSite<'_, R> {
-    ghost use Rattle.ct_site.specs.FaultCounts.{counted};
-    ghost use Rattle.ct_site.specs.Real.{view_of};
+    ghost use Rattle.ct_site.specs.FaultCounts.{faults_after};
+    ghost use Rattle.ct_site.specs.Real.{real_view};
 
     /// One read of standard input. A read that fails or is interrupted is a fault.
     fn hear(&mut self, into: &mut [u8]) -> Result<usize, Failed>
         requires { 0 < length into.old }
         ensures bound { IfOk result (λ count. count ≤ length into.old) }
-        ensures hears { Hears (took result into.new) (view_of self.old) (view_of self.new) }
-        ensures end { result ≡ Ok 0 → IsNothing (view_of self.new).beside.left }
+        ensures hears { Hears (took result into.new) (real_view self.old) (real_view self.new) }
+        ensures end { result ≡ Ok 0 → IsNothing (real_view self.new).beside.left }
         ensures cause { CountsFaults self.old.hear_faults self.new.hear_faults result }
-        ensures counted { self.new ≡ record self.old { hear_faults = counted result self.old.hear_faults } }
+        ensures faults_after { self.new ≡ record self.old { hear_faults = faults_after result self.old.hear_faults } }
     {
         if self.input.is_none() {
             self.input = Some(self.rt.reader());
@@ -204,9 +206,9 @@ impl<R: Input + Print + Files> Site for RealSite<'_, R> {
         requires { 0 < length bytes.now }
         ensures bound { IfOk result (λ count. count ≤ length bytes.now) }
         ensures some { IfOk result (λ count. 0 < count) }
-        ensures says { Says (took result bytes.now) (view_of self.old) (view_of self.new) }
+        ensures says { Says (took result bytes.now) (real_view self.old) (real_view self.new) }
         ensures cause { CountsFaults self.old.say_faults self.new.say_faults result }
-        ensures counted { self.new ≡ record self.old { say_faults = counted result self.old.say_faults } }
+        ensures faults_after { self.new ≡ record self.old { say_faults = faults_after result self.old.say_faults } }
     {
         match self.rt.write_some(bytes) {
             Ok(count) if count > 0 => Ok(count),

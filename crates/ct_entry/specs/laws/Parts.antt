@@ -10,6 +10,7 @@ use Rattle.std.proofs.lemmas.Map.Lookups.{exact_signed}
 use Rattle.ct_bytes.specs.RowKeys.{row_bytes}
 use Rattle.ct_bytes.specs.laws.RowKeys.{row_bytes_one, length-row_bytes}
 use Rattle.ct_bytes.specs.laws.Numbers.{four_bytes_one}
+use Rattle.ct_keep.specs.Content.{key_limit}
 use Rattle.ct_entry.specs.declared.kinds.Kind.{Kind}
 use Rattle.ct_entry.specs.declared.kinds.Kind.TheVariants.{Tables, RowNumbers, RowTexts, Preferences, Stoplists, SectionGroups, IndexSets, Thesauri, Relations, Indexes, DocumentRows, RowDocuments, Pending, Postings, Spans, Catalogue, Rules, Anchors, RuleFaults}
 use Rattle.ct_base.specs.laws.Names.{name_length}
@@ -118,8 +119,8 @@ part_is_short Rules p is h = omega (arith, ap length is.2, length-row_bytes is.0
 part_is_short Anchors p is h = let short = is.1.1 in omega (arith, simp length-append at (ap length is.1.3), length-row_bytes is.1.0)
 part_is_short RuleFaults p is h = omega (arith, ap length is.2, length-row_bytes is.0)
 
--- a key has 1 to 600 bytes, as an entry must
-pub key_is_short : (k : Key) → IsKey k → is_short k.kind ≡ true → (1 ≤ length (bytes k)) × (length (bytes k) ≤ 600)
+-- a key has as many bytes as an entry must
+pub key_is_short : (k : Key) → IsKey k → is_short k.kind ≡ true → (1 ≤ length (bytes k)) × (length (bytes k) ≤ key_limit)
 key_is_short k is h =
     let owner = name_length k.owner is.owner in
     let part : length k.part ≤ 568 = part_is_short k.kind k.part is.part h in

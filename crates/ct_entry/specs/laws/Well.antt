@@ -2,8 +2,8 @@
 use Rattle.std.proofs.Common.{◌≡◌, ℕ, ◌+◌, ◌<◌, ◌≤◌, Bool, true, List, [], ◌∷◌, ◌++◌, length, map, take, get_or, Option, Some, None, sym, ap, subst, ◌∙◌}
 use Rattle.std.proofs.lemmas.List.{take_more, map-append}
 use Rattle.ct_keep.specs.declared.batches.Change.{Change}
-use Rattle.ct_keep.specs.Content.{IsEntry}
-use Rattle.ct_keep.specs.Spoken.{spoken}
+use Rattle.ct_keep.specs.Content.{IsEntry, value_limit}
+use Rattle.ct_keep.specs.SeenChanges.{change_of}
 use Rattle.ct_keep.specs.Changes.{AreWell}
 use Rattle.ct_entry.specs.Keys.{Key, bytes, IsKey}
 use Rattle.ct_entry.specs.Changes.{spell, AreChanges, AllOf, AllPut}
@@ -11,10 +11,10 @@ use Rattle.ct_entry.specs.laws.Parts.{is_short, key_is_short}
 
 -- a value that a keeper may hold under the key
 pub record IsWellAt (well : List ℕ → List ℕ → Bool) (k : Key) (value : List ℕ) : Type 0 where
-  pub bounded : length value ≤ 67108864
+  pub bounded : length value ≤ value_limit
   pub shaped : well (bytes k) value ≡ true
 
-pub entry_of_key : (k : Key) (value : List ℕ) → IsKey k → is_short k.kind ≡ true → length value ≤ 67108864 → IsEntry (bytes k) value
+pub entry_of_key : (k : Key) (value : List ℕ) → IsKey k → is_short k.kind ≡ true → length value ≤ value_limit → IsEntry (bytes k) value
 entry_of_key k value is short bounded = let l = key_is_short k is short in record { some = l.0; short = l.1; bounded = bounded }
 
 -- a batch of changes on short keys, each of which puts what the keeper may hold, may be committed
@@ -33,8 +33,8 @@ well-append well ((key, None) ∷ xs) ys a b = well-append well xs ys a b
 well-append well ((key, Some value) ∷ xs) ys a b = (a.0, a.1, well-append well xs ys a.2 b)
 
 -- the changes of a batch may be made where those before the next and the next may
-pub well_next : (well : List ℕ → List ℕ → Bool) (cs : List Change) (i : ℕ) (c : Change) → i < length cs → c ≡ get_or cs i c → AreWell well (map spoken (take i cs)) → AreWell well (spoken c ∷ []) → AreWell well (map spoken (take (i + 1) cs))
+pub well_next : (well : List ℕ → List ℕ → Bool) (cs : List Change) (i : ℕ) (c : Change) → i < length cs → c ≡ get_or cs i c → AreWell well (map change_of (take i cs)) → AreWell well (change_of c ∷ []) → AreWell well (map change_of (take (i + 1) cs))
 well_next well cs i c less is before one =
     subst (AreWell well)
-    (ap (λ (d : Change). map spoken (take i cs) ++ spoken d ∷ []) is ∙ sym (ap (map spoken) (take_more cs i c less) ∙ map-append spoken (take i cs) (get_or cs i c ∷ [])))
-    (well-append well (map spoken (take i cs)) (spoken c ∷ []) before one)
+    (ap (λ (d : Change). map change_of (take i cs) ++ change_of d ∷ []) is ∙ sym (ap (map change_of) (take_more cs i c less) ∙ map-append change_of (take i cs) (get_or cs i c ∷ [])))
+    (well-append well (map change_of (take i cs)) (change_of c ∷ []) before one)

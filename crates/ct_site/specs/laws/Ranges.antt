@@ -42,7 +42,7 @@ piece_same n m old new long longer same =
 -- what was written is there
 pub piece_written : (at : ℕ) (bytes image : List ℕ) → at ≤ length image → take (length bytes) (drop at (written at bytes image)) ≡ bytes
 piece_written at bytes image within =
-    let front = length-take-le at image within in
+    let prefix = length-take-le at image within in
     ap (λ (l : List ℕ). take (length bytes) (drop at l)) (append_assoc (take at image) bytes (drop (at + length bytes) image))
-    ∙ ap (λ (l : List ℕ). take (length bytes) l) (drop_at (take at image) (bytes ++ drop (at + length bytes) image) at front)
+    ∙ ap (λ (l : List ℕ). take (length bytes) l) (drop_at (take at image) (bytes ++ drop (at + length bytes) image) at prefix)
     ∙ take_at bytes (drop (at + length bytes) image) (length bytes) refl

@@ -8,18 +8,18 @@ use Rattle.ct_site.specs.declared.outside.Failed.{Failed}
 use Rattle.ct_site.specs.Images.{written, Torn}
 use Rattle.ct_site.specs.Pieces.{torn_none, length-written}
 use Rattle.ct_site.specs.Disks.{DiskView, Follows, Leaves, leaves_more, leaves_none, leaves_then}
-use Rattle.ct_site.specs.Lengths.{Grows, IsWithin}
-use Rattle.ct_site.specs.Writing.{IsCut, Writes, Progress, Gives}
+use Rattle.ct_site.specs.Lengths.{Lengthens, IsWithin}
+use Rattle.ct_site.specs.Writing.{IsCutShort, Writes, Progress, DiskGives}
 use Rattle.ct_site.specs.laws.Lengths.{grows_more, grows_same, grows_between}
 
 pub torn_within : (at n p q : ℕ) (a b c : List ℕ) → at ≤ p → p + q ≤ at + n → Torn at n a b → Torn p q b c → Torn at n a c
 torn_within at n p q a b c from to first second =
     let k = at + n - (p + q) in
     let sum : p + q + k ≡ at + n = omega arith in
-    let front : (x : List ℕ) → take at (take p x) ≡ take at x = λ x. take-take at p x from in
+    let prefix : (x : List ℕ) → take at (take p x) ≡ take at x = λ x. take-take at p x from in
     let back : (x : List ℕ) → drop k (drop (p + q) x) ≡ drop (at + n) x = λ x. drop-drop k (p + q) x ∙ ap (λ (m : ℕ). drop m x) sum in
     record {
-      before = sym (front c) ∙ ap (λ (l : List ℕ). take at l) second.before ∙ front b ∙ first.before;
+      before = sym (prefix c) ∙ ap (λ (l : List ℕ). take at l) second.before ∙ prefix b ∙ first.before;
       after = sym (back c) ∙ ap (λ (l : List ℕ). drop k l) second.after ∙ back b ∙ first.after;
       no_shorter = omega (arith, first.no_shorter, second.no_shorter);
       no_longer = omega (arith, first.no_longer, second.no_longer);
@@ -31,8 +31,8 @@ torn_more at n m a b less torn = torn_within at m at n a a b (omega arith) (omeg
 -- two writes, one behind the other, are one
 pub written_then : (at : ℕ) (a b x : List ℕ) → at ≤ length x → written (at + length a) b (written at a x) ≡ written at (a ++ b) x
 written_then at a b x within =
-    let front = length-take-le at x within in
-    let long : length (take at x ++ a) ≡ at + length a = omega (arith, length-append (take at x) a, front) in
+    let prefix = length-take-le at x within in
+    let long : length (take at x ++ a) ≡ at + length a = omega (arith, length-append (take at x) a, prefix) in
     let sum : at + length a + length b ≡ at + length (a ++ b) = omega (arith, length-append a b) in
     let kept : take (at + length a) (written at a x) ≡ take at x ++ a = take_at (take at x ++ a) (drop (at + length a) x) (at + length a) long in
     let rest : drop (at + length a + length b) (written at a x) ≡ drop (at + length (a ++ b)) x =
@@ -61,17 +61,17 @@ writes_nothing at disk = record {
 
 -- one write of a disk
 pub writes_one : (at : ℕ) (bytes : List ℕ) (old new : DiskView) (result : Result (Unit {0}) Failed) → OnOk result (new.image ≡ option_map (written at bytes) old.image)
-    → Follows (Torn at (length bytes)) old.may_leave new.may_leave → Leaves old new new.may_leave → Grows (at + length bytes) old new → Writes at bytes old new result
+    → Follows (Torn at (length bytes)) old.may_leave new.may_leave → Leaves old new new.may_leave → Lengthens (at + length bytes) old new → Writes at bytes old new result
 writes_one at bytes old new result is crash leaves grows = record {
   written = is;
   leaves = leaves_more old new _ _ leaves (λ x left. let f = crash x left in record { before = f.0; left = f.1; torn = f.2 });
   grows = grows;
 }
 
-cut_front : (at : ℕ) (a b : List ℕ) (old : DiskView) (x : List ℕ) → IsCut at (length a) old x → IsCut at (length (a ++ b)) old x
-cut_front at a b old x cut = record { before = cut.before; left = cut.left; torn = torn_more at (length a) (length (a ++ b)) cut.before x (omega (arith, length-append a b)) cut.torn }
+cut_prefix : (at : ℕ) (a b : List ℕ) (old : DiskView) (x : List ℕ) → IsCutShort at (length a) old x → IsCutShort at (length (a ++ b)) old x
+cut_prefix at a b old x cut = record { before = cut.before; left = cut.left; torn = torn_more at (length a) (length (a ++ b)) cut.before x (omega (arith, length-append a b)) cut.torn }
 
-cut_back : (at : ℕ) (a b : List ℕ) (old mid : DiskView) → ((x : List ℕ) → mid.may_leave x → IsCut at (length a) old x) → (x : List ℕ) → IsCut (at + length a) (length b) mid x → IsCut at (length (a ++ b)) old x
+cut_back : (at : ℕ) (a b : List ℕ) (old mid : DiskView) → ((x : List ℕ) → mid.may_leave x → IsCutShort at (length a) old x) → (x : List ℕ) → IsCutShort (at + length a) (length b) mid x → IsCutShort at (length (a ++ b)) old x
 cut_back at a b old mid here x cut =
     let first = here cut.before cut.left in
     record {
@@ -86,7 +86,7 @@ pub writes_then : (at next : ℕ) (a b : List ℕ) (old mid new : DiskView) (res
     → Writes at (a ++ b) old new result
 writes_then at next a b old mid new result within is first second = record {
   written = on_ok result (λ e. of old.image within.least first.written (e ∙ ap (λ (n : ℕ). option_map (written n b) mid.image) is)) second.written;
-  leaves = leaves_then old mid new _ (leaves_more old mid _ _ first.leaves (cut_front at a b old))
+  leaves = leaves_then old mid new _ (leaves_more old mid _ _ first.leaves (cut_prefix at a b old))
       (leaves_more mid new _ _ second.leaves (λ x cut. cut_back at a b old mid first.leaves.now x (ap_cut x cut)));
   grows = record {
     bounds = λ image x told given.
@@ -97,7 +97,7 @@ writes_then at next a b old mid new result within is first second = record {
   };
 }
   where
-    ap_cut : (x : List ℕ) → IsCut next (length b) mid x → IsCut (at + length a) (length b) mid x
+    ap_cut : (x : List ℕ) → IsCutShort next (length b) mid x → IsCutShort (at + length a) (length b) mid x
     ap_cut x cut = record { before = cut.before; left = cut.left; torn = subst (λ (n : ℕ). Torn n (length b) cut.before x) is cut.torn }
 
     on_ok : {P Q : Type 0} (r : Result (Unit {0}) Failed) → (P → Q) → OnOk r P → OnOk r Q
@@ -114,7 +114,7 @@ pub writes_failed : (at : ℕ) (a b : List ℕ) (old new : DiskView) (last all :
 writes_failed at a b old new last (Ok u) err writes = absurd (false≢true err)
 writes_failed at a b old new last (Err fault) err writes = record {
   written = tt;
-  leaves = leaves_more old new _ _ writes.leaves (cut_front at a b old);
+  leaves = leaves_more old new _ _ writes.leaves (cut_prefix at a b old);
   grows = grows_more (at + length a) (at + length (a ++ b)) old new (omega (arith, length-append a b)) writes.grows;
 }
 
@@ -159,7 +159,7 @@ progress_end at next all left old mid new result p w = subst (λ (l : List ℕ).
 
 -- ---- what holds of each image
 
-pub gives_written : (P Q : List ℕ → Type 0) (at : ℕ) (bytes : List ℕ) (old new : DiskView) → Gives P old → Writes at bytes old new (Ok tt) → ((x : List ℕ) → P x → Q (written at bytes x)) → Gives Q new
+pub gives_written : (P Q : List ℕ → Type 0) (at : ℕ) (bytes : List ℕ) (old new : DiskView) → DiskGives P old → Writes at bytes old new (Ok tt) → ((x : List ℕ) → P x → Q (written at bytes x)) → DiskGives Q new
 gives_written P Q at bytes old new gives writes step = record {
   image = written at bytes gives.image;
   is = writes.written ∙ ap (option_map (written at bytes)) gives.is;

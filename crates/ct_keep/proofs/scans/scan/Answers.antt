@@ -1,7 +1,7 @@
 use Rattle.std.proofs.Common.{append-nil}
 use Rattle.std.proofs.lemmas.List.{map-append}
 use Rattle.ct_keep.specs.Composing.{reads_none, reads_on, reads_hold}
-use Rattle.ct_keep.specs.Rising.{begins_itself, begins_front}
+use Rattle.ct_keep.specs.Rising.{begins_itself, begins_with_prefix}
 use Rattle.ct_keep.proofs.Scanning.{scanning_none, scanning_more, scanning_ends}
 use Rattle.ct_keep.proofs.scans.scan.Goals as goal
 
@@ -23,7 +23,7 @@ steps-preserved g c =
     let last = rw c.in-Some.is at c.in_ok-step_under.ensures.last in
     record {
       reads = reads_on _ _ _ _ c.steps.invariant.reads c.in_ok-step_under.ensures.reads;
-      begins = rw last (begins_front c.args.prefix.now c.in-Some.entry.0.items);
+      begins = rw last (begins_with_prefix c.args.prefix.now c.in-Some.entry.0.items);
       told = λ m holds.
           let here = reads_hold _ _ m c.steps.invariant.reads holds in
           let some = rw c.in-Some.is at (c.in_ok-step_under.ensures.entry m here) in

@@ -8,5 +8,5 @@ use Rattle.ct_keep.proofs.sorted_entries.SortedEntries.first_after.Goals as goal
 pub returns : goal.returns
 returns c = first_pair c.next.result c.range.result c.next.new.self c.next.ensures.steps
     ∙ ap (λ (l : List VecEntry). first_entry (pairs l)) (c.range.ensures.between tt)
-    ∙ ap first_entry (entries_above-content_of c.args.key.now c.self.inside.entries.entries c.self.invariant)
+    ∙ ap first_entry (entries_above-content_of c.args.key.now c.self.inside.entries.entries c.self.invariant.ordered)
     ∙ ap (λ (m : Content). first_entry (entries_above c.args.key.now.items m)) c.self.view_is

@@ -1,6 +1,6 @@
 use Rattle.std.proofs.Common.{◌≡◌}
 use Rattle.ct_keep.specs.Content.{after}
-use Rattle.ct_keep.specs.Trials.{undoing, AreInPlace}
+use Rattle.ct_keep.specs.Transactions.{undoing, AreInPlace}
 use Rattle.ct_keep.proofs.sorted_entries.SortedEntries.undo.Given as goal
 
 abbrev pub invariant-loop-change : goal.invariant-loop-change

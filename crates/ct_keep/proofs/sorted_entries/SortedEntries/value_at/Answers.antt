@@ -9,4 +9,4 @@ use Rattle.ct_keep.proofs.sorted_entries.SortedEntries.value_at.Goals as goal
 
 pub returns : goal.returns
 returns c = copied_items c.get.result ∙ ap (λ (o : Option (Vec ℕ Global)). option_map (λ v. v.items) o) c.get.ensures.value
-    ∙ get-lookup c.self.inside.entries.entries c.args.key.now c.self.invariant ∙ ap (λ (m : Content). get m c.args.key.now) c.self.view_is
+    ∙ get-lookup c.self.inside.entries.entries c.args.key.now c.self.invariant.ordered ∙ ap (λ (m : Content). get m c.args.key.now) c.self.view_is

@@ -1,6 +1,6 @@
 use Rattle.std.proofs.Common.{◌++◌, ◌∷◌, [], List, length, refl, ap, ◌∙◌, arith, length-append}
 use Rattle.std.specs.Prelude.{vec_len}
-use Rattle.ct_site.specs.Histories.{Change, Said, said_by}
+use Rattle.ct_site.specs.Histories.{DiskChange, Said, said_by}
 use Rattle.ct_site.specs.Logs.{LogState, length-changes_of, said_is, all_written-push, all_said-push, all_written, all_said}
 use Rattle.ct_site.specs.declared.logs.Entry.TheVariants.{Say}
 use Rattle.ct_site.proofs.Growing.{pushed_say}
@@ -43,6 +43,6 @@ invariant_of-self c =
 pub returns : goal.returns
 returns c =
     let l = c.self.inside in
-    ap (λ (cs : List Change). record { changes = cs; rooms = l.rooms; written_bytes = vec_len l.written })
+    ap (λ (cs : List DiskChange). record { changes = cs; rooms = l.rooms; written_bytes = vec_len l.written })
     (pushed_say l.entries.items c.push_reserved.new.self.items (length c.args.bytes.now) l.written.items l.said.items c.append.new.list.items c.args.bytes.now c.push_reserved.ensures.items refl c.append.ensures.items c.self.invariant.said)
     ∙ ap (λ (x : LogState). record { changes = x.changes ++ Said c.args.bytes.now ∷ []; rooms = x.rooms; written_bytes = x.written_bytes }) c.self.view_is

@@ -1,6 +1,6 @@
 use Rattle.std.proofs.Common.{◌≡◌, ◌++◌, ◌∷◌, [], List, length, sym, ap, ◌∙◌, arith}
 use Rattle.std.specs.Prelude.{vec_len}
-use Rattle.ct_site.specs.Histories.{Change, Synced}
+use Rattle.ct_site.specs.Histories.{DiskChange, Synced}
 use Rattle.ct_site.specs.Logs.{LogState, length-changes_of, all_written-push, all_said-push, all_written, all_said}
 use Rattle.ct_site.specs.declared.logs.Entry.TheVariants.{Sync}
 use Rattle.ct_site.proofs.Growing.{pushed_sync}
@@ -33,5 +33,5 @@ invariant_of-self c =
 pub returns : goal.returns
 returns c =
     let l = c.self.inside in
-    ap (λ (cs : List Change). record { changes = cs; rooms = l.rooms; written_bytes = vec_len l.written }) (pushed_sync l.entries.items c.push_reserved.new.self.items l.written.items l.said.items c.push_reserved.ensures.items)
+    ap (λ (cs : List DiskChange). record { changes = cs; rooms = l.rooms; written_bytes = vec_len l.written }) (pushed_sync l.entries.items c.push_reserved.new.self.items l.written.items l.said.items c.push_reserved.ensures.items)
     ∙ ap (λ (x : LogState). record { changes = x.changes ++ Synced ∷ []; rooms = x.rooms; written_bytes = x.written_bytes }) c.self.view_is

@@ -1,6 +1,6 @@
 use Rattle.std.proofs.Common.{◌≡◌, ℕ, ◌+◌, ◌++◌, ◌∷◌, [], List, length, refl, ap, ◌∙◌, arith, length-append}
 use Rattle.std.specs.Prelude.{vec_len}
-use Rattle.ct_site.specs.Histories.{Change, Wrote}
+use Rattle.ct_site.specs.Histories.{DiskChange, Wrote}
 use Rattle.ct_site.specs.Logs.{LogState, changes_of, length-changes_of, all_written-push, all_said-push, all_written, all_said}
 use Rattle.ct_site.specs.declared.logs.Entry.TheVariants.{Write}
 use Rattle.ct_site.proofs.Growing.{pushed_write}
@@ -44,6 +44,6 @@ returns c =
     let l = c.self.inside in
     let n : vec_len c.append.new.list ≡ vec_len l.written + length c.args.bytes.now = omega (arith, ap length c.append.ensures.items, length-append l.written.items c.args.bytes.now) in
     ap (λ (k : ℕ). record { changes = changes_of c.push_reserved.new.self.items c.append.new.list.items l.said.items; rooms = l.rooms; written_bytes = k }) n
-    ∙ ap (λ (cs : List Change). record { changes = cs; rooms = l.rooms; written_bytes = vec_len l.written + length c.args.bytes.now })
+    ∙ ap (λ (cs : List DiskChange). record { changes = cs; rooms = l.rooms; written_bytes = vec_len l.written + length c.args.bytes.now })
     (pushed_write l.entries.items c.push_reserved.new.self.items c.args.at (length c.args.bytes.now) l.written.items c.append.new.list.items c.args.bytes.now l.said.items c.push_reserved.ensures.items refl c.append.ensures.items c.self.invariant.written)
     ∙ ap (λ (x : LogState). record { changes = x.changes ++ Wrote c.args.at c.args.bytes.now ∷ []; rooms = x.rooms; written_bytes = x.written_bytes + length c.args.bytes.now }) c.self.view_is

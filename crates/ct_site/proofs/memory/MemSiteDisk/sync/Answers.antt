@@ -1,16 +1,16 @@
 use Rattle.std.proofs.Common.{◌≡◌, ◌++◌, ◌∷◌, [], List, Some, Ok, sym, ap, subst, ◌∙◌, length, arith, length-append}
 use Rattle.ct_site.specs.Disks.{Leaves, Works}
-use Rattle.ct_site.specs.Histories.{Change, Synced, DiskState, begun, after, after-push, said_by}
+use Rattle.ct_site.specs.Histories.{DiskChange, Synced, DiskState, begun, disk_after, after-push, said_by}
 use Rattle.ct_site.specs.Crashes.{AreWithin, within_after}
 use Rattle.ct_site.specs.Logs.{LogState}
 use Rattle.ct_site.specs.Places.{AreUpTo, up_to_log}
 use Rattle.ct_site.specs.MemoryFields.{with_log, with_log-push}
-use Rattle.ct_site.specs.Memory.{MemState, view_of, image_of, synced}
+use Rattle.ct_site.specs.Memory.{MemState, memory_view, image_of, after_sync}
 use Rattle.ct_site.specs.Changing.{sync_works, sync_leaves, sync_crash, sync_image, sync_durable}
 use Rattle.ct_site.proofs.memory.MemSiteDisk.sync.Goals as goal
 use Rattle.ct_site.proofs.memory.MemSiteDisk.sync.Goals.{After-sync}
 
-new_is : (c : After-sync) → with_log c.self-2.inside c.sync.new.self ≡ synced c.args.self.now
+new_is : (c : After-sync) → with_log c.self-2.inside c.sync.new.self ≡ after_sync c.args.self.now
 new_is c =
     ap (with_log c.self-2.inside) c.sync.ensures
     ∙ with_log-push c.self-2.inside Synced c.self-2.inside.log.written_bytes c.self-2.invariant.heard
@@ -25,29 +25,29 @@ invariant_of-self-2 c =
       taken = c.self-2.invariant.taken;
       image =
           c.self-2.invariant.image ∙ sym (ap (λ (d : DiskState). d.image) (after-push (begun s.first.items) s.log.changes Synced))
-          ∙ ap (λ (cs : List Change). (after (begun s.first.items) cs).image) (sym log);
+          ∙ ap (λ (cs : List DiskChange). (disk_after (begun s.first.items) cs).image) (sym log);
       within = subst (AreWithin s.first.items) (sym log) (within_after s.first.items s.log.changes Synced c.self-2.invariant.within tt);
       image_room = rw rooms c.self-2.invariant.image_room;
       image_memory = rw rooms c.self-2.invariant.image_memory;
-      heard = subst (λ (cs : List Change). AreUpTo (length (said_by cs)) s.hearings.items) (sym log) (up_to_log s.log.changes Synced s.hearings.items c.self-2.invariant.heard);
+      heard = subst (λ (cs : List DiskChange). AreUpTo (length (said_by cs)) s.hearings.items) (sym log) (up_to_log s.log.changes Synced s.hearings.items c.self-2.invariant.heard);
       heard_few = omega (arith, ap length log, length-append s.log.changes (Synced ∷ []), c.self-2.invariant.heard_few);
       heard_memory = rw rooms c.self-2.invariant.heard_memory;
     }
 
 pub returns-clause-durable : goal.returns-clause-durable
-returns-clause-durable c = λ image told left. subst (λ (s : MemState). (view_of s).may_leave left → left ≡ image) (sym (new_is c)) (sync_durable c.args.self.now image left told)
+returns-clause-durable c = λ image told left. subst (λ (s : MemState). (memory_view s).may_leave left → left ≡ image) (sym (new_is c)) (sync_durable c.args.self.now image left told)
 
 pub returns-clause-image : goal.returns-clause-image
 returns-clause-image c = ap Some (ap image_of (new_is c) ∙ sync_image c.args.self.now)
 
 pub returns-clause-crash : goal.returns-clause-crash
-returns-clause-crash c = λ left. subst (λ (s : MemState). (view_of s).may_leave left → (view_of c.args.self.now).may_leave left) (sym (new_is c)) (sync_crash c.args.self.now left)
+returns-clause-crash c = λ left. subst (λ (s : MemState). (memory_view s).may_leave left → (memory_view c.args.self.now).may_leave left) (sym (new_is c)) (sync_crash c.args.self.now left)
 
 pub returns-clause-leaves : goal.returns-clause-leaves
-returns-clause-leaves c = subst (λ (s : MemState). Leaves (view_of c.args.self.now) (view_of s) (view_of c.args.self.now).may_leave) (sym (new_is c)) (sync_leaves c.args.self.now)
+returns-clause-leaves c = subst (λ (s : MemState). Leaves (memory_view c.args.self.now) (memory_view s) (memory_view c.args.self.now).may_leave) (sym (new_is c)) (sync_leaves c.args.self.now)
 
 pub returns-clause-works : goal.returns-clause-works
-returns-clause-works c = subst (λ (s : MemState). Works {T = Unit {0}} (view_of c.args.self.now) (view_of s) (Ok tt)) (sym (new_is c)) (sync_works c.args.self.now)
+returns-clause-works c = subst (λ (s : MemState). Works {T = Unit {0}} (memory_view c.args.self.now) (memory_view s) (Ok tt)) (sym (new_is c)) (sync_works c.args.self.now)
 
 pub returns-clause-done : goal.returns-clause-done
 returns-clause-done c = new_is c

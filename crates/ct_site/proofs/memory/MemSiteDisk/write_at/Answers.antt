@@ -2,15 +2,15 @@ use Rattle.std.proofs.Common.{◌≡◌, ◌≤◌, ◌+◌, ◌++◌, ◌∷◌
 use Rattle.std.proofs.lemmas.Bool.{ltb-false}
 use Rattle.ct_site.specs.Images.{written, Torn}
 use Rattle.ct_site.specs.Pieces.{length-written}
-use Rattle.ct_site.specs.Lengths.{Grows}
+use Rattle.ct_site.specs.Lengths.{Lengthens}
 use Rattle.ct_site.specs.laws.Lengths.{grows_written}
 use Rattle.ct_site.specs.Disks.{Leaves, Works, Follows}
-use Rattle.ct_site.specs.Histories.{Change, Wrote, DiskState, begun, after, after-push, said_by}
+use Rattle.ct_site.specs.Histories.{DiskChange, Wrote, DiskState, begun, disk_after, after-push, said_by}
 use Rattle.ct_site.specs.Crashes.{AreWithin, within_after}
 use Rattle.ct_site.specs.Logs.{LogState}
 use Rattle.ct_site.specs.Places.{AreUpTo, up_to_log}
 use Rattle.ct_site.specs.MemoryFields.{state_of, with_log, with_log-push}
-use Rattle.ct_site.specs.Memory.{MemState, view_of, image_of, wrote}
+use Rattle.ct_site.specs.Memory.{MemState, memory_view, image_of, wrote}
 use Rattle.ct_site.specs.Changing.{write_works, write_leaves, write_crash, write_image}
 use Rattle.ct_site.proofs.Growing.{passes_none}
 use Rattle.ct_site.proofs.memory.MemSiteDisk.write_at.Goals as goal
@@ -39,11 +39,11 @@ invariant_of-self-2 c =
       image =
           c.overwrite.ensures.items ∙ ap (written c.args.at c.args.bytes.now) c.self-2.invariant.image
           ∙ sym (ap (λ (d : DiskState). d.image) (after-push (begun s.first.items) s.log.changes (Wrote c.args.at c.args.bytes.now)))
-          ∙ ap (λ (cs : List Change). (after (begun s.first.items) cs).image) (sym log);
+          ∙ ap (λ (cs : List DiskChange). (disk_after (begun s.first.items) cs).image) (sym log);
       within = subst (AreWithin s.first.items) (sym log) (within_after s.first.items s.log.changes (Wrote c.args.at c.args.bytes.now) c.self-2.invariant.within (begins, tt));
       image_room = omega (arith, long, was, now, rooms, counted, fits, c.self-2.invariant.image_room);
       image_memory = omega (arith, rooms, c.overwrite.ensures.capacity, c.self-2.invariant.image_memory);
-      heard = subst (λ (cs : List Change). AreUpTo (length (said_by cs)) s.hearings.items) (sym log) (up_to_log s.log.changes (Wrote c.args.at c.args.bytes.now) s.hearings.items c.self-2.invariant.heard);
+      heard = subst (λ (cs : List DiskChange). AreUpTo (length (said_by cs)) s.hearings.items) (sym log) (up_to_log s.log.changes (Wrote c.args.at c.args.bytes.now) s.hearings.items c.self-2.invariant.heard);
       heard_few = omega (arith, ap length log, length-append s.log.changes (Wrote c.args.at c.args.bytes.now ∷ []), c.self-2.invariant.heard_few);
       heard_memory = rw (ap (λ (l : LogState). l.rooms) c.write.ensures) c.self-2.invariant.heard_memory;
     }
@@ -53,19 +53,19 @@ returns-clause-written c = ap Some (ap image_of (new_is c) ∙ write_image c.arg
 
 pub returns-clause-crash : goal.returns-clause-crash
 returns-clause-crash c =
-    subst (λ (s : MemState). Follows (Torn c.args.at (length c.args.bytes.now)) (view_of c.args.self.now).may_leave (view_of s).may_leave) (sym (new_is c))
+    subst (λ (s : MemState). Follows (Torn c.args.at (length c.args.bytes.now)) (memory_view c.args.self.now).may_leave (memory_view s).may_leave) (sym (new_is c))
     (write_crash c.args.self.now c.args.at c.args.bytes.now (c.requires.within (image_of c.args.self.now) refl))
 
 pub returns-clause-leaves : goal.returns-clause-leaves
-returns-clause-leaves c = subst (λ (s : MemState). Leaves (view_of c.args.self.now) (view_of s) (view_of s).may_leave) (sym (new_is c)) (write_leaves c.args.self.now c.args.at c.args.bytes.now)
+returns-clause-leaves c = subst (λ (s : MemState). Leaves (memory_view c.args.self.now) (memory_view s) (memory_view s).may_leave) (sym (new_is c)) (write_leaves c.args.self.now c.args.at c.args.bytes.now)
 
 pub returns-clause-works : goal.returns-clause-works
-returns-clause-works c = subst (λ (s : MemState). Works {T = Unit {0}} (view_of c.args.self.now) (view_of s) (Ok tt)) (sym (new_is c)) (write_works c.args.self.now c.args.at c.args.bytes.now)
+returns-clause-works c = subst (λ (s : MemState). Works {T = Unit {0}} (memory_view c.args.self.now) (memory_view s) (Ok tt)) (sym (new_is c)) (write_works c.args.self.now c.args.at c.args.bytes.now)
 
 pub returns-clause-grows : goal.returns-clause-grows
 returns-clause-grows c =
-    subst (λ (s : MemState). Grows (c.args.at + length c.args.bytes.now) (view_of c.args.self.now) (view_of s)) (sym (new_is c))
-    (grows_written c.args.at c.args.bytes.now (view_of c.args.self.now) (view_of (wrote c.args.self.now c.args.at c.args.bytes.now)) (record { least = c.requires.within })
+    subst (λ (s : MemState). Lengthens (c.args.at + length c.args.bytes.now) (memory_view c.args.self.now) (memory_view s)) (sym (new_is c))
+    (grows_written c.args.at c.args.bytes.now (memory_view c.args.self.now) (memory_view (wrote c.args.self.now c.args.at c.args.bytes.now)) (record { least = c.requires.within })
     (ap Some (write_image c.args.self.now c.args.at c.args.bytes.now)))
 
 pub returns-clause-done : goal.returns-clause-done

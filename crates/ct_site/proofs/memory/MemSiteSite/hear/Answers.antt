@@ -4,17 +4,17 @@ use Rattle.ct_site.specs.FaultCounts.{raised}
 use Rattle.ct_site.specs.Disks.{Hears}
 use Rattle.ct_site.specs.Hearings.{Hearing, with_present}
 use Rattle.ct_site.specs.Histories.{said_by}
-use Rattle.ct_site.specs.Memory.{MemState, view_of, heard, hear_failed}
+use Rattle.ct_site.specs.Memory.{MemState, memory_view, heard, hear_failed}
 use Rattle.ct_site.specs.MemoryFields.{state_of}
 use Rattle.ct_site.specs.Places.{AreUpTo, hearings_at, hearings_at-with, up_to_with, with_place}
 use Rattle.ct_site.specs.declared.places.Place.{Place}
 use Rattle.ct_site.specs.Changing.{hears_of, hears_failed}
-use Rattle.ct_site.proofs.Heard.{heard_front, kept_some, few_kept}
+use Rattle.ct_site.proofs.Heard.{heard_prefix, kept_some, few_kept}
 use Rattle.ct_site.proofs.memory.MemSiteSite.hear.Goals as goal
 
 pub returns-then-count_hear-clause-hears : goal.returns-then-count_hear-clause-hears
 returns-then-count_hear-clause-hears c =
-    subst (λ (x : MemState). Hears [] (view_of c.args.self.now) (view_of x))
+    subst (λ (x : MemState). Hears [] (memory_view c.args.self.now) (memory_view x))
     (sym (ap (λ (x : MemState). record x { has_asked = true; hear_faults = c.count_fault.new.faults }) (c.self.view_is ∙ c.count_hear.ensures.counted) ∙ ap (λ (n : ℕ). record (hear_failed c.args.self.now) { hear_faults = n }) (c.count_fault.ensures.raised ∙ ap (λ (x : MemState). raised x.hear_faults) (c.self.view_is ∙ c.count_hear.ensures.counted))))
     (hears_failed c.args.self.now)
 
@@ -44,7 +44,7 @@ returns-clause-hears c =
     let bytes = take n (c.copy_from_slice.new.self ++ drop n c.args.into.now) in
     let m : s.taken + n - s.taken ≡ n = omega arith in
     let later : drop (s.taken + n) s.script.items ≡ drop n (drop s.taken s.script.items) = sym (drop-drop n s.taken s.script.items) in
-    let front = heard_front s.script.items c.copy_from_slice.new.self c.args.into.now s.taken n (omega arith) (rw (m, c.deref.ensures.value) at c.copy_from_slice.ensures.after) in
+    let prefix = heard_prefix s.script.items c.copy_from_slice.new.self c.args.into.now s.taken n (omega arith) (rw (m, c.deref.ensures.value) at c.copy_from_slice.ensures.after) in
     let same = c.self.view_is ∙ c.count_hear.ensures.counted in
     let left : c.args.self.now.left ≡ drop s.taken s.script.items = ap (λ (x : MemState). x.left) (sym same) in
     let kept : hearings_at s.script.items (said_by s.log.changes) c.keep_place.new.places.items ≡ with_present (state_of s).hearings (nat_lt 0 n) (drop s.taken s.script.items) (said_by s.log.changes) =
@@ -53,5 +53,5 @@ returns-clause-hears c =
     ap (λ (l : List ℕ). record (state_of s) { left = l; hearings = hearings_at s.script.items (said_by s.log.changes) c.keep_place.new.places.items; has_asked = nat_eq n 0 }) later
     ∙ ap (λ (hs : List Hearing). record (state_of s) { left = drop n (drop s.taken s.script.items); hearings = hs; has_asked = nat_eq n 0 }) kept
     ∙ ap (λ (x : MemState). record x { left = drop n x.left; hearings = with_present x.hearings (nat_lt 0 n) x.left (said_by x.log); has_asked = nat_eq n 0 }) same in
-    subst (λ (x : MemState). Hears bytes (view_of c.args.self.now) (view_of x)) (sym new_is)
-    (hears_of c.args.self.now bytes n (left ∙ front ∙ ap (λ (l : List ℕ). bytes ++ l) (later ∙ ap (λ (l : List ℕ). drop n l) (sym left))))
+    subst (λ (x : MemState). Hears bytes (memory_view c.args.self.now) (memory_view x)) (sym new_is)
+    (hears_of c.args.self.now bytes n (left ∙ prefix ∙ ap (λ (l : List ℕ). bytes ++ l) (later ∙ ap (λ (l : List ℕ). drop n l) (sym left))))

@@ -2,12 +2,12 @@ use Rattle.std.proofs.Common.{◌≡◌, ◌++◌, ◌∷◌, [], List, false, l
 use Rattle.std.proofs.lemmas.List.{take_all}
 use Rattle.ct_site.specs.Disks.{Says}
 use Rattle.ct_site.specs.Hearings.{Hearing, with_present}
-use Rattle.ct_site.specs.Histories.{Change, Said, DiskState, begun, after, after-push, said_by}
+use Rattle.ct_site.specs.Histories.{DiskChange, Said, DiskState, begun, disk_after, after-push, said_by}
 use Rattle.ct_site.specs.Crashes.{AreWithin, within_after}
 use Rattle.ct_site.specs.Logs.{LogState}
 use Rattle.ct_site.specs.Places.{AreUpTo, hearings_at, hearings_at-push, hearings_at-with, up_to_log, up_to_with}
 use Rattle.ct_site.specs.MemoryFields.{state_of}
-use Rattle.ct_site.specs.Memory.{MemState, view_of, hearings_of, spoken}
+use Rattle.ct_site.specs.Memory.{MemState, memory_view, hearings_of, after_say}
 use Rattle.ct_site.specs.Changing.{says_of}
 use Rattle.ct_site.proofs.memory.MemSiteSite.say.Goals as goal
 use Rattle.ct_site.proofs.memory.MemSiteSite.say.Goals.{After-say}
@@ -32,7 +32,7 @@ new_is : (c : After-say)
       hearings = hearings_at c.self-2.inside.script.items (said_by c.say.new.self.changes) c.keep_place.new.places.items;
       has_asked = false;
     }
-    ≡ spoken c.args.self.now c.args.bytes.now
+    ≡ after_say c.args.self.now c.args.bytes.now
 new_is c =
     let s = c.self-2.inside in
     ap (λ (l : LogState). record (state_of s) { log = l.changes; rooms = l.rooms; written_bytes = l.written_bytes; hearings = hearings_at s.script.items (said_by l.changes) c.keep_place.new.places.items; has_asked = false }) c.say.ensures
@@ -48,11 +48,11 @@ invariant_of-self-2 c =
       taken = c.self-2.invariant.taken;
       image =
           c.self-2.invariant.image ∙ sym (ap (λ (d : DiskState). d.image) (after-push (begun s.first.items) s.log.changes (Said c.args.bytes.now)))
-          ∙ ap (λ (cs : List Change). (after (begun s.first.items) cs).image) (sym log);
+          ∙ ap (λ (cs : List DiskChange). (disk_after (begun s.first.items) cs).image) (sym log);
       within = subst (AreWithin s.first.items) (sym log) (within_after s.first.items s.log.changes (Said c.args.bytes.now) c.self-2.invariant.within tt);
       image_room = rw rooms c.self-2.invariant.image_room;
       image_memory = rw rooms c.self-2.invariant.image_memory;
-      heard = subst (λ (cs : List Change). AreUpTo (length (said_by cs)) c.keep_place.new.places.items) (sym log) (up_to_log s.log.changes (Said c.args.bytes.now) c.keep_place.new.places.items (kept c));
+      heard = subst (λ (cs : List DiskChange). AreUpTo (length (said_by cs)) c.keep_place.new.places.items) (sym log) (up_to_log s.log.changes (Said c.args.bytes.now) c.keep_place.new.places.items (kept c));
       heard_few = omega (arith, ap length log, length-append s.log.changes (Said c.args.bytes.now ∷ []), c.keep_place.ensures.len, c.self-2.invariant.heard_few);
       heard_memory = rw rooms (omega (arith, c.keep_place.ensures.capacity, c.self-2.invariant.heard_memory));
     }
@@ -60,7 +60,7 @@ invariant_of-self-2 c =
 pub returns-clause-says : goal.returns-clause-says
 returns-clause-says c =
     let b = c.args.bytes.now in
-    rw (take_all (length b) b (omega arith)) (subst (λ (s : MemState). Says b (view_of c.args.self.now) (view_of s)) (sym (new_is c)) (says_of c.args.self.now b))
+    rw (take_all (length b) b (omega arith)) (subst (λ (s : MemState). Says b (memory_view c.args.self.now) (memory_view s)) (sym (new_is c)) (says_of c.args.self.now b))
 
 pub returns-clause-done : goal.returns-clause-done
 returns-clause-done c = (refl, new_is c)

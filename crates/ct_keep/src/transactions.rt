@@ -3,7 +3,7 @@
 ghost use Rattle.std.specs.Prelude.{◌≡◌, ◌+◌, ◌^◌, ◌<◌, ◌≤◌, OnOk, map};
 ghost use Rattle.std.specs.Option.{option_map};
 ghost use Rattle.std.specs.FinMap.{get, insert, remove};
-ghost use Rattle.ct_keep.specs.Spoken.{spoken};
+ghost use Rattle.ct_keep.specs.SeenChanges.{change_of};
 ghost use Rattle.ct_keep.specs.Content.{set_to, after, entry_weight, weight};
 ghost use Rattle.ct_keep.specs.Laws.{value_weight};
 
@@ -23,40 +23,40 @@ fn entry_weight(key: &[u8], value: &[u8]) -> u64
 /// Entries that change change by change, and that can go back to what they were without taking memory.
 /// So an entry that is to go stays among them until the end.
 #[derive(Drop)]
-pub(crate) struct Trial {
+pub struct Transaction {
     held: SortedEntries,
     /// The keys of the entries that are to go.
     gone: SortedEntries,
     /// For each change of `held`, the change on what stood there before.
-    notes: Vec<Change>,
+    undo_log: Vec<Change>,
     /// The weight of the entries without those that are to go.
     total: u128,
 }
 
-impl Model for Trial {
+impl Model for Transaction {
     ghost use Rattle.ct_keep.specs.Content.{after};
-    ghost use Rattle.ct_keep.specs.Trials.{Course, course_code, staying, undoing, IsCourse};
+    ghost use Rattle.ct_keep.specs.Transactions.{TransactionState, transaction_code, staying, undoing, IsTransaction};
 
-    ghost Value = { Course };
+    ghost Value = { TransactionState };
 
-    ghost coded = { course_code };
+    ghost coded = { transaction_code };
 
-    ghost view = { λ t. record { before = after (undoing t.notes.items) t.held; seen = staying t.held t.gone } };
+    ghost view = { λ t. record { before = after (undoing t.undo_log.items) t.held; seen = staying t.held t.gone } };
 
-    ghost invariant = { λ t. IsCourse t.held t.gone t.notes.items t.total };
+    ghost invariant = { λ t. IsTransaction t.held t.gone t.undo_log.items t.total };
 }
 
-impl Trial {
+impl Transaction {
     /// Begins with entries and their weight. It takes no memory.
-    pub(crate) fn begin(alloc: Global, held: SortedEntries, total: u64) -> Trial
+    pub(crate) fn begin(alloc: Global, held: SortedEntries, total: u64) -> Transaction
         requires { total ≡ weight held }
         ensures before { result.before ≡ held }
         ensures seen { result.seen ≡ held }
     {
-        Trial {
+        Transaction {
             held,
             gone: SortedEntries::new(alloc),
-            notes: Vec::new(alloc),
+            undo_log: Vec::new(alloc),
             total: total as u128,
         }
     }
@@ -82,12 +82,12 @@ impl Trial {
         ensures heavier { OnOk result (weight self.new.seen ≤ weight self.old.seen + 2 ^ 64) }
     {
         let copy = Vec::from_slice(alloc, &key)?;
-        self.notes.reserve(1)?;
+        self.undo_log.reserve(1)?;
         let less = self.weight_at(&key);
         let more = entry_weight(&key, &value);
-        let value = self.held.put(key, value)?;
+        let value = self.held.put(alloc, key, value)?;
         let _ = self.gone.take(&copy);
-        self.notes.push_reserved(Change { key: copy, value });
+        self.undo_log.push_reserved(Change { key: copy, value });
         self.total = self.total - less as u128 + more as u128;
         Ok(())
     }
@@ -99,7 +99,7 @@ impl Trial {
         ensures heavier { OnOk result (weight self.new.seen ≤ weight self.old.seen + 2 ^ 64) }
     {
         let less = self.weight_at(&key);
-        self.gone.put(key, Vec::new(alloc))?;
+        self.gone.put(alloc, key, Vec::new(alloc))?;
         self.total -= less as u128;
         Ok(())
     }
@@ -119,10 +119,10 @@ impl Trial {
     }
 
     /// Does some changes, the first of them first. Where memory is wanting, some of them may have been done.
-    pub(crate) fn do_changes(&mut self, alloc: Global, changes: Vec<Change>) -> Result<(), Memory>
+    pub fn do_changes(&mut self, alloc: Global, changes: Vec<Change>) -> Result<(), Memory>
         requires { weight self.old.seen < 2 ^ 64 }
         ensures before { self.new.before ≡ self.old.before }
-        ensures seen { OnOk result (self.new.seen ≡ after (map spoken changes.items) self.old.seen) }
+        ensures seen { OnOk result (self.new.seen ≡ after (map change_of changes.items) self.old.seen) }
     {
         for change in changes {
             self.do_change(alloc, change)?;
@@ -131,23 +131,23 @@ impl Trial {
     }
 
     /// The weight of what the changes have made so far.
-    pub(crate) fn weight(&self) -> u128
+    pub fn weight(&self) -> u128
         ensures { result ≡ weight self.now.seen }
     {
         self.total
     }
 
     /// The entries as they were before the changes. It needs no memory.
-    pub(crate) fn roll_back(self) -> SortedEntries
+    pub fn roll_back(self) -> SortedEntries
         ensures { result ≡ self.before }
     {
         let mut held = self.held;
-        held.undo(self.notes);
+        held.undo(self.undo_log);
         held
     }
 
     /// The entries that the changes have made. It needs no memory.
-    pub(crate) fn finish(self) -> SortedEntries
+    pub fn finish(self) -> SortedEntries
         ensures { result ≡ self.seen }
     {
         let mut held = self.held;

@@ -1,8 +1,8 @@
 use Rattle.std.proofs.Common.{ap, ◌∙◌}
-use Rattle.ct_keep.specs.Trials.{staying}
+use Rattle.ct_keep.specs.Transactions.{staying}
 use Rattle.ct_keep.proofs.ContentLaws.{staying-none}
 use Rattle.ct_keep.proofs.Courses.{course_begins}
-use Rattle.ct_keep.proofs.trials.Trial.begin.Goals as goal
+use Rattle.ct_keep.proofs.transactions.Transaction.begin.Goals as goal
 
 pub invariant_of-result : goal.invariant_of-result
 invariant_of-result c = course_begins c.args.held c.new.result c.new-2.result.items c.args.total c.new.ensures c.new-2.ensures.items c.requires

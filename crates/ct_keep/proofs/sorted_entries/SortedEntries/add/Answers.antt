@@ -1,0 +1,33 @@
+use Rattle.std.proofs.Common.{◌≡◌, ℕ, List, None, length, sym, ap, subst, ◌∙◌, arith}
+use Rattle.std.proofs.lemmas.List.{length-map}
+use Rattle.std.specs.FinMap.{get, insert}
+use Rattle.ct_keep.specs.Content.{Content}
+use Rattle.ct_keep.specs.Pairs.{content_of}
+use Rattle.ct_keep.specs.SortedLaws.{entries-content_of, content_of-insert}
+use Rattle.ct_keep.specs.Counting.{AreCounts, CountsMore}
+use Rattle.ct_keep.specs.CountingLaws.{count_at-le, counts_added}
+use Rattle.ct_keep.proofs.sorted_entries.SortedEntries.add.Goals as goal
+use Rattle.ct_keep.proofs.sorted_entries.SortedEntries.add.Goals.{In-Ok}
+
+pub add-requires : goal.add-requires
+add-requires c = λ p is.
+    let es = c.self.inside.entries.entries in
+    let most = count_at-le (content_of es) c.self.inside.owner_counts p c.deref.result.now c.self.invariant.counted is in
+    let all = ap (λ (l : List (List ℕ × List ℕ)). length l) (entries-content_of es c.self.invariant.ordered) ∙ length-map {B = List ℕ × List ℕ} es (λ e. (e.0.items, e.1.items)) in
+    omega (arith, most, all, c.len-number.ensures.len, c.len-number.ensures.small)
+
+content_is : (c : In-Ok) → content_of c.insert.new.self.entries ≡ insert (content_of c.self.inside.entries.entries) c.args.key.items c.args.value.items
+content_is c = content_of-insert c.self.inside.entries.entries c.insert.new.self.entries c.args.key c.args.value c.self.invariant.ordered c.in-Ok.ensures.ordered c.in-Ok.ensures.entries
+
+pub invariant_of-self-in-Ok : goal.invariant_of-self-in-Ok
+invariant_of-self-in-Ok c = record {
+  ordered = c.in-Ok.ensures.ordered;
+  counted =
+      let old = content_of c.self.inside.entries.entries in
+      let absent : get old c.args.key.items ≡ None = ap (λ (m : Content). get m c.args.key.items) c.self.view_is ∙ c.requires in
+      let more = subst (λ (k : List ℕ). CountsMore k c.self.inside.owner_counts c.add.new.self) c.deref.ensures.value c.in_ok-add.ensures.ok in
+      subst (λ (m : Content). AreCounts m c.add.new.self) (sym (content_is (goal.at.invariant_of-self-in-Ok c).In-Ok)) (counts_added old c.self.inside.owner_counts c.add.new.self c.args.key.items c.args.value.items c.self.invariant.counted absent more);
+}
+
+pub returns-in-Ok-clause-ok : goal.returns-in-Ok-clause-ok
+returns-in-Ok-clause-ok c = content_is (goal.at.returns-in-Ok-clause-ok c).In-Ok ∙ ap (λ (m : Content). insert m c.args.key.items c.args.value.items) c.self.view_is
