@@ -16,16 +16,6 @@ use Rattle.db_state.specs.Effects.{Effect, Refused, Does, refuse, refuse_by, wit
 use Rattle.db_change.specs.Inserting.{are_of_sorts, arranged, check_list, check_values, has_row, has_too_long, insert_into, insert_row, insert_values, is_beyond_range, key_in, others_kept, row_created, taken_key, with_new_row, IsFreeRow}
 use Rattle.ct_base.specs.laws.Options.{no_value as gone}
 
--- ---- how many rows
-
-pub many_rows : (few : Bool) (n : ℕ) → IsTrue few ↔ (n ≤ 99999) → not few ≡ nat_le row_limit n
-many_rows true n h = let least : n ≤ 99999 = h.0 refl in sym (lt-leb row_limit n (omega arith))
-many_rows false n h = go (cases_lt 99999 n)
-  where
-    go : (99999 < n) ⊎ (n ≤ 99999) → true ≡ nat_le row_limit n
-    go (inl more) = sym (le-leb row_limit n (omega arith))
-    go (inr few) = absurd (false≢true (h.1 few))
-
 -- ---- chains of checks that lead on
 
 refuse_passed : (b : Bool) (refusal : Refusal) (effect : Effect) (m : State) → refuse b refusal effect ≡ Does m [] → (b ≡ false) × (effect ≡ Does m [])

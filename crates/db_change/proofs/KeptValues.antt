@@ -1,11 +1,10 @@
 -- What a row keeps of values.
-use Rattle.std.proofs.Common.{◌≡◌, ℕ, ℤ, suc, ◌+◌, ◌<◌, ◌≤◌, true, false, List, [], ◌∷◌, ◌++◌, length, map, take, get_or, pos, Option, Some, None, refl, sym, ap, subst, ◌∙◌, arith, append-nil}
-use Rattle.std.specs.List.{All, list_any, filter_map}
-use Rattle.std.proofs.lemmas.List.{take_more, map-append, length-take, length-map}
-use Rattle.std.proofs.lemmas.List.Elements.{All-more}
+use Rattle.std.proofs.Common.{◌≡◌, ℕ, ℤ, suc, ◌+◌, ◌-◌, ◌^◌, ◌<◌, ◌≤◌, true, false, List, [], ◌∷◌, ◌++◌, length, map, take, get_or, pos, Option, Some, None, refl, sym, ap, subst, ◌∙◌, arith, append-nil, append_assoc}
+use Rattle.std.specs.Prelude.{min}
+use Rattle.std.specs.List.{All, list_any, filter_map, remove}
+use Rattle.std.proofs.lemmas.List.Elements.{All-more, All-cons}
 use Rattle.std.proofs.lemmas.Bool.{ltb-false, and_parts}
 use Rattle.ct_base.specs.declared.lists.Value.{Value}
-use Rattle.ct_base.specs.declared.lists.Value.TheVariants.{Number as NumberValue, Text as TextValue}
 use Rattle.st_parse.specs.declared.statements.Operand.{Operand}
 use Rattle.st_parse.specs.declared.statements.Operand.TheVariants.{Text, Number}
 use Rattle.st_parse.specs.declared.statements.Whole.TheVariants.{Fits, Beyond}
@@ -30,43 +29,73 @@ numbers_kept (Number Beyond ∷ vs) = ap (λ (ns : List ℤ). pos 0 ∷ ns) (num
 
 -- ---- texts
 
-texts_from-append : (c : ℕ) (xs ys : List Value) → texts_from c (xs ++ ys) ≡ texts_from c xs ++ texts_from (c + length xs) ys
-texts_from-append c [] ys = ap (λ (d : ℕ). texts_from d ys) (let e : c ≡ c + 0 = omega arith in e)
-texts_from-append c (NumberValue n ∷ xs) ys = texts_from-append (suc c) xs ys ∙ ap (λ (d : ℕ). texts_from (suc c) xs ++ texts_from d ys) (let e : suc c + length xs ≡ c + suc (length xs) = omega arith in e)
-texts_from-append c (TextValue text ∷ xs) ys =
-    ap (λ (ts : List (ℕ × List ℕ)). (c, text) ∷ ts)
-    (texts_from-append (suc c) xs ys ∙ ap (λ (d : ℕ). texts_from (suc c) xs ++ texts_from d ys) (let e : suc c + length xs ≡ c + suc (length xs) = omega arith in e))
+-- the texts of the values before those that are left, of which the first has this place; the columns are those that a byte can count
+pub record TextsSoFar (all left : List Operand) (place : ℕ) (items : List (ℕ × List ℕ)) : Type 0 where
+  pub place_is : length all ≤ 255 → place + length left ≡ length all
+  pub whole : length all ≤ 255 → items ++ texts_from (place + 1) (map kept_value left) ≡ texts_of (map kept_value all)
 
-text_none : (c : ℕ) (x : Operand) → None ≡ text_value x → texts_from c (kept_value x ∷ []) ≡ []
-text_none c (Text text) e = cc
-text_none c (Number (Fits n)) e = refl
-text_none c (Number Beyond) e = refl
+pub texts_begin : (all left : List Operand) → left ≡ all → TextsSoFar all left 0 []
+texts_begin all left is = record {
+  place_is = λ few. let same = ap (λ (vs : List Operand). length vs) is in omega (arith, same);
+  whole = λ few. ap (λ (vs : List Operand). texts_of (map kept_value vs)) is;
+}
 
-text_some : (c : ℕ) (x : Operand) (text : List ℕ) → Some text ≡ text_value x → texts_from c (kept_value x ∷ []) ≡ (c, text) ∷ []
-text_some c (Text own) text e = ap (λ (t : List ℕ). (c, t) ∷ []) (let same : own ≡ text = cc in same)
-text_some c (Number n) text e = cc
+from_none : (c : ℕ) (x : Operand) (vs : List Value) → None ≡ text_value x → texts_from c (kept_value x ∷ vs) ≡ texts_from (suc c) vs
+from_none c (Text text) vs e = cc
+from_none c (Number (Fits n)) vs e = refl
+from_none c (Number Beyond) vs e = refl
 
-module _ (vs : List Operand) (i : ℕ) (x : Operand) (items : List (ℕ × List ℕ)) (so_far : i ≤ 255 → items ≡ texts_of (map kept_value (take i vs))) (less : i < length vs) (is : x ≡ get_or vs i x) where
-  texts_step : texts_of (map kept_value (take (i + 1) vs)) ≡ texts_of (map kept_value (take i vs)) ++ texts_from (i + 1) (kept_value x ∷ [])
-  texts_step =
-      ap (λ (ws : List Operand). texts_of (map kept_value ws)) (take_more vs i x less)
-      ∙ ap texts_of (map-append kept_value (take i vs) (get_or vs i x ∷ []))
-      ∙ texts_from-append 1 (map kept_value (take i vs)) (kept_value (get_or vs i x) ∷ [])
-      ∙ ap (λ (w : Operand). texts_of (map kept_value (take i vs)) ++ texts_from (1 + length (map kept_value (take i vs))) (kept_value w ∷ [])) (sym is)
-      ∙ ap (λ (c : ℕ). texts_of (map kept_value (take i vs)) ++ texts_from c (kept_value x ∷ []))
-      (let taken = length-take i vs in let mapped = length-map (take i vs) kept_value in let e : 1 + length (map kept_value (take i vs)) ≡ i + 1 = omega (arith, taken, mapped) in e)
+from_some : (c : ℕ) (x : Operand) (vs : List Value) (text : List ℕ) → Some text ≡ text_value x → texts_from c (kept_value x ∷ vs) ≡ (c, text) ∷ texts_from (suc c) vs
+from_some c (Text own) vs text e = ap (λ (t : List ℕ). (c, t) ∷ texts_from (suc c) vs) (let same : own ≡ text = cc in same)
+from_some c (Number n) vs text e = cc
 
-  pub texts_passed : None ≡ text_value x → i + 1 ≤ 255 → items ≡ texts_of (map kept_value (take (i + 1) vs))
-  texts_passed none few =
-      so_far (omega arith)
-      ∙ sym (texts_step ∙ ap (λ (ts : List (ℕ × List ℕ)). texts_of (map kept_value (take i vs)) ++ ts) (text_none (i + 1) x none) ∙ append-nil (texts_of (map kept_value (take i vs))))
+module _ (all left rest : List Operand) (x : Operand) (place next : ℕ) (items : List (ℕ × List ℕ)) (so_far : TextsSoFar all left place items) (is : left ≡ x ∷ rest) (counts : next ≡ min (place + 1) (2 ^ 64 - 1)) where
+  longer : length all ≤ 255 → place + suc (length rest) ≡ length all
+  longer few = let before = so_far.place_is few in let same = ap (λ (vs : List Operand). length vs) is in omega (arith, before, same)
 
-  pub texts_added : (c : ℕ) (text : List ℕ) (new : List (ℕ × List ℕ)) → Some text ≡ text_value x → (i < 255 → c ≡ i + 1) → new ≡ items ++ (c, text) ∷ [] → i + 1 ≤ 255 → new ≡ texts_of (map kept_value (take (i + 1) vs))
-  texts_added c text new some column added few =
-      added
-      ∙ ap (λ (ts : List (ℕ × List ℕ)). ts ++ (c, text) ∷ []) (so_far (omega arith))
-      ∙ ap (λ (d : ℕ). texts_of (map kept_value (take i vs)) ++ (d, text) ∷ []) (column (omega arith))
-      ∙ sym (texts_step ∙ ap (λ (ts : List (ℕ × List ℕ)). texts_of (map kept_value (take i vs)) ++ ts) (text_some (i + 1) x text some))
+  next_is : length all ≤ 255 → next ≡ place + 1
+  next_is few = let long = longer few in omega (arith, counts, long)
+
+  goes_on : length all ≤ 255 → next + length rest ≡ length all
+  goes_on few = let long = longer few in let step = next_is few in omega (arith, long, step)
+
+  left_is : length all ≤ 255 → items ++ texts_from (place + 1) (kept_value x ∷ map kept_value rest) ≡ texts_of (map kept_value all)
+  left_is few = ap (λ (vs : List Operand). items ++ texts_from (place + 1) (map kept_value vs)) (sym is) ∙ so_far.whole few
+
+  place_then : length all ≤ 255 → next + 1 ≡ suc (place + 1)
+  place_then few = let step = next_is few in omega (arith, step)
+
+  pub texts_passed : None ≡ text_value x → TextsSoFar all rest next items
+  texts_passed none = record {
+    place_is = goes_on;
+    whole = λ few.
+        ap (λ (c : ℕ). items ++ texts_from c (map kept_value rest)) (place_then few)
+        ∙ ap (λ (ts : List (ℕ × List ℕ)). items ++ ts) (sym (from_none (place + 1) x (map kept_value rest) none)) ∙ left_is few;
+  }
+
+  pub texts_added : (c : ℕ) (text : List ℕ) (new : List (ℕ × List ℕ)) → Some text ≡ text_value x → (place < 255 → c ≡ place + 1) → new ≡ items ++ (c, text) ∷ [] → TextsSoFar all rest next new
+  texts_added c text new some column added = record {
+    place_is = goes_on;
+    whole = λ few.
+        let long = longer few in
+        ap (λ (ts : List (ℕ × List ℕ)). ts ++ texts_from (next + 1) (map kept_value rest)) added
+        ∙ append_assoc items ((c, text) ∷ []) (texts_from (next + 1) (map kept_value rest))
+        ∙ ap (λ (d : ℕ). items ++ (d, text) ∷ texts_from (next + 1) (map kept_value rest)) (column (omega (arith, long, few)))
+        ∙ ap (λ (d : ℕ). items ++ (place + 1, text) ∷ texts_from d (map kept_value rest)) (place_then few)
+        ∙ ap (λ (ts : List (ℕ × List ℕ)). items ++ ts) (sym (from_some (place + 1) x (map kept_value rest) text some)) ∙ left_is few;
+  }
+
+-- no value is left
+pub texts_whole : (all left : List Operand) (place : ℕ) (items : List (ℕ × List ℕ)) → TextsSoFar all left place items → left ≡ [] → length all ≤ 255 → items ≡ texts_of (map kept_value all)
+texts_whole all left place items so_far none few = sym (append-nil items) ∙ ap (λ (vs : List Operand). items ++ texts_from (place + 1) (map kept_value vs)) (sym none) ∙ so_far.whole few
+
+-- a value more is kept
+pub kept_front : (P : Operand → Type 0) (all left rest : List Operand) (x : Operand) → (All P left → All P all) → left ≡ x ∷ rest → P x → All P rest → All P all
+kept_front P all left rest x so_far is p more = so_far (subst (All P) (sym is) (All-cons P x rest p more))
+
+pub key_removed : (vs : List Operand) → 1 ≤ length vs → remove vs 0 ≡ behind_key vs
+key_removed [] some = absurd (omega (arith, some))
+key_removed (v ∷ vs) some = refl
 
 -- one value more
 pub kept_more : (P : Operand → Type 0) (vs : List Operand) (i : ℕ) (x : Operand) → All P (take i vs) → i < length vs → x ≡ get_or vs i x → P x → All P (take (i + 1) vs)

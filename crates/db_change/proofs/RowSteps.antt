@@ -20,7 +20,7 @@ use Rattle.db_state.specs.Committing.{are_bounded}
 use Rattle.db_change.specs.Inserting.{behind_key, kept_value, others_kept, note_all_changes, with_new_row, IsFreeRow, IsNumberKept, IsTextKept}
 use Rattle.db_state.specs.laws.Heads.{heads, heads_stand}
 use Rattle.db_change.proofs.KeptValues.{others_fit, few_others}
-use Rattle.db_change.proofs.NewRows.{names_on, row_changes, row_changes_bounded, new_row_stands}
+use Rattle.db_change.specs.laws.NewRows.{names_on, new_row_changes, new_row_changes_bounded, new_row_stands}
 
 module _ (c : Content) (m : State) (t : List ℕ) (x : Table) (r : ℤ) (values vs : List Operand) (stands : Stands c m) (here : get m.tables t ≡ Some x) (free : IsFreeRow x values r) (row : IsRow r)
     (behind : vs ≡ behind_key values) (numbers : All IsNumberKept vs) (texts : All IsTextKept vs) (shown found : List (List ℕ × IndexHead)) (same : shown ≡ found) (are : AreIndexesOf (at c) t found)
@@ -32,7 +32,7 @@ module _ (c : Content) (m : State) (t : List ℕ) (x : Table) (r : ℤ) (values 
   few : length vs ≤ 255
   few = subst (λ (us : List Operand). length us ≤ 255) (sym behind) (few_others x values r (stands.state.tables.each t x here).columns.few free)
 
-  batch_is : batch ≡ spell (row_changes t r (others_kept values) (names_on m.indexes t))
+  batch_is : batch ≡ spell (new_row_changes t r (others_kept values) (names_on m.indexes t))
   batch_is =
       whole
       ∙ ap (λ (es : List (List ℕ × IndexHead)). changes ++ spell (note_all_changes (map (λ e. e.0) es) r)) same
@@ -44,7 +44,7 @@ module _ (c : Content) (m : State) (t : List ℕ) (x : Table) (r : ℤ) (values 
   pub batch_bounded : are_bounded batch ≡ true
   batch_bounded =
       ap are_bounded batch_is
-      ∙ row_changes_bounded m t x r (others_kept values) here stands.state row (others_fit x values r free (subst (All IsNumberKept) behind numbers) (subst (All IsTextKept) behind texts))
+      ∙ new_row_changes_bounded m t x r (others_kept values) here stands.state row (others_fit x values r free (subst (All IsNumberKept) behind numbers) (subst (All IsTextKept) behind texts))
 
   pub batch_stands : Stands (after batch c) (with_new_row m t r (others_kept values))
   batch_stands =

@@ -29,9 +29,9 @@ is_key_first [] = false
 is_key_first (c ∷ cs) = (is_number c.sort && c.primary) && list_all (λ (d : ColumnText). not d.primary) cs
 
 -- no two columns have one name
-abbrev pub are_apart : List ColumnText → Bool
-are_apart [] = true
-are_apart (c ∷ cs) = not (list_any (λ (d : ColumnText). same_list c.name d.name) cs) && are_apart cs
+abbrev pub names_differ : List ColumnText → Bool
+names_differ [] = true
+names_differ (c ∷ cs) = not (list_any (λ (d : ColumnText). same_list c.name d.name) cs) && names_differ cs
 
 -- a size that VARCHAR2 may have, from 1 on
 abbrev pub is_size : Option ℕ → Bool
@@ -59,7 +59,7 @@ column_of c = record { name = c.name; sort = sort_of c.sort }
 abbrev pub check_table : Bool → Bool → List ℕ → List ColumnText → Effect → Effect
 check_table there many t columns done =
     refuse (there || is_view t) (ExistsAlready t)
-    (refuse (not (is_key_first columns && are_apart columns)) WrongValues
+    (refuse (not (is_key_first columns && names_differ columns)) WrongValues
     (refuse (not (all_sized columns)) OutOfRange
     (refuse (nat_lt column_limit (length columns) || many) LimitReached
     done)))
@@ -78,7 +78,7 @@ create_table m t columns =
 -- no check holds
 pub record IsFreeTable (m : State) (t : List ℕ) (columns : List ColumnText) : Type 0 where
   pub free : (is_some (get m.tables t) || is_view t) ≡ false
-  pub formed : (is_key_first columns && are_apart columns) ≡ true
+  pub formed : (is_key_first columns && names_differ columns) ≡ true
   pub sized : all_sized columns ≡ true
   pub few : (nat_lt column_limit (length columns) || nat_le table_limit (length (entries m.tables))) ≡ false
 

@@ -1,19 +1,18 @@
 //! CREATE TABLE.
-#![tactic(auto, using(ct_keep::specs::Composing::reads_on, ct_keep::specs::Composing::reads_short))]
+#![tactic(auto, using(ct_keep::specs::Composing::reads_on, ct_keep::specs::Composing::reads_short, ct_keep::specs::Composing::accepts_on))]
 
 ghost use Rattle.std.specs.Prelude.{All, ◌≡◌, ◌≤◌, IfOk, Some, None, true, not, ◌&&◌, length, map};
 ghost use Rattle.std.specs.List.{list_any, list_all};
 ghost use Rattle.std.specs.Option.{unwrap_or};
 ghost use Rattle.ct_base.specs.Names.{IsName};
-ghost use Rattle.ct_keep.specs.KeeperViews.{OnlyReads};
+ghost use Rattle.ct_keep.specs.KeeperViews.{AcceptsChanges, OnlyReads};
 ghost use Rattle.ct_entry.specs.Keys.{same_list};
 ghost use Rattle.ct_entry.specs.Changes.{spell};
 ghost use Rattle.st_parse.specs.declared.statements.ColumnText.{ColumnText};
 ghost use Rattle.tb_table.specs.Spelling.{table_changes};
 ghost use Rattle.tb_table.specs.declared.columns.Column.{Column};
-ghost use Rattle.db_state.specs.States.{TakesAll};
 ghost use Rattle.db_state.specs.Effects.{Effect, as_count, Checks};
-ghost use Rattle.db_change.specs.Creating.{are_apart as columns_apart, check_table, column_of, all_sized, is_size, create_table as create_table_effect, is_key_first as key_first, is_number as sort_is_number, is_sized as sort_sized, sort_of, table_created};
+ghost use Rattle.db_change.specs.Creating.{names_differ as columns_apart, check_table, column_of, all_sized, is_size, create_table as create_table_effect, is_key_first as key_first, is_number as sort_is_number, is_sized as sort_sized, sort_of, table_created};
 ghost use Rattle.db_state.specs.Plans.{Plans, Replies};
 
 use ct_base::{COLUMN_LIMIT, Memory, Name, TEXT_LIMIT};
@@ -62,7 +61,7 @@ fn has_name(columns: &[ColumnText], name: &Name) -> bool
 }
 
 /// Whether no two columns have one name.
-fn are_apart(columns: &[ColumnText]) -> bool
+fn names_differ(columns: &[ColumnText]) -> bool
     ensures { result ≡ columns_apart columns.now }
 {
     let mut rest = columns;
@@ -109,7 +108,7 @@ fn table_fault<'a>(
     if there || is_view(name) {
         return Some(Fault::ExistsAlready(name));
     }
-    if !(is_key_first(columns) && are_apart(columns)) {
+    if !(is_key_first(columns) && names_differ(columns)) {
         return Some(Fault::WrongValues);
     }
     if !are_sized(columns) {
@@ -206,8 +205,7 @@ pub fn create_table<K: Keeper>(
     table: &Name,
     columns: &[ColumnText],
 ) -> Result<Vec<u8>, KeepFault>
-    requires ready { (K.view keeper.old).ready }
-    requires takes { TakesAll (K.view keeper.old).fixed.well }
+    requires { AcceptsChanges (K.view keeper.old) }
     ensures { Replies K.view keeper.old keeper.new result (λ m. create_table_effect m table.now columns.now) (Some table_created) }
 {
     match table_plan(alloc, keeper, table, columns) {

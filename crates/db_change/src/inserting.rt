@@ -1,17 +1,17 @@
 //! INSERT.
-#![tactic(auto, using(ct_keep::specs::Composing::reads_on, ct_keep::specs::Composing::reads_short))]
+#![tactic(auto, using(ct_keep::specs::Composing::reads_on, ct_keep::specs::Composing::reads_short, ct_keep::specs::Composing::accepts_on))]
 
 ghost use Rattle.std.specs.Prelude.{◌≡◌, ◌≤◌, ◌<◌, ◌+◌, ◌++◌, IfOk, OnOk, Some, None, Err, true, false, nat_le, length, map};
 ghost use Rattle.std.specs.List.{list_any, list_all, filter_map, All};
 ghost use Rattle.std.specs.Option.{option_map};
 ghost use Rattle.std.specs.FinMap.{get, entries};
 ghost use Rattle.ct_base.specs.Limits.{row_limit};
-ghost use Rattle.ct_keep.specs.KeeperViews.{OnlyReads};
+ghost use Rattle.ct_keep.specs.KeeperViews.{AcceptsChanges, OnlyReads};
 ghost use Rattle.ct_entry.specs.Keys.{same_list};
 ghost use Rattle.ct_entry.specs.Changes.{spell};
 ghost use Rattle.tb_table.specs.declared.columns.Column.{Column};
 ghost use Rattle.tb_table.specs.Tables.{Table, numbers_of, texts_of};
-ghost use Rattle.db_state.specs.States.{OverTable, TakesAll};
+ghost use Rattle.db_state.specs.States.{OverTable};
 ghost use Rattle.db_state.specs.Effects.{Effect, Checks};
 ghost use Rattle.db_state.specs.Columns.{first_unknown as unknown_name};
 ghost use Rattle.db_change.specs.Inserting.{MakesRow, PlansRow, row_changes, are_of_sorts as all_of_sorts, arranged as arranged_values, behind_key as others_of, check_list, check_values, covers as covers_columns, has_row as has_row_of, has_too_long as any_too_long, insert_into as insert_into_effect, is_beyond_range, is_of_sort as sort_takes, is_too_long as too_long_for, key_in as key_of, kept_value, number_value, text_value, IsNumberKept, IsTextKept, note_all_changes, names_of, row_created, value_under as named_value, IsFreeRow};
@@ -25,15 +25,12 @@ use db_state::{Plan, carry_out, has_column, table_columns};
 use ix_context::note_insert;
 use st_parse::{ColumnNames, Operand, Whole};
 use std::alloc::Global;
-use tb_table::{Column, Sort, has_row, insert, row_count_at_most};
-
-/// How many rows a table has at most where one more fits.
-const MOST_ROWS_BEFORE: u32 = ROW_LIMIT - 1;
+use tb_table::{Column, Sort, has_row, insert, row_count};
 
 // ---- the list of columns
 
 /// The first of the names that is no column's.
-fn first_unknown<'a>(names: &'a [Name], columns: &[Column]) -> Option<&'a Name>
+fn unknown_column<'a>(names: &'a [Name], columns: &[Column]) -> Option<&'a Name>
     ensures { option_map (λ name. name.now) result ≡ unknown_name names.now columns.now }
 {
     for name in names {
@@ -89,7 +86,7 @@ fn list_fault<'a>(
 ) -> Option<Fault<'a>>
     ensures { (done : Effect) → Checks result (check_list columns.now names.now values.now done) done }
 {
-    if let Some(name) = first_unknown(names_in(names), columns) {
+    if let Some(name) = unknown_column(names_in(names), columns) {
         return Some(Fault::UnknownName(name.as_str()));
     }
     if !covers(names, columns) || values.len() != columns.len() {
@@ -304,12 +301,15 @@ fn numbers_in(alloc: Global, values: &[Operand]) -> Result<Vec<i64>, Memory>
 }
 
 /// The text that a row keeps of a value, if any.
-fn text_in(value: &Operand) -> Option<&str>
-    ensures text { option_map (λ text. text.now) result ≡ text_value value.now }
-    ensures utf8 { IsTextKept value.now }
+fn text_in(value: Operand) -> Option<Text>
+    ensures text { result ≡ text_value value }
+    ensures utf8 { IsTextKept value }
 {
     match value {
-        Operand::Text(text) => Some(text.as_str()),
+        Operand::Text(text) => {
+            let _utf8 = text.as_str();
+            Some(text)
+        }
         Operand::Number(_) => None,
     }
 }
@@ -321,31 +321,39 @@ fn column_of(place: usize) -> u8
     u8::try_from(place.saturating_add(1)).unwrap_or(u8::MAX)
 }
 
-/// The texts of a row by its values but the key, each with its column.
-fn texts_in(alloc: Global, values: &[Operand]) -> Result<Vec<(u8, Text)>, Memory>
-    ensures texts { IfOk result (λ texts. length values.now ≤ 255 → texts.items ≡ texts_of (map kept_value values.now)) }
-    ensures utf8 { IfOk result (λ _. All IsTextKept values.now) }
+/// The texts of a row by its values but the key, each with its column. None is copied.
+fn texts_in(alloc: Global, values: Vec<Operand>) -> Result<Vec<(u8, Text)>, Memory>
+    ensures texts { IfOk result (λ texts. length values.items ≤ 255 → texts.items ≡ texts_of (map kept_value values.items)) }
+    ensures utf8 { IfOk result (λ _. All IsTextKept values.items) }
 {
     let mut texts = Vec::new(alloc);
-    for (place, value) in values.iter().enumerate() {
+    let mut place: usize = 0;
+    for value in values {
+        let column = column_of(place);
+        place = place.saturating_add(1);
         let Some(text) = text_in(value) else {
             continue;
         };
-        texts.push((column_of(place), Text::of(alloc, text)?))?;
+        texts.push((column, text))?;
     }
     Ok(texts)
 }
 
-/// The changes of a row.
-fn row_batch(alloc: Global, table: &Name, row: RowKey, values: &[Operand]) -> Result<Batch, Memory>
-    ensures changes { IfOk result (λ batch. length values.now ≤ 255 → batch ≡ spell (row_changes table.now row.0 values.now)) }
-    ensures numbers { IfOk result (λ _. All IsNumberKept values.now) }
-    ensures texts { IfOk result (λ _. All IsTextKept values.now) }
+/// The changes of a row by its values but the key.
+fn row_batch(
+    alloc: Global,
+    table: &Name,
+    row: RowKey,
+    values: Vec<Operand>,
+) -> Result<Batch, Memory>
+    ensures changes { IfOk result (λ batch. length values.items ≤ 255 → batch ≡ spell (row_changes table.now row.0 values.items)) }
+    ensures numbers { IfOk result (λ _. All IsNumberKept values.items) }
+    ensures texts { IfOk result (λ _. All IsTextKept values.items) }
 {
-    let numbers = numbers_in(alloc, values)?;
+    let numbers = numbers_in(alloc, values.as_slice())?;
     let texts = texts_in(alloc, values)?;
     let mut batch = Batch::new(alloc);
-    insert(alloc, &mut batch, table, row, &numbers, &texts)?;
+    insert(alloc, &mut batch, table, row, &numbers, texts)?;
     Ok(batch)
 }
 
@@ -365,13 +373,14 @@ fn note_all(
 }
 
 /// The values but the key.
-fn behind_key(values: &[Operand]) -> &[Operand]
-    ensures { result.now ≡ others_of values.now }
+#[tactic(auto, using(crate::proofs::KeptValues::key_removed))]
+fn behind_key(mut values: Vec<Operand>) -> Vec<Operand>
+    ensures { result.items ≡ others_of values.items }
 {
-    match values {
-        [] => &[],
-        [_, others @ ..] => others,
+    if !values.is_empty() {
+        let _key = values.remove(0);
     }
+    values
 }
 
 /// The batch of a row that has passed the checks: its changes and those that it waits in each index on the table.
@@ -380,10 +389,10 @@ fn noted_batch<K: Keeper>(
     keeper: &mut K,
     table: &Name,
     row: RowKey,
-    values: &[Operand],
+    values: Vec<Operand>,
 ) -> Result<Batch, KeepFault>
     requires { (K.view keeper.old).ready }
-    ensures batch { OverTable K.view keeper.old table.now (λ m c x. IsFreeRow x values.now row.0 → IfOk result (MakesRow m c table.now row.0 values.now)) }
+    ensures batch { OverTable K.view keeper.old table.now (λ m c x. IsFreeRow x values.items row.0 → IfOk result (MakesRow m c table.now row.0 values.items)) }
     ensures reads { OnlyReads K.view keeper.old keeper.new result }
 {
     let mut batch = row_batch(alloc, table, row, behind_key(values))?;
@@ -417,8 +426,8 @@ fn has_most_rows<K: Keeper>(alloc: Global, keeper: &mut K, table: &Name) -> Resu
     ensures many { OverTable K.view keeper.old table.now (λ m c x. IfOk result (λ many. many ≡ nat_le row_limit (length (entries x.rows)))) }
     ensures reads { OnlyReads K.view keeper.old keeper.new result }
 {
-    let few = row_count_at_most(alloc, keeper, table, MOST_ROWS_BEFORE)?;
-    Ok(!few)
+    let count = row_count(alloc, keeper, table)?;
+    Ok(count >= ROW_LIMIT as u64)
 }
 
 /// What an INSERT of values in the order of the columns of a table that is there comes to.
@@ -427,16 +436,17 @@ fn values_plan<'a, K: Keeper>(
     keeper: &mut K,
     table: &'a Name,
     columns: &[Column],
-    values: &[Operand],
+    values: Vec<Operand>,
 ) -> Result<Plan<'a>, KeepFault>
     requires { (K.view keeper.old).ready }
-    ensures plan { OverTable K.view keeper.old table.now (λ m c x. PlansRow m c x table.now columns.now values.now result) }
+    ensures plan { OverTable K.view keeper.old table.now (λ m c x. PlansRow m c x table.now columns.now values.items result) }
     ensures reads { OnlyReads K.view keeper.old keeper.new result }
 {
-    let key = key_in(values);
+    let slice = values.as_slice();
+    let key = key_in(slice);
     let taken = is_taken(alloc, keeper, table, key)?;
     let many = has_most_rows(alloc, keeper, table)?;
-    if let Some(fault) = values_fault(taken, many, columns, values) {
+    if let Some(fault) = values_fault(taken, many, columns, slice) {
         return Ok(Plan::Refused(fault));
     }
     let Some(key) = key else {
@@ -465,12 +475,12 @@ fn insert_plan<'a, K: Keeper>(
         return Ok(Plan::Refused(fault));
     }
     let values = arrange(alloc, names, &columns, values)?;
-    values_plan(alloc, keeper, table, &columns, &values)
+    values_plan(alloc, keeper, table, &columns, values)
 }
 
 /// INSERT. Beside the table's columns it reads whether the key is taken, whether the table has room for a row, and the entries
-/// of all indexes; its cost is theirs, and that of the values' bytes. Where a key of the table lies over 99,998 above its
-/// least, whether there is room takes a look-up for each row of the table.
+/// of all indexes; its cost is theirs, and that of the values' bytes, which are copied once. That the table has room is read from
+/// the keeper's count, by no look-up.
 pub fn insert_into<K: Keeper>(
     alloc: Global,
     keeper: &mut K,
@@ -478,8 +488,7 @@ pub fn insert_into<K: Keeper>(
     names: &Option<ColumnNames>,
     values: &[Operand],
 ) -> Result<Vec<u8>, KeepFault>
-    requires ready { (K.view keeper.old).ready }
-    requires takes { TakesAll (K.view keeper.old).fixed.well }
+    requires { AcceptsChanges (K.view keeper.old) }
     ensures { Replies K.view keeper.old keeper.new result (λ m. insert_into_effect m table.now names.now values.now) (Some row_created) }
 {
     match insert_plan(alloc, keeper, table, names, values) {

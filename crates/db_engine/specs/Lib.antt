@@ -1,3 +1,4 @@
 pub mod Steps
 pub mod Executing
 pub mod Runs
+pub mod ShownStore

@@ -2,7 +2,9 @@
 #![tactic(auto)]
 
 mod executing;
+mod laws;
 mod replies;
 
 pub use executing::execute;
+pub use laws::shown_store_stands;
 pub use replies::{Reply, Stop};

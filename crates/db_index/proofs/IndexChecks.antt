@@ -31,13 +31,13 @@ use Rattle.db_cond.specs.Faults.{UnknownName}
 use Rattle.db_state.specs.States.{State, Stands, indexes_on, index_limit}
 use Rattle.db_state.specs.Effects.{Refused, Does, with_found}
 use Rattle.db_state.specs.Columns.{place_of, place_from}
-use Rattle.db_index.specs.Indexing.{has_index_on, has_too_many_rows, all_rows, target, is_text_at, check_index, index_created, with_new_index, create_index_on, create_index, IsFreeIndex}
+use Rattle.db_index.specs.Indexing.{has_context_index, has_too_many_rows, all_rows, target, is_text_at, check_index, index_created, with_new_index, create_index_on, create_index, IsFreeIndex}
 use Rattle.db_state.specs.Lookups.{index_among, FoundOn}
 use Rattle.db_state.specs.laws.Chains.{passed}
-use Rattle.db_index.proofs.Counting.{counted, count-cons, count_insert}
+use Rattle.db_index.specs.laws.Counting.{counted, count-cons, count_insert}
 use Rattle.db_state.specs.laws.EachValue.{entries-each_value, count_alike}
 use Rattle.db_state.specs.laws.Heads.{head_of_index, heads}
-use Rattle.db_index.proofs.NewMarks.{every_row}
+use Rattle.db_index.specs.laws.NewMarks.{every_row}
 
 -- ---- the index on a column
 
@@ -50,7 +50,7 @@ any_among t place (e ∷ es) = go (same_list e.1.table t && (e.1.column == place
     go true rest = refl
     go false rest = rest
 
-pub found_on : (xs : Names Index) (t : List ℕ) (place : ℕ) (found : Option (List ℕ)) → FoundOn xs t place found → is_some found ≡ has_index_on xs t place
+pub found_on : (xs : Names Index) (t : List ℕ) (place : ℕ) (found : Option (List ℕ)) → FoundOn xs t place found → is_some found ≡ has_context_index xs t place
 found_on xs t place None is = sym (ap is_some is) ∙ any_among t place (entries xs)
 found_on xs t place (Some i) is = sym (ap is_some is.1.1) ∙ any_among t place (entries xs)
 
@@ -109,7 +109,7 @@ few_rows m t x are there =
 
 -- the effect by what was read
 pub index_as : (m : State) (i t : List ℕ) (x : Table) (place : ℕ) (taken texts many : Bool) → AreTables m.tables → get m.tables t ≡ Some x
-    → taken ≡ (is_some (get m.indexes i) || has_index_on m.indexes t place) → texts ≡ is_text_at x.columns place → many ≡ nat_le index_limit (length (indexes_on m.indexes t))
+    → taken ≡ (is_some (get m.indexes i) || has_context_index m.indexes t place) → texts ≡ is_text_at x.columns place → many ≡ nat_le index_limit (length (indexes_on m.indexes t))
     → create_index_on m i t x place ≡ check_index taken texts many i (Does (with_new_index m i t place) index_created)
 index_as m i t x place taken texts many are there taken_is texts_is many_is =
     let done = Does (with_new_index m i t place) index_created in

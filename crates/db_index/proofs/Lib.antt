@@ -1,4 +1,3 @@
-pub mod Counting
+pub mod Found
 pub mod IndexChecks
-pub mod NewMarks
 pub mod SyncChecks

@@ -34,9 +34,9 @@ is_text_at [] place = false
 is_text_at (c ∷ cs) zero = is_text_sort c.sort
 is_text_at (c ∷ cs) (suc place) = is_text_at cs place
 
--- whether a column, by its place in the table, has an index
-abbrev pub has_index_on : Names Index → List ℕ → ℕ → Bool
-has_index_on xs t place = list_any (λ (e : List ℕ × Index). same_list e.1.table t && (e.1.column == place)) (entries xs)
+-- whether a column, by its place in the table, has a CONTEXT index
+abbrev pub has_context_index : Names Index → List ℕ → ℕ → Bool
+has_context_index xs t place = list_any (λ (e : List ℕ × Index). same_list e.1.table t && (e.1.column == place)) (entries xs)
 
 -- all row keys, from the least of 64 bits to the greatest
 abbrev pub all_rows : KeyRange
@@ -61,7 +61,7 @@ has_too_many_rows m t = nat_lt most_given (length (rows_in m.tables t all_rows))
 
 -- whether the name is that of an index, or the column has one
 abbrev pub is_index_taken : State → List ℕ → List ℕ → ℕ → Bool
-is_index_taken m i t place = is_some (get m.indexes i) || has_index_on m.indexes t place
+is_index_taken m i t place = is_some (get m.indexes i) || has_context_index m.indexes t place
 
 abbrev pub create_index_on : State → List ℕ → List ℕ → Table → ℕ → Effect
 create_index_on m i t x place =
@@ -90,6 +90,10 @@ create_index m i t column =
 -- the changes of the new index: there are some
 abbrev pub MakesIndex : State → List ℕ → List ℕ → ℕ → Option (List (List ℕ × Option (List ℕ))) → Type 0
 MakesIndex m i t place batch = MatchOption batch ⊥ (λ changes. changes ≡ spell (create_changes m.tables i (target t place) all_rows))
+
+-- the same of an index that may be made, unless the call failed
+abbrev pub MakesFreeIndex : State → List ℕ → List ℕ → ℕ → Result (Option (List (List ℕ × Option (List ℕ)))) KeepFault → Type 0
+MakesFreeIndex m i t place result = (x : Table) → place < 256 → IsFreeIndex m i t x place → IfOk result (MakesIndex m i t place)
 
 -- what the statement comes to on a column, by its place, of a table with these columns
 abbrev pub PlansIndex : State → Content → Table → List ℕ → List ℕ → List Column → ℕ → Result Plan KeepFault → Type 0

@@ -1,3 +1,4 @@
 pub mod Tokenizing
 pub mod Syncing
 pub mod Indexing
+pub mod laws

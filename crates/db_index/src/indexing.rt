@@ -1,13 +1,13 @@
 //! CREATE INDEX.
-#![tactic(auto, using(ct_keep::specs::Composing::reads_on, ct_keep::specs::Composing::reads_short))]
+#![tactic(auto, using(ct_keep::specs::Composing::reads_on, ct_keep::specs::Composing::reads_short, ct_keep::specs::Composing::accepts_on))]
 
 ghost use Rattle.std.specs.Prelude.{◌≡◌, ◌<◌, IfOk, Some, nat_le, length};
 ghost use Rattle.ct_base.specs.Names.{IsName};
-ghost use Rattle.ct_keep.specs.KeeperViews.{OnlyReads};
+ghost use Rattle.ct_keep.specs.KeeperViews.{AcceptsChanges, OnlyReads};
 ghost use Rattle.tb_table.specs.Tables.{Table};
-ghost use Rattle.db_state.specs.States.{OverStates, OverTable, TakesAll, indexes_on, index_limit, Sees};
+ghost use Rattle.db_state.specs.States.{OverStates, OverTable, indexes_on, index_limit, Sees};
 ghost use Rattle.db_state.specs.Effects.{Effect, Checks};
-ghost use Rattle.db_index.specs.Indexing.{MakesIndex, PlansIndex, check_index, create_index as create_index_effect, has_index_on as column_has_index, index_created, is_index_taken, is_text_at as text_at, is_text_sort as sort_of_texts, IsFreeIndex};
+ghost use Rattle.db_index.specs.Indexing.{MakesFreeIndex, PlansIndex, check_index, create_index as create_index_effect, has_context_index as column_has_index, index_created, is_index_taken, is_text_at as text_at, is_text_sort as sort_of_texts, IsFreeIndex};
 ghost use Rattle.db_state.specs.Plans.{Plans, Replies};
 
 use ct_base::Name;
@@ -46,8 +46,8 @@ fn is_text_at(columns: &[Column], place: usize) -> bool
     false
 }
 
-/// Whether there is an index on a column, by its place.
-fn has_index_on<K: Keeper>(
+/// Whether there is a CONTEXT index on a column, by its place.
+fn has_context_index<K: Keeper>(
     alloc: Global,
     keeper: &mut K,
     table: &Name,
@@ -74,7 +74,7 @@ fn is_taken<K: Keeper>(
     ensures reads { OnlyReads K.view keeper.old keeper.new result }
 {
     let there = has_index(alloc, keeper, index)?;
-    let other = has_index_on(alloc, keeper, table, place)?;
+    let other = has_context_index(alloc, keeper, table, place)?;
     Ok(there || other)
 }
 
@@ -127,7 +127,7 @@ fn created<K: Keeper>(
     place: usize,
 ) -> Result<Option<Batch>, KeepFault>
     requires { (K.view keeper.old).ready }
-    ensures changes { OverStates K.view keeper.old (λ m c. (x : Table) → place < 256 → IsFreeIndex m index.now table.now x place → IfOk result (MakesIndex m index.now table.now place)) }
+    ensures changes { OverStates K.view keeper.old (λ m c. MakesFreeIndex m index.now table.now place result) }
     ensures reads { OnlyReads K.view keeper.old keeper.new result }
 {
     let Ok(column) = u8::try_from(place) else {
@@ -198,8 +198,7 @@ pub fn create_index<K: Keeper>(
     table: &Name,
     column: &Name,
 ) -> Result<Vec<u8>, KeepFault>
-    requires ready { (K.view keeper.old).ready }
-    requires takes { TakesAll (K.view keeper.old).fixed.well }
+    requires { AcceptsChanges (K.view keeper.old) }
     ensures { Replies K.view keeper.old keeper.new result (λ m. create_index_effect m index.now table.now column.now) (Some index_created) }
 {
     match index_plan(alloc, keeper, index, table, column) {

@@ -1,10 +1,10 @@
 //! CTX_DDL.SYNC_INDEX.
-#![tactic(auto, using(ct_keep::specs::Composing::reads_on, ct_keep::specs::Composing::reads_short))]
+#![tactic(auto, using(ct_keep::specs::Composing::reads_on, ct_keep::specs::Composing::reads_short, ct_keep::specs::Composing::accepts_on))]
 
 ghost use Rattle.std.specs.Prelude.{◌≡◌, IfOk, Some, None, Err, true, false};
 ghost use Rattle.std.specs.Option.{option_map};
-ghost use Rattle.ct_keep.specs.KeeperViews.{OnlyReads};
-ghost use Rattle.db_state.specs.States.{OverIndex, TakesAll, Sees};
+ghost use Rattle.ct_keep.specs.KeeperViews.{AcceptsChanges, OnlyReads};
+ghost use Rattle.db_state.specs.States.{OverIndex, Sees};
 ghost use Rattle.db_state.specs.Effects.{Effect, Checks};
 ghost use Rattle.db_index.specs.Syncing.{MakesSync, are_sync_args as sync_args, check_sync, has_index as has_named_index, is_bad_size as bad_size, is_memory_size as memory_size, is_unit as unit_letter, name_arg as first_name, spelt_name as name_spelt, sync_index as sync_effect, unknown_name as name_unknown};
 ghost use Rattle.db_state.specs.Lines.{call_done};
@@ -182,8 +182,7 @@ pub fn sync_index<K: Keeper>(
     keeper: &mut K,
     args: &[Arg],
 ) -> Result<Vec<u8>, KeepFault>
-    requires ready { (K.view keeper.old).ready }
-    requires takes { TakesAll (K.view keeper.old).fixed.well }
+    requires { AcceptsChanges (K.view keeper.old) }
     ensures { Replies K.view keeper.old keeper.new result (λ m. sync_effect m args.now) (Some call_done) }
 {
     let name = name_arg(alloc, args)?;

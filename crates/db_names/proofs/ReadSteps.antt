@@ -47,8 +47,8 @@ parts_made value code text at column some first there enough last = record {
 }
 
 -- the bytes begin with one head, however it is written
-same_front : (c d : ℕ) (t u : List ℕ) (m n : ℕ) (x y : List ℕ) → (c ∷ text_bytes t ++ m ∷ []) ++ x ≡ (d ∷ text_bytes u ++ n ∷ []) ++ y → (c ≡ d) × (t ≡ u) × (m ≡ n)
-same_front c d t u m n x y e =
+same_prefix : (c d : ℕ) (t u : List ℕ) (m n : ℕ) (x y : List ℕ) → (c ∷ text_bytes t ++ m ∷ []) ++ x ≡ (d ∷ text_bytes u ++ n ∷ []) ++ y → (c ≡ d) × (t ≡ u) × (m ≡ n)
+same_prefix c d t u m n x y e =
     let code = cons_parts _ _ _ _ e in
     let table = text_apart t u (m ∷ x) (n ∷ y) (sym (append_assoc (text_bytes t) (m ∷ []) x) ∙ code.1 ∙ append_assoc (text_bytes u) (n ∷ []) y) in
     (code.0, table.0, (cons_parts _ _ _ _ table.1).0)
@@ -58,7 +58,7 @@ same_front c d t u m n x y e =
 -- a head against the parts that were read
 pub head_parts : (value : List ℕ) (code : ℕ) (text : List ℕ) (column : ℕ) (h : IndexHead) → HasHeadParts value code text column → HasHead (Some value) h → (code ≡ index_code h.kind) × (text ≡ h.target.table) × (column ≡ h.target.column)
 head_parts value code text column h has is =
-    same_front code (index_code h.kind) text h.target.table column h.target.column has.rest is.rest (sym has.whole ∙ same_Some _ _ is.whole)
+    same_prefix code (index_code h.kind) text h.target.table column h.target.column has.rest is.rest (sym has.whole ∙ same_Some _ _ is.whole)
 
 pub no_parts : (value : List ℕ) → ((code : ℕ) (table : List ℕ) (column : ℕ) → HasHeadParts value code table column → ⊥) → (h : IndexHead) → IsName h.target.table → HasHead (Some value) h → ⊥
 no_parts value none h name has =

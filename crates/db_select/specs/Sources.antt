@@ -16,6 +16,7 @@ use Rattle.ix_context.specs.declared.hits.Hit.{Hit}
 use Rattle.tb_table.specs.Tables.{Tables, row_at, numbers_of, text_of}
 use Rattle.ct_keep.specs.Content.{Content}
 use Rattle.ct_keep.specs.KeeperViews.{KeeperView}
+use Rattle.db_cond.specs.Lines.{line}
 use Rattle.db_state.specs.States.{State, Stands}
 use Rattle.db_select.specs.Selecting.{values_of}
 use Rattle.db_select.specs.declared.sources.Source.{Source}
@@ -100,6 +101,18 @@ row_fields_of ts t numbers hit sources = fields_by hit.key.0 numbers (row_values
 -- the fields of a row as it was found
 abbrev pub found_fields : Tables → List ℕ → List Source → Hit → List Value
 found_fields ts t sources hit = hit_fields ts t sources (hit.key.0, hit.score)
+
+-- the value of one of its fields, by numbers that were read and all its values
+abbrev pub found_value : Hit → List ℤ → List Value → Source → Option Value
+found_value hit numbers vs source = source_value hit.key.0 numbers vs hit.score source
+
+-- its line
+abbrev pub found_line : Tables → List ℕ → List Source → Hit → List ℕ
+found_line ts t sources hit = line (found_fields ts t sources hit)
+
+-- the keys of rows as they were found, each with its score
+abbrev pub found_scores : List Hit → List (ℤ × ℕ)
+found_scores hits = map (λ h. (h.key.0, h.score)) hits
 
 -- computed examples: of a table with a key, a number and two texts
 abbrev of_columns : List Column

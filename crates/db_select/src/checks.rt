@@ -20,7 +20,7 @@ use tb_table::Column;
 const HIGHEST: i64 = 100;
 
 /// What a SELECT searches.
-pub enum Searched<'a> {
+pub(crate) enum Searched<'a> {
     /// The index with this name.
     Index(Name),
     /// Nothing, for the statement is refused.
@@ -109,7 +109,7 @@ pub(crate) fn checked_threshold(
 }
 
 /// The first column of the list that isn't there.
-pub fn first_unknown<'a>(items: &'a [Item], columns: &[Column]) -> Option<&'a Name>
+pub(crate) fn first_unknown<'a>(items: &'a [Item], columns: &[Column]) -> Option<&'a Name>
     ensures { option_map (λ name. name.now) result ≡ unknown_name (columns_among items.now) columns.now }
 {
     for item in items {

@@ -9,7 +9,7 @@ ghost use Rattle.ct_base.specs.declared.lists.Value.TheVariants.{Number};
 ghost use Rattle.ct_keep.specs.KeeperViews.{OnlyReads};
 ghost use Rattle.tb_table.specs.Tables.{text_of as row_text};
 ghost use Rattle.db_state.specs.States.{Sees};
-ghost use Rattle.db_select.specs.Sources.{KnowTexts, OverRow, numbers_read, row_fields_of, source_value};
+ghost use Rattle.db_select.specs.Sources.{KnowTexts, OverRow, found_value, numbers_read, row_fields_of};
 
 use crate::sources::{Source, read_numbers};
 use ct_base::{Memory, Name, RowKey, Text, Value};
@@ -82,7 +82,7 @@ fn field<K: Keeper>(
     source: Source,
 ) -> Result<Option<Value>, KeepFault>
     requires { (K.view keeper.old).ready }
-    ensures value { OverRow K.view keeper.old table.now hit.key.0 texts.old.items (λ vs. IfOk result (λ value. value ≡ source_value hit.key.0 numbers.now vs hit.score source)) }
+    ensures value { OverRow K.view keeper.old table.now hit.key.0 texts.old.items (λ vs. IfOk result (λ value. value ≡ found_value hit numbers.now vs source)) }
     ensures texts { OverRow K.view keeper.old table.now hit.key.0 texts.old.items (λ vs. OnOk result (KnowTexts vs texts.new.items)) }
     ensures reads { OnlyReads K.view keeper.old keeper.new result }
 {

@@ -1,11 +1,12 @@
 //! The rows that a query finds.
 #![tactic(auto, using(ct_keep::specs::Composing::reads_on, ct_keep::specs::Composing::reads_short))]
 
-ghost use Rattle.std.specs.Prelude.{◌≡◌, nat_lt, map, filter, IfOk, Some};
+ghost use Rattle.std.specs.Prelude.{◌≡◌, nat_lt, filter, IfOk, Some};
 ghost use Rattle.ct_keep.specs.KeeperViews.{OnlyReads};
 ghost use Rattle.ix_context.specs.Indexes.{found};
 ghost use Rattle.db_state.specs.States.{OverIndex};
 ghost use Rattle.db_select.specs.Selecting.{query_key};
+ghost use Rattle.db_select.specs.Sources.{found_scores};
 
 use ct_base::Name;
 use ct_keep::{KeepFault, Keeper};
@@ -29,7 +30,7 @@ pub(crate) fn hits_above<K: Keeper>(
     above: u32,
 ) -> Result<Vec<Hit>, KeepFault>
     requires { (K.view keeper.old).ready }
-    ensures found { OverIndex K.view keeper.old index.now (λ m x. IfOk result (λ hits. map (λ h. (h.key.0, h.score)) hits.items ≡ found m.tables x (query_key query.now) above)) }
+    ensures found { OverIndex K.view keeper.old index.now (λ m x. IfOk result (λ hits. found_scores hits.items ≡ found m.tables x (query_key query.now) above)) }
     ensures reads { OnlyReads K.view keeper.old keeper.new result }
 {
     let word = key(alloc, query)?;

@@ -10,5 +10,4 @@ mod seeking;
 mod selecting;
 mod sources;
 
-pub use checks::{Searched, first_unknown};
 pub use selecting::select;

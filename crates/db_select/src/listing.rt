@@ -3,10 +3,9 @@
 
 ghost use Rattle.std.specs.Prelude.{◌≡◌, ◌++◌, map, OnOk, Some};
 ghost use Rattle.ct_keep.specs.KeeperViews.{OnlyReads};
-ghost use Rattle.db_cond.specs.Lines.{line as printed_line};
 ghost use Rattle.db_state.specs.States.{OverStates, Sees};
 ghost use Rattle.db_state.specs.Lines.{lines_or_none};
-ghost use Rattle.db_select.specs.Sources.{found_fields};
+ghost use Rattle.db_select.specs.Sources.{found_fields, found_line};
 
 use crate::fields::{row_fields, row_numbers};
 use crate::sources::Source;
@@ -27,7 +26,7 @@ fn push_row<K: Keeper>(
     hit: Hit,
 ) -> Result<(), KeepFault>
     requires { (K.view keeper.old).ready }
-    ensures line { OverStates K.view keeper.old (λ m c. OnOk result (lines.new.items ≡ lines.old.items ++ printed_line (found_fields m.tables table.now sources.now hit))) }
+    ensures line { OverStates K.view keeper.old (λ m c. OnOk result (lines.new.items ≡ lines.old.items ++ found_line m.tables table.now sources.now hit)) }
     ensures reads { OnlyReads K.view keeper.old keeper.new result }
 {
     let numbers = row_numbers(alloc, keeper, table, sources, hit.key)?;

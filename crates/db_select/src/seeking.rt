@@ -7,14 +7,13 @@ ghost use Rattle.db_state.specs.States.{OverStates};
 ghost use Rattle.db_select.specs.Seeking.{SearchesBy};
 
 use crate::checks::{Searched, first_unknown};
-use ct_base::{Memory, Name};
+use ct_base::Name;
 use ct_keep::{KeepFault, Keeper};
 use db_cond::Fault;
-use db_names::{IndexKind, index_on};
 use db_state::{context_index, place_of};
 use st_parse::Item;
 use std::alloc::Global;
-use tb_table::{Column, Target};
+use tb_table::Column;
 
 /// The index that a SELECT searches, unless a column of its list or the one that is searched isn't there, or has no index.
 pub(crate) fn searched_index<'a, K: Keeper>(

@@ -5,12 +5,12 @@ use Rattle.std.specs.List.{list_all}
 use Rattle.std.specs.declared.alloc.Global.{Global}
 use Rattle.ct_keep.specs.declared.keepers.KeepFault.{KeepFault}
 use Rattle.ct_keep.specs.declared.keepers.KeepFault.TheVariants.{Memory, Disk, Full as NoRoom}
-use Rattle.ct_keep.specs.Content.{Content}
+use Rattle.ct_keep.specs.Content.{Content, key_limit, value_limit}
 use Rattle.std.proofs.lemmas.Bool.{leb-true}
 use Rattle.ct_keep.specs.declared.batches.Change.{Change}
-use Rattle.ct_keep.specs.Spoken.{spoken}
+use Rattle.ct_keep.specs.SeenChanges.{change_of}
 use Rattle.ct_keep.specs.Changes.{AreWell}
-use Rattle.ct_keep.specs.KeeperViews.{KeeperView, Goes, Answers}
+use Rattle.ct_keep.specs.KeeperViews.{KeeperView, Goes, AnswersCommit}
 use Rattle.db_state.specs.States.{State, Stands}
 use Rattle.db_state.specs.Effects.{Does}
 use Rattle.db_state.specs.Plans.{Gives}
@@ -25,15 +25,15 @@ pub well_bounded : (well : List ℕ → List ℕ → Bool) → ((key value : Lis
 well_bounded well takes [] h = tt
 well_bounded well takes ((key, None) ∷ ws) h = well_bounded well takes ws (both true (list_all is_bounded ws) h).1
 well_bounded well takes ((key, Some value) ∷ ws) h =
-    let b = both (nat_le 1 (length key) && (nat_le (length key) 600 && nat_le (length value) 67108864)) (list_all is_bounded ws) h in
-    let k = both (nat_le 1 (length key)) (nat_le (length key) 600 && nat_le (length value) 67108864) b.0 in
-    let v = both (nat_le (length key) 600) (nat_le (length value) 67108864) k.1 in
-    (record { some = leb-true 1 (length key) k.0; short = leb-true (length key) 600 v.0; bounded = leb-true (length value) 67108864 v.1 }, takes key value, well_bounded well takes ws b.1)
+    let b = both (nat_le 1 (length key) && (nat_le (length key) key_limit && nat_le (length value) value_limit)) (list_all is_bounded ws) h in
+    let k = both (nat_le 1 (length key)) (nat_le (length key) key_limit && nat_le (length value) value_limit) b.0 in
+    let v = both (nat_le (length key) key_limit) (nat_le (length value) value_limit) k.1 in
+    (record { some = leb-true 1 (length key) k.0; short = leb-true (length key) key_limit v.0; bounded = leb-true (length value) value_limit v.1 }, takes key value, well_bounded well takes ws b.1)
 
 -- the test on the changes as they stand in memory
-pub bounded_spoken : (ws : List Change) → list_all (λ w. is_bounded (spoken w)) ws ≡ are_bounded (map spoken ws)
+pub bounded_spoken : (ws : List Change) → list_all (λ w. is_bounded (change_of w)) ws ≡ are_bounded (map change_of ws)
 bounded_spoken [] = refl
-bounded_spoken (w ∷ ws) = ap (λ (b : Bool). is_bounded (spoken w) && b) (bounded_spoken ws)
+bounded_spoken (w ∷ ws) = ap (λ (b : Bool). is_bounded (change_of w) && b) (bounded_spoken ws)
 
 -- ---- a commit
 
@@ -51,7 +51,7 @@ gives_committed m n reply c next old new stands goes = record {
   full = λ e. cc;
 }
 
-pub gives_uncommitted : (m n : State) (reply : List ℕ) (c next : Content) (old new : KeeperView) (fault : KeepFault) → Stands next n → Goes c next old new (Some fault) → Answers (Some fault) old.fixed.limit c next → Gives m (Does n reply) c old new (Err fault)
+pub gives_uncommitted : (m n : State) (reply : List ℕ) (c next : Content) (old new : KeeperView) (fault : KeepFault) → Stands next n → Goes c next old new (Some fault) → AnswersCommit (Some fault) old.fixed.limit c next → Gives m (Does n reply) c old new (Err fault)
 gives_uncommitted m n reply c next old new Memory stands goes answers = record {
   moves = record { next = c; stands = refl; goes = stayed c next old new goes; same = λ e. refl };
   reply = tt;

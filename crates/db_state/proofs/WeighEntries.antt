@@ -8,7 +8,7 @@ use Rattle.ct_bytes.specs.RowKeys.{row_bytes}
 use Rattle.ct_entry.specs.declared.kinds.Kind.TheVariants as kind
 use Rattle.ct_entry.specs.Keys.{Key, key, bytes, row_part, text_part, document_part, posting_part}
 use Rattle.tb_table.specs.Tables.{Table, Tables, numbers_of, texts_of}
-use Rattle.tb_table.specs.Spelling.{columns_bytes, numbers_bytes}
+use Rattle.tb_table.specs.Spelling.{columns_bytes, row_numbers_bytes}
 use Rattle.ix_posting.specs.Rows.{posting_bytes}
 use Rattle.ix_context.specs.Postings.{postings_of}
 use Rattle.ix_context.specs.Indexes.{Index, Mark, Pending, Marked, text_seen}
@@ -27,7 +27,7 @@ abbrev pub text_entry : List ℕ → ℤ → ℕ × List ℕ → Entry
 text_entry t r e = entry (key kind.RowTexts t (text_part e.0 r)) e.1
 
 abbrev pub row_entries : List ℕ → ℤ × List Value → List Entry
-row_entries t e = entry (key kind.RowNumbers t (row_part e.0)) (numbers_bytes (numbers_of e.1)) ∷ map (text_entry t e.0) (texts_of e.1)
+row_entries t e = entry (key kind.RowNumbers t (row_part e.0)) (row_numbers_bytes (numbers_of e.1)) ∷ map (text_entry t e.0) (texts_of e.1)
 
 abbrev pub table_entries : List ℕ × Table → List Entry
 table_entries e = entry (key kind.Tables e.0 []) (columns_bytes e.1.columns) ∷ flat_map (row_entries e.0) (entries e.1.rows)

@@ -19,17 +19,13 @@ use Rattle.tb_table.specs.Tables.{Tables}
 use Rattle.ix_posting.specs.Rows.{posting_bytes}
 use Rattle.ix_context.specs.Postings.{words_of, positions_from, positions, postings_of}
 use Rattle.ix_context.specs.Indexes.{Index, Mark, Pending, Marked, is_marked, mark_of, mark_at, text_seen}
+use Rattle.ix_context.specs.laws.Marks.{is_the_mark}
 use Rattle.ix_context.specs.Spelling.{Numbering, IsNumbering, IndexesSpelled, index_entry, queued, posting_value, document_text}
 use Rattle.db_state.proofs.WeighLists.{IsIn, in_map, in_flat_map}
 use Rattle.db_state.proofs.WeighMaps.{get_in}
 use Rattle.db_state.proofs.WeighEntries.{Entry, entry, posting_entry, text_postings, document_entries, mark_entries, index_entries}
 
 -- ---- marks
-
-is_the_mark : (o : Option Mark) → is_marked o ≡ true → o ≡ Some Marked
-is_the_mark None h = cc
-is_the_mark (Some Pending) h = cc
-is_the_mark (Some Marked) h = refl
 
 marked_there : (o : Option Index) (r : ℤ) → is_marked (mark_of o r) ≡ true → (x : Index) × (o ≡ Some x) × (get x.marks r ≡ Some Marked)
 marked_there None r h = cc

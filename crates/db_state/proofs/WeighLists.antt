@@ -23,7 +23,7 @@ module _ {A : Type 0} where
   in_right x (y ∷ xs) ys h = inr (in_right x xs ys h)
 
   -- what stands before an element, and what behind it
-  split_at : (x : A) (xs : List A) → IsIn x xs → (front rest : List A) × (xs ≡ front ++ x ∷ rest)
+  split_at : (x : A) (xs : List A) → IsIn x xs → (prefix rest : List A) × (xs ≡ prefix ++ x ∷ rest)
   split_at x [] h = absurd h
   split_at x (y ∷ ys) h = elim h [
     | inl e ↦ ([], ys, ap (λ (z : A). z ∷ ys) (sym e))
@@ -31,9 +31,9 @@ module _ {A : Type 0} where
   ]
 
   -- an element other than the one taken out stays
-  stays : (y x : A) (front rest : List A) → (y ≡ x → ⊥) → IsIn y (front ++ x ∷ rest) → IsIn y (front ++ rest)
+  stays : (y x : A) (prefix rest : List A) → (y ≡ x → ⊥) → IsIn y (prefix ++ x ∷ rest) → IsIn y (prefix ++ rest)
   stays y x [] rest other h = elim h [ inl e ↦ absurd (other e) | inr t ↦ t ]
-  stays y x (a ∷ front) rest other h = elim h [ inl e ↦ inl e | inr t ↦ inr (stays y x front rest other t) ]
+  stays y x (a ∷ prefix) rest other h = elim h [ inl e ↦ inl e | inr t ↦ inr (stays y x prefix rest other t) ]
 
   pub sum_by-within : (w : A → ℕ) (xs ys : List A) → AreApart xs → ((x : A) → IsIn x xs → IsIn x ys) → sum_by w xs ≤ sum_by w ys
   sum_by-within w [] ys apart within = omega arith

@@ -13,7 +13,7 @@ use Rattle.ct_keep.specs.Content.{entry_weight}
 use Rattle.ct_entry.specs.declared.kinds.Kind.TheVariants as kind
 use Rattle.ct_entry.specs.Keys.{key, bytes, row_part, document_part, posting_part}
 use Rattle.tb_table.specs.Tables.{Table, Tables, numbers_of, texts_of}
-use Rattle.tb_table.specs.Spelling.{columns_bytes, numbers_bytes}
+use Rattle.tb_table.specs.Spelling.{columns_bytes, row_numbers_bytes}
 use Rattle.ix_posting.specs.Rows.{posting_bytes, steps, varints}
 use Rattle.ix_context.specs.Postings.{postings_of}
 use Rattle.ix_context.specs.Indexes.{Index, Mark, Pending, Marked, text_seen}
@@ -30,7 +30,7 @@ texts_weigh t r xs = sum_by-map-le (text_entry t r) entry_weight (text_room t r)
 
 row_weighs : (t : List ℕ) (e : ℤ × List Value) → sum_by entry_weight (row_entries t e) ≤ row_room t e
 row_weighs t e =
-    omega (arith, sum_by-cons entry_weight (entry (key kind.RowNumbers t (row_part e.0)) (numbers_bytes (numbers_of e.1))) (map (text_entry t e.0) (texts_of e.1)), texts_weigh t e.0 (texts_of e.1))
+    omega (arith, sum_by-cons entry_weight (entry (key kind.RowNumbers t (row_part e.0)) (row_numbers_bytes (numbers_of e.1))) (map (text_entry t e.0) (texts_of e.1)), texts_weigh t e.0 (texts_of e.1))
 
 table_weighs : (e : List ℕ × Table) → sum_by entry_weight (table_entries e) ≤ table_room e
 table_weighs e =

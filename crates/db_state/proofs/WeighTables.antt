@@ -8,7 +8,7 @@ use Rattle.ct_entry.specs.declared.kinds.Kind.TheVariants as kind
 use Rattle.ct_entry.specs.Keys.{Key, key, row_part, text_part, IsRow}
 use Rattle.ct_base.specs.laws.Options.{option_map_some, and_then_some}
 use Rattle.tb_table.specs.Tables.{Table, Tables, row_in, row_at, numbers_of, as_text, text_in, text_of, texts_from, texts_of}
-use Rattle.tb_table.specs.Spelling.{columns_bytes, numbers_bytes, TablesStand}
+use Rattle.tb_table.specs.Spelling.{columns_bytes, row_numbers_bytes, TablesStand}
 use Rattle.db_state.proofs.WeighLists.{IsIn, in_map, in_flat_map}
 use Rattle.db_state.proofs.WeighMaps.{get_in}
 use Rattle.db_state.proofs.WeighEntries.{Entry, entry, text_entry, row_entries, table_entries}
@@ -57,7 +57,7 @@ module _ (ts : Tables) where
 
     pub numbers_in : (t v : List ℕ) (r : ℤ) → IsRow r → f (key kind.RowNumbers t (row_part r)) ≡ Some v → IsIn (entry (key kind.RowNumbers t (row_part r)) v) (flat_map table_entries (entries ts))
     numbers_in t v r row has =
-        let vs = option_map_some (λ (vs : List Value). numbers_bytes (numbers_of vs)) (row_at ts t r) v (sym (stand.numbers t r row) ∙ has) in
+        let vs = option_map_some (λ (vs : List Value). row_numbers_bytes (numbers_of vs)) (row_at ts t r) v (sym (stand.numbers t r row) ∙ has) in
         in_row t r vs.0 _ vs.1 (inl (ap (entry (key kind.RowNumbers t (row_part r))) (sym vs.2)))
 
     pub text_in_all : (t v : List ℕ) (c : ℕ) (r : ℤ) → c < 256 → IsRow r → f (key kind.RowTexts t (text_part c r)) ≡ Some v → IsIn (entry (key kind.RowTexts t (text_part c r)) v) (flat_map table_entries (entries ts))

@@ -4,7 +4,7 @@ use Rattle.std.specs.declared.alloc.Global.{Global}
 use Rattle.ct_keep.specs.Content.{Content, after}
 use Rattle.ct_keep.specs.declared.keepers.KeepFault.{KeepFault}
 use Rattle.ct_keep.specs.declared.keepers.KeepFault.TheVariants.{Memory, Disk, Full as NoRoom}
-use Rattle.ct_keep.specs.KeeperViews.{AtMostOneCommit, KeeperView, Kept, Reads, Goes, IsSettled, fault_of, counted, is_full}
+use Rattle.ct_keep.specs.KeeperViews.{AtMostOneCommit, KeeperView, SameButContent, Reads, Goes, IsDurable, fault_of, counted, is_full}
 use Rattle.db_cond.specs.Faults.{Refusal, WrongValues, refusal_line}
 use Rattle.db_cond.specs.declared.faults.Fault.TheVariants.{WrongValues as WrongValuesFault}
 use Rattle.db_state.specs.States.{State, Stands}
@@ -91,12 +91,12 @@ CommitGives batch reply old new result =
 
 -- What it returned, by the statement's effect in each state, and by the line by which the statement says that its change is made (None where it changes nothing).
 -- It is all that `execute` needs of a statement: of a content that stands for a state, and of any content.
-pub record Serves (effect : State → Effect) (line : Option (List ℕ)) (old new : KeeperView) (result : Result (Vec ℕ Global) KeepFault) : Type 0 where
-  pub kept : Kept old new (fault_of result)
+pub record Fulfils (effect : State → Effect) (line : Option (List ℕ)) (old new : KeeperView) (result : Result (Vec ℕ Global) KeepFault) : Type 0 where
+  pub kept : SameButContent old new (fault_of result)
   pub fulls : new.counts.fulls ≡ counted (is_full (fault_of result)) old.counts.fulls
   pub once : AtMostOneCommit old.counts new.counts
-  pub gives : IsSettled old → (m : State) (c : Content) → old.content ≡ Some c → Stands c m → Gives m (effect m) c old new result
-  pub tells : IsSettled old → ReturnsBy line old new result
+  pub gives : IsDurable old → (m : State) (c : Content) → old.content ≡ Some c → Stands c m → Gives m (effect m) c old new result
+  pub tells : IsDurable old → ReturnsBy line old new result
 
 -- What a statement with this effect comes to over the content c: the line of its refusal, or a batch that makes of c a content that stands for its state, with this line.
 abbrev pub IsPlan : Effect → List ℕ → Content → Plan → Type 0
@@ -109,11 +109,11 @@ pub record IsPlanOf (effect : State → Effect) (line : List ℕ) (old : KeeperV
 
 -- What a call that carries out a plan returned: of each statement whose plan it is.
 abbrev pub CarriesOut : {K : Type 0} → (K → KeeperView) → K → K → Result (Vec ℕ Global) KeepFault → Plan → List ℕ → Type 0
-CarriesOut view old new result plan line = (effect : State → Effect) → IsPlanOf effect line (view old) plan → Serves effect (Some line) (view old) (view new) result
+CarriesOut view old new result plan line = (effect : State → Effect) → IsPlanOf effect line (view old) plan → Fulfils effect (Some line) (view old) (view new) result
 
 -- What the function of a statement returned, by the view of the keeper before and after it.
 abbrev pub Replies : {K : Type 0} → (K → KeeperView) → K → K → Result (Vec ℕ Global) KeepFault → (State → Effect) → Option (List ℕ) → Type 0
-Replies view old new result effect line = Serves effect line (view old) (view new) result
+Replies view old new result effect line = Fulfils effect line (view old) (view new) result
 
 -- The call gave a plan of the statement, unless it failed.
 abbrev pub Plans : {K : Type 0} → (K → KeeperView) → K → Result Plan KeepFault → (State → Effect) → List ℕ → Type 0

@@ -1,5 +1,5 @@
 -- How much room a state takes at most: that of its tables and that of its indexes.
-use Rattle.std.specs.Prelude.{ℕ, ◌+◌, sum_by, ◌≡◌, ◌∷◌, [], codes}
+use Rattle.std.specs.Prelude.{ℕ, ◌+◌, sum_by, ◌≡◌, ◌∷◌, [], codes, refl}
 use Rattle.std.specs.FinMap.{entries, from_sorted, entries-from_sorted}
 use Rattle.db_state.specs.States.{State}
 pub use Rattle.tb_table.specs.Room.{key_weight, text_room, row_room, table_room}
@@ -15,11 +15,14 @@ use Rattle.ix_context.specs.Room.{di_index, di_room}
 abbrev pub room : State → ℕ
 room m = sum_by table_room (entries m.tables) + sum_by (index_room m.tables) (entries m.indexes)
 
--- computed example: the table `docs` with two rows, and an index on its column 1 of which one row is marked and one waits
-abbrev docs_and_di : State
+-- computed example: the table `docs` with two rows, which takes 320, and an index on its column 1 of which one row is marked and one waits, which takes 601
+both : ◌≡◌ {A = ℕ} (320 + 601) 921
+both = refl
+
+abbrev pub docs_and_di : State
 docs_and_di = record { tables = docs_alone; indexes = from_sorted ((codes "di", di_index) ∷ []) }
 
-its_room : room docs_and_di ≡ 921
+pub its_room : room docs_and_di ≡ 921
 its_room =
     ap (λ (es : List (List ℕ × Table)). sum_by table_room es + sum_by (index_room docs_alone) (entries docs_and_di.indexes)) (entries-from_sorted (slice_cmp nat_cmp) ((codes "docs", docs_table) ∷ []) tt)
     ∙ ap (λ (es : List (List ℕ × Index)). 0 + table_room (codes "docs", docs_table) + sum_by (index_room docs_alone) es) (entries-from_sorted (slice_cmp nat_cmp) ((codes "di", di_index) ∷ []) tt)

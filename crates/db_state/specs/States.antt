@@ -43,10 +43,6 @@ pub record IsState (m : State) : Type 0 where
   pub views : (t : List ℕ) (x : Table) → get m.tables t ≡ Some x → is_view t ≡ false
   pub few : (t : List ℕ) → length (indexes_on m.indexes t) ≤ index_limit
 
--- A keeper may hold any entry, within the bounds.
-abbrev pub TakesAll : (List ℕ → List ℕ → Bool) → Type 0
-TakesAll well = (key value : List ℕ) → well key value ≡ true
-
 -- the kinds of entries that tables and CONTEXT indexes have; for now there is nothing else that is kept
 abbrev pub is_built : Kind → Bool
 is_built kind.Tables = true

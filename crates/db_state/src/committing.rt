@@ -4,25 +4,20 @@
 ghost use Rattle.std.specs.Prelude.{◌≡◌, Some, IfOk, true};
 ghost use Rattle.std.specs.List.{list_all};
 ghost use Rattle.ct_keep.specs.Content.{Content, after};
-ghost use Rattle.ct_keep.specs.KeeperViews.{AtMostOneCommit, Kept, counted, fault_of, is_full};
-ghost use Rattle.ct_keep.specs.Spoken.{spoken};
-ghost use Rattle.db_state.specs.States.{State, Stands, TakesAll};
+ghost use Rattle.ct_keep.specs.KeeperViews.{AcceptsChanges, AtMostOneCommit, SameButContent, counted, fault_of, is_full};
+ghost use Rattle.ct_keep.specs.SeenChanges.{change_of};
+ghost use Rattle.db_state.specs.States.{State, Stands};
 ghost use Rattle.db_state.specs.Effects.{Does};
 ghost use Rattle.db_state.specs.Plans.{CommitGives, Returns};
 ghost use Rattle.db_state.specs.Committing.{are_bounded, is_bounded};
 
 use ct_base::Memory;
-use ct_keep::{Batch, Change, KeepFault, Keeper};
+use ct_keep::{Batch, Change, KEY_LIMIT, KeepFault, Keeper, VALUE_LIMIT};
 use std::alloc::Global;
-
-/// How many bytes a key has at most, and a value.
-const KEY_LIMIT: usize = 600;
-
-const VALUE_LIMIT: usize = 67_108_864;
 
 /// Whether a change puts an entry within the bounds of every keeper, or takes one away.
 fn is_bounded(change: &Change) -> bool
-    ensures { result ≡ is_bounded (spoken change.now) }
+    ensures { result ≡ is_bounded (change_of change.now) }
 {
     match &change.value {
         None => true,
@@ -34,7 +29,7 @@ fn is_bounded(change: &Change) -> bool
 
 /// Whether all changes do.
 fn are_bounded(changes: &[Change]) -> bool
-    ensures { result ≡ list_all (λ w. is_bounded (spoken w)) changes.now }
+    ensures { result ≡ list_all (λ w. is_bounded (change_of w)) changes.now }
 {
     changes.iter().all(|change| is_bounded(change))
 }
@@ -54,9 +49,8 @@ pub(crate) fn commit<K: Keeper>(
     batch: Batch,
     reply: Vec<u8>,
 ) -> Result<Vec<u8>, KeepFault>
-    requires ready { (K.view keeper.old).ready }
-    requires takes { TakesAll (K.view keeper.old).fixed.well }
-    ensures kept { Kept (K.view keeper.old) (K.view keeper.new) (fault_of result) }
+    requires { AcceptsChanges (K.view keeper.old) }
+    ensures kept { SameButContent (K.view keeper.old) (K.view keeper.new) (fault_of result) }
     ensures fulls { (K.view keeper.new).counts.fulls ≡ counted (is_full (fault_of result)) (K.view keeper.old).counts.fulls }
     ensures once { AtMostOneCommit (K.view keeper.old).counts (K.view keeper.new).counts }
     ensures gives { CommitGives batch reply.items (K.view keeper.old) (K.view keeper.new) result }

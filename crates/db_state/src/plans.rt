@@ -1,7 +1,7 @@
 //! What a statement that changes something comes to, before its commit.
 #![tactic(auto, using(ct_keep::specs::Composing::reads_on, ct_keep::specs::Composing::reads_short))]
 
-ghost use Rattle.db_state.specs.States.{TakesAll};
+ghost use Rattle.ct_keep.specs.KeeperViews.{AcceptsChanges};
 ghost use Rattle.db_state.specs.Plans.{CarriesOut};
 
 use crate::committing::{commit, fixed_reply};
@@ -25,8 +25,7 @@ fn commit_batch<K: Keeper>(
     batch: Batch,
     line: &[u8],
 ) -> Result<Vec<u8>, KeepFault>
-    requires ready { (K.view keeper.old).ready }
-    requires takes { TakesAll (K.view keeper.old).fixed.well }
+    requires { AcceptsChanges (K.view keeper.old) }
     ensures { CarriesOut K.view keeper.old keeper.new result (Plan.Done batch) line.now }
 {
     let reply = fixed_reply(alloc, line)?;
@@ -40,8 +39,7 @@ pub fn carry_out<K: Keeper>(
     plan: Plan,
     line: &[u8],
 ) -> Result<Vec<u8>, KeepFault>
-    requires ready { (K.view keeper.old).ready }
-    requires takes { TakesAll (K.view keeper.old).fixed.well }
+    requires { AcceptsChanges (K.view keeper.old) }
     ensures { CarriesOut K.view keeper.old keeper.new result plan.entry line.now }
 {
     match plan {

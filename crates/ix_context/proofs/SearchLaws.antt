@@ -33,6 +33,7 @@ use Rattle.tb_table.specs.Tables.{Tables}
 use Rattle.ix_posting.specs.declared.rows.RowDocument.{RowDocument}
 use Rattle.ix_posting.specs.Rows.{IsPostingRow, posting_bytes}
 use Rattle.ix_context.specs.Postings.{positions, word_score}
+use Rattle.ix_context.specs.laws.Marks.{is_the_mark}
 use Rattle.ix_context.specs.laws.Postings.{positions_rise}
 use Rattle.ix_context.specs.Indexes.{Index, Mark, Pending, Marked, is_marked, mark_of, text_seen, if_above, scored, found, found_at}
 use Rattle.ix_context.specs.Spelling.{Numbering, IsNumbering, IndexesSpelled, posting_value}
@@ -101,11 +102,6 @@ score_some : (ps : List ℕ) (s : ℕ) → if_some (positions_score ps) ≡ Some
 score_some [] s is = cc
 score_some (p ∷ ps) s is = omega arith
 
-mark_is : (o : Option Mark) → is_marked o ≡ true → o ≡ Some Marked
-mark_is None h = cc
-mark_is (Some Pending) h = cc
-mark_is (Some Marked) h = refl
-
 either : {A : Type 0} (a b : Bool) (v old : A) → cond b v (cond a v old) ≡ cond (a || b) v old
 either true true v old = refl
 either true false v old = refl
@@ -117,11 +113,11 @@ first_holds true b h = refl
 first_holds false b h = cc
 
 module _ (m : Content) (ts : Tables) (xs : Names Index) (x : Index) (i w : List ℕ) (n : Numbering) (only : HasKeysOnly m) (num : IsNumbering n xs) (spelled : IndexesSpelled n (at m) ts xs) (there : get xs i ≡ Some x) (fit : IsWithinLimits ts x) (token : IsToken w) where
-  abbrev front : List ℕ
-  front = 0 ∷ length w ∷ w
+  abbrev stream_and_token : List ℕ
+  stream_and_token = 0 ∷ length w ∷ w
 
   abbrev prefix : List ℕ
-  prefix = prefix_of kind.Postings i ++ front
+  prefix = prefix_of kind.Postings i ++ stream_and_token
 
   -- the score that a row is to have
   abbrev right : ℤ → Option ℕ
@@ -145,15 +141,15 @@ module _ (m : Content) (ts : Tables) (xs : Names Index) (x : Index) (i w : List 
       spelled.postings i w d token fits
       ∙ ap (λ (o : Option Index). option_and_then (λ text. posting_value d (positions w text)) (option_and_then (λ y. option_and_then (λ r. text_seen ts y r) (n.row i d)) o)) there
 
-  assoc : (q : List ℕ) → prefix ++ q ≡ bytes (key kind.Postings i (front ++ q))
-  assoc q = append_assoc (prefix_of kind.Postings i) front q
+  assoc : (q : List ℕ) → prefix ++ q ≡ bytes (key kind.Postings i (stream_and_token ++ q))
+  assoc q = append_assoc (prefix_of kind.Postings i) stream_and_token q
 
   posted_at : (q v : List ℕ) → get m (prefix ++ q) ≡ Some v → Posted q v
   posted_at q v is =
       let k = only (prefix ++ q) (there_some (get m (prefix ++ q)) v is) in
-      let same : k.0 ≡ key kind.Postings i (front ++ q) = key_from_bytes k.0 (key kind.Postings i (front ++ q)) (sym k.1 ∙ assoc q) in
+      let same : k.0 ≡ key kind.Postings i (stream_and_token ++ q) = key_from_bytes k.0 (key kind.Postings i (stream_and_token ++ q)) (sym k.1 ∙ assoc q) in
       let form = posting_prefix 0 w q (subst (λ (j : Key). IsPart j.kind j.part) same k.2.part) in
-      let here : at m (key kind.Postings i (posting_part 0 w form.0)) ≡ Some v = ap (λ (l : List ℕ). at m (key kind.Postings i (front ++ l))) (sym form.2) ∙ ap (get m) (sym (assoc q)) ∙ is in
+      let here : at m (key kind.Postings i (posting_part 0 w form.0)) ≡ Some v = ap (λ (l : List ℕ). at m (key kind.Postings i (stream_and_token ++ l))) (sym form.2) ∙ ap (get m) (sym (assoc q)) ∙ is in
       let told = sym (value_at form.0 form.1) ∙ here in
       let text = and_then_some (λ text. posting_value form.0 (positions w text)) (option_and_then (λ r. text_seen ts x r) (n.row i form.0)) v told in
       let row = and_then_some (λ r. text_seen ts x r) (n.row i form.0) text.0 text.1 in
@@ -168,7 +164,7 @@ module _ (m : Content) (ts : Tables) (xs : Names Index) (x : Index) (i w : List 
 
   marked : (d : ℕ) (r : ℤ) → n.row i d ≡ Some r → get x.marks r ≡ Some Marked
   marked d r is =
-      mark_is (get x.marks r)
+      is_the_mark (get x.marks r)
       (ap (λ (o : Option Index). is_marked (mark_of o r)) (sym there) ∙ sym (num.marked i r) ∙ there_some (n.document i r) d (num.back i r d is))
 
   row_fits : (d : ℕ) (r : ℤ) → n.row i d ≡ Some r → IsRowKey r

@@ -1,5 +1,5 @@
 -- What a search needs of an index.
-use Rattle.std.specs.Prelude.{ℕ, ℤ, ◌≡◌, ◌≤◌, ◌<◌, ◌^◌, true, false, is_some, List, length, codes, Option, Some, None}
+use Rattle.std.specs.Prelude.{ℕ, ℤ, ◌≡◌, ◌≤◌, ◌<◌, ◌^◌, nat_lt, true, false, is_some, List, length, codes, Option, Some, None, refl}
 use Rattle.std.specs.Option.{option_and_then}
 use Rattle.std.specs.Ordering.{nat_cmp, int_cmp}
 use Rattle.std.specs.Cmp.Lexicographic.{slice_cmp}
@@ -8,6 +8,7 @@ use Rattle.std.proofs.Common.{sym, ap, ◌∙◌, arith}
 use Rattle.ct_entry.specs.Keys.{IsRow}
 use Rattle.tb_table.specs.Tables.{Table, Tables, row_in, text_of}
 use Rattle.ix_context.specs.Indexes.{Index, text_seen}
+use Rattle.ix_context.specs.Rules.{most_given}
 
 -- Its row keys fit 64 bits, its documents 32, and the texts that it sees have at most 2 ^ 24 bytes.
 pub record IsWithinLimits (ts : Tables) (x : Index) : Type 0 where
@@ -15,7 +16,10 @@ pub record IsWithinLimits (ts : Tables) (x : Index) : Type 0 where
   pub given : x.given < 2 ^ 32
   pub texts : (r : ℤ) (text : List ℕ) → text_seen ts x r ≡ Some text → length text ≤ 2 ^ 24
 
--- an example: an index of no row, on a table that isn't there
+-- computed examples: no index that keeps its rules has given too many documents; and an index of no row, on a table that isn't there
+none_gives_more : nat_lt most_given (2 ^ 32) ≡ true
+none_gives_more = refl
+
 of_no_row : IsWithinLimits empty (record { table = codes "docs"; column = 1; given = 0; marks = empty })
 of_no_row = record {
   rows = λ r marked. let wrong : false ≡ true = sym (ap is_some (get-empty int_cmp r)) ∙ marked in cc;

@@ -1,5 +1,5 @@
 -- What calls promise of the tables and indexes that a keeper's content spells, by the view of the keeper.
-use Rattle.std.specs.Prelude.{ℕ, ◌≡◌, List, Some, None, Result, IfOk}
+use Rattle.std.specs.Prelude.{ℕ, ◌≡◌, List, Some, None, Result, Err, IfOk, refl}
 use Rattle.std.specs.FinMap.{get}
 use Rattle.std.proofs.Common.{sym, ◌∙◌}
 use Rattle.ct_keep.specs.Content.{Content}
@@ -35,6 +35,9 @@ SeesWithinLimits view old i result gives =
     (m : Content) (ts : Tables) (xs : Names Index) (x : Index) → (view old).content ≡ Some m → HasKeysOnly m → IndexesStand (at m) ts xs → get xs i ≡ Some x
     → IsWithinLimits ts x → IfOk result (gives ts x)
 
--- an example: where no content is told, nothing is said of its tables
+-- computed examples: a call that failed gave nothing; and where no content is told, nothing is said of its tables
+gave_nothing : {T E : Type 0} (gives : Tables → T → Type 0) (ts : Tables) (e : E) → IfOk (Err e) (gives ts) ≡ Unit {0}
+gave_nothing gives ts e = refl
+
 nothing_is_told : {K : Type 0} (view : K → KeeperView) (k : K) → (view k).content ≡ None → ToldTables view k (λ ts. ⊥)
 nothing_is_told view k untold m ts told holds = let wrong : None ≡ Some m = sym untold ∙ told in cc

@@ -1,9 +1,14 @@
 -- A content that stands for tables and indexes.
+use Rattle.std.specs.Prelude.{ℕ, ◌≡◌, List, [], ◌∷◌, ◌++◌, Some, codes, refl}
+use Rattle.std.specs.Option.{option_map}
+use Rattle.std.specs.FinMap.{get}
+use Rattle.std.proofs.Common.{ap, ◌∙◌}
+use Rattle.ct_bytes.specs.Varints.{varint}
 use Rattle.ct_keep.specs.Content.{Content}
 use Rattle.ct_entry.specs.Keys.{at, HasKeysOnly}
 use Rattle.ct_entry.specs.Maps.{Names}
-use Rattle.tb_table.specs.Tables.{Tables}
-use Rattle.tb_table.specs.Spelling.{TablesStand}
+use Rattle.tb_table.specs.Tables.{Table, Tables, docs_columns, docs_table}
+use Rattle.tb_table.specs.Spelling.{columns_bytes, TablesStand}
 use Rattle.tb_table.specs.Rules.{AreTables}
 use Rattle.ix_context.specs.Indexes.{Index}
 use Rattle.ix_context.specs.Spelling.{IndexesStand}
@@ -20,3 +25,14 @@ pub record HoldsIndexes (m : Content) (ts : Tables) (xs : Names Index) : Type 0 
   pub tables : HoldsTables m ts
   pub stand : IndexesStand (at m) ts xs
   pub rules : AreIndexes ts xs
+
+-- computed examples: the columns of the table `docs` as bytes, and what a content that holds the table has under its key
+abbrev its_bytes : List ℕ
+its_bytes = 3 ∷ (2 ∷ codes "id" ++ 1 ∷ 0 ∷ 0 ∷ []) ++ (4 ∷ codes "body" ++ 3 ∷ 0 ∷ 0 ∷ []) ++ (5 ∷ codes "price" ++ 1 ∷ 0 ∷ 0 ∷ [])
+
+its_columns : columns_bytes docs_columns ≡ its_bytes
+unfolding varint
+its_columns = refl
+
+its_entry : (m : Content) (ts : Tables) → HoldsTables m ts → get ts (codes "docs") ≡ Some docs_table → get m (0x01 ∷ 4 ∷ codes "docs") ≡ Some its_bytes
+its_entry m ts holds there = holds.stand.tables (codes "docs") ∙ ap (option_map (λ (x : Table). columns_bytes x.columns)) there ∙ ap Some its_columns

@@ -1,7 +1,7 @@
 //! Indexes in a keeper in memory.
 
 ghost use Rattle.std.specs.Prelude.{true, IsTrue, [], ◌∷◌};
-ghost use Rattle.ct_keep.specs.Spoken.{spoken};
+ghost use Rattle.ct_keep.specs.SeenChanges.{change_of};
 ghost use Rattle.ct_keep.specs.Changes.{AreWell};
 
 use crate::{Hit, KeyRange, create, note_insert, search, sync};
@@ -14,7 +14,7 @@ use tx_chars::key;
 
 /// Whether a keeper may hold what the change puts.
 fn is_entry(change: &Change) -> bool
-    ensures { IsTrue result → AreWell (λ _ _. true) (spoken change.now ∷ []) }
+    ensures { IsTrue result → AreWell (λ _ _. true) (change_of change.now ∷ []) }
 {
     match &change.value {
         None => true,
@@ -55,7 +55,7 @@ fn add_row(alloc: Global, keeper: &mut MemKeeper, row: i64, text: &str) -> Resul
         .push((1, Text::of(alloc, text)?))
         .map_err(Memory::from)?;
     let mut batch = Batch::new(alloc);
-    insert(alloc, &mut batch, &table, RowKey(row), &[], &texts)?;
+    insert(alloc, &mut batch, &table, RowKey(row), &[], texts)?;
     commit(alloc, keeper, batch)
 }
 

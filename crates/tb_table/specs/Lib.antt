@@ -2,7 +2,6 @@ pub mod Tables
 pub mod Spelling
 pub mod Rules
 pub mod Readings
-pub mod RowCounts
 pub mod Room
 pub mod Promises
 pub mod laws

@@ -11,7 +11,7 @@ use Rattle.ct_entry.specs.Keys.{key, at}
 use Rattle.ct_entry.specs.Each.{is_among}
 use Rattle.tb_table.specs.declared.columns.Sort.{Sort}
 use Rattle.tb_table.specs.declared.columns.Column.{Column}
-use Rattle.tb_table.specs.Spelling.{sort_code, sort_size, column_bytes, columns_bytes, numbers_bytes}
+use Rattle.tb_table.specs.Spelling.{sort_code, sort_size, column_bytes, columns_bytes, row_numbers_bytes}
 use Rattle.std.proofs.Common.{arith}
 use Rattle.ct_bytes.specs.Varints.{varint}
 use Rattle.ct_bytes.specs.RowKeys.{row_bytes}
@@ -56,8 +56,8 @@ EachFits (z ∷ zs) = FitsSigned w64 z × EachFits zs
 
 -- the entry spells these numbers; or it spells none, as where its length is no multiple of 8
 abbrev pub SpellsNumbers : Option (List ℕ) → Option (List ℤ) → Type 0
-SpellsNumbers entry (Some zs) = EachFits zs × (entry ≡ Some (numbers_bytes zs))
-SpellsNumbers entry None = (zs : List ℤ) → entry ≡ Some (numbers_bytes zs) → ⊥
+SpellsNumbers entry (Some zs) = EachFits zs × (entry ≡ Some (row_numbers_bytes zs))
+SpellsNumbers entry None = (zs : List ℤ) → entry ≡ Some (row_numbers_bytes zs) → ⊥
 
 -- the entry is this text in UTF-8; or it is none
 abbrev pub SpellsText : Option (List ℕ) → Option (List ℕ) → Type 0

@@ -35,8 +35,8 @@ abbrev pub columns_bytes : List Column → List ℕ
 columns_bytes cs = varint (length cs) ++ flat_map column_bytes cs
 
 -- the numbers of a row, eight bytes each
-abbrev pub numbers_bytes : List ℤ → List ℕ
-numbers_bytes zs = flat_map row_bytes zs
+abbrev pub row_numbers_bytes : List ℤ → List ℕ
+row_numbers_bytes zs = flat_map row_bytes zs
 
 -- the key under which the numbers of a row stand
 abbrev pub numbers_key : List ℕ → ℤ → Key
@@ -45,7 +45,7 @@ numbers_key t r = key kind.RowNumbers t (row_part r)
 -- The entries of the kinds Tables, RowNumbers and RowTexts spell the tables.
 pub record TablesStand (f : Key → Option (List ℕ)) (ts : Tables) : Type 0 where
   pub tables : (t : List ℕ) → f (key kind.Tables t []) ≡ option_map (λ (x : Table). columns_bytes x.columns) (get ts t)
-  pub numbers : (t : List ℕ) (r : ℤ) → IsRow r → f (key kind.RowNumbers t (row_part r)) ≡ option_map (λ vs. numbers_bytes (numbers_of vs)) (row_at ts t r)
+  pub numbers : (t : List ℕ) (r : ℤ) → IsRow r → f (key kind.RowNumbers t (row_part r)) ≡ option_map (λ vs. row_numbers_bytes (numbers_of vs)) (row_at ts t r)
   pub texts : (t : List ℕ) (c : ℕ) (r : ℤ) → c < 256 → IsRow r → f (key kind.RowTexts t (text_part c r)) ≡ option_and_then (λ vs. text_of vs c) (row_at ts t r)
 
 -- ---- what calls put into a batch
@@ -58,7 +58,7 @@ abbrev pub row_text_changes : List ℕ → ℤ → List (ℕ × List ℕ) → Li
 row_text_changes t r texts = map (λ (x : ℕ × List ℕ). put (key kind.RowTexts t (text_part x.0 r)) x.1) texts
 
 abbrev pub insert_changes : List ℕ → ℤ → List ℤ → List (ℕ × List ℕ) → List (Key × Option (List ℕ))
-insert_changes t r numbers texts = put (key kind.RowNumbers t (row_part r)) (numbers_bytes numbers) ∷ row_text_changes t r texts
+insert_changes t r numbers texts = put (key kind.RowNumbers t (row_part r)) (row_numbers_bytes numbers) ∷ row_text_changes t r texts
 
 -- computed examples
 

@@ -7,7 +7,7 @@ ghost use Rattle.ct_entry.specs.Keys.{key, text_part};
 ghost use Rattle.tb_table.specs.Spelling.{table_changes, row_text_changes, insert_changes};
 
 use crate::columns::Column;
-use crate::writing::{columns_bytes, numbers_bytes, text_part};
+use crate::writing::{columns_bytes, row_numbers_bytes, text_part};
 use ct_base::{Memory, Name, RowKey, Text};
 use ct_bytes::row_key_bytes;
 use ct_entry::{Kind, put_entry};
@@ -29,20 +29,26 @@ pub fn create(
     put_entry(alloc, batch, Kind::Tables, table, &[], value)
 }
 
-/// Adds the change of a text of a row.
+/// Adds the change of a text of a row, whose bytes become the value.
 fn put_text(
     alloc: Global,
     batch: &mut Batch,
     table: &Name,
     row: RowKey,
     column: u8,
-    text: &Text,
+    text: Text,
 ) -> Result<(), Memory>
-    ensures { OnOk result (batch.new ≡ batch.old ++ spell (put (key kind.RowTexts table.now (text_part column row.0)) text.now ∷ [])) }
+    ensures { OnOk result (batch.new ≡ batch.old ++ spell (put (key kind.RowTexts table.now (text_part column row.0)) text ∷ [])) }
 {
-    let value = Vec::from_slice(alloc, text.as_str().as_bytes())?;
     let part = text_part(column, row);
-    put_entry(alloc, batch, Kind::RowTexts, table, &part, value)
+    put_entry(
+        alloc,
+        batch,
+        Kind::RowTexts,
+        table,
+        &part,
+        text.into_bytes(),
+    )
 }
 
 /// Adds a change for each text of a row.
@@ -51,31 +57,32 @@ fn put_texts(
     batch: &mut Batch,
     table: &Name,
     key: RowKey,
-    texts: &[(u8, Text)],
+    texts: Vec<(u8, Text)>,
 ) -> Result<(), Memory>
-    ensures { OnOk result (batch.new ≡ batch.old ++ spell (row_text_changes table.now key.0 texts.now)) }
+    ensures { OnOk result (batch.new ≡ batch.old ++ spell (row_text_changes table.now key.0 texts.items)) }
 {
     for (column, text) in texts {
-        put_text(alloc, batch, table, key, *column, text)?;
+        put_text(alloc, batch, table, key, column, text)?;
     }
     Ok(())
 }
 
 /// Adds the changes of a new row: one for its numbers, in the order of their columns, and one for each of its texts, by the
-/// places of their columns, that of the key being 0. The batch is unchanged where there is no memory.
+/// places of their columns, that of the key being 0. The bytes of the texts become the values, without a copy. The batch is
+/// unchanged where there is no memory.
 pub fn insert(
     alloc: Global,
     batch: &mut Batch,
     table: &Name,
     key: RowKey,
     numbers: &[i64],
-    texts: &[(u8, Text)],
+    texts: Vec<(u8, Text)>,
 ) -> Result<(), Memory>
-    ensures ok { OnOk result (batch.new ≡ batch.old ++ spell (insert_changes table.now key.0 numbers.now texts.now)) }
+    ensures ok { OnOk result (batch.new ≡ batch.old ++ spell (insert_changes table.now key.0 numbers.now texts.items)) }
     ensures err { OnErr result (batch.new ≡ batch.old) }
 {
     let mut changes = Batch::new(alloc);
-    let value = numbers_bytes(alloc, numbers)?;
+    let value = row_numbers_bytes(alloc, numbers)?;
     let part = row_key_bytes(key);
     put_entry(alloc, &mut changes, Kind::RowNumbers, table, &part, value)?;
     put_texts(alloc, &mut changes, table, key, texts)?;

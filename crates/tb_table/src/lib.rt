@@ -17,4 +17,4 @@ pub use columns::{Column, Sort, Target};
 pub use laws::{changes_stand, entries_are_exact, rules_stay};
 pub use listings::{next_row, tables};
 pub use lookups::{columns_of, has_row, number_row, text_of};
-pub use row_counts::row_count_at_most;
+pub use row_counts::row_count;

@@ -1,12 +1,12 @@
 //! A table in a keeper in memory.
 
 ghost use Rattle.std.specs.Prelude.{true, IsTrue, [], ◌∷◌};
-ghost use Rattle.ct_keep.specs.Spoken.{spoken};
+ghost use Rattle.ct_keep.specs.SeenChanges.{change_of};
 ghost use Rattle.ct_keep.specs.Changes.{AreWell};
 
 use crate::{
-    Column, Sort, columns_of, create, has_row, insert, next_row, number_row, row_count_at_most,
-    tables, text_of,
+    Column, Sort, columns_of, create, has_row, insert, next_row, number_row, row_count, tables,
+    text_of,
 };
 use ct_base::{Memory, Name, RowKey, Text};
 use ct_bytes::row_key_bytes;
@@ -31,7 +31,7 @@ static SPOILT: [&[u8]; 9] = [
 
 /// Whether a keeper may hold what the change puts.
 fn is_entry(change: &Change) -> bool
-    ensures { IsTrue result → AreWell (λ _ _. true) (spoken change.now ∷ []) }
+    ensures { IsTrue result → AreWell (λ _ _. true) (change_of change.now ∷ []) }
 {
     match &change.value {
         None => true,
@@ -116,7 +116,7 @@ fn add_row(
 ) -> Result<(), KeepFault> {
     let texts = two_texts(alloc, title)?;
     let mut batch = Batch::new(alloc);
-    insert(alloc, &mut batch, table, RowKey(row), &[-1], &texts)?;
+    insert(alloc, &mut batch, table, RowKey(row), &[-1], texts)?;
     commit(alloc, keeper, batch)
 }
 
@@ -222,31 +222,36 @@ fn say_tables(alloc: Global, line: &mut String, keeper: &mut MemKeeper) -> Resul
     Ok(())
 }
 
-/// Says whether the table has at most so many rows, for these limits.
-fn say_few(
+fn say_number(alloc: Global, line: &mut String, number: u64) -> Result<(), Memory> {
+    let text = format!(in alloc; "{number} ")?;
+    say(line, text.as_str())
+}
+
+/// Says how many rows a table has.
+fn say_count(
     alloc: Global,
     line: &mut String,
-    keeper: &mut MemKeeper,
+    keeper: &MemKeeper,
     table: &Name,
 ) -> Result<(), KeepFault> {
-    for most in [0, 1, 2, 3, 9, 10, 4_294_967_295] {
-        let few = row_count_at_most(alloc, keeper, table, most)?;
-        say(line, if few { "+" } else { "-" })?;
-    }
+    let count = row_count(alloc, keeper, table)?;
+    say_number(alloc, line, count)?;
     Ok(())
 }
 
-/// Whether tables with no row, with one and with two have few.
-fn few_rows(alloc: Global, line: &mut String) -> Result<(), KeepFault> {
+/// How many rows two tables have as rows come.
+fn counted_rows(alloc: Global, line: &mut String) -> Result<(), KeepFault> {
     let mut keeper = new_keeper(alloc)?;
     let docs = named(alloc, "docs")?;
-    say_few(alloc, line, &mut keeper, &docs)?;
-    for row in [7, -2, 9_223_372_036_854_775_807] {
+    let others = named(alloc, "doc")?;
+    say_count(alloc, line, &keeper, &docs)?;
+    for row in [7, -2, 9_223_372_036_854_775_807, 7] {
         add_row(alloc, &mut keeper, &docs, row, "a title")?;
-        say(line, " ")?;
-        say_few(alloc, line, &mut keeper, &docs)?;
+        say_count(alloc, line, &keeper, &docs)?;
     }
-    Ok(())
+    add_row(alloc, &mut keeper, &others, 1, "")?;
+    say_count(alloc, line, &keeper, &docs)?;
+    say_count(alloc, line, &keeper, &others)
 }
 
 /// What is read of a table with two rows.
@@ -354,10 +359,10 @@ fn spoilt_entries_are_none(rt: HostRuntime) -> Result<(), Fail> {
 }
 
 #[test]
-fn few_rows_are_few(rt: HostRuntime) -> Result<(), Fail> {
+fn rows_are_counted(rt: HostRuntime) -> Result<(), Fail> {
     let mut line = String::new(rt.alloc());
-    few_rows(rt.alloc(), &mut line)?;
-    assert_eq!(rt; line.as_str(), "+++++++ -++++++ --+++++ ---++++");
+    counted_rows(rt.alloc(), &mut line)?;
+    assert_eq!(rt; line.as_str(), "0 1 2 3 3 3 1 ");
     Ok(())
 }
 

@@ -2,7 +2,7 @@
 
 ghost use Rattle.std.specs.Prelude.{◌≡◌, ◌++◌, ◌^◌, ◌<◌, length, IfOk, OnOk};
 ghost use Rattle.ct_entry.specs.Keys.{text_part};
-ghost use Rattle.tb_table.specs.Spelling.{sort_code, sort_size, column_bytes, columns_bytes, numbers_bytes};
+ghost use Rattle.tb_table.specs.Spelling.{sort_code, sort_size, column_bytes, columns_bytes, row_numbers_bytes};
 
 use crate::columns::{Column, Sort};
 use ct_base::{Memory, RowKey};
@@ -53,8 +53,8 @@ pub(crate) fn columns_bytes(alloc: Global, columns: &[Column]) -> Result<Vec<u8>
 }
 
 /// The value of a row's entry: its numbers, eight bytes each.
-pub(crate) fn numbers_bytes(alloc: Global, numbers: &[i64]) -> Result<Vec<u8>, Memory>
-    ensures { IfOk result (λ bytes. bytes.items ≡ numbers_bytes numbers.now) }
+pub(crate) fn row_numbers_bytes(alloc: Global, numbers: &[i64]) -> Result<Vec<u8>, Memory>
+    ensures { IfOk result (λ bytes. bytes.items ≡ row_numbers_bytes numbers.now) }
 {
     let mut bytes = Vec::new(alloc);
     for number in numbers {

@@ -5,7 +5,7 @@ use Rattle.std.specs.declared.alloc.Global.{Global}
 use Rattle.ct_keep.specs.declared.keepers.KeepFault.{KeepFault}
 use Rattle.ct_keep.specs.declared.keepers.KeepFault.TheVariants.{Memory, Disk, Full as NoRoom}
 use Rattle.ct_keep.specs.Content.{Content}
-use Rattle.ct_keep.specs.KeeperViews.{KeeperView, Reads, IsSettled, fault_of, is_full, counted}
+use Rattle.ct_keep.specs.KeeperViews.{KeeperView, Reads, IsDurable, fault_of, is_full, counted}
 use Rattle.ct_keep.specs.Composing.{same_limit, reads_then, reads_only, reads_failed}
 use Rattle.db_cond.specs.Faults.{Refusal, refusal_line}
 use Rattle.db_state.specs.States.{State, Stands}
@@ -15,7 +15,7 @@ use Rattle.db_state.specs.Plans.{StandsBy, Gives}
 
 -- ---- a statement that is refused, or fails, or only reads
 
-pub gives_refused : (m : State) (effect : Effect) (c : Content) (old new : KeeperView) (v : Vec ℕ Global) → IsSettled old → old.content ≡ Some c → Stands c (state_by m effect) → Reads old new None → v.items ≡ reply_by effect → Gives m effect c old new (Ok v)
+pub gives_refused : (m : State) (effect : Effect) (c : Content) (old new : KeeperView) (v : Vec ℕ Global) → IsDurable old → old.content ≡ Some c → Stands c (state_by m effect) → Reads old new None → v.items ≡ reply_by effect → Gives m effect c old new (Ok v)
 gives_refused m effect c old new v settled holds stands reads is = record {
   moves = record { next = c; stands = stands; goes = reads_only c old new settled holds reads; same = λ e. refl };
   reply = is;
@@ -27,7 +27,7 @@ stands_failed m effect c Memory stands = refl
 stands_failed m effect c NoRoom stands = refl
 stands_failed m effect c Disk stands = inl stands
 
-pub gives_failed : (m : State) (effect : Effect) (c : Content) (old new : KeeperView) (fault : KeepFault) → IsSettled old → old.content ≡ Some c → Stands c m → Reads old new (Some fault) → Gives m effect c old new (Err fault)
+pub gives_failed : (m : State) (effect : Effect) (c : Content) (old new : KeeperView) (fault : KeepFault) → IsDurable old → old.content ≡ Some c → Stands c m → Reads old new (Some fault) → Gives m effect c old new (Err fault)
 gives_failed m effect c old new fault settled holds stands reads = record {
   moves = record { next = c; stands = stands_failed m effect c fault stands; goes = reads_failed c c old new fault settled holds reads; same = λ e. refl };
   reply = tt;
@@ -46,7 +46,7 @@ gives_then m effect c old mid new result reads gives = record {
 -- ---- ways out that say what they return
 
 -- a refusal, by its line
-pub gives_line : (m : State) (effect : Effect) (refusal : Refusal) (c : Content) (old new : KeeperView) (v : Vec ℕ Global) → IsSettled old → old.content ≡ Some c → Stands c m → Reads old new None → effect ≡ Refused refusal → v.items ≡ refusal_line refusal → Gives m effect c old new (Ok v)
+pub gives_line : (m : State) (effect : Effect) (refusal : Refusal) (c : Content) (old new : KeeperView) (v : Vec ℕ Global) → IsDurable old → old.content ≡ Some c → Stands c m → Reads old new None → effect ≡ Refused refusal → v.items ≡ refusal_line refusal → Gives m effect c old new (Ok v)
 gives_line m effect refusal c old new v settled holds stands reads is line =
     subst (λ (e : Effect). Gives m e c old new (Ok v)) (sym is) (gives_refused m (Refused refusal) c old new v settled holds stands reads line)
 
@@ -57,7 +57,7 @@ gives_as m effect done c old new result is gives = subst (λ (e : Effect). Gives
 -- ---- statements that only read
 
 -- what reads alone give of an effect that leaves the state
-pub gives_read : (m : State) (effect : Effect) (c : Content) (old new : KeeperView) (result : Result (Vec ℕ Global) KeepFault) → IsSettled old → old.content ≡ Some c → Stands c m → Reads old new (fault_of result)
+pub gives_read : (m : State) (effect : Effect) (c : Content) (old new : KeeperView) (result : Result (Vec ℕ Global) KeepFault) → IsDurable old → old.content ≡ Some c → Stands c m → Reads old new (fault_of result)
     → IfOk result (λ v. v.items ≡ reply_by effect) → state_by m effect ≡ m → Gives m effect c old new result
 gives_read m effect c old new (Ok v) settled holds stands reads reply same = gives_refused m effect c old new v settled holds (subst (Stands c) (sym same) stands) reads reply
 gives_read m effect c old new (Err fault) settled holds stands reads reply same = gives_failed m effect c old new fault settled holds stands reads

@@ -1,5 +1,5 @@
 -- What the entries of indexes begin with.
-use Rattle.std.proofs.Common.{◌≡◌, ℕ, zero, suc, ◌+◌, ◌<◌, List, [], ◌∷◌, ◌++◌, length, Option, Some, None, refl, sym, ap, subst, ◌∙◌, append_assoc, arith}
+use Rattle.std.proofs.Common.{◌≡◌, ℕ, ◌+◌, List, [], ◌∷◌, ◌++◌, Option, Some, None, refl, sym, ap, subst, ◌∙◌, append_assoc, arith}
 use Rattle.std.proofs.lemmas.Cmp.{nat_list_cmp_total}
 use Rattle.std.specs.Int.{to_be_bytes, w32}
 use Rattle.std.specs.Option.{option_map}
@@ -10,11 +10,11 @@ use Rattle.ct_entry.specs.declared.kinds.Kind.TheVariants as kind
 use Rattle.ct_entry.specs.Keys.{Key, key}
 use Rattle.ct_entry.specs.Maps.{Names, each_value}
 use Rattle.ct_entry.specs.laws.Maps.{get-each_value}
-use Rattle.tb_table.specs.declared.columns.Column.{Column}
 use Rattle.tb_table.specs.Tables.{Tables}
 use Rattle.tb_table.specs.Rules.{AreTables}
 use Rattle.ix_context.specs.Indexes.{Index}
-use Rattle.ix_context.specs.Rules.{AreIndexes, IsTarget, HasTextAt}
+use Rattle.ix_context.specs.Rules.{AreIndexes, IsTarget}
+use Rattle.ix_context.specs.laws.Reading.{column_few}
 use Rattle.ix_context.specs.Spelling.{IndexesStand, default_bytes, index_entry}
 use Rattle.db_names.specs.declared.heads.IndexKind.TheVariants.{Context}
 use Rattle.db_names.specs.declared.heads.IndexHead.{IndexHead}
@@ -38,15 +38,10 @@ head_found xs i h is = go (get xs i) refl (sym (get-heads xs i) ∙ is)
     go None here e = cc
     go (Some x) here e = (x, here, cc)
 
-text_place : (columns : List Column) (place : ℕ) → HasTextAt columns place → place < length columns
-text_place [] place texts = absurd texts
-text_place (c ∷ cs) zero texts = omega arith
-text_place (c ∷ cs) (suc place) texts = let rest = text_place cs place texts in omega (arith, rest)
-
 is_head : (ts : Tables) (x : Index) → AreTables ts → IsTarget ts x.table x.column → IsHead (head_of_index x)
 is_head ts x are target = record {
   table = are.names x.table target.table target.there;
-  column = let place = text_place target.table.columns x.column target.texts in let few = (are.each x.table target.table target.there).columns.few in omega (arith, place, few);
+  column = let few = column_few ts are x.table x.column target in omega (arith, few);
 }
 
 entry_begins : (entry : Option (List ℕ)) (o : Option Index) → entry ≡ option_map index_entry o → HasHeadOrNone entry (option_map head_of_index o)

@@ -1,6 +1,6 @@
 -- A content stands for at most one state: its entries determine the tables, their rows, and the indexes with their marks.
-use Rattle.std.specs.Prelude.{ℕ, ℤ, suc, ◌+◌, ◌<◌, ◌≤◌, ◌≡◌, List, [], ◌∷◌, length, is_some, Option, Some, None, FitsSigned, refl}
-use Rattle.std.specs.Int.{to_be_bytes, w32, w64}
+use Rattle.std.specs.Prelude.{ℕ, ℤ, suc, ◌+◌, ◌<◌, ◌≤◌, ◌≡◌, List, [], ◌∷◌, length, is_some, Option, Some, None, refl}
+use Rattle.std.specs.Int.{to_be_bytes, w32}
 use Rattle.std.specs.Option.{option_map, option_and_then}
 use Rattle.std.specs.FinMap.{get, same_map, int_cmp-IsAntisymmetric, nat_cmp-IsAntisymmetric, slice_cmp-IsAntisymmetric}
 use Rattle.std.proofs.Common.{sym, ap, subst, ◌∙◌, arith, true, false}
@@ -9,15 +9,12 @@ use Rattle.ct_base.specs.declared.lists.Value.{Value}
 use Rattle.ct_base.specs.declared.lists.Value.TheVariants.{Number as NumberValue, Text as TextValue}
 use Rattle.ct_entry.specs.Keys.{Key, at, IsRow}
 use Rattle.ct_entry.specs.Maps.{Names}
-use Rattle.tb_table.specs.declared.columns.Sort.{Sort}
-use Rattle.tb_table.specs.declared.columns.Sort.TheVariants.{Number, Varchar2, Clob}
 use Rattle.tb_table.specs.declared.columns.Column.{Column}
 use Rattle.tb_table.specs.Tables.{Table, Tables, row_in, numbers_of, text_in, text_of}
-use Rattle.tb_table.specs.Spelling.{TablesStand, columns_bytes, numbers_bytes}
-use Rattle.tb_table.specs.Rules.{AreTables, FitColumns, IsOfSort, others}
-use Rattle.tb_table.specs.Readings.{EachFits}
+use Rattle.tb_table.specs.Spelling.{TablesStand, columns_bytes, row_numbers_bytes}
+use Rattle.tb_table.specs.Rules.{AreTables, FitColumns, others}
 use Rattle.tb_table.specs.laws.Spelling.{columns_apart, numbers_apart}
-use Rattle.tb_table.specs.laws.Reading.{are_spellable}
+use Rattle.tb_table.specs.laws.Reading.{are_spellable, numbers_fit}
 use Rattle.ix_context.specs.Indexes.{Index, Mark, Pending, Marked, is_marked, mark_of, mark_at}
 use Rattle.ix_context.specs.Spelling.{IndexesStand, index_entry, queued}
 use Rattle.ix_context.specs.Rules.{AreIndexes}
@@ -46,18 +43,6 @@ one_row (c ∷ cs) (TextValue s ∷ vs) (TextValue t ∷ ws) fit fits numbers te
     let more : vs ≡ ws = one_row cs vs ws fit.1 fits.1 numbers (λ place less. texts (suc place) (omega (arith, less))) in
     cc
 
-numbers_in_range : (cs : List Column) (vs : List Value) → FitColumns cs vs → EachFits (numbers_of vs)
-numbers_in_range [] [] fit = tt
-numbers_in_range [] (v ∷ vs) fit = absurd fit
-numbers_in_range (c ∷ cs) [] fit = absurd fit
-numbers_in_range (c ∷ cs) (NumberValue n ∷ vs) fit = (number c.sort fit.0, numbers_in_range cs vs fit.1)
-  where
-    number : (s : Sort) → IsOfSort s (NumberValue n) → FitsSigned w64 n
-    number Number fits = fits
-    number (Varchar2 size) fits = absurd fits
-    number Clob fits = absurd fits
-numbers_in_range (c ∷ cs) (TextValue text ∷ vs) fit = numbers_in_range cs vs fit.1
-
 -- ---- tables
 
 table_is : (x y : Table) → x.columns ≡ y.columns → x.rows ≡ y.rows → x ≡ y
@@ -67,7 +52,7 @@ abbrev spelt_columns : Option Table → Option (List ℕ)
 spelt_columns o = option_map (λ (x : Table). columns_bytes x.columns) o
 
 abbrev spelt_numbers : Option (List Value) → Option (List ℕ)
-spelt_numbers o = option_map (λ (vs : List Value). numbers_bytes (numbers_of vs)) o
+spelt_numbers o = option_map (λ (vs : List Value). row_numbers_bytes (numbers_of vs)) o
 
 abbrev text_at : ℕ → Option (List Value) → Option (List ℕ)
 text_at c o = option_and_then (λ (vs : List Value). text_of vs c) o
@@ -99,18 +84,18 @@ module _ (f : Key → Option (List ℕ)) (ts us : Tables) (ts_stand : TablesStan
         go None None e d = e ∙ sym d
         go None (Some ws) e d =
             let row = (us_are.each t y there).keys r ws d in
-            let wrong : None ≡ Some (numbers_bytes (numbers_of ws)) = sym (ap spelt_numbers e) ∙ same_numbers r row ∙ ap spelt_numbers d in
+            let wrong : None ≡ Some (row_numbers_bytes (numbers_of ws)) = sym (ap spelt_numbers e) ∙ same_numbers r row ∙ ap spelt_numbers d in
             cc
         go (Some vs) None e d =
             let row = (ts_are.each t x here).keys r vs e in
-            let wrong : Some (numbers_bytes (numbers_of vs)) ≡ None = sym (ap spelt_numbers e) ∙ same_numbers r row ∙ ap spelt_numbers d in
+            let wrong : Some (row_numbers_bytes (numbers_of vs)) ≡ None = sym (ap spelt_numbers e) ∙ same_numbers r row ∙ ap spelt_numbers d in
             cc
         go (Some vs) (Some ws) e d =
             let row = (ts_are.each t x here).keys r vs e in
             let fit = (ts_are.each t x here).rows r vs e in
             let fits : FitColumns (others x.columns) ws = subst (λ (cs : List Column). FitColumns (others cs) ws) (sym same_columns) ((us_are.each t y there).rows r ws d) in
-            let spelt : Some (numbers_bytes (numbers_of vs)) ≡ Some (numbers_bytes (numbers_of ws)) = sym (ap spelt_numbers e) ∙ same_numbers r row ∙ ap spelt_numbers d in
-            let numbers = numbers_apart (numbers_of vs) (numbers_of ws) (numbers_in_range (others x.columns) vs fit) (numbers_in_range (others x.columns) ws fits) cc in
+            let spelt : Some (row_numbers_bytes (numbers_of vs)) ≡ Some (row_numbers_bytes (numbers_of ws)) = sym (ap spelt_numbers e) ∙ same_numbers r row ∙ ap spelt_numbers d in
+            let numbers = numbers_apart (numbers_of vs) (numbers_of ws) (numbers_fit (others x.columns) vs fit) (numbers_fit (others x.columns) ws fits) cc in
             let text : (place : ℕ) → place < length (others x.columns) → text_in vs place ≡ text_in ws place =
             λ place less. sym (ap (text_at (suc place)) e) ∙ same_texts (suc place) r (omega (arith, less, few)) row ∙ ap (text_at (suc place)) d in
             e ∙ ap Some (one_row (others x.columns) vs ws fit fits numbers text) ∙ sym d

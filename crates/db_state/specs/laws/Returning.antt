@@ -3,17 +3,17 @@ use Rattle.std.proofs.Common.{◌≡◌, ℕ, List, Some, None, Ok, Err, Vec, re
 use Rattle.std.specs.declared.alloc.Global.{Global}
 use Rattle.ct_keep.specs.Content.{Content}
 use Rattle.ct_keep.specs.declared.keepers.KeepFault.TheVariants.{Memory, Full as NoRoom, Disk}
-use Rattle.ct_keep.specs.KeeperViews.{KeeperView, Kept, Reads, Goes, IsSettled, fault_of}
+use Rattle.ct_keep.specs.KeeperViews.{KeeperView, SameButContent, Reads, Goes, IsDurable, fault_of}
 use Rattle.db_state.specs.Plans.{CommitsOnce, ContentStays, Returns, ReturnsBy}
 use Rattle.ct_base.specs.laws.Moments.{passes_more}
 use Rattle.ct_keep.specs.declared.keepers.KeepFault.{KeepFault}
 use Rattle.ct_keep.specs.Composing.{reads_on, reads_hold, reads_then, reads_only, reads_failed}
 
 -- what is kept unless the disk failed
-pub kept_memory : (old new : KeeperView) → Kept old new (Some Memory) → Kept old new None
+pub kept_memory : (old new : KeeperView) → SameButContent old new (Some Memory) → SameButContent old new None
 kept_memory old new kept = record { ready = kept.ready; beside = kept.beside; fixed = kept.fixed; later = kept.later; cause = kept.cause; calls = kept.calls }
 
-pub kept_full : (old new : KeeperView) → Kept old new (Some NoRoom) → Kept old new None
+pub kept_full : (old new : KeeperView) → SameButContent old new (Some NoRoom) → SameButContent old new None
 kept_full old new kept = record { ready = kept.ready; beside = kept.beside; fixed = kept.fixed; later = kept.later; cause = kept.cause; calls = kept.calls }
 
 -- ---- before a commit
@@ -23,10 +23,10 @@ pub reads_memory : (old new : KeeperView) → Reads old new (Some Memory) → Re
 reads_memory old new reads = record { not_full = λ e. cc; kept = kept_memory old new reads.kept; content = reads.content; time = reads.time; now = reads.now; fulls = reads.fulls; commits = reads.commits }
 
 -- they leave the content
-pub stays_read : (old new : KeeperView) → IsSettled old → Reads old new None → ContentStays old new
+pub stays_read : (old new : KeeperView) → IsDurable old → Reads old new None → ContentStays old new
 stays_read old new settled reads = λ c holds. reads_only c old new settled holds reads
 
-pub returns_failed : (done : List ℕ) (old new : KeeperView) (fault : KeepFault) → IsSettled old → Reads old new (Some fault) → Returns done old new (Err fault)
+pub returns_failed : (done : List ℕ) (old new : KeeperView) (fault : KeepFault) → IsDurable old → Reads old new (Some fault) → Returns done old new (Err fault)
 returns_failed done old new Memory settled reads = stays_read old new settled (reads_memory old new reads)
 returns_failed done old new NoRoom settled reads = absurd (reads.not_full refl)
 returns_failed done old new Disk settled reads = λ c holds. record { next = c; goes = reads_failed c c old new Disk settled holds reads }

@@ -6,13 +6,13 @@ use Rattle.ct_keep.specs.declared.keepers.KeepFault.{KeepFault}
 use Rattle.ct_keep.specs.declared.keepers.KeepFault.TheVariants.{Memory}
 use Rattle.ct_keep.specs.Content.{Content, after}
 use Rattle.ct_base.specs.Told.{IsSaid}
-use Rattle.ct_keep.specs.KeeperViews.{AtMostOneCommit, KeeperView, Kept, Reads, IsSettled, fault_of, counted, is_full}
+use Rattle.ct_keep.specs.KeeperViews.{AtMostOneCommit, KeeperView, SameButContent, Reads, IsDurable, fault_of, counted, is_full}
 use Rattle.ct_keep.specs.Composing.{commits_read, kept_then, reads_hold, reads_on, reads_short}
 use Rattle.db_cond.specs.Faults.{Refusal, refusal_line}
 use Rattle.db_state.specs.States.{State, Stands}
 use Rattle.db_state.specs.Effects.{Effect, Refused, Does, state_by, reply_by}
 use Rattle.db_state.specs.Committing.{are_bounded}
-use Rattle.db_state.specs.Plans.{Gives, Returns, ReturnsBy, Serves, IsPlanOf, IsPlan}
+use Rattle.db_state.specs.Plans.{Gives, Returns, ReturnsBy, Fulfils, IsPlanOf, IsPlan}
 use Rattle.db_state.specs.declared.plans.Plan.{Plan}
 use Rattle.db_state.specs.declared.plans.Plan.TheVariants.{Done}
 use Rattle.db_state.specs.laws.Giving.{gives_failed, gives_line, gives_then, gives_as, gives_read, reads_fulls}
@@ -26,11 +26,11 @@ on_fault : (P : Result (Vec ℕ Global) KeepFault → Type 0) (result : Result (
 on_fault P result fault p holds = subst P (sym p.1) (subst (λ (x : KeepFault). P (Err x)) (sym p.2) holds)
 
 module _ (effect : State → Effect) (line : Option (List ℕ)) (old new : KeeperView) where
-  failed_by : (line : Option (List ℕ)) (fault : KeepFault) → IsSettled old → Reads old new (Some fault) → ReturnsBy line old new (Err fault)
+  failed_by : (line : Option (List ℕ)) (fault : KeepFault) → IsDurable old → Reads old new (Some fault) → ReturnsBy line old new (Err fault)
   failed_by None fault settled reads = reads
   failed_by (Some done) fault settled reads = returns_failed done old new fault settled reads
 
-  pub serves_err : (fault : KeepFault) → Reads old new (Some fault) → Serves effect line old new (Err fault)
+  pub serves_err : (fault : KeepFault) → Reads old new (Some fault) → Fulfils effect line old new (Err fault)
   serves_err fault reads = record {
     kept = reads.kept;
     fulls = reads_fulls old new (Err fault) reads;
@@ -40,11 +40,11 @@ module _ (effect : State → Effect) (line : Option (List ℕ)) (old new : Keepe
   }
 
   -- a read failed
-  pub serves_failed : (result : Result (Vec ℕ Global) KeepFault) (fault : KeepFault) → Reads old new (Some fault) → IsFault result fault → Serves effect line old new result
-  serves_failed result fault reads p = on_fault (Serves effect line old new) result fault p (serves_err fault reads)
+  pub serves_failed : (result : Result (Vec ℕ Global) KeepFault) (fault : KeepFault) → Reads old new (Some fault) → IsFault result fault → Fulfils effect line old new result
+  serves_failed result fault reads p = on_fault (Fulfils effect line old new) result fault p (serves_err fault reads)
 
   -- after reads there was no memory
-  pub serves_short : (result : Result (Vec ℕ Global) KeepFault) → Reads old new None → IsFault result Memory → Serves effect line old new result
+  pub serves_short : (result : Result (Vec ℕ Global) KeepFault) → Reads old new None → IsFault result Memory → Fulfils effect line old new result
   serves_short result reads p = serves_failed result Memory (reads_short old new reads) p
 
   refused_by : (line : Option (List ℕ)) (refusal : Refusal) (reply : Vec ℕ Global) → Reads old new None → reply.items ≡ refusal_line refusal → ReturnsBy line old new (Ok reply)
@@ -52,7 +52,7 @@ module _ (effect : State → Effect) (line : Option (List ℕ)) (old new : Keepe
   refused_by (Some done) refusal reply reads says = inr (record { refusal = refusal; says = says; reads = reads })
 
   -- after reads it is refused
-  pub serves_refused : (refusal : Refusal) (reply : Vec ℕ Global) → Reads old new None → ((m : State) (c : Content) → old.content ≡ Some c → Stands c m → effect m ≡ Refused refusal) → reply.items ≡ refusal_line refusal → Serves effect line old new (Ok reply)
+  pub serves_refused : (refusal : Refusal) (reply : Vec ℕ Global) → Reads old new None → ((m : State) (c : Content) → old.content ≡ Some c → Stands c m → effect m ≡ Refused refusal) → reply.items ≡ refusal_line refusal → Fulfils effect line old new (Ok reply)
   serves_refused refusal reply reads is says = record {
     kept = reads.kept;
     fulls = reads.fulls;
@@ -63,7 +63,7 @@ module _ (effect : State → Effect) (line : Option (List ℕ)) (old new : Keepe
 
 -- it only reads
 pub serves_look : (effect : State → Effect) (old new : KeeperView) (result : Result (Vec ℕ Global) KeepFault) → Reads old new (fault_of result)
-    → ((m : State) (c : Content) → old.content ≡ Some c → Stands c m → IfOk result (λ reply. reply.items ≡ reply_by (effect m))) → ((m : State) → state_by m (effect m) ≡ m) → Serves effect None old new result
+    → ((m : State) (c : Content) → old.content ≡ Some c → Stands c m → IfOk result (λ reply. reply.items ≡ reply_by (effect m))) → ((m : State) → state_by m (effect m) ≡ m) → Fulfils effect None old new result
 serves_look effect old new result reads reply stays = record {
   kept = reads.kept;
   fulls = reads_fulls old new result reads;
@@ -74,7 +74,7 @@ serves_look effect old new result reads reply stays = record {
 
 -- ---- reads, and then more
 
-settled_then : (old mid : KeeperView) → Reads old mid None → IsSettled old → IsSettled mid
+settled_then : (old mid : KeeperView) → Reads old mid None → IsDurable old → IsDurable mid
 settled_then old mid reads settled = record {
   here = λ m holds stopped said now.
       let p = settled.here m (sym reads.content ∙ holds) stopped said (reads.now stopped said now) in
@@ -89,7 +89,7 @@ once_then : (old mid new : KeeperView) → Reads old mid None → AtMostOneCommi
 once_then old mid new reads (inl none) = inl (none ∙ reads.commits)
 once_then old mid new reads (inr one) = inr (one ∙ ap (counted true) reads.commits)
 
-pub serves_then : (effect : State → Effect) (line : Option (List ℕ)) (old mid new : KeeperView) (result : Result (Vec ℕ Global) KeepFault) → Reads old mid None → Serves effect line mid new result → Serves effect line old new result
+pub serves_then : (effect : State → Effect) (line : Option (List ℕ)) (old mid new : KeeperView) (result : Result (Vec ℕ Global) KeepFault) → Reads old mid None → Fulfils effect line mid new result → Fulfils effect line old new result
 serves_then effect line old mid new result reads serves = record {
   kept = kept_then old mid new (fault_of result) reads.kept serves.kept;
   fulls = serves.fulls ∙ ap (counted (is_full (fault_of result))) reads.fulls;
@@ -104,8 +104,8 @@ plan_then effect line old mid plan reads fits = record { made = λ m c holds sta
 
 -- the commit of a batch, by what is promised of it for every state
 pub serves_batch : (effect : State → Effect) (line : List ℕ) (batch : List (List ℕ × Option (List ℕ))) (reply : List ℕ) (old new : KeeperView) (result : Result (Vec ℕ Global) KeepFault) → reply ≡ line → IsPlanOf effect line old (Done batch)
-    → Kept old new (fault_of result) → new.counts.fulls ≡ counted (is_full (fault_of result)) old.counts.fulls → AtMostOneCommit old.counts new.counts
-    → ((m n : State) (c : Content) → old.content ≡ Some c → are_bounded batch ≡ true → Stands (after batch c) n → Gives m (Does n reply) c old new result) → Returns reply old new result → Serves effect (Some line) old new result
+    → SameButContent old new (fault_of result) → new.counts.fulls ≡ counted (is_full (fault_of result)) old.counts.fulls → AtMostOneCommit old.counts new.counts
+    → ((m n : State) (c : Content) → old.content ≡ Some c → are_bounded batch ≡ true → Stands (after batch c) n → Gives m (Does n reply) c old new result) → Returns reply old new result → Fulfils effect (Some line) old new result
 serves_batch effect line batch reply old new result same fits kept fulls once gives tells = record {
   kept = kept;
   fulls = fulls;
@@ -117,7 +117,7 @@ serves_batch effect line batch reply old new result same fits kept fulls once gi
 }
 
 -- the same effect and line by other names
-pub serves_as : (effect effect' : State → Effect) (line line' : Option (List ℕ)) (old new : KeeperView) (result : Result (Vec ℕ Global) KeepFault) → ((m : State) → effect' m ≡ effect m) → line' ≡ line → Serves effect line old new result → Serves effect' line' old new result
+pub serves_as : (effect effect' : State → Effect) (line line' : Option (List ℕ)) (old new : KeeperView) (result : Result (Vec ℕ Global) KeepFault) → ((m : State) → effect' m ≡ effect m) → line' ≡ line → Fulfils effect line old new result → Fulfils effect' line' old new result
 serves_as effect effect' line line' old new result same is serves = record {
   kept = serves.kept;
   fulls = serves.fulls;

@@ -26,10 +26,15 @@ use Rattle.ct_entry.specs.laws.Changes.{told_frame, view-append}
 use Rattle.ix_posting.specs.Rows.{posting_bytes}
 use Rattle.ix_context.specs.Postings.{positions, postings_of, if_any}
 use Rattle.ix_context.specs.laws.Postings.{get-postings_of}
-use Rattle.ix_context.specs.Indexes.{Mark, Marked, is_marked}
+use Rattle.ix_context.specs.Indexes.{Mark, Pending, Marked, is_marked}
 use Rattle.ix_context.specs.Spelling.{queued, posting_value}
 use Rattle.ix_context.specs.Changes.{posting_change, text_changes, document_changes, numbered}
 use Rattle.ix_context.specs.laws.Standing.{AreNumbers, RowsStand, MarksStand}
+
+pub is_the_mark : (o : Option Mark) → is_marked o ≡ true → o ≡ Some Marked
+is_the_mark None h = cc
+is_the_mark (Some Pending) h = cc
+is_the_mark (Some Marked) h = refl
 
 -- ---- the kinds of a document's changes
 

@@ -10,7 +10,7 @@ use Rattle.std.proofs.lemmas.Cmp.{nat_list_cmp_total}
 use Rattle.tx_lexer.specs.declared.roles.Role.{Role}
 use Rattle.tx_lexer.specs.declared.roles.Role.TheVariants.{Out, Core, Number, Skip, Start, End}
 use Rattle.tx_lexer.specs.declared.tokens.Token.{Token}
-use Rattle.tx_lexer.specs.Tokens.{Rules, Place, places, keyed, token, tokens_after, uncut, text_of, stop_of, after_of, is_cut, default}
+use Rattle.tx_lexer.specs.Tokens.{Rules, Place, places, keyed, token, tokens_after, uncut, run_text, stop_of, after_of, is_cut, default}
 use Rattle.ix_posting.specs.Rows.{Rise}
 use Rattle.ct_entry.specs.Keys.{same_list}
 use Rattle.ct_entry.specs.laws.Keys.{list_from_same}
@@ -80,8 +80,8 @@ few_tokens_after : (r : Rules) (role : Role) (ps : List Place) → length (token
 few_tokens_after r role [] = omega arith
 few_tokens_after r role (p ∷ ps) =
     let run = p ∷ uncut p.role ps in
-    let here : List Token = token r p.role (text_of run) p.byte (stop_of 0 run) (after_of [] run) in
-    let one = few_where (is_cut role p.role) here (few_token r p.role (text_of run) p.byte (stop_of 0 run) (after_of [] run)) in
+    let here : List Token = token r p.role (run_text run) p.byte (stop_of 0 run) (after_of [] run) in
+    let one = few_where (is_cut role p.role) here (few_token r p.role (run_text run) p.byte (stop_of 0 run) (after_of [] run)) in
     let rest = few_tokens_after r p.role ps in
     simp length-append (omega (arith, one, rest))
 

@@ -8,6 +8,7 @@ use Rattle.ct_base.specs.laws.Names.{name_length}
 use Rattle.ct_bytes.specs.Varints.{varint, text_bytes}
 use Rattle.ct_bytes.specs.laws.Varints.{varint_length}
 use Rattle.ct_bytes.specs.laws.RowKeys.{length-row_bytes}
+use Rattle.ct_keep.specs.Content.{value_limit}
 use Rattle.ct_keep.specs.Changes.{AreWell}
 use Rattle.ct_entry.specs.declared.kinds.Kind.{Kind}
 use Rattle.ct_entry.specs.declared.kinds.Kind.TheVariants as kind
@@ -39,7 +40,7 @@ use Rattle.ix_context.specs.Promises.{TakesIndexes, NotesAreWell, SyncsAreWell, 
 pub record IsIndexChange (w : Key × Option (List ℕ)) : Type 0 where
   pub key : IsKey w.0
   pub of : is_of_indexes w.0.kind ≡ true
-  pub bounded : Puts (λ k v. length v ≤ 67108864) w.0 w.1
+  pub bounded : Puts (λ k v. length v ≤ value_limit) w.0 w.1
 
 abbrev pub AreIndexChanges : List (Key × Option (List ℕ)) → Type 0
 AreIndexChanges [] = Unit {0}
@@ -109,11 +110,11 @@ length-one_row_le d ps =
 
 length-entry_le : (t : List ℕ) (c n : ℕ) → IsName t → length (index_bytes t c n) ≤ 51
 length-entry_le t c n name =
-    let front = length-append (text_bytes t) (after_table c n) in
+    let prefix = length-append (text_bytes t) (after_table c n) in
     let text = length-append (varint (length t)) t in
     let count = varint_length (length t) in
     let short = (name_length t name).1 in
-    omega (arith, front, text, count, short)
+    omega (arith, prefix, text, count, short)
 
 -- ---- the changes of a document
 

@@ -19,7 +19,7 @@ use Rattle.ct_entry.specs.laws.Changes.{told_frame}
 use Rattle.tb_table.specs.declared.columns.Column.{Column}
 use Rattle.tb_table.specs.Tables.{Table, Tables, row_in, row_at, numbers_of, as_text, text_in, text_of, texts_from, texts_of, with_table, with_row}
 use Rattle.ct_entry.specs.Maps.{altered}
-use Rattle.tb_table.specs.Spelling.{columns_bytes, numbers_bytes, TablesStand, table_changes, row_text_changes, insert_changes}
+use Rattle.tb_table.specs.Spelling.{columns_bytes, row_numbers_bytes, TablesStand, table_changes, row_text_changes, insert_changes}
 
 -- ---- the laws
 
@@ -114,7 +114,7 @@ stand_create f ts t columns none stand = record {
       ap (cond (same_key (key kind.Tables q []) (key kind.Tables t [])) (Some (columns_bytes columns))) (stand.tables q)
       ∙ at_table (same_list q t) (get ts q)
       ∙ ap (option_map (λ (x : Table). columns_bytes x.columns)) (sym (get-with_table ts t columns q));
-  numbers = λ q s row. stand.numbers q s row ∙ ap (option_map (λ vs. numbers_bytes (numbers_of vs))) (sym (row_at-with_table ts t columns none q s));
+  numbers = λ q s row. stand.numbers q s row ∙ ap (option_map (λ vs. row_numbers_bytes (numbers_of vs))) (sym (row_at-with_table ts t columns none q s));
   texts = λ q c s few row. stand.texts q c s few row ∙ ap (option_and_then (λ vs. text_of vs c)) (sym (row_at-with_table ts t columns none q s));
 }
   where
@@ -187,11 +187,11 @@ stand_insert f ts t r vs x is none row stand = record {
       told_frame is_of_texts (row_text_changes t r (texts_of vs)) (key kind.Tables q []) (f (key kind.Tables q [])) (all_texts t r (texts_of vs)) refl
       ∙ stand.tables q ∙ spelt_columns (get ts q) ∙ ap (option_map columns_bytes) (sym (columns-with_row ts t r vs x is q)) ∙ sym (spelt_columns (get (with_row ts t r vs) q));
   numbers = λ q s here.
-      told_frame is_of_texts (row_text_changes t r (texts_of vs)) (key kind.RowNumbers q (row_part s)) (cond (same_key (key kind.RowNumbers q (row_part s)) (key kind.RowNumbers t (row_part r))) (Some (numbers_bytes (numbers_of vs))) (f (key kind.RowNumbers q (row_part s)))) (all_texts t r (texts_of vs)) refl
-      ∙ ap (cond (same_key (key kind.RowNumbers q (row_part s)) (key kind.RowNumbers t (row_part r))) (Some (numbers_bytes (numbers_of vs)))) (stand.numbers q s here)
-      ∙ ap (λ (b : Bool). cond b (Some (numbers_bytes (numbers_of vs))) (option_map (λ ws. numbers_bytes (numbers_of ws)) (row_at ts q s))) (same_kind kind.RowNumbers q t (row_part s) (row_part r) ∙ ap (λ (b : Bool). same_list q t && b) (rows_tie s r here row))
+      told_frame is_of_texts (row_text_changes t r (texts_of vs)) (key kind.RowNumbers q (row_part s)) (cond (same_key (key kind.RowNumbers q (row_part s)) (key kind.RowNumbers t (row_part r))) (Some (row_numbers_bytes (numbers_of vs))) (f (key kind.RowNumbers q (row_part s)))) (all_texts t r (texts_of vs)) refl
+      ∙ ap (cond (same_key (key kind.RowNumbers q (row_part s)) (key kind.RowNumbers t (row_part r))) (Some (row_numbers_bytes (numbers_of vs)))) (stand.numbers q s here)
+      ∙ ap (λ (b : Bool). cond b (Some (row_numbers_bytes (numbers_of vs))) (option_map (λ ws. row_numbers_bytes (numbers_of ws)) (row_at ts q s))) (same_kind kind.RowNumbers q t (row_part s) (row_part r) ∙ ap (λ (b : Bool). same_list q t && b) (rows_tie s r here row))
       ∙ at_numbers (same_list q t) (int_eq s r) (row_at ts q s)
-      ∙ ap (option_map (λ ws. numbers_bytes (numbers_of ws))) (sym (row_at-with_row ts t r vs x is q s));
+      ∙ ap (option_map (λ ws. row_numbers_bytes (numbers_of ws))) (sym (row_at-with_row ts t r vs x is q s));
   texts = λ q c s few here.
       told_texts t r q c s row here 1 vs (f (key kind.RowTexts q (text_part c s)))
       ∙ ap (λ (o : Option (List ℕ)). cond (same_list q t && int_eq s r) (option_or (text_from 1 vs c) o) o) (stand.texts q c s few here)
@@ -200,7 +200,7 @@ stand_insert f ts t r vs x is none row stand = record {
       ∙ ap (option_and_then (λ ws. text_of ws c)) (sym (row_at-with_row ts t r vs x is q s));
 }
   where
-    at_numbers : (a b : Bool) (old : Option (List Value)) → cond (a && b) (Some (numbers_bytes (numbers_of vs))) (option_map (λ ws. numbers_bytes (numbers_of ws)) old) ≡ option_map (λ ws. numbers_bytes (numbers_of ws)) (cond a (cond b (Some vs) old) old)
+    at_numbers : (a b : Bool) (old : Option (List Value)) → cond (a && b) (Some (row_numbers_bytes (numbers_of vs))) (option_map (λ ws. row_numbers_bytes (numbers_of ws)) old) ≡ option_map (λ ws. row_numbers_bytes (numbers_of ws)) (cond a (cond b (Some vs) old) old)
     at_numbers true true old = refl
     at_numbers true false old = refl
     at_numbers false b old = refl

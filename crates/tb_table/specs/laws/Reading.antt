@@ -28,7 +28,7 @@ use Rattle.tb_table.specs.declared.columns.Sort.{Sort}
 use Rattle.tb_table.specs.declared.columns.Sort.TheVariants.{Number, Varchar2, Clob}
 use Rattle.tb_table.specs.declared.columns.Column.{Column}
 use Rattle.tb_table.specs.Tables.{Table, Tables, row_in, row_at, numbers_of, as_text, text_in, text_of, keys_in, row_keys}
-use Rattle.tb_table.specs.Spelling.{sort_size, columns_bytes, numbers_bytes, TablesStand}
+use Rattle.tb_table.specs.Spelling.{sort_size, columns_bytes, row_numbers_bytes, TablesStand}
 use Rattle.tb_table.specs.Rules.{HasAllowedSize, IsOfSort, FitColumns, AllColumns, AreColumns, others, AreTables}
 use Rattle.tb_table.specs.Readings.{EachSpellable, AreSpellable, EachFits, SpellsColumns, SpellsNumbers, SpellsText, all_above, names_rise, AreTableNames}
 use Rattle.tb_table.specs.laws.Spelling.{columns_one, numbers_one, text_one}
@@ -74,7 +74,7 @@ row_of_table ts t r vs is = go (get ts t) refl is
 pub row_fits : (ts : Tables) → AreTables ts → (t : List ℕ) (r : ℤ) (vs : List Value) → row_at ts t r ≡ Some vs → (cs : List Column) × FitColumns cs vs
 row_fits ts are t r vs is = let x = row_of_table ts t r vs is in (others x.table.columns, (are.each t x.table x.here).rows r vs x.row)
 
-numbers_fit : (cs : List Column) (vs : List Value) → FitColumns cs vs → EachFits (numbers_of vs)
+pub numbers_fit : (cs : List Column) (vs : List Value) → FitColumns cs vs → EachFits (numbers_of vs)
 numbers_fit [] [] fit = tt
 numbers_fit [] (v ∷ vs) fit = absurd fit
 numbers_fit (c ∷ cs) [] fit = absurd fit
@@ -105,15 +105,15 @@ pub numbers_read : (f : Key → Option (List ℕ)) (ts : Tables) → TablesStand
     → found ≡ option_map numbers_of (row_at ts t r)
 numbers_read f ts stand are t r row found spelt = numbers_one (f (key kind.RowNumbers t (row_part r))) found (option_map numbers_of (row_at ts t r)) spelt (go (row_at ts t r) refl (stand.numbers t r row))
   where
-    go : (o : Option (List Value)) → row_at ts t r ≡ o → f (key kind.RowNumbers t (row_part r)) ≡ option_map (λ vs. numbers_bytes (numbers_of vs)) o → SpellsNumbers (f (key kind.RowNumbers t (row_part r))) (option_map numbers_of o)
-    go None is e = λ zs whole. let wrong : None ≡ Some (numbers_bytes zs) = sym e ∙ whole in cc
+    go : (o : Option (List Value)) → row_at ts t r ≡ o → f (key kind.RowNumbers t (row_part r)) ≡ option_map (λ vs. row_numbers_bytes (numbers_of vs)) o → SpellsNumbers (f (key kind.RowNumbers t (row_part r))) (option_map numbers_of o)
+    go None is e = λ zs whole. let wrong : None ≡ Some (row_numbers_bytes zs) = sym e ∙ whole in cc
     go (Some vs) is e = (let fit = row_fits ts are t r vs is in numbers_fit fit.0 vs fit.1, e)
 
 -- an entry is there exactly where the row is
 pub row_read : (f : Key → Option (List ℕ)) (ts : Tables) → TablesStand f ts → (t : List ℕ) (r : ℤ) → IsRow r → is_some (f (key kind.RowNumbers t (row_part r))) ≡ is_some (row_at ts t r)
 row_read f ts stand t r row = ap is_some (stand.numbers t r row) ∙ go (row_at ts t r)
   where
-    go : (o : Option (List Value)) → is_some (option_map (λ vs. numbers_bytes (numbers_of vs)) o) ≡ is_some o
+    go : (o : Option (List Value)) → is_some (option_map (λ vs. row_numbers_bytes (numbers_of vs)) o) ≡ is_some o
     go None = refl
     go (Some vs) = refl
 
@@ -147,16 +147,16 @@ none_in_empty {K} {X} R = none (entries (empty {X = X} {R = R})) (sym (len-entri
 
 -- the value of a row's entry of numbers
 row_value : List Value → Option (List ℕ)
-row_value vs = Some (numbers_bytes (numbers_of vs))
+row_value vs = Some (row_numbers_bytes (numbers_of vs))
 
-at_row : (o : Option (List Value)) → option_map (λ vs. numbers_bytes (numbers_of vs)) o ≡ option_and_then row_value o
+at_row : (o : Option (List Value)) → option_map (λ vs. row_numbers_bytes (numbers_of vs)) o ≡ option_and_then row_value o
 unfolding row_value
 at_row None = refl
 at_row (Some vs) = refl
 
 all_keys_listed : (es : List (ℤ × List Value)) → keys_where row_value es ≡ map (λ e. e.0) es
 unfolding row_value
-all_keys_listed es = keys_always (λ vs. numbers_bytes (numbers_of vs)) es
+all_keys_listed es = keys_always (λ vs. row_numbers_bytes (numbers_of vs)) es
 
 -- the rows that are listed are the table's
 pub rows_read : (c : Content) (ts : Tables) → HasKeysOnly c → TablesStand (at c) ts → AreTables ts → (t : List ℕ) → rows_under kind.RowNumbers t c ≡ row_keys ts t
@@ -165,11 +165,11 @@ rows_read c ts only stand are t = go (get ts t) refl
     go : (o : Option Table) → get ts t ≡ o → rows_under kind.RowNumbers t c ≡ keys_in o
     go None is =
         rows_listed row_value c kind.RowNumbers t empty only (λ q p. p) (λ r vs e. let wrong : None ≡ Some vs = sym (get-empty int_cmp r) ∙ e in cc)
-        (λ r row. stand.numbers t r row ∙ ap (λ (o : Option Table). option_map (λ vs. numbers_bytes (numbers_of vs)) (row_in o r)) is ∙ sym (ap (option_and_then row_value) (get-empty int_cmp r)))
+        (λ r row. stand.numbers t r row ∙ ap (λ (o : Option Table). option_map (λ vs. row_numbers_bytes (numbers_of vs)) (row_in o r)) is ∙ sym (ap (option_and_then row_value) (get-empty int_cmp r)))
         ∙ ap (keys_where row_value) (none_in_empty int_cmp)
     go (Some x) is =
         rows_listed row_value c kind.RowNumbers t x.rows only (λ q p. p) (are.each t x is).keys
-        (λ r row. stand.numbers t r row ∙ ap (λ (o : Option Table). option_map (λ vs. numbers_bytes (numbers_of vs)) (row_in o r)) is ∙ at_row (get x.rows r))
+        (λ r row. stand.numbers t r row ∙ ap (λ (o : Option Table). option_map (λ vs. row_numbers_bytes (numbers_of vs)) (row_in o r)) is ∙ at_row (get x.rows r))
         ∙ all_keys_listed (entries x.rows)
 
 -- the next row is the next of the table's
@@ -179,11 +179,11 @@ next_read c ts only stand are t after place = go (get ts t) refl
     go : (o : Option Table) → get ts t ≡ o → row_after after kind.RowNumbers t c ≡ first_of (rows_above after (keys_in o))
     go None is =
         next_row_listed row_value c kind.RowNumbers t empty only (λ q p. p) (λ r vs e. let wrong : None ≡ Some vs = sym (get-empty int_cmp r) ∙ e in cc)
-        (λ r row. stand.numbers t r row ∙ ap (λ (o : Option Table). option_map (λ vs. numbers_bytes (numbers_of vs)) (row_in o r)) is ∙ sym (ap (option_and_then row_value) (get-empty int_cmp r))) after place
+        (λ r row. stand.numbers t r row ∙ ap (λ (o : Option Table). option_map (λ vs. row_numbers_bytes (numbers_of vs)) (row_in o r)) is ∙ sym (ap (option_and_then row_value) (get-empty int_cmp r))) after place
         ∙ ap (λ (es : List (ℤ × List Value)). first_of (rows_above after (keys_where row_value es))) (none_in_empty int_cmp)
     go (Some x) is =
         next_row_listed row_value c kind.RowNumbers t x.rows only (λ q p. p) (are.each t x is).keys
-        (λ r row. stand.numbers t r row ∙ ap (λ (o : Option Table). option_map (λ vs. numbers_bytes (numbers_of vs)) (row_in o r)) is ∙ at_row (get x.rows r)) after place
+        (λ r row. stand.numbers t r row ∙ ap (λ (o : Option Table). option_map (λ vs. row_numbers_bytes (numbers_of vs)) (row_in o r)) is ∙ at_row (get x.rows r)) after place
         ∙ ap (λ (rs : List ℤ). first_of (rows_above after rs)) (all_keys_listed (entries x.rows))
 
 -- ---- the names of tables

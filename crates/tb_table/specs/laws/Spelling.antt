@@ -11,7 +11,7 @@ use Rattle.ct_bytes.specs.laws.RowKeys.{length-row_bytes, row_bytes_apart}
 use Rattle.tb_table.specs.declared.columns.Sort.{Sort}
 use Rattle.tb_table.specs.declared.columns.Sort.TheVariants.{Number, Varchar2, Clob}
 use Rattle.tb_table.specs.declared.columns.Column.{Column}
-use Rattle.tb_table.specs.Spelling.{sort_code, sort_size, column_bytes, numbers_bytes}
+use Rattle.tb_table.specs.Spelling.{sort_code, sort_size, column_bytes, row_numbers_bytes}
 use Rattle.tb_table.specs.Readings.{IsSpellable, EachSpellable, sort_bytes, SpellsColumns, SpellsNumbers, SpellsText}
 
 -- ---- the laws
@@ -45,7 +45,7 @@ column_apart c d x y f g e =
     let sorts = sort_apart c.sort d.sort x y f.size g.size names.1 in
     (λ i. record { name = names.0 i; sort = sorts.0 i }, sorts.1)
 
--- so many columns at the front
+-- so many columns at the beginning
 pub each_column_apart : (cs ds : List Column) (x y : List ℕ) → EachSpellable cs → EachSpellable ds → length cs ≡ length ds → flat_map column_bytes cs ++ x ≡ flat_map column_bytes ds ++ y → (cs ≡ ds) × (x ≡ y)
 each_column_apart [] [] x y f g l e = (refl, e)
 each_column_apart [] (d ∷ ds) x y f g l e = absurd (omega arith)
@@ -62,16 +62,16 @@ columns_apart cs ds f g e =
 
 -- ---- numbers
 
-pub length-numbers_bytes : (zs : List ℤ) → length (numbers_bytes zs) ≡ 8 * length zs
-length-numbers_bytes [] = refl
-length-numbers_bytes (z ∷ zs) = length-append (row_bytes z) (numbers_bytes zs) ∙ (let eight = length-row_bytes z in let rest = length-numbers_bytes zs in omega arith)
+pub length-row_numbers_bytes : (zs : List ℤ) → length (row_numbers_bytes zs) ≡ 8 * length zs
+length-row_numbers_bytes [] = refl
+length-row_numbers_bytes (z ∷ zs) = length-append (row_bytes z) (row_numbers_bytes zs) ∙ (let eight = length-row_bytes z in let rest = length-row_numbers_bytes zs in omega arith)
 
 pub numbers_apart : NumbersHaveTheirOwnBytes
 numbers_apart [] [] f g e = refl
-numbers_apart [] (z ∷ zs) f g e = absurd (let l = ap length e ∙ length-numbers_bytes (z ∷ zs) in omega (arith, l))
-numbers_apart (y ∷ ys) [] f g e = absurd (let l = sym (length-numbers_bytes (y ∷ ys)) ∙ ap length e in omega (arith, l))
+numbers_apart [] (z ∷ zs) f g e = absurd (let l = ap length e ∙ length-row_numbers_bytes (z ∷ zs) in omega (arith, l))
+numbers_apart (y ∷ ys) [] f g e = absurd (let l = sym (length-row_numbers_bytes (y ∷ ys)) ∙ ap length e in omega (arith, l))
 numbers_apart (y ∷ ys) (z ∷ zs) f g e =
-    let head = row_bytes_apart y z (numbers_bytes ys) (numbers_bytes zs) f.0 g.0 e in
+    let head = row_bytes_apart y z (row_numbers_bytes ys) (row_numbers_bytes zs) f.0 g.0 e in
     let rest : ys ≡ zs = numbers_apart ys zs f.1 g.1 head.1 in
     λ i. head.0 i ∷ rest i
 

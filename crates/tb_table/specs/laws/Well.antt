@@ -17,9 +17,9 @@ use Rattle.ct_entry.specs.laws.Parts.{is_short}
 use Rattle.ct_entry.specs.laws.Well.{IsWellAt, are_well}
 use Rattle.tb_table.specs.declared.columns.Column.{Column}
 use Rattle.tb_table.specs.Tables.{numbers_of, texts_from, texts_of}
-use Rattle.tb_table.specs.Spelling.{column_bytes, columns_bytes, numbers_bytes, table_changes, row_text_changes, insert_changes}
+use Rattle.tb_table.specs.Spelling.{column_bytes, columns_bytes, row_numbers_bytes, table_changes, row_text_changes, insert_changes}
 use Rattle.tb_table.specs.Rules.{FitColumns, AllColumns, AreColumns, others}
-use Rattle.tb_table.specs.laws.Spelling.{length-numbers_bytes}
+use Rattle.tb_table.specs.laws.Spelling.{length-row_numbers_bytes}
 use Rattle.tb_table.specs.Readings.{sort_bytes}
 use Rattle.tb_table.specs.laws.Changes.{is_of_tables}
 
@@ -132,11 +132,11 @@ pub puts_insert : (well : List ℕ → List ℕ → Bool) (t : List ℕ) (r : �
 puts_insert well t r cs vs takes are fit = (
   record {
     bounded =
-        let long = length-numbers_bytes (numbers_of vs) in
+        let long = length-row_numbers_bytes (numbers_of vs) in
         let few = length-numbers_of_le vs in
         let row = few_values cs vs are fit in
         omega (arith, long, few, row);
-    shaped = takes (key kind.RowNumbers t (row_part r)) (numbers_bytes (numbers_of vs)) refl;
+    shaped = takes (key kind.RowNumbers t (row_part r)) (row_numbers_bytes (numbers_of vs)) refl;
   },
   each (texts_of vs) (row_texts_short cs vs are fit),
 )

@@ -1,7 +1,7 @@
 use Rattle.std.proofs.Common.{◌∙◌}
 use Rattle.ct_keep.specs.Composing.{reads_hold}
 use Rattle.db_state.specs.laws.Chains.{checked, refused}
-use Rattle.db_change.proofs.NewTables.{table_read, table_made}
+use Rattle.db_change.proofs.TableSteps.{table_read, table_made}
 use Rattle.db_change.proofs.creating.table_plan.Goals as goal
 
 pub returns-in-Some-clause-plan : goal.returns-in-Some-clause-plan

@@ -31,7 +31,7 @@ returns-clause-plan g c =
     plans_as (λ m. insert_into m c.args.table.now c.args.names.now c.args.values.now) _ _ c.values_plan.result (λ m k holds stands.
     let found = some_table (get m.tables c.args.table.now) c.in-Some.columns.items (sym (ap (option_map (λ (v : Vec Column Global). v.items)) c.in-Some.is) ∙ c.in_ok-columns.ensures.columns m k holds stands) in (
       _,
-      into_values m c.args.table.now c.args.names.now c.args.values.now found.0 c.deref.result.now found.1 (found.2 ∙ sym c.deref.ensures.value) c.in_default-list_fault.ensures c.deref-4.result.now
-          (c.deref-4.ensures.value ∙ c.in_ok-values.ensures ∙ ap (λ (cs : List Column). arranged c.args.names.now cs c.args.values.now) (c.deref-2.ensures.value ∙ sym c.deref.ensures.value)),
+      into_values m c.args.table.now c.args.names.now c.args.values.now found.0 c.deref.result.now found.1 (found.2 ∙ sym c.deref.ensures.value) c.in_default-list_fault.ensures c.in_ok-values.values.items
+          (c.in_ok-values.ensures ∙ ap (λ (cs : List Column). arranged c.args.names.now cs c.args.values.now) (c.deref-2.ensures.value ∙ sym c.deref.ensures.value)),
       c.values_plan.ensures.plan m k found.0 (reads_hold _ _ k c.in_ok-columns.ensures.reads holds) stands found.1 (found.2 ∙ sym c.deref-3.ensures.value),
     ))

@@ -1,9 +1,12 @@
-use Rattle.std.proofs.Common.{◌∙◌}
+use Rattle.std.proofs.Common.{List, ap, ◌∙◌}
+use Rattle.std.specs.List.{filter_map}
+use Rattle.st_parse.specs.declared.statements.Operand.{Operand}
+use Rattle.db_change.specs.Inserting.{number_value}
 use Rattle.db_change.proofs.KeptValues.{changes_kept}
 use Rattle.db_change.proofs.inserting.row_batch.Goals as goal
 
 pub returns-clause-changes : goal.returns-clause-changes
 returns-clause-changes c = λ few.
-    changes_kept c.args.table.now c.args.row.0 c.args.values.now c.deref.result.now c.deref-2.result.now c.new-batch.result c.insert.new.batch c.new-batch.ensures c.in_ok-insert.ensures.ok
-    (c.deref.ensures.value ∙ c.in_ok-numbers.ensures.numbers)
-    (c.deref-2.ensures.value ∙ c.in_ok-texts.ensures.texts few)
+    changes_kept c.args.table.now c.args.row.0 c.args.values.items c.deref.result.now c.in_ok-texts.texts.items c.new-batch.result c.insert.new.batch c.new-batch.ensures c.in_ok-insert.ensures.ok
+    (c.deref.ensures.value ∙ c.in_ok-numbers.ensures.numbers ∙ ap (λ (vs : List Operand). filter_map number_value vs) c.as_slice.ensures.value)
+    (c.in_ok-texts.ensures.texts few)

@@ -1,11 +1,10 @@
-use Rattle.std.proofs.Common.{◌≡◌, ◌≤◌, map, take}
 use Rattle.std.specs.List.{All}
-use Rattle.tb_table.specs.Tables.{texts_of}
-use Rattle.db_change.specs.Inserting.{kept_value, IsTextKept}
+use Rattle.db_change.specs.Inserting.{IsTextKept}
+use Rattle.db_change.proofs.KeptValues.{TextsSoFar}
 use Rattle.db_change.proofs.inserting.texts_in.Given as goal
 
-abbrev pub invariant-loop-place : goal.invariant-loop-place
-invariant-loop-place l = record {
-  texts : l.place ≤ 255 → l.texts.items ≡ texts_of (map kept_value (take l.place l.values));
-  utf8 : All IsTextKept (take l.place l.values);
+abbrev pub invariant-loop-value : goal.invariant-loop-value
+invariant-loop-value l = record {
+  texts : TextsSoFar l.fn.values.items l.value-iterator.rest.items l.place l.texts.items;
+  utf8 : All IsTextKept l.value-iterator.rest.items → All IsTextKept l.fn.values.items;
 }

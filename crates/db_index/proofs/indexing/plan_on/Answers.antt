@@ -7,7 +7,8 @@ use Rattle.db_state.specs.Effects.{Does}
 use Rattle.db_index.specs.Indexing.{index_created, is_text_at, with_new_index}
 use Rattle.db_state.specs.laws.Chains.{checked, refused}
 use Rattle.db_index.proofs.IndexChecks.{index_as, index_free}
-use Rattle.db_index.proofs.NewMarks.{found_none, found_some, new_index_stands, new_index_bounded}
+use Rattle.db_index.specs.laws.NewMarks.{new_index_stands, new_index_bounded}
+use Rattle.db_index.proofs.Found.{found_none, found_some}
 use Rattle.db_index.proofs.indexing.plan_on.Goals as goal
 
 pub returns-in-Some-clause-plan : goal.returns-in-Some-clause-plan

@@ -7,7 +7,8 @@ use Rattle.db_index.specs.Syncing.{name_arg, sync_named, with_synced}
 use Rattle.db_state.specs.Effects.{Does}
 use Rattle.db_state.specs.States.{Stands}
 use Rattle.db_state.specs.laws.Chains.{checked, refused, fails, passes}
-use Rattle.db_index.proofs.NewMarks.{found_none, found_some, synced_stands, synced_bounded}
+use Rattle.db_index.specs.laws.NewMarks.{synced_stands, synced_bounded}
+use Rattle.db_index.proofs.Found.{found_none, found_some}
 use Rattle.db_index.proofs.SyncChecks.{sync_as, passed_by, index_there, found_is}
 use Rattle.db_index.proofs.syncing.sync_plan.Goals as goal
 

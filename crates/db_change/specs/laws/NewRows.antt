@@ -49,7 +49,7 @@ use Rattle.db_state.specs.laws.Bounded.{any_entry, bounded_well}
 use Rattle.db_state.specs.laws.EachValue.{entries-each_value, count_alike}
 use Rattle.ix_context.specs.Promises.{is_on, AreDistinct, AreIndexesOn}
 use Rattle.ix_context.specs.laws.Rules.{row_keeps, row_notes_stand}
-use Rattle.db_change.proofs.NewTables.{tables_built, apart}
+use Rattle.db_change.specs.laws.NewTables.{tables_built, apart}
 use Rattle.ct_base.specs.laws.Options.{no_value as gone}
 
 -- ---- the indexes on a table
@@ -95,8 +95,8 @@ names_are ts xs are t i there = go (get xs i) refl (sym (names_listed xs t i) �
 -- ---- changes
 
 -- what an INSERT puts into its batch
-abbrev pub row_changes : List ℕ → ℤ → List Value → List (List ℕ) → List (Key × Option (List ℕ))
-row_changes t r vs names = insert_changes t r (numbers_of vs) (texts_of vs) ++ note_all_changes names r
+abbrev pub new_row_changes : List ℕ → ℤ → List Value → List (List ℕ) → List (Key × Option (List ℕ))
+new_row_changes t r vs names = insert_changes t r (numbers_of vs) (texts_of vs) ++ note_all_changes names r
 
 abbrev is_pending : Kind → Bool
 is_pending kind.Pending = true
@@ -124,17 +124,17 @@ notes_put [] r = tt
 notes_put (i ∷ is) r = (record { bounded = omega arith; shaped = refl }, notes_put is r)
 
 module _ (m : State) (t : List ℕ) (x : Table) (r : ℤ) (vs : List Value) (is : get m.tables t ≡ Some x) (state : IsState m) (row : IsRow r) (fit : FitColumns (others x.columns) vs) where
-  pub row_changes_are : AreChanges (row_changes t r vs (names_on m.indexes t))
-  row_changes_are =
+  pub new_row_changes_are : AreChanges (new_row_changes t r vs (names_on m.indexes t))
+  new_row_changes_are =
       are-append (insert_changes t r (numbers_of vs) (texts_of vs)) (note_all_changes (names_on m.indexes t) r)
       (are_insert t r (numbers_of vs) (texts_of vs) (state.tables.names t x is) row (row_places x.columns vs (state.tables.each t x is).columns fit))
       (notes_are (names_on m.indexes t) r row (names_are m.tables m.indexes state.indexes t))
 
   -- a keeper takes them
-  pub row_changes_bounded : are_bounded (spell (row_changes t r vs (names_on m.indexes t))) ≡ true
-  row_changes_bounded =
-      bounded_well any_entry (spell (row_changes t r vs (names_on m.indexes t)))
-      (are_well any_entry (row_changes t r vs (names_on m.indexes t)) row_changes_are
+  pub new_row_changes_bounded : are_bounded (spell (new_row_changes t r vs (names_on m.indexes t))) ≡ true
+  new_row_changes_bounded =
+      bounded_well any_entry (spell (new_row_changes t r vs (names_on m.indexes t)))
+      (are_well any_entry (new_row_changes t r vs (names_on m.indexes t)) new_row_changes_are
       (all-append is_short (insert_changes t r (numbers_of vs) (texts_of vs)) (note_all_changes (names_on m.indexes t) r) (short_insert t r (numbers_of vs) (texts_of vs)) (notes_short (names_on m.indexes t) r))
       (puts-append (IsWellAt any_entry) (insert_changes t r (numbers_of vs) (texts_of vs)) (note_all_changes (names_on m.indexes t) r) (puts_insert any_entry t r x.columns vs (λ k v h. refl) (state.tables.each t x is).columns fit) (notes_put (names_on m.indexes t) r)))
 
@@ -186,14 +186,14 @@ free_marks ts xs t x r is none are i y here on = gone (get y.marks r) ((are.each
     no_row = rw is none
 
 pub new_row_stands : (c : Content) (m : State) (t : List ℕ) (x : Table) (r : ℤ) (vs : List Value) → Stands c m → get m.tables t ≡ Some x → get x.rows r ≡ None → IsRow r → FitColumns (others x.columns) vs → length (entries x.rows) < 100000
-    → Stands (after (spell (row_changes t r vs (names_on m.indexes t))) c) (with_new_row m t r vs)
+    → Stands (after (spell (new_row_changes t r vs (names_on m.indexes t))) c) (with_new_row m t r vs)
 new_row_stands c m t x r vs stands is none row fit room =
     let a = insert_changes t r (numbers_of vs) (texts_of vs) in
     let b = note_all_changes (names_on m.indexes t) r in
     let us = with_row m.tables t r vs in
     let seen = at_view (a ++ b) c ∙ view-append a b (at c) in
     record {
-      only = only-after (a ++ b) c stands.only (row_changes_are m t x r vs is stands.state row fit);
+      only = only-after (a ++ b) c stands.only (new_row_changes_are m t x r vs is stands.state row fit);
       tables = subst (λ (f : Key → Option (List ℕ)). TablesStand f us) (sym seen)
           (tables_frame is_pending b (view a (at c)) us (notes_pending (names_on m.indexes t) r) tables_pending (stand_insert (at c) m.tables t r vs x is none row stands.tables));
       indexes = subst (λ (f : Key → Option (List ℕ)). IndexesStand f us (noted_on m.indexes t r)) (sym seen)

@@ -1,7 +1,7 @@
 -- The state after a new table.
 use Rattle.std.proofs.Common.{◌≡◌, ℕ, ◌<◌, ◌≤◌, Bool, true, false, cond, List, [], ◌∷◌, length, map, Option, Some, None, refl, sym, ap, subst, ◌∙◌, arith}
 use Rattle.std.proofs.lemmas.List.{length-map}
-use Rattle.std.specs.Prelude.{◌&&◌, ◌||◌, not, nat_lt, nat_le, is_some, All}
+use Rattle.std.specs.Prelude.{◌&&◌, ◌||◌, not, nat_lt, nat_le, is_some}
 use Rattle.std.specs.List.{list_any, list_all}
 use Rattle.std.specs.FinMap.{get, empty, entries}
 use Rattle.std.proofs.lemmas.Bool.{leb-true, leb-false, ltb-false}
@@ -9,7 +9,7 @@ use Rattle.ct_base.specs.Names.{IsName}
 use Rattle.ct_keep.specs.Content.{Content, after}
 use Rattle.ct_entry.specs.declared.kinds.Kind.{Kind}
 use Rattle.ct_entry.specs.declared.kinds.Kind.TheVariants as kind
-use Rattle.ct_entry.specs.Keys.{Key, at, same_list, bytes}
+use Rattle.ct_entry.specs.Keys.{Key, at, same_list}
 use Rattle.ct_entry.specs.laws.Keys.{list_from_same}
 use Rattle.ct_entry.specs.Maps.{Names}
 use Rattle.ct_entry.specs.Changes.{spell}
@@ -21,7 +21,7 @@ use Rattle.tb_table.specs.Rules.{AreColumns, HasAllowedSize, IsKeyFirst, AllColu
 use Rattle.ct_base.specs.Limits.{column_limit, table_limit, text_limit}
 use Rattle.tb_table.specs.laws.Changes.{is_of_tables, all_create, stand_create, get-with_table, row_at-with_table}
 use Rattle.tb_table.specs.laws.Rules.{create_keeps}
-use Rattle.tb_table.specs.laws.Well.{are_create, TakesTables, well_create}
+use Rattle.tb_table.specs.laws.Well.{are_create}
 use Rattle.ix_context.specs.Indexes.{Index}
 use Rattle.ix_context.specs.Rules.{AreIndexes, IsTarget}
 use Rattle.ix_context.specs.Spelling.{IndexesStand}
@@ -33,13 +33,9 @@ use Rattle.st_parse.specs.declared.statements.SortText.{SortText}
 use Rattle.st_parse.specs.declared.statements.SortText.TheVariants.{Number as NumberText, Varchar2 as Varchar2Text, Clob as ClobText}
 use Rattle.std.specs.Option.{unwrap_or}
 use Rattle.tb_table.specs.declared.columns.Sort.TheVariants.{Number}
-use Rattle.db_state.specs.Effects.{Does, as_count}
-use Rattle.db_change.specs.Creating.{is_number, is_key_first, are_apart, is_size, is_sized, all_sized, sort_of, column_of, IsFreeTable, with_new_table, check_table, create_table, table_created}
+use Rattle.db_state.specs.Effects.{as_count}
+use Rattle.db_change.specs.Creating.{is_number, is_key_first, names_differ, is_size, is_sized, all_sized, sort_of, column_of, IsFreeTable, with_new_table}
 use Rattle.db_state.specs.States.{State, Stands, is_view, is_built}
-use Rattle.db_state.specs.Committing.{are_bounded}
-use Rattle.db_state.specs.laws.Chains.{passed}
-use Rattle.db_state.specs.laws.Bounded.{bounded_well}
-use Rattle.std.proofs.lemmas.List.Elements.{All-head, All-tail}
 use Rattle.std.proofs.lemmas.Bool.{or_parts as either, and_parts as both, not-true as not_true}
 use Rattle.ct_base.specs.laws.Options.{no_value as no_some}
 
@@ -137,10 +133,10 @@ all_columns : (cs : List ColumnText) → AllNamed cs → all_sized cs ≡ true �
 all_columns [] named h = tt
 all_columns (c ∷ cs) named h = let b = both (is_sized c.sort) (all_sized cs) h in (named.0, is_sort c.sort b.0, all_columns cs named.1 b.1)
 
-apart_columns : (cs : List ColumnText) → are_apart cs ≡ true → AreApart (map column_of cs)
+apart_columns : (cs : List ColumnText) → names_differ cs ≡ true → AreApart (map column_of cs)
 apart_columns [] h = tt
 apart_columns (c ∷ cs) h =
-    let b = both (not (list_any (λ (d : ColumnText). same_list c.name d.name) cs)) (are_apart cs) h in
+    let b = both (not (list_any (λ (d : ColumnText). same_list c.name d.name) cs)) (names_differ cs) h in
     (names_apart c.name cs ∙ not_true (list_any (λ (d : ColumnText). same_list c.name d.name) cs) b.0, apart_columns cs b.1)
 
 key_first : (cs : List ColumnText) → is_key_first cs ≡ true → IsKeyFirst (map column_of cs)
@@ -154,7 +150,7 @@ key_first (c ∷ cs) h = number c.sort (both (is_number c.sort) c.primary (both 
 
 pub columns_pass : (m : State) (t : List ℕ) (cs : List ColumnText) → AllNamed cs → IsFreeTable m t cs → AreColumns (map column_of cs)
 columns_pass m t cs named free =
-    let formed = both (is_key_first cs) (are_apart cs) free.formed in
+    let formed = both (is_key_first cs) (names_differ cs) free.formed in
     let few = either (nat_lt column_limit (length cs)) (nat_le table_limit (length (entries m.tables))) free.few in
     record {
       each = all_columns cs named free.sized;
@@ -163,51 +159,9 @@ columns_pass m t cs named free =
       few = let small = ltb-false 16 (length cs) few.0 in let same = length-map cs column_of in omega (arith, small, same);
     }
 
-pub all_named : (cs : List ColumnText) → All (λ (k : Column). IsName k.name) (map column_of cs) → AllNamed cs
-all_named [] all = tt
-all_named (c ∷ cs) all = (All-head (λ (k : Column). IsName k.name) (column_of c) (map column_of cs) all, all_named cs (All-tail (λ (k : Column). IsName k.name) (column_of c) (map column_of cs) all))
-
 -- the state after CREATE TABLE
 pub created_table_stands : (c : Content) (m : State) (t : List ℕ) (cs : List ColumnText) → Stands c m → IsName t → AllNamed cs → IsFreeTable m t cs → Stands (after (spell (table_changes t (map column_of cs))) c) (with_new_table m t cs)
 created_table_stands c m t cs stands name named free =
     let there = either (is_some (get m.tables t)) (is_view t) free.free in
     let few = either (nat_lt column_limit (length cs)) (nat_le table_limit (length (entries m.tables))) free.few in
     new_table_stands c m t (map column_of cs) stands (no_some (get m.tables t) there.0) there.1 name (columns_pass m t cs named free) (leb-false 64 (length (entries m.tables)) few.1)
-
--- no check holds of what is done
-pub table_free : (m : State) (t : List ℕ) (cs : List ColumnText) (n : State) (reply : List ℕ) → create_table m t cs ≡ Does n reply → IsFreeTable m t cs
-table_free m t cs n reply is =
-    let p = passed _ _ _ n reply is in
-    let q = passed _ _ _ n reply p.1 in
-    let r = passed _ _ _ n reply q.1 in
-    let s = passed _ _ _ n reply r.1 in
-    record { free = p.0; formed = not_false (is_key_first cs && are_apart cs) q.0; sized = not_false (all_sized cs) r.0; few = s.0 }
-  where
-    not_false : (b : Bool) → not b ≡ false → b ≡ true
-    not_false true h = refl
-    not_false false h = cc
-
--- ---- the commit takes the changes
-
-takes_all : (well : List ℕ → List ℕ → Bool) → ((key value : List ℕ) → well key value ≡ true) → TakesTables well
-takes_all well takes = λ k value of. takes (bytes k) value
-
-pub table_bounded : (m : State) (t : List ℕ) (cs : List ColumnText) → IsName t → AllNamed cs → IsFreeTable m t cs → are_bounded (spell (table_changes t (map column_of cs))) ≡ true
-table_bounded m t cs name named free = bounded_well (λ key value. true) (spell (table_changes t (map column_of cs))) (well_create (λ key value. true) t (map column_of cs) (takes_all (λ key value. true) (λ key value. refl)) name (columns_pass m t cs named free))
-
--- the statement by what was read of the state
-pub table_read : (m : State) (t : List ℕ) (cs : List ColumnText) (there many : Bool) → there ≡ is_some (get m.tables t) → many ≡ nat_le table_limit (length (entries m.tables)) → create_table m t cs ≡ check_table there many t cs (Does (with_new_table m t cs) table_created)
-table_read m t cs there many is most = ap (λ (b : Bool). check_table b (nat_le table_limit (length (entries m.tables))) t cs (Does (with_new_table m t cs) table_created)) (sym is) ∙ ap (λ (b : Bool). check_table there b t cs (Does (with_new_table m t cs) table_created)) (sym most)
-
--- the batch of a table that no check refuses
-pub table_made : (m : State) (k : Content) (t : List ℕ) (cs : List ColumnText) (batch : List (List ℕ × Option (List ℕ))) → Stands k m → IsName t
-    → (all_sized cs ≡ true → batch ≡ spell (table_changes t (map column_of cs))) → (all_sized cs ≡ true → All (λ (x : Column). IsName x.name) (map column_of cs)) → create_table m t cs ≡ Does (with_new_table m t cs) table_created
-    → (n : State) × (create_table m t cs ≡ Does n table_created) × (are_bounded batch ≡ true) × Stands (after batch k) n
-table_made m k t cs batch stands name changes named is =
-    let free = table_free m t cs _ _ is in
-    let named = all_named cs (named free.sized) in (
-      with_new_table m t cs,
-      is,
-      ap are_bounded (changes free.sized) ∙ table_bounded m t cs name named free,
-      subst (λ (b : List (List ℕ × Option (List ℕ))). Stands (after b k) (with_new_table m t cs)) (sym (changes free.sized)) (created_table_stands k m t cs stands name named free),
-    )

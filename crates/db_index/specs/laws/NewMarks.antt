@@ -1,6 +1,6 @@
 -- The state after a synchronisation, and after a new index.
 use Rattle.std.proofs.Common.{◌≡◌, ℕ, ℤ, pos, negsuc, ◌+◌, ◌-◌, ◌^◌, ◌≤◌, ◌<◌, Bool, false, true, cond, List, [], ◌∷◌, length, Option, Some, None, refl, sym, ap, subst, ◌∙◌, arith}
-use Rattle.std.specs.Prelude.{MatchOption, is_some, ◌&&◌, ◌==◌, not, zero, suc, nat_le, int_lt}
+use Rattle.std.specs.Prelude.{is_some, ◌&&◌, ◌==◌, not, zero, suc, nat_le, int_lt}
 use Rattle.std.specs.List.{list_any}
 use Rattle.std.specs.declared.cmp.Ordering.TheVariants.{Less, Equal, Greater}
 use Rattle.std.specs.Ordering.{nat_cmp, int_cmp, is_lt, eq_by_cmp}
@@ -34,22 +34,12 @@ use Rattle.ix_context.specs.laws.Rules.{sync_keeps, create_keeps}
 use Rattle.ix_context.specs.laws.Well.{are_changes, all_of_indexes, well_changes, index_changes_sync, index_changes_create}
 use Rattle.db_index.specs.Syncing.{has_too_many, with_synced}
 use Rattle.db_state.specs.Committing.{are_bounded}
-use Rattle.db_index.specs.Indexing.{is_text_sort, is_text_at, has_index_on, has_too_many_rows, all_rows, target, with_new_index, IsFreeIndex}
+use Rattle.db_index.specs.Indexing.{is_text_sort, is_text_at, has_context_index, has_too_many_rows, all_rows, target, with_new_index, IsFreeIndex}
 use Rattle.db_state.specs.States.{State, Stands, indexes_on, index_limit, is_built}
-use Rattle.db_index.proofs.Counting.{one, counted, count_insert, one_true, one_false}
+use Rattle.db_index.specs.laws.Counting.{one, counted, count_insert, one_true, one_false}
 use Rattle.db_state.specs.laws.Bounded.{any_entry, bounded_well}
 use Rattle.std.proofs.lemmas.Bool.{or_parts as either}
 use Rattle.ct_base.specs.laws.Options.{no_value as no_some}
-
--- ---- what was found, by whether it is there
-
-pub found_none : {X : Type 0} (o : Option X) (P : Type 0) (Q : X → Type 0) → o ≡ None → MatchOption o P Q → P
-found_none None P Q is p = p
-found_none (Some x) P Q is p = cc
-
-pub found_some : {X : Type 0} (o : Option X) (x : X) (P : Type 0) (Q : X → Type 0) → o ≡ Some x → MatchOption o P Q → Q x
-found_some None x P Q is p = cc
-found_some (Some y) x P Q is p = subst Q (let e : y ≡ x = cc in e) p
 
 -- ---- kinds
 
@@ -148,7 +138,7 @@ no_entry t place (e ∷ es) h j y is =
     go true is none rest = let e1 : e.1 ≡ y = cc in subst (λ (z : Index). (same_list z.table t && (z.column == place)) ≡ false) e1 none
     go false is none rest = rest is
 
-column_free : (xs : Names Index) (t : List ℕ) (place : ℕ) → has_index_on xs t place ≡ false → IsFreeColumn xs t place
+column_free : (xs : Names Index) (t : List ℕ) (place : ℕ) → has_context_index xs t place ≡ false → IsFreeColumn xs t place
 column_free xs t place h j y is table column =
     let none = no_entry t place (entries xs) h j y (sym (get-entries xs j) ∙ is) in
     let yes : (same_list y.table t && (y.column == place)) ≡ true = and_from (same_list y.table t) (y.column == place) (ap (λ (u : List ℕ). same_list u t) table ∙ list_same t) (eq-eqb y.column place column) in
@@ -201,7 +191,7 @@ new_index_stands c m i t x place stands name free =
     let ws = create_changes m.tables i (target t place) all_rows in
     let few = either (nat_le index_limit (length (indexes_on m.indexes t))) (has_too_many_rows m t) free.few in
     let room = ltb-false most_given (length (rows_in m.tables t all_rows)) few.1 in
-    let taken = either (is_some (get m.indexes i)) (has_index_on m.indexes t place) free.free in
+    let taken = either (is_some (get m.indexes i)) (has_context_index m.indexes t place) free.free in
     let none : get m.indexes i ≡ None = no_some (get m.indexes i) taken.0 in
     let are = index_changes_create m.tables i (target t place) all_rows stands.state.tables name (stands.state.tables.names t x free.there) room in
     record {

@@ -1,6 +1,6 @@
 use Rattle.std.proofs.Common.{◌∙◌}
 use Rattle.db_index.proofs.IndexChecks.{found_on}
-use Rattle.db_index.proofs.indexing.has_index_on.Goals as goal
+use Rattle.db_index.proofs.indexing.has_context_index.Goals as goal
 
 pub returns-clause-there : goal.returns-clause-there
 returns-clause-there g c = λ m k holds stands small.

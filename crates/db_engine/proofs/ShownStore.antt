@@ -1,0 +1,383 @@
+-- The store that docs/STORE.md shows stands for its state, by the laws of the five statements that lead there.
+use Rattle.std.proofs.Common.{◌≡◌, ℕ, ℤ, pos, negsuc, ◌<◌, ◌+◌, Bool, true, false, List, [], ◌∷◌, ◌++◌, length, map, Option, Some, None, refl, sym, ap, subst, ◌∙◌, arith}
+use Rattle.std.specs.Prelude.{◌||◌, ◌==◌, ◌&&◌, nat_le, nat_lt, is_some, filter, codes, sum_by, T}
+use Rattle.std.specs.List.{list_any, filter_map}
+use Rattle.std.specs.Int.{to_be_bytes, w32}
+use Rattle.std.specs.Option.{option_and_then}
+use Rattle.std.specs.declared.cmp.Ordering.{Ordering}
+use Rattle.std.specs.Ordering.{nat_cmp, int_cmp}
+use Rattle.std.specs.Cmp.{IsTotalOrder}
+use Rattle.std.specs.Cmp.Lexicographic.{slice_cmp}
+use Rattle.std.specs.FinMap.{FinMap, get, insert, empty, entries, find, put as put_pair, is_sorted, from_sorted, from_entries, get-empty, get-from_sorted, entries-from_sorted, entries-insert, same_entries_map}
+use Rattle.std.proofs.lemmas.Cmp.{nat_list_cmp_total, int_cmp_total}
+use lib.Utf8.{encode}
+use Rattle.ct_base.specs.Limits.{column_limit, row_limit, table_limit}
+use Rattle.ct_base.specs.Names.{IsName}
+use Rattle.ct_base.specs.declared.lists.Value.{Value}
+use Rattle.ct_base.specs.declared.lists.Value.TheVariants.{Number, Text}
+use Rattle.ct_bytes.specs.RowKeys.{row_bytes}
+use Rattle.ct_bytes.specs.Varints.{varint}
+use Rattle.ct_keep.specs.Content.{Content, after, entry_weight, weight}
+use Rattle.ct_keep.specs.Laws.{applied, entries-after}
+use Rattle.ct_entry.specs.declared.kinds.Kind.TheVariants as kind
+use Rattle.ct_entry.specs.Keys.{key, same_list, row_part, document_part, IsRow}
+use Rattle.ct_entry.specs.Maps.{Names, Rows, altered}
+use Rattle.ct_entry.specs.Changes.{KeyChange, spell, put, drop_key}
+use Rattle.ct_entry.specs.Listings.{key_order}
+use Rattle.ct_entry.specs.laws.Owners.{key_order_total}
+use Rattle.tb_table.specs.Tables.{Table, Tables, docs_columns, keys_in, row_in, text_of, with_table, with_row}
+use Rattle.tb_table.specs.Spelling.{table_changes}
+use Rattle.tb_table.specs.Rules.{FitColumns, others}
+use Rattle.ix_context.specs.Indexes.{Index, Mark, Pending, Marked, if_pending, pending_rows, text_seen, in_range, rows_in, all_marked, created, with_index, waiting_on, noted_on, synced_index, synced}
+use Rattle.ix_context.specs.Changes.{posting_change, document_changes, mark_changes, numbered, sync_rows_changes, sync_changes, create_changes}
+use Rattle.ix_context.specs.Postings.{fox_and_quick}
+use Rattle.ix_context.specs.Rules.{most_given}
+use Rattle.ix_context.specs.Spelling.{index_bytes, index_entry}
+use Rattle.ct_entry.specs.Each.{each}
+use Rattle.st_parse.specs.declared.statements.Arg.TheVariants.{Text as TextArg}
+use Rattle.st_parse.specs.declared.statements.Operand.{Operand}
+use Rattle.st_parse.specs.declared.statements.Statement.TheVariants.{Insert}
+use Rattle.db_names.specs.declared.heads.IndexHead.{IndexHead}
+use Rattle.db_names.specs.Promises.{is_of}
+use Rattle.db_cond.specs.Faults.{UnknownName, OutOfRange, LimitReached}
+use Rattle.db_state.specs.Columns.{place_of}
+use Rattle.db_state.specs.Effects.{Effect, Does, refuse, with_found, state_by}
+use Rattle.db_state.specs.Lines.{call_done}
+use Rattle.db_state.specs.States.{State, Stands, empty_state, is_view, index_limit, indexes_on}
+use Rattle.db_state.specs.Room.{room, its_room}
+use Rattle.db_state.specs.laws.EachValue.{entries-each_value, entries-from_rising}
+use Rattle.db_state.specs.laws.Empty.{empty_stands}
+use Rattle.db_state.specs.laws.Heads.{heads, head_of_index}
+use Rattle.db_change.specs.Creating.{IsFreeTable, check_table, table_created, with_new_table}
+use Rattle.db_change.specs.Inserting.{arranged, check_list, check_values, has_row, insert_row, insert_values, key_in, others_kept, row_created}
+use Rattle.db_change.specs.laws.NewTables.{AllNamed, created_table_stands}
+use Rattle.db_change.specs.laws.NewRows.{names_on, new_row_changes, new_row_stands}
+use Rattle.db_index.specs.Indexing.{IsFreeIndex, all_rows, check_index, create_index_on, index_created, target, has_too_many_rows, with_new_index}
+use Rattle.db_index.specs.Syncing.{check_sync, has_too_many, sync_found, sync_named, unknown_name, with_synced}
+use Rattle.db_index.specs.laws.NewMarks.{new_index_stands, synced_stands}
+use Rattle.db_engine.specs.Steps.{effect}
+use Rattle.db_engine.specs.ShownStore.{shown_columns, table_statement, index_statement, first_values, sync_statement, second_values, shown_statements, after_all, shown_entries, shown_store, shown_state}
+
+abbrev docs : List ℕ
+docs = codes "docs"
+
+abbrev di : List ℕ
+di = codes "di"
+
+-- ---- maps whose entries are written out
+
+module _ {K X : Type 0} (R : K → K → Ordering) (o : IsTotalOrder R) where
+  map_is : (m : FinMap R X) (es : List (K × X)) → T (is_sorted R es) → entries m ≡ es → m ≡ from_sorted es
+  map_is m es sorted is = same_entries_map m (from_sorted es) (is ∙ sym (entries-from_sorted R es sorted))
+
+  insert_is : (m : FinMap R X) (k : K) (x : X) (es : List (K × X)) → entries m ≡ es → T (is_sorted R (put_pair R k x es)) → insert m k x ≡ from_sorted (put_pair R k x es)
+  insert_is m k x es is sorted = map_is (insert m k x) (put_pair R k x es) sorted (entries-insert o m k x ∙ ap (put_pair R k x) is)
+
+  nothing : entries (empty {X = X} {R = R}) ≡ []
+  nothing = entries-from_rising R o [] refl
+
+-- ---- the states on the way: the table has these rows, and the index these marks, of which so many were given
+
+abbrev table_of : Rows (List Value) → Table
+table_of rows = record { columns = docs_columns; rows = rows }
+
+abbrev table_with : List (ℤ × List Value) → Table
+table_with rows = table_of (from_sorted rows)
+
+abbrev tables_of : Rows (List Value) → Tables
+tables_of rows = from_sorted ((docs, table_of rows) ∷ [])
+
+abbrev tables_with : List (ℤ × List Value) → Tables
+tables_with rows = tables_of (from_sorted rows)
+
+abbrev index_of : ℕ → Rows Mark → Index
+index_of given marks = record { table = docs; column = 1; given = given; marks = marks }
+
+abbrev index_with : ℕ → List (ℤ × Mark) → Index
+index_with given marks = index_of given (from_sorted marks)
+
+abbrev indexes_of : Index → Names Index
+indexes_of x = from_sorted ((di, x) ∷ [])
+
+abbrev indexes_with : ℕ → List (ℤ × Mark) → Names Index
+indexes_with given marks = indexes_of (index_with given marks)
+
+abbrev state_with : List (ℤ × List Value) → ℕ → List (ℤ × Mark) → State
+state_with rows given marks = record { tables = tables_with rows; indexes = indexes_with given marks }
+
+abbrev without_index : State
+without_index = record { tables = tables_with []; indexes = empty }
+
+table_there : (rows : List (ℤ × List Value)) → get (tables_with rows) docs ≡ Some (table_with rows)
+table_there rows = get-from_sorted (slice_cmp nat_cmp) ((docs, table_with rows) ∷ []) docs tt
+
+index_there : (given : ℕ) (marks : List (ℤ × Mark)) → get (indexes_with given marks) di ≡ Some (index_with given marks)
+index_there given marks = get-from_sorted (slice_cmp nat_cmp) ((di, index_with given marks) ∷ []) di tt
+
+no_rows : (X : Type 0) → empty ≡ from_sorted {K = ℤ} {X = X} {R = int_cmp} []
+no_rows X = map_is int_cmp int_cmp_total empty [] tt (nothing int_cmp int_cmp_total)
+
+docs_name : IsName docs
+docs_name = record { spelt = refl; lower = refl }
+
+di_name : IsName di
+di_name = record { spelt = refl; lower = refl }
+
+-- ---- CREATE TABLE docs (id NUMBER PRIMARY KEY, body CLOB, price NUMBER)
+
+columns_named : AllNamed shown_columns
+columns_named = (record { spelt = refl; lower = refl }, (record { spelt = refl; lower = refl }, (record { spelt = refl; lower = refl }, tt)))
+
+table_free : IsFreeTable empty_state docs shown_columns
+table_free = record {
+  free = ap (λ (o : Option Table). is_some o || is_view docs) (get-empty (slice_cmp nat_cmp) docs);
+  formed = refl;
+  sized = refl;
+  few = ap (λ (es : List (List ℕ × Table)). nat_lt column_limit 3 || nat_le table_limit (length es)) (nothing (slice_cmp nat_cmp) nat_list_cmp_total);
+}
+
+tables_created : with_table empty docs docs_columns ≡ tables_with []
+tables_created = insert_is (slice_cmp nat_cmp) nat_list_cmp_total empty docs (table_of empty) [] (nothing (slice_cmp nat_cmp) nat_list_cmp_total) tt ∙ ap tables_of (no_rows (List Value))
+
+abbrev first_changes : List KeyChange
+first_changes = table_changes docs docs_columns
+
+abbrev first : Content
+first = after (spell first_changes) empty
+
+first_stands : Stands first without_index
+first_stands = subst (λ (ts : Tables). Stands first (record { tables = ts; indexes = empty })) tables_created (created_table_stands empty empty_state docs shown_columns empty_stands docs_name columns_named table_free)
+
+-- ---- CREATE INDEX di ON docs(body)
+
+no_row_yet : rows_in (tables_with []) docs all_rows ≡ []
+no_row_yet =
+    ap (λ (o : Option Table). filter (in_range all_rows) (keys_in o)) (table_there [])
+    ∙ ap (λ (es : List (ℤ × List Value)). filter (in_range all_rows) (map (λ e. e.0) es)) (entries-from_sorted int_cmp [] tt)
+
+index_free : IsFreeIndex without_index di docs (table_with []) 1
+index_free = record {
+  there = table_there [];
+  free =
+      ap (λ (o : Option Index). is_some o || list_any (λ (e : List ℕ × Index). same_list e.1.table docs && (e.1.column == 1)) (entries (empty {X = Index} {R = slice_cmp nat_cmp}))) (get-empty (slice_cmp nat_cmp) di)
+      ∙ ap (λ (es : List (List ℕ × Index)). list_any (λ (e : List ℕ × Index). same_list e.1.table docs && (e.1.column == 1)) es) (nothing (slice_cmp nat_cmp) nat_list_cmp_total);
+  texts = refl;
+  few =
+      ap (λ (es : List (List ℕ × Index)). nat_le index_limit (length (filter (λ (e : List ℕ × Index). same_list e.1.table docs) es)) || has_too_many_rows without_index docs) (nothing (slice_cmp nat_cmp) nat_list_cmp_total)
+      ∙ ap (λ (rs : List ℤ). nat_lt most_given (length rs)) no_row_yet;
+}
+
+abbrev marking : List ℤ → Index
+marking rows = index_of (length rows) (all_marked rows)
+
+indexes_created : with_index (tables_with []) empty di (target docs 1) all_rows ≡ indexes_with 0 []
+indexes_created =
+    insert_is (slice_cmp nat_cmp) nat_list_cmp_total empty di (created (tables_with []) (target docs 1) all_rows) [] (nothing (slice_cmp nat_cmp) nat_list_cmp_total) tt
+    ∙ ap (λ (rows : List ℤ). indexes_of (marking rows)) no_row_yet
+    ∙ ap (λ (marks : Rows Mark). indexes_of (index_of 0 marks)) (no_rows Mark)
+
+abbrev second_changes : List KeyChange
+second_changes = put (key kind.Indexes di []) (index_bytes docs 1 1) ∷ []
+
+second_are : create_changes (tables_with []) di (target docs 1) all_rows ≡ second_changes
+second_are =
+    ap (λ (rows : List ℤ). put (key kind.Indexes di []) (index_entry (marking rows)) ∷ each (λ (p : ℕ × ℤ). mark_changes (tables_with []) di (created (tables_with []) (target docs 1) all_rows) p.0 p.1) (numbered 1 rows)) no_row_yet
+
+abbrev second : Content
+second = after (spell second_changes) first
+
+second_stands : Stands second (state_with [] 0 [])
+second_stands =
+    subst (λ (ws : List KeyChange). Stands (after (spell ws) first) (state_with [] 0 [])) second_are
+    (subst (λ (xs : Names Index). Stands (after (spell (create_changes (tables_with []) di (target docs 1) all_rows)) first) (record { tables = tables_with []; indexes = xs })) indexes_created
+    (new_index_stands first without_index di docs (table_with []) 1 first_stands di_name index_free))
+
+-- ---- INSERT INTO docs
+
+-- the index is the one on the table
+its_names : (given : ℕ) (marks : List (ℤ × Mark)) → names_on (indexes_with given marks) docs ≡ di ∷ []
+its_names given marks =
+    let head : List ℕ × IndexHead = (di, head_of_index (index_with given marks)) in
+    let listed : entries (heads (indexes_with given marks)) ≡ head ∷ [] =
+    entries-each_value (slice_cmp nat_cmp) head_of_index nat_list_cmp_total (indexes_with given marks)
+    ∙ ap (map {B = List ℕ × IndexHead} (λ (e : List ℕ × Index). (e.0, head_of_index e.1))) (entries-from_sorted (slice_cmp nat_cmp) ((di, index_with given marks) ∷ []) tt) in
+    ap (λ (es : List (List ℕ × IndexHead)). map (λ (e : List ℕ × IndexHead). e.0) (filter (λ (e : List ℕ × IndexHead). is_of docs e.1) es))
+    (ap (λ (es : List (List ℕ × IndexHead)). entries (from_entries {R = key_order} es)) listed ∙ entries-from_rising key_order key_order_total (head ∷ []) refl)
+
+module _ (rows : List (ℤ × List Value)) (given : ℕ) (marks : List (ℤ × Mark)) (r : ℤ) (vs : List Value) (rows_rise : T (is_sorted int_cmp rows)) (marks_rise : T (is_sorted int_cmp marks))
+    (then_rows : T (is_sorted int_cmp (put_pair int_cmp r vs rows))) (then_marks : T (is_sorted int_cmp (put_pair int_cmp r Pending marks))) where
+  tables_with_row : with_row (tables_with rows) docs r vs ≡ tables_with (put_pair int_cmp r vs rows)
+  tables_with_row =
+      ap (altered (tables_with rows) docs (λ (x : Table). record x { rows = insert x.rows r vs })) (table_there rows)
+      ∙ insert_is (slice_cmp nat_cmp) nat_list_cmp_total (tables_with rows) docs (table_of (insert (from_sorted rows) r vs)) ((docs, table_with rows) ∷ []) (entries-from_sorted (slice_cmp nat_cmp) ((docs, table_with rows) ∷ []) tt) tt
+      ∙ ap tables_of (insert_is int_cmp int_cmp_total (from_sorted rows) r vs rows (entries-from_sorted int_cmp rows rows_rise) then_rows)
+
+  indexes_with_note : noted_on (indexes_with given marks) docs r ≡ indexes_with given (put_pair int_cmp r Pending marks)
+  indexes_with_note =
+      map_is (slice_cmp nat_cmp) nat_list_cmp_total (noted_on (indexes_with given marks) docs r) ((di, index_of given (insert (from_sorted marks) r Pending)) ∷ []) tt
+      (entries-each_value (slice_cmp nat_cmp) (waiting_on docs r) nat_list_cmp_total (indexes_with given marks)
+      ∙ ap (map {B = List ℕ × Index} (λ (e : List ℕ × Index). (e.0, waiting_on docs r e.1))) (entries-from_sorted (slice_cmp nat_cmp) ((di, index_with given marks) ∷ []) tt))
+      ∙ ap (λ (ms : Rows Mark). indexes_of (index_of given ms)) (insert_is int_cmp int_cmp_total (from_sorted marks) r Pending marks (entries-from_sorted int_cmp marks marks_rise) then_marks)
+
+  row_stands : (c : Content) → Stands c (state_with rows given marks) → find int_cmp r rows ≡ None → IsRow r → FitColumns (others docs_columns) vs → length rows < 100000
+      → Stands (after (spell (new_row_changes docs r vs (di ∷ []))) c) (state_with (put_pair int_cmp r vs rows) given (put_pair int_cmp r Pending marks))
+  row_stands c stands free row fit few =
+      let m = state_with rows given marks in
+      let count : length (entries (table_with rows).rows) ≡ length rows = ap length (entries-from_sorted int_cmp rows rows_rise) in
+      subst (λ (names : List (List ℕ)). Stands (after (spell (new_row_changes docs r vs names)) c) (state_with (put_pair int_cmp r vs rows) given (put_pair int_cmp r Pending marks))) (its_names given marks)
+      (subst (λ (ts : Tables). Stands (after (spell (new_row_changes docs r vs (names_on m.indexes docs))) c) (record { tables = ts; indexes = indexes_with given (put_pair int_cmp r Pending marks) })) tables_with_row
+      (subst (λ (xs : Names Index). Stands (after (spell (new_row_changes docs r vs (names_on m.indexes docs))) c) (record { tables = with_row (tables_with rows) docs r vs; indexes = xs })) indexes_with_note
+      (new_row_stands c m docs (table_with rows) r vs stands (table_there rows) (get-from_sorted int_cmp rows r rows_rise ∙ free) row fit (omega (arith, count, few)))))
+
+abbrev row_one : List Value
+row_one = Text (codes "quick fox quick") ∷ Number (pos 0) ∷ []
+
+abbrev row_two : List Value
+row_two = Text (codes "slow") ∷ Number (negsuc 0) ∷ []
+
+one_fits : FitColumns (others docs_columns) row_one
+unfolding encode
+one_fits = ((omega arith, (codes "quick fox quick", (refl, refl))), (omega arith, tt))
+
+two_fits : FitColumns (others docs_columns) row_two
+unfolding encode
+two_fits = ((omega arith, (codes "slow", (refl, refl))), (omega arith, tt))
+
+abbrev third : Content
+third = after (spell (new_row_changes docs (pos 1) row_one (di ∷ []))) second
+
+third_stands : Stands third (state_with ((pos 1, row_one) ∷ []) 0 ((pos 1, Pending) ∷ []))
+third_stands = row_stands [] 0 [] (pos 1) row_one tt tt tt tt second second_stands refl (omega arith) one_fits (omega arith)
+
+-- ---- EXEC CTX_DDL.SYNC_INDEX('di')
+
+abbrev one_row : List (ℤ × List Value)
+one_row = (pos 1, row_one) ∷ []
+
+abbrev waiting : Index
+waiting = index_with 0 ((pos 1, Pending) ∷ [])
+
+one_waits : pending_rows waiting ≡ pos 1 ∷ []
+one_waits = ap (λ (es : List (ℤ × Mark)). filter_map (λ e. if_pending e.1 e.0) es) (entries-from_sorted int_cmp ((pos 1, Pending) ∷ []) tt)
+
+its_text : text_seen (tables_with one_row) waiting (pos 1) ≡ Some (codes "quick fox quick")
+its_text =
+    ap (λ (o : Option Table). option_and_then (λ vs. text_of vs 1) (row_in o (pos 1))) (table_there one_row)
+    ∙ ap (λ (o : Option (List Value)). option_and_then (λ vs. text_of vs 1) o) (get-from_sorted int_cmp one_row (pos 1) tt)
+
+abbrev settled_first : List KeyChange
+settled_first =
+    drop_key (key kind.Pending di (row_part (pos 1))) ∷ put (key kind.DocumentRows di (document_part 1)) (row_bytes (pos 1)) ∷ put (key kind.RowDocuments di (row_part (pos 1))) (to_be_bytes w32 1) ∷ []
+
+abbrev fourth_changes : List KeyChange
+fourth_changes =
+    settled_first ++ posting_change di 1 (codes "fox", 2 ∷ []) ∷ posting_change di 1 (codes "quick", 1 ∷ 3 ∷ []) ∷ put (key kind.Indexes di []) (index_bytes docs 1 2) ∷ []
+
+fourth_are : sync_changes (tables_with one_row) di waiting ≡ fourth_changes
+fourth_are =
+    ap (sync_rows_changes (tables_with one_row) di waiting) one_waits
+    ∙ ap (λ (o : Option (List ℕ)). ((drop_key (key kind.Pending di (row_part (pos 1))) ∷ document_changes di 1 (pos 1) o) ++ []) ++ put (key kind.Indexes di []) (index_entry (synced_index waiting)) ∷ []) its_text
+    ∙ ap (λ (es : List (List ℕ × List ℕ)). ((settled_first ++ map (posting_change di 1) es) ++ []) ++ put (key kind.Indexes di []) (index_entry (synced_index waiting)) ∷ []) fox_and_quick
+    ∙ ap (λ (rs : List ℤ). (settled_first ++ posting_change di 1 (codes "fox", 2 ∷ []) ∷ posting_change di 1 (codes "quick", 1 ∷ 3 ∷ []) ∷ []) ++ put (key kind.Indexes di []) (index_bytes docs 1 (0 + length rs + 1)) ∷ []) one_waits
+
+few_enough : has_too_many waiting ≡ false
+few_enough = ap (λ (rs : List ℤ). nat_lt most_given (0 + length rs)) one_waits
+
+indexes_synced : synced (indexes_with 0 ((pos 1, Pending) ∷ [])) di ≡ indexes_with 1 ((pos 1, Marked) ∷ [])
+indexes_synced =
+    ap (altered (indexes_with 0 ((pos 1, Pending) ∷ [])) di synced_index) (index_there 0 ((pos 1, Pending) ∷ []))
+    ∙ insert_is (slice_cmp nat_cmp) nat_list_cmp_total (indexes_with 0 ((pos 1, Pending) ∷ [])) di (synced_index waiting) ((di, waiting) ∷ []) (entries-from_sorted (slice_cmp nat_cmp) ((di, waiting) ∷ []) tt) tt
+    ∙ ap (λ (rs : List ℤ). indexes_of (index_of (0 + length rs) (synced_index waiting).marks)) one_waits
+    ∙ ap (λ (ms : Rows Mark). indexes_of (index_of 1 ms))
+    (map_is int_cmp int_cmp_total (synced_index waiting).marks ((pos 1, Marked) ∷ []) tt
+    (entries-each_value int_cmp (λ (m : Mark). Marked) int_cmp_total waiting.marks ∙ ap (map {B = ℤ × Mark} (λ (e : ℤ × Mark). (e.0, Marked))) (entries-from_sorted int_cmp ((pos 1, Pending) ∷ []) tt)))
+
+abbrev fourth : Content
+fourth = after (spell fourth_changes) third
+
+fourth_stands : Stands fourth (state_with one_row 1 ((pos 1, Marked) ∷ []))
+fourth_stands =
+    subst (λ (ws : List KeyChange). Stands (after (spell ws) third) (state_with one_row 1 ((pos 1, Marked) ∷ []))) fourth_are
+    (subst (λ (xs : Names Index). Stands (after (spell (sync_changes (tables_with one_row) di waiting)) third) (record { tables = tables_with one_row; indexes = xs })) indexes_synced
+    (synced_stands third (state_with one_row 0 ((pos 1, Pending) ∷ [])) di waiting third_stands (index_there 0 ((pos 1, Pending) ∷ [])) few_enough))
+
+-- ---- INSERT INTO docs once more
+
+abbrev fifth : Content
+fifth = after (spell (new_row_changes docs (pos 2) row_two (di ∷ []))) fourth
+
+fifth_stands : Stands fifth shown_state
+fifth_stands = row_stands one_row 1 ((pos 1, Marked) ∷ []) (pos 2) row_two tt tt tt tt fourth fourth_stands refl (omega arith) two_fits (omega arith)
+
+-- ---- the entries then
+
+its_entries : entries fifth ≡ shown_entries
+unfolding row_bytes varint
+its_entries =
+    step (new_row_changes docs (pos 2) row_two (di ∷ [])) fourth _ (step fourth_changes third _ (step (new_row_changes docs (pos 1) row_one (di ∷ [])) second _ (step second_changes first _ (step first_changes empty [] (nothing (slice_cmp nat_cmp) nat_list_cmp_total)))))
+  where
+    step : (ws : List KeyChange) (m : Content) (es : List (List ℕ × List ℕ)) → entries m ≡ es → entries (after (spell ws) m) ≡ applied (spell ws) es
+    step ws m es is = entries-after (spell ws) m ∙ ap (applied (spell ws)) is
+
+-- ---- the effects of the statements
+
+table_is_created : effect empty_state table_statement ≡ Does without_index table_created
+table_is_created =
+    let done = Does (with_new_table empty_state docs shown_columns) table_created in
+    ap (λ (o : Option Table). check_table (is_some o) (nat_le table_limit (length (entries (empty {X = Table} {R = slice_cmp nat_cmp})))) docs shown_columns done) (get-empty (slice_cmp nat_cmp) docs)
+    ∙ ap (λ (es : List (List ℕ × Table)). check_table false (nat_le table_limit (length es)) docs shown_columns done) (nothing (slice_cmp nat_cmp) nat_list_cmp_total)
+    ∙ ap (λ (ts : Tables). Does (record { tables = ts; indexes = empty }) table_created) tables_created
+
+index_is_created : effect without_index index_statement ≡ Does (state_with [] 0 []) index_created
+index_is_created =
+    let done = Does (with_new_index without_index di docs 1) index_created in
+    ap (λ (o : Option Table). with_found o (UnknownName docs) (λ (x : Table). with_found (place_of (codes "body") x.columns) (UnknownName (codes "body")) (λ (place : ℕ). create_index_on without_index di docs x place))) (table_there [])
+    ∙ ap (λ (b : Bool). check_index b true (nat_le index_limit (length (indexes_on without_index.indexes docs)) || has_too_many_rows without_index docs) di done) index_free.free
+    ∙ ap (λ (b : Bool). check_index false true b di done) index_free.few
+    ∙ ap (λ (xs : Names Index). Does (record { tables = tables_with []; indexes = xs }) index_created) indexes_created
+
+module _ (rows : List (ℤ × List Value)) (given : ℕ) (marks : List (ℤ × Mark)) (r : ℤ) (values : List Operand) (rows_rise : T (is_sorted int_cmp rows)) (marks_rise : T (is_sorted int_cmp marks))
+    (then_rows : T (is_sorted int_cmp (put_pair int_cmp r (others_kept values) rows))) (then_marks : T (is_sorted int_cmp (put_pair int_cmp r Pending marks))) where
+  row_is_inserted : key_in values ≡ Some r → find int_cmp r rows ≡ None → nat_le row_limit (length rows) ≡ false
+      → ((done : Effect) → check_list docs_columns None values done ≡ done) → ((done : Effect) → check_values false false docs_columns values done ≡ done)
+      → effect (state_with rows given marks) (Insert docs None values) ≡ Does (state_with (put_pair int_cmp r (others_kept values) rows) given (put_pair int_cmp r Pending marks)) row_created
+  row_is_inserted key free few listed checked =
+      let m = state_with rows given marks in
+      let x = table_with rows in
+      let done = insert_row m docs values r in
+      ap (λ (o : Option Table). with_found o (UnknownName docs) (λ (x : Table). check_list x.columns None values (insert_values m docs x (arranged None x.columns values)))) (table_there rows)
+      ∙ listed (insert_values m docs x values)
+      ∙ ap (λ (o : Option ℤ). check_values (has_row x o) (nat_le row_limit (length (entries x.rows))) docs_columns values (with_found o OutOfRange (λ (r : ℤ). insert_row m docs values r))) key
+      ∙ ap (λ (o : Option (List Value)). check_values (is_some o) (nat_le row_limit (length (entries x.rows))) docs_columns values done) (get-from_sorted int_cmp rows r rows_rise ∙ free)
+      ∙ ap (λ (es : List (ℤ × List Value)). check_values false (nat_le row_limit (length es)) docs_columns values done) (entries-from_sorted int_cmp rows rows_rise)
+      ∙ ap (λ (b : Bool). check_values false b docs_columns values done) few
+      ∙ checked done
+      ∙ ap (λ (ts : Tables). Does (record { tables = ts; indexes = noted_on (indexes_with given marks) docs r }) row_created) (tables_with_row rows given marks r (others_kept values) rows_rise marks_rise then_rows then_marks)
+      ∙ ap (λ (xs : Names Index). Does (record { tables = tables_with (put_pair int_cmp r (others_kept values) rows); indexes = xs }) row_created) (indexes_with_note rows given marks r (others_kept values) rows_rise marks_rise then_rows then_marks)
+
+index_is_synced : effect (state_with one_row 0 ((pos 1, Pending) ∷ [])) sync_statement ≡ Does (state_with one_row 1 ((pos 1, Marked) ∷ [])) call_done
+index_is_synced =
+    let m = state_with one_row 0 ((pos 1, Pending) ∷ []) in
+    ap (λ (o : Option Index). check_sync (unknown_name (is_some o) (Some di)) (TextArg di ∷ []) (sync_named m (Some di))) (index_there 0 ((pos 1, Pending) ∷ []))
+    ∙ ap (λ (o : Option Index). with_found o (UnknownName di) (λ (x : Index). sync_found m di x)) (index_there 0 ((pos 1, Pending) ∷ []))
+    ∙ ap (λ (b : Bool). refuse b LimitReached (Does (with_synced m di) call_done)) few_enough
+    ∙ ap (λ (xs : Names Index). Does (record { tables = tables_with one_row; indexes = xs }) call_done) indexes_synced
+
+pub it_is_led_to : after_all empty_state shown_statements ≡ shown_state
+it_is_led_to =
+    ap (λ (e : Effect). after_all (state_by empty_state e) (index_statement ∷ Insert docs None first_values ∷ sync_statement ∷ Insert docs None second_values ∷ [])) table_is_created
+    ∙ ap (λ (e : Effect). after_all (state_by without_index e) (Insert docs None first_values ∷ sync_statement ∷ Insert docs None second_values ∷ [])) index_is_created
+    ∙ ap (λ (e : Effect). after_all (state_by (state_with [] 0 []) e) (sync_statement ∷ Insert docs None second_values ∷ [])) (row_is_inserted [] 0 [] (pos 1) first_values tt tt tt tt refl refl refl (λ done. refl) (λ done. refl))
+    ∙ ap (λ (e : Effect). after_all (state_by (state_with one_row 0 ((pos 1, Pending) ∷ [])) e) (Insert docs None second_values ∷ [])) index_is_synced
+    ∙ ap (λ (e : Effect). state_by (state_with one_row 1 ((pos 1, Marked) ∷ [])) e) (row_is_inserted one_row 1 ((pos 1, Marked) ∷ []) (pos 2) second_values tt tt tt tt refl refl refl (λ done. refl) (λ done. refl))
+
+-- ---- and so the store
+
+pub it_stands : Stands shown_store shown_state
+it_stands = subst (λ (c : Content). Stands c shown_state) (map_is (slice_cmp nat_cmp) nat_list_cmp_total fifth shown_entries tt its_entries) fifth_stands
+
+pub it_weighs : weight shown_store ≡ 704
+it_weighs = ap (sum_by entry_weight) (entries-from_sorted (slice_cmp nat_cmp) shown_entries tt)
+
+pub its_state_takes : room shown_state ≡ 921
+its_state_takes = its_room

@@ -1,0 +1,6 @@
+use Rattle.std.proofs.Common.{◌≡◌, take}
+use Rattle.tb_table.specs.Spelling.{row_numbers_bytes}
+use Rattle.tb_table.proofs.writing.row_numbers_bytes.Given as goal
+
+abbrev pub invariant-loop-number : goal.invariant-loop-number
+invariant-loop-number l = l.bytes.items ≡ row_numbers_bytes (take l.number-index l.numbers)
