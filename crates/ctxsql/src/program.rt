@@ -1,10 +1,9 @@
 //! The work of the program, over any runtime.
 
-ghost use Rattle.std.specs.Prelude.{◌≡◌, ◌↔◌, ◌<◌, ◌⊎◌, ◌^◌, IfErr, IfOk, length};
+ghost use Rattle.std.specs.Prelude.{◌≡◌, ◌↔◌, ◌<◌, ◌⊎◌, IfErr, IfOk, length};
 ghost use Rattle.std.specs.Process.{exit_status};
 ghost use Rattle.std_io.specs.IoError.{error_kind};
-ghost use Rattle.db_console.specs.Table.{RanOver, SiteFaultsBy, Untouched, status_of};
-ghost use Rattle.db_console.specs.declared.endings.Ending.{Ending};
+ghost use Rattle.db_console.specs.Table.{RanWith, SameDisk, SiteFaultsBy};
 ghost use Rattle.ctxsql.specs.Program.{IsIdle, status_without};
 
 use ct_site::Site;
@@ -64,12 +63,12 @@ fn run_with<R: Threads + Sync, S: Site>(
     ensures no_call { IfOk words.now (λ words. 0 < length words.items → site.new ≡ site.old) }
 
     // the table of statuses, from the empty state
-    ensures table { IfOk words.now (λ words. length words.items ≡ 0 → (ending : Ending) × (result ≡ status_of ending) × RanOver 65536 (2 ^ 40) (2 ^ 36) (S.disk site.old) (S.disk site.new) ending) }
+    ensures table { IfOk words.now (λ words. length words.items ≡ 0 → RanWith (S.disk site.old) (S.disk site.new) result) }
 
     // causes
     ensures faults { SiteFaultsBy result (S.disk site.old).beside (S.disk site.new).beside }
     ensures memory { result ≡ 5 → (S.disk site.new).beside ≡ (S.disk site.old).beside }
-    ensures no_disk { Untouched (S.disk site.old) (S.disk site.new) }
+    ensures no_disk { SameDisk (S.disk site.old) (S.disk site.new) }
 {
     match words {
         Ok(words) => run(rt, alloc, words, site),
@@ -80,9 +79,9 @@ fn run_with<R: Threads + Sync, S: Site>(
 /// Does the work of the program over a site: runs the script that it gives, where the command has no argument.
 pub fn work<R: Threads + Sync + Env + AllocGlobal, S: Site>(rt: &R, site: &mut S) -> Ended
     // it did nothing, or it ran the script
-    ensures ended { ((site.new ≡ site.old) × IsIdle result.status) ⊎ ((ending : Ending) × (result.status ≡ status_of ending) × RanOver 65536 (2 ^ 40) (2 ^ 36) (S.disk site.old) (S.disk site.new) ending) }
+    ensures ended { ((site.new ≡ site.old) × IsIdle result.status) ⊎ RanWith (S.disk site.old) (S.disk site.new) result.status }
     ensures faults { SiteFaultsBy result.status (S.disk site.old).beside (S.disk site.new).beside }
-    ensures no_disk { Untouched (S.disk site.old) (S.disk site.new) }
+    ensures no_disk { SameDisk (S.disk site.old) (S.disk site.new) }
 {
     let words = words(rt);
     let status = run_with(rt, rt.alloc(), &words, site);

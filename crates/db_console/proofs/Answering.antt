@@ -7,30 +7,30 @@ use Rattle.ct_base.specs.Told.{with_suffix, IsSaid, SaysPart}
 use Rattle.ct_base.specs.laws.Told.{with_suffix-nil, says_prefix}
 use Rattle.ct_site.specs.Disks.{Beside}
 use Rattle.ct_keep.specs.Content.{Content}
-use Rattle.ct_keep.specs.declared.keepers.KeepFault.TheVariants as fault
-use Rattle.ct_keep.specs.KeeperViews.{KeeperView, KeeperSays, Kept, Goes, Leaves, IsSettled}
+use Rattle.ct_keep.specs.declared.keepers.KeepFault.TheVariants as keep_fault
+use Rattle.ct_keep.specs.KeeperViews.{KeeperView, Counts, KeeperSays, SameButContent, Goes, IsLeft, IsDurable, AtMostOneCommit}
 use Rattle.ct_keep.specs.Composing.{same_say_room, reads_none, reads_short, reads_only, reads_failed, passes_as}
 use Rattle.db_state.specs.States.{State, Stands}
 use Rattle.db_state.specs.Effects.{Effect, state_by}
-use Rattle.db_engine.specs.Runs.{Piece, Answer, Step, NoMemory, Full, Turn, turn, turn_by, effect_by, IsAllowed}
+use Rattle.db_engine.specs.Runs.{Piece, statement, Answer, Step, NoMemory, Full, Turn, turn, turn_by, effect_by, IsAllowed}
 use Rattle.db_state.specs.Plans.{StandsBy, Moves}
 use Rattle.db_engine.specs.Executing.{fault_for, fault_of_stop}
 use Rattle.db_engine.specs.declared.replies.Stop.{Stop as Halt}
 use Rattle.db_engine.specs.declared.replies.Stop.TheVariants.{Disk as DiskHalt}
 use Rattle.db_console.specs.declared.responses.Response.{Response}
-use Rattle.db_console.specs.declared.saying.Stop.{Stop}
-use Rattle.db_console.specs.declared.saying.Stop.TheVariants.{Say, Disk}
-use Rattle.db_console.specs.Worlds.{World, LeavesState, IsMoment, IsPartOf, Answered}
-use Rattle.db_console.specs.Views.{Shows, Spoke, SpokeInPart, Replied, Halted, LeavesEither, Answers, Stopped, Stops}
-use Rattle.db_console.proofs.Lasting.{faults_kept, faults_said, faults_then, stops_for_disk, frame_kept, frame_said, frame_then}
+use Rattle.db_console.specs.declared.saying.AnswerFault.{AnswerFault}
+use Rattle.db_console.specs.declared.saying.AnswerFault.TheVariants.{Say, Disk}
+use Rattle.db_console.specs.Worlds.{World, LeavesState, IsMoment, IsPartOf, Answered, CommitsFor}
+use Rattle.db_console.specs.Views.{Shows, Spoke, SpokeInPart, Replied, Halted, LeavesEither, Answers, BrokeOff, BreaksOff}
+use Rattle.db_console.proofs.Lasting.{faults_kept, faults_said, faults_then, fails_by_disk, frame_kept, frame_said, frame_then}
 
 -- ---- nothing is committed
 
-pub moves_not : (m : State) (effect : Effect) (c : Content) (k : KeeperView) → k.ready → IsSettled k → k.content ≡ Some c → Stands c (state_by m effect) → Moves m effect c k k None
+pub moves_not : (m : State) (effect : Effect) (c : Content) (k : KeeperView) → k.ready → IsDurable k → k.content ≡ Some c → Stands c (state_by m effect) → Moves m effect c k k None
 moves_not m effect c k ready settled holds stands = record { next = c; stands = stands; goes = reads_only c k k settled holds (reads_none k ready); same = λ e. refl }
 
-pub moves_short : (m : State) (effect : Effect) (c : Content) (k : KeeperView) → k.ready → IsSettled k → k.content ≡ Some c → Moves m effect c k k (Some fault.Memory)
-moves_short m effect c k ready settled holds = record { next = c; stands = refl; goes = reads_failed c c k k fault.Memory settled holds (reads_short k k (reads_none k ready)); same = λ e. refl }
+pub moves_short : (m : State) (effect : Effect) (c : Content) (k : KeeperView) → k.ready → IsDurable k → k.content ≡ Some c → Moves m effect c k k (Some keep_fault.Memory)
+moves_short m effect c k ready settled holds = record { next = c; stands = refl; goes = reads_failed c c k k keep_fault.Memory settled holds (reads_short k k (reads_none k ready)); same = λ e. refl }
 
 -- ---- the moments of one turn
 
@@ -51,7 +51,7 @@ module _ (limit : ℕ) (was : World) (t : Turn) where
   pub unsaid : (w : List ℕ) → IsSaid was.said w → SaysPart was.said reply w
   unsaid w said = says_prefix was.said [] reply w (nothing_said w said)
 
-  -- a stop leaves the one or the other
+  -- a crash leaves the one or the other
   pub either : (x : Option Content) (w : List ℕ) → LeavesEither limit was t x w → IsMoment limit was (t ∷ []) x w
   either x w l = ⊎_elim
       (λ p. before p.content x w p.is p.stands l.said_before)
@@ -71,7 +71,7 @@ module _ (limit : ℕ) (piece : Piece) (was : World) (old new : KeeperView) (sho
   told w said = sym shows.said ∙ said
 
   in_commit : (a : Answer) (next : Content) → StandsBy (fault_for a) was.state does shows.content next → (x : Option Content) (w : List ℕ)
-      → Leaves (fault_for a) shows.content next x → IsSaid old.beside.said w → IsMoment limit was (one a ∷ []) x w
+      → IsLeft (fault_for a) shows.content next x → IsSaid old.beside.said w → IsMoment limit was (one a ∷ []) x w
   in_commit Step next stands x w left said = ⊎_elim
       (λ is. before limit was (one Step) shows.content x w is shows.stands (told w said))
       (λ is. after limit was (one Step) next x w is stands (unsaid limit was (one Step) w (told w said)))
@@ -96,9 +96,9 @@ module _ (limit : ℕ) (piece : Piece) (was : World) (old new : KeeperView) (sho
       (λ is. ⊎_elim (λ s. inl (record { content = next; is = is; stands = s })) (λ s. inr (record { content = next; is = is; stands = s })) stands)
       left
 
-  pub halted_by : Moves was.state does shows.content old new (Some fault.Disk) → Halted limit piece was old new
+  pub halted_by : Moves was.state does shows.content old new (Some keep_fault.Disk) → Halted limit piece was old new
   halted_by moves =
-      let each : (x : Option Content) (w : List ℕ) → Leaves (Some fault.Disk) shows.content moves.next x × IsSaid old.beside.said w → LeavesEither limit was (one Step) x w =
+      let each : (x : Option Content) (w : List ℕ) → IsLeft (Some keep_fault.Disk) shows.content moves.next x × IsSaid old.beside.said w → LeavesEither limit was (one Step) x w =
       λ x w p. record { leaves = stands_either moves.next x moves.stands p.0; said_before = told w p.1 } in
       record {
         moments = passes_more old.time new.time _ _ moves.goes.time (λ x w p. either limit was (one Step) x w (each x w p));
@@ -107,7 +107,7 @@ module _ (limit : ℕ) (piece : Piece) (was : World) (old new : KeeperView) (sho
 
 -- ---- and then the reply
 
--- what saying a front of the reply adds
+-- what saying a prefix of the reply adds
 module _ (limit : ℕ) (piece : Piece) (was : World) (old mid new : KeeperView) (bytes : List ℕ) (ready : mid.ready) (shows : Shows old was) (beside : mid.beside ≡ old.beside) (r : Replied limit piece was old mid bytes) where
   abbrev made : Turn
   made = turn_by piece r.answer
@@ -116,17 +116,17 @@ module _ (limit : ℕ) (piece : Piece) (was : World) (old mid new : KeeperView) 
   said_mid = ap (λ (b : Beside). b.said) beside ∙ shows.said
 
   moments_said : (part rest : List ℕ) → bytes ≡ part ++ rest → KeeperSays part mid new → Passes old.time new.time (IsMoment limit was (made ∷ []))
-  moments_said part rest front s =
+  moments_said part rest prefix s =
       passes_then old.time mid.time new.time _ r.moments
       (passes_more mid.time new.time _ _ (s.time ready r.content r.holds)
       (λ x w p. after limit was made r.content x w p.0 r.stands
-      (subst (λ (l : List ℕ). SaysPart was.said l w) (sym front ∙ r.is)
+      (subst (λ (l : List ℕ). SaysPart was.said l w) (sym prefix ∙ r.is)
       (says_prefix was.said part rest w (subst (λ (o : Option (List ℕ)). SaysPart o part w) said_mid p.1)))))
 
   shows_said : (part : List ℕ) → KeeperSays part mid new → Shows new (record { state = (turn limit was.state made).0; said = with_suffix was.said part })
   shows_said part s = record { said = s.said ∙ ap (λ (o : Option (List ℕ)). with_suffix o part) said_mid; content = r.content; holds = s.apart.content ∙ r.holds; stands = r.stands }
 
-  pub answered_by : KeeperSays bytes mid new → (now : World) × Shows new now × Answered limit old.fixed.limit piece was now old.time new.time
+  pub answered_by : KeeperSays bytes mid new → (now : World) × Shows new now × Answered limit old.fixed.limit piece was now old new
   answered_by s = (
     record { state = (turn limit was.state made).0; said = with_suffix was.said bytes },
     shows_said bytes s,
@@ -142,39 +142,56 @@ module _ (limit : ℕ) (piece : Piece) (was : World) (old mid new : KeeperView) 
     },
   )
 
-  pub stopped_saying : (IsSettled new) → SpokeInPart bytes mid new → Stopped limit piece Say was old new
-  stopped_saying settled s = record {
+  pub broke_off_saying : (IsDurable new) → SpokeInPart bytes mid new → BrokeOff limit piece Say was old new
+  broke_off_saying settled s = record {
     answer = r.answer;
     allowed = r.allowed;
     moments = moments_said s.part s.is.rest s.is.is s.spoke.says;
     by = record { part = s.part; reply = subst (IsPartOf s.part) r.is s.is; passes = passes_as _ _ _ _ _ _ s.passes (same_say_room s.spoke.says.apart.fixed) (sym said_mid) (sym r.is); shows = shows_said s.part s.spoke.says; settled = settled };
   }
 
--- the answer to a piece, from the response to it and what was said of that
-pub answers_said : (limit : ℕ) (piece : Piece) (bytes : List ℕ) (old mid new : KeeperView) → Kept old mid None → ((was : World) → Shows old was → Replied limit piece was old mid bytes) → Spoke false bytes mid new → Answers limit piece old new
-answers_said limit piece bytes old mid new kept r s = record {
-  frame = frame_then old mid new (frame_kept old mid None kept) (frame_said false mid new bytes s);
+-- ---- commits
+
+-- a statement may have called one
+pub commits_statement : (text : List ℕ) (old new : Counts) → AtMostOneCommit old new → CommitsFor (statement text) old new
+commits_statement text old new once = record { once = once; none = λ e. cc }
+
+-- nothing was called
+pub commits_none : (piece : Piece) (counts : Counts) → CommitsFor piece counts counts
+commits_none piece counts = record { once = inl refl; none = λ e. refl }
+
+-- and saying calls none
+commits_said : {bytes : List ℕ} (piece : Piece) (old : Counts) (mid new : KeeperView) → CommitsFor piece old mid.counts → KeeperSays bytes mid new → CommitsFor piece old new.counts
+commits_said piece old mid new commits says = subst (CommitsFor piece old) (sym says.apart.counts) commits
+
+-- ---- the answer to a piece, from the response to it and what was said of that
+pub answers_said : (limit : ℕ) (piece : Piece) (bytes : List ℕ) (old mid new : KeeperView) → SameButContent old mid None → ((was : World) → Shows old was → Replied limit piece was old mid bytes) → CommitsFor piece old.counts mid.counts → Spoke false bytes mid new → Answers limit piece old new
+answers_said limit piece bytes old mid new kept r commits s = record {
+  unheard = frame_then old mid new (frame_kept old mid None kept) (frame_said false mid new bytes s);
   faults = faults_then false false false old mid new (faults_kept old mid kept) (faults_said false mid new bytes s);
   ready = s.says.apart.ready kept.ready;
+  commits = commits_said piece old.counts mid new commits s.says;
   answers = λ was w. answered_by limit piece was old mid new bytes kept.ready w kept.beside (r was w) s.says;
 }
 
-pub stops_saying : (limit : ℕ) (piece : Piece) (bytes : List ℕ) (stop : Stop) (old mid new : KeeperView) → Kept old mid None → ((was : World) → Shows old was → Replied limit piece was old mid bytes)
-    → (new.ready → IsSettled new) → (stop ≡ Say) × SpokeInPart bytes mid new → Stops limit piece stop old new
-stops_saying limit piece bytes stop old mid new kept r settled s = rw s.0 (record {
-  frame = frame_then old mid new (frame_kept old mid None kept) (frame_said true mid new s.1.part s.1.spoke);
+pub breaks_off_saying : (limit : ℕ) (piece : Piece) (bytes : List ℕ) (fault : AnswerFault) (old mid new : KeeperView) → SameButContent old mid None → ((was : World) → Shows old was → Replied limit piece was old mid bytes)
+    → CommitsFor piece old.counts mid.counts → (new.ready → IsDurable new) → (fault ≡ Say) × SpokeInPart bytes mid new → BreaksOff limit piece fault old new
+breaks_off_saying limit piece bytes fault old mid new kept r commits settled s = rw s.0 (record {
+  unheard = frame_then old mid new (frame_kept old mid None kept) (frame_said true mid new s.1.part s.1.spoke);
   cause = record { faults = faults_then false true false old mid new (faults_kept old mid kept) (faults_said true mid new s.1.part s.1.spoke); calls = tt };
   ready = s.1.spoke.says.apart.ready kept.ready;
-  stops = λ was w. stopped_saying limit piece was old mid new bytes kept.ready w kept.beside (r was w) (settled (s.1.spoke.says.apart.ready kept.ready)) s.1;
+  commits = commits_said piece old.counts mid new commits s.1.spoke.says;
+  breaks_off = λ was w. broke_off_saying limit piece was old mid new bytes kept.ready w kept.beside (r was w) (settled (s.1.spoke.says.apart.ready kept.ready)) s.1;
 })
 
 -- or where the disk failed
-pub stops_halted : (limit : ℕ) (piece : Piece) (old new : KeeperView) → Kept old new (Some fault.Disk) → ((was : World) → Shows old was → Halted limit piece was old new) → Stops limit piece Disk old new
-stops_halted limit piece old new kept h = record {
-  frame = frame_kept old new (Some fault.Disk) kept;
-  cause = stops_for_disk old new kept;
+pub breaks_off_halted : (limit : ℕ) (piece : Piece) (old new : KeeperView) → SameButContent old new (Some keep_fault.Disk) → ((was : World) → Shows old was → Halted limit piece was old new) → CommitsFor piece old.counts new.counts → BreaksOff limit piece Disk old new
+breaks_off_halted limit piece old new kept h commits = record {
+  unheard = frame_kept old new (Some keep_fault.Disk) kept;
+  cause = fails_by_disk old new kept;
   ready = tt;
-  stops = λ was w. record {
+  commits = commits;
+  breaks_off = λ was w. record {
     answer = Step;
     allowed = tt;
     moments = (h was w).moments;
@@ -182,6 +199,6 @@ stops_halted limit piece old new kept h = record {
   };
 }
 
--- a stop of `execute` is one by the disk
-pub kept_stopped : (stop : Halt) (old new : KeeperView) → Kept old new (fault_of_stop {T = Response} (Err stop)) → Kept old new (Some fault.Disk)
-kept_stopped DiskHalt old new kept = kept
+-- what stops `execute` is the disk
+pub kept_failed : (fault : Halt) (old new : KeeperView) → SameButContent old new (fault_of_stop {T = Response} (Err fault)) → SameButContent old new (Some keep_fault.Disk)
+kept_failed DiskHalt old new kept = kept

@@ -25,11 +25,11 @@ module _ (left : Option (List ℕ)) (limit : ℕ) (was : World) where
   -- so many bytes were taken, and all statements in them answered
   pub asked_now : (taken piece : List ℕ) (turns : List Turn) (rest : List ℕ) (mid : Beside) → left ≡ with_prefix taken mid.left → HasPieces false taken (pieces turns) rest
       → mid.said ≡ with_suffix was.said (transcript limit was.state turns) → (h : Hearing) → IsHearing mid h → AskedThen left (taken ++ piece) limit was turns h
-  asked_now taken piece turns rest mid front cut said h is = record {
+  asked_now taken piece turns rest mid prefix cut said h is = record {
     part = taken;
     later = piece;
-    front = refl;
-    left_then = front ∙ ap (with_prefix taken) is.0;
+    prefix = refl;
+    left_then = prefix ∙ ap (with_prefix taken) is.0;
     done = turns;
     others = [];
     first = sym (append-nil turns);
@@ -43,7 +43,7 @@ module _ (left : Option (List ℕ)) (limit : ℕ) (was : World) where
   asked_taken taken more turns h a = record {
     part = a.part;
     later = a.later ++ more;
-    front = ap (λ (l : List ℕ). l ++ more) (sym (append-nil taken) ∙ a.front) ∙ append_assoc a.part a.later more;
+    prefix = ap (λ (l : List ℕ). l ++ more) (sym (append-nil taken) ∙ a.prefix) ∙ append_assoc a.part a.later more;
     left_then = a.left_then;
     done = a.done;
     others = a.others;
@@ -61,7 +61,7 @@ module _ (left : Option (List ℕ)) (limit : ℕ) (was : World) where
   asked_turns taken turns more h a = record {
     part = a.part;
     later = a.later;
-    front = a.front;
+    prefix = a.prefix;
     left_then = a.left_then;
     done = a.done;
     others = a.others ++ more;

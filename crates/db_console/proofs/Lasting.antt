@@ -8,11 +8,10 @@ use Rattle.ct_site.specs.Disks.{Beside}
 use Rattle.ct_keep.specs.Composing.{same_aside, same_well}
 use Rattle.ct_keep.specs.declared.keepers.KeepFault.{KeepFault}
 use Rattle.ct_keep.specs.declared.keepers.KeepFault.TheVariants.{Disk as DiskFailed}
-use Rattle.ct_keep.specs.KeeperViews.{KeeperView, KeeperHears, Kept, counted}
-use Rattle.db_state.specs.States.{TakesAll}
-use Rattle.db_console.specs.declared.saying.Stop.{Stop}
-use Rattle.db_console.specs.declared.saying.Stop.TheVariants.{Say, Disk}
-use Rattle.db_console.specs.Views.{FaultsAre, NoFault, Heard, Spoke, Frame, StopsFor}
+use Rattle.ct_keep.specs.KeeperViews.{KeeperView, AcceptsChanges, KeeperHears, SameButContent, counted}
+use Rattle.db_console.specs.declared.saying.AnswerFault.{AnswerFault}
+use Rattle.db_console.specs.declared.saying.AnswerFault.TheVariants.{Say, Disk}
+use Rattle.db_console.specs.Views.{FaultsAre, NoFault, Heard, Spoke, HearsNothing, FailsBy}
 
 -- ---- counts of faults
 
@@ -27,7 +26,7 @@ faults_then hear say disk a b c f g = record {
   disk = g.disk ∙ ap (counted disk) f.disk;
 }
 
-pub faults_kept : (a b : KeeperView) → Kept a b None → NoFault a b
+pub faults_kept : (a b : KeeperView) → SameButContent a b None → NoFault a b
 faults_kept a b k = record { hear = ap (λ (s : Beside). s.hear_faults) k.beside; say = ap (λ (s : Beside). s.say_faults) k.beside; disk = k.cause }
 
 -- a call of `hear` into the first bytes of a buffer, by its result
@@ -43,30 +42,30 @@ pub faults_said : (failed : Bool) (a b : KeeperView) (bytes : List ℕ) → Spok
 faults_said failed a b bytes s = record { hear = s.says.hear_faults; say = s.counts; disk = s.says.apart.disk_faults }
 
 -- the disk failed
-pub stops_for_disk : (a b : KeeperView) → Kept a b (Some DiskFailed) → StopsFor Disk a b
-stops_for_disk a b k = record {
+pub fails_by_disk : (a b : KeeperView) → SameButContent a b (Some DiskFailed) → FailsBy Disk a b
+fails_by_disk a b k = record {
   faults = record { hear = ap (λ (s : Beside). s.hear_faults) k.beside; say = ap (λ (s : Beside). s.say_faults) k.beside; disk = k.cause };
   calls = k.calls;
 }
 
-pub stops_for_then : (stop : Stop) (a b c : KeeperView) → NoFault a b → b.fixed ≡ a.fixed → StopsFor stop b c → StopsFor stop a c
-stops_for_then Say a b c f same r = record { faults = faults_then false true false a b c f r.faults; calls = tt }
-stops_for_then Disk a b c f same r = record { faults = faults_then false false true a b c f r.faults; calls = sym (same_aside same) ∙ r.calls }
+pub fails_by_then : (fault : AnswerFault) (a b c : KeeperView) → NoFault a b → b.fixed ≡ a.fixed → FailsBy fault b c → FailsBy fault a c
+fails_by_then Say a b c f same r = record { faults = faults_then false true false a b c f r.faults; calls = tt }
+fails_by_then Disk a b c f same r = record { faults = faults_then false false true a b c f r.faults; calls = sym (same_aside same) ∙ r.calls }
 
 -- ---- what answering leaves
 
-pub frame_none : (k : KeeperView) → Frame k k
+pub frame_none : (k : KeeperView) → HearsNothing k k
 frame_none k = record { left = refl; hearings = refl; fixed = refl }
 
-pub frame_then : (a b c : KeeperView) → Frame a b → Frame b c → Frame a c
+pub frame_then : (a b c : KeeperView) → HearsNothing a b → HearsNothing b c → HearsNothing a c
 frame_then a b c f g = record { left = g.left ∙ f.left; hearings = g.hearings ∙ f.hearings; fixed = g.fixed ∙ f.fixed }
 
-pub frame_kept : (a b : KeeperView) (fault : Option KeepFault) → Kept a b fault → Frame a b
+pub frame_kept : (a b : KeeperView) (fault : Option KeepFault) → SameButContent a b fault → HearsNothing a b
 frame_kept a b fault k = record { left = ap (λ (s : Beside). s.left) k.beside; hearings = ap (λ (s : Beside). s.hearings) k.beside; fixed = k.fixed }
 
-pub frame_said : (failed : Bool) (a b : KeeperView) (bytes : List ℕ) → Spoke failed bytes a b → Frame a b
+pub frame_said : (failed : Bool) (a b : KeeperView) (bytes : List ℕ) → Spoke failed bytes a b → HearsNothing a b
 frame_said failed a b bytes s = record { left = s.says.left; hearings = s.says.hearings; fixed = s.says.apart.fixed }
 
 -- it still takes every entry
-pub takes_still : (a b : KeeperView) → b.fixed ≡ a.fixed → TakesAll a.fixed.well → TakesAll b.fixed.well
-takes_still a b same takes = subst (λ (well : List ℕ → List ℕ → Bool). TakesAll well) (sym (same_well same)) takes
+pub accepts_still : (a b : KeeperView) → b.ready → b.fixed ≡ a.fixed → AcceptsChanges a → AcceptsChanges b
+accepts_still a b ready same accepts = record { ready = ready; takes = subst (λ (well : List ℕ → List ℕ → Bool). (key value : List ℕ) → well key value ≡ true) (sym (same_well same)) accepts.takes }

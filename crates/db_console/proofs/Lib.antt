@@ -8,3 +8,4 @@ pub mod Responding
 pub mod ViewLaws
 pub mod TableLaws
 pub mod SiteLaws
+pub mod HistoryLaws

@@ -4,7 +4,7 @@ use Rattle.std.specs.Result.{IfOk, OnErr}
 use Rattle.std.specs.Str.{chars}
 use Rattle.ct_keep.specs.Content.{Content}
 use Rattle.ct_keep.specs.declared.keepers.KeepFault.TheVariants.{Disk}
-use Rattle.ct_keep.specs.KeeperViews.{KeeperView, IsSettled}
+use Rattle.ct_keep.specs.KeeperViews.{KeeperView, IsDurable}
 use Rattle.st_cut.specs.Seen.{ShowsText}
 use Rattle.st_parse.specs.Grammar.{Read, NoStatement, Found, read}
 use Rattle.st_parse.specs.Grammar.{Blank}
@@ -20,14 +20,14 @@ use Rattle.db_console.specs.Worlds.{World}
 use Rattle.db_engine.specs.declared.replies.Stop.{Stop}
 use Rattle.db_engine.specs.declared.replies.Stop.TheVariants.{Disk as DiskStop}
 use Rattle.db_console.specs.declared.responses.Response.{Response}
-use Rattle.db_console.specs.Responses.{HasReply, Responds, bytes_of}
-use Rattle.db_console.specs.Views.{Shows, Replied, Halted}
+use Rattle.db_console.specs.Responses.{HasReply, RespondsToText, response_bytes}
+use Rattle.db_console.specs.Views.{Shows, Replied, Halted, RepliesToText, HaltsInText}
 use Rattle.db_console.proofs.Answering.{moves_not, moves_short, replied_by, halted_by}
 
 -- ---- what was read
 
 -- its step, which keeps the state, with nothing to do
-pub reply_still : (m : State) (r : Read) (c : Content) (k : KeeperView) (reply : List ℕ) → k.ready → IsSettled k → k.content ≡ Some c → Stands c m → state_by m (effect_of m r) ≡ m → reply ≡ reply_by (effect_of m r)
+pub reply_still : (m : State) (r : Read) (c : Content) (k : KeeperView) (reply : List ℕ) → k.ready → IsDurable k → k.content ≡ Some c → Stands c m → state_by m (effect_of m r) ≡ m → reply ≡ reply_by (effect_of m r)
     → HasReply m r c k k reply
 reply_still m r c k reply ready settled holds stands same is = record {
   answer = Step;
@@ -37,14 +37,14 @@ reply_still m r c k reply ready settled holds stands same is = record {
   can = λ e. cc;
 }
 
-pub reply_blank : (m : State) (r : Read) (c : Content) (k : KeeperView) → k.ready → IsSettled k → k.content ≡ Some c → Stands c m → r ≡ Blank → HasReply m r c k k []
+pub reply_blank : (m : State) (r : Read) (c : Content) (k : KeeperView) → k.ready → IsDurable k → k.content ≡ Some c → Stands c m → r ≡ Blank → HasReply m r c k k []
 reply_blank m r c k ready settled holds stands e = reply_still m r c k [] ready settled holds stands (rw e refl) (rw e refl)
 
-pub reply_no_statement : (m : State) (r : Read) (c : Content) (k : KeeperView) → k.ready → IsSettled k → k.content ≡ Some c → Stands c m → r ≡ NoStatement → HasReply m r c k k not_understood
+pub reply_no_statement : (m : State) (r : Read) (c : Content) (k : KeeperView) → k.ready → IsDurable k → k.content ≡ Some c → Stands c m → r ≡ NoStatement → HasReply m r c k k not_understood
 reply_no_statement m r c k ready settled holds stands e = reply_still m r c k not_understood ready settled holds stands (rw e refl) (rw e refl)
 
 -- for want of memory
-pub reply_short : (m : State) (r : Read) (c : Content) (k : KeeperView) → k.ready → IsSettled k → k.content ≡ Some c → HasReply m r c k k out_of_memory
+pub reply_short : (m : State) (r : Read) (c : Content) (k : KeeperView) → k.ready → IsDurable k → k.content ≡ Some c → HasReply m r c k k out_of_memory
 reply_short m r c k ready settled holds = record { answer = NoMemory; moves = moves_short m (effect_of m r) c k ready settled holds; is = refl; place = λ e. cc; can = λ e. cc }
 
 -- ---- the step of a statement
@@ -77,16 +77,16 @@ step_text limit m bytes short text = step_within limit m bytes short ∙ ap (eff
 
 module _ (limit : ℕ) (ended : List ℕ) (was : World) (old : KeeperView) (shows : Shows old was) where
   -- it is refused
-  replied_refused : (f : Effect) (bytes : List ℕ) → old.ready → IsSettled old → step limit was.state ended ≡ f → state_by was.state f ≡ was.state → bytes ≡ reply_by f → Replied limit (statement ended) was old old bytes
+  replied_refused : (f : Effect) (bytes : List ℕ) → old.ready → IsDurable old → step limit was.state ended ≡ f → state_by was.state f ≡ was.state → bytes ≡ reply_by f → Replied limit (statement ended) was old old bytes
   replied_refused f bytes ready settled e same is =
       replied_by limit (statement ended) was old old shows Step bytes
       (moves_not was.state (step limit was.state ended) shows.content old ready settled shows.holds (subst (Stands shows.content) (sym same ∙ ap (state_by was.state) (sym e)) shows.stands))
       tt (is ∙ ap reply_by (sym e))
 
-  pub replied_past : old.ready → IsSettled old → limit < length ended → Replied limit (statement ended) was old old statement_too_long
+  pub replied_past : old.ready → IsDurable old → limit < length ended → Replied limit (statement ended) was old old statement_too_long
   replied_past ready settled long = replied_refused (Refused StatementTooLong) statement_too_long ready settled (step_past limit was.state ended long) refl refl
 
-  pub replied_no_text : old.ready → IsSettled old → length ended ≤ limit → is_text ended ≡ false → Replied limit (statement ended) was old old not_understood
+  pub replied_no_text : old.ready → IsDurable old → length ended ≤ limit → is_text ended ≡ false → Replied limit (statement ended) was old old not_understood
   replied_no_text ready settled short text = replied_refused (Refused NotUnderstood) not_understood ready settled (step_no_text limit was.state ended short text) refl refl
 
   module _ (new : KeeperView) (short : length ended ≤ limit) (text : is_text ended ≡ true) where
@@ -118,14 +118,14 @@ module _ (given : Option (Bor (List ℕ))) (bytes : Bor (List ℕ)) (is : given 
   shown_as : (limit : ℕ) (ended : List ℕ) → ShowsText limit given ended → (bytes.now ≡ ended) × (length ended ≤ limit)
   shown_as limit ended shown = rw is at shown
 
-  pub no_text_given : (old : KeeperView) → old.ready → IsSettled old → is_text bytes.now ≡ false → (limit : ℕ) (ended : List ℕ) → ShowsText limit given ended → (was : World) → Shows old was → Replied limit (statement ended) was old old not_understood
+  pub no_text_given : (old : KeeperView) → old.ready → IsDurable old → is_text bytes.now ≡ false → RepliesToText given not_understood old old
   no_text_given old ready settled text limit ended shown was w =
       let p : (bytes.now ≡ ended) × (length ended ≤ limit) = shown_as limit ended shown in
       replied_no_text limit ended was old w ready settled p.1 (subst (λ (xs : List ℕ). is_text xs ≡ false) p.0 text)
 
   module _ (text : List ℕ) (found : (is_text bytes.now ≡ true) × (text ≡ bytes.now)) (old new : KeeperView) where
     abbrev All : Result Response Stop → Type 0
-    All result = (m : State) (c : Content) → old.content ≡ Some c → Stands c m → Responds m (read (chars text)) c old new result
+    All result = RespondsToText text old new result
 
     of_ended : (ended : List ℕ) → bytes.now ≡ ended → is_text ended ≡ true
     of_ended ended e = subst (λ (xs : List ℕ). is_text xs ≡ true) e found.0
@@ -133,14 +133,14 @@ module _ (given : Option (Bor (List ℕ))) (bytes : Bor (List ℕ)) (is : given 
     same_text : (ended : List ℕ) → bytes.now ≡ ended → text ≡ ended
     same_text ended e = found.1 ∙ e
 
-    pub replied_given : (result : Result Response Stop) → All result → IfOk result (λ response. (limit : ℕ) (ended : List ℕ) → ShowsText limit given ended → (was : World) → Shows old was → Replied limit (statement ended) was old new (bytes_of response))
+    pub replied_given : (result : Result Response Stop) → All result → IfOk result (λ response. RepliesToText given (response_bytes response) old new)
     replied_given (Err e) all = tt
     replied_given (Ok response) all = λ limit ended shown was w.
         let p : (bytes.now ≡ ended) × (length ended ≤ limit) = shown_as limit ended shown in
-        replied_text limit ended was old w new p.1 (of_ended ended p.0) (bytes_of response)
-        (subst (λ (xs : List ℕ). HasReply was.state (read (chars xs)) w.content old new (bytes_of response)) (same_text ended p.0) (all was.state w.content w.holds w.stands))
+        replied_text limit ended was old w new p.1 (of_ended ended p.0) (response_bytes response)
+        (subst (λ (xs : List ℕ). HasReply was.state (read (chars xs)) w.content old new (response_bytes response)) (same_text ended p.0) (all was.state w.content w.holds w.stands))
 
-    pub halted_given : (result : Result Response Stop) → All result → OnErr result ((limit : ℕ) (ended : List ℕ) → ShowsText limit given ended → (was : World) → Shows old was → Halted limit (statement ended) was old new)
+    pub halted_given : (result : Result Response Stop) → All result → OnErr result (HaltsInText given old new)
     halted_given (Ok response) all = tt
     halted_given (Err DiskStop) all = λ limit ended shown was w.
         let p : (bytes.now ≡ ended) × (length ended ≤ limit) = shown_as limit ended shown in
@@ -162,7 +162,7 @@ rest_keeps limit m bytes = by_test (leb (length bytes) limit) refl
     by_test true e = rw e (rest_keeps_read m (read_bytes bytes))
     by_test false e = rw e refl
 
-pub replied_rest : (limit : ℕ) (rest bytes : List ℕ) (was : World) (k : KeeperView) → k.ready → IsSettled k → bytes ≡ reply_by (rest_step limit was.state rest) → Shows k was → Replied limit (rest_piece rest) was k k bytes
+pub replied_rest : (limit : ℕ) (rest bytes : List ℕ) (was : World) (k : KeeperView) → k.ready → IsDurable k → bytes ≡ reply_by (rest_step limit was.state rest) → Shows k was → Replied limit (rest_piece rest) was k k bytes
 replied_rest limit rest bytes was k ready settled is shows =
     replied_by limit (rest_piece rest) was k k shows Step bytes
     (moves_not was.state (rest_step limit was.state rest) shows.content k ready settled shows.holds (subst (Stands shows.content) (sym (rest_keeps limit was.state rest)) shows.stands))

@@ -5,18 +5,18 @@ use Rattle.ct_base.specs.laws.Moments.{passes_none, passes_nothing, passes_then}
 use Rattle.ct_base.specs.Told.{with_prefix, with_suffix, IsNothing}
 use Rattle.ct_base.specs.laws.Told.{with_prefix-nil, with_prefix_twice, with_suffix-nil, with_suffix_twice}
 use Rattle.ct_keep.specs.Content.{Content}
-use Rattle.ct_keep.specs.KeeperViews.{KeeperView, PassesRoom, IsSettled}
+use Rattle.ct_keep.specs.KeeperViews.{KeeperView, Counts, PassesRoom, IsDurable}
 use Rattle.ct_keep.specs.Composing.{same_aside, same_limit, passes_behind, passes_as}
 use Rattle.st_cut.specs.Seen.{Seen, StandsOpen}
 use Rattle.db_state.specs.States.{State, Stands}
 use Rattle.db_engine.specs.Runs.{Turn, turn, pieces, state_after, transcript, state_after-append, transcript-append, AllAllowed}
-use Rattle.db_console.specs.declared.saying.Stop.{Stop}
-use Rattle.db_console.specs.declared.saying.Stop.TheVariants.{Say, Disk}
+use Rattle.db_console.specs.declared.saying.AnswerFault.{AnswerFault}
+use Rattle.db_console.specs.declared.saying.AnswerFault.TheVariants.{Say, Disk}
 use Rattle.db_console.specs.declared.endings.Ending.{Ending}
 use Rattle.db_console.specs.declared.endings.Ending.TheVariants.{Done, HearFault, SayFault, NoMemory, DiskFault, PastLimit}
-use Rattle.db_console.specs.Worlds.{World, LeavesState, IsMoment, Leads, Served, ServedTo, world_after}
+use Rattle.db_console.specs.Worlds.{World, LeavesState, IsMoment, Leads, Served, ServedTo, CommitsWithin, world_after}
 use Rattle.db_console.specs.Asking.{AskedThen, Calls}
-use Rattle.db_console.specs.Views.{Shows, EndsHere, FaultsAre, NoFault, Heard, StopsFor, Serves, Broke, Breaks, Finishes, UnlessByDisk}
+use Rattle.db_console.specs.Views.{Shows, EndsHere, FaultsAre, NoFault, Heard, FailsBy, Serves, Broke, Breaks, Finishes, UnlessByDisk}
 use Rattle.db_console.specs.Table.{status_of, ending_of, Closes, AreFirst, SaidInPart, FailedInLast, SaidAll, Ends, Course, Because, FaultsBy, Outcome, TellsPast, IsReadyAfter}
 use Rattle.db_console.proofs.Asked.{calls_none, calls_more, calls_same, calls_asked, asked_now, asked_taken, asked_as, asked_turns}
 use Rattle.db_console.proofs.WorldLaws.{pieces-append, served_as, served_on, served_then, served_start, allowed_then, moment_later}
@@ -30,7 +30,7 @@ shows_heard failed old new bytes world h w = record { said = h.hears.said ∙ w.
 
 -- and adds no moment
 unfoldable served_heard : (limit store : ℕ) (failed : Bool) (bytes heard : List ℕ) (was is : World) (old mid new : KeeperView) (cutter : Seen) → Heard failed heard mid new
-    → ServedTo limit store [] bytes was is old.time mid.time cutter → ServedTo limit store [] bytes was is old.time new.time cutter
+    → ServedTo limit store [] bytes was is old mid cutter → ServedTo limit store [] bytes was is old new cutter
 served_heard limit store failed bytes heard was is old mid new cutter h s = record {
   served = record {
     turns = s.served.turns;
@@ -38,6 +38,7 @@ served_heard limit store failed bytes heard was is old mid new cutter h s = reco
     cut = s.served.cut;
     leads = s.served.leads;
     moments = passes_then old.time mid.time new.time _ s.served.moments (passes_nothing mid.time new.time _ h.hears.time);
+    commits = subst (λ (n : Counts). CommitsWithin s.served.turns old.counts n) (sym h.hears.apart.counts) s.served.commits;
   };
   stands = s.stands;
 }
@@ -48,14 +49,14 @@ served_heard limit store failed bytes heard was is old mid new cutter h s = reco
 pub record SoFar (limit : ℕ) (heard piece : List ℕ) (was : World) (old now : KeeperView) (cutter : Seen) : Type 0 where
   pub is : World
   pub shows : Shows now is
-  pub served : ServedTo limit old.fixed.limit [] heard was is old.time now.time cutter
+  pub served : ServedTo limit old.fixed.limit [] heard was is old now cutter
   pub asked : Calls old.beside.hearings now.beside.hearings (AskedThen old.beside.left (heard ++ piece) limit was served.served.turns)
 
 -- so many bytes were taken and served, and then this piece was heard, by a call that may have failed
 pub record Going (failed : Bool) (limit taken : ℕ) (piece : List ℕ) (old now : KeeperView) (cutter : Seen) : Type 0 where
   pub heard : List ℕ
   pub count : length heard ≡ taken
-  pub front : old.beside.left ≡ with_prefix (heard ++ piece) now.beside.left
+  pub prefix : old.beside.left ≡ with_prefix (heard ++ piece) now.beside.left
   pub faults : FaultsAre failed false false old now
   pub fixed : now.fixed ≡ old.fixed
   pub ready : now.ready
@@ -65,11 +66,11 @@ pub going_start : (limit : ℕ) (view : KeeperView) (cutter : Seen) → view.rea
 going_start limit view cutter ready s = record {
   heard = [];
   count = refl;
-  front = sym (with_prefix-nil view.beside.left);
+  prefix = sym (with_prefix-nil view.beside.left);
   faults = faults_none view;
   fixed = refl;
   ready = ready;
-  going = λ was w. record { is = was; shows = w; served = served_start limit view.fixed.limit [] was view.time cutter s; asked = calls_none view.beside.hearings _ };
+  going = λ was w. record { is = was; shows = w; served = served_start limit view.fixed.limit [] was view cutter s; asked = calls_none view.beside.hearings _ };
 }
 
 pub going_heard : (failed : Bool) (limit taken : ℕ) (piece : List ℕ) (old mid now : KeeperView) (cutter : Seen) → Going false limit taken [] old mid cutter → Heard failed piece mid now → Going failed limit taken piece old now cutter
@@ -77,7 +78,7 @@ unfolding served_heard
 going_heard failed limit taken piece old mid now cutter s h = record {
   heard = s.heard;
   count = s.count;
-  front = s.front ∙ rw (append-nil s.heard, h.hears.left) (with_prefix_twice s.heard piece now.beside.left);
+  prefix = s.prefix ∙ rw (append-nil s.heard, h.hears.left) (with_prefix_twice s.heard piece now.beside.left);
   faults = faults_then failed false false old mid now s.faults (faults_heard failed mid now piece h);
   fixed = h.hears.apart.fixed ∙ s.fixed;
   ready = h.hears.apart.ready s.ready;
@@ -89,7 +90,7 @@ going_heard failed limit taken piece old mid now cutter s h = record {
         served = served_heard limit old.fixed.limit failed s.heard piece was x.is old mid now cutter h x.served;
         asked = calls_asked old.beside.hearings mid.beside now.beside _ h.hears.asks
             (calls_more old.beside.hearings mid.beside.hearings _ _ x.asked (asked_taken old.beside.left limit was s.heard piece x.served.served.turns))
-            (asked_now old.beside.left limit was s.heard piece x.served.served.turns x.served.served.rest mid.beside (rw (append-nil s.heard) at s.front) x.served.served.cut
+            (asked_now old.beside.left limit was s.heard piece x.served.served.turns x.served.served.rest mid.beside (rw (append-nil s.heard) at s.prefix) x.served.served.cut
             (x.shows.said ∙ x.served.served.leads.told ∙ ap (with_suffix was.said) x.served.served.leads.run.says));
       };
 }
@@ -100,20 +101,20 @@ unfolding served_on served_then
 going_on limit taken count piece old now new cutter later s n k = record {
   heard = s.heard ++ piece;
   count = length-append s.heard piece ∙ rw (s.count, n) refl;
-  front = rw (append-nil (s.heard ++ piece), k.frame.left) s.front;
+  prefix = rw (append-nil (s.heard ++ piece), k.unheard.left) s.prefix;
   faults = faults_then false false false old now new s.faults k.faults;
-  fixed = k.frame.fixed ∙ s.fixed;
+  fixed = k.unheard.fixed ∙ s.fixed;
   ready = k.ready;
   going = λ was w.
       let x : SoFar limit s.heard piece was old now cutter = s.going was w in
-      let y : (is : World) × Shows new is × ServedTo limit now.fixed.limit x.served.served.rest piece x.is is now.time new.time later = k.serves limit x.served.served.rest x.served.stands x.is x.shows in
-      let z : ServedTo limit old.fixed.limit x.served.served.rest piece x.is y.0 now.time new.time later =
-      subst (λ (store : ℕ). ServedTo limit store x.served.served.rest piece x.is y.0 now.time new.time later) (same_limit s.fixed) y.2 in
+      let y : (is : World) × Shows new is × ServedTo limit now.fixed.limit x.served.served.rest piece x.is is now new later = k.serves limit x.served.served.rest x.served.stands x.is x.shows in
+      let z : ServedTo limit old.fixed.limit x.served.served.rest piece x.is y.0 now new later =
+      subst (λ (store : ℕ). ServedTo limit store x.served.served.rest piece x.is y.0 now new later) (same_limit s.fixed) y.2 in
       record {
         is = y.0;
         shows = y.1;
-        served = served_then limit old.fixed.limit [] s.heard piece was x.is y.0 old.time now.time new.time later x.served.served z;
-        asked = calls_same old.beside.hearings now.beside.hearings new.beside.hearings _ k.frame.hearings
+        served = served_then limit old.fixed.limit [] s.heard piece was x.is y.0 old now new later x.served.served z;
+        asked = calls_same old.beside.hearings now.beside.hearings new.beside.hearings _ k.unheard.hearings
             (calls_more old.beside.hearings now.beside.hearings _ _ x.asked
             (λ h a. asked_as old.beside.left limit was (s.heard ++ piece) ((s.heard ++ piece) ++ []) _ h (append-nil (s.heard ++ piece))
             (asked_turns old.beside.left limit was (s.heard ++ piece) x.served.served.turns z.served.turns h a)));
@@ -131,21 +132,21 @@ shows_after limit store was now turns new l w = record {
   stands = subst (Stands w.content) l.run.state w.stands;
 }
 
--- what a stop leaves now, where a front of all that the turns say was said
-moment_now : (limit : ℕ) (was : World) (turns : List Turn) (new : KeeperView) (said rest : List ℕ) → transcript limit was.state turns ≡ said ++ rest → IsSettled new
+-- what a crash leaves now, where a prefix of all that the turns say was said
+moment_now : (limit : ℕ) (was : World) (turns : List Turn) (new : KeeperView) (said rest : List ℕ) → transcript limit was.state turns ≡ said ++ rest → IsDurable new
     → Shows new (record { state = state_after limit was.state turns; said = with_suffix was.said said }) → (x : Option Content) (w : List ℕ) → new.now x w → IsMoment limit was turns x w
-moment_now limit was turns new said rest front settled shows x w n =
+moment_now limit was turns new said rest prefix settled shows x w n =
     let p = settled.here shows.content shows.holds x w n in
     record {
       done = turns;
       later = [];
       split = sym (append-nil turns);
       leaves = record { content = shows.content; is = p.0; stands = shows.stands };
-      says = record { part = said; later = rest; split = front; is = sym shows.said ∙ p.1 };
+      says = record { part = said; later = rest; split = prefix; is = sym shows.said ∙ p.1 };
     }
 
 -- all was said
-turns_all : (limit most store : ℕ) (whole : Bool) (taken script : List ℕ) (was now : World) (old new : KeeperView) (ending : Ending) → store ≡ old.fixed.limit → IsSettled new → Shows new now → (s : Served limit store whole [] script was now old.time new.time)
+turns_all : (limit most store : ℕ) (whole : Bool) (taken script : List ℕ) (was now : World) (old new : KeeperView) (ending : Ending) → store ≡ old.fixed.limit → IsDurable new → Shows new now → (s : Served limit store whole [] script was now old new)
     → Calls old.beside.hearings new.beside.hearings (AskedThen old.beside.left taken limit was s.turns) → (SaidAll limit whole script was s.turns new → Ends limit most taken was s.turns new ending) → Course limit most taken was old new ending
 turns_all limit most store whole taken script was now old new ending is settled w s asked ends =
     let shows : Shows new (world_after limit was s.turns) = shows_after limit store was now s.turns new s.leads w in
@@ -154,14 +155,15 @@ turns_all limit most store whole taken script was now old new ending is settled 
       allowed = subst (λ (n : ℕ). AllAllowed limit n was.state s.turns) is s.leads.allowed;
       ends = ends (record { rest = s.rest; cut = s.cut; shows = shows; settled = settled });
       moments = s.moments;
+      commits = s.commits;
       now = moment_now limit was s.turns new (transcript limit was.state s.turns) [] (sym (append-nil (transcript limit was.state s.turns))) settled shows;
       asked = asked;
     }
 
-pub out_memory : (limit most : ℕ) (view : KeeperView) → view.ready → IsSettled view → Outcome limit most view view NoMemory
+pub out_memory : (limit most : ℕ) (view : KeeperView) → view.ready → IsDurable view → Outcome limit most view view NoMemory
 out_memory limit most view ready settled = record {
   taken = [];
-  front = sym (with_prefix-nil view.beside.left);
+  prefix = sym (with_prefix-nil view.beside.left);
   faults = faults_none view;
   fixed = refl;
   because = (refl, refl);
@@ -171,6 +173,7 @@ out_memory limit most view ready settled = record {
     allowed = tt;
     ends = (refl, w, settled);
     moments = passes_none view.time _;
+    commits = omega arith;
     now = moment_now limit was [] view [] [] refl settled (record { said = w.said ∙ sym (with_suffix-nil was.said); content = w.content; holds = w.holds; stands = w.stands });
     asked = calls_none view.beside.hearings _;
   };
@@ -181,12 +184,12 @@ asked_whole : (limit : ℕ) (taken : List ℕ) (was : World) (turns : List Turn)
     → Calls old.beside.hearings new.beside.hearings (AskedThen old.beside.left taken limit was turns)
 asked_whole limit taken was turns old new calls = calls_more _ _ _ _ calls (λ h a. asked_as old.beside.left limit was (taken ++ []) taken turns h (sym (append-nil taken)) a)
 
-pub out_fault : (limit most taken : ℕ) (old mid now : KeeperView) (cutter : Seen) → (now.ready → IsSettled now) → Going false limit taken [] old mid cutter → taken ≤ most → Heard true [] mid now → Outcome limit most old now HearFault
+pub out_fault : (limit most taken : ℕ) (old mid now : KeeperView) (cutter : Seen) → (now.ready → IsDurable now) → Going false limit taken [] old mid cutter → taken ≤ most → Heard true [] mid now → Outcome limit most old now HearFault
 out_fault limit most taken old mid now cutter settled before h k =
     let s : Going true limit taken [] old now cutter = going_heard true limit taken [] old mid now cutter before k in
     record {
       taken = s.heard;
-      front = rw (append-nil s.heard) at s.front;
+      prefix = rw (append-nil s.heard) at s.prefix;
       faults = s.faults;
       fixed = s.fixed;
       because = rw s.count h;
@@ -196,9 +199,9 @@ out_fault limit most taken old mid now cutter settled before h k =
           turns_all limit most old.fixed.limit false s.heard s.heard was x.is old now HearFault refl (settled s.ready) x.shows x.served.served (asked_whole limit s.heard was x.served.served.turns old now x.asked) (λ e. e);
     }
 
--- ---- where it was stopped
+-- ---- where an answer broke off
 
-module _ (limit store : ℕ) (whole : Bool) (stop : Stop) (taken : List ℕ) (was : World) (old new : KeeperView) (k : Broke limit store whole stop [] taken was old new) where
+module _ (limit store : ℕ) (whole : Bool) (fault : AnswerFault) (taken : List ℕ) (was : World) (old new : KeeperView) (k : Broke limit store whole fault [] taken was old new) where
   abbrev all : List Turn
   all = k.turns ++ k.last ∷ []
 
@@ -236,7 +239,7 @@ said_in_part limit store whole taken was old new k = record {
     is = said_last limit store whole Say taken was old new k ∙ rw k.by.reply.is (sym (append_assoc k.leads.said k.by.part k.by.reply.rest));
     more = k.by.reply.more;
   };
-  front = record { rest = k.by.part; is = rw k.leads.run.says refl };
+  prefix = record { rest = k.by.part; is = rw k.leads.run.says refl };
   passes =
       let last : PassesRoom new.fixed.say_room (with_suffix was.said k.leads.said) (turn limit k.mid.state k.last).1 = passes_as _ _ _ _ _ _ k.by.passes refl (sym k.leads.told) refl in
       passes_as _ _ _ _ _ _ (passes_behind new.fixed.say_room was.said k.leads.said (turn limit k.mid.state k.last).1 last) refl refl (said_last limit store whole Say taken was old new k);
@@ -253,83 +256,85 @@ failed_in_last limit store whole taken was old new k = record {
       (subst (λ (m : State). LeavesState x k.mid.state ⊎ LeavesState x m) (sym (state_last limit store whole Disk taken was old new k)) (k.by.now x w n).leaves);
 }
 
-turns_stopped : (stop : Stop) (limit most store : ℕ) (whole : Bool) (taken : List ℕ) (was : World) (old new : KeeperView) → store ≡ old.fixed.limit → (whole ≡ true → EndsHere new.beside) → (k : Broke limit store whole stop [] taken was old new)
-    → Calls old.beside.hearings new.beside.hearings (AskedThen old.beside.left taken limit was (k.turns ++ k.last ∷ [])) → Course limit most taken was old new (ending_of stop)
-turns_stopped Say limit most store whole taken was old new is n k asked =
+turns_broken_off : (fault : AnswerFault) (limit most store : ℕ) (whole : Bool) (taken : List ℕ) (was : World) (old new : KeeperView) → store ≡ old.fixed.limit → (whole ≡ true → EndsHere new.beside) → (k : Broke limit store whole fault [] taken was old new)
+    → Calls old.beside.hearings new.beside.hearings (AskedThen old.beside.left taken limit was (k.turns ++ k.last ∷ [])) → Course limit most taken was old new (ending_of fault)
+turns_broken_off Say limit most store whole taken was old new is n k asked =
     let s : SaidInPart limit whole taken was (k.turns ++ k.last ∷ []) new = said_in_part limit store whole taken was old new k in
     record {
       turns = k.turns ++ k.last ∷ [];
       allowed = subst (λ (n : ℕ). AllAllowed limit n was.state (k.turns ++ k.last ∷ [])) is (all_allowed limit store whole Say taken was old new k);
       ends = (whole, n, s);
       moments = k.moments;
+      commits = k.commits;
       now = moment_now limit was (k.turns ++ k.last ∷ []) new s.said s.part.rest s.part.is k.by.settled s.shows;
       asked = asked;
     }
-turns_stopped Disk limit most store whole taken was old new is n k asked = record {
+turns_broken_off Disk limit most store whole taken was old new is n k asked = record {
   turns = k.turns ++ k.last ∷ [];
   allowed = subst (λ (n : ℕ). AllAllowed limit n was.state (k.turns ++ k.last ∷ [])) is (all_allowed limit store whole Disk taken was old new k);
   ends = (whole, n, failed_in_last limit store whole taken was old new k);
   moments = k.moments;
+  commits = k.commits;
   now = λ x w m. moment_later limit store was k.mid k.turns (k.last ∷ []) k.leads x w (either limit k.mid k.last x w (k.by.now x w m));
   asked = asked;
 }
 
-because_of : (stop : Stop) (most : ℕ) (taken : List ℕ) (old now new : KeeperView) → now.fixed ≡ old.fixed → length taken ≤ most → StopsFor stop now new → Because most taken old new (ending_of stop)
+because_of : (fault : AnswerFault) (most : ℕ) (taken : List ℕ) (old now new : KeeperView) → now.fixed ≡ old.fixed → length taken ≤ most → FailsBy fault now new → Because most taken old new (ending_of fault)
 because_of Say most taken old now new same h r = h
 because_of Disk most taken old now new same h r = (h, sym (same_aside same) ∙ r.calls)
 
-faults_of : (stop : Stop) (old now new : KeeperView) → NoFault old now → StopsFor stop now new → FaultsBy (status_of (ending_of stop)) old new
+faults_of : (fault : AnswerFault) (old now new : KeeperView) → NoFault old now → FailsBy fault now new → FaultsBy (status_of (ending_of fault)) old new
 faults_of Say old now new f r = faults_then false true false old now new f r.faults
 faults_of Disk old now new f r = faults_then false false true old now new f r.faults
 
-ready_after : (stop : Stop) (new : KeeperView) → UnlessByDisk stop new.ready → IsReadyAfter (ending_of stop) new
+ready_after : (fault : AnswerFault) (new : KeeperView) → UnlessByDisk fault new.ready → IsReadyAfter (ending_of fault) new
 ready_after Say new r = r
 ready_after Disk new r = tt
 
-pub out_broke : (stop : Stop) (limit most taken : ℕ) (piece : List ℕ) (old now new : KeeperView) (cutter : Seen) (ending : Ending) → Going false limit taken piece old now cutter → taken + length piece ≤ most
-    → (whole : Bool) → (whole ≡ true → EndsHere now.beside) → Breaks whole stop piece now new cutter → ending ≡ ending_of stop → Outcome limit most old new ending
+pub out_broke : (fault : AnswerFault) (limit most taken : ℕ) (piece : List ℕ) (old now new : KeeperView) (cutter : Seen) (ending : Ending) → Going false limit taken piece old now cutter → taken + length piece ≤ most
+    → (whole : Bool) → (whole ≡ true → EndsHere now.beside) → Breaks whole fault piece now new cutter → ending ≡ ending_of fault → Outcome limit most old new ending
 unfolding broke_then
-out_broke stop limit most taken piece old now new cutter ending s h whole n k e = rw e (record {
+out_broke fault limit most taken piece old now new cutter ending s h whole n k e = rw e (record {
   taken = s.heard ++ piece;
-  front = rw k.frame.left s.front;
-  faults = faults_of stop old now new s.faults k.cause;
-  fixed = k.frame.fixed ∙ s.fixed;
-  because = because_of stop most (s.heard ++ piece) old now new s.fixed (omega (arith, length-append s.heard piece, s.count, h)) k.cause;
-  ready = ready_after stop new k.ready;
+  prefix = rw k.unheard.left s.prefix;
+  faults = faults_of fault old now new s.faults k.cause;
+  fixed = k.unheard.fixed ∙ s.fixed;
+  because = because_of fault most (s.heard ++ piece) old now new s.fixed (omega (arith, length-append s.heard piece, s.count, h)) k.cause;
+  ready = ready_after fault new k.ready;
   course = λ was w.
       let x : SoFar limit s.heard piece was old now cutter = s.going was w in
-      let b : Broke limit old.fixed.limit whole stop x.served.served.rest piece x.is now new =
-      subst (λ (store : ℕ). Broke limit store whole stop x.served.served.rest piece x.is now new) (same_limit s.fixed) (k.breaks limit x.served.served.rest x.served.stands x.is x.shows) in
-      turns_stopped stop limit most old.fixed.limit whole (s.heard ++ piece) was old new refl (λ x. subst IsNothing (sym k.frame.left) (n x))
-      (broke_then limit old.fixed.limit whole stop [] s.heard piece was x.is old now new x.served.served b)
-      (calls_same old.beside.hearings now.beside.hearings new.beside.hearings _ k.frame.hearings
+      let b : Broke limit old.fixed.limit whole fault x.served.served.rest piece x.is now new =
+      subst (λ (store : ℕ). Broke limit store whole fault x.served.served.rest piece x.is now new) (same_limit s.fixed) (k.breaks limit x.served.served.rest x.served.stands x.is x.shows) in
+      turns_broken_off fault limit most old.fixed.limit whole (s.heard ++ piece) was old new refl (λ x. subst IsNothing (sym k.unheard.left) (n x))
+      (broke_then limit old.fixed.limit whole fault [] s.heard piece was x.is old now new x.served.served b)
+      (calls_same old.beside.hearings now.beside.hearings new.beside.hearings _ k.unheard.hearings
       (calls_more old.beside.hearings now.beside.hearings _ _ x.asked
       (λ h a. asked_turns old.beside.left limit was (s.heard ++ piece) (x.served.served.turns ++ b.turns) (b.last ∷ []) h (asked_turns old.beside.left limit was (s.heard ++ piece) x.served.served.turns b.turns h a))));
 })
 
-out_done : (limit most taken : ℕ) (old now new : KeeperView) (cutter : Seen) → (new.ready → IsSettled new) → Going false limit taken [] old now cutter → taken ≤ most → EndsHere now.beside → Finishes now new cutter → Outcome limit most old new Done
+out_done : (limit most taken : ℕ) (old now new : KeeperView) (cutter : Seen) → (new.ready → IsDurable new) → Going false limit taken [] old now cutter → taken ≤ most → EndsHere now.beside → Finishes now new cutter → Outcome limit most old new Done
 unfolding served_on served_as
 out_done limit most taken old now new cutter settled s h n k = record {
   taken = s.heard;
-  front = rw k.frame.left (rw (append-nil s.heard) at s.front);
+  prefix = rw k.unheard.left (rw (append-nil s.heard) at s.prefix);
   faults = faults_then false false false old now new s.faults k.faults;
-  fixed = k.frame.fixed ∙ s.fixed;
-  because = (rw s.count h, subst IsNothing (sym k.frame.left) n);
+  fixed = k.unheard.fixed ∙ s.fixed;
+  because = (rw s.count h, subst IsNothing (sym k.unheard.left) n);
   ready = k.ready;
   course = λ was w.
       let x : SoFar limit s.heard [] was old now cutter = s.going was w in
-      let y : (is : World) × Shows new is × Served limit now.fixed.limit true x.served.served.rest [] x.is is now.time new.time = k.serves limit x.served.served.rest x.served.stands x.is x.shows in
-      let last : Served limit old.fixed.limit true x.served.served.rest [] x.is y.0 now.time new.time =
-      subst (λ (store : ℕ). Served limit store true x.served.served.rest [] x.is y.0 now.time new.time) (same_limit s.fixed) y.2 in
+      let y : (is : World) × Shows new is × Served limit now.fixed.limit true x.served.served.rest [] x.is is now new = k.serves limit x.served.served.rest x.served.stands x.is x.shows in
+      let last : Served limit old.fixed.limit true x.served.served.rest [] x.is y.0 now new =
+      subst (λ (store : ℕ). Served limit store true x.served.served.rest [] x.is y.0 now new) (same_limit s.fixed) y.2 in
       turns_all limit most old.fixed.limit true s.heard s.heard was y.0 old new Done refl (settled k.ready) y.1
-      (served_as limit old.fixed.limit true [] (s.heard ++ []) s.heard was y.0 old.time new.time (append-nil s.heard) (served_on limit old.fixed.limit true [] s.heard [] was x.is y.0 old.time now.time new.time x.served.served last))
-      (calls_same old.beside.hearings now.beside.hearings new.beside.hearings _ k.frame.hearings
+      (served_as limit old.fixed.limit true [] (s.heard ++ []) s.heard was y.0 old new (append-nil s.heard) (served_on limit old.fixed.limit true [] s.heard [] was x.is y.0 old now new x.served.served last))
+      (calls_same old.beside.hearings now.beside.hearings new.beside.hearings _ k.unheard.hearings
       (calls_more old.beside.hearings now.beside.hearings _ _ (asked_whole limit s.heard was x.served.served.turns old now x.asked)
       (asked_turns old.beside.left limit was s.heard x.served.served.turns last.turns)))
       (λ e. e);
 }
 
-pub out_closed : (ending : Ending) (limit most taken : ℕ) (old mid now new : KeeperView) (cutter : Seen) → (new.ready → IsSettled new) → Going false limit taken [] old mid cutter → Heard false [] mid now → taken ≤ most → EndsHere now.beside
+pub out_closed : (ending : Ending) (limit most taken : ℕ) (old mid now new : KeeperView) (cutter : Seen) → (new.ready → IsDurable new) → Going false limit taken [] old mid cutter → Heard false [] mid now → taken ≤ most → EndsHere now.beside
     → Closes ending now new cutter → Outcome limit most old new ending
 out_closed Done limit most taken old mid now new cutter settled s h t n k = out_done limit most taken old now new cutter settled (going_heard false limit taken [] old mid now cutter s h) t n k
 out_closed HearFault limit most taken old mid now new cutter settled s h t n k = absurd k
@@ -340,12 +345,12 @@ out_closed DiskFault limit most taken old mid now new cutter settled s h t n k =
     out_broke Disk limit most taken [] old now new cutter DiskFault (going_heard false limit taken [] old mid now cutter s h) (omega arith) true (λ e. n) k refl
 out_closed PastLimit limit most taken old mid now new cutter settled s h t n k = absurd k
 
-pub out_past : (limit most taken byte : ℕ) (old mid now : KeeperView) (cutter : Seen) → (now.ready → IsSettled now) → Going false limit taken [] old mid cutter → Heard false (byte ∷ []) mid now → taken ≡ most → Outcome limit most old now PastLimit
+pub out_past : (limit most taken byte : ℕ) (old mid now : KeeperView) (cutter : Seen) → (now.ready → IsDurable now) → Going false limit taken [] old mid cutter → Heard false (byte ∷ []) mid now → taken ≡ most → Outcome limit most old now PastLimit
 out_past limit most taken byte old mid now cutter settled before k h =
     let s : Going false limit taken (byte ∷ []) old now cutter = going_heard false limit taken (byte ∷ []) old mid now cutter before k in
     record {
       taken = s.heard ++ byte ∷ [];
-      front = s.front;
+      prefix = s.prefix;
       faults = s.faults;
       fixed = s.fixed;
       because = omega (arith, length-append s.heard (byte ∷ []), s.count);
@@ -375,6 +380,6 @@ taken_told taken other left e =
 pub tells_past : (ending : Ending) (limit most : ℕ) (old new : KeeperView) → Outcome limit most old new ending → TellsPast most (status_of ending) old.beside new.beside
 tells_past ending limit most old new o = record {
   tells = λ taken left before after.
-      let f : Some (taken ++ left) ≡ Some (o.taken ++ left) = sym before ∙ o.front ∙ ap (with_prefix o.taken) after in
+      let f : Some (taken ++ left) ≡ Some (o.taken ++ left) = sym before ∙ o.prefix ∙ ap (with_prefix o.taken) after in
       rw (taken_told taken o.taken left f) (past_taken ending most o.taken old new o.because);
 }

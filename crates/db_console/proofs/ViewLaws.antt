@@ -8,22 +8,22 @@ use Rattle.st_cut.proofs.Cutting.{ended_text, no_text, some_cut}
 use Rattle.ct_keep.specs.Composing.{same_limit}
 use Rattle.ct_keep.specs.KeeperViews.{KeeperView}
 use Rattle.db_engine.specs.Runs.{Piece, statement, rest_piece, turn_by, pieces}
-use Rattle.db_console.specs.declared.saying.Stop.{Stop}
-use Rattle.db_console.specs.Worlds.{World, HasPieces, Served, ServedTo, Answered}
-use Rattle.db_console.specs.Views.{Shows, Answers, Stopped, Stops, Serves, Broke, Breaks, Finishes}
-use Rattle.db_console.proofs.WorldLaws.{leads_none, leads_then, moments_then, pieces_then, pieces-append, served_then, served_open, served_statement, served_last, served_rest, newline_piece, ended_piece, rest_alone}
-use Rattle.db_console.proofs.Lasting.{faults_none, faults_then, frame_none, frame_then, stops_for_then}
+use Rattle.db_console.specs.declared.saying.AnswerFault.{AnswerFault}
+use Rattle.db_console.specs.Worlds.{World, HasPieces, Served, ServedTo, Answered, CommitsFor}
+use Rattle.db_console.specs.Views.{Shows, Answers, AnswersText, BrokeOff, BreaksOff, BreaksOffText, Serves, Broke, Breaks, Finishes}
+use Rattle.db_console.proofs.WorldLaws.{leads_none, leads_then, moments_then, commits_then, commits_turn, pieces_then, pieces-append, served_then, served_open, served_statement, served_last, served_rest, newline_piece, ended_piece, rest_alone}
+use Rattle.db_console.proofs.Lasting.{faults_none, faults_then, frame_none, frame_then, fails_by_then}
 
 pub if_err_weaker : {T E : Type 0} (r : Result T E) (P Q : E → Type 0) → ((e : E) → P e → Q e) → IfErr r P → IfErr r Q
 if_err_weaker (Ok x) P Q f h = h
 if_err_weaker (Err e) P Q f h = f e h
 
--- ---- where serving stopped
+-- ---- where serving broke off
 
 -- in the first piece
-broke_first : (limit : ℕ) (whole : Bool) (stop : Stop) (held bytes : List ℕ) (last : Piece) (later : List Piece) (rest : List ℕ) (was : World) (old new : KeeperView)
-    → HasPieces whole (held ++ bytes) (last ∷ later) rest → Stopped limit last stop was old new → Broke limit old.fixed.limit whole stop held bytes was old new
-broke_first limit whole stop held bytes last later rest was old new p a = record {
+broke_first : (limit : ℕ) (whole : Bool) (fault : AnswerFault) (held bytes : List ℕ) (last : Piece) (later : List Piece) (rest : List ℕ) (was : World) (old new : KeeperView)
+    → HasPieces whole (held ++ bytes) (last ∷ later) rest → BrokeOff limit last fault was old new → CommitsFor last old.counts new.counts → Broke limit old.fixed.limit whole fault held bytes was old new
+broke_first limit whole fault held bytes last later rest was old new p a c = record {
   turns = [];
   mid = was;
   leads = leads_none limit old.fixed.limit was;
@@ -33,13 +33,14 @@ broke_first limit whole stop held bytes last later rest was old new p a = record
   rest = rest;
   cut = p;
   moments = a.moments;
+  commits = commits_turn (turn_by last a.answer) old.counts new.counts c;
   by = a.by;
 }
 
 -- behind other bytes that were served
-unfoldable pub broke_then : (limit store : ℕ) (whole : Bool) (stop : Stop) (held a b : List ℕ) (was is : World) (old mid new : KeeperView)
-    → (s : Served limit store false held a was is old.time mid.time) → Broke limit store whole stop s.rest b is mid new → Broke limit store whole stop held (a ++ b) was old new
-broke_then limit store whole stop held a b was is old mid new s k = record {
+unfoldable pub broke_then : (limit store : ℕ) (whole : Bool) (fault : AnswerFault) (held a b : List ℕ) (was is : World) (old mid new : KeeperView)
+    → (s : Served limit store false held a was is old mid) → Broke limit store whole fault s.rest b is mid new → Broke limit store whole fault held (a ++ b) was old new
+broke_then limit store whole fault held a b was is old mid new s k = record {
   turns = s.turns ++ k.turns;
   mid = k.mid;
   leads = leads_then limit store was is k.mid s.turns k.turns s.leads k.leads;
@@ -49,13 +50,14 @@ broke_then limit store whole stop held a b was is old mid new s k = record {
   rest = k.rest;
   cut = rw (sym (append_assoc held a b), pieces-append s.turns k.turns, append_assoc (pieces s.turns) (pieces k.turns) (k.last.piece ∷ k.later))
       (pieces_then whole (held ++ a) b (pieces s.turns) (pieces k.turns ++ k.last.piece ∷ k.later) s.rest k.rest s.cut k.cut);
-  moments = rw (append_assoc s.turns k.turns (k.last ∷ [])) (moments_then limit store was is s.turns (k.turns ++ k.last ∷ []) old.time mid.time new.time s.leads s.moments k.moments);
+  moments = rw (append_assoc s.turns k.turns (k.last ∷ [])) (moments_then limit store was is s.turns (k.turns ++ k.last ∷ []) old mid new s.leads s.moments k.moments);
+  commits = rw (append_assoc s.turns k.turns (k.last ∷ [])) (commits_then s.turns (k.turns ++ k.last ∷ []) old.counts mid.counts new.counts s.commits k.commits);
   by = k.by;
 }
 
--- the bytes behind the stop have pieces too, which nothing answers
-broke_before : (limit store : ℕ) (stop : Stop) (held a b : List ℕ) (was : World) (old new : KeeperView) → Broke limit store false stop held a was old new → Broke limit store false stop held (a ++ b) was old new
-broke_before limit store stop held a b was old new k =
+-- the bytes behind the fault have pieces too, which nothing answers
+broke_before : (limit store : ℕ) (fault : AnswerFault) (held a b : List ℕ) (was : World) (old new : KeeperView) → Broke limit store false fault held a was old new → Broke limit store false fault held (a ++ b) was old new
+broke_before limit store fault held a b was old new k =
     let c : (ss : List (List ℕ)) × (rest : List ℕ) × Cuts false (k.rest ++ b) ss rest = some_cut false (k.rest ++ b) in
     record {
       turns = k.turns;
@@ -68,6 +70,7 @@ broke_before limit store stop held a b was old new k =
       cut = rw (sym (append_assoc held a b), sym (append_assoc (pieces k.turns) (k.last.piece ∷ k.later) (map statement c.0)))
           (pieces_then false (held ++ a) b (pieces k.turns ++ k.last.piece ∷ k.later) (map statement c.0) k.rest c.1 k.cut (record { statements = c.0; cut = c.2; are = refl }));
       moments = k.moments;
+      commits = k.commits;
       by = k.by;
     }
 
@@ -76,10 +79,10 @@ broke_before limit store stop held a b was old new k =
 -- nothing is answered by bytes that stay open
 pub serves_push : (view : KeeperView) (bytes : List ℕ) (before after : Seen) → view.ready → ((limit : ℕ) (held : List ℕ) → StandsOpen limit before held → StandsOpen limit after (held ++ bytes)) → Serves bytes view view before after
 serves_push view bytes before after ready h = record {
-  frame = frame_none view;
+  unheard = frame_none view;
   faults = faults_none view;
   ready = ready;
-  serves = λ limit held s was w. (was, w, served_open limit view.fixed.limit held bytes was view.time after (h limit held s));
+  serves = λ limit held s was w. (was, w, served_open limit view.fixed.limit held bytes was view after (h limit held s));
 }
 
 pub serves_none : (view : KeeperView) (cutter : Seen) → view.ready → Serves [] view view cutter cutter
@@ -87,36 +90,36 @@ serves_none view cutter ready = serves_push view [] cutter cutter ready (λ limi
 
 serves_then : (a b : List ℕ) (old mid new : KeeperView) (before between after : Seen) → Serves a old mid before between → Serves b mid new between after → Serves (a ++ b) old new before after
 serves_then a b old mid new before between after s t = record {
-  frame = frame_then old mid new s.frame t.frame;
+  unheard = frame_then old mid new s.unheard t.unheard;
   faults = faults_then false false false old mid new s.faults t.faults;
   ready = t.ready;
   serves = λ limit held h was w.
-      let x : (now : World) × Shows mid now × ServedTo limit old.fixed.limit held a was now old.time mid.time between = s.serves limit held h was w in
-      let y : (now : World) × Shows new now × ServedTo limit mid.fixed.limit x.2.served.rest b x.0 now mid.time new.time after = t.serves limit x.2.served.rest x.2.stands x.0 x.1 in (
+      let x : (now : World) × Shows mid now × ServedTo limit old.fixed.limit held a was now old mid between = s.serves limit held h was w in
+      let y : (now : World) × Shows new now × ServedTo limit mid.fixed.limit x.2.served.rest b x.0 now mid new after = t.serves limit x.2.served.rest x.2.stands x.0 x.1 in (
         y.0,
         y.1,
-        served_then limit old.fixed.limit held a b was x.0 y.0 old.time mid.time new.time after x.2.served
-            (subst (λ (store : ℕ). ServedTo limit store x.2.served.rest b x.0 y.0 mid.time new.time after) (same_limit s.frame.fixed) y.2),
+        served_then limit old.fixed.limit held a b was x.0 y.0 old mid new after x.2.served
+            (subst (λ (store : ℕ). ServedTo limit store x.2.served.rest b x.0 y.0 mid new after) (same_limit s.unheard.fixed) y.2),
       );
 }
 
-breaks_then : (whole : Bool) (stop : Stop) (a b : List ℕ) (old mid new : KeeperView) (before between : Seen) → Serves a old mid before between → Breaks whole stop b mid new between → Breaks whole stop (a ++ b) old new before
-breaks_then whole stop a b old mid new before between s t = record {
-  frame = frame_then old mid new s.frame t.frame;
-  cause = stops_for_then stop old mid new s.faults s.frame.fixed t.cause;
+breaks_then : (whole : Bool) (fault : AnswerFault) (a b : List ℕ) (old mid new : KeeperView) (before between : Seen) → Serves a old mid before between → Breaks whole fault b mid new between → Breaks whole fault (a ++ b) old new before
+breaks_then whole fault a b old mid new before between s t = record {
+  unheard = frame_then old mid new s.unheard t.unheard;
+  cause = fails_by_then fault old mid new s.faults s.unheard.fixed t.cause;
   ready = t.ready;
   breaks = λ limit held h was w.
-      let x : (now : World) × Shows mid now × ServedTo limit old.fixed.limit held a was now old.time mid.time between = s.serves limit held h was w in
-      broke_then limit old.fixed.limit whole stop held a b was x.0 old mid new x.2.served
-      (subst (λ (store : ℕ). Broke limit store whole stop x.2.served.rest b x.0 mid new) (same_limit s.frame.fixed) (t.breaks limit x.2.served.rest x.2.stands x.0 x.1));
+      let x : (now : World) × Shows mid now × ServedTo limit old.fixed.limit held a was now old mid between = s.serves limit held h was w in
+      broke_then limit old.fixed.limit whole fault held a b was x.0 old mid new x.2.served
+      (subst (λ (store : ℕ). Broke limit store whole fault x.2.served.rest b x.0 mid new) (same_limit s.unheard.fixed) (t.breaks limit x.2.served.rest x.2.stands x.0 x.1));
 }
 
-breaks_before : (stop : Stop) (a b : List ℕ) (old new : KeeperView) (before : Seen) → Breaks false stop a old new before → Breaks false stop (a ++ b) old new before
-breaks_before stop a b old new before t = record {
-  frame = t.frame;
+breaks_before : (fault : AnswerFault) (a b : List ℕ) (old new : KeeperView) (before : Seen) → Breaks false fault a old new before → Breaks false fault (a ++ b) old new before
+breaks_before fault a b old new before t = record {
+  unheard = t.unheard;
   cause = t.cause;
   ready = t.ready;
-  breaks = λ limit held h was w. broke_before limit old.fixed.limit stop held a b was old new (t.breaks limit held h was w);
+  breaks = λ limit held h was w. broke_before limit old.fixed.limit fault held a b was old new (t.breaks limit held h was w);
 }
 
 -- ---- a statement that ends, from the calls that answer it
@@ -133,78 +136,77 @@ ShowsEnded text before = (limit : ℕ) (held s : List ℕ) → StandsOpen limit 
 abbrev pub ShowsRest : Option (Bor (List ℕ)) → Seen → Type 0
 ShowsRest text before = (limit : ℕ) (held : List ℕ) → StandsOpen limit before held → ShowsText limit text held
 
--- what answering a text that is so shown does
-abbrev pub AnswersShown : (List ℕ → Piece) → Option (Bor (List ℕ)) → KeeperView → KeeperView → Type 0
-AnswersShown piece text old new = (limit : ℕ) (s : List ℕ) → ShowsText limit text s → Answers limit (piece s) old new
-
-abbrev pub StopsShown : (List ℕ → Piece) → Stop → Option (Bor (List ℕ)) → KeeperView → KeeperView → Type 0
-StopsShown piece stop text old new = (limit : ℕ) (s : List ℕ) → ShowsText limit text s → Stops limit (piece s) stop old new
-
-pub serves_statement : (old new : KeeperView) (before after : Seen) (text : Option (Bor (List ℕ))) → is_some before.stop ≡ true → ShowsEnded text before → AnswersShown statement text old new
+pub serves_statement : (old new : KeeperView) (before after : Seen) (text : Option (Bor (List ℕ))) → is_some before.stop ≡ true → ShowsEnded text before → AnswersText statement text old new
     → StandsOpen before.limit after [] → Serves (10 ∷ []) old new before after
 serves_statement old new before after text e show answers n = record {
-  frame = let x = shown text in (answers x.0 x.1 x.2).frame;
+  unheard = let x = shown text in (answers x.0 x.1 x.2).unheard;
   faults = let x = shown text in (answers x.0 x.1 x.2).faults;
   ready = let x = shown text in (answers x.0 x.1 x.2).ready;
   serves = λ limit held h was w.
       let t : (s : List ℕ) × (first_statement true held ≡ Some (s, [])) = ended_text limit before held h e in
-      let a : (now : World) × Shows new now × Answered limit old.fixed.limit (statement t.0) was now old.time new.time = (answers limit t.0 (show limit held t.0 h t.1)).answers was w in
-      (a.0, a.1, served_statement limit old.fixed.limit held t.0 was a.0 old.time new.time after h.opened t.1 a.2 (subst (λ (x : ℕ). StandsOpen x after []) h.limited n));
+      let one : Answers limit (statement t.0) old new = answers limit t.0 (show limit held t.0 h t.1) in
+      let a : (now : World) × Shows new now × Answered limit old.fixed.limit (statement t.0) was now old new = one.answers was w in
+      (a.0, a.1, served_statement limit old.fixed.limit held t.0 was a.0 old new after h.opened t.1 a.2 one.commits (subst (λ (x : ℕ). StandsOpen x after []) h.limited n));
 }
 
-pub breaks_statement : (stop : Stop) (old new : KeeperView) (before : Seen) (text : Option (Bor (List ℕ))) → is_some before.stop ≡ true → ShowsEnded text before → StopsShown statement stop text old new
-    → Breaks false stop (10 ∷ []) old new before
-breaks_statement stop old new before text e show answers = record {
-  frame = let x = shown text in (answers x.0 x.1 x.2).frame;
+pub breaks_statement : (fault : AnswerFault) (old new : KeeperView) (before : Seen) (text : Option (Bor (List ℕ))) → is_some before.stop ≡ true → ShowsEnded text before → BreaksOffText statement fault text old new
+    → Breaks false fault (10 ∷ []) old new before
+breaks_statement fault old new before text e show answers = record {
+  unheard = let x = shown text in (answers x.0 x.1 x.2).unheard;
   cause = let x = shown text in (answers x.0 x.1 x.2).cause;
   ready = let x = shown text in (answers x.0 x.1 x.2).ready;
   breaks = λ limit held h was w.
       let t : (s : List ℕ) × (first_statement true held ≡ Some (s, [])) = ended_text limit before held h e in
-      broke_first limit false stop held (10 ∷ []) (statement t.0) [] [] was old new (newline_piece held t.0 h.opened t.1) ((answers limit t.0 (show limit held t.0 h t.1)).stops was w);
+      let one : BreaksOff limit (statement t.0) fault old new = answers limit t.0 (show limit held t.0 h t.1) in
+      broke_first limit false fault held (10 ∷ []) (statement t.0) [] [] was old new (newline_piece held t.0 h.opened t.1) (one.breaks_off was w) one.commits;
 }
 
-pub finishes_statement : (old new : KeeperView) (before : Seen) (text : Option (Bor (List ℕ))) → is_some before.stop ≡ true → ShowsEnded text before → AnswersShown statement text old new
+pub finishes_statement : (old new : KeeperView) (before : Seen) (text : Option (Bor (List ℕ))) → is_some before.stop ≡ true → ShowsEnded text before → AnswersText statement text old new
     → Finishes old new before
 finishes_statement old new before text e show answers = record {
-  frame = let x = shown text in (answers x.0 x.1 x.2).frame;
+  unheard = let x = shown text in (answers x.0 x.1 x.2).unheard;
   faults = let x = shown text in (answers x.0 x.1 x.2).faults;
   ready = let x = shown text in (answers x.0 x.1 x.2).ready;
   serves = λ limit held h was w.
       let t : (s : List ℕ) × (first_statement true held ≡ Some (s, [])) = ended_text limit before held h e in
-      let a : (now : World) × Shows new now × Answered limit old.fixed.limit (statement t.0) was now old.time new.time = (answers limit t.0 (show limit held t.0 h t.1)).answers was w in
-      (a.0, a.1, served_last limit old.fixed.limit held t.0 was a.0 old.time new.time t.1 a.2);
+      let one : Answers limit (statement t.0) old new = answers limit t.0 (show limit held t.0 h t.1) in
+      let a : (now : World) × Shows new now × Answered limit old.fixed.limit (statement t.0) was now old new = one.answers was w in
+      (a.0, a.1, served_last limit old.fixed.limit held t.0 was a.0 old new t.1 a.2 one.commits);
 }
 
-pub breaks_last : (stop : Stop) (old new : KeeperView) (before : Seen) (text : Option (Bor (List ℕ))) → is_some before.stop ≡ true → ShowsEnded text before → StopsShown statement stop text old new
-    → Breaks true stop [] old new before
-breaks_last stop old new before text e show answers = record {
-  frame = let x = shown text in (answers x.0 x.1 x.2).frame;
+pub breaks_last : (fault : AnswerFault) (old new : KeeperView) (before : Seen) (text : Option (Bor (List ℕ))) → is_some before.stop ≡ true → ShowsEnded text before → BreaksOffText statement fault text old new
+    → Breaks true fault [] old new before
+breaks_last fault old new before text e show answers = record {
+  unheard = let x = shown text in (answers x.0 x.1 x.2).unheard;
   cause = let x = shown text in (answers x.0 x.1 x.2).cause;
   ready = let x = shown text in (answers x.0 x.1 x.2).ready;
   breaks = λ limit held h was w.
       let t : (s : List ℕ) × (first_statement true held ≡ Some (s, [])) = ended_text limit before held h e in
-      broke_first limit true stop held [] (statement t.0) (rest_piece [] ∷ []) [] was old new (ended_piece held t.0 t.1) ((answers limit t.0 (show limit held t.0 h t.1)).stops was w);
+      let one : BreaksOff limit (statement t.0) fault old new = answers limit t.0 (show limit held t.0 h t.1) in
+      broke_first limit true fault held [] (statement t.0) (rest_piece [] ∷ []) [] was old new (ended_piece held t.0 t.1) (one.breaks_off was w) one.commits;
 }
 
-pub finishes_rest : (old new : KeeperView) (before : Seen) (text : Option (Bor (List ℕ))) → is_some before.stop ≡ false → ShowsRest text before → AnswersShown rest_piece text old new
+pub finishes_rest : (old new : KeeperView) (before : Seen) (text : Option (Bor (List ℕ))) → is_some before.stop ≡ false → ShowsRest text before → AnswersText rest_piece text old new
     → Finishes old new before
 finishes_rest old new before text e show answers = record {
-  frame = let x = shown text in (answers x.0 x.1 x.2).frame;
+  unheard = let x = shown text in (answers x.0 x.1 x.2).unheard;
   faults = let x = shown text in (answers x.0 x.1 x.2).faults;
   ready = let x = shown text in (answers x.0 x.1 x.2).ready;
   serves = λ limit held h was w.
-      let a : (now : World) × Shows new now × Answered limit old.fixed.limit (rest_piece held) was now old.time new.time = (answers limit held (show limit held h)).answers was w in
-      (a.0, a.1, served_rest limit old.fixed.limit held was a.0 old.time new.time (no_text limit before held h e) a.2);
+      let one : Answers limit (rest_piece held) old new = answers limit held (show limit held h) in
+      let a : (now : World) × Shows new now × Answered limit old.fixed.limit (rest_piece held) was now old new = one.answers was w in
+      (a.0, a.1, served_rest limit old.fixed.limit held was a.0 old new (no_text limit before held h e) a.2 one.commits);
 }
 
-pub breaks_rest : (stop : Stop) (old new : KeeperView) (before : Seen) (text : Option (Bor (List ℕ))) → is_some before.stop ≡ false → ShowsRest text before → StopsShown rest_piece stop text old new
-    → Breaks true stop [] old new before
-breaks_rest stop old new before text e show answers = record {
-  frame = let x = shown text in (answers x.0 x.1 x.2).frame;
+pub breaks_rest : (fault : AnswerFault) (old new : KeeperView) (before : Seen) (text : Option (Bor (List ℕ))) → is_some before.stop ≡ false → ShowsRest text before → BreaksOffText rest_piece fault text old new
+    → Breaks true fault [] old new before
+breaks_rest fault old new before text e show answers = record {
+  unheard = let x = shown text in (answers x.0 x.1 x.2).unheard;
   cause = let x = shown text in (answers x.0 x.1 x.2).cause;
   ready = let x = shown text in (answers x.0 x.1 x.2).ready;
   breaks = λ limit held h was w.
-      broke_first limit true stop held [] (rest_piece held) [] held was old new (rest_alone held (no_text limit before held h e)) ((answers limit held (show limit held h)).stops was w);
+      let one : BreaksOff limit (rest_piece held) fault old new = answers limit held (show limit held h) in
+      broke_first limit true fault held [] (rest_piece held) [] held was old new (rest_alone held (no_text limit before held h e)) (one.breaks_off was w) one.commits;
 }
 
 -- ---- the steps of a loop over bytes
@@ -214,12 +216,12 @@ pub serves_more : (bytes : List ℕ) (i : ℕ) (old mid new : KeeperView) (befor
 serves_more bytes i old mid new before between after h s t =
     rw (take_more bytes i 0 h) (serves_then (take i bytes) (get_or bytes i 0 ∷ []) old mid new before between after s t)
 
-pub breaks_at : (stop : Stop) (bytes : List ℕ) (i : ℕ) (old mid new : KeeperView) (before between : Seen) → i < length bytes
-    → Serves (take i bytes) old mid before between → Breaks false stop (get_or bytes i 0 ∷ []) mid new between → Breaks false stop bytes old new before
-breaks_at stop bytes i old mid new before between h s t =
+pub breaks_at : (fault : AnswerFault) (bytes : List ℕ) (i : ℕ) (old mid new : KeeperView) (before between : Seen) → i < length bytes
+    → Serves (take i bytes) old mid before between → Breaks false fault (get_or bytes i 0 ∷ []) mid new between → Breaks false fault bytes old new before
+breaks_at fault bytes i old mid new before between h s t =
     let p : take i bytes ++ (get_or bytes i 0 ∷ drop (i + 1) bytes) ≡ bytes = rw (add-one, sym (drop-cons bytes i 0 h)) (take-append-drop i bytes) in
-    subst (λ (xs : List ℕ). Breaks false stop xs old new before) p
-    (breaks_then false stop (take i bytes) (get_or bytes i 0 ∷ drop (i + 1) bytes) old mid new before between s (breaks_before stop (get_or bytes i 0 ∷ []) (drop (i + 1) bytes) mid new between t))
+    subst (λ (xs : List ℕ). Breaks false fault xs old new before) p
+    (breaks_then false fault (take i bytes) (get_or bytes i 0 ∷ drop (i + 1) bytes) old mid new before between s (breaks_before fault (get_or bytes i 0 ∷ []) (drop (i + 1) bytes) mid new between t))
 
 pub serves_all : (bytes : List ℕ) (i : ℕ) (old new : KeeperView) (before after : Seen) → length bytes ≤ i → Serves (take i bytes) old new before after → Serves bytes old new before after
 serves_all bytes i old new before after h s = rw (take_all i bytes h) at s

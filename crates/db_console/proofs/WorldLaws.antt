@@ -1,12 +1,15 @@
 -- How what serving does goes on, one part after another.
-use Rattle.std.proofs.Common.{◌≡◌, ◌++◌, ◌∷◌, [], ℕ, List, Bool, true, false, leb, Option, Some, None, map, refl, sym, ap, subst, ◌∙◌, arith, append_assoc, append-nil}
+use Rattle.std.specs.Prelude.{min}
+use Rattle.std.proofs.Common.{◌≡◌, ◌≤◌, ◌+◌, ◌-◌, ◌^◌, ◌++◌, ◌∷◌, [], ℕ, List, Bool, true, false, cond, leb, Option, Some, None, map, refl, sym, ap, subst, ◌∙◌, arith, append_assoc, append-nil, ⊎_elim}
 use Rattle.std.proofs.lemmas.List.{map-append}
+use Rattle.std.proofs.lemmas.List.Sums.{sum_by-append}
 use Rattle.std.specs.Str.{chars}
 use Rattle.ct_base.specs.Moments.{Passes}
 use Rattle.ct_base.specs.laws.Moments.{passes_none, passes_more, passes_then}
 use Rattle.ct_base.specs.laws.Told.{with_suffix-nil, with_suffix_twice, says_suffix}
 use Rattle.ct_base.specs.Told.{SaysPart}
 use Rattle.ct_keep.specs.Content.{Content}
+use Rattle.ct_keep.specs.KeeperViews.{KeeperView, Counts, AtMostOneCommit}
 use Rattle.st_cut.specs.Cut.{first_statement}
 use Rattle.st_cut.specs.Seen.{Seen, StandsOpen}
 use Rattle.st_cut.proofs.Cuts.{cuts_go_on, open_newline}
@@ -14,7 +17,7 @@ use Rattle.db_state.specs.States.{State}
 use Rattle.db_state.specs.Effects.{state_by, reply_by}
 use Rattle.db_engine.specs.Steps.{rest_step}
 use Rattle.db_engine.specs.Runs.{Piece, statement, rest_piece, Step, Turn, turn_by, pieces, state_after, transcript, state_after-append, transcript-append, allowed-append, AllAllowed, Ran}
-use Rattle.db_console.specs.Worlds.{HasPieces, World, Times, LeavesState, IsMoment, Leads, Served, ServedTo, Answered}
+use Rattle.db_console.specs.Worlds.{HasPieces, World, LeavesState, IsMoment, Leads, Served, ServedTo, Answered, CommitsWithin, CommitsFor, statement_count}
 
 -- ---- turns
 
@@ -65,10 +68,29 @@ moment_later limit store old mid ts us a x w p =
     }
 
 -- the moments of some turns, and then of others
-pub moments_then : (limit store : ℕ) (old mid : World) (ts us : List Turn) (a b c : Times) → Leads limit store old ts mid
-    → Passes a b (IsMoment limit old ts) → Passes b c (IsMoment limit mid us) → Passes a c (IsMoment limit old (ts ++ us))
+pub moments_then : (limit store : ℕ) (old mid : World) (ts us : List Turn) (a b c : KeeperView) → Leads limit store old ts mid
+    → Passes a.time b.time (IsMoment limit old ts) → Passes b.time c.time (IsMoment limit mid us) → Passes a.time c.time (IsMoment limit old (ts ++ us))
 moments_then limit store old mid ts us a b c l p q =
-    passes_then a b c _ (passes_more a b _ _ p (moment_first limit old ts us)) (passes_more b c _ _ q (moment_later limit store old mid ts us l))
+    passes_then a.time b.time c.time _ (passes_more a.time b.time _ _ p (moment_first limit old ts us)) (passes_more b.time c.time _ _ q (moment_later limit store old mid ts us l))
+
+-- ---- commits
+
+statement_count-append : (ts us : List Turn) → statement_count (ts ++ us) ≡ statement_count ts + statement_count us
+statement_count-append ts us = sum_by-append (λ (t : Turn). cond t.piece.is_ended 1 0) ts us
+
+pub commits_then : (ts us : List Turn) (a b c : Counts) → CommitsWithin ts a b → CommitsWithin us b c → CommitsWithin (ts ++ us) a c
+commits_then ts us a b c first second = omega (arith, first, second, statement_count-append ts us)
+
+at_most_one_more : (old new : Counts) → AtMostOneCommit old new → new.commits ≤ old.commits + 1
+at_most_one_more old new once = ⊎_elim (λ same. omega (arith, same)) (λ one. omega (arith, one)) once
+
+-- those of one piece
+pub commits_turn : (t : Turn) (old new : Counts) → CommitsFor t.piece old new → CommitsWithin (t ∷ []) old new
+commits_turn t old new c = by_kind t.piece.is_ended refl
+  where
+    by_kind : (ended : Bool) → t.piece.is_ended ≡ ended → CommitsWithin (t ∷ []) old new
+    by_kind true is = rw is (at_most_one_more old new c.once)
+    by_kind false is = rw is (omega (arith, c.none is))
 
 -- ---- pieces
 
@@ -89,7 +111,7 @@ pieces-append ts us = map-append (λ (t : Turn). t.piece) ts us
 
 -- ---- what serving does, one part after another
 
-unfoldable pub served_on : (limit store : ℕ) (whole : Bool) (held a b : List ℕ) (old mid new : World) (t u v : Times)
+unfoldable pub served_on : (limit store : ℕ) (whole : Bool) (held a b : List ℕ) (old mid new : World) (t u v : KeeperView)
     → (s : Served limit store false held a old mid t u) → Served limit store whole s.rest b mid new u v → Served limit store whole held (a ++ b) old new t v
 served_on limit store whole held a b old mid new t u v s k = record {
   turns = s.turns ++ k.turns;
@@ -97,9 +119,10 @@ served_on limit store whole held a b old mid new t u v s k = record {
   cut = rw (sym (append_assoc held a b), pieces-append s.turns k.turns) (pieces_then whole (held ++ a) b (pieces s.turns) (pieces k.turns) s.rest k.rest s.cut k.cut);
   leads = leads_then limit store old mid new s.turns k.turns s.leads k.leads;
   moments = moments_then limit store old mid s.turns k.turns t u v s.leads s.moments k.moments;
+  commits = commits_then s.turns k.turns t.counts u.counts v.counts s.commits k.commits;
 }
 
-unfoldable pub served_then : (limit store : ℕ) (held a b : List ℕ) (old mid new : World) (t u v : Times) (cutter : Seen)
+unfoldable pub served_then : (limit store : ℕ) (held a b : List ℕ) (old mid new : World) (t u v : KeeperView) (cutter : Seen)
     → (s : Served limit store false held a old mid t u) → ServedTo limit store s.rest b mid new u v cutter → ServedTo limit store held (a ++ b) old new t v cutter
 unfolding served_on
 served_then limit store held a b old mid new t u v cutter s k = record {
@@ -108,42 +131,51 @@ served_then limit store held a b old mid new t u v cutter s k = record {
 }
 
 -- the same bytes by another name
-unfoldable pub served_as : (limit store : ℕ) (whole : Bool) (held a b : List ℕ) (old new : World) (t u : Times) → a ≡ b → Served limit store whole held a old new t u → Served limit store whole held b old new t u
+unfoldable pub served_as : (limit store : ℕ) (whole : Bool) (held a b : List ℕ) (old new : World) (t u : KeeperView) → a ≡ b → Served limit store whole held a old new t u → Served limit store whole held b old new t u
 served_as limit store whole held a b old new t u is s = record {
   turns = s.turns;
   rest = s.rest;
   cut = subst (λ (l : List ℕ). HasPieces whole (held ++ l) (pieces s.turns) s.rest) is s.cut;
   leads = s.leads;
   moments = s.moments;
+  commits = s.commits;
 }
 
 -- ---- one piece
 
 -- nothing is answered
-pub served_open : (limit store : ℕ) (held bytes : List ℕ) (world : World) (time : Times) (cutter : Seen) → StandsOpen limit cutter (held ++ bytes)
-    → ServedTo limit store held bytes world world time time cutter
-served_open limit store held bytes world time cutter h = record {
+pub served_open : (limit store : ℕ) (held bytes : List ℕ) (world : World) (k : KeeperView) (cutter : Seen) → StandsOpen limit cutter (held ++ bytes)
+    → ServedTo limit store held bytes world world k k cutter
+served_open limit store held bytes world k cutter h = record {
   served = record {
     turns = [];
     rest = held ++ bytes;
     cut = record { statements = []; cut = (h.opened, refl); are = refl };
     leads = leads_none limit store world;
-    moments = passes_none time _;
+    moments = passes_none k.time _;
+    commits = omega arith;
   };
   stands = h;
 }
 
-pub served_start : (limit store : ℕ) (held : List ℕ) (world : World) (time : Times) (cutter : Seen) → StandsOpen limit cutter held → ServedTo limit store held [] world world time time cutter
-served_start limit store held world time cutter s = served_open limit store held [] world time cutter (rw (append-nil held) s)
+pub served_start : (limit store : ℕ) (held : List ℕ) (world : World) (k : KeeperView) (cutter : Seen) → StandsOpen limit cutter held → ServedTo limit store held [] world world k k cutter
+served_start limit store held world k cutter s = served_open limit store held [] world k cutter (rw (append-nil held) s)
 
 -- a newline ends a statement
 pub newline_piece : (held text : List ℕ) → first_statement false held ≡ None → first_statement true held ≡ Some (text, []) → HasPieces false (held ++ 10 ∷ []) (statement text ∷ []) []
 newline_piece held text h e = record { statements = text ∷ []; cut = ([], open_newline held h ∙ e, (refl, refl)); are = refl }
 
-pub served_statement : (limit store : ℕ) (held text : List ℕ) (old new : World) (t u : Times) (cutter : Seen) → first_statement false held ≡ None → first_statement true held ≡ Some (text, [])
-    → Answered limit store (statement text) old new t u → StandsOpen limit cutter [] → ServedTo limit store held (10 ∷ []) old new t u cutter
-served_statement limit store held text old new t u cutter h e a n = record {
-  served = record { turns = turn_by (statement text) a.answer ∷ []; rest = []; cut = newline_piece held text h e; leads = a.leads; moments = a.moments };
+pub served_statement : (limit store : ℕ) (held text : List ℕ) (old new : World) (t u : KeeperView) (cutter : Seen) → first_statement false held ≡ None → first_statement true held ≡ Some (text, [])
+    → Answered limit store (statement text) old new t u → CommitsFor (statement text) t.counts u.counts → StandsOpen limit cutter [] → ServedTo limit store held (10 ∷ []) old new t u cutter
+served_statement limit store held text old new t u cutter h e a c n = record {
+  served = record {
+    turns = turn_by (statement text) a.answer ∷ [];
+    rest = [];
+    cut = newline_piece held text h e;
+    leads = a.leads;
+    moments = a.moments;
+    commits = commits_turn (turn_by (statement text) a.answer) t.counts u.counts c;
+  };
   stands = n;
 }
 
@@ -175,16 +207,26 @@ empty_rest limit store world = record {
   allowed = (tt, tt);
 }
 
-pub served_last : (limit store : ℕ) (held text : List ℕ) (old new : World) (t u : Times) → first_statement true held ≡ Some (text, [])
-    → Answered limit store (statement text) old new t u → Served limit store true held [] old new t u
-served_last limit store held text old new t u e a = record {
+pub served_last : (limit store : ℕ) (held text : List ℕ) (old new : World) (t u : KeeperView) → first_statement true held ≡ Some (text, [])
+    → Answered limit store (statement text) old new t u → CommitsFor (statement text) t.counts u.counts → Served limit store true held [] old new t u
+served_last limit store held text old new t u e a c = record {
   turns = turn_by (statement text) a.answer ∷ turn_by (rest_piece []) Step ∷ [];
   rest = [];
   cut = ended_piece held text e;
   leads = leads_then limit store old new new (turn_by (statement text) a.answer ∷ []) (turn_by (rest_piece []) Step ∷ []) a.leads (empty_rest limit store new);
-  moments = passes_more t u _ _ a.moments (moment_first limit old (turn_by (statement text) a.answer ∷ []) (turn_by (rest_piece []) Step ∷ []));
+  moments = passes_more t.time u.time _ _ a.moments (moment_first limit old (turn_by (statement text) a.answer ∷ []) (turn_by (rest_piece []) Step ∷ []));
+  commits =
+      commits_then (turn_by (statement text) a.answer ∷ []) (turn_by (rest_piece []) Step ∷ []) t.counts u.counts u.counts
+      (commits_turn (turn_by (statement text) a.answer) t.counts u.counts c) (omega arith);
 }
 
-pub served_rest : (limit store : ℕ) (held : List ℕ) (old new : World) (t u : Times) → first_statement true held ≡ None
-    → Answered limit store (rest_piece held) old new t u → Served limit store true held [] old new t u
-served_rest limit store held old new t u e a = record { turns = turn_by (rest_piece held) a.answer ∷ []; rest = held; cut = rest_alone held e; leads = a.leads; moments = a.moments }
+pub served_rest : (limit store : ℕ) (held : List ℕ) (old new : World) (t u : KeeperView) → first_statement true held ≡ None
+    → Answered limit store (rest_piece held) old new t u → CommitsFor (rest_piece held) t.counts u.counts → Served limit store true held [] old new t u
+served_rest limit store held old new t u e a c = record {
+  turns = turn_by (rest_piece held) a.answer ∷ [];
+  rest = held;
+  cut = rest_alone held e;
+  leads = a.leads;
+  moments = a.moments;
+  commits = commits_turn (turn_by (rest_piece held) a.answer) t.counts u.counts c;
+}

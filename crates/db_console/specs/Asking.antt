@@ -12,7 +12,7 @@ use Rattle.db_console.specs.Worlds.{World, HasPieces, world}
 pub record AskedThen (left : Option (List ℕ)) (taken : List ℕ) (limit : ℕ) (was : World) (turns : List Turn) (h : Hearing) : Type 0 where
   pub part : List ℕ
   pub later : List ℕ
-  pub front : taken ≡ part ++ later
+  pub prefix : taken ≡ part ++ later
   pub left_then : left ≡ with_prefix part (Some h.left)
   pub done : List Turn
   pub others : List Turn
@@ -34,7 +34,7 @@ unfolding chars
 after_a_line = record {
   part = codes "SELEC;\n";
   later = codes "-- bye";
-  front = refl;
+  prefix = refl;
   left_then = refl;
   done = first_line;
   others = [];

@@ -1,5 +1,7 @@
+pub mod Limits
 pub mod Worlds
 pub mod Asking
 pub mod Responses
 pub mod Views
 pub mod Table
+pub mod Histories

@@ -1,13 +1,14 @@
 -- What is said to a text that isn't too long.
 use Rattle.std.specs.Prelude.{ℕ, ◌≡◌, true, false, List, [], Option, Some, Result, Ok, Err, codes, refl}
 use Rattle.std.specs.Option.{MatchOption}
+use Rattle.std.specs.Str.{chars}
 use denote.Ref.{Bor}
 use Rattle.ct_keep.specs.Content.{Content}
 use Rattle.ct_keep.specs.declared.keepers.KeepFault.TheVariants.{Disk}
 use Rattle.ct_keep.specs.KeeperViews.{KeeperView}
-use Rattle.st_parse.specs.Grammar.{Read}
+use Rattle.st_parse.specs.Grammar.{Read, read}
 use Rattle.db_cond.specs.Faults.{not_understood, statement_too_long, store_full, out_of_memory}
-use Rattle.db_state.specs.States.{State}
+use Rattle.db_state.specs.States.{State, Stands}
 use Rattle.db_engine.specs.Steps.{effect_of, is_text}
 use Rattle.db_engine.specs.Runs.{Answer, Full, answered, can_fill}
 use Rattle.db_state.specs.Plans.{Moves, HasNoPlace}
@@ -17,19 +18,19 @@ use Rattle.db_engine.specs.declared.replies.Stop.TheVariants.{Disk as DiskStop}
 use Rattle.db_console.specs.declared.responses.Response.{Response}
 use Rattle.db_console.specs.declared.responses.Response.TheVariants.{Nothing, Lines, NotUnderstood, TooLong, Full as StoreFull, NoMemory}
 
-abbrev pub bytes_of : Response → List ℕ
-bytes_of Nothing = []
-bytes_of (Lines lines) = lines
-bytes_of NotUnderstood = not_understood
-bytes_of TooLong = statement_too_long
-bytes_of StoreFull = store_full
-bytes_of NoMemory = out_of_memory
+abbrev pub response_bytes : Response → List ℕ
+response_bytes Nothing = []
+response_bytes (Lines lines) = lines
+response_bytes NotUnderstood = not_understood
+response_bytes TooLong = statement_too_long
+response_bytes StoreFull = store_full
+response_bytes NoMemory = out_of_memory
 
 -- the bytes as a text, or nothing where they are none
 abbrev pub IsTextOf : Option (Bor (List ℕ)) → List ℕ → Type 0
 IsTextOf found bytes = MatchOption found (is_text bytes ≡ false) (λ text. (is_text bytes ≡ true) × (text.now ≡ bytes))
 
--- What was read has this reply, by at most one commit.
+-- What was read has this reply.
 pub record HasReply (m : State) (r : Read) (c : Content) (old new : KeeperView) (reply : List ℕ) : Type 0 where
   pub answer : Answer
   pub moves : Moves m (effect_of m r) c old new (fault_for answer)
@@ -39,12 +40,16 @@ pub record HasReply (m : State) (r : Read) (c : Content) (old new : KeeperView) 
 
 -- the same, or the disk failed
 abbrev pub Responds : State → Read → Content → KeeperView → KeeperView → Result Response Stop → Type 0
-Responds m r c old new (Ok response) = HasReply m r c old new (bytes_of response)
+Responds m r c old new (Ok response) = HasReply m r c old new (response_bytes response)
 Responds m r c old new (Err DiskStop) = Moves m (effect_of m r) c old new (Some Disk)
 
+-- The response to a text, over each state that the content stands for.
+abbrev pub RespondsToText : List ℕ → KeeperView → KeeperView → Result Response Stop → Type 0
+RespondsToText text old new result = (m : State) (c : Content) → old.content ≡ Some c → Stands c m → Responds m (read (chars text)) c old new result
+
 -- computed examples: what is said where the store is full, and to nothing
-full_line : bytes_of StoreFull ≡ codes "E80: store full\n"
+full_line : response_bytes StoreFull ≡ codes "E80: store full\n"
 full_line = refl
 
-nothing_line : bytes_of Nothing ≡ []
+nothing_line : response_bytes Nothing ≡ []
 nothing_line = refl

@@ -8,20 +8,21 @@ use Rattle.ct_base.specs.Told.{with_prefix, with_suffix}
 use Rattle.ct_base.specs.Moments.{Passes}
 use Rattle.ct_site.specs.Disks.{DiskView, Beside}
 use Rattle.ct_keep.specs.Content.{Content}
-use Rattle.ct_keep.specs.KeeperViews.{KeeperView, Counts, PassesRoom, IsSettled, counted}
+use Rattle.ct_keep.specs.KeeperViews.{KeeperView, Counts, PassesRoom, IsDurable, counted}
 use Rattle.ct_keep.specs.InMemory.{in_memory, settled_in_memory, aside_of}
 use Rattle.ct_keep.specs.KeeperStates.{KeeperState, no_counts, no_disk, mem_view}
 use Rattle.st_cut.specs.Seen.{Seen}
 use Rattle.db_state.specs.States.{empty_state}
 use Rattle.db_state.specs.laws.Empty.{empty_stands}
 use Rattle.db_engine.specs.Runs.{Piece, Turn, pieces, state_after, transcript, AllAllowed, statement, rest_piece, Step, turn_by}
-use Rattle.db_console.specs.Worlds.{World, HasPieces, LeavesState, IsMoment, IsPartOf, IsFrontOf, world_after, world}
+use Rattle.db_console.specs.Limits.{statement_limit, script_limit, store_limit}
+use Rattle.db_console.specs.Worlds.{World, HasPieces, LeavesState, IsMoment, IsPartOf, IsPrefixOf, CommitsWithin, world_after, world}
 use Rattle.db_console.specs.Asking.{AskedThen, Calls}
 use Rattle.db_console.specs.Views.{Shows, EndsHere, HearRose, SayRose, FaultsAre, Breaks, Finishes}
 use Rattle.db_console.specs.declared.endings.Ending.{Ending}
 use Rattle.db_console.specs.declared.endings.Ending.TheVariants.{Done, HearFault, SayFault, NoMemory, DiskFault, PastLimit}
-use Rattle.db_console.specs.declared.saying.Stop.{Stop}
-use Rattle.db_console.specs.declared.saying.Stop.TheVariants.{Say, Disk}
+use Rattle.db_console.specs.declared.saying.AnswerFault.{AnswerFault}
+use Rattle.db_console.specs.declared.saying.AnswerFault.TheVariants.{Say, Disk}
 
 abbrev pub status_of : Ending → ℕ
 status_of Done = 0
@@ -31,7 +32,7 @@ status_of NoMemory = 5
 status_of DiskFault = 6
 status_of PastLimit = 8
 
-abbrev pub ending_of : Stop → Ending
+abbrev pub ending_of : AnswerFault → Ending
 ending_of Say = SayFault
 ending_of Disk = DiskFault
 
@@ -45,14 +46,14 @@ Closes ending old new before = ⊥
 -- ---- what was answered, and what was said of it
 
 -- The turns are those of a script, whole or as far as it has come: each piece of it was answered, and each reply was said.
--- A stop now leaves the state after them.
+-- A crash now leaves the state after them.
 pub record SaidAll (limit : ℕ) (whole : Bool) (script : List ℕ) (was : World) (turns : List Turn) (new : KeeperView) : Type 0 where
   pub rest : List ℕ
   pub cut : HasPieces whole script (pieces turns) rest
   pub shows : Shows new (world_after limit was turns)
-  pub settled : IsSettled new
+  pub settled : IsDurable new
 
--- The turns are those of the first pieces of a script, and the last one was stopped.
+-- The turns are those of the first pieces of a script, and the answer of the last one broke off.
 pub record AreFirst (whole : Bool) (script : List ℕ) (turns done : List Turn) : Type 0 where
   pub last : Turn
   pub split : turns ≡ done ++ last ∷ []
@@ -62,23 +63,23 @@ pub record AreFirst (whole : Bool) (script : List ℕ) (turns done : List Turn) 
 
 -- The reply to the last one was said in part: the bytes said are a prefix of all that the turns say, and not all of it,
 -- and begin with all that the turns before the last one say. Where it is told what was said before and how many bytes may
--- be said in all, all that the turns say would have been too many. A stop now leaves the state after all of them.
+-- be said in all, all that the turns say would have been too many. A crash now leaves the state after all of them.
 pub record SaidInPart (limit : ℕ) (whole : Bool) (script : List ℕ) (was : World) (turns : List Turn) (new : KeeperView) : Type 0 where
   pub done : List Turn
   pub first : AreFirst whole script turns done
   pub said : List ℕ
   pub shows : Shows new (record { state = state_after limit was.state turns; said = with_suffix was.said said })
   pub part : IsPartOf said (transcript limit was.state turns)
-  pub front : IsFrontOf (transcript limit was.state done) said
+  pub prefix : IsPrefixOf (transcript limit was.state done) said
   pub passes : PassesRoom new.fixed.say_room was.said (transcript limit was.state turns)
-  pub settled : IsSettled new
+  pub settled : IsDurable new
 
--- The disk failed in the last one: all was said that the turns before it say, and a stop leaves the state before it or after it.
+-- The disk failed in the last one: all was said that the turns before it say, and a crash leaves the state before it or after it.
 pub record FailedInLast (limit : ℕ) (whole : Bool) (script : List ℕ) (was : World) (turns : List Turn) (new : KeeperView) : Type 0 where
   pub done : List Turn
   pub first : AreFirst whole script turns done
   pub told : new.beside.said ≡ with_suffix was.said (transcript limit was.state done)
-  pub leaves : (stopped : Option Content) (said : List ℕ) → new.now stopped said → LeavesState stopped (state_after limit was.state done) ⊎ LeavesState stopped (state_after limit was.state turns)
+  pub leaves : (left : Option Content) (said : List ℕ) → new.now left said → LeavesState left (state_after limit was.state done) ⊎ LeavesState left (state_after limit was.state turns)
 
 -- which turns were answered and what was said of them, by how the run ended and by the bytes taken from the script
 abbrev pub Ends : ℕ → ℕ → List ℕ → World → List Turn → KeeperView → Ending → Type 0
@@ -89,20 +90,21 @@ Ends limit most taken was turns new HearFault = SaidAll limit false taken was tu
 -- up to one whose reply was said in part; the end of the bytes taken counts as the script's end only where nothing is left
 Ends limit most taken was turns new SayFault = (whole : Bool) × (whole ≡ true → EndsHere new.beside) × SaidInPart limit whole taken was turns new
 -- nothing
-Ends limit most taken was turns new NoMemory = (turns ≡ []) × Shows new was × IsSettled new
+Ends limit most taken was turns new NoMemory = (turns ≡ []) × Shows new was × IsDurable new
 -- up to one in which the disk failed
 Ends limit most taken was turns new DiskFault = (whole : Bool) × (whole ≡ true → EndsHere new.beside) × FailedInLast limit whole taken was turns new
 -- the statements that a newline ends in the first `most` bytes
 Ends limit most taken was turns new PastLimit = (first : List ℕ) × (more : ℕ) × (taken ≡ first ++ more ∷ []) × (length first ≡ most) × SaidAll limit false first was turns new
 
--- The answers of a run. At each moment since its start, and now, a stop leaves the state after some of the first turns,
--- and what was said by then is a prefix of what these say.
+-- The answers of a run. At each moment since its start, and now, a crash leaves the state after some of the first turns,
+-- and what was said by then is a prefix of what these say. There were at most as many commits as statements among the turns.
 pub record Course (limit most : ℕ) (taken : List ℕ) (was : World) (old new : KeeperView) (ending : Ending) : Type 0 where
   pub turns : List Turn
   pub allowed : AllAllowed limit old.fixed.limit was.state turns
   pub ends : Ends limit most taken was turns new ending
   pub moments : Passes old.time new.time (IsMoment limit was turns)
-  pub now : (stopped : Option Content) (said : List ℕ) → new.now stopped said → IsMoment limit was turns stopped said
+  pub now : (left : Option Content) (said : List ℕ) → new.now left said → IsMoment limit was turns left said
+  pub commits : CommitsWithin turns old.counts new.counts
   -- what was taken so far is answered before `hear` is called again
   pub asked : Calls old.beside.hearings new.beside.hearings (AskedThen old.beside.left taken limit was turns)
 
@@ -132,12 +134,16 @@ IsReadyAfter ending new = new.ready
 pub record Outcome (limit most : ℕ) (old new : KeeperView) (ending : Ending) : Type 0 where
   -- the bytes taken from the script
   pub taken : List ℕ
-  pub front : old.beside.left ≡ with_prefix taken new.beside.left
+  pub prefix : old.beside.left ≡ with_prefix taken new.beside.left
   pub faults : FaultsBy (status_of ending) old new
   pub fixed : new.fixed ≡ old.fixed
   pub because : Because most taken old new ending
   pub ready : IsReadyAfter ending new
   pub course : (was : World) → Shows old was → Course limit most taken was old new ending
+
+-- A run over a keeper ended with this status.
+abbrev pub ServedWith : ℕ → ℕ → KeeperView → KeeperView → ℕ → Type 0
+ServedWith limit most old new status = (ending : Ending) × (status ≡ status_of ending) × Outcome limit most old new ending
 
 -- ---- what follows where the script is told
 
@@ -168,7 +174,7 @@ pub record SiteFaultsBy (status : ℕ) (old new : Beside) : Type 0 where
   pub say : new.say_faults ≡ counted (status == 4) old.say_faults
 
 -- The disk is as before: no call of it failed, and a read gives what it gave.
-pub record Untouched (old new : DiskView) : Type 0 where
+pub record SameDisk (old new : DiskView) : Type 0 where
   pub image : new.image ≡ old.image
   pub faults : new.faults ≡ old.faults
 
@@ -182,8 +188,12 @@ pub record RanOver (limit most store : ℕ) (old new : DiskView) (ending : Endin
   pub content : Content
   pub counts : Counts
   pub begins : Shows (over_site empty store no_counts old name) (record { state = empty_state; said = old.beside.said })
-  pub untouched : Untouched old new
+  pub same_disk : SameDisk old new
   pub outcome : Outcome limit most (over_site empty store no_counts old name) (over_site content store counts new name) ending
+
+-- A run over a site, within the limits of a run, ended with this status.
+abbrev pub RanWith : DiskView → DiskView → ℕ → Type 0
+RanWith old new status = (ending : Ending) × (status ≡ status_of ending) × RanOver statement_limit script_limit store_limit old new ending
 
 -- ---- computed examples: over a keeper that may say 40 bytes in all. Of a script of 14 bytes ten were allowed, and one more was taken
 abbrev bad : List ℕ → Turn
@@ -231,12 +241,12 @@ in_part = record {
   said = codes "E10: statement not understood\nE1";
   shows = record { said = refl; content = empty; holds = refl; stands = empty_stands };
   part = record { rest = codes "9: statement too long\n"; is = refl; more = lit< tt };
-  front = record { rest = codes "E1"; is = refl };
+  prefix = record { rest = codes "E1"; is = refl };
   passes = record { passes = λ most said room was. let forty : 40 ≡ most = cc in let nothing : [] ≡ said = cc in rw (← forty, ← nothing) (lit< tt) };
   settled = settled_in_memory empty 0 no_counts _ _ _ None;
 }
 
--- a stop while the first reply was said, which left the state after the first statement
+-- a crash while the first reply was said, which left the state after the first statement
 a_moment : IsMoment 4 (world []) (bad (codes "a") ∷ bad (codes "SELEC") ∷ []) (Some empty) (codes "E10: stat")
 unfolding chars
 a_moment = record {

@@ -1,17 +1,18 @@
 -- What the console does to what is known of a keeper.
 use Rattle.std.specs.Prelude.{ℕ, ◌≡◌, ◌⊎◌, Bool, true, false, List, [], ◌∷◌, ◌++◌, Option, Some, None}
+use denote.Ref.{Bor}
 use Rattle.ct_base.specs.Causes.{Rose}
 use Rattle.ct_base.specs.Told.{with_suffix, IsNothing, IsSaid}
 use Rattle.ct_base.specs.Moments.{Passes}
 use Rattle.ct_site.specs.Disks.{Beside}
 use Rattle.ct_keep.specs.Content.{Content}
-use Rattle.ct_keep.specs.KeeperViews.{KeeperView, KeeperHears, KeeperSays, PassesRoom, IsSettled, counted}
-use Rattle.st_cut.specs.Seen.{Seen, StandsOpen}
+use Rattle.ct_keep.specs.KeeperViews.{KeeperView, KeeperHears, KeeperSays, PassesRoom, IsDurable, counted}
+use Rattle.st_cut.specs.Seen.{Seen, StandsOpen, ShowsText}
 use Rattle.db_state.specs.States.{Stands}
-use Rattle.db_engine.specs.Runs.{Piece, Answer, Step, Turn, turn_by, turn, pieces, IsAllowed}
-use Rattle.db_console.specs.Worlds.{World, HasPieces, LeavesState, IsMoment, Leads, Served, ServedTo, Answered, IsPartOf}
-use Rattle.db_console.specs.declared.saying.Stop.{Stop}
-use Rattle.db_console.specs.declared.saying.Stop.TheVariants.{Say, Disk}
+use Rattle.db_engine.specs.Runs.{Piece, statement, Answer, Step, Turn, turn_by, turn, pieces, IsAllowed}
+use Rattle.db_console.specs.Worlds.{World, HasPieces, LeavesState, IsMoment, Leads, Served, ServedTo, Answered, IsPartOf, CommitsWithin, CommitsFor}
+use Rattle.db_console.specs.declared.saying.AnswerFault.{AnswerFault}
+use Rattle.db_console.specs.declared.saying.AnswerFault.TheVariants.{Say, Disk}
 
 -- This is a world that the keeper shows: its content stands for the state, and it tells that so much was said.
 pub record Shows (view : KeeperView) (world : World) : Type 0 where
@@ -62,14 +63,14 @@ pub record SpokeInPart (bytes : List ℕ) (old new : KeeperView) : Type 0 where
   pub passes : PassesRoom old.fixed.say_room old.beside.said bytes
 
 -- what answering leaves, whether it fails or not
-pub record Frame (old new : KeeperView) : Type 0 where
+pub record HearsNothing (old new : KeeperView) : Type 0 where
   pub left : new.beside.left ≡ old.beside.left
   pub hearings : new.beside.hearings ≡ old.beside.hearings
   pub fixed : new.fixed ≡ old.fixed
 
 -- ---- one piece
 
--- A piece has this reply, by at most one commit, and nothing of it was said yet.
+-- A piece has this reply, and nothing of it was said yet.
 pub record Replied (limit : ℕ) (piece : Piece) (was : World) (old new : KeeperView) (reply : List ℕ) : Type 0 where
   pub answer : Answer
   pub allowed : IsAllowed limit old.fixed.limit was.state piece answer
@@ -79,45 +80,46 @@ pub record Replied (limit : ℕ) (piece : Piece) (was : World) (old new : Keeper
   pub stands : Stands content (turn limit was.state (turn_by piece answer)).0
   pub moments : Passes old.time new.time (IsMoment limit was (turn_by piece answer ∷ []))
 
--- what a stop leaves where the disk failed in a turn: the state before it or after it; and nothing of it was said
-pub record LeavesEither (limit : ℕ) (was : World) (last : Turn) (stopped : Option Content) (said : List ℕ) : Type 0 where
-  pub leaves : LeavesState stopped was.state ⊎ LeavesState stopped (turn limit was.state last).0
+-- what a crash leaves where the disk failed in a turn: the state before it or after it; and nothing of it was said
+pub record LeavesEither (limit : ℕ) (was : World) (last : Turn) (left : Option Content) (said : List ℕ) : Type 0 where
+  pub leaves : LeavesState left was.state ⊎ LeavesState left (turn limit was.state last).0
   pub said_before : IsSaid was.said said
 
 -- The disk failed in the answer to a piece, which counts as one by its step.
 pub record Halted (limit : ℕ) (piece : Piece) (was : World) (old new : KeeperView) : Type 0 where
   pub moments : Passes old.time new.time (IsMoment limit was (turn_by piece Step ∷ []))
-  pub now : (stopped : Option Content) (said : List ℕ) → new.now stopped said → LeavesEither limit was (turn_by piece Step) stopped said
+  pub now : (left : Option Content) (said : List ℕ) → new.now left said → LeavesEither limit was (turn_by piece Step) left said
 
 -- A piece was answered, and the reply was said.
 pub record Answers (limit : ℕ) (piece : Piece) (old new : KeeperView) : Type 0 where
-  pub frame : Frame old new
+  pub unheard : HearsNothing old new
   pub faults : NoFault old new
   pub ready : new.ready
-  pub answers : (was : World) → Shows old was → (now : World) × Shows new now × Answered limit old.fixed.limit piece was now old.time new.time
+  pub commits : CommitsFor piece old.counts new.counts
+  pub answers : (was : World) → Shows old was → (now : World) × Shows new now × Answered limit old.fixed.limit piece was now old new
 
--- what holds unless the stop came from the disk
-abbrev pub UnlessByDisk : Stop → Type 0 → Type 0
+-- what holds unless the disk failed
+abbrev pub UnlessByDisk : AnswerFault → Type 0 → Type 0
 UnlessByDisk Say P = P
 UnlessByDisk Disk P = Unit {0}
 
 -- what holds where it did
-abbrev pub OnlyByDisk : Stop → Type 0 → Type 0
+abbrev pub OnlyByDisk : AnswerFault → Type 0 → Type 0
 OnlyByDisk Say P = Unit {0}
 OnlyByDisk Disk P = P
 
-abbrev pub is_say : Stop → Bool
+abbrev pub is_say : AnswerFault → Bool
 is_say Say = true
 is_say Disk = false
 
-abbrev pub is_disk : Stop → Bool
+abbrev pub is_disk : AnswerFault → Bool
 is_disk Say = false
 is_disk Disk = true
 
--- the cause of a stop: one fault of that device, and no other; the disk stops a keeper alone that makes calls of it
-pub record StopsFor (stop : Stop) (old new : KeeperView) : Type 0 where
-  pub faults : FaultsAre false (is_say stop) (is_disk stop) old new
-  pub calls : OnlyByDisk stop (old.fixed.aside ≡ None)
+-- The cause: one fault of that device, and no other. The disk fails a keeper alone that makes calls of it.
+pub record FailsBy (fault : AnswerFault) (old new : KeeperView) : Type 0 where
+  pub faults : FaultsAre false (is_say fault) (is_disk fault) old new
+  pub calls : OnlyByDisk fault (old.fixed.aside ≡ None)
 
 -- The reply of the last turn was said in part, behind what had been said; where the room for that is told, the whole of it would have passed it.
 pub record SaysInPart (limit : ℕ) (was : World) (last : Turn) (new : KeeperView) : Type 0 where
@@ -125,43 +127,71 @@ pub record SaysInPart (limit : ℕ) (was : World) (last : Turn) (new : KeeperVie
   pub reply : IsPartOf part (turn limit was.state last).1
   pub passes : PassesRoom new.fixed.say_room was.said (turn limit was.state last).1
   pub shows : Shows new (record { state = (turn limit was.state last).0; said = with_suffix was.said part })
-  pub settled : IsSettled new
+  pub settled : IsDurable new
 
 -- The disk failed in the last turn, and nothing of its reply was said.
 pub record FailsInTurn (limit : ℕ) (was : World) (last : Turn) (new : KeeperView) : Type 0 where
   pub told : new.beside.said ≡ was.said
-  pub now : (stopped : Option Content) (said : List ℕ) → new.now stopped said → LeavesEither limit was last stopped said
+  pub now : (left : Option Content) (said : List ℕ) → new.now left said → LeavesEither limit was last left said
 
--- how a turn stopped
-abbrev pub StopsBy : Stop → ℕ → World → Turn → KeeperView → Type 0
-StopsBy Say limit was last new = SaysInPart limit was last new
-StopsBy Disk limit was last new = FailsInTurn limit was last new
+-- what is left of a turn whose answer broke off for this fault
+abbrev pub LeavesTurn : AnswerFault → ℕ → World → Turn → KeeperView → Type 0
+LeavesTurn Say limit was last new = SaysInPart limit was last new
+LeavesTurn Disk limit was last new = FailsInTurn limit was last new
 
--- The answer to a piece was stopped.
-pub record Stopped (limit : ℕ) (piece : Piece) (stop : Stop) (was : World) (old new : KeeperView) : Type 0 where
+-- The answer to a piece broke off for this fault.
+pub record BrokeOff (limit : ℕ) (piece : Piece) (fault : AnswerFault) (was : World) (old new : KeeperView) : Type 0 where
   pub answer : Answer
   pub allowed : IsAllowed limit old.fixed.limit was.state piece answer
   pub moments : Passes old.time new.time (IsMoment limit was (turn_by piece answer ∷ []))
-  pub by : StopsBy stop limit was (turn_by piece answer) new
+  pub by : LeavesTurn fault limit was (turn_by piece answer) new
 
-pub record Stops (limit : ℕ) (piece : Piece) (stop : Stop) (old new : KeeperView) : Type 0 where
-  pub frame : Frame old new
-  pub cause : StopsFor stop old new
-  pub ready : UnlessByDisk stop new.ready
-  pub stops : (was : World) → Shows old was → Stopped limit piece stop was old new
+-- The same, in each world that the keeper showed, with its cause and what it left alone.
+pub record BreaksOff (limit : ℕ) (piece : Piece) (fault : AnswerFault) (old new : KeeperView) : Type 0 where
+  pub unheard : HearsNothing old new
+  pub cause : FailsBy fault old new
+  pub ready : UnlessByDisk fault new.ready
+  pub commits : CommitsFor piece old.counts new.counts
+  pub breaks_off : (was : World) → Shows old was → BrokeOff limit piece fault was old new
+
+-- ---- the piece whose text is given, where that isn't too long
+
+-- what holds of each text for which this is given, the text itself or nothing, by the limit that its length is held to
+abbrev pub OverTexts : Option (Bor (List ℕ)) → (ℕ → List ℕ → Type 0) → Type 0
+OverTexts given holds = (limit : ℕ) (text : List ℕ) → ShowsText limit given text → holds limit text
+
+-- what holds of each world that a keeper shows
+abbrev pub OverWorlds : KeeperView → (World → Type 0) → Type 0
+OverWorlds view holds = (was : World) → Shows view was → holds was
+
+-- The statement has this reply, and nothing of it was said yet.
+abbrev pub RepliesToText : Option (Bor (List ℕ)) → List ℕ → KeeperView → KeeperView → Type 0
+RepliesToText given reply old new = OverTexts given (λ limit text. OverWorlds old (λ was. Replied limit (statement text) was old new reply))
+
+-- The disk failed in the answer to the statement.
+abbrev pub HaltsInText : Option (Bor (List ℕ)) → KeeperView → KeeperView → Type 0
+HaltsInText given old new = OverTexts given (λ limit text. OverWorlds old (λ was. Halted limit (statement text) was old new))
+
+-- The piece, a statement or a rest, was answered, and the reply was said.
+abbrev pub AnswersText : (List ℕ → Piece) → Option (Bor (List ℕ)) → KeeperView → KeeperView → Type 0
+AnswersText piece given old new = OverTexts given (λ limit text. Answers limit (piece text) old new)
+
+-- The answer to it broke off for this fault.
+abbrev pub BreaksOffText : (List ℕ → Piece) → AnswerFault → Option (Bor (List ℕ)) → KeeperView → KeeperView → Type 0
+BreaksOffText piece fault given old new = OverTexts given (λ limit text. BreaksOff limit (piece text) fault old new)
 
 -- ---- some bytes
 
 -- Bytes were served: each statement that a newline ends in them was answered.
 pub record Serves (bytes : List ℕ) (old new : KeeperView) (before after : Seen) : Type 0 where
-  pub frame : Frame old new
+  pub unheard : HearsNothing old new
   pub faults : NoFault old new
   pub ready : new.ready
-  pub serves : (limit : ℕ) (held : List ℕ) → StandsOpen limit before held → (was : World) → Shows old was → (now : World) × Shows new now × ServedTo limit old.fixed.limit held bytes was now old.time new.time after
+  pub serves : (limit : ℕ) (held : List ℕ) → StandsOpen limit before held → (was : World) → Shows old was → (now : World) × Shows new now × ServedTo limit old.fixed.limit held bytes was now old new after
 
--- Where `held` stood open, serving `bytes` answered some pieces of them, and then was stopped in the answer to the next one.
--- Each moment that came between is one of these turns.
-pub record Broke (limit store : ℕ) (whole : Bool) (stop : Stop) (held bytes : List ℕ) (was : World) (old new : KeeperView) : Type 0 where
+-- Where `held` stood open, serving `bytes` answered some pieces of them, and then the answer to the next one broke off.
+-- Each moment that came between is one of these turns, and there were at most as many commits as statements among them.
+pub record Broke (limit store : ℕ) (whole : Bool) (fault : AnswerFault) (held bytes : List ℕ) (was : World) (old new : KeeperView) : Type 0 where
   pub turns : List Turn
   pub mid : World
   pub leads : Leads limit store was turns mid
@@ -171,18 +201,19 @@ pub record Broke (limit store : ℕ) (whole : Bool) (stop : Stop) (held bytes : 
   pub rest : List ℕ
   pub cut : HasPieces whole (held ++ bytes) (pieces turns ++ last.piece ∷ later) rest
   pub moments : Passes old.time new.time (IsMoment limit was (turns ++ last ∷ []))
-  pub by : StopsBy stop limit mid last new
+  pub commits : CommitsWithin (turns ++ last ∷ []) old.counts new.counts
+  pub by : LeavesTurn fault limit mid last new
 
--- Serving bytes was stopped.
-pub record Breaks (whole : Bool) (stop : Stop) (bytes : List ℕ) (old new : KeeperView) (before : Seen) : Type 0 where
-  pub frame : Frame old new
-  pub cause : StopsFor stop old new
-  pub ready : UnlessByDisk stop new.ready
-  pub breaks : (limit : ℕ) (held : List ℕ) → StandsOpen limit before held → (was : World) → Shows old was → Broke limit old.fixed.limit whole stop held bytes was old new
+-- Serving bytes broke off for this fault.
+pub record Breaks (whole : Bool) (fault : AnswerFault) (bytes : List ℕ) (old new : KeeperView) (before : Seen) : Type 0 where
+  pub unheard : HearsNothing old new
+  pub cause : FailsBy fault old new
+  pub ready : UnlessByDisk fault new.ready
+  pub breaks : (limit : ℕ) (held : List ℕ) → StandsOpen limit before held → (was : World) → Shows old was → Broke limit old.fixed.limit whole fault held bytes was old new
 
 -- The end of the script was served.
 pub record Finishes (old new : KeeperView) (before : Seen) : Type 0 where
-  pub frame : Frame old new
+  pub unheard : HearsNothing old new
   pub faults : NoFault old new
   pub ready : new.ready
-  pub serves : (limit : ℕ) (held : List ℕ) → StandsOpen limit before held → (was : World) → Shows old was → (now : World) × Shows new now × Served limit old.fixed.limit true held [] was now old.time new.time
+  pub serves : (limit : ℕ) (held : List ℕ) → StandsOpen limit before held → (was : World) → Shows old was → (now : World) × Shows new now × Served limit old.fixed.limit true held [] was now old new

@@ -1,12 +1,14 @@
 -- What serving some bytes of a script does to the world, and what a crash in between leaves of it.
-use Rattle.std.specs.Prelude.{ℕ, ◌≡◌, ◌<◌, Bool, true, false, List, [], ◌∷◌, ◌++◌, length, map, codes, Option, Some, refl}
+use Rattle.std.specs.Prelude.{ℕ, ◌≡◌, ◌≤◌, ◌<◌, ◌+◌, Bool, true, false, List, [], ◌∷◌, ◌++◌, length, map, count_by, codes, Option, Some, refl}
+use Rattle.std.proofs.Common.{arith}
 use Rattle.std.specs.Str.{chars}
 use Rattle.std.specs.Fmt.{digits}
 use lib.Utf8.{encode}
 use Rattle.ct_base.specs.Told.{with_suffix, SaysPart}
-use Rattle.ct_base.specs.Moments.{Timeline, Passes}
+use Rattle.ct_base.specs.Moments.{Passes}
 use Rattle.ct_base.specs.laws.Moments.{passes_none}
 use Rattle.ct_keep.specs.Content.{Content}
+use Rattle.ct_keep.specs.KeeperViews.{KeeperView, Counts, AtMostOneCommit}
 use Rattle.st_cut.specs.Cut.{Cuts}
 use Rattle.st_cut.specs.Seen.{Seen, StandsOpen}
 use Rattle.db_state.specs.States.{State, empty_state, Stands}
@@ -32,22 +34,31 @@ pub record World : Type 0 where
 abbrev pub world_after : ℕ → World → List Turn → World
 world_after limit old turns = record { state = state_after limit old.state turns; said = with_suffix old.said (transcript limit old.state turns) }
 
--- the moments of a keeper: at each, the content that would be recovered, if any, and the bytes said by then
-abbrev pub Times : Type 1
-Times = Timeline (Option Content)
+-- how many of these turns are of statements
+abbrev pub statement_count : List Turn → ℕ
+statement_count turns = count_by (λ (t : Turn). t.piece.is_ended) turns
 
--- A crash leaves a content that stands for this state.
-pub record LeavesState (stopped : Option Content) (m : State) : Type 0 where
+-- Between these counts at most as many commits were called as these turns answer statements; a rest counts for none.
+abbrev pub CommitsWithin : List Turn → Counts → Counts → Type 0
+CommitsWithin turns old new = new.commits ≤ old.commits + statement_count turns
+
+-- For a piece at most one commit was called, and none where it is a rest.
+pub record CommitsFor (piece : Piece) (old new : Counts) : Type 0 where
+  pub once : AtMostOneCommit old new
+  pub none : piece.is_ended ≡ false → new.commits ≡ old.commits
+
+-- What a crash leaves is a content that stands for this state.
+pub record LeavesState (left : Option Content) (m : State) : Type 0 where
   pub content : Content
-  pub is : stopped ≡ Some content
+  pub is : left ≡ Some content
   pub stands : Stands content m
 
 -- A moment of these turns: a crash leaves the state after some of the first ones, and what was said by then is a prefix of what these say.
-pub record IsMoment (limit : ℕ) (old : World) (turns : List Turn) (stopped : Option Content) (said : List ℕ) : Type 0 where
+pub record IsMoment (limit : ℕ) (old : World) (turns : List Turn) (left : Option Content) (said : List ℕ) : Type 0 where
   pub done : List Turn
   pub later : List Turn
   pub split : turns ≡ done ++ later
-  pub leaves : LeavesState stopped (state_after limit old.state done)
+  pub leaves : LeavesState left (state_after limit old.state done)
   pub says : SaysPart old.said (transcript limit old.state done) said
 
 -- These turns lead from the old world to the new one, and all that is said in them was said.
@@ -59,23 +70,25 @@ pub record Leads (limit store : ℕ) (old : World) (turns : List Turn) (new : Wo
   pub allowed : AllAllowed limit store old.state turns
 
 -- Where `held` stood open, serving `bytes` answered each statement that ends in them, and said each reply.
--- Where they end the script it answered the rest too. Each moment that came between is one of these turns.
-pub record Served (limit store : ℕ) (whole : Bool) (held bytes : List ℕ) (old new : World) (before after : Times) : Type 0 where
+-- Where they end the script it answered the rest too. Each moment that came between is one of these turns, and there were
+-- at most as many commits as statements among them.
+pub record Served (limit store : ℕ) (whole : Bool) (held bytes : List ℕ) (old new : World) (before after : KeeperView) : Type 0 where
   pub turns : List Turn
   pub rest : List ℕ
   pub cut : HasPieces whole (held ++ bytes) (pieces turns) rest
   pub leads : Leads limit store old turns new
-  pub moments : Passes before after (IsMoment limit old turns)
+  pub moments : Passes before.time after.time (IsMoment limit old turns)
+  pub commits : CommitsWithin turns before.counts after.counts
 
 -- The same, as far as the script has come; the cutter then holds what stands open.
-pub record ServedTo (limit store : ℕ) (held bytes : List ℕ) (old new : World) (before after : Times) (cutter : Seen) : Type 0 where
+pub record ServedTo (limit store : ℕ) (held bytes : List ℕ) (old new : World) (before after : KeeperView) (cutter : Seen) : Type 0 where
   pub served : Served limit store false held bytes old new before after
   pub stands : StandsOpen limit cutter served.rest
 
 -- a prefix of some bytes
-pub record IsFrontOf (front all : List ℕ) : Type 0 where
+pub record IsPrefixOf (prefix all : List ℕ) : Type 0 where
   pub rest : List ℕ
-  pub is : all ≡ front ++ rest
+  pub is : all ≡ prefix ++ rest
 
 -- a prefix of some bytes, and not all of them
 pub record IsPartOf (part all : List ℕ) : Type 0 where
@@ -84,32 +97,38 @@ pub record IsPartOf (part all : List ℕ) : Type 0 where
   pub more : 0 < length rest
 
 -- A piece was answered, and the reply was said.
-pub record Answered (limit store : ℕ) (piece : Piece) (old new : World) (before after : Times) : Type 0 where
+pub record Answered (limit store : ℕ) (piece : Piece) (old new : World) (before after : KeeperView) : Type 0 where
   pub answer : Answer
   pub leads : Leads limit store old (turn_by piece answer ∷ []) new
-  pub moments : Passes before after (IsMoment limit old (turn_by piece answer ∷ []))
+  pub moments : Passes before.time after.time (IsMoment limit old (turn_by piece answer ∷ []))
 
 -- computed examples: a script of one statement and a rest that is a comment
 abbrev pub world : List ℕ → World
 world said = record { state = empty_state; said = Some said }
 
-half_a_word : (time : Times) → Served 65536 0 true [] (codes "SELEC;\n-- note") (world []) (world (codes "E10: statement not understood\n")) time time
+half_a_word : (k : KeeperView) → Served 65536 0 true [] (codes "SELEC;\n-- note") (world []) (world (codes "E10: statement not understood\n")) k k
 unfolding chars
-half_a_word time = record {
+half_a_word k = record {
   turns = turn_by (statement (codes "SELEC")) Step ∷ turn_by (rest_piece (codes "-- note")) Step ∷ [];
   rest = codes "-- note";
   cut = record { statements = codes "SELEC" ∷ []; cut = (_, refl, (refl, refl)); are = refl };
   leads = record { said = codes "E10: statement not understood\n"; run = record { state = refl; says = refl }; told = refl; allowed = (tt, (tt, tt)) };
-  moments = passes_none time _;
+  moments = passes_none k.time _;
+  commits = omega arith;
 }
 
 -- a statement that a newline ends, while the next one stands open
-some_text : (time : Times) → Served 65536 0 false (codes "EXEC CTX_DOC") (codes ".POLICY_TOKENS('some text'); \nSELEC;") (world (codes "x")) (world (codes "xsome|0|4\ntext|5|4\n")) time time
+some_text : (k : KeeperView) → Served 65536 0 false (codes "EXEC CTX_DOC") (codes ".POLICY_TOKENS('some text'); \nSELEC;") (world (codes "x")) (world (codes "xsome|0|4\ntext|5|4\n")) k k
 unfolding encode digits chars
-some_text time = record {
+some_text k = record {
   turns = turn_by (statement (codes "EXEC CTX_DOC.POLICY_TOKENS('some text')")) Step ∷ [];
   rest = codes "SELEC;";
   cut = record { statements = codes "EXEC CTX_DOC.POLICY_TOKENS('some text')" ∷ []; cut = (_, refl, (refl, refl)); are = refl };
   leads = record { said = codes "some|0|4\ntext|5|4\n"; run = record { state = refl; says = refl }; told = refl; allowed = (tt, tt) };
-  moments = passes_none time _;
+  moments = passes_none k.time _;
+  commits = omega arith;
 }
+
+-- the rest of a script isn't a statement, so two turns may have called one commit
+one_of_two : statement_count (turn_by (statement (codes "SELEC")) Step ∷ turn_by (rest_piece (codes "-- note")) Step ∷ []) ≡ 1
+one_of_two = refl

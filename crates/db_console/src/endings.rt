@@ -3,7 +3,7 @@
 ghost use Rattle.std.specs.Prelude.{◌≡◌};
 ghost use Rattle.db_console.specs.Table.{ending_of, status_of};
 
-use crate::saying::Stop;
+use crate::saying::AnswerFault;
 
 /// How a run of the console ends.
 #[derive(Debug, Drop)]
@@ -22,14 +22,14 @@ pub enum Ending {
     PastLimit,
 }
 
-impl Stop {
+impl AnswerFault {
     /// How the run ends by it.
     pub fn ending(self) -> Ending
         ensures { result ≡ ending_of self }
     {
         match self {
-            Stop::Say => Ending::SayFault,
-            Stop::Disk => Ending::DiskFault,
+            AnswerFault::Say => Ending::SayFault,
+            AnswerFault::Disk => Ending::DiskFault,
         }
     }
 }

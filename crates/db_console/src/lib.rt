@@ -2,6 +2,8 @@
 #![tactic(auto)]
 
 mod endings;
+#[cfg(test)]
+mod histories;
 mod responses;
 mod running;
 mod saying;

@@ -1,19 +1,13 @@
 //! What is said to a piece of a script.
 
-ghost use Rattle.std.specs.Prelude.{◌≡◌, ℕ, List, Some, IfOk, OnErr, true};
-ghost use Rattle.std.specs.Str.{chars};
-ghost use Rattle.ct_keep.specs.Content.{Content};
-ghost use Rattle.ct_keep.specs.KeeperViews.{Kept};
-ghost use Rattle.st_parse.specs.Grammar.{read};
-ghost use Rattle.st_cut.specs.Seen.{ShowsText};
-ghost use Rattle.db_state.specs.States.{State, Stands, TakesAll};
+ghost use Rattle.std.specs.Prelude.{◌≡◌, IfOk, OnErr};
+ghost use Rattle.ct_keep.specs.KeeperViews.{AcceptsChanges, AtMostOneCommit, SameButContent};
+ghost use Rattle.db_state.specs.States.{State};
 ghost use Rattle.db_state.specs.Effects.{reply_by};
-ghost use Rattle.db_engine.specs.Steps.{effect_of, rest_step, is_text as is_text_bytes};
+ghost use Rattle.db_engine.specs.Steps.{rest_step, is_text as is_text_bytes};
 ghost use Rattle.db_engine.specs.Executing.{fault_of_stop};
-ghost use Rattle.db_engine.specs.Runs.{statement, can_fill};
-ghost use Rattle.db_console.specs.Worlds.{World};
-ghost use Rattle.db_console.specs.Views.{Shows, Replied, Halted};
-ghost use Rattle.db_console.specs.Responses.{bytes_of, IsTextOf, Responds};
+ghost use Rattle.db_console.specs.Views.{HaltsInText, OverTexts, RepliesToText};
+ghost use Rattle.db_console.specs.Responses.{response_bytes, IsTextOf, RespondsToText};
 
 use ct_base::Bytes;
 use ct_keep::Keeper;
@@ -44,7 +38,7 @@ pub enum Response {
 impl Response {
     /// The bytes that are said.
     pub fn bytes(&self) -> &[u8]
-        ensures { result.now ≡ bytes_of self.now }
+        ensures { result.now ≡ response_bytes self.now }
     {
         match self {
             Response::Nothing => b"",
@@ -81,10 +75,10 @@ fn respond_to_text<R: Threads + Sync, K: Keeper>(
     keeper: &mut K,
     text: &str,
 ) -> Result<Response, Stop>
-    requires ready { (K.view keeper.old).ready }
-    requires takes { TakesAll (K.view keeper.old).fixed.well }
-    ensures kept { Kept (K.view keeper.old) (K.view keeper.new) (fault_of_stop result) }
-    ensures responds { (m : State) (c : Content) → (K.view keeper.old).content ≡ Some c → Stands c m → Responds m (read (chars text.now)) c (K.view keeper.old) (K.view keeper.new) result }
+    requires { AcceptsChanges (K.view keeper.old) }
+    ensures kept { SameButContent (K.view keeper.old) (K.view keeper.new) (fault_of_stop result) }
+    ensures once { AtMostOneCommit (K.view keeper.old).counts (K.view keeper.new).counts }
+    ensures responds { RespondsToText text.now (K.view keeper.old) (K.view keeper.new) result }
 {
     match parse(alloc, text) {
         Ok(None) => Ok(Response::Nothing),
@@ -107,11 +101,11 @@ pub fn respond<R: Threads + Sync, K: Keeper>(
     keeper: &mut K,
     text: Option<&[u8]>,
 ) -> Result<Response, Stop>
-    requires ready { (K.view keeper.old).ready }
-    requires takes { TakesAll (K.view keeper.old).fixed.well }
-    ensures kept { Kept (K.view keeper.old) (K.view keeper.new) (fault_of_stop result) }
-    ensures replied { IfOk result (λ response. (limit : ℕ) (ended : List ℕ) → ShowsText limit text.entry ended → (was : World) → Shows (K.view keeper.old) was → Replied limit (statement ended) was (K.view keeper.old) (K.view keeper.new) (bytes_of response)) }
-    ensures halted { OnErr result ((limit : ℕ) (ended : List ℕ) → ShowsText limit text.entry ended → (was : World) → Shows (K.view keeper.old) was → Halted limit (statement ended) was (K.view keeper.old) (K.view keeper.new)) }
+    requires { AcceptsChanges (K.view keeper.old) }
+    ensures kept { SameButContent (K.view keeper.old) (K.view keeper.new) (fault_of_stop result) }
+    ensures once { AtMostOneCommit (K.view keeper.old).counts (K.view keeper.new).counts }
+    ensures replied { IfOk result (λ response. RepliesToText text.entry (response_bytes response) (K.view keeper.old) (K.view keeper.new)) }
+    ensures halted { OnErr result (HaltsInText text.entry (K.view keeper.old) (K.view keeper.new)) }
 {
     let Some(bytes) = text else {
         return Ok(Response::TooLong);
@@ -124,7 +118,7 @@ pub fn respond<R: Threads + Sync, K: Keeper>(
 
 /// The response to the rest of a script, which is given where it isn't too long. It takes no memory, and executes nothing.
 pub fn respond_to_rest(text: Option<&[u8]>) -> Response
-    ensures { (limit : ℕ) (rest : List ℕ) → ShowsText limit text.entry rest → (m : State) → bytes_of result ≡ reply_by (rest_step limit m rest) }
+    ensures { OverTexts text.entry (λ limit rest. (m : State) → response_bytes result ≡ reply_by (rest_step limit m rest)) }
 {
     let Some(bytes) = text else {
         return Response::TooLong;

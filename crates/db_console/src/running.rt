@@ -1,10 +1,10 @@
 //! A whole run.
 
-ghost use Rattle.std.specs.Prelude.{◌≡◌, ◌^◌, ◌<◌, ◌↔◌, None, length};
-ghost use Rattle.db_state.specs.States.{TakesAll};
+ghost use Rattle.std.specs.Prelude.{◌≡◌, ◌<◌, ◌↔◌, None, length};
+ghost use Rattle.ct_keep.specs.KeeperViews.{AcceptsChanges};
 ghost use Rattle.db_console.specs.Views.{DiskRose};
-ghost use Rattle.db_console.specs.Table.{Completes, FaultsBy, Outcome, RanOver, SiteFaultsBy, TellsPast, Untouched, status_of};
-ghost use Rattle.db_console.specs.declared.endings.Ending.{Ending};
+ghost use Rattle.db_console.specs.Limits.{script_limit, statement_limit};
+ghost use Rattle.db_console.specs.Table.{Completes, FaultsBy, RanWith, SameDisk, ServedWith, SiteFaultsBy, TellsPast};
 
 use crate::serving::serve_script;
 use ct_keep::{Keeper, SiteMap};
@@ -36,11 +36,10 @@ pub fn serve<R: Threads + Sync, K: Keeper>(
     most: u64,
     keeper: &mut K,
 ) -> u8
-    requires ready { (K.view keeper.old).ready }
-    requires takes { TakesAll (K.view keeper.old).fixed.well }
+    requires { AcceptsChanges (K.view keeper.old) }
 
     // the table of statuses, with the moments of a crash
-    ensures table { (ending : Ending) × (result ≡ status_of ending) × Outcome 65536 most (K.view keeper.old) (K.view keeper.new) ending }
+    ensures table { ServedWith statement_limit most (K.view keeper.old) (K.view keeper.new) result }
 
     // causes
     ensures faults { FaultsBy result (K.view keeper.old) (K.view keeper.new) }
@@ -54,13 +53,13 @@ pub fn serve<R: Threads + Sync, K: Keeper>(
 
 /// Serves the script of a site over an empty keeper in memory.
 fn serve_over<R: Threads + Sync, S: Site>(rt: &R, alloc: Global, site: &mut S) -> u8
-    ensures table { (ending : Ending) × (result ≡ status_of ending) × RanOver 65536 (2 ^ 40) (2 ^ 36) (S.disk site.old) (S.disk site.new) ending }
+    ensures table { RanWith (S.disk site.old) (S.disk site.new) result }
     ensures faults { SiteFaultsBy result (S.disk site.old).beside (S.disk site.new).beside }
     ensures memory { result ≡ 5 → (S.disk site.new).beside ≡ (S.disk site.old).beside }
     ensures no_fault { result ≡ 6 → ⊥ }
-    ensures no_disk { Untouched (S.disk site.old) (S.disk site.new) }
-    ensures past { TellsPast (2 ^ 40) result (S.disk site.old).beside (S.disk site.new).beside }
-    ensures complete { Completes (2 ^ 40) result (S.disk site.old).beside (S.disk site.new).beside (Unit {0}) }
+    ensures no_disk { SameDisk (S.disk site.old) (S.disk site.new) }
+    ensures past { TellsPast script_limit result (S.disk site.old).beside (S.disk site.new).beside }
+    ensures complete { Completes script_limit result (S.disk site.old).beside (S.disk site.new).beside (Unit {0}) }
 {
     let mut keeper = SiteMap::over(alloc, site, STORE_LIMIT);
     let status = serve(rt, alloc, DEGREE, SCRIPT_LIMIT, &mut keeper);
@@ -76,16 +75,16 @@ pub fn run<R: Threads + Sync, S: Site>(rt: &R, alloc: Global, words: &[String], 
     ensures no_call { 0 < length words.now → site.new ≡ site.old }
 
     // the table of statuses, from the empty state
-    ensures table { length words.now ≡ 0 → (ending : Ending) × (result ≡ status_of ending) × RanOver 65536 (2 ^ 40) (2 ^ 36) (S.disk site.old) (S.disk site.new) ending }
+    ensures table { length words.now ≡ 0 → RanWith (S.disk site.old) (S.disk site.new) result }
 
     // causes
     ensures faults { SiteFaultsBy result (S.disk site.old).beside (S.disk site.new).beside }
     ensures memory { result ≡ 5 → (S.disk site.new).beside ≡ (S.disk site.old).beside }
     ensures no_fault { result ≡ 6 → ⊥ }
-    ensures past { length words.now ≡ 0 → TellsPast (2 ^ 40) result (S.disk site.old).beside (S.disk site.new).beside }
-    ensures complete { length words.now ≡ 0 → Completes (2 ^ 40) result (S.disk site.old).beside (S.disk site.new).beside (Unit {0}) }
+    ensures past { length words.now ≡ 0 → TellsPast script_limit result (S.disk site.old).beside (S.disk site.new).beside }
+    ensures complete { length words.now ≡ 0 → Completes script_limit result (S.disk site.old).beside (S.disk site.new).beside (Unit {0}) }
 
-    ensures no_disk { Untouched (S.disk site.old) (S.disk site.new) }
+    ensures no_disk { SameDisk (S.disk site.old) (S.disk site.new) }
 {
     if !words.is_empty() {
         return HAS_ARGUMENTS;

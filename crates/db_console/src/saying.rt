@@ -6,9 +6,9 @@ ghost use Rattle.db_console.specs.Views.{Spoke, SpokeInPart};
 use ct_keep::Keeper;
 use ct_site::Failed;
 
-/// What stops the answer to a piece of a script.
+/// Why the answer to a piece of a script broke off.
 #[derive(Debug, Drop)]
-pub enum Stop {
+pub enum AnswerFault {
     /// Saying failed.
     Say,
     /// The disk failed. From then on the keeper may be asked to hear and to say alone.
@@ -28,12 +28,12 @@ fn say_all<K: Keeper>(keeper: &mut K, bytes: &[u8]) -> Result<(), Failed>
 }
 
 /// Says a reply.
-pub fn say_reply<K: Keeper>(keeper: &mut K, reply: &[u8]) -> Result<(), Stop>
+pub fn say_reply<K: Keeper>(keeper: &mut K, reply: &[u8]) -> Result<(), AnswerFault>
     ensures all { OnOk result (Spoke false reply.now (K.view keeper.old) (K.view keeper.new)) }
-    ensures part { IfErr result (λ stop. (stop ≡ Stop.Say) × SpokeInPart reply.now (K.view keeper.old) (K.view keeper.new)) }
+    ensures part { IfErr result (λ fault. (fault ≡ AnswerFault.Say) × SpokeInPart reply.now (K.view keeper.old) (K.view keeper.new)) }
 {
     match say_all(keeper, reply) {
         Ok(()) => Ok(()),
-        Err(_) => Err(Stop::Say),
+        Err(_) => Err(AnswerFault::Say),
     }
 }

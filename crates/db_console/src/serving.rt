@@ -1,16 +1,15 @@
 //! The serving loop.
 
-ghost use Rattle.std.specs.Prelude.{◌≡◌, ◌≤◌, ◌<◌, ◌∷◌, [], ℕ, List, true, false, Ok, IfOk, OnOk, OnErr, IfErr, is_err, length, take};
+ghost use Rattle.std.specs.Prelude.{◌≡◌, ◌≤◌, ◌<◌, ◌∷◌, [], ℕ, true, false, Ok, IfOk, OnOk, OnErr, IfErr, is_err, length, take};
 ghost use Rattle.ct_base.specs.Told.{took};
-ghost use Rattle.st_cut.specs.Seen.{ShowsText};
-ghost use Rattle.db_state.specs.States.{TakesAll};
+ghost use Rattle.ct_keep.specs.KeeperViews.{AcceptsChanges};
 ghost use Rattle.db_engine.specs.Runs.{statement, rest_piece};
-ghost use Rattle.db_console.specs.Views.{Heard, EndsHere, Answers, Stops, Serves, Breaks, Finishes};
+ghost use Rattle.db_console.specs.Views.{AnswersText, Breaks, BreaksOffText, EndsHere, Finishes, Heard, Serves};
 ghost use Rattle.db_console.specs.Table.{Closes, Outcome};
 
 use crate::endings::Ending;
 use crate::responses::{respond, respond_to_rest};
-use crate::saying::{Stop, say_reply};
+use crate::saying::{AnswerFault, say_reply};
 use ct_keep::Keeper;
 use ct_site::Failed;
 use st_cut::Cutter;
@@ -27,23 +26,22 @@ fn answer<R: Threads + Sync, K: Keeper>(
     degree: u32,
     keeper: &mut K,
     text: Option<&[u8]>,
-) -> Result<(), Stop>
-    requires ready { (K.view keeper.old).ready }
-    requires takes { TakesAll (K.view keeper.old).fixed.well }
-    ensures all { OnOk result ((limit : ℕ) (ended : List ℕ) → ShowsText limit text.entry ended → Answers limit (statement ended) (K.view keeper.old) (K.view keeper.new)) }
-    ensures part { IfErr result (λ stop. (limit : ℕ) (ended : List ℕ) → ShowsText limit text.entry ended → Stops limit (statement ended) stop (K.view keeper.old) (K.view keeper.new)) }
+) -> Result<(), AnswerFault>
+    requires { AcceptsChanges (K.view keeper.old) }
+    ensures all { OnOk result (AnswersText statement text.entry (K.view keeper.old) (K.view keeper.new)) }
+    ensures part { IfErr result (λ fault. BreaksOffText statement fault text.entry (K.view keeper.old) (K.view keeper.new)) }
 {
     match respond(rt, alloc, degree, keeper, text) {
         Ok(response) => say_reply(keeper, response.bytes()),
-        Err(_) => Err(Stop::Disk),
+        Err(_) => Err(AnswerFault::Disk),
     }
 }
 
 /// Answers the rest of a script, which is given where it isn't too long.
-fn answer_rest<K: Keeper>(keeper: &mut K, text: Option<&[u8]>) -> Result<(), Stop>
+fn answer_rest<K: Keeper>(keeper: &mut K, text: Option<&[u8]>) -> Result<(), AnswerFault>
     requires { (K.view keeper.old).ready }
-    ensures all { OnOk result ((limit : ℕ) (rest : List ℕ) → ShowsText limit text.entry rest → Answers limit (rest_piece rest) (K.view keeper.old) (K.view keeper.new)) }
-    ensures part { IfErr result (λ stop. (limit : ℕ) (rest : List ℕ) → ShowsText limit text.entry rest → Stops limit (rest_piece rest) stop (K.view keeper.old) (K.view keeper.new)) }
+    ensures all { OnOk result (AnswersText rest_piece text.entry (K.view keeper.old) (K.view keeper.new)) }
+    ensures part { IfErr result (λ fault. BreaksOffText rest_piece fault text.entry (K.view keeper.old) (K.view keeper.new)) }
 {
     let response = respond_to_rest(text);
     say_reply(keeper, response.bytes())
@@ -57,11 +55,10 @@ fn serve_byte<R: Threads + Sync, K: Keeper>(
     keeper: &mut K,
     cutter: &mut Cutter,
     byte: u8,
-) -> Result<(), Stop>
-    requires ready { (K.view keeper.old).ready }
-    requires takes { TakesAll (K.view keeper.old).fixed.well }
+) -> Result<(), AnswerFault>
+    requires { AcceptsChanges (K.view keeper.old) }
     ensures served { OnOk result (Serves (byte ∷ []) (K.view keeper.old) (K.view keeper.new) cutter.old cutter.new) }
-    ensures broke { IfErr result (λ stop. Breaks false stop (byte ∷ []) (K.view keeper.old) (K.view keeper.new) cutter.old) }
+    ensures broke { IfErr result (λ fault. Breaks false fault (byte ∷ []) (K.view keeper.old) (K.view keeper.new) cutter.old) }
 {
     if byte == b'\n' && cutter.is_ending() {
         answer(rt, alloc, degree, keeper, cutter.statement())?;
@@ -80,11 +77,10 @@ fn serve_bytes<R: Threads + Sync, K: Keeper>(
     keeper: &mut K,
     cutter: &mut Cutter,
     bytes: &[u8],
-) -> Result<(), Stop>
-    requires ready { (K.view keeper.old).ready }
-    requires takes { TakesAll (K.view keeper.old).fixed.well }
+) -> Result<(), AnswerFault>
+    requires { AcceptsChanges (K.view keeper.old) }
     ensures served { OnOk result (Serves bytes.now (K.view keeper.old) (K.view keeper.new) cutter.old cutter.new) }
-    ensures broke { IfErr result (λ stop. Breaks false stop bytes.now (K.view keeper.old) (K.view keeper.new) cutter.old) }
+    ensures broke { IfErr result (λ fault. Breaks false fault bytes.now (K.view keeper.old) (K.view keeper.new) cutter.old) }
 {
     for byte in bytes {
         serve_byte(rt, alloc, degree, keeper, cutter, *byte)?;
@@ -99,11 +95,10 @@ fn finish<R: Threads + Sync, K: Keeper>(
     degree: u32,
     keeper: &mut K,
     cutter: &Cutter,
-) -> Result<(), Stop>
-    requires ready { (K.view keeper.old).ready }
-    requires takes { TakesAll (K.view keeper.old).fixed.well }
+) -> Result<(), AnswerFault>
+    requires { AcceptsChanges (K.view keeper.old) }
     ensures served { OnOk result (Finishes (K.view keeper.old) (K.view keeper.new) cutter.now) }
-    ensures broke { IfErr result (λ stop. Breaks true stop [] (K.view keeper.old) (K.view keeper.new) cutter.now) }
+    ensures broke { IfErr result (λ fault. Breaks true fault [] (K.view keeper.old) (K.view keeper.new) cutter.now) }
 {
     if cutter.is_ending() {
         return answer(rt, alloc, degree, keeper, cutter.statement());
@@ -119,13 +114,12 @@ fn close<R: Threads + Sync, K: Keeper>(
     keeper: &mut K,
     cutter: &Cutter,
 ) -> Ending
-    requires ready { (K.view keeper.old).ready }
-    requires takes { TakesAll (K.view keeper.old).fixed.well }
+    requires { AcceptsChanges (K.view keeper.old) }
     ensures { Closes result (K.view keeper.old) (K.view keeper.new) cutter.now }
 {
     match finish(rt, alloc, degree, keeper, cutter) {
         Ok(()) => Ending::Done,
-        Err(stop) => stop.ending(),
+        Err(fault) => fault.ending(),
     }
 }
 
@@ -163,8 +157,7 @@ pub fn serve_script<R: Threads + Sync, K: Keeper>(
     most: u64,
     keeper: &mut K,
 ) -> Ending
-    requires ready { (K.view keeper.old).ready }
-    requires takes { TakesAll (K.view keeper.old).fixed.well }
+    requires { AcceptsChanges (K.view keeper.old) }
     ensures outcome { Outcome limit most (K.view keeper.old) (K.view keeper.new) result }
     ensures memory { result ≡ Ending.NoMemory → keeper.new ≡ keeper.old }
 {
@@ -181,8 +174,8 @@ pub fn serve_script<R: Threads + Sync, K: Keeper>(
         if count == 0 {
             return close(rt, alloc, degree, keeper, &cutter);
         }
-        if let Err(stop) = serve_bytes(rt, alloc, degree, keeper, &mut cutter, &chunk[..count]) {
-            return stop.ending();
+        if let Err(fault) = serve_bytes(rt, alloc, degree, keeper, &mut cutter, &chunk[..count]) {
+            return fault.ending();
         }
         taken += count as u64;
     }

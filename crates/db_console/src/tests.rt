@@ -16,10 +16,10 @@ struct PieceSite {
 }
 
 impl Disk for PieceSite {
-    ghost use Rattle.ct_site.specs.Memory.{view_of};
-    ghost use Rattle.ct_site.specs.Changing.{counts_now, only_now};
+    ghost use Rattle.ct_site.specs.Memory.{memory_view};
+    ghost use Rattle.ct_site.specs.Changing.{may_stay, counts_now, only_now};
 
-    ghost disk = { λ s. view_of s.site };
+    ghost disk = { λ s. memory_view s.site };
 
     fn size(&mut self) -> Result<u64, Failed> {
         self.site.size()
@@ -36,6 +36,8 @@ impl Disk for PieceSite {
     fn sync(&mut self) -> Result<(), Failed> {
         self.site.sync()
     }
+
+    ghost may_stay = { λ s. may_stay s.site };
 
     ghost counts_now = { λ s. counts_now s.site };
 

@@ -9,7 +9,7 @@ returns-then-is_ending-clause-served g c = on_ok_weaker c.answer.result
 
 pub returns-then-is_ending-clause-broke : goal.returns-then-is_ending-clause-broke
 returns-then-is_ending-clause-broke g c = if_err_weaker c.answer.result _ _
-    (λ stop. breaks_last stop _ _ c.args.cutter.now c.statement.result (sym c.is_ending.ensures ∙ c.if-is_ending.true) c.statement.ensures) c.answer.ensures.part
+    (λ fault. breaks_last fault _ _ c.args.cutter.now c.statement.result (sym c.is_ending.ensures ∙ c.if-is_ending.true) c.statement.ensures) c.answer.ensures.part
 
 pub returns-clause-served : goal.returns-clause-served
 returns-clause-served g c = on_ok_weaker c.answer_rest.result
@@ -17,4 +17,4 @@ returns-clause-served g c = on_ok_weaker c.answer_rest.result
 
 pub returns-clause-broke : goal.returns-clause-broke
 returns-clause-broke g c = if_err_weaker c.answer_rest.result _ _
-    (λ stop. breaks_rest stop _ _ c.args.cutter.now c.rest.result (sym c.is_ending.ensures ∙ c.if-is_ending.false) c.rest.ensures) c.answer_rest.ensures.part
+    (λ fault. breaks_rest fault _ _ c.args.cutter.now c.rest.result (sym c.is_ending.ensures ∙ c.if-is_ending.false) c.rest.ensures) c.answer_rest.ensures.part

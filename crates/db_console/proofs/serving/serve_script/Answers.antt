@@ -21,7 +21,7 @@ returns-then-count-eq0-clause-outcome g c =
 pub returns-in-Err-clause-outcome : goal.returns-in-Err-clause-outcome
 returns-in-Err-clause-outcome g c =
     let b : c.in-Ok-hear_some.count ≤ c.args.most - c.loop-taken.taken = omega (arith, c.in-Ok-hear_some.ensures.bound, c.min-room.ensures) in
-    out_broke c.in-Err.stop _ _ _ _ _ _ _ _ _ (going_heard false _ _ _ _ _ _ _ c.loop-taken.invariant.going c.in-Ok-hear_some.ensures.heard)
+    out_broke c.in-Err.fault _ _ _ _ _ _ _ _ _ (going_heard false _ _ _ _ _ _ _ c.loop-taken.invariant.going c.in-Ok-hear_some.ensures.heard)
     (rw c.in-Ok-hear_some.ensures.sized (omega (arith, b, c.loop-taken-test.true, c.loop-taken.invariant.within))) false (λ e. absurd (false≢true e)) c.in-Err.ensures.broke c.ending.ensures
 
 pub loop-taken-preserved : goal.loop-taken-preserved
