@@ -4,7 +4,7 @@ use Rattle.std.proofs.lemmas.List.{take_at, drop_at, length-replicate}
 use Rattle.std.proofs.lemmas.Nat.{from_be_bytes-to_be_bytes_4}
 use Rattle.std.specs.Int.{to_be_bytes, from_be_bytes, w32}
 use Rattle.ct_site.specs.Ranges.{SameIn}
-use Rattle.pg_journal.specs.Pages.{page, number, Numbered, AreBetween}
+use Rattle.pg_journal.specs.Pages.{page, number_in, Numbered, AreBetween}
 use Rattle.ct_base.specs.Zeros.{zeros}
 use Rattle.pg_journal.specs.Recovered.{batch_page, batch_count, number_pages, filling, table, numbered_at, batch_in, numbers_bytes, images_bytes, batch_bytes}
 use Rattle.ct_site.specs.laws.Ranges.{range_part, piece_same}
@@ -32,7 +32,7 @@ fits_pages n = omega arith
 -- ---- the same batch in another image
 
 pub numbered_by : ℕ → ℕ → List ℕ → ℕ → Numbered
-numbered_by place count image k = (number image (4096 * place + 4 * k), page image (place + number_pages count + k))
+numbered_by place count image k = (number_in image (4096 * place + 4 * k), page image (place + number_pages count + k))
 
 pub record SameBatch (x y : List ℕ) : Type 0 where
   pub at : batch_page y ≡ batch_page x
@@ -57,7 +57,7 @@ same_batch x y whole longer inside head tail =
           ∙ ap (λ (n : ℕ). (n, page y (batch_page x + number_pages (batch_count x) + k)))
           (number_same (4096 * batch_page x + 4 * k) x y (omega (arith, inside, fits, less)) longer
           (range_part (4096 * batch_page x) (length x) (4096 * batch_page x + 4 * k) (4096 * batch_page x + 4 * k + 4) x y (omega arith) (omega (arith, inside, fits, less)) tail))
-          ∙ ap (λ (l : List ℕ). (number x (4096 * batch_page x + 4 * k), l))
+          ∙ ap (λ (l : List ℕ). (number_in x (4096 * batch_page x + 4 * k), l))
           (page_same (batch_page x + number_pages (batch_count x) + k) x y (omega (arith, inside, less)) longer
           (range_part (4096 * batch_page x) (length x) (4096 * (batch_page x + number_pages (batch_count x) + k)) (4096 * (batch_page x + number_pages (batch_count x) + k) + 4096) x y (omega arith) (omega (arith, inside, less)) tail)));
       filling = piece_same (filling (batch_count x)) (4096 * batch_page x + 4 * batch_count x) x y (omega (arith, inside, fits)) (omega (arith, inside, fits, longer))

@@ -294,10 +294,10 @@ pub page_step : (ns bytes b : List ℕ) (i at d : ℕ) → i < length ns → i <
 page_step ns bytes b i at d less few place is spelling =
     let left = 4096 - 4 * (i + 1) in
     let all : 4096 - 4 * i ≡ 4 + left = omega (arith, few) in
-    let front : length (spelled (take i ns)) ≡ at = omega (arith, place, length-spelled (take i ns), length-take-le i ns (omega (arith, less))) in
+    let prefix : length (spelled (take i ns)) ≡ at = omega (arith, place, length-spelled (take i ns), length-take-le i ns (omega (arith, less))) in
     let four : length b ≡ 4 = ap (λ (l : List ℕ). length l) spelling in
     ap (λ (l : List ℕ). written at b l) (is ∙ ap (λ (k : ℕ). spelled (take i ns) ++ zeros k) all ∙ ap (λ (l : List ℕ). spelled (take i ns) ++ l) (zeros-add 4 left))
-    ∙ written_piece (spelled (take i ns)) (zeros 4) b (zeros left) at front four
+    ∙ written_piece (spelled (take i ns)) (zeros 4) b (zeros left) at prefix four
     ∙ sym (append_assoc (spelled (take i ns)) b (zeros left))
     ∙ ap (λ (l : List ℕ). (spelled (take i ns) ++ l) ++ zeros left) (spelling ∙ sym (append-nil (to_be_bytes w32 (get_or ns i d))))
     ∙ ap (λ (l : List ℕ). l ++ zeros left) (sym (spelled-append (take i ns) (get_or ns i d ∷ [])) ∙ ap spelled (sym (take-more ns i d less)))

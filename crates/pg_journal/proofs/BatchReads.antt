@@ -5,9 +5,10 @@ use Rattle.std.proofs.lemmas.Bool.{false≢true}
 use Rattle.std.proofs.lemmas.Bool.Decides.{nat_tests}
 use Rattle.std.proofs.Common.{◌≡◌, ◌≢◌, ℕ, zero, suc, ◌+◌, ◌-◌, ◌*◌, ◌≤◌, ◌<◌, List, [], ◌∷◌, ◌++◌, length, take, drop, Option, Some, refl, sym, ap, subst, ◌∙◌, arith, length-drop, length-append}
 use Rattle.std.proofs.lemmas.List.{length-take-le}
-use Rattle.pg_journal.specs.Pages.{page, number, Numbered, Has, AreBetween, put_on, homes_in, IsRoot}
+use Rattle.pg_journal.specs.Pages.{page, number_in, Numbered, Has, AreBetween, put_on, homes_in, IsRoot}
 use Rattle.pg_journal.proofs.Pages.{has_between}
 use Rattle.ct_base.specs.Zeros.{zeros}
+use Rattle.ct_base.specs.laws.Lists.{same_as_itself}
 use Rattle.pg_journal.specs.Recovered.{batch_page, batch_count, number_pages, filling, table, numbered_at, batch_in, gate, IsOpen, IsOpened}
 use Rattle.pg_journal.specs.Looking.{IsRead, ArePagesOr, IsBatchOr, IsFilledOr, AreZeros, IsRootOr, IsOpenedOr}
 
@@ -26,10 +27,10 @@ read_none image count = record {
 }
 
 pub read_step : (image : List ℕ) (count low i n : ℕ) (items : List Numbered) (bytes : List ℕ) → IsRead image count low i items → i < count → low ≤ n → n < batch_page image
-    → n ≡ number image (4096 * batch_page image + 4 * i) → bytes ≡ page image (batch_page image + number_pages (batch_count image) + i) → length bytes ≡ 4096
+    → n ≡ number_in image (4096 * batch_page image + 4 * i) → bytes ≡ page image (batch_page image + number_pages (batch_count image) + i) → length bytes ≡ 4096
     → IsRead image count (n + 1) (i + 1) (items ++ (n, bytes) ∷ [])
 read_step image count low i n items bytes r less least below number_is page_is long =
-    let item : (n, bytes) ≡ numbered_at image i = ap (λ (m : ℕ). (m, bytes)) number_is ∙ ap (λ (l : List ℕ). (number image (4096 * batch_page image + 4 * i), l)) page_is in
+    let item : (n, bytes) ≡ numbered_at image i = ap (λ (m : ℕ). (m, bytes)) number_is ∙ ap (λ (l : List ℕ). (number_in image (4096 * batch_page image + 4 * i), l)) page_is in
     let up : i + 1 ≡ suc i = omega arith in
     let one : n + 1 ≡ suc (numbered_at image i).0 = omega (arith, number_is) in
     record {
@@ -55,7 +56,7 @@ read_all image count low i ps r done is =
     let e : i + 0 ≡ batch_count image = omega (arith, done, is) in
     (subst (λ (k : ℕ). AreBetween 2 (batch_page image) (table (numbered_at image) 0 k)) e (r.onward 0 tt), sym (r.is ∙ ap (λ (k : ℕ). table (numbered_at image) 0 k) (done ∙ is)))
 
-module _ (image : List ℕ) (count low i n : ℕ) (items : List Numbered) (r : IsRead image count low i items) (less : i < count) (is : count ≡ batch_count image) (number_is : n ≡ number image (4096 * batch_page image + 4 * i)) where
+module _ (image : List ℕ) (count low i n : ℕ) (items : List Numbered) (r : IsRead image count low i items) (less : i < count) (is : count ≡ batch_count image) (number_is : n ≡ number_in image (4096 * batch_page image + 4 * i)) where
   here : AreBetween 2 (batch_page image) (batch_in image) → AreBetween low (batch_page image) (table (numbered_at image) i (suc (count - suc i)))
   here between = r.back (suc (count - suc i)) (omega (arith, less)) (subst (λ (k : ℕ). AreBetween 2 (batch_page image) (table (numbered_at image) 0 k)) (sym is) between)
 
@@ -73,10 +74,6 @@ page_long place count i image inside less = length-take-le 4096 (drop (4096 * (p
 pub ok_of_err : {T E : Type 0} (r : Result T E) (P : T → Type 0) → IsErr r → IfOk r P
 ok_of_err (Ok x) P err = absurd (false≢true err)
 ok_of_err (Err e) P err = tt
-
-pub same_as_itself : (xs : List ℕ) → pointwise nat_eq xs xs ≡ true
-same_as_itself [] = refl
-same_as_itself (x ∷ xs) = let rest = same_as_itself xs in grind (arith, nat_tests)
 
 pub are_zeros : (r : Bool) (bytes zs : List ℕ) (n : ℕ) → r ≡ pointwise nat_eq bytes zs → zs ≡ zeros n → AreZeros r n bytes
 are_zeros true bytes zs n eq none = same_text bytes zs eq ∙ none

@@ -14,7 +14,7 @@ use Rattle.pg_journal.specs.Pages.{page, byte, homes_in, root_page, IsRoot, home
 use Rattle.ct_base.specs.Zeros.{zeros}
 use Rattle.pg_journal.specs.Recovered.{IsUnborn, IsRecovered, gate, mark, first_pages}
 use Rattle.pg_journal.specs.Births.{born, IsCleared}
-use Rattle.pg_journal.specs.Standing.{IsShut, Stands}
+use Rattle.pg_journal.specs.Standing.{IsShut, DiskStands}
 use Rattle.ct_site.specs.Writing.{Writes}
 use Rattle.ct_site.specs.laws.Writing.{writes_keep}
 use Rattle.ct_site.specs.laws.Ranges.{torn_before}
@@ -83,9 +83,9 @@ gate_of_born b =
 root_of_born : (b : ℕ) → page (b ∷ born) 2 ≡ root_page 3
 unfolding born
 root_of_born b =
-    let front : length ((b ∷ mark) ++ zeros 4096) ≡ 8192 = omega (arith, length-append (b ∷ mark) (zeros 4096), length-mark, length-replicate {A = ℕ} 4096 0) in
+    let prefix : length ((b ∷ mark) ++ zeros 4096) ≡ 8192 = omega (arith, length-append (b ∷ mark) (zeros 4096), length-mark, length-replicate {A = ℕ} 4096 0) in
     ap (λ (l : List ℕ). take 4096 (drop 8192 l)) (sym (append_assoc (b ∷ mark) (zeros 4096) (root_page 3)))
-    ∙ ap (λ (l : List ℕ). take 4096 l) (drop_at ((b ∷ mark) ++ zeros 4096) (root_page 3) 8192 front)
+    ∙ ap (λ (l : List ℕ). take 4096 l) (drop_at ((b ∷ mark) ++ zeros 4096) (root_page 3) 8192 prefix)
     ∙ take_all 4096 (root_page 3) (omega (arith, length-root 3))
 
 mark_of_born : (b : ℕ) → take 4095 (drop 1 (b ∷ born)) ≡ mark
@@ -176,7 +176,7 @@ pub birth_leaves : (bytes : List ℕ) (old new : DiskView) (result : Result (Uni
 birth_leaves bytes old new result one settled writes = Rattle.ct_site.specs.Disks.leaves_more old new _ _ writes.leaves
     (λ x cut. birth_torn 0 x (subst (λ (n : ℕ). Torn 0 n (0 ∷ born) x) one (subst (λ (l : List ℕ). Torn 0 (length bytes) l x) (settled.only cut.before cut.left) cut.torn)))
 
-pub bear_stands : (new : DiskView) → IsSettled new (1 ∷ born) → Stands new 3 first_pages
+pub bear_stands : (new : DiskView) → IsSettled new (1 ∷ born) → DiskStands new 3 first_pages
 bear_stands new settled = record { image = 1 ∷ born; settled = settled; shut = born_shut 1 (omega arith) }
 
 pub born_given : (bytes image : List ℕ) (d : DiskView) → bytes ≡ born → IsCleared image → IsTold (written 1 bytes image) d → IsTold (0 ∷ born) d

@@ -6,7 +6,7 @@ use Rattle.std.proofs.lemmas.Bool.Decides.{nat_tests}
 use Rattle.ct_site.specs.Disks.{DiskView, Leaves, leaves_then, leaves_more}
 use Rattle.pg_journal.specs.Pages.{page, Numbered, with_page, put_on, AreBetween, homes_in, IsRoot, homes_of, changed}
 use Rattle.pg_journal.specs.Recovered.{IsRecovered, gate}
-use Rattle.pg_journal.specs.Standing.{IsShut, Stands, homes_with, HasGoodRoot, MayCommit, IsEither}
+use Rattle.pg_journal.specs.Standing.{IsShut, DiskStands, homes_with, HasGoodRoot, MayCommit, IsEither}
 use Rattle.pg_journal.specs.Staging.{IsStaged, Staged, IsGoal, IsSettling, AtHome, IsGateWrite, IsGateSet}
 use Rattle.pg_journal.proofs.Pages.{with_same, with_other, put_on_below, put_on_root, changed_homes, between_length}
 use Rattle.pg_journal.proofs.Shut.{shut_still, shut_recovers, opened, settling_recovers, settling_again, shut_again}
@@ -65,7 +65,7 @@ closes place batch goal img x g s home w = elim (cases_eq (gate x) 1) [
 ]
 
 pub closed_stands : (place : ℕ) (batch : List Numbered) (goal : ℕ → List ℕ) (new : DiskView) (img : List ℕ) → IsGoal place goal → IsSettling place batch goal img
-    → ((i : ℕ) → 2 ≤ i → i < place → page img i ≡ goal i) → IsGateSet 0 img new → Stands new (homes_in (goal 2)) (homes_of goal)
+    → ((i : ℕ) → 2 ≤ i → i < place → page img i ≡ goal i) → IsGateSet 0 img new → DiskStands new (homes_in (goal 2)) (homes_of goal)
 closed_stands place batch goal new img g s at set = record {
   image = set.image;
   settled = set.settled;
@@ -99,11 +99,11 @@ module _ (homes place : ℕ) (pages : List (List ℕ)) (batch : List Numbered) (
       closed_moments d4 third h fourth = leaves_then old d3 d4 _ (home_moments third)
           (leaves_more d3 d4 _ _ fourth (λ x w. either x (closes place batch (put_on batch (page s.image)) h.image x (is_goal homes place pages batch may is least s.image s.shut s.staged) h.settling h.home w)))
 
-      pub closed_so : (d4 : DiskView) (after : ℕ) → after ≡ homes_with homes batch → (h : AtHome d3 place batch (put_on batch (page s.image))) → IsGateSet 0 h.image d4 → Stands d4 after (changed batch pages)
+      pub closed_so : (d4 : DiskView) (after : ℕ) → after ≡ homes_with homes batch → (h : AtHome d3 place batch (put_on batch (page s.image))) → IsGateSet 0 h.image d4 → DiskStands d4 after (changed batch pages)
       closed_so d4 after count h set =
           let g = is_goal homes place pages batch may is least s.image s.shut s.staged in
-          subst (λ (n : ℕ). Stands d4 n (changed batch pages)) (homes_after homes place pages batch may is least s.image s.shut s.staged ∙ sym count)
-          (subst (λ (l : List (List ℕ)). Stands d4 (homes_in (put_on batch (page s.image) 2)) l) (goal_pages homes place pages batch may is least s.image s.shut s.staged)
+          subst (λ (n : ℕ). DiskStands d4 n (changed batch pages)) (homes_after homes place pages batch may is least s.image s.shut s.staged ∙ sym count)
+          (subst (λ (l : List (List ℕ)). DiskStands d4 (homes_in (put_on batch (page s.image) 2)) l) (goal_pages homes place pages batch may is least s.image s.shut s.staged)
           (closed_stands place batch (put_on batch (page s.image)) d4 h.image g h.settling h.home set))
 
 -- ---- what the steps ask for

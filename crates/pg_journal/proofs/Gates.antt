@@ -8,7 +8,7 @@ use Rattle.ct_site.specs.Disks.{DiskView, IsSettled, Leaves}
 use Rattle.pg_journal.specs.Recovered.{gate}
 use Rattle.pg_journal.specs.Staging.{IsGateWrite, IsGateSet}
 use Rattle.ct_site.specs.Lengths.{IsWithin}
-use Rattle.ct_site.specs.Writing.{Writes, Gives}
+use Rattle.ct_site.specs.Writing.{Writes, DiskGives}
 use Rattle.ct_site.specs.laws.Writing.{writes_keep}
 use Rattle.ct_site.specs.laws.Ranges.{range_then, range_itself, piece_written}
 use Rattle.pg_journal.proofs.Shut.{gate_write}
@@ -29,7 +29,7 @@ pub record IsGate (byte : ℕ) (image x : List ℕ) : Type 0 where
   pub write : IsGateWrite image x
   pub is : gate x ≡ byte
 
-pub gate_given : (byte : ℕ) (old new : DiskView) (image : List ℕ) → IsWithin 4097 old → IsSettled old image → Writes 4096 (byte ∷ []) old new (Ok tt) → Gives (IsGate byte image) new
+pub gate_given : (byte : ℕ) (old new : DiskView) (image : List ℕ) → IsWithin 4097 old → IsSettled old image → Writes 4096 (byte ∷ []) old new (Ok tt) → DiskGives (IsGate byte image) new
 gate_given byte old new image within settled writes =
     let long = within.least image settled.told in
     let y = written 4096 (byte ∷ []) image in
@@ -44,7 +44,7 @@ gate_given byte old new image within settled writes =
       };
     }
 
-pub gate_set : (byte : ℕ) (d new : DiskView) (image : List ℕ) (given : Gives (IsGate byte image) d) → new.image ≡ d.image → ((left : List ℕ) → new.may_leave left → left ≡ given.image) → IsGateSet byte image new
+pub gate_set : (byte : ℕ) (d new : DiskView) (image : List ℕ) (given : DiskGives (IsGate byte image) d) → new.image ≡ d.image → ((left : List ℕ) → new.may_leave left → left ≡ given.image) → IsGateSet byte image new
 gate_set byte d new image given same durable = record {
   image = given.image;
   settled = record { told = same ∙ given.is; only = durable };

@@ -7,14 +7,14 @@ use Rattle.ct_site.specs.declared.outside.Failed.{Failed}
 use Rattle.ct_site.specs.Images.{written, Torn}
 use Rattle.ct_site.specs.Pieces.{torn_written}
 use Rattle.ct_site.specs.Disks.{DiskView, IsSettled, Leaves, leaves_then, leaves_none}
-use Rattle.ct_site.specs.Lengths.{Grows, IsWithin}
-use Rattle.ct_site.specs.Writing.{Writes, Gives}
+use Rattle.ct_site.specs.Lengths.{Lengthens, IsWithin}
+use Rattle.ct_site.specs.Writing.{Writes, DiskGives}
 use Rattle.ct_site.specs.laws.Writing.{written_then, written_nothing, gives_written, writes_keep}
 use Rattle.ct_site.specs.laws.Lengths.{grows_inside}
 use Rattle.pg_journal.specs.BatchStates.{numbers_in, IsRun}
 use Rattle.pg_journal.specs.Pages.{page, Numbered, with_page, put_on, Has, AreBetween}
 use Rattle.pg_journal.specs.Recovered.{images_bytes}
-use Rattle.pg_journal.specs.Staging.{IsSettling, AtHome, IsPart}
+use Rattle.pg_journal.specs.Staging.{IsSettling, AtHome, IsPartHome}
 use Rattle.pg_journal.proofs.BatchBytes.{length-images}
 use Rattle.pg_journal.proofs.BatchPages.{count_of_numbers}
 use Rattle.pg_journal.proofs.Pages.{put_on_same, has_between}
@@ -82,7 +82,7 @@ has_next batch n (w ∷ ws) i next least less = elim (Rattle.std.proofs.lemmas.B
 ]
 
 -- one page home
-part_step : (place : ℕ) (batch rest : List Numbered) (w : Numbered) (goal : ℕ → List ℕ) (x : List ℕ) → Has batch w.0 → length w.1 ≡ 4096 → IsPart place batch (w ∷ rest) goal x → IsPart place batch rest goal (written (4096 * w.0) w.1 x)
+part_step : (place : ℕ) (batch rest : List Numbered) (w : Numbered) (goal : ℕ → List ℕ) (x : List ℕ) → Has batch w.0 → length w.1 ≡ 4096 → IsPartHome place batch (w ∷ rest) goal x → IsPartHome place batch rest goal (written (4096 * w.0) w.1 x)
 part_step place batch rest w goal x has long part =
     let between = has_between 2 place batch w.0 (settling_numbers place batch goal x part.settling) has in
     let below : suc w.0 ≤ place = between.1 in
@@ -96,16 +96,16 @@ part_step place batch rest w goal x has long part =
     }
 
 -- all pages of a run home, in one write
-pub part_run : (place : ℕ) (batch rest : List Numbered) (n : ℕ) (ws : List Numbered) (goal : ℕ → List ℕ) (x : List ℕ) → AreNext batch n ws → IsPart place batch (ws ++ rest) goal x → IsPart place batch rest goal (written (4096 * n) (images_bytes ws) x)
-part_run place batch rest n [] goal x next part = subst (IsPart place batch rest goal) (sym (written_nothing (4096 * n) x)) part
+pub part_run : (place : ℕ) (batch rest : List Numbered) (n : ℕ) (ws : List Numbered) (goal : ℕ → List ℕ) (x : List ℕ) → AreNext batch n ws → IsPartHome place batch (ws ++ rest) goal x → IsPartHome place batch rest goal (written (4096 * n) (images_bytes ws) x)
+part_run place batch rest n [] goal x next part = subst (IsPartHome place batch rest goal) (sym (written_nothing (4096 * n) x)) part
 part_run place batch rest n (w ∷ ws) goal x next part =
     let here : 4096 * w.0 ≡ 4096 * n = omega (arith, next.0) in
     let between = has_between 2 place batch w.0 (settling_numbers place batch goal x part.settling) next.1 in
     let within = settling_within place batch goal x part.settling in
     let e : 4096 * suc n ≡ 4096 * n + length w.1 = omega (arith, next.2) in
-    let first : IsPart place batch (ws ++ rest) goal (written (4096 * n) w.1 x) =
-    subst (λ (at : ℕ). IsPart place batch (ws ++ rest) goal (written at w.1 x)) here (part_step place batch (ws ++ rest) w goal x next.1 next.2 part) in
-    subst (IsPart place batch rest goal)
+    let first : IsPartHome place batch (ws ++ rest) goal (written (4096 * n) w.1 x) =
+    subst (λ (at : ℕ). IsPartHome place batch (ws ++ rest) goal (written at w.1 x)) here (part_step place batch (ws ++ rest) w goal x next.1 next.2 part) in
+    subst (IsPartHome place batch rest goal)
     (ap (λ (at : ℕ). written at (images_bytes ws) (written (4096 * n) w.1 x)) e ∙ written_then (4096 * n) w.1 (images_bytes ws) x (omega (arith, within, between.1, next.0)))
     (part_run place batch rest (suc n) ws goal (written (4096 * n) w.1 x) next.3 first)
 
@@ -154,10 +154,10 @@ module _ (batch : List Numbered) (low end from to : ℕ) (between : AreBetween l
         (writes_keep (IsSettling place batch goal) (4096 * first_of) bytes mid new result writes
         (λ x y s torn. settling_torn place first_of (to - from) batch goal x y s (omega (arith, less)) has_there (subst (λ (m : ℕ). Torn (4096 * first_of) m x y) long torn)) leaves.now)
 
-    pub home_gives : Writes (4096 * first_of) bytes mid new (Ok tt) → Gives (IsPart place batch (drop from batch) goal) mid → Gives (IsPart place batch (drop to batch) goal) new
-    home_gives writes gives = gives_written (IsPart place batch (drop from batch) goal) (IsPart place batch (drop to batch) goal) (4096 * first_of) bytes mid new gives writes
-        (λ x part. subst (λ (l : List ℕ). IsPart place batch (drop to batch) goal (written (4096 * first_of) l x)) (sym is)
-        (part_run place batch (drop to batch) first_of run_of goal x next_there (subst (λ (l : List Numbered). IsPart place batch l goal x) split_there part)))
+    pub home_gives : Writes (4096 * first_of) bytes mid new (Ok tt) → DiskGives (IsPartHome place batch (drop from batch) goal) mid → DiskGives (IsPartHome place batch (drop to batch) goal) new
+    home_gives writes gives = gives_written (IsPartHome place batch (drop from batch) goal) (IsPartHome place batch (drop to batch) goal) (4096 * first_of) bytes mid new gives writes
+        (λ x part. subst (λ (l : List ℕ). IsPartHome place batch (drop to batch) goal (written (4096 * first_of) l x)) (sym is)
+        (part_run place batch (drop to batch) first_of run_of goal x next_there (subst (λ (l : List Numbered). IsPartHome place batch l goal x) split_there part)))
 
 -- the same over the numbers and the bytes as they are kept
 module _ (batch : List Numbered) (end : ℕ) (numbers bytes : List ℕ) (between : AreBetween 2 end batch) (is : numbers ≡ numbers_in batch) (are : bytes ≡ images_bytes batch) where
@@ -194,11 +194,11 @@ module _ (batch : List Numbered) (end : ℕ) (numbers bytes : List ℕ) (between
     run_leaves result writes leaves = home_leaves batch 2 end from to between less inside run_there place goal old mid new _ piece result (first_same result writes) leaves
 
     pub run_gives : Writes (4096 * get_or numbers from 0) (take (4096 * to - 4096 * from) (drop (4096 * from) bytes)) mid new (Ok tt)
-        → Gives (IsPart place batch (drop from batch) goal) mid → Gives (IsPart place batch (drop to batch) goal) new
+        → DiskGives (IsPartHome place batch (drop from batch) goal) mid → DiskGives (IsPartHome place batch (drop to batch) goal) new
     run_gives writes gives = home_gives batch 2 end from to between less inside run_there place goal old mid new _ piece (first_same (Ok tt) writes) gives
 
     -- it doesn't lengthen a disk that has the pages
-    pub run_grows : (result : Result (Unit {0}) Failed) → ((i : ℕ) → Has batch i → IsWithin (4096 * i + 4096) mid) → Writes (4096 * get_or numbers from 0) (take (4096 * to - 4096 * from) (drop (4096 * from) bytes)) mid new result → Grows 0 mid new
+    pub run_grows : (result : Result (Unit {0}) Failed) → ((i : ℕ) → Has batch i → IsWithin (4096 * i + 4096) mid) → Writes (4096 * get_or numbers from 0) (take (4096 * to - 4096 * from) (drop (4096 * from) bytes)) mid new result → Lengthens 0 mid new
     run_grows result pages writes =
         let n = get_or (numbers_in batch) from 0 in
         let long : length (take (4096 * to - 4096 * from) (drop (4096 * from) bytes)) ≡ 4096 * (to - from) = ap (λ (l : List ℕ). length l) piece ∙ long_there batch 2 end from to between less inside run_there in
@@ -206,13 +206,13 @@ module _ (batch : List Numbered) (end : ℕ) (numbers bytes : List ℕ) (between
         grows_inside (4096 * n + length (take (4096 * to - 4096 * from) (drop (4096 * from) bytes))) (4096 * last + 4096) 0 mid new (omega (arith, long, less))
         (pages last (has_there batch 2 end from to between less inside run_there last (omega (arith, less)) (omega (arith, less)))) (first_same result writes).grows
 
-pub homes_begun : (place : ℕ) (batch : List Numbered) (goal : ℕ → List ℕ) (image : List ℕ) (disk : DiskView) → IsSettled disk image → IsSettling place batch goal image → Gives (IsPart place batch batch goal) disk
+pub homes_begun : (place : ℕ) (batch : List Numbered) (goal : ℕ → List ℕ) (image : List ℕ) (disk : DiskView) → IsSettled disk image → IsSettling place batch goal image → DiskGives (IsPartHome place batch batch goal) disk
 homes_begun place batch goal image disk settled s = record { image = image; is = settled.told; has = record { settling = s; left = s.pages } }
 
 pub settling_now : (place : ℕ) (batch : List Numbered) (goal : ℕ → List ℕ) (image : List ℕ) (disk : DiskView) → IsSettled disk image → IsSettling place batch goal image → Leaves disk disk (IsSettling place batch goal)
 settling_now place batch goal image disk settled s = leaves_none disk _ (λ x left. subst (IsSettling place batch goal) (sym (settled.only x left)) s)
 
-pub at_home : (place : ℕ) (batch rest : List Numbered) (goal : ℕ → List ℕ) (d new : DiskView) → rest ≡ [] → (g : Gives (IsPart place batch rest goal) d) → new.image ≡ d.image → ((left : List ℕ) → new.may_leave left → left ≡ g.image) → AtHome new place batch goal
+pub at_home : (place : ℕ) (batch rest : List Numbered) (goal : ℕ → List ℕ) (d new : DiskView) → rest ≡ [] → (g : DiskGives (IsPartHome place batch rest goal) d) → new.image ≡ d.image → ((left : List ℕ) → new.may_leave left → left ≡ g.image) → AtHome new place batch goal
 at_home place batch rest goal d new none g same durable = record {
   image = g.image;
   settled = record { told = same ∙ g.is; only = durable };

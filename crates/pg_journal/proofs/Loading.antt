@@ -6,7 +6,7 @@ use Rattle.ct_site.specs.laws.Calls.{settled_same}
 use Rattle.pg_journal.specs.Pages.{page, Numbered, put_on, Has, AreBetween, homes_in, homes_of}
 use Rattle.pg_journal.specs.Recovered.{IsUnborn, IsStore, IsClosed, IsOpen, IsRecovered, Alike, gate, batch_page, batch_in, first_pages}
 use Rattle.pg_journal.specs.Births.{IsUnbornAs}
-use Rattle.pg_journal.specs.Standing.{Stands}
+use Rattle.pg_journal.specs.Standing.{DiskStands}
 use Rattle.pg_journal.specs.Staging.{IsGoal, IsSettling}
 use Rattle.pg_journal.specs.Looking.{IsBorn, IsUnbornOr, HasMark, IsClosedOr, IsOpenedOr, IsNoStore, Loaded}
 use Rattle.ct_site.specs.Lengths.{IsWithin}
@@ -26,7 +26,7 @@ unborn_as false image c = inl (inr (c.first, c.most), refl)
 pub born_moments : (old new : DiskView) (empty : Bool) (image : List ℕ) → IsUnbornAs empty image → Leaves old new (λ x. IsRecovered x first_pages) → Leaves old new (Alike image)
 born_moments old new empty image unborn leaves = leaves_more old new _ _ leaves (λ x r. alike_of image x first_pages (unborn_as empty image unborn) r)
 
-pub born_loaded : (new : DiskView) (empty : Bool) (image : List ℕ) → IsUnbornAs empty image → Stands new 3 first_pages → Loaded image new 3
+pub born_loaded : (new : DiskView) (empty : Bool) (image : List ℕ) → IsUnbornAs empty image → DiskStands new 3 first_pages → Loaded image new 3
 born_loaded new empty image unborn stands = record { pages = first_pages; recovered = unborn_as empty image unborn; stands = stands }
 
 -- ---- no store
@@ -87,8 +87,8 @@ to_finish image found ws homes store found_is some =
     let s : IsSettling (batch_page image) ws (put_on ws (page image)) image = record { store = store; is_open = f.0; is = f.1; at = refl; pages = λ i two less. refl } in
     record { goal_is = g; settling = s; homes_is = f.3; recovered = settling_recovers (batch_page image) ws (put_on ws (page image)) image g s }
 
-pub finished : (image : List ℕ) (ws : List Numbered) (homes : ℕ) (new : DiskView) → IsToFinish image ws homes → Stands new (homes_in (put_on ws (page image) 2)) (homes_of (put_on ws (page image))) → Loaded image new homes
-finished image ws homes new f stands = record { pages = homes_of (put_on ws (page image)); recovered = f.recovered; stands = subst (λ (n : ℕ). Stands new n (homes_of (put_on ws (page image)))) (sym f.homes_is) stands }
+pub finished : (image : List ℕ) (ws : List Numbered) (homes : ℕ) (new : DiskView) → IsToFinish image ws homes → DiskStands new (homes_in (put_on ws (page image) 2)) (homes_of (put_on ws (page image))) → Loaded image new homes
+finished image ws homes new f stands = record { pages = homes_of (put_on ws (page image)); recovered = f.recovered; stands = subst (λ (n : ℕ). DiskStands new n (homes_of (put_on ws (page image)))) (sym f.homes_is) stands }
 
 pub finish_moments : (image : List ℕ) (ws : List Numbered) (homes : ℕ) (old mid new : DiskView) → IsToFinish image ws homes → IsSettled old image → IsSame old mid → mid.beside ≡ old.beside
     → Leaves mid new (λ x. IsRecovered x (homes_of (put_on ws (page image)))) → Leaves old new (Alike image)

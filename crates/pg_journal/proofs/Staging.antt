@@ -14,10 +14,10 @@ use Rattle.pg_journal.specs.Pages.{Numbered, AreBetween}
 use Rattle.pg_journal.specs.Recovered.{number_pages, images_bytes, filling, batch_bytes, batch_page, batch_count}
 use Rattle.pg_journal.specs.BatchStates.{numbers_in, spelled}
 use Rattle.pg_journal.proofs.BatchPages.{numbers_spelled, count_of_numbers, length-spelled}
-use Rattle.pg_journal.specs.Standing.{IsShut, Stands}
+use Rattle.pg_journal.specs.Standing.{IsShut, DiskStands}
 use Rattle.pg_journal.specs.Staging.{IsStaged, Staged}
-use Rattle.ct_site.specs.Lengths.{Grows, IsWithin}
-use Rattle.ct_site.specs.Writing.{Writes, Progress, Gives}
+use Rattle.ct_site.specs.Lengths.{Lengthens, IsWithin}
+use Rattle.ct_site.specs.Writing.{Writes, Progress, DiskGives}
 use Rattle.ct_site.specs.laws.Writing.{progress_none, progress_step, progress_failed, progress_end, gives_written, writes_keep}
 use Rattle.ct_site.specs.laws.Ranges.{torn_after, piece_same, piece_written}
 use Rattle.pg_journal.proofs.Shut.{shut_behind, shut_noted}
@@ -132,7 +132,7 @@ module _ (homes place : ℕ) (pages : List (List ℕ)) (batch : List Numbered) (
 
 -- what the steps leave of the disk
 
-module _ (homes place : ℕ) (pages : List (List ℕ)) (batch : List Numbered) (below : homes ≤ place) (old : DiskView) (s : Stands old homes pages) where
+module _ (homes place : ℕ) (pages : List (List ℕ)) (batch : List Numbered) (below : homes ≤ place) (old : DiskView) (s : DiskStands old homes pages) where
   shut_now : (x : List ℕ) → old.may_leave x → IsShut homes pages x
   shut_now x left = subst (IsShut homes pages) (sym (s.settled.only x left)) s.shut
 
@@ -160,14 +160,14 @@ module _ (homes place : ℕ) (pages : List (List ℕ)) (batch : List Numbered) (
 
   pub all_written : (d1 d2 d3 : DiskView) (n : ℕ) (note : List ℕ) → length (zeros n) ≡ 4096 * place - length s.image → note ≡ to_be_bytes w32 place ++ to_be_bytes w32 (length batch)
       → place < 2 ^ 32 → length batch < 2 ^ 32 → AreBetween 2 place batch → 3 ≤ place
-      → Writes (length s.image) (zeros n) old d1 (Ok tt) → Writes (4096 * place) (batch_bytes batch) d1 d2 (Ok tt) → Writes 4104 note d2 d3 (Ok tt) → Gives (IsReady homes place pages batch) d3
+      → Writes (length s.image) (zeros n) old d1 (Ok tt) → Writes (4096 * place) (batch_bytes batch) d1 d2 (Ok tt) → Writes 4104 note d2 d3 (Ok tt) → DiskGives (IsReady homes place pages batch) d3
   all_written d1 d2 d3 n note long is small few between least w1 w2 w3 =
       let g1 = gives_written (λ x. x ≡ s.image) (HasRoom homes place pages) (length s.image) (zeros n) old d1 (record { image = s.image; is = s.settled.told; has = refl }) w1
       (λ x e. subst (λ (l : List ℕ). HasRoom homes place pages (written (length s.image) (zeros n) l)) (sym e) (room_lengthened homes place pages batch below n s.image s.shut long)) in
       let g2 = gives_written (HasRoom homes place pages) (HasBatch homes place pages batch) (4096 * place) (batch_bytes batch) d1 d2 g1 w2 (batch_there homes place pages batch below) in
       gives_written (HasBatch homes place pages batch) (IsReady homes place pages batch) 4104 note d2 d3 g2 w3 (λ x b. noted homes place pages batch below x note is small few between least b)
 
-  pub all_staged : (d3 new : DiskView) (g : Gives (IsReady homes place pages batch) d3) → new.image ≡ d3.image → ((left : List ℕ) → new.may_leave left → left ≡ g.image) → Staged new homes pages place batch
+  pub all_staged : (d3 new : DiskView) (g : DiskGives (IsReady homes place pages batch) d3) → new.image ≡ d3.image → ((left : List ℕ) → new.may_leave left → left ≡ g.image) → Staged new homes pages place batch
   all_staged d3 new g same durable = record {
     image = g.image;
     settled = record { told = same ∙ g.is; only = durable };
@@ -176,7 +176,7 @@ module _ (homes place : ℕ) (pages : List (List ℕ)) (batch : List Numbered) (
   }
 
 -- zeros past the end, up to a place
-pub grows_filled : (place more : ℕ) (old new : DiskView) {result : Result (Unit {0}) Failed} → ((image : List ℕ) → old.image ≡ Some image → Writes (length image) (zeros (4096 * place - length image)) old new result) → 4096 * place ≤ more → Grows more old new
+pub grows_filled : (place more : ℕ) (old new : DiskView) {result : Result (Unit {0}) Failed} → ((image : List ℕ) → old.image ≡ Some image → Writes (length image) (zeros (4096 * place - length image)) old new result) → 4096 * place ≤ more → Lengthens more old new
 grows_filled place more old new w most = record {
   bounds = λ image x told given.
       let b = (w image told).grows.bounds image x told given in

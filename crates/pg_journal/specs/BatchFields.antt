@@ -1,5 +1,5 @@
 -- The fields of a batch.
-use Rattle.std.specs.Prelude.{◌≡◌, ◌^◌, ◌*◌, ◌≤◌, vec_len}
+use Rattle.std.specs.Prelude.{◌≡◌, ◌^◌, ◌*◌, ◌≤◌, vec_len, refl}
 use Rattle.std.specs.Vec.{vec_capacity}
 use Rattle.pg_journal.specs.declared.batches.PageBatch.TheInside.{Inside}
 use Rattle.pg_journal.specs.Pages.{AreBetween}
@@ -15,3 +15,7 @@ pub record IsBatch (b : Inside) : Type 0 where
   pub within : vec_len b.numbers ≤ b.room
   pub number_room : b.room ≤ vec_capacity b.numbers
   pub byte_room : 4096 * b.room ≤ vec_capacity b.bytes
+
+-- computed example: a batch tells its own room
+its_room : (b : Inside) → (batch_of b).room ≡ b.room
+its_room b = refl

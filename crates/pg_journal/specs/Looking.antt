@@ -1,19 +1,19 @@
 -- What is found where an image is looked at.
-use Rattle.std.specs.Prelude.{◌≡◌, ◌≢◌, ℕ, ◌+◌, ◌*◌, ◌≤◌, ◌<◌, ◌⊎◌, Bool, true, false, List, [], ◌∷◌, refl, length, take, drop, Option, Some, None, Result, Ok, Err}
-use Rattle.std.proofs.Common.{◌∙◌, arith}
-use Rattle.ct_site.specs.FaultCounts.{rose_raised}
+use Rattle.std.specs.Prelude.{◌≡◌, ◌≢◌, ℕ, ◌+◌, ◌*◌, ◌≤◌, ◌<◌, ◌⊎◌, Bool, true, false, if◌then◌else◌, List, [], ◌∷◌, refl, length, take, drop, Option, Some, None, Result, Ok, Err}
+use Rattle.std.proofs.Common.{◌∙◌, ap, arith}
+use Rattle.ct_site.specs.FaultCounts.{raised}
 use Rattle.ct_site.specs.declared.outside.Failed.{Failed}
-use Rattle.ct_base.specs.Causes.{Rose}
 use Rattle.ct_base.specs.Moments.{Grows}
 use Rattle.ct_base.specs.laws.Moments.{grows_then}
-use Rattle.ct_site.specs.Disks.{DiskView, Works}
+use Rattle.ct_site.specs.Disks.{DiskView, IsSame, Works}
+use Rattle.ct_site.specs.laws.Calls.{same_then}
 use Rattle.pg_journal.specs.declared.faults.LoadFault.{LoadFault}
-use Rattle.pg_journal.specs.declared.faults.LoadFault.TheVariants.{Disk}
+use Rattle.pg_journal.specs.declared.faults.LoadFault.TheVariants.{Memory, Disk, NotAStore}
 use Rattle.pg_journal.specs.Pages.{page, byte, Numbered, AreBetween, put_on, homes_in, IsRoot}
 use Rattle.ct_base.specs.Zeros.{zeros}
 use Rattle.pg_journal.specs.Recovered.{mark, IsRecovered, IsOpen, IsOpened, batch_page, batch_count, batch_in, filling, table, numbered_at}
 use Rattle.pg_journal.specs.Births.{IsUnbornAs}
-use Rattle.pg_journal.specs.Standing.{Stands}
+use Rattle.pg_journal.specs.Standing.{DiskStands}
 
 -- a disk of so many bytes, where they are told
 pub record IsSized (size : ℕ) (disk : DiskView) : Type 0 where
@@ -44,13 +44,45 @@ IsClosedOr None image = IsRoot (page image 2) → 4096 * homes_in (page image 2)
 pub record IsNoStore (image : List ℕ) : Type 0 where
   pub no : (pages : List (List ℕ)) → IsRecovered image pages → ⊥
 
+-- whether a load failed by the disk
+abbrev pub is_disk_fault : {T : Type 0} → Result T LoadFault → Bool
+is_disk_fault (Ok x) = false
+is_disk_fault (Err Memory) = false
+is_disk_fault (Err Disk) = true
+is_disk_fault (Err NotAStore) = false
+
+-- the disk's count of faults after a load
+abbrev pub faults_after_load : {T : Type 0} → Result T LoadFault → ℕ → ℕ
+faults_after_load result n = if is_disk_fault result then raised n else n
+
 -- What each function that loads keeps: as `Works`, with the faults of loading.
 pub record Loads {T : Type 0} (old new : DiskView) (result : Result T LoadFault) : Type 0 where
   pub beside : new.beside ≡ old.beside
   pub untold : old.image ≡ None → new.image ≡ None
   pub kept : Grows old.time new.time
   pub later : old.faults ≤ new.faults
-  pub cause : result ≡ Err Disk → Rose old.faults new.faults
+  -- a fault of the disk is answered, and nothing else is: none is passed over
+  pub cause : new.faults ≡ faults_after_load result old.faults
+
+-- Nothing was written, where it answers that the file is no store or that there was no memory.
+abbrev pub WritesNothing : {T : Type 0} → Result T LoadFault → DiskView → DiskView → Type 0
+WritesNothing (Ok x) old new = Unit {0}
+WritesNothing (Err Memory) old new = IsSame old new
+WritesNothing (Err Disk) old new = Unit {0}
+WritesNothing (Err NotAStore) old new = IsSame old new
+
+pub nothing_when_same : {T : Type 0} (result : Result T LoadFault) (old new : DiskView) → IsSame old new → WritesNothing result old new
+nothing_when_same (Ok x) old new same = tt
+nothing_when_same (Err Memory) old new same = same
+nothing_when_same (Err Disk) old new same = tt
+nothing_when_same (Err NotAStore) old new same = same
+
+-- only looked at, and then loaded
+pub nothing_then : {T : Type 0} (result : Result T LoadFault) (old mid new : DiskView) → IsSame old mid → WritesNothing result mid new → WritesNothing result old new
+nothing_then (Ok x) old mid new same rest = tt
+nothing_then (Err Memory) old mid new same rest = same_then old mid new same rest
+nothing_then (Err Disk) old mid new same rest = tt
+nothing_then (Err NotAStore) old mid new same rest = same_then old mid new same rest
 
 pub loads_then : {T U : Type 0} (old mid new : DiskView) (x : T) (result : Result U LoadFault) → Works old mid (Ok x) → Loads mid new result → Loads old new result
 loads_then old mid new x result first second = record {
@@ -58,16 +90,22 @@ loads_then old mid new x result first second = record {
   untold = λ none. second.untold (first.untold none);
   kept = grows_then old.time mid.time new.time first.kept second.kept;
   later = omega (arith, first.cause.later, second.later);
-  cause = λ is. let rose = second.cause is in omega (arith, rose, first.cause.later);
+  cause = second.cause ∙ ap (faults_after_load result) first.cause.passed;
 }
 
 -- a call of the disk failed
-pub loads_failed : {T U : Type 0} (old new : DiskView) (fault : Failed) (result : Result U LoadFault) → Works {T = T} old new (Err fault) → Loads old new result
-loads_failed old new fault result works = record { beside = works.beside; untold = works.untold; kept = works.kept; later = works.cause.later; cause = λ is. rose_raised old.faults new.faults works.cause.failed }
+pub loads_failed : {T U : Type 0} (old new : DiskView) (fault : Failed) → Works {T = T} old new (Err fault) → Loads {T = U} old new (Err Disk)
+loads_failed old new fault works = record { beside = works.beside; untold = works.untold; kept = works.kept; later = works.cause.later; cause = works.cause.failed }
 
 -- all went well with the disk
-pub loads_well : {T U : Type 0} (old new : DiskView) (x : T) (result : Result U LoadFault) → (result ≡ Err Disk → ⊥) → Works old new (Ok x) → Loads old new result
-loads_well old new x result other works = record { beside = works.beside; untold = works.untold; kept = works.kept; later = works.cause.later; cause = λ is. absurd (other is) }
+pub loads_well : {T U : Type 0} (old new : DiskView) (x : T) (result : Result U LoadFault) → is_disk_fault result ≡ false → Works old new (Ok x) → Loads old new result
+loads_well old new x result other works = record {
+  beside = works.beside;
+  untold = works.untold;
+  kept = works.kept;
+  later = works.cause.later;
+  cause = rw other works.cause.passed;
+}
 
 -- ---- a batch before which the gate is open
 
@@ -107,20 +145,34 @@ IsOpenedOr None image = (pages : List (List ℕ)) → IsOpened image pages → �
 pub record Loaded (image : List ℕ) (disk : DiskView) (homes : ℕ) : Type 0 where
   pub pages : List (List ℕ)
   pub recovered : IsRecovered image pages
-  pub stands : Stands disk homes pages
+  pub stands : DiskStands disk homes pages
 
-pub loads_more : {T U V : Type 0} (old mid new : DiskView) (x : T) (y : U) (result : Result V LoadFault) → (result ≡ Err Disk → ⊥) → Loads old mid (Ok x) → Works mid new (Ok y) → Loads old new result
+-- a part was loaded, and then the disk failed
+pub loads_broken : {T U V : Type 0} (old mid new : DiskView) (x : T) (fault : Failed) → Loads old mid (Ok x) → Works {T = U} mid new (Err fault) → Loads {T = V} old new (Err Disk)
+loads_broken old mid new x fault first second = record {
+  beside = second.beside ∙ first.beside;
+  untold = λ none. second.untold (first.untold none);
+  kept = grows_then old.time mid.time new.time first.kept second.kept;
+  later = omega (arith, first.later, second.cause.later);
+  cause = second.cause.failed ∙ ap raised first.cause;
+}
+
+-- or all went well with the disk
+pub loads_more : {T U V : Type 0} (old mid new : DiskView) (x : T) (y : U) (result : Result V LoadFault) → is_disk_fault result ≡ false → Loads old mid (Ok x) → Works mid new (Ok y) → Loads old new result
 loads_more old mid new x y result other first second = record {
   beside = second.beside ∙ first.beside;
   untold = λ none. second.untold (first.untold none);
   kept = grows_then old.time mid.time new.time first.kept second.kept;
   later = omega (arith, first.later, second.cause.later);
-  cause = λ is. absurd (other is);
+  cause = rw other (second.cause.passed ∙ first.cause);
 }
 
-pub ok_is_no_fault : {T : Type 0} (x : T) (fault : LoadFault) → ◌≡◌ {A = Result T LoadFault} (Ok x) (Err fault) → ⊥
-ok_is_no_fault x fault is = cc is
-
--- ---- computed example
+-- ---- computed examples: zeros, and a count of faults after a load that the disk failed and after one that found no store
 two_zeros : AreZeros true 2 (0 ∷ 0 ∷ [])
 two_zeros = refl
+
+a_fault_counted : faults_after_load {T = ℕ} (Err Disk) 4 ≡ 5
+a_fault_counted = refl
+
+no_store_counted : faults_after_load {T = ℕ} (Err NotAStore) 4 ≡ 4
+no_store_counted = refl

@@ -12,8 +12,8 @@ abbrev pub byte : List ℕ → ℕ → ℕ
 byte image at = get_or image at 0
 
 -- the number that four bytes spell, the highest first
-abbrev pub number : List ℕ → ℕ → ℕ
-number image at = from_be_bytes w32 (take 4 (drop at image))
+abbrev pub number_in : List ℕ → ℕ → ℕ
+number_in image at = from_be_bytes w32 (take 4 (drop at image))
 
 -- ---- a batch: pages by their numbers
 
@@ -44,7 +44,7 @@ AreBetween low end (w ∷ ws) = (low ≤ w.0) × (suc w.0 ≤ end) × (length w.
 
 -- how many home pages a root says that there are, page 0 and page 1 counted
 abbrev pub homes_in : List ℕ → ℕ
-homes_in root = number root 4
+homes_in root = number_in root 4
 
 unfoldable pub root_page : ℕ → List ℕ
 root_page homes = 4 ∷ 0 ∷ 0 ∷ 0 ∷ (to_be_bytes w32 homes ++ zeros 4088)

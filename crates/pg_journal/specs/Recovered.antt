@@ -1,7 +1,7 @@
 -- The pages that an image recovers to: those from the root on, after a batch whose gate is open was put on them.
 use Rattle.std.specs.Prelude.{◌≡◌, ◌≢◌, ℕ, ◌+◌, ◌-◌, ◌*◌, ◌/◌, ◌≤◌, ◌<◌, ◌⊎◌, List, [], ◌∷◌, ◌++◌, zero, suc, length, take, drop, codes, refl}
 use Rattle.std.specs.Int.{to_be_bytes, w32}
-use Rattle.pg_journal.specs.Pages.{page, byte, number, Numbered, put_on, AreBetween, homes_in, root_page, IsRoot, homes_of}
+use Rattle.pg_journal.specs.Pages.{page, byte, number_in, Numbered, put_on, AreBetween, homes_in, root_page, IsRoot, homes_of}
 use Rattle.ct_base.specs.Zeros.{zeros}
 
 -- ---- birth
@@ -27,10 +27,10 @@ gate image = byte image 4096
 
 -- the page at which the batch begins, and how many pages it has
 abbrev pub batch_page : List ℕ → ℕ
-batch_page image = number image 4104
+batch_page image = number_in image 4104
 
 abbrev pub batch_count : List ℕ → ℕ
-batch_count image = number image 4108
+batch_count image = number_in image 4108
 
 abbrev pub numbers_bytes : List Numbered → List ℕ
 numbers_bytes [] = []
@@ -59,7 +59,7 @@ table f i (suc n) = f i ∷ table f (suc i) n
 
 -- a number of the batch, of four bytes, and its page: the numbers come first, then the pages
 abbrev pub numbered_at : List ℕ → ℕ → Numbered
-numbered_at image i = (number image (4096 * batch_page image + 4 * i), page image (batch_page image + number_pages (batch_count image) + i))
+numbered_at image i = (number_in image (4096 * batch_page image + 4 * i), page image (batch_page image + number_pages (batch_count image) + i))
 
 abbrev pub batch_in : List ℕ → List Numbered
 batch_in image = table (numbered_at image) 0 (batch_count image)

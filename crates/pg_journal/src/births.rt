@@ -5,8 +5,8 @@ ghost use Rattle.ct_site.specs.Images.{written};
 ghost use Rattle.ct_site.specs.Disks.{IsSettled, Leaves, Works};
 ghost use Rattle.pg_journal.specs.Recovered.{IsUnborn, IsRecovered, first_pages};
 ghost use Rattle.pg_journal.specs.Births.{born, Cleared, IsCleared, IsUnbornAs};
-ghost use Rattle.pg_journal.specs.Standing.{Stands};
-ghost use Rattle.ct_site.specs.Lengths.{Grows, IsWithin};
+ghost use Rattle.pg_journal.specs.Standing.{DiskStands};
+ghost use Rattle.ct_site.specs.Lengths.{Lengthens, IsWithin};
 
 use crate::writing::write;
 use ct_site::{Disk, Failed};
@@ -34,7 +34,7 @@ pub(crate) fn clear<D: Disk>(disk: &mut D) -> Result<(), Failed>
     ensures moments { (image : List ℕ) → IsSettled (D.disk disk.old) image → length image ≤ 1 → Leaves (D.disk disk.old) (D.disk disk.new) IsUnborn }
     ensures cleared { (image : List ℕ) → IsSettled (D.disk disk.old) image → length image ≤ 1 → OnOk result (Cleared (D.disk disk.new)) }
     ensures within { OnOk result (IsWithin 1 (D.disk disk.new)) }
-    ensures length { Grows 12288 (D.disk disk.old) (D.disk disk.new) }
+    ensures length { Lengthens 12288 (D.disk disk.old) (D.disk disk.new) }
     ensures works { Works (D.disk disk.old) (D.disk disk.new) result }
 {
     write(disk, 0, &[0])?;
@@ -46,7 +46,7 @@ pub(crate) fn write_pages<D: Disk>(disk: &mut D) -> Result<(), Failed>
     requires within { IsWithin 1 (D.disk disk.old) }
     ensures moments { (image : List ℕ) → IsSettled (D.disk disk.old) image → IsCleared image → Leaves (D.disk disk.old) (D.disk disk.new) IsUnborn }
     ensures bytes { (image : List ℕ) → IsSettled (D.disk disk.old) image → IsCleared image → OnOk result (IsSettled (D.disk disk.new) (0 ∷ born)) }
-    ensures length { Grows 12288 (D.disk disk.old) (D.disk disk.new) }
+    ensures length { Lengthens 12288 (D.disk disk.old) (D.disk disk.new) }
     ensures works { Works (D.disk disk.old) (D.disk disk.new) result }
 {
     write(disk, 1, &born_bytes())?;
@@ -56,8 +56,8 @@ pub(crate) fn write_pages<D: Disk>(disk: &mut D) -> Result<(), Failed>
 /// Writes the first byte as 1.
 pub(crate) fn set_birth<D: Disk>(disk: &mut D) -> Result<(), Failed>
     ensures moments { IsSettled (D.disk disk.old) (0 ∷ born) → Leaves (D.disk disk.old) (D.disk disk.new) (λ x. IsRecovered x first_pages) }
-    ensures stands { IsSettled (D.disk disk.old) (0 ∷ born) → OnOk result (Stands (D.disk disk.new) 3 first_pages) }
-    ensures length { Grows 12288 (D.disk disk.old) (D.disk disk.new) }
+    ensures stands { IsSettled (D.disk disk.old) (0 ∷ born) → OnOk result (DiskStands (D.disk disk.new) 3 first_pages) }
+    ensures length { Lengthens 12288 (D.disk disk.old) (D.disk disk.new) }
     ensures works { Works (D.disk disk.old) (D.disk disk.new) result }
 {
     write(disk, 0, &[1])?;
@@ -70,7 +70,7 @@ fn clear_where<D: Disk>(disk: &mut D, empty: bool) -> Result<(), Failed>
     ensures moments { (image : List ℕ) → IsSettled (D.disk disk.old) image → IsUnbornAs empty image → Leaves (D.disk disk.old) (D.disk disk.new) IsUnborn }
     ensures cleared { (image : List ℕ) → IsSettled (D.disk disk.old) image → IsUnbornAs empty image → OnOk result (Cleared (D.disk disk.new)) }
     ensures within { OnOk result (IsWithin 1 (D.disk disk.new)) }
-    ensures length { Grows 12288 (D.disk disk.old) (D.disk disk.new) }
+    ensures length { Lengthens 12288 (D.disk disk.old) (D.disk disk.new) }
     ensures works { Works (D.disk disk.old) (D.disk disk.new) result }
 {
     if empty { clear(disk) } else { Ok(()) }
@@ -81,8 +81,8 @@ pub(crate) fn make_store<D: Disk>(disk: &mut D, empty: bool) -> Result<(), Faile
     requires within { empty ≡ false → IsWithin 1 (D.disk disk.old) }
     ensures moments { (image : List ℕ) → IsSettled (D.disk disk.old) image → IsUnbornAs empty image
         → Leaves (D.disk disk.old) (D.disk disk.new) (λ x. IsRecovered x first_pages) }
-    ensures stands { (image : List ℕ) → IsSettled (D.disk disk.old) image → IsUnbornAs empty image → OnOk result (Stands (D.disk disk.new) 3 first_pages) }
-    ensures length { Grows 12288 (D.disk disk.old) (D.disk disk.new) }
+    ensures stands { (image : List ℕ) → IsSettled (D.disk disk.old) image → IsUnbornAs empty image → OnOk result (DiskStands (D.disk disk.new) 3 first_pages) }
+    ensures length { Lengthens 12288 (D.disk disk.old) (D.disk disk.new) }
     ensures works { Works (D.disk disk.old) (D.disk disk.new) result }
 {
     clear_where(disk, empty)?;

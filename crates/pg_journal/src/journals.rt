@@ -1,21 +1,21 @@
 //! The journal.
 
-ghost use Rattle.std.specs.Prelude.{◌≡◌, ◌≢◌, ◌≤◌, ◌+◌, ◌*◌, ◌^◌, false, ℕ, List, Option, Some, Err, IfOk, OnOk, length, max};
+ghost use Rattle.std.specs.Prelude.{◌≡◌, ◌≢◌, ◌≤◌, ◌+◌, ◌*◌, ◌^◌, false, ℕ, List, Option, Some, Err, IfOk, OnOk, OnErr, length, max};
 ghost use Rattle.ct_site.specs.Disks.{IsSame, IsSettled, Leaves, Works};
 ghost use Rattle.pg_journal.specs.Births.{IsUnbornAs};
-ghost use Rattle.pg_journal.specs.Looking.{IsNoStore, IsSized, Loaded, Loads};
+ghost use Rattle.pg_journal.specs.Looking.{IsNoStore, IsSized, Loaded, Loads, WritesNothing};
 ghost use Rattle.pg_journal.specs.Pages.{AreBetween, Has, changed, homes_in, homes_of};
 ghost use Rattle.pg_journal.specs.Recovered.{Alike, IsRecovered, IsStore, gate, number_pages};
-ghost use Rattle.pg_journal.specs.Staging.{IsGoal, IsSettling};
-ghost use Rattle.ct_site.specs.Lengths.{IsWithin, Grows};
-ghost use Rattle.pg_journal.specs.Standing.{commit_end, homes_with, IsEither, MayCommit, Stands};
+ghost use Rattle.pg_journal.specs.Staging.{OverGoal};
+ghost use Rattle.ct_site.specs.Lengths.{IsWithin, Lengthens};
+ghost use Rattle.pg_journal.specs.Standing.{commit_end, homes_with, IsEither, MayCommit, DiskStands, OverPages};
 
 use crate::batch_reading::look_open;
 use crate::batches::PageBatch;
 use crate::births::make_store;
 use crate::faults::LoadFault;
 use crate::reading::{has_mark, homes_of_closed, read_byte, unborn};
-use crate::stages::{put_home, set_gate, stage};
+use crate::stages::{fill, put_home, set_gate, stage};
 use ct_site::{Disk, Failed};
 use std::alloc::Global;
 use std::marker::Model;
@@ -39,15 +39,16 @@ impl Model for Journal {
 
 impl Journal {
     /// Makes the store on an unborn disk, or puts home a batch that a crash has left, and gives the journal of the store. At
-    /// each moment the disk recovers to what it did. NotAStore exactly where it recovers to no pages, and nothing was written
-    /// then. What a crash leaves is told where nothing was pending.
+    /// each moment the disk recovers to what it did. NotAStore exactly where it recovers to no pages. The memory for a batch
+    /// is taken before anything is written, so after NotAStore and after Memory the disk is as it was. What a crash leaves
+    /// is told where nothing was pending.
     pub fn load<D: Disk>(alloc: Global, disk: &mut D) -> Result<Journal, LoadFault>
         ensures moments { (image : List ℕ) → IsSettled (D.disk disk.old) image → Leaves (D.disk disk.old) (D.disk disk.new) (Alike image) }
         ensures loaded { (image : List ℕ) → IsSettled (D.disk disk.old) image → IfOk result (λ journal. Loaded image (D.disk disk.new) journal) }
         ensures no_store { (image : List ℕ) → (D.disk disk.old).image ≡ Some image → result ≡ Err LoadFault.NotAStore → IsNoStore image }
-        ensures same { result ≡ Err LoadFault.NotAStore → IsSame (D.disk disk.old) (D.disk disk.new) }
+        ensures same { WritesNothing result (D.disk disk.old) (D.disk disk.new) }
         ensures kept { (image : List ℕ) → (D.disk disk.old).image ≡ Some image → IsStore image → gate image ≢ 1 → IsSame (D.disk disk.old) (D.disk disk.new) }
-        ensures length { Grows 12288 (D.disk disk.old) (D.disk disk.new) }
+        ensures length { Lengthens 12288 (D.disk disk.old) (D.disk disk.new) }
         ensures loads { Loads (D.disk disk.old) (D.disk disk.new) result }
     {
         let Ok(size) = disk.size() else {
@@ -90,18 +91,27 @@ impl Journal {
     /// ones or those with the batch put on them, and after Ok the latter. After an error the journal is loaded again.
     pub fn commit<D: Disk>(&mut self, disk: &mut D, batch: &PageBatch) -> Result<(), Failed>
         requires { MayCommit self.old batch.now.pages }
-        ensures moments { (pages : List (List ℕ)) → Stands (D.disk disk.old) self.old pages
-            → Leaves (D.disk disk.old) (D.disk disk.new) (IsEither pages batch.now.pages) }
-        ensures stands { (pages : List (List ℕ)) → Stands (D.disk disk.old) self.old pages
-            → OnOk result (Stands (D.disk disk.new) self.new (changed batch.now.pages pages)) }
-        ensures length { Grows (commit_end self.old batch.now.pages) (D.disk disk.old) (D.disk disk.new) }
+        ensures moments { OverPages (D.disk disk.old) self.old (λ pages. Leaves (D.disk disk.old) (D.disk disk.new) (IsEither pages batch.now.pages)) }
+        ensures stands { OverPages (D.disk disk.old) self.old (λ pages. OnOk result (DiskStands (D.disk disk.new) self.new (changed batch.now.pages pages))) }
+        ensures length { Lengthens (commit_end self.old batch.now.pages) (D.disk disk.old) (D.disk disk.new) }
         ensures works { Works (D.disk disk.old) (D.disk disk.new) result }
         ensures homes { OnOk result (self.new ≡ homes_with self.old batch.now.pages) }
+        ensures err { OnErr result (self.new ≡ self.old) }
     {
         let homes = batch.homes_with(self.homes);
         commit_pages(disk, self.homes, homes, batch)?;
         self.homes = homes;
         Ok(())
+    }
+
+    /// Lengthens the file by zeros past its home pages, a page at a time, until a write fails: what a commit does that would need more
+    /// pages than there are numbers. At each moment the recovered pages are the same.
+    pub fn fill<D: Disk>(&self, disk: &mut D) -> Failed
+        ensures moments { (pages : List (List ℕ)) → DiskStands (D.disk disk.old) self.now pages
+            → Leaves (D.disk disk.old) (D.disk disk.new) (λ image. IsRecovered image pages) }
+        ensures works { Works {T = Unit {0}} (D.disk disk.old) (D.disk disk.new) (Err result) }
+    {
+        fill(disk)
     }
 }
 
@@ -112,7 +122,8 @@ fn load_unborn<D: Disk>(disk: &mut D, empty: bool) -> Result<Journal, LoadFault>
     ensures loaded { (image : List ℕ) → IsSettled (D.disk disk.old) image → IsUnbornAs empty image
         → IfOk result (λ journal. Loaded image (D.disk disk.new) journal) }
     ensures store { result ≡ Err LoadFault.NotAStore → ⊥ }
-    ensures length { Grows 12288 (D.disk disk.old) (D.disk disk.new) }
+    ensures same { WritesNothing result (D.disk disk.old) (D.disk disk.new) }
+    ensures length { Lengthens 12288 (D.disk disk.old) (D.disk disk.new) }
     ensures loads { Loads (D.disk disk.old) (D.disk disk.new) result }
 {
     match make_store(disk, empty) {
@@ -150,8 +161,8 @@ fn load_open<D: Disk>(alloc: Global, disk: &mut D, size: u64) -> Result<Journal,
     ensures moments { (image : List ℕ) → IsSettled (D.disk disk.old) image → Leaves (D.disk disk.old) (D.disk disk.new) (Alike image) }
     ensures loaded { (image : List ℕ) → IsSettled (D.disk disk.old) image → IfOk result (λ journal. Loaded image (D.disk disk.new) journal) }
     ensures no_store { (image : List ℕ) → (D.disk disk.old).image ≡ Some image → result ≡ Err LoadFault.NotAStore → IsNoStore image }
-    ensures same { result ≡ Err LoadFault.NotAStore → IsSame (D.disk disk.old) (D.disk disk.new) }
-    ensures length { Grows 0 (D.disk disk.old) (D.disk disk.new) }
+    ensures same { WritesNothing result (D.disk disk.old) (D.disk disk.new) }
+    ensures length { Lengthens 0 (D.disk disk.old) (D.disk disk.new) }
     ensures loads { Loads (D.disk disk.old) (D.disk disk.new) result }
 {
     let Some((batch, homes)) = look_open(alloc, disk, size)? else {
@@ -167,11 +178,9 @@ fn load_open<D: Disk>(alloc: Global, disk: &mut D, size: u64) -> Result<Journal,
 fn finish<D: Disk>(disk: &mut D, batch: &PageBatch) -> Result<(), Failed>
     requires within { IsWithin 4097 (D.disk disk.old) }
     requires inside { (i : ℕ) → Has (batch.now.pages) i → IsWithin (4096 * i + 4096) (D.disk disk.old) }
-    ensures moments { (place : ℕ) (goal : ℕ → List ℕ) (image : List ℕ) → IsSettled (D.disk disk.old) image → IsGoal place goal → IsSettling place (batch.now.pages) goal image
-        → Leaves (D.disk disk.old) (D.disk disk.new) (λ x. IsRecovered x (homes_of goal)) }
-    ensures stands { (place : ℕ) (goal : ℕ → List ℕ) (image : List ℕ) → IsSettled (D.disk disk.old) image → IsGoal place goal → IsSettling place (batch.now.pages) goal image
-        → OnOk result (Stands (D.disk disk.new) (homes_in (goal 2)) (homes_of goal)) }
-    ensures length { Grows 0 (D.disk disk.old) (D.disk disk.new) }
+    ensures moments { OverGoal (D.disk disk.old) batch.now.pages (λ goal. Leaves (D.disk disk.old) (D.disk disk.new) (λ x. IsRecovered x (homes_of goal))) }
+    ensures stands { OverGoal (D.disk disk.old) batch.now.pages (λ goal. OnOk result (DiskStands (D.disk disk.new) (homes_in (goal 2)) (homes_of goal))) }
+    ensures length { Lengthens 0 (D.disk disk.old) (D.disk disk.new) }
     ensures works { Works (D.disk disk.old) (D.disk disk.new) result }
 {
     put_home(disk, batch)?;
@@ -189,9 +198,9 @@ fn commit_pages<D: Disk>(
     requires after { after ≡ homes_with homes (batch.now.pages) }
     requires least { 3 ≤ homes }
     requires most { homes ≤ 2 ^ 31 }
-    ensures moments { (ps : List (List ℕ)) → Stands (D.disk disk.old) homes ps → Leaves (D.disk disk.old) (D.disk disk.new) (IsEither ps (batch.now.pages)) }
-    ensures stands { (ps : List (List ℕ)) → Stands (D.disk disk.old) homes ps → OnOk result (Stands (D.disk disk.new) after (changed (batch.now.pages) ps)) }
-    ensures length { Grows (4096 * (max homes after + number_pages (length batch.now.pages) + length batch.now.pages)) (D.disk disk.old) (D.disk disk.new) }
+    ensures moments { OverPages (D.disk disk.old) homes (λ pages. Leaves (D.disk disk.old) (D.disk disk.new) (IsEither pages batch.now.pages)) }
+    ensures stands { OverPages (D.disk disk.old) homes (λ pages. OnOk result (DiskStands (D.disk disk.new) after (changed batch.now.pages pages))) }
+    ensures length { Lengthens (4096 * (max homes after + number_pages (length batch.now.pages) + length batch.now.pages)) (D.disk disk.old) (D.disk disk.new) }
     ensures works { Works (D.disk disk.old) (D.disk disk.new) result }
 {
     let place = homes.max(after);

@@ -2,7 +2,7 @@
 
 ghost use Rattle.std.specs.Prelude.{◌≡◌, ◌≤◌, ◌<◌, ◌+◌, ◌*◌, ◌^◌, ℕ, List, Option, Some, Ok, IfOk, IfSome, OnOk, IsTrue, length, take, drop};
 ghost use Rattle.ct_site.specs.Disks.{IsSame, Works};
-ghost use Rattle.pg_journal.specs.Pages.{page, number, byte, root_page};
+ghost use Rattle.pg_journal.specs.Pages.{page, number_in, byte, root_page};
 ghost use Rattle.pg_journal.specs.Recovered.{gate, batch_page, batch_count, mark};
 ghost use Rattle.pg_journal.specs.Looking.{IsSized, IsUnbornOr, HasMark, IsRootOr, IsClosedOr};
 ghost use Rattle.ct_site.specs.Lengths.{IsWithin};
@@ -25,7 +25,7 @@ pub(crate) fn read<D: Disk, const N: usize>(disk: &mut D, at: u64) -> Result<[u8
 /// The number of the four bytes at a place.
 pub(crate) fn read_number<D: Disk>(disk: &mut D, at: u64) -> Result<u32, Failed>
     requires within { IsWithin (at + 4) (D.disk disk.old) }
-    ensures is { (image : List ℕ) → (D.disk disk.old).image ≡ Some image → IfOk result (λ n. n ≡ number image at) }
+    ensures is { (image : List ℕ) → (D.disk disk.old).image ≡ Some image → IfOk result (λ n. n ≡ number_in image at) }
     ensures same { IsSame (D.disk disk.old) (D.disk disk.new) }
     ensures works { Works (D.disk disk.old) (D.disk disk.new) result }
 {

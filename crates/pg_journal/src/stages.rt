@@ -1,16 +1,16 @@
 //! The four steps of a commit, each with one sync.
 
-ghost use Rattle.std.specs.Prelude.{◌≡◌, ◌≤◌, ◌<◌, ◌+◌, ◌-◌, ◌*◌, ◌^◌, ◌++◌, ℕ, List, Option, Some, Ok, OnOk, length};
+ghost use Rattle.std.specs.Prelude.{◌≡◌, ◌≤◌, ◌<◌, ◌+◌, ◌-◌, ◌*◌, ◌^◌, ◌++◌, ℕ, List, Option, Some, Ok, Err, OnOk, length};
 ghost use Rattle.std.specs.Int.{to_be_bytes, w32};
 ghost use Rattle.ct_base.specs.Zeros.{zeros};
 ghost use Rattle.ct_site.specs.Disks.{IsSettled, Leaves, Works};
-ghost use Rattle.ct_site.specs.Lengths.{Grows, IsWithin};
+ghost use Rattle.ct_site.specs.Lengths.{Lengthens, IsWithin};
 ghost use Rattle.ct_site.specs.Writing.{Writes};
 ghost use Rattle.pg_journal.specs.BatchStates.{IsRun};
 ghost use Rattle.pg_journal.specs.Pages.{Has, AreBetween};
 ghost use Rattle.pg_journal.specs.Recovered.{batch_bytes, number_pages};
-ghost use Rattle.pg_journal.specs.Staging.{Staged, IsGateWrite, IsGateSet, IsSettling, AtHome};
-ghost use Rattle.pg_journal.specs.Standing.{IsShut, Stands};
+ghost use Rattle.pg_journal.specs.Staging.{Staged, IsGateWrite, IsGateSet, IsSettling, AtHome, WritesUpTo};
+ghost use Rattle.pg_journal.specs.Standing.{IsShut, DiskStands};
 
 use crate::batches::PageBatch;
 use crate::writing::{write, write_numbers, write_zeros};
@@ -19,7 +19,7 @@ use ct_site::{Disk, Failed};
 /// Writes zeros from the end of the file up to this place, where it ends before.
 fn lengthen<D: Disk>(disk: &mut D, end: u64) -> Result<(), Failed>
     requires fits { end ≤ 2 ^ 43 }
-    ensures writes { (image : List ℕ) → (D.disk disk.old).image ≡ Some image → Writes (length image) (zeros (end - length image)) (D.disk disk.old) (D.disk disk.new) result }
+    ensures writes { WritesUpTo end (D.disk disk.old) (D.disk disk.new) result }
     ensures within { OnOk result (IsWithin end (D.disk disk.new)) }
     ensures works { Works (D.disk disk.old) (D.disk disk.new) result }
 {
@@ -28,6 +28,43 @@ fn lengthen<D: Disk>(disk: &mut D, end: u64) -> Result<(), Failed>
         write_zeros(disk, size, end - size)
     } else {
         Ok(())
+    }
+}
+
+/// Writes a page of zeros.
+fn write_zero_page<D: Disk>(disk: &mut D, at: u64) -> Result<(), Failed>
+    requires within { IsWithin at (D.disk disk.old) }
+    ensures writes { Writes at (zeros 4096) (D.disk disk.old) (D.disk disk.new) result }
+    ensures inside { OnOk result (at + 4096 ≤ 2 ^ 43) }
+    ensures works { Works (D.disk disk.old) (D.disk disk.new) result }
+{
+    disk.write_at(at, &[0; 4096])
+}
+
+/// Writes zeros from this place on, at which the file ends, a page at a time, until a write fails.
+fn fill_from<D: Disk>(disk: &mut D, size: u64) -> Failed
+    requires { IsWithin size (D.disk disk.old) }
+    ensures moments { (homes : ℕ) (ps : List (List ℕ)) → 4096 * homes ≤ size → ((image : List ℕ) → (D.disk disk.old).may_leave image → IsShut homes ps image)
+        → Leaves (D.disk disk.old) (D.disk disk.new) (IsShut homes ps) }
+    ensures works { Works {T = Unit {0}} (D.disk disk.old) (D.disk disk.new) (Err result) }
+{
+    let mut at = size;
+    loop {
+        match write_zero_page(disk, at) {
+            Ok(()) => at += 4096,
+            Err(failed) => return failed,
+        }
+    }
+}
+
+/// Writes zeros past the end of the file, a page at a time, until a write fails.
+pub(crate) fn fill<D: Disk>(disk: &mut D) -> Failed
+    ensures moments { (homes : ℕ) (ps : List (List ℕ)) → DiskStands (D.disk disk.old) homes ps → Leaves (D.disk disk.old) (D.disk disk.new) (IsShut homes ps) }
+    ensures works { Works {T = Unit {0}} (D.disk disk.old) (D.disk disk.new) (Err result) }
+{
+    match disk.size() {
+        Ok(size) => fill_from(disk, size),
+        Err(failed) => failed,
     }
 }
 
@@ -62,12 +99,12 @@ pub(crate) fn stage<D: Disk>(disk: &mut D, place: u32, batch: &PageBatch) -> Res
     requires place { place ≤ 2 ^ 31 }
     requires some { 1 ≤ length batch.now.pages }
     requires between { AreBetween 2 place batch.now.pages }
-    ensures moments { (homes : ℕ) (ps : List (List ℕ)) → homes ≤ place → Stands (D.disk disk.old) homes ps
+    ensures moments { (homes : ℕ) (ps : List (List ℕ)) → homes ≤ place → DiskStands (D.disk disk.old) homes ps
         → Leaves (D.disk disk.old) (D.disk disk.new) (IsShut homes ps) }
-    ensures staged { (homes : ℕ) (ps : List (List ℕ)) → homes ≤ place → Stands (D.disk disk.old) homes ps
+    ensures staged { (homes : ℕ) (ps : List (List ℕ)) → homes ≤ place → DiskStands (D.disk disk.old) homes ps
         → OnOk result (Staged (D.disk disk.new) homes ps place (batch.now.pages)) }
     ensures within { OnOk result (IsWithin (4096 * place) (D.disk disk.new)) }
-    ensures length { Grows (4096 * (place + number_pages (length batch.now.pages) + length batch.now.pages)) (D.disk disk.old) (D.disk disk.new) }
+    ensures length { Lengthens (4096 * (place + number_pages (length batch.now.pages) + length batch.now.pages)) (D.disk disk.old) (D.disk disk.new) }
     ensures works { Works (D.disk disk.old) (D.disk disk.new) result }
 {
     lengthen(disk, 4096 * place as u64)?;
@@ -82,7 +119,7 @@ pub(crate) fn set_gate<D: Disk>(disk: &mut D, gate: u8) -> Result<(), Failed>
     requires within { IsWithin 4097 (D.disk disk.old) }
     ensures moments { (image : List ℕ) → IsSettled (D.disk disk.old) image → Leaves (D.disk disk.old) (D.disk disk.new) (IsGateWrite image) }
     ensures set { (image : List ℕ) → IsSettled (D.disk disk.old) image → OnOk result (IsGateSet gate image (D.disk disk.new)) }
-    ensures length { Grows 0 (D.disk disk.old) (D.disk disk.new) }
+    ensures length { Lengthens 0 (D.disk disk.old) (D.disk disk.new) }
     ensures works { Works (D.disk disk.old) (D.disk disk.new) result }
 {
     write(disk, 4096, &[gate])?;
@@ -112,7 +149,7 @@ pub(crate) fn put_home<D: Disk>(disk: &mut D, batch: &PageBatch) -> Result<(), F
         → Leaves (D.disk disk.old) (D.disk disk.new) (IsSettling place batch.now.pages goal) }
     ensures home { (place : ℕ) (goal : ℕ → List ℕ) (image : List ℕ) → IsSettled (D.disk disk.old) image → IsSettling place batch.now.pages goal image
         → OnOk result (AtHome (D.disk disk.new) place batch.now.pages goal) }
-    ensures length { Grows 0 (D.disk disk.old) (D.disk disk.new) }
+    ensures length { Lengthens 0 (D.disk disk.old) (D.disk disk.new) }
     ensures works { Works (D.disk disk.old) (D.disk disk.new) result }
 {
     let numbers = batch.numbers();

@@ -1,10 +1,10 @@
-use Rattle.std.proofs.Common.{List, subst, ap, ◌∙◌}
+use Rattle.std.proofs.Common.{List, subst, ap, refl, ◌∙◌}
 use Rattle.std.specs.Option.{option_map}
 use Rattle.pg_journal.specs.BatchStates.{BatchState}
 use Rattle.pg_journal.specs.Pages.{Numbered, AreBetween}
 use Rattle.pg_journal.specs.Recovered.{batch_page}
 use Rattle.ct_site.specs.laws.Calls.{same_then}
-use Rattle.pg_journal.specs.Looking.{loads_then, loads_more, ok_is_no_fault}
+use Rattle.pg_journal.specs.Looking.{loads_then, loads_more}
 use Rattle.pg_journal.proofs.BatchReads.{no_batch, batch_of, no_root, root_of, root_too_far, found_opened}
 use Rattle.pg_journal.proofs.batch_reading.look_open.Goals as goal
 
@@ -28,15 +28,15 @@ returns-clause-same g c =
 
 pub returns-in_default-homes_of_root-clause-loads : goal.returns-in_default-homes_of_root-clause-loads
 returns-in_default-homes_of_root-clause-loads g c =
-    loads_then _ _ _ _ _ c.in-Ok.ensures.works (loads_then _ _ _ _ _ c.in-Ok-read_number.ensures.works (loads_more _ _ _ _ _ _ (ok_is_no_fault _ _) c.in_ok-batch.ensures.loads c.in-Ok-root_with.ensures.works))
+    loads_then _ _ _ _ _ c.in-Ok.ensures.works (loads_then _ _ _ _ _ c.in-Ok-read_number.ensures.works (loads_more _ _ _ _ _ _ refl c.in_ok-batch.ensures.loads c.in-Ok-root_with.ensures.works))
 
 pub returns-then-homes-place-clause-loads : goal.returns-then-homes-place-clause-loads
 returns-then-homes-place-clause-loads g c =
-    loads_then _ _ _ _ _ c.in-Ok.ensures.works (loads_then _ _ _ _ _ c.in-Ok-read_number.ensures.works (loads_more _ _ _ _ _ _ (ok_is_no_fault _ _) c.in_ok-batch.ensures.loads c.in-Ok-root_with.ensures.works))
+    loads_then _ _ _ _ _ c.in-Ok.ensures.works (loads_then _ _ _ _ _ c.in-Ok-read_number.ensures.works (loads_more _ _ _ _ _ _ refl c.in_ok-batch.ensures.loads c.in-Ok-root_with.ensures.works))
 
 pub returns-clause-loads : goal.returns-clause-loads
 returns-clause-loads g c =
-    loads_then _ _ _ _ _ c.in-Ok.ensures.works (loads_then _ _ _ _ _ c.in-Ok-read_number.ensures.works (loads_more _ _ _ _ _ _ (ok_is_no_fault _ _) c.in_ok-batch.ensures.loads c.in-Ok-root_with.ensures.works))
+    loads_then _ _ _ _ _ c.in-Ok.ensures.works (loads_then _ _ _ _ _ c.in-Ok-read_number.ensures.works (loads_more _ _ _ _ _ _ refl c.in_ok-batch.ensures.loads c.in-Ok-root_with.ensures.works))
 
 pub returns-in_default-homes_of_root-clause-is : goal.returns-in_default-homes_of_root-clause-is
 returns-in_default-homes_of_root-clause-is g c = λ image told open_.

@@ -1,7 +1,7 @@
 use Rattle.std.proofs.Common.{rules, ◌≡◌, ◌+◌, ◌*◌, ◌++◌, ◌∷◌, [], length, ℕ, List, sym, ap, subst, ◌∙◌, arith}
 use Rattle.ct_site.specs.Disks.{works_then}
 use Rattle.pg_journal.specs.BatchStates.{BatchState}
-use Rattle.pg_journal.specs.Pages.{number, page, Numbered, AreBetween}
+use Rattle.pg_journal.specs.Pages.{number_in, page, Numbered, AreBetween}
 use Rattle.pg_journal.specs.Recovered.{number_pages, batch_count, batch_page}
 use Rattle.ct_site.specs.laws.Calls.{same_then, works_as}
 use Rattle.pg_journal.specs.Looking.{IsRead}
@@ -9,8 +9,8 @@ use Rattle.pg_journal.proofs.BatchReads.{read_none, read_step, read_all, too_low
 use Rattle.pg_journal.proofs.BatchPages.{more_last}
 use Rattle.pg_journal.proofs.batch_reading.read_pages.Goals as goal
 
-number_here : (image : List ℕ) (n place i : ℕ) → n ≡ number image (4096 * place + 4 * i) → place ≡ batch_page image → n ≡ number image (4096 * batch_page image + 4 * i)
-number_here image n place i is at = is ∙ ap (λ (p : ℕ). number image (4096 * p + 4 * i)) at
+number_here : (image : List ℕ) (n place i : ℕ) → n ≡ number_in image (4096 * place + 4 * i) → place ≡ batch_page image → n ≡ number_in image (4096 * batch_page image + 4 * i)
+number_here image n place i is at = is ∙ ap (λ (p : ℕ). number_in image (4096 * p + 4 * i)) at
 
 page_here : (image bytes : List ℕ) (place count i : ℕ) → bytes ≡ page image (place + number_pages count + i) → place ≡ batch_page image → count ≡ batch_count image → bytes ≡ page image (batch_page image + number_pages (batch_count image) + i)
 page_here image bytes place count i is at counted = is ∙ ap (λ (p : ℕ). page image (p + number_pages count + i)) at ∙ ap (λ (n : ℕ). page image (batch_page image + number_pages n + i)) counted

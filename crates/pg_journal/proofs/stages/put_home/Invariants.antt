@@ -1,8 +1,8 @@
 use Rattle.std.proofs.Common.{ℕ, List, Ok, drop, length, ◌≤◌, ◌-◌}
 use Rattle.ct_site.specs.Disks.{IsSettled, Leaves, Works}
-use Rattle.ct_site.specs.Lengths.{Grows}
-use Rattle.ct_site.specs.Writing.{Gives}
-use Rattle.pg_journal.specs.Staging.{IsSettling, IsPart}
+use Rattle.ct_site.specs.Lengths.{Lengthens}
+use Rattle.ct_site.specs.Writing.{DiskGives}
+use Rattle.pg_journal.specs.Staging.{IsSettling, IsPartHome}
 use Rattle.pg_journal.proofs.stages.put_home.Given as goal
 
 abbrev pub invariant-loop-done : goal.invariant-loop-done
@@ -11,8 +11,8 @@ invariant-loop-done g l = record {
   leaves : (place : ℕ) (aim : ℕ → List ℕ) (image : List ℕ) → IsSettled (g.D.Disk.disk l.fn.disk) image → IsSettling place l.batch.pages aim image
       → Leaves (g.D.Disk.disk l.fn.disk) (g.D.Disk.disk l.disk) (IsSettling place l.batch.pages aim);
   gives : (place : ℕ) (aim : ℕ → List ℕ) (image : List ℕ) → IsSettled (g.D.Disk.disk l.fn.disk) image → IsSettling place l.batch.pages aim image
-      → Gives (IsPart place l.batch.pages (drop l.done l.batch.pages) aim) (g.D.Disk.disk l.disk);
-  length : Grows 0 (g.D.Disk.disk l.fn.disk) (g.D.Disk.disk l.disk);
+      → DiskGives (IsPartHome place l.batch.pages (drop l.done l.batch.pages) aim) (g.D.Disk.disk l.disk);
+  length : Lengthens 0 (g.D.Disk.disk l.fn.disk) (g.D.Disk.disk l.disk);
   works : Works {T = Unit {0}} (g.D.Disk.disk l.fn.disk) (g.D.Disk.disk l.disk) (Ok tt);
 }
 

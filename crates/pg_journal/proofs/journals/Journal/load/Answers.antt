@@ -1,6 +1,7 @@
 use Rattle.std.proofs.Common.{true, false, sym, ◌∙◌, arith}
 use Rattle.ct_site.specs.laws.Calls.{same_then, settled_same}
 use Rattle.ct_site.specs.laws.Lengths.{grows_then, grows_same, grows_more}
+use Rattle.pg_journal.specs.Looking.{nothing_when_same, nothing_then}
 use Rattle.pg_journal.proofs.Loading.{nothing_written, unborn_is, born_is, born_within, after_same, marked_is, no_mark, too_short, is_store, unborn_no_store}
 use Rattle.pg_journal.proofs.journals.Journal.load.Goals as goal
 
@@ -98,6 +99,17 @@ pub returns-then-gate-eq1-clause-length : goal.returns-then-gate-eq1-clause-leng
 returns-then-gate-eq1-clause-length g c =
     grows_then 12288 _ _ _ c.load_open.ensures.loads.untold
     (grows_same 12288 _ _ (c.read_byte.ensures.same.image ∙ c.has_mark.ensures.same.image ∙ c.unborn.ensures.same.image ∙ c.size.ensures.same.image)) (grows_more 0 12288 _ _ (omega arith) c.load_open.ensures.length)
+
+pub returns-in-Some-clause-same : goal.returns-in-Some-clause-same
+returns-in-Some-clause-same g c = nothing_then c.load_unborn.result _ _ _ (same_then _ _ _ c.size.ensures.same c.unborn.ensures.same) c.load_unborn.ensures.same
+
+pub returns-then-gate-eq1-clause-same : goal.returns-then-gate-eq1-clause-same
+returns-then-gate-eq1-clause-same g c =
+    nothing_then c.load_open.result _ _ _ (same_then _ _ _ c.size.ensures.same (same_then _ _ _ c.unborn.ensures.same (same_then _ _ _ c.has_mark.ensures.same c.read_byte.ensures.same))) c.load_open.ensures.same
+
+pub returns-else-gate-eq1-clause-same : goal.returns-else-gate-eq1-clause-same
+returns-else-gate-eq1-clause-same g c =
+    nothing_when_same c.load_closed.result _ _ (same_then _ _ _ c.size.ensures.same (same_then _ _ _ c.unborn.ensures.same (same_then _ _ _ c.has_mark.ensures.same (same_then _ _ _ c.read_byte.ensures.same c.load_closed.ensures.same))))
 
 pub returns-in_default-clause-length : goal.returns-in_default-clause-length
 returns-in_default-clause-length g c = grows_same 12288 _ _ c.size.ensures.same.image

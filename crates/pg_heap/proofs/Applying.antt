@@ -1,0 +1,51 @@
+-- A batch is applied: what a crash leaves meanwhile, and how long the file is then.
+use Rattle.std.proofs.Common.{◌≡◌, ◌≤◌, ◌⊎◌, inl, ℕ, ◌+◌, ◌*◌, List, length, sym, ap, subst, ◌∙◌, arith}
+use Rattle.ct_site.specs.Disks.{DiskView, Leaves, leaves_more}
+use Rattle.ct_site.specs.Lengths.{Lengthens}
+use Rattle.ct_site.specs.laws.Lengths.{grows_more}
+use Rattle.ct_keep.specs.Content.{Content, Change, after}
+use Rattle.pg_journal.specs.Recovered.{IsRecovered, number_pages}
+use Rattle.pg_journal.specs.Standing.{DiskStands}
+use Rattle.pg_heap.specs.Kinds.{Kind}
+use Rattle.pg_heap.specs.MapReading.{behind_root}
+use Rattle.pg_heap.specs.Planned.{IsDone}
+use Rattle.pg_heap.specs.BatchPages.{batch_pages, batch_end}
+use Rattle.pg_heap.specs.Committing.{AreEither}
+use Rattle.pg_heap.specs.laws.Committing.{done_holds}
+use Rattle.pg_heap.specs.Heaps.{HeapState, HeapStands, IsMap}
+use Rattle.pg_heap.specs.laws.Heaps.{either_maps, stays_maps}
+
+pub commit_moments : (old new : DiskView) (homes : ℕ) (before now : List Kind) (m seen : Content) (changes : List Change) (heap : HeapState) → homes ≡ heap.homes → before ≡ heap.kinds → m ≡ heap.held → IsDone heap.kinds heap.held → IsDone now seen → seen ≡ after changes m
+    → (DiskStands old homes (behind_root before) → Leaves old new (AreEither before now)) → HeapStands old heap → Leaves old new (λ image. IsMap heap.held image ⊎ IsMap (after changes heap.held) image)
+commit_moments old new homes before now m seen changes heap homes_is before_is m_is done made seen_is leaves st =
+    either_maps old new before now heap.held (after changes heap.held) (subst (λ (ks : List Kind). IsDone ks heap.held) (sym before_is) done)
+    (subst (IsDone now) (seen_is ∙ ap (after changes) m_is) made)
+    (leaves (subst (λ (ks : List Kind). DiskStands old homes (behind_root ks)) (sym before_is) (subst (λ (n : ℕ). DiskStands old n (behind_root heap.kinds)) (sym homes_is) st)))
+
+-- nothing was written
+pub same_moments : (disk : DiskView) (changes : List Change) (heap : HeapState) → IsDone heap.kinds heap.held → HeapStands disk heap → Leaves disk disk (λ image. IsMap heap.held image ⊎ IsMap (after changes heap.held) image)
+same_moments disk changes heap done st = stays_maps disk heap.homes heap.kinds heap.held (after changes heap.held) done st
+
+-- the file was lengthened
+pub fill_moments : (old new : DiskView) (homes : ℕ) (changes : List Change) (heap : HeapState) → homes ≡ heap.homes → IsDone heap.kinds heap.held
+    → ((pages : List (List ℕ)) → DiskStands old homes pages → Leaves old new (λ image. IsRecovered image pages)) → HeapStands old heap → Leaves old new (λ image. IsMap heap.held image ⊎ IsMap (after changes heap.held) image)
+fill_moments old new homes changes heap homes_is done leaves st =
+    leaves_more old new _ (λ image. IsMap heap.held image ⊎ IsMap (after changes heap.held) image) (leaves (behind_root heap.kinds) (subst (λ (n : ℕ). DiskStands old n (behind_root heap.kinds)) (sym homes_is) st))
+    (λ image r. inl (behind_root heap.kinds, r, done_holds heap.kinds heap.held done))
+
+-- the bound: h homes before, n pages in the batch, of which the changes gave p at most
+end_within : (h h1 n p : ℕ) → h1 ≤ h + p → n ≤ 1 + 2 * p → 3 ≤ h → 4096 * (h1 + number_pages n + n) ≤ 4096 * (8 * (h + p))
+end_within h h1 n p homes pages least = omega (arith, homes, pages, least)
+
+pub commit_length : (old new : DiskView) (before now : List Kind) (n : ℕ) (m : Content) (changes : List Change) (heap : HeapState) → heap.homes ≡ 3 + length heap.kinds → before ≡ heap.kinds → m ≡ heap.held → length now ≤ length before + batch_pages changes m → n ≤ 1 + 2 * batch_pages changes m
+    → Lengthens (4096 * (3 + length now + number_pages n + n)) old new → Lengthens (batch_end heap.homes (batch_pages changes heap.held)) old new
+commit_length old new before now n m changes heap homes before_is m_is grows few lengthens =
+    let p : batch_pages changes m ≡ batch_pages changes heap.held = ap (batch_pages changes) m_is in
+    let k : length before ≡ length heap.kinds = ap (λ (l : List Kind). length l) before_is in
+    grows_more _ _ _ _ (end_within heap.homes (3 + length now) n (batch_pages changes heap.held) (within (length now) (length before) (length heap.kinds) heap.homes (batch_pages changes m) (batch_pages changes heap.held) grows k homes p) (fewer n (batch_pages changes m) (batch_pages changes heap.held) few p) (omega (arith, homes))) lengthens
+  where
+    within : (x y z h p q : ℕ) → x ≤ y + p → y ≡ z → h ≡ 3 + z → p ≡ q → 3 + x ≤ h + q
+    within x y z h p q a b c d = omega (arith, a, b, c, d)
+
+    fewer : (n p q : ℕ) → n ≤ 1 + 2 * p → p ≡ q → n ≤ 1 + 2 * q
+    fewer n p q a b = omega (arith, a, b)

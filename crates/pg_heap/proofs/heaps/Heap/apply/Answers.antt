@@ -1,0 +1,70 @@
+use Rattle.std.proofs.Common.{ap, subst, ◌∙◌, ◌≡◌, ◌+◌, length}
+use Rattle.pg_heap.specs.Sheets.{kinds_of}
+use Rattle.pg_heap.specs.Planned.{IsDone}
+use Rattle.pg_heap.specs.Heaps.{HeapState}
+use Rattle.pg_heap.specs.declared.pages.Pages.{Pages}
+use Rattle.pg_heap.proofs.Applying.{commit_moments, same_moments, fill_moments, commit_length}
+use Rattle.pg_heap.proofs.heaps.Heap.apply.Goals as goal
+
+pub returns-in_default-clause-moments : goal.returns-in_default-clause-moments
+returns-in_default-clause-moments g c =
+    let heap = c.args.self.now in
+    let view = c.self.view_is in
+    let old_pages = c.replace-pages.ensures.value in
+    let before_is = c.make.ensures.same.kinds ∙ c.begin-plan.ensures.kinds ∙ ap (λ (p : Pages). kinds_of p.sheets.items) old_pages ∙ ap (λ (h : HeapState). h.kinds) view in
+    let m_is = c.make.ensures.same.entries ∙ c.begin-plan.ensures.entries ∙ ap (λ (p : Pages). p.held) old_pages ∙ ap (λ (h : HeapState). h.held) view in
+    let done = subst (λ (h : HeapState). IsDone h.kinds h.held) view c.self.invariant.sound.done in
+    let made = c.in-Ok.ensures.made in
+    commit_moments (g.D.Disk.disk c.args.disk.now) (g.D.Disk.disk c.commit_draft.new.disk) c.self.inside.journal c.make.new.self.draft.before c.make.new.self.draft.now c.make.new.self.entries.before c.make.new.self.entries.seen c.args.batch.now heap
+    (ap (λ (h : HeapState). h.homes) view) before_is m_is done made.done made.seen c.commit_draft.ensures.moments
+
+pub returns-in-Err-clause-moments : goal.returns-in-Err-clause-moments
+returns-in-Err-clause-moments g c =
+    let heap = c.args.self.now in
+    let view = c.self.view_is in
+    let old_pages = c.replace-pages.ensures.value in
+    let before_is = c.make.ensures.same.kinds ∙ c.begin-plan.ensures.kinds ∙ ap (λ (p : Pages). kinds_of p.sheets.items) old_pages ∙ ap (λ (h : HeapState). h.kinds) view in
+    let m_is = c.make.ensures.same.entries ∙ c.begin-plan.ensures.entries ∙ ap (λ (p : Pages). p.held) old_pages ∙ ap (λ (h : HeapState). h.held) view in
+    let done = subst (λ (h : HeapState). IsDone h.kinds h.held) view c.self.invariant.sound.done in
+    let made = c.in-Ok.ensures.made in
+    commit_moments (g.D.Disk.disk c.args.disk.now) (g.D.Disk.disk c.commit_draft.new.disk) c.self.inside.journal c.make.new.self.draft.before c.make.new.self.draft.now c.make.new.self.entries.before c.make.new.self.entries.seen c.args.batch.now heap
+    (ap (λ (h : HeapState). h.homes) view) before_is m_is done made.done made.seen c.commit_draft.ensures.moments
+
+pub returns-in_default-clause-length : goal.returns-in_default-clause-length
+returns-in_default-clause-length g c =
+    let view = c.self.view_is in
+    let old_pages = c.replace-pages.ensures.value in
+    let before_is = c.make.ensures.same.kinds ∙ c.begin-plan.ensures.kinds ∙ ap (λ (p : Pages). kinds_of p.sheets.items) old_pages ∙ ap (λ (h : HeapState). h.kinds) view in
+    let m_is = c.make.ensures.same.entries ∙ c.begin-plan.ensures.entries ∙ ap (λ (p : Pages). p.held) old_pages ∙ ap (λ (h : HeapState). h.held) view in
+    let made = c.in-Ok.ensures.made in
+    commit_length (g.D.Disk.disk c.args.disk.now) (g.D.Disk.disk c.commit_draft.new.disk) c.make.new.self.draft.before c.make.new.self.draft.now (length c.in-Ok.pages.pages) c.make.new.self.entries.before c.args.batch.now c.args.self.now
+    (subst (λ (h : HeapState). h.homes ≡ 3 + length h.kinds) view c.self.invariant.homes) before_is m_is made.grows made.limit c.commit_draft.ensures.length
+
+pub returns-in_default-clause-length_failed : goal.returns-in_default-clause-length_failed
+returns-in_default-clause-length_failed g c = λ _.
+    let view = c.self.view_is in
+    let old_pages = c.replace-pages.ensures.value in
+    let before_is = c.make.ensures.same.kinds ∙ c.begin-plan.ensures.kinds ∙ ap (λ (p : Pages). kinds_of p.sheets.items) old_pages ∙ ap (λ (h : HeapState). h.kinds) view in
+    let m_is = c.make.ensures.same.entries ∙ c.begin-plan.ensures.entries ∙ ap (λ (p : Pages). p.held) old_pages ∙ ap (λ (h : HeapState). h.held) view in
+    let made = c.in-Ok.ensures.made in
+    commit_length (g.D.Disk.disk c.args.disk.now) (g.D.Disk.disk c.commit_draft.new.disk) c.make.new.self.draft.before c.make.new.self.draft.now (length c.in-Ok.pages.pages) c.make.new.self.entries.before c.args.batch.now c.args.self.now
+    (subst (λ (h : HeapState). h.homes ≡ 3 + length h.kinds) view c.self.invariant.homes) before_is m_is made.grows made.limit c.commit_draft.ensures.length
+
+pub returns-in-Err-clause-length_failed : goal.returns-in-Err-clause-length_failed
+returns-in-Err-clause-length_failed g c = λ _.
+    let view = c.self.view_is in
+    let old_pages = c.replace-pages.ensures.value in
+    let before_is = c.make.ensures.same.kinds ∙ c.begin-plan.ensures.kinds ∙ ap (λ (p : Pages). kinds_of p.sheets.items) old_pages ∙ ap (λ (h : HeapState). h.kinds) view in
+    let m_is = c.make.ensures.same.entries ∙ c.begin-plan.ensures.entries ∙ ap (λ (p : Pages). p.held) old_pages ∙ ap (λ (h : HeapState). h.held) view in
+    let made = c.in-Ok.ensures.made in
+    commit_length (g.D.Disk.disk c.args.disk.now) (g.D.Disk.disk c.commit_draft.new.disk) c.make.new.self.draft.before c.make.new.self.draft.now (length c.in-Ok.pages.pages) c.make.new.self.entries.before c.args.batch.now c.args.self.now
+    (subst (λ (h : HeapState). h.homes ≡ 3 + length h.kinds) view c.self.invariant.homes) before_is m_is made.grows made.limit c.commit_draft.ensures.length
+
+pub returns-in-Err-Memory-clause-moments : goal.returns-in-Err-Memory-clause-moments
+returns-in-Err-Memory-clause-moments g c =
+    same_moments (g.D.Disk.disk c.args.disk.now) c.args.batch.now c.args.self.now (subst (λ (h : HeapState). IsDone h.kinds h.held) c.self.view_is c.self.invariant.sound.done)
+
+pub returns-in-Err-TooMany-clause-moments : goal.returns-in-Err-TooMany-clause-moments
+returns-in-Err-TooMany-clause-moments g c =
+    fill_moments (g.D.Disk.disk c.args.disk.now) (g.D.Disk.disk c.fill.new.disk) c.self.inside.journal c.args.batch.now c.args.self.now (ap (λ (h : HeapState). h.homes) c.self.view_is)
+    (subst (λ (h : HeapState). IsDone h.kinds h.held) c.self.view_is c.self.invariant.sound.done) c.fill.ensures.moments

@@ -1,0 +1,17 @@
+use Rattle.std.proofs.Common.{◌≡◌, length}
+use Rattle.pg_heap.specs.PlanSteps.{NoNewKey}
+use Rattle.pg_heap.proofs.Planning.{FreesLong}
+use Rattle.pg_heap.proofs.Stepping.{FreesTouches}
+use Rattle.pg_heap.proofs.plans.free_long.Given as goal
+
+abbrev pub invariant-loop-left : goal.invariant-loop-left
+invariant-loop-left l = record {
+  before : l.draft.before ≡ l.initial.draft.before;
+  frees : FreesLong l.initial.draft.now l.fn.first l.fn.count l.draft.now l.first l.left;
+  pages : length l.draft.now ≡ length l.initial.draft.now;
+  touches : FreesTouches l.initial.draft.now l.fn.first l.fn.count (length l.initial.draft.touched) (length l.draft.touched) l.left;
+  keys : NoNewKey l.initial.draft.now l.draft.now;
+}
+
+abbrev pub decreases-loop-left : goal.decreases-loop-left
+decreases-loop-left l = l.left

@@ -1,0 +1,58 @@
+-- The pages of a heap in memory, as contracts see them.
+use Rattle.std.specs.Prelude.{◌≡◌, ◌+◌, ◌*◌, ◌^◌, ◌≤◌, ◌<◌, List, [], length}
+use Rattle.ct_keep.specs.Content.{Change, after, weight}
+use Rattle.pg_journal.specs.Pages.{Numbered}
+use Rattle.pg_heap.specs.declared.pages.Pages.{Pages}
+use Rattle.pg_heap.specs.declared.batch_plans.BatchPlan.{BatchPlan}
+use Rattle.pg_heap.specs.Sheets.{kinds_of}
+use Rattle.pg_heap.specs.Planned.{IsDone}
+use Rattle.pg_heap.specs.PlanSteps.{IsIndexed}
+use Rattle.pg_heap.specs.BatchPages.{batch_pages}
+use Rattle.pg_heap.specs.Committing.{IsBatchOf}
+use Rattle.std.specs.Prelude.{refl}
+
+-- The pages hold the map, and each key stands where the places say.
+pub record IsSound (p : Pages) : Type 0 where
+  pub done : IsDone (kinds_of p.sheets.items) p.held
+  pub index : IsIndexed (kinds_of p.sheets.items) p.places
+
+-- Nothing but places changed.
+pub record SameButPlaces (old new : Pages) : Type 0 where
+  pub sheets : new.sheets ≡ old.sheets
+  pub held : new.held ≡ old.held
+
+-- What a plan goes back to is sound.
+pub record IsUndoable (p : BatchPlan) : Type 0 where
+  pub done : IsDone p.draft.before p.entries.before
+  pub index : IsIndexed p.draft.before p.places.before
+  pub total : p.total ≡ weight p.entries.before
+
+-- A plan that has changed nothing.
+pub record IsFresh (p : BatchPlan) : Type 0 where
+  pub kinds : p.draft.now ≡ p.draft.before
+  pub touched : p.draft.touched ≡ []
+  pub entries : p.entries.seen ≡ p.entries.before
+  pub places : p.places.now ≡ p.places.before
+  pub bound : weight p.entries.before < 2 ^ 64
+
+-- The two go back to the same pages.
+pub record GoesBackAs (old new : BatchPlan) : Type 0 where
+  pub kinds : new.draft.before ≡ old.draft.before
+  pub entries : new.entries.before ≡ old.entries.before
+  pub places : new.places.before ≡ old.places.before
+  pub total : new.total ≡ old.total
+
+-- A plan that has made all changes: what becomes of pages, map and places, and the batch of pages that makes it so.
+pub record IsPlanMade (p : BatchPlan) (changes : List Change) (pages : List Numbered) : Type 0 where
+  pub done : IsDone p.draft.now p.entries.seen
+  pub index : IsIndexed p.draft.now p.places.now
+  pub seen : p.entries.seen ≡ after changes p.entries.before
+  pub bound : weight p.entries.seen < 2 ^ 64
+  pub batch : IsBatchOf p.draft.before p.draft.now pages
+  pub grown : length p.draft.before ≤ length p.draft.now
+  pub grows : length p.draft.now ≤ length p.draft.before + batch_pages changes p.entries.before
+  pub limit : length pages ≤ 1 + 2 * batch_pages changes p.entries.before
+
+-- ---- example
+nothing_changed : (p : Pages) → SameButPlaces p p
+nothing_changed p = record { sheets = refl; held = refl }

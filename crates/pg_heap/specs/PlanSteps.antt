@@ -1,0 +1,51 @@
+-- What the steps of a plan leave of the keys on pages, and how many pages they take.
+use Rattle.std.specs.Prelude.{◌≡◌, ◌≢◌, ℕ, ◌+◌, ◌*◌, ◌/◌, ◌≤◌, List, length, Option, Some, None, refl}
+use Rattle.std.specs.FinMap.{get}
+use Rattle.ct_keep.specs.Content.{Content, Change, set_to, after}
+use Rattle.pg_heap.specs.Kinds.{Kind}
+use Rattle.pg_heap.specs.Drafts.{Drafted}
+use Rattle.pg_heap.specs.Places.{PlaceMap}
+use Rattle.pg_heap.specs.Planned.{IsDone, HasKeyAt}
+use Rattle.pg_heap.specs.BatchPages.{batch_pages}
+
+-- how many long pages so many bytes take
+abbrev pub long_pages : ℕ → ℕ
+long_pages n = (n + 4087) / 4088
+
+-- how many bytes a value has, if there is one
+abbrev pub value_bytes : Option (List ℕ) → ℕ
+value_bytes None = 0
+value_bytes (Some value) = length value
+
+-- No key has come to a page.
+pub record NoNewKey (old new : List Kind) : Type 0 where
+  pub none : (at : ℕ) (key : List ℕ) → HasKeyAt new at key → HasKeyAt old at key
+
+-- There are at most so many pages more, and at most so many changes of pages were noted.
+pub record TakesPages (old new : Drafted) (pages touches : ℕ) : Type 0 where
+  pub pages_are : length new.now ≤ length old.now + pages
+  pub touches_are : length new.touched ≤ length old.touched + touches
+
+-- Each key that stands on a page stands where the places say.
+pub record IsIndexed (kinds : List Kind) (places : PlaceMap) : Type 0 where
+  pub place : (at : ℕ) (key : List ℕ) → HasKeyAt kinds at key → get places key ≡ Some at
+
+-- One change was made: the pages hold the changed map, the key stands at this place if it stands anywhere, and no other key has come to
+-- a page.
+pub record MakesChange (old new : List Kind) (m : Content) (key : List ℕ) (value : Option (List ℕ)) (at : ℕ) : Type 0 where
+  pub done : IsDone new (set_to key value m)
+  pub others : (a : ℕ) (q : List ℕ) → q ≢ key → HasKeyAt new a q → HasKeyAt old a q
+  pub here : (a : ℕ) → HasKeyAt new a key → a ≡ at
+
+-- All changes were made, each key stands where the places say, and so many pages were changed.
+pub record MakesChanges (old new : Drafted) (places : PlaceMap) (ws : List Change) (m : Content) : Type 0 where
+  pub done : IsDone new.now (after ws m)
+  pub index : IsIndexed new.now places
+  pub touches : length new.touched ≤ length old.touched + 2 * batch_pages ws m
+
+-- ---- computed examples: 9,000 bytes take three long pages, and a full page takes one
+of_9000 : long_pages 9000 ≡ 3
+of_9000 = refl
+
+of_a_page : long_pages 4088 ≡ 1
+of_a_page = refl

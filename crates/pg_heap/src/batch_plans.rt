@@ -1,0 +1,152 @@
+//! The plan of a batch: what it makes of pages, map and places, all in memory.
+
+ghost use Rattle.std.specs.Prelude.{true, ◌≡◌, ◌<◌, ◌≤◌, ◌+◌, ◌^◌, Err, IfOk, length, map};
+ghost use Rattle.ct_keep.specs.Content.{weight};
+ghost use Rattle.ct_keep.specs.SeenChanges.{change_of};
+ghost use Rattle.ct_keep.specs.Changes.{AreWell};
+ghost use Rattle.pg_heap.specs.Sheets.{kinds_of};
+ghost use Rattle.pg_heap.specs.Planned.{IsDone};
+ghost use Rattle.pg_heap.specs.PlanSteps.{IsIndexed};
+ghost use Rattle.pg_heap.specs.BatchPages.{batch_pages};
+ghost use Rattle.pg_heap.specs.HeapPages.{IsSound, IsUndoable, IsFresh, GoesBackAs, IsPlanMade};
+
+use crate::changes::do_changes;
+use crate::drafts::Draft;
+use crate::pages::Pages;
+use crate::places::PlaceChanges;
+use crate::plans::PlanFault;
+use ct_base::Memory;
+use ct_keep::{Batch, Change, EntryMap, Transaction};
+use pg_journal::PageBatch;
+use std::alloc::Global;
+
+/// Pages, map and places while a batch changes them. They can go back to what they were without taking memory.
+#[derive(Drop)]
+pub(crate) struct BatchPlan {
+    pub(crate) draft: Draft,
+    entries: Transaction,
+    places: PlaceChanges,
+    /// The weight of the map as it was.
+    total: u64,
+}
+
+/// Copies of changes.
+fn copies(alloc: Global, changes: &[Change]) -> Result<Vec<Change>, Memory>
+    ensures { IfOk result (λ copies. map change_of copies.items ≡ map change_of changes.now) }
+{
+    let mut copies = Vec::new(alloc);
+    for change in changes {
+        copies.push(copy(alloc, change)?)?;
+    }
+    Ok(copies)
+}
+
+/// A copy of a change.
+fn copy(alloc: Global, change: &Change) -> Result<Change, Memory>
+    ensures { IfOk result (λ copy. change_of copy ≡ change_of change.now) }
+{
+    let key = Vec::from_slice(alloc, &change.key)?;
+    let value = match &change.value {
+        Some(value) => Some(Vec::from_slice(alloc, value)?),
+        None => None,
+    };
+    Ok(Change { key, value })
+}
+
+impl BatchPlan {
+    /// Begins with pages as they are. It takes no memory.
+    pub(crate) fn begin(alloc: Global, pages: Pages) -> BatchPlan
+        requires { IsSound pages }
+        ensures kinds { result.draft.before ≡ kinds_of pages.sheets.items }
+        ensures entries { result.entries.before ≡ pages.held }
+        ensures undoable { IsUndoable result }
+        ensures fresh { IsFresh result }
+    {
+        let Pages {
+            sheets,
+            held,
+            places,
+        } = pages;
+        let total = held.weight();
+        BatchPlan {
+            draft: Draft::begin(alloc, sheets),
+            entries: held.begin(alloc),
+            places: PlaceChanges::begin(alloc, places),
+            total,
+        }
+    }
+
+    /// Makes the changes of a batch, and gives the pages that are to be committed.
+    pub(crate) fn make(
+        &mut self,
+        alloc: Global,
+        free: &mut Vec<usize>,
+        batch: &Batch,
+    ) -> Result<PageBatch, PlanFault>
+        requires well { AreWell (λ _ _. true) batch.now }
+        requires undoable { IsUndoable self.old }
+        requires fresh { IsFresh self.old }
+        ensures same { GoesBackAs self.old self.new }
+        ensures made { IfOk result (λ pages. IsPlanMade self.new batch.now pages.pages) }
+        ensures too_many { result ≡ Err PlanFault.TooMany → 2 ^ 31 ≤ 3 + length self.old.draft.before + batch_pages batch.now self.old.entries.before }
+    {
+        let changes = batch.changes();
+        do_changes(alloc, &mut self.draft, free, &mut self.places, changes)?;
+        let Ok(changes) = copies(alloc, changes) else {
+            return Err(PlanFault::Memory);
+        };
+        let Ok(()) = self.entries.do_changes(alloc, changes) else {
+            return Err(PlanFault::Memory);
+        };
+        if self.entries.weight() > u64::MAX as u128 {
+            return Err(PlanFault::Memory);
+        }
+        let Ok(pages) = self.draft.batch(alloc) else {
+            return Err(PlanFault::Memory);
+        };
+        Ok(pages)
+    }
+
+    /// The pages as they were. It takes no memory.
+    pub(crate) fn roll_back(self) -> Pages
+        requires { IsUndoable self }
+        ensures sound { IsSound result }
+        ensures kinds { kinds_of result.sheets.items ≡ self.draft.before }
+        ensures held { result.held ≡ self.entries.before }
+    {
+        let BatchPlan {
+            draft,
+            entries,
+            places,
+            total,
+        } = self;
+        Pages {
+            sheets: draft.roll_back(),
+            held: EntryMap::of(entries.roll_back(), total),
+            places: places.roll_back(),
+        }
+    }
+
+    /// The pages that the batch has made. It takes no memory.
+    pub(crate) fn finish(self) -> Pages
+        requires bound { weight self.entries.seen < 2 ^ 64 }
+        requires done { IsDone self.draft.now self.entries.seen }
+        requires index { IsIndexed self.draft.now self.places.now }
+        ensures sound { IsSound result }
+        ensures kinds { kinds_of result.sheets.items ≡ self.draft.now }
+        ensures held { result.held ≡ self.entries.seen }
+    {
+        let BatchPlan {
+            draft,
+            entries,
+            places,
+            ..
+        } = self;
+        let total = entries.weight() as u64;
+        Pages {
+            sheets: draft.finish(),
+            held: EntryMap::of(entries.finish(), total),
+            places: places.finish(),
+        }
+    }
+}

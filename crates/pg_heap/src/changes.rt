@@ -1,0 +1,55 @@
+//! A batch over pages.
+
+ghost use Rattle.std.specs.Prelude.{true, ◌≡◌, ◌≤◌, ◌+◌, None, Err, OnOk, length, map};
+ghost use Rattle.std.specs.FinMap.{get};
+ghost use Rattle.ct_keep.specs.Content.{Content};
+ghost use Rattle.ct_keep.specs.SeenChanges.{change_of};
+ghost use Rattle.ct_keep.specs.Changes.{AreWell};
+ghost use Rattle.pg_heap.specs.Planned.{IsDone, HasNone};
+ghost use Rattle.pg_heap.specs.PlanSteps.{IsIndexed, MakesChanges};
+ghost use Rattle.pg_heap.specs.BatchPages.{batch_pages};
+
+use crate::drafts::Draft;
+use crate::places::PlaceChanges;
+use crate::plans::PlanFault;
+use crate::puts::do_change;
+use ct_keep::Change;
+use std::alloc::Global;
+
+/// The place of the entry of a key, if it has one.
+fn place_of(draft: &Draft, places: &PlaceChanges, key: &[u8]) -> usize
+    ensures { (m : Content) → IsDone draft.now.now m → IsIndexed draft.now.now places.now.now → HasNone draft.now.now result key.now → get m key.now ≡ None }
+{
+    match places.place(key) {
+        Some(at) => at,
+        None => draft.count(),
+    }
+}
+
+/// Makes the changes of a batch, in order. Each costs the logarithm of the number of keys, and the pages that it changes.
+pub(crate) fn do_changes(
+    alloc: Global,
+    draft: &mut Draft,
+    free: &mut Vec<usize>,
+    places: &mut PlaceChanges,
+    changes: &[Change],
+) -> Result<(), PlanFault>
+    requires { AreWell (λ _ _. true) (map change_of changes.now) }
+    ensures before { draft.new.before ≡ draft.old.before }
+    ensures places { places.new.before ≡ places.old.before }
+    ensures done { (m : Content) → IsDone draft.old.now m → IsIndexed draft.old.now places.old.now
+        → OnOk result (MakesChanges draft.old draft.new places.new.now (map change_of changes.now) m) }
+    ensures pages { (m : Content) → length draft.new.now ≤ length draft.old.now + batch_pages (map change_of changes.now) m }
+    ensures too_many { result ≡ Err PlanFault.TooMany → 2147483645 ≤ length draft.new.now }
+{
+    let mut roomy = 0;
+    for i in 0..changes.len() {
+        let change = &changes[i];
+        let at = place_of(draft, places, &change.key);
+        roomy = do_change(alloc, draft, free, roomy, at, change)?;
+        let Ok(()) = places.put(alloc, &change.key, roomy) else {
+            return Err(PlanFault::Memory);
+        };
+    }
+    Ok(())
+}

@@ -1,0 +1,182 @@
+//! Pages that are changed in memory.
+
+ghost use Rattle.std.specs.Prelude.{◌≡◌, ◌<◌, ◌≤◌, ◌+◌, ◌^◌, IfOk, ◌++◌, ◌∷◌, [], OnOk, OnErr, length, get_or, set};
+ghost use Rattle.pg_heap.specs.Kinds.{Each, Free, IsKind, kind_bytes};
+ghost use Rattle.pg_heap.specs.Committing.{IsBatchOf, IsOneMore};
+ghost use Rattle.pg_heap.specs.Sheets.{kind_of, kinds_of};
+ghost use Rattle.std.specs.List.Sorted.{IsPermutation};
+ghost use Rattle.pg_heap.specs.Drafts.{undone, touched_by};
+ghost use Rattle.pg_heap.specs.DraftFields.{AreOnSheets};
+
+use crate::sheets::{Sheet, root_bytes};
+use ct_base::Memory;
+use pg_journal::PageBatch;
+use std::alloc::Global;
+use std::marker::Model;
+use std::mem::replace;
+
+/// What a page was before it was changed.
+#[derive(Debug, Drop)]
+pub(crate) struct Note {
+    at: usize,
+    sheet: Sheet,
+}
+
+/// Pages behind the root that are changed one by one, and can go back to what they were without taking memory.
+#[derive(Debug, Drop)]
+pub(crate) struct Draft {
+    sheets: Vec<Sheet>,
+    notes: Vec<Note>,
+    /// How many pages there were.
+    before: usize,
+}
+
+impl Model for Draft {
+    ghost use Rattle.pg_heap.specs.Drafts.{Drafted};
+    ghost use Rattle.pg_heap.specs.DraftFields.{drafted, IsDraft};
+
+    ghost Value = { Drafted };
+
+    ghost view = { drafted };
+
+    ghost invariant = { IsDraft };
+}
+
+impl Draft {
+    /// Begins with pages as they are. It takes no memory.
+    pub(crate) fn begin(alloc: Global, sheets: Vec<Sheet>) -> Draft
+        ensures { result ≡ record { before = kinds_of sheets.items; now = kinds_of sheets.items; touched = [] } }
+    {
+        let before = sheets.len();
+        Draft {
+            sheets,
+            notes: Vec::new(alloc),
+            before,
+        }
+    }
+
+    /// Puts a page in place of another one.
+    pub(crate) fn set(&mut self, at: usize, sheet: Sheet) -> Result<(), Memory>
+        requires { at < length self.old.now }
+        ensures ok { OnOk result (self.new ≡ record { before = self.old.before; now = set self.old.now at (kind_of sheet); touched = self.old.touched ++ at ∷ [] }) }
+        ensures err { OnErr result (self.new ≡ self.old) }
+    {
+        self.notes.reserve(1)?;
+        let old = replace(&mut self.sheets[at], sheet);
+        let Ok(()) = self.notes.push(Note { at, sheet: old }) else {
+            unreachable!()
+        };
+        Ok(())
+    }
+
+    /// One page more, a free one.
+    pub(crate) fn grow(&mut self) -> Result<(), Memory>
+        ensures ok { OnOk result (self.new ≡ record { before = self.old.before; now = self.old.now ++ Free ∷ []; touched = self.old.touched ++ length self.old.now ∷ [] }) }
+        ensures err { OnErr result (self.new ≡ self.old) }
+    {
+        self.notes.reserve(1)?;
+        let at = self.sheets.len();
+        self.sheets.push(Sheet::Free)?;
+        let Ok(()) = self.notes.push(Note {
+            at,
+            sheet: Sheet::Free,
+        })
+        else {
+            unreachable!()
+        };
+        Ok(())
+    }
+
+    /// A page.
+    pub(crate) fn sheet(&self, at: usize) -> &Sheet
+        requires { at < length self.now.now }
+        ensures { kind_of result.now ≡ get_or self.now.now at Free }
+    {
+        &self.sheets[at]
+    }
+
+    /// How many pages there are.
+    pub(crate) fn count(&self) -> usize
+        ensures { result ≡ length self.now.now }
+    {
+        self.sheets.len()
+    }
+
+    /// The pages that were changed, as they are now, and the root where there are more of them than before.
+    pub(crate) fn batch(&self, alloc: Global) -> Result<PageBatch, Memory>
+        requires count { 3 + length self.now.now ≤ 2 ^ 31 }
+        requires are { Each IsKind self.now.now }
+        ensures batch { IfOk result (λ batch. IsBatchOf self.now.before self.now.now batch.pages) }
+        ensures grown { length self.now.before ≤ length self.now.now }
+        ensures limit { IfOk result (λ batch. length batch.pages ≤ 1 + length self.now.touched) }
+    {
+        let places = places_of(alloc, &self.notes)?;
+        if places.len() > 2147483647 {
+            return Err(Memory);
+        }
+        let mut batch = PageBatch::new(alloc, places.len() as u32 + 1)?;
+        if self.sheets.len() > self.before {
+            batch.put(2, &root_bytes(self.sheets.len() as u32 + 3));
+        }
+        for i in 0..places.len() {
+            let at = places[i];
+            put_page(&mut batch, at as u32 + 3, &self.sheets[at]);
+        }
+        Ok(batch)
+    }
+
+    /// The pages as they are now.
+    pub(crate) fn finish(self) -> Vec<Sheet>
+        ensures { kinds_of result.items ≡ self.now }
+    {
+        self.sheets
+    }
+
+    /// The pages as they were. It takes no memory.
+    pub(crate) fn roll_back(self) -> Vec<Sheet>
+        ensures { kinds_of result.items ≡ self.before }
+    {
+        let mut sheets = self.sheets;
+        let mut notes = self.notes;
+        undo(&mut sheets, &mut notes);
+        sheets.truncate(self.before);
+        sheets
+    }
+}
+
+/// The places of pages that were changed, in order; one that was changed twice comes twice.
+fn places_of(alloc: Global, notes: &[Note]) -> Result<Vec<usize>, Memory>
+    ensures { IfOk result (λ places. IsPermutation (touched_by notes.now) places.items) }
+{
+    let mut places = Vec::new(alloc);
+    for note in notes {
+        places.push(note.at)?;
+    }
+    places.sort()?;
+    Ok(places)
+}
+
+/// Undoes changes, the last of them first.
+fn undo(sheets: &mut Vec<Sheet>, notes: &mut Vec<Note>)
+    requires { AreOnSheets notes.old.items sheets.old.items }
+    ensures { kinds_of sheets.new.items ≡ undone notes.old.items (kinds_of sheets.old.items) }
+{
+    while let Some(note) = notes.pop() {
+        sheets[note.at] = note.sheet;
+    }
+}
+
+/// Puts a page into a batch that may have it already.
+fn put_page(batch: &mut PageBatch, page: u32, sheet: &Sheet)
+    requires room { length batch.old.pages < batch.old.room }
+    requires low { 3 ≤ page }
+    requires high { page < 2 ^ 31 }
+    requires kind { IsKind (kind_of sheet.now) }
+    ensures room { batch.new.room ≡ batch.old.room }
+    ensures pages { IsOneMore batch.old.pages batch.new.pages page (kind_bytes (kind_of sheet.now)) }
+{
+    if batch.has(page) {
+        return;
+    }
+    batch.put(page, &sheet.bytes());
+}

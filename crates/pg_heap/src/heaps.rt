@@ -1,0 +1,185 @@
+//! The heap.
+
+ghost use Rattle.std.specs.Prelude.{true, ◌≡◌, ◌≢◌, ◌⊎◌, ◌<◌, ◌+◌, ◌^◌, ℕ, List, None, Some, Err, OnErr, OnOk, IfOk, length};
+ghost use Rattle.std.specs.Option.{option_map};
+ghost use Rattle.std.specs.FinMap.{get};
+ghost use Rattle.ct_site.specs.Disks.{IsSame, IsSettled, Leaves};
+ghost use Rattle.ct_site.specs.Lengths.{Lengthens};
+ghost use Rattle.ct_keep.specs.Content.{after, entries_above, first_entry, weight};
+ghost use Rattle.ct_keep.specs.Changes.{AreWell};
+ghost use Rattle.pg_journal.specs.Looking.{Loads};
+ghost use Rattle.pg_journal.specs.Recovered.{Alike, IsStore, gate};
+ghost use Rattle.pg_heap.specs.Holding.{Recovers};
+ghost use Rattle.pg_heap.specs.BatchPages.{batch_end, batch_pages};
+ghost use Rattle.pg_heap.specs.Commits.{CommitsPages};
+ghost use Rattle.pg_heap.specs.Heaps.{HeapStands, IsMap};
+ghost use Rattle.pg_heap.specs.HeapPages.{IsSound};
+ghost use Rattle.pg_heap.specs.Sheets.{kinds_of};
+
+use crate::batch_plans::BatchPlan;
+use crate::commits::commit_draft;
+use crate::loading::{Loaded, load_parts};
+use crate::pages::Pages;
+use crate::plans::PlanFault;
+use ct_keep::{Batch, KeepFault};
+use ct_site::{Disk, Failed};
+use pg_journal::{Journal, LoadFault};
+use std::alloc::Global;
+use std::marker::Model;
+use std::mem::replace;
+
+/// A map of entries in the pages of a store. All pages, the map and the place of each key are in memory: over twice the file.
+#[derive(Debug, Drop)]
+pub struct Heap {
+    journal: Journal,
+    pages: Pages,
+    /// Places of pages that may be free.
+    free: Vec<usize>,
+}
+
+impl Model for Heap {
+    ghost use Rattle.pg_heap.specs.Heaps.{HeapState, heap_code};
+    ghost use Rattle.pg_heap.specs.HeapFields.{heap_of, IsHeap};
+
+    ghost Value = { HeapState };
+
+    ghost coded = { heap_code };
+
+    ghost view = { heap_of };
+
+    ghost invariant = { IsHeap };
+}
+
+impl Heap {
+    /// The heap of a journal's pages. It takes no memory.
+    pub(crate) fn of(journal: Journal, pages: Pages, free: Vec<usize>) -> Heap
+        requires sound { IsSound pages }
+        requires homes { journal ≡ 3 + length (kinds_of pages.sheets.items) }
+        ensures { result ≡ record { homes = journal; kinds = kinds_of pages.sheets.items; held = pages.held } }
+    {
+        Heap {
+            journal,
+            pages,
+            free,
+        }
+    }
+
+    /// Loads the heap of a store: makes a store on an unborn disk, or puts home a batch that a crash has left. At each moment the disk
+    /// recovers to what it did. NotAStore exactly where it recovers to no map. What a crash leaves is told where nothing was pending.
+    /// Each page is read once.
+    pub fn load<D: Disk>(alloc: Global, disk: &mut D) -> Result<Heap, LoadFault>
+        ensures moments { (image : List ℕ) → IsSettled (D.disk disk.old) image → Leaves (D.disk disk.old) (D.disk disk.new) (Alike image) }
+        ensures loaded { (image : List ℕ) → IsSettled (D.disk disk.old) image → IfOk result (λ heap. IsMap heap.held image × HeapStands (D.disk disk.new) heap) }
+        ensures no_store { (image : List ℕ) → IsSettled (D.disk disk.old) image → result ≡ Err LoadFault.NotAStore → Recovers image None }
+        ensures same { (image : List ℕ) → (D.disk disk.old).image ≡ Some image → IsStore image → gate image ≢ 1 → IsSame (D.disk disk.old) (D.disk disk.new) }
+        ensures length { Lengthens 12288 (D.disk disk.old) (D.disk disk.new) }
+        ensures loads { Loads (D.disk disk.old) (D.disk disk.new) result }
+    {
+        let Loaded {
+            journal,
+            sheets,
+            free,
+            held,
+            places,
+        } = load_parts(alloc, disk)?;
+        let pages = Pages {
+            sheets,
+            held,
+            places,
+        };
+        Ok(Heap::of(journal, pages, free))
+    }
+
+    /// Makes the changes of a batch, all of them or none. At each moment the disk recovers to the old map or the new one, and
+    /// after Ok to the new one. After Disk the heap is loaded again. Each change costs the logarithm of the number of entries, and the
+    /// pages that it changes.
+    pub fn apply<D: Disk>(
+        &mut self,
+        alloc: Global,
+        disk: &mut D,
+        batch: &Batch,
+    ) -> Result<(), KeepFault>
+        requires { AreWell (λ _ _. true) batch.now }
+        ensures moments { HeapStands (D.disk disk.old) self.old
+            → Leaves (D.disk disk.old) (D.disk disk.new) (λ image. IsMap self.old.held image ⊎ IsMap (after batch.now self.old.held) image) }
+        ensures stands { HeapStands (D.disk disk.old) self.old → OnOk result (HeapStands (D.disk disk.new) self.new) }
+        ensures held { OnOk result (self.new.held ≡ after batch.now self.old.held) }
+        ensures err { OnErr result (self.new ≡ self.old) }
+        ensures memory { result ≡ Err KeepFault.Memory → disk.new ≡ disk.old }
+        ensures full { result ≡ Err KeepFault.Full → ⊥ }
+        ensures commits { CommitsPages (D.disk disk.old) (D.disk disk.new) result }
+        ensures length { OnOk result (Lengthens (batch_end self.old.homes (batch_pages batch.now self.old.held)) (D.disk disk.old) (D.disk disk.new)) }
+        ensures length_failed { self.old.homes + batch_pages batch.now self.old.held < 2 ^ 31
+            → Lengthens (batch_end self.old.homes (batch_pages batch.now self.old.held)) (D.disk disk.old) (D.disk disk.new) }
+    {
+        let pages = replace(&mut self.pages, Pages::none(alloc));
+        let mut plan = BatchPlan::begin(alloc, pages);
+        match plan.make(alloc, &mut self.free, batch) {
+            Ok(pages) => {
+                if let Err(fault) = commit_draft(disk, &mut self.journal, &plan.draft, &pages) {
+                    self.pages = plan.roll_back();
+                    return Err(fault);
+                }
+                self.pages = plan.finish();
+                self.pages.forget(batch);
+                Ok(())
+            }
+            Err(PlanFault::Memory) => {
+                self.pages = plan.roll_back();
+                Err(KeepFault::Memory)
+            }
+            Err(PlanFault::TooMany) => {
+                self.pages = plan.roll_back();
+                let Failed = self.journal.fill(disk);
+                Err(KeepFault::Disk)
+            }
+        }
+    }
+
+    /// The value of a key. It fails for want of memory alone, and makes no call of the disk. Its cost is the logarithm of the number of
+    /// entries.
+    pub fn fetch<D: Disk>(
+        &mut self,
+        alloc: Global,
+        disk: &mut D,
+        key: &[u8],
+    ) -> Result<Option<Vec<u8>>, KeepFault>
+        ensures value { IfOk result (λ found. option_map (λ v. v.items) found ≡ get self.old.held key.now) }
+        ensures same { self.new ≡ self.old }
+        ensures disk { disk.new ≡ disk.old }
+        ensures memory { OnErr result (result ≡ Err KeepFault.Memory) }
+    {
+        let _ = disk;
+        let Ok(found) = self.pages.held.fetch(alloc, key) else {
+            return Err(KeepFault::Memory);
+        };
+        Ok(found)
+    }
+
+    /// The entry with the least key that is greater. It fails for want of memory alone, and makes no call of the disk. Its cost is the
+    /// logarithm of the number of entries.
+    pub fn next_after<D: Disk>(
+        &mut self,
+        alloc: Global,
+        disk: &mut D,
+        key: &[u8],
+    ) -> Result<Option<(Vec<u8>, Vec<u8>)>, KeepFault>
+        ensures entry { IfOk result (λ found. option_map (λ e. (e.0.items, e.1.items)) found ≡ first_entry (entries_above key.now self.old.held)) }
+        ensures same { self.new ≡ self.old }
+        ensures disk { disk.new ≡ disk.old }
+        ensures memory { OnErr result (result ≡ Err KeepFault.Memory) }
+    {
+        let _ = disk;
+        let Ok(found) = self.pages.held.next_after(alloc, key) else {
+            return Err(KeepFault::Memory);
+        };
+        Ok(found)
+    }
+
+    /// What the map weighs: for each entry its bytes, and at least 64.
+    pub fn weight(&self) -> u64
+        ensures { result ≡ weight self.now.held }
+    {
+        self.pages.held.weight()
+    }
+}

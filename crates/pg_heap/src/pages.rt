@@ -1,0 +1,49 @@
+//! The pages of a heap in memory.
+
+ghost use Rattle.std.specs.Prelude.{◌≡◌, []};
+ghost use Rattle.std.specs.FinMap.{empty};
+ghost use Rattle.pg_heap.specs.HeapPages.{IsSound, SameButPlaces};
+ghost use Rattle.pg_heap.specs.Sheets.{kinds_of};
+
+use crate::places::Places;
+use crate::sheets::Sheet;
+use ct_keep::{Batch, EntryMap};
+use std::alloc::Global;
+
+/// The pages behind the root, the map that they hold, and the page on which each key stands.
+#[derive(Debug, Drop)]
+pub(crate) struct Pages {
+    pub(crate) sheets: Vec<Sheet>,
+    pub(crate) held: EntryMap,
+    pub(crate) places: Places,
+}
+
+impl Pages {
+    /// No pages. It takes no memory.
+    pub(crate) fn none(alloc: Global) -> Pages
+        ensures sound { IsSound result }
+        ensures kinds { kinds_of result.sheets.items ≡ [] }
+        ensures held { result.held ≡ empty }
+    {
+        Pages {
+            sheets: Vec::new(alloc),
+            held: EntryMap::new(alloc),
+            places: Places::new(alloc),
+        }
+    }
+
+    /// Forgets the places of a batch's keys that have no entry. It takes no memory.
+    pub(crate) fn forget(&mut self, batch: &Batch)
+        requires { IsSound self.old }
+        ensures sound { IsSound self.new }
+        ensures same { SameButPlaces self.old self.new }
+    {
+        let changes = batch.changes();
+        for i in 0..changes.len() {
+            let key = &changes[i].key;
+            if !self.held.has(key) {
+                self.places.remove(key);
+            }
+        }
+    }
+}

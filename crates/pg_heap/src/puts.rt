@@ -1,0 +1,183 @@
+//! The steps of a plan: entries.
+
+ghost use Rattle.std.specs.Prelude.{◌≡◌, ◌≤◌, ◌<◌, ◌+◌, ◌-◌, ◌^◌, ◌++◌, ◌∷◌, [], ℕ, List, Bool, true, false, IfOk, IfSome, IsNone, OnOk, OnErr, Err, ◌*◌, length, get_or, set, Some, None};
+ghost use Rattle.std.specs.Bool.{if◌then◌else◌};
+ghost use Rattle.std.specs.Option.{option_map};
+ghost use Rattle.std.specs.FinMap.{get};
+ghost use Rattle.ct_keep.specs.SeenChanges.{change_of};
+ghost use Rattle.ct_keep.specs.Content.{Content, set_to};
+ghost use Rattle.pg_heap.specs.Kinds.{Free};
+ghost use Rattle.pg_heap.specs.Planned.{IsPlanned, IsDone, IsPut, HasRoom, HasNone, IsTaking, HasChain};
+ghost use Rattle.pg_heap.specs.PlanSteps.{NoNewKey, TakesPages, MakesChange, long_pages, value_bytes};
+
+use crate::drafts::Draft;
+use crate::items::{far_in, far_string, short_string};
+use crate::plans::{PlanFault, free_long, free_page, put_long};
+use crate::sheets::Sheet;
+use crate::slots::{copy, find, without};
+use ct_keep::Change;
+use pg_page::{Page, Slot};
+use std::alloc::Global;
+
+/// The page at a place with a string behind its others; None where it is a long one or has no room.
+fn with_string(draft: &Draft, at: usize, string: &[u8]) -> Option<Page>
+    ensures some { IfSome result (λ page. HasRoom draft.now.now at string.now page) }
+    ensures none { IsNone result → get_or draft.now.now at Free ≡ Free → at < length draft.now.now → length string.now ≤ 4084 → ⊥ }
+{
+    if at >= draft.count() {
+        return None;
+    }
+    let mut page = match draft.sheet(at) {
+        Sheet::Free => Page::empty(),
+        Sheet::Slotted(page) => copy(page),
+        Sheet::Long { .. } => return None,
+    };
+    let Some(_) = page.put(string) else {
+        return None;
+    };
+    Some(page)
+}
+
+/// Puts a string on the page at a place, if it has room, and else on a free one; gives the place.
+fn put_string(
+    draft: &mut Draft,
+    free: &mut Vec<usize>,
+    roomy: usize,
+    string: &[u8],
+) -> Result<usize, PlanFault>
+    requires { length string.now ≤ 4084 }
+    ensures before { draft.new.before ≡ draft.old.before }
+    ensures put { IfOk result (IsPut draft.old.now draft.new.now string.now) }
+    ensures takes { TakesPages draft.old draft.new 1 2 }
+    ensures too_many { result ≡ Err PlanFault.TooMany → 2147483645 ≤ length draft.new.now }
+{
+    if let Some(page) = with_string(draft, roomy, string) {
+        let Ok(()) = draft.set(roomy, Sheet::Slotted(page)) else {
+            return Err(PlanFault::Memory);
+        };
+        return Ok(roomy);
+    }
+    let at = free_page(draft, free)?;
+    let Some(page) = with_string(draft, at, string) else {
+        unreachable!()
+    };
+    let Ok(()) = draft.set(at, Sheet::Slotted(page)) else {
+        return Err(PlanFault::Memory);
+    };
+    Ok(at)
+}
+
+/// The page at a place without the string of a key, and where its entry's long pages begin and how many bytes they have.
+fn taking(draft: &Draft, at: usize, key: &[u8]) -> Option<(Page, u32, u32)>
+    ensures some { IfSome result (λ t. IsTaking draft.now.now at key.now t.0 t.1 t.2) }
+    ensures none { IsNone result → HasNone draft.now.now at key.now }
+{
+    if at >= draft.count() {
+        return None;
+    }
+    let Sheet::Slotted(page) = draft.sheet(at) else {
+        return None;
+    };
+    let number = find(page, key)?;
+    let string = page.get(Slot(number as u16))?;
+    let (first, count) = far_in(string);
+    Some((without(page, number), first, count))
+}
+
+/// Takes the entry of a key off the page at a place, and frees its long pages; whether it was there.
+fn remove_at(
+    draft: &mut Draft,
+    free: &mut Vec<usize>,
+    at: usize,
+    key: &[u8],
+) -> Result<bool, PlanFault>
+    ensures before { draft.new.before ≡ draft.old.before }
+    ensures gone { (m : Content) → IsDone draft.old.now m → IfOk result (λ found. IsDone draft.new.now (if found then set_to key.now None m else m)) }
+    ensures none { IfOk result (λ found. found ≡ false → HasNone draft.old.now at key.now) }
+    ensures pages { length draft.new.now ≡ length draft.old.now }
+    ensures touches { (m : Content) → IsDone draft.old.now m → length draft.new.touched ≤ length draft.old.touched + (1 + long_pages (value_bytes (get m key.now))) }
+    ensures keys { NoNewKey draft.old.now draft.new.now }
+    ensures too_many { result ≡ Err PlanFault.TooMany → ⊥ }
+{
+    let Some((rest, first, count)) = taking(draft, at, key) else {
+        return Ok(false);
+    };
+    let Ok(()) = draft.set(at, Sheet::Slotted(rest)) else {
+        return Err(PlanFault::Memory);
+    };
+    free_long(draft, free, first, count)?;
+    Ok(true)
+}
+
+/// Puts an entry whose value stands behind its key.
+fn put_short(
+    alloc: Global,
+    draft: &mut Draft,
+    free: &mut Vec<usize>,
+    roomy: usize,
+    key: &[u8],
+    value: &[u8],
+) -> Result<usize, PlanFault>
+    requires short { 3 + length key.now + length value.now ≤ 4084 }
+    ensures before { draft.new.before ≡ draft.old.before }
+    ensures put { (m : Content) → IsDone draft.old.now m → get m key.now ≡ None → IfOk result (MakesChange draft.old.now draft.new.now m key.now (Some value.now)) }
+    ensures takes { TakesPages draft.old draft.new 1 2 }
+    ensures too_many { result ≡ Err PlanFault.TooMany → 2147483645 ≤ length draft.new.now }
+{
+    let Ok(string) = short_string(alloc, key, value) else {
+        return Err(PlanFault::Memory);
+    };
+    put_string(draft, free, roomy, &string)
+}
+
+/// Puts an entry whose value stands on long pages.
+fn put_far(
+    alloc: Global,
+    draft: &mut Draft,
+    free: &mut Vec<usize>,
+    roomy: usize,
+    key: &[u8],
+    value: &[u8],
+) -> Result<usize, PlanFault>
+    requires key { length key.now ≤ 600 }
+    requires value { length value.now ≤ 2 ^ 26 }
+    requires long { 4084 < 3 + length key.now + length value.now }
+    ensures before { draft.new.before ≡ draft.old.before }
+    ensures put { (m : Content) → IsDone draft.old.now m → get m key.now ≡ None → IfOk result (MakesChange draft.old.now draft.new.now m key.now (Some value.now)) }
+    ensures takes { TakesPages draft.old draft.new (long_pages (length value.now) + 1) (2 * long_pages (length value.now) + 2) }
+    ensures too_many { result ≡ Err PlanFault.TooMany → 2147483645 ≤ length draft.new.now }
+{
+    let first = put_long(alloc, draft, free, value)?;
+    let Ok(string) = far_string(alloc, key, value.len() as u32, first) else {
+        return Err(PlanFault::Memory);
+    };
+    put_string(draft, free, roomy, &string)
+}
+
+/// Makes a change: takes the old entry of its key, which is at this place if it is anywhere, and puts the new one; gives the place of that.
+pub(crate) fn do_change(
+    alloc: Global,
+    draft: &mut Draft,
+    free: &mut Vec<usize>,
+    roomy: usize,
+    at: usize,
+    change: &Change,
+) -> Result<usize, PlanFault>
+    requires value { IfSome change.now.value (λ value. (length change.now.key.items ≤ 600) × (length value.items ≤ 2 ^ 26)) }
+    ensures before { draft.new.before ≡ draft.old.before }
+    ensures done { (m : Content) → IsDone draft.old.now m → (HasNone draft.old.now at change.now.key.items → get m change.now.key.items ≡ None)
+        → IfOk result (MakesChange draft.old.now draft.new.now m change.now.key.items (option_map (λ v. v.items) change.now.value)) }
+    ensures pages { length draft.new.now ≤ length draft.old.now + (1 + long_pages (value_bytes (option_map (λ v. v.items) change.now.value))) }
+    ensures touches { (m : Content) → IsDone draft.old.now m → length draft.new.touched
+        ≤ length draft.old.touched + (3 + long_pages (value_bytes (get m change.now.key.items)) + 2 * long_pages (value_bytes (option_map (λ v. v.items) change.now.value))) }
+    ensures too_many { result ≡ Err PlanFault.TooMany → 2147483645 ≤ length draft.new.now }
+{
+    let _ = remove_at(draft, free, at, &change.key)?;
+    match &change.value {
+        None => Ok(at),
+        Some(value) if 3 + change.key.len() + value.len() <= 4084 => {
+            put_short(alloc, draft, free, roomy, &change.key, value)
+        }
+        Some(value) => put_far(alloc, draft, free, roomy, &change.key, value),
+    }
+}

@@ -1,0 +1,64 @@
+//! The strings of slotted pages.
+
+ghost use Rattle.std.specs.Prelude.{◌≡◌, ◌≢◌, ◌≤◌, ◌<◌, ◌+◌, ◌^◌, [], ℕ, List, Some, None, IfOk, IfSome, IsNone, IsTrue, IsFalse, length, get_or, take, drop};
+ghost use Rattle.pg_page.specs.Pages.{Fits};
+ghost use Rattle.pg_heap.specs.Kinds.{Item, IsItem, item_bytes};
+ghost use Rattle.pg_heap.specs.Kinds.{key_in_item};
+ghost use Rattle.pg_heap.specs.PageStrings.{without_at, string_key, IsKeyAt};
+
+use crate::items::key_in;
+use pg_page::{Page, Slot};
+
+/// The page without the string of a number.
+pub(crate) fn without(page: &Page, slot: usize) -> Page
+    ensures { result ≡ without_at slot page.now }
+{
+    let mut rest = Page::empty();
+    for i in 0..page.count() {
+        if i == slot {
+            continue;
+        }
+        let Some(string) = page.get(Slot(i as u16)) else {
+            return rest;
+        };
+        let Some(_) = rest.put(string) else {
+            return rest;
+        };
+    }
+    rest
+}
+
+/// The same page once more.
+pub(crate) fn copy(page: &Page) -> Page
+    ensures { result ≡ page.now }
+{
+    without(page, page.count())
+}
+
+/// Whether a string is of an entry of a key.
+fn is_of(string: &[u8], key: &[u8]) -> bool
+    ensures yes { IsTrue result → string_key string.now ≡ key.now }
+    ensures no { IsFalse result → (item : Item) → IsItem item → string.now ≡ item_bytes item → key_in_item item ≢ key.now }
+{
+    match key_in(string) {
+        Some(found) => found == key,
+        None => false,
+    }
+}
+
+/// The number of the first string of a key.
+pub(crate) fn find(page: &Page, key: &[u8]) -> Option<usize>
+    ensures fits { Fits page.now }
+    ensures some { IfSome result (λ i. IsKeyAt page.now i key.now) }
+    ensures none { IsNone result → (i : ℕ) (item : Item) → i < length page.now → IsItem item → get_or page.now i [] ≡ item_bytes item → key_in_item item ≢ key.now }
+{
+    for i in 0..page.count() {
+        let Some(string) = page.get(Slot(i as u16)) else {
+            return None;
+        };
+        if is_of(string, key) {
+            return Some(i);
+        }
+    }
+    None
+}
