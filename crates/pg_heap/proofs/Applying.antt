@@ -1,9 +1,12 @@
 -- A batch is applied: what a crash leaves meanwhile, and how long the file is then.
-use Rattle.std.proofs.Common.{◌≡◌, ◌≤◌, ◌⊎◌, inl, ℕ, ◌+◌, ◌*◌, List, length, sym, ap, subst, ◌∙◌, arith}
+use Rattle.std.proofs.Common.{◌≡◌, ◌≤◌, ◌⊎◌, inl, inr, refl, Bool, true, false, nat_lt, ℕ, ◌+◌, ◌*◌, List, length, sym, ap, subst, ◌∙◌, arith}
 use Rattle.ct_site.specs.Disks.{DiskView, Leaves, leaves_more}
 use Rattle.ct_site.specs.Lengths.{Lengthens}
 use Rattle.ct_site.specs.laws.Lengths.{grows_more}
-use Rattle.ct_keep.specs.Content.{Content, Change, after}
+use Rattle.std.specs.Prelude.{◌&&◌}
+use Rattle.std.proofs.lemmas.Bool.{ltb-false}
+use Rattle.ct_keep.specs.Content.{Content, Change, after, weight}
+use Rattle.ct_keep.specs.KeeperViews.{KeepsLimit}
 use Rattle.pg_journal.specs.Recovered.{IsRecovered, number_pages}
 use Rattle.pg_journal.specs.Standing.{DiskStands}
 use Rattle.pg_heap.specs.Kinds.{Kind}
@@ -49,3 +52,16 @@ commit_length old new before now n m changes heap homes before_is m_is grows few
 
     fewer : (n p q : ℕ) → n ≤ 1 + 2 * p → p ≡ q → n ≤ 1 + 2 * q
     fewer n p q a b = omega (arith, a, b)
+
+-- a map that was made within the limit, or no heavier than before
+not_passing : (limit a b : ℕ) → (nat_lt limit b && nat_lt a b) ≡ false → (b ≤ limit) ⊎ (b ≤ a)
+not_passing limit a b is = at (nat_lt limit b) (nat_lt a b) refl refl is
+  where
+    at : (p q : Bool) → nat_lt limit b ≡ p → nat_lt a b ≡ q → (p && q) ≡ false → (b ≤ limit) ⊎ (b ≤ a)
+    at false q e f is = inl (ltb-false limit b e)
+    at true false e f is = inr (ltb-false a b f)
+    at true true e f is = cc
+
+pub keeps_limit : (limit : ℕ) (m seen held : Content) (changes : List Change) (passes : Bool) → passes ≡ (nat_lt limit (weight seen) && nat_lt (weight m) (weight seen)) → passes ≡ false → m ≡ held → seen ≡ after changes m → KeepsLimit limit held (after changes held)
+keeps_limit limit m seen held changes passes is passed m_is seen_is =
+    subst (λ (h : Content). KeepsLimit limit h (after changes h)) m_is (subst (λ (s : Content). KeepsLimit limit m s) seen_is (not_passing limit (weight m) (weight seen) (sym is ∙ passed)))

@@ -5,7 +5,7 @@ use Rattle.ct_keep.specs.SeenChanges.{change_of}
 use Rattle.std.proofs.Common.{◌≤◌, ◌<◌, ◌≡◌, ◌⊎◌, ⊎_elim, ℕ, zero, suc, ◌+◌, ◌-◌, ◌^◌, List, [], ◌∷◌, ◌++◌, length, get_or, take, Option, Some, None, refl, sym, ap, subst, ◌∙◌, length-append, arith, Vec, Global}
 use Rattle.std.specs.List.{Contains}
 use Rattle.std.specs.Option.{option_map, IfSome}
-use Rattle.ct_keep.specs.Changes.{AreWell}
+use Rattle.ct_keep.specs.Changes.{AnyEntry, AreWell}
 use Rattle.std.specs.FinMap.{get}
 use Rattle.ct_keep.specs.Content.{Content, Change, set_to}
 use Rattle.ct_keep.specs.Laws.{same, same_itself, get-set_to, same_content, after-append}
@@ -171,11 +171,11 @@ take_whole (w ∷ ws) (suc i) less = ap (λ (l : List rust.Change). w ∷ l) (ta
 
 -- ---- the bounds on a change
 
-well_head : (key : List ℕ) (value : Option (Vec ℕ Global)) (rest : List Change) → AreWell (λ k v. true) ((key, option_map (λ v. v.items) value) ∷ rest) → IfSome value (λ v. (length key ≤ 600) × (length v.items ≤ 2 ^ 26)) × AreWell (λ k v. true) rest
+well_head : (key : List ℕ) (value : Option (Vec ℕ Global)) (rest : List Change) → AreWell AnyEntry ((key, option_map (λ v. v.items) value) ∷ rest) → IfSome value (λ v. (length key ≤ 600) × (length v.items ≤ 2 ^ 26)) × AreWell AnyEntry rest
 well_head key None rest well = (tt, well)
 well_head key (Some v) rest well = ((well.0.short, well.0.bounded), well.2)
 
-pub well_at : (ws : List rust.Change) (i : ℕ) (w : rust.Change) → AreWell (λ k v. true) (map change_of ws) → i < length ws → w ≡ get_or ws i w → IfSome w.value (λ v. (length w.key.items ≤ 600) × (length v.items ≤ 2 ^ 26))
+pub well_at : (ws : List rust.Change) (i : ℕ) (w : rust.Change) → AreWell AnyEntry (map change_of ws) → i < length ws → w ≡ get_or ws i w → IfSome w.value (λ v. (length w.key.items ≤ 600) × (length v.items ≤ 2 ^ 26))
 well_at [] i w well less is = absurd (omega (arith, less))
 well_at (u ∷ ws) zero w well less is = subst (λ (x : rust.Change). IfSome x.value (λ v. (length x.key.items ≤ 600) × (length v.items ≤ 2 ^ 26))) (sym is) (well_head u.key.items u.value (map change_of ws) well).0
 well_at (u ∷ ws) (suc i) w well less is = well_at ws i w (well_head u.key.items u.value (map change_of ws) well).1 (omega (arith, less)) is

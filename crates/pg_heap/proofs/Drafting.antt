@@ -5,7 +5,7 @@ use Rattle.pg_heap.specs.declared.drafts.Note.{Note}
 use Rattle.pg_heap.specs.declared.sheets.Sheet.{Sheet}
 use Rattle.pg_heap.specs.Kinds.{Each, Kind}
 use Rattle.pg_heap.specs.Sheets.{kind_of, kinds_of}
-use Rattle.pg_heap.specs.Drafts.{undone, touched_by, Drafted}
+use Rattle.pg_heap.specs.Drafts.{undone, touched_by, Drafted, EndsWith}
 use Rattle.pg_heap.specs.DraftFields.{draft_of, IsDraftOf}
 use Rattle.std.proofs.lemmas.List.Elements.{Contains-append_left, Contains-push}
 
@@ -39,6 +39,38 @@ set_view sheets sheets1 notes notes1 b at old new d is put was within note =
     ∙ ap (λ (l : List Kind). record { before = take b (undone notes (kinds_of sheets)); now = l; touched = touched_by notes1 }) now
     ∙ ap (λ (l : List ℕ). record { before = take b (undone notes (kinds_of sheets)); now = set (kinds_of sheets) at (kind_of new); touched = l }) touched
     ∙ ap (λ (x : Drafted). record { before = x.before; now = set x.now at (kind_of new); touched = x.touched ++ at ∷ [] }) is
+
+-- ---- the page that was noted last is changed again
+
+set_twice : (ks : List Kind) (at : ℕ) (x y : Kind) → set (set ks at x) at y ≡ set ks at y
+set_twice [] at x y = refl
+set_twice (k ∷ ks) zero x y = refl
+set_twice (k ∷ ks) (suc at) x y = ap (λ (l : List Kind). k ∷ l) (set_twice ks at x y)
+
+undone_last : (notes : List Note) (ks : List Kind) (at : ℕ) (x : Kind) (first : List ℕ) → touched_by notes ≡ first ++ at ∷ [] → undone notes (set ks at x) ≡ undone notes ks
+undone_last [] ks at x [] is = cc
+undone_last [] ks at x (f ∷ fs) is = cc
+undone_last (n ∷ []) ks at x [] is =
+    let here : n.at ≡ at = cc in
+    ap (λ (i : ℕ). set (set ks at x) i (kind_of n.sheet)) here ∙ set_twice ks at x (kind_of n.sheet) ∙ ap (λ (i : ℕ). set ks i (kind_of n.sheet)) (sym here)
+undone_last (n ∷ []) ks at x (f ∷ []) is = let no : [] ≡ at ∷ [] = cc in cc
+undone_last (n ∷ []) ks at x (f ∷ g ∷ fs) is = let no : [] ≡ g ∷ (fs ++ at ∷ []) = cc in cc
+undone_last (n ∷ m ∷ ns) ks at x [] is = let no : touched_by (m ∷ ns) ≡ [] = cc in cc
+undone_last (n ∷ m ∷ ns) ks at x (f ∷ fs) is =
+    let rest : touched_by (m ∷ ns) ≡ fs ++ at ∷ [] = cc in
+    ap (λ (l : List Kind). set l n.at (kind_of n.sheet)) (undone_last (m ∷ ns) ks at x fs rest)
+
+pub again_view : (sheets sheets1 : List Sheet) (notes : List Note) (b at : ℕ) (new : Sheet) (d : Drafted) → draft_of sheets notes b ≡ d → sheets1 ≡ set sheets at new → EndsWith d.touched at
+    → draft_of sheets1 notes b ≡ record { before = d.before; now = set d.now at (kind_of new); touched = d.touched }
+again_view sheets sheets1 notes b at new d is put last =
+    let now : kinds_of sheets1 ≡ set (kinds_of sheets) at (kind_of new) = ap kinds_of put ∙ kinds_set sheets at new in
+    let before : undone notes (kinds_of sheets1) ≡ undone notes (kinds_of sheets) =
+    ap (undone notes) now ∙ undone_last notes (kinds_of sheets) at (kind_of new) last.first (ap (λ (x : Drafted). x.touched) is ∙ last.is) in
+    ap (λ (l : List Kind). record { before = take b l; now = kinds_of sheets1; touched = touched_by notes }) before
+    ∙ ap (λ (l : List Kind). record { before = take b (undone notes (kinds_of sheets)); now = l; touched = touched_by notes }) now
+    ∙ ap (λ (x : Drafted). record { before = x.before; now = set x.now at (kind_of new); touched = x.touched }) is
+
+-- ---- one note more
 
 each_note : (ns : List Note) (a b : ℕ) → a ≤ b → Each (λ (n : Note). n.at < a) ns → Each (λ (n : Note). n.at < b) ns
 each_note [] a b less all = tt

@@ -1,16 +1,20 @@
 -- The pages behind a root, and what an image recovers to with them.
 use Rattle.std.specs.Prelude.{map, Result, Err}
-use Rattle.std.proofs.Common.{◌≡◌, ℕ, zero, suc, ◌+◌, ◌-◌, ◌<◌, ◌≤◌, List, [], ◌∷◌, ◌++◌, length, get_or, Option, Some, None, refl, sym, ap, subst, ◌∙◌, arith, length-append}
+use Rattle.std.proofs.Common.{◌≡◌, ℕ, zero, suc, ◌+◌, ◌-◌, ◌<◌, ◌≤◌, List, [], ◌∷◌, ◌++◌, length, get_or, Option, Some, None, refl, sym, ap, subst, inl, ⊎_elim, ◌∙◌, arith, length-append}
 use Rattle.std.specs.Option.{option_map}
 use Rattle.std.proofs.lemmas.List.{map-append, length-map}
 use Rattle.ct_site.specs.Disks.{DiskView, IsSame, Leaves, leaves_same, leaves_then}
-use Rattle.ct_site.specs.laws.Calls.{settled_same}
+use Rattle.ct_site.specs.laws.Calls.{settled_same, same_then}
 use Rattle.ct_keep.specs.Content.{Content}
-use Rattle.pg_journal.specs.Looking.{IsNoStore, Loaded}
+use Rattle.pg_journal.specs.Looking.{IsNoStore, Loaded, WritesNothing}
 use Rattle.pg_journal.specs.Pages.{page, pages_from, homes_in, root_page}
-use Rattle.pg_journal.specs.Recovered.{IsRecovered}
+use Rattle.pg_journal.specs.Recovered.{IsRecovered, IsStore, first_pages}
 use Rattle.pg_journal.specs.Standing.{DiskStands}
 use Rattle.pg_journal.specs.laws.Recovered.{one_recovered}
+use Rattle.pg_journal.specs.declared.faults.LoadFault.{LoadFault}
+use Rattle.pg_journal.specs.declared.faults.LoadFault.TheVariants.{NotAStore}
+use Rattle.pg_heap.specs.MapReading.{nothing}
+use Rattle.pg_heap.specs.laws.MapReading.{first_hold}
 use Rattle.pg_heap.specs.declared.sheets.Sheet.{Sheet}
 use Rattle.pg_heap.specs.laws.Committing.{done_holds}
 use Rattle.pg_heap.specs.Holding.{Holds, IsLayout, Recovers}
@@ -123,6 +127,13 @@ unfolding tail_of
 none_laid image pages ks r are none = λ m others s h.
     let same : ks ≡ h.kinds = one_list kind_bytes IsKind [] one_kind ks h.kinds are.are h.are (ap tail_of (sym are.is ∙ one_recovered image pages others r s ∙ h.is)) in
     none.none m (subst (λ (l : List Kind). IsLayout l m) (sym same) h.layout)
+
+-- a disk that was refused is as it was: one that is no store yet would have been loaded, and a store's was only read
+pub refused_same : (image : List ℕ) (old mid new : DiskView) (homes : ℕ) → Loaded image mid homes → Recovers image None → (IsStore image → IsSame old mid) → IsSame mid new → IsSame old new
+refused_same image old mid new homes l none kept same = ⊎_elim (λ unborn. absurd (none nothing first_pages (inl (unborn.0, refl)) first_hold)) (λ store. same_then old mid new (kept store.0) same) l.recovered
+
+pub refused_writes : {A : Type 0} (r : Result A LoadFault) (old new : DiskView) → r ≡ Err NotAStore → WritesNothing r old new → IsSame old new
+refused_writes {A = A} r old new is same = subst {A = Result A LoadFault} (λ r1. WritesNothing r1 old new) is same
 
 pub is_loaded : (image : List ℕ) (mid new : DiskView) (homes : ℕ) (ks : List Kind) (m : Content) → (l : Loaded image mid homes) → IsSame mid new → ArePagesOf l.pages ks → IsDone ks m → IsLoaded image new homes ks m
 is_loaded image mid new homes ks m l same are done =

@@ -1,5 +1,5 @@
 -- What a call that commits pages leaves of the disk and of its count of faults.
-use Rattle.std.specs.Prelude.{◌≡◌, ℕ, None, Result, Ok, Err, refl}
+use Rattle.std.specs.Prelude.{◌≡◌, ◌≤◌, ℕ, None, Result, Ok, Err, refl}
 use Rattle.ct_base.specs.Moments.{Grows}
 use Rattle.ct_site.specs.Disks.{DiskView}
 use Rattle.ct_keep.specs.declared.keepers.KeepFault.{KeepFault}
@@ -12,6 +12,7 @@ pub record CommitsPages {T : Type 0} (old new : DiskView) (result : Result T Kee
   pub beside : new.beside ≡ old.beside
   pub untold : old.image ≡ None → new.image ≡ None
   pub kept : Grows old.time new.time
+  pub later : old.faults ≤ new.faults
   pub faults : new.faults ≡ disk_faults_after (fault_of result) old.faults
 
 -- an answer that isn't Disk leaves the count

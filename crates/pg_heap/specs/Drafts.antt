@@ -1,5 +1,5 @@
 -- Pages that are changed in memory, and can go back to what they were.
-use Rattle.std.specs.Prelude.{ℕ, List, [], ◌∷◌, set, map}
+use Rattle.std.specs.Prelude.{ℕ, List, [], ◌∷◌, ◌++◌, set, map}
 use Rattle.pg_heap.specs.declared.drafts.Note.{Note}
 use Rattle.pg_heap.specs.Kinds.{Kind}
 use Rattle.pg_heap.specs.Sheets.{kind_of}
@@ -20,6 +20,11 @@ pub record Drafted : Type 0 where
   pub before : List Kind
   pub now : List Kind
   pub touched : List ℕ
+
+-- The last of the places is this one.
+pub record EndsWith (places : List ℕ) (at : ℕ) : Type 0 where
+  pub first : List ℕ
+  pub is : places ≡ first ++ at ∷ []
 
 -- ---- computed example: a long page that was free before
 free_again : undone (record { at = 0; sheet = FreeSheet } ∷ []) (Long 0 (7 ∷ []) ∷ []) ≡ Free ∷ []

@@ -1,9 +1,9 @@
 //! The plan of a batch: what it makes of pages, map and places, all in memory.
 
-ghost use Rattle.std.specs.Prelude.{true, ◌≡◌, ◌<◌, ◌≤◌, ◌+◌, ◌^◌, Err, IfOk, length, map};
+ghost use Rattle.std.specs.Prelude.{true, ◌≡◌, ◌<◌, ◌≤◌, ◌+◌, ◌^◌, ◌&&◌, nat_lt, Err, IfOk, length, map};
 ghost use Rattle.ct_keep.specs.Content.{weight};
 ghost use Rattle.ct_keep.specs.SeenChanges.{change_of};
-ghost use Rattle.ct_keep.specs.Changes.{AreWell};
+ghost use Rattle.ct_keep.specs.Changes.{AnyEntry, AreWell};
 ghost use Rattle.pg_heap.specs.Sheets.{kinds_of};
 ghost use Rattle.pg_heap.specs.Planned.{IsDone};
 ghost use Rattle.pg_heap.specs.PlanSteps.{IsIndexed};
@@ -12,6 +12,7 @@ ghost use Rattle.pg_heap.specs.HeapPages.{IsSound, IsUndoable, IsFresh, GoesBack
 
 use crate::changes::do_changes;
 use crate::drafts::Draft;
+use crate::hints::Hints;
 use crate::pages::Pages;
 use crate::places::PlaceChanges;
 use crate::plans::PlanFault;
@@ -80,10 +81,10 @@ impl BatchPlan {
     pub(crate) fn make(
         &mut self,
         alloc: Global,
-        free: &mut Vec<usize>,
+        hints: &mut Hints,
         batch: &Batch,
     ) -> Result<PageBatch, PlanFault>
-        requires well { AreWell (λ _ _. true) batch.now }
+        requires well { AreWell AnyEntry batch.now }
         requires undoable { IsUndoable self.old }
         requires fresh { IsFresh self.old }
         ensures same { GoesBackAs self.old self.new }
@@ -91,7 +92,7 @@ impl BatchPlan {
         ensures too_many { result ≡ Err PlanFault.TooMany → 2 ^ 31 ≤ 3 + length self.old.draft.before + batch_pages batch.now self.old.entries.before }
     {
         let changes = batch.changes();
-        do_changes(alloc, &mut self.draft, free, &mut self.places, changes)?;
+        do_changes(alloc, &mut self.draft, hints, &mut self.places, changes)?;
         let Ok(changes) = copies(alloc, changes) else {
             return Err(PlanFault::Memory);
         };
@@ -105,6 +106,15 @@ impl BatchPlan {
             return Err(PlanFault::Memory);
         };
         Ok(pages)
+    }
+
+    /// Whether the map would weigh more than the limit, and more than it did.
+    pub(crate) fn passes(&self, limit: u64) -> bool
+        requires { self.now.total ≡ weight self.now.entries.before }
+        ensures { result ≡ (nat_lt limit (weight self.now.entries.seen) && nat_lt (weight self.now.entries.before) (weight self.now.entries.seen)) }
+    {
+        let total = self.entries.weight();
+        total > limit as u128 && total > self.total as u128
     }
 
     /// The pages as they were. It takes no memory.

@@ -4,12 +4,13 @@ ghost use Rattle.std.specs.Prelude.{true, ◌≡◌, ◌≤◌, ◌+◌, None, E
 ghost use Rattle.std.specs.FinMap.{get};
 ghost use Rattle.ct_keep.specs.Content.{Content};
 ghost use Rattle.ct_keep.specs.SeenChanges.{change_of};
-ghost use Rattle.ct_keep.specs.Changes.{AreWell};
+ghost use Rattle.ct_keep.specs.Changes.{AnyEntry, AreWell};
 ghost use Rattle.pg_heap.specs.Planned.{IsDone, HasNone};
 ghost use Rattle.pg_heap.specs.PlanSteps.{IsIndexed, MakesChanges};
 ghost use Rattle.pg_heap.specs.BatchPages.{batch_pages};
 
 use crate::drafts::Draft;
+use crate::hints::Hints;
 use crate::places::PlaceChanges;
 use crate::plans::PlanFault;
 use crate::puts::do_change;
@@ -30,11 +31,11 @@ fn place_of(draft: &Draft, places: &PlaceChanges, key: &[u8]) -> usize
 pub(crate) fn do_changes(
     alloc: Global,
     draft: &mut Draft,
-    free: &mut Vec<usize>,
+    hints: &mut Hints,
     places: &mut PlaceChanges,
     changes: &[Change],
 ) -> Result<(), PlanFault>
-    requires { AreWell (λ _ _. true) (map change_of changes.now) }
+    requires { AreWell AnyEntry (map change_of changes.now) }
     ensures before { draft.new.before ≡ draft.old.before }
     ensures places { places.new.before ≡ places.old.before }
     ensures done { (m : Content) → IsDone draft.old.now m → IsIndexed draft.old.now places.old.now
@@ -42,12 +43,11 @@ pub(crate) fn do_changes(
     ensures pages { (m : Content) → length draft.new.now ≤ length draft.old.now + batch_pages (map change_of changes.now) m }
     ensures too_many { result ≡ Err PlanFault.TooMany → 2147483645 ≤ length draft.new.now }
 {
-    let mut roomy = 0;
     for i in 0..changes.len() {
         let change = &changes[i];
         let at = place_of(draft, places, &change.key);
-        roomy = do_change(alloc, draft, free, roomy, at, change)?;
-        let Ok(()) = places.put(alloc, &change.key, roomy) else {
+        let place = do_change(alloc, draft, hints, at, change)?;
+        let Ok(()) = places.put(alloc, &change.key, place) else {
             return Err(PlanFault::Memory);
         };
     }

@@ -1,11 +1,11 @@
 //! Pages that are changed in memory.
 
-ghost use Rattle.std.specs.Prelude.{◌≡◌, ◌<◌, ◌≤◌, ◌+◌, ◌^◌, IfOk, ◌++◌, ◌∷◌, [], OnOk, OnErr, length, get_or, set};
+ghost use Rattle.std.specs.Prelude.{◌≡◌, ◌<◌, ◌≤◌, ◌+◌, ◌^◌, IsTrue, IfOk, ◌++◌, ◌∷◌, [], OnOk, OnErr, length, get_or, set};
 ghost use Rattle.pg_heap.specs.Kinds.{Each, Free, IsKind, kind_bytes};
 ghost use Rattle.pg_heap.specs.Committing.{IsBatchOf, IsOneMore};
 ghost use Rattle.pg_heap.specs.Sheets.{kind_of, kinds_of};
 ghost use Rattle.std.specs.List.Sorted.{IsPermutation};
-ghost use Rattle.pg_heap.specs.Drafts.{undone, touched_by};
+ghost use Rattle.pg_heap.specs.Drafts.{undone, touched_by, EndsWith};
 ghost use Rattle.pg_heap.specs.DraftFields.{AreOnSheets};
 
 use crate::sheets::{Sheet, root_bytes};
@@ -67,6 +67,25 @@ impl Draft {
             unreachable!()
         };
         Ok(())
+    }
+
+    /// Whether the page at a place is the one that was changed last.
+    pub(crate) fn is_last(&self, at: usize) -> bool
+        ensures { IsTrue result → EndsWith self.now.touched at }
+    {
+        match self.notes.last() {
+            Some(note) => note.at == at,
+            None => false,
+        }
+    }
+
+    /// Puts a page in place of the one that was changed last. It takes no memory: what was there first is noted.
+    pub(crate) fn set_last(&mut self, at: usize, sheet: Sheet)
+        requires within { at < length self.old.now }
+        requires last { EndsWith self.old.touched at }
+        ensures { self.new ≡ record { before = self.old.before; now = set self.old.now at (kind_of sheet); touched = self.old.touched } }
+    {
+        self.sheets[at] = sheet;
     }
 
     /// One page more, a free one.

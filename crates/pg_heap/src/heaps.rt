@@ -1,15 +1,19 @@
 //! The heap.
 
-ghost use Rattle.std.specs.Prelude.{true, ◌≡◌, ◌≢◌, ◌⊎◌, ◌<◌, ◌+◌, ◌^◌, ℕ, List, None, Some, Err, OnErr, OnOk, IfOk, length};
+ghost use Rattle.std.specs.Prelude.{true, ◌≡◌, ◌↔◌, ◌≢◌, IsTrue, ◌⊎◌, ◌<◌, ◌+◌, ◌^◌, ℕ, List, None, Some, Err, OnErr, OnOk, IfOk, length};
 ghost use Rattle.std.specs.Option.{option_map};
 ghost use Rattle.std.specs.FinMap.{get};
 ghost use Rattle.ct_site.specs.Disks.{IsSame, IsSettled, Leaves};
 ghost use Rattle.ct_site.specs.Lengths.{Lengthens};
 ghost use Rattle.ct_keep.specs.Content.{after, entries_above, first_entry, weight};
-ghost use Rattle.ct_keep.specs.Changes.{AreWell};
+ghost use Rattle.ct_keep.specs.Changes.{AnyEntry, AreWell, HoldsWell};
+ghost use Rattle.ct_keep.specs.Counting.{count_under, IsOwner};
+ghost use Rattle.ct_keep.specs.KeeperViews.{AnswersCommit, fault_of};
 ghost use Rattle.pg_journal.specs.Looking.{Loads};
 ghost use Rattle.pg_journal.specs.Recovered.{Alike, IsStore, gate};
-ghost use Rattle.pg_heap.specs.Holding.{Recovers};
+ghost use Rattle.pg_heap.specs.Holding.{Holds, Recovers};
+ghost use Rattle.pg_heap.specs.Loading.{HasNoOpenGate};
+ghost use Rattle.pg_heap.specs.MapReading.{behind_root};
 ghost use Rattle.pg_heap.specs.BatchPages.{batch_end, batch_pages};
 ghost use Rattle.pg_heap.specs.Commits.{CommitsPages};
 ghost use Rattle.pg_heap.specs.Heaps.{HeapStands, IsMap};
@@ -18,10 +22,12 @@ ghost use Rattle.pg_heap.specs.Sheets.{kinds_of};
 
 use crate::batch_plans::BatchPlan;
 use crate::commits::commit_draft;
+use crate::hints::Hints;
 use crate::loading::{Loaded, load_parts};
 use crate::pages::Pages;
 use crate::plans::PlanFault;
-use ct_keep::{Batch, KeepFault};
+use ct_base::Memory;
+use ct_keep::{Batch, KeepFault, Shape};
 use ct_site::{Disk, Failed};
 use pg_journal::{Journal, LoadFault};
 use std::alloc::Global;
@@ -33,8 +39,7 @@ use std::mem::replace;
 pub struct Heap {
     journal: Journal,
     pages: Pages,
-    /// Places of pages that may be free.
-    free: Vec<usize>,
+    hints: Hints,
 }
 
 impl Model for Heap {
@@ -52,7 +57,7 @@ impl Model for Heap {
 
 impl Heap {
     /// The heap of a journal's pages. It takes no memory.
-    pub(crate) fn of(journal: Journal, pages: Pages, free: Vec<usize>) -> Heap
+    pub(crate) fn of(journal: Journal, pages: Pages, hints: Hints) -> Heap
         requires sound { IsSound pages }
         requires homes { journal ≡ 3 + length (kinds_of pages.sheets.items) }
         ensures { result ≡ record { homes = journal; kinds = kinds_of pages.sheets.items; held = pages.held } }
@@ -60,17 +65,19 @@ impl Heap {
         Heap {
             journal,
             pages,
-            free,
+            hints,
         }
     }
 
     /// Loads the heap of a store: makes a store on an unborn disk, or puts home a batch that a crash has left. At each moment the disk
-    /// recovers to what it did. NotAStore exactly where it recovers to no map. What a crash leaves is told where nothing was pending.
-    /// Each page is read once.
+    /// recovers to what it did. NotAStore exactly where it recovers to no map, and then the file is as it was, but for a batch that was
+    /// put home. What a crash leaves is told where nothing was pending. Each page is read once.
     pub fn load<D: Disk>(alloc: Global, disk: &mut D) -> Result<Heap, LoadFault>
         ensures moments { (image : List ℕ) → IsSettled (D.disk disk.old) image → Leaves (D.disk disk.old) (D.disk disk.new) (Alike image) }
         ensures loaded { (image : List ℕ) → IsSettled (D.disk disk.old) image → IfOk result (λ heap. IsMap heap.held image × HeapStands (D.disk disk.new) heap) }
+        ensures whole { IfOk result (λ heap. Holds (behind_root heap.kinds) heap.held) }
         ensures no_store { (image : List ℕ) → IsSettled (D.disk disk.old) image → result ≡ Err LoadFault.NotAStore → Recovers image None }
+        ensures refused { (image : List ℕ) → IsSettled (D.disk disk.old) image → HasNoOpenGate image → result ≡ Err LoadFault.NotAStore → IsSame (D.disk disk.old) (D.disk disk.new) }
         ensures same { (image : List ℕ) → (D.disk disk.old).image ≡ Some image → IsStore image → gate image ≢ 1 → IsSame (D.disk disk.old) (D.disk disk.new) }
         ensures length { Lengthens 12288 (D.disk disk.old) (D.disk disk.new) }
         ensures loads { Loads (D.disk disk.old) (D.disk disk.new) result }
@@ -78,7 +85,7 @@ impl Heap {
         let Loaded {
             journal,
             sheets,
-            free,
+            hints,
             held,
             places,
         } = load_parts(alloc, disk)?;
@@ -87,7 +94,7 @@ impl Heap {
             held,
             places,
         };
-        Ok(Heap::of(journal, pages, free))
+        Ok(Heap::of(journal, pages, hints))
     }
 
     /// Makes the changes of a batch, all of them or none. At each moment the disk recovers to the old map or the new one, and
@@ -99,11 +106,12 @@ impl Heap {
         disk: &mut D,
         batch: &Batch,
     ) -> Result<(), KeepFault>
-        requires { AreWell (λ _ _. true) batch.now }
+        requires { AreWell AnyEntry batch.now }
         ensures moments { HeapStands (D.disk disk.old) self.old
             → Leaves (D.disk disk.old) (D.disk disk.new) (λ image. IsMap self.old.held image ⊎ IsMap (after batch.now self.old.held) image) }
         ensures stands { HeapStands (D.disk disk.old) self.old → OnOk result (HeapStands (D.disk disk.new) self.new) }
         ensures held { OnOk result (self.new.held ≡ after batch.now self.old.held) }
+        ensures whole { OnOk result (Holds (behind_root self.new.kinds) self.new.held) }
         ensures err { OnErr result (self.new ≡ self.old) }
         ensures memory { result ≡ Err KeepFault.Memory → disk.new ≡ disk.old }
         ensures full { result ≡ Err KeepFault.Full → ⊥ }
@@ -112,10 +120,41 @@ impl Heap {
         ensures length_failed { self.old.homes + batch_pages batch.now self.old.held < 2 ^ 31
             → Lengthens (batch_end self.old.homes (batch_pages batch.now self.old.held)) (D.disk disk.old) (D.disk disk.new) }
     {
+        self.apply_within(alloc, disk, batch, u64::MAX)
+    }
+
+    /// The same, where the map may weigh so much: Full exactly where it would weigh more than that, and more than before. Nothing is
+    /// written then.
+    pub fn apply_within<D: Disk>(
+        &mut self,
+        alloc: Global,
+        disk: &mut D,
+        batch: &Batch,
+        limit: u64,
+    ) -> Result<(), KeepFault>
+        requires { AreWell AnyEntry batch.now }
+        ensures moments { HeapStands (D.disk disk.old) self.old
+            → Leaves (D.disk disk.old) (D.disk disk.new) (λ image. IsMap self.old.held image ⊎ IsMap (after batch.now self.old.held) image) }
+        ensures stands { HeapStands (D.disk disk.old) self.old → OnOk result (HeapStands (D.disk disk.new) self.new) }
+        ensures held { OnOk result (self.new.held ≡ after batch.now self.old.held) }
+        ensures whole { OnOk result (Holds (behind_root self.new.kinds) self.new.held) }
+        ensures err { OnErr result (self.new ≡ self.old) }
+        ensures memory { result ≡ Err KeepFault.Memory → disk.new ≡ disk.old }
+        ensures full { result ≡ Err KeepFault.Full → (disk.new ≡ disk.old) × (weight (after batch.now self.old.held) < 2 ^ 64) }
+        ensures answers { AnswersCommit (fault_of result) limit self.old.held (after batch.now self.old.held) }
+        ensures commits { CommitsPages (D.disk disk.old) (D.disk disk.new) result }
+        ensures length { OnOk result (Lengthens (batch_end self.old.homes (batch_pages batch.now self.old.held)) (D.disk disk.old) (D.disk disk.new)) }
+        ensures length_failed { self.old.homes + batch_pages batch.now self.old.held < 2 ^ 31
+            → Lengthens (batch_end self.old.homes (batch_pages batch.now self.old.held)) (D.disk disk.old) (D.disk disk.new) }
+    {
         let pages = replace(&mut self.pages, Pages::none(alloc));
         let mut plan = BatchPlan::begin(alloc, pages);
-        match plan.make(alloc, &mut self.free, batch) {
+        match plan.make(alloc, &mut self.hints, batch) {
             Ok(pages) => {
+                if plan.passes(limit) {
+                    self.pages = plan.roll_back();
+                    return Err(KeepFault::Full);
+                }
                 if let Err(fault) = commit_draft(disk, &mut self.journal, &plan.draft, &pages) {
                     self.pages = plan.roll_back();
                     return Err(fault);
@@ -174,6 +213,21 @@ impl Heap {
             return Err(KeepFault::Memory);
         };
         Ok(found)
+    }
+
+    /// How many entries stand under an owner's prefix. Its cost is the logarithm of the number of owners.
+    pub fn count(&self, owner: &[u8]) -> u64
+        requires { IsOwner owner.now }
+        ensures { result ≡ count_under owner.now self.now.held }
+    {
+        self.pages.held.count(owner)
+    }
+
+    /// Whether each entry is within the bounds, and well shaped. Its cost is that of telling of each.
+    pub fn are_well<H: Shape>(&self, alloc: Global, shape: &H) -> Result<bool, Memory>
+        ensures { IfOk result (λ all. IsTrue all ↔ HoldsWell (H.is_well shape.now) self.now.held) }
+    {
+        self.pages.held.are_well(alloc, shape)
     }
 
     /// What the map weighs: for each entry its bytes, and at least 64.

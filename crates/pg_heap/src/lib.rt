@@ -7,6 +7,7 @@ mod changes;
 mod commits;
 mod drafts;
 mod heaps;
+mod hints;
 mod item_reading;
 mod items;
 mod loading;

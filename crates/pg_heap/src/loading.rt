@@ -9,10 +9,11 @@ ghost use Rattle.pg_journal.specs.Recovered.{Alike, IsStore, gate};
 ghost use Rattle.pg_journal.specs.Standing.{DiskStands};
 ghost use Rattle.pg_heap.specs.Holding.{Recovers};
 ghost use Rattle.pg_heap.specs.Kinds.{Each, IsKind};
-ghost use Rattle.pg_heap.specs.Loading.{ArePages, ArePagesOf, AreNoPages, HaveNoKinds, PartsAgree, IsLoaded};
+ghost use Rattle.pg_heap.specs.Loading.{HasNoOpenGate, ArePages, ArePagesOf, AreNoPages, HaveNoKinds, PartsAgree, IsLoaded};
 ghost use Rattle.pg_heap.specs.Readings.{free_to};
 ghost use Rattle.pg_heap.specs.Sheets.{kinds_of};
 
+use crate::hints::{Hints, roomy_places};
 use crate::places::Places;
 use crate::readings::{free_places, read_map};
 use crate::sheet_reading::sheet_of;
@@ -92,8 +93,7 @@ pub(crate) fn load_sheets<D: Disk>(
 pub(crate) struct Loaded {
     pub(crate) journal: Journal,
     pub(crate) sheets: Vec<Sheet>,
-    /// The places of the free pages.
-    pub(crate) free: Vec<usize>,
+    pub(crate) hints: Hints,
     pub(crate) held: EntryMap,
     pub(crate) places: Places,
 }
@@ -103,9 +103,10 @@ pub(crate) struct Loaded {
 pub(crate) fn load_parts<D: Disk>(alloc: Global, disk: &mut D) -> Result<Loaded, LoadFault>
     ensures moments { (image : List ℕ) → IsSettled (D.disk disk.old) image → Leaves (D.disk disk.old) (D.disk disk.new) (Alike image) }
     ensures agree { IfOk result (λ l. PartsAgree l.journal (kinds_of l.sheets.items) l.held l.places) }
-    ensures free { IfOk result (λ l. l.free.items ≡ free_to (kinds_of l.sheets.items) (length l.sheets.items)) }
+    ensures free { IfOk result (λ l. l.hints.free.items ≡ free_to (kinds_of l.sheets.items) (length l.sheets.items)) }
     ensures loaded { (image : List ℕ) → IsSettled (D.disk disk.old) image → IfOk result (λ l. IsLoaded image (D.disk disk.new) l.journal (kinds_of l.sheets.items) l.held) }
     ensures no_store { (image : List ℕ) → IsSettled (D.disk disk.old) image → result ≡ Err LoadFault.NotAStore → Recovers image None }
+    ensures refused { (image : List ℕ) → IsSettled (D.disk disk.old) image → HasNoOpenGate image → result ≡ Err LoadFault.NotAStore → IsSame (D.disk disk.old) (D.disk disk.new) }
     ensures same { (image : List ℕ) → (D.disk disk.old).image ≡ Some image → IsStore image → gate image ≢ 1 → IsSame (D.disk disk.old) (D.disk disk.new) }
     ensures length { Lengthens 12288 (D.disk disk.old) (D.disk disk.new) }
     ensures loads { Loads (D.disk disk.old) (D.disk disk.new) result }
@@ -121,10 +122,13 @@ pub(crate) fn load_parts<D: Disk>(alloc: Global, disk: &mut D) -> Result<Loaded,
     let Ok(free) = free_places(alloc, &sheets) else {
         return Err(LoadFault::Memory);
     };
+    let Ok(roomy) = roomy_places(alloc, &sheets) else {
+        return Err(LoadFault::Memory);
+    };
     Ok(Loaded {
         journal,
         sheets,
-        free,
+        hints: Hints { free, roomy },
         held,
         places,
     })

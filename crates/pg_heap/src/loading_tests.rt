@@ -212,7 +212,7 @@ fn look_up(
         Some(value) => value.len(),
         None => 0,
     };
-    Ok((count, parts.places.place(key), parts.free.len()))
+    Ok((count, parts.places.place(key), parts.hints.free.len()))
 }
 
 const THREE: &[Behind] = &[

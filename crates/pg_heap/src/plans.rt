@@ -9,6 +9,7 @@ ghost use Rattle.pg_heap.specs.Planned.{IsPlanned, IsDone, HasFree, HasChain, Is
 ghost use Rattle.pg_heap.specs.PlanSteps.{NoNewKey, TakesPages, long_pages};
 
 use crate::drafts::Draft;
+use crate::hints::Hints;
 use crate::sheets::Sheet;
 use std::alloc::Global;
 
@@ -33,7 +34,7 @@ fn is_free(sheet: &Sheet) -> bool
 }
 
 /// The place of the free page that was listed last, if it still is free; else that of a new page at the end.
-pub(crate) fn free_page(draft: &mut Draft, free: &mut Vec<usize>) -> Result<usize, PlanFault>
+pub(crate) fn free_page(draft: &mut Draft, hints: &mut Hints) -> Result<usize, PlanFault>
     ensures before { draft.new.before ≡ draft.old.before }
     ensures free { IfOk result (λ at. HasFree draft.old.now draft.new.now at) }
     ensures bound { IfOk result (λ at. at ≤ 2147483644) }
@@ -41,7 +42,7 @@ pub(crate) fn free_page(draft: &mut Draft, free: &mut Vec<usize>) -> Result<usiz
     ensures keys { NoNewKey draft.old.now draft.new.now }
     ensures too_many { result ≡ Err PlanFault.TooMany → 2147483645 ≤ length draft.new.now }
 {
-    if let Some(at) = free.pop() {
+    if let Some(at) = hints.free.pop() {
         if at <= LAST && at < draft.count() && is_free(draft.sheet(at)) {
             return Ok(at);
         }
@@ -60,7 +61,7 @@ pub(crate) fn free_page(draft: &mut Draft, free: &mut Vec<usize>) -> Result<usiz
 fn put_page(
     alloc: Global,
     draft: &mut Draft,
-    free: &mut Vec<usize>,
+    hints: &mut Hints,
     next: u32,
     bytes: &[u8],
 ) -> Result<u32, PlanFault>
@@ -72,7 +73,7 @@ fn put_page(
     ensures keys { NoNewKey draft.old.now draft.new.now }
     ensures too_many { result ≡ Err PlanFault.TooMany → 2147483645 ≤ length draft.new.now }
 {
-    let at = free_page(draft, free)?;
+    let at = free_page(draft, hints)?;
     let Ok(bytes) = Vec::from_slice(alloc, bytes) else {
         return Err(PlanFault::Memory);
     };
@@ -104,7 +105,7 @@ fn long_at(draft: &Draft, page: u32) -> Option<(u32, usize)>
 pub(crate) fn put_long(
     alloc: Global,
     draft: &mut Draft,
-    free: &mut Vec<usize>,
+    hints: &mut Hints,
     value: &[u8],
 ) -> Result<u32, PlanFault>
     ensures before { draft.new.before ≡ draft.old.before }
@@ -117,7 +118,7 @@ pub(crate) fn put_long(
     let mut left = value.len();
     while left > 0 {
         let count = (left - 1) % 4088 + 1;
-        first = put_page(alloc, draft, free, first, &value[left - count..left])?;
+        first = put_page(alloc, draft, hints, first, &value[left - count..left])?;
         left -= count;
     }
     Ok(first)
@@ -126,7 +127,7 @@ pub(crate) fn put_long(
 /// Frees the long pages of a value of so many bytes.
 pub(crate) fn free_long(
     draft: &mut Draft,
-    free: &mut Vec<usize>,
+    hints: &mut Hints,
     first: u32,
     count: u32,
 ) -> Result<(), PlanFault>
@@ -148,7 +149,7 @@ pub(crate) fn free_long(
         let Ok(()) = draft.set(at, Sheet::Free) else {
             return Err(PlanFault::Memory);
         };
-        let _ = free.push(at);
+        hints.add_free(at);
         first = next;
         left = left.saturating_sub(used);
     }

@@ -6,18 +6,23 @@ ghost use Rattle.std.specs.Option.{option_map};
 ghost use Rattle.std.specs.FinMap.{get};
 ghost use Rattle.ct_keep.specs.SeenChanges.{change_of};
 ghost use Rattle.ct_keep.specs.Content.{Content, set_to};
-ghost use Rattle.pg_heap.specs.Kinds.{Free};
+ghost use Rattle.pg_heap.specs.Kinds.{Free, Slotted};
 ghost use Rattle.pg_heap.specs.Planned.{IsPlanned, IsDone, IsPut, HasRoom, HasNone, IsTaking, HasChain};
 ghost use Rattle.pg_heap.specs.PlanSteps.{NoNewKey, TakesPages, MakesChange, long_pages, value_bytes};
 
 use crate::drafts::Draft;
+use crate::hints::Hints;
 use crate::items::{far_in, far_string, short_string};
 use crate::plans::{PlanFault, free_long, free_page, put_long};
 use crate::sheets::Sheet;
 use crate::slots::{copy, find, without};
+use ct_base::Memory;
 use ct_keep::Change;
 use pg_page::{Page, Slot};
 use std::alloc::Global;
+
+/// How many pages are tried before a string is put on a free one.
+const TRIES: usize = 4;
 
 /// The page at a place with a string behind its others; None where it is a long one or has no room.
 fn with_string(draft: &Draft, at: usize, string: &[u8]) -> Option<Page>
@@ -38,32 +43,59 @@ fn with_string(draft: &Draft, at: usize, string: &[u8]) -> Option<Page>
     Some(page)
 }
 
-/// Puts a string on the page at a place, if it has room, and else on a free one; gives the place.
-fn put_string(
-    draft: &mut Draft,
-    free: &mut Vec<usize>,
-    roomy: usize,
-    string: &[u8],
-) -> Result<usize, PlanFault>
+/// A page with the string behind its others: one of the pages that were noted last as ones with room. Those that have none for it
+/// are noted no more.
+fn roomy_page(draft: &Draft, hints: &mut Hints, string: &[u8]) -> Option<(usize, Page)>
+    ensures { IfSome result (λ found. HasRoom draft.now.now found.0 string.now found.1) }
+{
+    for _ in 0..TRIES {
+        let at = *hints.roomy.last()?;
+        if let Some(page) = with_string(draft, at, string) {
+            return Some((at, page));
+        }
+        let _ = hints.roomy.pop();
+    }
+    None
+}
+
+/// Puts a page with strings in place of another one.
+fn put_page(draft: &mut Draft, at: usize, page: Page) -> Result<(), Memory>
+    requires { at < length draft.old.now }
+    ensures before { draft.new.before ≡ draft.old.before }
+    ensures now { OnOk result (draft.new.now ≡ set draft.old.now at (Slotted page)) }
+    ensures touches { length draft.new.touched ≤ length draft.old.touched + 1 }
+    ensures err { OnErr result (draft.new ≡ draft.old) }
+{
+    let sheet = Sheet::Slotted(page);
+    if draft.is_last(at) {
+        draft.set_last(at, sheet);
+        return Ok(());
+    }
+    draft.set(at, sheet)
+}
+
+/// Puts a string on a page that has room, or else on a free one; gives its place.
+fn put_string(draft: &mut Draft, hints: &mut Hints, string: &[u8]) -> Result<usize, PlanFault>
     requires { length string.now ≤ 4084 }
     ensures before { draft.new.before ≡ draft.old.before }
     ensures put { IfOk result (IsPut draft.old.now draft.new.now string.now) }
     ensures takes { TakesPages draft.old draft.new 1 2 }
     ensures too_many { result ≡ Err PlanFault.TooMany → 2147483645 ≤ length draft.new.now }
 {
-    if let Some(page) = with_string(draft, roomy, string) {
-        let Ok(()) = draft.set(roomy, Sheet::Slotted(page)) else {
+    if let Some((at, page)) = roomy_page(draft, hints, string) {
+        let Ok(()) = put_page(draft, at, page) else {
             return Err(PlanFault::Memory);
         };
-        return Ok(roomy);
+        return Ok(at);
     }
-    let at = free_page(draft, free)?;
+    let at = free_page(draft, hints)?;
     let Some(page) = with_string(draft, at, string) else {
         unreachable!()
     };
-    let Ok(()) = draft.set(at, Sheet::Slotted(page)) else {
+    let Ok(()) = put_page(draft, at, page) else {
         return Err(PlanFault::Memory);
     };
+    hints.add_roomy(at);
     Ok(at)
 }
 
@@ -85,12 +117,7 @@ fn taking(draft: &Draft, at: usize, key: &[u8]) -> Option<(Page, u32, u32)>
 }
 
 /// Takes the entry of a key off the page at a place, and frees its long pages; whether it was there.
-fn remove_at(
-    draft: &mut Draft,
-    free: &mut Vec<usize>,
-    at: usize,
-    key: &[u8],
-) -> Result<bool, PlanFault>
+fn remove_at(draft: &mut Draft, hints: &mut Hints, at: usize, key: &[u8]) -> Result<bool, PlanFault>
     ensures before { draft.new.before ≡ draft.old.before }
     ensures gone { (m : Content) → IsDone draft.old.now m → IfOk result (λ found. IsDone draft.new.now (if found then set_to key.now None m else m)) }
     ensures none { IfOk result (λ found. found ≡ false → HasNone draft.old.now at key.now) }
@@ -105,7 +132,8 @@ fn remove_at(
     let Ok(()) = draft.set(at, Sheet::Slotted(rest)) else {
         return Err(PlanFault::Memory);
     };
-    free_long(draft, free, first, count)?;
+    hints.add_roomy(at);
+    free_long(draft, hints, first, count)?;
     Ok(true)
 }
 
@@ -113,8 +141,7 @@ fn remove_at(
 fn put_short(
     alloc: Global,
     draft: &mut Draft,
-    free: &mut Vec<usize>,
-    roomy: usize,
+    hints: &mut Hints,
     key: &[u8],
     value: &[u8],
 ) -> Result<usize, PlanFault>
@@ -127,15 +154,14 @@ fn put_short(
     let Ok(string) = short_string(alloc, key, value) else {
         return Err(PlanFault::Memory);
     };
-    put_string(draft, free, roomy, &string)
+    put_string(draft, hints, &string)
 }
 
 /// Puts an entry whose value stands on long pages.
 fn put_far(
     alloc: Global,
     draft: &mut Draft,
-    free: &mut Vec<usize>,
-    roomy: usize,
+    hints: &mut Hints,
     key: &[u8],
     value: &[u8],
 ) -> Result<usize, PlanFault>
@@ -147,19 +173,18 @@ fn put_far(
     ensures takes { TakesPages draft.old draft.new (long_pages (length value.now) + 1) (2 * long_pages (length value.now) + 2) }
     ensures too_many { result ≡ Err PlanFault.TooMany → 2147483645 ≤ length draft.new.now }
 {
-    let first = put_long(alloc, draft, free, value)?;
+    let first = put_long(alloc, draft, hints, value)?;
     let Ok(string) = far_string(alloc, key, value.len() as u32, first) else {
         return Err(PlanFault::Memory);
     };
-    put_string(draft, free, roomy, &string)
+    put_string(draft, hints, &string)
 }
 
 /// Makes a change: takes the old entry of its key, which is at this place if it is anywhere, and puts the new one; gives the place of that.
 pub(crate) fn do_change(
     alloc: Global,
     draft: &mut Draft,
-    free: &mut Vec<usize>,
-    roomy: usize,
+    hints: &mut Hints,
     at: usize,
     change: &Change,
 ) -> Result<usize, PlanFault>
@@ -172,12 +197,12 @@ pub(crate) fn do_change(
         ≤ length draft.old.touched + (3 + long_pages (value_bytes (get m change.now.key.items)) + 2 * long_pages (value_bytes (option_map (λ v. v.items) change.now.value))) }
     ensures too_many { result ≡ Err PlanFault.TooMany → 2147483645 ≤ length draft.new.now }
 {
-    let _ = remove_at(draft, free, at, &change.key)?;
+    let _ = remove_at(draft, hints, at, &change.key)?;
     match &change.value {
         None => Ok(at),
         Some(value) if 3 + change.key.len() + value.len() <= 4084 => {
-            put_short(alloc, draft, free, roomy, &change.key, value)
+            put_short(alloc, draft, hints, &change.key, value)
         }
-        Some(value) => put_far(alloc, draft, free, roomy, &change.key, value),
+        Some(value) => put_far(alloc, draft, hints, &change.key, value),
     }
 }

@@ -3,6 +3,7 @@
 ghost use Rattle.std.specs.Prelude.{◌≤◌};
 
 use crate::Heap;
+use crate::hints::Hints;
 use crate::pages::Pages;
 use ct_base::{Memory, Numbers};
 use ct_keep::Batch;
@@ -25,6 +26,13 @@ fn site_of(alloc: Global, call: u64) -> Result<MemSite, Memory> {
     MemSite::new(alloc, Vec::new(alloc), Vec::new(alloc), faults, ROOMS)
 }
 
+fn no_hints(alloc: Global) -> Hints {
+    Hints {
+        free: Vec::new(alloc),
+        roomy: Vec::new(alloc),
+    }
+}
+
 /// The heap of a new store.
 fn heap_of(alloc: Global, site: &mut MemSite) -> Result<Option<Heap>, Memory> {
     let Ok(journal) = Journal::load(alloc, site) else {
@@ -33,7 +41,7 @@ fn heap_of(alloc: Global, site: &mut MemSite) -> Result<Option<Heap>, Memory> {
     if journal.homes() != 3 {
         return Ok(None);
     }
-    Ok(Some(Heap::of(journal, Pages::none(alloc), Vec::new(alloc))))
+    Ok(Some(Heap::of(journal, Pages::none(alloc), no_hints(alloc))))
 }
 
 /// Whether a key of one byte gets a value of so many bytes 7.

@@ -1,6 +1,6 @@
 -- Laws of calls that commit pages.
 use Rattle.std.specs.Prelude.{◌≡◌, Result, Ok, Err}
-use Rattle.std.proofs.Common.{refl, ◌∙◌}
+use Rattle.std.proofs.Common.{refl, ◌∙◌, arith}
 use Rattle.ct_site.specs.declared.outside.Failed.{Failed}
 use Rattle.ct_base.specs.laws.Moments.{grows_itself}
 use Rattle.ct_site.specs.Disks.{DiskView, Works}
@@ -10,13 +10,13 @@ use Rattle.pg_heap.specs.Commits.{CommitsPages, same_faults}
 
 -- no call of the disk was made
 pub commits_none : {T : Type 0} (disk : DiskView) (result : Result T KeepFault) → (result ≡ Err Disk → ⊥) → CommitsPages disk disk result
-commits_none disk result other = record { beside = refl; untold = λ none. none; kept = grows_itself disk.time; faults = same_faults result disk.faults other }
+commits_none disk result other = record { beside = refl; untold = λ none. none; kept = grows_itself disk.time; later = omega arith; faults = same_faults result disk.faults other }
 
 -- a call of the disk failed
 pub commits_failed : {T U : Type 0} (old new : DiskView) (fault : Failed) → Works {T = T} old new (Err fault) → CommitsPages {T = U} old new (Err Disk)
-commits_failed old new fault works = record { beside = works.beside; untold = works.untold; kept = works.kept; faults = works.cause.failed }
+commits_failed old new fault works = record { beside = works.beside; untold = works.untold; kept = works.kept; later = works.cause.later; faults = works.cause.failed }
 
 -- all of them went well
 pub commits_well : {T U : Type 0} (old new : DiskView) (x : T) (result : Result U KeepFault) → (result ≡ Err Disk → ⊥) → Works old new (Ok x) → CommitsPages old new result
 commits_well old new x result other works =
-    record { beside = works.beside; untold = works.untold; kept = works.kept; faults = works.cause.passed ∙ same_faults result old.faults other }
+    record { beside = works.beside; untold = works.untold; kept = works.kept; later = works.cause.later; faults = works.cause.passed ∙ same_faults result old.faults other }

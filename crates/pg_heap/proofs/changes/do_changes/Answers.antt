@@ -31,16 +31,16 @@ loop-i-preserved c =
       made = λ m done index.
           let so_far = c.loop-i.invariant.made m done index in
           let known = subst (λ (k : List ℕ). HasNone c.loop-i.draft.now c.place_of-at.result k → get (after ws m) k ≡ None) c.deref.ensures.value (c.place_of-at.ensures (after ws m) so_far.done so_far.index) in
-          made_more c.args.draft.now c.loop-i.draft c.do_change.new.draft c.loop-i.places.now c.put.new.self.now ws (map change_of (take (c.loop-i.i + 1) c.args.changes.now)) m (change_of w).0 (change_of w).1 c.in_ok-roomy.roomy so_far
-          (changes_take c.args.changes.now c.loop-i.i w (search rules) c.index-changes-i.is) (c.in_ok-roomy.ensures.done (after ws m) so_far.done known) (search rules) (c.do_change.ensures.touches (after ws m) so_far.done);
+          made_more c.args.draft.now c.loop-i.draft c.do_change.new.draft c.loop-i.places.now c.put.new.self.now ws (map change_of (take (c.loop-i.i + 1) c.args.changes.now)) m (change_of w).0 (change_of w).1 c.in_ok-place.place so_far
+          (changes_take c.args.changes.now c.loop-i.i w (search rules) c.index-changes-i.is) (c.in_ok-place.ensures.done (after ws m) so_far.done known) (search rules) (c.do_change.ensures.touches (after ws m) so_far.done);
       grows = grows_more c.args.draft.now c.loop-i.draft c.do_change.new.draft c.args.changes.now c.loop-i.i w c.loop-i.invariant.grows (search rules) c.index-changes-i.is c.do_change.ensures.pages;
     }
 
 pub returns-clause-pages : goal.returns-clause-pages
 returns-clause-pages c = grows_all c.args.draft.now c.loop-i.draft c.args.changes.now c.loop-i.i c.loop-i.invariant.grows
 
-pub returns-in_err-roomy-clause-pages : goal.returns-in_err-roomy-clause-pages
-returns-in_err-roomy-clause-pages c =
+pub returns-in_err-place-clause-pages : goal.returns-in_err-place-clause-pages
+returns-in_err-place-clause-pages c =
     grows_all c.args.draft.now c.do_change.new.draft c.args.changes.now (c.loop-i.i + 1) (grows_more c.args.draft.now c.loop-i.draft c.do_change.new.draft c.args.changes.now c.loop-i.i c.index-changes-i.result c.loop-i.invariant.grows (search rules) c.index-changes-i.is c.do_change.ensures.pages)
 
 pub returns-in_default-clause-pages : goal.returns-in_default-clause-pages

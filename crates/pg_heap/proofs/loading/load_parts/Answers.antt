@@ -4,7 +4,7 @@ use Rattle.std.proofs.lemmas.Result.{err_from_is_err_and}
 use Rattle.pg_journal.specs.declared.faults.LoadFault.TheVariants.{NotAStore}
 use Rattle.pg_journal.specs.Recovered.{Alike}
 use Rattle.pg_heap.specs.Sheets.{kinds_of}
-use Rattle.pg_heap.proofs.Loadings.{reads_leave, none_stored, none_of_kinds, none_laid, is_loaded, fault_is, no_map, map_found}
+use Rattle.pg_heap.proofs.Loadings.{reads_leave, refused_same, refused_writes, none_stored, none_of_kinds, none_laid, is_loaded, fault_is, no_map, map_found}
 use Rattle.pg_heap.proofs.loading.load_parts.Goals as goal
 
 pub returns-in_err-journal-clause-no_store : goal.returns-in_err-journal-clause-no_store
@@ -28,6 +28,10 @@ pub returns-in_default-free_places-clause-moments : goal.returns-in_default-free
 returns-in_default-free_places-clause-moments g c = λ image settled.
     reads_leave _ _ _ (Alike image) (c.load.ensures.moments image settled) c.load_sheets.ensures.same c.load_sheets.ensures.loads.beside
 
+pub returns-in_default-roomy_places-clause-moments : goal.returns-in_default-roomy_places-clause-moments
+returns-in_default-roomy_places-clause-moments g c = λ image settled.
+    reads_leave _ _ _ (Alike image) (c.load.ensures.moments image settled) c.load_sheets.ensures.same c.load_sheets.ensures.loads.beside
+
 pub returns-clause-moments : goal.returns-clause-moments
 returns-clause-moments g c = λ image settled.
     reads_leave _ _ _ (Alike image) (c.load.ensures.moments image settled) c.load_sheets.ensures.same c.load_sheets.ensures.loads.beside
@@ -49,3 +53,24 @@ returns-clause-loaded g c = λ image settled.
     let l = c.in_ok-journal.ensures.loaded image settled in
     is_loaded image _ _ _ (kinds_of c.in_ok-sheets.sheets.items) c.in-Some.held l c.load_sheets.ensures.same (c.in_ok-sheets.ensures.pages l.pages l.stands)
     (map_found c.in-Ok.found c.in-Some.held c.in-Some.places c.deref.result.now c.in_ok-sheets.sheets.items c.in-Ok.ensures c.in-Some.is c.deref.ensures.value).0
+
+-- ---- what is refused is left as it was
+
+pub returns-in_err-journal-clause-refused : goal.returns-in_err-journal-clause-refused
+returns-in_err-journal-clause-refused g c = λ image settled shut is.
+    let p = err_from_is_err_and c.from_residual.result c.from_residual.ensures.1 in
+    refused_writes c.load.result _ _ (c.in_err-journal.was ∙ ap Err (fault_is c.from_residual.result p.0 c.in_err-journal.field-0.0 NotAStore p.1 p.2 is)) c.load.ensures.same
+
+pub returns-in_err-sheets-clause-refused : goal.returns-in_err-sheets-clause-refused
+returns-in_err-sheets-clause-refused g c = λ image settled shut is.
+    let l = c.in_ok-journal.ensures.loaded image settled in
+    let p = err_from_is_err_and c.from_residual-in_err-sheets.result c.from_residual-in_err-sheets.ensures.1 in
+    let none = none_of_kinds image l.pages l.recovered (c.load_sheets.ensures.no_store l.pages l.stands (c.in_err-sheets.was ∙ ap Err (fault_is c.from_residual-in_err-sheets.result p.0 c.in_err-sheets.field-0.0 NotAStore p.1 p.2 is))) in
+    refused_same image _ _ _ _ l none (λ store. c.load.ensures.kept image settled.told store (shut store)) c.load_sheets.ensures.same
+
+pub returns-in_default-found-clause-refused : goal.returns-in_default-found-clause-refused
+returns-in_default-found-clause-refused g c = λ image settled shut is.
+    let l = c.in_ok-journal.ensures.loaded image settled in
+    let none = none_laid image l.pages (kinds_of c.in_ok-sheets.sheets.items) l.recovered (c.in_ok-sheets.ensures.pages l.pages l.stands)
+    (no_map c.in-Ok.found c.deref.result.now c.in_ok-sheets.sheets.items c.in-Ok.ensures c.in_default-found.is c.deref.ensures.value) in
+    refused_same image _ _ _ _ l none (λ store. c.load.ensures.kept image settled.told store (shut store)) c.load_sheets.ensures.same

@@ -1,10 +1,11 @@
 use Rattle.std.proofs.Common.{ap, subst, ◌∙◌, ◌≡◌, ◌+◌, length}
 use Rattle.pg_heap.specs.Sheets.{kinds_of}
 use Rattle.pg_heap.specs.Planned.{IsDone}
+use Rattle.pg_heap.specs.laws.Committing.{done_holds}
 use Rattle.pg_heap.specs.Heaps.{HeapState}
 use Rattle.pg_heap.specs.declared.pages.Pages.{Pages}
-use Rattle.pg_heap.proofs.Applying.{commit_moments, same_moments, fill_moments, commit_length}
-use Rattle.pg_heap.proofs.heaps.Heap.apply.Goals as goal
+use Rattle.pg_heap.proofs.Applying.{commit_moments, same_moments, fill_moments, commit_length, keeps_limit}
+use Rattle.pg_heap.proofs.heaps.Heap.apply_within.Goals as goal
 
 pub returns-in_default-clause-moments : goal.returns-in_default-clause-moments
 returns-in_default-clause-moments g c =
@@ -68,3 +69,16 @@ pub returns-in-Err-TooMany-clause-moments : goal.returns-in-Err-TooMany-clause-m
 returns-in-Err-TooMany-clause-moments g c =
     fill_moments (g.D.Disk.disk c.args.disk.now) (g.D.Disk.disk c.fill.new.disk) c.self.inside.journal c.args.batch.now c.args.self.now (ap (λ (h : HeapState). h.homes) c.self.view_is)
     (subst (λ (h : HeapState). IsDone h.kinds h.held) c.self.view_is c.self.invariant.sound.done) c.fill.ensures.moments
+
+pub returns-then-passes-clause-moments : goal.returns-then-passes-clause-moments
+returns-then-passes-clause-moments g c =
+    same_moments (g.D.Disk.disk c.args.disk.now) c.args.batch.now c.args.self.now (subst (λ (h : HeapState). IsDone h.kinds h.held) c.self.view_is c.self.invariant.sound.done)
+
+pub returns-in_default-clause-whole : goal.returns-in_default-clause-whole
+returns-in_default-clause-whole g c = done_holds (kinds_of c.forget.new.self.sheets.items) c.forget.new.self.held c.forget.ensures.sound.done
+
+pub returns-in_default-clause-answers : goal.returns-in_default-clause-answers
+returns-in_default-clause-answers g c =
+    let old_pages = c.replace-pages.ensures.value in
+    let m_is = c.make.ensures.same.entries ∙ c.begin-plan.ensures.entries ∙ ap (λ (p : Pages). p.held) old_pages ∙ ap (λ (h : HeapState). h.held) c.self.view_is in
+    keeps_limit c.args.limit c.make.new.self.entries.before c.make.new.self.entries.seen c.args.self.now.held c.args.batch.now c.passes.result c.passes.ensures c.if-passes.false m_is c.in-Ok.ensures.made.seen
