@@ -1,0 +1,4 @@
+pub mod Arguments
+pub mod Reading
+pub mod laws
+pub mod Promises

@@ -1,0 +1,2 @@
+-- Laws of what the arguments ask for.
+pub mod OneReading
