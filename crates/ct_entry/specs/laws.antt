@@ -3,7 +3,6 @@ pub mod Changes
 pub mod Each
 pub mod Parts
 pub mod Well
-pub mod Rising
 pub mod Maps
 pub mod MapChanges
 pub mod Listings

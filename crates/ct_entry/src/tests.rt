@@ -2,7 +2,7 @@
 
 ghost use Rattle.std.specs.Prelude.{◌≤◌, length, true, IfOk, OnOk};
 ghost use Rattle.ct_base.specs.Names.{IsName};
-ghost use Rattle.ct_keep.specs.Changes.{AreWell};
+ghost use Rattle.ct_keep.specs.Changes.{AnyEntry, AreWell};
 ghost use Rattle.ct_keep.specs.KeeperViews.{AcceptsChanges};
 
 use crate::{
@@ -56,7 +56,7 @@ fn part_of(alloc: Global, row: Option<i64>) -> Result<Vec<u8>, Memory>
 
 /// Adds a change, unless its value is too long.
 fn add_change(alloc: Global, batch: &mut Batch, change: Change) -> Result<(), Memory>
-    ensures { AreWell (λ _ _. true) batch.old → OnOk result (AreWell (λ _ _. true) batch.new) }
+    ensures { AreWell AnyEntry batch.old → OnOk result (AreWell AnyEntry batch.new) }
 {
     let (kind, owner, row, value) = change;
     let owner = named(alloc, owner)?;
@@ -72,7 +72,7 @@ fn add_change(alloc: Global, batch: &mut Batch, change: Change) -> Result<(), Me
 }
 
 fn batch_of(alloc: Global, changes: &[Change]) -> Result<Batch, Memory>
-    ensures { IfOk result (AreWell (λ _ _. true)) }
+    ensures { IfOk result (AreWell AnyEntry) }
 {
     let mut batch = Batch::new(alloc);
     for change in changes {

@@ -3,3 +3,4 @@ pub mod SortedPairs
 pub mod ContentLaws
 pub mod Courses
 pub mod WellChanges
+pub mod EachWell

@@ -9,50 +9,45 @@ use Rattle.ct_keep.specs.declared.keepers.KeepFault.{KeepFault}
 use Rattle.ct_keep.specs.declared.keepers.KeepFault.TheVariants.{Memory, Disk, Full}
 use Rattle.ct_keep.specs.Content.{Content}
 use Rattle.ct_keep.specs.Changes.{AreWell}
-use Rattle.ct_keep.specs.KeeperViews.{KeeperView, AcceptsChanges, Fixed, Counts, SameButContent, Reads, Goes, AnswersCommit, Came, IsLeft, IsDurable, SameStore, KeeperSays, PassesRoom, UnlessDisk, OnDisk, counted, disk_faults_after, is_full, committed, AtMostOneCommit}
+use Rattle.ct_keep.specs.WellLaws.{well_weaker}
+use Rattle.ct_keep.specs.KeeperViews.{KeeperView, Accepts, TakesAsBefore, Fixed, Counts, SameButContent, Reads, Goes, AnswersCommit, Came, IsLeft, IsDurable, SameStore, KeeperSays, PassesRoom, UnlessDisk, counted, disk_faults_after, is_full, committed, AtMostOneCommit}
 
 -- ---- what never changes, by its fields
 
 pub same_limit : {f g : Fixed} → g ≡ f → g.limit ≡ f.limit
 same_limit e = ap (λ (x : Fixed). x.limit) e
 
-pub same_well : {f g : Fixed} → g ≡ f → g.well ≡ f.well
-same_well e = ap (λ (x : Fixed). x.well) e
-
 pub same_say_room : {f g : Fixed} → g ≡ f → g.say_room ≡ f.say_room
 same_say_room e = ap (λ (x : Fixed). x.say_room) e
-
-pub same_aside : {f g : Fixed} → g ≡ f → g.aside ≡ f.aside
-same_aside e = ap (λ (x : Fixed). x.aside) e
 
 pub same_lender : {f g : Fixed} → g ≡ f → g.lender ≡ f.lender
 same_lender e = ap (λ (x : Fixed). x.lender) e
 
+pub takes_same : (k : KeeperView) → TakesAsBefore k k
+takes_same k = record { takes = λ key value is. is }
+
+pub takes_then : (old mid new : KeeperView) → TakesAsBefore old mid → TakesAsBefore mid new → TakesAsBefore old new
+takes_then old mid new first second = record { takes = λ key value is. second.takes key value (first.takes key value is) }
+
 -- ---- what every call keeps
 
 pub kept_all : (k : KeeperView) → k.ready → SameButContent k k None
-kept_all k ready = record { ready = ready; beside = refl; fixed = refl; later = omega arith; cause = refl; calls = tt }
+kept_all k ready = record { ready = ready; beside = refl; well = takes_same k; fixed = refl; later = omega arith; cause = refl }
 
 -- a call that succeeded, and then another
 pub kept_then : (old mid new : KeeperView) (fault : Option KeepFault) → SameButContent old mid None → SameButContent mid new fault → SameButContent old new fault
 kept_then old mid new fault first second = record {
   ready = second.ready;
   beside = second.beside ∙ first.beside;
+  well = takes_then old mid new first.well second.well;
   fixed = second.fixed ∙ first.fixed;
   later = omega (arith, first.later, second.later);
   cause = second.cause ∙ ap (disk_faults_after fault) first.cause;
-  calls = called fault second.calls;
 }
-  where
-    called : (fault : Option KeepFault) → OnDisk fault (mid.fixed.aside ≡ None) → OnDisk fault (old.fixed.aside ≡ None)
-    called None c = c
-    called (Some Memory) c = c
-    called (Some Full) c = c
-    called (Some Disk) c = sym (same_aside first.fixed) ∙ c
 
 -- calls that succeeded, and then no memory
 pub kept_short : (old new : KeeperView) → SameButContent old new None → SameButContent old new (Some Memory)
-kept_short old new kept = record { ready = kept.ready; beside = kept.beside; fixed = kept.fixed; later = kept.later; cause = kept.cause; calls = tt }
+kept_short old new kept = record { ready = kept.ready; beside = kept.beside; well = kept.well; fixed = kept.fixed; later = kept.later; cause = kept.cause }
 
 -- ---- reads
 
@@ -86,12 +81,16 @@ pub reads_hold : (old new : KeeperView) (m : Content) → Reads old new None →
 reads_hold old new m reads holds = reads.content ∙ holds
 
 -- what a batch needs after them
-pub reads_well : (old new : KeeperView) (batch : List (List ℕ × Option (List ℕ))) → Reads old new None → AreWell old.fixed.well batch → AreWell new.fixed.well batch
-reads_well old new batch reads well = subst (λ (w : List ℕ → List ℕ → Bool). AreWell w batch) (sym (same_well reads.kept.fixed)) well
+pub reads_well : (old new : KeeperView) (batch : List (List ℕ × Option (List ℕ))) → Reads old new None → AreWell old.well batch → AreWell new.well batch
+reads_well old new batch reads are = well_weaker old.well new.well (λ key value entry is. reads.kept.well.takes key value is) batch are
 
--- what may be changed before them may be changed after them
-pub accepts_on : (old new : KeeperView) → AcceptsChanges old → Reads old new None → AcceptsChanges new
-accepts_on old new accepts reads = record { ready = reads.kept.ready; takes = subst (λ (w : List ℕ → List ℕ → Bool). (key value : List ℕ) → w key value ≡ true) (sym (same_well reads.kept.fixed)) accepts.takes }
+-- what may be changed before a call may be changed after it
+pub accepts_still : {shape : List ℕ → List ℕ → Type 0} (old new : KeeperView) → new.ready → TakesAsBefore old new → Accepts shape old → Accepts shape new
+accepts_still old new ready well accepts = record { ready = ready; takes = λ key value entry is. well.takes key value (accepts.takes key value entry is) }
+
+-- and after reads
+pub accepts_on : {shape : List ℕ → List ℕ → Type 0} (old new : KeeperView) → Accepts shape old → Reads old new None → Accepts shape new
+accepts_on old new accepts reads = accepts_still old new reads.kept.ready reads.kept.well accepts
 
 -- ---- reads, and then at most one commit
 
@@ -164,11 +163,12 @@ commits_read old new fault reads = inl reads.commits
 -- ---- hearing and saying
 
 pub apart_all : (k : KeeperView) → SameStore k k
-apart_all k = record { ready = λ ready. ready; fixed = refl; content = refl; counts = refl; disk_faults = refl }
+apart_all k = record { ready = λ ready. ready; well = takes_same k; fixed = refl; content = refl; counts = refl; disk_faults = refl }
 
 pub apart_then : (old mid new : KeeperView) → SameStore old mid → SameStore mid new → SameStore old new
 apart_then old mid new first second = record {
   ready = λ ready. second.ready (first.ready ready);
+  well = takes_then old mid new first.well second.well;
   fixed = second.fixed ∙ first.fixed;
   content = second.content ∙ first.content;
   counts = second.counts ∙ first.counts;

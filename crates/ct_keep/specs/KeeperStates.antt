@@ -7,8 +7,8 @@ use denote.Struct.Codes.{also_coded}
 use Rattle.std.specs.declared.alloc.Global.{Global}
 use Rattle.ct_keep.specs.Content.{Content}
 use Rattle.ct_keep.specs.Changes.{HoldsEntries}
-use Rattle.ct_keep.specs.WellLaws.{HoldsWell-prop}
-use Rattle.ct_keep.specs.KeeperViews.{KeeperView, Counts, Aside}
+use Rattle.ct_keep.specs.WellLaws.{HoldsEntries-prop}
+use Rattle.ct_keep.specs.KeeperViews.{KeeperView, Counts}
 use Rattle.ct_keep.specs.Pairs.{content_code}
 use Rattle.ct_keep.specs.InMemory.{in_memory}
 
@@ -28,10 +28,6 @@ pub record KeeperState : Type 0 where
 abbrev pub no_counts : Counts
 no_counts = record { texts = 0; rows = 0; rules = 0; fulls = 0; commits = 0 }
 
--- there is none
-abbrev pub no_disk : Aside
-no_disk = record { image = None; faults = 0 }
-
 -- It holds nothing, nothing of this script was heard, and nothing was said.
 pub record IsNew (script : List ℕ) (most room : ℕ) (k : KeeperState) : Type 0 where
   pub content : k.content ≡ empty
@@ -43,7 +39,7 @@ pub record IsNew (script : List ℕ) (most room : ℕ) (k : KeeperState) : Type 
   pub say_faults : k.say_faults ≡ 0
 
 abbrev pub mem_view : KeeperState → KeeperView
-mem_view s = in_memory s.content s.limit s.counts (record { left = Some s.left; said = Some s.said; hearings = None; hear_faults = 0; say_faults = s.say_faults }) (Some s.said_room) no_disk None
+mem_view s = in_memory s.content s.limit s.counts (record { left = Some s.left; said = Some s.said; hearings = None; hear_faults = 0; say_faults = s.say_faults }) (Some s.said_room)
 
 -- The script has been heard up to here, and what may be said has its room.
 pub record IsRoomy (script : List ℕ) (heard : ℕ) (said : Vec ℕ Global) (said_room : ℕ) : Type 0 where
@@ -63,7 +59,7 @@ abbrev Held : Type 0
 Held = (m : Content) × HoldsEntries m
 
 abbrev held_code : Coded Held
-held_code = also_coded content_code (λ m. prop_coded (HoldsWell-prop (λ key value. true) m))
+held_code = also_coded content_code (λ m. prop_coded (HoldsEntries-prop m))
 
 abbrev pub keeper_state_code : Coded KeeperState
 keeper_state_code =

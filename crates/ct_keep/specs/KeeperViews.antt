@@ -9,7 +9,8 @@ use Rattle.ct_site.specs.FaultCounts.{raised}
 use Rattle.ct_site.specs.Disks.{Asks, Beside}
 use Rattle.ct_keep.specs.declared.keepers.KeepFault.{KeepFault}
 use Rattle.ct_keep.specs.declared.keepers.KeepFault.TheVariants.{Memory, Disk, Full}
-use Rattle.ct_keep.specs.Content.{Content, weight}
+use Rattle.ct_keep.specs.Content.{Content, IsEntry, weight}
+use Rattle.ct_keep.specs.Changes.{AnyEntry}
 
 -- How often entries of some kinds were asked for or handed out, how often a commit was refused for want of room, and how often one
 -- was called, however it ended; each up to 2 ^ 64 - 1.
@@ -20,21 +21,12 @@ pub record Counts : Type 0 where
   pub fulls : ℕ
   pub commits : ℕ
 
--- The disk beside a keeper that makes no call of it: what a read gives, where it is told, and how often a call of it failed.
-pub record Aside : Type 0 where
-  pub image : Option (List ℕ)
-  pub faults : ℕ
-
 -- What never changes.
 pub record Fixed : Type 0 where
   -- how many bytes may be said in all, where that is told
   pub say_room : Option ℕ
-  -- which entries it may hold, beside the bounds on each
-  pub well : List ℕ → List ℕ → Bool
   -- how much its content may weigh
   pub limit : ℕ
-  -- the disk, if it makes no call of it
-  pub aside : Option Aside
   -- the reference to the site that it stands over, if it stands over one
   pub lender : Option GName
 
@@ -51,12 +43,22 @@ pub record KeeperView : Type 1 where
   pub now : Option Content → List ℕ → Type 0
   pub counts : Counts
   pub disk_faults : ℕ
+  -- which entries it may hold, beside the bounds on each; no call changes this
+  pub well : List ℕ → List ℕ → Type 0
   pub fixed : Fixed
 
--- It may be read and changed, and takes every entry within the bounds.
-pub record AcceptsChanges (k : KeeperView) : Type 0 where
+-- It may hold whatever it might before.
+pub record TakesAsBefore (old new : KeeperView) : Type 0 where
+  pub takes : (key value : List ℕ) → old.well key value → new.well key value
+
+-- It may be read and changed, and takes each entry within the bounds that `shape` tells of.
+pub record Accepts (shape : List ℕ → List ℕ → Type 0) (k : KeeperView) : Type 0 where
   pub ready : k.ready
-  pub takes : (key value : List ℕ) → k.fixed.well key value ≡ true
+  pub takes : (key value : List ℕ) → IsEntry key value → shape key value → k.well key value
+
+-- It may be read and changed, and takes every entry within the bounds.
+abbrev pub AcceptsChanges : KeeperView → Type 0
+AcceptsChanges k = Accepts AnyEntry k
 
 -- how a call failed, if it did
 abbrev pub fault_of : {T : Type 0} → Result T KeepFault → Option KeepFault
@@ -70,29 +72,22 @@ disk_faults_after (Some Memory) n = n
 disk_faults_after (Some Full) n = n
 disk_faults_after None n = n
 
--- what holds unless the disk failed, and what holds where it did
+-- what holds unless the disk failed
 abbrev pub UnlessDisk : Option KeepFault → Type 0 → Type 0
 UnlessDisk None P = P
 UnlessDisk (Some Memory) P = P
 UnlessDisk (Some Full) P = P
 UnlessDisk (Some Disk) P = Unit {0}
 
-abbrev pub OnDisk : Option KeepFault → Type 0 → Type 0
-OnDisk None P = Unit {0}
-OnDisk (Some Memory) P = Unit {0}
-OnDisk (Some Full) P = Unit {0}
-OnDisk (Some Disk) P = P
-
 -- What each call but hear and say keeps, whatever is told.
 pub record SameButContent (old new : KeeperView) (fault : Option KeepFault) : Type 0 where
   pub ready : UnlessDisk fault new.ready
   pub beside : new.beside ≡ old.beside
+  pub well : TakesAsBefore old new
   pub fixed : new.fixed ≡ old.fixed
   pub later : old.disk_faults ≤ new.disk_faults
   -- a fault of the disk is answered, and nothing else is: none is passed over
   pub cause : new.disk_faults ≡ disk_faults_after fault old.disk_faults
-  -- one that makes no call of the disk doesn't fail by it
-  pub calls : OnDisk fault (old.fixed.aside ≡ None)
 
 -- A stop between two calls leaves what it holds.
 pub record IsDurable (k : KeeperView) : Type 0 where
@@ -208,6 +203,7 @@ AnswersCommit (Some Disk) limit m next = Unit {0}
 -- what hearing and saying keep
 pub record SameStore (old new : KeeperView) : Type 0 where
   pub ready : old.ready → new.ready
+  pub well : TakesAsBefore old new
   pub fixed : new.fixed ≡ old.fixed
   pub content : new.content ≡ old.content
   pub counts : new.counts ≡ old.counts

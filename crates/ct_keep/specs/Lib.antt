@@ -5,6 +5,7 @@ pub mod Handed
 pub mod KeeperViews
 pub mod Composing
 pub mod RisingKeys
+pub mod FoundKeys
 pub mod Rising
 pub mod Laws
 pub mod WellLaws

@@ -1,16 +1,17 @@
 //! A content in memory.
 
-ghost use Rattle.std.specs.Prelude.{◌≡◌, ◌<◌, ◌^◌, IfOk, OnOk, OnErr, is_some, map};
+ghost use Rattle.std.specs.Prelude.{◌≡◌, ◌↔◌, ◌<◌, ◌^◌, IsTrue, IfOk, OnOk, OnErr, is_some, map};
 ghost use Rattle.std.specs.Option.{option_map};
 ghost use Rattle.std.specs.FinMap.{get, empty};
 ghost use Rattle.ct_keep.specs.Content.{after, weight, entries_above, first_entry};
+ghost use Rattle.ct_keep.specs.Changes.{HoldsWell};
 ghost use Rattle.ct_keep.specs.Counting.{count_under, IsOwner};
 ghost use Rattle.ct_keep.specs.SeenChanges.{change_of};
 ghost use Rattle.ct_keep.specs.KeeperViews.{AnswersCommit, fault_of};
 ghost use Rattle.ct_keep.specs.InMemory.{NotDisk};
 
 use crate::batches::Change;
-use crate::keepers::KeepFault;
+use crate::keepers::{KeepFault, Shape};
 use crate::sorted_entries::SortedEntries;
 use crate::transactions::Transaction;
 use ct_base::Memory;
@@ -59,6 +60,13 @@ impl EntryMap {
             Some(value) => Ok(Some(Vec::from_slice(alloc, value)?)),
             None => Ok(None),
         }
+    }
+
+    /// Whether each entry is within the bounds, and well shaped. Its cost is that of telling of each.
+    pub fn are_well<H: Shape>(&self, alloc: Global, shape: &H) -> Result<bool, Memory>
+        ensures { IfOk result (λ all. IsTrue all ↔ HoldsWell (H.is_well shape.now) self.now) }
+    {
+        self.held.are_well(alloc, shape)
     }
 
     /// Whether there is an entry of a key. It takes no memory.

@@ -1,4 +1,4 @@
-//! What the keepers in memory have in common.
+//! A content in memory with its limit and its counts.
 
 ghost use Rattle.std.specs.Prelude.{◌≡◌, true, None, Err, IfOk};
 ghost use Rattle.std.specs.Option.{option_map};
@@ -6,7 +6,7 @@ ghost use Rattle.std.specs.FinMap.{get, empty};
 ghost use Rattle.ct_keep.specs.Content.{after, entries_above, first_entry};
 ghost use Rattle.ct_keep.specs.Counting.{count_under, IsOwner};
 ghost use Rattle.ct_keep.specs.Handed.{handed};
-ghost use Rattle.ct_keep.specs.Changes.{AreWell, HoldsEntries};
+ghost use Rattle.ct_keep.specs.Changes.{AnyEntry, AreWell, HoldsEntries};
 ghost use Rattle.ct_keep.specs.KeeperViews.{AnswersCommit, fault_of, looked_up, committed};
 ghost use Rattle.ct_keep.specs.InMemory.{NotDisk, come_to};
 
@@ -23,16 +23,6 @@ pub(crate) struct Holding {
     pub(crate) limit: u64,
     pub(crate) counts: Tally,
     pub ghost entries: { HoldsEntries content },
-}
-
-/// The key of an entry, if there is one.
-fn key_of(entry: &Option<(Vec<u8>, Vec<u8>)>) -> Option<&[u8]>
-    ensures { option_map (λ k. k.now) result ≡ option_map (λ e. e.0.items) entry.now }
-{
-    match entry {
-        Some((key, _)) => Some(key),
-        None => None,
-    }
 }
 
 impl Holding {
@@ -74,12 +64,12 @@ impl Holding {
         ensures never_full { result ≡ Err KeepFault.Full → ⊥ }
         ensures not_disk { NotDisk (fault_of result) }
     {
-        let Ok(found) = self.content.next_after(alloc, key) else {
-            self.counts.look_up(key, None);
-            return Err(KeepFault::Memory);
+        let found = match self.content.next_after(alloc, key) {
+            Ok(found) => Ok(found),
+            Err(_) => Err(KeepFault::Memory),
         };
-        self.counts.look_up(key, key_of(&found));
-        Ok(found)
+        self.counts.hand_out(key, &found);
+        found
     }
 
     /// How many entries stand under an owner's prefix.
@@ -92,7 +82,7 @@ impl Holding {
 
     /// Does what the batch says, all of it or none.
     pub(crate) fn commit(&mut self, alloc: Global, batch: Batch) -> Result<(), KeepFault>
-        requires { AreWell (λ _ _. true) batch }
+        requires { AreWell AnyEntry batch }
         ensures content { self.new.content ≡ come_to (fault_of result) self.old.content (after batch self.old.content) }
         ensures limit { self.new.limit ≡ self.old.limit }
         ensures counts { self.new.counts ≡ committed (fault_of result) self.old.counts }

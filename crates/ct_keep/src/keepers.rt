@@ -1,6 +1,6 @@
 //! What every keeper promises.
 
-ghost use Rattle.std.specs.Prelude.{◌≡◌, ◌≤◌, ◌<◌, ℕ, List, Bool, Option, Some, None, Ok, Err, IfOk, OnErr, length};
+ghost use Rattle.std.specs.Prelude.{◌≡◌, ◌≤◌, ◌<◌, ◌↔◌, ℕ, List, Option, IsTrue, Some, None, Ok, Err, IfOk, OnErr, length};
 ghost use Rattle.std.specs.Option.{option_map};
 ghost use Rattle.std.specs.FinMap.{get};
 ghost use Rattle.ct_base.specs.Told.{took, IsNothing, IsSaid};
@@ -78,7 +78,7 @@ pub trait Keeper {
     /// Ok the new one.
     fn commit(&mut self, alloc: Global, batch: Batch) -> Result<(), KeepFault>
         requires ready { (view self.old).ready }
-        requires well { AreWell (view self.old).fixed.well batch }
+        requires well { AreWell (view self.old).well batch }
         ensures kept { SameButContent (view self.old) (view self.new) (fault_of result) }
         ensures goes { (m : Content) → (view self.old).content ≡ Some m → Goes m (after batch m) (view self.old) (view self.new) (fault_of result) }
         ensures answers { (m : Content) → (view self.old).content ≡ Some m → AnswersCommit (fault_of result) (view self.old).fixed.limit m (after batch m) }
@@ -107,7 +107,7 @@ pub trait Keeper {
     ghost settled: { (k : Self) → (view k).ready → IsDurable (view k) };
 
     /// Each entry that it holds is within the bounds, and one that it may hold.
-    ghost holds: { (k : Self) → (view k).ready → (m : Content) → (view k).content ≡ Some m → HoldsWell (view k).fixed.well m };
+    ghost holds: { (k : Self) → (view k).ready → (m : Content) → (view k).content ≡ Some m → HoldsWell (view k).well m };
 
     /// A stop may leave what it holds, with what was said by now.
     ghost may_stay: { (k : Self) → (view k).ready → (m : Content) (said : List ℕ) → (view k).content ≡ Some m → IsSaid (view k).beside.said said → (view k).now (Some m) said };
@@ -122,8 +122,9 @@ pub trait Keeper {
 /// Tells which entries a store may hold, each by itself.
 pub trait Shape {
     /// Whether an entry is well shaped.
-    ghost is_well: { Self → List ℕ → List ℕ → Bool };
+    ghost is_well: { Self → List ℕ → List ℕ → Type 0 };
 
-    fn well(&self, key: &[u8], value: &[u8]) -> bool
-        ensures { result ≡ is_well self.now key.now value.now };
+    /// Whether an entry is well shaped.
+    fn well(&self, alloc: Global, key: &[u8], value: &[u8]) -> Result<bool, Memory>
+        ensures { IfOk result (λ well. IsTrue well ↔ is_well self.now key.now value.now) };
 }

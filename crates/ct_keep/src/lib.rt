@@ -9,7 +9,6 @@ mod limits;
 mod mem_keepers;
 mod owner_counts;
 mod scans;
-mod site_maps;
 mod sorted_entries;
 mod tallies;
 #[cfg(test)]
@@ -22,6 +21,6 @@ pub use keepers::{KeepFault, Keeper, Shape};
 pub use limits::{KEY_LIMIT, VALUE_LIMIT};
 pub use mem_keepers::MemKeeper;
 pub use scans::{first_under, next_under, scan};
-pub use site_maps::SiteMap;
 pub use sorted_entries::SortedEntries;
+pub use tallies::Tally;
 pub use transactions::Transaction;

@@ -7,10 +7,10 @@ ghost use Rattle.ct_site.specs.FaultCounts.{CountsFaults};
 ghost use Rattle.ct_keep.specs.Content.{after, entries_above, first_entry};
 ghost use Rattle.ct_keep.specs.Counting.{count_under, IsOwner};
 ghost use Rattle.ct_keep.specs.Handed.{handed};
-ghost use Rattle.ct_keep.specs.Changes.{AreWell};
+ghost use Rattle.ct_keep.specs.Changes.{AnyEntry, AreWell};
 ghost use Rattle.ct_keep.specs.KeeperViews.{AnswersCommit, looked_up, committed, fault_of};
 ghost use Rattle.ct_keep.specs.InMemory.{NotDisk, come_to, settled_in_memory, holds_in_memory, stays_in_memory};
-ghost use Rattle.ct_keep.specs.KeeperStates.{no_disk, mem_view, IsNew};
+ghost use Rattle.ct_keep.specs.KeeperStates.{mem_view, IsNew};
 
 use crate::batches::Batch;
 use crate::holdings::Holding;
@@ -108,7 +108,7 @@ impl Keeper for MemKeeper {
     }
 
     fn commit(&mut self, alloc: Global, batch: Batch) -> Result<(), KeepFault>
-        requires { AreWell (λ _ _. true) batch }
+        requires { AreWell AnyEntry batch }
         ensures content { self.new.content ≡ come_to (fault_of result) self.old.content (after batch self.old.content) }
         ensures state { self.new ≡ record self.old { content = self.new.content; entries = self.new.entries; counts = committed (fault_of result) self.old.counts } }
         ensures answers { AnswersCommit (fault_of result) self.old.limit self.old.content (after batch self.old.content) }
@@ -147,7 +147,7 @@ impl Keeper for MemKeeper {
         Ok(bytes.len())
     }
 
-    ghost settled = { λ k ready. settled_in_memory k.content k.limit k.counts (mem_view k).beside (Some k.said_room) no_disk None };
+    ghost settled = { λ k ready. settled_in_memory k.content k.limit k.counts (mem_view k).beside (Some k.said_room) };
 
     ghost holds = { λ k ready m is. holds_in_memory k.content k.entries m is };
 

@@ -1,13 +1,16 @@
 //! Entries in the order of their keys.
 
-ghost use Rattle.std.specs.Prelude.{◌≡◌, IfOk, OnOk, OnErr, IsSome, Some, None};
+ghost use Rattle.std.specs.Prelude.{◌≡◌, ◌↔◌, IsTrue, IfOk, OnOk, OnErr, IsSome, Some, None};
 ghost use Rattle.std.specs.Option.{option_map};
 ghost use Rattle.std.specs.FinMap.{get, insert, remove, empty};
 ghost use Rattle.ct_keep.specs.Content.{set_to, after, entries_above, first_entry};
+ghost use Rattle.ct_keep.specs.Changes.{HoldsWell, IsWell};
 ghost use Rattle.ct_keep.specs.Counting.{count_under, IsOwner};
 ghost use Rattle.ct_keep.specs.Transactions.{staying, undoing, AreInPlace};
 
 use crate::batches::Change;
+use crate::keepers::Shape;
+use crate::limits::{KEY_LIMIT, VALUE_LIMIT};
 use crate::owner_counts::OwnerCounts;
 use ct_base::Memory;
 use std::alloc::Global;
@@ -37,6 +40,16 @@ impl Model for SortedEntries {
     ghost invariant = { λ e. AreCounted e.entries e.owner_counts };
 }
 
+/// Whether an entry is within the bounds, and well shaped.
+fn is_well<H: Shape>(alloc: Global, shape: &H, key: &[u8], value: &[u8]) -> Result<bool, Memory>
+    ensures { IfOk result (λ well. IsTrue well ↔ IsWell (H.is_well shape.now) key.now value.now) }
+{
+    if key.is_empty() || key.len() > KEY_LIMIT || value.len() > VALUE_LIMIT {
+        return Ok(false);
+    }
+    shape.well(alloc, key, value)
+}
+
 impl SortedEntries {
     /// No entries. It takes no memory.
     pub(crate) fn new(alloc: Global) -> SortedEntries
@@ -54,6 +67,18 @@ impl SortedEntries {
         ensures { result ≡ count_under owner.now self.now }
     {
         self.owner_counts.at(owner)
+    }
+
+    /// Whether each entry is within the bounds, and well shaped. Its cost is that of telling of each.
+    pub(crate) fn are_well<H: Shape>(&self, alloc: Global, shape: &H) -> Result<bool, Memory>
+        ensures { IfOk result (λ all. IsTrue all ↔ HoldsWell (H.is_well shape.now) self.now) }
+    {
+        for (key, value) in &self.entries {
+            if !is_well(alloc, shape, key, value)? {
+                return Ok(false);
+            }
+        }
+        Ok(true)
     }
 
     /// The value of a key. Its cost is the logarithm of the number of entries.

@@ -2,6 +2,7 @@
 
 ghost use Rattle.std.specs.Prelude.{◌≡◌};
 ghost use Rattle.std.specs.Option.{option_map};
+ghost use Rattle.ct_keep.specs.Handed.{handed};
 ghost use Rattle.ct_keep.specs.KeeperViews.{counted, fault_of, is_full, is_kind, is_either, looked_up, committed};
 
 use crate::keepers::KeepFault;
@@ -20,7 +21,7 @@ const RULE: u8 = 0x2a;
 /// one was called.
 /// Each count stands still at its type's end.
 #[derive(Debug, Drop)]
-pub(crate) struct Tally {
+pub struct Tally {
     texts: u64,
     rows: u64,
     rules: u64,
@@ -74,7 +75,8 @@ fn counted(here: bool, count: u64) -> u64
 }
 
 impl Tally {
-    pub(crate) fn new() -> Tally
+    /// Nothing was counted yet.
+    pub fn new() -> Tally
         ensures { result ≡ record { texts = 0; rows = 0; rules = 0; fulls = 0; commits = 0 } }
     {
         Tally {
@@ -87,7 +89,7 @@ impl Tally {
     }
 
     /// Counts a look-up that asked for a key, and handed out the entry of another, if it did.
-    pub(crate) fn look_up(&mut self, asked: &[u8], handed: Option<&[u8]>)
+    pub fn look_up(&mut self, asked: &[u8], handed: Option<&[u8]>)
         ensures { self.new ≡ looked_up asked.now (option_map (λ k. k.now) handed.entry) self.old }
     {
         let row = is_either(TOKEN_ROW, asked, handed) || is_either(SECTION_ROW, asked, handed);
@@ -96,8 +98,19 @@ impl Tally {
         self.rules = counted(is_either(RULE, asked, handed), self.rules);
     }
 
+    /// Counts a look-up that asked for a key, and ended so.
+    pub fn hand_out(&mut self, asked: &[u8], found: &Result<Option<(Vec<u8>, Vec<u8>)>, KeepFault>)
+        ensures { self.new ≡ looked_up asked.now (handed found.now) self.old }
+    {
+        let handed = match found {
+            Ok(Some((key, _))) => Some(key.as_slice()),
+            Ok(None) | Err(_) => None,
+        };
+        self.look_up(asked, handed);
+    }
+
     /// Counts a commit, which ended so.
-    pub(crate) fn commit(&mut self, done: &Result<(), KeepFault>)
+    pub fn commit(&mut self, done: &Result<(), KeepFault>)
         ensures { self.new ≡ committed (fault_of done.now) self.old }
     {
         self.fulls = counted(is_full(done), self.fulls);

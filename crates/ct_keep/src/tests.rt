@@ -1,13 +1,13 @@
-//! The keepers in memory over tables of calls.
+//! The keeper in memory over tables of calls.
 
 ghost use Rattle.std.specs.Prelude.{◌≡◌, ◌<◌, true, IfOk, OnOk, length};
 ghost use Rattle.ct_base.specs.Told.{with_suffix, took};
-ghost use Rattle.ct_keep.specs.Changes.{AreWell};
+ghost use Rattle.ct_keep.specs.Changes.{AnyEntry, AreWell};
 ghost use Rattle.ct_keep.specs.Counting.{IsOwner};
 ghost use Rattle.ct_keep.specs.KeeperViews.{AcceptsChanges};
 
 use crate::entry_maps::EntryMap;
-use crate::{Batch, KEY_LIMIT, KeepFault, Keeper, MemKeeper, SiteMap};
+use crate::{Batch, KEY_LIMIT, KeepFault, Keeper, MemKeeper};
 use ct_base::Memory;
 use ct_site::{Failed, Faults, MemSite, Rooms, Site};
 use std::alloc::Global;
@@ -39,7 +39,7 @@ fn count_text(alloc: Global, count: usize) -> Result<Vec<u8>, Memory> {
 
 /// Adds a change, unless its entry has no key or one that is too long, or too long a value.
 fn add_change(alloc: Global, batch: &mut Batch, change: Change) -> Result<(), Memory>
-    ensures { AreWell (λ _ _. true) batch.old → OnOk result (AreWell (λ _ _. true) batch.new) }
+    ensures { AreWell AnyEntry batch.old → OnOk result (AreWell AnyEntry batch.new) }
 {
     let (key, length) = change;
     let key = Vec::from_slice(alloc, key.as_bytes())?;
@@ -53,7 +53,7 @@ fn add_change(alloc: Global, batch: &mut Batch, change: Change) -> Result<(), Me
 }
 
 fn batch_of(alloc: Global, changes: &[Change]) -> Result<Batch, Memory>
-    ensures { IfOk result (AreWell (λ _ _. true)) }
+    ensures { IfOk result (AreWell AnyEntry) }
 {
     let mut batch = Batch::new(alloc);
     for change in changes {
@@ -344,59 +344,6 @@ fn a_keeper_in_memory(rt: HostRuntime) -> Result<(), Fail> {
         assert_eq!(rt; keeper.said(), row.said.as_bytes());
     }
     Ok(())
-}
-
-/// The answers of a keeper over the site.
-fn over_site<S: Site>(alloc: Global, site: &mut S, row: &Row) -> Result<Vec<u8>, KeepFault> {
-    let mut keeper = SiteMap::over(alloc, site, row.limit);
-    let answers = answers(alloc, &mut keeper, row.calls);
-    let _site = keeper.finish();
-    answers
-}
-
-#[test]
-fn a_keeper_in_memory_over_a_site(rt: HostRuntime) -> Result<(), Fail> {
-    let alloc = rt.alloc();
-    let rooms = Rooms {
-        image: 0,
-        said: SAID_ROOM,
-        calls: 100,
-        written: 0,
-    };
-    for row in ROWS {
-        let script = bytes_of(alloc, SCRIPT)?;
-        let mut site = MemSite::new(alloc, script, Vec::new(alloc), Faults::none(alloc), rooms)?;
-        let answers = over_site(alloc, &mut site, row)?;
-        assert_eq!(rt; answers.as_slice(), row.answers.as_bytes());
-        assert_eq!(rt; site.said(), row.said.as_bytes());
-    }
-    Ok(())
-}
-
-/// Commits an entry and says some bytes, as a call that takes any keeper does.
-fn use_keeper<K: Keeper>(alloc: Global, keeper: &mut K, bytes: &[u8]) -> Result<usize, Failed>
-    requires takes { AcceptsChanges (K.view keeper.old) }
-    requires some { 0 < length bytes.now }
-    ensures said { (K.view keeper.new).beside.said ≡ with_suffix (K.view keeper.old).beside.said (took result bytes.now) }
-    ensures left { (K.view keeper.new).beside.left ≡ (K.view keeper.old).beside.left }
-    ensures lender { (K.view keeper.new).fixed.lender ≡ (K.view keeper.old).fixed.lender }
-{
-    if committed(alloc, keeper, &[("a", Some(1))]).is_err() {
-        return Err(Failed);
-    }
-    keeper.say(bytes)
-}
-
-/// What is said over a keeper in memory is said by its site.
-fn say_over<S: Site>(alloc: Global, site: &mut S, bytes: &[u8]) -> Result<usize, Failed>
-    requires { 0 < length bytes.now }
-    ensures said { (S.disk site.new).beside.said ≡ with_suffix (S.disk site.old).beside.said (took result bytes.now) }
-    ensures left { (S.disk site.new).beside.left ≡ (S.disk site.old).beside.left }
-{
-    let mut keeper = SiteMap::over(alloc, site, 128);
-    let said = use_keeper(alloc, &mut keeper, bytes);
-    let _site = keeper.finish();
-    said
 }
 
 /// A content that weighs more than a limit may become lighter under it, and no heavier.

@@ -1,6 +1,5 @@
 -- The status of the program.
-use Rattle.std.specs.Prelude.{ℕ, ◌≡◌, ◌⊎◌, refl}
-use Rattle.std.proofs.Common.{inl}
+use Rattle.std.specs.Prelude.{ℕ, ◌≡◌, refl}
 use Rattle.std_io.specs.declared.io.kind.ErrorKind.{ErrorKind}
 use Rattle.std_io.specs.declared.io.kind.ErrorKind.TheVariants.{OutOfMemory, InvalidData}
 
@@ -9,16 +8,9 @@ abbrev pub status_without : ErrorKind → ℕ
 status_without OutOfMemory = 5
 status_without kind = 2
 
--- a status with which nothing was done: the arguments couldn't be had, or there were some
-abbrev pub IsIdle : ℕ → Type 0
-IsIdle status = (status ≡ 2) ⊎ (status ≡ 5)
-
 -- computed examples
 no_memory : status_without OutOfMemory ≡ 5
 no_memory = refl
 
 not_a_text : status_without InvalidData ≡ 2
 not_a_text = refl
-
-with_arguments : IsIdle 2
-with_arguments = inl refl

@@ -1,12 +1,14 @@
-//! The program: runs the script on standard input and says the replies on standard output.
+//! The program: runs the script on standard input over the store that its arguments name, and says the replies on standard output.
 #![tactic(auto)]
 
 mod program;
 
 use ct_site::RealSite;
-use program::{Ended, work};
+use program::{Ended, arguments, file, stand_ins, work};
 
 fn main(rt: HostRuntime) -> Ended {
-    let mut site = RealSite::new(&rt, None);
-    work(&rt, &mut site)
+    let _stand_ins = stand_ins(&rt);
+    let arguments = arguments(&rt);
+    let mut site = RealSite::new(&rt, file(&arguments));
+    work(&rt, &arguments, &mut site)
 }

@@ -1,17 +1,22 @@
 //! The work of the program, over any runtime.
 
-ghost use Rattle.std.specs.Prelude.{◌≡◌, ◌↔◌, ◌<◌, ◌⊎◌, IfErr, IfOk, length};
+ghost use Rattle.std.specs.Prelude.{◌≡◌, ◌↔◌, ◌⊎◌, ℕ, List, Some, IfErr, IfOk, IfNone, IfSome, map};
 ghost use Rattle.std.specs.Process.{exit_status};
+ghost use Rattle.std.specs.String.{string_bytes};
 ghost use Rattle.std_io.specs.IoError.{error_kind};
-ghost use Rattle.db_console.specs.Table.{RanWith, SameDisk, SiteFaultsBy};
-ghost use Rattle.ctxsql.specs.Program.{IsIdle, status_without};
+ghost use Rattle.pg_keeper.specs.Loading.{HasNothingPending};
+ghost use Rattle.db_arguments.specs.Arguments.{AsksFor, AskForNothing};
+ghost use Rattle.db_console.specs.Stores.{RefusesBy, RunsBy, SiteFaultsBy};
+ghost use Rattle.ctxsql.specs.Program.{status_without};
 
 use ct_site::Site;
+use db_arguments::file_of;
 use db_console::run;
 use std::alloc::Global;
+use std::fs::OpenOptions;
 use std::io::ErrorKind;
 use std::process::{ExitCode, Termination};
-use std::rt::Env;
+use std::rt::{Env, Files};
 use std::thread::Threads;
 use std::{env, io};
 
@@ -30,17 +35,35 @@ impl Termination for Ended {
     }
 }
 
+/// Opens the root folder three times. Where a standard stream is closed, the first file that is opened takes its number. So it is one of
+/// these, of which every read and write fails, and not the store, which would be read as the script, or be written over by the replies.
+pub fn stand_ins<R: Files>(rt: &R) -> [Option<R::File>; 3] {
+    let open = || OpenOptions::new().read(true).open(rt, "/").ok();
+    [open(), open(), open()]
+}
+
 /// The arguments of the command.
-fn words(rt: &(impl Env + AllocGlobal)) -> io::Result<Vec<String>> {
-    let mut words = Vec::new(rt.alloc());
-    for word in env::args(rt)?.skip(1) {
-        words.push(word)?;
+pub fn arguments(rt: &(impl Env + AllocGlobal)) -> io::Result<Vec<String>> {
+    let mut arguments = Vec::new(rt.alloc());
+    for argument in env::args(rt)?.skip(1) {
+        arguments.push(argument)?;
     }
-    Ok(words)
+    Ok(arguments)
+}
+
+/// The FILE that the arguments name, where they could be had and are of the form.
+pub fn file(arguments: &io::Result<Vec<String>>) -> Option<&str>
+    ensures some { IfSome result (λ file. IfOk arguments.now (λ arguments. (limit : ℕ) × AsksFor (map string_bytes arguments.items) file.now limit)) }
+    ensures none { IfNone result (IfOk arguments.now (λ arguments. AskForNothing (map string_bytes arguments.items))) }
+{
+    match arguments {
+        Ok(arguments) => file_of(arguments),
+        Err(_) => None,
+    }
 }
 
 /// The status where the arguments can't be had: 5 for want of memory, else 2.
-fn status_without_words(error: &io::Error) -> u8
+fn status_without_arguments(error: &io::Error) -> u8
     ensures { result ≡ status_without (error_kind error.now) }
 {
     if error.kind() == ErrorKind::OutOfMemory {
@@ -50,40 +73,56 @@ fn status_without_words(error: &io::Error) -> u8
     }
 }
 
-/// Runs the script that the site gives, where the arguments of the command could be had, and gives the status of the program.
+/// Runs the script that the site gives over the store that its disk has, where the arguments of the command could be had, and gives
+/// the status of the program.
 fn run_with<R: Threads + Sync, S: Site>(
     rt: &R,
     alloc: Global,
-    words: &io::Result<Vec<String>>,
+    arguments: &io::Result<Vec<String>>,
     site: &mut S,
 ) -> u8
-    // the words
-    ensures without { IfErr words.now (λ error. (result ≡ status_without (error_kind error)) × (site.new ≡ site.old)) }
-    ensures words { IfOk words.now (λ words. (result ≡ 2) ↔ (0 < length words.items)) }
-    ensures no_call { IfOk words.now (λ words. 0 < length words.items → site.new ≡ site.old) }
+    requires { HasNothingPending (S.disk site.old) }
 
-    // the table of statuses, from the empty state
-    ensures table { IfOk words.now (λ words. length words.items ≡ 0 → RanWith (S.disk site.old) (S.disk site.new) result) }
+    // the arguments
+    ensures without { IfErr arguments.now (λ error. (result ≡ status_without (error_kind error)) × (site.new ≡ site.old)) }
+    ensures form { IfOk arguments.now (λ arguments. (result ≡ 2) ↔ AskForNothing (map string_bytes arguments.items)) }
+    ensures no_call { result ≡ 2 → site.new ≡ site.old }
+
+    // the table of statuses, from the state that the store stands for; and a file that is no store is refused
+    ensures table { IfOk arguments.now (λ arguments. RunsBy (map string_bytes arguments.items) (S.disk site.old) (S.disk site.new) result) }
+    ensures foreign { IfOk arguments.now (λ arguments. RefusesBy (map string_bytes arguments.items) (S.disk site.old) (S.disk site.new) result) }
 
     // causes
-    ensures faults { SiteFaultsBy result (S.disk site.old).beside (S.disk site.new).beside }
-    ensures memory { result ≡ 5 → (S.disk site.new).beside ≡ (S.disk site.old).beside }
-    ensures no_disk { SameDisk (S.disk site.old) (S.disk site.new) }
+    ensures faults { SiteFaultsBy result (S.disk site.old) (S.disk site.new) }
+    ensures unheard { (result ≡ 5) ⊎ (result ≡ 7) → (S.disk site.new).beside ≡ (S.disk site.old).beside }
 {
-    match words {
-        Ok(words) => run(rt, alloc, words, site),
-        Err(error) => status_without_words(error),
+    match arguments {
+        Ok(arguments) => run(rt, alloc, arguments, site),
+        Err(error) => status_without_arguments(error),
     }
 }
 
-/// Does the work of the program over a site: runs the script that it gives, where the command has no argument.
-pub fn work<R: Threads + Sync + Env + AllocGlobal, S: Site>(rt: &R, site: &mut S) -> Ended
-    // it did nothing, or it ran the script
-    ensures ended { ((site.new ≡ site.old) × IsIdle result.status) ⊎ RanWith (S.disk site.old) (S.disk site.new) result.status }
-    ensures faults { SiteFaultsBy result.status (S.disk site.old).beside (S.disk site.new).beside }
-    ensures no_disk { SameDisk (S.disk site.old) (S.disk site.new) }
+/// Does the work of the program over a site on whose disk nothing is pending, by the arguments of the command.
+pub fn work<R: Threads + Sync + AllocGlobal, S: Site>(
+    rt: &R,
+    arguments: &io::Result<Vec<String>>,
+    site: &mut S,
+) -> Ended
+    requires { HasNothingPending (S.disk site.old) }
+
+    // the arguments
+    ensures without { IfErr arguments.now (λ error. (result.status ≡ status_without (error_kind error)) × (site.new ≡ site.old)) }
+    ensures form { IfOk arguments.now (λ arguments. (result.status ≡ 2) ↔ AskForNothing (map string_bytes arguments.items)) }
+    ensures no_call { result.status ≡ 2 → site.new ≡ site.old }
+
+    // the table of statuses, from the state that the store stands for; and a file that is no store is refused
+    ensures table { IfOk arguments.now (λ arguments. RunsBy (map string_bytes arguments.items) (S.disk site.old) (S.disk site.new) result.status) }
+    ensures foreign { IfOk arguments.now (λ arguments. RefusesBy (map string_bytes arguments.items) (S.disk site.old) (S.disk site.new) result.status) }
+
+    // causes
+    ensures faults { SiteFaultsBy result.status (S.disk site.old) (S.disk site.new) }
+    ensures unheard { (result.status ≡ 5) ⊎ (result.status ≡ 7) → (S.disk site.new).beside ≡ (S.disk site.old).beside }
 {
-    let words = words(rt);
-    let status = run_with(rt, rt.alloc(), &words, site);
+    let status = run_with(rt, rt.alloc(), arguments, site);
     Ended { status }
 }

@@ -9,6 +9,7 @@ use Rattle.ct_entry.specs.Changes.{spell}
 use Rattle.tb_table.specs.declared.columns.Column.{Column}
 use Rattle.tb_table.specs.Spelling.{table_changes}
 use Rattle.ct_base.specs.Limits.{table_limit}
+use Rattle.ct_keep.specs.Changes.{AnyEntry}
 use Rattle.tb_table.specs.laws.Well.{TakesTables, well_create}
 use Rattle.st_parse.specs.declared.statements.ColumnText.{ColumnText}
 use Rattle.db_state.specs.Effects.{Does}
@@ -40,11 +41,11 @@ table_free m t cs n reply is =
 
 -- ---- the commit takes the changes
 
-takes_all : (well : List ℕ → List ℕ → Bool) → ((key value : List ℕ) → well key value ≡ true) → TakesTables well
+takes_all : (well : List ℕ → List ℕ → Type 0) → ((key value : List ℕ) → well key value) → TakesTables well
 takes_all well takes = λ k value of. takes (bytes k) value
 
 pub table_bounded : (m : State) (t : List ℕ) (cs : List ColumnText) → IsName t → AllNamed cs → IsFreeTable m t cs → are_bounded (spell (table_changes t (map column_of cs))) ≡ true
-table_bounded m t cs name named free = bounded_well (λ key value. true) (spell (table_changes t (map column_of cs))) (well_create (λ key value. true) t (map column_of cs) (takes_all (λ key value. true) (λ key value. refl)) name (columns_pass m t cs named free))
+table_bounded m t cs name named free = bounded_well AnyEntry (spell (table_changes t (map column_of cs))) (well_create AnyEntry t (map column_of cs) (takes_all AnyEntry (λ key value. tt)) name (columns_pass m t cs named free))
 
 -- the statement by what was read of the state
 pub table_read : (m : State) (t : List ℕ) (cs : List ColumnText) (there many : Bool) → there ≡ is_some (get m.tables t) → many ≡ nat_le table_limit (length (entries m.tables)) → create_table m t cs ≡ check_table there many t cs (Does (with_new_table m t cs) table_created)

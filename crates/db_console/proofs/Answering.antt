@@ -178,7 +178,7 @@ pub breaks_off_saying : (limit : ℕ) (piece : Piece) (bytes : List ℕ) (fault 
     → CommitsFor piece old.counts mid.counts → (new.ready → IsDurable new) → (fault ≡ Say) × SpokeInPart bytes mid new → BreaksOff limit piece fault old new
 breaks_off_saying limit piece bytes fault old mid new kept r commits settled s = rw s.0 (record {
   unheard = frame_then old mid new (frame_kept old mid None kept) (frame_said true mid new s.1.part s.1.spoke);
-  cause = record { faults = faults_then false true false old mid new (faults_kept old mid kept) (faults_said true mid new s.1.part s.1.spoke); calls = tt };
+  cause = record { faults = faults_then false true false old mid new (faults_kept old mid kept) (faults_said true mid new s.1.part s.1.spoke) };
   ready = s.1.spoke.says.apart.ready kept.ready;
   commits = commits_said piece old.counts mid new commits s.1.spoke.says;
   breaks_off = λ was w. broke_off_saying limit piece was old mid new bytes kept.ready w kept.beside (r was w) (settled (s.1.spoke.says.apart.ready kept.ready)) s.1;

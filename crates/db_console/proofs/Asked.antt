@@ -1,7 +1,7 @@
 -- The calls of `hear` in a run, as it goes on.
-use Rattle.std.proofs.Common.{◌≡◌, ◌++◌, ◌∷◌, [], ℕ, List, false, Option, Some, inl, inr, ⊎_elim, refl, sym, ap, ◌∙◌, subst, append_assoc, append-nil}
+use Rattle.std.proofs.Common.{◌≡◌, ◌++◌, [], ℕ, List, false, Option, inl, inr, ⊎_elim, refl, sym, ap, ◌∙◌, subst, append_assoc, append-nil}
 use Rattle.ct_base.specs.Told.{with_prefix, with_suffix}
-use Rattle.ct_site.specs.Hearings.{Hearing, WasCalled}
+use Rattle.ct_site.specs.Hearings.{Hearing}
 use Rattle.ct_site.specs.Disks.{Beside, Asks, IsHearing}
 use Rattle.db_engine.specs.Runs.{Turn, pieces, transcript}
 use Rattle.db_console.specs.Worlds.{World, HasPieces}

@@ -125,10 +125,10 @@ module _ (s new : KeeperState) (counts : Counts) (state : new ≡ record s { con
     kept_made commits later = record {
       ready = remembers_more;
       beside = ap (λ (x : KeeperState). (mem_view x).beside) state;
+      well = record { takes = λ key value is. is };
       fixed = ap (λ (x : KeeperState). (mem_view x).fixed) state;
       later = omega arith;
       cause = refl;
-      calls = tt;
     }
 
     pub goes_made : (commits later : ℕ) (m : Content) → Some (content_after log) ≡ Some m → Goes m (after changes m) (history_view s commits log) (history_view new later (log ++ (changes, length new.said) ∷ [])) None
@@ -149,6 +149,7 @@ said_more : (s : KeeperState) (told : List ℕ) (commits : ℕ) (log : List Made
 said_more s told commits log = record {
   apart = record {
     ready = λ r. record { content = r.content; by_now = made_by_more (length s.said) (length (s.said ++ told)) log (omega (arith, length-append s.said told)) r.by_now };
+    well = record { takes = λ key value is. is };
     fixed = refl;
     content = refl;
     counts = refl;
@@ -163,7 +164,7 @@ said_more s told commits log = record {
 
 said_nothing : (s : KeeperState) (faults commits : ℕ) (log : List MadeCommit) → KeeperSays [] (history_view s commits log) (history_view (record s { say_faults = faults }) commits log)
 said_nothing s faults commits log = record {
-  apart = record { ready = λ r. record { content = r.content; by_now = r.by_now }; fixed = refl; content = refl; counts = refl; disk_faults = refl };
+  apart = record { ready = λ r. record { content = r.content; by_now = r.by_now }; well = record { takes = λ key value is. is }; fixed = refl; content = refl; counts = refl; disk_faults = refl };
   said = sym (with_suffix-nil (Some s.said));
   left = refl;
   hearings = refl;

@@ -1,17 +1,17 @@
 -- What hearing, answering and saying keep.
 use Rattle.std.specs.Result.{IfOk}
 use Rattle.std.proofs.lemmas.List.{take-append-le}
-use Rattle.std.proofs.Common.{◌≡◌, ◌≤◌, ◌++◌, length, ℕ, List, Bool, true, false, Option, Some, None, Result, Ok, Err, is_err, refl, sym, ap, ◌∙◌, subst}
+use Rattle.std.proofs.Common.{◌≤◌, ◌++◌, length, ℕ, List, Bool, false, Option, Some, None, Result, Ok, Err, is_err, refl, ap, ◌∙◌}
 use Rattle.ct_base.specs.Told.{took}
 use Rattle.ct_site.specs.FaultCounts.{CountsFaults}
 use Rattle.ct_site.specs.Disks.{Beside}
-use Rattle.ct_keep.specs.Composing.{same_aside, same_well}
 use Rattle.ct_keep.specs.declared.keepers.KeepFault.{KeepFault}
 use Rattle.ct_keep.specs.declared.keepers.KeepFault.TheVariants.{Disk as DiskFailed}
+use Rattle.ct_keep.specs.Composing.{accepts_still, takes_same, takes_then}
 use Rattle.ct_keep.specs.KeeperViews.{KeeperView, AcceptsChanges, KeeperHears, SameButContent, counted}
 use Rattle.db_console.specs.declared.saying.AnswerFault.{AnswerFault}
-use Rattle.db_console.specs.declared.saying.AnswerFault.TheVariants.{Say, Disk}
-use Rattle.db_console.specs.Views.{FaultsAre, NoFault, Heard, Spoke, HearsNothing, FailsBy}
+use Rattle.db_console.specs.declared.saying.AnswerFault.TheVariants.{Disk}
+use Rattle.db_console.specs.Views.{FaultsAre, NoFault, Heard, Spoke, HearsNothing, FailsBy, is_say, is_disk}
 
 -- ---- counts of faults
 
@@ -45,27 +45,25 @@ faults_said failed a b bytes s = record { hear = s.says.hear_faults; say = s.cou
 pub fails_by_disk : (a b : KeeperView) → SameButContent a b (Some DiskFailed) → FailsBy Disk a b
 fails_by_disk a b k = record {
   faults = record { hear = ap (λ (s : Beside). s.hear_faults) k.beside; say = ap (λ (s : Beside). s.say_faults) k.beside; disk = k.cause };
-  calls = k.calls;
 }
 
-pub fails_by_then : (fault : AnswerFault) (a b c : KeeperView) → NoFault a b → b.fixed ≡ a.fixed → FailsBy fault b c → FailsBy fault a c
-fails_by_then Say a b c f same r = record { faults = faults_then false true false a b c f r.faults; calls = tt }
-fails_by_then Disk a b c f same r = record { faults = faults_then false false true a b c f r.faults; calls = sym (same_aside same) ∙ r.calls }
+pub fails_by_then : (fault : AnswerFault) (a b c : KeeperView) → NoFault a b → FailsBy fault b c → FailsBy fault a c
+fails_by_then fault a b c f r = record { faults = faults_then false (is_say fault) (is_disk fault) a b c f r.faults }
 
 -- ---- what answering leaves
 
 pub frame_none : (k : KeeperView) → HearsNothing k k
-frame_none k = record { left = refl; hearings = refl; fixed = refl }
+frame_none k = record { left = refl; hearings = refl; well = takes_same k; fixed = refl }
 
 pub frame_then : (a b c : KeeperView) → HearsNothing a b → HearsNothing b c → HearsNothing a c
-frame_then a b c f g = record { left = g.left ∙ f.left; hearings = g.hearings ∙ f.hearings; fixed = g.fixed ∙ f.fixed }
+frame_then a b c f g = record { left = g.left ∙ f.left; hearings = g.hearings ∙ f.hearings; well = takes_then a b c f.well g.well; fixed = g.fixed ∙ f.fixed }
 
 pub frame_kept : (a b : KeeperView) (fault : Option KeepFault) → SameButContent a b fault → HearsNothing a b
-frame_kept a b fault k = record { left = ap (λ (s : Beside). s.left) k.beside; hearings = ap (λ (s : Beside). s.hearings) k.beside; fixed = k.fixed }
+frame_kept a b fault k = record { left = ap (λ (s : Beside). s.left) k.beside; hearings = ap (λ (s : Beside). s.hearings) k.beside; well = k.well; fixed = k.fixed }
 
 pub frame_said : (failed : Bool) (a b : KeeperView) (bytes : List ℕ) → Spoke failed bytes a b → HearsNothing a b
-frame_said failed a b bytes s = record { left = s.says.left; hearings = s.says.hearings; fixed = s.says.apart.fixed }
+frame_said failed a b bytes s = record { left = s.says.left; hearings = s.says.hearings; well = s.says.apart.well; fixed = s.says.apart.fixed }
 
 -- it still takes every entry
-pub accepts_still : (a b : KeeperView) → b.ready → b.fixed ≡ a.fixed → AcceptsChanges a → AcceptsChanges b
-accepts_still a b ready same accepts = record { ready = ready; takes = subst (λ (well : List ℕ → List ℕ → Bool). (key value : List ℕ) → well key value ≡ true) (sym (same_well same)) accepts.takes }
+pub accepts_again : (a b : KeeperView) → b.ready → HearsNothing a b → AcceptsChanges a → AcceptsChanges b
+accepts_again a b ready same accepts = accepts_still a b ready same.well accepts

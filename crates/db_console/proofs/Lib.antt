@@ -7,5 +7,6 @@ pub mod Answering
 pub mod Responding
 pub mod ViewLaws
 pub mod TableLaws
-pub mod SiteLaws
+pub mod StoreLaws
 pub mod HistoryLaws
+pub mod FreshSites

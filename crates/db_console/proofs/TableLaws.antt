@@ -5,8 +5,8 @@ use Rattle.ct_base.specs.laws.Moments.{passes_none, passes_nothing, passes_then}
 use Rattle.ct_base.specs.Told.{with_prefix, with_suffix, IsNothing}
 use Rattle.ct_base.specs.laws.Told.{with_prefix-nil, with_prefix_twice, with_suffix-nil, with_suffix_twice}
 use Rattle.ct_keep.specs.Content.{Content}
-use Rattle.ct_keep.specs.KeeperViews.{KeeperView, Counts, PassesRoom, IsDurable}
-use Rattle.ct_keep.specs.Composing.{same_aside, same_limit, passes_behind, passes_as}
+use Rattle.ct_keep.specs.KeeperViews.{KeeperView, Counts, PassesRoom, IsDurable, TakesAsBefore}
+use Rattle.ct_keep.specs.Composing.{takes_same, takes_then, same_limit, passes_behind, passes_as}
 use Rattle.st_cut.specs.Seen.{Seen, StandsOpen}
 use Rattle.db_state.specs.States.{State, Stands}
 use Rattle.db_engine.specs.Runs.{Turn, turn, pieces, state_after, transcript, state_after-append, transcript-append, AllAllowed}
@@ -58,6 +58,7 @@ pub record Going (failed : Bool) (limit taken : ℕ) (piece : List ℕ) (old now
   pub count : length heard ≡ taken
   pub prefix : old.beside.left ≡ with_prefix (heard ++ piece) now.beside.left
   pub faults : FaultsAre failed false false old now
+  pub well : TakesAsBefore old now
   pub fixed : now.fixed ≡ old.fixed
   pub ready : now.ready
   pub going : (was : World) → Shows old was → SoFar limit heard piece was old now cutter
@@ -68,6 +69,7 @@ going_start limit view cutter ready s = record {
   count = refl;
   prefix = sym (with_prefix-nil view.beside.left);
   faults = faults_none view;
+  well = takes_same view;
   fixed = refl;
   ready = ready;
   going = λ was w. record { is = was; shows = w; served = served_start limit view.fixed.limit [] was view cutter s; asked = calls_none view.beside.hearings _ };
@@ -80,6 +82,7 @@ going_heard failed limit taken piece old mid now cutter s h = record {
   count = s.count;
   prefix = s.prefix ∙ rw (append-nil s.heard, h.hears.left) (with_prefix_twice s.heard piece now.beside.left);
   faults = faults_then failed false false old mid now s.faults (faults_heard failed mid now piece h);
+  well = takes_then old mid now s.well h.hears.apart.well;
   fixed = h.hears.apart.fixed ∙ s.fixed;
   ready = h.hears.apart.ready s.ready;
   going = λ was w.
@@ -103,6 +106,7 @@ going_on limit taken count piece old now new cutter later s n k = record {
   count = length-append s.heard piece ∙ rw (s.count, n) refl;
   prefix = rw (append-nil (s.heard ++ piece), k.unheard.left) s.prefix;
   faults = faults_then false false false old now new s.faults k.faults;
+  well = takes_then old now new s.well k.unheard.well;
   fixed = k.unheard.fixed ∙ s.fixed;
   ready = k.ready;
   going = λ was w.
@@ -279,9 +283,9 @@ turns_broken_off Disk limit most store whole taken was old new is n k asked = re
   asked = asked;
 }
 
-because_of : (fault : AnswerFault) (most : ℕ) (taken : List ℕ) (old now new : KeeperView) → now.fixed ≡ old.fixed → length taken ≤ most → FailsBy fault now new → Because most taken old new (ending_of fault)
-because_of Say most taken old now new same h r = h
-because_of Disk most taken old now new same h r = (h, sym (same_aside same) ∙ r.calls)
+because_of : (fault : AnswerFault) (most : ℕ) (taken : List ℕ) (old new : KeeperView) → length taken ≤ most → Because most taken old new (ending_of fault)
+because_of Say most taken old new h = h
+because_of Disk most taken old new h = h
 
 faults_of : (fault : AnswerFault) (old now new : KeeperView) → NoFault old now → FailsBy fault now new → FaultsBy (status_of (ending_of fault)) old new
 faults_of Say old now new f r = faults_then false true false old now new f r.faults
@@ -299,7 +303,7 @@ out_broke fault limit most taken piece old now new cutter ending s h whole n k e
   prefix = rw k.unheard.left s.prefix;
   faults = faults_of fault old now new s.faults k.cause;
   fixed = k.unheard.fixed ∙ s.fixed;
-  because = because_of fault most (s.heard ++ piece) old now new s.fixed (omega (arith, length-append s.heard piece, s.count, h)) k.cause;
+  because = because_of fault most (s.heard ++ piece) old new (omega (arith, length-append s.heard piece, s.count, h));
   ready = ready_after fault new k.ready;
   course = λ was w.
       let x : SoFar limit s.heard piece was old now cutter = s.going was w in
@@ -368,7 +372,7 @@ past_taken Done most taken old new b = (λ e. absurd (omega arith), λ e. absurd
 past_taken HearFault most taken old new b = (λ e. absurd (omega arith), λ e. absurd (omega (arith, b)))
 past_taken SayFault most taken old new b = (λ e. absurd (omega arith), λ e. absurd (omega (arith, b)))
 past_taken NoMemory most taken old new b = (λ e. absurd (omega arith), λ e. absurd (omega (arith, ap length b.0)))
-past_taken DiskFault most taken old new b = (λ e. absurd (omega arith), λ e. absurd (omega (arith, b.0)))
+past_taken DiskFault most taken old new b = (λ e. absurd (omega arith), λ e. absurd (omega (arith, b)))
 past_taken PastLimit most taken old new b = (λ e. b, λ e. refl)
 
 -- what was taken, where the script is told

@@ -106,7 +106,7 @@ serves_then a b old mid new before between after s t = record {
 breaks_then : (whole : Bool) (fault : AnswerFault) (a b : List ℕ) (old mid new : KeeperView) (before between : Seen) → Serves a old mid before between → Breaks whole fault b mid new between → Breaks whole fault (a ++ b) old new before
 breaks_then whole fault a b old mid new before between s t = record {
   unheard = frame_then old mid new s.unheard t.unheard;
-  cause = fails_by_then fault old mid new s.faults s.unheard.fixed t.cause;
+  cause = fails_by_then fault old mid new s.faults t.cause;
   ready = t.ready;
   breaks = λ limit held h was w.
       let x : (now : World) × Shows mid now × ServedTo limit old.fixed.limit held a was now old mid between = s.serves limit held h was w in

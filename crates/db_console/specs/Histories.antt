@@ -1,5 +1,5 @@
 -- A keeper in memory that remembers its commits: at each moment, what a crash would have left, and what was said by then.
-use Rattle.std.specs.Prelude.{ℕ, ◌≡◌, ◌≤◌, ◌+◌, List, [], ◌∷◌, ◌++◌, length, take, drop, Option, Some, codes, refl}
+use Rattle.std.specs.Prelude.{ℕ, ◌≡◌, ◌≤◌, ◌+◌, List, [], ◌∷◌, length, take, drop, Option, Some, codes, refl}
 use Rattle.std.specs.FinMap.{empty}
 use Rattle.std.proofs.Common.{arith, sym, ap, subst, ◌∙◌}
 use Rattle.std.proofs.lemmas.List.{take_all}
@@ -68,6 +68,7 @@ history_view s commits log = record {
   now = LeavesHeld s log;
   counts = record s.counts { commits = commits };
   disk_faults = 0;
+  well = (mem_view s).well;
   fixed = (mem_view s).fixed;
 }
 

@@ -4,4 +4,5 @@ pub mod Asking
 pub mod Responses
 pub mod Views
 pub mod Table
+pub mod Stores
 pub mod Histories

@@ -9,10 +9,6 @@ statement_limit = 65536
 abbrev pub script_limit : ℕ
 script_limit = 2 ^ 40
 
--- how much the content of the store may weigh
-abbrev pub store_limit : ℕ
-store_limit = 2 ^ 36
-
 -- computed example: the longest statement is this part of the longest script
 longest_statements : statement_limit * 2 ^ 24 ≡ script_limit
 longest_statements = refl

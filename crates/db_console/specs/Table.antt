@@ -3,19 +3,16 @@ use Rattle.std.specs.Prelude.{ℕ, suc, ◌≡◌, ◌≢◌, ◌≤◌, ◌==�
 use Rattle.std.specs.Str.{chars}
 use Rattle.std.proofs.Common.{lit<, arith}
 use Rattle.std.specs.FinMap.{empty}
-use base.Fml.{GName}
 use Rattle.ct_base.specs.Told.{with_prefix, with_suffix}
 use Rattle.ct_base.specs.Moments.{Passes}
-use Rattle.ct_site.specs.Disks.{DiskView, Beside}
+use Rattle.ct_site.specs.Disks.{Beside}
 use Rattle.ct_keep.specs.Content.{Content}
-use Rattle.ct_keep.specs.KeeperViews.{KeeperView, Counts, PassesRoom, IsDurable, counted}
-use Rattle.ct_keep.specs.InMemory.{in_memory, settled_in_memory, aside_of}
-use Rattle.ct_keep.specs.KeeperStates.{KeeperState, no_counts, no_disk, mem_view}
+use Rattle.ct_keep.specs.KeeperViews.{KeeperView, PassesRoom, IsDurable}
+use Rattle.ct_keep.specs.InMemory.{in_memory, settled_in_memory}
+use Rattle.ct_keep.specs.KeeperStates.{KeeperState, no_counts, mem_view}
 use Rattle.st_cut.specs.Seen.{Seen}
-use Rattle.db_state.specs.States.{empty_state}
 use Rattle.db_state.specs.laws.Empty.{empty_stands}
 use Rattle.db_engine.specs.Runs.{Piece, Turn, pieces, state_after, transcript, AllAllowed, statement, rest_piece, Step, turn_by}
-use Rattle.db_console.specs.Limits.{statement_limit, script_limit, store_limit}
 use Rattle.db_console.specs.Worlds.{World, HasPieces, LeavesState, IsMoment, IsPartOf, IsPrefixOf, CommitsWithin, world_after, world}
 use Rattle.db_console.specs.Asking.{AskedThen, Calls}
 use Rattle.db_console.specs.Views.{Shows, EndsHere, HearRose, SayRose, FaultsAre, Breaks, Finishes}
@@ -117,8 +114,7 @@ Because most taken old new HearFault = length taken ≤ most
 Because most taken old new SayFault = length taken ≤ most
 -- nothing was heard or said
 Because most taken old new NoMemory = (taken ≡ []) × (new.beside ≡ old.beside)
--- the keeper is one that makes calls of its disk
-Because most taken old new DiskFault = (length taken ≤ most) × (old.fixed.aside ≡ None)
+Because most taken old new DiskFault = length taken ≤ most
 Because most taken old new PastLimit = length taken ≡ suc most
 
 -- The counts of faults after a run with this status: that of hearing rose exactly with 3, that of saying with 4, that of the disk with 6.
@@ -163,44 +159,15 @@ in_memory_ends limit most old new Done o = (λ is. omega arith, λ is. omega ari
 in_memory_ends limit most old new HearFault o = (λ is. let rose = o.faults.hear in omega (arith, rose), λ is. omega arith)
 in_memory_ends limit most old new SayFault o = (λ is. omega arith, λ is. omega arith)
 in_memory_ends limit most old new NoMemory o = (λ is. omega arith, λ is. omega arith)
-in_memory_ends limit most old new DiskFault o = (λ is. omega arith, λ is. let none = o.because.1 in cc)
+in_memory_ends limit most old new DiskFault o = (λ is. omega arith, λ is. let rose = o.faults.disk in omega (arith, rose))
 in_memory_ends limit most old new PastLimit o = (λ is. omega arith, λ is. omega arith)
-
--- ---- over a site
-
--- The counts of faults after a run with this status: that of hearing rose exactly with 3, and that of saying with 4.
-pub record SiteFaultsBy (status : ℕ) (old new : Beside) : Type 0 where
-  pub hear : new.hear_faults ≡ counted (status == 3) old.hear_faults
-  pub say : new.say_faults ≡ counted (status == 4) old.say_faults
-
--- The disk is as before: no call of it failed, and a read gives what it gave.
-pub record SameDisk (old new : DiskView) : Type 0 where
-  pub image : new.image ≡ old.image
-  pub faults : new.faults ≡ old.faults
-
--- a keeper in memory that stands over a site, by the reference of this name
-abbrev pub over_site : Content → ℕ → Counts → DiskView → GName → KeeperView
-over_site content limit counts site name = in_memory content limit counts site.beside None (aside_of site) (Some name)
-
--- The run over a site that a keeper in memory made, which was empty to begin with. Its content may weigh `store`.
-pub record RanOver (limit most store : ℕ) (old new : DiskView) (ending : Ending) : Type 0 where
-  pub name : GName
-  pub content : Content
-  pub counts : Counts
-  pub begins : Shows (over_site empty store no_counts old name) (record { state = empty_state; said = old.beside.said })
-  pub same_disk : SameDisk old new
-  pub outcome : Outcome limit most (over_site empty store no_counts old name) (over_site content store counts new name) ending
-
--- A run over a site, within the limits of a run, ended with this status.
-abbrev pub RanWith : DiskView → DiskView → ℕ → Type 0
-RanWith old new status = (ending : Ending) × (status ≡ status_of ending) × RanOver statement_limit script_limit store_limit old new ending
 
 -- ---- computed examples: over a keeper that may say 40 bytes in all. Of a script of 14 bytes ten were allowed, and one more was taken
 abbrev bad : List ℕ → Turn
 bad text = turn_by (statement text) Step
 
 abbrev telling : List ℕ → List ℕ → KeeperView
-telling left said = in_memory empty 0 no_counts (record { left = Some left; said = Some said; hearings = None; hear_faults = 0; say_faults = 0 }) (Some 40) no_disk None
+telling left said = in_memory empty 0 no_counts (record { left = Some left; said = Some said; hearings = None; hear_faults = 0; say_faults = 0 }) (Some 40)
 
 ten_bytes : Ends 65536 10 (codes "SELEC;\nSELE") (world []) (bad (codes "SELEC") ∷ []) (telling (codes "C;\n") (codes "E10: statement not understood\n")) PastLimit
 unfolding chars
@@ -213,7 +180,7 @@ ten_bytes = (
     rest = codes "SEL";
     cut = record { statements = codes "SELEC" ∷ []; cut = (_, refl, (refl, refl)); are = refl };
     shows = record { said = refl; content = empty; holds = refl; stands = empty_stands };
-    settled = settled_in_memory empty 0 no_counts _ _ _ None;
+    settled = settled_in_memory empty 0 no_counts _ _;
   },
 )
 
@@ -223,7 +190,7 @@ not_ended = record {
   rest = codes "SELEC;";
   cut = record { statements = []; cut = (refl, refl); are = refl };
   shows = record { said = refl; content = empty; holds = refl; stands = empty_stands };
-  settled = settled_in_memory empty 0 no_counts _ _ _ None;
+  settled = settled_in_memory empty 0 no_counts _ _;
 }
 
 -- the first reply was said, and a prefix of the second one, since both have 54 bytes
@@ -243,7 +210,7 @@ in_part = record {
   part = record { rest = codes "9: statement too long\n"; is = refl; more = lit< tt };
   prefix = record { rest = codes "E1"; is = refl };
   passes = record { passes = λ most said room was. let forty : 40 ≡ most = cc in let nothing : [] ≡ said = cc in rw (← forty, ← nothing) (lit< tt) };
-  settled = settled_in_memory empty 0 no_counts _ _ _ None;
+  settled = settled_in_memory empty 0 no_counts _ _;
 }
 
 -- a crash while the first reply was said, which left the state after the first statement

@@ -1,12 +1,12 @@
 -- What the console does to what is known of a keeper.
-use Rattle.std.specs.Prelude.{ℕ, ◌≡◌, ◌⊎◌, Bool, true, false, List, [], ◌∷◌, ◌++◌, Option, Some, None}
+use Rattle.std.specs.Prelude.{ℕ, ◌≡◌, ◌⊎◌, Bool, true, false, List, [], ◌∷◌, ◌++◌, Option, Some}
 use denote.Ref.{Bor}
 use Rattle.ct_base.specs.Causes.{Rose}
 use Rattle.ct_base.specs.Told.{with_suffix, IsNothing, IsSaid}
 use Rattle.ct_base.specs.Moments.{Passes}
 use Rattle.ct_site.specs.Disks.{Beside}
 use Rattle.ct_keep.specs.Content.{Content}
-use Rattle.ct_keep.specs.KeeperViews.{KeeperView, KeeperHears, KeeperSays, PassesRoom, IsDurable, counted}
+use Rattle.ct_keep.specs.KeeperViews.{KeeperView, TakesAsBefore, KeeperHears, KeeperSays, PassesRoom, IsDurable, counted}
 use Rattle.st_cut.specs.Seen.{Seen, StandsOpen, ShowsText}
 use Rattle.db_state.specs.States.{Stands}
 use Rattle.db_engine.specs.Runs.{Piece, statement, Answer, Step, Turn, turn_by, turn, pieces, IsAllowed}
@@ -66,6 +66,7 @@ pub record SpokeInPart (bytes : List ℕ) (old new : KeeperView) : Type 0 where
 pub record HearsNothing (old new : KeeperView) : Type 0 where
   pub left : new.beside.left ≡ old.beside.left
   pub hearings : new.beside.hearings ≡ old.beside.hearings
+  pub well : TakesAsBefore old new
   pub fixed : new.fixed ≡ old.fixed
 
 -- ---- one piece
@@ -103,11 +104,6 @@ abbrev pub UnlessByDisk : AnswerFault → Type 0 → Type 0
 UnlessByDisk Say P = P
 UnlessByDisk Disk P = Unit {0}
 
--- what holds where it did
-abbrev pub OnlyByDisk : AnswerFault → Type 0 → Type 0
-OnlyByDisk Say P = Unit {0}
-OnlyByDisk Disk P = P
-
 abbrev pub is_say : AnswerFault → Bool
 is_say Say = true
 is_say Disk = false
@@ -116,10 +112,9 @@ abbrev pub is_disk : AnswerFault → Bool
 is_disk Say = false
 is_disk Disk = true
 
--- The cause: one fault of that device, and no other. The disk fails a keeper alone that makes calls of it.
+-- The cause: one fault of that device, and no other.
 pub record FailsBy (fault : AnswerFault) (old new : KeeperView) : Type 0 where
   pub faults : FaultsAre false (is_say fault) (is_disk fault) old new
-  pub calls : OnlyByDisk fault (old.fixed.aside ≡ None)
 
 -- The reply of the last turn was said in part, behind what had been said; where the room for that is told, the whole of it would have passed it.
 pub record SaysInPart (limit : ℕ) (was : World) (last : Turn) (new : KeeperView) : Type 0 where

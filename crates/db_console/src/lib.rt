@@ -9,7 +9,9 @@ mod running;
 mod saying;
 mod serving;
 #[cfg(test)]
+mod store_tests;
+#[cfg(test)]
 mod tests;
 
-pub use running::{SCRIPT_LIMIT, STATEMENT_LIMIT, STORE_LIMIT, run, serve};
+pub use running::{SCRIPT_LIMIT, STATEMENT_LIMIT, run, serve};
 pub use st_cut::cut;

@@ -1,14 +1,26 @@
 //! A whole run.
 
-ghost use Rattle.std.specs.Prelude.{◌≡◌, ◌<◌, ◌↔◌, None, length};
+ghost use Rattle.std.specs.Prelude.{◌≡◌, ◌<◌, ◌↔◌, ◌⊎◌, ℕ, List, None, length, map};
+ghost use Rattle.std.specs.String.{string_bytes};
+ghost use Rattle.ct_keep.specs.Changes.{AnyEntry};
+ghost use Rattle.ct_keep.specs.Content.{Content};
 ghost use Rattle.ct_keep.specs.KeeperViews.{AcceptsChanges};
+ghost use Rattle.pg_keeper.specs.Loading.{HasNothingPending};
+ghost use Rattle.pg_keeper.specs.Paged.{IsUsable};
+ghost use Rattle.db_arguments.specs.Arguments.{AskForNothing};
 ghost use Rattle.db_console.specs.Views.{DiskRose};
 ghost use Rattle.db_console.specs.Limits.{script_limit, statement_limit};
-ghost use Rattle.db_console.specs.Table.{Completes, FaultsBy, RanWith, SameDisk, ServedWith, SiteFaultsBy, TellsPast};
+ghost use Rattle.db_console.specs.Stores.{CompletesRun, FailsToLoad, OverForeign, OverStores, RanOver, RefusesBy, RunsBy, ServesHeap, SiteFaultsBy, status_of_load};
+ghost use Rattle.db_console.specs.Table.{Completes, FaultsBy, ServedWith, TellsPast};
 
 use crate::serving::serve_script;
-use ct_keep::{Keeper, SiteMap};
+use ct_base::Memory;
+use ct_keep::{Keeper, Shape};
 use ct_site::Site;
+use db_arguments::read_arguments;
+use pg_heap::Heap;
+use pg_journal::LoadFault;
+use pg_keeper::{PagedKeeper, load_heap};
 use std::alloc::Global;
 use std::thread::Threads;
 
@@ -18,14 +30,11 @@ pub const STATEMENT_LIMIT: usize = 65_536;
 /// How many bytes a script has at most.
 pub const SCRIPT_LIMIT: u64 = 1 << 40;
 
-/// How much the content of the store may weigh.
-pub const STORE_LIMIT: u64 = 1 << 36;
-
 /// How many threads are at work on a statement at most.
 const DEGREE: u32 = 1;
 
-/// The status where the command has an argument.
-const HAS_ARGUMENTS: u8 = 2;
+/// The status where the arguments of the command aren't of its form.
+const NOT_OF_THE_FORM: u8 = 2;
 
 /// Serves a script of at most `most` bytes over a keeper, and gives the status (docs/ERRORS.md). At most `degree` threads are at
 /// work on a statement. After the status 6 the keeper may only hear and say. Its cost is that of the statements.
@@ -44,50 +53,102 @@ pub fn serve<R: Threads + Sync, K: Keeper>(
     // causes
     ensures faults { FaultsBy result (K.view keeper.old) (K.view keeper.new) }
     ensures memory { result ≡ 5 → keeper.new ≡ keeper.old }
-    ensures disk { result ≡ 6 → (K.view keeper.old).fixed.aside ≡ None }
     ensures past { TellsPast most result (K.view keeper.old).beside (K.view keeper.new).beside }
     ensures complete { Completes most result (K.view keeper.old).beside (K.view keeper.new).beside (¬ DiskRose (K.view keeper.old) (K.view keeper.new)) }
 {
     serve_script(rt, alloc, degree, STATEMENT_LIMIT, most, keeper).status()
 }
 
-/// Serves the script of a site over an empty keeper in memory.
-fn serve_over<R: Threads + Sync, S: Site>(rt: &R, alloc: Global, site: &mut S) -> u8
-    ensures table { RanWith (S.disk site.old) (S.disk site.new) result }
-    ensures faults { SiteFaultsBy result (S.disk site.old).beside (S.disk site.new).beside }
-    ensures memory { result ≡ 5 → (S.disk site.new).beside ≡ (S.disk site.old).beside }
-    ensures no_fault { result ≡ 6 → ⊥ }
-    ensures no_disk { SameDisk (S.disk site.old) (S.disk site.new) }
-    ensures past { TellsPast script_limit result (S.disk site.old).beside (S.disk site.new).beside }
-    ensures complete { Completes script_limit result (S.disk site.old).beside (S.disk site.new).beside (Unit {0}) }
+/// Every entry within the bounds is well shaped.
+#[derive(Drop)]
+struct AnyShape;
+
+impl Shape for AnyShape {
+    ghost is_well = { λ _. AnyEntry };
+
+    fn well(&self, _alloc: Global, _key: &[u8], _value: &[u8]) -> Result<bool, Memory> {
+        Ok(true)
+    }
+}
+
+/// The status where the store couldn't be loaded.
+fn status_of_load(fault: LoadFault) -> u8
+    ensures { result ≡ status_of_load fault }
 {
-    let mut keeper = SiteMap::over(alloc, site, STORE_LIMIT);
+    match fault {
+        LoadFault::Memory => 5,
+        LoadFault::Disk => 6,
+        LoadFault::NotAStore => 7,
+    }
+}
+
+/// Serves the script of a site over the heap of its disk.
+fn serve_heap<R: Threads + Sync, S: Site>(
+    rt: &R,
+    alloc: Global,
+    limit: u64,
+    heap: Heap,
+    site: &mut S,
+) -> u8
+    requires { IsUsable (S.disk site.old) heap AnyEntry }
+    ensures table { ServesHeap limit heap (S.disk site.old) (S.disk site.new) result }
+    ensures faults { SiteFaultsBy result (S.disk site.old) (S.disk site.new) }
+    ensures memory { result ≡ 5 → (S.disk site.new).beside ≡ (S.disk site.old).beside }
+    ensures past { TellsPast script_limit result (S.disk site.old).beside (S.disk site.new).beside }
+    ensures complete { CompletesRun result (S.disk site.old) (S.disk site.new) }
+{
+    let mut keeper = PagedKeeper::over(site, heap, AnyShape, limit);
     let status = serve(rt, alloc, DEGREE, SCRIPT_LIMIT, &mut keeper);
     let _site = keeper.finish();
     status
 }
 
-/// Runs the script that the site gives over an empty store in memory, which may weigh 2^36, and gives the status of the program
-/// (docs/ERRORS.md). `words` are the arguments of the command. Its cost is that of the statements.
-pub fn run<R: Threads + Sync, S: Site>(rt: &R, alloc: Global, words: &[String], site: &mut S) -> u8
-    // words
-    ensures words { (result ≡ 2) ↔ (0 < length words.now) }
-    ensures no_call { 0 < length words.now → site.new ≡ site.old }
+/// Serves the script of a site over the store that its disk has; where it has none yet, over a new one.
+fn serve_store<R: Threads + Sync, S: Site>(rt: &R, alloc: Global, limit: u64, site: &mut S) -> u8
+    requires { HasNothingPending (S.disk site.old) }
+    ensures table { OverStores (S.disk site.old) (λ image m. RanOver limit image m (S.disk site.old) (S.disk site.new) result) }
+    ensures foreign { OverForeign (S.disk site.old) (λ image. FailsToLoad image (S.disk site.old) (S.disk site.new) result) }
+    ensures loaded { result ≡ 2 → ⊥ }
+    ensures faults { SiteFaultsBy result (S.disk site.old) (S.disk site.new) }
+    ensures unheard { (result ≡ 5) ⊎ (result ≡ 7) → (S.disk site.new).beside ≡ (S.disk site.old).beside }
+    ensures past { TellsPast script_limit result (S.disk site.old).beside (S.disk site.new).beside }
+    ensures complete { OverStores (S.disk site.old) (λ image m. CompletesRun result (S.disk site.old) (S.disk site.new)) }
+{
+    let heap = match load_heap(alloc, site, &AnyShape) {
+        Ok(heap) => heap,
+        Err(fault) => return status_of_load(fault),
+    };
+    serve_heap(rt, alloc, limit, heap, site)
+}
 
-    // the table of statuses, from the empty state
-    ensures table { length words.now ≡ 0 → RanWith (S.disk site.old) (S.disk site.new) result }
+/// Runs the script that the site gives over the store that its disk has, and gives the status of the program (docs/ERRORS.md). The
+/// arguments of the command tell how much the content of the store may weigh; the site has the disk of the FILE that they name, and
+/// nothing is pending on it. Its cost is that of reading the store and of the statements.
+pub fn run<R: Threads + Sync, S: Site>(
+    rt: &R,
+    alloc: Global,
+    arguments: &[String],
+    site: &mut S,
+) -> u8
+    requires { HasNothingPending (S.disk site.old) }
+
+    // arguments
+    ensures form { (result ≡ 2) ↔ AskForNothing (map string_bytes arguments.now) }
+    ensures no_call { result ≡ 2 → site.new ≡ site.old }
+
+    // the table of statuses, from the state that the store stands for
+    ensures table { RunsBy (map string_bytes arguments.now) (S.disk site.old) (S.disk site.new) result }
+    // a file that is no store is refused
+    ensures foreign { RefusesBy (map string_bytes arguments.now) (S.disk site.old) (S.disk site.new) result }
 
     // causes
-    ensures faults { SiteFaultsBy result (S.disk site.old).beside (S.disk site.new).beside }
-    ensures memory { result ≡ 5 → (S.disk site.new).beside ≡ (S.disk site.old).beside }
-    ensures no_fault { result ≡ 6 → ⊥ }
-    ensures past { length words.now ≡ 0 → TellsPast script_limit result (S.disk site.old).beside (S.disk site.new).beside }
-    ensures complete { length words.now ≡ 0 → Completes script_limit result (S.disk site.old).beside (S.disk site.new).beside (Unit {0}) }
-
-    ensures no_disk { SameDisk (S.disk site.old) (S.disk site.new) }
+    ensures faults { SiteFaultsBy result (S.disk site.old) (S.disk site.new) }
+    ensures unheard { (result ≡ 5) ⊎ (result ≡ 7) → (S.disk site.new).beside ≡ (S.disk site.old).beside }
+    ensures past { (result ≡ 2 → ⊥) → TellsPast script_limit result (S.disk site.old).beside (S.disk site.new).beside }
+    ensures complete { (result ≡ 2 → ⊥) → OverStores (S.disk site.old) (λ image m. CompletesRun result (S.disk site.old) (S.disk site.new)) }
 {
-    if !words.is_empty() {
-        return HAS_ARGUMENTS;
-    }
-    serve_over(rt, alloc, site)
+    let Some(asked) = read_arguments(arguments) else {
+        return NOT_OF_THE_FORM;
+    };
+    serve_store(rt, alloc, asked.limit, site)
 }

@@ -1,4 +1,9 @@
 //! Runs over a site in memory that hears and says in pieces, and over keepers in memory.
+#![tactic(auto, using(crate::proofs::FreshSites::fresh_settled))]
+
+ghost use Rattle.std.specs.Prelude.{IfOk};
+ghost use Rattle.ct_site.specs.Memory.{memory_view};
+ghost use Rattle.pg_keeper.specs.Loading.{HasNothingPending};
 
 use crate::running::{run, serve};
 use ct_base::{Memory, Numbers};
@@ -56,12 +61,18 @@ impl Site for PieceSite {
     }
 }
 
-const AMPLE: Rooms = Rooms {
-    image: 0,
+/// Rooms that no run here fills.
+pub(crate) const AMPLE: Rooms = Rooms {
+    image: 1_000_000,
     said: 4096,
-    calls: 4096,
-    written: 0,
+    calls: 10_000,
+    written: 4_000_000,
 };
+
+/// The arguments that name a FILE.
+pub(crate) fn arguments(alloc: Global) -> Result<[String; 1], Memory> {
+    Ok([String::from_str(alloc, "store.ctx")?])
+}
 
 /// A site with this script, which comes in pieces of so many bytes, and on which these calls fail.
 fn site_of(
@@ -70,7 +81,9 @@ fn site_of(
     piece: usize,
     hear: &[u64],
     say: &[u64],
-) -> Result<PieceSite, Memory> {
+) -> Result<PieceSite, Memory>
+    ensures { IfOk result (λ site. HasNothingPending (memory_view site.site)) }
+{
     let script = Vec::from_slice(alloc, script)?;
     let faults = Faults {
         hear: Numbers::of(Vec::from_slice(alloc, hear)?),
@@ -87,8 +100,11 @@ fn outcome<R: Threads + Sync>(
     rt: &R,
     alloc: Global,
     mut site: PieceSite,
-) -> Result<(u8, Vec<u8>), Memory> {
-    let status = run(rt, alloc, &[], &mut site);
+) -> Result<(u8, Vec<u8>), Memory>
+    requires { HasNothingPending (memory_view site.site) }
+{
+    let arguments = arguments(alloc)?;
+    let status = run(rt, alloc, &arguments, &mut site);
     Ok((status, Vec::from_slice(alloc, site.site.said())?))
 }
 
@@ -174,12 +190,17 @@ fn faults_end_the_run(rt: HostRuntime) -> Result<(), Fail> {
 }
 
 #[test]
-fn a_change_is_refused(rt: HostRuntime) -> Result<(), Fail> {
+fn arguments_that_are_not_of_the_form(rt: HostRuntime) -> Result<(), Fail> {
     let alloc = rt.alloc();
     let mut site = site_of(alloc, TWO.as_bytes(), 4096, &[], &[])?;
-    let words = [String::from_str(alloc, "--limit")?];
-    assert_eq!(rt; run(&rt, alloc, &words, &mut site), 2);
+    let status = run(&rt, alloc, &[], &mut site);
+    assert_eq!(rt; status, 2);
+    let mut site = site_of(alloc, TWO.as_bytes(), 4096, &[], &[])?;
+    let option = [String::from_str(alloc, "--limit")?];
+    let status = run(&rt, alloc, &option, &mut site);
+    assert_eq!(rt; status, 2);
     assert!(rt; site.site.said().is_empty());
+    assert!(rt; site.site.image().is_empty());
     Ok(())
 }
 
@@ -232,13 +253,14 @@ fn keepers_in_memory_are_served(rt: HostRuntime) -> Result<(), Fail> {
     Ok(())
 }
 
-const SCHEMA: &str = "CREATE TABLE docs (id NUMBER PRIMARY KEY, body CLOB, price NUMBER);
+pub(crate) const SCHEMA: &str = "CREATE TABLE docs (id NUMBER PRIMARY KEY, body CLOB, price NUMBER);
 CREATE INDEX di ON docs(body) INDEXTYPE IS CTXSYS.CONTEXT;
 ";
 
 const MADE: &str = "Table created.\nIndex created.\n";
 
-const QUICK: &str = "SELECT id, SCORE(1) FROM docs WHERE CONTAINS(body,'quick',1) > 0;\n";
+pub(crate) const QUICK: &str =
+    "SELECT id, SCORE(1) FROM docs WHERE CONTAINS(body,'quick',1) > 0;\n";
 
 /// The script and what is said to it, behind the schema.
 static INDEXED: [(&str, &str); 4] = [
@@ -370,7 +392,8 @@ fn said_quietly<R: Threads + Sync>(
 ) -> Result<Vec<u8>, Memory> {
     let whole = behind_schema(alloc, script)?;
     let mut site = QuietSite::new(alloc, whole, Vec::new(alloc), AMPLE)?;
-    let _ = run(rt, alloc, &[], &mut site);
+    let arguments = arguments(alloc)?;
+    let _ = run(rt, alloc, &arguments, &mut site);
     Ok(Vec::from_slice(alloc, site.said())?)
 }
 

@@ -16,7 +16,7 @@ use Rattle.ct_entry.specs.Maps.{Names}
 use Rattle.ct_entry.specs.laws.Maps.{names_tie}
 use Rattle.ct_entry.specs.Listings.{key_order}
 use Rattle.ct_entry.specs.laws.Owners.{key_order_total, key_order_tie}
-use Rattle.ct_entry.specs.laws.Rising.{none_below}
+use Rattle.ct_keep.specs.FoundKeys.{none_below}
 use Rattle.ct_keep.specs.RisingKeys.{below, rises, entries_rise}
 use Rattle.tb_table.specs.declared.columns.Column.{Column}
 use Rattle.std.proofs.lemmas.List.{length-map}

@@ -1,7 +1,7 @@
 //! Entries of indexes over a keeper in memory.
 
 ghost use Rattle.std.specs.Prelude.{true, IfOk};
-ghost use Rattle.ct_keep.specs.Changes.{AreWell};
+ghost use Rattle.ct_keep.specs.Changes.{AnyEntry, AreWell};
 
 use crate::{IndexHead, IndexKind, index_of, index_on, indexes_of};
 use ct_base::{Memory, Name};
@@ -44,7 +44,7 @@ fn named(alloc: Global, text: &str) -> Result<Name, Memory> {
 
 /// The change that an index has this entry, if it isn't too long.
 fn change_of(alloc: Global, index: &Name, value: &[u8]) -> Result<Batch, Memory>
-    ensures { IfOk result (AreWell (λ _ _. true)) }
+    ensures { IfOk result (AreWell AnyEntry) }
 {
     let name = index.as_str();
     if name.len() > 30 || value.len() > 1000 {

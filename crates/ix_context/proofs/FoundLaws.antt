@@ -10,7 +10,7 @@ use Rattle.std.proofs.lemmas.Bool.{lt-ltb, ltb-true}
 use Rattle.std.proofs.lemmas.Cmp.{int_cmp_total}
 use Rattle.std.proofs.lemmas.Option.{same_Some}
 use Rattle.ct_keep.specs.RisingKeys.{rises, entries_rise}
-use Rattle.ct_entry.specs.laws.Rising.{pair_found, found_pair}
+use Rattle.ct_keep.specs.FoundKeys.{pair_found, found_pair}
 use Rattle.tb_table.specs.Tables.{Tables}
 use Rattle.ix_context.specs.Postings.{word_score}
 use Rattle.ix_context.specs.Indexes.{Index, Mark, Pending, Marked, text_seen, scored, found_at, found}

@@ -11,7 +11,7 @@ use Rattle.std.proofs.lemmas.Bool.{and_parts, and_from}
 use Rattle.ct_base.specs.laws.Bools.{T_from_true}
 use Rattle.ct_keep.specs.RisingKeys.{below, rises, sorted_from_rises, entries_rise}
 use Rattle.ct_base.specs.laws.Orders.{equal_from_test}
-use Rattle.ct_entry.specs.laws.Rising.{none_below, below_tied}
+use Rattle.ct_keep.specs.FoundKeys.{none_below, below_tied}
 
 -- what g makes of a key and its value, under the same key, where it makes something of them
 abbrev pub mapped_entries : {K X Y : Type 0} → (K → X → Option Y) → List (K × X) → List (K × Y)

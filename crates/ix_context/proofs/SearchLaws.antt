@@ -22,7 +22,7 @@ use Rattle.ct_entry.specs.declared.kinds.Kind.TheVariants as kind
 use Rattle.ct_entry.specs.Keys.{Key, key, bytes, at, prefix_of, document_part, posting_part, IsPart, IsRow as IsRowKey, IsDocument, IsToken, HasKeysOnly}
 use Rattle.ct_base.specs.laws.Orders.{equal_from_test}
 use Rattle.ct_entry.specs.laws.Keys.{key_from_bytes}
-use Rattle.ct_entry.specs.laws.Rising.{all_entries}
+use Rattle.ct_keep.specs.FoundKeys.{all_entries}
 use Rattle.ct_entry.specs.laws.Parts.{document_part_apart, int_same}
 use Rattle.ct_entry.specs.laws.Documents.{posting_prefix}
 use Rattle.ct_entry.specs.Listings.{row_of}

@@ -5,7 +5,7 @@ use Rattle.std.specs.FinMap.{get}
 use Rattle.ct_base.specs.Names.{IsName}
 use Rattle.ct_base.specs.declared.lists.Value.{Value}
 use Rattle.ct_keep.specs.RisingKeys.{rises}
-use Rattle.ct_keep.specs.Changes.{AreWell}
+use Rattle.ct_keep.specs.Changes.{AnyEntry, AreWell}
 use Rattle.ct_entry.specs.Keys.{Key, bytes, same_list, IsRow}
 use Rattle.ct_entry.specs.Changes.{spell, view}
 use Rattle.ct_entry.specs.Each.{each, is_among}
@@ -114,26 +114,26 @@ CreatesKeepIndexRules =
     → IsName i → get xs i ≡ None → IsTarget ts target.table target.column → IsFreeColumn xs target.table target.column → HasAllRows range
     → length (rows_in ts target.table range) ≤ most_given → AreTables ts → AreIndexes ts xs → AreIndexes ts (with_index ts xs i target range)
 
--- ---- what calls put into a batch may be committed
+-- ---- what calls put into a batch may be committed: each entry is within the bounds
 
 -- the keeper may hold whatever entries of indexes
-abbrev pub TakesIndexes : (List ℕ → List ℕ → Bool) → Type 0
-TakesIndexes well = (k : Key) (value : List ℕ) → is_of_indexes k.kind ≡ true → well (bytes k) value ≡ true
+abbrev pub TakesIndexes : (List ℕ → List ℕ → Type 0) → Type 0
+TakesIndexes well = (k : Key) (value : List ℕ) → is_of_indexes k.kind ≡ true → well (bytes k) value
 
 abbrev pub NotesAreWell : Type 0
-NotesAreWell = (well : List ℕ → List ℕ → Bool) (i : List ℕ) (r : ℤ) → TakesIndexes well → IsName i → IsRow r → AreWell well (spell (note_insert_changes i r))
+NotesAreWell = (i : List ℕ) (r : ℤ) → IsName i → IsRow r → AreWell AnyEntry (spell (note_insert_changes i r))
 
 abbrev pub SyncsAreWell : Type 0
 SyncsAreWell =
-    (well : List ℕ → List ℕ → Bool) (ts : Tables) (xs : Names Index) (i : List ℕ) (x : Index)
-    → TakesIndexes well → AreTables ts → AreIndexes ts xs → get xs i ≡ Some x → x.given + length (pending_rows x) ≤ most_given
-    → AreWell well (spell (sync_changes ts i x))
+    (ts : Tables) (xs : Names Index) (i : List ℕ) (x : Index)
+    → AreTables ts → AreIndexes ts xs → get xs i ≡ Some x → x.given + length (pending_rows x) ≤ most_given
+    → AreWell AnyEntry (spell (sync_changes ts i x))
 
 abbrev pub CreatesAreWell : Type 0
 CreatesAreWell =
-    (well : List ℕ → List ℕ → Bool) (ts : Tables) (i : List ℕ) (target : Target) (range : KeyRange)
-    → TakesIndexes well → AreTables ts → IsName i → IsName target.table → length (rows_in ts target.table range) ≤ most_given
-    → AreWell well (spell (create_changes ts i target range))
+    (ts : Tables) (i : List ℕ) (target : Target) (range : KeyRange)
+    → AreTables ts → IsName i → IsName target.table → length (rows_in ts target.table range) ≤ most_given
+    → AreWell AnyEntry (spell (create_changes ts i target range))
 
 -- ---- what a query finds, row by row
 

@@ -2,7 +2,7 @@
 
 ghost use Rattle.std.specs.Prelude.{true, IsTrue, [], ◌∷◌};
 ghost use Rattle.ct_keep.specs.SeenChanges.{change_of};
-ghost use Rattle.ct_keep.specs.Changes.{AreWell};
+ghost use Rattle.ct_keep.specs.Changes.{AnyEntry, AreWell};
 
 use crate::{Hit, KeyRange, create, note_insert, search, sync};
 use ct_base::{Memory, Name, RowKey, Text};
@@ -14,7 +14,7 @@ use tx_chars::key;
 
 /// Whether a keeper may hold what the change puts.
 fn is_entry(change: &Change) -> bool
-    ensures { IsTrue result → AreWell (λ _ _. true) (change_of change.now ∷ []) }
+    ensures { IsTrue result → AreWell AnyEntry (change_of change.now ∷ []) }
 {
     match &change.value {
         None => true,
@@ -24,7 +24,7 @@ fn is_entry(change: &Change) -> bool
 
 /// Whether a keeper may hold what the changes put.
 fn are_entries(batch: &Batch) -> bool
-    ensures { IsTrue result → AreWell (λ _ _. true) batch.now }
+    ensures { IsTrue result → AreWell AnyEntry batch.now }
 {
     for change in batch.changes() {
         if !is_entry(change) {

@@ -21,7 +21,7 @@ use Rattle.ct_keep.specs.TailLaws.{get-tail, get-tail_nil, entries_above-tail_ni
 use Rattle.ct_entry.specs.declared.kinds.Kind.TheVariants as kind
 use Rattle.ct_entry.specs.Keys.{Key, key, bytes, prefix_of, row_part, IsRow, IsRowPart, IsPart, HasKeysOnly}
 use Rattle.ct_entry.specs.laws.Keys.{key_from_bytes}
-use Rattle.ct_entry.specs.laws.Rising.{AllKeys, all_keys}
+use Rattle.ct_keep.specs.FoundKeys.{AllKeys, all_keys}
 use Rattle.ct_entry.specs.Listings.{row_of, rows_of, rows_under, place_after, row_after}
 use Rattle.ct_entry.specs.laws.Rows.{row_of-row_part}
 

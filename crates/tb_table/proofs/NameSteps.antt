@@ -25,7 +25,7 @@ use Rattle.ct_entry.specs.Keys.{counted_bytes, same_list}
 use Rattle.ct_entry.specs.Each.{is_among}
 use Rattle.ct_base.specs.laws.Orders.{equal_from_test}
 use Rattle.ct_entry.specs.laws.Keys.{list_from_same, list_same}
-use Rattle.ct_entry.specs.laws.Rising.{none_below, below_tied}
+use Rattle.ct_keep.specs.FoundKeys.{none_below, below_tied}
 use Rattle.ct_entry.specs.Listings.{owner_of, owners_of, owners_under}
 use Rattle.ct_entry.specs.laws.Owners.{owner_some}
 use Rattle.tb_table.specs.Readings.{all_above, names_rise, has_table, AreTableNames}

@@ -20,7 +20,7 @@ use Rattle.ct_entry.specs.declared.kinds.Kind.{Kind}
 use Rattle.ct_entry.specs.Keys.{Key, key, bytes, prefix_of, at, IsPart, HasKeysOnly}
 use Rattle.ct_base.specs.laws.Orders.{equal_from_test}
 use Rattle.ct_entry.specs.laws.Keys.{key_from_bytes}
-use Rattle.ct_entry.specs.laws.Rising.{none_below, below_tied, AllKeys, all_keys}
+use Rattle.ct_keep.specs.FoundKeys.{none_below, below_tied, AllKeys, all_keys}
 use Rattle.ct_entry.specs.Listings.{listed}
 
 -- Keys in an order, each with a rest that isn't empty, such that the rests of those that have P are in the same order.

@@ -12,7 +12,7 @@ use Rattle.ct_entry.specs.Changes.{told}
 use Rattle.ct_entry.specs.Each.{each, latest}
 use Rattle.ct_entry.specs.laws.Each.{told_latest}
 use Rattle.ct_base.specs.laws.Orders.{no_tie}
-use Rattle.ct_entry.specs.laws.Rising.{below_tied}
+use Rattle.ct_keep.specs.FoundKeys.{below_tied}
 
 module _ {K X : Type 0} (R : K → K → Ordering) (total : IsTotalOrder R) (q : K) (value : X → Option (List ℕ)) where
   latest_below : (es : List (K × X)) (old : Option (List ℕ)) → below R q es ≡ true → latest (λ e. eq_by_cmp R q e.0) (λ e. value e.1) es old ≡ old

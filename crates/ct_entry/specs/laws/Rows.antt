@@ -21,7 +21,7 @@ use Rattle.ct_entry.specs.Keys.{key, at, prefix_of, HasKeysOnly, row_part, IsRow
 use Rattle.std.proofs.lemmas.Bool.{and_parts, and_from}
 use Rattle.ct_keep.specs.RisingKeys.{below, rises, entries_rise}
 use Rattle.ct_base.specs.laws.Orders.{no_tie}
-use Rattle.ct_entry.specs.laws.Rising.{none_below, below_tied, AllKeys, all_keys}
+use Rattle.ct_keep.specs.FoundKeys.{none_below, below_tied, AllKeys, all_keys}
 use Rattle.ct_entry.specs.Listings.{listed, keys_where, lowered, row_of, rows_of, rows_under, first_of, rows_above, row_after}
 use Rattle.ct_entry.specs.laws.Listings.{Spells, HasPartsOnly, family_listed}
 

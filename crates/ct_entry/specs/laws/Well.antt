@@ -10,15 +10,15 @@ use Rattle.ct_entry.specs.Changes.{spell, AreChanges, AllOf, AllPut}
 use Rattle.ct_entry.specs.laws.Parts.{is_short, key_is_short}
 
 -- a value that a keeper may hold under the key
-pub record IsWellAt (well : List ℕ → List ℕ → Bool) (k : Key) (value : List ℕ) : Type 0 where
+pub record IsWellAt (well : List ℕ → List ℕ → Type 0) (k : Key) (value : List ℕ) : Type 0 where
   pub bounded : length value ≤ value_limit
-  pub shaped : well (bytes k) value ≡ true
+  pub shaped : well (bytes k) value
 
 pub entry_of_key : (k : Key) (value : List ℕ) → IsKey k → is_short k.kind ≡ true → length value ≤ value_limit → IsEntry (bytes k) value
 entry_of_key k value is short bounded = let l = key_is_short k is short in record { some = l.0; short = l.1; bounded = bounded }
 
 -- a batch of changes on short keys, each of which puts what the keeper may hold, may be committed
-pub are_well : (well : List ℕ → List ℕ → Bool) (ws : List (Key × Option (List ℕ))) → AreChanges ws → AllOf is_short ws → AllPut (IsWellAt well) ws → AreWell well (spell ws)
+pub are_well : (well : List ℕ → List ℕ → Type 0) (ws : List (Key × Option (List ℕ))) → AreChanges ws → AllOf is_short ws → AllPut (IsWellAt well) ws → AreWell well (spell ws)
 are_well well [] are short puts = tt
 are_well well ((k, None) ∷ ws) are short puts = are_well well ws are.1 short.1 puts.1
 are_well well ((k, Some v) ∷ ws) are short puts = (entry_of_key k v are.0 short.0 puts.0.bounded, puts.0.shaped, are_well well ws are.1 short.1 puts.1)
@@ -27,13 +27,13 @@ pub puts-append : (P : Key → List ℕ → Type 0) (xs ys : List (Key × Option
 puts-append P [] ys a b = b
 puts-append P (x ∷ xs) ys a b = (a.0, puts-append P xs ys a.1 b)
 
-pub well-append : (well : List ℕ → List ℕ → Bool) (xs ys : List (List ℕ × Option (List ℕ))) → AreWell well xs → AreWell well ys → AreWell well (xs ++ ys)
+pub well-append : (well : List ℕ → List ℕ → Type 0) (xs ys : List (List ℕ × Option (List ℕ))) → AreWell well xs → AreWell well ys → AreWell well (xs ++ ys)
 well-append well [] ys a b = b
 well-append well ((key, None) ∷ xs) ys a b = well-append well xs ys a b
 well-append well ((key, Some value) ∷ xs) ys a b = (a.0, a.1, well-append well xs ys a.2 b)
 
 -- the changes of a batch may be made where those before the next and the next may
-pub well_next : (well : List ℕ → List ℕ → Bool) (cs : List Change) (i : ℕ) (c : Change) → i < length cs → c ≡ get_or cs i c → AreWell well (map change_of (take i cs)) → AreWell well (change_of c ∷ []) → AreWell well (map change_of (take (i + 1) cs))
+pub well_next : (well : List ℕ → List ℕ → Type 0) (cs : List Change) (i : ℕ) (c : Change) → i < length cs → c ≡ get_or cs i c → AreWell well (map change_of (take i cs)) → AreWell well (change_of c ∷ []) → AreWell well (map change_of (take (i + 1) cs))
 well_next well cs i c less is before one =
     subst (AreWell well)
     (ap (λ (d : Change). map change_of (take i cs) ++ change_of d ∷ []) is ∙ sym (ap (map change_of) (take_more cs i c less) ∙ map-append change_of (take i cs) (get_or cs i c ∷ [])))

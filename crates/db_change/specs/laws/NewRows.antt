@@ -15,7 +15,7 @@ use Rattle.ct_entry.specs.declared.kinds.Kind.TheVariants as kind
 use Rattle.ct_entry.specs.Keys.{Key, at, same_list, IsRow}
 use Rattle.ct_entry.specs.laws.Keys.{list_from_same, list_same}
 use Rattle.ct_entry.specs.Maps.{Names}
-use Rattle.ct_entry.specs.laws.Rising.{none_below}
+use Rattle.ct_keep.specs.FoundKeys.{none_below}
 use Rattle.ct_entry.specs.Listings.{key_order}
 use Rattle.std.proofs.lemmas.Bool.{and_parts}
 use Rattle.ct_keep.specs.RisingKeys.{below, rises}
@@ -45,7 +45,8 @@ use Rattle.db_state.specs.States.{State, IsState, Stands, is_view, is_built, ind
 use Rattle.db_state.specs.Committing.{are_bounded}
 use Rattle.db_change.specs.Inserting.{note_all_changes, with_new_row}
 use Rattle.db_state.specs.laws.Heads.{heads, get-heads, head_of_index}
-use Rattle.db_state.specs.laws.Bounded.{any_entry, bounded_well}
+use Rattle.ct_keep.specs.Changes.{AnyEntry}
+use Rattle.db_state.specs.laws.Bounded.{bounded_well}
 use Rattle.db_state.specs.laws.EachValue.{entries-each_value, count_alike}
 use Rattle.ix_context.specs.Promises.{is_on, AreDistinct, AreIndexesOn}
 use Rattle.ix_context.specs.laws.Rules.{row_keeps, row_notes_stand}
@@ -119,9 +120,9 @@ notes_are (i ∷ is) r row named = (
   notes_are is r row (λ j there. named j (or_right (same_list j i) (is_among j is) there)),
 )
 
-notes_put : (names : List (List ℕ)) (r : ℤ) → AllPut (IsWellAt any_entry) (note_all_changes names r)
+notes_put : (names : List (List ℕ)) (r : ℤ) → AllPut (IsWellAt AnyEntry) (note_all_changes names r)
 notes_put [] r = tt
-notes_put (i ∷ is) r = (record { bounded = omega arith; shaped = refl }, notes_put is r)
+notes_put (i ∷ is) r = (record { bounded = omega arith; shaped = tt }, notes_put is r)
 
 module _ (m : State) (t : List ℕ) (x : Table) (r : ℤ) (vs : List Value) (is : get m.tables t ≡ Some x) (state : IsState m) (row : IsRow r) (fit : FitColumns (others x.columns) vs) where
   pub new_row_changes_are : AreChanges (new_row_changes t r vs (names_on m.indexes t))
@@ -133,10 +134,10 @@ module _ (m : State) (t : List ℕ) (x : Table) (r : ℤ) (vs : List Value) (is 
   -- a keeper takes them
   pub new_row_changes_bounded : are_bounded (spell (new_row_changes t r vs (names_on m.indexes t))) ≡ true
   new_row_changes_bounded =
-      bounded_well any_entry (spell (new_row_changes t r vs (names_on m.indexes t)))
-      (are_well any_entry (new_row_changes t r vs (names_on m.indexes t)) new_row_changes_are
+      bounded_well AnyEntry (spell (new_row_changes t r vs (names_on m.indexes t)))
+      (are_well AnyEntry (new_row_changes t r vs (names_on m.indexes t)) new_row_changes_are
       (all-append is_short (insert_changes t r (numbers_of vs) (texts_of vs)) (note_all_changes (names_on m.indexes t) r) (short_insert t r (numbers_of vs) (texts_of vs)) (notes_short (names_on m.indexes t) r))
-      (puts-append (IsWellAt any_entry) (insert_changes t r (numbers_of vs) (texts_of vs)) (note_all_changes (names_on m.indexes t) r) (puts_insert any_entry t r x.columns vs (λ k v h. refl) (state.tables.each t x is).columns fit) (notes_put (names_on m.indexes t) r)))
+      (puts-append (IsWellAt AnyEntry) (insert_changes t r (numbers_of vs) (texts_of vs)) (note_all_changes (names_on m.indexes t) r) (puts_insert AnyEntry t r x.columns vs (λ k v h. tt) (state.tables.each t x is).columns fit) (notes_put (names_on m.indexes t) r)))
 
 -- ---- the state keeps its rules
 

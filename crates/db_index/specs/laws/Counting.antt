@@ -8,7 +8,7 @@ use Rattle.std.specs.Cmp.{IsTotalOrder}
 use Rattle.std.specs.FinMap.{FinMap, get, insert, entries, find, put, entries-insert, get-entries}
 use Rattle.std.proofs.lemmas.Bool.{and_parts, and_from}
 use Rattle.ct_keep.specs.RisingKeys.{below, rises, entries_rise}
-use Rattle.ct_entry.specs.laws.Rising.{none_below}
+use Rattle.ct_keep.specs.FoundKeys.{none_below}
 use Rattle.ct_base.specs.laws.Orders.{less_from_test as less}
 
 pub one : Bool → ℕ

@@ -37,7 +37,8 @@ use Rattle.db_state.specs.Committing.{are_bounded}
 use Rattle.db_index.specs.Indexing.{is_text_sort, is_text_at, has_context_index, has_too_many_rows, all_rows, target, with_new_index, IsFreeIndex}
 use Rattle.db_state.specs.States.{State, Stands, indexes_on, index_limit, is_built}
 use Rattle.db_index.specs.laws.Counting.{one, counted, count_insert, one_true, one_false}
-use Rattle.db_state.specs.laws.Bounded.{any_entry, bounded_well}
+use Rattle.ct_keep.specs.Changes.{AnyEntry}
+use Rattle.db_state.specs.laws.Bounded.{bounded_well}
 use Rattle.std.proofs.lemmas.Bool.{or_parts as either}
 use Rattle.ct_base.specs.laws.Options.{no_value as no_some}
 
@@ -109,7 +110,7 @@ synced_stands c m i x stands there few =
 pub synced_bounded : (c : Content) (m : State) (i : List ℕ) (x : Index) → Stands c m → get m.indexes i ≡ Some x → has_too_many x ≡ false → are_bounded (spell (sync_changes m.tables i x)) ≡ true
 synced_bounded c m i x stands there few =
     let ws = sync_changes m.tables i x in
-    bounded_well any_entry (spell ws) (well_changes any_entry ws (λ k value of. refl) (index_changes_sync m.tables m.indexes i x stands.state.tables stands.state.indexes there (room_left x few)))
+    bounded_well AnyEntry (spell ws) (well_changes AnyEntry ws (λ k value of. tt) (index_changes_sync m.tables m.indexes i x stands.state.tables stands.state.indexes there (room_left x few)))
 
 -- ---- the state after a new index
 
@@ -211,5 +212,5 @@ pub new_index_bounded : (c : Content) (m : State) (i t : List ℕ) (x : Table) (
 new_index_bounded c m i t x place stands name free =
     let ws = create_changes m.tables i (target t place) all_rows in
     let few = either (nat_le index_limit (length (indexes_on m.indexes t))) (has_too_many_rows m t) free.few in
-    bounded_well any_entry (spell ws) (well_changes any_entry ws (λ k value of. refl)
+    bounded_well AnyEntry (spell ws) (well_changes AnyEntry ws (λ k value of. tt)
     (index_changes_create m.tables i (target t place) all_rows stands.state.tables name (stands.state.tables.names t x free.there) (ltb-false most_given (length (rows_in m.tables t all_rows)) few.1)))

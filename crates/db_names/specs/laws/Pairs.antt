@@ -16,8 +16,8 @@ use Rattle.ct_keep.specs.RisingKeys.{below, rises, sorted_from_rises}
 use Rattle.ct_entry.specs.Keys.{same_list}
 use Rattle.ct_entry.specs.Each.{is_among}
 use Rattle.ct_entry.specs.laws.Keys.{list_from_same}
-use Rattle.ct_entry.specs.laws.Rising.{none_below, below_tied}
-pub use Rattle.ct_entry.specs.laws.Rising.{pair_found}
+use Rattle.ct_keep.specs.FoundKeys.{none_below, below_tied}
+pub use Rattle.ct_keep.specs.FoundKeys.{pair_found}
 use Rattle.ct_entry.specs.Listings.{key_order}
 use Rattle.ct_entry.specs.laws.Owners.{key_order_total, key_order_tie}
 

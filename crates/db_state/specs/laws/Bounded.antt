@@ -6,11 +6,7 @@ use Rattle.ct_keep.specs.Content.{key_limit, value_limit}
 use Rattle.ct_keep.specs.Changes.{AreWell}
 use Rattle.db_state.specs.Committing.{is_bounded, are_bounded}
 
--- no condition on what entries have
-abbrev pub any_entry : List ℕ → List ℕ → Bool
-any_entry key value = true
-
-pub bounded_well : (well : List ℕ → List ℕ → Bool) (ws : List (List ℕ × Option (List ℕ))) → AreWell well ws → are_bounded ws ≡ true
+pub bounded_well : (well : List ℕ → List ℕ → Type 0) (ws : List (List ℕ × Option (List ℕ))) → AreWell well ws → are_bounded ws ≡ true
 bounded_well well [] are = refl
 bounded_well well ((key, None) ∷ ws) are = bounded_well well ws are
 bounded_well well ((key, Some value) ∷ ws) are =

@@ -11,10 +11,10 @@ use Rattle.ct_keep.specs.Composing.{reads_on, reads_hold, reads_then, reads_only
 
 -- what is kept unless the disk failed
 pub kept_memory : (old new : KeeperView) → SameButContent old new (Some Memory) → SameButContent old new None
-kept_memory old new kept = record { ready = kept.ready; beside = kept.beside; fixed = kept.fixed; later = kept.later; cause = kept.cause; calls = kept.calls }
+kept_memory old new kept = record { ready = kept.ready; beside = kept.beside; well = kept.well; fixed = kept.fixed; later = kept.later; cause = kept.cause }
 
 pub kept_full : (old new : KeeperView) → SameButContent old new (Some NoRoom) → SameButContent old new None
-kept_full old new kept = record { ready = kept.ready; beside = kept.beside; fixed = kept.fixed; later = kept.later; cause = kept.cause; calls = kept.calls }
+kept_full old new kept = record { ready = kept.ready; beside = kept.beside; well = kept.well; fixed = kept.fixed; later = kept.later; cause = kept.cause }
 
 -- ---- before a commit
 

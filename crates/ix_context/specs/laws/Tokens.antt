@@ -9,7 +9,7 @@ use Rattle.std.proofs.lemmas.List.Elements.{All-head, All-tail}
 use Rattle.std.proofs.lemmas.Cmp.{nat_list_cmp_total}
 use Rattle.ct_entry.specs.Keys.{same_list, IsToken}
 use Rattle.ct_entry.specs.laws.Keys.{list_from_same}
-use Rattle.ct_entry.specs.laws.Rising.{all_entries}
+use Rattle.ct_keep.specs.FoundKeys.{all_entries}
 use Rattle.tx_chars.specs.KeyLimit.{limit as key_limit}
 use Rattle.tx_lexer.specs.declared.tokens.Token.{Token}
 use Rattle.tx_lexer.specs.Tokens.{tokens, default}

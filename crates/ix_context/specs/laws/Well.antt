@@ -9,7 +9,7 @@ use Rattle.ct_bytes.specs.Varints.{varint, text_bytes}
 use Rattle.ct_bytes.specs.laws.Varints.{varint_length}
 use Rattle.ct_bytes.specs.laws.RowKeys.{length-row_bytes}
 use Rattle.ct_keep.specs.Content.{value_limit}
-use Rattle.ct_keep.specs.Changes.{AreWell}
+use Rattle.ct_keep.specs.Changes.{AnyEntry, AreWell}
 use Rattle.ct_entry.specs.declared.kinds.Kind.{Kind}
 use Rattle.ct_entry.specs.declared.kinds.Kind.TheVariants as kind
 use Rattle.ct_entry.specs.Keys.{Key, key, IsRow, IsKey}
@@ -60,7 +60,7 @@ short_kind kind.Catalogue of = cc
 short_kind k of = refl
 
 -- then they may be committed
-pub well_changes : (well : List ℕ → List ℕ → Bool) (ws : List (Key × Option (List ℕ))) → TakesIndexes well → AreIndexChanges ws → AreWell well (spell ws)
+pub well_changes : (well : List ℕ → List ℕ → Type 0) (ws : List (Key × Option (List ℕ))) → TakesIndexes well → AreIndexChanges ws → AreWell well (spell ws)
 well_changes well ws takes are = are_well well ws (are_changes ws are) (short ws are) (puts ws are)
   where
     short : (ws : List (Key × Option (List ℕ))) → AreIndexChanges ws → AllOf is_short ws
@@ -200,11 +200,10 @@ index_changes_create ts i target range are name table room = (
 -- ---- the laws
 
 pub well_note : NotesAreWell
-well_note well i r takes name row = well_changes well (note_insert_changes i r) takes (index_changes_note i r name row)
+well_note i r name row = well_changes AnyEntry (note_insert_changes i r) (λ k value of. tt) (index_changes_note i r name row)
 
 pub well_sync : SyncsAreWell
-well_sync well ts xs i x takes are rules is room = well_changes well (sync_changes ts i x) takes (index_changes_sync ts xs i x are rules is room)
+well_sync ts xs i x are rules is room = well_changes AnyEntry (sync_changes ts i x) (λ k value of. tt) (index_changes_sync ts xs i x are rules is room)
 
 pub well_create : CreatesAreWell
-well_create well ts i target range takes are name table room =
-    well_changes well (create_changes ts i target range) takes (index_changes_create ts i target range are name table room)
+well_create ts i target range are name table room = well_changes AnyEntry (create_changes ts i target range) (λ k value of. tt) (index_changes_create ts i target range are name table room)

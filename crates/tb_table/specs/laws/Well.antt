@@ -24,8 +24,8 @@ use Rattle.tb_table.specs.Readings.{sort_bytes}
 use Rattle.tb_table.specs.laws.Changes.{is_of_tables}
 
 -- the keeper may hold whatever entries of tables
-abbrev pub TakesTables : (List ℕ → List ℕ → Bool) → Type 0
-TakesTables well = (k : Key) (value : List ℕ) → is_of_tables k.kind ≡ true → well (bytes k) value ≡ true
+abbrev pub TakesTables : (List ℕ → List ℕ → Type 0) → Type 0
+TakesTables well = (k : Key) (value : List ℕ) → is_of_tables k.kind ≡ true → well (bytes k) value
 
 -- ---- keys
 
@@ -125,10 +125,10 @@ row_texts_short cs vs are fit = each_short 1 (others cs) vs (all_others cs are.e
 
 -- ---- a keeper may hold what the changes put
 
-pub puts_create : (well : List ℕ → List ℕ → Bool) (t : List ℕ) (cs : List Column) → TakesTables well → AreColumns cs → AllPut (IsWellAt well) (table_changes t cs)
+pub puts_create : (well : List ℕ → List ℕ → Type 0) (t : List ℕ) (cs : List Column) → TakesTables well → AreColumns cs → AllPut (IsWellAt well) (table_changes t cs)
 puts_create well t cs takes are = (record { bounded = let l = length-columns_bytes_le cs are in omega arith; shaped = takes (key kind.Tables t []) (columns_bytes cs) refl }, tt)
 
-pub puts_insert : (well : List ℕ → List ℕ → Bool) (t : List ℕ) (r : ℤ) (cs : List Column) (vs : List Value) → TakesTables well → AreColumns cs → FitColumns (others cs) vs → AllPut (IsWellAt well) (insert_changes t r (numbers_of vs) (texts_of vs))
+pub puts_insert : (well : List ℕ → List ℕ → Type 0) (t : List ℕ) (r : ℤ) (cs : List Column) (vs : List Value) → TakesTables well → AreColumns cs → FitColumns (others cs) vs → AllPut (IsWellAt well) (insert_changes t r (numbers_of vs) (texts_of vs))
 puts_insert well t r cs vs takes are fit = (
   record {
     bounded =
@@ -145,5 +145,5 @@ puts_insert well t r cs vs takes are fit = (
     each [] short = tt
     each (x ∷ texts) short = (record { bounded = let s = short.0 in omega arith; shaped = takes (key kind.RowTexts t (text_part x.0 r)) x.1 refl }, each texts short.1)
 
-pub well_create : (well : List ℕ → List ℕ → Bool) (t : List ℕ) (cs : List Column) → TakesTables well → IsName t → AreColumns cs → AreWell well (spell (table_changes t cs))
+pub well_create : (well : List ℕ → List ℕ → Type 0) (t : List ℕ) (cs : List Column) → TakesTables well → IsName t → AreColumns cs → AreWell well (spell (table_changes t cs))
 well_create well t cs takes name are = are_well well (table_changes t cs) (are_create t cs name) (short_create t cs) (puts_create well t cs takes are)

@@ -14,7 +14,7 @@ entry kind owner part value is short small = let l = name_length owner is in rec
 
 pub returns-in_default : goal.returns-in_default
 returns-in_default c = λ before.
-    let more = well-append (λ _ _. true) c.args.batch.now _ before tt in
+    let more = well-append AnyEntry c.args.batch.now _ before tt in
     on_ok_weaker c.remove_entry.result (λ is. rw is more) c.remove_entry.ensures.ok
 
 pub returns : goal.returns
@@ -23,5 +23,5 @@ returns c = λ before.
     let part : length c.deref-2.result.now ≤ 8 = rw c.deref-2.ensures.value c.in_ok-part.ensures in
     let small : length value ≤ 1000 = search rules in
     let is_entry = entry c.args.change.0 c.in_ok-owner.owner c.deref-2.result.now value c.in_ok-owner.ensures part small in
-    let more = well-append (λ _ _. true) c.args.batch.now ((bytes (key c.args.change.0 c.in_ok-owner.owner c.deref-2.result.now), Some value) ∷ []) before (is_entry, refl, tt) in
+    let more = well-append AnyEntry c.args.batch.now ((bytes (key c.args.change.0 c.in_ok-owner.owner c.deref-2.result.now), Some value) ∷ []) before (is_entry, tt, tt) in
     on_ok_weaker c.put_entry.result (λ is. rw is more) c.put_entry.ensures.ok

@@ -15,7 +15,7 @@ returns-then-not-are_bounded-clause-gives g c = λ m n k holds bounded stands.
 
 pub commit-requires-clause-well : goal.commit-requires-clause-well
 commit-requires-clause-well g c =
-    well_bounded (g.K.Keeper.view c.args.keeper.now).fixed.well c.requires.takes c.args.batch
+    well_bounded (g.K.Keeper.view c.args.keeper.now).well c.requires.takes c.args.batch
     (ap are_bounded (sym c.changes.ensures) ∙ sym (bounded_spoken c.changes.result.now) ∙ sym c.are_bounded.ensures ∙ c.if-not-are_bounded.false)
 
 pub returns-in_err-commit-clause-gives : goal.returns-in_err-commit-clause-gives

@@ -28,7 +28,7 @@ module _ {K X : Type 0} (R : K → K → Ordering) where
       let b = and_parts (is_lt (R k e.0)) (below R k es) h in
       and_from _ _ (ap is_lt (o.congr q k e.0 (equal_from_test (R q k) t)) ∙ b.0) (below_tied o q k es t b.1)
 
-  found_listed : IsTotalOrder R → (P : K × X → Type 0) (es : List (K × X)) → rises R es ≡ true → ((k : K) (x : X) → find R k es ≡ Some x → P (k, x)) → AllByRecursion P es
+  pub found_listed : IsTotalOrder R → (P : K × X → Type 0) (es : List (K × X)) → rises R es ≡ true → ((k : K) (x : X) → find R k es ≡ Some x → P (k, x)) → AllByRecursion P es
   found_listed o P [] rise each = tt
   found_listed o P (e ∷ es) rise each =
       let b = and_parts (below R e.0 es) (rises R es) rise in (

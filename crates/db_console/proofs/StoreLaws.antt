@@ -1,0 +1,209 @@
+-- A run over the store of a site, from what loading and serving did.
+use Rattle.std.specs.Prelude.{Err, ◌++◌, ◌==◌, length}
+use Rattle.std.proofs.Common.{◌≡◌, ◌⊎◌, ℕ, suc, List, [], Option, Some, None, refl, sym, ap, subst, inl, inr, ⊎_elim, ◌∙◌, arith, length-append}
+use base.Fml.{GName}
+use Rattle.ct_base.specs.Told.{IsSaid}
+use Rattle.ct_base.specs.laws.Told.{with_suffix-nil}
+use Rattle.ct_base.specs.Moments.{Passes}
+use Rattle.ct_base.specs.laws.Moments.{passes_more, passes_then}
+use Rattle.ct_base.specs.Causes.{Rose}
+use Rattle.ct_site.specs.FaultCounts.{rose_raised}
+use Rattle.ct_site.specs.Disks.{DiskView, Beside, IsSettled, Leaves}
+use Rattle.ct_keep.specs.Content.{Content}
+use Rattle.ct_keep.specs.Changes.{AnyEntry, HoldsWell}
+use Rattle.ct_keep.specs.Composing.{same_lender, same_limit}
+use Rattle.ct_keep.specs.KeeperViews.{KeeperView, Counts, counted}
+use Rattle.ct_keep.specs.KeeperStates.{no_counts}
+use Rattle.pg_journal.specs.declared.faults.LoadFault.{LoadFault}
+use Rattle.pg_journal.specs.declared.faults.LoadFault.TheVariants.{Memory, Disk, NotAStore}
+use Rattle.pg_journal.specs.Looking.{Loads}
+use Rattle.pg_journal.specs.Recovered.{Alike}
+use Rattle.pg_heap.specs.Heaps.{HeapState, HeapStands}
+use Rattle.pg_heap.specs.Holding.{Recovers}
+use Rattle.pg_heap.specs.laws.Recovering.{load_passes, one_recovery}
+use Rattle.pg_keeper.specs.Loading.{HasNoStore}
+use Rattle.pg_keeper.specs.Paged.{told_content}
+use Rattle.db_engine.specs.Runs.{Turn, AllAllowed}
+use Rattle.db_console.specs.Worlds.{World, IsMoment, CommitsWithin}
+use Rattle.db_console.specs.Asking.{AskedThen, Calls}
+use Rattle.db_console.specs.Views.{Shows}
+use Rattle.db_console.specs.Table.{Because, Outcome, TellsPast, Completes, status_of}
+use Rattle.db_console.specs.Stores.{SiteFaultsBy, ServedHeap, store_view, status_of_load}
+use Rattle.db_console.specs.declared.endings.Ending.{Ending}
+use Rattle.db_console.specs.declared.endings.Ending.TheVariants.{Done, HearFault, SayFault, NoMemory, DiskFault, PastLimit}
+
+-- ---- before a run, a store was loaded
+
+-- Nothing was heard or said, and what a crash leaves is what was held.
+pub record Opens (old new : KeeperView) : Type 0 where
+  pub beside : new.beside ≡ old.beside
+  pub fixed : new.fixed ≡ old.fixed
+  pub counts : new.counts ≡ old.counts
+  pub faults : new.disk_faults ≡ old.disk_faults
+  pub content : new.content ≡ old.content
+  pub time : (m : Content) → old.content ≡ Some m → Passes old.time new.time (λ stopped said. (stopped ≡ Some m) × IsSaid old.beside.said said)
+
+because_before : (most : ℕ) (taken : List ℕ) (old mid new : KeeperView) (ending : Ending) → mid.beside ≡ old.beside → Because most taken mid new ending → Because most taken old new ending
+because_before most taken old mid new Done same b = b
+because_before most taken old mid new HearFault same b = b
+because_before most taken old mid new SayFault same b = b
+because_before most taken old mid new NoMemory same b = (b.0, b.1 ∙ same)
+because_before most taken old mid new DiskFault same b = b
+because_before most taken old mid new PastLimit same b = b
+
+-- what was held before the first turn
+moment_none : (limit : ℕ) (was : World) (turns : List Turn) (old : KeeperView) (stopped : Option Content) (said : List ℕ) → (w : Shows old was) → (stopped ≡ Some w.content) × IsSaid old.beside.said said → IsMoment limit was turns stopped said
+moment_none limit was turns old stopped said w p = record {
+  done = [];
+  later = turns;
+  split = refl;
+  leaves = record { content = w.content; is = p.0; stands = w.stands };
+  says = record { part = []; later = []; split = refl; is = with_suffix-nil was.said ∙ sym w.said ∙ p.1 };
+}
+
+pub outcome_before : (limit most : ℕ) (old mid new : KeeperView) (ending : Ending) → Opens old mid → Outcome limit most mid new ending → Outcome limit most old new ending
+outcome_before limit most old mid new ending opens o = record {
+  taken = o.taken;
+  prefix = ap (λ (b : Beside). b.left) (sym opens.beside) ∙ o.prefix;
+  faults = record {
+    hear = o.faults.hear ∙ ap (λ (b : Beside). counted (status_of ending == 3) b.hear_faults) opens.beside;
+    say = o.faults.say ∙ ap (λ (b : Beside). counted (status_of ending == 4) b.say_faults) opens.beside;
+    disk = o.faults.disk ∙ ap (counted (status_of ending == 6)) opens.faults;
+  };
+  fixed = o.fixed ∙ opens.fixed;
+  because = because_before most o.taken old mid new ending opens.beside o.because;
+  ready = o.ready;
+  course = λ was w.
+      let c = o.course was (record { said = ap (λ (b : Beside). b.said) opens.beside ∙ w.said; content = w.content; holds = opens.content ∙ w.holds; stands = w.stands }) in
+      record {
+        turns = c.turns;
+        allowed = subst (λ (n : ℕ). AllAllowed limit n was.state c.turns) (same_limit opens.fixed) c.allowed;
+        ends = c.ends;
+        moments = passes_then old.time mid.time new.time _ (passes_more old.time mid.time _ _ (opens.time w.content w.holds) (λ stopped said p. moment_none limit was c.turns old stopped said w p)) c.moments;
+        now = c.now;
+        commits = subst (λ (k : Counts). CommitsWithin c.turns k new.counts) opens.counts c.commits;
+        asked = subst (λ (b : Beside). Calls b.hearings new.beside.hearings (AskedThen b.left o.taken limit was c.turns)) opens.beside c.asked;
+      };
+}
+
+-- a store that was loaded
+pub opens_loaded : (old new : DiskView) (image : List ℕ) (heap : HeapState) (store : ℕ) (name : GName) → IsSettled old image → Recovers image (Some heap.held) → HeapStands new heap → Leaves old new (Alike image)
+    → new.beside ≡ old.beside → new.faults ≡ old.faults → Opens (store_view old heap store no_counts name) (store_view new heap store no_counts name)
+opens_loaded old new image heap store name settled is stands leaves beside faults = record {
+  beside = beside;
+  fixed = refl;
+  counts = refl;
+  faults = faults;
+  content = ap (λ (o : Option (List ℕ)). told_content o heap.held) stands.settled.told ∙ sym (ap (λ (o : Option (List ℕ)). told_content o heap.held) settled.told);
+  time = λ m holds.
+      let same : Some heap.held ≡ Some m = sym (ap (λ (o : Option (List ℕ)). told_content o heap.held) settled.told) ∙ holds in
+      passes_more _ _ _ _ (load_passes old new image (Some heap.held) is leaves) (λ stopped said p. (p.0 ∙ same, p.1));
+}
+
+-- ---- what is served over a heap
+
+pub same_name : (a b : GName) → Some a ≡ Some b → a ≡ b
+same_name a b e = cc
+
+pub served_over : (limit most store weight : ℕ) (old new : DiskView) (name last : GName) (heap later : HeapState) (counts : Counts) (ending : Ending)
+    → Outcome limit most (store_view old heap store no_counts name) (store_view new later weight counts last) ending → ServedHeap limit most store heap old new ending
+served_over limit most store weight old new name last heap later counts ending o = record {
+  name = name;
+  later = later;
+  counts = counts;
+  outcome =
+      subst (λ (n : GName). Outcome limit most (store_view old heap store no_counts name) (store_view new later store counts n) ending) (same_name last name (same_lender o.fixed))
+      (subst (λ (w : ℕ). Outcome limit most (store_view old heap store no_counts name) (store_view new later w counts last) ending) (same_limit o.fixed) o);
+}
+
+pub served_before : (limit most store : ℕ) (old mid new : DiskView) (image : List ℕ) (heap : HeapState) (ending : Ending) → IsSettled old image → Recovers image (Some heap.held) → HeapStands mid heap → Leaves old mid (Alike image)
+    → mid.beside ≡ old.beside → mid.faults ≡ old.faults → ServedHeap limit most store heap mid new ending → ServedHeap limit most store heap old new ending
+served_before limit most store old mid new image heap ending settled is stands leaves beside faults s = record {
+  name = s.name;
+  later = s.later;
+  counts = s.counts;
+  outcome = outcome_before limit most _ _ _ ending (opens_loaded old mid image heap store s.name settled is stands leaves beside faults) s.outcome;
+}
+
+-- ---- statuses
+
+pub not_two : (ending : Ending) → status_of ending ≡ 2 → ⊥
+not_two Done is = omega (arith, is)
+not_two HearFault is = omega (arith, is)
+not_two SayFault is = omega (arith, is)
+not_two NoMemory is = omega (arith, is)
+not_two DiskFault is = omega (arith, is)
+not_two PastLimit is = omega (arith, is)
+
+pub not_seven : (ending : Ending) → status_of ending ≡ 7 → ⊥
+not_seven Done is = omega (arith, is)
+not_seven HearFault is = omega (arith, is)
+not_seven SayFault is = omega (arith, is)
+not_seven NoMemory is = omega (arith, is)
+not_seven DiskFault is = omega (arith, is)
+not_seven PastLimit is = omega (arith, is)
+
+pub load_not_two : (fault : LoadFault) → status_of_load fault ≡ 2 → ⊥
+load_not_two Memory is = omega (arith, is)
+load_not_two Disk is = omega (arith, is)
+load_not_two NotAStore is = omega (arith, is)
+
+-- a store that can be loaded isn't refused
+pub load_status : (fault : LoadFault) → (fault ≡ NotAStore → ⊥) → (status_of_load fault ≡ 5) ⊎ (status_of_load fault ≡ 6)
+load_status Memory other = inl refl
+load_status Disk other = inr refl
+load_status NotAStore other = absurd (other refl)
+
+pub no_two_stores : (image : List ℕ) (m : Content) → Recovers image (Some m) → HoldsWell AnyEntry m → HasNoStore AnyEntry image → ⊥
+no_two_stores image m is well none = ⊎_elim
+    (λ nothing. let e : Some m ≡ None = one_recovery image (Some m) None is nothing in cc)
+    (λ other. let e : Some other.0 ≡ Some m = one_recovery image (Some other.0) (Some m) other.1 is in let same : m ≡ other.0 = cc in other.2 (subst (HoldsWell AnyEntry) same well)) none
+
+pub some_same : (m n : Content) → Some m ≡ Some n → m ≡ n
+some_same m n e = cc
+
+-- ---- faults
+
+pub faults_before : (status : ℕ) (old mid new : DiskView) → mid.beside ≡ old.beside → mid.faults ≡ old.faults → SiteFaultsBy status mid new → SiteFaultsBy status old new
+faults_before status old mid new beside faults f = record {
+  hear = f.hear ∙ ap (λ (b : Beside). counted (status == 3) b.hear_faults) beside;
+  say = f.say ∙ ap (λ (b : Beside). counted (status == 4) b.say_faults) beside;
+  disk = f.disk ∙ ap (counted (status == 6)) faults;
+}
+
+pub faults_of_load : {T : Type 0} (fault : LoadFault) (old new : DiskView) → Loads {T = T} old new (Err fault) → SiteFaultsBy (status_of_load fault) old new
+faults_of_load Memory old new l = record { hear = ap (λ (b : Beside). b.hear_faults) l.beside; say = ap (λ (b : Beside). b.say_faults) l.beside; disk = l.cause }
+faults_of_load Disk old new l = record { hear = ap (λ (b : Beside). b.hear_faults) l.beside; say = ap (λ (b : Beside). b.say_faults) l.beside; disk = l.cause }
+faults_of_load NotAStore old new l = record { hear = ap (λ (b : Beside). b.hear_faults) l.beside; say = ap (λ (b : Beside). b.say_faults) l.beside; disk = l.cause }
+
+-- ---- where the script is told
+
+-- nothing was taken
+pub past_none : (most : ℕ) (fault : LoadFault) (old new : Beside) → new ≡ old → TellsPast most (status_of_load fault) old new
+past_none most fault old new same = record { tells = λ taken left was now. (λ is. absurd (not_eight fault is), λ long. absurd (no taken left (sym was ∙ ap (λ (b : Beside). b.left) (sym same) ∙ now) long)) }
+  where
+    not_eight : (fault : LoadFault) → status_of_load fault ≡ 8 → ⊥
+    not_eight Memory is = omega (arith, is)
+    not_eight Disk is = omega (arith, is)
+    not_eight NotAStore is = omega (arith, is)
+
+    no : (taken left : List ℕ) → Some (taken ++ left) ≡ Some left → length taken ≡ suc most → ⊥
+    no taken left e long =
+        let one : taken ++ left ≡ left = cc in
+        let same_length = ap (λ (l : List ℕ). length l) one in
+        omega (arith, same_length, length-append taken left, long)
+
+pub past_before : (most status : ℕ) (old mid new : Beside) → mid ≡ old → TellsPast most status mid new → TellsPast most status old new
+past_before most status old mid new same t = subst (λ (b : Beside). TellsPast most status b new) same t
+
+pub completes_before : (most status : ℕ) (old mid new : DiskView) → mid.beside ≡ old.beside → mid.faults ≡ old.faults
+    → Completes most status mid.beside new.beside (¬ Rose mid.faults new.faults) → Completes most status old.beside new.beside (¬ Rose old.faults new.faults)
+completes_before most status old mid new beside faults c =
+    subst (λ (n : ℕ). Completes most status old.beside new.beside (¬ Rose n new.faults)) faults
+    (subst (λ (b : Beside). Completes most status b new.beside (¬ Rose mid.faults new.faults)) beside c)
+
+-- a store that wasn't loaded: there was no memory, or the disk failed
+pub completes_none : {T : Type 0} (most : ℕ) (fault : LoadFault) (old new : DiskView) → (fault ≡ NotAStore → ⊥) → Loads {T = T} old new (Err fault) → Completes most (status_of_load fault) old.beside new.beside (¬ Rose old.faults new.faults)
+completes_none most Memory old new other l = record { completes = λ script told short hear say quiet. inr refl }
+completes_none most Disk old new other l = record { completes = λ script told short hear say quiet. absurd (quiet (rose_raised old.faults new.faults l.cause)) }
+completes_none most NotAStore old new other l = absurd (other refl)

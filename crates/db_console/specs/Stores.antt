@@ -1,0 +1,95 @@
+-- How a run over the store of a site ends, by its status.
+use Rattle.std.specs.Prelude.{ℕ, ◌≡◌, ◌==◌, ◌⊎◌, List, Some, refl}
+use base.Fml.{GName}
+use Rattle.ct_base.specs.Causes.{Rose}
+use Rattle.ct_site.specs.Disks.{DiskView, IsSame, IsSettled, Leaves}
+use Rattle.ct_keep.specs.Content.{Content}
+use Rattle.ct_keep.specs.Changes.{AnyEntry, HoldsWell}
+use Rattle.ct_keep.specs.KeeperViews.{KeeperView, Counts, counted}
+use Rattle.ct_keep.specs.KeeperStates.{no_counts}
+use Rattle.pg_journal.specs.declared.faults.LoadFault.{LoadFault}
+use Rattle.pg_journal.specs.declared.faults.LoadFault.TheVariants.{Memory, Disk, NotAStore}
+use Rattle.pg_journal.specs.Recovered.{Alike}
+use Rattle.pg_heap.specs.Heaps.{HeapState}
+use Rattle.pg_heap.specs.Holding.{Recovers}
+use Rattle.pg_heap.specs.Loading.{HasNoOpenGate}
+use Rattle.pg_keeper.specs.Loading.{HasNoStore}
+use Rattle.pg_keeper.specs.Paged.{paged_view}
+use Rattle.db_arguments.specs.Arguments.{AsksFor}
+use Rattle.db_console.specs.Limits.{statement_limit, script_limit}
+use Rattle.db_console.specs.Table.{Completes, Outcome, status_of}
+use Rattle.db_console.specs.declared.endings.Ending.{Ending}
+
+-- The counts of faults after a run with this status: that of hearing rose by one exactly with 3, that of saying with 4, that of the disk with 6.
+pub record SiteFaultsBy (status : ℕ) (old new : DiskView) : Type 0 where
+  pub hear : new.beside.hear_faults ≡ counted (status == 3) old.beside.hear_faults
+  pub say : new.beside.say_faults ≡ counted (status == 4) old.beside.say_faults
+  pub disk : new.faults ≡ counted (status == 6) old.faults
+
+-- a keeper over the disk of a site, with what its heap holds
+abbrev pub store_view : DiskView → HeapState → ℕ → Counts → GName → KeeperView
+store_view disk heap limit counts name = paged_view disk heap AnyEntry limit counts name
+
+-- The script was served over a heap, which then was this one. Its content may weigh `store`.
+pub record ServedHeap (limit most store : ℕ) (heap : HeapState) (old new : DiskView) (ending : Ending) : Type 0 where
+  pub name : GName
+  pub later : HeapState
+  pub counts : Counts
+  pub outcome : Outcome limit most (store_view old heap store no_counts name) (store_view new later store counts name) ending
+
+-- the same, within the limits of a run, by its status
+abbrev pub ServesHeap : ℕ → HeapState → DiskView → DiskView → ℕ → Type 0
+ServesHeap store heap old new status = (ending : Ending) × (status ≡ status_of ending) × ServedHeap statement_limit script_limit store heap old new ending
+
+-- ---- loading
+
+abbrev pub status_of_load : LoadFault → ℕ
+status_of_load Memory = 5
+status_of_load Disk = 6
+status_of_load NotAStore = 7
+
+-- The store couldn't be loaded: nothing was heard or said. What a crash left meanwhile, or leaves now, recovers to what the image did.
+-- A file that is refused is unchanged, unless a batch was under way, which was put home.
+pub record NotLoaded (image : List ℕ) (fault : LoadFault) (old new : DiskView) : Type 0 where
+  pub beside : new.beside ≡ old.beside
+  pub leaves : Leaves old new (Alike image)
+  pub refused : fault ≡ NotAStore → HasNoOpenGate image → IsSame old new
+
+-- a run whose store couldn't be loaded, by its status
+abbrev pub FailsToLoad : List ℕ → DiskView → DiskView → ℕ → Type 0
+FailsToLoad image old new status = (fault : LoadFault) × (status ≡ status_of_load fault) × NotLoaded image fault old new
+
+-- ---- a run
+
+-- What a run did with this status over an image that recovers to the map m. It served the script over a heap that holds m; or there was
+-- no memory to load it, or the disk failed then.
+abbrev pub RanOver : ℕ → List ℕ → Content → DiskView → DiskView → ℕ → Type 0
+RanOver store image m old new status =
+    ((heap : HeapState) × (heap.held ≡ m) × ServesHeap store heap old new status)
+    ⊎ (((status ≡ 5) ⊎ (status ≡ 6)) × FailsToLoad image old new status)
+
+-- what holds of each image that recovers to a map, where nothing was pending
+abbrev pub OverStores : DiskView → (List ℕ → Content → Type 0) → Type 0
+OverStores disk holds = (image : List ℕ) (m : Content) → IsSettled disk image → Recovers image (Some m) → HoldsWell AnyEntry m → holds image m
+
+-- what holds of each image that is no store
+abbrev pub OverForeign : DiskView → (List ℕ → Type 0) → Type 0
+OverForeign disk holds = (image : List ℕ) → IsSettled disk image → HasNoStore AnyEntry image → holds image
+
+-- what a run did with this status, by the arguments of the command: over each store, and over each file that is none
+abbrev pub RunsBy : List (List ℕ) → DiskView → DiskView → ℕ → Type 0
+RunsBy arguments old new status = OverStores old (λ image m. (file : List ℕ) (limit : ℕ) → AsksFor arguments file limit → RanOver limit image m old new status)
+
+abbrev pub RefusesBy : List (List ℕ) → DiskView → DiskView → ℕ → Type 0
+RefusesBy arguments old new status = OverForeign old (λ image. (file : List ℕ) (limit : ℕ) → AsksFor arguments file limit → FailsToLoad image old new status)
+
+-- Without a fault of a device a script that isn't too long is served to its end, unless there is no memory.
+abbrev pub CompletesRun : ℕ → DiskView → DiskView → Type 0
+CompletesRun status old new = Completes script_limit status old.beside new.beside (¬ Rose old.faults new.faults)
+
+-- computed examples
+refused_file : status_of_load NotAStore ≡ 7
+refused_file = refl
+
+one_disk_fault : counted (status_of_load Disk == 6) 3 ≡ 4
+one_disk_fault = refl

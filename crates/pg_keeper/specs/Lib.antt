@@ -1,0 +1,3 @@
+pub mod Paged
+pub mod Loading
+pub mod laws

@@ -1,0 +1,2 @@
+-- Laws of keepers over a store file.
+pub mod Paged
