@@ -1,9 +1,10 @@
-use Rattle.std.proofs.Common.{ℕ, ◌≤◌, List, [], ◌∷◌, true, length, Some, refl, arith, rules}
+use Rattle.std.proofs.Common.{ℕ, ◌≤◌, List, [], ◌∷◌, length, Some, arith, rules}
 use Rattle.std.proofs.lemmas.List.{length-append}
 use Rattle.std.proofs.lemmas.Result.{on_ok_weaker}
 use Rattle.ct_base.specs.Names.{IsName}
 use Rattle.ct_base.specs.laws.Names.{name_length}
 use Rattle.ct_keep.specs.Content.{IsEntry}
+use Rattle.ct_keep.specs.Changes.{AnyEntry}
 use Rattle.ct_entry.specs.declared.kinds.Kind.{Kind}
 use Rattle.ct_entry.specs.Keys.{key, bytes}
 use Rattle.ct_entry.specs.laws.Well.{well-append}
