@@ -1,5 +1,5 @@
 -- Sites in memory on which no call was made: nothing is pending on their disk.
-use Rattle.std.proofs.Common.{◌≡◌, ℕ, List, Some, sym, ap, subst, ◌∙◌}
+use Rattle.std.proofs.Common.{◌≡◌, ℕ, List, Some, sym, subst, ◌∙◌}
 use Rattle.ct_site.specs.declared.fault_lists.Faults.{Faults}
 use Rattle.ct_site.specs.declared.room_sizes.Rooms.{Rooms}
 use Rattle.ct_site.specs.Memory.{MemState, fresh, memory_view}

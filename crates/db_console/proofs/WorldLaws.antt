@@ -2,7 +2,8 @@
 use Rattle.std.proofs.Common.{◌≡◌, ◌≤◌, ◌+◌, ◌++◌, ◌∷◌, [], ℕ, List, Bool, true, false, cond, leb, Option, Some, None, map, refl, sym, ap, subst, ◌∙◌, arith, append_assoc, append-nil, ⊎_elim}
 use Rattle.std.proofs.lemmas.List.{map-append}
 use Rattle.std.proofs.lemmas.List.Sums.{sum_by-append}
-use Rattle.std.specs.Str.{chars}
+use Rattle.std.specs.Str.{chars, is_utf8}
+use lib.Utf8.{encode}
 use Rattle.ct_base.specs.Moments.{Passes}
 use Rattle.ct_base.specs.laws.Moments.{passes_none, passes_more, passes_then}
 use Rattle.ct_base.specs.laws.Told.{with_suffix-nil, with_suffix_twice, says_suffix}
@@ -191,11 +192,11 @@ zero_within : (n : ℕ) → leb 0 n ≡ true
 zero_within n = grind arith
 
 empty_reply : (limit : ℕ) (m : State) → reply_by (rest_step limit m []) ≡ []
-unfolding chars
+unfolding chars is_utf8 encode
 empty_reply limit m = rw (zero_within limit) refl
 
 empty_state_by : (limit : ℕ) (m : State) → state_by m (rest_step limit m []) ≡ m
-unfolding chars
+unfolding chars is_utf8 encode
 empty_state_by limit m = rw (zero_within limit) refl
 
 empty_rest : (limit store : ℕ) (world : World) → Leads limit store world (turn_by (rest_piece []) Step ∷ []) world

@@ -1,6 +1,7 @@
 -- What was answered when `hear` was called.
 use Rattle.std.specs.Prelude.{ℕ, ◌≡◌, ◌⊎◌, false, List, [], ◌∷◌, ◌++◌, Option, Some, codes, refl}
-use Rattle.std.specs.Str.{chars}
+use Rattle.std.specs.Str.{chars, is_utf8}
+use lib.Utf8.{encode}
 use Rattle.ct_base.specs.Told.{with_prefix, with_suffix}
 use Rattle.ct_site.specs.Hearings.{Hearing, WasCalled}
 use Rattle.db_engine.specs.Runs.{Turn, pieces, transcript, Step, turn_by, statement}
@@ -30,7 +31,7 @@ abbrev first_line : List Turn
 first_line = turn_by (statement (codes "SELEC")) Step ∷ []
 
 after_a_line : AskedThen (Some (codes "SELEC;\n-- bye")) (codes "SELEC;\n-- bye") 65536 (world []) first_line (record { left = codes "-- bye"; said = codes "E10: statement not understood\n" })
-unfolding chars
+unfolding chars is_utf8 encode
 after_a_line = record {
   part = codes "SELEC;\n";
   later = codes "-- bye";

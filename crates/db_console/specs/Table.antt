@@ -1,6 +1,7 @@
 -- How a run of the console ends, by its status.
 use Rattle.std.specs.Prelude.{ℕ, suc, ◌≡◌, ◌≢◌, ◌≤◌, ◌==◌, ◌⊎◌, ◌↔◌, Bool, true, false, List, [], ◌∷◌, ◌++◌, length, Option, Some, codes, refl, None}
-use Rattle.std.specs.Str.{chars}
+use Rattle.std.specs.Str.{chars, is_utf8}
+use lib.Utf8.{encode}
 use Rattle.std.proofs.Common.{lit<, arith}
 use Rattle.std.specs.FinMap.{empty}
 use Rattle.ct_base.specs.Told.{with_prefix, with_suffix}
@@ -170,7 +171,7 @@ abbrev telling : List ℕ → List ℕ → KeeperView
 telling left said = in_memory empty 0 no_counts (record { left = Some left; said = Some said; hearings = None; hear_faults = 0; say_faults = 0 }) (Some 40)
 
 ten_bytes : Ends 65536 10 (codes "SELEC;\nSELE") (world []) (bad (codes "SELEC") ∷ []) (telling (codes "C;\n") (codes "E10: statement not understood\n")) PastLimit
-unfolding chars
+unfolding chars is_utf8 encode
 ten_bytes = (
   codes "SELEC;\nSEL",
   69,
@@ -195,7 +196,7 @@ not_ended = record {
 
 -- the first reply was said, and a prefix of the second one, since both have 54 bytes
 in_part : SaidInPart 4 true (codes "a;\nSELEC;") (world []) (bad (codes "a") ∷ bad (codes "SELEC") ∷ []) (telling [] (codes "E10: statement not understood\nE1"))
-unfolding chars
+unfolding chars is_utf8 encode
 in_part = record {
   done = bad (codes "a") ∷ [];
   first = record {
@@ -215,7 +216,7 @@ in_part = record {
 
 -- a crash while the first reply was said, which left the state after the first statement
 a_moment : IsMoment 4 (world []) (bad (codes "a") ∷ bad (codes "SELEC") ∷ []) (Some empty) (codes "E10: stat")
-unfolding chars
+unfolding chars is_utf8 encode
 a_moment = record {
   done = bad (codes "a") ∷ [];
   later = bad (codes "SELEC") ∷ [];

@@ -1,9 +1,12 @@
 -- What serving some bytes of a script does to the world, and what a crash in between leaves of it.
 use Rattle.std.specs.Prelude.{ℕ, ◌≡◌, ◌≤◌, ◌<◌, ◌+◌, Bool, true, false, List, [], ◌∷◌, ◌++◌, length, map, count_by, codes, Option, Some, refl}
 use Rattle.std.proofs.Common.{arith}
-use Rattle.std.specs.Str.{chars}
+use Rattle.std.specs.Str.{chars, is_utf8}
 use Rattle.std.specs.Fmt.{digits}
 use lib.Utf8.{encode}
+use Rattle.ucd_category.proofs.Computing.{ucd_category}
+use Rattle.caseless.proofs.Computing.{caseless}
+use Rattle.tx_chars.specs.Keys.{key_text}
 use Rattle.ct_base.specs.Told.{with_suffix, SaysPart}
 use Rattle.ct_base.specs.Moments.{Passes}
 use Rattle.ct_base.specs.laws.Moments.{passes_none}
@@ -107,7 +110,7 @@ abbrev pub world : List ℕ → World
 world said = record { state = empty_state; said = Some said }
 
 half_a_word : (k : KeeperView) → Served 65536 0 true [] (codes "SELEC;\n-- note") (world []) (world (codes "E10: statement not understood\n")) k k
-unfolding chars
+unfolding chars is_utf8 encode
 half_a_word k = record {
   turns = turn_by (statement (codes "SELEC")) Step ∷ turn_by (rest_piece (codes "-- note")) Step ∷ [];
   rest = codes "-- note";
@@ -119,7 +122,7 @@ half_a_word k = record {
 
 -- a statement that a newline ends, while the next one stands open
 some_text : (k : KeeperView) → Served 65536 0 false (codes "EXEC CTX_DOC") (codes ".POLICY_TOKENS('some text'); \nSELEC;") (world (codes "x")) (world (codes "xsome|0|4\ntext|5|4\n")) k k
-unfolding encode digits chars
+unfolding encode digits chars is_utf8 caseless ucd_category key_text
 some_text k = record {
   turns = turn_by (statement (codes "EXEC CTX_DOC.POLICY_TOKENS('some text')")) Step ∷ [];
   rest = codes "SELEC;";

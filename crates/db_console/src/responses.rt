@@ -4,7 +4,7 @@ ghost use Rattle.std.specs.Prelude.{◌≡◌, IfOk, OnErr};
 ghost use Rattle.ct_keep.specs.KeeperViews.{AcceptsChanges, AtMostOneCommit, SameButContent};
 ghost use Rattle.db_state.specs.States.{State};
 ghost use Rattle.db_state.specs.Effects.{reply_by};
-ghost use Rattle.db_engine.specs.Steps.{rest_step, is_text as is_text_bytes};
+ghost use Rattle.db_engine.specs.Steps.{rest_step};
 ghost use Rattle.db_engine.specs.Executing.{fault_of_stop};
 ghost use Rattle.db_console.specs.Views.{HaltsInText, OverTexts, RepliesToText};
 ghost use Rattle.db_console.specs.Responses.{response_bytes, IsTextOf, RespondsToText};
@@ -51,19 +51,10 @@ impl Response {
     }
 }
 
-fn is_text(bytes: &[u8]) -> bool
-    ensures { result ≡ is_text_bytes bytes.now }
-{
-    bytes.iter().all(|byte| *byte < 128)
-}
-
 /// The bytes as a text, where they are one.
 fn text_of(bytes: &[u8]) -> Option<&str>
     ensures { IsTextOf result bytes.now }
 {
-    if !is_text(bytes) {
-        return None;
-    }
     from_utf8(bytes).ok()
 }
 

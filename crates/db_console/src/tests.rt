@@ -153,11 +153,29 @@ fn statements_and_rests_are_answered(rt: HostRuntime) -> Result<(), Fail> {
         ("SELEC;\n", 1, BAD),
         ("-- note;\n", 4096, ""),
         ("DROP TABLE docs", 4096, BAD),
-        ("-- \u{e9};\n", 4096, BAD),
+        ("-- \u{e9};\n", 1, ""),
+        ("\u{e9};\n", 4096, BAD),
+        ("\u{3000}-- rest", 4096, ""),
         ("SELEC;  \t \n-- rest", 7, BAD),
         ("SELEC;", 4096, BAD),
     ] {
         let site = site_of(alloc, script.as_bytes(), piece, &[], &[])?;
+        let (status, said) = outcome(&rt, alloc, site)?;
+        assert_eq!(rt; status, 0, "{script:?}");
+        assert!(rt; said.as_slice() == want.as_bytes(), "{script:?}");
+    }
+    Ok(())
+}
+
+/// Bytes that are no text are refused, in a comment too, and the script goes on; behind the last statement likewise.
+#[test]
+fn bytes_that_are_no_text(rt: HostRuntime) -> Result<(), Fail> {
+    let alloc = rt.alloc();
+    for (script, want) in [
+        (b"-- \xe9;\n-- note;\n".as_slice(), BAD),
+        (b"-- \xc3".as_slice(), BAD),
+    ] {
+        let site = site_of(alloc, script, 4096, &[], &[])?;
         let (status, said) = outcome(&rt, alloc, site)?;
         assert_eq!(rt; status, 0, "{script:?}");
         assert!(rt; said.as_slice() == want.as_bytes(), "{script:?}");
@@ -263,7 +281,7 @@ pub(crate) const QUICK: &str =
     "SELECT id, SCORE(1) FROM docs WHERE CONTAINS(body,'quick',1) > 0;\n";
 
 /// The script and what is said to it, behind the schema.
-static INDEXED: [(&str, &str); 4] = [
+static INDEXED: [(&str, &str); 5] = [
     // a row isn't found before the index is synchronised
     (
         "INSERT INTO docs VALUES (1,'quick fox quick',0);
@@ -358,6 +376,31 @@ E22: number out of range
 E13: wrong type or number of values
 Table created.
 E16: value too long
+",
+    ),
+    // texts in several scripts, whose words are found in any case, and white space between lexemes
+    (
+        "INSERT INTO docs VALUES (1,'CAFE\u{301}, Straße',0);
+INSERT INTO docs VALUES (2,'Ὀδυσσεύς|語',0);
+EXEC CTX_DDL.SYNC_INDEX('di');
+SELECT id FROM docs WHERE CONTAINS(body,'café') > 0;
+SELECT id FROM docs WHERE CONTAINS(body,'STRASSE') > 0;
+SELECT body FROM docs WHERE CONTAINS(body,'ὈΔΥΣΣΕΎΣ') > 0;
+SELECT id FROM docs WHERE CONTAINS(body,'cafe') > 0;
+SELECT id FROM docs WHERE CONTAINS(body,'语言') > 0;
+EXEC\u{a0}CTX_DOC.POLICY_TOKENS('naïve');
+INSERT INTO döcs VALUES (1);
+",
+        "1 row created.
+1 row created.
+PL/SQL procedure successfully completed.
+1
+1
+Ὀδυσσεύς\\|語
+no rows selected
+no rows selected
+naïve|0|6
+E10: statement not understood
 ",
     ),
     // a table of 17 columns

@@ -1,5 +1,5 @@
 -- From what the function of a statement returned to the answer.
-use Rattle.std.proofs.Common.{◌≡◌, ℕ, ◌+◌, ◌-◌, ◌^◌, Bool, true, false, cond, List, Some, Ok, Err, Vec, refl, ap, ◌∙◌, arith, min}
+use Rattle.std.proofs.Common.{◌≡◌, ℕ, ◌+◌, ◌-◌, ◌^◌, Bool, true, false, cond, List, Ok, Err, Vec, refl, ap, ◌∙◌, arith, min}
 use Rattle.std.specs.Prelude.{codes, bytes_eq, ◌&&◌}
 use Rattle.std.specs.declared.alloc.Global.{Global}
 use Rattle.ct_base.specs.Causes.{Rose}
@@ -14,9 +14,8 @@ use Rattle.db_engine.specs.Steps.{call}
 use Rattle.db_index.specs.Syncing.{sync_index}
 use Rattle.db_index.specs.Tokenizing.{policy_tokens}
 use Rattle.db_engine.specs.Runs.{Step, NoMemory, Full}
-use Rattle.db_state.specs.Plans.{Moves, Gives}
+use Rattle.db_state.specs.Plans.{Gives}
 use Rattle.db_engine.specs.Executing.{IsAnswered}
-use Rattle.db_engine.specs.declared.replies.Reply.{Reply}
 use Rattle.db_engine.specs.declared.replies.Reply.TheVariants.{Text as ReplyText, Full as ReplyFull, NoMemory as ReplyNoMemory}
 
 pub answers_step : (m : State) (effect : Effect) (may : Bool) (c : Content) (old new : KeeperView) (v : Vec ℕ Global) (reply : List ℕ) → reply ≡ v.items → Gives m effect c old new (Ok v) → IsAnswered m effect may c old new (ReplyText reply)

@@ -3,7 +3,6 @@ use Rattle.std.proofs.Common.{◌≡◌, ℕ, Bool, true, false, List, ◌∷◌
 use Rattle.std.specs.Prelude.{not}
 use Rattle.std.specs.Bool.{if◌then◌else◌}
 use Rattle.std.specs.declared.alloc.Global.{Global}
-use Rattle.ct_base.specs.Causes.{Rose}
 use Rattle.ct_keep.specs.KeeperViews.{KeeperView}
 use Rattle.db_cond.specs.Faults.{Refusal, NotUnderstood, UnknownName, ExistsAlready, WrongValues, KeyExists, ValueTooLong, StatementTooLong, NotInProfile, OutOfRange, NoIndexOfKind, BadValue, LimitReached, refusal_line, store_full}
 use Rattle.st_parse.specs.declared.statements.Statement.{Statement}
@@ -14,9 +13,8 @@ use Rattle.db_change.specs.Inserting.{row_created}
 use Rattle.db_state.specs.Lines.{call_done}
 use Rattle.db_engine.specs.Steps.{is_built_index}
 use Rattle.db_engine.specs.Executing.{is_sync, done_line, is_fixed, Tells}
-use Rattle.db_state.specs.Plans.{ContentStays, Returns}
-use Rattle.db_engine.specs.declared.replies.Reply.{Reply}
-use Rattle.db_engine.specs.declared.replies.Reply.TheVariants.{Text as ReplyText, NoMemory as ReplyNoMemory}
+use Rattle.db_state.specs.Plans.{Returns}
+use Rattle.db_engine.specs.declared.replies.Reply.TheVariants.{Text as ReplyText}
 
 -- ---- lines
 

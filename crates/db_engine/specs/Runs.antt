@@ -9,7 +9,8 @@ use Rattle.db_state.specs.States.{State, empty_state}
 use Rattle.db_state.specs.Effects.{Effect, state_by, reply_by, is_done}
 use Rattle.db_state.specs.Room.{room}
 use Rattle.db_engine.specs.Steps.{step, rest_step, is_text, read_bytes, may_fill}
-use Rattle.std.specs.Str.{chars}
+use Rattle.std.specs.Str.{chars, is_utf8}
+use lib.Utf8.{encode}
 use Rattle.std.proofs.lemmas.Bool.{false≢true}
 
 -- a statement, or what stands behind the last one
@@ -111,13 +112,13 @@ allowed-append limit store m (t ∷ ts) us first second = (first.0, allowed-appe
 -- of two statements that are the same, the first is answered for want of memory, and the second by its step
 two_turns : transcript 65536 empty_state (turn_by (statement (codes "SELEC")) NoMemory ∷ turn_by (statement (codes "SELEC")) Step ∷ [])
     ≡ codes "E90: out of memory\nE10: statement not understood\n"
-unfolding chars
+unfolding chars is_utf8 encode
 two_turns = refl
 
 -- a statement that is full, a note, and a rest without its end
 three_turns : transcript 65536 empty_state (turn_by (statement (codes "COMMIT")) Full ∷ turn_by (statement (codes "-- note")) Step ∷ turn_by (rest_piece (codes "COMMIT")) Step ∷ [])
     ≡ codes "E80: store full\nE10: statement not understood\n"
-unfolding chars
+unfolding chars is_utf8 encode
 three_turns = refl
 
 -- an answer for want of memory leaves the state

@@ -1,14 +1,16 @@
 -- What one statement does: the state after it, and its reply.
-use Rattle.std.specs.Prelude.{ℕ, ◌-◌, nat_lt, Bool, true, false, not, ◌||◌, ◌&&◌, List, [], ◌∷◌, length, Option, codes, bytes_eq, ◌≡◌, refl, nat_le, is_none}
+use Rattle.std.specs.Prelude.{ℕ, Bool, true, false, not, ◌||◌, ◌&&◌, List, [], ◌∷◌, length, Option, codes, bytes_eq, ◌≡◌, refl, nat_le, is_none, ◌++◌}
 use Rattle.std.specs.Bool.{if◌then◌else◌}
-use Rattle.std.specs.List.{list_all}
-use Rattle.std.specs.Str.{chars}
+use Rattle.std.specs.Str.{chars, is_utf8}
 use Rattle.st_parse.specs.declared.statements.Arg.{Arg}
 use Rattle.db_cond.specs.Faults.{NotUnderstood, StatementTooLong}
 use Rattle.db_state.specs.States.{State, empty_state, is_view}
 use Rattle.db_state.specs.Effects.{Effect, Refused, Does, refuse, reply_by}
 use Rattle.std.specs.Fmt.{digits}
 use lib.Utf8.{encode}
+use Rattle.ucd_category.proofs.Computing.{ucd_category}
+use Rattle.caseless.proofs.Computing.{caseless}
+use Rattle.tx_chars.specs.Keys.{key_text}
 use Rattle.st_parse.specs.declared.statements.IndexKind.{IndexKind}
 use Rattle.st_parse.specs.declared.statements.IndexKind.TheVariants.{Context, Ctxcat, Ctxrule}
 use Rattle.st_parse.specs.declared.statements.Whole.{Whole}
@@ -77,9 +79,9 @@ may_fill (Exec pack procedure args) = may_fill_by pack
 may_fill Commit = false
 may_fill statement = true
 
--- Which bytes are a text: for now those in ASCII.
+-- Which bytes are a text: those in UTF-8.
 abbrev pub is_text : List ℕ → Bool
-is_text bytes = list_all (λ b. nat_lt b 128) bytes
+is_text bytes = is_utf8 bytes
 
 -- what some bytes are as a statement
 abbrev pub read_bytes : List ℕ → Read
@@ -108,27 +110,37 @@ abbrev reply : List ℕ → List ℕ
 reply bytes = reply_by (step 65536 empty_state bytes)
 
 some_text : reply (codes "EXEC CTX_DOC.POLICY_TOKENS('some text')") ≡ codes "some|0|4\ntext|5|4\n"
-unfolding encode digits chars
+unfolding encode digits chars is_utf8 caseless ucd_category key_text
 some_text = refl
 
 web_site : reply (codes "exec ctx_doc.policy_tokens('Web-site, 1,000.50!')") ≡ codes "web|0|3\nsite|4|4\n1,000.50|10|8\n"
-unfolding encode digits chars
+unfolding encode digits chars is_utf8 caseless ucd_category key_text
 web_site = refl
 
 no_token : reply (codes "EXEC CTX_DOC.POLICY_TOKENS('--')") ≡ codes "no rows selected\n"
-unfolding encode digits chars
+unfolding encode digits chars is_utf8 caseless ucd_category key_text
 no_token = refl
 
+-- É in two bytes
+accented : reply (codes "EXEC CTX_DOC.POLICY_TOKENS('CAF" ++ (0xC3 ∷ 0x89 ∷ []) ++ codes "')") ≡ codes "caf" ++ (0xC3 ∷ 0xA9 ∷ []) ++ codes "|0|5\n"
+unfolding encode digits chars is_utf8 caseless ucd_category key_text
+accented = refl
+
+-- half of it, in a comment
+no_text : reply (codes "-- " ++ 0xC3 ∷ []) ≡ codes "E10: statement not understood\n"
+unfolding chars is_utf8 encode
+no_text = refl
+
 note : reply (codes "-- note") ≡ []
-unfolding chars
+unfolding chars is_utf8 encode
 note = refl
 
 half_a_word : reply (codes "SELEC") ≡ codes "E10: statement not understood\n"
-unfolding chars
+unfolding chars is_utf8 encode
 half_a_word = refl
 
 rest_without_end : reply_by (rest_step 65536 empty_state (codes "DROP TABLE docs")) ≡ codes "E10: statement not understood\n"
-unfolding chars
+unfolding chars is_utf8 encode
 rest_without_end = refl
 
 too_long : reply_by (step 3 empty_state (codes "SELEC")) ≡ codes "E19: statement too long\n"

@@ -12,7 +12,7 @@ use ct_base::{Memory, TEXT_LIMIT};
 use db_cond::{Fault, fault_line, no_rows, word_line};
 use st_parse::Arg;
 use std::alloc::Global;
-use tx_lexer::{Lexer, Token};
+use tx_lexer::{Lexer, LexerOptions, Token};
 
 /// CTX_DOC.POLICY_TOKENS: a line for each token of a text. Its cost is linear in the length of the text.
 pub fn policy_tokens(alloc: Global, args: &[Arg]) -> Result<Vec<u8>, Memory>
@@ -32,7 +32,8 @@ fn text_tokens(alloc: Global, text: &str) -> Result<Vec<u8>, Memory>
     if text.len() > usize::from(TEXT_LIMIT) {
         return fault_line(alloc, Fault::ValueTooLong);
     }
-    let tokens = Lexer::new().tokens(alloc, text)?;
+    let lexer = Lexer::new(LexerOptions::defaults(alloc)?);
+    let tokens = lexer.tokens(alloc, text)?;
     token_lines(alloc, &tokens)
 }
 

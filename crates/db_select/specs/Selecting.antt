@@ -1,6 +1,6 @@
 -- What SELECT with CONTAINS does.
-use Rattle.std.specs.Prelude.{ℕ, ℤ, pos, zero, suc, nat_le, nat_lt, Bool, true, false, not, ◌||◌, ◌&&◌, List, [], ◌∷◌, length, map, Option, Some, None, codes, ◌≡◌, refl}
-use Rattle.std.specs.Char.{is_ascii_alphanumeric, to_ascii_lowercase}
+use Rattle.std.specs.Prelude.{ℕ, ℤ, pos, zero, suc, nat_le, nat_lt, Bool, true, false, not, ◌||◌, ◌&&◌, List, [], ◌∷◌, ◌++◌, length, map, Option, Some, None, codes, ◌≡◌, refl}
+use Rattle.std.specs.Char.{to_ascii_lowercase}
 use Rattle.std.specs.List.{list_all, list_any, filter_map}
 use Rattle.std.specs.Ordering.{int_eq}
 use Rattle.std.specs.Str.{chars}
@@ -8,7 +8,8 @@ use Rattle.std.specs.FinMap.{get}
 use Rattle.ct_base.specs.declared.lists.Value.{Value}
 use Rattle.ct_base.specs.declared.lists.Value.TheVariants.{Number, Text}
 use Rattle.ct_entry.specs.Keys.{same_list}
-use Rattle.tx_chars.specs.Keys.{key_of}
+use Rattle.ucd_category.proofs.Computing.{ucd_category}
+use Rattle.tx_chars.specs.Keys.{is_word, key_of}
 use Rattle.st_parse.specs.declared.statements.Item.{Item}
 use Rattle.st_parse.specs.declared.statements.Item.TheVariants.{Column as ColumnItem, Score}
 use Rattle.st_parse.specs.declared.statements.Whole.{Whole}
@@ -69,13 +70,13 @@ reserved_words =
     ∷ codes "about" ∷ codes "fuzzy" ∷ codes "haspath" ∷ codes "inpath" ∷ codes "mdata" ∷ codes "sdata" ∷ codes "ndata" ∷ codes "sqe"
     ∷ codes "rt" ∷ codes "tt" ∷ codes "tr" ∷ codes "trsyn" ∷ codes "btg" ∷ codes "btp" ∷ codes "bti" ∷ codes "ntg" ∷ codes "ntp" ∷ codes "nti" ∷ []
 
--- For now a query text is one word of ASCII letters and digits that isn't reserved.
+-- For now a query text is one word of letters, numbers and marks that isn't reserved.
 abbrev pub is_word_query : List ℕ → Bool
-is_word_query text = nat_lt 0 (length text) && (list_all is_ascii_alphanumeric text && not (list_any (same_list (map to_ascii_lowercase text)) reserved_words))
+is_word_query text = nat_lt 0 (length text) && (list_all is_word (chars text) && not (list_any (same_list (map to_ascii_lowercase text)) reserved_words))
 
 -- the key of the word
 abbrev pub query_key : List ℕ → List ℕ
-query_key text = key_of (chars text)
+query_key text = key_of false false (chars text)
 
 -- ---- the rows
 
@@ -127,19 +128,24 @@ select m items t column query label above =
 
 -- computed examples
 a_word : is_word_query (codes "Web2") ≡ true
-unfolding reserved_words
+unfolding reserved_words chars ucd_category
 a_word = refl
 
 a_reserved_word : is_word_query (codes "Near") ≡ false
-unfolding reserved_words
+unfolding reserved_words chars ucd_category
 a_reserved_word = refl
 
 no_word : is_word_query [] ≡ false
-unfolding reserved_words
+unfolding reserved_words chars ucd_category
 no_word = refl
 
+-- café, with its two bytes of é
+accented : is_word_query (codes "caf" ++ 0xC3 ∷ 0xA9 ∷ []) ≡ true
+unfolding reserved_words chars ucd_category
+accented = refl
+
 two_words : is_word_query (codes "a b") ≡ false
-unfolding reserved_words
+unfolding reserved_words chars ucd_category
 two_words = refl
 
 no_threshold : is_threshold (as_count (Fits (pos 101))) ≡ false
@@ -162,7 +168,7 @@ query_alone : (done : Effect) → check_select (ColumnItem (codes "id") ∷ []) 
 query_alone done = refl
 
 a_good_search : (done : Effect) → check_select (ColumnItem (codes "id") ∷ Score (Fits (pos 1)) ∷ []) (codes "quick") (Some (Fits (pos 1))) (Some 0) done ≡ done
-unfolding reserved_words
+unfolding reserved_words chars ucd_category
 a_good_search done = refl
 
 -- the row 1 of a table `docs` with the columns id, body and price, found with the score 2; the list is id, SCORE(1), body

@@ -33,7 +33,7 @@ pub(crate) fn hits_above<K: Keeper>(
     ensures found { OverIndex K.view keeper.old index.now (λ m x. IfOk result (λ hits. found_scores hits.items ≡ found m.tables x (query_key query.now) above)) }
     ensures reads { OnlyReads K.view keeper.old keeper.new result }
 {
-    let word = key(alloc, query)?;
+    let word = key(alloc, query, false, false)?;
     let mut hits = search(alloc, keeper, index, &word)?;
     keep_above(&mut hits, above);
     Ok(hits)

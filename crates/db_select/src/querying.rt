@@ -2,10 +2,14 @@
 #![tactic(auto)]
 
 ghost use Rattle.std.specs.Prelude.{◌≡◌, map};
-ghost use Rattle.std.specs.Char.{is_ascii_alphanumeric, to_ascii_lowercase};
+ghost use Rattle.std.specs.Char.{to_ascii_lowercase};
 ghost use Rattle.std.specs.List.{list_all, list_any};
+ghost use Rattle.std.specs.Str.{chars};
+ghost use Rattle.tx_chars.specs.Keys.{is_word};
 ghost use Rattle.ct_entry.specs.Keys.{same_list};
 ghost use Rattle.db_select.specs.Selecting.{is_word_query, reserved_words};
+
+use tx_chars::is_word;
 
 /// The words that are operators, functions or refused, in lower case.
 fn reserved() -> &'static [&'static str]
@@ -67,14 +71,14 @@ fn is_reserved(text: &str) -> bool
     is_among(text, reserved())
 }
 
-/// Whether there are ASCII letters and digits alone.
+/// Whether there are characters of words alone.
 fn is_plain(text: &str) -> bool
-    ensures { result ≡ list_all is_ascii_alphanumeric text.now }
+    ensures { result ≡ list_all is_word (chars text.now) }
 {
-    text.bytes().all(|b| b.is_ascii_alphanumeric())
+    text.chars().all(|c| is_word(c))
 }
 
-/// Whether a query text is one word of ASCII letters and digits that isn't reserved.
+/// Whether a query text is one word of letters, numbers and marks that isn't reserved.
 pub(crate) fn is_word_query(text: &str) -> bool
     ensures { result ≡ is_word_query text.now }
 {

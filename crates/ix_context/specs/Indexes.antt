@@ -13,6 +13,9 @@ use Rattle.ix_context.specs.declared.ranges.KeyRange.{KeyRange}
 use Rattle.ix_context.specs.Postings.{word_score}
 use Rattle.std.specs.Str.{chars}
 use lib.Utf8.{encode}
+use Rattle.ucd_category.proofs.Computing.{ucd_category}
+use Rattle.caseless.proofs.Computing.{caseless}
+use Rattle.tx_chars.specs.Keys.{key_text}
 use Rattle.std.proofs.Common.{ap, ◌∙◌}
 use Rattle.std.proofs.lemmas.Cmp.{int_cmp_total}
 use Rattle.ct_entry.specs.laws.Maps.{get-each_value}
@@ -127,11 +130,11 @@ only_as_high : if_above 2 (pos 7) 2 ≡ None
 only_as_high = refl
 
 twice : scored (codes "quick") 0 (pos 1) (Some (codes "quick fox, Quick.")) ≡ Some (pos 1, 2)
-unfolding encode chars
+unfolding encode chars caseless ucd_category key_text
 twice = refl
 
 nowhere : scored (codes "slow") 0 (pos 1) (Some (codes "quick fox")) ≡ None
-unfolding encode chars
+unfolding encode chars caseless ucd_category key_text
 nowhere = refl
 
 no_text : scored (codes "quick") 0 (pos 1) None ≡ None
@@ -149,7 +152,7 @@ three_rows = record { table = codes "docs"; column = 1; given = 2; marks = from_
 
 two_found : (ts : Tables) → text_seen ts three_rows (pos 1) ≡ Some (codes "a fox") → text_seen ts three_rows (pos 2) ≡ Some (codes "fox fox")
     → found ts three_rows (codes "fox") 0 ≡ (pos 1, 1) ∷ (pos 2, 2) ∷ []
-unfolding encode chars
+unfolding encode chars caseless ucd_category key_text
 two_found ts one two =
     ap (λ (es : List (ℤ × Mark)). filter_map (λ e. found_at ts three_rows (codes "fox") 0 e.0 e.1) es) (entries-from_sorted int_cmp three_marks tt)
     ∙ ap (λ (o : Option (List ℕ)). cons_option (scored (codes "fox") 0 (pos 1) o) (cons_option (scored (codes "fox") 0 (pos 2) (text_seen ts three_rows (pos 2))) [])) one

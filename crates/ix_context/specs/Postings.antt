@@ -6,6 +6,9 @@ use Rattle.std.specs.Ordering.{nat_cmp}
 use Rattle.std.specs.Cmp.Lexicographic.{slice_cmp}
 use Rattle.std.specs.FinMap.{FinMap, from_entries, entries}
 use lib.Utf8.{encode}
+use Rattle.ucd_category.proofs.Computing.{ucd_category}
+use Rattle.caseless.proofs.Computing.{caseless}
+use Rattle.tx_chars.specs.Keys.{key_text}
 use Rattle.tx_lexer.specs.declared.tokens.Token.{Token}
 use Rattle.tx_lexer.specs.Tokens.{tokens, default}
 use Rattle.ct_entry.specs.Keys.{same_list, IsToken}
@@ -57,18 +60,18 @@ if_short (Some text) = if nat_le (length text) (2 ^ 24) then Some text else None
 
 -- computed examples
 quick : positions (codes "quick") (codes "quick fox quick") ≡ 1 ∷ 3 ∷ []
-unfolding encode chars
+unfolding encode chars caseless ucd_category key_text
 quick = refl
 
 twice : word_score (codes "quick") (codes "quick fox, Quick.") ≡ 2
-unfolding encode chars
+unfolding encode chars caseless ucd_category key_text
 twice = refl
 
 nowhere : positions (codes "slow") (codes "quick fox") ≡ []
-unfolding encode chars
+unfolding encode chars caseless ucd_category key_text
 nowhere = refl
 
 -- each key once, in the order of the bytes
 pub fox_and_quick : entries (postings_of (codes "quick fox quick")) ≡ (codes "fox", 2 ∷ []) ∷ (codes "quick", 1 ∷ 3 ∷ []) ∷ []
-unfolding encode chars
+unfolding encode chars caseless ucd_category key_text
 fox_and_quick = entries_put _ (codes "quick") (1 ∷ 3 ∷ []) _ (entries_put _ (codes "fox") (2 ∷ []) _ (entries-insert_empty (codes "quick") (1 ∷ 3 ∷ [])))

@@ -10,7 +10,7 @@ use ct_base::Memory;
 use ix_posting::Positions;
 use std::alloc::Global;
 use tx_chars::Key;
-use tx_lexer::{Lexer, Token};
+use tx_lexer::{Lexer, LexerOptions, Token};
 
 /// Notes each token at its place, the first at position 1.
 fn note_all(alloc: Global, tokens: &[Token]) -> Result<Occurrences, Memory>
@@ -34,7 +34,8 @@ pub fn postings(alloc: Global, text: &str) -> Result<Vec<(Key, Positions)>, Memo
     requires { length text.now ≤ 2 ^ 24 }
     ensures listed { IfOk result (λ v. v.items ≡ entries (postings_of text.now)) }
 {
-    let tokens = Lexer::new().tokens(alloc, text)?;
+    let lexer = Lexer::new(LexerOptions::defaults(alloc)?);
+    let tokens = lexer.tokens(alloc, text)?;
     let found = note_all(alloc, &tokens)?;
     let list = found.into_list(alloc)?;
     Ok(list)

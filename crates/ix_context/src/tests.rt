@@ -99,7 +99,7 @@ fn say_hit(alloc: Global, line: &mut String, hit: Hit) -> Result<(), Memory> {
 
 /// The rows that have a word, each with its score.
 fn found(alloc: Global, keeper: &mut MemKeeper, index: &Name, word: &str) -> Result<String, Fail> {
-    let word = key(alloc, word)?;
+    let word = key(alloc, word, false, false)?;
     let hits = search(alloc, keeper, index, &word)?;
     let mut line = String::new(alloc);
     for hit in hits.iter() {

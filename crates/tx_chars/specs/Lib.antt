@@ -1,3 +1,4 @@
 pub mod Keys
-pub mod KeyLimit
+pub mod KeyLaws
 pub mod LongestPrefix
+pub mod laws

@@ -1,10 +1,10 @@
 -- A key is the longest prefix of its text, at a character boundary, that has room.
-use Rattle.std.proofs.Common.{◌≡◌, ◌<◌, ◌≤◌, ◌+◌, ◌-◌, ℕ, Bool, true, false, cond, leb, List, [], ◌∷◌, ◌++◌, length, map, refl, ap, ◌∙◌, arith, length-append, leb-true, leb-false}
-use Rattle.std.specs.Char.{to_ascii_lowercase, encode_utf8, len_utf8}
+use Rattle.std.proofs.Common.{◌≡◌, ◌<◌, ◌≤◌, ◌+◌, ◌-◌, ℕ, Bool, true, false, cond, leb, List, [], ◌∷◌, ◌++◌, length, refl, ap, ◌∙◌, arith, length-append, leb-true, leb-false}
+use Rattle.std.specs.Char.{encode_utf8, len_utf8}
 use Rattle.std.specs.Str.{encode_utf8_all}
 use Rattle.std.proofs.lemmas.Str.{length-encode}
-use Rattle.tx_chars.specs.Keys.{cut_at, key_of}
 use Rattle.ct_base.specs.Limits.{token_limit}
+use Rattle.tx_chars.specs.Keys.{cut_at, key_of, key_text}
 
 -- behind so many bytes the next character, if there is one, has no room
 abbrev pub HasNoRoom : ℕ → ℕ → List ℕ → Type 0
@@ -23,7 +23,7 @@ pub record IsLongestPrefix (room : ℕ) (text bytes : List ℕ) : Type 0 where
 -- ---- the law
 
 abbrev pub KeysAreLongestPrefixes : Type 0
-KeysAreLongestPrefixes = (text : List ℕ) → IsLongestPrefix token_limit (map to_ascii_lowercase text) (key_of text)
+KeysAreLongestPrefixes = (base_letter mixed_case : Bool) (text : List ℕ) → IsLongestPrefix token_limit (key_text base_letter mixed_case text) (key_of base_letter mixed_case text)
 
 -- ---- its proof
 
@@ -57,4 +57,4 @@ cut_is_longest room [] = record { prefix = []; rest = []; whole = refl; spelt = 
 cut_is_longest room (c ∷ cs) = cut_step (leb (len_utf8 c) room) room c cs (cut_at (room - len_utf8 c) cs) refl (cut_is_longest (room - len_utf8 c) cs)
 
 pub keys_are_longest : KeysAreLongestPrefixes
-keys_are_longest text = cut_is_longest 255 (map to_ascii_lowercase text)
+keys_are_longest base_letter mixed_case text = cut_is_longest token_limit (key_text base_letter mixed_case text)

@@ -3,6 +3,8 @@
 
 mod keying;
 mod keys;
+#[cfg(test)]
+mod tests;
 
-pub use keying::{is_digit, is_word, key};
+pub use keying::{is_digit, is_word, key, key_laws};
 pub use keys::Key;

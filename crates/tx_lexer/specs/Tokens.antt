@@ -4,7 +4,11 @@ use Rattle.std.specs.Bool.{if◌then◌else◌}
 use Rattle.std.specs.Char.{is_whitespace, len_utf8}
 use lib.Utf8.{encode}
 use Rattle.ct_base.specs.Characters.{first}
-use Rattle.tx_chars.specs.Keys.{is_word, is_digit, key_of}
+use Rattle.ucd_category.proofs.Computing.{ucd_category}
+use Rattle.caseless.proofs.Computing.{caseless}
+use Rattle.tx_chars.specs.Keys.{is_word, is_digit, key_of, key_text}
+use Rattle.tx_lexer.specs.CharSets.{has}
+use Rattle.tx_lexer.specs.declared.options.LexerOptions.{LexerOptions}
 use Rattle.tx_lexer.specs.declared.roles.Role.{Role}
 use Rattle.tx_lexer.specs.declared.roles.Role.TheVariants.{Out, Core, Number, Skip, Start, End}
 use Rattle.tx_lexer.specs.declared.tokens.Token.{Token}
@@ -104,25 +108,56 @@ tokens_after r role (p ∷ ps) =
 abbrev pub tokens : Rules → List ℕ → List Token
 tokens r text = tokens_after r Out (places r None 0 text)
 
--- The default rules: words of letters and digits; `.` and `,` between two digits join them; `.`, `?` and `!` close a sentence.
+-- ---- the rules that the options of a lexer say
+
+-- a character of words, or one of the printjoins
+abbrev pub is_core : LexerOptions → ℕ → Bool
+is_core o c = is_word c || has o.printjoins c
+
+-- whether there is a character, and of words
+abbrev pub is_core_at : LexerOptions → Option ℕ → Bool
+is_core_at o None = false
+is_core_at o (Some c) = is_core o c
+
+-- whether there is a character, and a decimal digit
 abbrev pub is_digit_at : Option ℕ → Bool
 is_digit_at None = false
 is_digit_at (Some c) = is_digit c
 
-abbrev pub joins_digits : ℕ → Bool
-joins_digits c = (c == 46) || (c == 44)
+-- whether it is this character
+abbrev pub is_this : Option ℕ → ℕ → Bool
+is_this None c = false
+is_this (Some d) c = d == c
 
-abbrev pub role_at : Option ℕ → ℕ → Option ℕ → Role
-role_at before c after =
-    if is_word c then Core
-    else (if joins_digits c && (is_digit_at before && is_digit_at after) then Number
-    else Out)
+-- the role of a character between its neighbours: the first that fits
+abbrev pub role_at : LexerOptions → Option ℕ → ℕ → Option ℕ → Role
+role_at o before c after =
+    if is_core o c then Core
+    else (if has o.skipjoins c && (is_core_at o before && is_core_at o after) then Skip
+    else (if (is_this o.numjoin c || is_this o.numgroup c) && (is_digit_at before && is_digit_at after) then Number
+    else (if has o.startjoins c && is_core_at o after then Start
+    else (if has o.endjoins c && is_core_at o before then End
+    else Out))))
 
-abbrev pub closes_sentence : ℕ → Bool
-closes_sentence c = (c == 46) || ((c == 63) || (c == 33))
+abbrev pub rules : LexerOptions → Rules
+rules o = record { role = role_at o; key = key_of o.base_letter o.mixed_case; closes = has o.punctuations }
+
+-- The default options: `.` and `,` between two digits join them; `.`, `?` and `!` close a sentence.
+abbrev pub default_options : LexerOptions
+default_options = record {
+  printjoins = [];
+  skipjoins = [];
+  startjoins = [];
+  endjoins = [];
+  punctuations = 33 ∷ 46 ∷ 63 ∷ [];
+  numjoin = Some 46;
+  numgroup = Some 44;
+  base_letter = false;
+  mixed_case = false;
+}
 
 abbrev pub default : Rules
-default = record { role = role_at; key = key_of; closes = closes_sentence }
+default = rules default_options
 
 -- The tokens stand in the order of the text and apart: each is not empty, and starts at `least` or behind the one before it; all end at `most` or before.
 abbrev pub AreInOrder : ℕ → ℕ → List Token → Type 0
@@ -135,40 +170,35 @@ web_site : tokens default (codes "Web-site, 1,000.50! Ok?")
     ∷ record { key = codes "site"; start = 4; end = 8; ends_sentence = false; ends_paragraph = false }
     ∷ record { key = codes "1,000.50"; start = 10; end = 18; ends_sentence = true; ends_paragraph = false }
     ∷ record { key = codes "ok"; start = 20; end = 22; ends_sentence = true; ends_paragraph = false } ∷ []
-unfolding encode
+unfolding encode caseless ucd_category key_text
 web_site = refl
 
 -- a mark that is followed by a letter closes nothing; a newline and a blank behind the mark end a paragraph; a number keeps no mark at its end
 marks : map {B = ℕ × Bool × Bool} (λ (t : Token). (t.start, t.ends_sentence, t.ends_paragraph)) (tokens default (codes "a.b c.\n d. 1,"))
     ≡ (0, false, false) ∷ (2, false, false) ∷ (4, true, true) ∷ (8, true, false) ∷ (11, false, false) ∷ []
-unfolding encode
+unfolding encode caseless ucd_category key_text
 marks = refl
 
--- rules by which `-` stands inside a word without being part of its key
-abbrev is_word_at : Option ℕ → Bool
-is_word_at None = false
-is_word_at (Some c) = is_word c
+-- `É` takes two bytes; `€` is no character of words
+abbrev spans : LexerOptions → List ℕ → List (List ℕ × ℕ × ℕ)
+spans o text = map {B = List ℕ × ℕ × ℕ} (λ (t : Token). (t.key, t.start, t.end)) (tokens (rules o) text)
 
-abbrev skipping_role : Option ℕ → ℕ → Option ℕ → Role
-skipping_role before c after = if (c == 45) && (is_word_at before && is_word_at after) then Skip else role_at before c after
+cafes : spans default_options (codes "CAFÉ€9") ≡ (codes "caf" ++ 0xC3 ∷ 0xA9 ∷ [], 0, 5) ∷ (codes "9", 8, 9) ∷ []
+unfolding encode caseless ucd_category key_text
+cafes = refl
 
-abbrev skipping : Rules
-skipping = record { role = skipping_role; key = key_of; closes = closes_sentence }
-
-website : tokens skipping (codes "Web-site, 1,000.50!")
-    ≡ record { key = codes "website"; start = 0; end = 8; ends_sentence = false; ends_paragraph = false }
-    ∷ record { key = codes "1,000.50"; start = 10; end = 18; ends_sentence = true; ends_paragraph = false } ∷ []
-unfolding encode
+-- `-` inside a word without being part of its key
+website : spans (record default_options { skipjoins = codes "-" }) (codes "Web-site, 1,000.50!") ≡ (codes "website", 0, 8) ∷ (codes "1,000.50", 10, 18) ∷ []
+unfolding encode caseless ucd_category key_text
 website = refl
 
--- rules by which `#` before a word begins a token, and `+` behind one ends it
-abbrev framing_role : Option ℕ → ℕ → Option ℕ → Role
-framing_role before c after = if (c == 35) && is_word_at after then Start else (if (c == 43) && is_word_at before then End else role_at before c after)
-
-abbrev framing : Rules
-framing = record { role = framing_role; key = key_of; closes = closes_sentence }
-
-framed : map {B = List ℕ × ℕ × ℕ} (λ (t : Token). (t.key, t.start, t.end)) (tokens framing (codes "a#b+c # +"))
-    ≡ (codes "a", 0, 1) ∷ (codes "#b+", 1, 4) ∷ (codes "c", 4, 5) ∷ []
-unfolding encode
+-- `#` before a word begins a token, and `+` behind one ends it; `_` stands in words
+framed : spans (record default_options { startjoins = codes "#"; endjoins = codes "+"; printjoins = codes "_"; mixed_case = true }) (codes "a#B_+c # +")
+    ≡ (codes "a", 0, 1) ∷ (codes "#B_+", 1, 5) ∷ (codes "c", 5, 6) ∷ []
+unfolding encode caseless ucd_category key_text
 framed = refl
+
+-- a mark by itself is no token where keys have the base letters alone
+marks_alone : spans (record default_options { base_letter = true }) (0x301 ∷ 0x20 ∷ 0xE9 ∷ []) ≡ (codes "e", 3, 5) ∷ []
+unfolding encode caseless ucd_category key_text
+marks_alone = refl

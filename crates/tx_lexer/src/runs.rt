@@ -3,9 +3,10 @@
 ghost use Rattle.std.specs.Prelude.{◌≡◌, [], ◌++◌, OnOk};
 ghost use Rattle.std.specs.Str.{chars};
 ghost use Rattle.std.specs.String.{string_bytes};
-ghost use Rattle.tx_lexer.specs.Tokens.{default, own, token};
+ghost use Rattle.tx_lexer.specs.Tokens.{own, rules, token};
 
 use crate::endings::{ends_paragraph, ends_sentence};
+use crate::options::LexerOptions;
 use crate::roles::Role;
 use crate::tokens::Token;
 use ct_base::{Memory, push_char};
@@ -65,17 +66,23 @@ impl Run {
     pub(crate) fn put(
         &self,
         alloc: Global,
+        options: &LexerOptions,
         tokens: &mut Vec<Token>,
         end: u32,
         after: &str,
     ) -> Result<(), Memory>
         ensures { let text = chars (string_bytes self.now.text) in OnOk result (tokens.new.items
-            ≡ tokens.old.items ++ token default self.now.role text self.now.start end (chars after.now)) }
+            ≡ tokens.old.items ++ token (rules options.now) self.now.role text self.now.start end (chars after.now)) }
     {
         if self.role == Role::Out {
             return Ok(());
         }
-        let key = key(alloc, self.text.as_str())?;
+        let key = key(
+            alloc,
+            self.text.as_str(),
+            options.base_letter,
+            options.mixed_case,
+        )?;
         if key.as_slice().is_empty() {
             return Ok(());
         }
@@ -83,8 +90,8 @@ impl Run {
             key,
             start: self.start,
             end,
-            ends_sentence: ends_sentence(after),
-            ends_paragraph: ends_paragraph(after),
+            ends_sentence: ends_sentence(options, after),
+            ends_paragraph: ends_paragraph(options, after),
         })?;
         Ok(())
     }

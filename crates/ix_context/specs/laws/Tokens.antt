@@ -10,7 +10,7 @@ use Rattle.std.proofs.lemmas.Cmp.{nat_list_cmp_total}
 use Rattle.ct_entry.specs.Keys.{same_list, IsToken}
 use Rattle.ct_entry.specs.laws.Keys.{list_from_same}
 use Rattle.ct_keep.specs.FoundKeys.{all_entries}
-use Rattle.tx_chars.specs.KeyLimit.{limit as key_limit}
+use Rattle.tx_chars.specs.laws.KeyLimit.{limit as key_limit}
 use Rattle.tx_lexer.specs.declared.tokens.Token.{Token}
 use Rattle.tx_lexer.specs.Tokens.{tokens, default}
 use Rattle.tx_lexer.specs.TokenKeys.{some_keys, limit}
@@ -34,7 +34,7 @@ keys_are_tokens (t ∷ ts) some short = (
 )
 
 pub words_are_tokens : (text : List ℕ) → AllTokens (words_of text)
-words_are_tokens text = keys_are_tokens (tokens default (chars text)) (some_keys default (chars text)) (limit default 255 key_limit (chars text))
+words_are_tokens text = keys_are_tokens (tokens default (chars text)) (some_keys default (chars text)) (limit default 255 (key_limit false false) (chars text))
 
 found_is_token : (key : List ℕ) (place : ℕ) (ws : List (List ℕ)) → AllTokens ws → (p : ℕ) (ps : List ℕ) → positions_from place key ws ≡ p ∷ ps → IsToken key
 found_is_token key place [] all p ps is = cc

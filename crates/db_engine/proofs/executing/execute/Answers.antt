@@ -1,9 +1,7 @@
-use Rattle.std.proofs.Common.{Err, ap, ◌≡◌, ℕ, List, Ok, refl, ◌∙◌}
+use Rattle.std.proofs.Common.{Err, ap, Ok, refl, ◌∙◌}
 use Rattle.db_engine.proofs.Answering.{answers_full, answers_memory, answers_step, rose}
 use Rattle.db_state.specs.laws.Returning.{kept_full, kept_memory, looks_none, returns_some, reads_memory}
-use Rattle.ct_base.specs.Causes.{Rose}
 use Rattle.ct_keep.specs.declared.keepers.KeepFault.TheVariants.{Memory, Disk, Full as NoRoom}
-use Rattle.db_cond.specs.Faults.{store_full}
 use Rattle.db_engine.specs.Executing.{done_line}
 use Rattle.db_engine.proofs.Telling.{tells_text, text_not_full}
 use Rattle.db_engine.proofs.executing.execute.Goals as goal

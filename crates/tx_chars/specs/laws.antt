@@ -1,0 +1,3 @@
+pub mod AsciiKeys
+pub mod KeyLimit
+pub mod ScalarKeys
