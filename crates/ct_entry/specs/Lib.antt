@@ -1,6 +1,8 @@
 pub mod Kinds
 pub mod Keys
 pub mod Changes
+pub mod Shapes
+pub mod KeyParts
 pub mod Each
 pub mod Maps
 pub mod Listings

@@ -3,6 +3,8 @@ pub mod Changes
 pub mod Each
 pub mod Parts
 pub mod Well
+pub mod Shapes
+pub mod KeyParts
 pub mod Maps
 pub mod MapChanges
 pub mod Listings

@@ -2,6 +2,30 @@
 
 ghost use Rattle.std.specs.Prelude.{◌≡◌};
 ghost use Rattle.ct_entry.specs.Kinds.{code};
+ghost use Rattle.ct_entry.specs.KeyParts.{SpellsKind};
+
+/// Every kind.
+const KINDS: [Kind; 19] = [
+    Kind::Tables,
+    Kind::RowNumbers,
+    Kind::RowTexts,
+    Kind::Preferences,
+    Kind::Stoplists,
+    Kind::SectionGroups,
+    Kind::IndexSets,
+    Kind::Thesauri,
+    Kind::Relations,
+    Kind::Indexes,
+    Kind::DocumentRows,
+    Kind::RowDocuments,
+    Kind::Pending,
+    Kind::Postings,
+    Kind::Spans,
+    Kind::Catalogue,
+    Kind::Rules,
+    Kind::Anchors,
+    Kind::RuleFaults,
+];
 
 /// The kind of an entry. Each key begins with the byte of its kind.
 #[derive(Clone, Copy, Debug, PartialEq, Eq)]
@@ -68,5 +92,17 @@ impl Kind {
             Kind::Anchors => 0x2b,
             Kind::RuleFaults => 0x2c,
         }
+    }
+
+    /// The kind whose keys begin with this byte.
+    pub fn of_code(code: u8) -> Option<Kind>
+        ensures { SpellsKind code result }
+    {
+        for kind in KINDS {
+            if kind.code() == code {
+                return Some(kind);
+            }
+        }
+        None
     }
 }

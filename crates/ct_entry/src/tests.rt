@@ -6,8 +6,8 @@ ghost use Rattle.ct_keep.specs.Changes.{AnyEntry, AreWell};
 ghost use Rattle.ct_keep.specs.KeeperViews.{AcceptsChanges};
 
 use crate::{
-    Kind, entries_of, fetch_entry, has_entry, key_bytes, next_row_key, owners, put_entry,
-    remove_entry, row_keys,
+    Kind, entries_of, fetch_entry, has_entry, is_row_part, key_bytes, key_parts, next_row_key,
+    owners, put_entry, remove_entry, row_keys,
 };
 use ct_base::{Memory, Name, RowKey};
 use ct_bytes::row_key_bytes;
@@ -194,5 +194,58 @@ fn the_owners_of_a_kind(rt: HostRuntime) -> Result<(), Fail> {
         all.push_str(" ")?;
     }
     assert_eq!(rt; all.as_str(), "ab zoo docs ");
+    Ok(())
+}
+
+/// Bytes of keys: the kind, the owner and the rest that they spell.
+const KEYS: &[(&[u8], Kind, &[u8], &[u8])] = &[
+    (b"\x01\x04docs", Kind::Tables, b"docs", b""),
+    (b"\x03\x01t\x01\x80\0", Kind::RowTexts, b"t", b"\x01\x80\0"),
+    (
+        b"\x28\x02di\x00\x03fox",
+        Kind::Catalogue,
+        b"di",
+        b"\x00\x03fox",
+    ),
+    (b"\x2c\x01tail", Kind::RuleFaults, b"t", b"ail"),
+];
+
+/// Bytes that spell no key: too few, kinds that there aren't, and owners that are no names.
+const NO_KEYS: &[&[u8]] = &[
+    b"",
+    b"\x01",
+    b"\x00\x01t",
+    b"\x26\x01t",
+    b"\x2d\x01t",
+    b"\x01\x00t",
+    b"\x01\x02t",
+    b"\x01\x01T",
+    b"\x01\x01\xff",
+];
+
+fn has_parts(
+    alloc: Global,
+    bytes: &[u8],
+    kind: Kind,
+    owner: &[u8],
+    part: &[u8],
+) -> Result<bool, Memory> {
+    match key_parts(alloc, bytes)? {
+        Some(found) => Ok(found.0 == kind && found.1 == owner && found.2 == part),
+        None => Ok(false),
+    }
+}
+
+#[test]
+fn the_parts_of_keys(rt: HostRuntime) -> Result<(), Fail> {
+    for (bytes, kind, owner, part) in KEYS {
+        assert!(rt; has_parts(rt.alloc(), bytes, *kind, owner, part)?);
+    }
+    for bytes in NO_KEYS {
+        assert!(rt; key_parts(rt.alloc(), bytes)?.is_none());
+    }
+    assert!(rt; is_row_part(b"12345678"));
+    assert!(rt; !is_row_part(b"1234567"));
+    assert!(rt; !is_row_part(b"123456789"));
     Ok(())
 }

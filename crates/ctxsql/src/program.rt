@@ -4,9 +4,8 @@ ghost use Rattle.std.specs.Prelude.{◌≡◌, ◌↔◌, ◌⊎◌, ℕ, List, 
 ghost use Rattle.std.specs.Process.{exit_status};
 ghost use Rattle.std.specs.String.{string_bytes};
 ghost use Rattle.std_io.specs.IoError.{error_kind};
-ghost use Rattle.pg_keeper.specs.Loading.{HasNothingPending};
 ghost use Rattle.db_arguments.specs.Arguments.{AsksFor, AskForNothing};
-ghost use Rattle.db_console.specs.Stores.{RefusesBy, RunsBy, SiteFaultsBy};
+ghost use Rattle.db_console.specs.Stores.{RefusesBy, RunsBy, SiteFaultsBy, TellsBy};
 ghost use Rattle.ctxsql.specs.Program.{status_without};
 
 use ct_site::Site;
@@ -81,8 +80,6 @@ fn run_with<R: Threads + Sync, S: Site>(
     arguments: &io::Result<Vec<String>>,
     site: &mut S,
 ) -> u8
-    requires { HasNothingPending (S.disk site.old) }
-
     // the arguments
     ensures without { IfErr arguments.now (λ error. (result ≡ status_without (error_kind error)) × (site.new ≡ site.old)) }
     ensures form { IfOk arguments.now (λ arguments. (result ≡ 2) ↔ AskForNothing (map string_bytes arguments.items)) }
@@ -91,6 +88,7 @@ fn run_with<R: Threads + Sync, S: Site>(
     // the table of statuses, from the state that the store stands for; and a file that is no store is refused
     ensures table { IfOk arguments.now (λ arguments. RunsBy (map string_bytes arguments.items) (S.disk site.old) (S.disk site.new) result) }
     ensures foreign { IfOk arguments.now (λ arguments. RefusesBy (map string_bytes arguments.items) (S.disk site.old) (S.disk site.new) result) }
+    ensures stores { IfOk arguments.now (λ _. (result ≡ 2 → ⊥) → TellsBy (S.disk site.old) result) }
 
     // causes
     ensures faults { SiteFaultsBy result (S.disk site.old) (S.disk site.new) }
@@ -102,14 +100,12 @@ fn run_with<R: Threads + Sync, S: Site>(
     }
 }
 
-/// Does the work of the program over a site on whose disk nothing is pending, by the arguments of the command.
+/// Does the work of the program over a site, by the arguments of the command.
 pub fn work<R: Threads + Sync + AllocGlobal, S: Site>(
     rt: &R,
     arguments: &io::Result<Vec<String>>,
     site: &mut S,
 ) -> Ended
-    requires { HasNothingPending (S.disk site.old) }
-
     // the arguments
     ensures without { IfErr arguments.now (λ error. (result.status ≡ status_without (error_kind error)) × (site.new ≡ site.old)) }
     ensures form { IfOk arguments.now (λ arguments. (result.status ≡ 2) ↔ AskForNothing (map string_bytes arguments.items)) }
@@ -118,6 +114,7 @@ pub fn work<R: Threads + Sync + AllocGlobal, S: Site>(
     // the table of statuses, from the state that the store stands for; and a file that is no store is refused
     ensures table { IfOk arguments.now (λ arguments. RunsBy (map string_bytes arguments.items) (S.disk site.old) (S.disk site.new) result.status) }
     ensures foreign { IfOk arguments.now (λ arguments. RefusesBy (map string_bytes arguments.items) (S.disk site.old) (S.disk site.new) result.status) }
+    ensures stores { IfOk arguments.now (λ _. (result.status ≡ 2 → ⊥) → TellsBy (S.disk site.old) result.status) }
 
     // causes
     ensures faults { SiteFaultsBy result.status (S.disk site.old) (S.disk site.new) }

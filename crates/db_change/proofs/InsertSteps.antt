@@ -1,9 +1,8 @@
 -- What the checks of an INSERT leave of its effect.
-use Rattle.std.proofs.Common.{◌≡◌, ℕ, ℤ, ◌<◌, ◌≤◌, Bool, true, false, List, [], length, Option, Some, None, refl, sym, ap, ◌∙◌, arith, inl, inr}
-use Rattle.std.specs.Prelude.{nat_le, not, IsTrue, ◌↔◌, ◌⊎◌}
+use Rattle.std.proofs.Common.{◌≡◌, ℕ, ℤ, Bool, true, false, List, [], length, Option, Some, None, refl, sym, ap, ◌∙◌}
+use Rattle.std.specs.Prelude.{nat_le, not}
 use Rattle.std.specs.List.{list_any}
 use Rattle.std.specs.FinMap.{get, entries}
-use Rattle.std.proofs.lemmas.Bool.{lt-leb, le-leb, cases_lt, false≢true}
 use Rattle.ct_base.specs.Limits.{row_limit}
 use Rattle.st_parse.specs.declared.statements.Operand.{Operand}
 use Rattle.tb_table.specs.declared.columns.Column.{Column}

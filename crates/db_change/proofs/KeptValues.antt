@@ -139,13 +139,13 @@ others_fit x values r free numbers texts = go x.columns values free.sorts free.s
     go (c ∷ cs) (v ∷ vs) sorts short within numbers texts =
         fit_columns cs vs (and_parts (is_of_sort c.sort v) (are_of_sorts cs vs) sorts).1 (or_false (is_too_long c.sort v) (has_too_long cs vs) short).1 (or_false (is_beyond_range v) (list_any is_beyond_range vs) within).1 numbers texts
 
-sorts_length : (cs : List Column) (vs : List Operand) → are_of_sorts cs vs ≡ true → length vs ≡ length cs
+pub sorts_length : (cs : List Column) (vs : List Operand) → are_of_sorts cs vs ≡ true → length vs ≡ length cs
 sorts_length [] [] sorts = refl
 sorts_length [] (v ∷ vs) sorts = cc
 sorts_length (c ∷ cs) [] sorts = cc
 sorts_length (c ∷ cs) (v ∷ vs) sorts = ap suc (sorts_length cs vs (and_parts (is_of_sort c.sort v) (are_of_sorts cs vs) sorts).1)
 
-behind_length : (vs : List Operand) → length (behind_key vs) ≤ length vs
+pub behind_length : (vs : List Operand) → length (behind_key vs) ≤ length vs
 behind_length [] = omega arith
 behind_length (v ∷ vs) = omega arith
 

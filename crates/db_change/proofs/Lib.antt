@@ -4,3 +4,4 @@ pub mod NewValues
 pub mod NoteSteps
 pub mod RowSteps
 pub mod TableSteps
+pub mod ShapeSteps

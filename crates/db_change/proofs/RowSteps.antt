@@ -1,5 +1,5 @@
 -- The changes of a row that has passed the checks.
-use Rattle.std.proofs.Common.{◌≡◌, ℕ, ℤ, ◌≤◌, true, List, ◌++◌, length, map, Option, Some, sym, ap, subst, ◌∙◌}
+use Rattle.std.proofs.Common.{◌≡◌, ℕ, ℤ, ◌≤◌, List, ◌++◌, length, map, Option, Some, sym, ap, subst, ◌∙◌}
 use Rattle.std.specs.List.{All}
 use Rattle.std.specs.FinMap.{get, entries}
 use Rattle.std.proofs.lemmas.Bool.{leb-false}
@@ -16,11 +16,10 @@ use Rattle.db_names.specs.Findings.{AreIndexesOf}
 use Rattle.db_names.specs.Promises.{heads_of}
 use Rattle.db_names.specs.laws.Heads.{indexes_of_read}
 use Rattle.db_state.specs.States.{State, Stands}
-use Rattle.db_state.specs.Committing.{are_bounded}
 use Rattle.db_change.specs.Inserting.{behind_key, kept_value, others_kept, note_all_changes, with_new_row, IsFreeRow, IsNumberKept, IsTextKept}
 use Rattle.db_state.specs.laws.Heads.{heads, heads_stand}
 use Rattle.db_change.proofs.KeptValues.{others_fit, few_others}
-use Rattle.db_change.specs.laws.NewRows.{names_on, new_row_changes, new_row_changes_bounded, new_row_stands}
+use Rattle.db_change.specs.laws.NewRows.{names_on, new_row_changes, new_row_stands}
 
 module _ (c : Content) (m : State) (t : List ℕ) (x : Table) (r : ℤ) (values vs : List Operand) (stands : Stands c m) (here : get m.tables t ≡ Some x) (free : IsFreeRow x values r) (row : IsRow r)
     (behind : vs ≡ behind_key values) (numbers : All IsNumberKept vs) (texts : All IsTextKept vs) (shown found : List (List ℕ × IndexHead)) (same : shown ≡ found) (are : AreIndexesOf (at c) t found)
@@ -40,11 +39,6 @@ module _ (c : Content) (m : State) (t : List ℕ) (x : Table) (r : ℤ) (values 
       ∙ ap (λ (us : List Operand). spell (insert_changes t r (numbers_of (map kept_value us)) (texts_of (map kept_value us))) ++ spell (note_all_changes (map (λ e. e.0) found) r)) behind
       ∙ ap (λ (es : List (List ℕ × IndexHead)). spell (insert_changes t r (numbers_of (others_kept values)) (texts_of (others_kept values))) ++ spell (note_all_changes (map (λ e. e.0) es) r)) names_found
       ∙ sym (spell-append (insert_changes t r (numbers_of (others_kept values)) (texts_of (others_kept values))) (note_all_changes (names_on m.indexes t) r))
-
-  pub batch_bounded : are_bounded batch ≡ true
-  batch_bounded =
-      ap are_bounded batch_is
-      ∙ new_row_changes_bounded m t x r (others_kept values) here stands.state row (others_fit x values r free (subst (All IsNumberKept) behind numbers) (subst (All IsTextKept) behind texts))
 
   pub batch_stands : Stands (after batch c) (with_new_row m t r (others_kept values))
   batch_stands =

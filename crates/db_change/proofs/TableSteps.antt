@@ -4,22 +4,17 @@ use Rattle.std.specs.Prelude.{◌&&◌, not, nat_le, is_some, All}
 use Rattle.std.specs.FinMap.{get, entries}
 use Rattle.ct_base.specs.Names.{IsName}
 use Rattle.ct_keep.specs.Content.{Content, after}
-use Rattle.ct_entry.specs.Keys.{bytes}
 use Rattle.ct_entry.specs.Changes.{spell}
 use Rattle.tb_table.specs.declared.columns.Column.{Column}
 use Rattle.tb_table.specs.Spelling.{table_changes}
 use Rattle.ct_base.specs.Limits.{table_limit}
-use Rattle.ct_keep.specs.Changes.{AnyEntry}
-use Rattle.tb_table.specs.laws.Well.{TakesTables, well_create}
 use Rattle.st_parse.specs.declared.statements.ColumnText.{ColumnText}
 use Rattle.db_state.specs.Effects.{Does}
 use Rattle.db_change.specs.Creating.{is_key_first, names_differ, all_sized, column_of, IsFreeTable, with_new_table, check_table, create_table, table_created}
 use Rattle.db_state.specs.States.{State, Stands}
-use Rattle.db_state.specs.Committing.{are_bounded}
 use Rattle.db_state.specs.laws.Chains.{passed}
-use Rattle.db_state.specs.laws.Bounded.{bounded_well}
 use Rattle.std.proofs.lemmas.List.Elements.{All-head, All-tail}
-use Rattle.db_change.specs.laws.NewTables.{AllNamed, columns_pass, created_table_stands}
+use Rattle.db_change.specs.laws.NewTables.{AllNamed, created_table_stands}
 
 -- the columns of the batch have names
 pub all_named : (cs : List ColumnText) → All (λ (k : Column). IsName k.name) (map column_of cs) → AllNamed cs
@@ -39,14 +34,6 @@ table_free m t cs n reply is =
     not_false true h = refl
     not_false false h = cc
 
--- ---- the commit takes the changes
-
-takes_all : (well : List ℕ → List ℕ → Type 0) → ((key value : List ℕ) → well key value) → TakesTables well
-takes_all well takes = λ k value of. takes (bytes k) value
-
-pub table_bounded : (m : State) (t : List ℕ) (cs : List ColumnText) → IsName t → AllNamed cs → IsFreeTable m t cs → are_bounded (spell (table_changes t (map column_of cs))) ≡ true
-table_bounded m t cs name named free = bounded_well AnyEntry (spell (table_changes t (map column_of cs))) (well_create AnyEntry t (map column_of cs) (takes_all AnyEntry (λ key value. tt)) name (columns_pass m t cs named free))
-
 -- the statement by what was read of the state
 pub table_read : (m : State) (t : List ℕ) (cs : List ColumnText) (there many : Bool) → there ≡ is_some (get m.tables t) → many ≡ nat_le table_limit (length (entries m.tables)) → create_table m t cs ≡ check_table there many t cs (Does (with_new_table m t cs) table_created)
 table_read m t cs there many is most = ap (λ (b : Bool). check_table b (nat_le table_limit (length (entries m.tables))) t cs (Does (with_new_table m t cs) table_created)) (sym is) ∙ ap (λ (b : Bool). check_table there b t cs (Does (with_new_table m t cs) table_created)) (sym most)
@@ -54,12 +41,11 @@ table_read m t cs there many is most = ap (λ (b : Bool). check_table b (nat_le 
 -- the batch of a table that no check refuses
 pub table_made : (m : State) (k : Content) (t : List ℕ) (cs : List ColumnText) (batch : List (List ℕ × Option (List ℕ))) → Stands k m → IsName t
     → (all_sized cs ≡ true → batch ≡ spell (table_changes t (map column_of cs))) → (all_sized cs ≡ true → All (λ (x : Column). IsName x.name) (map column_of cs)) → create_table m t cs ≡ Does (with_new_table m t cs) table_created
-    → (n : State) × (create_table m t cs ≡ Does n table_created) × (are_bounded batch ≡ true) × Stands (after batch k) n
+    → (n : State) × (create_table m t cs ≡ Does n table_created) × Stands (after batch k) n
 table_made m k t cs batch stands name changes named is =
     let free = table_free m t cs _ _ is in
     let named = all_named cs (named free.sized) in (
       with_new_table m t cs,
       is,
-      ap are_bounded (changes free.sized) ∙ table_bounded m t cs name named free,
       subst (λ (b : List (List ℕ × Option (List ℕ))). Stands (after b k) (with_new_table m t cs)) (sym (changes free.sized)) (created_table_stands k m t cs stands name named free),
     )

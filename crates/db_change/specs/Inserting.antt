@@ -1,5 +1,5 @@
 -- What INSERT does.
-use Rattle.std.specs.Prelude.{◌≡◌, Result, IfOk, ℕ, ℤ, pos, ◌==◌, nat_le, nat_lt, Bool, true, false, not, ◌||◌, ◌&&◌, is_some, List, [], ◌∷◌, length, map, Option, Some, None, codes, FitsSigned, refl}
+use Rattle.std.specs.Prelude.{◌≡◌, Result, IfOk, ℕ, ℤ, pos, ◌≤◌, ◌==◌, nat_le, nat_lt, Bool, true, false, not, ◌||◌, ◌&&◌, is_some, List, [], ◌∷◌, length, map, Option, Some, None, codes, FitsSigned, refl}
 use Rattle.std.specs.Int.{w64}
 use Rattle.std.specs.Str.{IsUtf8}
 use Rattle.std.specs.Bool.{if◌then◌else◌}
@@ -15,6 +15,7 @@ use Rattle.st_parse.specs.declared.statements.Whole.TheVariants.{Fits, Beyond}
 use Rattle.tb_table.specs.declared.columns.Sort.{Sort}
 use Rattle.tb_table.specs.declared.columns.Sort.TheVariants.{Number as NumberSort, Varchar2, Clob}
 use Rattle.tb_table.specs.declared.columns.Column.{Column}
+use Rattle.tb_table.specs.Shapes.{text_entry_limit}
 use Rattle.tb_table.specs.Tables.{Table, numbers_of, texts_of, with_row}
 use Rattle.ct_base.specs.Limits.{row_limit, text_limit}
 use Rattle.ix_context.specs.Indexes.{noted_on}
@@ -23,7 +24,6 @@ use Rattle.db_cond.specs.Faults.{UnknownName, WrongValues, KeyExists, ValueTooLo
 use Rattle.ct_keep.specs.declared.keepers.KeepFault.{KeepFault}
 use Rattle.ct_keep.specs.Content.{Content, after}
 use Rattle.tb_table.specs.Spelling.{insert_changes}
-use Rattle.db_state.specs.Committing.{are_bounded}
 use Rattle.db_state.specs.declared.plans.Plan.{Plan}
 use Rattle.db_state.specs.Plans.{IsPlan}
 use Rattle.db_state.specs.States.{State, Stands}
@@ -131,6 +131,11 @@ abbrev pub IsTextKept : Operand → Type 0
 IsTextKept (Text text) = IsUtf8 text
 IsTextKept (Number n) = Unit {0}
 
+-- a text is one that an entry may have
+abbrev pub IsShortValue : Operand → Type 0
+IsShortValue (Text text) = length text ≤ text_entry_limit
+IsShortValue (Number n) = Unit {0}
+
 -- the changes that a row waits in each of these indexes
 abbrev pub note_all_changes : List (List ℕ) → ℤ → List (Key × Option (List ℕ))
 note_all_changes names r = each (λ i. note_insert_changes i r) names
@@ -194,7 +199,7 @@ row_changes t r values = insert_changes t r (numbers_of (map kept_value values))
 
 -- a batch that makes of the content one that stands for the state with the new row
 abbrev pub MakesRow : State → Content → List ℕ → ℤ → List Operand → List (List ℕ × Option (List ℕ)) → Type 0
-MakesRow m c t r values batch = (are_bounded batch ≡ true) × Stands (after batch c) (with_new_row m t r (others_kept values))
+MakesRow m c t r values batch = Stands (after batch c) (with_new_row m t r (others_kept values))
 
 -- what the statement comes to in a table with these columns
 abbrev pub PlansRow : State → Content → Table → List ℕ → List Column → List Operand → Result Plan KeepFault → Type 0

@@ -5,15 +5,18 @@ ghost use Rattle.std.specs.Prelude.{All, ◌≡◌, ◌≤◌, IfOk, Some, None,
 ghost use Rattle.std.specs.List.{list_any, list_all};
 ghost use Rattle.std.specs.Option.{unwrap_or};
 ghost use Rattle.ct_base.specs.Names.{IsName};
-ghost use Rattle.ct_keep.specs.KeeperViews.{AcceptsChanges, OnlyReads};
+ghost use Rattle.ct_keep.specs.KeeperViews.{OnlyReads};
 ghost use Rattle.ct_entry.specs.Keys.{same_list};
 ghost use Rattle.ct_entry.specs.Changes.{spell};
+ghost use Rattle.ct_entry.specs.Shapes.{AreShaped};
+ghost use Rattle.tb_table.specs.Shapes.{HasTableValue};
 ghost use Rattle.st_parse.specs.declared.statements.ColumnText.{ColumnText};
 ghost use Rattle.tb_table.specs.Spelling.{table_changes};
 ghost use Rattle.tb_table.specs.declared.columns.Column.{Column};
 ghost use Rattle.db_state.specs.Effects.{Effect, as_count, Checks};
 ghost use Rattle.db_change.specs.Creating.{names_differ as columns_apart, check_table, column_of, all_sized, is_size, create_table as create_table_effect, is_key_first as key_first, is_number as sort_is_number, is_sized as sort_sized, sort_of, table_created};
-ghost use Rattle.db_state.specs.Plans.{Plans, Replies};
+ghost use Rattle.db_state.specs.Plans.{IsStorePlan, Plans, Replies};
+ghost use Rattle.db_state.specs.Shapes.{AcceptsStatements};
 
 use ct_base::{COLUMN_LIMIT, Memory, Name, TEXT_LIMIT};
 use ct_keep::{Batch, KeepFault, Keeper};
@@ -170,6 +173,7 @@ fn table_batch(alloc: Global, table: &Name, columns: &[ColumnText]) -> Result<Ba
     requires { length columns.now ≤ 16 }
     ensures changes { IfOk result (λ batch. all_sized columns.now ≡ true → batch ≡ spell (table_changes table.now (map column_of columns.now))) }
     ensures named { IfOk result (λ batch. all_sized columns.now ≡ true → All (λ (k : Column). IsName k.name) (map column_of columns.now)) }
+    ensures shaped { IfOk result (λ batch. AreShaped HasTableValue batch) }
 {
     let columns = kept_columns(alloc, columns)?;
     let mut batch = Batch::new(alloc);
@@ -186,6 +190,7 @@ fn table_plan<'a, K: Keeper>(
 ) -> Result<Plan<'a>, KeepFault>
     requires { (K.view keeper.old).ready }
     ensures plan { Plans K.view keeper.old result (λ m. create_table_effect m table.now columns.now) table_created }
+    ensures entries { IfOk result IsStorePlan }
     ensures reads { OnlyReads K.view keeper.old keeper.new result }
 {
     let there = has_table(alloc, keeper, table)?;
@@ -205,7 +210,7 @@ pub fn create_table<K: Keeper>(
     table: &Name,
     columns: &[ColumnText],
 ) -> Result<Vec<u8>, KeepFault>
-    requires { AcceptsChanges (K.view keeper.old) }
+    requires { AcceptsStatements (K.view keeper.old) }
     ensures { Replies K.view keeper.old keeper.new result (λ m. create_table_effect m table.now columns.now) (Some table_created) }
 {
     match table_plan(alloc, keeper, table, columns) {

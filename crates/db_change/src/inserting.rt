@@ -5,19 +5,23 @@ ghost use Rattle.std.specs.Prelude.{◌≡◌, ◌≤◌, ◌<◌, ◌+◌, ◌+
 ghost use Rattle.std.specs.List.{list_any, list_all, filter_map, All};
 ghost use Rattle.std.specs.Option.{option_map};
 ghost use Rattle.std.specs.FinMap.{get, entries};
-ghost use Rattle.ct_base.specs.Limits.{row_limit};
-ghost use Rattle.ct_keep.specs.KeeperViews.{AcceptsChanges, OnlyReads};
+ghost use Rattle.ct_base.specs.Limits.{column_limit, row_limit};
+ghost use Rattle.ct_keep.specs.KeeperViews.{OnlyReads};
 ghost use Rattle.ct_entry.specs.Keys.{same_list};
 ghost use Rattle.ct_entry.specs.Changes.{spell};
+ghost use Rattle.ct_entry.specs.Shapes.{AreShaped};
 ghost use Rattle.tb_table.specs.declared.columns.Column.{Column};
+ghost use Rattle.tb_table.specs.Shapes.{HasTableValue};
 ghost use Rattle.tb_table.specs.Tables.{Table, numbers_of, texts_of};
+ghost use Rattle.ix_context.specs.Shapes.{HasIndexValue};
 ghost use Rattle.db_state.specs.States.{OverTable};
 ghost use Rattle.db_state.specs.Effects.{Effect, Checks};
 ghost use Rattle.db_state.specs.Columns.{first_unknown as unknown_name};
-ghost use Rattle.db_change.specs.Inserting.{MakesRow, PlansRow, row_changes, are_of_sorts as all_of_sorts, arranged as arranged_values, behind_key as others_of, check_list, check_values, covers as covers_columns, has_row as has_row_of, has_too_long as any_too_long, insert_into as insert_into_effect, is_beyond_range, is_of_sort as sort_takes, is_too_long as too_long_for, key_in as key_of, kept_value, number_value, text_value, IsNumberKept, IsTextKept, note_all_changes, names_of, row_created, value_under as named_value, IsFreeRow};
-ghost use Rattle.db_state.specs.Plans.{Plans, Replies};
+ghost use Rattle.db_change.specs.Inserting.{MakesRow, PlansRow, row_changes, are_of_sorts as all_of_sorts, arranged as arranged_values, behind_key as others_of, check_list, check_values, covers as covers_columns, has_row as has_row_of, has_too_long as any_too_long, insert_into as insert_into_effect, is_beyond_range, is_of_sort as sort_takes, is_too_long as too_long_for, key_in as key_of, kept_value, number_value, text_value, IsNumberKept, IsShortValue, IsTextKept, note_all_changes, names_of, row_created, value_under as named_value, IsFreeRow};
+ghost use Rattle.db_state.specs.Plans.{IsStorePlan, Plans, Replies};
+ghost use Rattle.db_state.specs.Shapes.{AcceptsStatements, AreStoreChanges};
 
-use ct_base::{Memory, Name, ROW_LIMIT, RowKey, TEXT_LIMIT, Text};
+use ct_base::{COLUMN_LIMIT, Memory, Name, ROW_LIMIT, RowKey, TEXT_LIMIT, Text};
 use ct_keep::{Batch, KeepFault, Keeper};
 use db_cond::Fault;
 use db_names::{IndexHead, indexes_of};
@@ -193,7 +197,8 @@ fn are_of_sorts(columns: &[Column], values: &[Operand]) -> bool
 }
 
 fn is_too_long(sort: Sort, value: &Operand) -> bool
-    ensures { result ≡ too_long_for sort value.now }
+    ensures long { result ≡ too_long_for sort value.now }
+    ensures short { sort_takes sort value.now ≡ true → result ≡ false → IsShortValue value.now }
 {
     match (sort, value) {
         (Sort::Varchar2(size), Operand::Text(text)) => text.as_str().len() > usize::from(size),
@@ -205,7 +210,8 @@ fn is_too_long(sort: Sort, value: &Operand) -> bool
 /// Whether a text is longer than its column takes.
 #[tactic(auto, using(crate::proofs::NewValues::long_at))]
 fn has_too_long(columns: &[Column], values: &[Operand]) -> bool
-    ensures { result ≡ any_too_long columns.now values.now }
+    ensures long { result ≡ any_too_long columns.now values.now }
+    ensures short { all_of_sorts columns.now values.now ≡ true → result ≡ false → All IsShortValue values.now }
 {
     for (place, column) in columns.iter().enumerate() {
         let Some(value) = values.get(place) else {
@@ -244,15 +250,22 @@ fn key_in(values: &[Operand]) -> Option<RowKey>
 }
 
 /// The first check that fails of the values; `taken` tells whether the table has a row of the key, `many` whether it has as
-/// many rows as it may have.
+/// many rows as it may have. No state has a table of more than 16 columns, but a store that stands for no state may; more values
+/// than that are refused, since `tb_table::insert` takes no more numbers.
+#[tactic(auto, using(crate::proofs::ShapeSteps::too_many_values))]
 fn values_fault(
     taken: bool,
     many: bool,
     columns: &[Column],
     values: &[Operand],
 ) -> Option<Fault<'static>>
-    ensures { (done : Effect) → Checks result (check_values taken many columns.now values.now done) done }
+    ensures checks { length columns.now ≤ column_limit → (done : Effect) → Checks result (check_values taken many columns.now values.now done) done }
+    ensures few { result ≡ None → length values.now ≤ column_limit }
+    ensures short { result ≡ None → All IsShortValue values.now }
 {
+    if values.len() > COLUMN_LIMIT {
+        return Some(Fault::WrongValues);
+    }
     if !are_of_sorts(columns, values) {
         return Some(Fault::WrongValues);
     }
@@ -346,9 +359,12 @@ fn row_batch(
     row: RowKey,
     values: Vec<Operand>,
 ) -> Result<Batch, Memory>
+    requires few { length values.items ≤ column_limit }
+    requires short { All IsShortValue values.items }
     ensures changes { IfOk result (λ batch. length values.items ≤ 255 → batch ≡ spell (row_changes table.now row.0 values.items)) }
     ensures numbers { IfOk result (λ _. All IsNumberKept values.items) }
     ensures texts { IfOk result (λ _. All IsTextKept values.items) }
+    ensures shaped { IfOk result (λ batch. AreShaped HasTableValue batch) }
 {
     let numbers = numbers_in(alloc, values.as_slice())?;
     let texts = texts_in(alloc, values)?;
@@ -364,7 +380,8 @@ fn note_all(
     indexes: &[(Name, IndexHead)],
     row: RowKey,
 ) -> Result<(), Memory>
-    ensures { OnOk result (batch.new ≡ batch.old ++ spell (note_all_changes (map (λ e. e.0) indexes.now) row.0)) }
+    ensures notes { OnOk result (batch.new ≡ batch.old ++ spell (note_all_changes (map (λ e. e.0) indexes.now) row.0)) }
+    ensures shaped { OnOk result (AreShaped HasIndexValue (spell (note_all_changes (map (λ e. e.0) indexes.now) row.0))) }
 {
     for (index, _) in indexes {
         note_insert(alloc, batch, index, row).map_err(|_| Memory)?;
@@ -391,8 +408,11 @@ fn noted_batch<K: Keeper>(
     row: RowKey,
     values: Vec<Operand>,
 ) -> Result<Batch, KeepFault>
-    requires { (K.view keeper.old).ready }
+    requires ready { (K.view keeper.old).ready }
+    requires few { length values.items ≤ column_limit }
+    requires short { All IsShortValue values.items }
     ensures batch { OverTable K.view keeper.old table.now (λ m c x. IsFreeRow x values.items row.0 → IfOk result (MakesRow m c table.now row.0 values.items)) }
+    ensures entries { IfOk result AreStoreChanges }
     ensures reads { OnlyReads K.view keeper.old keeper.new result }
 {
     let mut batch = row_batch(alloc, table, row, behind_key(values))?;
@@ -440,6 +460,7 @@ fn values_plan<'a, K: Keeper>(
 ) -> Result<Plan<'a>, KeepFault>
     requires { (K.view keeper.old).ready }
     ensures plan { OverTable K.view keeper.old table.now (λ m c x. PlansRow m c x table.now columns.now values.items result) }
+    ensures entries { IfOk result IsStorePlan }
     ensures reads { OnlyReads K.view keeper.old keeper.new result }
 {
     let slice = values.as_slice();
@@ -466,6 +487,7 @@ fn insert_plan<'a, K: Keeper>(
 ) -> Result<Plan<'a>, KeepFault>
     requires { (K.view keeper.old).ready }
     ensures plan { Plans K.view keeper.old result (λ m. insert_into_effect m table.now names.now values.now) row_created }
+    ensures entries { IfOk result IsStorePlan }
     ensures reads { OnlyReads K.view keeper.old keeper.new result }
 {
     let Some(columns) = table_columns(alloc, keeper, table)? else {
@@ -488,7 +510,7 @@ pub fn insert_into<K: Keeper>(
     names: &Option<ColumnNames>,
     values: &[Operand],
 ) -> Result<Vec<u8>, KeepFault>
-    requires { AcceptsChanges (K.view keeper.old) }
+    requires { AcceptsStatements (K.view keeper.old) }
     ensures { Replies K.view keeper.old keeper.new result (λ m. insert_into_effect m table.now names.now values.now) (Some row_created) }
 {
     match insert_plan(alloc, keeper, table, names, values) {

@@ -8,7 +8,8 @@ use Rattle.ct_site.specs.Disks.{Beside}
 use Rattle.ct_keep.specs.declared.keepers.KeepFault.{KeepFault}
 use Rattle.ct_keep.specs.declared.keepers.KeepFault.TheVariants.{Disk as DiskFailed}
 use Rattle.ct_keep.specs.Composing.{accepts_still, takes_same, takes_then}
-use Rattle.ct_keep.specs.KeeperViews.{KeeperView, AcceptsChanges, KeeperHears, SameButContent, counted}
+use Rattle.ct_keep.specs.KeeperViews.{KeeperView, KeeperHears, SameButContent, counted}
+use Rattle.db_state.specs.Shapes.{AcceptsStatements}
 use Rattle.db_console.specs.declared.saying.AnswerFault.{AnswerFault}
 use Rattle.db_console.specs.declared.saying.AnswerFault.TheVariants.{Disk}
 use Rattle.db_console.specs.Views.{FaultsAre, NoFault, Heard, Spoke, HearsNothing, FailsBy, is_say, is_disk}
@@ -65,5 +66,5 @@ pub frame_said : (failed : Bool) (a b : KeeperView) (bytes : List ℕ) → Spoke
 frame_said failed a b bytes s = record { left = s.says.left; hearings = s.says.hearings; well = s.says.apart.well; fixed = s.says.apart.fixed }
 
 -- it still takes every entry
-pub accepts_again : (a b : KeeperView) → b.ready → HearsNothing a b → AcceptsChanges a → AcceptsChanges b
+pub accepts_again : (a b : KeeperView) → b.ready → HearsNothing a b → AcceptsStatements a → AcceptsStatements b
 accepts_again a b ready same accepts = accepts_still a b ready same.well accepts

@@ -9,4 +9,3 @@ pub mod ViewLaws
 pub mod TableLaws
 pub mod StoreLaws
 pub mod HistoryLaws
-pub mod FreshSites

@@ -10,7 +10,7 @@ use Rattle.ct_base.specs.Causes.{Rose}
 use Rattle.ct_site.specs.FaultCounts.{rose_raised}
 use Rattle.ct_site.specs.Disks.{DiskView, Beside, IsSettled, Leaves}
 use Rattle.ct_keep.specs.Content.{Content}
-use Rattle.ct_keep.specs.Changes.{AnyEntry, HoldsWell}
+use Rattle.ct_keep.specs.Changes.{HoldsWell}
 use Rattle.ct_keep.specs.Composing.{same_lender, same_limit}
 use Rattle.ct_keep.specs.KeeperViews.{KeeperView, Counts, counted}
 use Rattle.ct_keep.specs.KeeperStates.{no_counts}
@@ -24,11 +24,12 @@ use Rattle.pg_heap.specs.laws.Recovering.{load_passes, one_recovery}
 use Rattle.pg_keeper.specs.Loading.{HasNoStore}
 use Rattle.pg_keeper.specs.Paged.{told_content}
 use Rattle.db_engine.specs.Runs.{Turn, AllAllowed}
+use Rattle.db_state.specs.Shapes.{IsStoreEntry}
 use Rattle.db_console.specs.Worlds.{World, IsMoment, CommitsWithin}
 use Rattle.db_console.specs.Asking.{AskedThen, Calls}
 use Rattle.db_console.specs.Views.{Shows}
 use Rattle.db_console.specs.Table.{Because, Outcome, TellsPast, Completes, status_of}
-use Rattle.db_console.specs.Stores.{SiteFaultsBy, ServedHeap, store_view, status_of_load}
+use Rattle.db_console.specs.Stores.{SiteFaultsBy, ServedHeap, TellsOfStore, store_view, status_of_load}
 use Rattle.db_console.specs.declared.endings.Ending.{Ending}
 use Rattle.db_console.specs.declared.endings.Ending.TheVariants.{Done, HearFault, SayFault, NoMemory, DiskFault, PastLimit}
 
@@ -154,13 +155,26 @@ load_status Memory other = inl refl
 load_status Disk other = inr refl
 load_status NotAStore other = absurd (other refl)
 
-pub no_two_stores : (image : List ℕ) (m : Content) → Recovers image (Some m) → HoldsWell AnyEntry m → HasNoStore AnyEntry image → ⊥
+pub no_two_stores : (image : List ℕ) (m : Content) → Recovers image (Some m) → HoldsWell IsStoreEntry m → HasNoStore IsStoreEntry image → ⊥
 no_two_stores image m is well none = ⊎_elim
     (λ nothing. let e : Some m ≡ None = one_recovery image (Some m) None is nothing in cc)
-    (λ other. let e : Some other.0 ≡ Some m = one_recovery image (Some other.0) (Some m) other.1 is in let same : m ≡ other.0 = cc in other.2 (subst (HoldsWell AnyEntry) same well)) none
+    (λ other. let e : Some other.0 ≡ Some m = one_recovery image (Some other.0) (Some m) other.1 is in let same : m ≡ other.0 = cc in other.2 (subst (HoldsWell IsStoreEntry) same well)) none
 
 pub some_same : (m n : Content) → Some m ≡ Some n → m ≡ n
 some_same m n e = cc
+
+-- what the status of a load tells of the file
+pub load_tells : (image : List ℕ) (fault : LoadFault) → (fault ≡ NotAStore → HasNoStore IsStoreEntry image) → TellsOfStore image (status_of_load fault)
+load_tells image Memory refused = record { refused = λ is. let wrong : ⊥ = omega (arith, is) in absurd wrong; foreign = λ none. inl refl }
+load_tells image Disk refused = record { refused = λ is. let wrong : ⊥ = omega (arith, is) in absurd wrong; foreign = λ none. inr (inl refl) }
+load_tells image NotAStore refused = record { refused = λ is. refused refl; foreign = λ none. inr (inr refl) }
+
+-- and that of serving over it
+pub serve_tells : (image : List ℕ) (m : Content) (ending : Ending) (status : ℕ) → status ≡ status_of ending → Recovers image (Some m) → HoldsWell IsStoreEntry m → TellsOfStore image status
+serve_tells image m ending status is holds well = record {
+  refused = λ seven. absurd (not_seven ending (sym is ∙ seven));
+  foreign = λ none. absurd (no_two_stores image m holds well none);
+}
 
 -- ---- faults
 

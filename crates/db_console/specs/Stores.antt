@@ -2,20 +2,20 @@
 use Rattle.std.specs.Prelude.{ℕ, ◌≡◌, ◌==◌, ◌⊎◌, List, Some, refl}
 use base.Fml.{GName}
 use Rattle.ct_base.specs.Causes.{Rose}
-use Rattle.ct_site.specs.Disks.{DiskView, IsSame, IsSettled, Leaves}
+use Rattle.ct_site.specs.Disks.{DiskView, IsSettled, Leaves}
 use Rattle.ct_keep.specs.Content.{Content}
-use Rattle.ct_keep.specs.Changes.{AnyEntry, HoldsWell}
+use Rattle.ct_keep.specs.Changes.{HoldsWell}
 use Rattle.ct_keep.specs.KeeperViews.{KeeperView, Counts, counted}
 use Rattle.ct_keep.specs.KeeperStates.{no_counts}
 use Rattle.pg_journal.specs.declared.faults.LoadFault.{LoadFault}
 use Rattle.pg_journal.specs.declared.faults.LoadFault.TheVariants.{Memory, Disk, NotAStore}
-use Rattle.pg_journal.specs.Recovered.{Alike}
+use Rattle.pg_journal.specs.Recovered.{Alike, HasNoOpenGate, IsOnlyRead}
 use Rattle.pg_heap.specs.Heaps.{HeapState}
 use Rattle.pg_heap.specs.Holding.{Recovers}
-use Rattle.pg_heap.specs.Loading.{HasNoOpenGate}
-use Rattle.pg_keeper.specs.Loading.{HasNoStore}
+use Rattle.pg_keeper.specs.Loading.{HasNoStore, StaysAs}
 use Rattle.pg_keeper.specs.Paged.{paged_view}
 use Rattle.db_arguments.specs.Arguments.{AsksFor}
+use Rattle.db_state.specs.Shapes.{IsStoreEntry}
 use Rattle.db_console.specs.Limits.{statement_limit, script_limit}
 use Rattle.db_console.specs.Table.{Completes, Outcome, status_of}
 use Rattle.db_console.specs.declared.endings.Ending.{Ending}
@@ -28,7 +28,7 @@ pub record SiteFaultsBy (status : ℕ) (old new : DiskView) : Type 0 where
 
 -- a keeper over the disk of a site, with what its heap holds
 abbrev pub store_view : DiskView → HeapState → ℕ → Counts → GName → KeeperView
-store_view disk heap limit counts name = paged_view disk heap AnyEntry limit counts name
+store_view disk heap limit counts name = paged_view disk heap IsStoreEntry limit counts name
 
 -- The script was served over a heap, which then was this one. Its content may weigh `store`.
 pub record ServedHeap (limit most store : ℕ) (heap : HeapState) (old new : DiskView) (ending : Ending) : Type 0 where
@@ -49,11 +49,13 @@ status_of_load Disk = 6
 status_of_load NotAStore = 7
 
 -- The store couldn't be loaded: nothing was heard or said. What a crash left meanwhile, or leaves now, recovers to what the image did.
--- A file that is refused is unchanged, unless a batch was under way, which was put home.
+-- A file that isn't unborn and has no batch under way is unchanged, and so it was at each moment. A file that is refused is so too, unless a
+-- batch was under way, which was put home.
 pub record NotLoaded (image : List ℕ) (fault : LoadFault) (old new : DiskView) : Type 0 where
   pub beside : new.beside ≡ old.beside
   pub leaves : Leaves old new (Alike image)
-  pub refused : fault ≡ NotAStore → HasNoOpenGate image → IsSame old new
+  pub kept : IsOnlyRead image → StaysAs image old new
+  pub refused : fault ≡ NotAStore → HasNoOpenGate image → StaysAs image old new
 
 -- a run whose store couldn't be loaded, by its status
 abbrev pub FailsToLoad : List ℕ → DiskView → DiskView → ℕ → Type 0
@@ -70,11 +72,11 @@ RanOver store image m old new status =
 
 -- what holds of each image that recovers to a map, where nothing was pending
 abbrev pub OverStores : DiskView → (List ℕ → Content → Type 0) → Type 0
-OverStores disk holds = (image : List ℕ) (m : Content) → IsSettled disk image → Recovers image (Some m) → HoldsWell AnyEntry m → holds image m
+OverStores disk holds = (image : List ℕ) (m : Content) → IsSettled disk image → Recovers image (Some m) → HoldsWell IsStoreEntry m → holds image m
 
 -- what holds of each image that is no store
 abbrev pub OverForeign : DiskView → (List ℕ → Type 0) → Type 0
-OverForeign disk holds = (image : List ℕ) → IsSettled disk image → HasNoStore AnyEntry image → holds image
+OverForeign disk holds = (image : List ℕ) → IsSettled disk image → HasNoStore IsStoreEntry image → holds image
 
 -- what a run did with this status, by the arguments of the command: over each store, and over each file that is none
 abbrev pub RunsBy : List (List ℕ) → DiskView → DiskView → ℕ → Type 0
@@ -82,6 +84,15 @@ RunsBy arguments old new status = OverStores old (λ image m. (file : List ℕ) 
 
 abbrev pub RefusesBy : List (List ℕ) → DiskView → DiskView → ℕ → Type 0
 RefusesBy arguments old new status = OverForeign old (λ image. (file : List ℕ) (limit : ℕ) → AsksFor arguments file limit → FailsToLoad image old new status)
+
+-- By its status a run tells of the file, whatever was pending on it: 7 comes of no store alone, and of no store nothing but 5, 6 and 7.
+pub record TellsOfStore (image : List ℕ) (status : ℕ) : Type 0 where
+  pub refused : status ≡ 7 → HasNoStore IsStoreEntry image
+  pub foreign : HasNoStore IsStoreEntry image → (status ≡ 5) ⊎ (status ≡ 6) ⊎ (status ≡ 7)
+
+-- of the image that a read gave, where it is told
+abbrev pub TellsBy : DiskView → ℕ → Type 0
+TellsBy old status = (image : List ℕ) → old.image ≡ Some image → TellsOfStore image status
 
 -- Without a fault of a device a script that isn't too long is served to its end, unless there is no memory.
 abbrev pub CompletesRun : ℕ → DiskView → DiskView → Type 0

@@ -1,7 +1,8 @@
 //! What is said to a piece of a script.
 
 ghost use Rattle.std.specs.Prelude.{◌≡◌, IfOk, OnErr};
-ghost use Rattle.ct_keep.specs.KeeperViews.{AcceptsChanges, AtMostOneCommit, SameButContent};
+ghost use Rattle.ct_keep.specs.KeeperViews.{AtMostOneCommit, SameButContent};
+ghost use Rattle.db_state.specs.Shapes.{AcceptsStatements};
 ghost use Rattle.db_state.specs.States.{State};
 ghost use Rattle.db_state.specs.Effects.{reply_by};
 ghost use Rattle.db_engine.specs.Steps.{rest_step};
@@ -66,7 +67,7 @@ fn respond_to_text<R: Threads + Sync, K: Keeper>(
     keeper: &mut K,
     text: &str,
 ) -> Result<Response, Stop>
-    requires { AcceptsChanges (K.view keeper.old) }
+    requires { AcceptsStatements (K.view keeper.old) }
     ensures kept { SameButContent (K.view keeper.old) (K.view keeper.new) (fault_of_stop result) }
     ensures once { AtMostOneCommit (K.view keeper.old).counts (K.view keeper.new).counts }
     ensures responds { RespondsToText text.now (K.view keeper.old) (K.view keeper.new) result }
@@ -92,7 +93,7 @@ pub fn respond<R: Threads + Sync, K: Keeper>(
     keeper: &mut K,
     text: Option<&[u8]>,
 ) -> Result<Response, Stop>
-    requires { AcceptsChanges (K.view keeper.old) }
+    requires { AcceptsStatements (K.view keeper.old) }
     ensures kept { SameButContent (K.view keeper.old) (K.view keeper.new) (fault_of_stop result) }
     ensures once { AtMostOneCommit (K.view keeper.old).counts (K.view keeper.new).counts }
     ensures replied { IfOk result (λ response. RepliesToText text.entry (response_bytes response) (K.view keeper.old) (K.view keeper.new)) }

@@ -2,22 +2,20 @@
 
 ghost use Rattle.std.specs.Prelude.{◌≡◌, ◌<◌, ◌↔◌, ◌⊎◌, ℕ, List, None, length, map};
 ghost use Rattle.std.specs.String.{string_bytes};
-ghost use Rattle.ct_keep.specs.Changes.{AnyEntry};
 ghost use Rattle.ct_keep.specs.Content.{Content};
-ghost use Rattle.ct_keep.specs.KeeperViews.{AcceptsChanges};
-ghost use Rattle.pg_keeper.specs.Loading.{HasNothingPending};
+ghost use Rattle.db_state.specs.Shapes.{AcceptsStatements, IsStoreEntry};
 ghost use Rattle.pg_keeper.specs.Paged.{IsUsable};
 ghost use Rattle.db_arguments.specs.Arguments.{AskForNothing};
 ghost use Rattle.db_console.specs.Views.{DiskRose};
 ghost use Rattle.db_console.specs.Limits.{script_limit, statement_limit};
-ghost use Rattle.db_console.specs.Stores.{CompletesRun, FailsToLoad, OverForeign, OverStores, RanOver, RefusesBy, RunsBy, ServesHeap, SiteFaultsBy, status_of_load};
+ghost use Rattle.db_console.specs.Stores.{CompletesRun, FailsToLoad, OverForeign, OverStores, RanOver, RefusesBy, RunsBy, ServesHeap, SiteFaultsBy, TellsBy, status_of_load};
 ghost use Rattle.db_console.specs.Table.{Completes, FaultsBy, ServedWith, TellsPast};
 
 use crate::serving::serve_script;
-use ct_base::Memory;
-use ct_keep::{Keeper, Shape};
+use ct_keep::Keeper;
 use ct_site::Site;
 use db_arguments::read_arguments;
+use db_engine::StoreShape;
 use pg_heap::Heap;
 use pg_journal::LoadFault;
 use pg_keeper::{PagedKeeper, load_heap};
@@ -45,7 +43,7 @@ pub fn serve<R: Threads + Sync, K: Keeper>(
     most: u64,
     keeper: &mut K,
 ) -> u8
-    requires { AcceptsChanges (K.view keeper.old) }
+    requires { AcceptsStatements (K.view keeper.old) }
 
     // the table of statuses, with the moments of a crash
     ensures table { ServedWith statement_limit most (K.view keeper.old) (K.view keeper.new) result }
@@ -57,18 +55,6 @@ pub fn serve<R: Threads + Sync, K: Keeper>(
     ensures complete { Completes most result (K.view keeper.old).beside (K.view keeper.new).beside (¬ DiskRose (K.view keeper.old) (K.view keeper.new)) }
 {
     serve_script(rt, alloc, degree, STATEMENT_LIMIT, most, keeper).status()
-}
-
-/// Every entry within the bounds is well shaped.
-#[derive(Drop)]
-struct AnyShape;
-
-impl Shape for AnyShape {
-    ghost is_well = { λ _. AnyEntry };
-
-    fn well(&self, _alloc: Global, _key: &[u8], _value: &[u8]) -> Result<bool, Memory> {
-        Ok(true)
-    }
 }
 
 /// The status where the store couldn't be loaded.
@@ -90,14 +76,14 @@ fn serve_heap<R: Threads + Sync, S: Site>(
     heap: Heap,
     site: &mut S,
 ) -> u8
-    requires { IsUsable (S.disk site.old) heap AnyEntry }
+    requires { IsUsable (S.disk site.old) heap IsStoreEntry }
     ensures table { ServesHeap limit heap (S.disk site.old) (S.disk site.new) result }
     ensures faults { SiteFaultsBy result (S.disk site.old) (S.disk site.new) }
     ensures memory { result ≡ 5 → (S.disk site.new).beside ≡ (S.disk site.old).beside }
     ensures past { TellsPast script_limit result (S.disk site.old).beside (S.disk site.new).beside }
     ensures complete { CompletesRun result (S.disk site.old) (S.disk site.new) }
 {
-    let mut keeper = PagedKeeper::over(site, heap, AnyShape, limit);
+    let mut keeper = PagedKeeper::over(site, heap, StoreShape, limit);
     let status = serve(rt, alloc, DEGREE, SCRIPT_LIMIT, &mut keeper);
     let _site = keeper.finish();
     status
@@ -105,16 +91,16 @@ fn serve_heap<R: Threads + Sync, S: Site>(
 
 /// Serves the script of a site over the store that its disk has; where it has none yet, over a new one.
 fn serve_store<R: Threads + Sync, S: Site>(rt: &R, alloc: Global, limit: u64, site: &mut S) -> u8
-    requires { HasNothingPending (S.disk site.old) }
     ensures table { OverStores (S.disk site.old) (λ image m. RanOver limit image m (S.disk site.old) (S.disk site.new) result) }
     ensures foreign { OverForeign (S.disk site.old) (λ image. FailsToLoad image (S.disk site.old) (S.disk site.new) result) }
+    ensures stores { TellsBy (S.disk site.old) result }
     ensures loaded { result ≡ 2 → ⊥ }
     ensures faults { SiteFaultsBy result (S.disk site.old) (S.disk site.new) }
     ensures unheard { (result ≡ 5) ⊎ (result ≡ 7) → (S.disk site.new).beside ≡ (S.disk site.old).beside }
     ensures past { TellsPast script_limit result (S.disk site.old).beside (S.disk site.new).beside }
     ensures complete { OverStores (S.disk site.old) (λ image m. CompletesRun result (S.disk site.old) (S.disk site.new)) }
 {
-    let heap = match load_heap(alloc, site, &AnyShape) {
+    let heap = match load_heap(alloc, site, &StoreShape) {
         Ok(heap) => heap,
         Err(fault) => return status_of_load(fault),
     };
@@ -122,15 +108,14 @@ fn serve_store<R: Threads + Sync, S: Site>(rt: &R, alloc: Global, limit: u64, si
 }
 
 /// Runs the script that the site gives over the store that its disk has, and gives the status of the program (docs/ERRORS.md). The
-/// arguments of the command tell how much the content of the store may weigh; the site has the disk of the FILE that they name, and
-/// nothing is pending on it. Its cost is that of reading the store and of the statements.
+/// arguments of the command tell how much the content of the store may weigh; the site has the disk of the FILE that they name. Its
+/// first call is a sync of that disk. Its cost is that of reading the store and of the statements.
 pub fn run<R: Threads + Sync, S: Site>(
     rt: &R,
     alloc: Global,
     arguments: &[String],
     site: &mut S,
 ) -> u8
-    requires { HasNothingPending (S.disk site.old) }
 
     // arguments
     ensures form { (result ≡ 2) ↔ AskForNothing (map string_bytes arguments.now) }
@@ -140,6 +125,7 @@ pub fn run<R: Threads + Sync, S: Site>(
     ensures table { RunsBy (map string_bytes arguments.now) (S.disk site.old) (S.disk site.new) result }
     // a file that is no store is refused
     ensures foreign { RefusesBy (map string_bytes arguments.now) (S.disk site.old) (S.disk site.new) result }
+    ensures stores { (result ≡ 2 → ⊥) → TellsBy (S.disk site.old) result }
 
     // causes
     ensures faults { SiteFaultsBy result (S.disk site.old) (S.disk site.new) }

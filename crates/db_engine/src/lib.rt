@@ -5,6 +5,7 @@ mod executing;
 mod laws;
 mod replies;
 
+pub use db_state::StoreShape;
 pub use executing::execute;
 pub use laws::shown_store_stands;
 pub use replies::{Reply, Stop};

@@ -1,3 +1,4 @@
 pub mod Found
 pub mod IndexChecks
 pub mod SyncChecks
+pub mod PlanShapes

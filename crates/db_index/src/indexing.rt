@@ -1,14 +1,15 @@
 //! CREATE INDEX.
 #![tactic(auto, using(ct_keep::specs::Composing::reads_on, ct_keep::specs::Composing::reads_short, ct_keep::specs::Composing::accepts_on))]
 
-ghost use Rattle.std.specs.Prelude.{◌≡◌, ◌<◌, IfOk, Some, nat_le, length};
+ghost use Rattle.std.specs.Prelude.{◌≡◌, ◌<◌, IfOk, IfSome, Some, nat_le, length};
 ghost use Rattle.ct_base.specs.Names.{IsName};
-ghost use Rattle.ct_keep.specs.KeeperViews.{AcceptsChanges, OnlyReads};
+ghost use Rattle.ct_keep.specs.KeeperViews.{OnlyReads};
 ghost use Rattle.tb_table.specs.Tables.{Table};
 ghost use Rattle.db_state.specs.States.{OverStates, OverTable, indexes_on, index_limit, Sees};
 ghost use Rattle.db_state.specs.Effects.{Effect, Checks};
 ghost use Rattle.db_index.specs.Indexing.{MakesFreeIndex, PlansIndex, check_index, create_index as create_index_effect, has_context_index as column_has_index, index_created, is_index_taken, is_text_at as text_at, is_text_sort as sort_of_texts, IsFreeIndex};
-ghost use Rattle.db_state.specs.Plans.{Plans, Replies};
+ghost use Rattle.db_state.specs.Plans.{IsStorePlan, Plans, Replies};
+ghost use Rattle.db_state.specs.Shapes.{AcceptsStatements, AreStoreChanges};
 
 use ct_base::Name;
 use ct_keep::{Batch, KeepFault, Keeper};
@@ -128,6 +129,7 @@ fn created<K: Keeper>(
 ) -> Result<Option<Batch>, KeepFault>
     requires { (K.view keeper.old).ready }
     ensures changes { OverStates K.view keeper.old (λ m c. MakesFreeIndex m index.now table.now place result) }
+    ensures entries { IfOk result (λ found. IfSome found AreStoreChanges) }
     ensures reads { OnlyReads K.view keeper.old keeper.new result }
 {
     let Ok(column) = u8::try_from(place) else {
@@ -154,6 +156,7 @@ fn plan_on<'a, K: Keeper>(
 ) -> Result<Plan<'a>, KeepFault>
     requires { (K.view keeper.old).ready }
     ensures plan { OverTable K.view keeper.old table.now (λ m c x. PlansIndex m c x index.now table.now columns.now place result) }
+    ensures entries { IfOk result IsStorePlan }
     ensures reads { OnlyReads K.view keeper.old keeper.new result }
 {
     let there = is_taken(alloc, keeper, index, table, place)?;
@@ -178,6 +181,7 @@ fn index_plan<'a, K: Keeper>(
 ) -> Result<Plan<'a>, KeepFault>
     requires { (K.view keeper.old).ready }
     ensures plan { Plans K.view keeper.old result (λ m. create_index_effect m index.now table.now column.now) index_created }
+    ensures entries { IfOk result IsStorePlan }
     ensures reads { OnlyReads K.view keeper.old keeper.new result }
 {
     let Some(columns) = table_columns(alloc, keeper, table)? else {
@@ -198,7 +202,7 @@ pub fn create_index<K: Keeper>(
     table: &Name,
     column: &Name,
 ) -> Result<Vec<u8>, KeepFault>
-    requires { AcceptsChanges (K.view keeper.old) }
+    requires { AcceptsStatements (K.view keeper.old) }
     ensures { Replies K.view keeper.old keeper.new result (λ m. create_index_effect m index.now table.now column.now) (Some index_created) }
 {
     match index_plan(alloc, keeper, index, table, column) {

@@ -1,14 +1,15 @@
 //! CTX_DDL.SYNC_INDEX.
 #![tactic(auto, using(ct_keep::specs::Composing::reads_on, ct_keep::specs::Composing::reads_short, ct_keep::specs::Composing::accepts_on))]
 
-ghost use Rattle.std.specs.Prelude.{◌≡◌, IfOk, Some, None, Err, true, false};
+ghost use Rattle.std.specs.Prelude.{◌≡◌, IfOk, IfSome, Some, None, Err, true, false};
 ghost use Rattle.std.specs.Option.{option_map};
-ghost use Rattle.ct_keep.specs.KeeperViews.{AcceptsChanges, OnlyReads};
+ghost use Rattle.ct_keep.specs.KeeperViews.{OnlyReads};
 ghost use Rattle.db_state.specs.States.{OverIndex, Sees};
 ghost use Rattle.db_state.specs.Effects.{Effect, Checks};
 ghost use Rattle.db_index.specs.Syncing.{MakesSync, are_sync_args as sync_args, check_sync, has_index as has_named_index, is_bad_size as bad_size, is_memory_size as memory_size, is_unit as unit_letter, name_arg as first_name, spelt_name as name_spelt, sync_index as sync_effect, unknown_name as name_unknown};
 ghost use Rattle.db_state.specs.Lines.{call_done};
-ghost use Rattle.db_state.specs.Plans.{Plans, Replies};
+ghost use Rattle.db_state.specs.Plans.{IsStorePlan, Plans, Replies};
+ghost use Rattle.db_state.specs.Shapes.{AcceptsStatements, AreStoreChanges};
 
 use ct_base::{Memory, Name, NameFault};
 use ct_keep::{Batch, KeepFault, Keeper};
@@ -138,6 +139,7 @@ fn synced<K: Keeper>(
 ) -> Result<Option<Batch>, KeepFault>
     requires { (K.view keeper.old).ready }
     ensures changes { OverIndex K.view keeper.old index.now (λ m x. IfOk result (MakesSync index.now m x)) }
+    ensures entries { IfOk result (λ found. IfSome found AreStoreChanges) }
     ensures reads { OnlyReads K.view keeper.old keeper.new result }
 {
     let mut batch = Batch::new(alloc);
@@ -159,6 +161,7 @@ fn sync_plan<'a, K: Keeper>(
     requires ready { (K.view keeper.old).ready }
     requires named { name.now ≡ first_name args.now }
     ensures plan { Plans K.view keeper.old result (λ m. sync_effect m args.now) call_done }
+    ensures entries { IfOk result IsStorePlan }
     ensures reads { OnlyReads K.view keeper.old keeper.new result }
 {
     let there = has_named(alloc, keeper, name)?;
@@ -182,7 +185,7 @@ pub fn sync_index<K: Keeper>(
     keeper: &mut K,
     args: &[Arg],
 ) -> Result<Vec<u8>, KeepFault>
-    requires { AcceptsChanges (K.view keeper.old) }
+    requires { AcceptsStatements (K.view keeper.old) }
     ensures { Replies K.view keeper.old keeper.new result (λ m. sync_effect m args.now) (Some call_done) }
 {
     let name = name_arg(alloc, args)?;

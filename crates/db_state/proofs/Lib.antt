@@ -8,3 +8,7 @@ pub mod WeighMaps
 pub mod WeighRooms
 pub mod WeighTables
 pub mod Weighing
+pub mod EntryShapes
+pub mod StoreTables
+pub mod StoreIndexes
+pub mod StoreEntries

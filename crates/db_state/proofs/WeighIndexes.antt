@@ -27,11 +27,11 @@ use Rattle.db_state.proofs.WeighEntries.{Entry, entry, posting_entry, text_posti
 
 -- ---- marks
 
-marked_there : (o : Option Index) (r : ℤ) → is_marked (mark_of o r) ≡ true → (x : Index) × (o ≡ Some x) × (get x.marks r ≡ Some Marked)
+pub marked_there : (o : Option Index) (r : ℤ) → is_marked (mark_of o r) ≡ true → (x : Index) × (o ≡ Some x) × (get x.marks r ≡ Some Marked)
 marked_there None r h = cc
 marked_there (Some x) r h = (x, refl, is_the_mark (get x.marks r) h)
 
-is_queued : (o : Option Mark) (v : List ℕ) → queued o ≡ Some v → (o ≡ Some Pending) × (v ≡ [])
+pub is_queued : (o : Option Mark) (v : List ℕ) → queued o ≡ Some v → (o ≡ Some Pending) × (v ≡ [])
 is_queued None v is = cc
 is_queued (Some Pending) v is = (refl, cc)
 is_queued (Some Marked) v is = cc
@@ -61,7 +61,7 @@ posting_found : (token text : List ℕ) (p : ℕ) (ps : List ℕ) → positions 
 posting_found token text p ps is = get-from_entries nat_list_cmp_total (map (λ w. (w, positions w text)) (words_of text)) token ∙ word_found (λ w. positions w text) token (words_of text) 1 p ps is
 
 -- a posting's value has these positions, of which there are some
-value_of : (d : ℕ) (ps v : List ℕ) → posting_value d ps ≡ Some v → (p : ℕ) × ((qs : List ℕ) × (ps ≡ p ∷ qs) × (v ≡ posting_bytes (record { document = d; positions = ps } ∷ [])))
+pub value_of : (d : ℕ) (ps v : List ℕ) → posting_value d ps ≡ Some v → (p : ℕ) × ((qs : List ℕ) × (ps ≡ p ∷ qs) × (v ≡ posting_bytes (record { document = d; positions = ps } ∷ [])))
 value_of d [] v is = cc
 value_of d (p ∷ ps) v is = (p, (ps, refl, cc))
 

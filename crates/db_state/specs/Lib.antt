@@ -1,6 +1,6 @@
 pub mod Lines
 pub mod Effects
-pub mod Committing
+pub mod Shapes
 pub mod Plans
 pub mod Lookups
 pub mod Columns

@@ -9,7 +9,7 @@ use Rattle.db_cond.specs.Faults.{Refusal, WrongValues, refusal_line}
 use Rattle.db_cond.specs.declared.faults.Fault.TheVariants.{WrongValues as WrongValuesFault}
 use Rattle.db_state.specs.States.{State, Stands}
 use Rattle.db_state.specs.Effects.{Effect, Refused, Does, state_by, reply_by, is_done}
-use Rattle.db_state.specs.Committing.{are_bounded}
+use Rattle.db_state.specs.Shapes.{AreStoreChanges}
 use Rattle.db_state.specs.Room.{room}
 use Rattle.db_cond.specs.Refused.{refusal_of}
 use Rattle.db_state.specs.declared.plans.Plan.{Plan}
@@ -85,7 +85,7 @@ GivesReply result effect = IfOk result (λ reply. reply.items ≡ reply_by effec
 -- What a commit of this batch with this reply gave, of each state from which the batch may have been made.
 abbrev pub CommitGives : List (List ℕ × Option (List ℕ)) → List ℕ → KeeperView → KeeperView → Result (Vec ℕ Global) KeepFault → Type 0
 CommitGives batch reply old new result =
-    (m n : State) (c : Content) → old.content ≡ Some c → are_bounded batch ≡ true → Stands (after batch c) n → Gives m (Does n reply) c old new result
+    (m n : State) (c : Content) → old.content ≡ Some c → Stands (after batch c) n → Gives m (Does n reply) c old new result
 
 -- ---- the function of a statement
 
@@ -101,7 +101,12 @@ pub record Fulfils (effect : State → Effect) (line : Option (List ℕ)) (old n
 -- What a statement with this effect comes to over the content c: the line of its refusal, or a batch that makes of c a content that stands for its state, with this line.
 abbrev pub IsPlan : Effect → List ℕ → Content → Plan → Type 0
 IsPlan effect line c (PlanRefused fault) = effect ≡ Refused (refusal_of fault)
-IsPlan effect line c (PlanDone batch) = (n : State) × (effect ≡ Does n line) × (are_bounded batch ≡ true) × Stands (after batch c) n
+IsPlan effect line c (PlanDone batch) = (n : State) × (effect ≡ Does n line) × Stands (after batch c) n
+
+-- Whatever the content is, the batch of a plan puts entries that a store has.
+abbrev pub IsStorePlan : Plan → Type 0
+IsStorePlan (PlanRefused fault) = Unit {0}
+IsStorePlan (PlanDone batch) = AreStoreChanges batch
 
 -- A plan is that of the statement over each state that the content stands for.
 pub record IsPlanOf (effect : State → Effect) (line : List ℕ) (old : KeeperView) (plan : Plan) : Type 0 where

@@ -1,13 +1,22 @@
 -- What the functions of `src/laws.rt` promise of all contents.
-use Rattle.std.specs.Prelude.{◌≡◌, refl}
-use Rattle.std.specs.FinMap.{empty}
-use Rattle.std.proofs.Common.{ap, ◌∙◌}
+use Rattle.std.specs.Prelude.{◌≡◌, [], None, Some, refl}
+use Rattle.std.specs.Ordering.{nat_cmp}
+use Rattle.std.specs.Cmp.Lexicographic.{slice_cmp}
+use Rattle.std.specs.FinMap.{get, empty, get-empty}
+use Rattle.std.proofs.Common.{ap, ◌∙◌, sym, arith}
 use Rattle.ct_keep.specs.Content.{Content}
+use Rattle.ct_keep.specs.Changes.{HoldsWell}
 use Rattle.db_state.specs.States.{State, empty_state, Stands}
+use Rattle.db_state.specs.Shapes.{IsStoreEntry}
 
 -- a content stands for at most one state
 abbrev pub OneState : Type 0
 OneState = (c : Content) (m n : State) → Stands c m → Stands c n → m ≡ n
+
+-- Each entry of a content that stands for a state is one that a store has, and within the bounds. So the shape of a store (`StoreShape`),
+-- which looks at each entry by itself, finds none in it that is ill shaped.
+abbrev pub StoresAreWell : Type 0
+StoresAreWell = (c : Content) (m : State) → Stands c m → HoldsWell IsStoreEntry c
 
 -- computed examples: the state of a new store has no table; so what stands for it stands for no state with one
 no_table : empty_state.tables ≡ empty
@@ -15,3 +24,10 @@ no_table = refl
 
 no_other : OneState → (c : Content) (m : State) → Stands c empty_state → Stands c m → m.tables ≡ empty
 no_other one c m new stands = ap (λ (n : State). n.tables) (one c m empty_state stands new) ∙ no_table
+
+-- the empty content has no entry that a store doesn't have; and what stands for a state has none without a key
+no_entry : HoldsWell IsStoreEntry empty
+no_entry = record { each = λ key value is. let wrong : None ≡ Some value = sym (get-empty (slice_cmp nat_cmp) key) ∙ is in absurd cc }
+
+no_empty_key : StoresAreWell → (c : Content) (m : State) → get c [] ≡ Some [] → Stands c m → ⊥
+no_empty_key well c m has stands = let some = ((well c m stands).each [] [] has).0.some in omega (arith, some)

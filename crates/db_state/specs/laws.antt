@@ -1,6 +1,5 @@
 pub mod Empty
 pub mod Returning
-pub mod Bounded
 pub mod Chains
 pub mod EachValue
 pub mod Heads

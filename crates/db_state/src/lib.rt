@@ -6,11 +6,13 @@ mod committing;
 mod laws;
 mod lookups;
 mod plans;
+mod shapes;
 
 pub use columns::{has_column, place_of};
 pub use committing::fixed_reply;
-pub use laws::one_state;
+pub use laws::{one_state, stores_are_well};
 pub use lookups::{
     context_index, has_index, has_most_tables, has_table, is_view, table_columns, target_of,
 };
 pub use plans::{Plan, carry_out};
+pub use shapes::StoreShape;

@@ -1,8 +1,8 @@
 //! What a statement that changes something comes to, before its commit.
 #![tactic(auto, using(ct_keep::specs::Composing::reads_on, ct_keep::specs::Composing::reads_short))]
 
-ghost use Rattle.ct_keep.specs.KeeperViews.{AcceptsChanges};
-ghost use Rattle.db_state.specs.Plans.{CarriesOut};
+ghost use Rattle.db_state.specs.Plans.{CarriesOut, IsStorePlan};
+ghost use Rattle.db_state.specs.Shapes.{AcceptsStatements, AreStoreChanges};
 
 use crate::committing::{commit, fixed_reply};
 use ct_keep::{Batch, KeepFault, Keeper};
@@ -25,7 +25,8 @@ fn commit_batch<K: Keeper>(
     batch: Batch,
     line: &[u8],
 ) -> Result<Vec<u8>, KeepFault>
-    requires { AcceptsChanges (K.view keeper.old) }
+    requires accepts { AcceptsStatements (K.view keeper.old) }
+    requires entries { AreStoreChanges batch }
     ensures { CarriesOut K.view keeper.old keeper.new result (Plan.Done batch) line.now }
 {
     let reply = fixed_reply(alloc, line)?;
@@ -39,7 +40,8 @@ pub fn carry_out<K: Keeper>(
     plan: Plan,
     line: &[u8],
 ) -> Result<Vec<u8>, KeepFault>
-    requires { AcceptsChanges (K.view keeper.old) }
+    requires accepts { AcceptsStatements (K.view keeper.old) }
+    requires entries { IsStorePlan plan }
     ensures { CarriesOut K.view keeper.old keeper.new result plan.entry line.now }
 {
     match plan {

@@ -9,6 +9,7 @@ pub mod Occurrences
 pub mod Scoring
 pub mod Limits
 pub mod Room
+pub mod Shapes
 pub mod Faults
 pub mod Promises
 pub mod laws

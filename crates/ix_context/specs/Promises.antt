@@ -5,9 +5,8 @@ use Rattle.std.specs.FinMap.{get}
 use Rattle.ct_base.specs.Names.{IsName}
 use Rattle.ct_base.specs.declared.lists.Value.{Value}
 use Rattle.ct_keep.specs.RisingKeys.{rises}
-use Rattle.ct_keep.specs.Changes.{AnyEntry, AreWell}
-use Rattle.ct_entry.specs.Keys.{Key, bytes, same_list, IsRow}
-use Rattle.ct_entry.specs.Changes.{spell, view}
+use Rattle.ct_entry.specs.Keys.{Key, same_list, IsRow}
+use Rattle.ct_entry.specs.Changes.{view}
 use Rattle.ct_entry.specs.Each.{each, is_among}
 use Rattle.ct_entry.specs.Maps.{Names}
 use Rattle.tb_table.specs.declared.columns.Column.{Column}
@@ -18,7 +17,7 @@ use Rattle.ix_context.specs.declared.ranges.KeyRange.{KeyRange}
 use Rattle.ix_context.specs.Postings.{word_score}
 use Rattle.ix_context.specs.Indexes.{Index, Marked, pending_rows, text_seen, found, noted, noted_on, synced, in_range, rows_in, with_index}
 use Rattle.ix_context.specs.Rules.{IsTarget, AreIndexes, most_given}
-use Rattle.ix_context.specs.Spelling.{IndexesStand, is_of_indexes}
+use Rattle.ix_context.specs.Spelling.{IndexesStand}
 use Rattle.ix_context.specs.Changes.{note_insert_changes, sync_changes, create_changes}
 
 -- ---- the entries that statements leave spell the indexes that they make
@@ -113,27 +112,6 @@ CreatesKeepIndexRules =
     (ts : Tables) (xs : Names Index) (i : List ℕ) (target : Target) (range : KeyRange)
     → IsName i → get xs i ≡ None → IsTarget ts target.table target.column → IsFreeColumn xs target.table target.column → HasAllRows range
     → length (rows_in ts target.table range) ≤ most_given → AreTables ts → AreIndexes ts xs → AreIndexes ts (with_index ts xs i target range)
-
--- ---- what calls put into a batch may be committed: each entry is within the bounds
-
--- the keeper may hold whatever entries of indexes
-abbrev pub TakesIndexes : (List ℕ → List ℕ → Type 0) → Type 0
-TakesIndexes well = (k : Key) (value : List ℕ) → is_of_indexes k.kind ≡ true → well (bytes k) value
-
-abbrev pub NotesAreWell : Type 0
-NotesAreWell = (i : List ℕ) (r : ℤ) → IsName i → IsRow r → AreWell AnyEntry (spell (note_insert_changes i r))
-
-abbrev pub SyncsAreWell : Type 0
-SyncsAreWell =
-    (ts : Tables) (xs : Names Index) (i : List ℕ) (x : Index)
-    → AreTables ts → AreIndexes ts xs → get xs i ≡ Some x → x.given + length (pending_rows x) ≤ most_given
-    → AreWell AnyEntry (spell (sync_changes ts i x))
-
-abbrev pub CreatesAreWell : Type 0
-CreatesAreWell =
-    (ts : Tables) (i : List ℕ) (target : Target) (range : KeyRange)
-    → AreTables ts → IsName i → IsName target.table → length (rows_in ts target.table range) ≤ most_given
-    → AreWell AnyEntry (spell (create_changes ts i target range))
 
 -- ---- what a query finds, row by row
 

@@ -7,3 +7,4 @@ pub mod Rules
 pub mod Reading
 pub mod Limits
 pub mod Well
+pub mod Shapes

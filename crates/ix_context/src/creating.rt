@@ -1,13 +1,15 @@
 //! New indexes.
 #![tactic(auto, using(ct_keep::specs::Composing::reads_on, ct_keep::specs::Composing::reads_short))]
 
-ghost use Rattle.std.specs.Prelude.{◌≡◌, ◌+◌, ◌≤◌, ◌<◌, ◌^◌, IfOk, OnOk, OnErr, Some, Err, filter, length, map};
+ghost use Rattle.std.specs.Prelude.{◌≡◌, ◌+◌, ◌≤◌, ◌<◌, ◌^◌, IfOk, IfSome, OnOk, OnErr, Some, Err, filter, length, map};
 ghost use Rattle.ct_keep.specs.KeeperViews.{OnlyReads, Reads};
+ghost use Rattle.ct_entry.specs.Shapes.{AreShaped};
 ghost use Rattle.ix_context.specs.Indexes.{in_range, rows_in};
 ghost use Rattle.ix_context.specs.Changes.{create_changes, Adds, mark_rows_changes, AreCreateChanges};
 ghost use Rattle.ix_context.specs.Faults.{context_fault_of};
 ghost use Rattle.ix_context.specs.Rules.{most_given};
 ghost use Rattle.ix_context.specs.Sees.{ToldTables, SeesTables};
+ghost use Rattle.ix_context.specs.Shapes.{HasIndexValue, KeepsShape};
 
 use crate::entries::put_index;
 use crate::faults::{ContextFault, fault_of_reads};
@@ -60,6 +62,7 @@ fn mark_rows<K: Keeper>(
     requires ready { (K.view keeper.old).ready }
     requires room { 1 + length rows.now < 2 ^ 32 }
     ensures changes { ToldTables K.view keeper.old (λ ts. Adds changes.old changes.new result (mark_rows_changes ts index.now target.now 1 rows.now)) }
+    ensures shaped { KeepsShape changes.old changes.new result }
     ensures reads { OnlyReads K.view keeper.old keeper.new result }
 {
     let mut document = 1;
@@ -80,6 +83,7 @@ fn changes_of_create<K: Keeper>(
 ) -> Result<Option<Batch>, KeepFault>
     requires { (K.view keeper.old).ready }
     ensures changes { SeesTables K.view keeper.old result (λ ts. AreCreateChanges ts index.now target.now range) }
+    ensures shaped { IfOk result (λ found. IfSome found (AreShaped HasIndexValue)) }
     ensures reads { OnlyReads K.view keeper.old keeper.new result }
 {
     let rows = rows_of(alloc, keeper, &target.table, range)?;
@@ -110,6 +114,7 @@ pub fn create<K: Keeper>(
     ensures room { ToldTables K.view keeper.old (λ ts. OnOk result (length (rows_in ts target.now.table range) ≤ most_given)) }
     ensures many { ToldTables K.view keeper.old (λ ts. result ≡ Err ContextFault.TooMany → most_given < length (rows_in ts target.now.table range)) }
     ensures err { OnErr result (batch.new ≡ batch.old) }
+    ensures shaped { AreShaped HasIndexValue batch.old → AreShaped HasIndexValue batch.new }
     ensures reads { Reads (K.view keeper.old) (K.view keeper.new) (context_fault_of result) }
 {
     let found = match changes_of_create(alloc, keeper, index, target, range) {

@@ -7,9 +7,12 @@ ghost use Rattle.ct_keep.specs.KeeperViews.{Finds, OnlyReads};
 ghost use Rattle.ct_keep.specs.Looks.{look, LooksAtMost};
 ghost use Rattle.ct_entry.specs.declared.kinds.Kind.TheVariants as kind;
 ghost use Rattle.ct_entry.specs.Keys.{key, bytes, at};
+ghost use Rattle.ct_entry.specs.Changes.{spell};
+ghost use Rattle.ct_entry.specs.Shapes.{AreShaped};
 ghost use Rattle.ix_context.specs.Spelling.{index_bytes, SpellsIndex, index_change};
 ghost use Rattle.ix_context.specs.Spelling.{HasIndexParts};
 ghost use Rattle.ix_context.specs.Changes.{Adds};
+ghost use Rattle.ix_context.specs.Shapes.{HasIndexValue};
 
 use ct_base::{Memory, Name};
 use ct_bytes::{put_text, put_u32, read_text, read_u32};
@@ -41,7 +44,12 @@ pub(crate) fn put_index(
 ) -> Result<(), Memory>
     ensures ok { Adds batch.old batch.new result (index_change index.now target.now next_document ∷ []) }
     ensures err { OnErr result (batch.new ≡ batch.old) }
+    ensures shaped { AreShaped HasIndexValue (spell (index_change index.now target.now next_document ∷ [])) }
 {
+    // What a name and a number behind a reference keep to is known once they are read.
+    let _named = index.as_str();
+    let _table = target.table.as_str();
+    let _column = target.column;
     let value = index_value(alloc, target, next_document)?;
     put_entry(alloc, batch, Kind::Indexes, index, &[], value)
 }
@@ -57,7 +65,7 @@ fn parts(value: &[u8]) -> Option<(&[u8], u8, u32)>
 }
 
 /// The index that the bytes spell: its target, and the next document.
-fn index_of(alloc: Global, value: &[u8]) -> Result<Option<(Target, u32)>, Memory>
+pub(crate) fn index_of(alloc: Global, value: &[u8]) -> Result<Option<(Target, u32)>, Memory>
     ensures { IfOk result (λ found. SpellsIndex (Some value.now) found) }
 {
     let Some((table, column, next_document)) = parts(value) else {

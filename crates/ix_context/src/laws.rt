@@ -1,6 +1,6 @@
 //! What holds of all indexes. Each function here only states laws, which its contract proves.
 
-ghost use Rattle.ix_context.specs.Promises.{IndexesStayWithTables, IndexesStayWithRows, NotedRowsStand, SyncedIndexesStand, CreatedIndexesStand, NotesOfRowsStand, NewTablesKeepIndexRules, NewRowsKeepIndexRules, SyncsKeepIndexRules, CreatesKeepIndexRules, HasAllRows, NotesAreWell, SyncsAreWell, CreatesAreWell, FoundIsExact, FoundRises};
+ghost use Rattle.ix_context.specs.Promises.{IndexesStayWithTables, IndexesStayWithRows, NotedRowsStand, SyncedIndexesStand, CreatedIndexesStand, NotesOfRowsStand, NewTablesKeepIndexRules, NewRowsKeepIndexRules, SyncsKeepIndexRules, CreatesKeepIndexRules, HasAllRows, FoundIsExact, FoundRises};
 
 use crate::ranges::KeyRange;
 
@@ -31,13 +31,6 @@ pub fn rules_stay()
 /// All row keys lie in the widest range.
 pub fn all_in_range()
     ensures { HasAllRows KeyRange.ALL }
-{}
-
-/// A keeper that takes whatever entries of indexes may commit the changes of a note, a synchronisation and a new index.
-pub fn changes_are_well()
-    ensures note { NotesAreWell }
-    ensures sync { SyncsAreWell }
-    ensures create { CreatesAreWell }
 {}
 
 /// What a query finds by scanning: exactly the rows that are marked and of which the index sees a text on which the word has

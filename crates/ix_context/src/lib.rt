@@ -13,6 +13,7 @@ mod occurrences;
 mod ranges;
 mod scores;
 mod searching;
+mod shapes;
 mod syncing;
 #[cfg(test)]
 mod tests;
@@ -21,8 +22,9 @@ pub use creating::create;
 pub use faults::ContextFault;
 pub use hits::Hit;
 pub use inverting::postings;
-pub use laws::{all_in_range, changes_are_well, changes_stand, notes_stand, rules_stay};
+pub use laws::{all_in_range, changes_stand, notes_stand, rules_stay};
 pub use noting::note_insert;
 pub use ranges::KeyRange;
 pub use searching::search;
+pub use shapes::is_index_shape;
 pub use syncing::sync;

@@ -3,12 +3,15 @@
 
 ghost use Rattle.std.specs.Prelude.{◌≡◌, ◌+◌, ◌<◌, ◌≤◌, ◌^◌, ◌∷◌, [], All, IfOk, Some, MatchOption, length, map};
 ghost use Rattle.ct_keep.specs.KeeperViews.{OnlyReads};
+ghost use Rattle.ct_entry.specs.Changes.{spell};
 ghost use Rattle.ct_entry.specs.Keys.{posting_part};
+ghost use Rattle.ct_entry.specs.Shapes.{AreShaped};
 ghost use Rattle.ix_posting.specs.Rows.{IsPostingRow, posting_bytes};
 ghost use Rattle.ix_context.specs.Indexes.{target_text};
 ghost use Rattle.ix_context.specs.Changes.{posting_change, text_changes, document_changes, Adds, mark_row_changes};
 ghost use Rattle.ix_context.specs.Postings.{IsPosting, HasShortText, if_short};
 ghost use Rattle.ix_context.specs.Sees.{ToldTables, SeesTables};
+ghost use Rattle.ix_context.specs.Shapes.{HasIndexValue, KeepsShape};
 
 use crate::inverting::postings;
 use ct_base::{Memory, Name, RowKey, Text};
@@ -120,8 +123,11 @@ pub(crate) fn mark_row(
 ) -> Result<(), Memory>
     requires some { 1 ≤ document }
     requires short { HasShortText text }
-    ensures { Adds batch.old batch.new result (document_changes index.now document row.0 text) }
+    ensures changes { Adds batch.old batch.new result (document_changes index.now document row.0 text) }
+    ensures shaped { AreShaped HasIndexValue (spell (document_changes index.now document row.0 text)) }
 {
+    // Read so that the proof knows that it is a name.
+    let _named = index.as_str();
     let row_part = row_key_bytes(row);
     let document_part = document.to_be_bytes();
     let row_value = Vec::from_slice(alloc, &row_part)?;
@@ -184,6 +190,7 @@ pub(crate) fn mark_next<K: Keeper>(
     requires ready { (K.view keeper.old).ready }
     requires some { 1 ≤ document }
     ensures changes { ToldTables K.view keeper.old (λ ts. Adds changes.old changes.new result (mark_row_changes ts index.now target.now document row)) }
+    ensures shaped { KeepsShape changes.old changes.new result }
     ensures reads { OnlyReads K.view keeper.old keeper.new result }
 {
     let text = seen_text(alloc, keeper, target, row)?;

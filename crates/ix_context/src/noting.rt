@@ -1,7 +1,10 @@
 //! Noting changes of rows in indexes.
 
 ghost use Rattle.std.specs.Prelude.{◌≡◌, OnErr, Err};
+ghost use Rattle.ct_entry.specs.Changes.{spell};
+ghost use Rattle.ct_entry.specs.Shapes.{AreShaped};
 ghost use Rattle.ix_context.specs.Changes.{note_insert_changes, Adds};
+ghost use Rattle.ix_context.specs.Shapes.{HasIndexValue};
 
 use crate::faults::ContextFault;
 use ct_base::{Name, RowKey};
@@ -21,7 +24,10 @@ pub fn note_insert(
     ensures err { OnErr result (batch.new ≡ batch.old) }
     ensures no_disk { result ≡ Err ContextFault.Disk → ⊥ }
     ensures never_too_many { result ≡ Err ContextFault.TooMany → ⊥ }
+    ensures shaped { AreShaped HasIndexValue (spell (note_insert_changes index.now key.0)) }
 {
+    // Read so that the proof knows that it is a name.
+    let _named = index.as_str();
     let part = row_key_bytes(key);
     put_entry(alloc, batch, Kind::Pending, index, &part, Vec::new(alloc))?;
     Ok(())

@@ -1,13 +1,15 @@
 //! Synchronising indexes.
 #![tactic(auto, using(ct_keep::specs::Composing::reads_on, ct_keep::specs::Composing::reads_short))]
 
-ghost use Rattle.std.specs.Prelude.{◌≡◌, ◌+◌, ◌≤◌, ◌<◌, ◌^◌, OnOk, OnErr, Some, Err, length};
+ghost use Rattle.std.specs.Prelude.{◌≡◌, ◌+◌, ◌≤◌, ◌<◌, ◌^◌, IfOk, IfSome, OnOk, OnErr, Some, Err, length};
 ghost use Rattle.ct_keep.specs.KeeperViews.{OnlyReads, Reads};
+ghost use Rattle.ct_entry.specs.Shapes.{AreShaped};
 ghost use Rattle.ix_context.specs.Indexes.{pending_rows};
 ghost use Rattle.ix_context.specs.Changes.{sync_changes, Adds, settle_row_changes, settle_rows_changes, AreSettleChanges, AreSyncChanges};
 ghost use Rattle.ix_context.specs.Faults.{context_fault_of};
 ghost use Rattle.ix_context.specs.Rules.{most_given};
 ghost use Rattle.ix_context.specs.Sees.{ToldTables, SeesTables, ToldIndex, SeesIndex};
+ghost use Rattle.ix_context.specs.Shapes.{HasIndexValue, KeepsShape};
 
 use crate::entries::{put_index, read_index};
 use crate::faults::{ContextFault, fault_of_reads};
@@ -32,6 +34,7 @@ fn settle_row<K: Keeper>(
     requires ready { (K.view keeper.old).ready }
     requires some { 1 ≤ document }
     ensures changes { ToldTables K.view keeper.old (λ ts. Adds changes.old changes.new result (settle_row_changes ts index.now target.now document row)) }
+    ensures shaped { KeepsShape changes.old changes.new result }
     ensures reads { OnlyReads K.view keeper.old keeper.new result }
 {
     let part = row_key_bytes(row);
@@ -53,6 +56,7 @@ fn settle_rows<K: Keeper>(
     requires some { 1 ≤ first }
     requires room { first + length rows.now < 2 ^ 32 }
     ensures changes { ToldTables K.view keeper.old (λ ts. Adds changes.old changes.new result (settle_rows_changes ts index.now target.now first rows.now)) }
+    ensures shaped { KeepsShape changes.old changes.new result }
     ensures reads { OnlyReads K.view keeper.old keeper.new result }
 {
     let mut document = first;
@@ -76,6 +80,7 @@ fn settled_changes<K: Keeper>(
     requires ready { (K.view keeper.old).ready }
     requires some { 1 ≤ first }
     ensures changes { SeesTables K.view keeper.old result (λ ts. AreSettleChanges ts index.now target.now first rows.now) }
+    ensures shaped { IfOk result (λ found. IfSome found (AreShaped HasIndexValue)) }
     ensures reads { OnlyReads K.view keeper.old keeper.new result }
 {
     let mut changes = Batch::new(alloc);
@@ -99,6 +104,7 @@ fn changes_of_sync<K: Keeper>(
 ) -> Result<Option<Batch>, KeepFault>
     requires { (K.view keeper.old).ready }
     ensures changes { SeesIndex K.view keeper.old index.now result (λ ts x. AreSyncChanges ts index.now x) }
+    ensures shaped { IfOk result (λ found. IfSome found (AreShaped HasIndexValue)) }
     ensures reads { OnlyReads K.view keeper.old keeper.new result }
 {
     let Some((target, next)) = read_index(alloc, keeper, index)? else {
@@ -125,6 +131,7 @@ pub fn sync<K: Keeper>(
     ensures room { ToldIndex K.view keeper.old index.now (λ ts x. OnOk result (x.given + length (pending_rows x) ≤ most_given)) }
     ensures many { ToldIndex K.view keeper.old index.now (λ ts x. result ≡ Err ContextFault.TooMany → most_given < x.given + length (pending_rows x)) }
     ensures err { OnErr result (batch.new ≡ batch.old) }
+    ensures shaped { AreShaped HasIndexValue batch.old → AreShaped HasIndexValue batch.new }
     ensures reads { Reads (K.view keeper.old) (K.view keeper.new) (context_fault_of result) }
 {
     let found = match changes_of_sync(alloc, keeper, index) {

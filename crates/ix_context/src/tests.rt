@@ -1,11 +1,13 @@
 //! Indexes in a keeper in memory.
 
-ghost use Rattle.std.specs.Prelude.{true, IsTrue, [], ◌∷◌};
+ghost use Rattle.std.specs.Prelude.{◌≤◌, length, true, IfOk, IsTrue, [], ◌∷◌};
 ghost use Rattle.ct_keep.specs.SeenChanges.{change_of};
 ghost use Rattle.ct_keep.specs.Changes.{AnyEntry, AreWell};
+ghost use Rattle.tb_table.specs.Shapes.{HaveShortTexts};
 
-use crate::{Hit, KeyRange, create, note_insert, search, sync};
+use crate::{Hit, KeyRange, create, is_index_shape, note_insert, search, sync};
 use ct_base::{Memory, Name, RowKey, Text};
+use ct_entry::Kind;
 use ct_keep::{Batch, Change, Keeper, MemKeeper};
 use std::alloc::Global;
 use std::test::Fail;
@@ -47,13 +49,21 @@ fn named(alloc: Global, text: &str) -> Result<Name, Memory> {
     Name::read(alloc, text).map_err(|_| Memory)
 }
 
-/// Puts a row with one text into a table.
-fn add_row(alloc: Global, keeper: &mut MemKeeper, row: i64, text: &str) -> Result<(), Fail> {
-    let table = named(alloc, "docs")?;
+fn one_text(alloc: Global, text: &str) -> Result<Vec<(u8, Text)>, Memory>
+    requires { length text.now ≤ 100 }
+    ensures { IfOk result (λ texts. HaveShortTexts texts.items) }
+{
     let mut texts = Vec::new(alloc);
-    texts
-        .push((1, Text::of(alloc, text)?))
-        .map_err(Memory::from)?;
+    texts.push((1, Text::of(alloc, text)?))?;
+    Ok(texts)
+}
+
+/// Puts a row with one text into a table.
+fn add_row(alloc: Global, keeper: &mut MemKeeper, row: i64, text: &str) -> Result<(), Fail>
+    requires { length text.now ≤ 100 }
+{
+    let table = named(alloc, "docs")?;
+    let texts = one_text(alloc, text)?;
     let mut batch = Batch::new(alloc);
     insert(alloc, &mut batch, &table, RowKey(row), &[], texts)?;
     commit(alloc, keeper, batch)
@@ -178,5 +188,96 @@ fn a_second_one_finds_nothing_to_do(rt: HostRuntime) -> Result<(), Fail> {
     let (line, count) = found_later(rt.alloc(), "quick", 2)?;
     assert_eq!(&rt; line.as_str(), "3:1 7:2 ");
     assert_eq!(&rt; count, 0);
+    Ok(())
+}
+
+/// A kind, the rest of a key, a value, and whether both make a well shaped entry.
+type Shape = (Kind, &'static [u8], &'static [u8], bool);
+
+/// The row keys 7 and -1, and the document 1.
+const ROW: &[u8] = &[0x80, 0, 0, 0, 0, 0, 0, 7];
+
+const ROW_BELOW: &[u8] = &[0x7f, 0xff, 0xff, 0xff, 0xff, 0xff, 0xff, 0xff];
+
+const DOCUMENT: &[u8] = &[0, 0, 0, 1];
+
+/// A word of a document at the positions 1 and 3, and a section from the one to the other.
+const POSTING: &[u8] = &[1, 1, 2, 1, 2];
+
+const SPAN: &[u8] = &[1, 1, 1, 1, 2];
+
+static SHAPES: [Shape; 28] = [
+    (
+        Kind::Indexes,
+        &[],
+        &[1, 1, b't', 1, 0, 0, 0, 2, 0, 0, 0, 0, 0, 0, 3, 0, 0, 0],
+        true,
+    ),
+    (
+        Kind::Indexes,
+        &[0],
+        &[1, 1, b't', 1, 0, 0, 0, 2, 0, 0, 0, 0, 0, 0, 3, 0, 0, 0],
+        false,
+    ),
+    (
+        Kind::Indexes,
+        &[],
+        &[1, 1, b'T', 1, 0, 0, 0, 2, 0, 0, 0, 0, 0, 0, 3, 0, 0, 0],
+        false,
+    ),
+    (
+        Kind::Indexes,
+        &[],
+        &[1, 1, b't', 1, 0, 0, 0, 2, 0, 0, 0, 0, 0, 0, 3, 0, 0],
+        false,
+    ),
+    (Kind::Indexes, &[], &[], false),
+    (Kind::DocumentRows, DOCUMENT, ROW, true),
+    (Kind::DocumentRows, DOCUMENT, ROW_BELOW, true),
+    (Kind::DocumentRows, &[0, 0, 1], ROW, false),
+    (Kind::DocumentRows, DOCUMENT, DOCUMENT, false),
+    (Kind::RowDocuments, ROW, DOCUMENT, true),
+    (Kind::RowDocuments, ROW, &[0, 0, 0, 1, 0], false),
+    (Kind::RowDocuments, DOCUMENT, DOCUMENT, false),
+    (Kind::Pending, ROW, &[], true),
+    (Kind::Pending, ROW, &[0], false),
+    (Kind::Pending, &[], &[], false),
+    (Kind::Postings, &[0, 1, b'a', 0, 0, 0, 1], POSTING, true),
+    (Kind::Postings, &[64, 1, b'a', 0, 0, 0, 1], POSTING, true),
+    (Kind::Postings, &[65, 1, b'a', 0, 0, 0, 1], POSTING, false),
+    (Kind::Postings, &[0, 0, 0, 0, 0, 1], POSTING, false),
+    (Kind::Postings, &[0, 1, b'a', 0, 0, 0, 2], POSTING, false),
+    (Kind::Postings, &[0, 2, b'a', 0, 0, 0, 1], POSTING, false),
+    (
+        Kind::Postings,
+        &[0, 1, b'a', 0, 0, 0, 1],
+        &[1, 1, 2, 1, 2, 0],
+        false,
+    ),
+    (
+        Kind::Postings,
+        &[0, 1, b'a', 0, 0, 0, 1],
+        &[2, 1, 1, 1, 1, 1, 1],
+        true,
+    ),
+    (Kind::Spans, &[1, b's', 0, 0, 0, 1], SPAN, true),
+    (Kind::Spans, &[1, b'S', 0, 0, 0, 1], SPAN, false),
+    (Kind::Spans, &[1, b's', 0, 0, 0, 7], SPAN, false),
+    (Kind::Spans, &[1, b's', 0, 0, 0, 1], &[1, 1, 1, 1], false),
+    (Kind::Tables, &[], &[], false),
+];
+
+/// Whether an entry is well shaped exactly where its row of the table says so.
+fn is_as_told(alloc: Global, shape: &Shape) -> Result<bool, Memory> {
+    let (kind, part, value, told) = *shape;
+    let is = is_index_shape(alloc, kind, part, value)?;
+    Ok(is == told)
+}
+
+#[test]
+fn entries_are_told_by_their_shape(rt: HostRuntime) -> Result<(), Fail> {
+    for shape in &SHAPES {
+        assert!(&rt; is_as_told(rt.alloc(), shape)?);
+    }
     Ok(())
 }

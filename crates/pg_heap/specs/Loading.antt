@@ -1,9 +1,9 @@
 -- What is loaded of a store: the pages behind its root, the map that they hold, and the places of its keys.
-use Rattle.std.specs.Prelude.{◌≡◌, ◌≢◌, ℕ, ◌+◌, List, [], length, map, Some, refl}
+use Rattle.std.specs.Prelude.{◌≡◌, ℕ, ◌+◌, List, [], length, map, Some, refl}
 use Rattle.ct_site.specs.Disks.{DiskView}
 use Rattle.ct_keep.specs.Content.{Content}
 use Rattle.pg_journal.specs.Pages.{page, pages_from}
-use Rattle.pg_journal.specs.Recovered.{IsStore, gate, first_pages}
+use Rattle.pg_journal.specs.Recovered.{first_pages}
 use Rattle.pg_journal.specs.Standing.{DiskStands}
 use Rattle.pg_heap.specs.Holding.{Recovers}
 use Rattle.pg_heap.specs.Kinds.{Each, Kind, kind_bytes, IsKind}
@@ -40,10 +40,6 @@ pub record PartsAgree (homes : ℕ) (kinds : List Kind) (held : Content) (places
 pub record IsLoaded (image : List ℕ) (disk : DiskView) (homes : ℕ) (kinds : List Kind) (held : Content) : Type 0 where
   pub recovers : Recovers image (Some held)
   pub stands : DiskStands disk homes (behind_root kinds)
-
--- Where the image is a store, its gate isn't open: no batch is under way.
-abbrev pub HasNoOpenGate : List ℕ → Type 0
-HasNoOpenGate image = IsStore image → gate image ≢ 1
 
 -- ---- computed examples: no page behind the root, of any image, and the pages of a store that was just born
 no_pages : (image : List ℕ) → ArePages image 0 []

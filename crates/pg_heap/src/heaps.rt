@@ -10,9 +10,8 @@ ghost use Rattle.ct_keep.specs.Changes.{AnyEntry, AreWell, HoldsWell};
 ghost use Rattle.ct_keep.specs.Counting.{count_under, IsOwner};
 ghost use Rattle.ct_keep.specs.KeeperViews.{AnswersCommit, fault_of};
 ghost use Rattle.pg_journal.specs.Looking.{Loads};
-ghost use Rattle.pg_journal.specs.Recovered.{Alike, IsStore, gate};
+ghost use Rattle.pg_journal.specs.Recovered.{Alike, HasNoOpenGate, IsOnlyRead};
 ghost use Rattle.pg_heap.specs.Holding.{Holds, Recovers};
-ghost use Rattle.pg_heap.specs.Loading.{HasNoOpenGate};
 ghost use Rattle.pg_heap.specs.MapReading.{behind_root};
 ghost use Rattle.pg_heap.specs.BatchPages.{batch_end, batch_pages};
 ghost use Rattle.pg_heap.specs.Commits.{CommitsPages};
@@ -71,14 +70,15 @@ impl Heap {
 
     /// Loads the heap of a store: makes a store on an unborn disk, or puts home a batch that a crash has left. At each moment the disk
     /// recovers to what it did. NotAStore exactly where it recovers to no map, and then the file is as it was, but for a batch that was
-    /// put home. What a crash leaves is told where nothing was pending. Each page is read once.
+    /// put home. A file that isn't unborn and has no batch under way is only read, whatever the answer. What a crash leaves is told where
+    /// nothing was pending. Each page is read once.
     pub fn load<D: Disk>(alloc: Global, disk: &mut D) -> Result<Heap, LoadFault>
         ensures moments { (image : List ℕ) → IsSettled (D.disk disk.old) image → Leaves (D.disk disk.old) (D.disk disk.new) (Alike image) }
         ensures loaded { (image : List ℕ) → IsSettled (D.disk disk.old) image → IfOk result (λ heap. IsMap heap.held image × HeapStands (D.disk disk.new) heap) }
         ensures whole { IfOk result (λ heap. Holds (behind_root heap.kinds) heap.held) }
         ensures no_store { (image : List ℕ) → IsSettled (D.disk disk.old) image → result ≡ Err LoadFault.NotAStore → Recovers image None }
         ensures refused { (image : List ℕ) → IsSettled (D.disk disk.old) image → HasNoOpenGate image → result ≡ Err LoadFault.NotAStore → IsSame (D.disk disk.old) (D.disk disk.new) }
-        ensures same { (image : List ℕ) → (D.disk disk.old).image ≡ Some image → IsStore image → gate image ≢ 1 → IsSame (D.disk disk.old) (D.disk disk.new) }
+        ensures kept { (image : List ℕ) → (D.disk disk.old).image ≡ Some image → IsOnlyRead image → IsSame (D.disk disk.old) (D.disk disk.new) }
         ensures length { Lengthens 12288 (D.disk disk.old) (D.disk disk.new) }
         ensures loads { Loads (D.disk disk.old) (D.disk disk.new) result }
     {

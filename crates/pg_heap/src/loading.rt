@@ -5,11 +5,11 @@ ghost use Rattle.ct_site.specs.Disks.{IsSame, IsSettled, Leaves, Works};
 ghost use Rattle.ct_site.specs.Lengths.{IsWithin, Lengthens};
 ghost use Rattle.pg_journal.specs.Looking.{Loads};
 ghost use Rattle.pg_journal.specs.Pages.{page};
-ghost use Rattle.pg_journal.specs.Recovered.{Alike, IsStore, gate};
+ghost use Rattle.pg_journal.specs.Recovered.{Alike, HasNoOpenGate, IsOnlyRead};
 ghost use Rattle.pg_journal.specs.Standing.{DiskStands};
 ghost use Rattle.pg_heap.specs.Holding.{Recovers};
 ghost use Rattle.pg_heap.specs.Kinds.{Each, IsKind};
-ghost use Rattle.pg_heap.specs.Loading.{HasNoOpenGate, ArePages, ArePagesOf, AreNoPages, HaveNoKinds, PartsAgree, IsLoaded};
+ghost use Rattle.pg_heap.specs.Loading.{ArePages, ArePagesOf, AreNoPages, HaveNoKinds, PartsAgree, IsLoaded};
 ghost use Rattle.pg_heap.specs.Readings.{free_to};
 ghost use Rattle.pg_heap.specs.Sheets.{kinds_of};
 
@@ -107,7 +107,7 @@ pub(crate) fn load_parts<D: Disk>(alloc: Global, disk: &mut D) -> Result<Loaded,
     ensures loaded { (image : List ℕ) → IsSettled (D.disk disk.old) image → IfOk result (λ l. IsLoaded image (D.disk disk.new) l.journal (kinds_of l.sheets.items) l.held) }
     ensures no_store { (image : List ℕ) → IsSettled (D.disk disk.old) image → result ≡ Err LoadFault.NotAStore → Recovers image None }
     ensures refused { (image : List ℕ) → IsSettled (D.disk disk.old) image → HasNoOpenGate image → result ≡ Err LoadFault.NotAStore → IsSame (D.disk disk.old) (D.disk disk.new) }
-    ensures same { (image : List ℕ) → (D.disk disk.old).image ≡ Some image → IsStore image → gate image ≢ 1 → IsSame (D.disk disk.old) (D.disk disk.new) }
+    ensures kept { (image : List ℕ) → (D.disk disk.old).image ≡ Some image → IsOnlyRead image → IsSame (D.disk disk.old) (D.disk disk.new) }
     ensures length { Lengthens 12288 (D.disk disk.old) (D.disk disk.new) }
     ensures loads { Loads (D.disk disk.old) (D.disk disk.new) result }
 {

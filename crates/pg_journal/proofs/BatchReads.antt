@@ -2,7 +2,6 @@
 use Rattle.std.specs.Prelude.{nat_eq, Bool, true, false, IsErr, IfOk, Result, Ok, Err, None}
 use Rattle.std.specs.Cmp.Lexicographic.{pointwise, same_text}
 use Rattle.std.proofs.lemmas.Bool.{false≢true}
-use Rattle.std.proofs.lemmas.Bool.Decides.{nat_tests}
 use Rattle.std.proofs.Common.{◌≡◌, ◌≢◌, ℕ, zero, suc, ◌+◌, ◌-◌, ◌*◌, ◌≤◌, ◌<◌, List, [], ◌∷◌, ◌++◌, length, take, drop, Option, Some, refl, sym, ap, subst, ◌∙◌, arith, length-drop, length-append}
 use Rattle.std.proofs.lemmas.List.{length-take-le}
 use Rattle.pg_journal.specs.Pages.{page, number_in, Numbered, Has, AreBetween, put_on, homes_in, IsRoot}

@@ -122,9 +122,6 @@ after_same old mid new image settled same beside leaves = leaves_then old mid ne
 pub marked_is : (r b : Bool) (image : List ℕ) → HasMark r image → r ≡ b → HasMark b image
 marked_is r b image is e = subst (λ (x : Bool). HasMark x image) e is
 
-pub unborn_no_store : (found : Option Bool) (empty : Bool) (image : List ℕ) → IsUnbornOr found image → found ≡ Some empty → IsStore image → ⊥
-unborn_no_store found empty image is some store = born_or_not image (as_unborn empty (unborn_is found empty image is some)) store
-  where
-    as_unborn : (b : Bool) → IsUnbornAs b image → IsUnborn image
-    as_unborn true short = inl short
-    as_unborn false c = inr (c.first, c.most)
+pub as_unborn : (empty : Bool) (image : List ℕ) → IsUnbornAs empty image → IsUnborn image
+as_unborn true image short = inl short
+as_unborn false image c = inr (c.first, c.most)

@@ -100,6 +100,17 @@ pub record Alike (image other : List ℕ) : Type 0 where
   pub onward : (pages : List (List ℕ)) → IsRecovered image pages → IsRecovered other pages
   pub back : (pages : List (List ℕ)) → IsRecovered other pages → IsRecovered image pages
 
+-- ---- which files loading writes
+
+-- Where the image is a store, its gate isn't open: no batch is under way.
+abbrev pub HasNoOpenGate : List ℕ → Type 0
+HasNoOpenGate image = IsStore image → gate image ≢ 1
+
+-- Loading only reads it: it isn't a file that birth makes a store, and no batch is under way.
+pub record IsOnlyRead (image : List ℕ) : Type 0 where
+  pub born : IsUnborn image → ⊥
+  pub shut : HasNoOpenGate image
+
 -- ---- computed examples: one number is filled to a page, and so are 1024; 1025 take two pages
 fill_one : filling 1 ≡ 4092
 fill_one = refl
@@ -112,3 +123,10 @@ fill_two = refl
 
 empty_is_unborn : IsUnborn []
 empty_is_unborn = Rattle.std.proofs.Common.inl (omega Rattle.std.proofs.Common.arith)
+
+-- a file of two letters, which is no store
+letters_are_read : IsOnlyRead (codes "no")
+letters_are_read = record {
+  born = λ unborn. Rattle.std.proofs.Common.⊎_elim (λ short. omega (Rattle.std.proofs.Common.arith, short)) (λ zero_first. omega (Rattle.std.proofs.Common.arith, zero_first.0)) unborn;
+  shut = λ store. omega (Rattle.std.proofs.Common.arith, store.whole);
+}

@@ -5,7 +5,7 @@ ghost use Rattle.ct_site.specs.Disks.{IsSame, IsSettled, Leaves, Works};
 ghost use Rattle.pg_journal.specs.Births.{IsUnbornAs};
 ghost use Rattle.pg_journal.specs.Looking.{IsNoStore, IsSized, Loaded, Loads, WritesNothing};
 ghost use Rattle.pg_journal.specs.Pages.{AreBetween, Has, changed, homes_in, homes_of};
-ghost use Rattle.pg_journal.specs.Recovered.{Alike, IsRecovered, IsStore, gate, number_pages};
+ghost use Rattle.pg_journal.specs.Recovered.{Alike, IsOnlyRead, IsRecovered, IsStore, gate, number_pages};
 ghost use Rattle.pg_journal.specs.Staging.{OverGoal};
 ghost use Rattle.ct_site.specs.Lengths.{IsWithin, Lengthens};
 ghost use Rattle.pg_journal.specs.Standing.{commit_end, homes_with, IsEither, MayCommit, DiskStands, OverPages};
@@ -40,14 +40,14 @@ impl Model for Journal {
 impl Journal {
     /// Makes the store on an unborn disk, or puts home a batch that a crash has left, and gives the journal of the store. At
     /// each moment the disk recovers to what it did. NotAStore exactly where it recovers to no pages. The memory for a batch
-    /// is taken before anything is written, so after NotAStore and after Memory the disk is as it was. What a crash leaves
-    /// is told where nothing was pending.
+    /// is taken before anything is written, so after NotAStore and after Memory the disk is as it was; and a file that isn't
+    /// unborn and has no batch under way is only read, whatever the answer. What a crash leaves is told where nothing was pending.
     pub fn load<D: Disk>(alloc: Global, disk: &mut D) -> Result<Journal, LoadFault>
         ensures moments { (image : List ℕ) → IsSettled (D.disk disk.old) image → Leaves (D.disk disk.old) (D.disk disk.new) (Alike image) }
         ensures loaded { (image : List ℕ) → IsSettled (D.disk disk.old) image → IfOk result (λ journal. Loaded image (D.disk disk.new) journal) }
         ensures no_store { (image : List ℕ) → (D.disk disk.old).image ≡ Some image → result ≡ Err LoadFault.NotAStore → IsNoStore image }
         ensures same { WritesNothing result (D.disk disk.old) (D.disk disk.new) }
-        ensures kept { (image : List ℕ) → (D.disk disk.old).image ≡ Some image → IsStore image → gate image ≢ 1 → IsSame (D.disk disk.old) (D.disk disk.new) }
+        ensures kept { (image : List ℕ) → (D.disk disk.old).image ≡ Some image → IsOnlyRead image → IsSame (D.disk disk.old) (D.disk disk.new) }
         ensures length { Lengthens 12288 (D.disk disk.old) (D.disk disk.new) }
         ensures loads { Loads (D.disk disk.old) (D.disk disk.new) result }
     {

@@ -1,2 +1,3 @@
 -- Laws of keepers over a store file.
 pub mod Paged
+pub mod Loading

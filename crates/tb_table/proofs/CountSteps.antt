@@ -1,28 +1,20 @@
 -- Where each entry of a table's rows is that of a row, there are as many rows as entries.
-use Rattle.std.proofs.Common.{◌≡◌, ℕ, ℤ, pos, negsuc, suc, ◌+◌, ◌-◌, ◌^◌, ◌<◌, ◌≤◌, Bool, true, false, cond, List, [], ◌∷◌, length, Option, Some, None, Result, Ok, Err, refl, sym, ap, ◌∙◌, subst, arith, inl, inr}
-use Rattle.std.specs.Prelude.{◌↔◌, IsTrue, IfOk, is_some, not}
-use Rattle.std.specs.Option.{option_map, option_and_then}
+use Rattle.std.proofs.Common.{◌≡◌, ℕ, ℤ, suc, List, [], ◌∷◌, length, Option, Some, None, refl, sym, ap, ◌∙◌, subst}
+use Rattle.std.specs.Prelude.{is_some}
 use Rattle.std.specs.List.{cons_option}
-use Rattle.std.specs.Ordering.{nat_cmp, is_lt}
+use Rattle.std.specs.Ordering.{nat_cmp}
 use Rattle.std.specs.Cmp.Lexicographic.{slice_cmp}
 use Rattle.std.specs.FinMap.{entries, get}
-use Rattle.std.proofs.lemmas.Bool.{cases_lt, and_parts}
 use Rattle.std.proofs.lemmas.Cmp.{nat_list_cmp_total}
-use Rattle.ct_base.specs.declared.numbers.RowKey.{RowKey}
-use Rattle.ct_bytes.specs.RowKeys.{sign_turned as raised_key, row_bytes}
-use Rattle.ct_bytes.specs.laws.ByteOrder.{nat_cmp_less, eight_bytes_in_order}
-use Rattle.ct_keep.specs.declared.keepers.KeepFault.{KeepFault}
-use Rattle.ct_keep.specs.Content.{Content, entries_above, first_entry}
-use Rattle.ct_keep.specs.Rising.{Entry, above, first_then, none_then}
-use Rattle.ct_base.specs.laws.Orders.{less_from_test as is_less, lt_from_less}
-use Rattle.ct_keep.specs.RisingKeys.{below, rises, entries_rise}
+use Rattle.ct_keep.specs.Content.{Content}
+use Rattle.ct_keep.specs.Rising.{Entry}
 use Rattle.ct_keep.specs.Tail.{tail}
-use Rattle.ct_keep.specs.TailLaws.{get-tail, get-tail_nil, entries_above-tail_nil}
+use Rattle.ct_keep.specs.TailLaws.{get-tail, get-tail_nil}
 use Rattle.ct_entry.specs.declared.kinds.Kind.TheVariants as kind
-use Rattle.ct_entry.specs.Keys.{Key, key, bytes, prefix_of, row_part, IsRow, IsRowPart, IsPart, HasKeysOnly}
+use Rattle.ct_entry.specs.Keys.{Key, key, bytes, prefix_of, IsRowPart, IsPart, HasKeysOnly}
 use Rattle.ct_entry.specs.laws.Keys.{key_from_bytes}
 use Rattle.ct_keep.specs.FoundKeys.{AllKeys, all_keys}
-use Rattle.ct_entry.specs.Listings.{row_of, rows_of, rows_under, place_after, row_after}
+use Rattle.ct_entry.specs.Listings.{row_of, rows_of, rows_under}
 use Rattle.ct_entry.specs.laws.Rows.{row_of-row_part}
 
 -- ---- each rest is that of a row

@@ -3,3 +3,5 @@ pub mod ColumnSteps
 pub mod NumberSteps
 pub mod NameSteps
 pub mod CountSteps
+pub mod WriteSteps
+pub mod ShapeSteps

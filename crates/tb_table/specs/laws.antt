@@ -3,3 +3,4 @@ pub mod Reading
 pub mod Changes
 pub mod Rules
 pub mod Well
+pub mod Shapes

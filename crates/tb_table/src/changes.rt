@@ -1,9 +1,13 @@
 //! What calls put into a batch.
 
-ghost use Rattle.std.specs.Prelude.{◌≡◌, [], ◌∷◌, ◌++◌, ◌^◌, ◌<◌, length, IfOk, OnOk, OnErr};
+ghost use Rattle.std.specs.Prelude.{◌≡◌, [], ◌∷◌, ◌++◌, ◌≤◌, length, IfOk, OnOk, OnErr};
+ghost use Rattle.std.specs.List.{All};
+ghost use Rattle.ct_base.specs.Limits.{column_limit};
+ghost use Rattle.ct_entry.specs.Shapes.{AreShaped};
 ghost use Rattle.ct_entry.specs.Changes.{spell, put};
 ghost use Rattle.ct_entry.specs.declared.kinds.Kind.TheVariants as kind;
 ghost use Rattle.ct_entry.specs.Keys.{key, text_part};
+ghost use Rattle.tb_table.specs.Shapes.{HasTableValue, HaveShortTexts, IsTextEntry};
 ghost use Rattle.tb_table.specs.Spelling.{table_changes, row_text_changes, insert_changes};
 
 use crate::columns::Column;
@@ -21,10 +25,12 @@ pub fn create(
     table: &Name,
     columns: &[Column],
 ) -> Result<(), Memory>
-    requires { length columns.now < 2 ^ 32 }
+    requires { length columns.now ≤ column_limit }
     ensures ok { OnOk result (batch.new ≡ batch.old ++ spell (table_changes table.now columns.now)) }
     ensures err { OnErr result (batch.new ≡ batch.old) }
+    ensures shaped { OnOk result (AreShaped HasTableValue (spell (table_changes table.now columns.now))) }
 {
+    let _named = table.as_str();
     let value = columns_bytes(alloc, columns)?;
     put_entry(alloc, batch, Kind::Tables, table, &[], value)
 }
@@ -38,8 +44,10 @@ fn put_text(
     column: u8,
     text: Text,
 ) -> Result<(), Memory>
-    ensures { OnOk result (batch.new ≡ batch.old ++ spell (put (key kind.RowTexts table.now (text_part column row.0)) text ∷ [])) }
+    ensures changes { OnOk result (batch.new ≡ batch.old ++ spell (put (key kind.RowTexts table.now (text_part column row.0)) text ∷ [])) }
+    ensures text { IsTextEntry (column, text) }
 {
+    let _utf8 = text.as_str();
     let part = text_part(column, row);
     put_entry(
         alloc,
@@ -59,7 +67,8 @@ fn put_texts(
     key: RowKey,
     texts: Vec<(u8, Text)>,
 ) -> Result<(), Memory>
-    ensures { OnOk result (batch.new ≡ batch.old ++ spell (row_text_changes table.now key.0 texts.items)) }
+    ensures changes { OnOk result (batch.new ≡ batch.old ++ spell (row_text_changes table.now key.0 texts.items)) }
+    ensures texts { OnOk result (All IsTextEntry texts.items) }
 {
     for (column, text) in texts {
         put_text(alloc, batch, table, key, column, text)?;
@@ -78,9 +87,13 @@ pub fn insert(
     numbers: &[i64],
     texts: Vec<(u8, Text)>,
 ) -> Result<(), Memory>
+    requires few { length numbers.now ≤ column_limit }
+    requires short { HaveShortTexts texts.items }
     ensures ok { OnOk result (batch.new ≡ batch.old ++ spell (insert_changes table.now key.0 numbers.now texts.items)) }
     ensures err { OnErr result (batch.new ≡ batch.old) }
+    ensures shaped { OnOk result (AreShaped HasTableValue (spell (insert_changes table.now key.0 numbers.now texts.items))) }
 {
+    let _named = table.as_str();
     let mut changes = Batch::new(alloc);
     let value = row_numbers_bytes(alloc, numbers)?;
     let part = row_key_bytes(key);

@@ -8,6 +8,7 @@ mod listings;
 mod lookups;
 mod reading;
 mod row_counts;
+mod shapes;
 #[cfg(test)]
 mod tests;
 mod writing;
@@ -18,3 +19,4 @@ pub use laws::{changes_stand, entries_are_exact, rules_stay};
 pub use listings::{next_row, tables};
 pub use lookups::{columns_of, has_row, number_row, text_of};
 pub use row_counts::row_count;
+pub use shapes::is_table_shape;

@@ -1,12 +1,13 @@
 //! A table in a keeper in memory.
 
-ghost use Rattle.std.specs.Prelude.{true, IsTrue, [], ◌∷◌};
+ghost use Rattle.std.specs.Prelude.{true, IsTrue, IfOk, [], ◌∷◌, ◌≤◌, length};
 ghost use Rattle.ct_keep.specs.SeenChanges.{change_of};
 ghost use Rattle.ct_keep.specs.Changes.{AnyEntry, AreWell};
+ghost use Rattle.tb_table.specs.Shapes.{HaveShortTexts};
 
 use crate::{
-    Column, Sort, columns_of, create, has_row, insert, next_row, number_row, row_count, tables,
-    text_of,
+    Column, Sort, columns_of, create, has_row, insert, is_table_shape, next_row, number_row,
+    row_count, tables, text_of,
 };
 use ct_base::{Memory, Name, RowKey, Text};
 use ct_bytes::row_key_bytes;
@@ -99,7 +100,10 @@ fn make_table(alloc: Global, keeper: &mut MemKeeper, table: &str) -> Result<(), 
     commit(alloc, keeper, batch)
 }
 
-fn two_texts(alloc: Global, title: &str) -> Result<Vec<(u8, Text)>, Memory> {
+fn two_texts(alloc: Global, title: &str) -> Result<Vec<(u8, Text)>, Memory>
+    requires { length title.now ≤ 100 }
+    ensures { IfOk result (λ texts. HaveShortTexts texts.items) }
+{
     let mut texts = Vec::new(alloc);
     texts.push((1, Text::of(alloc, title)?))?;
     texts.push((3, Text::of(alloc, "a body")?))?;
@@ -113,7 +117,9 @@ fn add_row(
     table: &Name,
     row: i64,
     title: &str,
-) -> Result<(), KeepFault> {
+) -> Result<(), KeepFault>
+    requires { length title.now ≤ 100 }
+{
     let texts = two_texts(alloc, title)?;
     let mut batch = Batch::new(alloc);
     insert(alloc, &mut batch, table, RowKey(row), &[-1], texts)?;
@@ -373,5 +379,31 @@ fn columns_have_these_bytes(rt: HostRuntime) -> Result<(), Fail> {
         bytes.as_slice(),
         b"\x04\x02id\x01\0\0\x05title\x02\x01\x2c\x05price\x01\0\0\x04body\x03\0\0".as_slice()
     );
+    Ok(())
+}
+
+/// An entry: its kind, the rest of its key, its value, and whether it is well shaped.
+type Shape = (Kind, &'static [u8], &'static [u8], bool);
+
+static SHAPES: [Shape; 12] = [
+    (Kind::Tables, b"", b"\x01\x02id\x01\0\0", true),
+    (Kind::Tables, b"\0", b"\x01\x02id\x01\0\0", false),
+    (Kind::Tables, b"", b"\x01\x02id\x01\0", false),
+    (Kind::Tables, b"", b"\x00", true),
+    (Kind::RowNumbers, b"12345678", b"", true),
+    (Kind::RowNumbers, b"12345678", b"abcdefgh", true),
+    (Kind::RowNumbers, b"12345678", b"abcdefg", false),
+    (Kind::RowNumbers, b"123456789", b"", false),
+    (Kind::RowTexts, b"\x0112345678", b"\xc3\xa9", true),
+    (Kind::RowTexts, b"\x0112345678", b"\xc3", false),
+    (Kind::RowTexts, b"12345678", b"fox", false),
+    (Kind::Pending, b"12345678", b"", false),
+];
+
+#[test]
+fn entries_are_well_shaped(rt: HostRuntime) -> Result<(), Fail> {
+    for (kind, part, value, shaped) in SHAPES {
+        assert_eq!(rt; is_table_shape(rt.alloc(), kind, part, value)?, shaped);
+    }
     Ok(())
 }

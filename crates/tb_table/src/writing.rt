@@ -1,7 +1,10 @@
 //! Columns and numbers as the values of entries, and rows as the rests of their keys.
 
-ghost use Rattle.std.specs.Prelude.{◌≡◌, ◌++◌, ◌^◌, ◌<◌, length, IfOk, OnOk};
+ghost use Rattle.std.specs.Prelude.{◌≡◌, ◌++◌, ◌^◌, ◌<◌, length, IfOk, OnOk, FitsSigned};
+ghost use Rattle.std.specs.List.{All};
+ghost use Rattle.std.specs.Int.{w64};
 ghost use Rattle.ct_entry.specs.Keys.{text_part};
+ghost use Rattle.tb_table.specs.Readings.{IsSpellable};
 ghost use Rattle.tb_table.specs.Spelling.{sort_code, sort_size, column_bytes, columns_bytes, row_numbers_bytes};
 
 use crate::columns::{Column, Sort};
@@ -32,17 +35,20 @@ fn sort_size(sort: Sort) -> u16
 
 /// Puts a column at the end.
 fn put_column(out: &mut Vec<u8>, column: &Column) -> Result<(), Memory>
-    ensures { OnOk result (out.new.items ≡ out.old.items ++ column_bytes column.now) }
+    ensures bytes { OnOk result (out.new.items ≡ out.old.items ++ column_bytes column.now) }
+    ensures spellable { IsSpellable column.now }
 {
+    let size = sort_size(column.sort);
     put_text(out, column.name.as_str().as_bytes())?;
     out.push(sort_code(column.sort))?;
-    put_u16(out, sort_size(column.sort))
+    put_u16(out, size)
 }
 
 /// The value of a table's entry: how many columns, and each in turn.
 pub(crate) fn columns_bytes(alloc: Global, columns: &[Column]) -> Result<Vec<u8>, Memory>
     requires { length columns.now < 2 ^ 32 }
-    ensures { IfOk result (λ bytes. bytes.items ≡ columns_bytes columns.now) }
+    ensures bytes { IfOk result (λ bytes. bytes.items ≡ columns_bytes columns.now) }
+    ensures spellable { IfOk result (λ _. All IsSpellable columns.now) }
 {
     let mut bytes = Vec::new(alloc);
     put_varint(&mut bytes, columns.len() as u32)?;
@@ -54,7 +60,8 @@ pub(crate) fn columns_bytes(alloc: Global, columns: &[Column]) -> Result<Vec<u8>
 
 /// The value of a row's entry: its numbers, eight bytes each.
 pub(crate) fn row_numbers_bytes(alloc: Global, numbers: &[i64]) -> Result<Vec<u8>, Memory>
-    ensures { IfOk result (λ bytes. bytes.items ≡ row_numbers_bytes numbers.now) }
+    ensures bytes { IfOk result (λ bytes. bytes.items ≡ row_numbers_bytes numbers.now) }
+    ensures fit { IfOk result (λ _. All (FitsSigned w64) numbers.now) }
 {
     let mut bytes = Vec::new(alloc);
     for number in numbers {

@@ -54,7 +54,7 @@ fn is_accent(c: char) -> bool
 
 /// The key of a text: by full case folding unless case is kept, without nonspacing marks where the base letters alone are
 /// asked for, in NFC, and cut at the last character boundary at or below 255 bytes. Its cost is linear in the length of the
-/// text; of an ASCII text it is that of the bytes up to the cut, and no table is asked.
+/// text, but for the sorting of marks that follow one another; of an ASCII text no table is asked.
 pub fn key(alloc: Global, text: &str, base_letter: bool, mixed_case: bool) -> Result<Key, Memory>
     ensures { IfOk result (λ k. k ≡ key_of base_letter mixed_case (chars text.now)) }
 {

@@ -1,31 +1,15 @@
 -- Changes on keys that a keeper takes.
-use Rattle.std.proofs.Common.{◌≡◌, ℕ, ◌+◌, ◌<◌, ◌≤◌, Bool, true, List, [], ◌∷◌, ◌++◌, length, map, take, get_or, Option, Some, None, sym, ap, subst, ◌∙◌}
+use Rattle.std.proofs.Common.{◌≡◌, ℕ, ◌+◌, ◌<◌, ◌≤◌, true, List, [], ◌∷◌, ◌++◌, length, map, take, get_or, Option, Some, None, sym, ap, subst, ◌∙◌}
 use Rattle.std.proofs.lemmas.List.{take_more, map-append}
 use Rattle.ct_keep.specs.declared.batches.Change.{Change}
 use Rattle.ct_keep.specs.Content.{IsEntry, value_limit}
 use Rattle.ct_keep.specs.SeenChanges.{change_of}
 use Rattle.ct_keep.specs.Changes.{AreWell}
 use Rattle.ct_entry.specs.Keys.{Key, bytes, IsKey}
-use Rattle.ct_entry.specs.Changes.{spell, AreChanges, AllOf, AllPut}
 use Rattle.ct_entry.specs.laws.Parts.{is_short, key_is_short}
-
--- a value that a keeper may hold under the key
-pub record IsWellAt (well : List ℕ → List ℕ → Type 0) (k : Key) (value : List ℕ) : Type 0 where
-  pub bounded : length value ≤ value_limit
-  pub shaped : well (bytes k) value
 
 pub entry_of_key : (k : Key) (value : List ℕ) → IsKey k → is_short k.kind ≡ true → length value ≤ value_limit → IsEntry (bytes k) value
 entry_of_key k value is short bounded = let l = key_is_short k is short in record { some = l.0; short = l.1; bounded = bounded }
-
--- a batch of changes on short keys, each of which puts what the keeper may hold, may be committed
-pub are_well : (well : List ℕ → List ℕ → Type 0) (ws : List (Key × Option (List ℕ))) → AreChanges ws → AllOf is_short ws → AllPut (IsWellAt well) ws → AreWell well (spell ws)
-are_well well [] are short puts = tt
-are_well well ((k, None) ∷ ws) are short puts = are_well well ws are.1 short.1 puts.1
-are_well well ((k, Some v) ∷ ws) are short puts = (entry_of_key k v are.0 short.0 puts.0.bounded, puts.0.shaped, are_well well ws are.1 short.1 puts.1)
-
-pub puts-append : (P : Key → List ℕ → Type 0) (xs ys : List (Key × Option (List ℕ))) → AllPut P xs → AllPut P ys → AllPut P (xs ++ ys)
-puts-append P [] ys a b = b
-puts-append P (x ∷ xs) ys a b = (a.0, puts-append P xs ys a.1 b)
 
 pub well-append : (well : List ℕ → List ℕ → Type 0) (xs ys : List (List ℕ × Option (List ℕ))) → AreWell well xs → AreWell well ys → AreWell well (xs ++ ys)
 well-append well [] ys a b = b

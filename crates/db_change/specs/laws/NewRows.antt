@@ -1,5 +1,5 @@
 -- The state after a new row.
-use Rattle.std.proofs.Common.{◌≡◌, ℕ, ℤ, ◌<◌, ◌≤◌, Bool, true, false, cond, List, [], ◌∷◌, ◌++◌, length, map, Option, Some, None, refl, sym, ap, subst, ◌∙◌, arith}
+use Rattle.std.proofs.Common.{◌≡◌, ℕ, ℤ, ◌<◌, ◌≤◌, Bool, true, false, cond, List, [], ◌∷◌, ◌++◌, length, map, Option, Some, None, refl, sym, ap, subst, ◌∙◌}
 use Rattle.std.specs.Prelude.{◌||◌, is_some, filter}
 use Rattle.std.specs.Option.{option_map}
 use Rattle.std.specs.FinMap.{get, insert, entries}
@@ -19,18 +19,16 @@ use Rattle.ct_keep.specs.FoundKeys.{none_below}
 use Rattle.ct_entry.specs.Listings.{key_order}
 use Rattle.std.proofs.lemmas.Bool.{and_parts}
 use Rattle.ct_keep.specs.RisingKeys.{below, rises}
-use Rattle.ct_entry.specs.laws.Parts.{is_short}
 use Rattle.ct_entry.specs.Each.{is_among}
 use Rattle.ct_entry.specs.laws.Each.{all_each}
-use Rattle.ct_entry.specs.laws.Well.{IsWellAt, are_well, puts-append}
-use Rattle.ct_entry.specs.Changes.{spell, told, view, AreChanges, AllOf, AllPut}
-use Rattle.ct_entry.specs.laws.Changes.{at_view, at-after, only-after, told_frame, told-append, view-append, are-append, all-append}
+use Rattle.ct_entry.specs.Changes.{spell, told, view, AreChanges, AllOf}
+use Rattle.ct_entry.specs.laws.Changes.{at_view, at-after, only-after, told_frame, told-append, view-append, are-append}
 use Rattle.tb_table.specs.Tables.{Table, Tables, numbers_of, texts_of, row_at, with_row}
 use Rattle.tb_table.specs.Spelling.{TablesStand, insert_changes}
 use Rattle.tb_table.specs.Rules.{FitColumns, others}
 use Rattle.tb_table.specs.laws.Changes.{is_of_tables, all_insert, stand_insert, tables_frame, get-with_row}
 use Rattle.tb_table.specs.laws.Rules.{insert_keeps}
-use Rattle.tb_table.specs.laws.Well.{are_insert, short_insert, puts_insert, row_places}
+use Rattle.tb_table.specs.laws.Well.{are_insert, row_places}
 use Rattle.ix_context.specs.Indexes.{Index, Pending, waiting_on, noted_on}
 use Rattle.ix_context.specs.Rules.{AreIndexes}
 use Rattle.ix_context.specs.Spelling.{IndexesStand}
@@ -42,11 +40,8 @@ use Rattle.db_names.specs.Promises.{head_of, heads_of}
 use Rattle.db_names.specs.laws.Heads.{heads_at, heads_rise}
 use Rattle.db_names.specs.laws.Pairs.{lookup-find}
 use Rattle.db_state.specs.States.{State, IsState, Stands, is_view, is_built, indexes_on, index_limit}
-use Rattle.db_state.specs.Committing.{are_bounded}
 use Rattle.db_change.specs.Inserting.{note_all_changes, with_new_row}
 use Rattle.db_state.specs.laws.Heads.{heads, get-heads, head_of_index}
-use Rattle.ct_keep.specs.Changes.{AnyEntry}
-use Rattle.db_state.specs.laws.Bounded.{bounded_well}
 use Rattle.db_state.specs.laws.EachValue.{entries-each_value, count_alike}
 use Rattle.ix_context.specs.Promises.{is_on, AreDistinct, AreIndexesOn}
 use Rattle.ix_context.specs.laws.Rules.{row_keeps, row_notes_stand}
@@ -106,9 +101,6 @@ is_pending k = false
 notes_pending : (names : List (List ℕ)) (r : ℤ) → AllOf is_pending (note_all_changes names r)
 notes_pending names r = all_each is_pending (λ i. note_insert_changes i r) (λ i. (refl, tt)) names
 
-notes_short : (names : List (List ℕ)) (r : ℤ) → AllOf is_short (note_all_changes names r)
-notes_short names r = all_each is_short (λ i. note_insert_changes i r) (λ i. (refl, tt)) names
-
 or_right : (a b : Bool) → b ≡ true → (a || b) ≡ true
 or_right true b h = refl
 or_right false b h = h
@@ -120,24 +112,12 @@ notes_are (i ∷ is) r row named = (
   notes_are is r row (λ j there. named j (or_right (same_list j i) (is_among j is) there)),
 )
 
-notes_put : (names : List (List ℕ)) (r : ℤ) → AllPut (IsWellAt AnyEntry) (note_all_changes names r)
-notes_put [] r = tt
-notes_put (i ∷ is) r = (record { bounded = omega arith; shaped = tt }, notes_put is r)
-
 module _ (m : State) (t : List ℕ) (x : Table) (r : ℤ) (vs : List Value) (is : get m.tables t ≡ Some x) (state : IsState m) (row : IsRow r) (fit : FitColumns (others x.columns) vs) where
   pub new_row_changes_are : AreChanges (new_row_changes t r vs (names_on m.indexes t))
   new_row_changes_are =
       are-append (insert_changes t r (numbers_of vs) (texts_of vs)) (note_all_changes (names_on m.indexes t) r)
       (are_insert t r (numbers_of vs) (texts_of vs) (state.tables.names t x is) row (row_places x.columns vs (state.tables.each t x is).columns fit))
       (notes_are (names_on m.indexes t) r row (names_are m.tables m.indexes state.indexes t))
-
-  -- a keeper takes them
-  pub new_row_changes_bounded : are_bounded (spell (new_row_changes t r vs (names_on m.indexes t))) ≡ true
-  new_row_changes_bounded =
-      bounded_well AnyEntry (spell (new_row_changes t r vs (names_on m.indexes t)))
-      (are_well AnyEntry (new_row_changes t r vs (names_on m.indexes t)) new_row_changes_are
-      (all-append is_short (insert_changes t r (numbers_of vs) (texts_of vs)) (note_all_changes (names_on m.indexes t) r) (short_insert t r (numbers_of vs) (texts_of vs)) (notes_short (names_on m.indexes t) r))
-      (puts-append (IsWellAt AnyEntry) (insert_changes t r (numbers_of vs) (texts_of vs)) (note_all_changes (names_on m.indexes t) r) (puts_insert AnyEntry t r x.columns vs (λ k v h. tt) (state.tables.each t x is).columns fit) (notes_put (names_on m.indexes t) r)))
 
 -- ---- the state keeps its rules
 

@@ -31,14 +31,11 @@ use Rattle.ix_context.specs.Spelling.{is_of_indexes}
 use Rattle.ix_context.specs.laws.Changes.{sync_stands, create_stands}
 use Rattle.ix_context.specs.Promises.{HasAllRows, IsFreeColumn}
 use Rattle.ix_context.specs.laws.Rules.{sync_keeps, create_keeps}
-use Rattle.ix_context.specs.laws.Well.{are_changes, all_of_indexes, well_changes, index_changes_sync, index_changes_create}
+use Rattle.ix_context.specs.laws.Well.{are_changes, all_of_indexes, index_changes_sync, index_changes_create}
 use Rattle.db_index.specs.Syncing.{has_too_many, with_synced}
-use Rattle.db_state.specs.Committing.{are_bounded}
 use Rattle.db_index.specs.Indexing.{is_text_sort, is_text_at, has_context_index, has_too_many_rows, all_rows, target, with_new_index, IsFreeIndex}
 use Rattle.db_state.specs.States.{State, Stands, indexes_on, index_limit, is_built}
 use Rattle.db_index.specs.laws.Counting.{one, counted, count_insert, one_true, one_false}
-use Rattle.ct_keep.specs.Changes.{AnyEntry}
-use Rattle.db_state.specs.laws.Bounded.{bounded_well}
 use Rattle.std.proofs.lemmas.Bool.{or_parts as either}
 use Rattle.ct_base.specs.laws.Options.{no_value as no_some}
 
@@ -106,11 +103,6 @@ synced_stands c m i x stands there few =
         few = λ t. subst (λ (n : ℕ). n ≤ index_limit) (sym (few_synced m.indexes i x there t)) (stands.state.few t);
       };
     }
-
-pub synced_bounded : (c : Content) (m : State) (i : List ℕ) (x : Index) → Stands c m → get m.indexes i ≡ Some x → has_too_many x ≡ false → are_bounded (spell (sync_changes m.tables i x)) ≡ true
-synced_bounded c m i x stands there few =
-    let ws = sync_changes m.tables i x in
-    bounded_well AnyEntry (spell ws) (well_changes AnyEntry ws (λ k value of. tt) (index_changes_sync m.tables m.indexes i x stands.state.tables stands.state.indexes there (room_left x few)))
 
 -- ---- the state after a new index
 
@@ -207,10 +199,3 @@ new_index_stands c m i t x place stands name free =
         few = λ q. few_created m.indexes i (created m.tables (target t place) all_rows) none q (leb-false index_limit (length (indexes_on m.indexes t)) few.0) stands.state.few;
       };
     }
-
-pub new_index_bounded : (c : Content) (m : State) (i t : List ℕ) (x : Table) (place : ℕ) → Stands c m → IsName i → IsFreeIndex m i t x place → are_bounded (spell (create_changes m.tables i (target t place) all_rows)) ≡ true
-new_index_bounded c m i t x place stands name free =
-    let ws = create_changes m.tables i (target t place) all_rows in
-    let few = either (nat_le index_limit (length (indexes_on m.indexes t))) (has_too_many_rows m t) free.few in
-    bounded_well AnyEntry (spell ws) (well_changes AnyEntry ws (λ k value of. tt)
-    (index_changes_create m.tables i (target t place) all_rows stands.state.tables name (stands.state.tables.names t x free.there) (ltb-false most_given (length (rows_in m.tables t all_rows)) few.1)))

@@ -11,7 +11,6 @@ use Rattle.ct_keep.specs.Composing.{commits_read, kept_then, reads_hold, reads_o
 use Rattle.db_cond.specs.Faults.{Refusal, refusal_line}
 use Rattle.db_state.specs.States.{State, Stands}
 use Rattle.db_state.specs.Effects.{Effect, Refused, Does, state_by, reply_by}
-use Rattle.db_state.specs.Committing.{are_bounded}
 use Rattle.db_state.specs.Plans.{Gives, Returns, ReturnsBy, Fulfils, IsPlanOf, IsPlan}
 use Rattle.db_state.specs.declared.plans.Plan.{Plan}
 use Rattle.db_state.specs.declared.plans.Plan.TheVariants.{Done}
@@ -105,14 +104,14 @@ plan_then effect line old mid plan reads fits = record { made = λ m c holds sta
 -- the commit of a batch, by what is promised of it for every state
 pub serves_batch : (effect : State → Effect) (line : List ℕ) (batch : List (List ℕ × Option (List ℕ))) (reply : List ℕ) (old new : KeeperView) (result : Result (Vec ℕ Global) KeepFault) → reply ≡ line → IsPlanOf effect line old (Done batch)
     → SameButContent old new (fault_of result) → new.counts.fulls ≡ counted (is_full (fault_of result)) old.counts.fulls → AtMostOneCommit old.counts new.counts
-    → ((m n : State) (c : Content) → old.content ≡ Some c → are_bounded batch ≡ true → Stands (after batch c) n → Gives m (Does n reply) c old new result) → Returns reply old new result → Fulfils effect (Some line) old new result
+    → ((m n : State) (c : Content) → old.content ≡ Some c → Stands (after batch c) n → Gives m (Does n reply) c old new result) → Returns reply old new result → Fulfils effect (Some line) old new result
 serves_batch effect line batch reply old new result same fits kept fulls once gives tells = record {
   kept = kept;
   fulls = fulls;
   once = once;
   gives = λ settled m c holds stands.
       let made = fits.made m c holds stands in
-      gives_as m (effect m) (Does made.0 reply) c old new result (made.1 ∙ ap (Does made.0) (sym same)) (gives m made.0 c holds made.2 made.3);
+      gives_as m (effect m) (Does made.0 reply) c old new result (made.1 ∙ ap (Does made.0) (sym same)) (gives m made.0 c holds made.2);
   tells = λ settled. subst (λ (l : List ℕ). Returns l old new result) same tells;
 }
 

@@ -1,5 +1,5 @@
--- The changes of notes, synchronisations and new indexes are on keys of their kinds, and put what a keeper may hold.
-use Rattle.std.proofs.Common.{◌≡◌, ℕ, ℤ, ◌+◌, ◌*◌, ◌^◌, ◌<◌, ◌≤◌, Bool, true, List, [], ◌∷◌, ◌++◌, length, map, Option, Some, None, refl, arith, length-append}
+-- The changes of notes, synchronisations and new indexes are on keys of their kinds.
+use Rattle.std.proofs.Common.{◌≡◌, ℕ, ℤ, ◌+◌, ◌*◌, ◌^◌, ◌<◌, ◌≤◌, true, List, [], ◌∷◌, ◌++◌, length, map, Option, Some, None, refl, arith, length-append}
 use Rattle.std.specs.Prelude.{All, ◌-◌, not, is_some}
 use Rattle.std.specs.FinMap.{get, entries}
 use Rattle.std.proofs.lemmas.List.Elements.{All-head, All-tail}
@@ -9,15 +9,11 @@ use Rattle.ct_bytes.specs.Varints.{varint, text_bytes}
 use Rattle.ct_bytes.specs.laws.Varints.{varint_length}
 use Rattle.ct_bytes.specs.laws.RowKeys.{length-row_bytes}
 use Rattle.ct_keep.specs.Content.{value_limit}
-use Rattle.ct_keep.specs.Changes.{AnyEntry, AreWell}
-use Rattle.ct_entry.specs.declared.kinds.Kind.{Kind}
 use Rattle.ct_entry.specs.declared.kinds.Kind.TheVariants as kind
 use Rattle.ct_entry.specs.Keys.{Key, key, IsRow, IsKey}
 use Rattle.ct_entry.specs.Maps.{Names}
-use Rattle.ct_entry.specs.Changes.{put, spell, AreChanges, AllOf, Puts, AllPut}
+use Rattle.ct_entry.specs.Changes.{put, AreChanges, AllOf, Puts}
 use Rattle.ct_entry.specs.Each.{each}
-use Rattle.ct_entry.specs.laws.Parts.{is_short}
-use Rattle.ct_entry.specs.laws.Well.{IsWellAt, are_well}
 use Rattle.tb_table.specs.declared.columns.Target.{Target}
 use Rattle.tb_table.specs.Tables.{Tables}
 use Rattle.tb_table.specs.Rules.{AreTables}
@@ -32,7 +28,6 @@ use Rattle.ix_context.specs.Changes.{note_insert_changes, posting_change, text_c
 use Rattle.ix_context.specs.laws.Marks.{EachRow}
 use Rattle.ix_context.specs.laws.Changes.{pending_free, no_marks, rows_free}
 use Rattle.ix_context.specs.laws.Reading.{target_short, target_of}
-use Rattle.ix_context.specs.Promises.{TakesIndexes, NotesAreWell, SyncsAreWell, CreatesAreWell}
 
 -- ---- changes on entries of indexes
 
@@ -54,23 +49,6 @@ are_changes (w ∷ ws) are = (are.0.key, are_changes ws are.1)
 pub all_of_indexes : (ws : List (Key × Option (List ℕ))) → AreIndexChanges ws → AllOf is_of_indexes ws
 all_of_indexes [] are = tt
 all_of_indexes (w ∷ ws) are = (are.0.of, all_of_indexes ws are.1)
-
-short_kind : (k : Kind) → is_of_indexes k ≡ true → is_short k ≡ true
-short_kind kind.Catalogue of = cc
-short_kind k of = refl
-
--- then they may be committed
-pub well_changes : (well : List ℕ → List ℕ → Type 0) (ws : List (Key × Option (List ℕ))) → TakesIndexes well → AreIndexChanges ws → AreWell well (spell ws)
-well_changes well ws takes are = are_well well ws (are_changes ws are) (short ws are) (puts ws are)
-  where
-    short : (ws : List (Key × Option (List ℕ))) → AreIndexChanges ws → AllOf is_short ws
-    short [] are = tt
-    short (w ∷ ws) are = (short_kind w.0.kind are.0.of, short ws are.1)
-
-    puts : (ws : List (Key × Option (List ℕ))) → AreIndexChanges ws → AllPut (IsWellAt well) ws
-    puts [] are = tt
-    puts ((k, None) ∷ ws) are = (tt, puts ws are.1)
-    puts ((k, Some v) ∷ ws) are = (record { bounded = are.0.bounded; shaped = takes k v are.0.of }, puts ws are.1)
 
 pub index_changes-append : (xs ys : List (Key × Option (List ℕ))) → AreIndexChanges xs → AreIndexChanges ys → AreIndexChanges (xs ++ ys)
 index_changes-append [] ys a b = b
@@ -108,7 +86,7 @@ length-one_row_le d ps =
     let same = length-steps 0 ps in
     simp length-append (omega (arith, count, number, positions, places, same))
 
-length-entry_le : (t : List ℕ) (c n : ℕ) → IsName t → length (index_bytes t c n) ≤ 51
+pub length-entry_le : (t : List ℕ) (c n : ℕ) → IsName t → length (index_bytes t c n) ≤ 51
 length-entry_le t c n name =
     let prefix = length-append (text_bytes t) (after_table c n) in
     let text = length-append (varint (length t)) t in
@@ -196,14 +174,3 @@ index_changes_create ts i target range are name table room = (
   index_changes-each (λ (p : ℕ × ℤ). mark_changes ts i (created ts target range) p.0 p.1) (λ d r doc row. index_changes_document i d r (target_text ts target r) name doc row (target_is_table_text ts are target r)) (rows_in ts target.table range) 1 (omega arith)
       (each_row (λ s. not (is_some (no_marks s)) ≡ true) (rows_in ts target.table range) (rows_free ts are target.table range)),
 )
-
--- ---- the laws
-
-pub well_note : NotesAreWell
-well_note i r name row = well_changes AnyEntry (note_insert_changes i r) (λ k value of. tt) (index_changes_note i r name row)
-
-pub well_sync : SyncsAreWell
-well_sync ts xs i x are rules is room = well_changes AnyEntry (sync_changes ts i x) (λ k value of. tt) (index_changes_sync ts xs i x are rules is room)
-
-pub well_create : CreatesAreWell
-well_create ts i target range are name table room = well_changes AnyEntry (create_changes ts i target range) (λ k value of. tt) (index_changes_create ts i target range are name table room)

@@ -1,4 +1,3 @@
-use Rattle.std.proofs.Common.{true}
 use Rattle.ct_keep.specs.Changes.{AnyEntry, AreWell}
 use Rattle.ct_entry.proofs.tests.batch_of.Given as goal
 

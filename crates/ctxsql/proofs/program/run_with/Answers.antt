@@ -8,3 +8,6 @@ returns-in-Ok-clause-table g c = rw (c.in-Ok.is, ← c.deref.ensures.value) c.ru
 
 pub returns-in-Ok-clause-foreign : goal.returns-in-Ok-clause-foreign
 returns-in-Ok-clause-foreign g c = rw (c.in-Ok.is, ← c.deref.ensures.value) c.run.ensures.foreign
+
+pub returns-in-Ok-clause-stores : goal.returns-in-Ok-clause-stores
+returns-in-Ok-clause-stores g c = rw c.in-Ok.is c.run.ensures.stores

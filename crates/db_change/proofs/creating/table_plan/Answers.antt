@@ -1,6 +1,7 @@
 use Rattle.std.proofs.Common.{◌∙◌}
 use Rattle.ct_keep.specs.Composing.{reads_hold}
 use Rattle.db_state.specs.laws.Chains.{checked, refused}
+use Rattle.db_change.proofs.ShapeSteps.{of_tables}
 use Rattle.db_change.proofs.TableSteps.{table_read, table_made}
 use Rattle.db_change.proofs.creating.table_plan.Goals as goal
 
@@ -18,3 +19,6 @@ returns-clause-plan g c = record {
       (table_read m c.args.table.now c.args.columns.now _ _ (c.in_ok-there.ensures.there m k holds stands) (c.in_ok-many.ensures.many m k (reads_hold _ _ k c.in_ok-there.ensures.reads holds) stands)
       ∙ checked c.table_fault.result _ _ c.in_default.is (c.table_fault.ensures.checks _));
 }
+
+pub returns-clause-entries : goal.returns-clause-entries
+returns-clause-entries g c = of_tables c.in_ok-batch.batch c.in_ok-batch.ensures.shaped

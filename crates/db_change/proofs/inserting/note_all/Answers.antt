@@ -1,8 +1,11 @@
 use Rattle.std.proofs.Common.{sym}
-use Rattle.db_change.proofs.NoteSteps.{noted_more, on_ok}
+use Rattle.db_change.proofs.NoteSteps.{noted_more, notes_shaped, on_ok}
 use Rattle.db_change.proofs.inserting.note_all.Goals as goal
 
 pub loop-index-preserved : goal.loop-index-preserved
-loop-index-preserved c =
-    noted_more c.args.indexes.now c.loop-index.index-index c.loop-index-item.result c.args.row.0 c.args.batch.now c.loop-index.batch c.note_insert.new.batch c.loop-index-test.true c.loop-index-item.is
-    c.loop-index.invariant (on_ok c.note_insert.result _ (sym c.in_ok-map_err.ensures.variant) c.note_insert.ensures.ok)
+loop-index-preserved c = record {
+  notes =
+      noted_more c.args.indexes.now c.loop-index.index-index c.loop-index-item.result c.args.row.0 c.args.batch.now c.loop-index.batch c.note_insert.new.batch c.loop-index-test.true c.loop-index-item.is
+      c.loop-index.invariant.notes (on_ok c.note_insert.result _ (sym c.in_ok-map_err.ensures.variant) c.note_insert.ensures.ok);
+  shaped = notes_shaped c.args.indexes.now c.loop-index.index-index c.loop-index-item.result c.args.row.0 c.loop-index-test.true c.loop-index-item.is c.loop-index.invariant.shaped c.note_insert.ensures.shaped;
+}

@@ -1,12 +1,20 @@
 use Rattle.std.proofs.Common.{rules}
 use Rattle.ct_entry.specs.Keys.{IsRow}
-use Rattle.db_change.proofs.RowSteps.{batch_bounded, batch_stands}
+use Rattle.db_change.proofs.RowSteps.{batch_stands}
+use Rattle.db_change.proofs.ShapeSteps.{few_behind, short_behind, row_and_notes}
 use Rattle.db_change.proofs.inserting.noted_batch.Goals as goal
 
 pub returns-clause-batch : goal.returns-clause-batch
 returns-clause-batch g c = λ m k x holds stands here free.
     let row : IsRow c.args.row.0 = search rules in
-    let are = c.in_ok-indexes.ensures.value k holds in (
-      batch_bounded k m c.args.table.now x c.args.row.0 c.args.values.items c.behind_key.result.items stands here free row c.behind_key.ensures c.in_ok-batch.ensures.numbers c.in_ok-batch.ensures.texts c.deref.result.now c.in_ok-indexes.indexes.items c.deref.ensures.value are c.in_ok-batch.batch c.note_all.new.batch c.in_ok-batch.ensures.changes c.in_ok-note_all.ensures,
-      batch_stands k m c.args.table.now x c.args.row.0 c.args.values.items c.behind_key.result.items stands here free row c.behind_key.ensures c.in_ok-batch.ensures.numbers c.in_ok-batch.ensures.texts c.deref.result.now c.in_ok-indexes.indexes.items c.deref.ensures.value are c.in_ok-batch.batch c.note_all.new.batch c.in_ok-batch.ensures.changes c.in_ok-note_all.ensures,
-    )
+    let are = c.in_ok-indexes.ensures.value k holds in
+    batch_stands k m c.args.table.now x c.args.row.0 c.args.values.items c.behind_key.result.items stands here free row c.behind_key.ensures c.in_ok-batch.ensures.numbers c.in_ok-batch.ensures.texts c.deref.result.now c.in_ok-indexes.indexes.items c.deref.ensures.value are c.in_ok-batch.batch c.note_all.new.batch c.in_ok-batch.ensures.changes c.in_ok-note_all.ensures.notes
+
+pub row_batch-requires : goal.row_batch-requires
+row_batch-requires g c = record {
+  few = few_behind c.args.values.items c.behind_key.result.items c.behind_key.ensures c.requires.few;
+  short = short_behind c.args.values.items c.behind_key.result.items c.behind_key.ensures c.requires.short;
+}
+
+pub returns-clause-entries : goal.returns-clause-entries
+returns-clause-entries g c = row_and_notes c.in_ok-batch.batch c.note_all.new.batch _ c.in_ok-batch.ensures.shaped c.in_ok-note_all.ensures.notes c.in_ok-note_all.ensures.shaped

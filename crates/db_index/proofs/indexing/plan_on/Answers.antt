@@ -1,13 +1,12 @@
 use Rattle.std.proofs.Common.{ℕ, List, Option, sym, ap, subst, ◌∙◌}
 use Rattle.ct_keep.specs.Content.{after}
 use Rattle.ct_keep.specs.Composing.{reads_on, reads_hold}
-use Rattle.db_state.specs.Committing.{are_bounded}
 use Rattle.db_state.specs.States.{Stands}
 use Rattle.db_state.specs.Effects.{Does}
 use Rattle.db_index.specs.Indexing.{index_created, is_text_at, with_new_index}
 use Rattle.db_state.specs.laws.Chains.{checked, refused}
 use Rattle.db_index.proofs.IndexChecks.{index_as, index_free}
-use Rattle.db_index.specs.laws.NewMarks.{new_index_stands, new_index_bounded}
+use Rattle.db_index.specs.laws.NewMarks.{new_index_stands}
 use Rattle.db_index.proofs.Found.{found_none, found_some}
 use Rattle.db_index.proofs.indexing.plan_on.Goals as goal
 
@@ -40,6 +39,5 @@ returns-clause-plan g c = λ m k x holds stands there small columns.
     let changes = found_some c.in_ok-found.found c.in-Some-found.batch _ _ c.in-Some-found.is (c.in_ok-found.ensures.changes m k held stands x small free) in (
       with_new_index m i t place,
       is,
-      ap are_bounded changes ∙ new_index_bounded k m i t x place stands c.index_fault.ensures.named free,
       subst (λ (b : List (List ℕ × Option (List ℕ))). Stands (after b k) (with_new_index m i t place)) (sym changes) (new_index_stands k m i t x place stands c.index_fault.ensures.named free),
     )

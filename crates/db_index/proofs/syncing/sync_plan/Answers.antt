@@ -2,12 +2,11 @@ use Rattle.std.proofs.Common.{ℕ, List, Option, [], sym, ap, subst, ◌∙◌}
 use Rattle.ct_keep.specs.Content.{after}
 use Rattle.ct_keep.specs.Composing.{reads_hold}
 use Rattle.db_cond.specs.Faults.{LimitReached}
-use Rattle.db_state.specs.Committing.{are_bounded}
 use Rattle.db_index.specs.Syncing.{name_arg, sync_named, with_synced}
 use Rattle.db_state.specs.Effects.{Does}
 use Rattle.db_state.specs.States.{Stands}
 use Rattle.db_state.specs.laws.Chains.{checked, refused, fails, passes}
-use Rattle.db_index.specs.laws.NewMarks.{synced_stands, synced_bounded}
+use Rattle.db_index.specs.laws.NewMarks.{synced_stands}
 use Rattle.db_index.proofs.Found.{found_none, found_some}
 use Rattle.db_index.proofs.SyncChecks.{sync_as, passed_by, index_there, found_is}
 use Rattle.db_index.proofs.syncing.sync_plan.Goals as goal
@@ -55,7 +54,6 @@ returns-clause-plan g c = record {
             ∙ ap (sync_named m) (sym c.requires.named)
             ∙ found_is m c.args.name.now i x.0 c.in-Some-name.is x.1
             ∙ passes _ LimitReached _ found.0,
-        ap are_bounded found.1 ∙ synced_bounded k m i x.0 stands x.1 found.0,
         subst (λ (b : List (List ℕ × Option (List ℕ))). Stands (after b k) (with_synced m i)) (sym found.1) (synced_stands k m i x.0 stands x.1 found.0),
       );
 }

@@ -3,9 +3,11 @@ use Rattle.ct_keep.specs.Content.{Content}
 use Rattle.ct_keep.specs.KeeperViews.{Reads}
 use Rattle.ct_entry.specs.Each.{each}
 use Rattle.ct_entry.specs.Changes.{spell}
+use Rattle.ct_entry.specs.Shapes.{AreShaped}
 use Rattle.tb_table.specs.Tables.{Tables}
 use Rattle.ix_context.specs.Indexes.{target_text}
 use Rattle.ix_context.specs.Changes.{numbered, mark_with}
+use Rattle.ix_context.specs.Shapes.{HasIndexValue}
 use Rattle.ix_context.specs.Stands.{HoldsTables}
 use Rattle.ix_context.proofs.creating.mark_rows.Given as goal
 
@@ -13,6 +15,7 @@ abbrev pub invariant-loop-row : goal.invariant-loop-row
 invariant-loop-row g l = record {
   reads : Reads (g.K.Keeper.view l.fn.keeper) (g.K.Keeper.view l.keeper) None;
   place : l.document ≡ 1 + l.row-index;
+  shaped : AreShaped HasIndexValue l.fn.changes → AreShaped HasIndexValue l.changes;
   changes : (m : Content) (ts : Tables) → (g.K.Keeper.view l.fn.keeper).content ≡ Some m → HoldsTables m ts
       → l.changes ++ spell (each (mark_with l.index (target_text ts l.target)) (numbered l.document (map (λ r. r.0) (drop l.row-index l.rows))))
       ≡ l.fn.changes ++ spell (each (mark_with l.index (target_text ts l.target)) (numbered 1 (map (λ r. r.0) l.rows)));

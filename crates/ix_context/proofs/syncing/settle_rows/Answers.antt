@@ -9,6 +9,7 @@ pub loop-row-preserved : goal.loop-row-preserved
 loop-row-preserved g c = record {
   reads = reads_on _ _ _ _ c.loop-row.invariant.reads c.in_ok-settle_row.ensures.reads;
   place = let place = c.loop-row.invariant.place in omega arith;
+  shaped = λ are. c.in_ok-settle_row.ensures.shaped (c.loop-row.invariant.shaped are);
   changes = λ m ts holds told.
       row_added (settle_with c.args.index.now (target_text ts c.args.target.now)) _ c.loop-row.changes c.settle_row.new.changes c.loop-row.document _ _ _
       (c.loop-row.invariant.changes m ts holds told)

@@ -1,4 +1,9 @@
-use Rattle.std.proofs.Common.{sym, ◌∙◌, arith}
+use Rattle.std.proofs.Common.{[], ◌∷◌, sym, subst, ◌∙◌, arith}
+use Rattle.ct_entry.specs.Changes.{spell}
+use Rattle.ct_entry.specs.Shapes.{AreShaped}
+use Rattle.ix_context.specs.Spelling.{index_change}
+use Rattle.ix_context.specs.Shapes.{HasIndexValue}
+use Rattle.ix_context.specs.laws.Shapes.{shaped_added}
 use Rattle.ix_context.specs.Indexes.{target_text}
 use Rattle.ix_context.proofs.SyncSteps.{settled_added}
 use Rattle.ix_context.proofs.syncing.settled_changes.Goals as goal
@@ -10,3 +15,9 @@ returns-clause-changes g c = λ m ts holds told.
       settled_added c.args.index.now c.args.target.now (target_text ts c.args.target.now) c.args.first c.in-Some.next c.args.rows.now _ c.settle_rows.new.changes c.put_index.new.batch
           (sym c.is_empty.ensures ∙ c.if-is_empty.false) c.new-changes.ensures (c.in_ok-settle_rows.ensures.changes m ts holds told) c.in_ok-put_index.ensures.ok behind.0,
     )
+
+pub returns-clause-shaped : goal.returns-clause-shaped
+returns-clause-shaped g c =
+    let none : AreShaped HasIndexValue c.new-changes.result = subst (AreShaped HasIndexValue) (sym c.new-changes.ensures) tt in
+    shaped_added c.settle_rows.new.changes c.put_index.new.batch (spell (index_change c.args.index.now c.args.target.now c.in-Some.next ∷ []))
+    c.in_ok-put_index.ensures.ok c.in_ok-put_index.ensures.shaped (c.in_ok-settle_rows.ensures.shaped none)

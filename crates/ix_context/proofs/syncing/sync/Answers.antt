@@ -1,4 +1,7 @@
 use Rattle.std.proofs.Common.{◌++◌, ap, ◌∙◌}
+use Rattle.ct_entry.specs.Shapes.{AreShaped}
+use Rattle.ix_context.specs.Shapes.{HasIndexValue}
+use Rattle.ix_context.specs.laws.Shapes.{shaped_added}
 use Rattle.ix_context.proofs.SyncSteps.{none_says, some_says}
 use Rattle.ix_context.proofs.syncing.sync.Goals as goal
 
@@ -12,3 +15,7 @@ returns-clause-changes g c = λ m ts xs x holds told is.
 
 pub returns-clause-room : goal.returns-clause-room
 returns-clause-room g c = λ m ts xs x holds told is. (some_says _ _ _ c.in-Some.changes c.in-Some.is (c.in-Ok.ensures.changes m ts xs x holds told is)).0
+
+pub returns-clause-shaped : goal.returns-clause-shaped
+returns-clause-shaped g c =
+    shaped_added c.args.batch.now c.append.new.self c.in-Some.changes c.in_ok-append.ensures.ok (some_says _ (AreShaped HasIndexValue) _ c.in-Some.changes c.in-Some.is c.in-Ok.ensures.shaped)

@@ -1,4 +1,4 @@
-use Rattle.std.proofs.Common.{true, map, take}
+use Rattle.std.proofs.Common.{map, take}
 use Rattle.ct_keep.specs.Changes.{AnyEntry, AreWell}
 use Rattle.ct_keep.specs.SeenChanges.{change_of}
 use Rattle.ix_context.proofs.tests.are_entries.Given as goal

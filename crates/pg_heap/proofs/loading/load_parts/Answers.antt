@@ -3,6 +3,7 @@ use Rattle.std.proofs.Common.{ap, ◌∙◌}
 use Rattle.std.proofs.lemmas.Result.{err_from_is_err_and}
 use Rattle.pg_journal.specs.declared.faults.LoadFault.TheVariants.{NotAStore}
 use Rattle.pg_journal.specs.Recovered.{Alike}
+use Rattle.pg_journal.specs.laws.Recovered.{born_or_not}
 use Rattle.pg_heap.specs.Sheets.{kinds_of}
 use Rattle.pg_heap.proofs.Loadings.{reads_leave, refused_same, refused_writes, none_stored, none_of_kinds, none_laid, is_loaded, fault_is, no_map, map_found}
 use Rattle.pg_heap.proofs.loading.load_parts.Goals as goal
@@ -66,11 +67,11 @@ returns-in_err-sheets-clause-refused g c = λ image settled shut is.
     let l = c.in_ok-journal.ensures.loaded image settled in
     let p = err_from_is_err_and c.from_residual-in_err-sheets.result c.from_residual-in_err-sheets.ensures.1 in
     let none = none_of_kinds image l.pages l.recovered (c.load_sheets.ensures.no_store l.pages l.stands (c.in_err-sheets.was ∙ ap Err (fault_is c.from_residual-in_err-sheets.result p.0 c.in_err-sheets.field-0.0 NotAStore p.1 p.2 is))) in
-    refused_same image _ _ _ _ l none (λ store. c.load.ensures.kept image settled.told store (shut store)) c.load_sheets.ensures.same
+    refused_same image _ _ _ _ l none (λ store. c.load.ensures.kept image settled.told (record { born = λ unborn. born_or_not image unborn store; shut = shut })) c.load_sheets.ensures.same
 
 pub returns-in_default-found-clause-refused : goal.returns-in_default-found-clause-refused
 returns-in_default-found-clause-refused g c = λ image settled shut is.
     let l = c.in_ok-journal.ensures.loaded image settled in
     let none = none_laid image l.pages (kinds_of c.in_ok-sheets.sheets.items) l.recovered (c.in_ok-sheets.ensures.pages l.pages l.stands)
     (no_map c.in-Ok.found c.deref.result.now c.in_ok-sheets.sheets.items c.in-Ok.ensures c.in_default-found.is c.deref.ensures.value) in
-    refused_same image _ _ _ _ l none (λ store. c.load.ensures.kept image settled.told store (shut store)) c.load_sheets.ensures.same
+    refused_same image _ _ _ _ l none (λ store. c.load.ensures.kept image settled.told (record { born = λ unborn. born_or_not image unborn store; shut = shut })) c.load_sheets.ensures.same

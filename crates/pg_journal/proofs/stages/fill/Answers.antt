@@ -1,6 +1,5 @@
-use Rattle.std.proofs.Common.{◌≡◌, ◌*◌, ◌≤◌, List, ℕ, length, Some, sym, subst, arith}
-use Rattle.ct_site.specs.Disks.{DiskView, Leaves, IsSame, leaves_same, leaves_then}
-use Rattle.ct_site.specs.Disks.{Beside}
+use Rattle.std.proofs.Common.{◌≡◌, ◌*◌, ◌≤◌, List, ℕ, length, sym, subst, arith}
+use Rattle.ct_site.specs.Disks.{DiskView, leaves_same, leaves_then}
 use Rattle.pg_journal.specs.Standing.{IsShut, DiskStands}
 use Rattle.pg_journal.proofs.stages.fill.Goals as goal
 

@@ -1,4 +1,4 @@
-use Rattle.std.proofs.Common.{◌-◌, ◌≤◌, ◌+◌, ◌*◌, ◌^◌, ℕ, List, Ok}
+use Rattle.std.proofs.Common.{◌-◌, ◌≤◌, ◌*◌, ◌^◌, ℕ, List, Ok}
 use Rattle.ct_site.specs.Disks.{Works, Leaves}
 use Rattle.ct_site.specs.Lengths.{IsWithin}
 use Rattle.pg_journal.specs.Standing.{IsShut}

@@ -2,7 +2,7 @@ use Rattle.std.proofs.Common.{true, false, sym, ◌∙◌, arith}
 use Rattle.ct_site.specs.laws.Calls.{same_then, settled_same}
 use Rattle.ct_site.specs.laws.Lengths.{grows_then, grows_same, grows_more}
 use Rattle.pg_journal.specs.Looking.{nothing_when_same, nothing_then}
-use Rattle.pg_journal.proofs.Loading.{nothing_written, unborn_is, born_is, born_within, after_same, marked_is, no_mark, too_short, is_store, unborn_no_store}
+use Rattle.pg_journal.proofs.Loading.{nothing_written, unborn_is, born_is, born_within, after_same, marked_is, no_mark, too_short, is_store, as_unborn}
 use Rattle.pg_journal.proofs.journals.Journal.load.Goals as goal
 
 pub returns-in_default-clause-moments : goal.returns-in_default-clause-moments
@@ -85,12 +85,16 @@ returns-else-gate-eq1-clause-moments g c = λ image settled.
     nothing_written _ _ image settled same (c.load_closed.ensures.loads.beside ∙ c.read_byte.ensures.works.beside ∙ c.has_mark.ensures.works.beside ∙ c.unborn.ensures.works.beside ∙ c.size.ensures.works.beside)
 
 pub returns-in-Some-clause-kept : goal.returns-in-Some-clause-kept
-returns-in-Some-clause-kept g c = λ image told store closed.
-    absurd (unborn_no_store c.in-Ok-unborn.found c.in-Some.empty image (c.in-Ok-unborn.ensures.is image (c.size.ensures.same.image ∙ told)) c.in-Some.is store)
+returns-in-Some-clause-kept g c = λ image told only.
+    absurd (only.born (as_unborn c.in-Some.empty image (unborn_is c.in-Ok-unborn.found c.in-Some.empty image (c.in-Ok-unborn.ensures.is image (c.size.ensures.same.image ∙ told)) c.in-Some.is)))
 
 pub returns-then-gate-eq1-clause-kept : goal.returns-then-gate-eq1-clause-kept
-returns-then-gate-eq1-clause-kept g c = λ image told store closed.
-    absurd (closed (sym (c.in-Ok-read_byte.ensures.is image (c.has_mark.ensures.same.image ∙ c.unborn.ensures.same.image ∙ c.size.ensures.same.image ∙ told)) ∙ c.if-gate-eq1.true))
+returns-then-gate-eq1-clause-kept g c = λ image told only.
+    let told0 = c.size.ensures.same.image ∙ told in
+    let told1 = c.unborn.ensures.same.image ∙ told0 in
+    let store = is_store image (born_is c.in-Ok-unborn.found image (c.in-Ok-unborn.ensures.is image told0) c.in_default-found.is)
+    (marked_is c.in-Ok-has_mark.marked true image (c.in-Ok-has_mark.ensures.is image told1) c.if-not-marked.false) (omega (arith, c.in-Ok.ensures.size image told, c.if-size-lt12288.false)) in
+    absurd (only.shut store (sym (c.in-Ok-read_byte.ensures.is image (c.has_mark.ensures.same.image ∙ told1)) ∙ c.if-gate-eq1.true))
 
 pub returns-in-Some-clause-length : goal.returns-in-Some-clause-length
 returns-in-Some-clause-length g c = grows_then 12288 _ _ _ c.load_unborn.ensures.loads.untold (grows_same 12288 _ _ (c.unborn.ensures.same.image ∙ c.size.ensures.same.image)) c.load_unborn.ensures.length

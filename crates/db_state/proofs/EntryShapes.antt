@@ -1,0 +1,41 @@
+-- An entry of a store, by the parts of its key.
+use Rattle.std.proofs.Common.{◌≡◌, ◌⊎◌, ℕ, List, Option, Some, None, sym, subst, inl, inr, ⊎_elim, ◌∙◌}
+use Rattle.std.specs.Option.{option_map}
+use Rattle.ct_base.specs.Names.{IsName}
+use Rattle.ct_entry.specs.declared.kinds.Kind.{Kind}
+use Rattle.ct_entry.specs.Keys.{Key, key, bytes, IsPart}
+use Rattle.ct_entry.specs.KeyParts.{SpellsKey}
+use Rattle.ct_entry.specs.laws.Keys.{key_from_bytes}
+use Rattle.tb_table.specs.Shapes.{HasTableValue, IsTableShape}
+use Rattle.ix_context.specs.Shapes.{HasIndexValue, IsIndexShape}
+use Rattle.db_state.specs.Shapes.{IsStoreEntry}
+
+-- bytes that spell no key are those of no entry
+pub no_entry : (found : Option Key) (spelling value : List ℕ) → SpellsKey spelling found → found ≡ None → IsStoreEntry spelling value → ⊥
+no_entry None spelling value none is entry = none entry.key entry.parts.owner entry.spelt
+no_entry (Some k) spelling value some is entry = cc
+
+module _ (spelling value owner part : List ℕ) (kind : Kind) (parts : IsName owner × (spelling ≡ bytes (key kind owner part))) where
+  pub of_table : IsTableShape kind part value → IsStoreEntry spelling value
+  of_table shape = record { key = key kind owner part; spelt = parts.1; parts = record { owner = parts.0; part = shape.rest }; has = inl shape.has }
+
+  pub of_index : IsIndexShape kind part value → IsStoreEntry spelling value
+  of_index shape = record { key = key kind owner part; spelt = parts.1; parts = record { owner = parts.0; part = shape.0 }; has = inr shape.1 }
+
+  same_key : (entry : IsStoreEntry spelling value) → entry.key ≡ key kind owner part
+  same_key entry = key_from_bytes entry.key (key kind owner part) (sym entry.spelt ∙ parts.1)
+
+  -- it is the one or the other
+  pub either : IsStoreEntry spelling value → IsTableShape kind part value ⊎ IsIndexShape kind part value
+  either entry =
+      let rest = subst (λ (k : Key). IsPart k.kind k.part) (same_key entry) entry.parts.part in
+      ⊎_elim
+      (λ has. inl (record { rest = rest; has = subst (λ (k : Key). HasTableValue k value) (same_key entry) has }))
+      (λ has. inr (rest, subst (λ (k : Key). HasIndexValue k value) (same_key entry) has)) entry.has
+
+  pub index_alone : (IsTableShape kind part value → ⊥) → IsStoreEntry spelling value → IsIndexShape kind part value
+  index_alone other entry = ⊎_elim (λ shape. absurd (other shape)) (λ shape. shape) (either entry)
+
+-- the parts that were found
+pub spelt_by : {X : Type 0} (key_of : X → Key) (found : Option X) (x : X) (spelling : List ℕ) → SpellsKey spelling (option_map key_of found) → found ≡ Some x → IsName (key_of x).owner × (spelling ≡ bytes (key_of x))
+spelt_by key_of found x spelling spells is = subst (λ o. SpellsKey spelling (option_map key_of o)) is spells

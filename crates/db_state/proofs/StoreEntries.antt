@@ -1,0 +1,80 @@
+-- Each entry of a content that stands for a state is one that a store has.
+use Rattle.std.proofs.Common.{◌≡◌, ℕ, ◌≤◌, true, false, zero, suc, List, length, Option, Some, None, refl, sym, ap, subst, ◌∙◌, inl, inr, arith}
+use Rattle.std.specs.Prelude.{IsSome}
+use Rattle.std.specs.FinMap.{get}
+use Rattle.ct_keep.specs.Content.{Content, IsEntry, value_limit}
+use Rattle.ct_keep.specs.Changes.{IsWell}
+use Rattle.ct_entry.specs.declared.kinds.Kind.{Kind}
+use Rattle.ct_entry.specs.declared.kinds.Kind.TheVariants as kind
+use Rattle.ct_entry.specs.Keys.{Key, key, at, IsPart, posting_part, IsToken, IsDocument}
+use Rattle.ct_entry.specs.laws.Parts.{is_short}
+use Rattle.ct_entry.specs.laws.Well.{entry_of_key}
+use Rattle.tb_table.specs.Shapes.{HasTableValue}
+use Rattle.ix_context.specs.Shapes.{HasIndexValue}
+use Rattle.db_state.specs.States.{State, Stands, is_built}
+use Rattle.db_state.specs.Shapes.{HasStoreValue, IsStoreEntry}
+use Rattle.db_state.specs.Promises.{StoresAreWell}
+use Rattle.db_state.proofs.StoreTables.{table_value, numbers_value, text_value}
+use Rattle.db_state.proofs.StoreIndexes.{index_value, document_row_value, row_document_value, pending_value, posting_value_of}
+
+-- a short key with a value of its kind that isn't too long
+record IsStored (k : Key) (v : List ℕ) : Type 0 where
+  has : HasStoreValue k v
+  bounded : length v ≤ value_limit
+  short : is_short k.kind ≡ true
+
+of_table : (k : Key) (v : List ℕ) → is_short k.kind ≡ true → HasTableValue k v × (length v ≤ value_limit) → IsStored k v
+of_table k v short is = record { has = inl is.0; bounded = is.1; short = short }
+
+of_index : (k : Key) (v : List ℕ) → is_short k.kind ≡ true → HasIndexValue k v × (length v ≤ value_limit) → IsStored k v
+of_index k v short is = record { has = inr is.0; bounded = is.1; short = short }
+
+not_both : (o : Option (List ℕ)) (v : List ℕ) → o ≡ None → o ≡ Some v → ⊥
+not_both o v none some = cc
+
+module _ (c : Content) (m : State) (stands : Stands c m) where
+  -- a kind that has no entries
+  nothing : (k : Key) (v : List ℕ) → is_built k.kind ≡ false → at c k ≡ Some v → IsStored k v
+  nothing k v none has = absurd (not_both (at c k) v (stands.unbuilt k none) has)
+
+  posting : (i token v : List ℕ) (stream d : ℕ) → stream ≤ 64 → IsToken token → IsDocument d → at c (key kind.Postings i (posting_part stream token d)) ≡ Some v → IsStored (key kind.Postings i (posting_part stream token d)) v
+  posting i token v zero d few is_token document has = of_index _ v refl (posting_value_of (at c) m.tables m.indexes stands.state.tables stands.state.indexes stands.indexes.0 stands.indexes.1 stands.indexes.2 i token v d is_token document has)
+  posting i token v (suc s) d few is_token document has = absurd (not_both _ v (stands.indexes.2.streams i token (suc s) d (omega arith) few is_token document) has)
+
+  -- by the part of the key
+  by_part : (kind : Kind) (o v p q : List ℕ) → p ≡ q → (at c (key kind o q) ≡ Some v → IsStored (key kind o q) v) → at c (key kind o p) ≡ Some v → IsStored (key kind o p) v
+  by_part kind o v p q same h = subst (λ (x : List ℕ). at c (key kind o x) ≡ Some v → IsStored (key kind o x) v) (sym same) h
+
+  -- by its kind
+  stored : (k : Kind) (o p v : List ℕ) → IsPart k p → at c (key k o p) ≡ Some v → IsStored (key k o p) v
+  stored kind.Tables o p v is = by_part kind.Tables o v p _ is (λ has. of_table _ v refl (table_value (at c) m.tables stands.tables stands.state.tables o v has))
+  stored kind.RowNumbers o p v is = by_part kind.RowNumbers o v p _ is.2 (λ has. of_table _ v refl (numbers_value (at c) m.tables stands.tables stands.state.tables o v is.0 is.1 has))
+  stored kind.RowTexts o p v is = by_part kind.RowTexts o v p _ is.1.3 (λ has. of_table _ v refl (text_value (at c) m.tables stands.tables stands.state.tables o v is.0 is.1.0 is.1.1 is.1.2 has))
+  stored kind.Preferences o p v is = nothing (key kind.Preferences o p) v refl
+  stored kind.Stoplists o p v is = nothing (key kind.Stoplists o p) v refl
+  stored kind.SectionGroups o p v is = nothing (key kind.SectionGroups o p) v refl
+  stored kind.IndexSets o p v is = nothing (key kind.IndexSets o p) v refl
+  stored kind.Thesauri o p v is = nothing (key kind.Thesauri o p) v refl
+  stored kind.Relations o p v is = nothing (key kind.Relations o p) v refl
+  stored kind.Indexes o p v is = by_part kind.Indexes o v p _ is (λ has. of_index _ v refl (index_value (at c) m.tables m.indexes stands.state.tables stands.state.indexes stands.indexes.0 stands.indexes.1 stands.indexes.2 o v has))
+  stored kind.DocumentRows o p v is = by_part kind.DocumentRows o v p _ is.2 (λ has. of_index _ v refl (document_row_value (at c) m.tables m.indexes stands.state.tables stands.state.indexes stands.indexes.0 stands.indexes.1 stands.indexes.2 o v is.0 is.1 has))
+  stored kind.RowDocuments o p v is = by_part kind.RowDocuments o v p _ is.2 (λ has. of_index _ v refl (row_document_value (at c) m.tables m.indexes stands.state.tables stands.state.indexes stands.indexes.0 stands.indexes.1 stands.indexes.2 o v is.0 is.1 has))
+  stored kind.Pending o p v is = by_part kind.Pending o v p _ is.2 (λ has. of_index _ v refl (pending_value (at c) m.tables m.indexes stands.state.tables stands.state.indexes stands.indexes.0 stands.indexes.1 stands.indexes.2 o v is.0 is.1 has))
+  stored kind.Postings o p v is = by_part kind.Postings o v p _ is.2.4 (posting o is.2.0 v is.0 is.1 is.2.1 is.2.2 is.2.3)
+  stored kind.Spans o p v is = by_part kind.Spans o v p _ is.1.3 (λ has. absurd (not_both _ v (stands.indexes.2.spans o is.1.0 is.0 is.1.1 is.1.2) has))
+  stored kind.Catalogue o p v is = nothing (key kind.Catalogue o p) v refl
+  stored kind.Rules o p v is = nothing (key kind.Rules o p) v refl
+  stored kind.Anchors o p v is = nothing (key kind.Anchors o p) v refl
+  stored kind.RuleFaults o p v is = nothing (key kind.RuleFaults o p) v refl
+
+  each_is_well : (b v : List ℕ) → get c b ≡ Some v → IsWell IsStoreEntry b v
+  each_is_well b v has =
+      let k = stands.only b (subst IsSome (sym has) refl) in
+      let there : at c k.0 ≡ Some v = ap (get c) (sym k.1) ∙ has in
+      let is = stored k.0.kind k.0.owner k.0.part v k.2.part there in (
+        subst (λ (spelling : List ℕ). IsEntry spelling v) (sym k.1) (entry_of_key k.0 v k.2 is.short is.bounded),
+        record { key = k.0; spelt = k.1; parts = k.2; has = is.has },
+      )
+
+pub stores_are_well : StoresAreWell
+stores_are_well c m stands = record { each = each_is_well c m stands }

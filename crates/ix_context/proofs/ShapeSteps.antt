@@ -1,0 +1,114 @@
+-- The steps of telling whether entries are well shaped.
+use Rattle.std.proofs.Common.{◌≡◌, ◌↔◌, ℕ, ℤ, ◌+◌, Bool, true, false, List, [], ◌∷◌, ◌++◌, length, take, drop, get_or, Some, None, refl, sym, ap, subst, ◌∙◌, arith, length-drop}
+use Rattle.std.specs.Prelude.{◌==◌, IsTrue}
+use Rattle.std.specs.Int.{to_be_bytes, w32}
+use Rattle.std.proofs.lemmas.Bool.{eqb-true, eq-eqb}
+use Rattle.std.proofs.lemmas.List.{take_all, length-take-le, take-append-drop}
+use Rattle.ct_base.specs.Names.{kept_name}
+use Rattle.ct_base.specs.laws.Names.{kept_name-name}
+use Rattle.ct_bytes.specs.RowKeys.{row_bytes}
+use Rattle.ct_bytes.specs.laws.RowKeys.{length-row_bytes}
+use Rattle.ct_entry.specs.declared.kinds.Kind.TheVariants as kind
+use Rattle.ct_entry.specs.Keys.{span_part, IsRow, IsRowPart, IsDocument}
+use Rattle.ct_entry.specs.laws.Parts.{posting_part_apart, span_part_apart}
+use Rattle.tb_table.specs.declared.columns.Target.{Target}
+use Rattle.ix_context.specs.Spelling.{SpellsIndex}
+use Rattle.ix_context.specs.Shapes.{StartsAt, IsRowFrom, IsSpanRowFrom, IsPostingPart, IsSpanPart, IsIndexShape}
+
+-- what doesn't hold is not told to
+pub is_not : (A : Type 0) → (A → ⊥) → IsTrue false ↔ A
+is_not A none = (λ h. let wrong : false ≡ true = h in absurd (cc), λ a. absurd (none a))
+
+-- ---- rest of keys
+
+pub eight_bytes : (part : List ℕ) → IsRowPart part → length part ≡ 8
+eight_bytes part is = ap length is.2 ∙ length-row_bytes is.0
+
+pub is_row_key : (part : List ℕ) (r : ℤ) → IsRow r → row_bytes r ≡ take 8 part → IsTrue (length part == 8) ↔ IsRowPart part
+is_row_key part r row is = (
+  λ eight. let long = eqb-true (length part) 8 eight in (r, row, sym (is ∙ take_all 8 part (omega arith))),
+  λ p. eq-eqb (length part) 8 (eight_bytes part p),
+)
+
+-- a length in one byte, so many bytes, and the four of a document
+pub text_then_document : (bytes rest : List ℕ) (len document : ℕ) → bytes ≡ len ∷ rest → length rest ≡ len + 4 → to_be_bytes w32 document ≡ take 4 (drop len rest)
+    → bytes ≡ span_part (take len rest) document
+text_then_document bytes rest len document is long four =
+    let all : take 4 (drop len rest) ≡ drop len rest = take_all 4 (drop len rest) (omega (arith, length-drop len rest)) in
+    let count : length (take len rest) ≡ len = length-take-le len rest (omega arith) in
+    is ∙ ap (λ n. n ∷ rest) (sym count)
+    ∙ ap (λ l. length (take len rest) ∷ l) (sym (take-append-drop len rest) ∙ ap (λ l. take len rest ++ l) (sym (four ∙ all)))
+
+-- a section that is no name stands in no key
+pub no_section : (part section : List ℕ) (document : ℕ) → IsDocument document → part ≡ span_part section document → kept_name section ≡ None
+    → (d : ℕ) → IsDocument d → IsSpanPart part d → ⊥
+no_section part section document small is none d doc has =
+    let same = span_part_apart section has.section document d small doc (sym is ∙ has.spelt) in
+    let kept : kept_name section ≡ Some has.section = ap kept_name same.0 ∙ kept_name-name has.section has.named in
+    let wrong : None ≡ Some has.section = sym none ∙ kept in
+    cc
+
+-- ---- values
+
+pub is_entry : (part value : List ℕ) (p : Target × ℕ) → SpellsIndex (Some value) (Some p) → IsTrue (length part == 0) ↔ IsIndexShape kind.Indexes part value
+is_entry part value p is = (
+  λ empty. (none part (eqb-true (length part) 0 empty), record { table = p.0.table; column = p.0.column; next = p.1; named = is.0; place = is.1; fits = is.2; spelt = same is.3 }),
+  λ shape. eq-eqb (length part) 0 (ap length shape.0),
+)
+  where
+    none : (part : List ℕ) → length part ≡ 0 → part ≡ []
+    none [] long = refl
+    none (b ∷ bs) long = absurd (omega arith)
+
+    same : {x y : List ℕ} → Some x ≡ Some y → x ≡ y
+    same e = cc
+
+pub no_entry : (part value : List ℕ) → SpellsIndex (Some value) None → IsIndexShape kind.Indexes part value → ⊥
+no_entry part value none (empty, is) = none is.table is.column is.next is.named is.place is.fits (ap Some is.spelt)
+
+module _ {D : Type 0} (Is : List D → Type 0) (spelling : List D → List ℕ) (number : D → ℕ) (value : List ℕ) (document : ℕ) where
+  -- the row that was read, by its first document
+  pub starts_so : (read row : List D) (d : D) → read ≡ row → (Is [] → ⊥) → Is row → spelling row ≡ value → ((other : List D) → Is other → spelling other ≡ value → row ≡ other)
+      → IsTrue (number (get_or read 0 d) == document) ↔ StartsAt Is spelling number document value
+  starts_so read row d same some is spelt one = (
+    λ test. begins row is spelt (sym (ap (λ (ds : List D). number (get_or ds 0 d)) same) ∙ eqb-true _ _ test),
+    λ has. eq-eqb _ _ (ap (λ (ds : List D). number (get_or ds 0 d)) (same ∙ one (has.first ∷ has.others) has.row (sym has.spelt)) ∙ has.starts),
+  )
+    where
+      begins : (row : List D) → Is row → spelling row ≡ value → number (get_or row 0 d) ≡ document → StartsAt Is spelling number document value
+      begins [] is spelt starts = absurd (some is)
+      begins (first ∷ others) is spelt starts = record { first = first; others = others; starts = starts; row = is; spelt = sym spelt }
+
+  -- no row was read
+  pub starts_nowhere : ((row : List D) → Is row → spelling row ≡ value → ⊥) → StartsAt Is spelling number document value → ⊥
+  starts_nowhere bad has = bad (has.first ∷ has.others) has.row (sym has.spelt)
+
+-- ---- entries
+
+pub is_posting : (part value : List ℕ) (document : ℕ) → IsDocument document → IsPostingPart part document → (is : Bool) → IsTrue is ↔ IsRowFrom document value
+    → IsTrue is ↔ IsIndexShape kind.Postings part value
+is_posting part value document small key is row = (
+  λ h. ((key.stream, document, (key.token, key.streams, key.is, small, key.spelt)), (document, key, row.0 h)),
+  λ shape. row.1 (other shape.1.0 shape.1.1 shape.1.2),
+)
+  where
+    other : (d : ℕ) → IsPostingPart part d → IsRowFrom d value → IsRowFrom document value
+    other d has from =
+        let rise = from.row.rise.1 in
+        let starts = from.starts in
+        let same = posting_part_apart has.stream key.stream has.token key.token d document (omega arith) small (sym has.spelt ∙ key.spelt) in
+        subst (λ (n : ℕ). IsRowFrom n value) same.2 from
+
+pub is_span : (part value : List ℕ) (document : ℕ) → IsDocument document → IsSpanPart part document → (is : Bool) → IsTrue is ↔ IsSpanRowFrom document value
+    → IsTrue is ↔ IsIndexShape kind.Spans part value
+is_span part value document small key is row = (
+  λ h. ((document, (key.section, key.named, small, key.spelt)), (document, key, row.0 h)),
+  λ shape. row.1 (other shape.1.0 shape.1.1 shape.1.2),
+)
+  where
+    other : (d : ℕ) → IsSpanPart part d → IsSpanRowFrom d value → IsSpanRowFrom document value
+    other d has from =
+        let rise = from.row.rise.1 in
+        let starts = from.starts in
+        let same = span_part_apart has.section key.section d document (omega arith) small (sym has.spelt ∙ key.spelt) in
+        subst (λ (n : ℕ). IsSpanRowFrom n value) same.1 from
