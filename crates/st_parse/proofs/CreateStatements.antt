@@ -1,6 +1,6 @@
 -- CREATE TABLE and CREATE INDEX are read as they are spelt.
 use Rattle.std.proofs.Common.{◌≡◌, ℕ, Bool, true, false, List, [], ◌∷◌, ◌++◌, refl, sym, ap, ◌∙◌, append_assoc, ⊎_elim, inl, inr, Option, Some, None}
-use Rattle.st_parse.specs.declared.lexemes.Keyword.TheVariants.{Create as CREATE, Table as TABLE, Index as INDEX, On as ON, Indextype as INDEXTYPE, Is as IS, Ctxsys as CTXSYS, Context as CONTEXT, Number as NUMBER, Varchar2 as VARCHAR2, Clob as CLOB, Primary as PRIMARY, Key as KEY, From as FROM}
+use Rattle.st_parse.specs.declared.lexemes.Keyword.TheVariants.{Create as CREATE, Table as TABLE, Index as INDEX, On as ON, Indextype as INDEXTYPE, Is as IS, Ctxsys as CTXSYS, Context as CONTEXT, Number as NUMBER, Varchar2 as VARCHAR2, Clob as CLOB, Primary as PRIMARY, Key as KEY, From as FROM, Where as WHERE, And as AND}
 use Rattle.st_parse.specs.declared.lexemes.Symbol.TheVariants.{Open, Close, Comma, Dot}
 use Rattle.st_parse.specs.declared.lexemes.Lexeme.{Lexeme}
 use Rattle.st_parse.specs.declared.lexemes.Lexeme.TheVariants.{Word, Name, Number, Sign}
@@ -45,9 +45,12 @@ sort-again prefix rest Clob e = ap (λ x. sort_text_at (x ++ rest)) e
 
 key-again : (primary : Bool) (rest : List Lexeme) → Follows rest → primary_key_at (primary_key primary ++ rest) ≡ (primary, rest)
 key-again true rest follows = refl
+key-again false [] follows = refl
 key-again false (Sign Comma ∷ rest) follows = refl
 key-again false (Sign Close ∷ rest) follows = refl
 key-again false (Word FROM ∷ rest) follows = refl
+key-again false (Word WHERE ∷ rest) follows = refl
+key-again false (Word AND ∷ rest) follows = refl
 key-again false rest follows = absurd follows
 
 column-again : (prefix rest : List Lexeme) (column : ColumnText) → IsColumn prefix column → Follows rest → column_at (prefix ++ rest) ≡ Some (column, rest)

@@ -2,30 +2,41 @@
 use Rattle.std.proofs.Common.{◌≡◌, ℕ, inl, inr, List, [], ◌∷◌, refl, sym, ap, ◌∙◌, subst, Option, Some, None}
 use Rattle.std.specs.Prelude.{◌≢◌, Result, Ok, Err, IsErrOf}
 use Rattle.st_parse.specs.declared.lexemes.Keyword.{Keyword}
-use Rattle.st_parse.specs.declared.lexemes.Keyword.TheVariants.{Create as CREATE, Insert as INSERT, Select as SELECT, Exec as EXEC, Execute as EXECUTE}
+use Rattle.st_parse.specs.declared.lexemes.Keyword.TheVariants.{Create as CREATE, Table as TABLE, Drop as DROP, Index as INDEX, Insert as INSERT, Update as UPDATE, Delete as DELETE, Select as SELECT, Exec as EXEC, Execute as EXECUTE, Commit as COMMIT}
 use Rattle.st_parse.specs.declared.lexemes.Symbol.TheVariants.{Dot}
 use Rattle.st_parse.specs.declared.lexemes.Lexeme.{Lexeme}
 use Rattle.st_parse.specs.declared.lexemes.Lexeme.TheVariants.{Word, Name, Sign}
-use Rattle.st_parse.specs.declared.statements.SelectList.TheVariants.{Items}
 use Rattle.st_parse.specs.declared.statements.Statement.{Statement}
-use Rattle.st_parse.specs.declared.statements.Statement.TheVariants.{CreateTable, CreateIndex, Insert, Select, Exec}
+use Rattle.st_parse.specs.declared.statements.Statement.TheVariants.{CreateTable, DropTable, DropIndex, CreateIndex, Insert, Update, Delete, Select, Exec, Commit}
 use Rattle.st_parse.specs.declared.parsing.StatementFault.{StatementFault}
 use Rattle.st_parse.specs.declared.parsing.StatementFault.TheVariants.{Syntax, Memory}
 use Rattle.st_parse.specs.Lexemes.{lexemes}
+use Rattle.st_parse.specs.Dropping.{drop_of}
 use Rattle.st_parse.specs.Calling.{IsExec, exec_of}
 use Rattle.st_parse.specs.Grammar.{IsStatement, statement_of, NoStatement, Found, statement_read, read_lexemes, read, ParseGives}
 use Rattle.st_parse.proofs.Spelt.{Wholly}
 use Rattle.st_parse.proofs.CreateStatements.{create-means, table-again, index-again}
 use Rattle.st_parse.proofs.InsertStatements.{insert-means, insert-again}
+use Rattle.st_parse.proofs.UpdateStatements.{update-means, update-again}
+use Rattle.st_parse.proofs.DeleteStatements.{delete-means, delete-again}
 use Rattle.st_parse.proofs.SelectStatements.{select-means, select-again}
 use Rattle.st_parse.proofs.ExecStatements.{exec-means, exec-again}
 
+drop-means : (ls : List Lexeme) → Wholly IsStatement (drop_of ls) (Word DROP ∷ ls)
+drop-means (Word TABLE ∷ Name name ∷ []) = refl
+drop-means (Word INDEX ∷ Name name ∷ []) = refl
+drop-means ls = tt
+
 pub statement-means : (ls : List Lexeme) → Wholly IsStatement (statement_of ls) ls
 statement-means (Word CREATE ∷ ls) = create-means ls
+statement-means (Word DROP ∷ ls) = drop-means ls
 statement-means (Word INSERT ∷ ls) = insert-means ls
+statement-means (Word UPDATE ∷ ls) = update-means ls
+statement-means (Word DELETE ∷ ls) = delete-means ls
 statement-means (Word SELECT ∷ ls) = select-means ls
 statement-means (Word EXEC ∷ ls) = exec-means EXEC ls (inl refl)
 statement-means (Word EXECUTE ∷ ls) = exec-means EXECUTE ls (inr refl)
+statement-means (Word COMMIT ∷ []) = refl
 statement-means ls = tt
 
 exec-first : (word : Keyword) (ls : List Lexeme) → IsExec word → statement_of (Word word ∷ ls) ≡ exec_of ls
@@ -34,11 +45,16 @@ exec-first word ls (inr e) = ap (λ w. statement_of (Word w ∷ ls)) e
 
 pub statement-again : (ls : List Lexeme) (s : Statement) → IsStatement ls s → statement_of ls ≡ Some s
 statement-again ls (CreateTable name columns) (list, are, e) = ap statement_of e ∙ table-again name columns list are
+statement-again ls (DropTable name) e = ap statement_of e
+statement-again ls (DropIndex name) e = ap statement_of e
 statement-again ls (CreateIndex name table column kind None None) (kinds, is, e) = ap statement_of e ∙ index-again name table column kind kinds is
 statement-again ls (Insert table columns values) (names, list, are, are', e) = ap statement_of e ∙ insert-again table columns values names list are are'
-statement-again ls (Select (Items items) table (pred ∷ []) []) (list, preds, are, is, e) = ap statement_of e ∙ select-again items table pred list preds are is
+statement-again ls (Update table assigns conds) (list, filter, are, is, e) = ap statement_of e ∙ update-again table assigns conds list filter are is
+statement-again ls (Delete table conds) (from, filter, is, are, e) = ap statement_of e ∙ delete-again table conds from filter is are
+statement-again ls (Select list table preds []) (columns, filter, is, are, few, e) = ap statement_of e ∙ select-again list table preds columns filter is are few
 statement-again ls (Exec pack procedure args) (word, (list, is, are, call, e)) =
     ap statement_of e ∙ exec-first word (Name pack ∷ Sign Dot ∷ Name procedure ∷ list) is ∙ exec-again pack procedure args list call are
+statement-again ls Commit e = ap statement_of e
 statement-again ls s is = absurd is
 
 -- both ways

@@ -1,21 +1,28 @@
 -- SELECT is read as it is spelt.
-use Rattle.std.proofs.Common.{◌≡◌, ℕ, List, [], ◌∷◌, ◌++◌, refl, sym, ap, subst, ◌∙◌, Option, Some, None}
-use Rattle.st_parse.specs.declared.lexemes.Keyword.TheVariants.{Select as SELECT, Score as SCORE, From as FROM, Where as WHERE, Contains as CONTAINS}
-use Rattle.st_parse.specs.declared.lexemes.Symbol.TheVariants.{Open, Close, Comma, Greater}
+use Rattle.std.proofs.Common.{◌≡◌, ℕ, ◌≤◌, Bool, true, false, cond, append_assoc, List, [], ◌∷◌, ◌++◌, refl, sym, ap, ◌∙◌, subst, Option, Some, None}
+use Rattle.std.specs.Prelude.{nat_le, count_by}
+use Rattle.std.proofs.lemmas.Bool.{leb-true, le-leb}
+use Rattle.st_parse.specs.declared.lexemes.Keyword.TheVariants.{Select as SELECT, Score as SCORE, Count as COUNT, From as FROM, Contains as CONTAINS}
+use Rattle.st_parse.specs.declared.lexemes.Symbol.TheVariants.{Open, Close, Comma, Star, Greater}
 use Rattle.st_parse.specs.declared.lexemes.Lexeme.{Lexeme}
 use Rattle.st_parse.specs.declared.lexemes.Lexeme.TheVariants.{Word, Name, Text, Number, Sign}
+use Rattle.st_parse.specs.declared.listing.Separator.TheVariants.{Comma as ByComma}
 use Rattle.st_parse.specs.declared.statements.Whole.{Whole}
 use Rattle.st_parse.specs.declared.statements.Item.{Item}
 use Rattle.st_parse.specs.declared.statements.Item.TheVariants.{Column, Score}
+use Rattle.st_parse.specs.declared.statements.Cond.{Cond as Condition}
 use Rattle.st_parse.specs.declared.statements.Pred.{Pred}
-use Rattle.st_parse.specs.declared.statements.Pred.TheVariants.{Contains}
-use Rattle.st_parse.specs.declared.statements.SelectList.TheVariants.{Items}
+use Rattle.st_parse.specs.declared.statements.Pred.TheVariants.{Cond, Contains}
+use Rattle.st_parse.specs.declared.statements.SelectList.{SelectList}
+use Rattle.st_parse.specs.declared.statements.SelectList.TheVariants.{Star as AllColumns, CountAll, Items}
 use Rattle.st_parse.specs.declared.statements.Statement.TheVariants.{Select}
 use Rattle.st_parse.specs.Lexemes.{◌>>=◌}
-use Rattle.st_parse.specs.Lists.{AreListed, list_at}
-use Rattle.st_parse.specs.Selecting.{IsSelectItem, IsLabel, IsPred, item_at, label_at, above_of, pred_of, from_of, select_of}
+use Rattle.st_parse.specs.Lists.{AreListed, IsWhere, list_at, where_of}
+use Rattle.st_parse.specs.Conditions.{IsCond, cond_at}
+use Rattle.st_parse.specs.Selecting.{IsSelectItem, IsSelectList, IsLabel, IsPred, is_search, item_at, select_list_at, label_at, above_at, pred_at, select_by, from_of, select_of}
 use Rattle.st_parse.specs.Grammar.{IsStatement}
-use Rattle.st_parse.proofs.Spelt.{Spelt, Wholly, Follows, list_at-spelt, list_at-again}
+use Rattle.st_parse.proofs.Spelt.{Spelt, Wholly, Follows, list_at-spelt, list_at-again, where-spelt, where-again}
+use Rattle.st_parse.proofs.SpeltConditions.{cond-spelt, cond-again}
 
 item-spelt : (ls : List Lexeme) → Spelt IsSelectItem (item_at ls) ls
 item-spelt (Name name ∷ ls) = (Name name ∷ [], refl, refl)
@@ -25,6 +32,28 @@ item-spelt ls = tt
 item-again : (prefix rest : List Lexeme) (item : Item) → IsSelectItem prefix item → Follows rest → item_at (prefix ++ rest) ≡ Some (item, rest)
 item-again prefix rest (Column name) e follows = ap (λ x. item_at (x ++ rest)) e
 item-again prefix rest (Score label) (digits, value, e) follows = ap (λ x. item_at (x ++ rest)) e ∙ ap (λ x. Some (Score x, rest)) (sym value)
+
+items-spelt : (o : Option (List Item × List Lexeme)) (ls : List Lexeme) → Spelt (AreListed IsSelectItem) o ls
+    → Spelt IsSelectList (o >>= λ items. Some (Items items.0, items.1)) ls
+items-spelt None ls are = tt
+items-spelt (Some (items, rest)) ls are = are
+
+list-spelt : (ls : List Lexeme) → Spelt IsSelectList (select_list_at ls) ls
+list-spelt (Sign Star ∷ ls) = (Sign Star ∷ [], refl, refl)
+list-spelt (Word COUNT ∷ Sign Open ∷ Sign Star ∷ Sign Close ∷ ls) = (Word COUNT ∷ Sign Open ∷ Sign Star ∷ Sign Close ∷ [], refl, refl)
+list-spelt ls = items-spelt (list_at ByComma item_at ls) ls (list_at-spelt IsSelectItem item_at item-spelt ByComma ls)
+
+-- items begin neither with `*` nor with COUNT
+items-first : (ls rest : List Lexeme) (items : List Item) → list_at ByComma item_at ls ≡ Some (items, rest) → select_list_at ls ≡ Some (Items items, rest)
+items-first (Sign Star ∷ ls) rest items read = cc
+items-first (Word COUNT ∷ Sign Open ∷ Sign Star ∷ Sign Close ∷ ls) rest items read = cc
+items-first ls rest items read = ap (λ o. o >>= λ found. Some (Items found.0, found.1)) read
+
+list-again : (prefix rest : List Lexeme) (list : SelectList) → IsSelectList prefix list → select_list_at (prefix ++ Word FROM ∷ rest) ≡ Some (list, Word FROM ∷ rest)
+list-again prefix rest AllColumns e = ap (λ x. select_list_at (x ++ Word FROM ∷ rest)) e
+list-again prefix rest CountAll e = ap (λ x. select_list_at (x ++ Word FROM ∷ rest)) e
+list-again prefix rest (Items items) are =
+    items-first (prefix ++ Word FROM ∷ rest) (Word FROM ∷ rest) items (list_at-again IsSelectItem item_at item-again ByComma prefix (Word FROM ∷ rest) items are tt tt)
 
 -- the lexemes of a label and what follows them
 abbrev Labelled : Option Whole × List Lexeme → List Lexeme → Type 0
@@ -38,43 +67,68 @@ label-again : (labels rest : List Lexeme) (label : Option Whole) → IsLabel lab
 label-again labels rest None e = ap (λ x. label_at (x ++ Sign Close ∷ rest)) e
 label-again labels rest (Some label) (digits, value, e) = ap (λ x. label_at (x ++ Sign Close ∷ rest)) e ∙ ap (λ x. (Some x, Sign Close ∷ rest)) (sym value)
 
+-- CONTAINS up to its text
+abbrev contains : List ℕ → List ℕ → List Lexeme → List Lexeme
+contains column query ls = Word CONTAINS ∷ Sign Open ∷ Name column ∷ Sign Comma ∷ Text query ∷ ls
+
 above-spelt : (column query : List ℕ) (found : Option Whole × List Lexeme) (ls : List Lexeme) → Labelled found ls
-    → Wholly IsPred (above_of column query found) (Word CONTAINS ∷ Sign Open ∷ Name column ∷ Sign Comma ∷ Text query ∷ ls)
-above-spelt column query (label, Sign Close ∷ Sign Greater ∷ Number digits ∷ []) ls (labels, is, e) =
-    (labels, (digits, is, refl, ap (λ x. Word CONTAINS ∷ Sign Open ∷ Name column ∷ Sign Comma ∷ Text query ∷ x) e))
+    → Spelt IsPred (above_at column query found) (contains column query ls)
+above-spelt column query (label, Sign Close ∷ Sign Greater ∷ Number digits ∷ rest) ls (labels, is, e) =
+    let tail : List Lexeme = Sign Close ∷ Sign Greater ∷ Number digits ∷ [] in
+    (contains column query (labels ++ tail), (labels, (digits, is, refl, refl)), ap (contains column query) (e ∙ sym (append_assoc labels tail rest)))
 above-spelt column query found ls is = tt
 
-pred-spelt : (ls : List Lexeme) → Wholly IsPred (pred_of ls) ls
+condition-spelt : (o : Option (Condition × List Lexeme)) (ls : List Lexeme) → Spelt IsCond o ls → Spelt IsPred (o >>= λ found. Some (Cond found.0, found.1)) ls
+condition-spelt None ls is = tt
+condition-spelt (Some (condition, rest)) ls is = is
+
+pred-spelt : (ls : List Lexeme) → Spelt IsPred (pred_at ls) ls
 pred-spelt (Word CONTAINS ∷ Sign Open ∷ Name column ∷ Sign Comma ∷ Text query ∷ ls) = above-spelt column query (label_at ls) ls (label-spelt ls)
-pred-spelt ls = tt
+pred-spelt ls = condition-spelt (cond_at ls) ls (cond-spelt ls)
 
-pred-again : (ls : List Lexeme) (pred : Pred) → IsPred ls pred → pred_of ls ≡ Some pred
-pred-again ls (Contains column query label above) (labels, (digits, is, value, e)) =
-    ap pred_of e
-    ∙ ap (above_of column query) (label-again labels (Sign Greater ∷ Number digits ∷ []) label is)
-    ∙ ap (λ x. Some (Contains column query label x)) (sym value)
-pred-again ls pred is = absurd is
+-- a condition doesn't begin with CONTAINS
+condition-first : (ls rest : List Lexeme) (condition : Condition) → cond_at ls ≡ Some (condition, rest) → pred_at ls ≡ Some (Cond condition, rest)
+condition-first (Word CONTAINS ∷ Sign Open ∷ Name column ∷ Sign Comma ∷ Text query ∷ ls) rest condition read = cc
+condition-first ls rest condition read = ap (λ o. o >>= λ found. Some (Cond found.0, found.1)) read
 
-made-means : (items : List Item) (table : List ℕ) (list ls : List Lexeme) (o : Option Pred) → AreListed IsSelectItem list items → Wholly IsPred o ls
-    → Wholly IsStatement (o >>= λ pred. Some (Select (Items items) table (pred ∷ []) [])) (Word SELECT ∷ (list ++ Word FROM ∷ Name table ∷ Word WHERE ∷ ls))
-made-means items table list ls None are is = tt
-made-means items table list ls (Some pred) are is = (list, ls, are, is, refl)
+pred-again : (prefix rest : List Lexeme) (pred : Pred) → IsPred prefix pred → Follows rest → pred_at (prefix ++ rest) ≡ Some (pred, rest)
+pred-again prefix rest (Cond condition) is follows = condition-first (prefix ++ rest) rest condition (cond-again prefix rest condition is follows)
+pred-again prefix rest (Contains column query label above) (labels, (digits, is, value, e)) follows =
+    ap (λ x. pred_at (x ++ rest)) e
+    ∙ ap (λ x. pred_at (contains column query x)) (append_assoc labels (Sign Close ∷ Sign Greater ∷ Number digits ∷ []) rest)
+    ∙ ap (above_at column query) (label-again labels (Sign Greater ∷ Number digits ∷ rest) label is)
+    ∙ ap (λ x. Some (Contains column query label x, rest)) (sym value)
+pred-again prefix rest pred is follows = absurd is
 
-from-means : (items : List Item) (list ls : List Lexeme) → AreListed IsSelectItem list items → Wholly IsStatement (from_of items ls) (Word SELECT ∷ (list ++ ls))
-from-means items list (Word FROM ∷ Name table ∷ Word WHERE ∷ ls) are = made-means items table list ls (pred_of ls) are (pred-spelt ls)
-from-means items list ls are = tt
+-- the statement, with `b` for whether it has one search at most
+counted-means : (b : Bool) (list : SelectList) (table : List ℕ) (preds : List Pred) (columns filter : List Lexeme) → IsSelectList columns list
+    → IsWhere IsPred filter preds → nat_le (count_by is_search preds) 1 ≡ b
+    → Wholly IsStatement (cond b (Some (Select list table preds [])) None) (Word SELECT ∷ (columns ++ Word FROM ∷ Name table ∷ filter))
+counted-means true list table preds columns filter is are few = (columns, filter, is, are, leb-true (count_by is_search preds) 1 few, refl)
+counted-means false list table preds columns filter is are few = tt
 
-list_at-means : (o : Option (List Item × List Lexeme)) (ls : List Lexeme) → Spelt (AreListed IsSelectItem) o ls
-    → Wholly IsStatement (o >>= λ items. from_of items.0 items.1) (Word SELECT ∷ ls)
-list_at-means None ls are = tt
-list_at-means (Some (items, rest)) ls (list, are, e) =
-    subst (λ x. Wholly IsStatement (from_of items rest) (Word SELECT ∷ x)) (sym e) (from-means items list rest are)
+made-means : (list : SelectList) (table : List ℕ) (columns ls : List Lexeme) (o : Option (List Pred)) → IsSelectList columns list → Wholly (IsWhere IsPred) o ls
+    → Wholly IsStatement (o >>= select_by list table) (Word SELECT ∷ (columns ++ Word FROM ∷ Name table ∷ ls))
+made-means list table columns ls None is are = tt
+made-means list table columns ls (Some preds) is are = counted-means (nat_le (count_by is_search preds) 1) list table preds columns ls is are refl
+
+from-means : (list : SelectList) (columns ls : List Lexeme) → IsSelectList columns list → Wholly IsStatement (from_of list ls) (Word SELECT ∷ (columns ++ ls))
+from-means list columns (Word FROM ∷ Name table ∷ ls) is = made-means list table columns ls (where_of pred_at ls) is (where-spelt IsPred pred_at pred-spelt ls)
+from-means list columns ls is = tt
+
+list-means : (o : Option (SelectList × List Lexeme)) (ls : List Lexeme) → Spelt IsSelectList o ls
+    → Wholly IsStatement (o >>= λ list. from_of list.0 list.1) (Word SELECT ∷ ls)
+list-means None ls is = tt
+list-means (Some (list, rest)) ls (columns, is, e) =
+    subst (λ x. Wholly IsStatement (from_of list rest) (Word SELECT ∷ x)) (sym e) (from-means list columns rest is)
 
 pub select-means : (ls : List Lexeme) → Wholly IsStatement (select_of ls) (Word SELECT ∷ ls)
-select-means ls = list_at-means (list_at item_at ls) ls (list_at-spelt IsSelectItem item_at item-spelt ls)
+select-means ls = list-means (select_list_at ls) ls (list-spelt ls)
 
-pub select-again : (items : List Item) (table : List ℕ) (pred : Pred) (list preds : List Lexeme) → AreListed IsSelectItem list items → IsPred preds pred
-    → select_of (list ++ Word FROM ∷ Name table ∷ Word WHERE ∷ preds) ≡ Some (Select (Items items) table (pred ∷ []) [])
-select-again items table pred list preds are is =
-    ap (λ o. o >>= λ found. from_of found.0 found.1) (list_at-again IsSelectItem item_at item-again list (Word FROM ∷ Name table ∷ Word WHERE ∷ preds) items are tt tt)
-    ∙ ap (λ o. o >>= λ found. Some (Select (Items items) table (found ∷ []) [])) (pred-again preds pred is)
+pub select-again : (list : SelectList) (table : List ℕ) (preds : List Pred) (columns filter : List Lexeme) → IsSelectList columns list
+    → IsWhere IsPred filter preds → count_by is_search preds ≤ 1
+    → select_of (columns ++ Word FROM ∷ Name table ∷ filter) ≡ Some (Select list table preds [])
+select-again list table preds columns filter is are few =
+    ap (λ o. o >>= λ found. from_of found.0 found.1) (list-again columns (Name table ∷ filter) list is)
+    ∙ ap (λ o. o >>= select_by list table) (where-again IsPred pred_at pred-again filter preds are)
+    ∙ ap (λ b. cond b (Some (Select list table preds [])) None) (le-leb (count_by is_search preds) 1 few)

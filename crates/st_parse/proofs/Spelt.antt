@@ -1,12 +1,14 @@
 -- What is read as a list is spelt so, and what is spelt so is read.
 use Rattle.std.proofs.Common.{◌≡◌, ℕ, zero, suc, ◌<◌, List, [], ◌∷◌, ◌++◌, length, refl, sym, ap, subst, ◌∙◌, append_assoc, append-nil, length-append, arith, Option, Some, None}
-use Rattle.st_parse.specs.declared.lexemes.Keyword.TheVariants.{From as FROM}
+use Rattle.st_parse.specs.declared.lexemes.Keyword.TheVariants.{From as FROM, Where as WHERE, And as AND}
 use Rattle.st_parse.specs.declared.lexemes.Symbol.TheVariants.{Open, Close, Comma}
 use Rattle.st_parse.specs.declared.lexemes.Lexeme.{Lexeme}
 use Rattle.st_parse.specs.declared.lexemes.Lexeme.TheVariants.{Word, Sign}
+use Rattle.st_parse.specs.declared.listing.Separator.{Separator}
+use Rattle.st_parse.specs.declared.listing.Separator.TheVariants.{Comma as ByComma, And as ByAnd}
 use Rattle.st_parse.specs.Lexemes.{◌>>=◌}
-use Rattle.st_parse.specs.Lists.{AreListed, AreEnclosed, Reader, joined, limited_list_at, list_at, EndsList, closed, enclosed, ended, enclosed_last}
-use Rattle.st_parse.proofs.Lists.{joined-ends}
+use Rattle.st_parse.specs.Lists.{AreJoined, AreListed, AreEnclosed, IsWhere, Reader, lexeme_of, joined, limited_list_at, list_at, EndsList, closed, enclosed, ended, enclosed_last, where_of}
+use Rattle.st_parse.proofs.Lists.{joined-on, joined-ends}
 
 -- what was read is spelt before what follows it
 abbrev pub Spelt : {A : Type 0} → (List Lexeme → A → Type 0) → Option (A × List Lexeme) → List Lexeme → Type 0
@@ -20,33 +22,46 @@ Wholly Is (Some a) ls = Is ls a
 
 -- what may follow an item of a list
 abbrev pub Follows : List Lexeme → Type 0
+Follows [] = Unit {0}
 Follows (Sign Comma ∷ ls) = Unit {0}
 Follows (Sign Close ∷ ls) = Unit {0}
 Follows (Word FROM ∷ ls) = Unit {0}
+Follows (Word WHERE ∷ ls) = Unit {0}
+Follows (Word AND ∷ ls) = Unit {0}
 Follows ls = ⊥
 
+pub separator-follows : (separator : Separator) (ls : List Lexeme) → Follows (lexeme_of separator ∷ ls)
+separator-follows ByComma ls = tt
+separator-follows ByAnd ls = tt
+
 module _ {A : Type 0} (Is : List Lexeme → A → Type 0) (item : Reader A) (spelt : (ls : List Lexeme) → Spelt Is (item ls) ls) where
-  more-spelt : (a : A) (prefix next ls : List Lexeme) (o : Option (List A × List Lexeme)) → Is prefix a → ls ≡ prefix ++ Sign Comma ∷ next
-      → Spelt (AreListed Is) o next
-      → Spelt (AreListed Is) (o >>= λ more. Some (a ∷ more.0, more.1)) ls
-  more-spelt a prefix next ls None is e more = tt
-  more-spelt a prefix next ls (Some ([], rest)) is e (back, none, e') = absurd none
-  more-spelt a prefix next ls (Some (b ∷ bs, rest)) is e (back, are, e') =
-      (prefix ++ Sign Comma ∷ back, (prefix, back, refl, is, are), e ∙ ap (λ x. prefix ++ Sign Comma ∷ x) e' ∙ sym (append_assoc prefix (Sign Comma ∷ back) rest))
+  more-spelt : (separator : Separator) (a : A) (prefix next ls : List Lexeme) (o : Option (List A × List Lexeme)) → Is prefix a
+      → ls ≡ prefix ++ lexeme_of separator ∷ next
+      → Spelt (AreJoined (lexeme_of separator) Is) o next
+      → Spelt (AreJoined (lexeme_of separator) Is) (o >>= λ more. Some (a ∷ more.0, more.1)) ls
+  more-spelt separator a prefix next ls None is e more = tt
+  more-spelt separator a prefix next ls (Some ([], rest)) is e (back, none, e') = absurd none
+  more-spelt separator a prefix next ls (Some (b ∷ bs, rest)) is e (back, are, e') = (
+    prefix ++ lexeme_of separator ∷ back,
+    (prefix, back, refl, is, are),
+    e ∙ ap (λ x. prefix ++ lexeme_of separator ∷ x) e' ∙ sym (append_assoc prefix (lexeme_of separator ∷ back) rest),
+  )
 
-  joined-spelt : (o : Option (A × List Lexeme)) (ls : List Lexeme) (next : Reader (List A)) → Spelt Is o ls
-      → ((ms : List Lexeme) → Spelt (AreListed Is) (next ms) ms)
-      → Spelt (AreListed Is) (o >>= λ a. joined a.0 a.1 next) ls
-  joined-spelt None ls next is more = tt
-  joined-spelt (Some (a, Sign Comma ∷ ms)) ls next (prefix, is, e) more = more-spelt a prefix ms ls (next ms) is e (more ms)
-  joined-spelt (Some (a, ms)) ls next (prefix, is, e) more = (prefix, is, e)
+  joined-spelt : (separator : Separator) (o : Option (A × List Lexeme)) (ls : List Lexeme) (next : Reader (List A)) → Spelt Is o ls
+      → ((ms : List Lexeme) → Spelt (AreJoined (lexeme_of separator) Is) (next ms) ms)
+      → Spelt (AreJoined (lexeme_of separator) Is) (o >>= λ a. joined separator a.0 a.1 next) ls
+  joined-spelt separator None ls next is more = tt
+  joined-spelt ByComma (Some (a, Sign Comma ∷ ms)) ls next (prefix, is, e) more = more-spelt ByComma a prefix ms ls (next ms) is e (more ms)
+  joined-spelt ByAnd (Some (a, Word AND ∷ ms)) ls next (prefix, is, e) more = more-spelt ByAnd a prefix ms ls (next ms) is e (more ms)
+  joined-spelt separator (Some (a, ms)) ls next (prefix, is, e) more = (prefix, is, e)
 
-  limited_list_at-spelt : (most : ℕ) (ls : List Lexeme) → Spelt (AreListed Is) (limited_list_at item most ls) ls
-  limited_list_at-spelt zero ls = tt
-  limited_list_at-spelt (suc most) ls = joined-spelt (item ls) ls (limited_list_at item most) (spelt ls) (limited_list_at-spelt most)
+  limited_list_at-spelt : (separator : Separator) (most : ℕ) (ls : List Lexeme) → Spelt (AreJoined (lexeme_of separator) Is) (limited_list_at separator item most ls) ls
+  limited_list_at-spelt separator zero ls = tt
+  limited_list_at-spelt separator (suc most) ls =
+      joined-spelt separator (item ls) ls (limited_list_at separator item most) (spelt ls) (limited_list_at-spelt separator most)
 
-  pub list_at-spelt : (ls : List Lexeme) → Spelt (AreListed Is) (list_at item ls) ls
-  list_at-spelt ls = limited_list_at-spelt (suc (length ls)) ls
+  pub list_at-spelt : (separator : Separator) (ls : List Lexeme) → Spelt (AreJoined (lexeme_of separator) Is) (list_at separator item ls) ls
+  list_at-spelt separator ls = limited_list_at-spelt separator (suc (length ls)) ls
 
   closed-spelt : (o : Option (List A × List Lexeme)) (ls : List Lexeme) → Spelt (AreListed Is) o ls → Spelt (AreEnclosed Is) (o >>= closed) (Sign Open ∷ ls)
   closed-spelt (Some (items, Sign Close ∷ rest)) ls (list, are, e) =
@@ -54,41 +69,69 @@ module _ {A : Type 0} (Is : List Lexeme → A → Type 0) (item : Reader A) (spe
   closed-spelt o ls are = tt
 
   pub enclosed-spelt : (ls : List Lexeme) → Spelt (AreEnclosed Is) (enclosed item ls) ls
-  enclosed-spelt (Sign Open ∷ ls) = closed-spelt (list_at item ls) ls (list_at-spelt ls)
+  enclosed-spelt (Sign Open ∷ ls) = closed-spelt (list_at ByComma item ls) ls (list_at-spelt ByComma ls)
   enclosed-spelt ls = tt
 
-  last-spelt : (o : Option (List A × List Lexeme)) (ls : List Lexeme) → Spelt (AreEnclosed Is) o ls → Wholly (AreEnclosed Is) (o >>= ended) ls
-  last-spelt None ls are = tt
-  last-spelt (Some (items, l ∷ rest)) ls are = tt
-  last-spelt (Some (items, [])) ls (prefix, are, e) = subst (λ x. AreEnclosed Is x items) (sym (e ∙ append-nil prefix)) are
+  last-spelt : (Are : List Lexeme → List A → Type 0) (o : Option (List A × List Lexeme)) (ls : List Lexeme) → Spelt Are o ls → Wholly Are (o >>= ended) ls
+  last-spelt Are None ls are = tt
+  last-spelt Are (Some (items, l ∷ rest)) ls are = tt
+  last-spelt Are (Some (items, [])) ls (prefix, are, e) = subst (λ x. Are x items) (sym (e ∙ append-nil prefix)) are
 
   pub enclosed_last-spelt : (ls : List Lexeme) → Wholly (AreEnclosed Is) (enclosed_last item ls) ls
-  enclosed_last-spelt ls = last-spelt (enclosed item ls) ls (enclosed-spelt ls)
+  enclosed_last-spelt ls = last-spelt (AreEnclosed Is) (enclosed item ls) ls (enclosed-spelt ls)
+
+  some-where : (o : Option (List A)) (ls : List Lexeme) → Wholly (AreJoined (Word AND) Is) o ls → Wholly (IsWhere Is) o (Word WHERE ∷ ls)
+  some-where None ls are = tt
+  some-where (Some []) ls are = absurd are
+  some-where (Some (a ∷ more)) ls are = (ls, are, refl)
+
+  pub where-spelt : (ls : List Lexeme) → Wholly (IsWhere Is) (where_of item ls) ls
+  where-spelt [] = refl
+  where-spelt (Word WHERE ∷ ls) =
+      some-where (list_at ByAnd item ls >>= ended) ls (last-spelt (AreJoined (Word AND) Is) (list_at ByAnd item ls) ls (list_at-spelt ByAnd ls))
+  where-spelt ls = tt
 
 module _ {A : Type 0} (Is : List Lexeme → A → Type 0) (item : Reader A) (again : (prefix rest : List Lexeme) (a : A) → Is prefix a → Follows rest → item (prefix ++ rest) ≡ Some (a, rest)) where
-  limited_list_at-again : (most : ℕ) (a : A) (more : List A) (ls rest : List Lexeme) → AreListed Is ls (a ∷ more) → Follows rest → EndsList rest
+  limited_list_at-again : (separator : Separator) (most : ℕ) (a : A) (more : List A) (ls rest : List Lexeme) → AreJoined (lexeme_of separator) Is ls (a ∷ more)
+      → Follows rest → EndsList separator rest
       → length (ls ++ rest) < most
-      → limited_list_at item most (ls ++ rest) ≡ Some (a ∷ more, rest)
-  limited_list_at-again zero a more ls rest are follows ends less = absurd (omega arith)
-  limited_list_at-again (suc most) a [] ls rest is follows ends less =
-      ap (λ o. o >>= λ a. joined a.0 a.1 (limited_list_at item most)) (again ls rest a is follows) ∙ joined-ends item a rest (limited_list_at item most) ends
-  limited_list_at-again (suc most) a (b ∷ bs) ls rest (prefix, back, e, is, are) follows ends less =
-      let whole : ls ++ rest ≡ prefix ++ Sign Comma ∷ (back ++ rest) = ap (λ x. x ++ rest) e ∙ append_assoc prefix (Sign Comma ∷ back) rest in
-      let shorter : length (back ++ rest) < most = omega (arith, less, ap length whole, length-append prefix (Sign Comma ∷ (back ++ rest))) in
-      ap (λ x. limited_list_at item (suc most) x) whole
-      ∙ ap (λ o. o >>= λ a. joined a.0 a.1 (limited_list_at item most)) (again prefix (Sign Comma ∷ (back ++ rest)) a is tt)
-      ∙ ap (λ o. o >>= λ more. Some (a ∷ more.0, more.1)) (limited_list_at-again most b bs back rest are follows ends shorter)
+      → limited_list_at separator item most (ls ++ rest) ≡ Some (a ∷ more, rest)
+  limited_list_at-again separator zero a more ls rest are follows ends less = absurd (omega arith)
+  limited_list_at-again separator (suc most) a [] ls rest is follows ends less =
+      ap (λ o. o >>= λ a. joined separator a.0 a.1 (limited_list_at separator item most)) (again ls rest a is follows)
+      ∙ joined-ends separator a rest (limited_list_at separator item most) ends
+  limited_list_at-again separator (suc most) a (b ∷ bs) ls rest (prefix, back, e, is, are) follows ends less =
+      let whole : ls ++ rest ≡ prefix ++ lexeme_of separator ∷ (back ++ rest) = ap (λ x. x ++ rest) e ∙ append_assoc prefix (lexeme_of separator ∷ back) rest in
+      let shorter : length (back ++ rest) < most = omega (arith, less, ap length whole, length-append prefix (lexeme_of separator ∷ (back ++ rest))) in
+      ap (λ x. limited_list_at separator item (suc most) x) whole
+      ∙ ap (λ o. o >>= λ a. joined separator a.0 a.1 (limited_list_at separator item most))
+      (again prefix (lexeme_of separator ∷ (back ++ rest)) a is (separator-follows separator (back ++ rest)))
+      ∙ joined-on separator a (back ++ rest) (limited_list_at separator item most)
+      ∙ ap (λ o. o >>= λ more. Some (a ∷ more.0, more.1)) (limited_list_at-again separator most b bs back rest are follows ends shorter)
 
-  pub list_at-again : (ls rest : List Lexeme) (items : List A) → AreListed Is ls items → Follows rest → EndsList rest
-      → list_at item (ls ++ rest) ≡ Some (items, rest)
-  list_at-again ls rest [] are follows ends = absurd are
-  list_at-again ls rest (a ∷ more) are follows ends = limited_list_at-again (suc (length (ls ++ rest))) a more ls rest are follows ends (omega arith)
+  pub list_at-again : (separator : Separator) (ls rest : List Lexeme) (items : List A) → AreJoined (lexeme_of separator) Is ls items → Follows rest
+      → EndsList separator rest
+      → list_at separator item (ls ++ rest) ≡ Some (items, rest)
+  list_at-again separator ls rest [] are follows ends = absurd are
+  list_at-again separator ls rest (a ∷ more) are follows ends =
+      limited_list_at-again separator (suc (length (ls ++ rest))) a more ls rest are follows ends (omega arith)
 
   pub enclosed-again : (ls rest : List Lexeme) (items : List A) → AreEnclosed Is ls items → enclosed item (ls ++ rest) ≡ Some (items, rest)
   enclosed-again ls rest items (list, are, e) =
       ap (λ x. enclosed item (x ++ rest)) e
       ∙ ap (λ x. enclosed item (Sign Open ∷ x)) (append_assoc list (Sign Close ∷ []) rest)
-      ∙ ap (λ o. o >>= closed) (list_at-again list (Sign Close ∷ rest) items are tt tt)
+      ∙ ap (λ o. o >>= closed) (list_at-again ByComma list (Sign Close ∷ rest) items are tt tt)
 
   pub enclosed_last-again : (ls : List Lexeme) (items : List A) → AreEnclosed Is ls items → enclosed_last item ls ≡ Some items
   enclosed_last-again ls items are = ap (enclosed_last item) (sym (append-nil ls)) ∙ ap (λ o. o >>= ended) (enclosed-again ls [] items are)
+
+  pub where-again : (ls : List Lexeme) (items : List A) → IsWhere Is ls items → where_of item ls ≡ Some items
+  where-again ls [] e = ap (where_of item) e
+  where-again ls (a ∷ more) (list, are, e) =
+      ap (where_of item) (e ∙ ap (λ x. Word WHERE ∷ x) (sym (append-nil list)))
+      ∙ ap (λ o. o >>= ended) (list_at-again ByAnd list [] (a ∷ more) are tt tt)
+
+-- what may stand behind a list with commas, and what a WHERE is
+pub where-follows : {A : Type 0} (Is : List Lexeme → A → Type 0) (ls : List Lexeme) (items : List A) → IsWhere Is ls items → Follows ls × EndsList ByComma ls
+where-follows Is ls [] e = subst (λ x. Follows x × EndsList ByComma x) (sym e) (tt, tt)
+where-follows Is ls (a ∷ more) (list, are, e) = subst (λ x. Follows x × EndsList ByComma x) (sym e) (tt, tt)

@@ -3,8 +3,12 @@ pub mod Lexemes
 pub mod Numbers
 pub mod Lists
 pub mod Values
+pub mod Conditions
 pub mod Creating
+pub mod Dropping
 pub mod Inserting
+pub mod Updating
+pub mod Deleting
 pub mod Selecting
 pub mod Calling
 pub mod Writing

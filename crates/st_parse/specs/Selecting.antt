@@ -1,38 +1,53 @@
 -- SELECT, as it is spelt and as it is read.
-use Rattle.std.specs.Prelude.{ℕ, ◌≡◌, pos, List, [], ◌∷◌, ◌++◌, codes, Option, Some, None, refl}
-use Rattle.st_parse.specs.declared.lexemes.Keyword.TheVariants.{Score as SCORE, From as FROM, Where as WHERE, Contains as CONTAINS}
-use Rattle.st_parse.specs.declared.lexemes.Symbol.TheVariants.{Open, Close, Comma, Greater}
+use Rattle.std.specs.Prelude.{ℕ, ◌≡◌, Bool, true, false, nat_le, count_by, pos, List, [], ◌∷◌, ◌++◌, codes, Option, Some, None, refl}
+use Rattle.std.specs.Bool.{if◌then◌else◌}
+use Rattle.st_parse.specs.declared.lexemes.Keyword.TheVariants.{Score as SCORE, Count as COUNT, From as FROM, And as AND, Contains as CONTAINS}
+use Rattle.st_parse.specs.declared.lexemes.Symbol.TheVariants.{Open, Close, Comma, Star, Greater}
 use Rattle.st_parse.specs.declared.lexemes.Lexeme.{Lexeme}
 use Rattle.st_parse.specs.declared.lexemes.Lexeme.TheVariants.{Word, Name, Text, Number, Sign}
+use Rattle.st_parse.specs.declared.listing.Separator.TheVariants.{Comma as ByComma}
 use Rattle.st_parse.specs.declared.statements.Whole.{Whole}
 use Rattle.st_parse.specs.declared.statements.Whole.TheVariants.{Fits}
 use Rattle.st_parse.specs.declared.statements.Item.{Item}
 use Rattle.st_parse.specs.declared.statements.Item.TheVariants.{Column, Score}
 use Rattle.st_parse.specs.declared.statements.Pred.{Pred}
-use Rattle.st_parse.specs.declared.statements.Pred.TheVariants.{Contains}
-use Rattle.st_parse.specs.declared.statements.SelectList.TheVariants.{Items}
+use Rattle.st_parse.specs.declared.statements.Pred.TheVariants.{Cond, Contains}
+use Rattle.st_parse.specs.declared.statements.SelectList.{SelectList}
+use Rattle.st_parse.specs.declared.statements.SelectList.TheVariants.{Star as AllColumns, CountAll, Items}
 use Rattle.st_parse.specs.declared.statements.Statement.{Statement}
 use Rattle.st_parse.specs.declared.statements.Statement.TheVariants.{Select}
 use Rattle.st_parse.specs.Lexemes.{◌>>=◌}
 use Rattle.st_parse.specs.Numbers.{number}
-use Rattle.st_parse.specs.Lists.{Reader, list_at}
+use Rattle.st_parse.specs.Lists.{AreListed, Reader, list_at, where_of}
+use Rattle.st_parse.specs.Conditions.{IsCond, cond_at}
 
 -- These lexemes are this item of a list.
 abbrev pub IsSelectItem : List Lexeme → Item → Type 0
 IsSelectItem ls (Column name) = ls ≡ Name name ∷ []
 IsSelectItem ls (Score label) = (digits : List ℕ) × (label ≡ number digits) × (ls ≡ Word SCORE ∷ Sign Open ∷ Number digits ∷ Sign Close ∷ [])
 
+abbrev pub IsSelectList : List Lexeme → SelectList → Type 0
+IsSelectList ls AllColumns = ls ≡ Sign Star ∷ []
+IsSelectList ls CountAll = ls ≡ Word COUNT ∷ Sign Open ∷ Sign Star ∷ Sign Close ∷ []
+IsSelectList ls (Items items) = AreListed IsSelectItem ls items
+
 -- a comma and a label, or nothing
 abbrev pub IsLabel : List Lexeme → Option Whole → Type 0
 IsLabel ls None = ls ≡ []
 IsLabel ls (Some label) = (digits : List ℕ) × (label ≡ number digits) × (ls ≡ Sign Comma ∷ Number digits ∷ [])
 
--- These lexemes are this predicate. For now CONTAINS is the only one.
+-- These lexemes are this predicate. For now it is a condition or CONTAINS.
 abbrev pub IsPred : List Lexeme → Pred → Type 0
+IsPred ls (Cond cond) = IsCond ls cond
 IsPred ls (Contains column query label above) =
     (labels : List Lexeme) × ((digits : List ℕ) × IsLabel labels label × (above ≡ number digits)
     × (ls ≡ Word CONTAINS ∷ Sign Open ∷ Name column ∷ Sign Comma ∷ Text query ∷ (labels ++ Sign Close ∷ Sign Greater ∷ Number digits ∷ [])))
 IsPred ls pred = ⊥
+
+-- Whether a predicate is a search, and no condition. A SELECT has at most one.
+abbrev pub is_search : Pred → Bool
+is_search (Cond cond) = false
+is_search pred = true
 
 -- The same as functions.
 abbrev pub item_at : Reader Item
@@ -40,35 +55,53 @@ item_at (Name name ∷ ls) = Some (Column name, ls)
 item_at (Word SCORE ∷ Sign Open ∷ Number digits ∷ Sign Close ∷ ls) = Some (Score (number digits), ls)
 item_at ls = None
 
+abbrev pub select_list_at : Reader SelectList
+select_list_at (Sign Star ∷ ls) = Some (AllColumns, ls)
+select_list_at (Word COUNT ∷ Sign Open ∷ Sign Star ∷ Sign Close ∷ ls) = Some (CountAll, ls)
+select_list_at ls = list_at ByComma item_at ls >>= λ items. Some (Items items.0, items.1)
+
 abbrev pub label_at : List Lexeme → Option Whole × List Lexeme
 label_at (Sign Comma ∷ Number digits ∷ ls) = (Some (number digits), ls)
 label_at ls = (None, ls)
 
-abbrev pub above_of : List ℕ → List ℕ → Option Whole × List Lexeme → Option Pred
-above_of column query (label, Sign Close ∷ Sign Greater ∷ Number digits ∷ []) = Some (Contains column query label (number digits))
-above_of column query found = None
+abbrev pub above_at : List ℕ → List ℕ → Option Whole × List Lexeme → Option (Pred × List Lexeme)
+above_at column query (label, Sign Close ∷ Sign Greater ∷ Number digits ∷ ls) = Some (Contains column query label (number digits), ls)
+above_at column query found = None
 
-abbrev pub pred_of : List Lexeme → Option Pred
-pred_of (Word CONTAINS ∷ Sign Open ∷ Name column ∷ Sign Comma ∷ Text query ∷ ls) = above_of column query (label_at ls)
-pred_of ls = None
+abbrev pub pred_at : Reader Pred
+pred_at (Word CONTAINS ∷ Sign Open ∷ Name column ∷ Sign Comma ∷ Text query ∷ ls) = above_at column query (label_at ls)
+pred_at ls = cond_at ls >>= λ cond. Some (Cond cond.0, cond.1)
 
-abbrev pub from_of : List Item → List Lexeme → Option Statement
-from_of items (Word FROM ∷ Name table ∷ Word WHERE ∷ ls) = pred_of ls >>= λ pred. Some (Select (Items items) table (pred ∷ []) [])
-from_of items ls = None
+abbrev pub select_by : SelectList → List ℕ → List Pred → Option Statement
+select_by list table preds = if nat_le (count_by is_search preds) 1 then Some (Select list table preds []) else None
+
+-- what follows the list
+abbrev pub from_of : SelectList → List Lexeme → Option Statement
+from_of list (Word FROM ∷ Name table ∷ ls) = where_of pred_at ls >>= select_by list table
+from_of list ls = None
 
 -- what follows SELECT
 abbrev pub select_of : List Lexeme → Option Statement
-select_of ls = list_at item_at ls >>= λ items. from_of items.0 items.1
+select_of ls = select_list_at ls >>= λ list. from_of list.0 list.1
 
 -- computed examples
 a_score : item_at (Word SCORE ∷ Sign Open ∷ Number (codes "10") ∷ Sign Close ∷ Word FROM ∷ []) ≡ Some (Score (Fits (pos 10)), Word FROM ∷ [])
 a_score = refl
 
-with_a_label : pred_of (Word CONTAINS ∷ Sign Open ∷ Name (codes "body") ∷ Sign Comma ∷ Text (codes "fox")
-    ∷ Sign Comma ∷ Number (codes "2") ∷ Sign Close ∷ Sign Greater ∷ Number (codes "50") ∷ [])
-    ≡ Some (Contains (codes "body") (codes "fox") (Some (Fits (pos 2))) (Fits (pos 50)))
+all_rows : select_of (Sign Star ∷ Word FROM ∷ Name (codes "t") ∷ []) ≡ Some (Select AllColumns (codes "t") [] [])
+all_rows = refl
+
+row_count : select_of (Word COUNT ∷ Sign Open ∷ Sign Star ∷ Sign Close ∷ Word FROM ∷ Name (codes "t") ∷ []) ≡ Some (Select CountAll (codes "t") [] [])
+row_count = refl
+
+a_count_among_items : select_of (Name (codes "a") ∷ Sign Comma ∷ Word COUNT ∷ Sign Open ∷ Sign Star ∷ Sign Close ∷ Word FROM ∷ Name (codes "t") ∷ []) ≡ None
+a_count_among_items = refl
+
+with_a_label : pred_at (Word CONTAINS ∷ Sign Open ∷ Name (codes "body") ∷ Sign Comma ∷ Text (codes "fox")
+    ∷ Sign Comma ∷ Number (codes "2") ∷ Sign Close ∷ Sign Greater ∷ Number (codes "50") ∷ Word AND ∷ [])
+    ≡ Some (Contains (codes "body") (codes "fox") (Some (Fits (pos 2))) (Fits (pos 50)), Word AND ∷ [])
 with_a_label = refl
 
-without_one : pred_of (Word CONTAINS ∷ Sign Open ∷ Name (codes "body") ∷ Sign Comma ∷ Text (codes "fox") ∷ Sign Close ∷ Sign Greater ∷ Number (codes "0") ∷ [])
-    ≡ Some (Contains (codes "body") (codes "fox") None (Fits (pos 0)))
+without_one : pred_at (Word CONTAINS ∷ Sign Open ∷ Name (codes "body") ∷ Sign Comma ∷ Text (codes "fox") ∷ Sign Close ∷ Sign Greater ∷ Number (codes "0") ∷ [])
+    ≡ Some (Contains (codes "body") (codes "fox") None (Fits (pos 0)), [])
 without_one = refl

@@ -15,7 +15,7 @@ use std::alloc::Global;
 impl Element for Arg {
     ghost item_at = { arg_at };
 
-    fn read(lexemes: &[Lexeme]) -> Result<(Arg, &[Lexeme]), StatementFault> {
+    fn read(_alloc: Global, lexemes: &[Lexeme]) -> Result<(Arg, &[Lexeme]), StatementFault> {
         match lexemes {
             [Lexeme::Text(text), rest @ ..] => Ok((Arg::Text(text.clone()?), rest)),
             [Lexeme::Word(Keyword::True), rest @ ..] => Ok((Arg::Flag(true), rest)),

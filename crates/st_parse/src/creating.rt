@@ -49,7 +49,7 @@ fn read_key(lexemes: &[Lexeme]) -> (bool, &[Lexeme])
 impl Element for ColumnText {
     ghost item_at = { column_at };
 
-    fn read(lexemes: &[Lexeme]) -> Result<(ColumnText, &[Lexeme]), StatementFault> {
+    fn read(_alloc: Global, lexemes: &[Lexeme]) -> Result<(ColumnText, &[Lexeme]), StatementFault> {
         match lexemes {
             [Lexeme::Name(name), rest @ ..] => {
                 let (sort, rest) = read_sort(rest)?;

@@ -13,7 +13,7 @@ use std::alloc::Global;
 impl Element for Name {
     ghost item_at = { name_at };
 
-    fn read(lexemes: &[Lexeme]) -> Result<(Name, &[Lexeme]), StatementFault> {
+    fn read(_alloc: Global, lexemes: &[Lexeme]) -> Result<(Name, &[Lexeme]), StatementFault> {
         match lexemes {
             [Lexeme::Name(name), rest @ ..] => Ok((name.clone()?, rest)),
             _ => Err(StatementFault::Syntax),

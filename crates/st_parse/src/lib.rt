@@ -2,7 +2,10 @@
 #![tactic(auto)]
 
 mod calling;
+mod conditions;
 mod creating;
+mod deleting;
+mod dropping;
 mod inserting;
 mod laws;
 mod lexemes;
@@ -14,6 +17,7 @@ mod selecting;
 mod statements;
 #[cfg(test)]
 mod tests;
+mod updating;
 mod values;
 
 pub use laws::{one_statement, statement_is_read, written_is_read};

@@ -1,14 +1,19 @@
-//! Lists of items with commas between them.
+//! Lists of items with a separator between them.
 
 ghost use Rattle.std.specs.Prelude.{◌≡◌, ◌≤◌, ◌∷◌, length, IfOk, MatchOption};
-ghost use Rattle.st_parse.specs.Lists.{EndsList, Reader, list_at, enclosed, enclosed_last};
+ghost use Rattle.st_parse.specs.Lists.{EndsList, Reader, lexeme_of, list_at, enclosed, enclosed_last, where_of};
 ghost use Rattle.st_parse.specs.Reading.{ReadGives};
-ghost use Rattle.st_parse.specs.declared.lexemes.Symbol.TheVariants.{Comma};
-ghost use Rattle.st_parse.specs.declared.lexemes.Lexeme.TheVariants.{Sign};
 
-use crate::lexemes::{Lexeme, Symbol};
+use crate::lexemes::{Keyword, Lexeme, Symbol};
 use crate::parsing::StatementFault;
 use std::alloc::Global;
+
+/// What stands between two items of a list.
+#[derive(Clone, Copy)]
+pub(crate) enum Separator {
+    Comma,
+    And,
+}
 
 /// What may stand in a list.
 pub(crate) trait Element: Drop + Sized {
@@ -16,35 +21,43 @@ pub(crate) trait Element: Drop + Sized {
     ghost item_at: { Reader Self };
 
     /// Reads the item at the beginning; gives what follows it too.
-    fn read(lexemes: &[Lexeme]) -> Result<(Self, &[Lexeme]), StatementFault>
+    fn read(alloc: Global, lexemes: &[Lexeme]) -> Result<(Self, &[Lexeme]), StatementFault>
         ensures gives { ReadGives (λ x. (x.0, x.1.now)) result (item_at lexemes.now) }
         ensures rest { IfOk result (λ x. length x.1.now ≤ length lexemes.now) };
 }
 
-/// What follows the comma at the beginning, if one stands there.
-fn after_comma(lexemes: &[Lexeme]) -> Option<&[Lexeme]>
-    ensures { MatchOption result (EndsList lexemes.now) (λ next. lexemes.now ≡ Sign Comma ∷ next.now) }
+/// What follows the separator at the beginning, if it stands there.
+fn after_separator(separator: Separator, lexemes: &[Lexeme]) -> Option<&[Lexeme]>
+    ensures { MatchOption result (EndsList separator lexemes.now) (λ next. lexemes.now ≡ lexeme_of separator ∷ next.now) }
 {
-    match lexemes {
-        [Lexeme::Sign(Symbol::Comma), next @ ..] => Some(next),
-        _ => None,
+    match separator {
+        Separator::Comma => match lexemes {
+            [Lexeme::Sign(Symbol::Comma), next @ ..] => Some(next),
+            _ => None,
+        },
+        Separator::And => match lexemes {
+            [Lexeme::Word(Keyword::And), next @ ..] => Some(next),
+            _ => None,
+        },
     }
 }
 
-/// Reads one item or more, with commas between them; gives what follows them too.
+/// Reads one item or more, with the separator between them; gives what follows them too.
 pub(crate) fn read_list<T: Element>(
     alloc: Global,
+    separator: Separator,
     lexemes: &[Lexeme],
 ) -> Result<(Vec<T>, &[Lexeme]), StatementFault>
-    ensures { ReadGives (λ x. (x.0.items, x.1.now)) result (list_at T.item_at lexemes.now) }
+    ensures gives { ReadGives (λ x. (x.0.items, x.1.now)) result (list_at separator T.item_at lexemes.now) }
+    ensures rest { IfOk result (λ x. length x.1.now ≤ length lexemes.now) }
 {
     let mut items = Vec::new(alloc);
     let mut rest = lexemes;
     'items: loop {
-        match T::read(rest) {
+        match T::read(alloc, rest) {
             Ok((item, after)) => {
                 items.push(item)?;
-                match after_comma(after) {
+                match after_separator(separator, after) {
                     Some(next) => rest = next,
                     None => return Ok((items, after)),
                 }
@@ -59,12 +72,13 @@ pub(crate) fn read_enclosed<T: Element>(
     alloc: Global,
     lexemes: &[Lexeme],
 ) -> Result<(Vec<T>, &[Lexeme]), StatementFault>
-    ensures { ReadGives (λ x. (x.0.items, x.1.now)) result (enclosed T.item_at lexemes.now) }
+    ensures gives { ReadGives (λ x. (x.0.items, x.1.now)) result (enclosed T.item_at lexemes.now) }
+    ensures rest { IfOk result (λ x. length x.1.now ≤ length lexemes.now) }
 {
     let [Lexeme::Sign(Symbol::Open), rest @ ..] = lexemes else {
         return Err(StatementFault::Syntax);
     };
-    match read_list(alloc, rest) {
+    match read_list(alloc, Separator::Comma, rest) {
         Ok((items, after)) => match after {
             [Lexeme::Sign(Symbol::Close), rest @ ..] => Ok((items, rest)),
             _ => Err(StatementFault::Syntax),
@@ -84,5 +98,25 @@ pub(crate) fn read_enclosed_last<T: Element>(
         Ok((items, [])) => Ok(items),
         Ok(_) => Err(StatementFault::Syntax),
         Err(fault) => Err(fault),
+    }
+}
+
+/// Reads WHERE and items with AND between them, where nothing follows; there is no item where nothing stands here.
+pub(crate) fn read_where<T: Element>(
+    alloc: Global,
+    lexemes: &[Lexeme],
+) -> Result<Vec<T>, StatementFault>
+    ensures { ReadGives (λ v. v.items) result (where_of T.item_at lexemes.now) }
+{
+    match lexemes {
+        [] => Ok(Vec::new(alloc)),
+        [Lexeme::Word(Keyword::Where), rest @ ..] => {
+            let (items, rest) = read_list(alloc, Separator::And, rest)?;
+            match rest {
+                [] => Ok(items),
+                _ => Err(StatementFault::Syntax),
+            }
+        }
+        _ => Err(StatementFault::Syntax),
     }
 }

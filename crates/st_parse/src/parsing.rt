@@ -11,11 +11,14 @@ ghost use Rattle.st_parse.specs.declared.parsing.StatementFault.TheVariants.{Mem
 
 use crate::calling::exec;
 use crate::creating::create;
+use crate::deleting::delete;
+use crate::dropping::drop_statement;
 use crate::inserting::insert;
 use crate::lexemes::{Keyword, Lexeme};
 use crate::lexing::{LexFault, lex};
 use crate::selecting::select;
 use crate::statements::Statement;
+use crate::updating::update;
 use ct_base::Memory;
 use std::alloc::{AllocError, AllocFailed, Global};
 use thiserror::Error;
@@ -71,9 +74,13 @@ fn statement(alloc: Global, lexemes: &[Lexeme]) -> Result<Statement, StatementFa
 {
     match lexemes {
         [Lexeme::Word(Keyword::Create), rest @ ..] => create(alloc, rest),
+        [Lexeme::Word(Keyword::Drop), rest @ ..] => drop_statement(rest),
         [Lexeme::Word(Keyword::Insert), rest @ ..] => insert(alloc, rest),
+        [Lexeme::Word(Keyword::Update), rest @ ..] => update(alloc, rest),
+        [Lexeme::Word(Keyword::Delete), rest @ ..] => delete(alloc, rest),
         [Lexeme::Word(Keyword::Select), rest @ ..] => select(alloc, rest),
         [Lexeme::Word(Keyword::Exec | Keyword::Execute), rest @ ..] => exec(alloc, rest),
+        [Lexeme::Word(Keyword::Commit)] => Ok(Statement::Commit),
         _ => Err(StatementFault::Syntax),
     }
 }

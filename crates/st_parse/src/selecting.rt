@@ -1,21 +1,21 @@
 //! SELECT.
 
-ghost use Rattle.std.specs.Prelude.{◌≡◌};
-ghost use Rattle.st_parse.specs.Selecting.{item_at, label_at, above_of, pred_of, from_of, select_of};
+ghost use Rattle.std.specs.Prelude.{◌≡◌, ◌≤◌, nat_le, count_by, length, IfOk};
+ghost use Rattle.st_parse.specs.Selecting.{item_at, label_at, above_at, pred_at, is_search, from_of, select_list_at, select_of};
 ghost use Rattle.st_parse.specs.Reading.{ReadGives, StatementGives};
 
 use crate::lexemes::{Keyword, Lexeme, Symbol};
-use crate::listing::{Element, read_list};
+use crate::listing::{Element, Separator, read_list, read_where};
 use crate::numbers::number;
 use crate::parsing::StatementFault;
-use crate::statements::{Item, Items, Orders, Pred, Preds, SelectList, Statement, Whole};
+use crate::statements::{Cond, Item, Items, Orders, Pred, Preds, SelectList, Statement, Whole};
 use ct_base::{Name, Text};
 use std::alloc::Global;
 
 impl Element for Item {
     ghost item_at = { item_at };
 
-    fn read(lexemes: &[Lexeme]) -> Result<(Item, &[Lexeme]), StatementFault> {
+    fn read(_alloc: Global, lexemes: &[Lexeme]) -> Result<(Item, &[Lexeme]), StatementFault> {
         match lexemes {
             [Lexeme::Name(name), rest @ ..] => Ok((Item::Column(name.clone()?), rest)),
             [
@@ -32,7 +32,8 @@ impl Element for Item {
 
 /// The label at the beginning, if there is one, and what follows it.
 fn read_label(lexemes: &[Lexeme]) -> (Option<Whole>, &[Lexeme])
-    ensures { (result.0, result.1.now) ≡ label_at lexemes.now }
+    ensures label { (result.0, result.1.now) ≡ label_at lexemes.now }
+    ensures rest { length result.1.now ≤ length lexemes.now }
 {
     match lexemes {
         [
@@ -45,70 +46,116 @@ fn read_label(lexemes: &[Lexeme]) -> (Option<Whole>, &[Lexeme])
 }
 
 /// CONTAINS, by what follows its label.
-fn above(
-    column: &Name,
-    query: &Text,
+fn read_above(
+    column: Name,
+    query: Text,
     label: Option<Whole>,
     lexemes: &[Lexeme],
-) -> Result<Pred, StatementFault>
-    ensures { ReadGives (λ p. p) result (above_of column.now query.now (label, lexemes.now)) }
+) -> Result<(Pred, &[Lexeme]), StatementFault>
+    ensures gives { ReadGives (λ x. (x.0, x.1.now)) result (above_at column query (label, lexemes.now)) }
+    ensures rest { IfOk result (λ x. length x.1.now ≤ length lexemes.now) }
 {
     match lexemes {
         [
             Lexeme::Sign(Symbol::Close),
             Lexeme::Sign(Symbol::Greater),
             Lexeme::Number(digits),
-        ] => Ok(Pred::Contains {
-            column: column.clone()?,
-            query: query.clone()?,
-            label,
-            above: number(digits),
-        }),
+            rest @ ..,
+        ] => Ok((
+            Pred::Contains {
+                column,
+                query,
+                label,
+                above: number(digits),
+            },
+            rest,
+        )),
         _ => Err(StatementFault::Syntax),
     }
 }
 
-/// The predicate, where nothing follows it.
-fn pred(lexemes: &[Lexeme]) -> Result<Pred, StatementFault>
-    ensures { ReadGives (λ p. p) result (pred_of lexemes.now) }
-{
-    match lexemes {
-        [
-            Lexeme::Word(Keyword::Contains),
-            Lexeme::Sign(Symbol::Open),
-            Lexeme::Name(column),
-            Lexeme::Sign(Symbol::Comma),
-            Lexeme::Text(query),
-            rest @ ..,
-        ] => {
-            let (label, rest) = read_label(rest);
-            above(column, query, label, rest)
+impl Element for Pred {
+    ghost item_at = { pred_at };
+
+    fn read(alloc: Global, lexemes: &[Lexeme]) -> Result<(Pred, &[Lexeme]), StatementFault> {
+        match lexemes {
+            [
+                Lexeme::Word(Keyword::Contains),
+                Lexeme::Sign(Symbol::Open),
+                Lexeme::Name(column),
+                Lexeme::Sign(Symbol::Comma),
+                Lexeme::Text(query),
+                rest @ ..,
+            ] => {
+                let (label, rest) = read_label(rest);
+                read_above(column.clone()?, query.clone()?, label, rest)
+            }
+            _ => {
+                let (cond, rest) = Cond::read(alloc, lexemes)?;
+                Ok((Pred::Cond(cond), rest))
+            }
         }
-        _ => Err(StatementFault::Syntax),
     }
+}
+
+/// Whether a predicate is a search, and no condition.
+fn is_search(pred: &Pred) -> bool
+    ensures { result ≡ is_search pred.now }
+{
+    match pred {
+        Pred::Cond(_) => false,
+        _ => true,
+    }
+}
+
+/// Whether at most one of the predicates is a search.
+fn has_at_most_one_search(preds: &[Pred]) -> bool
+    ensures { result ≡ nat_le (count_by is_search preds.now) 1 }
+{
+    preds.iter().filter(|pred| is_search(pred)).count() <= 1
 }
 
 /// What follows the list.
-fn from(alloc: Global, items: Vec<Item>, lexemes: &[Lexeme]) -> Result<Statement, StatementFault>
-    ensures { StatementGives result (from_of items.items lexemes.now) }
+fn from(alloc: Global, list: SelectList, lexemes: &[Lexeme]) -> Result<Statement, StatementFault>
+    ensures { StatementGives result (from_of list lexemes.now) }
 {
     match lexemes {
-        [
-            Lexeme::Word(Keyword::From),
-            Lexeme::Name(table),
-            Lexeme::Word(Keyword::Where),
-            rest @ ..,
-        ] => {
-            let mut preds = Vec::new(alloc);
-            preds.push(pred(rest)?)?;
+        [Lexeme::Word(Keyword::From), Lexeme::Name(table), rest @ ..] => {
+            let preds = read_where(alloc, rest)?;
+            if !has_at_most_one_search(preds.as_slice()) {
+                return Err(StatementFault::Syntax);
+            }
             Ok(Statement::Select {
-                list: SelectList::Items(Items::of(items)),
+                list,
                 table: table.clone()?,
                 preds: Preds::of(preds),
-                orders: Orders::of(Vec::new(alloc)),
+                orders: Orders::empty(alloc),
             })
         }
         _ => Err(StatementFault::Syntax),
+    }
+}
+
+/// The list at the beginning, and what follows it.
+fn read_select_list(
+    alloc: Global,
+    lexemes: &[Lexeme],
+) -> Result<(SelectList, &[Lexeme]), StatementFault>
+    ensures { ReadGives (λ x. (x.0, x.1.now)) result (select_list_at lexemes.now) }
+{
+    match lexemes {
+        [Lexeme::Sign(Symbol::Star), rest @ ..] => Ok((SelectList::Star, rest)),
+        [
+            Lexeme::Word(Keyword::Count),
+            Lexeme::Sign(Symbol::Open),
+            Lexeme::Sign(Symbol::Star),
+            Lexeme::Sign(Symbol::Close),
+            rest @ ..,
+        ] => Ok((SelectList::CountAll, rest)),
+        _ => {
+            let (items, rest) = read_list(alloc, Separator::Comma, lexemes)?;
+            Ok((SelectList::Items(Items::of(items)), rest))
+        }
     }
 }
 
@@ -116,8 +163,6 @@ fn from(alloc: Global, items: Vec<Item>, lexemes: &[Lexeme]) -> Result<Statement
 pub(crate) fn select(alloc: Global, lexemes: &[Lexeme]) -> Result<Statement, StatementFault>
     ensures { StatementGives result (select_of lexemes.now) }
 {
-    match read_list(alloc, lexemes) {
-        Ok((items, rest)) => from(alloc, items, rest),
-        Err(fault) => Err(fault),
-    }
+    let (list, rest) = read_select_list(alloc, lexemes)?;
+    from(alloc, list, rest)
 }

@@ -9,6 +9,7 @@ use crate::listing::Element;
 use crate::numbers::{negated, number};
 use crate::parsing::StatementFault;
 use crate::statements::{Operand, Whole};
+use std::alloc::Global;
 
 /// The number at the beginning, with its sign if it has one, and what follows it.
 pub(crate) fn read_signed(lexemes: &[Lexeme]) -> Result<(Whole, &[Lexeme]), StatementFault>
@@ -26,16 +27,24 @@ pub(crate) fn read_signed(lexemes: &[Lexeme]) -> Result<(Whole, &[Lexeme]), Stat
     }
 }
 
+/// The value at the beginning, and what follows it.
+pub(crate) fn read_operand(lexemes: &[Lexeme]) -> Result<(Operand, &[Lexeme]), StatementFault>
+    ensures gives { ReadGives (λ x. (x.0, x.1.now)) result (operand_at lexemes.now) }
+    ensures rest { IfOk result (λ x. length x.1.now ≤ length lexemes.now) }
+{
+    match lexemes {
+        [Lexeme::Text(text), rest @ ..] => Ok((Operand::Text(text.clone()?), rest)),
+        _ => {
+            let (n, rest) = read_signed(lexemes)?;
+            Ok((Operand::Number(n), rest))
+        }
+    }
+}
+
 impl Element for Operand {
     ghost item_at = { operand_at };
 
-    fn read(lexemes: &[Lexeme]) -> Result<(Operand, &[Lexeme]), StatementFault> {
-        match lexemes {
-            [Lexeme::Text(text), rest @ ..] => Ok((Operand::Text(text.clone()?), rest)),
-            _ => {
-                let (n, rest) = read_signed(lexemes)?;
-                Ok((Operand::Number(n), rest))
-            }
-        }
+    fn read(_alloc: Global, lexemes: &[Lexeme]) -> Result<(Operand, &[Lexeme]), StatementFault> {
+        read_operand(lexemes)
     }
 }
