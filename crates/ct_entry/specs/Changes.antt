@@ -39,6 +39,11 @@ abbrev pub AllOf : (Kind → Bool) → List (Key × Option (List ℕ)) → Type 
 AllOf p [] = Unit {0}
 AllOf p (w ∷ ws) = (p w.0.kind ≡ true) × AllOf p ws
 
+-- the changes are on keys of this owner
+abbrev pub AllOn : List ℕ → List (Key × Option (List ℕ)) → Type 0
+AllOn i [] = Unit {0}
+AllOn i (w ∷ ws) = (w.0.owner ≡ i) × AllOn i ws
+
 -- of the changes that put, what is put fits its key
 abbrev pub Puts : (Key → List ℕ → Type 0) → Key → Option (List ℕ) → Type 0
 Puts P k None = Unit {0}

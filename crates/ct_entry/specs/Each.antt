@@ -1,5 +1,5 @@
 -- Changes for each of several things, as owners or rows.
-use Rattle.std.specs.Prelude.{ℕ, Bool, cond, List, [], ◌∷◌, ◌++◌, Option, ◌≡◌, nat_lt, true, false, Some, None, codes, refl}
+use Rattle.std.specs.Prelude.{ℕ, ℤ, pos, negsuc, ◌+◌, ◌==◌, Bool, cond, List, [], ◌∷◌, ◌++◌, Option, ◌≡◌, nat_lt, true, false, Some, None, codes, refl}
 use Rattle.std.specs.List.{list_any}
 use Rattle.ct_entry.specs.Keys.{Key, same_list, key}
 use Rattle.ct_entry.specs.declared.kinds.Kind.TheVariants.{Pending}
@@ -19,7 +19,23 @@ latest hit value (i ∷ is) old = latest hit value is (cond (hit i) (value i) ol
 abbrev pub is_among : List ℕ → List (List ℕ) → Bool
 is_among name names = list_any (λ j. same_list name j) names
 
+-- rows, each with a document: the first has this one, and each other the next
+abbrev pub numbered : ℕ → List ℤ → List (ℕ × ℤ)
+numbered d [] = []
+numbered d (r ∷ rs) = (d, r) ∷ numbered (d + 1) rs
+
+-- the row of each document, where these rows become the next documents
+abbrev pub with_rows : ℕ → List ℤ → (ℕ → Option ℤ) → ℕ → Option ℤ
+with_rows given [] row d = row d
+with_rows given (r ∷ rs) row d = cond (d == given + 1) (Some r) (with_rows (given + 1) rs row d)
+
 -- computed examples
+the_second_row : with_rows 5 (negsuc 2 ∷ pos 7 ∷ []) (λ d. None) 7 ≡ Some (pos 7)
+the_second_row = refl
+
+one_after_the_other : numbered 5 (negsuc 2 ∷ pos 0 ∷ pos 7 ∷ []) ≡ (5, negsuc 2) ∷ (6, pos 0) ∷ (7, pos 7) ∷ []
+one_after_the_other = refl
+
 abbrev waits : List ℕ → Key
 waits i = key Pending i []
 

@@ -1,3 +1,4 @@
+pub mod Lists
 pub mod Kinds
 pub mod Keys
 pub mod Changes
@@ -6,4 +7,5 @@ pub mod KeyParts
 pub mod Each
 pub mod Maps
 pub mod Listings
+pub mod Removals
 pub mod laws

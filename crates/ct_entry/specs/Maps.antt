@@ -27,6 +27,10 @@ alter m k f = altered m k f (get m k)
 abbrev pub each_value : {K X Y : Type 0} {R : K → K → Ordering} → (X → Y) → FinMap R X → FinMap R Y
 each_value f m = from_entries (map (λ e. (e.0, f e.1)) (entries m))
 
+-- with f of each key and its value
+abbrev pub each_at : {K X Y : Type 0} {R : K → K → Ordering} → (K → X → Y) → FinMap R X → FinMap R Y
+each_at f m = from_entries (map (λ e. (e.0, f e.0 e.1)) (entries m))
+
 -- computed examples: a map from a name to a number
 abbrev one_name : Names ℕ
 one_name = from_sorted ((codes "di", 1) ∷ [])

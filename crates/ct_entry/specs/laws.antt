@@ -1,3 +1,4 @@
+pub mod Lists
 pub mod Keys
 pub mod Changes
 pub mod Each
@@ -11,3 +12,6 @@ pub mod Listings
 pub mod Rows
 pub mod Owners
 pub mod Documents
+pub mod MapEntries
+pub mod Removals
+pub mod MapRemovals

@@ -5,6 +5,7 @@ mod entries;
 mod kinds;
 mod listings;
 mod parts;
+mod removals;
 #[cfg(test)]
 mod tests;
 
@@ -12,3 +13,4 @@ pub use entries::{entry_count, fetch_entry, has_entry, key_bytes, put_entry, rem
 pub use kinds::Kind;
 pub use listings::{entries_of, next_row_key, owner_in, owners, row_in, row_keys};
 pub use parts::{is_row_part, key_parts};
+pub use removals::remove_entries;

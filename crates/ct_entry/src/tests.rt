@@ -7,7 +7,7 @@ ghost use Rattle.ct_keep.specs.KeeperViews.{AcceptsChanges};
 
 use crate::{
     Kind, entries_of, fetch_entry, has_entry, is_row_part, key_bytes, key_parts, next_row_key,
-    owners, put_entry, remove_entry, row_keys,
+    owners, put_entry, remove_entries, remove_entry, row_keys,
 };
 use ct_base::{Memory, Name, RowKey};
 use ct_bytes::row_key_bytes;
@@ -194,6 +194,40 @@ fn the_owners_of_a_kind(rt: HostRuntime) -> Result<(), Fail> {
         all.push_str(" ")?;
     }
     assert_eq!(rt; all.as_str(), "ab zoo docs ");
+    Ok(())
+}
+
+/// Commits the removal of all of an owner's entries of a kind: how many there were.
+fn remove_all(
+    alloc: Global,
+    keeper: &mut MemKeeper,
+    kind: Kind,
+    owner: &Name,
+) -> Result<usize, KeepFault> {
+    let mut batch = Batch::new(alloc);
+    remove_entries(alloc, keeper, &mut batch, kind, owner)?;
+    let count = batch.changes().len();
+    keeper.commit(alloc, batch)?;
+    Ok(count)
+}
+
+#[test]
+fn all_entries_of_an_owner_go(rt: HostRuntime) -> Result<(), Fail> {
+    let alloc = rt.alloc();
+    let mut keeper = kept(alloc)?;
+    let docs = named(alloc, "docs")?;
+    let longer = named(alloc, "docss")?;
+    assert_eq!(rt; remove_all(alloc, &mut keeper, Kind::RowNumbers, &docs)?, 4);
+    assert_eq!(rt; remove_all(alloc, &mut keeper, Kind::RowNumbers, &docs)?, 0);
+    let rows = row_keys(alloc, &mut keeper, Kind::RowNumbers, &docs)?;
+    assert_eq!(rt; rows.len(), 0);
+    let rows = row_keys(alloc, &mut keeper, Kind::RowNumbers, &longer)?;
+    assert_eq!(rt; rows.as_slice(), [RowKey(9)].as_slice());
+    assert!(rt; has_entry(alloc, &mut keeper, Kind::Tables, &docs, &[])?);
+    assert_eq!(rt; remove_all(alloc, &mut keeper, Kind::Tables, &docs)?, 1);
+    assert!(rt; !has_entry(alloc, &mut keeper, Kind::Tables, &docs, &[])?);
+    let rows = row_keys(alloc, &mut keeper, Kind::Pending, &docs)?;
+    assert_eq!(rt; rows.as_slice(), [RowKey(2)].as_slice());
     Ok(())
 }
 

@@ -5,3 +5,4 @@ pub mod NameSteps
 pub mod CountSteps
 pub mod WriteSteps
 pub mod ShapeSteps
+pub mod RemovalSteps

@@ -1,12 +1,15 @@
 -- Tables and their rows.
-use Rattle.std.specs.Prelude.{ℕ, ℤ, zero, suc, List, [], ◌∷◌, map, Option, Some, None, pos, negsuc, ◌≡◌, codes, refl}
+use Rattle.std.specs.Prelude.{ℕ, ℤ, zero, suc, List, [], ◌∷◌, map, Option, Some, None, pos, negsuc, ◌≡◌, ◌==◌, codes, refl}
+use Rattle.std.specs.Bool.{if◌then◌else◌}
+use Rattle.std.specs.Option.{option_or}
 use Rattle.std.specs.Ordering.{nat_cmp, int_cmp}
 use Rattle.std.specs.Cmp.Lexicographic.{slice_cmp}
-use Rattle.std.specs.FinMap.{FinMap, get, insert, empty, entries, from_sorted, get-from_sorted, entries-from_sorted, get-insert}
+use Rattle.std.specs.FinMap.{FinMap, get, insert, remove, empty, entries, from_sorted, get-from_sorted, entries-from_sorted, get-insert, get-remove}
 use Rattle.ct_base.specs.declared.lists.Value.{Value}
 use Rattle.ct_base.specs.declared.lists.Value.TheVariants.{Number, Text}
 use Rattle.tb_table.specs.declared.columns.Column.{Column}
-use Rattle.std.proofs.Common.{ap, ◌∙◌}
+use Rattle.std.proofs.Common.{Bool, sym, ap, ◌∙◌, arith}
+use Rattle.std.proofs.lemmas.Bool.{ne_eqb}
 use Rattle.std.proofs.lemmas.Cmp.{nat_list_cmp_total, int_cmp_total}
 use Rattle.ct_entry.specs.Maps.{altered, alter}
 use Rattle.tb_table.specs.declared.columns.Sort.TheVariants.{Number as NumberSort, Clob}
@@ -67,13 +70,35 @@ keys_in (Some x) = map (λ e. e.0) (entries x.rows)
 abbrev pub row_keys : Tables → List ℕ → List ℤ
 row_keys ts t = keys_in (get ts t)
 
+-- ---- new values of a row
+
+-- the text that is given for a column, among texts that come with their columns: the last of them counts
+abbrev pub given_text : ℕ → List (ℕ × List ℕ) → Option (List ℕ)
+given_text column [] = None
+given_text column (x ∷ texts) = option_or (given_text column texts) (if column == x.0 then Some x.1 else None)
+
+-- These texts make the texts of the one row those of the other.
+pub record IsUpdate (texts : List (ℕ × List ℕ)) (old new : List Value) : Type 0 where
+  -- the text that is given for a column is the new one
+  pub given : (column : ℕ) (text : List ℕ) → given_text column texts ≡ Some text → text_of new column ≡ Some text
+  -- a column for which none is given has the text that it had, or none as before
+  pub others : (column : ℕ) → given_text column texts ≡ None → text_of new column ≡ text_of old column
+
 -- ---- what statements make of the tables
 
 abbrev pub with_table : Tables → List ℕ → List Column → Tables
 with_table ts t columns = insert ts t (record { columns = columns; rows = empty })
 
+-- with this row; one of the same key is replaced
 abbrev pub with_row : Tables → List ℕ → ℤ → List Value → Tables
 with_row ts t r vs = alter ts t (λ (x : Table). record x { rows = insert x.rows r vs })
+
+-- without this row, if it is there
+abbrev pub without_row : Tables → List ℕ → ℤ → Tables
+without_row ts t r = alter ts t (λ (x : Table). record x { rows = remove x.rows r })
+
+abbrev pub without_table : Tables → List ℕ → Tables
+without_table ts t = remove ts t
 
 -- computed examples: a table `docs` of a number, a text and a number, with two rows
 abbrev pub docs_columns : List Column
@@ -110,6 +135,23 @@ row_three vs =
     ∙ ap (λ (o : Option Table). row_in o (pos 3)) (get-insert nat_list_cmp_total docs_alone (codes "docs") (record docs_table { rows = insert docs_table.rows (pos 3) vs }) (codes "docs"))
     ∙ get-insert int_cmp_total docs_table.rows (pos 3) vs (pos 3)
 
+-- a row that was there is gone, and the other one isn't
+row_two_gone : row_at (without_row docs_alone (codes "docs") (pos 2)) (codes "docs") (pos 2) ≡ None
+row_two_gone =
+    ap (λ (o : Option Table). row_at (altered docs_alone (codes "docs") (λ (x : Table). record x { rows = remove x.rows (pos 2) }) o) (codes "docs") (pos 2)) docs_there
+    ∙ ap (λ (o : Option Table). row_in o (pos 2)) (get-insert nat_list_cmp_total docs_alone (codes "docs") (record docs_table { rows = remove docs_table.rows (pos 2) }) (codes "docs"))
+    ∙ get-remove int_cmp_total docs_table.rows (pos 2) (pos 2)
+
+row_one_left : row_at (without_row docs_alone (codes "docs") (pos 2)) (codes "docs") (pos 1) ≡ Some (Text (codes "quick fox quick") ∷ Number (pos 0) ∷ [])
+row_one_left =
+    ap (λ (o : Option Table). row_at (altered docs_alone (codes "docs") (λ (x : Table). record x { rows = remove x.rows (pos 2) }) o) (codes "docs") (pos 1)) docs_there
+    ∙ ap (λ (o : Option Table). row_in o (pos 1)) (get-insert nat_list_cmp_total docs_alone (codes "docs") (record docs_table { rows = remove docs_table.rows (pos 2) }) (codes "docs"))
+    ∙ get-remove int_cmp_total docs_table.rows (pos 2) (pos 1)
+    ∙ get-from_sorted int_cmp docs_rows (pos 1) tt
+
+no_table_left : get (without_table docs_alone (codes "docs")) (codes "docs") ≡ None
+no_table_left = get-remove nat_list_cmp_total docs_alone (codes "docs") (codes "docs")
+
 abbrev mixed_row : List Value
 mixed_row = Text (codes "a b") ∷ Number (pos 7) ∷ Text [] ∷ []
 
@@ -128,3 +170,31 @@ no_text_of_a_number = refl
 
 no_text_of_the_key : text_of mixed_row 0 ≡ None
 no_text_of_the_key = refl
+
+-- of two texts for a column the last counts
+the_last_given : given_text 3 ((3, codes "a") ∷ (1, codes "b") ∷ (3, codes "c") ∷ []) ≡ Some (codes "c")
+the_last_given = refl
+
+none_given : given_text 2 ((3, codes "a") ∷ (1, codes "b") ∷ []) ≡ None
+none_given = refl
+
+abbrev updated_row : List Value
+updated_row = Text (codes "c d") ∷ Number (pos 9) ∷ Text [] ∷ []
+
+-- the first text of the row is given, and the other one stays
+an_update : IsUpdate ((1, codes "c d") ∷ []) mixed_row updated_row
+an_update = record { given = given; others = others }
+  where
+    later : (place : ℕ) → given_text (suc (suc place)) ((1, codes "c d") ∷ []) ≡ None
+    later place = ap (λ (b : Bool). if b then Some (codes "c d") else None) (ne_eqb (suc (suc place)) 1 (λ e. omega arith))
+
+    given : (column : ℕ) (text : List ℕ) → given_text column ((1, codes "c d") ∷ []) ≡ Some text → text_of updated_row column ≡ Some text
+    given zero text is = cc
+    given (suc zero) text is = is
+    given (suc (suc place)) text is = let wrong : None ≡ Some text = sym (later place) ∙ is in cc
+
+    others : (column : ℕ) → given_text column ((1, codes "c d") ∷ []) ≡ None → text_of updated_row column ≡ text_of mixed_row column
+    others zero is = refl
+    others (suc zero) is = cc
+    others (suc (suc zero)) is = refl
+    others (suc (suc (suc place))) is = refl

@@ -4,3 +4,5 @@ pub mod Changes
 pub mod Rules
 pub mod Well
 pub mod Shapes
+pub mod Updates
+pub mod Removals

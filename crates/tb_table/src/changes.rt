@@ -101,3 +101,24 @@ pub fn insert(
     put_texts(alloc, &mut changes, table, key, texts)?;
     batch.append(changes)
 }
+
+/// Adds the changes of new values of a row: those of `insert`, but only the texts that change need to be given; the others
+/// stay. The batch is unchanged where there is no memory.
+///
+/// Its cost is that of `insert`, for the texts that are given.
+pub fn update(
+    alloc: Global,
+    batch: &mut Batch,
+    table: &Name,
+    key: RowKey,
+    numbers: &[i64],
+    texts: Vec<(u8, Text)>,
+) -> Result<(), Memory>
+    requires few { length numbers.now ≤ column_limit }
+    requires short { HaveShortTexts texts.items }
+    ensures ok { OnOk result (batch.new ≡ batch.old ++ spell (insert_changes table.now key.0 numbers.now texts.items)) }
+    ensures err { OnErr result (batch.new ≡ batch.old) }
+    ensures shaped { OnOk result (AreShaped HasTableValue (spell (insert_changes table.now key.0 numbers.now texts.items))) }
+{
+    insert(alloc, batch, table, key, numbers, texts)
+}

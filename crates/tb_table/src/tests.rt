@@ -6,8 +6,8 @@ ghost use Rattle.ct_keep.specs.Changes.{AnyEntry, AreWell};
 ghost use Rattle.tb_table.specs.Shapes.{HaveShortTexts};
 
 use crate::{
-    Column, Sort, columns_of, create, has_row, insert, is_table_shape, next_row, number_row,
-    row_count, tables, text_of,
+    Column, Sort, columns_of, create, delete, has_row, insert, is_table_shape, next_row,
+    number_row, remove, row_count, tables, text_of, update,
 };
 use ct_base::{Memory, Name, RowKey, Text};
 use ct_bytes::row_key_bytes;
@@ -124,6 +124,57 @@ fn add_row(
     let mut batch = Batch::new(alloc);
     insert(alloc, &mut batch, table, RowKey(row), &[-1], texts)?;
     commit(alloc, keeper, batch)
+}
+
+fn one_text(alloc: Global, title: &str) -> Result<Vec<(u8, Text)>, Memory>
+    requires { length title.now ≤ 100 }
+    ensures { IfOk result (λ texts. HaveShortTexts texts.items) }
+{
+    let mut texts = Vec::new(alloc);
+    texts.push((1, Text::of(alloc, title)?))?;
+    Ok(texts)
+}
+
+/// Puts another number and another title into a row of that table.
+fn change_row(
+    alloc: Global,
+    keeper: &mut MemKeeper,
+    table: &Name,
+    row: i64,
+    number: i64,
+    title: &str,
+) -> Result<(), KeepFault>
+    requires { length title.now ≤ 100 }
+{
+    let texts = one_text(alloc, title)?;
+    let mut batch = Batch::new(alloc);
+    update(alloc, &mut batch, table, RowKey(row), &[number], texts)?;
+    commit(alloc, keeper, batch)
+}
+
+/// Takes a row out of that table.
+fn drop_row(
+    alloc: Global,
+    keeper: &mut MemKeeper,
+    table: &Name,
+    row: i64,
+) -> Result<(), KeepFault> {
+    let columns = four_columns(alloc)?;
+    if columns.len() > 16 {
+        return Err(KeepFault::Full);
+    }
+    let mut batch = Batch::new(alloc);
+    delete(alloc, &mut batch, table, &columns, RowKey(row))?;
+    commit(alloc, keeper, batch)
+}
+
+/// Takes a table away: how many changes that takes.
+fn drop_table(alloc: Global, keeper: &mut MemKeeper, table: &Name) -> Result<u64, KeepFault> {
+    let mut batch = Batch::new(alloc);
+    remove(alloc, keeper, &mut batch, table)?;
+    let count = batch.changes().len() as u64;
+    commit(alloc, keeper, batch)?;
+    Ok(count)
 }
 
 /// Puts an entry as it is.
@@ -286,6 +337,35 @@ fn four_tables(alloc: Global, line: &mut String) -> Result<(), KeepFault> {
     say_tables(alloc, line, &mut keeper)
 }
 
+/// A row of one table and two of another.
+fn three_rows(alloc: Global, docs: &Name, others: &Name) -> Result<MemKeeper, KeepFault> {
+    let mut keeper = new_keeper(alloc)?;
+    make_table(alloc, &mut keeper, "docs")?;
+    make_table(alloc, &mut keeper, "doc")?;
+    add_row(alloc, &mut keeper, docs, 7, "Seven")?;
+    add_row(alloc, &mut keeper, docs, -2, "")?;
+    add_row(alloc, &mut keeper, others, 7, "Other")?;
+    Ok(keeper)
+}
+
+/// What is read of a row with new values, and of what is left where a row and then its table are gone.
+fn changed_rows(alloc: Global, line: &mut String) -> Result<(), KeepFault> {
+    let docs = named(alloc, "docs")?;
+    let others = named(alloc, "doc")?;
+    let mut keeper = three_rows(alloc, &docs, &others)?;
+    change_row(alloc, &mut keeper, &docs, 7, 5, "New")?;
+    say_row(alloc, line, &mut keeper, &docs, 7)?;
+    drop_row(alloc, &mut keeper, &docs, 7)?;
+    say_row(alloc, line, &mut keeper, &docs, 7)?;
+    say_row(alloc, line, &mut keeper, &docs, -2)?;
+    say_count(alloc, line, &keeper, &docs)?;
+    let count = drop_table(alloc, &mut keeper, &docs)?;
+    say_number(alloc, line, count)?;
+    say_tables(alloc, line, &mut keeper)?;
+    say_row(alloc, line, &mut keeper, &docs, -2)?;
+    say_row(alloc, line, &mut keeper, &others, 7)
+}
+
 /// What is read of entries that spell no columns.
 fn spoilt_columns(alloc: Global, line: &mut String) -> Result<(), KeepFault> {
     let mut keeper = new_keeper(alloc)?;
@@ -369,6 +449,17 @@ fn rows_are_counted(rt: HostRuntime) -> Result<(), Fail> {
     let mut line = String::new(rt.alloc());
     counted_rows(rt.alloc(), &mut line)?;
     assert_eq!(rt; line.as_str(), "0 1 2 3 3 3 1 ");
+    Ok(())
+}
+
+#[test]
+fn rows_and_tables_go(rt: HostRuntime) -> Result<(), Fail> {
+    let mut line = String::new(rt.alloc());
+    changed_rows(rt.alloc(), &mut line)?;
+    assert_eq!(rt;
+        line.as_str(),
+        "Some([5]) 1=New 3=a body None Some([-1]) 1= 3=a body 1 4 doc None Some([-1]) 1=Other 3=a body "
+    );
     Ok(())
 }
 

@@ -8,10 +8,10 @@ use Rattle.std.specs.Cmp.Lexicographic.{slice_cmp}
 use Rattle.std.specs.FinMap.{get, get-insert, get-remove}
 use Rattle.ct_keep.specs.Content.{Content, set_to, after}
 use Rattle.ct_entry.specs.declared.kinds.Kind.{Kind}
-use Rattle.ct_entry.specs.Keys.{Key, bytes, same_key, at, IsKey, HasKeysOnly}
-use Rattle.ct_entry.specs.Changes.{spell, told, view, AreChanges, AllOf}
+use Rattle.ct_entry.specs.Keys.{Key, bytes, same_key, same_list, at, IsKey, HasKeysOnly}
+use Rattle.ct_entry.specs.Changes.{spell, told, view, AreChanges, AllOf, AllOn}
 use Rattle.ct_base.specs.laws.Orders.{equal_from_test}
-use Rattle.ct_entry.specs.laws.Keys.{key_from_same, bytes_same}
+use Rattle.ct_entry.specs.laws.Keys.{key_from_same, bytes_same, list_same}
 
 -- ---- what the changes say
 
@@ -79,3 +79,23 @@ told_frame p (w ∷ ws) k old all other = told_frame p ws k (cond (same_key k w.
 pub all-append : (p : Kind → Bool) (xs ys : List (Key × Option (List ℕ))) → AllOf p xs → AllOf p ys → AllOf p (xs ++ ys)
 all-append p [] ys a b = b
 all-append p (x ∷ xs) ys a b = (a.0, all-append p xs ys a.1 b)
+
+-- ---- changes on the entries of one owner
+
+pub all_on-append : (i : List ℕ) (xs ys : List (Key × Option (List ℕ))) → AllOn i xs → AllOn i ys → AllOn i (xs ++ ys)
+all_on-append i [] ys a b = b
+all_on-append i (x ∷ xs) ys a b = (a.0, all_on-append i xs ys a.1 b)
+
+-- they leave the keys of others
+pub told_others : (i : List ℕ) (ws : List (Key × Option (List ℕ))) (k : Key) (old : Option (List ℕ)) → AllOn i ws → same_list k.owner i ≡ false
+    → told ws k old ≡ old
+told_others i [] k old all other = refl
+told_others i (w ∷ ws) k old all other =
+    told_others i ws k (cond (same_key k w.0) w.1 old) all.1 other ∙ ap (λ (b : Bool). cond b w.1 old) (apart (same_key k w.0) refl)
+  where
+    apart : (b : Bool) → same_key k w.0 ≡ b → b ≡ false
+    apart true h =
+        let one : k.owner ≡ i = ap (λ (j : Key). j.owner) (key_from_same k w.0 h) ∙ all.0 in
+        let wrong : true ≡ false = sym (list_same i) ∙ ap (λ (l : List ℕ). same_list l i) (sym one) ∙ other in
+        cc
+    apart false h = refl

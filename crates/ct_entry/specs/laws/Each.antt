@@ -1,11 +1,11 @@
 -- What a key has after changes for each of several things.
-use Rattle.std.proofs.Common.{◌≡◌, ℕ, Bool, true, false, cond, List, [], ◌∷◌, ◌++◌, Option, map, refl, sym, ap, ◌∙◌, append_assoc}
+use Rattle.std.proofs.Common.{◌≡◌, ℕ, Bool, true, false, cond, List, [], ◌∷◌, ◌++◌, Option, None, map, refl, sym, ap, ◌∙◌, append_assoc}
 use Rattle.std.specs.Prelude.{◌||◌}
 use Rattle.std.specs.List.{list_any}
 use Rattle.ct_entry.specs.Keys.{Key}
-use Rattle.ct_entry.specs.Changes.{told, AreChanges, AllOf}
+use Rattle.ct_entry.specs.Changes.{told, AreChanges, AllOf, AllOn}
 use Rattle.ct_entry.specs.Each.{each, latest}
-use Rattle.ct_entry.specs.laws.Changes.{told-append, are-append, all-append}
+use Rattle.ct_entry.specs.laws.Changes.{told-append, are-append, all-append, all_on-append}
 use Rattle.ct_entry.specs.declared.kinds.Kind.{Kind}
 
 module _ {I : Type 0} where
@@ -27,6 +27,27 @@ module _ {I : Type 0} where
       go true false = refl
       go false true = refl
       go false false = refl
+
+  pub latest-append : (hit : I → Bool) (value : I → Option (List ℕ)) (xs ys : List I) (old : Option (List ℕ)) → latest hit value (xs ++ ys) old ≡ latest hit value ys (latest hit value xs old)
+  latest-append hit value [] ys old = refl
+  latest-append hit value (x ∷ xs) ys old = latest-append hit value xs ys (cond (hit x) (value x) old)
+
+  -- where none hits, nothing is changed
+  pub latest_miss : (hit : I → Bool) (value : I → Option (List ℕ)) (xs : List I) (old : Option (List ℕ)) → list_any hit xs ≡ false → latest hit value xs old ≡ old
+  latest_miss hit value [] old h = refl
+  latest_miss hit value (x ∷ xs) old h = step (hit x) refl h (latest_miss hit value xs old)
+    where
+      step : (b : Bool) → hit x ≡ b → (b || list_any hit xs) ≡ false → (list_any hit xs ≡ false → latest hit value xs old ≡ old) → latest hit value xs (cond (hit x) (value x) old) ≡ old
+      step true e h rest = cc
+      step false e h rest = ap (λ (b : Bool). latest hit value xs (cond b (value x) old)) e ∙ rest h
+
+  -- what was put is gone once it is dropped
+  pub latest_gone : (hit : I → Bool) (value : I → Option (List ℕ)) (xs : List I) → latest hit (λ _. None) xs (latest hit value xs None) ≡ None
+  latest_gone hit value xs = latest_same hit None xs (latest hit value xs None) ∙ go (list_any hit xs) refl
+    where
+      go : (b : Bool) → list_any hit xs ≡ b → cond b None (latest hit value xs None) ≡ None
+      go true h = refl
+      go false h = latest_miss hit value xs None h
 
   -- where the changes of each that hits the key give it one value, so do those of all
   pub told_each : (changes : I → List (Key × Option (List ℕ))) (k : Key) (hit : I → Bool) (v : Option (List ℕ)) → ((i : I) (old : Option (List ℕ)) → told (changes i) k old ≡ cond (hit i) v old)
@@ -54,3 +75,8 @@ module _ {I : Type 0} where
 pub map-each : {I : Type 0} (change : I → Key × Option (List ℕ)) (is : List I) → map change is ≡ each (λ i. change i ∷ []) is
 map-each change [] = refl
 map-each change (i ∷ is) = ap (λ (ws : List (Key × Option (List ℕ))). change i ∷ ws) (map-each change is)
+
+pub all_on-each : {I : Type 0} (i : List ℕ) (changes : I → List (Key × Option (List ℕ))) → ((p : I) → AllOn i (changes p)) → (ps : List I)
+    → AllOn i (each changes ps)
+all_on-each i changes one [] = tt
+all_on-each i changes one (p ∷ ps) = all_on-append i (changes p) (each changes ps) (one p) (all_on-each i changes one ps)

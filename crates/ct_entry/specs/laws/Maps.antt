@@ -1,5 +1,5 @@
 -- What changed maps have at a key.
-use Rattle.std.proofs.Common.{◌≡◌, ℕ, ℤ, Bool, true, false, cond, List, [], ◌∷◌, map, Option, Some, None, refl, sym, ap, subst, ◌∙◌}
+use Rattle.std.proofs.Common.{◌≡◌, ℕ, ℤ, Bool, true, false, cond, List, [], ◌∷◌, length, map, Option, Some, None, refl, sym, ap, subst, ◌∙◌, arith}
 use Rattle.std.specs.Option.{option_map}
 use Rattle.std.specs.declared.cmp.Ordering.{Ordering}
 use Rattle.std.specs.Ordering.{nat_cmp, int_eq, eq_by_cmp, is_eq}
@@ -7,9 +7,10 @@ use Rattle.std.specs.Cmp.{IsTotalOrder}
 use Rattle.std.proofs.lemmas.Cmp.{tied_itself, nat_list_cmp_total, int_cmp_total}
 use Rattle.std.proofs.lemmas.Map.Lookups.{exact_bytes}
 use Rattle.std.specs.Cmp.Lexicographic.{slice_cmp}
-use Rattle.std.specs.FinMap.{FinMap, get, insert, remove, entries, find, get-insert, get-remove, get-from_entries, get-entries}
+use Rattle.std.specs.FinMap.{FinMap, empty, len-empty, len-entries, get, insert, remove, entries, find, get-insert, get-remove, get-from_entries, get-entries}
 use Rattle.ct_entry.specs.Keys.{same_list}
-use Rattle.ct_entry.specs.Maps.{Names, Rows, altered, alter, each_value}
+use Rattle.std.specs.FinMap.{IsAntisymmetric}
+use Rattle.ct_entry.specs.Maps.{each_at, Names, Rows, altered, alter, each_value}
 use Rattle.ct_base.specs.laws.Bools.{same_tests}
 use Rattle.ct_base.specs.laws.Orders.{equal_from_test}
 use Rattle.ct_entry.specs.laws.Keys.{list_from_same, list_same}
@@ -64,3 +65,24 @@ module _ {X Y : Type 0} where
 
   pub get-each_value : {K : Type 0} {R : K → K → Ordering} → IsTotalOrder R → (f : X → Y) (m : FinMap R X) (q : K) → get (each_value f m) q ≡ option_map f (get m q)
   get-each_value {R = R} o f m q = get-from_entries o (map (λ e. (e.0, f e.1)) (entries m)) q ∙ find-each R f q (entries m) ∙ ap (option_map f) (sym (get-entries m q))
+
+module _ {K X Y : Type 0} {R : K → K → Ordering} where
+  find-each_at : IsAntisymmetric R → (f : K → X → Y) (q : K) (es : List (K × X)) → find R q (map (λ e. (e.0, f e.0 e.1)) es) ≡ option_map (f q) (find R q es)
+  find-each_at exact f q [] = refl
+  find-each_at exact f q (e ∷ es) = go (eq_by_cmp R q e.0) refl (find-each_at exact f q es)
+    where
+      go : (b : Bool) → eq_by_cmp R q e.0 ≡ b → find R q (map (λ e. (e.0, f e.0 e.1)) es) ≡ option_map (f q) (find R q es)
+          → cond b (Some (f e.0 e.1)) (find R q (map (λ e. (e.0, f e.0 e.1)) es)) ≡ option_map (f q) (cond b (Some e.1) (find R q es))
+      go true h rest = ap (λ (k : K). Some (f k e.1)) (sym (exact q e.0 (equal_from_test (R q e.0) h)))
+      go false h rest = rest
+
+  pub get-each_at : IsTotalOrder R → IsAntisymmetric R → (f : K → X → Y) (m : FinMap R X) (q : K) → get (each_at f m) q ≡ option_map (f q) (get m q)
+  get-each_at o exact f m q = get-from_entries o (map (λ e. (e.0, f e.0 e.1)) (entries m)) q ∙ find-each_at exact f q (entries m) ∙ ap (option_map (f q)) (sym (get-entries m q))
+
+-- the empty map has no entry
+pub entries-none : {K X : Type 0} (R : K → K → Ordering) → entries (empty {X = X} {R = R}) ≡ []
+entries-none {K} {X} R = none (entries (empty {X = X} {R = R})) (sym (len-entries (empty {X = X} {R = R})) ∙ len-empty R X)
+  where
+    none : (es : List (K × X)) → length es ≡ 0 → es ≡ []
+    none [] e = refl
+    none (x ∷ es) e = absurd (omega arith)

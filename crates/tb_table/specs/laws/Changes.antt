@@ -102,7 +102,7 @@ columns-with_row ts t r vs x is q = ap (option_map (λ (y : Table). y.columns)) 
     go true h = sym (ap (option_map (λ (y : Table). y.columns)) (ap (get ts) (list_from_same q t h) ∙ is))
     go false h = refl
 
-spelt_columns : (o : Option Table) → option_map (λ (y : Table). columns_bytes y.columns) o ≡ option_map columns_bytes (option_map (λ (y : Table). y.columns) o)
+pub spelt_columns : (o : Option Table) → option_map (λ (y : Table). columns_bytes y.columns) o ≡ option_map columns_bytes (option_map (λ (y : Table). y.columns) o)
 spelt_columns None = refl
 spelt_columns (Some y) = refl
 
@@ -181,23 +181,22 @@ told_texts t r q c s row here from (TextValue text ∷ vs) old =
 no_row : (ts : Tables) (t : List ℕ) (r : ℤ) (x : Table) → get ts t ≡ Some x → get x.rows r ≡ None → row_at ts t r ≡ None
 no_row ts t r x is none = ap (λ (o : Option Table). row_in o r) is ∙ none
 
-pub stand_insert : NewRowsStand
-stand_insert f ts t r vs x is none row stand = record {
+-- the numbers and some texts of a row were put: the tables stand with the row where its texts do
+pub row_stands : (f : Key → Option (List ℕ)) (ts : Tables) (t : List ℕ) (r : ℤ) (vs : List Value) (texts : List (ℕ × List ℕ)) (x : Table) → get ts t ≡ Some x → IsRow r → TablesStand f ts
+    → ((q : List ℕ) (c : ℕ) (s : ℤ) → c < 256 → IsRow s
+    → told (row_text_changes t r texts) (key kind.RowTexts q (text_part c s)) (f (key kind.RowTexts q (text_part c s))) ≡ option_and_then (λ ws. text_of ws c) (row_at (with_row ts t r vs) q s))
+    → TablesStand (view (insert_changes t r (numbers_of vs) texts) f) (with_row ts t r vs)
+row_stands f ts t r vs texts x is row stand each = record {
   tables = λ q.
-      told_frame is_of_texts (row_text_changes t r (texts_of vs)) (key kind.Tables q []) (f (key kind.Tables q [])) (all_texts t r (texts_of vs)) refl
+      told_frame is_of_texts (row_text_changes t r texts) (key kind.Tables q []) (f (key kind.Tables q [])) (all_texts t r texts) refl
       ∙ stand.tables q ∙ spelt_columns (get ts q) ∙ ap (option_map columns_bytes) (sym (columns-with_row ts t r vs x is q)) ∙ sym (spelt_columns (get (with_row ts t r vs) q));
   numbers = λ q s here.
-      told_frame is_of_texts (row_text_changes t r (texts_of vs)) (key kind.RowNumbers q (row_part s)) (cond (same_key (key kind.RowNumbers q (row_part s)) (key kind.RowNumbers t (row_part r))) (Some (row_numbers_bytes (numbers_of vs))) (f (key kind.RowNumbers q (row_part s)))) (all_texts t r (texts_of vs)) refl
+      told_frame is_of_texts (row_text_changes t r texts) (key kind.RowNumbers q (row_part s)) (cond (same_key (key kind.RowNumbers q (row_part s)) (key kind.RowNumbers t (row_part r))) (Some (row_numbers_bytes (numbers_of vs))) (f (key kind.RowNumbers q (row_part s)))) (all_texts t r texts) refl
       ∙ ap (cond (same_key (key kind.RowNumbers q (row_part s)) (key kind.RowNumbers t (row_part r))) (Some (row_numbers_bytes (numbers_of vs)))) (stand.numbers q s here)
       ∙ ap (λ (b : Bool). cond b (Some (row_numbers_bytes (numbers_of vs))) (option_map (λ ws. row_numbers_bytes (numbers_of ws)) (row_at ts q s))) (same_kind kind.RowNumbers q t (row_part s) (row_part r) ∙ ap (λ (b : Bool). same_list q t && b) (rows_tie s r here row))
       ∙ at_numbers (same_list q t) (int_eq s r) (row_at ts q s)
       ∙ ap (option_map (λ ws. row_numbers_bytes (numbers_of ws))) (sym (row_at-with_row ts t r vs x is q s));
-  texts = λ q c s few here.
-      told_texts t r q c s row here 1 vs (f (key kind.RowTexts q (text_part c s)))
-      ∙ ap (λ (o : Option (List ℕ)). cond (same_list q t && int_eq s r) (option_or (text_from 1 vs c) o) o) (stand.texts q c s few here)
-      ∙ ap (λ (o : Option (List ℕ)). cond (same_list q t && int_eq s r) (option_or o (option_and_then (λ ws. text_of ws c) (row_at ts q s))) (option_and_then (λ ws. text_of ws c) (row_at ts q s))) (text_from-text_of vs c)
-      ∙ at_texts c (same_list q t) (int_eq s r) (row_at ts q s) (absent q s)
-      ∙ ap (option_and_then (λ ws. text_of ws c)) (sym (row_at-with_row ts t r vs x is q s));
+  texts = each;
 }
   where
     at_numbers : (a b : Bool) (old : Option (List Value)) → cond (a && b) (Some (row_numbers_bytes (numbers_of vs))) (option_map (λ ws. row_numbers_bytes (numbers_of ws)) old) ≡ option_map (λ ws. row_numbers_bytes (numbers_of ws)) (cond a (cond b (Some vs) old) old)
@@ -205,6 +204,14 @@ stand_insert f ts t r vs x is none row stand = record {
     at_numbers true false old = refl
     at_numbers false b old = refl
 
+pub stand_insert : NewRowsStand
+stand_insert f ts t r vs x is none row stand = row_stands f ts t r vs (texts_of vs) x is row stand (λ q c s few here.
+    told_texts t r q c s row here 1 vs (f (key kind.RowTexts q (text_part c s)))
+    ∙ ap (λ (o : Option (List ℕ)). cond (same_list q t && int_eq s r) (option_or (text_from 1 vs c) o) o) (stand.texts q c s few here)
+    ∙ ap (λ (o : Option (List ℕ)). cond (same_list q t && int_eq s r) (option_or o (option_and_then (λ ws. text_of ws c) (row_at ts q s))) (option_and_then (λ ws. text_of ws c) (row_at ts q s))) (text_from-text_of vs c)
+    ∙ at_texts c (same_list q t) (int_eq s r) (row_at ts q s) (absent q s)
+    ∙ ap (option_and_then (λ ws. text_of ws c)) (sym (row_at-with_row ts t r vs x is q s)))
+  where
     absent : (q : List ℕ) (s : ℤ) → same_list q t ≡ true → int_eq s r ≡ true → row_at ts q s ≡ None
     absent q s a b = ap (λ (o : List ℕ). row_at ts o s) (list_from_same q t a) ∙ ap (row_at ts t) (int_from_eq s r b) ∙ no_row ts t r x is none
 
