@@ -3,8 +3,6 @@ pub mod Committed
 pub mod Targets
 pub mod WeighEntries
 pub mod WeighIndexes
-pub mod WeighLists
-pub mod WeighMaps
 pub mod WeighRooms
 pub mod WeighTables
 pub mod Weighing

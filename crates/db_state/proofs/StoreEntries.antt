@@ -1,5 +1,5 @@
 -- Each entry of a content that stands for a state is one that a store has.
-use Rattle.std.proofs.Common.{◌≡◌, ℕ, ◌≤◌, true, false, zero, suc, List, length, Option, Some, None, refl, sym, ap, subst, ◌∙◌, inl, inr, arith}
+use Rattle.std.proofs.Common.{◌≡◌, ℕ, ◌≤◌, true, false, List, ◌∷◌, length, Option, Some, None, refl, sym, ap, subst, ◌∙◌, inl, inr}
 use Rattle.std.specs.Prelude.{IsSome}
 use Rattle.std.specs.FinMap.{get}
 use Rattle.ct_keep.specs.Content.{Content, IsEntry, value_limit}
@@ -15,7 +15,11 @@ use Rattle.db_state.specs.States.{State, Stands, is_built}
 use Rattle.db_state.specs.Shapes.{HasStoreValue, IsStoreEntry}
 use Rattle.db_state.specs.Promises.{StoresAreWell}
 use Rattle.db_state.proofs.StoreTables.{table_value, numbers_value, text_value}
-use Rattle.db_state.proofs.StoreIndexes.{index_value, document_row_value, row_document_value, pending_value, posting_value_of}
+use Rattle.db_state.proofs.StoreIndexes.{index_value, document_row_value, row_document_value, pending_value, posting_value, span_value}
+use Rattle.ct_base.specs.Limits.{stream_limit}
+use Rattle.ct_base.specs.Names.{IsName}
+use Rattle.ct_entry.specs.Keys.{span_part}
+use Rattle.ix_rows.specs.WordRows.{word_term}
 
 -- a short key with a value of its kind that isn't too long
 record IsStored (k : Key) (v : List ℕ) : Type 0 where
@@ -37,9 +41,19 @@ module _ (c : Content) (m : State) (stands : Stands c m) where
   nothing : (k : Key) (v : List ℕ) → is_built k.kind ≡ false → at c k ≡ Some v → IsStored k v
   nothing k v none has = absurd (not_both (at c k) v (stands.unbuilt k none) has)
 
-  posting : (i token v : List ℕ) (stream d : ℕ) → stream ≤ 64 → IsToken token → IsDocument d → at c (key kind.Postings i (posting_part stream token d)) ≡ Some v → IsStored (key kind.Postings i (posting_part stream token d)) v
-  posting i token v zero d few is_token document has = of_index _ v refl (posting_value_of (at c) m.tables m.indexes stands.state.tables stands.state.indexes stands.indexes.0 stands.indexes.1 stands.indexes.2 i token v d is_token document has)
-  posting i token v (suc s) d few is_token document has = absurd (not_both _ v (stands.indexes.2.streams i token (suc s) d (omega arith) few is_token document) has)
+  posting : (i token v : List ℕ) (stream d : ℕ) → stream ≤ stream_limit → IsToken token → IsDocument d → at c (key kind.Postings i (posting_part stream token d)) ≡ Some v → IsStored (key kind.Postings i (posting_part stream token d)) v
+  posting i token v stream d few is_token document has =
+      of_index _ v refl (
+        (d, record { stream = stream; token = token; streams = few; is = is_token; spelt = refl }, posting_value (at c) m.tables m.indexes stands.state.tables stands.state.indexes stands.indexes i v (word_term stream token) d (stream, (token, few, is_token, refl)) document has),
+        stands.short_rows (key kind.Postings i (posting_part stream token d)) v refl has,
+      )
+
+  spans : (i section v : List ℕ) (d : ℕ) → IsName section → IsDocument d → at c (key kind.Spans i (span_part section d)) ≡ Some v → IsStored (key kind.Spans i (span_part section d)) v
+  spans i section v d name document has =
+      of_index _ v refl (
+        (d, record { section = section; named = name; spelt = refl }, span_value (at c) m.tables m.indexes stands.state.tables stands.state.indexes stands.indexes i v (length section ∷ section) d (section, name, refl) document has),
+        stands.short_rows (key kind.Spans i (span_part section d)) v refl has,
+      )
 
   -- by the part of the key
   by_part : (kind : Kind) (o v p q : List ℕ) → p ≡ q → (at c (key kind o q) ≡ Some v → IsStored (key kind o q) v) → at c (key kind o p) ≡ Some v → IsStored (key kind o p) v
@@ -56,12 +70,12 @@ module _ (c : Content) (m : State) (stands : Stands c m) where
   stored kind.IndexSets o p v is = nothing (key kind.IndexSets o p) v refl
   stored kind.Thesauri o p v is = nothing (key kind.Thesauri o p) v refl
   stored kind.Relations o p v is = nothing (key kind.Relations o p) v refl
-  stored kind.Indexes o p v is = by_part kind.Indexes o v p _ is (λ has. of_index _ v refl (index_value (at c) m.tables m.indexes stands.state.tables stands.state.indexes stands.indexes.0 stands.indexes.1 stands.indexes.2 o v has))
-  stored kind.DocumentRows o p v is = by_part kind.DocumentRows o v p _ is.2 (λ has. of_index _ v refl (document_row_value (at c) m.tables m.indexes stands.state.tables stands.state.indexes stands.indexes.0 stands.indexes.1 stands.indexes.2 o v is.0 is.1 has))
-  stored kind.RowDocuments o p v is = by_part kind.RowDocuments o v p _ is.2 (λ has. of_index _ v refl (row_document_value (at c) m.tables m.indexes stands.state.tables stands.state.indexes stands.indexes.0 stands.indexes.1 stands.indexes.2 o v is.0 is.1 has))
-  stored kind.Pending o p v is = by_part kind.Pending o v p _ is.2 (λ has. of_index _ v refl (pending_value (at c) m.tables m.indexes stands.state.tables stands.state.indexes stands.indexes.0 stands.indexes.1 stands.indexes.2 o v is.0 is.1 has))
+  stored kind.Indexes o p v is = by_part kind.Indexes o v p _ is (λ has. of_index _ v refl (index_value (at c) m.tables m.indexes stands.state.tables stands.state.indexes stands.indexes o v has))
+  stored kind.DocumentRows o p v is = by_part kind.DocumentRows o v p _ is.2 (λ has. of_index _ v refl (document_row_value (at c) m.tables m.indexes stands.state.tables stands.state.indexes stands.indexes o v is.0 is.1 has))
+  stored kind.RowDocuments o p v is = by_part kind.RowDocuments o v p _ is.2 (λ has. of_index _ v refl (row_document_value (at c) m.tables m.indexes stands.state.tables stands.state.indexes stands.indexes o v is.0 is.1 has))
+  stored kind.Pending o p v is = by_part kind.Pending o v p _ is.2 (λ has. of_index _ v refl (pending_value (at c) m.tables m.indexes stands.state.tables stands.state.indexes stands.indexes o v is.0 is.1 has))
   stored kind.Postings o p v is = by_part kind.Postings o v p _ is.2.4 (posting o is.2.0 v is.0 is.1 is.2.1 is.2.2 is.2.3)
-  stored kind.Spans o p v is = by_part kind.Spans o v p _ is.1.3 (λ has. absurd (not_both _ v (stands.indexes.2.spans o is.1.0 is.0 is.1.1 is.1.2) has))
+  stored kind.Spans o p v is = by_part kind.Spans o v p _ is.1.3 (spans o is.1.0 v is.0 is.1.1 is.1.2)
   stored kind.Catalogue o p v is = nothing (key kind.Catalogue o p) v refl
   stored kind.Rules o p v is = nothing (key kind.Rules o p) v refl
   stored kind.Anchors o p v is = nothing (key kind.Anchors o p) v refl

@@ -17,7 +17,7 @@ use Rattle.tb_table.specs.Tables.{Tables}
 use Rattle.tb_table.specs.Rules.{AreTables}
 use Rattle.ix_context.specs.Indexes.{Index}
 use Rattle.ix_context.specs.Rules.{AreIndexes}
-use Rattle.ix_context.specs.Spelling.{IndexesStand}
+use Rattle.ix_context.specs.Standing.{IndexesStand}
 use Rattle.db_names.specs.declared.heads.IndexKind.TheVariants.{Context}
 use Rattle.db_names.specs.declared.heads.IndexHead.{IndexHead}
 use Rattle.db_names.specs.Findings.{IsIndexOn}

@@ -9,8 +9,9 @@ use Rattle.ct_entry.specs.Keys.{Key, key, row_part, text_part, IsRow}
 use Rattle.ct_base.specs.laws.Options.{option_map_some, and_then_some}
 use Rattle.tb_table.specs.Tables.{Table, Tables, row_in, row_at, numbers_of, as_text, text_in, text_of, texts_from, texts_of}
 use Rattle.tb_table.specs.Spelling.{columns_bytes, row_numbers_bytes, TablesStand}
-use Rattle.db_state.proofs.WeighLists.{IsIn, in_map, in_flat_map}
-use Rattle.db_state.proofs.WeighMaps.{get_in}
+use Rattle.ct_entry.specs.Lists.{IsIn}
+use Rattle.ct_entry.specs.laws.Lists.{in_mapped, in_flat_mapped}
+use Rattle.ct_entry.specs.laws.MapEntries.{get_in}
 use Rattle.db_state.proofs.WeighEntries.{Entry, entry, text_entry, row_entries, table_entries}
 
 -- ---- rows and texts
@@ -41,13 +42,13 @@ text_there vs (suc place) text is = text_from vs place 1 (suc place) text (omega
 module _ (ts : Tables) where
   -- what is among a table's entries
   in_table : (t : List ℕ) (x : Table) (e : Entry) → get ts t ≡ Some x → IsIn e (table_entries (t, x)) → IsIn e (flat_map table_entries (entries ts))
-  in_table t x e is h = in_flat_map table_entries (t, x) (entries ts) e (get_in (slice_cmp-IsAntisymmetric nat_cmp-IsAntisymmetric) ts t x is) h
+  in_table t x e is h = in_flat_mapped table_entries (t, x) (entries ts) e (get_in (slice_cmp-IsAntisymmetric nat_cmp-IsAntisymmetric) ts t x is) h
 
   -- what is among a row's
   in_row : (t : List ℕ) (r : ℤ) (vs : List Value) (e : Entry) → row_at ts t r ≡ Some vs → IsIn e (row_entries t (r, vs)) → IsIn e (flat_map table_entries (entries ts))
   in_row t r vs e is h =
       let x = row_there (get ts t) r vs is in
-      in_table t x.0 e x.1 (inr (in_flat_map (row_entries t) (r, vs) (entries x.0.rows) e (get_in int_cmp-IsAntisymmetric x.0.rows r vs x.2) h))
+      in_table t x.0 e x.1 (inr (in_flat_mapped (row_entries t) (r, vs) (entries x.0.rows) e (get_in int_cmp-IsAntisymmetric x.0.rows r vs x.2) h))
 
   module _ (f : Key → Option (List ℕ)) (stand : TablesStand f ts) where
     pub table_in : (t v : List ℕ) → f (key kind.Tables t []) ≡ Some v → IsIn (entry (key kind.Tables t []) v) (flat_map table_entries (entries ts))
@@ -63,4 +64,4 @@ module _ (ts : Tables) where
     pub text_in_all : (t v : List ℕ) (c : ℕ) (r : ℤ) → c < 256 → IsRow r → f (key kind.RowTexts t (text_part c r)) ≡ Some v → IsIn (entry (key kind.RowTexts t (text_part c r)) v) (flat_map table_entries (entries ts))
     text_in_all t v c r few row has =
         let vs = and_then_some (λ (vs : List Value). text_of vs c) (row_at ts t r) v (sym (stand.texts t c r few row) ∙ has) in
-        in_row t r vs.0 _ vs.1 (inr (in_map (text_entry t r) (c, v) (texts_of vs.0) (text_there vs.0 c v vs.2)))
+        in_row t r vs.0 _ vs.1 (inr (in_mapped (text_entry t r) (c, v) (texts_of vs.0) (text_there vs.0 c v vs.2)))

@@ -1,7 +1,8 @@
 -- What the function of a statement returns, against its effect; and the plan that is carried out.
-use Rattle.std.specs.Prelude.{ℕ, ◌≡◌, ◌<◌, ◌⊎◌, true, false, List, Option, Some, None, Result, Ok, Err, Vec, IfOk, [], refl}
+use Rattle.std.specs.Prelude.{ℕ, ◌≡◌, ◌<◌, ◌⊎◌, true, false, List, Option, Some, None, Result, Ok, Err, Vec, IfOk, [], codes, refl}
 use Rattle.std.specs.declared.alloc.Global.{Global}
 use Rattle.ct_keep.specs.Content.{Content, after}
+use Rattle.ct_keep.specs.Laws.{changes_weight}
 use Rattle.ct_keep.specs.declared.keepers.KeepFault.{KeepFault}
 use Rattle.ct_keep.specs.declared.keepers.KeepFault.TheVariants.{Memory, Disk, Full as NoRoom}
 use Rattle.ct_keep.specs.KeeperViews.{AtMostOneCommit, KeeperView, SameButContent, Reads, Goes, IsDurable, fault_of, counted, is_full}
@@ -55,9 +56,17 @@ CommitsOnce old new fault = (c : Content) → old.content ≡ Some c → Commits
 abbrev pub ContentStays : KeeperView → KeeperView → Type 0
 ContentStays old new = (c : Content) → old.content ≡ Some c → Goes c c old new None
 
+-- The lines by which a statement says that its change is made: one for each number of rows, or the same for all.
+abbrev pub DoneLines : Type 0
+DoneLines = ℕ → List ℕ
+
+abbrev pub always : List ℕ → DoneLines
+always line n = line
+
 -- The reply says that the change is made, by at most one commit.
-pub record IsMade (done reply : List ℕ) (old new : KeeperView) : Type 0 where
-  pub says : reply ≡ done
+pub record IsMade (done : DoneLines) (reply : List ℕ) (old new : KeeperView) : Type 0 where
+  pub rows : ℕ
+  pub says : reply ≡ done rows
   pub commits : CommitsOnce old new None
 
 -- The reply is the line of a refusal, and nothing was done but reading. That the store is full is no refusal.
@@ -66,15 +75,15 @@ pub record IsRefused (reply : List ℕ) (old new : KeeperView) : Type 0 where
   pub says : reply ≡ refusal_line refusal
   pub reads : Reads old new None
 
--- What the function of a statement returned that says by this line that its change is made.
-abbrev pub Returns : List ℕ → KeeperView → KeeperView → Result (Vec ℕ Global) KeepFault → Type 0
+-- What the function of a statement returned that says by one of these lines that its change is made.
+abbrev pub Returns : DoneLines → KeeperView → KeeperView → Result (Vec ℕ Global) KeepFault → Type 0
 Returns done old new (Ok reply) = IsMade done reply.items old new ⊎ IsRefused reply.items old new
 Returns done old new (Err Memory) = ContentStays old new
 Returns done old new (Err NoRoom) = ContentStays old new
 Returns done old new (Err Disk) = CommitsOnce old new (Some Disk)
 
--- what the function of a statement returned, by its line: with none it only read
-abbrev pub ReturnsBy : Option (List ℕ) → KeeperView → KeeperView → Result (Vec ℕ Global) KeepFault → Type 0
+-- what the function of a statement returned, by its lines: with none it only read
+abbrev pub ReturnsBy : Option DoneLines → KeeperView → KeeperView → Result (Vec ℕ Global) KeepFault → Type 0
 ReturnsBy None old new result = Reads old new (fault_of result)
 ReturnsBy (Some done) old new result = Returns done old new result
 
@@ -89,14 +98,14 @@ CommitGives batch reply old new result =
 
 -- ---- the function of a statement
 
--- What it returned, by the statement's effect in each state, and by the line by which the statement says that its change is made (None where it changes nothing).
+-- What it returned, by the statement's effect in each state, and by the lines by which the statement says that its change is made (None where it changes nothing).
 -- It is all that `execute` needs of a statement: of a content that stands for a state, and of any content.
-pub record Fulfils (effect : State → Effect) (line : Option (List ℕ)) (old new : KeeperView) (result : Result (Vec ℕ Global) KeepFault) : Type 0 where
+pub record Fulfils (effect : State → Effect) (lines : Option DoneLines) (old new : KeeperView) (result : Result (Vec ℕ Global) KeepFault) : Type 0 where
   pub kept : SameButContent old new (fault_of result)
   pub fulls : new.counts.fulls ≡ counted (is_full (fault_of result)) old.counts.fulls
   pub once : AtMostOneCommit old.counts new.counts
   pub gives : IsDurable old → (m : State) (c : Content) → old.content ≡ Some c → Stands c m → Gives m (effect m) c old new result
-  pub tells : IsDurable old → ReturnsBy line old new result
+  pub tells : IsDurable old → ReturnsBy lines old new result
 
 -- What a statement with this effect comes to over the content c: the line of its refusal, or a batch that makes of c a content that stands for its state, with this line.
 abbrev pub IsPlan : Effect → List ℕ → Content → Plan → Type 0
@@ -108,17 +117,22 @@ abbrev pub IsStorePlan : Plan → Type 0
 IsStorePlan (PlanRefused fault) = Unit {0}
 IsStorePlan (PlanDone batch) = AreStoreChanges batch
 
+-- A plan only takes entries away, so that what it leaves is no heavier: its batch puts nothing.
+abbrev pub IsRemoval : Plan → Type 0
+IsRemoval (PlanRefused fault) = Unit {0}
+IsRemoval (PlanDone batch) = changes_weight batch ≡ 0
+
 -- A plan is that of the statement over each state that the content stands for.
 pub record IsPlanOf (effect : State → Effect) (line : List ℕ) (old : KeeperView) (plan : Plan) : Type 0 where
   pub made : (m : State) (c : Content) → old.content ≡ Some c → Stands c m → IsPlan (effect m) line c plan
 
 -- What a call that carries out a plan returned: of each statement whose plan it is.
 abbrev pub CarriesOut : {K : Type 0} → (K → KeeperView) → K → K → Result (Vec ℕ Global) KeepFault → Plan → List ℕ → Type 0
-CarriesOut view old new result plan line = (effect : State → Effect) → IsPlanOf effect line (view old) plan → Fulfils effect (Some line) (view old) (view new) result
+CarriesOut view old new result plan line = (effect : State → Effect) → IsPlanOf effect line (view old) plan → Fulfils effect (Some (always line)) (view old) (view new) result
 
 -- What the function of a statement returned, by the view of the keeper before and after it.
-abbrev pub Replies : {K : Type 0} → (K → KeeperView) → K → K → Result (Vec ℕ Global) KeepFault → (State → Effect) → Option (List ℕ) → Type 0
-Replies view old new result effect line = Fulfils effect line (view old) (view new) result
+abbrev pub Replies : {K : Type 0} → (K → KeeperView) → K → K → Result (Vec ℕ Global) KeepFault → (State → Effect) → Option DoneLines → Type 0
+Replies view old new result effect lines = Fulfils effect lines (view old) (view new) result
 
 -- The call gave a plan of the statement, unless it failed.
 abbrev pub Plans : {K : Type 0} → (K → KeeperView) → K → Result Plan KeepFault → (State → Effect) → List ℕ → Type 0
@@ -127,6 +141,9 @@ Plans view old result effect line = IfOk result (IsPlanOf effect line (view old)
 -- computed examples: the plan of a statement that is refused, and the reply that an effect gives
 a_refusal : (c : Content) → IsPlan (Refused WrongValues) [] c (PlanRefused WrongValuesFault)
 a_refusal c = refl
+
+one_line_for_all : always (codes "Table created.\n") 7 ≡ codes "Table created.\n"
+one_line_for_all = refl
 
 its_content : (m : State) (c : Content) → StandsBy (Some Memory) m (Refused WrongValues) c c
 its_content m c = refl

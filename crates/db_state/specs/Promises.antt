@@ -1,22 +1,39 @@
 -- What the functions of `src/laws.rt` promise of all contents.
-use Rattle.std.specs.Prelude.{◌≡◌, [], None, Some, refl}
+use Rattle.std.specs.Prelude.{◌≡◌, ◌≤◌, [], None, Some, refl}
 use Rattle.std.specs.Ordering.{nat_cmp}
 use Rattle.std.specs.Cmp.Lexicographic.{slice_cmp}
 use Rattle.std.specs.FinMap.{get, empty, get-empty}
 use Rattle.std.proofs.Common.{ap, ◌∙◌, sym, arith}
-use Rattle.ct_keep.specs.Content.{Content}
+use Rattle.ct_keep.specs.Content.{Content, weight}
 use Rattle.ct_keep.specs.Changes.{HoldsWell}
+use Rattle.ct_entry.specs.Maps.{each_value}
+use Rattle.ix_context.specs.Indexes.{Index, Body, OfContext}
 use Rattle.db_state.specs.States.{State, empty_state, Stands}
+use Rattle.db_state.specs.Room.{room}
 use Rattle.db_state.specs.Shapes.{IsStoreEntry}
 
--- a content stands for at most one state
+-- an index, and a state, with nothing that is wasted
+abbrev pub without_waste : Body → Body
+without_waste (OfContext c) = OfContext (record c { part = record c.part { waste = 0 } })
+
+abbrev pub unwasted : Index → Index
+unwasted x = record x { body = without_waste x.body }
+
+abbrev pub but_for_waste : State → State
+but_for_waste m = record m { indexes = each_value unwasted m.indexes }
+
+-- A content stands for at most one state but for what is wasted, of which a state has a bound alone.
 abbrev pub OneState : Type 0
-OneState = (c : Content) (m n : State) → Stands c m → Stands c n → m ≡ n
+OneState = (c : Content) (m n : State) → Stands c m → Stands c n → but_for_waste m ≡ but_for_waste n
 
 -- Each entry of a content that stands for a state is one that a store has, and within the bounds. So the shape of a store (`StoreShape`),
 -- which looks at each entry by itself, finds none in it that is ill shaped.
 abbrev pub StoresAreWell : Type 0
 StoresAreWell = (c : Content) (m : State) → Stands c m → HoldsWell IsStoreEntry c
+
+-- A content weighs at most the room of a state that it stands for.
+abbrev pub StoresAreWithinRoom : Type 0
+StoresAreWithinRoom = (c : Content) (m : State) → Stands c m → weight c ≤ room m
 
 -- computed examples: the state of a new store has no table; so what stands for it stands for no state with one
 no_table : empty_state.tables ≡ empty

@@ -1,8 +1,8 @@
 -- What the statements so far have made.
-use Rattle.std.specs.Prelude.{ℕ, ◌≡◌, ◌≤◌, Bool, true, false, ◌||◌, List, length, filter, Some, None, Result, IfOk, codes, bytes_eq, refl}
+use Rattle.std.specs.Prelude.{ℕ, ◌≡◌, ◌≤◌, Bool, true, false, ◌||◌, List, length, filter, Option, Some, None, Result, IfOk, codes, bytes_eq, refl}
 use Rattle.std.specs.FinMap.{get, empty, entries}
 use Rattle.ct_keep.specs.declared.keepers.KeepFault.{KeepFault}
-use Rattle.ct_keep.specs.Content.{Content}
+use Rattle.ct_keep.specs.Content.{Content, value_limit}
 use Rattle.ct_keep.specs.KeeperViews.{KeeperView}
 use Rattle.ct_entry.specs.declared.kinds.Kind.{Kind}
 use Rattle.ct_entry.specs.declared.kinds.Kind.TheVariants as kind
@@ -12,7 +12,7 @@ use Rattle.tb_table.specs.Tables.{Table, Tables}
 use Rattle.tb_table.specs.Spelling.{TablesStand}
 use Rattle.tb_table.specs.Rules.{AreTables}
 use Rattle.ix_context.specs.Indexes.{Index}
-use Rattle.ix_context.specs.Spelling.{IndexesStand}
+use Rattle.ix_context.specs.Standing.{IndexesStand}
 use Rattle.ix_context.specs.Rules.{AreIndexes}
 
 -- the tables with their rows, and the text indexes on them
@@ -65,6 +65,16 @@ is_built kind.Rules = false
 is_built kind.Anchors = false
 is_built kind.RuleFaults = false
 
+-- the kinds of the rows of postings
+abbrev pub is_of_rows : Kind → Bool
+is_of_rows kind.Postings = true
+is_of_rows kind.Spans = true
+is_of_rows k = false
+
+-- no row of postings, also of dead documents, has more bytes than a value may have
+abbrev pub HasShortRows : (Key → Option (List ℕ)) → Type 0
+HasShortRows f = (k : Key) (v : List ℕ) → is_of_rows k.kind ≡ true → f k ≡ Some v → length v ≤ value_limit
+
 -- The content's entries spell this state, and there is no other entry.
 pub record Stands (c : Content) (m : State) : Type 0 where
   pub only : HasKeysOnly c
@@ -72,6 +82,7 @@ pub record Stands (c : Content) (m : State) : Type 0 where
   pub unbuilt : (k : Key) → is_built k.kind ≡ false → at c k ≡ None
   pub tables : TablesStand (at c) m.tables
   pub indexes : IndexesStand (at c) m.tables m.indexes
+  pub short_rows : HasShortRows (at c)
   pub state : IsState m
 
 -- ---- what calls say of the states that a keeper's content stands for, by the view of the keeper before them

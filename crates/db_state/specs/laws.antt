@@ -8,3 +8,5 @@ pub mod PrintedLines
 pub mod Serving
 pub mod Columns
 pub mod OneState
+pub mod ShortRows
+pub mod Removing

@@ -10,7 +10,7 @@ mod shapes;
 
 pub use columns::{has_column, place_of};
 pub use committing::fixed_reply;
-pub use laws::{one_state, stores_are_well};
+pub use laws::{one_state, stores_are_well, stores_are_within_room};
 pub use lookups::{
     context_index, has_index, has_most_tables, has_table, is_view, table_columns, target_of,
 };

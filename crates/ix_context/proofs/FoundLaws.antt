@@ -13,7 +13,8 @@ use Rattle.ct_keep.specs.RisingKeys.{rises, entries_rise}
 use Rattle.ct_keep.specs.FoundKeys.{pair_found, found_pair}
 use Rattle.tb_table.specs.Tables.{Tables}
 use Rattle.ix_context.specs.Postings.{word_score}
-use Rattle.ix_context.specs.Indexes.{Index, Mark, Pending, Marked, text_seen, scored, found_at, found}
+use Rattle.ix_docmap.specs.Marks.{Mark, Pending, Settled}
+use Rattle.ix_context.specs.Indexes.{Index, marks_in, text_seen, scored, found_at, found}
 use Rattle.ix_context.proofs.MappedEntries.{mapped_entries, find_mapped, mapped_rise}
 use Rattle.ix_context.specs.Promises.{IsFound, FoundIsExact, FoundRises}
 
@@ -24,14 +25,14 @@ abbrev score_above : ℕ → ℕ → Option ℕ
 score_above n score = if nat_lt n score then Some score else None
 
 -- the score that a row has by its mark, where it is above n
-abbrev score_at : Tables → Index → List ℕ → ℕ → ℤ → Mark → Option ℕ
+abbrev score_at : Tables → Index → List ℕ → ℕ → ℤ → Mark (Unit {0}) → Option ℕ
 score_at ts x key n r Pending = None
-score_at ts x key n r Marked = option_and_then (λ text. score_above n (word_score key text)) (text_seen ts x r)
+score_at ts x key n r (Settled _) = option_and_then (λ text. score_above n (word_score key text)) (text_seen ts x r)
 
-at_row : (ts : Tables) (x : Index) (key : List ℕ) (n : ℕ) (r : ℤ) (m : Mark)
+at_row : (ts : Tables) (x : Index) (key : List ℕ) (n : ℕ) (r : ℤ) (m : Mark (Unit {0}))
     → found_at ts x key n r m ≡ option_map {U = ℤ × ℕ} (λ s. (r, s)) (score_at ts x key n r m)
 at_row ts x key n r Pending = refl
-at_row ts x key n r Marked = go (text_seen ts x r)
+at_row ts x key n r (Settled _) = go (text_seen ts x r)
   where
     above : (b : Bool) (s : ℕ) → cond b (Some (r, s)) None ≡ option_map {U = ℤ × ℕ} (λ s. (r, s)) (cond b (Some s) None)
     above true s = refl
@@ -41,7 +42,7 @@ at_row ts x key n r Marked = go (text_seen ts x r)
     go None = refl
     go (Some text) = above (nat_lt n (word_score key text)) (word_score key text)
 
-as_mapped : (ts : Tables) (x : Index) (key : List ℕ) (n : ℕ) (es : List (ℤ × Mark))
+as_mapped : (ts : Tables) (x : Index) (key : List ℕ) (n : ℕ) (es : List (ℤ × Mark (Unit {0})))
     → filter_map (λ e. found_at ts x key n e.0 e.1) es ≡ mapped_entries (score_at ts x key n) es
 as_mapped ts x key n [] = refl
 as_mapped ts x key n (e ∷ es) =
@@ -50,21 +51,21 @@ as_mapped ts x key n (e ∷ es) =
 
 pub found_rises : FoundRises
 found_rises ts x key n =
-    ap (rises int_cmp) (as_mapped ts x key n (entries x.marks))
-    ∙ mapped_rise int_cmp int_cmp_total int_cmp-IsAntisymmetric (score_at ts x key n) (entries x.marks) (entries_rise int_cmp x.marks)
+    ap (rises int_cmp) (as_mapped ts x key n (entries (marks_in x.body)))
+    ∙ mapped_rise int_cmp int_cmp_total int_cmp-IsAntisymmetric (score_at ts x key n) (entries (marks_in x.body)) (entries_rise int_cmp (marks_in x.body))
 
 -- what the list has at a row
-at_key : (ts : Tables) (x : Index) (key : List ℕ) (n : ℕ) (r : ℤ) → find int_cmp r (found ts x key n) ≡ option_and_then (score_at ts x key n r) (get x.marks r)
+at_key : (ts : Tables) (x : Index) (key : List ℕ) (n : ℕ) (r : ℤ) → find int_cmp r (found ts x key n) ≡ option_and_then (score_at ts x key n r) (get (marks_in x.body) r)
 at_key ts x key n r =
-    ap (find int_cmp r) (as_mapped ts x key n (entries x.marks))
-    ∙ find_mapped int_cmp int_cmp_total int_cmp-IsAntisymmetric (score_at ts x key n) r (entries x.marks) (entries_rise int_cmp x.marks)
-    ∙ ap (option_and_then (score_at ts x key n r)) (sym (get-entries x.marks r))
+    ap (find int_cmp r) (as_mapped ts x key n (entries (marks_in x.body)))
+    ∙ find_mapped int_cmp int_cmp_total int_cmp-IsAntisymmetric (score_at ts x key n) r (entries (marks_in x.body)) (entries_rise int_cmp (marks_in x.body))
+    ∙ ap (option_and_then (score_at ts x key n r)) (sym (get-entries (marks_in x.body) r))
 
-is_found : (ts : Tables) (x : Index) (key : List ℕ) (n : ℕ) (r : ℤ) (score : ℕ) → (o : Option Mark) → get x.marks r ≡ o
+is_found : (ts : Tables) (x : Index) (key : List ℕ) (n : ℕ) (r : ℤ) (score : ℕ) → (o : Option (Mark (Unit {0}))) → get (marks_in x.body) r ≡ o
     → option_and_then (score_at ts x key n r) o ≡ Some score → IsFound ts x key n r score
 is_found ts x key n r score None at is = absurd (cc)
 is_found ts x key n r score (Some Pending) at is = absurd (cc)
-is_found ts x key n r score (Some Marked) at is = by_text (text_seen ts x r) refl is
+is_found ts x key n r score (Some (Settled _)) at is = by_text (text_seen ts x r) refl is
   where
     by_score : (text : List ℕ) → text_seen ts x r ≡ Some text → (b : Bool) → nat_lt n (word_score key text) ≡ b
         → cond b (Some (word_score key text)) None ≡ Some score → IsFound ts x key n r score
@@ -89,6 +90,6 @@ is_listed ts x key n r score is =
 
 pub found_is_exact : FoundIsExact
 found_is_exact ts x key n r score = (
-  λ there. is_found ts x key n r score (get x.marks r) refl (sym (at_key ts x key n r) ∙ pair_found int_cmp int_cmp_total (found ts x key n) (r, score) (found_rises ts x key n) there),
+  λ there. is_found ts x key n r score (get (marks_in x.body) r) refl (sym (at_key ts x key n r) ∙ pair_found int_cmp int_cmp_total (found ts x key n) (r, score) (found_rises ts x key n) there),
   λ is. found_pair int_cmp int_cmp-IsAntisymmetric (found ts x key n) r score (is_listed ts x key n r score is),
 )

@@ -3,6 +3,7 @@ pub mod FoundLaws
 pub mod OccurrenceLaws
 pub mod EntrySteps
 pub mod MarkSteps
+pub mod NoteSteps
 pub mod ShapeSteps
 pub mod SearchSteps
 pub mod SearchLaws

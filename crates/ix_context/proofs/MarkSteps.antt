@@ -4,8 +4,7 @@ use Rattle.ct_base.specs.declared.numbers.RowKey.{RowKey}
 use Rattle.ct_entry.specs.Keys.{Key}
 use Rattle.ct_entry.specs.Changes.{spell}
 use Rattle.ct_entry.specs.laws.Changes.{spell-append}
-use Rattle.ct_entry.specs.Each.{each}
-use Rattle.ix_context.specs.Changes.{numbered}
+use Rattle.ct_entry.specs.Each.{numbered, each}
 
 -- the change of the first of what is left was added
 pub change_added : {E : Type 0} (change : E → Key × Option (List ℕ)) (all batch new : List (List ℕ × Option (List ℕ))) (left rest : List E) (e : E)

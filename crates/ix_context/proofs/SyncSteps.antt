@@ -1,4 +1,5 @@
 -- Steps of synchronisations and of new indexes.
+use Rattle.ix_context.specs.laws.Bodies.{part_in-synced, given-made}
 use Rattle.std.proofs.Common.{◌≡◌, ℕ, ℤ, ◌+◌, max, false, List, [], ◌∷◌, ◌++◌, length, map, Option, Some, None, Result, Ok, Err, refl, sym, ap, subst, ◌∙◌, arith}
 use Rattle.std.specs.Prelude.{◌==◌, MatchOption, IfOk}
 use Rattle.std.proofs.lemmas.List.{length-map}
@@ -8,13 +9,13 @@ use Rattle.ct_entry.specs.declared.kinds.Kind.TheVariants as kind
 use Rattle.ct_entry.specs.Keys.{key}
 use Rattle.ct_entry.specs.Changes.{put, spell}
 use Rattle.ct_entry.specs.laws.Changes.{spell-append}
-use Rattle.ct_entry.specs.Each.{each}
+use Rattle.ct_entry.specs.Each.{numbered, each}
 use Rattle.tb_table.specs.declared.columns.Target.{Target}
 use Rattle.tb_table.specs.Tables.{Tables}
 use Rattle.ix_context.specs.declared.ranges.KeyRange.{KeyRange}
-use Rattle.ix_context.specs.Indexes.{Index, pending_rows, rows_in, target_text}
+use Rattle.ix_context.specs.Indexes.{Index, Part, given, part_in, no_part, synced_index, created, pending_rows, rows_in, target_text}
 use Rattle.ix_context.specs.Spelling.{index_bytes}
-use Rattle.ix_context.specs.Changes.{numbered, mark_with, settle_with, settled_with, sync_rows_changes, sync_changes, create_changes, AreSettleChanges, AreSyncChanges}
+use Rattle.ix_context.specs.Changes.{mark_with, settle_with, settled_with, sync_rows_changes, sync_changes, create_changes, AreSettleChanges, AreSyncChanges}
 use Rattle.ix_context.specs.laws.Reading.{target_of}
 
 abbrev Changes : Type 0
@@ -67,25 +68,28 @@ settled_added i target text first next (r ∷ rs) none before new some empty set
     ∙ ap (λ n. spell (changes ++ put (key kind.Indexes i []) (index_bytes target.table target.column n) ∷ [])) count
 
 settled_rows : (ts : Tables) (i : List ℕ) (x : Index) (rows : List ℤ) → pending_rows x ≡ rows
-    → settled_with i (target_of x) (target_text ts (target_of x)) (x.given + 1) rows ≡ sync_rows_changes ts i x rows
+    → settled_with i (target_of x) (target_text ts (target_of x)) ((given x) + 1) rows ≡ sync_rows_changes ts i x rows
 settled_rows ts i x [] is = refl
 settled_rows ts i x (r ∷ rs) is =
-    let count : x.given + 1 + length (r ∷ rs) ≡ x.given + length (pending_rows x) + 1 = let l : length (pending_rows x) ≡ length (r ∷ rs) = ap length is in omega arith in
-    ap (λ n. each (settle_with i (target_text ts (target_of x))) (numbered (x.given + 1) (r ∷ rs)) ++ put (key kind.Indexes i []) (index_bytes x.table x.column n) ∷ []) count
+    let count : given x + 1 + length (r ∷ rs) ≡ given (synced_index x) + 1 =
+    let l : length (pending_rows x) ≡ length (r ∷ rs) = ap length is in
+    let n : given (synced_index x) ≡ given x + length (pending_rows x) = ap (λ (p : Part). p.given) (part_in-synced x.body) ∙ given-made (length (pending_rows x)) (part_in x.body) in
+    omega arith in
+    ap (λ n. each (settle_with i (target_text ts (target_of x))) (numbered ((given x) + 1) (r ∷ rs)) ++ put (key kind.Indexes i []) (index_bytes x.table x.column n) ∷ []) count
 
 -- the changes for what was read of the index are those of its synchronisation
-settled_is : (ts : Tables) (i : List ℕ) (x : Index) (target : Target) (first : ℕ) (rows : List ℤ) → target ≡ target_of x → first ≡ x.given + 1
+settled_is : (ts : Tables) (i : List ℕ) (x : Index) (target : Target) (first : ℕ) (rows : List ℤ) → target ≡ target_of x → first ≡ (given x) + 1
     → rows ≡ pending_rows x
     → settled_with i target (target_text ts target) first rows ≡ sync_changes ts i x
 settled_is ts i x target first rows t f r =
     ap (λ (u : Target). settled_with i u (target_text ts u) first rows) t
     ∙ ap (λ n. settled_with i (target_of x) (target_text ts (target_of x)) n rows) f
-    ∙ ap (settled_with i (target_of x) (target_text ts (target_of x)) (x.given + 1)) r
+    ∙ ap (settled_with i (target_of x) (target_text ts (target_of x)) ((given x) + 1)) r
     ∙ settled_rows ts i x (pending_rows x) refl
 
 -- what the changes for what was read say of the index
 pub settled_says : (ts : Tables) (i : List ℕ) (x : Index) (target : Target) (first : ℕ) (rows : List RowKey) → target ≡ target_of x
-    → first ≡ x.given + 1 → keys rows ≡ pending_rows x → (result : Result (Option Changes) KeepFault)
+    → first ≡ (given x) + 1 → keys rows ≡ pending_rows x → (result : Result (Option Changes) KeepFault)
     → IfOk result (AreSettleChanges ts i target first rows) → IfOk result (AreSyncChanges ts i x)
 settled_says ts i x target first rows t f r result says = go result says
   where
@@ -111,8 +115,12 @@ pub created_added : (ts : Tables) (i : List ℕ) (target : Target) (range : KeyR
     → new ≡ first ++ spell (each (mark_with i (target_text ts target)) (numbered 1 (keys rows)))
     → new ≡ spell (create_changes ts i target range)
 created_added ts i target range rows next none first new are next_is empty entry marks =
-    let number : next ≡ length (rows_in ts target.table range) + 1 = let count = count_created ts target.table range rows are in omega (arith, next_is, count) in
+    let x = created ts target range in
+    let number : next ≡ given x + 1 =
+    let count = count_created ts target.table range rows are in
+    let n = given-made (length (rows_in ts target.table range)) no_part in
+    omega (arith, next_is, count, n) in
     marks
     ∙ ap (λ (b : Changes). b ++ spell (each (mark_with i (target_text ts target)) (numbered 1 (keys rows)))) (entry ∙ ap (λ (b : Changes). b ++ spell (put (key kind.Indexes i []) (index_bytes target.table target.column next) ∷ [])) empty)
     ∙ ap (λ n. spell (put (key kind.Indexes i []) (index_bytes target.table target.column n) ∷ each (mark_with i (target_text ts target)) (numbered 1 (keys rows)))) number
-    ∙ ap (λ l. spell (put (key kind.Indexes i []) (index_bytes target.table target.column (length (rows_in ts target.table range) + 1)) ∷ each (mark_with i (target_text ts target)) (numbered 1 l))) are
+    ∙ ap (λ l. spell (put (key kind.Indexes i []) (index_bytes target.table target.column (given x + 1)) ∷ each (mark_with i (target_text ts target)) (numbered 1 l))) are

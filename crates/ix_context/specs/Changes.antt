@@ -1,5 +1,5 @@
 -- What calls put into a batch.
-use Rattle.std.specs.Prelude.{ℕ, ℤ, ◌+◌, ◌-◌, ◌^◌, ◌<◌, ◌≤◌, MatchOption, Result, OnOk, List, [], ◌∷◌, ◌++◌, length, map, Option, Some, None, pos, negsuc, ◌≡◌, codes, refl}
+use Rattle.std.specs.Prelude.{ℕ, ℤ, ◌+◌, ◌-◌, ◌^◌, ◌<◌, ◌≤◌, MatchOption, Result, OnOk, List, [], ◌∷◌, ◌++◌, length, map, Option, Some, None, pos, ◌≡◌, codes, refl}
 use Rattle.std.specs.Int.{to_be_bytes, w32}
 use Rattle.std.specs.FinMap.{entries}
 use Rattle.ct_base.specs.declared.numbers.RowKey.{RowKey}
@@ -7,13 +7,13 @@ use Rattle.ct_bytes.specs.RowKeys.{row_bytes}
 use Rattle.ct_entry.specs.declared.kinds.Kind.TheVariants as kind
 use Rattle.ct_entry.specs.Keys.{Key, key, row_part, document_part, posting_part}
 use Rattle.ct_entry.specs.Changes.{put, drop_key, spell}
-use Rattle.ct_entry.specs.Each.{each}
+use Rattle.ct_entry.specs.Each.{each, numbered}
 use Rattle.tb_table.specs.declared.columns.Target.{Target}
 use Rattle.tb_table.specs.Tables.{Tables}
 use Rattle.ix_posting.specs.Rows.{posting_bytes}
 use Rattle.ix_context.specs.declared.ranges.KeyRange.{KeyRange}
 use Rattle.ix_context.specs.Postings.{postings_of, fox_and_quick}
-use Rattle.ix_context.specs.Indexes.{Index, pending_rows, text_seen, target_text, synced_index, created, rows_in}
+use Rattle.ix_context.specs.Indexes.{Index, given, pending_rows, text_seen, target_text, synced_index, created, rows_in}
 use Rattle.ix_context.specs.Rules.{most_given}
 use Rattle.ix_context.specs.Spelling.{index_bytes, index_entry}
 use Rattle.std.proofs.Common.{ap}
@@ -47,11 +47,6 @@ mark_changes ts i x d r = document_changes i d r (text_seen ts x r)
 abbrev pub mark_with : List ℕ → (ℤ → Option (List ℕ)) → ℕ × ℤ → List (Key × Option (List ℕ))
 mark_with i text p = document_changes i p.0 p.1 (text p.1)
 
--- rows, each with a document: the first has this one, and each other the next
-abbrev pub numbered : ℕ → List ℤ → List (ℕ × ℤ)
-numbered d [] = []
-numbered d (r ∷ rs) = (d, r) ∷ numbered (d + 1) rs
-
 -- a row that waits becomes a document, where rows have these texts
 abbrev pub settle_with : List ℕ → (ℤ → Option (List ℕ)) → ℕ × ℤ → List (Key × Option (List ℕ))
 settle_with i text p = drop_key (key kind.Pending i (row_part p.1)) ∷ mark_with i text p
@@ -64,7 +59,7 @@ settle_changes ts i x p = settle_with i (text_seen ts x) p
 abbrev pub sync_rows_changes : Tables → List ℕ → Index → List ℤ → List (Key × Option (List ℕ))
 sync_rows_changes ts i x [] = []
 sync_rows_changes ts i x (r ∷ rs) =
-    each (settle_changes ts i x) (numbered (x.given + 1) (r ∷ rs)) ++ put (key kind.Indexes i []) (index_entry (synced_index x)) ∷ []
+    each (settle_changes ts i x) (numbered (given x + 1) (r ∷ rs)) ++ put (key kind.Indexes i []) (index_entry (synced_index x)) ∷ []
 
 -- the same for an index on a target that gives this document next, where rows have these texts
 abbrev pub settled_with : List ℕ → Target → (ℤ → Option (List ℕ)) → ℕ → List ℤ → List (Key × Option (List ℕ))
@@ -79,7 +74,7 @@ sync_changes ts i x = sync_rows_changes ts i x (pending_rows x)
 abbrev pub create_changes : Tables → List ℕ → Target → KeyRange → List (Key × Option (List ℕ))
 create_changes ts i target range =
     put (key kind.Indexes i []) (index_entry (created ts target range))
-    ∷ each (λ (p : ℕ × ℤ). mark_changes ts i (created ts target range) p.0 p.1) (numbered 1 (rows_in ts target.table range))
+    ∷ each (mark_with i (text_seen ts (created ts target range))) (numbered 1 (rows_in ts target.table range))
 
 -- ---- what calls add to a batch
 
@@ -115,15 +110,12 @@ AreSettleChanges ts i target first rows found =
 
 -- of a synchronisation, and of a new index, where these have at most as many documents as there are numbers
 abbrev pub AreSyncChanges : Tables → List ℕ → Index → Option (List (List ℕ × Option (List ℕ))) → Type 0
-AreSyncChanges ts i x found = ChangesWithin most_given (x.given + length (pending_rows x)) (sync_changes ts i x) found
+AreSyncChanges ts i x found = ChangesWithin most_given (given x + length (pending_rows x)) (sync_changes ts i x) found
 
 abbrev pub AreCreateChanges : Tables → List ℕ → Target → KeyRange → Option (List (List ℕ × Option (List ℕ))) → Type 0
 AreCreateChanges ts i target range found = ChangesWithin most_given (length (rows_in ts target.table range)) (create_changes ts i target range) found
 
 -- computed examples
-one_after_the_other : numbered 5 (negsuc 2 ∷ pos 0 ∷ pos 7 ∷ []) ≡ (5, negsuc 2) ∷ (6, pos 0) ∷ (7, pos 7) ∷ []
-one_after_the_other = refl
-
 row_two_waits : spell (note_insert_changes (codes "di") (pos 2)) ≡ (0x23 ∷ 2 ∷ 0x64 ∷ 0x69 ∷ 0x80 ∷ 0 ∷ 0 ∷ 0 ∷ 0 ∷ 0 ∷ 0 ∷ 2 ∷ [], Some []) ∷ []
 unfolding row_bytes
 row_two_waits = refl

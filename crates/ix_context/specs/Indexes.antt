@@ -1,14 +1,17 @@
 -- Text indexes, the marks of their rows, and what statements make of both.
-use Rattle.std.specs.Prelude.{ℕ, ℤ, ◌+◌, nat_lt, Bool, true, false, not, ◌&&◌, List, length, map, filter, Option, Some, None, pos, negsuc, ◌≡◌, [], ◌∷◌, codes, refl}
+use Rattle.std.specs.Prelude.{ℕ, ℤ, zero, suc, ◌+◌, nat_lt, Bool, not, ◌&&◌, List, length, map, filter, Option, Some, None, pos, negsuc, ◌≡◌, [], ◌∷◌, codes, refl}
 use Rattle.std.specs.Bool.{if◌then◌else◌}
 use Rattle.std.specs.List.{filter_map, cons_option}
-use Rattle.std.specs.Option.{option_and_then, option_map}
+use Rattle.std.specs.Option.{option_and_then}
 use Rattle.std.specs.Ordering.{int_cmp, is_lt}
-use Rattle.std.specs.FinMap.{get, insert, entries, from_entries, from_sorted, entries-from_sorted, get-insert}
+use Rattle.std.specs.FinMap.{get, insert, remove, entries, from_entries, from_sorted, entries-from_sorted, get-insert}
 use Rattle.ct_entry.specs.Keys.{same_list}
+use Rattle.ct_entry.specs.Listings.{keys_where}
 use Rattle.ct_entry.specs.Maps.{Names, Rows, alter, each_value}
 use Rattle.tb_table.specs.declared.columns.Target.{Target}
 use Rattle.tb_table.specs.Tables.{Tables, row_at, row_keys, text_of}
+use Rattle.ix_rows.specs.Stores.{Tidiness, Untidy, Packed}
+use Rattle.ix_docmap.specs.Marks.{Mark, Pending, Settled, Marks, queued}
 use Rattle.ix_context.specs.declared.ranges.KeyRange.{KeyRange}
 use Rattle.ix_context.specs.Postings.{word_score}
 use Rattle.std.specs.Str.{chars}
@@ -18,40 +21,64 @@ use Rattle.caseless.proofs.Computing.{caseless}
 use Rattle.tx_chars.specs.Keys.{key_text}
 use Rattle.std.proofs.Common.{ap, ◌∙◌}
 use Rattle.std.proofs.lemmas.Cmp.{int_cmp_total}
-use Rattle.ct_entry.specs.laws.Maps.{get-each_value}
 
--- A row of an index waits for the next synchronisation, or is found by queries.
-pub data Mark : Type 0 where
-  Pending : Mark
-  Marked : Mark
+-- ---- what an index has by its kind
+
+-- What a CONTEXT index has beside its marks: how many it ever made, how tidy its rows of postings are, and what its dead postings cost at most.
+pub record Part : Type 0 where
+  pub given : ℕ
+  pub tidiness : Tidiness
+  pub waste : ℕ
+
+-- a CONTEXT index: of each row whether it waits or is settled
+pub record Context : Type 0 where
+  pub part : Part
+  pub marks : Rows (Mark (Unit {0}))
+
+-- The kinds of indexes; for now there is one.
+pub data Body : Type 0 where
+  OfContext : Context → Body
 
 pub record Index : Type 0 where
   -- the table, and the place of the column in it
   pub table : List ℕ
   pub column : ℕ
-  -- how many marks were ever made
-  pub given : ℕ
-  pub marks : Rows Mark
+  pub body : Body
 
-abbrev pub is_marked : Option Mark → Bool
-is_marked None = false
-is_marked (Some Pending) = false
-is_marked (Some Marked) = true
+abbrev pub part_in : Body → Part
+part_in (OfContext c) = c.part
 
-abbrev pub mark_of : Option Index → ℤ → Option Mark
+abbrev pub marks_in : Body → Rows (Mark (Unit {0}))
+marks_in (OfContext c) = c.marks
+
+-- how many marks an index ever made
+abbrev pub given : Index → ℕ
+given x = (part_in x.body).given
+
+-- as an index begins, and as a name has it that is no index's
+abbrev pub no_part : Part
+no_part = record { given = 0; tidiness = Untidy; waste = 0 }
+
+abbrev pub part_of : Option Index → Part
+part_of None = no_part
+part_of (Some x) = part_in x.body
+
+abbrev pub mark_of : Option Index → Marks
 mark_of None r = None
-mark_of (Some x) r = get x.marks r
+mark_of (Some x) r = get (marks_in x.body) r
 
-abbrev pub mark_at : Names Index → List ℕ → ℤ → Option Mark
+abbrev pub mark_at : Names Index → List ℕ → Marks
 mark_at xs i r = mark_of (get xs i) r
 
 -- the rows that wait, in order of their keys
-abbrev pub if_pending : Mark → ℤ → Option ℤ
-if_pending Pending r = Some r
-if_pending Marked r = None
+abbrev pub in_queue : Mark (Unit {0}) → Option (List ℕ)
+in_queue m = queued (Some m)
+
+abbrev pub waiting_rows : Rows (Mark (Unit {0})) → List ℤ
+waiting_rows ms = keys_where in_queue (entries ms)
 
 abbrev pub pending_rows : Index → List ℤ
-pending_rows x = filter_map (λ e. if_pending e.1 e.0) (entries x.marks)
+pending_rows x = waiting_rows (marks_in x.body)
 
 -- the text of a row that an index sees
 abbrev pub text_seen : Tables → Index → ℤ → Option (List ℕ)
@@ -71,30 +98,63 @@ abbrev pub scored : List ℕ → ℕ → ℤ → Option (List ℕ) → Option (�
 scored key n r None = None
 scored key n r (Some text) = if_above n r (word_score key text)
 
-abbrev pub found_at : Tables → Index → List ℕ → ℕ → ℤ → Mark → Option (ℤ × ℕ)
+abbrev pub found_at : Tables → Index → List ℕ → ℕ → ℤ → Mark (Unit {0}) → Option (ℤ × ℕ)
 found_at ts x key n r Pending = None
-found_at ts x key n r Marked = scored key n r (text_seen ts x r)
+found_at ts x key n r (Settled _) = scored key n r (text_seen ts x r)
 
--- The marked rows whose text has a score above n for this word, with their scores, in order of their keys: found by scanning every row.
+-- The settled rows whose text has a score above n for this word, with their scores, in order of their keys: found by scanning every row.
 abbrev pub found : Tables → Index → List ℕ → ℕ → List (ℤ × ℕ)
-found ts x key n = filter_map (λ e. found_at ts x key n e.0 e.1) (entries x.marks)
+found ts x key n = filter_map (λ e. found_at ts x key n e.0 e.1) (entries (marks_in x.body))
 
--- ---- what statements make of the indexes
+-- ---- what statements make of an index
 
--- a row that is new in an index waits
+-- a new row waits
+abbrev pub note_new : ℤ → Body → Body
+note_new r (OfContext c) = OfContext (record c { marks = insert c.marks r Pending })
+
+-- A row's mark is lost: the index is tidy no more, and if the row was settled, what its document costs is wasted.
+abbrev pub wasted : Option (Mark (Unit {0})) → ℕ → Part → Part
+wasted None cost p = p
+wasted (Some Pending) cost p = record p { tidiness = Untidy }
+wasted (Some (Settled _)) cost p = record p { tidiness = Untidy; waste = p.waste + cost }
+
+-- a row whose text is another now waits; its document cost so much, if it was one
+abbrev pub note_changed : ℕ → ℤ → Body → Body
+note_changed cost r (OfContext c) = OfContext (record { part = wasted (get c.marks r) cost c.part; marks = insert c.marks r Pending })
+
+-- a row that goes has no mark
+abbrev pub note_gone : ℕ → ℤ → Body → Body
+note_gone cost r (OfContext c) = OfContext (record { part = wasted (get c.marks r) cost c.part; marks = remove c.marks r })
+
+-- where some rows wait, that many marks are made, and the index is tidy no more
+abbrev pub made : ℕ → Part → Part
+made zero p = p
+made (suc n) p = record p { given = p.given + suc n; tidiness = Untidy }
+
+-- each row that waits is settled
+abbrev pub all_settled : Rows (Mark (Unit {0})) → Rows (Mark (Unit {0}))
+all_settled ms = each_value (λ (m : Mark (Unit {0})). Settled tt) ms
+
+abbrev pub synced_body : Body → Body
+synced_body (OfContext c) = OfContext (record { part = made (length (waiting_rows c.marks)) c.part; marks = all_settled c.marks })
+
+-- ---- what they make of the indexes
+
+abbrev pub noted_index : ℤ → Index → Index
+noted_index r x = record x { body = note_new r x.body }
+
 abbrev pub noted : Names Index → List ℕ → ℤ → Names Index
-noted xs i r = alter xs i (λ (x : Index). record x { marks = insert x.marks r Pending })
+noted xs i r = alter xs i (noted_index r)
 
 -- a row that is new in a table waits in each index on it
 abbrev pub waiting_on : List ℕ → ℤ → Index → Index
-waiting_on t r x = if same_list x.table t then record x { marks = insert x.marks r Pending } else x
+waiting_on t r x = if same_list x.table t then noted_index r x else x
 
 abbrev pub noted_on : Names Index → List ℕ → ℤ → Names Index
 noted_on xs t r = each_value (waiting_on t r) xs
 
--- each row that waits becomes marked
 abbrev pub synced_index : Index → Index
-synced_index x = record x { given = x.given + length (pending_rows x); marks = each_value (λ (m : Mark). Marked) x.marks }
+synced_index x = record x { body = synced_body x.body }
 
 abbrev pub synced : Names Index → List ℕ → Names Index
 synced xs i = alter xs i synced_index
@@ -107,17 +167,16 @@ in_range range r = not (is_lt (int_cmp r range.from.0)) && not (is_lt (int_cmp r
 abbrev pub rows_in : Tables → List ℕ → KeyRange → List ℤ
 rows_in ts t range = filter (in_range range) (row_keys ts t)
 
-abbrev pub all_marked : List ℤ → Rows Mark
-all_marked rows = from_entries (map (λ r. (r, Marked)) rows)
+-- these rows are settled, and no other has a mark
+abbrev pub settled_rows : List ℤ → Rows (Mark (Unit {0}))
+settled_rows rows = from_entries (map (λ r. (r, Settled tt)) rows)
 
--- a new index marks each row that is there and lies in its range
+abbrev pub created_body : List ℤ → Body
+created_body rows = OfContext (record { part = made (length rows) no_part; marks = settled_rows rows })
+
+-- a new index settles each row that is there and lies in its range
 abbrev pub created : Tables → Target → KeyRange → Index
-created ts target range = record {
-  table = target.table;
-  column = target.column;
-  given = length (rows_in ts target.table range);
-  marks = all_marked (rows_in ts target.table range);
-}
+created ts target range = record { table = target.table; column = target.column; body = created_body (rows_in ts target.table range) }
 
 abbrev pub with_index : Tables → Names Index → List ℕ → Target → KeyRange → Names Index
 with_index ts xs i target range = insert xs i (created ts target range)
@@ -144,33 +203,45 @@ not_yet : (ts : Tables) (x : Index) (key : List ℕ) → found_at ts x key 0 (po
 not_yet ts x key = refl
 
 -- three rows, of which the last waits
-abbrev three_marks : List (ℤ × Mark)
-three_marks = (pos 1, Marked) ∷ (pos 2, Marked) ∷ (pos 3, Pending) ∷ []
+abbrev three_marks : List (ℤ × Mark (Unit {0}))
+three_marks = (pos 1, Settled tt) ∷ (pos 2, Settled tt) ∷ (pos 3, Pending) ∷ []
+
+abbrev two_given : Part
+two_given = record { given = 2; tidiness = Untidy; waste = 64 }
 
 abbrev three_rows : Index
-three_rows = record { table = codes "docs"; column = 1; given = 2; marks = from_sorted three_marks }
+three_rows = record { table = codes "docs"; column = 1; body = OfContext (record { part = two_given; marks = from_sorted three_marks }) }
 
 two_found : (ts : Tables) → text_seen ts three_rows (pos 1) ≡ Some (codes "a fox") → text_seen ts three_rows (pos 2) ≡ Some (codes "fox fox")
     → found ts three_rows (codes "fox") 0 ≡ (pos 1, 1) ∷ (pos 2, 2) ∷ []
 unfolding encode chars caseless ucd_category key_text
 two_found ts one two =
-    ap (λ (es : List (ℤ × Mark)). filter_map (λ e. found_at ts three_rows (codes "fox") 0 e.0 e.1) es) (entries-from_sorted int_cmp three_marks tt)
+    ap (λ (es : List (ℤ × Mark (Unit {0}))). filter_map (λ e. found_at ts three_rows (codes "fox") 0 e.0 e.1) es) (entries-from_sorted int_cmp three_marks tt)
     ∙ ap (λ (o : Option (List ℕ)). cons_option (scored (codes "fox") 0 (pos 1) o) (cons_option (scored (codes "fox") 0 (pos 2) (text_seen ts three_rows (pos 2))) [])) one
     ∙ ap (λ (o : Option (List ℕ)). (pos 1, 1) ∷ cons_option (scored (codes "fox") 0 (pos 2) o) []) two
 
 one_waits : pending_rows three_rows ≡ pos 3 ∷ []
-one_waits = ap (λ (es : List (ℤ × Mark)). filter_map (λ e. if_pending e.1 e.0) es) (entries-from_sorted int_cmp three_marks tt)
+one_waits = ap (λ (es : List (ℤ × Mark (Unit {0}))). keys_where in_queue es) (entries-from_sorted int_cmp three_marks tt)
 
 -- a row that is new in its table waits
 four_waits : mark_of (Some (waiting_on (codes "docs") (pos 4) three_rows)) (pos 4) ≡ Some Pending
-four_waits = get-insert int_cmp_total three_rows.marks (pos 4) Pending (pos 4)
+four_waits = get-insert int_cmp_total (from_sorted three_marks) (pos 4) Pending (pos 4)
 
 another_table : waiting_on (codes "doc") (pos 4) three_rows ≡ three_rows
 another_table = refl
 
--- after a synchronisation each row that waited is marked
-marked_then : (x : Index) (r : ℤ) → get x.marks r ≡ Some Pending → mark_of (Some (synced_index x)) r ≡ Some Marked
-marked_then x r waits = get-each_value int_cmp_total (λ (m : Mark). Marked) x.marks r ∙ ap (option_map (λ (m : Mark). Marked)) waits
+-- what is lost of a settled row, and of one that waits
+a_lost_mark : wasted (Some (Settled tt)) 128 (record two_given { tidiness = Packed }) ≡ record { given = 2; tidiness = Untidy; waste = 192 }
+a_lost_mark = refl
+
+one_that_waited : wasted (Some Pending) 128 (record two_given { tidiness = Packed }) ≡ two_given
+one_that_waited = refl
+
+three_more : made 3 two_given ≡ record { given = 5; tidiness = Untidy; waste = 64 }
+three_more = refl
+
+none_more : made 0 two_given ≡ two_given
+none_more = refl
 
 -- both ends of a range belong to it
 abbrev some_range : KeyRange

@@ -2,6 +2,8 @@ pub mod Postings
 pub mod Indexes
 pub mod Rules
 pub mod Spelling
+pub mod Documents
+pub mod Standing
 pub mod Stands
 pub mod Sees
 pub mod Changes
@@ -12,4 +14,9 @@ pub mod Room
 pub mod Shapes
 pub mod Faults
 pub mod Promises
+pub mod RowSteps
+pub mod RowPromises
+pub mod Drops
+pub mod Removing
+pub mod DropPromises
 pub mod laws

@@ -15,9 +15,10 @@ use Rattle.tb_table.specs.Tables.{Table, Tables, with_table, with_row}
 use Rattle.tb_table.specs.Rules.{AreTables}
 use Rattle.ix_context.specs.declared.ranges.KeyRange.{KeyRange}
 use Rattle.ix_context.specs.Postings.{word_score}
-use Rattle.ix_context.specs.Indexes.{Index, Marked, pending_rows, text_seen, found, noted, noted_on, synced, in_range, rows_in, with_index}
+use Rattle.ix_context.specs.Indexes.{Index, given, marks_in, pending_rows, text_seen, found, noted, noted_on, synced, in_range, rows_in, with_index}
 use Rattle.ix_context.specs.Rules.{IsTarget, AreIndexes, most_given}
-use Rattle.ix_context.specs.Spelling.{IndexesStand}
+use Rattle.ix_docmap.specs.Marks.{Settled}
+use Rattle.ix_context.specs.Standing.{IndexesStand}
 use Rattle.ix_context.specs.Changes.{note_insert_changes, sync_changes, create_changes}
 
 -- ---- the entries that statements leave spell the indexes that they make
@@ -38,14 +39,14 @@ IndexesStayWithRows =
 abbrev pub NotedRowsStand : Type 0
 NotedRowsStand =
     (f : Key → Option (List ℕ)) (ts : Tables) (xs : Names Index) (i : List ℕ) (x : Index) (r : ℤ)
-    → get xs i ≡ Some x → get x.marks r ≡ None → IsRow r → IndexesStand f ts xs
+    → get xs i ≡ Some x → get (marks_in x.body) r ≡ None → IsRow r → IndexesStand f ts xs
     → IndexesStand (view (note_insert_changes i r) f) ts (noted xs i r)
 
 -- after a synchronisation that has numbers for the rows that wait
 abbrev pub SyncedIndexesStand : Type 0
 SyncedIndexesStand =
     (f : Key → Option (List ℕ)) (ts : Tables) (xs : Names Index) (i : List ℕ) (x : Index)
-    → get xs i ≡ Some x → x.given + length (pending_rows x) ≤ most_given → AreTables ts → AreIndexes ts xs → IndexesStand f ts xs
+    → get xs i ≡ Some x → given x + length (pending_rows x) ≤ most_given → AreTables ts → AreIndexes ts xs → IndexesStand f ts xs
     → IndexesStand (view (sync_changes ts i x) f) ts (synced xs i)
 
 -- after CREATE INDEX of a name that is free, where there are numbers for the rows
@@ -76,7 +77,7 @@ pub record AreIndexesOn (xs : Names Index) (t : List ℕ) (names : List (List �
 abbrev pub NotesOfRowsStand : Type 0
 NotesOfRowsStand =
     (f : Key → Option (List ℕ)) (ts : Tables) (xs : Names Index) (t : List ℕ) (r : ℤ) (names : List (List ℕ))
-    → AreIndexesOn xs t names → ((i : List ℕ) (x : Index) → get xs i ≡ Some x → x.table ≡ t → get x.marks r ≡ None) → IsRow r → IndexesStand f ts xs
+    → AreIndexesOn xs t names → ((i : List ℕ) (x : Index) → get xs i ≡ Some x → x.table ≡ t → get (marks_in x.body) r ≡ None) → IsRow r → IndexesStand f ts xs
     → IndexesStand (view (each (λ i. note_insert_changes i r) names) f) ts (noted_on xs t r)
 
 -- ---- statements keep the rules of indexes
@@ -96,7 +97,7 @@ NewRowsKeepIndexRules =
 abbrev pub SyncsKeepIndexRules : Type 0
 SyncsKeepIndexRules =
     (ts : Tables) (xs : Names Index) (i : List ℕ) (x : Index)
-    → get xs i ≡ Some x → x.given + length (pending_rows x) ≤ most_given → AreIndexes ts xs → AreIndexes ts (synced xs i)
+    → get xs i ≡ Some x → given x + length (pending_rows x) ≤ most_given → AreIndexes ts xs → AreIndexes ts (synced xs i)
 
 -- the range has every row key
 abbrev pub HasAllRows : KeyRange → Type 0
@@ -117,7 +118,7 @@ CreatesKeepIndexRules =
 
 -- The row is marked, the index sees a text of it, and the word has this score on the text, which is above n.
 pub record IsFound (ts : Tables) (x : Index) (key : List ℕ) (n : ℕ) (r : ℤ) (score : ℕ) : Type 0 where
-  pub marked : get x.marks r ≡ Some Marked
+  pub marked : get (marks_in x.body) r ≡ Some (Settled tt)
   pub text : List ℕ
   pub seen : text_seen ts x r ≡ Some text
   pub scores : score ≡ word_score key text

@@ -1,15 +1,24 @@
 -- How much room indexes take at most: what their entries weigh, with the rows of postings as if each document had an entry of its own for each word.
-use Rattle.std.specs.Prelude.{ℕ, ℤ, ◌+◌, ◌-◌, ◌^◌, max, sum_by, List, [], ◌∷◌, length, Option, Some, None, pos, ◌≡◌, replicate, codes, refl}
+use Rattle.std.specs.Prelude.{ℕ, ℤ, ◌+◌, ◌-◌, max, sum_by, List, [], ◌∷◌, length, Option, Some, pos, ◌≡◌, codes, refl}
 use Rattle.std.specs.Int.{to_be_bytes, w32}
 use Rattle.std.specs.FinMap.{entries, from_sorted, entries-from_sorted}
 use Rattle.ct_bytes.specs.RowKeys.{row_bytes}
 use Rattle.ct_entry.specs.declared.kinds.Kind.TheVariants as kind
-use Rattle.ct_entry.specs.Keys.{key, bytes, row_part, document_part, posting_part}
+use Rattle.ct_entry.specs.Keys.{key, bytes, row_part, document_part}
 use Rattle.tb_table.specs.Tables.{Tables, docs_alone, row_one, text_of}
 use Rattle.tb_table.specs.Room.{key_weight}
-use Rattle.ix_posting.specs.Rows.{posting_bytes}
-use Rattle.ix_context.specs.Postings.{postings_of, fox_and_quick}
-use Rattle.ix_context.specs.Indexes.{Index, Mark, Pending, Marked, text_seen}
+use Rattle.std.specs.FinMap.{from_entries, empty}
+use Rattle.ct_keep.specs.Laws.{entries_put, entries-insert_empty}
+use Rattle.ct_entry.specs.laws.Maps.{entries-none}
+use Rattle.std.specs.Ordering.{nat_cmp}
+use Rattle.std.specs.Cmp.Lexicographic.{slice_cmp}
+use Rattle.ct_base.specs.declared.numbers.Pair.{Pair}
+use Rattle.ix_rows.specs.Stores.{Untidy}
+use Rattle.ix_rows.specs.WordRows.{last_document, posting_cost}
+use Rattle.ix_rows.specs.SpanRows.{pairs_cost}
+use Rattle.ix_docmap.specs.Marks.{Mark, Pending, Settled}
+use Rattle.ix_context.specs.Indexes.{Index, Part, OfContext, marks_in, part_in}
+use Rattle.ix_context.specs.Documents.{document_cost, spans_cost, postings_in, text_postings, its_terms}
 use Rattle.ix_context.specs.Spelling.{index_entry}
 use Rattle.std.specs.Ordering.{int_cmp}
 use Rattle.std.specs.Option.{option_and_then}
@@ -17,25 +26,12 @@ use Rattle.std.proofs.Common.{ap, ◌∙◌}
 use Rattle.ct_base.specs.declared.lists.Value.{Value}
 use Rattle.ct_bytes.specs.Varints.{varint}
 
--- the greatest number of a document
-abbrev pub last_document : ℕ
-last_document = 2 ^ 32 - 1
-
--- what a document costs: for each of its words the entry that has this posting alone, under the greatest number
-abbrev pub posting_room : List ℕ → List ℕ × List ℕ → ℕ
-posting_room i e =
-    key_weight (key kind.Postings i (posting_part 0 e.0 last_document)) (posting_bytes (record { document = last_document; positions = e.1 } ∷ []))
-
-abbrev pub document_cost : List ℕ → Option (List ℕ) → ℕ
-document_cost i None = 0
-document_cost i (Some text) = sum_by (posting_room i) (entries (postings_of text))
-
-abbrev pub mark_room : Tables → List ℕ → Index → ℤ × Mark → ℕ
+abbrev pub mark_room : Tables → List ℕ → Index → ℤ × Mark (Unit {0}) → ℕ
 mark_room ts i x (r, Pending) = key_weight (key kind.Pending i (row_part r)) []
-mark_room ts i x (r, Marked) =
+mark_room ts i x (r, Settled _) =
     key_weight (key kind.DocumentRows i (document_part last_document)) (row_bytes r)
     + key_weight (key kind.RowDocuments i (row_part r)) (to_be_bytes w32 last_document)
-    + document_cost i (text_seen ts x r)
+    + document_cost i (postings_in ts (Some x) r)
 
 -- the longest place to resume at has a stream, and a token of 255 bytes after its length in two bytes; the entry as it is has two bytes for none
 abbrev pub longest_resume : ℕ
@@ -43,40 +39,38 @@ longest_resume = 258
 
 abbrev pub index_room : Tables → List ℕ × Index → ℕ
 index_room ts e =
-    max 64 (length (bytes (key kind.Indexes e.0 [])) + (length (index_entry e.1) - 2 + longest_resume)) + sum_by (mark_room ts e.0 e.1) (entries e.1.marks)
+    max 64 (length (bytes (key kind.Indexes e.0 [])) + (length (index_entry e.1) - 2 + longest_resume)) + sum_by (mark_room ts e.0 e.1) (entries (marks_in e.1.body)) + (part_in e.1.body).waste
 
 -- computed examples
-
--- the key has 1 + 3 + 1 + 4 + 4 bytes, and the value 1 + 5 + 1 + 1
-a_short_word : posting_room (codes "di") (codes "fox", 2 ∷ []) ≡ 64
-unfolding varint
-a_short_word = refl
-
--- a key of 10 + 60 bytes, and a value of 8
-a_long_word : posting_room (codes "di") (replicate 60 0x61, 1 ∷ []) ≡ 78
-unfolding varint
-a_long_word = refl
 
 a_row_that_waits : (ts : Tables) (x : Index) → mark_room ts (codes "di") x (pos 2, Pending) ≡ 64
 unfolding row_bytes
 a_row_that_waits ts x = refl
 
--- an index on the column 1 of the table `docs`, of which the row 1 is marked and the row 2 waits
-abbrev pub di_marks : List (ℤ × Mark)
-di_marks = (pos 1, Marked) ∷ (pos 2, Pending) ∷ []
+-- an index on the column 1 of the table `docs`, of which the row 1 is settled and the row 2 waits, and that has 64 to waste
+abbrev pub di_marks : List (ℤ × Mark (Unit {0}))
+di_marks = (pos 1, Settled tt) ∷ (pos 2, Pending) ∷ []
 
-abbrev pub di_index : Index
-di_index = record { table = codes "docs"; column = 1; given = 1; marks = from_sorted di_marks }
+abbrev pub di_part : ℕ → Part
+di_part waste = record { given = 1; tidiness = Untidy; waste = waste }
 
-two_words_cost : document_cost (codes "di") (text_seen docs_alone di_index (pos 1)) ≡ 128
+abbrev pub di_index : ℕ → Index
+di_index waste = record { table = codes "docs"; column = 1; body = OfContext (record { part = di_part waste; marks = from_sorted di_marks }) }
+
+abbrev two_terms : List (List ℕ × List ℕ)
+two_terms = (0 ∷ 3 ∷ codes "fox", 2 ∷ []) ∷ (0 ∷ 5 ∷ codes "quick", 1 ∷ 3 ∷ []) ∷ []
+
+two_words_cost : (waste : ℕ) → document_cost (codes "di") (postings_in docs_alone (Some (di_index waste)) (pos 1)) ≡ 128
 unfolding varint
-two_words_cost =
-    ap (λ (o : Option (List Value)). document_cost (codes "di") (option_and_then (λ vs. text_of vs 1) o)) row_one
-    ∙ ap (sum_by (posting_room (codes "di"))) fox_and_quick
+two_words_cost waste =
+    ap (λ (o : Option (List Value)). document_cost (codes "di") (text_postings (option_and_then (λ vs. text_of vs 1) o))) row_one
+    ∙ ap (λ (es : List (List ℕ × List ℕ)). sum_by (posting_cost (codes "di")) (entries (from_entries {R = slice_cmp nat_cmp} es)) + spans_cost (codes "di") (record { words = empty; spans = empty })) its_terms
+    ∙ ap (λ (es : List (List ℕ × List ℕ)). sum_by (posting_cost (codes "di")) es + spans_cost (codes "di") (record { words = empty; spans = empty })) (entries_put _ (0 ∷ 3 ∷ codes "fox") (2 ∷ []) _ (entries-insert_empty (0 ∷ 5 ∷ codes "quick") (1 ∷ 3 ∷ [])))
+    ∙ ap (λ (es : List (List ℕ × List Pair)). 128 + sum_by (pairs_cost (codes "di")) es) (entries-none (slice_cmp nat_cmp))
 
--- 281 of the index itself, 64 of the row that waits, 128 of the pair of row and document, and 128 of the two words
-pub di_room : index_room docs_alone (codes "di", di_index) ≡ 601
+-- 281 of the index itself, 64 of the row that waits, 128 of the pair of row and document, 128 of the two words, and what may be wasted
+pub di_room : (waste : ℕ) → index_room docs_alone (codes "di", di_index waste) ≡ 601 + waste
 unfolding varint row_bytes
-di_room =
-    ap (λ (es : List (ℤ × Mark)). 281 + sum_by (mark_room docs_alone (codes "di") di_index) es) (entries-from_sorted int_cmp di_marks tt)
-    ∙ ap (λ (n : ℕ). 281 + (0 + (128 + n) + 64)) two_words_cost
+di_room waste =
+    ap (λ (es : List (ℤ × Mark (Unit {0}))). 281 + sum_by (mark_room docs_alone (codes "di") (di_index waste)) es + waste) (entries-from_sorted int_cmp di_marks tt)
+    ∙ ap (λ (n : ℕ). 281 + (0 + (128 + n) + 64) + waste) (two_words_cost waste)

@@ -7,7 +7,8 @@ use Rattle.tb_table.specs.declared.columns.Sort.{Sort}
 use Rattle.tb_table.specs.declared.columns.Sort.TheVariants.{Number, Varchar2, Clob}
 use Rattle.tb_table.specs.declared.columns.Column.{Column}
 use Rattle.tb_table.specs.Tables.{Table, Tables, row_at, docs_table, docs_alone, docs_there}
-use Rattle.ix_context.specs.Indexes.{Index}
+use Rattle.ix_rows.specs.Stores.{Untidy}
+use Rattle.ix_context.specs.Indexes.{Index, given, marks_in, part_in}
 
 -- a column of texts
 abbrev pub IsTextSort : Sort → Type 0
@@ -34,8 +35,10 @@ most_given = 2 ^ 32 - 2
 pub record IsIndex (ts : Tables) (x : Index) : Type 0 where
   pub target : IsTarget ts x.table x.column
   -- each row of the table has a mark, and there is no other
-  pub marks : (r : ℤ) → is_some (get x.marks r) ≡ is_some (row_at ts x.table r)
-  pub given : x.given ≤ most_given
+  pub marks : (r : ℤ) → is_some (get (marks_in x.body) r) ≡ is_some (row_at ts x.table r)
+  pub numbers : given x ≤ most_given
+  -- for now none is tidy, since nothing makes it so
+  pub untidy : (part_in x.body).tidiness ≡ Untidy
 
 pub record AreIndexes (ts : Tables) (xs : Names Index) : Type 0 where
   pub names : (i : List ℕ) (x : Index) → get xs i ≡ Some x → IsName i

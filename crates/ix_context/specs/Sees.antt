@@ -8,7 +8,7 @@ use Rattle.ct_entry.specs.Keys.{at, HasKeysOnly}
 use Rattle.ct_entry.specs.Maps.{Names}
 use Rattle.tb_table.specs.Tables.{Tables}
 use Rattle.ix_context.specs.Indexes.{Index}
-use Rattle.ix_context.specs.Spelling.{IndexesStand}
+use Rattle.ix_context.specs.Standing.{IndexesStand}
 use Rattle.ix_context.specs.Limits.{IsWithinLimits}
 use Rattle.ix_context.specs.Stands.{HoldsTables, HoldsIndexes}
 

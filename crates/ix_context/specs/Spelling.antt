@@ -1,21 +1,15 @@
 -- The entries that spell the indexes.
-use Rattle.std.specs.Prelude.{Bool, true, false, ℕ, ℤ, ◌≡◌, ◌+◌, ◌≤◌, ◌<◌, ◌^◌, List, [], ◌∷◌, ◌++◌, Option, Some, None, is_some, length, codes, refl}
+use Rattle.std.specs.Prelude.{Bool, true, false, ℕ, ◌≡◌, ◌+◌, ◌<◌, ◌^◌, List, [], ◌∷◌, ◌++◌, Option, Some, None, length, codes, refl}
 use Rattle.std.specs.Int.{to_be_bytes, w32}
-use Rattle.std.specs.Option.{option_map, option_and_then}
-use Rattle.std.specs.FinMap.{get}
 use Rattle.ct_bytes.specs.Varints.{varint, text_bytes}
-use Rattle.ct_bytes.specs.RowKeys.{row_bytes}
 use Rattle.ct_base.specs.Names.{IsName}
 use Rattle.ct_entry.specs.declared.kinds.Kind.{Kind}
 use Rattle.ct_entry.specs.declared.kinds.Kind.TheVariants as kind
-use Rattle.ct_entry.specs.Keys.{Key, key, prefix_of, row_part, document_part, posting_part, span_part, IsRow, IsDocument, IsToken}
+use Rattle.ct_entry.specs.Keys.{Key, key, prefix_of}
 use Rattle.ct_entry.specs.Changes.{put}
-use Rattle.ct_entry.specs.Maps.{Names}
 use Rattle.tb_table.specs.declared.columns.Target.{Target}
-use Rattle.tb_table.specs.Tables.{Tables}
-use Rattle.ix_posting.specs.Rows.{posting_bytes}
-use Rattle.ix_context.specs.Postings.{positions}
-use Rattle.ix_context.specs.Indexes.{Index, Mark, Pending, Marked, mark_at, is_marked, text_seen}
+use Rattle.ix_rows.specs.WordRows.{word_term}
+use Rattle.ix_context.specs.Indexes.{Index, given}
 
 -- the preferences of an index as its entry has them. For now these are the defaults: no lexer option, no stop key, a group without sections and flags, no sub-index.
 abbrev pub default_bytes : List ℕ
@@ -35,56 +29,15 @@ abbrev pub index_change : List ℕ → Target → ℕ → Key × Option (List �
 index_change i target next = put (key kind.Indexes i []) (index_bytes target.table target.column next)
 
 abbrev pub index_entry : Index → List ℕ
-index_entry x = index_bytes x.table x.column (x.given + 1)
-
--- Which document a marked row of an index has, and which row a document is.
-pub record Numbering : Type 0 where
-  pub document : List ℕ → ℤ → Option ℕ
-  pub row : List ℕ → ℕ → Option ℤ
-
--- The marked rows have numbers, one to one, of those that were given.
-pub record IsNumbering (n : Numbering) (xs : Names Index) : Type 0 where
-  pub marked : (i : List ℕ) (r : ℤ) → is_some (n.document i r) ≡ is_marked (mark_at xs i r)
-  pub there : (i : List ℕ) (r : ℤ) (d : ℕ) → n.document i r ≡ Some d → n.row i d ≡ Some r
-  pub back : (i : List ℕ) (r : ℤ) (d : ℕ) → n.row i d ≡ Some r → n.document i r ≡ Some d
-  pub within : (i : List ℕ) (r : ℤ) (d : ℕ) (x : Index) → get xs i ≡ Some x → n.document i r ≡ Some d → (1 ≤ d) × (d ≤ x.given)
-
--- what a row that waits has in the queue
-abbrev pub queued : Option Mark → Option (List ℕ)
-queued None = None
-queued (Some Pending) = Some []
-queued (Some Marked) = None
-
--- the row of postings of one document that has a key at these positions, if any
-abbrev pub posting_value : ℕ → List ℕ → Option (List ℕ)
-posting_value document [] = None
-posting_value document (p ∷ ps) = Some (posting_bytes (record { document = document; positions = p ∷ ps } ∷ []))
+index_entry x = index_bytes x.table x.column (given x + 1)
 
 -- what follows the index in the keys of a word's rows of postings in the main stream, up to the end of the word
 abbrev pub word_prefix : List ℕ → List ℕ
-word_prefix word = 0 ∷ length word ∷ word
+word_prefix word = word_term 0 word
 
 -- what these keys begin with
 abbrev pub postings_prefix : List ℕ → List ℕ → List ℕ
 postings_prefix i word = prefix_of kind.Postings i ++ word_prefix word
-
--- the text of the row that a document is
-abbrev pub document_text : Numbering → Tables → Names Index → List ℕ → ℕ → Option (List ℕ)
-document_text n ts xs i document = option_and_then (λ x. option_and_then (λ r. text_seen ts x r) (n.row i document)) (get xs i)
-
--- The entries of the kinds Indexes to Spans spell the indexes, with these numbers. For now each row of postings has one document, and only the main stream has any.
-pub record IndexesSpelled (n : Numbering) (f : Key → Option (List ℕ)) (ts : Tables) (xs : Names Index) : Type 0 where
-  pub indexes : (i : List ℕ) → f (key kind.Indexes i []) ≡ option_map index_entry (get xs i)
-  pub rows : (i : List ℕ) (d : ℕ) → IsDocument d → f (key kind.DocumentRows i (document_part d)) ≡ option_map row_bytes (n.row i d)
-  pub documents : (i : List ℕ) (r : ℤ) → IsRow r → f (key kind.RowDocuments i (row_part r)) ≡ option_map (to_be_bytes w32) (n.document i r)
-  pub queue : (i : List ℕ) (r : ℤ) → IsRow r → f (key kind.Pending i (row_part r)) ≡ queued (mark_at xs i r)
-  pub postings : (i token : List ℕ) (d : ℕ) → IsToken token → IsDocument d
-      → f (key kind.Postings i (posting_part 0 token d)) ≡ option_and_then (λ text. posting_value d (positions token text)) (document_text n ts xs i d)
-  pub streams : (i token : List ℕ) (s d : ℕ) → 1 ≤ s → s ≤ 64 → IsToken token → IsDocument d → f (key kind.Postings i (posting_part s token d)) ≡ None
-  pub spans : (i section : List ℕ) (d : ℕ) → IsName section → IsDocument d → f (key kind.Spans i (span_part section d)) ≡ None
-
-abbrev pub IndexesStand : (Key → Option (List ℕ)) → Tables → Names Index → Type 0
-IndexesStand f ts xs = (n : Numbering) × IsNumbering n xs × IndexesSpelled n f ts xs
 
 -- ---- the kinds
 
@@ -117,15 +70,5 @@ an_entry : index_bytes (codes "t") 1 3 ≡ 1 ∷ 1 ∷ 0x74 ∷ 1 ∷ 0 ∷ 0 �
 unfolding varint
 an_entry = refl
 
-in_the_queue : queued (Some Pending) ≡ Some []
-in_the_queue = refl
-
-no_more_in_it : queued (Some Marked) ≡ None
-no_more_in_it = refl
-
-two_positions : posting_value 1 (1 ∷ 3 ∷ []) ≡ Some (1 ∷ 1 ∷ 2 ∷ 1 ∷ 2 ∷ [])
-unfolding varint
-two_positions = refl
-
-no_position : posting_value 1 [] ≡ None
-no_position = refl
+the_foxes : postings_prefix (codes "di") (codes "fox") ≡ 0x24 ∷ 2 ∷ 0x64 ∷ 0x69 ∷ 0 ∷ 3 ∷ codes "fox"
+the_foxes = refl

@@ -11,7 +11,7 @@ use Rattle.tb_table.specs.Tables.{Table, Tables, docs_columns, docs_table}
 use Rattle.tb_table.specs.Spelling.{columns_bytes, TablesStand}
 use Rattle.tb_table.specs.Rules.{AreTables}
 use Rattle.ix_context.specs.Indexes.{Index}
-use Rattle.ix_context.specs.Spelling.{IndexesStand}
+use Rattle.ix_context.specs.Standing.{IndexesStand}
 use Rattle.ix_context.specs.Rules.{AreIndexes}
 
 -- The content spells the tables, which keep their rules.

@@ -1,6 +1,8 @@
 //! What holds of all indexes. Each function here only states laws, which its contract proves.
 
 ghost use Rattle.ix_context.specs.Promises.{IndexesStayWithTables, IndexesStayWithRows, NotedRowsStand, SyncedIndexesStand, CreatedIndexesStand, NotesOfRowsStand, NewTablesKeepIndexRules, NewRowsKeepIndexRules, SyncsKeepIndexRules, CreatesKeepIndexRules, HasAllRows, FoundIsExact, FoundRises};
+ghost use Rattle.ix_context.specs.RowPromises.{IndexStandsWithoutRow, IndexStandsWithChangedRow, IndexesStandWithoutRow, IndexesStandWithChangedRow, IndexesStandWithoutRows, IndexesStandWithChangedRows, LostRowsKeepIndexRules, ChangedRowsKeepIndexRules};
+ghost use Rattle.ix_context.specs.DropPromises.{RemovedIndexesLoseEntries, AllRemovedIndexesLoseEntries, IndexesStandWithoutOne, IndexesStandWithoutTable, DroppedIndexesKeepIndexRules, DroppedTablesKeepIndexRules, UnsettledRowsAreNotFound, LostRowsAreNotFound, ChangedRowsAreNotFound};
 
 use crate::ranges::KeyRange;
 
@@ -33,9 +35,56 @@ pub fn all_in_range()
     ensures { HasAllRows KeyRange.ALL }
 {}
 
-/// What a query finds by scanning: exactly the rows that are marked and of which the index sees a text on which the word has
+/// What a query finds by scanning: exactly the rows that are settled and of which the index sees a text on which the word has
 /// a score above the number, each with that score, in the order of the row keys and none twice.
 pub fn found_is_exact()
     ensures exact { FoundIsExact }
     ensures rising { FoundRises }
+{}
+
+/// Where entries spell an index, its changes of a row that goes or is set make them spell the index after that; and so do those
+/// of each index that the row matters to, of all indexes.
+pub fn row_changes_stand()
+    ensures one_gone { IndexStandsWithoutRow }
+    ensures one_changed { IndexStandsWithChangedRow }
+    ensures gone { IndexesStandWithoutRow }
+    ensures changed { IndexesStandWithChangedRow }
+{}
+
+/// The same of several rows, one after the other, where all documents are read before the first: the rules stay, too.
+pub fn rows_in_turn_stand()
+    ensures gone { IndexesStandWithoutRows }
+    ensures changed { IndexesStandWithChangedRows }
+{}
+
+/// A row that goes or is set keeps the rules of indexes.
+pub fn row_rules_stay()
+    ensures gone { LostRowsKeepIndexRules }
+    ensures changed { ChangedRowsKeepIndexRules }
+{}
+
+/// Where the entries of an index, or of all indexes on a table, are gone, and those of the others are the same, what is left
+/// spells the indexes that are left.
+pub fn drops_stand()
+    ensures index { IndexesStandWithoutOne }
+    ensures table { IndexesStandWithoutTable }
+{}
+
+/// The removal of an index takes away all its entries, and no other index's; and so do those of several, one after the other.
+pub fn removals_lose()
+    ensures one { RemovedIndexesLoseEntries }
+    ensures all { AllRemovedIndexesLoseEntries }
+{}
+
+/// Indexes and tables that go keep the rules of those that are left.
+pub fn drop_rules_stay()
+    ensures index { DroppedIndexesKeepIndexRules }
+    ensures table { DroppedTablesKeepIndexRules }
+{}
+
+/// No query finds a row that isn't settled: one that went, or one that was set, until the next synchronisation.
+pub fn unsettled_not_found()
+    ensures unsettled { UnsettledRowsAreNotFound }
+    ensures gone { LostRowsAreNotFound }
+    ensures changed { ChangedRowsAreNotFound }
 {}

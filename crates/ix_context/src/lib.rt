@@ -1,4 +1,4 @@
-//! Text indexes: which rows are marked, and what queries find.
+//! Text indexes: which rows are settled, and what queries find.
 #![tactic(auto)]
 
 mod creating;
@@ -11,6 +11,7 @@ mod marking;
 mod noting;
 mod occurrences;
 mod ranges;
+mod removing;
 mod scores;
 mod searching;
 mod shapes;
@@ -23,8 +24,9 @@ pub use faults::ContextFault;
 pub use hits::Hit;
 pub use inverting::postings;
 pub use laws::{all_in_range, changes_stand, notes_stand, rules_stay};
-pub use noting::note_insert;
+pub use noting::{note_delete, note_insert, note_update};
 pub use ranges::KeyRange;
+pub use removing::remove;
 pub use searching::search;
 pub use shapes::is_index_shape;
 pub use syncing::sync;

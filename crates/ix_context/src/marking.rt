@@ -14,10 +14,11 @@ ghost use Rattle.ix_context.specs.Sees.{ToldTables, SeesTables};
 ghost use Rattle.ix_context.specs.Shapes.{HasIndexValue, KeepsShape};
 
 use crate::inverting::postings;
-use ct_base::{Memory, Name, RowKey, Text};
-use ct_bytes::{put_u32, row_key_bytes};
+use ct_base::{DocId, Memory, Name, RowKey, Text};
+use ct_bytes::put_u32;
 use ct_entry::{Kind, put_entry};
 use ct_keep::{Batch, KeepFault, Keeper};
+use ix_docmap::mark;
 use ix_posting::{Positions, Row, RowDocument};
 use std::alloc::Global;
 use tb_table::{Target, text_of};
@@ -128,26 +129,7 @@ pub(crate) fn mark_row(
 {
     // Read so that the proof knows that it is a name.
     let _named = index.as_str();
-    let row_part = row_key_bytes(row);
-    let document_part = document.to_be_bytes();
-    let row_value = Vec::from_slice(alloc, &row_part)?;
-    let document_value = Vec::from_slice(alloc, &document_part)?;
-    put_entry(
-        alloc,
-        batch,
-        Kind::DocumentRows,
-        index,
-        &document_part,
-        row_value,
-    )?;
-    put_entry(
-        alloc,
-        batch,
-        Kind::RowDocuments,
-        index,
-        &row_part,
-        document_value,
-    )?;
+    mark(alloc, batch, index, row, DocId(document))?;
     put_text(alloc, batch, index, document, text)
 }
 

@@ -2,7 +2,6 @@
 #![tactic(auto, using(ct_keep::specs::Composing::reads_on, ct_keep::specs::Composing::reads_short))]
 
 ghost use Rattle.std.specs.Prelude.{◌≡◌, ◌<◌, IfOk, OnOk, Some, Err, map, MatchOption};
-ghost use Rattle.std.specs.Option.{option_map};
 ghost use Rattle.ct_keep.specs.KeeperViews.{Finds, OnlyReads, Told};
 ghost use Rattle.ct_keep.specs.Looks.{no_looks, scan_looks, LooksAtMost};
 ghost use Rattle.ct_entry.specs.Keys.{at, IsToken};
@@ -10,36 +9,18 @@ ghost use Rattle.ct_entry.specs.declared.kinds.Kind.TheVariants as kind;
 ghost use Rattle.ix_posting.specs.declared.rows.RowDocument.{RowDocument};
 ghost use Rattle.ix_context.specs.Indexes.{found};
 ghost use Rattle.ix_context.specs.Spelling.{word_prefix, postings_prefix};
-ghost use Rattle.ix_context.specs.Scoring.{document_row, with_documents, hit_rows, ScoresRow, AreScores};
+ghost use Rattle.ix_context.specs.Scoring.{with_documents, hit_rows, ScoresRow, AreScores};
 ghost use Rattle.ix_context.specs.Sees.{SeesWithinLimits};
 
 use crate::hits::Hit;
 use crate::scores::Scores;
-use ct_base::{Memory, Name, RowKey};
-use ct_entry::{Kind, entries_of, fetch_entry, row_in};
+use ct_base::{DocId, Memory, Name};
+use ct_entry::{Kind, entries_of};
 use ct_keep::{KeepFault, Keeper};
+use ix_docmap::row_of;
 use ix_posting::{Row, RowDocument, RowFault};
 use std::alloc::Global;
 use tx_chars::Key;
-
-/// The row of a document of an index; None where it has none.
-fn row_of_document<K: Keeper>(
-    alloc: Global,
-    keeper: &mut K,
-    index: &Name,
-    document: u32,
-) -> Result<Option<RowKey>, KeepFault>
-    requires { (K.view keeper.old).ready }
-    ensures row { Finds K.view keeper.old result (λ m row. option_map (λ r. r.0) row ≡ document_row (at m) index.now document) }
-    ensures reads { OnlyReads K.view keeper.old keeper.new result }
-    ensures at_most { LooksAtMost K.view keeper.old keeper.new no_looks }
-{
-    let part = document.to_be_bytes();
-    let Some(value) = fetch_entry(alloc, keeper, Kind::DocumentRows, index, &part)? else {
-        return Ok(None);
-    };
-    Ok(row_in(&value))
-}
 
 /// Scores the row of each document that has one.
 fn score_documents<K: Keeper>(
@@ -55,7 +36,7 @@ fn score_documents<K: Keeper>(
     ensures at_most { LooksAtMost K.view keeper.old keeper.new no_looks }
 {
     for found in documents {
-        if let Some(row) = row_of_document(alloc, keeper, index, found.document)? {
+        if let Some(row) = row_of(alloc, keeper, index, DocId(found.document))? {
             let score = found.positions.as_slice().len().min(100) as u32;
             scores.put(row, score)?;
         }

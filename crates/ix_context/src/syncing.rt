@@ -4,7 +4,7 @@
 ghost use Rattle.std.specs.Prelude.{◌≡◌, ◌+◌, ◌≤◌, ◌<◌, ◌^◌, IfOk, IfSome, OnOk, OnErr, Some, Err, length};
 ghost use Rattle.ct_keep.specs.KeeperViews.{OnlyReads, Reads};
 ghost use Rattle.ct_entry.specs.Shapes.{AreShaped};
-ghost use Rattle.ix_context.specs.Indexes.{pending_rows};
+ghost use Rattle.ix_context.specs.Indexes.{given, pending_rows};
 ghost use Rattle.ix_context.specs.Changes.{sync_changes, Adds, settle_row_changes, settle_rows_changes, AreSettleChanges, AreSyncChanges};
 ghost use Rattle.ix_context.specs.Faults.{context_fault_of};
 ghost use Rattle.ix_context.specs.Rules.{most_given};
@@ -15,9 +15,8 @@ use crate::entries::{put_index, read_index};
 use crate::faults::{ContextFault, fault_of_reads};
 use crate::marking::{mark_next, number_after};
 use ct_base::{Name, RowKey};
-use ct_bytes::row_key_bytes;
-use ct_entry::{Kind, remove_entry, row_keys};
 use ct_keep::{Batch, KeepFault, Keeper};
+use ix_docmap::{pending, unqueue};
 use std::alloc::Global;
 use tb_table::Target;
 
@@ -37,8 +36,7 @@ fn settle_row<K: Keeper>(
     ensures shaped { KeepsShape changes.old changes.new result }
     ensures reads { OnlyReads K.view keeper.old keeper.new result }
 {
-    let part = row_key_bytes(row);
-    remove_entry(alloc, changes, Kind::Pending, index, &part)?;
+    unqueue(alloc, changes, index, row)?;
     mark_next(alloc, keeper, changes, index, target, document, row)
 }
 
@@ -110,7 +108,7 @@ fn changes_of_sync<K: Keeper>(
     let Some((target, next)) = read_index(alloc, keeper, index)? else {
         return Ok(Some(Batch::new(alloc)));
     };
-    let rows = row_keys(alloc, keeper, Kind::Pending, index)?;
+    let rows = pending(alloc, keeper, index)?;
     settled_changes(alloc, keeper, index, &target, next.max(1), &rows)
 }
 
@@ -128,8 +126,8 @@ pub fn sync<K: Keeper>(
 ) -> Result<(), ContextFault>
     requires { (K.view keeper.old).ready }
     ensures changes { ToldIndex K.view keeper.old index.now (λ ts x. Adds batch.old batch.new result (sync_changes ts index.now x)) }
-    ensures room { ToldIndex K.view keeper.old index.now (λ ts x. OnOk result (x.given + length (pending_rows x) ≤ most_given)) }
-    ensures many { ToldIndex K.view keeper.old index.now (λ ts x. result ≡ Err ContextFault.TooMany → most_given < x.given + length (pending_rows x)) }
+    ensures room { ToldIndex K.view keeper.old index.now (λ ts x. OnOk result (given x + length (pending_rows x) ≤ most_given)) }
+    ensures many { ToldIndex K.view keeper.old index.now (λ ts x. result ≡ Err ContextFault.TooMany → most_given < given x + length (pending_rows x)) }
     ensures err { OnErr result (batch.new ≡ batch.old) }
     ensures shaped { AreShaped HasIndexValue batch.old → AreShaped HasIndexValue batch.new }
     ensures reads { Reads (K.view keeper.old) (K.view keeper.new) (context_fault_of result) }

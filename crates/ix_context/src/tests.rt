@@ -5,7 +5,9 @@ ghost use Rattle.ct_keep.specs.SeenChanges.{change_of};
 ghost use Rattle.ct_keep.specs.Changes.{AnyEntry, AreWell};
 ghost use Rattle.tb_table.specs.Shapes.{HaveShortTexts};
 
-use crate::{Hit, KeyRange, create, is_index_shape, note_insert, search, sync};
+use crate::{
+    Hit, KeyRange, create, is_index_shape, note_delete, note_insert, note_update, search, sync,
+};
 use ct_base::{Memory, Name, RowKey, Text};
 use ct_entry::Kind;
 use ct_keep::{Batch, Change, Keeper, MemKeeper};
@@ -90,6 +92,33 @@ fn add_note(alloc: Global, keeper: &mut MemKeeper, index: &Name, row: i64) -> Re
     commit(alloc, keeper, batch)
 }
 
+/// Lets a row go from the index, and counts the changes that this took.
+fn lose(alloc: Global, keeper: &mut MemKeeper, index: &Name, row: i64) -> Result<usize, Fail> {
+    let mut batch = Batch::new(alloc);
+    note_delete(alloc, keeper, &mut batch, index, RowKey(row))?;
+    let count = batch.changes().len();
+    commit(alloc, keeper, batch)?;
+    Ok(count)
+}
+
+/// Gives a row another text, and counts the changes of the index that this took.
+fn rewrite(
+    alloc: Global,
+    keeper: &mut MemKeeper,
+    index: &Name,
+    row: i64,
+    text: &str,
+) -> Result<usize, Fail>
+    requires { length text.now ≤ 100 }
+{
+    add_row(alloc, keeper, row, text)?;
+    let mut batch = Batch::new(alloc);
+    note_update(alloc, keeper, &mut batch, index, RowKey(row))?;
+    let count = batch.changes().len();
+    commit(alloc, keeper, batch)?;
+    Ok(count)
+}
+
 /// Synchronises an index, and counts the changes that this took.
 fn settle(alloc: Global, keeper: &mut MemKeeper, index: &Name) -> Result<usize, Fail> {
     let mut batch = Batch::new(alloc);
@@ -148,6 +177,43 @@ fn found_later(alloc: Global, word: &str, times: u32) -> Result<(String, usize),
     Ok((line, count))
 }
 
+/// The rows 7 and -12 of that table are documents of an index, and the row 3 waits.
+fn indexed_and_waiting(alloc: Global, index: &Name) -> Result<MemKeeper, Fail> {
+    let mut keeper = indexed(alloc, index, KeyRange::ALL)?;
+    add_row(alloc, &mut keeper, 3, "quick")?;
+    add_note(alloc, &mut keeper, index, 3)?;
+    Ok(keeper)
+}
+
+/// How many changes it takes that a row goes, what a word finds then, and what it finds after a synchronisation.
+fn found_without(alloc: Global, row: i64, word: &str) -> Result<(usize, String, String), Fail> {
+    let index = named(alloc, "di")?;
+    let mut keeper = indexed_and_waiting(alloc, &index)?;
+    let count = lose(alloc, &mut keeper, &index, row)?;
+    let before = found(alloc, &mut keeper, &index, word)?;
+    settle(alloc, &mut keeper, &index)?;
+    let after = found(alloc, &mut keeper, &index, word)?;
+    Ok((count, before, after))
+}
+
+/// The same where a row gets another text.
+fn found_rewritten(
+    alloc: Global,
+    row: i64,
+    text: &str,
+    word: &str,
+) -> Result<(usize, String, String), Fail>
+    requires { length text.now ≤ 100 }
+{
+    let index = named(alloc, "di")?;
+    let mut keeper = indexed_and_waiting(alloc, &index)?;
+    let count = rewrite(alloc, &mut keeper, &index, row, text)?;
+    let before = found(alloc, &mut keeper, &index, word)?;
+    settle(alloc, &mut keeper, &index)?;
+    let after = found(alloc, &mut keeper, &index, word)?;
+    Ok((count, before, after))
+}
+
 #[test]
 fn rows_are_documents_of_a_new_index(rt: HostRuntime) -> Result<(), Fail> {
     let foxes = found_at_once(rt.alloc(), KeyRange::ALL, "Fox")?;
@@ -187,6 +253,52 @@ fn a_synchronisation_takes_it_out_of_the_queue(rt: HostRuntime) -> Result<(), Fa
 fn a_second_one_finds_nothing_to_do(rt: HostRuntime) -> Result<(), Fail> {
     let (line, count) = found_later(rt.alloc(), "quick", 2)?;
     assert_eq!(&rt; line.as_str(), "3:1 7:2 ");
+    assert_eq!(&rt; count, 0);
+    Ok(())
+}
+
+#[test]
+fn a_document_goes(rt: HostRuntime) -> Result<(), Fail> {
+    let (count, before, after) = found_without(rt.alloc(), 7, "quick")?;
+    assert_eq!(&rt; before.as_str(), "");
+    assert_eq!(&rt; after.as_str(), "3:1 ");
+    // its document, and its row
+    assert_eq!(&rt; count, 2);
+    Ok(())
+}
+
+#[test]
+fn a_row_that_waits_goes(rt: HostRuntime) -> Result<(), Fail> {
+    let (count, before, after) = found_without(rt.alloc(), 3, "quick")?;
+    assert_eq!(&rt; before.as_str(), "7:2 ");
+    assert_eq!(&rt; after.as_str(), "7:2 ");
+    assert_eq!(&rt; count, 1);
+    Ok(())
+}
+
+#[test]
+fn a_document_gets_another_text(rt: HostRuntime) -> Result<(), Fail> {
+    let (count, before, after) = found_rewritten(rt.alloc(), 7, "slow quick cat", "slow")?;
+    assert_eq!(&rt; before.as_str(), "-12:1 ");
+    assert_eq!(&rt; after.as_str(), "-12:1 7:1 ");
+    // its document, its row, and the queue
+    assert_eq!(&rt; count, 3);
+    Ok(())
+}
+
+#[test]
+fn its_old_text_is_found_no_more(rt: HostRuntime) -> Result<(), Fail> {
+    let (_, before, after) = found_rewritten(rt.alloc(), 7, "slow quick cat", "fox")?;
+    assert_eq!(&rt; before.as_str(), "-12:1 ");
+    assert_eq!(&rt; after.as_str(), "-12:1 ");
+    Ok(())
+}
+
+#[test]
+fn a_row_that_waits_gets_another_text(rt: HostRuntime) -> Result<(), Fail> {
+    let (count, before, after) = found_rewritten(rt.alloc(), 3, "slow fox", "fox")?;
+    assert_eq!(&rt; before.as_str(), "-12:1 7:1 ");
+    assert_eq!(&rt; after.as_str(), "-12:1 3:1 7:1 ");
     assert_eq!(&rt; count, 0);
     Ok(())
 }

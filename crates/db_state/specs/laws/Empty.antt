@@ -7,13 +7,15 @@ use Rattle.std.specs.Cmp.Lexicographic.{slice_cmp}
 use Rattle.std.specs.FinMap.{get, empty, entries, get-empty, len-entries, len-empty}
 use Rattle.ct_keep.specs.Content.{Content}
 use Rattle.ct_entry.specs.declared.kinds.Kind.TheVariants as kind
-use Rattle.ct_entry.specs.Keys.{Key, key, bytes, at, same_list, row_part, text_part, document_part, posting_part, span_part}
+use Rattle.ct_entry.specs.Keys.{Key, key, bytes, at, same_list, row_part, text_part}
 use Rattle.ct_entry.specs.Maps.{Names}
 use Rattle.tb_table.specs.Tables.{Table, Tables}
 use Rattle.tb_table.specs.Spelling.{TablesStand}
 use Rattle.tb_table.specs.Rules.{AreTables}
 use Rattle.ix_context.specs.Indexes.{Index}
-use Rattle.ix_context.specs.Spelling.{Numbering, IsNumbering, IndexesSpelled}
+use Rattle.ix_context.specs.Documents.{postings_in}
+use Rattle.ix_context.specs.Standing.{IndexStands, IndexesStand}
+use Rattle.ix_context.specs.laws.Syncs.{part_empty}
 use Rattle.ix_context.specs.Rules.{AreIndexes}
 use Rattle.db_state.specs.States.{empty_state, Stands}
 
@@ -53,29 +55,11 @@ tables_stand = record {
   texts = λ t c r below is. no_key (key kind.RowTexts t (text_part c r)) ∙ rw (not_there {X = Table} t) refl;
 }
 
-no_numbers : Numbering
-no_numbers = record { document = λ i r. None; row = λ i d. None }
-
-are_numbers : IsNumbering no_numbers no_indexes
-unfolding no_numbers
-are_numbers = record {
-  marked = λ i r. rw (not_there {X = Index} i) refl;
-  there = λ i r d is. absurd (cc);
-  back = λ i r d is. absurd (cc);
-  within = λ i r d x there is. absurd (cc);
-}
-
-indexes_spelled : IndexesSpelled no_numbers (at no_content) no_tables no_indexes
-unfolding no_numbers
-indexes_spelled = record {
-  indexes = λ i. no_key (key kind.Indexes i []) ∙ rw (not_there {X = Index} i) refl;
-  rows = λ i d is. no_key (key kind.DocumentRows i (document_part d));
-  documents = λ i r is. no_key (key kind.RowDocuments i (row_part r));
-  queue = λ i r is. no_key (key kind.Pending i (row_part r)) ∙ rw (not_there {X = Index} i) refl;
-  postings = λ i token d some is. no_key (key kind.Postings i (posting_part 0 token d)) ∙ rw (not_there {X = Index} i) refl;
-  streams = λ i token s d least most some is. no_key (key kind.Postings i (posting_part s token d));
-  spans = λ i section d name is. no_key (key kind.Spans i (span_part section d));
-}
+indexes_stand : IndexesStand (at no_content) no_tables no_indexes
+indexes_stand i = subst (IndexStands (at no_content) no_tables i) (sym (not_there {X = Index} i)) (record {
+  entry = no_key (key kind.Indexes i []);
+  context = part_empty (at no_content) i (postings_in no_tables None) (λ k owner. no_key k);
+})
 
 are_tables : AreTables no_tables
 are_tables = record {
@@ -96,7 +80,8 @@ empty_stands = record {
   only = λ b some. absurd (false≢true (subst (λ (o : Option (List ℕ)). IsSome o) (not_there b) some));
   unbuilt = λ k h. not_there (bytes k);
   tables = tables_stand;
-  indexes = (no_numbers, are_numbers, indexes_spelled);
+  indexes = indexes_stand;
+  short_rows = λ k v h has. let wrong : None ≡ Some v = sym (no_key k) ∙ has in absurd cc;
   state = record {
     tables = are_tables;
     indexes = are_indexes;

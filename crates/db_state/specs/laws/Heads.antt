@@ -12,10 +12,11 @@ use Rattle.ct_entry.specs.Maps.{Names, each_value}
 use Rattle.ct_entry.specs.laws.Maps.{get-each_value}
 use Rattle.tb_table.specs.Tables.{Tables}
 use Rattle.tb_table.specs.Rules.{AreTables}
-use Rattle.ix_context.specs.Indexes.{Index}
+use Rattle.ix_context.specs.Indexes.{Index, given}
 use Rattle.ix_context.specs.Rules.{AreIndexes, IsTarget}
 use Rattle.ix_context.specs.laws.Reading.{column_few}
-use Rattle.ix_context.specs.Spelling.{IndexesStand, default_bytes, index_entry}
+use Rattle.ix_context.specs.Standing.{IndexesStand}
+use Rattle.ix_context.specs.Spelling.{default_bytes, index_entry}
 use Rattle.db_names.specs.declared.heads.IndexKind.TheVariants.{Context}
 use Rattle.db_names.specs.declared.heads.IndexHead.{IndexHead}
 use Rattle.db_names.specs.Heads.{IsHead, HasHeadOrNone, HeadsStand}
@@ -47,13 +48,13 @@ is_head ts x are target = record {
 entry_begins : (entry : Option (List ℕ)) (o : Option Index) → entry ≡ option_map index_entry o → HasHeadOrNone entry (option_map head_of_index o)
 entry_begins entry None is = is
 entry_begins entry (Some x) is =
-    let rest = 0 ∷ default_bytes ++ (to_be_bytes w32 (x.given + 1) ++ 0 ∷ 0 ∷ 0 ∷ []) in
+    let rest = 0 ∷ default_bytes ++ (to_be_bytes w32 (given x + 1) ++ 0 ∷ 0 ∷ 0 ∷ []) in
     record { rest = rest; whole = is ∙ ap Some (sym (append_assoc (1 ∷ text_bytes x.table) (x.column ∷ []) rest)) }
 
 -- Where entries spell indexes, they begin with the heads of these.
 pub heads_stand : (f : Key → Option (List ℕ)) (ts : Tables) (xs : Names Index) → AreTables ts → AreIndexes ts xs → IndexesStand f ts xs → HeadsStand f (heads xs)
 heads_stand f ts xs tables are stand = record {
-  heads = λ i. subst (HasHeadOrNone (f (key kind.Indexes i []))) (sym (get-heads xs i)) (entry_begins (f (key kind.Indexes i [])) (get xs i) (stand.2.indexes i));
+  heads = λ i. subst (HasHeadOrNone (f (key kind.Indexes i []))) (sym (get-heads xs i)) (entry_begins (f (key kind.Indexes i [])) (get xs i) (stand i).entry);
   names = λ i h is. let found = head_found xs i h is in are.names i found.0 found.1;
   each = λ i h is. let found = head_found xs i h is in subst IsHead found.2 (is_head ts found.0 tables (are.each i found.0 found.1).target);
 }

@@ -1,17 +1,18 @@
 -- The ways out of the function of a statement: each is proved once, by one of these.
-use Rattle.std.proofs.Common.{◌≡◌, ℕ, true, List, Option, Some, None, Result, Ok, Err, Vec, sym, ap, subst, ◌∙◌, inr, inl}
+use Rattle.std.proofs.Common.{◌≡◌, ℕ, true, List, Option, Some, None, Result, Ok, Err, Vec, sym, ap, subst, ◌∙◌, ◌≤◌, arith, inr, inl}
 use Rattle.std.specs.Result.{IfOk}
 use Rattle.std.specs.declared.alloc.Global.{Global}
 use Rattle.ct_keep.specs.declared.keepers.KeepFault.{KeepFault}
-use Rattle.ct_keep.specs.declared.keepers.KeepFault.TheVariants.{Memory}
+use Rattle.ct_keep.specs.declared.keepers.KeepFault.TheVariants.{Memory, Disk, Full as NoRoom}
 use Rattle.ct_keep.specs.Content.{Content, after}
+use Rattle.ct_keep.specs.Laws.{changes_weight, weight-after_le}
 use Rattle.ct_base.specs.Told.{IsSaid}
-use Rattle.ct_keep.specs.KeeperViews.{AtMostOneCommit, KeeperView, SameButContent, Reads, IsDurable, fault_of, counted, is_full}
+use Rattle.ct_keep.specs.KeeperViews.{AtMostOneCommit, KeeperView, SameButContent, Reads, IsDurable, fault_of, counted, is_full, PassesLimit}
 use Rattle.ct_keep.specs.Composing.{commits_read, kept_then, reads_hold, reads_on, reads_short}
 use Rattle.db_cond.specs.Faults.{Refusal, refusal_line}
 use Rattle.db_state.specs.States.{State, Stands}
 use Rattle.db_state.specs.Effects.{Effect, Refused, Does, state_by, reply_by}
-use Rattle.db_state.specs.Plans.{Gives, Returns, ReturnsBy, Fulfils, IsPlanOf, IsPlan}
+use Rattle.db_state.specs.Plans.{DoneLines, always, Gives, Returns, ReturnsBy, Fulfils, IsPlanOf, IsPlan}
 use Rattle.db_state.specs.declared.plans.Plan.{Plan}
 use Rattle.db_state.specs.declared.plans.Plan.TheVariants.{Done}
 use Rattle.db_state.specs.laws.Giving.{gives_failed, gives_line, gives_then, gives_as, gives_read, reads_fulls}
@@ -24,8 +25,8 @@ IsFault result fault = (x : KeepFault) × (result ≡ Err x) × (x ≡ fault)
 on_fault : (P : Result (Vec ℕ Global) KeepFault → Type 0) (result : Result (Vec ℕ Global) KeepFault) (fault : KeepFault) → IsFault result fault → P (Err fault) → P result
 on_fault P result fault p holds = subst P (sym p.1) (subst (λ (x : KeepFault). P (Err x)) (sym p.2) holds)
 
-module _ (effect : State → Effect) (line : Option (List ℕ)) (old new : KeeperView) where
-  failed_by : (line : Option (List ℕ)) (fault : KeepFault) → IsDurable old → Reads old new (Some fault) → ReturnsBy line old new (Err fault)
+module _ (effect : State → Effect) (line : Option DoneLines) (old new : KeeperView) where
+  failed_by : (line : Option DoneLines) (fault : KeepFault) → IsDurable old → Reads old new (Some fault) → ReturnsBy line old new (Err fault)
   failed_by None fault settled reads = reads
   failed_by (Some done) fault settled reads = returns_failed done old new fault settled reads
 
@@ -46,7 +47,7 @@ module _ (effect : State → Effect) (line : Option (List ℕ)) (old new : Keepe
   pub serves_short : (result : Result (Vec ℕ Global) KeepFault) → Reads old new None → IsFault result Memory → Fulfils effect line old new result
   serves_short result reads p = serves_failed result Memory (reads_short old new reads) p
 
-  refused_by : (line : Option (List ℕ)) (refusal : Refusal) (reply : Vec ℕ Global) → Reads old new None → reply.items ≡ refusal_line refusal → ReturnsBy line old new (Ok reply)
+  refused_by : (line : Option DoneLines) (refusal : Refusal) (reply : Vec ℕ Global) → Reads old new None → reply.items ≡ refusal_line refusal → ReturnsBy line old new (Ok reply)
   refused_by None refusal reply reads says = reads
   refused_by (Some done) refusal reply reads says = inr (record { refusal = refusal; says = says; reads = reads })
 
@@ -80,7 +81,7 @@ settled_then old mid reads settled = record {
       (p.0, subst (λ b. IsSaid b.said said) (sym reads.kept.beside) p.1);
 }
 
-returns_by_then : (line : Option (List ℕ)) (old mid new : KeeperView) (result : Result (Vec ℕ Global) KeepFault) → Reads old mid None → ReturnsBy line mid new result → ReturnsBy line old new result
+returns_by_then : (line : Option DoneLines) (old mid new : KeeperView) (result : Result (Vec ℕ Global) KeepFault) → Reads old mid None → ReturnsBy line mid new result → ReturnsBy line old new result
 returns_by_then None old mid new result reads looks = reads_on old mid new (fault_of result) reads looks
 returns_by_then (Some done) old mid new result reads returns = returns_then done old mid new result reads returns
 
@@ -88,7 +89,7 @@ once_then : (old mid new : KeeperView) → Reads old mid None → AtMostOneCommi
 once_then old mid new reads (inl none) = inl (none ∙ reads.commits)
 once_then old mid new reads (inr one) = inr (one ∙ ap (counted true) reads.commits)
 
-pub serves_then : (effect : State → Effect) (line : Option (List ℕ)) (old mid new : KeeperView) (result : Result (Vec ℕ Global) KeepFault) → Reads old mid None → Fulfils effect line mid new result → Fulfils effect line old new result
+pub serves_then : (effect : State → Effect) (line : Option DoneLines) (old mid new : KeeperView) (result : Result (Vec ℕ Global) KeepFault) → Reads old mid None → Fulfils effect line mid new result → Fulfils effect line old new result
 serves_then effect line old mid new result reads serves = record {
   kept = kept_then old mid new (fault_of result) reads.kept serves.kept;
   fulls = serves.fulls ∙ ap (counted (is_full (fault_of result))) reads.fulls;
@@ -104,7 +105,7 @@ plan_then effect line old mid plan reads fits = record { made = λ m c holds sta
 -- the commit of a batch, by what is promised of it for every state
 pub serves_batch : (effect : State → Effect) (line : List ℕ) (batch : List (List ℕ × Option (List ℕ))) (reply : List ℕ) (old new : KeeperView) (result : Result (Vec ℕ Global) KeepFault) → reply ≡ line → IsPlanOf effect line old (Done batch)
     → SameButContent old new (fault_of result) → new.counts.fulls ≡ counted (is_full (fault_of result)) old.counts.fulls → AtMostOneCommit old.counts new.counts
-    → ((m n : State) (c : Content) → old.content ≡ Some c → Stands (after batch c) n → Gives m (Does n reply) c old new result) → Returns reply old new result → Fulfils effect (Some line) old new result
+    → ((m n : State) (c : Content) → old.content ≡ Some c → Stands (after batch c) n → Gives m (Does n reply) c old new result) → Returns (always reply) old new result → Fulfils effect (Some (always line)) old new result
 serves_batch effect line batch reply old new result same fits kept fulls once gives tells = record {
   kept = kept;
   fulls = fulls;
@@ -112,17 +113,17 @@ serves_batch effect line batch reply old new result same fits kept fulls once gi
   gives = λ settled m c holds stands.
       let made = fits.made m c holds stands in
       gives_as m (effect m) (Does made.0 reply) c old new result (made.1 ∙ ap (Does made.0) (sym same)) (gives m made.0 c holds made.2);
-  tells = λ settled. subst (λ (l : List ℕ). Returns l old new result) same tells;
+  tells = λ settled. subst (λ (l : List ℕ). Returns (always l) old new result) same tells;
 }
 
 -- the same effect and line by other names
-pub serves_as : (effect effect' : State → Effect) (line line' : Option (List ℕ)) (old new : KeeperView) (result : Result (Vec ℕ Global) KeepFault) → ((m : State) → effect' m ≡ effect m) → line' ≡ line → Fulfils effect line old new result → Fulfils effect' line' old new result
+pub serves_as : (effect effect' : State → Effect) (line line' : Option DoneLines) (old new : KeeperView) (result : Result (Vec ℕ Global) KeepFault) → ((m : State) → effect' m ≡ effect m) → line' ≡ line → Fulfils effect line old new result → Fulfils effect' line' old new result
 serves_as effect effect' line line' old new result same is serves = record {
   kept = serves.kept;
   fulls = serves.fulls;
   once = serves.once;
   gives = λ settled m c holds stands. gives_as m (effect' m) (effect m) c old new result (same m) (serves.gives settled m c holds stands);
-  tells = λ settled. subst (λ (l : Option (List ℕ)). ReturnsBy l old new result) (sym is) (serves.tells settled);
+  tells = λ settled. subst (λ (l : Option DoneLines). ReturnsBy l old new result) (sym is) (serves.tells settled);
 }
 
 -- a plan that another call made, of the effect as it is computed in each state
@@ -130,3 +131,26 @@ pub plans_as : (effect : State → Effect) (line : List ℕ) (old : KeeperView) 
     → ((m : State) (c : Content) → old.content ≡ Some c → Stands c m → (e : Effect) × (effect m ≡ e) × IfOk result (IsPlan e line c)) → IfOk result (IsPlanOf effect line old)
 plans_as effect line old (Err fault) of = tt
 plans_as effect line old (Ok plan) of = record { made = λ m c holds stands. let p = of m c holds stands in subst (λ (e : Effect). IsPlan e line c plan) (sym p.1) p.2 }
+
+-- one line is among those that a statement has, the one for this number of rows
+returns_counted : (done : DoneLines) (rows : ℕ) (line : List ℕ) (old new : KeeperView) (result : Result (Vec ℕ Global) KeepFault) → line ≡ done rows → Returns (always line) old new result → Returns done old new result
+returns_counted done rows line old new (Ok reply) is (inl made) = inl (record { rows = rows; says = made.says ∙ is; commits = made.commits })
+returns_counted done rows line old new (Ok reply) is (inr refused) = inr refused
+returns_counted done rows line old new (Err Memory) is stays = stays
+returns_counted done rows line old new (Err NoRoom) is stays = stays
+returns_counted done rows line old new (Err Disk) is commits = commits
+
+pub serves_counted : (effect : State → Effect) (done : DoneLines) (rows : ℕ) (line : List ℕ) (old new : KeeperView) (result : Result (Vec ℕ Global) KeepFault) → line ≡ done rows → Fulfils effect (Some (always line)) old new result → Fulfils effect (Some done) old new result
+serves_counted effect done rows line old new result is serves = record {
+  kept = serves.kept;
+  fulls = serves.fulls;
+  once = serves.once;
+  gives = serves.gives;
+  tells = λ settled. returns_counted done rows line old new result is (serves.tells settled);
+}
+
+-- ---- what only takes entries away
+
+-- it is no heavier, so there is room for it
+pub removal_fits : (limit : ℕ) (batch : List (List ℕ × Option (List ℕ))) (c : Content) → changes_weight batch ≡ 0 → PassesLimit limit c (after batch c) → ⊥
+removal_fits limit batch c light passes = let more = weight-after_le batch c in let heavier = passes.heavier in omega (arith, more, heavier, light)

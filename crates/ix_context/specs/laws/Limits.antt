@@ -29,7 +29,7 @@ within_limits ts x are is = record {
       let row = some_value (row_at ts x.table r) (sym (is.marks r) ∙ has) in
       let kept = row_kept ts x.table r row.0 are row.1 in
       kept.is.keys r row.0 kept.there;
-  given = let l = is.given in omega (arith, l);
+  numbers = let l = is.numbers in omega (arith, l);
   texts = λ r text seen.
       let row = and_then_some (λ vs. text_of vs x.column) (row_at ts x.table r) text seen in
       let kept = row_kept ts x.table r row.0 are row.1 in

@@ -1,13 +1,11 @@
 -- What the entries of indexes are read as: what the indexes have.
-use Rattle.std.proofs.Common.{◌≡◌, ℕ, ℤ, zero, suc, ◌+◌, ◌≤◌, ◌<◌, ◌^◌, List, [], ◌∷◌, ◌++◌, length, take, drop, Option, Some, None, refl, sym, ap, ◌∙◌, arith}
+use Rattle.std.proofs.Common.{◌≡◌, ℕ, ℤ, zero, suc, ◌+◌, ◌<◌, ◌^◌, List, [], ◌∷◌, ◌++◌, length, take, drop, Option, Some, None, refl, sym, ap, ◌∙◌, arith}
 use Rattle.std.specs.Prelude.{is_some}
 use Rattle.std.specs.Option.{option_map, option_and_then}
 use Rattle.std.specs.Int.{to_be_bytes, w32}
 use Rattle.std.specs.FinMap.{get}
 use Rattle.std.proofs.lemmas.Option.{same_Some}
-use Rattle.ct_base.specs.declared.lists.Value.{Value}
 use Rattle.ct_base.specs.laws.Lists.{cons_parts}
-use Rattle.tb_table.specs.laws.Rules.{short_text, all_others}
 use Rattle.ct_bytes.specs.Varints.{text_bytes}
 use Rattle.ct_bytes.specs.laws.Varints.{text_apart}
 use Rattle.ct_bytes.specs.laws.Numbers.{four_bytes_one}
@@ -19,16 +17,15 @@ use Rattle.ct_entry.specs.Listings.{rows_under}
 use Rattle.ct_entry.specs.laws.Rows.{rows_listed}
 use Rattle.tb_table.specs.declared.columns.Column.{Column}
 use Rattle.tb_table.specs.declared.columns.Target.{Target}
-use Rattle.tb_table.specs.Tables.{Tables, row_at, text_of}
-use Rattle.tb_table.specs.Rules.{AreTables, others}
+use Rattle.tb_table.specs.Tables.{Tables}
+use Rattle.tb_table.specs.Rules.{AreTables}
 use Rattle.tb_table.specs.Readings.{SpellsText}
-use Rattle.tb_table.specs.laws.Reading.{text_read, row_of_table}
-use Rattle.ix_context.specs.Indexes.{Index, Mark, mark_of, pending_rows, target_text}
+use Rattle.tb_table.specs.laws.Reading.{text_read}
+use Rattle.ix_docmap.specs.Marks.{Mark, queued}
+use Rattle.ix_context.specs.Indexes.{Index, given, marks_in, mark_of, in_queue, pending_rows, target_text}
 use Rattle.ix_context.specs.Rules.{IsTarget, HasTextAt}
-use Rattle.ix_context.specs.Spelling.{index_bytes, index_entry, after_table, queued, SpellsIndex}
-use Rattle.ix_context.specs.laws.Standing.{stand_at}
-use Rattle.ix_context.specs.laws.Changes.{mark_is_row, pending_rows-where}
-use Rattle.ix_context.specs.Postings.{HasShortText}
+use Rattle.ix_context.specs.Spelling.{index_bytes, index_entry, after_table, SpellsIndex}
+use Rattle.ix_context.specs.laws.Changes.{mark_is_row}
 use Rattle.ix_context.specs.Stands.{HoldsTables, HoldsIndexes}
 
 -- ---- the entry of an index
@@ -59,22 +56,22 @@ target_of x = record { table = x.table; column = x.column }
 
 -- an index is read as its target and its next document
 pub index_read : (m : Content) (ts : Tables) (xs : Names Index) → HoldsIndexes m ts xs → (i : List ℕ) (x : Index) → get xs i ≡ Some x
-    → (found : Option (Target × ℕ)) → SpellsIndex (at m (key kind.Indexes i [])) found → found ≡ Some (target_of x, x.given + 1)
+    → (found : Option (Target × ℕ)) → SpellsIndex (at m (key kind.Indexes i [])) found → found ≡ Some (target_of x, given x + 1)
 index_read m ts xs holds i x is found spelt = go found spelt
   where
     entry : at m (key kind.Indexes i []) ≡ Some (index_entry x)
-    entry = (stand_at (at m) ts xs holds.stand i).entry ∙ ap (option_map index_entry) is
+    entry = (holds.stand i).entry ∙ ap (option_map index_entry) is
 
-    small : x.given + 1 < 2 ^ 32
-    small = let few = (holds.rules.each i x is).given in omega (arith, few)
+    small : given x + 1 < 2 ^ 32
+    small = let few = (holds.rules.each i x is).numbers in omega (arith, few)
 
-    go : (found : Option (Target × ℕ)) → SpellsIndex (at m (key kind.Indexes i [])) found → found ≡ Some (target_of x, x.given + 1)
+    go : (found : Option (Target × ℕ)) → SpellsIndex (at m (key kind.Indexes i [])) found → found ≡ Some (target_of x, given x + 1)
     go None none =
         let target = (holds.rules.each i x is).target in
         let few = column_few ts holds.tables.rules x.table x.column target in
-        absurd (none x.table x.column (x.given + 1) (holds.tables.rules.names x.table target.table target.there) (omega (arith, few)) small entry)
+        absurd (none x.table x.column (given x + 1) (holds.tables.rules.names x.table target.table target.there) (omega (arith, few)) small entry)
     go (Some p) read =
-        let one = index_bytes_one p.0.table x.table p.0.column x.column p.1 (x.given + 1) read.2 small (same_Some _ _ (sym read.3 ∙ entry)) in
+        let one = index_bytes_one p.0.table x.table p.0.column x.column p.1 (given x + 1) read.2 small (same_Some _ _ (sym read.3 ∙ entry)) in
         λ j. Some (record { table = one.0 j; column = one.1 j }, one.2 j)
 
 -- ---- the queue
@@ -83,12 +80,11 @@ index_read m ts xs holds i x is found spelt = go found spelt
 pub pending_read : (m : Content) (ts : Tables) (xs : Names Index) → HoldsIndexes m ts xs → (i : List ℕ) (x : Index) → get xs i ≡ Some x
     → rows_under kind.Pending i m ≡ pending_rows x
 pending_read m ts xs holds i x is =
-    rows_listed (λ (o : Mark). queued (Some o)) m kind.Pending i x.marks holds.tables.only (λ q p. p)
+    rows_listed in_queue m kind.Pending i (marks_in x.body) holds.tables.only (λ q p. p)
     (λ r o e. mark_is_row ts x holds.tables.rules (holds.rules.each i x is) r (ap is_some e))
-    (λ r row. (stand_at (at m) ts xs holds.stand i).marks.stand.queue r row ∙ ap (λ (o : Option Index). queued (mark_of o r)) is ∙ waits (get x.marks r))
-    ∙ sym (pending_rows-where x)
+    (λ r row. (holds.stand i).context.documents.queue r row ∙ ap (λ (o : Option Index). queued (mark_of o r)) is ∙ waits (get (marks_in x.body) r))
   where
-    waits : (o : Option Mark) → queued o ≡ option_and_then (λ (m : Mark). queued (Some m)) o
+    waits : (o : Option (Mark (Unit {0}))) → queued o ≡ option_and_then in_queue o
     waits None = refl
     waits (Some m) = refl
 
@@ -99,25 +95,3 @@ pub target_read : (m : Content) (ts : Tables) → HoldsTables m ts → (target :
     → (found : Option (List ℕ)) → SpellsText (at m (key kind.RowTexts target.table (text_part target.column r))) found
     → found ≡ target_text ts target r
 target_read m ts holds target r few row found spelt = text_read (at m) ts holds.stand holds.rules target.table target.column r few row found spelt
-
--- the texts of rows have at most 4000 bytes
-pub target_short : (ts : Tables) → AreTables ts → (target : Target) (r : ℤ) (text : List ℕ) → target_text ts target r ≡ Some text → length text ≤ 4000
-target_short ts are target r text is = go (row_at ts target.table r) refl is
-  where
-    of_row : (column : ℕ) (vs : List Value) → row_at ts target.table r ≡ Some vs → text_of vs column ≡ Some text → length text ≤ 4000
-    of_row zero vs here e = cc
-    of_row (suc place) vs here e =
-        let row = row_of_table ts target.table r vs here in
-        let table = are.each target.table row.table row.here in
-        short_text (others row.table.columns) vs place text (all_others row.table.columns table.columns.each) (table.rows r vs row.row) e
-
-    go : (o : Option (List Value)) → row_at ts target.table r ≡ o → option_and_then (λ vs. text_of vs target.column) o ≡ Some text → length text ≤ 4000
-    go None here e = cc
-    go (Some vs) here e = of_row target.column vs here e
-
-pub target_has_short : (ts : Tables) → AreTables ts → (target : Target) (r : ℤ) → HasShortText (target_text ts target r)
-target_has_short ts are target r = go (target_text ts target r) refl
-  where
-    go : (o : Option (List ℕ)) → target_text ts target r ≡ o → HasShortText o
-    go None is = tt
-    go (Some text) is = let few = target_short ts are target r text is in omega (arith, few)

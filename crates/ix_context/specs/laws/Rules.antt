@@ -11,7 +11,7 @@ use Rattle.std.proofs.lemmas.Int.{ints}
 use Rattle.std.proofs.lemmas.Bool.{and_from}
 use Rattle.std.proofs.lemmas.Cmp.{nat_list_cmp_total, int_cmp_total}
 use Rattle.std.proofs.lemmas.Map.Lookups.{exact_bytes}
-use Rattle.std.specs.FinMap.{get, insert, empty, same_map}
+use Rattle.std.specs.FinMap.{get, empty, same_map}
 use Rattle.std.proofs.lemmas.Option.{same_Some}
 use Rattle.ct_base.specs.Names.{IsName}
 use Rattle.ct_base.specs.declared.lists.Value.{Value}
@@ -20,7 +20,7 @@ use Rattle.ct_entry.specs.Changes.{view}
 use Rattle.ct_entry.specs.Each.{each, is_among}
 use Rattle.ct_entry.specs.laws.Changes.{view-append}
 use Rattle.ct_entry.specs.laws.Keys.{list_from_same, list_same}
-use Rattle.ct_entry.specs.Maps.{Names}
+use Rattle.ct_entry.specs.Maps.{Rows, Names}
 use Rattle.ct_entry.specs.laws.Maps.{get_name-insert, get_name-alter, get_row-insert, get-each_value}
 use Rattle.ct_base.specs.laws.Options.{option_map_some}
 use Rattle.tb_table.specs.declared.columns.Column.{Column}
@@ -29,12 +29,15 @@ use Rattle.tb_table.specs.Tables.{Table, Tables, row_at, row_keys, with_table, w
 use Rattle.tb_table.specs.Rules.{AreTables}
 use Rattle.tb_table.specs.laws.Changes.{get-with_table, row_at-with_table, row_at-with_row, columns-with_row}
 use Rattle.ix_context.specs.declared.ranges.KeyRange.{KeyRange}
-use Rattle.ix_context.specs.Indexes.{Index, Mark, Pending, Marked, noted, waiting_on, noted_on, synced_index, synced, in_range, rows_in, created, with_index}
+use Rattle.ix_docmap.specs.Marks.{Mark, Pending, Settled}
+use Rattle.ix_context.specs.Indexes.{Index, Part, part_in, marks_in, no_part, noted_index, noted, waiting_on, noted_on, pending_rows, synced_index, synced, in_range, rows_in, created, with_index}
 use Rattle.ix_context.specs.Rules.{IsTarget, HasTextAt, IsIndex, most_given}
-use Rattle.ix_context.specs.Spelling.{IndexesStand}
+use Rattle.ix_context.specs.Standing.{IndexesStand}
 use Rattle.ix_context.specs.Changes.{note_insert_changes}
-use Rattle.ix_context.specs.laws.Marks.{EachRow, each_among}
-use Rattle.ix_context.specs.laws.Changes.{get-alter_other, note_stands, row_listed, row_is_row, marked_row}
+use Rattle.ix_context.specs.laws.Bodies.{marks_in-note_new, part_in-note_new, marks_in-synced, part_in-synced, given-made, untidy-made}
+use Rattle.ix_context.specs.laws.Settling.{EachRow, each_among}
+use Rattle.ix_context.specs.laws.Syncs.{settled_row}
+use Rattle.ix_context.specs.laws.Changes.{get-alter_other, note_stands, row_listed, row_is_row}
 use Rattle.ix_context.specs.Promises.{NewTablesKeepIndexRules, NewRowsKeepIndexRules, SyncsKeepIndexRules, HasAllRows, CreatesKeepIndexRules, AreDistinct, is_on, AreIndexesOn, NotesOfRowsStand}
 
 -- ---- a new table
@@ -46,7 +49,8 @@ index_with_table : (ts : Tables) (t : List ℕ) (columns : List Column) (x : Ind
 index_with_table ts t columns x free is = record {
   target = record { table = is.target.table; there = get-with_table ts t columns x.table ∙ here (same_list x.table t) refl; texts = is.target.texts };
   marks = λ r. is.marks r ∙ ap is_some (sym (row_at-with_table ts t columns free x.table r));
-  given = is.given;
+  numbers = is.numbers;
+  untidy = is.untidy;
 }
   where
     here : (b : Bool) → same_list x.table t ≡ b → cond b (Some (record { columns = columns; rows = empty })) (get ts x.table) ≡ Some is.target.table
@@ -63,14 +67,12 @@ table_keeps ts xs t columns free are = record {
 -- ---- a new row
 
 -- the table and column of an index that a row waits in
-waiting_alike : (t : List ℕ) (r : ℤ) (x : Index)
-    → (x.table ≡ (waiting_on t r x).table) × (x.column ≡ (waiting_on t r x).column) × (x.given ≡ (waiting_on t r x).given)
+waiting_alike : (t : List ℕ) (r : ℤ) (x : Index) → (x.table ≡ (waiting_on t r x).table) × (x.column ≡ (waiting_on t r x).column)
 waiting_alike t r x = go (same_list x.table t)
   where
-    go : (b : Bool)
-        → (x.table ≡ (cond b (record x { marks = insert x.marks r Pending }) x).table) × (x.column ≡ (cond b (record x { marks = insert x.marks r Pending }) x).column) × (x.given ≡ (cond b (record x { marks = insert x.marks r Pending }) x).given)
-    go true = (refl, refl, refl)
-    go false = (refl, refl, refl)
+    go : (b : Bool) → (x.table ≡ (cond b (noted_index r x) x).table) × (x.column ≡ (cond b (noted_index r x) x).column)
+    go true = (refl, refl)
+    go false = (refl, refl)
 
 target_with_row : (ts : Tables) (t : List ℕ) (r : ℤ) (vs : List Value) (x : Table) → get ts t ≡ Some x → (q : List ℕ) (column : ℕ)
     → IsTarget ts q column → IsTarget (with_row ts t r vs) q column
@@ -83,22 +85,24 @@ index_with_row : (ts : Tables) (t : List ℕ) (r : ℤ) (vs : List Value) (x : T
     → IsIndex (with_row ts t r vs) (waiting_on t r y)
 index_with_row ts t r vs x is y index = go (same_list y.table t) refl
   where
-    at_row : (s : ℤ) (b : Bool) → is_some (cond b (Some Pending) (get y.marks s)) ≡ is_some (cond b (Some vs) (row_at ts y.table s))
+    at_row : (s : ℤ) (b : Bool) → is_some (cond b (Some Pending) (get (marks_in y.body) s)) ≡ is_some (cond b (Some vs) (row_at ts y.table s))
     at_row s true = refl
     at_row s false = index.marks s
 
-    go : (b : Bool) → same_list y.table t ≡ b → IsIndex (with_row ts t r vs) (cond b (record y { marks = insert y.marks r Pending }) y)
+    go : (b : Bool) → same_list y.table t ≡ b → IsIndex (with_row ts t r vs) (cond b (noted_index r y) y)
     go true one = record {
       target = target_with_row ts t r vs x is y.table y.column index.target;
       marks = λ s.
-          ap is_some (get_row-insert y.marks r Pending s) ∙ at_row s (int_eq s r)
+          ap (λ (ms : Rows (Mark (Unit {0}))). is_some (get ms s)) (marks_in-note_new r y.body) ∙ ap is_some (get_row-insert (marks_in y.body) r Pending s) ∙ at_row s (int_eq s r)
           ∙ ap is_some (sym (row_at-with_row ts t r vs x is y.table s ∙ ap (λ (b : Bool). cond b (cond (int_eq s r) (Some vs) (row_at ts y.table s)) (row_at ts y.table s)) one));
-      given = index.given;
+      numbers = subst (λ (p : Part). p.given ≤ most_given) (sym (part_in-note_new r y.body)) index.numbers;
+      untidy = ap (λ (p : Part). p.tidiness) (part_in-note_new r y.body) ∙ index.untidy;
     }
     go false one = record {
       target = target_with_row ts t r vs x is y.table y.column index.target;
       marks = λ s. index.marks s ∙ ap is_some (sym (row_at-with_row ts t r vs x is y.table s ∙ ap (λ (b : Bool). cond b (cond (int_eq s r) (Some vs) (row_at ts y.table s)) (row_at ts y.table s)) one));
-      given = index.given;
+      numbers = index.numbers;
+      untidy = index.untidy;
     }
 
 get-noted_on : (xs : Names Index) (t : List ℕ) (r : ℤ) (q : List ℕ) → get (noted_on xs t r) q ≡ option_map (waiting_on t r) (get xs q)
@@ -132,22 +136,19 @@ abbrev pub noted_each : Names Index → List (List ℕ) → ℤ → Names Index
 noted_each xs [] r = xs
 noted_each xs (i ∷ is) r = noted_each (noted xs i r) is r
 
-abbrev waiting : ℤ → Index → Index
-waiting r x = record x { marks = insert x.marks r Pending }
-
-get-noted : (xs : Names Index) (i : List ℕ) (r : ℤ) (q : List ℕ) → get (noted xs i r) q ≡ cond (same_list q i) (option_map (waiting r) (get xs q)) (get xs q)
-get-noted xs i r q = get_name-alter xs i (waiting r) q
+get-noted : (xs : Names Index) (i : List ℕ) (r : ℤ) (q : List ℕ) → get (noted xs i r) q ≡ cond (same_list q i) (option_map (noted_index r) (get xs q)) (get xs q)
+get-noted xs i r q = get_name-alter xs i (noted_index r) q
 
 get-noted_each : (names : List (List ℕ)) (xs : Names Index) (r : ℤ) (q : List ℕ) → AreDistinct names
-    → get (noted_each xs names r) q ≡ cond (is_among q names) (option_map (waiting r) (get xs q)) (get xs q)
+    → get (noted_each xs names r) q ≡ cond (is_among q names) (option_map (noted_index r) (get xs q)) (get xs q)
 get-noted_each [] xs r q distinct = refl
 get-noted_each (i ∷ is) xs r q distinct =
     get-noted_each is (noted xs i r) r q distinct.1
-    ∙ ap (λ (o : Option Index). cond (is_among q is) (option_map (waiting r) o) o) (get-noted xs i r q)
+    ∙ ap (λ (o : Option Index). cond (is_among q is) (option_map (noted_index r) o) o) (get-noted xs i r q)
     ∙ go (same_list q i) (is_among q is) (λ h. ap (λ (k : List ℕ). is_among k is) (list_from_same q i h) ∙ distinct.0)
   where
     go : (a b : Bool) → (a ≡ true → b ≡ false)
-        → cond b (option_map (waiting r) (cond a (option_map (waiting r) (get xs q)) (get xs q))) (cond a (option_map (waiting r) (get xs q)) (get xs q)) ≡ cond (a || b) (option_map (waiting r) (get xs q)) (get xs q)
+        → cond b (option_map (noted_index r) (cond a (option_map (noted_index r) (get xs q)) (get xs q))) (cond a (option_map (noted_index r) (get xs q)) (get xs q)) ≡ cond (a || b) (option_map (noted_index r) (get xs q)) (get xs q)
     go true true h = let wrong : true ≡ false = h refl in cc
     go true false h = refl
     go false true h = refl
@@ -157,15 +158,15 @@ get-noted_each (i ∷ is) xs r q distinct =
 pub noted_each_is : (xs : Names Index) (t : List ℕ) (r : ℤ) (names : List (List ℕ)) → AreIndexesOn xs t names → noted_each xs names r ≡ noted_on xs t r
 noted_each_is xs t r names are = same_map nat_list_cmp_total exact_bytes (noted_each xs names r) (noted_on xs t r) (λ q.
     get-noted_each names xs r q are.distinct
-    ∙ ap (λ (b : Bool). cond b (option_map (waiting r) (get xs q)) (get xs q)) (are.each q)
+    ∙ ap (λ (b : Bool). cond b (option_map (noted_index r) (get xs q)) (get xs q)) (are.each q)
     ∙ go (get xs q)
     ∙ sym (get-noted_on xs t r q))
   where
-    here : (x : Index) (b : Bool) → cond b (Some (waiting r x)) (Some x) ≡ Some (cond b (waiting r x) x)
+    here : (x : Index) (b : Bool) → cond b (Some (noted_index r x)) (Some x) ≡ Some (cond b (noted_index r x) x)
     here x true = refl
     here x false = refl
 
-    go : (o : Option Index) → cond (is_on t o) (option_map (waiting r) o) o ≡ option_map (waiting_on t r) o
+    go : (o : Option Index) → cond (is_on t o) (option_map (noted_index r) o) o ≡ option_map (waiting_on t r) o
     go None = refl
     go (Some x) = here x (same_list x.table t)
 
@@ -174,10 +175,10 @@ noted_each_is xs t r names are = same_map nat_list_cmp_total exact_bytes (noted_
 -- the indexes of these names are there, and have no mark of the row
 abbrev pub AreNewIn : Names Index → ℤ → List (List ℕ) → Type 0
 AreNewIn xs r [] = Unit {0}
-AreNewIn xs r (i ∷ is) = ((x : Index) × (get xs i ≡ Some x) × (get x.marks r ≡ None)) × AreNewIn xs r is
+AreNewIn xs r (i ∷ is) = ((x : Index) × (get xs i ≡ Some x) × (get (marks_in x.body) r ≡ None)) × AreNewIn xs r is
 
 new_among : (xs : Names Index) (r : ℤ) (names : List (List ℕ))
-    → ((i : List ℕ) → is_among i names ≡ true → (x : Index) × (get xs i ≡ Some x) × (get x.marks r ≡ None)) → AreNewIn xs r names
+    → ((i : List ℕ) → is_among i names ≡ true → (x : Index) × (get xs i ≡ Some x) × (get (marks_in x.body) r ≡ None)) → AreNewIn xs r names
 new_among xs r [] each = tt
 new_among xs r (i ∷ is) each =
     (each i (ap (λ (b : Bool). b || is_among i is) (list_same i)), new_among xs r is (λ j there. each j (later (same_list j i) (is_among j is) there)))
@@ -191,7 +192,7 @@ still_new : (xs : Names Index) (i : List ℕ) (r : ℤ) (names : List (List ℕ)
 still_new xs i r [] apart are = tt
 still_new xs i r (j ∷ js) apart are =
     let b = neither (same_list i j) (is_among i js) apart in
-    ((are.0.0, get-alter_other xs i (waiting r) j (turned (same_list j i) refl b.0) ∙ are.0.1, are.0.2), still_new xs i r js b.1 are.1)
+    ((are.0.0, get-alter_other xs i (noted_index r) j (turned (same_list j i) refl b.0) ∙ are.0.1, are.0.2), still_new xs i r js b.1 are.1)
   where
     neither : (a b : Bool) → (a || b) ≡ false → (a ≡ false) × (b ≡ false)
     neither true b h = cc
@@ -214,7 +215,7 @@ row_notes_stand f ts xs t r names are free row stand =
     subst (IndexesStand (view (each (λ i. note_insert_changes i r) names) f) ts) (noted_each_is xs t r names are)
     (notes_stand names f ts xs r row are.distinct (new_among xs r names (λ i there. here i (get xs i) refl (sym (are.each i) ∙ there))) stand)
   where
-    here : (i : List ℕ) (o : Option Index) → get xs i ≡ o → is_on t o ≡ true → (x : Index) × (get xs i ≡ Some x) × (get x.marks r ≡ None)
+    here : (i : List ℕ) (o : Option Index) → get xs i ≡ o → is_on t o ≡ true → (x : Index) × (get xs i ≡ Some x) × (get (marks_in x.body) r ≡ None)
     here i None is on = cc
     here i (Some x) is on = (x, is, free i x is (list_from_same x.table t on))
 
@@ -242,15 +243,18 @@ sync_keeps ts xs i x is room are = record {
     named : (q : List ℕ) (y : Index) (b : Bool) → same_list q i ≡ b → cond b (option_map synced_index (get xs q)) (get xs q) ≡ Some y → IsName q
     named q y b h e = let was = before q y b h e in are.names q was.0 was.1
 
-    some_mapped : (o : Option Mark) → is_some (option_map (λ (m : Mark). Marked) o) ≡ is_some o
+    some_mapped : (o : Option (Mark (Unit {0}))) → is_some (option_map {U = Mark (Unit {0})} (λ (m : Mark (Unit {0})). Settled tt) o) ≡ is_some o
     some_mapped None = refl
     some_mapped (Some m) = refl
 
     synced_is : IsIndex ts (synced_index x)
     synced_is = let old = are.each i x is in record {
       target = old.target;
-      marks = λ r. ap is_some (get-each_value int_cmp_total (λ (m : Mark). Marked) x.marks r) ∙ some_mapped (get x.marks r) ∙ old.marks r;
-      given = room;
+      marks = λ r. ap (λ (ms : Rows (Mark (Unit {0}))). is_some (get ms r)) (marks_in-synced x.body) ∙ ap is_some (get-each_value int_cmp_total (λ (m : Mark (Unit {0})). Settled tt) (marks_in x.body) r) ∙ some_mapped (get (marks_in x.body) r) ∙ old.marks r;
+      numbers =
+          let n = ap (λ (p : Part). p.given) (part_in-synced x.body) ∙ given-made (length (pending_rows x)) (part_in x.body) in
+          subst (λ (n : ℕ). n ≤ most_given) (sym n) room;
+      untidy = ap (λ (p : Part). p.tidiness) (part_in-synced x.body) ∙ untidy-made (length (pending_rows x)) (part_in x.body) old.untidy;
     }
 
     index : (q : List ℕ) (y : Index) (b : Bool) → same_list q i ≡ b → cond b (option_map synced_index (get xs q)) (get xs q) ≡ Some y → IsIndex ts y
@@ -274,11 +278,12 @@ created_is : (ts : Tables) (target : Target) (range : KeyRange) → IsTarget ts 
     → length (rows_in ts target.table range) ≤ most_given → AreTables ts → IsIndex ts (created ts target range)
 created_is ts target range there has room are = record {
   target = there;
-  marks = λ r. ap is_some (marked_row (rows_in ts target.table range) r) ∙ any (list_any (int_eq r) (rows_in ts target.table range)) ∙ ap (list_any (int_eq r)) (rows_in-all ts are target.table range has) ∙ row_listed ts target.table r;
-  given = room;
+  marks = λ r. ap is_some (settled_row (rows_in ts target.table range) r) ∙ any (list_any (int_eq r) (rows_in ts target.table range)) ∙ ap (list_any (int_eq r)) (rows_in-all ts are target.table range has) ∙ row_listed ts target.table r;
+  numbers = let n = given-made (length (rows_in ts target.table range)) no_part in omega (arith, n, room);
+  untidy = untidy-made (length (rows_in ts target.table range)) no_part refl;
 }
   where
-    any : (b : Bool) → is_some (cond b (Some Marked) None) ≡ b
+    any : (b : Bool) → is_some {T = Mark (Unit {0})} (cond b (Some (Settled tt)) None) ≡ b
     any true = refl
     any false = refl
 

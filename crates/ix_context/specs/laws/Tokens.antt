@@ -4,8 +4,10 @@ use Rattle.std.specs.Prelude.{All, nat_le}
 use Rattle.std.specs.Str.{chars}
 use Rattle.std.specs.Ordering.{nat_cmp}
 use Rattle.std.specs.Cmp.Lexicographic.{slice_cmp}
-use Rattle.std.specs.FinMap.{get, entries}
-use Rattle.std.proofs.lemmas.List.Elements.{All-head, All-tail}
+use Rattle.std.specs.List.{AllByRecursion}
+use Rattle.std.specs.Ordering.{eq_by_cmp}
+use Rattle.std.specs.FinMap.{get, entries, find}
+use Rattle.std.proofs.lemmas.List.Elements.{All-head, All-tail, recursion_from_All}
 use Rattle.std.proofs.lemmas.Cmp.{nat_list_cmp_total}
 use Rattle.ct_entry.specs.Keys.{same_list, IsToken}
 use Rattle.ct_entry.specs.laws.Keys.{list_from_same}
@@ -14,7 +16,9 @@ use Rattle.tx_chars.specs.laws.KeyLimit.{limit as key_limit}
 use Rattle.tx_lexer.specs.declared.tokens.Token.{Token}
 use Rattle.tx_lexer.specs.Tokens.{tokens, default}
 use Rattle.tx_lexer.specs.TokenKeys.{some_keys, limit}
-use Rattle.ix_posting.specs.Rows.{Rise}
+use Rattle.ix_posting.specs.Rows.{Rise, IsPostingRow}
+use Rattle.ix_rows.specs.WordRows.{word_term}
+use Rattle.ix_context.specs.Documents.{text_terms, word_posting}
 use Rattle.ix_context.specs.Postings.{positions_from, positions, words_of, if_any, postings_of, IsPosting, HasShortText, if_short}
 use Rattle.ix_context.specs.laws.Postings.{get-postings_of, few_words, positions_rise}
 
@@ -71,6 +75,22 @@ posting_at text short key ps is = go (positions key text) refl (sym (get-posting
 -- each key of a text, with its positions, may stand in a row of postings
 pub postings_fit : (text : List ℕ) → length text ≤ 2 ^ 24 → All IsPosting (entries (postings_of text))
 postings_fit text short = all_entries (slice_cmp nat_cmp) nat_list_cmp_total IsPosting (postings_of text) (posting_at text short)
+
+-- and so may each of its terms, under any number of a document
+term_found : (es : List (List ℕ × List ℕ)) → AllByRecursion IsPosting es → (u x : List ℕ) → find (slice_cmp nat_cmp) u (map {B = List ℕ × List ℕ} (λ e. (word_term 0 e.0, e.1)) es) ≡ Some x
+    → (1 ≤ length x) × Rise 0 x
+term_found [] all u x is = cc
+term_found (e ∷ es) all u x is = go (eq_by_cmp (slice_cmp nat_cmp) u (word_term 0 e.0)) is (term_found es all.1 u x)
+  where
+    go : (b : Bool) → cond b (Some e.1) (find (slice_cmp nat_cmp) u (map {B = List ℕ × List ℕ} (λ e. (word_term 0 e.0, e.1)) es)) ≡ Some x
+        → (find (slice_cmp nat_cmp) u (map {B = List ℕ × List ℕ} (λ e. (word_term 0 e.0, e.1)) es) ≡ Some x → (1 ≤ length x) × Rise 0 x) → (1 ≤ length x) × Rise 0 x
+    go true is rest = let same : e.1 ≡ x = cc in subst (λ (l : List ℕ). (1 ≤ length l) × Rise 0 l) same (all.0.some, all.0.rise)
+    go false is rest = rest is
+
+pub term_is_row : (text : List ℕ) → length text ≤ 2 ^ 24 → (d : ℕ) (x u : List ℕ) → 1 ≤ d → d < 2 ^ 32 → find (slice_cmp nat_cmp) u (text_terms text) ≡ Some x → IsPostingRow (word_posting d x ∷ [])
+term_is_row text short d x u some room found =
+    let fit = term_found (entries (postings_of text)) (recursion_from_All IsPosting (entries (postings_of text)) (postings_fit text short)) u x found in
+    record { some = omega arith; few = omega arith; rise = (omega (arith, some), room, fit.0, fit.1, tt) }
 
 few_positions : (place : ℕ) (key : List ℕ) (ws : List (List ℕ)) → length (positions_from place key ws) ≤ length ws
 few_positions place key [] = omega arith

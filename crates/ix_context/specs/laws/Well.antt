@@ -21,13 +21,16 @@ use Rattle.ix_posting.specs.Rows.{steps, varints, posting_bytes}
 use Rattle.ix_context.specs.declared.ranges.KeyRange.{KeyRange}
 use Rattle.ix_context.specs.Postings.{postings_of, IsPosting}
 use Rattle.ix_context.specs.laws.Tokens.{postings_fit, postings_few}
-use Rattle.ix_context.specs.Indexes.{Index, is_marked, pending_rows, text_seen, synced_index, rows_in, created, target_text}
+use Rattle.ix_docmap.specs.Marks.{is_settled}
+use Rattle.ix_context.specs.Indexes.{Index, given, marks_in, pending_rows, text_seen, synced_index, rows_in, created, target_text}
 use Rattle.ix_context.specs.Rules.{AreIndexes, most_given}
 use Rattle.ix_context.specs.Spelling.{index_bytes, after_table, index_entry, is_of_indexes}
-use Rattle.ix_context.specs.Changes.{note_insert_changes, posting_change, text_changes, document_changes, mark_changes, settle_changes, numbered, sync_rows_changes, sync_changes, create_changes}
-use Rattle.ix_context.specs.laws.Marks.{EachRow}
-use Rattle.ix_context.specs.laws.Changes.{pending_free, no_marks, rows_free}
-use Rattle.ix_context.specs.laws.Reading.{target_short, target_of}
+use Rattle.ct_entry.specs.Each.{numbered}
+use Rattle.ix_context.specs.Changes.{note_insert_changes, posting_change, text_changes, document_changes, mark_changes, settle_changes, sync_rows_changes, sync_changes, create_changes}
+use Rattle.ix_context.specs.laws.Settling.{EachRow}
+use Rattle.ix_context.specs.laws.Changes.{rows_wait, no_marks, rows_free}
+use Rattle.ix_context.specs.laws.Reading.{target_of}
+use Rattle.ix_context.specs.laws.Texts.{target_short}
 
 -- ---- changes on entries of indexes
 
@@ -148,9 +151,9 @@ each_row P [] each = tt
 each_row P (r ∷ rs) each = (each.0.0, each_row P rs each.1)
 
 pub index_changes_sync : (ts : Tables) (xs : Names Index) (i : List ℕ) (x : Index) → AreTables ts → AreIndexes ts xs → get xs i ≡ Some x
-    → x.given + length (pending_rows x) ≤ most_given → AreIndexChanges (sync_changes ts i x)
+    → given x + length (pending_rows x) ≤ most_given → AreIndexChanges (sync_changes ts i x)
 index_changes_sync ts xs i x are rules is room =
-    go (pending_rows x) (each_row (λ s. not (is_marked (get x.marks s)) ≡ true) (pending_rows x) (pending_free ts x are (rules.each i x is))) room
+    go (pending_rows x) (each_row (λ s. not (is_settled (get (marks_in x.body) s)) ≡ true) (pending_rows x) (rows_wait ts x are (rules.each i x is))) room
   where
     one : (d : ℕ) (r : ℤ) → d < 2 ^ 32 → IsRow r → AreIndexChanges (settle_changes ts i x (d, r))
     one d r doc row = (
@@ -161,16 +164,16 @@ index_changes_sync ts xs i x are rules is room =
     table : IsName x.table
     table = let target = (rules.each i x is).target in are.names x.table target.table target.there
 
-    go : (rows : List ℤ) → EachRow IsRow rows → x.given + length rows ≤ most_given → AreIndexChanges (sync_rows_changes ts i x rows)
+    go : (rows : List ℤ) → EachRow IsRow rows → given x + length rows ≤ most_given → AreIndexChanges (sync_rows_changes ts i x rows)
     go [] rows_are room = tt
     go (r ∷ rs) rows_are room =
-        index_changes-append (each (settle_changes ts i x) (numbered (x.given + 1) (r ∷ rs))) (put (key kind.Indexes i []) (index_entry (synced_index x)) ∷ []) (index_changes-each (settle_changes ts i x) one (r ∷ rs) (x.given + 1) (omega arith) rows_are)
-        (entry_change i x.table x.column (x.given + length (pending_rows x) + 1) (rules.names i x is) table, tt)
+        index_changes-append (each (settle_changes ts i x) (numbered (given x + 1) (r ∷ rs))) (put (key kind.Indexes i []) (index_entry (synced_index x)) ∷ []) (index_changes-each (settle_changes ts i x) one (r ∷ rs) (given x + 1) (omega arith) rows_are)
+        (entry_change i x.table x.column (given (synced_index x) + 1) (rules.names i x is) table, tt)
 
 pub index_changes_create : (ts : Tables) (i : List ℕ) (target : Target) (range : KeyRange) → AreTables ts → IsName i → IsName target.table
     → length (rows_in ts target.table range) ≤ most_given → AreIndexChanges (create_changes ts i target range)
 index_changes_create ts i target range are name table room = (
-  entry_change i target.table target.column (length (rows_in ts target.table range) + 1) name table,
+  entry_change i target.table target.column (given (created ts target range) + 1) name table,
   index_changes-each (λ (p : ℕ × ℤ). mark_changes ts i (created ts target range) p.0 p.1) (λ d r doc row. index_changes_document i d r (target_text ts target r) name doc row (target_is_table_text ts are target r)) (rows_in ts target.table range) 1 (omega arith)
       (each_row (λ s. not (is_some (no_marks s)) ≡ true) (rows_in ts target.table range) (rows_free ts are target.table range)),
 )

@@ -6,12 +6,12 @@ use Rattle.db_state.specs.Plans.{IsPlanOf}
 use Rattle.db_state.specs.laws.Serving.{serves_short, serves_refused}
 use Rattle.db_state.proofs.plans.carry_out.Goals as goal
 
-pub returns-in_err-fault_line-in-Refused : goal.returns-in_err-fault_line-in-Refused
-returns-in_err-fault_line-in-Refused g c = λ effect fits. serves_short _ _ _ _ _ (reads_none _ c.requires.accepts.ready) (err_from_is_err_and _ c.from_residual.ensures.1)
+pub returns-in_err-fault_line-in-Refused-clause-done : goal.returns-in_err-fault_line-in-Refused-clause-done
+returns-in_err-fault_line-in-Refused-clause-done g c = λ effect fits. serves_short _ _ _ _ _ (reads_none _ c.requires.accepts.ready) (err_from_is_err_and _ c.from_residual.ensures.1)
 
-pub returns-in_ok-fault_line-in-Refused : goal.returns-in_ok-fault_line-in-Refused
-returns-in_ok-fault_line-in-Refused g c = λ effect fits.
+pub returns-in_ok-fault_line-in-Refused-clause-done : goal.returns-in_ok-fault_line-in-Refused-clause-done
+returns-in_ok-fault_line-in-Refused-clause-done g c = λ effect fits.
     serves_refused _ _ _ _ (refusal_of c.in-Refused.fault) _ (reads_none _ c.requires.accepts.ready) (subst (IsPlanOf effect _ _) c.in-Refused.is fits).made c.in_ok-fault_line-in-Refused.ensures
 
-pub returns-in-Done : goal.returns-in-Done
-returns-in-Done g c = λ effect fits. c.commit_batch.ensures effect (subst (IsPlanOf effect _ _) c.in-Done.is fits)
+pub returns-in-Done-clause-done : goal.returns-in-Done-clause-done
+returns-in-Done-clause-done g c = λ effect fits. c.commit_batch.ensures.done effect (subst (IsPlanOf effect _ _) c.in-Done.is fits)

@@ -1,11 +1,11 @@
 use Rattle.std.proofs.Common.{◌≡◌, ◌≤◌, ◌+◌, ◌++◌, List, length, map, ap, ◌∙◌, arith}
 use Rattle.ct_base.specs.declared.numbers.RowKey.{RowKey}
-use Rattle.ct_entry.specs.Each.{each}
+use Rattle.ct_entry.specs.Each.{numbered, each}
 use Rattle.ct_entry.specs.Changes.{spell}
 use Rattle.ct_keep.specs.Composing.{reads_hold}
 use Rattle.ix_context.specs.Indexes.{rows_in, target_text}
 use Rattle.ix_context.specs.Rules.{most_given}
-use Rattle.ix_context.specs.Changes.{numbered, mark_with}
+use Rattle.ix_context.specs.Changes.{mark_with}
 use Rattle.ix_context.proofs.SyncSteps.{created_added, count_created}
 use Rattle.ix_context.proofs.creating.changes_of_create.Goals as goal
 

@@ -3,8 +3,8 @@ use Rattle.ct_entry.specs.Keys.{IsRow}
 use Rattle.ix_context.specs.laws.Shapes.{shaped_note}
 use Rattle.ix_context.proofs.noting.note_insert.Goals as goal
 
-pub returns-in_err-put_entry-clause-shaped : goal.returns-in_err-put_entry-clause-shaped
-returns-in_err-put_entry-clause-shaped c =
+pub returns-in_err-queue-clause-shaped : goal.returns-in_err-queue-clause-shaped
+returns-in_err-queue-clause-shaped c =
     let row : IsRow c.args.key.0 = search rules in
     shaped_note c.args.index.now c.args.key.0 c.as_str-named.ensures.name row
 

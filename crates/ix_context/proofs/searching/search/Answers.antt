@@ -1,9 +1,10 @@
-use Rattle.std.proofs.Common.{◌≡◌, ℕ, [], ◌∷◌, ◌++◌, List, length, subst, sym, ap, ◌∙◌, rules}
+use Rattle.std.proofs.Common.{◌≡◌, ℕ, [], ◌∷◌, ◌++◌, List, length, Some, subst, sym, ap, ◌∙◌, rules}
 use Rattle.std.specs.FinMap.{entries}
 use Rattle.ct_keep.specs.Tail.{tail}
 use Rattle.ct_keep.specs.Composing.{reads_hold}
 use Rattle.ct_entry.specs.declared.kinds.Kind.TheVariants as kind
-use Rattle.ct_entry.specs.Keys.{prefix_of}
+use Rattle.ct_entry.specs.Keys.{at, prefix_of}
+use Rattle.ix_context.specs.Standing.{IndexStands}
 use Rattle.ix_context.specs.Indexes.{found}
 use Rattle.ix_context.specs.Scoring.{HoldRows}
 use Rattle.ix_context.proofs.SearchSteps.{pairs_of}
@@ -23,7 +24,8 @@ returns-clause-found g c = λ m ts xs x holds only stand there fit.
     let index = c.args.index.now in
     let word = c.args.word.now in
     let token = some_says _ _ _ c.in-Some.prefix c.in-Some.is c.in_ok-prefix.ensures in
-    let all = finds m ts xs x index word stand.0 only stand.1 stand.2 there fit token.0 in
+    let here : IndexStands (at m) ts index (Some x) = subst (IndexStands (at m) ts index) there (stand index) in
+    let all = finds m ts x index word only here fit token.0 in
     let rows : pairs_of c.deref-2.result.now ≡ entries (tail (prefix_of kind.Postings index ++ 0 ∷ length word ∷ word) m) =
     ap pairs_of c.deref-2.ensures.value ∙ c.in_ok-rows.ensures.entries m holds
     ∙ ap (λ (l : List ℕ). entries (tail (prefix_of kind.Postings index ++ l) m)) (c.deref.ensures.value ∙ token.1) in

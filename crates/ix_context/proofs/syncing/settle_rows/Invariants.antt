@@ -1,12 +1,12 @@
 use Rattle.std.proofs.Common.{◌≡◌, ◌+◌, ◌++◌, Some, None, drop, map}
 use Rattle.ct_keep.specs.Content.{Content}
 use Rattle.ct_keep.specs.KeeperViews.{Reads}
-use Rattle.ct_entry.specs.Each.{each}
+use Rattle.ct_entry.specs.Each.{numbered, each}
 use Rattle.ct_entry.specs.Changes.{spell}
 use Rattle.ct_entry.specs.Shapes.{AreShaped}
 use Rattle.tb_table.specs.Tables.{Tables}
 use Rattle.ix_context.specs.Indexes.{target_text}
-use Rattle.ix_context.specs.Changes.{numbered, settle_with}
+use Rattle.ix_context.specs.Changes.{settle_with}
 use Rattle.ix_context.specs.Shapes.{HasIndexValue}
 use Rattle.ix_context.specs.Stands.{HoldsTables}
 use Rattle.ix_context.proofs.syncing.settle_rows.Given as goal

@@ -1,0 +1,32 @@
+-- What the removal of an index puts into a batch.
+use Rattle.std.specs.Prelude.{ℕ, ◌≡◌, List, [], ◌∷◌, ◌++◌, Option, filter, codes, refl}
+use Rattle.ct_keep.specs.Content.{Content}
+use Rattle.ct_entry.specs.declared.kinds.Kind.{Kind}
+use Rattle.ct_entry.specs.declared.kinds.Kind.TheVariants.{Tables, RowNumbers, Thesauri, Indexes, DocumentRows, RowDocuments, Pending, Postings, Spans, Catalogue}
+use Rattle.ct_entry.specs.Keys.{Key}
+use Rattle.ct_entry.specs.Each.{each}
+use Rattle.ct_entry.specs.Removals.{removals}
+use Rattle.ix_context.specs.Spelling.{is_of_indexes}
+
+-- the kinds of the entries that an index has
+abbrev pub index_kinds : List Kind
+index_kinds = Indexes ∷ DocumentRows ∷ RowDocuments ∷ Pending ∷ Postings ∷ Spans ∷ []
+
+-- the removal of all of an index's entries of these kinds, kind by kind
+abbrev pub kind_removals : List ℕ → Content → List Kind → List (Key × Option (List ℕ))
+kind_removals i m kinds = each (λ kind. removals kind i m) kinds
+
+-- the removal of an index: of all its entries
+abbrev pub remove_changes : List ℕ → Content → List (Key × Option (List ℕ))
+remove_changes i m = kind_removals i m index_kinds
+
+-- the removals of several indexes, one after the other
+abbrev pub remove_all_changes : Content → List (List ℕ) → List (Key × Option (List ℕ))
+remove_all_changes m names = each (λ i. remove_changes i m) names
+
+-- computed examples: of some kinds those of indexes, and two indexes in turn
+six_kinds : filter is_of_indexes (Tables ∷ Indexes ∷ RowNumbers ∷ DocumentRows ∷ RowDocuments ∷ Thesauri ∷ Pending ∷ Postings ∷ Spans ∷ Catalogue ∷ []) ≡ index_kinds
+six_kinds = refl
+
+two_in_turn : (m : Content) → remove_all_changes m (codes "di" ∷ codes "dj" ∷ []) ≡ remove_changes (codes "di") m ++ (remove_changes (codes "dj") m ++ [])
+two_in_turn m = refl

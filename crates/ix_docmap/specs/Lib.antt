@@ -1,0 +1,4 @@
+pub mod Marks
+pub mod Changes
+pub mod Readings
+pub mod laws

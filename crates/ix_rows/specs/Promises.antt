@@ -1,0 +1,37 @@
+-- What the functions of `src/laws.rt` promise of the posting lists of words. Those of sections keep the same laws, which stand in `specs/laws`
+-- for any documents.
+use Rattle.std.specs.Prelude.{ℕ, ℤ, pos, ◌≡◌, ◌+◌, sum_by, List, ◌++◌, Option, Some, refl}
+use Rattle.ct_entry.specs.Lists.{IsIn}
+use Rattle.ix_posting.specs.declared.rows.RowDocument.{RowDocument}
+use Rattle.ix_rows.specs.Stored.{ListsStand}
+use Rattle.ix_rows.specs.WordRows.{document_number, IsWordTerm, word_cost}
+use Rattle.ix_rows.specs.laws.Stored.{AreNew, without}
+
+-- the posting list of each term
+abbrev pub WordLists : Type 0
+WordLists = List ℕ → List RowDocument
+
+-- what a row has under a term, as a document
+abbrev pub Wanted : Type 0
+Wanted = ℤ → List ℕ → ℕ → Option RowDocument
+
+-- the posting lists of the index of this name, whose length counts in what a posting costs
+abbrev pub WordsStand : List ℕ → Wanted → (ℕ → Option ℤ) → ℕ → WordLists → ℕ → Type 0
+WordsStand i = ListsStand document_number IsWordTerm (word_cost i)
+
+-- New documents, with the postings of their rows behind those that are there, leave what stands, and waste nothing.
+abbrev pub NewDocumentsStand : Type 0
+NewDocumentsStand =
+    (i : List ℕ) (want : Wanted) (row row' : ℕ → Option ℤ) (given given' : ℕ) (list news : WordLists) (waste : ℕ)
+    → AreNew document_number IsWordTerm want row row' given given' news → WordsStand i want row given list waste → WordsStand i want row' given' (λ term. list term ++ news term) waste
+
+-- Where a document is a row no more, the posting lists stay as they are, and what its postings cost is wasted.
+abbrev pub DeadDocumentsStand : Type 0
+DeadDocumentsStand =
+    (i : List ℕ) (want : Wanted) (row : ℕ → Option ℤ) (given : ℕ) (list : WordLists) (waste d : ℕ) (r : ℤ) (its : List (List ℕ × RowDocument))
+    → row d ≡ Some r → ((term : List ℕ) (x : RowDocument) → IsWordTerm term → want r term d ≡ Some x → IsIn (term, x) its)
+    → WordsStand i want row given list waste → WordsStand i want (without document_number IsWordTerm row d) given list (waste + sum_by (word_cost i) its)
+
+-- computed example: where the document 2 is a row no more, the document 1 still is
+the_first_stays : without document_number IsWordTerm (λ d. Some (pos d)) 2 1 ≡ Some (pos 1)
+the_first_stays = refl

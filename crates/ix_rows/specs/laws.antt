@@ -1,0 +1,13 @@
+pub mod Posts
+pub mod Stored
+pub mod Spelling
+pub mod Stores
+pub mod Tidies
+pub mod Inverted
+pub mod Weighs
+pub mod WordRows
+pub mod SpanRows
+pub mod Puts
+pub mod Alone
+pub mod Rooms
+pub mod Scans

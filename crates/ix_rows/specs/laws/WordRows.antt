@@ -1,0 +1,131 @@
+-- A row of words weighs at most what its postings cost, and the split of a posting list is rows.
+use Rattle.std.specs.Prelude.{ℕ, ◌≡◌, ◌+◌, ◌-◌, ◌≤◌, ◌<◌, ◌^◌, List, [], ◌∷◌, ◌++◌, length, sum_by, refl}
+use Rattle.std.proofs.Common.{sym, subst, inl, inr, arith}
+use Rattle.std.proofs.lemmas.List.{length-append}
+use Rattle.std.proofs.lemmas.List.Sums.{sum_by-cons}
+use Rattle.ct_bytes.specs.Varints.{varint}
+use Rattle.ct_bytes.specs.laws.Varints.{varint_length}
+use Rattle.ct_keep.specs.Content.{entry_weight}
+use Rattle.ct_entry.specs.declared.kinds.Kind.TheVariants as kind
+use Rattle.ct_entry.specs.Keys.{key, bytes, document_part}
+use Rattle.ix_posting.specs.declared.rows.RowDocument.{RowDocument}
+use Rattle.ix_posting.specs.Rows.{Rise, DocumentsRise, IsPostingRow, steps, varints, document_bytes, documents_bytes, posting_bytes}
+use Rattle.ct_entry.specs.Lists.{IsIn}
+use Rattle.ix_rows.specs.Posts.{Rises}
+use Rattle.ix_rows.specs.Spelling.{row_key, first_document}
+use Rattle.ix_rows.specs.laws.Weighs.{singles}
+use Rattle.ix_rows.specs.laws.Tidies.{RowLaws}
+use Rattle.ix_rows.specs.WordRows.{document_number, last_document, word_cost}
+
+-- what the entry of a row weighs
+abbrev pub row_weight : List ℕ → List ℕ × List RowDocument → ℕ
+row_weight i e = entry_weight (bytes (key kind.Postings i (row_key e.0 (first_document document_number e.1))), posting_bytes e.1)
+
+-- ---- a row weighs at most what its postings word_cost
+
+key_length : (i t : List ℕ) (d : ℕ) → length (bytes (key kind.Postings i (row_key t d))) ≡ length i + length t + 6
+key_length i t d = omega (arith, length-append i (row_key t d), length-append t (document_part d))
+
+abbrev places_length : RowDocument → ℕ
+places_length x = length (varint (length x.positions)) + length (varints (steps 0 x.positions))
+
+document_length : (before : ℕ) (x : RowDocument) → length (document_bytes before x) ≡ length (varint (x.document - before)) + places_length x
+document_length before x = omega (arith, length-append (varint (x.document - before) ++ varint (length x.positions)) (varints (steps 0 x.positions)), length-append (varint (x.document - before)) (varint (length x.positions)))
+
+one_byte : length (varint 1) ≡ 1
+unfolding varint
+one_byte = refl
+
+five_bytes : length (varint last_document) ≡ 5
+unfolding varint
+five_bytes = refl
+
+abbrev lasts : RowDocument → RowDocument
+lasts x = record { document = last_document; positions = x.positions }
+
+cost_length : (i t : List ℕ) (x : RowDocument) → (length i + length t + 12 + places_length x ≤ word_cost i (t, x)) × (64 ≤ word_cost i (t, x))
+cost_length i t x =
+    let whole = length-append (varint 1) (document_bytes 0 (lasts x) ++ []) in
+    let inner = length-append (document_bytes 0 (lasts x)) [] in
+    let doc = document_length 0 (lasts x) in
+    let k = key_length i t last_document in
+    let one = one_byte in
+    let five = five_bytes in
+    (omega (arith, whole, inner, doc, k, one, five), omega arith)
+
+documents_length : (i t : List ℕ) (before : ℕ) (xs : List RowDocument) → length (documents_bytes before xs) ≤ sum_by (word_cost i) (singles (t, xs))
+documents_length i t before [] = omega arith
+documents_length i t before (x ∷ xs) =
+    omega (
+      arith,
+      length-append (document_bytes before x) (documents_bytes x.document xs),
+      document_length before x,
+      varint_length (x.document - before),
+      (cost_length i t x).0,
+      sum_by-cons (word_cost i) (t, x) (singles (t, xs)),
+      documents_length i t x.document xs,
+    )
+
+pub row_light : (i : List ℕ) (e : List ℕ × List RowDocument) → IsPostingRow e.1 → row_weight i e ≤ sum_by (word_cost i) (singles e)
+row_light i (t, []) row = let some = row.some in absurd (omega (arith, some))
+row_light i (t, x ∷ []) row =
+    omega (
+      arith,
+      key_length i t x.document,
+      length-append (varint 1) (documents_bytes 0 (x ∷ [])),
+      length-append (document_bytes 0 x) [],
+      document_length 0 x,
+      one_byte,
+      varint_length (x.document - 0),
+      cost_length i t x,
+      sum_by-cons (word_cost i) (t, x) [],
+    )
+row_light i (t, x ∷ y ∷ xs) row =
+    let n = length (x ∷ y ∷ xs) in
+    omega (
+      arith,
+      key_length i t x.document,
+      length-append (varint n) (documents_bytes 0 (x ∷ y ∷ xs)),
+      varint_length n,
+      length-append (document_bytes 0 x) (documents_bytes x.document (y ∷ xs)),
+      document_length 0 x,
+      varint_length (x.document - 0),
+      length-append (document_bytes x.document y) (documents_bytes y.document xs),
+      document_length x.document y,
+      varint_length (y.document - x.document),
+      documents_length i t y.document xs,
+      cost_length i t x,
+      cost_length i t y,
+      sum_by-cons (word_cost i) (t, x) (singles (t, y ∷ xs)),
+      sum_by-cons (word_cost i) (t, y) (singles (t, xs)),
+    )
+
+-- ---- rows and their documents
+
+-- places such as a row has
+abbrev pub HasPositions : RowDocument → Type 0
+HasPositions x = (1 ≤ length x.positions) × Rise 0 x.positions
+
+rise_of : (before : ℕ) (xs : List RowDocument) → DocumentsRise before xs → Rises document_number before xs
+rise_of before [] r = tt
+rise_of before (x ∷ xs) r = (r.0, r.1, rise_of x.document xs r.4)
+
+good_of : (before : ℕ) (xs : List RowDocument) → DocumentsRise before xs → (x : RowDocument) → IsIn x xs → HasPositions x
+good_of before [] r x h = absurd h
+good_of before (y ∷ ys) r x h = elim h [ inl e ↦ subst HasPositions (sym e) (r.2, r.3) | inr t ↦ good_of y.document ys r.4 x t ]
+
+of_rise : (before : ℕ) (xs : List RowDocument) → Rises document_number before xs → ((x : RowDocument) → IsIn x xs → HasPositions x) → DocumentsRise before xs
+of_rise before [] r good = tt
+of_rise before (x ∷ xs) r good = (r.0, r.1, (good x (inl refl)).0, (good x (inl refl)).1, of_rise x.document xs r.2 (λ y h. good y (inr h)))
+
+few : (before : ℕ) (xs : List RowDocument) → Rises document_number before xs → before < 2 ^ 32 → before + length xs < 2 ^ 32
+few before [] r low = omega (arith, low)
+few before (x ∷ xs) r low = let rest = few x.document xs r.2 r.1 in omega (arith, rest, r.0)
+
+pub word_laws : RowLaws document_number IsPostingRow HasPositions
+word_laws = record {
+  good = λ row is x h. good_of 0 row is.rise x h;
+  rises = λ row is. rise_of 0 row is.rise;
+  some = λ row is. is.some;
+  row = λ xs some r good. let bound = few 0 xs r (omega arith) in record { some = some; few = omega (arith, bound); rise = of_rise 0 xs r good };
+}
