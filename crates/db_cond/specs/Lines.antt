@@ -32,7 +32,18 @@ abbrev pub line : List Value → List ℕ
 line [] = 10 ∷ []
 line (field ∷ fields) = printed field ++ fields_behind_bars fields ++ 10 ∷ []
 
+-- the line of a statement that changes rows, by their number and what was done to them: `1 row updated.`, `0 rows updated.`
+abbrev pub rows_line : List ℕ → ℕ → List ℕ
+rows_line done rows = (if rows == 1 then codes "1 row " else signed_decimal (pos rows) ++ codes " rows ") ++ done
+
 -- computed examples
+one_row : rows_line (codes "updated.\n") 1 ≡ codes "1 row updated.\n"
+one_row = refl
+
+no_rows_changed : rows_line (codes "deleted.\n") 0 ≡ codes "0 rows deleted.\n"
+unfolding digits
+no_rows_changed = refl
+
 token : line (Text (codes "web") ∷ Number (pos 0) ∷ Number (pos 3) ∷ []) ≡ codes "web|0|3\n"
 unfolding digits
 token = refl

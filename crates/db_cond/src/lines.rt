@@ -1,9 +1,9 @@
 //! Values as printed lines.
 
-ghost use Rattle.std.specs.Prelude.{◌≡◌, ◌++◌, ◌∷◌, [], pos, OnOk, OnErr};
+ghost use Rattle.std.specs.Prelude.{◌≡◌, ◌++◌, ◌∷◌, [], pos, IfOk, OnOk, OnErr};
 ghost use Rattle.std.specs.Fmt.{signed_decimal};
 ghost use Rattle.ct_base.specs.declared.lists.Value.TheVariants.{Number, Text};
-ghost use Rattle.db_cond.specs.Lines.{line as line_text, fields_behind_bars, printed, printed_byte, printed_text};
+ghost use Rattle.db_cond.specs.Lines.{line as line_text, fields_behind_bars, printed, printed_byte, printed_text, rows_line as line_of_rows};
 
 use ct_base::{Memory, Value};
 use std::alloc::Global;
@@ -125,4 +125,20 @@ mod tests {
         assert_eq!(rt; out.as_slice(), b"x\na\\|b\\\\c\\nd\\r|-7\n".as_slice());
         Ok(())
     }
+}
+
+/// The line of a statement that changes rows: how many there were, and what was done to them, with its newline.
+pub fn rows_line(alloc: Global, rows: usize, done: &[u8]) -> Result<Vec<u8>, Memory>
+    ensures { IfOk result (λ line. line.items ≡ line_of_rows done.now rows) }
+{
+    let mut line = Vec::new(alloc);
+    if rows == 1 {
+        line.extend_from_slice(b"1 row ")?;
+    } else {
+        let digits = format!(in alloc; "{rows}")?;
+        line.extend_from_slice(digits.as_bytes())?;
+        line.extend_from_slice(b" rows ")?;
+    }
+    line.extend_from_slice(done)?;
+    Ok(line)
 }

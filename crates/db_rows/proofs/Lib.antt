@@ -1,0 +1,6 @@
+pub mod BoundSteps
+pub mod RowReads
+pub mod MeetSteps
+pub mod Walks
+pub mod NextSteps
+pub mod TableWalks

@@ -1,0 +1,29 @@
+use Rattle.std.proofs.Common.{rules, ◌≡◌, ℕ, List, Option, subst, sym, ap, ◌∙◌}
+use Rattle.std.specs.Prelude.{◌==◌}
+use Rattle.std.specs.Map.{lookup}
+use Rattle.ct_entry.specs.Keys.{IsRow}
+use Rattle.tb_table.specs.Tables.{text_of}
+use Rattle.db_rows.specs.Values.{row_values}
+use Rattle.db_rows.specs.Reading.{KnowTexts}
+use Rattle.db_rows.proofs.RowReads.{know_more, text_is}
+use Rattle.db_rows.proofs.reading.text_once.Goals as goal
+
+pub returns-in-Some-clause-text : goal.returns-in-Some-clause-text
+returns-in-Some-clause-text g c = λ m k holds stands read.
+    read.texts c.args.column c.in-Some.text
+    (ap (lookup (λ place. c.args.column == place)) (sym c.deref.ensures.value) ∙ sym c.in_ok-text.ensures ∙ c.in-Some.is)
+
+pub returns-clause-text : goal.returns-clause-text
+returns-clause-text g c = λ m k holds stands read.
+    let row : IsRow c.args.row.0 = search rules in
+    text_is m k stands c.args.table.now c.args.column c.args.row.0 c.ranges.column.fits row c.in_ok-text-2.text (c.in_ok-text-2.ensures.value k holds)
+
+pub returns-clause-read : goal.returns-clause-read
+returns-clause-read g c = λ m k holds stands read.
+    let row : IsRow c.args.row.0 = search rules in
+    let vs = row_values m.tables c.args.table.now c.args.row.0 in
+    let is : c.in_ok-text-2.text ≡ text_of vs c.args.column = text_is m k stands c.args.table.now c.args.column c.args.row.0 c.ranges.column.fits row c.in_ok-text-2.text (c.in_ok-text-2.ensures.value k holds) in
+    record {
+      numbers = read.numbers;
+      texts = subst (KnowTexts vs) (sym {A = List (ℕ × Option (List ℕ))} c.in_ok-note_text.ensures) (know_more vs c.args.read.now.texts.items c.args.column c.in_ok-text-2.text read.texts is);
+    }

@@ -1,0 +1,62 @@
+-- Between which keys the rows lie that meet conditions.
+use Rattle.std.specs.Prelude.{ℤ, pos, ◌≡◌, ◌↔◌, ◌≤ℤ◌, Bool, true, false, List, [], ◌∷◌, codes, refl}
+use Rattle.std.specs.List.{list_all}
+use Rattle.std.proofs.Common.{arith}
+use Rattle.std.proofs.lemmas.Int.{ints}
+use Rattle.ct_base.specs.declared.lists.Value.{Value}
+use Rattle.ct_base.specs.declared.lists.Value.TheVariants.{Number as NumberValue, Text as TextValue}
+use Rattle.ct_entry.specs.Keys.{IsRow}
+use Rattle.st_parse.specs.declared.statements.Operand.{Operand}
+use Rattle.st_parse.specs.declared.statements.Operand.TheVariants.{Number}
+use Rattle.st_parse.specs.declared.statements.Whole.TheVariants.{Fits}
+use Rattle.st_parse.specs.declared.statements.Compare.{Compare}
+use Rattle.st_parse.specs.declared.statements.Compare.TheVariants.{Less}
+use Rattle.st_parse.specs.declared.statements.Cond.{Cond}
+use Rattle.st_parse.specs.declared.statements.Cond.TheVariants.{Compare as Compared}
+use Rattle.tb_table.specs.declared.columns.Column.{Column}
+use Rattle.db_cond.specs.Conditions.{compares, holds}
+use Rattle.db_rows.specs.Sources.{source_of, source_value, of_columns}
+use Rattle.db_rows.specs.Checking.{cond_column}
+use Rattle.db_rows.specs.Meeting.{holds_of}
+use Rattle.db_rows.specs.declared.bounds.KeyBounds.{KeyBounds}
+
+-- The key lies from the one bound to the other, both included.
+pub record IsWithin (b : KeyBounds) (r : ℤ) : Type 0 where
+  pub low : b.least.0 ≤ℤ r
+  pub high : r ≤ℤ b.greatest.0
+
+-- the keys that lie within are those of which the comparison holds
+abbrev pub AreBoundsOf : Compare → Operand → KeyBounds → Type 0
+AreBoundsOf op operand b = (r : ℤ) → IsRow r → (compares op (NumberValue r) operand ≡ true) ↔ IsWithin b r
+
+-- each key of which the condition holds lies within
+abbrev pub Bounds : Cond → KeyBounds → Type 0
+Bounds cond b = (r : ℤ) → IsRow r → holds cond (NumberValue r) ≡ true → IsWithin b r
+
+-- whether a row meets the conditions, by where the values of their columns come from
+abbrev pub meets_by : List Column → List Cond → ℤ → List Value → Bool
+meets_by columns conds r vs = list_all (λ cond. holds_of cond (source_value r vs (source_of (cond_column cond) columns))) conds
+
+-- each row that meets the conditions has a key that lies within
+abbrev pub BoundRows : List Column → List Cond → KeyBounds → Type 0
+BoundRows columns conds b = (r : ℤ) (vs : List Value) → IsRow r → meets_by columns conds r vs ≡ true → IsWithin b r
+
+-- computed examples
+abbrev from_to : ℤ → ℤ → KeyBounds
+from_to least greatest = record { least = record { 0 = least }; greatest = record { 0 = greatest } }
+
+at_an_end : IsWithin (from_to (pos 3) (pos 7)) (pos 7)
+at_an_end = record { low = omega (arith, ints); high = omega (arith, ints) }
+
+nothing_within : (r : ℤ) → IsWithin (from_to (pos 7) (pos 3)) r → ⊥
+nothing_within r is = omega (arith, ints, is.low, is.high)
+
+-- of a table with the columns id, a, n and b the row 7 of a text, 5 and a text
+abbrev its_row : Compare → ℤ → Bool
+its_row op n = meets_by of_columns (Compared (codes "n") op (Number (Fits n)) ∷ []) (pos 7) (TextValue (codes "x") ∷ NumberValue (pos 5) ∷ TextValue (codes "y") ∷ [])
+
+below_six : its_row Less (pos 6) ≡ true
+below_six = refl
+
+not_below_five : its_row Less (pos 5) ≡ false
+not_below_five = refl

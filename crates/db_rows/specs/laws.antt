@@ -1,0 +1,2 @@
+-- Laws of where the values of columns come from.
+pub mod Sources

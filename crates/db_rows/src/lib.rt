@@ -1,0 +1,17 @@
+//! Conditions on the rows of a table: their checks, and which rows meet them.
+#![tactic(auto)]
+
+mod bounds;
+mod checking;
+mod meeting;
+mod reading;
+mod sources;
+#[cfg(test)]
+mod tests;
+mod walking;
+
+pub use checking::{conds_fault, fit_columns, has_beyond, sort_of, unknown_column};
+pub use meeting::meets;
+pub use reading::{RowRead, column_value, row_numbers};
+pub use sources::{Source, source_of};
+pub use walking::rows_meeting;

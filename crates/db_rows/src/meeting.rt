@@ -1,0 +1,75 @@
+//! Whether a row meets conditions.
+#![tactic(auto, using(ct_keep::specs::Composing::reads_on, ct_keep::specs::Composing::reads_short))]
+
+ghost use Rattle.std.specs.Prelude.{◌≡◌, IfOk, OnOk, Some};
+ghost use Rattle.ct_keep.specs.KeeperViews.{OnlyReads};
+ghost use Rattle.db_state.specs.States.{OverTable};
+ghost use Rattle.db_rows.specs.Sources.{source_of as column_source, source_value};
+ghost use Rattle.db_rows.specs.Reading.{IsReadOf, OverRow};
+ghost use Rattle.db_rows.specs.Checking.{cond_column as column_of_cond};
+ghost use Rattle.db_rows.specs.Meeting.{holds_of as holds_of_value, key_meets};
+
+use crate::checking::cond_column;
+use crate::reading::{RowRead, column_value};
+use crate::sources::source_of;
+use ct_base::{Name, RowKey, Value};
+use ct_keep::{KeepFault, Keeper};
+use db_cond::holds;
+use st_parse::Cond;
+use std::alloc::Global;
+use tb_table::Column;
+
+/// Whether the condition holds of the value; where there is none, it doesn't.
+fn holds_of(cond: &Cond, value: &Option<Value>) -> bool
+    ensures { result ≡ holds_of_value cond.now value.now }
+{
+    match value {
+        Some(value) => holds(cond, value),
+        None => false,
+    }
+}
+
+/// Whether a row meets one condition.
+fn meets_one<K: Keeper>(
+    alloc: Global,
+    keeper: &mut K,
+    table: &Name,
+    columns: &[Column],
+    cond: &Cond,
+    row: RowKey,
+    read: &mut RowRead,
+) -> Result<bool, KeepFault>
+    requires { (K.view keeper.old).ready }
+    ensures met { OverRow K.view keeper.old table.now row.0 read.old (λ vs. IfOk result (λ met. met ≡ holds_of_value cond.now (source_value row.0 vs (column_source (column_of_cond cond.now) columns.now)))) }
+    ensures read { OverRow K.view keeper.old table.now row.0 read.old (λ vs. OnOk result (IsReadOf vs read.new)) }
+    ensures reads { OnlyReads K.view keeper.old keeper.new result }
+{
+    let source = source_of(cond_column(cond), columns);
+    let value = column_value(alloc, keeper, table, row, read, source)?;
+    Ok(holds_of(cond, &value))
+}
+
+/// Whether a row of a table meets all conditions, which are tried one after the other up to the first that doesn't hold.
+///
+/// It looks up the numbers of the row once at most, and each text once at most that a condition is on; so it makes no look-up
+/// where all conditions are on the key. It never answers Full.
+pub fn meets<K: Keeper>(
+    alloc: Global,
+    keeper: &mut K,
+    table: &Name,
+    columns: &[Column],
+    conds: &[Cond],
+    row: RowKey,
+) -> Result<bool, KeepFault>
+    requires { (K.view keeper.old).ready }
+    ensures met { OverTable K.view keeper.old table.now (λ m c x. x.columns ≡ columns.now → IfOk result (λ met. met ≡ key_meets x conds.now row.0)) }
+    ensures reads { OnlyReads K.view keeper.old keeper.new result }
+{
+    let mut read = RowRead::nothing(alloc);
+    for cond in conds {
+        if !meets_one(alloc, keeper, table, columns, cond, row, &mut read)? {
+            return Ok(false);
+        }
+    }
+    Ok(true)
+}

@@ -1,0 +1,161 @@
+//! Reads the values of a row, each entry once.
+#![tactic(auto, using(ct_keep::specs::Composing::reads_on, ct_keep::specs::Composing::reads_short))]
+
+ghost use Rattle.std.specs.Prelude.{◌≡◌, ◌==◌, List, [], ◌∷◌, ◌++◌, IfOk, OnOk, Some};
+ghost use Rattle.std.specs.List.{slice_get};
+ghost use Rattle.std.specs.Map.{lookup};
+ghost use Rattle.std.specs.Option.{option_map};
+ghost use Rattle.ct_base.specs.declared.lists.Value.{Value as RowValue};
+ghost use Rattle.ct_keep.specs.KeeperViews.{OnlyReads};
+ghost use Rattle.tb_table.specs.Tables.{numbers_of, text_of as row_text};
+ghost use Rattle.db_state.specs.States.{Sees};
+ghost use Rattle.db_rows.specs.Values.{row_values};
+ghost use Rattle.db_rows.specs.Sources.{source_value};
+ghost use Rattle.db_rows.specs.Reading.{IsReadOf, OverRow};
+
+use crate::sources::Source;
+use ct_base::{Memory, Name, RowKey, Text, Value};
+use ct_keep::{KeepFault, Keeper};
+use std::alloc::Global;
+use tb_table::{number_row, text_of};
+
+/// A text of a row that was read, with the place of its column; None where the row has none there.
+type ReadText = (u8, Option<Text>);
+
+/// What was read of a row: its numbers, and texts. So each entry of it is read once, for however many columns and conditions.
+#[derive(Drop)]
+pub struct RowRead {
+    numbers: Option<Vec<i64>>,
+    texts: Vec<ReadText>,
+}
+
+impl RowRead {
+    /// Nothing was read yet. It takes no memory.
+    pub fn nothing(alloc: Global) -> RowRead
+        ensures { (vs : List RowValue) → IsReadOf vs result }
+    {
+        RowRead {
+            numbers: None,
+            texts: Vec::new(alloc),
+        }
+    }
+}
+
+/// The number at a place.
+fn number_at(numbers: &[i64], place: usize) -> Option<i64>
+    ensures { result ≡ slice_get numbers.now place }
+{
+    numbers.get(place).copied()
+}
+
+/// The numbers of a row; none where it isn't there. It makes one look-up, and never answers Full.
+pub fn row_numbers<K: Keeper>(
+    alloc: Global,
+    keeper: &mut K,
+    table: &Name,
+    row: RowKey,
+) -> Result<Vec<i64>, KeepFault>
+    requires { (K.view keeper.old).ready }
+    ensures numbers { Sees K.view keeper.old result (λ m numbers. numbers.items ≡ numbers_of (row_values m.tables table.now row.0)) }
+    ensures reads { OnlyReads K.view keeper.old keeper.new result }
+{
+    match number_row(alloc, keeper, table, row)? {
+        Some(numbers) => Ok(numbers),
+        None => Ok(Vec::new(alloc)),
+    }
+}
+
+/// The text of a column, where it was read.
+fn known_text(texts: &[ReadText], column: u8) -> Result<Option<Option<Text>>, Memory>
+    ensures { IfOk result (λ known. known ≡ lookup (λ place. column == place) texts.now) }
+{
+    for (place, text) in texts {
+        if column == *place {
+            return Ok(Some(text.clone()?));
+        }
+    }
+    Ok(None)
+}
+
+/// Keeps a text that was read.
+fn note_text(texts: &mut Vec<ReadText>, column: u8, text: &Option<Text>) -> Result<(), Memory>
+    ensures { OnOk result (texts.new.items ≡ texts.old.items ++ (column, text.now) ∷ []) }
+{
+    let copy = text.clone()?;
+    texts.push((column, copy))?;
+    Ok(())
+}
+
+/// The number at a place among those of a row. They are read once; `read` keeps them.
+fn number_once<K: Keeper>(
+    alloc: Global,
+    keeper: &mut K,
+    table: &Name,
+    row: RowKey,
+    read: &mut RowRead,
+    place: usize,
+) -> Result<Option<i64>, KeepFault>
+    requires { (K.view keeper.old).ready }
+    ensures number { OverRow K.view keeper.old table.now row.0 read.old (λ vs. IfOk result (λ number. number ≡ slice_get (numbers_of vs) place)) }
+    ensures read { OverRow K.view keeper.old table.now row.0 read.old (λ vs. OnOk result (IsReadOf vs read.new)) }
+    ensures reads { OnlyReads K.view keeper.old keeper.new result }
+{
+    if let Some(numbers) = &read.numbers {
+        return Ok(number_at(numbers, place));
+    }
+    let numbers = row_numbers(alloc, keeper, table, row)?;
+    let number = number_at(&numbers, place);
+    read.numbers = Some(numbers);
+    Ok(number)
+}
+
+/// The text of a row in a column. It is read once; `read` keeps it.
+fn text_once<K: Keeper>(
+    alloc: Global,
+    keeper: &mut K,
+    table: &Name,
+    row: RowKey,
+    read: &mut RowRead,
+    column: u8,
+) -> Result<Option<Text>, KeepFault>
+    requires { (K.view keeper.old).ready }
+    ensures text { OverRow K.view keeper.old table.now row.0 read.old (λ vs. IfOk result (λ text. text ≡ row_text vs column)) }
+    ensures read { OverRow K.view keeper.old table.now row.0 read.old (λ vs. OnOk result (IsReadOf vs read.new)) }
+    ensures reads { OnlyReads K.view keeper.old keeper.new result }
+{
+    if let Some(text) = known_text(&read.texts, column)? {
+        return Ok(text);
+    }
+    let text = text_of(alloc, keeper, table, column, row)?;
+    note_text(&mut read.texts, column, &text)?;
+    Ok(text)
+}
+
+/// The value of a row that comes from this place; None where the row has none. It takes no look-up for the key, and one for the
+/// numbers and for each text, unless `read` has them.
+pub fn column_value<K: Keeper>(
+    alloc: Global,
+    keeper: &mut K,
+    table: &Name,
+    row: RowKey,
+    read: &mut RowRead,
+    source: Source,
+) -> Result<Option<Value>, KeepFault>
+    requires { (K.view keeper.old).ready }
+    ensures value { OverRow K.view keeper.old table.now row.0 read.old (λ vs. IfOk result (λ value. value ≡ source_value row.0 vs source)) }
+    ensures read { OverRow K.view keeper.old table.now row.0 read.old (λ vs. OnOk result (IsReadOf vs read.new)) }
+    ensures reads { OnlyReads K.view keeper.old keeper.new result }
+{
+    match source {
+        Source::Key => Ok(Some(Value::Number(row.0))),
+        Source::Number(place) => {
+            let number = number_once(alloc, keeper, table, row, read, place)?;
+            Ok(number.map(|number| Value::Number(number)))
+        }
+        Source::Text(column) => {
+            let text = text_once(alloc, keeper, table, row, read, column)?;
+            Ok(text.map(|text| Value::Text(text)))
+        }
+        Source::Nothing => Ok(None),
+    }
+}

@@ -1,0 +1,114 @@
+//! The rows of a table that meet conditions.
+#![tactic(auto, using(ct_keep::specs::Composing::reads_on, ct_keep::specs::Composing::reads_short))]
+
+ghost use Rattle.std.specs.Prelude.{◌≡◌, ◌++◌, [], ◌∷◌, map, IfOk, OnOk};
+ghost use Rattle.std.specs.Bool.{if◌then◌else◌};
+ghost use Rattle.ct_keep.specs.KeeperViews.{OnlyReads};
+ghost use Rattle.ct_entry.specs.Listings.{number_of};
+ghost use Rattle.ct_entry.specs.laws.Rows.{IsPlace};
+ghost use Rattle.tb_table.specs.Tables.{row_keys};
+ghost use Rattle.db_state.specs.States.{OverStates, OverTable};
+ghost use Rattle.db_rows.specs.Meeting.{key_meets, meeting_keys};
+ghost use Rattle.db_rows.specs.Walking.{IsNext, is_past as is_past_greatest};
+
+use crate::bounds::{KeyBounds, key_bounds, start};
+use crate::meeting::meets;
+use ct_base::{Memory, Name, RowKey};
+use ct_keep::{KeepFault, Keeper};
+use st_parse::Cond;
+use std::alloc::Global;
+use tb_table::{Column, next_row};
+
+/// Whether no key after this one lies within the bounds.
+fn is_past(after: Option<RowKey>, bounds: KeyBounds) -> bool
+    ensures { result ≡ is_past_greatest (number_of after) bounds.greatest.0 }
+{
+    match after {
+        Some(last) => last.0 >= bounds.greatest.0,
+        None => false,
+    }
+}
+
+/// The next key of the table after one, where it lies within the bounds. It takes one look-up at most, and none where the last
+/// key was the greatest that does.
+fn next_within<K: Keeper>(
+    alloc: Global,
+    keeper: &mut K,
+    table: &Name,
+    bounds: KeyBounds,
+    after: Option<RowKey>,
+) -> Result<Option<RowKey>, KeepFault>
+    requires { (K.view keeper.old).ready }
+    ensures next { OverStates K.view keeper.old (λ m c. IsPlace (number_of after) → IfOk result (λ row. IsNext (number_of after) bounds.greatest.0 (row_keys m.tables table.now) (number_of row))) }
+    ensures reads { OnlyReads K.view keeper.old keeper.new result }
+{
+    if is_past(after, bounds) {
+        return Ok(None);
+    }
+    let Some(row) = next_row(alloc, keeper, table, after)? else {
+        return Ok(None);
+    };
+    if row.0 > bounds.greatest.0 {
+        return Ok(None);
+    }
+    Ok(Some(row))
+}
+
+/// Puts the key of a row that meets the conditions.
+fn push_met(rows: &mut Vec<RowKey>, row: RowKey, met: bool) -> Result<(), Memory>
+    ensures { OnOk result (rows.new.items ≡ rows.old.items ++ (if met then row ∷ [] else [])) }
+{
+    if met {
+        rows.push(row)?;
+    }
+    Ok(())
+}
+
+/// Puts the key of a row, if the row meets all conditions.
+fn note_row<K: Keeper>(
+    alloc: Global,
+    keeper: &mut K,
+    table: &Name,
+    columns: &[Column],
+    conds: &[Cond],
+    rows: &mut Vec<RowKey>,
+    row: RowKey,
+) -> Result<(), KeepFault>
+    requires { (K.view keeper.old).ready }
+    ensures rows { OverTable K.view keeper.old table.now (λ m c x. x.columns ≡ columns.now → OnOk result (rows.new.items ≡ rows.old.items ++ (if key_meets x conds.now row.0 then row ∷ [] else []))) }
+    ensures reads { OnlyReads K.view keeper.old keeper.new result }
+{
+    let met = meets(alloc, keeper, table, columns, conds, row)?;
+    push_met(rows, row, met)?;
+    Ok(())
+}
+
+/// The keys of the rows of a table that meet all conditions, in order.
+///
+/// The conditions on the key bound the keys from below and from above. It makes one look-up for each row between the bounds and
+/// one more, or none more where a row stands at the upper bound; and for each of these rows at most one look-up of its numbers and
+/// one of each text that a condition is on. So `id = 7` costs one look-up in any table. It never answers Full.
+pub fn rows_meeting<K: Keeper>(
+    alloc: Global,
+    keeper: &mut K,
+    table: &Name,
+    columns: &[Column],
+    conds: &[Cond],
+) -> Result<Vec<RowKey>, KeepFault>
+    requires { (K.view keeper.old).ready }
+    ensures keys { OverTable K.view keeper.old table.now (λ m c x. x.columns ≡ columns.now → IfOk result (λ rows. map (λ row. row.0) rows.items ≡ meeting_keys x conds.now)) }
+    ensures reads { OnlyReads K.view keeper.old keeper.new result }
+{
+    let bounds = key_bounds(conds, columns);
+    let mut rows = Vec::new(alloc);
+    let mut after = start(bounds);
+    'steps: for _ in 0..u64::MAX {
+        let Some(row) = next_within(alloc, keeper, table, bounds, after)? else {
+            return Ok(rows);
+        };
+        note_row(alloc, keeper, table, columns, conds, &mut rows, row)?;
+        after = Some(row);
+    }
+    // no table has so many rows
+    Err(KeepFault::Memory)
+}
