@@ -21,11 +21,11 @@ refuse_passed : (b : Bool) (refusal : Refusal) (effect : Effect) (m : State) →
 refuse_passed true refusal effect m h = cc
 refuse_passed false refusal effect m h = (refl, h)
 
-refuse_by_passed : {X : Type 0} (o : Option X) (refusal : X → Refusal) (effect : Effect) (m : State) → refuse_by o refusal effect ≡ Does m [] → (o ≡ None) × (effect ≡ Does m [])
+pub refuse_by_passed : {X : Type 0} (o : Option X) (refusal : X → Refusal) (effect : Effect) (m : State) → refuse_by o refusal effect ≡ Does m [] → (o ≡ None) × (effect ≡ Does m [])
 refuse_by_passed None refusal effect m h = (refl, h)
 refuse_by_passed (Some x) refusal effect m h = cc
 
-not_false : (b : Bool) → not b ≡ false → b ≡ true
+pub not_false : (b : Bool) → not b ≡ false → b ≡ true
 not_false true h = refl
 not_false false h = cc
 

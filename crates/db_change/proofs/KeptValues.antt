@@ -103,7 +103,7 @@ kept_more P vs i x so_far less is p = All-more P vs i x less so_far (subst P is 
 
 -- ---- the columns
 
-fits_one : (s : Sort) (v : Operand) → is_of_sort s v ≡ true → is_too_long s v ≡ false → is_beyond_range v ≡ false → IsNumberKept v → IsTextKept v → FitsSort s (kept_value v)
+pub fits_one : (s : Sort) (v : Operand) → is_of_sort s v ≡ true → is_too_long s v ≡ false → is_beyond_range v ≡ false → IsNumberKept v → IsTextKept v → FitsSort s (kept_value v)
 fits_one NumberSort (Text text) sort short within number utf8 = cc
 fits_one NumberSort (Number (Fits n)) sort short within number utf8 = number
 fits_one NumberSort (Number Beyond) sort short within number utf8 = cc

@@ -5,3 +5,8 @@ pub mod NoteSteps
 pub mod RowSteps
 pub mod TableSteps
 pub mod ShapeSteps
+pub mod GoneSteps
+pub mod DropSteps
+pub mod AssignSteps
+pub mod UpdateSteps
+pub mod UpdatePlans

@@ -1,3 +1,6 @@
 pub mod Creating
 pub mod Inserting
+pub mod Deleting
+pub mod Updating
+pub mod Dropping
 pub mod laws

@@ -1,2 +1,9 @@
 pub mod NewRows
 pub mod NewTables
+pub mod GoneRows
+pub mod IndexCounts
+pub mod MetRows
+pub mod GoneTables
+pub mod SetValues
+pub mod SetIndexes
+pub mod ChangedRows

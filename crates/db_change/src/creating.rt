@@ -15,7 +15,7 @@ ghost use Rattle.tb_table.specs.Spelling.{table_changes};
 ghost use Rattle.tb_table.specs.declared.columns.Column.{Column};
 ghost use Rattle.db_state.specs.Effects.{Effect, as_count, Checks};
 ghost use Rattle.db_change.specs.Creating.{names_differ as columns_apart, check_table, column_of, all_sized, is_size, create_table as create_table_effect, is_key_first as key_first, is_number as sort_is_number, is_sized as sort_sized, sort_of, table_created};
-ghost use Rattle.db_state.specs.Plans.{IsStorePlan, Plans, Replies};
+ghost use Rattle.db_state.specs.Plans.{IsStorePlan, Plans, Replies, always};
 ghost use Rattle.db_state.specs.Shapes.{AcceptsStatements};
 
 use ct_base::{COLUMN_LIMIT, Memory, Name, TEXT_LIMIT};
@@ -211,7 +211,7 @@ pub fn create_table<K: Keeper>(
     columns: &[ColumnText],
 ) -> Result<Vec<u8>, KeepFault>
     requires { AcceptsStatements (K.view keeper.old) }
-    ensures { Replies K.view keeper.old keeper.new result (λ m. create_table_effect m table.now columns.now) (Some table_created) }
+    ensures { Replies K.view keeper.old keeper.new result (λ m. create_table_effect m table.now columns.now) (Some (always table_created)) }
 {
     match table_plan(alloc, keeper, table, columns) {
         Ok(plan) => carry_out(alloc, keeper, plan, b"Table created.\n"),

@@ -18,7 +18,7 @@ ghost use Rattle.db_state.specs.States.{OverTable};
 ghost use Rattle.db_state.specs.Effects.{Effect, Checks};
 ghost use Rattle.db_state.specs.Columns.{first_unknown as unknown_name};
 ghost use Rattle.db_change.specs.Inserting.{MakesRow, PlansRow, row_changes, are_of_sorts as all_of_sorts, arranged as arranged_values, behind_key as others_of, check_list, check_values, covers as covers_columns, has_row as has_row_of, has_too_long as any_too_long, insert_into as insert_into_effect, is_beyond_range, is_of_sort as sort_takes, is_too_long as too_long_for, key_in as key_of, kept_value, number_value, text_value, IsNumberKept, IsShortValue, IsTextKept, note_all_changes, names_of, row_created, value_under as named_value, IsFreeRow};
-ghost use Rattle.db_state.specs.Plans.{IsStorePlan, Plans, Replies};
+ghost use Rattle.db_state.specs.Plans.{IsStorePlan, Plans, Replies, always};
 ghost use Rattle.db_state.specs.Shapes.{AcceptsStatements, AreStoreChanges};
 
 use ct_base::{COLUMN_LIMIT, Memory, Name, ROW_LIMIT, RowKey, TEXT_LIMIT, Text};
@@ -170,7 +170,7 @@ fn arrange(
 
 // ---- the values, each with its column
 
-fn is_of_sort(sort: Sort, value: &Operand) -> bool
+pub(crate) fn is_of_sort(sort: Sort, value: &Operand) -> bool
     ensures { result ≡ sort_takes sort value.now }
 {
     match (sort, value) {
@@ -196,7 +196,7 @@ fn are_of_sorts(columns: &[Column], values: &[Operand]) -> bool
     true
 }
 
-fn is_too_long(sort: Sort, value: &Operand) -> bool
+pub(crate) fn is_too_long(sort: Sort, value: &Operand) -> bool
     ensures long { result ≡ too_long_for sort value.now }
     ensures short { sort_takes sort value.now ≡ true → result ≡ false → IsShortValue value.now }
 {
@@ -224,7 +224,7 @@ fn has_too_long(columns: &[Column], values: &[Operand]) -> bool
     false
 }
 
-fn is_beyond(value: &Operand) -> bool
+pub(crate) fn is_beyond(value: &Operand) -> bool
     ensures { result ≡ is_beyond_range value.now }
 {
     match value {
@@ -287,7 +287,7 @@ fn values_fault(
 // ---- what a row keeps
 
 /// The number that a row keeps of a value, if any; in place of one that is out of its range, 0.
-fn number_in(value: &Operand) -> Option<i64>
+pub(crate) fn number_in(value: &Operand) -> Option<i64>
     ensures number { result ≡ number_value value.now }
     ensures fits { IsNumberKept value.now }
 {
@@ -328,7 +328,7 @@ fn text_in(value: Operand) -> Option<Text>
 }
 
 /// The column of a value by its place behind the key, or the last that there can be.
-fn column_of(place: usize) -> u8
+pub(crate) fn column_of(place: usize) -> u8
     ensures { place < 255 → result ≡ place + 1 }
 {
     u8::try_from(place.saturating_add(1)).unwrap_or(u8::MAX)
@@ -511,7 +511,7 @@ pub fn insert_into<K: Keeper>(
     values: &[Operand],
 ) -> Result<Vec<u8>, KeepFault>
     requires { AcceptsStatements (K.view keeper.old) }
-    ensures { Replies K.view keeper.old keeper.new result (λ m. insert_into_effect m table.now names.now values.now) (Some row_created) }
+    ensures { Replies K.view keeper.old keeper.new result (λ m. insert_into_effect m table.now names.now values.now) (Some (always row_created)) }
 {
     match insert_plan(alloc, keeper, table, names, values) {
         Ok(plan) => carry_out(alloc, keeper, plan, b"1 row created.\n"),

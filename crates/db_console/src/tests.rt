@@ -328,7 +328,7 @@ E11: unknown name nope
 E11: unknown name nope
 E11: unknown name nope
 E27: no index of that kind
-E10: statement not understood
+E13: wrong type or number of values
 E11: unknown name nope
 E30: bad attribute or value
 E30: bad attribute or value

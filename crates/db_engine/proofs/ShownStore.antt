@@ -1,7 +1,7 @@
 -- The store that docs/STORE.md shows stands for its state, by the laws of the five statements that lead there.
 use Rattle.std.proofs.Common.{◌≡◌, ℕ, ℤ, pos, negsuc, ◌<◌, ◌+◌, Bool, true, false, List, [], ◌∷◌, ◌++◌, length, map, Option, Some, None, refl, sym, ap, subst, ◌∙◌, arith}
 use Rattle.std.specs.Prelude.{◌||◌, ◌==◌, ◌&&◌, nat_le, nat_lt, is_some, filter, codes, sum_by, T}
-use Rattle.std.specs.List.{list_any, filter_map}
+use Rattle.std.specs.List.{list_any}
 use Rattle.std.specs.Int.{to_be_bytes, w32}
 use Rattle.std.specs.Option.{option_and_then}
 use Rattle.std.specs.declared.cmp.Ordering.{Ordering}
@@ -28,12 +28,15 @@ use Rattle.ct_entry.specs.laws.Owners.{key_order_total}
 use Rattle.tb_table.specs.Tables.{Table, Tables, docs_columns, keys_in, row_in, text_of, with_table, with_row}
 use Rattle.tb_table.specs.Spelling.{table_changes}
 use Rattle.tb_table.specs.Rules.{FitColumns, others}
-use Rattle.ix_context.specs.Indexes.{Index, Mark, Pending, Marked, if_pending, pending_rows, text_seen, in_range, rows_in, all_marked, created, with_index, waiting_on, noted_on, synced_index, synced}
-use Rattle.ix_context.specs.Changes.{posting_change, document_changes, mark_changes, numbered, sync_rows_changes, sync_changes, create_changes}
+use Rattle.ix_rows.specs.Stores.{Untidy}
+use Rattle.ix_docmap.specs.Marks.{Mark, Pending, Settled}
+use Rattle.ix_context.specs.Indexes.{Index, Part, OfContext, in_queue, pending_rows, text_seen, in_range, rows_in, made, created_body, all_settled, created, with_index, waiting_on, noted_on, synced_index, synced}
+use Rattle.ct_entry.specs.Listings.{keys_where}
+use Rattle.ix_context.specs.Changes.{posting_change, document_changes, mark_with, sync_rows_changes, sync_changes, create_changes}
 use Rattle.ix_context.specs.Postings.{fox_and_quick}
 use Rattle.ix_context.specs.Rules.{most_given}
 use Rattle.ix_context.specs.Spelling.{index_bytes, index_entry}
-use Rattle.ct_entry.specs.Each.{each}
+use Rattle.ct_entry.specs.Each.{each, numbered}
 use Rattle.st_parse.specs.declared.statements.Arg.TheVariants.{Text as TextArg}
 use Rattle.st_parse.specs.declared.statements.Operand.{Operand}
 use Rattle.st_parse.specs.declared.statements.Statement.TheVariants.{Insert}
@@ -90,19 +93,28 @@ tables_of rows = from_sorted ((docs, table_of rows) ∷ [])
 abbrev tables_with : List (ℤ × List Value) → Tables
 tables_with rows = tables_of (from_sorted rows)
 
-abbrev index_of : ℕ → Rows Mark → Index
-index_of given marks = record { table = docs; column = 1; given = given; marks = marks }
+abbrev Its : Type 0
+Its = Mark (Unit {0})
 
-abbrev index_with : ℕ → List (ℤ × Mark) → Index
+abbrev part_with : ℕ → Part
+part_with given = record { given = given; tidiness = Untidy; waste = 0 }
+
+abbrev context_of : Part → Rows Its → Index
+context_of part marks = record { table = docs; column = 1; body = OfContext (record { part = part; marks = marks }) }
+
+abbrev index_of : ℕ → Rows Its → Index
+index_of given marks = context_of (part_with given) marks
+
+abbrev index_with : ℕ → List (ℤ × Its) → Index
 index_with given marks = index_of given (from_sorted marks)
 
 abbrev indexes_of : Index → Names Index
 indexes_of x = from_sorted ((di, x) ∷ [])
 
-abbrev indexes_with : ℕ → List (ℤ × Mark) → Names Index
+abbrev indexes_with : ℕ → List (ℤ × Its) → Names Index
 indexes_with given marks = indexes_of (index_with given marks)
 
-abbrev state_with : List (ℤ × List Value) → ℕ → List (ℤ × Mark) → State
+abbrev state_with : List (ℤ × List Value) → ℕ → List (ℤ × Its) → State
 state_with rows given marks = record { tables = tables_with rows; indexes = indexes_with given marks }
 
 abbrev without_index : State
@@ -111,7 +123,7 @@ without_index = record { tables = tables_with []; indexes = empty }
 table_there : (rows : List (ℤ × List Value)) → get (tables_with rows) docs ≡ Some (table_with rows)
 table_there rows = get-from_sorted (slice_cmp nat_cmp) ((docs, table_with rows) ∷ []) docs tt
 
-index_there : (given : ℕ) (marks : List (ℤ × Mark)) → get (indexes_with given marks) di ≡ Some (index_with given marks)
+index_there : (given : ℕ) (marks : List (ℤ × Its)) → get (indexes_with given marks) di ≡ Some (index_with given marks)
 index_there given marks = get-from_sorted (slice_cmp nat_cmp) ((di, index_with given marks) ∷ []) di tt
 
 no_rows : (X : Type 0) → empty ≡ from_sorted {K = ℤ} {X = X} {R = int_cmp} []
@@ -167,21 +179,21 @@ index_free = record {
       ∙ ap (λ (rs : List ℤ). nat_lt most_given (length rs)) no_row_yet;
 }
 
-abbrev marking : List ℤ → Index
-marking rows = index_of (length rows) (all_marked rows)
+abbrev settling : List ℤ → Index
+settling rows = record { table = docs; column = 1; body = created_body rows }
 
 indexes_created : with_index (tables_with []) empty di (target docs 1) all_rows ≡ indexes_with 0 []
 indexes_created =
     insert_is (slice_cmp nat_cmp) nat_list_cmp_total empty di (created (tables_with []) (target docs 1) all_rows) [] (nothing (slice_cmp nat_cmp) nat_list_cmp_total) tt
-    ∙ ap (λ (rows : List ℤ). indexes_of (marking rows)) no_row_yet
-    ∙ ap (λ (marks : Rows Mark). indexes_of (index_of 0 marks)) (no_rows Mark)
+    ∙ ap (λ (rows : List ℤ). indexes_of (settling rows)) no_row_yet
+    ∙ ap (λ (marks : Rows Its). indexes_of (index_of 0 marks)) (no_rows Its)
 
 abbrev second_changes : List KeyChange
 second_changes = put (key kind.Indexes di []) (index_bytes docs 1 1) ∷ []
 
 second_are : create_changes (tables_with []) di (target docs 1) all_rows ≡ second_changes
 second_are =
-    ap (λ (rows : List ℤ). put (key kind.Indexes di []) (index_entry (marking rows)) ∷ each (λ (p : ℕ × ℤ). mark_changes (tables_with []) di (created (tables_with []) (target docs 1) all_rows) p.0 p.1) (numbered 1 rows)) no_row_yet
+    ap (λ (rows : List ℤ). put (key kind.Indexes di []) (index_entry (settling rows)) ∷ each (mark_with di (text_seen (tables_with []) (created (tables_with []) (target docs 1) all_rows))) (numbered 1 rows)) no_row_yet
 
 abbrev second : Content
 second = after (spell second_changes) first
@@ -195,7 +207,7 @@ second_stands =
 -- ---- INSERT INTO docs
 
 -- the index is the one on the table
-its_names : (given : ℕ) (marks : List (ℤ × Mark)) → names_on (indexes_with given marks) docs ≡ di ∷ []
+its_names : (given : ℕ) (marks : List (ℤ × Its)) → names_on (indexes_with given marks) docs ≡ di ∷ []
 its_names given marks =
     let head : List ℕ × IndexHead = (di, head_of_index (index_with given marks)) in
     let listed : entries (heads (indexes_with given marks)) ≡ head ∷ [] =
@@ -204,7 +216,7 @@ its_names given marks =
     ap (λ (es : List (List ℕ × IndexHead)). map (λ (e : List ℕ × IndexHead). e.0) (filter (λ (e : List ℕ × IndexHead). is_of docs e.1) es))
     (ap (λ (es : List (List ℕ × IndexHead)). entries (from_entries {R = key_order} es)) listed ∙ entries-from_rising key_order key_order_total (head ∷ []) refl)
 
-module _ (rows : List (ℤ × List Value)) (given : ℕ) (marks : List (ℤ × Mark)) (r : ℤ) (vs : List Value) (rows_rise : T (is_sorted int_cmp rows)) (marks_rise : T (is_sorted int_cmp marks))
+module _ (rows : List (ℤ × List Value)) (given : ℕ) (marks : List (ℤ × Its)) (r : ℤ) (vs : List Value) (rows_rise : T (is_sorted int_cmp rows)) (marks_rise : T (is_sorted int_cmp marks))
     (then_rows : T (is_sorted int_cmp (put_pair int_cmp r vs rows))) (then_marks : T (is_sorted int_cmp (put_pair int_cmp r Pending marks))) where
   tables_with_row : with_row (tables_with rows) docs r vs ≡ tables_with (put_pair int_cmp r vs rows)
   tables_with_row =
@@ -217,7 +229,7 @@ module _ (rows : List (ℤ × List Value)) (given : ℕ) (marks : List (ℤ × M
       map_is (slice_cmp nat_cmp) nat_list_cmp_total (noted_on (indexes_with given marks) docs r) ((di, index_of given (insert (from_sorted marks) r Pending)) ∷ []) tt
       (entries-each_value (slice_cmp nat_cmp) (waiting_on docs r) nat_list_cmp_total (indexes_with given marks)
       ∙ ap (map {B = List ℕ × Index} (λ (e : List ℕ × Index). (e.0, waiting_on docs r e.1))) (entries-from_sorted (slice_cmp nat_cmp) ((di, index_with given marks) ∷ []) tt))
-      ∙ ap (λ (ms : Rows Mark). indexes_of (index_of given ms)) (insert_is int_cmp int_cmp_total (from_sorted marks) r Pending marks (entries-from_sorted int_cmp marks marks_rise) then_marks)
+      ∙ ap (λ (ms : Rows Its). indexes_of (index_of given ms)) (insert_is int_cmp int_cmp_total (from_sorted marks) r Pending marks (entries-from_sorted int_cmp marks marks_rise) then_marks)
 
   row_stands : (c : Content) → Stands c (state_with rows given marks) → find int_cmp r rows ≡ None → IsRow r → FitColumns (others docs_columns) vs → length rows < 100000
       → Stands (after (spell (new_row_changes docs r vs (di ∷ []))) c) (state_with (put_pair int_cmp r vs rows) given (put_pair int_cmp r Pending marks))
@@ -258,7 +270,7 @@ abbrev waiting : Index
 waiting = index_with 0 ((pos 1, Pending) ∷ [])
 
 one_waits : pending_rows waiting ≡ pos 1 ∷ []
-one_waits = ap (λ (es : List (ℤ × Mark)). filter_map (λ e. if_pending e.1 e.0) es) (entries-from_sorted int_cmp ((pos 1, Pending) ∷ []) tt)
+one_waits = ap (λ (es : List (ℤ × Its)). keys_where in_queue es) (entries-from_sorted int_cmp ((pos 1, Pending) ∷ []) tt)
 
 its_text : text_seen (tables_with one_row) waiting (pos 1) ≡ Some (codes "quick fox quick")
 its_text =
@@ -278,26 +290,28 @@ fourth_are =
     ap (sync_rows_changes (tables_with one_row) di waiting) one_waits
     ∙ ap (λ (o : Option (List ℕ)). ((drop_key (key kind.Pending di (row_part (pos 1))) ∷ document_changes di 1 (pos 1) o) ++ []) ++ put (key kind.Indexes di []) (index_entry (synced_index waiting)) ∷ []) its_text
     ∙ ap (λ (es : List (List ℕ × List ℕ)). ((settled_first ++ map (posting_change di 1) es) ++ []) ++ put (key kind.Indexes di []) (index_entry (synced_index waiting)) ∷ []) fox_and_quick
-    ∙ ap (λ (rs : List ℤ). (settled_first ++ posting_change di 1 (codes "fox", 2 ∷ []) ∷ posting_change di 1 (codes "quick", 1 ∷ 3 ∷ []) ∷ []) ++ put (key kind.Indexes di []) (index_bytes docs 1 (0 + length rs + 1)) ∷ []) one_waits
+    ∙ ap (λ (rs : List ℤ). (settled_first ++ posting_change di 1 (codes "fox", 2 ∷ []) ∷ posting_change di 1 (codes "quick", 1 ∷ 3 ∷ []) ∷ []) ++ put (key kind.Indexes di []) (index_bytes docs 1 ((made (length rs) (part_with 0)).given + 1)) ∷ []) one_waits
 
 few_enough : has_too_many waiting ≡ false
 few_enough = ap (λ (rs : List ℤ). nat_lt most_given (0 + length rs)) one_waits
 
-indexes_synced : synced (indexes_with 0 ((pos 1, Pending) ∷ [])) di ≡ indexes_with 1 ((pos 1, Marked) ∷ [])
+indexes_synced : synced (indexes_with 0 ((pos 1, Pending) ∷ [])) di ≡ indexes_with 1 ((pos 1, Settled tt) ∷ [])
 indexes_synced =
+    let marks : Rows Its = from_sorted ((pos 1, Pending) ∷ []) in
+    let all : Rows Its = all_settled marks in
     ap (altered (indexes_with 0 ((pos 1, Pending) ∷ [])) di synced_index) (index_there 0 ((pos 1, Pending) ∷ []))
     ∙ insert_is (slice_cmp nat_cmp) nat_list_cmp_total (indexes_with 0 ((pos 1, Pending) ∷ [])) di (synced_index waiting) ((di, waiting) ∷ []) (entries-from_sorted (slice_cmp nat_cmp) ((di, waiting) ∷ []) tt) tt
-    ∙ ap (λ (rs : List ℤ). indexes_of (index_of (0 + length rs) (synced_index waiting).marks)) one_waits
-    ∙ ap (λ (ms : Rows Mark). indexes_of (index_of 1 ms))
-    (map_is int_cmp int_cmp_total (synced_index waiting).marks ((pos 1, Marked) ∷ []) tt
-    (entries-each_value int_cmp (λ (m : Mark). Marked) int_cmp_total waiting.marks ∙ ap (map {B = ℤ × Mark} (λ (e : ℤ × Mark). (e.0, Marked))) (entries-from_sorted int_cmp ((pos 1, Pending) ∷ []) tt)))
+    ∙ ap (λ (rs : List ℤ). indexes_of (context_of (made (length rs) (part_with 0)) all)) one_waits
+    ∙ ap (λ (ms : Rows Its). indexes_of (index_of 1 ms))
+    (map_is int_cmp int_cmp_total all ((pos 1, Settled tt) ∷ []) tt
+    (entries-each_value int_cmp (λ (m : Its). Settled tt) int_cmp_total marks ∙ ap (map {B = ℤ × Its} (λ (e : ℤ × Its). (e.0, Settled tt))) (entries-from_sorted int_cmp ((pos 1, Pending) ∷ []) tt)))
 
 abbrev fourth : Content
 fourth = after (spell fourth_changes) third
 
-fourth_stands : Stands fourth (state_with one_row 1 ((pos 1, Marked) ∷ []))
+fourth_stands : Stands fourth (state_with one_row 1 ((pos 1, Settled tt) ∷ []))
 fourth_stands =
-    subst (λ (ws : List KeyChange). Stands (after (spell ws) third) (state_with one_row 1 ((pos 1, Marked) ∷ []))) fourth_are
+    subst (λ (ws : List KeyChange). Stands (after (spell ws) third) (state_with one_row 1 ((pos 1, Settled tt) ∷ []))) fourth_are
     (subst (λ (xs : Names Index). Stands (after (spell (sync_changes (tables_with one_row) di waiting)) third) (record { tables = tables_with one_row; indexes = xs })) indexes_synced
     (synced_stands third (state_with one_row 0 ((pos 1, Pending) ∷ [])) di waiting third_stands (index_there 0 ((pos 1, Pending) ∷ [])) few_enough))
 
@@ -307,7 +321,7 @@ abbrev fifth : Content
 fifth = after (spell (new_row_changes docs (pos 2) row_two (di ∷ []))) fourth
 
 fifth_stands : Stands fifth shown_state
-fifth_stands = row_stands one_row 1 ((pos 1, Marked) ∷ []) (pos 2) row_two tt tt tt tt fourth fourth_stands refl (omega arith) two_fits (omega arith)
+fifth_stands = row_stands one_row 1 ((pos 1, Settled tt) ∷ []) (pos 2) row_two tt tt tt tt fourth fourth_stands refl (omega arith) two_fits (omega arith)
 
 -- ---- the entries then
 
@@ -336,7 +350,7 @@ index_is_created =
     ∙ ap (λ (b : Bool). check_index false true b di done) index_free.few
     ∙ ap (λ (xs : Names Index). Does (record { tables = tables_with []; indexes = xs }) index_created) indexes_created
 
-module _ (rows : List (ℤ × List Value)) (given : ℕ) (marks : List (ℤ × Mark)) (r : ℤ) (values : List Operand) (rows_rise : T (is_sorted int_cmp rows)) (marks_rise : T (is_sorted int_cmp marks))
+module _ (rows : List (ℤ × List Value)) (given : ℕ) (marks : List (ℤ × Its)) (r : ℤ) (values : List Operand) (rows_rise : T (is_sorted int_cmp rows)) (marks_rise : T (is_sorted int_cmp marks))
     (then_rows : T (is_sorted int_cmp (put_pair int_cmp r (others_kept values) rows))) (then_marks : T (is_sorted int_cmp (put_pair int_cmp r Pending marks))) where
   row_is_inserted : key_in values ≡ Some r → find int_cmp r rows ≡ None → nat_le row_limit (length rows) ≡ false
       → ((done : Effect) → check_list docs_columns None values done ≡ done) → ((done : Effect) → check_values false false docs_columns values done ≡ done)
@@ -355,7 +369,7 @@ module _ (rows : List (ℤ × List Value)) (given : ℕ) (marks : List (ℤ × M
       ∙ ap (λ (ts : Tables). Does (record { tables = ts; indexes = noted_on (indexes_with given marks) docs r }) row_created) (tables_with_row rows given marks r (others_kept values) rows_rise marks_rise then_rows then_marks)
       ∙ ap (λ (xs : Names Index). Does (record { tables = tables_with (put_pair int_cmp r (others_kept values) rows); indexes = xs }) row_created) (indexes_with_note rows given marks r (others_kept values) rows_rise marks_rise then_rows then_marks)
 
-index_is_synced : effect (state_with one_row 0 ((pos 1, Pending) ∷ [])) sync_statement ≡ Does (state_with one_row 1 ((pos 1, Marked) ∷ [])) call_done
+index_is_synced : effect (state_with one_row 0 ((pos 1, Pending) ∷ [])) sync_statement ≡ Does (state_with one_row 1 ((pos 1, Settled tt) ∷ [])) call_done
 index_is_synced =
     let m = state_with one_row 0 ((pos 1, Pending) ∷ []) in
     ap (λ (o : Option Index). check_sync (unknown_name (is_some o) (Some di)) (TextArg di ∷ []) (sync_named m (Some di))) (index_there 0 ((pos 1, Pending) ∷ []))
@@ -369,7 +383,7 @@ it_is_led_to =
     ∙ ap (λ (e : Effect). after_all (state_by without_index e) (Insert docs None first_values ∷ sync_statement ∷ Insert docs None second_values ∷ [])) index_is_created
     ∙ ap (λ (e : Effect). after_all (state_by (state_with [] 0 []) e) (sync_statement ∷ Insert docs None second_values ∷ [])) (row_is_inserted [] 0 [] (pos 1) first_values tt tt tt tt refl refl refl (λ done. refl) (λ done. refl))
     ∙ ap (λ (e : Effect). after_all (state_by (state_with one_row 0 ((pos 1, Pending) ∷ [])) e) (Insert docs None second_values ∷ [])) index_is_synced
-    ∙ ap (λ (e : Effect). state_by (state_with one_row 1 ((pos 1, Marked) ∷ [])) e) (row_is_inserted one_row 1 ((pos 1, Marked) ∷ []) (pos 2) second_values tt tt tt tt refl refl refl (λ done. refl) (λ done. refl))
+    ∙ ap (λ (e : Effect). state_by (state_with one_row 1 ((pos 1, Settled tt) ∷ [])) e) (row_is_inserted one_row 1 ((pos 1, Settled tt) ∷ []) (pos 2) second_values tt tt tt tt refl refl refl (λ done. refl) (λ done. refl))
 
 -- ---- and so the store
 

@@ -1,6 +1,6 @@
 -- What the ways out of a statement tell over any content.
-use Rattle.std.proofs.Common.{◌≡◌, ℕ, Bool, true, false, List, ◌∷◌, Some, None, Ok, Vec, refl, sym, ap, ◌∙◌, inl, inr, arith}
-use Rattle.std.specs.Prelude.{not}
+use Rattle.std.proofs.Common.{◌≡◌, ℕ, Bool, true, false, List, [], ◌∷◌, ◌++◌, Some, None, Ok, Vec, refl, sym, ap, ◌∙◌, inl, inr, arith}
+use Rattle.std.specs.Prelude.{not, codes}
 use Rattle.std.specs.Bool.{if◌then◌else◌}
 use Rattle.std.specs.declared.alloc.Global.{Global}
 use Rattle.ct_keep.specs.KeeperViews.{KeeperView}
@@ -10,10 +10,14 @@ use Rattle.st_parse.specs.declared.statements.Statement.TheVariants.{CreateTable
 use Rattle.db_change.specs.Creating.{table_created}
 use Rattle.db_index.specs.Indexing.{index_created}
 use Rattle.db_change.specs.Inserting.{row_created}
+use Rattle.db_change.specs.Updating.{rows_updated}
+use Rattle.db_change.specs.Deleting.{rows_deleted}
+use Rattle.db_change.specs.Dropping.{table_dropped}
+use Rattle.db_index.specs.Dropping.{index_dropped}
 use Rattle.db_state.specs.Lines.{call_done}
 use Rattle.db_engine.specs.Steps.{is_built_index}
 use Rattle.db_engine.specs.Executing.{is_sync, done_line, is_fixed, Tells}
-use Rattle.db_state.specs.Plans.{Returns}
+use Rattle.db_state.specs.Plans.{DoneLines, always, Returns}
 use Rattle.db_engine.specs.declared.replies.Reply.TheVariants.{Text as ReplyText}
 
 -- ---- lines
@@ -38,48 +42,66 @@ not_full NoIndexOfKind is = let e : 50 ≡ 56 = ap second is in omega (arith, e)
 not_full BadValue is = let e : 51 ≡ 56 = ap second is in omega (arith, e)
 not_full LimitReached is = let e : 51 ≡ 56 = ap second is in omega (arith, e)
 
-if_some : (b : Bool) (line done : List ℕ) → (if b then Some line else None) ≡ Some done → line ≡ done
+-- the last byte but one
+before_last : List ℕ → ℕ
+before_last (a ∷ b ∷ c ∷ cs) = before_last (b ∷ c ∷ cs)
+before_last (a ∷ b ∷ []) = a
+before_last bs = 0
+
+before_last-append : (xs : List ℕ) (a b c : ℕ) (cs : List ℕ) → before_last (xs ++ a ∷ b ∷ c ∷ cs) ≡ before_last (b ∷ c ∷ cs)
+unfolding before_last
+before_last-append [] a b c cs = refl
+before_last-append (x ∷ []) a b c cs = refl
+before_last-append (x ∷ y ∷ []) a b c cs = refl
+before_last-append (x ∷ y ∷ z ∷ zs) a b c cs = before_last-append (y ∷ z ∷ zs) a b c cs
+
+-- a line that tells how many rows were updated or deleted ends by a full stop
+ends_otherwise : (xs : List ℕ) (a b c : ℕ) (cs : List ℕ) → before_last (b ∷ c ∷ cs) ≡ 46 → xs ++ a ∷ b ∷ c ∷ cs ≡ store_full → ⊥
+unfolding before_last
+ends_otherwise xs a b c cs stop is = let e : 46 ≡ 108 = sym stop ∙ sym (before_last-append xs a b c cs) ∙ ap before_last is in omega (arith, e)
+
+if_some : (b : Bool) (line done : DoneLines) → (if b then Some line else None) ≡ Some done → line ≡ done
 if_some true line done is = cc
 if_some false line done is = cc
 
 -- and no change is said to be made by that line
-pub not_done : (s : Statement) (done : List ℕ) → done_line s ≡ Some done → done ≡ store_full → ⊥
-unfolding second
-not_done (CreateTable name columns) done is full = let line : table_created ≡ done = cc in let e : 97 ≡ 56 = ap second (line ∙ full) in omega (arith, e)
-not_done (CreateIndex name table column kind parameters parallel) done is full = let e : 110 ≡ 56 = ap second (if_some (is_built_index kind parameters parallel) index_created done is ∙ full) in omega (arith, e)
-not_done (Insert table columns values) done is full = let line : row_created ≡ done = cc in let e : 32 ≡ 56 = ap second (line ∙ full) in omega (arith, e)
-not_done (Exec pack procedure args) done is full = let e : 76 ≡ 56 = ap second (if_some (is_sync pack procedure) call_done done is ∙ full) in omega (arith, e)
-not_done (DropTable name) done is full = cc
-not_done (DropIndex name) done is full = cc
-not_done (Update table assigns conds) done is full = cc
-not_done (Delete table conds) done is full = cc
-not_done (Select list table preds orders) done is full = cc
-not_done Commit done is full = cc
+pub not_done : (s : Statement) (done : DoneLines) (rows : ℕ) → done_line s ≡ Some done → done rows ≡ store_full → ⊥
+unfolding second before_last
+not_done (CreateTable name columns) done rows is full = let line : always table_created ≡ done = cc in let e : 97 ≡ 56 = ap second (ap (λ (l : DoneLines). l rows) line ∙ full) in omega (arith, e)
+not_done (CreateIndex name table column kind parameters parallel) done rows is full = let e : 110 ≡ 56 = ap second (ap (λ (l : DoneLines). l rows) (if_some (is_built_index kind parameters parallel) (always index_created) done is) ∙ full) in omega (arith, e)
+not_done (Insert table columns values) done rows is full = let line : always row_created ≡ done = cc in let e : 32 ≡ 56 = ap second (ap (λ (l : DoneLines). l rows) line ∙ full) in omega (arith, e)
+not_done (Exec pack procedure args) done rows is full = let e : 76 ≡ 56 = ap second (ap (λ (l : DoneLines). l rows) (if_some (is_sync pack procedure) (always call_done) done is) ∙ full) in omega (arith, e)
+not_done (DropTable name) done rows is full = let line : always table_dropped ≡ done = cc in let e : 97 ≡ 56 = ap second (ap (λ (l : DoneLines). l rows) line ∙ full) in omega (arith, e)
+not_done (DropIndex name) done rows is full = let line : always index_dropped ≡ done = cc in let e : 110 ≡ 56 = ap second (ap (λ (l : DoneLines). l rows) line ∙ full) in omega (arith, e)
+not_done (Update table assigns conds) done rows is full = let lines : rows_updated ≡ done = cc in ends_otherwise _ 117 112 100 (codes "ated.\n") refl (ap (λ (l : DoneLines). l rows) lines ∙ full)
+not_done (Delete table conds) done rows is full = let lines : rows_deleted ≡ done = cc in ends_otherwise _ 100 101 108 (codes "eted.\n") refl (ap (λ (l : DoneLines). l rows) lines ∙ full)
+not_done (Select list table preds orders) done rows is full = cc
+not_done Commit done rows is full = cc
 
 -- a statement that isn't built yet, or asks of a text alone, has no such line
-if_none : (b : Bool) (line : List ℕ) → not b ≡ true → (if b then Some line else None) ≡ None
+if_none : (b : Bool) (line : DoneLines) → not b ≡ true → (if b then Some line else None) ≡ None
 if_none true line is = cc
 if_none false line is = refl
 
 pub fixed_looks : (s : Statement) → is_fixed s ≡ true → done_line s ≡ None
 fixed_looks (CreateTable name columns) is = cc
-fixed_looks (CreateIndex name table column kind parameters parallel) is = if_none (is_built_index kind parameters parallel) index_created is
+fixed_looks (CreateIndex name table column kind parameters parallel) is = if_none (is_built_index kind parameters parallel) (always index_created) is
 fixed_looks (Insert table columns values) is = cc
-fixed_looks (Exec pack procedure args) is = if_none (is_sync pack procedure) call_done is
-fixed_looks (DropTable name) is = refl
-fixed_looks (DropIndex name) is = refl
-fixed_looks (Update table assigns conds) is = refl
-fixed_looks (Delete table conds) is = refl
+fixed_looks (Exec pack procedure args) is = if_none (is_sync pack procedure) (always call_done) is
+fixed_looks (DropTable name) is = cc
+fixed_looks (DropIndex name) is = cc
+fixed_looks (Update table assigns conds) is = cc
+fixed_looks (Delete table conds) is = cc
 fixed_looks (Select list table preds orders) is = refl
 fixed_looks Commit is = refl
 
 -- ---- the reply
 
-pub tells_text : (done : List ℕ) (old new : KeeperView) (lines : Vec ℕ Global) (reply : List ℕ) → reply ≡ lines.items → Returns done old new (Ok lines) → Tells done old new (Ok (ReplyText reply))
-tells_text done old new lines reply is (inl made) = inl (record { says = is ∙ made.says; commits = made.commits })
+pub tells_text : (done : DoneLines) (old new : KeeperView) (lines : Vec ℕ Global) (reply : List ℕ) → reply ≡ lines.items → Returns done old new (Ok lines) → Tells done old new (Ok (ReplyText reply))
+tells_text done old new lines reply is (inl made) = inl (record { rows = made.rows; says = is ∙ made.says; commits = made.commits })
 tells_text done old new lines reply is (inr refused) = inr (record { refusal = refused.refusal; says = is ∙ refused.says; reads = refused.reads })
 
 -- no line of it says that the store is full
-pub text_not_full : (s : Statement) (done : List ℕ) (old new : KeeperView) (lines : Vec ℕ Global) (reply : List ℕ) → done_line s ≡ Some done → reply ≡ lines.items → Returns done old new (Ok lines) → reply ≡ store_full → ⊥
-text_not_full s done old new lines reply has is (inl made) full = not_done s done has (sym made.says ∙ sym is ∙ full)
+pub text_not_full : (s : Statement) (done : DoneLines) (old new : KeeperView) (lines : Vec ℕ Global) (reply : List ℕ) → done_line s ≡ Some done → reply ≡ lines.items → Returns done old new (Ok lines) → reply ≡ store_full → ⊥
+text_not_full s done old new lines reply has is (inl made) full = not_done s done made.rows has (sym made.says ∙ sym is ∙ full)
 text_not_full s done old new lines reply has is (inr refused) full = not_full refused.refusal (sym refused.says ∙ sym is ∙ full)

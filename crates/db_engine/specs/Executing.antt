@@ -8,13 +8,17 @@ use Rattle.ct_keep.specs.declared.keepers.KeepFault.TheVariants.{Memory, Disk, F
 use Rattle.ct_keep.specs.KeeperViews.{counted, KeeperView}
 use Rattle.st_parse.specs.declared.statements.SelectList.TheVariants.{Star}
 use Rattle.st_parse.specs.declared.statements.Statement.{Statement}
-use Rattle.st_parse.specs.declared.statements.Statement.TheVariants.{CreateTable, CreateIndex, Insert, Select, Exec}
+use Rattle.st_parse.specs.declared.statements.Statement.TheVariants.{CreateTable, DropTable, DropIndex, CreateIndex, Insert, Update, Delete, Select, Exec, Commit}
 use Rattle.db_cond.specs.Faults.{store_full}
 use Rattle.db_state.specs.States.{State, Stands}
 use Rattle.db_state.specs.Effects.{Effect, reply_by}
 use Rattle.db_change.specs.Creating.{table_created}
 use Rattle.db_index.specs.Indexing.{index_created}
 use Rattle.db_change.specs.Inserting.{row_created}
+use Rattle.db_change.specs.Updating.{rows_updated}
+use Rattle.db_change.specs.Deleting.{rows_deleted}
+use Rattle.db_change.specs.Dropping.{table_dropped}
+use Rattle.db_index.specs.Dropping.{index_dropped}
 use Rattle.db_state.specs.Lines.{call_done}
 use Rattle.db_engine.specs.Steps.{effect, is_built_index, may_fill}
 use Rattle.db_engine.specs.Runs.{Answer, Step, NoMemory, Full}
@@ -22,7 +26,7 @@ use Rattle.db_engine.specs.declared.replies.Reply.{Reply}
 use Rattle.db_engine.specs.declared.replies.Reply.TheVariants.{Text as ReplyText, Full as ReplyFull, NoMemory as ReplyNoMemory}
 use Rattle.db_engine.specs.declared.replies.Stop.{Stop}
 use Rattle.db_engine.specs.declared.replies.Stop.TheVariants.{Disk as DiskStop}
-use Rattle.db_state.specs.Plans.{Moves, HasNoPlace, CommitsOnce, ContentStays, IsMade, IsRefused}
+use Rattle.db_state.specs.Plans.{DoneLines, always, Moves, HasNoPlace, CommitsOnce, ContentStays, IsMade, IsRefused}
 
 -- ---- the answers of `execute`
 
@@ -72,36 +76,45 @@ abbrev pub is_sync : List ℕ → List ℕ → Bool
 is_sync pack procedure = bytes_eq pack (codes "ctx_ddl") && bytes_eq procedure (codes "sync_index")
 
 -- the lines by which CREATE INDEX, where it is built, and the call of a procedure say that their change is made
-abbrev pub index_line : Bool → Option (List ℕ)
-index_line built = if built then Some index_created else None
+abbrev pub index_line : Bool → Option DoneLines
+index_line built = if built then Some (always index_created) else None
 
-abbrev pub call_line : List ℕ → List ℕ → Option (List ℕ)
-call_line pack procedure = if is_sync pack procedure then Some call_done else None
+abbrev pub call_line : List ℕ → List ℕ → Option DoneLines
+call_line pack procedure = if is_sync pack procedure then Some (always call_done) else None
 
--- The line by which a statement says that its change is made. None where it changes nothing: it only looks, or is refused since it isn't built yet.
-abbrev pub done_line : Statement → Option (List ℕ)
-done_line (CreateTable name columns) = Some table_created
+-- The lines by which a statement says that its change is made. None where it changes nothing: it only looks, is COMMIT, or is refused since it isn't built yet.
+abbrev pub done_line : Statement → Option DoneLines
+done_line (CreateTable name columns) = Some (always table_created)
 done_line (CreateIndex name table column kind parameters parallel) = index_line (is_built_index kind parameters parallel)
-done_line (Insert table columns values) = Some row_created
+done_line (Insert table columns values) = Some (always row_created)
+done_line (Update table assigns conds) = Some rows_updated
+done_line (Delete table conds) = Some rows_deleted
+done_line (DropTable name) = Some (always table_dropped)
+done_line (DropIndex name) = Some (always index_dropped)
 done_line (Exec pack procedure args) = call_line pack procedure
-done_line statement = None
+done_line (Select list table preds orders) = None
+done_line Commit = None
 
--- Whether the reply to a statement is the same in every state: it asks of a text alone, or isn't built yet.
+-- Whether the reply to a statement is the same in every state: it asks of a text alone, is COMMIT, or isn't built yet.
 abbrev pub is_fixed : Statement → Bool
 is_fixed (CreateTable name columns) = false
 is_fixed (CreateIndex name table column kind parameters parallel) = not (is_built_index kind parameters parallel)
 is_fixed (Insert table columns values) = false
+is_fixed (Update table assigns conds) = false
+is_fixed (Delete table conds) = false
+is_fixed (DropTable name) = false
+is_fixed (DropIndex name) = false
 is_fixed (Select list table preds orders) = false
 is_fixed (Exec pack procedure args) = not (is_sync pack procedure)
-is_fixed statement = true
+is_fixed Commit = true
 
 -- The store was full: how often the keeper found that rose, and the content stays as it is.
 pub record IsFull (old new : KeeperView) : Type 0 where
   pub stays : ContentStays old new
   pub rose : Rose old.counts.fulls new.counts.fulls
 
--- How a statement was answered that says by this line that its change is made.
-abbrev pub Tells : List ℕ → KeeperView → KeeperView → Result Reply Stop → Type 0
+-- How a statement was answered that says by one of these lines that its change is made.
+abbrev pub Tells : DoneLines → KeeperView → KeeperView → Result Reply Stop → Type 0
 Tells done old new (Ok (ReplyText reply)) = IsMade done reply old new ⊎ IsRefused reply old new
 Tells done old new (Ok ReplyFull) = IsFull old new
 Tells done old new (Ok ReplyNoMemory) = ContentStays old new
@@ -129,10 +142,13 @@ abbrev pub NoTextIsFull : Result Reply Stop → Type 0
 NoTextIsFull result = IfText (λ reply. reply ≡ store_full → ⊥) result
 
 -- computed examples
-row_line : done_line (Insert (codes "docs") None []) ≡ Some (codes "1 row created.\n")
+two_rows : done_line (Delete (codes "docs") []) ≡ Some rows_deleted
+two_rows = refl
+
+row_line : done_line (Insert (codes "docs") None []) ≡ Some (always (codes "1 row created.\n"))
 row_line = refl
 
-sync_line : done_line (Exec (codes "ctx_ddl") (codes "sync_index") []) ≡ Some (codes "PL/SQL procedure successfully completed.\n")
+sync_line : done_line (Exec (codes "ctx_ddl") (codes "sync_index") []) ≡ Some (always (codes "PL/SQL procedure successfully completed.\n"))
 sync_line = refl
 
 select_line : done_line (Select Star (codes "docs") [] []) ≡ None

@@ -5,7 +5,9 @@ use Rattle.ct_base.specs.declared.lists.Value.TheVariants.{Number, Text}
 use Rattle.ct_keep.specs.Content.{Content}
 use Rattle.tb_table.specs.declared.columns.Sort.TheVariants.{Number as NumberSort, Clob}
 use Rattle.tb_table.specs.Tables.{Table}
-use Rattle.ix_context.specs.Indexes.{Index, Marked, Pending}
+use Rattle.ix_rows.specs.Stores.{Untidy}
+use Rattle.ix_docmap.specs.Marks.{Pending, Settled}
+use Rattle.ix_context.specs.Indexes.{Index, OfContext}
 use Rattle.st_parse.specs.declared.statements.Arg.TheVariants.{Text as TextArg}
 use Rattle.st_parse.specs.declared.statements.ColumnText.{ColumnText}
 use Rattle.st_parse.specs.declared.statements.IndexKind.TheVariants.{Context}
@@ -82,7 +84,7 @@ shown_entries =
 abbrev pub shown_store : Content
 shown_store = from_sorted shown_entries
 
--- the table `docs` with two rows, and the index `di` on its column 1, of which the row 1 is marked and the row 2 waits
+-- the table `docs` with two rows, and the index `di` on its column 1, of which the row 1 is settled and the row 2 waits
 abbrev shown_table : Table
 shown_table = record {
   columns = record { name = codes "id"; sort = NumberSort } ∷ record { name = codes "body"; sort = Clob } ∷ record { name = codes "price"; sort = NumberSort } ∷ [];
@@ -90,7 +92,11 @@ shown_table = record {
 }
 
 abbrev shown_index : Index
-shown_index = record { table = codes "docs"; column = 1; given = 1; marks = from_sorted ((pos 1, Marked) ∷ (pos 2, Pending) ∷ []) }
+shown_index = record {
+  table = codes "docs";
+  column = 1;
+  body = OfContext (record { part = record { given = 1; tidiness = Untidy; waste = 0 }; marks = from_sorted ((pos 1, Settled tt) ∷ (pos 2, Pending) ∷ []) });
+}
 
 abbrev pub shown_state : State
 shown_state = record { tables = from_sorted ((codes "docs", shown_table) ∷ []); indexes = from_sorted ((codes "di", shown_index) ∷ []) }

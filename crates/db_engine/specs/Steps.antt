@@ -4,7 +4,7 @@ use Rattle.std.specs.Bool.{if◌then◌else◌}
 use Rattle.std.specs.Str.{chars, is_utf8}
 use Rattle.st_parse.specs.declared.statements.Arg.{Arg}
 use Rattle.db_cond.specs.Faults.{NotUnderstood, StatementTooLong}
-use Rattle.db_state.specs.States.{State, empty_state, is_view}
+use Rattle.db_state.specs.States.{State, empty_state}
 use Rattle.db_state.specs.Effects.{Effect, Refused, Does, refuse, reply_by}
 use Rattle.std.specs.Fmt.{digits}
 use lib.Utf8.{encode}
@@ -14,18 +14,18 @@ use Rattle.tx_chars.specs.Keys.{key_text}
 use Rattle.st_parse.specs.declared.statements.IndexKind.{IndexKind}
 use Rattle.st_parse.specs.declared.statements.IndexKind.TheVariants.{Context, Ctxcat, Ctxrule}
 use Rattle.st_parse.specs.declared.statements.Whole.{Whole}
-use Rattle.st_parse.specs.declared.statements.Pred.{Pred}
-use Rattle.st_parse.specs.declared.statements.Pred.TheVariants.{Contains}
-use Rattle.st_parse.specs.declared.statements.SelectList.{SelectList}
-use Rattle.st_parse.specs.declared.statements.SelectList.TheVariants.{Items}
 use Rattle.st_parse.specs.declared.statements.Statement.{Statement}
-use Rattle.st_parse.specs.declared.statements.Statement.TheVariants.{CreateTable, DropTable, DropIndex, CreateIndex, Insert, Delete, Select, Exec, Commit}
+use Rattle.st_parse.specs.declared.statements.Statement.TheVariants.{CreateTable, DropTable, DropIndex, CreateIndex, Insert, Update, Delete, Select, Exec, Commit}
 use Rattle.st_parse.specs.Grammar.{Read, NoStatement, Found, read}
 use Rattle.st_parse.specs.Grammar.{Blank}
 use Rattle.db_change.specs.Creating.{create_table}
 use Rattle.db_index.specs.Indexing.{create_index}
 use Rattle.db_change.specs.Inserting.{insert_into}
-use Rattle.db_select.specs.Selecting.{select}
+use Rattle.db_change.specs.Updating.{update}
+use Rattle.db_change.specs.Deleting.{delete_from}
+use Rattle.db_change.specs.Dropping.{drop_table}
+use Rattle.db_index.specs.Dropping.{drop_index}
+use Rattle.db_select.specs.Statements.{select_statement}
 use Rattle.db_index.specs.Tokenizing.{policy_tokens}
 use Rattle.db_index.specs.Syncing.{sync_index}
 
@@ -37,11 +37,6 @@ call m pack procedure args =
     if bytes_eq pack (codes "ctx_ddl") && bytes_eq procedure (codes "sync_index") then sync_index m args
     else (if bytes_eq pack (codes "ctx_doc") && bytes_eq procedure (codes "policy_tokens") then policy_tokens m args
     else Refused NotUnderstood)
-
--- SELECT of a list with exactly one CONTAINS as its condition; the grammar has no other yet, and what is only looked at can't be asked yet
-abbrev pub select_by : State → SelectList → List ℕ → List Pred → Effect
-select_by m (Items items) t (Contains column query label above ∷ []) = refuse (is_view t) NotUnderstood (select m items t column query label above)
-select_by m list t preds = Refused NotUnderstood
 
 -- of the indexes those of kind CONTEXT without PARAMETERS and PARALLEL are built so far
 abbrev pub is_context : IndexKind → Bool
@@ -56,20 +51,28 @@ is_built_index kind parameters parallel = is_context kind && (is_none parameters
 abbrev pub create_index_if : Bool → State → List ℕ → List ℕ → List ℕ → Effect
 create_index_if built m i t column = refuse (not built) NotUnderstood (create_index m i t column)
 
--- what a statement does; the grammar has no others yet
+-- COMMIT changes nothing, since each statement is kept by itself
+abbrev pub commit_complete : List ℕ
+commit_complete = codes "Commit complete.\n"
+
+-- what a statement does
 abbrev pub effect : State → Statement → Effect
 effect m (CreateTable name columns) = create_table m name columns
 effect m (CreateIndex name table column kind parameters parallel) = create_index_if (is_built_index kind parameters parallel) m name table column
 effect m (Insert table columns values) = insert_into m table columns values
-effect m (Select list table preds orders) = select_by m list table preds
+effect m (Select list table preds orders) = select_statement m list table preds
 effect m (Exec pack procedure args) = call m pack procedure args
-effect m statement = Refused NotUnderstood
+effect m (DropTable name) = drop_table m name
+effect m (DropIndex name) = drop_index m name
+effect m (Update table assigns conds) = update m table assigns conds
+effect m (Delete table conds) = delete_from m table conds
+effect m Commit = Does m commit_complete
 
 -- whether the call of a procedure of the package may be answered that the store is full
 abbrev pub may_fill_by : List ℕ → Bool
 may_fill_by pack = not (bytes_eq pack (codes "ctx_doc") || bytes_eq pack (codes "ctx_query"))
 
--- whether the statement may be
+-- Whether the statement may be: one that only looks, or only takes entries away, never is.
 abbrev pub may_fill : Statement → Bool
 may_fill (DropTable name) = false
 may_fill (DropIndex name) = false

@@ -2,24 +2,24 @@
 #![tactic(auto, using(ct_keep::specs::Composing::reads_on, ct_keep::specs::Composing::reads_short))]
 
 ghost use Rattle.std.specs.Prelude.{ℕ, ◌≡◌, ◌&&◌, List, IfOk, Some, None, Err, true, false, not, codes, bytes_eq};
-ghost use Rattle.ct_keep.specs.KeeperViews.{AtMostOneCommit, SameButContent, OnlyReads, Reads};
+ghost use Rattle.ct_keep.specs.KeeperViews.{AtMostOneCommit, SameButContent, OnlyReads, Reads, Told};
 ghost use Rattle.db_state.specs.Shapes.{AcceptsStatements};
 ghost use Rattle.db_cond.specs.Faults.{NotUnderstood, refusal_line};
-ghost use Rattle.db_state.specs.Effects.{reply_by, state_by};
-ghost use Rattle.db_state.specs.States.{Sees, State};
-ghost use Rattle.db_engine.specs.Steps.{call as call_effect, create_index_if, effect, is_built_index as built_index, may_fill, may_fill_by, select_by as select_effect};
+ghost use Rattle.db_state.specs.Effects.{reply_by};
+ghost use Rattle.db_state.specs.States.{State};
+ghost use Rattle.db_engine.specs.Steps.{call as call_effect, create_index_if, effect, is_built_index as built_index, may_fill, may_fill_by};
 ghost use Rattle.db_engine.specs.Executing.{ExecutesStatement, FullByCount, IfText, NoTextIsFull, Tells, call_line, done_line, fault_of_stop, index_line, is_fixed, is_sync as is_sync_call};
-ghost use Rattle.db_state.specs.Plans.{GivesReply, Replies};
+ghost use Rattle.db_state.specs.Plans.{DoneLines, GivesReply, Replies};
 
 use crate::replies::{Reply, Stop};
 use ct_base::{Bytes, Memory, Name, Text};
 use ct_keep::{KeepFault, Keeper};
-use db_change::{create_table, insert_into};
+use db_change::{create_table, delete_from, drop_table, insert_into, update};
 use db_cond::not_understood;
-use db_index::{create_index, policy_tokens, sync_index};
+use db_index::{create_index, drop_index, policy_tokens, sync_index};
 use db_select::select;
-use db_state::{fixed_reply, is_view};
-use st_parse::{Arg, IndexKind, Pred, SelectList, Statement, Whole};
+use db_state::fixed_reply;
+use st_parse::{Arg, IndexKind, Statement, Whole};
 use std::alloc::Global;
 use std::thread::Threads;
 
@@ -28,48 +28,6 @@ fn not_built(alloc: Global) -> Result<Vec<u8>, Memory>
     ensures { IfOk result (λ reply. reply.items ≡ refusal_line NotUnderstood) }
 {
     fixed_reply(alloc, not_understood())
-}
-
-/// The rows that a SELECT of a list with one CONTAINS gives.
-fn selected<K: Keeper>(
-    alloc: Global,
-    keeper: &mut K,
-    list: &SelectList,
-    table: &Name,
-    preds: &[Pred],
-) -> Result<Vec<u8>, KeepFault>
-    requires { (K.view keeper.old).ready }
-    ensures reads { OnlyReads K.view keeper.old keeper.new result }
-    ensures reply { Sees K.view keeper.old result (λ m reply. reply.items ≡ reply_by (select_effect m list.now table.now preds.now)) }
-    ensures state { (m : State) → state_by m (select_effect m list.now table.now preds.now) ≡ m }
-{
-    let SelectList::Items(items) = list else {
-        return Ok(not_built(alloc)?);
-    };
-    let [
-        Pred::Contains {
-            column,
-            query,
-            label,
-            above,
-        },
-    ] = preds
-    else {
-        return Ok(not_built(alloc)?);
-    };
-    if is_view(table.as_str()) {
-        return Ok(not_built(alloc)?);
-    }
-    select(
-        alloc,
-        keeper,
-        items.as_slice(),
-        table,
-        column,
-        query.as_str(),
-        *label,
-        *above,
-    )
 }
 
 /// Whether a procedure is CTX_DDL.SYNC_INDEX.
@@ -143,7 +101,7 @@ fn reply_to<K: Keeper>(
     requires { AcceptsStatements (K.view keeper.old) }
     ensures serves { Replies K.view keeper.old keeper.new result (λ m. effect m statement.now) (done_line statement.now) }
     ensures fixed { (m : State) → is_fixed statement.now ≡ true → GivesReply result (effect m statement.now) }
-    ensures may { result ≡ Err KeepFault.Full → may_fill statement.now ≡ true }
+    ensures may { Told K.view keeper.old (λ m. result ≡ Err KeepFault.Full → may_fill statement.now ≡ true) }
 {
     match statement {
         Statement::CreateTable { name, columns } => {
@@ -170,17 +128,21 @@ fn reply_to<K: Keeper>(
             table,
             preds,
             ..
-        } => selected(alloc, keeper, list, table, preds.as_slice()),
+        } => select(alloc, keeper, list, table, preds.as_slice()),
         Statement::Exec {
             package,
             procedure,
             args,
         } => call(alloc, keeper, package, procedure, args.as_slice()),
-        Statement::DropTable { .. }
-        | Statement::DropIndex { .. }
-        | Statement::Update { .. }
-        | Statement::Delete { .. }
-        | Statement::Commit => Ok(not_built(alloc)?),
+        Statement::DropTable { name } => drop_table(alloc, keeper, name),
+        Statement::DropIndex { name } => drop_index(alloc, keeper, name),
+        Statement::Update {
+            table,
+            assigns,
+            conds,
+        } => update(alloc, keeper, table, assigns.as_slice(), conds.as_slice()),
+        Statement::Delete { table, conds } => delete_from(alloc, keeper, table, conds.as_slice()),
+        Statement::Commit => Ok(fixed_reply(alloc, b"Commit complete.\n")?),
     }
 }
 
@@ -202,9 +164,9 @@ pub fn execute<R: Threads + Sync, K: Keeper>(
     ensures once { AtMostOneCommit (K.view keeper.old).counts (K.view keeper.new).counts }
     ensures executes { ExecutesStatement statement.now (K.view keeper.old) (K.view keeper.new) result }
     ensures reads { done_line statement.now ≡ None → Reads (K.view keeper.old) (K.view keeper.new) (fault_of_stop result) }
-    ensures tells { (done : List ℕ) → done_line statement.now ≡ Some done → Tells done (K.view keeper.old) (K.view keeper.new) result }
+    ensures tells { (done : DoneLines) → done_line statement.now ≡ Some done → Tells done (K.view keeper.old) (K.view keeper.new) result }
     ensures full { FullByCount (K.view keeper.old) (K.view keeper.new) result }
-    ensures no_text { (done : List ℕ) → done_line statement.now ≡ Some done → NoTextIsFull result }
+    ensures no_text { (done : DoneLines) → done_line statement.now ≡ Some done → NoTextIsFull result }
     ensures fixed { (m : State) → is_fixed statement.now ≡ true → IfText (λ reply. reply ≡ reply_by (effect m statement.now)) result }
 {
     match reply_to(alloc, keeper, statement) {

@@ -9,7 +9,7 @@ use Rattle.std.specs.FinMap.{get, entries, from_entries, find, get-from_entries,
 use Rattle.std.proofs.lemmas.Bool.{le-ltb, ltb-false, and_parts}
 use Rattle.ct_keep.specs.Content.{Content}
 use Rattle.tb_table.specs.declared.columns.Target.{Target}
-use Rattle.ix_context.specs.Stands.{HoldsTables}
+use Rattle.ix_context.specs.Stands.{HoldsTables, HoldsIndexes}
 use Rattle.std.proofs.lemmas.Cmp.{nat_list_cmp_total}
 use Rattle.ct_entry.specs.Keys.{same_list}
 use Rattle.ct_entry.specs.Maps.{Names}
@@ -158,6 +158,9 @@ place_within name cs place is = let far = go 0 cs is in omega (arith, far)
 
 pub holds_tables : (c : Content) (m : State) → Stands c m → HoldsTables c m.tables
 holds_tables c m stands = record { only = stands.only; stand = stands.tables; rules = stands.state.tables }
+
+pub holds_indexes : (c : Content) (m : State) → Stands c m → HoldsIndexes c m.tables m.indexes
+holds_indexes c m stands = record { tables = holds_tables c m stands; stand = stands.indexes; rules = stands.state.indexes }
 
 pub rows_given : (m : State) (on : Target) (t : List ℕ) (place : ℕ) (x : Table) → AreTables m.tables → get m.tables t ≡ Some x → on ≡ target t place → most_given < length (rows_in m.tables on.table all_rows) → ⊥
 rows_given m on t place x are there is over =

@@ -2,3 +2,4 @@ pub mod Found
 pub mod IndexChecks
 pub mod SyncChecks
 pub mod PlanShapes
+pub mod DropChecks

@@ -8,7 +8,7 @@ use Rattle.st_parse.specs.declared.statements.Arg.{Arg}
 use Rattle.st_parse.specs.declared.statements.Arg.TheVariants.{Text as TextArg, Number as NumberArg}
 use Rattle.ct_entry.specs.Changes.{spell}
 use Rattle.ix_context.specs.Changes.{sync_changes}
-use Rattle.ix_context.specs.Indexes.{Index, pending_rows, synced}
+use Rattle.ix_context.specs.Indexes.{given, Index, pending_rows, synced}
 use Rattle.ix_context.specs.Rules.{most_given}
 use Rattle.db_cond.specs.Faults.{UnknownName, WrongValues, BadValue, LimitReached}
 use Rattle.db_state.specs.States.{State}
@@ -62,7 +62,7 @@ check_sync unknown args done =
 
 -- there are too few numbers for the rows that wait
 abbrev pub has_too_many : Index → Bool
-has_too_many x = nat_lt most_given (x.given + length (pending_rows x))
+has_too_many x = nat_lt most_given (given x + length (pending_rows x))
 
 abbrev pub with_synced : State → List ℕ → State
 with_synced m i = record m { indexes = synced m.indexes i }

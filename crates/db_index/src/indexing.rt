@@ -8,7 +8,7 @@ ghost use Rattle.tb_table.specs.Tables.{Table};
 ghost use Rattle.db_state.specs.States.{OverStates, OverTable, indexes_on, index_limit, Sees};
 ghost use Rattle.db_state.specs.Effects.{Effect, Checks};
 ghost use Rattle.db_index.specs.Indexing.{MakesFreeIndex, PlansIndex, check_index, create_index as create_index_effect, has_context_index as column_has_index, index_created, is_index_taken, is_text_at as text_at, is_text_sort as sort_of_texts, IsFreeIndex};
-ghost use Rattle.db_state.specs.Plans.{IsStorePlan, Plans, Replies};
+ghost use Rattle.db_state.specs.Plans.{IsStorePlan, Plans, Replies, always};
 ghost use Rattle.db_state.specs.Shapes.{AcceptsStatements, AreStoreChanges};
 
 use ct_base::Name;
@@ -203,7 +203,7 @@ pub fn create_index<K: Keeper>(
     column: &Name,
 ) -> Result<Vec<u8>, KeepFault>
     requires { AcceptsStatements (K.view keeper.old) }
-    ensures { Replies K.view keeper.old keeper.new result (λ m. create_index_effect m index.now table.now column.now) (Some index_created) }
+    ensures { Replies K.view keeper.old keeper.new result (λ m. create_index_effect m index.now table.now column.now) (Some (always index_created)) }
 {
     match index_plan(alloc, keeper, index, table, column) {
         Ok(plan) => carry_out(alloc, keeper, plan, b"Index created.\n"),

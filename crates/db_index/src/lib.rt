@@ -1,10 +1,12 @@
-//! Indexes and procedures: CREATE INDEX, CTX_DDL.SYNC_INDEX and CTX_DOC.POLICY_TOKENS.
+//! Indexes and procedures: CREATE INDEX, DROP INDEX, CTX_DDL.SYNC_INDEX and CTX_DOC.POLICY_TOKENS.
 #![tactic(auto)]
 
+mod dropping;
 mod indexing;
 mod syncing;
 mod tokenizing;
 
+pub use dropping::drop_index;
 pub use indexing::create_index;
 pub use syncing::sync_index;
 pub use tokenizing::policy_tokens;

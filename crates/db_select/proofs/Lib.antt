@@ -1,8 +1,9 @@
 pub mod FieldLaws
 pub mod FieldSteps
+pub mod HitSteps
 pub mod LineSteps
-pub mod Located
-pub mod RowReads
+pub mod Listed
+pub mod NameOrder
 pub mod Scores
 pub mod Selects
-pub mod Listed
+pub mod WaitSteps

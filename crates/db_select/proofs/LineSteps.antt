@@ -6,16 +6,16 @@ use Rattle.ct_base.specs.declared.lists.Value.{Value}
 use Rattle.tb_table.specs.Tables.{Tables}
 use Rattle.ix_context.specs.declared.hits.Hit.{Hit}
 use Rattle.db_cond.specs.Lines.{line}
-use Rattle.db_select.specs.declared.sources.Source.{Source}
+use Rattle.db_select.specs.declared.sources.FieldSource.{FieldSource}
 use Rattle.db_state.specs.Lines.{lines_or_none}
 use Rattle.db_select.specs.Sources.{hit_fields}
 use Rattle.db_state.specs.laws.PrintedLines.{lines_of_some}
 
 -- the lines of the first `i` rows were written
-pub record AreWritten (ts : Tables) (t : List ℕ) (sources : List Source) (hits : List Hit) (i : ℕ) (lines : List ℕ) : Type 0 where
+pub record AreWritten (ts : Tables) (t : List ℕ) (sources : List FieldSource) (hits : List Hit) (i : ℕ) (lines : List ℕ) : Type 0 where
   pub are : lines ≡ flat_map (λ h. line (hit_fields ts t sources (h.key.0, h.score))) (take i hits)
 
-module _ (ts : Tables) (t : List ℕ) (sources : List Source) (hits : List Hit) where
+module _ (ts : Tables) (t : List ℕ) (sources : List FieldSource) (hits : List Hit) where
   pub none_written : AreWritten ts t sources hits 0 []
   none_written = record { are = refl }
 

@@ -1,13 +1,18 @@
 -- The columns of a list.
-use Rattle.std.proofs.Common.{◌≡◌, ℕ, suc, ◌+◌, ◌<◌, length, get_or, drop, add-one, Bool, true, false, cond, List, ◌∷◌, Some, sym, ap, ◌∙◌}
+use Rattle.std.proofs.Common.{◌≡◌, ℕ, suc, ◌+◌, ◌<◌, ◌≤◌, length, get_or, drop, add-one, Bool, true, false, cond, List, [], ◌∷◌, ◌++◌, Option, Some, None, refl, sym, ap, ◌∙◌, arith}
 use Rattle.std.proofs.Math.Seq.{drop-cons}
 use Rattle.st_parse.specs.declared.statements.Item.{Item}
 use Rattle.st_parse.specs.declared.statements.Item.TheVariants.{Column as ColumnItem, Score}
 use Rattle.st_parse.specs.declared.statements.Whole.{Whole}
 use Rattle.tb_table.specs.declared.columns.Column.{Column}
 use Rattle.tb_table.specs.Rules.{has_column}
-use Rattle.db_state.specs.Columns.{first_unknown}
-use Rattle.db_select.specs.Selecting.{columns_among}
+use Rattle.std.specs.Option.{option_and_then}
+use Rattle.ct_entry.specs.Keys.{same_list}
+use Rattle.db_state.specs.States.{State}
+use Rattle.db_state.specs.Lookups.{FoundOn, index_on}
+use Rattle.db_select.specs.Searches.{NeedsIndex}
+use Rattle.db_state.specs.Columns.{first_unknown, place_from, place_of}
+use Rattle.db_select.specs.Predicates.{Search, columns_among}
 
 -- a column that is there, one that isn't, and a score
 pub column_there : (items rest : List Item) (item : Item) (columns : List Column) (name : List ℕ) → items ≡ item ∷ rest → item ≡ ColumnItem name → has_column name columns ≡ true → first_unknown (columns_among items) columns ≡ first_unknown (columns_among rest) columns
@@ -30,3 +35,39 @@ score_passed items rest item columns own is score =
 -- an element of a list, and those behind it
 pub here : {X : Type 0} (xs : List X) (i : ℕ) (x : X) → i < length xs → x ≡ get_or xs i x → drop i xs ≡ x ∷ drop (i + 1) xs
 here xs i x within is = drop-cons xs i x within ∙ ap (λ y. y ∷ drop (suc i) xs) (sym is) ∙ ap (λ (j : ℕ). x ∷ drop j xs) (sym (add-one i))
+
+-- the first name that is unknown, of two lists
+pub unknown_first : (names more : List (List ℕ)) (columns : List Column) (name : List ℕ) → first_unknown names columns ≡ Some name → first_unknown (names ++ more) columns ≡ Some name
+unknown_first [] more columns name is = cc
+unknown_first (n ∷ ns) more columns name is = go (has_column n columns) is (unknown_first ns more columns name)
+  where
+    go : (b : Bool) → cond b (first_unknown ns columns) (Some n) ≡ Some name → (first_unknown ns columns ≡ Some name → first_unknown (ns ++ more) columns ≡ Some name) → cond b (first_unknown (ns ++ more) columns) (Some n) ≡ Some name
+    go true is rest = rest is
+    go false is rest = is
+
+pub unknown_second : (names more : List (List ℕ)) (columns : List Column) → first_unknown names columns ≡ None → first_unknown (names ++ more) columns ≡ first_unknown more columns
+unknown_second [] more columns is = refl
+unknown_second (n ∷ ns) more columns is = go (has_column n columns) is (unknown_second ns more columns)
+  where
+    go : (b : Bool) → cond b (first_unknown ns columns) (Some n) ≡ None → (first_unknown ns columns ≡ None → first_unknown (ns ++ more) columns ≡ first_unknown more columns) → cond b (first_unknown (ns ++ more) columns) (Some n) ≡ first_unknown more columns
+    go true is rest = rest is
+    go false is rest = cc
+
+-- ---- places
+
+-- a place that is found is one of the columns
+place_below : (k : ℕ) (name : List ℕ) (columns : List Column) (place : ℕ) → place_from k name columns ≡ Some place → place < k + length columns
+place_below k name [] place is = cc
+place_below k name (c ∷ cs) place is = go (same_list name c.name) is (place_below (suc k) name cs place)
+  where
+    go : (b : Bool) → cond b (Some k) (place_from (suc k) name cs) ≡ Some place → (place_from (suc k) name cs ≡ Some place → place < suc k + length cs) → place < k + length (c ∷ cs)
+    go true is rest = let e : k ≡ place = cc in omega (arith, e)
+    go false is rest = let low = rest is in omega (arith, low)
+
+pub place_small : (name : List ℕ) (columns : List Column) (place : ℕ) → place_of name columns ≡ Some place → length columns ≤ 256 → place < 256
+place_small name columns place is few = let low = place_below 0 name columns place is in omega (arith, low)
+
+-- the index on the place of the column is the one that the search needs
+pub needed_at : (m : State) (t : List ℕ) (columns : List Column) (s : Search) (place : ℕ) → place_of s.column columns ≡ Some place → (found : Option (List ℕ)) → FoundOn m.indexes t place found → NeedsIndex m t columns s found
+needed_at m t columns s place is None found = ap (option_and_then (λ (place : ℕ). index_on m.indexes t place)) is ∙ found
+needed_at m t columns s place is (Some i) found = (found.0, (found.1.0, ap (option_and_then (λ (place : ℕ). index_on m.indexes t place)) is ∙ found.1.1))

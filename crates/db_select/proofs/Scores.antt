@@ -5,7 +5,8 @@ use Rattle.std.specs.List.{filter_map, cons_option}
 use Rattle.std.specs.FinMap.{entries}
 use Rattle.std.proofs.lemmas.Map.Entries.{option_filter}
 use Rattle.tb_table.specs.Tables.{Tables}
-use Rattle.ix_context.specs.Indexes.{Index, Mark, Pending, Marked, if_above, scored, found_at, text_seen, found}
+use Rattle.ix_docmap.specs.Marks.{Mark, Pending, Settled}
+use Rattle.ix_context.specs.Indexes.{Index, marks_in, if_above, scored, found_at, text_seen, found}
 use Rattle.ix_context.specs.Postings.{word_score}
 
 none_above : (n score : ℕ) → nat_lt 0 score ≡ false → nat_lt n score ≡ false
@@ -26,9 +27,9 @@ scored_of_all : (key : List ℕ) (n : ℕ) (r : ℤ) (text : Option (List ℕ)) 
 scored_of_all key n r None = refl
 scored_of_all key n r (Some text) = above_of_all n r (word_score key text)
 
-at_of_all : (ts : Tables) (x : Index) (key : List ℕ) (n : ℕ) (r : ℤ) (m : Mark) → option_filter (λ (h : ℤ × ℕ). nat_lt n h.1) (found_at ts x key 0 r m) ≡ found_at ts x key n r m
+at_of_all : (ts : Tables) (x : Index) (key : List ℕ) (n : ℕ) (r : ℤ) (m : Mark (Unit {0})) → option_filter (λ (h : ℤ × ℕ). nat_lt n h.1) (found_at ts x key 0 r m) ≡ found_at ts x key n r m
 at_of_all ts x key n r Pending = refl
-at_of_all ts x key n r Marked = scored_of_all key n r (text_seen ts x r)
+at_of_all ts x key n r (Settled _) = scored_of_all key n r (text_seen ts x r)
 
 -- a filter of what is given is what is given through it
 kept : {Y : Type 0} (p : Y → Bool) (y : Y) (ys zs : List Y) (b : Bool) → p y ≡ b → filter p ys ≡ zs → cond b (y ∷ filter p ys) (filter p ys) ≡ cons_option (cond b (Some y) None) zs
@@ -44,7 +45,7 @@ filter_given p f g same [] = refl
 filter_given p f g same (x ∷ xs) = filter_cons p (f x) (g x) (filter_map f xs) (filter_map g xs) (same x) (filter_given p f g same xs)
 
 pub above_filtered : (ts : Tables) (x : Index) (key : List ℕ) (n : ℕ) → filter (λ (h : ℤ × ℕ). nat_lt n h.1) (found ts x key 0) ≡ found ts x key n
-above_filtered ts x key n = filter_given (λ (h : ℤ × ℕ). nat_lt n h.1) (λ e. found_at ts x key 0 e.0 e.1) (λ e. found_at ts x key n e.0 e.1) (λ e. at_of_all ts x key n e.0 e.1) (entries x.marks)
+above_filtered ts x key n = filter_given (λ (h : ℤ × ℕ). nat_lt n h.1) (λ e. found_at ts x key 0 e.0 e.1) (λ e. found_at ts x key n e.0 e.1) (λ e. at_of_all ts x key n e.0 e.1) (entries (marks_in x.body))
 
 pub filter_mapped : {X Y : Type 0} (p : Y → Bool) (f : X → Y) (xs : List X) → map f (filter (λ x. p (f x)) xs) ≡ filter p (map f xs)
 filter_mapped p f [] = refl

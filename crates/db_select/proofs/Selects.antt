@@ -1,49 +1,37 @@
 -- The ways out of a SELECT.
-use Rattle.std.proofs.Common.{◌≡◌, ◌≤◌, ℕ, ℤ, Bool, true, false, List, [], ◌∷◌, length, map, Option, Some, None, refl, sym, ap, ◌∙◌, arith}
-use Rattle.std.specs.Prelude.{not, ◌||◌}
+use Rattle.std.proofs.Common.{◌≡◌, ◌≤◌, ℕ, ℤ, Bool, true, false, List, [], ◌∷◌, ◌++◌, length, map, Option, Some, None, refl, sym, ap, ◌∙◌, arith}
+use Rattle.std.specs.Prelude.{not, ◌||◌, ◌&&◌, is_none, bytes_eq, codes}
+use Rattle.std.specs.Bool.{if◌then◌else◌}
 use Rattle.std.specs.List.{list_all}
-use Rattle.std.specs.Option.{option_map}
 use Rattle.std.specs.FinMap.{get}
 use Rattle.st_parse.specs.declared.statements.Item.{Item}
-use Rattle.st_parse.specs.declared.statements.Whole.{Whole}
+use Rattle.st_parse.specs.declared.statements.Item.TheVariants.{Column as ColumnItem}
+use Rattle.st_parse.specs.declared.statements.Pred.{Pred}
+use Rattle.st_parse.specs.declared.statements.SelectList.{SelectList}
 use Rattle.tb_table.specs.declared.columns.Column.{Column}
 use Rattle.tb_table.specs.Tables.{Table}
 use Rattle.tb_table.specs.Rules.{AreTables}
+use Rattle.st_parse.specs.declared.statements.Cond.{Cond}
 use Rattle.ix_context.specs.declared.hits.Hit.{Hit}
-use Rattle.ix_context.specs.Indexes.{Index, found}
-use Rattle.db_cond.specs.Faults.{Refusal, UnknownName, WrongValues, OutOfRange, NoIndexOfKind, NotInProfile, refusal_line}
-use Rattle.db_state.specs.States.{State}
-use Rattle.db_state.specs.Effects.{Effect, Refused, Does, refuse, refuse_by, with_found, state_by, reply_by, as_count}
-use Rattle.db_state.specs.Columns.{place_of, first_unknown}
-use Rattle.db_state.specs.Lines.{lines_or_none}
-use Rattle.db_select.specs.Selecting.{columns_among, is_labelled, is_beyond_label, is_threshold, is_word_query, query_key, hit_line, check_select, select_found, select}
-use Rattle.db_state.specs.Lookups.{index_on}
-use Rattle.db_select.specs.Seeking.{with_searched}
-use Rattle.db_select.specs.declared.sources.Source.{Source}
-use Rattle.db_select.specs.Sources.{source_of, hit_fields}
+use Rattle.ix_context.specs.Indexes.{Index}
+use Rattle.db_cond.specs.Faults.{Refusal, NotUnderstood, UnknownName, WrongValues, OutOfRange, NoIndexOfKind, NotInProfile, refusal_line}
+use Rattle.db_state.specs.States.{State, is_view}
+use Rattle.db_state.specs.Effects.{Effect, Does, Refused, refuse, refuse_by, with_found, state_by, reply_by}
+use Rattle.db_state.specs.Columns.{first_unknown}
+use Rattle.db_rows.specs.Checking.{fit_columns, has_beyond}
+use Rattle.db_select.specs.Predicates.{Search, is_built_pred, label_in, list_columns, pred_column, search_in, conds_in}
+use Rattle.db_select.specs.Checking.{fit_labels, is_out_of_range, has_no_query, check_parts, check_values}
+use Rattle.db_select.specs.Selecting.{all_columns, hit_line, hits, index_of_search, lacks_index, rows_reply, select, select_rows}
+use Rattle.db_select.specs.Pending.{is_bare, is_view_list, select_pending}
+use Rattle.db_select.specs.Statements.{select_statement}
+use Rattle.db_select.specs.declared.sources.FieldSource.{FieldSource}
+use Rattle.db_select.specs.Sources.{column_source, field_source, hit_fields}
 use Rattle.db_select.proofs.FieldLaws.{hit_line_is}
-use Rattle.db_state.specs.laws.Columns.{some_table, no_table}
 
 -- ---- the table
 
 pub few_columns : (m : State) (t : List ℕ) (x : Table) (columns : List Column) → AreTables m.tables → get m.tables t ≡ Some x → x.columns ≡ columns → length columns ≤ 256
 few_columns m t x columns are here same = let few = (are.each t x here).columns.few in omega (arith, few, ap length same)
-
--- what follows of the index
-abbrev pub rest : State → List Item → List ℕ → List Column → List ℕ → Option Whole → Whole → Index → Effect
-rest m items t columns query label above index = check_select items query label (as_count above) (select_found m t columns items index query (as_count above))
-
-module _ (m : State) (items : List Item) (t column query : List ℕ) (label : Option Whole) (above : Whole) where
-  pub of_table : (o : Option Table) → get m.tables t ≡ o → select m items t column query label above ≡ with_found o (UnknownName t) (λ (x : Table). with_searched m t x.columns items column (rest m items t x.columns query label above))
-  of_table o is = ap (λ (o : Option Table). with_found o (UnknownName t) (λ (x : Table). with_searched m t x.columns items column (rest m items t x.columns query label above))) is
-
-  pub from_nothing : None ≡ option_map (λ (x : Table). x.columns) (get m.tables t) → select m items t column query label above ≡ Refused (UnknownName t)
-  from_nothing none = of_table None (no_table (get m.tables t) none)
-
-  pub from_columns : (columns : List Column) → Some columns ≡ option_map (λ (x : Table). x.columns) (get m.tables t) → select m items t column query label above ≡ with_searched m t columns items column (rest m items t columns query label above)
-  from_columns columns some =
-      let table = some_table (get m.tables t) columns some in
-      of_table (Some table.0) table.1 ∙ ap (λ (cs : List Column). with_searched m t cs items column (rest m items t cs query label above)) table.2
 
 -- ---- the state stays
 
@@ -59,20 +47,31 @@ kept_unless : {X : Type 0} (m : State) (o : Option X) (refusal : X → Refusal) 
 kept_unless m None refusal e kept = kept
 kept_unless m (Some x) refusal e kept = refl
 
-pub select_keeps : (m : State) (items : List Item) (t column query : List ℕ) (label : Option Whole) (above : Whole) → state_by m (select m items t column query label above) ≡ m
-select_keeps m items t column query label above =
+select_keeps : (m : State) (list : SelectList) (t : List ℕ) (preds : List Pred) → state_by m (select m list t preds) ≡ m
+select_keeps m list t preds =
+    let search = search_in preds in
+    let conds = conds_in preds in
     kept_found m (get m.tables t) (UnknownName t) _ (λ x.
-    kept_unless m (first_unknown (columns_among items) x.columns) UnknownName _
-    (kept_found m (place_of column x.columns) (UnknownName column) _ (λ place.
-    kept_found m (index_on m.indexes t place) NoIndexOfKind _ (λ index.
-    kept_by m (not (list_all (is_labelled label) items)) WrongValues _
-    (kept_by m (is_beyond_label label || not (is_threshold (as_count above))) OutOfRange _
-    (kept_by m (not (is_word_query query)) (NotInProfile 1) _
-    (kept_found m (as_count above) OutOfRange _ (λ n. refl))))))))
+    kept_unless m (first_unknown (list_columns list ++ map pred_column preds) x.columns) UnknownName _
+    (kept_by m (lacks_index m t x.columns search) NoIndexOfKind _
+    (kept_by m (not (fit_labels list (label_in search)) || not (fit_columns x.columns conds)) WrongValues _
+    (kept_by m (is_out_of_range search || has_beyond conds) OutOfRange _
+    (kept_by m (has_no_query search) (NotInProfile 1) _ refl)))))
+
+kept_either : (m : State) (b : Bool) (e f : Effect) → state_by m e ≡ m → state_by m f ≡ m → state_by m (if b then e else f) ≡ m
+kept_either m true e f kept other = kept
+kept_either m false e f kept other = other
+
+pub statement_keeps : (m : State) (list : SelectList) (t : List ℕ) (preds : List Pred) → state_by m (select_statement m list t preds) ≡ m
+statement_keeps m list t preds =
+    kept_by m (not (list_all is_built_pred preds)) NotUnderstood _
+    (kept_either m (bytes_eq t (codes "ctx_user_pending")) (select_pending m list preds) (refuse (is_view t) NotUnderstood (select m list t preds))
+    (kept_by m (not (is_view_list list && is_bare preds)) WrongValues _ refl)
+    (kept_by m (is_view t) NotUnderstood _ (select_keeps m list t preds)))
 
 -- ---- the lines
 
-map_map : {X Y Z : Type 0} (f : Y → Z) (g : X → Y) (xs : List X) → map (λ x. f (g x)) xs ≡ map f (map g xs)
+pub map_map : {X Y Z : Type 0} (f : Y → Z) (g : X → Y) (xs : List X) → map (λ x. f (g x)) xs ≡ map f (map g xs)
 map_map f g [] = refl
 map_map f g (x ∷ xs) = ap (λ l. f (g x) ∷ l) (map_map f g xs)
 
@@ -80,45 +79,55 @@ map_same : {X Y : Type 0} (f g : X → Y) → ((x : X) → f x ≡ g x) → (xs 
 map_same f g same [] = refl
 map_same f g same (x ∷ xs) = λ i. same x i ∷ map_same f g same xs i
 
-pub rows_are : (m : State) (t : List ℕ) (x : Table) (items : List Item) (sources : List Source) (hits : List Hit) (found : List (ℤ × ℕ)) → AreTables m.tables → get m.tables t ≡ Some x → sources ≡ map (source_of x.columns) items → map (λ h. (h.key.0, h.score)) hits ≡ found
-    → map (λ h. hit_fields m.tables t sources (h.key.0, h.score)) hits ≡ map (hit_line m.tables t x.columns items) found
-rows_are m t x items sources hits found are here from is =
+pub rows_are : (m : State) (t : List ℕ) (x : Table) (items : List Item) (columns : List Column) (sources : List FieldSource) (hits : List Hit) → AreTables m.tables → get m.tables t ≡ Some x → x.columns ≡ columns → sources ≡ map (field_source columns) items
+    → map (λ h. hit_fields m.tables t sources (h.key.0, h.score)) hits ≡ map (hit_line m.tables t x.columns items) (map (λ h. (h.key.0, h.score)) hits)
+rows_are m t x items columns sources hits are here same from =
     map_map (hit_fields m.tables t sources) (λ (h : Hit). (h.key.0, h.score)) hits
-    ∙ ap (map (hit_fields m.tables t sources)) is
     ∙ map_same (hit_fields m.tables t sources) (hit_line m.tables t x.columns items)
-    (λ h. ap (λ (ss : List Source). hit_fields m.tables t ss h) from ∙ hit_line_is m.tables t x items are here h) found
+    (λ h. ap (λ (ss : List FieldSource). hit_fields m.tables t ss h) (from ∙ ap (λ (cs : List Column). map (field_source cs) items) (sym same)) ∙ hit_line_is m.tables t x items are here h) (map (λ h. (h.key.0, h.score)) hits)
+
+-- the sources of the columns are those of the items that name them
+pub columns_are : (columns : List Column) (sources : List FieldSource) (x : Table) → x.columns ≡ columns → sources ≡ map (column_source columns) columns → sources ≡ map (field_source columns) (all_columns x.columns)
+columns_are columns sources x same is =
+    is ∙ map_map (field_source columns) (λ c. ColumnItem c.name) columns
+    ∙ ap (λ (cs : List Column). map (field_source columns) (all_columns cs)) (sym same)
 
 -- ---- the replies
 
-module _ (m : State) (items : List Item) (t column query : List ℕ) (label : Option Whole) (above : Whole) (columns : List Column) where
-  pub refused_names : Some columns ≡ option_map (λ (x : Table). x.columns) (get m.tables t) → (refusal : Refusal) → ((of : Index → Effect) → with_searched m t columns items column of ≡ Refused refusal)
-      → refusal_line refusal ≡ reply_by (select m items t column query label above)
-  refused_names some refusal refused = ap reply_by (sym (from_columns m items t column query label above columns some ∙ refused (rest m items t columns query label above)))
+module _ (m : State) (t : List ℕ) (x : Table) (list : SelectList) (search : Option Search) (conds : List Cond) (columns : List Column) (same : x.columns ≡ columns) (w o q : Bool)
+    (wrong : w ≡ (not (fit_labels list (label_in search)) || not (fit_columns columns conds))) (out : o ≡ (is_out_of_range search || has_beyond conds)) (no_query : q ≡ has_no_query search) where
+  checked : (done : Effect) → check_values x.columns list search conds done ≡ check_parts w o q done
+  checked done =
+      sym (λ i. check_parts ((wrong ∙ ap (λ (cs : List Column). not (fit_labels list (label_in search)) || not (fit_columns cs conds)) (sym same)) i) (out i) (no_query i) done)
 
-  pub refused_checks : Some columns ≡ option_map (λ (x : Table). x.columns) (get m.tables t) → (y : Index) → ((of : Index → Effect) → with_searched m t columns items column of ≡ of y)
-      → (refusal : Refusal) → ((done : Effect) → check_select items query label (as_count above) done ≡ Refused refusal) → refusal_line refusal ≡ reply_by (select m items t column query label above)
-  refused_checks some y follows refusal refused =
-      ap reply_by (sym (from_columns m items t column query label above columns some ∙ follows (rest m items t columns query label above) ∙ refused (select_found m t columns items y query (as_count above))))
+  behind_index : lacks_index m t x.columns search ≡ false → select_rows m t x list search conds ≡ check_parts w o q (Does m (rows_reply m.tables t x.columns list (hits m t x search conds)))
+  behind_index there =
+      ap (λ (b : Bool). refuse b NoIndexOfKind (check_values x.columns list search conds (Does m (rows_reply m.tables t x.columns list (hits m t x search conds))))) there
+      ∙ checked (Does m (rows_reply m.tables t x.columns list (hits m t x search conds)))
 
-  shown : (x : Table) → (sources : List Source) (hits : List Hit) (found : List (ℤ × ℕ)) → AreTables m.tables → get m.tables t ≡ Some x → x.columns ≡ columns → sources ≡ map (source_of columns) items
-      → map (λ h. (h.key.0, h.score)) hits ≡ found → map (λ h. hit_fields m.tables t sources (h.key.0, h.score)) hits ≡ map (hit_line m.tables t columns items) found
-  shown x sources hits found are here same from is =
-      rows_are m t x items sources hits found are here (from ∙ ap (λ (cs : List Column). map (source_of cs) items) (sym same)) is
-      ∙ ap (λ (cs : List Column). map (hit_line m.tables t cs items) found) same
+  pub faulty : lacks_index m t x.columns search ≡ false → (refusal : Refusal) → ((done : Effect) → check_parts w o q done ≡ Refused refusal) → refusal_line refusal ≡ reply_by (select_rows m t x list search conds)
+  faulty there refusal fails = ap reply_by (sym (behind_index there ∙ fails (Does m (rows_reply m.tables t x.columns list (hits m t x search conds)))))
 
-  pub found_reply : Some columns ≡ option_map (λ (x : Table). x.columns) (get m.tables t) → (y : Index) → ((of : Index → Effect) → with_searched m t columns items column of ≡ of y)
-      → (n : ℕ) → as_count above ≡ Some n → ((done : Effect) → check_select items query label (as_count above) done ≡ done) → AreTables m.tables
-      → (sources : List Source) (hits : List Hit) → sources ≡ map (source_of columns) items → map (λ h. (h.key.0, h.score)) hits ≡ found m.tables y (query_key query) n
-      → lines_or_none (map (λ h. hit_fields m.tables t sources (h.key.0, h.score)) hits) ≡ reply_by (select m items t column query label above)
-  found_reply some y follows n count passes are sources hits from is =
-      let table = some_table (get m.tables t) columns some in
-      let rows = shown table.0 sources hits (found m.tables y (query_key query) n) are table.1 table.2 from is in
-      ap lines_or_none rows
-      ∙ ap reply_by (sym (
-      from_columns m items t column query label above columns some
-      ∙ follows (rest m items t columns query label above)
-      ∙ passes (select_found m t columns items y query (as_count above))
-      ∙ ap (λ (o : Option ℕ). with_found o OutOfRange (λ (n : ℕ). Does m (lines_or_none (map (hit_line m.tables t columns items) (found m.tables y (query_key query) n))))) count))
+  pub passed : lacks_index m t x.columns search ≡ false → ((done : Effect) → check_parts w o q done ≡ done) → (found : List (ℤ × ℕ)) → found ≡ hits m t x search conds
+      → rows_reply m.tables t x.columns list found ≡ reply_by (select_rows m t x list search conds)
+  passed there passes found is =
+      ap (rows_reply m.tables t x.columns list) is
+      ∙ ap reply_by (sym (behind_index there ∙ passes (Does m (rows_reply m.tables t x.columns list (hits m t x search conds)))))
 
-  pub few_of_table : AreTables m.tables → Some columns ≡ option_map (λ (x : Table). x.columns) (get m.tables t) → length columns ≤ 256
-  few_of_table are some = let table = some_table (get m.tables t) columns some in few_columns m t table.0 columns are table.1 table.2
+pub has_needed : (m : State) (t : List ℕ) (x : Table) (s : Search) (y : Index) → index_of_search m t x.columns s ≡ Some y → lacks_index m t x.columns (Some s) ≡ false
+has_needed m t x s y needed = ap is_none needed
+
+-- ---- the whole of a table
+
+module _ (m : State) (list : SelectList) (t : List ℕ) (preds : List Pred) (x : Table) (there : get m.tables t ≡ Some x) (columns : List Column) (same : x.columns ≡ columns) where
+  known : first_unknown (list_columns list ++ map pred_column preds) columns ≡ None → select m list t preds ≡ select_rows m t x list (search_in preds) (conds_in preds)
+  known none =
+      ap (λ (o : Option Table). with_found o (UnknownName t) (λ (x : Table). refuse_by (first_unknown (list_columns list ++ map pred_column preds) x.columns) UnknownName (select_rows m t x list (search_in preds) (conds_in preds)))) there
+      ∙ ap (λ (o : Option (List ℕ)). refuse_by o UnknownName (select_rows m t x list (search_in preds) (conds_in preds))) (ap (first_unknown (list_columns list ++ map pred_column preds)) same ∙ none)
+
+  pub table_reply : first_unknown (list_columns list ++ map pred_column preds) columns ≡ None → (search : Option Search) (conds : List Cond) → search ≡ search_in preds → conds ≡ conds_in preds
+      → reply_by (select_rows m t x list search conds) ≡ reply_by (select m list t preds)
+  table_reply none search conds searched conditions =
+      ap (λ (s : Option Search). reply_by (select_rows m t x list s conds)) searched
+      ∙ ap (λ (cs : List Cond). reply_by (select_rows m t x list (search_in preds) cs)) conditions
+      ∙ ap reply_by (sym (known none))

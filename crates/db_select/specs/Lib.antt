@@ -1,3 +1,9 @@
-pub mod Seeking
+pub mod Checking
+pub mod Pending
+pub mod Predicates
+pub mod Querying
 pub mod Selecting
+pub mod Searches
 pub mod Sources
+pub mod Statements
+pub mod Waiting

@@ -1,31 +1,19 @@
-//! The checks of a SELECT.
-#![tactic(auto, using(ct_keep::specs::Composing::reads_on, ct_keep::specs::Composing::reads_short))]
+//! The checks of a SELECT, behind those of its names and its index.
+#![tactic(auto)]
 
-ghost use Rattle.std.specs.Prelude.{◌≡◌, IfSome, IfNone, true, false};
+ghost use Rattle.std.specs.Prelude.{◌≡◌, ◌||◌, not, is_none};
 ghost use Rattle.std.specs.List.{list_all};
-ghost use Rattle.std.specs.Option.{option_map};
-ghost use Rattle.db_state.specs.Effects.{as_count};
-ghost use Rattle.db_state.specs.Columns.{first_unknown as unknown_name};
-ghost use Rattle.db_select.specs.Selecting.{check_select, columns_among, is_beyond_label, is_labelled, is_threshold, same_label};
-ghost use Rattle.db_select.specs.Seeking.{ChecksAbove};
+ghost use Rattle.db_state.specs.Effects.{Effect, Checks};
+ghost use Rattle.db_rows.specs.Checking.{fit_columns as all_fit};
+ghost use Rattle.db_select.specs.Checking.{check_parts, fit_labels as labels_fit, is_beyond_label, is_labelled, same_label, threshold_of};
 
-use crate::querying::is_word_query;
-use ct_base::Name;
 use db_cond::Fault;
-use db_state::has_column;
-use st_parse::{Item, Whole};
+use db_rows::fit_columns;
+use st_parse::{Cond, Item, SelectList, Whole};
 use tb_table::Column;
 
 /// The highest score.
 const HIGHEST: i64 = 100;
-
-/// What a SELECT searches.
-pub(crate) enum Searched<'a> {
-    /// The index with this name.
-    Index(Name),
-    /// Nothing, for the statement is refused.
-    Refused(Fault<'a>),
-}
 
 /// Whether two labels are one. Two numbers outside 64 bits count as the same label.
 fn is_same_label(a: Whole, b: Whole) -> bool
@@ -49,11 +37,33 @@ fn is_labelled(item: &Item, label: Option<Whole>) -> bool
     }
 }
 
-/// Whether each score of the list is that with this label.
+/// Whether each score among the items is that with this label.
 fn are_labelled(items: &[Item], label: Option<Whole>) -> bool
     ensures { result ≡ list_all (is_labelled label) items.now }
 {
     items.iter().all(|item| is_labelled(item, label))
+}
+
+/// Whether each score of the list is that with this label.
+fn fit_labels(list: &SelectList, label: Option<Whole>) -> bool
+    ensures { result ≡ labels_fit list.now label }
+{
+    match list {
+        SelectList::Star | SelectList::CountAll => true,
+        SelectList::Items(items) => are_labelled(items.as_slice(), label),
+    }
+}
+
+/// Whether a score of the list hasn't this label, or a condition doesn't fit its column.
+pub(crate) fn has_wrong_values(
+    list: &SelectList,
+    label: Option<Whole>,
+    conds: &[Cond],
+    columns: &[Column],
+) -> bool
+    ensures { result ≡ (not (labels_fit list.now label) || not (all_fit columns.now conds.now)) }
+{
+    !fit_labels(list, label) || !fit_columns(conds, columns)
 }
 
 /// Whether the label is a number outside 64 bits.
@@ -66,11 +76,9 @@ fn is_beyond_label(label: Option<Whole>) -> bool
     }
 }
 
-/// A number with which scores are compared, from 0 to 100.
-fn threshold_of(above: Whole) -> Option<u32>
-    ensures some { IfSome result (λ n. as_count above ≡ Some n) }
-    ensures in_range { IfSome result (λ _. is_threshold (as_count above) ≡ true) }
-    ensures none { IfNone result (is_threshold (as_count above) ≡ false) }
+/// The number above which scores are, where it is from 0 to 100.
+pub(crate) fn threshold_of(above: Whole) -> Option<u32>
+    ensures { result ≡ threshold_of above }
 {
     match above {
         Whole::Fits(n) => {
@@ -84,40 +92,29 @@ fn threshold_of(above: Whole) -> Option<u32>
     }
 }
 
-/// The number above which scores are, by the checks of a SELECT whose column has an index.
-pub(crate) fn checked_threshold(
-    items: &[Item],
-    query: &str,
-    label: Option<Whole>,
-    above: Whole,
-) -> Result<u32, Fault<'static>>
-    ensures { ChecksAbove result (as_count above) (check_select items.now query.now label (as_count above)) }
+/// Whether the label of a CONTAINS is outside 64 bits, or its number isn't one from 0 to 100.
+pub(crate) fn is_out_of_range(label: Option<Whole>, above: Whole) -> bool
+    ensures { result ≡ (is_beyond_label label || is_none (threshold_of above)) }
 {
-    if !are_labelled(items, label) {
-        return Err(Fault::WrongValues);
-    }
-    let Some(threshold) = threshold_of(above) else {
-        return Err(Fault::OutOfRange);
-    };
-    if is_beyond_label(label) {
-        return Err(Fault::OutOfRange);
-    }
-    if !is_word_query(query) {
-        return Err(Fault::NotInProfile(1));
-    }
-    Ok(threshold)
+    is_beyond_label(label) || threshold_of(above).is_none()
 }
 
-/// The first column of the list that isn't there.
-pub(crate) fn first_unknown<'a>(items: &'a [Item], columns: &[Column]) -> Option<&'a Name>
-    ensures { option_map (λ name. name.now) result ≡ unknown_name (columns_among items.now) columns.now }
+/// The first of three faults that is there.
+pub(crate) fn first_fault(
+    wrong_values: bool,
+    out_of_range: bool,
+    no_query: bool,
+) -> Option<Fault<'static>>
+    ensures { (done : Effect) → Checks result (check_parts wrong_values out_of_range no_query done) done }
 {
-    for item in items {
-        if let Item::Column(name) = item {
-            if !has_column(name, columns) {
-                return Some(name);
-            }
-        }
+    if wrong_values {
+        return Some(Fault::WrongValues);
+    }
+    if out_of_range {
+        return Some(Fault::OutOfRange);
+    }
+    if no_query {
+        return Some(Fault::NotInProfile(1));
     }
     None
 }

@@ -1,17 +1,27 @@
-//! The rows that a query finds.
+//! The rows that a SELECT finds.
 #![tactic(auto, using(ct_keep::specs::Composing::reads_on, ct_keep::specs::Composing::reads_short))]
 
-ghost use Rattle.std.specs.Prelude.{◌≡◌, nat_lt, filter, IfOk, Some};
+ghost use Rattle.std.specs.Prelude.{◌≡◌, ◌++◌, ◌∷◌, [], nat_lt, filter, map, IfOk, OnOk, Some, None};
+ghost use Rattle.std.specs.Bool.{if◌then◌else◌};
+ghost use Rattle.std.specs.FinMap.{get};
 ghost use Rattle.ct_keep.specs.KeeperViews.{OnlyReads};
-ghost use Rattle.ix_context.specs.Indexes.{found};
-ghost use Rattle.db_state.specs.States.{OverIndex};
-ghost use Rattle.db_select.specs.Selecting.{query_key};
-ghost use Rattle.db_select.specs.Sources.{found_scores};
+ghost use Rattle.ix_context.specs.Indexes.{Index, found};
+ghost use Rattle.db_state.specs.States.{OverIndex, OverTable};
+ghost use Rattle.db_rows.specs.Meeting.{key_meets};
+ghost use Rattle.db_select.specs.Querying.{query_key};
+ghost use Rattle.db_select.specs.Selecting.{hits, index_of_search};
+ghost use Rattle.db_select.specs.Searches.{asked};
+ghost use Rattle.db_select.specs.Sources.{found_scores, unscored as unscored_hit};
 
-use ct_base::Name;
+use crate::checks::threshold_of;
+use crate::predicates::Search;
+use ct_base::{Memory, Name, RowKey};
 use ct_keep::{KeepFault, Keeper};
+use db_rows::{meets, rows_meeting};
 use ix_context::{Hit, search};
+use st_parse::Cond;
 use std::alloc::Global;
+use tb_table::Column;
 use tx_chars::key;
 
 /// Keeps the rows with a score above a number.
@@ -22,7 +32,7 @@ fn keep_above(hits: &mut Vec<Hit>, above: u32)
 }
 
 /// The rows that have a query word with a score above a number, in order of their keys.
-pub(crate) fn hits_above<K: Keeper>(
+fn hits_above<K: Keeper>(
     alloc: Global,
     keeper: &mut K,
     index: &Name,
@@ -37,4 +47,108 @@ pub(crate) fn hits_above<K: Keeper>(
     let mut hits = search(alloc, keeper, index, &word)?;
     keep_above(&mut hits, above);
     Ok(hits)
+}
+
+/// Puts a row that meets the conditions.
+fn push_met(hits: &mut Vec<Hit>, hit: Hit, met: bool) -> Result<(), Memory>
+    ensures { OnOk result (hits.new.items ≡ hits.old.items ++ (if met then hit ∷ [] else [])) }
+{
+    if met {
+        hits.push(hit)?;
+    }
+    Ok(())
+}
+
+/// Puts a row that was found, if it meets all conditions.
+fn note_hit<K: Keeper>(
+    alloc: Global,
+    keeper: &mut K,
+    table: &Name,
+    columns: &[Column],
+    conds: &[Cond],
+    hits: &mut Vec<Hit>,
+    hit: Hit,
+) -> Result<(), KeepFault>
+    requires { (K.view keeper.old).ready }
+    ensures hits { OverTable K.view keeper.old table.now (λ m c x. x.columns ≡ columns.now → OnOk result (hits.new.items ≡ hits.old.items ++ (if key_meets x conds.now hit.key.0 then hit ∷ [] else []))) }
+    ensures reads { OnlyReads K.view keeper.old keeper.new result }
+{
+    let met = meets(alloc, keeper, table, columns, conds, hit.key)?;
+    push_met(hits, hit, met)?;
+    Ok(())
+}
+
+/// Of rows that were found those that meet all conditions. Of each row it reads only what the conditions are on.
+fn met_hits<K: Keeper>(
+    alloc: Global,
+    keeper: &mut K,
+    table: &Name,
+    columns: &[Column],
+    conds: &[Cond],
+    found: &[Hit],
+) -> Result<Vec<Hit>, KeepFault>
+    requires { (K.view keeper.old).ready }
+    ensures hits { OverTable K.view keeper.old table.now (λ m c x. x.columns ≡ columns.now → IfOk result (λ hits. hits.items ≡ filter (λ h. key_meets x conds.now h.key.0) found.now)) }
+    ensures reads { OnlyReads K.view keeper.old keeper.new result }
+{
+    let mut hits = Vec::new(alloc);
+    for hit in found {
+        note_hit(alloc, keeper, table, columns, conds, &mut hits, *hit)?;
+    }
+    Ok(hits)
+}
+
+/// The rows that a search finds and that meet all conditions, in order of their keys.
+///
+/// It costs the search, and then for each row that it finds the look-ups of what the conditions are on.
+pub(crate) fn searched_hits<K: Keeper>(
+    alloc: Global,
+    keeper: &mut K,
+    index: &Name,
+    table: &Name,
+    columns: &[Column],
+    search: &Search<'_>,
+    conds: &[Cond],
+) -> Result<Vec<Hit>, KeepFault>
+    requires { (K.view keeper.old).ready }
+    ensures hits { OverTable K.view keeper.old table.now (λ m c x. x.columns ≡ columns.now → (y : Index) → get m.indexes index.now ≡ Some y → index_of_search m table.now columns.now (asked search.now) ≡ Some y → IfOk result (λ found. found_scores found.items ≡ hits m table.now x (Some (asked search.now)) conds.now)) }
+    ensures reads { OnlyReads K.view keeper.old keeper.new result }
+{
+    let Some(above) = threshold_of(search.above) else {
+        return Ok(Vec::new(alloc));
+    };
+    let found = hits_above(alloc, keeper, index, search.query, above)?;
+    met_hits(alloc, keeper, table, columns, conds, &found)
+}
+
+/// Rows with the score 0, for which no SCORE asks.
+fn unscored(alloc: Global, rows: &[RowKey]) -> Result<Vec<Hit>, Memory>
+    ensures { IfOk result (λ hits. hits.items ≡ map unscored_hit rows.now) }
+{
+    let mut hits = Vec::new(alloc);
+    for row in rows {
+        hits.push(Hit {
+            key: *row,
+            score: 0,
+        })?;
+    }
+    Ok(hits)
+}
+
+/// The rows that meet all conditions, in order of their keys, where nothing is searched.
+///
+/// It walks over the rows that the conditions on the key bound.
+pub(crate) fn unsearched_hits<K: Keeper>(
+    alloc: Global,
+    keeper: &mut K,
+    table: &Name,
+    columns: &[Column],
+    conds: &[Cond],
+) -> Result<Vec<Hit>, KeepFault>
+    requires { (K.view keeper.old).ready }
+    ensures hits { OverTable K.view keeper.old table.now (λ m c x. x.columns ≡ columns.now → IfOk result (λ found. found_scores found.items ≡ hits m table.now x None conds.now)) }
+    ensures reads { OnlyReads K.view keeper.old keeper.new result }
+{
+    let rows = rows_meeting(alloc, keeper, table, columns, conds)?;
+    Ok(unscored(alloc, &rows)?)
 }

@@ -2,12 +2,19 @@
 #![tactic(auto)]
 
 mod checks;
+mod copying;
 mod fields;
 mod hits;
 mod listing;
+mod names;
+mod pending;
+mod predicates;
 mod querying;
 mod seeking;
 mod selecting;
 mod sources;
+mod statements;
+#[cfg(test)]
+mod tests;
 
-pub use selecting::select;
+pub use statements::select;

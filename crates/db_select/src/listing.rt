@@ -1,20 +1,25 @@
 //! The lines of a query.
 #![tactic(auto, using(ct_keep::specs::Composing::reads_on, ct_keep::specs::Composing::reads_short))]
 
-ghost use Rattle.std.specs.Prelude.{◌≡◌, ◌++◌, map, OnOk, Some};
+ghost use Rattle.std.specs.Prelude.{◌≡◌, ◌++◌, ◌∷◌, [], map, length, pos, IfOk, OnOk, Some};
+ghost use Rattle.ct_base.specs.declared.lists.Value.TheVariants.{Number};
 ghost use Rattle.ct_keep.specs.KeeperViews.{OnlyReads};
-ghost use Rattle.db_state.specs.States.{OverStates, Sees};
+ghost use Rattle.db_cond.specs.Lines.{line as line_text};
+ghost use Rattle.db_state.specs.States.{OverStates, OverTable, Sees};
 ghost use Rattle.db_state.specs.Lines.{lines_or_none};
-ghost use Rattle.db_select.specs.Sources.{found_fields, found_line};
+ghost use Rattle.db_select.specs.Selecting.{rows_reply as reply_of_rows};
+ghost use Rattle.db_select.specs.Sources.{found_fields, found_line, found_scores};
 
-use crate::fields::{row_fields, row_numbers};
-use crate::sources::Source;
-use ct_base::Name;
+use crate::fields::row_fields;
+use crate::sources::{FieldSource, column_sources, sources_of};
+use ct_base::{Memory, Name};
 use ct_keep::{KeepFault, Keeper};
 use db_cond::{line, no_rows};
 use db_state::fixed_reply;
 use ix_context::Hit;
+use st_parse::SelectList;
 use std::alloc::Global;
+use tb_table::Column;
 
 /// Puts the line of a row that was found.
 fn push_row<K: Keeper>(
@@ -22,26 +27,25 @@ fn push_row<K: Keeper>(
     keeper: &mut K,
     lines: &mut Vec<u8>,
     table: &Name,
-    sources: &[Source],
+    sources: &[FieldSource],
     hit: Hit,
 ) -> Result<(), KeepFault>
     requires { (K.view keeper.old).ready }
     ensures line { OverStates K.view keeper.old (λ m c. OnOk result (lines.new.items ≡ lines.old.items ++ found_line m.tables table.now sources.now hit)) }
     ensures reads { OnlyReads K.view keeper.old keeper.new result }
 {
-    let numbers = row_numbers(alloc, keeper, table, sources, hit.key)?;
-    let fields = row_fields(alloc, keeper, table, sources, &numbers, hit)?;
+    let fields = row_fields(alloc, keeper, table, sources, hit)?;
     line(alloc, lines, &fields)?;
     Ok(())
 }
 
 /// A line for each row that was found, or that there is none. Of each row it reads the numbers at most once, and each text
 /// at most once.
-pub(crate) fn hit_lines<K: Keeper>(
+fn hit_lines<K: Keeper>(
     alloc: Global,
     keeper: &mut K,
     table: &Name,
-    sources: &[Source],
+    sources: &[FieldSource],
     hits: &[Hit],
 ) -> Result<Vec<u8>, KeepFault>
     requires { (K.view keeper.old).ready }
@@ -56,4 +60,40 @@ pub(crate) fn hit_lines<K: Keeper>(
         push_row(alloc, keeper, &mut lines, table, sources, *hit)?;
     }
     Ok(lines)
+}
+
+/// The line of a count.
+pub(crate) fn count_line(alloc: Global, count: usize) -> Result<Vec<u8>, Memory>
+    ensures { IfOk result (λ reply. reply.items ≡ line_text (Number (pos count) ∷ [])) }
+{
+    let digits = format!(in alloc; "{count}")?;
+    let mut reply = Vec::from_slice(alloc, digits.as_bytes())?;
+    reply.push(b'\n')?;
+    Ok(reply)
+}
+
+/// What a SELECT of a list replies for the rows that it found: their number, which reads nothing of them, or a line for each.
+pub(crate) fn rows_reply<K: Keeper>(
+    alloc: Global,
+    keeper: &mut K,
+    table: &Name,
+    columns: &[Column],
+    list: &SelectList,
+    hits: &[Hit],
+) -> Result<Vec<u8>, KeepFault>
+    requires { (K.view keeper.old).ready }
+    ensures reply { OverTable K.view keeper.old table.now (λ m c x. x.columns ≡ columns.now → IfOk result (λ reply. reply.items ≡ reply_of_rows m.tables table.now x.columns list.now (found_scores hits.now))) }
+    ensures reads { OnlyReads K.view keeper.old keeper.new result }
+{
+    match list {
+        SelectList::CountAll => Ok(count_line(alloc, hits.len())?),
+        SelectList::Star => {
+            let sources = column_sources(alloc, columns)?;
+            hit_lines(alloc, keeper, table, &sources, hits)
+        }
+        SelectList::Items(items) => {
+            let sources = sources_of(alloc, items.as_slice(), columns)?;
+            hit_lines(alloc, keeper, table, &sources, hits)
+        }
+    }
 }

@@ -7,7 +7,7 @@ ghost use Rattle.std.specs.List.{list_all, list_any};
 ghost use Rattle.std.specs.Str.{chars};
 ghost use Rattle.tx_chars.specs.Keys.{is_word};
 ghost use Rattle.ct_entry.specs.Keys.{same_list};
-ghost use Rattle.db_select.specs.Selecting.{is_word_query, reserved_words};
+ghost use Rattle.db_select.specs.Querying.{is_word_query, reserved_words};
 
 use tx_chars::is_word;
 

@@ -1,56 +1,107 @@
-//! SELECT with CONTAINS.
+//! SELECT of a table.
 #![tactic(auto, using(ct_keep::specs::Composing::reads_on, ct_keep::specs::Composing::reads_short))]
 
-ghost use Rattle.std.specs.Prelude.{◌≡◌, Some, Err};
+ghost use Rattle.std.specs.Prelude.{◌≡◌, ◌||◌, IfOk, Some, None};
 ghost use Rattle.ct_keep.specs.KeeperViews.{OnlyReads};
-ghost use Rattle.db_state.specs.States.{State, Sees};
-ghost use Rattle.db_state.specs.Effects.{reply_by, state_by};
-ghost use Rattle.db_select.specs.Selecting.{select as select_effect};
+ghost use Rattle.db_state.specs.States.{OverTable, Sees};
+ghost use Rattle.db_state.specs.Effects.{reply_by};
+ghost use Rattle.db_rows.specs.Checking.{has_beyond as any_beyond};
+ghost use Rattle.db_select.specs.Checking.{is_out_of_range as out_of_range};
+ghost use Rattle.db_select.specs.Searches.{asked};
+ghost use Rattle.db_select.specs.Selecting.{select as select_effect, select_rows};
 
-use crate::checks::{Searched, checked_threshold};
-use crate::hits::hits_above;
-use crate::listing::hit_lines;
-use crate::seeking::searched_index;
-use crate::sources::sources_of;
+use crate::checks::{first_fault, has_wrong_values, is_out_of_range};
+use crate::hits::{searched_hits, unsearched_hits};
+use crate::listing::rows_reply;
+use crate::predicates::{Search, conds_in, search_in, unknown_name};
+use crate::querying::is_word_query;
+use crate::seeking::needed_index;
 use ct_base::Name;
 use ct_keep::{KeepFault, Keeper};
 use db_cond::{Fault, fault_line};
+use db_rows::has_beyond;
 use db_state::table_columns;
-use st_parse::{Item, Whole};
+use st_parse::{Cond, Pred, SelectList};
 use std::alloc::Global;
+use tb_table::Column;
 
-/// SELECT of a list from the rows of a table, in order of their keys, whose text in a column has a score above a number for
-/// a query text.
-///
-/// It costs the search of the query's word, and for each row that is found a look-up of its numbers, where the list has one,
-/// and one of each text of the list. It changes nothing, and never answers Full.
-pub fn select<K: Keeper>(
+/// Of the rows that meet conditions, where nothing is searched.
+fn select_met<K: Keeper>(
     alloc: Global,
     keeper: &mut K,
-    items: &[Item],
+    list: &SelectList,
     table: &Name,
-    column: &Name,
-    query: &str,
-    label: Option<Whole>,
-    above: Whole,
+    columns: &[Column],
+    conds: &[Cond],
 ) -> Result<Vec<u8>, KeepFault>
-    requires ready { (K.view keeper.old).ready }
-    ensures reply { Sees K.view keeper.old result (λ m reply. reply.items ≡ reply_by (select_effect m items.now table.now column.now query.now label above)) }
-    ensures state { (m : State) → state_by m (select_effect m items.now table.now column.now query.now label above) ≡ m }
+    requires { (K.view keeper.old).ready }
+    ensures reply { OverTable K.view keeper.old table.now (λ m c x. x.columns ≡ columns.now → IfOk result (λ reply. reply.items ≡ reply_by (select_rows m table.now x list.now None conds.now))) }
+    ensures reads { OnlyReads K.view keeper.old keeper.new result }
+{
+    let wrong_values = has_wrong_values(list, None, conds, columns);
+    let out_of_range = has_beyond(conds);
+    if let Some(fault) = first_fault(wrong_values, out_of_range, false) {
+        return Ok(fault_line(alloc, fault)?);
+    }
+    let hits = unsearched_hits(alloc, keeper, table, columns, conds)?;
+    rows_reply(alloc, keeper, table, columns, list, &hits)
+}
+
+/// Whether a number of a search or a condition is out of its range.
+fn has_bad_number(search: &Search<'_>, conds: &[Cond]) -> bool
+    ensures { result ≡ (out_of_range (Some (asked search.now)) || any_beyond conds.now) }
+{
+    is_out_of_range(search.label, search.above) || has_beyond(conds)
+}
+
+/// Of the rows that a search finds and that meet conditions.
+fn select_searched<K: Keeper>(
+    alloc: Global,
+    keeper: &mut K,
+    list: &SelectList,
+    table: &Name,
+    columns: &[Column],
+    search: &Search<'_>,
+    conds: &[Cond],
+) -> Result<Vec<u8>, KeepFault>
+    requires { (K.view keeper.old).ready }
+    ensures reply { OverTable K.view keeper.old table.now (λ m c x. x.columns ≡ columns.now → IfOk result (λ reply. reply.items ≡ reply_by (select_rows m table.now x list.now (Some (asked search.now)) conds.now))) }
+    ensures reads { OnlyReads K.view keeper.old keeper.new result }
+{
+    let Some(index) = needed_index(alloc, keeper, table, columns, search)? else {
+        return Ok(fault_line(alloc, Fault::NoIndexOfKind)?);
+    };
+    let wrong_values = has_wrong_values(list, search.label, conds, columns);
+    let out_of_range = has_bad_number(search, conds);
+    let no_query = !is_word_query(search.query);
+    if let Some(fault) = first_fault(wrong_values, out_of_range, no_query) {
+        return Ok(fault_line(alloc, fault)?);
+    }
+    let hits = searched_hits(alloc, keeper, &index, table, columns, search, conds)?;
+    rows_reply(alloc, keeper, table, columns, list, &hits)
+}
+
+/// SELECT of a list from the rows of a table that meet predicates, in order of their keys.
+pub(crate) fn select_table<K: Keeper>(
+    alloc: Global,
+    keeper: &mut K,
+    list: &SelectList,
+    table: &Name,
+    preds: &[Pred],
+) -> Result<Vec<u8>, KeepFault>
+    requires { (K.view keeper.old).ready }
+    ensures reply { Sees K.view keeper.old result (λ m reply. reply.items ≡ reply_by (select_effect m list.now table.now preds.now)) }
     ensures reads { OnlyReads K.view keeper.old keeper.new result }
 {
     let Some(columns) = table_columns(alloc, keeper, table)? else {
         return Ok(fault_line(alloc, Fault::UnknownName(table.as_str()))?);
     };
-    let index = match searched_index(alloc, keeper, items, table, &columns, column)? {
-        Searched::Index(index) => index,
-        Searched::Refused(fault) => return Ok(fault_line(alloc, fault)?),
-    };
-    let above = match checked_threshold(items, query, label, above) {
-        Ok(above) => above,
-        Err(fault) => return Ok(fault_line(alloc, fault)?),
-    };
-    let hits = hits_above(alloc, keeper, &index, query, above)?;
-    let sources = sources_of(alloc, items, &columns)?;
-    hit_lines(alloc, keeper, table, &sources, &hits)
+    if let Some(name) = unknown_name(list, preds, &columns) {
+        return Ok(fault_line(alloc, Fault::UnknownName(name.as_str()))?);
+    }
+    let conds = conds_in(alloc, preds)?;
+    match search_in(preds) {
+        None => select_met(alloc, keeper, list, table, &columns, &conds),
+        Some(search) => select_searched(alloc, keeper, list, table, &columns, &search, &conds),
+    }
 }

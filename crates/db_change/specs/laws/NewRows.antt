@@ -17,7 +17,7 @@ use Rattle.ct_entry.specs.laws.Keys.{list_from_same, list_same}
 use Rattle.ct_entry.specs.Maps.{Names}
 use Rattle.ct_keep.specs.FoundKeys.{none_below}
 use Rattle.ct_entry.specs.Listings.{key_order}
-use Rattle.std.proofs.lemmas.Bool.{and_parts}
+use Rattle.std.proofs.lemmas.Bool.{and_parts, or_right}
 use Rattle.ct_keep.specs.RisingKeys.{below, rises}
 use Rattle.ct_entry.specs.Each.{is_among}
 use Rattle.ct_entry.specs.laws.Each.{all_each}
@@ -29,9 +29,9 @@ use Rattle.tb_table.specs.Rules.{FitColumns, others}
 use Rattle.tb_table.specs.laws.Changes.{is_of_tables, all_insert, stand_insert, tables_frame, get-with_row}
 use Rattle.tb_table.specs.laws.Rules.{insert_keeps}
 use Rattle.tb_table.specs.laws.Well.{are_insert, row_places}
-use Rattle.ix_context.specs.Indexes.{Index, Pending, waiting_on, noted_on}
+use Rattle.ix_context.specs.Indexes.{Index, marks_in, noted_index, waiting_on, noted_on}
 use Rattle.ix_context.specs.Rules.{AreIndexes}
-use Rattle.ix_context.specs.Spelling.{IndexesStand}
+use Rattle.ix_context.specs.Standing.{IndexesStand}
 use Rattle.ix_context.specs.Changes.{note_insert_changes}
 use Rattle.ix_context.specs.laws.Standing.{indexes_frame}
 use Rattle.ix_context.specs.laws.Changes.{stay_with_row}
@@ -39,13 +39,14 @@ use Rattle.db_names.specs.declared.heads.IndexHead.{IndexHead}
 use Rattle.db_names.specs.Promises.{head_of, heads_of}
 use Rattle.db_names.specs.laws.Heads.{heads_at, heads_rise}
 use Rattle.db_names.specs.laws.Pairs.{lookup-find}
-use Rattle.db_state.specs.States.{State, IsState, Stands, is_view, is_built, indexes_on, index_limit}
+use Rattle.db_state.specs.laws.ShortRows.{rows_frame}
+use Rattle.db_state.specs.States.{State, IsState, Stands, HasShortRows, is_of_rows, is_view, is_built, indexes_on, index_limit}
 use Rattle.db_change.specs.Inserting.{note_all_changes, with_new_row}
 use Rattle.db_state.specs.laws.Heads.{heads, get-heads, head_of_index}
 use Rattle.db_state.specs.laws.EachValue.{entries-each_value, count_alike}
 use Rattle.ix_context.specs.Promises.{is_on, AreDistinct, AreIndexesOn}
 use Rattle.ix_context.specs.laws.Rules.{row_keeps, row_notes_stand}
-use Rattle.db_change.specs.laws.NewTables.{tables_built, apart}
+use Rattle.db_change.specs.laws.NewTables.{tables_built, rows_tables, apart}
 use Rattle.ct_base.specs.laws.Options.{no_value as gone}
 
 -- ---- the indexes on a table
@@ -78,7 +79,7 @@ distinct (e ∷ es) up =
       distinct es b.1,
     )
 
-names_on_table : (xs : Names Index) (t : List ℕ) → AreIndexesOn xs t (names_on xs t)
+pub names_on_table : (xs : Names Index) (t : List ℕ) → AreIndexesOn xs t (names_on xs t)
 names_on_table xs t = record { distinct = distinct (heads_of t (heads xs)) (heads_rise t (heads xs)); each = names_listed xs t }
 
 names_are : (ts : Tables) (xs : Names Index) → AreIndexes ts xs → (t i : List ℕ) → is_among i (names_on xs t) ≡ true → IsName i
@@ -101,10 +102,6 @@ is_pending k = false
 notes_pending : (names : List (List ℕ)) (r : ℤ) → AllOf is_pending (note_all_changes names r)
 notes_pending names r = all_each is_pending (λ i. note_insert_changes i r) (λ i. (refl, tt)) names
 
-or_right : (a b : Bool) → b ≡ true → (a || b) ≡ true
-or_right true b h = refl
-or_right false b h = h
-
 notes_are : (names : List (List ℕ)) (r : ℤ) → IsRow r → ((i : List ℕ) → is_among i names ≡ true → IsName i) → AreChanges (note_all_changes names r)
 notes_are [] r row named = tt
 notes_are (i ∷ is) r row named = (
@@ -125,6 +122,10 @@ tables_pending : (k : Kind) → is_of_tables k ≡ true → is_pending k ≡ fal
 tables_pending kind.Pending h = cc
 tables_pending k h = refl
 
+rows_pending : (k : Kind) → is_of_rows k ≡ true → is_pending k ≡ false
+rows_pending kind.Pending h = cc
+rows_pending k h = refl
+
 pending_built : (k : Kind) → is_built k ≡ false → is_pending k ≡ false
 pending_built kind.Pending h = cc
 pending_built k h = refl
@@ -141,7 +142,7 @@ views_stay m t x r vs here views q y is = go (same_list q t) refl (sym (get-with
 noted_table : (t : List ℕ) (r : ℤ) (x : Index) → (waiting_on t r x).table ≡ x.table
 noted_table t r x = go (same_list x.table t)
   where
-    go : (b : Bool) → (cond b (record x { marks = insert x.marks r Pending }) x).table ≡ x.table
+    go : (b : Bool) → (cond b (noted_index r x) x).table ≡ x.table
     go true = refl
     go false = refl
 
@@ -160,8 +161,8 @@ new_row_state m t x r vs is state row fit room = record {
 
 -- ---- the entries
 
-free_marks : (ts : Tables) (xs : Names Index) (t : List ℕ) (x : Table) (r : ℤ) → get ts t ≡ Some x → get x.rows r ≡ None → AreIndexes ts xs → (i : List ℕ) (y : Index) → get xs i ≡ Some y → y.table ≡ t → get y.marks r ≡ None
-free_marks ts xs t x r is none are i y here on = gone (get y.marks r) ((are.each i y here).marks r ∙ ap is_some (ap (λ (u : List ℕ). row_at ts u r) on ∙ no_row))
+free_marks : (ts : Tables) (xs : Names Index) (t : List ℕ) (x : Table) (r : ℤ) → get ts t ≡ Some x → get x.rows r ≡ None → AreIndexes ts xs → (i : List ℕ) (y : Index) → get xs i ≡ Some y → y.table ≡ t → get (marks_in y.body) r ≡ None
+free_marks ts xs t x r is none are i y here on = gone (get (marks_in y.body) r) ((are.each i y here).marks r ∙ ap is_some (ap (λ (u : List ℕ). row_at ts u r) on ∙ no_row))
   where
     no_row : row_at ts t r ≡ None
     no_row = rw is none
@@ -185,5 +186,6 @@ new_row_stands c m t x r vs stands is none row fit room =
           ∙ told_frame is_pending b k (told a k (at c k)) (notes_pending (names_on m.indexes t) r) (pending_built k.kind h)
           ∙ told_frame is_of_tables a k (at c k) (all_insert t r (numbers_of vs) (texts_of vs)) (tables_built k.kind h)
           ∙ stands.unbuilt k h;
+      short_rows = subst HasShortRows (sym seen) (rows_frame is_pending b (view a (at c)) (notes_pending (names_on m.indexes t) r) rows_pending (rows_frame is_of_tables a (at c) (all_insert t r (numbers_of vs) (texts_of vs)) rows_tables stands.short_rows));
       state = new_row_state m t x r vs is stands.state row fit room;
     }

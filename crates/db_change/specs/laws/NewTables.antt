@@ -24,7 +24,7 @@ use Rattle.tb_table.specs.laws.Rules.{create_keeps}
 use Rattle.tb_table.specs.laws.Well.{are_create}
 use Rattle.ix_context.specs.Indexes.{Index}
 use Rattle.ix_context.specs.Rules.{AreIndexes, IsTarget}
-use Rattle.ix_context.specs.Spelling.{IndexesStand}
+use Rattle.ix_context.specs.Standing.{IndexesStand}
 use Rattle.ix_context.specs.Spelling.{is_of_indexes}
 use Rattle.ix_context.specs.laws.Standing.{indexes_frame}
 use Rattle.ix_context.specs.laws.Changes.{stay_with_table}
@@ -35,7 +35,8 @@ use Rattle.std.specs.Option.{unwrap_or}
 use Rattle.tb_table.specs.declared.columns.Sort.TheVariants.{Number}
 use Rattle.db_state.specs.Effects.{as_count}
 use Rattle.db_change.specs.Creating.{is_number, is_key_first, names_differ, is_size, is_sized, all_sized, sort_of, column_of, IsFreeTable, with_new_table}
-use Rattle.db_state.specs.States.{State, Stands, is_view, is_built}
+use Rattle.db_state.specs.laws.ShortRows.{rows_frame}
+use Rattle.db_state.specs.States.{HasShortRows, is_of_rows, State, Stands, is_view, is_built}
 use Rattle.std.proofs.lemmas.Bool.{or_parts as either, and_parts as both, not-true as not_true}
 use Rattle.ct_base.specs.laws.Options.{no_value as no_some}
 
@@ -58,7 +59,8 @@ indexes_keep ts xs t columns none are = record {
   each = λ i x is. let index = are.each i x is in record {
     target = target_stays ts t columns x.table x.column none index.target;
     marks = λ r. index.marks r ∙ ap is_some (sym (row_at-with_table ts t columns none x.table r));
-    given = index.given;
+    numbers = index.numbers;
+    untidy = index.untidy;
   };
   one = are.one;
 }
@@ -74,6 +76,12 @@ views_stay m t columns free views q x is = go (same_list q t) refl (sym (get-wit
     go false h e = views q x e
 
 -- ---- the entries
+
+pub rows_tables : (k : Kind) → is_of_rows k ≡ true → is_of_tables k ≡ false
+rows_tables kind.Tables h = cc
+rows_tables kind.RowNumbers h = cc
+rows_tables kind.RowTexts h = cc
+rows_tables k h = refl
 
 pub tables_built : (k : Kind) → is_built k ≡ false → is_of_tables k ≡ false
 tables_built kind.Tables h = cc
@@ -97,6 +105,7 @@ new_table_stands c m t columns stands none free name are few =
       indexes = subst (λ (f : Key → Option (List ℕ)). IndexesStand f (with_table m.tables t columns) m.indexes) (sym (at_view ws c))
           (indexes_frame is_of_tables ws (at c) (with_table m.tables t columns) m.indexes (all_create t columns) apart (stay_with_table (at c) m.tables m.indexes t columns none stands.indexes));
       unbuilt = λ k h. at-after ws c k ∙ told_frame is_of_tables ws k (at c k) (all_create t columns) (tables_built k.kind h) ∙ stands.unbuilt k h;
+      short_rows = subst HasShortRows (sym (at_view ws c)) (rows_frame is_of_tables ws (at c) (all_create t columns) rows_tables stands.short_rows);
       state = record {
         tables = create_keeps m.tables t columns stands.state.tables name are few;
         indexes = indexes_keep m.tables m.indexes t columns none stands.state.indexes;

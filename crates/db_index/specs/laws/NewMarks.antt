@@ -23,10 +23,10 @@ use Rattle.tb_table.specs.declared.columns.Column.{Column}
 use Rattle.tb_table.specs.Tables.{Table}
 use Rattle.tb_table.specs.Spelling.{TablesStand}
 use Rattle.tb_table.specs.laws.Changes.{is_of_tables, tables_frame}
-use Rattle.ix_context.specs.Indexes.{Index, pending_rows, synced, synced_index, rows_in, created, with_index}
+use Rattle.ix_context.specs.Indexes.{Index, given, pending_rows, synced, synced_index, rows_in, created, with_index}
 use Rattle.ix_context.specs.Changes.{sync_changes, create_changes}
 use Rattle.ix_context.specs.Rules.{most_given, IsTextSort, HasTextAt, IsTarget}
-use Rattle.ix_context.specs.Spelling.{IndexesStand}
+use Rattle.ix_context.specs.Standing.{IndexesStand}
 use Rattle.ix_context.specs.Spelling.{is_of_indexes}
 use Rattle.ix_context.specs.laws.Changes.{sync_stands, create_stands}
 use Rattle.ix_context.specs.Promises.{HasAllRows, IsFreeColumn}
@@ -34,7 +34,8 @@ use Rattle.ix_context.specs.laws.Rules.{sync_keeps, create_keeps}
 use Rattle.ix_context.specs.laws.Well.{are_changes, all_of_indexes, index_changes_sync, index_changes_create}
 use Rattle.db_index.specs.Syncing.{has_too_many, with_synced}
 use Rattle.db_index.specs.Indexing.{is_text_sort, is_text_at, has_context_index, has_too_many_rows, all_rows, target, with_new_index, IsFreeIndex}
-use Rattle.db_state.specs.States.{State, Stands, indexes_on, index_limit, is_built}
+use Rattle.db_state.specs.laws.ShortRows.{rows_put}
+use Rattle.db_state.specs.States.{State, Stands, HasShortRows, indexes_on, index_limit, is_built}
 use Rattle.db_index.specs.laws.Counting.{one, counted, count_insert, one_true, one_false}
 use Rattle.std.proofs.lemmas.Bool.{or_parts as either}
 use Rattle.ct_base.specs.laws.Options.{no_value as no_some}
@@ -70,8 +71,8 @@ indexes_built kind.RuleFaults h = refl
 
 -- ---- the state after a synchronisation
 
-room_left : (x : Index) → has_too_many x ≡ false → x.given + length (pending_rows x) ≤ most_given
-room_left x h = ltb-false most_given (x.given + length (pending_rows x)) h
+room_left : (x : Index) → has_too_many x ≡ false → given x + length (pending_rows x) ≤ most_given
+room_left x h = ltb-false most_given (given x + length (pending_rows x)) h
 
 -- a table has as many indexes as before
 few_synced : (xs : Names Index) (i : List ℕ) (x : Index) → get xs i ≡ Some x → (t : List ℕ) → length (indexes_on (synced xs i) t) ≡ length (indexes_on xs t)
@@ -96,6 +97,7 @@ synced_stands c m i x stands there few =
       unbuilt = λ k h. at-after ws c k ∙ told_frame is_of_indexes ws k (at c k) (all_of_indexes ws are) (indexes_built k.kind h) ∙ stands.unbuilt k h;
       tables = subst (λ (f : Key → Option (List ℕ)). TablesStand f m.tables) (sym (at_view ws c)) (tables_frame is_of_indexes ws (at c) m.tables (all_of_indexes ws are) apart stands.tables);
       indexes = subst (λ (f : Key → Option (List ℕ)). IndexesStand f m.tables (synced m.indexes i)) (sym (at_view ws c)) (sync_stands (at c) m.tables m.indexes i x there (room_left x few) stands.state.tables stands.state.indexes stands.indexes);
+      short_rows = subst HasShortRows (sym (at_view ws c)) (rows_put ws (at c) are stands.short_rows);
       state = record {
         tables = stands.state.tables;
         indexes = sync_keeps m.tables m.indexes i x there (room_left x few) stands.state.indexes;
@@ -192,6 +194,7 @@ new_index_stands c m i t x place stands name free =
       unbuilt = λ k h. at-after ws c k ∙ told_frame is_of_indexes ws k (at c k) (all_of_indexes ws are) (indexes_built k.kind h) ∙ stands.unbuilt k h;
       tables = subst (λ (f : Key → Option (List ℕ)). TablesStand f m.tables) (sym (at_view ws c)) (tables_frame is_of_indexes ws (at c) m.tables (all_of_indexes ws are) apart stands.tables);
       indexes = subst (λ (f : Key → Option (List ℕ)). IndexesStand f m.tables (with_index m.tables m.indexes i (target t place) all_rows)) (sym (at_view ws c)) (create_stands (at c) m.tables m.indexes i (target t place) all_rows none room stands.state.tables stands.indexes);
+      short_rows = subst HasShortRows (sym (at_view ws c)) (rows_put ws (at c) are stands.short_rows);
       state = record {
         tables = stands.state.tables;
         indexes = create_keeps m.tables m.indexes i (target t place) all_rows name none (target_of_texts m t x place free.there free.texts) (column_free m.indexes t place taken.1) every_row room stands.state.tables stands.state.indexes;

@@ -9,7 +9,7 @@ use Rattle.db_engine.proofs.executing.execute.Goals as goal
 pub returns-in-Err-Full-clause-executes : goal.returns-in-Err-Full-clause-executes
 returns-in-Err-Full-clause-executes g c = λ m k holds stands.
     answers_full m _ _ k _ _
-    (c.in-Err-Full.ensures.may (ap Err c.in-Err-Full.field-0-is))
+    (c.in-Err-Full.ensures.may k holds (ap Err c.in-Err-Full.field-0-is))
     (rw c.in-Err-Full.field-0-is at c.in-Err-Full.ensures.serves.fulls)
     (rw c.in-Err-Full.field-0-is at (c.in-Err-Full.ensures.serves.gives (g.met.K.Keeper.settled c.args.keeper.now c.requires.ready) m k holds stands))
 

@@ -1,4 +1,5 @@
-use Rattle.std.proofs.Common.{◌≡◌, ⊎_elim, ap, sym, ◌∙◌, List, Bool, Some, None}
+use Rattle.db_state.specs.Plans.{always}
+use Rattle.std.proofs.Common.{◌≡◌, ⊎_elim, ap, sym, ◌∙◌, List, Bool, Some, None, refl}
 use Rattle.std.specs.Prelude.{not}
 use Rattle.std.specs.Bool.{if◌then◌else◌}
 use Rattle.std.proofs.lemmas.Result.{err_from_is_err_and, IfOk-weaker}
@@ -6,12 +7,19 @@ use Rattle.ct_keep.specs.Composing.{reads_none}
 use Rattle.st_parse.specs.declared.statements.Arg.{Arg}
 use Rattle.st_parse.specs.declared.statements.ColumnText.{ColumnText}
 use Rattle.st_parse.specs.declared.statements.Statement.{Statement}
+use Rattle.st_parse.specs.declared.statements.Statement.TheVariants.{Commit}
 use Rattle.db_cond.specs.Faults.{NotUnderstood}
 use Rattle.db_state.specs.Effects.{Refused, refuse, reply_by}
 use Rattle.db_change.specs.Creating.{create_table}
 use Rattle.db_index.specs.Indexing.{create_index, index_created}
 use Rattle.db_change.specs.Inserting.{insert_into}
-use Rattle.db_engine.specs.Steps.{effect, select_by, call}
+use Rattle.db_change.specs.Updating.{update}
+use Rattle.db_change.specs.Deleting.{delete_from}
+use Rattle.db_change.specs.Dropping.{drop_table}
+use Rattle.db_index.specs.Dropping.{drop_index}
+use Rattle.st_parse.specs.declared.statements.Assign.{Assign}
+use Rattle.db_select.specs.Statements.{select_statement}
+use Rattle.db_engine.specs.Steps.{effect, call}
 use Rattle.db_engine.specs.Executing.{done_line, is_fixed, is_sync}
 use Rattle.std.proofs.lemmas.Bool.{not-true as is_not}
 use Rattle.db_state.specs.laws.Serving.{serves_short, serves_refused, serves_look, serves_as}
@@ -27,7 +35,7 @@ returns-in-CreateIndex-clause-serves g c =
     let kind = c.in-CreateIndex.kind in let parameters = c.in-CreateIndex.parameters in let parallel = c.in-CreateIndex.parallel in
     serves_as _ _ _ _ _ _ c.index_statement.result
     (λ m. ap (effect m) c.in-CreateIndex.is ∙ ap (λ (b : Bool). refuse (not b) NotUnderstood (create_index m c.in-CreateIndex.name c.in-CreateIndex.table c.in-CreateIndex.column)) (sym c.is_built_index-built.ensures))
-    (ap done_line c.in-CreateIndex.is ∙ ap (λ (b : Bool). if b then Some index_created else None) (sym c.is_built_index-built.ensures)) c.index_statement.ensures.serves
+    (ap done_line c.in-CreateIndex.is ∙ ap (λ (b : Bool). if b then Some (always index_created) else None) (sym c.is_built_index-built.ensures)) c.index_statement.ensures.serves
 
 pub returns-in-Insert-clause-serves : goal.returns-in-Insert-clause-serves
 returns-in-Insert-clause-serves g c =
@@ -36,38 +44,59 @@ returns-in-Insert-clause-serves g c =
 
 pub returns-in-Select-clause-serves : goal.returns-in-Select-clause-serves
 returns-in-Select-clause-serves g c =
-    serves_as (λ m. select_by m c.in-Select.list c.in-Select.table c.as_slice-in-Select.result.now) _ None _ _ _ c.selected.result
-    (λ m. ap (effect m) c.in-Select.is ∙ ap (select_by m c.in-Select.list c.in-Select.table) (sym c.as_slice-in-Select.ensures)) (ap done_line c.in-Select.is)
-    (serves_look _ _ _ _ c.selected.ensures.reads c.selected.ensures.reply c.selected.ensures.state)
+    serves_as (λ m. select_statement m c.in-Select.list c.in-Select.table c.as_slice-in-Select.result.now) _ None _ _ _ c.select.result
+    (λ m. ap (effect m) c.in-Select.is ∙ ap (select_statement m c.in-Select.list c.in-Select.table) (sym c.as_slice-in-Select.ensures)) (ap done_line c.in-Select.is)
+    (serves_look _ _ _ _ c.select.ensures.reads c.select.ensures.reply c.select.ensures.state)
 
 pub returns-in-Exec-clause-serves : goal.returns-in-Exec-clause-serves
 returns-in-Exec-clause-serves g c =
     serves_as _ _ _ _ _ _ c.call.result
     (λ m. ap (effect m) c.in-Exec.is ∙ ap (λ (args : List Arg). call m c.in-Exec.package c.in-Exec.procedure args) (sym c.as_slice-in-Exec.ensures)) (ap done_line c.in-Exec.is) c.call.ensures.serves
 
--- ---- what isn't built yet
+-- ---- changes of rows, and what goes
 
-pub returns-in_err-not_built-in-DropTable-clause-serves : goal.returns-in_err-not_built-in-DropTable-clause-serves
-returns-in_err-not_built-in-DropTable-clause-serves g c = serves_short _ _ _ _ _ (reads_none _ c.requires.ready) (err_from_is_err_and _ c.from_residual.ensures.1)
+pub returns-in-DropTable-clause-serves : goal.returns-in-DropTable-clause-serves
+returns-in-DropTable-clause-serves g c =
+    serves_as (λ m. drop_table m c.in-DropTable.name) _ _ _ _ _ c.drop_table.result (λ m. ap (effect m) c.in-DropTable.is) (ap done_line c.in-DropTable.is) c.drop_table.ensures.done
 
-pub returns-in_ok-not_built-in-DropTable-clause-serves : goal.returns-in_ok-not_built-in-DropTable-clause-serves
-returns-in_ok-not_built-in-DropTable-clause-serves g c =
-    serves_refused _ _ _ _ NotUnderstood _ (reads_none _ c.requires.ready) (λ m k holds stands.
-    ⊎_elim {C = effect m c.args.statement.now ≡ Refused NotUnderstood} (λ p. ap (effect m) p.1) (λ p.
-    ⊎_elim {C = effect m c.args.statement.now ≡ Refused NotUnderstood} (λ p. ap (effect m) p.1) (λ p.
-    ⊎_elim {C = effect m c.args.statement.now ≡ Refused NotUnderstood} (λ p. ap (effect m) p.3) (λ p.
-    ⊎_elim {C = effect m c.args.statement.now ≡ Refused NotUnderstood} (λ p. ap (effect m) p.2) (λ p. ap (effect m) p) p) p) p) c.in-DropTable.is)
-    c.in_ok-not_built-in-DropTable.ensures
+pub returns-in-DropTable-clause-may : goal.returns-in-DropTable-clause-may
+returns-in-DropTable-clause-may g c = λ k holds full. absurd (c.drop_table.ensures.never_full k holds full)
 
-pub returns-in_ok-not_built-in-DropTable-clause-fixed : goal.returns-in_ok-not_built-in-DropTable-clause-fixed
-returns-in_ok-not_built-in-DropTable-clause-fixed g c =
-    λ m fixed.
-    let is : effect m c.args.statement.now ≡ Refused NotUnderstood =
-    ⊎_elim {C = effect m c.args.statement.now ≡ Refused NotUnderstood} (λ p. ap (effect m) p.1) (λ p.
-    ⊎_elim {C = effect m c.args.statement.now ≡ Refused NotUnderstood} (λ p. ap (effect m) p.1) (λ p.
-    ⊎_elim {C = effect m c.args.statement.now ≡ Refused NotUnderstood} (λ p. ap (effect m) p.3) (λ p.
-    ⊎_elim {C = effect m c.args.statement.now ≡ Refused NotUnderstood} (λ p. ap (effect m) p.2) (λ p. ap (effect m) p) p) p) p) c.in-DropTable.is in
-    c.in_ok-not_built-in-DropTable.ensures ∙ sym (ap reply_by is)
+pub returns-in-DropIndex-clause-serves : goal.returns-in-DropIndex-clause-serves
+returns-in-DropIndex-clause-serves g c =
+    serves_as (λ m. drop_index m c.in-DropIndex.name) _ _ _ _ _ c.drop_index.result (λ m. ap (effect m) c.in-DropIndex.is) (ap done_line c.in-DropIndex.is) c.drop_index.ensures.done
+
+pub returns-in-DropIndex-clause-may : goal.returns-in-DropIndex-clause-may
+returns-in-DropIndex-clause-may g c = λ k holds full. absurd (c.drop_index.ensures.never_full k holds full)
+
+pub returns-in-Update-clause-serves : goal.returns-in-Update-clause-serves
+returns-in-Update-clause-serves g c =
+    serves_as (λ m. update m c.in-Update.table c.as_slice-in-Update.result.now c.as_slice-in-Update-2.result.now) _ _ _ _ _ c.update.result
+    (λ m. ap (effect m) c.in-Update.is ∙ ap (λ (assigns : List Assign). update m c.in-Update.table assigns c.in-Update.conds) (sym c.as_slice-in-Update.ensures) ∙ ap (update m c.in-Update.table c.as_slice-in-Update.result.now) (sym c.as_slice-in-Update-2.ensures))
+    (ap done_line c.in-Update.is) c.update.ensures
+
+pub returns-in-Delete-clause-serves : goal.returns-in-Delete-clause-serves
+returns-in-Delete-clause-serves g c =
+    serves_as (λ m. delete_from m c.in-Delete.table c.as_slice-in-Delete.result.now) _ _ _ _ _ c.delete_from.result
+    (λ m. ap (effect m) c.in-Delete.is ∙ ap (delete_from m c.in-Delete.table) (sym c.as_slice-in-Delete.ensures)) (ap done_line c.in-Delete.is) c.delete_from.ensures.done
+
+pub returns-in-Delete-clause-may : goal.returns-in-Delete-clause-may
+returns-in-Delete-clause-may g c = λ k holds full. absurd (c.delete_from.ensures.never_full k holds full)
+
+-- ---- COMMIT
+
+pub returns-in_err-fixed_reply-in-Commit-clause-serves : goal.returns-in_err-fixed_reply-in-Commit-clause-serves
+returns-in_err-fixed_reply-in-Commit-clause-serves g c = serves_short _ _ _ _ _ (reads_none _ c.requires.ready) (err_from_is_err_and _ c.from_residual.ensures.1)
+
+pub returns-in_ok-fixed_reply-in-Commit-clause-serves : goal.returns-in_ok-fixed_reply-in-Commit-clause-serves
+returns-in_ok-fixed_reply-in-Commit-clause-serves g c =
+    serves_as (λ m. effect m Commit) _ None _ _ _ _ (λ m. ap (effect m) c.in-Commit.is) (ap done_line c.in-Commit.is)
+    (serves_look (λ m. effect m Commit) _ _ _ (reads_none _ c.requires.ready) (λ m k holds stands. c.in_ok-fixed_reply-in-Commit.ensures) (λ m. refl))
+
+pub returns-in_ok-fixed_reply-in-Commit-clause-fixed : goal.returns-in_ok-fixed_reply-in-Commit-clause-fixed
+returns-in_ok-fixed_reply-in-Commit-clause-fixed g c = λ m fixed. c.in_ok-fixed_reply-in-Commit.ensures ∙ sym (ap (λ (s : Statement). reply_by (effect m s)) c.in-Commit.is)
+
+-- ---- replies that are the same in every state
 
 pub returns-in-Exec-clause-fixed : goal.returns-in-Exec-clause-fixed
 returns-in-Exec-clause-fixed g c = λ m fixed.

@@ -3,7 +3,7 @@ use Rattle.std.specs.Prelude.{filter, nat_lt}
 use Rattle.ix_context.specs.declared.hits.Hit.{Hit}
 use Rattle.ix_context.specs.Indexes.{found}
 use Rattle.ix_context.specs.laws.Limits.{within_limits}
-use Rattle.db_select.specs.Selecting.{query_key}
+use Rattle.db_select.specs.Querying.{query_key}
 use Rattle.db_select.proofs.Scores.{above_filtered, filter_mapped}
 use Rattle.db_select.proofs.hits.hits_above.Goals as goal
 

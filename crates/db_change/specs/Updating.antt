@@ -1,0 +1,215 @@
+-- What UPDATE does.
+use Rattle.std.specs.Prelude.{ℕ, ℤ, suc, pos, ◌≡◌, Bool, true, false, not, ◌||◌, List, [], ◌∷◌, ◌++◌, length, map, Option, Some, None, codes, refl}
+use Rattle.std.specs.Bool.{if◌then◌else◌}
+use Rattle.std.specs.List.{list_any, list_all, filter_map, cons_option}
+use Rattle.std.specs.Option.{option_map, option_and_then, unwrap_or}
+use Rattle.std.specs.FinMap.{get}
+use Rattle.ct_base.specs.declared.lists.Value.{Value}
+use Rattle.ct_base.specs.declared.lists.Value.TheVariants.{Number as NumberValue, Text as TextValue}
+use Rattle.ct_entry.specs.Keys.{Key, at, same_list}
+use Rattle.ct_entry.specs.Each.{each}
+use Rattle.ct_keep.specs.Content.{Content}
+use Rattle.st_parse.specs.declared.statements.Assign.{Assign}
+use Rattle.st_parse.specs.declared.statements.Cond.{Cond}
+use Rattle.st_parse.specs.declared.statements.Operand.{Operand}
+use Rattle.st_parse.specs.declared.statements.Operand.TheVariants.{Text, Number}
+use Rattle.st_parse.specs.declared.statements.Whole.TheVariants.{Fits, Beyond}
+use Rattle.tb_table.specs.declared.columns.Sort.{Sort}
+use Rattle.tb_table.specs.declared.columns.Sort.TheVariants.{Number as NumberSort, Varchar2, Clob}
+use Rattle.tb_table.specs.declared.columns.Column.{Column}
+use Rattle.tb_table.specs.Rules.{others}
+use Rattle.tb_table.specs.Tables.{Table, Tables, numbers_of, with_row}
+use Rattle.tb_table.specs.Spelling.{insert_changes}
+use Rattle.ix_docmap.specs.Changes.{changed_changes}
+use Rattle.ix_docmap.specs.Readings.{document_at}
+use Rattle.ix_context.specs.RowSteps.{is_column, tables_after, changed_after}
+use Rattle.db_names.specs.declared.heads.IndexHead.{IndexHead}
+use Rattle.db_names.specs.Promises.{heads_of}
+use Rattle.db_state.specs.laws.Heads.{heads}
+use Rattle.db_cond.specs.Faults.{UnknownName, WrongValues, ValueTooLong, OutOfRange}
+use Rattle.db_cond.specs.Lines.{rows_line}
+use Rattle.db_rows.specs.Checking.{cond_columns, fit_columns, has_beyond, sort_of}
+use Rattle.db_rows.specs.Meeting.{meeting_keys}
+use Rattle.db_rows.specs.Values.{row_values}
+use Rattle.db_state.specs.Columns.{first_unknown, place_of}
+use Rattle.db_state.specs.States.{State}
+use Rattle.db_state.specs.Effects.{Effect, Does, Refused, refuse, refuse_by, with_found}
+use Rattle.db_change.specs.Inserting.{is_of_sort, is_too_long, is_beyond_range, kept_value, number_value, text_value, IsNumberKept, IsTextKept, IsShortValue}
+
+-- ---- the values that are set
+
+abbrev pub assign_columns : List Assign → List (List ℕ)
+assign_columns assigns = map (λ (a : Assign). a.column) assigns
+
+-- the key is set: the first column of a table
+abbrev pub sets_key : List Column → List Assign → Bool
+sets_key [] assigns = false
+sets_key (key ∷ columns) assigns = list_any (same_list key.name) (assign_columns assigns)
+
+-- a column is named twice
+abbrev pub has_twice : List (List ℕ) → Bool
+has_twice [] = false
+has_twice (name ∷ names) = list_any (same_list name) names || has_twice names
+
+-- this holds of the sort of the column and the value that is set in it; where the column isn't there, it doesn't
+abbrev pub of_sort : (Sort → Operand → Bool) → Option Sort → Operand → Bool
+of_sort holds None value = false
+of_sort holds (Some sort) value = holds sort value
+
+abbrev pub of_its_sort : (Sort → Operand → Bool) → List Column → Assign → Bool
+of_its_sort holds columns a = of_sort holds (sort_of a.column columns) a.value
+
+-- the value that is set in a column, if one is
+abbrev pub set_in : List Assign → List ℕ → Option Operand
+set_in [] name = None
+set_in (a ∷ assigns) name = if same_list name a.column then Some a.value else set_in assigns name
+
+abbrev pub value_after : Option Operand → Value → Value
+value_after None value = value
+value_after (Some operand) value = kept_value operand
+
+-- the values of a row behind its key, in the order of their columns: those that are set, and of the other columns those that it has
+abbrev pub values_after : List Column → List Assign → List Value → List Value
+values_after [] assigns vs = []
+values_after (c ∷ columns) assigns [] = []
+values_after (c ∷ columns) assigns (v ∷ vs) = value_after (set_in assigns c.name) v ∷ values_after columns assigns vs
+
+-- the places of the columns that are set
+abbrev pub places_set : List Column → List Assign → List ℕ
+places_set columns assigns = filter_map (λ (a : Assign). place_of a.column columns) assigns
+
+-- ---- the statement
+
+-- the checks in their order, of all names first
+abbrev pub check_update : List Column → List Assign → List Cond → Effect → Effect
+check_update columns assigns conds done =
+    refuse_by (first_unknown (assign_columns assigns ++ cond_columns conds) columns) UnknownName
+    (refuse (sets_key columns assigns || has_twice (assign_columns assigns) || not (list_all (of_its_sort is_of_sort columns) assigns) || not (fit_columns columns conds)) WrongValues
+    (refuse (list_any (of_its_sort is_too_long columns) assigns) ValueTooLong
+    (refuse (list_any (λ (a : Assign). is_beyond_range a.value) assigns || has_beyond conds) OutOfRange
+    done)))
+
+-- a row of a table with these columns has the values after
+abbrev pub row_updated : List ℕ → List Column → List Assign → Tables → ℤ → Tables
+row_updated t columns assigns ts r = with_row ts t r (values_after (others columns) assigns (row_values ts t r))
+
+-- Each of these rows has the values after, and waits in each index on a column that is set, also where its text is the same as before.
+abbrev pub with_updates : State → List ℕ → List Column → List Assign → List ℤ → State
+with_updates m t columns assigns rows = record {
+  tables = tables_after (row_updated t columns assigns) m.tables rows;
+  indexes = changed_after (row_updated t columns assigns) m.tables m.indexes t (places_set columns assigns) rows;
+}
+
+abbrev pub rows_updated : ℕ → List ℕ
+rows_updated rows = rows_line (codes "updated.\n") rows
+
+abbrev pub update_rows : State → List ℕ → List Column → List Assign → List ℤ → Effect
+update_rows m t columns assigns rows = Does (with_updates m t columns assigns rows) (rows_updated (length rows))
+
+abbrev pub update : State → List ℕ → List Assign → List Cond → Effect
+update m t assigns conds =
+    with_found (get m.tables t) (UnknownName t) (λ (x : Table). check_update x.columns assigns conds (update_rows m t x.columns assigns (meeting_keys x conds)))
+
+-- ---- what its functions give
+
+-- a value is one that an entry may have
+abbrev pub IsShortAssign : Assign → Type 0
+IsShortAssign a = IsShortValue a.value
+
+-- a value that is set is a number of 64 bits or a text in UTF-8
+abbrev pub IsKeptAssign : Assign → Type 0
+IsKeptAssign a = IsNumberKept a.value × IsTextKept a.value
+
+-- where the column has numbers
+abbrev pub of_numbers : Sort → Option ℤ → Option (Option ℤ)
+of_numbers NumberSort number = Some number
+of_numbers (Varchar2 size) number = None
+of_numbers Clob number = None
+
+-- of a column of numbers, the number that is set in it, if one is
+abbrev pub number_set : List Assign → Column → Option (Option ℤ)
+number_set assigns c = of_numbers c.sort (option_and_then number_value (set_in assigns c.name))
+
+-- the numbers of a row, with those that are set in their places
+abbrev pub with_set : List (Option ℤ) → List ℤ → List ℤ
+with_set [] numbers = []
+with_set (o ∷ set) [] = []
+with_set (o ∷ set) (n ∷ numbers) = unwrap_or o n ∷ with_set set numbers
+
+abbrev pub numbers_after : List Column → List Assign → List ℤ → List ℤ
+numbers_after columns assigns numbers = with_set (filter_map (number_set assigns) columns) numbers
+
+-- the texts that are set in columns of which the first has this place, each with its column
+abbrev pub texts_set : ℕ → List Column → List Assign → List (ℕ × List ℕ)
+texts_set place [] assigns = []
+texts_set place (c ∷ columns) assigns = cons_option (option_map (λ text. (place, text)) (option_and_then text_value (set_in assigns c.name))) (texts_set (suc place) columns assigns)
+
+-- the names of the indexes on columns that are set
+abbrev pub named_set : List ℕ → List (List ℕ × IndexHead) → List (List ℕ)
+named_set places heads = filter_map (λ e. if is_column places e.1.target.column then Some e.0 else None) heads
+
+abbrev pub indexes_set : State → List ℕ → List Column → List Assign → List (List ℕ)
+indexes_set m t columns assigns = named_set (places_set columns assigns) (heads_of t (heads m.indexes))
+
+-- a row with these numbers before gets those and the texts that are set; the columns are those behind the key
+abbrev pub value_changes : List ℕ → List Column → List Assign → List ℤ → ℤ → List (Key × Option (List ℕ))
+value_changes t columns assigns numbers r = insert_changes t r (numbers_after columns assigns numbers) (texts_set 1 columns assigns)
+
+-- the row waits in each of these indexes
+abbrev pub note_changes : Content → List (List ℕ) → ℤ → List (Key × Option (List ℕ))
+note_changes c names r = each (λ i. changed_changes i r (document_at (at c) i r)) names
+
+-- the changes of each of these rows
+abbrev pub update_changes : Content → State → List ℕ → List Column → List Assign → List (List ℕ) → List ℤ → List (Key × Option (List ℕ))
+update_changes c m t columns assigns names rows = each (λ r. value_changes t columns assigns (numbers_of (row_values m.tables t r)) r ++ note_changes c names r) rows
+
+-- computed examples
+abbrev set_price : Operand → Assign
+set_price value = record { column = codes "price"; value = value }
+
+named_twice : has_twice (codes "price" ∷ codes "body" ∷ codes "price" ∷ []) ≡ true
+named_twice = refl
+
+nothing_to_update : (m : State) (t : List ℕ) (columns : List Column) (assigns : List Assign) → with_updates m t columns assigns [] ≡ m
+nothing_to_update m t columns assigns = refl
+
+-- of a text and two numbers behind the key, the first number and no text is set
+abbrev priced : List Column
+priced = record { name = codes "body"; sort = Clob } ∷ record { name = codes "price"; sort = NumberSort } ∷ record { name = codes "stock"; sort = NumberSort } ∷ []
+
+its_numbers : numbers_after priced (set_price (Number (Fits (pos 9))) ∷ []) (pos 3 ∷ pos 4 ∷ []) ≡ pos 9 ∷ pos 4 ∷ []
+its_numbers = refl
+
+no_text_set : texts_set 1 priced (set_price (Number (Fits (pos 9))) ∷ []) ≡ []
+no_text_set = refl
+
+its_values : values_after priced (set_price (Number (Fits (pos 9))) ∷ []) (TextValue (codes "fox") ∷ NumberValue (pos 3) ∷ NumberValue (pos 4) ∷ []) ≡ TextValue (codes "fox") ∷ NumberValue (pos 9) ∷ NumberValue (pos 4) ∷ []
+its_values = refl
+
+-- the checks of a table of id NUMBER PRIMARY KEY, title VARCHAR2(3), price NUMBER
+abbrev titled : List Column
+titled = record { name = codes "id"; sort = NumberSort } ∷ record { name = codes "title"; sort = Varchar2 3 } ∷ record { name = codes "price"; sort = NumberSort } ∷ []
+
+abbrev set_title : Operand → Assign
+set_title value = record { column = codes "title"; value = value }
+
+the_title : places_set titled (set_title (Text (codes "fox")) ∷ []) ≡ 1 ∷ []
+the_title = refl
+
+unknown_and_wrong : (done : Effect) → check_update titled (set_price (Text (codes "nine")) ∷ record { column = codes "nope"; value = Number Beyond } ∷ []) [] done ≡ Refused (UnknownName (codes "nope"))
+unknown_and_wrong done = refl
+
+the_key_and_too_long : (done : Effect) → check_update titled (set_title (Text (codes "four")) ∷ record { column = codes "id"; value = Number (Fits (pos 2)) } ∷ []) [] done ≡ Refused WrongValues
+the_key_and_too_long done = refl
+
+twice_and_beyond : (done : Effect) → check_update titled (set_price (Number Beyond) ∷ set_price (Number Beyond) ∷ []) [] done ≡ Refused WrongValues
+twice_and_beyond done = refl
+
+too_long_and_beyond : (done : Effect) → check_update titled (set_price (Number Beyond) ∷ set_title (Text (codes "four")) ∷ []) [] done ≡ Refused ValueTooLong
+too_long_and_beyond done = refl
+
+beyond : (done : Effect) → check_update titled (set_price (Number Beyond) ∷ []) [] done ≡ Refused OutOfRange
+beyond done = refl
+
+a_good_update : (done : Effect) → check_update titled (set_price (Number (Fits (pos 9))) ∷ set_title (Text (codes "fox")) ∷ []) [] done ≡ done
+a_good_update done = refl

@@ -1,0 +1,324 @@
+-- The state after new values of rows.
+use Rattle.std.proofs.Common.{◌≡◌, ℕ, ℤ, ◌<◌, ◌≤◌, ◌^◌, Bool, true, false, cond, List, [], ◌∷◌, ◌++◌, length, map, Option, Some, None, refl, sym, ap, subst, ◌∙◌, arith, inl, inr}
+use Rattle.std.specs.Prelude.{is_some, filter, ◌||◌, ◌&&◌}
+use Rattle.std.specs.Option.{option_map, option_and_then}
+use Rattle.std.specs.Ordering.{int_eq, is_lt, nat_cmp}
+use Rattle.std.specs.declared.cmp.Ordering.{Ordering}
+use Rattle.std.specs.Cmp.{IsTotalOrder}
+use Rattle.std.specs.Cmp.Lexicographic.{slice_cmp}
+use Rattle.std.specs.FinMap.{FinMap, get, entries}
+use Rattle.std.proofs.lemmas.Cmp.{nat_list_cmp_total}
+use Rattle.ct_base.specs.Names.{IsName}
+use Rattle.ct_base.specs.declared.lists.Value.{Value}
+use Rattle.ct_base.specs.laws.Options.{option_map_some}
+use Rattle.ct_keep.specs.Content.{Content, after}
+use Rattle.ct_keep.specs.RisingKeys.{below, rises, entries_rise}
+use Rattle.ct_entry.specs.declared.kinds.Kind.{Kind}
+use Rattle.ct_entry.specs.declared.kinds.Kind.TheVariants as kind
+use Rattle.ct_entry.specs.Keys.{Key, at, same_list, IsRow}
+use Rattle.ct_entry.specs.Each.{each, is_among}
+use Rattle.ct_entry.specs.Lists.{IsIn, AreApart}
+use Rattle.ct_entry.specs.Maps.{Names, each_at}
+use Rattle.ct_entry.specs.Changes.{spell, view, AreChanges, AllOf}
+use Rattle.ct_entry.specs.laws.Changes.{at_view, at-after, only-after, told_frame, view-append, are-append, all-append}
+use Rattle.ct_entry.specs.laws.Each.{all_each}
+use Rattle.ct_entry.specs.laws.Keys.{list_same}
+use Rattle.ct_entry.specs.laws.Parts.{int_from_eq}
+use Rattle.tb_table.specs.declared.columns.Column.{Column}
+use Rattle.tb_table.specs.Tables.{Table, Tables, row_in, row_at, numbers_of, text_of, with_row}
+use Rattle.tb_table.specs.Spelling.{TablesStand, insert_changes}
+use Rattle.tb_table.specs.Rules.{FitColumns, AreTables, others}
+use Rattle.tb_table.specs.laws.Changes.{is_of_tables, all_insert, tables_frame, columns-with_row, row_at-with_row}
+use Rattle.tb_table.specs.laws.Updates.{stand_update}
+use Rattle.tb_table.specs.laws.Rules.{update_keeps}
+use Rattle.tb_table.specs.laws.Well.{are_insert}
+use Rattle.ix_docmap.specs.Changes.{changed_changes}
+use Rattle.ix_docmap.specs.Readings.{document_at}
+use Rattle.ix_docmap.specs.laws.Documents.{is_of_map}
+use Rattle.ix_context.specs.Indexes.{Index, marks_in, part_in}
+use Rattle.ix_context.specs.Documents.{changed_index, changed_on}
+use Rattle.ix_context.specs.Standing.{IndexStands, IndexesStand}
+use Rattle.ix_context.specs.RowSteps.{HaveSameColumns, SetsColumns, AwaitsTurn, StepsSetColumns, AreIndexesOnColumns, IndexesHold, is_on_columns, tables_after, changed_after}
+use Rattle.ix_context.specs.laws.RowSteps.{HasStill, has_still, sets_columns, and_false}
+use Rattle.ix_context.specs.laws.Turns.{rows_changed_stand}
+use Rattle.ix_context.specs.laws.Changed.{all_changed, changed_table}
+use Rattle.ix_context.specs.laws.Changes.{row_is_row}
+use Rattle.ix_context.specs.laws.Gone.{document_read}
+use Rattle.st_parse.specs.declared.statements.Assign.{Assign}
+use Rattle.db_rows.specs.Values.{values_of, row_values}
+use Rattle.db_state.specs.States.{State, Stands, HasShortRows, is_of_rows, is_built, is_view, indexes_on, index_limit}
+use Rattle.db_state.specs.laws.EachValue.{entries-from_rising, count_alike}
+use Rattle.db_state.specs.laws.ShortRows.{rows_frame}
+use Rattle.db_change.specs.Updating.{values_after, places_set, row_updated, with_updates, numbers_after, texts_set, value_changes, note_changes, update_changes}
+use Rattle.db_change.specs.laws.NewTables.{apart}
+use Rattle.std.proofs.lemmas.Bool.{or_right}
+use Rattle.db_change.specs.laws.SetValues.{SetFits, values_fit, numbers_values, is_update, set_places, text_stays}
+
+-- ---- the kinds of the changes
+
+-- the kinds of tables, and of the map from rows to documents
+abbrev is_of_update : Kind → Bool
+is_of_update k = is_of_tables k || is_of_map k
+
+of_tables : (k : Kind) → is_of_tables k ≡ true → is_of_update k ≡ true
+of_tables k h = ap (λ (b : Bool). b || is_of_map k) h
+
+of_map : (k : Kind) → is_of_map k ≡ true → is_of_update k ≡ true
+of_map k h = or_right (is_of_tables k) (is_of_map k) h
+
+all_weaker : (p q : Kind → Bool) → ((k : Kind) → p k ≡ true → q k ≡ true) → (ws : List (Key × Option (List ℕ))) → AllOf p ws → AllOf q ws
+all_weaker p q weaker [] all = tt
+all_weaker p q weaker (w ∷ ws) all = (weaker w.0.kind all.0, all_weaker p q weaker ws all.1)
+
+update_built : (k : Kind) → is_built k ≡ false → is_of_update k ≡ false
+update_built kind.Tables h = cc
+update_built kind.RowNumbers h = cc
+update_built kind.RowTexts h = cc
+update_built kind.DocumentRows h = cc
+update_built kind.RowDocuments h = cc
+update_built kind.Pending h = cc
+update_built k h = refl
+
+update_rows : (k : Kind) → is_of_rows k ≡ true → is_of_update k ≡ false
+update_rows kind.Postings h = refl
+update_rows kind.Spans h = refl
+update_rows k h = cc
+
+tables_map : (k : Kind) → is_of_tables k ≡ true → is_of_map k ≡ false
+tables_map kind.Tables h = refl
+tables_map kind.RowNumbers h = refl
+tables_map kind.RowTexts h = refl
+tables_map k h = cc
+
+notes_map : (c : Content) (names : List (List ℕ)) (r : ℤ) → AllOf is_of_map (note_changes c names r)
+notes_map c names r = all_each is_of_map (λ i. changed_changes i r (document_at (at c) i r)) (λ i. all_changed i r (document_at (at c) i r)) names
+
+-- ---- keys
+
+are_changed : (i : List ℕ) (r : ℤ) (o : Option ℕ) → IsName i → IsRow r → ((d : ℕ) → o ≡ Some d → d < 2 ^ 32) → AreChanges (changed_changes i r o)
+are_changed i r None name row few = tt
+are_changed i r (Some d) name row few = (
+  record { owner = name; part = (d, few d refl, refl) },
+  (record { owner = name; part = (r, row, refl) }, (record { owner = name; part = (r, row, refl) }, tt)),
+)
+
+-- ---- how many indexes
+
+module _ {K X Y : Type 0} (R : K → K → Ordering) (f : K → X → Y) where
+  at_below : (k : K) (es : List (K × X)) → below R k (map (λ e. (e.0, f e.0 e.1)) es) ≡ below R k es
+  at_below k [] = refl
+  at_below k (e ∷ es) = ap (λ (b : Bool). is_lt (R k e.0) && b) (at_below k es)
+
+  at_rise : (es : List (K × X)) → rises R (map (λ e. (e.0, f e.0 e.1)) es) ≡ rises R es
+  at_rise [] = refl
+  at_rise (e ∷ es) = ap (λ (b : Bool). b && rises R (map (λ e. (e.0, f e.0 e.1)) es)) (at_below e.0 es) ∙ ap (λ (b : Bool). below R e.0 es && b) (at_rise es)
+
+  entries-each_at : IsTotalOrder R → (m : FinMap R X) → entries (each_at f m) ≡ map (λ e. (e.0, f e.0 e.1)) (entries m)
+  entries-each_at o m = entries-from_rising R o (map (λ e. (e.0, f e.0 e.1)) (entries m)) (at_rise (entries m) ∙ entries_rise R m)
+
+few_changed : (ts : Tables) (xs : Names Index) (t places : List ℕ) (r : ℤ) (q : List ℕ) → length (indexes_on (changed_on ts xs t places r) q) ≡ length (indexes_on xs q)
+few_changed ts xs t places r q =
+    ap (λ (es : List (List ℕ × Index)). length (filter (λ e. same_list e.1.table q) es)) (entries-each_at (slice_cmp nat_cmp) now nat_list_cmp_total xs)
+    ∙ count_alike (λ (e : List ℕ × Index). (e.0, now e.0 e.1)) (λ e. same_list e.1.table q) (λ e. same_list e.1.table q) (λ e. ap (λ (u : List ℕ). same_list u q) (same e.0 e.1 (same_list e.1.table t))) (entries xs)
+  where
+    now : List ℕ → Index → Index
+    now i x = cond (same_list x.table t) (changed_index ts places r i x) x
+
+    same : (i : List ℕ) (x : Index) (b : Bool) → (cond b (changed_index ts places r i x) x).table ≡ x.table
+    same i x true = changed_table ts places r i x
+    same i x false = refl
+
+few_after : (step : Tables → ℤ → Tables) (t places : List ℕ) (rows : List ℤ) (ts : Tables) (xs : Names Index) (q : List ℕ) → length (indexes_on (changed_after step ts xs t places rows) q) ≡ length (indexes_on xs q)
+few_after step t places [] ts xs q = refl
+few_after step t places (r ∷ rows) ts xs q = few_after step t places rows (step ts r) (changed_on ts xs t places r) q ∙ few_changed ts xs t places r q
+
+-- ---- the same columns
+
+alike_with_row : (ts : Tables) (t : List ℕ) (r : ℤ) (vs : List Value) → HaveSameColumns ts (with_row ts t r vs)
+alike_with_row ts t r vs q = go (get ts t) refl
+  where
+    go : (o : Option Table) → get ts t ≡ o → option_map (λ (y : Table). y.columns) (get (with_row ts t r vs) q) ≡ option_map (λ (y : Table). y.columns) (get ts q)
+    go None is = rw is refl
+    go (Some x) is = columns-with_row ts t r vs x is q
+
+alike_after : (t : List ℕ) (columns : List Column) (assigns : List Assign) (rows : List ℤ) (ts : Tables) → HaveSameColumns ts (tables_after (row_updated t columns assigns) ts rows)
+alike_after t columns assigns [] ts q = refl
+alike_after t columns assigns (r ∷ rows) ts q =
+    alike_after t columns assigns rows (row_updated t columns assigns ts r) q ∙ alike_with_row ts t r (values_after (others columns) assigns (row_values ts t r)) q
+
+-- ---- the rows of a statement
+
+module _ (c : Content) (m : State) (t : List ℕ) (x : Table) (assigns : List Assign) (names : List (List ℕ)) (stands : Stands c m) (here : get m.tables t ≡ Some x) (set : SetFits assigns (others x.columns))
+    (on : AreIndexesOnColumns m.indexes t (places_set x.columns assigns) names) where
+  abbrev columns : List Column
+  columns = others x.columns
+
+  abbrev places : List ℕ
+  places = places_set x.columns assigns
+
+  abbrev step : Tables → ℤ → Tables
+  step ts r = row_updated t x.columns assigns ts r
+
+  abbrev own : ℤ → List (Key × Option (List ℕ))
+  own r = value_changes t columns assigns (numbers_of (row_values m.tables t r)) r
+
+  abbrev notes : ℤ → List (Key × Option (List ℕ))
+  notes r = note_changes c names r
+
+  -- a row that is there, as its turn comes
+  record Turn (ts : Tables) (r : ℤ) : Type 0 where
+    old : List Value
+    first : row_at m.tables t r ≡ Some old
+    still : HasStill x old ts t r
+    fit : FitColumns columns old
+
+  turn : (ts : Tables) (r : ℤ) → is_some (row_at m.tables t r) ≡ true → AwaitsTurn m.tables ts t r → Turn ts r
+  turn ts r there awaits = go (get x.rows r) refl (sym (ap (λ (o : Option Table). is_some (row_in o r)) here) ∙ there)
+    where
+      go : (o : Option (List Value)) → get x.rows r ≡ o → is_some o ≡ true → Turn ts r
+      go None row there = cc
+      go (Some old) row there = record {
+        old = old;
+        first = ap (λ (o : Option Table). row_in o r) here ∙ row;
+        still = has_still m.tables ts t r x old here row awaits;
+        fit = (stands.state.tables.each t x here).rows r old row;
+      }
+
+  module _ (ts : Tables) (r : ℤ) (at_turn : Turn ts r) where
+    abbrev new : List Value
+    new = values_after columns assigns at_turn.old
+
+    row_now : row_at ts t r ≡ Some at_turn.old
+    row_now = ap (λ (o : Option Table). row_in o r) at_turn.still.here ∙ at_turn.still.row
+
+    step_is : step ts r ≡ with_row ts t r new
+    step_is = ap (λ (o : Option (List Value)). with_row ts t r (values_after columns assigns (values_of o))) row_now
+
+    own_is : insert_changes t r (numbers_of new) (texts_set 1 columns assigns) ≡ own r
+    own_is =
+        ap (λ (ns : List ℤ). insert_changes t r ns (texts_set 1 columns assigns))
+        (numbers_values assigns columns at_turn.old at_turn.fit set ∙ ap (λ (o : Option (List Value)). numbers_after columns assigns (numbers_of (values_of o))) (sym at_turn.first))
+
+    sets : AwaitsTurn m.tables ts t r → AreTables (step ts r) × SetsColumns ts (step ts r) t places r
+    sets awaits =
+        let still = at_turn.still in
+        let apart = (stands.state.tables.each t x here).columns.apart in
+        subst (λ (us : Tables). AreTables us × SetsColumns ts us t places r) (sym step_is) (
+          update_keeps ts t r at_turn.old new still.table awaits.rules still.here still.row (subst (λ (cs : List Column). FitColumns (others cs) new) (sym still.columns) (values_fit assigns columns at_turn.old at_turn.fit set)),
+          sets_columns ts (with_row ts t r new) t places r new (columns-with_row ts t r new still.table still.here) (row_at-with_row ts t r new still.table still.here)
+              (λ column other. text_stays x.columns assigns at_turn.old apart at_turn.fit set column other ∙ sym (ap (option_and_then (λ (vs : List Value). text_of vs column)) row_now)),
+        )
+
+    stands_then : (f : Key → Option (List ℕ)) → IsRow r → TablesStand f ts → TablesStand (view (own r ++ notes r) f) (step ts r)
+    stands_then f row stand =
+        subst (λ (g : Key → Option (List ℕ)). TablesStand g (step ts r)) (sym (view-append (own r) (notes r) f))
+        (tables_frame is_of_map (notes r) (view (own r) f) (step ts r) (notes_map c names r) tables_map
+        (subst (λ (ws : List (Key × Option (List ℕ))). TablesStand (view ws f) (step ts r)) own_is
+        (subst (TablesStand (view (insert_changes t r (numbers_of new) (texts_set 1 columns assigns)) f)) (sym step_is)
+        (stand_update f ts t r at_turn.old new (texts_set 1 columns assigns) row_now row (is_update assigns columns at_turn.old at_turn.fit set) stand))))
+
+  steps_set : (rows : List ℤ) → ((r : ℤ) → IsIn r rows → is_some (row_at m.tables t r) ≡ true) → StepsSetColumns m.tables step t places rows
+  steps_set rows there ts r among awaits = sets ts r (turn ts r (there r among) awaits) awaits
+
+  -- ---- the tables, row by row
+
+  other_row : (r s : ℤ) (rows : List ℤ) → (IsIn r rows → ⊥) → IsIn s rows → int_eq s r ≡ false
+  other_row r s rows apart among = go (int_eq s r) refl
+    where
+      go : (b : Bool) → int_eq s r ≡ b → b ≡ false
+      go true e = absurd (apart (subst (λ (z : ℤ). IsIn z rows) (int_from_eq s r e) among))
+      go false e = refl
+
+  tables_stand : (rows : List ℤ) → AreApart rows → ((r : ℤ) → IsIn r rows → is_some (row_at m.tables t r) ≡ true) → (f : Key → Option (List ℕ)) (ts : Tables) → AreTables ts → HaveSameColumns m.tables ts
+      → ((r : ℤ) → IsIn r rows → row_at ts t r ≡ row_at m.tables t r) → TablesStand f ts → TablesStand (view (each (λ r. own r ++ notes r) rows) f) (tables_after step ts rows)
+  tables_stand [] distinct there f ts rules alike same stand = stand
+  tables_stand (r ∷ rows) distinct there f ts rules alike same stand =
+      let awaits : AwaitsTurn m.tables ts t r = record { rules = rules; alike = alike; row = same r (inl refl) } in
+      let at_turn = turn ts r (there r (inl refl)) awaits in
+      let next = sets ts r at_turn awaits in
+      let row = row_is_row m.tables stands.state.tables t r (there r (inl refl)) in
+      subst (λ (g : Key → Option (List ℕ)). TablesStand g (tables_after step (step ts r) rows)) (sym (view-append (own r ++ notes r) (each (λ r. own r ++ notes r) rows) f))
+      (tables_stand rows distinct.1 (λ s later. there s (inr later)) (view (own r ++ notes r) f) (step ts r) next.0 (λ q. next.1.alike q ∙ alike q)
+      (λ s later. next.1.others t s (and_false (same_list t t) (int_eq s r) (other_row r s rows distinct.0 later)) ∙ same s (inr later))
+      (stands_then ts r at_turn f row stand))
+
+  -- ---- the changes
+
+  updates_kinds : (rows : List ℤ) → AllOf is_of_update (update_changes c m t columns assigns names rows)
+  updates_kinds rows =
+      all_each is_of_update (λ r. own r ++ notes r)
+      (λ r. all-append is_of_update (own r) (notes r)
+      (all_weaker is_of_tables is_of_update of_tables (own r) (all_insert t r (numbers_after columns assigns (numbers_of (row_values m.tables t r))) (texts_set 1 columns assigns)))
+      (all_weaker is_of_map is_of_update of_map (notes r) (notes_map c names r))) rows
+
+  -- an index on a column that is set gives its document a number that keys have
+  document_few : (i : List ℕ) (r : ℤ) → IsRow r → (o : Option Index) → get m.indexes i ≡ o → is_on_columns t places o ≡ true → (d : ℕ) → document_at (at c) i r ≡ Some d → d < 2 ^ 32
+  document_few i r row None is on d read = cc
+  document_few i r row (Some y) is on d read =
+      let stand : IndexStands (at c) m.tables i (Some y) = subst (IndexStands (at c) m.tables i) is (stands.indexes i) in
+      let most = (stands.state.indexes.each i y is).numbers in
+      let known = document_read (at c) i (get (marks_in y.body)) (part_in y.body).given stand.context.document stand.context.row stand.context.documents (omega (arith, most)) r row in
+      let within = (stand.context.documents.numbers.within r d (sym known ∙ read)).1 in
+      omega (arith, most, within)
+
+  index_named : (i : List ℕ) (o : Option Index) → get m.indexes i ≡ o → is_on_columns t places o ≡ true → IsName i
+  index_named i None is on = cc
+  index_named i (Some y) is on = stands.state.indexes.names i y is
+
+  notes_are : (r : ℤ) → IsRow r → (is : List (List ℕ)) → ((i : List ℕ) → is_among i is ≡ true → is_on_columns t places (get m.indexes i) ≡ true) → AreChanges (note_changes c is r)
+  notes_are r row [] each_on = tt
+  notes_are r row (i ∷ is) each_on =
+      let first = each_on i (ap (λ (b : Bool). b || is_among i is) (list_same i)) in
+      are-append (changed_changes i r (document_at (at c) i r)) (note_changes c is r)
+      (are_changed i r (document_at (at c) i r) (index_named i (get m.indexes i) refl first) row (document_few i r row (get m.indexes i) refl first))
+      (notes_are r row is (λ j among. each_on j (or_right (same_list j i) (is_among j is) among)))
+
+  updates_are : (rows : List ℤ) → ((r : ℤ) → IsIn r rows → is_some (row_at m.tables t r) ≡ true) → AreChanges (update_changes c m t columns assigns names rows)
+  updates_are [] there = tt
+  updates_are (r ∷ rows) there =
+      let row = row_is_row m.tables stands.state.tables t r (there r (inl refl)) in
+      let few = (stands.state.tables.each t x here).columns.few in
+      let fewer = few_others x.columns in
+      are-append (own r ++ notes r) (update_changes c m t columns assigns names rows)
+      (are-append (own r) (notes r)
+      (are_insert t r (numbers_after columns assigns (numbers_of (row_values m.tables t r))) (texts_set 1 columns assigns) (stands.state.tables.names t x here) row (set_places assigns 1 columns (omega (arith, few, fewer))))
+      (notes_are r row names (λ i among. sym (on.each i) ∙ among)))
+      (updates_are rows (λ s later. there s (inr later)))
+    where
+      few_others : (cs : List Column) → length (others cs) ≤ length cs
+      few_others [] = omega arith
+      few_others (c ∷ cs) = omega arith
+
+  -- ---- the state
+
+  module _ (rows : List ℤ) (distinct : AreApart rows) (there : (r : ℤ) → IsIn r rows → is_some (row_at m.tables t r) ≡ true) where
+    hold : IndexesHold (view (update_changes c m t columns assigns names rows) (at c)) (tables_after step m.tables rows) (changed_after step m.tables m.indexes t places rows)
+    hold =
+        rows_changed_stand (at c) m.tables m.indexes t places names rows step is_of_tables own on distinct there (steps_set rows there)
+        (λ r. all_insert t r (numbers_after columns assigns (numbers_of (row_values m.tables t r))) (texts_set 1 columns assigns)) apart
+        (record { tables = stands.state.tables; rules = stands.state.indexes; stand = stands.indexes })
+
+    views_stay : (q : List ℕ) (y : Table) → get (tables_after step m.tables rows) q ≡ Some y → is_view q ≡ false
+    views_stay q y is =
+        let was = option_map_some (λ (z : Table). z.columns) (get m.tables q) y.columns (sym (alike_after t x.columns assigns rows m.tables q) ∙ ap (option_map (λ (z : Table). z.columns)) is) in
+        stands.state.views q was.0 was.1
+
+    pub changed_rows_stand : Stands (after (spell (update_changes c m t columns assigns names rows)) c) (with_updates m t x.columns assigns rows)
+    changed_rows_stand =
+        let ws = update_changes c m t columns assigns names rows in
+        let us = tables_after step m.tables rows in
+        let ys = changed_after step m.tables m.indexes t places rows in
+        record {
+          only = only-after ws c stands.only (updates_are rows there);
+          unbuilt = λ k h. at-after ws c k ∙ told_frame is_of_update ws k (at c k) (updates_kinds rows) (update_built k.kind h) ∙ stands.unbuilt k h;
+          tables = subst (λ (f : Key → Option (List ℕ)). TablesStand f us) (sym (at_view ws c))
+              (tables_stand rows distinct there (at c) m.tables stands.state.tables (λ q. refl) (λ r among. refl) stands.tables);
+          indexes = subst (λ (f : Key → Option (List ℕ)). IndexesStand f us ys) (sym (at_view ws c)) hold.stand;
+          short_rows = subst HasShortRows (sym (at_view ws c)) (rows_frame is_of_update ws (at c) (updates_kinds rows) update_rows stands.short_rows);
+          state = record {
+            tables = hold.tables;
+            indexes = hold.rules;
+            views = views_stay;
+            few = λ q. subst (λ (n : ℕ). n ≤ index_limit) (sym (few_after step t places rows m.tables m.indexes q)) (stands.state.few q);
+          };
+        }

@@ -1,0 +1,215 @@
+-- The state after rows went.
+use Rattle.std.proofs.Common.{◌≡◌, ℕ, ℤ, ◌≤◌, Bool, true, false, cond, List, [], ◌∷◌, ◌++◌, length, Option, Some, None, refl, sym, ap, subst, ◌∙◌, inl, inr, arith}
+use Rattle.std.specs.Prelude.{is_some, ◌&&◌}
+use Rattle.std.specs.Option.{option_map}
+use Rattle.std.specs.Ordering.{int_eq, nat_cmp, eq_by_cmp}
+use Rattle.std.specs.Cmp.Lexicographic.{slice_cmp}
+use Rattle.std.specs.FinMap.{get, remove, get-remove}
+use Rattle.std.proofs.lemmas.Cmp.{nat_list_cmp_total}
+use Rattle.ct_keep.specs.Content.{Content, set_to, after}
+use Rattle.ct_keep.specs.Laws.{changes_weight, value_weight}
+use Rattle.ct_entry.specs.declared.kinds.Kind.{Kind}
+use Rattle.ct_entry.specs.declared.kinds.Kind.TheVariants as kind
+use Rattle.ct_entry.specs.Keys.{Key, HasKeysOnly, IsRow, at, bytes, same_list}
+use Rattle.ct_entry.specs.laws.Keys.{list_same}
+use Rattle.ct_entry.specs.Maps.{Names}
+use Rattle.ct_entry.specs.Lists.{IsIn, AreApart}
+use Rattle.ct_entry.specs.Each.{each}
+use Rattle.ct_entry.specs.laws.Each.{all_each}
+use Rattle.ct_entry.specs.Changes.{spell, view, AllOf}
+use Rattle.ct_entry.specs.laws.Changes.{at_view, at-after, told_frame, view-append, all-append}
+use Rattle.tb_table.specs.declared.columns.Column.{Column}
+use Rattle.tb_table.specs.Tables.{Table, Tables, row_at, without_row}
+use Rattle.tb_table.specs.Spelling.{TablesStand, text_places, drop_texts, delete_changes}
+use Rattle.tb_table.specs.Rules.{AreTables}
+use Rattle.tb_table.specs.laws.Changes.{is_of_tables, tables_frame}
+use Rattle.tb_table.specs.laws.Removals.{get-without_row, row_at-without_row, columns-without_row, all_delete, stand_delete}
+use Rattle.tb_table.specs.laws.Rules.{delete_keeps}
+use Rattle.ix_docmap.specs.Changes.{gone_changes}
+use Rattle.ix_docmap.specs.Readings.{document_at}
+use Rattle.ix_docmap.specs.laws.Documents.{is_of_map}
+use Rattle.ix_context.specs.Indexes.{Index}
+use Rattle.ix_context.specs.Documents.{gone_index, gone_on}
+use Rattle.ix_context.specs.Standing.{IndexesStand}
+use Rattle.ix_context.specs.RowSteps.{StepsLoseRows, tables_after, gone_after}
+use Rattle.ix_context.specs.laws.Changes.{row_is_row}
+use Rattle.ix_context.specs.laws.Gone.{all_gone}
+use Rattle.ix_context.specs.laws.RowSteps.{loses_row}
+use Rattle.ix_context.specs.laws.Turns.{rows_gone_stand}
+use Rattle.db_state.specs.laws.ShortRows.{rows_frame}
+use Rattle.db_state.specs.States.{State, Stands, HasShortRows, is_of_rows, is_view, is_built, indexes_on, index_limit}
+use Rattle.db_change.specs.Deleting.{gone_row_changes, gone_rows_changes, without_rows}
+use Rattle.db_change.specs.laws.IndexCounts.{few_on_table}
+use Rattle.db_change.specs.laws.NewRows.{names_on, names_on_table}
+use Rattle.db_change.specs.laws.NewTables.{apart}
+
+-- ---- changes that only take entries away
+
+abbrev pub AllDrop : {A : Type 0} → List (A × Option (List ℕ)) → Type 0
+AllDrop [] = Unit {0}
+AllDrop (w ∷ ws) = (w.1 ≡ None) × AllDrop ws
+
+drop-append : {A : Type 0} (xs ys : List (A × Option (List ℕ))) → AllDrop xs → AllDrop ys → AllDrop (xs ++ ys)
+drop-append [] ys a b = b
+drop-append (x ∷ xs) ys a b = (a.0, drop-append xs ys a.1 b)
+
+drop_each : {I : Type 0} (changes : I → List (Key × Option (List ℕ))) → ((i : I) → AllDrop (changes i)) → (is : List I) → AllDrop (each changes is)
+drop_each changes one [] = tt
+drop_each changes one (i ∷ is) = drop-append (changes i) (each changes is) (one i) (drop_each changes one is)
+
+-- they weigh nothing
+pub drops_weigh_nothing : (ws : List (Key × Option (List ℕ))) → AllDrop ws → changes_weight (spell ws) ≡ 0
+drops_weigh_nothing [] all = refl
+drops_weigh_nothing (w ∷ ws) all = let first : value_weight (bytes w.0) w.1 ≡ 0 = ap (value_weight (bytes w.0)) all.0 in let rest = drops_weigh_nothing ws all.1 in omega (arith, first, rest)
+
+-- and leave no other entries than there were
+only_set : (m : Content) (j : List ℕ) (o : Option (List ℕ)) → o ≡ None → HasKeysOnly m → HasKeysOnly (set_to j o m)
+only_set m j None none only b has = only b (go (eq_by_cmp (slice_cmp nat_cmp) b j) (sym (ap is_some (get-remove nat_list_cmp_total m j b)) ∙ has))
+  where
+    go : (t : Bool) → is_some (cond t None (get m b)) ≡ true → is_some (get m b) ≡ true
+    go true h = cc
+    go false h = h
+only_set m j (Some v) none only b has = cc
+
+drops_leave : (ws : List (Key × Option (List ℕ))) (m : Content) → AllDrop ws → HasKeysOnly m → HasKeysOnly (after (spell ws) m)
+drops_leave [] m all only = only
+drops_leave (w ∷ ws) m all only = drops_leave ws (set_to (bytes w.0) w.1 m) all.1 (only_set m (bytes w.0) w.1 all.0 only)
+
+-- ---- those of rows
+
+drop_gone : (i : List ℕ) (r : ℤ) (o : Option ℕ) → AllDrop (gone_changes i r o)
+drop_gone i r None = (refl, tt)
+drop_gone i r (Some d) = (refl, (refl, tt))
+
+drop_texts_of : (t : List ℕ) (r : ℤ) (places : List ℕ) → AllDrop (drop_texts t r places)
+drop_texts_of t r [] = tt
+drop_texts_of t r (p ∷ ps) = (refl, drop_texts_of t r ps)
+
+pub rows_drop : (f : Key → Option (List ℕ)) (t : List ℕ) (columns : List Column) (names : List (List ℕ)) (rows : List ℤ) → AllDrop (gone_rows_changes f t columns names rows)
+rows_drop f t columns names rows =
+    drop_each (gone_row_changes f t columns names)
+    (λ r. drop-append (delete_changes t columns r) (each (λ i. gone_changes i r (document_at f i r)) names) (refl, drop_texts_of t r (text_places columns))
+    (drop_each (λ i. gone_changes i r (document_at f i r)) (λ i. drop_gone i r (document_at f i r)) names))
+    rows
+
+-- the kinds of the entries that go with a row
+abbrev is_of_row : Kind → Bool
+is_of_row kind.RowNumbers = true
+is_of_row kind.RowTexts = true
+is_of_row kind.DocumentRows = true
+is_of_row kind.RowDocuments = true
+is_of_row kind.Pending = true
+is_of_row k = false
+
+all_gone_row : (i : List ℕ) (r : ℤ) (o : Option ℕ) → AllOf is_of_row (gone_changes i r o)
+all_gone_row i r None = (refl, tt)
+all_gone_row i r (Some d) = (refl, (refl, tt))
+
+all_texts : (t : List ℕ) (r : ℤ) (places : List ℕ) → AllOf is_of_row (drop_texts t r places)
+all_texts t r [] = tt
+all_texts t r (p ∷ ps) = (refl, all_texts t r ps)
+
+all_rows : (f : Key → Option (List ℕ)) (t : List ℕ) (columns : List Column) (names : List (List ℕ)) (rows : List ℤ) → AllOf is_of_row (gone_rows_changes f t columns names rows)
+all_rows f t columns names rows =
+    all_each is_of_row (gone_row_changes f t columns names)
+    (λ r. all-append is_of_row (delete_changes t columns r) (each (λ i. gone_changes i r (document_at f i r)) names) (refl, all_texts t r (text_places columns))
+    (all_each is_of_row (λ i. gone_changes i r (document_at f i r)) (λ i. all_gone_row i r (document_at f i r)) names))
+    rows
+
+row_built : (k : Kind) → is_built k ≡ false → is_of_row k ≡ false
+row_built kind.RowNumbers h = cc
+row_built kind.RowTexts h = cc
+row_built kind.DocumentRows h = cc
+row_built kind.RowDocuments h = cc
+row_built kind.Pending h = cc
+row_built k h = refl
+
+row_rows : (k : Kind) → is_of_rows k ≡ true → is_of_row k ≡ false
+row_rows kind.RowNumbers h = cc
+row_rows kind.RowTexts h = cc
+row_rows kind.DocumentRows h = cc
+row_rows kind.RowDocuments h = cc
+row_rows kind.Pending h = cc
+row_rows k h = refl
+
+tables_map : (k : Kind) → is_of_tables k ≡ true → is_of_map k ≡ false
+tables_map kind.DocumentRows h = cc
+tables_map kind.RowDocuments h = cc
+tables_map kind.Pending h = cc
+tables_map k h = refl
+
+-- ---- the tables
+
+abbrev lose_row : List ℕ → Tables → ℤ → Tables
+lose_row t ts r = without_row ts t r
+
+still_there : (ts : Tables) (t : List ℕ) (x : Table) (r : ℤ) → get ts t ≡ Some x → get (without_row ts t r) t ≡ Some (record x { rows = remove x.rows r })
+still_there ts t x r here =
+    get-without_row ts t r t
+    ∙ ap (λ (b : Bool). cond b (option_map (λ (y : Table). record y { rows = remove y.rows r }) (get ts t)) (get ts t)) (list_same t)
+    ∙ ap (option_map (λ (y : Table). record y { rows = remove y.rows r })) here
+
+tables_without : (f : Key → Option (List ℕ)) (ts : Tables) (t : List ℕ) (x : Table) (names : List (List ℕ)) (read : List ℕ → ℤ → Option ℕ) (rows : List ℤ)
+    → get ts t ≡ Some x → AreTables ts → ((r : ℤ) → IsIn r rows → IsRow r) → TablesStand f ts
+    → TablesStand (view (each (λ r. delete_changes t x.columns r ++ each (λ i. gone_changes i r (read i r)) names) rows) f) (tables_after (lose_row t) ts rows)
+tables_without f ts t x names read [] here are each_row stand = stand
+tables_without f ts t x names read (r ∷ rows) here are each_row stand =
+    let a = delete_changes t x.columns r in
+    let b = each (λ i. gone_changes i r (read i r)) names in
+    let us = without_row ts t r in
+    let one : TablesStand (view (a ++ b) f) us =
+    subst (λ (g : Key → Option (List ℕ)). TablesStand g us) (sym (view-append a b f))
+    (tables_frame is_of_map b (view a f) us (all_each is_of_map (λ i. gone_changes i r (read i r)) (λ i. all_gone i r (read i r)) names) tables_map (stand_delete f ts t r x here are (each_row r (inl refl)) stand)) in
+    subst (λ (g : Key → Option (List ℕ)). TablesStand g (tables_after (lose_row t) us rows)) (sym (view-append (a ++ b) (each (λ r. delete_changes t x.columns r ++ each (λ i. gone_changes i r (read i r)) names) rows) f))
+    (tables_without (view (a ++ b) f) us t (record x { rows = remove x.rows r }) names read rows (still_there ts t x r here) (delete_keeps ts t r are) (λ s later. each_row s (inr later)) one)
+
+same_columns : (ts : Tables) (t : List ℕ) (rows : List ℤ) (q : List ℕ) → option_map (λ (y : Table). y.columns) (get (tables_after (lose_row t) ts rows) q) ≡ option_map (λ (y : Table). y.columns) (get ts q)
+same_columns ts t [] q = refl
+same_columns ts t (r ∷ rows) q = same_columns (without_row ts t r) t rows q ∙ columns-without_row ts t r q
+
+no_views : (m : State) (t : List ℕ) (rows : List ℤ) → ((q : List ℕ) (y : Table) → get m.tables q ≡ Some y → is_view q ≡ false) → (q : List ℕ) (y : Table) → get (tables_after (lose_row t) m.tables rows) q ≡ Some y → is_view q ≡ false
+no_views m t rows views q y is = go (get m.tables q) refl (sym (same_columns m.tables t rows q) ∙ ap (option_map (λ (z : Table). z.columns)) is)
+  where
+    go : (o : Option Table) → get m.tables q ≡ o → option_map (λ (z : Table). z.columns) o ≡ Some y.columns → is_view q ≡ false
+    go None here e = cc
+    go (Some z) here e = views q z here
+
+-- ---- the indexes
+
+loses_each : (first : Tables) (t : List ℕ) (rows : List ℤ) → StepsLoseRows first (lose_row t) t rows
+loses_each first t rows ts r among awaits = (delete_keeps ts t r awaits.rules, loses_row ts (without_row ts t r) t r (columns-without_row ts t r) (λ q s. row_at-without_row ts t r q s ∙ apart_tests (same_list q t) (int_eq s r) (row_at ts q s)))
+  where
+    apart_tests : {X : Type 0} (a b : Bool) (o : Option X) → cond (a && b) None o ≡ cond a (cond b None o) o
+    apart_tests true b o = refl
+    apart_tests false b o = refl
+
+few_after : (ts : Tables) (xs : Names Index) (t : List ℕ) (rows : List ℤ) (q : List ℕ) → length (indexes_on (gone_after (lose_row t) ts xs t rows) q) ≡ length (indexes_on xs q)
+few_after ts xs t [] q = refl
+few_after ts xs t (r ∷ rows) q = few_after (without_row ts t r) (gone_on ts xs t r) t rows q ∙ few_on_table (gone_index ts r) (λ i x. refl) t xs q
+
+-- ---- the state
+
+-- after these rows of a table went, each of which is there once
+pub gone_rows_stand : (c : Content) (m : State) (t : List ℕ) (x : Table) (rows : List ℤ) → Stands c m → get m.tables t ≡ Some x → AreApart rows → ((r : ℤ) → IsIn r rows → is_some (row_at m.tables t r) ≡ true)
+    → Stands (after (spell (gone_rows_changes (at c) t x.columns (names_on m.indexes t) rows)) c) (without_rows m t rows)
+gone_rows_stand c m t x rows stands here once there =
+    let names = names_on m.indexes t in
+    let ws = gone_rows_changes (at c) t x.columns names rows in
+    let seen = at_view ws c in
+    let hold =
+    rows_gone_stand (at c) m.tables m.indexes t names rows (lose_row t) is_of_tables (λ r. delete_changes t x.columns r) (names_on_table m.indexes t) once there (loses_each m.tables t rows)
+    (λ r. all_delete t x.columns r) apart (record { tables = stands.state.tables; rules = stands.state.indexes; stand = stands.indexes }) in
+    record {
+      only = drops_leave ws c (rows_drop (at c) t x.columns names rows) stands.only;
+      tables = subst (λ (f : Key → Option (List ℕ)). TablesStand f (tables_after (lose_row t) m.tables rows)) (sym seen)
+          (tables_without (at c) m.tables t x names (λ i r. document_at (at c) i r) rows here stands.state.tables (λ r among. row_is_row m.tables stands.state.tables t r (there r among)) stands.tables);
+      indexes = subst (λ (f : Key → Option (List ℕ)). IndexesStand f (tables_after (lose_row t) m.tables rows) (gone_after (lose_row t) m.tables m.indexes t rows)) (sym seen) hold.stand;
+      unbuilt = λ k h. at-after ws c k ∙ told_frame is_of_row ws k (at c k) (all_rows (at c) t x.columns names rows) (row_built k.kind h) ∙ stands.unbuilt k h;
+      short_rows = subst HasShortRows (sym seen) (rows_frame is_of_row ws (at c) (all_rows (at c) t x.columns names rows) row_rows stands.short_rows);
+      state = record {
+        tables = hold.tables;
+        indexes = hold.rules;
+        views = no_views m t rows stands.state.views;
+        few = λ q. subst (λ (n : ℕ). n ≤ index_limit) (sym (few_after m.tables m.indexes t rows q)) (stands.state.few q);
+      };
+    }

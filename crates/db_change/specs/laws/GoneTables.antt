@@ -1,0 +1,123 @@
+-- The state after a table is dropped, and with it the indexes on it.
+use Rattle.std.proofs.Common.{◌≡◌, ℕ, ◌≤◌, Bool, true, false, cond, List, length, Option, Some, None, refl, sym, ap, subst, ◌∙◌, arith}
+use Rattle.std.specs.Prelude.{not, filter}
+use Rattle.std.specs.Ordering.{nat_cmp}
+use Rattle.std.specs.Cmp.Lexicographic.{slice_cmp}
+use Rattle.std.specs.FinMap.{get, entries}
+use Rattle.std.proofs.lemmas.Cmp.{nat_list_cmp_total}
+use Rattle.ct_keep.specs.Content.{Content, after}
+use Rattle.ct_keep.specs.RisingKeys.{entries_rise}
+use Rattle.ct_entry.specs.declared.kinds.Kind.{Kind}
+use Rattle.ct_entry.specs.declared.kinds.Kind.TheVariants as kind
+use Rattle.ct_entry.specs.Keys.{Key, at, same_list}
+use Rattle.ct_entry.specs.Maps.{Names}
+use Rattle.ct_entry.specs.Changes.{spell, told, view}
+use Rattle.ct_entry.specs.laws.Changes.{at_view, at-after, only-after, told_frame, told-append, view-append, are-append}
+use Rattle.tb_table.specs.Tables.{Table, Tables, without_table}
+use Rattle.tb_table.specs.Spelling.{TablesStand, remove_changes}
+use Rattle.tb_table.specs.laws.Changes.{is_of_tables, tables_frame}
+use Rattle.tb_table.specs.laws.Removals.{all_remove, are_remove, stand_remove, get-without_table}
+use Rattle.tb_table.specs.laws.Rules.{remove_keeps}
+use Rattle.ix_context.specs.Indexes.{Index}
+use Rattle.ix_context.specs.Standing.{IndexesStand}
+use Rattle.ix_context.specs.Spelling.{is_of_indexes}
+use Rattle.ix_context.specs.Promises.{is_on, AreIndexesOn}
+use Rattle.ix_context.specs.Drops.{without_indexes_on, HaveSameTablesBut, LosesIndexes}
+use Rattle.ix_context.specs.Removing.{remove_all_changes}
+use Rattle.ix_context.specs.laws.Dropped.{drop_table_stands, drop_table_keeps}
+use Rattle.ix_context.specs.laws.Removing.{remove_all_loses, index_changes_remove_all}
+use Rattle.ix_context.specs.laws.Well.{are_changes, all_of_indexes}
+use Rattle.db_names.specs.laws.Pairs.{rises_filter}
+use Rattle.db_state.specs.States.{State, Stands, HasShortRows, is_view, is_built, indexes_on, index_limit}
+use Rattle.db_state.specs.laws.ShortRows.{rows_frame, rows_put}
+use Rattle.db_state.specs.laws.EachValue.{entries-from_rising}
+use Rattle.db_state.specs.laws.Removing.{fewer_kept}
+use Rattle.db_change.specs.Dropping.{with_table_dropped, drop_table_changes}
+use Rattle.db_change.specs.laws.NewTables.{tables_built, rows_tables, apart}
+
+-- ---- kinds
+
+tables_apart : (k : Kind) → is_of_tables k ≡ true → is_of_indexes k ≡ false
+tables_apart kind.Tables h = refl
+tables_apart kind.RowNumbers h = refl
+tables_apart kind.RowTexts h = refl
+tables_apart k h = cc
+
+indexes_built : (k : Kind) → is_built k ≡ false → is_of_indexes k ≡ false
+indexes_built kind.Indexes h = cc
+indexes_built kind.DocumentRows h = cc
+indexes_built kind.RowDocuments h = cc
+indexes_built kind.Pending h = cc
+indexes_built kind.Postings h = cc
+indexes_built kind.Spans h = cc
+indexes_built k h = refl
+
+-- ---- the state keeps its rules
+
+others_same : (ts : Tables) (t : List ℕ) → HaveSameTablesBut ts (without_table ts t) t
+others_same ts t q other = get-without_table ts t q ∙ ap (λ (b : Bool). cond b None (get ts q)) other
+
+views_left : (m : State) (t : List ℕ) → ((q : List ℕ) (x : Table) → get m.tables q ≡ Some x → is_view q ≡ false) → (q : List ℕ) (x : Table) → get (without_table m.tables t) q ≡ Some x → is_view q ≡ false
+views_left m t views q x is = go (same_list q t) (sym (get-without_table m.tables t q) ∙ is)
+  where
+    go : (b : Bool) → cond b None (get m.tables q) ≡ Some x → is_view q ≡ false
+    go true e = cc
+    go false e = views q x e
+
+-- a table has no more indexes than before
+few_left : (xs : Names Index) (t q : List ℕ) → length (indexes_on xs q) ≤ index_limit → length (indexes_on (without_indexes_on xs t) q) ≤ index_limit
+few_left xs t q few =
+    let on_others : List ℕ × Index → Bool = λ e. not (same_list e.1.table t) in
+    let left = entries-from_rising (slice_cmp nat_cmp) nat_list_cmp_total (filter on_others (entries xs)) (rises_filter (slice_cmp nat_cmp) on_others (entries xs) (entries_rise (slice_cmp nat_cmp) xs)) in
+    let less = fewer_kept (λ (e : List ℕ × Index). same_list e.1.table q) on_others (entries xs) in
+    let same = ap (λ (es : List (List ℕ × Index)). length (filter (λ e. same_list e.1.table q) es)) left in
+    omega (arith, less, same, few)
+
+-- ---- the entries
+
+module _ (c : Content) (m : State) (t : List ℕ) (names : List (List ℕ)) (on : AreIndexesOn m.indexes t names) (stands : Stands c m) where
+  -- what each key has once the table's own entries are gone
+  abbrev of_tables_gone : Key → Option (List ℕ)
+  of_tables_gone = view (remove_changes t c) (at c)
+
+  abbrev all_gone : Key → Option (List ℕ)
+  all_gone = view (remove_all_changes c names) of_tables_gone
+
+  same_indexes : (k : Key) → is_of_indexes k.kind ≡ true → of_tables_gone k ≡ at c k
+  same_indexes k of = told_frame is_of_tables (remove_changes t c) k (at c k) (all_remove t c) (apart k.kind of)
+
+  loses : LosesIndexes (λ q. is_on t (get m.indexes q)) (at c) all_gone
+  loses =
+      let lost = remove_all_loses names c of_tables_gone same_indexes in
+      record {
+        none = λ k of gone. lost.none k of (on.each k.owner ∙ gone);
+        others = λ k of other. lost.others k of (on.each k.owner ∙ other) ∙ same_indexes k of;
+      }
+
+  pub dropped_stands : Stands (after (spell (drop_table_changes t c names)) c) (with_table_dropped m t)
+  dropped_stands =
+      let us = remove_changes t c in
+      let vs = remove_all_changes c names in
+      let ws = drop_table_changes t c names in
+      let are = index_changes_remove_all c names stands.only in
+      let seen : at (after (spell ws) c) ≡ all_gone = at_view ws c ∙ view-append us vs (at c) in
+      record {
+        only = only-after ws c stands.only (are-append us vs (are_remove t c stands.only) (are_changes vs are));
+        unbuilt = λ k h.
+            at-after ws c k ∙ told-append us vs k (at c k)
+            ∙ told_frame is_of_indexes vs k (told us k (at c k)) (all_of_indexes vs are) (indexes_built k.kind h)
+            ∙ told_frame is_of_tables us k (at c k) (all_remove t c) (tables_built k.kind h)
+            ∙ stands.unbuilt k h;
+        tables = subst (λ (f : Key → Option (List ℕ)). TablesStand f (without_table m.tables t)) (sym seen)
+            (tables_frame is_of_indexes vs of_tables_gone (without_table m.tables t) (all_of_indexes vs are) tables_apart
+            (stand_remove (at c) m.tables t c (record { table = λ rest. refl; numbers = λ rest. refl; texts = λ rest. refl }) stands.tables));
+        indexes = subst (λ (f : Key → Option (List ℕ)). IndexesStand f (without_table m.tables t) (without_indexes_on m.indexes t)) (sym seen)
+            (drop_table_stands (at c) all_gone m.tables (without_table m.tables t) m.indexes t loses (others_same m.tables t) stands.indexes);
+        short_rows = subst HasShortRows (sym seen) (rows_put vs of_tables_gone are (rows_frame is_of_tables us (at c) (all_remove t c) rows_tables stands.short_rows));
+        state = record {
+          tables = remove_keeps m.tables t stands.state.tables;
+          indexes = drop_table_keeps m.tables (without_table m.tables t) m.indexes t (others_same m.tables t) stands.state.indexes;
+          views = views_left m t stands.state.views;
+          few = λ q. few_left m.indexes t q (stands.state.few q);
+        };
+      }

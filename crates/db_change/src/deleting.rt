@@ -1,0 +1,179 @@
+//! DELETE.
+#![tactic(auto, using(ct_keep::specs::Composing::reads_on, ct_keep::specs::Composing::reads_short, ct_keep::specs::Composing::accepts_on))]
+
+ghost use Rattle.std.specs.Prelude.{◌≡◌, ◌≤◌, ◌++◌, IfOk, OnOk, Some, None, Err, length, map};
+ghost use Rattle.ct_base.specs.Limits.{column_limit};
+ghost use Rattle.ct_keep.specs.KeeperViews.{Finds, OnlyReads, Told};
+ghost use Rattle.ct_entry.specs.Each.{each};
+ghost use Rattle.ct_entry.specs.Keys.{at};
+ghost use Rattle.ct_entry.specs.Changes.{spell};
+ghost use Rattle.ct_entry.specs.Shapes.{AreShaped};
+ghost use Rattle.tb_table.specs.Shapes.{HasTableValue};
+ghost use Rattle.tb_table.specs.Spelling.{delete_changes};
+ghost use Rattle.ix_docmap.specs.Changes.{gone_changes};
+ghost use Rattle.ix_docmap.specs.Readings.{document_at};
+ghost use Rattle.ix_context.specs.Shapes.{HasIndexValue, KeepsShape};
+ghost use Rattle.db_rows.specs.Checking.{check_conds};
+ghost use Rattle.db_state.specs.Effects.{Effect, Checks};
+ghost use Rattle.db_state.specs.Plans.{IsPlanOf, IsRemoval, IsStorePlan, Replies};
+ghost use Rattle.db_state.specs.Shapes.{AcceptsStatements, AreStoreChanges};
+ghost use Rattle.db_change.specs.Deleting.{delete_from as delete_from_effect, gone_row_changes, gone_rows_changes, rows_deleted};
+
+use ct_base::{COLUMN_LIMIT, Memory, Name, RowKey};
+use ct_keep::{Batch, KeepFault, Keeper};
+use db_cond::{Fault, rows_line};
+use db_names::{IndexHead, indexes_of};
+use db_rows::{conds_fault, rows_meeting};
+use db_state::{Plan, carry_out, table_columns};
+use ix_context::{ContextFault, note_delete};
+use st_parse::Cond;
+use std::alloc::Global;
+use tb_table::{Column, delete};
+
+/// Adds the changes by which a row goes from an index.
+fn note_gone<K: Keeper>(
+    alloc: Global,
+    keeper: &mut K,
+    batch: &mut Batch,
+    index: &Name,
+    row: RowKey,
+) -> Result<(), KeepFault>
+    requires { (K.view keeper.old).ready }
+    ensures changes { Told K.view keeper.old (λ m. OnOk result (batch.new ≡ batch.old ++ spell (gone_changes index.now row.0 (document_at (at m) index.now row.0)))) }
+    ensures shaped { KeepsShape batch.old batch.new result }
+    ensures reads { OnlyReads K.view keeper.old keeper.new result }
+{
+    match note_delete(alloc, keeper, batch, index, row) {
+        Ok(()) => Ok(()),
+        Err(ContextFault::Memory) => Err(KeepFault::Memory),
+        Err(ContextFault::Disk) => Err(KeepFault::Disk),
+        Err(ContextFault::TooMany) => unreachable!(),
+    }
+}
+
+/// The changes by which a row goes from each of the indexes.
+fn index_changes<K: Keeper>(
+    alloc: Global,
+    keeper: &mut K,
+    indexes: &[(Name, IndexHead)],
+    row: RowKey,
+) -> Result<Batch, KeepFault>
+    requires { (K.view keeper.old).ready }
+    ensures changes { Finds K.view keeper.old result (λ m notes. notes ≡ spell (each (λ i. gone_changes i row.0 (document_at (at m) i row.0)) (map (λ e. e.0) indexes.now))) }
+    ensures shaped { IfOk result (AreShaped HasIndexValue) }
+    ensures reads { OnlyReads K.view keeper.old keeper.new result }
+{
+    let mut notes = Batch::new(alloc);
+    for (index, _) in indexes {
+        note_gone(alloc, keeper, &mut notes, index, row)?;
+    }
+    Ok(notes)
+}
+
+/// The changes by which a row goes from its table and from each of the indexes.
+fn row_changes<K: Keeper>(
+    alloc: Global,
+    keeper: &mut K,
+    table: &Name,
+    columns: &[Column],
+    indexes: &[(Name, IndexHead)],
+    row: RowKey,
+) -> Result<Batch, KeepFault>
+    requires ready { (K.view keeper.old).ready }
+    requires few { length columns.now ≤ column_limit }
+    ensures changes { Finds K.view keeper.old result (λ m batch. batch ≡ spell (gone_row_changes (at m) table.now columns.now (map (λ e. e.0) indexes.now) row.0)) }
+    ensures shaped { IfOk result AreStoreChanges }
+    ensures reads { OnlyReads K.view keeper.old keeper.new result }
+{
+    let mut batch = Batch::new(alloc);
+    delete(alloc, &mut batch, table, columns, row)?;
+    let notes = index_changes(alloc, keeper, indexes, row)?;
+    batch.append(notes)?;
+    Ok(batch)
+}
+
+/// The changes by which rows go from their table and from each of the indexes.
+fn rows_changes<K: Keeper>(
+    alloc: Global,
+    keeper: &mut K,
+    table: &Name,
+    columns: &[Column],
+    indexes: &[(Name, IndexHead)],
+    rows: &[RowKey],
+) -> Result<Batch, KeepFault>
+    requires ready { (K.view keeper.old).ready }
+    requires few { length columns.now ≤ column_limit }
+    ensures changes { Finds K.view keeper.old result (λ m batch. batch ≡ spell (gone_rows_changes (at m) table.now columns.now (map (λ e. e.0) indexes.now) (map (λ row. row.0) rows.now))) }
+    ensures shaped { IfOk result AreStoreChanges }
+    ensures reads { OnlyReads K.view keeper.old keeper.new result }
+{
+    let mut batch = Batch::new(alloc);
+    for row in rows {
+        let changes = row_changes(alloc, keeper, table, columns, indexes, *row)?;
+        batch.append(changes)?;
+    }
+    Ok(batch)
+}
+
+/// The first check that fails of the conditions. No state has a table of more than 16 columns, but a store that stands for no
+/// state may; it is refused, since `tb_table::delete` takes no more columns.
+fn delete_fault<'a>(conds: &'a [Cond], columns: &[Column]) -> Option<Fault<'a>>
+    ensures checks { length columns.now ≤ column_limit → (done : Effect) → Checks result (check_conds columns.now conds.now done) done }
+    ensures few { result ≡ None → length columns.now ≤ column_limit }
+{
+    if columns.len() > COLUMN_LIMIT {
+        return Some(Fault::WrongValues);
+    }
+    conds_fault(conds, columns)
+}
+
+/// What a DELETE comes to, and how many rows go by it.
+fn delete_plan<'a, K: Keeper>(
+    alloc: Global,
+    keeper: &mut K,
+    table: &'a Name,
+    conds: &'a [Cond],
+) -> Result<(Plan<'a>, usize), KeepFault>
+    requires { (K.view keeper.old).ready }
+    ensures plan { IfOk result (λ made. IsPlanOf (λ m. delete_from_effect m table.now conds.now) (rows_deleted made.1) (K.view keeper.old) made.0) }
+    ensures entries { IfOk result (λ made. IsStorePlan made.0) }
+    ensures removes { Finds K.view keeper.old result (λ m made. IsRemoval made.0) }
+    ensures reads { OnlyReads K.view keeper.old keeper.new result }
+{
+    let Some(columns) = table_columns(alloc, keeper, table)? else {
+        return Ok((Plan::Refused(Fault::UnknownName(table.as_str())), 0));
+    };
+    if let Some(fault) = delete_fault(conds, &columns) {
+        return Ok((Plan::Refused(fault), 0));
+    }
+    let rows = rows_meeting(alloc, keeper, table, &columns, conds)?;
+    let indexes = indexes_of(alloc, keeper, table)?;
+    let batch = rows_changes(alloc, keeper, table, &columns, &indexes, &rows)?;
+    Ok((Plan::Done(batch), rows.len()))
+}
+
+/// DELETE: takes the rows that meet all conditions out of their table and out of the indexes on it, by at most one commit. There is
+/// always room for it, so Memory and Disk are the only errors.
+///
+/// It reads the table's columns, what `rows_meeting` reads for the conditions, and the entries of all indexes; then, for each row
+/// and each index on the table, the row's document by one look-up. No posting is read, and no text but those that a condition is on.
+/// So `id = 7` costs, beside the entries of all indexes, one look-up for the row and one for each index on its table. Its changes
+/// take memory: for each row one and one more for each column with texts, and at most two for each index.
+pub fn delete_from<K: Keeper>(
+    alloc: Global,
+    keeper: &mut K,
+    table: &Name,
+    conds: &[Cond],
+) -> Result<Vec<u8>, KeepFault>
+    requires { AcceptsStatements (K.view keeper.old) }
+    ensures done { Replies K.view keeper.old keeper.new result (λ m. delete_from_effect m table.now conds.now) (Some rows_deleted) }
+    ensures never_full { Told K.view keeper.old (λ m. result ≡ Err KeepFault.Full → ⊥) }
+{
+    match delete_plan(alloc, keeper, table, conds) {
+        Ok((plan, rows)) => {
+            let line = rows_line(alloc, rows, b"deleted.\n")?;
+            carry_out(alloc, keeper, plan, &line)
+        }
+        Err(fault) => Err(fault),
+    }
+}

@@ -1,0 +1,53 @@
+-- The state after an index is dropped.
+use Rattle.std.proofs.Common.{ℕ, ◌≤◌, List, length, Option, refl, sym, ap, subst, ◌∙◌, arith}
+use Rattle.std.specs.Prelude.{not, filter}
+use Rattle.std.specs.Ordering.{nat_cmp, eq_by_cmp}
+use Rattle.std.specs.Cmp.Lexicographic.{slice_cmp}
+use Rattle.std.specs.FinMap.{entries, remove, slice_cmp-IsAntisymmetric, nat_cmp-IsAntisymmetric}
+use Rattle.std.proofs.lemmas.Cmp.{nat_list_cmp_total}
+use Rattle.ct_keep.specs.Content.{Content, after}
+use Rattle.ct_entry.specs.Keys.{Key, at, same_list}
+use Rattle.ct_entry.specs.Maps.{Names}
+use Rattle.ct_entry.specs.Changes.{spell, view}
+use Rattle.ct_entry.specs.laws.Changes.{at_view, at-after, only-after, told_frame}
+use Rattle.ct_entry.specs.laws.MapRemovals.{entries_without}
+use Rattle.tb_table.specs.Spelling.{TablesStand}
+use Rattle.tb_table.specs.laws.Changes.{tables_frame}
+use Rattle.ix_context.specs.Indexes.{Index}
+use Rattle.ix_context.specs.Spelling.{is_of_indexes}
+use Rattle.ix_context.specs.Standing.{IndexesStand}
+use Rattle.ix_context.specs.Removing.{remove_changes}
+use Rattle.ix_context.specs.laws.Dropped.{drop_stands, drop_keeps}
+use Rattle.ix_context.specs.laws.Removing.{remove_loses, index_changes_remove}
+use Rattle.ix_context.specs.laws.Well.{are_changes, all_of_indexes}
+use Rattle.db_state.specs.States.{State, Stands, HasShortRows, indexes_on, index_limit}
+use Rattle.db_state.specs.laws.ShortRows.{rows_put}
+use Rattle.db_state.specs.laws.Removing.{fewer_kept}
+use Rattle.db_index.specs.Dropping.{with_index_dropped}
+use Rattle.db_index.specs.laws.NewMarks.{apart, indexes_built}
+
+-- a table has no more indexes than before
+few_dropped : (xs : Names Index) (i t : List ℕ) → length (indexes_on xs t) ≤ index_limit → length (indexes_on (remove xs i) t) ≤ index_limit
+few_dropped xs i t few =
+    let left = entries_without (slice_cmp nat_cmp) nat_list_cmp_total (slice_cmp-IsAntisymmetric nat_cmp-IsAntisymmetric) xs i in
+    let less = fewer_kept (λ (e : List ℕ × Index). same_list e.1.table t) (λ e. not (eq_by_cmp (slice_cmp nat_cmp) i e.0)) (entries xs) in
+    let same = ap (λ (es : List (List ℕ × Index)). length (filter (λ e. same_list e.1.table t) es)) left in
+    omega (arith, less, same, few)
+
+pub dropped_stands : (c : Content) (m : State) (i : List ℕ) → Stands c m → Stands (after (spell (remove_changes i c)) c) (with_index_dropped m i)
+dropped_stands c m i stands =
+    let ws = remove_changes i c in
+    let are = index_changes_remove i c stands.only in
+    record {
+      only = only-after ws c stands.only (are_changes ws are);
+      unbuilt = λ k h. at-after ws c k ∙ told_frame is_of_indexes ws k (at c k) (all_of_indexes ws are) (indexes_built k.kind h) ∙ stands.unbuilt k h;
+      tables = subst (λ (f : Key → Option (List ℕ)). TablesStand f m.tables) (sym (at_view ws c)) (tables_frame is_of_indexes ws (at c) m.tables (all_of_indexes ws are) apart stands.tables);
+      indexes = subst (λ (f : Key → Option (List ℕ)). IndexesStand f m.tables (remove m.indexes i)) (sym (at_view ws c)) (drop_stands (at c) (view ws (at c)) m.tables m.indexes i (remove_loses i c (at c) (λ k of. refl)) stands.indexes);
+      short_rows = subst HasShortRows (sym (at_view ws c)) (rows_put ws (at c) are stands.short_rows);
+      state = record {
+        tables = stands.state.tables;
+        indexes = drop_keeps m.tables m.indexes i stands.state.indexes;
+        views = stands.state.views;
+        few = λ t. few_dropped m.indexes i t (stands.state.few t);
+      };
+    }

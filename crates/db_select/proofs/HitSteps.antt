@@ -1,0 +1,91 @@
+-- The rows that meet conditions, among those that were found.
+use Rattle.std.proofs.Common.{◌≡◌, ◌<◌, ◌≤◌, ◌+◌, ℕ, ℤ, Bool, List, [], ◌∷◌, ◌++◌, length, map, get_or, take, Option, Some, None, refl, sym, ap, ◌∙◌}
+use Rattle.std.specs.Prelude.{filter}
+use Rattle.std.specs.Bool.{if◌then◌else◌}
+use Rattle.std.specs.List.{AllByRecursion}
+use Rattle.std.specs.Ordering.{int_cmp}
+use Rattle.std.specs.FinMap.{entries, get-entries}
+use Rattle.std.proofs.lemmas.Cmp.{int_cmp_total}
+use Rattle.std.proofs.lemmas.List.{take_all, take_more}
+use Rattle.std.proofs.lemmas.List.Elements.{filter-append}
+use Rattle.ct_base.specs.declared.lists.Value.{Value}
+use Rattle.ct_base.specs.declared.numbers.RowKey.{RowKey}
+use Rattle.ct_keep.specs.RisingKeys.{entries_rise}
+use Rattle.ct_keep.specs.FoundKeys.{found_listed}
+use Rattle.st_parse.specs.declared.statements.Cond.{Cond}
+use Rattle.tb_table.specs.Tables.{Table}
+use Rattle.ix_context.specs.declared.hits.Hit.{Hit}
+use Rattle.ix_context.specs.Indexes.{Index}
+use Rattle.db_state.specs.States.{State}
+use Rattle.db_rows.specs.Values.{values_of}
+use Rattle.db_rows.specs.Meeting.{row_meets, key_meets, meeting_keys}
+use Rattle.db_select.specs.Querying.{query_key}
+use Rattle.db_select.specs.Predicates.{Search}
+use Rattle.db_select.specs.Checking.{threshold_of}
+use Rattle.db_select.specs.Selecting.{index_of_search, found_in, hits}
+use Rattle.db_select.specs.Sources.{found_scores, unscored}
+use Rattle.db_select.proofs.Scores.{filter_mapped}
+use Rattle.db_select.proofs.Selects.{map_map}
+
+-- of the first `i` rows those that meet the conditions were put
+pub record AreMet (p : Hit → Bool) (found : List Hit) (i : ℕ) (hits : List Hit) : Type 0 where
+  pub are : hits ≡ filter p (take i found)
+
+module _ (p : Hit → Bool) (found : List Hit) where
+  pub none_met : AreMet p found 0 []
+  none_met = record { are = refl }
+
+  pub one_met : (i : ℕ) (hits more : List Hit) (d : Hit) → AreMet p found i hits → i < length found
+      → more ≡ hits ++ (if p (get_or found i d) then get_or found i d ∷ [] else []) → AreMet p found (i + 1) more
+  one_met i hits more d before within pushed =
+      let h : Hit = get_or found i d in
+      record {
+        are =
+            pushed
+            ∙ ap (λ (l : List Hit). l ++ (if p h then h ∷ [] else [])) before.are
+            ∙ sym (filter-append p (take i found) (h ∷ []))
+            ∙ ap (filter p) (sym (take_more found i d within));
+      }
+
+  pub all_met : (i : ℕ) (hits : List Hit) → AreMet p found i hits → length found ≤ i → hits ≡ filter p found
+  all_met i hits are past = are.are ∙ ap (filter p) (take_all i found past)
+
+-- ---- with a search
+
+pub searched_are : (m : State) (t : List ℕ) (x : Table) (s : Search) (conds : List Cond) (y : Index) → index_of_search m t x.columns s ≡ Some y → (o : Option ℕ) → threshold_of s.above ≡ o
+    → filter (λ h. key_meets x conds h.0) (found_in m.tables (Some y) (query_key s.query) o) ≡ hits m t x (Some s) conds
+searched_are m t x s conds y needed o is =
+    sym (ap (λ (i : Option Index). filter (λ (h : ℤ × ℕ). key_meets x conds h.0) (found_in m.tables i (query_key s.query) (threshold_of s.above))) needed
+    ∙ ap (λ (o : Option ℕ). filter (λ (h : ℤ × ℕ). key_meets x conds h.0) (found_in m.tables (Some y) (query_key s.query) o)) is)
+
+pub met_are : (x : Table) (conds : List Cond) (all met : List Hit) (found : List (ℤ × ℕ)) → found_scores all ≡ found → met ≡ filter (λ h. key_meets x conds h.key.0) all
+    → found_scores met ≡ filter (λ h. key_meets x conds h.0) found
+met_are x conds all met found scored is =
+    ap found_scores is
+    ∙ filter_mapped (λ (h : ℤ × ℕ). key_meets x conds h.0) (λ (h : Hit). (h.key.0, h.score)) all
+    ∙ ap (filter (λ (h : ℤ × ℕ). key_meets x conds h.0)) scored
+
+-- ---- without one
+
+filter_alike : {X : Type 0} (p q : X → Bool) (xs : List X) → AllByRecursion (λ x. p x ≡ q x) xs → filter p xs ≡ filter q xs
+filter_alike p q [] all = refl
+filter_alike {X} p q (x ∷ xs) all = λ i. if all.0 i then x ∷ filter_alike p q xs all.1 i else filter_alike p q xs all.1 i
+
+entries_alike : (x : Table) (conds : List Cond) → AllByRecursion (λ e. row_meets x.columns conds e.0 e.1 ≡ key_meets x conds e.0) (entries x.rows)
+entries_alike x conds =
+    found_listed int_cmp int_cmp_total (λ e. row_meets x.columns conds e.0 e.1 ≡ key_meets x conds e.0) (entries x.rows) (entries_rise int_cmp x.rows)
+    (λ r vs found. ap (λ (o : Option (List Value)). row_meets x.columns conds r (values_of o)) (sym (get-entries x.rows r ∙ found)))
+
+pub unsearched_are : (m : State) (t : List ℕ) (x : Table) (conds : List Cond) (rows : List RowKey) (all : List Hit) → map (λ row. row.0) rows ≡ meeting_keys x conds → all ≡ map unscored rows
+    → found_scores all ≡ hits m t x None conds
+unsearched_are m t x conds rows all met is =
+    let pair : ℤ → ℤ × ℕ = λ r. (r, 0) in
+    let entry_pair : ℤ × List Value → ℤ × ℕ = λ e. (e.0, 0) in
+    let entry_meets : ℤ × List Value → Bool = λ e. row_meets x.columns conds e.0 e.1 in
+    ap found_scores is
+    ∙ sym (map_map (λ (h : Hit). (h.key.0, h.score)) unscored rows)
+    ∙ map_map pair (λ (row : RowKey). row.0) rows
+    ∙ ap (map pair) met
+    ∙ sym (map_map pair (λ (e : ℤ × List Value). e.0) (filter entry_meets (entries x.rows)))
+    ∙ ap (map entry_pair) (filter_alike entry_meets (λ e. key_meets x conds e.0) (entries x.rows) (entries_alike x conds))
+    ∙ filter_mapped (λ (h : ℤ × ℕ). key_meets x conds h.0) entry_pair (entries x.rows)

@@ -1,0 +1,139 @@
+-- The checks of a SELECT, behind those of its names and its index.
+use Rattle.std.specs.Prelude.{ℕ, ℤ, pos, negsuc, nat_le, Bool, true, false, not, ◌||◌, is_none, List, [], ◌∷◌, Option, Some, None, codes, ◌≡◌, refl}
+use Rattle.std.specs.Bool.{if◌then◌else◌}
+use Rattle.std.specs.List.{list_all}
+use Rattle.std.specs.Ordering.{int_eq}
+use Rattle.std.specs.Str.{chars}
+use Rattle.ucd_category.proofs.Computing.{ucd_category}
+use Rattle.st_parse.specs.declared.statements.Cond.{Cond}
+use Rattle.st_parse.specs.declared.statements.Item.{Item}
+use Rattle.st_parse.specs.declared.statements.Item.TheVariants.{Column as ColumnItem, Score}
+use Rattle.st_parse.specs.declared.statements.Operand.TheVariants.{Text, Number}
+use Rattle.st_parse.specs.declared.statements.Compare.TheVariants.{Equal}
+use Rattle.st_parse.specs.declared.statements.Cond.TheVariants.{Compare}
+use Rattle.st_parse.specs.declared.statements.SelectList.{SelectList}
+use Rattle.st_parse.specs.declared.statements.SelectList.TheVariants.{Star, CountAll, Items}
+use Rattle.st_parse.specs.declared.statements.Whole.{Whole}
+use Rattle.st_parse.specs.declared.statements.Whole.TheVariants.{Fits, Beyond}
+use Rattle.tb_table.specs.declared.columns.Column.{Column}
+use Rattle.tb_table.specs.Tables.{docs_columns}
+use Rattle.db_cond.specs.Faults.{WrongValues, OutOfRange, NotInProfile}
+use Rattle.db_state.specs.Effects.{Effect, Refused, refuse, is_beyond}
+use Rattle.db_rows.specs.Checking.{fit_columns, has_beyond}
+use Rattle.db_select.specs.Querying.{reserved_words, is_word_query}
+use Rattle.db_select.specs.Predicates.{Search, label_in, below_seven}
+
+-- ---- labels
+
+-- two labels are one; two numbers outside 64 bits count as the same label
+abbrev pub same_label : Whole → Whole → Bool
+same_label (Fits m) (Fits n) = int_eq m n
+same_label (Fits m) Beyond = false
+same_label Beyond (Fits n) = false
+same_label Beyond Beyond = true
+
+-- SCORE asks for the score of the CONTAINS with its label
+abbrev pub is_label_of : Option Whole → Whole → Bool
+is_label_of None label = false
+is_label_of (Some own) label = same_label own label
+
+-- an item of the list is a column, or has the label
+abbrev pub is_labelled : Option Whole → Item → Bool
+is_labelled label (ColumnItem name) = true
+is_labelled label (Score own) = is_label_of label own
+
+-- each score of the list is that with the label
+abbrev pub fit_labels : SelectList → Option Whole → Bool
+fit_labels Star label = true
+fit_labels CountAll label = true
+fit_labels (Items items) label = list_all (is_labelled label) items
+
+abbrev pub is_beyond_label : Option Whole → Bool
+is_beyond_label None = false
+is_beyond_label (Some label) = is_beyond label
+
+-- ---- the threshold
+
+-- the number above which scores are, where it is from 0 to 100
+abbrev pub threshold_of : Whole → Option ℕ
+threshold_of (Fits (pos n)) = if nat_le n 100 then Some n else None
+threshold_of (Fits (negsuc n)) = None
+threshold_of Beyond = None
+
+-- ---- what a search has wrong
+
+abbrev pub is_out_of_range : Option Search → Bool
+is_out_of_range None = false
+is_out_of_range (Some s) = is_beyond_label s.label || is_none (threshold_of s.above)
+
+abbrev pub has_no_query : Option Search → Bool
+has_no_query None = false
+has_no_query (Some s) = not (is_word_query s.query)
+
+-- ---- the checks in their order
+
+-- wrong values, a number out of its range, and a text that is no query
+abbrev pub check_parts : Bool → Bool → Bool → Effect → Effect
+check_parts wrong_values out_of_range no_query done = refuse wrong_values WrongValues (refuse out_of_range OutOfRange (refuse no_query (NotInProfile 1) done))
+
+abbrev pub check_values : List Column → SelectList → Option Search → List Cond → Effect → Effect
+check_values columns list search conds done =
+    check_parts
+    (not (fit_labels list (label_in search)) || not (fit_columns columns conds))
+    (is_out_of_range search || has_beyond conds)
+    (has_no_query search)
+    done
+
+-- computed examples
+a_threshold : threshold_of (Fits (pos 100)) ≡ Some 100
+a_threshold = refl
+
+no_threshold : threshold_of (Fits (pos 101)) ≡ None
+no_threshold = refl
+
+abbrev its_search : List ℕ → Option Whole → ℤ → Option Search
+its_search query label above = Some (record { column = codes "body"; query = query; label = label; above = Fits above })
+
+abbrev score_one : SelectList
+score_one = Items (ColumnItem (codes "id") ∷ Score (Fits (pos 1)) ∷ [])
+
+abbrev body_is_fox : Cond
+body_is_fox = Compare (codes "body") Equal (Text (codes "fox"))
+
+abbrev price_is_beyond : Cond
+price_is_beyond = Compare (codes "price") Equal (Number Beyond)
+
+-- SCORE(1) where CONTAINS has no label, an empty query text, which is no word, and a threshold over 100
+label_and_threshold : (done : Effect) → check_values docs_columns score_one (its_search [] None (pos 101)) [] done ≡ Refused WrongValues
+label_and_threshold done = refl
+
+other_label : (done : Effect) → check_values docs_columns score_one (its_search [] (Some (Fits (pos 2))) (pos 101)) [] done ≡ Refused WrongValues
+other_label done = refl
+
+-- SCORE(1) without a CONTAINS
+no_search_has_a_score : (done : Effect) → check_values docs_columns score_one None [] done ≡ Refused WrongValues
+no_search_has_a_score done = refl
+
+-- a condition on the CLOB body, beside a threshold over 100
+condition_and_threshold : (done : Effect) → check_values docs_columns Star (its_search (codes "quick") None (pos 101)) (body_is_fox ∷ []) done ≡ Refused WrongValues
+condition_and_threshold done = refl
+
+threshold_and_query : (done : Effect) → check_values docs_columns CountAll (its_search [] None (pos 101)) [] done ≡ Refused OutOfRange
+threshold_and_query done = refl
+
+-- a number outside 64 bits in a condition, and a query text of two words
+condition_and_query : (done : Effect) → check_values docs_columns Star (its_search (codes "a b") None (pos 0)) (price_is_beyond ∷ []) done ≡ Refused OutOfRange
+condition_and_query done = refl
+
+label_beyond : (done : Effect) → check_values docs_columns (Items (Score Beyond ∷ [])) (its_search (codes "quick") (Some Beyond) (pos 0)) [] done ≡ Refused OutOfRange
+label_beyond done = refl
+
+query_alone : (done : Effect) → check_values docs_columns Star (its_search [] None (pos 100)) (below_seven (codes "price") ∷ []) done ≡ Refused (NotInProfile 1)
+query_alone done = refl
+
+a_good_search : (done : Effect) → check_values docs_columns score_one (its_search (codes "quick") (Some (Fits (pos 1))) (pos 0)) (below_seven (codes "id") ∷ []) done ≡ done
+unfolding reserved_words chars ucd_category
+a_good_search done = refl
+
+conditions_alone : (done : Effect) → check_values docs_columns Star None (below_seven (codes "id") ∷ []) done ≡ done
+conditions_alone done = refl

@@ -1,0 +1,173 @@
+//! What a SELECT asks of rows: the parts of its list and of its predicates.
+#![tactic(auto)]
+
+ghost use Rattle.std.specs.Prelude.{◌≡◌, ◌++◌, map, IfOk, OnOk};
+ghost use Rattle.std.specs.List.{list_all};
+ghost use Rattle.std.specs.Option.{option_map};
+ghost use Rattle.db_state.specs.Columns.{first_unknown};
+ghost use Rattle.db_rows.specs.Checking.{cond_column as column_of_cond};
+ghost use Rattle.db_select.specs.Predicates.{columns_among, cond_in, conds_in as all_conds, is_built_pred, list_columns, pred_column as column_of_pred, search_in as first_search, search_of as search_of_pred};
+ghost use Rattle.db_select.specs.Searches.{asked};
+
+use crate::copying::copy_cond;
+use ct_base::{Memory, Name};
+use db_state::has_column;
+use st_parse::{Cond, Item, Pred, SelectList, Whole};
+use std::alloc::Global;
+use tb_table::Column;
+
+/// What a CONTAINS asks: the score of the query text in the column is above a number. SCORE with the label is that score.
+#[derive(Drop)]
+pub(crate) struct Search<'a> {
+    pub(crate) column: &'a Name,
+    pub(crate) query: &'a str,
+    pub(crate) label: Option<Whole>,
+    pub(crate) above: Whole,
+}
+
+fn is_built(pred: &Pred) -> bool
+    ensures { result ≡ is_built_pred pred.now }
+{
+    match pred {
+        Pred::Cond(_) | Pred::Contains { .. } => true,
+        Pred::Catsearch { .. } | Pred::Matches { .. } => false,
+    }
+}
+
+/// Whether each predicate is built: CATSEARCH and MATCHES aren't yet.
+pub(crate) fn are_built(preds: &[Pred]) -> bool
+    ensures { result ≡ list_all is_built_pred preds.now }
+{
+    preds.iter().all(|pred| is_built(pred))
+}
+
+/// The column that a condition is on.
+fn cond_column(cond: &Cond) -> &Name
+    ensures { result.now ≡ column_of_cond cond.now }
+{
+    match cond {
+        Cond::Compare { column, .. } => column,
+        Cond::Between { column, .. } => column,
+        Cond::OneOf { column, .. } => column,
+    }
+}
+
+/// The column that a predicate is on.
+fn pred_column(pred: &Pred) -> &Name
+    ensures { result.now ≡ column_of_pred pred.now }
+{
+    match pred {
+        Pred::Cond(cond) => cond_column(cond),
+        Pred::Contains { column, .. } => column,
+        Pred::Catsearch { column, .. } => column,
+        Pred::Matches { column, .. } => column,
+    }
+}
+
+/// The first column of the predicates that isn't there.
+fn unknown_column<'a>(preds: &'a [Pred], columns: &[Column]) -> Option<&'a Name>
+    ensures { option_map (λ name. name.now) result ≡ first_unknown (map column_of_pred preds.now) columns.now }
+{
+    for pred in preds {
+        let name = pred_column(pred);
+        if !has_column(name, columns) {
+            return Some(name);
+        }
+    }
+    None
+}
+
+/// The first column of the items that isn't there.
+fn unknown_item<'a>(items: &'a [Item], columns: &[Column]) -> Option<&'a Name>
+    ensures { option_map (λ name. name.now) result ≡ first_unknown (columns_among items.now) columns.now }
+{
+    for item in items {
+        if let Item::Column(name) = item {
+            if !has_column(name, columns) {
+                return Some(name);
+            }
+        }
+    }
+    None
+}
+
+/// The first column that the list names and that isn't there.
+fn unknown_listed<'a>(list: &'a SelectList, columns: &[Column]) -> Option<&'a Name>
+    ensures { option_map (λ name. name.now) result ≡ first_unknown (list_columns list.now) columns.now }
+{
+    match list {
+        SelectList::Star | SelectList::CountAll => None,
+        SelectList::Items(items) => unknown_item(items.as_slice(), columns),
+    }
+}
+
+/// The first column of the list and the predicates that isn't there. Its cost is the number of their columns times that of the
+/// table's.
+pub(crate) fn unknown_name<'a>(
+    list: &'a SelectList,
+    preds: &'a [Pred],
+    columns: &[Column],
+) -> Option<&'a Name>
+    ensures { option_map (λ name. name.now) result ≡ first_unknown (list_columns list.now ++ map column_of_pred preds.now) columns.now }
+{
+    match unknown_listed(list, columns) {
+        Some(name) => Some(name),
+        None => unknown_column(preds, columns),
+    }
+}
+
+/// Puts a copy of the condition that a predicate is, if it is one.
+fn push_cond(alloc: Global, conds: &mut Vec<Cond>, pred: &Pred) -> Result<(), Memory>
+    ensures { OnOk result (conds.new.items ≡ conds.old.items ++ cond_in pred.now) }
+{
+    match pred {
+        Pred::Cond(cond) => {
+            conds.push(copy_cond(alloc, cond)?)?;
+            Ok(())
+        }
+        Pred::Contains { .. } | Pred::Catsearch { .. } | Pred::Matches { .. } => Ok(()),
+    }
+}
+
+/// The conditions among predicates, in their order. They are copies, of which a statement has few.
+pub(crate) fn conds_in(alloc: Global, preds: &[Pred]) -> Result<Vec<Cond>, Memory>
+    ensures { IfOk result (λ conds. conds.items ≡ all_conds preds.now) }
+{
+    let mut conds = Vec::new(alloc);
+    for pred in preds {
+        push_cond(alloc, &mut conds, pred)?;
+    }
+    Ok(conds)
+}
+
+/// What a predicate asks, if it is a CONTAINS.
+fn search_of<'a>(pred: &'a Pred) -> Option<Search<'a>>
+    ensures { option_map asked result ≡ search_of_pred pred.now }
+{
+    match pred {
+        Pred::Contains {
+            column,
+            query,
+            label,
+            above,
+        } => Some(Search {
+            column,
+            query: query.as_str(),
+            label: *label,
+            above: *above,
+        }),
+        Pred::Cond(_) | Pred::Catsearch { .. } | Pred::Matches { .. } => None,
+    }
+}
+
+/// What the CONTAINS among predicates asks.
+pub(crate) fn search_in<'a>(preds: &'a [Pred]) -> Option<Search<'a>>
+    ensures { option_map asked result ≡ first_search preds.now }
+{
+    for pred in preds {
+        if let Some(search) = search_of(pred) {
+            return Some(search);
+        }
+    }
+    None
+}

@@ -1,0 +1,72 @@
+//! The statement SELECT.
+#![tactic(auto, using(ct_keep::specs::Composing::reads_on, ct_keep::specs::Composing::reads_short))]
+
+ghost use Rattle.std.specs.Prelude.{◌≡◌, bytes_eq, codes};
+ghost use Rattle.ct_keep.specs.KeeperViews.{OnlyReads};
+ghost use Rattle.db_state.specs.States.{State, Sees};
+ghost use Rattle.db_state.specs.Effects.{reply_by, state_by};
+ghost use Rattle.db_select.specs.Statements.{select_from as from_effect, select_statement};
+
+use crate::pending::select_pending;
+use crate::predicates::are_built;
+use crate::selecting::select_table;
+use ct_base::Name;
+use ct_keep::{KeepFault, Keeper};
+use db_cond::not_understood;
+use db_state::{fixed_reply, is_view};
+use st_parse::{Pred, SelectList};
+use std::alloc::Global;
+
+/// Whether the name is that of the view of the rows that wait.
+fn is_pending(name: &str) -> bool
+    ensures { result ≡ bytes_eq name.now (codes "ctx_user_pending") }
+{
+    name == "ctx_user_pending"
+}
+
+/// Of a view or a table.
+fn select_from<K: Keeper>(
+    alloc: Global,
+    keeper: &mut K,
+    list: &SelectList,
+    table: &Name,
+    preds: &[Pred],
+) -> Result<Vec<u8>, KeepFault>
+    requires { (K.view keeper.old).ready }
+    ensures reply { Sees K.view keeper.old result (λ m reply. reply.items ≡ reply_by (from_effect m list.now table.now preds.now)) }
+    ensures reads { OnlyReads K.view keeper.old keeper.new result }
+{
+    if is_pending(table.as_str()) {
+        return select_pending(alloc, keeper, list, preds);
+    }
+    if is_view(table.as_str()) {
+        return Ok(fixed_reply(alloc, not_understood())?);
+    }
+    select_table(alloc, keeper, list, table, preds)
+}
+
+/// SELECT of a list by predicates: of the rows of a table, in order of their keys; or, from CTX_USER_PENDING, of the rows that
+/// wait for a synchronisation, in order of the names of indexes and of keys.
+///
+/// Without CONTAINS it costs a walk over the rows that the conditions on the key bound: one look-up for each of them, one of its
+/// numbers where another condition is on a number, and one of each text that a condition is on. With CONTAINS it costs the search,
+/// and for each row that this finds only the look-ups for the conditions. COUNT(*) reads nothing more; a list, and `*`, read each
+/// text of theirs, and the numbers of a row, once. What waits costs a scan of the indexes' entries and of those of the rows that
+/// wait. It changes nothing, and never answers Full.
+pub fn select<K: Keeper>(
+    alloc: Global,
+    keeper: &mut K,
+    list: &SelectList,
+    table: &Name,
+    preds: &[Pred],
+) -> Result<Vec<u8>, KeepFault>
+    requires ready { (K.view keeper.old).ready }
+    ensures reply { Sees K.view keeper.old result (λ m reply. reply.items ≡ reply_by (select_statement m list.now table.now preds.now)) }
+    ensures state { (m : State) → state_by m (select_statement m list.now table.now preds.now) ≡ m }
+    ensures reads { OnlyReads K.view keeper.old keeper.new result }
+{
+    if !are_built(preds) {
+        return Ok(fixed_reply(alloc, not_understood())?);
+    }
+    select_from(alloc, keeper, list, table, preds)
+}
