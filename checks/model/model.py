@@ -1,0 +1,116 @@
+#!/usr/bin/env python3
+"""A plain and slow second implementation of the language of scripts.
+
+    checks/model/model.py [--without NAME,NAME] < SCRIPT
+
+It says what the program is to reply to a script over a new store that has room for everything. It shares nothing with the
+program: of each statement it collects all refusals that hold and takes the first in their order, and a search goes over all
+synchronised rows and counts words. `checks/model/compare` compares the program with it.
+"""
+
+from __future__ import annotations
+
+import argparse
+import sys
+from dataclasses import dataclass
+
+sys.dont_write_bytecode = True  # no folder of compiled modules is left here
+
+from grammar import Parser
+from lexemes import NotUnderstood, cut
+from state import State
+from statements import NOT_UNDERSTOOD, ORDER, TOO_LONG_STATEMENT
+from weights import least_weight, room
+
+# What is built, beside CREATE TABLE, CREATE INDEX, INSERT, SYNC_INDEX, POLICY_TOKENS and a SELECT of columns and scores by one
+# CONTAINS. A statement that needs anything else isn't understood.
+BUILT = frozenset({
+    "UPDATE",
+    "DELETE",
+    "DROP",
+    "COMMIT",
+    "CONDITIONS",  # conditions on columns in a SELECT
+    "PLAIN-SELECT",  # a SELECT without CONTAINS
+    "STAR",  # SELECT *
+    "COUNT",  # SELECT COUNT(*)
+    "CTX_USER_PENDING",
+})
+
+STATEMENT_LIMIT = 65_536
+
+
+@dataclass(frozen=True)
+class Answer:
+    """What is to be answered to a statement, where the store has room for it.
+
+    What a store weighs is known but for its postings. A statement changes them only where it makes rows synchronised, and then
+    they and the other entries both weigh more; so it is known whether a store weighs more after a statement.
+    """
+
+    reply: str
+    before: State
+    after: State
+    takes_room: bool = False
+
+    @property
+    def grows(self) -> bool:
+        return self.takes_room and least_weight(self.after) > least_weight(self.before)
+
+    def may_be_full(self, limit: int) -> bool:
+        """Returns whether it may be answered that the store is full."""
+        return self.grows and room(self.after) > limit
+
+    def must_be_full(self, limit: int) -> bool:
+        """Returns whether nothing else may be answered."""
+        return self.grows and least_weight(self.after) > limit
+
+
+def answer(state: State, statement: bytes, built: frozenset[str] = BUILT, is_rest: bool = False) -> Answer:
+    """Returns the answer to a statement, or to the rest of a script, which is never done."""
+    if len(statement) > STATEMENT_LIMIT:
+        return Answer(TOO_LONG_STATEMENT.reply, state, state)
+    try:
+        parsed = Parser(statement.decode(), built).statement()
+    except (NotUnderstood, UnicodeDecodeError):
+        return Answer(NOT_UNDERSTOOD.reply, state, state)
+    if parsed is None:
+        return Answer("", state, state)
+    if is_rest:
+        return Answer(NOT_UNDERSTOOD.reply, state, state)
+    refusal = min(parsed.refusals(state), key=lambda it: ORDER.index(it.number), default=None)
+    if refusal is not None:
+        return Answer(refusal.reply, state, state)
+    after = state.copy()
+    reply = parsed.effect(after)
+    return Answer(reply, state, after, parsed.takes_room)
+
+
+def features(text: str) -> frozenset[str]:
+    """Returns what is built without the features that the text names."""
+    names = frozenset(text.split(",")) - {""}
+    if not names <= BUILT:
+        raise argparse.ArgumentTypeError(f"known are {', '.join(sorted(BUILT))}")
+    return BUILT - names
+
+
+def add_without(arguments: argparse.ArgumentParser) -> None:
+    """Adds the option that turns features off."""
+    arguments.add_argument(
+        "--without", dest="built", metavar="NAME,NAME", type=features, default=BUILT, help="features that aren't understood"
+    )
+
+
+def main() -> None:
+    arguments = argparse.ArgumentParser(description="says what the program is to reply to a script over a new store")
+    add_without(arguments)
+    built = arguments.parse_args().built
+    statements, rest = cut(sys.stdin.buffer.read())
+    state = State()
+    for statement, is_rest in [*((it, False) for it in statements), (rest, True)]:
+        its_answer = answer(state, statement, built, is_rest)
+        sys.stdout.buffer.write(its_answer.reply.encode())
+        state = its_answer.after
+
+
+if __name__ == "__main__":
+    main()

@@ -1,0 +1,85 @@
+"""The state that statements lead from and to: tables with their rows, and indexes."""
+
+from __future__ import annotations
+
+from collections.abc import Iterator
+from dataclasses import dataclass, field, replace
+from typing import Literal
+
+from lexemes import Beyond, Whole
+
+TEXT_LIMIT = 4000
+
+Operand = str | int | Beyond
+Value = str | int
+
+
+@dataclass(frozen=True)
+class Column:
+    name: str
+    sort: Literal["NUMBER", "VARCHAR2", "CLOB"]
+    size: Whole = TEXT_LIMIT  # how many bytes a text has at most
+
+    @property
+    def is_text(self) -> bool:
+        return self.sort != "NUMBER"
+
+    def takes(self, operand: Operand) -> bool:
+        return isinstance(operand, str) == self.is_text
+
+    def is_too_long(self, operand: Operand) -> bool:
+        return isinstance(operand, str) and isinstance(self.size, int) and len(operand.encode()) > self.size
+
+
+@dataclass
+class Table:
+    columns: tuple[Column, ...]
+    rows: dict[int, tuple[Value, ...]] = field(default_factory=dict)  # by their key, which is the first value too
+
+    @property
+    def names(self) -> list[str]:
+        return [column.name for column in self.columns]
+
+    def place(self, name: str) -> int | None:
+        """Returns the place of the column of this name."""
+        return self.names.index(name) if name in self.names else None
+
+    def column(self, name: str) -> Column | None:
+        return next((column for column in self.columns if column.name == name), None)
+
+
+@dataclass
+class Index:
+    table: str
+    place: int  # of its column
+    pending: set[int]  # the keys of the rows that wait; the other rows of the table are synchronised
+    lost: list[str] = field(default_factory=list)  # the texts that it has lost, whose postings may still be stored
+
+
+@dataclass
+class State:
+    tables: dict[str, Table] = field(default_factory=dict)
+    indexes: dict[str, Index] = field(default_factory=dict)
+
+    def copy(self) -> State:
+        tables = {name: replace(table, rows=dict(table.rows)) for name, table in self.tables.items()}
+        indexes = {name: replace(index, pending=set(index.pending), lost=list(index.lost)) for name, index in self.indexes.items()}
+        return State(tables, indexes)
+
+    def indexes_of(self, table: str) -> list[Index]:
+        return [index for index in self.indexes.values() if index.table == table]
+
+    def index_on(self, table: str, place: int | None) -> Index | None:
+        return next((index for index in self.indexes_of(table) if index.place == place), None)
+
+    def synchronised_texts(self, index: Index) -> Iterator[tuple[int, str]]:
+        for key, values in self.tables[index.table].rows.items():
+            if key not in index.pending:
+                yield key, str(values[index.place])
+
+    def lose_document(self, index: Index, key: int) -> None:
+        """Takes a row out of an index, whether it waits or is synchronised."""
+        if key in index.pending:
+            index.pending.remove(key)
+        else:
+            index.lost.append(str(self.tables[index.table].rows[key][index.place]))
