@@ -1,0 +1,2 @@
+pub mod RisingKeys
+pub mod SearchedKeys

@@ -1,0 +1,4 @@
+pub mod TableSteps
+pub mod ReadSteps
+pub mod NameLaws
+pub mod PairingSteps
