@@ -1,0 +1,15 @@
+pub mod AttributeSteps
+pub mod Found
+pub mod WordSteps
+pub mod SettingSteps
+pub mod GroupSteps
+pub mod PrefsSteps
+pub mod Few
+pub mod SeenMaps
+pub mod GroupCounts
+pub mod PlaceLaws
+pub mod SortedInstances
+pub mod TagExtents
+pub mod TokenRanges
+pub mod TokenMarks
+pub mod MarkedWords

@@ -1,0 +1,11 @@
+pub mod Documents
+pub mod Fields
+pub mod TagSpans
+pub mod Ranges
+pub mod Entries
+pub mod Places
+pub mod Attributes
+pub mod PrefsBytes
+pub mod PrefsPromises
+pub mod Promises
+pub mod laws
