@@ -1,0 +1,12 @@
+pub mod Preferences
+pub mod Spelling
+pub mod Rules
+pub mod Readings
+pub mod Shapes
+pub mod Copies
+pub mod Sees
+pub mod Room
+pub mod Requests
+pub mod RequestWords
+pub mod Promises
+pub mod laws

@@ -1,0 +1,9 @@
+pub mod Changes
+pub mod OneOf
+pub mod Rules
+pub mod Room
+pub mod Lengths
+pub mod Values
+pub mod Shapes
+pub mod TaggedSections
+pub mod Keeps

@@ -1,0 +1,28 @@
+//! Lexer preferences, stoplists and section groups as stored entries, and the preferences that an index copies from them.
+#![tactic(auto)]
+
+mod changes;
+mod copying;
+mod kinds;
+mod laws;
+mod lookups;
+mod parameters;
+mod reading;
+mod requests;
+mod settings;
+mod shapes;
+#[cfg(test)]
+mod tests;
+mod unknown_names;
+mod words;
+
+pub use changes::{put_group, put_lexer, put_stoplist};
+pub use copying::copy;
+pub use kinds::PrefKind;
+pub use laws::{changes_stand, entries_are_exact, rules_stay};
+pub use lookups::{has_named, is_full, lexer_settings, section_group, stoplist_words};
+pub use parameters::Parameters;
+pub use requests::{Request, parameters_of, read_requests};
+pub use settings::with_setting;
+pub use shapes::is_pref_shape;
+pub use unknown_names::unknown_request;
