@@ -1,9 +1,3 @@
-pub mod AttributeSteps
-pub mod Found
-pub mod WordSteps
-pub mod SettingSteps
-pub mod GroupSteps
-pub mod PrefsSteps
 pub mod Few
 pub mod SeenMaps
 pub mod GroupCounts

@@ -1,4 +1,4 @@
--- The words by the fields that have them are the words by their stretches.
+-- The words by the fields that have them are the words by their spans.
 use Rattle.std.proofs.Common.{◌≡◌, ℕ, zero, suc, ◌+◌, Bool, true, false, cond, List, [], ◌∷◌, ◌++◌, length, get_or, drop, map, refl, sym, ap, ◌∙◌, arith}
 use Rattle.std.specs.Prelude.{◌==◌, ◌&&◌, ◌||◌}
 use Rattle.std.proofs.lemmas.Bool.{eqb-true}
@@ -34,9 +34,9 @@ zones_show Zone is = refl
 zones_show Field is = cc
 zones_show VisibleField is = cc
 
-no_stretch : (t : Token) (spans : List Span) → (length spans == 0) ≡ true → is_in t spans ≡ false
-no_stretch t [] is = refl
-no_stretch t (s ∷ ss) is = absurd (omega (arith, eqb-true (length (s ∷ ss)) 0 is))
+no_span : (t : Token) (spans : List Span) → (length spans == 0) ≡ true → is_in t spans ≡ false
+no_span t [] is = refl
+no_span t (s ∷ ss) is = absurd (omega (arith, eqb-true (length (s ∷ ss)) 0 is))
 
 module _ (all : List Token) (i : ℕ) (t : Token) (ts : List Token) (here : drop i all ≡ t ∷ ts) where
   has_it : (e : Extent) → get_or (map (λ (u : Token). is_in u e.spans) all) i false ≡ is_in t e.spans
@@ -46,7 +46,7 @@ module _ (all : List Token) (i : ℕ) (t : Token) (ts : List Token) (here : drop
   field_at n e rest = go (length e.spans == 0) refl
     where
       go : (b : Bool) → (length e.spans == 0) ≡ b → field_streams_at i (cond b [] (marked_as all n e) ++ rest) ≡ cond (is_in t e.spans) (n ∷ []) [] ++ field_streams_at i rest
-      go true none = ap (λ (b : Bool). cond b (n ∷ []) [] ++ field_streams_at i rest) (sym (no_stretch t e.spans none))
+      go true none = ap (λ (b : Bool). cond b (n ∷ []) [] ++ field_streams_at i rest) (sym (no_span t e.spans none))
       go false some = ap (λ (b : Bool). cond b (n ∷ []) [] ++ field_streams_at i rest) (has_it e)
 
   streams_are : (n : ℕ) (es : List Extent) → field_streams_at i (marked_fields all n es) ≡ field_streams t n es
@@ -66,7 +66,7 @@ module _ (all : List Token) (i : ℕ) (t : Token) (ts : List Token) (here : drop
       never false = refl
 
       go : (b : Bool) → (length e.spans == 0) ≡ b → is_hidden_at i (cond b [] (marked_as all n e) ++ rest) ≡ ((hides e.kind && is_in t e.spans) || is_hidden_at i rest)
-      go true none = never (hides e.kind) ∙ ap (λ (b : Bool). (hides e.kind && b) || is_hidden_at i rest) (sym (no_stretch t e.spans none))
+      go true none = never (hides e.kind) ∙ ap (λ (b : Bool). (hides e.kind && b) || is_hidden_at i rest) (sym (no_span t e.spans none))
       go false some = ap (λ (b : Bool). (hides e.kind && b) || is_hidden_at i rest) (has_it e)
 
   hidden_are : (n : ℕ) (es : List Extent) → is_hidden_at i (marked_fields all n es) ≡ is_hidden t es

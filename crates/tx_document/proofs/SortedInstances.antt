@@ -12,7 +12,8 @@ use Rattle.std.proofs.lemmas.Map.Keys.{sorted_head, sorted_tail}
 use Rattle.ct_base.specs.laws.Orders.{equal_from_test}
 use Rattle.tx_document.specs.declared.views.SectionView.{SectionView}
 use Rattle.tx_document.specs.Documents.{rising, has_instance, place_of, section_cmp}
-use Rattle.tx_document.specs.laws.Instances.{Rises, put, put_is, rising_rises, section_cmp_total, section_cmp_exact}
+use Rattle.tx_document.specs.Promises.{InstancesRise}
+use Rattle.tx_document.specs.laws.Instances.{put, put_is, rising_rises, section_cmp_total, section_cmp_exact}
 
 -- ---- members
 
@@ -46,7 +47,7 @@ no_less i less = let tie : Less ≡ Equal = sym less ∙ tied_itself section_cmp
 abbrev SameMembers : List SectionView → List SectionView → Type 0
 SameMembers is js = (i : SectionView) → In i is → In i js
 
-same_heads : (i j : SectionView) (is js : List SectionView) → Rises (i ∷ is) → Rises (j ∷ js) → In i (j ∷ js) → In j (i ∷ is) → i ≡ j
+same_heads : (i j : SectionView) (is js : List SectionView) → InstancesRise (i ∷ is) → InstancesRise (j ∷ js) → In i (j ∷ js) → In j (i ∷ is) → i ≡ j
 same_heads i j is js up rise (inl same) there = same
 same_heads i j is js up rise (inr here) (inl same) = sym same
 same_heads i j is js up rise (inr here) (inr there) =
@@ -54,14 +55,14 @@ same_heads i j is js up rise (inr here) (inr there) =
     let high : section_cmp i j ≡ Less = all_in (λ (k : SectionView). section_cmp i k ≡ Less) is j up.0 there in
     absurd (no_less i (section_cmp_total.trans i j i high low))
 
-later_members : (i j : SectionView) (is js : List SectionView) → i ≡ j → Rises (i ∷ is) → SameMembers (i ∷ is) (j ∷ js) → SameMembers is js
+later_members : (i j : SectionView) (is js : List SectionView) → i ≡ j → InstancesRise (i ∷ is) → SameMembers (i ∷ is) (j ∷ js) → SameMembers is js
 later_members i j is js same up members k there = go (members k (inr there))
   where
     go : (k ≡ j) ⊎ In k js → In k js
     go (inl here) = absurd (no_less i (subst (λ (l : SectionView). section_cmp i l ≡ Less) (here ∙ sym same) (all_in (λ (l : SectionView). section_cmp i l ≡ Less) is k up.0 there)))
     go (inr more) = more
 
-one_list : (is js : List SectionView) → Rises is → Rises js → SameMembers is js → SameMembers js is → is ≡ js
+one_list : (is js : List SectionView) → InstancesRise is → InstancesRise js → SameMembers is js → SameMembers js is → is ≡ js
 one_list [] [] up rise there back = refl
 one_list [] (j ∷ js) up rise there back = absurd (back j (inl refl))
 one_list (i ∷ is) [] up rise there back = absurd (there i (inl refl))
@@ -127,7 +128,7 @@ of_rising (j ∷ js) i there = go (has_instance j (rising js)) there (of_rising 
 
 -- ---- the law
 
-rises_from_sorted : (is : List SectionView) → IsStrictlySortedBy section_cmp is → Rises is
+rises_from_sorted : (is : List SectionView) → IsStrictlySortedBy section_cmp is → InstancesRise is
 rises_from_sorted [] up = tt
 rises_from_sorted (i ∷ is) up = (sorted_head section_cmp i is up, rises_from_sorted is (sorted_tail section_cmp i is up))
 

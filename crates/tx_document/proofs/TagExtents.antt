@@ -1,4 +1,4 @@
--- The stretches of sections are those of their tags by number.
+-- The spans of sections are those of their tags by number.
 use Rattle.std.proofs.Common.{◌≡◌, ℕ, ◌+◌, ◌<◌, ◌≤◌, List, [], ◌∷◌, ◌++◌, length, get_or, refl, ap, ◌∙◌, arith}
 use Rattle.tx_tags.specs.declared.groups.Section.{Section}
 use Rattle.tx_tags.specs.declared.tags.TagView.{TagView}

@@ -1,4 +1,4 @@
--- The tokens that stand in one of some stretches, by how far ranges reach.
+-- The tokens that stand in one of some spans, by how far ranges reach.
 use Rattle.std.proofs.Common.{◌≡◌, ℕ, zero, suc, ◌+◌, ◌-◌, ◌<◌, ◌≤◌, Bool, true, false, cond, List, [], ◌∷◌, length, get_or, map, refl, sym, ap, subst, ◌∙◌, arith}
 use Rattle.std.specs.Prelude.{nat_lt, ◌||◌, max, replicate}
 use Rattle.std.proofs.lemmas.Bool.{ltb-true, ltb-false, lt-ltb, le-ltb}
@@ -10,7 +10,7 @@ use Rattle.tx_document.specs.Documents.{is_inside, is_in}
 use Rattle.tx_document.specs.Ranges.{Splits, starts_before, ends_by, IsRaised, raised_at, swept}
 use Rattle.tx_document.proofs.TokenRanges.{outside, inside, not_inside}
 
--- Each token, from the place `i` on, stands in one of all stretches where it is reached or stands in one of the rest; those before it reach as far as `far`.
+-- Each token, from the place `i` on, stands in one of all spans where it is reached or stands in one of the rest; those before it reach as far as `far`.
 abbrev pub Reached : List Span → List Span → ℕ → ℕ → List ℕ → List Token → Type 0
 Reached all rest far i [] [] = Unit {0}
 Reached all rest far i [] (t ∷ ts) = ⊥
@@ -36,9 +36,9 @@ all_reached all far i (r ∷ rs) (t ∷ ts) is =
     alone true = refl
     alone false = refl
 
--- ---- one stretch more
+-- ---- one span more
 
--- a token outside of the stretch, and one inside
+-- a token outside of the span, and one inside
 pass : (a b c in_rest in_all : Bool) → c ≡ false → a ≡ b → (a || (c || in_rest)) ≡ in_all → (b || in_rest) ≡ in_all
 pass a b c in_rest in_all out same is = ap (λ (x : Bool). x || in_rest) (sym same) ∙ ap (λ (x : Bool). a || (x || in_rest)) (sym out) ∙ is
 
@@ -52,7 +52,7 @@ hit a b c in_rest in_all within new is = ap (λ (x : Bool). x || in_rest) new �
 same_reach : (i x y : ℕ) → (i < x → i < y) → (i < y → i < x) → nat_lt i x ≡ nat_lt i y
 same_reach i x y there back = same_tests (nat_lt i x) (nat_lt i y) (λ h. lt-ltb i y (there (ltb-true i x h))) (λ h. lt-ltb i x (back (ltb-true i y h)))
 
--- where the stretch has no token
+-- where the span has no token
 none_inside : (all rest : List Span) (s : Span) (far i : ℕ) (rs : List ℕ) (ts : List Token) (a b : ℕ) → b ≤ a → Splits (starts_before s.start) a ts → Splits (ends_by s.end) b ts
     → Reached all (s ∷ rest) far i rs ts → Reached all rest far i rs ts
 none_inside all rest s far i [] [] a b le before within is = tt
@@ -66,7 +66,7 @@ none_inside all rest s far i (r ∷ rs) (t ∷ ts) (suc a) zero le before within
 none_inside all rest s far i (r ∷ rs) (t ∷ ts) (suc a) (suc b) le before within is =
     (pass _ _ (is_inside t s) (is_in t rest) (is_in t all) (outside s t before.0) refl is.0, none_inside all rest s (max far r) (i + 1) rs ts a b (omega arith) before.1 within.1 is.1)
 
--- behind the first token of the stretch, which reaches up to `e`
+-- behind the first token of the span, which reaches up to `e`
 run : (all rest : List Span) (s : Span) (far high e i : ℕ) (rs : List ℕ) (ts : List Token) (b : ℕ) → high ≡ max far e → b ≡ e - i → Splits (starts_before s.start) zero ts → Splits (ends_by s.end) b ts
     → Reached all (s ∷ rest) far i rs ts → Reached all rest high i rs ts
 run all rest s far high e i [] [] b highest left before within is = tt
@@ -128,8 +128,8 @@ reached_more all rest later s reach new ts split raised before = record {
     here = subst (λ (l : List Span). Reached all l 0 0 reach ts) split before.reached
 
     go : (b : Bool) → nat_lt raised.range.first raised.range.behind ≡ b → Reached all later 0 0 (cond b (raised_at raised.range.first raised.range.behind reach) reach) ts
-    go true less = one_more all later s 0 raised.range.behind 0 reach ts raised.range.first raised.range.behind (ltb-true raised.range.first raised.range.behind less) (omega arith) raised.of_stretch.before raised.of_stretch.within here
-    go false less = none_inside all later s 0 0 reach ts raised.range.first raised.range.behind (ltb-false raised.range.first raised.range.behind less) raised.of_stretch.before raised.of_stretch.within here
+    go true less = one_more all later s 0 raised.range.behind 0 reach ts raised.range.first raised.range.behind (ltb-true raised.range.first raised.range.behind less) (omega arith) raised.of_span.before raised.of_span.within here
+    go false less = none_inside all later s 0 0 reach ts raised.range.first raised.range.behind (ltb-false raised.range.first raised.range.behind less) raised.of_span.before raised.of_span.within here
 
     same : (b : Bool) → length (cond b (raised_at raised.range.first raised.range.behind reach) reach) ≡ length reach
     same true = length-set reach raised.range.first (max (get_or reach raised.range.first 0) raised.range.behind)

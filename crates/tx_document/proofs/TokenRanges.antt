@@ -1,4 +1,4 @@
--- The tokens in a stretch of the text are those of a range.
+-- The tokens in a span of the text are those of a range.
 use Rattle.std.proofs.Common.{◌≡◌, ℕ, zero, suc, ◌+◌, ◌-◌, ◌<◌, ◌≤◌, Bool, true, false, cond, List, [], ◌∷◌, ◌++◌, length, get_or, Some, None, refl, sym, ap, ◌∙◌, arith}
 use Rattle.std.specs.Prelude.{nat_le, nat_lt, ◌&&◌}
 use Rattle.std.specs.List.Sorted.{IsNonDecreasingBy, IsPartitionPoint}
@@ -48,7 +48,7 @@ ends_climb least most (t ∷ ts) order = (omega (arith, order.0, order.1), ends_
 pub in_order_rising : (least most : ℕ) (ts : List Token) → AreInOrder least most ts → AreRising ts
 in_order_rising least most ts order = record { starts = non_decreasing (λ t. t.start) least ts (starts_climb least least most ts (omega arith) order); ends = non_decreasing (λ t. t.end) least ts (ends_climb least most ts order) }
 
--- ---- the positions in a stretch
+-- ---- the positions in a span
 
 pub outside : (s : Span) (t : Token) → starts_before s.start t ≡ true → is_inside t s ≡ false
 outside s t before = let less = ltb-true t.start s.start before in ap (λ (b : Bool). b && nat_le t.end s.end) (lt-leb s.start t.start less)

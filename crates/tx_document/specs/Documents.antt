@@ -12,7 +12,7 @@ use Rattle.caseless.proofs.Computing.{caseless}
 use Rattle.ct_base.specs.declared.numbers.Pair.{Pair}
 use Rattle.tx_chars.specs.Keys.{key_text}
 use Rattle.tx_lexer.specs.declared.tokens.Token.{Token}
-use Rattle.tx_lexer.specs.Tokens.{tokens, rules, default_options}
+use Rattle.tx_lexer.specs.Tokens.{tokens, rules}
 use Rattle.tx_stop.specs.StopKeys.{is_stop}
 use Rattle.tx_tags.specs.declared.groups.SectionKind.{SectionKind}
 use Rattle.tx_tags.specs.declared.groups.SectionKind.TheVariants.{Field, VisibleField}
@@ -22,16 +22,17 @@ use Rattle.tx_tags.specs.declared.pairing.Span.{Span}
 use Rattle.tx_tags.specs.Groups.{SectionGroup, is_zone, is_field, no_sections, zones}
 use Rattle.tx_tags.specs.Tags.{tags_in, blanked}
 use Rattle.tx_tags.specs.Pairs.{spans_from}
+use Rattle.tx_settings.specs.declared.preferences.Prefs.{Prefs}
+use Rattle.tx_settings.specs.Defaults.{default_prefs, plain}
 use Rattle.tx_document.specs.declared.endings.Ending.{Ending}
 use Rattle.tx_document.specs.declared.endings.Ending.TheVariants.{Sentence, Paragraph}
-use Rattle.tx_document.specs.declared.views.Prefs.{Prefs}
 use Rattle.tx_document.specs.declared.views.WordView.{WordView}
 use Rattle.tx_document.specs.declared.views.SectionView.{SectionView}
 use Rattle.tx_document.specs.declared.views.DocView.{DocView}
 
 -- ---- where sections stand
 
--- a section with the stretches of the text that its tags enclose
+-- a section with the spans of the text that its tags enclose
 pub record Extent : Type 0 where
   pub section : List ℕ
   pub kind : SectionKind
@@ -45,12 +46,12 @@ extents_from tags end k (s ∷ ss) = record { section = s.name; kind = s.kind; s
 abbrev pub extents : List TagView → ℕ → List Section → List Extent
 extents tags end ss = extents_from tags end 0 ss
 
--- whether a token stands in a stretch, and in one of some
+-- whether a token stands in a span, and in one of some
 abbrev pub is_inside : Token → Span → Bool
 is_inside t s = nat_le s.start t.start && nat_le t.end s.end
 
 abbrev pub is_in : Token → List Span → Bool
-is_in t stretches = list_any (is_inside t) stretches
+is_in t spans = list_any (is_inside t) spans
 
 -- ---- words
 
@@ -99,7 +100,7 @@ pair first last = record { first = first; last = last }
 abbrev pub instance : List ℕ → ℕ → ℕ → SectionView
 instance section first last = record { section = section; first = first; last = last }
 
--- the positions of the tokens that stand in a stretch
+-- the positions of the tokens that stand in a span
 abbrev pub positions_in : Span → ℕ → List Token → List ℕ
 positions_in s position [] = []
 positions_in s position (t ∷ ts) = (if is_inside t s then position ∷ [] else []) ++ positions_in s (position + 1) ts
@@ -119,7 +120,7 @@ instance_of section None = []
 instance_of section (Some r) = instance section r.first r.last ∷ []
 
 abbrev pub zone_instances : List Token → Extent → List SectionView
-zone_instances ts e = if is_zone e.kind then flat_map (λ (stretch : Span). instance_of e.section (reach_of (positions_in stretch 1 ts))) e.spans else []
+zone_instances ts e = if is_zone e.kind then flat_map (λ (span : Span). instance_of e.section (reach_of (positions_in span 1 ts))) e.spans else []
 
 -- whether a token ends such a run, and the section that these runs are
 abbrev pub ends : Ending → Token → Bool
@@ -176,13 +177,6 @@ abbrev pub document : Prefs → List ℕ → DocView
 document p text = document_by p (extents (tags_in p.group text) (length (encode_utf8_all text)) p.group.sections) (tokens (rules p.lexer) (blanked p.group text))
 
 -- ---- computed examples
-
-abbrev pub plain : SectionGroup → Prefs
-plain g = record { lexer = default_options; stop = []; group = g }
-
--- how an index reads where nothing else is asked for
-abbrev pub default_prefs : Prefs
-default_prefs = plain no_sections
 
 abbrev word : ℕ → List ℕ → List ℕ → ℕ → ℕ → WordView
 word position key streams start end = record { position = position; key = Some key; streams = streams; start = start; end = end }

@@ -15,7 +15,8 @@ use Rattle.tx_document.specs.declared.views.WordView.{WordView}
 use Rattle.tx_document.specs.declared.views.SectionView.{SectionView}
 use Rattle.tx_document.specs.declared.views.DocView.{DocView}
 use Rattle.tx_document.specs.declared.entries.Entry.{Entry}
-use Rattle.tx_document.specs.Documents.{document, plain, sentences, pair}
+use Rattle.tx_settings.specs.Defaults.{plain}
+use Rattle.tx_document.specs.Documents.{document, sentences, pair}
 
 -- the stream under which sections stand
 abbrev pub section_stream : ℕ

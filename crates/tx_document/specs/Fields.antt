@@ -1,4 +1,4 @@
--- How many fields stand among sections with their stretches, and how many tags sections have.
+-- How many fields stand among sections with their spans, and how many tags sections have.
 use Rattle.std.specs.Prelude.{ℕ, ◌≡◌, ◌+◌, suc, List, [], ◌∷◌, length, refl}
 use Rattle.std.specs.Bool.{if◌then◌else◌}
 use Rattle.tx_tags.specs.declared.groups.Section.{Section}

@@ -4,8 +4,5 @@ pub mod TagSpans
 pub mod Ranges
 pub mod Entries
 pub mod Places
-pub mod Attributes
-pub mod PrefsBytes
-pub mod PrefsPromises
 pub mod Promises
 pub mod laws

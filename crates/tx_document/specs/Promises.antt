@@ -1,15 +1,67 @@
--- What the functions of `src/laws.rt` promise of the entries of documents.
-use Rattle.std.specs.Prelude.{ℕ, ◌≡◌, ◌+◌, ◌*◌, ◌<◌, ◌≤◌, ◌^◌, ◌⊎◌, List, [], ◌∷◌, length, map, Option, Some, None, codes, refl}
+-- What the functions of `src/laws.rt` promise of documents and of their entries.
+use Rattle.std.specs.Prelude.{ℕ, ◌≡◌, ◌+◌, ◌*◌, ◌<◌, ◌≤◌, ◌^◌, ◌⊎◌, List, [], ◌∷◌, length, map, Option, Some, None, codes, refl, true}
 use Rattle.std.proofs.Common.{arith, inl}
+use Rattle.std.specs.List.{AllByRecursion}
+use Rattle.std.specs.declared.cmp.Ordering.TheVariants.{Less}
 use Rattle.std.specs.Str.{chars}
 use Rattle.std.specs.FinMap.{get}
 use Rattle.ct_base.specs.Limits.{token_limit, stream_limit}
 use Rattle.ct_base.specs.Names.{IsName}
 use Rattle.ct_base.specs.declared.numbers.Pair.{Pair}
-use Rattle.tx_document.specs.declared.views.Prefs.{Prefs}
-use Rattle.tx_document.specs.Documents.{document, pair}
+use Rattle.tx_settings.specs.declared.preferences.Prefs.{Prefs}
+use Rattle.tx_document.specs.declared.views.WordView.{WordView}
+use Rattle.tx_document.specs.declared.views.SectionView.{SectionView}
+use Rattle.tx_document.specs.declared.views.DocView.{DocView}
+use Rattle.tx_document.specs.Documents.{document, instance, pair, section_cmp}
 use Rattle.tx_document.specs.Entries.{places_of, places_under, place_map, positions_of, section_stream}
-use Rattle.tx_document.specs.PrefsBytes.{IsPrefs}
+use Rattle.tx_settings.specs.PrefsBytes.{IsPrefs, is_named_group}
+
+-- ---- documents
+
+-- numbers, each above the one before it, and the first above `before`
+abbrev pub NumbersRise : ℕ → List ℕ → Type 0
+NumbersRise before [] = Unit {0}
+NumbersRise before (n ∷ ns) = (before < n) × NumbersRise n ns
+
+-- streams, each above the one before it, the first at least `least` and the last at most 64
+abbrev pub StreamsRise : ℕ → List ℕ → Type 0
+StreamsRise least [] = Unit {0}
+StreamsRise least (s ∷ ss) = (least ≤ s) × (s ≤ stream_limit) × StreamsRise (s + 1) ss
+
+-- a key of 1 to 255 bytes, where there is one
+abbrev pub IsKey : Option (List ℕ) → Type 0
+IsKey None = Unit {0}
+IsKey (Some key) = (1 ≤ length key) × (length key ≤ token_limit)
+
+-- words apart from each other: none is empty, the first starts at `least` or behind it, and each other at the end of the one before it or behind it
+abbrev pub AreApart : ℕ → List WordView → Type 0
+AreApart least [] = Unit {0}
+AreApart least (w ∷ ws) = (least ≤ w.start) × (w.start < w.end) × AreApart w.end ws
+
+-- an instance of a section with a name, in a document of so many words
+pub record IsInstance (count : ℕ) (i : SectionView) : Type 0 where
+  pub named : IsName i.section
+  pub some : 1 ≤ i.first
+  pub forward : i.first ≤ i.last
+  pub within : i.last ≤ count
+
+-- instances, each less than all behind it; so each stands once
+abbrev pub InstancesRise : List SectionView → Type 0
+InstancesRise [] = Unit {0}
+InstancesRise (i ∷ is) = AllByRecursion (λ (j : SectionView). section_cmp i j ≡ Less) is × InstancesRise is
+
+-- THE RULES OF DOCUMENTS. The positions of words are at least 1 and rise, the streams of each word rise, its key has 1 to 255 bytes, and the words stand apart in the text; each section lies within the words, and the sections rise.
+pub record IsDocView (d : DocView) : Type 0 where
+  pub positions : NumbersRise 0 (map (λ (w : WordView). w.position) d.words)
+  pub streams : AllByRecursion (λ (w : WordView). StreamsRise 0 w.streams) d.words
+  pub keys : AllByRecursion (λ (w : WordView). IsKey w.key) d.words
+  pub places : AreApart 0 d.words
+  pub instances : AllByRecursion (IsInstance (length d.words)) d.sections
+  pub once : InstancesRise d.sections
+
+-- Each document keeps them.
+abbrev pub DocumentsKeepRules : Type 0
+DocumentsKeepRules = (p : Prefs) (text : List ℕ) → is_named_group p.group ≡ true → IsDocView (document p text)
 
 -- ---- places as entries have them
 
@@ -84,6 +136,21 @@ PlacesAreFew =
     → length (places_under name (places_of (document p (chars text)))) ≤ 9 * length text + 2
 
 -- computed examples
+
+-- `a` in the main stream and the third field, a stopword behind it, and the sentence of both
+two_words : IsDocView (record {
+  words = record { position = 1; key = Some (codes "a"); streams = 0 ∷ 3 ∷ []; start = 0; end = 1 } ∷ record { position = 2; key = None; streams = 0 ∷ []; start = 2; end = 4 } ∷ [];
+  sections = instance (codes "sentence") 1 2 ∷ [];
+})
+two_words = record {
+  positions = (omega arith, (omega arith, tt));
+  streams = ((omega arith, omega arith, (omega arith, omega arith, tt)), ((omega arith, omega arith, tt), tt));
+  keys = ((omega arith, omega arith), (tt, tt));
+  places = (omega arith, omega arith, (omega arith, omega arith, tt));
+  instances = (record { named = record { spelt = refl; lower = refl }; some = omega arith; forward = omega arith; within = omega arith }, tt);
+  once = (tt, tt);
+}
+
 abbrev twice : List Pair
 twice = pair 1 1 ∷ pair 3 3 ∷ []
 

@@ -1,4 +1,4 @@
--- Which tokens stand in stretches of the text, by their places among the tokens.
+-- Which tokens stand in spans of the text, by their places among the tokens.
 use Rattle.std.specs.Prelude.{ℕ, zero, suc, ◌≡◌, ◌+◌, ◌==◌, max, Bool, true, false, ◌&&◌, nat_le, nat_lt, List, [], ◌∷◌, ◌++◌, length, map, replicate, Option, Some, None, refl}
 use Rattle.std.specs.Bool.{if◌then◌else◌}
 use Rattle.std.specs.List.{list_any}
@@ -30,7 +30,7 @@ starts_before place t = nat_lt t.start place
 abbrev pub ends_by : ℕ → Token → Bool
 ends_by place t = nat_le t.end place
 
--- The tokens that start before the stretch come before the range, and those that end in it come before its end.
+-- The tokens that start before the span come before the range, and those that end in it come before its end.
 pub record IsRange (s : Span) (ts : List Token) (r : Range) : Type 0 where
   pub before : Splits (starts_before s.start) r.first ts
   pub within : Splits (ends_by s.end) r.behind ts
@@ -39,7 +39,7 @@ pub record IsRange (s : Span) (ts : List Token) (r : Range) : Type 0 where
 abbrev pub reach_of_range : Range → Option Pair
 reach_of_range r = if nat_lt r.first r.behind then Some (pair (r.first + 1) r.behind) else None
 
--- ---- the tokens that stand in one of some stretches
+-- ---- the tokens that stand in one of some spans
 
 -- `reach` says for each token how far the spans reach that begin with it; here with one more such span
 abbrev pub raised_at : ℕ → ℕ → List ℕ → List ℕ
@@ -48,10 +48,10 @@ raised_at first behind reach = set reach first (max (get_or reach first 0) behin
 abbrev pub raised_by : Range → List ℕ → List ℕ
 raised_by r reach = if nat_lt r.first r.behind then raised_at r.first r.behind reach else reach
 
--- The same with the tokens of a stretch.
+-- The same with the tokens of a span.
 pub record IsRaised (s : Span) (ts : List Token) (reach new : List ℕ) : Type 0 where
   pub range : Range
-  pub of_stretch : IsRange s ts range
+  pub of_span : IsRange s ts range
   pub is : new ≡ raised_by range reach
 
 -- whether each place, from this one on, is reached by one that begins there or before, where those before reach as far as `far`
@@ -97,12 +97,12 @@ abbrev pub words_at : List (List ℕ) → List Field → ℕ → List Token → 
 words_at stop fs place [] = []
 words_at stop fs place (t ∷ ts) = word_at stop fs place t ∷ words_at stop fs (place + 1) ts
 
--- computed examples: stretches from the words 1 and 3, of four, up to the words 2 and 3
+-- computed examples: spans from the words 1 and 3, of four, up to the words 2 and 3
 four_words : swept 0 0 (raised_at 3 4 (raised_at 1 3 (replicate 5 0))) ≡ false ∷ true ∷ true ∷ true ∷ false ∷ []
 four_words = refl
 
-a_stretch : reach_of_range (record { first = 1; behind = 3 }) ≡ Some (pair 2 3)
-a_stretch = refl
+a_span : reach_of_range (record { first = 1; behind = 3 }) ≡ Some (pair 2 3)
+a_span = refl
 
-no_stretch : reach_of_range (record { first = 3; behind = 3 }) ≡ None
-no_stretch = refl
+no_span : reach_of_range (record { first = 3; behind = 3 }) ≡ None
+no_span = refl

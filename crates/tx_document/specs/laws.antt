@@ -1,12 +1,7 @@
-pub mod Apart
-pub mod MadeAgain
-pub mod Kept
-pub mod Lengths
-pub mod Standing
 pub mod Streams
 pub mod Found
 pub mod Counts
 pub mod Instances
 pub mod Ordered
 pub mod Few
-pub mod Within
+pub mod Views

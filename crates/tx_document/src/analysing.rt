@@ -10,11 +10,12 @@ use crate::extents::{Extent, extents};
 use crate::fields::fields;
 use crate::instances::instances;
 use crate::ordering::rising;
-use crate::views::{DocView, Prefs, SectionViews, WordViews};
+use crate::views::{DocView, SectionViews, WordViews};
 use crate::words::words;
 use ct_base::Memory;
 use std::alloc::Global;
 use tx_lexer::{Token, tokens_by};
+use tx_settings::Prefs;
 use tx_tags::read_tags;
 
 /// The document that a text of at most 2^24 bytes is.
@@ -36,7 +37,7 @@ pub fn analyse(alloc: Global, prefs: &Prefs, text: &str) -> Result<DocView, Memo
     document_by(alloc, prefs, &extents, &tokens)
 }
 
-/// The document with these stretches of sections and these tokens.
+/// The document with these spans of sections and these tokens.
 fn document_by(
     alloc: Global,
     prefs: &Prefs,

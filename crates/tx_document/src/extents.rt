@@ -11,7 +11,7 @@ use std::alloc::Global;
 use std::marker::Model;
 use tx_tags::{Section, SectionKind, Span, Spans, TagView, all_spans};
 
-/// A section with the stretches of the text that its tags enclose.
+/// A section with the spans of the text that its tags enclose.
 #[derive(Drop)]
 pub(crate) struct Extent {
     pub(crate) section: Name,
@@ -47,7 +47,7 @@ impl Extent {
     }
 }
 
-/// The sections with their stretches in a text with these tags that ends at `end`. Its cost is linear in the number of tags, those
+/// The sections with their spans in a text with these tags that ends at `end`. Its cost is linear in the number of tags, those
 /// of the text and those of the sections.
 pub(crate) fn extents(
     alloc: Global,
@@ -76,7 +76,7 @@ fn tag_count(sections: &[Section]) -> usize
     count
 }
 
-/// The sections with the stretches of their tags, of which all are given by their numbers.
+/// The sections with the spans of their tags, of which all are given by their numbers.
 fn extents_by(alloc: Global, all: &[Spans], sections: &[Section]) -> Result<Vec<Extent>, Memory>
     requires { tag_count sections.now ≤ length all.now }
     ensures { IfOk result (λ v. v.items ≡ extents_by all.now 0 sections.now) }
@@ -92,7 +92,7 @@ fn extents_by(alloc: Global, all: &[Spans], sections: &[Section]) -> Result<Vec<
     Ok(found)
 }
 
-/// The section, whose first tag has this number, with its stretches.
+/// The section, whose first tag has this number, with its spans.
 fn enclosed(
     alloc: Global,
     all: &[Spans],
@@ -110,7 +110,7 @@ fn enclosed(
     })
 }
 
-/// The stretches of the tags with these names, of which the first has this number.
+/// The spans of the tags with these names, of which the first has this number.
 fn joined(alloc: Global, all: &[Spans], first: usize, names: &[Text]) -> Result<Vec<Span>, Memory>
     requires { first + length names.now ≤ length all.now }
     ensures { IfOk result (λ v. v.items ≡ joined_from all.now first names.now) }

@@ -22,7 +22,7 @@ pub(crate) struct Field {
 }
 
 /// The fields that stand in the text. Its cost is linear in the number of tokens, for each of them, and a logarithm for each of
-/// their stretches.
+/// their spans.
 pub(crate) fn fields(
     alloc: Global,
     extents: &[Extent],

@@ -65,7 +65,7 @@ fn put_zone(found: &mut Vec<SectionView>, extent: &Extent, tokens: &[Token]) -> 
     ensures { OnOk result (found.new.items ≡ found.old.items ++ zone_instances tokens.now extent.now) }
 {
     if is_zone(extent.kind()) {
-        put_stretches(found, extent.section(), extent.spans(), tokens)
+        put_spans(found, extent.section(), extent.spans(), tokens)
     } else {
         Ok(())
     }
@@ -80,7 +80,7 @@ fn is_zone(kind: SectionKind) -> bool
     }
 }
 
-fn put_stretches(
+fn put_spans(
     found: &mut Vec<SectionView>,
     section: &Name,
     spans: &[Span],
@@ -114,7 +114,7 @@ fn put_instance(
     Ok(())
 }
 
-/// The positions of the first and the last of the tokens that stand in the stretch.
+/// The positions of the first and the last of the tokens that stand in the span.
 fn reach_of(span: &Span, tokens: &[Token]) -> Option<Pair>
     requires short { length tokens.now + 1 < 2 ^ 32 }
     requires order { AreRising tokens.now }

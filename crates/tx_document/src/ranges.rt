@@ -1,4 +1,4 @@
-//! Which tokens stand in stretches of a text.
+//! Which tokens stand in spans of a text.
 
 ghost use Rattle.std.specs.Prelude.{◌≡◌, ◌≤◌, ◌<◌, ◌^◌, IfOk, length, map, replicate};
 ghost use Rattle.tx_document.specs.Documents.{is_in};
@@ -9,14 +9,14 @@ use std::alloc::Global;
 use tx_lexer::Token;
 use tx_tags::Span;
 
-/// The places of the tokens in a stretch: of the first, and behind the last. There are none where the second isn't greater.
+/// The places of the tokens in a span: of the first, and behind the last. There are none where the second isn't greater.
 #[derive(Clone, Copy, Debug)]
 pub(crate) struct Range {
     pub(crate) first: usize,
     pub(crate) behind: usize,
 }
 
-/// The tokens that stand in the stretch. Its cost is the logarithm of the number of tokens.
+/// The tokens that stand in the span. Its cost is the logarithm of the number of tokens.
 pub(crate) fn range_of(span: &Span, tokens: &[Token]) -> Range
     requires { AreRising tokens.now }
     ensures is { IsRange span.now tokens.now result }
@@ -60,8 +60,8 @@ pub(crate) fn reach_of(range: Range) -> Option<Pair>
     }
 }
 
-/// Whether each token stands in one of the stretches. Its cost is linear in the number of tokens, and a logarithm for each
-/// stretch.
+/// Whether each token stands in one of the spans. Its cost is linear in the number of tokens, and a logarithm for each
+/// span.
 pub(crate) fn marks(alloc: Global, spans: &[Span], tokens: &[Token]) -> Result<Vec<bool>, Memory>
     requires { AreRising tokens.now }
     ensures { IfOk result (λ v. v.items ≡ map (λ t. is_in t spans.now) tokens.now) }
@@ -82,7 +82,7 @@ fn none_reached(alloc: Global, count: usize) -> Result<Vec<usize>, Memory>
     Ok(reach)
 }
 
-/// Notes how far the stretch reaches from its first token on.
+/// Notes how far the span reaches from its first token on.
 fn note(reach: &mut Vec<usize>, span: &Span, tokens: &[Token])
     requires order { AreRising tokens.now }
     requires long { length reach.old.items ≡ length tokens.now }

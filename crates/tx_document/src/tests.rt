@@ -2,12 +2,13 @@
 
 ghost use Rattle.std.specs.Prelude.{◌≤◌, ◌^◌, length};
 
-use crate::{DocView, Entry, Prefs, SectionView, WordView, analyse};
+use crate::{DocView, Entry, SectionView, WordView, analyse};
 use ct_base::{Memory, Name, Text};
 use std::alloc::Global;
 use std::str::from_utf8;
 use std::test::Fail;
 use tx_lexer::LexerOptions;
+use tx_settings::Prefs;
 use tx_stop::StopKeys;
 use tx_tags::{Group, SectionKind};
 

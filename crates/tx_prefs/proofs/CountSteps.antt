@@ -17,12 +17,12 @@ use Rattle.ct_entry.specs.laws.Lists.{sum_by-within}
 use Rattle.ct_entry.specs.laws.MapEntries.{get_in, in_get, entries_apart}
 use Rattle.ct_entry.specs.laws.Owners.{HasNoPart, key_order_total, get-in_key_order, owners_listed}
 use Rattle.ct_entry.specs.laws.Rows.{keys_always}
-use Rattle.tx_document.specs.PrefsBytes.{settings_bytes, words_bytes, group_bytes, is_named_group}
+use Rattle.tx_settings.specs.PrefsBytes.{are_lexer_settings, group_bytes, is_named_group, settings_bytes, words_bytes}
 use Rattle.tx_prefs.specs.declared.kinds.PrefKind.{PrefKind}
 use Rattle.tx_prefs.specs.declared.kinds.PrefKind.TheVariants.{Lexer, Stoplist, SectionGroup}
 use Rattle.tx_prefs.specs.Preferences.{Preferences}
 use Rattle.tx_prefs.specs.Spelling.{NamesStand, PreferencesStand, entry_kind}
-use Rattle.tx_prefs.specs.Rules.{AreNamed, are_lexer_settings, are_stopwords}
+use Rattle.tx_prefs.specs.Rules.{AreNamed, are_stopwords}
 use Rattle.tx_prefs.specs.Sees.{HoldsPreferences, has_named, named_count}
 
 -- ---- whether there is one

@@ -4,3 +4,4 @@ pub mod CopySteps
 pub mod WordSteps
 pub mod RequestSteps
 pub mod UnknownSteps
+mod OtherParts

@@ -1,8 +1,8 @@
 -- What stands at the beginning of bytes and ends where they end is what they spell.
 use Rattle.std.proofs.Common.{◌≡◌, ℕ, Bool, true, List, [], ◌∷◌, ◌++◌, length, drop, Option, Some, None, refl, sym, ap, ◌∙◌, arith, append-nil, length-drop}
 use Rattle.std.specs.Option.{option_map}
-use Rattle.tx_document.specs.PrefsBytes.{NoneStands, Stands}
-use Rattle.tx_document.specs.PrefsPromises.{NoneBegins}
+use Rattle.tx_settings.specs.PrefsBytes.{NoneStands, Stands}
+use Rattle.tx_settings.specs.PrefsPromises.{NoneBegins}
 use Rattle.tx_prefs.specs.Readings.{Spells}
 
 no_more : (bytes : List ℕ) → drop (length bytes) bytes ≡ []

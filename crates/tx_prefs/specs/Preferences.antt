@@ -1,13 +1,13 @@
 -- What is defined for indexes: lexer preferences, stoplists and section groups, by their names. Together they are called preferences here.
-use Rattle.std.specs.Prelude.{ℕ, ◌≡◌, ◌==◌, nat_lt, List, [], ◌∷◌, Option, Some, None, codes, refl}
+use Rattle.std.specs.Prelude.{ℕ, ◌≡◌, ◌==◌, nat_lt, List, [], ◌∷◌, ◌++◌, Option, Some, None, codes, refl}
 use Rattle.std.specs.Bool.{if◌then◌else◌}
 use Rattle.std.specs.FinMap.{insert, empty}
 use Rattle.ct_entry.specs.Maps.{Names}
 use Rattle.tx_tags.specs.Groups.{SectionGroup}
-use Rattle.tx_document.specs.declared.attributes.Attribute.TheVariants.{MixedCase, Numjoin, Skipjoins}
-use Rattle.tx_document.specs.declared.attributes.Setting.{Setting}
-use Rattle.tx_document.specs.Attributes.{setting}
-use Rattle.tx_document.specs.PrefsBytes.{attribute_place}
+use Rattle.tx_settings.specs.declared.attributes.Attribute.TheVariants.{MixedCase, Numjoin, Skipjoins}
+use Rattle.tx_settings.specs.declared.attributes.Setting.{Setting}
+use Rattle.tx_settings.specs.Attributes.{setting}
+use Rattle.tx_settings.specs.PrefsBytes.{attribute_place}
 
 -- lexer preferences by their settings, stoplists by their words in the order in which they were added, and section groups
 pub record Preferences : Type 0 where
@@ -42,6 +42,10 @@ abbrev pub with_waiting : Option Setting → List Setting → List Setting
 with_waiting None rest = rest
 with_waiting (Some s) rest = with_setting s rest
 
+-- One setting was put behind others, and what waits now comes, before any rest, to what waited before with the setting.
+abbrev pub PutsNext : List Setting → List Setting → Option Setting → Setting → Option Setting → Type 0
+PutsNext before after waiting next left = (rest : List Setting) → after ++ with_waiting left rest ≡ before ++ with_waiting waiting (next ∷ rest)
+
 -- computed examples: an attribute that is set twice has its last value
 
 set_again : with_setting (setting Skipjoins (codes "_")) (setting MixedCase (codes "YES") ∷ setting Skipjoins (codes "-") ∷ []) ≡ setting MixedCase (codes "YES") ∷ setting Skipjoins (codes "_") ∷ []
@@ -49,3 +53,7 @@ set_again = refl
 
 in_between : with_setting (setting Numjoin []) (setting MixedCase (codes "YES") ∷ setting Skipjoins (codes "-") ∷ []) ≡ setting MixedCase (codes "YES") ∷ setting Numjoin [] ∷ setting Skipjoins (codes "-") ∷ []
 in_between = refl
+
+-- a flag is put, and the set waits on, since its attribute comes later
+flag_put : PutsNext [] (setting MixedCase (codes "YES") ∷ []) (Some (setting Skipjoins (codes "-"))) (setting MixedCase (codes "YES")) (Some (setting Skipjoins (codes "-")))
+flag_put rest = refl

@@ -1,5 +1,5 @@
 -- What the functions of `src/laws.rt` promise of all preferences.
-use Rattle.std.specs.Prelude.{ℕ, ◌≡◌, ◌<◌, ◌≤◌, Bool, true, false, ◌||◌, nat_lt, is_some, List, [], ◌∷◌, ◌++◌, length, Option, Some, codes, refl}
+use Rattle.std.specs.Prelude.{ℕ, ◌≡◌, ◌<◌, ◌≤◌, Bool, true, false, ◌||◌, nat_lt, is_some, List, [], ◌∷◌, ◌++◌, length, Option, Some, codes, refl, ◌==◌, None, bytes_eq}
 use Rattle.std.specs.Bool.{if◌then◌else◌}
 use Rattle.std.specs.Str.{is_utf8}
 use Rattle.ct_base.specs.Names.{IsName}
@@ -14,13 +14,13 @@ use Rattle.tx_tags.specs.declared.groups.SectionKind.{SectionKind}
 use Rattle.tx_tags.specs.declared.groups.SectionKind.TheVariants.{Zone, Field}
 use Rattle.tx_tags.specs.declared.groups.Section.{Section}
 use Rattle.tx_tags.specs.Groups.{SectionGroup, field_count, is_among, is_reserved, is_tag, is_zone, kind_of, section_limit, tag_names, tags_limit, with_tag, zone_count, zones}
-use Rattle.tx_document.specs.declared.attributes.Attribute.{Attribute}
-use Rattle.tx_document.specs.declared.attributes.Setting.{Setting}
-use Rattle.tx_document.specs.Attributes.{setting, takes_value}
-use Rattle.tx_document.specs.PrefsBytes.{are_settings, has_text, is_named_group}
+use Rattle.tx_settings.specs.declared.attributes.Attribute.{Attribute}
+use Rattle.tx_settings.specs.declared.attributes.Setting.{Setting}
+use Rattle.tx_settings.specs.Attributes.{setting, takes_value}
+use Rattle.tx_settings.specs.PrefsBytes.{are_lexer_settings, are_settings, attribute_place, has_text, is_named_group}
 use Rattle.tx_prefs.specs.Preferences.{Preferences, with_group, with_lexer, with_setting, with_stoplist}
 use Rattle.tx_prefs.specs.Spelling.{PreferencesStand, group_changes, lexer_changes, stoplist_changes}
-use Rattle.tx_prefs.specs.Rules.{ArePreferences, are_stopwords, are_lexer_settings, is_stopword}
+use Rattle.tx_prefs.specs.Rules.{ArePreferences, are_stopwords, is_stopword}
 use Rattle.tx_prefs.specs.Shapes.{HasPrefValue}
 use Rattle.tx_prefs.specs.laws.Changes.{is_of_preferences}
 
@@ -79,12 +79,43 @@ GroupsStay = (g : SectionGroup) (name : List ℕ) (kind : SectionKind) (tag : Li
 abbrev pub FlagsStay : Type 0
 FlagsStay = (g : SectionGroup) (sentence paragraph : Bool) → is_named_group g ≡ true → is_named_group (record g { sentence = sentence; paragraph = paragraph }) ≡ true
 
+-- ---- what becomes of each attribute, and of each section
+
+-- the value that an attribute has among settings
+abbrev pub value_of : Attribute → List Setting → Option (List ℕ)
+value_of a [] = None
+value_of a (s ∷ ss) = if attribute_place s.attribute == attribute_place a then Some s.value else value_of a ss
+
+-- an attribute that is set has the new value, and each other one the value that it had
+abbrev pub TheLastValueCounts : Type 0
+TheLastValueCounts = (s : Setting) (ss : List Setting) (a : Attribute) → value_of a (with_setting s ss) ≡ (if attribute_place s.attribute == attribute_place a then Some s.value else value_of a ss)
+
+-- the tags of the section of a name; none where there is no such section
+abbrev pub tags_of : List ℕ → List Section → List (List ℕ)
+tags_of name [] = []
+tags_of name (s ∷ ss) = if bytes_eq s.name name then s.tags else tags_of name ss
+
+-- the section has the tag behind those that it had, and each other one has its own
+abbrev pub TagsJoinTheirSection : Type 0
+TagsJoinTheirSection = (name : List ℕ) (kind : SectionKind) (tag : List ℕ) (ss : List Section) (other : List ℕ) → tags_of other (with_tag name kind tag ss) ≡ (if bytes_eq name other then tags_of other ss ++ tag ∷ [] else tags_of other ss)
+
+-- a section that is there keeps its kind, and a new one has this one
+abbrev pub kind_with : List ℕ → SectionKind → List ℕ → Option SectionKind → Option SectionKind
+kind_with name kind other (Some k) = Some k
+kind_with name kind other None = if bytes_eq name other then Some kind else None
+
+abbrev pub SectionsKeepTheirKind : Type 0
+SectionsKeepTheirKind = (name : List ℕ) (kind : SectionKind) (tag : List ℕ) (ss : List Section) (other : List ℕ) → kind_of other (with_tag name kind tag ss) ≡ kind_with name kind other (kind_of other ss)
+
 -- computed examples: the zones are two, and the field is there already
 two_zones : kind_count Zone zones.sections ≡ 2
 two_zones = refl
 
 the_field : has_room (codes "t") Field zones.sections ≡ true
 the_field = refl
+
+its_tags : tags_of (codes "q") (with_tag (codes "q") Zone (codes "h1") zones.sections) ≡ codes "q" ∷ codes "h1" ∷ []
+its_tags = refl
 
 its_entry : (f : Key → Option (List ℕ)) → view (stoplist_changes (codes "sl") (codes "is" ∷ [])) f (key kind.Stoplists (codes "sl") []) ≡ Some (1 ∷ 2 ∷ codes "is")
 unfolding varint

@@ -3,7 +3,7 @@ use Rattle.std.specs.Prelude.{ℕ, ◌≡◌, Bool, true, List, [], ◌∷◌, O
 use Rattle.std.specs.Str.{chars, is_utf8}
 use lib.Utf8.{encode}
 use Rattle.ct_bytes.specs.Varints.{varint}
-use Rattle.tx_document.specs.PrefsBytes.{are_words, words_bytes}
+use Rattle.tx_settings.specs.PrefsBytes.{are_words, words_bytes}
 
 -- the entry spells this, which keeps the rule; or nothing that keeps it is spelled
 abbrev pub Spells : {X : Type 0} → (X → Bool) → (X → List ℕ) → Option (List ℕ) → Option X → Type 0

@@ -1,18 +1,18 @@
 -- How much room preferences, stoplists and section groups take: what their entries weigh.
-use Rattle.std.specs.Prelude.{ℕ, ◌≡◌, ◌+◌, sum_by, List, [], ◌∷◌, ◌++◌, map, replicate, codes, refl}
+use Rattle.std.specs.Prelude.{ℕ, ◌≡◌, sum_by, List, [], ◌∷◌, ◌++◌, map, replicate, codes, refl}
 use Rattle.std.proofs.Common.{ap, ◌∙◌}
 use Rattle.std.specs.Ordering.{nat_cmp}
 use Rattle.std.specs.Cmp.Lexicographic.{slice_cmp}
 use Rattle.std.specs.FinMap.{entries}
 use Rattle.ct_entry.specs.laws.Maps.{entries-none}
 use Rattle.tx_tags.specs.Groups.{SectionGroup}
-use Rattle.tx_document.specs.declared.attributes.Setting.{Setting}
+use Rattle.tx_settings.specs.declared.attributes.Setting.{Setting}
 use Rattle.ct_bytes.specs.Varints.{varint}
 use Rattle.ct_keep.specs.Content.{entry_weight}
 use Rattle.ct_entry.specs.declared.kinds.Kind.{Kind}
 use Rattle.ct_entry.specs.declared.kinds.Kind.TheVariants as kind
 use Rattle.ct_entry.specs.Keys.{key, bytes}
-use Rattle.tx_document.specs.PrefsBytes.{settings_bytes, words_bytes, group_bytes}
+use Rattle.tx_settings.specs.PrefsBytes.{settings_bytes, words_bytes, group_bytes}
 use Rattle.tx_prefs.specs.Preferences.{Preferences, no_preferences}
 
 -- an entry by its key and value

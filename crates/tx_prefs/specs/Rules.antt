@@ -10,23 +10,15 @@ use Rattle.ct_base.specs.Names.{IsName}
 use Rattle.ct_entry.specs.Maps.{Names}
 use Rattle.tx_stop.specs.StopKeys.{stop_limit}
 use Rattle.tx_tags.specs.Groups.{are_distinct}
-use Rattle.tx_document.specs.declared.attributes.Attribute.TheVariants.{MixedCase, Skipjoins}
-use Rattle.tx_document.specs.declared.attributes.Setting.{Setting}
-use Rattle.tx_document.specs.Attributes.{setting, takes_value}
-use Rattle.tx_document.specs.PrefsBytes.{are_settings, is_named_group}
+use Rattle.tx_settings.specs.declared.attributes.Attribute.TheVariants.{MixedCase, Skipjoins}
+use Rattle.tx_settings.specs.Attributes.{setting}
+use Rattle.tx_settings.specs.PrefsBytes.{are_lexer_settings, is_named_group}
+use Rattle.tx_settings.specs.PrefsPromises.{stopword_limit}
 use Rattle.tx_prefs.specs.Preferences.{Preferences}
 
 -- how many preferences, stoplists and groups there are at most, each for itself
 abbrev pub preference_limit : ℕ
 preference_limit = 256
-
--- the settings of a preference: attributes in their order, each with a value that it takes
-abbrev pub are_lexer_settings : List Setting → Bool
-are_lexer_settings ss = are_settings ss && list_all (λ (s : Setting). takes_value s.attribute s.value) ss
-
--- how many bytes a stopword has at most
-abbrev pub stopword_limit : ℕ
-stopword_limit = 64
 
 abbrev pub is_stopword : List ℕ → Bool
 is_stopword word = nat_le 1 (length word) && (nat_le (length word) stopword_limit && is_utf8 word)

@@ -7,8 +7,8 @@ use Rattle.ct_entry.specs.declared.kinds.Kind.{Kind}
 use Rattle.ct_entry.specs.declared.kinds.Kind.TheVariants.{Preferences, Stoplists, SectionGroups, Tables}
 use Rattle.ct_entry.specs.Keys.{Key, key, IsPart}
 use Rattle.tx_tags.specs.Groups.{SectionGroup}
-use Rattle.tx_document.specs.declared.attributes.Setting.{Setting}
-use Rattle.tx_document.specs.PrefsBytes.{settings_bytes, words_bytes, group_bytes, are_settings, are_words, is_named_group}
+use Rattle.tx_settings.specs.declared.attributes.Setting.{Setting}
+use Rattle.tx_settings.specs.PrefsBytes.{settings_bytes, words_bytes, group_bytes, are_settings, are_words, is_named_group}
 
 -- the values that keys of a kind have; those of other kinds aren't of preferences
 abbrev pub IsPrefValue : Kind → List ℕ → Type 0

@@ -1,18 +1,19 @@
 -- The entries that spell preferences, stoplists and section groups: one for each, under its name.
-use Rattle.std.specs.Prelude.{ℕ, ◌≡◌, true, List, [], ◌∷◌, ◌++◌, Option, Some, codes, refl}
+use Rattle.std.specs.Prelude.{ℕ, ◌≡◌, ◌<◌, true, List, [], ◌∷◌, ◌++◌, length, Option, Some, MatchOption, codes, refl}
 use Rattle.std.specs.Option.{option_map}
 use Rattle.std.specs.FinMap.{get}
 use Rattle.ct_bytes.specs.Varints.{varint}
+use Rattle.ct_keep.specs.Content.{value_limit}
 use Rattle.ct_entry.specs.declared.kinds.Kind.{Kind}
 use Rattle.ct_entry.specs.declared.kinds.Kind.TheVariants as kind
 use Rattle.ct_entry.specs.Keys.{Key, key}
 use Rattle.ct_entry.specs.Changes.{put, spell}
 use Rattle.ct_entry.specs.Maps.{Names}
 use Rattle.tx_tags.specs.Groups.{SectionGroup, no_sections}
-use Rattle.tx_document.specs.declared.attributes.Attribute.TheVariants.{Skipjoins}
-use Rattle.tx_document.specs.declared.attributes.Setting.{Setting}
-use Rattle.tx_document.specs.Attributes.{setting}
-use Rattle.tx_document.specs.PrefsBytes.{settings_bytes, words_bytes, group_bytes}
+use Rattle.tx_settings.specs.declared.attributes.Attribute.TheVariants.{Skipjoins}
+use Rattle.tx_settings.specs.declared.attributes.Setting.{Setting}
+use Rattle.tx_settings.specs.Attributes.{setting}
+use Rattle.tx_settings.specs.PrefsBytes.{settings_bytes, words_bytes, group_bytes}
 use Rattle.tx_prefs.specs.declared.kinds.PrefKind.{PrefKind}
 use Rattle.tx_prefs.specs.declared.kinds.PrefKind.TheVariants.{Lexer, Stoplist, SectionGroup as Group}
 use Rattle.tx_prefs.specs.Preferences.{Preferences}
@@ -44,10 +45,18 @@ stoplist_changes name words = put (key kind.Stoplists name []) (words_bytes word
 abbrev pub group_changes : List ℕ → SectionGroup → List (Key × Option (List ℕ))
 group_changes name group = put (key kind.SectionGroups name []) (group_bytes group) ∷ []
 
+-- The changes as a batch, or None where the value that they put would be longer than a value may be.
+abbrev pub MakesBatch : List ℕ → List (Key × Option (List ℕ)) → Option (List (List ℕ × Option (List ℕ))) → Type 0
+MakesBatch value changes found = MatchOption found (value_limit < length value) (λ batch. batch ≡ spell changes)
+
 -- computed examples
 hyphens_left_out : spell (lexer_changes (codes "lx") (setting Skipjoins (codes "-") ∷ [])) ≡ (0x10 ∷ 2 ∷ codes "lx", Some (1 ∷ 9 ∷ codes "skipjoins" ++ (1 ∷ codes "-"))) ∷ []
 unfolding varint
 hyphens_left_out = refl
+
+no_settings : MakesBatch (settings_bytes []) (lexer_changes (codes "lx") []) (Some ((0x10 ∷ 2 ∷ codes "lx", Some (0 ∷ [])) ∷ []))
+unfolding varint
+no_settings = refl
 
 two_stopwords : spell (stoplist_changes (codes "sl") (codes "Is" ∷ codes "a" ∷ [])) ≡ (0x11 ∷ 2 ∷ codes "sl", Some (2 ∷ 2 ∷ codes "Is" ++ (1 ∷ codes "a"))) ∷ []
 unfolding varint

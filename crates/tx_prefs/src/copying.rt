@@ -1,12 +1,12 @@
 //! The preferences that an index copies.
 #![tactic(auto, using(ct_keep::specs::Composing::reads_on, ct_keep::specs::Composing::reads_short))]
 
-ghost use Rattle.std.specs.Prelude.{◌≡◌, ◌<◌, [], IfOk, MatchOption, length};
+ghost use Rattle.std.specs.Prelude.{◌≡◌, true, [], IfOk, IfSome};
 ghost use Rattle.std.specs.Option.{option_map};
 ghost use Rattle.ct_keep.specs.KeeperViews.{OnlyReads};
-ghost use Rattle.tx_stop.specs.StopKeys.{stop_limit};
 ghost use Rattle.tx_tags.specs.Groups.{no_sections};
-ghost use Rattle.tx_prefs.specs.Copies.{copied, meant, prefs_of};
+ghost use Rattle.tx_settings.specs.Attributes.{can_be_set};
+ghost use Rattle.tx_prefs.specs.Copies.{MakesPrefs, copied, meant};
 ghost use Rattle.tx_prefs.specs.Sees.{SeesPreferences};
 
 use crate::lookups::{lexer_settings, section_group, stoplist_words};
@@ -14,16 +14,14 @@ use crate::parameters::Parameters;
 use ct_base::{Memory, Name, Text};
 use ct_keep::{KeepFault, Keeper};
 use std::alloc::Global;
-use tx_document::{Prefs, Setting, options_of};
-use tx_stop::StopKeys;
+use tx_settings::{Prefs, Setting, are_taken, options_of};
+use tx_stop::{STOP_LIMIT, StopKeys};
 use tx_tags::Group;
 
-/// How many words a stoplist has at most.
-const STOP_LIMIT: usize = 4096;
-
 /// The preferences that the names mean now: the options of the lexer, the keys of the stopwords by its flags, and the group. None
-/// where a name is not defined, or, in a store that no state has, where its entry can't be read or has more than 4096 words. It
-/// reads at most three entries; beside this it costs what `options_of` and `StopKeys::new` cost. It never answers Full.
+/// where a name is not defined, or, in a store that no state has, where its entry can't be read, or has a value that its attribute
+/// doesn't take or more than 4096 words; so the options can be set in any store. It reads at most three entries; beside this it
+/// costs what `options_of`, `StopKeys::new` and `read_group` cost. It never answers Full.
 pub fn copy<K: Keeper>(
     alloc: Global,
     keeper: &mut K,
@@ -31,6 +29,7 @@ pub fn copy<K: Keeper>(
 ) -> Result<Option<Prefs>, KeepFault>
     requires { (K.view keeper.old).ready }
     ensures copied { SeesPreferences K.view keeper.old result (λ ps found. found ≡ copied ps parameters.now) }
+    ensures can_be_set { IfOk result (λ found. IfSome found (λ prefs. can_be_set prefs.lexer ≡ true)) }
     ensures reads { OnlyReads K.view keeper.old keeper.new result }
 {
     let Some(settings) = settings_meant(alloc, keeper, &parameters.lexer)? else {
@@ -94,16 +93,21 @@ fn group_meant<K: Keeper>(
     }
 }
 
-/// The preferences of these settings, words and group. None where there are more words than a stoplist has.
+/// The preferences of these settings, words and group. None where a value isn't one of its attribute, or there are more words than
+/// a stoplist has.
 fn prefs_of(
     alloc: Global,
     settings: &[Setting],
     words: &[Text],
     group: Group,
 ) -> Result<Option<Prefs>, Memory>
-    ensures { IfOk result (λ found. MatchOption found (stop_limit < length words.now) (λ prefs. prefs ≡ prefs_of settings.now words.now group)) }
+    ensures prefs { IfOk result (MakesPrefs settings.now words.now group) }
+    ensures can_be_set { IfOk result (λ found. IfSome found (λ prefs. can_be_set prefs.lexer ≡ true)) }
 {
     if words.len() > STOP_LIMIT {
+        return Ok(None);
+    }
+    if !are_taken(settings) {
         return Ok(None);
     }
     let lexer = options_of(alloc, settings)?;

@@ -1,7 +1,7 @@
 //! What holds of all preferences. Each function here only states laws, which its contract proves.
 
 ghost use Rattle.ct_entry.specs.declared.kinds.Kind.TheVariants as kind;
-ghost use Rattle.tx_prefs.specs.Promises.{EntriesAreWell, FlagsStay, GroupsStand, GroupsStay, LexersStand, OnePreferences, OthersLeaveThem, SettingsStayInOrder, SettingsStayTaken, StoplistsStand, StopwordsStay};
+ghost use Rattle.tx_prefs.specs.Promises.{EntriesAreWell, FlagsStay, GroupsStand, GroupsStay, LexersStand, OnePreferences, OthersLeaveThem, SectionsKeepTheirKind, SettingsStayInOrder, SettingsStayTaken, StoplistsStand, StopwordsStay, TagsJoinTheirSection, TheLastValueCounts};
 
 /// Where entries spell preferences, the changes of a lexer preference, a stoplist or a section group make them spell the
 /// preferences with it; and changes of entries of other kinds leave them.
@@ -28,4 +28,12 @@ pub fn rules_stay()
     ensures stopwords { StopwordsStay }
     ensures groups { GroupsStay }
     ensures flags { FlagsStay }
+{}
+
+/// An attribute that is set has its last value, and a tag that is added stands behind the others of its section; what else there is
+/// stays as it is.
+pub fn others_stay()
+    ensures values { TheLastValueCounts }
+    ensures tags { TagsJoinTheirSection }
+    ensures kinds { SectionsKeepTheirKind }
 {}

@@ -16,10 +16,10 @@ mod tests;
 mod unknown_names;
 mod words;
 
-pub use changes::{put_group, put_lexer, put_stoplist};
+pub use changes::{group_changes, lexer_changes, stoplist_changes};
 pub use copying::copy;
 pub use kinds::PrefKind;
-pub use laws::{changes_stand, entries_are_exact, rules_stay};
+pub use laws::{changes_stand, entries_are_exact, others_stay, rules_stay};
 pub use lookups::{has_named, is_full, lexer_settings, section_group, stoplist_words};
 pub use parameters::Parameters;
 pub use requests::{Request, parameters_of, read_requests};

@@ -5,7 +5,7 @@ ghost use Rattle.std.specs.Prelude.{◌≡◌, true, IfOk, IfSome, length, nat_l
 ghost use Rattle.std.specs.Option.{option_map};
 ghost use Rattle.std.specs.FinMap.{get};
 ghost use Rattle.ct_keep.specs.KeeperViews.{OnlyReads};
-ghost use Rattle.tx_document.specs.PrefsBytes.{are_settings, are_words};
+ghost use Rattle.tx_settings.specs.PrefsBytes.{are_settings, are_words};
 ghost use Rattle.tx_prefs.specs.Rules.{preference_limit};
 ghost use Rattle.tx_prefs.specs.Sees.{SeesPreferences, has_named as is_named, is_full as is_full_of};
 
@@ -15,7 +15,7 @@ use ct_base::{Name, Text};
 use ct_entry::{Kind, fetch_entry, has_entry, owners};
 use ct_keep::{KeepFault, Keeper};
 use std::alloc::Global;
-use tx_document::Setting;
+use tx_settings::Setting;
 use tx_tags::Group;
 
 /// How many preferences, stoplists and section groups there are at most, each for itself.
@@ -96,7 +96,7 @@ fn are_most(names: &[Name]) -> bool
     names.len() >= PREFERENCE_LIMIT
 }
 
-/// Whether there are as many of this kind as there may be, which is 256. It reads the keys of all of the kind. It never answers
+/// Whether there are as many of this kind as there may be, which is 256. It reads all entries of the kind whole. It never answers
 /// Full.
 pub fn is_full<K: Keeper>(alloc: Global, keeper: &mut K, kind: PrefKind) -> Result<bool, KeepFault>
     requires { (K.view keeper.old).ready }

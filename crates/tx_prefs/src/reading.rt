@@ -2,12 +2,12 @@
 
 ghost use Rattle.std.specs.Prelude.{IfOk, Some};
 ghost use Rattle.std.specs.Option.{option_map};
-ghost use Rattle.tx_document.specs.PrefsBytes.{are_settings, are_words, group_bytes, is_named_group, settings_bytes, words_bytes};
+ghost use Rattle.tx_settings.specs.PrefsBytes.{are_settings, are_words, group_bytes, is_named_group, settings_bytes, words_bytes};
 ghost use Rattle.tx_prefs.specs.Readings.{Spells};
 
 use ct_base::{Memory, Text};
 use std::alloc::Global;
-use tx_document::{Setting, read_group, read_settings, read_words};
+use tx_settings::{Setting, read_group, read_settings, read_words};
 use tx_tags::Group;
 
 /// The settings that the bytes spell; None where they spell none.

@@ -13,7 +13,7 @@ use crate::words::words_of;
 use ct_base::{Memory, Name, NameFault, Text};
 use std::alloc::Global;
 
-/// What is asked for: of a kind the one of this name, or the default where there is no name.
+/// One request of PARAMETERS: of a kind the one of this name, or the default where there is no name.
 #[derive(Debug, Drop)]
 pub struct Request {
     pub kind: PrefKind,

@@ -1,15 +1,13 @@
 //! Settings of lexer preferences, in the order of their attributes.
 
-ghost use Rattle.std.specs.Prelude.{◌≡◌, ◌++◌, ◌∷◌, true, IfOk, List};
-ghost use Rattle.tx_document.specs.declared.attributes.Setting.{Setting as SettingValue};
-ghost use Rattle.tx_document.specs.Attributes.{takes_value};
-ghost use Rattle.tx_document.specs.PrefsBytes.{are_settings, attribute_place, is_short};
-ghost use Rattle.tx_prefs.specs.Preferences.{with_setting, with_waiting};
-ghost use Rattle.tx_prefs.specs.Rules.{are_lexer_settings};
+ghost use Rattle.std.specs.Prelude.{◌≡◌, true, IfOk};
+ghost use Rattle.tx_settings.specs.Attributes.{is_taken};
+ghost use Rattle.tx_settings.specs.PrefsBytes.{are_lexer_settings, are_settings, is_short};
+ghost use Rattle.tx_prefs.specs.Preferences.{PutsNext, with_setting};
 
 use ct_base::Memory;
 use std::alloc::Global;
-use tx_document::{Attribute, Setting};
+use tx_settings::Setting;
 
 /// The settings with this one: in the order of attributes, and in place of the value that its attribute had. Its cost is linear in
 /// the number of settings.
@@ -20,7 +18,7 @@ pub fn with_setting(
 ) -> Result<Vec<Setting>, Memory>
     ensures setting { IfOk result (λ v. v.items ≡ with_setting setting settings.items) }
     ensures kept { is_short setting.value ≡ true → are_settings settings.items ≡ true → IfOk result (λ v. are_settings v.items ≡ true) }
-    ensures taken { takes_value setting.attribute setting.value ≡ true → are_lexer_settings settings.items ≡ true → IfOk result (λ v. are_lexer_settings v.items ≡ true) }
+    ensures taken { is_taken setting ≡ true → are_lexer_settings settings.items ≡ true → IfOk result (λ v. are_lexer_settings v.items ≡ true) }
 {
     let _utf8 = setting.value.as_str();
     merged(alloc, settings, setting)
@@ -47,14 +45,14 @@ fn put_next(
     waiting: Option<Setting>,
     next: Setting,
 ) -> Result<Option<Setting>, Memory>
-    ensures { IfOk result (λ left. (rest : List SettingValue) → more.new.items ++ with_waiting left rest ≡ more.old.items ++ with_waiting waiting (next ∷ rest)) }
+    ensures { IfOk result (PutsNext more.old.items more.new.items waiting next) }
 {
     let Some(setting) = waiting else {
         more.push(next)?;
         return Ok(None);
     };
-    let place = attribute_place(setting.attribute);
-    let next_place = attribute_place(next.attribute);
+    let place = setting.attribute.place();
+    let next_place = next.attribute.place();
     if next_place < place {
         more.push(next)?;
         return Ok(Some(setting));
@@ -64,23 +62,4 @@ fn put_next(
         more.push(next)?;
     }
     Ok(None)
-}
-
-/// The place of an attribute among all, in the order of their names.
-fn attribute_place(attribute: Attribute) -> usize
-    ensures { result ≡ attribute_place attribute }
-{
-    match attribute {
-        Attribute::BaseLetter => 0,
-        Attribute::Endjoins => 1,
-        Attribute::IndexText => 2,
-        Attribute::IndexThemes => 3,
-        Attribute::MixedCase => 4,
-        Attribute::Numgroup => 5,
-        Attribute::Numjoin => 6,
-        Attribute::Printjoins => 7,
-        Attribute::Punctuations => 8,
-        Attribute::Skipjoins => 9,
-        Attribute::Startjoins => 10,
-    }
 }

@@ -5,8 +5,8 @@ ghost use Rattle.ct_keep.specs.SeenChanges.{change_of};
 ghost use Rattle.ct_keep.specs.Changes.{AnyEntry, AreWell};
 
 use crate::{
-    Parameters, PrefKind, Request, copy, has_named, is_full, is_pref_shape, lexer_settings,
-    parameters_of, put_group, put_lexer, put_stoplist, read_requests, section_group,
+    Parameters, PrefKind, Request, copy, group_changes, has_named, is_full, is_pref_shape,
+    lexer_changes, lexer_settings, parameters_of, read_requests, section_group, stoplist_changes,
     stoplist_words, unknown_request, with_setting,
 };
 use ct_base::{Memory, Name, Text};
@@ -14,7 +14,7 @@ use ct_entry::Kind;
 use ct_keep::{Batch, Change, KeepFault, Keeper, MemKeeper};
 use std::alloc::Global;
 use std::test::Fail;
-use tx_document::{Attribute, Setting, read_group, read_settings, read_words};
+use tx_settings::{Attribute, Setting, read_group, read_settings, read_words};
 use tx_tags::Section;
 
 /// Whether a keeper may hold what the change puts.
@@ -57,7 +57,7 @@ fn named(alloc: Global, text: &str) -> Result<Name, Memory> {
 /// The change by which the lexer preference has the settings that the bytes spell.
 fn lexer_change(alloc: Global, name: &Name, bytes: &[u8]) -> Result<Option<Batch>, Memory> {
     match read_settings(alloc, bytes, 0)? {
-        Some((settings, _)) => put_lexer(alloc, name, &settings),
+        Some((settings, _)) => lexer_changes(alloc, name, &settings),
         None => Ok(None),
     }
 }
@@ -65,7 +65,7 @@ fn lexer_change(alloc: Global, name: &Name, bytes: &[u8]) -> Result<Option<Batch
 /// The change by which the stoplist has the words that the bytes spell.
 fn stoplist_change(alloc: Global, name: &Name, bytes: &[u8]) -> Result<Option<Batch>, Memory> {
     match read_words(alloc, bytes, 0)? {
-        Some((words, _)) => put_stoplist(alloc, name, &words),
+        Some((words, _)) => stoplist_changes(alloc, name, &words),
         None => Ok(None),
     }
 }
@@ -73,7 +73,7 @@ fn stoplist_change(alloc: Global, name: &Name, bytes: &[u8]) -> Result<Option<Ba
 /// The change by which the section group is the one that the bytes spell.
 fn group_change(alloc: Global, name: &Name, bytes: &[u8]) -> Result<Option<Batch>, Memory> {
     match read_group(alloc, bytes, 0)? {
-        Some((group, _)) => Ok(Some(put_group(alloc, name, &group)?)),
+        Some((group, _)) => Ok(Some(group_changes(alloc, name, &group)?)),
         None => Ok(None),
     }
 }

@@ -1,2 +1,3 @@
 pub mod RisingKeys
 pub mod SearchedKeys
+pub mod KeysOfWords

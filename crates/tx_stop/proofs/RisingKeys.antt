@@ -19,7 +19,7 @@ abbrev pub lt : List ℕ → List ℕ → Bool
 lt k l = is_lt (slice_cmp nat_cmp k l)
 
 -- the key before the first that isn't less
-abbrev put : List ℕ → List (List ℕ) → List (List ℕ)
+abbrev pub put : List ℕ → List (List ℕ) → List (List ℕ)
 put key [] = key ∷ []
 put key (k ∷ ks) = if lt k key then k ∷ put key ks else key ∷ k ∷ ks
 
@@ -27,7 +27,7 @@ put-step : (b : Bool) (key k : List ℕ) (ks : List (List ℕ)) → insert ks (p
 put-step true key k ks same = ap (λ i. insert (k ∷ ks) i key) (add-one (place_of key ks)) ∙ ap (λ (l : List (List ℕ)). k ∷ l) same
 put-step false key k ks same = refl
 
-put-is : (key : List ℕ) (ks : List (List ℕ)) → insert ks (place_of key ks) key ≡ put key ks
+pub put-is : (key : List ℕ) (ks : List (List ℕ)) → insert ks (place_of key ks) key ≡ put key ks
 put-is key [] = refl
 put-is key (k ∷ ks) = put-step (lt k key) key k ks (put-is key ks)
 

@@ -9,8 +9,8 @@ use ct_base::TOKEN_LIMIT;
 use std::str::from_utf8;
 use tx_chars::Key;
 
-/// How many stop keys there are at most.
-const STOP_LIMIT: usize = 4096;
+/// How many stop keys there are at most, and how many words a stoplist has.
+pub const STOP_LIMIT: usize = 4096;
 
 /// Whether keys may be stop keys. Its cost is linear in their length.
 pub(crate) fn are_stop_keys(keys: &[Key]) -> bool

@@ -140,16 +140,16 @@ few_spans_from tags end k (name ∷ names) =
     let same : above (k + suc (length names)) tags ≡ above (k + 1 + length names) tags = ap (λ (n : ℕ). above n tags) (omega arith) in
     simp length-append (omega (arith, here, rest, same))
 
--- how many stretches there are in all
-abbrev stretches : List Extent → ℕ
-stretches [] = 0
-stretches (e ∷ es) = length e.spans + stretches es
+-- how many spans there are in all
+abbrev span_count : List Extent → ℕ
+span_count [] = 0
+span_count (e ∷ es) = length e.spans + span_count es
 
-few_stretches : (tags : List TagView) (end k : ℕ) (ss : List Section) → stretches (extents_from tags end k ss) ≤ above k tags
-few_stretches tags end k [] = omega arith
-few_stretches tags end k (s ∷ ss) =
+few_section_spans : (tags : List TagView) (end k : ℕ) (ss : List Section) → span_count (extents_from tags end k ss) ≤ above k tags
+few_section_spans tags end k [] = omega arith
+few_section_spans tags end k (s ∷ ss) =
     let here = few_spans_from tags end k s.tags in
-    let rest = few_stretches tags end (k + length s.tags) ss in
+    let rest = few_section_spans tags end (k + length s.tags) ss in
     omega (arith, here, rest)
 
 -- ---- instances
@@ -158,7 +158,7 @@ few_instance : (section : List ℕ) (o : Option Pair) → length (instance_of se
 few_instance section None = omega arith
 few_instance section (Some r) = omega arith
 
-few_each : (ts : List Token) (section : List ℕ) (ss : List Span) → length (flat_map (λ (stretch : Span). instance_of section (reach_of (positions_in stretch 1 ts))) ss) ≤ length ss
+few_each : (ts : List Token) (section : List ℕ) (ss : List Span) → length (flat_map (λ (span : Span). instance_of section (reach_of (positions_in span 1 ts))) ss) ≤ length ss
 few_each ts section [] = omega arith
 few_each ts section (s ∷ ss) =
     let here = few_instance section (reach_of (positions_in s 1 ts)) in
@@ -168,12 +168,12 @@ few_each ts section (s ∷ ss) =
 few_zone : (ts : List Token) (e : Extent) → length (zone_instances ts e) ≤ length e.spans
 few_zone ts e = go (is_zone e.kind) (few_each ts e.section e.spans)
   where
-    go : (b : Bool) → length (flat_map (λ (stretch : Span). instance_of e.section (reach_of (positions_in stretch 1 ts))) e.spans) ≤ length e.spans
-        → length (cond b (flat_map (λ (stretch : Span). instance_of e.section (reach_of (positions_in stretch 1 ts))) e.spans) []) ≤ length e.spans
+    go : (b : Bool) → length (flat_map (λ (span : Span). instance_of e.section (reach_of (positions_in span 1 ts))) e.spans) ≤ length e.spans
+        → length (cond b (flat_map (λ (span : Span). instance_of e.section (reach_of (positions_in span 1 ts))) e.spans) []) ≤ length e.spans
     go true few = few
     go false few = omega arith
 
-few_zones : (ts : List Token) (es : List Extent) → length (flat_map (zone_instances ts) es) ≤ stretches es
+few_zones : (ts : List Token) (es : List Extent) → length (flat_map (zone_instances ts) es) ≤ span_count es
 few_zones ts [] = omega arith
 few_zones ts (e ∷ es) = let here = few_zone ts e in let rest = few_zones ts es in simp length-append (omega (arith, here, rest))
 
@@ -210,7 +210,7 @@ few_rising (i ∷ is) = go (has_instance i (rising is)) (few_rising is)
     go true rest = omega arith
     go false rest = let more = length-insert (rising is) (place_of i (rising is)) i (place_within i (rising is)) in omega (arith, more, rest)
 
--- how many instances a text has at most: each tag begins one stretch, and each token ends a sentence and a paragraph
+-- how many instances a text has at most: each tag begins one span, and each token ends a sentence and a paragraph
 pub instances_few : (r : Rules) (g : SectionGroup) (end : ℕ) (text : List ℕ)
     → length (rising (instances g (extents (tags_in g (chars text)) end g.sections) (tokens r (blanked g (chars text))))) ≤ 9 * length text + 2
 instances_few r g end text =
@@ -218,7 +218,7 @@ instances_few r g end text =
     let ts = tokens r (blanked g (chars text)) in
     let all = few_rising (instances g es ts) in
     let zones = few_zones ts es in
-    let found = few_stretches (tags_in g (chars text)) end 0 g.sections in
+    let found = few_section_spans (tags_in g (chars text)) end 0 g.sections in
     let numbered = few_above 0 (tags_in g (chars text)) in
     let tags = few_tags_from (group_tags g.sections) 0 (chars text) in
     let some = few_chars text in

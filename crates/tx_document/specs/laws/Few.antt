@@ -1,19 +1,18 @@
 -- How many places a key or a section has in a document at most.
-use Rattle.std.proofs.Common.{◌≡◌, ℕ, ◌+◌, ◌*◌, ◌≤◌, ◌^◌, Bool, true, false, cond, List, [], ◌∷◌, ◌++◌, length, map, ◌⊎◌, Option, Some, None, refl, sym, ap, ◌∙◌, arith, inl, inr, length-append}
+use Rattle.std.proofs.Common.{◌≡◌, ℕ, ◌+◌, ◌*◌, ◌≤◌, ◌^◌, Bool, true, false, cond, List, [], ◌∷◌, ◌++◌, length, map, ◌⊎◌, refl, sym, ap, ◌∙◌, arith, inl, inr}
 use Rattle.std.specs.List.{flat_map}
 use Rattle.std.specs.Str.{chars, encode_utf8_all}
-use Rattle.std.specs.FinMap.{get}
 use Rattle.std.proofs.lemmas.List.{length-map}
 use Rattle.ct_base.specs.Limits.{stream_limit}
 use Rattle.ct_base.specs.declared.numbers.Pair.{Pair}
 use Rattle.tx_lexer.specs.declared.tokens.Token.{Token}
 use Rattle.tx_lexer.specs.Tokens.{rules}
-use Rattle.tx_document.specs.declared.views.Prefs.{Prefs}
+use Rattle.tx_settings.specs.declared.preferences.Prefs.{Prefs}
 use Rattle.tx_document.specs.declared.views.WordView.{WordView}
 use Rattle.tx_document.specs.Documents.{Extent, document, pair, words_from}
 use Rattle.tx_document.specs.Entries.{places_of, places_under, positions_of, is_at, section_place, section_stream, word_places}
-use Rattle.tx_document.specs.PrefsBytes.{IsPrefs}
-use Rattle.tx_document.specs.Promises.{PlacesAreFew, IsWordEntry, IsSectionEntry, as_pairs, if_any}
+use Rattle.tx_settings.specs.PrefsBytes.{IsPrefs}
+use Rattle.tx_document.specs.Promises.{PlacesAreFew, IsWordEntry, IsSectionEntry, if_any}
 use Rattle.tx_document.specs.laws.Counts.{few_tokens, instances_few}
 use Rattle.tx_document.specs.laws.Found.{places_are_found, places_are_positions, places_under-append}
 use Rattle.tx_document.specs.laws.Ordered.{entries_are_ordered, few_under, no_word, the_streams, all_extents, all_words, all_instances, all_tokens}
@@ -26,7 +25,7 @@ few_positions stream key (w ∷ ws) = go (is_at stream key w) (few_positions str
     go true few = omega arith
     go false few = omega arith
 
-words_are_tokens : (stop : List (List ℕ)) (es : List Extent) (position : ℕ) (ts : List Token) → length (words_from stop es position ts) ≡ length ts
+pub words_are_tokens : (stop : List (List ℕ)) (es : List Extent) (position : ℕ) (ts : List Token) → length (words_from stop es position ts) ≡ length ts
 words_are_tokens stop es position [] = refl
 words_are_tokens stop es position (t ∷ ts) = let rest = words_are_tokens stop es (position + 1) ts in omega (arith, rest)
 

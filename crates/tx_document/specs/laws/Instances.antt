@@ -23,6 +23,7 @@ use Rattle.tx_document.specs.declared.endings.Ending.{Ending}
 use Rattle.tx_document.specs.declared.endings.Ending.TheVariants.{Sentence, Paragraph}
 use Rattle.tx_document.specs.declared.views.SectionView.{SectionView}
 use Rattle.tx_document.specs.Documents.{Extent, extents_from, ends, runs_from, runs_if, instance, section_name, zone_instances, instance_of, reach_of, positions_in, last_of, is_inside, instances, rising, has_instance, place_of, section_cmp}
+use Rattle.tx_document.specs.Promises.{InstancesRise, IsInstance}
 
 -- ---- the order of instances
 
@@ -46,10 +47,6 @@ section_cmp_exact a b e =
     λ i. record { section = name i; first = first i; last = last i }
 
 -- ---- instances that strictly rise
-
-abbrev pub Rises : List SectionView → Type 0
-Rises [] = Unit {0}
-Rises (i ∷ is) = AllByRecursion (λ (j : SectionView). section_cmp i j ≡ Less) is × Rises is
 
 -- an instance before the first that isn't less
 abbrev pub put : SectionView → List SectionView → List SectionView
@@ -83,25 +80,25 @@ below_all : (i j : SectionView) (js : List SectionView) → section_cmp i j ≡ 
 below_all i j [] less all = tt
 below_all i j (k ∷ ks) less all = (section_cmp_total.trans i j k less all.0, below_all i j ks less all.1)
 
-put_rises : (i : SectionView) (is : List SectionView) → Rises is → has_instance i is ≡ false → Rises (put i is)
+put_rises : (i : SectionView) (is : List SectionView) → InstancesRise is → has_instance i is ≡ false → InstancesRise (put i is)
 put_rises i [] rise none = (tt, tt)
 put_rises i (j ∷ js) rise none =
     let others = or_parts (is_eq (section_cmp j i)) (has_instance i js) none in
     go (is_lt (section_cmp j i)) refl others.0 (put_rises i js rise.1 others.1)
   where
-    go : (b : Bool) → is_lt (section_cmp j i) ≡ b → is_eq (section_cmp j i) ≡ false → Rises (put i js) → Rises (cond b (j ∷ put i js) (i ∷ j ∷ js))
+    go : (b : Bool) → is_lt (section_cmp j i) ≡ b → is_eq (section_cmp j i) ≡ false → InstancesRise (put i js) → InstancesRise (cond b (j ∷ put i js) (i ∷ j ∷ js))
     go true less other rest = (all_put (λ (k : SectionView). section_cmp j k ≡ Less) i js (less_from_test _ less) rise.0, rest)
     go false less other rest =
         let low : section_cmp i j ≡ Less = section_cmp_total.antisymm i j ∙ ap ordering_reverse (greater (section_cmp j i) less other) in
         ((low, below_all i j js low rise.0), rise)
 
-pub rising_rises : (is : List SectionView) → Rises (rising is)
+pub rising_rises : (is : List SectionView) → InstancesRise (rising is)
 rising_rises [] = tt
 rising_rises (i ∷ is) = go (has_instance i (rising is)) refl (rising_rises is)
   where
-    go : (b : Bool) → has_instance i (rising is) ≡ b → Rises (rising is) → Rises (cond b (rising is) (insert (rising is) (place_of i (rising is)) i))
+    go : (b : Bool) → has_instance i (rising is) ≡ b → InstancesRise (rising is) → InstancesRise (cond b (rising is) (insert (rising is) (place_of i (rising is)) i))
     go true has rest = rest
-    go false has rest = subst Rises (sym (put_is i (rising is))) (put_rises i (rising is) rest has)
+    go false has rest = subst InstancesRise (sym (put_is i (rising is))) (put_rises i (rising is) rest has)
 
 pub all_rising : (P : SectionView → Type 0) (is : List SectionView) → AllByRecursion P is → AllByRecursion P (rising is)
 all_rising P [] all = tt
@@ -112,13 +109,6 @@ all_rising P (i ∷ is) all = go (has_instance i (rising is)) (all_rising P is a
     go false rest = subst (AllByRecursion P) (sym (put_is i (rising is))) (all_put P i (rising is) all.0 rest)
 
 -- ---- where instances stand
-
--- an instance of a section with a name, in a document of so many words
-pub record IsInstance (count : ℕ) (i : SectionView) : Type 0 where
-  pub named : IsName i.section
-  pub some : 1 ≤ i.first
-  pub forward : i.first ≤ i.last
-  pub within : i.last ≤ count
 
 all_append : (P : SectionView → Type 0) (is js : List SectionView) → AllByRecursion P is → AllByRecursion P js → AllByRecursion P (is ++ js)
 all_append P [] js all more = more
@@ -150,17 +140,17 @@ reach_is section count [] named w = tt
 reach_is section count (p ∷ ps) named w = let last = last_within p count ps w.1 w.2 in (record { named = named; some = w.0; forward = last.0; within = last.1 }, tt)
 
 each_is : (section : List ℕ) (ts : List Token) (ss : List Span) → IsName section
-    → AllByRecursion (IsInstance (length ts)) (flat_map (λ (stretch : Span). instance_of section (reach_of (positions_in stretch 1 ts))) ss)
+    → AllByRecursion (IsInstance (length ts)) (flat_map (λ (span : Span). instance_of section (reach_of (positions_in span 1 ts))) ss)
 each_is section ts [] named = tt
 each_is section ts (s ∷ ss) named =
-    all_append (IsInstance (length ts)) (instance_of section (reach_of (positions_in s 1 ts))) (flat_map (λ (stretch : Span). instance_of section (reach_of (positions_in stretch 1 ts))) ss)
+    all_append (IsInstance (length ts)) (instance_of section (reach_of (positions_in s 1 ts))) (flat_map (λ (span : Span). instance_of section (reach_of (positions_in span 1 ts))) ss)
     (reach_is section (length ts) (positions_in s 1 ts) named (positions_within s 1 (length ts) ts (omega arith))) (each_is section ts ss named)
 
 zone_is : (ts : List Token) (e : Extent) → IsName e.section → AllByRecursion (IsInstance (length ts)) (zone_instances ts e)
 zone_is ts e named = go (is_zone e.kind) (each_is e.section ts e.spans named)
   where
-    go : (b : Bool) → AllByRecursion (IsInstance (length ts)) (flat_map (λ (stretch : Span). instance_of e.section (reach_of (positions_in stretch 1 ts))) e.spans)
-        → AllByRecursion (IsInstance (length ts)) (cond b (flat_map (λ (stretch : Span). instance_of e.section (reach_of (positions_in stretch 1 ts))) e.spans) [])
+    go : (b : Bool) → AllByRecursion (IsInstance (length ts)) (flat_map (λ (span : Span). instance_of e.section (reach_of (positions_in span 1 ts))) e.spans)
+        → AllByRecursion (IsInstance (length ts)) (cond b (flat_map (λ (span : Span). instance_of e.section (reach_of (positions_in span 1 ts))) e.spans) [])
     go true all = all
     go false all = tt
 

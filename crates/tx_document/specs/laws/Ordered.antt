@@ -23,18 +23,18 @@ use Rattle.tx_lexer.specs.TokenKeys.{some_keys, limit}
 use Rattle.tx_stop.specs.StopKeys.{is_stop}
 use Rattle.tx_tags.specs.Groups.{SectionGroup, are_sections, field_count, is_empty, is_group, section_limit, zone_count}
 use Rattle.tx_tags.specs.Tags.{tags_in, blanked}
-use Rattle.tx_document.specs.declared.views.Prefs.{Prefs}
+use Rattle.tx_settings.specs.declared.preferences.Prefs.{Prefs}
 use Rattle.tx_document.specs.declared.views.WordView.{WordView}
 use Rattle.tx_document.specs.declared.views.SectionView.{SectionView}
 use Rattle.tx_document.specs.Documents.{Extent, extents, pair, words_from, word_of, instances, rising, section_cmp}
 use Rattle.tx_document.specs.Entries.{Place, places_under, place_map, positions_of, section_stream, section_place, word_places, is_at}
-use Rattle.tx_document.specs.PrefsBytes.{IsPrefs}
-use Rattle.tx_document.specs.Promises.{if_any, as_pairs, PositionsRise, Follows, PairsRise, IsWordEntry, IsSectionEntry, EntriesAreOrdered}
+use Rattle.tx_settings.specs.PrefsBytes.{IsPrefs}
+use Rattle.tx_document.specs.Promises.{InstancesRise, IsInstance, IsKey, if_any, as_pairs, PositionsRise, Follows, PairsRise, IsWordEntry, IsSectionEntry, EntriesAreOrdered}
 use Rattle.tx_document.specs.Fields.{fields}
 use Rattle.tx_document.specs.laws.Streams.{Between, between_wider, fields_of_sections}
 use Rattle.tx_document.specs.laws.Found.{Streams, words_streams, key_places, get-place_map, places_under-append}
 use Rattle.tx_document.specs.laws.Counts.{few_tokens, few_instances}
-use Rattle.tx_document.specs.laws.Instances.{Rises, rising_rises, all_rising, IsInstance, instances_are, extents_named}
+use Rattle.tx_document.specs.laws.Instances.{rising_rises, all_rising, instances_are, extents_named}
 
 -- ---- names of words and of sections
 
@@ -60,11 +60,6 @@ HasName x = IsAnyName x.0
 places_append : (P : Place → Type 0) (xs ys : List Place) → AllByRecursion P xs → AllByRecursion P ys → AllByRecursion P (xs ++ ys)
 places_append P [] ys all more = more
 places_append P (x ∷ xs) ys all more = (all.0, places_append P xs ys all.1 more)
-
--- a key of 1 to 255 bytes, if it is one
-abbrev IsKey : Option (List ℕ) → Type 0
-IsKey None = Unit {0}
-IsKey (Some k) = (1 ≤ length k) × (length k ≤ token_limit)
 
 streams_named : (k : List ℕ) (q : Pair) (least : ℕ) (ns : List ℕ) → (1 ≤ length k) × (length k ≤ token_limit) → Between least (1 + stream_limit) ns → AllByRecursion HasName (map {B = Place} (λ s. (s ∷ k, q)) ns)
 streams_named k q least [] key b = tt
@@ -97,7 +92,7 @@ found_named name (x ∷ xs) all p ps is = go (bytes_eq name x.0) refl is (found_
 
 -- ---- keys of words
 
-words_keys : (stop : List (List ℕ)) (es : List Extent) (n : ℕ) (ts : List Token) → AllByRecursion (λ (t : Token). 0 < length t.key) ts → AllByRecursion (λ (t : Token). length t.key ≤ token_limit) ts
+pub words_keys : (stop : List (List ℕ)) (es : List Extent) (n : ℕ) (ts : List Token) → AllByRecursion (λ (t : Token). 0 < length t.key) ts → AllByRecursion (λ (t : Token). length t.key ≤ token_limit) ts
     → AllByRecursion (λ (w : WordView). IsKey w.key) (words_from stop es n ts)
 words_keys stop es n [] some short = tt
 words_keys stop es n (t ∷ ts) some short = (go (is_stop stop t.key) some.0 short.0, words_keys stop es (n + 1) ts some.1 short.1)
@@ -142,7 +137,7 @@ later_follow : (section : List ℕ) (i : SectionView) (is : List SectionView) �
 later_follow section i [] same all = tt
 later_follow section i (j ∷ js) same all = (λ is. follows i j (sym same ∙ is) all.0, later_follow section i js same all.1)
 
-pairs_rise : (section : List ℕ) (before : Pair) (count : ℕ) (is : List SectionView) → Rises is → AllByRecursion (IsInstance count) is → count < 2 ^ 32 → FollowsAll section before is
+pairs_rise : (section : List ℕ) (before : Pair) (count : ℕ) (is : List SectionView) → InstancesRise is → AllByRecursion (IsInstance count) is → count < 2 ^ 32 → FollowsAll section before is
     → PairsRise before (places_under (section_stream ∷ section) (map section_place is))
 pairs_rise section before count [] rise all fits after = tt
 pairs_rise section before count (i ∷ is) rise all fits after =
@@ -193,7 +188,7 @@ no_word section most (w ∷ ws) le all =
 
 -- ---- the law
 
-few_fields : (g : SectionGroup) → is_group g ≡ true → field_count g.sections ≤ stream_limit
+pub few_fields : (g : SectionGroup) → is_group g ≡ true → field_count g.sections ≤ stream_limit
 few_fields g is =
     let all = (and_parts (not g.is_null || is_empty g.sections) (are_sections g.sections) is).1 in
     let rest = (and_parts (nat_le (zone_count g.sections) section_limit) _ all).1 in

@@ -12,8 +12,8 @@ use Rattle.ct_entry.specs.laws.Parts.{same_kind}
 use Rattle.ct_entry.specs.laws.Maps.{get_name-insert}
 use Rattle.ct_entry.specs.laws.Changes.{told_frame}
 use Rattle.tx_tags.specs.Groups.{SectionGroup}
-use Rattle.tx_document.specs.declared.attributes.Setting.{Setting}
-use Rattle.tx_document.specs.PrefsBytes.{settings_bytes, words_bytes, group_bytes}
+use Rattle.tx_settings.specs.declared.attributes.Setting.{Setting}
+use Rattle.tx_settings.specs.PrefsBytes.{settings_bytes, words_bytes, group_bytes}
 use Rattle.tx_prefs.specs.Preferences.{Preferences, with_lexer, with_stoplist, with_group}
 use Rattle.tx_prefs.specs.Spelling.{NamesStand, PreferencesStand, lexer_changes, stoplist_changes, group_changes}
 

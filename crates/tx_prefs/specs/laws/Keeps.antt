@@ -12,10 +12,10 @@ use Rattle.tx_stop.specs.StopKeys.{stop_limit}
 use Rattle.tx_tags.specs.declared.groups.SectionKind.{SectionKind}
 use Rattle.tx_tags.specs.declared.groups.Section.{Section}
 use Rattle.tx_tags.specs.Groups.{are_distinct, are_sections, field_count, is_among, is_empty, is_field, is_group, is_reserved, is_tag, is_zone, kind_of, section_limit, tag_names, tags_limit, with_tag, zone_count}
-use Rattle.tx_document.specs.declared.attributes.Setting.{Setting}
-use Rattle.tx_document.specs.Attributes.{setting, takes_value}
-use Rattle.tx_document.specs.PrefsBytes.{are_settings, attribute_place, has_text, is_short, rise_from}
-use Rattle.tx_document.specs.laws.Lengths.{values_are_short}
+use Rattle.tx_settings.specs.declared.attributes.Setting.{Setting}
+use Rattle.tx_settings.specs.Attributes.{setting, takes_value}
+use Rattle.tx_settings.specs.PrefsBytes.{are_settings, attribute_place, has_text, is_short, rise_from}
+use Rattle.tx_settings.specs.laws.Lengths.{values_are_short}
 use Rattle.tx_prefs.specs.Preferences.{with_setting}
 use Rattle.tx_prefs.specs.Rules.{is_stopword}
 use Rattle.tx_prefs.specs.Promises.{has_room, SettingsStayInOrder, SettingsStayTaken, StopwordsStay, GroupsStay, FlagsStay}

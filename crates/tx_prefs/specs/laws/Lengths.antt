@@ -7,13 +7,14 @@ use Rattle.std.proofs.lemmas.Bool.{and_parts, and_from, le-leb, lt-ltb}
 use Rattle.std.proofs.lemmas.Str.{IsUtf8-from_is_utf8}
 use Rattle.tx_stop.specs.StopKeys.{stop_limit}
 use Rattle.tx_tags.specs.Groups.{SectionGroup, are_distinct}
-use Rattle.tx_document.specs.declared.attributes.Setting.{Setting}
-use Rattle.tx_document.specs.Attributes.{takes_value}
-use Rattle.tx_document.specs.PrefsBytes.{settings_bytes, words_bytes, group_bytes, is_named_group, are_settings, are_words, rise_from, has_text, is_short, is_text}
-use Rattle.tx_document.specs.PrefsPromises.{have_short_values, setting_value_limit}
-use Rattle.tx_document.specs.laws.Kept.{weaker}
-use Rattle.tx_document.specs.laws.Lengths.{settings_are_short, words_are_short, groups_are_short, values_are_short}
-use Rattle.tx_prefs.specs.Rules.{are_lexer_settings, are_stopwords, is_stopword, stopword_limit}
+use Rattle.tx_settings.specs.declared.attributes.Setting.{Setting}
+use Rattle.tx_settings.specs.Attributes.{takes_value}
+use Rattle.tx_settings.specs.PrefsBytes.{are_lexer_settings, are_settings, are_words, group_bytes, has_text, is_named_group, is_short, is_text, rise_from, settings_bytes, words_bytes}
+use Rattle.tx_settings.specs.PrefsPromises.{have_short_values, setting_value_limit, stopword_limit}
+use Rattle.tx_settings.specs.laws.Kept.{weaker}
+use Rattle.tx_settings.specs.laws.Lengths.{settings_are_short, words_are_short, groups_are_short, values_are_short}
+use Rattle.tx_settings.specs.PrefsPromises.{stopword_limit}
+use Rattle.tx_prefs.specs.Rules.{are_stopwords, is_stopword}
 
 -- ---- settings
 
@@ -35,7 +36,7 @@ settings_short ss h =
 
 -- ---- words
 
-stopword_parts : (w : List ℕ) → is_stopword w ≡ true → (nat_le (length w) 64 ≡ true) × (is_utf8 w ≡ true)
+stopword_parts : (w : List ℕ) → is_stopword w ≡ true → (nat_le (length w) stopword_limit ≡ true) × (is_utf8 w ≡ true)
 stopword_parts w h =
     let p = and_parts (nat_le 1 (length w)) _ h in
     and_parts (nat_le (length w) stopword_limit) (is_utf8 w) p.1
@@ -44,7 +45,7 @@ pub words_short : (ws : List (List ℕ)) → are_stopwords ws ≡ true → lengt
 words_short ws h =
     let p = and_parts (nat_le (length ws) stop_limit) _ h in
     let q = and_parts (are_distinct ws) (list_all is_stopword ws) p.1 in
-    words_are_short ws (leb-true (length ws) stop_limit p.0) (weaker is_stopword (λ w. nat_le (length w) 64) ws (λ w is. (stopword_parts w is).0) q.1)
+    words_are_short ws (leb-true (length ws) stop_limit p.0) (weaker is_stopword (λ w. nat_le (length w) stopword_limit) ws (λ w is. (stopword_parts w is).0) q.1)
 
 -- the words of a stoplist are words that an entry may have
 pub stopwords_are_words : (ws : List (List ℕ)) → are_stopwords ws ≡ true → are_words ws ≡ true
@@ -57,7 +58,7 @@ stopwords_are_words ws h =
     text : (w : List ℕ) → is_stopword w ≡ true → is_text w ≡ true
     text w is =
         let p = stopword_parts w is in
-        let few = leb-true (length w) 64 p.0 in
+        let few = leb-true (length w) stopword_limit p.0 in
         and_from (is_short w) (is_utf8 w) (lt-ltb (length w) (2 ^ 32) (omega (arith, few))) p.1
 
 -- ---- groups

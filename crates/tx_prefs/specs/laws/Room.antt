@@ -9,7 +9,7 @@ use Rattle.ct_entry.specs.Lists.{IsIn}
 use Rattle.ct_entry.specs.Maps.{Names}
 use Rattle.ct_entry.specs.laws.Lists.{in_mapped, in_left, in_right}
 use Rattle.ct_entry.specs.laws.MapEntries.{get_in}
-use Rattle.tx_document.specs.PrefsBytes.{settings_bytes, words_bytes, group_bytes}
+use Rattle.tx_settings.specs.PrefsBytes.{settings_bytes, words_bytes, group_bytes}
 use Rattle.tx_prefs.specs.Preferences.{Preferences}
 use Rattle.tx_prefs.specs.Spelling.{NamesStand, PreferencesStand}
 use Rattle.tx_prefs.specs.Room.{Entry, named_entry, lexer_entries, stoplist_entries, group_entries, preference_entries}

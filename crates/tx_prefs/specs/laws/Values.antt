@@ -6,12 +6,12 @@ use Rattle.ct_base.specs.laws.Options.{option_map_some}
 use Rattle.ct_keep.specs.Content.{value_limit}
 use Rattle.ct_entry.specs.declared.kinds.Kind.TheVariants as kind
 use Rattle.ct_entry.specs.Keys.{Key, key}
-use Rattle.tx_document.specs.PrefsBytes.{settings_bytes, words_bytes, group_bytes, is_named_group, are_settings}
-use Rattle.tx_document.specs.PrefsPromises.{NoneBegins}
-use Rattle.tx_document.specs.laws.Apart.{settings_apart, words_apart, group_apart}
+use Rattle.tx_settings.specs.PrefsBytes.{are_lexer_settings, are_settings, group_bytes, is_named_group, settings_bytes, words_bytes}
+use Rattle.tx_settings.specs.PrefsPromises.{NoneBegins}
+use Rattle.tx_settings.specs.laws.Apart.{settings_apart, words_apart, group_apart}
 use Rattle.tx_prefs.specs.Preferences.{Preferences}
 use Rattle.tx_prefs.specs.Spelling.{PreferencesStand}
-use Rattle.tx_prefs.specs.Rules.{ArePreferences, are_lexer_settings, are_stopwords}
+use Rattle.tx_prefs.specs.Rules.{ArePreferences, are_stopwords}
 use Rattle.tx_prefs.specs.Shapes.{HasPrefValue}
 use Rattle.tx_prefs.specs.laws.Lengths.{settings_short, words_short, group_short, stopwords_are_words}
 use Rattle.tx_prefs.specs.laws.OneOf.{one_names}

@@ -26,4 +26,4 @@ returns-clause-copied g c = λ m told ps holds.
     (ap Some c.deref.ensures.value ∙ (rw c.in-Some.is at (c.in_ok-settings.ensures.settings m told ps holds)))
     (ap Some c.deref-2.ensures.value ∙ (rw c.in-Some-2.is at (c.in_ok-words.ensures.words m later ps holds)))
     (rw c.in-Some-3.is at (c.in_ok-group.ensures.group m last ps holds))
-    c.in_ok-prefs.ensures
+    c.in_ok-prefs.ensures.prefs

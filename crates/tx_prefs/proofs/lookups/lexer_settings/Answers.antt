@@ -1,8 +1,8 @@
 use Rattle.std.proofs.Common.{Some, ap, ◌∙◌}
 use Rattle.std.specs.FinMap.{get}
 use Rattle.std.proofs.lemmas.Bool.{and_parts}
-use Rattle.tx_document.specs.PrefsBytes.{are_settings, settings_bytes}
-use Rattle.tx_document.specs.laws.Apart.{settings_apart}
+use Rattle.tx_settings.specs.PrefsBytes.{are_settings, settings_bytes}
+use Rattle.tx_settings.specs.laws.Apart.{settings_apart}
 use Rattle.tx_prefs.proofs.ReadSteps.{read_is}
 use Rattle.tx_prefs.proofs.lookups.lexer_settings.Goals as goal
 

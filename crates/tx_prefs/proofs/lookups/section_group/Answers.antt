@@ -1,7 +1,7 @@
 use Rattle.std.proofs.Common.{Some, ap, ◌∙◌}
 use Rattle.std.specs.FinMap.{get}
-use Rattle.tx_document.specs.PrefsBytes.{group_bytes, is_named_group}
-use Rattle.tx_document.specs.laws.Apart.{group_apart}
+use Rattle.tx_settings.specs.PrefsBytes.{group_bytes, is_named_group}
+use Rattle.tx_settings.specs.laws.Apart.{group_apart}
 use Rattle.tx_prefs.proofs.ReadSteps.{read_is}
 use Rattle.tx_prefs.proofs.lookups.section_group.Goals as goal
 

@@ -1,7 +1,7 @@
 use Rattle.std.proofs.Common.{Some, ap, ◌∙◌}
 use Rattle.std.specs.FinMap.{get}
-use Rattle.tx_document.specs.PrefsBytes.{are_words, words_bytes}
-use Rattle.tx_document.specs.laws.Apart.{words_apart}
+use Rattle.tx_settings.specs.PrefsBytes.{are_words, words_bytes}
+use Rattle.tx_settings.specs.laws.Apart.{words_apart}
 use Rattle.tx_prefs.specs.laws.Lengths.{stopwords_are_words}
 use Rattle.tx_prefs.proofs.ReadSteps.{read_is}
 use Rattle.tx_prefs.proofs.lookups.stoplist_words.Goals as goal

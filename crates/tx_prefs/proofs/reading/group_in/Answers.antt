@@ -1,5 +1,5 @@
-use Rattle.tx_document.specs.PrefsBytes.{is_named_group, group_bytes}
-use Rattle.tx_document.specs.laws.Apart.{group_apart}
+use Rattle.tx_settings.specs.PrefsBytes.{is_named_group, group_bytes}
+use Rattle.tx_settings.specs.laws.Apart.{group_apart}
 use Rattle.tx_prefs.proofs.ReadSteps.{spells_less}
 use Rattle.tx_prefs.proofs.reading.group_in.Goals as goal
 

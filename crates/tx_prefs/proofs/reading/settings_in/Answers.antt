@@ -1,5 +1,5 @@
-use Rattle.tx_document.specs.PrefsBytes.{are_settings, settings_bytes}
-use Rattle.tx_document.specs.laws.Apart.{settings_apart}
+use Rattle.tx_settings.specs.PrefsBytes.{are_settings, settings_bytes}
+use Rattle.tx_settings.specs.laws.Apart.{settings_apart}
 use Rattle.tx_prefs.proofs.ReadSteps.{spells_none, spells_less}
 use Rattle.tx_prefs.proofs.reading.settings_in.Goals as goal
 

@@ -1,5 +1,5 @@
-use Rattle.tx_document.specs.PrefsBytes.{are_words, words_bytes}
-use Rattle.tx_document.specs.laws.Apart.{words_apart}
+use Rattle.tx_settings.specs.PrefsBytes.{are_words, words_bytes}
+use Rattle.tx_settings.specs.laws.Apart.{words_apart}
 use Rattle.tx_prefs.proofs.ReadSteps.{spells_none, spells_less}
 use Rattle.tx_prefs.proofs.reading.words_in.Goals as goal
 

@@ -1,5 +1,5 @@
 use Rattle.std.proofs.Common.{◌++◌, List, ap, ◌∙◌}
-use Rattle.tx_document.specs.declared.attributes.Setting.{Setting}
+use Rattle.tx_settings.specs.declared.attributes.Setting.{Setting}
 use Rattle.tx_prefs.specs.Preferences.{with_setting}
 use Rattle.tx_prefs.proofs.settings.merged.Goals as goal
 

@@ -3,9 +3,8 @@ use Rattle.std.specs.Str.{is_utf8}
 use Rattle.std.proofs.lemmas.Bool.{and_from}
 use Rattle.std.proofs.lemmas.Result.{IfOk-weaker}
 use Rattle.std.proofs.lemmas.Str.{is_utf8-from_IsUtf8}
-use Rattle.tx_document.specs.declared.attributes.Setting.{Setting}
-use Rattle.tx_document.specs.PrefsBytes.{are_settings, is_short}
-use Rattle.tx_prefs.specs.Rules.{are_lexer_settings}
+use Rattle.tx_settings.specs.declared.attributes.Setting.{Setting}
+use Rattle.tx_settings.specs.PrefsBytes.{are_lexer_settings, are_settings, is_short}
 use Rattle.tx_prefs.specs.laws.Keeps.{settings_kept, taken_kept}
 use Rattle.tx_prefs.proofs.settings.with_setting.Goals as goal
 
