@@ -92,7 +92,7 @@ shaped_alone rule none new ws empty is are = subst (AreShaped rule) (sym (is ∙
 pub row_and_notes : (row new notes : List (List ℕ × Option (List ℕ))) → AreShaped HasTableValue row → new ≡ row ++ notes → AreShaped HasIndexValue notes → AreStoreChanges new
 row_and_notes row new notes rows is waits =
     subst AreStoreChanges (sym is)
-    (are_shaped-append HasStoreValue row notes (are_shaped_weaker HasTableValue HasStoreValue (λ k value has. inl has) row rows) (are_shaped_weaker HasIndexValue HasStoreValue (λ k value has. inr has) notes waits))
+    (are_shaped-append HasStoreValue row notes (are_shaped_weaker HasTableValue HasStoreValue (λ k value has. inl has) row rows) (are_shaped_weaker HasIndexValue HasStoreValue (λ k value has. inr (inl has)) notes waits))
 
 -- so are those of a table
 pub of_tables : (changes : List (List ℕ × Option (List ℕ))) → AreShaped HasTableValue changes → AreStoreChanges changes

@@ -20,7 +20,7 @@ use Rattle.db_state.specs.Effects.{Effect, Does, with_found}
 -- The table without these rows, and each index on it without their marks: row by row, since what a settled row wastes in an index is
 -- what its document costs there.
 abbrev pub without_rows : State → List ℕ → List ℤ → State
-without_rows m t rows = record {
+without_rows m t rows = record m {
   tables = tables_after (λ ts r. without_row ts t r) m.tables rows;
   indexes = gone_after (λ ts r. without_row ts t r) m.tables m.indexes t rows;
 }

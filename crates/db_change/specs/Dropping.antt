@@ -19,7 +19,7 @@ use Rattle.db_state.specs.Effects.{Effect, Does, Refused, with_found}
 
 -- the table is there no more, and with it go its indexes
 abbrev pub with_table_dropped : State → List ℕ → State
-with_table_dropped m t = record { tables = without_table m.tables t; indexes = without_indexes_on m.indexes t }
+with_table_dropped m t = record m { tables = without_table m.tables t; indexes = without_indexes_on m.indexes t }
 
 abbrev pub table_dropped : List ℕ
 table_dropped = codes "Table dropped.\n"

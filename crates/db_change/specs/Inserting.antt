@@ -164,7 +164,7 @@ row_created = codes "1 row created.\n"
 
 -- the table has the row, and each index on the table has it among those that wait
 abbrev pub with_new_row : State → List ℕ → ℤ → List Value → State
-with_new_row m t r vs = record { tables = with_row m.tables t r vs; indexes = noted_on m.indexes t r }
+with_new_row m t r vs = record m { tables = with_row m.tables t r vs; indexes = noted_on m.indexes t r }
 
 abbrev pub insert_row : State → List ℕ → List Operand → ℤ → Effect
 insert_row m t values r = Does (with_new_row m t r (others_kept values)) row_created

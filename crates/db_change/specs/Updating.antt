@@ -95,7 +95,7 @@ row_updated t columns assigns ts r = with_row ts t r (values_after (others colum
 
 -- Each of these rows has the values after, and waits in each index on a column that is set, also where its text is the same as before.
 abbrev pub with_updates : State → List ℕ → List Column → List Assign → List ℤ → State
-with_updates m t columns assigns rows = record {
+with_updates m t columns assigns rows = record m {
   tables = tables_after (row_updated t columns assigns) m.tables rows;
   indexes = changed_after (row_updated t columns assigns) m.tables m.indexes t (places_set columns assigns) rows;
 }

@@ -276,7 +276,7 @@ pub(crate) const QUICK: &str =
     "SELECT id, SCORE(1) FROM docs WHERE CONTAINS(body,'quick',1) > 0;\n";
 
 /// The script and what is said to it, behind the schema.
-static INDEXED: [(&str, &str); 5] = [
+static INDEXED: [(&str, &str); 7] = [
     // a row isn't found before the index is synchronised
     (
         "INSERT INTO docs VALUES (1,'quick fox quick',0);
@@ -396,6 +396,83 @@ no rows selected
 no rows selected
 naïve|0|6
 E10: statement not understood
+",
+    ),
+    // rows that change, and go
+    (
+        "INSERT INTO docs VALUES (1,'quick fox quick',0);
+EXEC CTX_DDL.SYNC_INDEX('di');
+UPDATE docs SET price=9 WHERE id = 1;
+COMMIT;
+SELECT id, SCORE(1) FROM docs WHERE CONTAINS(body,'quick',1) > 0;
+UPDATE docs SET body='slow' WHERE id = 1;
+SELECT id, SCORE(1) FROM docs WHERE CONTAINS(body,'quick',1) > 0;
+SELECT id, SCORE(1) FROM docs WHERE CONTAINS(body,'slow',1) > 0;
+EXEC CTX_DDL.SYNC_INDEX('di');
+SELECT id, SCORE(1) FROM docs WHERE CONTAINS(body,'slow',1) > 0;
+DELETE FROM docs WHERE id = 1;
+DROP INDEX di;
+DROP TABLE docs;
+SELECT id FROM docs;
+",
+        "1 row created.
+PL/SQL procedure successfully completed.
+1 row updated.
+Commit complete.
+1|2
+1 row updated.
+no rows selected
+no rows selected
+PL/SQL procedure successfully completed.
+1|1
+1 row deleted.
+Index dropped.
+Table dropped.
+E11: unknown name docs
+",
+    ),
+    // a lexer preference, a stoplist and a section group, and an index that copies them
+    (
+        "EXEC CTX_DDL.CREATE_PREFERENCE('lx','BASIC_LEXER');
+EXEC CTX_DDL.SET_ATTRIBUTE('lx','skipjoins','-');
+EXEC CTX_DOC.POLICY_TOKENS('lx','Web-site, 1,000.50!');
+EXEC CTX_DDL.SET_ATTRIBUTE('lx','printjoins','a');
+EXEC CTX_DDL.CREATE_STOPLIST('sl');
+EXEC CTX_DDL.ADD_STOPWORD('sl','Is');
+EXEC CTX_DDL.CREATE_SECTION_GROUP('g','BASIC_SECTION_GROUP');
+EXEC CTX_DDL.ADD_ZONE_SECTION('g','q','Q');
+EXEC CTX_DDL.ADD_FIELD_SECTION('g','t','T');
+EXEC CTX_DDL.ADD_SPECIAL_SECTION('g','SENTENCE');
+CREATE TABLE pages (id NUMBER PRIMARY KEY, body CLOB);
+CREATE INDEX pi ON pages(body) INDEXTYPE IS CTXSYS.CONTEXT PARAMETERS ('LEXER lx STOPLIST sl SECTION GROUP g');
+INSERT INTO pages VALUES (1,'<T>alpha</T> <Q>one beta</Q>');
+INSERT INTO pages VALUES (2,'jack is a Web-site');
+EXEC CTX_DDL.SYNC_INDEX('pi');
+SELECT id FROM pages WHERE CONTAINS(body,'alpha') > 0;
+SELECT id FROM pages WHERE CONTAINS(body,'beta') > 0;
+SELECT id FROM pages WHERE CONTAINS(body,'is') > 0;
+SELECT id FROM pages WHERE CONTAINS(body,'website') > 0;
+",
+        "PL/SQL procedure successfully completed.
+PL/SQL procedure successfully completed.
+website|0|8
+1,000.50|10|8
+E30: bad attribute or value
+PL/SQL procedure successfully completed.
+PL/SQL procedure successfully completed.
+PL/SQL procedure successfully completed.
+PL/SQL procedure successfully completed.
+PL/SQL procedure successfully completed.
+PL/SQL procedure successfully completed.
+Table created.
+Index created.
+1 row created.
+1 row created.
+PL/SQL procedure successfully completed.
+no rows selected
+1
+no rows selected
+2
 ",
     ),
     // a table of 17 columns

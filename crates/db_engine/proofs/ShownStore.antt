@@ -28,11 +28,17 @@ use Rattle.ct_entry.specs.laws.Owners.{key_order_total}
 use Rattle.tb_table.specs.Tables.{Table, Tables, docs_columns, keys_in, row_in, text_of, with_table, with_row}
 use Rattle.tb_table.specs.Spelling.{table_changes}
 use Rattle.tb_table.specs.Rules.{FitColumns, others}
+use Rattle.tx_document.specs.declared.entries.Entry.{Entry}
+use Rattle.tx_settings.specs.laws.Settable.{defaults_can_be_set}
+use Rattle.tx_settings.specs.Defaults.{default_prefs}
+use Rattle.tx_document.specs.Documents.{pair}
+use Rattle.tx_document.specs.Entries.{entry}
+use Rattle.tx_settings.specs.PrefsBytes.{IsPrefs}
 use Rattle.ix_rows.specs.Stores.{Untidy}
 use Rattle.ix_docmap.specs.Marks.{Mark, Pending, Settled}
 use Rattle.ix_context.specs.Indexes.{Index, Part, OfContext, in_queue, pending_rows, text_seen, in_range, rows_in, made, created_body, all_settled, created, with_index, waiting_on, noted_on, synced_index, synced}
 use Rattle.ct_entry.specs.Listings.{keys_where}
-use Rattle.ix_context.specs.Changes.{posting_change, document_changes, mark_with, sync_rows_changes, sync_changes, create_changes}
+use Rattle.ix_context.specs.Changes.{entry_change, document_changes, mark_with, sync_rows_changes, sync_changes, create_changes}
 use Rattle.ix_context.specs.Postings.{fox_and_quick}
 use Rattle.ix_context.specs.Rules.{most_given}
 use Rattle.ix_context.specs.Spelling.{index_bytes, index_entry}
@@ -46,6 +52,7 @@ use Rattle.db_cond.specs.Faults.{UnknownName, OutOfRange, LimitReached}
 use Rattle.db_state.specs.Columns.{place_of}
 use Rattle.db_state.specs.Effects.{Effect, Does, refuse, with_found, state_by}
 use Rattle.db_state.specs.Lines.{call_done}
+use Rattle.tx_prefs.specs.Preferences.{no_preferences}
 use Rattle.db_state.specs.States.{State, Stands, empty_state, is_view, index_limit, indexes_on}
 use Rattle.db_state.specs.Room.{room, its_room}
 use Rattle.db_state.specs.laws.EachValue.{entries-each_value, entries-from_rising}
@@ -55,7 +62,8 @@ use Rattle.db_change.specs.Creating.{IsFreeTable, check_table, table_created, wi
 use Rattle.db_change.specs.Inserting.{arranged, check_list, check_values, has_row, insert_row, insert_values, key_in, others_kept, row_created}
 use Rattle.db_change.specs.laws.NewTables.{AllNamed, created_table_stands}
 use Rattle.db_change.specs.laws.NewRows.{names_on, new_row_changes, new_row_stands}
-use Rattle.db_index.specs.Indexing.{IsFreeIndex, all_rows, check_index, create_index_on, index_created, target, has_too_many_rows, with_new_index}
+use Rattle.tx_settings.specs.declared.preferences.Prefs.{Prefs}
+use Rattle.db_index.specs.Indexing.{IsFreeIndex, all_rows, check_index, create_index_by, index_created, requests_in, target, has_too_many_rows, with_new_index}
 use Rattle.db_index.specs.Syncing.{check_sync, has_too_many, sync_found, sync_named, unknown_name, with_synced}
 use Rattle.db_index.specs.laws.NewMarks.{new_index_stands, synced_stands}
 use Rattle.db_engine.specs.Steps.{effect}
@@ -100,7 +108,7 @@ abbrev part_with : ℕ → Part
 part_with given = record { given = given; tidiness = Untidy; waste = 0 }
 
 abbrev context_of : Part → Rows Its → Index
-context_of part marks = record { table = docs; column = 1; body = OfContext (record { part = part; marks = marks }) }
+context_of part marks = record { table = docs; column = 1; prefs = default_prefs; body = OfContext (record { part = part; marks = marks }) }
 
 abbrev index_of : ℕ → Rows Its → Index
 index_of given marks = context_of (part_with given) marks
@@ -115,10 +123,10 @@ abbrev indexes_with : ℕ → List (ℤ × Its) → Names Index
 indexes_with given marks = indexes_of (index_with given marks)
 
 abbrev state_with : List (ℤ × List Value) → ℕ → List (ℤ × Its) → State
-state_with rows given marks = record { tables = tables_with rows; indexes = indexes_with given marks }
+state_with rows given marks = record { tables = tables_with rows; indexes = indexes_with given marks; preferences = no_preferences }
 
 abbrev without_index : State
-without_index = record { tables = tables_with []; indexes = empty }
+without_index = record { tables = tables_with []; indexes = empty; preferences = no_preferences }
 
 table_there : (rows : List (ℤ × List Value)) → get (tables_with rows) docs ≡ Some (table_with rows)
 table_there rows = get-from_sorted (slice_cmp nat_cmp) ((docs, table_with rows) ∷ []) docs tt
@@ -158,7 +166,7 @@ abbrev first : Content
 first = after (spell first_changes) empty
 
 first_stands : Stands first without_index
-first_stands = subst (λ (ts : Tables). Stands first (record { tables = ts; indexes = empty })) tables_created (created_table_stands empty empty_state docs shown_columns empty_stands docs_name columns_named table_free)
+first_stands = subst (λ (ts : Tables). Stands first (record { tables = ts; indexes = empty; preferences = no_preferences })) tables_created (created_table_stands empty empty_state docs shown_columns empty_stands docs_name columns_named table_free)
 
 -- ---- CREATE INDEX di ON docs(body)
 
@@ -180,29 +188,32 @@ index_free = record {
 }
 
 abbrev settling : List ℤ → Index
-settling rows = record { table = docs; column = 1; body = created_body rows }
+settling rows = record { table = docs; column = 1; prefs = default_prefs; body = created_body rows }
 
-indexes_created : with_index (tables_with []) empty di (target docs 1) all_rows ≡ indexes_with 0 []
+indexes_created : with_index (tables_with []) empty di (target docs 1) default_prefs all_rows ≡ indexes_with 0 []
 indexes_created =
-    insert_is (slice_cmp nat_cmp) nat_list_cmp_total empty di (created (tables_with []) (target docs 1) all_rows) [] (nothing (slice_cmp nat_cmp) nat_list_cmp_total) tt
+    insert_is (slice_cmp nat_cmp) nat_list_cmp_total empty di (created (tables_with []) (target docs 1) default_prefs all_rows) [] (nothing (slice_cmp nat_cmp) nat_list_cmp_total) tt
     ∙ ap (λ (rows : List ℤ). indexes_of (settling rows)) no_row_yet
     ∙ ap (λ (marks : Rows Its). indexes_of (index_of 0 marks)) (no_rows Its)
 
 abbrev second_changes : List KeyChange
-second_changes = put (key kind.Indexes di []) (index_bytes docs 1 1) ∷ []
+second_changes = put (key kind.Indexes di []) (index_bytes docs 1 default_prefs 1) ∷ []
 
-second_are : create_changes (tables_with []) di (target docs 1) all_rows ≡ second_changes
+second_are : create_changes (tables_with []) di (target docs 1) default_prefs all_rows ≡ second_changes
 second_are =
-    ap (λ (rows : List ℤ). put (key kind.Indexes di []) (index_entry (settling rows)) ∷ each (mark_with di (text_seen (tables_with []) (created (tables_with []) (target docs 1) all_rows))) (numbered 1 rows)) no_row_yet
+    ap (λ (rows : List ℤ). put (key kind.Indexes di []) (index_entry (settling rows)) ∷ each (mark_with default_prefs di (text_seen (tables_with []) (created (tables_with []) (target docs 1) default_prefs all_rows))) (numbered 1 rows)) no_row_yet
 
 abbrev second : Content
 second = after (spell second_changes) first
 
+the_defaults_are : IsPrefs default_prefs
+the_defaults_are = record { lexer = refl; can_be = defaults_can_be_set; stop = refl; group = refl; named = refl }
+
 second_stands : Stands second (state_with [] 0 [])
 second_stands =
     subst (λ (ws : List KeyChange). Stands (after (spell ws) first) (state_with [] 0 [])) second_are
-    (subst (λ (xs : Names Index). Stands (after (spell (create_changes (tables_with []) di (target docs 1) all_rows)) first) (record { tables = tables_with []; indexes = xs })) indexes_created
-    (new_index_stands first without_index di docs (table_with []) 1 first_stands di_name index_free))
+    (subst (λ (xs : Names Index). Stands (after (spell (create_changes (tables_with []) di (target docs 1) default_prefs all_rows)) first) (record { tables = tables_with []; indexes = xs; preferences = no_preferences })) indexes_created
+    (new_index_stands first without_index di docs (table_with []) 1 default_prefs first_stands di_name the_defaults_are index_free))
 
 -- ---- INSERT INTO docs
 
@@ -237,8 +248,8 @@ module _ (rows : List (ℤ × List Value)) (given : ℕ) (marks : List (ℤ × I
       let m = state_with rows given marks in
       let count : length (entries (table_with rows).rows) ≡ length rows = ap length (entries-from_sorted int_cmp rows rows_rise) in
       subst (λ (names : List (List ℕ)). Stands (after (spell (new_row_changes docs r vs names)) c) (state_with (put_pair int_cmp r vs rows) given (put_pair int_cmp r Pending marks))) (its_names given marks)
-      (subst (λ (ts : Tables). Stands (after (spell (new_row_changes docs r vs (names_on m.indexes docs))) c) (record { tables = ts; indexes = indexes_with given (put_pair int_cmp r Pending marks) })) tables_with_row
-      (subst (λ (xs : Names Index). Stands (after (spell (new_row_changes docs r vs (names_on m.indexes docs))) c) (record { tables = with_row (tables_with rows) docs r vs; indexes = xs })) indexes_with_note
+      (subst (λ (ts : Tables). Stands (after (spell (new_row_changes docs r vs (names_on m.indexes docs))) c) (record { tables = ts; indexes = indexes_with given (put_pair int_cmp r Pending marks); preferences = no_preferences })) tables_with_row
+      (subst (λ (xs : Names Index). Stands (after (spell (new_row_changes docs r vs (names_on m.indexes docs))) c) (record { tables = with_row (tables_with rows) docs r vs; indexes = xs; preferences = no_preferences })) indexes_with_note
       (new_row_stands c m docs (table_with rows) r vs stands (table_there rows) (get-from_sorted int_cmp rows r rows_rise ∙ free) row fit (omega (arith, count, few)))))
 
 abbrev row_one : List Value
@@ -281,16 +292,22 @@ abbrev settled_first : List KeyChange
 settled_first =
     drop_key (key kind.Pending di (row_part (pos 1))) ∷ put (key kind.DocumentRows di (document_part 1)) (row_bytes (pos 1)) ∷ put (key kind.RowDocuments di (row_part (pos 1))) (to_be_bytes w32 1) ∷ []
 
+abbrev fox : Entry
+fox = entry 0 (codes "fox") (pair 2 2 ∷ [])
+
+abbrev quick : Entry
+quick = entry 0 (codes "quick") (pair 1 1 ∷ pair 3 3 ∷ [])
+
 abbrev fourth_changes : List KeyChange
 fourth_changes =
-    settled_first ++ posting_change di 1 (codes "fox", 2 ∷ []) ∷ posting_change di 1 (codes "quick", 1 ∷ 3 ∷ []) ∷ put (key kind.Indexes di []) (index_bytes docs 1 2) ∷ []
+    settled_first ++ entry_change di 1 fox ∷ entry_change di 1 quick ∷ put (key kind.Indexes di []) (index_bytes docs 1 default_prefs 2) ∷ []
 
 fourth_are : sync_changes (tables_with one_row) di waiting ≡ fourth_changes
 fourth_are =
     ap (sync_rows_changes (tables_with one_row) di waiting) one_waits
-    ∙ ap (λ (o : Option (List ℕ)). ((drop_key (key kind.Pending di (row_part (pos 1))) ∷ document_changes di 1 (pos 1) o) ++ []) ++ put (key kind.Indexes di []) (index_entry (synced_index waiting)) ∷ []) its_text
-    ∙ ap (λ (es : List (List ℕ × List ℕ)). ((settled_first ++ map (posting_change di 1) es) ++ []) ++ put (key kind.Indexes di []) (index_entry (synced_index waiting)) ∷ []) fox_and_quick
-    ∙ ap (λ (rs : List ℤ). (settled_first ++ posting_change di 1 (codes "fox", 2 ∷ []) ∷ posting_change di 1 (codes "quick", 1 ∷ 3 ∷ []) ∷ []) ++ put (key kind.Indexes di []) (index_bytes docs 1 ((made (length rs) (part_with 0)).given + 1)) ∷ []) one_waits
+    ∙ ap (λ (o : Option (List ℕ)). ((drop_key (key kind.Pending di (row_part (pos 1))) ∷ document_changes default_prefs di 1 (pos 1) o) ++ []) ++ put (key kind.Indexes di []) (index_entry (synced_index waiting)) ∷ []) its_text
+    ∙ ap (λ (es : List Entry). ((settled_first ++ map (entry_change di 1) es) ++ []) ++ put (key kind.Indexes di []) (index_entry (synced_index waiting)) ∷ []) fox_and_quick
+    ∙ ap (λ (rs : List ℤ). (settled_first ++ entry_change di 1 fox ∷ entry_change di 1 quick ∷ []) ++ put (key kind.Indexes di []) (index_bytes docs 1 default_prefs ((made (length rs) (part_with 0)).given + 1)) ∷ []) one_waits
 
 few_enough : has_too_many waiting ≡ false
 few_enough = ap (λ (rs : List ℤ). nat_lt most_given (0 + length rs)) one_waits
@@ -312,7 +329,7 @@ fourth = after (spell fourth_changes) third
 fourth_stands : Stands fourth (state_with one_row 1 ((pos 1, Settled tt) ∷ []))
 fourth_stands =
     subst (λ (ws : List KeyChange). Stands (after (spell ws) third) (state_with one_row 1 ((pos 1, Settled tt) ∷ []))) fourth_are
-    (subst (λ (xs : Names Index). Stands (after (spell (sync_changes (tables_with one_row) di waiting)) third) (record { tables = tables_with one_row; indexes = xs })) indexes_synced
+    (subst (λ (xs : Names Index). Stands (after (spell (sync_changes (tables_with one_row) di waiting)) third) (record { tables = tables_with one_row; indexes = xs; preferences = no_preferences })) indexes_synced
     (synced_stands third (state_with one_row 0 ((pos 1, Pending) ∷ [])) di waiting third_stands (index_there 0 ((pos 1, Pending) ∷ [])) few_enough))
 
 -- ---- INSERT INTO docs once more
@@ -340,15 +357,15 @@ table_is_created =
     let done = Does (with_new_table empty_state docs shown_columns) table_created in
     ap (λ (o : Option Table). check_table (is_some o) (nat_le table_limit (length (entries (empty {X = Table} {R = slice_cmp nat_cmp})))) docs shown_columns done) (get-empty (slice_cmp nat_cmp) docs)
     ∙ ap (λ (es : List (List ℕ × Table)). check_table false (nat_le table_limit (length es)) docs shown_columns done) (nothing (slice_cmp nat_cmp) nat_list_cmp_total)
-    ∙ ap (λ (ts : Tables). Does (record { tables = ts; indexes = empty }) table_created) tables_created
+    ∙ ap (λ (ts : Tables). Does (record { tables = ts; indexes = empty; preferences = no_preferences }) table_created) tables_created
 
 index_is_created : effect without_index index_statement ≡ Does (state_with [] 0 []) index_created
 index_is_created =
-    let done = Does (with_new_index without_index di docs 1) index_created in
-    ap (λ (o : Option Table). with_found o (UnknownName docs) (λ (x : Table). with_found (place_of (codes "body") x.columns) (UnknownName (codes "body")) (λ (place : ℕ). create_index_on without_index di docs x place))) (table_there [])
-    ∙ ap (λ (b : Bool). check_index b true (nat_le index_limit (length (indexes_on without_index.indexes docs)) || has_too_many_rows without_index docs) di done) index_free.free
-    ∙ ap (λ (b : Bool). check_index false true b di done) index_free.few
-    ∙ ap (λ (xs : Names Index). Does (record { tables = tables_with []; indexes = xs }) index_created) indexes_created
+    let done : Prefs → Effect = λ prefs. Does (with_new_index without_index di docs 1 prefs) index_created in
+    ap (λ (o : Option Table). with_found o (UnknownName docs) (λ (x : Table). with_found (place_of (codes "body") x.columns) (UnknownName (codes "body")) (λ (place : ℕ). create_index_by without_index di docs (requests_in None) x place))) (table_there [])
+    ∙ ap (λ (b : Bool). check_index b true (Some default_prefs) (nat_le index_limit (length (indexes_on without_index.indexes docs)) || has_too_many_rows without_index docs) di done) index_free.free
+    ∙ ap (λ (b : Bool). check_index false true (Some default_prefs) b di done) index_free.few
+    ∙ ap (λ (xs : Names Index). Does (record { tables = tables_with []; indexes = xs; preferences = no_preferences }) index_created) indexes_created
 
 module _ (rows : List (ℤ × List Value)) (given : ℕ) (marks : List (ℤ × Its)) (r : ℤ) (values : List Operand) (rows_rise : T (is_sorted int_cmp rows)) (marks_rise : T (is_sorted int_cmp marks))
     (then_rows : T (is_sorted int_cmp (put_pair int_cmp r (others_kept values) rows))) (then_marks : T (is_sorted int_cmp (put_pair int_cmp r Pending marks))) where
@@ -366,8 +383,8 @@ module _ (rows : List (ℤ × List Value)) (given : ℕ) (marks : List (ℤ × I
       ∙ ap (λ (es : List (ℤ × List Value)). check_values false (nat_le row_limit (length es)) docs_columns values done) (entries-from_sorted int_cmp rows rows_rise)
       ∙ ap (λ (b : Bool). check_values false b docs_columns values done) few
       ∙ checked done
-      ∙ ap (λ (ts : Tables). Does (record { tables = ts; indexes = noted_on (indexes_with given marks) docs r }) row_created) (tables_with_row rows given marks r (others_kept values) rows_rise marks_rise then_rows then_marks)
-      ∙ ap (λ (xs : Names Index). Does (record { tables = tables_with (put_pair int_cmp r (others_kept values) rows); indexes = xs }) row_created) (indexes_with_note rows given marks r (others_kept values) rows_rise marks_rise then_rows then_marks)
+      ∙ ap (λ (ts : Tables). Does (record { tables = ts; indexes = noted_on (indexes_with given marks) docs r; preferences = no_preferences }) row_created) (tables_with_row rows given marks r (others_kept values) rows_rise marks_rise then_rows then_marks)
+      ∙ ap (λ (xs : Names Index). Does (record { tables = tables_with (put_pair int_cmp r (others_kept values) rows); indexes = xs; preferences = no_preferences }) row_created) (indexes_with_note rows given marks r (others_kept values) rows_rise marks_rise then_rows then_marks)
 
 index_is_synced : effect (state_with one_row 0 ((pos 1, Pending) ∷ [])) sync_statement ≡ Does (state_with one_row 1 ((pos 1, Settled tt) ∷ [])) call_done
 index_is_synced =
@@ -375,7 +392,7 @@ index_is_synced =
     ap (λ (o : Option Index). check_sync (unknown_name (is_some o) (Some di)) (TextArg di ∷ []) (sync_named m (Some di))) (index_there 0 ((pos 1, Pending) ∷ []))
     ∙ ap (λ (o : Option Index). with_found o (UnknownName di) (λ (x : Index). sync_found m di x)) (index_there 0 ((pos 1, Pending) ∷ []))
     ∙ ap (λ (b : Bool). refuse b LimitReached (Does (with_synced m di) call_done)) few_enough
-    ∙ ap (λ (xs : Names Index). Does (record { tables = tables_with one_row; indexes = xs }) call_done) indexes_synced
+    ∙ ap (λ (xs : Names Index). Does (record { tables = tables_with one_row; indexes = xs; preferences = no_preferences }) call_done) indexes_synced
 
 pub it_is_led_to : after_all empty_state shown_statements ≡ shown_state
 it_is_led_to =

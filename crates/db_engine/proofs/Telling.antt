@@ -5,6 +5,7 @@ use Rattle.std.specs.Bool.{if◌then◌else◌}
 use Rattle.std.specs.declared.alloc.Global.{Global}
 use Rattle.ct_keep.specs.KeeperViews.{KeeperView}
 use Rattle.db_cond.specs.Faults.{Refusal, NotUnderstood, UnknownName, ExistsAlready, WrongValues, KeyExists, ValueTooLong, StatementTooLong, NotInProfile, OutOfRange, NoIndexOfKind, BadValue, LimitReached, refusal_line, store_full}
+use Rattle.st_parse.specs.declared.procedures.Procedure.TheVariants.{PolicyTokens, SyncIndex, Define}
 use Rattle.st_parse.specs.declared.statements.Statement.{Statement}
 use Rattle.st_parse.specs.declared.statements.Statement.TheVariants.{CreateTable, DropTable, DropIndex, CreateIndex, Insert, Update, Delete, Select, Exec, Commit}
 use Rattle.db_change.specs.Creating.{table_created}
@@ -16,7 +17,7 @@ use Rattle.db_change.specs.Dropping.{table_dropped}
 use Rattle.db_index.specs.Dropping.{index_dropped}
 use Rattle.db_state.specs.Lines.{call_done}
 use Rattle.db_engine.specs.Steps.{is_built_index}
-use Rattle.db_engine.specs.Executing.{is_sync, done_line, is_fixed, Tells}
+use Rattle.db_engine.specs.Executing.{done_line, is_fixed, Tells}
 use Rattle.db_state.specs.Plans.{DoneLines, always, Returns}
 use Rattle.db_engine.specs.declared.replies.Reply.TheVariants.{Text as ReplyText}
 
@@ -68,9 +69,11 @@ if_some false line done is = cc
 pub not_done : (s : Statement) (done : DoneLines) (rows : ℕ) → done_line s ≡ Some done → done rows ≡ store_full → ⊥
 unfolding second before_last
 not_done (CreateTable name columns) done rows is full = let line : always table_created ≡ done = cc in let e : 97 ≡ 56 = ap second (ap (λ (l : DoneLines). l rows) line ∙ full) in omega (arith, e)
-not_done (CreateIndex name table column kind parameters parallel) done rows is full = let e : 110 ≡ 56 = ap second (ap (λ (l : DoneLines). l rows) (if_some (is_built_index kind parameters parallel) (always index_created) done is) ∙ full) in omega (arith, e)
+not_done (CreateIndex name table column kind parameters parallel) done rows is full = let e : 110 ≡ 56 = ap second (ap (λ (l : DoneLines). l rows) (if_some (is_built_index kind parallel) (always index_created) done is) ∙ full) in omega (arith, e)
 not_done (Insert table columns values) done rows is full = let line : always row_created ≡ done = cc in let e : 32 ≡ 56 = ap second (ap (λ (l : DoneLines). l rows) line ∙ full) in omega (arith, e)
-not_done (Exec pack procedure args) done rows is full = let e : 76 ≡ 56 = ap second (ap (λ (l : DoneLines). l rows) (if_some (is_sync pack procedure) (always call_done) done is) ∙ full) in omega (arith, e)
+not_done (Exec PolicyTokens args) done rows is full = cc
+not_done (Exec SyncIndex args) done rows is full = let line : always call_done ≡ done = cc in let e : 76 ≡ 56 = ap second (ap (λ (l : DoneLines). l rows) line ∙ full) in omega (arith, e)
+not_done (Exec (Define definition) args) done rows is full = let line : always call_done ≡ done = cc in let e : 76 ≡ 56 = ap second (ap (λ (l : DoneLines). l rows) line ∙ full) in omega (arith, e)
 not_done (DropTable name) done rows is full = let line : always table_dropped ≡ done = cc in let e : 97 ≡ 56 = ap second (ap (λ (l : DoneLines). l rows) line ∙ full) in omega (arith, e)
 not_done (DropIndex name) done rows is full = let line : always index_dropped ≡ done = cc in let e : 110 ≡ 56 = ap second (ap (λ (l : DoneLines). l rows) line ∙ full) in omega (arith, e)
 not_done (Update table assigns conds) done rows is full = let lines : rows_updated ≡ done = cc in ends_otherwise _ 117 112 100 (codes "ated.\n") refl (ap (λ (l : DoneLines). l rows) lines ∙ full)
@@ -85,9 +88,11 @@ if_none false line is = refl
 
 pub fixed_looks : (s : Statement) → is_fixed s ≡ true → done_line s ≡ None
 fixed_looks (CreateTable name columns) is = cc
-fixed_looks (CreateIndex name table column kind parameters parallel) is = if_none (is_built_index kind parameters parallel) (always index_created) is
+fixed_looks (CreateIndex name table column kind parameters parallel) is = if_none (is_built_index kind parallel) (always index_created) is
 fixed_looks (Insert table columns values) is = cc
-fixed_looks (Exec pack procedure args) is = if_none (is_sync pack procedure) (always call_done) is
+fixed_looks (Exec PolicyTokens args) is = refl
+fixed_looks (Exec SyncIndex args) is = cc
+fixed_looks (Exec (Define definition) args) is = cc
 fixed_looks (DropTable name) is = cc
 fixed_looks (DropIndex name) is = cc
 fixed_looks (Update table assigns conds) is = cc

@@ -6,7 +6,11 @@ use Rattle.ct_keep.specs.Content.{Content}
 use Rattle.ct_keep.specs.declared.keepers.KeepFault.{KeepFault}
 use Rattle.ct_keep.specs.declared.keepers.KeepFault.TheVariants.{Memory, Disk, Full as NoRoom}
 use Rattle.ct_keep.specs.KeeperViews.{counted, KeeperView}
+use Rattle.st_parse.specs.declared.statements.Arg.{Arg}
 use Rattle.st_parse.specs.declared.statements.SelectList.TheVariants.{Star}
+use Rattle.st_parse.specs.declared.procedures.Definition.TheVariants.{CreateStoplist}
+use Rattle.st_parse.specs.declared.procedures.Procedure.{Procedure}
+use Rattle.st_parse.specs.declared.procedures.Procedure.TheVariants.{PolicyTokens, SyncIndex, Define}
 use Rattle.st_parse.specs.declared.statements.Statement.{Statement}
 use Rattle.st_parse.specs.declared.statements.Statement.TheVariants.{CreateTable, DropTable, DropIndex, CreateIndex, Insert, Update, Delete, Select, Exec, Commit}
 use Rattle.db_cond.specs.Faults.{store_full}
@@ -19,6 +23,7 @@ use Rattle.db_change.specs.Updating.{rows_updated}
 use Rattle.db_change.specs.Deleting.{rows_deleted}
 use Rattle.db_change.specs.Dropping.{table_dropped}
 use Rattle.db_index.specs.Dropping.{index_dropped}
+use Rattle.db_index.specs.Tokenizing.{reads_no_preference}
 use Rattle.db_state.specs.Lines.{call_done}
 use Rattle.db_engine.specs.Steps.{effect, is_built_index, may_fill}
 use Rattle.db_engine.specs.Runs.{Answer, Step, NoMemory, Full}
@@ -71,41 +76,45 @@ fault_of_stop (Err DiskStop) = Some Disk
 
 -- ---- what `execute` promises over any content, also one that stands for no state
 
--- whether the procedure is CTX_DDL.SYNC_INDEX
-abbrev pub is_sync : List ℕ → List ℕ → Bool
-is_sync pack procedure = bytes_eq pack (codes "ctx_ddl") && bytes_eq procedure (codes "sync_index")
-
 -- the lines by which CREATE INDEX, where it is built, and the call of a procedure say that their change is made
 abbrev pub index_line : Bool → Option DoneLines
 index_line built = if built then Some (always index_created) else None
 
-abbrev pub call_line : List ℕ → List ℕ → Option DoneLines
-call_line pack procedure = if is_sync pack procedure then Some (always call_done) else None
+abbrev pub call_line : Procedure → Option DoneLines
+call_line PolicyTokens = None
+call_line SyncIndex = Some (always call_done)
+call_line (Define definition) = Some (always call_done)
 
 -- The lines by which a statement says that its change is made. None where it changes nothing: it only looks, is COMMIT, or is refused since it isn't built yet.
 abbrev pub done_line : Statement → Option DoneLines
 done_line (CreateTable name columns) = Some (always table_created)
-done_line (CreateIndex name table column kind parameters parallel) = index_line (is_built_index kind parameters parallel)
+done_line (CreateIndex name table column kind parameters parallel) = index_line (is_built_index kind parallel)
 done_line (Insert table columns values) = Some (always row_created)
 done_line (Update table assigns conds) = Some rows_updated
 done_line (Delete table conds) = Some rows_deleted
 done_line (DropTable name) = Some (always table_dropped)
 done_line (DropIndex name) = Some (always index_dropped)
-done_line (Exec pack procedure args) = call_line pack procedure
+done_line (Exec procedure args) = call_line procedure
 done_line (Select list table preds orders) = None
 done_line Commit = None
+
+-- whether the call of a procedure with these arguments replies the same in every state
+abbrev pub is_fixed_call : Procedure → List Arg → Bool
+is_fixed_call PolicyTokens args = reads_no_preference args
+is_fixed_call SyncIndex args = false
+is_fixed_call (Define definition) args = false
 
 -- Whether the reply to a statement is the same in every state: it asks of a text alone, is COMMIT, or isn't built yet.
 abbrev pub is_fixed : Statement → Bool
 is_fixed (CreateTable name columns) = false
-is_fixed (CreateIndex name table column kind parameters parallel) = not (is_built_index kind parameters parallel)
+is_fixed (CreateIndex name table column kind parameters parallel) = not (is_built_index kind parallel)
 is_fixed (Insert table columns values) = false
 is_fixed (Update table assigns conds) = false
 is_fixed (Delete table conds) = false
 is_fixed (DropTable name) = false
 is_fixed (DropIndex name) = false
 is_fixed (Select list table preds orders) = false
-is_fixed (Exec pack procedure args) = not (is_sync pack procedure)
+is_fixed (Exec procedure args) = is_fixed_call procedure args
 is_fixed Commit = true
 
 -- The store was full: how often the keeper found that rose, and the content stays as it is.
@@ -148,11 +157,14 @@ two_rows = refl
 row_line : done_line (Insert (codes "docs") None []) ≡ Some (always (codes "1 row created.\n"))
 row_line = refl
 
-sync_line : done_line (Exec (codes "ctx_ddl") (codes "sync_index") []) ≡ Some (always (codes "PL/SQL procedure successfully completed.\n"))
+sync_line : done_line (Exec SyncIndex []) ≡ Some (always (codes "PL/SQL procedure successfully completed.\n"))
 sync_line = refl
+
+definition_line : done_line (Exec (Define CreateStoplist) []) ≡ Some (always (codes "PL/SQL procedure successfully completed.\n"))
+definition_line = refl
 
 select_line : done_line (Select Star (codes "docs") [] []) ≡ None
 select_line = refl
 
-tokens_fixed : is_fixed (Exec (codes "ctx_doc") (codes "policy_tokens") []) ≡ true
+tokens_fixed : is_fixed (Exec PolicyTokens []) ≡ true
 tokens_fixed = refl

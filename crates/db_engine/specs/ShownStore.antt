@@ -5,6 +5,7 @@ use Rattle.ct_base.specs.declared.lists.Value.TheVariants.{Number, Text}
 use Rattle.ct_keep.specs.Content.{Content}
 use Rattle.tb_table.specs.declared.columns.Sort.TheVariants.{Number as NumberSort, Clob}
 use Rattle.tb_table.specs.Tables.{Table}
+use Rattle.tx_settings.specs.Defaults.{default_prefs}
 use Rattle.ix_rows.specs.Stores.{Untidy}
 use Rattle.ix_docmap.specs.Marks.{Pending, Settled}
 use Rattle.ix_context.specs.Indexes.{Index, OfContext}
@@ -15,8 +16,10 @@ use Rattle.st_parse.specs.declared.statements.Operand.{Operand}
 use Rattle.st_parse.specs.declared.statements.Operand.TheVariants.{Number as NumberGiven, Text as TextGiven}
 use Rattle.st_parse.specs.declared.statements.SortText.TheVariants.{Number as NumberText, Clob as ClobText}
 use Rattle.st_parse.specs.declared.statements.Statement.{Statement}
+use Rattle.st_parse.specs.declared.procedures.Procedure.TheVariants.{SyncIndex}
 use Rattle.st_parse.specs.declared.statements.Statement.TheVariants.{CreateTable, CreateIndex, Insert, Exec}
 use Rattle.st_parse.specs.declared.statements.Whole.TheVariants.{Fits}
+use Rattle.tx_prefs.specs.Preferences.{no_preferences}
 use Rattle.db_state.specs.States.{State}
 use Rattle.db_state.specs.Effects.{state_by}
 use Rattle.db_state.specs.Room.{docs_and_di}
@@ -40,7 +43,7 @@ first_values = NumberGiven (Fits (pos 1)) ∷ TextGiven (codes "quick fox quick"
 
 -- EXEC CTX_DDL.SYNC_INDEX('di')
 abbrev pub sync_statement : Statement
-sync_statement = Exec (codes "ctx_ddl") (codes "sync_index") (TextArg (codes "di") ∷ [])
+sync_statement = Exec SyncIndex (TextArg (codes "di") ∷ [])
 
 -- INSERT INTO docs VALUES (2, 'slow', -1)
 abbrev pub second_values : List Operand
@@ -95,11 +98,12 @@ abbrev shown_index : Index
 shown_index = record {
   table = codes "docs";
   column = 1;
+  prefs = default_prefs;
   body = OfContext (record { part = record { given = 1; tidiness = Untidy; waste = 0 }; marks = from_sorted ((pos 1, Settled tt) ∷ (pos 2, Pending) ∷ []) });
 }
 
 abbrev pub shown_state : State
-shown_state = record { tables = from_sorted ((codes "docs", shown_table) ∷ []); indexes = from_sorted ((codes "di", shown_index) ∷ []) }
+shown_state = record { tables = from_sorted ((codes "docs", shown_table) ∷ []); indexes = from_sorted ((codes "di", shown_index) ∷ []); preferences = no_preferences }
 
 -- the state whose room is an example of rooms
 shown_before : shown_state ≡ docs_and_di

@@ -1,5 +1,5 @@
 -- What one statement does: the state after it, and its reply.
-use Rattle.std.specs.Prelude.{ℕ, Bool, true, false, not, ◌||◌, ◌&&◌, List, [], ◌∷◌, length, Option, codes, bytes_eq, ◌≡◌, refl, nat_le, is_none, ◌++◌}
+use Rattle.std.specs.Prelude.{ℕ, pos, Bool, true, false, not, ◌||◌, ◌&&◌, List, [], ◌∷◌, length, Option, Some, None, codes, bytes_eq, ◌≡◌, refl, nat_le, is_none, ◌++◌}
 use Rattle.std.specs.Bool.{if◌then◌else◌}
 use Rattle.std.specs.Str.{chars, is_utf8}
 use Rattle.st_parse.specs.declared.statements.Arg.{Arg}
@@ -14,6 +14,9 @@ use Rattle.tx_chars.specs.Keys.{key_text}
 use Rattle.st_parse.specs.declared.statements.IndexKind.{IndexKind}
 use Rattle.st_parse.specs.declared.statements.IndexKind.TheVariants.{Context, Ctxcat, Ctxrule}
 use Rattle.st_parse.specs.declared.statements.Whole.{Whole}
+use Rattle.st_parse.specs.declared.statements.Whole.TheVariants.{Fits}
+use Rattle.st_parse.specs.declared.procedures.Procedure.{Procedure}
+use Rattle.st_parse.specs.declared.procedures.Procedure.TheVariants.{PolicyTokens, SyncIndex, Define}
 use Rattle.st_parse.specs.declared.statements.Statement.{Statement}
 use Rattle.st_parse.specs.declared.statements.Statement.TheVariants.{CreateTable, DropTable, DropIndex, CreateIndex, Insert, Update, Delete, Select, Exec, Commit}
 use Rattle.st_parse.specs.Grammar.{Read, NoStatement, Found, read}
@@ -28,28 +31,27 @@ use Rattle.db_index.specs.Dropping.{drop_index}
 use Rattle.db_select.specs.Statements.{select_statement}
 use Rattle.db_index.specs.Tokenizing.{policy_tokens}
 use Rattle.db_index.specs.Syncing.{sync_index}
+use Rattle.db_prefs.specs.Defining.{define}
 
--- ---- which procedure is called
+-- ---- what the call of a procedure does
 
--- so far there are CTX_DDL.SYNC_INDEX and CTX_DOC.POLICY_TOKENS
-abbrev pub call : State → List ℕ → List ℕ → List Arg → Effect
-call m pack procedure args =
-    if bytes_eq pack (codes "ctx_ddl") && bytes_eq procedure (codes "sync_index") then sync_index m args
-    else (if bytes_eq pack (codes "ctx_doc") && bytes_eq procedure (codes "policy_tokens") then policy_tokens m args
-    else Refused NotUnderstood)
+abbrev pub call : State → Procedure → List Arg → Effect
+call m PolicyTokens args = policy_tokens m args
+call m SyncIndex args = sync_index m args
+call m (Define definition) args = define m definition args
 
--- of the indexes those of kind CONTEXT without PARAMETERS and PARALLEL are built so far
+-- of the indexes those of kind CONTEXT without PARALLEL are built so far
 abbrev pub is_context : IndexKind → Bool
 is_context Context = true
 is_context Ctxcat = false
 is_context Ctxrule = false
 
-abbrev pub is_built_index : IndexKind → Option (List ℕ) → Option Whole → Bool
-is_built_index kind parameters parallel = is_context kind && (is_none parameters && is_none parallel)
+abbrev pub is_built_index : IndexKind → Option Whole → Bool
+is_built_index kind parallel = is_context kind && is_none parallel
 
 -- CREATE INDEX, where it is built
-abbrev pub create_index_if : Bool → State → List ℕ → List ℕ → List ℕ → Effect
-create_index_if built m i t column = refuse (not built) NotUnderstood (create_index m i t column)
+abbrev pub create_index_if : Bool → State → List ℕ → List ℕ → List ℕ → Option (List ℕ) → Effect
+create_index_if built m i t column parameters = refuse (not built) NotUnderstood (create_index m i t column parameters)
 
 -- COMMIT changes nothing, since each statement is kept by itself
 abbrev pub commit_complete : List ℕ
@@ -58,19 +60,21 @@ commit_complete = codes "Commit complete.\n"
 -- what a statement does
 abbrev pub effect : State → Statement → Effect
 effect m (CreateTable name columns) = create_table m name columns
-effect m (CreateIndex name table column kind parameters parallel) = create_index_if (is_built_index kind parameters parallel) m name table column
+effect m (CreateIndex name table column kind parameters parallel) = create_index_if (is_built_index kind parallel) m name table column parameters
 effect m (Insert table columns values) = insert_into m table columns values
 effect m (Select list table preds orders) = select_statement m list table preds
-effect m (Exec pack procedure args) = call m pack procedure args
+effect m (Exec procedure args) = call m procedure args
 effect m (DropTable name) = drop_table m name
 effect m (DropIndex name) = drop_index m name
 effect m (Update table assigns conds) = update m table assigns conds
 effect m (Delete table conds) = delete_from m table conds
 effect m Commit = Does m commit_complete
 
--- whether the call of a procedure of the package may be answered that the store is full
-abbrev pub may_fill_by : List ℕ → Bool
-may_fill_by pack = not (bytes_eq pack (codes "ctx_doc") || bytes_eq pack (codes "ctx_query"))
+-- whether the call of a procedure may be answered that the store is full
+abbrev pub may_fill_by : Procedure → Bool
+may_fill_by PolicyTokens = false
+may_fill_by SyncIndex = true
+may_fill_by (Define definition) = true
 
 -- Whether the statement may be: one that only looks, or only takes entries away, never is.
 abbrev pub may_fill : Statement → Bool
@@ -78,7 +82,7 @@ may_fill (DropTable name) = false
 may_fill (DropIndex name) = false
 may_fill (Delete table conds) = false
 may_fill (Select list table preds orders) = false
-may_fill (Exec pack procedure args) = may_fill_by pack
+may_fill (Exec procedure args) = may_fill_by procedure
 may_fill Commit = false
 may_fill statement = true
 
@@ -109,6 +113,9 @@ abbrev pub rest_step : ℕ → State → List ℕ → Effect
 rest_step limit m bytes = if nat_le (length bytes) limit then rest_of m (read_bytes bytes) else Refused StatementTooLong
 
 -- computed examples
+an_index_in_parallel : is_built_index Context (Some (Fits (pos 2))) ≡ false
+an_index_in_parallel = refl
+
 abbrev reply : List ℕ → List ℕ
 reply bytes = reply_by (step 65536 empty_state bytes)
 
@@ -152,10 +159,10 @@ too_long = refl
 table_may_fill : may_fill (CreateTable (codes "docs") []) ≡ true
 table_may_fill = refl
 
-sync_may_fill : may_fill (Exec (codes "ctx_ddl") (codes "sync_index") []) ≡ true
+sync_may_fill : may_fill (Exec SyncIndex []) ≡ true
 sync_may_fill = refl
 
-tokens_never_fill : may_fill (Exec (codes "ctx_doc") (codes "policy_tokens") []) ≡ false
+tokens_never_fill : may_fill (Exec PolicyTokens []) ≡ false
 tokens_never_fill = refl
 
 deletion_never_fills : may_fill (Delete (codes "docs") []) ≡ false

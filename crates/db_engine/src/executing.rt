@@ -8,7 +8,7 @@ ghost use Rattle.db_cond.specs.Faults.{NotUnderstood, refusal_line};
 ghost use Rattle.db_state.specs.Effects.{reply_by};
 ghost use Rattle.db_state.specs.States.{State};
 ghost use Rattle.db_engine.specs.Steps.{call as call_effect, create_index_if, effect, is_built_index as built_index, may_fill, may_fill_by};
-ghost use Rattle.db_engine.specs.Executing.{ExecutesStatement, FullByCount, IfText, NoTextIsFull, Tells, call_line, done_line, fault_of_stop, index_line, is_fixed, is_sync as is_sync_call};
+ghost use Rattle.db_engine.specs.Executing.{ExecutesStatement, FullByCount, IfText, NoTextIsFull, Tells, call_line, done_line, fault_of_stop, index_line, is_fixed, is_fixed_call};
 ghost use Rattle.db_state.specs.Plans.{DoneLines, GivesReply, Replies};
 
 use crate::replies::{Reply, Stop};
@@ -17,9 +17,10 @@ use ct_keep::{KeepFault, Keeper};
 use db_change::{create_table, delete_from, drop_table, insert_into, update};
 use db_cond::not_understood;
 use db_index::{create_index, drop_index, policy_tokens, sync_index};
+use db_prefs::define;
 use db_select::select;
 use db_state::fixed_reply;
-use st_parse::{Arg, IndexKind, Statement, Whole};
+use st_parse::{Arg, IndexKind, Procedure, Statement, Whole};
 use std::alloc::Global;
 use std::thread::Threads;
 
@@ -30,47 +31,30 @@ fn not_built(alloc: Global) -> Result<Vec<u8>, Memory>
     fixed_reply(alloc, not_understood())
 }
 
-/// Whether a procedure is CTX_DDL.SYNC_INDEX.
-fn is_sync(pack: &Name, procedure: &Name) -> bool
-    ensures { result ≡ is_sync_call pack.now procedure.now }
-{
-    pack.as_str() == "ctx_ddl" && procedure.as_str() == "sync_index"
-}
-
-/// Whether a procedure is CTX_DOC.POLICY_TOKENS.
-fn is_tokens(pack: &Name, procedure: &Name) -> bool
-    ensures { result ≡ (bytes_eq pack.now (codes "ctx_doc") && bytes_eq procedure.now (codes "policy_tokens")) }
-{
-    pack.as_str() == "ctx_doc" && procedure.as_str() == "policy_tokens"
-}
-
 /// The call of a procedure.
 fn call<K: Keeper>(
     alloc: Global,
     keeper: &mut K,
-    pack: &Name,
-    procedure: &Name,
+    procedure: Procedure,
     args: &[Arg],
 ) -> Result<Vec<u8>, KeepFault>
     requires { AcceptsStatements (K.view keeper.old) }
-    ensures serves { Replies K.view keeper.old keeper.new result (λ m. call_effect m pack.now procedure.now args.now) (call_line pack.now procedure.now) }
-    ensures fixed { (m : State) → is_sync_call pack.now procedure.now ≡ false → GivesReply result (call_effect m pack.now procedure.now args.now) }
-    ensures may { result ≡ Err KeepFault.Full → may_fill_by pack.now ≡ true }
+    ensures serves { Replies K.view keeper.old keeper.new result (λ m. call_effect m procedure args.now) (call_line procedure) }
+    ensures fixed { (m : State) → is_fixed_call procedure args.now ≡ true → GivesReply result (call_effect m procedure args.now) }
+    ensures may { result ≡ Err KeepFault.Full → may_fill_by procedure ≡ true }
 {
-    if is_sync(pack, procedure) {
-        return sync_index(alloc, keeper, args);
+    match procedure {
+        Procedure::PolicyTokens => policy_tokens(alloc, keeper, args),
+        Procedure::SyncIndex => sync_index(alloc, keeper, args),
+        Procedure::Define(definition) => define(alloc, keeper, definition, args),
     }
-    if is_tokens(pack, procedure) {
-        return Ok(policy_tokens(alloc, args)?);
-    }
-    Ok(not_built(alloc)?)
 }
 
-/// Whether an index is of kind CONTEXT, without PARAMETERS and PARALLEL: so far no other is built.
-fn is_built_index(kind: IndexKind, parameters: &Option<Text>, parallel: &Option<Whole>) -> bool
-    ensures { result ≡ built_index kind parameters.now parallel.now }
+/// Whether an index is of kind CONTEXT, without PARALLEL: so far no other is built.
+fn is_built_index(kind: IndexKind, parallel: &Option<Whole>) -> bool
+    ensures { result ≡ built_index kind parallel.now }
 {
-    matches!(kind, IndexKind::Context) && parameters.is_none() && parallel.is_none()
+    matches!(kind, IndexKind::Context) && parallel.is_none()
 }
 
 /// CREATE INDEX, where it is built.
@@ -80,16 +64,17 @@ fn index_statement<K: Keeper>(
     index: &Name,
     table: &Name,
     column: &Name,
+    parameters: &Option<Text>,
     built: bool,
 ) -> Result<Vec<u8>, KeepFault>
     requires { AcceptsStatements (K.view keeper.old) }
-    ensures serves { Replies K.view keeper.old keeper.new result (λ m. create_index_if built m index.now table.now column.now) (index_line built) }
+    ensures serves { Replies K.view keeper.old keeper.new result (λ m. create_index_if built m index.now table.now column.now parameters.now) (index_line built) }
     ensures fixed { built ≡ false → IfOk result (λ reply. reply.items ≡ refusal_line NotUnderstood) }
 {
     if !built {
         return Ok(not_built(alloc)?);
     }
-    create_index(alloc, keeper, index, table, column)
+    create_index(alloc, keeper, index, table, column, parameters)
 }
 
 /// The reply to a statement: its lines, with their newlines.
@@ -115,8 +100,8 @@ fn reply_to<K: Keeper>(
             parameters,
             parallel,
         } => {
-            let built = is_built_index(*kind, parameters, parallel);
-            index_statement(alloc, keeper, name, table, column, built)
+            let built = is_built_index(*kind, parallel);
+            index_statement(alloc, keeper, name, table, column, parameters, built)
         }
         Statement::Insert {
             table,
@@ -129,11 +114,7 @@ fn reply_to<K: Keeper>(
             preds,
             ..
         } => select(alloc, keeper, list, table, preds.as_slice()),
-        Statement::Exec {
-            package,
-            procedure,
-            args,
-        } => call(alloc, keeper, package, procedure, args.as_slice()),
+        Statement::Exec { procedure, args } => call(alloc, keeper, *procedure, args.as_slice()),
         Statement::DropTable { name } => drop_table(alloc, keeper, name),
         Statement::DropIndex { name } => drop_index(alloc, keeper, name),
         Statement::Update {

@@ -1,5 +1,5 @@
 -- What the checks of CREATE INDEX read.
-use Rattle.std.proofs.Common.{◌≡◌, ℕ, suc, ◌+◌, ◌<◌, ◌≤◌, Bool, true, false, cond, List, [], ◌∷◌, length, Option, Some, None, refl, sym, ap, ◌∙◌, arith}
+use Rattle.std.proofs.Common.{◌≡◌, ℕ, suc, ◌+◌, ◌<◌, ◌≤◌, Bool, true, false, cond, List, [], ◌∷◌, length, Option, Some, None, refl, sym, ap, subst, ◌∙◌, arith}
 use Rattle.std.specs.Prelude.{◌==◌, ◌&&◌, ◌||◌, is_some, not, filter, map, nat_le}
 use Rattle.std.specs.List.{list_any}
 use Rattle.std.specs.Option.{option_map}
@@ -22,18 +22,25 @@ use Rattle.tb_table.specs.declared.columns.Column.{Column}
 use Rattle.std.proofs.lemmas.List.{length-map}
 use Rattle.tb_table.specs.Tables.{Table, keys_in, row_keys}
 use Rattle.tb_table.specs.Rules.{AreTables}
+use Rattle.tx_settings.specs.declared.preferences.Prefs.{Prefs}
+use Rattle.tx_prefs.specs.declared.requests.Request.{Request}
+use Rattle.tx_prefs.specs.Sees.{HoldsPreferences}
 use Rattle.ix_context.specs.Indexes.{Index, rows_in}
 use Rattle.ix_context.specs.Rules.{most_given}
 use Rattle.ix_context.specs.laws.Rules.{rows_in-all}
 use Rattle.db_names.specs.declared.heads.IndexHead.{IndexHead}
 use Rattle.db_names.specs.Promises.{is_of, heads_of}
-use Rattle.db_cond.specs.Faults.{UnknownName}
+use Rattle.db_cond.specs.declared.faults.Fault.{Fault}
+use Rattle.db_cond.specs.Faults.{UnknownName, BadValue}
+use Rattle.db_cond.specs.Refused.{refusal_of}
 use Rattle.db_state.specs.States.{State, Stands, indexes_on, index_limit}
-use Rattle.db_state.specs.Effects.{Refused, Does, with_found}
+use Rattle.db_state.specs.Effects.{Effect, Refused, Does, Checks, refuse_by, with_found}
+use Rattle.db_state.specs.declared.plans.Plan.{Plan}
+use Rattle.db_state.specs.Plans.{IsPlan}
 use Rattle.db_state.specs.Columns.{place_of, place_from}
-use Rattle.db_index.specs.Indexing.{has_context_index, has_too_many_rows, all_rows, target, is_text_at, check_index, index_created, with_new_index, create_index_on, create_index, IsFreeIndex}
+use Rattle.db_index.specs.Indexing.{has_context_index, has_too_many_rows, all_rows, target, is_text_at, check_index, check_flags, index_created, with_new_index, create_index_on, create_index_by, create_index, IsFreeIndex, requests_in, unknown_asked, prefs_asked}
 use Rattle.db_state.specs.Lookups.{index_among, FoundOn}
-use Rattle.db_state.specs.laws.Chains.{passed}
+use Rattle.db_state.specs.laws.Chains.{checked, passed, refused}
 use Rattle.db_index.specs.laws.Counting.{counted, count-cons, count_insert}
 use Rattle.db_state.specs.laws.EachValue.{entries-each_value, count_alike}
 use Rattle.db_state.specs.laws.Heads.{head_of_index, heads}
@@ -107,19 +114,46 @@ few_rows m t x are there =
         let few = (are.each t x there).few in
         omega (arith, same, few)
 
+-- what is done by what PARAMETERS means; where that is nothing, the check of its form refuses
+abbrev pub done_by : Option Prefs → (Prefs → Effect) → Effect
+done_by None done = Refused BadValue
+done_by (Some prefs) done = done prefs
+
+by_flags : (there texts : Bool) (prefs : Option Prefs) (many : Bool) (i : List ℕ) (done : Prefs → Effect) → check_index there texts prefs many i done ≡ check_flags there texts (is_some prefs) many i (done_by prefs done)
+by_flags there texts None many i done = refl
+by_flags there texts (Some prefs) many i done = refl
+
 -- the effect by what was read
-pub index_as : (m : State) (i t : List ℕ) (x : Table) (place : ℕ) (taken texts many : Bool) → AreTables m.tables → get m.tables t ≡ Some x
-    → taken ≡ (is_some (get m.indexes i) || has_context_index m.indexes t place) → texts ≡ is_text_at x.columns place → many ≡ nat_le index_limit (length (indexes_on m.indexes t))
-    → create_index_on m i t x place ≡ check_index taken texts many i (Does (with_new_index m i t place) index_created)
-index_as m i t x place taken texts many are there taken_is texts_is many_is =
-    let done = Does (with_new_index m i t place) index_created in
-    ap (λ (b : Bool). check_index b (is_text_at x.columns place) (nat_le index_limit (length (indexes_on m.indexes t)) || has_too_many_rows m t) i done) (sym taken_is)
-    ∙ ap (λ (b : Bool). check_index taken b (nat_le index_limit (length (indexes_on m.indexes t)) || has_too_many_rows m t) i done) (sym texts_is)
-    ∙ ap (λ (b : Bool). check_index taken texts b i done) (or_false _ _ (few_rows m t x are there) ∙ sym many_is)
+pub index_as : (m : State) (i t : List ℕ) (x : Table) (place : ℕ) (prefs : Option Prefs) (taken texts formed many : Bool) → AreTables m.tables → get m.tables t ≡ Some x
+    → taken ≡ (is_some (get m.indexes i) || has_context_index m.indexes t place) → texts ≡ is_text_at x.columns place → formed ≡ is_some prefs → many ≡ nat_le index_limit (length (indexes_on m.indexes t))
+    → create_index_on m i t x place prefs ≡ check_flags taken texts formed many i (done_by prefs (λ prefs. Does (with_new_index m i t place prefs) index_created))
+index_as m i t x place prefs taken texts formed many are there taken_is texts_is formed_is many_is =
+    let done : Prefs → Effect = λ prefs. Does (with_new_index m i t place prefs) index_created in
+    ap (λ (b : Bool). check_index b (is_text_at x.columns place) prefs (nat_le index_limit (length (indexes_on m.indexes t)) || has_too_many_rows m t) i done) (sym taken_is)
+    ∙ ap (λ (b : Bool). check_index taken b prefs (nat_le index_limit (length (indexes_on m.indexes t)) || has_too_many_rows m t) i done) (sym texts_is)
+    ∙ ap (λ (b : Bool). check_index taken texts prefs b i done) (or_false _ _ (few_rows m t x are there) ∙ sym many_is)
+    ∙ by_flags taken texts prefs many i done
+    ∙ ap (λ (b : Bool). check_flags taken texts b many i (done_by prefs done)) (sym formed_is)
+
+-- the effect by the fault that the checks of what was read found, or where they found none
+module _ (m : State) (i t : List ℕ) (x : Table) (place : ℕ) (prefs : Option Prefs) (taken texts formed many : Bool) (found : Option Fault) (are : AreTables m.tables) (there : get m.tables t ≡ Some x)
+    (taken_is : taken ≡ (is_some (get m.indexes i) || has_context_index m.indexes t place)) (texts_is : texts ≡ is_text_at x.columns place) (formed_is : formed ≡ is_some prefs) (many_is : many ≡ nat_le index_limit (length (indexes_on m.indexes t)))
+    (checks : (done : Effect) → Checks found (check_flags taken texts formed many i done) done) where
+  abbrev made : Effect
+  made = done_by prefs (λ prefs. Does (with_new_index m i t place prefs) index_created)
+
+  as_checked : create_index_on m i t x place prefs ≡ check_flags taken texts formed many i made
+  as_checked = index_as m i t x place prefs taken texts formed many are there taken_is texts_is formed_is many_is
+
+  pub faulty : (fault : Fault) → found ≡ Some fault → create_index_on m i t x place prefs ≡ Refused (refusal_of fault)
+  faulty fault is = as_checked ∙ refused found fault (check_flags taken texts formed many i made) made is (checks made)
+
+  pub faultless : found ≡ None → create_index_on m i t x place prefs ≡ done_by prefs (λ prefs. Does (with_new_index m i t place prefs) index_created)
+  faultless is = as_checked ∙ checked found (check_flags taken texts formed many i made) made is (checks made)
 
 -- no check holds of what is done
-pub index_free : (m : State) (i t : List ℕ) (x : Table) (place : ℕ) (n : State) (reply : List ℕ) → get m.tables t ≡ Some x → create_index_on m i t x place ≡ Does n reply → IsFreeIndex m i t x place
-index_free m i t x place n reply there is =
+pub index_free : (m : State) (i t : List ℕ) (x : Table) (place : ℕ) (prefs : Prefs) (n : State) (reply : List ℕ) → get m.tables t ≡ Some x → create_index_on m i t x place (Some prefs) ≡ Does n reply → IsFreeIndex m i t x place
+index_free m i t x place prefs n reply there is =
     let p = passed _ _ _ n reply is in
     let q = passed _ _ _ n reply p.1 in
     let r = passed _ _ _ n reply q.1 in
@@ -162,6 +196,9 @@ holds_tables c m stands = record { only = stands.only; stand = stands.tables; ru
 pub holds_indexes : (c : Content) (m : State) → Stands c m → HoldsIndexes c m.tables m.indexes
 holds_indexes c m stands = record { tables = holds_tables c m stands; stand = stands.indexes; rules = stands.state.indexes }
 
+pub holds_preferences : (c : Content) (m : State) → Stands c m → HoldsPreferences c m.preferences
+holds_preferences c m stands = record { only = stands.only; stand = stands.preferences; rules = stands.state.preferences }
+
 pub rows_given : (m : State) (on : Target) (t : List ℕ) (place : ℕ) (x : Table) → AreTables m.tables → get m.tables t ≡ Some x → on ≡ target t place → most_given < length (rows_in m.tables on.table all_rows) → ⊥
 rows_given m on t place x are there is over =
     let few = ltb-false most_given (length (rows_in m.tables t all_rows)) (few_rows m t x are there) in
@@ -170,15 +207,28 @@ rows_given m on t place x are there is over =
 
 -- ---- the effect by the table and the column
 
-pub unknown_table : (m : State) (i t column : List ℕ) → get m.tables t ≡ None → create_index m i t column ≡ Refused (UnknownName t)
-unknown_table m i t column none = ap (λ (o : Option Table). with_found o (UnknownName t) (λ (x : Table). with_found (place_of column x.columns) (UnknownName column) (λ (place : ℕ). create_index_on m i t x place))) none
+pub unknown_table : (m : State) (i t column : List ℕ) (parameters : Option (List ℕ)) → get m.tables t ≡ None → create_index m i t column parameters ≡ Refused (UnknownName t)
+unknown_table m i t column parameters none = ap (λ (o : Option Table). with_found o (UnknownName t) (λ (x : Table). with_found (place_of column x.columns) (UnknownName column) (λ (place : ℕ). create_index_by m i t (requests_in parameters) x place))) none
 
-pub unknown_column : (m : State) (i t column : List ℕ) (x : Table) → get m.tables t ≡ Some x → place_of column x.columns ≡ None → create_index m i t column ≡ Refused (UnknownName column)
-unknown_column m i t column x there none =
-    ap (λ (o : Option Table). with_found o (UnknownName t) (λ (x : Table). with_found (place_of column x.columns) (UnknownName column) (λ (place : ℕ). create_index_on m i t x place))) there
-    ∙ ap (λ (o : Option ℕ). with_found o (UnknownName column) (λ (place : ℕ). create_index_on m i t x place)) none
+pub unknown_column : (m : State) (i t column : List ℕ) (parameters : Option (List ℕ)) (x : Table) → get m.tables t ≡ Some x → place_of column x.columns ≡ None → create_index m i t column parameters ≡ Refused (UnknownName column)
+unknown_column m i t column parameters x there none =
+    ap (λ (o : Option Table). with_found o (UnknownName t) (λ (x : Table). with_found (place_of column x.columns) (UnknownName column) (λ (place : ℕ). create_index_by m i t (requests_in parameters) x place))) there
+    ∙ ap (λ (o : Option ℕ). with_found o (UnknownName column) (λ (place : ℕ). create_index_by m i t (requests_in parameters) x place)) none
 
-pub known_column : (m : State) (i t column : List ℕ) (x : Table) (place : ℕ) → get m.tables t ≡ Some x → place_of column x.columns ≡ Some place → create_index m i t column ≡ create_index_on m i t x place
-known_column m i t column x place there some =
-    ap (λ (o : Option Table). with_found o (UnknownName t) (λ (x : Table). with_found (place_of column x.columns) (UnknownName column) (λ (place : ℕ). create_index_on m i t x place))) there
-    ∙ ap (λ (o : Option ℕ). with_found o (UnknownName column) (λ (place : ℕ). create_index_on m i t x place)) some
+pub known_column : (m : State) (i t column : List ℕ) (parameters : Option (List ℕ)) (x : Table) (place : ℕ) → get m.tables t ≡ Some x → place_of column x.columns ≡ Some place → create_index m i t column parameters ≡ create_index_by m i t (requests_in parameters) x place
+known_column m i t column parameters x place there some =
+    ap (λ (o : Option Table). with_found o (UnknownName t) (λ (x : Table). with_found (place_of column x.columns) (UnknownName column) (λ (place : ℕ). create_index_by m i t (requests_in parameters) x place))) there
+    ∙ ap (λ (o : Option ℕ). with_found o (UnknownName column) (λ (place : ℕ). create_index_by m i t (requests_in parameters) x place)) some
+
+-- and by what PARAMETERS asks for
+pub unknown_preference : (m : State) (i t : List ℕ) (requests : Option (List Request)) (x : Table) (place : ℕ) (name : List ℕ) → unknown_asked m.preferences requests ≡ Some name → create_index_by m i t requests x place ≡ Refused (UnknownName name)
+unknown_preference m i t requests x place name is = ap (λ (o : Option (List ℕ)). refuse_by o UnknownName (create_index_on m i t x place (prefs_asked m.preferences requests))) is
+
+pub known_preferences : (m : State) (i t : List ℕ) (requests : Option (List Request)) (x : Table) (place : ℕ) (prefs : Option Prefs) → unknown_asked m.preferences requests ≡ None → prefs ≡ prefs_asked m.preferences requests → create_index_by m i t requests x place ≡ create_index_on m i t x place prefs
+known_preferences m i t requests x place prefs none is =
+    ap (λ (o : Option (List ℕ)). refuse_by o UnknownName (create_index_on m i t x place (prefs_asked m.preferences requests))) none
+    ∙ ap (create_index_on m i t x place) (sym is)
+
+-- a plan of one effect is that of an equal one
+pub plan_as : (e f : Effect) (line : List ℕ) (c : Content) (plan : Plan) → e ≡ f → IsPlan f line c plan → IsPlan e line c plan
+plan_as e f line c plan is fits = subst (λ (x : Effect). IsPlan x line c plan) (sym is) fits

@@ -3,3 +3,4 @@ pub mod IndexChecks
 pub mod SyncChecks
 pub mod PlanShapes
 pub mod DropChecks
+pub mod TokenChecks

@@ -1,5 +1,5 @@
 -- The changes of indexes are ones that a store takes.
-use Rattle.std.proofs.Common.{◌≡◌, ℕ, List, [], Option, sym, subst, inr}
+use Rattle.std.proofs.Common.{◌≡◌, ℕ, List, [], Option, sym, subst, inl, inr}
 use Rattle.ct_entry.specs.Shapes.{AreShaped}
 use Rattle.ct_entry.specs.laws.Shapes.{are_shaped_weaker}
 use Rattle.ix_context.specs.Shapes.{HasIndexValue}
@@ -7,4 +7,4 @@ use Rattle.db_state.specs.Shapes.{AreStoreChanges, HasStoreValue}
 
 -- what was put into an empty batch
 pub of_indexes : (none new : List (List ℕ × Option (List ℕ))) → none ≡ [] → (AreShaped HasIndexValue none → AreShaped HasIndexValue new) → AreStoreChanges new
-of_indexes none new empty keeps = are_shaped_weaker HasIndexValue HasStoreValue (λ k value has. inr has) new (keeps (subst (AreShaped HasIndexValue) (sym empty) tt))
+of_indexes none new empty keeps = are_shaped_weaker HasIndexValue HasStoreValue (λ k value has. inr (inl has)) new (keeps (subst (AreShaped HasIndexValue) (sym empty) tt))

@@ -3,19 +3,20 @@ use Rattle.std.proofs.Common.{◌≡◌, ℕ, Bool, true, false, List, Option, S
 use Rattle.std.specs.Prelude.{is_some}
 use Rattle.std.specs.FinMap.{get}
 use Rattle.st_parse.specs.declared.statements.Arg.{Arg}
+use Rattle.db_call.specs.Arguments.{name_at}
 use Rattle.ix_context.specs.Indexes.{Index}
 use Rattle.db_cond.specs.Faults.{Refusal, UnknownName}
 use Rattle.db_state.specs.States.{State}
 use Rattle.db_state.specs.Effects.{Effect, Does, refuse_by, with_found}
-use Rattle.db_index.specs.Syncing.{name_arg, unknown_name, check_sync, sync_found, sync_named, has_index, sync_index}
+use Rattle.db_index.specs.Syncing.{unknown_name, check_sync, sync_found, sync_named, has_index, sync_index}
 
 -- the effect by what was read
-pub sync_as : (m : State) (args : List Arg) (name : Option (List ℕ)) (there : Bool) (unknown : Option (List ℕ)) → name ≡ name_arg args → there ≡ has_index m name → unknown ≡ unknown_name there name
-    → sync_index m args ≡ check_sync unknown args (sync_named m (name_arg args))
+pub sync_as : (m : State) (args : List Arg) (name : Option (List ℕ)) (there : Bool) (unknown : Option (List ℕ)) → name ≡ name_at 0 args → there ≡ has_index m name → unknown ≡ unknown_name there name
+    → sync_index m args ≡ check_sync unknown args (sync_named m (name_at 0 args))
 sync_as m args name there unknown is there_is unknown_is =
-    ap (λ (n : Option (List ℕ)). check_sync (unknown_name (has_index m n) n) args (sync_named m (name_arg args))) (sym is)
-    ∙ ap (λ (b : Bool). check_sync (unknown_name b name) args (sync_named m (name_arg args))) (sym there_is)
-    ∙ ap (λ (u : Option (List ℕ)). check_sync u args (sync_named m (name_arg args))) (sym unknown_is)
+    ap (λ (n : Option (List ℕ)). check_sync (unknown_name (has_index m n) n) args (sync_named m (name_at 0 args))) (sym is)
+    ∙ ap (λ (b : Bool). check_sync (unknown_name b name) args (sync_named m (name_at 0 args))) (sym there_is)
+    ∙ ap (λ (u : Option (List ℕ)). check_sync u args (sync_named m (name_at 0 args))) (sym unknown_is)
 
 -- what was done has no unknown name
 pub passed_by : {X : Type 0} (o : Option X) (r : X → Refusal) (e : Effect) (n : State) (reply : List ℕ) → refuse_by o r e ≡ Does n reply → o ≡ None

@@ -1,6 +1,7 @@
 -- What CREATE INDEX does.
-use Rattle.std.specs.Prelude.{ℕ, zero, suc, pos, negsuc, ◌-◌, ◌^◌, ◌≡◌, ◌==◌, nat_le, nat_lt, Bool, true, false, not, ◌||◌, ◌&&◌, is_some, ◌<◌, List, [], ◌∷◌, length, Option, Some, Result, IfOk, MatchOption, codes, refl}
+use Rattle.std.specs.Prelude.{ℕ, zero, suc, pos, negsuc, ◌-◌, ◌^◌, ◌≡◌, ◌==◌, nat_le, nat_lt, Bool, true, false, not, ◌||◌, ◌&&◌, is_some, ◌<◌, List, [], ◌∷◌, length, Option, Some, None, Result, IfOk, MatchOption, codes, refl}
 use Rattle.std.specs.List.{list_any}
+use Rattle.std.specs.Option.{option_and_then}
 use Rattle.std.specs.FinMap.{get, entries}
 use Rattle.ct_entry.specs.Keys.{same_list}
 use Rattle.ct_entry.specs.Maps.{Names}
@@ -9,18 +10,25 @@ use Rattle.tb_table.specs.declared.columns.Sort.TheVariants.{Number, Varchar2, C
 use Rattle.tb_table.specs.declared.columns.Column.{Column}
 use Rattle.tb_table.specs.declared.columns.Target.{Target}
 use Rattle.tb_table.specs.Tables.{Table, docs_columns}
+use Rattle.tx_settings.specs.declared.preferences.Prefs.{Prefs}
+use Rattle.tx_settings.specs.Defaults.{default_prefs}
+use Rattle.tx_prefs.specs.declared.requests.Request.{Request}
+use Rattle.tx_prefs.specs.Preferences.{Preferences}
+use Rattle.tx_prefs.specs.Requests.{requests_of, parameters_of, unknown_in}
+use Rattle.tx_prefs.specs.Copies.{copied}
 use Rattle.ix_context.specs.declared.ranges.KeyRange.{KeyRange}
 use Rattle.ix_context.specs.Indexes.{Index, rows_in, with_index}
 use Rattle.ix_context.specs.Rules.{most_given}
-use Rattle.db_cond.specs.Faults.{UnknownName, ExistsAlready, WrongValues, LimitReached}
+use Rattle.db_cond.specs.Faults.{UnknownName, ExistsAlready, WrongValues, BadValue, LimitReached}
 use Rattle.db_state.specs.States.{State, indexes_on, index_limit}
-use Rattle.db_state.specs.Effects.{Effect, Does, refuse, with_found, Refused}
+use Rattle.db_state.specs.Effects.{Effect, Does, refuse, refuse_by, with_found, Refused}
 use Rattle.db_state.specs.Columns.{place_of}
 use Rattle.ct_keep.specs.declared.keepers.KeepFault.{KeepFault}
 use Rattle.ct_keep.specs.Content.{Content}
 use Rattle.ct_entry.specs.Changes.{spell}
 use Rattle.ix_context.specs.Changes.{create_changes}
 use Rattle.db_state.specs.declared.plans.Plan.{Plan}
+use Rattle.db_index.specs.declared.asking.Asked.{Asked}
 use Rattle.db_state.specs.Plans.{IsPlan}
 
 abbrev pub is_text_sort : Sort → Bool
@@ -45,15 +53,33 @@ all_rows = record { from = record { 0 = negsuc (2 ^ 63 - 1) }; to = record { 0 =
 abbrev pub target : List ℕ → ℕ → Target
 target t place = record { table = t; column = place }
 
--- the checks in their order: whether there is an index of the name or on the column, whether that is a column of texts, and whether a limit would be passed
-abbrev pub check_index : Bool → Bool → Bool → List ℕ → Effect → Effect
-check_index there texts many i done = refuse there (ExistsAlready i) (refuse (not texts) WrongValues (refuse many LimitReached done))
+-- the requests of PARAMETERS: none where the statement has no such text, and None where it isn't of its form
+abbrev pub requests_in : Option (List ℕ) → Option (List Request)
+requests_in None = Some []
+requests_in (Some text) = requests_of text
+
+-- the first name in them that is not defined
+abbrev pub unknown_asked : Preferences → Option (List Request) → Option (List ℕ)
+unknown_asked ps requests = option_and_then (unknown_in ps) requests
+
+-- the preferences that they mean now
+abbrev pub prefs_asked : Preferences → Option (List Request) → Option Prefs
+prefs_asked ps requests = option_and_then (λ rs. copied ps (parameters_of rs)) requests
+
+-- The checks in their order: whether there is an index of the name or on the column, whether that is a column of texts, whether PARAMETERS is of its form, and whether a limit would be passed.
+abbrev pub check_index : Bool → Bool → Option Prefs → Bool → List ℕ → (Prefs → Effect) → Effect
+check_index there texts prefs many i done =
+    refuse there (ExistsAlready i) (refuse (not texts) WrongValues (with_found prefs BadValue (λ prefs. refuse many LimitReached (done prefs))))
+
+-- the same by whether PARAMETERS is of its form
+abbrev pub check_flags : Bool → Bool → Bool → Bool → List ℕ → Effect → Effect
+check_flags there texts formed many i done = refuse there (ExistsAlready i) (refuse (not texts) WrongValues (refuse (not formed) BadValue (refuse many LimitReached done)))
 
 abbrev pub index_created : List ℕ
 index_created = codes "Index created.\n"
 
-abbrev pub with_new_index : State → List ℕ → List ℕ → ℕ → State
-with_new_index m i t place = record m { indexes = with_index m.tables m.indexes i (target t place) all_rows }
+abbrev pub with_new_index : State → List ℕ → List ℕ → ℕ → Prefs → State
+with_new_index m i t place prefs = record m { indexes = with_index m.tables m.indexes i (target t place) prefs all_rows }
 
 -- there are more rows than an index has numbers
 abbrev pub has_too_many_rows : State → List ℕ → Bool
@@ -63,14 +89,15 @@ has_too_many_rows m t = nat_lt most_given (length (rows_in m.tables t all_rows))
 abbrev pub is_index_taken : State → List ℕ → List ℕ → ℕ → Bool
 is_index_taken m i t place = is_some (get m.indexes i) || has_context_index m.indexes t place
 
-abbrev pub create_index_on : State → List ℕ → List ℕ → Table → ℕ → Effect
-create_index_on m i t x place =
+abbrev pub create_index_on : State → List ℕ → List ℕ → Table → ℕ → Option Prefs → Effect
+create_index_on m i t x place prefs =
     check_index
     (is_index_taken m i t place)
     (is_text_at x.columns place)
+    prefs
     (nat_le index_limit (length (indexes_on m.indexes t)) || has_too_many_rows m t)
     i
-    (Does (with_new_index m i t place) index_created)
+    (λ prefs. Does (with_new_index m i t place prefs) index_created)
 
 -- no check holds
 pub record IsFreeIndex (m : State) (i t : List ℕ) (x : Table) (place : ℕ) : Type 0 where
@@ -79,35 +106,52 @@ pub record IsFreeIndex (m : State) (i t : List ℕ) (x : Table) (place : ℕ) : 
   pub texts : is_text_at x.columns place ≡ true
   pub few : (nat_le index_limit (length (indexes_on m.indexes t)) || has_too_many_rows m t) ≡ false
 
-abbrev pub create_index : State → List ℕ → List ℕ → List ℕ → Effect
-create_index m i t column =
+-- what follows where the table and the column are there
+abbrev pub create_index_by : State → List ℕ → List ℕ → Option (List Request) → Table → ℕ → Effect
+create_index_by m i t requests x place =
+    refuse_by (unknown_asked m.preferences requests) UnknownName (create_index_on m i t x place (prefs_asked m.preferences requests))
+
+abbrev pub create_index : State → List ℕ → List ℕ → List ℕ → Option (List ℕ) → Effect
+create_index m i t column parameters =
     with_found (get m.tables t) (UnknownName t) (λ (x : Table).
     with_found (place_of column x.columns) (UnknownName column) (λ (place : ℕ).
-    create_index_on m i t x place))
+    create_index_by m i t (requests_in parameters) x place))
 
 -- ---- what its functions give
 
+-- What PARAMETERS asks for: the first name that is not defined, and what the names mean.
+pub record AsksFor (ps : Preferences) (requests : Option (List Request)) (asked : Asked) : Type 0 where
+  pub unknown : asked.unknown ≡ unknown_asked ps requests
+  pub prefs : asked.prefs ≡ prefs_asked ps requests
+
 -- the changes of the new index: there are some
-abbrev pub MakesIndex : State → List ℕ → List ℕ → ℕ → Option (List (List ℕ × Option (List ℕ))) → Type 0
-MakesIndex m i t place batch = MatchOption batch ⊥ (λ changes. changes ≡ spell (create_changes m.tables i (target t place) all_rows))
+abbrev pub MakesIndex : State → List ℕ → List ℕ → ℕ → Prefs → Option (List (List ℕ × Option (List ℕ))) → Type 0
+MakesIndex m i t place prefs batch = MatchOption batch ⊥ (λ changes. changes ≡ spell (create_changes m.tables i (target t place) prefs all_rows))
 
 -- the same of an index that may be made, unless the call failed
-abbrev pub MakesFreeIndex : State → List ℕ → List ℕ → ℕ → Result (Option (List (List ℕ × Option (List ℕ)))) KeepFault → Type 0
-MakesFreeIndex m i t place result = (x : Table) → place < 256 → IsFreeIndex m i t x place → IfOk result (MakesIndex m i t place)
+abbrev pub MakesFreeIndex : State → List ℕ → List ℕ → ℕ → Prefs → Result (Option (List (List ℕ × Option (List ℕ)))) KeepFault → Type 0
+MakesFreeIndex m i t place prefs result = (x : Table) → place < 256 → IsFreeIndex m i t x place → IfOk result (MakesIndex m i t place prefs)
 
 -- what the statement comes to on a column, by its place, of a table with these columns
-abbrev pub PlansIndex : State → Content → Table → List ℕ → List ℕ → List Column → ℕ → Result Plan KeepFault → Type 0
-PlansIndex m c x i t columns place result = place < 256 → columns ≡ x.columns → IfOk result (IsPlan (create_index_on m i t x place) index_created c)
+abbrev pub PlansIndex : State → Content → Table → List ℕ → List ℕ → List Column → ℕ → Option Prefs → Result Plan KeepFault → Type 0
+PlansIndex m c x i t columns place prefs result = place < 256 → columns ≡ x.columns → IfOk result (IsPlan (create_index_on m i t x place prefs) index_created c)
 
 -- computed examples: an index on a column of a table with the columns id, body and price; the body, a CLOB, is at the place 1
-a_good_index : (done : Effect) → check_index false (is_text_at docs_columns 1) false (codes "di") done ≡ done
+a_good_index : (done : Prefs → Effect) → check_index false (is_text_at docs_columns 1) (Some default_prefs) false (codes "di") done ≡ done default_prefs
 a_good_index done = refl
 
-there_and_on_a_number : (done : Effect) → check_index true (is_text_at docs_columns 2) true (codes "di") done ≡ Refused (ExistsAlready (codes "di"))
+there_and_on_a_number : (done : Prefs → Effect) → check_index true (is_text_at docs_columns 2) None true (codes "di") done ≡ Refused (ExistsAlready (codes "di"))
 there_and_on_a_number done = refl
 
-on_a_number : (done : Effect) → check_index false (is_text_at docs_columns 2) true (codes "di") done ≡ Refused WrongValues
+on_a_number : (done : Prefs → Effect) → check_index false (is_text_at docs_columns 2) None true (codes "di") done ≡ Refused WrongValues
 on_a_number done = refl
 
-one_index_too_many : (done : Effect) → check_index false (is_text_at docs_columns 1) true (codes "di") done ≡ Refused LimitReached
+of_no_form : (done : Prefs → Effect) → check_index false (is_text_at docs_columns 1) None true (codes "di") done ≡ Refused BadValue
+of_no_form done = refl
+
+one_index_too_many : (done : Prefs → Effect) → check_index false (is_text_at docs_columns 1) (Some default_prefs) true (codes "di") done ≡ Refused LimitReached
 one_index_too_many done = refl
+
+-- where nothing is asked for, an index reads by the defaults
+by_the_defaults : (ps : Preferences) → prefs_asked ps (requests_in None) ≡ Some default_prefs
+by_the_defaults ps = refl

@@ -1,11 +1,10 @@
 -- What CTX_DDL.SYNC_INDEX does.
-use Rattle.std.specs.Prelude.{ℕ, pos, ◌+◌, ◌==◌, nat_lt, Bool, true, false, not, ◌||◌, ◌&&◌, is_some, List, [], ◌∷◌, length, map, Option, Some, None, codes, ◌≡◌, refl, MatchOption}
-use Rattle.std.specs.Bool.{if◌then◌else◌}
+use Rattle.std.specs.Prelude.{ℕ, pos, ◌+◌, ◌==◌, nat_lt, Bool, true, false, not, ◌||◌, ◌&&◌, is_some, List, [], ◌∷◌, length, Option, Some, None, codes, ◌≡◌, refl, MatchOption}
 use Rattle.std.specs.Char.{to_ascii_lowercase, is_ascii_digit}
 use Rattle.std.specs.FinMap.{get}
-use Rattle.ct_base.specs.Names.{is_spelling}
 use Rattle.st_parse.specs.declared.statements.Arg.{Arg}
 use Rattle.st_parse.specs.declared.statements.Arg.TheVariants.{Text as TextArg, Number as NumberArg}
+use Rattle.db_call.specs.Arguments.{are_texts, name_at}
 use Rattle.ct_entry.specs.Changes.{spell}
 use Rattle.ix_context.specs.Changes.{sync_changes}
 use Rattle.ix_context.specs.Indexes.{given, Index, pending_rows, synced}
@@ -16,19 +15,9 @@ use Rattle.db_state.specs.Effects.{Effect, Refused, Does, refuse, refuse_by, wit
 use Rattle.st_parse.specs.declared.statements.Whole.TheVariants.{Fits}
 use Rattle.db_state.specs.Lines.{call_done}
 
--- the name that an argument spells, in lower case
-abbrev pub spelt_name : List ℕ → Option (List ℕ)
-spelt_name text = if is_spelling text then Some (map to_ascii_lowercase text) else None
-
-abbrev pub name_arg : List Arg → Option (List ℕ)
-name_arg (TextArg text ∷ args) = spelt_name text
-name_arg args = None
-
 -- the index by its name, and a size of memory, which has no effect
 abbrev pub are_sync_args : List Arg → Bool
-are_sync_args (TextArg name ∷ []) = true
-are_sync_args (TextArg name ∷ TextArg memory ∷ []) = true
-are_sync_args args = false
+are_sync_args args = are_texts 1 args || are_texts 2 args
 
 -- one of K, M and G, in any case
 abbrev pub is_unit : ℕ → Bool
@@ -80,7 +69,7 @@ has_index m None = false
 has_index m (Some i) = is_some (get m.indexes i)
 
 abbrev pub sync_index : State → List Arg → Effect
-sync_index m args = check_sync (unknown_name (has_index m (name_arg args)) (name_arg args)) args (sync_named m (name_arg args))
+sync_index m args = check_sync (unknown_name (has_index m (name_at 0 args)) (name_at 0 args)) args (sync_named m (name_at 0 args))
 
 -- ---- what its functions give
 
@@ -99,12 +88,12 @@ no_unit : is_memory_size (codes "16") ≡ false
 no_unit = refl
 
 -- the name that no index has comes before the number of arguments
-unknown_and_too_many : (done : Effect) → check_sync (unknown_name false (name_arg (TextArg (codes "nope") ∷ NumberArg (Fits (pos 1)) ∷ NumberArg (Fits (pos 2)) ∷ []))) (TextArg (codes "nope") ∷ NumberArg (Fits (pos 1)) ∷ NumberArg (Fits (pos 2)) ∷ []) done
+unknown_and_too_many : (done : Effect) → check_sync (unknown_name false (name_at 0 (TextArg (codes "nope") ∷ NumberArg (Fits (pos 1)) ∷ NumberArg (Fits (pos 2)) ∷ []))) (TextArg (codes "nope") ∷ NumberArg (Fits (pos 1)) ∷ NumberArg (Fits (pos 2)) ∷ []) done
     ≡ Refused (UnknownName (codes "nope"))
 unknown_and_too_many done = refl
 
 -- a text that isn't spelt as a name is none that could be unknown
-no_name_and_a_number : (done : Effect) → check_sync (unknown_name false (name_arg (TextArg (codes "no name") ∷ NumberArg (Fits (pos 1)) ∷ []))) (TextArg (codes "no name") ∷ NumberArg (Fits (pos 1)) ∷ []) done
+no_name_and_a_number : (done : Effect) → check_sync (unknown_name false (name_at 0 (TextArg (codes "no name") ∷ NumberArg (Fits (pos 1)) ∷ []))) (TextArg (codes "no name") ∷ NumberArg (Fits (pos 1)) ∷ []) done
     ≡ Refused WrongValues
 no_name_and_a_number done = refl
 
@@ -114,5 +103,5 @@ no_name_alone m = refl
 bad_size : (done : Effect) → check_sync (unknown_name true (Some (codes "di"))) (TextArg (codes "di") ∷ TextArg (codes "16") ∷ []) done ≡ Refused BadValue
 bad_size done = refl
 
-in_any_case : name_arg (TextArg (codes "DI") ∷ []) ≡ Some (codes "di")
+in_any_case : name_at 0 (TextArg (codes "DI") ∷ []) ≡ Some (codes "di")
 in_any_case = refl

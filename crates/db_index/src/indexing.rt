@@ -1,17 +1,19 @@
 //! CREATE INDEX.
 #![tactic(auto, using(ct_keep::specs::Composing::reads_on, ct_keep::specs::Composing::reads_short, ct_keep::specs::Composing::accepts_on))]
 
-ghost use Rattle.std.specs.Prelude.{◌≡◌, ◌<◌, IfOk, IfSome, Some, nat_le, length};
+ghost use Rattle.std.specs.Prelude.{ℕ, Option, List, ◌≡◌, ◌<◌, IfOk, IfSome, Some, nat_le, length, true};
 ghost use Rattle.ct_base.specs.Names.{IsName};
 ghost use Rattle.ct_keep.specs.KeeperViews.{OnlyReads};
 ghost use Rattle.tb_table.specs.Tables.{Table};
+ghost use Rattle.tx_settings.specs.Attributes.{can_be_set};
 ghost use Rattle.db_state.specs.States.{OverStates, OverTable, indexes_on, index_limit, Sees};
 ghost use Rattle.db_state.specs.Effects.{Effect, Checks};
-ghost use Rattle.db_index.specs.Indexing.{MakesFreeIndex, PlansIndex, check_index, create_index as create_index_effect, has_context_index as column_has_index, index_created, is_index_taken, is_text_at as text_at, is_text_sort as sort_of_texts, IsFreeIndex};
-ghost use Rattle.db_state.specs.Plans.{IsStorePlan, Plans, Replies, always};
+ghost use Rattle.db_index.specs.Indexing.{MakesFreeIndex, PlansIndex, check_flags, AsksFor, requests_in, create_index as create_index_effect, has_context_index as column_has_index, index_created, is_index_taken, is_text_at as text_at, is_text_sort as sort_of_texts, IsFreeIndex};
+ghost use Rattle.db_state.specs.Plans.{IsStorePlan, IsPlan, Replies, always};
 ghost use Rattle.db_state.specs.Shapes.{AcceptsStatements, AreStoreChanges};
 
-use ct_base::Name;
+use crate::asking::{Asked, read_asked};
+use ct_base::{Name, Text};
 use ct_keep::{Batch, KeepFault, Keeper};
 use db_cond::Fault;
 use db_names::{IndexHead, indexes_of};
@@ -19,6 +21,7 @@ use db_state::{Plan, carry_out, context_index, has_index, place_of, table_column
 use ix_context::{ContextFault, KeyRange, create};
 use std::alloc::Global;
 use tb_table::{Column, Sort};
+use tx_settings::Prefs;
 
 /// How many indexes a table has at most.
 const INDEX_LIMIT: usize = 16;
@@ -101,8 +104,14 @@ fn has_most_indexes<K: Keeper>(
 }
 
 /// The first check that fails.
-fn index_fault<'a>(there: bool, texts: bool, many: bool, index: &'a Name) -> Option<Fault<'a>>
-    ensures checks { (done : Effect) → Checks result (check_index there texts many index.now done) done }
+fn index_fault<'a>(
+    there: bool,
+    texts: bool,
+    formed: bool,
+    many: bool,
+    index: &'a Name,
+) -> Option<Fault<'a>>
+    ensures checks { (done : Effect) → Checks result (check_flags there texts formed many index.now done) done }
     ensures named { IsName index.now }
 {
     let name = index.as_str();
@@ -111,6 +120,9 @@ fn index_fault<'a>(there: bool, texts: bool, many: bool, index: &'a Name) -> Opt
     }
     if !texts {
         return Some(Fault::WrongValues);
+    }
+    if !formed {
+        return Some(Fault::BadValue);
     }
     if many {
         return Some(Fault::LimitReached);
@@ -126,9 +138,11 @@ fn created<K: Keeper>(
     index: &Name,
     table: &Name,
     place: usize,
+    prefs: &Prefs,
 ) -> Result<Option<Batch>, KeepFault>
-    requires { (K.view keeper.old).ready }
-    ensures changes { OverStates K.view keeper.old (λ m c. MakesFreeIndex m index.now table.now place result) }
+    requires ready { (K.view keeper.old).ready }
+    requires set { can_be_set prefs.now.lexer ≡ true }
+    ensures changes { OverStates K.view keeper.old (λ m c. MakesFreeIndex m index.now table.now place prefs.now result) }
     ensures entries { IfOk result (λ found. IfSome found AreStoreChanges) }
     ensures reads { OnlyReads K.view keeper.old keeper.new result }
 {
@@ -137,7 +151,15 @@ fn created<K: Keeper>(
     };
     let target = target_of(table, column)?;
     let mut batch = Batch::new(alloc);
-    match create(alloc, keeper, &mut batch, index, &target, KeyRange::ALL) {
+    match create(
+        alloc,
+        keeper,
+        &mut batch,
+        index,
+        &target,
+        prefs,
+        KeyRange::ALL,
+    ) {
         Ok(()) => Ok(Some(batch)),
         Err(ContextFault::TooMany) => Ok(None),
         Err(ContextFault::Memory) => Err(KeepFault::Memory),
@@ -153,18 +175,30 @@ fn plan_on<'a, K: Keeper>(
     table: &Name,
     columns: &[Column],
     place: usize,
+    prefs: &Option<Prefs>,
 ) -> Result<Plan<'a>, KeepFault>
-    requires { (K.view keeper.old).ready }
-    ensures plan { OverTable K.view keeper.old table.now (λ m c x. PlansIndex m c x index.now table.now columns.now place result) }
+    requires ready { (K.view keeper.old).ready }
+    requires set { IfSome prefs.now (λ prefs. can_be_set prefs.lexer ≡ true) }
+    ensures plan { OverTable K.view keeper.old table.now (λ m c x. PlansIndex m c x index.now table.now columns.now place prefs.now result) }
     ensures entries { IfOk result IsStorePlan }
     ensures reads { OnlyReads K.view keeper.old keeper.new result }
 {
     let there = is_taken(alloc, keeper, index, table, place)?;
     let many = has_most_indexes(alloc, keeper, table)?;
-    if let Some(fault) = index_fault(there, is_text_at(columns, place), many, index) {
+    if let Some(fault) = index_fault(
+        there,
+        is_text_at(columns, place),
+        prefs.is_some(),
+        many,
+        index,
+    ) {
         return Ok(Plan::Refused(fault));
     }
-    let found = created(alloc, keeper, index, table, place)?;
+    let Some(prefs) = prefs else {
+        return Ok(Plan::Refused(Fault::BadValue));
+    };
+    prefs.keep_rules();
+    let found = created(alloc, keeper, index, table, place, prefs)?;
     let Some(batch) = found else {
         return Ok(Plan::Refused(Fault::LimitReached));
     };
@@ -178,9 +212,11 @@ fn index_plan<'a, K: Keeper>(
     index: &'a Name,
     table: &'a Name,
     column: &'a Name,
+    asked: &'a Asked,
 ) -> Result<Plan<'a>, KeepFault>
-    requires { (K.view keeper.old).ready }
-    ensures plan { Plans K.view keeper.old result (λ m. create_index_effect m index.now table.now column.now) index_created }
+    requires ready { (K.view keeper.old).ready }
+    requires set { IfSome asked.now.prefs (λ prefs. can_be_set prefs.lexer ≡ true) }
+    ensures plan { OverStates K.view keeper.old (λ m c. (parameters : Option (List ℕ)) → AsksFor m.preferences (requests_in parameters) asked.now → IfOk result (IsPlan (create_index_effect m index.now table.now column.now parameters) index_created c)) }
     ensures entries { IfOk result IsStorePlan }
     ensures reads { OnlyReads K.view keeper.old keeper.new result }
 {
@@ -190,22 +226,35 @@ fn index_plan<'a, K: Keeper>(
     let Some(place) = place_of(column, &columns) else {
         return Ok(Plan::Refused(Fault::UnknownName(column.as_str())));
     };
-    plan_on(alloc, keeper, index, table, &columns, place)
+    if let Some(name) = &asked.unknown {
+        return Ok(Plan::Refused(Fault::UnknownName(name.as_str())));
+    }
+    plan_on(alloc, keeper, index, table, &columns, place, &asked.prefs)
 }
 
-/// CREATE INDEX of kind CONTEXT: each row that is there becomes a document of the index. Its cost is what their texts hold,
-/// times a logarithm.
+/// CREATE INDEX of kind CONTEXT: each row of the table becomes a document of the index, which reads texts by a copy of the preferences
+/// that PARAMETERS names. The first of these that holds: E11 where there is no such table, column or preference; E12 where the index
+/// is there, or the column has one; E13 where the column is a NUMBER; E30 where PARAMETERS isn't of its form; E31 where the table has
+/// 16 indexes.
+///
+/// Its cost is that of copying the preferences, the length of the entries of all indexes, and what the texts hold, times a logarithm;
+/// all changes are in memory until the commit.
 pub fn create_index<K: Keeper>(
     alloc: Global,
     keeper: &mut K,
     index: &Name,
     table: &Name,
     column: &Name,
+    parameters: &Option<Text>,
 ) -> Result<Vec<u8>, KeepFault>
     requires { AcceptsStatements (K.view keeper.old) }
-    ensures { Replies K.view keeper.old keeper.new result (λ m. create_index_effect m index.now table.now column.now) (Some (always index_created)) }
+    ensures { Replies K.view keeper.old keeper.new result (λ m. create_index_effect m index.now table.now column.now parameters.now) (Some (always index_created)) }
 {
-    match index_plan(alloc, keeper, index, table, column) {
+    let asked = match read_asked(alloc, keeper, parameters) {
+        Ok(asked) => asked,
+        Err(fault) => return Err(fault),
+    };
+    match index_plan(alloc, keeper, index, table, column, &asked) {
         Ok(plan) => carry_out(alloc, keeper, plan, b"Index created.\n"),
         Err(fault) => Err(fault),
     }

@@ -1,6 +1,7 @@
 //! Indexes and procedures: CREATE INDEX, DROP INDEX, CTX_DDL.SYNC_INDEX and CTX_DOC.POLICY_TOKENS.
 #![tactic(auto)]
 
+mod asking;
 mod dropping;
 mod indexing;
 mod syncing;

@@ -4,52 +4,28 @@
 ghost use Rattle.std.specs.Prelude.{◌≡◌, IfOk, IfSome, Some, None, Err, true, false};
 ghost use Rattle.std.specs.Option.{option_map};
 ghost use Rattle.ct_keep.specs.KeeperViews.{OnlyReads};
+ghost use Rattle.db_call.specs.Arguments.{name_at as name_there};
 ghost use Rattle.db_state.specs.States.{OverIndex, Sees};
 ghost use Rattle.db_state.specs.Effects.{Effect, Checks};
-ghost use Rattle.db_index.specs.Syncing.{MakesSync, are_sync_args as sync_args, check_sync, has_index as has_named_index, is_bad_size as bad_size, is_memory_size as memory_size, is_unit as unit_letter, name_arg as first_name, spelt_name as name_spelt, sync_index as sync_effect, unknown_name as name_unknown};
+ghost use Rattle.db_index.specs.Syncing.{MakesSync, are_sync_args as sync_args, check_sync, has_index as has_named_index, is_bad_size as bad_size, is_memory_size as memory_size, is_unit as unit_letter, sync_index as sync_effect, unknown_name as name_unknown};
 ghost use Rattle.db_state.specs.Lines.{call_done};
 ghost use Rattle.db_state.specs.Plans.{IsStorePlan, Plans, Replies, always};
 ghost use Rattle.db_state.specs.Shapes.{AcceptsStatements, AreStoreChanges};
 
-use ct_base::{Memory, Name, NameFault};
+use ct_base::Name;
 use ct_keep::{Batch, KeepFault, Keeper};
+use db_call::{are_texts, name_at};
 use db_cond::Fault;
-use db_names::index_of;
 use db_state::{Plan, carry_out, has_index};
 use ix_context::{ContextFault, sync};
 use st_parse::Arg;
 use std::alloc::Global;
 
-/// The name that a text spells, in any ASCII case.
-fn spelt_name(alloc: Global, text: &str) -> Result<Option<Name>, Memory>
-    ensures { IfOk result (λ found. found ≡ name_spelt text.now) }
-{
-    match Name::read(alloc, text) {
-        Ok(name) => Ok(Some(name)),
-        Err(NameFault::NotAName) => Ok(None),
-        Err(NameFault::Memory) => Err(Memory),
-    }
-}
-
-/// The name that the first argument spells, where it is a text that spells one.
-fn name_arg(alloc: Global, args: &[Arg]) -> Result<Option<Name>, Memory>
-    ensures { IfOk result (λ found. found ≡ first_name args.now) }
-{
-    match args {
-        [Arg::Text(text), ..] => spelt_name(alloc, text.as_str()),
-        _ => Ok(None),
-    }
-}
-
 /// Whether the arguments are one text, or two.
 fn are_sync_args(args: &[Arg]) -> bool
     ensures { result ≡ sync_args args.now }
 {
-    match args {
-        [Arg::Text(_)] => true,
-        [Arg::Text(_), Arg::Text(_)] => true,
-        _ => false,
-    }
+    are_texts(args, 1) || are_texts(args, 2)
 }
 
 /// Whether the byte is K, M or G, in any case.
@@ -159,7 +135,7 @@ fn sync_plan<'a, K: Keeper>(
     args: &[Arg],
 ) -> Result<Plan<'a>, KeepFault>
     requires ready { (K.view keeper.old).ready }
-    requires named { name.now ≡ first_name args.now }
+    requires named { name.now ≡ name_there 0 args.now }
     ensures plan { Plans K.view keeper.old result (λ m. sync_effect m args.now) call_done }
     ensures entries { IfOk result IsStorePlan }
     ensures reads { OnlyReads K.view keeper.old keeper.new result }
@@ -178,8 +154,9 @@ fn sync_plan<'a, K: Keeper>(
     Ok(Plan::Done(batch))
 }
 
-/// CTX_DDL.SYNC_INDEX: each row that waits becomes a document of the index. Its cost is what their texts hold, times a
-/// logarithm.
+/// CTX_DDL.SYNC_INDEX: each row that waits becomes a document of the index. The first of these that holds: E11 where no index has the
+/// name; E13 where the arguments are neither one text nor two; E30 where the first spells no name, or the second no size of memory;
+/// E31 where the index would have over 2^32 - 2 documents. Its cost is what the texts hold, times a logarithm.
 pub fn sync_index<K: Keeper>(
     alloc: Global,
     keeper: &mut K,
@@ -188,7 +165,7 @@ pub fn sync_index<K: Keeper>(
     requires { AcceptsStatements (K.view keeper.old) }
     ensures { Replies K.view keeper.old keeper.new result (λ m. sync_effect m args.now) (Some (always call_done)) }
 {
-    let name = name_arg(alloc, args)?;
+    let name = name_at(alloc, args, 0)?;
     match sync_plan(alloc, keeper, &name, args) {
         Ok(plan) => carry_out(
             alloc,

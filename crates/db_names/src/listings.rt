@@ -41,7 +41,7 @@ fn first_on(
 
 /// The name of an index of this kind on this column of a table; None exactly where there is none.
 ///
-/// It scans the entries of all indexes, and never answers Full.
+/// It reads the entries of all indexes whole, each with its copy of preferences, and never answers Full.
 pub fn index_on<K: Keeper>(
     alloc: Global,
     keeper: &mut K,
@@ -78,7 +78,7 @@ fn pairs_among(
 /// The indexes on a table, each with its head, in the order of their keys: the shorter names first, and those of a length
 /// in the order of their bytes.
 ///
-/// It scans the entries of all indexes, and never answers Full.
+/// It reads the entries of all indexes whole, each with its copy of preferences, and never answers Full.
 pub fn indexes_of<K: Keeper>(
     alloc: Global,
     keeper: &mut K,

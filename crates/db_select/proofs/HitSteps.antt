@@ -19,7 +19,6 @@ use Rattle.ix_context.specs.Indexes.{Index}
 use Rattle.db_state.specs.States.{State}
 use Rattle.db_rows.specs.Values.{values_of}
 use Rattle.db_rows.specs.Meeting.{row_meets, key_meets, meeting_keys}
-use Rattle.db_select.specs.Querying.{query_key}
 use Rattle.db_select.specs.Predicates.{Search}
 use Rattle.db_select.specs.Checking.{threshold_of}
 use Rattle.db_select.specs.Selecting.{index_of_search, found_in, hits}
@@ -53,10 +52,10 @@ module _ (p : Hit → Bool) (found : List Hit) where
 -- ---- with a search
 
 pub searched_are : (m : State) (t : List ℕ) (x : Table) (s : Search) (conds : List Cond) (y : Index) → index_of_search m t x.columns s ≡ Some y → (o : Option ℕ) → threshold_of s.above ≡ o
-    → filter (λ h. key_meets x conds h.0) (found_in m.tables (Some y) (query_key s.query) o) ≡ hits m t x (Some s) conds
+    → filter (λ h. key_meets x conds h.0) (found_in m.tables (Some y) s.query o) ≡ hits m t x (Some s) conds
 searched_are m t x s conds y needed o is =
-    sym (ap (λ (i : Option Index). filter (λ (h : ℤ × ℕ). key_meets x conds h.0) (found_in m.tables i (query_key s.query) (threshold_of s.above))) needed
-    ∙ ap (λ (o : Option ℕ). filter (λ (h : ℤ × ℕ). key_meets x conds h.0) (found_in m.tables (Some y) (query_key s.query) o)) is)
+    sym (ap (λ (i : Option Index). filter (λ (h : ℤ × ℕ). key_meets x conds h.0) (found_in m.tables i s.query (threshold_of s.above))) needed
+    ∙ ap (λ (o : Option ℕ). filter (λ (h : ℤ × ℕ). key_meets x conds h.0) (found_in m.tables (Some y) s.query o)) is)
 
 pub met_are : (x : Table) (conds : List Cond) (all met : List Hit) (found : List (ℤ × ℕ)) → found_scores all ≡ found → met ≡ filter (λ h. key_meets x conds h.key.0) all
     → found_scores met ≡ filter (λ h. key_meets x conds h.0) found

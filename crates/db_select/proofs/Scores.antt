@@ -8,6 +8,7 @@ use Rattle.tb_table.specs.Tables.{Tables}
 use Rattle.ix_docmap.specs.Marks.{Mark, Pending, Settled}
 use Rattle.ix_context.specs.Indexes.{Index, marks_in, if_above, scored, found_at, text_seen, found}
 use Rattle.ix_context.specs.Postings.{word_score}
+use Rattle.tx_settings.specs.declared.preferences.Prefs.{Prefs}
 
 none_above : (n score : ℕ) → nat_lt 0 score ≡ false → nat_lt n score ≡ false
 none_above n score h = let l = ltb-false 0 score h in not_below (nat_lt n score) refl l
@@ -23,13 +24,13 @@ above_of_all n r score = go (nat_lt 0 score) refl
     go true e = refl
     go false e = ap (λ (b : Bool). cond b (Some (r, score)) None) (sym (none_above n score e))
 
-scored_of_all : (key : List ℕ) (n : ℕ) (r : ℤ) (text : Option (List ℕ)) → option_filter (λ (h : ℤ × ℕ). nat_lt n h.1) (scored key 0 r text) ≡ scored key n r text
-scored_of_all key n r None = refl
-scored_of_all key n r (Some text) = above_of_all n r (word_score key text)
+scored_of_all : (p : Prefs) (key : List ℕ) (n : ℕ) (r : ℤ) (text : Option (List ℕ)) → option_filter (λ (h : ℤ × ℕ). nat_lt n h.1) (scored p key 0 r text) ≡ scored p key n r text
+scored_of_all p key n r None = refl
+scored_of_all p key n r (Some text) = above_of_all n r (word_score p key text)
 
 at_of_all : (ts : Tables) (x : Index) (key : List ℕ) (n : ℕ) (r : ℤ) (m : Mark (Unit {0})) → option_filter (λ (h : ℤ × ℕ). nat_lt n h.1) (found_at ts x key 0 r m) ≡ found_at ts x key n r m
 at_of_all ts x key n r Pending = refl
-at_of_all ts x key n r (Settled _) = scored_of_all key n r (text_seen ts x r)
+at_of_all ts x key n r (Settled _) = scored_of_all x.prefs key n r (text_seen ts x r)
 
 -- a filter of what is given is what is given through it
 kept : {Y : Type 0} (p : Y → Bool) (y : Y) (ys zs : List Y) (b : Bool) → p y ≡ b → filter p ys ≡ zs → cond b (y ∷ filter p ys) (filter p ys) ≡ cons_option (cond b (Some y) None) zs

@@ -6,6 +6,7 @@ use Rattle.std.specs.Str.{chars}
 use Rattle.ct_entry.specs.Keys.{same_list}
 use Rattle.ucd_category.proofs.Computing.{ucd_category}
 use Rattle.tx_chars.specs.Keys.{is_word, key_of}
+use Rattle.tx_settings.specs.declared.preferences.Prefs.{Prefs}
 
 -- the words that are operators, functions or refused, in lower case; so no query text is one of them
 unfoldable pub reserved_words : List (List ℕ)
@@ -19,9 +20,9 @@ reserved_words =
 abbrev pub is_word_query : List ℕ → Bool
 is_word_query text = nat_lt 0 (length text) && (list_all is_word (chars text) && not (list_any (same_list (map to_ascii_lowercase text)) reserved_words))
 
--- the key of the word
-abbrev pub query_key : List ℕ → List ℕ
-query_key text = key_of false false (chars text)
+-- the key of the word, by the flags of the index's lexer
+abbrev pub query_key : Prefs → List ℕ → List ℕ
+query_key p text = key_of p.lexer.base_letter p.lexer.mixed_case (chars text)
 
 -- computed examples
 a_word : is_word_query (codes "Web2") ≡ true

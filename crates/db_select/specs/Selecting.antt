@@ -41,17 +41,17 @@ abbrev pub lacks_index : State → List ℕ → List Column → Option Search �
 lacks_index m t columns None = false
 lacks_index m t columns (Some s) = is_none (index_of_search m t columns s)
 
--- what is found for the key of a word with a score above a number; nothing without an index or a number
+-- what is found for the word of a query with a score above a number; nothing without an index or a number
 abbrev pub found_in : Tables → Option Index → List ℕ → Option ℕ → List (ℤ × ℕ)
-found_in ts None key threshold = []
-found_in ts (Some x) key None = []
-found_in ts (Some x) key (Some n) = found ts x key n
+found_in ts None query threshold = []
+found_in ts (Some x) query None = []
+found_in ts (Some x) query (Some n) = found ts x (query_key x.prefs query) n
 
 -- The keys of rows with their scores, in the order of the keys: of those that the search finds, or without one of all, with
 -- the score 0, for which no SCORE asks.
 abbrev pub found_rows : State → List ℕ → Table → Option Search → List (ℤ × ℕ)
 found_rows m t x None = map {B = ℤ × ℕ} (λ e. (e.0, 0)) (entries x.rows)
-found_rows m t x (Some s) = found_in m.tables (index_of_search m t x.columns s) (query_key s.query) (threshold_of s.above)
+found_rows m t x (Some s) = found_in m.tables (index_of_search m t x.columns s) s.query (threshold_of s.above)
 
 -- of them those that meet all conditions
 abbrev pub hits : State → List ℕ → Table → Option Search → List Cond → List (ℤ × ℕ)

@@ -8,7 +8,7 @@ ghost use Rattle.ct_keep.specs.KeeperViews.{OnlyReads};
 ghost use Rattle.ix_context.specs.Indexes.{Index, found};
 ghost use Rattle.db_state.specs.States.{OverIndex, OverTable};
 ghost use Rattle.db_rows.specs.Meeting.{key_meets};
-ghost use Rattle.db_select.specs.Querying.{query_key};
+ghost use Rattle.db_select.specs.Querying.{query_key as word_key};
 ghost use Rattle.db_select.specs.Selecting.{hits, index_of_search};
 ghost use Rattle.db_select.specs.Searches.{asked};
 ghost use Rattle.db_select.specs.Sources.{found_scores, unscored as unscored_hit};
@@ -18,11 +18,10 @@ use crate::predicates::Search;
 use ct_base::{Memory, Name, RowKey};
 use ct_keep::{KeepFault, Keeper};
 use db_rows::{meets, rows_meeting};
-use ix_context::{Hit, search};
+use ix_context::{Hit, query_key, search};
 use st_parse::Cond;
 use std::alloc::Global;
 use tb_table::Column;
-use tx_chars::key;
 
 /// Keeps the rows with a score above a number.
 fn keep_above(hits: &mut Vec<Hit>, above: u32)
@@ -40,11 +39,11 @@ fn hits_above<K: Keeper>(
     above: u32,
 ) -> Result<Vec<Hit>, KeepFault>
     requires { (K.view keeper.old).ready }
-    ensures found { OverIndex K.view keeper.old index.now (λ m x. IfOk result (λ hits. found_scores hits.items ≡ found m.tables x (query_key query.now) above)) }
+    ensures found { OverIndex K.view keeper.old index.now (λ m x. IfOk result (λ hits. found_scores hits.items ≡ found m.tables x (word_key x.prefs query.now) above)) }
     ensures reads { OnlyReads K.view keeper.old keeper.new result }
 {
-    let word = key(alloc, query, false, false)?;
-    let mut hits = search(alloc, keeper, index, &word)?;
+    let key = query_key(alloc, keeper, index, query)?;
+    let mut hits = search(alloc, keeper, index, &key)?;
     keep_above(&mut hits, above);
     Ok(hits)
 }

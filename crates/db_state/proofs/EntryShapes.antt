@@ -8,6 +8,7 @@ use Rattle.ct_entry.specs.KeyParts.{SpellsKey}
 use Rattle.ct_entry.specs.laws.Keys.{key_from_bytes}
 use Rattle.tb_table.specs.Shapes.{HasTableValue, IsTableShape}
 use Rattle.ix_context.specs.Shapes.{HasIndexValue, IsIndexShape}
+use Rattle.tx_prefs.specs.Shapes.{HasPrefValue, IsPrefShape}
 use Rattle.db_state.specs.Shapes.{IsStoreEntry}
 
 -- bytes that spell no key are those of no entry
@@ -20,21 +21,28 @@ module _ (spelling value owner part : List ℕ) (kind : Kind) (parts : IsName ow
   of_table shape = record { key = key kind owner part; spelt = parts.1; parts = record { owner = parts.0; part = shape.rest }; has = inl shape.has }
 
   pub of_index : IsIndexShape kind part value → IsStoreEntry spelling value
-  of_index shape = record { key = key kind owner part; spelt = parts.1; parts = record { owner = parts.0; part = shape.0 }; has = inr shape.1 }
+  of_index shape = record { key = key kind owner part; spelt = parts.1; parts = record { owner = parts.0; part = shape.0 }; has = inr (inl shape.1) }
+
+  pub of_preference : IsPrefShape kind part value → IsStoreEntry spelling value
+  of_preference shape = record { key = key kind owner part; spelt = parts.1; parts = record { owner = parts.0; part = shape.rest }; has = inr (inr shape.has) }
 
   same_key : (entry : IsStoreEntry spelling value) → entry.key ≡ key kind owner part
   same_key entry = key_from_bytes entry.key (key kind owner part) (sym entry.spelt ∙ parts.1)
 
-  -- it is the one or the other
-  pub either : IsStoreEntry spelling value → IsTableShape kind part value ⊎ IsIndexShape kind part value
+  -- it is one of the three
+  pub either : IsStoreEntry spelling value → IsTableShape kind part value ⊎ (IsIndexShape kind part value ⊎ IsPrefShape kind part value)
   either entry =
       let rest = subst (λ (k : Key). IsPart k.kind k.part) (same_key entry) entry.parts.part in
       ⊎_elim
       (λ has. inl (record { rest = rest; has = subst (λ (k : Key). HasTableValue k value) (same_key entry) has }))
-      (λ has. inr (rest, subst (λ (k : Key). HasIndexValue k value) (same_key entry) has)) entry.has
+      (λ others. ⊎_elim
+      (λ has. inr (inl (rest, subst (λ (k : Key). HasIndexValue k value) (same_key entry) has)))
+      (λ has. inr (inr (record { rest = rest; has = subst (λ (k : Key). HasPrefValue k value) (same_key entry) has }))) others)
+      entry.has
 
-  pub index_alone : (IsTableShape kind part value → ⊥) → IsStoreEntry spelling value → IsIndexShape kind part value
-  index_alone other entry = ⊎_elim (λ shape. absurd (other shape)) (λ shape. shape) (either entry)
+  -- the last where it is none of the others
+  pub preference_alone : (IsTableShape kind part value → ⊥) → (IsIndexShape kind part value → ⊥) → IsStoreEntry spelling value → IsPrefShape kind part value
+  preference_alone no_table no_index entry = ⊎_elim (λ shape. absurd (no_table shape)) (λ others. ⊎_elim (λ shape. absurd (no_index shape)) (λ shape. shape) others) (either entry)
 
 -- the parts that were found
 pub spelt_by : {X : Type 0} (key_of : X → Key) (found : Option X) (x : X) (spelling : List ℕ) → SpellsKey spelling (option_map key_of found) → found ≡ Some x → IsName (key_of x).owner × (spelling ≡ bytes (key_of x))

@@ -11,6 +11,8 @@ use Rattle.ct_entry.specs.laws.Parts.{is_short}
 use Rattle.ct_entry.specs.laws.Well.{entry_of_key}
 use Rattle.tb_table.specs.Shapes.{HasTableValue}
 use Rattle.ix_context.specs.Shapes.{HasIndexValue}
+use Rattle.tx_prefs.specs.Shapes.{HasPrefValue}
+use Rattle.tx_prefs.specs.laws.Values.{lexer_value, stoplist_value, group_value}
 use Rattle.db_state.specs.States.{State, Stands, is_built}
 use Rattle.db_state.specs.Shapes.{HasStoreValue, IsStoreEntry}
 use Rattle.db_state.specs.Promises.{StoresAreWell}
@@ -31,7 +33,10 @@ of_table : (k : Key) (v : List ℕ) → is_short k.kind ≡ true → HasTableVal
 of_table k v short is = record { has = inl is.0; bounded = is.1; short = short }
 
 of_index : (k : Key) (v : List ℕ) → is_short k.kind ≡ true → HasIndexValue k v × (length v ≤ value_limit) → IsStored k v
-of_index k v short is = record { has = inr is.0; bounded = is.1; short = short }
+of_index k v short is = record { has = inr (inl is.0); bounded = is.1; short = short }
+
+of_preference : (k : Key) (v : List ℕ) → is_short k.kind ≡ true → HasPrefValue k v × (length v ≤ value_limit) → IsStored k v
+of_preference k v short is = record { has = inr (inr is.0); bounded = is.1; short = short }
 
 not_both : (o : Option (List ℕ)) (v : List ℕ) → o ≡ None → o ≡ Some v → ⊥
 not_both o v none some = cc
@@ -64,9 +69,9 @@ module _ (c : Content) (m : State) (stands : Stands c m) where
   stored kind.Tables o p v is = by_part kind.Tables o v p _ is (λ has. of_table _ v refl (table_value (at c) m.tables stands.tables stands.state.tables o v has))
   stored kind.RowNumbers o p v is = by_part kind.RowNumbers o v p _ is.2 (λ has. of_table _ v refl (numbers_value (at c) m.tables stands.tables stands.state.tables o v is.0 is.1 has))
   stored kind.RowTexts o p v is = by_part kind.RowTexts o v p _ is.1.3 (λ has. of_table _ v refl (text_value (at c) m.tables stands.tables stands.state.tables o v is.0 is.1.0 is.1.1 is.1.2 has))
-  stored kind.Preferences o p v is = nothing (key kind.Preferences o p) v refl
-  stored kind.Stoplists o p v is = nothing (key kind.Stoplists o p) v refl
-  stored kind.SectionGroups o p v is = nothing (key kind.SectionGroups o p) v refl
+  stored kind.Preferences o p v is = by_part kind.Preferences o v p _ is (λ has. of_preference _ v refl (lexer_value (at c) m.preferences stands.preferences stands.state.preferences o v has))
+  stored kind.Stoplists o p v is = by_part kind.Stoplists o v p _ is (λ has. of_preference _ v refl (stoplist_value (at c) m.preferences stands.preferences stands.state.preferences o v has))
+  stored kind.SectionGroups o p v is = by_part kind.SectionGroups o v p _ is (λ has. of_preference _ v refl (group_value (at c) m.preferences stands.preferences stands.state.preferences o v has))
   stored kind.IndexSets o p v is = nothing (key kind.IndexSets o p) v refl
   stored kind.Thesauri o p v is = nothing (key kind.Thesauri o p) v refl
   stored kind.Relations o p v is = nothing (key kind.Relations o p) v refl

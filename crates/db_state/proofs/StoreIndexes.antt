@@ -51,8 +51,8 @@ module _ (f : Key → Option (List ℕ)) (ts : Tables) (xs : Names Index) (table
       let name = tables.names x.0.table index.target.table index.target.there in
       let few = column_few ts tables x.0.table x.0.column index.target in
       let most = index.numbers in
-      let long = length-entry_le x.0.table x.0.column (given x.0 + 1) name in (
-        record { table = x.0.table; column = x.0.column; next = given x.0 + 1; named = name; place = omega (arith, few); fits = omega (arith, most); spelt = sym x.2 },
+      let long = length-entry_le x.0.table x.0.column x.0.prefs (given x.0 + 1) name index.prefs in (
+        record { table = x.0.table; column = x.0.column; prefs = x.0.prefs; next = given x.0 + 1; named = name; place = omega (arith, few); are = index.prefs; fits = omega (arith, most); spelt = sym x.2 },
         omega (arith, long, ap length x.2),
       )
 

@@ -17,6 +17,7 @@ use Rattle.ix_docmap.specs.Marks.{Mark, Pending, Settled, is_settled}
 use Rattle.ix_context.specs.Indexes.{Index, marks_in, part_in}
 use Rattle.ix_context.specs.Documents.{document_cost, postings_in}
 use Rattle.ix_context.specs.Spelling.{index_entry}
+use Rattle.tx_prefs.specs.Room.{preference_entries}
 use Rattle.db_state.specs.States.{State}
 use Rattle.db_state.specs.Room.{key_weight, text_room, row_room, table_room, mark_room, index_room, room}
 use Rattle.ct_entry.specs.laws.Lists.{sum_by-map-le, sum_by-flat_map-le}
@@ -125,7 +126,8 @@ indexes_weigh document ts (e ∷ es) =
 pub all_weigh : (document : List ℕ → ℤ → Option ℕ) (m : State) → sum_by entry_weight (all_entries document m) + sum_by (postings_room m.tables) (entries m.indexes) ≤ room m
 all_weigh document m = omega (
   arith,
-  sum_by-append entry_weight (flat_map table_entries (entries m.tables)) (flat_map (index_entries document) (entries m.indexes)),
+  sum_by-append entry_weight (flat_map table_entries (entries m.tables)) (flat_map (index_entries document) (entries m.indexes) ++ preference_entries m.preferences),
+  sum_by-append entry_weight (flat_map (index_entries document) (entries m.indexes)) (preference_entries m.preferences),
   sum_by-flat_map-le table_entries entry_weight table_room table_weighs (entries m.tables),
   indexes_weigh document m.tables (entries m.indexes),
 )

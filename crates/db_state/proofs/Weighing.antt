@@ -1,5 +1,5 @@
 -- A content weighs at most the room of its state.
-use Rattle.std.proofs.Common.{◌≡◌, ℕ, ℤ, ◌≤◌, ◌+◌, Bool, true, false, cond, List, [], ◌∷◌, map, Option, Some, None, refl, sym, ap, subst, ◌∙◌, inl, inr, arith}
+use Rattle.std.proofs.Common.{◌≡◌, ℕ, ℤ, ◌≤◌, ◌+◌, Bool, true, false, cond, List, [], ◌∷◌, ◌++◌, map, Option, Some, None, refl, sym, ap, subst, ◌∙◌, inl, inr, arith}
 use Rattle.std.specs.Prelude.{IsSome, sum_by, filter}
 use Rattle.std.specs.List.{flat_map}
 use Rattle.std.specs.Ordering.{int_cmp, eq_by_cmp}
@@ -19,6 +19,8 @@ use Rattle.ix_docmap.specs.Marks.{Mark, is_settled}
 use Rattle.ix_context.specs.Indexes.{Index, marks_in, mark_of, part_of}
 use Rattle.ix_context.specs.Documents.{document_cost, postings_in}
 use Rattle.ix_context.specs.laws.Weights.{has_code, weighs as postings_weigh}
+use Rattle.tx_prefs.specs.Room.{preference_entries}
+use Rattle.tx_prefs.specs.laws.Room.{lexer_in, stoplist_in, group_in}
 use Rattle.db_state.specs.States.{State, Stands, is_built, is_of_rows}
 use Rattle.db_state.specs.Room.{room}
 use Rattle.db_state.proofs.WeighEntries.{Entry, entry, table_entries, index_entries, all_entries}
@@ -50,11 +52,17 @@ module _ (c : Content) (m : State) (stands : Stands c m) where
   abbrev IsListed : Key → List ℕ → Type 0
   IsListed k v = IsIn (entry k v) (all_entries its_numbers m)
 
+  abbrev others : List Entry
+  others = flat_map (index_entries its_numbers) (entries m.indexes) ++ preference_entries m.preferences
+
   of_tables : (e : Entry) → IsIn e (flat_map table_entries (entries m.tables)) → IsIn e (all_entries its_numbers m)
-  of_tables e h = in_left e (flat_map table_entries (entries m.tables)) (flat_map (index_entries its_numbers) (entries m.indexes)) h
+  of_tables e h = in_left e (flat_map table_entries (entries m.tables)) others h
 
   of_indexes : (e : Entry) → IsIn e (flat_map (index_entries its_numbers) (entries m.indexes)) → IsIn e (all_entries its_numbers m)
-  of_indexes e h = in_right e (flat_map table_entries (entries m.tables)) (flat_map (index_entries its_numbers) (entries m.indexes)) h
+  of_indexes e h = in_right e (flat_map table_entries (entries m.tables)) others (in_left e (flat_map (index_entries its_numbers) (entries m.indexes)) (preference_entries m.preferences) h)
+
+  of_preferences : (e : Entry) → IsIn e (preference_entries m.preferences) → IsIn e (all_entries its_numbers m)
+  of_preferences e h = in_right e (flat_map table_entries (entries m.tables)) others (in_right e (flat_map (index_entries its_numbers) (entries m.indexes)) (preference_entries m.preferences) h)
 
   -- a kind that has no entries
   nothing : (k : Key) (v : List ℕ) → is_built k.kind ≡ false → at c k ≡ Some v → IsListed k v
@@ -69,9 +77,9 @@ module _ (c : Content) (m : State) (stands : Stands c m) where
   listed kind.Tables o p v other is = by_part kind.Tables o v p _ is (λ has. of_tables _ (table_in m.tables (at c) stands.tables o v has))
   listed kind.RowNumbers o p v other is = by_part kind.RowNumbers o v p _ is.2 (λ has. of_tables _ (numbers_in m.tables (at c) stands.tables o v is.0 is.1 has))
   listed kind.RowTexts o p v other is = by_part kind.RowTexts o v p _ is.1.3 (λ has. of_tables _ (text_in_all m.tables (at c) stands.tables o v is.0 is.1.0 is.1.1 is.1.2 has))
-  listed kind.Preferences o p v other is = nothing (key kind.Preferences o p) v refl
-  listed kind.Stoplists o p v other is = nothing (key kind.Stoplists o p) v refl
-  listed kind.SectionGroups o p v other is = nothing (key kind.SectionGroups o p) v refl
+  listed kind.Preferences o p v other is = by_part kind.Preferences o v p _ is (λ has. of_preferences _ (lexer_in (at c) m.preferences stands.preferences o v has))
+  listed kind.Stoplists o p v other is = by_part kind.Stoplists o v p _ is (λ has. of_preferences _ (stoplist_in (at c) m.preferences stands.preferences o v has))
+  listed kind.SectionGroups o p v other is = by_part kind.SectionGroups o v p _ is (λ has. of_preferences _ (group_in (at c) m.preferences stands.preferences o v has))
   listed kind.IndexSets o p v other is = nothing (key kind.IndexSets o p) v refl
   listed kind.Thesauri o p v other is = nothing (key kind.Thesauri o p) v refl
   listed kind.Relations o p v other is = nothing (key kind.Relations o p) v refl

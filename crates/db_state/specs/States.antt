@@ -12,17 +12,21 @@ use Rattle.tb_table.specs.Tables.{Table, Tables}
 use Rattle.tb_table.specs.Spelling.{TablesStand}
 use Rattle.tb_table.specs.Rules.{AreTables}
 use Rattle.ix_context.specs.Indexes.{Index}
+use Rattle.tx_prefs.specs.Preferences.{Preferences, no_preferences}
+use Rattle.tx_prefs.specs.Spelling.{PreferencesStand}
+use Rattle.tx_prefs.specs.Rules.{ArePreferences}
 use Rattle.ix_context.specs.Standing.{IndexesStand}
 use Rattle.ix_context.specs.Rules.{AreIndexes}
 
--- the tables with their rows, and the text indexes on them
+-- the tables with their rows, the text indexes on them, and what has been defined for indexes
 pub record State : Type 0 where
   pub tables : Tables
   pub indexes : Names Index
+  pub preferences : Preferences
 
 -- as a new store has it
 abbrev pub empty_state : State
-empty_state = record { tables = empty; indexes = empty }
+empty_state = record { tables = empty; indexes = empty; preferences = no_preferences }
 
 -- the names that are kept for what is only looked at, and are never those of tables
 abbrev pub is_view : List ℕ → Bool
@@ -42,15 +46,16 @@ pub record IsState (m : State) : Type 0 where
   pub indexes : AreIndexes m.tables m.indexes
   pub views : (t : List ℕ) (x : Table) → get m.tables t ≡ Some x → is_view t ≡ false
   pub few : (t : List ℕ) → length (indexes_on m.indexes t) ≤ index_limit
+  pub preferences : ArePreferences m.preferences
 
--- the kinds of entries that tables and CONTEXT indexes have; for now there is nothing else that is kept
+-- the kinds of entries that tables, CONTEXT indexes, and lexer preferences, stoplists and section groups have; for now there is nothing else that is kept
 abbrev pub is_built : Kind → Bool
 is_built kind.Tables = true
 is_built kind.RowNumbers = true
 is_built kind.RowTexts = true
-is_built kind.Preferences = false
-is_built kind.Stoplists = false
-is_built kind.SectionGroups = false
+is_built kind.Preferences = true
+is_built kind.Stoplists = true
+is_built kind.SectionGroups = true
 is_built kind.IndexSets = false
 is_built kind.Thesauri = false
 is_built kind.Relations = false
@@ -82,6 +87,7 @@ pub record Stands (c : Content) (m : State) : Type 0 where
   pub unbuilt : (k : Key) → is_built k.kind ≡ false → at c k ≡ None
   pub tables : TablesStand (at c) m.tables
   pub indexes : IndexesStand (at c) m.tables m.indexes
+  pub preferences : PreferencesStand (at c) m.preferences
   pub short_rows : HasShortRows (at c)
   pub state : IsState m
 

@@ -8,8 +8,9 @@ use ct_keep::Shape;
 use ix_context::is_index_shape;
 use std::alloc::Global;
 use tb_table::is_table_shape;
+use tx_prefs::is_pref_shape;
 
-/// The shape of a store: each entry is one of a table or of a CONTEXT index, with a key and a value of its kind's form
+/// The shape of a store: each entry is one of a table, of a CONTEXT index, or of a preference, a stoplist or a section group, with a key and a value of its kind's form
 /// (docs/STORE.md). To tell of an entry costs the length of its key and its value.
 #[derive(Drop)]
 pub struct StoreShape;
@@ -24,6 +25,9 @@ impl Shape for StoreShape {
         if is_table_shape(alloc, kind, part, value)? {
             return Ok(true);
         }
-        is_index_shape(alloc, kind, part, value)
+        if is_index_shape(alloc, kind, part, value)? {
+            return Ok(true);
+        }
+        is_pref_shape(alloc, kind, part, value)
     }
 }

@@ -27,7 +27,7 @@ score_above n score = if nat_lt n score then Some score else None
 -- the score that a row has by its mark, where it is above n
 abbrev score_at : Tables → Index → List ℕ → ℕ → ℤ → Mark (Unit {0}) → Option ℕ
 score_at ts x key n r Pending = None
-score_at ts x key n r (Settled _) = option_and_then (λ text. score_above n (word_score key text)) (text_seen ts x r)
+score_at ts x key n r (Settled _) = option_and_then (λ text. score_above n (word_score x.prefs key text)) (text_seen ts x r)
 
 at_row : (ts : Tables) (x : Index) (key : List ℕ) (n : ℕ) (r : ℤ) (m : Mark (Unit {0}))
     → found_at ts x key n r m ≡ option_map {U = ℤ × ℕ} (λ s. (r, s)) (score_at ts x key n r m)
@@ -38,9 +38,9 @@ at_row ts x key n r (Settled _) = go (text_seen ts x r)
     above true s = refl
     above false s = refl
 
-    go : (o : Option (List ℕ)) → scored key n r o ≡ option_map {U = ℤ × ℕ} (λ s. (r, s)) (option_and_then (λ text. score_above n (word_score key text)) o)
+    go : (o : Option (List ℕ)) → scored x.prefs key n r o ≡ option_map {U = ℤ × ℕ} (λ s. (r, s)) (option_and_then (λ text. score_above n (word_score x.prefs key text)) o)
     go None = refl
-    go (Some text) = above (nat_lt n (word_score key text)) (word_score key text)
+    go (Some text) = above (nat_lt n (word_score x.prefs key text)) (word_score x.prefs key text)
 
 as_mapped : (ts : Tables) (x : Index) (key : List ℕ) (n : ℕ) (es : List (ℤ × Mark (Unit {0})))
     → filter_map (λ e. found_at ts x key n e.0 e.1) es ≡ mapped_entries (score_at ts x key n) es
@@ -67,24 +67,24 @@ is_found ts x key n r score None at is = absurd (cc)
 is_found ts x key n r score (Some Pending) at is = absurd (cc)
 is_found ts x key n r score (Some (Settled _)) at is = by_text (text_seen ts x r) refl is
   where
-    by_score : (text : List ℕ) → text_seen ts x r ≡ Some text → (b : Bool) → nat_lt n (word_score key text) ≡ b
-        → cond b (Some (word_score key text)) None ≡ Some score → IsFound ts x key n r score
+    by_score : (text : List ℕ) → text_seen ts x r ≡ Some text → (b : Bool) → nat_lt n (word_score x.prefs key text) ≡ b
+        → cond b (Some (word_score x.prefs key text)) None ≡ Some score → IsFound ts x key n r score
     by_score text seen true above is =
-        let same : word_score key text ≡ score = same_Some _ _ is in
-        let over = ltb-true n (word_score key text) above in
+        let same : word_score x.prefs key text ≡ score = same_Some _ _ is in
+        let over = ltb-true n (word_score x.prefs key text) above in
         record { marked = at; text = text; seen = seen; scores = sym same; above = rw (sym same) over }
     by_score text seen false above is = absurd (cc)
 
-    by_text : (o : Option (List ℕ)) → text_seen ts x r ≡ o → option_and_then (λ text. score_above n (word_score key text)) o ≡ Some score
+    by_text : (o : Option (List ℕ)) → text_seen ts x r ≡ o → option_and_then (λ text. score_above n (word_score x.prefs key text)) o ≡ Some score
         → IsFound ts x key n r score
     by_text None seen is = absurd (cc)
-    by_text (Some text) seen is = by_score text seen (nat_lt n (word_score key text)) refl is
+    by_text (Some text) seen is = by_score text seen (nat_lt n (word_score x.prefs key text)) refl is
 
 is_listed : (ts : Tables) (x : Index) (key : List ℕ) (n : ℕ) (r : ℤ) (score : ℕ) → IsFound ts x key n r score → find int_cmp r (found ts x key n) ≡ Some score
 is_listed ts x key n r score is =
     at_key ts x key n r
     ∙ ap (option_and_then (score_at ts x key n r)) is.marked
-    ∙ ap (option_and_then (λ text. score_above n (word_score key text))) is.seen
+    ∙ ap (option_and_then (λ text. score_above n (word_score x.prefs key text))) is.seen
     ∙ ap (score_above n) (sym is.scores)
     ∙ ap (λ (b : Bool). cond b (Some score) None) (lt-ltb n score is.above)
 

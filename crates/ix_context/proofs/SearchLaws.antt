@@ -4,21 +4,18 @@ use Rattle.std.specs.Prelude.{is_some, min, nat_lt}
 use Rattle.std.specs.Bool.{if◌then◌else◌}
 use Rattle.std.specs.Option.{option_map, option_and_then}
 use Rattle.std.specs.List.{cons_option, filter_map}
-use Rattle.std.specs.Ordering.{nat_cmp, int_cmp, eq_by_cmp}
+use Rattle.std.specs.Ordering.{nat_cmp, int_cmp}
 use Rattle.std.specs.Cmp.Lexicographic.{slice_cmp}
-use Rattle.std.specs.FinMap.{get, empty, entries, find, get-empty, get-entries, get-from_entries}
+use Rattle.std.specs.FinMap.{get, empty, entries, get-empty}
 use Rattle.std.proofs.lemmas.Bool.Decides.{nat_tests}
-use Rattle.std.proofs.lemmas.Cmp.{nat_list_cmp_total, int_cmp_total}
+use Rattle.std.proofs.lemmas.Cmp.{int_cmp_total}
 use Rattle.std.proofs.lemmas.Map.Lookups.{exact_signed}
-use Rattle.ct_base.specs.laws.Lists.{cons_parts}
 use Rattle.ct_bytes.specs.RowKeys.{row_bytes}
 use Rattle.ct_keep.specs.Content.{Content}
 use Rattle.ct_keep.specs.Tail.{tail}
 use Rattle.ct_entry.specs.declared.kinds.Kind.TheVariants as kind
-use Rattle.ct_entry.specs.Keys.{at, prefix_of, document_part, same_list, IsRow, IsDocument, IsToken, HasKeysOnly}
+use Rattle.ct_entry.specs.Keys.{at, prefix_of, document_part, IsRow, IsDocument, IsToken, HasKeysOnly}
 use Rattle.ct_entry.specs.Lists.{EachIs}
-use Rattle.ct_entry.specs.laws.Keys.{lists_tie, list_from_same, list_same}
-use Rattle.ct_entry.specs.laws.Maps.{names_tie}
 use Rattle.ct_entry.specs.laws.Documents.{posting_prefix}
 use Rattle.ct_entry.specs.Listings.{row_of}
 use Rattle.ct_entry.specs.laws.Rows.{row_of-row_part}
@@ -33,15 +30,15 @@ use Rattle.ix_rows.specs.laws.WordRows.{HasPositions, word_laws}
 use Rattle.ix_rows.specs.laws.Tidies.{firsts_of}
 use Rattle.ix_rows.specs.laws.Scans.{rows_scanned}
 use Rattle.ix_docmap.specs.Marks.{Mark, Pending, Settled, is_settled}
-use Rattle.ix_context.specs.Postings.{positions, word_score, if_any, postings_of}
-use Rattle.ix_context.specs.laws.Postings.{get-postings_of}
+use Rattle.ix_context.specs.Postings.{positions, word_score}
 use Rattle.ix_context.specs.Indexes.{Index, marks_in, mark_of, part_of, text_seen, if_above, scored, found, found_at}
-use Rattle.ix_context.specs.Documents.{text_terms, text_postings, postings_in}
+use Rattle.ix_context.specs.Documents.{text_postings, postings_in}
 use Rattle.ix_context.specs.Standing.{IndexStands}
 use Rattle.ix_context.specs.Limits.{IsWithinLimits}
 use Rattle.ix_context.specs.Scoring.{document_row, with_score, positions_score, with_documents, with_postings, HoldRows}
 use Rattle.ix_context.specs.laws.Scores.{scored_list, scored_rows, score, text_score, part_scores}
 use Rattle.ix_context.proofs.MappedEntries.{entries_mapped}
+use Rattle.ix_context.proofs.WordLaws.{any_positions, get-term}
 
 -- a score, where it is above 0
 abbrev if_some : ℕ → Option ℕ
@@ -50,7 +47,7 @@ if_some score = if nat_lt 0 score then Some score else None
 -- the score that a row has for the word, by its mark
 abbrev scored_as : Tables → Index → List ℕ → ℤ → Mark (Unit {0}) → Option ℕ
 scored_as ts x w r Pending = None
-scored_as ts x w r (Settled _) = option_and_then (λ text. if_some (word_score w text)) (text_seen ts x r)
+scored_as ts x w r (Settled _) = option_and_then (λ text. if_some (word_score x.prefs w text)) (text_seen ts x r)
 
 scored_found : (ts : Tables) (x : Index) (w : List ℕ) (r : ℤ) (mark : Mark (Unit {0}))
     → option_map {U = ℤ × ℕ} (λ s. (r, s)) (scored_as ts x w r mark) ≡ found_at ts x w 0 r mark
@@ -61,52 +58,33 @@ scored_found ts x w r (Settled _) = go (text_seen ts x r)
     above true s = refl
     above false s = refl
 
-    go : (o : Option (List ℕ)) → option_map {U = ℤ × ℕ} (λ s. (r, s)) (option_and_then (λ text. if_some (word_score w text)) o) ≡ scored w 0 r o
+    go : (o : Option (List ℕ)) → option_map {U = ℤ × ℕ} (λ s. (r, s)) (option_and_then (λ text. if_some (word_score x.prefs w text)) o) ≡ scored x.prefs w 0 r o
     go None = refl
-    go (Some text) = above (nat_lt 0 (word_score w text)) (word_score w text)
+    go (Some text) = above (nat_lt 0 (word_score x.prefs w text)) (word_score x.prefs w text)
 
 -- ---- a word that stands nowhere
 
-nowhere_at : (ts : Tables) (x : Index) (w : List ℕ) → ((text : List ℕ) → positions w text ≡ []) → (r : ℤ) (mark : Mark (Unit {0})) → found_at ts x w 0 r mark ≡ None
+nowhere_at : (ts : Tables) (x : Index) (w : List ℕ) → ((text : List ℕ) → positions x.prefs w text ≡ []) → (r : ℤ) (mark : Mark (Unit {0})) → found_at ts x w 0 r mark ≡ None
 nowhere_at ts x w nowhere r Pending = refl
 nowhere_at ts x w nowhere r (Settled _) = go (text_seen ts x r)
   where
-    go : (o : Option (List ℕ)) → scored w 0 r o ≡ None
+    go : (o : Option (List ℕ)) → scored x.prefs w 0 r o ≡ None
     go None = refl
     go (Some text) = ap (λ (ps : List ℕ). if_above 0 r (min 100 (length ps))) (nowhere text)
 
 -- it finds nothing
-pub finds_none : (ts : Tables) (x : Index) (w : List ℕ) → ((text : List ℕ) → positions w text ≡ []) → found ts x w 0 ≡ []
+pub finds_none : (ts : Tables) (x : Index) (w : List ℕ) → ((text : List ℕ) → positions x.prefs w text ≡ []) → found ts x w 0 ≡ []
 finds_none ts x w nowhere = go (entries (marks_in x.body))
   where
     go : (es : List (ℤ × Mark (Unit {0}))) → filter_map (λ e. found_at ts x w 0 e.0 e.1) es ≡ []
     go [] = refl
     go (e ∷ es) = ap (λ (o : Option (ℤ × ℕ)). cons_option o (filter_map (λ e. found_at ts x w 0 e.0 e.1) es)) (nowhere_at ts x w nowhere e.0 e.1) ∙ go es
 
--- ---- what a text has under the term of a word in the main stream
+-- ---- the score of a text
 
-terms_tie : (w v : List ℕ) → eq_by_cmp (slice_cmp nat_cmp) (word_term 0 w) (word_term 0 v) ≡ eq_by_cmp (slice_cmp nat_cmp) w v
-terms_tie w v = names_tie (word_term 0 w) (word_term 0 v) ∙ lists_tie (word_term 0 w) (word_term 0 v) (same_list w v) from to ∙ sym (names_tie w v)
-  where
-    from : word_term 0 w ≡ word_term 0 v → same_list w v ≡ true
-    from e = let p = cons_parts 0 0 (length w ∷ w) (length v ∷ v) e in let q = cons_parts (length w) (length v) w v p.1 in subst (λ (l : List ℕ). same_list w l ≡ true) q.1 (list_same w)
-
-    to : same_list w v ≡ true → word_term 0 w ≡ word_term 0 v
-    to h = ap (word_term 0) (list_from_same w v h)
-
-find-terms : (w : List ℕ) (es : List (List ℕ × List ℕ)) → find (slice_cmp nat_cmp) (word_term 0 w) (map {B = List ℕ × List ℕ} (λ e. (word_term 0 e.0, e.1)) es) ≡ find (slice_cmp nat_cmp) w es
-find-terms w [] = refl
-find-terms w (e ∷ es) =
-    ap (λ (b : Bool). cond b (Some e.1) (find (slice_cmp nat_cmp) (word_term 0 w) (map {B = List ℕ × List ℕ} (λ e. (word_term 0 e.0, e.1)) es))) (terms_tie w e.0)
-    ∙ ap (cond (eq_by_cmp (slice_cmp nat_cmp) w e.0) (Some e.1)) (find-terms w es)
-
-get-terms : (text w : List ℕ) → get (text_postings (Some text)).words (word_term 0 w) ≡ if_any (positions w text)
-get-terms text w =
-    get-from_entries nat_list_cmp_total (text_terms text) (word_term 0 w) ∙ find-terms w (entries (postings_of text)) ∙ sym (get-entries (postings_of text) w) ∙ get-postings_of text w
-
-some_scored : (ps : List ℕ) → option_map (λ (l : List ℕ). min 100 (length l)) (if_any ps) ≡ if_some (min 100 (length ps))
-some_scored [] = refl
-some_scored (p ∷ ps) =
+some_scored : (w : List ℕ) (some : 1 ≤ length w) (ps : List ℕ) → option_map (λ (l : List ℕ). min 100 (length l)) (any_positions w some ps) ≡ if_some (min 100 (length ps))
+some_scored w some [] = refl
+some_scored w some (p ∷ ps) =
     let above : nat_lt 0 (min 100 (length (p ∷ ps))) ≡ true = grind (arith, nat_tests) in sym (ap (λ (b : Bool). cond b (Some (min 100 (length (p ∷ ps)))) None) above)
 
 -- ---- lists whose numbers rise
@@ -187,11 +165,11 @@ module _ (m : Content) (ts : Tables) (x : Index) (i w : List ℕ) (only : HasKey
       ∙ part_scores (at m) i (postings_in ts (Some x)) (mark_of (Some x)) (part_of (Some x)) stand.context term is_term r
       ∙ by_mark (get (marks_in x.body) r)
     where
-      by_text : (o : Option (List ℕ)) → text_score (text_postings o) term ≡ option_and_then (λ text. if_some (word_score w text)) o
+      by_text : (o : Option (List ℕ)) → text_score (text_postings x.prefs o) term ≡ option_and_then (λ text. if_some (word_score x.prefs w text)) o
       by_text None = ap (option_map (λ (l : List ℕ). min 100 (length l))) (get-empty (slice_cmp nat_cmp) term)
-      by_text (Some text) = ap (option_map (λ (l : List ℕ). min 100 (length l))) (get-terms text w) ∙ some_scored (positions w text)
+      by_text (Some text) = ap (option_map (λ (l : List ℕ). min 100 (length l))) (get-term w token.some x.prefs text) ∙ some_scored w token.some (positions x.prefs w text)
 
-      by_mark : (o : Option (Mark (Unit {0}))) → cond (is_settled o) (text_score (text_postings (text_seen ts x r)) term) None ≡ option_and_then (scored_as ts x w r) o
+      by_mark : (o : Option (Mark (Unit {0}))) → cond (is_settled o) (text_score (text_postings x.prefs (text_seen ts x r)) term) None ≡ option_and_then (scored_as ts x w r) o
       by_mark None = refl
       by_mark (Some Pending) = refl
       by_mark (Some (Settled _)) = by_text (text_seen ts x r)

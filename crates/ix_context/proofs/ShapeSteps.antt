@@ -11,7 +11,7 @@ use Rattle.ct_bytes.specs.laws.RowKeys.{length-row_bytes}
 use Rattle.ct_entry.specs.declared.kinds.Kind.TheVariants as kind
 use Rattle.ct_entry.specs.Keys.{span_part, IsRow, IsRowPart, IsDocument}
 use Rattle.ct_entry.specs.laws.Parts.{posting_part_apart, span_part_apart}
-use Rattle.tb_table.specs.declared.columns.Target.{Target}
+use Rattle.ix_context.specs.declared.entries.IndexEntry.{IndexEntry}
 use Rattle.ix_context.specs.Spelling.{SpellsIndex}
 use Rattle.ix_context.specs.Shapes.{StartsAt, IsRowFrom, IsSpanRowFrom, IsPostingPart, IsSpanPart, IsIndexShape}
 
@@ -50,9 +50,9 @@ no_section part section document small is none d doc has =
 
 -- ---- values
 
-pub is_entry : (part value : List ℕ) (p : Target × ℕ) → SpellsIndex (Some value) (Some p) → IsTrue (length part == 0) ↔ IsIndexShape kind.Indexes part value
-is_entry part value p is = (
-  λ empty. (none part (eqb-true (length part) 0 empty), record { table = p.0.table; column = p.0.column; next = p.1; named = is.0; place = is.1; fits = is.2; spelt = same is.3 }),
+pub is_entry : (part value : List ℕ) (e : IndexEntry) → SpellsIndex (Some value) (Some e) → IsTrue (length part == 0) ↔ IsIndexShape kind.Indexes part value
+is_entry part value e is = (
+  λ empty. (none part (eqb-true (length part) 0 empty), record { table = e.target.table; column = e.target.column; prefs = e.prefs; next = e.next_document; named = is.0; place = is.1; are = is.2; fits = is.3; spelt = same is.4 }),
   λ shape. eq-eqb (length part) 0 (ap length shape.0),
 )
   where
@@ -64,7 +64,7 @@ is_entry part value p is = (
     same e = cc
 
 pub no_entry : (part value : List ℕ) → SpellsIndex (Some value) None → IsIndexShape kind.Indexes part value → ⊥
-no_entry part value none (empty, is) = none is.table is.column is.next is.named is.place is.fits (ap Some is.spelt)
+no_entry part value none (empty, is) = none is.table is.column is.prefs is.next is.named is.place is.are is.fits (ap Some is.spelt)
 
 module _ {D : Type 0} (Is : List D → Type 0) (spelling : List D → List ℕ) (number : D → ℕ) (value : List ℕ) (document : ℕ) where
   -- the row that was read, by its first document

@@ -16,7 +16,10 @@ use Rattle.ix_context.specs.declared.ranges.KeyRange.{KeyRange}
 use Rattle.ix_context.specs.Indexes.{Index, Part, given, part_in, no_part, synced_index, created, pending_rows, rows_in, target_text}
 use Rattle.ix_context.specs.Spelling.{index_bytes}
 use Rattle.ix_context.specs.Changes.{mark_with, settle_with, settled_with, sync_rows_changes, sync_changes, create_changes, AreSettleChanges, AreSyncChanges}
-use Rattle.ix_context.specs.laws.Reading.{target_of}
+use Rattle.tx_settings.specs.declared.preferences.Prefs.{Prefs}
+use Rattle.std.proofs.lemmas.Option.{same_Some}
+use Rattle.ix_context.specs.declared.entries.IndexEntry.{IndexEntry}
+use Rattle.ix_context.specs.laws.Reading.{target_of, parts_of}
 
 abbrev Changes : Type 0
 Changes = List (List ℕ × Option (List ℕ))
@@ -35,16 +38,11 @@ some_says A B None x is h = cc
 some_says A B (Some y) x is h = let same : y ≡ x = cc in subst B same h
 
 -- what was read of an index, against what was to be read
-pub not_read : (o : Option (Target × ℕ)) (p : Target × ℕ) → o ≡ None → o ≡ Some p → ⊥
-not_read o p none is = let wrong : None ≡ Some p = sym none ∙ is in cc
+pub not_read : (o : Option IndexEntry) (e : IndexEntry) → o ≡ None → o ≡ Some e → ⊥
+not_read o e none is = let wrong : None ≡ Some e = sym none ∙ is in cc
 
-pub read_parts : (o : Option (Target × ℕ)) (t u : Target) (n k : ℕ) → o ≡ Some (t, n) → o ≡ Some (u, k) → (t ≡ u) × (n ≡ k)
-read_parts o t u n k is read =
-    let same : (t, n) ≡ (u, k) = some_same (t, n) (u, k) (sym is ∙ read) in
-    (ap (λ (p : Target × ℕ). p.0) same, ap (λ (p : Target × ℕ). p.1) same)
-  where
-    some_same : (p q : Target × ℕ) → Some p ≡ Some q → p ≡ q
-    some_same p q e = cc
+pub read_so : (o : Option IndexEntry) (e f : IndexEntry) → o ≡ Some e → o ≡ Some f → e ≡ f
+read_so o e f is read = same_Some e f (sym is ∙ read)
 
 -- an index gives its documents from 1 on
 pub at_least_one : (first next given : ℕ) → first ≡ max next 1 → next ≡ given + 1 → first ≡ given + 1
@@ -53,53 +51,53 @@ at_least_one first next given is n = omega (arith, is, n)
 -- ---- a synchronisation
 
 -- the changes of the rows were added, and then that of the entry
-pub settled_added : (i : List ℕ) (target : Target) (text : ℤ → Option (List ℕ)) (first next : ℕ) (rows : List RowKey) (none before new : Changes)
+pub settled_added : (i : List ℕ) (target : Target) (prefs : Prefs) (text : ℤ → Option (List ℕ)) (first next : ℕ) (rows : List RowKey) (none before new : Changes)
     → (length rows == 0) ≡ false → none ≡ []
-    → before ≡ none ++ spell (each (settle_with i text) (numbered first (keys rows)))
-    → new ≡ before ++ spell (put (key kind.Indexes i []) (index_bytes target.table target.column next) ∷ [])
-    → next ≡ first + length rows → new ≡ spell (settled_with i target text first (keys rows))
-settled_added i target text first next [] none before new some empty settled last next_is = cc
-settled_added i target text first next (r ∷ rs) none before new some empty settled last next_is =
-    let changes = each (settle_with i text) (numbered first (keys (r ∷ rs))) in
+    → before ≡ none ++ spell (each (settle_with prefs i text) (numbered first (keys rows)))
+    → new ≡ before ++ spell (put (key kind.Indexes i []) (index_bytes target.table target.column prefs next) ∷ [])
+    → next ≡ first + length rows → new ≡ spell (settled_with i target prefs text first (keys rows))
+settled_added i target prefs text first next [] none before new some empty settled last next_is = cc
+settled_added i target prefs text first next (r ∷ rs) none before new some empty settled last next_is =
+    let changes = each (settle_with prefs i text) (numbered first (keys (r ∷ rs))) in
     let count : next ≡ first + length (keys (r ∷ rs)) = next_is ∙ ap (λ n. first + n) (sym (length-map (r ∷ rs) (λ (r : RowKey). r.0))) in
     last
-    ∙ ap (λ (b : Changes). b ++ spell (put (key kind.Indexes i []) (index_bytes target.table target.column next) ∷ [])) (settled ∙ ap (λ (b : Changes). b ++ spell changes) empty)
-    ∙ sym (spell-append changes (put (key kind.Indexes i []) (index_bytes target.table target.column next) ∷ []))
-    ∙ ap (λ n. spell (changes ++ put (key kind.Indexes i []) (index_bytes target.table target.column n) ∷ [])) count
+    ∙ ap (λ (b : Changes). b ++ spell (put (key kind.Indexes i []) (index_bytes target.table target.column prefs next) ∷ [])) (settled ∙ ap (λ (b : Changes). b ++ spell changes) empty)
+    ∙ sym (spell-append changes (put (key kind.Indexes i []) (index_bytes target.table target.column prefs next) ∷ []))
+    ∙ ap (λ n. spell (changes ++ put (key kind.Indexes i []) (index_bytes target.table target.column prefs n) ∷ [])) count
 
 settled_rows : (ts : Tables) (i : List ℕ) (x : Index) (rows : List ℤ) → pending_rows x ≡ rows
-    → settled_with i (target_of x) (target_text ts (target_of x)) ((given x) + 1) rows ≡ sync_rows_changes ts i x rows
+    → settled_with i (target_of x) x.prefs (target_text ts (target_of x)) ((given x) + 1) rows ≡ sync_rows_changes ts i x rows
 settled_rows ts i x [] is = refl
 settled_rows ts i x (r ∷ rs) is =
     let count : given x + 1 + length (r ∷ rs) ≡ given (synced_index x) + 1 =
     let l : length (pending_rows x) ≡ length (r ∷ rs) = ap length is in
     let n : given (synced_index x) ≡ given x + length (pending_rows x) = ap (λ (p : Part). p.given) (part_in-synced x.body) ∙ given-made (length (pending_rows x)) (part_in x.body) in
     omega arith in
-    ap (λ n. each (settle_with i (target_text ts (target_of x))) (numbered ((given x) + 1) (r ∷ rs)) ++ put (key kind.Indexes i []) (index_bytes x.table x.column n) ∷ []) count
+    ap (λ n. each (settle_with x.prefs i (target_text ts (target_of x))) (numbered ((given x) + 1) (r ∷ rs)) ++ put (key kind.Indexes i []) (index_bytes x.table x.column x.prefs n) ∷ []) count
 
 -- the changes for what was read of the index are those of its synchronisation
-settled_is : (ts : Tables) (i : List ℕ) (x : Index) (target : Target) (first : ℕ) (rows : List ℤ) → target ≡ target_of x → first ≡ (given x) + 1
+pub settled_is : (ts : Tables) (i : List ℕ) (x : Index) (e : IndexEntry) (first : ℕ) (rows : List ℤ) → e ≡ parts_of x → first ≡ (given x) + 1
     → rows ≡ pending_rows x
-    → settled_with i target (target_text ts target) first rows ≡ sync_changes ts i x
-settled_is ts i x target first rows t f r =
-    ap (λ (u : Target). settled_with i u (target_text ts u) first rows) t
-    ∙ ap (λ n. settled_with i (target_of x) (target_text ts (target_of x)) n rows) f
-    ∙ ap (settled_with i (target_of x) (target_text ts (target_of x)) ((given x) + 1)) r
+    → settled_with i e.target e.prefs (target_text ts e.target) first rows ≡ sync_changes ts i x
+settled_is ts i x e first rows t f r =
+    ap (λ (d : IndexEntry). settled_with i d.target d.prefs (target_text ts d.target) first rows) t
+    ∙ ap (λ n. settled_with i (target_of x) x.prefs (target_text ts (target_of x)) n rows) f
+    ∙ ap (settled_with i (target_of x) x.prefs (target_text ts (target_of x)) ((given x) + 1)) r
     ∙ settled_rows ts i x (pending_rows x) refl
 
 -- what the changes for what was read say of the index
-pub settled_says : (ts : Tables) (i : List ℕ) (x : Index) (target : Target) (first : ℕ) (rows : List RowKey) → target ≡ target_of x
+pub settled_says : (ts : Tables) (i : List ℕ) (x : Index) (e : IndexEntry) (first : ℕ) (rows : List RowKey) → e ≡ parts_of x
     → first ≡ (given x) + 1 → keys rows ≡ pending_rows x → (result : Result (Option Changes) KeepFault)
-    → IfOk result (AreSettleChanges ts i target first rows) → IfOk result (AreSyncChanges ts i x)
-settled_says ts i x target first rows t f r result says = go result says
+    → IfOk result (AreSettleChanges ts i e.target e.prefs first rows) → IfOk result (AreSyncChanges ts i x)
+settled_says ts i x e first rows t f r result says = go result says
   where
     count : length rows ≡ length (pending_rows x)
     count = sym (length-map rows (λ (r : RowKey). r.0)) ∙ ap length r
 
-    go : (result : Result (Option Changes) KeepFault) → IfOk result (AreSettleChanges ts i target first rows) → IfOk result (AreSyncChanges ts i x)
+    go : (result : Result (Option Changes) KeepFault) → IfOk result (AreSettleChanges ts i e.target e.prefs first rows) → IfOk result (AreSyncChanges ts i x)
     go (Err fault) says = tt
     go (Ok None) says = let n = count in omega arith
-    go (Ok (Some ws)) says = (let n = count in let room = says.0 in omega arith, says.1 ∙ ap spell (settled_is ts i x target first (keys rows) t f r))
+    go (Ok (Some ws)) says = (let n = count in let room = says.0 in omega arith, says.1 ∙ ap spell (settled_is ts i x e first (keys rows) t f r))
 
 -- ---- a new index
 
@@ -109,18 +107,18 @@ pub count_created : (ts : Tables) (t : List ℕ) (range : KeyRange) (rows : List
 count_created ts t range rows are = sym (length-map rows (λ (r : RowKey). r.0)) ∙ ap length are
 
 -- the change of its entry was added, and then those of its rows
-pub created_added : (ts : Tables) (i : List ℕ) (target : Target) (range : KeyRange) (rows : List RowKey) (next : ℕ) (none first new : Changes)
+pub created_added : (ts : Tables) (i : List ℕ) (target : Target) (prefs : Prefs) (range : KeyRange) (rows : List RowKey) (next : ℕ) (none first new : Changes)
     → keys rows ≡ rows_in ts target.table range → next ≡ 1 + length rows → none ≡ []
-    → first ≡ none ++ spell (put (key kind.Indexes i []) (index_bytes target.table target.column next) ∷ [])
-    → new ≡ first ++ spell (each (mark_with i (target_text ts target)) (numbered 1 (keys rows)))
-    → new ≡ spell (create_changes ts i target range)
-created_added ts i target range rows next none first new are next_is empty entry marks =
-    let x = created ts target range in
+    → first ≡ none ++ spell (put (key kind.Indexes i []) (index_bytes target.table target.column prefs next) ∷ [])
+    → new ≡ first ++ spell (each (mark_with prefs i (target_text ts target)) (numbered 1 (keys rows)))
+    → new ≡ spell (create_changes ts i target prefs range)
+created_added ts i target prefs range rows next none first new are next_is empty entry marks =
+    let x = created ts target prefs range in
     let number : next ≡ given x + 1 =
     let count = count_created ts target.table range rows are in
     let n = given-made (length (rows_in ts target.table range)) no_part in
     omega (arith, next_is, count, n) in
     marks
-    ∙ ap (λ (b : Changes). b ++ spell (each (mark_with i (target_text ts target)) (numbered 1 (keys rows)))) (entry ∙ ap (λ (b : Changes). b ++ spell (put (key kind.Indexes i []) (index_bytes target.table target.column next) ∷ [])) empty)
-    ∙ ap (λ n. spell (put (key kind.Indexes i []) (index_bytes target.table target.column n) ∷ each (mark_with i (target_text ts target)) (numbered 1 (keys rows)))) number
-    ∙ ap (λ l. spell (put (key kind.Indexes i []) (index_bytes target.table target.column (given x + 1)) ∷ each (mark_with i (target_text ts target)) (numbered 1 l))) are
+    ∙ ap (λ (b : Changes). b ++ spell (each (mark_with prefs i (target_text ts target)) (numbered 1 (keys rows)))) (entry ∙ ap (λ (b : Changes). b ++ spell (put (key kind.Indexes i []) (index_bytes target.table target.column prefs next) ∷ [])) empty)
+    ∙ ap (λ n. spell (put (key kind.Indexes i []) (index_bytes target.table target.column prefs n) ∷ each (mark_with prefs i (target_text ts target)) (numbered 1 (keys rows)))) number
+    ∙ ap (λ l. spell (put (key kind.Indexes i []) (index_bytes target.table target.column prefs (given x + 1)) ∷ each (mark_with prefs i (target_text ts target)) (numbered 1 l))) are

@@ -1,5 +1,5 @@
 -- What a document of an index has: its postings, and what they cost.
-use Rattle.std.specs.Prelude.{Bool, false, ◌||◌, ◌==◌, pos, ℕ, ℤ, ◌≡◌, ◌+◌, sum_by, List, [], ◌∷◌, map, Option, Some, None, codes}
+use Rattle.std.specs.Prelude.{Bool, false, ◌||◌, ◌==◌, pos, ℕ, ℤ, ◌≡◌, ◌+◌, sum_by, List, [], ◌∷◌, Option, Some, None, codes}
 use Rattle.std.specs.Bool.{if◌then◌else◌}
 use Rattle.std.specs.List.{list_any}
 use Rattle.std.proofs.lemmas.Bool.{ne_eqb}
@@ -12,10 +12,13 @@ use Rattle.std.specs.FinMap.{FinMap, get, entries, from_entries, empty}
 use Rattle.ct_base.specs.declared.numbers.Pair.{Pair}
 use Rattle.ix_posting.specs.declared.rows.RowDocument.{RowDocument}
 use Rattle.ix_posting.specs.declared.span_rows.SpanDocument.{SpanDocument}
-use Rattle.ix_rows.specs.WordRows.{word_term, posting_cost}
+use Rattle.ix_rows.specs.WordRows.{posting_cost}
 use Rattle.ix_rows.specs.SpanRows.{pairs_cost}
 use Rattle.tb_table.specs.Tables.{Tables}
-use Rattle.ix_context.specs.Postings.{postings_of, fox_and_quick}
+use Rattle.tx_settings.specs.declared.preferences.Prefs.{Prefs}
+use Rattle.tx_document.specs.declared.entries.Entry.{Entry}
+use Rattle.tx_settings.specs.Defaults.{default_prefs}
+use Rattle.ix_context.specs.Postings.{text_entries, word_terms, section_terms, fox_and_quick}
 use Rattle.ix_context.specs.Indexes.{Index, note_gone, note_changed, text_seen}
 use Rattle.std.proofs.Common.{arith, ap}
 
@@ -24,23 +27,28 @@ pub record Postings : Type 0 where
   pub words : FinMap (slice_cmp nat_cmp) (List ℕ)
   pub spans : FinMap (slice_cmp nat_cmp) (List Pair)
 
--- the tokens of a text with their positions, in the main stream; for now there is no other
-abbrev pub text_terms : List ℕ → List (List ℕ × List ℕ)
-text_terms text = map (λ e. (word_term 0 e.0, e.1)) (entries (postings_of text))
+-- what is listed as entries of a document
+abbrev pub entries_postings : List Entry → Postings
+entries_postings es = record { words = from_entries (word_terms es); spans = from_entries (section_terms es) }
 
 -- what a row has by its text, if it has one
-abbrev pub text_postings : Option (List ℕ) → Postings
-text_postings None = record { words = empty; spans = empty }
-text_postings (Some text) = record { words = from_entries (text_terms text); spans = empty }
+abbrev pub text_postings : Prefs → Option (List ℕ) → Postings
+text_postings p None = record { words = empty; spans = empty }
+text_postings p (Some text) = entries_postings (text_entries p text)
 
 -- the texts that an index sees
 abbrev pub seen_in : Tables → Option Index → ℤ → Option (List ℕ)
 seen_in ts None r = None
 seen_in ts (Some x) r = text_seen ts x r
 
+-- how an index reads them; where there is none it doesn't matter
+abbrev pub prefs_in : Option Index → Prefs
+prefs_in None = default_prefs
+prefs_in (Some x) = x.prefs
+
 -- what each row has in an index
 abbrev pub postings_in : Tables → Option Index → ℤ → Postings
-postings_in ts o r = text_postings (seen_in ts o r)
+postings_in ts o r = text_postings (prefs_in o) (seen_in ts o r)
 
 -- ---- as the rows of postings have them
 
@@ -97,5 +105,8 @@ changed_on ts xs t columns r = on_table (changed_index ts columns r) t xs
 another_column : (ts : Tables) (x : Index) → changed_index ts ((x.column + 1) ∷ []) (pos 7) (codes "di") x ≡ x
 another_column ts x = ap (λ (b : Bool). if b || false then record x { body = note_changed (row_cost ts (codes "di") x (pos 7)) (pos 7) x.body } else x) (ne_eqb (x.column + 1) x.column (λ e. omega (arith, e)))
 
-pub its_terms : text_terms (codes "quick fox quick") ≡ (0 ∷ 3 ∷ codes "fox", 2 ∷ []) ∷ (0 ∷ 5 ∷ codes "quick", 1 ∷ 3 ∷ []) ∷ []
-its_terms = ap (map (λ e. (word_term 0 e.0, e.1))) fox_and_quick
+pub its_terms : word_terms (text_entries default_prefs (codes "quick fox quick")) ≡ (0 ∷ 3 ∷ codes "fox", 2 ∷ []) ∷ (0 ∷ 5 ∷ codes "quick", 1 ∷ 3 ∷ []) ∷ []
+its_terms = ap word_terms fox_and_quick
+
+pub no_sections : section_terms (text_entries default_prefs (codes "quick fox quick")) ≡ []
+no_sections = ap section_terms fox_and_quick

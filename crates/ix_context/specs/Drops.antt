@@ -7,6 +7,7 @@ use Rattle.std.proofs.Common.{ap}
 use Rattle.ct_entry.specs.Keys.{Key, same_list}
 use Rattle.ct_entry.specs.Maps.{Names}
 use Rattle.tb_table.specs.Tables.{Tables}
+use Rattle.tx_settings.specs.Defaults.{default_prefs}
 use Rattle.ix_context.specs.Indexes.{Index, created_body}
 use Rattle.ix_context.specs.Spelling.{is_of_indexes}
 
@@ -25,10 +26,10 @@ pub record LosesIndexes (gone : List ℕ → Bool) (f g : Key → Option (List �
 
 -- computed examples: an index `di` on a table `docs`, and an index `ti` on a table `tags`
 abbrev on_docs : Index
-on_docs = record { table = codes "docs"; column = 1; body = created_body [] }
+on_docs = record { table = codes "docs"; column = 1; prefs = default_prefs; body = created_body [] }
 
 abbrev on_tags : Index
-on_tags = record { table = codes "tags"; column = 1; body = created_body [] }
+on_tags = record { table = codes "tags"; column = 1; prefs = default_prefs; body = created_body [] }
 
 abbrev both : List (List ℕ × Index)
 both = (codes "di", on_docs) ∷ (codes "ti", on_tags) ∷ []

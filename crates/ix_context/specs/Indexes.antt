@@ -13,6 +13,9 @@ use Rattle.tb_table.specs.Tables.{Tables, row_at, row_keys, text_of}
 use Rattle.ix_rows.specs.Stores.{Tidiness, Untidy, Packed}
 use Rattle.ix_docmap.specs.Marks.{Mark, Pending, Settled, Marks, queued}
 use Rattle.ix_context.specs.declared.ranges.KeyRange.{KeyRange}
+use Rattle.tx_settings.specs.declared.preferences.Prefs.{Prefs}
+use Rattle.tx_settings.specs.Defaults.{default_prefs, plain}
+use Rattle.tx_tags.specs.Groups.{zones}
 use Rattle.ix_context.specs.Postings.{word_score}
 use Rattle.std.specs.Str.{chars}
 use lib.Utf8.{encode}
@@ -43,6 +46,8 @@ pub record Index : Type 0 where
   -- the table, and the place of the column in it
   pub table : List ℕ
   pub column : ℕ
+  -- how it reads texts
+  pub prefs : Prefs
   pub body : Body
 
 abbrev pub part_in : Body → Part
@@ -94,13 +99,13 @@ target_text ts target r = option_and_then (λ vs. text_of vs target.column) (row
 abbrev pub if_above : ℕ → ℤ → ℕ → Option (ℤ × ℕ)
 if_above n r score = if nat_lt n score then Some (r, score) else None
 
-abbrev pub scored : List ℕ → ℕ → ℤ → Option (List ℕ) → Option (ℤ × ℕ)
-scored key n r None = None
-scored key n r (Some text) = if_above n r (word_score key text)
+abbrev pub scored : Prefs → List ℕ → ℕ → ℤ → Option (List ℕ) → Option (ℤ × ℕ)
+scored p key n r None = None
+scored p key n r (Some text) = if_above n r (word_score p key text)
 
 abbrev pub found_at : Tables → Index → List ℕ → ℕ → ℤ → Mark (Unit {0}) → Option (ℤ × ℕ)
 found_at ts x key n r Pending = None
-found_at ts x key n r (Settled _) = scored key n r (text_seen ts x r)
+found_at ts x key n r (Settled _) = scored x.prefs key n r (text_seen ts x r)
 
 -- The settled rows whose text has a score above n for this word, with their scores, in order of their keys: found by scanning every row.
 abbrev pub found : Tables → Index → List ℕ → ℕ → List (ℤ × ℕ)
@@ -174,12 +179,12 @@ settled_rows rows = from_entries (map (λ r. (r, Settled tt)) rows)
 abbrev pub created_body : List ℤ → Body
 created_body rows = OfContext (record { part = made (length rows) no_part; marks = settled_rows rows })
 
--- a new index settles each row that is there and lies in its range
-abbrev pub created : Tables → Target → KeyRange → Index
-created ts target range = record { table = target.table; column = target.column; body = created_body (rows_in ts target.table range) }
+-- a new index has a copy of these preferences, and settles each row that is there and lies in its range
+abbrev pub created : Tables → Target → Prefs → KeyRange → Index
+created ts target prefs range = record { table = target.table; column = target.column; prefs = prefs; body = created_body (rows_in ts target.table range) }
 
-abbrev pub with_index : Tables → Names Index → List ℕ → Target → KeyRange → Names Index
-with_index ts xs i target range = insert xs i (created ts target range)
+abbrev pub with_index : Tables → Names Index → List ℕ → Target → Prefs → KeyRange → Names Index
+with_index ts xs i target prefs range = insert xs i (created ts target prefs range)
 
 -- computed examples
 above : if_above 1 (pos 7) 2 ≡ Some (pos 7, 2)
@@ -188,16 +193,25 @@ above = refl
 only_as_high : if_above 2 (pos 7) 2 ≡ None
 only_as_high = refl
 
-twice : scored (codes "quick") 0 (pos 1) (Some (codes "quick fox, Quick.")) ≡ Some (pos 1, 2)
+twice : scored default_prefs (codes "quick") 0 (pos 1) (Some (codes "quick fox, Quick.")) ≡ Some (pos 1, 2)
 unfolding encode chars caseless ucd_category key_text
 twice = refl
 
-nowhere : scored (codes "slow") 0 (pos 1) (Some (codes "quick fox")) ≡ None
+nowhere : scored default_prefs (codes "slow") 0 (pos 1) (Some (codes "quick fox")) ≡ None
 unfolding encode chars caseless ucd_category key_text
 nowhere = refl
 
-no_text : scored (codes "quick") 0 (pos 1) None ≡ None
+no_text : scored default_prefs (codes "quick") 0 (pos 1) None ≡ None
 no_text = refl
+
+-- what an invisible field encloses isn't found, and what a zone does is
+hidden : scored (plain zones) (codes "alpha") 0 (pos 1) (Some (codes "<T>alpha</T> <P>beta</P>")) ≡ None
+unfolding encode chars caseless ucd_category key_text
+hidden = refl
+
+in_a_zone : scored (plain zones) (codes "beta") 0 (pos 1) (Some (codes "<T>alpha</T> <P>beta</P>")) ≡ Some (pos 1, 1)
+unfolding encode chars caseless ucd_category key_text
+in_a_zone = refl
 
 not_yet : (ts : Tables) (x : Index) (key : List ℕ) → found_at ts x key 0 (pos 1) Pending ≡ None
 not_yet ts x key = refl
@@ -210,15 +224,15 @@ abbrev two_given : Part
 two_given = record { given = 2; tidiness = Untidy; waste = 64 }
 
 abbrev three_rows : Index
-three_rows = record { table = codes "docs"; column = 1; body = OfContext (record { part = two_given; marks = from_sorted three_marks }) }
+three_rows = record { table = codes "docs"; column = 1; prefs = default_prefs; body = OfContext (record { part = two_given; marks = from_sorted three_marks }) }
 
 two_found : (ts : Tables) → text_seen ts three_rows (pos 1) ≡ Some (codes "a fox") → text_seen ts three_rows (pos 2) ≡ Some (codes "fox fox")
     → found ts three_rows (codes "fox") 0 ≡ (pos 1, 1) ∷ (pos 2, 2) ∷ []
 unfolding encode chars caseless ucd_category key_text
 two_found ts one two =
     ap (λ (es : List (ℤ × Mark (Unit {0}))). filter_map (λ e. found_at ts three_rows (codes "fox") 0 e.0 e.1) es) (entries-from_sorted int_cmp three_marks tt)
-    ∙ ap (λ (o : Option (List ℕ)). cons_option (scored (codes "fox") 0 (pos 1) o) (cons_option (scored (codes "fox") 0 (pos 2) (text_seen ts three_rows (pos 2))) [])) one
-    ∙ ap (λ (o : Option (List ℕ)). (pos 1, 1) ∷ cons_option (scored (codes "fox") 0 (pos 2) o) []) two
+    ∙ ap (λ (o : Option (List ℕ)). cons_option (scored default_prefs (codes "fox") 0 (pos 1) o) (cons_option (scored default_prefs (codes "fox") 0 (pos 2) (text_seen ts three_rows (pos 2))) [])) one
+    ∙ ap (λ (o : Option (List ℕ)). (pos 1, 1) ∷ cons_option (scored default_prefs (codes "fox") 0 (pos 2) o) []) two
 
 one_waits : pending_rows three_rows ≡ pos 3 ∷ []
 one_waits = ap (λ (es : List (ℤ × Mark (Unit {0}))). keys_where in_queue es) (entries-from_sorted int_cmp three_marks tt)

@@ -1,77 +1,168 @@
--- The postings of a text: at which positions each key stands.
-use Rattle.std.specs.Prelude.{ℕ, ◌≡◌, ◌+◌, ◌≤◌, ◌^◌, nat_le, min, List, [], ◌∷◌, length, map, Option, Some, None, codes, refl}
+-- What a text has for an index: the words of each stream, and the sections, with where they stand.
+use Rattle.std.specs.Prelude.{ℕ, ◌≡◌, ◌==◌, ◌≤◌, ◌<◌, ◌^◌, Bool, true, false, nat_le, min, List, [], ◌∷◌, length, map, Option, Some, None, codes, refl}
 use Rattle.std.specs.Bool.{if◌then◌else◌}
+use Rattle.std.specs.List.{filter_map}
 use Rattle.std.specs.Str.{chars}
 use Rattle.std.specs.Ordering.{nat_cmp}
 use Rattle.std.specs.Cmp.Lexicographic.{slice_cmp}
-use Rattle.std.specs.FinMap.{FinMap, from_entries, entries}
+use Rattle.std.specs.FinMap as fin
+use Rattle.std.specs.FinMap.{FinMap, insert, put, entries-insert}
+use Rattle.std.proofs.Common.{ap, ◌∙◌}
+use Rattle.std.proofs.lemmas.Cmp.{nat_list_cmp_total}
 use lib.Utf8.{encode}
 use Rattle.ucd_category.proofs.Computing.{ucd_category}
 use Rattle.caseless.proofs.Computing.{caseless}
+use Rattle.ct_base.specs.Limits.{stream_limit}
+use Rattle.ct_base.specs.Names.{IsName}
+use Rattle.ct_base.specs.declared.numbers.Pair.{Pair}
+use Rattle.ct_entry.specs.Keys.{IsToken}
+use Rattle.ct_entry.specs.laws.Maps.{entries-none}
 use Rattle.tx_chars.specs.Keys.{key_text}
-use Rattle.tx_lexer.specs.declared.tokens.Token.{Token}
-use Rattle.tx_lexer.specs.Tokens.{tokens, default}
-use Rattle.ct_entry.specs.Keys.{same_list, IsToken}
+use Rattle.tx_tags.specs.Groups.{zones}
+use Rattle.tx_settings.specs.declared.preferences.Prefs.{Prefs}
+use Rattle.tx_document.specs.declared.views.DocView.{DocView}
+use Rattle.tx_document.specs.declared.entries.Entry.{Entry}
+use Rattle.tx_settings.specs.Defaults.{default_prefs, plain}
+use Rattle.tx_document.specs.Documents.{document, pair}
+use Rattle.tx_document.specs.Entries.{Place, section_stream, places_of, positions_of, entry, entry_of, entries}
 use Rattle.ix_posting.specs.Rows.{Rise}
-use Rattle.ct_keep.specs.Laws.{entries_put, entries-insert_empty}
+use Rattle.ix_posting.specs.SpanRows.{PairsRise, no_pair}
+use Rattle.ix_rows.specs.WordRows.{word_term}
 
--- the words of a text by their keys, in order; the first stands at position 1
-abbrev pub words_of : List ℕ → List (List ℕ)
-words_of text = map (λ (t : Token). t.key) (tokens default (chars text))
+-- ---- texts as documents
 
--- the positions of a key among words of which the first stands at `position`, rising
-abbrev pub positions_from : ℕ → List ℕ → List (List ℕ) → List ℕ
-positions_from position key [] = []
-positions_from position key (w ∷ ws) = if same_list key w then position ∷ positions_from (position + 1) key ws else positions_from (position + 1) key ws
+abbrev pub text_document : Prefs → List ℕ → DocView
+text_document p text = document p (chars text)
 
-abbrev pub positions : List ℕ → List ℕ → List ℕ
-positions key text = positions_from 1 key (words_of text)
+-- where its words and sections stand
+abbrev pub text_places : Prefs → List ℕ → List Place
+text_places p text = places_of (text_document p text)
 
--- the score of one word on a text: how often it stands there, and at most 100
-abbrev pub word_score : List ℕ → List ℕ → ℕ
-word_score key text = min 100 (length (positions key text))
+-- the positions of a key in the main stream
+abbrev pub positions : Prefs → List ℕ → List ℕ → List ℕ
+positions p key text = positions_of 0 key (text_document p text).words
 
--- some positions, or none
-abbrev pub if_any : List ℕ → Option (List ℕ)
-if_any [] = None
-if_any (p ∷ ps) = Some (p ∷ ps)
+-- the score of one word on a text: how often it stands in the main stream, and at most 100
+abbrev pub word_score : Prefs → List ℕ → List ℕ → ℕ
+word_score p key text = min 100 (length (positions p key text))
 
--- each key that stands in the text, with its positions
-abbrev pub postings_of : List ℕ → FinMap (slice_cmp nat_cmp) (List ℕ)
-postings_of text = from_entries (map (λ w. (w, positions w text)) (words_of text))
+-- ---- its entries as terms
 
--- ---- what a row of postings needs of a text
+-- one for each key of each stream, and for each section, in the order of stream and token
+abbrev pub text_entries : Prefs → List ℕ → List Entry
+text_entries p text = entries (text_document p text)
 
--- what an entry of postings needs
-pub record IsPosting (e : List ℕ × List ℕ) : Type 0 where
-  pub token : IsToken e.0
-  pub some : 1 ≤ length e.1
-  pub rise : Rise 0 e.1
+-- a section, or a key of a stream
+abbrev pub is_section : Entry → Bool
+is_section e = e.stream == section_stream
 
--- a text of at most 2 ^ 24 bytes, or none
+-- the positions of a key; each place is a pair of one twice
+abbrev pub firsts : List Pair → List ℕ
+firsts ps = map (λ p. p.first) ps
+
+-- a section, as it stands in a key: the length of its name, and the name
+abbrev pub section_term : List ℕ → List ℕ
+section_term section = length section ∷ section
+
+-- the term of a key of a stream, with its positions
+abbrev pub word_in : Entry → Option (List ℕ × List ℕ)
+word_in e = if is_section e then None else Some (word_term e.stream e.token, firsts e.places)
+
+-- the term of a section, with its pairs
+abbrev pub section_in : Entry → Option (List ℕ × List Pair)
+section_in e = if is_section e then Some (section_term e.token, e.places) else None
+
+abbrev pub word_terms : List Entry → List (List ℕ × List ℕ)
+word_terms es = filter_map word_in es
+
+abbrev pub section_terms : List Entry → List (List ℕ × List Pair)
+section_terms es = filter_map section_in es
+
+-- ---- what rows of postings need of an entry
+
+pub record IsWord (e : Entry) : Type 0 where
+  pub stream : e.stream ≤ stream_limit
+  pub token : IsToken e.token
+  pub some : 1 ≤ length e.places
+  pub rise : Rise 0 (firsts e.places)
+
+pub record IsSection (e : Entry) : Type 0 where
+  pub named : IsName e.token
+  pub some : 1 ≤ length e.places
+  pub few : length e.places < 2 ^ 32
+  pub rise : PairsRise no_pair e.places
+
+abbrev pub IsOneOf : Bool → Entry → Type 0
+IsOneOf true e = IsSection e
+IsOneOf false e = IsWord e
+
+abbrev pub IsPosting : Entry → Type 0
+IsPosting e = IsOneOf (is_section e) e
+
+-- ---- short texts
+
+-- A text that is indexed has at most so many bytes: then each of its entries makes a row of postings that a keeper takes.
+abbrev pub text_limit : ℕ
+text_limit = 2 ^ 19
+
+-- a text of at most so many bytes, or none
 abbrev pub HasShortText : Option (List ℕ) → Type 0
 HasShortText None = Unit {0}
-HasShortText (Some text) = length text ≤ 2 ^ 24
+HasShortText (Some text) = length text ≤ text_limit
 
 -- the text, if it is one
 abbrev pub if_short : Option (List ℕ) → Option (List ℕ)
 if_short None = None
-if_short (Some text) = if nat_le (length text) (2 ^ 24) then Some text else None
+if_short (Some text) = if nat_le (length text) text_limit then Some text else None
 
--- computed examples
-quick : positions (codes "quick") (codes "quick fox quick") ≡ 1 ∷ 3 ∷ []
+-- ---- computed examples
+
+quick : positions default_prefs (codes "quick") (codes "quick fox quick") ≡ 1 ∷ 3 ∷ []
 unfolding encode chars caseless ucd_category key_text
 quick = refl
 
-twice : word_score (codes "quick") (codes "quick fox, Quick.") ≡ 2
+twice : word_score default_prefs (codes "quick") (codes "quick fox, Quick.") ≡ 2
 unfolding encode chars caseless ucd_category key_text
 twice = refl
 
-nowhere : positions (codes "slow") (codes "quick fox") ≡ []
+nowhere : positions default_prefs (codes "slow") (codes "quick fox") ≡ []
 unfolding encode chars caseless ucd_category key_text
 nowhere = refl
 
--- each key once, in the order of the bytes
-pub fox_and_quick : entries (postings_of (codes "quick fox quick")) ≡ (codes "fox", 2 ∷ []) ∷ (codes "quick", 1 ∷ 3 ∷ []) ∷ []
+-- the field t is invisible: what it encloses isn't found in the main stream, but it is in the field's, and the zones p and q are sections
+abbrev with_tags : List ℕ
+with_tags = codes "<T>alpha</T> <Q>one <P>beta</P></Q>"
+
+hidden : word_score (plain zones) (codes "alpha") with_tags ≡ 0
 unfolding encode chars caseless ucd_category key_text
-fox_and_quick = entries_put _ (codes "quick") (1 ∷ 3 ∷ []) _ (entries_put _ (codes "fox") (2 ∷ []) _ (entries-insert_empty (codes "quick") (1 ∷ 3 ∷ [])))
+hidden = refl
+
+shown : word_score (plain zones) (codes "beta") with_tags ≡ 1
+unfolding encode chars caseless ucd_category key_text
+shown = refl
+
+its_places : text_places (plain zones) with_tags
+    ≡ (1 ∷ codes "alpha", pair 1 1) ∷ (0 ∷ codes "one", pair 2 2) ∷ (0 ∷ codes "beta", pair 3 3) ∷ (255 ∷ codes "p", pair 3 3) ∷ (255 ∷ codes "q", pair 2 3) ∷ []
+unfolding encode chars caseless ucd_category key_text
+its_places = refl
+
+-- a key of the field, and a section
+abbrev two_entries : List Entry
+two_entries = entry 1 (codes "alpha") (pair 1 1 ∷ pair 4 4 ∷ []) ∷ entry 255 (codes "q") (pair 2 3 ∷ []) ∷ []
+
+its_word : word_terms two_entries ≡ (1 ∷ 5 ∷ codes "alpha", 1 ∷ 4 ∷ []) ∷ []
+its_word = refl
+
+its_section : section_terms two_entries ≡ (1 ∷ codes "q", pair 2 3 ∷ []) ∷ []
+its_section = refl
+
+-- each key once, in the order of the bytes
+with_places : (m : FinMap (slice_cmp nat_cmp) (List Pair)) (name : List ℕ) (places : List Pair) (es : List (List ℕ × List Pair)) → fin.entries m ≡ es → fin.entries (insert m name places) ≡ put (slice_cmp nat_cmp) name places es
+with_places m name places es are = entries-insert nat_list_cmp_total m name places ∙ ap (put (slice_cmp nat_cmp) name places) are
+
+pub fox_and_quick : text_entries default_prefs (codes "quick fox quick") ≡ entry 0 (codes "fox") (pair 2 2 ∷ []) ∷ entry 0 (codes "quick") (pair 1 1 ∷ pair 3 3 ∷ []) ∷ []
+unfolding encode chars caseless ucd_category key_text
+fox_and_quick = ap (map entry_of)
+    (with_places _ (0 ∷ codes "quick") (pair 1 1 ∷ pair 3 3 ∷ []) _
+    (with_places _ (0 ∷ codes "fox") (pair 2 2 ∷ []) _
+    (with_places _ (0 ∷ codes "quick") (pair 1 1 ∷ pair 3 3 ∷ []) _ (entries-none (slice_cmp nat_cmp)))))

@@ -13,6 +13,8 @@ use Rattle.tb_table.specs.declared.columns.Column.{Column}
 use Rattle.tb_table.specs.declared.columns.Target.{Target}
 use Rattle.tb_table.specs.Tables.{Table, Tables, with_table, with_row}
 use Rattle.tb_table.specs.Rules.{AreTables}
+use Rattle.tx_settings.specs.declared.preferences.Prefs.{Prefs}
+use Rattle.tx_settings.specs.PrefsBytes.{IsPrefs}
 use Rattle.ix_context.specs.declared.ranges.KeyRange.{KeyRange}
 use Rattle.ix_context.specs.Postings.{word_score}
 use Rattle.ix_context.specs.Indexes.{Index, given, marks_in, pending_rows, text_seen, found, noted, noted_on, synced, in_range, rows_in, with_index}
@@ -52,9 +54,9 @@ SyncedIndexesStand =
 -- after CREATE INDEX of a name that is free, where there are numbers for the rows
 abbrev pub CreatedIndexesStand : Type 0
 CreatedIndexesStand =
-    (f : Key → Option (List ℕ)) (ts : Tables) (xs : Names Index) (i : List ℕ) (target : Target) (range : KeyRange)
-    → get xs i ≡ None → length (rows_in ts target.table range) ≤ most_given → AreTables ts → IndexesStand f ts xs
-    → IndexesStand (view (create_changes ts i target range) f) ts (with_index ts xs i target range)
+    (f : Key → Option (List ℕ)) (ts : Tables) (xs : Names Index) (i : List ℕ) (target : Target) (prefs : Prefs) (range : KeyRange)
+    → get xs i ≡ None → IsPrefs prefs → length (rows_in ts target.table range) ≤ most_given → AreTables ts → IndexesStand f ts xs
+    → IndexesStand (view (create_changes ts i target prefs range) f) ts (with_index ts xs i target prefs range)
 
 -- ---- the notes of a row, one by one
 
@@ -110,9 +112,9 @@ IsFreeColumn xs t column = (j : List ℕ) (y : Index) → get xs j ≡ Some y �
 -- a new index of a name that is free, over all rows, on a column of texts that has none
 abbrev pub CreatesKeepIndexRules : Type 0
 CreatesKeepIndexRules =
-    (ts : Tables) (xs : Names Index) (i : List ℕ) (target : Target) (range : KeyRange)
-    → IsName i → get xs i ≡ None → IsTarget ts target.table target.column → IsFreeColumn xs target.table target.column → HasAllRows range
-    → length (rows_in ts target.table range) ≤ most_given → AreTables ts → AreIndexes ts xs → AreIndexes ts (with_index ts xs i target range)
+    (ts : Tables) (xs : Names Index) (i : List ℕ) (target : Target) (prefs : Prefs) (range : KeyRange)
+    → IsName i → get xs i ≡ None → IsTarget ts target.table target.column → IsPrefs prefs → IsFreeColumn xs target.table target.column → HasAllRows range
+    → length (rows_in ts target.table range) ≤ most_given → AreTables ts → AreIndexes ts xs → AreIndexes ts (with_index ts xs i target prefs range)
 
 -- ---- what a query finds, row by row
 
@@ -121,7 +123,7 @@ pub record IsFound (ts : Tables) (x : Index) (key : List ℕ) (n : ℕ) (r : ℤ
   pub marked : get (marks_in x.body) r ≡ Some (Settled tt)
   pub text : List ℕ
   pub seen : text_seen ts x r ≡ Some text
-  pub scores : score ≡ word_score key text
+  pub scores : score ≡ word_score x.prefs key text
   pub above : n < score
 
 -- Exactly the rows that are so are listed, each with its score.

@@ -7,7 +7,6 @@ use Rattle.ct_entry.specs.declared.kinds.Kind.TheVariants as kind
 use Rattle.ct_entry.specs.Keys.{key, bytes, row_part, document_part}
 use Rattle.tb_table.specs.Tables.{Tables, docs_alone, row_one, text_of}
 use Rattle.tb_table.specs.Room.{key_weight}
-use Rattle.std.specs.FinMap.{from_entries, empty}
 use Rattle.ct_keep.specs.Laws.{entries_put, entries-insert_empty}
 use Rattle.ct_entry.specs.laws.Maps.{entries-none}
 use Rattle.std.specs.Ordering.{nat_cmp}
@@ -18,7 +17,10 @@ use Rattle.ix_rows.specs.WordRows.{last_document, posting_cost}
 use Rattle.ix_rows.specs.SpanRows.{pairs_cost}
 use Rattle.ix_docmap.specs.Marks.{Mark, Pending, Settled}
 use Rattle.ix_context.specs.Indexes.{Index, Part, OfContext, marks_in, part_in}
-use Rattle.ix_context.specs.Documents.{document_cost, spans_cost, postings_in, text_postings, its_terms}
+use Rattle.tx_document.specs.declared.entries.Entry.{Entry}
+use Rattle.tx_settings.specs.Defaults.{default_prefs}
+use Rattle.ix_context.specs.Postings.{fox_and_quick}
+use Rattle.ix_context.specs.Documents.{document_cost, spans_cost, postings_in, text_postings, entries_postings}
 use Rattle.ix_context.specs.Spelling.{index_entry}
 use Rattle.std.specs.Ordering.{int_cmp}
 use Rattle.std.specs.Option.{option_and_then}
@@ -55,17 +57,14 @@ abbrev pub di_part : ℕ → Part
 di_part waste = record { given = 1; tidiness = Untidy; waste = waste }
 
 abbrev pub di_index : ℕ → Index
-di_index waste = record { table = codes "docs"; column = 1; body = OfContext (record { part = di_part waste; marks = from_sorted di_marks }) }
-
-abbrev two_terms : List (List ℕ × List ℕ)
-two_terms = (0 ∷ 3 ∷ codes "fox", 2 ∷ []) ∷ (0 ∷ 5 ∷ codes "quick", 1 ∷ 3 ∷ []) ∷ []
+di_index waste = record { table = codes "docs"; column = 1; prefs = default_prefs; body = OfContext (record { part = di_part waste; marks = from_sorted di_marks }) }
 
 two_words_cost : (waste : ℕ) → document_cost (codes "di") (postings_in docs_alone (Some (di_index waste)) (pos 1)) ≡ 128
 unfolding varint
 two_words_cost waste =
-    ap (λ (o : Option (List Value)). document_cost (codes "di") (text_postings (option_and_then (λ vs. text_of vs 1) o))) row_one
-    ∙ ap (λ (es : List (List ℕ × List ℕ)). sum_by (posting_cost (codes "di")) (entries (from_entries {R = slice_cmp nat_cmp} es)) + spans_cost (codes "di") (record { words = empty; spans = empty })) its_terms
-    ∙ ap (λ (es : List (List ℕ × List ℕ)). sum_by (posting_cost (codes "di")) es + spans_cost (codes "di") (record { words = empty; spans = empty })) (entries_put _ (0 ∷ 3 ∷ codes "fox") (2 ∷ []) _ (entries-insert_empty (0 ∷ 5 ∷ codes "quick") (1 ∷ 3 ∷ [])))
+    ap (λ (o : Option (List Value)). document_cost (codes "di") (text_postings default_prefs (option_and_then (λ vs. text_of vs 1) o))) row_one
+    ∙ ap (λ (es : List Entry). document_cost (codes "di") (entries_postings es)) fox_and_quick
+    ∙ ap (λ (es : List (List ℕ × List ℕ)). sum_by (posting_cost (codes "di")) es + spans_cost (codes "di") (entries_postings [])) (entries_put _ (0 ∷ 3 ∷ codes "fox") (2 ∷ []) _ (entries-insert_empty (0 ∷ 5 ∷ codes "quick") (1 ∷ 3 ∷ [])))
     ∙ ap (λ (es : List (List ℕ × List Pair)). 128 + sum_by (pairs_cost (codes "di")) es) (entries-none (slice_cmp nat_cmp))
 
 -- 281 of the index itself, 64 of the row that waits, 128 of the pair of row and document, 128 of the two words, and what may be wasted

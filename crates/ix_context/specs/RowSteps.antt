@@ -13,6 +13,7 @@ use Rattle.ct_entry.specs.Lists.{IsIn}
 use Rattle.ct_entry.specs.Maps.{Names}
 use Rattle.tb_table.specs.Tables.{Table, Tables, row_at, text_of, docs_alone, row_one}
 use Rattle.tb_table.specs.Rules.{AreTables}
+use Rattle.tx_settings.specs.Defaults.{default_prefs}
 use Rattle.ix_context.specs.Indexes.{Index, created_body}
 use Rattle.ix_context.specs.Documents.{gone_on, changed_on}
 use Rattle.ix_context.specs.Rules.{AreIndexes}
@@ -129,7 +130,7 @@ of_column_two = refl
 
 -- an index on the column 1 of the table `docs`
 abbrev on_texts : Index
-on_texts = record { table = codes "docs"; column = 1; body = created_body [] }
+on_texts = record { table = codes "docs"; column = 1; prefs = default_prefs; body = created_body [] }
 
 sees_its_column : is_on_columns (codes "docs") (1 ∷ []) (Some on_texts) ≡ true
 sees_its_column = refl

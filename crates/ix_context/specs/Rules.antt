@@ -8,6 +8,7 @@ use Rattle.tb_table.specs.declared.columns.Sort.TheVariants.{Number, Varchar2, C
 use Rattle.tb_table.specs.declared.columns.Column.{Column}
 use Rattle.tb_table.specs.Tables.{Table, Tables, row_at, docs_table, docs_alone, docs_there}
 use Rattle.ix_rows.specs.Stores.{Untidy}
+use Rattle.tx_settings.specs.PrefsBytes.{IsPrefs}
 use Rattle.ix_context.specs.Indexes.{Index, given, marks_in, part_in}
 
 -- a column of texts
@@ -34,6 +35,7 @@ most_given = 2 ^ 32 - 2
 
 pub record IsIndex (ts : Tables) (x : Index) : Type 0 where
   pub target : IsTarget ts x.table x.column
+  pub prefs : IsPrefs x.prefs
   -- each row of the table has a mark, and there is no other
   pub marks : (r : ℤ) → is_some (get (marks_in x.body) r) ≡ is_some (row_at ts x.table r)
   pub numbers : given x ≤ most_given

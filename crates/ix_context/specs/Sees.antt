@@ -29,6 +29,10 @@ ToldIndex view k i holds =
 abbrev pub SeesIndex : {K T E : Type 0} → (K → KeeperView) → K → List ℕ → Result T E → (Tables → Index → T → Type 0) → Type 0
 SeesIndex view old i result gives = ToldIndex view old i (λ ts x. IfOk result (gives ts x))
 
+-- What a call gave of all indexes, unless it failed.
+abbrev pub SeesIndexes : {K T E : Type 0} → (K → KeeperView) → K → Result T E → (Names Index → T → Type 0) → Type 0
+SeesIndexes view old result gives = (m : Content) (ts : Tables) (xs : Names Index) → (view old).content ≡ Some m → HoldsIndexes m ts xs → IfOk result (gives xs)
+
 -- The same of an index that is within the limits of a search. Neither the tables nor the indexes need to keep any other rule.
 abbrev pub SeesWithinLimits : {K T E : Type 0} → (K → KeeperView) → K → List ℕ → Result T E → (Tables → Index → T → Type 0) → Type 0
 SeesWithinLimits view old i result gives =

@@ -11,19 +11,26 @@ use Rattle.ct_entry.specs.Keys.{Key, key, row_part, document_part, posting_part,
 use Rattle.ct_entry.specs.Shapes.{AreShaped}
 use Rattle.ix_posting.specs.Rows.{IsPostingRow, posting_bytes}
 use Rattle.ix_posting.specs.SpanRows.{IsSpanRow, span_row_bytes}
+use Rattle.tx_settings.specs.declared.preferences.Prefs.{Prefs}
+use Rattle.tx_settings.specs.Defaults.{default_prefs}
+use Rattle.tx_settings.specs.PrefsBytes.{IsPrefs}
+use Rattle.tx_settings.specs.laws.Settable.{defaults_can_be_set}
+use lib.Utf8.{encode}
 use Rattle.ix_context.specs.Spelling.{index_bytes}
 
 -- ---- values
 
--- the entry of an index on a column of some table, whether or not there is such a table
+-- the entry of an index on a column of some table, with any preferences, whether or not there is such a table
 pub record IsIndexEntry (value : List ℕ) : Type 0 where
   pub table : List ℕ
   pub column : ℕ
+  pub prefs : Prefs
   pub next : ℕ
   pub named : IsName table
   pub place : column < 256
+  pub are : IsPrefs prefs
   pub fits : next < 2 ^ 32
-  pub spelt : value ≡ index_bytes table column next
+  pub spelt : value ≡ index_bytes table column prefs next
 
 -- the four bytes of a document
 abbrev pub IsDocumentPart : List ℕ → Type 0
@@ -86,8 +93,8 @@ KeepsShape old new result = OnOk result (AreShaped HasIndexValue old → AreShap
 
 -- the entry of an index on the column 1 of a table `t` that has given two documents
 an_index : HasIndexValue (key kind.Indexes (codes "di") []) (1 ∷ 1 ∷ 0x74 ∷ 1 ∷ 0 ∷ 0 ∷ 0 ∷ 2 ∷ 0 ∷ 0 ∷ 0 ∷ 0 ∷ 0 ∷ 0 ∷ 3 ∷ 0 ∷ 0 ∷ 0 ∷ [])
-unfolding varint
-an_index = record { table = codes "t"; column = 1; next = 3; named = record { spelt = refl; lower = refl }; place = omega arith; fits = omega arith; spelt = refl }
+unfolding varint encode
+an_index = record { table = codes "t"; column = 1; prefs = default_prefs; next = 3; named = record { spelt = refl; lower = refl }; place = omega arith; are = record { lexer = refl; can_be = defaults_can_be_set; stop = refl; group = refl; named = refl }; fits = omega arith; spelt = refl }
 
 row_of_a_document : HasIndexValue (key kind.DocumentRows (codes "di") (document_part 1)) (0x80 ∷ 0 ∷ 0 ∷ 0 ∷ 0 ∷ 0 ∷ 0 ∷ 7 ∷ [])
 unfolding row_bytes

@@ -9,27 +9,28 @@ use Rattle.ct_entry.specs.Keys.{Key, key, prefix_of}
 use Rattle.ct_entry.specs.Changes.{put}
 use Rattle.tb_table.specs.declared.columns.Target.{Target}
 use Rattle.ix_rows.specs.WordRows.{word_term}
+use Rattle.tx_settings.specs.declared.preferences.Prefs.{Prefs}
+use Rattle.tx_settings.specs.Defaults.{default_prefs}
+use Rattle.tx_settings.specs.PrefsBytes.{prefs_bytes, IsPrefs}
+use lib.Utf8.{encode}
+use Rattle.ix_context.specs.declared.entries.IndexEntry.{IndexEntry}
 use Rattle.ix_context.specs.Indexes.{Index, given}
 
--- the preferences of an index as its entry has them. For now these are the defaults: no lexer option, no stop key, a group without sections and flags, no sub-index.
-abbrev pub default_bytes : List ℕ
-default_bytes = 0 ∷ 0 ∷ 2 ∷ 0 ∷ 0 ∷ 0 ∷ []
-
--- what follows the table in the entry of an index: its column in one byte, that it isn't transactional, its preferences,
--- the next document in four bytes, its tidiness 0, and no place to resume at
-abbrev pub after_table : ℕ → ℕ → List ℕ
-after_table column next = column ∷ 0 ∷ default_bytes ++ (to_be_bytes w32 next ++ 0 ∷ 0 ∷ 0 ∷ [])
+-- what follows the table in the entry of an index: its column in one byte, that it isn't transactional, its preferences, that
+-- it has no sub-index, the next document in four bytes, its tidiness 0, and no place to resume at
+abbrev pub after_table : ℕ → Prefs → ℕ → List ℕ
+after_table column prefs next = column ∷ 0 ∷ prefs_bytes prefs ++ (0 ∷ (to_be_bytes w32 next ++ 0 ∷ 0 ∷ 0 ∷ []))
 
 -- The entry of a CONTEXT index: its kind 1, its table as a text, and the rest.
-abbrev pub index_bytes : List ℕ → ℕ → ℕ → List ℕ
-index_bytes table column next = 1 ∷ text_bytes table ++ after_table column next
+abbrev pub index_bytes : List ℕ → ℕ → Prefs → ℕ → List ℕ
+index_bytes table column prefs next = 1 ∷ text_bytes table ++ after_table column prefs next
 
 -- the change that gives an index on this target its entry, with the document that it gives next
-abbrev pub index_change : List ℕ → Target → ℕ → Key × Option (List ℕ)
-index_change i target next = put (key kind.Indexes i []) (index_bytes target.table target.column next)
+abbrev pub index_change : List ℕ → Target → Prefs → ℕ → Key × Option (List ℕ)
+index_change i target prefs next = put (key kind.Indexes i []) (index_bytes target.table target.column prefs next)
 
 abbrev pub index_entry : Index → List ℕ
-index_entry x = index_bytes x.table x.column (given x + 1)
+index_entry x = index_bytes x.table x.column x.prefs (given x + 1)
 
 -- what follows the index in the keys of a word's rows of postings in the main stream, up to the end of the word
 abbrev pub word_prefix : List ℕ → List ℕ
@@ -53,22 +54,32 @@ is_of_indexes k = false
 
 -- ---- what is read from the entry of an index
 
--- the entry is that of an index on this target with this next document; or of none
-abbrev pub SpellsIndex : Option (List ℕ) → Option (Target × ℕ) → Type 0
-SpellsIndex entry (Some p) = IsName p.0.table × (p.0.column < 256) × (p.1 < 2 ^ 32) × (entry ≡ Some (index_bytes p.0.table p.0.column p.1))
-SpellsIndex entry None = (table : List ℕ) (column next : ℕ) → IsName table → column < 256 → next < 2 ^ 32 → entry ≡ Some (index_bytes table column next) → ⊥
+-- the entry is that of an index with these parts; or of none
+abbrev pub SpellsIndex : Option (List ℕ) → Option IndexEntry → Type 0
+SpellsIndex entry (Some e) =
+    IsName e.target.table × (e.target.column < 256) × IsPrefs e.prefs × (e.next_document < 2 ^ 32)
+    × (entry ≡ Some (index_bytes e.target.table e.target.column e.prefs e.next_document))
+SpellsIndex entry None =
+    (table : List ℕ) (column : ℕ) (prefs : Prefs) (next : ℕ) → IsName table → column < 256 → IsPrefs prefs → next < 2 ^ 32
+    → entry ≡ Some (index_bytes table column prefs next) → ⊥
 
--- Where the bytes are the entry of an index, these are its table, its column and its next document.
-abbrev pub HasIndexParts : List ℕ → Option (List ℕ × ℕ × ℕ) → Type 0
+-- Where the bytes are the entry of an index, these are its table, its column, its preferences and its next document.
+abbrev pub HasIndexParts : List ℕ → Option (List ℕ × ℕ × Prefs × ℕ) → Type 0
 HasIndexParts value parts =
-    (table : List ℕ) (column next : ℕ) → length table < 2 ^ 32 → next < 2 ^ 32 → value ≡ index_bytes table column next → parts ≡ Some (table, column, next)
+    (table : List ℕ) (column : ℕ) (prefs : Prefs) (next : ℕ) → length table < 2 ^ 32 → IsPrefs prefs → next < 2 ^ 32
+    → value ≡ index_bytes table column prefs next → parts ≡ Some (table, column, prefs, next)
 
 -- computed examples
 
--- the entry of an index on the column 1 of a table `t` that has given two documents
-an_entry : index_bytes (codes "t") 1 3 ≡ 1 ∷ 1 ∷ 0x74 ∷ 1 ∷ 0 ∷ 0 ∷ 0 ∷ 2 ∷ 0 ∷ 0 ∷ 0 ∷ 0 ∷ 0 ∷ 0 ∷ 3 ∷ 0 ∷ 0 ∷ 0 ∷ []
-unfolding varint
+-- the entry of an index on the column 1 of a table `t` that reads by the defaults and has given two documents
+an_entry : index_bytes (codes "t") 1 default_prefs 3 ≡ 1 ∷ 1 ∷ 0x74 ∷ 1 ∷ 0 ∷ 0 ∷ 0 ∷ 2 ∷ 0 ∷ 0 ∷ 0 ∷ 0 ∷ 0 ∷ 0 ∷ 3 ∷ 0 ∷ 0 ∷ 0 ∷ []
+unfolding varint encode
 an_entry = refl
+
+-- of one that passes over the word `is`
+with_a_stopword : index_bytes (codes "t") 1 (record default_prefs { stop = codes "is" ∷ [] }) 3 ≡ 1 ∷ 1 ∷ 0x74 ∷ 1 ∷ 0 ∷ 0 ∷ 1 ∷ 2 ∷ 0x69 ∷ 0x73 ∷ 2 ∷ 0 ∷ 0 ∷ 0 ∷ 0 ∷ 0 ∷ 0 ∷ 3 ∷ 0 ∷ 0 ∷ 0 ∷ []
+unfolding varint encode
+with_a_stopword = refl
 
 the_foxes : postings_prefix (codes "di") (codes "fox") ≡ 0x24 ∷ 2 ∷ 0x64 ∷ 0x69 ∷ 0 ∷ 3 ∷ codes "fox"
 the_foxes = refl

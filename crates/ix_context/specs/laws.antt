@@ -1,5 +1,5 @@
 pub mod Postings
-pub mod Tokens
+pub mod Terms
 pub mod Standing
 pub mod Bodies
 pub mod Parts

@@ -1,9 +1,10 @@
 //! New indexes.
 #![tactic(auto, using(ct_keep::specs::Composing::reads_on, ct_keep::specs::Composing::reads_short))]
 
-ghost use Rattle.std.specs.Prelude.{◌≡◌, ◌+◌, ◌≤◌, ◌<◌, ◌^◌, IfOk, IfSome, OnOk, OnErr, Some, Err, filter, length, map};
+ghost use Rattle.std.specs.Prelude.{◌≡◌, ◌+◌, ◌≤◌, ◌<◌, ◌^◌, IfOk, IfSome, OnOk, OnErr, Some, Err, filter, length, map, true};
 ghost use Rattle.ct_keep.specs.KeeperViews.{OnlyReads, Reads};
 ghost use Rattle.ct_entry.specs.Shapes.{AreShaped};
+ghost use Rattle.tx_settings.specs.Attributes.{can_be_set};
 ghost use Rattle.ix_context.specs.Indexes.{in_range, rows_in};
 ghost use Rattle.ix_context.specs.Changes.{create_changes, Adds, mark_rows_changes, AreCreateChanges};
 ghost use Rattle.ix_context.specs.Faults.{context_fault_of};
@@ -20,6 +21,7 @@ use ct_entry::{Kind, row_keys};
 use ct_keep::{Batch, KeepFault, Keeper};
 use std::alloc::Global;
 use tb_table::Target;
+use tx_settings::Prefs;
 
 /// The row keys that lie in a range, in their order.
 fn rows_within(alloc: Global, rows: &[RowKey], range: KeyRange) -> Result<Vec<RowKey>, Memory>
@@ -50,24 +52,27 @@ fn rows_of<K: Keeper>(
     Ok(kept)
 }
 
-/// Adds the changes by which rows become documents of an index on this target, the first of them the document 1.
+/// Adds the changes by which rows become documents of an index on this target that reads texts so, the first of them the
+/// document 1.
 fn mark_rows<K: Keeper>(
     alloc: Global,
     keeper: &mut K,
     changes: &mut Batch,
     index: &Name,
     target: &Target,
+    prefs: &Prefs,
     rows: &[RowKey],
 ) -> Result<(), KeepFault>
     requires ready { (K.view keeper.old).ready }
     requires room { 1 + length rows.now < 2 ^ 32 }
-    ensures changes { ToldTables K.view keeper.old (λ ts. Adds changes.old changes.new result (mark_rows_changes ts index.now target.now 1 rows.now)) }
+    requires set { can_be_set prefs.now.lexer ≡ true }
+    ensures changes { ToldTables K.view keeper.old (λ ts. Adds changes.old changes.new result (mark_rows_changes ts index.now target.now prefs.now 1 rows.now)) }
     ensures shaped { KeepsShape changes.old changes.new result }
     ensures reads { OnlyReads K.view keeper.old keeper.new result }
 {
     let mut document = 1;
     for row in rows {
-        mark_next(alloc, keeper, changes, index, target, document, *row)?;
+        mark_next(alloc, keeper, changes, index, target, prefs, document, *row)?;
         document += 1;
     }
     Ok(())
@@ -79,10 +84,12 @@ fn changes_of_create<K: Keeper>(
     keeper: &mut K,
     index: &Name,
     target: &Target,
+    prefs: &Prefs,
     range: KeyRange,
 ) -> Result<Option<Batch>, KeepFault>
-    requires { (K.view keeper.old).ready }
-    ensures changes { SeesTables K.view keeper.old result (λ ts. AreCreateChanges ts index.now target.now range) }
+    requires ready { (K.view keeper.old).ready }
+    requires set { can_be_set prefs.now.lexer ≡ true }
+    ensures changes { SeesTables K.view keeper.old result (λ ts. AreCreateChanges ts index.now target.now prefs.now range) }
     ensures shaped { IfOk result (λ found. IfSome found (AreShaped HasIndexValue)) }
     ensures reads { OnlyReads K.view keeper.old keeper.new result }
 {
@@ -91,13 +98,14 @@ fn changes_of_create<K: Keeper>(
         return Ok(None);
     };
     let mut changes = Batch::new(alloc);
-    put_index(alloc, &mut changes, index, target, next)?;
-    mark_rows(alloc, keeper, &mut changes, index, target, &rows)?;
+    put_index(alloc, &mut changes, index, target, prefs, next)?;
+    mark_rows(alloc, keeper, &mut changes, index, target, prefs, &rows)?;
     Ok(Some(changes))
 }
 
-/// Adds the changes of a new index on this target, of which each row that the table has in the range becomes a document, in
-/// order of the keys from 1 on, and the tokens of these rows' texts get postings.
+/// Adds the changes of a new index on this target, which gets a copy of the preferences. Each row that the table has in the
+/// range becomes a document of it, in order of the keys from 1 on, and the words of these rows' texts in all streams and their
+/// sections get postings.
 ///
 /// It costs what these texts hold, times a logarithm, and a scan of the table's keys. TooMany where over 2^32 - 2 rows lie
 /// in the range. The batch is unchanged at each error.
@@ -107,17 +115,19 @@ pub fn create<K: Keeper>(
     batch: &mut Batch,
     index: &Name,
     target: &Target,
+    prefs: &Prefs,
     range: KeyRange,
 ) -> Result<(), ContextFault>
-    requires { (K.view keeper.old).ready }
-    ensures changes { ToldTables K.view keeper.old (λ ts. Adds batch.old batch.new result (create_changes ts index.now target.now range)) }
+    requires ready { (K.view keeper.old).ready }
+    requires set { can_be_set prefs.now.lexer ≡ true }
+    ensures changes { ToldTables K.view keeper.old (λ ts. Adds batch.old batch.new result (create_changes ts index.now target.now prefs.now range)) }
     ensures room { ToldTables K.view keeper.old (λ ts. OnOk result (length (rows_in ts target.now.table range) ≤ most_given)) }
     ensures many { ToldTables K.view keeper.old (λ ts. result ≡ Err ContextFault.TooMany → most_given < length (rows_in ts target.now.table range)) }
     ensures err { OnErr result (batch.new ≡ batch.old) }
     ensures shaped { AreShaped HasIndexValue batch.old → AreShaped HasIndexValue batch.new }
     ensures reads { Reads (K.view keeper.old) (K.view keeper.new) (context_fault_of result) }
 {
-    let found = match changes_of_create(alloc, keeper, index, target, range) {
+    let found = match changes_of_create(alloc, keeper, index, target, prefs, range) {
         Ok(found) => found,
         Err(fault) => return Err(fault_of_reads(fault)),
     };

@@ -1,9 +1,10 @@
 //! Synchronising indexes.
 #![tactic(auto, using(ct_keep::specs::Composing::reads_on, ct_keep::specs::Composing::reads_short))]
 
-ghost use Rattle.std.specs.Prelude.{◌≡◌, ◌+◌, ◌≤◌, ◌<◌, ◌^◌, IfOk, IfSome, OnOk, OnErr, Some, Err, length};
+ghost use Rattle.std.specs.Prelude.{◌≡◌, ◌+◌, ◌≤◌, ◌<◌, ◌^◌, IfOk, IfSome, OnOk, OnErr, Some, Err, length, true};
 ghost use Rattle.ct_keep.specs.KeeperViews.{OnlyReads, Reads};
 ghost use Rattle.ct_entry.specs.Shapes.{AreShaped};
+ghost use Rattle.tx_settings.specs.Attributes.{can_be_set};
 ghost use Rattle.ix_context.specs.Indexes.{given, pending_rows};
 ghost use Rattle.ix_context.specs.Changes.{sync_changes, Adds, settle_row_changes, settle_rows_changes, AreSettleChanges, AreSyncChanges};
 ghost use Rattle.ix_context.specs.Faults.{context_fault_of};
@@ -19,47 +20,53 @@ use ct_keep::{Batch, KeepFault, Keeper};
 use ix_docmap::{pending, unqueue};
 use std::alloc::Global;
 use tb_table::Target;
+use tx_settings::Prefs;
 
-/// Adds the changes by which a row that waits becomes a document of an index on this target.
+/// Adds the changes by which a row that waits becomes a document of an index on this target that reads texts so.
 fn settle_row<K: Keeper>(
     alloc: Global,
     keeper: &mut K,
     changes: &mut Batch,
     index: &Name,
     target: &Target,
+    prefs: &Prefs,
     document: u32,
     row: RowKey,
 ) -> Result<(), KeepFault>
     requires ready { (K.view keeper.old).ready }
     requires some { 1 ≤ document }
-    ensures changes { ToldTables K.view keeper.old (λ ts. Adds changes.old changes.new result (settle_row_changes ts index.now target.now document row)) }
+    requires set { can_be_set prefs.now.lexer ≡ true }
+    ensures changes { ToldTables K.view keeper.old (λ ts. Adds changes.old changes.new result (settle_row_changes ts index.now target.now prefs.now document row)) }
     ensures shaped { KeepsShape changes.old changes.new result }
     ensures reads { OnlyReads K.view keeper.old keeper.new result }
 {
     unqueue(alloc, changes, index, row)?;
-    mark_next(alloc, keeper, changes, index, target, document, row)
+    mark_next(alloc, keeper, changes, index, target, prefs, document, row)
 }
 
-/// Adds the changes by which rows that wait become documents of an index on this target, the first of them this one.
+/// Adds the changes by which rows that wait become documents of an index on this target that reads texts so, the first of them
+/// this one.
 fn settle_rows<K: Keeper>(
     alloc: Global,
     keeper: &mut K,
     changes: &mut Batch,
     index: &Name,
     target: &Target,
+    prefs: &Prefs,
     first: u32,
     rows: &[RowKey],
 ) -> Result<(), KeepFault>
     requires ready { (K.view keeper.old).ready }
     requires some { 1 ≤ first }
     requires room { first + length rows.now < 2 ^ 32 }
-    ensures changes { ToldTables K.view keeper.old (λ ts. Adds changes.old changes.new result (settle_rows_changes ts index.now target.now first rows.now)) }
+    requires set { can_be_set prefs.now.lexer ≡ true }
+    ensures changes { ToldTables K.view keeper.old (λ ts. Adds changes.old changes.new result (settle_rows_changes ts index.now target.now prefs.now first rows.now)) }
     ensures shaped { KeepsShape changes.old changes.new result }
     ensures reads { OnlyReads K.view keeper.old keeper.new result }
 {
     let mut document = first;
     for row in rows {
-        settle_row(alloc, keeper, changes, index, target, document, *row)?;
+        settle_row(alloc, keeper, changes, index, target, prefs, document, *row)?;
         document += 1;
     }
     Ok(())
@@ -72,12 +79,14 @@ fn settled_changes<K: Keeper>(
     keeper: &mut K,
     index: &Name,
     target: &Target,
+    prefs: &Prefs,
     first: u32,
     rows: &[RowKey],
 ) -> Result<Option<Batch>, KeepFault>
     requires ready { (K.view keeper.old).ready }
     requires some { 1 ≤ first }
-    ensures changes { SeesTables K.view keeper.old result (λ ts. AreSettleChanges ts index.now target.now first rows.now) }
+    requires set { can_be_set prefs.now.lexer ≡ true }
+    ensures changes { SeesTables K.view keeper.old result (λ ts. AreSettleChanges ts index.now target.now prefs.now first rows.now) }
     ensures shaped { IfOk result (λ found. IfSome found (AreShaped HasIndexValue)) }
     ensures reads { OnlyReads K.view keeper.old keeper.new result }
 {
@@ -88,8 +97,17 @@ fn settled_changes<K: Keeper>(
     let Some(next) = number_after(first, rows.len()) else {
         return Ok(None);
     };
-    settle_rows(alloc, keeper, &mut changes, index, target, first, rows)?;
-    put_index(alloc, &mut changes, index, target, next)?;
+    settle_rows(
+        alloc,
+        keeper,
+        &mut changes,
+        index,
+        target,
+        prefs,
+        first,
+        rows,
+    )?;
+    put_index(alloc, &mut changes, index, target, prefs, next)?;
     Ok(Some(changes))
 }
 
@@ -105,15 +123,25 @@ fn changes_of_sync<K: Keeper>(
     ensures shaped { IfOk result (λ found. IfSome found (AreShaped HasIndexValue)) }
     ensures reads { OnlyReads K.view keeper.old keeper.new result }
 {
-    let Some((target, next)) = read_index(alloc, keeper, index)? else {
+    let Some(entry) = read_index(alloc, keeper, index)? else {
         return Ok(Some(Batch::new(alloc)));
     };
     let rows = pending(alloc, keeper, index)?;
-    settled_changes(alloc, keeper, index, &target, next.max(1), &rows)
+    let first = entry.next_document.max(1);
+    settled_changes(
+        alloc,
+        keeper,
+        index,
+        &entry.target,
+        &entry.prefs,
+        first,
+        &rows,
+    )
 }
 
 /// Adds the changes by which each row that waits becomes a document of the index: in order of their keys they take the next
-/// document numbers, and the tokens of their texts get postings. Nothing where no row waits, and where there is no such
+/// document numbers, and the words of their texts in all streams and their sections get postings, by the preferences of the
+/// index. Nothing where no row waits, and where there is no such
 /// index.
 ///
 /// It costs what the texts of these rows hold, times a logarithm. TooMany where the index would have given over 2^32 - 2

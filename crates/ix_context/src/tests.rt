@@ -1,12 +1,14 @@
 //! Indexes in a keeper in memory.
 
-ghost use Rattle.std.specs.Prelude.{◌≤◌, length, true, IfOk, IsTrue, [], ◌∷◌};
+ghost use Rattle.std.specs.Prelude.{◌≡◌, ◌≤◌, length, true, IfOk, IsTrue, [], ◌∷◌};
 ghost use Rattle.ct_keep.specs.SeenChanges.{change_of};
 ghost use Rattle.ct_keep.specs.Changes.{AnyEntry, AreWell};
 ghost use Rattle.tb_table.specs.Shapes.{HaveShortTexts};
+ghost use Rattle.tx_settings.specs.Attributes.{can_be_set};
 
 use crate::{
-    Hit, KeyRange, create, is_index_shape, note_delete, note_insert, note_update, search, sync,
+    Hit, KeyRange, create, is_index_shape, note_delete, note_insert, note_update, prefs_of,
+    query_key, search, sync,
 };
 use ct_base::{Memory, Name, RowKey, Text};
 use ct_entry::Kind;
@@ -14,7 +16,8 @@ use ct_keep::{Batch, Change, Keeper, MemKeeper};
 use std::alloc::Global;
 use std::test::Fail;
 use tb_table::{Target, insert};
-use tx_chars::key;
+use tx_settings::Prefs;
+use tx_tags::{Group, Section, SectionKind, Tags};
 
 /// Whether a keeper may hold what the change puts.
 fn is_entry(change: &Change) -> bool
@@ -71,17 +74,20 @@ fn add_row(alloc: Global, keeper: &mut MemKeeper, row: i64, text: &str) -> Resul
     commit(alloc, keeper, batch)
 }
 
-/// Makes an index on the texts of that table.
+/// Makes an index with these preferences on the texts of that table.
 fn add_index(
     alloc: Global,
     keeper: &mut MemKeeper,
     index: &Name,
+    prefs: &Prefs,
     range: KeyRange,
-) -> Result<(), Fail> {
+) -> Result<(), Fail>
+    requires { can_be_set prefs.now.lexer ≡ true }
+{
     let table = named(alloc, "docs")?;
     let target = Target { table, column: 1 };
     let mut batch = Batch::new(alloc);
-    create(alloc, keeper, &mut batch, index, &target, range)?;
+    create(alloc, keeper, &mut batch, index, &target, prefs, range)?;
     commit(alloc, keeper, batch)
 }
 
@@ -138,7 +144,7 @@ fn say_hit(alloc: Global, line: &mut String, hit: Hit) -> Result<(), Memory> {
 
 /// The rows that have a word, each with its score.
 fn found(alloc: Global, keeper: &mut MemKeeper, index: &Name, word: &str) -> Result<String, Fail> {
-    let word = key(alloc, word, false, false)?;
+    let word = query_key(alloc, keeper, index, word)?;
     let hits = search(alloc, keeper, index, &word)?;
     let mut line = String::new(alloc);
     for hit in hits.iter() {
@@ -152,7 +158,7 @@ fn indexed(alloc: Global, index: &Name, range: KeyRange) -> Result<MemKeeper, Fa
     let mut keeper = MemKeeper::new(alloc, Vec::new(alloc), 1_000_000, 0)?;
     add_row(alloc, &mut keeper, 7, "Quick fox, quick!")?;
     add_row(alloc, &mut keeper, -12, "a slow fox")?;
-    add_index(alloc, &mut keeper, index, range)?;
+    add_index(alloc, &mut keeper, index, &Prefs::defaults(alloc)?, range)?;
     Ok(keeper)
 }
 
@@ -303,6 +309,109 @@ fn a_row_that_waits_gets_another_text(rt: HostRuntime) -> Result<(), Fail> {
     Ok(())
 }
 
+/// A section of one tag, which has its name.
+fn section(alloc: Global, text: &str, kind: SectionKind) -> Result<Section, Fail> {
+    let mut tags = Vec::new(alloc);
+    tags.push(Text::of(alloc, text)?)?;
+    Ok(Section {
+        name: named(alloc, text)?,
+        kind,
+        tags: Tags::of(tags),
+    })
+}
+
+/// Preferences with the invisible field t and the zone p.
+fn with_sections(alloc: Global) -> Result<Prefs, Fail>
+    ensures { IfOk result (λ p. can_be_set p.lexer ≡ true) }
+{
+    let mut sections = Vec::new(alloc);
+    sections.push(section(alloc, "t", SectionKind::Field)?)?;
+    sections.push(section(alloc, "p", SectionKind::Zone)?)?;
+    let Some(group) = Group::of(alloc, false, sections, false, false)? else {
+        return Err(Fail::new("these sections make a group"));
+    };
+    let mut prefs = Prefs::defaults(alloc)?;
+    prefs.group = group;
+    Ok(prefs)
+}
+
+/// Preferences by which case is kept.
+fn with_case(alloc: Global) -> Result<Prefs, Fail>
+    ensures { IfOk result (λ p. can_be_set p.lexer ≡ true) }
+{
+    let mut prefs = Prefs::defaults(alloc)?;
+    prefs.lexer.mixed_case = true;
+    Ok(prefs)
+}
+
+/// An index with these preferences, in which a row with this text waits.
+fn waiting_in(alloc: Global, index: &Name, prefs: &Prefs, text: &str) -> Result<MemKeeper, Fail>
+    requires set { can_be_set prefs.now.lexer ≡ true }
+    requires short { length text.now ≤ 100 }
+{
+    let mut keeper = MemKeeper::new(alloc, Vec::new(alloc), 1_000_000, 0)?;
+    add_index(alloc, &mut keeper, index, prefs, KeyRange::ALL)?;
+    add_row(alloc, &mut keeper, 1, text)?;
+    add_note(alloc, &mut keeper, index, 1)?;
+    Ok(keeper)
+}
+
+/// How many changes it takes to settle a row with this text in an index with these preferences, and what a word finds then.
+fn found_by(alloc: Global, prefs: &Prefs, text: &str, word: &str) -> Result<(usize, String), Fail>
+    requires set { can_be_set prefs.now.lexer ≡ true }
+    requires short { length text.now ≤ 100 }
+{
+    let index = named(alloc, "di")?;
+    let mut keeper = waiting_in(alloc, &index, prefs, text)?;
+    let count = settle(alloc, &mut keeper, &index)?;
+    let line = found(alloc, &mut keeper, &index, word)?;
+    Ok((count, line))
+}
+
+#[test]
+fn an_invisible_field_is_not_found(rt: HostRuntime) -> Result<(), Fail> {
+    let prefs = with_sections(rt.alloc())?;
+    let (count, line) = found_by(rt.alloc(), &prefs, "<T>alpha</T> <P>beta</P>", "alpha")?;
+    assert_eq!(&rt; line.as_str(), "");
+    // out of the queue, its document, its row, a word in the field, one in the main stream, a section, and the entry
+    assert_eq!(&rt; count, 7);
+    Ok(())
+}
+
+#[test]
+fn what_a_zone_encloses_is_found(rt: HostRuntime) -> Result<(), Fail> {
+    let prefs = with_sections(rt.alloc())?;
+    let (_, line) = found_by(rt.alloc(), &prefs, "<T>alpha</T> <P>beta</P>", "beta")?;
+    assert_eq!(&rt; line.as_str(), "1:1 ");
+    Ok(())
+}
+
+#[test]
+fn case_is_kept_by_preferences(rt: HostRuntime) -> Result<(), Fail> {
+    let prefs = with_case(rt.alloc())?;
+    let (_, line) = found_by(rt.alloc(), &prefs, "Fox fox Fox", "Fox")?;
+    assert_eq!(&rt; line.as_str(), "1:2 ");
+    Ok(())
+}
+
+/// Whether case is kept in an index with these preferences; none where there is no index of the name.
+fn keeps_case(alloc: Global, prefs: &Prefs, name: &str) -> Result<Option<bool>, Fail>
+    requires { can_be_set prefs.now.lexer ≡ true }
+{
+    let index = named(alloc, "di")?;
+    let mut keeper = waiting_in(alloc, &index, prefs, "a")?;
+    let found = prefs_of(alloc, &mut keeper, &named(alloc, name)?)?;
+    Ok(found.map(|prefs| prefs.lexer.mixed_case))
+}
+
+#[test]
+fn preferences_are_those_of_the_index(rt: HostRuntime) -> Result<(), Fail> {
+    let prefs = with_case(rt.alloc())?;
+    assert_eq!(&rt; keeps_case(rt.alloc(), &prefs, "di")?, Some(true));
+    assert_eq!(&rt; keeps_case(rt.alloc(), &prefs, "ti")?, None);
+    Ok(())
+}
+
 /// A kind, the rest of a key, a value, and whether both make a well shaped entry.
 type Shape = (Kind, &'static [u8], &'static [u8], bool);
 
@@ -318,7 +427,7 @@ const POSTING: &[u8] = &[1, 1, 2, 1, 2];
 
 const SPAN: &[u8] = &[1, 1, 1, 1, 2];
 
-static SHAPES: [Shape; 28] = [
+static SHAPES: [Shape; 30] = [
     (
         Kind::Indexes,
         &[],
@@ -341,6 +450,20 @@ static SHAPES: [Shape; 28] = [
         Kind::Indexes,
         &[],
         &[1, 1, b't', 1, 0, 0, 0, 2, 0, 0, 0, 0, 0, 0, 3, 0, 0],
+        false,
+    ),
+    (
+        Kind::Indexes,
+        &[],
+        &[
+            1, 1, b't', 1, 0, 0, 1, 2, b'i', b's', 2, 0, 0, 0, 0, 0, 0, 3, 0, 0, 0,
+        ],
+        true,
+    ),
+    (
+        Kind::Indexes,
+        &[],
+        &[1, 1, b't', 1, 0, 0, 0, 3, 0, 0, 0, 0, 0, 0, 3, 0, 0, 0],
         false,
     ),
     (Kind::Indexes, &[], &[], false),

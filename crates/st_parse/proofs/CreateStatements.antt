@@ -1,18 +1,19 @@
 -- CREATE TABLE and CREATE INDEX are read as they are spelt.
 use Rattle.std.proofs.Common.{◌≡◌, ℕ, Bool, true, false, List, [], ◌∷◌, ◌++◌, refl, sym, ap, ◌∙◌, append_assoc, ⊎_elim, inl, inr, Option, Some, None}
-use Rattle.st_parse.specs.declared.lexemes.Keyword.TheVariants.{Create as CREATE, Table as TABLE, Index as INDEX, On as ON, Indextype as INDEXTYPE, Is as IS, Ctxsys as CTXSYS, Context as CONTEXT, Number as NUMBER, Varchar2 as VARCHAR2, Clob as CLOB, Primary as PRIMARY, Key as KEY, From as FROM, Where as WHERE, And as AND}
+use Rattle.st_parse.specs.declared.lexemes.Keyword.TheVariants.{Create as CREATE, Table as TABLE, Index as INDEX, On as ON, Indextype as INDEXTYPE, Is as IS, Ctxsys as CTXSYS, Parameters as PARAMETERS, Context as CONTEXT, Number as NUMBER, Varchar2 as VARCHAR2, Clob as CLOB, Primary as PRIMARY, Key as KEY, From as FROM, Where as WHERE, And as AND}
 use Rattle.st_parse.specs.declared.lexemes.Symbol.TheVariants.{Open, Close, Comma, Dot}
 use Rattle.st_parse.specs.declared.lexemes.Lexeme.{Lexeme}
-use Rattle.st_parse.specs.declared.lexemes.Lexeme.TheVariants.{Word, Name, Number, Sign}
+use Rattle.st_parse.specs.declared.lexemes.Lexeme.TheVariants.{Word, Name, Number, Text, Sign}
 use Rattle.st_parse.specs.declared.statements.SortText.{SortText}
 use Rattle.st_parse.specs.declared.statements.SortText.TheVariants.{Number as NumberSort, Varchar2, Clob}
 use Rattle.st_parse.specs.declared.statements.ColumnText.{ColumnText}
 use Rattle.st_parse.specs.declared.statements.IndexKind.{IndexKind}
 use Rattle.st_parse.specs.declared.statements.IndexKind.TheVariants.{Context}
+use Rattle.st_parse.specs.declared.statements.Statement.{Statement}
 use Rattle.st_parse.specs.declared.statements.Statement.TheVariants.{CreateTable, CreateIndex}
 use Rattle.st_parse.specs.Lexemes.{◌>>=◌}
 use Rattle.st_parse.specs.Lists.{AreEnclosed, enclosed_last}
-use Rattle.st_parse.specs.Creating.{IsSortText, primary_key, IsColumn, IsIndexKind, sort_text_at, primary_key_at, column_text, column_at, index_kind_of, create_table_of, create_index_of, create_of}
+use Rattle.st_parse.specs.Creating.{IsSortText, primary_key, IsColumn, IsIndexKind, sort_text_at, primary_key_at, column_text, column_at, IsParameters, kind_at, index_kind_at, enclosed_text_of, parameters_of, create_table_of, create_index_of, create_of}
 use Rattle.st_parse.specs.Grammar.{IsStatement}
 use Rattle.st_parse.proofs.Spelt.{Spelt, Follows, Wholly, enclosed_last-spelt, enclosed_last-again}
 
@@ -64,26 +65,54 @@ column-again prefix rest column (sort, is, e) follows =
 abbrev IsTyped : List Lexeme → IndexKind → Type 0
 IsTyped ls kind = (kinds : List Lexeme) × IsIndexKind kinds kind × (ls ≡ Word INDEXTYPE ∷ Word IS ∷ kinds)
 
-kind-spelt : (ls : List Lexeme) → Wholly IsTyped (index_kind_of ls) ls
-kind-spelt (Word INDEXTYPE ∷ Word IS ∷ Word CONTEXT ∷ []) = (Word CONTEXT ∷ [], inl refl, refl)
-kind-spelt (Word INDEXTYPE ∷ Word IS ∷ Word CTXSYS ∷ Sign Dot ∷ Word CONTEXT ∷ []) = (Word CTXSYS ∷ Sign Dot ∷ Word CONTEXT ∷ [], inr refl, refl)
+typed-spelt : (ls : List Lexeme) → Spelt IsTyped (kind_at ls) (Word INDEXTYPE ∷ Word IS ∷ ls)
+typed-spelt (Word CONTEXT ∷ ls) = (Word INDEXTYPE ∷ Word IS ∷ Word CONTEXT ∷ [], (Word CONTEXT ∷ [], inl refl, refl), refl)
+typed-spelt (Word CTXSYS ∷ Sign Dot ∷ Word CONTEXT ∷ ls) =
+    (Word INDEXTYPE ∷ Word IS ∷ Word CTXSYS ∷ Sign Dot ∷ Word CONTEXT ∷ [], (Word CTXSYS ∷ Sign Dot ∷ Word CONTEXT ∷ [], inr refl, refl), refl)
+typed-spelt ls = tt
+
+kind-spelt : (ls : List Lexeme) → Spelt IsTyped (index_kind_at ls) ls
+kind-spelt (Word INDEXTYPE ∷ Word IS ∷ ls) = typed-spelt ls
 kind-spelt ls = tt
 
-kind-again : (kinds : List Lexeme) (kind : IndexKind) → IsIndexKind kinds kind → index_kind_of (Word INDEXTYPE ∷ Word IS ∷ kinds) ≡ Some kind
-kind-again kinds Context is =
-    ⊎_elim {C = index_kind_of (Word INDEXTYPE ∷ Word IS ∷ kinds) ≡ Some Context} (λ e. ap (λ x. index_kind_of (Word INDEXTYPE ∷ Word IS ∷ x)) e) (λ e. ap (λ x. index_kind_of (Word INDEXTYPE ∷ Word IS ∷ x)) e) is
-kind-again kinds kind is = absurd is
+kind-again : (kinds rest : List Lexeme) (kind : IndexKind) → IsIndexKind kinds kind → index_kind_at (Word INDEXTYPE ∷ Word IS ∷ (kinds ++ rest)) ≡ Some (kind, rest)
+kind-again kinds rest Context is =
+    ⊎_elim {C = index_kind_at (Word INDEXTYPE ∷ Word IS ∷ (kinds ++ rest)) ≡ Some (Context, rest)} (λ e. ap (λ x. index_kind_at (Word INDEXTYPE ∷ Word IS ∷ (x ++ rest))) e) (λ e. ap (λ x. index_kind_at (Word INDEXTYPE ∷ Word IS ∷ (x ++ rest))) e) is
+kind-again kinds rest kind is = absurd is
+
+enclosed-spelt : (ls : List Lexeme) → Wholly IsParameters (enclosed_text_of ls) (Word PARAMETERS ∷ ls)
+enclosed-spelt (Sign Open ∷ Text text ∷ Sign Close ∷ []) = refl
+enclosed-spelt ls = tt
+
+parameters-spelt : (ls : List Lexeme) → Wholly IsParameters (parameters_of ls) ls
+parameters-spelt [] = refl
+parameters-spelt (Word PARAMETERS ∷ ls) = enclosed-spelt ls
+parameters-spelt ls = tt
+
+parameters-again : (texts : List Lexeme) (parameters : Option (List ℕ)) → IsParameters texts parameters → parameters_of texts ≡ Some parameters
+parameters-again texts None is = ap parameters_of is
+parameters-again texts (Some text) is = ap parameters_of is
 
 table-means : (name : List ℕ) (o : Option (List ColumnText)) (ls : List Lexeme) → Wholly (AreEnclosed IsColumn) o ls
     → Wholly IsStatement (o >>= λ columns. Some (CreateTable name columns)) (Word CREATE ∷ Word TABLE ∷ Name name ∷ ls)
 table-means name None ls are = tt
 table-means name (Some columns) ls are = (ls, are, refl)
 
-index-means : (name table column : List ℕ) (o : Option IndexKind) (ls : List Lexeme) → Wholly IsTyped o ls
-    → Wholly IsStatement (o >>= λ kind. Some (CreateIndex name table column kind None None)) (Word CREATE ∷ Word INDEX ∷ Name name ∷ Word ON ∷ Name table ∷ Sign Open ∷ Name column ∷ Sign Close ∷ ls)
+-- the index of a column, by the type that was read and what follows it
+abbrev indexed : List ℕ → List ℕ → List ℕ → IndexKind → Option (Option (List ℕ)) → Option Statement
+indexed name table column kind o = o >>= λ parameters. Some (CreateIndex name table column kind parameters None)
+
+asked-means : (name table column : List ℕ) (kind : IndexKind) (o : Option (Option (List ℕ))) (kinds rest ls : List Lexeme) → IsIndexKind kinds kind → Wholly IsParameters o rest → ls ≡ Word INDEXTYPE ∷ Word IS ∷ (kinds ++ rest)
+    → Wholly IsStatement (indexed name table column kind o) (Word CREATE ∷ Word INDEX ∷ Name name ∷ Word ON ∷ Name table ∷ Sign Open ∷ Name column ∷ Sign Close ∷ ls)
+asked-means name table column kind None kinds rest ls is are e = tt
+asked-means name table column kind (Some parameters) kinds rest ls is are e =
+    (kinds, rest, is, are, ap (λ x. Word CREATE ∷ Word INDEX ∷ Name name ∷ Word ON ∷ Name table ∷ Sign Open ∷ Name column ∷ Sign Close ∷ x) e)
+
+index-means : (name table column : List ℕ) (o : Option (IndexKind × List Lexeme)) (ls : List Lexeme) → Spelt IsTyped o ls
+    → Wholly IsStatement (o >>= λ kind. indexed name table column kind.0 (parameters_of kind.1)) (Word CREATE ∷ Word INDEX ∷ Name name ∷ Word ON ∷ Name table ∷ Sign Open ∷ Name column ∷ Sign Close ∷ ls)
 index-means name table column None ls is = tt
-index-means name table column (Some kind) ls (kinds, is, e) =
-    (kinds, is, ap (λ x. Word CREATE ∷ Word INDEX ∷ Name name ∷ Word ON ∷ Name table ∷ Sign Open ∷ Name column ∷ Sign Close ∷ x) e)
+index-means name table column (Some (kind, rest)) ls (prefix, (kinds, is, typed), e) =
+    asked-means name table column kind (parameters_of rest) kinds rest ls is (parameters-spelt rest) (e ∙ ap (λ x. x ++ rest) typed)
 
 create_table-means : (ls : List Lexeme) → Wholly IsStatement (create_table_of ls) (Word CREATE ∷ Word TABLE ∷ ls)
 create_table-means (Name name ∷ ls) = table-means name (enclosed_last column_at ls) ls (enclosed_last-spelt IsColumn column_at column-spelt ls)
@@ -91,7 +120,7 @@ create_table-means ls = tt
 
 create_index-means : (ls : List Lexeme) → Wholly IsStatement (create_index_of ls) (Word CREATE ∷ Word INDEX ∷ ls)
 create_index-means (Name name ∷ Word ON ∷ Name table ∷ Sign Open ∷ Name column ∷ Sign Close ∷ ls) =
-    index-means name table column (index_kind_of ls) ls (kind-spelt ls)
+    index-means name table column (index_kind_at ls) ls (kind-spelt ls)
 create_index-means ls = tt
 
 pub create-means : (ls : List Lexeme) → Wholly IsStatement (create_of ls) (Word CREATE ∷ ls)
@@ -104,6 +133,8 @@ pub table-again : (name : List ℕ) (columns : List ColumnText) (list : List Lex
 table-again name columns list are =
     ap (λ o. o >>= λ found. Some (CreateTable name found)) (enclosed_last-again IsColumn column_at column-again list columns are)
 
-pub index-again : (name table column : List ℕ) (kind : IndexKind) (kinds : List Lexeme) → IsIndexKind kinds kind
-    → create_of (Word INDEX ∷ Name name ∷ Word ON ∷ Name table ∷ Sign Open ∷ Name column ∷ Sign Close ∷ Word INDEXTYPE ∷ Word IS ∷ kinds) ≡ Some (CreateIndex name table column kind None None)
-index-again name table column kind kinds is = ap (λ o. o >>= λ found. Some (CreateIndex name table column found None None)) (kind-again kinds kind is)
+pub index-again : (name table column : List ℕ) (kind : IndexKind) (parameters : Option (List ℕ)) (kinds texts : List Lexeme) → IsIndexKind kinds kind → IsParameters texts parameters
+    → create_of (Word INDEX ∷ Name name ∷ Word ON ∷ Name table ∷ Sign Open ∷ Name column ∷ Sign Close ∷ Word INDEXTYPE ∷ Word IS ∷ (kinds ++ texts)) ≡ Some (CreateIndex name table column kind parameters None)
+index-again name table column kind parameters kinds texts is are =
+    ap (λ o. o >>= λ found. indexed name table column found.0 (parameters_of found.1)) (kind-again kinds texts kind is)
+    ∙ ap (indexed name table column kind) (parameters-again texts parameters are)

@@ -1,7 +1,6 @@
 -- EXEC is read as it is spelt.
-use Rattle.std.proofs.Common.{◌≡◌, ℕ, Bool, true, false, cond, List, [], ◌∷◌, ◌++◌, length, refl, sym, ap, ◌∙◌, ◌⊎◌, inl, inr, Option, Some, None}
-use Rattle.std.specs.Prelude.{◌≢◌, ◌==◌, not, ◌&&◌, ◌||◌, codes, bytes_eq}
-use Rattle.std.proofs.lemmas.Bool.Decides.{eqb_tells}
+use Rattle.std.proofs.Common.{◌≡◌, ℕ, Bool, true, false, cond, List, [], ◌∷◌, ◌++◌, refl, sym, ap, ◌∙◌, inl, inr, Option, Some, None}
+use Rattle.std.specs.Prelude.{◌&&◌, bytes_eq}
 use Rattle.std.proofs.lemmas.Slice.Eq.{bytes_eq-Decides}
 use Rattle.st_parse.specs.declared.lexemes.Keyword.{Keyword}
 use Rattle.st_parse.specs.declared.lexemes.Keyword.TheVariants.{True as TRUE, False as FALSE}
@@ -15,7 +14,11 @@ use Rattle.st_parse.specs.declared.statements.Statement.TheVariants.{Exec}
 use Rattle.st_parse.specs.Lexemes.{◌>>=◌}
 use Rattle.st_parse.specs.Lists.{AreEnclosed, enclosed_last}
 use Rattle.st_parse.specs.Values.{IsSigned, signed_at}
-use Rattle.st_parse.specs.Calling.{IsExec, IsArg, AreArgs, IsCall, arg_at, args_of, is_call, call_of, exec_of}
+use Rattle.st_parse.specs.declared.procedures.Definition.TheVariants.{CreatePreference, SetAttribute, CreateStoplist, AddStopword, CreateSectionGroup, AddZoneSection, AddFieldSection, AddSpecialSection}
+use Rattle.st_parse.specs.declared.procedures.Procedure.{Procedure}
+use Rattle.st_parse.specs.declared.procedures.Procedure.TheVariants.{PolicyTokens, SyncIndex, Define}
+use Rattle.st_parse.specs.Procedures.{procedure_package, procedure_name, all_procedures, named_among, procedure_named}
+use Rattle.st_parse.specs.Calling.{IsExec, IsArg, AreArgs, arg_at, args_of, call_of, exec_of}
 use Rattle.st_parse.specs.Grammar.{IsStatement}
 use Rattle.st_parse.proofs.Spelt.{Spelt, Wholly, Follows, enclosed_last-spelt, enclosed_last-again}
 use Rattle.st_parse.proofs.SpeltValues.{signed-spelt}
@@ -54,64 +57,51 @@ args-again : (ls : List Lexeme) (args : List Arg) → AreArgs ls args → args_o
 args-again ls [] e = ap args_of e
 args-again ls (arg ∷ args) are = some-again ls (arg ∷ args) (enclosed_last-again IsArg arg_at arg-again ls (arg ∷ args) are)
 
--- which procedures there are
-either : (a b c d e : Bool) → ((a && (b && not c)) || (d && e)) ≡ true → ((a ≡ true) × (b ≡ true) × (c ≡ false)) ⊎ ((d ≡ true) × (e ≡ true))
-either true true false d e h = inl (refl, refl, refl)
-either a b c true true h = inr (refl, refl)
-either a b c d e h = cc
-
-call-is : (pack procedure : List ℕ) (args : List Arg) → is_call pack procedure args ≡ true → IsCall pack procedure args
-call-is pack procedure args h =
-    from (either (bytes_eq pack (codes "ctx_doc")) (bytes_eq procedure (codes "policy_tokens")) (length args == 2) (bytes_eq pack (codes "ctx_ddl")) (bytes_eq procedure (codes "sync_index")) h)
+-- which procedure has two names
+named-spelt : (pack name : List ℕ) (ps : List Procedure) (p : Procedure) → named_among pack name ps ≡ Some p → (pack ≡ procedure_package p) × (name ≡ procedure_name p)
+named-spelt pack name [] p is = cc
+named-spelt pack name (q ∷ qs) p is = go (bytes_eq (procedure_package q) pack) (bytes_eq (procedure_name q) name) refl refl (named-spelt pack name qs p) is
   where
-    differ : true ≡ false → ⊥
-    differ e = cc
+    go : (b c : Bool) → bytes_eq (procedure_package q) pack ≡ b → bytes_eq (procedure_name q) name ≡ c → (named_among pack name qs ≡ Some p → (pack ≡ procedure_package p) × (name ≡ procedure_name p)) → cond (b && c) (Some q) (named_among pack name qs) ≡ Some p → (pack ≡ procedure_package p) × (name ≡ procedure_name p)
+    go true true e f later h =
+        let same : q ≡ p = cc in
+        (sym ((bytes_eq-Decides (procedure_package q) pack).0 e) ∙ ap procedure_package same, sym ((bytes_eq-Decides (procedure_name q) name).0 f) ∙ ap procedure_name same)
+    go true false e f later h = later h
+    go false c e f later h = later h
 
-    from : ((bytes_eq pack (codes "ctx_doc") ≡ true) × (bytes_eq procedure (codes "policy_tokens") ≡ true) × ((length args == 2) ≡ false)) ⊎ ((bytes_eq pack (codes "ctx_ddl") ≡ true) × (bytes_eq procedure (codes "sync_index") ≡ true))
-        → IsCall pack procedure args
-    from (inl (p, q, other)) =
-        inl ((bytes_eq-Decides pack (codes "ctx_doc")).0 p, (bytes_eq-Decides procedure (codes "policy_tokens")).0 q, λ two. differ (sym (ap (λ k. k == 2) two) ∙ other))
-    from (inr (p, q)) = inr ((bytes_eq-Decides pack (codes "ctx_ddl")).0 p, (bytes_eq-Decides procedure (codes "sync_index")).0 q)
+named-again : (p : Procedure) → procedure_named (procedure_package p) (procedure_name p) ≡ Some p
+named-again PolicyTokens = refl
+named-again SyncIndex = refl
+named-again (Define CreatePreference) = refl
+named-again (Define SetAttribute) = refl
+named-again (Define CreateStoplist) = refl
+named-again (Define AddStopword) = refl
+named-again (Define CreateSectionGroup) = refl
+named-again (Define AddZoneSection) = refl
+named-again (Define AddFieldSection) = refl
+named-again (Define AddSpecialSection) = refl
 
-first : (a b c d : Bool) → a ≡ true → b ≡ true → c ≡ false → ((a && (b && not c)) || d) ≡ true
-first a b c d p q r = rw (p, q, r) refl
+-- EXEC
 
-second : (a d e : Bool) → d ≡ true → e ≡ true → (a || (d && e)) ≡ true
-second true d e p q = refl
-second false d e p q = rw (p, q) refl
+made-means : (o : Option Procedure) (word : Keyword) (pack name : List ℕ) (args : List Arg) (ls : List Lexeme) → IsExec word → AreArgs ls args
+    → procedure_named pack name ≡ o
+    → Wholly IsStatement (call_of o args) (Word word ∷ Name pack ∷ Sign Dot ∷ Name name ∷ ls)
+made-means None word pack name args ls is are e = tt
+made-means (Some p) word pack name args ls is are e =
+    let spelt = named-spelt pack name all_procedures p e in
+    (word, (ls, is, are, ap (λ n. Word word ∷ Name n ∷ Sign Dot ∷ Name name ∷ ls) spelt.0 ∙ ap (λ n. Word word ∷ Name (procedure_package p) ∷ Sign Dot ∷ Name n ∷ ls) spelt.1))
 
-other_length : (n : ℕ) → n ≢ 2 → (n == 2) ≡ false
-other_length n differ = from (eqb_tells n 2)
-  where
-    from : (((n == 2) ≡ true) × (n ≡ 2)) ⊎ (((n == 2) ≡ false) × (n ≢ 2)) → (n == 2) ≡ false
-    from (inl (is, two)) = absurd (differ two)
-    from (inr (is, differ)) = is
-
-call-again : (pack procedure : List ℕ) (args : List Arg) → IsCall pack procedure args → is_call pack procedure args ≡ true
-call-again pack procedure args (inl (p, q, other)) =
-    first (bytes_eq pack (codes "ctx_doc")) (bytes_eq procedure (codes "policy_tokens")) (length args == 2) (bytes_eq pack (codes "ctx_ddl") && bytes_eq procedure (codes "sync_index"))
-    ((bytes_eq-Decides pack (codes "ctx_doc")).1 p) ((bytes_eq-Decides procedure (codes "policy_tokens")).1 q) (other_length (length args) other)
-call-again pack procedure args (inr (p, q)) =
-    second (bytes_eq pack (codes "ctx_doc") && (bytes_eq procedure (codes "policy_tokens") && not (length args == 2))) (bytes_eq pack (codes "ctx_ddl")) (bytes_eq procedure (codes "sync_index"))
-    ((bytes_eq-Decides pack (codes "ctx_ddl")).1 p) ((bytes_eq-Decides procedure (codes "sync_index")).1 q)
-
-made-means : (b : Bool) (word : Keyword) (pack procedure : List ℕ) (args : List Arg) (ls : List Lexeme) → IsExec word → AreArgs ls args
-    → is_call pack procedure args ≡ b
-    → Wholly IsStatement (cond b (Some (Exec pack procedure args)) None) (Word word ∷ Name pack ∷ Sign Dot ∷ Name procedure ∷ ls)
-made-means true word pack procedure args ls is are e = (word, (ls, is, are, call-is pack procedure args e, refl))
-made-means false word pack procedure args ls is are e = tt
-
-called-means : (word : Keyword) (pack procedure : List ℕ) (o : Option (List Arg)) (ls : List Lexeme) → IsExec word → Wholly AreArgs o ls
-    → Wholly IsStatement (o >>= λ args. call_of pack procedure args) (Word word ∷ Name pack ∷ Sign Dot ∷ Name procedure ∷ ls)
-called-means word pack procedure None ls is are = tt
-called-means word pack procedure (Some args) ls is are = made-means (is_call pack procedure args) word pack procedure args ls is are refl
+called-means : (word : Keyword) (pack name : List ℕ) (o : Option (List Arg)) (ls : List Lexeme) → IsExec word → Wholly AreArgs o ls
+    → Wholly IsStatement (o >>= λ args. call_of (procedure_named pack name) args) (Word word ∷ Name pack ∷ Sign Dot ∷ Name name ∷ ls)
+called-means word pack name None ls is are = tt
+called-means word pack name (Some args) ls is are = made-means (procedure_named pack name) word pack name args ls is are refl
 
 pub exec-means : (word : Keyword) (ls : List Lexeme) → IsExec word → Wholly IsStatement (exec_of ls) (Word word ∷ ls)
-exec-means word (Name pack ∷ Sign Dot ∷ Name procedure ∷ ls) is = called-means word pack procedure (args_of ls) ls is (args-spelt ls)
+exec-means word (Name pack ∷ Sign Dot ∷ Name name ∷ ls) is = called-means word pack name (args_of ls) ls is (args-spelt ls)
 exec-means word ls is = tt
 
-pub exec-again : (pack procedure : List ℕ) (args : List Arg) (list : List Lexeme) → IsCall pack procedure args → AreArgs list args
-    → exec_of (Name pack ∷ Sign Dot ∷ Name procedure ∷ list) ≡ Some (Exec pack procedure args)
-exec-again pack procedure args list is are =
-    ap (λ o. o >>= λ found. call_of pack procedure found) (args-again list args are)
-    ∙ ap (λ b. cond b (Some (Exec pack procedure args)) None) (call-again pack procedure args is)
+pub exec-again : (procedure : Procedure) (args : List Arg) (list : List Lexeme) → AreArgs list args
+    → exec_of (Name (procedure_package procedure) ∷ Sign Dot ∷ Name (procedure_name procedure) ∷ list) ≡ Some (Exec procedure args)
+exec-again procedure args list are =
+    ap (λ o. o >>= λ found. call_of (procedure_named (procedure_package procedure) (procedure_name procedure)) found) (args-again list args are)
+    ∙ ap (λ o. call_of o args) (named-again procedure)

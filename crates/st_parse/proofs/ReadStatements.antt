@@ -12,6 +12,7 @@ use Rattle.st_parse.specs.declared.parsing.StatementFault.{StatementFault}
 use Rattle.st_parse.specs.declared.parsing.StatementFault.TheVariants.{Syntax, Memory}
 use Rattle.st_parse.specs.Lexemes.{lexemes}
 use Rattle.st_parse.specs.Dropping.{drop_of}
+use Rattle.st_parse.specs.Procedures.{procedure_package, procedure_name}
 use Rattle.st_parse.specs.Calling.{IsExec, exec_of}
 use Rattle.st_parse.specs.Grammar.{IsStatement, statement_of, NoStatement, Found, statement_read, read_lexemes, read, ParseGives}
 use Rattle.st_parse.proofs.Spelt.{Wholly}
@@ -47,13 +48,13 @@ pub statement-again : (ls : List Lexeme) (s : Statement) → IsStatement ls s �
 statement-again ls (CreateTable name columns) (list, are, e) = ap statement_of e ∙ table-again name columns list are
 statement-again ls (DropTable name) e = ap statement_of e
 statement-again ls (DropIndex name) e = ap statement_of e
-statement-again ls (CreateIndex name table column kind None None) (kinds, is, e) = ap statement_of e ∙ index-again name table column kind kinds is
+statement-again ls (CreateIndex name table column kind parameters None) (kinds, texts, is, are, e) = ap statement_of e ∙ index-again name table column kind parameters kinds texts is are
 statement-again ls (Insert table columns values) (names, list, are, are', e) = ap statement_of e ∙ insert-again table columns values names list are are'
 statement-again ls (Update table assigns conds) (list, filter, are, is, e) = ap statement_of e ∙ update-again table assigns conds list filter are is
 statement-again ls (Delete table conds) (from, filter, is, are, e) = ap statement_of e ∙ delete-again table conds from filter is are
 statement-again ls (Select list table preds []) (columns, filter, is, are, few, e) = ap statement_of e ∙ select-again list table preds columns filter is are few
-statement-again ls (Exec pack procedure args) (word, (list, is, are, call, e)) =
-    ap statement_of e ∙ exec-first word (Name pack ∷ Sign Dot ∷ Name procedure ∷ list) is ∙ exec-again pack procedure args list call are
+statement-again ls (Exec procedure args) (word, (list, is, are, e)) =
+    ap statement_of e ∙ exec-first word (Name (procedure_package procedure) ∷ Sign Dot ∷ Name (procedure_name procedure) ∷ list) is ∙ exec-again procedure args list are
 statement-again ls Commit e = ap statement_of e
 statement-again ls s is = absurd is
 

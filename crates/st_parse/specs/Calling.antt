@@ -1,6 +1,5 @@
 -- EXEC, as it is spelt and as it is read.
-use Rattle.std.specs.Prelude.{ℕ, ◌≡◌, ◌≢◌, ◌==◌, negsuc, refl, ◌⊎◌, Bool, true, false, not, ◌&&◌, ◌||◌, List, [], ◌∷◌, length, codes, bytes_eq, Option, Some, None}
-use Rattle.std.specs.Bool.{if◌then◌else◌}
+use Rattle.std.specs.Prelude.{◌≡◌, negsuc, refl, ◌⊎◌, true, false, List, [], ◌∷◌, codes, Option, Some, None}
 use Rattle.st_parse.specs.declared.lexemes.Keyword.{Keyword}
 use Rattle.st_parse.specs.declared.lexemes.Keyword.TheVariants.{Exec as EXEC, Execute as EXECUTE, True as TRUE, False as FALSE}
 use Rattle.st_parse.specs.declared.lexemes.Symbol.TheVariants.{Open, Close, Comma, Dot, Minus}
@@ -9,10 +8,12 @@ use Rattle.st_parse.specs.declared.lexemes.Lexeme.TheVariants.{Word, Name, Text,
 use Rattle.st_parse.specs.declared.statements.Whole.TheVariants.{Fits}
 use Rattle.st_parse.specs.declared.statements.Arg.{Arg}
 use Rattle.st_parse.specs.declared.statements.Arg.TheVariants.{Text as TextArg, Number as NumberArg, Flag}
+use Rattle.st_parse.specs.declared.procedures.Procedure.{Procedure}
 use Rattle.st_parse.specs.declared.statements.Statement.{Statement}
 use Rattle.st_parse.specs.declared.statements.Statement.TheVariants.{Exec}
 use Rattle.st_parse.specs.Lexemes.{◌>>=◌}
 use Rattle.st_parse.specs.Lists.{AreEnclosed, Reader, enclosed_last}
+use Rattle.st_parse.specs.Procedures.{procedure_named}
 use Rattle.st_parse.specs.Values.{IsSigned, signed_at}
 
 -- EXEC and EXECUTE mean the same.
@@ -31,12 +32,6 @@ abbrev pub AreArgs : List Lexeme → List Arg → Type 0
 AreArgs ls [] = ls ≡ Sign Open ∷ Sign Close ∷ []
 AreArgs ls (arg ∷ args) = AreEnclosed IsArg ls (arg ∷ args)
 
--- The procedures that there are, and the arguments that they are called with. The tokens of a text by a lexer of its own, which takes two, aren't there yet.
-abbrev pub IsCall : List ℕ → List ℕ → List Arg → Type 0
-IsCall pack procedure args =
-    ((pack ≡ codes "ctx_doc") × (procedure ≡ codes "policy_tokens") × (length args ≢ 2))
-    ⊎ ((pack ≡ codes "ctx_ddl") × (procedure ≡ codes "sync_index"))
-
 -- The same as functions.
 abbrev pub arg_at : Reader Arg
 arg_at (Text text ∷ ls) = Some (TextArg text, ls)
@@ -48,17 +43,14 @@ abbrev pub args_of : List Lexeme → Option (List Arg)
 args_of (Sign Open ∷ Sign Close ∷ []) = Some []
 args_of ls = enclosed_last arg_at ls
 
-abbrev pub is_call : List ℕ → List ℕ → List Arg → Bool
-is_call pack procedure args =
-    (bytes_eq pack (codes "ctx_doc") && (bytes_eq procedure (codes "policy_tokens") && not (length args == 2)))
-    || (bytes_eq pack (codes "ctx_ddl") && bytes_eq procedure (codes "sync_index"))
-
-abbrev pub call_of : List ℕ → List ℕ → List Arg → Option Statement
-call_of pack procedure args = if is_call pack procedure args then Some (Exec pack procedure args) else None
+-- the call of a procedure that there is
+abbrev pub call_of : Option Procedure → List Arg → Option Statement
+call_of None args = None
+call_of (Some procedure) args = Some (Exec procedure args)
 
 -- what follows EXEC
 abbrev pub exec_of : List Lexeme → Option Statement
-exec_of (Name pack ∷ Sign Dot ∷ Name procedure ∷ ls) = args_of ls >>= λ args. call_of pack procedure args
+exec_of (Name pack ∷ Sign Dot ∷ Name name ∷ ls) = args_of ls >>= λ args. call_of (procedure_named pack name) args
 exec_of ls = None
 
 -- computed examples
@@ -71,6 +63,3 @@ no_argument = refl
 
 an_argument_is_missing : args_of (Sign Open ∷ Text (codes "i") ∷ Sign Comma ∷ Sign Close ∷ []) ≡ None
 an_argument_is_missing = refl
-
-tokens_of_two_arguments : is_call (codes "ctx_doc") (codes "policy_tokens") (TextArg (codes "a") ∷ TextArg (codes "b") ∷ []) ≡ false
-tokens_of_two_arguments = refl

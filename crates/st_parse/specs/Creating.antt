@@ -1,9 +1,9 @@
 -- CREATE TABLE and CREATE INDEX, as they are spelt and as they are read.
 use Rattle.std.specs.Prelude.{ℕ, ◌≡◌, ◌⊎◌, Bool, true, false, pos, List, [], ◌∷◌, ◌++◌, codes, Option, Some, None, refl}
-use Rattle.st_parse.specs.declared.lexemes.Keyword.TheVariants.{Table as TABLE, Index as INDEX, On as ON, Indextype as INDEXTYPE, Is as IS, Ctxsys as CTXSYS, Context as CONTEXT, Number as NUMBER, Varchar2 as VARCHAR2, Clob as CLOB, Primary as PRIMARY, Key as KEY}
+use Rattle.st_parse.specs.declared.lexemes.Keyword.TheVariants.{Table as TABLE, Index as INDEX, On as ON, Indextype as INDEXTYPE, Is as IS, Ctxsys as CTXSYS, Parameters as PARAMETERS, Context as CONTEXT, Number as NUMBER, Varchar2 as VARCHAR2, Clob as CLOB, Primary as PRIMARY, Key as KEY}
 use Rattle.st_parse.specs.declared.lexemes.Symbol.TheVariants.{Open, Close, Comma, Dot}
 use Rattle.st_parse.specs.declared.lexemes.Lexeme.{Lexeme}
-use Rattle.st_parse.specs.declared.lexemes.Lexeme.TheVariants.{Word, Name, Number, Sign}
+use Rattle.st_parse.specs.declared.lexemes.Lexeme.TheVariants.{Word, Name, Number, Text, Sign}
 use Rattle.st_parse.specs.declared.statements.Whole.TheVariants.{Fits}
 use Rattle.st_parse.specs.declared.statements.SortText.{SortText}
 use Rattle.st_parse.specs.declared.statements.SortText.TheVariants.{Number as NumberSort, Varchar2, Clob}
@@ -35,6 +35,11 @@ abbrev pub IsIndexKind : List Lexeme → IndexKind → Type 0
 IsIndexKind ls Context = (ls ≡ Word CONTEXT ∷ []) ⊎ (ls ≡ Word CTXSYS ∷ Sign Dot ∷ Word CONTEXT ∷ [])
 IsIndexKind ls kind = ⊥
 
+-- the text of PARAMETERS, where the statement has one
+abbrev pub IsParameters : List Lexeme → Option (List ℕ) → Type 0
+IsParameters ls None = ls ≡ []
+IsParameters ls (Some text) = ls ≡ Word PARAMETERS ∷ Sign Open ∷ Text text ∷ Sign Close ∷ []
+
 -- The same as functions.
 abbrev pub sort_text_at : Reader SortText
 sort_text_at (Word NUMBER ∷ ls) = Some (NumberSort, ls)
@@ -53,10 +58,23 @@ abbrev pub column_at : Reader ColumnText
 column_at (Name name ∷ ls) = sort_text_at ls >>= λ sort. Some (column_text name sort.0 (primary_key_at sort.1))
 column_at ls = None
 
-abbrev pub index_kind_of : List Lexeme → Option IndexKind
-index_kind_of (Word INDEXTYPE ∷ Word IS ∷ Word CONTEXT ∷ []) = Some Context
-index_kind_of (Word INDEXTYPE ∷ Word IS ∷ Word CTXSYS ∷ Sign Dot ∷ Word CONTEXT ∷ []) = Some Context
-index_kind_of ls = None
+abbrev pub kind_at : Reader IndexKind
+kind_at (Word CONTEXT ∷ ls) = Some (Context, ls)
+kind_at (Word CTXSYS ∷ Sign Dot ∷ Word CONTEXT ∷ ls) = Some (Context, ls)
+kind_at ls = None
+
+abbrev pub index_kind_at : Reader IndexKind
+index_kind_at (Word INDEXTYPE ∷ Word IS ∷ ls) = kind_at ls
+index_kind_at ls = None
+
+abbrev pub enclosed_text_of : List Lexeme → Option (Option (List ℕ))
+enclosed_text_of (Sign Open ∷ Text text ∷ Sign Close ∷ []) = Some (Some text)
+enclosed_text_of ls = None
+
+abbrev pub parameters_of : List Lexeme → Option (Option (List ℕ))
+parameters_of [] = Some None
+parameters_of (Word PARAMETERS ∷ ls) = enclosed_text_of ls
+parameters_of ls = None
 
 -- what follows CREATE TABLE, and what follows CREATE INDEX
 abbrev pub create_table_of : List Lexeme → Option Statement
@@ -64,7 +82,7 @@ create_table_of (Name name ∷ ls) = enclosed_last column_at ls >>= λ columns. 
 create_table_of ls = None
 
 abbrev pub index_of : List ℕ → List ℕ → List ℕ → List Lexeme → Option Statement
-index_of name table column ls = index_kind_of ls >>= λ kind. Some (CreateIndex name table column kind None None)
+index_of name table column ls = index_kind_at ls >>= λ kind. parameters_of kind.1 >>= λ parameters. Some (CreateIndex name table column kind.0 parameters None)
 
 abbrev pub create_index_of : List Lexeme → Option Statement
 create_index_of (Name name ∷ Word ON ∷ Name table ∷ Sign Open ∷ Name column ∷ Sign Close ∷ ls) = index_of name table column ls
@@ -85,8 +103,15 @@ a_short_text : column_at (Name (codes "title") ∷ Word VARCHAR2 ∷ Sign Open �
     ≡ Some (record { name = codes "title"; sort = Varchar2 (Fits (pos 80)); primary = false }, Sign Close ∷ [])
 a_short_text = refl
 
-of_its_owner : index_kind_of (Word INDEXTYPE ∷ Word IS ∷ Word CTXSYS ∷ Sign Dot ∷ Word CONTEXT ∷ []) ≡ Some Context
+of_its_owner : index_kind_at (Word INDEXTYPE ∷ Word IS ∷ Word CTXSYS ∷ Sign Dot ∷ Word CONTEXT ∷ Word PARAMETERS ∷ []) ≡ Some (Context, Word PARAMETERS ∷ [])
 of_its_owner = refl
+
+a_stoplist : index_of (codes "i") (codes "t") (codes "a") (Word INDEXTYPE ∷ Word IS ∷ Word CONTEXT ∷ Word PARAMETERS ∷ Sign Open ∷ Text (codes "stoplist sl") ∷ Sign Close ∷ [])
+    ≡ Some (CreateIndex (codes "i") (codes "t") (codes "a") Context (Some (codes "stoplist sl")) None)
+a_stoplist = refl
+
+no_text : parameters_of (Word PARAMETERS ∷ Sign Open ∷ Sign Close ∷ []) ≡ None
+no_text = refl
 
 two_columns : create_of (Word INDEX ∷ Name (codes "i") ∷ Word ON ∷ Name (codes "t") ∷ Sign Open ∷ Name (codes "a") ∷ Sign Comma
     ∷ Name (codes "b") ∷ Sign Close ∷ Word INDEXTYPE ∷ Word IS ∷ Word CONTEXT ∷ []) ≡ None

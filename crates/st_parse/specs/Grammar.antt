@@ -24,13 +24,15 @@ use Rattle.st_parse.specs.Lexemes.{lexemes}
 use Rattle.st_parse.specs.Lists.{AreListed, AreEnclosed, IsWhere}
 use Rattle.st_parse.specs.Values.{IsOperand}
 use Rattle.st_parse.specs.Conditions.{IsCond}
-use Rattle.st_parse.specs.Creating.{IsColumn, IsIndexKind, create_of}
+use Rattle.st_parse.specs.Creating.{IsColumn, IsIndexKind, IsParameters, create_of}
 use Rattle.st_parse.specs.Dropping.{drop_of}
 use Rattle.st_parse.specs.Inserting.{AreColumnNames, insert_of}
 use Rattle.st_parse.specs.Updating.{IsAssign, assign_to, update_of}
 use Rattle.st_parse.specs.Deleting.{IsOptionalFrom, delete_of}
 use Rattle.st_parse.specs.Selecting.{IsSelectList, IsPred, is_search, select_of}
-use Rattle.st_parse.specs.Calling.{IsExec, AreArgs, IsCall, exec_of}
+use Rattle.st_parse.specs.declared.procedures.Procedure.TheVariants.{PolicyTokens, SyncIndex}
+use Rattle.st_parse.specs.Procedures.{procedure_package, procedure_name}
+use Rattle.st_parse.specs.Calling.{IsExec, AreArgs, exec_of}
 
 -- These lexemes are this statement. A statement without a case here isn't one of the language yet.
 abbrev pub IsStatement : List Lexeme → Statement → Type 0
@@ -38,9 +40,9 @@ IsStatement ls (CreateTable name columns) =
     (list : List Lexeme) × AreEnclosed IsColumn list columns × (ls ≡ Word CREATE ∷ Word TABLE ∷ Name name ∷ list)
 IsStatement ls (DropTable name) = ls ≡ Word DROP ∷ Word TABLE ∷ Name name ∷ []
 IsStatement ls (DropIndex name) = ls ≡ Word DROP ∷ Word INDEX ∷ Name name ∷ []
-IsStatement ls (CreateIndex name table column kind None None) =
-    (kinds : List Lexeme) × IsIndexKind kinds kind
-    × (ls ≡ Word CREATE ∷ Word INDEX ∷ Name name ∷ Word ON ∷ Name table ∷ Sign Open ∷ Name column ∷ Sign Close ∷ Word INDEXTYPE ∷ Word IS ∷ kinds)
+IsStatement ls (CreateIndex name table column kind parameters None) =
+    (kinds texts : List Lexeme) × IsIndexKind kinds kind × IsParameters texts parameters
+    × (ls ≡ Word CREATE ∷ Word INDEX ∷ Name name ∷ Word ON ∷ Name table ∷ Sign Open ∷ Name column ∷ Sign Close ∷ Word INDEXTYPE ∷ Word IS ∷ (kinds ++ texts))
 IsStatement ls (Insert table columns values) =
     (names list : List Lexeme) × AreColumnNames names columns × AreEnclosed IsOperand list values × (ls ≡ Word INSERT ∷ Word INTO ∷ Name table ∷ (names ++ Word VALUES ∷ list))
 IsStatement ls (Update table assigns conds) =
@@ -50,8 +52,8 @@ IsStatement ls (Delete table conds) =
 IsStatement ls (Select list table preds []) =
     (columns filter : List Lexeme) × IsSelectList columns list × IsWhere IsPred filter preds × (count_by is_search preds ≤ 1)
     × (ls ≡ Word SELECT ∷ (columns ++ Word FROM ∷ Name table ∷ filter))
-IsStatement ls (Exec pack procedure args) =
-    (word : Keyword) × ((list : List Lexeme) × IsExec word × AreArgs list args × IsCall pack procedure args × (ls ≡ Word word ∷ Name pack ∷ Sign Dot ∷ Name procedure ∷ list))
+IsStatement ls (Exec procedure args) =
+    (word : Keyword) × ((list : List Lexeme) × IsExec word × AreArgs list args × (ls ≡ Word word ∷ Name (procedure_package procedure) ∷ Sign Dot ∷ Name (procedure_name procedure) ∷ list))
 IsStatement ls Commit = ls ≡ Word COMMIT ∷ []
 IsStatement ls statement = ⊥
 
@@ -191,19 +193,23 @@ ordered_later : read (codes "SELECT id FROM docs WHERE CONTAINS(body,'quick') > 
 unfolding encode
 ordered_later = refl
 
-tokens_of : read (codes "exec\n CTX_DOC . Policy_Tokens ( 'some text' ) -- done") ≡ Found (Exec (codes "ctx_doc") (codes "policy_tokens") (TextArg (codes "some text") ∷ []))
+tokens_of : read (codes "exec\n CTX_DOC . Policy_Tokens ( 'some text' ) -- done") ≡ Found (Exec PolicyTokens (TextArg (codes "some text") ∷ []))
 unfolding encode
 tokens_of = refl
 
-two_arguments : read (codes "EXECUTE ctx_doc.policy_tokens('a', 'b')") ≡ NoStatement
+two_arguments : read (codes "EXECUTE ctx_doc.policy_tokens('a', 'b')") ≡ Found (Exec PolicyTokens (TextArg (codes "a") ∷ TextArg (codes "b") ∷ []))
 unfolding encode
 two_arguments = refl
 
+no_procedure : read (codes "EXEC ctx_doc.sync_index('di')") ≡ NoStatement
+unfolding encode
+no_procedure = refl
+
 other_arguments : read (codes "EXEC ctx_doc.policy_tokens(-5, TRUE, 99999999999999999999)")
-    ≡ Found (Exec (codes "ctx_doc") (codes "policy_tokens") (NumberArg (Fits (negsuc 4)) ∷ Flag true ∷ NumberArg Beyond ∷ []))
+    ≡ Found (Exec PolicyTokens (NumberArg (Fits (negsuc 4)) ∷ Flag true ∷ NumberArg Beyond ∷ []))
 other_arguments = refl
 
-sync : read (codes "EXEC CTX_DDL.SYNC_INDEX('di')") ≡ Found (Exec (codes "ctx_ddl") (codes "sync_index") (TextArg (codes "di") ∷ []))
+sync : read (codes "EXEC CTX_DDL.SYNC_INDEX('di')") ≡ Found (Exec SyncIndex (TextArg (codes "di") ∷ []))
 unfolding encode
 sync = refl
 

@@ -10,6 +10,7 @@ pub mod Inserting
 pub mod Updating
 pub mod Deleting
 pub mod Selecting
+pub mod Procedures
 pub mod Calling
 pub mod Writing
 pub mod Grammar

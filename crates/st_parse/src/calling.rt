@@ -1,12 +1,13 @@
 //! EXEC.
 
-ghost use Rattle.std.specs.Prelude.{◌≡◌};
-ghost use Rattle.st_parse.specs.Calling.{arg_at, args_of, is_call, exec_of};
+ghost use Rattle.st_parse.specs.Calling.{arg_at, args_of, call_of, exec_of};
+ghost use Rattle.st_parse.specs.Procedures.{procedure_named};
 ghost use Rattle.st_parse.specs.Reading.{ReadGives, StatementGives};
 
 use crate::lexemes::{Keyword, Lexeme, Symbol};
 use crate::listing::{Element, read_enclosed_last};
 use crate::parsing::StatementFault;
+use crate::procedures::Procedure;
 use crate::statements::{Arg, Args, Statement};
 use crate::values::read_signed;
 use ct_base::Name;
@@ -38,17 +39,6 @@ fn args(alloc: Global, lexemes: &[Lexeme]) -> Result<Vec<Arg>, StatementFault>
     }
 }
 
-/// Whether there is such a procedure, and it is called with such arguments.
-fn is_call(pack: &Name, procedure: &Name, args: &[Arg]) -> bool
-    ensures { result ≡ is_call pack.now procedure.now args.now }
-{
-    match (pack.as_str(), procedure.as_str()) {
-        ("ctx_doc", "policy_tokens") => args.len() != 2,
-        ("ctx_ddl", "sync_index") => true,
-        _ => false,
-    }
-}
-
 /// What follows EXEC or EXECUTE.
 pub(crate) fn exec(alloc: Global, lexemes: &[Lexeme]) -> Result<Statement, StatementFault>
     ensures { StatementGives result (exec_of lexemes.now) }
@@ -61,15 +51,21 @@ pub(crate) fn exec(alloc: Global, lexemes: &[Lexeme]) -> Result<Statement, State
             rest @ ..,
         ] => {
             let args = args(alloc, rest)?;
-            if !is_call(pack, procedure, args.as_slice()) {
-                return Err(StatementFault::Syntax);
-            }
-            Ok(Statement::Exec {
-                package: pack.clone()?,
-                procedure: procedure.clone()?,
-                args: Args::of(args),
-            })
+            call_of(pack, procedure, args)
         }
         _ => Err(StatementFault::Syntax),
+    }
+}
+
+/// The call of the procedure of these names, if there is one.
+fn call_of(pack: &Name, procedure: &Name, args: Vec<Arg>) -> Result<Statement, StatementFault>
+    ensures { StatementGives result (call_of (procedure_named pack.now procedure.now) args.items) }
+{
+    match Procedure::named(pack.as_str(), procedure.as_str()) {
+        Some(procedure) => Ok(Statement::Exec {
+            procedure,
+            args: Args::of(args),
+        }),
+        None => Err(StatementFault::Syntax),
     }
 }

@@ -1,7 +1,7 @@
 //! CREATE TABLE and CREATE INDEX.
 
 ghost use Rattle.std.specs.Prelude.{◌≡◌, ◌≤◌, length, IfOk};
-ghost use Rattle.st_parse.specs.Creating.{sort_text_at, primary_key_at, column_at, index_kind_of, index_of, create_table_of, create_index_of, create_of};
+ghost use Rattle.st_parse.specs.Creating.{sort_text_at, primary_key_at, column_at, kind_at, index_kind_at, enclosed_text_of, parameters_of, index_of, create_table_of, create_index_of, create_of};
 ghost use Rattle.st_parse.specs.Reading.{ReadGives, StatementGives};
 
 use crate::lexemes::{Keyword, Lexeme, Symbol};
@@ -9,7 +9,7 @@ use crate::listing::{Element, read_enclosed_last};
 use crate::numbers::number;
 use crate::parsing::StatementFault;
 use crate::statements::{ColumnText, ColumnTexts, IndexKind, SortText, Statement};
-use ct_base::Name;
+use ct_base::{Name, Text};
 use std::alloc::Global;
 
 /// The type of a column at the beginning, and what follows it.
@@ -85,23 +85,57 @@ fn create_table(alloc: Global, lexemes: &[Lexeme]) -> Result<Statement, Statemen
     }
 }
 
-/// The type of an index and the words before it, where nothing follows.
-fn kind(lexemes: &[Lexeme]) -> Result<IndexKind, StatementFault>
-    ensures { ReadGives (λ k. k) result (index_kind_of lexemes.now) }
+/// The type of an index, with its owner or without, and what follows.
+fn named_kind(lexemes: &[Lexeme]) -> Result<(IndexKind, &[Lexeme]), StatementFault>
+    ensures { ReadGives (λ found. (found.0, found.1.now)) result (kind_at lexemes.now) }
+{
+    match lexemes {
+        [Lexeme::Word(Keyword::Context), rest @ ..] => Ok((IndexKind::Context, rest)),
+        [
+            Lexeme::Word(Keyword::Ctxsys),
+            Lexeme::Sign(Symbol::Dot),
+            Lexeme::Word(Keyword::Context),
+            rest @ ..,
+        ] => Ok((IndexKind::Context, rest)),
+        _ => Err(StatementFault::Syntax),
+    }
+}
+
+/// The type of an index and the words before it, and what follows.
+fn kind(lexemes: &[Lexeme]) -> Result<(IndexKind, &[Lexeme]), StatementFault>
+    ensures { ReadGives (λ found. (found.0, found.1.now)) result (index_kind_at lexemes.now) }
 {
     match lexemes {
         [
             Lexeme::Word(Keyword::Indextype),
             Lexeme::Word(Keyword::Is),
-            Lexeme::Word(Keyword::Context),
-        ] => Ok(IndexKind::Context),
+            rest @ ..,
+        ] => named_kind(rest),
+        _ => Err(StatementFault::Syntax),
+    }
+}
+
+/// A text in parentheses, where nothing follows.
+fn enclosed_text(lexemes: &[Lexeme]) -> Result<Option<Text>, StatementFault>
+    ensures { ReadGives (λ p. p) result (enclosed_text_of lexemes.now) }
+{
+    match lexemes {
         [
-            Lexeme::Word(Keyword::Indextype),
-            Lexeme::Word(Keyword::Is),
-            Lexeme::Word(Keyword::Ctxsys),
-            Lexeme::Sign(Symbol::Dot),
-            Lexeme::Word(Keyword::Context),
-        ] => Ok(IndexKind::Context),
+            Lexeme::Sign(Symbol::Open),
+            Lexeme::Text(text),
+            Lexeme::Sign(Symbol::Close),
+        ] => Ok(Some(text.clone()?)),
+        _ => Err(StatementFault::Syntax),
+    }
+}
+
+/// The text of PARAMETERS, if there is one, where nothing else follows.
+fn parameters(lexemes: &[Lexeme]) -> Result<Option<Text>, StatementFault>
+    ensures { ReadGives (λ p. p) result (parameters_of lexemes.now) }
+{
+    match lexemes {
+        [] => Ok(None),
+        [Lexeme::Word(Keyword::Parameters), rest @ ..] => enclosed_text(rest),
         _ => Err(StatementFault::Syntax),
     }
 }
@@ -115,13 +149,14 @@ fn index(
 ) -> Result<Statement, StatementFault>
     ensures { StatementGives result (index_of name.now table.now column.now lexemes.now) }
 {
-    let kind = kind(lexemes)?;
+    let (kind, rest) = kind(lexemes)?;
+    let parameters = parameters(rest)?;
     Ok(Statement::CreateIndex {
         name: name.clone()?,
         table: table.clone()?,
         column: column.clone()?,
         kind,
-        parameters: None,
+        parameters,
         parallel: None,
     })
 }

@@ -1,5 +1,6 @@
 //! Statements.
 
+use crate::procedures::Procedure;
 use ct_base::{Listed, Name, Text};
 
 /// A number with its sign, where it has one.
@@ -209,10 +210,9 @@ pub enum Statement {
         preds: Preds,
         orders: Orders,
     },
-    /// A call of a procedure of a package.
+    /// A call of a procedure.
     Exec {
-        package: Name,
-        procedure: Name,
+        procedure: Procedure,
         args: Args,
     },
     Commit,

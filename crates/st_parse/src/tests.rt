@@ -2,6 +2,7 @@
 
 use crate::lexing::{LexFault, is_blank, lex};
 use crate::parsing::{StatementFault, parse};
+use crate::procedures::Procedure;
 use crate::statements::{Arg, Statement, Whole};
 use std::test::Fail;
 
@@ -42,7 +43,7 @@ const TEXTS: &[(&str, Asked)] = &[
         Ok(Some("a")),
     ),
     // other numbers and kinds of arguments
-    ("EXECUTE ctx_doc.policy_tokens('a', 'b')", SYNTAX),
+    ("EXECUTE ctx_doc.sync_index('a', 'b')", SYNTAX),
     ("EXEC ctx_doc.policy_tokens('a' 'b')", SYNTAX),
     ("EXEC ctx_doc.policy_tokens(a)", SYNTAX),
     // other names, words and signs
@@ -100,6 +101,14 @@ const FORMS: &[(&str, Option<&str>)] = &[
     ("CREATE INDEX i ON t(c) INDEXTYPE IS CTXCAT", None),
     (
         "CREATE INDEX i ON t(c) INDEXTYPE IS CONTEXT PARAMETERS ('')",
+        Some("create index"),
+    ),
+    (
+        "CREATE INDEX i ON t(c) INDEXTYPE IS CONTEXT PARAMETERS (lexer)",
+        None,
+    ),
+    (
+        "CREATE INDEX i ON t(c) INDEXTYPE IS CONTEXT PARAMETERS ('') PARAMETERS ('')",
         None,
     ),
     (
@@ -207,6 +216,12 @@ const FORMS: &[(&str, Option<&str>)] = &[
     ("EXEC ctx_ddl.sync_index('i', NULL)", None),
     ("EXEC ctx_ddl.sync_index", None),
     ("EXEC ctx_ddl.optimize_index('i', 'FULL')", None),
+    ("EXECUTE ctx_doc.policy_tokens('a', 'b')", Some("exec")),
+    (
+        "EXEC ctx_ddl.add_field_section('g', 't', 'T', TRUE)",
+        Some("exec"),
+    ),
+    ("EXEC ctx_ddl.drop_stoplist('sl')", None),
     ("EXEC ctx_ddl.policy_tokens('a')", None),
     ("EXEC ctx_doc.sync_index('i')", None),
     ("DROP TABLE t", Some("drop table")),
@@ -252,15 +267,10 @@ const NUMBERS: &[(&str, Whole)] = &[
 
 /// The argument of a call of `ctx_doc.policy_tokens`.
 fn argument(statement: &Statement) -> Option<&str> {
-    let Statement::Exec {
-        package,
-        procedure,
-        args,
-    } = statement
-    else {
+    let Statement::Exec { procedure, args } = statement else {
         return None;
     };
-    if package.as_str() != "ctx_doc" || procedure.as_str() != "policy_tokens" {
+    if *procedure != Procedure::PolicyTokens {
         return None;
     }
     match args.as_slice() {

@@ -46,6 +46,8 @@ use Rattle.ix_context.specs.laws.Changes.{row_is_row}
 use Rattle.ix_context.specs.laws.Gone.{document_read}
 use Rattle.st_parse.specs.declared.statements.Assign.{Assign}
 use Rattle.db_rows.specs.Values.{values_of, row_values}
+use Rattle.tx_prefs.specs.Spelling.{PreferencesStand}
+use Rattle.tx_prefs.specs.laws.Changes.{preferences_frame, other_kinds}
 use Rattle.db_state.specs.States.{State, Stands, HasShortRows, is_of_rows, is_built, is_view, indexes_on, index_limit}
 use Rattle.db_state.specs.laws.EachValue.{entries-from_rising, count_alike}
 use Rattle.db_state.specs.laws.ShortRows.{rows_frame}
@@ -314,11 +316,13 @@ module _ (c : Content) (m : State) (t : List ℕ) (x : Table) (assigns : List As
           tables = subst (λ (f : Key → Option (List ℕ)). TablesStand f us) (sym (at_view ws c))
               (tables_stand rows distinct there (at c) m.tables stands.state.tables (λ q. refl) (λ r among. refl) stands.tables);
           indexes = subst (λ (f : Key → Option (List ℕ)). IndexesStand f us ys) (sym (at_view ws c)) hold.stand;
+          preferences = subst (λ (f : Key → Option (List ℕ)). PreferencesStand f m.preferences) (sym (at_view ws c)) (preferences_frame is_of_update ws (at c) m.preferences (updates_kinds rows) (other_kinds is_of_update refl refl refl) stands.preferences);
           short_rows = subst HasShortRows (sym (at_view ws c)) (rows_frame is_of_update ws (at c) (updates_kinds rows) update_rows stands.short_rows);
           state = record {
             tables = hold.tables;
             indexes = hold.rules;
             views = views_stay;
             few = λ q. subst (λ (n : ℕ). n ≤ index_limit) (sym (few_after step t places rows m.tables m.indexes q)) (stands.state.few q);
+            preferences = stands.state.preferences;
           };
         }

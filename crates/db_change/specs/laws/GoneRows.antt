@@ -36,6 +36,8 @@ use Rattle.ix_context.specs.laws.Changes.{row_is_row}
 use Rattle.ix_context.specs.laws.Gone.{all_gone}
 use Rattle.ix_context.specs.laws.RowSteps.{loses_row}
 use Rattle.ix_context.specs.laws.Turns.{rows_gone_stand}
+use Rattle.tx_prefs.specs.Spelling.{PreferencesStand}
+use Rattle.tx_prefs.specs.laws.Changes.{preferences_frame, other_kinds}
 use Rattle.db_state.specs.laws.ShortRows.{rows_frame}
 use Rattle.db_state.specs.States.{State, Stands, HasShortRows, is_of_rows, is_view, is_built, indexes_on, index_limit}
 use Rattle.db_change.specs.Deleting.{gone_row_changes, gone_rows_changes, without_rows}
@@ -205,11 +207,13 @@ gone_rows_stand c m t x rows stands here once there =
           (tables_without (at c) m.tables t x names (λ i r. document_at (at c) i r) rows here stands.state.tables (λ r among. row_is_row m.tables stands.state.tables t r (there r among)) stands.tables);
       indexes = subst (λ (f : Key → Option (List ℕ)). IndexesStand f (tables_after (lose_row t) m.tables rows) (gone_after (lose_row t) m.tables m.indexes t rows)) (sym seen) hold.stand;
       unbuilt = λ k h. at-after ws c k ∙ told_frame is_of_row ws k (at c k) (all_rows (at c) t x.columns names rows) (row_built k.kind h) ∙ stands.unbuilt k h;
+      preferences = subst (λ (f : Key → Option (List ℕ)). PreferencesStand f m.preferences) (sym seen) (preferences_frame is_of_row ws (at c) m.preferences (all_rows (at c) t x.columns names rows) (other_kinds is_of_row refl refl refl) stands.preferences);
       short_rows = subst HasShortRows (sym seen) (rows_frame is_of_row ws (at c) (all_rows (at c) t x.columns names rows) row_rows stands.short_rows);
       state = record {
         tables = hold.tables;
         indexes = hold.rules;
         views = no_views m t rows stands.state.views;
         few = λ q. subst (λ (n : ℕ). n ≤ index_limit) (sym (few_after m.tables m.indexes t rows q)) (stands.state.few q);
+        preferences = stands.state.preferences;
       };
     }

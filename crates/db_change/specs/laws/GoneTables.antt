@@ -28,6 +28,8 @@ use Rattle.ix_context.specs.laws.Dropped.{drop_table_stands, drop_table_keeps}
 use Rattle.ix_context.specs.laws.Removing.{remove_all_loses, index_changes_remove_all}
 use Rattle.ix_context.specs.laws.Well.{are_changes, all_of_indexes}
 use Rattle.db_names.specs.laws.Pairs.{rises_filter}
+use Rattle.tx_prefs.specs.Spelling.{PreferencesStand}
+use Rattle.tx_prefs.specs.laws.Changes.{preferences_frame, other_kinds}
 use Rattle.db_state.specs.States.{State, Stands, HasShortRows, is_view, is_built, indexes_on, index_limit}
 use Rattle.db_state.specs.laws.ShortRows.{rows_frame, rows_put}
 use Rattle.db_state.specs.laws.EachValue.{entries-from_rising}
@@ -113,11 +115,13 @@ module _ (c : Content) (m : State) (t : List ℕ) (names : List (List ℕ)) (on 
             (stand_remove (at c) m.tables t c (record { table = λ rest. refl; numbers = λ rest. refl; texts = λ rest. refl }) stands.tables));
         indexes = subst (λ (f : Key → Option (List ℕ)). IndexesStand f (without_table m.tables t) (without_indexes_on m.indexes t)) (sym seen)
             (drop_table_stands (at c) all_gone m.tables (without_table m.tables t) m.indexes t loses (others_same m.tables t) stands.indexes);
+        preferences = subst (λ (f : Key → Option (List ℕ)). PreferencesStand f m.preferences) (sym seen) (preferences_frame is_of_indexes vs of_tables_gone m.preferences (all_of_indexes vs are) (other_kinds is_of_indexes refl refl refl) (preferences_frame is_of_tables us (at c) m.preferences (all_remove t c) (other_kinds is_of_tables refl refl refl) stands.preferences));
         short_rows = subst HasShortRows (sym seen) (rows_put vs of_tables_gone are (rows_frame is_of_tables us (at c) (all_remove t c) rows_tables stands.short_rows));
         state = record {
           tables = remove_keeps m.tables t stands.state.tables;
           indexes = drop_table_keeps m.tables (without_table m.tables t) m.indexes t (others_same m.tables t) stands.state.indexes;
           views = views_left m t stands.state.views;
           few = λ q. few_left m.indexes t q (stands.state.few q);
+          preferences = stands.state.preferences;
         };
       }

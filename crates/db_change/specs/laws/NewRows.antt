@@ -39,6 +39,8 @@ use Rattle.db_names.specs.declared.heads.IndexHead.{IndexHead}
 use Rattle.db_names.specs.Promises.{head_of, heads_of}
 use Rattle.db_names.specs.laws.Heads.{heads_at, heads_rise}
 use Rattle.db_names.specs.laws.Pairs.{lookup-find}
+use Rattle.tx_prefs.specs.Spelling.{PreferencesStand}
+use Rattle.tx_prefs.specs.laws.Changes.{preferences_frame, other_kinds}
 use Rattle.db_state.specs.laws.ShortRows.{rows_frame}
 use Rattle.db_state.specs.States.{State, IsState, Stands, HasShortRows, is_of_rows, is_view, is_built, indexes_on, index_limit}
 use Rattle.db_change.specs.Inserting.{note_all_changes, with_new_row}
@@ -157,6 +159,7 @@ new_row_state m t x r vs is state row fit room = record {
   indexes = row_keeps m.tables m.indexes t r vs x is state.indexes;
   views = views_stay m t x r vs is state.views;
   few = λ q. subst (λ (n : ℕ). n ≤ index_limit) (sym (few_stay m.indexes t r q)) (state.few q);
+  preferences = state.preferences;
 }
 
 -- ---- the entries
@@ -186,6 +189,7 @@ new_row_stands c m t x r vs stands is none row fit room =
           ∙ told_frame is_pending b k (told a k (at c k)) (notes_pending (names_on m.indexes t) r) (pending_built k.kind h)
           ∙ told_frame is_of_tables a k (at c k) (all_insert t r (numbers_of vs) (texts_of vs)) (tables_built k.kind h)
           ∙ stands.unbuilt k h;
+      preferences = subst (λ (f : Key → Option (List ℕ)). PreferencesStand f m.preferences) (sym seen) (preferences_frame is_pending b (view a (at c)) m.preferences (notes_pending (names_on m.indexes t) r) (other_kinds is_pending refl refl refl) (preferences_frame is_of_tables a (at c) m.preferences (all_insert t r (numbers_of vs) (texts_of vs)) (other_kinds is_of_tables refl refl refl) stands.preferences));
       short_rows = subst HasShortRows (sym seen) (rows_frame is_pending b (view a (at c)) (notes_pending (names_on m.indexes t) r) rows_pending (rows_frame is_of_tables a (at c) (all_insert t r (numbers_of vs) (texts_of vs)) rows_tables stands.short_rows));
       state = new_row_state m t x r vs is stands.state row fit room;
     }

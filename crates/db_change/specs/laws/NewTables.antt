@@ -33,6 +33,8 @@ use Rattle.st_parse.specs.declared.statements.SortText.{SortText}
 use Rattle.st_parse.specs.declared.statements.SortText.TheVariants.{Number as NumberText, Varchar2 as Varchar2Text, Clob as ClobText}
 use Rattle.std.specs.Option.{unwrap_or}
 use Rattle.tb_table.specs.declared.columns.Sort.TheVariants.{Number}
+use Rattle.tx_prefs.specs.Spelling.{PreferencesStand}
+use Rattle.tx_prefs.specs.laws.Changes.{preferences_frame, other_kinds}
 use Rattle.db_state.specs.Effects.{as_count}
 use Rattle.db_change.specs.Creating.{is_number, is_key_first, names_differ, is_size, is_sized, all_sized, sort_of, column_of, IsFreeTable, with_new_table}
 use Rattle.db_state.specs.laws.ShortRows.{rows_frame}
@@ -58,6 +60,7 @@ indexes_keep ts xs t columns none are = record {
   names = are.names;
   each = λ i x is. let index = are.each i x is in record {
     target = target_stays ts t columns x.table x.column none index.target;
+    prefs = index.prefs;
     marks = λ r. index.marks r ∙ ap is_some (sym (row_at-with_table ts t columns none x.table r));
     numbers = index.numbers;
     untidy = index.untidy;
@@ -105,12 +108,14 @@ new_table_stands c m t columns stands none free name are few =
       indexes = subst (λ (f : Key → Option (List ℕ)). IndexesStand f (with_table m.tables t columns) m.indexes) (sym (at_view ws c))
           (indexes_frame is_of_tables ws (at c) (with_table m.tables t columns) m.indexes (all_create t columns) apart (stay_with_table (at c) m.tables m.indexes t columns none stands.indexes));
       unbuilt = λ k h. at-after ws c k ∙ told_frame is_of_tables ws k (at c k) (all_create t columns) (tables_built k.kind h) ∙ stands.unbuilt k h;
+      preferences = subst (λ (f : Key → Option (List ℕ)). PreferencesStand f m.preferences) (sym (at_view ws c)) (preferences_frame is_of_tables ws (at c) m.preferences (all_create t columns) (other_kinds is_of_tables refl refl refl) stands.preferences);
       short_rows = subst HasShortRows (sym (at_view ws c)) (rows_frame is_of_tables ws (at c) (all_create t columns) rows_tables stands.short_rows);
       state = record {
         tables = create_keeps m.tables t columns stands.state.tables name are few;
         indexes = indexes_keep m.tables m.indexes t columns none stands.state.indexes;
         views = views_stay m t columns free stands.state.views;
         few = stands.state.few;
+        preferences = stands.state.preferences;
       };
     }
 

@@ -20,6 +20,8 @@ use Rattle.ix_context.specs.Removing.{remove_changes}
 use Rattle.ix_context.specs.laws.Dropped.{drop_stands, drop_keeps}
 use Rattle.ix_context.specs.laws.Removing.{remove_loses, index_changes_remove}
 use Rattle.ix_context.specs.laws.Well.{are_changes, all_of_indexes}
+use Rattle.tx_prefs.specs.Spelling.{PreferencesStand}
+use Rattle.tx_prefs.specs.laws.Changes.{preferences_frame, other_kinds}
 use Rattle.db_state.specs.States.{State, Stands, HasShortRows, indexes_on, index_limit}
 use Rattle.db_state.specs.laws.ShortRows.{rows_put}
 use Rattle.db_state.specs.laws.Removing.{fewer_kept}
@@ -43,11 +45,13 @@ dropped_stands c m i stands =
       unbuilt = λ k h. at-after ws c k ∙ told_frame is_of_indexes ws k (at c k) (all_of_indexes ws are) (indexes_built k.kind h) ∙ stands.unbuilt k h;
       tables = subst (λ (f : Key → Option (List ℕ)). TablesStand f m.tables) (sym (at_view ws c)) (tables_frame is_of_indexes ws (at c) m.tables (all_of_indexes ws are) apart stands.tables);
       indexes = subst (λ (f : Key → Option (List ℕ)). IndexesStand f m.tables (remove m.indexes i)) (sym (at_view ws c)) (drop_stands (at c) (view ws (at c)) m.tables m.indexes i (remove_loses i c (at c) (λ k of. refl)) stands.indexes);
+      preferences = subst (λ (f : Key → Option (List ℕ)). PreferencesStand f m.preferences) (sym (at_view ws c)) (preferences_frame is_of_indexes ws (at c) m.preferences (all_of_indexes ws are) (other_kinds is_of_indexes refl refl refl) stands.preferences);
       short_rows = subst HasShortRows (sym (at_view ws c)) (rows_put ws (at c) are stands.short_rows);
       state = record {
         tables = stands.state.tables;
         indexes = drop_keeps m.tables m.indexes i stands.state.indexes;
         views = stands.state.views;
+        preferences = stands.state.preferences;
         few = λ t. few_dropped m.indexes i t (stands.state.few t);
       };
     }

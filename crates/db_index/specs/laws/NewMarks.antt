@@ -23,6 +23,8 @@ use Rattle.tb_table.specs.declared.columns.Column.{Column}
 use Rattle.tb_table.specs.Tables.{Table}
 use Rattle.tb_table.specs.Spelling.{TablesStand}
 use Rattle.tb_table.specs.laws.Changes.{is_of_tables, tables_frame}
+use Rattle.tx_settings.specs.declared.preferences.Prefs.{Prefs}
+use Rattle.tx_settings.specs.PrefsBytes.{IsPrefs}
 use Rattle.ix_context.specs.Indexes.{Index, given, pending_rows, synced, synced_index, rows_in, created, with_index}
 use Rattle.ix_context.specs.Changes.{sync_changes, create_changes}
 use Rattle.ix_context.specs.Rules.{most_given, IsTextSort, HasTextAt, IsTarget}
@@ -34,6 +36,8 @@ use Rattle.ix_context.specs.laws.Rules.{sync_keeps, create_keeps}
 use Rattle.ix_context.specs.laws.Well.{are_changes, all_of_indexes, index_changes_sync, index_changes_create}
 use Rattle.db_index.specs.Syncing.{has_too_many, with_synced}
 use Rattle.db_index.specs.Indexing.{is_text_sort, is_text_at, has_context_index, has_too_many_rows, all_rows, target, with_new_index, IsFreeIndex}
+use Rattle.tx_prefs.specs.Spelling.{PreferencesStand}
+use Rattle.tx_prefs.specs.laws.Changes.{preferences_frame, other_kinds}
 use Rattle.db_state.specs.laws.ShortRows.{rows_put}
 use Rattle.db_state.specs.States.{State, Stands, HasShortRows, indexes_on, index_limit, is_built}
 use Rattle.db_index.specs.laws.Counting.{one, counted, count_insert, one_true, one_false}
@@ -97,11 +101,13 @@ synced_stands c m i x stands there few =
       unbuilt = λ k h. at-after ws c k ∙ told_frame is_of_indexes ws k (at c k) (all_of_indexes ws are) (indexes_built k.kind h) ∙ stands.unbuilt k h;
       tables = subst (λ (f : Key → Option (List ℕ)). TablesStand f m.tables) (sym (at_view ws c)) (tables_frame is_of_indexes ws (at c) m.tables (all_of_indexes ws are) apart stands.tables);
       indexes = subst (λ (f : Key → Option (List ℕ)). IndexesStand f m.tables (synced m.indexes i)) (sym (at_view ws c)) (sync_stands (at c) m.tables m.indexes i x there (room_left x few) stands.state.tables stands.state.indexes stands.indexes);
+      preferences = subst (λ (f : Key → Option (List ℕ)). PreferencesStand f m.preferences) (sym (at_view ws c)) (preferences_frame is_of_indexes ws (at c) m.preferences (all_of_indexes ws are) (other_kinds is_of_indexes refl refl refl) stands.preferences);
       short_rows = subst HasShortRows (sym (at_view ws c)) (rows_put ws (at c) are stands.short_rows);
       state = record {
         tables = stands.state.tables;
         indexes = sync_keeps m.tables m.indexes i x there (room_left x few) stands.state.indexes;
         views = stands.state.views;
+        preferences = stands.state.preferences;
         few = λ t. subst (λ (n : ℕ). n ≤ index_limit) (sym (few_synced m.indexes i x there t)) (stands.state.few t);
       };
     }
@@ -181,24 +187,26 @@ few_created xs i x none t room few =
         let more : one (same_list x.table t) ≡ 0 = ap one is ∙ one_false in
         omega (arith, counts, free, more, few)
 
-pub new_index_stands : (c : Content) (m : State) (i t : List ℕ) (x : Table) (place : ℕ) → Stands c m → IsName i → IsFreeIndex m i t x place → Stands (after (spell (create_changes m.tables i (target t place) all_rows)) c) (with_new_index m i t place)
-new_index_stands c m i t x place stands name free =
-    let ws = create_changes m.tables i (target t place) all_rows in
+pub new_index_stands : (c : Content) (m : State) (i t : List ℕ) (x : Table) (place : ℕ) (prefs : Prefs) → Stands c m → IsName i → IsPrefs prefs → IsFreeIndex m i t x place → Stands (after (spell (create_changes m.tables i (target t place) prefs all_rows)) c) (with_new_index m i t place prefs)
+new_index_stands c m i t x place prefs stands name are_prefs free =
+    let ws = create_changes m.tables i (target t place) prefs all_rows in
     let few = either (nat_le index_limit (length (indexes_on m.indexes t))) (has_too_many_rows m t) free.few in
     let room = ltb-false most_given (length (rows_in m.tables t all_rows)) few.1 in
     let taken = either (is_some (get m.indexes i)) (has_context_index m.indexes t place) free.free in
     let none : get m.indexes i ≡ None = no_some (get m.indexes i) taken.0 in
-    let are = index_changes_create m.tables i (target t place) all_rows stands.state.tables name (stands.state.tables.names t x free.there) room in
+    let are = index_changes_create m.tables i (target t place) prefs all_rows stands.state.tables name (stands.state.tables.names t x free.there) are_prefs room in
     record {
       only = only-after ws c stands.only (are_changes ws are);
       unbuilt = λ k h. at-after ws c k ∙ told_frame is_of_indexes ws k (at c k) (all_of_indexes ws are) (indexes_built k.kind h) ∙ stands.unbuilt k h;
       tables = subst (λ (f : Key → Option (List ℕ)). TablesStand f m.tables) (sym (at_view ws c)) (tables_frame is_of_indexes ws (at c) m.tables (all_of_indexes ws are) apart stands.tables);
-      indexes = subst (λ (f : Key → Option (List ℕ)). IndexesStand f m.tables (with_index m.tables m.indexes i (target t place) all_rows)) (sym (at_view ws c)) (create_stands (at c) m.tables m.indexes i (target t place) all_rows none room stands.state.tables stands.indexes);
+      indexes = subst (λ (f : Key → Option (List ℕ)). IndexesStand f m.tables (with_index m.tables m.indexes i (target t place) prefs all_rows)) (sym (at_view ws c)) (create_stands (at c) m.tables m.indexes i (target t place) prefs all_rows none are_prefs room stands.state.tables stands.indexes);
+      preferences = subst (λ (f : Key → Option (List ℕ)). PreferencesStand f m.preferences) (sym (at_view ws c)) (preferences_frame is_of_indexes ws (at c) m.preferences (all_of_indexes ws are) (other_kinds is_of_indexes refl refl refl) stands.preferences);
       short_rows = subst HasShortRows (sym (at_view ws c)) (rows_put ws (at c) are stands.short_rows);
       state = record {
         tables = stands.state.tables;
-        indexes = create_keeps m.tables m.indexes i (target t place) all_rows name none (target_of_texts m t x place free.there free.texts) (column_free m.indexes t place taken.1) every_row room stands.state.tables stands.state.indexes;
+        indexes = create_keeps m.tables m.indexes i (target t place) prefs all_rows name none (target_of_texts m t x place free.there free.texts) are_prefs (column_free m.indexes t place taken.1) every_row room stands.state.tables stands.state.indexes;
         views = stands.state.views;
-        few = λ q. few_created m.indexes i (created m.tables (target t place) all_rows) none q (leb-false index_limit (length (indexes_on m.indexes t)) few.0) stands.state.few;
+        preferences = stands.state.preferences;
+        few = λ q. few_created m.indexes i (created m.tables (target t place) prefs all_rows) none q (leb-false index_limit (length (indexes_on m.indexes t)) few.0) stands.state.few;
       };
     }

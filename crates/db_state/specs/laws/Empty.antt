@@ -1,11 +1,13 @@
 -- A new store: the empty content stands for the empty state.
-use Rattle.std.specs.Prelude.{ℕ, ◌≡◌, List, [], ◌∷◌, length, filter, IsSome, Option, Some, None, refl}
+use Rattle.std.specs.Prelude.{ℕ, ◌≡◌, Bool, List, [], ◌∷◌, length, filter, IsSome, Option, Some, None, refl}
 use Rattle.std.proofs.Common.{sym, ap, ◌∙◌, subst, arith}
 use Rattle.std.proofs.lemmas.Bool.{false≢true}
 use Rattle.std.specs.Ordering.{nat_cmp}
 use Rattle.std.specs.Cmp.Lexicographic.{slice_cmp}
 use Rattle.std.specs.FinMap.{get, empty, entries, get-empty, len-entries, len-empty}
 use Rattle.ct_keep.specs.Content.{Content}
+use Rattle.std.specs.Option.{option_map}
+use Rattle.ct_entry.specs.declared.kinds.Kind.{Kind}
 use Rattle.ct_entry.specs.declared.kinds.Kind.TheVariants as kind
 use Rattle.ct_entry.specs.Keys.{Key, key, bytes, at, same_list, row_part, text_part}
 use Rattle.ct_entry.specs.Maps.{Names}
@@ -17,6 +19,9 @@ use Rattle.ix_context.specs.Documents.{postings_in}
 use Rattle.ix_context.specs.Standing.{IndexStands, IndexesStand}
 use Rattle.ix_context.specs.laws.Syncs.{part_empty}
 use Rattle.ix_context.specs.Rules.{AreIndexes}
+use Rattle.tx_settings.specs.PrefsBytes.{are_lexer_settings, settings_bytes, words_bytes, group_bytes, is_named_group}
+use Rattle.tx_prefs.specs.Spelling.{NamesStand}
+use Rattle.tx_prefs.specs.Rules.{AreNamed, are_stopwords}
 use Rattle.db_state.specs.States.{empty_state, Stands}
 
 abbrev no_content : Content
@@ -75,17 +80,30 @@ are_indexes = record {
   one = λ i j x y is other table column. absurd (not_found i x is);
 }
 
+-- nothing is defined
+nothing_named : {X : Type 0} (k : Kind) (spelling : X → List ℕ) → NamesStand (at no_content) k spelling empty
+nothing_named {X} k spelling name = no_key (key k name []) ∙ ap (option_map spelling) (sym (get-empty (slice_cmp nat_cmp) name))
+
+none_named : {X : Type 0} (rule : X → Bool) → AreNamed rule empty
+none_named {X} rule = record {
+  names = λ n x is. absurd (not_found n x is);
+  each = λ n x is. absurd (not_found n x is);
+  few = let e = ap length (no_entries {X = X}) in omega (arith, e);
+}
+
 pub empty_stands : Stands empty empty_state
 empty_stands = record {
   only = λ b some. absurd (false≢true (subst (λ (o : Option (List ℕ)). IsSome o) (not_there b) some));
   unbuilt = λ k h. not_there (bytes k);
   tables = tables_stand;
   indexes = indexes_stand;
+  preferences = record { lexers = nothing_named kind.Preferences settings_bytes; stoplists = nothing_named kind.Stoplists words_bytes; groups = nothing_named kind.SectionGroups group_bytes };
   short_rows = λ k v h has. let wrong : None ≡ Some v = sym (no_key k) ∙ has in absurd cc;
   state = record {
     tables = are_tables;
     indexes = are_indexes;
     views = λ t x is. absurd (not_found t x is);
     few = λ t. let e = ap (λ (es : List (List ℕ × Index)). length (filter (λ e. same_list e.1.table t) es)) (no_entries {X = Index}) in omega (arith, e);
+    preferences = record { lexers = none_named are_lexer_settings; stoplists = none_named are_stopwords; groups = none_named is_named_group };
   };
 }

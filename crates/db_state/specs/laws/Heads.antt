@@ -16,7 +16,8 @@ use Rattle.ix_context.specs.Indexes.{Index, given}
 use Rattle.ix_context.specs.Rules.{AreIndexes, IsTarget}
 use Rattle.ix_context.specs.laws.Reading.{column_few}
 use Rattle.ix_context.specs.Standing.{IndexesStand}
-use Rattle.ix_context.specs.Spelling.{default_bytes, index_entry}
+use Rattle.ix_context.specs.Spelling.{index_entry}
+use Rattle.tx_settings.specs.PrefsBytes.{prefs_bytes}
 use Rattle.db_names.specs.declared.heads.IndexKind.TheVariants.{Context}
 use Rattle.db_names.specs.declared.heads.IndexHead.{IndexHead}
 use Rattle.db_names.specs.Heads.{IsHead, HasHeadOrNone, HeadsStand}
@@ -48,7 +49,7 @@ is_head ts x are target = record {
 entry_begins : (entry : Option (List ℕ)) (o : Option Index) → entry ≡ option_map index_entry o → HasHeadOrNone entry (option_map head_of_index o)
 entry_begins entry None is = is
 entry_begins entry (Some x) is =
-    let rest = 0 ∷ default_bytes ++ (to_be_bytes w32 (given x + 1) ++ 0 ∷ 0 ∷ 0 ∷ []) in
+    let rest = 0 ∷ prefs_bytes x.prefs ++ (0 ∷ (to_be_bytes w32 (given x + 1) ++ 0 ∷ 0 ∷ 0 ∷ [])) in
     record { rest = rest; whole = is ∙ ap Some (sym (append_assoc (1 ∷ text_bytes x.table) (x.column ∷ []) rest)) }
 
 -- Where entries spell indexes, they begin with the heads of these.

@@ -23,6 +23,7 @@ use Rattle.ix_context.specs.laws.Changes.{mark_is_row}
 use Rattle.ix_context.specs.Spelling.{index_entry}
 use Rattle.ix_context.specs.Rules.{AreIndexes}
 use Rattle.ix_context.specs.laws.Reading.{index_bytes_one}
+use Rattle.tx_prefs.specs.laws.Values.{one_preferences}
 use Rattle.db_state.specs.States.{State}
 use Rattle.db_state.specs.Promises.{without_waste, unwasted, but_for_waste, OneState}
 
@@ -131,8 +132,8 @@ context_is c d part marks i = OfContext (record { part = part i; marks = marks i
 body_is : (b d : Body) → (part_in b).given ≡ (part_in d).given → (part_in b).tidiness ≡ (part_in d).tidiness → marks_in b ≡ marks_in d → without_waste b ≡ without_waste d
 body_is (OfContext c) (OfContext d) given tidiness marks = context_is c d (part_is c.part d.part given tidiness) marks
 
-index_is : (x y : Index) → x.table ≡ y.table → x.column ≡ y.column → without_waste x.body ≡ without_waste y.body → record x { body = without_waste x.body } ≡ record y { body = without_waste y.body }
-index_is x y table column body i = record { table = table i; column = column i; body = body i }
+index_is : (x y : Index) → x.table ≡ y.table → x.column ≡ y.column → x.prefs ≡ y.prefs → without_waste x.body ≡ without_waste y.body → record x { body = without_waste x.body } ≡ record y { body = without_waste y.body }
+index_is x y table column prefs body i = record { table = table i; column = column i; prefs = prefs i; body = body i }
 
 one_mark : (o p : Option (Mark (Unit {0}))) → is_settled o ≡ is_settled p → queued o ≡ queued p → o ≡ p
 one_mark None None marked queue = refl
@@ -179,9 +180,9 @@ module _ (f : Key → Option (List ℕ)) (ts : Tables) (xs ys : Names Index) (ts
         let entry : Some (index_entry x) ≡ Some (index_entry y) = sym (ap (option_map index_entry) here) ∙ sym (xs_stand i).entry ∙ (ys_stand i).entry ∙ ap (option_map index_entry) there in
         let mine = (xs_are.each i x here).numbers in
         let other = (ys_are.each i y there).numbers in
-        let parts = index_bytes_one x.table y.table x.column y.column (given x + 1) (given y + 1) (omega (arith, mine)) (omega (arith, other)) cc in
-        index_is x y parts.0 parts.1
-        (body_is x.body y.body (let next = parts.2 in omega (arith, next)) ((xs_are.each i x here).untidy ∙ sym (ys_are.each i y there).untidy)
+        let parts = index_bytes_one x.table y.table x.column y.column x.prefs y.prefs (given x + 1) (given y + 1) (xs_are.each i x here).prefs (ys_are.each i y there).prefs (omega (arith, mine)) (omega (arith, other)) cc in
+        index_is x y parts.0 parts.1 parts.2
+        (body_is x.body y.body (let next = parts.3 in omega (arith, next)) ((xs_are.each i x here).untidy ∙ sym (ys_are.each i y there).untidy)
         (same_map int_cmp_total int_cmp-IsAntisymmetric (marks_in x.body) (marks_in y.body) same_marks))
 
   same_indexes : (i : List ℕ) → option_map unwasted (get xs i) ≡ option_map unwasted (get ys i)
@@ -202,8 +203,8 @@ module _ (f : Key → Option (List ℕ)) (ts : Tables) (xs ys : Names Index) (ts
 
 -- ---- the state
 
-state_is : (m n : State) → m.tables ≡ n.tables → each_value unwasted m.indexes ≡ each_value unwasted n.indexes → but_for_waste m ≡ but_for_waste n
-state_is m n tables indexes i = record { tables = tables i; indexes = indexes i }
+state_is : (m n : State) → m.tables ≡ n.tables → each_value unwasted m.indexes ≡ each_value unwasted n.indexes → m.preferences ≡ n.preferences → but_for_waste m ≡ but_for_waste n
+state_is m n tables indexes preferences i = record { tables = tables i; indexes = indexes i; preferences = preferences i }
 
 pub one_state : OneState
 one_state c m n first second =
@@ -212,3 +213,4 @@ one_state c m n first second =
     (one_indexes (at c) m.tables m.indexes n.indexes first.state.tables first.indexes
     (subst (λ (ts : Tables). IndexesStand (at c) ts n.indexes) (sym tables) second.indexes) first.state.indexes
     (subst (λ (ts : Tables). AreIndexes ts n.indexes) (sym tables) second.state.indexes))
+    (one_preferences (at c) m.preferences n.preferences first.preferences second.preferences first.state.preferences second.state.preferences)

@@ -58,17 +58,17 @@ changed_stands f ts us i x r are index there same stand =
     (settled_there f i (get (marks_in x.body)) (part_in x.body).given stand.context.document stand.context.row maps r (get (marks_in x.body) r) (stand.context.document r) refl refl))
   where
     others : (b : Body) → get (marks_in b) r ≡ Some Pending → ((s : ℤ) → int_eq s r ≡ false → is_settled (get (marks_in b) s) ≡ true → text_seen us x s ≡ text_seen ts x s)
-        → (s : ℤ) → is_settled (get (marks_in b) s) ≡ true → docs (text_seen us x) s ≡ docs (text_seen ts x) s
+        → (s : ℤ) → is_settled (get (marks_in b) s) ≡ true → docs x.prefs (text_seen us x) s ≡ docs x.prefs (text_seen ts x) s
     others b waits same s settled = at (int_eq s r) refl
       where
-        at : (t : Bool) → int_eq s r ≡ t → docs (text_seen us x) s ≡ docs (text_seen ts x) s
+        at : (t : Bool) → int_eq s r ≡ t → docs x.prefs (text_seen us x) s ≡ docs x.prefs (text_seen ts x) s
         at true e = let wrong : true ≡ false = sym settled ∙ ap (λ (z : ℤ). is_settled (get (marks_in b) z)) (int_from_eq s r e) ∙ ap is_settled waits in cc
-        at false e = ap text_postings (same s e settled)
+        at false e = ap (text_postings x.prefs) (same s e settled)
 
     entry : (b : Body) (o : Option ℕ) → IndexStands f ts i (Some (record x { body = b })) → (part_in (note_changed (row_cost ts i x r) r b)).given ≡ (part_in b).given
-        → told (changed_changes i r o) (key kind.Indexes i []) (f (key kind.Indexes i [])) ≡ Some (index_bytes x.table x.column ((part_in (note_changed (row_cost ts i x r) r b)).given + 1))
+        → told (changed_changes i r o) (key kind.Indexes i []) (f (key kind.Indexes i [])) ≡ Some (index_bytes x.table x.column x.prefs ((part_in (note_changed (row_cost ts i x r) r b)).given + 1))
     entry b o stand same =
-        told_frame is_of_map (changed_changes i r o) (key kind.Indexes i []) (f (key kind.Indexes i [])) (all_changed i r o) refl ∙ stand.entry ∙ ap (λ (n : ℕ). Some (index_bytes x.table x.column (n + 1))) (sym same)
+        told_frame is_of_map (changed_changes i r o) (key kind.Indexes i []) (f (key kind.Indexes i [])) (all_changed i r o) refl ∙ stand.entry ∙ ap (λ (n : ℕ). Some (index_bytes x.table x.column x.prefs (n + 1))) (sym same)
 
     go : (b : Body) (m : Option (Mark (Unit {0}))) → get (marks_in b) r ≡ m → is_some m ≡ true → (part_in b).given < 2 ^ 32 → IsRow r
         → ((s : ℤ) → int_eq s r ≡ false → is_settled (get (marks_in b) s) ≡ true → text_seen us x s ≡ text_seen ts x s)
@@ -79,11 +79,11 @@ changed_stands f ts us i x r are index there same stand =
     go (OfContext c) (Some (Settled a)) mark some room is_row same stand None is settled = cc
     go (OfContext c) (Some Pending) mark some room is_row same stand None is settled = record {
       entry = entry (OfContext c) None stand (given-wasted (get c.marks r) (row_cost ts i x r) c.part);
-      context = context_changed_waiting f i (docs (text_seen ts x)) (docs (text_seen us x)) (row_cost ts i x r) c r mark (others (OfContext c) mark same) stand.context;
+      context = context_changed_waiting f i (docs x.prefs (text_seen ts x)) (docs x.prefs (text_seen us x)) (row_cost ts i x r) c r mark (others (OfContext c) mark same) stand.context;
     }
     go (OfContext c) (Some (Settled a)) mark some room is_row same stand (Some d) is settled = record {
       entry = entry (OfContext c) (Some d) stand (given-wasted (get c.marks r) (row_cost ts i x r) c.part);
-      context = context_changed f i (docs (text_seen ts x)) (docs (text_seen us x)) c r is_row mark room (λ s other settled. ap text_postings (same s other settled)) stand.context d is;
+      context = context_changed f i (docs x.prefs (text_seen ts x)) (docs x.prefs (text_seen us x)) c r is_row mark room (λ s other settled. ap (text_postings x.prefs) (same s other settled)) stand.context d is;
     }
 
 -- ---- all indexes on the table
@@ -189,11 +189,13 @@ row_changed_keeps ts us xs t columns r there sets are =
       numbers =
           let n = ap (λ (p : Part). p.given) (part_in-note_changed (row_cost ts i x r) r x.body) ∙ given-wasted (get (marks_in x.body) r) (row_cost ts i x r) (part_in x.body) in
           subst (λ (n : ℕ). n ≤ most_given) (sym n) is.numbers;
+      prefs = is.prefs;
       untidy = ap (λ (p : Part). p.tidiness) (part_in-note_changed (row_cost ts i x r) r x.body) ∙ untidy-wasted (get (marks_in x.body) r) (row_cost ts i x r) (part_in x.body) is.untidy;
     }
     index i x table is false = record {
       target = target_alike ts us sets.alike x.table x.column is.target;
       marks = λ s. is.marks s ∙ same_rows x table is s (int_eq s r) refl;
+      prefs = is.prefs;
       numbers = is.numbers;
       untidy = is.untidy;
     }
@@ -205,6 +207,7 @@ row_changed_keeps ts us xs t columns r there sets are =
     others x other is = record {
       target = target_alike ts us sets.alike x.table x.column is.target;
       marks = λ s. is.marks s ∙ ap is_some (sym (sets.others x.table s (ap (λ (b : Bool). b && int_eq s r) other)));
+      prefs = is.prefs;
       numbers = is.numbers;
       untidy = is.untidy;
     }

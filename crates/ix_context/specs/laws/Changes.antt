@@ -30,11 +30,15 @@ use Rattle.ix_docmap.specs.Marks.{Mark, Pending, Settled, Marks, is_settled}
 use Rattle.ix_docmap.specs.laws.Documents.{settled_in}
 use Rattle.ix_context.specs.Indexes.{Index, Body, OfContext, Context, given, part_in, marks_in, no_part, mark_of, in_queue, waiting_rows, pending_rows, text_seen, note_new, made, all_settled, synced_body, noted_index, noted, synced_index, synced, in_range, rows_in, settled_rows, created, with_index}
 use Rattle.ix_context.specs.Rules.{IsIndex, most_given}
-use Rattle.ix_context.specs.Postings.{postings_of}
+use Rattle.tx_settings.specs.declared.preferences.Prefs.{Prefs}
+use Rattle.tx_document.specs.declared.entries.Entry.{Entry}
+use Rattle.tx_settings.specs.Defaults.{default_prefs}
+use Rattle.tx_settings.specs.PrefsBytes.{IsPrefs}
+use Rattle.ix_context.specs.Postings.{text_entries, is_section}
 use Rattle.ix_context.specs.Documents.{seen_in}
 use Rattle.ix_context.specs.Standing.{PartStands, IndexStands, IndexesStand}
 use Rattle.ix_context.specs.Spelling.{index_bytes, index_entry}
-use Rattle.ix_context.specs.Changes.{note_insert_changes, posting_change, text_changes, document_changes, mark_with, mark_changes, settle_changes, sync_rows_changes, sync_changes, create_changes}
+use Rattle.ix_context.specs.Changes.{note_insert_changes, word_change, section_change, entry_change, text_changes, document_changes, mark_with, mark_changes, settle_changes, sync_rows_changes, sync_changes, create_changes}
 use Rattle.ix_context.specs.laws.Standing.{is_of_part, index_sees, one_changes, entry_put, entry_here}
 use Rattle.ix_context.specs.laws.Parts.{part_see}
 use Rattle.ix_context.specs.laws.Notes.{context_new}
@@ -99,7 +103,7 @@ noted_stands f ts i x r free is_row stand = go x.body free stand
     go : (b : Body) → get (marks_in b) r ≡ None → IndexStands f ts i (Some (record x { body = b })) → IndexStands (view (note_insert_changes i r) f) ts i (Some (record x { body = note_new r b }))
     go (OfContext c) free stand = record {
       entry = stand.entry;
-      context = context_new f i (docs (text_seen ts x)) (docs (text_seen ts x)) c r is_row free (λ s settled. refl) stand.context;
+      context = context_new f i (docs x.prefs (text_seen ts x)) (docs x.prefs (text_seen ts x)) c r is_row free (λ s settled. refl) stand.context;
     }
 
 pub note_stands : NotedRowsStand
@@ -110,37 +114,45 @@ note_stands f ts xs i x r is free is_row stand =
 
 -- ---- which changes they are
 
-pub all_document : (i : List ℕ) (d : ℕ) (r : ℤ) (text : Option (List ℕ)) → AllOf is_of_part (document_changes i d r text)
-all_document i d r text = (refl, (refl, of_text text))
+pub all_document : (p : Prefs) (i : List ℕ) (d : ℕ) (r : ℤ) (text : Option (List ℕ)) → AllOf is_of_part (document_changes p i d r text)
+all_document p i d r text = (refl, (refl, of_text text))
   where
-    of_entries : (es : List (List ℕ × List ℕ)) → AllOf is_of_part (map (posting_change i d) es)
+    of_entry : (e : Entry) (b : Bool) → is_of_part (cond b (section_change i d e) (word_change i d e)).0.kind ≡ true
+    of_entry e true = refl
+    of_entry e false = refl
+
+    of_entries : (es : List Entry) → AllOf is_of_part (map (entry_change i d) es)
     of_entries [] = tt
-    of_entries (e ∷ es) = (refl, of_entries es)
+    of_entries (e ∷ es) = (of_entry e (is_section e), of_entries es)
 
-    of_text : (text : Option (List ℕ)) → AllOf is_of_part (text_changes i d text)
+    of_text : (text : Option (List ℕ)) → AllOf is_of_part (text_changes p i d text)
     of_text None = tt
-    of_text (Some t) = of_entries (entries (postings_of t))
+    of_text (Some t) = of_entries (text_entries p t)
 
-all_on_texts : (i : List ℕ) (d : ℕ) (text : Option (List ℕ)) → AllOn i (text_changes i d text)
-all_on_texts i d None = tt
-all_on_texts i d (Some t) = go (entries (postings_of t))
+all_on_texts : (p : Prefs) (i : List ℕ) (d : ℕ) (text : Option (List ℕ)) → AllOn i (text_changes p i d text)
+all_on_texts p i d None = tt
+all_on_texts p i d (Some t) = go (text_entries p t)
   where
-    go : (es : List (List ℕ × List ℕ)) → AllOn i (map (posting_change i d) es)
-    go [] = tt
-    go (e ∷ es) = (refl, go es)
+    one : (e : Entry) (b : Bool) → (cond b (section_change i d e) (word_change i d e)).0.owner ≡ i
+    one e true = refl
+    one e false = refl
 
-pub all_on_document : (i : List ℕ) (d : ℕ) (r : ℤ) (text : Option (List ℕ)) → AllOn i (document_changes i d r text)
-all_on_document i d r text = (refl, (refl, all_on_texts i d text))
+    go : (es : List Entry) → AllOn i (map (entry_change i d) es)
+    go [] = tt
+    go (e ∷ es) = (one e (is_section e), go es)
+
+pub all_on_document : (p : Prefs) (i : List ℕ) (d : ℕ) (r : ℤ) (text : Option (List ℕ)) → AllOn i (document_changes p i d r text)
+all_on_document p i d r text = (refl, (refl, all_on_texts p i d text))
 
 pub all_on_sync : (ts : Tables) (i : List ℕ) (x : Index) (rows : List ℤ) → AllOn i (sync_rows_changes ts i x rows)
 all_on_sync ts i x [] = tt
 all_on_sync ts i x (r ∷ rs) =
-    all_on-append i (each (settle_changes ts i x) (numbered (given x + 1) (r ∷ rs))) _ (all_on-each i (settle_changes ts i x) (λ p. (refl, all_on_document i p.0 p.1 (text_seen ts x p.1))) (numbered (given x + 1) (r ∷ rs))) (refl, tt)
+    all_on-append i (each (settle_changes ts i x) (numbered (given x + 1) (r ∷ rs))) _ (all_on-each i (settle_changes ts i x) (λ p. (refl, all_on_document x.prefs i p.0 p.1 (text_seen ts x p.1))) (numbered (given x + 1) (r ∷ rs))) (refl, tt)
 
-pub all_on_create : (ts : Tables) (i : List ℕ) (target : Target) (range : KeyRange) → AllOn i (create_changes ts i target range)
-all_on_create ts i target range = (
+pub all_on_create : (ts : Tables) (i : List ℕ) (target : Target) (prefs : Prefs) (range : KeyRange) → AllOn i (create_changes ts i target prefs range)
+all_on_create ts i target prefs range = (
   refl,
-  all_on-each i (λ (p : ℕ × ℤ). mark_changes ts i (created ts target range) p.0 p.1) (λ p. all_on_document i p.0 p.1 (text_seen ts (created ts target range) p.1)) (numbered 1 (rows_in ts target.table range)),
+  all_on-each i (λ (p : ℕ × ℤ). mark_changes ts i (created ts target prefs range) p.0 p.1) (λ p. all_on_document prefs i p.0 p.1 (text_seen ts (created ts target prefs range) p.1)) (numbered 1 (rows_in ts target.table range)),
 )
 
 -- ---- a synchronisation
@@ -170,11 +182,11 @@ rows_wait ts x are is =
     go r (Some (Settled a)) here there = cc
 
 synced_part : (f : Key → Option (List ℕ)) (ts : Tables) (i : List ℕ) (x : Index) → given x + length (pending_rows x) ≤ most_given → AreTables ts → IsIndex ts x
-    → PartStands f i (docs (text_seen ts x)) (get (marks_in x.body)) (part_in x.body)
-    → PartStands (view (each (settle_changes ts i x) (numbered (given x + 1) (pending_rows x))) f) i (docs (text_seen ts x)) (settled_in (pending_rows x) (get (marks_in x.body))) (made (length (pending_rows x)) (part_in x.body))
+    → PartStands f i (docs x.prefs (text_seen ts x)) (get (marks_in x.body)) (part_in x.body)
+    → PartStands (view (each (settle_changes ts i x) (numbered (given x + 1) (pending_rows x))) f) i (docs x.prefs (text_seen ts x)) (settled_in (pending_rows x) (get (marks_in x.body))) (made (length (pending_rows x)) (part_in x.body))
 synced_part f ts i x room are is stand =
-    parts_all (settle_changes ts i x) i (docs (text_seen ts x)) (λ m. not (is_settled m))
-    (λ g mark part r is_row free room stand. part_settled g i (text_seen ts x) mark part r is_row (not-true _ free) room (seen_is_short ts are x r) stand)
+    parts_all (settle_changes ts i x) i (docs x.prefs (text_seen ts x)) (λ m. not (is_settled m))
+    (λ g mark part r is_row free room stand. part_settled g x.prefs is.prefs i (text_seen ts x) mark part r is_row (not-true _ free) room (seen_is_short ts are x r) stand)
     (pending_rows x) f (get (marks_in x.body)) (part_in x.body) (pending_rise x) (rows_wait ts x are is) (omega arith) stand
 
 synced_stands : (f : Key → Option (List ℕ)) (ts : Tables) (i : List ℕ) (x : Index) → given x + length (pending_rows x) ≤ most_given → AreTables ts
@@ -182,24 +194,24 @@ synced_stands : (f : Key → Option (List ℕ)) (ts : Tables) (i : List ℕ) (x 
 synced_stands f ts i x room are is stand = of_body x.body (pending_rows x) refl stand.entry (synced_part f ts i x room are is stand.context)
   where
     of_body : (b : Body) (rows : List ℤ) → waiting_rows (marks_in b) ≡ rows → f (key kind.Indexes i []) ≡ Some (index_entry (record x { body = b }))
-        → PartStands (view (each (settle_changes ts i x) (numbered ((part_in b).given + 1) rows)) f) i (docs (text_seen ts x)) (settled_in rows (get (marks_in b))) (made (length rows) (part_in b))
+        → PartStands (view (each (settle_changes ts i x) (numbered ((part_in b).given + 1) rows)) f) i (docs x.prefs (text_seen ts x)) (settled_in rows (get (marks_in b))) (made (length rows) (part_in b))
         → IndexStands (view (sync_rows_changes ts i (record x { body = b }) rows) f) ts i (Some (record x { body = synced_body b }))
     of_body (OfContext c) rows is_rows entry part = go rows is_rows (marks_as part)
       where
         now : Context
         now = record { part = made (length (waiting_rows c.marks)) c.part; marks = all_settled c.marks }
 
-        marks_as : PartStands (view (each (settle_changes ts i x) (numbered (c.part.given + 1) rows)) f) i (docs (text_seen ts x)) (settled_in rows (get c.marks)) (made (length rows) c.part)
-            → PartStands (view (each (settle_changes ts i x) (numbered (c.part.given + 1) rows)) f) i (docs (text_seen ts x)) (get (all_settled c.marks)) (made (length (waiting_rows c.marks)) c.part)
+        marks_as : PartStands (view (each (settle_changes ts i x) (numbered (c.part.given + 1) rows)) f) i (docs x.prefs (text_seen ts x)) (settled_in rows (get c.marks)) (made (length rows) c.part)
+            → PartStands (view (each (settle_changes ts i x) (numbered (c.part.given + 1) rows)) f) i (docs x.prefs (text_seen ts x)) (get (all_settled c.marks)) (made (length (waiting_rows c.marks)) c.part)
         marks_as part =
-            subst (λ (m : Marks). PartStands (view (each (settle_changes ts i x) (numbered (c.part.given + 1) rows)) f) i (docs (text_seen ts x)) m (made (length (waiting_rows c.marks)) c.part)) (λ j r. settled_pending c.marks r j)
-            (subst (λ (l : List ℤ). PartStands (view (each (settle_changes ts i x) (numbered (c.part.given + 1) rows)) f) i (docs (text_seen ts x)) (settled_in l (get c.marks)) (made (length l) c.part)) (sym is_rows) part)
+            subst (λ (m : Marks). PartStands (view (each (settle_changes ts i x) (numbered (c.part.given + 1) rows)) f) i (docs x.prefs (text_seen ts x)) m (made (length (waiting_rows c.marks)) c.part)) (λ j r. settled_pending c.marks r j)
+            (subst (λ (l : List ℤ). PartStands (view (each (settle_changes ts i x) (numbered (c.part.given + 1) rows)) f) i (docs x.prefs (text_seen ts x)) (settled_in l (get c.marks)) (made (length l) c.part)) (sym is_rows) part)
 
         go : (rows : List ℤ) → waiting_rows c.marks ≡ rows
-            → PartStands (view (each (settle_changes ts i x) (numbered (c.part.given + 1) rows)) f) i (docs (text_seen ts x)) (get (all_settled c.marks)) (made (length (waiting_rows c.marks)) c.part)
+            → PartStands (view (each (settle_changes ts i x) (numbered (c.part.given + 1) rows)) f) i (docs x.prefs (text_seen ts x)) (get (all_settled c.marks)) (made (length (waiting_rows c.marks)) c.part)
             → IndexStands (view (sync_rows_changes ts i (record x { body = OfContext c }) rows) f) ts i (Some (record x { body = OfContext now }))
         go [] none part = record {
-          entry = entry ∙ ap (λ (n : ℕ). Some (index_bytes x.table x.column (n + 1))) (ap (λ (l : List ℤ). (made (length l) c.part).given) (sym none));
+          entry = entry ∙ ap (λ (n : ℕ). Some (index_bytes x.table x.column x.prefs (n + 1))) (ap (λ (l : List ℤ). (made (length l) c.part).given) (sym none));
           context = part;
         }
         go (r ∷ rs) some part =
@@ -207,7 +219,7 @@ synced_stands f ts i x room are is stand = of_body x.body (pending_rows x) refl 
             let last = put (key kind.Indexes i []) (index_entry (record x { body = OfContext now })) ∷ [] in
             record {
               entry = told-append changes last (key kind.Indexes i []) (f (key kind.Indexes i [])) ∙ entry_here i (index_entry (record x { body = OfContext now })) (told changes (key kind.Indexes i []) (f (key kind.Indexes i [])));
-              context = subst (λ (g : Key → Option (List ℕ)). PartStands g i (docs (text_seen ts x)) (get (all_settled c.marks)) (made (length (waiting_rows c.marks)) c.part)) (sym (view-append changes last f)) (entry_put (view changes f) i (index_entry (record x { body = OfContext now })) (docs (text_seen ts x)) (get (all_settled c.marks)) (made (length (waiting_rows c.marks)) c.part) part);
+              context = subst (λ (g : Key → Option (List ℕ)). PartStands g i (docs x.prefs (text_seen ts x)) (get (all_settled c.marks)) (made (length (waiting_rows c.marks)) c.part)) (sym (view-append changes last f)) (entry_put (view changes f) i (index_entry (record x { body = OfContext now })) (docs x.prefs (text_seen ts x)) (get (all_settled c.marks)) (made (length (waiting_rows c.marks)) c.part) part);
             }
 
 pub sync_stands : SyncedIndexesStand
@@ -289,36 +301,36 @@ not_some : (o : Option (Mark (Unit {0}))) → not (is_some o) ≡ true → o ≡
 not_some None h = refl
 not_some (Some m) h = cc
 
-created_part : (f : Key → Option (List ℕ)) (ts : Tables) (i : List ℕ) (target : Target) (range : KeyRange)
-    → length (rows_in ts target.table range) ≤ most_given → AreTables ts → PartStands f i (docs (λ _. None)) no_marks no_part
-    → PartStands (view (each (mark_with i (text_seen ts (created ts target range))) (numbered 1 (rows_in ts target.table range))) f) i (docs (text_seen ts (created ts target range))) (get (settled_rows (rows_in ts target.table range))) (made (length (rows_in ts target.table range)) no_part)
-created_part f ts i target range room are stand =
-    let x = created ts target range in
+created_part : (f : Key → Option (List ℕ)) (ts : Tables) (i : List ℕ) (target : Target) (prefs : Prefs) (range : KeyRange) → IsPrefs prefs
+    → length (rows_in ts target.table range) ≤ most_given → AreTables ts → PartStands f i (docs default_prefs (λ _. None)) no_marks no_part
+    → PartStands (view (each (mark_with prefs i (text_seen ts (created ts target prefs range))) (numbered 1 (rows_in ts target.table range))) f) i (docs prefs (text_seen ts (created ts target prefs range))) (get (settled_rows (rows_in ts target.table range))) (made (length (rows_in ts target.table range)) no_part)
+created_part f ts i target prefs range prefs_are room are stand =
+    let x = created ts target prefs range in
     let rows = rows_in ts target.table range in
-    subst (λ (m : Marks). PartStands (view (each (mark_with i (text_seen ts x)) (numbered 1 rows)) f) i (docs (text_seen ts x)) m (made (length rows) no_part)) (λ j s. sym (settled_row rows s) j)
-    (subst (λ (m : Marks). PartStands (view (each (mark_with i (text_seen ts x)) (numbered 1 rows)) f) i (docs (text_seen ts x)) m (made (length rows) no_part)) (λ j s. settled_in-at rows no_marks s j)
-    (parts_all (mark_with i (text_seen ts x)) i (docs (text_seen ts x)) (λ m. not (is_some m))
-    (λ g mark part r is_row free room stand. part_marked g i (text_seen ts x) mark part r is_row (not_some _ free) room (seen_is_short ts are x r) stand)
+    subst (λ (m : Marks). PartStands (view (each (mark_with prefs i (text_seen ts x)) (numbered 1 rows)) f) i (docs prefs (text_seen ts x)) m (made (length rows) no_part)) (λ j s. sym (settled_row rows s) j)
+    (subst (λ (m : Marks). PartStands (view (each (mark_with prefs i (text_seen ts x)) (numbered 1 rows)) f) i (docs prefs (text_seen ts x)) m (made (length rows) no_part)) (λ j s. settled_in-at rows no_marks s j)
+    (parts_all (mark_with prefs i (text_seen ts x)) i (docs x.prefs (text_seen ts x)) (λ m. not (is_some m))
+    (λ g mark part r is_row free room stand. part_marked g prefs prefs_are i (text_seen ts x) mark part r is_row (not_some _ free) room (seen_is_short ts are x r) stand)
     rows f no_marks no_part (filter_rise (in_range range) (row_keys ts target.table) (rows_rise ts target.table)) (rows_free ts are target.table range) (omega arith)
-    (part_see f i (docs (λ _. None)) (docs (text_seen ts x)) no_marks no_part (λ r h. cc) stand)))
+    (part_see f i (docs default_prefs (λ _. None)) (docs x.prefs (text_seen ts x)) no_marks no_part (λ r h. cc) stand)))
 
-pub created_stands : (f : Key → Option (List ℕ)) (ts : Tables) (i : List ℕ) (target : Target) (range : KeyRange)
+pub created_stands : (f : Key → Option (List ℕ)) (ts : Tables) (i : List ℕ) (target : Target) (prefs : Prefs) (range : KeyRange) → IsPrefs prefs
     → length (rows_in ts target.table range) ≤ most_given → AreTables ts → IndexStands f ts i None
-    → IndexStands (view (create_changes ts i target range) f) ts i (Some (created ts target range))
-created_stands f ts i target range room are stand =
-    let x = created ts target range in
+    → IndexStands (view (create_changes ts i target prefs range) f) ts i (Some (created ts target prefs range))
+created_stands f ts i target prefs range prefs_are room are stand =
+    let x = created ts target prefs range in
     let first = put (key kind.Indexes i []) (index_entry x) ∷ [] in
-    let changes = each (mark_with i (text_seen ts x)) (numbered 1 (rows_in ts target.table range)) in
+    let changes = each (mark_with prefs i (text_seen ts x)) (numbered 1 (rows_in ts target.table range)) in
     record {
       entry =
-          told_frame is_of_part changes (key kind.Indexes i []) (told first (key kind.Indexes i []) (f (key kind.Indexes i []))) (all_each is_of_part (mark_with i (text_seen ts x)) (λ p. all_document i p.0 p.1 (text_seen ts x p.1)) (numbered 1 (rows_in ts target.table range))) refl
+          told_frame is_of_part changes (key kind.Indexes i []) (told first (key kind.Indexes i []) (f (key kind.Indexes i []))) (all_each is_of_part (mark_with prefs i (text_seen ts x)) (λ p. all_document prefs i p.0 p.1 (text_seen ts x p.1)) (numbered 1 (rows_in ts target.table range))) refl
           ∙ entry_here i (index_entry x) (f (key kind.Indexes i []));
-      context = created_part (view first f) ts i target range room are (entry_put f i (index_entry x) (docs (λ _. None)) no_marks no_part stand.context);
+      context = created_part (view first f) ts i target prefs range prefs_are room are (entry_put f i (index_entry x) (docs default_prefs (λ _. None)) no_marks no_part stand.context);
     }
 
 pub create_stands : CreatedIndexesStand
-create_stands f ts xs i target range free room are stand =
-    let x = created ts target range in
-    one_changes f ts xs (with_index ts xs i target range) i (create_changes ts i target range) (all_on_create ts i target range) (λ q other. get_name-insert xs i x q ∙ ap (λ (b : Bool). cond b (Some x) (get xs q)) other) stand
-    (subst (IndexStands (view (create_changes ts i target range) f) ts i) (sym (get_name-insert xs i x i ∙ ap (λ (b : Bool). cond b (Some x) (get xs i)) (list_same i)))
-    (created_stands f ts i target range room are (subst (IndexStands f ts i) free (stand i))))
+create_stands f ts xs i target prefs range free prefs_are room are stand =
+    let x = created ts target prefs range in
+    one_changes f ts xs (with_index ts xs i target prefs range) i (create_changes ts i target prefs range) (all_on_create ts i target prefs range) (λ q other. get_name-insert xs i x q ∙ ap (λ (b : Bool). cond b (Some x) (get xs q)) other) stand
+    (subst (IndexStands (view (create_changes ts i target prefs range) f) ts i) (sym (get_name-insert xs i x i ∙ ap (λ (b : Bool). cond b (Some x) (get xs i)) (list_same i)))
+    (created_stands f ts i target prefs range prefs_are room are (subst (IndexStands f ts i) free (stand i))))

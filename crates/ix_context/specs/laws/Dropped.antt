@@ -134,6 +134,7 @@ drop_table_keeps ts us xs t same are =
     index_stays x other index = record {
       target = record { table = index.target.table; there = same x.table other ∙ index.target.there; texts = index.target.texts };
       marks = λ r. index.marks r ∙ sym (ap (λ (o : Option Table). is_some (row_in o r)) (same x.table other));
+      prefs = index.prefs;
       numbers = index.numbers;
       untidy = index.untidy;
     }

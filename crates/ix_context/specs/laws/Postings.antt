@@ -1,120 +1,149 @@
--- What holds of the postings of every text.
-use Rattle.std.proofs.Common.{◌≡◌, ℕ, zero, suc, ◌+◌, ◌-◌, ◌*◌, ◌^◌, ◌<◌, ◌≤◌, Bool, true, false, cond, List, [], ◌∷◌, length, map, Option, Some, None, refl, sym, ap, ◌∙◌, arith}
-use Rattle.std.proofs.lemmas.List.{length-append, length-map}
-use Rattle.std.specs.Char.{len_utf8}
-use Rattle.std.specs.Str.{chars, chars_after, continuation_len, lead_bits}
-use Rattle.std.specs.Ordering.{nat_cmp}
+-- What holds of the entries of every text: each makes a row of postings or a section's, and no two stand under one term.
+use Rattle.std.proofs.Common.{◌≡◌, ℕ, ◌+◌, ◌*◌, ◌^◌, ◌<◌, ◌≤◌, Bool, true, false, cond, List, [], ◌∷◌, length, Some, None, refl, sym, ap, subst, ◌∙◌, inl, inr, arith}
+use Rattle.std.specs.Prelude.{All, ◌==◌}
+use Rattle.std.specs.List.{AllByRecursion, cons_option}
+use Rattle.std.specs.Ordering.{nat_cmp, eq_by_cmp}
 use Rattle.std.specs.Cmp.Lexicographic.{slice_cmp}
-use Rattle.std.specs.FinMap.{get, find, get-from_entries}
+use Rattle.std.specs.FinMap.{find}
+use Rattle.std.specs.FinMap as fin
+use Rattle.std.proofs.lemmas.Bool.{ne_eqb}
 use Rattle.std.proofs.lemmas.Cmp.{nat_list_cmp_total}
-use Rattle.tx_lexer.specs.declared.roles.Role.{Role}
-use Rattle.tx_lexer.specs.declared.roles.Role.TheVariants.{Out, Core, Number, Skip, Start, End}
-use Rattle.tx_lexer.specs.declared.tokens.Token.{Token}
-use Rattle.tx_lexer.specs.Tokens.{Rules, Place, places, keyed, token, tokens_after, uncut, run_text, stop_of, after_of, is_cut, default}
-use Rattle.ix_posting.specs.Rows.{Rise}
-use Rattle.ct_entry.specs.Keys.{same_list}
-use Rattle.ct_entry.specs.laws.Keys.{list_from_same}
-use Rattle.ct_entry.specs.laws.Maps.{names_tie}
-use Rattle.ix_context.specs.Postings.{positions_from, positions, words_of, if_any, postings_of}
+use Rattle.std.proofs.lemmas.List.{length-map}
+use Rattle.std.proofs.lemmas.List.Elements.{All-map, recursion_from_All}
+use Rattle.ct_base.specs.Limits.{stream_limit}
+use Rattle.ct_base.specs.declared.numbers.Pair.{Pair}
+use Rattle.ct_keep.specs.FoundKeys.{all_entries}
+use Rattle.tx_settings.specs.declared.preferences.Prefs.{Prefs}
+use Rattle.tx_document.specs.declared.entries.Entry.{Entry}
+use Rattle.tx_document.specs.Documents.{pair}
+use Rattle.tx_document.specs.Entries.{section_stream, place_map, places_under, entry_of}
+use Rattle.tx_settings.specs.PrefsBytes.{IsPrefs}
+use Rattle.tx_document.specs.Promises.{IsWordEntry, IsSectionEntry, PositionsRise, PairsRise as PlacesRise, as_pairs, if_any}
+use Rattle.tx_document.specs.laws.Found.{places_are_found}
+use Rattle.tx_document.specs.laws.Ordered.{entries_are_ordered}
+use Rattle.tx_document.specs.laws.Few.{places_are_few}
+use Rattle.ix_posting.specs.Rows.{Rise, IsPostingRow}
+use Rattle.ix_posting.specs.SpanRows.{PairsRise, no_pair, IsSpanRow}
+use Rattle.ix_rows.specs.WordRows.{word_term}
+use Rattle.ix_context.specs.Postings.{text_places, text_entries, is_section, firsts, section_term, word_terms, section_terms, IsWord, IsSection, IsOneOf, IsPosting, text_limit}
+use Rattle.ix_context.specs.Documents.{word_posting, span_posting}
 
--- this, where there is a position
-abbrev where_any : List ℕ → Option (List ℕ) → Option (List ℕ)
-where_any [] o = None
-where_any (p ∷ ps) o = o
+-- a name of places, with the places that it has
+abbrev pub Named : Type 0
+Named = List ℕ × List Pair
 
-any_positions : (ps : List ℕ) → where_any ps (Some ps) ≡ if_any ps
-any_positions [] = refl
-any_positions (p ∷ ps) = refl
+-- the names of a text, in the order of their bytes
+abbrev pub text_names : Prefs → List ℕ → List Named
+text_names p text = fin.entries (place_map (text_places p text))
 
--- of words, each with what f gives it, those that have a key stand where it has positions
-find_word : (f : List ℕ → List ℕ) (key : List ℕ) (place : ℕ) (ws : List (List ℕ))
-    → find (slice_cmp nat_cmp) key (map (λ w. (w, f w)) ws) ≡ where_any (positions_from place key ws) (Some (f key))
-find_word f key place [] = refl
-find_word f key place (w ∷ ws) =
-    ap (λ (b : Bool). cond b (Some (f w)) (find (slice_cmp nat_cmp) key (map (λ w. (w, f w)) ws))) (names_tie key w)
-    ∙ here (same_list key w) refl (find_word f key (place + 1) ws)
+-- ---- each is a word or a section
+
+pub firsts_of_pairs : (ps : List ℕ) → firsts (as_pairs ps) ≡ ps
+firsts_of_pairs [] = refl
+firsts_of_pairs (p ∷ ps) = ap (λ (l : List ℕ). p ∷ l) (firsts_of_pairs ps)
+
+rise_so : (before : ℕ) (ps : List ℕ) → PositionsRise before ps → Rise before ps
+rise_so before [] rise = tt
+rise_so before (p ∷ ps) rise = (rise.0, rise.1, rise_so p ps rise.2)
+
+pairs_rise_so : (before : Pair) (ps : List Pair) → PlacesRise before ps → PairsRise before ps
+pairs_rise_so before [] rise = tt
+pairs_rise_so before (p ∷ ps) rise = (rise.0, rise.1, rise.2, rise.3, pairs_rise_so p ps rise.4)
+
+low_stream : (stream : ℕ) → stream ≤ stream_limit → (stream == section_stream) ≡ false
+low_stream stream low = ne_eqb stream section_stream (λ same. absurd (omega (arith, low, same)))
+
+word_fits : (name : List ℕ) (places : List Pair) → IsWordEntry name places → IsPosting (entry_of (name, places))
+word_fits name places is =
+    subst (λ (n : Named). IsPosting (entry_of n)) (λ i. (sym is.named i, places))
+    (subst (λ (b : Bool). IsOneOf b (entry_of (is.stream ∷ is.token, places))) (sym (low_stream is.stream is.main_or_field))
+    (record {
+      stream = is.main_or_field;
+      token = record { some = is.some; short = is.short };
+      some = subst (λ (l : List Pair). 1 ≤ length l) (sym is.are) (let long = length-map is.positions (λ (p : ℕ). pair p p) in let some = is.anywhere in omega (arith, long, some));
+      rise = subst (λ (l : List Pair). Rise 0 (firsts l)) (sym is.are) (subst (Rise 0) (sym (firsts_of_pairs is.positions)) (rise_so 0 is.positions is.rise));
+    }))
+
+section_fits : (name : List ℕ) (places : List Pair) → IsSectionEntry name places → IsPosting (entry_of (name, places))
+section_fits name places is =
+    subst (λ (n : Named). IsPosting (entry_of n)) (λ i. (sym is.named i, places))
+    (record { named = is.is_name; some = is.anywhere; few = is.few; rise = pairs_rise_so no_pair places is.rise })
+
+pub names_fit : (p : Prefs) (text : List ℕ) → IsPrefs p → length text ≤ 2 ^ 24 → All (λ (n : Named). IsPosting (entry_of n)) (text_names p text)
+names_fit p text is short = all_entries (slice_cmp nat_cmp) nat_list_cmp_total (λ (n : Named). IsPosting (entry_of n)) (place_map (text_places p text)) (λ name places found.
+    elim (entries_are_ordered p text is short name places found) [ inl w ↦ word_fits name places w | inr s ↦ section_fits name places s ])
+
+-- each entry of a text may stand in a row of postings, or of a section
+pub entries_fit : (p : Prefs) (text : List ℕ) → IsPrefs p → length text ≤ 2 ^ 24 → All IsPosting (text_entries p text)
+entries_fit p text is short = All-map IsPosting entry_of (text_names p text) (names_fit p text is short)
+
+-- ---- how many places it has
+
+-- at most so many, where the text may be indexed
+abbrev pub most_places : ℕ
+most_places = 9 * text_limit + 2
+
+pub entries_few : (p : Prefs) (text : List ℕ) → IsPrefs p → length text ≤ text_limit → All (λ (e : Entry). length e.places ≤ most_places) (text_entries p text)
+entries_few p text is short = All-map (λ (e : Entry). length e.places ≤ most_places) entry_of (text_names p text)
+    (all_entries (slice_cmp nat_cmp) nat_list_cmp_total (λ (n : Named). length (entry_of n).places ≤ most_places) (place_map (text_places p text)) (λ name places found.
+    few name places (places_under name (text_places p text)) refl (sym (places_are_found p text name) ∙ found)))
   where
-    here : (b : Bool) → same_list key w ≡ b
-        → find (slice_cmp nat_cmp) key (map (λ w. (w, f w)) ws) ≡ where_any (positions_from (place + 1) key ws) (Some (f key))
-        → cond b (Some (f w)) (find (slice_cmp nat_cmp) key (map (λ w. (w, f w)) ws)) ≡ where_any (cond b (place ∷ positions_from (place + 1) key ws) (positions_from (place + 1) key ws)) (Some (f key))
-    here true is rest = ap (λ (k : List ℕ). Some (f k)) (sym (list_from_same key w is))
-    here false is rest = rest
+    same_places : (name : List ℕ) (places : List Pair) → (entry_of (name, places)).places ≡ places
+    same_places [] places = refl
+    same_places (s ∷ token) places = refl
 
--- a key has its positions, and none where it has none
-pub get-postings_of : (text key : List ℕ) → get (postings_of text) key ≡ if_any (positions key text)
-get-postings_of text key =
-    get-from_entries nat_list_cmp_total (map (λ w. (w, positions w text)) (words_of text)) key
-    ∙ find_word (λ w. positions w text) key 1 (words_of text)
-    ∙ any_positions (positions key text)
+    few : (name : List ℕ) (places under : List Pair) → places_under name (text_places p text) ≡ under → if_any under ≡ Some places → length (entry_of (name, places)).places ≤ most_places
+    few name places [] here found = cc
+    few name places (q ∷ qs) here found =
+        let same : places_under name (text_places p text) ≡ places = let e : q ∷ qs ≡ places = cc in here ∙ e in
+        let count = ap length (same_places name places ∙ sym same) in
+        let most = places_are_few p text name is (omega (arith, short)) in
+        omega (arith, count, most, short)
 
--- ---- how many words a text has
+-- ---- a row of one document
 
-few_after : (n c : ℕ) (bs : List ℕ) → length (chars_after n c bs) ≤ length bs + 1
-few_after zero c [] = omega arith
-few_after zero c (b ∷ bs) = let rest = few_after (continuation_len b) (lead_bits b) bs in omega arith
-few_after (suc n) c [] = omega arith
-few_after (suc n) c (b ∷ bs) = let rest = few_after n (c * 64 + (b - 128)) bs in omega arith
+pub word_is_row : (e : Entry) (d : ℕ) → 1 ≤ d → d < 2 ^ 32 → IsWord e → IsPostingRow (word_posting d (firsts e.places) ∷ [])
+word_is_row e d some room is = record {
+  some = omega arith;
+  few = omega arith;
+  rise = (omega (arith, some), room, (let long = length-map e.places (λ (p : Pair). p.first) in let any = is.some in omega (arith, long, any)), is.rise, tt);
+}
 
-few_chars : (bs : List ℕ) → length (chars bs) ≤ length bs
-unfolding chars
-few_chars [] = omega arith
-few_chars (b ∷ bs) = let rest = few_after (continuation_len b) (lead_bits b) bs in omega arith
+pub section_is_row : (e : Entry) (d : ℕ) → 1 ≤ d → d < 2 ^ 32 → IsSection e → IsSpanRow (span_posting d e.places ∷ [])
+section_is_row e d some room is = record { some = omega arith; few = omega arith; rise = (omega (arith, some), room, is.some, is.few, is.rise, tt) }
 
-few_keyed : (r : Rules) (key : List ℕ) (start stop : ℕ) (after : List ℕ) → length (keyed r key start stop after) ≤ 1
-few_keyed r [] start stop after = omega arith
-few_keyed r (b ∷ bs) start stop after = omega arith
+module _ (d : ℕ) (some : 1 ≤ d) (room : d < 2 ^ 32) where
+  word_found : (es : List Entry) → AllByRecursion IsPosting es → (t x : List ℕ) → find (slice_cmp nat_cmp) t (word_terms es) ≡ Some x → IsPostingRow (word_posting d x ∷ [])
+  word_found [] all t x found = cc
+  word_found (e ∷ es) all t x found = go (is_section e) all.0 found (word_found es all.1 t x)
+    where
+      here : (b : Bool) → IsWord e → cond b (Some (firsts e.places)) (find (slice_cmp nat_cmp) t (word_terms es)) ≡ Some x
+          → (find (slice_cmp nat_cmp) t (word_terms es) ≡ Some x → IsPostingRow (word_posting d x ∷ [])) → IsPostingRow (word_posting d x ∷ [])
+      here true is found rest = let same : firsts e.places ≡ x = cc in subst (λ (l : List ℕ). IsPostingRow (word_posting d l ∷ [])) same (word_is_row e d some room is)
+      here false is found rest = rest found
 
-few_token : (r : Rules) (role : Role) (text : List ℕ) (start stop : ℕ) (after : List ℕ) → length (token r role text start stop after) ≤ 1
-few_token r Out text start stop after = omega arith
-few_token r Core text start stop after = few_keyed r (r.key text) start stop after
-few_token r Number text start stop after = few_keyed r (r.key text) start stop after
-few_token r Skip text start stop after = few_keyed r (r.key text) start stop after
-few_token r Start text start stop after = few_keyed r (r.key text) start stop after
-few_token r End text start stop after = few_keyed r (r.key text) start stop after
+      go : (b : Bool) → IsOneOf b e → find (slice_cmp nat_cmp) t (cons_option (cond b None (Some (word_term e.stream e.token, firsts e.places))) (word_terms es)) ≡ Some x
+          → (find (slice_cmp nat_cmp) t (word_terms es) ≡ Some x → IsPostingRow (word_posting d x ∷ [])) → IsPostingRow (word_posting d x ∷ [])
+      go true is found rest = rest found
+      go false is found rest = here (eq_by_cmp (slice_cmp nat_cmp) t (word_term e.stream e.token)) is found rest
 
-few_where : (b : Bool) (ts : List Token) → length ts ≤ 1 → length (cond b ts []) ≤ 1
-few_where true ts few = few
-few_where false ts few = omega arith
+  section_found : (es : List Entry) → AllByRecursion IsPosting es → (t : List ℕ) (x : List Pair) → find (slice_cmp nat_cmp) t (section_terms es) ≡ Some x → IsSpanRow (span_posting d x ∷ [])
+  section_found [] all t x found = cc
+  section_found (e ∷ es) all t x found = go (is_section e) all.0 found (section_found es all.1 t x)
+    where
+      here : (b : Bool) → IsSection e → cond b (Some e.places) (find (slice_cmp nat_cmp) t (section_terms es)) ≡ Some x
+          → (find (slice_cmp nat_cmp) t (section_terms es) ≡ Some x → IsSpanRow (span_posting d x ∷ [])) → IsSpanRow (span_posting d x ∷ [])
+      here true is found rest = let same : e.places ≡ x = cc in subst (λ (l : List Pair). IsSpanRow (span_posting d l ∷ [])) same (section_is_row e d some room is)
+      here false is found rest = rest found
 
-few_tokens_after : (r : Rules) (role : Role) (ps : List Place) → length (tokens_after r role ps) ≤ length ps
-few_tokens_after r role [] = omega arith
-few_tokens_after r role (p ∷ ps) =
-    let run = p ∷ uncut p.role ps in
-    let here : List Token = token r p.role (run_text run) p.byte (stop_of 0 run) (after_of [] run) in
-    let one = few_where (is_cut role p.role) here (few_token r p.role (run_text run) p.byte (stop_of 0 run) (after_of [] run)) in
-    let rest = few_tokens_after r p.role ps in
-    simp length-append (omega (arith, one, rest))
+      go : (b : Bool) → IsOneOf b e → find (slice_cmp nat_cmp) t (cons_option (cond b (Some (section_term e.token, e.places)) None) (section_terms es)) ≡ Some x
+          → (find (slice_cmp nat_cmp) t (section_terms es) ≡ Some x → IsSpanRow (span_posting d x ∷ [])) → IsSpanRow (span_posting d x ∷ [])
+      go true is found rest = here (eq_by_cmp (slice_cmp nat_cmp) t (section_term e.token)) is found rest
+      go false is found rest = rest found
 
-length-places : (r : Rules) (before : Option ℕ) (byte : ℕ) (cs : List ℕ) → length (places r before byte cs) ≡ length cs
-length-places r before byte [] = refl
-length-places r before byte (c ∷ cs) = ap suc (length-places r (Some c) (byte + len_utf8 c) cs)
+  -- what stands under a term of a text makes a row
+  pub word_term_is_row : (p : Prefs) (text : List ℕ) → IsPrefs p → length text ≤ 2 ^ 24 → (x t : List ℕ) → find (slice_cmp nat_cmp) t (word_terms (text_entries p text)) ≡ Some x → IsPostingRow (word_posting d x ∷ [])
+  word_term_is_row p text is short x t found = word_found (text_entries p text) (recursion_from_All IsPosting (text_entries p text) (entries_fit p text is short)) t x found
 
--- a text has no more words than bytes
-pub few_words : (text : List ℕ) → length (words_of text) ≤ length text
-few_words text =
-    let tokens = few_tokens_after default Out (places default None 0 (chars text)) in
-    let same = length-places default None 0 (chars text) in
-    let few = few_chars text in
-    simp length-map (omega (arith, tokens, same, few))
-
--- ---- the positions of a key
-
-rise_from : (ws : List (List ℕ)) (before place : ℕ) (key : List ℕ) → before < place → place + length ws ≤ 2 ^ 32 → Rise before (positions_from place key ws)
-rise_from [] before place key below fits = tt
-rise_from (w ∷ ws) before place key below fits =
-    let here : place < 2 ^ 32 = omega arith in
-    let next : place < place + 1 = omega arith in
-    let skipped : before < place + 1 = omega arith in
-    let rest : place + 1 + length ws ≤ 2 ^ 32 = omega arith in
-    go (same_list key w) here (rise_from ws place (place + 1) key next rest) (rise_from ws before (place + 1) key skipped rest)
-  where
-    go : (b : Bool) → place < 2 ^ 32 → Rise place (positions_from (place + 1) key ws) → Rise before (positions_from (place + 1) key ws)
-        → Rise before (cond b (place ∷ positions_from (place + 1) key ws) (positions_from (place + 1) key ws))
-    go true here taken skipped = (below, here, taken)
-    go false here taken skipped = skipped
-
--- they rise from 1 on, as a row of postings needs
-pub positions_rise : (key text : List ℕ) → length text ≤ 2 ^ 24 → Rise 0 (positions key text)
-positions_rise key text short =
-    let few = few_words text in
-    rise_from (words_of text) 0 1 key (omega arith) (omega (arith, few, short))
+  pub section_term_is_row : (p : Prefs) (text : List ℕ) → IsPrefs p → length text ≤ 2 ^ 24 → (x : List Pair) (t : List ℕ) → find (slice_cmp nat_cmp) t (section_terms (text_entries p text)) ≡ Some x → IsSpanRow (span_posting d x ∷ [])
+  section_term_is_row p text is short x t found = section_found (text_entries p text) (recursion_from_All IsPosting (text_entries p text) (entries_fit p text is short)) t x found

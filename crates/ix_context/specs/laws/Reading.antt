@@ -22,6 +22,10 @@ use Rattle.tb_table.specs.Rules.{AreTables}
 use Rattle.tb_table.specs.Readings.{SpellsText}
 use Rattle.tb_table.specs.laws.Reading.{text_read}
 use Rattle.ix_docmap.specs.Marks.{Mark, queued}
+use Rattle.tx_settings.specs.declared.preferences.Prefs.{Prefs}
+use Rattle.tx_settings.specs.PrefsBytes.{IsPrefs}
+use Rattle.ix_context.specs.declared.entries.IndexEntry.{IndexEntry}
+use Rattle.tx_settings.specs.laws.MadeAgain.{prefs_apart}
 use Rattle.ix_context.specs.Indexes.{Index, given, marks_in, mark_of, in_queue, pending_rows, target_text}
 use Rattle.ix_context.specs.Rules.{IsTarget, HasTextAt}
 use Rattle.ix_context.specs.Spelling.{index_bytes, index_entry, after_table, SpellsIndex}
@@ -42,21 +46,25 @@ column_few ts are t column is =
     let place = text_at_few is.table.columns column is.texts in
     omega (arith, few, place)
 
--- no other target and document have the same bytes
-pub index_bytes_one : (t u : List ℕ) (c d n k : ℕ) → n < 2 ^ 32 → k < 2 ^ 32 → index_bytes t c n ≡ index_bytes u d k → (t ≡ u) × (c ≡ d) × (n ≡ k)
-index_bytes_one t u c d n k small small' e =
-    let tables = text_apart t u (after_table c n) (after_table d k) (cons_parts 1 1 (text_bytes t ++ after_table c n) (text_bytes u ++ after_table d k) e).1 in
+-- no other target, preferences and document have the same bytes
+pub index_bytes_one : (t u : List ℕ) (c d : ℕ) (p q : Prefs) (n k : ℕ) → IsPrefs p → IsPrefs q → n < 2 ^ 32 → k < 2 ^ 32 → index_bytes t c p n ≡ index_bytes u d q k → (t ≡ u) × (c ≡ d) × (p ≡ q) × (n ≡ k)
+index_bytes_one t u c d p q n k is are small small' e =
+    let tables = text_apart t u (after_table c p n) (after_table d q k) (cons_parts 1 1 (text_bytes t ++ after_table c p n) (text_bytes u ++ after_table d q k) e).1 in
     let columns = cons_parts c d _ _ tables.1 in
-    let next : to_be_bytes w32 n ≡ to_be_bytes w32 k = ap (λ (l : List ℕ). take 4 (drop 8 l)) tables.1 in
-    (tables.0, columns.0, four_bytes_one n k small small' next)
+    let prefs = prefs_apart p q (0 ∷ (to_be_bytes w32 n ++ 0 ∷ 0 ∷ 0 ∷ [])) (0 ∷ (to_be_bytes w32 k ++ 0 ∷ 0 ∷ 0 ∷ [])) is are (cons_parts 0 0 _ _ columns.1).1 in
+    let next : to_be_bytes w32 n ≡ to_be_bytes w32 k = ap (λ (l : List ℕ). take 4 (drop 1 l)) prefs.1 in
+    (tables.0, columns.0, prefs.0, four_bytes_one n k small small' next)
 
 -- what is read of an index
 abbrev pub target_of : Index → Target
 target_of x = record { table = x.table; column = x.column }
 
--- an index is read as its target and its next document
+abbrev pub parts_of : Index → IndexEntry
+parts_of x = record { target = target_of x; prefs = x.prefs; next_document = given x + 1 }
+
+-- an index is read as its target, its preferences and its next document
 pub index_read : (m : Content) (ts : Tables) (xs : Names Index) → HoldsIndexes m ts xs → (i : List ℕ) (x : Index) → get xs i ≡ Some x
-    → (found : Option (Target × ℕ)) → SpellsIndex (at m (key kind.Indexes i [])) found → found ≡ Some (target_of x, given x + 1)
+    → (found : Option IndexEntry) → SpellsIndex (at m (key kind.Indexes i [])) found → found ≡ Some (parts_of x)
 index_read m ts xs holds i x is found spelt = go found spelt
   where
     entry : at m (key kind.Indexes i []) ≡ Some (index_entry x)
@@ -65,14 +73,36 @@ index_read m ts xs holds i x is found spelt = go found spelt
     small : given x + 1 < 2 ^ 32
     small = let few = (holds.rules.each i x is).numbers in omega (arith, few)
 
-    go : (found : Option (Target × ℕ)) → SpellsIndex (at m (key kind.Indexes i [])) found → found ≡ Some (target_of x, given x + 1)
+    go : (found : Option IndexEntry) → SpellsIndex (at m (key kind.Indexes i [])) found → found ≡ Some (parts_of x)
     go None none =
-        let target = (holds.rules.each i x is).target in
+        let rules = holds.rules.each i x is in
+        let target = rules.target in
         let few = column_few ts holds.tables.rules x.table x.column target in
-        absurd (none x.table x.column (given x + 1) (holds.tables.rules.names x.table target.table target.there) (omega (arith, few)) small entry)
-    go (Some p) read =
-        let one = index_bytes_one p.0.table x.table p.0.column x.column p.1 (given x + 1) read.2 small (same_Some _ _ (sym read.3 ∙ entry)) in
-        λ j. Some (record { table = one.0 j; column = one.1 j }, one.2 j)
+        absurd (none x.table x.column x.prefs (given x + 1) (holds.tables.rules.names x.table target.table target.there) (omega (arith, few)) rules.prefs small entry)
+    go (Some e) read =
+        let one = index_bytes_one e.target.table x.table e.target.column x.column e.prefs x.prefs e.next_document (given x + 1) read.2 (holds.rules.each i x is).prefs read.3 small (same_Some _ _ (sym read.4 ∙ entry)) in
+        λ j. Some (record { target = record { table = one.0 j; column = one.1 j }; prefs = one.2 j; next_document = one.3 j })
+
+-- where there is no index, nothing is read
+pub no_index_read : (m : Content) (ts : Tables) (xs : Names Index) → HoldsIndexes m ts xs → (i : List ℕ) → get xs i ≡ None
+    → (found : Option IndexEntry) → SpellsIndex (at m (key kind.Indexes i [])) found → found ≡ None
+no_index_read m ts xs holds i is found spelt = go found spelt
+  where
+    entry : at m (key kind.Indexes i []) ≡ None
+    entry = (holds.stand i).entry ∙ ap (option_map index_entry) is
+
+    go : (found : Option IndexEntry) → SpellsIndex (at m (key kind.Indexes i [])) found → found ≡ None
+    go None none = refl
+    go (Some e) read = let wrong : None ≡ Some (index_bytes e.target.table e.target.column e.prefs e.next_document) = sym entry ∙ read.4 in cc
+
+-- the preferences that are read are the index's, where there is one
+pub prefs_read : (m : Content) (ts : Tables) (xs : Names Index) → HoldsIndexes m ts xs → (i : List ℕ) (found : Option IndexEntry) → SpellsIndex (at m (key kind.Indexes i [])) found
+    → option_map (λ (e : IndexEntry). e.prefs) found ≡ option_map (λ (x : Index). x.prefs) (get xs i)
+prefs_read m ts xs holds i found spelt = go (get xs i) refl
+  where
+    go : (o : Option Index) → get xs i ≡ o → option_map (λ (e : IndexEntry). e.prefs) found ≡ option_map (λ (x : Index). x.prefs) o
+    go None is = ap (option_map (λ (e : IndexEntry). e.prefs)) (no_index_read m ts xs holds i is found spelt)
+    go (Some x) is = ap (option_map (λ (e : IndexEntry). e.prefs)) (index_read m ts xs holds i x is found spelt)
 
 -- ---- the queue
 

@@ -28,6 +28,8 @@ use Rattle.tb_table.specs.declared.columns.Target.{Target}
 use Rattle.tb_table.specs.Tables.{Table, Tables, row_at, row_keys, with_table, with_row}
 use Rattle.tb_table.specs.Rules.{AreTables}
 use Rattle.tb_table.specs.laws.Changes.{get-with_table, row_at-with_table, row_at-with_row, columns-with_row}
+use Rattle.tx_settings.specs.declared.preferences.Prefs.{Prefs}
+use Rattle.tx_settings.specs.PrefsBytes.{IsPrefs}
 use Rattle.ix_context.specs.declared.ranges.KeyRange.{KeyRange}
 use Rattle.ix_docmap.specs.Marks.{Mark, Pending, Settled}
 use Rattle.ix_context.specs.Indexes.{Index, Part, part_in, marks_in, no_part, noted_index, noted, waiting_on, noted_on, pending_rows, synced_index, synced, in_range, rows_in, created, with_index}
@@ -48,6 +50,7 @@ none_some o x none is = let wrong : None ≡ Some x = sym none ∙ is in cc
 index_with_table : (ts : Tables) (t : List ℕ) (columns : List Column) (x : Index) → get ts t ≡ None → IsIndex ts x → IsIndex (with_table ts t columns) x
 index_with_table ts t columns x free is = record {
   target = record { table = is.target.table; there = get-with_table ts t columns x.table ∙ here (same_list x.table t) refl; texts = is.target.texts };
+  prefs = is.prefs;
   marks = λ r. is.marks r ∙ ap is_some (sym (row_at-with_table ts t columns free x.table r));
   numbers = is.numbers;
   untidy = is.untidy;
@@ -92,6 +95,7 @@ index_with_row ts t r vs x is y index = go (same_list y.table t) refl
     go : (b : Bool) → same_list y.table t ≡ b → IsIndex (with_row ts t r vs) (cond b (noted_index r y) y)
     go true one = record {
       target = target_with_row ts t r vs x is y.table y.column index.target;
+      prefs = index.prefs;
       marks = λ s.
           ap (λ (ms : Rows (Mark (Unit {0}))). is_some (get ms s)) (marks_in-note_new r y.body) ∙ ap is_some (get_row-insert (marks_in y.body) r Pending s) ∙ at_row s (int_eq s r)
           ∙ ap is_some (sym (row_at-with_row ts t r vs x is y.table s ∙ ap (λ (b : Bool). cond b (cond (int_eq s r) (Some vs) (row_at ts y.table s)) (row_at ts y.table s)) one));
@@ -100,6 +104,7 @@ index_with_row ts t r vs x is y index = go (same_list y.table t) refl
     }
     go false one = record {
       target = target_with_row ts t r vs x is y.table y.column index.target;
+      prefs = index.prefs;
       marks = λ s. index.marks s ∙ ap is_some (sym (row_at-with_row ts t r vs x is y.table s ∙ ap (λ (b : Bool). cond b (cond (int_eq s r) (Some vs) (row_at ts y.table s)) (row_at ts y.table s)) one));
       numbers = index.numbers;
       untidy = index.untidy;
@@ -250,6 +255,7 @@ sync_keeps ts xs i x is room are = record {
     synced_is : IsIndex ts (synced_index x)
     synced_is = let old = are.each i x is in record {
       target = old.target;
+      prefs = old.prefs;
       marks = λ r. ap (λ (ms : Rows (Mark (Unit {0}))). is_some (get ms r)) (marks_in-synced x.body) ∙ ap is_some (get-each_value int_cmp_total (λ (m : Mark (Unit {0})). Settled tt) (marks_in x.body) r) ∙ some_mapped (get (marks_in x.body) r) ∙ old.marks r;
       numbers =
           let n = ap (λ (p : Part). p.given) (part_in-synced x.body) ∙ given-made (length (pending_rows x)) (part_in x.body) in
@@ -274,10 +280,11 @@ pub rows_in-all : (ts : Tables) → AreTables ts → (t : List ℕ) (range : Key
 rows_in-all ts are t range has =
     filter_all (in_range range) (row_keys ts t) (each_among (λ r. in_range range r ≡ true) (row_keys ts t) (λ r there. has r (row_is_row ts are t r (sym (row_listed ts t r) ∙ there))))
 
-created_is : (ts : Tables) (target : Target) (range : KeyRange) → IsTarget ts target.table target.column → HasAllRows range
-    → length (rows_in ts target.table range) ≤ most_given → AreTables ts → IsIndex ts (created ts target range)
-created_is ts target range there has room are = record {
+created_is : (ts : Tables) (target : Target) (prefs : Prefs) (range : KeyRange) → IsTarget ts target.table target.column → IsPrefs prefs → HasAllRows range
+    → length (rows_in ts target.table range) ≤ most_given → AreTables ts → IsIndex ts (created ts target prefs range)
+created_is ts target prefs range there prefs_are has room are = record {
   target = there;
+  prefs = prefs_are;
   marks = λ r. ap is_some (settled_row (rows_in ts target.table range) r) ∙ any (list_any (int_eq r) (rows_in ts target.table range)) ∙ ap (list_any (int_eq r)) (rows_in-all ts are target.table range has) ∙ row_listed ts target.table r;
   numbers = let n = given-made (length (rows_in ts target.table range)) no_part in omega (arith, n, room);
   untidy = untidy-made (length (rows_in ts target.table range)) no_part refl;
@@ -288,32 +295,32 @@ created_is ts target range there has room are = record {
     any false = refl
 
 pub create_keeps : CreatesKeepIndexRules
-create_keeps ts xs i target range name free there column has room tables are = record {
+create_keeps ts xs i target prefs range name free there prefs_are column has room tables are = record {
   names = λ q y e. named q y (same_list q i) refl (sym (get-with q) ∙ e);
   each = λ q y e. index q y (same_list q i) (sym (get-with q) ∙ e);
   one = λ p q y z e f ts' cs. one p q y z (same_list p i) refl (same_list q i) refl (sym (get-with p) ∙ e) (sym (get-with q) ∙ f) ts' cs;
 }
   where
-    get-with : (q : List ℕ) → get (with_index ts xs i target range) q ≡ cond (same_list q i) (Some (created ts target range)) (get xs q)
-    get-with q = get_name-insert xs i (created ts target range) q
+    get-with : (q : List ℕ) → get (with_index ts xs i target prefs range) q ≡ cond (same_list q i) (Some (created ts target prefs range)) (get xs q)
+    get-with q = get_name-insert xs i (created ts target prefs range) q
 
-    named : (q : List ℕ) (y : Index) (b : Bool) → same_list q i ≡ b → cond b (Some (created ts target range)) (get xs q) ≡ Some y → IsName q
+    named : (q : List ℕ) (y : Index) (b : Bool) → same_list q i ≡ b → cond b (Some (created ts target prefs range)) (get xs q) ≡ Some y → IsName q
     named q y true h e = subst IsName (sym (list_from_same q i h)) name
     named q y false h e = are.names q y e
 
-    index : (q : List ℕ) (y : Index) (b : Bool) → cond b (Some (created ts target range)) (get xs q) ≡ Some y → IsIndex ts y
-    index q y true e = subst (IsIndex ts) (same_Some (created ts target range) y e) (created_is ts target range there has room tables)
+    index : (q : List ℕ) (y : Index) (b : Bool) → cond b (Some (created ts target prefs range)) (get xs q) ≡ Some y → IsIndex ts y
+    index q y true e = subst (IsIndex ts) (same_Some (created ts target prefs range) y e) (created_is ts target prefs range there prefs_are has room tables)
     index q y false e = are.each q y e
 
     one : (p q : List ℕ) (y z : Index) (a : Bool) → same_list p i ≡ a → (b : Bool) → same_list q i ≡ b
-        → cond a (Some (created ts target range)) (get xs p) ≡ Some y → cond b (Some (created ts target range)) (get xs q) ≡ Some z
+        → cond a (Some (created ts target prefs range)) (get xs p) ≡ Some y → cond b (Some (created ts target prefs range)) (get xs q) ≡ Some z
         → y.table ≡ z.table → y.column ≡ z.column → p ≡ q
     one p q y z true h true k e f same same' = list_from_same p i h ∙ sym (list_from_same q i k)
     one p q y z true h false k e f same same' =
-        let new = same_Some (created ts target range) y e in
+        let new = same_Some (created ts target prefs range) y e in
         absurd (column q z f (sym same ∙ sym (ap (λ (x : Index). x.table) new)) (sym same' ∙ sym (ap (λ (x : Index). x.column) new)))
     one p q y z false h true k e f same same' =
-        let new = same_Some (created ts target range) z f in
+        let new = same_Some (created ts target prefs range) z f in
         absurd (column p y e (same ∙ sym (ap (λ (x : Index). x.table) new)) (same' ∙ sym (ap (λ (x : Index). x.column) new)))
     one p q y z false h false k e f same same' = are.one p q y z e f same same'
 

@@ -1,14 +1,13 @@
 -- What the changes by which rows become documents make of a CONTEXT index, row by row.
-use Rattle.std.proofs.Common.{◌≡◌, ℕ, ℤ, ◌+◌, ◌<◌, ◌^◌, Bool, true, false, cond, List, [], ◌∷◌, length, zero, suc, Option, Some, None, refl, sym, ap, subst, ◌∙◌, arith}
+use Rattle.std.proofs.Common.{◌≡◌, ℕ, ℤ, ◌+◌, ◌<◌, ◌≤◌, ◌^◌, Bool, true, false, cond, List, [], ◌∷◌, length, zero, suc, Option, Some, None, refl, sym, ap, subst, ◌∙◌, arith}
 use Rattle.std.specs.Prelude.{◌||◌}
 use Rattle.std.specs.List.{list_any, cons_option}
 use Rattle.std.specs.Option.{option_map}
 use Rattle.std.specs.Ordering.{nat_cmp, int_cmp, int_eq, is_lt}
 use Rattle.std.specs.Cmp.Lexicographic.{slice_cmp}
-use Rattle.std.specs.FinMap.{get, entries, get-empty, get-from_entries}
+use Rattle.std.specs.FinMap.{get, get-empty, get-from_entries}
 use Rattle.std.proofs.lemmas.Bool.{and_parts}
 use Rattle.std.proofs.lemmas.Cmp.{nat_list_cmp_total, int_cmp_total, tied_itself}
-use Rattle.ct_keep.specs.RisingKeys.{entries_rise}
 use Rattle.ct_entry.specs.declared.kinds.Kind.{Kind}
 use Rattle.ct_entry.specs.declared.kinds.Kind.TheVariants as kind
 use Rattle.ct_entry.specs.Keys.{Key, key, row_part, IsRow}
@@ -19,27 +18,31 @@ use Rattle.ct_entry.specs.laws.Changes.{view-append}
 use Rattle.ct_entry.specs.laws.Parts.{int_from_eq, int_same}
 use Rattle.ct_entry.specs.laws.Rows.{keys_below, keys_rise}
 use Rattle.ix_posting.specs.declared.rows.RowDocument.{RowDocument}
+use Rattle.ix_posting.specs.declared.span_rows.SpanDocument.{SpanDocument}
 use Rattle.ix_posting.specs.Rows.{IsPostingRow, posting_bytes}
 use Rattle.ix_posting.specs.SpanRows.{IsSpanRow, span_row_bytes}
 use Rattle.ix_rows.specs.WordRows.{document_number, IsWordTerm}
 use Rattle.ix_rows.specs.SpanRows.{span_number, IsSpanTerm}
 use Rattle.ix_rows.specs.Stores.{Untidy}
 use Rattle.ix_rows.specs.laws.Puts.{AreRowsOf}
-use Rattle.ix_rows.specs.laws.Alone.{alone_rows, alone_are}
+use Rattle.ix_rows.specs.laws.Alone.{alone_are}
 use Rattle.ix_docmap.specs.Marks.{Mark, Settled, Marks, is_settled, queued}
 use Rattle.ix_docmap.specs.laws.Documents.{with_mark, settled_in}
-use Rattle.ix_context.specs.Postings.{postings_of, HasShortText}
+use Rattle.tx_settings.specs.declared.preferences.Prefs.{Prefs}
+use Rattle.tx_settings.specs.PrefsBytes.{IsPrefs}
+use Rattle.ix_context.specs.Postings.{text_entries, word_terms, section_terms, text_limit, HasShortText}
 use Rattle.ix_context.specs.Indexes.{Part, made}
-use Rattle.ix_context.specs.Documents.{Postings, text_postings, text_terms, word_posting, span_posting, want_words, want_spans}
+use Rattle.ix_context.specs.Documents.{Postings, text_postings, word_posting, span_posting, want_words, want_spans}
 use Rattle.ix_context.specs.Standing.{PartStands}
 use Rattle.ix_context.specs.Changes.{mark_with, settle_with}
 use Rattle.ix_context.specs.laws.Parts.{synced_changes, part_synced}
-use Rattle.ix_context.specs.laws.Alone.{tokens_apart, present_words, present_map, drop_nothing}
-use Rattle.ix_context.specs.laws.Tokens.{term_is_row}
+use Rattle.ix_context.specs.laws.Alone.{words_alone, sections_alone, present_text, present_map, drop_nothing}
+use Rattle.ix_context.specs.laws.Postings.{text_names, word_term_is_row, section_term_is_row}
+use Rattle.ix_context.specs.laws.Terms.{names_of, names_rise, words_apart, sections_apart, sections_last}
 
 -- what rows have by their texts
-abbrev pub docs : (ℤ → Option (List ℕ)) → ℤ → Postings
-docs text r = text_postings (text r)
+abbrev pub docs : Prefs → (ℤ → Option (List ℕ)) → ℤ → Postings
+docs p text r = text_postings p (text r)
 
 -- ---- one row
 
@@ -52,46 +55,68 @@ none_are number bytes_of IsOne IsTerm k i want given r none = record {
   same = λ t is. sym (ap (λ o. cons_option o []) (none t (given + 1)));
 }
 
-no_spans : (i : List ℕ) (text : ℤ → Option (List ℕ)) (given : ℕ) (r : ℤ) → AreRowsOf span_number span_row_bytes IsSpanRow IsSpanTerm kind.Spans i (want_spans (docs text)) given (r ∷ []) []
-no_spans i text given r = none_are span_number span_row_bytes IsSpanRow IsSpanTerm kind.Spans i (want_spans (docs text)) given r (λ t d. go t d (text r))
-  where
-    go : (t : List ℕ) (d : ℕ) (o : Option (List ℕ)) → option_map (span_posting d) (get (text_postings o).spans t) ≡ None
-    go t d None = ap (option_map (span_posting d)) (get-empty (slice_cmp nat_cmp) t)
-    go t d (Some x) = ap (option_map (span_posting d)) (get-empty (slice_cmp nat_cmp) t)
+module _ (p : Prefs) (prefs_are : IsPrefs p) (i : List ℕ) (text : ℤ → Option (List ℕ)) (given : ℕ) (r : ℤ) where
+  abbrev WordRowsAre : List (List ℕ × List (List RowDocument)) → Type 0
+  WordRowsAre es = AreRowsOf document_number posting_bytes IsPostingRow IsWordTerm kind.Postings i (want_words (docs p text)) given (r ∷ []) es
+
+  abbrev SectionRowsAre : List (List ℕ × List (List SpanDocument)) → Type 0
+  SectionRowsAre es = AreRowsOf span_number span_row_bytes IsSpanRow IsSpanTerm kind.Spans i (want_spans (docs p text)) given (r ∷ []) es
+
+  no_words : text r ≡ None → WordRowsAre []
+  no_words is = none_are document_number posting_bytes IsPostingRow IsWordTerm kind.Postings i (want_words (docs p text)) given r
+      (λ t d. ap (λ (o : Option (List ℕ)). option_map (word_posting d) (get (text_postings p o).words t)) is ∙ ap (option_map (word_posting d)) (get-empty (slice_cmp nat_cmp) t))
+
+  no_sections : text r ≡ None → SectionRowsAre []
+  no_sections is = none_are span_number span_row_bytes IsSpanRow IsSpanTerm kind.Spans i (want_spans (docs p text)) given r
+      (λ t d. ap (λ (o : Option (List ℕ)). option_map (span_posting d) (get (text_postings p o).spans t)) is ∙ ap (option_map (span_posting d)) (get-empty (slice_cmp nat_cmp) t))
+
+  its_words : (t : List ℕ) → text r ≡ Some t → length t ≤ text_limit → given + 1 < 2 ^ 32 → WordRowsAre (words_alone i (given + 1) (word_terms (text_entries p t)))
+  its_words t is few room =
+      let names = names_of p prefs_are t few in
+      alone_are document_number posting_bytes IsPostingRow IsWordTerm kind.Postings i word_posting (λ d x. refl) (want_words (docs p text)) given r (word_terms (text_entries p t))
+      (words_apart (text_names p t) names (names_rise p t)) room
+      (λ x u found. word_term_is_row (given + 1) (omega arith) room p t prefs_are (omega (arith, few)) x u found)
+      (λ u d. ap (λ (o : Option (List ℕ)). option_map (word_posting d) (get (text_postings p o).words u)) is ∙ ap (option_map (word_posting d)) (get-from_entries nat_list_cmp_total (word_terms (text_entries p t)) u))
+
+  its_sections : (t : List ℕ) → text r ≡ Some t → length t ≤ text_limit → given + 1 < 2 ^ 32 → SectionRowsAre (sections_alone i (given + 1) (section_terms (text_entries p t)))
+  its_sections t is few room =
+      let names = names_of p prefs_are t few in
+      alone_are span_number span_row_bytes IsSpanRow IsSpanTerm kind.Spans i span_posting (λ d x. refl) (want_spans (docs p text)) given r (section_terms (text_entries p t))
+      (sections_apart (text_names p t) names (names_rise p t)) room
+      (λ x u found. section_term_is_row (given + 1) (omega arith) room p t prefs_are (omega (arith, few)) x u found)
+      (λ u d. ap (λ (o : Option (List ℕ)). option_map (span_posting d) (get (text_postings p o).spans u)) is ∙ ap (option_map (span_posting d)) (get-from_entries nat_list_cmp_total (section_terms (text_entries p t)) u))
 
 -- a row that isn't settled leaves the queue and becomes the next document
-pub part_settled : (f : Key → Option (List ℕ)) (i : List ℕ) (text : ℤ → Option (List ℕ)) (mark : Marks) (part : Part) (r : ℤ)
-    → IsRow r → is_settled (mark r) ≡ false → part.given + 1 < 2 ^ 32 → HasShortText (text r) → PartStands f i (docs text) mark part
-    → PartStands (view (settle_with i text (part.given + 1, r)) f) i (docs text) (with_mark r (Some (Settled tt)) mark) (made 1 part)
-part_settled f i text mark part r is_row free room short stand = go (text r) refl short
+pub part_settled : (f : Key → Option (List ℕ)) (p : Prefs) → IsPrefs p → (i : List ℕ) (text : ℤ → Option (List ℕ)) (mark : Marks) (part : Part) (r : ℤ)
+    → IsRow r → is_settled (mark r) ≡ false → part.given + 1 < 2 ^ 32 → HasShortText (text r) → PartStands f i (docs p text) mark part
+    → PartStands (view (settle_with p i text (part.given + 1, r)) f) i (docs p text) (with_mark r (Some (Settled tt)) mark) (made 1 part)
+part_settled f p prefs_are i text mark part r is_row free room short stand = go (text r) refl short
   where
     apart : IsIn r [] → ⊥
     apart h = h
 
-    settled : (es : List (List ℕ × List (List RowDocument))) → AreRowsOf document_number posting_bytes IsPostingRow IsWordTerm kind.Postings i (want_words (docs text)) part.given (r ∷ []) es
-        → PartStands (view (synced_changes i part.given (r ∷ []) es []) f) i (docs text) (with_mark r (Some (Settled tt)) mark) (made 1 part)
-    settled es are = part_synced f i (docs text) mark part (r ∷ []) es [] (apart, tt) (is_row, free, tt) room are (no_spans i text part.given r) stand
+    settled : (es : List (List ℕ × List (List RowDocument))) (ss : List (List ℕ × List (List SpanDocument))) → WordRowsAre p prefs_are i text part.given r es → SectionRowsAre p prefs_are i text part.given r ss
+        → settle_with p i text (part.given + 1, r) ≡ synced_changes i part.given (r ∷ []) es ss
+        → PartStands (view (settle_with p i text (part.given + 1, r)) f) i (docs p text) (with_mark r (Some (Settled tt)) mark) (made 1 part)
+    settled es ss words sections same =
+        subst (λ (ws : List (Key × Option (List ℕ))). PartStands (view ws f) i (docs p text) (with_mark r (Some (Settled tt)) mark) (made 1 part)) (sym same)
+        (part_synced f i (docs p text) mark part (r ∷ []) es ss (apart, tt) (is_row, free, tt) room words sections stand)
 
-    go : (o : Option (List ℕ)) → text r ≡ o → HasShortText o → PartStands (view (settle_with i text (part.given + 1, r)) f) i (docs text) (with_mark r (Some (Settled tt)) mark) (made 1 part)
-    go None is few =
-        subst (λ (ws : List (Key × Option (List ℕ))). PartStands (view ws f) i (docs text) (with_mark r (Some (Settled tt)) mark) (made 1 part)) (sym (present_map i part.given r text is))
-        (settled [] (none_are document_number posting_bytes IsPostingRow IsWordTerm kind.Postings i (want_words (docs text)) part.given r (λ t d. ap (λ (o : Option (List ℕ)). option_map (word_posting d) (get (text_postings o).words t)) is ∙ ap (option_map (word_posting d)) (get-empty (slice_cmp nat_cmp) t))))
+    go : (o : Option (List ℕ)) → text r ≡ o → HasShortText o → PartStands (view (settle_with p i text (part.given + 1, r)) f) i (docs p text) (with_mark r (Some (Settled tt)) mark) (made 1 part)
+    go None is few = settled [] [] (no_words p prefs_are i text part.given r is) (no_sections p prefs_are i text part.given r is) (present_map p i part.given r text is)
     go (Some t) is few =
-        subst (λ (ws : List (Key × Option (List ℕ))). PartStands (view ws f) i (docs text) (with_mark r (Some (Settled tt)) mark) (made 1 part)) (sym (present_words i t part.given r text is))
-        (settled (alone_rows document_number posting_bytes IsPostingRow IsWordTerm kind.Postings i word_posting (λ d x. refl) (part.given + 1) (text_terms t))
-        (alone_are document_number posting_bytes IsPostingRow IsWordTerm kind.Postings i word_posting (λ d x. refl) (want_words (docs text)) part.given r (text_terms t)
-        (tokens_apart (entries (postings_of t)) (entries_rise (slice_cmp nat_cmp) (postings_of t))) room
-        (λ x u found. term_is_row t few (part.given + 1) x u (omega arith) room found)
-        (λ u d. ap (λ (o : Option (List ℕ)). option_map (word_posting d) (get (text_postings o).words u)) is ∙ ap (option_map (word_posting d)) (get-from_entries nat_list_cmp_total (text_terms t) u))))
+        settled (words_alone i (part.given + 1) (word_terms (text_entries p t))) (sections_alone i (part.given + 1) (section_terms (text_entries p t)))
+        (its_words p prefs_are i text part.given r t is few room) (its_sections p prefs_are i text part.given r t is few room)
+        (present_text p i t part.given r text (sections_last (text_names p t) (names_of p prefs_are t few) (names_rise p t)) is)
 
 -- a row that has no mark becomes the next document
-pub part_marked : (f : Key → Option (List ℕ)) (i : List ℕ) (text : ℤ → Option (List ℕ)) (mark : Marks) (part : Part) (r : ℤ)
-    → IsRow r → mark r ≡ None → part.given + 1 < 2 ^ 32 → HasShortText (text r) → PartStands f i (docs text) mark part
-    → PartStands (view (mark_with i text (part.given + 1, r)) f) i (docs text) (with_mark r (Some (Settled tt)) mark) (made 1 part)
-part_marked f i text mark part r is_row none room short stand =
-    subst (λ (g : Key → Option (List ℕ)). PartStands g i (docs text) (with_mark r (Some (Settled tt)) mark) (made 1 part))
-    (drop_nothing (key kind.Pending i (row_part r)) (mark_with i text (part.given + 1, r)) f (stand.documents.queue r is_row ∙ ap queued none))
-    (part_settled f i text mark part r is_row (ap is_settled none) room short stand)
+pub part_marked : (f : Key → Option (List ℕ)) (p : Prefs) → IsPrefs p → (i : List ℕ) (text : ℤ → Option (List ℕ)) (mark : Marks) (part : Part) (r : ℤ)
+    → IsRow r → mark r ≡ None → part.given + 1 < 2 ^ 32 → HasShortText (text r) → PartStands f i (docs p text) mark part
+    → PartStands (view (mark_with p i text (part.given + 1, r)) f) i (docs p text) (with_mark r (Some (Settled tt)) mark) (made 1 part)
+part_marked f p prefs_are i text mark part r is_row none room short stand =
+    subst (λ (g : Key → Option (List ℕ)). PartStands g i (docs p text) (with_mark r (Some (Settled tt)) mark) (made 1 part))
+    (drop_nothing (key kind.Pending i (row_part r)) (mark_with p i text (part.given + 1, r)) f (stand.documents.queue r is_row ∙ ap queued none))
+    (part_settled f p prefs_are i text mark part r is_row (ap is_settled none) room short stand)
 
 -- ---- several rows
 

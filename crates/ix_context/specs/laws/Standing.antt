@@ -16,7 +16,7 @@ use Rattle.ix_rows.specs.SpanRows.{span_number, IsSpanTerm, span_cost}
 use Rattle.ix_rows.specs.laws.Stores.{store_agree}
 use Rattle.ix_docmap.specs.Marks.{Marks, is_settled}
 use Rattle.ix_context.specs.Indexes.{Index, Part, mark_of, part_of}
-use Rattle.ix_context.specs.Documents.{Postings, text_postings, seen_in, postings_in, want_words, want_spans}
+use Rattle.ix_context.specs.Documents.{Postings, text_postings, seen_in, prefs_in, postings_in, want_words, want_spans}
 use Rattle.ix_context.specs.Spelling.{is_of_indexes}
 use Rattle.ix_context.specs.Standing.{PartStands, IndexStands, IndexesStand}
 use Rattle.ix_context.specs.laws.Parts.{part_see}
@@ -73,7 +73,7 @@ pub index_sees : (f : Key → Option (List ℕ)) (ts us : Tables) (i : List ℕ)
     → ((r : ℤ) → is_settled (mark_of o r) ≡ true → seen_in us o r ≡ seen_in ts o r) → IndexStands f ts i o → IndexStands f us i o
 index_sees f ts us i o same stand = record {
   entry = stand.entry;
-  context = part_see f i (postings_in ts o) (postings_in us o) (mark_of o) (part_of o) (λ r settled. ap text_postings (same r settled)) stand.context;
+  context = part_see f i (postings_in ts o) (postings_in us o) (mark_of o) (part_of o) (λ r settled. ap (text_postings (prefs_in o)) (same r settled)) stand.context;
 }
 
 -- ---- changes on one index

@@ -1,5 +1,6 @@
 -- The texts that indexes see are short.
-use Rattle.std.proofs.Common.{◌≡◌, ℕ, ℤ, zero, suc, ◌≤◌, List, length, Option, Some, None, refl, arith}
+use Rattle.std.proofs.Common.{◌≡◌, ℕ, ℤ, zero, suc, ◌≤◌, Bool, true, false, cond, List, length, Option, Some, None, leb-true, leb-false, refl, arith}
+use Rattle.std.specs.Prelude.{nat_le}
 use Rattle.std.specs.Option.{option_and_then}
 use Rattle.ct_base.specs.declared.lists.Value.{Value}
 use Rattle.tb_table.specs.declared.columns.Target.{Target}
@@ -8,7 +9,7 @@ use Rattle.tb_table.specs.Rules.{AreTables, others}
 use Rattle.tb_table.specs.laws.Rules.{short_text, all_others}
 use Rattle.tb_table.specs.laws.Reading.{row_of_table}
 use Rattle.ix_context.specs.Indexes.{Index, target_text, text_seen}
-use Rattle.ix_context.specs.Postings.{HasShortText}
+use Rattle.ix_context.specs.Postings.{HasShortText, if_short, text_limit}
 
 -- the texts of rows have at most 4000 bytes
 pub target_short : (ts : Tables) → AreTables ts → (target : Target) (r : ℤ) (text : List ℕ) → target_text ts target r ≡ Some text → length text ≤ 4000
@@ -34,3 +35,21 @@ target_has_short ts are target r = go (target_text ts target r) refl
 
 pub seen_is_short : (ts : Tables) → AreTables ts → (x : Index) (r : ℤ) → HasShortText (text_seen ts x r)
 seen_is_short ts are x r = target_has_short ts are (record { table = x.table; column = x.column }) r
+
+-- ---- short texts
+
+pub short_kept : (o : Option (List ℕ)) → HasShortText o → if_short o ≡ o
+short_kept None short = refl
+short_kept (Some text) short = go (nat_le (length text) text_limit) refl
+  where
+    go : (b : Bool) → nat_le (length text) text_limit ≡ b → cond b (Some text) None ≡ Some text
+    go true h = refl
+    go false h = let over = leb-false (length text) text_limit h in absurd (omega (arith, over))
+
+pub short_is_short : (o : Option (List ℕ)) → HasShortText (if_short o)
+short_is_short None = tt
+short_is_short (Some text) = go (nat_le (length text) text_limit) refl
+  where
+    go : (b : Bool) → nat_le (length text) text_limit ≡ b → HasShortText (cond b (Some text) None)
+    go true h = leb-true _ _ h
+    go false h = tt

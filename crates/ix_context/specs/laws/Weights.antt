@@ -25,7 +25,7 @@ use Rattle.ix_rows.specs.Spelling.{row_key}
 use Rattle.ix_rows.specs.Posts.{posting_list}
 use Rattle.ix_rows.specs.laws.Posts.{in_posting_list, in_posting}
 use Rattle.ix_rows.specs.laws.Weighs.{each_in}
-use Rattle.ix_context.specs.Indexes.{Part, wasted, made}
+use Rattle.ix_context.specs.Indexes.{Part}
 use Rattle.ix_rows.specs.laws.Rooms.{kind_weighs}
 use Rattle.ix_context.specs.Documents.{Postings, word_posting, span_posting, want_words, want_spans, words_cost, spans_cost, document_cost}
 use Rattle.ix_context.specs.Standing.{PartStands}

@@ -1,7 +1,7 @@
 -- The changes of notes, synchronisations and new indexes are on keys of their kinds.
-use Rattle.std.proofs.Common.{◌≡◌, ℕ, ℤ, ◌+◌, ◌*◌, ◌^◌, ◌<◌, ◌≤◌, true, List, [], ◌∷◌, ◌++◌, length, map, Option, Some, None, refl, arith, length-append}
+use Rattle.std.proofs.Common.{◌≡◌, ℕ, ℤ, ◌+◌, ◌*◌, ◌^◌, ◌<◌, ◌≤◌, Bool, true, false, cond, List, [], ◌∷◌, ◌++◌, length, map, Option, Some, None, refl, arith, length-append}
 use Rattle.std.specs.Prelude.{All, ◌-◌, not, is_some}
-use Rattle.std.specs.FinMap.{get, entries}
+use Rattle.std.specs.FinMap.{get}
 use Rattle.std.proofs.lemmas.List.Elements.{All-head, All-tail}
 use Rattle.ct_base.specs.Names.{IsName}
 use Rattle.ct_base.specs.laws.Names.{name_length}
@@ -17,16 +17,25 @@ use Rattle.ct_entry.specs.Each.{each}
 use Rattle.tb_table.specs.declared.columns.Target.{Target}
 use Rattle.tb_table.specs.Tables.{Tables}
 use Rattle.tb_table.specs.Rules.{AreTables}
+use Rattle.ct_base.specs.declared.numbers.Pair.{Pair}
 use Rattle.ix_posting.specs.Rows.{steps, varints, posting_bytes}
+use Rattle.ix_posting.specs.SpanRows.{pair_steps, no_pair, span_row_bytes}
+use Rattle.std.specs.Int.{to_be_bytes, w32}
+use Rattle.std.proofs.lemmas.List.{length-map}
 use Rattle.ix_context.specs.declared.ranges.KeyRange.{KeyRange}
-use Rattle.ix_context.specs.Postings.{postings_of, IsPosting}
-use Rattle.ix_context.specs.laws.Tokens.{postings_fit, postings_few}
+use Rattle.tx_settings.specs.declared.preferences.Prefs.{Prefs}
+use Rattle.tx_document.specs.declared.entries.Entry.{Entry}
+use Rattle.tx_settings.specs.PrefsBytes.{IsPrefs, prefs_bytes}
+use Rattle.ix_context.specs.Postings.{text_entries, is_section, firsts, IsOneOf, IsPosting}
+use Rattle.ix_context.specs.Documents.{word_posting, span_posting}
+use Rattle.tx_settings.specs.laws.Lengths.{prefs_are_short}
+use Rattle.ix_context.specs.laws.Postings.{most_places, entries_fit, entries_few}
 use Rattle.ix_docmap.specs.Marks.{is_settled}
 use Rattle.ix_context.specs.Indexes.{Index, given, marks_in, pending_rows, text_seen, synced_index, rows_in, created, target_text}
 use Rattle.ix_context.specs.Rules.{AreIndexes, most_given}
 use Rattle.ix_context.specs.Spelling.{index_bytes, after_table, index_entry, is_of_indexes}
 use Rattle.ct_entry.specs.Each.{numbered}
-use Rattle.ix_context.specs.Changes.{note_insert_changes, posting_change, text_changes, document_changes, mark_changes, settle_changes, sync_rows_changes, sync_changes, create_changes}
+use Rattle.ix_context.specs.Changes.{note_insert_changes, word_change, section_change, entry_change, text_changes, document_changes, mark_changes, settle_changes, sync_rows_changes, sync_changes, create_changes}
 use Rattle.ix_context.specs.laws.Settling.{EachRow}
 use Rattle.ix_context.specs.laws.Changes.{rows_wait, no_marks, rows_free}
 use Rattle.ix_context.specs.laws.Reading.{target_of}
@@ -89,13 +98,29 @@ length-one_row_le d ps =
     let same = length-steps 0 ps in
     simp length-append (omega (arith, count, number, positions, places, same))
 
-pub length-entry_le : (t : List ℕ) (c n : ℕ) → IsName t → length (index_bytes t c n) ≤ 51
-length-entry_le t c n name =
-    let prefix = length-append (text_bytes t) (after_table c n) in
+length-pair_steps : (before : Pair) (ps : List Pair) → length (pair_steps before ps) ≡ 2 * length ps
+length-pair_steps before [] = refl
+length-pair_steps before (p ∷ ps) = let rest = length-pair_steps p ps in omega arith
+
+-- the same of a section's row
+pub length-section_row_le : (d : ℕ) (ps : List Pair) → length (span_row_bytes (record { document = d; pairs = ps } ∷ [])) ≤ 15 + 10 * length ps
+length-section_row_le d ps =
+    let count = varint_length 1 in
+    let number = varint_length (d - 0) in
+    let pairs = varint_length (length ps) in
+    let places = length-varints_le (pair_steps no_pair ps) in
+    let same = length-pair_steps no_pair ps in
+    simp length-append (omega (arith, count, number, pairs, places, same))
+
+pub length-entry_le : (t : List ℕ) (c : ℕ) (p : Prefs) (n : ℕ) → IsName t → IsPrefs p → length (index_bytes t c p n) ≤ 50 * 2 ^ 20 + 46
+length-entry_le t c p n name are =
+    let prefix = length-append (text_bytes t) (after_table c p n) in
     let text = length-append (varint (length t)) t in
     let count = varint_length (length t) in
     let short = (name_length t name).1 in
-    omega (arith, prefix, text, count, short)
+    let prefs = prefs_are_short p are in
+    let rest = length-append (prefs_bytes p) (0 ∷ (to_be_bytes w32 n ++ 0 ∷ 0 ∷ 0 ∷ [])) in
+    omega (arith, prefix, text, count, short, prefs, rest)
 
 -- ---- the changes of a document
 
@@ -104,30 +129,39 @@ abbrev pub IsTableText : Option (List ℕ) → Type 0
 IsTableText None = Unit {0}
 IsTableText (Some text) = length text ≤ 4000
 
-posting_changes : (i : List ℕ) (d : ℕ) (es : List (List ℕ × List ℕ)) → IsName i → d < 2 ^ 32 → All IsPosting es → All (λ e. length e.1 ≤ 4000) es
-    → AreIndexChanges (map (posting_change i d) es)
+-- the values of rows of one document are bounded, where there are few places
+pub length-word_le : (d : ℕ) (e : Entry) → length e.places ≤ most_places → length (posting_bytes (word_posting d (firsts e.places) ∷ [])) ≤ value_limit
+length-word_le d e few =
+    let long = length-one_row_le d (firsts e.places) in
+    let same = length-map e.places (λ (p : Pair). p.first) in
+    omega (arith, long, same, few)
+
+pub length-section_le : (d : ℕ) (e : Entry) → length e.places ≤ most_places → length (span_row_bytes (span_posting d e.places ∷ [])) ≤ value_limit
+length-section_le d e few = let long = length-section_row_le d e.places in omega (arith, long, few)
+
+one_posting : (i : List ℕ) (d : ℕ) (e : Entry) → IsName i → d < 2 ^ 32 → IsPosting e → length e.places ≤ most_places → IsIndexChange (entry_change i d e)
+one_posting i d e name doc fit few = go (is_section e) fit
+  where
+    go : (b : Bool) → IsOneOf b e → IsIndexChange (cond b (section_change i d e) (word_change i d e))
+    go true is = record { key = record { owner = name; part = (d, (e.token, is.named, doc, refl)) }; of = refl; bounded = length-section_le d e few }
+    go false is = record { key = record { owner = name; part = (e.stream, d, (e.token, is.stream, is.token, doc, refl)) }; of = refl; bounded = length-word_le d e few }
+
+posting_changes : (i : List ℕ) (d : ℕ) (es : List Entry) → IsName i → d < 2 ^ 32 → All IsPosting es → All (λ (e : Entry). length e.places ≤ most_places) es
+    → AreIndexChanges (map (entry_change i d) es)
 posting_changes i d [] name doc fit few = tt
 posting_changes i d (e ∷ es) name doc fit few =
-    let here = All-head IsPosting e es fit in
-    let short = All-head (λ (e : List ℕ × List ℕ). length e.1 ≤ 4000) e es few in
-    let long = length-one_row_le d e.1 in (
-      record { key = record { owner = name; part = (0, d, (e.0, omega arith, here.token, doc, refl)) }; of = refl; bounded = omega (arith, long, short) },
-      posting_changes i d es name doc (All-tail IsPosting e es fit) (All-tail (λ (e : List ℕ × List ℕ). length e.1 ≤ 4000) e es few),
-    )
+    (one_posting i d e name doc (All-head IsPosting e es fit) (All-head (λ (e : Entry). length e.places ≤ most_places) e es few), posting_changes i d es name doc (All-tail IsPosting e es fit) (All-tail (λ (e : Entry). length e.places ≤ most_places) e es few))
 
-few_of_text : (text : List ℕ) → length text ≤ 4000 → All (λ (e : List ℕ × List ℕ). length e.1 ≤ 4000) (entries (postings_of text))
-few_of_text text short = λ k e less. let few = postings_few text k e less in omega (arith, few)
+changes_of_text : (p : Prefs) → IsPrefs p → (i : List ℕ) (d : ℕ) (text : Option (List ℕ)) → IsName i → d < 2 ^ 32 → IsTableText text → AreIndexChanges (text_changes p i d text)
+changes_of_text p are i d None name doc short = tt
+changes_of_text p are i d (Some text) name doc short =
+    posting_changes i d (text_entries p text) name doc (entries_fit p text are (omega arith)) (entries_few p text are (omega arith))
 
-changes_of_text : (i : List ℕ) (d : ℕ) (text : Option (List ℕ)) → IsName i → d < 2 ^ 32 → IsTableText text → AreIndexChanges (text_changes i d text)
-changes_of_text i d None name doc short = tt
-changes_of_text i d (Some text) name doc short =
-    posting_changes i d (entries (postings_of text)) name doc (postings_fit text (omega arith)) (few_of_text text short)
-
-pub index_changes_document : (i : List ℕ) (d : ℕ) (r : ℤ) (text : Option (List ℕ)) → IsName i → d < 2 ^ 32 → IsRow r → IsTableText text
-    → AreIndexChanges (document_changes i d r text)
-index_changes_document i d r text name doc row short = (
+pub index_changes_document : (p : Prefs) → IsPrefs p → (i : List ℕ) (d : ℕ) (r : ℤ) (text : Option (List ℕ)) → IsName i → d < 2 ^ 32 → IsRow r → IsTableText text
+    → AreIndexChanges (document_changes p i d r text)
+index_changes_document p are i d r text name doc row short = (
   record { key = record { owner = name; part = (d, doc, refl) }; of = refl; bounded = let eight = length-row_bytes r in omega (arith, eight) },
-  (record { key = record { owner = name; part = (r, row, refl) }; of = refl; bounded = omega arith }, changes_of_text i d text name doc short),
+  (record { key = record { owner = name; part = (r, row, refl) }; of = refl; bounded = omega arith }, changes_of_text p are i d text name doc short),
 )
 
 target_is_table_text : (ts : Tables) → AreTables ts → (target : Target) (r : ℤ) → IsTableText (target_text ts target r)
@@ -142,9 +176,9 @@ target_is_table_text ts are target r = go (target_text ts target r) refl
 pub index_changes_note : (i : List ℕ) (r : ℤ) → IsName i → IsRow r → AreIndexChanges (note_insert_changes i r)
 index_changes_note i r name row = (record { key = record { owner = name; part = (r, row, refl) }; of = refl; bounded = omega arith }, tt)
 
-entry_change : (i : List ℕ) (t : List ℕ) (c n : ℕ) → IsName i → IsName t → IsIndexChange (put (key kind.Indexes i []) (index_bytes t c n))
-entry_change i t c n name table =
-    record { key = record { owner = name; part = refl }; of = refl; bounded = let long = length-entry_le t c n table in omega (arith, long) }
+index_put : (i : List ℕ) (t : List ℕ) (c : ℕ) (p : Prefs) (n : ℕ) → IsName i → IsName t → IsPrefs p → IsIndexChange (put (key kind.Indexes i []) (index_bytes t c p n))
+index_put i t c p n name table are =
+    record { key = record { owner = name; part = refl }; of = refl; bounded = let long = length-entry_le t c p n table are in omega (arith, long) }
 
 each_row : (P : ℤ → Type 0) (rows : List ℤ) → EachRow (λ s. IsRow s × P s) rows → EachRow IsRow rows
 each_row P [] each = tt
@@ -158,7 +192,7 @@ index_changes_sync ts xs i x are rules is room =
     one : (d : ℕ) (r : ℤ) → d < 2 ^ 32 → IsRow r → AreIndexChanges (settle_changes ts i x (d, r))
     one d r doc row = (
       record { key = record { owner = rules.names i x is; part = (r, row, refl) }; of = refl; bounded = tt },
-      index_changes_document i d r (text_seen ts x r) (rules.names i x is) doc row (target_is_table_text ts are (target_of x) r),
+      index_changes_document x.prefs (rules.each i x is).prefs i d r (text_seen ts x r) (rules.names i x is) doc row (target_is_table_text ts are (target_of x) r),
     )
 
     table : IsName x.table
@@ -168,12 +202,12 @@ index_changes_sync ts xs i x are rules is room =
     go [] rows_are room = tt
     go (r ∷ rs) rows_are room =
         index_changes-append (each (settle_changes ts i x) (numbered (given x + 1) (r ∷ rs))) (put (key kind.Indexes i []) (index_entry (synced_index x)) ∷ []) (index_changes-each (settle_changes ts i x) one (r ∷ rs) (given x + 1) (omega arith) rows_are)
-        (entry_change i x.table x.column (given (synced_index x) + 1) (rules.names i x is) table, tt)
+        (index_put i x.table x.column x.prefs (given (synced_index x) + 1) (rules.names i x is) table (rules.each i x is).prefs, tt)
 
-pub index_changes_create : (ts : Tables) (i : List ℕ) (target : Target) (range : KeyRange) → AreTables ts → IsName i → IsName target.table
-    → length (rows_in ts target.table range) ≤ most_given → AreIndexChanges (create_changes ts i target range)
-index_changes_create ts i target range are name table room = (
-  entry_change i target.table target.column (given (created ts target range) + 1) name table,
-  index_changes-each (λ (p : ℕ × ℤ). mark_changes ts i (created ts target range) p.0 p.1) (λ d r doc row. index_changes_document i d r (target_text ts target r) name doc row (target_is_table_text ts are target r)) (rows_in ts target.table range) 1 (omega arith)
+pub index_changes_create : (ts : Tables) (i : List ℕ) (target : Target) (prefs : Prefs) (range : KeyRange) → AreTables ts → IsName i → IsName target.table → IsPrefs prefs
+    → length (rows_in ts target.table range) ≤ most_given → AreIndexChanges (create_changes ts i target prefs range)
+index_changes_create ts i target prefs range are name table prefs_are room = (
+  index_put i target.table target.column prefs (given (created ts target prefs range) + 1) name table prefs_are,
+  index_changes-each (λ (n : ℕ × ℤ). mark_changes ts i (created ts target prefs range) n.0 n.1) (λ d r doc row. index_changes_document prefs prefs_are i d r (target_text ts target r) name doc row (target_is_table_text ts are target r)) (rows_in ts target.table range) 1 (omega arith)
       (each_row (λ s. not (is_some (no_marks s)) ≡ true) (rows_in ts target.table range) (rows_free ts are target.table range)),
 )

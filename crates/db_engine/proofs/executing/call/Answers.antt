@@ -1,32 +1,42 @@
-use Rattle.db_state.specs.Plans.{always}
-use Rattle.std.proofs.Common.{sym, ap, ◌∙◌, Bool, Some, None}
-use Rattle.std.specs.Bool.{if◌then◌else◌}
-use Rattle.std.proofs.lemmas.Result.{err_from_is_err_and}
-use Rattle.ct_keep.specs.Composing.{reads_none}
-use Rattle.db_cond.specs.Faults.{NotUnderstood}
-use Rattle.db_state.specs.Lines.{call_done}
-use Rattle.db_engine.proofs.Answering.{call_sync, call_tokens, call_other}
-use Rattle.db_state.specs.laws.Serving.{serves_short, serves_refused, serves_look, serves_as}
+use Rattle.std.proofs.Common.{sym, ap, ◌∙◌, ◌≡◌, Some, None, List, refl}
+use Rattle.std.proofs.lemmas.Bool.{false≢true}
+use Rattle.std.proofs.lemmas.Result.{IfOk-weaker}
+use Rattle.ct_keep.specs.KeeperViews.{fault_of}
+use Rattle.st_parse.specs.declared.procedures.Procedure.{Procedure}
+use Rattle.db_state.specs.Effects.{reply_by}
+use Rattle.db_state.specs.laws.Serving.{serves_as}
+use Rattle.db_engine.specs.Steps.{call, may_fill_by}
+use Rattle.db_engine.specs.Executing.{call_line, is_fixed_call}
 use Rattle.db_engine.proofs.executing.call.Goals as goal
 
-pub returns-then-is_sync-clause-serves : goal.returns-then-is_sync-clause-serves
-returns-then-is_sync-clause-serves g c =
-    let is = sym c.is_sync.ensures ∙ c.if-is_sync.true in
-    serves_as _ _ (Some (always call_done)) _ _ _ c.sync_index.result (λ m. call_sync m c.args.pack.now c.args.procedure.now c.args.args.now is) (ap (λ (b : Bool). if b then Some (always call_done) else None) is) c.sync_index.ensures
+-- ---- the tokens of a text
 
-pub returns-in_err-policy_tokens-clause-serves : goal.returns-in_err-policy_tokens-clause-serves
-returns-in_err-policy_tokens-clause-serves g c = serves_short _ _ _ _ _ (reads_none _ c.requires.ready) (err_from_is_err_and _ c.from_residual.ensures.1)
+pub returns-in-PolicyTokens-clause-serves : goal.returns-in-PolicyTokens-clause-serves
+returns-in-PolicyTokens-clause-serves g c =
+    serves_as _ _ None _ _ _ c.policy_tokens.result (λ m. ap (λ (p : Procedure). call m p c.args.args.now) c.in-PolicyTokens.is) (ap call_line c.in-PolicyTokens.is) c.policy_tokens.ensures.serves
 
-pub returns-then-is_tokens-clause-serves : goal.returns-then-is_tokens-clause-serves
-returns-then-is_tokens-clause-serves g c =
-    let other = sym c.is_sync.ensures ∙ c.if-is_sync.false in
-    serves_as _ _ None _ _ _ _ (λ m. call_tokens m c.args.pack.now c.args.procedure.now c.args.args.now other (sym c.is_tokens.ensures ∙ c.if-is_tokens.true)) (ap (λ (b : Bool). if b then Some (always call_done) else None) other)
-    (serves_look _ _ _ _ (reads_none _ c.requires.ready) (λ m k holds stands. c.in_ok-policy_tokens.ensures.reply m) c.in_ok-policy_tokens.ensures.state)
+pub returns-in-PolicyTokens-clause-fixed : goal.returns-in-PolicyTokens-clause-fixed
+returns-in-PolicyTokens-clause-fixed g c = λ m fixed.
+    IfOk-weaker c.policy_tokens.result _ _ (λ reply says. says ∙ sym (ap (λ (p : Procedure). reply_by (call m p c.args.args.now)) c.in-PolicyTokens.is))
+    (c.policy_tokens.ensures.fixed m (sym (ap (λ (p : Procedure). is_fixed_call p c.args.args.now) c.in-PolicyTokens.is) ∙ fixed))
 
-pub returns-in_err-not_built-clause-serves : goal.returns-in_err-not_built-clause-serves
-returns-in_err-not_built-clause-serves g c = serves_short _ _ _ _ _ (reads_none _ c.requires.ready) (err_from_is_err_and _ c.from_residual-in_err-not_built.ensures.1)
+pub returns-in-PolicyTokens-clause-may : goal.returns-in-PolicyTokens-clause-may
+returns-in-PolicyTokens-clause-may g c = λ full. absurd (c.policy_tokens.ensures.reads.not_full (ap fault_of full))
 
-pub returns-clause-serves : goal.returns-clause-serves
-returns-clause-serves g c =
-    serves_refused _ _ _ _ NotUnderstood _ (reads_none _ c.requires.ready)
-    (λ m k holds stands. call_other m c.args.pack.now c.args.procedure.now c.args.args.now (sym c.is_sync.ensures ∙ c.if-is_sync.false) (sym c.is_tokens.ensures ∙ c.if-is_tokens.false)) c.in_ok-not_built.ensures
+-- ---- a synchronisation
+
+pub returns-in-SyncIndex-clause-serves : goal.returns-in-SyncIndex-clause-serves
+returns-in-SyncIndex-clause-serves g c =
+    serves_as _ _ _ _ _ _ c.sync_index.result (λ m. ap (λ (p : Procedure). call m p c.args.args.now) c.in-SyncIndex.is) (ap call_line c.in-SyncIndex.is) c.sync_index.ensures
+
+pub returns-in-SyncIndex-clause-fixed : goal.returns-in-SyncIndex-clause-fixed
+returns-in-SyncIndex-clause-fixed g c = λ m fixed. absurd (false≢true (sym (ap (λ (p : Procedure). is_fixed_call p c.args.args.now) c.in-SyncIndex.is) ∙ fixed))
+
+-- ---- a definition
+
+pub returns-in-Define-clause-serves : goal.returns-in-Define-clause-serves
+returns-in-Define-clause-serves g c =
+    serves_as _ _ _ _ _ _ c.define.result (λ m. ap (λ (p : Procedure). call m p c.args.args.now) c.in-Define.is) (ap call_line c.in-Define.is) c.define.ensures
+
+pub returns-in-Define-clause-fixed : goal.returns-in-Define-clause-fixed
+returns-in-Define-clause-fixed g c = λ m fixed. absurd (false≢true (sym (ap (λ (p : Procedure). is_fixed_call p c.args.args.now) c.in-Define.is) ∙ fixed))

@@ -20,8 +20,7 @@ use Rattle.db_index.specs.Dropping.{drop_index}
 use Rattle.st_parse.specs.declared.statements.Assign.{Assign}
 use Rattle.db_select.specs.Statements.{select_statement}
 use Rattle.db_engine.specs.Steps.{effect, call}
-use Rattle.db_engine.specs.Executing.{done_line, is_fixed, is_sync}
-use Rattle.std.proofs.lemmas.Bool.{not-true as is_not}
+use Rattle.db_engine.specs.Executing.{done_line, is_fixed, is_fixed_call}
 use Rattle.db_state.specs.laws.Serving.{serves_short, serves_refused, serves_look, serves_as}
 use Rattle.db_engine.proofs.executing.reply_to.Goals as goal
 
@@ -34,7 +33,7 @@ pub returns-in-CreateIndex-clause-serves : goal.returns-in-CreateIndex-clause-se
 returns-in-CreateIndex-clause-serves g c =
     let kind = c.in-CreateIndex.kind in let parameters = c.in-CreateIndex.parameters in let parallel = c.in-CreateIndex.parallel in
     serves_as _ _ _ _ _ _ c.index_statement.result
-    (λ m. ap (effect m) c.in-CreateIndex.is ∙ ap (λ (b : Bool). refuse (not b) NotUnderstood (create_index m c.in-CreateIndex.name c.in-CreateIndex.table c.in-CreateIndex.column)) (sym c.is_built_index-built.ensures))
+    (λ m. ap (effect m) c.in-CreateIndex.is ∙ ap (λ (b : Bool). refuse (not b) NotUnderstood (create_index m c.in-CreateIndex.name c.in-CreateIndex.table c.in-CreateIndex.column c.in-CreateIndex.parameters)) (sym c.is_built_index-built.ensures))
     (ap done_line c.in-CreateIndex.is ∙ ap (λ (b : Bool). if b then Some (always index_created) else None) (sym c.is_built_index-built.ensures)) c.index_statement.ensures.serves
 
 pub returns-in-Insert-clause-serves : goal.returns-in-Insert-clause-serves
@@ -51,7 +50,7 @@ returns-in-Select-clause-serves g c =
 pub returns-in-Exec-clause-serves : goal.returns-in-Exec-clause-serves
 returns-in-Exec-clause-serves g c =
     serves_as _ _ _ _ _ _ c.call.result
-    (λ m. ap (effect m) c.in-Exec.is ∙ ap (λ (args : List Arg). call m c.in-Exec.package c.in-Exec.procedure args) (sym c.as_slice-in-Exec.ensures)) (ap done_line c.in-Exec.is) c.call.ensures.serves
+    (λ m. ap (effect m) c.in-Exec.is ∙ ap (λ (args : List Arg). call m c.in-Exec.procedure args) (sym c.as_slice-in-Exec.ensures)) (ap done_line c.in-Exec.is) c.call.ensures.serves
 
 -- ---- changes of rows, and what goes
 
@@ -100,5 +99,6 @@ returns-in_ok-fixed_reply-in-Commit-clause-fixed g c = λ m fixed. c.in_ok-fixed
 
 pub returns-in-Exec-clause-fixed : goal.returns-in-Exec-clause-fixed
 returns-in-Exec-clause-fixed g c = λ m fixed.
-    let other = is_not (is_sync c.in-Exec.package c.in-Exec.procedure) (sym (ap is_fixed c.in-Exec.is) ∙ fixed) in
-    IfOk-weaker c.call.result _ _ (λ reply says. says ∙ ap (λ (args : List Arg). reply_by (call m c.in-Exec.package c.in-Exec.procedure args)) c.as_slice-in-Exec.ensures ∙ sym (ap (λ (s : Statement). reply_by (effect m s)) c.in-Exec.is)) (c.call.ensures.fixed m other)
+    let procedure = c.in-Exec.procedure in
+    let still = ap (λ (args : List Arg). is_fixed_call procedure args) c.as_slice-in-Exec.ensures ∙ (sym (ap is_fixed c.in-Exec.is) ∙ fixed) in
+    IfOk-weaker c.call.result _ _ (λ reply says. says ∙ ap (λ (args : List Arg). reply_by (call m procedure args)) c.as_slice-in-Exec.ensures ∙ sym (ap (λ (s : Statement). reply_by (effect m s)) c.in-Exec.is)) (c.call.ensures.fixed m still)

@@ -14,8 +14,8 @@ pub returns-in-Ok-create-clause-changes : goal.returns-in-Ok-create-clause-chang
 returns-in-Ok-create-clause-changes g c = λ m k holds stands x small free.
     let i = c.args.index.now in
     let on : c.in_ok-target.target ≡ target c.args.table.now c.args.place = c.in_ok-target.ensures ∙ ap (λ (n : ℕ). target c.args.table.now n) c.in-Ok.ensures.1 in
-    c.in-Ok-create.ensures.changes k m.tables holds (holds_tables k m stands) ∙ ap (λ (b : List (List ℕ × Option (List ℕ))). b ++ spell (create_changes m.tables i c.in_ok-target.target all_rows)) c.new-batch.ensures
-    ∙ ap (λ (x : Target). spell (create_changes m.tables i x all_rows)) on
+    c.in-Ok-create.ensures.changes k m.tables holds (holds_tables k m stands) ∙ ap (λ (b : List (List ℕ × Option (List ℕ))). b ++ spell (create_changes m.tables i c.in_ok-target.target c.args.prefs.now all_rows)) c.new-batch.ensures
+    ∙ ap (λ (x : Target). spell (create_changes m.tables i x c.args.prefs.now all_rows)) on
 
 pub returns-in-Ok-create-clause-entries : goal.returns-in-Ok-create-clause-entries
 returns-in-Ok-create-clause-entries g c = of_indexes c.new-batch.result c.create.new.batch c.new-batch.ensures c.in-Ok-create.ensures.shaped

@@ -2,7 +2,8 @@ use Rattle.std.proofs.Common.{ℕ, List, Option, [], sym, ap, subst, ◌∙◌}
 use Rattle.ct_keep.specs.Content.{after}
 use Rattle.ct_keep.specs.Composing.{reads_hold}
 use Rattle.db_cond.specs.Faults.{LimitReached}
-use Rattle.db_index.specs.Syncing.{name_arg, sync_named, with_synced}
+use Rattle.db_call.specs.Arguments.{name_at}
+use Rattle.db_index.specs.Syncing.{sync_named, with_synced}
 use Rattle.db_state.specs.Effects.{Does}
 use Rattle.db_state.specs.States.{Stands}
 use Rattle.db_state.specs.laws.Chains.{checked, refused, fails, passes}
@@ -15,14 +16,14 @@ pub returns-in-Some-clause-plan : goal.returns-in-Some-clause-plan
 returns-in-Some-clause-plan g c = record {
   made = λ m k holds stands.
       sync_as m c.args.args.now c.args.name.now c.in_ok-there.there _ c.requires.named (c.in_ok-there.ensures.there m k holds stands) c.unknown_name.ensures
-      ∙ refused c.sync_fault.result c.in-Some.fault _ _ c.in-Some.is (c.sync_fault.ensures (sync_named m (name_arg c.args.args.now)));
+      ∙ refused c.sync_fault.result c.in-Some.fault _ _ c.in-Some.is (c.sync_fault.ensures (sync_named m (name_at 0 c.args.args.now)));
 }
 
 pub returns-in_default-name-clause-plan : goal.returns-in_default-name-clause-plan
 returns-in_default-name-clause-plan g c = record {
   made = λ m k holds stands.
       sync_as m c.args.args.now c.args.name.now c.in_ok-there.there _ c.requires.named (c.in_ok-there.ensures.there m k holds stands) c.unknown_name.ensures
-      ∙ checked c.sync_fault.result _ _ c.in_default.is (c.sync_fault.ensures (sync_named m (name_arg c.args.args.now)))
+      ∙ checked c.sync_fault.result _ _ c.in_default.is (c.sync_fault.ensures (sync_named m (name_at 0 c.args.args.now)))
       ∙ ap (sync_named m) (sym c.requires.named ∙ c.in_default-name.is);
 }
 
@@ -34,7 +35,7 @@ returns-in_default-found-clause-plan g c = record {
       let none = passed_by _ _ _ m [] (checked c.sync_fault.result _ _ c.in_default.is (c.sync_fault.ensures (Does m []))) in
       let x = index_there m c.args.name.now i c.in_ok-there.there _ c.in-Some-name.is there_is c.unknown_name.ensures none in
       sync_as m c.args.args.now c.args.name.now c.in_ok-there.there _ c.requires.named there_is c.unknown_name.ensures
-      ∙ checked c.sync_fault.result _ _ c.in_default.is (c.sync_fault.ensures (sync_named m (name_arg c.args.args.now)))
+      ∙ checked c.sync_fault.result _ _ c.in_default.is (c.sync_fault.ensures (sync_named m (name_at 0 c.args.args.now)))
       ∙ ap (sync_named m) (sym c.requires.named)
       ∙ found_is m c.args.name.now i x.0 c.in-Some-name.is x.1
       ∙ fails _ LimitReached _ (found_none c.in_ok-found.found _ _ c.in_default-found.is (c.in_ok-found.ensures.changes m k x.0 (reads_hold _ _ k c.in_ok-there.ensures.reads holds) stands x.1));
@@ -50,7 +51,7 @@ returns-clause-plan g c = record {
       let found = found_some c.in_ok-found.found c.in-Some-found.batch _ _ c.in-Some-found.is (c.in_ok-found.ensures.changes m k x.0 (reads_hold _ _ k c.in_ok-there.ensures.reads holds) stands x.1) in (
         with_synced m i,
         sync_as m c.args.args.now c.args.name.now c.in_ok-there.there _ c.requires.named there_is c.unknown_name.ensures
-            ∙ checked c.sync_fault.result _ _ c.in_default.is (c.sync_fault.ensures (sync_named m (name_arg c.args.args.now)))
+            ∙ checked c.sync_fault.result _ _ c.in_default.is (c.sync_fault.ensures (sync_named m (name_at 0 c.args.args.now)))
             ∙ ap (sync_named m) (sym c.requires.named)
             ∙ found_is m c.args.name.now i x.0 c.in-Some-name.is x.1
             ∙ passes _ LimitReached _ found.0,

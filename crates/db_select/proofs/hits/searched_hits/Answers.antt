@@ -20,6 +20,6 @@ returns-clause-hits g c = λ m k x holds stands there same y index needed.
     let all = ap found_scores c.deref.ensures.value ∙ c.in_ok-found.ensures.found m k y holds stands index in
     IfOk-weaker c.met_hits.result _ _
     (λ hits is.
-    met_are x conds c.deref.result.now hits.items (found m.tables y (query_key s.query) n) all is
+    met_are x conds c.deref.result.now hits.items (found m.tables y (query_key y.prefs s.query) n) all is
     ∙ searched_are m t x s conds y (ap (λ (cs : List Column). index_of_search m t cs s) same ∙ needed) (Some n) (sym c.in-Some.ensures))
     (c.met_hits.ensures.hits m k x behind stands there same)

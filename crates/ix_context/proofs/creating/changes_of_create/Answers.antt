@@ -1,8 +1,8 @@
-use Rattle.std.proofs.Common.{◌≡◌, ◌≤◌, ◌+◌, ◌++◌, List, length, map, ap, ◌∙◌, arith}
+use Rattle.std.proofs.Common.{◌≡◌, ◌≤◌, ◌+◌, ◌++◌, List, length, map, ap, ◌∙◌, arith, rules}
 use Rattle.ct_base.specs.declared.numbers.RowKey.{RowKey}
 use Rattle.ct_entry.specs.Each.{numbered, each}
 use Rattle.ct_entry.specs.Changes.{spell}
-use Rattle.ct_keep.specs.Composing.{reads_hold}
+use Rattle.ct_keep.specs.Composing.{reads_on, reads_hold}
 use Rattle.ix_context.specs.Indexes.{rows_in, target_text}
 use Rattle.ix_context.specs.Rules.{most_given}
 use Rattle.ix_context.specs.Changes.{mark_with}
@@ -20,6 +20,12 @@ returns-clause-changes g c = λ m ts holds told.
     let next : c.in-Some.next ≡ 1 + length c.in_ok-rows.rows.items = omega arith in
     let marks = c.in_ok-mark_rows.ensures.changes m ts again told in (
       few,
-      created_added ts c.args.index.now c.args.target.now c.args.range c.in_ok-rows.rows.items c.in-Some.next c.new-changes.result c.put_index.new.batch c.mark_rows.new.changes rows next c.new-changes.ensures c.in_ok-put_index.ensures.ok
-          (marks ∙ ap (λ (l : List RowKey). c.put_index.new.batch ++ spell (each (mark_with c.args.index.now (target_text ts c.args.target.now)) (numbered 1 (map (λ (r : RowKey). r.0) l)))) c.deref.ensures.value),
+      created_added ts c.args.index.now c.args.target.now c.args.prefs.now c.args.range c.in_ok-rows.rows.items c.in-Some.next c.new-changes.result c.put_index.new.batch c.mark_rows.new.changes rows next c.new-changes.ensures c.in_ok-put_index.ensures.ok
+          (marks ∙ ap (λ (l : List RowKey). c.put_index.new.batch ++ spell (each (mark_with c.args.prefs.now c.args.index.now (target_text ts c.args.target.now)) (numbered 1 (map (λ (r : RowKey). r.0) l)))) c.deref.ensures.value),
     )
+
+pub returns-in_err-mark_rows-clause-reads : goal.returns-in_err-mark_rows-clause-reads
+returns-in_err-mark_rows-clause-reads g c = reads_on _ _ _ _ c.in_ok-rows.ensures.reads (search rules)
+
+pub returns-clause-reads : goal.returns-clause-reads
+returns-clause-reads g c = reads_on _ _ _ _ c.in_ok-rows.ensures.reads c.in_ok-mark_rows.ensures.reads

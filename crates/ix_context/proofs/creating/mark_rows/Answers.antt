@@ -11,7 +11,7 @@ loop-row-preserved g c = record {
   place = let place = c.loop-row.invariant.place in omega arith;
   shaped = λ are. c.in_ok-mark_next.ensures.shaped (c.loop-row.invariant.shaped are);
   changes = λ m ts holds told.
-      row_added (mark_with c.args.index.now (target_text ts c.args.target.now)) _ c.loop-row.changes c.mark_next.new.changes c.loop-row.document _ _ _
+      row_added (mark_with c.args.prefs.now c.args.index.now (target_text ts c.args.target.now)) _ c.loop-row.changes c.mark_next.new.changes c.loop-row.document _ _ _
       (c.loop-row.invariant.changes m ts holds told)
       (rows_left c.args.rows.now c.loop-row.row-index (record { 0 = pos 0 }) c.loop-row-test.true)
       (c.in_ok-mark_next.ensures.changes m ts (reads_hold _ _ m c.loop-row.invariant.reads holds) told);

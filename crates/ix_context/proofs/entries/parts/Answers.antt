@@ -1,25 +1,37 @@
-use Rattle.std.proofs.Common.{◌≡◌, ◌∙◌, arith}
-use Rattle.ix_context.proofs.EntrySteps.{stands, found, column_read, next_read}
+use Rattle.std.proofs.Common.{◌≡◌, ◌≤◌, ◌+◌, length, ◌∙◌, arith}
+use Rattle.ix_context.proofs.EntrySteps.{read_can_be, stands, found, column_read, no_prefs, prefs_read, next_enough, next_read}
 use Rattle.ix_context.proofs.entries.parts.Goals as goal
 
-pub returns-in_err-table : goal.returns-in_err-table
-returns-in_err-table c = λ t k n small fits is. absurd (c.in_err-table.ensures.none t _ (stands c.args.value.now t k n small is))
+pub returns-in_default-clause-parts : goal.returns-in_default-clause-parts
+returns-in_default-clause-parts c = λ t k p n small are fits is. absurd (c.in_default.ensures.none t _ (stands c.args.value.now t k p n small is))
 
-pub returns-in_err-column : goal.returns-in_err-column
-returns-in_err-column c = λ t k n small fits is.
-    let f = found c.args.value.now t k n c.in_ok-table.table.now c.in_ok-table.at small is c.in_ok-table.ensures.some in
-    absurd (omega (arith, f.enough, c.in_err-column.ensures.lookup.3))
+pub returns-in_default-get-clause-parts : goal.returns-in_default-get-clause-parts
+returns-in_default-get-clause-parts c = λ t k p n small are fits is.
+    let f = found c.args.value.now t k p n c.in-Some.table.now c.in-Some.at small is c.in-Some.ensures.some in
+    absurd (omega (arith, f.enough, c.in_default-get.ensures.lookup.3))
 
-pub returns-in_err-next_document : goal.returns-in_err-next_document
-returns-in_err-next_document c = λ t k n small fits is.
-    let f = found c.args.value.now t k n c.in_ok-table.table.now c.in_ok-table.at small is c.in_ok-table.ensures.some in
-    let e = c.in_err-next_document.ensures.enough.1 (omega (arith, f.enough)) in
+pub returns-in_default-2-clause-parts : goal.returns-in_default-2-clause-parts
+returns-in_default-2-clause-parts c = λ t k p n small are fits is.
+    let f = found c.args.value.now t k p n c.in-Some.table.now c.in-Some.at small is c.in-Some.ensures.some in
+    absurd (no_prefs c.args.value.now p n (c.in-Some.at + 2) are f.behind f.enough c.in_ok-prefs.field-0 c.in_default-2.is c.in_ok-prefs.ensures)
+
+pub returns-in_default-read_u32-clause-parts : goal.returns-in_default-read_u32-clause-parts
+returns-in_default-read_u32-clause-parts c = λ t k p n small are fits is.
+    let f = found c.args.value.now t k p n c.in-Some.table.now c.in-Some.at small is c.in-Some.ensures.some in
+    let read = prefs_read c.args.value.now p n (c.in-Some.at + 2) c.in-Some-2.prefs c.in-Some-2.next are f.behind c.in_ok-prefs.field-0 c.in-Some-2.is c.in_ok-prefs.ensures in
+    let enough : c.in-Some-2.next + 1 + 4 ≤ length c.args.value.now = next_enough c.args.value.now n c.in-Some-2.next read.1 in
+    let e = c.in_default-read_u32.ensures.enough.1 enough in
     cc
 
-pub returns : goal.returns
-returns c = λ t k n small fits is.
-    let f = found c.args.value.now t k n c.in_ok-table.table.now c.in_ok-table.at small is c.in_ok-table.ensures.some in
-    let column : c.in_ok-column.field-0.now ≡ k = c.in_ok-column.ensures.lookup.3.1 0 ∙ column_read c.args.value.now k n c.in_ok-table.at 0 f.rest in
-    let next : n ≡ c.in_ok-next_document.next_document = next_read c.args.value.now k n c.in_ok-table.at c.in_ok-next_document.next_document fits (omega arith) f.rest c.in_ok-next_document.ensures.some in
-    let table : t ≡ c.in_ok-table.table.now = f.same in
+pub returns-clause-parts : goal.returns-clause-parts
+returns-clause-parts c = λ t k p n small are fits is.
+    let f = found c.args.value.now t k p n c.in-Some.table.now c.in-Some.at small is c.in-Some.ensures.some in
+    let column : c.in-Some-get.column.now ≡ k = c.in-Some-get.ensures.lookup.3.1 0 ∙ column_read c.args.value.now k p n c.in-Some.at 0 f.rest in
+    let read = prefs_read c.args.value.now p n (c.in-Some.at + 2) c.in-Some-2.prefs c.in-Some-2.next are f.behind c.in_ok-prefs.field-0 c.in-Some-2.is c.in_ok-prefs.ensures in
+    let prefs : p ≡ c.in-Some-2.prefs = read.0 in
+    let next : n ≡ c.in-Some-read_u32.next_document = next_read c.args.value.now n c.in-Some-2.next c.in-Some-read_u32.next_document fits (omega arith) read.1 c.in-Some-read_u32.ensures.some in
+    let table : t ≡ c.in-Some.table.now = f.same in
     cc
+
+pub returns-clause-set : goal.returns-clause-set
+returns-clause-set c = read_can_be c.args.value.now (c.in-Some.at + 2) c.in_ok-prefs.field-0 c.in-Some-2.prefs c.in-Some-2.next c.in-Some-2.is c.in_ok-prefs.ensures

@@ -8,4 +8,4 @@ pub returns-clause-value : goal.returns-clause-value
 returns-clause-value g c = λ m holds.
     subst (λ (e : Option (List ℕ)). SpellsIndex e c.in_ok-found.found)
     (ap (λ (l : List ℕ). Some l) c.deref.ensures.value ∙ sym (ap (λ (o : Option (Vec ℕ Global)). option_map (λ v. v.items) o) c.in-Some.is) ∙ c.in_ok-value.ensures.value m holds)
-    c.in_ok-found.ensures
+    c.in_ok-found.ensures.spells

@@ -5,5 +5,5 @@ use Rattle.ix_context.proofs.marking.mark_next.Goals as goal
 
 pub returns-clause-shaped : goal.returns-clause-shaped
 returns-clause-shaped g c =
-    shaped_added c.args.changes.now c.mark_row.new.batch (spell (document_changes c.args.index.now c.args.document c.args.row.0 c.in_ok-text.text))
+    shaped_added c.args.changes.now c.mark_row.new.batch (spell (document_changes c.args.prefs.now c.args.index.now c.args.document c.args.row.0 c.in_ok-text.text))
     c.in_ok-mark_row.ensures.changes c.in_ok-mark_row.ensures.shaped

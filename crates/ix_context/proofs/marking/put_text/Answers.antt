@@ -1,12 +1,15 @@
-use Rattle.std.proofs.Common.{List, ℕ, ap, sym, subst, ◌∙◌}
+use Rattle.std.proofs.Common.{◌≡◌, ◌≤◌, List, ℕ, length, ap, sym, subst, ◌∙◌, arith}
 use Rattle.std.specs.Prelude.{All}
-use Rattle.std.specs.FinMap.{entries}
-use Rattle.ix_context.specs.Postings.{postings_of, IsPosting, HasShortText}
-use Rattle.ix_context.specs.laws.Tokens.{postings_fit}
+use Rattle.std.specs.Str.{chars}
+use Rattle.tx_document.specs.Documents.{document}
+use Rattle.tx_document.specs.Entries.{entries}
+use Rattle.ix_context.specs.Postings.{text_entries, IsPosting, HasShortText, text_limit}
+use Rattle.ix_context.specs.laws.Postings.{entries_fit}
 use Rattle.ix_context.proofs.marking.put_text.Goals as goal
 
 pub put_postings-requires-clause-postings : goal.put_postings-requires-clause-postings
 put_postings-requires-clause-postings c =
-    let short = subst HasShortText c.in-Some.is c.requires.short in
-    let listed = c.in_ok-list.ensures.listed ∙ ap (λ (t : List ℕ). entries (postings_of t)) c.as_str.ensures in
-    subst (All IsPosting) (sym listed) (postings_fit c.in-Some.text short)
+    let short : length c.in-Some.text ≤ text_limit = subst HasShortText c.in-Some.is c.requires.short in
+    let read : c.in_ok-entries.entries.items ≡ text_entries c.args.prefs.now c.in-Some.text =
+    c.in_ok-entries.ensures ∙ ap entries (c.in_ok-document_text.ensures ∙ ap (λ (t : List ℕ). document c.args.prefs.now (chars t)) c.as_str.ensures) in
+    subst (All IsPosting) (sym read) (entries_fit c.args.prefs.now c.in-Some.text c.keep_rules.ensures (omega (arith, short)))

@@ -1,10 +1,9 @@
 use Rattle.std.proofs.Common.{◌<◌, ap, ◌∙◌, rules}
 use Rattle.ct_entry.specs.Keys.{IsRow}
 use Rattle.ix_context.specs.Postings.{if_short}
-use Rattle.ix_context.specs.laws.Tokens.{short_kept}
 use Rattle.ix_context.specs.Indexes.{target_text}
 use Rattle.ix_context.specs.laws.Reading.{target_read}
-use Rattle.ix_context.specs.laws.Texts.{target_has_short}
+use Rattle.ix_context.specs.laws.Texts.{target_has_short, short_kept}
 use Rattle.ix_context.proofs.marking.seen_text.Goals as goal
 
 pub returns-clause-text : goal.returns-clause-text

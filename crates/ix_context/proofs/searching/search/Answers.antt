@@ -8,7 +8,7 @@ use Rattle.ix_context.specs.Standing.{IndexStands}
 use Rattle.ix_context.specs.Indexes.{found}
 use Rattle.ix_context.specs.Scoring.{HoldRows}
 use Rattle.ix_context.proofs.SearchSteps.{pairs_of}
-use Rattle.ix_context.specs.laws.Tokens.{stands_nowhere}
+use Rattle.ix_context.proofs.WordLaws.{stands_nowhere}
 use Rattle.ix_context.proofs.SyncSteps.{none_says, some_says}
 use Rattle.ix_context.proofs.SearchLaws.{finds, finds_none}
 use Rattle.ix_context.proofs.searching.search.Goals as goal
@@ -16,7 +16,7 @@ use Rattle.ix_context.proofs.searching.search.Goals as goal
 pub returns-in_default-clause-found : goal.returns-in_default-clause-found
 returns-in_default-clause-found g c = λ m ts xs x holds only stand there fit.
     let none = none_says _ _ _ c.in_default.is c.in_ok-prefix.ensures in
-    let nothing : found ts x c.args.word.now 0 ≡ [] = finds_none ts x c.args.word.now (stands_nowhere c.args.word.now none) in
+    let nothing : found ts x c.args.word.now 0 ≡ [] = finds_none ts x c.args.word.now (stands_nowhere c.args.word.now none x.prefs) in
     rw nothing (search rules)
 
 pub returns-clause-found : goal.returns-clause-found

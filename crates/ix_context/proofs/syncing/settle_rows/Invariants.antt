@@ -17,6 +17,6 @@ invariant-loop-row g l = record {
   place : l.document ≡ l.fn.first + l.row-index;
   shaped : AreShaped HasIndexValue l.fn.changes → AreShaped HasIndexValue l.changes;
   changes : (m : Content) (ts : Tables) → (g.K.Keeper.view l.fn.keeper).content ≡ Some m → HoldsTables m ts
-      → l.changes ++ spell (each (settle_with l.index (target_text ts l.target)) (numbered l.document (map (λ r. r.0) (drop l.row-index l.rows))))
-      ≡ l.fn.changes ++ spell (each (settle_with l.index (target_text ts l.target)) (numbered l.fn.first (map (λ r. r.0) l.rows)));
+      → l.changes ++ spell (each (settle_with l.prefs l.index (target_text ts l.target)) (numbered l.document (map (λ r. r.0) (drop l.row-index l.rows))))
+      ≡ l.fn.changes ++ spell (each (settle_with l.prefs l.index (target_text ts l.target)) (numbered l.fn.first (map (λ r. r.0) l.rows)));
 }

@@ -12,12 +12,12 @@ pub returns-clause-changes : goal.returns-clause-changes
 returns-clause-changes g c = λ m ts holds told.
     let behind = c.in-Some.ensures in (
       let is = behind.0 in let fits = behind.1 in omega arith,
-      settled_added c.args.index.now c.args.target.now (target_text ts c.args.target.now) c.args.first c.in-Some.next c.args.rows.now _ c.settle_rows.new.changes c.put_index.new.batch
+      settled_added c.args.index.now c.args.target.now c.args.prefs.now (target_text ts c.args.target.now) c.args.first c.in-Some.next c.args.rows.now _ c.settle_rows.new.changes c.put_index.new.batch
           (sym c.is_empty.ensures ∙ c.if-is_empty.false) c.new-changes.ensures (c.in_ok-settle_rows.ensures.changes m ts holds told) c.in_ok-put_index.ensures.ok behind.0,
     )
 
 pub returns-clause-shaped : goal.returns-clause-shaped
 returns-clause-shaped g c =
     let none : AreShaped HasIndexValue c.new-changes.result = subst (AreShaped HasIndexValue) (sym c.new-changes.ensures) tt in
-    shaped_added c.settle_rows.new.changes c.put_index.new.batch (spell (index_change c.args.index.now c.args.target.now c.in-Some.next ∷ []))
+    shaped_added c.settle_rows.new.changes c.put_index.new.batch (spell (index_change c.args.index.now c.args.target.now c.args.prefs.now c.in-Some.next ∷ []))
     c.in_ok-put_index.ensures.ok c.in_ok-put_index.ensures.shaped (c.in_ok-settle_rows.ensures.shaped none)

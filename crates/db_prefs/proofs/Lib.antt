@@ -1,0 +1,3 @@
+pub mod NewPreferences
+pub mod Plans
+pub mod Effects

@@ -1,0 +1,21 @@
+use Rattle.std.proofs.Common.{Some, refl, sym}
+use Rattle.std.proofs.lemmas.Result.{err_from_is_err_and}
+use Rattle.ct_keep.specs.Composing.{reads_none}
+use Rattle.db_state.specs.Lines.{call_done}
+use Rattle.db_state.specs.Plans.{always}
+use Rattle.db_state.specs.laws.Serving.{serves_as, serves_err, serves_short, serves_then, plan_then}
+use Rattle.db_prefs.specs.Defining.{define, define_by}
+use Rattle.db_prefs.proofs.defining.define.Goals as goal
+
+pub returns-in_err-shown : goal.returns-in_err-shown
+returns-in_err-shown g c = serves_short _ _ _ _ _ (reads_none _ c.requires.ready) (err_from_is_err_and _ c.from_residual.ensures.1)
+
+pub returns-in-Ok : goal.returns-in-Ok
+returns-in-Ok g c =
+    let shown = c.in_ok-shown.shown in
+    serves_as (λ m. define_by m c.args.procedure shown.name shown.section shown.tag c.args.args.now) (λ m. define m c.args.procedure c.args.args.now) (Some (always call_done)) (Some (always call_done)) _ _ _
+    (λ m i. define_by m c.args.procedure (sym c.in_ok-shown.ensures.name i) (sym c.in_ok-shown.ensures.section i) (sym c.in_ok-shown.ensures.tag i) c.args.args.now) refl
+    (serves_then _ _ _ _ _ _ c.in-Ok.ensures.reads (c.carry_out.ensures.done _ (plan_then _ _ _ _ _ c.in-Ok.ensures.reads c.in-Ok.ensures.plan)))
+
+pub returns : goal.returns
+returns g c = serves_err _ _ _ _ _ c.in-Err.ensures.reads

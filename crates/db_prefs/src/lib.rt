@@ -1,0 +1,16 @@
+//! The procedures that define lexer preferences, stoplists and section groups.
+#![tactic(auto)]
+
+mod arguments;
+mod attributes;
+mod checks;
+mod creating;
+mod defining;
+mod lookups;
+mod sections;
+mod special_sections;
+mod stopwords;
+#[cfg(test)]
+mod tests;
+
+pub use defining::define;

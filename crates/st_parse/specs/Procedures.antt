@@ -1,0 +1,48 @@
+-- The procedures that a statement may call, by the names of their packages and their own.
+use Rattle.std.specs.Prelude.{ℕ, ◌≡◌, ◌&&◌, List, [], ◌∷◌, bytes_eq, Option, Some, None, codes, refl}
+use Rattle.std.specs.Bool.{if◌then◌else◌}
+use Rattle.st_parse.specs.declared.procedures.Definition.{Definition}
+use Rattle.st_parse.specs.declared.procedures.Definition.TheVariants.{CreatePreference, SetAttribute, CreateStoplist, AddStopword, CreateSectionGroup, AddZoneSection, AddFieldSection, AddSpecialSection}
+use Rattle.st_parse.specs.declared.procedures.Procedure.{Procedure}
+use Rattle.st_parse.specs.declared.procedures.Procedure.TheVariants.{PolicyTokens, SyncIndex, Define}
+
+abbrev pub definition_name : Definition → List ℕ
+definition_name CreatePreference = codes "create_preference"
+definition_name SetAttribute = codes "set_attribute"
+definition_name CreateStoplist = codes "create_stoplist"
+definition_name AddStopword = codes "add_stopword"
+definition_name CreateSectionGroup = codes "create_section_group"
+definition_name AddZoneSection = codes "add_zone_section"
+definition_name AddFieldSection = codes "add_field_section"
+definition_name AddSpecialSection = codes "add_special_section"
+
+abbrev pub procedure_package : Procedure → List ℕ
+procedure_package PolicyTokens = codes "ctx_doc"
+procedure_package SyncIndex = codes "ctx_ddl"
+procedure_package (Define definition) = codes "ctx_ddl"
+
+abbrev pub procedure_name : Procedure → List ℕ
+procedure_name PolicyTokens = codes "policy_tokens"
+procedure_name SyncIndex = codes "sync_index"
+procedure_name (Define definition) = definition_name definition
+
+abbrev pub all_procedures : List Procedure
+all_procedures =
+    PolicyTokens ∷ SyncIndex ∷ Define CreatePreference ∷ Define SetAttribute ∷ Define CreateStoplist ∷ Define AddStopword ∷ Define CreateSectionGroup ∷ Define AddZoneSection
+    ∷ Define AddFieldSection ∷ Define AddSpecialSection ∷ []
+
+-- the first of some that has these names
+abbrev pub named_among : List ℕ → List ℕ → List Procedure → Option Procedure
+named_among pack name [] = None
+named_among pack name (p ∷ ps) = if bytes_eq (procedure_package p) pack && bytes_eq (procedure_name p) name then Some p else named_among pack name ps
+
+-- the procedure of these names, which are given in lower case
+abbrev pub procedure_named : List ℕ → List ℕ → Option Procedure
+procedure_named pack name = named_among pack name all_procedures
+
+-- computed examples
+a_definition : procedure_named (codes "ctx_ddl") (codes "add_stopword") ≡ Some (Define AddStopword)
+a_definition = refl
+
+of_another_package : procedure_named (codes "ctx_doc") (codes "add_stopword") ≡ None
+of_another_package = refl
