@@ -13,63 +13,45 @@ from collections.abc import Callable, Iterable, Sequence
 from dataclasses import dataclass
 from functools import lru_cache, partial
 
+from documents import Group, SectionKind, document
 from lexemes import KEYWORDS
 from model import STATEMENT_LIMIT, answer
-from state import Column, State, Table, Value
+from preferences import ATTRIBUTES, FLAGS, SET_LIMIT, SETS, SINGLES, WITHOUT_EFFECT
+from procedures import FIELD_LIMIT, LIST_LIMIT, STOPWORD_LIMIT, STOPWORD_SIZE, TAG_LIMIT, ZONE_LIMIT
+from state import Column, Index, State, Table, Value
 from statements import TABLE_LIMIT
-from texts import RESERVED, WHITE_SPACE, is_word, tokens
-
-# names and numbers that statements choose from
-TABLES = ["docs", "items", "t", "a" * 30, "docs$2#_"]
-INDEXES = ["di", "ti", "docs", "b" * 30, "i#1"]
-COLUMNS = ["id", "body", "price", "title", "note", "c" * 30, "n_2"]
-STRANGE_NAMES = [
-    "nope", "x" * 31, "order", "key", "select", "Score", "ctx_user_pending", "ctx_user_index_errors", "local", "1a", "_a", "é",
-]
-NUMBERS = ["0", "1", "2", "3", "007", str(2**63 - 1), "100", "101"]
-BEYOND = [str(2**63 + 1), "9" * 20, "1" * 5000, "18446744073709551617"]
-# words that fold, compose, or are cut in ways of their own
-WORDS = [
-    "quick", "fox", "Straße", "GROẞE", "ΟΔΥΣΣΕΥΣ", "οδυσσευς", "İstanbul", "ısı", "ſqe", "café", "cafe\u0301", "한국어", "1,000.50", "12",
-    "日本語", "हिन्दी", "ᾳ", "α\u0345\u0301", "\u0345", "ﬃ", "a\u0323\u0302", "\u1112\u1161\u11ab", "١٢٣", "\u212b", "\u01c5", "a" * 254 + "é", "ü" * 128,
-    "x" * 300, "\u0300\u0301", "ᏣᎳᎩ", "\u1e9b\u0323", "²", "Ⅻ", "NEAR", "accum", "3.14", "1,a",
-]
-OPERATORS = sorted(RESERVED)
-NO_UTF_8 = [b"\xff", b"\xc3", b"\xed\xa0\x80", b"\xf4\x90\x80\x80"]
-BETWEEN_WORDS = [
-    " ", " ", " ", " ", ", ", ". ", ".", "-", "|", "\\", "\n", "\r\n", "'", "''", "_", "--", ";", "\u3000", "\u200b", "\ue000", "\U0010fffd", "\uffff",
-]
-BLANKS = [*[" ", "\n", "\r\n", " -- it's; a (comment)\n", "--\n"] * 6, *WHITE_SPACE]
-ENDS = [";\n"] * 90 + ["; \t\r\n", ";\r\n", ";\n\n", " ;\n-- a comment\n", ";", "; -- no end\n", ""]
-# texts that are no statements, or not yet
-NO_STATEMENTS = [
-    "SELECT id FROM docs ORDER BY id",
-    "SELECT * FROM docs WHERE CONTAINS(body, 'quick') > 0 ORDER BY id DESC",
-    "SELECT id FROM docs WHERE CATSEARCH(body, 'quick', NULL) > 0",
-    "SELECT id FROM docs WHERE MATCHES(body, 'quick') > 0",
-    "SELECT id FROM docs WHERE CONTAINS(body, 'a') > 0 AND CONTAINS(body, 'b') > 0",
-    "SELECT * FROM ctx_user_index_errors",
-    "SELECT nope FROM ctx_user_index_errors WHERE id = 1",
-    "CREATE INDEX ci ON docs(body) INDEXTYPE IS CTXSYS.CTXCAT",
-    "CREATE INDEX ri ON docs(body) INDEXTYPE IS CTXRULE",
-    "CREATE INDEX di ON docs(body) INDEXTYPE IS CTXSYS.CONTEXT PARAMETERS ('LEXER l')",
-    "CREATE INDEX di ON docs(body) INDEXTYPE IS CTXSYS.CONTEXT PARALLEL 2",
-    "EXEC CTX_DDL.OPTIMIZE_INDEX('di','FULL')",
-    "EXEC CTX_DDL.CREATE_PREFERENCE('p','BASIC_LEXER')",
-    "EXEC CTX_DOC.POLICY_TOKENS('p','a text')",
-    "EXEC CTX_QUERY.RESULT_SET('di','quick','count')",
-    "EXEC CTX_THES.CREATE_THESAURUS('th')",
-    "EXEC nope.nope()",
-    "ROLLBACK",
-    "SELEC",
-    "%",
-    "'",
-    "COMMIT COMMIT",
-    "COMMIT\x1c",
-    "COMMIT\u200b",
-]
-# lexemes that are put into a statement at random places
-STRAY = ["(", ")", ",", ".", "*", "=", "<", "<=", ">", ">=", "-", "0", "'x'", "AND", "FROM", "WHERE", "NULL", "TRUE", "id", "CTXSYS", "%", "\\"]
+from texts import WHITE_SPACE, ascii_lower, ascii_upper, is_query, is_word, tokens
+from vocabulary import (
+    BETWEEN_WORDS,
+    BEYOND,
+    BLANKS,
+    BROKEN_TAGS,
+    COLUMNS,
+    ENDS,
+    GROUPS,
+    INDEXES,
+    JOINS,
+    LOOKS_LIKE,
+    NO_JOINS,
+    NO_NAMES,
+    NO_STATEMENTS,
+    NO_UTF_8,
+    NUMBERS,
+    OPERATORS,
+    PARAMETER_LISTS,
+    PARAMETER_WORDS,
+    PREFERENCES,
+    SECTIONS,
+    SENTENCE_ENDS,
+    STOPLISTS,
+    STOPWORDS,
+    STRANGE_NAMES,
+    STRAY,
+    TABLES,
+    TAGS,
+    WHOLE_TAGS,
+    WORDS,
+)
 
 
 @dataclass(frozen=True)
@@ -112,6 +94,14 @@ def fitted(text: str, size: int) -> str:
     return begin + "z" * (size - len(begin.encode()))
 
 
+def without_marks(word: str) -> str:
+    return "".join(char for char in unicodedata.normalize("NFD", word) if unicodedata.category(char) != "Mn")
+
+
+def with_mark(word: str) -> str:
+    return word + "\u0301"
+
+
 def needs_blank(before: str, lexeme: str) -> bool:
     """Returns whether two lexemes would be read as others, or as a comment, if nothing stood between them."""
     end, begin = before[-1:], lexeme[:1]
@@ -133,6 +123,7 @@ class Maker:
         self.state = State()
         self.wrong = 0.0  # how often a choice goes wrong
         self.has_changed = False  # whether the last statement changed the state
+        self.planned = self.beginning()  # kinds of statements, which come first
         self.pool = ["quick", *(self.rare_word() if self.chance(0.4) else self.one_of(WORDS) for _ in range(6))]
 
     # choices
@@ -156,7 +147,7 @@ class Maker:
     def new(self, names: Iterable[str], all_names: Sequence[str]) -> str:
         """Returns a name of what isn't there yet, most of the time."""
         there = list(names)
-        if self.goes_wrong():
+        if self.goes_wrong() or self.chance(0.03):
             return self.one_of(there if there and self.chance(0.7) else STRANGE_NAMES)
         return self.one_of([name for name in all_names if name not in there] or there)
 
@@ -184,7 +175,8 @@ class Maker:
     def spelt_otherwise(self, word: str) -> str:
         """Returns a word that often has the same key."""
         composed, decomposed = (partial(unicodedata.normalize, form) for form in ("NFC", "NFD"))
-        return self.random.choice([str, str, str.upper, str.lower, str.swapcase, str.casefold, composed, decomposed])(word)
+        cases = [str.upper, str.lower, str.swapcase, str.casefold]
+        return self.random.choice([str, str, *cases, composed, decomposed, without_marks, with_mark])(word)
 
     def word(self) -> str:
         return self.rare_word() if self.chance(0.1) else self.spelt_otherwise(self.one_of(self.pool))
@@ -197,7 +189,29 @@ class Maker:
         words = [self.word() for _ in range(self.random.choice([1, 2, 3, 6, 6, 12]))]
         if self.chance(0.04):
             words = [words[0]] * self.random.choice([99, 100, 101, 128])
-        return "".join(word + self.one_of(BETWEEN_WORDS) for word in words[:-1]) + words[-1]
+        has_tags = self.chance(0.7 if any(group.sections for group in self.state.groups.values()) else 0.1)
+        begin, end = (self.tag() if has_tags and self.chance(0.3) else "" for _ in range(2))
+        return begin + "".join(word + self.between(has_tags) for word in words[:-1]) + words[-1] + end
+
+    def between(self, has_tags: bool) -> str:
+        """Returns what stands between two words: blanks or signs, the end of a sentence or paragraph, or a tag."""
+        way = self.random.choices(["blank", "join", "end", "tag"], [60, 15, 10, 50 if has_tags else 0])[0]
+        if way == "blank":
+            return self.one_of(BETWEEN_WORDS)
+        if way == "end":
+            return self.one_of(SENTENCE_ENDS)
+        if way == "tag":
+            return self.one_of(["", "", " ", "."]) + self.tag() + self.one_of(["", "", " ", "\n"])
+        values = (preference.get(name, "") for preference in self.state.preferences.values() for name in (*SETS, *SINGLES))
+        joins = "".join(values)
+        return self.one_of(joins if joins and self.chance(0.8) else JOINS) * self.random.choice([1, 1, 1, 2])
+
+    def tag(self) -> str:
+        """Returns a tag, most of the time of a group that is there; seldom what isn't quite a tag."""
+        tags = [tag for group in self.state.groups.values() for tag in group.tags]
+        name = self.one_of(tags if tags and self.chance(0.7) else TAGS)
+        form = self.one_of(BROKEN_TAGS if self.chance(0.12) else WHOLE_TAGS)
+        return form.format(self.random.choice([str, str.upper, str.title])(name))
 
     def text_for(self, size: int) -> str:
         """Returns a text of at most so many bytes, at times of just so many; seldom a longer one."""
@@ -229,13 +243,20 @@ class Maker:
             return self.number()
         return quoted(self.text_for(column.size if isinstance(column.size, int) else 0))
 
-    def query(self, texts: Sequence[str]) -> str:
-        """Returns a query, often of a word of these texts."""
+    def query(self, texts: Sequence[str], index: Index | None) -> str:
+        """Returns a query, often of a word of these texts or of a stopword."""
         if self.goes_wrong():
             operator = self.one_of(OPERATORS)
             return self.random.choice([self.text(), "", "a b", " quick", operator, operator.lower(), "{quick}", "a" * 4001])
-        keys = [token.key for text in texts for token in tokens(text)]
-        return self.spelt_otherwise(self.one_of(keys)) if keys and self.chance(0.7) else self.word()
+        if index is None or self.chance(0.2):
+            return self.word()
+        if index.prefs.stop_keys and self.chance(0.1):
+            return self.spelt_otherwise(self.one_of(sorted(index.prefs.stop_keys)))
+        keys = [str(word.key) for text in texts for word in document(index.prefs, text).words if word.key is not None]
+        if self.chance(0.2):
+            keys = [token.key for text in texts for token in tokens(text, index.prefs.lexer)]  # those of tags, too
+        words = [key for key in keys if is_query(key)] or keys
+        return self.spelt_otherwise(self.one_of(words)) if words else self.word()
 
     # statements, each as a list of lexemes
 
@@ -243,7 +264,7 @@ class Maker:
         name = self.new(self.state.tables, TABLES)
         if self.chance(0.01):
             return ["CREATE", "TABLE", name, *self.columns_of_table(self.random.choice([16, 17]))]
-        return ["CREATE", "TABLE", name, *self.columns_of_table(self.random.choice([1, 3, 3, 3, 4, 5]))]
+        return ["CREATE", "TABLE", name, *self.columns_of_table(self.random.choice([1, 3, 3, 3, 3, 3, 4, 4, 5, 5]))]
 
     def columns_of_table(self, count: int) -> list[str]:
         others = [name for name in COLUMNS if name != "id"]
@@ -251,15 +272,17 @@ class Maker:
         names = [*others, *(f"c{i}" for i in range(count))][: count - 1]
         if names and self.goes_wrong():
             names[-1] = self.one_of(["id", *STRANGE_NAMES])
-        columns = [["id", "NUMBER", "PRIMARY", "KEY"], *([name, *self.sort()] for name in names)]
+        sorts = [self.sort(0.1 if place == 0 else 0.3) for place in range(len(names))]
+        columns = [["id", "NUMBER", "PRIMARY", "KEY"], *([name, *sort] for name, sort in zip(names, sorts))]
         if self.goes_wrong():
             columns[0] = ["id", *self.one_of(["NUMBER", "CLOB PRIMARY KEY", "NUMBER KEY", "NUMBER PRIMARY"]).split()]
         if self.goes_wrong():
             columns[-1] = [*columns[-1], "PRIMARY", "KEY"]
         return self.listed(columns)
 
-    def sort(self) -> list[str]:
-        if self.chance(0.3):
+    def sort(self, numbers: float) -> list[str]:
+        """Returns the type of a column, which is a NUMBER with this probability."""
+        if self.chance(numbers):
             return ["NUMBER"]
         if self.chance(0.4):
             return ["CLOB"]
@@ -279,11 +302,57 @@ class Maker:
 
     def create_index(self) -> list[str]:
         name, table = self.table()
-        places = {index.place for index in self.state.indexes_of(name)}
-        column = self.column(table, lambda it: it.is_text and table.columns.index(it) not in places)
+        free = [it for it in self.state.tables if self.free_columns(it)]
+        if free and not self.goes_wrong():
+            name = self.one_of(free)
+            table = self.state.tables[name]
+        column = self.column(table, lambda it: it in self.free_columns(name))
         index = self.new(self.state.indexes, INDEXES)
         owner = ["CTXSYS", "."] if self.chance(0.7) else []
-        return ["CREATE", "INDEX", index, "ON", name, "(", column.name, ")", "INDEXTYPE", "IS", *owner, "CONTEXT"]
+        parameters = ["PARAMETERS", "(", quoted(self.parameters()), ")"] if self.chance(0.75) else []
+        return ["CREATE", "INDEX", index, "ON", name, "(", column.name, ")", "INDEXTYPE", "IS", *owner, "CONTEXT", *parameters]
+
+    def free_columns(self, table: str) -> list[Column]:
+        """Returns the columns of a table that can have an index and have none yet."""
+        columns = self.state.tables[table].columns if table in self.state.tables else ()
+        return [it for place, it in enumerate(columns) if it.is_text and self.state.index_on(table, place) is None]
+
+    def parameters(self) -> str:
+        """Returns a text of PARAMETERS, most of the time of what is there."""
+        state = self.state
+        kinds: list[tuple[str, Iterable[str], Sequence[str], str]] = [
+            ("LEXER", state.preferences, PREFERENCES, "CTXSYS.DEFAULT_LEXER"),
+            ("STOPLIST", state.stoplists, STOPLISTS, "CTXSYS.EMPTY_STOPLIST"),
+            ("SECTION GROUP", state.groups, GROUPS, "CTXSYS.NULL_SECTION_GROUP"),
+        ]
+        self.random.shuffle(kinds)
+        words: list[str] = []
+        for kind, there, names, default in kinds:
+            if self.chance(0.8 if list(there) else 0.1):
+                is_default = self.chance(0.1) or not (list(there) or self.goes_wrong())
+                words += [*kind.split(), default if is_default else self.known(there, names)]
+        if self.goes_wrong():
+            words = self.wrong_parameters(words)
+        begin = self.parameter_blank() if self.chance(0.1) else ""
+        return begin + "".join(self.cased(word) + self.parameter_blank() for word in words)
+
+    def wrong_parameters(self, words: list[str]) -> list[str]:
+        """Returns the words with some of them dropped, others put between, or all of them doubled."""
+        at = self.random.randrange(len(words) + 1)
+        others = self.one_of(PARAMETER_LISTS if self.chance(0.6) else PARAMETER_WORDS).split()
+        put = [*words[:at], *others, *words[at:]]
+        return self.random.choice([put, put, [*words, *words], [*words[:at], *words[at + 1 :]]])
+
+    def parameter_blank(self) -> str:
+        """Returns what separates two words of PARAMETERS; where it goes wrong, what only looks like it."""
+        if self.goes_wrong():
+            return self.one_of(["", "\u200b", "\x1c", "\x1f", "\u180e", "\ufeff", "_", ","])
+        return " " if self.chance(0.8) else self.one_of([*WHITE_SPACE, "  ", " \n"])
+
+    def cased(self, text: str) -> str:
+        """Returns a text in some ASCII case."""
+        title = str.title if text.isascii() else str
+        return text if self.chance(0.6) else self.random.choice([ascii_upper, ascii_lower, title])(text)
 
     def insert(self) -> list[str]:
         name, table = self.table()
@@ -346,7 +415,7 @@ class Maker:
     def select(self) -> list[str]:
         """Returns a SELECT with CONTAINS over an indexed column, where there is one."""
         if not self.state.indexes or self.goes_wrong():
-            (name, table), texts = self.table(), []
+            (name, table), texts, index = self.table(), [], None
             column = self.column(table)
         else:
             index = self.random.choice(list(self.state.indexes.values()))
@@ -356,7 +425,7 @@ class Maker:
         label = self.one_of([*BEYOND, "0"] if self.goes_wrong() else ["1", "1", "2", "01"])
         has_label = not self.goes_wrong()
         above = self.one_of(["-1", "101", ">", *BEYOND] if self.goes_wrong() else ["0"] * 12 + ["1", "2", "99", "100"])
-        query = quoted(self.query(texts))
+        query = quoted(self.query(texts, index))
         contains = ["CONTAINS", "(", column.name, ",", query, *([",", label] if has_label else []), ")", ">", above]
         conditions = [contains, *([self.condition(table)] if self.chance(0.25) else [])]
         self.random.shuffle(conditions)
@@ -391,15 +460,107 @@ class Maker:
             arguments = [*arguments, self.one_of(["1", "'16M'", "'16'", "TRUE", "FALSE", "-5", self.one_of(BEYOND)])]
         return [self.one_of(["EXEC", "EXECUTE"]), package, ".", procedure, *self.listed([[it] for it in arguments])]
 
+    def named(self, name: str) -> str:
+        """Returns a name as an argument, where it goes wrong one that isn't spelt as a name."""
+        if self.goes_wrong():
+            return self.one_of(NO_NAMES)
+        return quoted(self.cased(name))
+
+    def fixed(self, text: str, *others: str) -> str:
+        """Returns a fixed word as an argument, in some case; where it goes wrong another one, or what only looks like it."""
+        if self.goes_wrong():
+            looks_like = [cased.translate(LOOKS_LIKE) for cased in (text.lower(), text.upper())]
+            return quoted(self.one_of([*others, *looks_like, text + " ", text[:-1], ""]))
+        return quoted(self.cased(text))
+
+    def create_preference(self) -> list[str]:
+        name = self.named(self.new(self.state.preferences, PREFERENCES))
+        return self.call("CTX_DDL", "CREATE_PREFERENCE", [name, self.fixed("BASIC_LEXER", "WORLD_LEXER", "BASIC_STOPLIST")])
+
+    def set_attribute(self) -> list[str]:
+        name = self.named(self.known(self.state.preferences, PREFERENCES))
+        attribute = self.one_of([*ATTRIBUTES, *SETS, *FLAGS * 4])
+        its_name = self.fixed(attribute, "whitespace", "stems", "index_stems", "continuation", "print joins")
+        return self.call("CTX_DDL", "SET_ATTRIBUTE", [name, its_name, quoted(self.attribute_value(attribute))])
+
+    def attribute_value(self, attribute: str) -> str:
+        """Returns a value that an attribute takes, most of the time."""
+        is_wrong = self.goes_wrong() or self.chance(0.04)
+        if attribute in SINGLES:
+            return self.one_of(["..", "a", "1", " ", "\u0301", "NO"] if is_wrong else ["", ".", ",", *JOINS])
+        if attribute not in SETS:
+            fixed = ["YES", "YES", "YES", "NO"] if attribute in FLAGS else [WITHOUT_EFFECT[attribute]]
+            others = ["", "TRUE", "1", "YES ", "ye\u017f", "YES", "NO", "N\uff2f"]
+            return self.cased(self.one_of(others if is_wrong else fixed))
+        chars = self.random.choices(JOINS, k=self.random.choice([0, 1, 1, 1, 2, 2, 3, 3, 5, SET_LIMIT - 1, SET_LIMIT]))
+        if is_wrong and self.chance(0.5):
+            few = self.random.sample(JOINS, self.random.choice([1, 5, len(JOINS)]))
+            chars = self.random.choices(few, k=SET_LIMIT + 1)
+        elif is_wrong:
+            chars.insert(self.random.randrange(len(chars) + 1), self.one_of(NO_JOINS))
+        return "".join(chars)
+
+    def create_stoplist(self) -> list[str]:
+        name = self.named(self.new(self.state.stoplists, STOPLISTS))
+        its_type = [self.fixed("BASIC_STOPLIST", "MULTI_STOPLIST", "BASIC_LEXER")] if self.chance(0.4) else []
+        return self.call("CTX_DDL", "CREATE_STOPLIST", [name, *its_type])
+
+    def add_stopword(self) -> list[str]:
+        """Adds a word of texts, most of the time; at times one that the list has, as it is or in another case."""
+        name = self.known(self.state.stoplists, STOPLISTS)
+        there = sorted(self.state.stoplists.get(name, ()))
+        if there and (self.goes_wrong() or self.chance(0.05)):
+            word = self.one_of(there)
+        elif self.goes_wrong():
+            word = self.one_of(["", "x" * (STOPWORD_SIZE + 1), "ü" * 33])
+        elif there and self.chance(0.1):
+            word = self.spelt_otherwise(self.one_of(there))
+        else:
+            word = self.one_of(STOPWORDS) if self.chance(0.15) else self.word()
+        return self.call("CTX_DDL", "ADD_STOPWORD", [self.named(name), quoted(word)])
+
+    def create_group(self) -> list[str]:
+        name = self.named(self.new(self.state.groups, GROUPS))
+        its_type = self.one_of(["BASIC_SECTION_GROUP"] * 4 + ["NULL_SECTION_GROUP"])
+        return self.call("CTX_DDL", "CREATE_SECTION_GROUP", [name, self.fixed(its_type, "HTML_SECTION_GROUP", "PATH_SECTION_GROUP")])
+
+    def add_section(self) -> list[str]:
+        """Adds a special section, or a tag to a section that is there or isn't there yet."""
+        name = self.known(self.state.groups, GROUPS)
+        group = self.state.groups.get(name, Group())
+        if self.chance(0.6 if group.is_null else 0.15):
+            special = self.one_of(["SENTENCE", "PARAGRAPH"])
+            return self.call("CTX_DDL", "ADD_SPECIAL_SECTION", [self.named(name), self.fixed(special, "HEADING", "SENTENCES")])
+        kinds: list[SectionKind] = ["zone", "field", "field", "visible field"]
+        kind = self.random.choice(kinds)
+        section = self.new([it.name for it in group.sections], SECTIONS)
+        if group.sections and self.chance(0.4):
+            there = self.random.choice(group.sections)
+            section, kind = there.name, kind if self.goes_wrong() or self.chance(0.1) else there.kind
+        if self.goes_wrong():
+            section = self.one_of(["sentence", "paragraph", section])
+        tag = self.one_of(group.tags) if group.tags and self.chance(0.05) else self.new(group.tags, TAGS)
+        if self.goes_wrong():
+            tag = self.one_of(["", "a b", "é", "x" * 31, "a.b", "<p>", "p#1", "\u212a", " p", *group.tags])
+        arguments = [self.named(name), self.named(section), quoted(self.cased(tag))]
+        if kind == "zone":
+            return self.call("CTX_DDL", "ADD_ZONE_SECTION", arguments)
+        visibility = ["TRUE"] if kind == "visible field" else ["FALSE"] if self.chance(0.3) else []
+        if self.goes_wrong():
+            visibility = [self.one_of(["1", "0", "'TRUE'", "'x'", "FALSE", "TRUE"])]
+        return self.call("CTX_DDL", "ADD_FIELD_SECTION", [*arguments, *visibility])
+
     def sync(self) -> list[str]:
-        index = self.known(self.state.indexes, INDEXES)
-        first = self.one_of(["''", "'no name'", "' di'", "1", "TRUE"]) if self.goes_wrong() else quoted(index)
+        first = self.named(self.known(self.state.indexes, INDEXES))
         wrong_memories = ["'M'", "'16 M'", "'16MB'", "'-1K'", "'١K'", "''", "'16'", "16"]
         memory = self.one_of(wrong_memories if self.goes_wrong() else ["'16M'", "'0k'", "'007G'"])
         return self.call("CTX_DDL", "SYNC_INDEX", [first, *([memory] if self.chance(0.3) else [])])
 
     def policy_tokens(self) -> list[str]:
-        return self.call("CTX_DOC", "POLICY_TOKENS", [quoted(self.text_for(4000) if self.chance(0.1) else self.text())])
+        text = quoted(self.text_for(4000) if self.chance(0.1) else self.text())
+        if not self.chance(0.6 if self.state.preferences else 0.05):
+            return self.call("CTX_DOC", "POLICY_TOKENS", [text])
+        return self.call("CTX_DOC", "POLICY_TOKENS", [self.named(self.known(self.state.preferences, PREFERENCES)), text])
 
     def commit(self) -> list[str]:
         return ["COMMIT"]
@@ -409,28 +570,54 @@ class Maker:
 
     # scripts
 
+    def beginning(self) -> list[Callable[[], list[str]]]:
+        """Returns the kinds of the first statements of a script, often such as make an index that copies preferences."""
+        if self.chance(0.3):
+            return []
+        several = self.random.choice
+        kinds = [self.create_table]
+        if self.chance(0.7):
+            kinds += [self.create_preference, *[self.set_attribute] * several([1, 2, 3, 5])]
+        if self.chance(0.6):
+            kinds += [self.create_stoplist, *[self.add_stopword] * several([1, 2, 4])]
+        if self.chance(0.7):
+            kinds += [self.create_group, *[self.add_section] * several([1, 2, 3, 5])]
+        rows = [self.insert] * several([1, 2, 4])
+        return [*kinds, *several([[*rows, self.create_index], [self.create_index, *rows, self.sync]])]
+
     def statement(self) -> list[str]:
         """Returns the lexemes of a statement of some kind, most of the time of one that has something to do.
 
         After a change there often is a statement that may show it.
         """
+        if self.planned:
+            return self.planned.pop(0)()
         tables, indexes = self.state.tables, self.state.indexes
         if self.has_changed and indexes and self.chance(0.5):
             return self.random.choice([self.select, self.select, self.view])()
         rows = sum(len(table.rows) for table in tables.values())
+        preferences, stoplists, groups = self.state.preferences, self.state.stoplists, self.state.groups
+        has_lists = preferences or stoplists or groups
+        has_free = any(map(self.free_columns, tables))
         kinds: list[tuple[Callable[[], list[str]], int]] = [
             (self.create_table, 3 if tables else 300),
             (self.insert, 1 if not tables else 40 if rows < 4 else 14),
-            (self.create_index, 4 if indexes else 20 if tables else 1),
+            (self.create_index, 1 if not has_free else 5 if indexes or not has_lists else 20),
+            (self.create_preference, 2 if preferences else 4),
+            (self.set_attribute, 8 if preferences else 1),
+            (self.create_stoplist, 2 if stoplists else 3),
+            (self.add_stopword, 5 if stoplists else 1),
+            (self.create_group, 2 if groups else 4),
+            (self.add_section, 9 if groups else 1),
             (self.sync, 12 if indexes else 1),
-            (self.select, 18 if indexes else 2),
+            (self.select, 25 if indexes else 2),
             (self.plain_select, 7),
             (self.view, 4),
             (self.update, 12 if rows else 1),
             (self.delete, 4 if rows else 1),
             (self.drop_table, 1),
-            (self.drop_index, 2 if indexes else 1),
-            (self.policy_tokens, 5),
+            (self.drop_index, 3 if indexes else 1),
+            (self.policy_tokens, 7),
             (self.commit, 1),
             (self.no_statement, 2),
         ]
@@ -457,9 +644,10 @@ class Maker:
 
     def piece(self) -> bytes:
         """Returns a statement with its end, and keeps up the state."""
-        self.wrong = self.random.choice([0, 0, 0, 0, 0, 0, 0, 0.05, 0.1, 0.2, 0.5])
+        is_planned = bool(self.planned) and self.chance(0.9)
+        self.wrong = 0 if is_planned else self.random.choice([0, 0, 0, 0, 0, 0, 0, 0.05, 0.1, 0.2, 0.5])
         lexemes = self.statement()
-        if self.chance(0.05):
+        if not is_planned and self.chance(0.05):
             lexemes = self.damaged(lexemes)
         statement = self.spelt(lexemes).encode()
         if self.chance(0.01):
@@ -469,13 +657,36 @@ class Maker:
         if self.chance(0.003):
             size = STATEMENT_LIMIT + self.random.choice([0, 1])
             statement += b" " * (size - len(statement))
+        self.follow(statement)
+        return statement + self.one_of(ENDS).encode()
+
+    def follow(self, statement: bytes) -> None:
+        """Keeps up the state after a statement."""
         its_answer = answer(self.state, statement, self.built)
         self.has_changed = its_answer.after != its_answer.before
         self.state = its_answer.after
-        return statement + self.one_of(ENDS).encode()
 
-    def many_tables(self) -> list[bytes]:
-        return [f"CREATE TABLE many{i} (id NUMBER PRIMARY KEY);\n".encode() for i in range(TABLE_LIMIT + 1)]
+    def many(self) -> list[bytes]:
+        """Returns statements that reach a limit, and one more."""
+        group = ["EXEC CTX_DDL.CREATE_SECTION_GROUP('many', 'BASIC_SECTION_GROUP')"]
+        zone, field = (f"EXEC CTX_DDL.ADD_{kind}_SECTION('many', " for kind in ("ZONE", "FIELD"))
+        fields = [f"{field}'s{i}', 't{i}', {self.one_of(['TRUE', 'FALSE'])})" for i in range(FIELD_LIMIT + 1)]
+        ways = [
+            [f"CREATE TABLE many{i} (id NUMBER PRIMARY KEY)" for i in range(TABLE_LIMIT + 1)],
+            [f"EXEC CTX_DDL.CREATE_PREFERENCE('many{i}', 'BASIC_LEXER')" for i in range(LIST_LIMIT + 1)],
+            [f"EXEC CTX_DDL.CREATE_STOPLIST('many{i}')" for i in range(LIST_LIMIT + 1)],
+            [f"EXEC CTX_DDL.CREATE_SECTION_GROUP('many{i}', 'NULL_SECTION_GROUP')" for i in range(LIST_LIMIT + 1)],
+            [*group, *(f"{zone}'s{i}', 't{i}')" for i in range(ZONE_LIMIT + 1)), f"{field}'t', 't', TRUE)", f"{zone}'s0', 't')"],
+            [*group, *fields, f"{zone}'t', 't')", f"{field}'s0', 't')", f"{field}'s0', 'u', TRUE)"],
+            [*group, *(f"{zone}'s', 't{i}')" for i in range(TAG_LIMIT + 1)), f"{zone}'t', 't')", f"{zone}'s', 't0')"],
+        ]
+        statements = self.random.choice(ways)
+        if self.chance(0.05):
+            words = (f"EXEC CTX_DDL.ADD_STOPWORD('many', 'w{i}')" for i in range(STOPWORD_LIMIT + 1))
+            statements = ["EXEC CTX_DDL.CREATE_STOPLIST('many')", *words]
+        for statement in statements:
+            self.follow(statement.encode())
+        return [f"{statement};\n".encode() for statement in statements]
 
     def run(self, pieces: list[bytes]) -> Run:
         """Returns a run, at times without the end of the last piece, or with a `;` and no newline; at times with a low limit."""
@@ -485,10 +696,11 @@ class Maker:
         return Run(tuple(pieces), limit)
 
     def case(self, statements: int) -> Case:
-        pieces = [self.piece() for _ in range(statements)]
-        if self.chance(0.01):
-            at = self.random.randrange(len(pieces))
-            pieces[at:at] = self.many_tables()
+        many_at = self.random.randrange(statements) if self.chance(0.02) else None
+        pieces = []
+        for number in range(statements):
+            pieces += self.many() if number == many_at else []
+            pieces.append(self.piece())
         split = self.random.randrange(len(pieces)) if self.chance(0.3) else 0
         return tuple(self.run(run) for run in (pieces[:split], pieces[split:]) if run)
 

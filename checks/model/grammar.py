@@ -7,11 +7,24 @@ from collections.abc import Callable
 from typing import TypeVar
 
 from lexemes import NotUnderstood, Whole, lexemes, whole
+from procedures import (
+    AddFieldSection,
+    AddSpecialSection,
+    AddStopword,
+    AddZoneSection,
+    Argument,
+    Call,
+    CreatePreference,
+    CreateSectionGroup,
+    CreateStoplist,
+    PolicyTokens,
+    SetAttribute,
+    SyncIndex,
+)
 from state import Column, Operand
 from statements import (
     COMPARISONS,
     VIEWS,
-    Argument,
     Commit,
     Condition,
     Contains,
@@ -22,17 +35,27 @@ from statements import (
     DropTable,
     Insert,
     Item,
-    PolicyTokens,
     Score,
     Select,
     SelectList,
     SelectPending,
     Statement,
-    SyncIndex,
     Update,
 )
 
-PROCEDURES = (("ctx_ddl", "sync_index"), ("ctx_doc", "policy_tokens"))
+# each with the feature that has to be built, if any
+PROCEDURES: dict[tuple[str, str], tuple[str | None, type[Call]]] = {
+    ("ctx_ddl", "create_preference"): ("PREFERENCES", CreatePreference),
+    ("ctx_ddl", "set_attribute"): ("PREFERENCES", SetAttribute),
+    ("ctx_ddl", "create_stoplist"): ("STOPLISTS", CreateStoplist),
+    ("ctx_ddl", "add_stopword"): ("STOPLISTS", AddStopword),
+    ("ctx_ddl", "create_section_group"): ("SECTION-GROUPS", CreateSectionGroup),
+    ("ctx_ddl", "add_zone_section"): ("SECTION-GROUPS", AddZoneSection),
+    ("ctx_ddl", "add_field_section"): ("SECTION-GROUPS", AddFieldSection),
+    ("ctx_ddl", "add_special_section"): ("SECTION-GROUPS", AddSpecialSection),
+    ("ctx_ddl", "sync_index"): (None, SyncIndex),
+    ("ctx_doc", "policy_tokens"): (None, PolicyTokens),
+}
 
 Parsed = TypeVar("Parsed")
 
@@ -130,7 +153,10 @@ class Parser:
         if self.takes("CTXSYS"):
             self.expect(".")
         self.expect("CONTEXT")
-        return CreateIndex(index, table, column)
+        if not self.takes("PARAMETERS"):
+            return CreateIndex(index, table, column)
+        self.need("PARAMETERS")
+        return CreateIndex(index, table, column, self.bracketed(lambda: self.value_of("text")))
 
     def create_table(self) -> Statement:
         name = self.name()
@@ -246,11 +272,14 @@ class Parser:
         arguments = self.bracketed(lambda: () if self.is_at(")") else self.list_of(self.argument))
         if (package, procedure) not in PROCEDURES:
             raise NotUnderstood
-        if procedure == "sync_index":
-            return SyncIndex(arguments)
-        if len(arguments) == 2:  # the first one would name a preference
-            raise NotUnderstood
-        return PolicyTokens(arguments)
+        feature, call = PROCEDURES[package, procedure]
+        if feature is not None:
+            self.need(feature)
+        if call is not PolicyTokens:
+            return call(arguments)
+        if len(arguments) == 2:  # the first one names a preference
+            self.need("PREFERENCES")
+        return PolicyTokens(arguments, "PREFERENCES" in self.built)
 
     def argument(self) -> Argument:
         if self.takes("TRUE"):

@@ -12,6 +12,7 @@ from __future__ import annotations
 
 import argparse
 import sys
+from collections.abc import Iterator
 from dataclasses import dataclass
 
 sys.dont_write_bytecode = True  # no folder of compiled modules is left here
@@ -34,6 +35,10 @@ BUILT = frozenset({
     "STAR",  # SELECT *
     "COUNT",  # SELECT COUNT(*)
     "CTX_USER_PENDING",
+    "PREFERENCES",  # CREATE_PREFERENCE, SET_ATTRIBUTE, and POLICY_TOKENS with a preference
+    "STOPLISTS",  # CREATE_STOPLIST, ADD_STOPWORD
+    "SECTION-GROUPS",  # CREATE_SECTION_GROUP, ADD_ZONE_SECTION, ADD_FIELD_SECTION, ADD_SPECIAL_SECTION
+    "PARAMETERS",  # PARAMETERS of a CREATE INDEX
 })
 
 STATEMENT_LIMIT = 65_536
@@ -62,7 +67,7 @@ class Answer:
 
     def must_be_full(self, limit: int) -> bool:
         """Returns whether nothing else may be answered."""
-        return self.grows and least_weight(self.after) > limit
+        return least_weight(self.after) > limit and self.grows
 
 
 def answer(state: State, statement: bytes, built: frozenset[str] = BUILT, is_rest: bool = False) -> Answer:
@@ -85,6 +90,21 @@ def answer(state: State, statement: bytes, built: frozenset[str] = BUILT, is_res
     return Answer(reply, state, after, parsed.takes_room)
 
 
+def parts(script: bytes) -> list[tuple[bytes, bool]]:
+    """Returns the statements of a script and its rest, each with whether it is the rest."""
+    statements, rest = cut(script)
+    return [*((statement, False) for statement in statements), (rest, True)]
+
+
+def replies(script: bytes, built: frozenset[str] = BUILT) -> Iterator[str]:
+    """Yields the reply to each statement of a script over a new store that has room for everything, and to its rest."""
+    state = State()
+    for statement, is_rest in parts(script):
+        its_answer = answer(state, statement, built, is_rest)
+        yield its_answer.reply
+        state = its_answer.after
+
+
 def features(text: str) -> frozenset[str]:
     """Returns what is built without the features that the text names."""
     names = frozenset(text.split(",")) - {""}
@@ -104,12 +124,8 @@ def main() -> None:
     arguments = argparse.ArgumentParser(description="says what the program is to reply to a script over a new store")
     add_without(arguments)
     built = arguments.parse_args().built
-    statements, rest = cut(sys.stdin.buffer.read())
-    state = State()
-    for statement, is_rest in [*((it, False) for it in statements), (rest, True)]:
-        its_answer = answer(state, statement, built, is_rest)
-        sys.stdout.buffer.write(its_answer.reply.encode())
-        state = its_answer.after
+    for reply in replies(sys.stdin.buffer.read(), built):
+        sys.stdout.buffer.write(reply.encode())
 
 
 if __name__ == "__main__":

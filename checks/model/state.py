@@ -1,4 +1,4 @@
-"""The state that statements lead from and to: tables with their rows, and indexes."""
+"""The state that statements lead from and to: tables with their rows, preferences, and indexes."""
 
 from __future__ import annotations
 
@@ -6,6 +6,7 @@ from collections.abc import Iterator
 from dataclasses import dataclass, field, replace
 from typing import Literal
 
+from documents import Group, Prefs
 from lexemes import Beyond, Whole
 
 TEXT_LIMIT = 4000
@@ -52,6 +53,7 @@ class Table:
 class Index:
     table: str
     place: int  # of its column
+    prefs: Prefs
     pending: set[int]  # the keys of the rows that wait; the other rows of the table are synchronised
     lost: list[str] = field(default_factory=list)  # the texts that it has lost, whose postings may still be stored
 
@@ -59,12 +61,16 @@ class Index:
 @dataclass
 class State:
     tables: dict[str, Table] = field(default_factory=dict)
+    preferences: dict[str, dict[str, str]] = field(default_factory=dict)  # the values of attributes
+    stoplists: dict[str, frozenset[str]] = field(default_factory=dict)
+    groups: dict[str, Group] = field(default_factory=dict)
     indexes: dict[str, Index] = field(default_factory=dict)
 
     def copy(self) -> State:
         tables = {name: replace(table, rows=dict(table.rows)) for name, table in self.tables.items()}
+        preferences = {name: dict(preference) for name, preference in self.preferences.items()}
         indexes = {name: replace(index, pending=set(index.pending), lost=list(index.lost)) for name, index in self.indexes.items()}
-        return State(tables, indexes)
+        return State(tables, preferences, dict(self.stoplists), dict(self.groups), indexes)
 
     def indexes_of(self, table: str) -> list[Index]:
         return [index for index in self.indexes.values() if index.table == table]

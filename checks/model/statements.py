@@ -9,18 +9,17 @@ from collections.abc import Iterable, Iterator
 from dataclasses import dataclass
 from typing import Literal
 
+from documents import Group, Prefs, score
 from lexemes import Beyond, Whole, is_name
+from preferences import lexer_options, stop_keys
 from state import TEXT_LIMIT, Column, Index, Operand, State, Table, Value
-from texts import SCORE_LIMIT, is_query, score, tokens
+from texts import SCORE_LIMIT, WHITE_SPACE, ascii_lower, ascii_upper, is_query
 
 TABLE_LIMIT = 64
 COLUMN_LIMIT = 16
 INDEX_LIMIT = 16
 ROW_LIMIT = 100_000
 VIEWS = ("ctx_user_pending", "ctx_user_index_errors")
-
-Argument = str | int | Beyond | bool
-
 
 # Replies
 
@@ -148,12 +147,47 @@ class DropTable(Statement):
         return "Table dropped.\n"
 
 
+# what an index may copy: each is named in PARAMETERS by these words and a name, or by the name of the default
+PARAMETERS = {"LEXER": "CTXSYS.DEFAULT_LEXER", "STOPLIST": "CTXSYS.EMPTY_STOPLIST", "SECTION GROUP": "CTXSYS.NULL_SECTION_GROUP"}
+
+
+def read_parameters(text: str) -> dict[str, str | None] | None:
+    """Returns what a text of PARAMETERS names, in its order, with None for a default; or None where it isn't of its form."""
+    words = re.sub(f"[{WHITE_SPACE}]+", " ", text).strip(" ")
+    names: dict[str, str | None] = {}
+    while words:
+        kind = next((it for it in PARAMETERS if ascii_upper(words).startswith(it + " ")), None)
+        if kind is None or kind in names:
+            return None
+        name, _, words = words[len(kind) + 1 :].partition(" ")
+        is_default = ascii_upper(name) == PARAMETERS[kind]
+        if not is_default and not is_name(name):
+            return None
+        names[kind] = None if is_default else ascii_lower(name)
+    return names
+
+
 @dataclass(frozen=True)
 class CreateIndex(Statement):
     name: str
     table: str
     column: str
+    parameters: str = ""
     takes_room = True
+
+    def unknown_parameters(self, state: State) -> Refusals:
+        there = {"LEXER": state.preferences, "STOPLIST": state.stoplists, "SECTION GROUP": state.groups}
+        for kind, name in (read_parameters(self.parameters) or {}).items():
+            if name is not None and name not in there[kind]:
+                yield unknown(name)
+
+    def prefs(self, state: State) -> Prefs:
+        """Returns a copy of what the parameters name."""
+        names = read_parameters(self.parameters) or {}
+        lexer, stoplist, group = (names.get(kind) for kind in PARAMETERS)
+        options = lexer_options(state.preferences[lexer] if lexer is not None else {})
+        words = state.stoplists[stoplist] if stoplist is not None else ()
+        return Prefs(options, stop_keys(words, options), state.groups[group] if group is not None else Group())
 
     def refusals(self, state: State) -> Refusals:
         table = state.tables.get(self.table)
@@ -161,18 +195,21 @@ class CreateIndex(Statement):
             yield unknown(self.table)
             return
         yield from unknown_columns(table, [self.column])
+        yield from self.unknown_parameters(state)
         if self.name in state.indexes or state.index_on(self.table, table.place(self.column)) is not None:
             yield exists(self.name)
         column = table.column(self.column)
         if column is not None and not column.is_text:
             yield WRONG_VALUES
+        if read_parameters(self.parameters) is None:
+            yield BAD_VALUE
         if len(state.indexes_of(self.table)) >= INDEX_LIMIT:
             yield LIMIT_REACHED
 
     def effect(self, state: State) -> str:
         place = state.tables[self.table].place(self.column)
         assert place is not None
-        state.indexes[self.name] = Index(self.table, place, pending=set())
+        state.indexes[self.name] = Index(self.table, place, self.prefs(state), pending=set())
         return "Index created.\n"
 
 
@@ -412,7 +449,7 @@ class Select(Statement):
             return [(key, 0) for key in keys]
         index = state.index_on(self.table, table.place(self.contains.column))
         assert index is not None and isinstance(self.contains.above, int)
-        scores = {key: score(self.contains.query, text) for key, text in state.synchronised_texts(index)}
+        scores = {key: score(index.prefs, self.contains.query, text) for key, text in state.synchronised_texts(index)}
         return [(key, scores[key]) for key in keys if scores.get(key, 0) > self.contains.above]
 
     def effect(self, state: State) -> str:
@@ -441,43 +478,3 @@ class SelectPending(Statement):
     def effect(self, state: State) -> str:
         pending = [(name, key) for name in sorted(state.indexes) for key in sorted(state.indexes[name].pending)]
         return line([len(pending)]) if self.shown == "COUNT(*)" else lines_or_none([line(row) for row in pending])
-
-
-@dataclass(frozen=True)
-class SyncIndex(Statement):
-    arguments: tuple[Argument, ...]
-    takes_room = True
-
-    @property
-    def name(self) -> str | None:
-        """Returns the name of the index, where the first argument is spelt as a name."""
-        first = self.arguments[0] if self.arguments else None
-        return first.lower() if isinstance(first, str) and is_name(first) else None
-
-    def refusals(self, state: State) -> Refusals:
-        if self.name is not None and self.name not in state.indexes:
-            yield unknown(self.name)
-        if len(self.arguments) not in (1, 2) or not all(isinstance(it, str) for it in self.arguments):
-            yield WRONG_VALUES
-            return
-        if self.name is None or not all(re.fullmatch("[0-9]+[KMGkmg]", str(memory)) for memory in self.arguments[1:]):
-            yield BAD_VALUE
-
-    def effect(self, state: State) -> str:
-        assert self.name is not None
-        state.indexes[self.name].pending.clear()
-        return "PL/SQL procedure successfully completed.\n"
-
-
-@dataclass(frozen=True)
-class PolicyTokens(Statement):
-    arguments: tuple[Argument, ...]
-
-    def refusals(self, state: State) -> Refusals:
-        if len(self.arguments) != 1 or not isinstance(self.arguments[0], str):
-            yield WRONG_VALUES
-        elif len(self.arguments[0].encode()) > TEXT_LIMIT:
-            yield TOO_LONG_VALUE
-
-    def effect(self, state: State) -> str:
-        return lines_or_none([line([it.key, it.start, it.length]) for it in tokens(str(self.arguments[0]))])

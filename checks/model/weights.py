@@ -2,8 +2,12 @@
 
 from __future__ import annotations
 
+from collections.abc import Iterable
+
+from documents import Group, Prefs, document
+from preferences import changed_options
 from state import Index, State, Table
-from texts import KEY_LIMIT, positions_by_key
+from texts import KEY_LIMIT
 
 LEAST_WEIGHT = 64
 ROW_KEY = 8
@@ -17,54 +21,105 @@ def entry_weight(key: int, value: int) -> int:
     return max(LEAST_WEIGHT, key + value)
 
 
-def text_length(text: str) -> int:
-    """Returns the bytes of a name or token in a key, or of a name in a value: its length in one byte, and its bytes."""
-    return 1 + len(text.encode())
-
-
 def varint_length(number: int) -> int:
     return max(1, -(-number.bit_length() // 7))
 
 
-def document_cost(index: str, text: str) -> int:
+def name_length(name: str) -> int:
+    """Returns the bytes of a name or token in a key: its length in one byte, and its bytes."""
+    return 1 + len(name.encode())
+
+
+def text_length(text: str) -> int:
+    """Returns the bytes of a text in a value: its length as a varint, and its bytes."""
+    return varint_length(len(text.encode())) + len(text.encode())
+
+
+def list_length(items: Iterable[int]) -> int:
+    """Returns the bytes of a list in a value, by those of its items."""
+    lengths = list(items)
+    return varint_length(len(lengths)) + sum(lengths)
+
+
+def attributes_length(attributes: dict[str, str]) -> int:
+    return list_length(text_length(name) + text_length(value) for name, value in attributes.items())
+
+
+def group_length(group: Group) -> int:
+    """Returns the bytes of a group in a value: one each for its type and its flags, and its sections."""
+    sections = ((section.name, list_length(map(text_length, section.tags))) for section in group.sections)
+    return 1 + 1 + list_length(text_length(name) + 1 + tags for name, tags in sections)
+
+
+# Postings
+
+
+def steps(numbers: Iterable[int]) -> list[int]:
+    """Returns each number without the one before it, where 0 stands before the first."""
+    rising = list(numbers)
+    return [after - before for before, after in zip([0, *rising], rising)]
+
+
+def row_of_one(count: int, numbers: Iterable[int]) -> int:
+    """Returns the bytes of a row of the last document alone, which has so many positions or pairs, told by these numbers."""
+    return varint_length(1) + LAST_DOCUMENT + varint_length(count) + sum(map(varint_length, numbers))
+
+
+def document_cost(index: str, prefs: Prefs, text: str) -> int:
     """Returns the weight of a document's postings, where each stands in an entry by itself under the last document number."""
-    weight = 0
-    for key, positions in positions_by_key(text).items():
-        steps = (after - before for before, after in zip([0, *positions], positions))
-        row = varint_length(1) + LAST_DOCUMENT + varint_length(len(positions)) + sum(map(varint_length, steps))
-        weight += entry_weight(1 + text_length(index) + 1 + text_length(key) + DOCUMENT, row)
+    weight, its_document = 0, document(prefs, text)
+    for (_, key), positions in its_document.positions().items():
+        row = row_of_one(len(positions), steps(positions))
+        weight += entry_weight(1 + name_length(index) + 1 + name_length(key) + DOCUMENT, row)
+    for section, pairs in its_document.pairs().items():
+        numbers = [*steps(first for first, _ in pairs), *(last - first for first, last in pairs)]
+        row = row_of_one(len(pairs), numbers)
+        weight += entry_weight(1 + name_length(index) + name_length(section) + DOCUMENT, row)
     return weight
+
+
+# Entries
 
 
 def table_weight(name: str, table: Table) -> int:
     """Returns the weight of the entries of a table and its rows."""
-    columns = 1 + sum(text_length(column.name) + 1 + 2 for column in table.columns)
+    columns = list_length(text_length(column.name) + 1 + 2 for column in table.columns)
     numbers = sum(not column.is_text for column in table.columns[1:])
-    weight = entry_weight(1 + text_length(name), columns)
+    weight = entry_weight(1 + name_length(name), columns)
     for values in table.rows.values():
-        weight += entry_weight(1 + text_length(name) + ROW_KEY, 8 * numbers)
+        weight += entry_weight(1 + name_length(name) + ROW_KEY, 8 * numbers)
         texts = (value.encode() for value in values if isinstance(value, str))
-        weight += sum(entry_weight(1 + text_length(name) + 1 + ROW_KEY, len(text)) for text in texts)
+        weight += sum(entry_weight(1 + name_length(name) + 1 + ROW_KEY, len(text)) for text in texts)
     return weight
+
+
+def preferences_weight(state: State) -> int:
+    """Returns the weight of the entries of preferences, stoplists and section groups."""
+    weight = sum(entry_weight(1 + name_length(name), attributes_length(it)) for name, it in state.preferences.items())
+    weight += sum(entry_weight(1 + name_length(name), list_length(map(text_length, it))) for name, it in state.stoplists.items())
+    return weight + sum(entry_weight(1 + name_length(name), group_length(it)) for name, it in state.groups.items())
 
 
 def index_weight(name: str, index: Index, rows: int, resume_place: int) -> int:
     """Returns the weight of the entries of an index of so many rows, without postings.
 
-    Its own entry has one byte each for the kind, the column and the transactional flag, for the empty lists of lexer options, stop
-    keys and sub-indexes, and for the tidiness; and three for the default section group.
+    Its own entry has one byte each for the kind, the column, the transactional flag, the empty list of sub-indexes and the
+    tidiness.
     """
-    weight = entry_weight(1 + text_length(name), text_length(index.table) + 7 + 3 + DOCUMENT + resume_place)
+    options, stop_keys = changed_options(index.prefs.lexer), index.prefs.stop_keys
+    copied = attributes_length(options) + list_length(map(text_length, stop_keys)) + group_length(index.prefs.group)
+    weight = entry_weight(1 + name_length(name), text_length(index.table) + 5 + copied + DOCUMENT + resume_place)
     synchronised = rows - len(index.pending)
-    weight += synchronised * entry_weight(1 + text_length(name) + DOCUMENT, ROW_KEY)
-    weight += synchronised * entry_weight(1 + text_length(name) + ROW_KEY, DOCUMENT)
-    return weight + len(index.pending) * entry_weight(1 + text_length(name) + ROW_KEY, 0)
+    weight += synchronised * entry_weight(1 + name_length(name) + DOCUMENT, ROW_KEY)
+    weight += synchronised * entry_weight(1 + name_length(name) + ROW_KEY, DOCUMENT)
+    return weight + len(index.pending) * entry_weight(1 + name_length(name) + ROW_KEY, 0)
 
 
 def weight_but_postings(state: State, resume_place: int) -> int:
     tables = sum(table_weight(name, table) for name, table in state.tables.items())
     rows = {name: len(state.tables[index.table].rows) for name, index in state.indexes.items()}
-    return tables + sum(index_weight(name, index, rows[name], resume_place) for name, index in state.indexes.items())
+    indexes = sum(index_weight(name, index, rows[name], resume_place) for name, index in state.indexes.items())
+    return tables + preferences_weight(state) + indexes
 
 
 def room(state: State) -> int:
@@ -72,7 +127,7 @@ def room(state: State) -> int:
     weight = weight_but_postings(state, LONGEST_RESUME_PLACE)
     for name, index in state.indexes.items():
         texts = [*index.lost, *(text for _, text in state.synchronised_texts(index))]
-        weight += sum(document_cost(name, text) for text in texts)
+        weight += sum(document_cost(name, index.prefs, text) for text in texts)
     return weight
 
 

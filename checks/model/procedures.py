@@ -1,0 +1,293 @@
+"""Calls of procedures: which refusals of each hold, and what it does and replies where none does."""
+
+from __future__ import annotations
+
+import re
+from abc import abstractmethod
+from collections.abc import Container, Mapping
+from dataclasses import dataclass, replace
+from typing import ClassVar
+
+from documents import Group, SectionKind
+from lexemes import Beyond, is_name
+from preferences import lexer_options, takes
+from state import TEXT_LIMIT, State
+from statements import (
+    BAD_VALUE,
+    LIMIT_REACHED,
+    TOO_LONG_VALUE,
+    WRONG_VALUES,
+    Refusals,
+    Statement,
+    exists,
+    line,
+    lines_or_none,
+    printed,
+    unknown,
+)
+from texts import DEFAULT_OPTIONS, ascii_lower, ascii_upper, tokens
+
+LIST_LIMIT = 256  # of preferences, of stoplists and of section groups
+STOPWORD_LIMIT = 4096
+STOPWORD_SIZE = 64
+ZONE_LIMIT = 64
+FIELD_LIMIT = 64
+TAG_LIMIT = 256
+SPECIALS = ("sentence", "paragraph")
+
+DONE = "PL/SQL procedure successfully completed.\n"
+
+Argument = str | int | Beyond | bool
+
+
+@dataclass(frozen=True)
+class Call(Statement):
+    """A call of a procedure. Its names are the texts at their places that are spelt as names, however many arguments there are."""
+
+    arguments: tuple[Argument, ...]
+    takes_room = True
+
+    def text(self, place: int) -> str | None:
+        """Returns the argument at a place, counted from 0, where it is a text."""
+        argument = self.arguments[place] if place < len(self.arguments) else None
+        return argument if isinstance(argument, str) else None
+
+    def name(self, place: int) -> str | None:
+        """Returns the name at a place in lower case, where one stands there."""
+        text = self.text(place)
+        return text.lower() if text is not None and is_name(text) else None
+
+    def has_texts(self, *counts: int) -> bool:
+        """Returns whether the arguments are all texts, and so many of them."""
+        return len(self.arguments) in counts and all(isinstance(argument, str) for argument in self.arguments)
+
+    def unknown_name(self, place: int, there: Container[str]) -> Refusals:
+        name = self.name(place)
+        if name is not None and name not in there:
+            yield unknown(name)
+
+
+class Create(Call):
+    """Makes something that has a name and a type."""
+
+    types: ClassVar[tuple[str, ...]]
+    counts: ClassVar[tuple[int, ...]] = (2,)  # of arguments
+
+    @abstractmethod
+    def there(self, state: State) -> Mapping[str, object]:
+        """Returns what is there of its kind."""
+
+    @property
+    def type(self) -> str:
+        return ascii_upper(self.text(1) or "")
+
+    def refusals(self, state: State) -> Refusals:
+        name, there = self.name(0), self.there(state)
+        if name is not None and name in there:
+            yield exists(name)
+        if not self.has_texts(*self.counts):
+            yield WRONG_VALUES
+            return
+        if name is None or (len(self.arguments) == 2 and self.type not in self.types):
+            yield BAD_VALUE
+        if len(there) >= LIST_LIMIT:
+            yield LIMIT_REACHED
+
+
+class CreatePreference(Create):
+    types = ("BASIC_LEXER",)
+
+    def there(self, state: State) -> Mapping[str, object]:
+        return state.preferences
+
+    def effect(self, state: State) -> str:
+        state.preferences[self.name(0) or ""] = {}
+        return DONE
+
+
+class CreateStoplist(Create):
+    types = ("BASIC_STOPLIST",)
+    counts = (1, 2)
+
+    def there(self, state: State) -> Mapping[str, object]:
+        return state.stoplists
+
+    def effect(self, state: State) -> str:
+        state.stoplists[self.name(0) or ""] = frozenset()
+        return DONE
+
+
+class CreateSectionGroup(Create):
+    types = ("BASIC_SECTION_GROUP", "NULL_SECTION_GROUP")
+
+    def there(self, state: State) -> Mapping[str, object]:
+        return state.groups
+
+    def effect(self, state: State) -> str:
+        state.groups[self.name(0) or ""] = Group(is_null=self.type == "NULL_SECTION_GROUP")
+        return DONE
+
+
+class SetAttribute(Call):
+    """Sets an attribute of a preference. Its name is kept in lower case, and its value as it is given."""
+
+    @property
+    def attribute(self) -> str:
+        return ascii_lower(self.text(1) or "")
+
+    def refusals(self, state: State) -> Refusals:
+        yield from self.unknown_name(0, state.preferences)
+        if not self.has_texts(3):
+            yield WRONG_VALUES
+        elif self.name(0) is None or not takes(self.attribute, self.text(2) or ""):
+            yield BAD_VALUE
+
+    def effect(self, state: State) -> str:
+        state.preferences[self.name(0) or ""][self.attribute] = self.text(2) or ""
+        return DONE
+
+
+class AddStopword(Call):
+    """Adds a word to a stoplist. Words are the same where their bytes are."""
+
+    def refusals(self, state: State) -> Refusals:
+        yield from self.unknown_name(0, state.stoplists)
+        words, word = state.stoplists.get(self.name(0) or "", frozenset()), self.text(1)
+        if word is not None and word in words:
+            yield exists(printed(word))
+        if not self.has_texts(2):
+            yield WRONG_VALUES
+            return
+        if self.name(0) is None or not 1 <= len((word or "").encode()) <= STOPWORD_SIZE:
+            yield BAD_VALUE
+        if len(words) >= STOPWORD_LIMIT:
+            yield LIMIT_REACHED
+
+    def effect(self, state: State) -> str:
+        name = self.name(0) or ""
+        state.stoplists[name] |= {self.text(1) or ""}
+        return DONE
+
+
+class AddSection(Call):
+    """Adds a tag to a section of a group, which is made where it isn't there."""
+
+    @property
+    @abstractmethod
+    def kind(self) -> SectionKind:
+        """Returns the kind of the section, also where the arguments are wrong."""
+
+    @property
+    def tag(self) -> str:
+        return ascii_lower(self.text(2) or "")
+
+    def are_of_their_kind(self) -> bool:
+        """Returns whether there are as many arguments as there must be, each of the right kind."""
+        return self.has_texts(3)
+
+    def refusals(self, state: State) -> Refusals:
+        yield from self.unknown_name(0, state.groups)
+        group, name = state.groups.get(self.name(0) or "", Group()), self.name(1)
+        section = group.section(name or "")
+        if section is not None and section.kind != self.kind:
+            yield exists(section.name)
+        if self.tag in group.tags:
+            yield exists(self.tag)
+        if not self.are_of_their_kind():
+            yield WRONG_VALUES
+            return
+        is_good = self.name(0) is not None and name is not None and name not in SPECIALS
+        if not is_good or group.is_null or not re.fullmatch("[a-z0-9_-]{1,30}", self.tag):
+            yield BAD_VALUE
+        if len(group.tags) >= TAG_LIMIT or (section is None and self.has_all_sections(group)):
+            yield LIMIT_REACHED
+
+    def has_all_sections(self, group: Group) -> bool:
+        """Returns whether no section of this kind can be made any more."""
+        zones = len(group.sections) - len(group.fields)
+        return zones >= ZONE_LIMIT if self.kind == "zone" else len(group.fields) >= FIELD_LIMIT
+
+    def effect(self, state: State) -> str:
+        group = self.name(0) or ""
+        state.groups[group] = state.groups[group].with_tag(self.name(1) or "", self.kind, self.tag)
+        return DONE
+
+
+class AddZoneSection(AddSection):
+    @property
+    def kind(self) -> SectionKind:
+        return "zone"
+
+
+class AddFieldSection(AddSection):
+    @property
+    def kind(self) -> SectionKind:
+        is_visible = any(argument is True for argument in self.arguments[3:4])
+        return "visible field" if is_visible else "field"
+
+    def are_of_their_kind(self) -> bool:
+        is_visibility = all(isinstance(argument, bool) for argument in self.arguments[3:])
+        return len(self.arguments) in (3, 4) and AddFieldSection(self.arguments[:3]).has_texts(3) and is_visibility
+
+
+class AddSpecialSection(Call):
+    """Makes sentences or paragraphs sections of a group, which may be null."""
+
+    @property
+    def special(self) -> str:
+        return ascii_lower(self.text(1) or "")
+
+    def refusals(self, state: State) -> Refusals:
+        yield from self.unknown_name(0, state.groups)
+        if self.special in state.groups.get(self.name(0) or "", Group()).specials:
+            yield exists(self.special)
+        if not self.has_texts(2):
+            yield WRONG_VALUES
+        elif self.name(0) is None or self.special not in SPECIALS:
+            yield BAD_VALUE
+
+    def effect(self, state: State) -> str:
+        group = state.groups[self.name(0) or ""]
+        state.groups[self.name(0) or ""] = replace(group, specials=group.specials | {self.special})
+        return DONE
+
+
+class SyncIndex(Call):
+    def refusals(self, state: State) -> Refusals:
+        yield from self.unknown_name(0, state.indexes)
+        if not self.has_texts(1, 2):
+            yield WRONG_VALUES
+        elif self.name(0) is None or not all(re.fullmatch("[0-9]+[KMGkmg]", str(memory)) for memory in self.arguments[1:]):
+            yield BAD_VALUE
+
+    def effect(self, state: State) -> str:
+        state.indexes[self.name(0) or ""].pending.clear()
+        return DONE
+
+
+@dataclass(frozen=True)
+class PolicyTokens(Call):
+    """Shows the tokens of a text. A preference may stand before it, once these are built."""
+
+    knows_preferences: bool = True
+    takes_room = False
+
+    @property
+    def has_preference(self) -> bool:
+        return self.knows_preferences and len(self.arguments) > 1
+
+    def refusals(self, state: State) -> Refusals:
+        if self.has_preference:
+            yield from self.unknown_name(0, state.preferences)
+        if not self.has_texts(1, 2):
+            yield WRONG_VALUES
+            return
+        if len(str(self.arguments[-1]).encode()) > TEXT_LIMIT:
+            yield TOO_LONG_VALUE
+        if self.has_preference and self.name(0) is None:
+            yield BAD_VALUE
+
+    def effect(self, state: State) -> str:
+        options = lexer_options(state.preferences[self.name(0) or ""]) if self.has_preference else DEFAULT_OPTIONS
+        found = tokens(str(self.arguments[-1]), options)
+        return lines_or_none([line([token.key, token.start, token.end - token.start]) for token in found])

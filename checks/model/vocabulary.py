@@ -1,0 +1,89 @@
+"""What random scripts are made of: names, words, signs, and texts that are no statements."""
+
+from __future__ import annotations
+
+from procedures import STOPWORD_SIZE
+from texts import RESERVED, WHITE_SPACE
+
+# names and numbers that statements choose from
+TABLES = ["docs", "items", "t", "a" * 30, "docs$2#_"]
+INDEXES = ["di", "ti", "docs", "b" * 30, "i#1"]
+COLUMNS = ["id", "body", "price", "title", "note", "c" * 30, "n_2"]
+PREFERENCES = ["lx", "ly", "docs", "p" * 30, "p#1"]
+STOPLISTS = ["sl", "lx", "s" * 30]
+GROUPS = ["g", "h", "lx", "g" * 30]
+SECTIONS = ["p", "q", "t", "z_1", "docs", "s" * 30]
+TAGS = ["p", "q", "t", "k", "h1", "a-b", "_x", "-", "1", "x" * 30]
+STRANGE_NAMES = [
+    "nope", "x" * 31, "order", "key", "select", "Score", "ctx_user_pending", "ctx_user_index_errors", "local", "1a", "_a", "é",
+]
+NUMBERS = ["0", "1", "2", "3", "007", str(2**63 - 1), "100", "101"]
+BEYOND = [str(2**63 + 1), "9" * 20, "1" * 5000, "18446744073709551617"]
+# words that fold, compose, or are cut in ways of their own
+WORDS = [
+    "quick", "fox", "Straße", "GROẞE", "ΟΔΥΣΣΕΥΣ", "οδυσσευς", "İstanbul", "ısı", "ſqe", "café", "cafe\u0301", "한국어", "1,000.50", "12",
+    "日本語", "हिन्दी", "ᾳ", "α\u0345\u0301", "\u0345", "ﬃ", "a\u0323\u0302", "\u1112\u1161\u11ab", "١٢٣", "\u212b", "\u01c5", "a" * 254 + "é", "ü" * 128,
+    "x" * 300, "\u0300\u0301", "ᏣᎳᎩ", "\u1e9b\u0323", "²", "Ⅻ", "NEAR", "accum", "3.14", "1,a",
+    "web-site", "l'été", "c++", "#tag",
+]
+OPERATORS = sorted(RESERVED)
+NO_UTF_8 = [b"\xff", b"\xc3", b"\xed\xa0\x80", b"\xf4\x90\x80\x80"]
+# characters that a set may have, some of which look like tags, white space, or parts of words
+JOINS = [*"-_+#@&'/<>.,!?:;|\\*·…€😀", "\u200b", "\u20dd", "\u00ad", "\x1c", "\ue000", "\uffff", "\0"]
+NO_JOINS = ["a", "é", "1", "²", "٣", "語", "\u0301", "\u0903", " ", "\t", "\n", "\x85", "\xa0", "\u3000", "\u2028"]
+SENTENCE_ENDS = [". ", "! ", "? ", ".\n", ".\n\n", "!\n ", "?\r\n", ".\n\u3000", ".\n.", "..", "."]
+# letters that are no ASCII letters, though one of their cases is, or looks like one
+LOOKS_LIKE = str.maketrans("sSkKiIoO", "\u017f\u017f\u212a\u212a\u0131\u0130\u03bf\u039f")
+STOPWORDS = ["a|b", "back\\slash", "new\nline", "it's", "web-site", " ", "-", "\u0301", "y" * STOPWORD_SIZE]
+# forms of tags of a name: such as begin or end a section, and such as are none
+WHOLE_TAGS = ["<{}>", "<{}>", "</{}>", "<<{}>", "<{}>>"]
+BROKEN_TAGS = [
+    "< {}>", "<{}", "</ {}>", "<{} >", "< /{}>", "<//{}>", "<{}/>", "{}>", "<{}x>", "<{}'>", "<{}\u0301>", "<\u212a>", "</>", "<>",
+]
+# what a text of PARAMETERS may not have, or not twice, in several words and in one
+PARAMETER_LISTS = ["LEXER lx", "STOPLIST CTXSYS.EMPTY_STOPLIST", "SECTION GROUP g", "INDEX SET s", "TRANSACTIONAL", "SYNC (ON COMMIT)"]
+PARAMETER_WORDS = [
+    "LEXER", "SECTION", "GROUP", "nope", "CTXSYS.DEFAULT_LEXER", "CTXSYS.NULL_SECTION_GROUP", "CTXSYS . DEFAULT_LEXER", ",", "'lx'", "é",
+]
+# arguments that are no names, or aren't spelt so
+NO_NAMES = ["''", "'no name'", "' di'", "'lx '", "1", "TRUE", "'é'", "'1a'", "'a-b'", "'CTXSYS.DEFAULT_LEXER'", "'" + "x" * 31 + "'"]
+BETWEEN_WORDS = [
+    " ", " ", " ", " ", ", ", ". ", ".", "-", "|", "\\", "\n", "\r\n", "'", "''", "_", "--", ";", "\u3000", "\u200b", "\ue000", "\U0010fffd", "\uffff",
+]
+BLANKS = [*[" ", "\n", "\r\n", " -- it's; a (comment)\n", "--\n"] * 6, *WHITE_SPACE]
+ENDS = [";\n"] * 90 + ["; \t\r\n", ";\r\n", ";\n\n", " ;\n-- a comment\n", ";", "; -- no end\n", ""]
+# texts that are no statements, or not yet
+NO_STATEMENTS = [
+    "SELECT id FROM docs ORDER BY id",
+    "SELECT * FROM docs WHERE CONTAINS(body, 'quick') > 0 ORDER BY id DESC",
+    "SELECT id FROM docs WHERE CATSEARCH(body, 'quick', NULL) > 0",
+    "SELECT id FROM docs WHERE MATCHES(body, 'quick') > 0",
+    "SELECT id FROM docs WHERE CONTAINS(body, 'a') > 0 AND CONTAINS(body, 'b') > 0",
+    "SELECT * FROM ctx_user_index_errors",
+    "SELECT nope FROM ctx_user_index_errors WHERE id = 1",
+    "CREATE INDEX ci ON docs(body) INDEXTYPE IS CTXSYS.CTXCAT",
+    "CREATE INDEX ri ON docs(body) INDEXTYPE IS CTXRULE",
+    "CREATE INDEX ci ON docs(body) INDEXTYPE IS CTXSYS.CTXCAT PARAMETERS ('LEXER lx')",
+    "CREATE INDEX di ON docs(body) INDEXTYPE IS CTXSYS.CONTEXT PARALLEL 2",
+    "CREATE INDEX di ON docs(body) INDEXTYPE IS CTXSYS.CONTEXT PARAMETERS ('') PARALLEL 2",
+    "CREATE INDEX di ON docs(body) INDEXTYPE IS CTXSYS.CONTEXT PARAMETERS ''",
+    "CREATE INDEX di ON docs(body) INDEXTYPE IS CTXSYS.CONTEXT PARAMETERS (LEXER lx)",
+    "EXEC CTX_DDL.OPTIMIZE_INDEX('di','FULL')",
+    "EXEC CTX_DDL.CREATE_INDEX_SET('s')",
+    "EXEC CTX_DDL.ADD_ATTR_SECTION('g','s','t')",
+    "EXEC CTX_DDL.DROP_PREFERENCE('lx')",
+    "EXEC CTX_DOC.CREATE_PREFERENCE('lx','BASIC_LEXER')",
+    "EXEC CTX_DDL.SET_ATTRIBUTE('lx',base_letter,'YES')",
+    "EXEC CTX_QUERY.RESULT_SET('di','quick','count')",
+    "EXEC CTX_THES.CREATE_THESAURUS('th')",
+    "EXEC nope.nope()",
+    "ROLLBACK",
+    "SELEC",
+    "%",
+    "'",
+    "COMMIT COMMIT",
+    "COMMIT\x1c",
+    "COMMIT\u200b",
+]
+# lexemes that are put into a statement at random places
+STRAY = ["(", ")", ",", ".", "*", "=", "<", "<=", ">", ">=", "-", "0", "'x'", "AND", "FROM", "WHERE", "NULL", "TRUE", "id", "CTXSYS", "%", "\\"]
