@@ -13,6 +13,7 @@ use st_parse::{Statement, parse};
 use std::alloc::Global;
 use std::test::Fail;
 use tb_table::{Column, Sort, Target, insert};
+use tx_settings::Prefs;
 
 /// A statement and its reply, over a table of three rows, of which an index has two and the third waits.
 static REPLIES: &[(&str, &str)] = &[
@@ -165,7 +166,16 @@ fn add_index(alloc: Global, keeper: &mut MemKeeper, index: &str, table: &str) ->
     let table = named(alloc, table)?;
     let target = Target { table, column: 1 };
     let mut batch = Batch::new(alloc);
-    ix_context::create(alloc, keeper, &mut batch, &index, &target, KeyRange::ALL)?;
+    let prefs = Prefs::defaults(alloc)?;
+    ix_context::create(
+        alloc,
+        keeper,
+        &mut batch,
+        &index,
+        &target,
+        &prefs,
+        KeyRange::ALL,
+    )?;
     commit(alloc, keeper, batch)
 }
 
