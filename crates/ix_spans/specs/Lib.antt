@@ -1,0 +1,5 @@
+pub mod Occurrences
+pub mod Rising
+pub mod Views
+pub mod Windows
+pub mod laws

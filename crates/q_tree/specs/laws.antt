@@ -1,0 +1,5 @@
+pub mod SameSlots
+pub mod PostfixSums
+pub mod Occurring
+pub mod Postings
+pub mod SameScores
