@@ -8,7 +8,7 @@ from dataclasses import dataclass, replace
 from functools import lru_cache
 from typing import Literal
 
-from texts import DEFAULT_OPTIONS, SCORE_LIMIT, LexerOptions, Token, key_of, tokens
+from texts import DEFAULT_OPTIONS, LexerOptions, Token, tokens
 
 MAIN_STREAM = 0
 
@@ -175,13 +175,3 @@ def document(prefs: Prefs, text: str) -> Document:
     if "paragraph" in group.specials:
         instances.update(runs("paragraph", [token.ends_paragraph for token in found]))
     return Document(tuple(words), frozenset(instances))
-
-
-def score(prefs: Prefs, query: str, text: str) -> int:
-    """Returns how often the word of a query stands in the main stream of a text, and at most 100.
-
-    A word without a key, and a stopword, stand nowhere.
-    """
-    key = key_of(query, prefs.lexer)
-    count = sum(word.key == key and MAIN_STREAM in word.streams for word in document(prefs, text).words)
-    return min(SCORE_LIMIT, count)

@@ -18,9 +18,10 @@ from lexemes import KEYWORDS
 from model import STATEMENT_LIMIT, answer
 from preferences import ATTRIBUTES, FLAGS, SET_LIMIT, SETS, SINGLES, WITHOUT_EFFECT
 from procedures import FIELD_LIMIT, LIST_LIMIT, STOPWORD_LIMIT, STOPWORD_SIZE, TAG_LIMIT, ZONE_LIMIT
+from query_maker import QueryMaker
 from state import Column, Index, State, Table, Value
 from statements import TABLE_LIMIT
-from texts import WHITE_SPACE, ascii_lower, ascii_upper, is_query, is_word, tokens
+from texts import WHITE_SPACE, ascii_lower, ascii_upper, is_word, tokens
 from vocabulary import (
     BETWEEN_WORDS,
     BEYOND,
@@ -37,10 +38,10 @@ from vocabulary import (
     NO_STATEMENTS,
     NO_UTF_8,
     NUMBERS,
-    OPERATORS,
     PARAMETER_LISTS,
     PARAMETER_WORDS,
     PREFERENCES,
+    QUERY_WORDS,
     SECTIONS,
     SENTENCE_ENDS,
     STOPLISTS,
@@ -243,11 +244,8 @@ class Maker:
             return self.number()
         return quoted(self.text_for(column.size if isinstance(column.size, int) else 0))
 
-    def query(self, texts: Sequence[str], index: Index | None) -> str:
-        """Returns a query, often of a word of these texts or of a stopword."""
-        if self.goes_wrong():
-            operator = self.one_of(OPERATORS)
-            return self.random.choice([self.text(), "", "a b", " quick", operator, operator.lower(), "{quick}", "a" * 4001])
+    def searched_word(self, texts: Sequence[str], index: Index | None) -> str:
+        """Returns a word to be searched for, often one of these texts or a stopword."""
         if index is None or self.chance(0.2):
             return self.word()
         if index.prefs.stop_keys and self.chance(0.1):
@@ -255,8 +253,26 @@ class Maker:
         keys = [str(word.key) for text in texts for word in document(index.prefs, text).words if word.key is not None]
         if self.chance(0.2):
             keys = [token.key for text in texts for token in tokens(text, index.prefs.lexer)]  # those of tags, too
-        words = [key for key in keys if is_query(key)] or keys
-        return self.spelt_otherwise(self.one_of(words)) if words else self.word()
+        return self.spelt_otherwise(self.one_of(keys)) if keys else self.word()
+
+    def run_of_words(self, texts: Sequence[str], index: Index | None) -> list[str]:
+        """Returns two to four words that stand side by side in one of these texts, any word in the place of a stopword."""
+        words = list(document(index.prefs, self.one_of(texts)).words) if index is not None and texts else []
+        start = self.random.randrange(len(words)) if words else 0
+        run = words[start : start + self.random.choice([2, 2, 3, 4])]
+        return [self.word() if word.key is None else self.spelt_otherwise(word.key) for word in run] or [self.word(), self.word()]
+
+    def query(self, texts: Sequence[str], index: Index | None) -> str:
+        """Returns the text of a query, often of words of these texts."""
+        if self.goes_wrong():
+            operator = self.one_of(QUERY_WORDS)
+            return self.random.choice([self.text(), "", "a b", " quick", operator, operator.lower(), "{quick}", "a" * 4001])
+        if self.chance(0.2):
+            return self.searched_word(texts, index)
+        group = Group() if index is None else index.prefs.group
+        there = [*(section.name for section in group.sections), *group.specials] * 10
+        makers = partial(self.searched_word, texts, index), partial(self.run_of_words, texts, index)
+        return QueryMaker(self.random, *makers, [*there, "sentence", "paragraph", *SECTIONS], self.built).text()
 
     # statements, each as a list of lexemes
 

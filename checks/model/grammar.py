@@ -21,6 +21,7 @@ from procedures import (
     SetAttribute,
     SyncIndex,
 )
+from reduction import SEARCHES
 from state import Column, Operand
 from statements import (
     COMPARISONS,
@@ -263,7 +264,7 @@ class Parser:
         query = self.value_of("text")
         label = self.number() if self.takes(",") else None
         self.expect(")", ">")
-        return Contains(column, query, label, self.number())
+        return Contains(column, query, label, self.number(), SEARCHES - self.built)
 
     def call(self) -> Statement:
         package = self.name()

@@ -5,7 +5,7 @@
 
 It says what the program is to reply to a script over a new store that has room for everything. It shares nothing with the
 program: of each statement it collects all refusals that hold and takes the first in their order, and a search goes over all
-synchronised rows and counts words. `checks/model/compare` compares the program with it.
+words of all synchronised rows. `checks/model/compare` compares the program with it.
 """
 
 from __future__ import annotations
@@ -20,11 +20,13 @@ sys.dont_write_bytecode = True  # no folder of compiled modules is left here
 from grammar import Parser
 from lexemes import NotUnderstood, cut
 from state import State
-from statements import NOT_UNDERSTOOD, ORDER, TOO_LONG_STATEMENT
+from statements import NOT_UNDERSTOOD, TOO_LONG_STATEMENT, rank
 from weights import least_weight, room
 
 # What is built, beside CREATE TABLE, CREATE INDEX, INSERT, SYNC_INDEX, POLICY_TOKENS and a SELECT of columns and scores by one
-# CONTAINS. A statement that needs anything else isn't understood.
+# CONTAINS. A statement that needs anything else isn't understood. Of what queries may have that isn't always searched
+# (`reduction.SEARCHES`) nothing is built: a query that needs it is refused by E21, at the place 1, and one that comes to a single key
+# is searched.
 BUILT = frozenset({
     "UPDATE",
     "DELETE",
@@ -82,7 +84,7 @@ def answer(state: State, statement: bytes, built: frozenset[str] = BUILT, is_res
         return Answer("", state, state)
     if is_rest:
         return Answer(NOT_UNDERSTOOD.reply, state, state)
-    refusal = min(parsed.refusals(state), key=lambda it: ORDER.index(it.number), default=None)
+    refusal = min(parsed.refusals(state), key=rank, default=None)
     if refusal is not None:
         return Answer(refusal.reply, state, state)
     after = state.copy()

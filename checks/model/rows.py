@@ -4,7 +4,8 @@
     checks/model/rows.py
 
 The lines up to one that ends with `;` are a statement, and those up to the next statement are its reply, which was worked out by
-hand. [ok] is the reply of a procedure, and [none] that of a search without rows. Each example runs over a new store.
+hand. [ok] is the reply of a procedure, and [none] that of a search without rows. Each example runs over a new store. Those of LATER need
+what queries may not have yet, and are run as if it was built.
 """
 
 from __future__ import annotations
@@ -14,10 +15,11 @@ import sys
 
 sys.dont_write_bytecode = True  # no folder of compiled modules is left here
 
-from model import replies
+from model import BUILT, replies
+from reduction import SEARCHES
 
 SHORT = {"[ok]": "PL/SQL procedure successfully completed.", "[none]": "no rows selected"}
-STATEMENT = re.compile(r"(?:EXEC|CREATE|INSERT|SELECT|UPDATE) [^;]*;\n", re.DOTALL)
+STATEMENT = re.compile(r"(?:EXEC|CREATE|INSERT|SELECT|UPDATE|DELETE) .*?;\n", re.DOTALL)
 
 TABLE = """\
 CREATE TABLE docs (id NUMBER PRIMARY KEY, body CLOB, price NUMBER);
@@ -31,9 +33,38 @@ def index(parameters: str) -> str:
     return f"CREATE INDEX di ON docs(body) INDEXTYPE IS CTXSYS.CONTEXT PARAMETERS ('{parameters}');\nIndex created.\n"
 
 
-def search(word: str, *lines: str) -> str:
+def search(query: str, *lines: str) -> str:
     found = "\n".join(lines or ["[none]"])
-    return f"SELECT id, SCORE(1) FROM docs WHERE CONTAINS(body,'{word}',1) > 0;\n{found}\n"
+    return f"SELECT id, SCORE(1) FROM docs WHERE CONTAINS(body,'{query}',1) > 0;\n{found}\n"
+
+
+def count(query: str, number: int) -> str:
+    return f"SELECT COUNT(*) FROM docs WHERE CONTAINS(body,'{query}',1) > 0;\n{number}\n"
+
+
+def table_of(*texts: str, parameters: str = "") -> str:
+    """Returns the statements that make an indexed table of these texts, with the keys from 1 on."""
+    rows = (ROW.format(key=key, text=text) for key, text in enumerate(texts, start=1))
+    return "".join([TABLE, index(parameters), *rows, SYNC])
+
+
+NOT_SEARCHED = "E21: operator not in profile at 1"
+SECTIONS = """\
+EXEC CTX_DDL.CREATE_SECTION_GROUP('g','BASIC_SECTION_GROUP');
+[ok]
+EXEC CTX_DDL.ADD_ZONE_SECTION('g','p','P');
+[ok]
+EXEC CTX_DDL.ADD_ZONE_SECTION('g','q','Q');
+[ok]
+EXEC CTX_DDL.ADD_FIELD_SECTION('g','t','T');
+[ok]
+"""
+STOPLIST = """\
+EXEC CTX_DDL.CREATE_STOPLIST('sl');
+[ok]
+EXEC CTX_DDL.ADD_STOPWORD('sl','Is');
+[ok]
+"""
 
 
 EXAMPLES = {
@@ -52,33 +83,18 @@ EXEC CTX_DDL.CREATE_PREFERENCE('p','BASIC_LEXER');
 EXEC CTX_DDL.SET_ATTRIBUTE('p','printjoins','a');
 E30: bad attribute or value
 """,
-    "stopwords find nothing": """\
-EXEC CTX_DDL.CREATE_STOPLIST('sl');
-[ok]
-EXEC CTX_DDL.ADD_STOPWORD('sl','Is');
-[ok]
-"""
-    + TABLE
-    + index("STOPLIST sl")
-    + ROW.format(key=1, text="jack grew big")
-    + ROW.format(key=2, text="jack big")
-    + SYNC
+    "stopwords find nothing": STOPLIST
+    + table_of("jack grew big", "jack big", parameters="STOPLIST sl")
     + search("is")
-    + search("jack", "1|1", "2|1"),
-    "words of an invisible field aren't in the main stream": """\
-EXEC CTX_DDL.CREATE_SECTION_GROUP('g','BASIC_SECTION_GROUP');
-[ok]
-EXEC CTX_DDL.ADD_ZONE_SECTION('g','p','P');
-[ok]
-EXEC CTX_DDL.ADD_ZONE_SECTION('g','q','Q');
-[ok]
-EXEC CTX_DDL.ADD_FIELD_SECTION('g','t','T');
-[ok]
-"""
-    + TABLE
-    + index("SECTION GROUP g")
-    + ROW.format(key=1, text="<T>alpha</T> <Q>one <P>beta</P></Q>")
-    + SYNC
+    + search("jack", "1|1", "2|1")
+    + search("is NOT jack")
+    + search("jack NOT is", "1|1", "2|1")
+    + search("jack AND is", "1|1", "2|1")
+    + search("is=IS | jack-is", "1|1", "2|1")
+    + search("is=big", "1|1", "2|1")
+    + search("is * 2 > 0"),
+    "words of an invisible field aren't in the main stream": SECTIONS
+    + table_of("<T>alpha</T> <Q>one <P>beta</P></Q>", parameters="SECTION GROUP g")
     + search("alpha")
     + search("one", "1|1")
     + search("beta", "1|1")
@@ -218,24 +234,191 @@ Index created.
 EXEC CTX_DOC.POLICY_TOKENS('CTXSYS.DEFAULT_LEXER','a');
 E30: bad attribute or value
 """,
+    "scores are at most 100": table_of(" ".join(["quick"] * 101), "quick")
+    + search("quick", "1|100", "2|1")
+    + search("quick*0", "E22: number out of range at 7"),
+    "several words that are one": table_of("Quick fox quick")
+    + search("({quick})", "1|2")
+    + search("quick = QUICK = {Quick}", "1|2"),
+    "faults of query texts": table_of()
+    + search("fuzzy(x)", "E21: operator not in profile at 1")
+    + search("a,b", "E21: operator not in profile at 2")
+    + search("(a", "E20: query syntax at 3")
+    + search("a)", "E20: query syntax at 2")
+    + search("", "E20: query syntax at 1")
+    + search("a" * 4001, "E26: query too large")
+    + search("a" * 4000)
+    + search("NEAR((a,b),101)", "E22: number out of range at 12")
+    + search("BT(a,0)", "E22: number out of range at 6")
+    + search("DEFINESCORE(quick, COMPLETION)", "E21: operator not in profile at 20")
+    + search("é > 101", "E22: number out of range at 6"),
+    "a word of several tokens isn't one of several words": table_of("web site")
+    + search("web\\-site = shop", "E29: not one word at 1")
+    + search("shop = {web-site} AND {a-b} = c", "E29: not one word at 8")
+    + search("x AND (shop OR a = .)", "E29: not one word at 20"),
+    "what isn't searched yet is refused behind all faults of the text": table_of("quick fox quick")
+    + search("quick fox", NOT_SEARCHED)
+    + search("{quick-fox} NOT quick", NOT_SEARCHED)
+    + search("NEAR((quick, fox))", NOT_SEARCHED)
+    + search("qu%", NOT_SEARCHED)
+    + search("quick WITHIN nope", NOT_SEARCHED)
+    + search("SYN(quick)", NOT_SEARCHED)
+    + search("DEFINESCORE(quick, 5)", NOT_SEARCHED)
+    + search("qu% = {a-b}", NOT_SEARCHED)
+    + search("quick fox | a={a-b}", "E29: not one word at 15")
+    + search("quick . fox", NOT_SEARCHED)
+    + search("quick .", "1|2")
+    + search("quick AND fox", NOT_SEARCHED)
+    + search("quick | quick", NOT_SEARCHED)
+    + search("quick NOT slow", NOT_SEARCHED)
+    + search("quick - fox", NOT_SEARCHED)
+    + search("quick = fox", NOT_SEARCHED)
+    + search("quick*1", NOT_SEARCHED)
+    + search("quick > 0", NOT_SEARCHED)
+    + search("quick NOT a={a-b}", "E29: not one word at 13")
+    + search(". OR quick", "1|2"),
+}
+
+LATER = {
+    "scores are weighed": table_of(" ".join(["quick"] * 101), "quick")
+    + search("quick*0.1", "1|10", "2|1")
+    + search("quick*1.5", "1|100", "2|2")
+    + search("quick*0", "E22: number out of range at 7"),
+    "operators and their scores": table_of("quick fox quick")
+    + search("fox MINUS quick")
+    + search("quick - fox", "1|1")
+    + search("quick AND fox", "1|1")
+    + search("quick | fox", "1|2")
+    + search("quick NOT fox")
+    + search("quick NOT slow", "1|2")
+    + search("quick = fox", "1|3")
+    + search("quick = fox - fox", "1|2")
+    + search("fox OR quick AND slow", "1|1")
+    + search("(fox OR quick) AND slow")
+    + search("quick > 1", "1|2")
+    + search("quick > 2")
+    + search("quick > 1 AND fox", "1|1")
+    + search("quick*10*10>99", "1|100"),
+    "phrases": table_of("web site")
+    + search("web\\-site", "1|1")
+    + search("{web-site}", "1|1")
+    + search("web\\-site = shop", "E29: not one word at 1")
+    + search("web AND SITE", "1|1")
+    + search("shop = web site", "1|1")
+    + search("site web"),
+    "a stopword takes any word": STOPLIST
+    + table_of("jack grew big", "jack big", "jack is grown big", parameters="STOPLIST sl")
+    + search("jack is big", "1|1")
+    + search("is jack is = Is big is", "1|1")
+    + search("jack is is big", "3|1"),
+    "a phrase within a sentence": """\
+EXEC CTX_DDL.CREATE_SECTION_GROUP('g','NULL_SECTION_GROUP');
+[ok]
+EXEC CTX_DDL.ADD_SPECIAL_SECTION('g','SENTENCE');
+[ok]
+"""
+    + table_of("a. b", "a b.", parameters="SECTION GROUP g")
+    + search("(a AND b) WITHIN SENTENCE", "2|1")
+    + search("(a AND b) WITHIN PARAGRAPH", "E23: unknown section paragraph"),
+    "sections": SECTIONS
+    + table_of("<T>alpha</T> <Q>one <P>beta</P></Q>", parameters="SECTION GROUP g")
+    + search("alpha")
+    + search("alpha WITHIN t", "1|1")
+    + search("(beta WITHIN p) WITHIN q", "1|1")
+    + search("(one WITHIN p) WITHIN q")
+    + search("alpha WITHIN z", "E23: unknown section z")
+    + search("(alpha WITHIN t) WITHIN q", "E24: field t inside WITHIN")
+    + search("(alpha WITHIN t) WITHIN z", "E24: field t inside WITHIN")
+    + search("(alpha WITHIN z) WITHIN t", "E23: unknown section z")
+    + search("{a-b} = c AND alpha WITHIN z", "E29: not one word at 1"),
+    "nearness": table_of("a b", "b x a. c")
+    + search("NEAR((a,b),0)")
+    + search("NEAR((a,b),1)", "1|100")
+    + search("NEAR((b,a),1,TRUE)")
+    + search("NEAR((b,a),2,TRUE)", "2|100")
+    + search("a ; b", "1|100", "2|100")
+    + search("(a OR c);b", "1|100", "2|100")
+    + search("NEAR((a,a),0)", "1|100", "2|100")
+    + search("NEAR((a,a),100,TRUE)")
+    + search("NEAR((x a, b x),2)", "2|100")
+    + search("NEAR((x a, b x),1)")
+    + search("NEAR((b, ., a),1)", "1|100")
+    + search("NEAR((b, .),0)", "1|1", "2|1")
+    + search("NEAR((a,b),101)", "E22: number out of range at 12"),
+    "wildcards": """\
+EXEC CTX_DDL.CREATE_PREFERENCE('lx','BASIC_LEXER');
+[ok]
+EXEC CTX_DDL.SET_ATTRIBUTE('lx','base_letter','YES');
+[ok]
+EXEC CTX_DDL.SET_ATTRIBUTE('lx','skipjoins','-');
+[ok]
+"""
+    + table_of("CAFÉ café", parameters="LEXER lx")
+    + search("caf%", "1|2")
+    + search("%", "1|2")
+    + search("C\\-A\\-f_", "1|2")
+    + search("caf__")
+    + search("%f%", "1|2")
+    + "DELETE FROM docs WHERE id = 1;\n1 row deleted.\n"
+    + search("%"),
+    "a score by a sum": table_of("quick fox quick")
+    + search("DEFINESCORE(quick, OCCURRENCE * 10 + 5)", "1|25")
+    + search("DEFINESCORE(quick, DISCRETE * 10 + 5)", "1|100")
+    + search("DEFINESCORE(quick, DISCRETE)", "1|100")
+    + search("DEFINESCORE(quick, 0 - 5)", "1|1")
+    + search("DEFINESCORE(slow, 5)")
+    + search("DEFINESCORE(quick | fox | quick, OCCURRENCE)", "1|3")
+    + search("DEFINESCORE(quick, 1000 - 1000 - 1)", "1|1")
+    + search("DEFINESCORE(fox, 1000*1000*1000*1000*1000*1000*1000*1000*1000)", "1|100"),
+    "a catalogue": """\
+EXEC CTX_DDL.CREATE_SECTION_GROUP('g','BASIC_SECTION_GROUP');
+[ok]
+EXEC CTX_DDL.ADD_ZONE_SECTION('g','name','NAME');
+[ok]
+EXEC CTX_DDL.ADD_SPECIAL_SECTION('g','SENTENCE');
+[ok]
+"""
+    + table_of(
+        *(
+            f"<NAME>Lamp {i}</NAME> Steel lamp with {'blue' if i % 2 else 'red'} shade. Runs on 12 volts."
+            for i in range(1, 301)
+        ),
+        parameters="SECTION GROUP g",
+    )
+    + count("red", 150)
+    + count("red AND 12", 150)
+    + count("(red AND 12) WITHIN SENTENCE", 1)
+    + count("lamp WITHIN name", 300)
+    + count("lamp > 1", 300)
+    + "UPDATE docs SET body='green lamp' WHERE id BETWEEN 1 AND 100;\n100 rows updated.\n"
+    + count("red", 100)
+    + count("green", 0)
+    + SYNC
+    + count("green", 100),
 }
 
 
+def differing(name: str, example: str, built: frozenset[str]) -> int:
+    """Says which statements of an example are answered otherwise, and returns how many."""
+    statements = list(STATEMENT.finditer(example))
+    ends = [*(statement.start() for statement in statements[1:]), len(example)]
+    answered = replies("".join(statement[0] for statement in statements).encode(), built)
+    wrong = 0
+    for statement, end, reply in zip(statements, ends, answered):
+        wanted = example[statement.end() : end]
+        for short, full in SHORT.items():
+            wanted = wanted.replace(short, full)
+        if reply != wanted:
+            wrong += 1
+            print(f"{name}: {statement[0]}is answered {reply!r}, and not {wanted!r}")
+    return wrong
+
+
 def main() -> int:
-    differing = 0
-    for name, example in EXAMPLES.items():
-        statements = list(STATEMENT.finditer(example))
-        ends = [*(statement.start() for statement in statements[1:]), len(example)]
-        answered = list(replies("".join(statement[0] for statement in statements).encode()))
-        for statement, end, reply in zip(statements, ends, answered):
-            wanted = example[statement.end() : end]
-            for short, full in SHORT.items():
-                wanted = wanted.replace(short, full)
-            if reply != wanted:
-                differing += 1
-                print(f"{name}: {statement[0]}is answered {reply!r}, and not {wanted!r}")
-    print(f"{len(EXAMPLES)} examples, {differing} replies that differ")
-    return 1 if differing else 0
+    total = sum(differing(name, example, BUILT) for name, example in EXAMPLES.items())
+    total += sum(differing(name, example, BUILT | SEARCHES) for name, example in LATER.items())
+    print(f"{len(EXAMPLES) + len(LATER)} examples, {total} replies that differ")
+    return 1 if total else 0
 
 
 if __name__ == "__main__":

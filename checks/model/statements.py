@@ -9,11 +9,13 @@ from collections.abc import Iterable, Iterator
 from dataclasses import dataclass
 from typing import Literal
 
-from documents import Group, Prefs, score
+from documents import Group, Prefs, document
 from lexemes import Beyond, Whole, is_name
 from preferences import lexer_options, stop_keys
+from reduction import NotSearched, searched
+from scores import score
 from state import TEXT_LIMIT, Column, Index, Operand, State, Table, Value
-from texts import SCORE_LIMIT, WHITE_SPACE, ascii_lower, ascii_upper, is_query
+from texts import SCORE_LIMIT, WHITE_SPACE, ascii_lower, ascii_upper
 
 TABLE_LIMIT = 64
 COLUMN_LIMIT = 16
@@ -52,6 +54,7 @@ def count_of(number: int, done: str) -> str:
 class Refusal:
     number: int
     text: str
+    is_of_query: bool = False  # whether its cause is in the text of a query
 
     @property
     def reply(self) -> str:
@@ -66,11 +69,17 @@ TOO_LONG_STATEMENT = Refusal(19, "statement too long")
 BAD_VALUE = Refusal(30, "bad attribute or value")
 OUT_OF_RANGE = Refusal(22, "number out of range")
 LIMIT_REACHED = Refusal(31, "limit reached")
-NO_QUERY = Refusal(21, "operator not in profile at 1")
 STORE_FULL = Refusal(80, "store full")
 
-# The refusals of a statement that is understood, in their order: of all that hold the first one is the reply.
-ORDER = (11, 27, 12, 13, 14, 16, 30, 22, 31, 21)
+# The refusals of a statement that is understood, in their order: of all that hold the first one is the reply. That of a query text
+# comes last.
+ORDER = (11, 27, 12, 13, 14, 16, 30, 22, 31)
+
+
+def rank(refusal: Refusal) -> int:
+    return len(ORDER) if refusal.is_of_query else ORDER.index(refusal.number)
+
+
 
 Refusals = Iterator[Refusal]
 
@@ -388,6 +397,7 @@ class Contains:
     query: str
     label: Whole | None
     above: Whole
+    unbuilt: frozenset[str]  # what queries may not have yet
 
 
 Item = str | Score
@@ -430,16 +440,19 @@ class Select(Statement):
             yield WRONG_VALUES
         for condition in self.conditions:
             yield from condition.refusals(table)
-        yield from self.query_refusals()
+        yield from self.query_refusals(state)
 
-    def query_refusals(self) -> Refusals:
+    def query_refusals(self, state: State) -> Refusals:
         contains = self.contains
         if contains is None:
             return
         if isinstance(contains.label, Beyond) or not isinstance(contains.above, int) or contains.above > SCORE_LIMIT:
             yield OUT_OF_RANGE
-        if not is_query(contains.query):
-            yield NO_QUERY
+        index = state.index_on(self.table, state.tables[self.table].place(contains.column))
+        try:
+            searched(contains.query, Prefs() if index is None else index.prefs, contains.unbuilt)
+        except NotSearched as fault:
+            yield Refusal(fault.number, fault.text, is_of_query=True)
 
     def found(self, state: State) -> list[tuple[int, int]]:
         """Returns the keys of the rows to be shown, in rising order, each with its score."""
@@ -449,7 +462,8 @@ class Select(Statement):
             return [(key, 0) for key in keys]
         index = state.index_on(self.table, table.place(self.contains.column))
         assert index is not None and isinstance(self.contains.above, int)
-        scores = {key: score(index.prefs, self.contains.query, text) for key, text in state.synchronised_texts(index)}
+        query = searched(self.contains.query, index.prefs, self.contains.unbuilt)
+        scores = {key: score(query, document(index.prefs, text)) for key, text in state.synchronised_texts(index)}
         return [(key, scores[key]) for key in keys if scores.get(key, 0) > self.contains.above]
 
     def effect(self, state: State) -> str:

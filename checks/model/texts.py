@@ -1,4 +1,4 @@
-"""Words of texts: characters, keys, tokens, and the words that may be searched for."""
+"""Words of texts: characters, keys and tokens."""
 
 from __future__ import annotations
 
@@ -128,23 +128,9 @@ def tokens(text: str, options: LexerOptions) -> tuple[Token, ...]:
     return tuple(found)
 
 
-# The words that the language of queries has as operators and functions, or refuses by a cause of its own.
-RESERVED = frozenset(
-    """
-    AND OR NOT MINUS EQUIV NEAR WITHIN DEFINESCORE SYN PT BT NT ACCUM ABOUT FUZZY HASPATH INPATH MDATA SDATA NDATA SQE RT TT TR
-    TRSYN BTG BTP BTI NTG NTP NTI
-    """.split()
-)
-
-
 def ascii_upper(text: str) -> str:
     return "".join(char.upper() if char.isascii() else char for char in text)
 
 
 def ascii_lower(text: str) -> str:
     return "".join(char.lower() if char.isascii() else char for char in text)
-
-
-def is_query(text: str) -> bool:
-    """Returns whether it is one word that isn't reserved. No other query is built."""
-    return text != "" and all(map(is_word, text)) and ascii_upper(text) not in RESERVED

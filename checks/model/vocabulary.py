@@ -3,7 +3,8 @@
 from __future__ import annotations
 
 from procedures import STOPWORD_SIZE
-from texts import RESERVED, WHITE_SPACE
+from queries import FUNCTIONS, OPERATORS, REFUSED_FUNCTIONS, REFUSED_OPERATOR
+from texts import WHITE_SPACE
 
 # names and numbers that statements choose from
 TABLES = ["docs", "items", "t", "a" * 30, "docs$2#_"]
@@ -26,7 +27,7 @@ WORDS = [
     "x" * 300, "\u0300\u0301", "ᏣᎳᎩ", "\u1e9b\u0323", "²", "Ⅻ", "NEAR", "accum", "3.14", "1,a",
     "web-site", "l'été", "c++", "#tag",
 ]
-OPERATORS = sorted(RESERVED)
+QUERY_WORDS = [*OPERATORS, *FUNCTIONS, REFUSED_OPERATOR, *REFUSED_FUNCTIONS]
 NO_UTF_8 = [b"\xff", b"\xc3", b"\xed\xa0\x80", b"\xf4\x90\x80\x80"]
 # characters that a set may have, some of which look like tags, white space, or parts of words
 JOINS = [*"-_+#@&'/<>.,!?:;|\\*·…€😀", "\u200b", "\u20dd", "\u00ad", "\x1c", "\ue000", "\uffff", "\0"]

@@ -12,8 +12,15 @@ pub data Refusal : Type 0 where
   KeyExists : ℤ → Refusal
   ValueTooLong : Refusal
   StatementTooLong : Refusal
-  -- at this place of a query text, counted from 1
+  -- at this place of a query text, counted from 1: what breaks the grammar, what isn't in the profile, a number out of its range,
+  -- and a word that EQUIV joins and that isn't one token
+  QuerySyntax : ℕ → Refusal
   NotInProfile : ℕ → Refusal
+  QueryNumber : ℕ → Refusal
+  NotOneWord : ℕ → Refusal
+  UnknownSection : List ℕ → Refusal
+  FieldInside : List ℕ → Refusal
+  QueryTooLarge : Refusal
   OutOfRange : Refusal
   NoIndexOfKind : Refusal
   BadValue : Refusal
@@ -44,7 +51,13 @@ refusal_line WrongValues = codes "E13: wrong type or number of values\n"
 refusal_line (KeyExists key) = codes "E14: key " ++ signed_decimal key ++ codes " exists\n"
 refusal_line ValueTooLong = value_too_long
 refusal_line StatementTooLong = statement_too_long
+refusal_line (QuerySyntax place) = codes "E20: query syntax at " ++ signed_decimal (pos place) ++ codes "\n"
 refusal_line (NotInProfile place) = codes "E21: operator not in profile at " ++ signed_decimal (pos place) ++ codes "\n"
+refusal_line (QueryNumber place) = codes "E22: number out of range at " ++ signed_decimal (pos place) ++ codes "\n"
+refusal_line (UnknownSection name) = codes "E23: unknown section " ++ printed_text name ++ codes "\n"
+refusal_line (FieldInside name) = codes "E24: field " ++ printed_text name ++ codes " inside WITHIN\n"
+refusal_line QueryTooLarge = codes "E26: query too large\n"
+refusal_line (NotOneWord place) = codes "E29: not one word at " ++ signed_decimal (pos place) ++ codes "\n"
 refusal_line OutOfRange = codes "E22: number out of range\n"
 refusal_line NoIndexOfKind = codes "E27: no index of that kind\n"
 refusal_line BadValue = codes "E30: bad attribute or value\n"
@@ -63,6 +76,9 @@ there = refl
 key : refusal_line (KeyExists (pos 1)) ≡ codes "E14: key 1 exists\n"
 unfolding digits
 key = refl
+
+field : refusal_line (FieldInside (codes "t")) ≡ codes "E24: field t inside WITHIN\n"
+field = refl
 
 place : refusal_line (NotInProfile 1) ≡ codes "E21: operator not in profile at 1\n"
 unfolding digits

@@ -3,7 +3,7 @@ use Rattle.std.specs.Prelude.{◌≡◌, negsuc, codes, refl}
 use Rattle.std.specs.Fmt.{digits}
 use Rattle.db_cond.specs.declared.faults.Fault.{Fault}
 use Rattle.db_cond.specs.declared.faults.Fault.TheVariants as fault
-use Rattle.db_cond.specs.Faults.{Refusal, UnknownName, ExistsAlready, WrongValues, KeyExists, ValueTooLong, NotInProfile, OutOfRange, NoIndexOfKind, BadValue, LimitReached, refusal_line}
+use Rattle.db_cond.specs.Faults.{Refusal, UnknownName, ExistsAlready, WrongValues, KeyExists, ValueTooLong, QuerySyntax, NotInProfile, QueryNumber, NotOneWord, UnknownSection, FieldInside, QueryTooLarge, OutOfRange, NoIndexOfKind, BadValue, LimitReached, refusal_line}
 
 abbrev pub refusal_of : Fault → Refusal
 refusal_of (fault.UnknownName name) = UnknownName name.now
@@ -11,7 +11,13 @@ refusal_of (fault.ExistsAlready name) = ExistsAlready name.now
 refusal_of fault.WrongValues = WrongValues
 refusal_of (fault.KeyExists key) = KeyExists key
 refusal_of fault.ValueTooLong = ValueTooLong
+refusal_of (fault.QuerySyntax place) = QuerySyntax place
 refusal_of (fault.NotInProfile place) = NotInProfile place
+refusal_of (fault.QueryNumber place) = QueryNumber place
+refusal_of (fault.NotOneWord place) = NotOneWord place
+refusal_of (fault.UnknownSection name) = UnknownSection name.now
+refusal_of (fault.FieldInside name) = FieldInside name.now
+refusal_of fault.QueryTooLarge = QueryTooLarge
 refusal_of fault.OutOfRange = OutOfRange
 refusal_of fault.NoIndexOfKind = NoIndexOfKind
 refusal_of fault.BadValue = BadValue

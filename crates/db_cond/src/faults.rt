@@ -23,8 +23,20 @@ pub enum Fault<'a> {
     KeyExists(i64),
     /// A value is over its length.
     ValueTooLong,
+    /// What stands at this place of a query text, counted from 1, breaks the grammar.
+    QuerySyntax(u32),
     /// What stands at this place of a query text, counted from 1, isn't in the profile.
     NotInProfile(u32),
+    /// The number at this place of a query text, counted from 1, is out of its range.
+    QueryNumber(u32),
+    /// The word at this place of a query text, counted from 1, is joined to another by EQUIV and isn't exactly one token.
+    NotOneWord(u32),
+    /// A query text names a section that the index doesn't have.
+    UnknownSection(&'a str),
+    /// A query text has WITHIN this field inside another WITHIN.
+    FieldInside(&'a str),
+    /// A query text is too long, or has too many words and signs or too many open parentheses.
+    QueryTooLarge,
     /// A number of the statement is out of its range.
     OutOfRange,
     /// The column or the index has none of the kind that is wanted.
@@ -69,17 +81,11 @@ fn push_numbered(
     Ok(())
 }
 
-/// Puts the line that tells the place of what isn't in the profile.
-fn push_place(alloc: Global, out: &mut Vec<u8>, place: u32) -> Result<(), Memory>
-    ensures { OnOk result (out.new.items ≡ out.old.items ++ refusal_line (NotInProfile place)) }
+/// Puts a text, a place of a query text, and a newline.
+fn push_place(alloc: Global, out: &mut Vec<u8>, before: &[u8], place: u32) -> Result<(), Memory>
+    ensures { OnOk result (out.new.items ≡ out.old.items ++ (before.now ++ (signed_decimal (pos place) ++ codes "\n"))) }
 {
-    push_numbered(
-        alloc,
-        out,
-        b"E21: operator not in profile at ",
-        i64::from(place),
-        b"\n",
-    )
+    push_numbered(alloc, out, before, i64::from(place), b"\n")
 }
 
 /// Puts the line of a refusal.
@@ -92,7 +98,17 @@ fn push_fault(alloc: Global, out: &mut Vec<u8>, fault: Fault<'_>) -> Result<(), 
         Fault::WrongValues => push_fixed(out, b"E13: wrong type or number of values\n"),
         Fault::KeyExists(key) => push_numbered(alloc, out, b"E14: key ", key, b" exists\n"),
         Fault::ValueTooLong => push_fixed(out, b"E16: value too long\n"),
-        Fault::NotInProfile(place) => push_place(alloc, out, place),
+        Fault::QuerySyntax(place) => push_place(alloc, out, b"E20: query syntax at ", place),
+        Fault::NotInProfile(place) => {
+            push_place(alloc, out, b"E21: operator not in profile at ", place)
+        }
+        Fault::QueryNumber(place) => {
+            push_place(alloc, out, b"E22: number out of range at ", place)
+        }
+        Fault::NotOneWord(place) => push_place(alloc, out, b"E29: not one word at ", place),
+        Fault::UnknownSection(name) => push_named(out, b"E23: unknown section ", name, b"\n"),
+        Fault::FieldInside(name) => { push_named(out, b"E24: field ", name, b" inside WITHIN\n") }
+        Fault::QueryTooLarge => push_fixed(out, b"E26: query too large\n"),
         Fault::OutOfRange => push_fixed(out, b"E22: number out of range\n"),
         Fault::NoIndexOfKind => push_fixed(out, b"E27: no index of that kind\n"),
         Fault::BadValue => push_fixed(out, b"E30: bad attribute or value\n"),

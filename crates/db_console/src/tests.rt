@@ -276,7 +276,7 @@ pub(crate) const QUICK: &str =
     "SELECT id, SCORE(1) FROM docs WHERE CONTAINS(body,'quick',1) > 0;\n";
 
 /// The script and what is said to it, behind the schema.
-static INDEXED: [(&str, &str); 7] = [
+static INDEXED: [(&str, &str); 8] = [
     // a row isn't found before the index is synchronised
     (
         "INSERT INTO docs VALUES (1,'quick fox quick',0);
@@ -366,7 +366,7 @@ E22: number out of range
 E13: wrong type or number of values
 E22: number out of range
 E21: operator not in profile at 1
-E21: operator not in profile at 1
+E20: query syntax at 5
 E22: number out of range
 E13: wrong type or number of values
 Table created.
@@ -452,6 +452,9 @@ SELECT id FROM pages WHERE CONTAINS(body,'alpha') > 0;
 SELECT id FROM pages WHERE CONTAINS(body,'beta') > 0;
 SELECT id FROM pages WHERE CONTAINS(body,'is') > 0;
 SELECT id FROM pages WHERE CONTAINS(body,'website') > 0;
+SELECT id FROM pages WHERE CONTAINS(body,'jack AND is') > 0;
+SELECT id FROM pages WHERE CONTAINS(body,'is NOT jack') > 0;
+SELECT id FROM pages WHERE CONTAINS(body,'is = web\\-site = is') > 0;
 ",
         "PL/SQL procedure successfully completed.
 PL/SQL procedure successfully completed.
@@ -473,6 +476,46 @@ no rows selected
 1
 no rows selected
 2
+2
+no rows selected
+2
+",
+    ),
+    // query texts with their faults, and of which a word is left
+    (
+        "INSERT INTO docs VALUES (1,'quick fox quick',0);
+EXEC CTX_DDL.SYNC_INDEX('di');
+SELECT id, SCORE(1) FROM docs WHERE CONTAINS(body,'({Quick})',1) > 0;
+SELECT id FROM docs WHERE CONTAINS(body,'quick*0') > 0;
+SELECT id FROM docs WHERE CONTAINS(body,'fuzzy(x)') > 0;
+SELECT id FROM docs WHERE CONTAINS(body,'a,b') > 0;
+SELECT id FROM docs WHERE CONTAINS(body,'(a') > 0;
+SELECT id FROM docs WHERE CONTAINS(body,'a)') > 0;
+SELECT id FROM docs WHERE CONTAINS(body,'') > 0;
+SELECT id FROM docs WHERE CONTAINS(body,'é é)') > 0;
+SELECT id FROM docs WHERE CONTAINS(body,'NEAR((a,b),101)') > 0;
+SELECT id FROM docs WHERE CONTAINS(body,'DEFINESCORE(quick, COMPLETION)') > 0;
+SELECT id FROM docs WHERE CONTAINS(body,'((((((((((((((((((((((((((((((((( quick') > 0;
+SELECT id FROM docs WHERE CONTAINS(body,'web\\-site = shop') > 0;
+SELECT id FROM docs WHERE CONTAINS(body,'quick WITHIN SENTENCE') > 0;
+SELECT id FROM docs WHERE CONTAINS(body,'qui%') > 0;
+",
+        "1 row created.
+PL/SQL procedure successfully completed.
+1|2
+E22: number out of range at 7
+E21: operator not in profile at 1
+E21: operator not in profile at 2
+E20: query syntax at 3
+E20: query syntax at 2
+E20: query syntax at 1
+E20: query syntax at 6
+E22: number out of range at 12
+E21: operator not in profile at 20
+E26: query too large
+E29: not one word at 1
+E21: operator not in profile at 1
+E21: operator not in profile at 1
 ",
     ),
     // a table of 17 columns

@@ -4,7 +4,7 @@ use Rattle.std.specs.Prelude.{not, codes}
 use Rattle.std.specs.Bool.{if◌then◌else◌}
 use Rattle.std.specs.declared.alloc.Global.{Global}
 use Rattle.ct_keep.specs.KeeperViews.{KeeperView}
-use Rattle.db_cond.specs.Faults.{Refusal, NotUnderstood, UnknownName, ExistsAlready, WrongValues, KeyExists, ValueTooLong, StatementTooLong, NotInProfile, OutOfRange, NoIndexOfKind, BadValue, LimitReached, refusal_line, store_full}
+use Rattle.db_cond.specs.Faults.{Refusal, NotUnderstood, UnknownName, ExistsAlready, WrongValues, KeyExists, ValueTooLong, StatementTooLong, QuerySyntax, NotInProfile, QueryNumber, NotOneWord, UnknownSection, FieldInside, QueryTooLarge, OutOfRange, NoIndexOfKind, BadValue, LimitReached, refusal_line, store_full}
 use Rattle.st_parse.specs.declared.procedures.Procedure.TheVariants.{PolicyTokens, SyncIndex, Define}
 use Rattle.st_parse.specs.declared.statements.Statement.{Statement}
 use Rattle.st_parse.specs.declared.statements.Statement.TheVariants.{CreateTable, DropTable, DropIndex, CreateIndex, Insert, Update, Delete, Select, Exec, Commit}
@@ -37,7 +37,13 @@ not_full WrongValues is = let e : 49 ≡ 56 = ap second is in omega (arith, e)
 not_full (KeyExists key) is = let e : 49 ≡ 56 = ap second is in omega (arith, e)
 not_full ValueTooLong is = let e : 49 ≡ 56 = ap second is in omega (arith, e)
 not_full StatementTooLong is = let e : 49 ≡ 56 = ap second is in omega (arith, e)
+not_full (QuerySyntax place) is = let e : 50 ≡ 56 = ap second is in omega (arith, e)
 not_full (NotInProfile place) is = let e : 50 ≡ 56 = ap second is in omega (arith, e)
+not_full (QueryNumber place) is = let e : 50 ≡ 56 = ap second is in omega (arith, e)
+not_full (NotOneWord place) is = let e : 50 ≡ 56 = ap second is in omega (arith, e)
+not_full (UnknownSection name) is = let e : 50 ≡ 56 = ap second is in omega (arith, e)
+not_full (FieldInside name) is = let e : 50 ≡ 56 = ap second is in omega (arith, e)
+not_full QueryTooLarge is = let e : 50 ≡ 56 = ap second is in omega (arith, e)
 not_full OutOfRange is = let e : 50 ≡ 56 = ap second is in omega (arith, e)
 not_full NoIndexOfKind is = let e : 50 ≡ 56 = ap second is in omega (arith, e)
 not_full BadValue is = let e : 51 ≡ 56 = ap second is in omega (arith, e)

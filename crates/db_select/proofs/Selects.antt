@@ -14,14 +14,15 @@ use Rattle.tb_table.specs.Rules.{AreTables}
 use Rattle.st_parse.specs.declared.statements.Cond.{Cond}
 use Rattle.ix_context.specs.declared.hits.Hit.{Hit}
 use Rattle.ix_context.specs.Indexes.{Index}
-use Rattle.db_cond.specs.Faults.{Refusal, NotUnderstood, UnknownName, WrongValues, OutOfRange, NoIndexOfKind, NotInProfile, refusal_line}
+use Rattle.db_cond.specs.Faults.{Refusal, NotUnderstood, UnknownName, WrongValues, OutOfRange, NoIndexOfKind, refusal_line}
 use Rattle.db_state.specs.States.{State, is_view}
 use Rattle.db_state.specs.Effects.{Effect, Does, Refused, refuse, refuse_by, with_found, state_by, reply_by}
 use Rattle.db_state.specs.Columns.{first_unknown}
 use Rattle.db_rows.specs.Checking.{fit_columns, has_beyond}
 use Rattle.db_select.specs.Predicates.{Search, is_built_pred, label_in, list_columns, pred_column, search_in, conds_in}
-use Rattle.db_select.specs.Checking.{fit_labels, is_out_of_range, has_no_query, check_parts, check_values}
-use Rattle.db_select.specs.Selecting.{all_columns, hit_line, hits, index_of_search, lacks_index, rows_reply, select, select_rows}
+use Rattle.db_select.specs.Querying.{Refuses, Finds, meaning_of, refusal_in}
+use Rattle.db_select.specs.Checking.{fit_labels, is_out_of_range, check_parts, check_values}
+use Rattle.db_select.specs.Selecting.{all_columns, hit_line, hits, index_of_search, lacks_index, query_refusal, refused_by, rows_reply, select, select_rows}
 use Rattle.db_select.specs.Pending.{is_bare, is_view_list, select_pending}
 use Rattle.db_select.specs.Statements.{select_statement}
 use Rattle.db_select.specs.declared.sources.FieldSource.{FieldSource}
@@ -56,7 +57,7 @@ select_keeps m list t preds =
     (kept_by m (lacks_index m t x.columns search) NoIndexOfKind _
     (kept_by m (not (fit_labels list (label_in search)) || not (fit_columns x.columns conds)) WrongValues _
     (kept_by m (is_out_of_range search || has_beyond conds) OutOfRange _
-    (kept_by m (has_no_query search) (NotInProfile 1) _ refl)))))
+    (kept_unless m (query_refusal m t x.columns search) (λ refusal. refusal) _ refl)))))
 
 kept_either : (m : State) (b : Bool) (e f : Effect) → state_by m e ≡ m → state_by m f ≡ m → state_by m (if b then e else f) ≡ m
 kept_either m true e f kept other = kept
@@ -94,28 +95,52 @@ columns_are columns sources x same is =
 
 -- ---- the replies
 
-module _ (m : State) (t : List ℕ) (x : Table) (list : SelectList) (search : Option Search) (conds : List Cond) (columns : List Column) (same : x.columns ≡ columns) (w o q : Bool)
-    (wrong : w ≡ (not (fit_labels list (label_in search)) || not (fit_columns columns conds))) (out : o ≡ (is_out_of_range search || has_beyond conds)) (no_query : q ≡ has_no_query search) where
-  checked : (done : Effect) → check_values x.columns list search conds done ≡ check_parts w o q done
+module _ (m : State) (t : List ℕ) (x : Table) (list : SelectList) (search : Option Search) (conds : List Cond) (columns : List Column) (same : x.columns ≡ columns) (w o : Bool)
+    (wrong : w ≡ (not (fit_labels list (label_in search)) || not (fit_columns columns conds))) (out : o ≡ (is_out_of_range search || has_beyond conds)) where
+  checked : (done : Effect) → check_values x.columns list search conds done ≡ check_parts w o done
   checked done =
-      sym (λ i. check_parts ((wrong ∙ ap (λ (cs : List Column). not (fit_labels list (label_in search)) || not (fit_columns cs conds)) (sym same)) i) (out i) (no_query i) done)
+      sym (λ i. check_parts ((wrong ∙ ap (λ (cs : List Column). not (fit_labels list (label_in search)) || not (fit_columns cs conds)) (sym same)) i) (out i) done)
 
-  behind_index : lacks_index m t x.columns search ≡ false → select_rows m t x list search conds ≡ check_parts w o q (Does m (rows_reply m.tables t x.columns list (hits m t x search conds)))
-  behind_index there =
-      ap (λ (b : Bool). refuse b NoIndexOfKind (check_values x.columns list search conds (Does m (rows_reply m.tables t x.columns list (hits m t x search conds))))) there
-      ∙ checked (Does m (rows_reply m.tables t x.columns list (hits m t x search conds)))
+  -- what follows the checks
+  abbrev listed : Effect
+  listed = Does m (rows_reply m.tables t x.columns list (hits m t x search conds))
 
-  pub faulty : lacks_index m t x.columns search ≡ false → (refusal : Refusal) → ((done : Effect) → check_parts w o q done ≡ Refused refusal) → refusal_line refusal ≡ reply_by (select_rows m t x list search conds)
-  faulty there refusal fails = ap reply_by (sym (behind_index there ∙ fails (Does m (rows_reply m.tables t x.columns list (hits m t x search conds)))))
+  abbrev queried : Effect
+  queried = refuse_by (query_refusal m t x.columns search) (λ refusal. refusal) listed
 
-  pub passed : lacks_index m t x.columns search ≡ false → ((done : Effect) → check_parts w o q done ≡ done) → (found : List (ℤ × ℕ)) → found ≡ hits m t x search conds
+  behind_index : lacks_index m t x.columns search ≡ false → select_rows m t x list search conds ≡ check_parts w o queried
+  behind_index there = ap (λ (b : Bool). refuse b NoIndexOfKind (check_values x.columns list search conds queried)) there ∙ checked queried
+
+  pub faulty : lacks_index m t x.columns search ≡ false → (refusal : Refusal) → ((done : Effect) → check_parts w o done ≡ Refused refusal) → refusal_line refusal ≡ reply_by (select_rows m t x list search conds)
+  faulty there refusal fails = ap reply_by (sym (behind_index there ∙ fails queried))
+
+  -- behind the checks, where the query text is refused or isn't
+  by_query : lacks_index m t x.columns search ≡ false → ((done : Effect) → check_parts w o done ≡ done) → (refused : Option Refusal) → query_refusal m t x.columns search ≡ refused
+      → select_rows m t x list search conds ≡ refuse_by refused (λ refusal. refusal) listed
+  by_query there passes refused is = behind_index there ∙ passes queried ∙ ap (λ (o : Option Refusal). refuse_by o (λ refusal. refusal) listed) is
+
+  pub refused : lacks_index m t x.columns search ≡ false → ((done : Effect) → check_parts w o done ≡ done) → (refusal : Refusal) → query_refusal m t x.columns search ≡ Some refusal
+      → refusal_line refusal ≡ reply_by (select_rows m t x list search conds)
+  refused there passes refusal is = ap reply_by (sym (by_query there passes (Some refusal) is))
+
+  pub passed : lacks_index m t x.columns search ≡ false → ((done : Effect) → check_parts w o done ≡ done) → query_refusal m t x.columns search ≡ None → (found : List (ℤ × ℕ)) → found ≡ hits m t x search conds
       → rows_reply m.tables t x.columns list found ≡ reply_by (select_rows m t x list search conds)
-  passed there passes found is =
-      ap (rows_reply m.tables t x.columns list) is
-      ∙ ap reply_by (sym (behind_index there ∙ passes (Does m (rows_reply m.tables t x.columns list (hits m t x search conds)))))
+  passed there passes none found is = ap (rows_reply m.tables t x.columns list) is ∙ ap reply_by (sym (by_query there passes None none))
 
 pub has_needed : (m : State) (t : List ℕ) (x : Table) (s : Search) (y : Index) → index_of_search m t x.columns s ≡ Some y → lacks_index m t x.columns (Some s) ≡ false
 has_needed m t x s y needed = ap is_none needed
+
+-- ---- the query of a search
+
+module _ (m : State) (t : List ℕ) (x : Table) (s : Search) (y : Index) (needed : index_of_search m t x.columns s ≡ Some y) where
+  by_index : query_refusal m t x.columns (Some s) ≡ refusal_in (meaning_of y.prefs s.query)
+  by_index = ap (λ (o : Option Index). refused_by o s.query) needed
+
+  pub refusal_is : (refusal : Refusal) → meaning_of y.prefs s.query ≡ Refuses refusal → query_refusal m t x.columns (Some s) ≡ Some refusal
+  refusal_is refusal means = by_index ∙ ap refusal_in means
+
+  pub no_refusal : (key : Option (List ℕ)) → meaning_of y.prefs s.query ≡ Finds key → query_refusal m t x.columns (Some s) ≡ None
+  no_refusal key means = by_index ∙ ap refusal_in means
 
 -- ---- the whole of a table
 

@@ -3,8 +3,6 @@ use Rattle.std.specs.Prelude.{ℕ, ℤ, pos, negsuc, nat_le, Bool, true, false, 
 use Rattle.std.specs.Bool.{if◌then◌else◌}
 use Rattle.std.specs.List.{list_all}
 use Rattle.std.specs.Ordering.{int_eq}
-use Rattle.std.specs.Str.{chars}
-use Rattle.ucd_category.proofs.Computing.{ucd_category}
 use Rattle.st_parse.specs.declared.statements.Cond.{Cond}
 use Rattle.st_parse.specs.declared.statements.Item.{Item}
 use Rattle.st_parse.specs.declared.statements.Item.TheVariants.{Column as ColumnItem, Score}
@@ -17,10 +15,9 @@ use Rattle.st_parse.specs.declared.statements.Whole.{Whole}
 use Rattle.st_parse.specs.declared.statements.Whole.TheVariants.{Fits, Beyond}
 use Rattle.tb_table.specs.declared.columns.Column.{Column}
 use Rattle.tb_table.specs.Tables.{docs_columns}
-use Rattle.db_cond.specs.Faults.{WrongValues, OutOfRange, NotInProfile}
+use Rattle.db_cond.specs.Faults.{WrongValues, OutOfRange}
 use Rattle.db_state.specs.Effects.{Effect, Refused, refuse, is_beyond}
 use Rattle.db_rows.specs.Checking.{fit_columns, has_beyond}
-use Rattle.db_select.specs.Querying.{reserved_words, is_word_query}
 use Rattle.db_select.specs.Predicates.{Search, label_in, below_seven}
 
 -- ---- labels
@@ -66,22 +63,17 @@ abbrev pub is_out_of_range : Option Search → Bool
 is_out_of_range None = false
 is_out_of_range (Some s) = is_beyond_label s.label || is_none (threshold_of s.above)
 
-abbrev pub has_no_query : Option Search → Bool
-has_no_query None = false
-has_no_query (Some s) = not (is_word_query s.query)
-
 -- ---- the checks in their order
 
--- wrong values, a number out of its range, and a text that is no query
-abbrev pub check_parts : Bool → Bool → Bool → Effect → Effect
-check_parts wrong_values out_of_range no_query done = refuse wrong_values WrongValues (refuse out_of_range OutOfRange (refuse no_query (NotInProfile 1) done))
+-- wrong values, and a number out of its range
+abbrev pub check_parts : Bool → Bool → Effect → Effect
+check_parts wrong_values out_of_range done = refuse wrong_values WrongValues (refuse out_of_range OutOfRange done)
 
 abbrev pub check_values : List Column → SelectList → Option Search → List Cond → Effect → Effect
 check_values columns list search conds done =
     check_parts
     (not (fit_labels list (label_in search)) || not (fit_columns columns conds))
     (is_out_of_range search || has_beyond conds)
-    (has_no_query search)
     done
 
 -- computed examples
@@ -103,7 +95,7 @@ body_is_fox = Compare (codes "body") Equal (Text (codes "fox"))
 abbrev price_is_beyond : Cond
 price_is_beyond = Compare (codes "price") Equal (Number Beyond)
 
--- SCORE(1) where CONTAINS has no label, an empty query text, which is no word, and a threshold over 100
+-- SCORE(1) where CONTAINS has no label, and a threshold over 100
 label_and_threshold : (done : Effect) → check_values docs_columns score_one (its_search [] None (pos 101)) [] done ≡ Refused WrongValues
 label_and_threshold done = refl
 
@@ -118,21 +110,17 @@ no_search_has_a_score done = refl
 condition_and_threshold : (done : Effect) → check_values docs_columns Star (its_search (codes "quick") None (pos 101)) (body_is_fox ∷ []) done ≡ Refused WrongValues
 condition_and_threshold done = refl
 
-threshold_and_query : (done : Effect) → check_values docs_columns CountAll (its_search [] None (pos 101)) [] done ≡ Refused OutOfRange
-threshold_and_query done = refl
+threshold_alone : (done : Effect) → check_values docs_columns CountAll (its_search [] None (pos 101)) [] done ≡ Refused OutOfRange
+threshold_alone done = refl
 
--- a number outside 64 bits in a condition, and a query text of two words
-condition_and_query : (done : Effect) → check_values docs_columns Star (its_search (codes "a b") None (pos 0)) (price_is_beyond ∷ []) done ≡ Refused OutOfRange
-condition_and_query done = refl
+-- a number outside 64 bits in a condition
+condition_beyond : (done : Effect) → check_values docs_columns Star (its_search (codes "a b") None (pos 0)) (price_is_beyond ∷ []) done ≡ Refused OutOfRange
+condition_beyond done = refl
 
 label_beyond : (done : Effect) → check_values docs_columns (Items (Score Beyond ∷ [])) (its_search (codes "quick") (Some Beyond) (pos 0)) [] done ≡ Refused OutOfRange
 label_beyond done = refl
 
-query_alone : (done : Effect) → check_values docs_columns Star (its_search [] None (pos 100)) (below_seven (codes "price") ∷ []) done ≡ Refused (NotInProfile 1)
-query_alone done = refl
-
 a_good_search : (done : Effect) → check_values docs_columns score_one (its_search (codes "quick") (Some (Fits (pos 1))) (pos 0)) (below_seven (codes "id") ∷ []) done ≡ done
-unfolding reserved_words chars ucd_category
 a_good_search done = refl
 
 conditions_alone : (done : Effect) → check_values docs_columns Star None (below_seven (codes "id") ∷ []) done ≡ done

@@ -2,6 +2,7 @@ pub mod Checking
 pub mod Pending
 pub mod Predicates
 pub mod Querying
+pub mod Meanings
 pub mod Selecting
 pub mod Searches
 pub mod Sources

@@ -1,47 +1,131 @@
--- Which texts are queries of CONTAINS.
-use Rattle.std.specs.Prelude.{ℕ, nat_lt, Bool, true, false, not, ◌&&◌, List, [], ◌∷◌, ◌++◌, length, map, codes, ◌≡◌, refl}
-use Rattle.std.specs.Char.{to_ascii_lowercase}
-use Rattle.std.specs.List.{list_all, list_any}
+-- What a query text of CONTAINS means to an index.
+use Rattle.std.specs.Prelude.{ℕ, Bool, false, not, ◌&&◌, List, [], ◌∷◌, ◌++◌, Option, Some, None, codes, ◌≡◌, refl}
+use Rattle.std.specs.Bool.{if◌then◌else◌}
+use Rattle.std.specs.List.{list_all}
 use Rattle.std.specs.Str.{chars}
-use Rattle.ct_entry.specs.Keys.{same_list}
+use lib.Utf8.{encode}
 use Rattle.ucd_category.proofs.Computing.{ucd_category}
-use Rattle.tx_chars.specs.Keys.{is_word, key_of}
+use Rattle.caseless.proofs.Computing.{caseless}
+use Rattle.tx_chars.specs.Keys.{key_text}
 use Rattle.tx_settings.specs.declared.preferences.Prefs.{Prefs}
+use Rattle.tx_settings.specs.Defaults.{default_prefs}
+use Rattle.q_tree.specs.declared.flats.Slot.TheVariants.{Takes}
+use Rattle.q_tree.specs.declared.queries.Word.{Word}
+use Rattle.q_tree.specs.declared.queries.Leaf.{Leaf}
+use Rattle.q_tree.specs.declared.queries.Leaf.TheVariants.{Phrase, Thes}
+use Rattle.q_tree.specs.Limits.{has_wildcard}
+use Rattle.q_tree.specs.Trees.{Tree, Single, Both, Weight, Above, Nearness, InSection, ScoredBy, Reduced, Term}
+use Rattle.q_parse.specs.declared.lexemes.Cause.{Cause}
+use Rattle.q_parse.specs.declared.lexemes.Cause.TheVariants.{OutOfRange, NotInProfile as ForeignCause, Syntax}
+use Rattle.q_parse.specs.Faults.{Verdict, TooLarge, Found, Fault}
+use Rattle.q_parse.specs.Verdicts.{verdict}
+use Rattle.q_reduce.specs.Reducing.{Context, reduced}
+use Rattle.q_reduce.specs.Faults.{Fault as ReductionFault, NoSection, FieldInside as FieldFault, ManyTokens, faults}
+use Rattle.db_cond.specs.Faults.{Refusal, QuerySyntax, NotInProfile, QueryNumber, NotOneWord, UnknownSection, FieldInside, QueryTooLarge}
 
--- the words that are operators, functions or refused, in lower case; so no query text is one of them
-unfoldable pub reserved_words : List (List ℕ)
-reserved_words =
-    codes "and" ∷ codes "or" ∷ codes "not" ∷ codes "minus" ∷ codes "equiv" ∷ codes "near" ∷ codes "within" ∷ codes "accum"
-    ∷ codes "definescore" ∷ codes "syn" ∷ codes "pt" ∷ codes "bt" ∷ codes "nt"
-    ∷ codes "about" ∷ codes "fuzzy" ∷ codes "haspath" ∷ codes "inpath" ∷ codes "mdata" ∷ codes "sdata" ∷ codes "ndata" ∷ codes "sqe"
-    ∷ codes "rt" ∷ codes "tt" ∷ codes "tr" ∷ codes "trsyn" ∷ codes "btg" ∷ codes "btp" ∷ codes "bti" ∷ codes "ntg" ∷ codes "ntp" ∷ codes "nti" ∷ []
+-- A query is refused; or it finds the documents that have a key, or nothing.
+pub data Meaning : Type 0 where
+  Refuses : Refusal → Meaning
+  Finds : Option (List ℕ) → Meaning
 
--- For now a query text is one word of letters, numbers and marks that isn't reserved.
-abbrev pub is_word_query : List ℕ → Bool
-is_word_query text = nat_lt 0 (length text) && (list_all is_word (chars text) && not (list_any (same_list (map to_ascii_lowercase text)) reserved_words))
+-- ---- which queries are searched so far
 
--- the key of the word, by the flags of the index's lexer
-abbrev pub query_key : Prefs → List ℕ → List ℕ
-query_key p text = key_of p.lexer.base_letter p.lexer.mixed_case (chars text)
+-- Whether reduction may see a query: it has no wildcards, thesauri, nearness, sections and sums. What is left of it is then one key,
+-- or nothing, or isn't searched yet.
+abbrev pub is_built_leaf : Leaf → Bool
+is_built_leaf (Phrase places) = list_all (λ (ws : List Word). list_all (λ (w : Word). not (has_wildcard w.bits)) ws) places
+is_built_leaf (Thes relation words level thesaurus) = false
 
--- computed examples
-a_word : is_word_query (codes "Web2") ≡ true
-unfolding reserved_words chars ucd_category
+abbrev pub has_built_forms : Tree → Bool
+has_built_forms (Single leaf) = is_built_leaf leaf
+has_built_forms (Both op a b) = has_built_forms a && has_built_forms b
+has_built_forms (Weight tenths a) = has_built_forms a
+has_built_forms (Above n a) = has_built_forms a
+has_built_forms (Nearness operands span ordered) = false
+has_built_forms (InSection name a) = false
+has_built_forms (ScoredBy leaves sum) = false
+
+-- the refusal of a query that is read and of which no search is built yet
+abbrev pub not_searched_yet : Refusal
+not_searched_yet = NotInProfile 1
+
+-- A reduced query that is one key finds what has it; no other is searched yet.
+abbrev pub meaning_of_reduced : Reduced → Meaning
+meaning_of_reduced (Term ((Takes (key ∷ []) [] ∷ []) ∷ [])) = Finds (Some key)
+meaning_of_reduced q = Refuses not_searched_yet
+
+-- ---- from the text
+
+-- the refusal of a text with a bad place
+abbrev pub refusal_at : Cause → ℕ → Refusal
+refusal_at Syntax place = QuerySyntax place
+refusal_at ForeignCause place = NotInProfile place
+refusal_at OutOfRange place = QueryNumber place
+
+-- the refusal of a query that can't be reduced
+abbrev pub reduction_refusal : ReductionFault → Refusal
+reduction_refusal (NoSection name) = UnknownSection name
+reduction_refusal (FieldFault name) = FieldInside name
+reduction_refusal (ManyTokens place) = NotOneWord place
+
+-- by what an index with these preferences reduces queries
+abbrev pub context : Prefs → Context
+context p = record { lexer = p.lexer; stop = p.stop; group = p.group }
+
+-- a fault of reduction comes first, also where what is left is nothing
+abbrev pub meaning_of_reduction : List ReductionFault → Option Reduced → Meaning
+meaning_of_reduction (f ∷ fs) q = Refuses (reduction_refusal f)
+meaning_of_reduction [] None = Finds None
+meaning_of_reduction [] (Some q) = meaning_of_reduced q
+
+abbrev pub meaning_of_tree : Prefs → Tree → Meaning
+meaning_of_tree p t = if has_built_forms t then meaning_of_reduction (faults (context p) false t) (reduced (context p) t) else Refuses not_searched_yet
+
+abbrev pub meaning_of_verdict : Prefs → Verdict → Meaning
+meaning_of_verdict p TooLarge = Refuses QueryTooLarge
+meaning_of_verdict p (Fault why place) = Refuses (refusal_at why place)
+meaning_of_verdict p (Found t) = meaning_of_tree p t
+
+-- WHAT A QUERY TEXT MEANS to an index with these preferences
+abbrev pub meaning_of : Prefs → List ℕ → Meaning
+meaning_of p text = meaning_of_verdict p (verdict (chars text))
+
+-- the refusal, if it is one
+abbrev pub refusal_in : Meaning → Option Refusal
+refusal_in (Refuses refusal) = Some refusal
+refusal_in (Finds key) = None
+
+-- computed examples, by the default preferences
+a_word : meaning_of default_prefs (codes "Web2") ≡ Finds (Some (codes "web2"))
+unfolding encode chars caseless ucd_category key_text
 a_word = refl
 
-a_reserved_word : is_word_query (codes "Near") ≡ false
-unfolding reserved_words chars ucd_category
-a_reserved_word = refl
-
-no_word : is_word_query [] ≡ false
-unfolding reserved_words chars ucd_category
-no_word = refl
-
 -- café, with its two bytes of é
-accented : is_word_query (codes "caf" ++ 0xC3 ∷ 0xA9 ∷ []) ≡ true
-unfolding reserved_words chars ucd_category
+accented : meaning_of default_prefs (codes "Caf" ++ 0xC3 ∷ 0xA9 ∷ []) ≡ Finds (Some (codes "caf" ++ 0xC3 ∷ 0xA9 ∷ []))
+unfolding encode chars caseless ucd_category key_text
 accented = refl
 
-two_words : is_word_query (codes "a b") ≡ false
-unfolding reserved_words chars ucd_category
+no_text : meaning_of default_prefs [] ≡ Refuses (QuerySyntax 1)
+unfolding encode chars caseless ucd_category key_text
+no_text = refl
+
+comma : meaning_of default_prefs (codes "a,b") ≡ Refuses (NotInProfile 2)
+unfolding encode chars caseless ucd_category key_text
+comma = refl
+
+no_weight : meaning_of default_prefs (codes "quick*0") ≡ Refuses (QueryNumber 7)
+unfolding encode chars caseless ucd_category key_text
+no_weight = refl
+
+-- the text of `web\-site = shop`
+two_tokens : meaning_of default_prefs (codes "web" ++ 92 ∷ codes "-site = shop") ≡ Refuses (NotOneWord 1)
+unfolding encode chars caseless ucd_category key_text
+two_tokens = refl
+
+two_words : meaning_of default_prefs (codes "a b") ≡ Refuses not_searched_yet
+unfolding encode chars caseless ucd_category key_text
 two_words = refl
+
+a_wildcard : meaning_of default_prefs (codes "caf%") ≡ Refuses not_searched_yet
+unfolding encode chars caseless ucd_category key_text
+a_wildcard = refl

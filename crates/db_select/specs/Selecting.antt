@@ -16,7 +16,7 @@ use Rattle.st_parse.specs.declared.statements.Whole.TheVariants.{Fits}
 use Rattle.tb_table.specs.declared.columns.Column.{Column}
 use Rattle.tb_table.specs.Tables.{Table, Tables, docs_columns, docs_alone, row_one}
 use Rattle.ix_context.specs.Indexes.{Index, found}
-use Rattle.db_cond.specs.Faults.{UnknownName, NoIndexOfKind}
+use Rattle.db_cond.specs.Faults.{Refusal, UnknownName, NoIndexOfKind}
 use Rattle.db_cond.specs.Lines.{line}
 use Rattle.db_state.specs.States.{State}
 use Rattle.db_state.specs.Effects.{Effect, Does, refuse, refuse_by, with_found}
@@ -25,7 +25,7 @@ use Rattle.db_state.specs.Lines.{lines_or_none}
 use Rattle.db_state.specs.Lookups.{index_on}
 use Rattle.db_rows.specs.Values.{value_of, values_of, row_values}
 use Rattle.db_rows.specs.Meeting.{key_meets}
-use Rattle.db_select.specs.Querying.{query_key}
+use Rattle.db_select.specs.Querying.{Meaning, Finds, meaning_of, refusal_in}
 use Rattle.db_select.specs.Predicates.{Search, list_columns, pred_column, search_in, conds_in}
 use Rattle.db_select.specs.Checking.{threshold_of, check_values}
 use Rattle.std.proofs.Common.{ap}
@@ -41,11 +41,24 @@ abbrev pub lacks_index : State → List ℕ → List Column → Option Search �
 lacks_index m t columns None = false
 lacks_index m t columns (Some s) = is_none (index_of_search m t columns s)
 
--- what is found for the word of a query with a score above a number; nothing without an index or a number
+-- what a query finds in an index with a score above a number; nothing without a number
+abbrev pub found_by : Tables → Index → Meaning → Option ℕ → List (ℤ × ℕ)
+found_by ts x (Finds (Some key)) (Some n) = found ts x key n
+found_by ts x meaning threshold = []
+
+-- the same of a query text; nothing without an index
 abbrev pub found_in : Tables → Option Index → List ℕ → Option ℕ → List (ℤ × ℕ)
 found_in ts None query threshold = []
-found_in ts (Some x) query None = []
-found_in ts (Some x) query (Some n) = found ts x (query_key x.prefs query) n
+found_in ts (Some x) query threshold = found_by ts x (meaning_of x.prefs query) threshold
+
+-- why the query text of a search is refused, if it is
+abbrev pub refused_by : Option Index → List ℕ → Option Refusal
+refused_by None query = None
+refused_by (Some x) query = refusal_in (meaning_of x.prefs query)
+
+abbrev pub query_refusal : State → List ℕ → List Column → Option Search → Option Refusal
+query_refusal m t columns None = None
+query_refusal m t columns (Some s) = refused_by (index_of_search m t columns s) s.query
 
 -- The keys of rows with their scores, in the order of the keys: of those that the search finds, or without one of all, with
 -- the score 0, for which no SCORE asks.
@@ -83,7 +96,8 @@ abbrev pub select_rows : State → List ℕ → Table → SelectList → Option 
 select_rows m t x list search conds =
     refuse (lacks_index m t x.columns search) NoIndexOfKind
     (check_values x.columns list search conds
-    (Does m (rows_reply m.tables t x.columns list (hits m t x search conds))))
+    (refuse_by (query_refusal m t x.columns search) (λ refusal. refusal)
+    (Does m (rows_reply m.tables t x.columns list (hits m t x search conds)))))
 
 -- SELECT of a list from a table by predicates
 abbrev pub select : State → SelectList → List ℕ → List Pred → Effect

@@ -99,22 +99,15 @@ pub(crate) fn is_out_of_range(label: Option<Whole>, above: Whole) -> bool
     is_beyond_label(label) || threshold_of(above).is_none()
 }
 
-/// The first of three faults that is there.
-pub(crate) fn first_fault(
-    wrong_values: bool,
-    out_of_range: bool,
-    no_query: bool,
-) -> Option<Fault<'static>>
-    ensures { (done : Effect) → Checks result (check_parts wrong_values out_of_range no_query done) done }
+/// The first of two faults that is there.
+pub(crate) fn first_fault(wrong_values: bool, out_of_range: bool) -> Option<Fault<'static>>
+    ensures { (done : Effect) → Checks result (check_parts wrong_values out_of_range done) done }
 {
     if wrong_values {
         return Some(Fault::WrongValues);
     }
     if out_of_range {
         return Some(Fault::OutOfRange);
-    }
-    if no_query {
-        return Some(Fault::NotInProfile(1));
     }
     None
 }

@@ -8,20 +8,20 @@ ghost use Rattle.ct_keep.specs.KeeperViews.{OnlyReads};
 ghost use Rattle.ix_context.specs.Indexes.{Index, found};
 ghost use Rattle.db_state.specs.States.{OverIndex, OverTable};
 ghost use Rattle.db_rows.specs.Meeting.{key_meets};
-ghost use Rattle.db_select.specs.Querying.{query_key as word_key};
-ghost use Rattle.db_select.specs.Selecting.{hits, index_of_search};
-ghost use Rattle.db_select.specs.Searches.{asked};
+ghost use Rattle.db_select.specs.Checking.{threshold_of};
+ghost use Rattle.db_select.specs.Predicates.{Search};
+ghost use Rattle.db_select.specs.Querying.{Finds, meaning_of};
+ghost use Rattle.db_select.specs.Selecting.{found_by, hits, index_of_search};
 ghost use Rattle.db_select.specs.Sources.{found_scores, unscored as unscored_hit};
 
-use crate::checks::threshold_of;
-use crate::predicates::Search;
 use ct_base::{Memory, Name, RowKey};
 use ct_keep::{KeepFault, Keeper};
 use db_rows::{meets, rows_meeting};
-use ix_context::{Hit, query_key, search};
+use ix_context::{Hit, search};
 use st_parse::Cond;
 use std::alloc::Global;
 use tb_table::Column;
+use tx_chars::Key;
 
 /// Keeps the rows with a score above a number.
 fn keep_above(hits: &mut Vec<Hit>, above: u32)
@@ -30,22 +30,42 @@ fn keep_above(hits: &mut Vec<Hit>, above: u32)
     hits.retain(|hit| above < hit.score);
 }
 
-/// The rows that have a query word with a score above a number, in order of their keys.
+/// The rows that have a key with a score above a number, in order of their keys.
 fn hits_above<K: Keeper>(
     alloc: Global,
     keeper: &mut K,
     index: &Name,
-    query: &str,
+    key: &Key,
     above: u32,
 ) -> Result<Vec<Hit>, KeepFault>
     requires { (K.view keeper.old).ready }
-    ensures found { OverIndex K.view keeper.old index.now (λ m x. IfOk result (λ hits. found_scores hits.items ≡ found m.tables x (word_key x.prefs query.now) above)) }
+    ensures found { OverIndex K.view keeper.old index.now (λ m x. IfOk result (λ hits. found_scores hits.items ≡ found m.tables x key.now above)) }
     ensures reads { OnlyReads K.view keeper.old keeper.new result }
 {
-    let key = query_key(alloc, keeper, index, query)?;
-    let mut hits = search(alloc, keeper, index, &key)?;
+    let mut hits = search(alloc, keeper, index, key)?;
     keep_above(&mut hits, above);
     Ok(hits)
+}
+
+/// The rows that a query finds with a score above a number, in order of their keys; none without a key or a number.
+fn found_hits<K: Keeper>(
+    alloc: Global,
+    keeper: &mut K,
+    index: &Name,
+    key: &Option<Key>,
+    above: Option<u32>,
+) -> Result<Vec<Hit>, KeepFault>
+    requires { (K.view keeper.old).ready }
+    ensures found { OverIndex K.view keeper.old index.now (λ m x. IfOk result (λ hits. found_scores hits.items ≡ found_by m.tables x (Finds key.now) above)) }
+    ensures reads { OnlyReads K.view keeper.old keeper.new result }
+{
+    let Some(key) = key else {
+        return Ok(Vec::new(alloc));
+    };
+    let Some(above) = above else {
+        return Ok(Vec::new(alloc));
+    };
+    hits_above(alloc, keeper, index, key, above)
 }
 
 /// Puts a row that meets the conditions.
@@ -106,17 +126,15 @@ pub(crate) fn searched_hits<K: Keeper>(
     index: &Name,
     table: &Name,
     columns: &[Column],
-    search: &Search<'_>,
+    key: &Option<Key>,
+    above: Option<u32>,
     conds: &[Cond],
 ) -> Result<Vec<Hit>, KeepFault>
     requires { (K.view keeper.old).ready }
-    ensures hits { OverTable K.view keeper.old table.now (λ m c x. x.columns ≡ columns.now → (y : Index) → get m.indexes index.now ≡ Some y → index_of_search m table.now columns.now (asked search.now) ≡ Some y → IfOk result (λ found. found_scores found.items ≡ hits m table.now x (Some (asked search.now)) conds.now)) }
+    ensures hits { OverTable K.view keeper.old table.now (λ m c x. x.columns ≡ columns.now → (y : Index) (s : Search) → get m.indexes index.now ≡ Some y → index_of_search m table.now columns.now s ≡ Some y → meaning_of y.prefs s.query ≡ Finds key.now → threshold_of s.above ≡ above → IfOk result (λ found. found_scores found.items ≡ hits m table.now x (Some s) conds.now)) }
     ensures reads { OnlyReads K.view keeper.old keeper.new result }
 {
-    let Some(above) = threshold_of(search.above) else {
-        return Ok(Vec::new(alloc));
-    };
-    let found = hits_above(alloc, keeper, index, search.query, above)?;
+    let found = found_hits(alloc, keeper, index, key, above)?;
     met_hits(alloc, keeper, table, columns, conds, &found)
 }
 

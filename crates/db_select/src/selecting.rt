@@ -10,11 +10,11 @@ ghost use Rattle.db_select.specs.Checking.{is_out_of_range as out_of_range};
 ghost use Rattle.db_select.specs.Searches.{asked};
 ghost use Rattle.db_select.specs.Selecting.{select as select_effect, select_rows};
 
-use crate::checks::{first_fault, has_wrong_values, is_out_of_range};
+use crate::checks::{first_fault, has_wrong_values, is_out_of_range, threshold_of};
 use crate::hits::{searched_hits, unsearched_hits};
 use crate::listing::rows_reply;
 use crate::predicates::{Search, conds_in, search_in, unknown_name};
-use crate::querying::is_word_query;
+use crate::querying::{Meaning, meaning_in};
 use crate::seeking::needed_index;
 use ct_base::Name;
 use ct_keep::{KeepFault, Keeper};
@@ -40,7 +40,7 @@ fn select_met<K: Keeper>(
 {
     let wrong_values = has_wrong_values(list, None, conds, columns);
     let out_of_range = has_beyond(conds);
-    if let Some(fault) = first_fault(wrong_values, out_of_range, false) {
+    if let Some(fault) = first_fault(wrong_values, out_of_range) {
         return Ok(fault_line(alloc, fault)?);
     }
     let hits = unsearched_hits(alloc, keeper, table, columns, conds)?;
@@ -73,12 +73,18 @@ fn select_searched<K: Keeper>(
     };
     let wrong_values = has_wrong_values(list, search.label, conds, columns);
     let out_of_range = has_bad_number(search, conds);
-    let no_query = !is_word_query(search.query);
-    if let Some(fault) = first_fault(wrong_values, out_of_range, no_query) {
+    if let Some(fault) = first_fault(wrong_values, out_of_range) {
         return Ok(fault_line(alloc, fault)?);
     }
-    let hits = searched_hits(alloc, keeper, &index, table, columns, search, conds)?;
-    rows_reply(alloc, keeper, table, columns, list, &hits)
+    let meaning = meaning_in(alloc, keeper, &index, search.query)?;
+    match meaning {
+        Meaning::Refused(line) => Ok(line),
+        Meaning::Finds(key) => {
+            let above = threshold_of(search.above);
+            let hits = searched_hits(alloc, keeper, &index, table, columns, &key, above, conds)?;
+            rows_reply(alloc, keeper, table, columns, list, &hits)
+        }
+    }
 }
 
 /// SELECT of a list from the rows of a table that meet predicates, in order of their keys.

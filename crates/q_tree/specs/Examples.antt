@@ -9,8 +9,8 @@ use Rattle.q_tree.specs.declared.flats.Slot.{Slot}
 use Rattle.q_tree.specs.declared.flats.Slot.TheVariants.{Any, Takes}
 use Rattle.q_tree.specs.declared.flats.Place.TheVariants.{Zone, Field, Sentence, Paragraph}
 use Rattle.q_tree.specs.declared.flats.SumStep.TheVariants.{Number, Discrete, Occurrence, Plus, Minus as Less, Times}
-use Rattle.q_tree.specs.declared.flats.Flat.{Flat}
-use Rattle.q_tree.specs.declared.flats.Flat.TheVariants.{Term, And', Or', Not', Minus', Weight', Above', Near, Within', Define}
+use Rattle.q_tree.specs.declared.queries.Op.TheVariants.{Or, And, Not, Minus}
+use Rattle.q_tree.specs.Trees.{Reduced, Term, Joined, Weighted, Exceeding, Close, Inside, Defined}
 use Rattle.q_tree.specs.Scores.{DocPostings, whole_score}
 use Rattle.q_tree.specs.Documents.{DocWord, postings_of_words, postings_of_entries}
 
@@ -41,18 +41,18 @@ abbrev phrase : List (List ℕ) → List (List Slot)
 phrase keys = map only keys ∷ []
 
 -- the query of one key
-abbrev key : List ℕ → Flat
+abbrev key : List ℕ → Reduced
 key k = Term (phrase (k ∷ []))
 
 -- ---- words, phrases and operators: `quick fox quick`
 
-abbrev quick : Flat
+abbrev quick : Reduced
 quick = key (codes "quick")
 
-abbrev fox : Flat
+abbrev fox : Reduced
 fox = key (codes "fox")
 
-abbrev slow : Flat
+abbrev slow : Reduced
 slow = key (codes "slow")
 
 abbrev fox_text : DocPostings
@@ -89,50 +89,50 @@ unfolding encode chars
 greatest_of_phrases = refl
 
 -- quick AND fox
-the_lesser : (p q : _) → whole_score (And' p quick q fox) fox_text ≡ 1
+the_lesser : whole_score (Joined And quick fox) fox_text ≡ 1
 unfolding encode chars
-the_lesser p q = refl
+the_lesser = refl
 
 -- quick OR fox
-the_greater : (p q : _) → whole_score (Or' p quick q fox) fox_text ≡ 2
+the_greater : whole_score (Joined Or quick fox) fox_text ≡ 2
 unfolding encode chars
-the_greater p q = refl
+the_greater = refl
 
 -- slow OR fox
-one_side : (p q : _) → whole_score (Or' p slow q fox) fox_text ≡ 1
+one_side : whole_score (Joined Or slow fox) fox_text ≡ 1
 unfolding encode chars
-one_side p q = refl
+one_side = refl
 
 -- quick NOT slow, and quick NOT fox
-kept : (p q : _) → whole_score (Not' p quick q slow) fox_text ≡ 2
+kept : whole_score (Joined Not quick slow) fox_text ≡ 2
 unfolding encode chars
-kept p q = refl
+kept = refl
 
-not_kept : (p q : _) → whole_score (Not' p quick q fox) fox_text ≡ 0
+not_kept : whole_score (Joined Not quick fox) fox_text ≡ 0
 unfolding encode chars
-not_kept p q = refl
+not_kept = refl
 
 -- fox MINUS quick, and quick MINUS fox
-none_left : (p q : _) → whole_score (Minus' p fox q quick) fox_text ≡ 0
+none_left : whole_score (Joined Minus fox quick) fox_text ≡ 0
 unfolding encode chars
-none_left p q = refl
+none_left = refl
 
-one_left : (p q : _) → whole_score (Minus' p quick q fox) fox_text ≡ 1
+one_left : whole_score (Joined Minus quick fox) fox_text ≡ 1
 unfolding encode chars
-one_left p q = refl
+one_left = refl
 
 -- quick > 1, quick > 2, and quick > 1 AND fox
-above_1 : (p : _) → whole_score (Above' 1 p quick) fox_text ≡ 2
+above_1 : whole_score (Exceeding 1 quick) fox_text ≡ 2
 unfolding encode chars
-above_1 p = refl
+above_1 = refl
 
-not_above_2 : (p : _) → whole_score (Above' 2 p quick) fox_text ≡ 0
+not_above_2 : whole_score (Exceeding 2 quick) fox_text ≡ 0
 unfolding encode chars
-not_above_2 p = refl
+not_above_2 = refl
 
-above_1_and_fox : (p q r : _) → whole_score (And' p (Above' 1 r quick) q fox) fox_text ≡ 1
+above_1_and_fox : whole_score (Joined And (Exceeding 1 quick) fox) fox_text ≡ 1
 unfolding encode chars
-above_1_and_fox p q r = refl
+above_1_and_fox = refl
 
 -- ---- weights: `quick` 101 times, and once
 
@@ -147,44 +147,44 @@ unfolding encode chars
 at_most_100 = refl
 
 -- quick*0.1
-a_tenth_of_100 : (p : _) → whole_score (Weight' 1 p quick) quick_101_times ≡ 10
+a_tenth_of_100 : whole_score (Weighted 1 quick) quick_101_times ≡ 10
 unfolding encode chars
-a_tenth_of_100 p = refl
+a_tenth_of_100 = refl
 
-a_tenth_of_1 : (p : _) → whole_score (Weight' 1 p quick) quick_once ≡ 1
+a_tenth_of_1 : whole_score (Weighted 1 quick) quick_once ≡ 1
 unfolding encode chars
-a_tenth_of_1 p = refl
+a_tenth_of_1 = refl
 
 -- ---- DEFINESCORE
 
 -- DEFINESCORE(quick, OCCURRENCE * 10 + 5)
-score_25 : whole_score (Define (phrase (codes "quick" ∷ [])) (Occurrence ∷ Number 10 ∷ Times ∷ Number 5 ∷ Plus ∷ [])) fox_text ≡ 25
+score_25 : whole_score (Defined (phrase (codes "quick" ∷ [])) (Occurrence ∷ Number 10 ∷ Times ∷ Number 5 ∷ Plus ∷ [])) fox_text ≡ 25
 unfolding encode chars
 score_25 = refl
 
 -- DEFINESCORE(quick, DISCRETE)
-score_100 : whole_score (Define (phrase (codes "quick" ∷ [])) (Discrete ∷ [])) fox_text ≡ 100
+score_100 : whole_score (Defined (phrase (codes "quick" ∷ [])) (Discrete ∷ [])) fox_text ≡ 100
 unfolding encode chars
 score_100 = refl
 
 -- DEFINESCORE(quick, 0 - 5)
-score_1 : whole_score (Define (phrase (codes "quick" ∷ [])) (Number 0 ∷ Number 5 ∷ Less ∷ [])) fox_text ≡ 1
+score_1 : whole_score (Defined (phrase (codes "quick" ∷ [])) (Number 0 ∷ Number 5 ∷ Less ∷ [])) fox_text ≡ 1
 unfolding encode chars
 score_1 = refl
 
 -- DEFINESCORE(slow, DISCRETE)
-score_0 : whole_score (Define (phrase (codes "slow" ∷ [])) (Discrete ∷ [])) fox_text ≡ 0
+score_0 : whole_score (Defined (phrase (codes "slow" ∷ [])) (Discrete ∷ [])) fox_text ≡ 0
 unfolding encode chars
 score_0 = refl
 
 -- DEFINESCORE((quick OR quick), OCCURRENCE)
-equal_occurrences_once : whole_score (Define (map only (codes "quick" ∷ []) ∷ map only (codes "quick" ∷ []) ∷ []) (Occurrence ∷ [])) fox_text ≡ 2
+equal_occurrences_once : whole_score (Defined (map only (codes "quick" ∷ []) ∷ map only (codes "quick" ∷ []) ∷ []) (Occurrence ∷ [])) fox_text ≡ 2
 unfolding encode chars
 equal_occurrences_once = refl
 
 -- ---- stopwords: `jack is big`, where `is` is one
 
-abbrev jack_is_big : Flat
+abbrev jack_is_big : Reduced
 jack_is_big = Term ((only (codes "jack") ∷ Any ∷ only (codes "big") ∷ []) ∷ [])
 
 any_word_between : whole_score (jack_is_big) (text (codes "jack" ∷ codes "grew" ∷ codes "big" ∷ [])) ≡ 1
@@ -226,32 +226,32 @@ abbrev near : List ℕ → List ℕ → List (List (List Slot))
 near j k = phrase (j ∷ []) ∷ phrase (k ∷ []) ∷ []
 
 -- NEAR((a,b),0), NEAR((a,b),1), NEAR((b,a),1,TRUE) and a ; b
-too_far : whole_score (Near (near (codes "a") (codes "b")) 0 false) a_b ≡ 0
+too_far : whole_score (Close (near (codes "a") (codes "b")) 0 false) a_b ≡ 0
 unfolding encode chars
 too_far = refl
 
-one_apart : whole_score (Near (near (codes "a") (codes "b")) 1 false) a_b ≡ 100
+one_apart : whole_score (Close (near (codes "a") (codes "b")) 1 false) a_b ≡ 100
 unfolding encode chars
 one_apart = refl
 
-not_in_order : whole_score (Near (near (codes "b") (codes "a")) 1 true) a_b ≡ 0
+not_in_order : whole_score (Close (near (codes "b") (codes "a")) 1 true) a_b ≡ 0
 unfolding encode chars
 not_in_order = refl
 
-in_order : whole_score (Near (near (codes "a") (codes "b")) 1 true) a_b ≡ 100
+in_order : whole_score (Close (near (codes "a") (codes "b")) 1 true) a_b ≡ 100
 unfolding encode chars
 in_order = refl
 
-a_chain : whole_score (Near (near (codes "a") (codes "b")) 100 false) a_b ≡ 100
+a_chain : whole_score (Close (near (codes "a") (codes "b")) 100 false) a_b ≡ 100
 unfolding encode chars
 a_chain = refl
 
 -- one occurrence may serve two operands
-one_for_both : whole_score (Near (near (codes "a") (codes "a")) 0 false) a_b ≡ 100
+one_for_both : whole_score (Close (near (codes "a") (codes "a")) 0 false) a_b ≡ 100
 unfolding encode chars
 one_for_both = refl
 
-not_for_both_in_order : whole_score (Near (near (codes "a") (codes "a")) 0 true) a_b ≡ 0
+not_for_both_in_order : whole_score (Close (near (codes "a") (codes "a")) 0 true) a_b ≡ 0
 unfolding encode chars
 not_for_both_in_order = refl
 
@@ -261,23 +261,23 @@ abbrev in_sentences : List Pair → DocPostings
 in_sentences ps = postings_of_words (words_from 1 (codes "a" ∷ codes "b" ∷ [])) (map (λ p. record { name = codes "sentence"; pair = p }) ps)
 
 -- (a AND b) WITHIN SENTENCE
-two_sentences : (p q r : _) → whole_score (Within' Sentence r (And' p (key (codes "a")) q (key (codes "b")))) (in_sentences (pair 1 1 ∷ pair 2 2 ∷ [])) ≡ 0
+two_sentences : whole_score (Inside Sentence (Joined And (key (codes "a")) (key (codes "b")))) (in_sentences (pair 1 1 ∷ pair 2 2 ∷ [])) ≡ 0
 unfolding encode chars
-two_sentences p q r = refl
+two_sentences = refl
 
-one_sentence : (p q r : _) → whole_score (Within' Sentence r (And' p (key (codes "a")) q (key (codes "b")))) (in_sentences (pair 1 2 ∷ [])) ≡ 1
+one_sentence : whole_score (Inside Sentence (Joined And (key (codes "a")) (key (codes "b")))) (in_sentences (pair 1 2 ∷ [])) ≡ 1
 unfolding encode chars
-one_sentence p q r = refl
+one_sentence = refl
 
 -- (a NOT b) WITHIN SENTENCE: in one of them, though both are in the document
-a_sentence_without_b : (p q r : _) → whole_score (Within' Sentence r (Not' p (key (codes "a")) q (key (codes "b")))) (in_sentences (pair 1 1 ∷ pair 2 2 ∷ [])) ≡ 1
+a_sentence_without_b : whole_score (Inside Sentence (Joined Not (key (codes "a")) (key (codes "b")))) (in_sentences (pair 1 1 ∷ pair 2 2 ∷ [])) ≡ 1
 unfolding encode chars
-a_sentence_without_b p q r = refl
+a_sentence_without_b = refl
 
 -- a WITHIN PARAGRAPH
-no_paragraph : (p : _) → whole_score (Within' Paragraph p (key (codes "a"))) (in_sentences (pair 1 2 ∷ [])) ≡ 0
+no_paragraph : whole_score (Inside Paragraph (key (codes "a"))) (in_sentences (pair 1 2 ∷ [])) ≡ 0
 unfolding encode chars
-no_paragraph p = refl
+no_paragraph = refl
 
 -- ---- zones and fields
 
@@ -292,20 +292,20 @@ hidden : whole_score (key (codes "alpha")) tagged ≡ 0
 unfolding encode chars
 hidden = refl
 
-in_its_field : (p : _) → whole_score (Within' (Field 1) p (key (codes "alpha"))) tagged ≡ 1
+in_its_field : whole_score (Inside (Field 1) (key (codes "alpha"))) tagged ≡ 1
 unfolding encode chars
-in_its_field p = refl
+in_its_field = refl
 
 -- (beta WITHIN p) WITHIN q, and (one WITHIN p) WITHIN q
-beta_in_p_in_q : (p q : _) → whole_score (Within' (Zone (codes "q")) q (Within' (Zone (codes "p")) p (key (codes "beta")))) tagged ≡ 1
+beta_in_p_in_q : whole_score (Inside (Zone (codes "q")) (Inside (Zone (codes "p")) (key (codes "beta")))) tagged ≡ 1
 unfolding encode chars
-beta_in_p_in_q p q = refl
+beta_in_p_in_q = refl
 
-one_not_in_p : (p q : _) → whole_score (Within' (Zone (codes "q")) q (Within' (Zone (codes "p")) p (key (codes "one")))) tagged ≡ 0
+one_not_in_p : whole_score (Inside (Zone (codes "q")) (Inside (Zone (codes "p")) (key (codes "one")))) tagged ≡ 0
 unfolding encode chars
-one_not_in_p p q = refl
+one_not_in_p = refl
 
 -- (beta WITHIN q) WITHIN p: q reaches out of p
-q_not_in_p : (p q : _) → whole_score (Within' (Zone (codes "p")) q (Within' (Zone (codes "q")) p (key (codes "beta")))) tagged ≡ 0
+q_not_in_p : whole_score (Inside (Zone (codes "p")) (Inside (Zone (codes "q")) (key (codes "beta")))) tagged ≡ 0
 unfolding encode chars
-q_not_in_p p q = refl
+q_not_in_p = refl

@@ -1,5 +1,7 @@
+pub mod Trees
 pub mod Slots
 pub mod Soundness
+pub mod Limits
 pub mod Sums
 pub mod Scores
 pub mod Documents

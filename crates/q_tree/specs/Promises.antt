@@ -5,7 +5,7 @@ use Rattle.ix_spans.specs.Occurrences.{has}
 use Rattle.ix_spans.specs.Rising.{Rising}
 use Rattle.q_tree.specs.declared.flats.Slot.{Slot}
 use Rattle.q_tree.specs.declared.flats.SumStep.{SumStep}
-use Rattle.q_tree.specs.declared.flats.Flat.{Flat}
+use Rattle.q_tree.specs.Trees.{Reduced}
 use Rattle.q_tree.specs.Slots.{same_slot}
 use Rattle.q_tree.specs.Soundness.{is_phrase, is_one, values, is_sound}
 use Rattle.q_tree.specs.Sums.{Sum, is_tree, value, postfix, steps_value, IsPostfix}
@@ -38,4 +38,4 @@ OccurrencesRise = (ws : List DocWord) (ss : List DocSection) (stream : ℕ) (phr
 
 -- A document has by its entries the score that it has by its words.
 abbrev pub EntriesScoreAsWords : Type 0
-EntriesScoreAsWords = (f : Flat) (ws : List DocWord) (ss : List DocSection) (es : List DocEntry) → is_sound f ≡ true → WordsRise 0 ws → ArePostings ws ss es → whole_score f (postings_of_entries es) ≡ whole_score f (postings_of_words ws ss)
+EntriesScoreAsWords = (f : Reduced) (ws : List DocWord) (ss : List DocSection) (es : List DocEntry) → is_sound f ≡ true → WordsRise 0 ws → ArePostings ws ss es → whole_score f (postings_of_entries es) ≡ whole_score f (postings_of_words ws ss)

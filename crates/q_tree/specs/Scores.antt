@@ -8,8 +8,9 @@ use Rattle.q_tree.specs.declared.flats.Slot.TheVariants.{Any, Takes}
 use Rattle.q_tree.specs.declared.flats.Place.TheVariants.{Zone, Field, Sentence, Paragraph}
 use Rattle.q_tree.specs.declared.flats.SumStep.{SumStep}
 use Rattle.q_tree.specs.declared.flats.SumStep.TheVariants.{Number, Discrete, Occurrence, Plus, Minus as Less, Times}
-use Rattle.q_tree.specs.declared.flats.Flat.{Flat}
-use Rattle.q_tree.specs.declared.flats.Flat.TheVariants.{Term, And', Or', Not', Minus', Weight', Above', Near, Within', Define}
+use Rattle.q_tree.specs.declared.queries.Op.{Op}
+use Rattle.q_tree.specs.declared.queries.Op.TheVariants.{Or, And, Not, Minus}
+use Rattle.q_tree.specs.Trees.{Reduced, Term, Joined, Weighted, Exceeding, Close, Inside, Defined}
 use Rattle.q_tree.specs.Sums.{steps_value}
 
 -- The postings of a document: the positions, rising, at which a stream has a key that a slot takes; and the pairs of the section of a name.
@@ -22,6 +23,13 @@ pub record DocPostings : Type 0 where
 -- a NOT b: the first, where the second is 0
 abbrev pub unless : ℕ → ℕ → ℕ
 unless a b = if eqb b 0 then a else 0
+
+-- AND and OR: the lesser and the greater; NOT as above; MINUS: the difference, at least 0
+abbrev pub operated : Op → ℕ → ℕ → ℕ
+operated And a b = min a b
+operated Or a b = max a b
+operated Not a b = unless a b
+operated Minus a b = a - b
 
 -- a * w: a weight in tenths, rounded up, at most 100
 abbrev pub weighted : ℕ → ℕ → ℕ
@@ -80,27 +88,24 @@ define_score phrases sum lo hi = defined (length (distinct (term_pairs phrases l
 -- ---- the score
 
 -- THE SCORE of a query on a document, over a stream and within lo to hi
-abbrev pub score : Flat → DocPostings → ℕ → ℕ → ℕ → ℕ
+abbrev pub score : Reduced → DocPostings → ℕ → ℕ → ℕ → ℕ
 score (Term phrases) d s lo hi = term_score (term_slots d s phrases) lo hi
-score (And' p a q b) d s lo hi = min (score a d s lo hi) (score b d s lo hi)
-score (Or' p a q b) d s lo hi = max (score a d s lo hi) (score b d s lo hi)
-score (Not' p a q b) d s lo hi = unless (score a d s lo hi) (score b d s lo hi)
-score (Minus' p a q b) d s lo hi = score a d s lo hi - score b d s lo hi
-score (Weight' w p a) d s lo hi = weighted w (score a d s lo hi)
-score (Above' n p a) d s lo hi = if_above n (score a d s lo hi)
-score (Near operands span ordered) d s lo hi = near_score (operand_slots d s operands) span ordered lo hi
-score (Within' (Field f) p a) d s lo hi = score a d f lo hi
-score (Within' (Zone name) p a) d s lo hi = greatest_within (λ l h. score a d s l h) lo hi (d.spans name)
-score (Within' Sentence p a) d s lo hi = greatest_within (λ l h. score a d s l h) lo hi (d.spans (codes "sentence"))
-score (Within' Paragraph p a) d s lo hi = greatest_within (λ l h. score a d s l h) lo hi (d.spans (codes "paragraph"))
-score (Define phrases sum) d s lo hi = define_score (term_slots d s phrases) sum lo hi
+score (Joined op a b) d s lo hi = operated op (score a d s lo hi) (score b d s lo hi)
+score (Weighted w a) d s lo hi = weighted w (score a d s lo hi)
+score (Exceeding n a) d s lo hi = if_above n (score a d s lo hi)
+score (Close operands span ordered) d s lo hi = near_score (operand_slots d s operands) span ordered lo hi
+score (Inside (Field f) a) d s lo hi = score a d f lo hi
+score (Inside (Zone name) a) d s lo hi = greatest_within (λ l h. score a d s l h) lo hi (d.spans name)
+score (Inside Sentence a) d s lo hi = greatest_within (λ l h. score a d s l h) lo hi (d.spans (codes "sentence"))
+score (Inside Paragraph a) d s lo hi = greatest_within (λ l h. score a d s l h) lo hi (d.spans (codes "paragraph"))
+score (Defined phrases sum) d s lo hi = define_score (term_slots d s phrases) sum lo hi
 
 -- the range of a whole document, which no word passes
 abbrev pub last_position : ℕ
 last_position = 4294967295
 
 -- THE SCORE of a query on a document as a whole: over the main stream
-abbrev pub whole_score : Flat → DocPostings → ℕ
+abbrev pub whole_score : Reduced → DocPostings → ℕ
 whole_score f d = score f d 0 1 last_position
 
 -- ---- computed examples; those of whole queries are in `Examples.antt`

@@ -12,8 +12,7 @@ use Rattle.q_tree.specs.declared.flats.Place.{Place}
 use Rattle.q_tree.specs.declared.flats.Place.TheVariants.{Field}
 use Rattle.q_tree.specs.declared.flats.SumStep.{SumStep}
 use Rattle.q_tree.specs.declared.flats.SumStep.TheVariants.{Number, Occurrence, Plus, Minus as Less, Times}
-use Rattle.q_tree.specs.declared.flats.Flat.{Flat}
-use Rattle.q_tree.specs.declared.flats.Flat.TheVariants.{Term, And', Or', Not', Minus', Weight', Above', Near, Within', Define}
+use Rattle.q_tree.specs.Trees.{Reduced, Term, Joined, Weighted, Exceeding, Close, Inside, Defined}
 
 abbrev pub is_between : ℕ → ℕ → ℕ → Bool
 is_between lo hi n = nat_le lo n && nat_le n hi
@@ -102,17 +101,14 @@ is_place (Field stream) = is_between 1 stream_limit stream
 is_place p = true
 
 -- WHETHER A REDUCED QUERY IS SOUND
-abbrev pub is_sound : Flat → Bool
+abbrev pub is_sound : Reduced → Bool
 is_sound (Term phrases) = is_term phrases
-is_sound (And' p a q b) = is_sound a && is_sound b
-is_sound (Or' p a q b) = is_sound a && is_sound b
-is_sound (Not' p a q b) = is_sound a && is_sound b
-is_sound (Minus' p a q b) = is_sound a && is_sound b
-is_sound (Weight' w p a) = is_between 1 100 w && is_sound a
-is_sound (Above' n p a) = nat_le n 100 && is_sound a
-is_sound (Near operands span ordered) = is_near operands span
-is_sound (Within' place p a) = is_place place && is_sound a
-is_sound (Define phrases sum) = is_term phrases && is_sum sum
+is_sound (Joined op a b) = is_sound a && is_sound b
+is_sound (Weighted w a) = is_between 1 100 w && is_sound a
+is_sound (Exceeding n a) = nat_le n 100 && is_sound a
+is_sound (Close operands span ordered) = is_near operands span
+is_sound (Inside place a) = is_place place && is_sound a
+is_sound (Defined phrases sum) = is_term phrases && is_sum sum
 
 -- ---- computed examples
 
@@ -140,14 +136,14 @@ a_key_twice = refl
 takes_nothing : is_slot (Takes [] []) ≡ false
 takes_nothing = refl
 
-one_operand : is_sound (Near (((a_slot ∷ []) ∷ []) ∷ []) 5 false) ≡ false
+one_operand : is_sound (Close (((a_slot ∷ []) ∷ []) ∷ []) 5 false) ≡ false
 one_operand = refl
 
-weight_of_none : (p : _) → is_sound (Weight' 0 p (Term ((a_slot ∷ []) ∷ []))) ≡ false
-weight_of_none p = refl
+weight_of_none : is_sound (Weighted 0 (Term ((a_slot ∷ []) ∷ []))) ≡ false
+weight_of_none = refl
 
-field_65 : (p : _) → is_sound (Within' (Field 65) p (Term ((a_slot ∷ []) ∷ []))) ≡ false
-field_65 p = refl
+field_65 : is_sound (Inside (Field 65) (Term ((a_slot ∷ []) ∷ []))) ≡ false
+field_65 = refl
 
 -- OCCURRENCE * 10 + 5
 a_sum : is_sum (Occurrence ∷ Number 10 ∷ Times ∷ Number 5 ∷ Plus ∷ []) ≡ true

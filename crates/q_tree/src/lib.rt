@@ -9,5 +9,5 @@ mod soundness;
 
 pub use flats::{Flat, Pattern, PatternBit, Phrase, Phrases, Place, Slot, SumStep};
 pub use laws::{occurrence_laws, posting_laws, same_slot_laws, sum_laws};
-pub use queries::{Leaf, Query, Relation, Word, WordBit, WordSlot};
+pub use queries::{Leaf, Op, Query, Relation, Word, WordBit, WordSlot};
 pub use same::same_slot;

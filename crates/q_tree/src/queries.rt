@@ -1,5 +1,8 @@
 //! Queries as they are written.
 
+ghost use Rattle.std.specs.Prelude.{◌≡◌};
+ghost use Rattle.q_tree.specs.Limits.{has_wildcard};
+
 use crate::flats::SumStep;
 use ct_base::{Listed, Name, Text};
 
@@ -19,6 +22,22 @@ pub struct Word {
     /// The place of its first byte in the text, from 1 on.
     pub place: u32,
     pub bits: Listed<WordBit>,
+}
+
+impl Word {
+    /// Whether a wildcard stands in it. Its cost is linear in the number of its pieces.
+    pub fn has_wildcard(&self) -> bool
+        ensures { result ≡ has_wildcard self.now.bits }
+    {
+        let mut rest = self.bits.as_slice();
+        while let [bit, later @ ..] = rest {
+            match bit {
+                WordBit::Chars(_) => rest = later,
+                WordBit::One | WordBit::Many => return true,
+            }
+        }
+        false
+    }
 }
 
 /// The words of which one may stand at a place of a phrase: those that `=` joins.
@@ -46,6 +65,15 @@ pub enum Leaf {
         level: u8,
         thesaurus: Name,
     },
+}
+
+/// An operator between two queries.
+#[derive(Clone, Copy, Debug, PartialEq, Eq)]
+pub enum Op {
+    Or,
+    And,
+    Not,
+    Minus,
 }
 
 /// A query as it is written. An operand of a nearness or of a sum is the list of its phrases.

@@ -3,6 +3,7 @@
 ghost use Rattle.std.specs.Prelude.{◌≡◌, ◌∷◌, ◌&&◌, ◌≤◌, length, Option};
 ghost use Rattle.std.specs.List.{list_all};
 ghost use Rattle.q_tree.specs.Soundness.{is_key, keys_rise, is_slot, takes_some, ends_well, is_phrase, is_term, is_near, is_operator, is_step, values, operators, is_sum, is_place, is_sound};
+ghost use Rattle.q_tree.specs.Trees.{reduced_of};
 
 use crate::flats::{Flat, Phrase, Phrases, Place, Slot, SumStep};
 use ct_base::TOKEN_LIMIT;
@@ -206,7 +207,7 @@ impl Flat {
     /// Whether the query is sound, as reduction makes it: each term has a phrase, and each phrase begins and ends with a slot that
     /// isn't Any; keys rise, and all numbers are in their ranges. Its cost is linear in the size of the tree, and it goes as deep.
     pub fn is_sound(&self) -> bool
-        ensures { result ≡ is_sound self.now }
+        ensures { result ≡ is_sound (reduced_of self.now) }
     {
         match self {
             Flat::Term(phrases) => is_term(phrases.as_slice()),

@@ -11,6 +11,6 @@ returns-clause-reply g c = λ m k x holds stands there same.
     IfOk-weaker c.rows_reply.result _ _
     (λ reply is.
     is
-    ∙ passed m c.args.table.now x c.args.list.now None c.args.conds.now c.args.columns.now same _ _ _ c.has_wrong_values-wrong_values.ensures c.has_beyond-out_of_range.ensures refl refl c.in_default.ensures
+    ∙ passed m c.args.table.now x c.args.list.now None c.args.conds.now c.args.columns.now same _ _ c.has_wrong_values-wrong_values.ensures c.has_beyond-out_of_range.ensures refl c.in_default.ensures refl
     (found_scores c.deref.result.now) (ap found_scores c.deref.ensures.value ∙ c.in_ok-hits.ensures.hits m k x holds stands there same))
     (c.rows_reply.ensures.reply m k x behind stands there same)

@@ -1,0 +1,5 @@
+pub mod Merges
+pub mod Passing
+pub mod SpanPassing
+pub mod Slotting
+pub mod Within

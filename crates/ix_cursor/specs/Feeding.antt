@@ -1,0 +1,56 @@
+-- What the feeds of a query's parts have of each document.
+use Rattle.std.specs.Prelude.{ℕ, ◌≡◌, ◌⊎◌, List, [], ◌∷◌, map, Option, Some, None}
+use Rattle.ix_spans.specs.Occurrences.{Slots, phrase_pairs}
+use Rattle.ix_posting.specs.declared.rows.RowDocument.{RowDocument}
+use Rattle.q_tree.specs.Documents.{put_all}
+use Rattle.ix_cursor.specs.declared.feeds.TokenFeeds.{TokenFeeds}
+use Rattle.ix_cursor.specs.declared.feeds.PhraseFeed.{PhraseFeed}
+use Rattle.ix_cursor.specs.declared.feeds.TermFeed.{TermFeed}
+use Rattle.ix_cursor.specs.Documents.{places_at}
+
+-- the positions that several tokens have in a document, each once
+abbrev pub union_at : List (List RowDocument) → ℕ → List ℕ
+union_at [] d = []
+union_at (r ∷ rs) d = put_all (places_at r d) (union_at rs d)
+
+-- the documents of each slot of a phrase; None where any key fits
+abbrev pub SlotDocuments : Type 0
+SlotDocuments = List (Option TokenFeeds)
+
+abbrev pub slot_at : Option TokenFeeds → ℕ → Option (List ℕ)
+slot_at None d = None
+slot_at (Some t) d = Some (union_at t.tokens.items d)
+
+abbrev pub slots_at : SlotDocuments → ℕ → Slots
+slots_at os d = map (λ o. slot_at o d) os
+
+abbrev pub phrase_at : PhraseFeed → ℕ → Slots
+phrase_at p d = slots_at p.slots.items d
+
+abbrev pub phrases_at : List PhraseFeed → ℕ → List Slots
+phrases_at ps d = map (λ p. phrase_at p d) ps
+
+-- a slot that takes no position
+abbrev pub IsVacant : Option (List ℕ) → Type 0
+IsVacant None = ⊥
+IsVacant (Some ps) = ps ≡ []
+
+-- the phrase occurs nowhere
+abbrev pub IsSilent : Slots → Type 0
+IsSilent slots = (lo hi : ℕ) → phrase_pairs slots lo hi ≡ []
+
+-- no phrase occurs
+abbrev pub AreSilent : List Slots → Type 0
+AreSilent [] = Unit {0}
+AreSilent (s ∷ ss) = IsSilent s × AreSilent ss
+
+-- some term has no occurrence
+abbrev pub HasSilent : List (List Slots) → Type 0
+HasSilent [] = ⊥
+HasSilent (o ∷ os) = AreSilent o ⊎ HasSilent os
+
+abbrev pub term_at : TermFeed → ℕ → List Slots
+term_at t d = phrases_at t.phrases.items d
+
+abbrev pub operands_at : List TermFeed → ℕ → List (List Slots)
+operands_at os d = map (λ o. term_at o d) os

@@ -1,0 +1,10 @@
+pub mod Encoded
+pub mod EncodedSpans
+pub mod Numbers
+pub mod Documents
+pub mod SpanDocuments
+pub mod Seeking
+pub mod Feeding
+pub mod Nodes
+pub mod Reading
+pub mod Cursors

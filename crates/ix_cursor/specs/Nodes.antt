@@ -1,0 +1,30 @@
+-- The scores of a cursor's nodes.
+use Rattle.std.specs.Prelude.{ℕ, ◌≡◌, ◌-◌, ◌≤◌, min, max, List, [], ◌∷◌, Option}
+use Rattle.ix_spans.specs.Occurrences.{term_score}
+use Rattle.q_tree.specs.Scores.{unless, weighted, if_above, near_score, greatest_within}
+use Rattle.ix_cursor.specs.declared.nodes.Node.{Node}
+use Rattle.ix_cursor.specs.declared.nodes.Node.TheVariants.{Term, And', Or', Not', Minus', Weight', Above', Near, Within', Done}
+use Rattle.ix_cursor.specs.SpanDocuments.{pairs_at}
+use Rattle.ix_cursor.specs.Feeding.{phrases_at, operands_at}
+use Rattle.ix_cursor.specs.Seeking.{Before}
+
+-- the score of a document within lo to hi
+abbrev pub score_at : Node → ℕ → ℕ → ℕ → ℕ
+score_at (Term t) d lo hi = term_score (phrases_at t.phrases.items d) lo hi
+score_at (And' p a q b) d lo hi = min (score_at a d lo hi) (score_at b d lo hi)
+score_at (Or' p a q b) d lo hi = max (score_at a d lo hi) (score_at b d lo hi)
+score_at (Not' p a q b) d lo hi = unless (score_at a d lo hi) (score_at b d lo hi)
+score_at (Minus' p a q b) d lo hi = score_at a d lo hi - score_at b d lo hi
+score_at (Weight' w p a) d lo hi = weighted w (score_at a d lo hi)
+score_at (Above' n p a) d lo hi = if_above n (score_at a d lo hi)
+score_at (Near n) d lo hi = near_score (operands_at n.operands.items d) n.span n.ordered lo hi
+score_at (Within' s p a) d lo hi = greatest_within (λ l h. score_at a d l h) lo hi (pairs_at s d)
+score_at Done d lo hi = 0
+
+-- the scores of each document from `to` on have stayed, within any range
+abbrev pub KeepsScores : ℕ → Node → Node → Type 0
+KeepsScores to old new = (d lo hi : ℕ) → to ≤ d → score_at new d lo hi ≡ score_at old d lo hi
+
+-- no document before the bound has a score, within any range
+abbrev pub BoundsScores : Node → Option ℕ → Type 0
+BoundsScores n bound = (d lo hi : ℕ) → Before bound d → score_at n d lo hi ≡ 0

@@ -1,0 +1,124 @@
+//! The documents that a query scores, in their order.
+
+ghost use Rattle.std.specs.Prelude.{◌≡◌, ◌<◌, ◌^◌, ℕ, true, IfOk};
+ghost use Rattle.q_tree.specs.Trees.{reduced_of};
+ghost use Rattle.q_tree.specs.Soundness.{is_sound};
+ghost use Rattle.q_tree.specs.Scores.{score, last_position};
+ghost use Rattle.ix_cursor.specs.Reading.{postings_read, FeedsRise, IsPlain};
+ghost use Rattle.ix_cursor.specs.Cursors.{remaining, present_score, from_on, IsFirst, from_found, score_found, Finds};
+
+use crate::building::build;
+use crate::nodes::Node;
+use crate::reading::Feeds;
+use ct_base::{DocId, Memory};
+use q_tree::Flat;
+use std::alloc::Global;
+
+/// Where a cursor stands: before the first document, at one with its score, or behind the last.
+#[derive(Drop)]
+enum Standing {
+    Before,
+    At { document: u32, score: u32 },
+    After,
+}
+
+/// A cursor over the documents that a query scores.
+#[derive(Drop)]
+pub struct Cursor {
+    root: Node,
+    standing: Standing,
+}
+
+/// A document and its score.
+#[derive(Drop)]
+struct Scored {
+    document: u32,
+    score: u32,
+}
+
+/// The first document from one on that has a score above 0.
+fn first_scored(alloc: Global, root: &mut Node, from: u32) -> Result<Option<Scored>, Memory>
+    ensures { IfOk result (λ found. Finds root.old root.new from found) }
+{
+    let mut at = from;
+    'documents: loop {
+        let Some(bound) = root.skip(alloc, at)? else {
+            return Ok(None);
+        };
+        if bound > at {
+            at = bound;
+            continue;
+        }
+        let score = root.score(alloc, at, 1, u32::MAX)?;
+        if score > 0 {
+            return Ok(Some(Scored {
+                document: at,
+                score,
+            }));
+        }
+        if at == u32::MAX {
+            return Ok(None);
+        }
+        at += 1;
+    }
+}
+
+impl Cursor {
+    /// A cursor before the first document that the query scores, over what was read for it. It decodes no row yet, and shares the rows
+    /// of a feed where the query has its slot several times. Queries with DEFINESCORE are not taken yet.
+    pub fn build(alloc: Global, flat: &Flat, feeds: Feeds) -> Result<Cursor, Memory>
+        requires sound { is_sound (reduced_of flat.now) ≡ true }
+        requires plain { IsPlain (reduced_of flat.now) }
+        requires rows { FeedsRise feeds }
+        ensures { IfOk result (λ c. (d : ℕ) → d < 2 ^ 32 → remaining c d ≡ score (reduced_of flat.now) (postings_read feeds d) 0 1 last_position) }
+    {
+        let root = build(alloc, &feeds, flat, 0)?;
+        Ok(Cursor {
+            root,
+            standing: Standing::Before,
+        })
+    }
+
+    /// The least document that a cursor may move to when asked for one from `to` on.
+    fn from(&self, to: u32) -> Option<u32>
+        ensures { result ≡ from_on self.now to }
+    {
+        match &self.standing {
+            Standing::Before => Some(to),
+            Standing::At { document, .. } => Some(to.max(*document)),
+            Standing::After => None,
+        }
+    }
+
+    /// Moves to the least document that is at least `to`, not before the present one, and has a score above 0. None
+    /// where none remains. After an error it may only be dropped.
+    pub fn advance(&mut self, alloc: Global, to: DocId) -> Result<Option<DocId>, Memory>
+        ensures found { IfOk result (λ found. IsFirst (remaining self.old) to.0 found) }
+        ensures left { IfOk result (λ found. (d : ℕ) → d < 2 ^ 32 → remaining self.new d ≡ from_found found (remaining self.old) d) }
+        ensures score { IfOk result (λ found. present_score self.new ≡ score_found found (remaining self.old)) }
+    {
+        let Some(from) = self.from(to.0) else {
+            return Ok(None);
+        };
+        match first_scored(alloc, &mut self.root, from)? {
+            None => {
+                self.standing = Standing::After;
+                Ok(None)
+            }
+            Some(Scored { document, score }) => {
+                self.standing = Standing::At { document, score };
+                Ok(Some(DocId(document)))
+            }
+        }
+    }
+
+    /// The score of the present document; 0 before the first and behind the last.
+    pub fn score(&self) -> u32
+        ensures { result ≡ present_score self.now }
+    {
+        match &self.standing {
+            Standing::At { score, .. } => *score,
+            _ => 0,
+        }
+    }
+}

@@ -1,0 +1,88 @@
+-- What the reader of Machine answers: the cause by where it is when it refuses a lexeme, and the verdict of a text.
+-- Nothing here has to be believed: the law `verdict_is_true` says of each text that its verdict is the one that the grammar gives.
+use Rattle.std.specs.Prelude.{ℕ, ◌+◌, ◌||◌, ◌&&◌, Bool, true, false, List, [], ◌∷◌, Option, Some, None}
+use Rattle.std.specs.Bool.{if◌then◌else◌}
+use Rattle.q_tree.specs.Trees.{Tree}
+use Rattle.q_parse.specs.declared.lexemes.Cause.{Cause}
+use Rattle.q_parse.specs.declared.lexemes.Cause.TheVariants.{OutOfRange, NotInProfile, Syntax}
+use Rattle.q_parse.specs.declared.lexemes.Placed.{Placed}
+use Rattle.q_parse.specs.declared.lexemes.Lexeme.{Lexeme}
+use Rattle.q_parse.specs.declared.lexemes.Lexeme.TheVariants.{Word, Near, Comma, Refused}
+use Rattle.q_parse.specs.declared.places.Kind.{Kind}
+use Rattle.q_parse.specs.declared.places.Kind.TheVariants.{InNear}
+use Rattle.q_parse.specs.Words.{strict, is_foreign, is_plain}
+use Rattle.q_parse.specs.Grammar.{has_level, is_sum_sign}
+use Rattle.q_parse.specs.Lexing.{bytes, lexemes, too_large}
+use Rattle.q_parse.specs.Machine.{Frame, Chain, TermsOf, Place, InPhrase, ThesArgument, AfterChain, AfterTerms, Factor, Threshold, NearSpan, SumOperand, SumAfter, State, step, start, finish}
+use Rattle.q_parse.specs.Faults.{Verdict, TooLarge, Found, Fault}
+
+-- whether one operand or operator too many is refused
+abbrev pub is_near : Lexeme → Bool
+is_near Near = true
+is_near l = false
+
+abbrev pub is_comma : Lexeme → Bool
+is_comma Comma = true
+is_comma l = false
+
+abbrev pub kind_counts : Kind → Lexeme → Bool
+kind_counts (InNear ops) l = is_comma l
+kind_counts kind l = false
+
+abbrev pub phrase_counts : List Frame → Lexeme → Bool
+phrase_counts (Chain ops ∷ fs) l = is_near l
+phrase_counts (TermsOf kind ps ∷ fs) l = kind_counts kind l
+phrase_counts fs l = false
+
+abbrev pub terms_count : List Frame → Lexeme → Bool
+terms_count (TermsOf kind ps ∷ fs) l = kind_counts kind l
+terms_count fs l = false
+
+abbrev pub wants_count : Place → List Frame → Lexeme → Bool
+wants_count (InPhrase ss) fs l = phrase_counts fs l
+wants_count (AfterChain ops) fs l = is_near l
+wants_count AfterTerms fs l = terms_count fs l
+wants_count (SumAfter ps out stack n) fs l = is_sum_sign strict l
+wants_count place fs l = false
+
+-- whether a word of other products is refused in a sum
+abbrev pub wants_score : Place → Lexeme → Bool
+wants_score (SumOperand ps out stack n) (Word w) = is_foreign w
+wants_score (SumAfter ps out stack n) (Word w) = is_foreign w
+wants_score place l = false
+
+-- whether a word is refused where a number may stand
+abbrev pub wants_number : Place → Lexeme → Bool
+wants_number (Factor t) (Word w) = is_plain w
+wants_number (Threshold t) (Word w) = is_plain w
+wants_number (ThesArgument relation ws) (Word w) = has_level relation && is_plain w
+wants_number (NearSpan ops) (Word w) = is_plain w
+wants_number (SumOperand ps out stack n) (Word w) = is_plain w
+wants_number place l = false
+
+abbrev pub is_mark : Lexeme → Bool
+is_mark Refused = true
+is_mark Comma = true
+is_mark l = false
+
+abbrev pub cause : Place → List Frame → Lexeme → Cause
+cause place fs l =
+    if wants_count place fs l then OutOfRange
+    else (if is_mark l || wants_score place l then NotInProfile
+    else (if wants_number place l then OutOfRange else Syntax))
+
+abbrev pub ending : ℕ → Option Tree → Verdict
+ending end None = Fault Syntax end
+ending end (Some t) = Found t
+
+abbrev pub goes_on : (State → Verdict) → Verdict → Option State → Verdict
+goes_on more fault None = fault
+goes_on more fault (Some next) = more next
+
+-- The verdict of what is left, where the reader is in this state; the end of the text has the place `end`.
+abbrev pub verdict_from : ℕ → State → List Placed → Verdict
+verdict_from end s [] = ending end (finish s)
+verdict_from end s (p ∷ ps) = goes_on (λ next. verdict_from end next ps) (Fault (cause s.place s.frames p.lexeme) p.place) (step strict s p.lexeme)
+
+abbrev pub verdict : List ℕ → Verdict
+verdict text = if too_large text then TooLarge else verdict_from (bytes text + 1) start (lexemes text)

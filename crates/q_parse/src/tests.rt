@@ -1,0 +1,60 @@
+//! Query texts, each with the tree or the fault that it gives.
+//!
+//! Each file of rows is one text. A row is a line `TEXT → RESULT`, with the result as `printing.rt` writes it. In both, ⟨N X⟩
+//! stands for N times the text X, and ⟨U+HHHH⟩ for the character of this number. A line that begins with `#` is a heading.
+
+mod expanding;
+mod functions;
+mod operators;
+mod printing;
+mod words;
+
+use expanding::expanded;
+use printing::answer;
+use std::alloc::Global;
+use std::test::Fail;
+
+/// Compares what the text of a row gives with the result that the row has, and appends the row to `wrong` where they differ.
+fn compare(alloc: Global, wrong: &mut String, row: &str) -> Result<(), Fail> {
+    let (text, result) = row.split_once(" → ").ok_or("a row has an arrow")?;
+    let text = expanded(alloc, text)?;
+    let wanted = expanded(alloc, result)?;
+    let found = answer(alloc, text.as_str())?;
+    if found.as_str() != wanted.as_str() {
+        let line = format!(in alloc; "{row}, and found {found}\n")?;
+        wrong.push_str(line.as_str())?;
+    }
+    Ok(())
+}
+
+/// The rows whose text gives another result, each on a line. Empty lines and headings are passed over.
+fn wrong_rows(alloc: Global, rows: &str) -> Result<String, Fail> {
+    let mut wrong = String::new(alloc);
+    for line in rows.lines() {
+        if !line.is_empty() && !line.starts_with('#') {
+            compare(alloc, &mut wrong, line)?;
+        }
+    }
+    Ok(wrong)
+}
+
+#[test]
+fn reads_operators(rt: HostRuntime) -> Result<(), Fail> {
+    let wrong = wrong_rows(rt.alloc(), operators::ROWS)?;
+    assert_eq!(&rt; wrong.as_str(), "");
+    Ok(())
+}
+
+#[test]
+fn reads_functions(rt: HostRuntime) -> Result<(), Fail> {
+    let wrong = wrong_rows(rt.alloc(), functions::ROWS)?;
+    assert_eq!(&rt; wrong.as_str(), "");
+    Ok(())
+}
+
+#[test]
+fn reads_words(rt: HostRuntime) -> Result<(), Fail> {
+    let wrong = wrong_rows(rt.alloc(), words::ROWS)?;
+    assert_eq!(&rt; wrong.as_str(), "");
+    Ok(())
+}

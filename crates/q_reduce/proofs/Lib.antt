@@ -1,0 +1,9 @@
+pub mod JoinedKeys
+pub mod KeysInOrder
+pub mod RisingKeys
+pub mod SoundPlaces
+pub mod SoundQueries
+pub mod SoundSlots
+pub mod Stopwords
+pub mod TrimmedSlots
+pub mod WordTexts

@@ -1,0 +1,130 @@
+-- Queries of stopwords alone find nothing.
+use Rattle.std.proofs.Common.{◌≡◌, ℕ, Bool, true, false, cond, List, [], ◌∷◌, ◌++◌, map, refl, sym, ap, ◌∙◌}
+use Rattle.std.specs.Prelude.{not, filter, ◌&&◌, Option, Some, None}
+use Rattle.std.specs.List.{list_all, flat_map}
+use Rattle.std.specs.Option.{option_map}
+use Rattle.std.proofs.lemmas.Bool.{and_parts, and_from}
+use Rattle.std.proofs.lemmas.List.Folds.{list_all-append}
+use Rattle.tx_stop.specs.StopKeys.{is_stop}
+use Rattle.q_tree.specs.declared.flats.Place.{Place}
+use Rattle.q_tree.specs.declared.flats.Slot.{Slot}
+use Rattle.q_tree.specs.declared.flats.Slot.TheVariants.{Any, Takes}
+use Rattle.q_tree.specs.declared.queries.Leaf.{Leaf}
+use Rattle.q_tree.specs.declared.queries.Leaf.TheVariants.{Phrase, Thes}
+use Rattle.q_tree.specs.declared.queries.Word.{Word}
+use Rattle.q_tree.specs.Limits.{has_wildcard}
+use Rattle.q_tree.specs.Soundness.{takes_some}
+use Rattle.q_tree.specs.Trees.{Single, Both, Weight, Above, Nearness, InSection, ScoredBy, Weighted, Exceeding}
+use Rattle.q_reduce.specs.Promises.{leaf_words, query_words, is_stopword, StopwordsFindNothing}
+use Rattle.q_reduce.specs.Reducing.{Context, word_keys, pattern, key_slot, word_slots, joined_keys, joined_patterns, in_order, slot_of, joined_slot, place_slots, front_dropped, end_dropped, phrases_of, leaf_phrases, phrases, term, joined, has_phrase, close, place_of, within, defined, reduced}
+
+-- ---- lists
+
+-- what is joined of lists that are empty is empty
+none_joined : {X Y : Type 0} (f : X → List Y) (p : X → Bool) (xs : List X) → ((x : X) → p x ≡ true → f x ≡ []) → list_all p xs ≡ true → flat_map f xs ≡ []
+none_joined f p [] each all = refl
+none_joined f p (x ∷ xs) each all =
+    let parts = and_parts (p x) (list_all p xs) all in
+    ap (λ l. l ++ flat_map f xs) (each x parts.0) ∙ none_joined f p xs each parts.1
+
+-- all of the lists that make up a list
+each_list : {X Y : Type 0} (p : Y → Bool) (f : X → List Y) (xs : List X) → list_all p (flat_map f xs) ≡ true → list_all (λ x. list_all p (f x)) xs ≡ true
+each_list p f [] all = refl
+each_list p f (x ∷ xs) all =
+    let parts = and_parts (list_all p (f x)) (list_all p (flat_map f xs)) (sym (list_all-append p (f x) (flat_map f xs)) ∙ all) in
+    and_from _ _ parts.0 (each_list p f xs parts.1)
+
+all_joined_where : {X Y : Type 0} (q : Y → Bool) (f : X → List Y) (p : X → Bool) (xs : List X) → ((x : X) → p x ≡ true → list_all q (f x) ≡ true) → list_all p xs ≡ true → list_all q (flat_map f xs) ≡ true
+all_joined_where q f p [] each all = refl
+all_joined_where q f p (x ∷ xs) each all =
+    let parts = and_parts (p x) (list_all p xs) all in
+    list_all-append q (f x) (flat_map f xs) ∙ and_from _ _ (each x parts.0) (all_joined_where q f p xs each parts.1)
+
+-- ---- slots that take any word
+
+abbrev pub is_any : Slot → Bool
+is_any slot = not (takes_some slot)
+
+any_keys : (x : Context) (keys : List (List ℕ)) → list_all (is_stop x.stop) keys ≡ true → list_all is_any (map (key_slot x) keys) ≡ true
+any_keys x [] all = refl
+any_keys x (key ∷ keys) all =
+    let parts = and_parts (is_stop x.stop key) (list_all (is_stop x.stop) keys) all in
+    and_from _ _ (ap (λ b. is_any (cond b Any (Takes (key ∷ []) []))) parts.0) (any_keys x keys parts.1)
+
+any_word : (x : Context) (w : Word) → is_stopword x w ≡ true → list_all is_any (word_slots x w) ≡ true
+any_word x w stop = go (has_wildcard w.bits) stop
+  where
+    go : (b : Bool) → (not b && list_all (is_stop x.stop) (word_keys x w)) ≡ true → list_all is_any (cond b (Takes [] (pattern x w ∷ []) ∷ []) (map (key_slot x) (word_keys x w))) ≡ true
+    go true stop = absurd (cc)
+    go false stop = any_keys x (word_keys x w) stop
+
+none_kept : (x : Context) (keys : List (List ℕ)) → list_all (is_stop x.stop) keys ≡ true → filter (λ key. not (is_stop x.stop key)) keys ≡ []
+none_kept x [] all = refl
+none_kept x (key ∷ keys) all =
+    let parts = and_parts (is_stop x.stop key) (list_all (is_stop x.stop) keys) all in
+    ap (λ b. cond (not b) (key ∷ filter (λ k. not (is_stop x.stop k)) keys) (filter (λ k. not (is_stop x.stop k)) keys)) parts.0 ∙ none_kept x keys parts.1
+
+no_keys : (x : Context) (w : Word) → is_stopword x w ≡ true → joined_keys x w ≡ []
+no_keys x w stop = go (has_wildcard w.bits) stop
+  where
+    go : (b : Bool) → (not b && list_all (is_stop x.stop) (word_keys x w)) ≡ true → cond b [] (filter (λ key. not (is_stop x.stop key)) (word_keys x w)) ≡ []
+    go true stop = refl
+    go false stop = none_kept x (word_keys x w) stop
+
+no_patterns : (x : Context) (w : Word) → is_stopword x w ≡ true → joined_patterns x w ≡ []
+no_patterns x w stop = go (has_wildcard w.bits) stop
+  where
+    go : (b : Bool) → (not b && list_all (is_stop x.stop) (word_keys x w)) ≡ true → cond b (pattern x w ∷ []) [] ≡ []
+    go true stop = absurd (cc)
+    go false stop = refl
+
+any_joined : (x : Context) (ws : List Word) → list_all (is_stopword x) ws ≡ true → joined_slot x ws ≡ Any
+any_joined x ws stop =
+    ap (λ keys. slot_of (in_order keys) (flat_map (joined_patterns x) ws)) (none_joined (joined_keys x) (is_stopword x) ws (no_keys x) stop)
+    ∙ ap (slot_of []) (none_joined (joined_patterns x) (is_stopword x) ws (no_patterns x) stop)
+
+any_place : (x : Context) (ws : List Word) → list_all (is_stopword x) ws ≡ true → list_all is_any (place_slots x ws) ≡ true
+any_place x [] stop = refl
+any_place x (w ∷ []) stop = any_word x w (and_parts (is_stopword x w) true stop).0
+any_place x (w ∷ v ∷ ws) stop = ap (λ slot. list_all is_any (slot ∷ [])) (any_joined x (w ∷ v ∷ ws) stop)
+
+none_left : (slots : List Slot) → list_all is_any slots ≡ true → front_dropped slots ≡ []
+none_left [] all = refl
+none_left (Any ∷ slots) all = none_left slots all
+none_left (Takes keys patterns ∷ slots) all = absurd (cc)
+
+-- ---- phrases
+
+no_phrase : (x : Context) (leaf : Leaf) → list_all (is_stopword x) (leaf_words leaf) ≡ true → leaf_phrases x leaf ≡ []
+no_phrase x (Phrase places) stop =
+    let each = each_list (is_stopword x) (λ (words : List Word). words) places stop in
+    let any = all_joined_where is_any (place_slots x) (list_all (is_stopword x)) places (any_place x) each in
+    ap (λ slots. phrases_of (end_dropped slots)) (none_left (flat_map (place_slots x) places) any)
+no_phrase x (Thes relation words level thesaurus) stop = refl
+
+no_phrases : (x : Context) (leaves : List Leaf) → list_all (is_stopword x) (flat_map leaf_words leaves) ≡ true → phrases x leaves ≡ []
+no_phrases x leaves stop =
+    none_joined (leaf_phrases x) (λ leaf. list_all (is_stopword x) (leaf_words leaf)) leaves (no_phrase x) (each_list (is_stopword x) leaf_words leaves stop)
+
+no_operand : (x : Context) (ops : List (List Leaf)) → list_all (λ leaves. list_all (is_stopword x) (flat_map leaf_words leaves)) ops ≡ true → filter has_phrase (map (phrases x) ops) ≡ []
+no_operand x [] stop = refl
+no_operand x (op ∷ ops) stop =
+    let parts = and_parts (list_all (is_stopword x) (flat_map leaf_words op)) (list_all (λ leaves. list_all (is_stopword x) (flat_map leaf_words leaves)) ops) stop in
+    ap (λ ps. filter has_phrase (ps ∷ map (phrases x) ops)) (no_phrases x op parts.0) ∙ no_operand x ops parts.1
+
+-- ---- queries
+
+within_none : (place : Option Place) → within place None ≡ None
+within_none None = refl
+within_none (Some place) = refl
+
+pub stopwords_find_nothing : StopwordsFindNothing
+stopwords_find_nothing x (Single leaf) stop = ap term (no_phrase x leaf stop)
+stopwords_find_nothing x (Both op a b) stop =
+    let parts = and_parts (list_all (is_stopword x) (query_words a)) (list_all (is_stopword x) (query_words b)) (sym (list_all-append (is_stopword x) (query_words a) (query_words b)) ∙ stop) in
+    ap (λ q. joined op q (reduced x b)) (stopwords_find_nothing x a parts.0) ∙ ap (joined op None) (stopwords_find_nothing x b parts.1)
+stopwords_find_nothing x (Weight tenths a) stop = ap (option_map (Weighted tenths)) (stopwords_find_nothing x a stop)
+stopwords_find_nothing x (Above n a) stop = ap (option_map (Exceeding n)) (stopwords_find_nothing x a stop)
+stopwords_find_nothing x (Nearness ops span ordered) stop = ap (close span ordered) (no_operand x ops (each_list (is_stopword x) (flat_map leaf_words) ops stop))
+stopwords_find_nothing x (InSection name a) stop = ap (within (place_of x.group name)) (stopwords_find_nothing x a stop) ∙ within_none (place_of x.group name)
+stopwords_find_nothing x (ScoredBy leaves sum) stop = ap (defined sum) (no_phrases x leaves stop)

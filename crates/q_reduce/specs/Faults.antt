@@ -1,0 +1,56 @@
+-- Why a query can't be reduced for an index.
+use Rattle.std.specs.Prelude.{ℕ, ◌==◌, Bool, true, ◌||◌, List, [], ◌∷◌, ◌++◌, length, Option, Some, None}
+use Rattle.std.specs.Bool.{if◌then◌else◌}
+use Rattle.std.specs.List.{flat_map}
+use Rattle.q_tree.specs.declared.flats.Place.{Place}
+use Rattle.q_tree.specs.declared.flats.Place.TheVariants.{Field}
+use Rattle.q_tree.specs.declared.queries.Word.{Word}
+use Rattle.q_tree.specs.declared.queries.Leaf.{Leaf}
+use Rattle.q_tree.specs.declared.queries.Leaf.TheVariants.{Phrase, Thes}
+use Rattle.q_tree.specs.Limits.{has_wildcard}
+use Rattle.q_tree.specs.Trees.{Tree, Single, Both, Weight, Above, Nearness, InSection, ScoredBy}
+use Rattle.q_reduce.specs.Reducing.{Context, word_keys, place_of}
+
+-- The group has no section of the name; a field stands inside another WITHIN; a word that EQUIV joins, at this place, isn't one token.
+pub data Fault : Type 0 where
+  NoSection : List ℕ → Fault
+  FieldInside : List ℕ → Fault
+  ManyTokens : ℕ → Fault
+
+-- ---- words that EQUIV joins
+
+-- each of them that is no wildcard word has exactly one token
+abbrev pub word_faults : Context → Word → List Fault
+word_faults x w = if has_wildcard w.bits || (length (word_keys x w) == 1) then [] else ManyTokens w.place ∷ []
+
+abbrev pub place_faults : Context → List Word → List Fault
+place_faults x [] = []
+place_faults x (w ∷ []) = []
+place_faults x (w ∷ v ∷ ws) = flat_map (word_faults x) (w ∷ v ∷ ws)
+
+abbrev pub leaf_faults : Context → Leaf → List Fault
+leaf_faults x (Phrase places) = flat_map (place_faults x) places
+leaf_faults x (Thes relation words level thesaurus) = []
+
+abbrev pub leaves_faults : Context → List Leaf → List Fault
+leaves_faults x leaves = flat_map (leaf_faults x) leaves
+
+-- ---- sections
+
+-- a section's fault stands at its name; `inside` tells whether another WITHIN stands around it
+abbrev pub section_faults : Bool → List ℕ → Option Place → List Fault
+section_faults inside name None = NoSection name ∷ []
+section_faults true name (Some (Field stream)) = FieldInside name ∷ []
+section_faults inside name (Some place) = []
+
+-- ---- queries
+
+-- THE FAULTS OF A QUERY in the order of its text; the first is the one that is told.
+abbrev pub faults : Context → Bool → Tree → List Fault
+faults x inside (Single leaf) = leaf_faults x leaf
+faults x inside (Both op a b) = faults x inside a ++ faults x inside b
+faults x inside (Weight tenths a) = faults x inside a
+faults x inside (Above n a) = faults x inside a
+faults x inside (Nearness operands span ordered) = flat_map (leaves_faults x) operands
+faults x inside (InSection name a) = faults x true a ++ section_faults inside name (place_of x.group name)
+faults x inside (ScoredBy leaves sum) = leaves_faults x leaves

@@ -1,0 +1,5 @@
+pub mod Reducing
+pub mod Faults
+pub mod Results
+pub mod Examples
+pub mod Promises

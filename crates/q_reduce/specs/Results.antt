@@ -1,0 +1,34 @@
+-- What the calls of reduction answer.
+use Rattle.std.specs.Prelude.{◌≡◌, List, [], ◌∷◌, Option, Some, None, Result, Ok, Err}
+use Rattle.std.specs.Option.{option_map}
+use Rattle.q_tree.specs.declared.flats.Flat.{Flat}
+use Rattle.q_tree.specs.Trees.{Reduced, reduced_of}
+use Rattle.q_reduce.specs.declared.reducing.ReduceCtx.{ReduceCtx}
+use Rattle.q_reduce.specs.declared.faults.ReduceFault.{ReduceFault}
+use Rattle.q_reduce.specs.declared.faults.ReduceFault.TheVariants.{NoSection as SectionFault, FieldInside as FieldFault, ManyTokens as TokensFault, Memory}
+use Rattle.q_reduce.specs.Reducing.{Context}
+use Rattle.q_reduce.specs.Faults.{Fault, NoSection, FieldInside, ManyTokens}
+
+abbrev pub context_of : ReduceCtx → Context
+context_of c = record { lexer = c.lexer.now; stop = c.stop.now; group = c.group.now }
+
+-- the first of the faults
+abbrev pub first_fault : List Fault → Option Fault
+first_fault [] = None
+first_fault (f ∷ fs) = Some f
+
+-- It is the first of these faults. Nothing is said where memory ran out.
+abbrev pub IsFirst : ReduceFault → List Fault → Type 0
+IsFirst (SectionFault name) fs = first_fault fs ≡ Some (NoSection name)
+IsFirst (FieldFault name) fs = first_fault fs ≡ Some (FieldInside name)
+IsFirst (TokensFault place) fs = first_fault fs ≡ Some (ManyTokens place)
+IsFirst Memory fs = Unit {0}
+
+-- There are none of these faults, and the value is so; or what is answered is the first fault.
+abbrev pub Answers : {X : Type 0} → Result X ReduceFault → List Fault → (X → Type 0) → Type 0
+Answers (Ok x) fs is_so = (fs ≡ []) × is_so x
+Answers (Err fault) fs is_so = IsFirst fault fs
+
+-- The query has no fault, and this is what it is reduced to; or this is its first fault.
+abbrev pub Reduces : Result (Option Flat) ReduceFault → List Fault → Option Reduced → Type 0
+Reduces result fs q = Answers result fs (λ found. option_map reduced_of found ≡ q)

@@ -1,0 +1,126 @@
+//! Operators over what may be nothing.
+
+ghost use Rattle.std.specs.Prelude.{◌≡◌, IfOk};
+ghost use Rattle.std.specs.Option.{option_map};
+ghost use Rattle.q_tree.specs.Trees.{reduced_of, Joined, Weighted, Exceeding, Inside};
+ghost use Rattle.q_reduce.specs.Reducing.{close, defined, joined, right_alone, term};
+
+use ct_base::{Listed, Memory};
+use q_tree::{Flat, Op, Phrase, Phrases, Place, SumStep};
+use std::alloc::Global;
+
+/// A term of these phrases, which is nothing where there are none.
+pub(crate) fn term(phrases: Vec<Phrase>) -> Option<Flat>
+    ensures { option_map reduced_of result ≡ term phrases.items }
+{
+    if phrases.is_empty() {
+        return None;
+    }
+    Some(Flat::Term(Listed::of(phrases)))
+}
+
+/// Two queries with an operator between.
+fn both(alloc: Global, op: Op, a: Flat, b: Flat) -> Result<Flat, Memory>
+    ensures { IfOk result (λ q. reduced_of q ≡ Joined op (reduced_of a) (reduced_of b)) }
+{
+    let a = Box::new(alloc, a)?;
+    let b = Box::new(alloc, b)?;
+    Ok(match op {
+        Op::Or => Flat::Or(a, b),
+        Op::And => Flat::And(a, b),
+        Op::Not => Flat::Not(a, b),
+        Op::Minus => Flat::Minus(a, b),
+    })
+}
+
+/// What an operator leaves of its right side, where the left one is nothing.
+fn right_alone(op: Op, b: Flat) -> Option<Flat>
+    ensures { option_map reduced_of result ≡ right_alone op (reduced_of b) }
+{
+    match op {
+        Op::Or => Some(b),
+        Op::And => Some(b),
+        Op::Not => None,
+        Op::Minus => None,
+    }
+}
+
+/// What an operator makes of its sides, either of which may be nothing.
+pub(crate) fn joined(
+    alloc: Global,
+    op: Op,
+    a: Option<Flat>,
+    b: Option<Flat>,
+) -> Result<Option<Flat>, Memory>
+    ensures { IfOk result (λ q. option_map reduced_of q ≡ joined op (option_map reduced_of a) (option_map reduced_of b)) }
+{
+    match (a, b) {
+        (Some(a), Some(b)) => Ok(Some(both(alloc, op, a, b)?)),
+        (Some(a), None) => Ok(Some(a)),
+        (None, Some(b)) => Ok(right_alone(op, b)),
+        (None, None) => Ok(None),
+    }
+}
+
+/// The part with a weight in tenths.
+pub(crate) fn weighted(alloc: Global, tenths: u8, a: Option<Flat>) -> Result<Option<Flat>, Memory>
+    ensures { IfOk result (λ q. option_map reduced_of q ≡ option_map (Weighted tenths) (option_map reduced_of a)) }
+{
+    match a {
+        None => Ok(None),
+        Some(a) => Ok(Some(Flat::Weight(tenths, Box::new(alloc, a)?))),
+    }
+}
+
+/// The part, where its score is above the number.
+pub(crate) fn exceeding(alloc: Global, number: u8, a: Option<Flat>) -> Result<Option<Flat>, Memory>
+    ensures { IfOk result (λ q. option_map reduced_of q ≡ option_map (Exceeding number) (option_map reduced_of a)) }
+{
+    match a {
+        None => Ok(None),
+        Some(a) => Ok(Some(Flat::Above(number, Box::new(alloc, a)?))),
+    }
+}
+
+/// The part, looked for in a place.
+pub(crate) fn within(alloc: Global, place: Place, a: Option<Flat>) -> Result<Option<Flat>, Memory>
+    ensures { IfOk result (λ q. option_map reduced_of q ≡ option_map (Inside place) (option_map reduced_of a)) }
+{
+    match a {
+        None => Ok(None),
+        Some(a) => Ok(Some(Flat::Within(place, Box::new(alloc, a)?))),
+    }
+}
+
+/// Operands near one another. One that is left is itself.
+pub(crate) fn close(operands: Vec<Phrases>, span: u8, ordered: bool) -> Option<Flat>
+    ensures { option_map reduced_of result ≡ close span ordered operands.items }
+{
+    let mut operands = operands;
+    if operands.len() > 1 {
+        return Some(Flat::Near {
+            operands: Listed::of(operands),
+            span,
+            ordered,
+        });
+    }
+    match operands.pop() {
+        None => None,
+        Some(phrases) => Some(Flat::Term(phrases)),
+    }
+}
+
+/// A term of these phrases with the sum that its score is, which is nothing where there are none.
+pub(crate) fn defined(
+    alloc: Global,
+    phrases: Vec<Phrase>,
+    sum: &[SumStep],
+) -> Result<Option<Flat>, Memory>
+    ensures { IfOk result (λ q. option_map reduced_of q ≡ defined sum.now phrases.items) }
+{
+    if phrases.is_empty() {
+        return Ok(None);
+    }
+    let sum = Vec::from_slice(alloc, sum)?;
+    Ok(Some(Flat::Define(Listed::of(phrases), Listed::of(sum))))
+}

@@ -1,0 +1,121 @@
+//! Reduction of queries.
+#![tactic(auto)]
+
+ghost use Rattle.std.specs.Prelude.{◌≡◌, IfOk, IfSome, true, false, filter, map};
+ghost use Rattle.std.specs.List.{flat_map, list_all};
+ghost use Rattle.q_tree.specs.Limits.{keeps_limits, leaves_keep_limits};
+ghost use Rattle.q_tree.specs.Soundness.{is_sound};
+ghost use Rattle.q_tree.specs.Trees.{reduced_of, tree_of};
+ghost use Rattle.q_reduce.specs.Faults.{faults, leaves_faults};
+ghost use Rattle.q_reduce.specs.Reducing.{close, has_phrase, phrases, reduced};
+ghost use Rattle.q_reduce.specs.Results.{Reduces, context_of};
+
+use crate::faults::ReduceFault;
+use crate::operators::{close, defined, exceeding, joined, term, weighted, within};
+use crate::phrases::{leaf_phrases, operands, phrases};
+use crate::sections::section;
+use ct_base::Listed;
+use q_tree::{Flat, Leaf, Op, Query};
+use std::alloc::Global;
+use tx_lexer::LexerOptions;
+use tx_stop::StopKeys;
+use tx_tags::Group;
+
+/// By what a query is reduced: what an index copied when it was made.
+#[derive(Clone, Copy)]
+pub struct ReduceCtx<'a> {
+    pub lexer: &'a LexerOptions,
+    pub stop: &'a StopKeys,
+    pub group: &'a Group,
+}
+
+/// The query as it is looked for in an index: with keys in place of words, and without stopwords. None is a query that finds
+/// nothing. A fault is the first in the order of the query's text.
+///
+/// Its cost is linear in the size of the query, but for the logarithm of the number of stopwords for each word, the number of
+/// sections for each WITHIN, and the square of the number of words that one EQUIV joins. It goes as deep as the query.
+pub fn reduce(
+    alloc: Global,
+    query: &Query,
+    ctx: &ReduceCtx<'_>,
+) -> Result<Option<Flat>, ReduceFault>
+    requires limits { keeps_limits (tree_of query.now) ≡ true }
+    ensures reduced { Reduces result (faults (context_of ctx.now) false (tree_of query.now)) (reduced (context_of ctx.now) (tree_of query.now)) }
+    ensures sound { IfOk result (λ found. IfSome found (λ q. is_sound (reduced_of q) ≡ true)) }
+{
+    // This tells that the group keeps the rules of groups, so that the stream of a field is at most 64.
+    let _sections = ctx.group.sections();
+    reduce_part(alloc, query, ctx, false)
+}
+
+/// A part of a query; `inside` tells whether a WITHIN stands around it.
+fn reduce_part(
+    alloc: Global,
+    query: &Query,
+    ctx: &ReduceCtx<'_>,
+    inside: bool,
+) -> Result<Option<Flat>, ReduceFault>
+    requires { keeps_limits (tree_of query.now) ≡ true }
+    ensures { Reduces result (faults (context_of ctx.now) inside (tree_of query.now)) (reduced (context_of ctx.now) (tree_of query.now)) }
+{
+    match query {
+        Query::Leaf(leaf) => Ok(term(leaf_phrases(alloc, ctx, leaf)?)),
+        Query::And(a, b) => {
+            let a = reduce_part(alloc, a, ctx, inside)?;
+            let b = reduce_part(alloc, b, ctx, inside)?;
+            Ok(joined(alloc, Op::And, a, b)?)
+        }
+        Query::Or(a, b) => {
+            let a = reduce_part(alloc, a, ctx, inside)?;
+            let b = reduce_part(alloc, b, ctx, inside)?;
+            Ok(joined(alloc, Op::Or, a, b)?)
+        }
+        Query::Not(a, b) => {
+            let a = reduce_part(alloc, a, ctx, inside)?;
+            let b = reduce_part(alloc, b, ctx, inside)?;
+            Ok(joined(alloc, Op::Not, a, b)?)
+        }
+        Query::Minus(a, b) => {
+            let a = reduce_part(alloc, a, ctx, inside)?;
+            let b = reduce_part(alloc, b, ctx, inside)?;
+            Ok(joined(alloc, Op::Minus, a, b)?)
+        }
+        Query::Weight(tenths, a) => {
+            let a = reduce_part(alloc, a, ctx, inside)?;
+            Ok(weighted(alloc, *tenths, a)?)
+        }
+        Query::Above(number, a) => {
+            let a = reduce_part(alloc, a, ctx, inside)?;
+            Ok(exceeding(alloc, *number, a)?)
+        }
+        Query::Near {
+            operands,
+            span,
+            ordered,
+        } => reduce_near(alloc, ctx, operands.as_slice(), *span, *ordered),
+        Query::Within(name, a) => {
+            let a = reduce_part(alloc, a, ctx, true)?;
+            let place = section(ctx.group, name, inside)?;
+            Ok(within(alloc, place, a)?)
+        }
+        Query::Define(leaves, sum) => {
+            let phrases = phrases(alloc, ctx, leaves.as_slice())?;
+            Ok(defined(alloc, phrases, sum.as_slice())?)
+        }
+    }
+}
+
+/// Operands near one another, without those that are nothing.
+fn reduce_near(
+    alloc: Global,
+    ctx: &ReduceCtx<'_>,
+    parts: &[Listed<Leaf>],
+    span: u8,
+    ordered: bool,
+) -> Result<Option<Flat>, ReduceFault>
+    requires { list_all leaves_keep_limits parts.now ≡ true }
+    ensures { Reduces result (flat_map (leaves_faults (context_of ctx.now)) parts.now) (close span ordered (filter has_phrase (map (phrases (context_of ctx.now)) parts.now))) }
+{
+    let operands = operands(alloc, ctx, parts)?;
+    Ok(close(operands, span, ordered))
+}
