@@ -25,8 +25,7 @@ from weights import least_weight, room
 
 # What is built, beside CREATE TABLE, CREATE INDEX, INSERT, SYNC_INDEX, POLICY_TOKENS and a SELECT of columns and scores by one
 # CONTAINS. A statement that needs anything else isn't understood. Of what queries may have that isn't always searched
-# (`reduction.SEARCHES`) nothing is built: a query that needs it is refused by E21, at the place 1, and one that comes to a single key
-# is searched.
+# (`reduction.SEARCHES`) wildcards, thesauri and DEFINESCORE aren't built: a query that needs one is refused by E21, at the place 1.
 BUILT = frozenset({
     "UPDATE",
     "DELETE",
@@ -41,6 +40,10 @@ BUILT = frozenset({
     "STOPLISTS",  # CREATE_STOPLIST, ADD_STOPWORD
     "SECTION-GROUPS",  # CREATE_SECTION_GROUP, ADD_ZONE_SECTION, ADD_FIELD_SECTION, ADD_SPECIAL_SECTION
     "PARAMETERS",  # PARAMETERS of a CREATE INDEX
+    "OPERATORS",  # queries of several words, weights and thresholds
+    "PHRASES",
+    "NEAR",
+    "WITHIN",
 })
 
 STATEMENT_LIMIT = 65_536

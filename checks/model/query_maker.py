@@ -58,7 +58,7 @@ class QueryMaker:
     """Makes query texts.
 
     What isn't built (`reduction.SEARCHES`) is seldom made, since a query that has it is refused as a whole. Operators alone are made as
-    often as if they were built: reduction may leave one word of them, and their faults are compared.
+    often without being built: reduction may leave one word of them, and their faults are compared.
     """
 
     def __init__(

@@ -12,8 +12,8 @@ from documents import MAIN_STREAM, Prefs
 from queries import Bit, Expansion, Fault, Joined, Leaf, Query, Scored, Step, Weighted, Wildcard, Word, read
 from texts import key_of, tokens
 
-# What queries may have that is read but not searched until it is built. The last two are told by the reduced query alone: that there
-# are several words to search for, or a weight or threshold; and that words are to stand side by side.
+# What queries may have that is read, and is searched only where it is built (`model.BUILT`). The last two are told by the reduced query
+# alone: that there are several words to search for, or a weight or threshold; and that words are to stand side by side.
 SEARCHES = frozenset({"WILDCARDS", "THESAURI", "DEFINESCORE", "NEAR", "WITHIN", "OPERATORS", "PHRASES"})
 
 

@@ -365,7 +365,7 @@ E22: number out of range
 1 row created.
 E13: wrong type or number of values
 E22: number out of range
-E21: operator not in profile at 1
+no rows selected
 E20: query syntax at 5
 E22: number out of range
 E13: wrong type or number of values
@@ -514,7 +514,7 @@ E22: number out of range at 12
 E21: operator not in profile at 20
 E26: query too large
 E29: not one word at 1
-E21: operator not in profile at 1
+E23: unknown section sentence
 E21: operator not in profile at 1
 ",
     ),

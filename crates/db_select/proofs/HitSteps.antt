@@ -14,7 +14,7 @@ use Rattle.ct_keep.specs.RisingKeys.{entries_rise}
 use Rattle.ct_keep.specs.FoundKeys.{found_listed}
 use Rattle.st_parse.specs.declared.statements.Cond.{Cond}
 use Rattle.tb_table.specs.Tables.{Table}
-use Rattle.ix_context.specs.declared.hits.Hit.{Hit}
+use Rattle.ix_search.specs.declared.hits.Hit.{Hit}
 use Rattle.ix_context.specs.Indexes.{Index}
 use Rattle.db_state.specs.States.{State}
 use Rattle.db_rows.specs.Values.{values_of}

@@ -4,7 +4,7 @@ use Rattle.std.specs.List.{flat_map}
 use Rattle.std.proofs.lemmas.List.{take_all, take_more, flat_map_more}
 use Rattle.ct_base.specs.declared.lists.Value.{Value}
 use Rattle.tb_table.specs.Tables.{Tables}
-use Rattle.ix_context.specs.declared.hits.Hit.{Hit}
+use Rattle.ix_search.specs.declared.hits.Hit.{Hit}
 use Rattle.db_cond.specs.Lines.{line}
 use Rattle.db_select.specs.declared.sources.FieldSource.{FieldSource}
 use Rattle.db_state.specs.Lines.{lines_or_none}

@@ -6,8 +6,9 @@ use Rattle.std.specs.FinMap.{entries}
 use Rattle.std.proofs.lemmas.Map.Entries.{option_filter}
 use Rattle.tb_table.specs.Tables.{Tables}
 use Rattle.ix_docmap.specs.Marks.{Mark, Pending, Settled}
-use Rattle.ix_context.specs.Indexes.{Index, marks_in, if_above, scored, found_at, text_seen, found}
-use Rattle.ix_context.specs.Postings.{word_score}
+use Rattle.ix_context.specs.Indexes.{Index, marks_in, text_seen}
+use Rattle.ix_search.specs.Finding.{query_score, if_above, scored, found_at, found}
+use Rattle.q_tree.specs.Trees.{Reduced}
 use Rattle.tx_settings.specs.declared.preferences.Prefs.{Prefs}
 
 none_above : (n score : ℕ) → nat_lt 0 score ≡ false → nat_lt n score ≡ false
@@ -24,13 +25,13 @@ above_of_all n r score = go (nat_lt 0 score) refl
     go true e = refl
     go false e = ap (λ (b : Bool). cond b (Some (r, score)) None) (sym (none_above n score e))
 
-scored_of_all : (p : Prefs) (key : List ℕ) (n : ℕ) (r : ℤ) (text : Option (List ℕ)) → option_filter (λ (h : ℤ × ℕ). nat_lt n h.1) (scored p key 0 r text) ≡ scored p key n r text
-scored_of_all p key n r None = refl
-scored_of_all p key n r (Some text) = above_of_all n r (word_score p key text)
+scored_of_all : (p : Prefs) (q : Reduced) (n : ℕ) (r : ℤ) (text : Option (List ℕ)) → option_filter (λ (h : ℤ × ℕ). nat_lt n h.1) (scored p q 0 r text) ≡ scored p q n r text
+scored_of_all p q n r None = refl
+scored_of_all p q n r (Some text) = above_of_all n r (query_score p q text)
 
-at_of_all : (ts : Tables) (x : Index) (key : List ℕ) (n : ℕ) (r : ℤ) (m : Mark (Unit {0})) → option_filter (λ (h : ℤ × ℕ). nat_lt n h.1) (found_at ts x key 0 r m) ≡ found_at ts x key n r m
-at_of_all ts x key n r Pending = refl
-at_of_all ts x key n r (Settled _) = scored_of_all x.prefs key n r (text_seen ts x r)
+at_of_all : (ts : Tables) (x : Index) (q : Reduced) (n : ℕ) (r : ℤ) (m : Mark (Unit {0})) → option_filter (λ (h : ℤ × ℕ). nat_lt n h.1) (found_at ts x q 0 r m) ≡ found_at ts x q n r m
+at_of_all ts x q n r Pending = refl
+at_of_all ts x q n r (Settled _) = scored_of_all x.prefs q n r (text_seen ts x r)
 
 -- a filter of what is given is what is given through it
 kept : {Y : Type 0} (p : Y → Bool) (y : Y) (ys zs : List Y) (b : Bool) → p y ≡ b → filter p ys ≡ zs → cond b (y ∷ filter p ys) (filter p ys) ≡ cons_option (cond b (Some y) None) zs
@@ -45,8 +46,8 @@ filter_given : {X Y : Type 0} (p : Y → Bool) (f g : X → Option Y) → ((x : 
 filter_given p f g same [] = refl
 filter_given p f g same (x ∷ xs) = filter_cons p (f x) (g x) (filter_map f xs) (filter_map g xs) (same x) (filter_given p f g same xs)
 
-pub above_filtered : (ts : Tables) (x : Index) (key : List ℕ) (n : ℕ) → filter (λ (h : ℤ × ℕ). nat_lt n h.1) (found ts x key 0) ≡ found ts x key n
-above_filtered ts x key n = filter_given (λ (h : ℤ × ℕ). nat_lt n h.1) (λ e. found_at ts x key 0 e.0 e.1) (λ e. found_at ts x key n e.0 e.1) (λ e. at_of_all ts x key n e.0 e.1) (entries (marks_in x.body))
+pub above_filtered : (ts : Tables) (x : Index) (q : Reduced) (n : ℕ) → filter (λ (h : ℤ × ℕ). nat_lt n h.1) (found ts x q 0) ≡ found ts x q n
+above_filtered ts x q n = filter_given (λ (h : ℤ × ℕ). nat_lt n h.1) (λ e. found_at ts x q 0 e.0 e.1) (λ e. found_at ts x q n e.0 e.1) (λ e. at_of_all ts x q n e.0 e.1) (entries (marks_in x.body))
 
 pub filter_mapped : {X Y : Type 0} (p : Y → Bool) (f : X → Y) (xs : List X) → map f (filter (λ x. p (f x)) xs) ≡ filter p (map f xs)
 filter_mapped p f [] = refl

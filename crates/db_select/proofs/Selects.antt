@@ -12,7 +12,7 @@ use Rattle.tb_table.specs.declared.columns.Column.{Column}
 use Rattle.tb_table.specs.Tables.{Table}
 use Rattle.tb_table.specs.Rules.{AreTables}
 use Rattle.st_parse.specs.declared.statements.Cond.{Cond}
-use Rattle.ix_context.specs.declared.hits.Hit.{Hit}
+use Rattle.ix_search.specs.declared.hits.Hit.{Hit}
 use Rattle.ix_context.specs.Indexes.{Index}
 use Rattle.db_cond.specs.Faults.{Refusal, NotUnderstood, UnknownName, WrongValues, OutOfRange, NoIndexOfKind, refusal_line}
 use Rattle.db_state.specs.States.{State, is_view}
@@ -20,6 +20,7 @@ use Rattle.db_state.specs.Effects.{Effect, Does, Refused, refuse, refuse_by, wit
 use Rattle.db_state.specs.Columns.{first_unknown}
 use Rattle.db_rows.specs.Checking.{fit_columns, has_beyond}
 use Rattle.db_select.specs.Predicates.{Search, is_built_pred, label_in, list_columns, pred_column, search_in, conds_in}
+use Rattle.q_tree.specs.Trees.{Reduced}
 use Rattle.db_select.specs.Querying.{Refuses, Finds, meaning_of, refusal_in}
 use Rattle.db_select.specs.Checking.{fit_labels, is_out_of_range, check_parts, check_values}
 use Rattle.db_select.specs.Selecting.{all_columns, hit_line, hits, index_of_search, lacks_index, query_refusal, refused_by, rows_reply, select, select_rows}
@@ -139,8 +140,8 @@ module _ (m : State) (t : List ℕ) (x : Table) (s : Search) (y : Index) (needed
   pub refusal_is : (refusal : Refusal) → meaning_of y.prefs s.query ≡ Refuses refusal → query_refusal m t x.columns (Some s) ≡ Some refusal
   refusal_is refusal means = by_index ∙ ap refusal_in means
 
-  pub no_refusal : (key : Option (List ℕ)) → meaning_of y.prefs s.query ≡ Finds key → query_refusal m t x.columns (Some s) ≡ None
-  no_refusal key means = by_index ∙ ap refusal_in means
+  pub no_refusal : (q : Option Reduced) → meaning_of y.prefs s.query ≡ Finds q → query_refusal m t x.columns (Some s) ≡ None
+  no_refusal q means = by_index ∙ ap refusal_in means
 
 -- ---- the whole of a table
 

@@ -9,50 +9,46 @@ use Rattle.caseless.proofs.Computing.{caseless}
 use Rattle.tx_chars.specs.Keys.{key_text}
 use Rattle.tx_settings.specs.declared.preferences.Prefs.{Prefs}
 use Rattle.tx_settings.specs.Defaults.{default_prefs}
-use Rattle.q_tree.specs.declared.flats.Slot.TheVariants.{Takes}
+use Rattle.q_tree.specs.declared.queries.Op.TheVariants.{And}
 use Rattle.q_tree.specs.declared.queries.Word.{Word}
 use Rattle.q_tree.specs.declared.queries.Leaf.{Leaf}
 use Rattle.q_tree.specs.declared.queries.Leaf.TheVariants.{Phrase, Thes}
 use Rattle.q_tree.specs.Limits.{has_wildcard}
-use Rattle.q_tree.specs.Trees.{Tree, Single, Both, Weight, Above, Nearness, InSection, ScoredBy, Reduced, Term}
+use Rattle.q_tree.specs.Trees.{Tree, Single, Both, Weight, Above, Nearness, InSection, ScoredBy, Reduced, Joined}
 use Rattle.q_parse.specs.declared.lexemes.Cause.{Cause}
 use Rattle.q_parse.specs.declared.lexemes.Cause.TheVariants.{OutOfRange, NotInProfile as ForeignCause, Syntax}
 use Rattle.q_parse.specs.Faults.{Verdict, TooLarge, Found, Fault}
 use Rattle.q_parse.specs.Verdicts.{verdict}
 use Rattle.q_reduce.specs.Reducing.{Context, reduced}
 use Rattle.q_reduce.specs.Faults.{Fault as ReductionFault, NoSection, FieldInside as FieldFault, ManyTokens, faults}
+use Rattle.ix_search.specs.Finding.{key_query}
 use Rattle.db_cond.specs.Faults.{Refusal, QuerySyntax, NotInProfile, QueryNumber, NotOneWord, UnknownSection, FieldInside, QueryTooLarge}
 
--- A query is refused; or it finds the documents that have a key, or nothing.
+-- A query is refused; or it finds what a reduced query does, or nothing.
 pub data Meaning : Type 0 where
   Refuses : Refusal → Meaning
-  Finds : Option (List ℕ) → Meaning
+  Finds : Option Reduced → Meaning
 
 -- ---- which queries are searched so far
 
--- Whether reduction may see a query: it has no wildcards, thesauri, nearness, sections and sums. What is left of it is then one key,
--- or nothing, or isn't searched yet.
+-- leaves without wildcards and without thesauri
 abbrev pub is_built_leaf : Leaf → Bool
 is_built_leaf (Phrase places) = list_all (λ (ws : List Word). list_all (λ (w : Word). not (has_wildcard w.bits)) ws) places
 is_built_leaf (Thes relation words level thesaurus) = false
 
+-- Whether all forms of a query are searched: it has no wildcards, no thesauri and no DEFINESCORE.
 abbrev pub has_built_forms : Tree → Bool
 has_built_forms (Single leaf) = is_built_leaf leaf
 has_built_forms (Both op a b) = has_built_forms a && has_built_forms b
 has_built_forms (Weight tenths a) = has_built_forms a
 has_built_forms (Above n a) = has_built_forms a
-has_built_forms (Nearness operands span ordered) = false
-has_built_forms (InSection name a) = false
+has_built_forms (Nearness operands span ordered) = list_all (list_all is_built_leaf) operands
+has_built_forms (InSection name a) = has_built_forms a
 has_built_forms (ScoredBy leaves sum) = false
 
 -- the refusal of a query that is read and of which no search is built yet
 abbrev pub not_searched_yet : Refusal
 not_searched_yet = NotInProfile 1
-
--- A reduced query that is one key finds what has it; no other is searched yet.
-abbrev pub meaning_of_reduced : Reduced → Meaning
-meaning_of_reduced (Term ((Takes (key ∷ []) [] ∷ []) ∷ [])) = Finds (Some key)
-meaning_of_reduced q = Refuses not_searched_yet
 
 -- ---- from the text
 
@@ -75,8 +71,7 @@ context p = record { lexer = p.lexer; stop = p.stop; group = p.group }
 -- a fault of reduction comes first, also where what is left is nothing
 abbrev pub meaning_of_reduction : List ReductionFault → Option Reduced → Meaning
 meaning_of_reduction (f ∷ fs) q = Refuses (reduction_refusal f)
-meaning_of_reduction [] None = Finds None
-meaning_of_reduction [] (Some q) = meaning_of_reduced q
+meaning_of_reduction [] q = Finds q
 
 abbrev pub meaning_of_tree : Prefs → Tree → Meaning
 meaning_of_tree p t = if has_built_forms t then meaning_of_reduction (faults (context p) false t) (reduced (context p) t) else Refuses not_searched_yet
@@ -93,15 +88,15 @@ meaning_of p text = meaning_of_verdict p (verdict (chars text))
 -- the refusal, if it is one
 abbrev pub refusal_in : Meaning → Option Refusal
 refusal_in (Refuses refusal) = Some refusal
-refusal_in (Finds key) = None
+refusal_in (Finds q) = None
 
 -- computed examples, by the default preferences
-a_word : meaning_of default_prefs (codes "Web2") ≡ Finds (Some (codes "web2"))
+a_word : meaning_of default_prefs (codes "Web2") ≡ Finds (Some (key_query (codes "web2")))
 unfolding encode chars caseless ucd_category key_text
 a_word = refl
 
 -- café, with its two bytes of é
-accented : meaning_of default_prefs (codes "Caf" ++ 0xC3 ∷ 0xA9 ∷ []) ≡ Finds (Some (codes "caf" ++ 0xC3 ∷ 0xA9 ∷ []))
+accented : meaning_of default_prefs (codes "Caf" ++ 0xC3 ∷ 0xA9 ∷ []) ≡ Finds (Some (key_query (codes "caf" ++ 0xC3 ∷ 0xA9 ∷ [])))
 unfolding encode chars caseless ucd_category key_text
 accented = refl
 
@@ -122,7 +117,7 @@ two_tokens : meaning_of default_prefs (codes "web" ++ 92 ∷ codes "-site = shop
 unfolding encode chars caseless ucd_category key_text
 two_tokens = refl
 
-two_words : meaning_of default_prefs (codes "a b") ≡ Refuses not_searched_yet
+two_words : meaning_of default_prefs (codes "a AND b") ≡ Finds (Some (Joined And (key_query (codes "a")) (key_query (codes "b"))))
 unfolding encode chars caseless ucd_category key_text
 two_words = refl
 

@@ -15,7 +15,8 @@ use Rattle.st_parse.specs.declared.statements.SelectList.TheVariants.{Star, Coun
 use Rattle.st_parse.specs.declared.statements.Whole.TheVariants.{Fits}
 use Rattle.tb_table.specs.declared.columns.Column.{Column}
 use Rattle.tb_table.specs.Tables.{Table, Tables, docs_columns, docs_alone, row_one}
-use Rattle.ix_context.specs.Indexes.{Index, found}
+use Rattle.ix_context.specs.Indexes.{Index}
+use Rattle.ix_search.specs.Finding.{found}
 use Rattle.db_cond.specs.Faults.{Refusal, UnknownName, NoIndexOfKind}
 use Rattle.db_cond.specs.Lines.{line}
 use Rattle.db_state.specs.States.{State}
@@ -43,7 +44,7 @@ lacks_index m t columns (Some s) = is_none (index_of_search m t columns s)
 
 -- what a query finds in an index with a score above a number; nothing without a number
 abbrev pub found_by : Tables → Index → Meaning → Option ℕ → List (ℤ × ℕ)
-found_by ts x (Finds (Some key)) (Some n) = found ts x key n
+found_by ts x (Finds (Some q)) (Some n) = found ts x q n
 found_by ts x meaning threshold = []
 
 -- the same of a query text; nothing without an index

@@ -9,7 +9,7 @@ use Rattle.st_parse.specs.declared.statements.Item.TheVariants.{Column as Column
 use Rattle.st_parse.specs.declared.statements.Whole.TheVariants.{Fits}
 use Rattle.tb_table.specs.declared.columns.Column.{Column}
 use Rattle.tb_table.specs.Tables.{Tables}
-use Rattle.ix_context.specs.declared.hits.Hit.{Hit}
+use Rattle.ix_search.specs.declared.hits.Hit.{Hit}
 use Rattle.db_cond.specs.Lines.{line}
 use Rattle.db_rows.specs.declared.sources.Source.TheVariants.{Key, Number, Text}
 use Rattle.db_rows.specs.Values.{row_values}

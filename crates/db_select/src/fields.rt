@@ -12,7 +12,7 @@ use crate::sources::FieldSource;
 use ct_base::{Memory, Name, Value};
 use ct_keep::{KeepFault, Keeper};
 use db_rows::{RowRead, column_value};
-use ix_context::Hit;
+use ix_search::Hit;
 use std::alloc::Global;
 
 /// The value of a field of a row; None where the row has none.

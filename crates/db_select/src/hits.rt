@@ -5,7 +5,11 @@ ghost use Rattle.std.specs.Prelude.{◌≡◌, ◌++◌, ◌∷◌, [], nat_lt, 
 ghost use Rattle.std.specs.Bool.{if◌then◌else◌};
 ghost use Rattle.std.specs.FinMap.{get};
 ghost use Rattle.ct_keep.specs.KeeperViews.{OnlyReads};
-ghost use Rattle.ix_context.specs.Indexes.{Index, found};
+ghost use Rattle.std.specs.Option.{option_map};
+ghost use Rattle.q_tree.specs.Trees.{reduced_of};
+ghost use Rattle.ix_context.specs.Indexes.{Index};
+ghost use Rattle.ix_search.specs.Finding.{found};
+ghost use Rattle.db_select.specs.Meanings.{CanSearch, CanSearchIt};
 ghost use Rattle.db_state.specs.States.{OverIndex, OverTable};
 ghost use Rattle.db_rows.specs.Meeting.{key_meets};
 ghost use Rattle.db_select.specs.Checking.{threshold_of};
@@ -17,11 +21,11 @@ ghost use Rattle.db_select.specs.Sources.{found_scores, unscored as unscored_hit
 use ct_base::{Memory, Name, RowKey};
 use ct_keep::{KeepFault, Keeper};
 use db_rows::{meets, rows_meeting};
-use ix_context::{Hit, search};
+use ix_search::{Hit, search};
+use q_tree::Flat;
 use st_parse::Cond;
 use std::alloc::Global;
 use tb_table::Column;
-use tx_chars::Key;
 
 /// Keeps the rows with a score above a number.
 fn keep_above(hits: &mut Vec<Hit>, above: u32)
@@ -30,42 +34,44 @@ fn keep_above(hits: &mut Vec<Hit>, above: u32)
     hits.retain(|hit| above < hit.score);
 }
 
-/// The rows that have a key with a score above a number, in order of their keys.
+/// The rows to which a query gives a score above a number, in order of their keys.
 fn hits_above<K: Keeper>(
     alloc: Global,
     keeper: &mut K,
     index: &Name,
-    key: &Key,
+    flat: &Flat,
     above: u32,
 ) -> Result<Vec<Hit>, KeepFault>
-    requires { (K.view keeper.old).ready }
-    ensures found { OverIndex K.view keeper.old index.now (λ m x. IfOk result (λ hits. found_scores hits.items ≡ found m.tables x key.now above)) }
+    requires ready { (K.view keeper.old).ready }
+    requires searchable { CanSearch flat.now }
+    ensures found { OverIndex K.view keeper.old index.now (λ m x. IfOk result (λ hits. found_scores hits.items ≡ found m.tables x (reduced_of flat.now) above)) }
     ensures reads { OnlyReads K.view keeper.old keeper.new result }
 {
-    let mut hits = search(alloc, keeper, index, key)?;
+    let mut hits = search(alloc, keeper, index, flat)?;
     keep_above(&mut hits, above);
     Ok(hits)
 }
 
-/// The rows that a query finds with a score above a number, in order of their keys; none without a key or a number.
+/// The rows that a query finds with a score above a number, in order of their keys; none without a query or a number.
 fn found_hits<K: Keeper>(
     alloc: Global,
     keeper: &mut K,
     index: &Name,
-    key: &Option<Key>,
+    flat: &Option<Flat>,
     above: Option<u32>,
 ) -> Result<Vec<Hit>, KeepFault>
-    requires { (K.view keeper.old).ready }
-    ensures found { OverIndex K.view keeper.old index.now (λ m x. IfOk result (λ hits. found_scores hits.items ≡ found_by m.tables x (Finds key.now) above)) }
+    requires ready { (K.view keeper.old).ready }
+    requires searchable { CanSearchIt flat.now }
+    ensures found { OverIndex K.view keeper.old index.now (λ m x. IfOk result (λ hits. found_scores hits.items ≡ found_by m.tables x (Finds (option_map reduced_of flat.now)) above)) }
     ensures reads { OnlyReads K.view keeper.old keeper.new result }
 {
-    let Some(key) = key else {
+    let Some(flat) = flat else {
         return Ok(Vec::new(alloc));
     };
     let Some(above) = above else {
         return Ok(Vec::new(alloc));
     };
-    hits_above(alloc, keeper, index, key, above)
+    hits_above(alloc, keeper, index, flat, above)
 }
 
 /// Puts a row that meets the conditions.
@@ -126,15 +132,16 @@ pub(crate) fn searched_hits<K: Keeper>(
     index: &Name,
     table: &Name,
     columns: &[Column],
-    key: &Option<Key>,
+    flat: &Option<Flat>,
     above: Option<u32>,
     conds: &[Cond],
 ) -> Result<Vec<Hit>, KeepFault>
-    requires { (K.view keeper.old).ready }
-    ensures hits { OverTable K.view keeper.old table.now (λ m c x. x.columns ≡ columns.now → (y : Index) (s : Search) → get m.indexes index.now ≡ Some y → index_of_search m table.now columns.now s ≡ Some y → meaning_of y.prefs s.query ≡ Finds key.now → threshold_of s.above ≡ above → IfOk result (λ found. found_scores found.items ≡ hits m table.now x (Some s) conds.now)) }
+    requires ready { (K.view keeper.old).ready }
+    requires searchable { CanSearchIt flat.now }
+    ensures hits { OverTable K.view keeper.old table.now (λ m c x. x.columns ≡ columns.now → (y : Index) (s : Search) → get m.indexes index.now ≡ Some y → index_of_search m table.now columns.now s ≡ Some y → meaning_of y.prefs s.query ≡ Finds (option_map reduced_of flat.now) → threshold_of s.above ≡ above → IfOk result (λ found. found_scores found.items ≡ hits m table.now x (Some s) conds.now)) }
     ensures reads { OnlyReads K.view keeper.old keeper.new result }
 {
-    let found = found_hits(alloc, keeper, index, key, above)?;
+    let found = found_hits(alloc, keeper, index, flat, above)?;
     met_hits(alloc, keeper, table, columns, conds, &found)
 }
 

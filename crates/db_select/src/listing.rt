@@ -16,7 +16,7 @@ use ct_base::{Memory, Name};
 use ct_keep::{KeepFault, Keeper};
 use db_cond::{line, no_rows};
 use db_state::fixed_reply;
-use ix_context::Hit;
+use ix_search::Hit;
 use st_parse::SelectList;
 use std::alloc::Global;
 use tb_table::Column;

@@ -5,21 +5,20 @@ ghost use Rattle.std.specs.Prelude.{◌≡◌, not, ◌∷◌, [], IfOk, MatchOp
 ghost use Rattle.std.specs.List.{list_all};
 ghost use Rattle.ct_keep.specs.KeeperViews.{OnlyReads};
 ghost use Rattle.q_tree.specs.Limits.{has_wildcard, keeps_limits};
-ghost use Rattle.q_tree.specs.Trees.{Term, reduced_of, tree_of};
+ghost use Rattle.q_tree.specs.Trees.{tree_of};
 ghost use Rattle.db_cond.specs.Refused.{refusal_of};
 ghost use Rattle.db_state.specs.States.{OverIndex};
-ghost use Rattle.db_select.specs.Meanings.{Means};
-ghost use Rattle.db_select.specs.Querying.{has_built_forms as tree_is_built, is_built_leaf, meaning_of as text_meaning, meaning_of_reduced, meaning_of_tree, not_searched_yet, Refuses, Finds};
+ghost use Rattle.db_select.specs.Meanings.{Means, IsSearchable};
+ghost use Rattle.db_select.specs.Querying.{has_built_forms as tree_is_built, is_built_leaf, meaning_of as text_meaning, meaning_of_tree, Refuses};
 
-use ct_base::{Memory, Name};
+use ct_base::{Listed, Memory, Name};
 use ct_keep::{KeepFault, Keeper};
 use db_cond::{Fault, fault_line};
 use ix_context::prefs_of;
 use q_parse::{QueryFault, parse};
 use q_reduce::{ReduceCtx, ReduceFault, reduce};
-use q_tree::{Flat, Leaf, Phrase, Query, Slot, Word, WordSlot};
+use q_tree::{Flat, Leaf, Query, Word, WordSlot};
 use std::alloc::Global;
-use tx_chars::Key;
 use tx_settings::Prefs;
 
 /// What a query text means to an index.
@@ -27,8 +26,8 @@ use tx_settings::Prefs;
 pub(crate) enum Meaning {
     /// It is refused, with this line.
     Refused(Vec<u8>),
-    /// It finds the documents that have this key; without one nothing.
-    Finds(Option<Key>),
+    /// It finds what this reduced query does; without one nothing.
+    Finds(Option<Flat>),
 }
 
 /// Whether a word has no wildcard.
@@ -62,7 +61,21 @@ fn is_built_leaf(leaf: &Leaf) -> bool
     }
 }
 
-/// Whether all parts of a query are built: no wildcards, thesauri, nearness, sections and DEFINESCORE.
+/// Whether the leaves of each operand are built.
+fn are_built_operands(operands: &[Listed<Leaf>]) -> bool
+    ensures { result ≡ list_all (list_all is_built_leaf) operands.now }
+{
+    operands.iter().all(|leaves| are_built_leaves(leaves))
+}
+
+/// Whether the leaves of an operand are built.
+fn are_built_leaves(leaves: &Listed<Leaf>) -> bool
+    ensures { result ≡ list_all is_built_leaf leaves.now }
+{
+    leaves.as_slice().iter().all(|leaf| is_built_leaf(leaf))
+}
+
+/// Whether all forms of a query are searched: no wildcards, thesauri and DEFINESCORE.
 fn has_built_forms(query: &Query) -> bool
     ensures { result ≡ tree_is_built (tree_of query.now) }
 {
@@ -71,81 +84,25 @@ fn has_built_forms(query: &Query) -> bool
         Query::And(a, b) | Query::Or(a, b) | Query::Not(a, b) | Query::Minus(a, b) => {
             has_built_forms(a) && has_built_forms(b)
         }
-        Query::Weight(_, a) | Query::Above(_, a) => has_built_forms(a),
-        Query::Near { .. } | Query::Within(_, _) | Query::Define(_, _) => false,
+        Query::Weight(_, a) | Query::Above(_, a) | Query::Within(_, a) => has_built_forms(a),
+        Query::Near { operands, .. } => are_built_operands(operands.as_slice()),
+        Query::Define(_, _) => false,
     }
 }
 
 /// The meaning of a text that is refused.
 fn refused(alloc: Global, fault: Fault<'_>) -> Result<Meaning, Memory>
-    ensures { IfOk result (λ meaning. Means meaning (Refuses (refusal_of fault.entry))) }
+    ensures meaning { IfOk result (λ meaning. Means meaning (Refuses (refusal_of fault.entry))) }
+    ensures searchable { IfOk result (λ meaning. IsSearchable meaning) }
 {
     Ok(Meaning::Refused(fault_line(alloc, fault)?))
-}
-
-/// The key of a slot that takes one key and nothing else.
-fn slot_key(slot: &Slot) -> Option<&Key>
-    ensures { MatchOption result (meaning_of_reduced (Term ((slot.now ∷ []) ∷ [])) ≡ Refuses not_searched_yet) (λ key. meaning_of_reduced (Term ((slot.now ∷ []) ∷ [])) ≡ Finds (Some key.now)) }
-{
-    let Slot::Takes { keys, patterns } = slot else {
-        return None;
-    };
-    let [key] = keys.as_slice() else {
-        return None;
-    };
-    if patterns.as_slice().is_empty() {
-        Some(key)
-    } else {
-        None
-    }
-}
-
-/// The key of a phrase that has one slot, which takes one key and nothing else.
-fn phrase_key(phrase: &Phrase) -> Option<&Key>
-    ensures { MatchOption result (meaning_of_reduced (Term (phrase.now ∷ [])) ≡ Refuses not_searched_yet) (λ key. meaning_of_reduced (Term (phrase.now ∷ [])) ≡ Finds (Some key.now)) }
-{
-    let [slot] = phrase.as_slice() else {
-        return None;
-    };
-    slot_key(slot)
-}
-
-/// The key that a reduced query is, where it is one.
-fn only_key(flat: &Flat) -> Option<&Key>
-    ensures { MatchOption result (meaning_of_reduced (reduced_of flat.now) ≡ Refuses not_searched_yet) (λ key. meaning_of_reduced (reduced_of flat.now) ≡ Finds (Some key.now)) }
-{
-    let Flat::Term(phrases) = flat else {
-        return None;
-    };
-    let [phrase] = phrases.as_slice() else {
-        return None;
-    };
-    phrase_key(phrase)
-}
-
-/// A key once more.
-fn key_again(alloc: Global, key: &Key) -> Result<Key, Memory>
-    ensures { IfOk result (λ copy. copy ≡ key.now) }
-{
-    let mut bytes = Vec::new(alloc);
-    bytes.extend_from_slice(key.as_slice())?;
-    Ok(Key::of(bytes))
-}
-
-/// The meaning of a reduced query.
-fn meaning_of_flat(alloc: Global, flat: &Flat) -> Result<Meaning, Memory>
-    ensures { IfOk result (λ meaning. Means meaning (meaning_of_reduced (reduced_of flat.now))) }
-{
-    match only_key(flat) {
-        Some(key) => Ok(Meaning::Finds(Some(key_again(alloc, key)?))),
-        None => refused(alloc, Fault::NotInProfile(1)),
-    }
 }
 
 /// The meaning of a query that was read.
 fn meaning_of_query(alloc: Global, prefs: &Prefs, query: &Query) -> Result<Meaning, Memory>
     requires limits { keeps_limits (tree_of query.now) ≡ true }
-    ensures { IfOk result (λ meaning. Means meaning (meaning_of_tree prefs.now (tree_of query.now))) }
+    ensures meaning { IfOk result (λ meaning. Means meaning (meaning_of_tree prefs.now (tree_of query.now))) }
+    ensures searchable { IfOk result (λ meaning. IsSearchable meaning) }
 {
     if !has_built_forms(query) {
         return refused(alloc, Fault::NotInProfile(1));
@@ -156,8 +113,7 @@ fn meaning_of_query(alloc: Global, prefs: &Prefs, query: &Query) -> Result<Meani
         group: &prefs.group,
     };
     match reduce(alloc, query, &ctx) {
-        Ok(Some(flat)) => meaning_of_flat(alloc, &flat),
-        Ok(None) => Ok(Meaning::Finds(None)),
+        Ok(found) => Ok(Meaning::Finds(found)),
         Err(ReduceFault::NoSection(name)) => refused(alloc, Fault::UnknownSection(name.as_str())),
         Err(ReduceFault::FieldInside(name)) => refused(alloc, Fault::FieldInside(name.as_str())),
         Err(ReduceFault::ManyTokens(place)) => refused(alloc, Fault::NotOneWord(place)),
@@ -165,9 +121,10 @@ fn meaning_of_query(alloc: Global, prefs: &Prefs, query: &Query) -> Result<Meani
     }
 }
 
-/// What a query text means to an index with these preferences: that it is refused, finds nothing, or finds the documents of a key.
+/// What a query text means to an index with these preferences: that it is refused, finds nothing, or finds what a reduced query does.
 pub(crate) fn meaning_of(alloc: Global, prefs: &Prefs, text: &str) -> Result<Meaning, Memory>
-    ensures { IfOk result (λ meaning. Means meaning (text_meaning prefs.now text.now)) }
+    ensures meaning { IfOk result (λ meaning. Means meaning (text_meaning prefs.now text.now)) }
+    ensures searchable { IfOk result (λ meaning. IsSearchable meaning) }
 {
     match parse(alloc, text) {
         Ok(query) => meaning_of_query(alloc, prefs, &query),
@@ -190,6 +147,7 @@ pub(crate) fn meaning_in<K: Keeper>(
 ) -> Result<Meaning, KeepFault>
     requires { (K.view keeper.old).ready }
     ensures meaning { OverIndex K.view keeper.old index.now (λ m x. IfOk result (λ meaning. Means meaning (text_meaning x.prefs text.now))) }
+    ensures searchable { IfOk result (λ meaning. IsSearchable meaning) }
     ensures reads { OnlyReads K.view keeper.old keeper.new result }
 {
     let prefs = prefs_of(alloc, keeper, index)?;

@@ -79,9 +79,9 @@ fn select_searched<K: Keeper>(
     let meaning = meaning_in(alloc, keeper, &index, search.query)?;
     match meaning {
         Meaning::Refused(line) => Ok(line),
-        Meaning::Finds(key) => {
+        Meaning::Finds(flat) => {
             let above = threshold_of(search.above);
-            let hits = searched_hits(alloc, keeper, &index, table, columns, &key, above, conds)?;
+            let hits = searched_hits(alloc, keeper, &index, table, columns, &flat, above, conds)?;
             rows_reply(alloc, keeper, table, columns, list, &hits)
         }
     }

@@ -1,10 +1,5 @@
-pub mod MappedEntries
-pub mod FoundLaws
 pub mod EntrySteps
 pub mod MarkSteps
 pub mod NoteSteps
 pub mod ShapeSteps
-pub mod SearchSteps
-pub mod WordLaws
-pub mod SearchLaws
 pub mod SyncSteps

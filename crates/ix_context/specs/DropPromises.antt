@@ -1,5 +1,5 @@
--- What the functions of `src/laws.rt` promise of indexes and tables that are dropped, and of rows that no query finds.
-use Rattle.std.specs.Prelude.{ℕ, ℤ, ◌≡◌, true, false, List, Contains, Option}
+-- What the functions of `src/laws.rt` promise of indexes and tables that are dropped.
+use Rattle.std.specs.Prelude.{ℕ, ◌≡◌, true, List, Option}
 use Rattle.std.specs.FinMap.{get, remove}
 use Rattle.ct_keep.specs.Content.{Content}
 use Rattle.ct_entry.specs.Keys.{Key, at, same_list}
@@ -7,8 +7,7 @@ use Rattle.ct_entry.specs.Changes.{view}
 use Rattle.ct_entry.specs.Each.{is_among}
 use Rattle.ct_entry.specs.Maps.{Names}
 use Rattle.tb_table.specs.Tables.{Tables}
-use Rattle.ix_docmap.specs.Marks.{is_settled}
-use Rattle.ix_context.specs.Indexes.{Index, marks_in, note_gone, note_changed, found}
+use Rattle.ix_context.specs.Indexes.{Index}
 use Rattle.ix_context.specs.Rules.{AreIndexes}
 use Rattle.ix_context.specs.Standing.{IndexesStand}
 use Rattle.ix_context.specs.Promises.{is_on}
@@ -48,20 +47,3 @@ abbrev pub AllRemovedIndexesLoseEntries : Type 0
 AllRemovedIndexesLoseEntries =
     (names : List (List ℕ)) (m : Content) (f : Key → Option (List ℕ)) → ((k : Key) → is_of_indexes k.kind ≡ true → f k ≡ at m k)
     → LosesIndexes (λ q. is_among q names) f (view (remove_all_changes m names) f)
-
--- ---- rows that no query finds
-
--- a row that isn't settled
-abbrev pub UnsettledRowsAreNotFound : Type 0
-UnsettledRowsAreNotFound =
-    (ts : Tables) (x : Index) (key : List ℕ) (n : ℕ) (r : ℤ) (score : ℕ) → is_settled (get (marks_in x.body) r) ≡ false → Contains (found ts x key n) (r, score) → ⊥
-
--- so a row that went
-abbrev pub LostRowsAreNotFound : Type 0
-LostRowsAreNotFound =
-    (ts : Tables) (x : Index) (cost : ℕ) (key : List ℕ) (n : ℕ) (r : ℤ) (score : ℕ) → Contains (found ts (record x { body = note_gone cost r x.body }) key n) (r, score) → ⊥
-
--- and one that was set, until the next synchronisation
-abbrev pub ChangedRowsAreNotFound : Type 0
-ChangedRowsAreNotFound =
-    (ts : Tables) (x : Index) (cost : ℕ) (key : List ℕ) (n : ℕ) (r : ℤ) (score : ℕ) → Contains (found ts (record x { body = note_changed cost r x.body }) key n) (r, score) → ⊥

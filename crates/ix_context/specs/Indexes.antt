@@ -1,7 +1,6 @@
 -- Text indexes, the marks of their rows, and what statements make of both.
-use Rattle.std.specs.Prelude.{ℕ, ℤ, zero, suc, ◌+◌, nat_lt, Bool, not, ◌&&◌, List, length, map, filter, Option, Some, None, pos, negsuc, ◌≡◌, [], ◌∷◌, codes, refl}
+use Rattle.std.specs.Prelude.{ℕ, ℤ, zero, suc, ◌+◌, Bool, not, ◌&&◌, List, length, map, filter, Option, Some, None, pos, negsuc, ◌≡◌, [], ◌∷◌, codes, refl}
 use Rattle.std.specs.Bool.{if◌then◌else◌}
-use Rattle.std.specs.List.{filter_map, cons_option}
 use Rattle.std.specs.Option.{option_and_then}
 use Rattle.std.specs.Ordering.{int_cmp, is_lt}
 use Rattle.std.specs.FinMap.{get, insert, remove, entries, from_entries, from_sorted, entries-from_sorted, get-insert}
@@ -14,15 +13,8 @@ use Rattle.ix_rows.specs.Stores.{Tidiness, Untidy, Packed}
 use Rattle.ix_docmap.specs.Marks.{Mark, Pending, Settled, Marks, queued}
 use Rattle.ix_context.specs.declared.ranges.KeyRange.{KeyRange}
 use Rattle.tx_settings.specs.declared.preferences.Prefs.{Prefs}
-use Rattle.tx_settings.specs.Defaults.{default_prefs, plain}
-use Rattle.tx_tags.specs.Groups.{zones}
-use Rattle.ix_context.specs.Postings.{word_score}
-use Rattle.std.specs.Str.{chars}
-use lib.Utf8.{encode}
-use Rattle.ucd_category.proofs.Computing.{ucd_category}
-use Rattle.caseless.proofs.Computing.{caseless}
-use Rattle.tx_chars.specs.Keys.{key_text}
-use Rattle.std.proofs.Common.{ap, ◌∙◌}
+use Rattle.tx_settings.specs.Defaults.{default_prefs}
+use Rattle.std.proofs.Common.{ap}
 use Rattle.std.proofs.lemmas.Cmp.{int_cmp_total}
 
 -- ---- what an index has by its kind
@@ -92,24 +84,6 @@ text_seen ts x r = option_and_then (λ vs. text_of vs x.column) (row_at ts x.tab
 -- the text of a row in a column
 abbrev pub target_text : Tables → Target → ℤ → Option (List ℕ)
 target_text ts target r = option_and_then (λ vs. text_of vs target.column) (row_at ts target.table r)
-
--- ---- what queries find
-
--- a row with its score, where the score is above n
-abbrev pub if_above : ℕ → ℤ → ℕ → Option (ℤ × ℕ)
-if_above n r score = if nat_lt n score then Some (r, score) else None
-
-abbrev pub scored : Prefs → List ℕ → ℕ → ℤ → Option (List ℕ) → Option (ℤ × ℕ)
-scored p key n r None = None
-scored p key n r (Some text) = if_above n r (word_score p key text)
-
-abbrev pub found_at : Tables → Index → List ℕ → ℕ → ℤ → Mark (Unit {0}) → Option (ℤ × ℕ)
-found_at ts x key n r Pending = None
-found_at ts x key n r (Settled _) = scored x.prefs key n r (text_seen ts x r)
-
--- The settled rows whose text has a score above n for this word, with their scores, in order of their keys: found by scanning every row.
-abbrev pub found : Tables → Index → List ℕ → ℕ → List (ℤ × ℕ)
-found ts x key n = filter_map (λ e. found_at ts x key n e.0 e.1) (entries (marks_in x.body))
 
 -- ---- what statements make of an index
 
@@ -187,35 +161,6 @@ abbrev pub with_index : Tables → Names Index → List ℕ → Target → Prefs
 with_index ts xs i target prefs range = insert xs i (created ts target prefs range)
 
 -- computed examples
-above : if_above 1 (pos 7) 2 ≡ Some (pos 7, 2)
-above = refl
-
-only_as_high : if_above 2 (pos 7) 2 ≡ None
-only_as_high = refl
-
-twice : scored default_prefs (codes "quick") 0 (pos 1) (Some (codes "quick fox, Quick.")) ≡ Some (pos 1, 2)
-unfolding encode chars caseless ucd_category key_text
-twice = refl
-
-nowhere : scored default_prefs (codes "slow") 0 (pos 1) (Some (codes "quick fox")) ≡ None
-unfolding encode chars caseless ucd_category key_text
-nowhere = refl
-
-no_text : scored default_prefs (codes "quick") 0 (pos 1) None ≡ None
-no_text = refl
-
--- what an invisible field encloses isn't found, and what a zone does is
-hidden : scored (plain zones) (codes "alpha") 0 (pos 1) (Some (codes "<T>alpha</T> <P>beta</P>")) ≡ None
-unfolding encode chars caseless ucd_category key_text
-hidden = refl
-
-in_a_zone : scored (plain zones) (codes "beta") 0 (pos 1) (Some (codes "<T>alpha</T> <P>beta</P>")) ≡ Some (pos 1, 1)
-unfolding encode chars caseless ucd_category key_text
-in_a_zone = refl
-
-not_yet : (ts : Tables) (x : Index) (key : List ℕ) → found_at ts x key 0 (pos 1) Pending ≡ None
-not_yet ts x key = refl
-
 -- three rows, of which the last waits
 abbrev three_marks : List (ℤ × Mark (Unit {0}))
 three_marks = (pos 1, Settled tt) ∷ (pos 2, Settled tt) ∷ (pos 3, Pending) ∷ []
@@ -225,14 +170,6 @@ two_given = record { given = 2; tidiness = Untidy; waste = 64 }
 
 abbrev three_rows : Index
 three_rows = record { table = codes "docs"; column = 1; prefs = default_prefs; body = OfContext (record { part = two_given; marks = from_sorted three_marks }) }
-
-two_found : (ts : Tables) → text_seen ts three_rows (pos 1) ≡ Some (codes "a fox") → text_seen ts three_rows (pos 2) ≡ Some (codes "fox fox")
-    → found ts three_rows (codes "fox") 0 ≡ (pos 1, 1) ∷ (pos 2, 2) ∷ []
-unfolding encode chars caseless ucd_category key_text
-two_found ts one two =
-    ap (λ (es : List (ℤ × Mark (Unit {0}))). filter_map (λ e. found_at ts three_rows (codes "fox") 0 e.0 e.1) es) (entries-from_sorted int_cmp three_marks tt)
-    ∙ ap (λ (o : Option (List ℕ)). cons_option (scored default_prefs (codes "fox") 0 (pos 1) o) (cons_option (scored default_prefs (codes "fox") 0 (pos 2) (text_seen ts three_rows (pos 2))) [])) one
-    ∙ ap (λ (o : Option (List ℕ)). (pos 1, 1) ∷ cons_option (scored default_prefs (codes "fox") 0 (pos 2) o) []) two
 
 one_waits : pending_rows three_rows ≡ pos 3 ∷ []
 one_waits = ap (λ (es : List (ℤ × Mark (Unit {0}))). keys_where in_queue es) (entries-from_sorted int_cmp three_marks tt)

@@ -7,7 +7,6 @@ pub mod Standing
 pub mod Stands
 pub mod Sees
 pub mod Changes
-pub mod Scoring
 pub mod Limits
 pub mod Room
 pub mod Shapes

@@ -1,5 +1,5 @@
 -- What a text has for an index: the words of each stream, and the sections, with where they stand.
-use Rattle.std.specs.Prelude.{ℕ, ◌≡◌, ◌==◌, ◌≤◌, ◌<◌, ◌^◌, Bool, true, false, nat_le, min, List, [], ◌∷◌, length, map, Option, Some, None, codes, refl}
+use Rattle.std.specs.Prelude.{ℕ, ◌≡◌, ◌==◌, ◌≤◌, ◌<◌, ◌^◌, Bool, true, false, nat_le, List, [], ◌∷◌, length, map, Option, Some, None, codes, refl}
 use Rattle.std.specs.Bool.{if◌then◌else◌}
 use Rattle.std.specs.List.{filter_map}
 use Rattle.std.specs.Str.{chars}
@@ -24,7 +24,7 @@ use Rattle.tx_document.specs.declared.views.DocView.{DocView}
 use Rattle.tx_document.specs.declared.entries.Entry.{Entry}
 use Rattle.tx_settings.specs.Defaults.{default_prefs, plain}
 use Rattle.tx_document.specs.Documents.{document, pair}
-use Rattle.tx_document.specs.Entries.{Place, section_stream, places_of, positions_of, entry, entry_of, entries}
+use Rattle.tx_document.specs.Entries.{Place, section_stream, places_of, entry, entry_of, entries}
 use Rattle.ix_posting.specs.Rows.{Rise}
 use Rattle.ix_posting.specs.SpanRows.{PairsRise, no_pair}
 use Rattle.ix_rows.specs.WordRows.{word_term}
@@ -37,14 +37,6 @@ text_document p text = document p (chars text)
 -- where its words and sections stand
 abbrev pub text_places : Prefs → List ℕ → List Place
 text_places p text = places_of (text_document p text)
-
--- the positions of a key in the main stream
-abbrev pub positions : Prefs → List ℕ → List ℕ → List ℕ
-positions p key text = positions_of 0 key (text_document p text).words
-
--- the score of one word on a text: how often it stands in the main stream, and at most 100
-abbrev pub word_score : Prefs → List ℕ → List ℕ → ℕ
-word_score p key text = min 100 (length (positions p key text))
 
 -- ---- its entries as terms
 
@@ -117,29 +109,9 @@ if_short (Some text) = if nat_le (length text) text_limit then Some text else No
 
 -- ---- computed examples
 
-quick : positions default_prefs (codes "quick") (codes "quick fox quick") ≡ 1 ∷ 3 ∷ []
-unfolding encode chars caseless ucd_category key_text
-quick = refl
-
-twice : word_score default_prefs (codes "quick") (codes "quick fox, Quick.") ≡ 2
-unfolding encode chars caseless ucd_category key_text
-twice = refl
-
-nowhere : positions default_prefs (codes "slow") (codes "quick fox") ≡ []
-unfolding encode chars caseless ucd_category key_text
-nowhere = refl
-
--- the field t is invisible: what it encloses isn't found in the main stream, but it is in the field's, and the zones p and q are sections
+-- the field t is invisible: what it encloses is in the stream of the field, and not in the main stream; and the zones p and q are sections
 abbrev with_tags : List ℕ
 with_tags = codes "<T>alpha</T> <Q>one <P>beta</P></Q>"
-
-hidden : word_score (plain zones) (codes "alpha") with_tags ≡ 0
-unfolding encode chars caseless ucd_category key_text
-hidden = refl
-
-shown : word_score (plain zones) (codes "beta") with_tags ≡ 1
-unfolding encode chars caseless ucd_category key_text
-shown = refl
 
 its_places : text_places (plain zones) with_tags
     ≡ (1 ∷ codes "alpha", pair 1 1) ∷ (0 ∷ codes "one", pair 2 2) ∷ (0 ∷ codes "beta", pair 3 3) ∷ (255 ∷ codes "p", pair 3 3) ∷ (255 ∷ codes "q", pair 2 3) ∷ []

@@ -1,10 +1,8 @@
 -- What the functions of `src/laws.rt` promise of all indexes.
-use Rattle.std.specs.Prelude.{ℕ, ℤ, ◌≡◌, ◌↔◌, ◌+◌, ◌<◌, ◌≤◌, Bool, true, false, List, [], ◌∷◌, length, Contains, Option, Some, None, codes, refl}
-use Rattle.std.specs.Ordering.{int_cmp}
+use Rattle.std.specs.Prelude.{ℕ, ℤ, ◌≡◌, ◌+◌, ◌≤◌, Bool, true, false, List, [], ◌∷◌, length, Option, Some, None, codes, refl}
 use Rattle.std.specs.FinMap.{get}
 use Rattle.ct_base.specs.Names.{IsName}
 use Rattle.ct_base.specs.declared.lists.Value.{Value}
-use Rattle.ct_keep.specs.RisingKeys.{rises}
 use Rattle.ct_entry.specs.Keys.{Key, same_list, IsRow}
 use Rattle.ct_entry.specs.Changes.{view}
 use Rattle.ct_entry.specs.Each.{each, is_among}
@@ -16,10 +14,8 @@ use Rattle.tb_table.specs.Rules.{AreTables}
 use Rattle.tx_settings.specs.declared.preferences.Prefs.{Prefs}
 use Rattle.tx_settings.specs.PrefsBytes.{IsPrefs}
 use Rattle.ix_context.specs.declared.ranges.KeyRange.{KeyRange}
-use Rattle.ix_context.specs.Postings.{word_score}
-use Rattle.ix_context.specs.Indexes.{Index, given, marks_in, pending_rows, text_seen, found, noted, noted_on, synced, in_range, rows_in, with_index}
+use Rattle.ix_context.specs.Indexes.{Index, given, marks_in, pending_rows, noted, noted_on, synced, in_range, rows_in, with_index}
 use Rattle.ix_context.specs.Rules.{IsTarget, AreIndexes, most_given}
-use Rattle.ix_docmap.specs.Marks.{Settled}
 use Rattle.ix_context.specs.Standing.{IndexesStand}
 use Rattle.ix_context.specs.Changes.{note_insert_changes, sync_changes, create_changes}
 
@@ -115,25 +111,6 @@ CreatesKeepIndexRules =
     (ts : Tables) (xs : Names Index) (i : List ℕ) (target : Target) (prefs : Prefs) (range : KeyRange)
     → IsName i → get xs i ≡ None → IsTarget ts target.table target.column → IsPrefs prefs → IsFreeColumn xs target.table target.column → HasAllRows range
     → length (rows_in ts target.table range) ≤ most_given → AreTables ts → AreIndexes ts xs → AreIndexes ts (with_index ts xs i target prefs range)
-
--- ---- what a query finds, row by row
-
--- The row is marked, the index sees a text of it, and the word has this score on the text, which is above n.
-pub record IsFound (ts : Tables) (x : Index) (key : List ℕ) (n : ℕ) (r : ℤ) (score : ℕ) : Type 0 where
-  pub marked : get (marks_in x.body) r ≡ Some (Settled tt)
-  pub text : List ℕ
-  pub seen : text_seen ts x r ≡ Some text
-  pub scores : score ≡ word_score x.prefs key text
-  pub above : n < score
-
--- Exactly the rows that are so are listed, each with its score.
-abbrev pub FoundIsExact : Type 0
-FoundIsExact =
-    (ts : Tables) (x : Index) (key : List ℕ) (n : ℕ) (r : ℤ) (score : ℕ) → Contains (found ts x key n) (r, score) ↔ IsFound ts x key n r score
-
--- Their keys strictly rise, so none is listed twice.
-abbrev pub FoundRises : Type 0
-FoundRises = (ts : Tables) (x : Index) (key : List ℕ) (n : ℕ) → rises int_cmp (found ts x key n) ≡ true
 
 -- computed examples
 two_names : AreDistinct (codes "di" ∷ codes "ti" ∷ [])

@@ -5,10 +5,9 @@ use Rattle.ct_bytes.specs.Varints.{varint, text_bytes}
 use Rattle.ct_base.specs.Names.{IsName}
 use Rattle.ct_entry.specs.declared.kinds.Kind.{Kind}
 use Rattle.ct_entry.specs.declared.kinds.Kind.TheVariants as kind
-use Rattle.ct_entry.specs.Keys.{Key, key, prefix_of}
+use Rattle.ct_entry.specs.Keys.{Key, key}
 use Rattle.ct_entry.specs.Changes.{put}
 use Rattle.tb_table.specs.declared.columns.Target.{Target}
-use Rattle.ix_rows.specs.WordRows.{word_term}
 use Rattle.tx_settings.specs.declared.preferences.Prefs.{Prefs}
 use Rattle.tx_settings.specs.Defaults.{default_prefs}
 use Rattle.tx_settings.specs.PrefsBytes.{prefs_bytes, IsPrefs}
@@ -31,14 +30,6 @@ index_change i target prefs next = put (key kind.Indexes i []) (index_bytes targ
 
 abbrev pub index_entry : Index → List ℕ
 index_entry x = index_bytes x.table x.column x.prefs (given x + 1)
-
--- what follows the index in the keys of a word's rows of postings in the main stream, up to the end of the word
-abbrev pub word_prefix : List ℕ → List ℕ
-word_prefix word = word_term 0 word
-
--- what these keys begin with
-abbrev pub postings_prefix : List ℕ → List ℕ → List ℕ
-postings_prefix i word = prefix_of kind.Postings i ++ word_prefix word
 
 -- ---- the kinds
 
@@ -80,6 +71,3 @@ an_entry = refl
 with_a_stopword : index_bytes (codes "t") 1 (record default_prefs { stop = codes "is" ∷ [] }) 3 ≡ 1 ∷ 1 ∷ 0x74 ∷ 1 ∷ 0 ∷ 0 ∷ 1 ∷ 2 ∷ 0x69 ∷ 0x73 ∷ 2 ∷ 0 ∷ 0 ∷ 0 ∷ 0 ∷ 0 ∷ 0 ∷ 3 ∷ 0 ∷ 0 ∷ 0 ∷ []
 unfolding varint encode
 with_a_stopword = refl
-
-the_foxes : postings_prefix (codes "di") (codes "fox") ≡ 0x24 ∷ 2 ∷ 0x64 ∷ 0x69 ∷ 0 ∷ 3 ∷ codes "fox"
-the_foxes = refl

@@ -14,7 +14,6 @@ pub mod Reading
 pub mod Limits
 pub mod Well
 pub mod Shapes
-pub mod Scores
 pub mod Weights
 pub mod OnTables
 pub mod RowSteps

@@ -1,8 +1,8 @@
 //! What holds of all indexes. Each function here only states laws, which its contract proves.
 
-ghost use Rattle.ix_context.specs.Promises.{IndexesStayWithTables, IndexesStayWithRows, NotedRowsStand, SyncedIndexesStand, CreatedIndexesStand, NotesOfRowsStand, NewTablesKeepIndexRules, NewRowsKeepIndexRules, SyncsKeepIndexRules, CreatesKeepIndexRules, HasAllRows, FoundIsExact, FoundRises};
+ghost use Rattle.ix_context.specs.Promises.{IndexesStayWithTables, IndexesStayWithRows, NotedRowsStand, SyncedIndexesStand, CreatedIndexesStand, NotesOfRowsStand, NewTablesKeepIndexRules, NewRowsKeepIndexRules, SyncsKeepIndexRules, CreatesKeepIndexRules, HasAllRows};
 ghost use Rattle.ix_context.specs.RowPromises.{IndexStandsWithoutRow, IndexStandsWithChangedRow, IndexesStandWithoutRow, IndexesStandWithChangedRow, IndexesStandWithoutRows, IndexesStandWithChangedRows, LostRowsKeepIndexRules, ChangedRowsKeepIndexRules};
-ghost use Rattle.ix_context.specs.DropPromises.{RemovedIndexesLoseEntries, AllRemovedIndexesLoseEntries, IndexesStandWithoutOne, IndexesStandWithoutTable, DroppedIndexesKeepIndexRules, DroppedTablesKeepIndexRules, UnsettledRowsAreNotFound, LostRowsAreNotFound, ChangedRowsAreNotFound};
+ghost use Rattle.ix_context.specs.DropPromises.{RemovedIndexesLoseEntries, AllRemovedIndexesLoseEntries, IndexesStandWithoutOne, IndexesStandWithoutTable, DroppedIndexesKeepIndexRules, DroppedTablesKeepIndexRules};
 
 use crate::ranges::KeyRange;
 
@@ -33,13 +33,6 @@ pub fn rules_stay()
 /// All row keys lie in the widest range.
 pub fn all_in_range()
     ensures { HasAllRows KeyRange.ALL }
-{}
-
-/// What a query finds by scanning: exactly the rows that are settled and of which the index sees a text on which the word has
-/// a score above the number, each with that score, in the order of the row keys and none twice.
-pub fn found_is_exact()
-    ensures exact { FoundIsExact }
-    ensures rising { FoundRises }
 {}
 
 /// Where entries spell an index, its changes of a row that goes or is set make them spell the index after that; and so do those
@@ -80,11 +73,4 @@ pub fn removals_lose()
 pub fn drop_rules_stay()
     ensures index { DroppedIndexesKeepIndexRules }
     ensures table { DroppedTablesKeepIndexRules }
-{}
-
-/// No query finds a row that isn't settled: one that went, or one that was set, until the next synchronisation.
-pub fn unsettled_not_found()
-    ensures unsettled { UnsettledRowsAreNotFound }
-    ensures gone { LostRowsAreNotFound }
-    ensures changed { ChangedRowsAreNotFound }
 {}

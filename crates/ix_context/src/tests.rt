@@ -7,12 +7,12 @@ ghost use Rattle.tb_table.specs.Shapes.{HaveShortTexts};
 ghost use Rattle.tx_settings.specs.Attributes.{can_be_set};
 
 use crate::{
-    Hit, KeyRange, create, is_index_shape, note_delete, note_insert, note_update, prefs_of,
-    query_key, search, sync,
+    KeyRange, create, is_index_shape, note_delete, note_insert, note_update, prefs_of, sync,
 };
-use ct_base::{Memory, Name, RowKey, Text};
+use ct_base::{DocId, Memory, Name, RowKey, Text};
 use ct_entry::Kind;
 use ct_keep::{Batch, Change, Keeper, MemKeeper};
+use ix_docmap::{pending, row_of};
 use std::alloc::Global;
 use std::test::Fail;
 use tb_table::{Target, insert};
@@ -134,21 +134,43 @@ fn settle(alloc: Global, keeper: &mut MemKeeper, index: &Name) -> Result<usize, 
     Ok(count)
 }
 
-fn say_hit(alloc: Global, line: &mut String, hit: Hit) -> Result<(), Memory> {
-    let RowKey(row) = hit.key;
-    let score = hit.score;
-    let text = format!(in alloc; "{row}:{score} ")?;
+/// Puts the row that is this document of an index, if there is one.
+fn put_document(
+    alloc: Global,
+    keeper: &mut MemKeeper,
+    index: &Name,
+    line: &mut String,
+    document: u32,
+) -> Result<(), Fail> {
+    if let Some(RowKey(row)) = row_of(alloc, keeper, index, DocId(document))? {
+        let text = format!(in alloc; "{document}:{row} ")?;
+        line.push_str(text.as_str())?;
+    }
+    Ok(())
+}
+
+/// The rows that are the documents 1 to 5 of an index.
+fn documents(alloc: Global, keeper: &mut MemKeeper, index: &Name) -> Result<String, Fail> {
+    let mut line = String::new(alloc);
+    for document in 1..6 {
+        put_document(alloc, keeper, index, &mut line, document)?;
+    }
+    Ok(line)
+}
+
+fn put_row(alloc: Global, line: &mut String, key: RowKey) -> Result<(), Memory> {
+    let RowKey(row) = key;
+    let text = format!(in alloc; "+{row} ")?;
     line.push_str(text.as_str())?;
     Ok(())
 }
 
-/// The rows that have a word, each with its score.
-fn found(alloc: Global, keeper: &mut MemKeeper, index: &Name, word: &str) -> Result<String, Fail> {
-    let word = query_key(alloc, keeper, index, word)?;
-    let hits = search(alloc, keeper, index, &word)?;
-    let mut line = String::new(alloc);
-    for hit in hits.iter() {
-        say_hit(alloc, &mut line, *hit)?;
+/// The rows that are the documents 1 to 5 of an index, and then those that wait.
+fn marks(alloc: Global, keeper: &mut MemKeeper, index: &Name) -> Result<String, Fail> {
+    let mut line = documents(alloc, keeper, index)?;
+    let waiting = pending(alloc, keeper, index)?;
+    for key in waiting.iter() {
+        put_row(alloc, &mut line, *key)?;
     }
     Ok(line)
 }
@@ -162,25 +184,11 @@ fn indexed(alloc: Global, index: &Name, range: KeyRange) -> Result<MemKeeper, Fa
     Ok(keeper)
 }
 
-/// What a word finds in a new index on those rows.
-fn found_at_once(alloc: Global, range: KeyRange, word: &str) -> Result<String, Fail> {
+/// The marks of a new index on those rows.
+fn marked_at_once(alloc: Global, range: KeyRange) -> Result<String, Fail> {
     let index = named(alloc, "di")?;
     let mut keeper = indexed(alloc, &index, range)?;
-    found(alloc, &mut keeper, &index, word)
-}
-
-/// What a word finds there after another row, and again after so many synchronisations.
-fn found_later(alloc: Global, word: &str, times: u32) -> Result<(String, usize), Fail> {
-    let index = named(alloc, "di")?;
-    let mut keeper = indexed(alloc, &index, KeyRange::ALL)?;
-    add_row(alloc, &mut keeper, 3, "quick")?;
-    add_note(alloc, &mut keeper, &index, 3)?;
-    let mut count = 0;
-    for _ in 0..times {
-        count = settle(alloc, &mut keeper, &index)?;
-    }
-    let line = found(alloc, &mut keeper, &index, word)?;
-    Ok((line, count))
+    marks(alloc, &mut keeper, &index)
 }
 
 /// The rows 7 and -12 of that table are documents of an index, and the row 3 waits.
@@ -191,83 +199,77 @@ fn indexed_and_waiting(alloc: Global, index: &Name) -> Result<MemKeeper, Fail> {
     Ok(keeper)
 }
 
-/// How many changes it takes that a row goes, what a word finds then, and what it finds after a synchronisation.
-fn found_without(alloc: Global, row: i64, word: &str) -> Result<(usize, String, String), Fail> {
+/// The marks of that index after so many synchronisations, and how many changes the last of them took.
+fn marked_later(alloc: Global, times: u32) -> Result<(String, usize), Fail> {
+    let index = named(alloc, "di")?;
+    let mut keeper = indexed_and_waiting(alloc, &index)?;
+    let mut count = 0;
+    for _ in 0..times {
+        count = settle(alloc, &mut keeper, &index)?;
+    }
+    let line = marks(alloc, &mut keeper, &index)?;
+    Ok((line, count))
+}
+
+/// How many changes it takes that a row goes, the marks then, and the marks after a synchronisation.
+fn marked_without(alloc: Global, row: i64) -> Result<(usize, String, String), Fail> {
     let index = named(alloc, "di")?;
     let mut keeper = indexed_and_waiting(alloc, &index)?;
     let count = lose(alloc, &mut keeper, &index, row)?;
-    let before = found(alloc, &mut keeper, &index, word)?;
+    let before = marks(alloc, &mut keeper, &index)?;
     settle(alloc, &mut keeper, &index)?;
-    let after = found(alloc, &mut keeper, &index, word)?;
+    let after = marks(alloc, &mut keeper, &index)?;
     Ok((count, before, after))
 }
 
 /// The same where a row gets another text.
-fn found_rewritten(
-    alloc: Global,
-    row: i64,
-    text: &str,
-    word: &str,
-) -> Result<(usize, String, String), Fail>
-    requires { length text.now ≤ 100 }
-{
+fn marked_rewritten(alloc: Global, row: i64) -> Result<(usize, String, String), Fail> {
     let index = named(alloc, "di")?;
     let mut keeper = indexed_and_waiting(alloc, &index)?;
-    let count = rewrite(alloc, &mut keeper, &index, row, text)?;
-    let before = found(alloc, &mut keeper, &index, word)?;
+    let count = rewrite(alloc, &mut keeper, &index, row, "slow quick cat")?;
+    let before = marks(alloc, &mut keeper, &index)?;
     settle(alloc, &mut keeper, &index)?;
-    let after = found(alloc, &mut keeper, &index, word)?;
+    let after = marks(alloc, &mut keeper, &index)?;
     Ok((count, before, after))
 }
 
 #[test]
-fn rows_are_documents_of_a_new_index(rt: HostRuntime) -> Result<(), Fail> {
-    let foxes = found_at_once(rt.alloc(), KeyRange::ALL, "Fox")?;
-    assert_eq!(&rt; foxes.as_str(), "-12:1 7:1 ");
-    Ok(())
-}
-
-#[test]
-fn an_index_has_the_rows_in_its_range(rt: HostRuntime) -> Result<(), Fail> {
+fn rows_in_the_range_are_documents(rt: HostRuntime) -> Result<(), Fail> {
+    let all = marked_at_once(rt.alloc(), KeyRange::ALL)?;
+    assert_eq!(&rt; all.as_str(), "1:-12 2:7 ");
     let range = KeyRange {
         from: RowKey(-11),
         to: RowKey(7),
     };
-    let foxes = found_at_once(rt.alloc(), range, "fox")?;
-    assert_eq!(&rt; foxes.as_str(), "7:1 ");
+    let some = marked_at_once(rt.alloc(), range)?;
+    assert_eq!(&rt; some.as_str(), "1:7 ");
     Ok(())
 }
 
 #[test]
-fn a_row_waits(rt: HostRuntime) -> Result<(), Fail> {
-    let (line, count) = found_later(rt.alloc(), "quick", 0)?;
-    assert_eq!(&rt; line.as_str(), "7:2 ");
-    assert_eq!(&rt; count, 0);
-    Ok(())
-}
-
-#[test]
-fn a_synchronisation_takes_it_out_of_the_queue(rt: HostRuntime) -> Result<(), Fail> {
-    let (line, count) = found_later(rt.alloc(), "quick", 1)?;
-    assert_eq!(&rt; line.as_str(), "3:1 7:2 ");
+fn a_row_waits_until_the_synchronisation(rt: HostRuntime) -> Result<(), Fail> {
+    let (before, _) = marked_later(rt.alloc(), 0)?;
+    assert_eq!(&rt; before.as_str(), "1:-12 2:7 +3 ");
+    let (after, count) = marked_later(rt.alloc(), 1)?;
+    assert_eq!(&rt; after.as_str(), "1:-12 2:7 3:3 ");
     // out of the queue, its document, its row, one token, and the entry of the index
     assert_eq!(&rt; count, 5);
     Ok(())
 }
 
 #[test]
-fn a_second_one_finds_nothing_to_do(rt: HostRuntime) -> Result<(), Fail> {
-    let (line, count) = found_later(rt.alloc(), "quick", 2)?;
-    assert_eq!(&rt; line.as_str(), "3:1 7:2 ");
+fn a_second_one_has_nothing_to_do(rt: HostRuntime) -> Result<(), Fail> {
+    let (line, count) = marked_later(rt.alloc(), 2)?;
+    assert_eq!(&rt; line.as_str(), "1:-12 2:7 3:3 ");
     assert_eq!(&rt; count, 0);
     Ok(())
 }
 
 #[test]
 fn a_document_goes(rt: HostRuntime) -> Result<(), Fail> {
-    let (count, before, after) = found_without(rt.alloc(), 7, "quick")?;
-    assert_eq!(&rt; before.as_str(), "");
-    assert_eq!(&rt; after.as_str(), "3:1 ");
+    let (count, before, after) = marked_without(rt.alloc(), 7)?;
+    assert_eq!(&rt; before.as_str(), "1:-12 +3 ");
+    assert_eq!(&rt; after.as_str(), "1:-12 3:3 ");
     // its document, and its row
     assert_eq!(&rt; count, 2);
     Ok(())
@@ -275,37 +277,20 @@ fn a_document_goes(rt: HostRuntime) -> Result<(), Fail> {
 
 #[test]
 fn a_row_that_waits_goes(rt: HostRuntime) -> Result<(), Fail> {
-    let (count, before, after) = found_without(rt.alloc(), 3, "quick")?;
-    assert_eq!(&rt; before.as_str(), "7:2 ");
-    assert_eq!(&rt; after.as_str(), "7:2 ");
+    let (count, before, after) = marked_without(rt.alloc(), 3)?;
+    assert_eq!(&rt; before.as_str(), "1:-12 2:7 ");
+    assert_eq!(&rt; after.as_str(), "1:-12 2:7 ");
     assert_eq!(&rt; count, 1);
     Ok(())
 }
 
 #[test]
 fn a_document_gets_another_text(rt: HostRuntime) -> Result<(), Fail> {
-    let (count, before, after) = found_rewritten(rt.alloc(), 7, "slow quick cat", "slow")?;
-    assert_eq!(&rt; before.as_str(), "-12:1 ");
-    assert_eq!(&rt; after.as_str(), "-12:1 7:1 ");
+    let (count, before, after) = marked_rewritten(rt.alloc(), 7)?;
+    assert_eq!(&rt; before.as_str(), "1:-12 +3 +7 ");
+    assert_eq!(&rt; after.as_str(), "1:-12 3:3 4:7 ");
     // its document, its row, and the queue
     assert_eq!(&rt; count, 3);
-    Ok(())
-}
-
-#[test]
-fn its_old_text_is_found_no_more(rt: HostRuntime) -> Result<(), Fail> {
-    let (_, before, after) = found_rewritten(rt.alloc(), 7, "slow quick cat", "fox")?;
-    assert_eq!(&rt; before.as_str(), "-12:1 ");
-    assert_eq!(&rt; after.as_str(), "-12:1 ");
-    Ok(())
-}
-
-#[test]
-fn a_row_that_waits_gets_another_text(rt: HostRuntime) -> Result<(), Fail> {
-    let (count, before, after) = found_rewritten(rt.alloc(), 3, "slow fox", "fox")?;
-    assert_eq!(&rt; before.as_str(), "-12:1 7:1 ");
-    assert_eq!(&rt; after.as_str(), "-12:1 3:1 7:1 ");
-    assert_eq!(&rt; count, 0);
     Ok(())
 }
 
@@ -356,41 +341,22 @@ fn waiting_in(alloc: Global, index: &Name, prefs: &Prefs, text: &str) -> Result<
     Ok(keeper)
 }
 
-/// How many changes it takes to settle a row with this text in an index with these preferences, and what a word finds then.
-fn found_by(alloc: Global, prefs: &Prefs, text: &str, word: &str) -> Result<(usize, String), Fail>
+/// How many changes it takes to settle a row with this text in an index with these preferences.
+fn settled_by(alloc: Global, prefs: &Prefs, text: &str) -> Result<usize, Fail>
     requires set { can_be_set prefs.now.lexer ≡ true }
     requires short { length text.now ≤ 100 }
 {
     let index = named(alloc, "di")?;
     let mut keeper = waiting_in(alloc, &index, prefs, text)?;
-    let count = settle(alloc, &mut keeper, &index)?;
-    let line = found(alloc, &mut keeper, &index, word)?;
-    Ok((count, line))
+    settle(alloc, &mut keeper, &index)
 }
 
 #[test]
-fn an_invisible_field_is_not_found(rt: HostRuntime) -> Result<(), Fail> {
+fn words_of_each_stream_and_sections_have_entries(rt: HostRuntime) -> Result<(), Fail> {
     let prefs = with_sections(rt.alloc())?;
-    let (count, line) = found_by(rt.alloc(), &prefs, "<T>alpha</T> <P>beta</P>", "alpha")?;
-    assert_eq!(&rt; line.as_str(), "");
+    let count = settled_by(rt.alloc(), &prefs, "<T>alpha</T> <P>beta</P>")?;
     // out of the queue, its document, its row, a word in the field, one in the main stream, a section, and the entry
     assert_eq!(&rt; count, 7);
-    Ok(())
-}
-
-#[test]
-fn what_a_zone_encloses_is_found(rt: HostRuntime) -> Result<(), Fail> {
-    let prefs = with_sections(rt.alloc())?;
-    let (_, line) = found_by(rt.alloc(), &prefs, "<T>alpha</T> <P>beta</P>", "beta")?;
-    assert_eq!(&rt; line.as_str(), "1:1 ");
-    Ok(())
-}
-
-#[test]
-fn case_is_kept_by_preferences(rt: HostRuntime) -> Result<(), Fail> {
-    let prefs = with_case(rt.alloc())?;
-    let (_, line) = found_by(rt.alloc(), &prefs, "Fox fox Fox", "Fox")?;
-    assert_eq!(&rt; line.as_str(), "1:2 ");
     Ok(())
 }
 

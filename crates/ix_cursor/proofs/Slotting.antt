@@ -1,5 +1,5 @@
 -- Slots and phrases, one after the other.
-use Rattle.std.proofs.Common.{ℕ, ◌≡◌, ◌≤◌, ◌<◌, ◌&&◌, ◌+◌, ◌⊎◌, inl, inr, Bool, true, false, List, [], ◌∷◌, Option, Some, None, map, set, get_or, length, zero, suc, nat_le, subst, refl, sym, ap, ◌∙◌, arith}
+use Rattle.std.proofs.Common.{ℕ, ◌≡◌, ◌≤◌, ◌<◌, ◌&&◌, ◌+◌, ◌⊎◌, inl, inr, Bool, true, false, List, [], ◌∷◌, ◌++◌, Option, Some, None, map, set, get_or, length, zero, suc, nat_le, subst, refl, sym, ap, ◌∙◌, arith}
 use Rattle.std.specs.List.{filter, flat_map}
 use Rattle.ct_base.specs.declared.numbers.Pair.{Pair}
 use Rattle.q_tree.specs.Scores.{near_score}
@@ -9,6 +9,7 @@ use Rattle.ix_spans.specs.Occurrences.{Slots, has, fits_at, occurs_at, is_start,
 use Rattle.ix_posting.specs.declared.rows.RowDocument.{RowDocument}
 use Rattle.ix_cursor.specs.declared.feeds.TokenFeeds.{TokenFeeds}
 use Rattle.ix_spans.specs.Rising.{Rising}
+use Rattle.ix_spans.specs.Slots.{SlotRises, SlotsRise}
 use Rattle.q_tree.specs.Documents.{put_all}
 use Rattle.q_tree.specs.laws.Postings.{put_all_rises}
 use Rattle.ix_cursor.specs.declared.feeds.PhraseFeed.{PhraseFeed}
@@ -131,6 +132,18 @@ silent_near os span ordered lo hi h = rw (no_choice os lo hi h) refl
 pub union_rises : (rs : List (List RowDocument)) (d : ℕ) → Rising (union_at rs d)
 union_rises [] d = tt
 union_rises (r ∷ rs) d = put_all_rises (places_at r d) (union_at rs d) (union_rises rs d)
+
+pub slot_rises : (o : Option TokenFeeds) (d : ℕ) → SlotRises (slot_at o d)
+slot_rises None d = tt
+slot_rises (Some t) d = union_rises t.tokens.items d
+
+pub slots_rise : (os : SlotDocuments) (d : ℕ) → SlotsRise (slots_at os d)
+slots_rise [] d = tt
+slots_rise (o ∷ os) d = (slot_rises o d, slots_rise os d)
+
+pub first_slots_rise : (ss ts : Slots) → SlotsRise (ss ++ ts) → SlotsRise ss
+first_slots_rise [] ts h = tt
+first_slots_rise (s ∷ ss) ts h = (h.0, first_slots_rise ss ts h.1)
 
 pub tokens_set : (rs : List (List RowDocument)) (i : ℕ) (r x : List RowDocument) (d : ℕ) → x ≡ get_or rs i x → places_at r d ≡ places_at x d → union_at (set rs i r) d ≡ union_at rs d
 tokens_set [] i r x d is h = refl

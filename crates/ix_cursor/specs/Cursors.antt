@@ -1,18 +1,14 @@
 -- What a cursor gives.
-use Rattle.std.specs.Prelude.{ℕ, ◌≡◌, ◌<◌, ◌≤◌, ◌^◌, max, nat_lt, Bool, Option, Some, None}
+use Rattle.std.specs.Prelude.{ℕ, ◌≡◌, ◌<◌, ◌≤◌, ◌^◌, max, nat_lt, Option, Some, None}
 use Rattle.std.specs.Bool.{if◌then◌else◌}
 use Rattle.ct_base.specs.declared.numbers.DocId.{DocId}
-use Rattle.q_tree.specs.Scores.{last_position}
 use Rattle.ix_cursor.specs.declared.nodes.Node.{Node}
 use Rattle.ix_cursor.specs.declared.cursors.Cursor.{Cursor}
 use Rattle.ix_cursor.specs.declared.cursors.Scored.{Scored}
 use Rattle.ix_cursor.specs.declared.cursors.Standing.{Standing}
 use Rattle.ix_cursor.specs.declared.cursors.Standing.TheVariants.{Before, At, After}
-use Rattle.ix_cursor.specs.Nodes.{score_at, KeepsScores}
-
--- the score of a document, over all its words
-abbrev pub whole_score : Node → ℕ → ℕ
-whole_score n d = score_at n d 1 last_position
+use Rattle.ix_cursor.specs.Nodes.{KeepsScores}
+use Rattle.ix_cursor.specs.Candidates.{whole_score, NoneBetween}
 
 -- what is left of a score where the cursor stands
 abbrev pub unless_passed : Standing → ℕ → ℕ → ℕ
@@ -22,7 +18,7 @@ unless_passed After d score = 0
 
 -- The score of each document that the cursor hasn't passed; of those that it has, 0. The present one isn't passed.
 abbrev pub remaining : Cursor → ℕ → ℕ
-remaining c d = unless_passed c.standing d (whole_score c.root d)
+remaining c d = unless_passed c.standing d (whole_score c.root.value d)
 
 abbrev pub standing_score : Standing → ℕ
 standing_score Before = 0
@@ -54,10 +50,6 @@ from_found (Some x) score d = if nat_lt d x.0 then 0 else score d
 abbrev pub score_found : Option DocId → (ℕ → ℕ) → ℕ
 score_found None score = 0
 score_found (Some x) score = score x.0
-
--- no document from one number to below another has a score
-abbrev pub NoneBetween : Node → ℕ → ℕ → Type 0
-NoneBetween n from to = (d : ℕ) → from ≤ d → d < to → whole_score n d ≡ 0
 
 pub record FindsOne (old new : Node) (from : ℕ) (x : Scored) : Type 0 where
   pub at_least : from ≤ x.document

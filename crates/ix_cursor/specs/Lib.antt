@@ -5,6 +5,8 @@ pub mod Documents
 pub mod SpanDocuments
 pub mod Seeking
 pub mod Feeding
+pub mod Seen
 pub mod Nodes
 pub mod Reading
+pub mod Candidates
 pub mod Cursors

@@ -1,11 +1,13 @@
 -- The scores of a cursor's nodes.
-use Rattle.std.specs.Prelude.{ℕ, ◌≡◌, ◌-◌, ◌≤◌, min, max, List, [], ◌∷◌, Option}
+use Rattle.std.specs.Prelude.{ℕ, ◌≡◌, ◌-◌, ◌≤◌, min, max, List, Option}
 use Rattle.ix_spans.specs.Occurrences.{term_score}
-use Rattle.q_tree.specs.Scores.{unless, weighted, if_above, near_score, greatest_within}
+use Rattle.q_tree.specs.Trees.{Reduced}
+use Rattle.q_tree.specs.Scores.{DocPostings, score, unless, weighted, if_above, near_score, greatest_within}
 use Rattle.ix_cursor.specs.declared.nodes.Node.{Node}
 use Rattle.ix_cursor.specs.declared.nodes.Node.TheVariants.{Term, And', Or', Not', Minus', Weight', Above', Near, Within', Done}
 use Rattle.ix_cursor.specs.SpanDocuments.{pairs_at}
 use Rattle.ix_cursor.specs.Feeding.{phrases_at, operands_at}
+use Rattle.ix_cursor.specs.Seen.{seen_phrases, seen_operands}
 use Rattle.ix_cursor.specs.Seeking.{Before}
 
 -- the score of a document within lo to hi
@@ -18,8 +20,29 @@ score_at (Minus' p a q b) d lo hi = score_at a d lo hi - score_at b d lo hi
 score_at (Weight' w p a) d lo hi = weighted w (score_at a d lo hi)
 score_at (Above' n p a) d lo hi = if_above n (score_at a d lo hi)
 score_at (Near n) d lo hi = near_score (operands_at n.operands.items d) n.span n.ordered lo hi
-score_at (Within' s p a) d lo hi = greatest_within (λ l h. score_at a d l h) lo hi (pairs_at s d)
+score_at (Within' s p a) d lo hi = greatest_within (λ l h. score_at a d l h) lo hi (pairs_at s.value.documents d)
 score_at Done d lo hi = 0
+
+-- the score of the document that was seen last, within lo to hi
+abbrev pub seen_score : Node → ℕ → ℕ → ℕ
+seen_score (Term t) lo hi = term_score (seen_phrases t.phrases.items) lo hi
+seen_score (And' p a q b) lo hi = min (seen_score a lo hi) (seen_score b lo hi)
+seen_score (Or' p a q b) lo hi = max (seen_score a lo hi) (seen_score b lo hi)
+seen_score (Not' p a q b) lo hi = unless (seen_score a lo hi) (seen_score b lo hi)
+seen_score (Minus' p a q b) lo hi = seen_score a lo hi - seen_score b lo hi
+seen_score (Weight' w p a) lo hi = weighted w (seen_score a lo hi)
+seen_score (Above' n p a) lo hi = if_above n (seen_score a lo hi)
+seen_score (Near n) lo hi = near_score (seen_operands n.operands.items) n.span n.ordered lo hi
+seen_score (Within' s p a) lo hi = greatest_within (λ l h. seen_score a l h) lo hi s.value.seen
+seen_score Done lo hi = 0
+
+-- the scores of each document are those of a query over postings and a stream
+abbrev pub Scores : Node → Reduced → (ℕ → DocPostings) → ℕ → Type 0
+Scores n f postings stream = (d lo hi : ℕ) → score_at n d lo hi ≡ score f (postings d) stream lo hi
+
+-- they are those of a query in a section of that name
+abbrev pub ScoresWithin : Node → Reduced → List ℕ → (ℕ → DocPostings) → ℕ → Type 0
+ScoresWithin n f name postings stream = (d lo hi : ℕ) → score_at n d lo hi ≡ greatest_within (λ l h. score f (postings d) stream l h) lo hi ((postings d).spans name)
 
 -- the scores of each document from `to` on have stayed, within any range
 abbrev pub KeepsScores : ℕ → Node → Node → Type 0

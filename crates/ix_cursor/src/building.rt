@@ -1,16 +1,17 @@
 //! The nodes of a query over what was read for it.
 
 ghost use Rattle.std.specs.Prelude.{◌≡◌, ℕ, IfOk};
-ghost use Rattle.q_tree.specs.Trees.{reduced_of};
-ghost use Rattle.q_tree.specs.Scores.{score, slot_positions, phrase_slots, term_slots, operand_slots};
+ghost use Rattle.q_tree.specs.Trees.{reduced_of, Term, Close, Inside};
+ghost use Rattle.q_tree.specs.Scores.{slot_positions, phrase_slots, term_slots, operand_slots};
+ghost use Rattle.ix_cursor.specs.SpanDocuments.{pairs_at};
 ghost use Rattle.ix_cursor.specs.Feeding.{slot_at, slots_at, phrase_at, term_at, operands_at};
-ghost use Rattle.ix_cursor.specs.Nodes.{score_at};
+ghost use Rattle.ix_cursor.specs.Nodes.{Scores, ScoresWithin};
 ghost use Rattle.ix_cursor.specs.Reading.{IsPlain};
 
-use crate::feeds::{PhraseFeed, TermFeed, TokenFeeds};
-use crate::nodes::{NearFeed, Node};
+use crate::feeds::{NearFeed, PhraseFeed, SeenSlots, SpanFeed, TermFeed, TokenFeeds};
+use crate::nodes::Node;
 use crate::sources::Source;
-use ct_base::Memory;
+use ct_base::{Memory, Pairs};
 use q_tree::{Flat, Phrase, Phrases, Place, Slot};
 use std::alloc::Global;
 
@@ -47,7 +48,10 @@ fn feed_of_phrase<S: Source>(
     for slot in phrase {
         slots.push(feed_of_slot(alloc, source, stream, slot)?)?;
     }
-    Ok(PhraseFeed { slots })
+    Ok(PhraseFeed {
+        slots,
+        seen: SeenSlots::empty(alloc),
+    })
 }
 
 /// What a term reads.
@@ -84,78 +88,167 @@ fn feed_of_operands<S: Source>(
     Ok(operands)
 }
 
-/// The node of a query over a stream.
+/// What a section reads.
+fn feed_of_section<S: Source>(
+    alloc: Global,
+    source: &S,
+    name: &str,
+) -> Result<Box<SpanFeed>, Memory>
+    requires { S.well source.now }
+    ensures { IfOk result (λ p. (d : ℕ) → pairs_at p.value.documents d ≡ (S.postings source.now d).spans name.now) }
+{
+    let documents = source.section(alloc, name)?;
+    let seen = Pairs::empty(alloc);
+    Ok(Box::new(alloc, SpanFeed { documents, seen })?)
+}
+
+/// The node in a box.
+fn boxed(alloc: Global, node: Node) -> Result<Box<Node>, Memory>
+    ensures { IfOk result (λ b. b.value ≡ node) }
+{
+    Ok(Box::new(alloc, node)?)
+}
+
+/// The node of a term over a stream.
+fn build_term<S: Source>(
+    alloc: Global,
+    source: &S,
+    phrases: &[Phrase],
+    stream: u8,
+) -> Result<Box<Node>, Memory>
+    requires { S.well source.now }
+    ensures { IfOk result (λ n. Scores n.value (Term phrases.now) (S.postings source.now) stream) }
+{
+    let term = feed_of_term(alloc, source, stream, phrases)?;
+    boxed(alloc, Node::Term(term))
+}
+
+/// The node of operands that are to stand near one another, over a stream.
+fn build_near<S: Source>(
+    alloc: Global,
+    source: &S,
+    terms: &[Phrases],
+    span: u8,
+    ordered: bool,
+    stream: u8,
+) -> Result<Box<Node>, Memory>
+    requires { S.well source.now }
+    ensures { IfOk result (λ n. Scores n.value (Close terms.now span ordered) (S.postings source.now) stream) }
+{
+    let operands = feed_of_operands(alloc, source, stream, terms)?;
+    boxed(
+        alloc,
+        Node::Near(NearFeed {
+            operands,
+            span,
+            ordered,
+        }),
+    )
+}
+
+/// The node of a query over a stream. It goes as deep as the query.
+#[cycle(build)]
 pub(crate) fn build<S: Source>(
     alloc: Global,
     source: &S,
     flat: &Flat,
     stream: u8,
-) -> Result<Node, Memory>
+) -> Result<Box<Node>, Memory>
     requires well { S.well source.now }
     requires plain { IsPlain (reduced_of flat.now) }
-    ensures { IfOk result (λ n. (d lo hi : ℕ) → score_at n d lo hi ≡ score (reduced_of flat.now) (S.postings source.now d) stream lo hi) }
+    ensures { IfOk result (λ n. Scores n.value (reduced_of flat.now) (S.postings source.now) stream) }
 {
     match flat {
-        Flat::Term(phrases) => {
-            let term = feed_of_term(alloc, source, stream, phrases.as_slice())?;
-            Ok(Node::Term(term))
-        }
+        Flat::Term(phrases) => build_term(alloc, source, phrases.as_slice(), stream),
         Flat::And(a, b) => {
-            let first = build(alloc, source, a, stream)?;
-            let second = build(alloc, source, b, stream)?;
-            Ok(Node::And(Box::new(alloc, first)?, Box::new(alloc, second)?))
+            let (first, second) = build_parts(alloc, source, a, b, stream)?;
+            boxed(alloc, Node::And(first, second))
         }
         Flat::Or(a, b) => {
-            let first = build(alloc, source, a, stream)?;
-            let second = build(alloc, source, b, stream)?;
-            Ok(Node::Or(Box::new(alloc, first)?, Box::new(alloc, second)?))
+            let (first, second) = build_parts(alloc, source, a, b, stream)?;
+            boxed(alloc, Node::Or(first, second))
         }
         Flat::Not(a, b) => {
-            let first = build(alloc, source, a, stream)?;
-            let second = build(alloc, source, b, stream)?;
-            Ok(Node::Not(Box::new(alloc, first)?, Box::new(alloc, second)?))
+            let (first, second) = build_parts(alloc, source, a, b, stream)?;
+            boxed(alloc, Node::Not(first, second))
         }
         Flat::Minus(a, b) => {
-            let first = build(alloc, source, a, stream)?;
-            let second = build(alloc, source, b, stream)?;
-            Ok(Node::Minus(Box::new(alloc, first)?, Box::new(alloc, second)?))
+            let (first, second) = build_parts(alloc, source, a, b, stream)?;
+            boxed(alloc, Node::Minus(first, second))
         }
         Flat::Weight(tenths, a) => {
             let node = build(alloc, source, a, stream)?;
-            Ok(Node::Weight(*tenths, Box::new(alloc, node)?))
+            boxed(alloc, Node::Weight(*tenths, node))
         }
         Flat::Above(n, a) => {
             let node = build(alloc, source, a, stream)?;
-            Ok(Node::Above(*n, Box::new(alloc, node)?))
+            boxed(alloc, Node::Above(*n, node))
         }
         Flat::Near {
             operands,
             span,
             ordered,
-        } => {
-            let operands = feed_of_operands(alloc, source, stream, operands.as_slice())?;
-            Ok(Node::Near(NearFeed {
-                operands,
-                span: *span,
-                ordered: *ordered,
-            }))
-        }
-        Flat::Within(Place::Field(field), a) => build(alloc, source, a, *field),
-        Flat::Within(Place::Zone(name), a) => {
-            let node = build(alloc, source, a, stream)?;
-            let section = source.section(alloc, name.as_str())?;
-            Ok(Node::Within(section, Box::new(alloc, node)?))
-        }
-        Flat::Within(Place::Sentence, a) => {
-            let node = build(alloc, source, a, stream)?;
-            let section = source.section(alloc, "sentence")?;
-            Ok(Node::Within(section, Box::new(alloc, node)?))
-        }
-        Flat::Within(Place::Paragraph, a) => {
-            let node = build(alloc, source, a, stream)?;
-            let section = source.section(alloc, "paragraph")?;
-            Ok(Node::Within(section, Box::new(alloc, node)?))
-        }
-        Flat::Define(_, _) => Ok(Node::Done),
+        } => build_near(alloc, source, operands.as_slice(), *span, *ordered, stream),
+        Flat::Within(place, a) => build_within(alloc, source, place, a, stream),
+        Flat::Define(_, _) => boxed(alloc, Node::Done),
     }
+}
+
+/// The nodes of two parts of a query over a stream.
+#[cycle(build)]
+fn build_parts<S: Source>(
+    alloc: Global,
+    source: &S,
+    a: &Flat,
+    b: &Flat,
+    stream: u8,
+) -> Result<(Box<Node>, Box<Node>), Memory>
+    requires well { S.well source.now }
+    requires first { IsPlain (reduced_of a.now) }
+    requires second { IsPlain (reduced_of b.now) }
+    ensures first { IfOk result (λ n. Scores n.0.value (reduced_of a.now) (S.postings source.now) stream) }
+    ensures second { IfOk result (λ n. Scores n.1.value (reduced_of b.now) (S.postings source.now) stream) }
+{
+    let first = build(alloc, source, a, stream)?;
+    let second = build(alloc, source, b, stream)?;
+    Ok((first, second))
+}
+
+/// The node of a part of a query in a place, over a stream.
+#[cycle(build)]
+fn build_within<S: Source>(
+    alloc: Global,
+    source: &S,
+    place: &Place,
+    a: &Flat,
+    stream: u8,
+) -> Result<Box<Node>, Memory>
+    requires well { S.well source.now }
+    requires plain { IsPlain (reduced_of a.now) }
+    ensures { IfOk result (λ n. Scores n.value (Inside place.now (reduced_of a.now)) (S.postings source.now) stream) }
+{
+    match place {
+        Place::Field(field) => build(alloc, source, a, *field),
+        Place::Zone(name) => build_in_section(alloc, source, name.as_str(), a, stream),
+        Place::Sentence => build_in_section(alloc, source, "sentence", a, stream),
+        Place::Paragraph => build_in_section(alloc, source, "paragraph", a, stream),
+    }
+}
+
+/// The node of a part of a query in a section of this name, over a stream.
+#[cycle(build)]
+fn build_in_section<S: Source>(
+    alloc: Global,
+    source: &S,
+    name: &str,
+    a: &Flat,
+    stream: u8,
+) -> Result<Box<Node>, Memory>
+    requires well { S.well source.now }
+    requires plain { IsPlain (reduced_of a.now) }
+    ensures { IfOk result (λ n. ScoresWithin n.value (reduced_of a.now) name.now (S.postings source.now) stream) }
+{
+    let node = build(alloc, source, a, stream)?;
+    let section = feed_of_section(alloc, source, name)?;
+    boxed(alloc, Node::Within(section, node))
 }

@@ -8,6 +8,7 @@ ghost use Rattle.ix_cursor.specs.Reading.{postings_read, FeedsRise, IsPlain};
 ghost use Rattle.ix_cursor.specs.Cursors.{remaining, present_score, from_on, IsFirst, from_found, score_found, Finds};
 
 use crate::building::build;
+use crate::candidates::first_candidate;
 use crate::nodes::Node;
 use crate::reading::Feeds;
 use ct_base::{DocId, Memory};
@@ -25,7 +26,7 @@ enum Standing {
 /// A cursor over the documents that a query scores.
 #[derive(Drop)]
 pub struct Cursor {
-    root: Node,
+    root: Box<Node>,
     standing: Standing,
 }
 
@@ -42,37 +43,31 @@ fn first_scored(alloc: Global, root: &mut Node, from: u32) -> Result<Option<Scor
 {
     let mut at = from;
     'documents: loop {
-        let Some(bound) = root.skip(alloc, at)? else {
+        let Some(document) = first_candidate(alloc, root, at)? else {
             return Ok(None);
         };
-        if bound > at {
-            at = bound;
-            continue;
-        }
-        let score = root.score(alloc, at, 1, u32::MAX)?;
+        root.see(alloc, document)?;
+        let score = root.score(alloc, 1, u32::MAX)?;
         if score > 0 {
-            return Ok(Some(Scored {
-                document: at,
-                score,
-            }));
+            return Ok(Some(Scored { document, score }));
         }
-        if at == u32::MAX {
+        if document == u32::MAX {
             return Ok(None);
         }
-        at += 1;
+        at = document + 1;
     }
 }
 
 impl Cursor {
     /// A cursor before the first document that the query scores, over what was read for it. It decodes no row yet, and shares the rows
-    /// of a feed where the query has its slot several times. Queries with DEFINESCORE are not taken yet.
-    pub fn build(alloc: Global, flat: &Flat, feeds: Feeds) -> Result<Cursor, Memory>
+    /// of the feeds. Queries with DEFINESCORE are not taken yet.
+    pub fn build(alloc: Global, flat: &Flat, feeds: &Feeds) -> Result<Cursor, Memory>
         requires sound { is_sound (reduced_of flat.now) ≡ true }
         requires plain { IsPlain (reduced_of flat.now) }
-        requires rows { FeedsRise feeds }
-        ensures { IfOk result (λ c. (d : ℕ) → d < 2 ^ 32 → remaining c d ≡ score (reduced_of flat.now) (postings_read feeds d) 0 1 last_position) }
+        requires rows { FeedsRise feeds.now }
+        ensures { IfOk result (λ c. (d : ℕ) → d < 2 ^ 32 → remaining c d ≡ score (reduced_of flat.now) (postings_read feeds.now d) 0 1 last_position) }
     {
-        let root = build(alloc, &feeds, flat, 0)?;
+        let root = build(alloc, feeds, flat, 0)?;
         Ok(Cursor {
             root,
             standing: Standing::Before,

@@ -1,15 +1,17 @@
 //! What the parts of a query read.
 
-ghost use Rattle.std.specs.Prelude.{◌≡◌, ◌++◌, IfOk, OnOk, length, map};
-ghost use Rattle.ix_spans.specs.Occurrences.{term_score, phrase_pairs, term_pairs, counted};
-ghost use Rattle.ix_spans.specs.Views.{slot_view, slots_view, pairs_view};
-ghost use Rattle.ix_cursor.specs.Seeking.{Keeps, Bounds, IsNowhere, later, earlier};
+ghost use Rattle.std.specs.Prelude.{◌≡◌, [], IfOk, OnOk};
+ghost use Rattle.ix_spans.specs.Slots.{SlotsRise};
+ghost use Rattle.ix_spans.specs.Views.{slots_view};
+ghost use Rattle.ix_cursor.specs.Seeking.{Keeps, Bounds, IsNowhere, HasNone, later, earlier};
+ghost use Rattle.ix_cursor.specs.SpanDocuments.{pairs_at};
 ghost use Rattle.ix_cursor.specs.Feeding.{union_at, slot_at, slots_at, phrase_at, phrases_at, IsVacant, IsSilent, AreSilent, HasSilent, term_at, operands_at};
 
 use crate::postings::Postings;
-use ct_base::{Memory, Pair};
-use ix_spans::{phrase_pairs, phrase_starts};
+use crate::span_postings::SpanPostings;
+use ct_base::{Memory, Pairs};
 use std::alloc::Global;
+use std::marker::Model;
 
 /// The tokens that a slot takes, each with its documents.
 #[derive(Drop)]
@@ -17,16 +19,79 @@ pub(crate) struct TokenFeeds {
     pub(crate) tokens: Vec<Postings>,
 }
 
-/// The slots of a phrase, each with its documents; None where any key fits.
+/// The positions that each slot of a phrase takes in one document, rising strictly; None where any key fits. Contracts see them as
+/// lists of positions.
+#[derive(Drop)]
+pub(crate) struct SeenSlots {
+    slots: Vec<Option<Vec<u32>>>,
+}
+
+impl Model for SeenSlots {
+    ghost use Rattle.ix_spans.specs.Occurrences.{Slots};
+    ghost use Rattle.ix_spans.specs.Slots.{SlotsRise};
+    ghost use Rattle.ix_spans.specs.Views.{slots_view};
+
+    ghost Value = { Slots };
+
+    ghost view = { λ s. slots_view s.slots.items };
+
+    ghost invariant = { λ s. SlotsRise (slots_view s.slots.items) };
+}
+
+impl SeenSlots {
+    /// No slots, as long as no document was seen.
+    pub(crate) fn empty(alloc: Global) -> SeenSlots
+        ensures { result ≡ [] }
+    {
+        SeenSlots {
+            slots: Vec::new(alloc),
+        }
+    }
+
+    /// The slots with these positions, without a copy.
+    pub(crate) fn of(slots: Vec<Option<Vec<u32>>>) -> SeenSlots
+        requires { SlotsRise (slots_view slots.items) }
+        ensures { result ≡ slots_view slots.items }
+    {
+        SeenSlots { slots }
+    }
+
+    /// The positions slot by slot.
+    pub(crate) fn as_slice(&self) -> &[Option<Vec<u32>>]
+        ensures value { slots_view result.now ≡ self.now }
+        ensures rise { SlotsRise (slots_view result.now) }
+    {
+        self.slots.as_slice()
+    }
+}
+
+/// The slots of a phrase, each with its documents; None where any key fits. Beside them what they have in the document that was seen
+/// last.
 #[derive(Drop)]
 pub(crate) struct PhraseFeed {
     pub(crate) slots: Vec<Option<TokenFeeds>>,
+    pub(crate) seen: SeenSlots,
 }
 
 /// The phrases of a term.
 #[derive(Drop)]
 pub(crate) struct TermFeed {
     pub(crate) phrases: Vec<PhraseFeed>,
+}
+
+/// Operands that are to stand near one another.
+#[derive(Drop)]
+pub(crate) struct NearFeed {
+    pub(crate) operands: Vec<TermFeed>,
+    pub(crate) span: u8,
+    pub(crate) ordered: bool,
+}
+
+/// The documents of a section, and its pairs in the document that was seen last.
+#[derive(Drop)]
+pub(crate) struct SpanFeed {
+    pub(crate) documents: SpanPostings,
+    pub(crate) seen: Pairs,
 }
 
 /// The bound of what needs both.
@@ -148,84 +213,6 @@ fn bound_phrases(phrases: &[PhraseFeed]) -> Option<u32>
     bound
 }
 
-/// The positions that tokens have in a document, each once. Its cost is the number of positions times that of tokens.
-fn union_of(alloc: Global, tokens: &[Postings], document: u32) -> Result<Vec<u32>, Memory>
-    ensures { IfOk result (λ v. v.items ≡ union_at tokens.now document) }
-{
-    let mut out = Vec::new(alloc);
-    let mut left = tokens.len();
-    while left > 0 {
-        left -= 1;
-        out = tokens[left].merge_at(alloc, document, out)?;
-    }
-    Ok(out)
-}
-
-/// The positions that slots take in a document.
-fn positions_of(
-    alloc: Global,
-    slots: &[Option<TokenFeeds>],
-    document: u32,
-) -> Result<Vec<Option<Vec<u32>>>, Memory>
-    ensures { IfOk result (λ v. slots_view v.items ≡ slots_at slots.now document) }
-{
-    let mut out = Vec::new(alloc);
-    for slot in slots {
-        out.push(positions_in(alloc, slot, document)?)?;
-    }
-    Ok(out)
-}
-
-/// The positions that a slot takes in a document.
-fn positions_in(
-    alloc: Global,
-    slot: &Option<TokenFeeds>,
-    document: u32,
-) -> Result<Option<Vec<u32>>, Memory>
-    ensures { IfOk result (λ v. slot_view v ≡ slot_at slot.now document) }
-{
-    match slot {
-        None => Ok(None),
-        Some(feeds) => {
-            let positions = union_of(alloc, &feeds.tokens, document)?;
-            Ok(Some(positions))
-        }
-    }
-}
-
-/// How often a phrase occurs in a document within lo to hi, at most 100.
-fn count_phrase(
-    alloc: Global,
-    phrase: &PhraseFeed,
-    document: u32,
-    lo: u32,
-    hi: u32,
-) -> Result<u32, Memory>
-    ensures { IfOk result (λ k. k ≡ counted (phrase_pairs (phrase_at phrase.now document) lo hi)) }
-{
-    let slots = positions_of(alloc, &phrase.slots, document)?;
-    let mut starts = Vec::new(alloc);
-    phrase_starts(&slots, lo, hi, &mut starts)?;
-    Ok(starts.len().min(100) as u32)
-}
-
-/// The score of a term on a document within lo to hi.
-pub(crate) fn score_phrases(
-    alloc: Global,
-    phrases: &[PhraseFeed],
-    document: u32,
-    lo: u32,
-    hi: u32,
-) -> Result<u32, Memory>
-    ensures { IfOk result (λ k. k ≡ term_score (phrases_at phrases.now document) lo hi) }
-{
-    let mut best = 0;
-    for phrase in phrases {
-        best = count_phrase(alloc, phrase, document, lo, hi)?.max(best);
-    }
-    Ok(best)
-}
-
 /// Passes the documents before `to` in a term.
 pub(crate) fn skip_term(term: &mut TermFeed, alloc: Global, to: u32) -> Result<(), Memory>
     ensures { OnOk result (Keeps to (term_at term.old) (term_at term.new)) }
@@ -262,51 +249,15 @@ pub(crate) fn bound_operands(operands: &[TermFeed]) -> Option<u32>
     bound
 }
 
-/// The occurrences of a phrase in a document within lo to hi, behind what is there.
-fn put_pairs(
+/// Passes the documents before `to` of a section, and tells a document before which it has no pair in any that is left.
+pub(crate) fn skip_section(
+    section: &mut SpanFeed,
     alloc: Global,
-    phrase: &PhraseFeed,
-    document: u32,
-    lo: u32,
-    hi: u32,
-    out: &mut Vec<Pair>,
-) -> Result<(), Memory>
-    ensures { OnOk result (out.new.items ≡ out.old.items ++ phrase_pairs (phrase_at phrase.now document) lo hi) }
+    to: u32,
+) -> Result<Option<u32>, Memory>
+    ensures keeps { OnOk result (Keeps to (pairs_at section.old.documents) (pairs_at section.new.documents)) }
+    ensures bound { IfOk result (λ bound. Bounds HasNone (pairs_at section.new.documents) bound) }
 {
-    let slots = positions_of(alloc, &phrase.slots, document)?;
-    phrase_pairs(&slots, lo, hi, out)
-}
-
-/// The occurrences of a term in a document within lo to hi.
-pub(crate) fn pairs_of_term(
-    alloc: Global,
-    phrases: &[PhraseFeed],
-    document: u32,
-    lo: u32,
-    hi: u32,
-) -> Result<Vec<Pair>, Memory>
-    ensures { IfOk result (λ v. v.items ≡ term_pairs (phrases_at phrases.now document) lo hi) }
-{
-    let mut out = Vec::new(alloc);
-    for phrase in phrases {
-        put_pairs(alloc, phrase, document, lo, hi, &mut out)?;
-    }
-    Ok(out)
-}
-
-/// The occurrences of each operand in a document within lo to hi.
-pub(crate) fn pairs_of_operands(
-    alloc: Global,
-    operands: &[TermFeed],
-    document: u32,
-    lo: u32,
-    hi: u32,
-) -> Result<Vec<Vec<Pair>>, Memory>
-    ensures { IfOk result (λ v. pairs_view v.items ≡ map (λ o. term_pairs o lo hi) (operands_at operands.now document)) }
-{
-    let mut out = Vec::new(alloc);
-    for operand in operands {
-        out.push(pairs_of_term(alloc, &operand.phrases, document, lo, hi)?)?;
-    }
-    Ok(out)
+    section.documents.skip(alloc, to)?;
+    Ok(section.documents.bound())
 }

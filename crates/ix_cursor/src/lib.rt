@@ -2,6 +2,7 @@
 #![tactic(auto)]
 
 mod building;
+mod candidates;
 mod cursors;
 mod encoded;
 mod encoded_spans;
@@ -10,9 +11,12 @@ mod merging;
 mod nodes;
 mod postings;
 mod reading;
+mod scoring;
+mod seeing;
 mod sources;
 mod span_postings;
 
+pub use candidates::Candidates;
 pub use cursors::Cursor;
 pub use encoded::{EncodedRow, EncodedRows};
 pub use encoded_spans::{EncodedSpanRow, EncodedSpanRows};

@@ -1,28 +1,20 @@
 //! The nodes of a cursor.
 
-ghost use Rattle.std.specs.Prelude.{◌≡◌, IfOk, OnOk};
-ghost use Rattle.q_tree.specs.Scores.{unless, weighted, if_above, if_near, near_score};
-ghost use Rattle.ix_cursor.specs.Feeding.{operands_at};
-ghost use Rattle.ix_cursor.specs.Nodes.{score_at, KeepsScores, BoundsScores};
+ghost use Rattle.std.specs.Prelude.{◌≡◌, ℕ, IfOk, OnOk, min, ◌-◌};
+ghost use Rattle.q_tree.specs.Scores.{unless, greatest_within};
+ghost use Rattle.ix_cursor.specs.Nodes.{score_at, seen_score, KeepsScores, BoundsScores};
 
 use crate::feeds::{
-    TermFeed, bound_operands, bound_term, earlier, later, pairs_of_operands, score_phrases,
-    skip_operands, skip_term,
+    NearFeed, SpanFeed, TermFeed, bound_operands, bound_term, earlier, later, skip_operands,
+    skip_section, skip_term,
 };
-use crate::span_postings::SpanPostings;
-use ct_base::Memory;
-use ix_spans::{inside, near_holds};
+use crate::scoring::{if_above, score_near, score_phrases, unless, weighted};
+use crate::seeing::{see_operands, see_section, see_term};
+use ct_base::{Memory, Pair};
+use ix_spans::inside;
 use std::alloc::Global;
 
-/// Operands that are to stand near one another.
-#[derive(Drop)]
-pub(crate) struct NearFeed {
-    pub(crate) operands: Vec<TermFeed>,
-    pub(crate) span: u8,
-    pub(crate) ordered: bool,
-}
-
-/// A part of a query over what it reads.
+/// A part of a query over what it reads, and what that has in the document that was seen last.
 #[derive(Drop)]
 pub(crate) enum Node {
     Term(TermFeed),
@@ -33,51 +25,8 @@ pub(crate) enum Node {
     Weight(u8, Box<Node>),
     Above(u8, Box<Node>),
     Near(NearFeed),
-    Within(SpanPostings, Box<Node>),
+    Within(Box<SpanFeed>, Box<Node>),
     Done,
-}
-
-/// The first score, where the second is 0.
-fn unless(a: u32, b: u32) -> u32
-    ensures { result ≡ unless a b }
-{
-    if b == 0 { a } else { 0 }
-}
-
-/// A weight in tenths, rounded up, at most 100.
-fn weighted(tenths: u8, score: u32) -> u32
-    ensures { result ≡ weighted tenths score }
-{
-    let product = score as u64 * tenths as u64;
-    ((product + 9) / 10).min(100) as u32
-}
-
-/// The score, where it is above a number.
-fn if_above(n: u8, score: u32) -> u32
-    ensures { result ≡ if_above n score }
-{
-    if score > n as u32 { score } else { 0 }
-}
-
-/// 100 where one occurrence of each operand can be chosen so.
-fn if_near(holds: bool) -> u32
-    ensures { result ≡ if_near holds }
-{
-    if holds { 100 } else { 0 }
-}
-
-/// The score of operands that are to stand near one another.
-fn score_near(
-    alloc: Global,
-    near: &NearFeed,
-    document: u32,
-    lo: u32,
-    hi: u32,
-) -> Result<u32, Memory>
-    ensures { IfOk result (λ s. s ≡ near_score (operands_at near.now.operands.items document) near.now.span near.now.ordered lo hi) }
-{
-    let pairs = pairs_of_operands(alloc, &near.operands, document, lo, hi)?;
-    Ok(if_near(near_holds(&pairs, near.span as u32, near.ordered)))
 }
 
 impl Node {
@@ -131,66 +80,133 @@ impl Node {
                 Ok(bound_operands(&near.operands))
             }
             Node::Within(section, a) => {
-                section.skip(alloc, to)?;
-                let bound = a.skip(alloc, to)?;
-                Ok(later(section.bound(), bound))
+                let first = skip_section(section, alloc, to)?;
+                let second = a.skip(alloc, to)?;
+                Ok(later(first, second))
             }
             Node::Done => Ok(None),
         }
     }
 
-    /// The score of a document within lo to hi.
-    pub(crate) fn score(
-        &self,
-        alloc: Global,
-        document: u32,
-        lo: u32,
-        hi: u32,
-    ) -> Result<u32, Memory>
-        ensures { IfOk result (λ s. s ≡ score_at self.now document lo hi) }
+    /// Takes up what each part has in a document, once: the positions of its slots and the pairs of its sections.
+    pub(crate) fn see(&mut self, alloc: Global, document: u32) -> Result<(), Memory>
+        ensures seen { OnOk result ((lo hi : ℕ) → seen_score self.new lo hi ≡ score_at self.old document lo hi) }
+        ensures keeps { OnOk result (KeepsScores 0 self.old self.new) }
     {
         match self {
-            Node::Term(term) => score_phrases(alloc, &term.phrases, document, lo, hi),
+            Node::Term(term) => see_term(term, alloc, document),
             Node::And(a, b) => {
-                let first = a.score(alloc, document, lo, hi)?;
-                let second = b.score(alloc, document, lo, hi)?;
-                Ok(first.min(second))
+                a.see(alloc, document)?;
+                b.see(alloc, document)
             }
             Node::Or(a, b) => {
-                let first = a.score(alloc, document, lo, hi)?;
-                let second = b.score(alloc, document, lo, hi)?;
+                a.see(alloc, document)?;
+                b.see(alloc, document)
+            }
+            Node::Not(a, b) => {
+                a.see(alloc, document)?;
+                b.see(alloc, document)
+            }
+            Node::Minus(a, b) => {
+                a.see(alloc, document)?;
+                b.see(alloc, document)
+            }
+            Node::Weight(_, a) => a.see(alloc, document),
+            Node::Above(_, a) => a.see(alloc, document),
+            Node::Near(near) => see_operands(&mut near.operands, alloc, document),
+            Node::Within(section, a) => {
+                see_section(section, alloc, document)?;
+                a.see(alloc, document)
+            }
+            Node::Done => Ok(()),
+        }
+    }
+
+    /// The score of the document that was seen last, within lo to hi. A part isn't scored where the parts before it settle the score.
+    #[cycle(score)]
+    pub(crate) fn score(&self, alloc: Global, lo: u32, hi: u32) -> Result<u32, Memory>
+        ensures { IfOk result (λ s. s ≡ seen_score self.now lo hi) }
+    {
+        match self {
+            Node::Term(term) => score_phrases(alloc, &term.phrases, lo, hi),
+            Node::And(a, b) => {
+                let first = a.score(alloc, lo, hi)?;
+                b.least_score(alloc, first, lo, hi)
+            }
+            Node::Or(a, b) => {
+                let first = a.score(alloc, lo, hi)?;
+                let second = b.score(alloc, lo, hi)?;
                 Ok(first.max(second))
             }
             Node::Not(a, b) => {
-                let first = a.score(alloc, document, lo, hi)?;
-                let second = b.score(alloc, document, lo, hi)?;
-                Ok(unless(first, second))
+                let first = a.score(alloc, lo, hi)?;
+                b.score_without(alloc, first, lo, hi)
             }
             Node::Minus(a, b) => {
-                let first = a.score(alloc, document, lo, hi)?;
-                let second = b.score(alloc, document, lo, hi)?;
-                Ok(first.saturating_sub(second))
+                let first = a.score(alloc, lo, hi)?;
+                b.score_less(alloc, first, lo, hi)
             }
             Node::Weight(tenths, a) => {
-                let score = a.score(alloc, document, lo, hi)?;
+                let score = a.score(alloc, lo, hi)?;
                 Ok(weighted(*tenths, score))
             }
             Node::Above(n, a) => {
-                let score = a.score(alloc, document, lo, hi)?;
+                let score = a.score(alloc, lo, hi)?;
                 Ok(if_above(*n, score))
             }
-            Node::Near(near) => score_near(alloc, near, document, lo, hi),
-            Node::Within(section, a) => {
-                let mut best = 0;
-                let pairs = section.pairs_at(alloc, document)?;
-                for pair in pairs.as_slice() {
-                    if inside(*pair, lo, hi) {
-                        best = a.score(alloc, document, pair.first, pair.last)?.max(best);
-                    }
-                }
-                Ok(best)
-            }
+            Node::Near(near) => score_near(alloc, near, lo, hi),
+            Node::Within(section, a) => a.score_within(alloc, section.seen.as_slice(), lo, hi),
             Node::Done => Ok(0),
         }
+    }
+
+    /// The lesser of a score and that of this node, which isn't scored where the first is 0.
+    #[cycle(score)]
+    fn least_score(&self, alloc: Global, first: u32, lo: u32, hi: u32) -> Result<u32, Memory>
+        ensures { IfOk result (λ s. s ≡ min first (seen_score self.now lo hi)) }
+    {
+        if first == 0 {
+            return Ok(0);
+        }
+        let second = self.score(alloc, lo, hi)?;
+        Ok(first.min(second))
+    }
+
+    /// A score where that of this node is 0, and else 0. The node isn't scored where the first is 0.
+    #[cycle(score)]
+    fn score_without(&self, alloc: Global, first: u32, lo: u32, hi: u32) -> Result<u32, Memory>
+        ensures { IfOk result (λ s. s ≡ unless first (seen_score self.now lo hi)) }
+    {
+        if first == 0 {
+            return Ok(0);
+        }
+        let second = self.score(alloc, lo, hi)?;
+        Ok(unless(first, second))
+    }
+
+    /// What a score is more than that of this node, at least 0. The node isn't scored where the first is 0.
+    #[cycle(score)]
+    fn score_less(&self, alloc: Global, first: u32, lo: u32, hi: u32) -> Result<u32, Memory>
+        ensures { IfOk result (λ s. s ≡ first - seen_score self.now lo hi) }
+    {
+        if first == 0 {
+            return Ok(0);
+        }
+        let second = self.score(alloc, lo, hi)?;
+        Ok(first.saturating_sub(second))
+    }
+
+    /// The greatest score over the pairs that lie within lo to hi, each as the new range.
+    #[cycle(score)]
+    fn score_within(&self, alloc: Global, pairs: &[Pair], lo: u32, hi: u32) -> Result<u32, Memory>
+        ensures { IfOk result (λ s. s ≡ greatest_within (λ l h. seen_score self.now l h) lo hi pairs.now) }
+    {
+        let mut best = 0;
+        for pair in pairs {
+            if inside(*pair, lo, hi) {
+                best = self.score(alloc, pair.first, pair.last)?.max(best);
+            }
+        }
+        Ok(best)
     }
 }

@@ -1,5 +1,7 @@
+pub mod InOrder
 pub mod Occurrences
 pub mod Rising
+pub mod Slots
 pub mod Views
 pub mod Windows
 pub mod laws

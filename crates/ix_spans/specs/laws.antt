@@ -1,2 +1,4 @@
+pub mod Choices
+pub mod Nearness
 pub mod Rising
 pub mod Starts

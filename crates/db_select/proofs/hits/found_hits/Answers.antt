@@ -1,5 +1,8 @@
 use Rattle.std.proofs.Common.{ℕ, Option, Some, sym, ap, ◌∙◌}
+use Rattle.std.specs.Option.{option_map}
 use Rattle.std.proofs.lemmas.Result.{IfOk-weaker}
+use Rattle.q_tree.specs.declared.flats.Flat.{Flat}
+use Rattle.q_tree.specs.Trees.{reduced_of}
 use Rattle.db_select.specs.Querying.{Finds}
 use Rattle.db_select.specs.Selecting.{found_by}
 use Rattle.db_select.proofs.hits.found_hits.Goals as goal
@@ -9,5 +12,6 @@ returns-clause-found g c = λ m k x holds stands there.
     IfOk-weaker c.hits_above.result _ _
     (λ hits is.
     is
-    ∙ sym (ap (λ key. found_by m.tables x (Finds key) c.args.above) c.in-Some.is ∙ ap (λ (above : Option ℕ). found_by m.tables x (Finds (Some c.in-Some.key)) above) c.in-Some-above.is))
+    ∙ sym (ap (λ (flat : Option Flat). found_by m.tables x (Finds (option_map reduced_of flat)) c.args.above) c.in-Some.is
+    ∙ ap (λ (above : Option ℕ). found_by m.tables x (Finds (Some (reduced_of c.in-Some.flat))) above) c.in-Some-above.is))
     (c.hits_above.ensures.found m k x holds stands there)

@@ -1,7 +1,8 @@
 use Rattle.std.proofs.Common.{◌≡◌, ℕ, ℤ, map, ap, ◌∙◌}
 use Rattle.std.specs.Prelude.{filter, nat_lt}
-use Rattle.ix_context.specs.declared.hits.Hit.{Hit}
-use Rattle.ix_context.specs.Indexes.{found}
+use Rattle.ix_search.specs.declared.hits.Hit.{Hit}
+use Rattle.q_tree.specs.Trees.{reduced_of}
+use Rattle.ix_search.specs.Finding.{found}
 use Rattle.ix_context.specs.laws.Limits.{within_limits}
 use Rattle.db_select.proofs.Scores.{above_filtered, filter_mapped}
 use Rattle.db_select.proofs.hits.hits_above.Goals as goal
@@ -9,11 +10,11 @@ use Rattle.db_select.proofs.hits.hits_above.Goals as goal
 pub returns-clause-found : goal.returns-clause-found
 returns-clause-found g c = λ m k x holds stands there.
     let above = c.args.above in
-    let key = c.args.key.now in
+    let q = reduced_of c.args.flat.now in
     let pair : Hit → ℤ × ℕ = λ h. (h.key.0, h.score) in
     let limits = within_limits m.tables x stands.state.tables (stands.state.indexes.each c.args.index.now x there) in
-    let all : map pair c.in_ok-hits.hits.items ≡ found m.tables x key 0 = c.in_ok-hits.ensures.found k m.tables m.indexes x holds stands.only stands.indexes there limits in
+    let all : map pair c.in_ok-hits.hits.items ≡ found m.tables x q 0 = c.in_ok-hits.ensures.found k m.tables m.indexes x holds stands.only stands.indexes there limits (stands.state.indexes.each c.args.index.now x there).prefs in
     ap (map pair) c.keep_above.ensures
     ∙ filter_mapped (λ (h : ℤ × ℕ). nat_lt above h.1) pair c.in_ok-hits.hits.items
     ∙ ap (filter (λ (h : ℤ × ℕ). nat_lt above h.1)) all
-    ∙ above_filtered m.tables x key above
+    ∙ above_filtered m.tables x q above

@@ -1,7 +1,7 @@
 use Rattle.std.proofs.Common.{rules}
 use Rattle.std.specs.Prelude.{nat_lt}
 use Rattle.std.proofs.lemmas.Fn.{filter_same}
-use Rattle.ix_context.specs.declared.hits.Hit.{Hit}
+use Rattle.ix_search.specs.declared.hits.Hit.{Hit}
 use Rattle.db_select.proofs.hits.keep_above.Goals as goal
 
 pub returns : goal.returns

@@ -14,7 +14,7 @@ returns-in_ok-meaning_of-in-Some-clause-meaning g c = λ m k x holds stands ther
     let its : c.in_ok-prefs.prefs ≡ option_map (λ (y : Index). y.prefs) (get m.indexes c.args.index.now) = c.in_ok-prefs.ensures.prefs k m.tables m.indexes holds told in
     let both : Some c.in-Some.prefs ≡ Some x.prefs = sym c.in-Some.is ∙ its ∙ ap (option_map (λ (y : Index). y.prefs)) there in
     let same : c.in-Some.prefs ≡ x.prefs = cc in
-    subst (λ (p : Prefs). Means c.in_ok-meaning_of-in-Some.field-0 (meaning_of p c.args.text.now)) same c.in_ok-meaning_of-in-Some.ensures
+    subst (λ (p : Prefs). Means c.in_ok-meaning_of-in-Some.field-0 (meaning_of p c.args.text.now)) same c.in_ok-meaning_of-in-Some.ensures.meaning
 
 pub returns-in-None-clause-meaning : goal.returns-in-None-clause-meaning
 returns-in-None-clause-meaning g c = λ m k x holds stands there.

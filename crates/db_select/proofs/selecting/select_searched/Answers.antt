@@ -3,6 +3,8 @@ use Rattle.std.proofs.lemmas.Result.{IfOk-weaker}
 use Rattle.ct_keep.specs.Composing.{reads_hold}
 use Rattle.tb_table.specs.declared.columns.Column.{Column}
 use Rattle.db_cond.specs.Refused.{refusal_of}
+use Rattle.std.specs.Option.{option_map}
+use Rattle.q_tree.specs.Trees.{reduced_of}
 use Rattle.db_select.specs.Meanings.{Means}
 use Rattle.db_select.specs.declared.querying.Meaning.TheVariants.{Refused}
 use Rattle.db_select.specs.Querying.{meaning_of, Finds}
@@ -49,13 +51,13 @@ returns-clause-reply g c = λ m k x holds stands there same.
     let here = ap (λ (cs : List Column). index_of_search m t cs s) same ∙ index.1.1 in
     let needed = has_needed m t x s index.0 here in
     let behind = reads_hold _ _ k c.in_ok-index.ensures.reads holds in
-    let means : meaning_of index.0.prefs s.query ≡ Finds c.in-Finds.key = subst (λ h. Means h (meaning_of index.0.prefs s.query)) c.in-Finds.is (c.in_ok-meaning.ensures.meaning m k index.0 behind stands index.1.0) in
+    let means : meaning_of index.0.prefs s.query ≡ Finds (option_map reduced_of c.in-Finds.flat) = subst (λ h. Means h (meaning_of index.0.prefs s.query)) c.in-Finds.is (c.in_ok-meaning.ensures.meaning m k index.0 behind stands index.1.0) in
     let later = reads_hold _ _ k c.in_ok-meaning.ensures.reads behind in
     let last = reads_hold _ _ k c.in_ok-hits-in-Finds.ensures.reads later in
     IfOk-weaker c.rows_reply.result _ _
     (λ reply is.
     is
     ∙ passed m t x c.args.list.now (Some s) c.args.conds.now columns same _ _ c.has_wrong_values-wrong_values.ensures c.has_bad_number-out_of_range.ensures
-    needed c.in_default-first_fault.ensures (no_refusal m t x s index.0 here c.in-Finds.key means) (found_scores c.deref.result.now)
+    needed c.in_default-first_fault.ensures (no_refusal m t x s index.0 here (option_map reduced_of c.in-Finds.flat) means) (found_scores c.deref.result.now)
     (ap found_scores c.deref.ensures.value ∙ c.in_ok-hits-in-Finds.ensures.hits m k x later stands there same index.0 s index.1.0 index.1.1 means (sym c.threshold_of-above.ensures)))
     (c.rows_reply.ensures.reply m k x last stands there same)

@@ -1,0 +1,14 @@
+use Rattle.std.proofs.Common.{◌≤◌, ◌-◌, ◌^◌}
+use Rattle.ix_cursor.specs.Nodes.{KeepsScores}
+use Rattle.ix_cursor.specs.Candidates.{NoneBetween}
+use Rattle.ix_cursor.proofs.candidates.first_candidate.Given as goal
+
+abbrev pub invariant-documents : goal.invariant-documents
+invariant-documents l = record {
+  from : l.from ≤ l.at;
+  none : NoneBetween l.fn.root l.from l.at;
+  keeps : KeepsScores l.at l.fn.root l.root;
+}
+
+abbrev pub decreases-documents : goal.decreases-documents
+decreases-documents l = 2 ^ 32 - l.at

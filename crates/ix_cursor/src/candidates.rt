@@ -1,0 +1,80 @@
+//! The documents that a query may score.
+
+ghost use Rattle.std.specs.Prelude.{◌≡◌, ◌<◌, ◌^◌, ℕ, true, IfOk};
+ghost use Rattle.q_tree.specs.Trees.{reduced_of};
+ghost use Rattle.q_tree.specs.Soundness.{is_sound};
+ghost use Rattle.q_tree.specs.Scores.{score, last_position};
+ghost use Rattle.ix_cursor.specs.Reading.{postings_read, FeedsRise, IsPlain};
+ghost use Rattle.ix_cursor.specs.Candidates.{ahead, NoneBefore, behind_found, Passes};
+
+use crate::building::build;
+use crate::nodes::Node;
+use crate::reading::Feeds;
+use ct_base::{DocId, Memory};
+use q_tree::Flat;
+use std::alloc::Global;
+
+/// The documents that a query may score: those that aren't ruled out by which documents its parts are in. It reads no position.
+#[derive(Drop)]
+pub struct Candidates {
+    root: Box<Node>,
+    /// The least document that wasn't passed; None behind the last one.
+    from: Option<u32>,
+}
+
+/// The first document from one on that isn't ruled out. The node has passed those before it.
+pub(crate) fn first_candidate(
+    alloc: Global,
+    root: &mut Node,
+    from: u32,
+) -> Result<Option<u32>, Memory>
+    ensures { IfOk result (λ found. Passes root.old root.new from found) }
+{
+    let mut at = from;
+    'documents: loop {
+        let Some(bound) = root.skip(alloc, at)? else {
+            return Ok(None);
+        };
+        if bound <= at {
+            return Ok(Some(at));
+        }
+        at = bound;
+    }
+}
+
+impl Candidates {
+    /// The documents that the query may score, over what was read for it. It decodes no row yet, and shares the rows of the feeds.
+    /// Queries with DEFINESCORE are not taken yet.
+    pub fn build(alloc: Global, flat: &Flat, feeds: &Feeds) -> Result<Candidates, Memory>
+        requires sound { is_sound (reduced_of flat.now) ≡ true }
+        requires plain { IsPlain (reduced_of flat.now) }
+        requires rows { FeedsRise feeds.now }
+        ensures { IfOk result (λ c. (d : ℕ) → d < 2 ^ 32 → ahead c d ≡ score (reduced_of flat.now) (postings_read feeds.now d) 0 1 last_position) }
+    {
+        let root = build(alloc, feeds, flat, 0)?;
+        Ok(Candidates {
+            root,
+            from: Some(0),
+        })
+    }
+
+    /// The next one; None where none is left. After an error it may only be dropped.
+    pub fn next(&mut self, alloc: Global) -> Result<Option<DocId>, Memory>
+        ensures first { IfOk result (λ found. NoneBefore (ahead self.old) found) }
+        ensures left { IfOk result (λ found. (d : ℕ) → d < 2 ^ 32 → ahead self.new d ≡ behind_found found (ahead self.old) d) }
+    {
+        let Some(from) = self.from else {
+            return Ok(None);
+        };
+        match first_candidate(alloc, &mut self.root, from)? {
+            None => {
+                self.from = None;
+                Ok(None)
+            }
+            Some(document) => {
+                self.from = document.checked_add(1);
+                Ok(Some(DocId(document)))
+            }
+        }
+    }
+}

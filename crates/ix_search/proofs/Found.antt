@@ -1,0 +1,407 @@
+-- What was read for a query scores each document as its text does.
+use Rattle.std.proofs.Common.{◌≡◌, ℕ, ℤ, ◌≤◌, ◌<◌, ◌^◌, ◌&&◌, ◌||◌, ◌==◌, eqb, bytes_eq, Bool, true, false, cond, List, [], ◌∷◌, ◌++◌, length, map, Option, Some, None, refl, sym, ap, subst, ◌∙◌, arith, eqb-true}
+use Rattle.std.specs.Prelude.{is_some, nat_lt}
+use Rattle.std.specs.List.{list_any, filter_map}
+use Rattle.std.specs.Option.{option_map, option_and_then}
+use Rattle.std.specs.Str.{chars}
+use Rattle.std.specs.Ordering.{nat_cmp, int_cmp}
+use Rattle.std.specs.Cmp.Lexicographic.{slice_cmp}
+use Rattle.std.specs.FinMap.{get, entries, get-empty}
+use Rattle.std.proofs.lemmas.Bool.{and_parts}
+use Rattle.std.proofs.lemmas.Cmp.{int_cmp_total}
+use Rattle.std.proofs.lemmas.Map.Lookups.{exact_signed}
+use Rattle.std.proofs.lemmas.Slice.Eq.{bytes_eq-Decides}
+use Rattle.ct_base.specs.Limits.{stream_limit}
+use Rattle.ct_base.specs.Names.{IsName}
+use Rattle.ct_base.specs.declared.numbers.Pair.{Pair}
+use Rattle.ct_bytes.specs.RowKeys.{row_bytes}
+use Rattle.ct_keep.specs.Content.{Content}
+use Rattle.ct_entry.specs.declared.kinds.Kind.TheVariants as kind
+use Rattle.ct_entry.specs.Keys.{at, document_part, IsRow, IsDocument, IsToken, HasKeysOnly}
+use Rattle.ct_entry.specs.Lists.{EachIs}
+use Rattle.ct_entry.specs.Listings.{row_of, owner_entries}
+use Rattle.ct_entry.specs.Maps.{Rows}
+use Rattle.ct_entry.specs.laws.Documents.{posting_prefix, span_prefix}
+use Rattle.ct_entry.specs.laws.Rows.{row_of-row_part}
+use Rattle.tb_table.specs.Tables.{Tables}
+use Rattle.ix_posting.specs.declared.rows.RowDocument.{RowDocument}
+use Rattle.ix_posting.specs.declared.span_rows.SpanDocument.{SpanDocument}
+use Rattle.ix_posting.specs.Rows.{DocumentsRise, IsPostingRow, posting_bytes}
+use Rattle.ix_posting.specs.SpanRows.{SpanDocumentsRise, IsSpanRow, span_row_bytes}
+use Rattle.ix_rows.specs.Posts.{posting_list, posting, Rises}
+use Rattle.ix_rows.specs.Spelling.{first_document}
+use Rattle.ix_rows.specs.WordRows.{document_number, word_term, IsWordTerm}
+use Rattle.ix_rows.specs.SpanRows.{span_number, IsSpanTerm}
+use Rattle.ix_rows.specs.laws.WordRows.{HasPositions, word_laws}
+use Rattle.ix_rows.specs.laws.SpanRows.{HasPairs, span_laws}
+use Rattle.ix_rows.specs.laws.Tidies.{firsts_of}
+use Rattle.ix_rows.specs.laws.Scans.{rows_scanned}
+use Rattle.ix_docmap.specs.Marks.{Mark, Pending, Settled, is_settled}
+use Rattle.ix_docmap.specs.Readings.{row_at_document}
+use Rattle.tx_settings.specs.PrefsBytes.{IsPrefs}
+use Rattle.tx_document.specs.Documents.{document}
+use Rattle.tx_document.specs.Entries.{positions_of}
+use Rattle.tx_document.specs.Promises.{if_any}
+use Rattle.ix_context.specs.Postings.{section_term}
+use Rattle.ix_context.specs.Indexes.{Index, marks_in, text_seen}
+use Rattle.ix_context.specs.Documents.{postings_in}
+use Rattle.ix_context.specs.Documents as documents
+use Rattle.ix_context.specs.Standing.{IndexStands}
+use Rattle.ix_context.specs.Limits.{IsWithinLimits}
+use Rattle.q_tree.specs.declared.flats.Slot.{Slot}
+use Rattle.q_tree.specs.declared.flats.Slot.TheVariants.{Any, Takes}
+use Rattle.q_tree.specs.Slots.{same_slot, has_key}
+use Rattle.q_tree.specs.Documents.{put_all, section_pairs}
+use Rattle.q_tree.specs.Scores.{DocPostings, score, last_position}
+use Rattle.q_tree.specs.Soundness.{is_sound}
+use Rattle.q_tree.specs.Trees.{Reduced}
+use Rattle.q_tree.specs.laws.SameSlots.{slots_decide}
+use Rattle.ix_cursor.specs.Documents.{joined, places_at}
+use Rattle.ix_cursor.specs.SpanDocuments.{pairs_at}
+use Rattle.ix_cursor.specs.Feeding.{union_at}
+use Rattle.ix_cursor.specs.Reading.{documents_of, tokens_read, rows_read, postings_read}
+use Rattle.ix_search.specs.declared.wanting.Wanted.{Wanted}
+use Rattle.ix_search.specs.Texts.{doc_sections, text_postings}
+use Rattle.ix_search.specs.Parts.{has_keys_alone, keys_of}
+use Rattle.ix_search.specs.Holding.{Spell}
+use Rattle.ix_search.specs.Reading.{KeyRows, NameRows, HoldsKey, HoldsSlot, HoldsName, slot_feed, section_feed, slots_of, names_of, feeds_of}
+use Rattle.ix_search.specs.Walking.{if_some, AreOneToOne, AreScores}
+use Rattle.ix_search.specs.Finding.{query_score, scored, found, found_at}
+use Rattle.ix_search.specs.laws.Words.{number_turned, union, keys_together, words_rise}
+use Rattle.ix_search.specs.laws.Parts.{SameSlot, SameSection, same_by_parts, parts_so, IsRead, parts_read, AnyName}
+use Rattle.ix_search.specs.laws.Wanting.{IsThere, IsNamed, parts_there, slots_each, Holds}
+use Rattle.ix_search.specs.laws.Silent.{nothing, silent_score}
+use Rattle.ix_search.proofs.MappedEntries.{entries_mapped}
+use Rattle.ix_search.proofs.Terms.{any_positions, get-word, get-section}
+
+-- ---- what a document has, by rows and by posting lists
+
+joined_list : {D : Type 0} (rows : List (List D)) → joined rows ≡ posting_list rows
+joined_list [] = refl
+joined_list (row ∷ rows) = ap (λ l. row ++ l) (joined_list rows)
+
+abbrev positions_in : Option RowDocument → List ℕ
+positions_in None = []
+positions_in (Some x) = x.positions
+
+places_are : (xs : List RowDocument) (d : ℕ) → places_at xs d ≡ positions_in (posting document_number d xs)
+places_are [] d = refl
+places_are (x ∷ xs) d = ap (λ b. cond b x.positions (places_at xs d)) (number_turned x.document d) ∙ go (d == x.document) (places_are xs d)
+  where
+    go : (b : Bool) → places_at xs d ≡ positions_in (posting document_number d xs) → cond b x.positions (places_at xs d) ≡ positions_in (cond b (Some x) (posting document_number d xs))
+    go true rest = refl
+    go false rest = rest
+
+abbrev pairs_in : Option SpanDocument → List Pair
+pairs_in None = []
+pairs_in (Some x) = x.pairs
+
+pairs_are : (xs : List SpanDocument) (d : ℕ) → pairs_at xs d ≡ pairs_in (posting span_number d xs)
+pairs_are [] d = refl
+pairs_are (x ∷ xs) d = ap (λ b. cond b x.pairs (pairs_at xs d)) (number_turned x.document d) ∙ go (d == x.document) (pairs_are xs d)
+  where
+    go : (b : Bool) → pairs_at xs d ≡ pairs_in (posting span_number d xs) → cond b x.pairs (pairs_at xs d) ≡ pairs_in (cond b (Some x) (posting span_number d xs))
+    go true rest = refl
+    go false rest = rest
+
+-- ---- rows whose documents rise
+
+rise_through : (before low : ℕ) (xs : List RowDocument) (rows : List (List RowDocument)) → DocumentsRise low xs → Rises document_number before (xs ++ posting_list rows)
+    → ((b : ℕ) → Rises document_number b (posting_list rows) → DocumentsRise b (joined rows)) → DocumentsRise before (xs ++ joined rows)
+rise_through before low [] rows up rise later = later before rise
+rise_through before low (x ∷ xs) rows up rise later = (rise.0, rise.1, up.2, up.3, rise_through x.document x.document xs rows up.4 rise.2 later)
+
+rows_rise : (rows : List (List RowDocument)) → EachIs IsPostingRow rows → (before : ℕ) → Rises document_number before (posting_list rows) → DocumentsRise before (joined rows)
+rows_rise [] each before rise = tt
+rows_rise (row ∷ rows) each before rise = rise_through before 0 row rows each.0.rise rise (rows_rise rows each.1)
+
+spans_through : (before low : ℕ) (xs : List SpanDocument) (rows : List (List SpanDocument)) → SpanDocumentsRise low xs → Rises span_number before (xs ++ posting_list rows)
+    → ((b : ℕ) → Rises span_number b (posting_list rows) → SpanDocumentsRise b (joined rows)) → SpanDocumentsRise before (xs ++ joined rows)
+spans_through before low [] rows up rise later = later before rise
+spans_through before low (x ∷ xs) rows up rise later = (rise.0, rise.1, up.2, up.3, up.4, spans_through x.document x.document xs rows up.5 rise.2 later)
+
+span_rows_rise : (rows : List (List SpanDocument)) → EachIs IsSpanRow rows → (before : ℕ) → Rises span_number before (posting_list rows) → SpanDocumentsRise before (joined rows)
+span_rows_rise [] each before rise = tt
+span_rows_rise (row ∷ rows) each before rise = spans_through before 0 row rows each.0.rise rise (span_rows_rise rows each.1)
+
+-- ---- rows as entries hold them
+
+abbrev word_entries : List (List RowDocument) → List (List ℕ × List ℕ)
+word_entries rows = map (λ row. (document_part (first_document document_number row), posting_bytes row)) rows
+
+rows_spell : (rows : List (List RowDocument)) → EachIs IsPostingRow rows → Spell document_number DocumentsRise IsPostingRow posting_bytes (word_entries rows) rows
+rows_spell [] each = tt
+rows_spell (row ∷ rows) each = (each.0, refl, rows_spell rows each.1)
+
+rows_some : (rows : List (List RowDocument)) → EachIs IsPostingRow rows → EachIs (λ row. 1 ≤ length row) rows
+rows_some [] each = tt
+rows_some (row ∷ rows) each = (each.0.some, rows_some rows each.1)
+
+abbrev span_entries : List (List SpanDocument) → List (List ℕ × List ℕ)
+span_entries rows = map (λ row. (document_part (first_document span_number row), span_row_bytes row)) rows
+
+spans_spell : (rows : List (List SpanDocument)) → EachIs IsSpanRow rows → Spell span_number SpanDocumentsRise IsSpanRow span_row_bytes (span_entries rows) rows
+spans_spell [] each = tt
+spans_spell (row ∷ rows) each = (each.0, refl, spans_spell rows each.1)
+
+spans_some : (rows : List (List SpanDocument)) → EachIs IsSpanRow rows → EachIs (λ row. 1 ≤ length row) rows
+spans_some [] each = tt
+spans_some (row ∷ rows) each = (each.0.some, spans_some rows each.1)
+
+-- ---- what was read of a slot or a section of the query
+
+module _ (words : KeyRows) (P : ℕ → Slot → Type 0) where
+  slot_read : (ws : List Wanted) (s : ℕ) (slot : Slot) → IsThere ws s slot → EachIs (Holds P) ws → (tokens_read (map (slot_feed words) ws) s slot ≡ map (words s) (keys_of slot)) × P s slot
+  slot_read [] s slot there each = cc
+  slot_read (w ∷ ws) s slot there each = go (eqb w.stream s && same_slot w.slot slot) refl there (λ rest. slot_read ws s slot rest each.1)
+    where
+      go : (b : Bool) → (eqb w.stream s && same_slot w.slot slot) ≡ b → (b || list_any (λ (v : Wanted). eqb v.stream s && same_slot v.slot slot) ws) ≡ true
+          → (IsThere ws s slot → (tokens_read (map (slot_feed words) ws) s slot ≡ map (words s) (keys_of slot)) × P s slot)
+          → (cond b (map (words w.stream) (keys_of w.slot)) (tokens_read (map (slot_feed words) ws) s slot) ≡ map (words s) (keys_of slot)) × P s slot
+      go true is there rest =
+          let p = and_parts (eqb w.stream s) (same_slot w.slot slot) is in
+          let stream = eqb-true w.stream s p.0 in
+          let one = (slots_decide w.slot slot).0 p.1 in (
+            ap (λ (n : ℕ). map (words n) (keys_of w.slot)) stream ∙ ap (λ (x : Slot). map (words s) (keys_of x)) one,
+            subst (P s) one (subst (λ (n : ℕ). P n w.slot) stream each.0),
+          )
+      go false is there rest = rest there
+
+section_read : (spans : NameRows) (ns : List (List ℕ)) (name : List ℕ) → IsNamed ns name → EachIs IsName ns → (rows_read (map (section_feed spans) ns) name ≡ spans name) × IsName name
+section_read spans [] name named each = cc
+section_read spans (n ∷ ns) name named each = go (bytes_eq n name) refl named (λ rest. section_read spans ns name rest each.1)
+  where
+    go : (b : Bool) → bytes_eq n name ≡ b → (b || has_key ns name) ≡ true
+        → (IsNamed ns name → (rows_read (map (section_feed spans) ns) name ≡ spans name) × IsName name)
+        → (cond b (spans n) (rows_read (map (section_feed spans) ns) name) ≡ spans name) × IsName name
+    go true is named rest = let one = (bytes_eq-Decides n name).0 is in (ap spans one, subst IsName one each.0)
+    go false is named rest = rest named
+
+each_so : {X : Type 0} (P Q : X → Type 0) (xs : List X) → ((x : X) → P x → Q x) → EachIs P xs → EachIs Q xs
+each_so P Q [] so each = tt
+each_so P Q (x ∷ xs) so each = (so x each.0, each_so P Q xs so each.1)
+
+each_all : {X : Type 0} (P : X → Type 0) (xs : List X) → ((x : X) → P x) → EachIs P xs
+each_all P [] all = tt
+each_all P (x ∷ xs) all = (all x, each_all P xs all)
+
+-- ---- an index that stands
+
+-- what a row has by its text, if it has one
+abbrev seen_postings : Index → Option (List ℕ) → DocPostings
+seen_postings x None = nothing
+seen_postings x (Some text) = text_postings x.prefs text
+
+abbrev seen_positions : Index → Option (List ℕ) → ℕ → List ℕ → List ℕ
+seen_positions x None s k = []
+seen_positions x (Some text) s k = positions_of s k (document x.prefs (chars text)).words
+
+union_none : (ks : List (List ℕ)) → union (map {B = List ℕ} (λ k. []) ks) ≡ []
+union_none [] = refl
+union_none (k ∷ ks) = union_none ks
+
+module _ (m : Content) (ts : Tables) (x : Index) (i : List ℕ) (only : HasKeysOnly m) (stand : IndexStands (at m) ts i (Some x)) (fit : IsWithinLimits ts x) (prefs : IsPrefs x.prefs) where
+  abbrev pub words : KeyRows
+  words s k = stand.context.word_rows (word_term s k)
+
+  abbrev pub spans : NameRows
+  spans name = stand.context.span_rows (section_term name)
+
+  key_held : (s : ℕ) (k : List ℕ) → s ≤ stream_limit → IsToken k → HoldsKey m i s k (words s k)
+  key_held s k low token =
+      let term = word_term s k in
+      let is_term : IsWordTerm term = (s, (k, low, token, refl)) in
+      let rows = words s k in
+      let are = stand.context.words.are term is_term in
+      let scanned : owner_entries kind.Postings i term m ≡ word_entries rows =
+      rows_scanned document_number posting_bytes IsWordTerm m kind.Postings i term stand.context.word_rows only is_term (posting_prefix s k) (rows_some rows are.each)
+      (firsts_of document_number posting_bytes IsPostingRow HasPositions word_laws rows are.each) are.rise stand.context.words.spelled in
+      record {
+        token = token;
+        hold = record {
+          spell = subst (λ (es : List (List ℕ × List ℕ)). Spell document_number DocumentsRise IsPostingRow posting_bytes es rows) (sym scanned) (rows_spell rows are.each);
+          rise = rows_rise rows are.each 0 are.rise;
+        };
+      }
+
+  name_held : (name : List ℕ) → HoldsName m i spans name
+  name_held name is =
+      let term = section_term name in
+      let is_term : IsSpanTerm term = (name, is, refl) in
+      let rows = spans name in
+      let are = stand.context.spans.are term is_term in
+      let scanned : owner_entries kind.Spans i term m ≡ span_entries rows =
+      rows_scanned span_number span_row_bytes IsSpanTerm m kind.Spans i term stand.context.span_rows only is_term (span_prefix name) (spans_some rows are.each)
+      (firsts_of span_number span_row_bytes IsSpanRow HasPairs span_laws rows are.each) are.rise stand.context.spans.spelled in
+      record {
+        spell = subst (λ (es : List (List ℕ × List ℕ)). Spell span_number SpanDocumentsRise IsSpanRow span_row_bytes es rows) (sym scanned) (spans_spell rows are.each);
+        rise = span_rows_rise rows are.each 0 are.rise;
+      }
+
+  slot_held : (w : Wanted) → Holds IsRead w → HoldsSlot m i words w
+  slot_held w is = each_so IsToken (λ k. HoldsKey m i w.stream k (words w.stream k)) (keys_of w.slot) (λ k token. key_held w.stream k is.stream token) is.keys
+
+  module _ (q : Reduced) (sound : is_sound q ≡ true) (alone : has_keys_alone q ≡ true) where
+    slots_are_read : EachIs (Holds IsRead) (slots_of q)
+    slots_are_read = slots_each IsRead AnyName q 0 [] (parts_read q sound alone 0 (omega arith)) tt
+
+    -- THE INDEX HOLDS what the query reads
+    pub slots_held : EachIs (HoldsSlot m i words) (slots_of q)
+    slots_held = each_so (Holds IsRead) (HoldsSlot m i words) (slots_of q) slot_held slots_are_read
+
+    pub names_held : EachIs (HoldsName m i spans) (names_of q)
+    names_held = each_all (HoldsName m i spans) (names_of q) name_held
+
+    -- ---- the score of a document that is a row
+
+    module _ (named : EachIs IsName (names_of q)) (d : ℕ) (r : ℤ) (here : stand.context.row d ≡ Some r) where
+      abbrev seen : Option (List ℕ)
+      seen = text_seen ts x r
+
+      key_places : (s : ℕ) (k : List ℕ) → s ≤ stream_limit → IsToken k → places_at (joined (words s k)) d ≡ seen_positions x seen s k
+      key_places s k low token =
+          ap (λ (xs : List RowDocument). places_at xs d) (joined_list (words s k))
+          ∙ places_are (posting_list (words s k)) d
+          ∙ ap positions_in (stand.context.words.lists.exact (word_term s k) d r (s, (k, low, token, refl)) here)
+          ∙ by_text seen
+        where
+          had : (ps : List ℕ) → positions_in (option_map (documents.word_posting d) (any_positions ps)) ≡ ps
+          had [] = refl
+          had (p ∷ ps) = refl
+
+          by_text : (o : Option (List ℕ)) → positions_in (option_map (documents.word_posting d) (get (documents.text_postings x.prefs o).words (word_term s k))) ≡ seen_positions x o s k
+          by_text None = ap (λ (o : Option (List ℕ)). positions_in (option_map (documents.word_posting d) o)) (get-empty (slice_cmp nat_cmp) (word_term s k))
+          by_text (Some text) =
+              ap (λ (o : Option (List ℕ)). positions_in (option_map (documents.word_posting d) o)) (get-word s low k token.some x.prefs text)
+              ∙ had (positions_of s k (document x.prefs (chars text)).words)
+
+      keys_union : (s : ℕ) (ks : List (List ℕ)) → s ≤ stream_limit → EachIs IsToken ks → union_at (documents_of (map (words s) ks)) d ≡ union (map {B = List ℕ} (λ k. seen_positions x seen s k) ks)
+      keys_union s [] low tokens = refl
+      keys_union s (k ∷ ks) low tokens =
+          ap (λ (ps : List ℕ). put_all ps (union_at (documents_of (map (words s) ks)) d)) (key_places s k low tokens.0)
+          ∙ ap (put_all (seen_positions x seen s k)) (keys_union s ks low tokens.1)
+
+      abbrev read : DocPostings
+      read = postings_read (feeds_of words spans q) d
+
+      slot_agrees : (s : ℕ) (slot : Slot) → IsRead s slot → read.positions s slot ≡ union_at (documents_of (map (words s) (keys_of slot))) d → SameSlot read (seen_postings x seen) s slot
+      slot_agrees s Any is same = let wrong = is.some in cc
+      slot_agrees s (Takes keys (p ∷ ps)) is same = let wrong = is.alone in cc
+      slot_agrees s (Takes keys []) is same = same ∙ keys_union s keys is.stream is.keys ∙ by_text seen
+        where
+          by_text : (o : Option (List ℕ)) → union (map {B = List ℕ} (λ k. seen_positions x o s k) keys) ≡ (seen_postings x o).positions s (Takes keys [])
+          by_text None = union_none keys
+          by_text (Some text) = keys_together s keys (document x.prefs (chars text)).words (words_rise x.prefs text)
+
+      slot_same : (s : ℕ) (slot : Slot) → IsThere (slots_of q) s slot → SameSlot read (seen_postings x seen) s slot
+      slot_same s slot there =
+          let p = slot_read words IsRead (slots_of q) s slot there slots_are_read in
+          slot_agrees s slot p.1 (ap (λ (tokens : List (List (List RowDocument))). union_at (documents_of tokens) d) p.0)
+
+      section_same : (name : List ℕ) → IsNamed (names_of q) name → SameSection read (seen_postings x seen) name
+      section_same name there =
+          let p = section_read spans (names_of q) name there named in
+          ap (λ (rows : List (List SpanDocument)). pairs_at (joined rows) d) p.0
+          ∙ ap (λ (xs : List SpanDocument). pairs_at xs d) (joined_list (spans name))
+          ∙ pairs_are (posting_list (spans name)) d
+          ∙ ap pairs_in (stand.context.spans.lists.exact (section_term name) d r (name, p.1, refl) here)
+          ∙ by_text seen refl
+        where
+          had : (ps : List Pair) → pairs_in (option_map (documents.span_posting d) (if_any ps)) ≡ ps
+          had [] = refl
+          had (p ∷ ps) = refl
+
+          by_text : (o : Option (List ℕ)) → seen ≡ o → pairs_in (option_map (documents.span_posting d) (get (documents.text_postings x.prefs o).spans (section_term name))) ≡ (seen_postings x o).spans name
+          by_text None is = ap (λ (o : Option (List Pair)). pairs_in (option_map (documents.span_posting d) o)) (get-empty (slice_cmp nat_cmp) (section_term name))
+          by_text (Some text) is =
+              ap (λ (o : Option (List Pair)). pairs_in (option_map (documents.span_posting d) o)) (get-section name x.prefs text prefs (fit.texts r text is))
+              ∙ had (section_pairs name (doc_sections (document x.prefs (chars text)).sections))
+
+      -- THE SCORE of what was read is that of the text
+      read_score : score q read 0 1 last_position ≡ score q (seen_postings x seen) 0 1 last_position
+      read_score = same_by_parts read (seen_postings x seen) q 0
+          (parts_so (IsThere (slots_of q)) (SameSlot read (seen_postings x seen)) slot_same (IsNamed (names_of q)) (SameSection read (seen_postings x seen)) section_same q 0 (parts_there q 0 [] [] alone)) 1 last_position
+
+    -- ---- the rows of documents
+
+    row_fits : (d : ℕ) (r : ℤ) → stand.context.row d ≡ Some r → IsRow r
+    row_fits d r is = fit.rows r (there (get (marks_in x.body) r) (sym (stand.context.documents.numbers.marked r) ∙ ap is_some (stand.context.documents.numbers.back r d is)))
+      where
+        there : (o : Option (Mark (Unit {0}))) → is_settled o ≡ true → is_some o ≡ true
+        there None h = cc
+        there (Some y) h = refl
+
+    document_found : (d : ℕ) → IsDocument d → row_at_document (at m) i d ≡ stand.context.row d
+    document_found d document = ap (option_and_then row_of) (stand.context.documents.rows d document) ∙ go (stand.context.row d) refl
+      where
+        go : (o : Option ℤ) → stand.context.row d ≡ o → option_and_then row_of (option_map row_bytes o) ≡ o
+        go None is = refl
+        go (Some r) is = row_of-row_part r (row_fits d r is)
+
+    pub one_to_one : AreOneToOne (row_at_document (at m) i)
+    one_to_one d e r low high is also =
+        let one : Some d ≡ Some e =
+        sym (stand.context.documents.numbers.back r d (sym (document_found d low) ∙ is)) ∙ stand.context.documents.numbers.back r e (sym (document_found e high) ∙ also) in
+        cc
+
+    -- ---- the hits
+
+    -- the score that a row has by its mark
+    abbrev scored_as : ℤ → Mark (Unit {0}) → Option ℕ
+    scored_as r Pending = None
+    scored_as r (Settled _) = option_and_then (λ text. if_some (query_score x.prefs q text)) (text_seen ts x r)
+
+    scored_found : (r : ℤ) (mark : Mark (Unit {0})) → option_map {U = ℤ × ℕ} (λ s. (r, s)) (scored_as r mark) ≡ found_at ts x q 0 r mark
+    scored_found r Pending = refl
+    scored_found r (Settled _) = go (text_seen ts x r)
+      where
+        above : (b : Bool) (s : ℕ) → option_map {U = ℤ × ℕ} (λ s. (r, s)) (cond b (Some s) None) ≡ cond b (Some (r, s)) None
+        above true s = refl
+        above false s = refl
+
+        go : (o : Option (List ℕ)) → option_map {U = ℤ × ℕ} (λ s. (r, s)) (option_and_then (λ text. if_some (query_score x.prefs q text)) o) ≡ scored x.prefs q 0 r o
+        go None = refl
+        go (Some text) = above (nat_lt 0 (query_score x.prefs q text)) (query_score x.prefs q text)
+
+    module _ (named : EachIs IsName (names_of q)) (document_score : ℕ → ℕ) (scores : Rows ℕ)
+        (built : (d : ℕ) → d < 2 ^ 32 → document_score d ≡ score q (postings_read (feeds_of words spans q) d) 0 1 last_position)
+        (are : AreScores (row_at_document (at m) i) document_score scores) where
+      right_scores : (r : ℤ) → get scores r ≡ option_and_then (scored_as r) (get (marks_in x.body) r)
+      right_scores r = by_document (stand.context.document r) refl
+        where
+          unmarked : (o : Option (Mark (Unit {0}))) → is_settled o ≡ false → None ≡ option_and_then (scored_as r) o
+          unmarked None h = refl
+          unmarked (Some Pending) h = refl
+          unmarked (Some (Settled _)) h = cc
+
+          by_text : (o : Option (List ℕ)) → if_some (score q (seen_postings x o) 0 1 last_position) ≡ option_and_then (λ text. if_some (query_score x.prefs q text)) o
+          by_text None = ap if_some (silent_score q sound alone 0 1 last_position)
+          by_text (Some text) = refl
+
+          marked : (o : Option (Mark (Unit {0}))) → is_settled o ≡ true → option_and_then (λ text. if_some (query_score x.prefs q text)) (text_seen ts x r) ≡ option_and_then (scored_as r) o
+          marked None h = cc
+          marked (Some Pending) h = cc
+          marked (Some (Settled _)) h = refl
+
+          by_document : (o : Option ℕ) → stand.context.document r ≡ o → get scores r ≡ option_and_then (scored_as r) (get (marks_in x.body) r)
+          by_document None is =
+              are.others r (λ d low at.
+              let back = stand.context.documents.numbers.back r d (sym (document_found d low) ∙ at) in
+              let wrong : None ≡ Some d = sym is ∙ back in
+              cc)
+              ∙ unmarked (get (marks_in x.body) r) (sym (stand.context.documents.numbers.marked r) ∙ ap is_some is)
+          by_document (Some d) is =
+              let row = stand.context.documents.numbers.there r d is in
+              let within = stand.context.documents.numbers.within r d is in
+              let numbers = fit.numbers in
+              let low : d < 2 ^ 32 = omega (arith, within.1, numbers) in
+              are.rows d r low (document_found d low ∙ row)
+              ∙ ap if_some (built d low ∙ read_score named d r row)
+              ∙ by_text (text_seen ts x r)
+              ∙ marked (get (marks_in x.body) r) (sym (stand.context.documents.numbers.marked r) ∙ ap is_some is)
+
+      -- THE HITS are what a scan of the rows finds
+      pub finds : entries scores ≡ found ts x q 0
+      finds =
+          entries_mapped int_cmp int_cmp_total exact_signed scored_as scores (marks_in x.body) right_scores
+          ∙ (λ j. filter_map (λ e. scored_found e.0 e.1 j) (entries (marks_in x.body)))

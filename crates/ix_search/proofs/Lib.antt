@@ -1,0 +1,10 @@
+pub mod TakeSteps
+pub mod ReadSteps
+pub mod WalkSteps
+pub mod MappedEntries
+pub mod FoundLaws
+pub mod Terms
+pub mod Found
+pub mod LookSteps
+pub mod MapSteps
+pub mod Giving

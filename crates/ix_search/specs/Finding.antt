@@ -1,0 +1,106 @@
+-- What a reduced query finds: defined by scanning every row.
+use Rattle.std.specs.Prelude.{ℕ, ℤ, pos, ◌≡◌, nat_lt, List, [], ◌∷◌, Option, Some, None, codes, refl}
+use Rattle.std.specs.Bool.{if◌then◌else◌}
+use Rattle.std.specs.List.{filter_map, cons_option}
+use Rattle.std.specs.Str.{chars}
+use Rattle.std.specs.Ordering.{int_cmp}
+use Rattle.std.specs.FinMap.{entries, from_sorted, entries-from_sorted}
+use Rattle.std.proofs.Common.{ap, ◌∙◌}
+use lib.Utf8.{encode}
+use Rattle.ucd_category.proofs.Computing.{ucd_category}
+use Rattle.caseless.proofs.Computing.{caseless}
+use Rattle.tx_chars.specs.Keys.{key_text}
+use Rattle.tx_tags.specs.Groups.{zones}
+use Rattle.tb_table.specs.Tables.{Tables}
+use Rattle.tx_settings.specs.declared.preferences.Prefs.{Prefs}
+use Rattle.tx_settings.specs.Defaults.{default_prefs, plain}
+use Rattle.tx_document.specs.Documents.{sentences}
+use Rattle.q_tree.specs.declared.flats.Slot.{Slot}
+use Rattle.q_tree.specs.declared.flats.Slot.TheVariants.{Takes}
+use Rattle.q_tree.specs.declared.flats.Place.TheVariants.{Sentence}
+use Rattle.q_tree.specs.declared.queries.Op.TheVariants.{And}
+use Rattle.q_tree.specs.Trees.{Reduced, Term, Joined, Inside}
+use Rattle.q_tree.specs.Scores.{whole_score}
+use Rattle.ix_docmap.specs.Marks.{Mark, Pending, Settled}
+use Rattle.ix_context.specs.Indexes.{Index, OfContext, marks_in, text_seen, no_part}
+use Rattle.ix_search.specs.Texts.{text_postings, with_tags}
+
+-- the score of a query on a text, by its words and sections
+abbrev pub query_score : Prefs → Reduced → List ℕ → ℕ
+query_score p q text = whole_score q (text_postings p text)
+
+-- a row with its score, where the score is above n
+abbrev pub if_above : ℕ → ℤ → ℕ → Option (ℤ × ℕ)
+if_above n r score = if nat_lt n score then Some (r, score) else None
+
+abbrev pub scored : Prefs → Reduced → ℕ → ℤ → Option (List ℕ) → Option (ℤ × ℕ)
+scored p q n r None = None
+scored p q n r (Some text) = if_above n r (query_score p q text)
+
+abbrev pub found_at : Tables → Index → Reduced → ℕ → ℤ → Mark (Unit {0}) → Option (ℤ × ℕ)
+found_at ts x q n r Pending = None
+found_at ts x q n r (Settled _) = scored x.prefs q n r (text_seen ts x r)
+
+-- WHAT A QUERY FINDS: the settled rows whose text has a score above n, with their scores, in order of their keys.
+abbrev pub found : Tables → Index → Reduced → ℕ → List (ℤ × ℕ)
+found ts x q n = filter_map (λ e. found_at ts x q n e.0 e.1) (entries (marks_in x.body))
+
+-- the query that is one key
+abbrev pub key_query : List ℕ → Reduced
+key_query key = Term ((Takes (key ∷ []) [] ∷ []) ∷ [])
+
+-- ---- computed examples
+
+above : if_above 1 (pos 7) 2 ≡ Some (pos 7, 2)
+above = refl
+
+only_as_high : if_above 2 (pos 7) 2 ≡ None
+only_as_high = refl
+
+fox_and_dog : query_score default_prefs (Joined And (key_query (codes "fox")) (key_query (codes "dog"))) (codes "fox dog fox") ≡ 1
+unfolding encode chars caseless ucd_category key_text
+fox_and_dog = refl
+
+abbrev only : List ℕ → Slot
+only key = Takes (key ∷ []) []
+
+a_phrase : query_score default_prefs (Term ((only (codes "big") ∷ only (codes "fox") ∷ []) ∷ [])) (codes "big fox, fox big fox") ≡ 2
+unfolding encode chars caseless ucd_category key_text
+a_phrase = refl
+
+in_one_sentence : query_score (plain sentences) (Inside Sentence (Joined And (key_query (codes "a")) (key_query (codes "b")))) (codes "a. b") ≡ 0
+unfolding encode chars caseless ucd_category key_text
+in_one_sentence = refl
+
+in_a_sentence : query_score (plain sentences) (Inside Sentence (Joined And (key_query (codes "a")) (key_query (codes "b")))) (codes "a b. c") ≡ 1
+unfolding encode chars caseless ucd_category key_text
+in_a_sentence = refl
+
+-- what an invisible field encloses isn't found in the main stream, and what a zone encloses is
+hidden : query_score (plain zones) (key_query (codes "alpha")) with_tags ≡ 0
+unfolding encode chars caseless ucd_category key_text
+hidden = refl
+
+shown : query_score (plain zones) (key_query (codes "beta")) with_tags ≡ 1
+unfolding encode chars caseless ucd_category key_text
+shown = refl
+
+not_yet : (ts : Tables) (x : Index) (q : Reduced) → found_at ts x q 0 (pos 1) Pending ≡ None
+not_yet ts x q = refl
+
+-- two rows that are settled, and one that waits
+abbrev pub three_marks : List (ℤ × Mark (Unit {0}))
+three_marks = (pos 1, Settled tt) ∷ (pos 2, Settled tt) ∷ (pos 3, Pending) ∷ []
+
+abbrev pub three_rows : Index
+three_rows = record { table = codes "docs"; column = 1; prefs = default_prefs; body = OfContext (record { part = no_part; marks = from_sorted three_marks }) }
+
+abbrev pub big_fox : Reduced
+big_fox = Term ((only (codes "big") ∷ only (codes "fox") ∷ []) ∷ [])
+
+one_found : (ts : Tables) → text_seen ts three_rows (pos 1) ≡ Some (codes "a big fox") → text_seen ts three_rows (pos 2) ≡ Some (codes "fox, big") → found ts three_rows big_fox 0 ≡ (pos 1, 1) ∷ []
+unfolding encode chars caseless ucd_category key_text
+one_found ts one two =
+    ap (λ (es : List (ℤ × Mark (Unit {0}))). filter_map (λ e. found_at ts three_rows big_fox 0 e.0 e.1) es) (entries-from_sorted int_cmp three_marks tt)
+    ∙ ap (λ (o : Option (List ℕ)). cons_option (scored default_prefs big_fox 0 (pos 1) o) (cons_option (scored default_prefs big_fox 0 (pos 2) (text_seen ts three_rows (pos 2))) [])) one
+    ∙ ap (λ (o : Option (List ℕ)). (pos 1, 1) ∷ cons_option (scored default_prefs big_fox 0 (pos 2) o) []) two

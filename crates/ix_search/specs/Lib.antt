@@ -1,0 +1,14 @@
+pub mod Texts
+pub mod Parts
+pub mod Wanting
+pub mod Holding
+pub mod Reading
+pub mod Looking
+pub mod Walking
+pub mod Hits
+pub mod Once
+pub mod Gathering
+pub mod Finding
+pub mod Promises
+pub mod FindingPromises
+pub mod laws

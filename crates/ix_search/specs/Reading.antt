@@ -1,0 +1,67 @@
+-- What is read of an index for a query.
+use Rattle.std.specs.Prelude.{ℕ, ◌≡◌, List, [], ◌∷◌, length, map, codes, refl}
+use Rattle.ct_base.specs.Names.{IsName}
+use Rattle.ct_keep.specs.Content.{Content}
+use Rattle.ct_entry.specs.declared.kinds.Kind.TheVariants as kind
+use Rattle.ct_entry.specs.Keys.{IsToken}
+use Rattle.ct_entry.specs.Lists.{EachIs}
+use Rattle.ct_entry.specs.Listings.{owner_entries}
+use Rattle.ix_posting.specs.declared.rows.RowDocument.{RowDocument}
+use Rattle.ix_posting.specs.declared.span_rows.SpanDocument.{SpanDocument}
+use Rattle.q_tree.specs.Trees.{Reduced}
+use Rattle.ix_cursor.specs.declared.reading.SlotFeed.{SlotFeed}
+use Rattle.ix_cursor.specs.declared.reading.SectionFeed.{SectionFeed}
+use Rattle.ix_cursor.specs.declared.reading.Feeds.{Feeds}
+use Rattle.ix_search.specs.declared.wanting.Wanted.{Wanted}
+use Rattle.ix_search.specs.Parts.{keys_of}
+use Rattle.ix_search.specs.Wanting.{with_slots, with_names}
+use Rattle.ix_search.specs.Holding.{HoldRows, HoldSpans}
+
+-- what follows the index in the keys of the rows of a key in a stream, and of those of a section, up to the document
+abbrev pub key_prefix : ℕ → List ℕ → List ℕ
+key_prefix stream key = stream ∷ length key ∷ key
+
+abbrev pub name_prefix : List ℕ → List ℕ
+name_prefix name = length name ∷ name
+
+-- rows of each key in each stream, and of each section
+abbrev pub KeyRows : Type 0
+KeyRows = ℕ → List ℕ → List (List RowDocument)
+
+abbrev pub NameRows : Type 0
+NameRows = List ℕ → List (List SpanDocument)
+
+-- the content holds these rows of a key in a stream, where the key is one
+pub record HoldsKey (m : Content) (i : List ℕ) (stream : ℕ) (key : List ℕ) (rows : List (List RowDocument)) : Type 0 where
+  pub token : IsToken key
+  pub hold : HoldRows (owner_entries kind.Postings i (key_prefix stream key) m) rows
+
+-- of each key of a slot
+abbrev pub HoldsSlot : Content → List ℕ → KeyRows → Wanted → Type 0
+HoldsSlot m i held w = EachIs (λ key. HoldsKey m i w.stream key (held w.stream key)) (keys_of w.slot)
+
+-- of a section
+abbrev pub HoldsName : Content → List ℕ → NameRows → List ℕ → Type 0
+HoldsName m i held name = IsName name → HoldSpans (owner_entries kind.Spans i (name_prefix name) m) (held name)
+
+-- what is read of a slot, and of a section
+abbrev pub slot_feed : KeyRows → Wanted → SlotFeed
+slot_feed held w = record { stream = w.stream; slot = w.slot; tokens = map (held w.stream) (keys_of w.slot) }
+
+abbrev pub section_feed : NameRows → List ℕ → SectionFeed
+section_feed held name = record { section = name; rows = held name }
+
+-- the slots and sections of a query
+abbrev pub slots_of : Reduced → List Wanted
+slots_of f = with_slots f 0 []
+
+abbrev pub names_of : Reduced → List (List ℕ)
+names_of f = with_names f []
+
+-- WHAT IS READ FOR A QUERY, by the rows that there are
+abbrev pub feeds_of : KeyRows → NameRows → Reduced → Feeds
+feeds_of words spans f = record { slots = map (slot_feed words) (slots_of f); sections = map (section_feed spans) (names_of f) }
+
+-- computed example
+the_prefix : key_prefix 1 (codes "fox") ≡ 1 ∷ 3 ∷ codes "fox"
+the_prefix = refl

@@ -1,0 +1,82 @@
+-- The slots and sections whose rows a query reads, each once.
+use Rattle.std.specs.Prelude.{ℕ, ◌≡◌, eqb, Bool, ◌&&◌, List, [], ◌∷◌, ◌++◌, codes, refl}
+use Rattle.std.specs.Bool.{if◌then◌else◌}
+use Rattle.std.specs.List.{list_any}
+use Rattle.q_tree.specs.declared.flats.Slot.{Slot}
+use Rattle.q_tree.specs.declared.flats.Slot.TheVariants.{Any, Takes}
+use Rattle.q_tree.specs.declared.flats.Place.TheVariants.{Zone, Field, Sentence, Paragraph}
+use Rattle.q_tree.specs.declared.queries.Op.TheVariants.{And}
+use Rattle.q_tree.specs.Slots.{same_slot, has_key}
+use Rattle.q_tree.specs.Trees.{Reduced, Term, Joined, Weighted, Exceeding, Close, Inside, Defined}
+use Rattle.ix_search.specs.declared.wanting.Wanted.{Wanted}
+
+abbrev pub wanted : ℕ → Slot → Wanted
+wanted s slot = record { stream = s; slot = slot }
+
+-- whether the slot is among those wanted in a stream
+abbrev pub is_wanted : List Wanted → ℕ → Slot → Bool
+is_wanted ws s slot = list_any (λ (w : Wanted). eqb w.stream s && same_slot w.slot slot) ws
+
+-- with a slot more, unless it is there; Any isn't read, and patterns aren't either
+abbrev pub with_slot : ℕ → Slot → List Wanted → List Wanted
+with_slot s Any ws = ws
+with_slot s (Takes keys []) ws = if is_wanted ws s (Takes keys []) then ws else ws ++ wanted s (Takes keys []) ∷ []
+with_slot s (Takes keys (p ∷ ps)) ws = ws
+
+abbrev pub with_phrase : ℕ → List Slot → List Wanted → List Wanted
+with_phrase s [] ws = ws
+with_phrase s (slot ∷ phrase) ws = with_phrase s phrase (with_slot s slot ws)
+
+abbrev pub with_term : ℕ → List (List Slot) → List Wanted → List Wanted
+with_term s [] ws = ws
+with_term s (phrase ∷ phrases) ws = with_term s phrases (with_phrase s phrase ws)
+
+abbrev pub with_operands : ℕ → List (List (List Slot)) → List Wanted → List Wanted
+with_operands s [] ws = ws
+with_operands s (phrases ∷ operands) ws = with_operands s operands (with_term s phrases ws)
+
+-- THE SLOTS OF A QUERY in their streams, in the order of their first places
+abbrev pub with_slots : Reduced → ℕ → List Wanted → List Wanted
+with_slots (Term phrases) s ws = with_term s phrases ws
+with_slots (Joined op a b) s ws = with_slots b s (with_slots a s ws)
+with_slots (Weighted w a) s ws = with_slots a s ws
+with_slots (Exceeding n a) s ws = with_slots a s ws
+with_slots (Close operands span ordered) s ws = with_operands s operands ws
+with_slots (Inside (Field f) a) s ws = with_slots a f ws
+with_slots (Inside (Zone name) a) s ws = with_slots a s ws
+with_slots (Inside Sentence a) s ws = with_slots a s ws
+with_slots (Inside Paragraph a) s ws = with_slots a s ws
+with_slots (Defined phrases sum) s ws = with_term s phrases ws
+
+-- with a name more, unless it is there
+abbrev pub with_name : List ℕ → List (List ℕ) → List (List ℕ)
+with_name name ns = if has_key ns name then ns else ns ++ name ∷ []
+
+-- THE SECTIONS OF A QUERY, in the order of their first places
+abbrev pub with_names : Reduced → List (List ℕ) → List (List ℕ)
+with_names (Term phrases) ns = ns
+with_names (Joined op a b) ns = with_names b (with_names a ns)
+with_names (Weighted w a) ns = with_names a ns
+with_names (Exceeding n a) ns = with_names a ns
+with_names (Close operands span ordered) ns = ns
+with_names (Inside (Field f) a) ns = with_names a ns
+with_names (Inside (Zone name) a) ns = with_names a (with_name name ns)
+with_names (Inside Sentence a) ns = with_names a (with_name (codes "sentence") ns)
+with_names (Inside Paragraph a) ns = with_names a (with_name (codes "paragraph") ns)
+with_names (Defined phrases sum) ns = ns
+
+-- computed examples: `a AND a WITHIN SENTENCE`, and the same in the field 1
+abbrev a_slot : Slot
+a_slot = Takes (codes "a" ∷ []) []
+
+abbrev a_term : Reduced
+a_term = Term ((a_slot ∷ []) ∷ [])
+
+read_once : with_slots (Joined And a_term (Inside Sentence a_term)) 0 [] ≡ wanted 0 a_slot ∷ []
+read_once = refl
+
+its_section : with_names (Joined And a_term (Inside Sentence a_term)) [] ≡ codes "sentence" ∷ []
+its_section = refl
+
+in_two_streams : with_slots (Joined And a_term (Inside (Field 1) a_term)) 0 [] ≡ wanted 0 a_slot ∷ wanted 1 a_slot ∷ []
+in_two_streams = refl

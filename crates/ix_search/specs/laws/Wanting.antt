@@ -1,0 +1,200 @@
+-- The slots and sections that are read are those of the query.
+use Rattle.std.proofs.Common.{ℕ, ◌≡◌, eqb, ◌&&◌, ◌||◌, Bool, true, false, cond, List, [], ◌∷◌, ◌++◌, codes, refl, ap, eq-eqb}
+use Rattle.std.specs.List.{list_any, list_all}
+use Rattle.std.specs.Prelude.{bytes_eq}
+use Rattle.std.proofs.lemmas.Bool.{and_parts, and_from}
+use Rattle.std.proofs.lemmas.Slice.Eq.{bytes_eq-Decides}
+use Rattle.ct_entry.specs.Lists.{EachIs}
+use Rattle.q_tree.specs.declared.flats.Slot.{Slot}
+use Rattle.q_tree.specs.declared.flats.Slot.TheVariants.{Any, Takes}
+use Rattle.q_tree.specs.declared.flats.Place.TheVariants.{Zone, Field, Sentence, Paragraph}
+use Rattle.q_tree.specs.Slots.{same_slot, has_key}
+use Rattle.q_tree.specs.laws.SameSlots.{slots_decide}
+use Rattle.q_tree.specs.Trees.{Reduced, Term, Joined, Weighted, Exceeding, Close, Inside, Defined}
+use Rattle.ix_search.specs.declared.wanting.Wanted.{Wanted}
+use Rattle.ix_search.specs.Parts.{slot_has_keys_alone, phrase_has_keys_alone, term_has_keys_alone, has_keys_alone, OfSlot, OfPhrase, OfTerm, OfOperands, OfParts}
+use Rattle.ix_search.specs.Wanting.{wanted, is_wanted, with_slot, with_phrase, with_term, with_operands, with_slots, with_name, with_names}
+use Rattle.ix_search.specs.laws.Parts.{slot_so, phrase_so, term_so, parts_so}
+
+-- ---- one more at the end
+
+any_still : {X : Type 0} (f : X → Bool) (xs ys : List X) → list_any f xs ≡ true → list_any f (xs ++ ys) ≡ true
+any_still f [] ys h = cc
+any_still f (x ∷ xs) ys h = go (f x) h (any_still f xs ys)
+  where
+    go : (b : Bool) → (b || list_any f xs) ≡ true → (list_any f xs ≡ true → list_any f (xs ++ ys) ≡ true) → (b || list_any f (xs ++ ys)) ≡ true
+    go true h rest = refl
+    go false h rest = rest h
+
+any_last : {X : Type 0} (f : X → Bool) (xs : List X) (y : X) → f y ≡ true → list_any f (xs ++ y ∷ []) ≡ true
+any_last f [] y h = ap (λ b. b || false) h
+any_last f (x ∷ xs) y h = go (f x) (any_last f xs y h)
+  where
+    go : (b : Bool) → list_any f (xs ++ y ∷ []) ≡ true → (b || list_any f (xs ++ y ∷ [])) ≡ true
+    go true rest = refl
+    go false rest = rest
+
+each_last : {X : Type 0} (P : X → Type 0) (xs : List X) (y : X) → EachIs P xs → P y → EachIs P (xs ++ y ∷ [])
+each_last P [] y each h = (h, tt)
+each_last P (x ∷ xs) y each h = (each.0, each_last P xs y each.1 h)
+
+-- ---- what is there stays
+
+abbrev pub IsThere : List Wanted → ℕ → Slot → Type 0
+IsThere ws s slot = is_wanted ws s slot ≡ true
+
+abbrev pub IsNamed : List (List ℕ) → List ℕ → Type 0
+IsNamed ns name = has_key ns name ≡ true
+
+abbrev Stays : List Wanted → List Wanted → Type 0
+Stays ws vs = (s : ℕ) (slot : Slot) → IsThere ws s slot → IsThere vs s slot
+
+slot_stays : (s : ℕ) (slot : Slot) (ws : List Wanted) → Stays ws (with_slot s slot ws)
+slot_stays s Any ws t other h = h
+slot_stays s (Takes keys (p ∷ ps)) ws t other h = h
+slot_stays s (Takes keys []) ws t other h = go (is_wanted ws s (Takes keys []))
+  where
+    go : (b : Bool) → IsThere (cond b ws (ws ++ wanted s (Takes keys []) ∷ [])) t other
+    go true = h
+    go false = any_still (λ (w : Wanted). eqb w.stream t && same_slot w.slot other) ws (wanted s (Takes keys []) ∷ []) h
+
+phrase_stays : (s : ℕ) (phrase : List Slot) (ws : List Wanted) → Stays ws (with_phrase s phrase ws)
+phrase_stays s [] ws t other h = h
+phrase_stays s (x ∷ xs) ws t other h = phrase_stays s xs (with_slot s x ws) t other (slot_stays s x ws t other h)
+
+term_stays : (s : ℕ) (phrases : List (List Slot)) (ws : List Wanted) → Stays ws (with_term s phrases ws)
+term_stays s [] ws t other h = h
+term_stays s (x ∷ xs) ws t other h = term_stays s xs (with_phrase s x ws) t other (phrase_stays s x ws t other h)
+
+operands_stay : (s : ℕ) (operands : List (List (List Slot))) (ws : List Wanted) → Stays ws (with_operands s operands ws)
+operands_stay s [] ws t other h = h
+operands_stay s (x ∷ xs) ws t other h = operands_stay s xs (with_term s x ws) t other (term_stays s x ws t other h)
+
+slots_stay : (f : Reduced) (s : ℕ) (ws : List Wanted) → Stays ws (with_slots f s ws)
+slots_stay (Term phrases) s ws t other h = term_stays s phrases ws t other h
+slots_stay (Joined op a b) s ws t other h = slots_stay b s (with_slots a s ws) t other (slots_stay a s ws t other h)
+slots_stay (Weighted w a) s ws t other h = slots_stay a s ws t other h
+slots_stay (Exceeding n a) s ws t other h = slots_stay a s ws t other h
+slots_stay (Close operands span ordered) s ws t other h = operands_stay s operands ws t other h
+slots_stay (Inside (Field f) a) s ws t other h = slots_stay a f ws t other h
+slots_stay (Inside (Zone name) a) s ws t other h = slots_stay a s ws t other h
+slots_stay (Inside Sentence a) s ws t other h = slots_stay a s ws t other h
+slots_stay (Inside Paragraph a) s ws t other h = slots_stay a s ws t other h
+slots_stay (Defined phrases sum) s ws t other h = term_stays s phrases ws t other h
+
+name_stays : (name : List ℕ) (ns : List (List ℕ)) (other : List ℕ) → IsNamed ns other → IsNamed (with_name name ns) other
+name_stays name ns other h = go (has_key ns name)
+  where
+    go : (b : Bool) → IsNamed (cond b ns (ns ++ name ∷ [])) other
+    go true = h
+    go false = any_still (λ k. bytes_eq k other) ns (name ∷ []) h
+
+names_stay : (f : Reduced) (ns : List (List ℕ)) (other : List ℕ) → IsNamed ns other → IsNamed (with_names f ns) other
+names_stay (Term phrases) ns other h = h
+names_stay (Joined op a b) ns other h = names_stay b (with_names a ns) other (names_stay a ns other h)
+names_stay (Weighted w a) ns other h = names_stay a ns other h
+names_stay (Exceeding n a) ns other h = names_stay a ns other h
+names_stay (Close operands span ordered) ns other h = h
+names_stay (Inside (Field f) a) ns other h = names_stay a ns other h
+names_stay (Inside (Zone name) a) ns other h = names_stay a (with_name name ns) other (name_stays name ns other h)
+names_stay (Inside Sentence a) ns other h = names_stay a (with_name (codes "sentence") ns) other (name_stays (codes "sentence") ns other h)
+names_stay (Inside Paragraph a) ns other h = names_stay a (with_name (codes "paragraph") ns) other (name_stays (codes "paragraph") ns other h)
+names_stay (Defined phrases sum) ns other h = h
+
+-- ---- each part is there
+
+slot_there : (s : ℕ) (slot : Slot) (ws : List Wanted) → slot_has_keys_alone slot ≡ true → OfSlot (IsThere (with_slot s slot ws)) s slot
+slot_there s Any ws alone = tt
+slot_there s (Takes keys (p ∷ ps)) ws alone = cc
+slot_there s (Takes keys []) ws alone = go (is_wanted ws s (Takes keys [])) refl
+  where
+    itself : (eqb s s && same_slot (Takes keys []) (Takes keys [])) ≡ true
+    itself = and_from (eqb s s) (same_slot (Takes keys []) (Takes keys [])) (eq-eqb s s refl) ((slots_decide (Takes keys []) (Takes keys [])).1 refl)
+
+    go : (b : Bool) → is_wanted ws s (Takes keys []) ≡ b → IsThere (cond b ws (ws ++ wanted s (Takes keys []) ∷ [])) s (Takes keys [])
+    go true is = is
+    go false is = any_last (λ (w : Wanted). eqb w.stream s && same_slot w.slot (Takes keys [])) ws (wanted s (Takes keys [])) itself
+
+phrase_there : (s : ℕ) (phrase : List Slot) (ws : List Wanted) → phrase_has_keys_alone phrase ≡ true → OfPhrase (IsThere (with_phrase s phrase ws)) s phrase
+phrase_there s [] ws alone = tt
+phrase_there s (x ∷ xs) ws alone =
+    let p = and_parts (slot_has_keys_alone x) (phrase_has_keys_alone xs) alone in
+    let now = with_slot s x ws in
+    (slot_so (IsThere now) (IsThere (with_phrase s xs now)) (phrase_stays s xs now) s x (slot_there s x ws p.0), phrase_there s xs now p.1)
+
+term_there : (s : ℕ) (phrases : List (List Slot)) (ws : List Wanted) → term_has_keys_alone phrases ≡ true → OfTerm (IsThere (with_term s phrases ws)) s phrases
+term_there s [] ws alone = tt
+term_there s (x ∷ xs) ws alone =
+    let p = and_parts (phrase_has_keys_alone x) (term_has_keys_alone xs) alone in
+    let now = with_phrase s x ws in
+    (phrase_so (IsThere now) (IsThere (with_term s xs now)) (term_stays s xs now) s x (phrase_there s x ws p.0), term_there s xs now p.1)
+
+operands_there : (s : ℕ) (operands : List (List (List Slot))) (ws : List Wanted) → list_all term_has_keys_alone operands ≡ true → OfOperands (IsThere (with_operands s operands ws)) s operands
+operands_there s [] ws alone = tt
+operands_there s (x ∷ xs) ws alone =
+    let p = and_parts (term_has_keys_alone x) (list_all term_has_keys_alone xs) alone in
+    let now = with_term s x ws in
+    (term_so (IsThere now) (IsThere (with_operands s xs now)) (operands_stay s xs now) s x (term_there s x ws p.0), operands_there s xs now p.1)
+
+name_there : (name : List ℕ) (ns : List (List ℕ)) → IsNamed (with_name name ns) name
+name_there name ns = go (has_key ns name) refl
+  where
+    go : (b : Bool) → has_key ns name ≡ b → IsNamed (cond b ns (ns ++ name ∷ [])) name
+    go true is = is
+    go false is = any_last (λ k. bytes_eq k name) ns name ((bytes_eq-Decides name name).1 refl)
+
+-- EACH SLOT AND SECTION of a query without patterns is among those that are read
+pub parts_there : (f : Reduced) (s : ℕ) (ws : List Wanted) (ns : List (List ℕ)) → has_keys_alone f ≡ true → OfParts (IsThere (with_slots f s ws)) (IsNamed (with_names f ns)) f s
+parts_there (Term phrases) s ws ns alone = term_there s phrases ws alone
+parts_there (Joined op a b) s ws ns alone =
+    let p = and_parts (has_keys_alone a) (has_keys_alone b) alone in
+    let now = with_slots a s ws in
+    let named = with_names a ns in
+    (parts_so (IsThere now) (IsThere (with_slots b s now)) (slots_stay b s now) (IsNamed named) (IsNamed (with_names b named)) (names_stay b named) a s (parts_there a s ws ns p.0), parts_there b s now named p.1)
+parts_there (Weighted w a) s ws ns alone = parts_there a s ws ns alone
+parts_there (Exceeding n a) s ws ns alone = parts_there a s ws ns alone
+parts_there (Close operands span ordered) s ws ns alone = operands_there s operands ws alone
+parts_there (Inside (Field f) a) s ws ns alone = parts_there a f ws ns alone
+parts_there (Inside (Zone name) a) s ws ns alone = (names_stay a (with_name name ns) name (name_there name ns), parts_there a s ws (with_name name ns) alone)
+parts_there (Inside Sentence a) s ws ns alone = (names_stay a (with_name (codes "sentence") ns) (codes "sentence") (name_there (codes "sentence") ns), parts_there a s ws (with_name (codes "sentence") ns) alone)
+parts_there (Inside Paragraph a) s ws ns alone = (names_stay a (with_name (codes "paragraph") ns) (codes "paragraph") (name_there (codes "paragraph") ns), parts_there a s ws (with_name (codes "paragraph") ns) alone)
+parts_there (Defined phrases sum) s ws ns alone = cc
+
+-- ---- what holds of each slot of the query holds of each that is read
+
+module _ (P : ℕ → Slot → Type 0) where
+  abbrev pub Holds : Wanted → Type 0
+  Holds w = P w.stream w.slot
+
+  slot_each : (s : ℕ) (slot : Slot) (ws : List Wanted) → OfSlot P s slot → EachIs Holds ws → EachIs Holds (with_slot s slot ws)
+  slot_each s Any ws h each = each
+  slot_each s (Takes keys (p ∷ ps)) ws h each = each
+  slot_each s (Takes keys []) ws h each = go (is_wanted ws s (Takes keys []))
+    where
+      go : (b : Bool) → EachIs Holds (cond b ws (ws ++ wanted s (Takes keys []) ∷ []))
+      go true = each
+      go false = each_last Holds ws (wanted s (Takes keys [])) each h
+
+  phrase_each : (s : ℕ) (phrase : List Slot) (ws : List Wanted) → OfPhrase P s phrase → EachIs Holds ws → EachIs Holds (with_phrase s phrase ws)
+  phrase_each s [] ws h each = each
+  phrase_each s (x ∷ xs) ws h each = phrase_each s xs (with_slot s x ws) h.1 (slot_each s x ws h.0 each)
+
+  term_each : (s : ℕ) (phrases : List (List Slot)) (ws : List Wanted) → OfTerm P s phrases → EachIs Holds ws → EachIs Holds (with_term s phrases ws)
+  term_each s [] ws h each = each
+  term_each s (x ∷ xs) ws h each = term_each s xs (with_phrase s x ws) h.1 (phrase_each s x ws h.0 each)
+
+  operands_each : (s : ℕ) (operands : List (List (List Slot))) (ws : List Wanted) → OfOperands P s operands → EachIs Holds ws → EachIs Holds (with_operands s operands ws)
+  operands_each s [] ws h each = each
+  operands_each s (x ∷ xs) ws h each = operands_each s xs (with_term s x ws) h.1 (term_each s x ws h.0 each)
+
+  pub slots_each : (Q : List ℕ → Type 0) (f : Reduced) (s : ℕ) (ws : List Wanted) → OfParts P Q f s → EachIs Holds ws → EachIs Holds (with_slots f s ws)
+  slots_each Q (Term phrases) s ws h each = term_each s phrases ws h each
+  slots_each Q (Joined op a b) s ws h each = slots_each Q b s (with_slots a s ws) h.1 (slots_each Q a s ws h.0 each)
+  slots_each Q (Weighted w a) s ws h each = slots_each Q a s ws h each
+  slots_each Q (Exceeding n a) s ws h each = slots_each Q a s ws h each
+  slots_each Q (Close operands span ordered) s ws h each = operands_each s operands ws h each
+  slots_each Q (Inside (Field f) a) s ws h each = slots_each Q a f ws h each
+  slots_each Q (Inside (Zone name) a) s ws h each = slots_each Q a s ws h.1 each
+  slots_each Q (Inside Sentence a) s ws h each = slots_each Q a s ws h.1 each
+  slots_each Q (Inside Paragraph a) s ws h each = slots_each Q a s ws h.1 each
+  slots_each Q (Defined phrases sum) s ws h each = term_each s phrases ws h each

@@ -1,0 +1,223 @@
+//! What a query reads of an index.
+#![tactic(auto, using(ct_keep::specs::Composing::reads_on, ct_keep::specs::Composing::reads_short))]
+
+ghost use Rattle.std.specs.Prelude.{◌≡◌, ℕ, List, IfOk, map, MatchOption};
+ghost use Rattle.ct_keep.specs.KeeperViews.{Finds, OnlyReads, Told};
+ghost use Rattle.ct_keep.specs.Looks.{LooksAtMost};
+ghost use Rattle.ct_base.specs.Names.{IsName};
+ghost use Rattle.ct_entry.specs.Keys.{IsToken};
+ghost use Rattle.ct_entry.specs.Lists.{EachIs};
+ghost use Rattle.ix_posting.specs.declared.rows.RowDocument.{RowDocument};
+ghost use Rattle.ix_posting.specs.declared.span_rows.SpanDocument.{SpanDocument};
+ghost use Rattle.ix_posting.specs.Rows.{DocumentsRise};
+ghost use Rattle.ix_posting.specs.SpanRows.{SpanDocumentsRise};
+ghost use Rattle.q_tree.specs.Trees.{reduced_of};
+ghost use Rattle.ix_cursor.specs.Documents.{joined};
+ghost use Rattle.ix_cursor.specs.Reading.{TokensRise, SlotsRise, SectionsRise, FeedsRise};
+ghost use Rattle.ix_search.specs.Parts.{keys_of};
+ghost use Rattle.ix_search.specs.Looking.{key_looks, keys_looks, slots_looks, name_looks, names_looks, query_looks};
+ghost use Rattle.ix_search.specs.Reading.{key_prefix, name_prefix, KeyRows, NameRows, HoldsKey, HoldsSlot, HoldsName, slot_feed, section_feed, slots_of, names_of, feeds_of};
+
+use crate::span_taking::span_rows_in;
+use crate::taking::rows_in;
+use crate::wanting::{Wanted, want_names, want_slots};
+use ct_base::{Listed, Memory, Name};
+use ct_entry::{Kind, entries_of};
+use ct_keep::{KeepFault, Keeper};
+use ix_cursor::{EncodedRows, EncodedSpanRows, Feeds, SectionFeed, SlotFeed};
+use q_tree::{Flat, Slot};
+use std::alloc::Global;
+use tx_chars::Key;
+
+/// What follows the index in the keys of a key's rows in a stream, up to the document: the stream, the length of the key in
+/// one byte, and the key. None for a key of no byte or of over 255, which has no rows.
+fn key_prefix(alloc: Global, stream: u8, key: &Key) -> Result<Option<Vec<u8>>, Memory>
+    ensures { IfOk result (λ prefix. MatchOption prefix (IsToken key.now → ⊥) (λ v. v.items ≡ key_prefix stream key.now)) }
+{
+    let key = key.as_slice();
+    if key.is_empty() || key.len() > 255 {
+        return Ok(None);
+    }
+    let mut prefix = Vec::new(alloc);
+    prefix.push(stream)?;
+    prefix.push(key.len() as u8)?;
+    prefix.extend_from_slice(key)?;
+    Ok(Some(prefix))
+}
+
+/// The rows of a key in a stream.
+fn read_key<K: Keeper>(
+    alloc: Global,
+    keeper: &mut K,
+    index: &Name,
+    stream: u8,
+    key: &Key,
+) -> Result<EncodedRows, KeepFault>
+    requires { (K.view keeper.old).ready }
+    ensures rise { IfOk result (λ rows. DocumentsRise 0 (joined rows)) }
+    ensures rows { Finds K.view keeper.old result (λ m rows. (held : List (List RowDocument)) → HoldsKey m index.now stream key.now held → rows ≡ held) }
+    ensures reads { OnlyReads K.view keeper.old keeper.new result }
+    ensures at_most { Told K.view keeper.old (λ m. LooksAtMost K.view keeper.old keeper.new (key_looks m index.now stream key.now)) }
+{
+    let Some(prefix) = key_prefix(alloc, stream, key)? else {
+        return Ok(EncodedRows::of(alloc, Vec::new(alloc))?);
+    };
+    let entries = entries_of(alloc, keeper, Kind::Postings, index, &prefix)?;
+    let rows = rows_in(alloc, entries)?;
+    Ok(EncodedRows::of(alloc, rows)?)
+}
+
+/// The rows of each of some keys in a stream.
+fn read_keys<K: Keeper>(
+    alloc: Global,
+    keeper: &mut K,
+    index: &Name,
+    stream: u8,
+    keys: &[Key],
+) -> Result<Listed<EncodedRows>, KeepFault>
+    requires { (K.view keeper.old).ready }
+    ensures rise { IfOk result (λ tokens. TokensRise tokens) }
+    ensures rows { Finds K.view keeper.old result (λ m tokens. (held : List ℕ → List (List RowDocument)) → EachIs (λ key. HoldsKey m index.now stream key (held key)) keys.now → tokens ≡ map held keys.now) }
+    ensures reads { OnlyReads K.view keeper.old keeper.new result }
+    ensures at_most { Told K.view keeper.old (λ m. LooksAtMost K.view keeper.old keeper.new (keys_looks m index.now stream keys.now)) }
+{
+    let mut tokens = Listed::empty(alloc);
+    for key in keys {
+        let rows = read_key(alloc, keeper, index, stream, key)?;
+        tokens = tokens.with(rows)?;
+    }
+    Ok(tokens)
+}
+
+/// The keys of a slot; of one that takes any word there are none.
+fn keys_of(slot: &Slot) -> &[Key]
+    ensures { result.now ≡ keys_of slot.now }
+{
+    match slot {
+        Slot::Any => &[],
+        Slot::Takes { keys, .. } => keys.as_slice(),
+    }
+}
+
+/// The rows of the keys of a slot in its stream.
+fn read_slot<K: Keeper>(
+    alloc: Global,
+    keeper: &mut K,
+    index: &Name,
+    wanted: Wanted,
+) -> Result<SlotFeed, KeepFault>
+    requires { (K.view keeper.old).ready }
+    ensures rise { IfOk result (λ feed. TokensRise feed.tokens) }
+    ensures rows { Finds K.view keeper.old result (λ m feed. (held : KeyRows) → HoldsSlot m index.now held wanted → feed ≡ slot_feed held wanted) }
+    ensures reads { OnlyReads K.view keeper.old keeper.new result }
+    ensures at_most { Told K.view keeper.old (λ m. LooksAtMost K.view keeper.old keeper.new (keys_looks m index.now wanted.stream (keys_of wanted.slot))) }
+{
+    let Wanted { stream, slot } = wanted;
+    let tokens = read_keys(alloc, keeper, index, stream, keys_of(&slot))?;
+    Ok(SlotFeed {
+        stream,
+        slot,
+        tokens,
+    })
+}
+
+fn read_slots<K: Keeper>(
+    alloc: Global,
+    keeper: &mut K,
+    index: &Name,
+    wanted: Vec<Wanted>,
+) -> Result<Listed<SlotFeed>, KeepFault>
+    requires { (K.view keeper.old).ready }
+    ensures rise { IfOk result (λ feeds. SlotsRise feeds) }
+    ensures rows { Finds K.view keeper.old result (λ m feeds. (held : KeyRows) → EachIs (HoldsSlot m index.now held) wanted.items → feeds ≡ map (slot_feed held) wanted.items) }
+    ensures reads { OnlyReads K.view keeper.old keeper.new result }
+    ensures at_most { Told K.view keeper.old (λ m. LooksAtMost K.view keeper.old keeper.new (slots_looks m index.now wanted.items)) }
+{
+    let mut feeds = Listed::empty(alloc);
+    for want in wanted {
+        let feed = read_slot(alloc, keeper, index, want)?;
+        feeds = feeds.with(feed)?;
+    }
+    Ok(feeds)
+}
+
+/// What follows the index in the keys of a section's rows, up to the document: the length of its name in one byte, and the
+/// name.
+fn name_prefix(alloc: Global, name: &str) -> Result<Vec<u8>, Memory>
+    requires { IsName name.now }
+    ensures { IfOk result (λ v. v.items ≡ name_prefix name.now) }
+{
+    let name = name.as_bytes();
+    let mut prefix = Vec::new(alloc);
+    prefix.push(name.len() as u8)?;
+    prefix.extend_from_slice(name)?;
+    Ok(prefix)
+}
+
+/// The rows of a section.
+fn read_name<K: Keeper>(
+    alloc: Global,
+    keeper: &mut K,
+    index: &Name,
+    name: Name,
+) -> Result<SectionFeed, KeepFault>
+    requires { (K.view keeper.old).ready }
+    ensures named { IfOk result (λ _. IsName name) }
+    ensures rise { IfOk result (λ feed. SpanDocumentsRise 0 (joined feed.rows)) }
+    ensures rows { Finds K.view keeper.old result (λ m feed. (held : NameRows) → HoldsName m index.now held name → feed ≡ section_feed held name) }
+    ensures reads { OnlyReads K.view keeper.old keeper.new result }
+    ensures at_most { Told K.view keeper.old (λ m. LooksAtMost K.view keeper.old keeper.new (name_looks m index.now name)) }
+{
+    let prefix = name_prefix(alloc, name.as_str())?;
+    let entries = entries_of(alloc, keeper, Kind::Spans, index, &prefix)?;
+    let rows = span_rows_in(alloc, entries)?;
+    Ok(SectionFeed {
+        section: name,
+        rows: EncodedSpanRows::of(alloc, rows)?,
+    })
+}
+
+fn read_names<K: Keeper>(
+    alloc: Global,
+    keeper: &mut K,
+    index: &Name,
+    names: Vec<Name>,
+) -> Result<Listed<SectionFeed>, KeepFault>
+    requires { (K.view keeper.old).ready }
+    ensures named { IfOk result (λ _. EachIs IsName names.items) }
+    ensures rise { IfOk result (λ feeds. SectionsRise feeds) }
+    ensures rows { Finds K.view keeper.old result (λ m feeds. (held : NameRows) → EachIs (HoldsName m index.now held) names.items → feeds ≡ map (section_feed held) names.items) }
+    ensures reads { OnlyReads K.view keeper.old keeper.new result }
+    ensures at_most { Told K.view keeper.old (λ m. LooksAtMost K.view keeper.old keeper.new (names_looks m index.now names.items)) }
+{
+    let mut feeds = Listed::empty(alloc);
+    for name in names {
+        let feed = read_name(alloc, keeper, index, name)?;
+        feeds = feeds.with(feed)?;
+    }
+    Ok(feeds)
+}
+
+/// The rows that a query without patterns needs: those of each of its keys in each stream where it is looked for, and those
+/// of each of its sections. Each is read once.
+pub(crate) fn read<K: Keeper>(
+    alloc: Global,
+    keeper: &mut K,
+    index: &Name,
+    flat: &Flat,
+) -> Result<Feeds, KeepFault>
+    requires { (K.view keeper.old).ready }
+    ensures named { IfOk result (λ _. EachIs IsName (names_of (reduced_of flat.now))) }
+    ensures rise { IfOk result (λ feeds. FeedsRise feeds) }
+    ensures rows { Finds K.view keeper.old result (λ m feeds. (words : KeyRows) (spans : NameRows) → EachIs (HoldsSlot m index.now words) (slots_of (reduced_of flat.now)) → EachIs (HoldsName m index.now spans) (names_of (reduced_of flat.now)) → feeds ≡ feeds_of words spans (reduced_of flat.now)) }
+    ensures reads { OnlyReads K.view keeper.old keeper.new result }
+    ensures at_most { Told K.view keeper.old (λ m. LooksAtMost K.view keeper.old keeper.new (query_looks m index.now (reduced_of flat.now))) }
+{
+    let mut wanted = Vec::new(alloc);
+    want_slots(alloc, flat, 0, &mut wanted)?;
+    let mut names = Vec::new(alloc);
+    want_names(alloc, flat, &mut names)?;
+    let slots = read_slots(alloc, keeper, index, wanted)?;
+    let sections = read_names(alloc, keeper, index, names)?;
+    Ok(Feeds { slots, sections })
+}

@@ -1,0 +1,71 @@
+//! The rows that a query finds.
+#![tactic(auto, using(ct_keep::specs::Composing::reads_on, ct_keep::specs::Composing::reads_short, crate::specs::laws::Parts::alone_is_plain))]
+
+ghost use Rattle.std.specs.Prelude.{◌≡◌, true};
+ghost use Rattle.ct_keep.specs.KeeperViews.{OnlyReads, Told};
+ghost use Rattle.ct_keep.specs.Looks.{LooksAtMost};
+ghost use Rattle.tx_settings.specs.PrefsBytes.{IsPrefs};
+ghost use Rattle.q_tree.specs.Trees.{reduced_of};
+ghost use Rattle.q_tree.specs.Soundness.{is_sound};
+ghost use Rattle.ix_context.specs.Sees.{SeesWithinLimits};
+ghost use Rattle.ix_search.specs.Parts.{has_keys_alone};
+ghost use Rattle.ix_search.specs.Finding.{found};
+ghost use Rattle.ix_search.specs.Gathering.{Gives};
+ghost use Rattle.ix_search.specs.Hits.{hit_rows};
+ghost use Rattle.ix_search.specs.Looking.{query_looks};
+
+use crate::gathering::Gathered;
+use crate::hits::Hit;
+use crate::mapping::map_documents;
+use crate::reading::read;
+use ct_base::Name;
+use ct_keep::{KeepFault, Keeper};
+use ix_cursor::Candidates;
+use q_tree::Flat;
+use std::alloc::Global;
+
+/// Reads what a query needs, so that it can be searched without the keeper. The query has no pattern and no DEFINESCORE.
+///
+/// It reads the rows of each key of the query in each stream where it is looked for, and those of each of its sections,
+/// once each; and the row of each document that isn't ruled out by which documents the parts of the query are in. It costs
+/// the decoding of the rows, and for each such document one look-up and the logarithm of their number. It reads no text,
+/// and never answers Full.
+pub fn gather<'q, K: Keeper>(
+    alloc: Global,
+    keeper: &mut K,
+    index: &Name,
+    flat: &'q Flat,
+) -> Result<Gathered<'q>, KeepFault>
+    requires ready { (K.view keeper.old).ready }
+    requires sound { is_sound (reduced_of flat.now) ≡ true }
+    requires plain { has_keys_alone (reduced_of flat.now) ≡ true }
+    ensures gathered { SeesWithinLimits K.view keeper.old index.now result (λ ts x g. IsPrefs x.prefs → Gives g (found ts x (reduced_of flat.now) 0)) }
+    ensures reads { OnlyReads K.view keeper.old keeper.new result }
+    ensures at_most { Told K.view keeper.old (λ m. LooksAtMost K.view keeper.old keeper.new (query_looks m index.now (reduced_of flat.now))) }
+{
+    let feeds = read(alloc, keeper, index, flat)?;
+    let mut candidates = Candidates::build(alloc, flat, &feeds)?;
+    let rows = map_documents(alloc, keeper, index, &mut candidates)?;
+    Ok(Gathered::of(flat, feeds, rows))
+}
+
+/// The rows that a query finds, with their scores, in order of their keys. The query has no pattern and no DEFINESCORE.
+///
+/// It costs what it gathers, and then the scoring of what was read.
+/// It reads no text, and never answers Full.
+pub fn search<K: Keeper>(
+    alloc: Global,
+    keeper: &mut K,
+    index: &Name,
+    flat: &Flat,
+) -> Result<Vec<Hit>, KeepFault>
+    requires ready { (K.view keeper.old).ready }
+    requires sound { is_sound (reduced_of flat.now) ≡ true }
+    requires plain { has_keys_alone (reduced_of flat.now) ≡ true }
+    ensures found { SeesWithinLimits K.view keeper.old index.now result (λ ts x hits. IsPrefs x.prefs → hit_rows hits.items ≡ found ts x (reduced_of flat.now) 0) }
+    ensures reads { OnlyReads K.view keeper.old keeper.new result }
+    ensures at_most { Told K.view keeper.old (λ m. LooksAtMost K.view keeper.old keeper.new (query_looks m index.now (reduced_of flat.now))) }
+{
+    let gathered = gather(alloc, keeper, index, flat)?;
+    Ok(gathered.hits(alloc)?)
+}
