@@ -10,7 +10,7 @@ EXEC CTX_DOC.POLICY_TOKENS('shop_lexer', 'E-Bike by Kálmán, 28-622, 1,250 W');
 EXEC CTX_DDL.CREATE_STOPLIST('shop_words');
 EXEC CTX_DDL.ADD_STOPWORD('shop_words', 'for');
 
--- What stands between tags. A product's name and brand are found as every word is; what the shop notes for itself isn't found.
+-- What stands between tags. A product's name and brand are found as every word is; what the shop notes for itself only where asked for.
 EXEC CTX_DDL.CREATE_SECTION_GROUP('shop_tags', 'BASIC_SECTION_GROUP');
 EXEC CTX_DDL.ADD_ZONE_SECTION('shop_tags', 'name', 'NAME');
 EXEC CTX_DDL.ADD_FIELD_SECTION('shop_tags', 'brand', 'BRAND', TRUE);
@@ -34,6 +34,18 @@ SELECT id, price FROM products WHERE CONTAINS(body, 'KALMAN') > 0 AND price < 10
 SELECT id FROM products WHERE CONTAINS(body, 'velo') > 0;
 SELECT id FROM products WHERE CONTAINS(body, 'for') > 0;
 SELECT COUNT(*) FROM products WHERE CONTAINS(body, 'brand') > 0;
+
+-- Queries of several words. A customer asks for an e-bike, and not for children; or for words side by side; or near each other.
+SELECT id FROM products WHERE CONTAINS(body, 'ebike NOT children') > 0;
+SELECT id, SCORE(1) FROM products WHERE CONTAINS(body, 'city * 2 OR light = lights', 1) > 0;
+SELECT id FROM products WHERE CONTAINS(body, 'city bikes') > 0;
+SELECT id FROM products WHERE CONTAINS(body, 'NEAR((lights, lock), 3)') > 0;
+
+-- A query may name a section: the name of a product, its brand, one sentence of its text, and the note that no other query finds.
+SELECT id FROM products WHERE CONTAINS(body, 'ebike WITHIN name AND velo nord WITHIN brand') > 0;
+SELECT id FROM products WHERE CONTAINS(body, '(light AND quick) WITHIN SENTENCE') > 0;
+SELECT id FROM products WHERE CONTAINS(body, 'velo WITHIN note') > 0;
+SELECT id FROM products WHERE CONTAINS(body, 'velo WITHIN supplier') > 0;
 
 -- A product that comes later is read in the same way, once the index is synchronised.
 INSERT INTO products VALUES (30, '<NAME>Lock</NAME> <BRAND>Böhme</BRAND> A lock of steel, 1.5 kg.', 40);

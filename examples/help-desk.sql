@@ -18,8 +18,9 @@ INSERT INTO articles VALUES (106, 'Mail is full | sending stops',
 CREATE INDEX title_idx ON articles(title) INDEXTYPE IS CTXSYS.CONTEXT;
 CREATE INDEX body_idx ON articles(body) INDEXTYPE IS CTXSYS.CONTEXT;
 
--- 8:30. Someone forgot a password. The score comes first: how often the word stands in the article.
+-- 8:30. Someone forgot a password. The score comes first: how often the word stands in the article. Then two words side by side.
 SELECT SCORE(1), id, title FROM articles WHERE CONTAINS(body, 'password', 1) > 0;
+SELECT id FROM articles WHERE CONTAINS(body, 'forgot password') > 0;
 INSERT INTO calls VALUES (1, 'password', 101);
 
 -- In titles alone, in any case, and only where many readers found it good.
@@ -61,7 +62,7 @@ UPDATE articles SET title = 'A title of over sixty bytes, which is more than its
 UPDATE articles SET id = 108 WHERE id = 107;
 SELECT author FROM articles WHERE votes > 10;
 SELECT id FROM articles WHERE CONTAINS(votes, '42') > 0;
-SELECT id FROM articles WHERE CONTAINS(body, 'forgot password') > 0;
+SELECT id FROM articles WHERE CONTAINS(body, 'password AND') > 0;
 EXEC CTX_DDL.SYNC_INDEX('bodies_idx');
 
 -- 15:00. The old Wi-Fi is switched off. Its article is withdrawn, and is found no more from here on.
