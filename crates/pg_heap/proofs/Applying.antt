@@ -9,9 +9,9 @@ use Rattle.ct_keep.specs.Content.{Content, Change, after, weight}
 use Rattle.ct_keep.specs.KeeperViews.{KeepsLimit}
 use Rattle.pg_journal.specs.Recovered.{IsRecovered, number_pages}
 use Rattle.pg_journal.specs.Standing.{DiskStands}
-use Rattle.pg_heap.specs.Kinds.{Kind}
-use Rattle.pg_heap.specs.MapReading.{behind_root}
-use Rattle.pg_heap.specs.Planned.{IsDone}
+use Rattle.pg_map.specs.Kinds.{Kind}
+use Rattle.pg_map.specs.MapReading.{behind_root}
+use Rattle.pg_map.specs.Done.{IsDone}
 use Rattle.pg_heap.specs.BatchPages.{batch_pages, batch_end}
 use Rattle.pg_heap.specs.Committing.{AreEither}
 use Rattle.pg_heap.specs.laws.Committing.{done_holds}

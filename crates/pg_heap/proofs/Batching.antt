@@ -8,15 +8,17 @@ use Rattle.std.proofs.lemmas.List.Elements.{at_from_Contains, Contains-get_or}
 use Rattle.std.proofs.lemmas.List.Sorted.{Contains-permutation, IsPermutation-sym}
 use Rattle.pg_journal.specs.Pages.{Numbered, Has, with_more, home, root_page}
 use Rattle.pg_heap.specs.declared.drafts.Note.{Note}
-use Rattle.pg_heap.specs.declared.sheets.Sheet.{Sheet}
-use Rattle.pg_heap.specs.Kinds.{Each, Kind, Free, kind_bytes, IsKind}
-use Rattle.pg_heap.specs.laws.Planned.{each_at}
-use Rattle.pg_heap.specs.Sheets.{kind_of, kinds_of}
+use Rattle.pg_map.specs.declared.sheets.Sheet.{Sheet}
+use Rattle.pg_map.specs.Kinds.{Each, Kind, Free, bytes_of_kind, IsKind}
+use Rattle.pg_map.specs.laws.MapReading.{kind_is}
+use Rattle.pg_map.specs.laws.Sheets.{length-sheet_kinds}
+use Rattle.pg_map.specs.Sheets.{sheet_kind, sheet_kinds}
 use Rattle.pg_heap.specs.Drafts.{undone, touched_by}
 use Rattle.pg_heap.specs.DraftFields.{IsDraftOf}
-use Rattle.pg_heap.specs.MapReading.{behind_root}
+use Rattle.pg_map.specs.MapReading.{behind_root}
 use Rattle.pg_heap.specs.Committing.{IsBatchOf, IsOneMore}
-use Rattle.pg_heap.proofs.Drafting.{length-undone, length-kinds_of}
+use Rattle.pg_heap.proofs.Drafting.{length-undone}
+use Rattle.pg_heap.specs.laws.Committing.{either_below}
 
 -- ---- one page more in a batch
 
@@ -48,22 +50,22 @@ length_more w (v ∷ vs) = of (length_more w vs) (nat_lt v.0 w.0)
 
 -- The pages of the first i places, and the root where there are more pages than before.
 pub record Batching (sheets : List Sheet) (places : List ℕ) (before i room : ℕ) (pages : List Numbered) : Type 0 where
-  pub are : Each (λ (w : Numbered). w.1 ≡ home (behind_root (kinds_of sheets)) w.0) pages
+  pub are : Each (λ (w : Numbered). w.1 ≡ home (behind_root (sheet_kinds sheets)) w.0) pages
   pub noted : (k : ℕ) → k < i → Has pages (3 + get_or places k 0)
   pub root : before < length sheets → Has pages 2
   pub fits : length pages ≤ 1 + i
   pub room_is : room ≡ length places + 1
 
-page_of_kind : (ks : List Kind) (n : ℕ) → n < length ks → get_or (map kind_bytes ks) n [] ≡ kind_bytes (get_or ks n Free)
+page_of_kind : (ks : List Kind) (n : ℕ) → n < length ks → get_or (map bytes_of_kind ks) n [] ≡ bytes_of_kind (get_or ks n Free)
 page_of_kind [] n less = absurd (omega (arith, less))
 page_of_kind (k ∷ ks) zero less = refl
 page_of_kind (k ∷ ks) (suc n) less = page_of_kind ks n (omega (arith, less))
 
-pub home_of : (ks : List Kind) (at : ℕ) → at < length ks → home (behind_root ks) (3 + at) ≡ kind_bytes (get_or ks at Free)
+pub home_of : (ks : List Kind) (at : ℕ) → at < length ks → home (behind_root ks) (3 + at) ≡ bytes_of_kind (get_or ks at Free)
 home_of ks at less = let e : (3 + at) - 2 ≡ suc at = omega arith in ap (λ (n : ℕ). get_or (behind_root ks) n []) e ∙ page_of_kind ks at less
 
 pub batching_more : (sheets : List Sheet) (places : List ℕ) (before i k room : ℕ) (old new : List Numbered) (at page : ℕ) (bytes : List ℕ) → Batching sheets places before i room old → k ≡ i + 1 → at ≡ get_or places i 0
-    → page ≡ at + 3 → at < length sheets → bytes ≡ kind_bytes (get_or (kinds_of sheets) at Free) → IsOneMore old new page bytes → Batching sheets places before k room new
+    → page ≡ at + 3 → at < length sheets → bytes ≡ bytes_of_kind (get_or (sheet_kinds sheets) at Free) → IsOneMore old new page bytes → Batching sheets places before k room new
 batching_more sheets places before i k room old new at page bytes is next place page_is within bytes_is one = ⊎_elim
     (λ (same_, has). subst (Batching sheets places before k room) (sym same_) (record {
       are = is.are;
@@ -73,7 +75,7 @@ batching_more sheets places before i k room old new at page bytes is next place 
       room_is = is.room_is;
     }))
     (λ more. subst (Batching sheets places before k room) (sym more) (record {
-      are = each_more (λ (w : Numbered). w.1 ≡ home (behind_root (kinds_of sheets)) w.0) (page, bytes) old (bytes_is ∙ sym (home_of (kinds_of sheets) at (let e = length-kinds_of sheets in omega (arith, e, within))) ∙ ap (home (behind_root (kinds_of sheets))) number) is.are;
+      are = each_more (λ (w : Numbered). w.1 ≡ home (behind_root (sheet_kinds sheets)) w.0) (page, bytes) old (bytes_is ∙ sym (home_of (sheet_kinds sheets) at (let e = length-sheet_kinds sheets in omega (arith, e, within))) ∙ ap (home (behind_root (sheet_kinds sheets))) number) is.are;
       noted = λ j low. of (with_more (page, bytes) old) (λ m l. has_more (page, bytes) old (3 + get_or places m 0) (inr (is.noted m l))) (has_more (page, bytes) old page (inl refl)) j low;
       root = λ grown. has_more (page, bytes) old 2 (inr (is.root grown));
       fits = let e = is.fits in omega (arith, e, next, length_more (page, bytes) old);
@@ -107,11 +109,11 @@ touched_or : (notes : List Note) (ks : List Kind) (j : ℕ) → IsNoted notes j 
 touched_or [] ks j = inr refl
 touched_or (n ∷ ns) ks j = of (touched_or ns ks j) (n.at == j) (λ e. grind (arith, e)) (λ e. grind (arith, e))
   where
-    of : IsNoted ns j ⊎ (get_or (undone ns ks) j Free ≡ get_or ks j Free) → (t : Bool) → (t ≡ true → n.at ≡ j) → (t ≡ false → n.at ≢ j) → IsNoted (n ∷ ns) j ⊎ (get_or (set (undone ns ks) n.at (kind_of n.sheet)) j Free ≡ get_or ks j Free)
+    of : IsNoted ns j ⊎ (get_or (undone ns ks) j Free ≡ get_or ks j Free) → (t : Bool) → (t ≡ true → n.at ≡ j) → (t ≡ false → n.at ≢ j) → IsNoted (n ∷ ns) j ⊎ (get_or (set (undone ns ks) n.at (sheet_kind n.sheet)) j Free ≡ get_or ks j Free)
     of rest true yes_ no_ = inl (record { k = 0; within = omega arith; is = λ d. yes_ refl })
     of rest false yes_ no_ = ⊎_elim
         (λ r. inl (record { k = suc r.k; within = let w = r.within in omega (arith, w); is = r.is }))
-        (λ same_. inr (set_other (undone ns ks) n.at j (kind_of n.sheet) (no_ refl) ∙ same_)) rest
+        (λ same_. inr (set_other (undone ns ks) n.at j (sheet_kind n.sheet) (no_ refl) ∙ same_)) rest
 
 noted_by : (notes : List Note) (j : ℕ) → Contains (touched_by notes) j → IsNoted notes j
 noted_by notes j has = let at = at_from_Contains (touched_by notes) j has in of notes at.0 at.1 (at.2 0)
@@ -159,23 +161,20 @@ length_taken (k ∷ ks) (suc n) less = ap suc (length_taken ks n (omega (arith, 
 either : (a b : ℕ) → (a ≤ b) ⊎ (b < a)
 either a b = grind arith
 
-grows : (a b : ℕ) → (a < b) ⊎ (b ≤ a)
-grows a b = grind arith
-
-pub batching_all : (sheets : List Sheet) (notes : List Note) (places : List ℕ) (before i room : ℕ) (pages : List Numbered) → IsDraftOf sheets notes before → IsPermutation (touched_by notes) places → Batching sheets places before i room pages → length places ≤ i → IsBatchOf (take before (undone notes (kinds_of sheets))) (kinds_of sheets) pages
+pub batching_all : (sheets : List Sheet) (notes : List Note) (places : List ℕ) (before i room : ℕ) (pages : List Numbered) → IsDraftOf sheets notes before → IsPermutation (touched_by notes) places → Batching sheets places before i room pages → length places ≤ i → IsBatchOf (take before (undone notes (sheet_kinds sheets))) (sheet_kinds sheets) pages
 batching_all sheets notes places before i room pages draft same_places is all = record {
   are = is.are;
   all = λ n low high. of n (n == 2) (λ e. grind (arith, e)) (λ e. grind (arith, e)) low high;
 }
   where
     olds : List Kind
-    olds = take before (undone notes (kinds_of sheets))
+    olds = take before (undone notes (sheet_kinds sheets))
 
-    count : length (undone notes (kinds_of sheets)) ≡ length sheets
-    count = length-undone notes (kinds_of sheets) ∙ length-kinds_of sheets
+    count : length (undone notes (sheet_kinds sheets)) ≡ length sheets
+    count = length-undone notes (sheet_kinds sheets) ∙ length-sheet_kinds sheets
 
-    length_olds : length (take before (undone notes (kinds_of sheets))) ≡ before
-    length_olds = length_taken (undone notes (kinds_of sheets)) before (let g = draft.grown in omega (arith, g, count))
+    length_olds : length (take before (undone notes (sheet_kinds sheets))) ≡ before
+    length_olds = length_taken (undone notes (sheet_kinds sheets)) before (let g = draft.grown in omega (arith, g, count))
 
     has : (n : ℕ) → IsNoted notes (n - 3) → 3 ≤ n → Has pages n
     has n r low =
@@ -183,36 +182,36 @@ batching_all sheets notes places before i room pages draft same_places is all = 
         let e : 3 + (n - 3) ≡ n = omega (arith, low) in
         subst (Has pages) (ap (λ (j : ℕ). 3 + j) p.is ∙ e) (is.noted p.k (let w = p.within in omega (arith, w, all)))
 
-    later : (n : ℕ) → 3 ≤ n → n < 3 + length (kinds_of sheets) → Has pages n ⊎ (home (behind_root (take before (undone notes (kinds_of sheets)))) n ≡ home (behind_root (kinds_of sheets)) n)
+    later : (n : ℕ) → 3 ≤ n → n < 3 + length (sheet_kinds sheets) → Has pages n ⊎ (home (behind_root (take before (undone notes (sheet_kinds sheets)))) n ≡ home (behind_root (sheet_kinds sheets)) n)
     later n low high = ⊎_elim
-        (λ behind. inl (has n (noted_by notes (n - 3) (draft.new (n - 3) behind (let e = length-kinds_of sheets in omega (arith, high, low, e)))) low))
+        (λ behind. inl (has n (noted_by notes (n - 3) (draft.new (n - 3) behind (let e = length-sheet_kinds sheets in omega (arith, high, low, e)))) low))
         (λ front. ⊎_elim
         (λ noted. inl (has n noted low))
         (λ same_.
         let e : n ≡ 3 + (n - 3) = omega (arith, low) in
-        inr (ap (home (behind_root (take before (undone notes (kinds_of sheets))))) e
-        ∙ home_of (take before (undone notes (kinds_of sheets))) (n - 3) (omega (arith, front, length_olds))
-        ∙ ap kind_bytes (take_at_front (undone notes (kinds_of sheets)) before (n - 3) front ∙ same_)
-        ∙ sym (home_of (kinds_of sheets) (n - 3) (omega (arith, high, low))) ∙ sym (ap (home (behind_root (kinds_of sheets))) e)))
-        (touched_or notes (kinds_of sheets) (n - 3)))
+        inr (ap (home (behind_root (take before (undone notes (sheet_kinds sheets))))) e
+        ∙ home_of (take before (undone notes (sheet_kinds sheets))) (n - 3) (omega (arith, front, length_olds))
+        ∙ ap bytes_of_kind (take_at_front (undone notes (sheet_kinds sheets)) before (n - 3) front ∙ same_)
+        ∙ sym (home_of (sheet_kinds sheets) (n - 3) (omega (arith, high, low))) ∙ sym (ap (home (behind_root (sheet_kinds sheets))) e)))
+        (touched_or notes (sheet_kinds sheets) (n - 3)))
         (either before (n - 3))
 
-    of : (n : ℕ) (t : Bool) → (t ≡ true → n ≡ 2) → (t ≡ false → n ≢ 2) → 2 ≤ n → n < 3 + length (kinds_of sheets) → Has pages n ⊎ (home (behind_root (take before (undone notes (kinds_of sheets)))) n ≡ home (behind_root (kinds_of sheets)) n)
+    of : (n : ℕ) (t : Bool) → (t ≡ true → n ≡ 2) → (t ≡ false → n ≢ 2) → 2 ≤ n → n < 3 + length (sheet_kinds sheets) → Has pages n ⊎ (home (behind_root (take before (undone notes (sheet_kinds sheets)))) n ≡ home (behind_root (sheet_kinds sheets)) n)
     of n false yes_ no_ low high = later n (let e = no_ refl in omega (arith, low, e)) high
     of n true yes_ no_ low high = ⊎_elim
         (λ less. inl (subst (Has pages) (sym (yes_ refl)) (is.root less)))
         (λ not_less.
-        let e : length (take before (undone notes (kinds_of sheets))) ≡ length (kinds_of sheets) = let g = draft.grown in omega (arith, g, not_less, length_olds, length-kinds_of sheets) in
-        inr (ap (home (behind_root (take before (undone notes (kinds_of sheets))))) (yes_ refl) ∙ ap (λ (k : ℕ). root_page (3 + k)) e ∙ sym (ap (home (behind_root (kinds_of sheets))) (yes_ refl))))
-        (grows before (length sheets))
+        let e : length (take before (undone notes (sheet_kinds sheets))) ≡ length (sheet_kinds sheets) = let g = draft.grown in omega (arith, g, not_less, length_olds, length-sheet_kinds sheets) in
+        inr (ap (home (behind_root (take before (undone notes (sheet_kinds sheets))))) (yes_ refl) ∙ ap (λ (k : ℕ). root_page (3 + k)) e ∙ sym (ap (home (behind_root (sheet_kinds sheets))) (yes_ refl))))
+        (either_below before (length sheets))
 
-pub kind_got : (xs : List Sheet) (at : ℕ) (x : Sheet) → at < length xs → x ≡ get_or xs at x → get_or (kinds_of xs) at Free ≡ kind_of x
+pub kind_got : (xs : List Sheet) (at : ℕ) (x : Sheet) → at < length xs → x ≡ get_or xs at x → get_or (sheet_kinds xs) at Free ≡ sheet_kind x
 kind_got [] at x less is = absurd (omega (arith, less))
-kind_got (y ∷ xs) zero x less is = ap kind_of (sym is)
+kind_got (y ∷ xs) zero x less is = ap sheet_kind (sym is)
 kind_got (y ∷ xs) (suc at) x less is = kind_got xs at x (omega (arith, less)) is
 
-pub kind_good : (xs : List Sheet) (ks : List Kind) (at : ℕ) (x : Sheet) → kinds_of xs ≡ ks → Each IsKind ks → at < length xs → x ≡ get_or xs at x → IsKind (kind_of x)
-kind_good xs ks at x is all less got = subst IsKind (ap (λ (l : List Kind). get_or l at Free) (sym is) ∙ kind_got xs at x less got) (each_at ks at all)
+pub kind_good : (xs : List Sheet) (ks : List Kind) (at : ℕ) (x : Sheet) → sheet_kinds xs ≡ ks → Each IsKind ks → at < length xs → x ≡ get_or xs at x → IsKind (sheet_kind x)
+kind_good xs ks at x is all less got = subst IsKind (ap (λ (l : List Kind). get_or l at Free) (sym is) ∙ kind_got xs at x less got) (kind_is ks at all)
 
 noted_within : (sheets : List Sheet) (notes : List Note) (j : ℕ) → Each (λ (n : Note). n.at < length sheets) notes → IsNoted notes j → j < length sheets
 noted_within sheets notes j all r = of notes r.k r.within r.is all
@@ -239,9 +238,9 @@ pub record IsPlace (sheets : List Sheet) (places : List ℕ) (i at : ℕ) : Type
   pub high : at + 3 < 2 ^ 31
 
 pub is_place : (sheets : List Sheet) (notes seen : List Note) (places : List ℕ) (i at count : ℕ) (ks : List Kind) → Each (λ (n : Note). n.at < length sheets) notes → seen ≡ notes → IsPermutation (touched_by seen) places
-    → i < count → count ≡ length places → at ≡ get_or places i at → kinds_of sheets ≡ ks → 3 + length ks ≤ 2 ^ 31 → IsPlace sheets places i at
+    → i < count → count ≡ length places → at ≡ get_or places i at → sheet_kinds sheets ≡ ks → 3 + length ks ≤ 2 ^ 31 → IsPlace sheets places i at
 is_place sheets notes seen places i at count ks all seen_is same_ less count_is got kinds most =
     let inside : i < length places = omega (arith, less, count_is) in
     let is : at ≡ get_or places i 0 = got ∙ same_default places i at 0 inside in
     let within = place_within sheets notes places i at all (subst (λ (l : List Note). IsPermutation (touched_by l) places) seen_is same_) inside is in
-    record { is = is; within = within; high = omega (arith, within, most, ap (λ (l : List Kind). length l) kinds, length-kinds_of sheets) }
+    record { is = is; within = within; high = omega (arith, within, most, ap (λ (l : List Kind). length l) kinds, length-sheet_kinds sheets) }

@@ -8,17 +8,18 @@ use Rattle.std.specs.Option.{option_map, IfSome}
 use Rattle.ct_keep.specs.Changes.{AnyEntry, AreWell}
 use Rattle.std.specs.FinMap.{get}
 use Rattle.ct_keep.specs.Content.{Content, Change, set_to}
-use Rattle.ct_keep.specs.Laws.{same, same_itself, get-set_to, same_content, after-append}
-use Rattle.pg_heap.specs.Kinds.{Each, Kind, Free, Slotted, Long, strings_of, Item, Short, Far, item_bytes, IsItem}
-use Rattle.pg_heap.specs.Holding.{Placed, StandsFor}
+use Rattle.ct_keep.specs.Laws.{same, same_itself, get-set_to, same_content}
+use Rattle.pg_map.specs.Kinds.{Each, Kind, Free, Slotted, Long, strings_of, StringItem, Short, Far, item_bytes, IsStringItem}
+use Rattle.pg_map.specs.Holding.{Placed, StandsFor}
 use Rattle.ct_keep.specs.Rising.{Entry}
-use Rattle.pg_heap.specs.Holding.{bytes_of, entries_of}
-use Rattle.pg_heap.specs.Loose.{held}
-use Rattle.pg_heap.specs.Kinds.{key_in_item}
-use Rattle.pg_heap.specs.laws.LooseSteps.{stands_key}
-use Rattle.pg_heap.specs.laws.MapReading.{in_more, not_in_none}
-use Rattle.pg_heap.specs.laws.Whole.{value_there}
-use Rattle.pg_heap.specs.Planned.{IsDone, IsPut, HasChain, HasNone}
+use Rattle.pg_map.specs.Holding.{bytes_of, entries_of}
+use Rattle.pg_map.specs.Loose.{held}
+use Rattle.pg_map.specs.Kinds.{key_in_item}
+use Rattle.pg_map.specs.laws.MapReading.{in_more, not_in_none}
+use Rattle.pg_map.specs.laws.Whole.{value_there}
+use Rattle.pg_map.specs.laws.Holding.{stands_key}
+use Rattle.pg_heap.specs.Planned.{IsPut, HasChain, HasNone}
+use Rattle.pg_map.specs.Done.{IsDone}
 use Rattle.pg_heap.specs.laws.Planned.{put_at}
 
 -- ---- an entry is put
@@ -41,10 +42,10 @@ pub record IsSomewhere (kinds : List Kind) (key : List ℕ) : Type 0 where
   pub at : ℕ
   pub strings : List (List ℕ)
   pub number : ℕ
-  pub item : Item
+  pub item : StringItem
   pub kind : get_or kinds at Free ≡ Slotted strings
   pub within : number < length strings
-  pub good : IsItem item
+  pub good : IsStringItem item
   pub is : get_or strings number [] ≡ item_bytes item
   pub key_is : key_in_item item ≡ key
 
@@ -52,12 +53,12 @@ pub record IsSomewhere (kinds : List Kind) (key : List ℕ) : Type 0 where
 pub record IsNumbered (ps : List Placed) (ks : List Kind) (key : List ℕ) : Type 0 where
   pub number : ℕ
   pub within : number < length (bytes_of ps)
-  pub item : Item
-  pub good : IsItem item
+  pub item : StringItem
+  pub good : IsStringItem item
   pub is : get_or (bytes_of ps) number [] ≡ item_bytes item
   pub key_is : key_in_item item ≡ key
 
-numbered_placed : (ps : List Placed) (ks : List Kind) (e : Entry) → Each (λ (p : Placed). IsItem p.item) ps → Each (λ (p : Placed). StandsFor ks p.item p.entry p.chain) ps → Contains (entries_of ps) e → IsNumbered ps ks e.0
+numbered_placed : (ps : List Placed) (ks : List Kind) (e : Entry) → Each (λ (p : Placed). IsStringItem p.item) ps → Each (λ (p : Placed). StandsFor ks p.item p.entry p.chain) ps → Contains (entries_of ps) e → IsNumbered ps ks e.0
 numbered_placed [] ks e items stand has = absurd (not_in_none e has)
 numbered_placed (p ∷ ps) ks e items stand has = ⊎_elim
     (λ is. record { number = 0; within = omega arith; item = p.item; good = items.0; is = refl; key_is = sym (stands_key ks p.item p.entry p.chain stand.0) ∙ ap (λ (f : Entry). f.0) is })

@@ -1,34 +1,19 @@
 -- The strings of a page, one by one.
-use Rattle.std.proofs.Common.{◌≤◌, ◌<◌, ◌≡◌, ◌≢◌, Bool, true, false, ◌==◌, ℕ, zero, suc, ◌+◌, List, [], ◌∷◌, ◌++◌, length, get_or, take, drop, refl, sym, ap, ◌∙◌, append_assoc, append-nil, length-append, arith}
-use Rattle.std.proofs.lemmas.List.{take_at}
+use Rattle.std.proofs.Common.{◌≤◌, ◌<◌, ◌≡◌, ◌≢◌, Bool, true, false, ◌==◌, ℕ, zero, suc, ◌+◌, List, [], ◌∷◌, ◌++◌, length, get_or, drop, drop-cons, refl, sym, ap, ◌∙◌, append_assoc, append-nil, length-append, arith}
 use Rattle.pg_page.specs.Pages.{taken, Fits, free}
-use Rattle.pg_heap.specs.Kinds.{Item, Short, Far, item_bytes, IsItem}
-use Rattle.pg_heap.specs.Kinds.{key_in_item}
-use Rattle.pg_heap.specs.laws.MapReading.{key_at}
-use Rattle.pg_heap.specs.PageStrings.{without_at, left_from, string_key}
-use Rattle.std.specs.Int.{to_be_bytes, w32}
-use Rattle.std.specs.Cmp.Lexicographic.{pointwise}
-use Rattle.std.specs.Prelude.{nat_eq}
-use Rattle.std.proofs.lemmas.Bool.Decides.{nat_tests}
-
-pub same_as_itself : (xs : List ℕ) → pointwise nat_eq xs xs ≡ true
-same_as_itself [] = refl
-same_as_itself (x ∷ xs) = let rest = same_as_itself xs in grind (arith, nat_tests)
-
-pub item_key : (item : Item) → IsItem item → string_key (item_bytes item) ≡ key_in_item item
-item_key (Short key value) good = ap (λ (n : ℕ). take n (key ++ value)) (key_at 0 key value good.0) ∙ take_at key value (length key) refl
-item_key (Far key count first) good =
-    ap (λ (n : ℕ). take n (key ++ (to_be_bytes w32 count ++ to_be_bytes w32 first))) (key_at 1 key (to_be_bytes w32 count ++ to_be_bytes w32 first) good.0) ∙ take_at key (to_be_bytes w32 count ++ to_be_bytes w32 first) (length key) refl
+use Rattle.pg_page.specs.ReadLaws.{taken-append}
+use Rattle.pg_map.specs.Kinds.{StringItem, item_bytes, IsStringItem, key_in_item}
+use Rattle.pg_heap.specs.Slots.{without_at, left_from}
 
 -- ---- finding
 
 pub record Unfound (ss : List (List ℕ)) (key : List ℕ) (n : ℕ) : Type 0 where
-  pub none : (i : ℕ) (item : Item) → i < n → IsItem item → get_or ss i [] ≡ item_bytes item → key_in_item item ≢ key
+  pub none : (i : ℕ) (item : StringItem) → i < n → IsStringItem item → get_or ss i [] ≡ item_bytes item → key_in_item item ≢ key
 
-pub unfound_more : (ss : List (List ℕ)) (s key : List ℕ) (n k : ℕ) → Unfound ss key n → k ≡ n + 1 → s ≡ get_or ss n [] → ((item : Item) → IsItem item → s ≡ item_bytes item → key_in_item item ≢ key) → Unfound ss key k
+pub unfound_more : (ss : List (List ℕ)) (s key : List ℕ) (n k : ℕ) → Unfound ss key n → k ≡ n + 1 → s ≡ get_or ss n [] → ((item : StringItem) → IsStringItem item → s ≡ item_bytes item → key_in_item item ≢ key) → Unfound ss key k
 unfound_more ss s key n k is next at no_ = record { none = λ i item less good bytes. of i item less good bytes (i == n) (λ e. grind (arith, e)) (λ e. grind (arith, e)) }
   where
-    of : (i : ℕ) (item : Item) → i < k → IsItem item → get_or ss i [] ≡ item_bytes item → (t : Bool) → (t ≡ true → i ≡ n) → (t ≡ false → i ≢ n) → key_in_item item ≢ key
+    of : (i : ℕ) (item : StringItem) → i < k → IsStringItem item → get_or ss i [] ≡ item_bytes item → (t : Bool) → (t ≡ true → i ≡ n) → (t ≡ false → i ≢ n) → key_in_item item ≢ key
     of i item less good bytes true yes_ other = no_ item good (at ∙ sym (ap (λ (j : ℕ). get_or ss j []) (yes_ refl)) ∙ bytes)
     of i item less good bytes false yes_ other = is.none i item (let e = other refl in omega (arith, less, next, e)) good bytes
 
@@ -49,15 +34,10 @@ left_same [] slot = refl
 left_same (s ∷ ss) zero = refl
 left_same (s ∷ ss) (suc slot) = left_same ss slot
 
-drop_next : (ss : List (List ℕ)) (i : ℕ) → i < length ss → drop i ss ≡ get_or ss i [] ∷ drop (suc i) ss
-drop_next [] i less = absurd (omega (arith, less))
-drop_next (s ∷ ss) zero less = refl
-drop_next (s ∷ ss) (suc i) less = drop_next ss i (omega (arith, less))
-
 left_other : (ss : List (List ℕ)) (slot i : ℕ) → i < length ss → i ≢ slot → left_from slot i ss ≡ get_or ss i [] ∷ left_from slot (suc i) ss
 left_other [] slot i less apart = absurd (omega (arith, less))
 left_other (s ∷ ss) zero zero less apart = absurd (apart refl)
-left_other (s ∷ ss) zero (suc i) less apart = drop_next ss i (omega (arith, less))
+left_other (s ∷ ss) zero (suc i) less apart = drop-cons ss i [] (omega (arith, less))
 left_other (s ∷ ss) (suc slot) zero less apart = ap (λ (l : List (List ℕ)). s ∷ l) (sym (left_first slot ss))
 left_other (s ∷ ss) (suc slot) (suc i) less apart = left_other ss slot i (omega (arith, less)) (λ e. apart (ap suc e))
 
@@ -89,10 +69,6 @@ copies_more ss slot i k rest more s is next apart less at put =
 
 pub copies_all : (ss : List (List ℕ)) (slot i : ℕ) (rest : List (List ℕ)) → Copies ss slot i rest → length ss ≤ i → rest ≡ without_at slot ss
 copies_all ss slot i rest is less = sym (append-nil rest) ∙ ap (λ (l : List (List ℕ)). rest ++ l) (sym (left_end ss slot i less)) ∙ is.are
-
-taken-append : (a b : List (List ℕ)) → taken (a ++ b) ≡ taken a + taken b
-taken-append [] b = omega arith
-taken-append (s ∷ a) b = let e = taken-append a b in omega (arith, e)
 
 without_less : (ss : List (List ℕ)) (slot : ℕ) → (length (without_at slot ss) ≤ length ss) × (taken (without_at slot ss) ≤ taken ss)
 without_less [] slot = (omega arith, omega arith)

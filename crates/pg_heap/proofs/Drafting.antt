@@ -2,43 +2,45 @@
 use Rattle.std.proofs.Common.{◌≤◌, ◌<◌, ◌≡◌, ◌≢◌, Bool, true, false, ◌==◌, length-append, ℕ, zero, suc, ◌+◌, List, [], ◌∷◌, ◌++◌, length, get_or, set, take, refl, sym, ap, subst, ◌∙◌, arith}
 use Rattle.std.specs.List.{Contains}
 use Rattle.pg_heap.specs.declared.drafts.Note.{Note}
-use Rattle.pg_heap.specs.declared.sheets.Sheet.{Sheet}
-use Rattle.pg_heap.specs.Kinds.{Each, Kind}
-use Rattle.pg_heap.specs.Sheets.{kind_of, kinds_of}
+use Rattle.pg_map.specs.declared.sheets.Sheet.{Sheet}
+use Rattle.pg_map.specs.Kinds.{Each, Kind}
+use Rattle.pg_map.specs.Sheets.{sheet_kind, sheet_kinds}
 use Rattle.pg_heap.specs.Drafts.{undone, touched_by, Drafted, EndsWith}
 use Rattle.pg_heap.specs.DraftFields.{draft_of, IsDraftOf}
 use Rattle.std.proofs.lemmas.List.Elements.{Contains-append_left, Contains-push}
+use Rattle.std.proofs.lemmas.List.{length-set}
+use Rattle.pg_map.specs.laws.Sheets.{length-sheet_kinds}
 
-pub kinds_set : (xs : List Sheet) (at : ℕ) (x : Sheet) → kinds_of (set xs at x) ≡ set (kinds_of xs) at (kind_of x)
+pub kinds_set : (xs : List Sheet) (at : ℕ) (x : Sheet) → sheet_kinds (set xs at x) ≡ set (sheet_kinds xs) at (sheet_kind x)
 kinds_set [] at x = refl
 kinds_set (y ∷ xs) zero x = refl
-kinds_set (y ∷ xs) (suc at) x = ap (λ (l : List Kind). kind_of y ∷ l) (kinds_set xs at x)
+kinds_set (y ∷ xs) (suc at) x = ap (λ (l : List Kind). sheet_kind y ∷ l) (kinds_set xs at x)
 
-pub undone-push : (ns : List Note) (n : Note) (ks : List Kind) → undone (ns ++ n ∷ []) ks ≡ undone ns (set ks n.at (kind_of n.sheet))
+pub undone-push : (ns : List Note) (n : Note) (ks : List Kind) → undone (ns ++ n ∷ []) ks ≡ undone ns (set ks n.at (sheet_kind n.sheet))
 undone-push [] n ks = refl
-undone-push (o ∷ ns) n ks = ap (λ (l : List Kind). set l o.at (kind_of o.sheet)) (undone-push ns n ks)
+undone-push (o ∷ ns) n ks = ap (λ (l : List Kind). set l o.at (sheet_kind o.sheet)) (undone-push ns n ks)
 
-set_back : (xs : List Sheet) (at : ℕ) (old new : Sheet) → at < length xs → get_or xs at old ≡ old → set (set (kinds_of xs) at (kind_of new)) at (kind_of old) ≡ kinds_of xs
+set_back : (xs : List Sheet) (at : ℕ) (old new : Sheet) → at < length xs → get_or xs at old ≡ old → set (set (sheet_kinds xs) at (sheet_kind new)) at (sheet_kind old) ≡ sheet_kinds xs
 set_back [] at old new within is = refl
-set_back (y ∷ xs) zero old new within is = ap (λ (x : Sheet). kind_of x ∷ kinds_of xs) (sym is)
-set_back (y ∷ xs) (suc at) old new within is = ap (λ (l : List Kind). kind_of y ∷ l) (set_back xs at old new (omega (arith, within)) is)
+set_back (y ∷ xs) zero old new within is = ap (λ (x : Sheet). sheet_kind x ∷ sheet_kinds xs) (sym is)
+set_back (y ∷ xs) (suc at) old new within is = ap (λ (l : List Kind). sheet_kind y ∷ l) (set_back xs at old new (omega (arith, within)) is)
 
 touched-push : (ns : List Note) (n : Note) → touched_by (ns ++ n ∷ []) ≡ touched_by ns ++ n.at ∷ []
 touched-push [] n = refl
 touched-push (o ∷ ns) n = ap (λ (l : List ℕ). o.at ∷ l) (touched-push ns n)
 
 pub set_view : (sheets sheets1 : List Sheet) (notes notes1 : List Note) (b at : ℕ) (old new : Sheet) (d : Drafted) → draft_of sheets notes b ≡ d → sheets1 ≡ set sheets at new → get_or sheets at old ≡ old → at < length sheets
-    → notes1 ≡ notes ++ record { at = at; sheet = old } ∷ [] → draft_of sheets1 notes1 b ≡ record { before = d.before; now = set d.now at (kind_of new); touched = d.touched ++ at ∷ [] }
+    → notes1 ≡ notes ++ record { at = at; sheet = old } ∷ [] → draft_of sheets1 notes1 b ≡ record { before = d.before; now = set d.now at (sheet_kind new); touched = d.touched ++ at ∷ [] }
 set_view sheets sheets1 notes notes1 b at old new d is put was within note =
     let n : Note = record { at = at; sheet = old } in
-    let now : kinds_of sheets1 ≡ set (kinds_of sheets) at (kind_of new) = ap kinds_of put ∙ kinds_set sheets at new in
-    let before : undone notes1 (kinds_of sheets1) ≡ undone notes (kinds_of sheets) =
-    ap (λ (l : List Note). undone l (kinds_of sheets1)) note ∙ undone-push notes n (kinds_of sheets1) ∙ ap (λ (l : List Kind). undone notes (set l at (kind_of old))) now ∙ ap (undone notes) (set_back sheets at old new within was) in
+    let now : sheet_kinds sheets1 ≡ set (sheet_kinds sheets) at (sheet_kind new) = ap sheet_kinds put ∙ kinds_set sheets at new in
+    let before : undone notes1 (sheet_kinds sheets1) ≡ undone notes (sheet_kinds sheets) =
+    ap (λ (l : List Note). undone l (sheet_kinds sheets1)) note ∙ undone-push notes n (sheet_kinds sheets1) ∙ ap (λ (l : List Kind). undone notes (set l at (sheet_kind old))) now ∙ ap (undone notes) (set_back sheets at old new within was) in
     let touched : touched_by notes1 ≡ touched_by notes ++ at ∷ [] = ap touched_by note ∙ touched-push notes n in
-    ap (λ (l : List Kind). record { before = take b l; now = kinds_of sheets1; touched = touched_by notes1 }) before
-    ∙ ap (λ (l : List Kind). record { before = take b (undone notes (kinds_of sheets)); now = l; touched = touched_by notes1 }) now
-    ∙ ap (λ (l : List ℕ). record { before = take b (undone notes (kinds_of sheets)); now = set (kinds_of sheets) at (kind_of new); touched = l }) touched
-    ∙ ap (λ (x : Drafted). record { before = x.before; now = set x.now at (kind_of new); touched = x.touched ++ at ∷ [] }) is
+    ap (λ (l : List Kind). record { before = take b l; now = sheet_kinds sheets1; touched = touched_by notes1 }) before
+    ∙ ap (λ (l : List Kind). record { before = take b (undone notes (sheet_kinds sheets)); now = l; touched = touched_by notes1 }) now
+    ∙ ap (λ (l : List ℕ). record { before = take b (undone notes (sheet_kinds sheets)); now = set (sheet_kinds sheets) at (sheet_kind new); touched = l }) touched
+    ∙ ap (λ (x : Drafted). record { before = x.before; now = set x.now at (sheet_kind new); touched = x.touched ++ at ∷ [] }) is
 
 -- ---- the page that was noted last is changed again
 
@@ -52,23 +54,23 @@ undone_last [] ks at x [] is = cc
 undone_last [] ks at x (f ∷ fs) is = cc
 undone_last (n ∷ []) ks at x [] is =
     let here : n.at ≡ at = cc in
-    ap (λ (i : ℕ). set (set ks at x) i (kind_of n.sheet)) here ∙ set_twice ks at x (kind_of n.sheet) ∙ ap (λ (i : ℕ). set ks i (kind_of n.sheet)) (sym here)
+    ap (λ (i : ℕ). set (set ks at x) i (sheet_kind n.sheet)) here ∙ set_twice ks at x (sheet_kind n.sheet) ∙ ap (λ (i : ℕ). set ks i (sheet_kind n.sheet)) (sym here)
 undone_last (n ∷ []) ks at x (f ∷ []) is = let no : [] ≡ at ∷ [] = cc in cc
 undone_last (n ∷ []) ks at x (f ∷ g ∷ fs) is = let no : [] ≡ g ∷ (fs ++ at ∷ []) = cc in cc
 undone_last (n ∷ m ∷ ns) ks at x [] is = let no : touched_by (m ∷ ns) ≡ [] = cc in cc
 undone_last (n ∷ m ∷ ns) ks at x (f ∷ fs) is =
     let rest : touched_by (m ∷ ns) ≡ fs ++ at ∷ [] = cc in
-    ap (λ (l : List Kind). set l n.at (kind_of n.sheet)) (undone_last (m ∷ ns) ks at x fs rest)
+    ap (λ (l : List Kind). set l n.at (sheet_kind n.sheet)) (undone_last (m ∷ ns) ks at x fs rest)
 
 pub again_view : (sheets sheets1 : List Sheet) (notes : List Note) (b at : ℕ) (new : Sheet) (d : Drafted) → draft_of sheets notes b ≡ d → sheets1 ≡ set sheets at new → EndsWith d.touched at
-    → draft_of sheets1 notes b ≡ record { before = d.before; now = set d.now at (kind_of new); touched = d.touched }
+    → draft_of sheets1 notes b ≡ record { before = d.before; now = set d.now at (sheet_kind new); touched = d.touched }
 again_view sheets sheets1 notes b at new d is put last =
-    let now : kinds_of sheets1 ≡ set (kinds_of sheets) at (kind_of new) = ap kinds_of put ∙ kinds_set sheets at new in
-    let before : undone notes (kinds_of sheets1) ≡ undone notes (kinds_of sheets) =
-    ap (undone notes) now ∙ undone_last notes (kinds_of sheets) at (kind_of new) last.first (ap (λ (x : Drafted). x.touched) is ∙ last.is) in
-    ap (λ (l : List Kind). record { before = take b l; now = kinds_of sheets1; touched = touched_by notes }) before
-    ∙ ap (λ (l : List Kind). record { before = take b (undone notes (kinds_of sheets)); now = l; touched = touched_by notes }) now
-    ∙ ap (λ (x : Drafted). record { before = x.before; now = set x.now at (kind_of new); touched = x.touched }) is
+    let now : sheet_kinds sheets1 ≡ set (sheet_kinds sheets) at (sheet_kind new) = ap sheet_kinds put ∙ kinds_set sheets at new in
+    let before : undone notes (sheet_kinds sheets1) ≡ undone notes (sheet_kinds sheets) =
+    ap (undone notes) now ∙ undone_last notes (sheet_kinds sheets) at (sheet_kind new) last.first (ap (λ (x : Drafted). x.touched) is ∙ last.is) in
+    ap (λ (l : List Kind). record { before = take b l; now = sheet_kinds sheets1; touched = touched_by notes }) before
+    ∙ ap (λ (l : List Kind). record { before = take b (undone notes (sheet_kinds sheets)); now = l; touched = touched_by notes }) now
+    ∙ ap (λ (x : Drafted). record { before = x.before; now = set x.now at (sheet_kind new); touched = x.touched }) is
 
 -- ---- one note more
 
@@ -95,21 +97,12 @@ draft_set sheets sheets1 notes notes1 b at old new is put within note =
       new = λ i low high. subst (λ (l : List ℕ). Contains l i) (sym (ap touched_by note ∙ touched-push notes n)) (Contains-append_left (touched_by notes) (at ∷ []) i (is.new i low (omega (arith, high, count))));
     }
 
-pub length-kinds_of : (xs : List Sheet) → length (kinds_of xs) ≡ length xs
-length-kinds_of [] = refl
-length-kinds_of (x ∷ xs) = ap suc (length-kinds_of xs)
-
 pub at_within : (sheets : List Sheet) (notes : List Note) (b at : ℕ) (d : Drafted) → draft_of sheets notes b ≡ d → at < length d.now → at < length sheets
-at_within sheets notes b at d is within = let e : length (kinds_of sheets) ≡ length d.now = ap (λ (x : Drafted). length x.now) is in omega (arith, e, within, length-kinds_of sheets)
-
-length-set2 : (ks : List Kind) (at : ℕ) (k : Kind) → length (set ks at k) ≡ length ks
-length-set2 [] at k = refl
-length-set2 (y ∷ ks) zero k = refl
-length-set2 (y ∷ ks) (suc at) k = ap suc (length-set2 ks at k)
+at_within sheets notes b at d is within = let e : length (sheet_kinds sheets) ≡ length d.now = ap (λ (x : Drafted). length x.now) is in omega (arith, e, within, length-sheet_kinds sheets)
 
 pub length-undone : (ns : List Note) (ks : List Kind) → length (undone ns ks) ≡ length ks
 length-undone [] ks = refl
-length-undone (n ∷ ns) ks = length-set2 (undone ns ks) n.at (kind_of n.sheet) ∙ length-undone ns ks
+length-undone (n ∷ ns) ks = length-set (undone ns ks) n.at (sheet_kind n.sheet) ∙ length-undone ns ks
 
 set-front : (ks : List Kind) (k x : Kind) (at : ℕ) → at < length ks → set (ks ++ k ∷ []) at x ≡ set ks at x ++ k ∷ []
 set-front [] k x at within = absurd (omega (arith, within))
@@ -119,7 +112,7 @@ set-front (y ∷ ks) k x (suc at) within = ap (λ (l : List Kind). y ∷ l) (set
 undone-end : (ns : List Note) (ks : List Kind) (k : Kind) → Each (λ (n : Note). n.at < length ks) ns → undone ns (ks ++ k ∷ []) ≡ undone ns ks ++ k ∷ []
 undone-end [] ks k within = refl
 undone-end (n ∷ ns) ks k within =
-    ap (λ (l : List Kind). set l n.at (kind_of n.sheet)) (undone-end ns ks k within.1) ∙ set-front (undone ns ks) k (kind_of n.sheet) n.at (let e = within.0 in omega (arith, e, length-undone ns ks))
+    ap (λ (l : List Kind). set l n.at (sheet_kind n.sheet)) (undone-end ns ks k within.1) ∙ set-front (undone ns ks) k (sheet_kind n.sheet) n.at (let e = within.0 in omega (arith, e, length-undone ns ks))
 
 set_end : (ks : List Kind) (k : Kind) → set (ks ++ k ∷ []) (length ks) k ≡ ks ++ k ∷ []
 set_end [] k = refl
@@ -130,30 +123,30 @@ take_front ks k zero within = refl
 take_front [] k (suc n) within = absurd (omega (arith, within))
 take_front (y ∷ ks) k (suc n) within = ap (λ (l : List Kind). y ∷ l) (take_front ks k n (omega (arith, within)))
 
-kinds-push : (xs : List Sheet) (x : Sheet) → kinds_of (xs ++ x ∷ []) ≡ kinds_of xs ++ kind_of x ∷ []
+kinds-push : (xs : List Sheet) (x : Sheet) → sheet_kinds (xs ++ x ∷ []) ≡ sheet_kinds xs ++ sheet_kind x ∷ []
 kinds-push [] x = refl
-kinds-push (y ∷ xs) x = ap (λ (l : List Kind). kind_of y ∷ l) (kinds-push xs x)
+kinds-push (y ∷ xs) x = ap (λ (l : List Kind). sheet_kind y ∷ l) (kinds-push xs x)
 
-each_kinds : (sheets : List Sheet) (ns : List Note) → Each (λ (n : Note). n.at < length sheets) ns → Each (λ (n : Note). n.at < length (kinds_of sheets)) ns
-each_kinds sheets ns all = each_note ns (length sheets) (length (kinds_of sheets)) (let e = length-kinds_of sheets in omega (arith, e)) all
+each_kinds : (sheets : List Sheet) (ns : List Note) → Each (λ (n : Note). n.at < length sheets) ns → Each (λ (n : Note). n.at < length (sheet_kinds sheets)) ns
+each_kinds sheets ns all = each_note ns (length sheets) (length (sheet_kinds sheets)) (let e = length-sheet_kinds sheets in omega (arith, e)) all
 
 pub grow_view : (sheets sheets1 : List Sheet) (notes notes1 : List Note) (b at : ℕ) (x : Sheet) (d : Drafted) → IsDraftOf sheets notes b → draft_of sheets notes b ≡ d → sheets1 ≡ sheets ++ x ∷ [] → at ≡ length sheets
-    → notes1 ≡ notes ++ record { at = at; sheet = x } ∷ [] → draft_of sheets1 notes1 b ≡ record { before = d.before; now = d.now ++ kind_of x ∷ []; touched = d.touched ++ length d.now ∷ [] }
+    → notes1 ≡ notes ++ record { at = at; sheet = x } ∷ [] → draft_of sheets1 notes1 b ≡ record { before = d.before; now = d.now ++ sheet_kind x ∷ []; touched = d.touched ++ length d.now ∷ [] }
 grow_view sheets sheets1 notes notes1 b at x d good is put where_ note =
     let n : Note = record { at = at; sheet = x } in
-    let now : kinds_of sheets1 ≡ kinds_of sheets ++ kind_of x ∷ [] = ap kinds_of put ∙ kinds-push sheets x in
-    let at_is : at ≡ length (kinds_of sheets) = where_ ∙ sym (length-kinds_of sheets) in
-    let before : undone notes1 (kinds_of sheets1) ≡ undone notes (kinds_of sheets) ++ kind_of x ∷ [] =
-    ap (λ (l : List Note). undone l (kinds_of sheets1)) note ∙ undone-push notes n (kinds_of sheets1) ∙ ap (λ (l : List Kind). undone notes (set l at (kind_of x))) now
-    ∙ ap (λ (i : ℕ). undone notes (set (kinds_of sheets ++ kind_of x ∷ []) i (kind_of x))) at_is ∙ ap (undone notes) (set_end (kinds_of sheets) (kind_of x))
-    ∙ undone-end notes (kinds_of sheets) (kind_of x) (each_kinds sheets notes good.within) in
-    let first : take b (undone notes1 (kinds_of sheets1)) ≡ take b (undone notes (kinds_of sheets)) =
-    ap (take b) before ∙ take_front (undone notes (kinds_of sheets)) (kind_of x) b (let e = good.grown in omega (arith, e, length-undone notes (kinds_of sheets), length-kinds_of sheets)) in
-    let touched : touched_by notes1 ≡ touched_by notes ++ length (kinds_of sheets) ∷ [] = ap touched_by note ∙ touched-push notes n ∙ ap (λ (i : ℕ). touched_by notes ++ i ∷ []) at_is in
-    ap (λ (l : List Kind). record { before = l; now = kinds_of sheets1; touched = touched_by notes1 }) first
-    ∙ ap (λ (l : List Kind). record { before = take b (undone notes (kinds_of sheets)); now = l; touched = touched_by notes1 }) now
-    ∙ ap (λ (l : List ℕ). record { before = take b (undone notes (kinds_of sheets)); now = kinds_of sheets ++ kind_of x ∷ []; touched = l }) touched
-    ∙ ap (λ (y : Drafted). record { before = y.before; now = y.now ++ kind_of x ∷ []; touched = y.touched ++ length y.now ∷ [] }) is
+    let now : sheet_kinds sheets1 ≡ sheet_kinds sheets ++ sheet_kind x ∷ [] = ap sheet_kinds put ∙ kinds-push sheets x in
+    let at_is : at ≡ length (sheet_kinds sheets) = where_ ∙ sym (length-sheet_kinds sheets) in
+    let before : undone notes1 (sheet_kinds sheets1) ≡ undone notes (sheet_kinds sheets) ++ sheet_kind x ∷ [] =
+    ap (λ (l : List Note). undone l (sheet_kinds sheets1)) note ∙ undone-push notes n (sheet_kinds sheets1) ∙ ap (λ (l : List Kind). undone notes (set l at (sheet_kind x))) now
+    ∙ ap (λ (i : ℕ). undone notes (set (sheet_kinds sheets ++ sheet_kind x ∷ []) i (sheet_kind x))) at_is ∙ ap (undone notes) (set_end (sheet_kinds sheets) (sheet_kind x))
+    ∙ undone-end notes (sheet_kinds sheets) (sheet_kind x) (each_kinds sheets notes good.within) in
+    let first : take b (undone notes1 (sheet_kinds sheets1)) ≡ take b (undone notes (sheet_kinds sheets)) =
+    ap (take b) before ∙ take_front (undone notes (sheet_kinds sheets)) (sheet_kind x) b (let e = good.grown in omega (arith, e, length-undone notes (sheet_kinds sheets), length-sheet_kinds sheets)) in
+    let touched : touched_by notes1 ≡ touched_by notes ++ length (sheet_kinds sheets) ∷ [] = ap touched_by note ∙ touched-push notes n ∙ ap (λ (i : ℕ). touched_by notes ++ i ∷ []) at_is in
+    ap (λ (l : List Kind). record { before = l; now = sheet_kinds sheets1; touched = touched_by notes1 }) first
+    ∙ ap (λ (l : List Kind). record { before = take b (undone notes (sheet_kinds sheets)); now = l; touched = touched_by notes1 }) now
+    ∙ ap (λ (l : List ℕ). record { before = take b (undone notes (sheet_kinds sheets)); now = sheet_kinds sheets ++ sheet_kind x ∷ []; touched = l }) touched
+    ∙ ap (λ (y : Drafted). record { before = y.before; now = y.now ++ sheet_kind x ∷ []; touched = y.touched ++ length y.now ∷ [] }) is
 
 pub draft_grown : (sheets sheets1 : List Sheet) (notes notes1 : List Note) (b at : ℕ) (x : Sheet) → IsDraftOf sheets notes b → sheets1 ≡ sheets ++ x ∷ [] → at ≡ length sheets → notes1 ≡ notes ++ record { at = at; sheet = x } ∷ [] → IsDraftOf sheets1 notes1 b
 draft_grown sheets sheets1 notes notes1 b at x is put where_ note =
@@ -178,20 +171,20 @@ within_front (o ∷ ns) n a all = let r = within_front ns n a all.1 in (r.0, (al
 
 pub record Undoes (sheets sheets1 : List Sheet) (notes notes1 : List Note) : Type 0 where
   pub within : Each (λ (n : Note). n.at < length sheets1) notes1
-  pub same_ : undone notes1 (kinds_of sheets1) ≡ undone notes (kinds_of sheets)
+  pub same_ : undone notes1 (sheet_kinds sheets1) ≡ undone notes (sheet_kinds sheets)
 
 pub undoes_step : (sheets xs ys : List Sheet) (notes ns ms : List Note) (n : Note) → Undoes sheets xs notes ns → ns ≡ ms ++ n ∷ [] → ys ≡ set xs n.at n.sheet → Undoes sheets ys notes ms
 undoes_step sheets xs ys notes ns ms n is last put =
     let count : length ys ≡ length xs = ap (λ (l : List Sheet). length l) put ∙ length-set1 xs n.at n.sheet in
     record {
       within = each_note ms (length xs) (length ys) (omega (arith, count)) (within_front ms n (length xs) (subst (Each (λ (n : Note). n.at < length xs)) last is.within)).1;
-      same_ = ap (λ (l : List Sheet). undone ms (kinds_of l)) put ∙ ap (undone ms) (kinds_set xs n.at n.sheet) ∙ sym (undone-push ms n (kinds_of xs)) ∙ sym (ap (λ (l : List Note). undone l (kinds_of xs)) last) ∙ is.same_;
+      same_ = ap (λ (l : List Sheet). undone ms (sheet_kinds l)) put ∙ ap (undone ms) (kinds_set xs n.at n.sheet) ∙ sym (undone-push ms n (sheet_kinds xs)) ∙ sym (ap (λ (l : List Note). undone l (sheet_kinds xs)) last) ∙ is.same_;
     }
 
 pub undoes_within : (sheets xs : List Sheet) (notes ns ms : List Note) (n : Note) → Undoes sheets xs notes ns → ns ≡ ms ++ n ∷ [] → n.at < length xs
 undoes_within sheets xs notes ns ms n is last = (within_front ms n (length xs) (subst (Each (λ (n : Note). n.at < length xs)) last is.within)).0
 
-pub kinds-take : (xs : List Sheet) (n : ℕ) → kinds_of (take n xs) ≡ take n (kinds_of xs)
+pub kinds-take : (xs : List Sheet) (n : ℕ) → sheet_kinds (take n xs) ≡ take n (sheet_kinds xs)
 kinds-take xs zero = refl
 kinds-take [] (suc n) = refl
-kinds-take (x ∷ xs) (suc n) = ap (λ (l : List Kind). kind_of x ∷ l) (kinds-take xs n)
+kinds-take (x ∷ xs) (suc n) = ap (λ (l : List Kind). sheet_kind x ∷ l) (kinds-take xs n)

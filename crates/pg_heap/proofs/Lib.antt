@@ -1,17 +1,9 @@
 pub mod Batching
 pub mod Copying
 pub mod Drafting
-pub mod ItemReads
 pub mod Loadings
-pub mod LongPages
-pub mod PlaceLaws
-pub mod MapReads
 pub mod Planning
-pub mod Strings
-pub mod ValueReads
-pub mod SheetReads
 pub mod Taking
 pub mod Changing
 pub mod Stepping
-pub mod Placing
 pub mod Applying

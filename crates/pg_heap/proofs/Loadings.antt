@@ -13,20 +13,21 @@ use Rattle.pg_journal.specs.Standing.{DiskStands}
 use Rattle.pg_journal.specs.laws.Recovered.{one_recovered}
 use Rattle.pg_journal.specs.declared.faults.LoadFault.{LoadFault}
 use Rattle.pg_journal.specs.declared.faults.LoadFault.TheVariants.{NotAStore}
-use Rattle.pg_heap.specs.MapReading.{nothing}
-use Rattle.pg_heap.specs.laws.MapReading.{first_hold}
-use Rattle.pg_heap.specs.declared.sheets.Sheet.{Sheet}
+use Rattle.pg_map.specs.MapReading.{nothing}
+use Rattle.pg_map.specs.laws.MapReading.{first_hold}
+use Rattle.pg_map.specs.declared.sheets.Sheet.{Sheet}
 use Rattle.pg_heap.specs.laws.Committing.{done_holds}
-use Rattle.pg_heap.specs.Holding.{Holds, IsLayout, Recovers}
-use Rattle.pg_heap.specs.Kinds.{Each, Kind, Free, kind_bytes, IsKind}
+use Rattle.pg_heap.specs.laws.Planned.{each_end}
+use Rattle.pg_map.specs.Holding.{Holds, IsLayout, Recovers}
+use Rattle.pg_map.specs.Kinds.{Each, Kind, Free, bytes_of_kind, IsKind}
 use Rattle.pg_heap.specs.Loading.{ArePages, AreNoPages, ArePagesOf, HaveNoKinds, IsLoaded}
-use Rattle.pg_heap.specs.laws.OneMap.{one_kind, one_list}
-use Rattle.pg_heap.specs.Planned.{IsDone}
-use Rattle.pg_heap.specs.laws.Planned.{each_at}
-use Rattle.pg_heap.specs.Places.{PlaceMap}
-use Rattle.pg_heap.specs.Readings.{IsNoLayout, IsMapOr, HasPlaces}
-use Rattle.pg_heap.specs.Sheets.{kinds_of}
-use Rattle.pg_heap.specs.SheetReading.{IsSheetOr}
+use Rattle.pg_map.specs.laws.OneMap.{one_kind, one_list}
+use Rattle.pg_map.specs.Done.{IsDone}
+use Rattle.pg_map.specs.laws.MapReading.{kind_is}
+use Rattle.pg_map.specs.Places.{PagePlaces}
+use Rattle.pg_map.specs.Readings.{IsNoLayout, IsMapOr, HasPlaces}
+use Rattle.pg_map.specs.Sheets.{sheet_kinds}
+use Rattle.pg_map.specs.SheetReading.{IsSheetOr}
 
 -- ---- pages, one by one
 
@@ -48,19 +49,15 @@ tail_of : List (List ℕ) → List (List ℕ)
 tail_of [] = []
 tail_of (p ∷ ps) = ps
 
-at_page : (f : ℕ → List ℕ) (s n i : ℕ) (ks : List Kind) → map kind_bytes ks ≡ pages_from f s n → i < n → kind_bytes (get_or ks i Free) ≡ f (s + i)
+at_page : (f : ℕ → List ℕ) (s n i : ℕ) (ks : List Kind) → map bytes_of_kind ks ≡ pages_from f s n → i < n → bytes_of_kind (get_or ks i Free) ≡ f (s + i)
 unfolding first_of_ tail_of
 at_page f s zero i ks is less = absurd (omega (arith, less))
 at_page f s (suc n) i [] is less = absurd (cc is)
 at_page f s (suc n) zero (k ∷ ks) is less = let e : s ≡ s + 0 = omega arith in ap first_of_ is ∙ ap f e
 at_page f s (suc n) (suc i) (k ∷ ks) is less = let e : suc s + i ≡ s + suc i = omega arith in at_page f (suc s) n i ks (ap tail_of is) (omega (arith, less)) ∙ ap f e
 
-each_push : (ks : List Kind) (k : Kind) → Each IsKind ks → IsKind k → Each IsKind (ks ++ k ∷ [])
-each_push [] k are is = (is, tt)
-each_push (j ∷ ks) k are is = (are.0, each_push ks k are.1 is)
-
 pub kinds_more : (ks ls : List Kind) (k : Kind) → Each IsKind ks → IsKind k → ls ≡ ks ++ k ∷ [] → Each IsKind ls
-kinds_more ks ls k are is put = subst (Each IsKind) (sym put) (each_push ks k are is)
+kinds_more ks ls k are is put = subst (Each IsKind) (sym put) (each_end ks k are is)
 
 pub sheets_long : (old new : List Sheet) (s : Sheet) (i : ℕ) → length old ≡ i → new ≡ old ++ s ∷ [] → length new ≡ i + 1
 sheets_long old new s i long put = let e = ap (λ (l : List Sheet). length l) put in omega (arith, e, long, length-append old (s ∷ []))
@@ -69,15 +66,15 @@ pub pages_more : (image bytes : List ℕ) (i j : ℕ) (ks ls : List Kind) (k : K
 pages_more image bytes i j ks ls k pages sheet at next put =
     let e : j ≡ suc i = omega (arith, next) in
     record {
-      are = subst (Each IsKind) (sym put) (each_push ks k pages.are sheet.0);
-      is = ap (map kind_bytes) put ∙ map-append kind_bytes ks (k ∷ []) ∙ ap (λ (l : List (List ℕ)). l ++ kind_bytes k ∷ []) pages.is ∙ ap (λ (b : List ℕ). pages_from (page image) 3 i ++ b ∷ []) (sheet.1 ∙ at)
+      are = subst (Each IsKind) (sym put) (each_end ks k pages.are sheet.0);
+      is = ap (map bytes_of_kind) put ∙ map-append bytes_of_kind ks (k ∷ []) ∙ ap (λ (l : List (List ℕ)). l ++ bytes_of_kind k ∷ []) pages.is ∙ ap (λ (b : List ℕ). pages_from (page image) 3 i ++ b ∷ []) (sheet.1 ∙ at)
           ∙ sym (from_more (page image) 3 i) ∙ ap (pages_from (page image) 3) (sym e);
     }
 
 -- a page is of no kind, so no kinds have all pages
 pub pages_none : (image bytes : List ℕ) (i n : ℕ) → IsSheetOr None bytes → bytes ≡ page image (3 + i) → i < n → AreNoPages image n
 pages_none image bytes i n none at less = record {
-  none = λ ks pages. none (get_or ks i Free) (each_at ks i pages.are) (at_page (page image) 3 n i ks pages.is less ∙ sym at);
+  none = λ ks pages. none (get_or ks i Free) (kind_is ks i pages.are) (at_page (page image) 3 n i ks pages.is less ∙ sym at);
 }
 
 -- ---- pages from a root on
@@ -96,7 +93,7 @@ pub pages_of : (disk : DiskView) (homes n : ℕ) (pages : List (List ℕ)) (ks :
 pages_of disk homes n pages ks st count are =
     let s = stands_pages disk homes pages st in
     let low = s.0 in
-    let long : length ks ≡ n = sym (length-map ks kind_bytes) ∙ ap (λ (l : List (List ℕ)). length l) are.is ∙ length-from (page st.image) 3 n in
+    let long : length ks ≡ n = sym (length-map ks bytes_of_kind) ∙ ap (λ (l : List (List ℕ)). length l) are.is ∙ length-from (page st.image) 3 n in
     let all : homes ≡ 3 + length ks = omega (arith, low, long, count) in
     record {
       are = are.are;
@@ -125,7 +122,7 @@ none_of_kinds image pages r none = λ m others s h. none.none h.kinds (record { 
 pub none_laid : (image : List ℕ) (pages : List (List ℕ)) (ks : List Kind) → IsRecovered image pages → ArePagesOf pages ks → IsNoLayout ks → Recovers image None
 unfolding tail_of
 none_laid image pages ks r are none = λ m others s h.
-    let same : ks ≡ h.kinds = one_list kind_bytes IsKind [] one_kind ks h.kinds are.are h.are (ap tail_of (sym are.is ∙ one_recovered image pages others r s ∙ h.is)) in
+    let same : ks ≡ h.kinds = one_list bytes_of_kind IsKind [] one_kind ks h.kinds are.are h.are (ap tail_of (sym are.is ∙ one_recovered image pages others r s ∙ h.is)) in
     none.none m (subst (λ (l : List Kind). IsLayout l m) (sym same) h.layout)
 
 -- a disk that was refused is as it was: one that is no store yet would have been loaded, and a store's was only read
@@ -148,11 +145,11 @@ is_loaded image mid new homes ks m l same are done =
 pub fault_is : {T E : Type 0} (r : Result T E) (y x z : E) → r ≡ Err y → y ≡ x → r ≡ Err z → x ≡ z
 fault_is r y x z was same is = cc
 
-pub no_map : (found : Option (Content × PlaceMap)) (now sheets : List Sheet) → IsMapOr (option_map {T = Content × PlaceMap} {U = Content × PlaceMap} (λ f. (f.0, f.1)) found) (kinds_of now) → found ≡ None → now ≡ sheets → IsNoLayout (kinds_of sheets)
+pub no_map : (found : Option (Content × PagePlaces)) (now sheets : List Sheet) → IsMapOr (option_map {T = Content × PagePlaces} {U = Content × PagePlaces} (λ f. (f.0, f.1)) found) (sheet_kinds now) → found ≡ None → now ≡ sheets → IsNoLayout (sheet_kinds sheets)
 no_map found now sheets map_ none is =
-    subst (λ (l : List Sheet). IsNoLayout (kinds_of l)) is (subst (λ (o : Option (Content × PlaceMap)). IsMapOr (option_map {T = Content × PlaceMap} {U = Content × PlaceMap} (λ f. (f.0, f.1)) o) (kinds_of now)) none map_)
+    subst (λ (l : List Sheet). IsNoLayout (sheet_kinds l)) is (subst (λ (o : Option (Content × PagePlaces)). IsMapOr (option_map {T = Content × PagePlaces} {U = Content × PagePlaces} (λ f. (f.0, f.1)) o) (sheet_kinds now)) none map_)
 
-pub map_found : (found : Option (Content × PlaceMap)) (held : Content) (places : PlaceMap) (now sheets : List Sheet) → IsMapOr (option_map {T = Content × PlaceMap} {U = Content × PlaceMap} (λ f. (f.0, f.1)) found) (kinds_of now) → found ≡ Some (held, places) → now ≡ sheets
-    → IsDone (kinds_of sheets) held × HasPlaces (kinds_of sheets) places
+pub map_found : (found : Option (Content × PagePlaces)) (held : Content) (places : PagePlaces) (now sheets : List Sheet) → IsMapOr (option_map {T = Content × PagePlaces} {U = Content × PagePlaces} (λ f. (f.0, f.1)) found) (sheet_kinds now) → found ≡ Some (held, places) → now ≡ sheets
+    → IsDone (sheet_kinds sheets) held × HasPlaces (sheet_kinds sheets) places
 map_found found held places now sheets map_ some is =
-    subst (λ (l : List Sheet). IsDone (kinds_of l) held × HasPlaces (kinds_of l) places) is (subst (λ (o : Option (Content × PlaceMap)). IsMapOr (option_map {T = Content × PlaceMap} {U = Content × PlaceMap} (λ f. (f.0, f.1)) o) (kinds_of now)) some map_)
+    subst (λ (l : List Sheet). IsDone (sheet_kinds l) held × HasPlaces (sheet_kinds l) places) is (subst (λ (o : Option (Content × PagePlaces)). IsMapOr (option_map {T = Content × PagePlaces} {U = Content × PagePlaces} (λ f. (f.0, f.1)) o) (sheet_kinds now)) some map_)

@@ -1,10 +1,13 @@
 -- What the steps of a plan need of the laws.
 use Rattle.std.proofs.Common.{◌≤◌, ◌<◌, ◌≡◌, ◌≢◌, ℕ, zero, suc, ◌+◌, ◌-◌, ◌%◌, ◌^◌, List, [], ◌∷◌, ◌++◌, length, set, take, drop, refl, sym, ap, subst, ◌∙◌, length-append, arith}
 use Rattle.ct_keep.specs.Content.{Content}
-use Rattle.pg_heap.specs.Kinds.{Kind, Free, Long, IsKind}
-use Rattle.pg_heap.specs.Holding.{kind_at}
-use Rattle.pg_heap.specs.Planned.{IsPlanned, IsDone, HasFree, HasChain, IsLongAt}
-use Rattle.pg_heap.specs.laws.Planned.{roomier, laid_at, freed_at, begins_at, ended, each_at}
+use Rattle.pg_map.specs.Kinds.{Kind, Free, Long, IsKind}
+use Rattle.pg_map.specs.Holding.{kind_of_page}
+use Rattle.pg_heap.specs.Planned.{HasFree, HasChain, IsLongAt}
+use Rattle.pg_map.specs.Done.{IsPlanned, IsDone}
+use Rattle.pg_heap.specs.laws.Planned.{roomier, laid_at, freed_at, begins_at, ended}
+use Rattle.pg_map.specs.laws.MapReading.{kind_is}
+use Rattle.std.proofs.Math.Seq.{drop-length}
 
 pub page_laid : (old mid new : List Kind) (at next : ℕ) (m : Content) (bytes value : List ℕ) → HasFree old mid at → new ≡ set mid at (Long next bytes) → IsKind (Long next bytes) → HasChain old m next value → HasChain new m (at + 3) (bytes ++ value)
 page_laid old mid new at next m bytes value free is good chain =
@@ -24,16 +27,12 @@ pub record PutsLong (before : List Kind) (kinds : List Kind) (value : List ℕ) 
   pub small : first < 2 ^ 32
   pub chain : (m : Content) → IsDone before m → HasChain kinds m first (drop left value)
 
-drop_all : (xs : List ℕ) → drop (length xs) xs ≡ []
-drop_all [] = refl
-drop_all (x ∷ xs) = drop_all xs
-
 pub puts_none : (kinds : List Kind) (value : List ℕ) (n : ℕ) → n ≡ length value → PutsLong kinds kinds value 0 n
 puts_none kinds value n is = record {
   within = omega (arith, is);
   full = λ no_. absurd (no_ refl);
   small = omega arith;
-  chain = λ m done. record { loose = []; is = subst (λ (v : List ℕ). IsPlanned kinds m 0 [] v) (sym (ap (λ (k : ℕ). drop k value) is ∙ drop_all value)) done };
+  chain = λ m done. record { loose = []; is = subst (λ (v : List ℕ). IsPlanned kinds m 0 [] v) (sym (ap (λ (k : ℕ). drop k value) is ∙ drop-length value)) done };
 }
 
 dropped : (value : List ℕ) (a b : ℕ) → drop (a + b) value ≡ drop b (drop a value)
@@ -87,9 +86,6 @@ pub record FreesLong (before : List Kind) (begins count : ℕ) (kinds : List Kin
 pub frees_none : (kinds : List Kind) (first count : ℕ) → FreesLong kinds first count kinds first count
 frees_none kinds first count = record { has = λ m value chain is. record { rest = value; chain = chain; count = is } }
 
-same_long : (next k : ℕ) (bytes b : List ℕ) → Long next bytes ≡ Long k b → (next ≡ k) × (bytes ≡ b)
-same_long next k bytes b is = (cc is, cc is)
-
 pub frees_more : (before old new : List Kind) (begins count first next left used rest : ℕ) → FreesLong before begins count old first left → IsLongAt old first next used → new ≡ set old (first - 3) Free → rest ≡ left - used → FreesLong before begins count new next rest
 frees_more before old new begins count first next left used rest is at put rest_is = record { has = λ m value chain long. of m (is.has m value chain long) }
   where
@@ -109,10 +105,10 @@ frees_all before kinds begins count first left m value is none chain long = let 
 
 -- where no long page stands, there is nothing left
 pub frees_stuck : (before kinds : List Kind) (begins count first left : ℕ) (m : Content) (value : List ℕ) → FreesLong before begins count kinds first left → 1 ≤ left
-    → ((next : ℕ) (bytes : List ℕ) → 3 ≤ first → 1 ≤ length bytes → kind_at kinds first ≡ Long next bytes → ⊥) → HasChain before m begins value → length value ≡ count → ⊥
+    → ((next : ℕ) (bytes : List ℕ) → 3 ≤ first → 1 ≤ length bytes → kind_of_page kinds first ≡ Long next bytes → ⊥) → HasChain before m begins value → length value ≡ count → ⊥
 frees_stuck before kinds begins count first left m value is some none chain long =
     let r = is.has m value chain long in
     let c = r.count in
     let b = begins_at kinds m first r.chain.loose r.rest r.chain.is (omega (arith, c, some)) in
-    let k : IsKind (Long b.next b.bytes) = subst IsKind b.kind (each_at kinds (first - 3) r.chain.is.are) in
+    let k : IsKind (Long b.next b.bytes) = subst IsKind b.kind (kind_is kinds (first - 3) r.chain.is.are) in
     none b.next b.bytes b.low k.1 b.kind

@@ -9,21 +9,27 @@ use Rattle.ct_keep.specs.Laws.{same, same_itself, same_keys, after-append}
 use Rattle.ct_keep.specs.declared.batches.Change as rust
 use Rattle.ct_keep.specs.SeenChanges.{change_of}
 use Rattle.pg_page.specs.Pages.{Fits}
-use Rattle.pg_heap.specs.Kinds.{Kind, Free, Slotted, Long, IsKind, strings_of, Short, Far, item_bytes}
-use Rattle.pg_heap.specs.Holding.{IsChain}
-use Rattle.pg_heap.specs.Kinds.{key_in_item}
-use Rattle.pg_heap.specs.MapReading.{nothing}
-use Rattle.pg_heap.specs.laws.MapReading.{first_layout}
-use Rattle.pg_heap.specs.laws.Whole.{loosened}
-use Rattle.pg_heap.specs.PageStrings.{without_at, string_key}
+use Rattle.pg_map.specs.Kinds.{Kind, Free, Slotted, Long, IsKind, strings_of, Short, Far, item_bytes}
+use Rattle.pg_map.specs.Holding.{IsChain}
+use Rattle.pg_map.specs.Kinds.{key_in_item}
+use Rattle.pg_map.specs.MapReading.{nothing}
+use Rattle.pg_map.specs.laws.MapReading.{first_layout}
+use Rattle.pg_map.specs.laws.Whole.{loosened}
+use Rattle.pg_map.specs.PageStrings.{string_key}
+use Rattle.pg_heap.specs.Slots.{without_at}
 use Rattle.pg_heap.specs.Drafts.{Drafted}
-use Rattle.pg_heap.specs.Places.{PlaceMap}
-use Rattle.pg_heap.specs.Planned.{IsPlanned, IsDone, IsRoomier, IsPut, HasChain, HasKeyAt, HasNone, IsLongAt}
-use Rattle.pg_heap.specs.laws.Planned.{taken_at, freed_at, each_at}
+use Rattle.pg_map.specs.Places.{PagePlaces}
+use Rattle.pg_heap.specs.Planned.{IsRoomier, IsPut, HasChain, HasNone, IsLongAt}
+use Rattle.pg_map.specs.Done.{IsPlanned, IsDone, HasKeyAt}
+use Rattle.pg_heap.specs.laws.Planned.{taken_at, freed_at}
+use Rattle.pg_heap.specs.laws.LooseSteps.{at_end}
+use Rattle.pg_map.specs.laws.MapReading.{kind_is}
 use Rattle.pg_heap.specs.BatchPages.{started, entry_pages, change_pages, batch_pages}
 use Rattle.pg_heap.specs.PlanSteps.{long_pages, value_bytes, NoNewKey, TakesPages, IsIndexed, MakesChange, MakesChanges}
-use Rattle.pg_heap.proofs.Copying.{item_key, without_fits}
-use Rattle.pg_heap.proofs.Taking.{item_at, cut_at, without_cut}
+use Rattle.pg_heap.proofs.Copying.{without_fits}
+use Rattle.pg_map.specs.laws.PageStrings.{item_key}
+use Rattle.pg_heap.proofs.Taking.{item_at, without_cut}
+use Rattle.pg_page.specs.ReadLaws.{at_slot}
 use Rattle.pg_heap.proofs.Planning.{HasRest, FreesLong}
 use Rattle.pg_heap.proofs.Changing.{short_done, far_done, somewhere, gone_none, put_over, changes_take}
 
@@ -66,12 +72,6 @@ no_new_free ks ls at is = subst (NoNewKey ks) (sym is) (no_new_plain ks at Free 
 
 pub no_new_long : (ks ls : List Kind) (at next : ℕ) (bytes : List ℕ) → ls ≡ set ks at (Long next bytes) → NoNewKey ks ls
 no_new_long ks ls at next bytes is = subst (NoNewKey ks) (sym is) (no_new_plain ks at (Long next bytes) (long_slotted next bytes))
-
-at_end : (ks : List Kind) (n : ℕ) → get_or (ks ++ Free ∷ []) n Free ≡ get_or ks n Free
-at_end [] zero = refl
-at_end [] (suc n) = refl
-at_end (k ∷ ks) zero = refl
-at_end (k ∷ ks) (suc n) = at_end ks n
 
 pub no_new_grown : (ks ls : List Kind) → ls ≡ ks ++ Free ∷ [] → NoNewKey ks ls
 no_new_grown ks ls is = subst (NoNewKey ks) (sym is) (record { none = λ a q has. has_key_by (ks ++ Free ∷ []) ks a q (at_end ks a) has })
@@ -166,14 +166,14 @@ key_there kinds m at key done has none =
     let i = item_at kinds m at has.strings has.number done has.within has.kind has.is.within in
     let key_is : key_in_item i.item ≡ key = sym (item_key i.item i.good) ∙ ap string_key (sym i.is) ∙ has.is.is in
     let cut : get_or kinds at Free ≡ Slotted (take has.number has.strings ++ item_bytes i.item ∷ drop (suc has.number) has.strings) =
-    has.kind ∙ ap Slotted (cut_at has.strings has.number has.is.within) ∙ ap (λ (s : List ℕ). Slotted (take has.number has.strings ++ s ∷ drop (suc has.number) has.strings)) i.is in
-    let fits : Fits has.strings = subst IsKind has.kind (each_at kinds at done.are) in
+    has.kind ∙ ap Slotted (at_slot has.strings has.number has.is.within) ∙ ap (λ (s : List ℕ). Slotted (take has.number has.strings ++ s ∷ drop (suc has.number) has.strings)) i.is in
+    let fits : Fits has.strings = subst IsKind has.kind (kind_is kinds at done.are) in
     let t = taken_at kinds at m (take has.number has.strings) (drop (suc has.number) has.strings) i.item done has.within cut i.good (subst Fits (without_cut has.strings has.number has.is.within) (without_fits has.strings has.number fits)) in
     let some : get m key ≡ Some t.entry.1 = ap (get m) (sym key_is) ∙ t.has in
     cc (some, none)
 
 -- where the places say nothing or where the page doesn't have it, the map hasn't
-pub place_known : (kinds : List Kind) (m : Content) (places : PlaceMap) (key : List ℕ) (at : ℕ) → IsDone kinds m → IsIndexed kinds places → get places key ≡ Some at → HasNone kinds at key → get m key ≡ None
+pub place_known : (kinds : List Kind) (m : Content) (places : PagePlaces) (key : List ℕ) (at : ℕ) → IsDone kinds m → IsIndexed kinds places → get places key ≡ Some at → HasNone kinds at key → get m key ≡ None
 place_known kinds m places key at done index is none = of (get m key) refl
   where
     of : (o : Option (List ℕ)) → get m key ≡ o → get m key ≡ None
@@ -193,7 +193,7 @@ place_known kinds m places key at done index is none = of (get m key) refl
         one : {a b : ℕ} → Some a ≡ Some b → a ≡ b
         one e = cc e
 
-pub place_unknown : (kinds : List Kind) (m : Content) (places : PlaceMap) (key : List ℕ) → IsDone kinds m → IsIndexed kinds places → get places key ≡ None → get m key ≡ None
+pub place_unknown : (kinds : List Kind) (m : Content) (places : PagePlaces) (key : List ℕ) → IsDone kinds m → IsIndexed kinds places → get places key ≡ None → get m key ≡ None
 place_unknown kinds m places key done index is = of (get m key) refl
   where
     of : (o : Option (List ℕ)) → get m key ≡ o → get m key ≡ None
@@ -340,7 +340,7 @@ touched_more before kinds begins count first next left used rest old touched mor
         let e : 3 + (first - 3) ≡ first = let low = long_at.low in omega (arith, low) in
         let p : IsPlanned kinds m (3 + (first - 3)) r.chain.loose r.rest = subst (λ (n : ℕ). IsPlanned kinds m n r.chain.loose r.rest) (sym e) r.chain.is in
         let f = freed_at kinds (first - 3) m next r.chain.loose r.rest long_at.bytes p long_at.within long_at.kind in
-        let kind : IsKind (Long next long_at.bytes) = subst IsKind long_at.kind (each_at kinds (first - 3) r.chain.is.are) in
+        let kind : IsKind (Long next long_at.bytes) = subst IsKind long_at.kind (kind_is kinds (first - 3) r.chain.is.are) in
         let parts : length r.rest ≡ length long_at.bytes + length f.rest = ap (λ (l : List ℕ). length l) f.parts ∙ length-append long_at.bytes f.rest in
         let used_is = long_at.used_is in
         let some = long_at.some in
@@ -399,12 +399,12 @@ batch_pages-one ws us key value m is = ap (λ (l : List Change). batch_pages l m
     of : (a b : ℕ) → a + (b + 0) ≡ a + b
     of a b = omega arith
 
-pub made_more : (old mid new : Drafted) (places places1 : PlaceMap) (ws us : List Change) (m : Content) (key : List ℕ) (value : Option (List ℕ)) (at : ℕ) → MakesChanges old mid places ws m → us ≡ ws ++ (key, value) ∷ []
+pub made_more : (old mid new : Drafted) (places places1 : PagePlaces) (ws us : List Change) (m : Content) (key : List ℕ) (value : Option (List ℕ)) (at : ℕ) → MakesChanges old mid places ws m → us ≡ ws ++ (key, value) ∷ []
     → MakesChange mid.now new.now (after ws m) key value at → places1 ≡ insert places key at → length new.touched ≤ length mid.touched + (3 + long_pages (value_bytes (get (after ws m) key)) + 2 * long_pages (value_bytes value))
     → MakesChanges old new places1 us m
 made_more old mid new places places1 ws us m key value at is more made put touches = record {
   done = subst (IsDone new.now) (sym (ap (λ (l : List Change). after l m) more ∙ after-append ws ((key, value) ∷ []) m)) made.done;
-  index = record { place = λ a q has. ap (λ (p : PlaceMap). get p q) put ∙ get-insert nat_list_cmp_total places key at q ∙ of a q has (same q key) refl };
+  index = record { place = λ a q has. ap (λ (p : PagePlaces). get p q) put ∙ get-insert nat_list_cmp_total places key at q ∙ of a q has (same q key) refl };
   touches = let a = is.touches in let b = change_touches key value (after ws m) in let c = batch_pages-one ws us key value m more in sum _ _ _ _ _ _ _ a touches b c;
 }
   where
@@ -415,7 +415,7 @@ made_more old mid new places places1 ws us m key value at is more made put touch
     sum : (x y z t p c q : ℕ) → y ≤ z + 2 * p → x ≤ y + t → t ≤ 2 * c → q ≡ p + c → x ≤ z + 2 * q
     sum x y z t p c q a b e f = omega (arith, a, b, e, f)
 
-pub made_none : (d : Drafted) (places : PlaceMap) (m : Content) → IsDone d.now m → IsIndexed d.now places → MakesChanges d d places [] m
+pub made_none : (d : Drafted) (places : PagePlaces) (m : Content) → IsDone d.now m → IsIndexed d.now places → MakesChanges d d places [] m
 made_none d places m done index = record { done = done; index = index; touches = omega arith }
 
 batch_take : (ws : List rust.Change) (i : ℕ) (m : Content) → batch_pages (map change_of (take i ws)) m ≤ batch_pages (map change_of ws) m
@@ -449,8 +449,8 @@ grows_all old new ws i grows m = let a = grows.is m in let b = batch_take ws i m
     of x z p q a b = omega (arith, a, b)
 
 -- a key that the map hasn't may lose its place
-pub forgotten : (kinds : List Kind) (m : Content) (places places1 : PlaceMap) (key : List ℕ) → IsDone kinds m → IsIndexed kinds places → is_some (get m key) ≡ false → places1 ≡ remove places key → IsIndexed kinds places1
-forgotten kinds m places places1 key done index none is = record { place = λ a q has. ap (λ (p : PlaceMap). get p q) is ∙ get-remove nat_list_cmp_total places key q ∙ of a q has (same q key) refl }
+pub forgotten : (kinds : List Kind) (m : Content) (places places1 : PagePlaces) (key : List ℕ) → IsDone kinds m → IsIndexed kinds places → is_some (get m key) ≡ false → places1 ≡ remove places key → IsIndexed kinds places1
+forgotten kinds m places places1 key done index none is = record { place = λ a q has. ap (λ (p : PagePlaces). get p q) is ∙ get-remove nat_list_cmp_total places key q ∙ of a q has (same q key) refl }
   where
     absent : (o : Option (List ℕ)) → is_some o ≡ false → o ≡ None
     absent None e = refl
@@ -465,7 +465,7 @@ forgotten kinds m places places1 key done index none is = record { place = λ a 
 none_within : (a : ℕ) (q : List ℕ) → HasKeyAt [] a q → ⊥
 none_within a q has = let w = has.within in omega (arith, w)
 
-pub no_pages : (kinds : List Kind) (m : Content) (places : PlaceMap) → kinds ≡ [] → m ≡ empty → IsDone kinds m × IsIndexed kinds places
+pub no_pages : (kinds : List Kind) (m : Content) (places : PagePlaces) → kinds ≡ [] → m ≡ empty → IsDone kinds m × IsIndexed kinds places
 no_pages kinds m places none nothing_ = (
   subst (λ (ks : List Kind). IsDone ks m) (sym none) (subst (IsDone []) (sym nothing_) (record { are = tt; count = omega arith; is = loosened [] nothing first_layout })),
   subst (λ (ks : List Kind). IsIndexed ks places) (sym none) (record { place = λ a q has. absurd (none_within a q has) }),

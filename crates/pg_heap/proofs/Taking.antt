@@ -1,46 +1,22 @@
 -- An entry is taken off its page, and one is put on a page.
 use Rattle.std.proofs.Common.{◌≤◌, ◌<◌, ◌≡◌, ℕ, zero, suc, ◌+◌, ◌-◌, ◌*◌, List, [], ◌∷◌, ◌++◌, length, get_or, set, take, drop, None, Some, refl, sym, ap, subst, ◌∙◌, append_assoc, append-nil, length-append, arith}
-use Rattle.std.proofs.lemmas.List.{drop_at}
-use Rattle.std.proofs.lemmas.Nat.{from_be_bytes-to_be_bytes_4}
-use Rattle.std.specs.Int.{to_be_bytes, w16, w32}
 use Rattle.std.specs.FinMap.{get}
 use Rattle.ct_keep.specs.Content.{Content, set_to}
 use Rattle.pg_heap.specs.PlanSteps.{value_bytes}
-use Rattle.pg_journal.specs.Pages.{number_in}
 use Rattle.pg_page.specs.Pages.{taken, Fits, free}
-use Rattle.pg_heap.specs.Kinds.{Each, Kind, Free, Slotted, strings_of, Item, Short, Far, item_bytes, IsItem}
-use Rattle.pg_heap.specs.Holding.{Placed, one_if_long}
-use Rattle.pg_heap.specs.Holding.{bytes_of}
-use Rattle.pg_heap.specs.laws.Holding.{strings-append}
-use Rattle.pg_heap.specs.Kinds.{key_in_item, page_of, count_of}
+use Rattle.pg_page.specs.PageLaws.{taken-push}
+use Rattle.pg_page.specs.ReadLaws.{at_slot}
+use Rattle.pg_map.specs.Kinds.{Each, Kind, Free, Slotted, strings_of, StringItem, item_bytes, IsStringItem, key_in_item}
+use Rattle.pg_map.specs.Holding.{Placed, one_if_long, bytes_of}
+use Rattle.pg_map.specs.laws.Holding.{strings-append}
 use Rattle.pg_heap.specs.laws.LooseSteps.{parted, with_kind, tail_is}
-use Rattle.pg_heap.specs.Planned.{IsPlanned, IsDone, HasRoom, HasChain, IsTaking}
+use Rattle.pg_heap.specs.Planned.{HasRoom, HasChain, IsTaking}
+use Rattle.pg_map.specs.Done.{IsPlanned, IsDone}
 use Rattle.pg_heap.specs.laws.Planned.{split_at, taken_at}
-use Rattle.pg_heap.specs.PageStrings.{without_at, string_key}
-use Rattle.pg_heap.proofs.Copying.{item_key, without_fits}
-
--- ---- the numbers at the end of a string
-
-pub far_numbers : (s : List ℕ) (item : Item) → IsItem item → s ≡ item_bytes item → (get_or s 0 0 ≡ 0 → ⊥) → (number_in s (length s - 4) ≡ page_of item) × (number_in s (length s - 8) ≡ count_of item)
-far_numbers s (Short key value) good is far = absurd (far (ap (λ (l : List ℕ). get_or l 0 0) is))
-far_numbers s (Far key count first) good is far =
-    let head : List ℕ = 1 ∷ (to_be_bytes w16 (length key) ++ key) in
-    let whole : item_bytes (Far key count first) ≡ head ++ (to_be_bytes w32 count ++ to_be_bytes w32 first) = refl in
-    let long : length s ≡ length head + 8 = ap (λ (l : List ℕ). length l) (is ∙ whole) ∙ length-append head (to_be_bytes w32 count ++ to_be_bytes w32 first) in
-    let back : drop (length s - 8) s ≡ to_be_bytes w32 count ++ to_be_bytes w32 first =
-    ap (λ (n : ℕ). drop n s) (less8 (length s) (length head) long) ∙ ap (drop (length head)) (is ∙ whole) ∙ drop_at head (to_be_bytes w32 count ++ to_be_bytes w32 first) (length head) refl in
-    let last : drop (length s - 4) s ≡ to_be_bytes w32 first =
-    ap (λ (n : ℕ). drop n s) (less4 (length s) (length head) long) ∙ ap (drop (length head + 4)) (is ∙ whole ∙ sym (append_assoc head (to_be_bytes w32 count) (to_be_bytes w32 first)))
-    ∙ drop_at (head ++ to_be_bytes w32 count) (to_be_bytes w32 first) (length head + 4) (length-append head (to_be_bytes w32 count)) in (
-      ap (λ (l : List ℕ). number_in l 0) last ∙ from_be_bytes-to_be_bytes_4 first good.2,
-      ap (λ (l : List ℕ). number_in l 0) back ∙ from_be_bytes-to_be_bytes_4 count good.1,
-    )
-  where
-    less8 : (n h : ℕ) → n ≡ h + 8 → n - 8 ≡ h
-    less8 n h e = omega (arith, e)
-
-    less4 : (n h : ℕ) → n ≡ h + 8 → n - 4 ≡ h + 4
-    less4 n h e = omega (arith, e)
+use Rattle.pg_map.specs.PageStrings.{string_key}
+use Rattle.pg_heap.specs.Slots.{without_at}
+use Rattle.pg_heap.proofs.Copying.{without_fits}
+use Rattle.pg_map.specs.laws.PageStrings.{item_key}
 
 -- ---- room
 
@@ -53,10 +29,6 @@ opened_free k ss is none = record { was = ap (λ (k : Kind). strings_of (k ∷ [
 
 pub opened_slotted : (k : Kind) (p ss : List (List ℕ)) → Slotted p ≡ k → ss ≡ p → Opened k ss
 opened_slotted k p ss is same_ = record { was = ap (λ (k : Kind). strings_of (k ∷ [])) (sym is) ∙ append-nil p ∙ sym same_; short = ap one_if_long (sym is) }
-
-taken-end : (a : List (List ℕ)) (s : List ℕ) → taken (a ++ s ∷ []) ≡ taken a + length s
-taken-end [] s = omega arith
-taken-end (r ∷ a) s = let e = taken-end a s in omega (arith, e)
 
 pub has_room : (kinds : List Kind) (at : ℕ) (string : List ℕ) (ss page : List (List ℕ)) → at < length kinds → Opened (get_or kinds at Free) ss → page ≡ ss ++ string ∷ [] → (free ss < length string + 4 → ⊥) → HasRoom kinds at string page
 has_room kinds at string ss page within o is room = record {
@@ -72,31 +44,26 @@ has_room kinds at string ss page within o is room = record {
     room_left a b no_ = omega (arith, no_)
 
     fits_end : length string + 4 ≤ 4088 - (4 * length ss + taken ss) → Fits (ss ++ string ∷ [])
-    fits_end e = omega (arith, e, taken-end ss string, length-append ss (string ∷ []))
+    fits_end e = omega (arith, e, taken-push ss string, length-append ss (string ∷ []))
 
 -- ---- taking
 
 -- a string of a page as the item that it is
 pub record IsItemAt (s : List ℕ) : Type 0 where
-  pub item : Item
-  pub good : IsItem item
+  pub item : StringItem
+  pub good : IsStringItem item
   pub is : s ≡ item_bytes item
-
-pub cut_at : (ss : List (List ℕ)) (i : ℕ) → i < length ss → ss ≡ take i ss ++ get_or ss i [] ∷ drop (suc i) ss
-cut_at [] i less = absurd (omega (arith, less))
-cut_at (s ∷ ss) zero less = refl
-cut_at (s ∷ ss) (suc i) less = ap (λ (l : List (List ℕ)). s ∷ l) (cut_at ss i (omega (arith, less)))
 
 pub without_cut : (ss : List (List ℕ)) (i : ℕ) → i < length ss → without_at i ss ≡ take i ss ++ drop (suc i) ss
 without_cut [] i less = absurd (omega (arith, less))
 without_cut (s ∷ ss) zero less = refl
 without_cut (s ∷ ss) (suc i) less = ap (λ (l : List (List ℕ)). s ∷ l) (without_cut ss i (omega (arith, less)))
 
-first_item : (ps : List Placed) (s : List ℕ) (more : List (List ℕ)) → Each (λ (p : Placed). IsItem p.item) ps → bytes_of ps ≡ s ∷ more → IsItemAt s
+first_item : (ps : List Placed) (s : List ℕ) (more : List (List ℕ)) → Each (λ (p : Placed). IsStringItem p.item) ps → bytes_of ps ≡ s ∷ more → IsItemAt s
 first_item [] s more good is = absurd (cc is)
 first_item (p ∷ ps) s more good is = record { item = p.item; good = good.0; is = sym (tail_is (item_bytes p.item) (bytes_of ps) s more is).0 }
 
-right_items : (us vs : List Placed) → Each (λ (p : Placed). IsItem p.item) (us ++ vs) → Each (λ (p : Placed). IsItem p.item) vs
+right_items : (us vs : List Placed) → Each (λ (p : Placed). IsStringItem p.item) (us ++ vs) → Each (λ (p : Placed). IsStringItem p.item) vs
 right_items [] vs all = all
 right_items (u ∷ us) vs all = right_items us vs all.1
 
@@ -105,11 +72,11 @@ item_at kinds m at ss i done within kind less =
     let s = split_at kinds at within in
     let split : kinds ≡ with_kind s.before (Slotted ss) s.behind = s.is ∙ ap (λ (k : Kind). with_kind s.before k s.behind) kind in
     let strings : bytes_of done.is.placed ≡ (strings_of s.before ++ take i ss) ++ get_or ss i [] ∷ (drop (suc i) ss ++ strings_of s.behind) =
-    sym done.is.strings ∙ ap strings_of split ∙ strings-append s.before (Slotted ss ∷ s.behind) ∙ ap (λ (x : List (List ℕ)). strings_of s.before ++ (x ++ strings_of s.behind)) (cut_at ss i less)
+    sym done.is.strings ∙ ap strings_of split ∙ strings-append s.before (Slotted ss ∷ s.behind) ∙ ap (λ (x : List (List ℕ)). strings_of s.before ++ (x ++ strings_of s.behind)) (at_slot ss i less)
     ∙ ap (λ (x : List (List ℕ)). strings_of s.before ++ x) (append_assoc (take i ss) (get_or ss i [] ∷ drop (suc i) ss) (strings_of s.behind))
     ∙ sym (append_assoc (strings_of s.before) (take i ss) (get_or ss i [] ∷ (drop (suc i) ss ++ strings_of s.behind))) in
     let r = parted done.is.placed (strings_of s.before ++ take i ss) (get_or ss i [] ∷ (drop (suc i) ss ++ strings_of s.behind)) strings in
-    first_item r.vs (get_or ss i []) (drop (suc i) ss ++ strings_of s.behind) (right_items r.us r.vs (subst (Each (λ (p : Placed). IsItem p.item)) r.is done.is.items)) r.behind_is
+    first_item r.vs (get_or ss i []) (drop (suc i) ss ++ strings_of s.behind) (right_items r.us r.vs (subst (Each (λ (p : Placed). IsStringItem p.item)) r.is done.is.items)) r.behind_is
 
 -- what is left of the pages, and the chain that is to be freed
 pub record Takes (kinds : List Kind) (m : Content) (key : List ℕ) (first count : ℕ) : Type 0 where
@@ -124,7 +91,7 @@ takes kinds news m at key rest first count done t put =
     let two = t.far i.item i.good i.is in
     let key_is : key_in_item i.item ≡ key = sym (item_key i.item i.good) ∙ ap string_key (sym i.is) ∙ t.key_is.is in
     let cut : get_or kinds at Free ≡ Slotted (take t.number t.strings ++ item_bytes i.item ∷ drop (suc t.number) t.strings) =
-    t.kind ∙ ap Slotted (cut_at t.strings t.number t.key_is.within) ∙ ap (λ (s : List ℕ). Slotted (take t.number t.strings ++ s ∷ drop (suc t.number) t.strings)) i.is in
+    t.kind ∙ ap Slotted (at_slot t.strings t.number t.key_is.within) ∙ ap (λ (s : List ℕ). Slotted (take t.number t.strings ++ s ∷ drop (suc t.number) t.strings)) i.is in
     let rest_is : rest ≡ take t.number t.strings ++ drop (suc t.number) t.strings = t.rest_is ∙ without_cut t.strings t.number t.key_is.within in
     let r = taken_at kinds at m (take t.number t.strings) (drop (suc t.number) t.strings) i.item done t.within cut i.good (subst Fits (without_cut t.strings t.number t.key_is.within) (without_fits t.strings t.number t.fits)) in
     record {

@@ -3,16 +3,16 @@ use Rattle.std.specs.Prelude.{ℕ, ◌≤◌, ◌<◌, List, length, take}
 use Rattle.std.specs.List.{Contains}
 use Rattle.pg_heap.specs.declared.drafts.Draft.TheInside.{Inside}
 use Rattle.pg_heap.specs.declared.drafts.Note.{Note}
-use Rattle.pg_heap.specs.declared.sheets.Sheet.{Sheet}
-use Rattle.pg_heap.specs.Kinds.{Each}
-use Rattle.pg_heap.specs.Sheets.{kinds_of}
+use Rattle.pg_map.specs.declared.sheets.Sheet.{Sheet}
+use Rattle.pg_map.specs.Kinds.{Each}
+use Rattle.pg_map.specs.Sheets.{sheet_kinds}
 use Rattle.pg_heap.specs.Drafts.{undone, touched_by, Drafted}
-use Rattle.pg_heap.specs.Kinds.{Free}
-use Rattle.pg_heap.specs.declared.sheets.Sheet.TheVariants.{Free as FreeSheet}
+use Rattle.pg_map.specs.Kinds.{Free}
+use Rattle.pg_map.specs.declared.sheets.Sheet.TheVariants.{Free as FreeSheet}
 use Rattle.std.specs.Prelude.{◌≡◌, [], ◌∷◌, refl}
 
 abbrev pub draft_of : List Sheet → List Note → ℕ → Drafted
-draft_of sheets notes before = record { before = take before (undone notes (kinds_of sheets)); now = kinds_of sheets; touched = touched_by notes }
+draft_of sheets notes before = record { before = take before (undone notes (sheet_kinds sheets)); now = sheet_kinds sheets; touched = touched_by notes }
 
 abbrev pub drafted : Inside → Drafted
 drafted d = draft_of d.sheets.items d.notes.items d.before

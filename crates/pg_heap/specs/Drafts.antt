@@ -1,16 +1,16 @@
 -- Pages that are changed in memory, and can go back to what they were.
-use Rattle.std.specs.Prelude.{ℕ, List, [], ◌∷◌, ◌++◌, set, map}
+use Rattle.std.specs.Prelude.{ℕ, List, [], ◌∷◌, ◌++◌, length, set, map}
 use Rattle.pg_heap.specs.declared.drafts.Note.{Note}
-use Rattle.pg_heap.specs.Kinds.{Kind}
-use Rattle.pg_heap.specs.Sheets.{kind_of}
-use Rattle.pg_heap.specs.Kinds.{Free, Long}
-use Rattle.pg_heap.specs.declared.sheets.Sheet.TheVariants.{Free as FreeSheet}
+use Rattle.pg_map.specs.Kinds.{Kind}
+use Rattle.pg_map.specs.Sheets.{sheet_kind}
+use Rattle.pg_map.specs.Kinds.{Free, Long}
+use Rattle.pg_map.specs.declared.sheets.Sheet.TheVariants.{Free as FreeSheet}
 use Rattle.std.specs.Prelude.{◌≡◌, refl}
 
 -- the pages with the notes undone, the last of them first
 abbrev pub undone : List Note → List Kind → List Kind
 undone [] kinds = kinds
-undone (n ∷ ns) kinds = set (undone ns kinds) n.at (kind_of n.sheet)
+undone (n ∷ ns) kinds = set (undone ns kinds) n.at (sheet_kind n.sheet)
 
 abbrev pub touched_by : List Note → List ℕ
 touched_by ns = map (λ (n : Note). n.at) ns
@@ -21,11 +21,18 @@ pub record Drafted : Type 0 where
   pub now : List Kind
   pub touched : List ℕ
 
+-- one free page more, which counts as changed
+abbrev pub with_free_page : Drafted → Drafted
+with_free_page d = record { before = d.before; now = d.now ++ Free ∷ []; touched = d.touched ++ length d.now ∷ [] }
+
 -- The last of the places is this one.
 pub record EndsWith (places : List ℕ) (at : ℕ) : Type 0 where
   pub first : List ℕ
   pub is : places ≡ first ++ at ∷ []
 
--- ---- computed example: a long page that was free before
+-- ---- computed examples: a long page that was free before, and a page at the end
 free_again : undone (record { at = 0; sheet = FreeSheet } ∷ []) (Long 0 (7 ∷ []) ∷ []) ≡ Free ∷ []
 free_again = refl
+
+one_at_the_end : with_free_page (record { before = []; now = Long 0 (7 ∷ []) ∷ []; touched = 0 ∷ [] }) ≡ record { before = []; now = Long 0 (7 ∷ []) ∷ Free ∷ []; touched = 0 ∷ 1 ∷ [] }
+one_at_the_end = refl

@@ -1,19 +1,23 @@
 -- The fields of a heap.
 use Rattle.std.specs.Prelude.{◌≡◌, ◌+◌, length}
 use Rattle.pg_heap.specs.declared.heaps.Heap.TheInside.{Inside}
-use Rattle.pg_heap.specs.Sheets.{kinds_of}
+use Rattle.pg_map.specs.Sheets.{sheet_kinds}
 use Rattle.pg_heap.specs.Heaps.{HeapState}
 use Rattle.pg_heap.specs.HeapPages.{IsSound}
-use Rattle.std.proofs.Common.{[], ap}
+use Rattle.std.proofs.Common.{[], ap, refl}
 
 abbrev pub heap_of : Inside → HeapState
-heap_of h = record { homes = h.journal; kinds = kinds_of h.pages.sheets.items; held = h.pages.held }
+heap_of h = record { homes = h.journal; kinds = sheet_kinds h.pages.sheets.items; held = h.pages.held }
 
 -- The pages hold the map, each key stands where the places say, and the journal knows how many pages there are.
 pub record IsHeap (h : Inside) : Type 0 where
   pub sound : IsSound h.pages
-  pub homes : h.journal ≡ 3 + length (kinds_of h.pages.sheets.items)
+  pub homes : h.journal ≡ 3 + length (sheet_kinds h.pages.sheets.items)
 
 -- ---- example: a heap without sheets has no pages behind the root
 no_sheets : (h : Inside) → h.pages.sheets.items ≡ [] → (heap_of h).kinds ≡ []
-no_sheets h none = ap kinds_of none
+no_sheets h none = ap sheet_kinds none
+
+-- ---- computed example: the map of a heap is that of its pages
+the_map_of_its_pages : (h : Inside) → (heap_of h).held ≡ h.pages.held
+the_map_of_its_pages h = refl

@@ -4,8 +4,8 @@ use Rattle.ct_keep.specs.Content.{Change, after, weight}
 use Rattle.pg_journal.specs.Pages.{Numbered}
 use Rattle.pg_heap.specs.declared.pages.Pages.{Pages}
 use Rattle.pg_heap.specs.declared.batch_plans.BatchPlan.{BatchPlan}
-use Rattle.pg_heap.specs.Sheets.{kinds_of}
-use Rattle.pg_heap.specs.Planned.{IsDone}
+use Rattle.pg_map.specs.Sheets.{sheet_kinds}
+use Rattle.pg_map.specs.Done.{IsDone}
 use Rattle.pg_heap.specs.PlanSteps.{IsIndexed}
 use Rattle.pg_heap.specs.BatchPages.{batch_pages}
 use Rattle.pg_heap.specs.Committing.{IsBatchOf}
@@ -13,8 +13,8 @@ use Rattle.std.specs.Prelude.{refl}
 
 -- The pages hold the map, and each key stands where the places say.
 pub record IsSound (p : Pages) : Type 0 where
-  pub done : IsDone (kinds_of p.sheets.items) p.held
-  pub index : IsIndexed (kinds_of p.sheets.items) p.places
+  pub done : IsDone (sheet_kinds p.sheets.items) p.held
+  pub index : IsIndexed (sheet_kinds p.sheets.items) p.places
 
 -- Nothing but places changed.
 pub record SameButPlaces (old new : Pages) : Type 0 where

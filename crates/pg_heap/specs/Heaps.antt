@@ -7,9 +7,9 @@ use Rattle.ct_site.specs.Disks.{DiskView}
 use Rattle.ct_keep.specs.Content.{Content}
 use Rattle.ct_keep.specs.Pairs.{content_code}
 use Rattle.pg_journal.specs.Standing.{DiskStands}
-use Rattle.pg_heap.specs.Kinds.{Kind, Free, Slotted, Long}
-use Rattle.pg_heap.specs.Holding.{Recovers}
-use Rattle.pg_heap.specs.MapReading.{behind_root}
+use Rattle.pg_map.specs.Kinds.{Kind, Free, Slotted, Long}
+use Rattle.pg_map.specs.Holding.{Recovers}
+use Rattle.pg_map.specs.MapReading.{behind_root}
 use Rattle.std.specs.Prelude.{[], ◌∷◌}
 
 -- how many home pages its journal knows, the pages behind the root, and the map that they hold

@@ -1,9 +1,4 @@
 pub mod BatchPages
-pub mod ChainReading
-pub mod ItemReading
-pub mod Loading
-pub mod Readings
-pub mod SheetReading
 pub mod Commits
 pub mod Committing
 pub mod DraftFields
@@ -11,15 +6,9 @@ pub mod Drafts
 pub mod HeapFields
 pub mod HeapPages
 pub mod Heaps
-pub mod Holding
-pub mod Kinds
-pub mod Loose
-pub mod MapLaws
-pub mod MapReading
-pub mod PageStrings
-pub mod Places
+pub mod Loading
 pub mod PlanSteps
 pub mod Planned
 pub mod Recovering
-pub mod Sheets
+pub mod Slots
 pub mod laws

@@ -2,10 +2,10 @@
 use Rattle.std.specs.Prelude.{◌≡◌, ◌≢◌, ℕ, ◌+◌, ◌*◌, ◌/◌, ◌≤◌, List, length, Option, Some, None, refl}
 use Rattle.std.specs.FinMap.{get}
 use Rattle.ct_keep.specs.Content.{Content, Change, set_to, after}
-use Rattle.pg_heap.specs.Kinds.{Kind}
+use Rattle.pg_map.specs.Kinds.{Kind}
 use Rattle.pg_heap.specs.Drafts.{Drafted}
-use Rattle.pg_heap.specs.Places.{PlaceMap}
-use Rattle.pg_heap.specs.Planned.{IsDone, HasKeyAt}
+use Rattle.pg_map.specs.Places.{PagePlaces}
+use Rattle.pg_map.specs.Done.{IsDone, HasKeyAt}
 use Rattle.pg_heap.specs.BatchPages.{batch_pages}
 
 -- how many long pages so many bytes take
@@ -26,8 +26,12 @@ pub record TakesPages (old new : Drafted) (pages touches : ℕ) : Type 0 where
   pub pages_are : length new.now ≤ length old.now + pages
   pub touches_are : length new.touched ≤ length old.touched + touches
 
+-- Where the pages held a map, at most one page was changed beside the long ones of the key's value.
+abbrev pub TouchesEntry : Drafted → Drafted → List ℕ → Type 0
+TouchesEntry old new key = (m : Content) → IsDone old.now m → length new.touched ≤ length old.touched + (1 + long_pages (value_bytes (get m key)))
+
 -- Each key that stands on a page stands where the places say.
-pub record IsIndexed (kinds : List Kind) (places : PlaceMap) : Type 0 where
+pub record IsIndexed (kinds : List Kind) (places : PagePlaces) : Type 0 where
   pub place : (at : ℕ) (key : List ℕ) → HasKeyAt kinds at key → get places key ≡ Some at
 
 -- One change was made: the pages hold the changed map, the key stands at this place if it stands anywhere, and no other key has come to
@@ -38,7 +42,7 @@ pub record MakesChange (old new : List Kind) (m : Content) (key : List ℕ) (val
   pub here : (a : ℕ) → HasKeyAt new a key → a ≡ at
 
 -- All changes were made, each key stands where the places say, and so many pages were changed.
-pub record MakesChanges (old new : Drafted) (places : PlaceMap) (ws : List Change) (m : Content) : Type 0 where
+pub record MakesChanges (old new : Drafted) (places : PagePlaces) (ws : List Change) (m : Content) : Type 0 where
   pub done : IsDone new.now (after ws m)
   pub index : IsIndexed new.now places
   pub touches : length new.touched ≤ length old.touched + 2 * batch_pages ws m

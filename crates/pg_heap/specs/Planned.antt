@@ -1,23 +1,14 @@
--- What pages in memory hold while a batch is planned.
+-- What the steps of a plan make of pages in memory.
 use Rattle.std.specs.Prelude.{◌≡◌, ◌≢◌, ◌⊎◌, ℕ, ◌+◌, ◌-◌, ◌^◌, ◌≤◌, ◌<◌, List, [], ◌∷◌, ◌++◌, length, get_or, set}
 use Rattle.ct_keep.specs.Content.{Content}
 use Rattle.pg_page.specs.Pages.{Fits}
-use Rattle.pg_heap.specs.Kinds.{Each, Kind, Free, Slotted, Long, IsKind, strings_of, Item, item_bytes, IsItem}
-use Rattle.pg_heap.specs.Holding.{one_if_long}
-use Rattle.pg_heap.specs.Loose.{IsLoose}
-use Rattle.pg_heap.specs.Kinds.{key_in_item, page_of, count_of}
-use Rattle.pg_heap.specs.PageStrings.{without_at, IsKeyAt}
+use Rattle.pg_map.specs.Kinds.{Kind, Free, Slotted, Long, strings_of, StringItem, item_bytes, IsStringItem}
+use Rattle.pg_map.specs.Holding.{one_if_long}
+use Rattle.pg_map.specs.Done.{IsPlanned}
+use Rattle.pg_map.specs.Kinds.{key_in_item, page_of, count_of}
+use Rattle.pg_map.specs.PageStrings.{IsKeyAt}
+use Rattle.pg_heap.specs.Slots.{without_at}
 use Rattle.std.proofs.Common.{inr, refl, arith}
-
--- Pages that may be written hold the map, and beside it a chain of long pages that no entry has: its first page, its pages, and its bytes.
-pub record IsPlanned (kinds : List Kind) (m : Content) (first : ℕ) (loose value : List ℕ) : Type 0 where
-  pub are : Each IsKind kinds
-  pub count : 3 + length kinds ≤ 2 ^ 31
-  pub is : IsLoose kinds m first loose value
-
--- They hold the map, and nothing else.
-abbrev pub IsDone : List Kind → Content → Type 0
-IsDone kinds m = IsPlanned kinds m 0 [] []
 
 -- The same pages, or one free page more.
 abbrev pub IsRoomier : List Kind → List Kind → Type 0
@@ -72,19 +63,11 @@ pub record IsTaking (kinds : List Kind) (at : ℕ) (key : List ℕ) (rest : List
   pub key_is : IsKeyAt strings number key
   pub rest_is : rest ≡ without_at number strings
   pub fits : Fits strings
-  pub far : (item : Item) → IsItem item → get_or strings number [] ≡ item_bytes item → (first ≡ page_of item) × (count ≡ count_of item)
+  pub far : (item : StringItem) → IsStringItem item → get_or strings number [] ≡ item_bytes item → (first ≡ page_of item) × (count ≡ count_of item)
 
 -- The page at this place has no string of an entry of the key.
 pub record HasNone (kinds : List Kind) (at : ℕ) (key : List ℕ) : Type 0 where
-  pub none : (strings : List (List ℕ)) (i : ℕ) (item : Item) → get_or kinds at Free ≡ Slotted strings → i < length strings → IsItem item → get_or strings i [] ≡ item_bytes item → key_in_item item ≢ key
-
--- The page at this place has a string of the key.
-pub record HasKeyAt (kinds : List Kind) (at : ℕ) (key : List ℕ) : Type 0 where
-  pub within : at < length kinds
-  pub strings : List (List ℕ)
-  pub number : ℕ
-  pub kind : get_or kinds at Free ≡ Slotted strings
-  pub is : IsKeyAt strings number key
+  pub none : (strings : List (List ℕ)) (i : ℕ) (item : StringItem) → get_or kinds at Free ≡ Slotted strings → i < length strings → IsStringItem item → get_or strings i [] ≡ item_bytes item → key_in_item item ≢ key
 
 -- ---- example: where there are no pages a free one is made
 a_first_page : HasFree [] (Free ∷ []) 0

@@ -2,7 +2,7 @@
 use Rattle.std.proofs.Common.{◌≡◌, ◌⊎◌, ℕ, List, Option, Some}
 use Rattle.ct_base.specs.Moments.{Timeline}
 use Rattle.ct_keep.specs.Content.{Content}
-use Rattle.pg_heap.specs.Holding.{Recovers}
+use Rattle.pg_map.specs.Holding.{Recovers}
 use Rattle.std.proofs.Common.{inr, refl}
 
 -- the old map or the new one

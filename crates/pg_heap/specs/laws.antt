@@ -2,11 +2,6 @@ pub mod ChangedPages
 pub mod Commits
 pub mod Committing
 pub mod Heaps
-pub mod Holding
-pub mod Loose
 pub mod LooseSteps
-pub mod MapReading
-pub mod OneMap
 pub mod Planned
 pub mod Recovering
-pub mod Whole

@@ -4,8 +4,8 @@ ghost use Rattle.std.specs.Prelude.{true, ◌≡◌, ◌<◌, ◌≤◌, ◌+◌
 ghost use Rattle.ct_keep.specs.Content.{weight};
 ghost use Rattle.ct_keep.specs.SeenChanges.{change_of};
 ghost use Rattle.ct_keep.specs.Changes.{AnyEntry, AreWell};
-ghost use Rattle.pg_heap.specs.Sheets.{kinds_of};
-ghost use Rattle.pg_heap.specs.Planned.{IsDone};
+ghost use Rattle.pg_map.specs.Sheets.{sheet_kinds};
+ghost use Rattle.pg_map.specs.Done.{IsDone};
 ghost use Rattle.pg_heap.specs.PlanSteps.{IsIndexed};
 ghost use Rattle.pg_heap.specs.BatchPages.{batch_pages};
 ghost use Rattle.pg_heap.specs.HeapPages.{IsSound, IsUndoable, IsFresh, GoesBackAs, IsPlanMade};
@@ -14,11 +14,11 @@ use crate::changes::do_changes;
 use crate::drafts::Draft;
 use crate::hints::Hints;
 use crate::pages::Pages;
-use crate::places::PlaceChanges;
 use crate::plans::PlanFault;
 use ct_base::Memory;
 use ct_keep::{Batch, Change, EntryMap, Transaction};
 use pg_journal::PageBatch;
+use pg_map::PlaceChanges;
 use std::alloc::Global;
 
 /// Pages, map and places while a batch changes them. They can go back to what they were without taking memory.
@@ -58,7 +58,7 @@ impl BatchPlan {
     /// Begins with pages as they are. It takes no memory.
     pub(crate) fn begin(alloc: Global, pages: Pages) -> BatchPlan
         requires { IsSound pages }
-        ensures kinds { result.draft.before ≡ kinds_of pages.sheets.items }
+        ensures kinds { result.draft.before ≡ sheet_kinds pages.sheets.items }
         ensures entries { result.entries.before ≡ pages.held }
         ensures undoable { IsUndoable result }
         ensures fresh { IsFresh result }
@@ -121,7 +121,7 @@ impl BatchPlan {
     pub(crate) fn roll_back(self) -> Pages
         requires { IsUndoable self }
         ensures sound { IsSound result }
-        ensures kinds { kinds_of result.sheets.items ≡ self.draft.before }
+        ensures kinds { sheet_kinds result.sheets.items ≡ self.draft.before }
         ensures held { result.held ≡ self.entries.before }
     {
         let BatchPlan {
@@ -143,7 +143,7 @@ impl BatchPlan {
         requires done { IsDone self.draft.now self.entries.seen }
         requires index { IsIndexed self.draft.now self.places.now }
         ensures sound { IsSound result }
-        ensures kinds { kinds_of result.sheets.items ≡ self.draft.now }
+        ensures kinds { sheet_kinds result.sheets.items ≡ self.draft.now }
         ensures held { result.held ≡ self.entries.seen }
     {
         let BatchPlan {

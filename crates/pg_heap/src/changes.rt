@@ -5,16 +5,17 @@ ghost use Rattle.std.specs.FinMap.{get};
 ghost use Rattle.ct_keep.specs.Content.{Content};
 ghost use Rattle.ct_keep.specs.SeenChanges.{change_of};
 ghost use Rattle.ct_keep.specs.Changes.{AnyEntry, AreWell};
-ghost use Rattle.pg_heap.specs.Planned.{IsDone, HasNone};
+ghost use Rattle.pg_heap.specs.Planned.{HasNone};
+ghost use Rattle.pg_map.specs.Done.{IsDone};
 ghost use Rattle.pg_heap.specs.PlanSteps.{IsIndexed, MakesChanges};
 ghost use Rattle.pg_heap.specs.BatchPages.{batch_pages};
 
 use crate::drafts::Draft;
 use crate::hints::Hints;
-use crate::places::PlaceChanges;
 use crate::plans::PlanFault;
 use crate::puts::do_change;
 use ct_keep::Change;
+use pg_map::PlaceChanges;
 use std::alloc::Global;
 
 /// The place of the entry of a key, if it has one.

@@ -1,14 +1,13 @@
 //! The commit of a plan.
 
-ghost use Rattle.std.specs.Prelude.{◌≡◌, ◌≤◌, ◌+◌, ◌*◌, ◌^◌, IfErr, OnErr, OnOk, length};
+ghost use Rattle.std.specs.Prelude.{◌≡◌, ◌≤◌, ◌+◌, ◌^◌, IfErr, OnErr, OnOk, length};
 ghost use Rattle.ct_site.specs.Disks.{Leaves};
 ghost use Rattle.ct_site.specs.Lengths.{Lengthens};
 ghost use Rattle.pg_journal.specs.Standing.{DiskStands};
-ghost use Rattle.pg_journal.specs.Recovered.{number_pages};
 ghost use Rattle.pg_heap.specs.Commits.{CommitsPages};
-ghost use Rattle.pg_heap.specs.Committing.{AreEither, IsBatchOf};
-ghost use Rattle.pg_heap.specs.Kinds.{Each, IsKind};
-ghost use Rattle.pg_heap.specs.MapReading.{behind_root};
+ghost use Rattle.pg_heap.specs.Committing.{draft_end, AreEither, IsBatchOf};
+ghost use Rattle.pg_map.specs.Kinds.{Each, IsKind};
+ghost use Rattle.pg_map.specs.MapReading.{behind_root};
 
 use crate::drafts::Draft;
 use ct_keep::KeepFault;
@@ -34,7 +33,7 @@ pub(crate) fn commit_draft<D: Disk>(
     ensures homes { OnOk result (journal.new ≡ 3 + length draft.now.now) }
     ensures err { OnErr result (journal.new ≡ journal.old) }
     ensures disk { IfErr result (λ fault. fault ≡ KeepFault.Disk) }
-    ensures length { Lengthens (4096 * (3 + length draft.now.now + number_pages (length batch.now.pages) + length batch.now.pages)) (D.disk disk.old) (D.disk disk.new) }
+    ensures length { Lengthens (draft_end draft.now.now batch.now.pages) (D.disk disk.old) (D.disk disk.new) }
     ensures commits { CommitsPages (D.disk disk.old) (D.disk disk.new) result }
 {
     if batch.is_empty() {

@@ -1,16 +1,16 @@
 //! Pages that are changed in memory.
 
 ghost use Rattle.std.specs.Prelude.{◌≡◌, ◌<◌, ◌≤◌, ◌+◌, ◌^◌, IsTrue, IfOk, ◌++◌, ◌∷◌, [], OnOk, OnErr, length, get_or, set};
-ghost use Rattle.pg_heap.specs.Kinds.{Each, Free, IsKind, kind_bytes};
+ghost use Rattle.pg_map.specs.Kinds.{Each, Free, IsKind, bytes_of_kind};
 ghost use Rattle.pg_heap.specs.Committing.{IsBatchOf, IsOneMore};
-ghost use Rattle.pg_heap.specs.Sheets.{kind_of, kinds_of};
+ghost use Rattle.pg_map.specs.Sheets.{sheet_kind, sheet_kinds};
 ghost use Rattle.std.specs.List.Sorted.{IsPermutation};
-ghost use Rattle.pg_heap.specs.Drafts.{undone, touched_by, EndsWith};
+ghost use Rattle.pg_heap.specs.Drafts.{undone, touched_by, with_free_page, EndsWith};
 ghost use Rattle.pg_heap.specs.DraftFields.{AreOnSheets};
 
-use crate::sheets::{Sheet, root_bytes};
 use ct_base::Memory;
 use pg_journal::PageBatch;
+use pg_map::{Sheet, root_bytes};
 use std::alloc::Global;
 use std::marker::Model;
 use std::mem::replace;
@@ -45,7 +45,7 @@ impl Model for Draft {
 impl Draft {
     /// Begins with pages as they are. It takes no memory.
     pub(crate) fn begin(alloc: Global, sheets: Vec<Sheet>) -> Draft
-        ensures { result ≡ record { before = kinds_of sheets.items; now = kinds_of sheets.items; touched = [] } }
+        ensures { result ≡ record { before = sheet_kinds sheets.items; now = sheet_kinds sheets.items; touched = [] } }
     {
         let before = sheets.len();
         Draft {
@@ -58,7 +58,7 @@ impl Draft {
     /// Puts a page in place of another one.
     pub(crate) fn set(&mut self, at: usize, sheet: Sheet) -> Result<(), Memory>
         requires { at < length self.old.now }
-        ensures ok { OnOk result (self.new ≡ record { before = self.old.before; now = set self.old.now at (kind_of sheet); touched = self.old.touched ++ at ∷ [] }) }
+        ensures ok { OnOk result (self.new ≡ record { before = self.old.before; now = set self.old.now at (sheet_kind sheet); touched = self.old.touched ++ at ∷ [] }) }
         ensures err { OnErr result (self.new ≡ self.old) }
     {
         self.notes.reserve(1)?;
@@ -83,14 +83,14 @@ impl Draft {
     pub(crate) fn set_last(&mut self, at: usize, sheet: Sheet)
         requires within { at < length self.old.now }
         requires last { EndsWith self.old.touched at }
-        ensures { self.new ≡ record { before = self.old.before; now = set self.old.now at (kind_of sheet); touched = self.old.touched } }
+        ensures { self.new ≡ record { before = self.old.before; now = set self.old.now at (sheet_kind sheet); touched = self.old.touched } }
     {
         self.sheets[at] = sheet;
     }
 
     /// One page more, a free one.
     pub(crate) fn grow(&mut self) -> Result<(), Memory>
-        ensures ok { OnOk result (self.new ≡ record { before = self.old.before; now = self.old.now ++ Free ∷ []; touched = self.old.touched ++ length self.old.now ∷ [] }) }
+        ensures ok { OnOk result (self.new ≡ with_free_page self.old) }
         ensures err { OnErr result (self.new ≡ self.old) }
     {
         self.notes.reserve(1)?;
@@ -109,7 +109,7 @@ impl Draft {
     /// A page.
     pub(crate) fn sheet(&self, at: usize) -> &Sheet
         requires { at < length self.now.now }
-        ensures { kind_of result.now ≡ get_or self.now.now at Free }
+        ensures { sheet_kind result.now ≡ get_or self.now.now at Free }
     {
         &self.sheets[at]
     }
@@ -146,14 +146,14 @@ impl Draft {
 
     /// The pages as they are now.
     pub(crate) fn finish(self) -> Vec<Sheet>
-        ensures { kinds_of result.items ≡ self.now }
+        ensures { sheet_kinds result.items ≡ self.now }
     {
         self.sheets
     }
 
     /// The pages as they were. It takes no memory.
     pub(crate) fn roll_back(self) -> Vec<Sheet>
-        ensures { kinds_of result.items ≡ self.before }
+        ensures { sheet_kinds result.items ≡ self.before }
     {
         let mut sheets = self.sheets;
         let mut notes = self.notes;
@@ -178,7 +178,7 @@ fn places_of(alloc: Global, notes: &[Note]) -> Result<Vec<usize>, Memory>
 /// Undoes changes, the last of them first.
 fn undo(sheets: &mut Vec<Sheet>, notes: &mut Vec<Note>)
     requires { AreOnSheets notes.old.items sheets.old.items }
-    ensures { kinds_of sheets.new.items ≡ undone notes.old.items (kinds_of sheets.old.items) }
+    ensures { sheet_kinds sheets.new.items ≡ undone notes.old.items (sheet_kinds sheets.old.items) }
 {
     while let Some(note) = notes.pop() {
         sheets[note.at] = note.sheet;
@@ -190,9 +190,9 @@ fn put_page(batch: &mut PageBatch, page: u32, sheet: &Sheet)
     requires room { length batch.old.pages < batch.old.room }
     requires low { 3 ≤ page }
     requires high { page < 2 ^ 31 }
-    requires kind { IsKind (kind_of sheet.now) }
+    requires kind { IsKind (sheet_kind sheet.now) }
     ensures room { batch.new.room ≡ batch.old.room }
-    ensures pages { IsOneMore batch.old.pages batch.new.pages page (kind_bytes (kind_of sheet.now)) }
+    ensures pages { IsOneMore batch.old.pages batch.new.pages page (bytes_of_kind (sheet_kind sheet.now)) }
 {
     if batch.has(page) {
         return;

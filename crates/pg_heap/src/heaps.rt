@@ -10,14 +10,15 @@ ghost use Rattle.ct_keep.specs.Changes.{AnyEntry, AreWell, HoldsWell};
 ghost use Rattle.ct_keep.specs.Counting.{count_under, IsOwner};
 ghost use Rattle.ct_keep.specs.KeeperViews.{AnswersCommit, fault_of};
 ghost use Rattle.pg_journal.specs.Looking.{Loads};
-ghost use Rattle.pg_journal.specs.Recovered.{Alike, HasNoOpenGate, IsOnlyRead};
-ghost use Rattle.pg_heap.specs.Holding.{Holds, Recovers};
-ghost use Rattle.pg_heap.specs.MapReading.{behind_root};
+ghost use Rattle.pg_journal.specs.Recovered.{Alike, IsOnlyRead};
+ghost use Rattle.pg_map.specs.Holding.{Holds, Recovers};
+ghost use Rattle.pg_map.specs.MapReading.{behind_root};
 ghost use Rattle.pg_heap.specs.BatchPages.{batch_end, batch_pages};
 ghost use Rattle.pg_heap.specs.Commits.{CommitsPages};
 ghost use Rattle.pg_heap.specs.Heaps.{HeapStands, IsMap};
 ghost use Rattle.pg_heap.specs.HeapPages.{IsSound};
-ghost use Rattle.pg_heap.specs.Sheets.{kinds_of};
+ghost use Rattle.pg_heap.specs.Loading.{RefusedIsSame};
+ghost use Rattle.pg_map.specs.Sheets.{sheet_kinds};
 
 use crate::batch_plans::BatchPlan;
 use crate::commits::commit_draft;
@@ -58,8 +59,8 @@ impl Heap {
     /// The heap of a journal's pages. It takes no memory.
     pub(crate) fn of(journal: Journal, pages: Pages, hints: Hints) -> Heap
         requires sound { IsSound pages }
-        requires homes { journal ≡ 3 + length (kinds_of pages.sheets.items) }
-        ensures { result ≡ record { homes = journal; kinds = kinds_of pages.sheets.items; held = pages.held } }
+        requires homes { journal ≡ 3 + length (sheet_kinds pages.sheets.items) }
+        ensures { result ≡ record { homes = journal; kinds = sheet_kinds pages.sheets.items; held = pages.held } }
     {
         Heap {
             journal,
@@ -77,7 +78,7 @@ impl Heap {
         ensures loaded { (image : List ℕ) → IsSettled (D.disk disk.old) image → IfOk result (λ heap. IsMap heap.held image × HeapStands (D.disk disk.new) heap) }
         ensures whole { IfOk result (λ heap. Holds (behind_root heap.kinds) heap.held) }
         ensures no_store { (image : List ℕ) → IsSettled (D.disk disk.old) image → result ≡ Err LoadFault.NotAStore → Recovers image None }
-        ensures refused { (image : List ℕ) → IsSettled (D.disk disk.old) image → HasNoOpenGate image → result ≡ Err LoadFault.NotAStore → IsSame (D.disk disk.old) (D.disk disk.new) }
+        ensures refused { RefusedIsSame (D.disk disk.old) (D.disk disk.new) result }
         ensures kept { (image : List ℕ) → (D.disk disk.old).image ≡ Some image → IsOnlyRead image → IsSame (D.disk disk.old) (D.disk disk.new) }
         ensures length { Lengthens 12288 (D.disk disk.old) (D.disk disk.new) }
         ensures loads { Loads (D.disk disk.old) (D.disk disk.new) result }

@@ -2,8 +2,8 @@
 
 ghost use Rattle.std.specs.Prelude.{◌≤◌, IfOk, length};
 
-use crate::sheets::Sheet;
 use ct_base::Memory;
+use pg_map::Sheet;
 use std::alloc::Global;
 
 /// How many free bytes a page has at least that is noted as one with room when a store is loaded.

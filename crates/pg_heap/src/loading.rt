@@ -5,22 +5,19 @@ ghost use Rattle.ct_site.specs.Disks.{IsSame, IsSettled, Leaves, Works};
 ghost use Rattle.ct_site.specs.Lengths.{IsWithin, Lengthens};
 ghost use Rattle.pg_journal.specs.Looking.{Loads};
 ghost use Rattle.pg_journal.specs.Pages.{page};
-ghost use Rattle.pg_journal.specs.Recovered.{Alike, HasNoOpenGate, IsOnlyRead};
+ghost use Rattle.pg_journal.specs.Recovered.{Alike, IsOnlyRead};
 ghost use Rattle.pg_journal.specs.Standing.{DiskStands};
-ghost use Rattle.pg_heap.specs.Holding.{Recovers};
-ghost use Rattle.pg_heap.specs.Kinds.{Each, IsKind};
-ghost use Rattle.pg_heap.specs.Loading.{ArePages, ArePagesOf, AreNoPages, HaveNoKinds, PartsAgree, IsLoaded};
-ghost use Rattle.pg_heap.specs.Readings.{free_to};
-ghost use Rattle.pg_heap.specs.Sheets.{kinds_of};
+ghost use Rattle.pg_map.specs.Holding.{Recovers};
+ghost use Rattle.pg_map.specs.Kinds.{Each, IsKind};
+ghost use Rattle.pg_heap.specs.Loading.{ArePages, ArePagesOf, AreNoPages, HaveNoKinds, LoadsParts, PartsAgree, RefusedIsSame};
+ghost use Rattle.pg_map.specs.Readings.{free_to};
+ghost use Rattle.pg_map.specs.Sheets.{sheet_kinds};
 
 use crate::hints::{Hints, roomy_places};
-use crate::places::Places;
-use crate::readings::{free_places, read_map};
-use crate::sheet_reading::sheet_of;
-use crate::sheets::Sheet;
 use ct_keep::EntryMap;
 use ct_site::{Disk, Failed};
 use pg_journal::{Journal, LoadFault};
+use pg_map::{Places, Sheet, free_places, read_map, sheet_of};
 use std::alloc::Global;
 
 /// The page of a number.
@@ -39,9 +36,9 @@ fn read_page<D: Disk>(disk: &mut D, number: u64) -> Result<[u8; 4096], Failed>
 /// So many pages from page 3 on. NotAStore exactly where the bytes of one are those of no page.
 fn read_sheets<D: Disk>(alloc: Global, disk: &mut D, count: u32) -> Result<Vec<Sheet>, LoadFault>
     requires within { IsWithin (4096 * (3 + count)) (D.disk disk.old) }
-    ensures are { IfOk result (λ sheets. Each IsKind (kinds_of sheets.items)) }
+    ensures are { IfOk result (λ sheets. Each IsKind (sheet_kinds sheets.items)) }
     ensures count { IfOk result (λ sheets. length sheets.items ≡ count) }
-    ensures is { (image : List ℕ) → (D.disk disk.old).image ≡ Some image → IfOk result (λ sheets. ArePages image count (kinds_of sheets.items)) }
+    ensures is { (image : List ℕ) → (D.disk disk.old).image ≡ Some image → IfOk result (λ sheets. ArePages image count (sheet_kinds sheets.items)) }
     ensures no_store { (image : List ℕ) → (D.disk disk.old).image ≡ Some image → result ≡ Err LoadFault.NotAStore → AreNoPages image count }
     ensures same { IsSame (D.disk disk.old) (D.disk disk.new) }
     ensures loads { Loads (D.disk disk.old) (D.disk disk.new) result }
@@ -70,10 +67,10 @@ pub(crate) fn load_sheets<D: Disk>(
     disk: &mut D,
     journal: &Journal,
 ) -> Result<Vec<Sheet>, LoadFault>
-    ensures are { IfOk result (λ sheets. Each IsKind (kinds_of sheets.items)) }
+    ensures are { IfOk result (λ sheets. Each IsKind (sheet_kinds sheets.items)) }
     ensures count { IfOk result (λ sheets. 3 + length sheets.items ≡ journal.now) }
     ensures most { journal.now ≤ 2 ^ 31 }
-    ensures pages { (pages : List (List ℕ)) → DiskStands (D.disk disk.old) journal.now pages → IfOk result (λ sheets. ArePagesOf pages (kinds_of sheets.items)) }
+    ensures pages { (pages : List (List ℕ)) → DiskStands (D.disk disk.old) journal.now pages → IfOk result (λ sheets. ArePagesOf pages (sheet_kinds sheets.items)) }
     ensures no_store { (pages : List (List ℕ)) → DiskStands (D.disk disk.old) journal.now pages → result ≡ Err LoadFault.NotAStore → HaveNoKinds pages }
     ensures same { IsSame (D.disk disk.old) (D.disk disk.new) }
     ensures loads { Loads (D.disk disk.old) (D.disk disk.new) result }
@@ -102,11 +99,11 @@ pub(crate) struct Loaded {
 /// recovers to no map; this and what is loaded are told where nothing was pending.
 pub(crate) fn load_parts<D: Disk>(alloc: Global, disk: &mut D) -> Result<Loaded, LoadFault>
     ensures moments { (image : List ℕ) → IsSettled (D.disk disk.old) image → Leaves (D.disk disk.old) (D.disk disk.new) (Alike image) }
-    ensures agree { IfOk result (λ l. PartsAgree l.journal (kinds_of l.sheets.items) l.held l.places) }
-    ensures free { IfOk result (λ l. l.hints.free.items ≡ free_to (kinds_of l.sheets.items) (length l.sheets.items)) }
-    ensures loaded { (image : List ℕ) → IsSettled (D.disk disk.old) image → IfOk result (λ l. IsLoaded image (D.disk disk.new) l.journal (kinds_of l.sheets.items) l.held) }
+    ensures agree { IfOk result (λ l. PartsAgree l.journal (sheet_kinds l.sheets.items) l.held l.places) }
+    ensures free { IfOk result (λ l. l.hints.free.items ≡ free_to (sheet_kinds l.sheets.items) (length l.sheets.items)) }
+    ensures loaded { LoadsParts (D.disk disk.old) (D.disk disk.new) result }
     ensures no_store { (image : List ℕ) → IsSettled (D.disk disk.old) image → result ≡ Err LoadFault.NotAStore → Recovers image None }
-    ensures refused { (image : List ℕ) → IsSettled (D.disk disk.old) image → HasNoOpenGate image → result ≡ Err LoadFault.NotAStore → IsSame (D.disk disk.old) (D.disk disk.new) }
+    ensures refused { RefusedIsSame (D.disk disk.old) (D.disk disk.new) result }
     ensures kept { (image : List ℕ) → (D.disk disk.old).image ≡ Some image → IsOnlyRead image → IsSame (D.disk disk.old) (D.disk disk.new) }
     ensures length { Lengthens 12288 (D.disk disk.old) (D.disk disk.new) }
     ensures loads { Loads (D.disk disk.old) (D.disk disk.new) result }

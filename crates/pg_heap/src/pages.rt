@@ -3,11 +3,10 @@
 ghost use Rattle.std.specs.Prelude.{◌≡◌, []};
 ghost use Rattle.std.specs.FinMap.{empty};
 ghost use Rattle.pg_heap.specs.HeapPages.{IsSound, SameButPlaces};
-ghost use Rattle.pg_heap.specs.Sheets.{kinds_of};
+ghost use Rattle.pg_map.specs.Sheets.{sheet_kinds};
 
-use crate::places::Places;
-use crate::sheets::Sheet;
 use ct_keep::{Batch, EntryMap};
+use pg_map::{Places, Sheet};
 use std::alloc::Global;
 
 /// The pages behind the root, the map that they hold, and the page on which each key stands.
@@ -22,7 +21,7 @@ impl Pages {
     /// No pages. It takes no memory.
     pub(crate) fn none(alloc: Global) -> Pages
         ensures sound { IsSound result }
-        ensures kinds { kinds_of result.sheets.items ≡ [] }
+        ensures kinds { sheet_kinds result.sheets.items ≡ [] }
         ensures held { result.held ≡ empty }
     {
         Pages {

@@ -2,15 +2,16 @@
 
 ghost use Rattle.std.specs.Prelude.{◌≡◌, ◌≤◌, ◌<◌, ◌+◌, ◌-◌, ◌++◌, ◌∷◌, [], ℕ, List, true, IfOk, IfSome, IsNone, OnOk, OnErr, Err, ◌*◌, length, get_or, set};
 ghost use Rattle.ct_keep.specs.Content.{Content};
-ghost use Rattle.pg_heap.specs.Kinds.{Free, Long, IsKind};
-ghost use Rattle.pg_heap.specs.Holding.{kind_at};
-ghost use Rattle.pg_heap.specs.Sheets.{kind_of};
-ghost use Rattle.pg_heap.specs.Planned.{IsPlanned, IsDone, HasFree, HasChain, IsLongAt};
+ghost use Rattle.pg_map.specs.Kinds.{Free, Long, IsKind};
+ghost use Rattle.pg_map.specs.Holding.{kind_of_page};
+ghost use Rattle.pg_map.specs.Sheets.{sheet_kind};
+ghost use Rattle.pg_heap.specs.Planned.{HasFree, HasChain, IsLongAt};
+ghost use Rattle.pg_map.specs.Done.{IsPlanned, IsDone};
 ghost use Rattle.pg_heap.specs.PlanSteps.{NoNewKey, TakesPages, long_pages};
 
 use crate::drafts::Draft;
 use crate::hints::Hints;
-use crate::sheets::Sheet;
+use pg_map::Sheet;
 use std::alloc::Global;
 
 /// Why a batch can't be planned.
@@ -25,7 +26,7 @@ pub(crate) enum PlanFault {
 const LAST: usize = 2147483644;
 
 fn is_free(sheet: &Sheet) -> bool
-    ensures { result ≡ true → kind_of sheet.now ≡ Free }
+    ensures { result ≡ true → sheet_kind sheet.now ≡ Free }
 {
     match sheet {
         Sheet::Free => true,
@@ -86,7 +87,7 @@ fn put_page(
 /// The next page of a long page, and how many bytes it has itself.
 fn long_at(draft: &Draft, page: u32) -> Option<(u32, usize)>
     ensures some { IfSome result (λ f. IsLongAt draft.now.now page f.0 f.1) }
-    ensures none { IsNone result → (next : ℕ) (bytes : List ℕ) → 3 ≤ page → 1 ≤ length bytes → kind_at draft.now.now page ≡ Long next bytes → ⊥ }
+    ensures none { IsNone result → (next : ℕ) (bytes : List ℕ) → 3 ≤ page → 1 ≤ length bytes → kind_of_page draft.now.now page ≡ Long next bytes → ⊥ }
 {
     if page < 3 {
         return None;

@@ -6,18 +6,18 @@ ghost use Rattle.std.specs.Option.{option_map};
 ghost use Rattle.std.specs.FinMap.{get};
 ghost use Rattle.ct_keep.specs.SeenChanges.{change_of};
 ghost use Rattle.ct_keep.specs.Content.{Content, set_to};
-ghost use Rattle.pg_heap.specs.Kinds.{Free, Slotted};
-ghost use Rattle.pg_heap.specs.Planned.{IsPlanned, IsDone, IsPut, HasRoom, HasNone, IsTaking, HasChain};
-ghost use Rattle.pg_heap.specs.PlanSteps.{NoNewKey, TakesPages, MakesChange, long_pages, value_bytes};
+ghost use Rattle.pg_map.specs.Kinds.{Free, Slotted};
+ghost use Rattle.pg_heap.specs.Planned.{IsPut, HasRoom, HasNone, IsTaking, HasChain};
+ghost use Rattle.pg_map.specs.Done.{IsPlanned, IsDone};
+ghost use Rattle.pg_heap.specs.PlanSteps.{NoNewKey, TakesPages, TouchesEntry, MakesChange, long_pages, value_bytes};
 
 use crate::drafts::Draft;
 use crate::hints::Hints;
-use crate::items::{far_in, far_string, short_string};
 use crate::plans::{PlanFault, free_long, free_page, put_long};
-use crate::sheets::Sheet;
 use crate::slots::{copy, find, without};
 use ct_base::Memory;
 use ct_keep::Change;
+use pg_map::{Sheet, far_in, far_string, short_string};
 use pg_page::{Page, Slot};
 use std::alloc::Global;
 
@@ -122,7 +122,7 @@ fn remove_at(draft: &mut Draft, hints: &mut Hints, at: usize, key: &[u8]) -> Res
     ensures gone { (m : Content) → IsDone draft.old.now m → IfOk result (λ found. IsDone draft.new.now (if found then set_to key.now None m else m)) }
     ensures none { IfOk result (λ found. found ≡ false → HasNone draft.old.now at key.now) }
     ensures pages { length draft.new.now ≡ length draft.old.now }
-    ensures touches { (m : Content) → IsDone draft.old.now m → length draft.new.touched ≤ length draft.old.touched + (1 + long_pages (value_bytes (get m key.now))) }
+    ensures touches { TouchesEntry draft.old draft.new key.now }
     ensures keys { NoNewKey draft.old.now draft.new.now }
     ensures too_many { result ≡ Err PlanFault.TooMany → ⊥ }
 {

@@ -1,12 +1,13 @@
 //! The strings of slotted pages.
 
-ghost use Rattle.std.specs.Prelude.{◌≡◌, ◌≢◌, ◌≤◌, ◌<◌, ◌+◌, ◌^◌, [], ℕ, List, Some, None, IfOk, IfSome, IsNone, IsTrue, IsFalse, length, get_or, take, drop};
+ghost use Rattle.std.specs.Prelude.{◌≡◌, ◌≢◌, ◌<◌, Some, None, IfSome, IsNone, IsTrue, IsFalse};
 ghost use Rattle.pg_page.specs.Pages.{Fits};
-ghost use Rattle.pg_heap.specs.Kinds.{Item, IsItem, item_bytes};
-ghost use Rattle.pg_heap.specs.Kinds.{key_in_item};
-ghost use Rattle.pg_heap.specs.PageStrings.{without_at, string_key, IsKeyAt};
+ghost use Rattle.pg_map.specs.Kinds.{StringItem, IsStringItem, item_bytes};
+ghost use Rattle.pg_map.specs.Kinds.{key_in_item};
+ghost use Rattle.pg_map.specs.PageStrings.{string_key, IsKeyAt};
+ghost use Rattle.pg_heap.specs.Slots.{without_at, HasNoKey};
 
-use crate::items::key_in;
+use pg_map::key_in;
 use pg_page::{Page, Slot};
 
 /// The page without the string of a number.
@@ -38,7 +39,7 @@ pub(crate) fn copy(page: &Page) -> Page
 /// Whether a string is of an entry of a key.
 fn is_of(string: &[u8], key: &[u8]) -> bool
     ensures yes { IsTrue result → string_key string.now ≡ key.now }
-    ensures no { IsFalse result → (item : Item) → IsItem item → string.now ≡ item_bytes item → key_in_item item ≢ key.now }
+    ensures no { IsFalse result → (item : StringItem) → IsStringItem item → string.now ≡ item_bytes item → key_in_item item ≢ key.now }
 {
     match key_in(string) {
         Some(found) => found == key,
@@ -50,7 +51,7 @@ fn is_of(string: &[u8], key: &[u8]) -> bool
 pub(crate) fn find(page: &Page, key: &[u8]) -> Option<usize>
     ensures fits { Fits page.now }
     ensures some { IfSome result (λ i. IsKeyAt page.now i key.now) }
-    ensures none { IsNone result → (i : ℕ) (item : Item) → i < length page.now → IsItem item → get_or page.now i [] ≡ item_bytes item → key_in_item item ≢ key.now }
+    ensures none { IsNone result → HasNoKey page.now key.now }
 {
     for i in 0..page.count() {
         let Some(string) = page.get(Slot(i as u16)) else {

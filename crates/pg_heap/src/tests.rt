@@ -141,7 +141,7 @@ fn is_emptied(alloc: Global, heap: &mut Heap, site: &mut MemSite) -> Result<bool
 }
 
 /// How many pages behind the root are long ones, and how many are others.
-fn kinds_of(site: &MemSite) -> (usize, usize) {
+fn sheet_kinds(site: &MemSite) -> (usize, usize) {
     let image = site.image();
     let others = pages_of(image, 0).saturating_add(pages_of(image, 1));
     (pages_of(image, 2), others)
@@ -166,13 +166,13 @@ fn pages_in(
     case: Case,
 ) -> Result<(usize, usize, bool), Memory> {
     let is_filled = is_filled(alloc, heap, site)? && is_full(alloc, heap, site);
-    let (long, others) = kinds_of(site);
+    let (long, others) = sheet_kinds(site);
     let is_right = match case {
         Case::Values => is_put(alloc, heap, site, 7, 1)?,
         Case::Removals => is_emptied(alloc, heap, site)? && is_empty(alloc, heap, site),
         Case::Reuse => is_emptied(alloc, heap, site)? && is_put(alloc, heap, site, 9, 9000)?,
     };
-    let (left, rest) = kinds_of(site);
+    let (left, rest) = sheet_kinds(site);
     let is_steady = left.saturating_add(rest) <= long.saturating_add(others);
     Ok((long, left, is_filled && is_right && is_steady))
 }

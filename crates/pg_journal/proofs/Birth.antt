@@ -4,7 +4,6 @@ use Rattle.std.specs.Prelude.{codes, ◌^◌}
 use Rattle.std.specs.Option.{option_map}
 use Rattle.std.proofs.lemmas.List.{length-replicate, take_at, drop_at, take_all, drop_all, get_or_at}
 use Rattle.std.proofs.lemmas.Bool.{cases_eq}
-use Rattle.std.proofs.lemmas.Nat.{from_be_bytes-to_be_bytes_4}
 use Rattle.std.specs.Int.{to_be_bytes, w32}
 use Rattle.ct_site.specs.declared.outside.Failed.{Failed}
 use Rattle.ct_site.specs.Images.{written, Torn}
@@ -15,6 +14,7 @@ use Rattle.ct_base.specs.Zeros.{zeros}
 use Rattle.pg_journal.specs.Recovered.{IsUnborn, IsRecovered, gate, mark, first_pages}
 use Rattle.pg_journal.specs.Births.{born, IsCleared}
 use Rattle.pg_journal.specs.Standing.{IsShut, DiskStands}
+use Rattle.pg_journal.specs.laws.PageRuns.{root_homes}
 use Rattle.ct_site.specs.Writing.{Writes}
 use Rattle.ct_site.specs.laws.Writing.{writes_keep}
 use Rattle.ct_site.specs.laws.Ranges.{torn_before}
@@ -28,10 +28,6 @@ length-mark = omega (arith, length-append (codes "CTXSTORE") (zeros 4087), lengt
 pub length-root : (h : ℕ) → length (root_page h) ≡ 4096
 unfolding root_page
 length-root h = omega (arith, length-append (to_be_bytes w32 h) (zeros 4088), length-replicate {A = ℕ} 4088 0)
-
-pub root_of : (h : ℕ) → h < 2 ^ 32 → homes_in (root_page h) ≡ h
-unfolding root_page
-root_of h small = from_be_bytes-to_be_bytes_4 h small
 
 pub length-born : length born ≡ 12287
 unfolding born
@@ -95,7 +91,7 @@ mark_of_born b = take_at mark (zeros 4096 ++ root_page 3) 4095 length-mark
 pub born_shut : (b : ℕ) → b ≢ 0 → IsShut 3 first_pages (b ∷ born)
 born_shut b some =
     let root = root_of_born b in
-    let homes : homes_in (page (b ∷ born) 2) ≡ 3 = ap (λ (l : List ℕ). homes_in l) root ∙ root_of 3 (omega arith) in
+    let homes : homes_in (page (b ∷ born) 2) ≡ 3 = ap (λ (l : List ℕ). homes_in l) root ∙ root_homes 3 (omega arith) in
     record {
       store = record { born = (omega (arith, length-born), inl some); mark = mark_of_born b; whole = omega (arith, length-born) };
       closed = record {

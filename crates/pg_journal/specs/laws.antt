@@ -1,2 +1,3 @@
 -- Laws of what the definitions beside this folder speak of.
 pub mod Recovered
+pub mod PageRuns

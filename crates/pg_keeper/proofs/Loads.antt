@@ -11,10 +11,10 @@ use Rattle.pg_journal.specs.Recovered.{Alike, HasNoOpenGate, IsOnlyRead, IsStore
 use Rattle.pg_journal.specs.laws.Recovered.{born_or_not}
 use Rattle.pg_heap.specs.Heaps.{HeapState, HeapStands, IsMap}
 use Rattle.pg_keeper.specs.Loading.{IsOldOrAlike, StaysAs}
-use Rattle.pg_heap.specs.Holding.{Holds}
-use Rattle.pg_heap.specs.MapReading.{nothing}
-use Rattle.pg_heap.specs.laws.MapReading.{first_hold}
-use Rattle.pg_heap.specs.laws.OneMap.{one_map}
+use Rattle.pg_map.specs.Holding.{Holds}
+use Rattle.pg_map.specs.MapReading.{nothing}
+use Rattle.pg_map.specs.laws.MapReading.{first_hold}
+use Rattle.pg_map.specs.laws.OneMap.{one_map}
 
 -- ---- a sync before all
 

@@ -6,8 +6,8 @@ use Rattle.ct_keep.specs.Content.{Content}
 use Rattle.ct_keep.specs.Changes.{HoldsWell}
 use Rattle.ct_keep.specs.KeeperViews.{KeeperView, Counts}
 use Rattle.pg_heap.specs.Heaps.{HeapState, HeapStands}
-use Rattle.pg_heap.specs.Holding.{Holds, Recovers}
-use Rattle.pg_heap.specs.MapReading.{behind_root}
+use Rattle.pg_map.specs.Holding.{Holds, Recovers}
+use Rattle.pg_map.specs.MapReading.{behind_root}
 use Rattle.pg_heap.specs.Recovering.{recovered}
 
 -- It may be called: where the disk tells its image, it stands for the heap's pages; these hold the map; and each entry is one that

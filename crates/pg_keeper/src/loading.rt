@@ -4,9 +4,9 @@ ghost use Rattle.std.specs.Prelude.{◌≡◌, ℕ, List, Some, Err, IfOk};
 ghost use Rattle.ct_site.specs.Disks.{IsSettled, Leaves};
 ghost use Rattle.ct_site.specs.Lengths.{Lengthens};
 ghost use Rattle.pg_journal.specs.Looking.{Loads};
-ghost use Rattle.pg_journal.specs.Recovered.{HasNoOpenGate, IsOnlyRead};
+ghost use Rattle.pg_journal.specs.Recovered.{IsOnlyRead};
 ghost use Rattle.pg_heap.specs.Heaps.{HeapStands, IsMap};
-ghost use Rattle.pg_keeper.specs.Loading.{HasNoStore, IsOldOrAlike, StaysAs};
+ghost use Rattle.pg_keeper.specs.Loading.{HasNoStore, IsOldOrAlike, RefusedStays, StaysAs};
 ghost use Rattle.pg_keeper.specs.Paged.{IsUsable};
 
 use ct_keep::Shape;
@@ -29,7 +29,7 @@ pub fn load_heap<D: Disk, H: Shape>(
     ensures usable { IfOk result (λ heap. IsUsable (D.disk disk.new) heap (H.is_well shape.now)) }
     ensures no_store { (image : List ℕ) → (D.disk disk.old).image ≡ Some image → result ≡ Err LoadFault.NotAStore → HasNoStore (H.is_well shape.now) image }
     ensures kept { (image : List ℕ) → IsSettled (D.disk disk.old) image → IsOnlyRead image → StaysAs image (D.disk disk.old) (D.disk disk.new) }
-    ensures refused { (image : List ℕ) → IsSettled (D.disk disk.old) image → HasNoOpenGate image → result ≡ Err LoadFault.NotAStore → StaysAs image (D.disk disk.old) (D.disk disk.new) }
+    ensures refused { RefusedStays (D.disk disk.old) (D.disk disk.new) result }
     ensures length { Lengthens 12288 (D.disk disk.old) (D.disk disk.new) }
     ensures loads { Loads (D.disk disk.old) (D.disk disk.new) result }
 {

@@ -4,24 +4,24 @@ use Rattle.std.proofs.Common.{Some, ◌≡◌, ℕ, ◌+◌, ◌≤◌, Bool, tr
 use Rattle.q_tree.specs.declared.queries.Relation.{Relation}
 use Rattle.q_tree.specs.declared.queries.Word.{Word as TreeWord}
 use Rattle.q_tree.specs.declared.flats.SumStep.{SumStep}
-use Rattle.q_parse.specs.declared.lexemes.Written.{Written}
-use Rattle.q_parse.specs.declared.lexemes.Lexeme.{Lexeme}
-use Rattle.q_parse.specs.declared.lexemes.Lexeme.TheVariants.{Word, Operator, Open, Close, Comma}
-use Rattle.q_parse.specs.Words.{Rules, may_add, may_count, tenths_of, whole_of, atom_of, name_of}
+use Rattle.q_lex.specs.declared.lexemes.Written.{Written}
+use Rattle.q_lex.specs.declared.lexemes.Lexeme.{Lexeme}
+use Rattle.q_lex.specs.declared.lexemes.Lexeme.TheVariants.{Word, Operator, Open, Close, Comma}
+use Rattle.q_lex.specs.Words.{GrammarRules, may_add, may_count, tenths_of, whole_of, atom_of, name_of}
 use Rattle.q_tree.specs.declared.queries.Leaf.{Leaf}
 use Rattle.q_tree.specs.declared.queries.Leaf.TheVariants.{Phrase, Thes as Terms_of}
-use Rattle.q_parse.specs.declared.places.Kind.{Kind}
-use Rattle.q_parse.specs.declared.places.Kind.TheVariants.{InGroup, InNear, InDefine}
-use Rattle.q_parse.specs.declared.places.SumFrame.{SumFrame}
-use Rattle.q_parse.specs.declared.places.SumFrame.TheVariants.{SumLeft, SumOpen}
+use Rattle.q_parse.specs.declared.stages.Kind.{Kind}
+use Rattle.q_parse.specs.declared.stages.Kind.TheVariants.{InGroup, InNear, InDefine}
+use Rattle.q_parse.specs.declared.stages.SumFrame.{SumFrame}
+use Rattle.q_parse.specs.declared.stages.SumFrame.TheVariants.{SumLeft, SumOpen}
 use Rattle.q_tree.specs.Trees.{Tree, Single, Weight, Above, Nearness, InSection, ScoredBy}
-use Rattle.q_parse.specs.Grammar.{OneWord, put_last, default_name, PhraseLeaf, SumText, SumGroup, SumBoth, sum_spelling, is_sum_sign, sum_step, step_tightness, postfix, operators, SumFits, NoSpan, Text, LeafPart, GroupText, BothText, ChainText, ListText, spelling, phrases, operands, meaning, tightness, IsList, Fits, IsQuery}
-use Rattle.q_parse.specs.Machine.{Frame, Left, Group, Chain, TermsOf, Place, Operand, InPhrase, AfterEquiv, ThesOpen, ThesFirst, ThesWords, ThesArgument, ThesLevel, ThesName, ThesClose, After, AfterChain, AfterTerms, Factor, Threshold, SectionName, NearWord, NearOpen, NearEnd, NearSpan, NearOrder, NearFlag, NearClose, DefineWord, SumOperand, SumAfter, is_main, with_leaf, step}
+use Rattle.q_parse.specs.Grammar.{OneWord, put_last, default_thesaurus, PhraseLeaf, SumText, SumGroup, SumBoth, sum_spelling, is_sum_sign, sign_step, step_tightness, postfix_form, operator_count, SumFits, NoSpan, Text, LeafPart, GroupText, BothText, ChainText, ListText, spelling, phrases, operands, meaning, tightness, IsList, QueryFits, IsQuery}
+use Rattle.q_parse.specs.Machine.{Frame, Left, Group, Chain, TermsOf, Stage, Operand, InPhrase, AfterEquiv, ThesOpen, ThesFirst, ThesWords, ThesArgument, ThesLevel, ThesName, ThesClose, After, AfterChain, AfterTerms, Factor, Threshold, SectionName, NearWord, NearOpen, NearEnd, NearSpan, NearOrder, NearFlag, NearClose, DefineWord, SumOperand, SumAfter, is_main, with_leaf, step}
 use Rattle.std.proofs.Common.{length-append}
 use Rattle.q_parse.specs.Grammar.{BeginsQuery}
 use Rattle.q_parse.proofs.Complete.{Looser, SumLooser}
 use Rattle.q_parse.proofs.Readings.{AfterRead, ChainRead, DefineFront, Holds, NearRead, Outer, PhraseRead, ReadsAt, ReadsFrames, SumFrames, SumHolds, TermsRead, ThesRead}
-use Rattle.q_parse.proofs.Sound.{Fits-less, ListRead, ReadsState, SumFits-less, all_looser, all_sum_looser, chain-holds, close_terms-sound, comma-sound, grouped, list-read, near-shape, near-tree, near_end-sound, phrase-leaf, regroup, sound, step_tight, sum_close-sound, tight}
+use Rattle.q_parse.proofs.Sound.{QueryFits-less, ListRead, ReadsState, SumFits-less, all_looser, all_sum_looser, chain-holds, close_terms-sound, comma-sound, grouped, list-read, near-shape, near-tree, near_end-sound, phrase-leaf, regroup, sound, step_tight, sum_close-sound, tight}
 
 -- words that complete texts
 abbrev word_a : Written
@@ -33,21 +33,21 @@ word_1 = record { word = record { place = 1; bits = [] }; plain = Some (codes "1
 abbrev word_true : Written
 word_true = record { word = record { place = 1; bits = [] }; plain = Some (codes "true") }
 
-module _ (r : Rules) where
+module _ (r : GrammarRules) where
   -- what was read is completed
   pub begins-more : (ls ms : List Lexeme) → BeginsQuery r (ls ++ ms) → BeginsQuery r ls
   begins-more ls ms b = record { rest = ms ++ b.rest; tree = b.tree; whole = subst (λ x. IsQuery r x b.tree) (append_assoc ls ms b.rest) b.whole }
 
-  close_main : (fs : List Frame) (k : ℕ) (t : Text) (before ls : List Lexeme) → 1 ≤ k → ReadsFrames r fs before → is_main fs ≡ true → Looser k fs → Fits r k t → before ++ spelling t ≡ ls → BeginsQuery r ls
+  close_main : (fs : List Frame) (k : ℕ) (t : Text) (before ls : List Lexeme) → 1 ≤ k → ReadsFrames r fs before → is_main fs ≡ true → Looser k fs → QueryFits r k t → before ++ spelling t ≡ ls → BeginsQuery r ls
   close_main [] k t before ls le frames main looser fits spelt = record {
     rest = [];
     tree = meaning t;
-    whole = record { text = t; fits = Fits-less r 1 k t le fits; spelt = ap (λ x. x ++ spelling t) (sym frames) ∙ spelt ∙ sym (append-nil ls); means = refl };
+    whole = record { text = t; fits = QueryFits-less r 1 k t le fits; spelt = ap (λ x. x ++ spelling t) (sym frames) ∙ spelt ∙ sym (append-nil ls); means = refl };
   }
   close_main (Group ∷ fs) k t before ls le f main looser fits spelt =
-      begins-more ls (Close ∷ []) (close_main fs 6 (GroupText t) f.0 (ls ++ Close ∷ []) (omega arith) f.1 f.2 (all_looser r fs) (Fits-less r 1 k t le fits) (grouped r f.0 before (spelling t) ls f.3 spelt))
+      begins-more ls (Close ∷ []) (close_main fs 6 (GroupText t) f.0 (ls ++ Close ∷ []) (omega arith) f.1 f.2 (all_looser r fs) (QueryFits-less r 1 k t le fits) (grouped r f.0 before (spelling t) ls f.3 spelt))
   close_main (Left op s ∷ fs) k t before ls le f main looser fits spelt =
-      close_main fs (tightness op) (BothText op f.1 t) f.0 ls (tight r op).0 f.2 f.3 f.4 (omega arith, f.5, Fits-less r (tightness op + 1) k t (omega (arith, looser)) fits)
+      close_main fs (tightness op) (BothText op f.1 t) f.0 ls (tight r op).0 f.2 f.3 f.4 (omega arith, f.5, QueryFits-less r (tightness op + 1) k t (omega (arith, looser)) fits)
       (regroup r f.0 (spelling f.1) (Operator op) (spelling t) ∙ ap (λ l. l ++ spelling t) f.7 ∙ spelt)
   close_main (Chain ops ∷ fs) k t before ls le f main looser fits spelt = cc
   close_main (TermsOf kind ps ∷ fs) k t before ls le f main looser fits spelt = cc
@@ -93,12 +93,12 @@ module _ (r : Rules) where
   begins-list (o ∷ ops) ps fs ls t = begins-more ls (Close ∷ []) (begins-end (o ∷ (ops ++ ps ∷ [])) fs (ls ++ Close ∷ []) (near_end-sound r (o ∷ ops) ps fs ls t))
 
   -- sums
-  close_sum : (ps : List Leaf) (fs : List Frame) (stack : List SumFrame) (k : ℕ) (s : SumText) (out : List SumStep) (n0 n : ℕ) (before ls : List Lexeme) → 1 ≤ k → may_count r n ≡ true → n0 + operators s ≡ n
+  close_sum : (ps : List Leaf) (fs : List Frame) (stack : List SumFrame) (k : ℕ) (s : SumText) (out : List SumStep) (n0 n : ℕ) (before ls : List Lexeme) → 1 ≤ k → may_count r n ≡ true → n0 + operator_count s ≡ n
       → SumFrames r (DefineFront r ps fs) stack out n0 before → SumLooser k stack → SumFits r k s → before ++ sum_spelling s ≡ ls → BeginsQuery r ls
   close_sum ps fs [] k s out n0 n before ls le may count frames looser fits spelt =
-      let h : SumHolds r (DefineFront r ps fs) 1 [] (out ++ postfix s) n ls = record { before = before; out0 = out; n0 = n0; text = s; frames = frames; looser = tt; fits = SumFits-less r 1 k s le fits; its = refl; count = count; spelt = spelt } in
-      let a = sum_close-sound r ps n ([], out ++ postfix s) fs ls may h in
-      begins-more ls (Close ∷ []) (begins-after 6 (ScoredBy ps (out ++ postfix s)) fs (ls ++ Close ∷ []) (omega arith) a.1)
+      let h : SumHolds r (DefineFront r ps fs) 1 [] (out ++ postfix_form s) n ls = record { before = before; out0 = out; n0 = n0; text = s; frames = frames; looser = tt; fits = SumFits-less r 1 k s le fits; its = refl; count = count; spelt = spelt } in
+      let a = sum_close-sound r ps n ([], out ++ postfix_form s) fs ls may h in
+      begins-more ls (Close ∷ []) (begins-after 6 (ScoredBy ps (out ++ postfix_form s)) fs (ls ++ Close ∷ []) (omega arith) a.1)
   close_sum ps fs (SumOpen ∷ stack) k s out n0 n before ls le may count f looser fits spelt =
       begins-more ls (Close ∷ [])
       (close_sum ps fs stack 3 (SumGroup s) out n0 n f.0 (ls ++ Close ∷ []) (omega arith) may count f.1 (all_sum_looser r stack) (SumFits-less r 1 k s le fits) (grouped r f.0 before (sum_spelling s) ls f.2 spelt))
@@ -107,7 +107,7 @@ module _ (r : Rules) where
       (both-fits step f.4 f.3 s (sym f.9) f.8 f.7 (SumFits-less r (step_tightness step + 1) k s (omega (arith, looser)) fits))
       (regroup r f.0 (sum_spelling f.3) f.4 (sum_spelling s) ∙ ap (λ l. l ++ sum_spelling s) f.12 ∙ spelt)
     where
-      both-fits : (step : SumStep) (l : Lexeme) (s t : SumText) → step ≡ sum_step l → is_sum_sign r l ≡ true → SumFits r (step_tightness step) s → SumFits r (step_tightness step + 1) t → SumFits r (step_tightness step) (SumBoth l s t)
+      both-fits : (step : SumStep) (l : Lexeme) (s t : SumText) → step ≡ sign_step l → is_sum_sign r l ≡ true → SumFits r (step_tightness step) s → SumFits r (step_tightness step + 1) t → SumFits r (step_tightness step) (SumBoth l s t)
       both-fits step l s t e is a b = subst (λ x. SumFits r (step_tightness x) (SumBoth l s t)) (sym e) (is, omega arith, subst (λ x. SumFits r (step_tightness x) s) e a, subst (λ x. SumFits r (step_tightness x + 1) t) e b)
 
   begins-sum : (ps : List Leaf) (out : List SumStep) (stack : List SumFrame) (n : ℕ) (fs : List Frame) (ls : List Lexeme) → ReadsAt r (SumAfter ps out stack n) fs ls → BeginsQuery r ls
@@ -144,7 +144,7 @@ module _ (r : Rules) where
   begins-operand fs ls a = begins-more ls (Word word_a ∷ []) (begins-phrase ((word_a.word ∷ []) ∷ []) fs (ls ++ Word word_a ∷ []) (sound r Operand fs (Word word_a) ls a))
 
   begins-words : (relation : Relation) (ws : List TreeWord) (fs : List Frame) (ls : List Lexeme) → ThesRead r relation ws [] fs ls → BeginsQuery r ls
-  begins-words relation ws fs ls a = begins-more ls (Close ∷ []) (begins-leaf (Terms_of relation ws 1 default_name) fs (ls ++ Close ∷ []) (sound r (ThesWords relation ws) fs Close ls a))
+  begins-words relation ws fs ls a = begins-more ls (Close ∷ []) (begins-leaf (Terms_of relation ws 1 default_thesaurus) fs (ls ++ Close ∷ []) (sound r (ThesWords relation ws) fs Close ls a))
 
   begins-first_word : (relation : Relation) (fs : List Frame) (ls : List Lexeme) → ReadsAt r (ThesFirst relation) fs ls → BeginsQuery r ls
   begins-first_word relation fs ls a = begins-more ls (Word word_a ∷ []) (begins-words relation (word_a.word ∷ []) fs (ls ++ Word word_a ∷ []) (sound r (ThesFirst relation) fs (Word word_a) ls a))
@@ -162,7 +162,7 @@ module _ (r : Rules) where
   begins-near_open fs ls a = begins-more ls (Open ∷ []) (begins-operand (TermsOf (InNear []) [] ∷ fs) (ls ++ Open ∷ []) (sound r NearOpen fs Open ls a))
 
   -- What the reader has read begins a query.
-  pub begins : (place : Place) (fs : List Frame) (ls : List Lexeme) → ReadsAt r place fs ls → BeginsQuery r ls
+  pub begins : (stage : Stage) (fs : List Frame) (ls : List Lexeme) → ReadsAt r stage fs ls → BeginsQuery r ls
   begins Operand fs ls a = begins-operand fs ls a
   begins (InPhrase ss) fs ls a = begins-phrase ss fs ls a
   begins (AfterEquiv ss) fs ls a = begins-more ls (Word word_a ∷ []) (begins-phrase (put_last ss word_a.word) fs (ls ++ Word word_a ∷ []) (sound r (AfterEquiv ss) fs (Word word_a) ls a))
@@ -170,7 +170,7 @@ module _ (r : Rules) where
   begins (ThesFirst relation) fs ls a = begins-first_word relation fs ls a
   begins (ThesWords relation ws) fs ls a = begins-words relation ws fs ls a
   begins (ThesArgument relation ws) fs ls a = begins-more ls (Word word_a ∷ []) (begins-close relation ws 1 (name_of word_a) fs (ls ++ Word word_a ∷ []) (sound r (ThesArgument relation ws) fs (Word word_a) ls a))
-  begins (ThesLevel relation ws n) fs ls a = begins-more ls (Close ∷ []) (begins-leaf (Terms_of relation ws n default_name) fs (ls ++ Close ∷ []) (sound r (ThesLevel relation ws n) fs Close ls a))
+  begins (ThesLevel relation ws n) fs ls a = begins-more ls (Close ∷ []) (begins-leaf (Terms_of relation ws n default_thesaurus) fs (ls ++ Close ∷ []) (sound r (ThesLevel relation ws n) fs Close ls a))
   begins (ThesName relation ws n) fs ls a = begins-more ls (Word word_a ∷ []) (begins-close relation ws n (name_of word_a) fs (ls ++ Word word_a ∷ []) (sound r (ThesName relation ws n) fs (Word word_a) ls a))
   begins (ThesClose relation ws n name) fs ls a = begins-close relation ws n name fs ls a
   begins (After k t) fs ls a = begins-after k t fs ls (omega (arith, a.0)) a.1

@@ -2,8 +2,8 @@
 use Rattle.std.proofs.Common.{◌≡◌, List, [], ◌∷◌, ◌++◌, length, refl, sym, ap, ◌∙◌, arith}
 use Rattle.q_tree.specs.declared.queries.Word.{Word as TreeWord}
 use Rattle.q_parse.specs.Grammar.{put_last}
-use Rattle.q_parse.specs.declared.places.Frame.{Frame as CodeFrame}
-use Rattle.q_parse.specs.declared.places.SumFrame.{SumFrame}
+use Rattle.q_parse.specs.declared.stages.Frame.{Frame as CodeFrame}
+use Rattle.q_parse.specs.declared.stages.SumFrame.{SumFrame}
 use Rattle.q_parse.specs.Views.{frame_of, frames_of, stack_of, trees_of}
 use Rattle.q_tree.specs.declared.queries.Query.{Query}
 use Rattle.q_tree.specs.Trees.{tree_of}

@@ -5,12 +5,7 @@ pub mod Begins
 pub mod First
 pub mod Frames
 pub mod Phrases
-pub mod Scans
-pub mod Unclosed
 pub mod Steps
 pub mod Verdicts
 pub mod Unique
-pub mod Braces
-pub mod WordSteps
-pub mod Numbers
 pub mod Limits

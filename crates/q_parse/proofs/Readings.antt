@@ -1,25 +1,25 @@
--- What the reader has read where it stands at a place within frames: which texts, and how they spell the lexemes.
+-- What the reader has read where it is at a stage within frames: which texts, and how they spell the lexemes.
 use Rattle.std.proofs.Common.{◌≡◌, ℕ, ◌+◌, ◌≤◌, Bool, true, false, ◌⊎◌, List, [], ◌∷◌, ◌++◌, length, Option, Some, None}
 use Rattle.std.specs.Prelude.{codes}
 use Rattle.q_tree.specs.declared.queries.Relation.{Relation}
 use Rattle.q_tree.specs.declared.queries.Word.{Word as TreeWord}
 use Rattle.q_tree.specs.declared.flats.SumStep.{SumStep}
-use Rattle.q_parse.specs.declared.lexemes.Written.{Written}
-use Rattle.q_parse.specs.declared.lexemes.Infix.TheVariants.{Or}
-use Rattle.q_parse.specs.declared.lexemes.Lexeme.{Lexeme}
-use Rattle.q_parse.specs.declared.lexemes.Lexeme.TheVariants.{Word, Operator, Equiv, Near, Within, Star, Greater, Open, Close, Comma, Define, Thes}
-use Rattle.q_parse.specs.Words.{Rules, takes_whole, takes_level, may_add, may_count, whole_of, is_flag, says}
+use Rattle.q_lex.specs.declared.lexemes.Written.{Written}
+use Rattle.q_lex.specs.declared.lexemes.Infix.TheVariants.{Or}
+use Rattle.q_lex.specs.declared.lexemes.Lexeme.{Lexeme}
+use Rattle.q_lex.specs.declared.lexemes.Lexeme.TheVariants.{Word, Operator, Equiv, Near, Within, Star, Greater, Open, Close, Comma, Define, Thes}
+use Rattle.q_lex.specs.Words.{GrammarRules, takes_whole, takes_level, may_add, may_count, whole_of, is_flag, says}
 use Rattle.q_tree.specs.declared.queries.Leaf.{Leaf}
-use Rattle.q_parse.specs.declared.places.Kind.{Kind}
-use Rattle.q_parse.specs.declared.places.Kind.TheVariants.{InGroup, InNear, InDefine}
-use Rattle.q_parse.specs.declared.places.SumFrame.{SumFrame}
-use Rattle.q_parse.specs.declared.places.SumFrame.TheVariants.{SumLeft, SumOpen}
+use Rattle.q_parse.specs.declared.stages.Kind.{Kind}
+use Rattle.q_parse.specs.declared.stages.Kind.TheVariants.{InGroup, InNear, InDefine}
+use Rattle.q_parse.specs.declared.stages.SumFrame.{SumFrame}
+use Rattle.q_parse.specs.declared.stages.SumFrame.TheVariants.{SumLeft, SumOpen}
 use Rattle.q_tree.specs.Trees.{Tree}
-use Rattle.q_parse.specs.Grammar.{PhraseText, phrase_spelling, slots, WordsText, words_spelling, words_of, AreWords, ThesTail, thes_tail_spelling, has_level, IsThesTail, tail_level, tail_name, SumText, sum_spelling, is_sum_sign, sum_step, step_tightness, postfix, operators, SumFits, Text, spelling, phrases, operands, meaning, tightness, Terms, IsChain, IsList, Fits}
-use Rattle.q_parse.specs.Machine.{Frame, Left, Group, Chain, TermsOf, Place, Operand, InPhrase, AfterEquiv, ThesOpen, ThesFirst, ThesWords, ThesArgument, ThesLevel, ThesName, ThesClose, After, AfterChain, AfterTerms, Factor, Threshold, SectionName, NearWord, NearOpen, NearEnd, NearSpan, NearOrder, NearFlag, NearClose, DefineWord, SumOperand, SumAfter, State, is_main, step}
+use Rattle.q_parse.specs.Grammar.{PhraseText, phrase_spelling, slots_of_phrase, WordsText, words_spelling, words_of, AreWords, ThesTail, thes_tail_spelling, has_level, IsThesTail, tail_level, tail_name, SumText, sum_spelling, is_sum_sign, sign_step, step_tightness, postfix_form, operator_count, SumFits, Text, spelling, phrases, operands, meaning, tightness, Terms, IsNearChain, IsList, QueryFits}
+use Rattle.q_parse.specs.Machine.{Frame, Left, Group, Chain, TermsOf, Stage, Operand, InPhrase, AfterEquiv, ThesOpen, ThesFirst, ThesWords, ThesArgument, ThesLevel, ThesName, ThesClose, After, AfterChain, AfterTerms, Factor, Threshold, SectionName, NearWord, NearOpen, NearEnd, NearSpan, NearOrder, NearFlag, NearClose, DefineWord, SumOperand, SumAfter, State, is_main, step}
 use Rattle.q_parse.proofs.Complete.{Looser, SumLooser}
 
-module _ (r : Rules) where
+module _ (r : GrammarRules) where
   -- Terms with these phrases after what S tells of, and the same with an OR after them, or nothing.
   pub record TermsRead (S : List Lexeme → Type 0) (ps : List Leaf) (ls : List Lexeme) : Type 0 where
     pub before : List Lexeme
@@ -45,8 +45,8 @@ module _ (r : Rules) where
   abbrev pub ReadsFrames : List Frame → List Lexeme → Type 0
   ReadsFrames [] ls = ls ≡ []
   ReadsFrames (Group ∷ fs) ls = (before : List Lexeme) × ReadsFrames fs before × (is_main fs ≡ true) × (before ++ Open ∷ [] ≡ ls)
-  ReadsFrames (Left op t ∷ fs) ls = (before : List Lexeme) × (s : Text) × ReadsFrames fs before × (is_main fs ≡ true) × Looser (tightness op) fs × Fits r (tightness op) s × (meaning s ≡ t) × (before ++ (spelling s ++ Operator op ∷ []) ≡ ls)
-  ReadsFrames (Chain ops ∷ fs) ls = (before : List Lexeme) × (s : Text) × ReadsFrames fs before × (is_main fs ≡ true) × IsChain r s × (may_add r (length (operands s)) ≡ true) × (operands s ≡ ops) × (before ++ (spelling s ++ Near ∷ []) ≡ ls)
+  ReadsFrames (Left op t ∷ fs) ls = (before : List Lexeme) × (s : Text) × ReadsFrames fs before × (is_main fs ≡ true) × Looser (tightness op) fs × QueryFits r (tightness op) s × (meaning s ≡ t) × (before ++ (spelling s ++ Operator op ∷ []) ≡ ls)
+  ReadsFrames (Chain ops ∷ fs) ls = (before : List Lexeme) × (s : Text) × ReadsFrames fs before × (is_main fs ≡ true) × IsNearChain r s × (may_add r (length (operands s)) ≡ true) × (operands s ≡ ops) × (before ++ (spelling s ++ Near ∷ []) ≡ ls)
   ReadsFrames (TermsOf kind ps ∷ fs) ls = TermsFront (Outer (ReadsFrames fs) (is_main fs) kind) ps ls
 
   pub record Holds (k : ℕ) (fs : List Frame) (t : Tree) (ls : List Lexeme) : Type 0 where
@@ -55,7 +55,7 @@ module _ (r : Rules) where
     pub frames : ReadsFrames fs before
     pub main : is_main fs ≡ true
     pub looser : Looser k fs
-    pub fits : Fits r k text
+    pub fits : QueryFits r k text
     pub means : meaning text ≡ t
     pub spelt : before ++ spelling text ≡ ls
 
@@ -66,7 +66,7 @@ module _ (r : Rules) where
     pub last : Text
     pub frames : ReadsFrames fs before
     pub main : is_main fs ≡ true
-    pub chain : IsChain r text
+    pub chain : IsNearChain r text
     pub term : Terms r false last
     pub may : may_add r (length (operands text)) ≡ true
     pub its : operands text ++ phrases last ∷ [] ≡ ops
@@ -83,7 +83,7 @@ module _ (r : Rules) where
   MainFronts front fs ls = (before : List Lexeme) × ReadsFrames fs before × (is_main fs ≡ true) × (before ++ front ≡ ls)
 
   abbrev pub PhraseRead : List (List TreeWord) → List Lexeme → List Frame → List Lexeme → Type 0
-  PhraseRead ss tail fs ls = (before : List Lexeme) × (p : PhraseText) × ReadsFrames fs before × (slots p ≡ ss) × (before ++ (phrase_spelling p ++ tail) ≡ ls)
+  PhraseRead ss tail fs ls = (before : List Lexeme) × (p : PhraseText) × ReadsFrames fs before × (slots_of_phrase p ≡ ss) × (before ++ (phrase_spelling p ++ tail) ≡ ls)
 
   -- the words of a thesaurus operator and this after them
   pub record ThesRead (relation : Relation) (ws : List TreeWord) (tail : List Lexeme) (fs : List Frame) (ls : List Lexeme) : Type 0 where
@@ -111,7 +111,7 @@ module _ (r : Rules) where
   abbrev pub SumFrames : (List Lexeme → Type 0) → List SumFrame → List SumStep → ℕ → List Lexeme → Type 0
   SumFrames S [] out n ls = (out ≡ []) × (n ≡ 0) × S ls
   SumFrames S (SumOpen ∷ stack) out n ls = (before : List Lexeme) × SumFrames S stack out n before × (before ++ Open ∷ [] ≡ ls)
-  SumFrames S (SumLeft step ∷ stack) out n ls = (before : List Lexeme) × (out0 : List SumStep) × (n0 : ℕ) × (s : SumText) × (l : Lexeme) × SumFrames S stack out0 n0 before × SumLooser (step_tightness step) stack × SumFits r (step_tightness step) s × (is_sum_sign r l ≡ true) × (sum_step l ≡ step) × (out0 ++ postfix s ≡ out) × (n0 + operators s + 1 ≡ n) × (before ++ (sum_spelling s ++ l ∷ []) ≡ ls)
+  SumFrames S (SumLeft step ∷ stack) out n ls = (before : List Lexeme) × (out0 : List SumStep) × (n0 : ℕ) × (s : SumText) × (l : Lexeme) × SumFrames S stack out0 n0 before × SumLooser (step_tightness step) stack × SumFits r (step_tightness step) s × (is_sum_sign r l ≡ true) × (sign_step l ≡ step) × (out0 ++ postfix_form s ≡ out) × (n0 + operator_count s + 1 ≡ n) × (before ++ (sum_spelling s ++ l ∷ []) ≡ ls)
 
   pub record SumHolds (S : List Lexeme → Type 0) (k : ℕ) (stack : List SumFrame) (out : List SumStep) (n : ℕ) (ls : List Lexeme) : Type 0 where
     pub before : List Lexeme
@@ -121,11 +121,11 @@ module _ (r : Rules) where
     pub frames : SumFrames S stack out0 n0 before
     pub looser : SumLooser k stack
     pub fits : SumFits r k text
-    pub its : out0 ++ postfix text ≡ out
-    pub count : n0 + operators text ≡ n
+    pub its : out0 ++ postfix_form text ≡ out
+    pub count : n0 + operator_count text ≡ n
     pub spelt : before ++ sum_spelling text ≡ ls
 
-  abbrev pub ReadsAt : Place → List Frame → List Lexeme → Type 0
+  abbrev pub ReadsAt : Stage → List Frame → List Lexeme → Type 0
   ReadsAt Operand fs ls = ReadsFrames fs ls
   ReadsAt (InPhrase ss) fs ls = PhraseRead ss [] fs ls
   ReadsAt (AfterEquiv ss) fs ls = PhraseRead ss (Equiv ∷ []) fs ls
@@ -155,4 +155,4 @@ module _ (r : Rules) where
 
   abbrev pub Reads : Option State → List Lexeme → Type 0
   Reads None ls = Unit {0}
-  Reads (Some s) ls = ReadsAt s.place s.frames ls
+  Reads (Some s) ls = ReadsAt s.stage s.frames ls

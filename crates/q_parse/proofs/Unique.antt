@@ -2,12 +2,12 @@
 use Rattle.std.proofs.Common.{◌≡◌, ℕ, ◌+◌, ◌<◌, ◌≤◌, zero, suc, Bool, true, false, inl, inr, List, [], ◌∷◌, ◌++◌, length, take, refl, sym, ap, ◌∙◌, subst, arith, Some, ⊎_elim}
 use Rattle.std.proofs.lemmas.Bool.{cases_order}
 use Rattle.q_tree.specs.Trees.{Tree}
-use Rattle.q_parse.specs.declared.lexemes.Lexeme.{Lexeme}
-use Rattle.q_parse.specs.declared.lexemes.Cause.{Cause}
-use Rattle.q_parse.specs.declared.lexemes.Cause.TheVariants.{OutOfRange, NotInProfile, Syntax}
-use Rattle.q_parse.specs.Words.{strict}
+use Rattle.q_lex.specs.declared.lexemes.Lexeme.{Lexeme}
+use Rattle.q_parse.specs.declared.faults.Cause.{Cause}
+use Rattle.q_parse.specs.declared.faults.Cause.TheVariants.{OutOfRange, NotInProfile, Syntax}
+use Rattle.q_lex.specs.Words.{strict}
 use Rattle.q_parse.specs.Grammar.{BeginsQuery, IsFirstBad, IsQuery}
-use Rattle.q_parse.specs.Lexing.{bytes, lexemes, bare, place_of_index}
+use Rattle.q_lex.specs.Lexing.{byte_count, query_lexemes, bare, place_of_index}
 use Rattle.q_parse.specs.Faults.{IsCause, Verdict, TooLarge, Found, Fault, IsVerdict}
 use Rattle.q_parse.proofs.Complete.{query-read}
 use Rattle.q_parse.proofs.Begins.{begins-more}
@@ -66,12 +66,12 @@ one-verdict text TooLarge TooLarge h k = refl
 one-verdict text TooLarge (Found t) h k = absurd (false-true _ k.0 h)
 one-verdict text TooLarge (Fault why place) h k = absurd (false-true _ k.0 h)
 one-verdict text (Found s) TooLarge h k = absurd (false-true _ h.0 k)
-one-verdict text (Found s) (Found t) h k = ap Found (one-tree (bare (lexemes text)) s t h.1 k.1)
+one-verdict text (Found s) (Found t) h k = ap Found (one-tree (bare (query_lexemes text)) s t h.1 k.1)
 one-verdict text (Found s) (Fault why place) h k = absurd (k.1.1.no_query s h.1)
 one-verdict text (Fault why place) TooLarge h k = absurd (false-true _ h.0 k)
 one-verdict text (Fault why place) (Found t) h k = absurd (h.1.1.no_query t k.1)
 one-verdict text (Fault why place) (Fault other there) h k =
-    let same = one-place (bare (lexemes text)) h.1.0 k.1.0 h.1.1 k.1.1 in
-    let cause = one-cause (bare (lexemes text)) k.1.0 why other (subst (λ i. IsCause (bare (lexemes text)) i why) same h.1.2) k.1.2 in
-    let at = sym h.1.3 ∙ ap (place_of_index (bytes text + 1) (lexemes text)) same ∙ k.1.3 in
+    let same = one-place (bare (query_lexemes text)) h.1.0 k.1.0 h.1.1 k.1.1 in
+    let cause = one-cause (bare (query_lexemes text)) k.1.0 why other (subst (λ i. IsCause (bare (query_lexemes text)) i why) same h.1.2) k.1.2 in
+    let at = sym h.1.3 ∙ ap (place_of_index (byte_count text + 1) (query_lexemes text)) same ∙ k.1.3 in
     ap (λ x. Fault x place) cause ∙ ap (Fault other) at

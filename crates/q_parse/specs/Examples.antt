@@ -7,7 +7,7 @@ use Rattle.q_tree.specs.declared.queries.Word.{Word as TreeWord}
 use Rattle.q_tree.specs.declared.queries.WordBit.TheVariants.{Chars, One, Many}
 use Rattle.q_tree.specs.declared.flats.SumStep.TheVariants.{Number, Occurrence, Plus, Minus as Less, Times}
 use Rattle.q_tree.specs.declared.queries.Op.TheVariants.{Or, And, Minus}
-use Rattle.q_parse.specs.declared.lexemes.Cause.TheVariants.{OutOfRange, NotInProfile, Syntax}
+use Rattle.q_parse.specs.declared.faults.Cause.TheVariants.{OutOfRange, NotInProfile, Syntax}
 use Rattle.q_tree.specs.Trees.{Single, Both, Nearness, InSection, ScoredBy}
 use Rattle.q_parse.specs.Faults.{TooLarge, Found, Fault}
 use Rattle.q_parse.specs.Verdicts.{verdict}

@@ -1,10 +1,7 @@
-pub mod Words
 pub mod Grammar
-pub mod Lexing
 pub mod Faults
 pub mod Machine
 pub mod Verdicts
 pub mod Views
-pub mod Runs
 pub mod Examples
 pub mod Results

@@ -1,25 +1,25 @@
 //! Why a lexeme is bad where the reader refused it.
 
 ghost use Rattle.std.specs.Prelude.{◌≡◌};
-ghost use Rattle.q_parse.specs.Verdicts.{wants_count, wants_score, wants_number, is_near, is_comma, kind_counts, phrase_counts, terms_count, is_mark, cause};
-ghost use Rattle.q_parse.specs.Views.{frames_of, place_of};
+ghost use Rattle.q_parse.specs.Verdicts.{wants_count, wants_score, wants_number, is_near_lexeme, is_comma, kind_counts, phrase_counts, terms_count, is_mark, cause};
+ghost use Rattle.q_parse.specs.Views.{frames_of, stage_of};
 
+use crate::faults::Cause;
 use crate::framing::top;
-use crate::lexemes::{Cause, Lexeme};
-use crate::places::{Frame, Kind, Place};
+use crate::stages::{Frame, Kind, Stage};
 use crate::sums::sum_operator;
 use crate::thesauri::has_level;
-use crate::words::{is_foreign, is_plain};
+use q_lex::{Lexeme, is_foreign, is_plain};
 
 /// Whether one operand or operator too many stands here.
-fn wants_count(place: &Place, frames: &[Frame], lexeme: &Lexeme) -> bool
-    ensures { result ≡ wants_count (place_of place.now) (frames_of frames.now) lexeme.now }
+fn wants_count(stage: &Stage, frames: &[Frame], lexeme: &Lexeme) -> bool
+    ensures { result ≡ wants_count (stage_of stage.now) (frames_of frames.now) lexeme.now }
 {
-    match place {
-        Place::InPhrase(_) => phrase_counts(frames, lexeme),
-        Place::AfterChain(_) => is_near(lexeme),
-        Place::AfterTerms => terms_count(frames, lexeme),
-        Place::SumAfter(_, _, _, _) => match sum_operator(lexeme) {
+    match stage {
+        Stage::InPhrase(_) => phrase_counts(frames, lexeme),
+        Stage::AfterChain(_) => is_near_lexeme(lexeme),
+        Stage::AfterTerms => terms_count(frames, lexeme),
+        Stage::SumAfter(_, _, _, _) => match sum_operator(lexeme) {
             None => false,
             Some(_) => true,
         },
@@ -27,8 +27,8 @@ fn wants_count(place: &Place, frames: &[Frame], lexeme: &Lexeme) -> bool
     }
 }
 
-fn is_near(lexeme: &Lexeme) -> bool
-    ensures { result ≡ is_near lexeme.now }
+fn is_near_lexeme(lexeme: &Lexeme) -> bool
+    ensures { result ≡ is_near_lexeme lexeme.now }
 {
     matches!(lexeme, Lexeme::Near)
 }
@@ -57,7 +57,7 @@ fn phrase_counts(frames: &[Frame], lexeme: &Lexeme) -> bool
         Some((frame, _)) => match frame {
             Frame::Group => false,
             Frame::Left(_, _) => false,
-            Frame::Chain(_) => is_near(lexeme),
+            Frame::Chain(_) => is_near_lexeme(lexeme),
             Frame::TermsOf(kind, _) => kind_counts(kind, lexeme),
         },
     }
@@ -77,29 +77,29 @@ fn terms_count(frames: &[Frame], lexeme: &Lexeme) -> bool
     }
 }
 
-fn wants_score(place: &Place, lexeme: &Lexeme) -> bool
-    ensures { result ≡ wants_score (place_of place.now) lexeme.now }
+fn wants_score(stage: &Stage, lexeme: &Lexeme) -> bool
+    ensures { result ≡ wants_score (stage_of stage.now) lexeme.now }
 {
     match lexeme {
-        Lexeme::Word(written) => match place {
-            Place::SumOperand(_, _, _, _) => is_foreign(written),
-            Place::SumAfter(_, _, _, _) => is_foreign(written),
+        Lexeme::Word(written) => match stage {
+            Stage::SumOperand(_, _, _, _) => is_foreign(written),
+            Stage::SumAfter(_, _, _, _) => is_foreign(written),
             _ => false,
         },
         _ => false,
     }
 }
 
-fn wants_number(place: &Place, lexeme: &Lexeme) -> bool
-    ensures { result ≡ wants_number (place_of place.now) lexeme.now }
+fn wants_number(stage: &Stage, lexeme: &Lexeme) -> bool
+    ensures { result ≡ wants_number (stage_of stage.now) lexeme.now }
 {
     match lexeme {
-        Lexeme::Word(written) => match place {
-            Place::Factor(_) => is_plain(written),
-            Place::Threshold(_) => is_plain(written),
-            Place::ThesArgument(relation, _) => has_level(*relation) && is_plain(written),
-            Place::NearSpan(_) => is_plain(written),
-            Place::SumOperand(_, _, _, _) => is_plain(written),
+        Lexeme::Word(written) => match stage {
+            Stage::Factor(_) => is_plain(written),
+            Stage::Threshold(_) => is_plain(written),
+            Stage::ThesArgument(relation, _) => has_level(*relation) && is_plain(written),
+            Stage::NearSpan(_) => is_plain(written),
+            Stage::SumOperand(_, _, _, _) => is_plain(written),
             _ => false,
         },
         _ => false,
@@ -117,19 +117,19 @@ fn is_mark(lexeme: &Lexeme) -> bool
 }
 
 /// Why the lexeme is bad, where it is.
-pub(crate) fn cause(place: &Place, frames: &[Frame], lexeme: &Lexeme) -> Cause
-    ensures { result ≡ cause (place_of place.now) (frames_of frames.now) lexeme.now }
+pub(crate) fn cause(stage: &Stage, frames: &[Frame], lexeme: &Lexeme) -> Cause
+    ensures { result ≡ cause (stage_of stage.now) (frames_of frames.now) lexeme.now }
 {
-    if wants_count(place, frames, lexeme) {
+    if wants_count(stage, frames, lexeme) {
         return Cause::OutOfRange;
     }
     if is_mark(lexeme) {
         return Cause::NotInProfile;
     }
-    if wants_score(place, lexeme) {
+    if wants_score(stage, lexeme) {
         return Cause::NotInProfile;
     }
-    if wants_number(place, lexeme) {
+    if wants_number(stage, lexeme) {
         Cause::OutOfRange
     } else {
         Cause::Syntax

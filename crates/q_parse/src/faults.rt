@@ -5,6 +5,14 @@ ghost use Rattle.q_parse.specs.declared.faults.QueryFault.TheVariants.{Memory as
 
 use ct_base::Memory;
 
+/// Why a lexeme is bad.
+#[derive(Clone, Copy, Debug, PartialEq, Eq)]
+pub enum Cause {
+    OutOfRange,
+    NotInProfile,
+    Syntax,
+}
+
 /// Why a text is no query. A place is the number of a byte in the text, from 1 on; the end of the text has the place behind its last byte.
 #[derive(Clone, Copy, Debug, PartialEq, Eq)]
 pub enum QueryFault {

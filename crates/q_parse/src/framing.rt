@@ -1,16 +1,16 @@
-//! What stands open around a place: its frames, and how operands join them.
+//! What stands open around a stage: its frames, and how operands join them.
 
 ghost use Rattle.std.specs.Prelude.{◌≡◌, ◌+◌, ◌<◌, ◌++◌, ◌∷◌, [], IfOk, OnOk, OnSome, MatchOption, vec_len, Some, None};
 ghost use Rattle.std.specs.Bool.{if◌then◌else◌};
 ghost use Rattle.q_tree.specs.Trees.{Both};
 ghost use Rattle.q_parse.specs.Grammar.{op_of, tightness, put_last};
-ghost use Rattle.q_parse.specs.Machine.{joined, with_terms, with_leaf, is_main, is_terms, phrases_of, at};
+ghost use Rattle.q_parse.specs.Machine.{query_joined, with_terms, with_leaf, is_main, is_terms, phrases_of, state_at};
 ghost use Rattle.q_tree.specs.Trees.{tree_of};
-ghost use Rattle.q_parse.specs.Views.{frame_of, frames_of, place_of, Steps};
+ghost use Rattle.q_parse.specs.Views.{frame_of, frames_of, stage_of, Steps, TakesFrame};
 
-use crate::lexemes::Infix;
-use crate::places::{Frame, Place, StepError};
+use crate::stages::{Frame, Stage, StepError};
 use ct_base::{Listed, Memory};
+use q_lex::Infix;
 use q_tree::{Leaf, Query, Word};
 use std::alloc::{AllocFailed, Global};
 
@@ -57,7 +57,7 @@ pub(crate) fn push_frame(frames: &mut Vec<Frame>, frame: Frame) -> Result<(), Al
 
 #[tactic(auto, using(crate::proofs::Frames::frames_of_last, crate::proofs::Frames::none_left))]
 pub(crate) fn pop_frame(frames: &mut Vec<Frame>) -> Option<Frame>
-    ensures frames { MatchOption result ((frames_of frames.old.items ≡ []) × (frames_of frames.new.items ≡ [])) (λ f. frames_of frames.old.items ≡ frame_of f ∷ frames_of frames.new.items) }
+    ensures frames { TakesFrame result frames.old.items frames.new.items }
     ensures len { OnSome result (vec_len frames.new < vec_len frames.old) }
 {
     match frames.pop() {
@@ -98,7 +98,7 @@ pub(crate) fn join(
     frames: &mut Vec<Frame>,
     operand: Query,
 ) -> Result<Query, Memory>
-    ensures { IfOk result (λ q. joined least (frames_of frames.old.items) (tree_of operand) ≡ (frames_of frames.new.items, tree_of q)) }
+    ensures { IfOk result (λ q. query_joined least (frames_of frames.old.items) (tree_of operand) ≡ (frames_of frames.new.items, tree_of q)) }
 {
     let mut operand = operand;
     'joins: loop {
@@ -162,39 +162,39 @@ pub(crate) fn put_last(
 }
 
 /// A leaf is ready.
-pub(crate) fn with_leaf(alloc: Global, frames: &mut Vec<Frame>, leaf: Leaf) -> Result<Place, Memory>
-    ensures { IfOk result (λ p. with_leaf leaf (frames_of frames.old.items) ≡ at (place_of p) (frames_of frames.new.items)) }
+pub(crate) fn with_leaf(alloc: Global, frames: &mut Vec<Frame>, leaf: Leaf) -> Result<Stage, Memory>
+    ensures { IfOk result (λ p. with_leaf leaf (frames_of frames.old.items) ≡ state_at (stage_of p) (frames_of frames.new.items)) }
 {
     match pop_frame(frames) {
-        None => Ok(Place::After(6, Query::Leaf(leaf))),
+        None => Ok(Stage::After(6, Query::Leaf(leaf))),
         Some(Frame::Group) => {
             push_frame(frames, Frame::Group)?;
-            Ok(Place::After(6, Query::Leaf(leaf)))
+            Ok(Stage::After(6, Query::Leaf(leaf)))
         }
         Some(Frame::Left(op, left)) => {
             push_frame(frames, Frame::Left(op, left))?;
-            Ok(Place::After(6, Query::Leaf(leaf)))
+            Ok(Stage::After(6, Query::Leaf(leaf)))
         }
-        Some(Frame::Chain(operands)) => Ok(Place::AfterChain(operands.with(one(alloc, leaf)?)?)),
+        Some(Frame::Chain(operands)) => Ok(Stage::AfterChain(operands.with(one(alloc, leaf)?)?)),
         Some(Frame::TermsOf(kind, phrases)) => {
             push_frame(frames, Frame::TermsOf(kind, phrases.with(leaf)?))?;
-            Ok(Place::AfterTerms)
+            Ok(Stage::AfterTerms)
         }
     }
 }
 
 /// Terms are ready where a term was wanted.
-pub(crate) fn with_terms(frames: &mut Vec<Frame>, phrases: Listed<Leaf>) -> Result<Place, StepError>
+pub(crate) fn with_terms(frames: &mut Vec<Frame>, phrases: Listed<Leaf>) -> Result<Stage, StepError>
     ensures { Steps result frames.new.items (with_terms phrases (frames_of frames.old.items)) }
 {
     match pop_frame(frames) {
         None => Err(StepError::Refused),
         Some(Frame::Group) => Err(StepError::Refused),
         Some(Frame::Left(_, _)) => Err(StepError::Refused),
-        Some(Frame::Chain(operands)) => Ok(Place::AfterChain(operands.with(phrases)?)),
+        Some(Frame::Chain(operands)) => Ok(Stage::AfterChain(operands.with(phrases)?)),
         Some(Frame::TermsOf(kind, before)) => {
             push_frame(frames, Frame::TermsOf(kind, joined_lists(before, phrases)?))?;
-            Ok(Place::AfterTerms)
+            Ok(Stage::AfterTerms)
         }
     }
 }

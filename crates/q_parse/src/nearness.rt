@@ -1,21 +1,22 @@
-//! What follows the operands of NEAR in the function form.
+//! NEAR in the function form: what stands in front of its operands, and what follows them.
 
 ghost use Rattle.std.specs.Prelude.{◌≡◌};
-ghost use Rattle.q_parse.specs.Words.{strict};
+ghost use Rattle.q_lex.specs.Words.{strict};
 ghost use Rattle.q_tree.specs.Trees.{Nearness};
-ghost use Rattle.q_parse.specs.Machine.{step_at, After, NearEnd, NearSpan, NearOrder, NearFlag};
-ghost use Rattle.q_parse.specs.Views.{frames_of, place_of, Steps};
+ghost use Rattle.q_parse.specs.Machine.{step_at, After, NearWord, NearOpen, NearEnd, NearSpan, NearOrder, NearFlag, NearClose};
+ghost use Rattle.q_parse.specs.Views.{frames_of, stage_of, Steps};
 
-use crate::lexemes::Lexeme;
-use crate::places::{Frame, Place, StepError};
-use crate::words::{flag, whole_in};
+use crate::framing::push_frame;
+use crate::stages::{Frame, Kind, Stage, StepError};
 use ct_base::Listed;
+use q_lex::{Lexeme, flag, whole_in};
 use q_tree::{Leaf, Query};
+use std::alloc::Global;
 
-pub(crate) fn near(operands: Listed<Listed<Leaf>>, span: u8, ordered: bool) -> Place
-    ensures { place_of result ≡ After 6 (Nearness operands span ordered) }
+fn near(operands: Listed<Listed<Leaf>>, span: u8, ordered: bool) -> Stage
+    ensures { stage_of result ≡ After 6 (Nearness operands span ordered) }
 {
-    Place::After(
+    Stage::After(
         6,
         Query::Near {
             operands,
@@ -25,16 +26,44 @@ pub(crate) fn near(operands: Listed<Listed<Leaf>>, span: u8, ordered: bool) -> P
     )
 }
 
+pub(crate) fn near_word(frames: &Vec<Frame>, lexeme: &Lexeme) -> Result<Stage, StepError>
+    ensures { Steps result frames.now.items (step_at strict NearWord (frames_of frames.now.items) lexeme.now) }
+{
+    match lexeme {
+        Lexeme::Open => Ok(Stage::NearOpen),
+        _ => Err(StepError::Refused),
+    }
+}
+
+pub(crate) fn near_open(
+    alloc: Global,
+    frames: &mut Vec<Frame>,
+    lexeme: &Lexeme,
+) -> Result<Stage, StepError>
+    ensures { Steps result frames.new.items (step_at strict NearOpen (frames_of frames.old.items) lexeme.now) }
+{
+    match lexeme {
+        Lexeme::Open => {
+            push_frame(
+                frames,
+                Frame::TermsOf(Kind::InNear(Listed::empty(alloc)), Listed::empty(alloc)),
+            )?;
+            Ok(Stage::Operand)
+        }
+        _ => Err(StepError::Refused),
+    }
+}
+
 pub(crate) fn near_end(
     frames: &Vec<Frame>,
     operands: Listed<Listed<Leaf>>,
     lexeme: &Lexeme,
-) -> Result<Place, StepError>
+) -> Result<Stage, StepError>
     ensures { Steps result frames.now.items (step_at strict (NearEnd operands) (frames_of frames.now.items) lexeme.now) }
 {
     match lexeme {
         Lexeme::Close => Ok(near(operands, 100, false)),
-        Lexeme::Comma => Ok(Place::NearSpan(operands)),
+        Lexeme::Comma => Ok(Stage::NearSpan(operands)),
         _ => Err(StepError::Refused),
     }
 }
@@ -43,12 +72,12 @@ pub(crate) fn near_span(
     frames: &Vec<Frame>,
     operands: Listed<Listed<Leaf>>,
     lexeme: &Lexeme,
-) -> Result<Place, StepError>
+) -> Result<Stage, StepError>
     ensures { Steps result frames.now.items (step_at strict (NearSpan operands) (frames_of frames.now.items) lexeme.now) }
 {
     match lexeme {
         Lexeme::Word(written) => match whole_in(written, 0, 100) {
-            Some(span) => Ok(Place::NearOrder(operands, span as u8)),
+            Some(span) => Ok(Stage::NearOrder(operands, span as u8)),
             None => Err(StepError::Refused),
         },
         _ => Err(StepError::Refused),
@@ -60,12 +89,12 @@ pub(crate) fn near_order(
     operands: Listed<Listed<Leaf>>,
     span: u8,
     lexeme: &Lexeme,
-) -> Result<Place, StepError>
+) -> Result<Stage, StepError>
     ensures { Steps result frames.now.items (step_at strict (NearOrder operands span) (frames_of frames.now.items) lexeme.now) }
 {
     match lexeme {
         Lexeme::Close => Ok(near(operands, span, false)),
-        Lexeme::Comma => Ok(Place::NearFlag(operands, span)),
+        Lexeme::Comma => Ok(Stage::NearFlag(operands, span)),
         _ => Err(StepError::Refused),
     }
 }
@@ -75,14 +104,29 @@ pub(crate) fn near_flag(
     operands: Listed<Listed<Leaf>>,
     span: u8,
     lexeme: &Lexeme,
-) -> Result<Place, StepError>
+) -> Result<Stage, StepError>
     ensures { Steps result frames.now.items (step_at strict (NearFlag operands span) (frames_of frames.now.items) lexeme.now) }
 {
     match lexeme {
         Lexeme::Word(written) => match flag(written) {
-            Some(ordered) => Ok(Place::NearClose(operands, span, ordered)),
+            Some(ordered) => Ok(Stage::NearClose(operands, span, ordered)),
             None => Err(StepError::Refused),
         },
+        _ => Err(StepError::Refused),
+    }
+}
+
+pub(crate) fn near_close(
+    frames: &Vec<Frame>,
+    operands: Listed<Listed<Leaf>>,
+    span: u8,
+    ordered: bool,
+    lexeme: &Lexeme,
+) -> Result<Stage, StepError>
+    ensures { Steps result frames.now.items (step_at strict (NearClose operands span ordered) (frames_of frames.now.items) lexeme.now) }
+{
+    match lexeme {
+        Lexeme::Close => Ok(near(operands, span, ordered)),
         _ => Err(StepError::Refused),
     }
 }

@@ -10,7 +10,7 @@ ghost use Rattle.q_parse.specs.Results.{verdict_of};
 
 use crate::faults::QueryFault;
 use crate::reading::read;
-use crate::scanning::{bytes_in, is_too_deep, lexemes_of};
+use q_lex::{bytes_in, is_too_deep, lexemes_of};
 use q_tree::Query;
 use std::alloc::Global;
 

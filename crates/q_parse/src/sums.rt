@@ -2,15 +2,14 @@
 
 ghost use Rattle.std.specs.Prelude.{◌≡◌, ◌<◌, ◌∷◌, [], IfOk, OnOk, OnSome, MatchOption, vec_len, Some, None};
 ghost use Rattle.std.specs.Bool.{if◌then◌else◌};
-ghost use Rattle.q_parse.specs.Words.{strict};
-ghost use Rattle.q_parse.specs.Grammar.{step_tightness, is_sum_sign, sum_step};
-ghost use Rattle.q_parse.specs.Machine.{step_at, sum_joined, sum_close, sum_sign, sum_after, SumOperand};
-ghost use Rattle.q_parse.specs.Views.{frames_of, stack_of, Steps};
+ghost use Rattle.q_lex.specs.Words.{strict};
+ghost use Rattle.q_parse.specs.Grammar.{step_tightness, is_sum_sign, sign_step};
+ghost use Rattle.q_parse.specs.Machine.{step_at, sum_joined, sum_close, sum_sign, sum_goes_on, sum_after, SumOperand};
+ghost use Rattle.q_parse.specs.Views.{frames_of, stack_of, Steps, TakesSumFrame};
 
-use crate::lexemes::{Infix, Lexeme};
-use crate::places::{Frame, Place, StepError, SumFrame};
-use crate::words::{atom, is_plus};
+use crate::stages::{Frame, Stage, StepError, SumFrame};
 use ct_base::{Listed, Memory};
+use q_lex::{Infix, Lexeme, atom, is_plus};
 use q_tree::{Leaf, Query, SumStep};
 use std::alloc::AllocFailed;
 
@@ -37,7 +36,7 @@ fn push_stack(stack: &mut Vec<SumFrame>, frame: SumFrame) -> Result<(), AllocFai
 
 #[tactic(auto, using(crate::proofs::Frames::stack_of_last, crate::proofs::Frames::no_stack_left))]
 fn pop_stack(stack: &mut Vec<SumFrame>) -> Option<SumFrame>
-    ensures frames { MatchOption result ((stack_of stack.old.items ≡ []) × (stack_of stack.new.items ≡ [])) (λ f. stack_of stack.old.items ≡ f ∷ stack_of stack.new.items) }
+    ensures frames { TakesSumFrame result stack.old.items stack.new.items }
     ensures len { OnSome result (vec_len stack.new < vec_len stack.old) }
 {
     match stack.pop() {
@@ -75,7 +74,7 @@ fn sum_join(
 
 /// The step that the lexeme is, where it is an operator of a sum. The minus of a sum is the sign `-`, and not the word MINUS.
 pub(crate) fn sum_operator(lexeme: &Lexeme) -> Option<SumStep>
-    ensures { result ≡ (if is_sum_sign strict lexeme.now then Some (sum_step lexeme.now) else None) }
+    ensures { result ≡ (if is_sum_sign strict lexeme.now then Some (sign_step lexeme.now) else None) }
 {
     match lexeme {
         Lexeme::Word(written) => {
@@ -97,14 +96,14 @@ fn sum_close(
     stack: Vec<SumFrame>,
     count: u32,
     frames: &Vec<Frame>,
-) -> Result<Place, StepError>
+) -> Result<Stage, StepError>
     ensures { Steps result frames.now.items (sum_close phrases count (sum_joined 1 (stack_of stack.items) out) (frames_of frames.now.items)) }
 {
     let mut stack = stack;
     let out = sum_join(1, &mut stack, out)?;
     match pop_stack(&mut stack) {
-        None => Ok(Place::After(6, Query::Define(phrases, out))),
-        Some(SumFrame::SumOpen) => Ok(Place::SumAfter(phrases, out, stack, count)),
+        None => Ok(Stage::After(6, Query::Define(phrases, out))),
+        Some(SumFrame::SumOpen) => Ok(Stage::SumAfter(phrases, out, stack, count)),
         Some(SumFrame::SumLeft(_)) => Err(StepError::Refused),
     }
 }
@@ -116,14 +115,14 @@ fn sum_goes_on(
     count: u32,
     frames: &Vec<Frame>,
     step: SumStep,
-) -> Result<Place, StepError>
+) -> Result<Stage, StepError>
     requires { count < 8 }
-    ensures { Steps result frames.now.items (sum_sign phrases count step (sum_joined (step_tightness step) (stack_of stack.items) out) (frames_of frames.now.items)) }
+    ensures { Steps result frames.now.items (sum_goes_on phrases count step (stack_of stack.items) out (frames_of frames.now.items)) }
 {
     let mut stack = stack;
     let out = sum_join(step_tightness(step), &mut stack, out)?;
     push_stack(&mut stack, SumFrame::SumLeft(step))?;
-    Ok(Place::SumOperand(phrases, out, stack, count + 1))
+    Ok(Stage::SumOperand(phrases, out, stack, count + 1))
 }
 
 pub(crate) fn sum_after(
@@ -133,7 +132,7 @@ pub(crate) fn sum_after(
     count: u32,
     frames: &Vec<Frame>,
     lexeme: &Lexeme,
-) -> Result<Place, StepError>
+) -> Result<Stage, StepError>
     ensures { Steps result frames.now.items (sum_after strict phrases out (stack_of stack.items) count (frames_of frames.now.items) lexeme.now) }
 {
     match lexeme {
@@ -152,18 +151,18 @@ pub(crate) fn sum_operand(
     stack: Vec<SumFrame>,
     count: u32,
     lexeme: &Lexeme,
-) -> Result<Place, StepError>
+) -> Result<Stage, StepError>
     ensures { Steps result frames.now.items (step_at strict (SumOperand phrases out (stack_of stack.items) count) (frames_of frames.now.items) lexeme.now) }
 {
     match lexeme {
         Lexeme::Word(written) => match atom(written) {
-            Some(step) => Ok(Place::SumAfter(phrases, out.with(step)?, stack, count)),
+            Some(step) => Ok(Stage::SumAfter(phrases, out.with(step)?, stack, count)),
             None => Err(StepError::Refused),
         },
         Lexeme::Open => {
             let mut stack = stack;
             push_stack(&mut stack, SumFrame::SumOpen)?;
-            Ok(Place::SumOperand(phrases, out, stack, count))
+            Ok(Stage::SumOperand(phrases, out, stack, count))
         }
         _ => Err(StepError::Refused),
     }

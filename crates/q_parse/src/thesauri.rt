@@ -1,17 +1,16 @@
 //! The operators of a thesaurus.
 
 ghost use Rattle.std.specs.Prelude.{◌≡◌, IfOk, Some};
-ghost use Rattle.q_parse.specs.Words.{strict};
-ghost use Rattle.q_parse.specs.Grammar.{has_level, default_name};
-ghost use Rattle.q_parse.specs.Machine.{step_at, with_leaf, thes_argument, ThesFirst, ThesWords, ThesLevel, ThesName};
+ghost use Rattle.q_lex.specs.Words.{strict};
+ghost use Rattle.q_parse.specs.Grammar.{has_level, default_thesaurus};
+ghost use Rattle.q_parse.specs.Machine.{step_at, with_leaf, thes_argument, ThesOpen, ThesFirst, ThesWords, ThesArgument, ThesLevel, ThesName, ThesClose};
 ghost use Rattle.q_tree.specs.declared.queries.Leaf.TheVariants.{Thes};
 ghost use Rattle.q_parse.specs.Views.{frames_of, Steps};
 
 use crate::framing::{one, with_leaf};
-use crate::lexemes::{Lexeme, Written};
-use crate::places::{Frame, Place, StepError};
-use crate::words::{read_name, whole_in};
+use crate::stages::{Frame, Stage, StepError};
 use ct_base::{Listed, Memory, Name};
+use q_lex::{Lexeme, Written, read_name, whole_in};
 use q_tree::{Leaf, Relation, Word};
 use std::alloc::Global;
 
@@ -26,31 +25,31 @@ pub(crate) fn has_level(relation: Relation) -> bool
     }
 }
 
-pub(crate) fn thes_argument(
+fn thes_argument(
     alloc: Global,
     relation: Relation,
     words: Listed<Word>,
     written: &Written,
     frames: &Vec<Frame>,
-) -> Result<Place, StepError>
+) -> Result<Stage, StepError>
     ensures { Steps result frames.now.items (thes_argument strict relation words (frames_of frames.now.items) written.now) }
 {
     match read_name(alloc, written)? {
-        Some(name) => Ok(Place::ThesClose(relation, words, 1, name)),
+        Some(name) => Ok(Stage::ThesClose(relation, words, 1, name)),
         None => {
             if !has_level(relation) {
                 return Err(StepError::Refused);
             }
             match whole_in(written, 1, 99) {
-                Some(level) => Ok(Place::ThesLevel(relation, words, level as u8)),
+                Some(level) => Ok(Stage::ThesLevel(relation, words, level as u8)),
                 None => Err(StepError::Refused),
             }
         }
     }
 }
 
-fn default_name(alloc: Global) -> Result<Name, Memory>
-    ensures { IfOk result (λ name. name ≡ default_name) }
+fn default_thesaurus(alloc: Global) -> Result<Name, Memory>
+    ensures { IfOk result (λ name. name ≡ default_thesaurus) }
 {
     match Name::of_bytes(alloc, b"default")? {
         Some(name) => Ok(name),
@@ -59,14 +58,14 @@ fn default_name(alloc: Global) -> Result<Name, Memory>
 }
 
 /// A thesaurus operator is read.
-pub(crate) fn with_thes(
+fn with_thes(
     alloc: Global,
     frames: &mut Vec<Frame>,
     relation: Relation,
     words: Listed<Word>,
     level: u8,
     thesaurus: Name,
-) -> Result<Place, StepError>
+) -> Result<Stage, StepError>
     ensures { Steps result frames.new.items (Some (with_leaf (Thes relation words level thesaurus) (frames_of frames.old.items))) }
 {
     Ok(with_leaf(
@@ -87,7 +86,7 @@ pub(crate) fn in_words(
     relation: Relation,
     words: Listed<Word>,
     lexeme: Lexeme,
-) -> Result<Place, StepError>
+) -> Result<Stage, StepError>
     ensures { Steps result frames.new.items (step_at strict (ThesWords relation words) (frames_of frames.old.items) lexeme) }
 {
     match lexeme {
@@ -95,13 +94,26 @@ pub(crate) fn in_words(
             if written.word.has_wildcard() {
                 return Err(StepError::Refused);
             }
-            Ok(Place::ThesWords(relation, words.with(written.word)?))
+            Ok(Stage::ThesWords(relation, words.with(written.word)?))
         }
         Lexeme::Close => {
-            let name = default_name(alloc)?;
+            let name = default_thesaurus(alloc)?;
             with_thes(alloc, frames, relation, words, 1, name)
         }
-        Lexeme::Comma => Ok(Place::ThesArgument(relation, words)),
+        Lexeme::Comma => Ok(Stage::ThesArgument(relation, words)),
+        _ => Err(StepError::Refused),
+    }
+}
+
+pub(crate) fn thes_open(
+    frames: &Vec<Frame>,
+    relation: Relation,
+    lexeme: &Lexeme,
+) -> Result<Stage, StepError>
+    ensures { Steps result frames.now.items (step_at strict (ThesOpen relation) (frames_of frames.now.items) lexeme.now) }
+{
+    match lexeme {
+        Lexeme::Open => Ok(Stage::ThesFirst(relation)),
         _ => Err(StepError::Refused),
     }
 }
@@ -111,7 +123,7 @@ pub(crate) fn first_word(
     frames: &Vec<Frame>,
     relation: Relation,
     lexeme: Lexeme,
-) -> Result<Place, StepError>
+) -> Result<Stage, StepError>
     ensures { Steps result frames.now.items (step_at strict (ThesFirst relation) (frames_of frames.now.items) lexeme) }
 {
     match lexeme {
@@ -119,8 +131,23 @@ pub(crate) fn first_word(
             if written.word.has_wildcard() {
                 return Err(StepError::Refused);
             }
-            Ok(Place::ThesWords(relation, one(alloc, written.word)?))
+            Ok(Stage::ThesWords(relation, one(alloc, written.word)?))
         }
+        _ => Err(StepError::Refused),
+    }
+}
+
+pub(crate) fn argument(
+    alloc: Global,
+    frames: &Vec<Frame>,
+    relation: Relation,
+    words: Listed<Word>,
+    lexeme: &Lexeme,
+) -> Result<Stage, StepError>
+    ensures { Steps result frames.now.items (step_at strict (ThesArgument relation words) (frames_of frames.now.items) lexeme.now) }
+{
+    match lexeme {
+        Lexeme::Word(written) => thes_argument(alloc, relation, words, written, frames),
         _ => Err(StepError::Refused),
     }
 }
@@ -132,15 +159,15 @@ pub(crate) fn after_level(
     words: Listed<Word>,
     level: u8,
     lexeme: &Lexeme,
-) -> Result<Place, StepError>
+) -> Result<Stage, StepError>
     ensures { Steps result frames.new.items (step_at strict (ThesLevel relation words level) (frames_of frames.old.items) lexeme.now) }
 {
     match lexeme {
         Lexeme::Close => {
-            let name = default_name(alloc)?;
+            let name = default_thesaurus(alloc)?;
             with_thes(alloc, frames, relation, words, level, name)
         }
-        Lexeme::Comma => Ok(Place::ThesName(relation, words, level)),
+        Lexeme::Comma => Ok(Stage::ThesName(relation, words, level)),
         _ => Err(StepError::Refused),
     }
 }
@@ -152,14 +179,31 @@ pub(crate) fn thes_name(
     words: Listed<Word>,
     level: u8,
     lexeme: &Lexeme,
-) -> Result<Place, StepError>
+) -> Result<Stage, StepError>
     ensures { Steps result frames.now.items (step_at strict (ThesName relation words level) (frames_of frames.now.items) lexeme.now) }
 {
     match lexeme {
         Lexeme::Word(written) => match read_name(alloc, written)? {
-            Some(name) => Ok(Place::ThesClose(relation, words, level, name)),
+            Some(name) => Ok(Stage::ThesClose(relation, words, level, name)),
             None => Err(StepError::Refused),
         },
+        _ => Err(StepError::Refused),
+    }
+}
+
+pub(crate) fn thes_close(
+    alloc: Global,
+    frames: &mut Vec<Frame>,
+    relation: Relation,
+    words: Listed<Word>,
+    level: u8,
+    name: Name,
+    lexeme: &Lexeme,
+) -> Result<Stage, StepError>
+    ensures { Steps result frames.new.items (step_at strict (ThesClose relation words level name) (frames_of frames.old.items) lexeme.now) }
+{
+    match lexeme {
+        Lexeme::Close => with_thes(alloc, frames, relation, words, level, name),
         _ => Err(StepError::Refused),
     }
 }

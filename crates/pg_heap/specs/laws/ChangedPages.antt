@@ -2,10 +2,11 @@
 use Rattle.std.proofs.lemmas.Bool.{eq-eqb, eqb-true, false≢true}
 use Rattle.std.specs.Prelude.{map, Bool, true, false, cond}
 use Rattle.std.proofs.Common.{◌≤◌, ◌<◌, ◌≡◌, ◌⊎◌, inl, inr, ⊎_elim, ℕ, zero, suc, ◌+◌, ◌-◌, ◌^◌, ◌==◌, List, [], ◌∷◌, length, get_or, refl, sym, ap, ◌∙◌, arith}
-use Rattle.std.proofs.lemmas.Nat.{from_be_bytes-to_be_bytes_4}
+use Rattle.std.proofs.lemmas.List.{length-map}
 use Rattle.pg_journal.specs.Pages.{Numbered, with_page, put_on, Has, homes_in, root_page, pages_from, home, changed}
-use Rattle.pg_heap.specs.Kinds.{Each, Kind, kind_bytes}
-use Rattle.pg_heap.specs.MapReading.{behind_root}
+use Rattle.pg_journal.specs.laws.PageRuns.{pages_same, root_homes}
+use Rattle.pg_map.specs.Kinds.{Each, Kind, bytes_of_kind}
+use Rattle.pg_map.specs.MapReading.{behind_root}
 
 put_goal : (ws : List Numbered) (goal pages : ℕ → List ℕ) → Each (λ (w : Numbered). w.1 ≡ goal w.0) ws → (i : ℕ) → Has ws i ⊎ (pages i ≡ goal i) → put_on ws pages i ≡ goal i
 put_goal [] goal pages are i r = ⊎_elim (λ no_. absurd no_) (λ is. is) r
@@ -24,25 +25,12 @@ put_goal (w ∷ ws) goal pages are i r = put_goal ws goal (with_page w pages) ar
     other true yes_ is = are.0 ∙ ap goal (yes_ refl)
     other false yes_ is = is
 
-pages_same : (p q : ℕ → List ℕ) (i n : ℕ) → ((j : ℕ) → i ≤ j → j < i + n → p j ≡ q j) → pages_from p i n ≡ pages_from q i n
-pages_same p q i zero is = refl
-pages_same p q i (suc n) is =
-    ap (λ (x : List ℕ). x ∷ pages_from p (suc i) n) (is i (omega arith) (omega arith)) ∙ ap (λ (l : List (List ℕ)). q i ∷ l) (pages_same p q (suc i) n (λ j low high. is j (omega (arith, low)) (omega (arith, high))))
-
 listed : (f : ℕ → List ℕ) (i : ℕ) (ps : List (List ℕ)) → ((j : ℕ) → j < length ps → f (i + j) ≡ get_or ps j []) → pages_from f i (length ps) ≡ ps
 listed f i [] is = refl
 listed f i (p ∷ ps) is =
     let e : i ≡ i + 0 = omega arith in
     ap (λ (x : List ℕ). x ∷ pages_from f (suc i) (length ps)) (ap f e ∙ is 0 (omega arith))
     ∙ ap (λ (l : List (List ℕ)). p ∷ l) (listed f (suc i) ps (λ j less. let e : suc i + j ≡ i + suc j = omega arith in ap f e ∙ is (suc j) (omega (arith, less))))
-
-pub root_homes : (n : ℕ) → n < 2 ^ 32 → homes_in (root_page n) ≡ n
-unfolding root_page
-root_homes n small = from_be_bytes-to_be_bytes_4 n small
-
-length-kinds : (ks : List Kind) → length (map kind_bytes ks) ≡ length ks
-length-kinds [] = refl
-length-kinds (k ∷ ks) = ap suc (length-kinds ks)
 
 -- The pages of these kinds come of others by a batch that has, of each page that isn't the same, what it is then, and no page else.
 pub changed_is : (ks ls : List Kind) (ws : List Numbered) → 3 + length ls < 2 ^ 32 → Each (λ (w : Numbered). w.1 ≡ home (behind_root ls) w.0) ws
@@ -52,7 +40,7 @@ changed_is ks ls ws small are each =
     let goal : ℕ → List ℕ = home (behind_root ls) in
     let root : f 2 ≡ root_page (3 + length ls) = put_goal ws goal (home (behind_root ks)) are 2 (each 2 (omega arith) (omega arith)) in
     let homes : homes_in (f 2) ≡ 3 + length ls = ap homes_in root ∙ root_homes (3 + length ls) small in
-    let count : (3 + length ls) - 2 ≡ suc (length (map kind_bytes ls)) = let e = length-kinds ls in omega (arith, e) in
+    let count : (3 + length ls) - 2 ≡ suc (length (map bytes_of_kind ls)) = let e = length-map ls bytes_of_kind in omega (arith, e) in
     ap (λ (n : ℕ). pages_from f 2 (n - 2)) homes
     ∙ pages_same f goal 2 ((3 + length ls) - 2) (λ j low high. put_goal ws goal (home (behind_root ks)) are j (each j low (omega (arith, high))))
     ∙ ap (λ (n : ℕ). pages_from goal 2 n) count

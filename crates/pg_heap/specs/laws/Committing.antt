@@ -1,5 +1,6 @@
 -- The commit of a plan.
 use Rattle.std.proofs.lemmas.Bool.{eq-eqb, eqb-true, false≢true, cases_lt}
+use Rattle.std.proofs.lemmas.List.{length-map}
 use Rattle.std.proofs.Common.{◌≡◌, ◌≤◌, ◌<◌, ◌⊎◌, inl, inr, ⊎_elim, ◌==◌, zero, suc, ℕ, ◌+◌, ◌-◌, ◌^◌, max, List, [], ◌∷◌, length, get_or, map, refl, sym, ap, subst, ◌∙◌, arith}
 use Rattle.ct_keep.specs.Content.{Content}
 use Rattle.pg_journal.specs.Pages.{Numbered, Has, home, root_page, changed, AreBetween, homes_in}
@@ -7,12 +8,13 @@ use Rattle.pg_journal.specs.Standing.{MayCommit, HasGoodRoot, homes_with, DiskSt
 use Rattle.std.specs.Prelude.{Bool, true, false, cond}
 use Rattle.pg_journal.specs.Recovered.{IsRecovered, IsStore, IsClosed}
 use Rattle.ct_site.specs.Disks.{DiskView, Leaves, leaves_none}
-use Rattle.pg_heap.specs.Kinds.{Each, Kind, Free, Slotted, Long, kind_bytes}
-use Rattle.pg_heap.specs.Holding.{Holds}
-use Rattle.pg_heap.specs.MapReading.{behind_root}
-use Rattle.pg_heap.specs.Planned.{IsDone}
-use Rattle.pg_heap.specs.laws.Whole.{whole}
-use Rattle.pg_heap.specs.laws.ChangedPages.{changed_is, root_homes}
+use Rattle.pg_map.specs.Kinds.{Each, Kind, Free, Slotted, Long, bytes_of_kind}
+use Rattle.pg_map.specs.Holding.{Holds}
+use Rattle.pg_map.specs.MapReading.{behind_root}
+use Rattle.pg_map.specs.Done.{IsDone}
+use Rattle.pg_map.specs.laws.Whole.{whole}
+use Rattle.pg_journal.specs.laws.PageRuns.{root_homes}
+use Rattle.pg_heap.specs.laws.ChangedPages.{changed_is}
 use Rattle.pg_heap.specs.Committing.{IsBatchOf, AreEither}
 
 pub done_holds : (ks : List Kind) (m : Content) → IsDone ks m → Holds (behind_root ks) m
@@ -20,8 +22,8 @@ done_holds ks m done = record { kinds = ks; are = done.are; is = refl; layout = 
 
 -- ---- the batch may be committed
 
-some_bytes : (k : Kind) → kind_bytes k ≡ [] → ⊥
-unfolding kind_bytes
+some_bytes : (k : Kind) → bytes_of_kind k ≡ [] → ⊥
+unfolding bytes_of_kind
 some_bytes Free is = let e = ap (λ (l : List ℕ). length l) is in omega (arith, e)
 some_bytes (Slotted ss) is = cc is
 some_bytes (Long next bytes) is = cc is
@@ -31,22 +33,18 @@ past [] n less = refl
 past (p ∷ pages) zero less = absurd (omega (arith, less))
 past (p ∷ pages) (suc n) less = past pages n (omega (arith, less))
 
-within_kind : (ks : List Kind) (n : ℕ) → n < length ks → get_or (map kind_bytes ks) n [] ≡ [] → ⊥
+within_kind : (ks : List Kind) (n : ℕ) → n < length ks → get_or (map bytes_of_kind ks) n [] ≡ [] → ⊥
 within_kind [] n less is = omega (arith, less)
 within_kind (k ∷ ks) zero less is = some_bytes k is
 within_kind (k ∷ ks) (suc n) less is = within_kind ks n (omega (arith, less)) is
 
-length-bytes : (ks : List Kind) → length (map kind_bytes ks) ≡ length ks
-length-bytes [] = refl
-length-bytes (k ∷ ks) = ap suc (length-bytes ks)
-
 past_home : (ks : List Kind) (i : ℕ) → 3 + length ks ≤ i → home (behind_root ks) i ≡ []
-past_home ks i less = past (behind_root ks) (i - 2) (let e = length-bytes ks in omega (arith, e, less))
+past_home ks i less = past (behind_root ks) (i - 2) (let e = length-map ks bytes_of_kind in omega (arith, e, less))
 
 some_home : (ks : List Kind) (i : ℕ) → 3 ≤ i → i < 3 + length ks → home (behind_root ks) i ≡ [] → ⊥
 some_home ks i low high is = let e : i - 2 ≡ suc (i - 3) = omega (arith, low) in within_kind ks (i - 3) (omega (arith, low, high)) (sym (ap (λ (n : ℕ). get_or (behind_root ks) n []) e) ∙ is)
 
-either_below : (a b : ℕ) → (a < b) ⊎ (b ≤ a)
+pub either_below : (a b : ℕ) → (a < b) ⊎ (b ≤ a)
 either_below a b = cases_lt a b
 
 narrowed : (now : List Kind) (low end : ℕ) (ws : List Numbered) → AreBetween low end ws → Each (λ (w : Numbered). w.1 ≡ home (behind_root now) w.0) ws → AreBetween low (3 + length now) ws

@@ -4,9 +4,9 @@ use Rattle.std.proofs.Common.{inl, inr, ⊎_elim}
 use Rattle.ct_site.specs.Disks.{DiskView, Leaves, leaves_more}
 use Rattle.ct_keep.specs.Content.{Content}
 use Rattle.pg_journal.specs.Standing.{DiskStands}
-use Rattle.pg_heap.specs.Kinds.{Kind}
-use Rattle.pg_heap.specs.MapReading.{behind_root}
-use Rattle.pg_heap.specs.Planned.{IsDone}
+use Rattle.pg_map.specs.Kinds.{Kind}
+use Rattle.pg_map.specs.MapReading.{behind_root}
+use Rattle.pg_map.specs.Done.{IsDone}
 use Rattle.pg_heap.specs.Committing.{AreEither}
 use Rattle.pg_heap.specs.laws.Committing.{done_holds, stays_either}
 use Rattle.pg_heap.specs.Heaps.{IsMap}

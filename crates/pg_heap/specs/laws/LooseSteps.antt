@@ -6,13 +6,13 @@ use Rattle.std.specs.FinMap.{get}
 use Rattle.std.proofs.lemmas.List.{map-append}
 use Rattle.ct_keep.specs.Content.{Content, set_to}
 use Rattle.ct_keep.specs.Laws.{same, same_itself, same_keys, get-set_to}
-use Rattle.pg_heap.specs.Kinds.{Each, Kind, Free, Slotted, Long, strings_of, Item, Short, Far, item_bytes, IsItem, key_in_item, page_of, count_of}
-use Rattle.pg_heap.specs.Holding.{kind_at, IsChain, Placed, StandsFor, times, one_if_long, chains_of, bytes_of, entries_of}
+use Rattle.pg_map.specs.Kinds.{Each, Kind, Free, Slotted, Long, strings_of, StringItem, Short, Far, item_bytes, IsStringItem, key_in_item, page_of, count_of}
+use Rattle.pg_map.specs.Holding.{kind_of_page, IsChain, Placed, StandsFor, times, one_if_long, chains_of, bytes_of, entries_of}
 use Rattle.ct_keep.specs.Rising.{Entry}
-use Rattle.pg_heap.specs.laws.Holding.{strings-append}
-use Rattle.pg_heap.specs.laws.OneMap.{one_item}
-use Rattle.pg_heap.specs.Loose.{values_under, held, AreValues, Stand, IsLoose}
-use Rattle.pg_heap.specs.laws.Loose.{values-append, times-append, times_here, times_other, SameAt, chain_same, stands_same, all_same}
+use Rattle.pg_map.specs.laws.Holding.{long_parts, stands_key, strings-append, bytes-append, each-append, each-left, each-right}
+use Rattle.pg_map.specs.laws.OneMap.{one_item}
+use Rattle.pg_map.specs.Loose.{values_under, held, AreValues, Stand, IsLoose}
+use Rattle.pg_map.specs.laws.Loose.{values-append, times-append, times_here, times_other, SameAt, chain_same, stands_same, all_same}
 
 -- ---- one page among others
 
@@ -33,10 +33,10 @@ at_other [] ls j k (suc n) apart = refl
 at_other (i ∷ ks) ls j k zero apart = refl
 at_other (i ∷ ks) ls j k (suc n) apart = at_other ks ls j k n (λ e. apart (omega (arith, e)))
 
-pub kind_here : (ks ls : List Kind) (k : Kind) → kind_at (with_kind ks k ls) (place ks) ≡ k
+pub kind_here : (ks ls : List Kind) (k : Kind) → kind_of_page (with_kind ks k ls) (place ks) ≡ k
 kind_here ks ls k = let e : (3 + length ks) - 3 ≡ length ks = omega arith in ap (λ (n : ℕ). get_or (ks ++ k ∷ ls) n Free) e ∙ at_here ks ls k
 
-pub kind_other : (ks ls : List Kind) (j k : Kind) (i : ℕ) → 3 ≤ i → i ≢ place ks → kind_at (with_kind ks j ls) i ≡ kind_at (with_kind ks k ls) i
+pub kind_other : (ks ls : List Kind) (j k : Kind) (i : ℕ) → 3 ≤ i → i ≢ place ks → kind_of_page (with_kind ks j ls) i ≡ kind_of_page (with_kind ks k ls) i
 kind_other ks ls j k i low apart = at_other ks ls j k (i - 3) (λ e. apart (omega (arith, e, low)))
 
 -- a chain that doesn't have the page doesn't see the change
@@ -44,12 +44,12 @@ pub same_without : (ks ls : List Kind) (j k : Kind) (is : List ℕ) → times (p
 same_without ks ls j k is none i low some = kind_other ks ls j k i low (λ e. let f : times (place ks) is ≡ times i is = ap (λ (n : ℕ). times n is) (sym e) in omega (arith, none, f, some))
 
 -- what each page counts, where all but one count as before
-each_place : (ks ls : List Kind) (j k : Kind) (a b : ℕ → ℕ) → ((i : ℕ) → 3 ≤ i → a i ≡ one_if_long (kind_at (with_kind ks j ls) i)) → b (place ks) ≡ one_if_long k → ((i : ℕ) → 3 ≤ i → i ≢ place ks → b i ≡ a i)
-    → (i : ℕ) → 3 ≤ i → b i ≡ one_if_long (kind_at (with_kind ks k ls) i)
+each_place : (ks ls : List Kind) (j k : Kind) (a b : ℕ → ℕ) → ((i : ℕ) → 3 ≤ i → a i ≡ one_if_long (kind_of_page (with_kind ks j ls) i)) → b (place ks) ≡ one_if_long k → ((i : ℕ) → 3 ≤ i → i ≢ place ks → b i ≡ a i)
+    → (i : ℕ) → 3 ≤ i → b i ≡ one_if_long (kind_of_page (with_kind ks k ls) i)
 each_place ks ls j k a b old at rest i low = of (i == place ks) (eqb-true i (place ks)) (λ e is. false≢true (sym e ∙ eq-eqb i (place ks) is))
   where
-    of : (t : Bool) → (t ≡ true → i ≡ place ks) → (t ≡ false → i ≢ place ks) → b i ≡ one_if_long (kind_at (with_kind ks k ls) i)
-    of true is no_ = let e = is refl in ap b e ∙ at ∙ ap one_if_long (sym (kind_here ks ls k)) ∙ ap (λ (n : ℕ). one_if_long (kind_at (with_kind ks k ls) n)) (sym e)
+    of : (t : Bool) → (t ≡ true → i ≡ place ks) → (t ≡ false → i ≢ place ks) → b i ≡ one_if_long (kind_of_page (with_kind ks k ls) i)
+    of true is no_ = let e = is refl in ap b e ∙ at ∙ ap one_if_long (sym (kind_here ks ls k)) ∙ ap (λ (n : ℕ). one_if_long (kind_of_page (with_kind ks k ls) n)) (sym e)
     of false is no_ = let e = no_ refl in rest i low e ∙ old i low ∙ ap one_if_long (kind_other ks ls j k i low e)
 
 -- ---- a long page is written, in front of the chain
@@ -81,9 +81,6 @@ module _ (ks ls : List Kind) (m : Content) (first : ℕ) (loose value bytes : Li
 
 -- ---- the first page of the chain is freed
 
-long_parts : (n k : ℕ) (b c : List ℕ) → Long n b ≡ Long k c → (n ≡ k) × (b ≡ c)
-long_parts n k b c is = (cc is, cc is)
-
 pub record IsFreed (kinds : List Kind) (m : Content) (next : ℕ) (bytes value : List ℕ) : Type 0 where
   pub loose : List ℕ
   pub rest : List ℕ
@@ -97,7 +94,7 @@ module _ (ks ls : List Kind) (m : Content) (next : ℕ) (bytes : List ℕ) where
     where
       of : IsChain (with_kind ks (Long next bytes) ls) (place ks) (i ∷ is) value → IsFreed (with_kind ks Free ls) m next bytes value
       of (at, least, n, b, rest, kind, parts, more) =
-          let two = long_parts next n bytes b (sym (kind_here ks ls (Long next bytes)) ∙ ap (kind_at (with_kind ks (Long next bytes) ls)) (sym at) ∙ kind) in
+          let two = long_parts next n bytes b (sym (kind_here ks ls (Long next bytes)) ∙ ap (kind_of_page (with_kind ks (Long next bytes) ls)) (sym at) ∙ kind) in
           let twice : times (place ks) (i ∷ is) ≡ 1 + times (place ks) is = ap (λ (j : ℕ). times (place ks) (j ∷ is)) at ∙ times_here (place ks) is in
           let one : times (place ks) (chains_of l.placed) + times (place ks) (i ∷ is) ≡ 1 = l.long (place ks) (omega arith) ∙ ap one_if_long (kind_here ks ls (Long next bytes)) in
           record {
@@ -136,7 +133,7 @@ module _ (ks ls : List Kind) (old new : Kind) (m : Content) (first : ℕ) (loose
 
 -- ---- a free page more
 
-at_end : (ks : List Kind) (n : ℕ) → get_or (ks ++ Free ∷ []) n Free ≡ get_or ks n Free
+pub at_end : (ks : List Kind) (n : ℕ) → get_or (ks ++ Free ∷ []) n Free ≡ get_or ks n Free
 at_end [] zero = refl
 at_end [] (suc n) = refl
 at_end (k ∷ ks) zero = refl
@@ -179,9 +176,6 @@ parted (p ∷ ps) (s ∷ before) behind is =
       behind_is = r.behind_is;
     }
 
-bytes-append : (us vs : List Placed) → bytes_of (us ++ vs) ≡ bytes_of us ++ bytes_of vs
-bytes-append us vs = map-append (λ (p : Placed). item_bytes p.item) us vs
-
 chains-append : (us vs : List Placed) → chains_of (us ++ vs) ≡ chains_of us ++ chains_of vs
 chains-append [] vs = refl
 chains-append (p ∷ us) vs = ap (λ (l : List ℕ). p.chain ++ l) (chains-append us vs) ∙ sym (append_assoc p.chain (chains_of us) (chains_of vs))
@@ -195,18 +189,6 @@ times-between i us vs p =
     let b = times-append i p.chain (chains_of vs) in
     let c = ap (times i) (chains-append us vs) ∙ times-append i (chains_of us) (chains_of vs) in
     omega (arith, a, b, c)
-
-each-append : {X : Type 0} (P : X → Type 0) (us vs : List X) → Each P us → Each P vs → Each P (us ++ vs)
-each-append P [] vs a b = b
-each-append P (u ∷ us) vs a b = (a.0, each-append P us vs a.1 b)
-
-each-left : {X : Type 0} (P : X → Type 0) (us vs : List X) → Each P (us ++ vs) → Each P us
-each-left P [] vs a = tt
-each-left P (u ∷ us) vs a = (a.0, each-left P us vs a.1)
-
-each-right : {X : Type 0} (P : X → Type 0) (us vs : List X) → Each P (us ++ vs) → Each P vs
-each-right P [] vs a = a
-each-right P (u ∷ us) vs a = each-right P us vs a.1
 
 each-with : {X : Type 0} (P : X → Type 0) (us vs : List X) (x : X) → Each P (us ++ vs) → P x → Each P (us ++ x ∷ vs)
 each-with P us vs x all one = each-append P us (x ∷ vs) (each-left P us vs all) (one, each-right P us vs all)
@@ -262,7 +244,7 @@ values_taken es fs e m old = record { are = λ q. values-append q es fs ∙ of q
 -- ---- an item is put on a page, with the chain that was loose
 
 module _ (ks ls : List Kind) (ss : List (List ℕ)) (p : Placed) (m : Content) (first : ℕ) (value : List ℕ) where
-  pub put_item : IsLoose (with_kind ks (Slotted ss) ls) m first p.chain value → IsItem p.item → StandsFor (with_kind ks (Slotted ss) ls) p.item p.entry p.chain → get m p.entry.0 ≡ None
+  pub put_item : IsLoose (with_kind ks (Slotted ss) ls) m first p.chain value → IsStringItem p.item → StandsFor (with_kind ks (Slotted ss) ls) p.item p.entry p.chain → get m p.entry.0 ≡ None
       → IsLoose (with_kind ks (Slotted (ss ++ item_bytes p.item ∷ [])) ls) (set_to p.entry.0 (Some p.entry.1) m) 0 [] []
   put_item l good stands none =
       let news : Kind = Slotted (ss ++ item_bytes p.item ∷ []) in
@@ -278,7 +260,7 @@ module _ (ks ls : List Kind) (ss : List (List ℕ)) (p : Placed) (m : Content) (
             ∙ append_assoc (strings_of ks ++ ss) (item_bytes p.item ∷ []) (strings_of ls)
             ∙ ap (λ (l : List (List ℕ)). l ++ item_bytes p.item ∷ strings_of ls) (sym at.before_is) ∙ ap (λ (l : List (List ℕ)). bytes_of at.us ++ item_bytes p.item ∷ l) (sym at.behind_is)
             ∙ sym (bytes-append at.us (p ∷ at.vs));
-        items = each-with (λ (p : Placed). IsItem p.item) at.us at.vs p (subst (Each (λ (p : Placed). IsItem p.item)) at.is l.items) good;
+        items = each-with (λ (p : Placed). IsStringItem p.item) at.us at.vs p (subst (Each (λ (p : Placed). IsStringItem p.item)) at.is l.items) good;
         stand = each-with (λ (p : Placed). StandsFor (with_kind ks news ls) p.item p.entry p.chain) at.us at.vs p (subst (Stand (with_kind ks news ls)) at.is whole)
             (stands_same (with_kind ks (Slotted ss) ls) (with_kind ks news ls) p.item p.entry p.chain (same_without ks ls (Slotted ss) news p.chain (omega (arith, free))) stands);
         chain = (refl, refl);
@@ -297,7 +279,7 @@ module _ (ks ls : List Kind) (ss : List (List ℕ)) (p : Placed) (m : Content) (
 
 -- ---- an item is taken from its page, and its chain becomes loose
 
-pub record IsTaken (kinds : List Kind) (item : Item) (m : Content) : Type 0 where
+pub record IsTaken (kinds : List Kind) (item : StringItem) (m : Content) : Type 0 where
   pub entry : Entry
   pub loose : List ℕ
   pub rest : List ℕ
@@ -307,7 +289,7 @@ pub record IsTaken (kinds : List Kind) (item : Item) (m : Content) : Type 0 wher
   pub most : count_of item ≤ length entry.1
   pub is : IsLoose kinds (set_to (key_in_item item) None m) (page_of item) loose rest
 
-pub record PartsAt (ps : List Placed) (before : List (List ℕ)) (item : Item) (behind : List (List ℕ)) : Type 0 where
+pub record PartsAt (ps : List Placed) (before : List (List ℕ)) (item : StringItem) (behind : List (List ℕ)) : Type 0 where
   pub us : List Placed
   pub p : Placed
   pub vs : List Placed
@@ -316,7 +298,7 @@ pub record PartsAt (ps : List Placed) (before : List (List ℕ)) (item : Item) (
   pub item_is : p.item ≡ item
   pub behind_is : bytes_of vs ≡ behind
 
-pub parted_at : (ps : List Placed) (before : List (List ℕ)) (item : Item) (behind : List (List ℕ)) → Each (λ (p : Placed). IsItem p.item) ps → IsItem item → bytes_of ps ≡ before ++ item_bytes item ∷ behind → PartsAt ps before item behind
+pub parted_at : (ps : List Placed) (before : List (List ℕ)) (item : StringItem) (behind : List (List ℕ)) → Each (λ (p : Placed). IsStringItem p.item) ps → IsStringItem item → bytes_of ps ≡ before ++ item_bytes item ∷ behind → PartsAt ps before item behind
 parted_at [] [] item behind good one is = absurd (cc is)
 parted_at [] (s ∷ before) item behind good one is = absurd (cc is)
 parted_at (p ∷ ps) [] item behind good one is =
@@ -335,26 +317,22 @@ parted_at (p ∷ ps) (s ∷ before) item behind good one is =
       behind_is = r.behind_is;
     }
 
-pub stands_key : (ks : List Kind) (item : Item) (e : Entry) (chain : List ℕ) → StandsFor ks item e chain → e.0 ≡ key_in_item item
-stands_key ks (Short key value) e chain stands = ap (λ (e : Entry). e.0) stands.0
-stands_key ks (Far key count first) e chain stands = stands.0
-
 -- what the chain of an item has of the value
-chain_bytes : Item → Entry → List ℕ
+chain_bytes : StringItem → Entry → List ℕ
 chain_bytes (Short key value) e = []
 chain_bytes (Far key count first) e = e.1
 
-stands_chain : (ks : List Kind) (item : Item) (e : Entry) (chain : List ℕ) → StandsFor ks item e chain → IsChain ks (page_of item) chain (chain_bytes item e)
+stands_chain : (ks : List Kind) (item : StringItem) (e : Entry) (chain : List ℕ) → StandsFor ks item e chain → IsChain ks (page_of item) chain (chain_bytes item e)
 unfolding chain_bytes
 stands_chain ks (Short key value) e chain stands = subst (λ (is : List ℕ). IsChain ks 0 is []) (sym stands.1) (refl, refl)
 stands_chain ks (Far key count first) e chain stands = stands.2
 
-stands_count : (ks : List Kind) (item : Item) (e : Entry) (chain : List ℕ) → StandsFor ks item e chain → length (chain_bytes item e) ≡ count_of item
+stands_count : (ks : List Kind) (item : StringItem) (e : Entry) (chain : List ℕ) → StandsFor ks item e chain → length (chain_bytes item e) ≡ count_of item
 unfolding chain_bytes
 stands_count ks (Short key value) e chain stands = refl
 stands_count ks (Far key count first) e chain stands = stands.1
 
-stands_most : (ks : List Kind) (item : Item) (e : Entry) (chain : List ℕ) → StandsFor ks item e chain → count_of item ≤ length e.1
+stands_most : (ks : List Kind) (item : StringItem) (e : Entry) (chain : List ℕ) → StandsFor ks item e chain → count_of item ≤ length e.1
 stands_most ks (Short key value) e chain stands = omega arith
 stands_most ks (Far key count first) e chain stands = let s = stands.1 in omega (arith, s)
 
@@ -364,8 +342,8 @@ value_has es fs e m old =
     sym (ap (λ (b : Bool). values_under e.0 es ++ cond b (e.1 ∷ values_under e.0 fs) (values_under e.0 fs)) (same_itself e.0)) ∙ sym (values-more e.0 es fs e) ∙ old.are e.0 in
     (one_at_most (get m e.0) (values_under e.0 es) (values_under e.0 fs) e.1 before).1
 
-module _ (ks ls : List Kind) (ss tts : List (List ℕ)) (item : Item) (m : Content) where
-  pub taken : IsLoose (with_kind ks (Slotted (ss ++ item_bytes item ∷ tts)) ls) m 0 [] [] → IsItem item → IsTaken (with_kind ks (Slotted (ss ++ tts)) ls) item m
+module _ (ks ls : List Kind) (ss tts : List (List ℕ)) (item : StringItem) (m : Content) where
+  pub taken : IsLoose (with_kind ks (Slotted (ss ++ item_bytes item ∷ tts)) ls) m 0 [] [] → IsStringItem item → IsTaken (with_kind ks (Slotted (ss ++ tts)) ls) item m
   taken l good =
       let olds : Kind = Slotted (ss ++ item_bytes item ∷ tts) in
       let news : Kind = Slotted (ss ++ tts) in
@@ -377,7 +355,7 @@ module _ (ks ls : List Kind) (ss tts : List (List ℕ)) (item : Item) (m : Conte
       subst (Stand (with_kind ks news ls)) at.is (all_same (with_kind ks olds ls) (with_kind ks news ls) l.placed (same_without ks ls olds news (chains_of l.placed) (omega (arith, free))) l.stand) in
       let S : Placed → Type 0 = λ (p : Placed). StandsFor (with_kind ks news ls) p.item p.entry p.chain in
       let its : StandsFor (with_kind ks news ls) item at.p.entry at.p.chain =
-      subst (λ (i : Item). StandsFor (with_kind ks news ls) i at.p.entry at.p.chain) at.item_is (each-right S at.us (at.p ∷ at.vs) whole).0 in
+      subst (λ (i : StringItem). StandsFor (with_kind ks news ls) i at.p.entry at.p.chain) at.item_is (each-right S at.us (at.p ∷ at.vs) whole).0 in
       let key = stands_key (with_kind ks news ls) item at.p.entry at.p.chain its in
       let old : AreValues (entries_of at.us ++ at.p.entry ∷ entries_of at.vs) m = subst (λ (es : List Entry). AreValues es m) (ap entries_of at.is ∙ entries-append at.us (at.p ∷ at.vs)) l.values in
       record {
@@ -393,7 +371,7 @@ module _ (ks ls : List Kind) (ss tts : List (List ℕ)) (item : Item) (m : Conte
           strings =
               strings-append ks (news ∷ ls) ∙ ap (λ (x : List (List ℕ)). strings_of ks ++ x) (append_assoc ss tts (strings_of ls)) ∙ sym (append_assoc (strings_of ks) ss (tts ++ strings_of ls))
               ∙ ap (λ (x : List (List ℕ)). x ++ (tts ++ strings_of ls)) (sym at.before_is) ∙ ap (λ (x : List (List ℕ)). bytes_of at.us ++ x) (sym at.behind_is) ∙ sym (bytes-append at.us at.vs);
-          items = each-without (λ (p : Placed). IsItem p.item) at.us at.vs at.p (subst (Each (λ (p : Placed). IsItem p.item)) at.is l.items);
+          items = each-without (λ (p : Placed). IsStringItem p.item) at.us at.vs at.p (subst (Each (λ (p : Placed). IsStringItem p.item)) at.is l.items);
           stand = each-without S at.us at.vs at.p whole;
           chain = stands_chain (with_kind ks news ls) item at.p.entry at.p.chain its;
           long = each_place ks ls olds news (λ i. times i (chains_of l.placed) + 0) (λ i. times i (chains_of (at.us ++ at.vs)) + times i at.p.chain) l.long

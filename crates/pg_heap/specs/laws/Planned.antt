@@ -3,13 +3,16 @@ use Rattle.std.proofs.Common.{◌≤◌, ◌<◌, ◌≡◌, ⊎_elim, ℕ, zero
 use Rattle.std.specs.FinMap.{get}
 use Rattle.ct_keep.specs.Content.{Content, set_to}
 use Rattle.pg_page.specs.Pages.{Fits}
-use Rattle.pg_heap.specs.Kinds.{Each, Kind, Free, Slotted, Long, IsKind, strings_of, Item, item_bytes, IsItem, key_in_item, page_of, count_of}
-use Rattle.pg_heap.specs.Holding.{kind_at, IsChain, Placed, StandsFor, one_if_long}
+use Rattle.pg_map.specs.Kinds.{Each, Kind, Free, Slotted, Long, IsKind, strings_of, StringItem, item_bytes, IsStringItem, key_in_item, page_of, count_of}
+use Rattle.pg_map.specs.Holding.{kind_of_page, IsChain, Placed, StandsFor, one_if_long}
 use Rattle.ct_keep.specs.Rising.{Entry}
-use Rattle.pg_heap.specs.laws.Holding.{strings-append}
-use Rattle.pg_heap.specs.Loose.{IsLoose}
+use Rattle.pg_map.specs.laws.Holding.{strings-append}
+use Rattle.pg_map.specs.laws.MapReading.{kind_is}
+use Rattle.pg_map.specs.Loose.{IsLoose}
 use Rattle.pg_heap.specs.laws.LooseSteps.{with_kind, place, laid, freed, replaced, grown, put_item, taken}
-use Rattle.pg_heap.specs.Planned.{IsPlanned, IsDone, IsRoomier, IsPut}
+use Rattle.pg_heap.specs.Planned.{IsRoomier, IsPut}
+use Rattle.pg_map.specs.Done.{IsPlanned, IsDone}
+use Rattle.std.proofs.lemmas.List.{length-set}
 
 -- ---- one page among others, by its place
 
@@ -38,22 +41,12 @@ each_set [] at k are is = tt
 each_set (j ∷ ks) zero k are is = (is, are.1)
 each_set (j ∷ ks) (suc at) k are is = (are.0, each_set ks at k are.1 is)
 
-pub each_at : (ks : List Kind) (at : ℕ) → Each IsKind ks → IsKind (get_or ks at Free)
-each_at [] at are = tt
-each_at (k ∷ ks) zero are = are.0
-each_at (k ∷ ks) (suc at) are = each_at ks at are.1
-
-each_end : (ks : List Kind) (k : Kind) → Each IsKind ks → IsKind k → Each IsKind (ks ++ k ∷ [])
+pub each_end : (ks : List Kind) (k : Kind) → Each IsKind ks → IsKind k → Each IsKind (ks ++ k ∷ [])
 each_end [] k are is = (is, tt)
 each_end (j ∷ ks) k are is = (are.0, each_end ks k are.1 is)
 
-length-set_kind : (ks : List Kind) (at : ℕ) (k : Kind) → length (set ks at k) ≡ length ks
-length-set_kind [] at k = refl
-length-set_kind (j ∷ ks) zero k = refl
-length-set_kind (j ∷ ks) (suc at) k = ap suc (length-set_kind ks at k)
-
 count_set : (ks : List Kind) (at : ℕ) (k : Kind) → 3 + length ks ≤ 2 ^ 31 → 3 + length (set ks at k) ≤ 2 ^ 31
-count_set ks at k most = let e = length-set_kind ks at k in omega (arith, e, most)
+count_set ks at k most = let e = length-set ks at k in omega (arith, e, most)
 
 -- ---- the steps
 
@@ -109,7 +102,7 @@ pub record BeginsAt (kinds : List Kind) (first : ℕ) (value : List ℕ) : Type 
   pub next : ℕ
   pub bytes : List ℕ
   pub rest : List ℕ
-  pub kind : kind_at kinds first ≡ Long next bytes
+  pub kind : kind_of_page kinds first ≡ Long next bytes
   pub parts : value ≡ bytes ++ rest
 
 pub begins_at : (ks : List Kind) (m : Content) (first : ℕ) (loose value : List ℕ) → IsPlanned ks m first loose value → 1 ≤ length value → BeginsAt ks first value
@@ -117,7 +110,7 @@ begins_at ks m first [] value p some = let e = p.is.chain.1 in let z = ap (λ (l
 begins_at ks m first (i ∷ is) value p some = of p.is.chain
   where
     of : IsChain ks first (i ∷ is) value → BeginsAt ks first value
-    of (at, least, next, bytes, rest, kind, parts, more) = record { low = subst (λ (n : ℕ). 3 ≤ n) at least; next = next; bytes = bytes; rest = rest; kind = ap (kind_at ks) (sym at) ∙ kind; parts = parts }
+    of (at, least, next, bytes, rest, kind, parts, more) = record { low = subst (λ (n : ℕ). 3 ≤ n) at least; next = next; bytes = bytes; rest = rest; kind = ap (kind_of_page ks) (sym at) ∙ kind; parts = parts }
 
 -- a chain without bytes is none
 pub ended : (ks : List Kind) (m : Content) (first : ℕ) (loose value : List ℕ) → IsPlanned ks m first loose value → length value ≡ 0 → IsDone ks m
@@ -128,7 +121,7 @@ ended ks m first (i ∷ is) value p none = of p.is.chain
   where
     of : IsChain ks first (i ∷ is) value → IsDone ks m
     of (at, least, next, bytes, rest, kind, parts, more) =
-        let k : IsKind (Long next bytes) = subst IsKind kind (each_at ks (i - 3) p.are) in
+        let k : IsKind (Long next bytes) = subst IsKind kind (kind_is ks (i - 3) p.are) in
         let z = ap (λ (l : List ℕ). length l) parts in
         let some = k.1 in
         absurd (omega (arith, z, none, some, length-append bytes rest))
@@ -145,7 +138,7 @@ plain ks ls k ss m first loose value short was l =
     replaced ks ls k (Slotted ss) m first loose value short refl (ap (λ (x : List (List ℕ)). x ++ strings_of ls) (sym was) ∙ sym (strings-append (k ∷ []) ls)) l
 
 -- an item put on a page
-pub put_at : (ks ls : List Kind) (m : Content) (first : ℕ) (value : List ℕ) (p : Placed) (at : ℕ) → IsPlanned ks m first p.chain value → IsPut ks ls (item_bytes p.item) at → IsItem p.item
+pub put_at : (ks ls : List Kind) (m : Content) (first : ℕ) (value : List ℕ) (p : Placed) (at : ℕ) → IsPlanned ks m first p.chain value → IsPut ks ls (item_bytes p.item) at → IsStringItem p.item
     → ((kinds : List Kind) → IsChain kinds first p.chain value → StandsFor kinds p.item p.entry p.chain) → get m p.entry.0 ≡ None → IsDone ls (set_to p.entry.0 (Some p.entry.1) m)
 put_at ks ls m first value p at old put good stands none =
     let base = roomier ks put.base m first p.chain value put.roomier old in
@@ -160,7 +153,7 @@ put_at ks ls m first value p at old put good stands none =
     })
 
 -- an item taken from a page
-pub record IsTakenAt (kinds : List Kind) (item : Item) (m : Content) : Type 0 where
+pub record IsTakenAt (kinds : List Kind) (item : StringItem) (m : Content) : Type 0 where
   pub entry : Entry
   pub loose : List ℕ
   pub rest : List ℕ
@@ -170,7 +163,7 @@ pub record IsTakenAt (kinds : List Kind) (item : Item) (m : Content) : Type 0 wh
   pub most : count_of item ≤ length entry.1
   pub is : IsPlanned kinds (set_to (key_in_item item) None m) (page_of item) loose rest
 
-pub taken_at : (ks : List Kind) (at : ℕ) (m : Content) (ss tts : List (List ℕ)) (item : Item) → IsDone ks m → at < length ks → get_or ks at Free ≡ Slotted (ss ++ item_bytes item ∷ tts) → IsItem item → Fits (ss ++ tts) → IsTakenAt (set ks at (Slotted (ss ++ tts))) item m
+pub taken_at : (ks : List Kind) (at : ℕ) (m : Content) (ss tts : List (List ℕ)) (item : StringItem) → IsDone ks m → at < length ks → get_or ks at Free ≡ Slotted (ss ++ item_bytes item ∷ tts) → IsStringItem item → Fits (ss ++ tts) → IsTakenAt (set ks at (Slotted (ss ++ tts))) item m
 taken_at ks at m ss tts item p within kind good fits =
     let s = split_at ks at within in
     let split = s.is ∙ ap (λ (k : Kind). with_kind s.before k s.behind) kind in

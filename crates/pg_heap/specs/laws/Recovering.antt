@@ -8,8 +8,8 @@ use Rattle.pg_journal.specs.Pages.{Numbered, changed}
 use Rattle.pg_journal.specs.Recovered.{Alike}
 use Rattle.pg_journal.specs.laws.Recovered.{one_recovered}
 use Rattle.pg_journal.specs.Standing.{IsEither}
-use Rattle.pg_heap.specs.Holding.{Holds, Recovers}
-use Rattle.pg_heap.specs.laws.OneMap.{one_map}
+use Rattle.pg_map.specs.Holding.{Holds, Recovers}
+use Rattle.pg_map.specs.laws.OneMap.{one_map}
 use Rattle.pg_heap.specs.Recovering.{IsEitherMap, recovered}
 
 -- ---- one recovery

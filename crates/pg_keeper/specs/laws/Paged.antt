@@ -14,12 +14,12 @@ use Rattle.ct_keep.specs.declared.keepers.KeepFault.TheVariants.{Memory, Disk, F
 use Rattle.ct_keep.specs.Content.{Content, Change, after}
 use Rattle.ct_keep.specs.Changes.{AreWell, HoldsWell}
 use Rattle.ct_keep.specs.WellLaws.{holds_after}
-use Rattle.ct_keep.specs.KeeperViews.{AnswersCommit, KeeperView, Counts, IsDurable, Goes, Reads, SameButContent, KeeperHears, KeeperSays, UnlessDisk}
+use Rattle.ct_keep.specs.KeeperViews.{AnswersCommit, KeeperView, Counts, IsDurable, Goes, ReadsKeeper, SameButContent, KeeperHears, KeeperSays, UnlessDisk}
 use Rattle.pg_journal.specs.Standing.{DiskStands}
 use Rattle.pg_journal.specs.Recovered.{IsRecovered}
 use Rattle.pg_heap.specs.Heaps.{HeapState, HeapStands, IsMap}
-use Rattle.pg_heap.specs.Holding.{Recovers, Holds}
-use Rattle.pg_heap.specs.MapReading.{behind_root}
+use Rattle.pg_map.specs.Holding.{Recovers, Holds}
+use Rattle.pg_map.specs.MapReading.{behind_root}
 use Rattle.pg_heap.specs.Recovering.{recovered}
 use Rattle.pg_heap.specs.laws.Recovering.{one_recovery, recovered_passes}
 use Rattle.pg_keeper.specs.Paged.{IsUsable, told_content, LeavesNow, paged_view}
@@ -148,7 +148,7 @@ module _ (old new : DiskView) (heap : HeapState) (well : List ℕ → List ℕ �
 -- a look-up that succeeded or found no memory, after which the disk and the heap are as they were
 pub looked : (disk : DiskView) (heap : HeapState) (well : List ℕ → List ℕ → Type 0) (limit : ℕ) (counts after_it : Counts) (lender : GName) (fault : Option KeepFault) → IsUsable disk heap well
     → (fault ≡ None) ⊎ (fault ≡ Some Memory) → after_it.fulls ≡ counts.fulls → after_it.commits ≡ counts.commits
-    → Reads (paged_view disk heap well limit counts lender) (paged_view disk heap well limit after_it lender) fault
+    → ReadsKeeper (paged_view disk heap well limit counts lender) (paged_view disk heap well limit after_it lender) fault
 looked disk heap well limit counts after_it lender fault ready how fulls commits = ⊎_elim (λ none. rw none succeeded) (λ short. rw short failed) how
   where
     old : KeeperView
@@ -157,7 +157,7 @@ looked disk heap well limit counts after_it lender fault ready how fulls commits
     new : KeeperView
     new = paged_view disk heap well limit after_it lender
 
-    succeeded : Reads old new None
+    succeeded : ReadsKeeper old new None
     succeeded = record {
       not_full = λ e. cc;
       kept = record { ready = ready; beside = refl; well = record { takes = λ key value is. is }; fixed = refl; later = omega arith; cause = refl };
@@ -168,7 +168,7 @@ looked disk heap well limit counts after_it lender fault ready how fulls commits
       commits = commits;
     }
 
-    failed : Reads old new (Some Memory)
+    failed : ReadsKeeper old new (Some Memory)
     failed = record {
       not_full = λ e. cc;
       kept = record { ready = ready; beside = refl; well = record { takes = λ key value is. is }; fixed = refl; later = omega arith; cause = refl };

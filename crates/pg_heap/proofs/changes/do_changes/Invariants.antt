@@ -1,7 +1,7 @@
 use Rattle.std.proofs.Common.{◌≡◌, map, take}
 use Rattle.ct_keep.specs.Content.{Content}
 use Rattle.ct_keep.specs.SeenChanges.{change_of}
-use Rattle.pg_heap.specs.Planned.{IsDone}
+use Rattle.pg_map.specs.Done.{IsDone}
 use Rattle.pg_heap.specs.PlanSteps.{IsIndexed, MakesChanges}
 use Rattle.pg_heap.proofs.Stepping.{GrowsAlong}
 use Rattle.pg_heap.proofs.changes.do_changes.Given as goal

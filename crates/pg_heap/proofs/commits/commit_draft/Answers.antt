@@ -3,7 +3,7 @@ use Rattle.ct_site.specs.Lengths.{Lengthens}
 use Rattle.pg_journal.specs.Recovered.{number_pages}
 use Rattle.pg_journal.specs.Standing.{homes_with}
 use Rattle.pg_journal.specs.Standing.{DiskStands}
-use Rattle.pg_heap.specs.MapReading.{behind_root}
+use Rattle.pg_map.specs.MapReading.{behind_root}
 use Rattle.pg_heap.specs.Committing.{IsBatchOf}
 use Rattle.pg_heap.specs.laws.Committing.{homes_said, stays_either, same_pages, may_commit, commit_leaves, pages_now}
 use Rattle.pg_heap.proofs.commits.commit_draft.Goals as goal

@@ -1,7 +1,7 @@
 use Rattle.std.proofs.Common.{rules, arith, sym, ap, refl, ◌∙◌, ◌≡◌, [], List}
 use Rattle.pg_heap.specs.declared.drafts.Note.{Note}
 use Rattle.pg_heap.specs.Drafts.{undone}
-use Rattle.pg_heap.specs.Sheets.{kinds_of}
+use Rattle.pg_map.specs.Sheets.{sheet_kinds}
 use Rattle.pg_heap.proofs.Drafting.{undoes_step, undoes_within}
 use Rattle.pg_heap.proofs.drafts.undo.Goals as goal
 
@@ -22,4 +22,4 @@ loop-note-preserved c =
 pub returns : goal.returns
 returns c =
     let none : c.loop-note.notes.items ≡ [] = search rules in
-    ap (λ (l : List Note). undone l (kinds_of c.loop-note.sheets.items)) (sym none) ∙ c.loop-note.invariant.same_
+    ap (λ (l : List Note). undone l (sheet_kinds c.loop-note.sheets.items)) (sym none) ∙ c.loop-note.invariant.same_

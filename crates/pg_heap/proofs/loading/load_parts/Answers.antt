@@ -4,7 +4,7 @@ use Rattle.std.proofs.lemmas.Result.{err_from_is_err_and}
 use Rattle.pg_journal.specs.declared.faults.LoadFault.TheVariants.{NotAStore}
 use Rattle.pg_journal.specs.Recovered.{Alike}
 use Rattle.pg_journal.specs.laws.Recovered.{born_or_not}
-use Rattle.pg_heap.specs.Sheets.{kinds_of}
+use Rattle.pg_map.specs.Sheets.{sheet_kinds}
 use Rattle.pg_heap.proofs.Loadings.{reads_leave, refused_same, refused_writes, none_stored, none_of_kinds, none_laid, is_loaded, fault_is, no_map, map_found}
 use Rattle.pg_heap.proofs.loading.load_parts.Goals as goal
 
@@ -46,13 +46,13 @@ returns-in_err-sheets-clause-no_store g c = λ image settled is.
 pub returns-in_default-found-clause-no_store : goal.returns-in_default-found-clause-no_store
 returns-in_default-found-clause-no_store g c = λ image settled is.
     let l = c.in_ok-journal.ensures.loaded image settled in
-    none_laid image l.pages (kinds_of c.in_ok-sheets.sheets.items) l.recovered (c.in_ok-sheets.ensures.pages l.pages l.stands)
+    none_laid image l.pages (sheet_kinds c.in_ok-sheets.sheets.items) l.recovered (c.in_ok-sheets.ensures.pages l.pages l.stands)
     (no_map c.in-Ok.found c.deref.result.now c.in_ok-sheets.sheets.items c.in-Ok.ensures c.in_default-found.is c.deref.ensures.value)
 
 pub returns-clause-loaded : goal.returns-clause-loaded
 returns-clause-loaded g c = λ image settled.
     let l = c.in_ok-journal.ensures.loaded image settled in
-    is_loaded image _ _ _ (kinds_of c.in_ok-sheets.sheets.items) c.in-Some.held l c.load_sheets.ensures.same (c.in_ok-sheets.ensures.pages l.pages l.stands)
+    is_loaded image _ _ _ (sheet_kinds c.in_ok-sheets.sheets.items) c.in-Some.held l c.load_sheets.ensures.same (c.in_ok-sheets.ensures.pages l.pages l.stands)
     (map_found c.in-Ok.found c.in-Some.held c.in-Some.places c.deref.result.now c.in_ok-sheets.sheets.items c.in-Ok.ensures c.in-Some.is c.deref.ensures.value).0
 
 -- ---- what is refused is left as it was
@@ -72,6 +72,6 @@ returns-in_err-sheets-clause-refused g c = λ image settled shut is.
 pub returns-in_default-found-clause-refused : goal.returns-in_default-found-clause-refused
 returns-in_default-found-clause-refused g c = λ image settled shut is.
     let l = c.in_ok-journal.ensures.loaded image settled in
-    let none = none_laid image l.pages (kinds_of c.in_ok-sheets.sheets.items) l.recovered (c.in_ok-sheets.ensures.pages l.pages l.stands)
+    let none = none_laid image l.pages (sheet_kinds c.in_ok-sheets.sheets.items) l.recovered (c.in_ok-sheets.ensures.pages l.pages l.stands)
     (no_map c.in-Ok.found c.deref.result.now c.in_ok-sheets.sheets.items c.in-Ok.ensures c.in_default-found.is c.deref.ensures.value) in
     refused_same image _ _ _ _ l none (λ store. c.load.ensures.kept image settled.told (record { born = λ unborn. born_or_not image unborn store; shut = shut })) c.load_sheets.ensures.same

@@ -1,6 +1,6 @@
 use Rattle.pg_heap.proofs.Planning.{page_laid}
 use Rattle.std.proofs.Common.{ap, ◌∙◌, set, List, ℕ}
-use Rattle.pg_heap.specs.Kinds.{Long}
+use Rattle.pg_map.specs.Kinds.{Long}
 use Rattle.pg_heap.specs.Drafts.{Drafted}
 use Rattle.pg_heap.proofs.plans.put_page.Goals as goal
 

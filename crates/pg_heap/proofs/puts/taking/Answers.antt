@@ -1,5 +1,5 @@
 use Rattle.std.proofs.Common.{arith, sym, ap, ◌∙◌}
-use Rattle.pg_heap.specs.Sheets.{kind_of}
+use Rattle.pg_map.specs.Sheets.{sheet_kind}
 use Rattle.pg_heap.proofs.puts.taking.Goals as goal
 
 pub overflow_cast-number : goal.overflow_cast-number
@@ -9,7 +9,7 @@ pub returns-clause-some : goal.returns-clause-some
 returns-clause-some c = record {
   within = omega (arith, c.if-at-count.false, c.count.ensures);
   strings = c.in-Slotted.page;
-  kind = sym c.sheet.ensures ∙ ap kind_of c.in-Slotted.is;
+  kind = sym c.sheet.ensures ∙ ap sheet_kind c.in-Slotted.is;
   number = c.in_ok-number.number;
   key_is = c.in_ok-number.ensures.some;
   rest_is = c.without.ensures;

@@ -1,8 +1,9 @@
 use Rattle.std.proofs.Common.{sym, ap, ◌∙◌, ℕ, List, nat_eq}
 use Rattle.std.specs.Cmp.Lexicographic.{pointwise}
 use Rattle.std.proofs.lemmas.Bool.{false≢true}
-use Rattle.pg_heap.proofs.Copying.{item_key, same_as_itself}
-use Rattle.pg_heap.specs.PageStrings.{string_key}
+use Rattle.pg_map.specs.laws.PageStrings.{item_key}
+use Rattle.ct_base.specs.laws.Lists.{same_as_itself}
+use Rattle.pg_map.specs.PageStrings.{string_key}
 use Rattle.pg_heap.proofs.slots.is_of.Goals as goal
 
 pub returns-in-Some-clause-no : goal.returns-in-Some-clause-no

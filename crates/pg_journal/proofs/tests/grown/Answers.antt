@@ -2,12 +2,13 @@ use Rattle.std.proofs.Common.{rules, ◌≡◌, ◌≤◌, inl, inr, ℕ, List, 
 use Rattle.pg_journal.specs.BatchStates.{BatchState}
 use Rattle.pg_journal.specs.Pages.{root_page, homes_in, with_more}
 use Rattle.pg_journal.specs.Standing.{MayCommit}
-use Rattle.pg_journal.proofs.Birth.{root_of, length-root}
+use Rattle.pg_journal.specs.laws.PageRuns.{root_homes}
+use Rattle.pg_journal.proofs.Birth.{length-root}
 use Rattle.pg_journal.proofs.tests.grown.Goals as goal
 
 may : (root b : List ℕ) → root ≡ root_page 4 → length b ≡ 4096 → (homes : ℕ) → 3 ≤ homes → MayCommit homes ((2, root) ∷ (3, b) ∷ [])
 may root b is long homes least =
-    let four : homes_in root ≡ 4 = ap (λ (l : List ℕ). homes_in l) is ∙ root_of 4 (omega arith) in
+    let four : homes_in root ≡ 4 = ap (λ (l : List ℕ). homes_in l) is ∙ root_homes 4 (omega arith) in
     let whole : length root ≡ 4096 = ap (λ (l : List ℕ). length l) is ∙ length-root 4 in
     record {
       some = omega arith;

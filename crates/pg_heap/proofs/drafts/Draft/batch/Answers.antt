@@ -1,5 +1,5 @@
 use Rattle.std.proofs.Common.{rules, arith, refl, sym, ap, subst, ◌≤◌, ◌+◌, ℕ, length, List}
-use Rattle.pg_heap.specs.Kinds.{kind_bytes}
+use Rattle.pg_map.specs.Kinds.{bytes_of_kind}
 use Rattle.pg_heap.specs.Drafts.{Drafted, touched_by}
 use Rattle.pg_heap.specs.declared.drafts.Note.{Note}
 use Rattle.std.specs.List.Sorted.{IsPermutation}
@@ -44,7 +44,7 @@ loop-i-preserved c =
     c.loop-i-test.true (omega (arith, c.len-i-end.ensures)) c.index-at.ensures (ap (λ (d : Drafted). d.now) c.self.view_is) c.requires.count in
     subst (λ (r : ℕ). Batching c.self.inside.sheets.items c.in_ok-places.places.items c.self.inside.before (c.loop-i.i + 1) r c.put_page.new.batch.pages) (sym c.put_page.ensures.room)
     (batching_more c.self.inside.sheets.items c.in_ok-places.places.items c.self.inside.before c.loop-i.i _ c.loop-i.batch.room c.loop-i.batch.pages c.put_page.new.batch.pages c.index-at.result.now _ _ c.loop-i.invariant refl
-    p.is refl p.within (ap kind_bytes (sym (kind_got c.self.inside.sheets.items c.index-at.result.now c.index.result.now p.within c.index.ensures))) c.put_page.ensures.pages)
+    p.is refl p.within (ap bytes_of_kind (sym (kind_got c.self.inside.sheets.items c.index-at.result.now c.index.result.now p.within c.index.ensures))) c.put_page.ensures.pages)
 
 pub returns-clause-batch : goal.returns-clause-batch
 returns-clause-batch c =

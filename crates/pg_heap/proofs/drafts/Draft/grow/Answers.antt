@@ -1,6 +1,6 @@
 use Rattle.std.proofs.Common.{rules, arith, ap, ◌∙◌, ◌≡◌, ◌++◌, ◌∷◌, [], List, length}
 use Rattle.pg_heap.specs.declared.drafts.Note.{Note}
-use Rattle.pg_heap.specs.declared.sheets.Sheet.TheVariants.{Free as FreeSheet}
+use Rattle.pg_map.specs.declared.sheets.Sheet.TheVariants.{Free as FreeSheet}
 use Rattle.pg_heap.proofs.Drafting.{grow_view, draft_grown}
 use Rattle.pg_heap.proofs.drafts.Draft.grow.Goals as goal
 

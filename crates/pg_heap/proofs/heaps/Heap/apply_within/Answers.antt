@@ -1,6 +1,6 @@
 use Rattle.std.proofs.Common.{ap, subst, ◌∙◌, ◌≡◌, ◌+◌, length}
-use Rattle.pg_heap.specs.Sheets.{kinds_of}
-use Rattle.pg_heap.specs.Planned.{IsDone}
+use Rattle.pg_map.specs.Sheets.{sheet_kinds}
+use Rattle.pg_map.specs.Done.{IsDone}
 use Rattle.pg_heap.specs.laws.Committing.{done_holds}
 use Rattle.pg_heap.specs.Heaps.{HeapState}
 use Rattle.pg_heap.specs.declared.pages.Pages.{Pages}
@@ -12,7 +12,7 @@ returns-in_default-clause-moments g c =
     let heap = c.args.self.now in
     let view = c.self.view_is in
     let old_pages = c.replace-pages.ensures.value in
-    let before_is = c.make.ensures.same.kinds ∙ c.begin-plan.ensures.kinds ∙ ap (λ (p : Pages). kinds_of p.sheets.items) old_pages ∙ ap (λ (h : HeapState). h.kinds) view in
+    let before_is = c.make.ensures.same.kinds ∙ c.begin-plan.ensures.kinds ∙ ap (λ (p : Pages). sheet_kinds p.sheets.items) old_pages ∙ ap (λ (h : HeapState). h.kinds) view in
     let m_is = c.make.ensures.same.entries ∙ c.begin-plan.ensures.entries ∙ ap (λ (p : Pages). p.held) old_pages ∙ ap (λ (h : HeapState). h.held) view in
     let done = subst (λ (h : HeapState). IsDone h.kinds h.held) view c.self.invariant.sound.done in
     let made = c.in-Ok.ensures.made in
@@ -24,7 +24,7 @@ returns-in-Err-clause-moments g c =
     let heap = c.args.self.now in
     let view = c.self.view_is in
     let old_pages = c.replace-pages.ensures.value in
-    let before_is = c.make.ensures.same.kinds ∙ c.begin-plan.ensures.kinds ∙ ap (λ (p : Pages). kinds_of p.sheets.items) old_pages ∙ ap (λ (h : HeapState). h.kinds) view in
+    let before_is = c.make.ensures.same.kinds ∙ c.begin-plan.ensures.kinds ∙ ap (λ (p : Pages). sheet_kinds p.sheets.items) old_pages ∙ ap (λ (h : HeapState). h.kinds) view in
     let m_is = c.make.ensures.same.entries ∙ c.begin-plan.ensures.entries ∙ ap (λ (p : Pages). p.held) old_pages ∙ ap (λ (h : HeapState). h.held) view in
     let done = subst (λ (h : HeapState). IsDone h.kinds h.held) view c.self.invariant.sound.done in
     let made = c.in-Ok.ensures.made in
@@ -35,7 +35,7 @@ pub returns-in_default-clause-length : goal.returns-in_default-clause-length
 returns-in_default-clause-length g c =
     let view = c.self.view_is in
     let old_pages = c.replace-pages.ensures.value in
-    let before_is = c.make.ensures.same.kinds ∙ c.begin-plan.ensures.kinds ∙ ap (λ (p : Pages). kinds_of p.sheets.items) old_pages ∙ ap (λ (h : HeapState). h.kinds) view in
+    let before_is = c.make.ensures.same.kinds ∙ c.begin-plan.ensures.kinds ∙ ap (λ (p : Pages). sheet_kinds p.sheets.items) old_pages ∙ ap (λ (h : HeapState). h.kinds) view in
     let m_is = c.make.ensures.same.entries ∙ c.begin-plan.ensures.entries ∙ ap (λ (p : Pages). p.held) old_pages ∙ ap (λ (h : HeapState). h.held) view in
     let made = c.in-Ok.ensures.made in
     commit_length (g.D.Disk.disk c.args.disk.now) (g.D.Disk.disk c.commit_draft.new.disk) c.make.new.self.draft.before c.make.new.self.draft.now (length c.in-Ok.pages.pages) c.make.new.self.entries.before c.args.batch.now c.args.self.now
@@ -45,7 +45,7 @@ pub returns-in_default-clause-length_failed : goal.returns-in_default-clause-len
 returns-in_default-clause-length_failed g c = λ _.
     let view = c.self.view_is in
     let old_pages = c.replace-pages.ensures.value in
-    let before_is = c.make.ensures.same.kinds ∙ c.begin-plan.ensures.kinds ∙ ap (λ (p : Pages). kinds_of p.sheets.items) old_pages ∙ ap (λ (h : HeapState). h.kinds) view in
+    let before_is = c.make.ensures.same.kinds ∙ c.begin-plan.ensures.kinds ∙ ap (λ (p : Pages). sheet_kinds p.sheets.items) old_pages ∙ ap (λ (h : HeapState). h.kinds) view in
     let m_is = c.make.ensures.same.entries ∙ c.begin-plan.ensures.entries ∙ ap (λ (p : Pages). p.held) old_pages ∙ ap (λ (h : HeapState). h.held) view in
     let made = c.in-Ok.ensures.made in
     commit_length (g.D.Disk.disk c.args.disk.now) (g.D.Disk.disk c.commit_draft.new.disk) c.make.new.self.draft.before c.make.new.self.draft.now (length c.in-Ok.pages.pages) c.make.new.self.entries.before c.args.batch.now c.args.self.now
@@ -55,7 +55,7 @@ pub returns-in-Err-clause-length_failed : goal.returns-in-Err-clause-length_fail
 returns-in-Err-clause-length_failed g c = λ _.
     let view = c.self.view_is in
     let old_pages = c.replace-pages.ensures.value in
-    let before_is = c.make.ensures.same.kinds ∙ c.begin-plan.ensures.kinds ∙ ap (λ (p : Pages). kinds_of p.sheets.items) old_pages ∙ ap (λ (h : HeapState). h.kinds) view in
+    let before_is = c.make.ensures.same.kinds ∙ c.begin-plan.ensures.kinds ∙ ap (λ (p : Pages). sheet_kinds p.sheets.items) old_pages ∙ ap (λ (h : HeapState). h.kinds) view in
     let m_is = c.make.ensures.same.entries ∙ c.begin-plan.ensures.entries ∙ ap (λ (p : Pages). p.held) old_pages ∙ ap (λ (h : HeapState). h.held) view in
     let made = c.in-Ok.ensures.made in
     commit_length (g.D.Disk.disk c.args.disk.now) (g.D.Disk.disk c.commit_draft.new.disk) c.make.new.self.draft.before c.make.new.self.draft.now (length c.in-Ok.pages.pages) c.make.new.self.entries.before c.args.batch.now c.args.self.now
@@ -75,7 +75,7 @@ returns-then-passes-clause-moments g c =
     same_moments (g.D.Disk.disk c.args.disk.now) c.args.batch.now c.args.self.now (subst (λ (h : HeapState). IsDone h.kinds h.held) c.self.view_is c.self.invariant.sound.done)
 
 pub returns-in_default-clause-whole : goal.returns-in_default-clause-whole
-returns-in_default-clause-whole g c = done_holds (kinds_of c.forget.new.self.sheets.items) c.forget.new.self.held c.forget.ensures.sound.done
+returns-in_default-clause-whole g c = done_holds (sheet_kinds c.forget.new.self.sheets.items) c.forget.new.self.held c.forget.ensures.sound.done
 
 pub returns-in_default-clause-answers : goal.returns-in_default-clause-answers
 returns-in_default-clause-answers g c =

@@ -1,0 +1,16 @@
+-- Runs of pages, and how many pages the page of roots says that there are.
+use Rattle.std.proofs.Common.{◌≡◌, ℕ, zero, suc, ◌+◌, ◌≤◌, ◌<◌, ◌^◌, List, ◌∷◌, refl, ap, ◌∙◌, arith}
+use Rattle.std.proofs.lemmas.Nat.{from_be_bytes-to_be_bytes_4}
+use Rattle.pg_journal.specs.Pages.{homes_in, root_page, pages_from}
+
+-- pages that are the same one by one are the same run
+pub pages_same : (f g : ℕ → List ℕ) (i n : ℕ) → ((k : ℕ) → i ≤ k → k < i + n → f k ≡ g k) → pages_from f i n ≡ pages_from g i n
+pages_same f g i zero same = refl
+pages_same f g i (suc n) same =
+    ap (λ (l : List ℕ). l ∷ pages_from f (suc i) n) (same i (omega arith) (omega arith))
+    ∙ ap (λ (l : List (List ℕ)). g i ∷ l) (pages_same f g (suc i) n (λ k least less. same k (omega (arith, least)) (omega (arith, less))))
+
+-- the page of roots that is written for so many pages tells so many
+pub root_homes : (n : ℕ) → n < 2 ^ 32 → homes_in (root_page n) ≡ n
+unfolding root_page
+root_homes n small = from_be_bytes-to_be_bytes_4 n small

@@ -1,0 +1,14 @@
+pub mod ChainReading
+pub mod Done
+pub mod Holding
+pub mod ItemReading
+pub mod Kinds
+pub mod Loose
+pub mod MapLaws
+pub mod MapReading
+pub mod PageStrings
+pub mod Places
+pub mod Readings
+pub mod SheetReading
+pub mod Sheets
+pub mod laws

@@ -1,0 +1,7 @@
+pub mod Holding
+pub mod Loose
+pub mod MapReading
+pub mod OneMap
+pub mod PageStrings
+pub mod Sheets
+pub mod Whole

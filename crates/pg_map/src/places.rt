@@ -1,0 +1,166 @@
+//! Where each key stands.
+
+ghost use Rattle.std.specs.Prelude.{◌≡◌, IfOk, IsSome, OnOk, OnErr, None};
+ghost use Rattle.std.specs.FinMap.{get, insert, remove, empty};
+ghost use Rattle.pg_map.specs.Places.{place_to, undone_places, ArePlaced};
+
+use ct_base::Memory;
+use std::alloc::Global;
+use std::collections::BTreeMap;
+use std::marker::Model;
+
+/// The place of the page on which each key stands. The place of a key that has no entry means nothing.
+#[derive(Debug, Drop)]
+pub struct Places {
+    places: BTreeMap<Vec<u8>, usize>,
+}
+
+impl Model for Places {
+    ghost use Rattle.std.specs.BTreeMap.{IsOrdered};
+    ghost use Rattle.ct_keep.specs.Pairs.{byte_order};
+    ghost use Rattle.pg_map.specs.Places.{PagePlaces, place_code, page_places};
+
+    ghost Value = { PagePlaces };
+
+    ghost coded = { place_code };
+
+    ghost view = { λ p. page_places p.places.entries };
+
+    ghost invariant = { λ p. IsOrdered byte_order p.places };
+}
+
+impl Places {
+    /// No places. It takes no memory.
+    pub fn new(alloc: Global) -> Places
+        ensures { result ≡ empty }
+    {
+        Places {
+            places: BTreeMap::new(alloc),
+        }
+    }
+
+    /// The place of a key. Its cost is the logarithm of the number of keys.
+    pub fn place(&self, key: &[u8]) -> Option<usize>
+        ensures { result ≡ get self.now key.now }
+    {
+        self.places.get(key).copied()
+    }
+
+    /// Gives a key a place, and gives back the one that it had. It fails only where the key is new.
+    pub fn put(&mut self, key: Vec<u8>, at: usize) -> Result<Option<usize>, Memory>
+        ensures ok { OnOk result (self.new ≡ insert self.old key.items at) }
+        ensures before { IfOk result (λ was. was ≡ get self.old key.items) }
+        ensures err { OnErr result (self.new ≡ self.old) }
+        ensures absent { OnErr result (get self.old key.items ≡ None) }
+    {
+        Ok(self.places.insert(key, at)?)
+    }
+
+    /// Takes a key out. It takes no memory.
+    pub fn remove(&mut self, key: &[u8])
+        ensures { self.new ≡ remove self.old key.now }
+    {
+        let _ = self.places.remove(key);
+    }
+
+    /// Undoes a change, which takes no memory.
+    fn restore(&mut self, old: OldPlace)
+        requires { IsSome old.place → IsSome (get self.old old.key.items) }
+        ensures { self.new ≡ place_to old.key.items old.place self.old }
+    {
+        let OldPlace { key, place } = old;
+        match place {
+            Some(at) => {
+                let Ok(_) = self.put(key, at) else {
+                    unreachable!()
+                };
+            }
+            None => self.remove(&key),
+        }
+    }
+
+    /// Undoes changes, the last of them first. It takes no memory.
+    fn undo(&mut self, mut undo_log: Vec<OldPlace>)
+        requires { ArePlaced undo_log.items self.old }
+        ensures { self.new ≡ undone_places undo_log.items self.old }
+    {
+        while let Some(old) = undo_log.pop() {
+            self.restore(old);
+        }
+    }
+}
+
+/// The place that a key had before it was changed.
+#[derive(Debug, Drop)]
+pub(crate) struct OldPlace {
+    key: Vec<u8>,
+    place: Option<usize>,
+}
+
+/// Places that are changed one by one, and can go back to what they were without taking memory.
+#[derive(Debug, Drop)]
+pub struct PlaceChanges {
+    places: Places,
+    undo_log: Vec<OldPlace>,
+}
+
+impl Model for PlaceChanges {
+    ghost use Rattle.ct_keep.specs.Content.{Content};
+    ghost use Rattle.pg_map.specs.Places.{PlaceChangesState, place_changes_code, undone_places, ArePlaced};
+
+    ghost Value = { PlaceChangesState };
+
+    ghost coded = { place_changes_code };
+
+    ghost view = { λ c. record { before = undone_places c.undo_log.items c.places; now = c.places } };
+
+    ghost invariant = { λ c. ArePlaced c.undo_log.items c.places };
+}
+
+impl PlaceChanges {
+    /// Begins with places as they are. It takes no memory.
+    pub fn begin(alloc: Global, places: Places) -> PlaceChanges
+        ensures { result ≡ record { before = places; now = places } }
+    {
+        PlaceChanges {
+            places,
+            undo_log: Vec::new(alloc),
+        }
+    }
+
+    /// The place of a key as it is now.
+    pub fn place(&self, key: &[u8]) -> Option<usize>
+        ensures { result ≡ get self.now.now key.now }
+    {
+        self.places.place(key)
+    }
+
+    /// Gives a key a place.
+    pub fn put(&mut self, alloc: Global, key: &[u8], at: usize) -> Result<(), Memory>
+        ensures before { self.new.before ≡ self.old.before }
+        ensures now { OnOk result (self.new.now ≡ insert self.old.now key.now at) }
+    {
+        let copy = Vec::from_slice(alloc, key)?;
+        let key = Vec::from_slice(alloc, key)?;
+        self.undo_log.reserve(1)?;
+        let place = self.places.put(key, at)?;
+        self.undo_log.push_reserved(OldPlace { key: copy, place });
+        Ok(())
+    }
+
+    /// The places as they are now.
+    pub fn finish(self) -> Places
+        ensures { result ≡ self.now }
+    {
+        self.places
+    }
+
+    /// The places as they were. It takes no memory.
+    pub fn roll_back(self) -> Places
+        ensures { result ≡ self.before }
+    {
+        let mut places = self.places;
+        places.undo(self.undo_log);
+        places
+    }
+}

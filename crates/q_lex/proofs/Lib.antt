@@ -1,0 +1,5 @@
+pub mod Scans
+pub mod Unclosed
+pub mod Braces
+pub mod WordSteps
+pub mod Numbers

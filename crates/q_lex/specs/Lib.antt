@@ -1,0 +1,3 @@
+pub mod Words
+pub mod Lexing
+pub mod Runs
