@@ -18,8 +18,5 @@ pairs_more f os i o within is =
     ∙ map-append f so_far (seen_term (get_or os i o) ∷ [])
     ∙ ap (λ (t : TermFeed). map f so_far ++ f (seen_term t) ∷ []) (sym is)
 
-pub order_more : (os : List (Vec Pair)) (o : Vec Pair) → EachInOrder (pairs_view os) → StartsInOrder o.items → EachInOrder (pairs_view (os ++ o ∷ []))
-order_more os o h k = subst EachInOrder (sym (pairs_push os o)) (each_in_order_push (pairs_view os) o.items h k)
-
 pub same_more : (f : List Slots → List Pair) (vs : List (Vec Pair)) (v : Vec Pair) (os : List TermFeed) (i : ℕ) (o : TermFeed) → i < length os → o ≡ get_or os i o → EachSame (pairs_view vs) (map f (seen_operands (take i os))) → SamePairs v.items (f (seen_term o)) → EachSame (pairs_view (vs ++ v ∷ [])) (map f (seen_operands (take (i + 1) os)))
 same_more f vs v os i o within is h k = rw (pairs_push vs v, pairs_more f os i o within is) (each_same_push (pairs_view vs) (map f (seen_operands (take i os))) v.items (f (seen_term o)) h k)

@@ -5,7 +5,7 @@ use Rattle.ct_base.specs.declared.numbers.Pair.{Pair}
 use Rattle.q_tree.specs.Scores.{near_score}
 use Rattle.ix_cursor.specs.declared.feeds.TermFeed.{TermFeed}
 use Rattle.std.proofs.lemmas.Bool.{cases_lt}
-use Rattle.ix_spans.specs.Occurrences.{Slots, has, fits_at, occurs_at, is_start, phrase_pairs, pairs_from, term_score, term_pairs, choices}
+use Rattle.ix_spans.specs.Occurrences.{Slots, has_number, fits_at, occurs_at, is_start, phrase_pairs, pairs_from, term_score, term_pairs, choices}
 use Rattle.ix_posting.specs.declared.rows.RowDocument.{RowDocument}
 use Rattle.ix_cursor.specs.declared.feeds.TokenFeeds.{TokenFeeds}
 use Rattle.ix_spans.specs.Rising.{Rising}
@@ -13,8 +13,9 @@ use Rattle.ix_spans.specs.Slots.{SlotRises, SlotsRise}
 use Rattle.q_tree.specs.Documents.{put_all}
 use Rattle.q_tree.specs.laws.Postings.{put_all_rises}
 use Rattle.ix_cursor.specs.declared.feeds.PhraseFeed.{PhraseFeed}
-use Rattle.ix_cursor.specs.Documents.{places_at}
-use Rattle.ix_cursor.specs.Seeking.{Keeps, Bounds, Before, later, earlier}
+use Rattle.ix_lists.specs.Documents.{places_at}
+use Rattle.ix_lists.specs.Seeking.{SameFrom, NothingBefore, Before}
+use Rattle.ix_cursor.specs.Bounding.{later, earlier}
 use Rattle.ix_cursor.specs.Feeding.{SlotDocuments, union_at, slot_at, slots_at, phrases_at, IsVacant, IsSilent, AreSilent, HasSilent, term_at, operands_at}
 
 -- ---- bounds
@@ -74,7 +75,7 @@ vacant_silent (Some ds ∷ os) (suc i) e d within h lo hi =
     let none : (p : ℕ) → is_start rest lo hi p ≡ false = λ p. ap (λ b. (nat_le lo p && nat_le (p + length rest) hi) && b) (vacant_occurs rest i (slot_at e d) (p + 1) (rw (slots_length os d) (omega (arith, within))) (rw (slot_of os i e d) h)) ∙ and_false _ in
     ap (pairs_from (length rest)) (filter_none (is_start rest lo hi) (union_at ds.tokens.items d) none)
 
-pub bound_more : (os : SlotDocuments) (i : ℕ) (o : Option TokenFeeds) (x y : Option ℕ) → i < length os → o ≡ get_or os i o → Bounds IsSilent (slots_at os) x → Bounds IsVacant (slot_at o) y → Bounds IsSilent (slots_at os) (later x y)
+pub bound_more : (os : SlotDocuments) (i : ℕ) (o : Option TokenFeeds) (x y : Option ℕ) → i < length os → o ≡ get_or os i o → NothingBefore IsSilent (slots_at os) x → NothingBefore IsVacant (slot_at o) y → NothingBefore IsSilent (slots_at os) (later x y)
 bound_more os i o x y within is whole one d before = go (before_later x y d before)
   where
     go : Before x d ⊎ Before y d → IsSilent (slots_at os d)
@@ -104,7 +105,7 @@ silent_operand [] i o d within is h = absurd (omega (arith, within))
 silent_operand (y ∷ os) zero o d within is h = inl (subst (λ (w : TermFeed). AreSilent (term_at w d)) is h)
 silent_operand (y ∷ os) (suc i) o d within is h = inr (silent_operand os i o d (omega (arith, within)) is h)
 
-pub operands_more : (os : List TermFeed) (i : ℕ) (o : TermFeed) (x y : Option ℕ) → i < length os → o ≡ get_or os i o → Bounds HasSilent (operands_at os) x → Bounds AreSilent (term_at o) y → Bounds HasSilent (operands_at os) (later x y)
+pub operands_more : (os : List TermFeed) (i : ℕ) (o : TermFeed) (x y : Option ℕ) → i < length os → o ≡ get_or os i o → NothingBefore HasSilent (operands_at os) x → NothingBefore AreSilent (term_at o) y → NothingBefore HasSilent (operands_at os) (later x y)
 operands_more os i o x y within is whole one d before = go (before_later x y d before)
   where
     go : Before x d ⊎ Before y d → HasSilent (operands_at os d)

@@ -1,12 +1,12 @@
 -- What the feeds of a query's parts have of each document.
-use Rattle.std.specs.Prelude.{ℕ, ◌≡◌, ◌⊎◌, List, [], ◌∷◌, map, Option, Some, None}
+use Rattle.std.specs.Prelude.{ℕ, ◌≡◌, ◌⊎◌, List, [], ◌∷◌, map, Option, Some, None, refl}
 use Rattle.ix_spans.specs.Occurrences.{Slots, phrase_pairs}
 use Rattle.ix_posting.specs.declared.rows.RowDocument.{RowDocument}
 use Rattle.q_tree.specs.Documents.{put_all}
 use Rattle.ix_cursor.specs.declared.feeds.TokenFeeds.{TokenFeeds}
 use Rattle.ix_cursor.specs.declared.feeds.PhraseFeed.{PhraseFeed}
 use Rattle.ix_cursor.specs.declared.feeds.TermFeed.{TermFeed}
-use Rattle.ix_cursor.specs.Documents.{places_at}
+use Rattle.ix_lists.specs.Documents.{places_at}
 
 -- the positions that several tokens have in a document, each once
 abbrev pub union_at : List (List RowDocument) → ℕ → List ℕ
@@ -54,3 +54,17 @@ term_at t d = phrases_at t.phrases.items d
 
 abbrev pub operands_at : List TermFeed → ℕ → List (List Slots)
 operands_at os d = map (λ o. term_at o d) os
+
+-- ---- computed examples: two tokens of a slot stand at 1 and 4, and at 2 and 4, of the document 3
+
+abbrev in_3 : List ℕ → List RowDocument
+in_3 ps = record { document = 3; positions = ps } ∷ []
+
+each_position_once : union_at (in_3 (1 ∷ 4 ∷ []) ∷ in_3 (2 ∷ 4 ∷ []) ∷ []) 3 ≡ 1 ∷ 2 ∷ 4 ∷ []
+each_position_once = refl
+
+in_no_other_document : union_at (in_3 (1 ∷ 4 ∷ []) ∷ []) 4 ≡ []
+in_no_other_document = refl
+
+any_word : slot_at None 3 ≡ None
+any_word = refl

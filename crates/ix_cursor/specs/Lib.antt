@@ -1,9 +1,4 @@
-pub mod Encoded
-pub mod EncodedSpans
-pub mod Numbers
-pub mod Documents
-pub mod SpanDocuments
-pub mod Seeking
+pub mod Bounding
 pub mod Feeding
 pub mod Seen
 pub mod Nodes

@@ -1,14 +1,14 @@
 -- The scores of a cursor's nodes.
-use Rattle.std.specs.Prelude.{ℕ, ◌≡◌, ◌-◌, ◌≤◌, min, max, List, Option}
+use Rattle.std.specs.Prelude.{ℕ, ◌≡◌, ◌-◌, ◌≤◌, min, max, List, Option, None, refl}
 use Rattle.ix_spans.specs.Occurrences.{term_score}
 use Rattle.q_tree.specs.Trees.{Reduced}
 use Rattle.q_tree.specs.Scores.{DocPostings, score, unless, weighted, if_above, near_score, greatest_within}
 use Rattle.ix_cursor.specs.declared.nodes.Node.{Node}
 use Rattle.ix_cursor.specs.declared.nodes.Node.TheVariants.{Term, And', Or', Not', Minus', Weight', Above', Near, Within', Done}
-use Rattle.ix_cursor.specs.SpanDocuments.{pairs_at}
+use Rattle.ix_lists.specs.SpanDocuments.{pairs_at}
 use Rattle.ix_cursor.specs.Feeding.{phrases_at, operands_at}
-use Rattle.ix_cursor.specs.Seen.{seen_phrases, seen_operands}
-use Rattle.ix_cursor.specs.Seeking.{Before}
+use Rattle.ix_cursor.specs.Seen.{seen_phrases, seen_operands, greatest_inside}
+use Rattle.ix_lists.specs.Seeking.{Before}
 
 -- the score of a document within lo to hi
 abbrev pub score_at : Node → ℕ → ℕ → ℕ → ℕ
@@ -33,7 +33,7 @@ seen_score (Minus' p a q b) lo hi = seen_score a lo hi - seen_score b lo hi
 seen_score (Weight' w p a) lo hi = weighted w (seen_score a lo hi)
 seen_score (Above' n p a) lo hi = if_above n (seen_score a lo hi)
 seen_score (Near n) lo hi = near_score (seen_operands n.operands.items) n.span n.ordered lo hi
-seen_score (Within' s p a) lo hi = greatest_within (λ l h. seen_score a l h) lo hi s.value.seen
+seen_score (Within' s p a) lo hi = greatest_inside lo hi s.value.seen s.value.scores.items
 seen_score Done lo hi = 0
 
 -- the scores of each document are those of a query over postings and a stream
@@ -45,9 +45,17 @@ abbrev pub ScoresWithin : Node → Reduced → List ℕ → (ℕ → DocPostings
 ScoresWithin n f name postings stream = (d lo hi : ℕ) → score_at n d lo hi ≡ greatest_within (λ l h. score f (postings d) stream l h) lo hi ((postings d).spans name)
 
 -- the scores of each document from `to` on have stayed, within any range
-abbrev pub KeepsScores : ℕ → Node → Node → Type 0
-KeepsScores to old new = (d lo hi : ℕ) → to ≤ d → score_at new d lo hi ≡ score_at old d lo hi
+abbrev pub SameScoresFrom : ℕ → Node → Node → Type 0
+SameScoresFrom to old new = (d lo hi : ℕ) → to ≤ d → score_at new d lo hi ≡ score_at old d lo hi
 
 -- no document before the bound has a score, within any range
-abbrev pub BoundsScores : Node → Option ℕ → Type 0
-BoundsScores n bound = (d lo hi : ℕ) → Before bound d → score_at n d lo hi ≡ 0
+abbrev pub NoScoreBefore : Node → Option ℕ → Type 0
+NoScoreBefore n bound = (d lo hi : ℕ) → Before bound d → score_at n d lo hi ≡ 0
+
+-- ---- computed examples: a node of which nothing is left
+
+never_scored : score_at Done 3 1 9 ≡ 0
+never_scored = refl
+
+scored_nowhere : NoScoreBefore Done None
+scored_nowhere d lo hi before = refl

@@ -7,6 +7,7 @@ use Rattle.q_tree.specs.declared.flats.Slot.TheVariants.{Takes}
 use Rattle.q_tree.specs.Slots.{same_slot}
 use Rattle.q_tree.specs.Trees.{Reduced, Term, Joined, Weighted, Exceeding, Close, Inside, Defined}
 use Rattle.q_tree.specs.Scores.{DocPostings}
+use Rattle.ix_posting.specs.Lists.{posting_list}
 use Rattle.ix_posting.specs.Rows.{DocumentsRise}
 use Rattle.ix_posting.specs.SpanRows.{SpanDocumentsRise}
 use Rattle.ix_posting.specs.declared.rows.RowDocument.{RowDocument}
@@ -14,8 +15,7 @@ use Rattle.ix_posting.specs.declared.span_rows.SpanDocument.{SpanDocument}
 use Rattle.ix_cursor.specs.declared.reading.SlotFeed.{SlotFeed}
 use Rattle.ix_cursor.specs.declared.reading.SectionFeed.{SectionFeed}
 use Rattle.ix_cursor.specs.declared.reading.Feeds.{Feeds}
-use Rattle.ix_cursor.specs.Documents.{joined}
-use Rattle.ix_cursor.specs.SpanDocuments.{pairs_at}
+use Rattle.ix_lists.specs.SpanDocuments.{pairs_at}
 use Rattle.ix_cursor.specs.Feeding.{union_at}
 
 -- the rows that were read for each token that a slot takes in a stream; of a slot that wasn't read there are none
@@ -30,13 +30,13 @@ rows_read (f ∷ fs) name = if bytes_eq f.section name then f.rows else rows_rea
 
 -- the documents of each token, one row after the other
 abbrev pub documents_of : List (List (List RowDocument)) → List (List RowDocument)
-documents_of tokens = map {B = List RowDocument} (λ rows. joined rows) tokens
+documents_of tokens = map {B = List RowDocument} (λ rows. posting_list rows) tokens
 
 -- THE POSTINGS OF A DOCUMENT among what was read: the positions of all tokens of a slot, rising and each once, and the pairs of a section
 abbrev pub postings_read : Feeds → ℕ → DocPostings
 postings_read f d = record {
   positions = λ stream slot. union_at (documents_of (tokens_read f.slots stream slot)) d;
-  spans = λ name. pairs_at (joined (rows_read f.sections name)) d;
+  spans = λ name. pairs_at (posting_list (rows_read f.sections name)) d;
 }
 
 -- ---- in which order documents were read
@@ -44,20 +44,20 @@ postings_read f d = record {
 -- the documents of each token rise from one row to the next
 abbrev pub TokensRise : List (List (List RowDocument)) → Type 0
 TokensRise [] = Unit {0}
-TokensRise (rows ∷ tokens) = DocumentsRise 0 (joined rows) × TokensRise tokens
+TokensRise (rows ∷ tokens) = DocumentsRise 0 (posting_list rows) × TokensRise tokens
 
-abbrev pub SlotsRise : List SlotFeed → Type 0
-SlotsRise [] = Unit {0}
-SlotsRise (f ∷ fs) = TokensRise f.tokens × SlotsRise fs
+abbrev pub SlotFeedsRise : List SlotFeed → Type 0
+SlotFeedsRise [] = Unit {0}
+SlotFeedsRise (f ∷ fs) = TokensRise f.tokens × SlotFeedsRise fs
 
 -- so do those of each section
-abbrev pub SectionsRise : List SectionFeed → Type 0
-SectionsRise [] = Unit {0}
-SectionsRise (f ∷ fs) = SpanDocumentsRise 0 (joined f.rows) × SectionsRise fs
+abbrev pub SectionFeedsRise : List SectionFeed → Type 0
+SectionFeedsRise [] = Unit {0}
+SectionFeedsRise (f ∷ fs) = SpanDocumentsRise 0 (posting_list f.rows) × SectionFeedsRise fs
 
 pub record FeedsRise (f : Feeds) : Type 0 where
-  pub slots : SlotsRise f.slots
-  pub sections : SectionsRise f.sections
+  pub slots : SlotFeedsRise f.slots
+  pub sections : SectionFeedsRise f.sections
 
 -- a query without DEFINESCORE
 abbrev pub IsPlain : Reduced → Type 0

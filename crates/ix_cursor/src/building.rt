@@ -1,18 +1,18 @@
 //! The nodes of a query over what was read for it.
 
 ghost use Rattle.std.specs.Prelude.{◌≡◌, ℕ, IfOk};
-ghost use Rattle.q_tree.specs.Trees.{reduced_of, Term, Close, Inside};
-ghost use Rattle.q_tree.specs.Scores.{slot_positions, phrase_slots, term_slots, operand_slots};
-ghost use Rattle.ix_cursor.specs.SpanDocuments.{pairs_at};
+ghost use Rattle.q_tree.specs.Trees.{reduced_of, Term, Joined, Close, Inside};
+ghost use Rattle.q_tree.specs.Scores.{operated, slot_positions, phrase_slots, term_slots, operand_slots};
+ghost use Rattle.ix_lists.specs.SpanDocuments.{pairs_at};
 ghost use Rattle.ix_cursor.specs.Feeding.{slot_at, slots_at, phrase_at, term_at, operands_at};
-ghost use Rattle.ix_cursor.specs.Nodes.{Scores, ScoresWithin};
+ghost use Rattle.ix_cursor.specs.Nodes.{score_at, Scores, ScoresWithin};
 ghost use Rattle.ix_cursor.specs.Reading.{IsPlain};
 
 use crate::feeds::{NearFeed, PhraseFeed, SeenSlots, SpanFeed, TermFeed, TokenFeeds};
 use crate::nodes::Node;
 use crate::sources::Source;
 use ct_base::{Memory, Pairs};
-use q_tree::{Flat, Phrase, Phrases, Place, Slot};
+use q_tree::{Flat, Op, Phrase, Phrases, Place, Slot};
 use std::alloc::Global;
 
 /// What a slot of a phrase reads.
@@ -99,7 +99,13 @@ fn feed_of_section<S: Source>(
 {
     let documents = source.section(alloc, name)?;
     let seen = Pairs::empty(alloc);
-    Ok(Box::new(alloc, SpanFeed { documents, seen })?)
+    let scores = Vec::new(alloc);
+    let feed = SpanFeed {
+        documents,
+        seen,
+        scores,
+    };
+    Ok(Box::new(alloc, feed)?)
 }
 
 /// The node in a box.
@@ -107,6 +113,18 @@ fn boxed(alloc: Global, node: Node) -> Result<Box<Node>, Memory>
     ensures { IfOk result (λ b. b.value ≡ node) }
 {
     Ok(Box::new(alloc, node)?)
+}
+
+/// The node of an operator between two nodes.
+fn operator_node(op: Op, a: Box<Node>, b: Box<Node>) -> Node
+    ensures { (d lo hi : ℕ) → score_at result d lo hi ≡ operated op (score_at a.value d lo hi) (score_at b.value d lo hi) }
+{
+    match op {
+        Op::And => Node::And(a, b),
+        Op::Or => Node::Or(a, b),
+        Op::Not => Node::Not(a, b),
+        Op::Minus => Node::Minus(a, b),
+    }
 }
 
 /// The node of a term over a stream.
@@ -160,22 +178,10 @@ pub(crate) fn build<S: Source>(
 {
     match flat {
         Flat::Term(phrases) => build_term(alloc, source, phrases.as_slice(), stream),
-        Flat::And(a, b) => {
-            let (first, second) = build_parts(alloc, source, a, b, stream)?;
-            boxed(alloc, Node::And(first, second))
-        }
-        Flat::Or(a, b) => {
-            let (first, second) = build_parts(alloc, source, a, b, stream)?;
-            boxed(alloc, Node::Or(first, second))
-        }
-        Flat::Not(a, b) => {
-            let (first, second) = build_parts(alloc, source, a, b, stream)?;
-            boxed(alloc, Node::Not(first, second))
-        }
-        Flat::Minus(a, b) => {
-            let (first, second) = build_parts(alloc, source, a, b, stream)?;
-            boxed(alloc, Node::Minus(first, second))
-        }
+        Flat::And(a, b) => build_both(alloc, source, Op::And, a, b, stream),
+        Flat::Or(a, b) => build_both(alloc, source, Op::Or, a, b, stream),
+        Flat::Not(a, b) => build_both(alloc, source, Op::Not, a, b, stream),
+        Flat::Minus(a, b) => build_both(alloc, source, Op::Minus, a, b, stream),
         Flat::Weight(tenths, a) => {
             let node = build(alloc, source, a, stream)?;
             boxed(alloc, Node::Weight(*tenths, node))
@@ -194,24 +200,24 @@ pub(crate) fn build<S: Source>(
     }
 }
 
-/// The nodes of two parts of a query over a stream.
+/// The node of an operator between two parts of a query, over a stream.
 #[cycle(build)]
-fn build_parts<S: Source>(
+fn build_both<S: Source>(
     alloc: Global,
     source: &S,
+    op: Op,
     a: &Flat,
     b: &Flat,
     stream: u8,
-) -> Result<(Box<Node>, Box<Node>), Memory>
+) -> Result<Box<Node>, Memory>
     requires well { S.well source.now }
     requires first { IsPlain (reduced_of a.now) }
     requires second { IsPlain (reduced_of b.now) }
-    ensures first { IfOk result (λ n. Scores n.0.value (reduced_of a.now) (S.postings source.now) stream) }
-    ensures second { IfOk result (λ n. Scores n.1.value (reduced_of b.now) (S.postings source.now) stream) }
+    ensures { IfOk result (λ n. Scores n.value (Joined op (reduced_of a.now) (reduced_of b.now)) (S.postings source.now) stream) }
 {
     let first = build(alloc, source, a, stream)?;
     let second = build(alloc, source, b, stream)?;
-    Ok((first, second))
+    boxed(alloc, operator_node(op, first, second))
 }
 
 /// The node of a part of a query in a place, over a stream.

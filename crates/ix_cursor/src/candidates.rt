@@ -5,7 +5,7 @@ ghost use Rattle.q_tree.specs.Trees.{reduced_of};
 ghost use Rattle.q_tree.specs.Soundness.{is_sound};
 ghost use Rattle.q_tree.specs.Scores.{score, last_position};
 ghost use Rattle.ix_cursor.specs.Reading.{postings_read, FeedsRise, IsPlain};
-ghost use Rattle.ix_cursor.specs.Candidates.{ahead, NoneBefore, behind_found, Passes};
+ghost use Rattle.ix_cursor.specs.Candidates.{ahead, least_ahead, MovesOn, NoneBefore, behind_found, Leaps};
 
 use crate::building::build;
 use crate::nodes::Node;
@@ -28,7 +28,7 @@ pub(crate) fn first_candidate(
     root: &mut Node,
     from: u32,
 ) -> Result<Option<u32>, Memory>
-    ensures { IfOk result (λ found. Passes root.old root.new from found) }
+    ensures { IfOk result (λ found. Leaps root.old root.new from found) }
 {
     let mut at = from;
     'documents: loop {
@@ -44,7 +44,8 @@ pub(crate) fn first_candidate(
 
 impl Candidates {
     /// The documents that the query may score, over what was read for it. It decodes no row yet, and shares the rows of the feeds.
-    /// Queries with DEFINESCORE are not taken yet.
+    /// Queries with DEFINESCORE are not taken yet. Its cost is the number of slots of the query times that of the slots that were read; it
+    /// goes as deep as the query.
     pub fn build(alloc: Global, flat: &Flat, feeds: &Feeds) -> Result<Candidates, Memory>
         requires sound { is_sound (reduced_of flat.now) ≡ true }
         requires plain { IsPlain (reduced_of flat.now) }
@@ -58,9 +59,11 @@ impl Candidates {
         })
     }
 
-    /// The next one; None where none is left. After an error it may only be dropped.
+    /// The next one, which is greater than all that were given before; None where none is left, and from then on. It decodes rows one after
+    /// the other, as far as it goes; Memory where one found none, and then it may only be dropped.
     pub fn next(&mut self, alloc: Global) -> Result<Option<DocId>, Memory>
         ensures first { IfOk result (λ found. NoneBefore (ahead self.old) found) }
+        ensures onward { IfOk result (λ found. MovesOn (least_ahead self.old) found (least_ahead self.new)) }
         ensures left { IfOk result (λ found. (d : ℕ) → d < 2 ^ 32 → ahead self.new d ≡ behind_found found (ahead self.old) d) }
     {
         let Some(from) = self.from else {

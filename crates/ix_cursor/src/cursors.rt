@@ -5,7 +5,7 @@ ghost use Rattle.q_tree.specs.Trees.{reduced_of};
 ghost use Rattle.q_tree.specs.Soundness.{is_sound};
 ghost use Rattle.q_tree.specs.Scores.{score, last_position};
 ghost use Rattle.ix_cursor.specs.Reading.{postings_read, FeedsRise, IsPlain};
-ghost use Rattle.ix_cursor.specs.Cursors.{remaining, present_score, from_on, IsFirst, from_found, score_found, Finds};
+ghost use Rattle.ix_cursor.specs.Cursors.{remaining, present_score, cursor_from, IsFirstScored, from_found, score_found, FindsScored};
 
 use crate::building::build;
 use crate::candidates::first_candidate;
@@ -39,7 +39,7 @@ struct Scored {
 
 /// The first document from one on that has a score above 0.
 fn first_scored(alloc: Global, root: &mut Node, from: u32) -> Result<Option<Scored>, Memory>
-    ensures { IfOk result (λ found. Finds root.old root.new from found) }
+    ensures { IfOk result (λ found. FindsScored root.old root.new from found) }
 {
     let mut at = from;
     'documents: loop {
@@ -60,12 +60,14 @@ fn first_scored(alloc: Global, root: &mut Node, from: u32) -> Result<Option<Scor
 
 impl Cursor {
     /// A cursor before the first document that the query scores, over what was read for it. It decodes no row yet, and shares the rows
-    /// of the feeds. Queries with DEFINESCORE are not taken yet.
+    /// of the feeds. Queries with DEFINESCORE are not taken yet. Its cost is the number of slots of the query times that of the slots that
+    /// were read; it goes as deep as the query.
     pub fn build(alloc: Global, flat: &Flat, feeds: &Feeds) -> Result<Cursor, Memory>
         requires sound { is_sound (reduced_of flat.now) ≡ true }
         requires plain { IsPlain (reduced_of flat.now) }
         requires rows { FeedsRise feeds.now }
-        ensures { IfOk result (λ c. (d : ℕ) → d < 2 ^ 32 → remaining c d ≡ score (reduced_of flat.now) (postings_read feeds.now d) 0 1 last_position) }
+        ensures start { IfOk result (λ c. present_score c ≡ 0) }
+        ensures scores { IfOk result (λ c. (d : ℕ) → d < 2 ^ 32 → remaining c d ≡ score (reduced_of flat.now) (postings_read feeds.now d) 0 1 last_position) }
     {
         let root = build(alloc, feeds, flat, 0)?;
         Ok(Cursor {
@@ -76,7 +78,7 @@ impl Cursor {
 
     /// The least document that a cursor may move to when asked for one from `to` on.
     fn from(&self, to: u32) -> Option<u32>
-        ensures { result ≡ from_on self.now to }
+        ensures { result ≡ cursor_from self.now to }
     {
         match &self.standing {
             Standing::Before => Some(to),
@@ -86,9 +88,10 @@ impl Cursor {
     }
 
     /// Moves to the least document that is at least `to`, not before the present one, and has a score above 0. None
-    /// where none remains. After an error it may only be dropped.
+    /// where none remains. It decodes rows one after the other, as far as it goes; Memory where one found none, and then it may only be
+    /// dropped.
     pub fn advance(&mut self, alloc: Global, to: DocId) -> Result<Option<DocId>, Memory>
-        ensures found { IfOk result (λ found. IsFirst (remaining self.old) to.0 found) }
+        ensures found { IfOk result (λ found. IsFirstScored (remaining self.old) to.0 found) }
         ensures left { IfOk result (λ found. (d : ℕ) → d < 2 ^ 32 → remaining self.new d ≡ from_found found (remaining self.old) d) }
         ensures score { IfOk result (λ found. present_score self.new ≡ score_found found (remaining self.old)) }
     {

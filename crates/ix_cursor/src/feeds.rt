@@ -3,13 +3,13 @@
 ghost use Rattle.std.specs.Prelude.{◌≡◌, [], IfOk, OnOk};
 ghost use Rattle.ix_spans.specs.Slots.{SlotsRise};
 ghost use Rattle.ix_spans.specs.Views.{slots_view};
-ghost use Rattle.ix_cursor.specs.Seeking.{Keeps, Bounds, IsNowhere, HasNone, later, earlier};
-ghost use Rattle.ix_cursor.specs.SpanDocuments.{pairs_at};
+ghost use Rattle.ix_lists.specs.Seeking.{SameFrom, NothingBefore, IsNowhere, HasNoPairs};
+ghost use Rattle.ix_cursor.specs.Bounding.{later, earlier};
+ghost use Rattle.ix_lists.specs.SpanDocuments.{pairs_at};
 ghost use Rattle.ix_cursor.specs.Feeding.{union_at, slot_at, slots_at, phrase_at, phrases_at, IsVacant, IsSilent, AreSilent, HasSilent, term_at, operands_at};
 
-use crate::postings::Postings;
-use crate::span_postings::SpanPostings;
 use ct_base::{Memory, Pairs};
+use ix_lists::{Postings, SpanPostings};
 use std::alloc::Global;
 use std::marker::Model;
 
@@ -87,11 +87,12 @@ pub(crate) struct NearFeed {
     pub(crate) ordered: bool,
 }
 
-/// The documents of a section, and its pairs in the document that was seen last.
+/// The documents of a section, and of the document that was seen last its pairs, each with the score of the part over it.
 #[derive(Drop)]
 pub(crate) struct SpanFeed {
     pub(crate) documents: SpanPostings,
     pub(crate) seen: Pairs,
+    pub(crate) scores: Vec<u32>,
 }
 
 /// The bound of what needs both.
@@ -117,7 +118,7 @@ pub(crate) fn earlier(a: Option<u32>, b: Option<u32>) -> Option<u32>
 
 /// Passes the documents before `to` of each token.
 fn skip_tokens(tokens: &mut [Postings], alloc: Global, to: u32) -> Result<(), Memory>
-    ensures { OnOk result (Keeps to (union_at tokens.old) (union_at tokens.new)) }
+    ensures { OnOk result (SameFrom to (union_at tokens.old) (union_at tokens.new)) }
 {
     for i in 0..tokens.len() {
         tokens[i].skip(alloc, to)?;
@@ -127,7 +128,7 @@ fn skip_tokens(tokens: &mut [Postings], alloc: Global, to: u32) -> Result<(), Me
 
 /// A document before which no token is in any.
 fn bound_tokens(tokens: &[Postings]) -> Option<u32>
-    ensures { Bounds IsNowhere (union_at tokens.now) result }
+    ensures { NothingBefore IsNowhere (union_at tokens.now) result }
 {
     let mut bound = None;
     let mut rest = tokens;
@@ -140,7 +141,7 @@ fn bound_tokens(tokens: &[Postings]) -> Option<u32>
 
 /// Passes the documents before `to` in a slot.
 fn skip_slot(slot: &mut Option<TokenFeeds>, alloc: Global, to: u32) -> Result<(), Memory>
-    ensures { OnOk result (Keeps to (slot_at slot.old) (slot_at slot.new)) }
+    ensures { OnOk result (SameFrom to (slot_at slot.old) (slot_at slot.new)) }
 {
     match slot {
         None => Ok(()),
@@ -153,7 +154,7 @@ fn skip_slot(slot: &mut Option<TokenFeeds>, alloc: Global, to: u32) -> Result<()
 
 /// Passes the documents before `to` in each slot.
 fn skip_slots(slots: &mut [Option<TokenFeeds>], alloc: Global, to: u32) -> Result<(), Memory>
-    ensures { OnOk result (Keeps to (slots_at slots.old) (slots_at slots.new)) }
+    ensures { OnOk result (SameFrom to (slots_at slots.old) (slots_at slots.new)) }
 {
     for i in 0..slots.len() {
         skip_slot(&mut slots[i], alloc, to)?;
@@ -163,7 +164,7 @@ fn skip_slots(slots: &mut [Option<TokenFeeds>], alloc: Global, to: u32) -> Resul
 
 /// Passes the documents before `to` in a phrase.
 fn skip_phrase(phrase: &mut PhraseFeed, alloc: Global, to: u32) -> Result<(), Memory>
-    ensures { OnOk result (Keeps to (phrase_at phrase.old) (phrase_at phrase.new)) }
+    ensures { OnOk result (SameFrom to (phrase_at phrase.old) (phrase_at phrase.new)) }
 {
     skip_slots(&mut phrase.slots, alloc, to)?;
     Ok(())
@@ -171,7 +172,7 @@ fn skip_phrase(phrase: &mut PhraseFeed, alloc: Global, to: u32) -> Result<(), Me
 
 /// Passes the documents before `to` in each phrase.
 fn skip_phrases(phrases: &mut [PhraseFeed], alloc: Global, to: u32) -> Result<(), Memory>
-    ensures { OnOk result (Keeps to (phrases_at phrases.old) (phrases_at phrases.new)) }
+    ensures { OnOk result (SameFrom to (phrases_at phrases.old) (phrases_at phrases.new)) }
 {
     for i in 0..phrases.len() {
         skip_phrase(&mut phrases[i], alloc, to)?;
@@ -181,7 +182,7 @@ fn skip_phrases(phrases: &mut [PhraseFeed], alloc: Global, to: u32) -> Result<()
 
 /// A document before which a slot is in none.
 fn bound_slot(slot: &Option<TokenFeeds>) -> Option<u32>
-    ensures { Bounds IsVacant (slot_at slot.now) result }
+    ensures { NothingBefore IsVacant (slot_at slot.now) result }
 {
     match slot {
         None => Some(0),
@@ -191,7 +192,7 @@ fn bound_slot(slot: &Option<TokenFeeds>) -> Option<u32>
 
 /// A document before which the phrase is in none.
 fn bound_slots(slots: &[Option<TokenFeeds>]) -> Option<u32>
-    ensures { Bounds IsSilent (slots_at slots.now) result }
+    ensures { NothingBefore IsSilent (slots_at slots.now) result }
 {
     let mut bound = Some(0);
     for slot in slots {
@@ -202,7 +203,7 @@ fn bound_slots(slots: &[Option<TokenFeeds>]) -> Option<u32>
 
 /// A document before which each phrase is in none.
 fn bound_phrases(phrases: &[PhraseFeed]) -> Option<u32>
-    ensures { Bounds AreSilent (phrases_at phrases.now) result }
+    ensures { NothingBefore AreSilent (phrases_at phrases.now) result }
 {
     let mut bound = None;
     let mut rest = phrases;
@@ -214,8 +215,8 @@ fn bound_phrases(phrases: &[PhraseFeed]) -> Option<u32>
 }
 
 /// Passes the documents before `to` in a term.
-pub(crate) fn skip_term(term: &mut TermFeed, alloc: Global, to: u32) -> Result<(), Memory>
-    ensures { OnOk result (Keeps to (term_at term.old) (term_at term.new)) }
+fn skip_term(term: &mut TermFeed, alloc: Global, to: u32) -> Result<(), Memory>
+    ensures { OnOk result (SameFrom to (term_at term.old) (term_at term.new)) }
 {
     skip_phrases(&mut term.phrases, alloc, to)?;
     Ok(())
@@ -223,7 +224,7 @@ pub(crate) fn skip_term(term: &mut TermFeed, alloc: Global, to: u32) -> Result<(
 
 /// Passes the documents before `to` in each operand.
 pub(crate) fn skip_operands(operands: &mut [TermFeed], alloc: Global, to: u32) -> Result<(), Memory>
-    ensures { OnOk result (Keeps to (operands_at operands.old) (operands_at operands.new)) }
+    ensures { OnOk result (SameFrom to (operands_at operands.old) (operands_at operands.new)) }
 {
     for i in 0..operands.len() {
         skip_term(&mut operands[i], alloc, to)?;
@@ -232,15 +233,15 @@ pub(crate) fn skip_operands(operands: &mut [TermFeed], alloc: Global, to: u32) -
 }
 
 /// A document before which a term is in none.
-pub(crate) fn bound_term(term: &TermFeed) -> Option<u32>
-    ensures { Bounds AreSilent (term_at term.now) result }
+fn bound_term(term: &TermFeed) -> Option<u32>
+    ensures { NothingBefore AreSilent (term_at term.now) result }
 {
     bound_phrases(&term.phrases)
 }
 
 /// A document before which not each operand occurs.
 pub(crate) fn bound_operands(operands: &[TermFeed]) -> Option<u32>
-    ensures { Bounds HasSilent (operands_at operands.now) result }
+    ensures { NothingBefore HasSilent (operands_at operands.now) result }
 {
     let mut bound = Some(0);
     for operand in operands {
@@ -249,14 +250,23 @@ pub(crate) fn bound_operands(operands: &[TermFeed]) -> Option<u32>
     bound
 }
 
+/// Passes the documents before `to` of a term, and tells a document before which it is in none that is left.
+pub(crate) fn pass_term(term: &mut TermFeed, alloc: Global, to: u32) -> Result<Option<u32>, Memory>
+    ensures keeps { OnOk result (SameFrom to (term_at term.old) (term_at term.new)) }
+    ensures bound { IfOk result (λ bound. NothingBefore AreSilent (term_at term.new) bound) }
+{
+    skip_term(term, alloc, to)?;
+    Ok(bound_term(term))
+}
+
 /// Passes the documents before `to` of a section, and tells a document before which it has no pair in any that is left.
-pub(crate) fn skip_section(
+pub(crate) fn pass_section(
     section: &mut SpanFeed,
     alloc: Global,
     to: u32,
 ) -> Result<Option<u32>, Memory>
-    ensures keeps { OnOk result (Keeps to (pairs_at section.old.documents) (pairs_at section.new.documents)) }
-    ensures bound { IfOk result (λ bound. Bounds HasNone (pairs_at section.new.documents) bound) }
+    ensures keeps { OnOk result (SameFrom to (pairs_at section.old.documents) (pairs_at section.new.documents)) }
+    ensures bound { IfOk result (λ bound. NothingBefore HasNoPairs (pairs_at section.new.documents) bound) }
 {
     section.documents.skip(alloc, to)?;
     Ok(section.documents.bound())

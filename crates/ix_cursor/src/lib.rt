@@ -4,20 +4,15 @@
 mod building;
 mod candidates;
 mod cursors;
-mod encoded;
-mod encoded_spans;
 mod feeds;
-mod merging;
 mod nodes;
-mod postings;
 mod reading;
 mod scoring;
 mod seeing;
 mod sources;
-mod span_postings;
+#[cfg(test)]
+mod tests;
 
 pub use candidates::Candidates;
 pub use cursors::Cursor;
-pub use encoded::{EncodedRow, EncodedRows};
-pub use encoded_spans::{EncodedSpanRow, EncodedSpanRows};
 pub use reading::{Feeds, SectionFeed, SlotFeed};

@@ -1,17 +1,16 @@
 //! The nodes of a cursor.
 
-ghost use Rattle.std.specs.Prelude.{◌≡◌, ℕ, IfOk, OnOk, min, ◌-◌};
-ghost use Rattle.q_tree.specs.Scores.{unless, greatest_within};
-ghost use Rattle.ix_cursor.specs.Nodes.{score_at, seen_score, KeepsScores, BoundsScores};
+ghost use Rattle.std.specs.Prelude.{◌≡◌, ℕ, IfOk, OnOk, map, min, ◌-◌};
+ghost use Rattle.q_tree.specs.Scores.{unless};
+ghost use Rattle.ix_cursor.specs.Nodes.{score_at, seen_score, SameScoresFrom, NoScoreBefore};
 
 use crate::feeds::{
-    NearFeed, SpanFeed, TermFeed, bound_operands, bound_term, earlier, later, skip_operands,
-    skip_section, skip_term,
+    NearFeed, SpanFeed, TermFeed, bound_operands, earlier, later, pass_section, pass_term,
+    skip_operands,
 };
-use crate::scoring::{if_above, score_near, score_phrases, unless, weighted};
+use crate::scoring::{greatest_inside, if_above, score_near, score_phrases, unless, weighted};
 use crate::seeing::{see_operands, see_section, see_term};
 use ct_base::{Memory, Pair};
-use ix_spans::inside;
 use std::alloc::Global;
 
 /// A part of a query over what it reads, and what that has in the document that was seen last.
@@ -30,12 +29,12 @@ pub(crate) enum Node {
 }
 
 impl Node {
-    /// Passes the documents before `to`, and tells a document before which none that is left has a score, within any range. A node of
-    /// which none is left drops its parts.
+    /// Passes the documents before `to`, and gives a bound: no document before it has a score, within any range. None where no document
+    /// has one; the node then drops its parts.
     #[cycle(skip)]
     pub(crate) fn skip(&mut self, alloc: Global, to: u32) -> Result<Option<u32>, Memory>
-        ensures keeps { OnOk result (KeepsScores to self.old self.new) }
-        ensures bound { IfOk result (λ bound. BoundsScores self.new bound) }
+        ensures keeps { OnOk result (SameScoresFrom to self.old self.new) }
+        ensures bound { IfOk result (λ bound. NoScoreBefore self.new bound) }
     {
         let bound = self.skip_parts(alloc, to)?;
         if bound.is_none() {
@@ -47,14 +46,11 @@ impl Node {
     /// Passes the documents before `to` in each part, and tells such a document.
     #[cycle(skip)]
     fn skip_parts(&mut self, alloc: Global, to: u32) -> Result<Option<u32>, Memory>
-        ensures keeps { OnOk result (KeepsScores to self.old self.new) }
-        ensures bound { IfOk result (λ bound. BoundsScores self.new bound) }
+        ensures keeps { OnOk result (SameScoresFrom to self.old self.new) }
+        ensures bound { IfOk result (λ bound. NoScoreBefore self.new bound) }
     {
         match self {
-            Node::Term(term) => {
-                skip_term(term, alloc, to)?;
-                Ok(bound_term(term))
-            }
+            Node::Term(term) => pass_term(term, alloc, to),
             Node::And(a, b) => {
                 let first = a.skip(alloc, to)?;
                 let second = b.skip(alloc, to)?;
@@ -80,7 +76,7 @@ impl Node {
                 Ok(bound_operands(&near.operands))
             }
             Node::Within(section, a) => {
-                let first = skip_section(section, alloc, to)?;
+                let first = pass_section(section, alloc, to)?;
                 let second = a.skip(alloc, to)?;
                 Ok(later(first, second))
             }
@@ -88,10 +84,10 @@ impl Node {
         }
     }
 
-    /// Takes up what each part has in a document, once: the positions of its slots and the pairs of its sections.
+    /// Takes up what each part has in a document, once: the positions of its slots, and the pairs of its sections with the scores over them.
     pub(crate) fn see(&mut self, alloc: Global, document: u32) -> Result<(), Memory>
         ensures seen { OnOk result ((lo hi : ℕ) → seen_score self.new lo hi ≡ score_at self.old document lo hi) }
-        ensures keeps { OnOk result (KeepsScores 0 self.old self.new) }
+        ensures keeps { OnOk result (SameScoresFrom 0 self.old self.new) }
     {
         match self {
             Node::Term(term) => see_term(term, alloc, document),
@@ -115,8 +111,10 @@ impl Node {
             Node::Above(_, a) => a.see(alloc, document),
             Node::Near(near) => see_operands(&mut near.operands, alloc, document),
             Node::Within(section, a) => {
+                a.see(alloc, document)?;
                 see_section(section, alloc, document)?;
-                a.see(alloc, document)
+                section.scores = a.scores_over(alloc, section.seen.as_slice())?;
+                Ok(())
             }
             Node::Done => Ok(()),
         }
@@ -155,7 +153,10 @@ impl Node {
                 Ok(if_above(*n, score))
             }
             Node::Near(near) => score_near(alloc, near, lo, hi),
-            Node::Within(section, a) => a.score_within(alloc, section.seen.as_slice(), lo, hi),
+            Node::Within(section, _) => {
+                let pairs = section.seen.as_slice();
+                Ok(greatest_inside(pairs, section.scores.as_slice(), lo, hi))
+            }
             Node::Done => Ok(0),
         }
     }
@@ -196,17 +197,14 @@ impl Node {
         Ok(first.saturating_sub(second))
     }
 
-    /// The greatest score over the pairs that lie within lo to hi, each as the new range.
-    #[cycle(score)]
-    fn score_within(&self, alloc: Global, pairs: &[Pair], lo: u32, hi: u32) -> Result<u32, Memory>
-        ensures { IfOk result (λ s. s ≡ greatest_within (λ l h. seen_score self.now l h) lo hi pairs.now) }
+    /// The scores of the document that was seen last over each of some pairs.
+    fn scores_over(&self, alloc: Global, pairs: &[Pair]) -> Result<Vec<u32>, Memory>
+        ensures { IfOk result (λ v. v.items ≡ map (λ p. seen_score self.now p.first p.last) pairs.now) }
     {
-        let mut best = 0;
+        let mut scores = Vec::new(alloc);
         for pair in pairs {
-            if inside(*pair, lo, hi) {
-                best = self.score(alloc, pair.first, pair.last)?.max(best);
-            }
+            scores.push(self.score(alloc, pair.first, pair.last)?)?;
         }
-        Ok(best)
+        Ok(scores)
     }
 }

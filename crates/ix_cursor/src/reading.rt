@@ -1,21 +1,20 @@
 //! What is read for a query.
 
 ghost use Rattle.std.specs.Prelude.{◌≡◌, IfOk};
-ghost use Rattle.ix_cursor.specs.Documents.{joined};
-ghost use Rattle.ix_cursor.specs.Reading.{tokens_read, rows_read, documents_of, TokensRise, SlotsRise, SectionsRise};
+ghost use Rattle.ix_posting.specs.Lists.{posting_list};
+ghost use Rattle.ix_cursor.specs.Reading.{tokens_read, rows_read, documents_of, TokensRise, SlotFeedsRise, SectionFeedsRise};
 
-use crate::encoded::EncodedRows;
-use crate::encoded_spans::EncodedSpanRows;
-use crate::postings::Postings;
 use crate::sources::Source;
-use crate::span_postings::SpanPostings;
 use ct_base::{Listed, Memory, Name};
+use ix_lists::{Postings, SpanPostings};
+use ix_posting::{EncodedRows, EncodedSpanRows};
 use q_tree::{Slot, same_slot};
 use std::alloc::Global;
 
 /// The rows of each token that a slot takes in a stream. The documents of each token rise from one row to the next.
 #[derive(Drop)]
 pub struct SlotFeed {
+    /// 0 for the main stream, else the number of a field.
     pub stream: u8,
     pub slot: Slot,
     pub tokens: Listed<EncodedRows>,
@@ -37,7 +36,7 @@ pub struct Feeds {
 
 /// The rows of each token that a slot takes in a stream. Its cost is the number of slots that were read.
 fn tokens_read<'a>(feeds: &'a [SlotFeed], stream: u8, slot: &Slot) -> &'a [EncodedRows]
-    requires { SlotsRise feeds.now }
+    requires { SlotFeedsRise feeds.now }
     ensures rise { TokensRise result.now }
     ensures tokens { result.now ≡ tokens_read feeds.now stream slot.now }
 {
@@ -56,7 +55,7 @@ fn postings_of(
     stream: u8,
     slot: &Slot,
 ) -> Result<Vec<Postings>, Memory>
-    requires { SlotsRise feeds.now }
+    requires { SlotFeedsRise feeds.now }
     ensures { IfOk result (λ v. v.items ≡ documents_of (tokens_read feeds.now stream slot.now)) }
 {
     let mut postings = Vec::new(alloc);
@@ -68,8 +67,8 @@ fn postings_of(
 
 /// The documents of a section.
 fn section_of(alloc: Global, feeds: &[SectionFeed], name: &str) -> Result<SpanPostings, Memory>
-    requires { SectionsRise feeds.now }
-    ensures { IfOk result (λ p. p ≡ joined (rows_read feeds.now name.now)) }
+    requires { SectionFeedsRise feeds.now }
+    ensures { IfOk result (λ p. p ≡ posting_list (rows_read feeds.now name.now)) }
 {
     for feed in feeds {
         if feed.section.as_str() == name {

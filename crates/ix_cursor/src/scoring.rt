@@ -1,18 +1,20 @@
 //! Scores over what the parts of a query have in the document that was seen last.
 //!
 //! A score within lo to hi finds the range by searches in the lists of positions and goes over no position outside of it, so a short
-//! range of WITHIN costs little in a long document too.
+//! range of WITHIN costs little in a long document too. The score of a part of WITHIN over a pair of its section doesn't depend on the
+//! range around the WITHIN: it is computed once for each pair, when a document is seen, so that the cost of WITHIN in WITHIN is a product
+//! of two numbers of pairs at most, however deep they nest.
 
 ghost use Rattle.std.specs.Prelude.{◌≡◌, ◌++◌, IfOk, OnOk, map};
 ghost use Rattle.ix_spans.specs.InOrder.{StartsInOrder, EachInOrder, SamePairs, EachSame};
-ghost use Rattle.ix_spans.specs.Occurrences.{term_score, phrase_pairs, term_pairs, counted};
+ghost use Rattle.ix_spans.specs.Occurrences.{term_score, phrase_pairs, term_pairs, phrase_score};
 ghost use Rattle.ix_spans.specs.Views.{pairs_view};
 ghost use Rattle.q_tree.specs.Scores.{unless, weighted, if_above, if_near, near_score};
-ghost use Rattle.ix_cursor.specs.Seen.{seen_phrase, seen_phrases, seen_operands};
+ghost use Rattle.ix_cursor.specs.Seen.{score_inside, greatest_inside, seen_phrase, seen_phrases, seen_operands};
 
 use crate::feeds::{NearFeed, PhraseFeed, TermFeed};
 use ct_base::{Memory, Pair};
-use ix_spans::{in_order, near_holds, phrase_pairs, phrase_starts};
+use ix_spans::{in_order, inside, near_holds, phrase_pairs, phrase_starts};
 use std::alloc::Global;
 
 /// The first score, where the second is 0.
@@ -44,12 +46,37 @@ fn if_near(holds: bool) -> u32
     if holds { 100 } else { 0 }
 }
 
+/// A score over a pair, where the pair lies within lo to hi, and else 0.
+fn score_inside(pair: Pair, score: u32, lo: u32, hi: u32) -> u32
+    ensures { result ≡ score_inside lo hi pair score }
+{
+    if inside(pair, lo, hi) { score } else { 0 }
+}
+
+/// The greatest of the scores over the pairs that lie within lo to hi. The cost is the number of pairs.
+pub(crate) fn greatest_inside(pairs: &[Pair], scores: &[u32], lo: u32, hi: u32) -> u32
+    ensures { result ≡ greatest_inside lo hi pairs.now scores.now }
+{
+    let mut greatest = 0;
+    let mut rest = pairs;
+    let mut scores = scores;
+    while let [pair, more @ ..] = rest {
+        let [score, others @ ..] = scores else {
+            return greatest;
+        };
+        greatest = score_inside(*pair, *score, lo, hi).max(greatest);
+        rest = more;
+        scores = others;
+    }
+    greatest
+}
+
 /// How often a phrase occurs within lo to hi, at most 100.
 ///
 /// Of k slots, of whose lists the shortest has n positions within lo to hi and the longest m in all, it costs k, and n times k times
 /// the logarithm of m. It takes memory for the starts.
 fn count_phrase(alloc: Global, phrase: &PhraseFeed, lo: u32, hi: u32) -> Result<u32, Memory>
-    ensures { IfOk result (λ k. k ≡ counted (phrase_pairs (seen_phrase phrase.now) lo hi)) }
+    ensures { IfOk result (λ k. k ≡ phrase_score (phrase_pairs (seen_phrase phrase.now) lo hi)) }
 {
     let mut starts = Vec::new(alloc);
     phrase_starts(phrase.seen.as_slice(), lo, hi, &mut starts)?;

@@ -4,14 +4,14 @@ ghost use Rattle.std.specs.Prelude.{◌≡◌, IfOk, OnOk};
 ghost use Rattle.ix_spans.specs.Rising.{Rising};
 ghost use Rattle.ix_spans.specs.Slots.{SlotRises, SlotsRise};
 ghost use Rattle.ix_spans.specs.Views.{slot_view, slots_view};
-ghost use Rattle.ix_cursor.specs.SpanDocuments.{pairs_at};
-ghost use Rattle.ix_cursor.specs.Seeking.{Keeps};
+ghost use Rattle.ix_lists.specs.SpanDocuments.{pairs_at};
+ghost use Rattle.ix_lists.specs.Seeking.{SameFrom};
 ghost use Rattle.ix_cursor.specs.Feeding.{union_at, slot_at, slots_at, phrase_at, phrases_at, term_at, operands_at};
 ghost use Rattle.ix_cursor.specs.Seen.{seen_phrase, seen_phrases, seen_term, seen_operands};
 
 use crate::feeds::{PhraseFeed, SeenSlots, SpanFeed, TermFeed, TokenFeeds};
-use crate::postings::Postings;
 use ct_base::Memory;
+use ix_lists::Postings;
 use std::alloc::Global;
 
 /// The positions that tokens have in a document, each once and rising. Its cost is the number of positions times that of tokens.
@@ -76,7 +76,7 @@ fn see_phrase(phrase: &mut PhraseFeed, alloc: Global, document: u32) -> Result<(
 /// Takes up what each phrase has in a document.
 fn see_phrases(phrases: &mut [PhraseFeed], alloc: Global, document: u32) -> Result<(), Memory>
     ensures seen { OnOk result (seen_phrases phrases.new ≡ phrases_at phrases.old document) }
-    ensures keeps { OnOk result (Keeps 0 (phrases_at phrases.old) (phrases_at phrases.new)) }
+    ensures keeps { OnOk result (SameFrom 0 (phrases_at phrases.old) (phrases_at phrases.new)) }
 {
     for i in 0..phrases.len() {
         see_phrase(&mut phrases[i], alloc, document)?;
@@ -87,7 +87,7 @@ fn see_phrases(phrases: &mut [PhraseFeed], alloc: Global, document: u32) -> Resu
 /// Takes up what the phrases of a term have in a document.
 pub(crate) fn see_term(term: &mut TermFeed, alloc: Global, document: u32) -> Result<(), Memory>
     ensures seen { OnOk result (seen_term term.new ≡ term_at term.old document) }
-    ensures keeps { OnOk result (Keeps 0 (term_at term.old) (term_at term.new)) }
+    ensures keeps { OnOk result (SameFrom 0 (term_at term.old) (term_at term.new)) }
 {
     see_phrases(&mut term.phrases, alloc, document)?;
     Ok(())
@@ -100,7 +100,7 @@ pub(crate) fn see_operands(
     document: u32,
 ) -> Result<(), Memory>
     ensures seen { OnOk result (seen_operands operands.new ≡ operands_at operands.old document) }
-    ensures keeps { OnOk result (Keeps 0 (operands_at operands.old) (operands_at operands.new)) }
+    ensures keeps { OnOk result (SameFrom 0 (operands_at operands.old) (operands_at operands.new)) }
 {
     for i in 0..operands.len() {
         see_term(&mut operands[i], alloc, document)?;

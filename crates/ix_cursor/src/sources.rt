@@ -3,15 +3,15 @@
 ghost use Rattle.std.specs.Prelude.{◌≡◌, ℕ, IfOk};
 ghost use Rattle.q_tree.specs.Scores.{DocPostings};
 ghost use Rattle.ix_cursor.specs.Feeding.{union_at};
-ghost use Rattle.ix_cursor.specs.SpanDocuments.{pairs_at};
+ghost use Rattle.ix_lists.specs.SpanDocuments.{pairs_at};
 
-use crate::postings::Postings;
-use crate::span_postings::SpanPostings;
 use ct_base::Memory;
+use ix_lists::{Postings, SpanPostings};
 use q_tree::Slot;
 use std::alloc::Global;
 
-/// What has the postings of documents, by slots and by sections.
+/// What has the postings of documents, by slots and by sections: the rows that were read for a query, or a single document that is scored
+/// alone.
 pub(crate) trait Source {
     /// The postings of each document.
     ghost postings: { Self → ℕ → DocPostings };

@@ -4,7 +4,7 @@ use Rattle.std.proofs.Common.{arith}
 use Rattle.ct_base.specs.declared.numbers.Pair.{Pair}
 use Rattle.ct_bytes.specs.Varints.{varint, IsVarintAt}
 use Rattle.ix_posting.specs.Rows.{Rise, DocumentsRise, steps, varints, documents_bytes}
-use Rattle.ix_posting.specs.SpanRows.{ComesAfter, PairsRise, SpanDocumentsRise, no_pair, pair_steps, span_documents_bytes}
+use Rattle.ix_posting.specs.SpanRows.{ComesAfter, PairsFollow, SpanDocumentsRise, no_pair, pair_steps, span_documents_bytes}
 use Rattle.ix_posting.specs.declared.rows.RowDocument.{RowDocument}
 use Rattle.ix_posting.specs.declared.span_rows.SpanDocument.{SpanDocument}
 
@@ -47,7 +47,7 @@ abbrev pub pair_steps_bytes : Pair → List Pair → List ℕ
 pair_steps_bytes before ps = varints (pair_steps before ps)
 
 abbrev pub ArePairsAt : List ℕ → Pair → ℕ → ℕ → List Pair → ℕ → Type 0
-ArePairsAt = AreItemsAt PairsRise pair_steps_bytes
+ArePairsAt = AreItemsAt PairsFollow pair_steps_bytes
 
 -- ---- documents
 

@@ -10,9 +10,9 @@ abbrev pub ComesAfter : Pair → Pair → Type 0
 ComesAfter a b = (a.first < b.first) ⊎ ((a.first ≡ b.first) × (a.last < b.last))
 
 -- each pair follows the one before it; its first is at least 1 and at most its last, which is below 2 ^ 32
-abbrev pub PairsRise : Pair → List Pair → Type 0
-PairsRise before [] = Unit {0}
-PairsRise before (p ∷ ps) = ComesAfter before p × (1 ≤ p.first) × (p.first ≤ p.last) × (p.last < 2 ^ 32) × PairsRise p ps
+abbrev pub PairsFollow : Pair → List Pair → Type 0
+PairsFollow before [] = Unit {0}
+PairsFollow before (p ∷ ps) = ComesAfter before p × (1 ≤ p.first) × (p.first ≤ p.last) × (p.last < 2 ^ 32) × PairsFollow p ps
 
 -- what stands before the first pair
 abbrev pub no_pair : Pair
@@ -22,7 +22,7 @@ no_pair = record { first = 0; last = 0 }
 abbrev pub SpanDocumentsRise : ℕ → List SpanDocument → Type 0
 SpanDocumentsRise before [] = Unit {0}
 SpanDocumentsRise before (d ∷ ds) =
-    (before < d.document) × (d.document < 2 ^ 32) × (1 ≤ length d.pairs) × (length d.pairs < 2 ^ 32) × PairsRise no_pair d.pairs × SpanDocumentsRise d.document ds
+    (before < d.document) × (d.document < 2 ^ 32) × (1 ≤ length d.pairs) × (length d.pairs < 2 ^ 32) × PairsFollow no_pair d.pairs × SpanDocumentsRise d.document ds
 
 pub record IsSpanRow (row : List SpanDocument) : Type 0 where
   pub some : 1 ≤ length row

@@ -2,6 +2,7 @@ pub mod Posts
 pub mod Stored
 pub mod Spelling
 pub mod Stores
+pub mod Holding
 pub mod WordRows
 pub mod SpanRows
 pub mod Promises

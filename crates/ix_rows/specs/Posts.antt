@@ -1,13 +1,7 @@
--- Posting lists: the documents that have a term, in the order of their numbers, and how rows of documents split them.
+-- What a posting list has of a document: the documents that have a term stand in it in the order of their numbers.
 -- D is a document with its places: the positions of a word, or the pairs of a section. Nothing here depends on which.
-use Rattle.std.specs.Prelude.{ℕ, ◌≡◌, ◌==◌, cond, List, [], ◌∷◌, ◌++◌, map, Option, Some, None, refl}
+use Rattle.std.specs.Prelude.{ℕ, ◌≡◌, ◌==◌, cond, List, [], ◌∷◌, map, Option, Some, None, refl}
 use Rattle.ix_posting.specs.Rows.{Rise}
-
-module _ {D : Type 0} where
-  -- the documents of a term's rows, one after the other
-  abbrev pub posting_list : List (List D) → List D
-  posting_list [] = []
-  posting_list (row ∷ rows) = row ++ posting_list rows
 
 module _ {D : Type 0} (number : D → ℕ) where
   -- what a document has in a posting list
@@ -20,9 +14,6 @@ module _ {D : Type 0} (number : D → ℕ) where
   Rises before xs = Rise before (map number xs)
 
 -- computed examples: a document is its number
-two_rows : posting_list {D = ℕ} ((1 ∷ 2 ∷ []) ∷ (4 ∷ []) ∷ []) ≡ 1 ∷ 2 ∷ 4 ∷ []
-two_rows = refl
-
 the_second : posting {D = ℕ} (λ d. d) 2 (1 ∷ 2 ∷ 4 ∷ []) ≡ Some 2
 the_second = refl
 

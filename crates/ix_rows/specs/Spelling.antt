@@ -5,7 +5,8 @@ use Rattle.ct_entry.specs.declared.kinds.Kind.{Kind}
 use Rattle.ct_entry.specs.Keys.{Key, key, document_part, IsDocument}
 use Rattle.ct_entry.specs.Each.{latest}
 use Rattle.ct_entry.specs.Lists.{EachIs}
-use Rattle.ix_rows.specs.Posts.{posting_list, Rises}
+use Rattle.ix_posting.specs.Lists.{posting_list}
+use Rattle.ix_rows.specs.Posts.{Rises}
 
 -- what stands in the key of a row behind its index
 abbrev pub row_key : List ℕ → ℕ → List ℕ

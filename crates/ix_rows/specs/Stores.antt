@@ -3,7 +3,7 @@ use Rattle.std.specs.Prelude.{ℕ, ℤ, ◌≡◌, true, List, [], ◌∷◌, Op
 use Rattle.ct_entry.specs.declared.kinds.Kind.{Kind}
 use Rattle.ct_entry.specs.Keys.{Key}
 use Rattle.ct_entry.specs.Lists.{IsIn}
-use Rattle.ix_rows.specs.Posts.{posting_list}
+use Rattle.ix_posting.specs.Lists.{posting_list}
 use Rattle.ix_rows.specs.Stored.{ListsStand}
 use Rattle.ix_rows.specs.Spelling.{RowsSpelled, AreRows, greedy}
 

@@ -7,8 +7,9 @@ use Rattle.ct_keep.specs.Content.{entry_weight}
 use Rattle.ct_entry.specs.declared.kinds.Kind.TheVariants as kind
 use Rattle.ct_entry.specs.Keys.{key, bytes, IsToken}
 use Rattle.ix_posting.specs.declared.rows.RowDocument.{RowDocument}
+use Rattle.ix_posting.specs.Lists.{posting_list}
 use Rattle.ix_posting.specs.Rows.{posting_bytes}
-use Rattle.ix_rows.specs.Posts.{posting_list, posting}
+use Rattle.ix_rows.specs.Posts.{posting}
 use Rattle.ix_rows.specs.Spelling.{row_key, greedy}
 
 abbrev pub document_number : RowDocument → ℕ

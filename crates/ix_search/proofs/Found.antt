@@ -26,9 +26,10 @@ use Rattle.ct_entry.specs.laws.Rows.{row_of-row_part}
 use Rattle.tb_table.specs.Tables.{Tables}
 use Rattle.ix_posting.specs.declared.rows.RowDocument.{RowDocument}
 use Rattle.ix_posting.specs.declared.span_rows.SpanDocument.{SpanDocument}
+use Rattle.ix_posting.specs.Lists.{posting_list}
 use Rattle.ix_posting.specs.Rows.{DocumentsRise, IsPostingRow, posting_bytes}
 use Rattle.ix_posting.specs.SpanRows.{SpanDocumentsRise, IsSpanRow, span_row_bytes}
-use Rattle.ix_rows.specs.Posts.{posting_list, posting, Rises}
+use Rattle.ix_rows.specs.Posts.{posting, Rises}
 use Rattle.ix_rows.specs.Spelling.{first_document}
 use Rattle.ix_rows.specs.WordRows.{document_number, word_term, IsWordTerm}
 use Rattle.ix_rows.specs.SpanRows.{span_number, IsSpanTerm}
@@ -56,29 +57,25 @@ use Rattle.q_tree.specs.Scores.{DocPostings, score, last_position}
 use Rattle.q_tree.specs.Soundness.{is_sound}
 use Rattle.q_tree.specs.Trees.{Reduced}
 use Rattle.q_tree.specs.laws.SameSlots.{slots_decide}
-use Rattle.ix_cursor.specs.Documents.{joined, places_at}
-use Rattle.ix_cursor.specs.SpanDocuments.{pairs_at}
+use Rattle.ix_lists.specs.Documents.{places_at}
+use Rattle.ix_lists.specs.SpanDocuments.{pairs_at}
 use Rattle.ix_cursor.specs.Feeding.{union_at}
 use Rattle.ix_cursor.specs.Reading.{documents_of, tokens_read, rows_read, postings_read}
 use Rattle.ix_search.specs.declared.wanting.Wanted.{Wanted}
-use Rattle.ix_search.specs.Texts.{doc_sections, text_postings}
+use Rattle.ix_search.specs.Texts.{doc_sections, scanned_postings}
 use Rattle.ix_search.specs.Parts.{has_keys_alone, keys_of}
-use Rattle.ix_search.specs.Holding.{Spell}
-use Rattle.ix_search.specs.Reading.{KeyRows, NameRows, HoldsKey, HoldsSlot, HoldsName, slot_feed, section_feed, slots_of, names_of, feeds_of}
+use Rattle.ix_rows.specs.Holding.{SpellRows}
+use Rattle.ix_search.specs.Reading.{KeyRows, NameRows, HoldsKey, HoldsSlot, HoldsName, slot_feed, section_feed, wanted_slots, section_names, feeds_of}
 use Rattle.ix_search.specs.Walking.{if_some, AreOneToOne, AreScores}
 use Rattle.ix_search.specs.Finding.{query_score, scored, found, found_at}
 use Rattle.ix_search.specs.laws.Words.{number_turned, union, keys_together, words_rise}
-use Rattle.ix_search.specs.laws.Parts.{SameSlot, SameSection, same_by_parts, parts_so, IsRead, parts_read, AnyName}
-use Rattle.ix_search.specs.laws.Wanting.{IsThere, IsNamed, parts_there, slots_each, Holds}
-use Rattle.ix_search.specs.laws.Silent.{nothing, silent_score}
+use Rattle.ix_search.specs.laws.Parts.{SameSlot, SameSection, same_by_parts, parts_so, CanBeRead, parts_read, AnyName}
+use Rattle.ix_search.specs.laws.Wanting.{IsThere, IsAmongNames, parts_there, slots_each, Holds}
+use Rattle.ix_search.specs.laws.Silent.{no_postings, silent_score}
 use Rattle.ix_search.proofs.MappedEntries.{entries_mapped}
 use Rattle.ix_search.proofs.Terms.{any_positions, get-word, get-section}
 
 -- ---- what a document has, by rows and by posting lists
-
-joined_list : {D : Type 0} (rows : List (List D)) → joined rows ≡ posting_list rows
-joined_list [] = refl
-joined_list (row ∷ rows) = ap (λ l. row ++ l) (joined_list rows)
 
 abbrev positions_in : Option RowDocument → List ℕ
 positions_in None = []
@@ -107,20 +104,20 @@ pairs_are (x ∷ xs) d = ap (λ b. cond b x.pairs (pairs_at xs d)) (number_turne
 -- ---- rows whose documents rise
 
 rise_through : (before low : ℕ) (xs : List RowDocument) (rows : List (List RowDocument)) → DocumentsRise low xs → Rises document_number before (xs ++ posting_list rows)
-    → ((b : ℕ) → Rises document_number b (posting_list rows) → DocumentsRise b (joined rows)) → DocumentsRise before (xs ++ joined rows)
+    → ((b : ℕ) → Rises document_number b (posting_list rows) → DocumentsRise b (posting_list rows)) → DocumentsRise before (xs ++ posting_list rows)
 rise_through before low [] rows up rise later = later before rise
 rise_through before low (x ∷ xs) rows up rise later = (rise.0, rise.1, up.2, up.3, rise_through x.document x.document xs rows up.4 rise.2 later)
 
-rows_rise : (rows : List (List RowDocument)) → EachIs IsPostingRow rows → (before : ℕ) → Rises document_number before (posting_list rows) → DocumentsRise before (joined rows)
+rows_rise : (rows : List (List RowDocument)) → EachIs IsPostingRow rows → (before : ℕ) → Rises document_number before (posting_list rows) → DocumentsRise before (posting_list rows)
 rows_rise [] each before rise = tt
 rows_rise (row ∷ rows) each before rise = rise_through before 0 row rows each.0.rise rise (rows_rise rows each.1)
 
 spans_through : (before low : ℕ) (xs : List SpanDocument) (rows : List (List SpanDocument)) → SpanDocumentsRise low xs → Rises span_number before (xs ++ posting_list rows)
-    → ((b : ℕ) → Rises span_number b (posting_list rows) → SpanDocumentsRise b (joined rows)) → SpanDocumentsRise before (xs ++ joined rows)
+    → ((b : ℕ) → Rises span_number b (posting_list rows) → SpanDocumentsRise b (posting_list rows)) → SpanDocumentsRise before (xs ++ posting_list rows)
 spans_through before low [] rows up rise later = later before rise
 spans_through before low (x ∷ xs) rows up rise later = (rise.0, rise.1, up.2, up.3, up.4, spans_through x.document x.document xs rows up.5 rise.2 later)
 
-span_rows_rise : (rows : List (List SpanDocument)) → EachIs IsSpanRow rows → (before : ℕ) → Rises span_number before (posting_list rows) → SpanDocumentsRise before (joined rows)
+span_rows_rise : (rows : List (List SpanDocument)) → EachIs IsSpanRow rows → (before : ℕ) → Rises span_number before (posting_list rows) → SpanDocumentsRise before (posting_list rows)
 span_rows_rise [] each before rise = tt
 span_rows_rise (row ∷ rows) each before rise = spans_through before 0 row rows each.0.rise rise (span_rows_rise rows each.1)
 
@@ -129,7 +126,7 @@ span_rows_rise (row ∷ rows) each before rise = spans_through before 0 row rows
 abbrev word_entries : List (List RowDocument) → List (List ℕ × List ℕ)
 word_entries rows = map (λ row. (document_part (first_document document_number row), posting_bytes row)) rows
 
-rows_spell : (rows : List (List RowDocument)) → EachIs IsPostingRow rows → Spell document_number DocumentsRise IsPostingRow posting_bytes (word_entries rows) rows
+rows_spell : (rows : List (List RowDocument)) → EachIs IsPostingRow rows → SpellRows document_number DocumentsRise IsPostingRow posting_bytes (word_entries rows) rows
 rows_spell [] each = tt
 rows_spell (row ∷ rows) each = (each.0, refl, rows_spell rows each.1)
 
@@ -140,7 +137,7 @@ rows_some (row ∷ rows) each = (each.0.some, rows_some rows each.1)
 abbrev span_entries : List (List SpanDocument) → List (List ℕ × List ℕ)
 span_entries rows = map (λ row. (document_part (first_document span_number row), span_row_bytes row)) rows
 
-spans_spell : (rows : List (List SpanDocument)) → EachIs IsSpanRow rows → Spell span_number SpanDocumentsRise IsSpanRow span_row_bytes (span_entries rows) rows
+spans_spell : (rows : List (List SpanDocument)) → EachIs IsSpanRow rows → SpellRows span_number SpanDocumentsRise IsSpanRow span_row_bytes (span_entries rows) rows
 spans_spell [] each = tt
 spans_spell (row ∷ rows) each = (each.0, refl, spans_spell rows each.1)
 
@@ -167,12 +164,12 @@ module _ (words : KeyRows) (P : ℕ → Slot → Type 0) where
           )
       go false is there rest = rest there
 
-section_read : (spans : NameRows) (ns : List (List ℕ)) (name : List ℕ) → IsNamed ns name → EachIs IsName ns → (rows_read (map (section_feed spans) ns) name ≡ spans name) × IsName name
+section_read : (spans : NameRows) (ns : List (List ℕ)) (name : List ℕ) → IsAmongNames ns name → EachIs IsName ns → (rows_read (map (section_feed spans) ns) name ≡ spans name) × IsName name
 section_read spans [] name named each = cc
 section_read spans (n ∷ ns) name named each = go (bytes_eq n name) refl named (λ rest. section_read spans ns name rest each.1)
   where
     go : (b : Bool) → bytes_eq n name ≡ b → (b || has_key ns name) ≡ true
-        → (IsNamed ns name → (rows_read (map (section_feed spans) ns) name ≡ spans name) × IsName name)
+        → (IsAmongNames ns name → (rows_read (map (section_feed spans) ns) name ≡ spans name) × IsName name)
         → (cond b (spans n) (rows_read (map (section_feed spans) ns) name) ≡ spans name) × IsName name
     go true is named rest = let one = (bytes_eq-Decides n name).0 is in (ap spans one, subst IsName one each.0)
     go false is named rest = rest named
@@ -189,8 +186,8 @@ each_all P (x ∷ xs) all = (all x, each_all P xs all)
 
 -- what a row has by its text, if it has one
 abbrev seen_postings : Index → Option (List ℕ) → DocPostings
-seen_postings x None = nothing
-seen_postings x (Some text) = text_postings x.prefs text
+seen_postings x None = no_postings
+seen_postings x (Some text) = scanned_postings x.prefs text
 
 abbrev seen_positions : Index → Option (List ℕ) → ℕ → List ℕ → List ℕ
 seen_positions x None s k = []
@@ -219,7 +216,7 @@ module _ (m : Content) (ts : Tables) (x : Index) (i : List ℕ) (only : HasKeysO
       record {
         token = token;
         hold = record {
-          spell = subst (λ (es : List (List ℕ × List ℕ)). Spell document_number DocumentsRise IsPostingRow posting_bytes es rows) (sym scanned) (rows_spell rows are.each);
+          spell = subst (λ (es : List (List ℕ × List ℕ)). SpellRows document_number DocumentsRise IsPostingRow posting_bytes es rows) (sym scanned) (rows_spell rows are.each);
           rise = rows_rise rows are.each 0 are.rise;
         };
       }
@@ -234,34 +231,33 @@ module _ (m : Content) (ts : Tables) (x : Index) (i : List ℕ) (only : HasKeysO
       rows_scanned span_number span_row_bytes IsSpanTerm m kind.Spans i term stand.context.span_rows only is_term (span_prefix name) (spans_some rows are.each)
       (firsts_of span_number span_row_bytes IsSpanRow HasPairs span_laws rows are.each) are.rise stand.context.spans.spelled in
       record {
-        spell = subst (λ (es : List (List ℕ × List ℕ)). Spell span_number SpanDocumentsRise IsSpanRow span_row_bytes es rows) (sym scanned) (spans_spell rows are.each);
+        spell = subst (λ (es : List (List ℕ × List ℕ)). SpellRows span_number SpanDocumentsRise IsSpanRow span_row_bytes es rows) (sym scanned) (spans_spell rows are.each);
         rise = span_rows_rise rows are.each 0 are.rise;
       }
 
-  slot_held : (w : Wanted) → Holds IsRead w → HoldsSlot m i words w
+  slot_held : (w : Wanted) → Holds CanBeRead w → HoldsSlot m i words w
   slot_held w is = each_so IsToken (λ k. HoldsKey m i w.stream k (words w.stream k)) (keys_of w.slot) (λ k token. key_held w.stream k is.stream token) is.keys
 
   module _ (q : Reduced) (sound : is_sound q ≡ true) (alone : has_keys_alone q ≡ true) where
-    slots_are_read : EachIs (Holds IsRead) (slots_of q)
-    slots_are_read = slots_each IsRead AnyName q 0 [] (parts_read q sound alone 0 (omega arith)) tt
+    slots_are_read : EachIs (Holds CanBeRead) (wanted_slots q)
+    slots_are_read = slots_each CanBeRead AnyName q 0 [] (parts_read q sound alone 0 (omega arith)) tt
 
     -- THE INDEX HOLDS what the query reads
-    pub slots_held : EachIs (HoldsSlot m i words) (slots_of q)
-    slots_held = each_so (Holds IsRead) (HoldsSlot m i words) (slots_of q) slot_held slots_are_read
+    pub slots_held : EachIs (HoldsSlot m i words) (wanted_slots q)
+    slots_held = each_so (Holds CanBeRead) (HoldsSlot m i words) (wanted_slots q) slot_held slots_are_read
 
-    pub names_held : EachIs (HoldsName m i spans) (names_of q)
-    names_held = each_all (HoldsName m i spans) (names_of q) name_held
+    pub names_held : EachIs (HoldsName m i spans) (section_names q)
+    names_held = each_all (HoldsName m i spans) (section_names q) name_held
 
     -- ---- the score of a document that is a row
 
-    module _ (named : EachIs IsName (names_of q)) (d : ℕ) (r : ℤ) (here : stand.context.row d ≡ Some r) where
+    module _ (named : EachIs IsName (section_names q)) (d : ℕ) (r : ℤ) (here : stand.context.row d ≡ Some r) where
       abbrev seen : Option (List ℕ)
       seen = text_seen ts x r
 
-      key_places : (s : ℕ) (k : List ℕ) → s ≤ stream_limit → IsToken k → places_at (joined (words s k)) d ≡ seen_positions x seen s k
+      key_places : (s : ℕ) (k : List ℕ) → s ≤ stream_limit → IsToken k → places_at (posting_list (words s k)) d ≡ seen_positions x seen s k
       key_places s k low token =
-          ap (λ (xs : List RowDocument). places_at xs d) (joined_list (words s k))
-          ∙ places_are (posting_list (words s k)) d
+          places_are (posting_list (words s k)) d
           ∙ ap positions_in (stand.context.words.lists.exact (word_term s k) d r (s, (k, low, token, refl)) here)
           ∙ by_text seen
         where
@@ -284,7 +280,7 @@ module _ (m : Content) (ts : Tables) (x : Index) (i : List ℕ) (only : HasKeysO
       abbrev read : DocPostings
       read = postings_read (feeds_of words spans q) d
 
-      slot_agrees : (s : ℕ) (slot : Slot) → IsRead s slot → read.positions s slot ≡ union_at (documents_of (map (words s) (keys_of slot))) d → SameSlot read (seen_postings x seen) s slot
+      slot_agrees : (s : ℕ) (slot : Slot) → CanBeRead s slot → read.positions s slot ≡ union_at (documents_of (map (words s) (keys_of slot))) d → SameSlot read (seen_postings x seen) s slot
       slot_agrees s Any is same = let wrong = is.some in cc
       slot_agrees s (Takes keys (p ∷ ps)) is same = let wrong = is.alone in cc
       slot_agrees s (Takes keys []) is same = same ∙ keys_union s keys is.stream is.keys ∙ by_text seen
@@ -293,16 +289,15 @@ module _ (m : Content) (ts : Tables) (x : Index) (i : List ℕ) (only : HasKeysO
           by_text None = union_none keys
           by_text (Some text) = keys_together s keys (document x.prefs (chars text)).words (words_rise x.prefs text)
 
-      slot_same : (s : ℕ) (slot : Slot) → IsThere (slots_of q) s slot → SameSlot read (seen_postings x seen) s slot
+      slot_same : (s : ℕ) (slot : Slot) → IsThere (wanted_slots q) s slot → SameSlot read (seen_postings x seen) s slot
       slot_same s slot there =
-          let p = slot_read words IsRead (slots_of q) s slot there slots_are_read in
+          let p = slot_read words CanBeRead (wanted_slots q) s slot there slots_are_read in
           slot_agrees s slot p.1 (ap (λ (tokens : List (List (List RowDocument))). union_at (documents_of tokens) d) p.0)
 
-      section_same : (name : List ℕ) → IsNamed (names_of q) name → SameSection read (seen_postings x seen) name
+      section_same : (name : List ℕ) → IsAmongNames (section_names q) name → SameSection read (seen_postings x seen) name
       section_same name there =
-          let p = section_read spans (names_of q) name there named in
-          ap (λ (rows : List (List SpanDocument)). pairs_at (joined rows) d) p.0
-          ∙ ap (λ (xs : List SpanDocument). pairs_at xs d) (joined_list (spans name))
+          let p = section_read spans (section_names q) name there named in
+          ap (λ (rows : List (List SpanDocument)). pairs_at (posting_list rows) d) p.0
           ∙ pairs_are (posting_list (spans name)) d
           ∙ ap pairs_in (stand.context.spans.lists.exact (section_term name) d r (name, p.1, refl) here)
           ∙ by_text seen refl
@@ -320,7 +315,7 @@ module _ (m : Content) (ts : Tables) (x : Index) (i : List ℕ) (only : HasKeysO
       -- THE SCORE of what was read is that of the text
       read_score : score q read 0 1 last_position ≡ score q (seen_postings x seen) 0 1 last_position
       read_score = same_by_parts read (seen_postings x seen) q 0
-          (parts_so (IsThere (slots_of q)) (SameSlot read (seen_postings x seen)) slot_same (IsNamed (names_of q)) (SameSection read (seen_postings x seen)) section_same q 0 (parts_there q 0 [] [] alone)) 1 last_position
+          (parts_so (IsThere (wanted_slots q)) (SameSlot read (seen_postings x seen)) slot_same (IsAmongNames (section_names q)) (SameSection read (seen_postings x seen)) section_same q 0 (parts_there q 0 [] [] alone)) 1 last_position
 
     -- ---- the rows of documents
 
@@ -363,7 +358,7 @@ module _ (m : Content) (ts : Tables) (x : Index) (i : List ℕ) (only : HasKeysO
         go None = refl
         go (Some text) = above (nat_lt 0 (query_score x.prefs q text)) (query_score x.prefs q text)
 
-    module _ (named : EachIs IsName (names_of q)) (document_score : ℕ → ℕ) (scores : Rows ℕ)
+    module _ (named : EachIs IsName (section_names q)) (document_score : ℕ → ℕ) (scores : Rows ℕ)
         (built : (d : ℕ) → d < 2 ^ 32 → document_score d ≡ score q (postings_read (feeds_of words spans q) d) 0 1 last_position)
         (are : AreScores (row_at_document (at m) i) document_score scores) where
       right_scores : (r : ℤ) → get scores r ≡ option_and_then (scored_as r) (get (marks_in x.body) r)

@@ -20,9 +20,9 @@ use Rattle.ix_cursor.specs.declared.reading.Feeds.{Feeds}
 use Rattle.ix_cursor.specs.Reading.{postings_read}
 use Rattle.ix_search.specs.declared.gathering.Gathered.{Gathered}
 use Rattle.ix_search.specs.Parts.{has_keys_alone}
-use Rattle.ix_search.specs.Reading.{names_of, feeds_of}
+use Rattle.ix_search.specs.Reading.{section_names, feeds_of}
 use Rattle.ix_search.specs.Walking.{if_some, AreOneToOne, AreScores}
-use Rattle.ix_search.specs.Gathering.{Documents, AreRows, gathered_score, Gives}
+use Rattle.ix_search.specs.Gathering.{Documents, AreRowsOfDocuments, gathered_score, GivesRows}
 use Rattle.ix_search.specs.Finding.{found}
 use Rattle.ix_search.proofs.Found.{words, spans, one_to_one, finds}
 
@@ -30,7 +30,7 @@ use Rattle.ix_search.proofs.Found.{words, spans, one_to_one, finds}
 pub scores_same : (row : ℕ → Option ℤ) (one other : ℕ → ℕ) (scores : Rows ℕ) → ((d : ℕ) → d < 2 ^ 32 → one d ≡ other d) → AreScores row one scores → AreScores row other scores
 scores_same row one other scores same are = record { rows = λ d r low at. are.rows d r low at ∙ ap if_some (same d low); others = are.others }
 
-module _ (row : ℕ → Option ℤ) (left : ℕ → ℕ) (rows : Documents ℤ) (are : AreRows row left rows) (one : AreOneToOne row) where
+module _ (row : ℕ → Option ℤ) (left : ℕ → ℕ) (rows : Documents ℤ) (are : AreRowsOfDocuments row left rows) (one : AreOneToOne row) where
   -- no two of these documents have one row
   own_rows : AreOneToOne (get rows)
   own_rows d e r low high is also = one d e r low high (are.own d r is) (are.own e r also)
@@ -59,14 +59,14 @@ module _ (row : ℕ → Option ℤ) (left : ℕ → ℕ) (rows : Documents ℤ) 
 
 -- WHAT WAS GATHERED of an index that stands gives what the query finds
 pub gives_found : (m : Content) (ts : Tables) (x : Index) (i : List ℕ) (only : HasKeysOnly m) (stand : IndexStands (at m) ts i (Some x)) (fit : IsWithinLimits ts x) (prefs : IsPrefs x.prefs)
-    (q : Reduced) (sound : is_sound q ≡ true) (alone : has_keys_alone q ≡ true) (named : EachIs IsName (names_of q)) (left : ℕ → ℕ) (feeds : Feeds) (rows : Documents ℤ) (g : Gathered)
+    (q : Reduced) (sound : is_sound q ≡ true) (alone : has_keys_alone q ≡ true) (named : EachIs IsName (section_names q)) (left : ℕ → ℕ) (feeds : Feeds) (rows : Documents ℤ) (g : Gathered)
     → feeds ≡ feeds_of (words m ts x i only stand fit prefs) (spans m ts x i only stand fit prefs) q
-    → ((d : ℕ) → d < 2 ^ 32 → left d ≡ score q (postings_read feeds d) 0 1 last_position) → AreRows (row_at_document (at m) i) left rows
-    → reduced_of g.flat.now ≡ q → g.feeds ≡ feeds → g.rows ≡ rows → Gives g (found ts x q 0)
+    → ((d : ℕ) → d < 2 ^ 32 → left d ≡ score q (postings_read feeds d) 0 1 last_position) → AreRowsOfDocuments (row_at_document (at m) i) left rows
+    → reduced_of g.flat.now ≡ q → g.feeds ≡ feeds → g.rows ≡ rows → GivesRows g (found ts x q 0)
 gives_found m ts x i only stand fit prefs q sound alone named left feeds rows g read built are same_query same_feeds same_rows =
     let here : Feeds = feeds_of (words m ts x i only stand fit prefs) (spans m ts x i only stand fit prefs) q in
     let one = one_to_one m ts x i only stand fit prefs q sound alone in
-    let mine : AreRows (row_at_document (at m) i) left g.rows = subst (AreRows (row_at_document (at m) i) left) (sym same_rows) are in
+    let mine : AreRowsOfDocuments (row_at_document (at m) i) left g.rows = subst (AreRowsOfDocuments (row_at_document (at m) i) left) (sym same_rows) are in
     let score_as : (d : ℕ) → gathered_score g d ≡ score q (postings_read here d) 0 1 last_position =
     λ d. ap (λ (f : Reduced). score f (postings_read g.feeds d) 0 1 last_position) same_query ∙ ap (λ (f : Feeds). score q (postings_read f d) 0 1 last_position) (same_feeds ∙ read) in
     let same : (d : ℕ) → d < 2 ^ 32 → left d ≡ gathered_score g d = λ d low. built d low ∙ ap (λ (f : Feeds). score q (postings_read f d) 0 1 last_position) read ∙ sym (score_as d) in

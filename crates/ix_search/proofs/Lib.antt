@@ -1,4 +1,3 @@
-pub mod TakeSteps
 pub mod ReadSteps
 pub mod WalkSteps
 pub mod MappedEntries

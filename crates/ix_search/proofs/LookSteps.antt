@@ -18,10 +18,6 @@ looks_on whole one more all old mid new left is rises =
 pub looks_end : (rest all old now : Counts) → LooksLeft rest all old now → RisesBy all old now
 looks_end rest all old now left = record { texts = omega (arith, left.texts); rows = omega (arith, left.rows); rules = omega (arith, left.rules) }
 
--- one part and then another
-pub looks_both : (one more old mid new : Counts) → RisesBy one old mid → RisesBy more mid new → RisesBy (plus one more) old new
-looks_both one more old mid new first second = record { texts = omega (arith, first.texts, second.texts); rows = omega (arith, first.rows, second.rows); rules = omega (arith, first.rules, second.rules) }
-
 -- the first part alone
 pub looks_first : (one more old new : Counts) → RisesBy one old new → RisesBy (plus one more) old new
 looks_first one more old new first = record { texts = omega (arith, first.texts); rows = omega (arith, first.rows); rules = omega (arith, first.rules) }

@@ -13,7 +13,7 @@ use Rattle.ct_base.specs.declared.numbers.DocId.{DocId}
 use Rattle.ct_keep.specs.SortedLaws.{entries-sorted}
 use Rattle.ct_base.specs.laws.Orders.{equal_from_test, eq_from_equal}
 use Rattle.ix_cursor.specs.Candidates.{NoneBefore, behind_found}
-use Rattle.ix_search.specs.Gathering.{Documents, with_row, AreRows}
+use Rattle.ix_search.specs.Gathering.{Documents, with_row_of, AreRowsOfDocuments}
 
 -- a look-up among entries whose keys rise
 found_by_lookup : (d : ℕ) (es : List (ℕ × ℤ)) → lookup (is_at (nat_cmp d)) es ≡ find nat_cmp d es
@@ -34,7 +34,7 @@ one_number d x h = eq_from_equal d x (equal_from_test _ h)
 module _ (row : ℕ → Option ℤ) where
   -- what a map has with the row of a document
   put_own : (x : ℕ) (rows : Documents ℤ) → ((d : ℕ) (r : ℤ) → get rows d ≡ Some r → row d ≡ Some r) → (o : Option ℤ) → row x ≡ o
-      → (d : ℕ) (r : ℤ) → get (with_row x o rows) d ≡ Some r → row d ≡ Some r
+      → (d : ℕ) (r : ℤ) → get (with_row_of x o rows) d ≡ Some r → row d ≡ Some r
   put_own x rows own None is d r at = own d r at
   put_own x rows own (Some s) is d r at = go (eq_by_cmp nat_cmp d x) refl (sym (get-insert nat_cmp_total rows x s d) ∙ at)
     where
@@ -42,7 +42,7 @@ module _ (row : ℕ → Option ℤ) where
       go true h there = ap row (one_number d x h) ∙ is ∙ there
       go false h there = own d r there
 
-  put_here : (x : ℕ) (rows : Documents ℤ) → ((d : ℕ) (r : ℤ) → get rows d ≡ Some r → row d ≡ Some r) → (o : Option ℤ) → row x ≡ o → get (with_row x o rows) x ≡ o
+  put_here : (x : ℕ) (rows : Documents ℤ) → ((d : ℕ) (r : ℤ) → get rows d ≡ Some r → row d ≡ Some r) → (o : Option ℤ) → row x ≡ o → get (with_row_of x o rows) x ≡ o
   put_here x rows own None is = go (get rows x) refl
     where
       go : (o : Option ℤ) → get rows x ≡ o → get rows x ≡ None
@@ -50,7 +50,7 @@ module _ (row : ℕ → Option ℤ) where
       go (Some r) at = let wrong : None ≡ Some r = sym is ∙ own x r at in cc
   put_here x rows own (Some s) is = get-insert nat_cmp_total rows x s x ∙ ap (λ (b : Bool). cond b (Some s) (get rows x)) (ap is_eq (tied_itself nat_cmp_total x))
 
-  put_apart : (x : ℕ) (rows : Documents ℤ) (o : Option ℤ) (d : ℕ) → (d ≡ x → ⊥) → get (with_row x o rows) d ≡ get rows d
+  put_apart : (x : ℕ) (rows : Documents ℤ) (o : Option ℤ) (d : ℕ) → (d ≡ x → ⊥) → get (with_row_of x o rows) d ≡ get rows d
   put_apart x rows None d other = refl
   put_apart x rows (Some s) d other = get-insert nat_cmp_total rows x s d ∙ go (eq_by_cmp nat_cmp d x) refl
     where
@@ -68,7 +68,7 @@ module _ (row : ℕ → Option ℤ) where
 
     -- with one candidate more
     pub rows_next : (left next : ℕ → ℕ) (found : Option DocId) (x : DocId) (rows more : Documents ℤ) → found ≡ Some x → NoneBefore left found → ((d : ℕ) → d < 2 ^ 32 → next d ≡ behind_found found left d)
-        → more ≡ with_row x.0 (row x.0) rows → AreRowsSoFar row score left rows → AreRowsSoFar row score next more
+        → more ≡ with_row_of x.0 (row x.0) rows → AreRowsSoFar row score left rows → AreRowsSoFar row score next more
     rows_next left next found x rows more is none on made far = subst (AreRowsSoFar row score next) (sym made) (record {
       own = put_own x.0 rows far.own (row x.0) refl;
       each = λ d low. by_place d low (cases_lt d x.0) (cases_lt x.0 d);
@@ -88,23 +88,23 @@ module _ (row : ℕ → Option ℤ) where
             go true h = let before = leb-true d x.0 h in absurd (omega (arith, before, lt))
             go false h = refl
 
-        by_place : (d : ℕ) → d < 2 ^ 32 → (d < x.0) ⊎ (x.0 ≤ d) → (x.0 < d) ⊎ (d ≤ x.0) → (get (with_row x.0 (row x.0) rows) d ≡ row d) ⊎ (next d ≡ score d)
+        by_place : (d : ℕ) → d < 2 ^ 32 → (d < x.0) ⊎ (x.0 ≤ d) → (x.0 < d) ⊎ (d ≤ x.0) → (get (with_row_of x.0 (row x.0) rows) d ≡ row d) ⊎ (next d ≡ score d)
         by_place d low (inl before) after = by_far (far.each d low)
           where
-            by_far : (get rows d ≡ row d) ⊎ (left d ≡ score d) → (get (with_row x.0 (row x.0) rows) d ≡ row d) ⊎ (next d ≡ score d)
+            by_far : (get rows d ≡ row d) ⊎ (left d ≡ score d) → (get (with_row_of x.0 (row x.0) rows) d ≡ row d) ⊎ (next d ≡ score d)
             by_far (inl had) = inl (put_apart x.0 rows (row x.0) d (λ same. omega (arith, same, before)) ∙ had)
             by_far (inr same) = inr (passed d low (omega (arith, before)) ∙ sym (subst (λ (o : Option DocId). NoneBefore left o) is none d before) ∙ same)
         by_place d low (inr late) (inl after) = by_far (far.each d low)
           where
-            by_far : (get rows d ≡ row d) ⊎ (left d ≡ score d) → (get (with_row x.0 (row x.0) rows) d ≡ row d) ⊎ (next d ≡ score d)
+            by_far : (get rows d ≡ row d) ⊎ (left d ≡ score d) → (get (with_row_of x.0 (row x.0) rows) d ≡ row d) ⊎ (next d ≡ score d)
             by_far (inl had) = inl (put_apart x.0 rows (row x.0) d (λ same. omega (arith, same, after)) ∙ had)
             by_far (inr same) = inr (behind d low after ∙ same)
         by_place d low (inr late) (inr here) =
             let same : x.0 ≡ d = omega (arith, late, here) in
-            inl (subst (λ (n : ℕ). get (with_row x.0 (row x.0) rows) n ≡ row n) same (put_here x.0 rows far.own (row x.0) refl))
+            inl (subst (λ (n : ℕ). get (with_row_of x.0 (row x.0) rows) n ≡ row n) same (put_here x.0 rows far.own (row x.0) refl))
 
     -- and where no candidate is left
-    pub rows_end : (left : ℕ → ℕ) (found : Option DocId) (rows : Documents ℤ) → found ≡ None → NoneBefore left found → AreRowsSoFar row score left rows → AreRows row score rows
+    pub rows_end : (left : ℕ → ℕ) (found : Option DocId) (rows : Documents ℤ) → found ≡ None → NoneBefore left found → AreRowsSoFar row score left rows → AreRowsOfDocuments row score rows
     rows_end left found rows is none far = record {
       own = far.own;
       all = λ d low above. go d low above (far.each d low);

@@ -2,13 +2,13 @@
 use Rattle.std.proofs.Common.{ℕ, suc, ◌≡◌, ◌+◌, ◌<◌, ◌≤◌, List, [], ◌∷◌, ◌++◌, length, map, drop, get_or, drop-cons, sym, ap, subst, ◌∙◌, append_assoc, append-nil, arith}
 use Rattle.std.proofs.lemmas.List.{drop_all}
 use Rattle.ct_entry.specs.Lists.{EachIs}
+use Rattle.ix_posting.specs.Lists.{posting_list}
 use Rattle.ix_posting.specs.Rows.{DocumentsRise}
 use Rattle.ix_posting.specs.SpanRows.{SpanDocumentsRise}
 use Rattle.ix_posting.specs.declared.rows.RowDocument.{RowDocument}
-use Rattle.ix_cursor.specs.Documents.{joined}
 use Rattle.ix_cursor.specs.declared.reading.SlotFeed.{SlotFeed}
 use Rattle.ix_cursor.specs.declared.reading.SectionFeed.{SectionFeed}
-use Rattle.ix_cursor.specs.Reading.{TokensRise, SlotsRise, SectionsRise}
+use Rattle.ix_cursor.specs.Reading.{TokensRise, SlotFeedsRise, SectionFeedsRise}
 
 module _ {X Y : Type 0} (P : X → Type 0) (f : X → Y) where
   -- What was read of the first of some that have P is what f makes of them, and the rest is left.
@@ -38,35 +38,28 @@ module _ {X Y : Type 0} (P : X → Type 0) (f : X → Y) where
   pub read_ends : (all rest : List X) (ys : List Y) → ReadSoFar all rest ys → rest ≡ [] → ys ≡ map f all
   read_ends all rest ys far none = sym (append-nil ys) ∙ ap (λ (l : List X). ys ++ map f l) (sym none) ∙ far.so_far
 
--- the next of a slice, and its end
-pub next_item : {X : Type 0} (xs : List X) (k : ℕ) (x : X) → k < length xs → x ≡ get_or xs k x → drop k xs ≡ x ∷ drop (k + 1) xs
-next_item xs k x lt is = drop-cons xs k x lt ∙ ap (λ y. y ∷ drop (suc k) xs) (sym is) ∙ ap (λ j. x ∷ drop j xs) next
-  where
-    next : suc k ≡ k + 1
-    next = omega arith
-
 pub no_item : {X : Type 0} (xs : List X) (k : ℕ) → length xs ≤ k → drop k xs ≡ []
 no_item xs k le = drop_all k xs le
 
 -- ---- what rises does so with one more
 
-pub tokens_rise : (ts next : List (List (List RowDocument))) (rows : List (List RowDocument)) → TokensRise ts → DocumentsRise 0 (joined rows) → next ≡ ts ++ rows ∷ [] → TokensRise next
+pub tokens_rise : (ts next : List (List (List RowDocument))) (rows : List (List RowDocument)) → TokensRise ts → DocumentsRise 0 (posting_list rows) → next ≡ ts ++ rows ∷ [] → TokensRise next
 tokens_rise ts next rows rise more grown = subst TokensRise (sym grown) (go ts rise)
   where
     go : (ts : List (List (List RowDocument))) → TokensRise ts → TokensRise (ts ++ rows ∷ [])
     go [] rise = (more, tt)
     go (t ∷ ts) rise = (rise.0, go ts rise.1)
 
-pub slots_rise : (fs next : List SlotFeed) (f : SlotFeed) → SlotsRise fs → TokensRise f.tokens → next ≡ fs ++ f ∷ [] → SlotsRise next
-slots_rise fs next f rise more grown = subst SlotsRise (sym grown) (go fs rise)
+pub slots_rise : (fs next : List SlotFeed) (f : SlotFeed) → SlotFeedsRise fs → TokensRise f.tokens → next ≡ fs ++ f ∷ [] → SlotFeedsRise next
+slots_rise fs next f rise more grown = subst SlotFeedsRise (sym grown) (go fs rise)
   where
-    go : (fs : List SlotFeed) → SlotsRise fs → SlotsRise (fs ++ f ∷ [])
+    go : (fs : List SlotFeed) → SlotFeedsRise fs → SlotFeedsRise (fs ++ f ∷ [])
     go [] rise = (more, tt)
     go (g ∷ gs) rise = (rise.0, go gs rise.1)
 
-pub sections_rise : (fs next : List SectionFeed) (f : SectionFeed) → SectionsRise fs → SpanDocumentsRise 0 (joined f.rows) → next ≡ fs ++ f ∷ [] → SectionsRise next
-sections_rise fs next f rise more grown = subst SectionsRise (sym grown) (go fs rise)
+pub sections_rise : (fs next : List SectionFeed) (f : SectionFeed) → SectionFeedsRise fs → SpanDocumentsRise 0 (posting_list f.rows) → next ≡ fs ++ f ∷ [] → SectionFeedsRise next
+sections_rise fs next f rise more grown = subst SectionFeedsRise (sym grown) (go fs rise)
   where
-    go : (fs : List SectionFeed) → SectionsRise fs → SectionsRise (fs ++ f ∷ [])
+    go : (fs : List SectionFeed) → SectionFeedsRise fs → SectionFeedsRise (fs ++ f ∷ [])
     go [] rise = (more, tt)
     go (g ∷ gs) rise = (rise.0, go gs rise.1)

@@ -21,7 +21,7 @@ use Rattle.tx_document.specs.Entries.{place_map, entry_of, positions_of, section
 use Rattle.tx_document.specs.Promises.{as_pairs, if_any}
 use Rattle.tx_document.specs.laws.Found.{places_are_found, places_are_positions}
 use Rattle.ix_rows.specs.WordRows.{word_term}
-use Rattle.ix_context.specs.Postings.{text_places, text_entries, is_section, firsts, section_term, word_terms, section_terms}
+use Rattle.ix_context.specs.Postings.{places_in_text, text_entries, is_section_entry, first_positions, section_term, word_terms, section_terms}
 use Rattle.ix_context.specs.Documents.{text_postings}
 use Rattle.ix_context.specs.laws.Postings.{Named, text_names, firsts_of_pairs}
 use Rattle.q_tree.specs.Documents.{section_pairs}
@@ -35,7 +35,7 @@ tie_alike a b c d from to =
 apart : (a b : List ℕ) → (a ≡ b → ⊥) → eq_by_cmp (slice_cmp nat_cmp) a b ≡ false
 apart a b other = names_tie a b ∙ lists_tie a b false (λ e. absurd (other e)) (λ h. let wrong : false ≡ true = h in absurd (cc))
 
-option_map_cond : (b : Bool) (x : List Pair) (o : Option (List Pair)) → option_map firsts (cond b (Some x) o) ≡ cond b (Some (firsts x)) (option_map firsts o)
+option_map_cond : (b : Bool) (x : List Pair) (o : Option (List Pair)) → option_map first_positions (cond b (Some x) o) ≡ cond b (Some (first_positions x)) (option_map first_positions o)
 option_map_cond true x o = refl
 option_map_cond false x o = refl
 
@@ -46,7 +46,7 @@ abbrev pub any_positions : List ℕ → Option (List ℕ)
 any_positions [] = None
 any_positions (p ∷ ps) = Some (p ∷ ps)
 
-firsts_any : (ps : List ℕ) → option_map firsts (if_any (as_pairs ps)) ≡ any_positions ps
+firsts_any : (ps : List ℕ) → option_map first_positions (if_any (as_pairs ps)) ≡ any_positions ps
 firsts_any [] = refl
 firsts_any (p ∷ ps) = ap (λ (l : List ℕ). Some (p ∷ l)) (firsts_of_pairs ps)
 
@@ -67,13 +67,13 @@ module _ (s : ℕ) (low : s ≤ stream_limit) (w : List ℕ) (some : 1 ≤ lengt
   no_term : word_term s w ≡ word_term 0 [] → ⊥
   no_term e = let long : length w ≡ 0 = (cons_parts (length w) 0 w [] (cons_parts s 0 (length w ∷ w) (0 ∷ []) e).1).0 in absurd (omega (arith, some, long))
 
-  find-term : (ns : List Named) → find (slice_cmp nat_cmp) (word_term s w) (word_terms (map entry_of ns)) ≡ option_map firsts (find (slice_cmp nat_cmp) (s ∷ w) ns)
+  find-term : (ns : List Named) → find (slice_cmp nat_cmp) (word_term s w) (word_terms (map entry_of ns)) ≡ option_map first_positions (find (slice_cmp nat_cmp) (s ∷ w) ns)
   find-term [] = refl
   find-term (([], places) ∷ ns) =
-      ap (λ (b : Bool). cond b (Some (firsts places)) (find (slice_cmp nat_cmp) (word_term s w) (word_terms (map entry_of ns)))) (apart (word_term s w) (word_term 0 []) no_term)
+      ap (λ (b : Bool). cond b (Some (first_positions places)) (find (slice_cmp nat_cmp) (word_term s w) (word_terms (map entry_of ns)))) (apart (word_term s w) (word_term 0 []) no_term)
       ∙ find-term ns
-      ∙ sym (ap (λ (b : Bool). option_map firsts (cond b (Some places) (find (slice_cmp nat_cmp) (s ∷ w) ns))) (apart (s ∷ w) [] (λ e. cc)))
-  find-term ((stream ∷ token, places) ∷ ns) = go (is_section (entry_of (stream ∷ token, places))) refl (find-term ns)
+      ∙ sym (ap (λ (b : Bool). option_map first_positions (cond b (Some places) (find (slice_cmp nat_cmp) (s ∷ w) ns))) (apart (s ∷ w) [] (λ e. cc)))
+  find-term ((stream ∷ token, places) ∷ ns) = go (is_section_entry (entry_of (stream ∷ token, places))) refl (find-term ns)
     where
       name : Bool
       name = eq_by_cmp (slice_cmp nat_cmp) (s ∷ w) (stream ∷ token)
@@ -81,21 +81,21 @@ module _ (s : ℕ) (low : s ≤ stream_limit) (w : List ℕ) (some : 1 ≤ lengt
       no_name : stream ≡ section_stream → s ∷ w ≡ stream ∷ token → ⊥
       no_name last e = let first = (cons_parts s stream w token e).0 in absurd (omega (arith, last, first, low))
 
-      go : (b : Bool) → is_section (entry_of (stream ∷ token, places)) ≡ b
-          → find (slice_cmp nat_cmp) (word_term s w) (word_terms (map entry_of ns)) ≡ option_map firsts (find (slice_cmp nat_cmp) (s ∷ w) ns)
-          → find (slice_cmp nat_cmp) (word_term s w) (cons_option (cond b None (Some (word_term stream token, firsts places))) (word_terms (map entry_of ns))) ≡ option_map firsts (cond name (Some places) (find (slice_cmp nat_cmp) (s ∷ w) ns))
+      go : (b : Bool) → is_section_entry (entry_of (stream ∷ token, places)) ≡ b
+          → find (slice_cmp nat_cmp) (word_term s w) (word_terms (map entry_of ns)) ≡ option_map first_positions (find (slice_cmp nat_cmp) (s ∷ w) ns)
+          → find (slice_cmp nat_cmp) (word_term s w) (cons_option (cond b None (Some (word_term stream token, first_positions places))) (word_terms (map entry_of ns))) ≡ option_map first_positions (cond name (Some places) (find (slice_cmp nat_cmp) (s ∷ w) ns))
       go true so rest =
-          rest ∙ sym (ap (λ (b : Bool). option_map firsts (cond b (Some places) (find (slice_cmp nat_cmp) (s ∷ w) ns))) (apart (s ∷ w) (stream ∷ token) (no_name (eqb-true stream section_stream so))))
+          rest ∙ sym (ap (λ (b : Bool). option_map first_positions (cond b (Some places) (find (slice_cmp nat_cmp) (s ∷ w) ns))) (apart (s ∷ w) (stream ∷ token) (no_name (eqb-true stream section_stream so))))
       go false so rest =
-          ap (λ (b : Bool). cond b (Some (firsts places)) (find (slice_cmp nat_cmp) (word_term s w) (word_terms (map entry_of ns)))) (terms_tie stream token)
-          ∙ ap (cond name (Some (firsts places))) rest
+          ap (λ (b : Bool). cond b (Some (first_positions places)) (find (slice_cmp nat_cmp) (word_term s w) (word_terms (map entry_of ns)))) (terms_tie stream token)
+          ∙ ap (cond name (Some (first_positions places))) rest
           ∙ sym (option_map_cond name places (find (slice_cmp nat_cmp) (s ∷ w) ns))
 
   pub get-word : (p : Prefs) (text : List ℕ) → get (text_postings p (Some text)).words (word_term s w) ≡ any_positions (positions_of s w (document p (chars text)).words)
   get-word p text =
       get-from_entries nat_list_cmp_total (word_terms (text_entries p text)) (word_term s w)
       ∙ find-term (text_names p text)
-      ∙ ap (option_map firsts) (sym (get-entries (place_map (text_places p text)) (s ∷ w)) ∙ places_are_found p text (s ∷ w) ∙ ap if_any (places_are_positions p text s w low))
+      ∙ ap (option_map first_positions) (sym (get-entries (place_map (places_in_text p text)) (s ∷ w)) ∙ places_are_found p text (s ∷ w) ∙ ap if_any (places_are_positions p text s w low))
       ∙ firsts_any (positions_of s w (document p (chars text)).words)
 
 -- ---- sections
@@ -110,12 +110,12 @@ module _ (w : List ℕ) where
   find-section [] = refl
   find-section (([], places) ∷ ns) =
       find-section ns ∙ sym (ap (λ (b : Bool). cond b (Some places) (find (slice_cmp nat_cmp) (section_stream ∷ w) ns)) (apart (section_stream ∷ w) [] (λ e. cc)))
-  find-section ((stream ∷ token, places) ∷ ns) = go (is_section (entry_of (stream ∷ token, places))) refl (find-section ns)
+  find-section ((stream ∷ token, places) ∷ ns) = go (is_section_entry (entry_of (stream ∷ token, places))) refl (find-section ns)
     where
       found : Option (List Pair)
       found = find (slice_cmp nat_cmp) (section_stream ∷ w) ns
 
-      go : (b : Bool) → is_section (entry_of (stream ∷ token, places)) ≡ b → find (slice_cmp nat_cmp) (section_term w) (section_terms (map entry_of ns)) ≡ found
+      go : (b : Bool) → is_section_entry (entry_of (stream ∷ token, places)) ≡ b → find (slice_cmp nat_cmp) (section_term w) (section_terms (map entry_of ns)) ≡ found
           → find (slice_cmp nat_cmp) (section_term w) (cons_option (cond b (Some (section_term token, places)) None) (section_terms (map entry_of ns))) ≡ cond (eq_by_cmp (slice_cmp nat_cmp) (section_stream ∷ w) (stream ∷ token)) (Some places) found
       go true so rest =
           let one : stream ≡ section_stream = eqb-true stream section_stream so in
@@ -124,12 +124,12 @@ module _ (w : List ℕ) where
       go false so rest =
           rest ∙ sym (ap (λ (b : Bool). cond b (Some places) found) (apart (section_stream ∷ w) (stream ∷ token) (λ e.
           let one : section_stream ≡ stream = (cons_parts section_stream stream w token e).0 in
-          let wrong : true ≡ false = sym (ap (λ (n : ℕ). is_section (entry_of (n ∷ token, places))) (sym one)) ∙ so in
+          let wrong : true ≡ false = sym (ap (λ (n : ℕ). is_section_entry (entry_of (n ∷ token, places))) (sym one)) ∙ so in
           absurd (cc))))
 
   pub get-section : (p : Prefs) (text : List ℕ) → IsPrefs p → length text ≤ 2 ^ 24 → get (text_postings p (Some text)).spans (section_term w) ≡ if_any (section_pairs w (doc_sections (document p (chars text)).sections))
   get-section p text is short =
       get-from_entries nat_list_cmp_total (section_terms (text_entries p text)) (section_term w)
       ∙ find-section (text_names p text)
-      ∙ sym (get-entries (place_map (text_places p text)) (section_stream ∷ w)) ∙ places_are_found p text (section_stream ∷ w)
+      ∙ sym (get-entries (place_map (places_in_text p text)) (section_stream ∷ w)) ∙ places_are_found p text (section_stream ∷ w)
       ∙ ap if_any (section_places p text is short w)

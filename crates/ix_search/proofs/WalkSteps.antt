@@ -8,7 +8,7 @@ use Rattle.ct_base.specs.declared.numbers.DocId.{DocId}
 use Rattle.ct_entry.specs.Maps.{Rows}
 use Rattle.ct_entry.specs.laws.Maps.{get_row-insert}
 use Rattle.ct_entry.specs.laws.Parts.{int_from_eq, int_same}
-use Rattle.ix_cursor.specs.Cursors.{IsFirst, from_found, score_found}
+use Rattle.ix_cursor.specs.Cursors.{IsFirstScored, from_found, score_found}
 use Rattle.ix_search.specs.Walking.{if_some, with_score, AreOneToOne, AreScoresBefore, AreScores}
 
 module _ (row : ℕ → Option ℤ) (score : ℕ → ℕ) where
@@ -82,8 +82,8 @@ last row score left to scores one far same room none =
 
 -- ---- by what the cursor found
 
-pub first_after : (left : ℕ → ℕ) (to : ℕ) (found : Option DocId) (x : DocId) → found ≡ Some x → IsFirst left to found → to ≤ x.0
-first_after left to found x is first = (subst (IsFirst left to) is first).0
+pub first_after : (left : ℕ → ℕ) (to : ℕ) (found : Option DocId) (x : DocId) → found ≡ Some x → IsFirstScored left to found → to ≤ x.0
+first_after left to found x is first = (subst (IsFirstScored left to) is first).0
 
 pub left_on : (left next : ℕ → ℕ) (found : Option DocId) (x : DocId) → found ≡ Some x → ((d : ℕ) → d < 2 ^ 32 → next d ≡ from_found found left d) → (d : ℕ) → x.0 + 1 ≤ d → d < 2 ^ 32 → next d ≡ left d
 left_on left next found x is on d late low = on d low ∙ ap (λ (o : Option DocId). from_found o left d) is ∙ go (nat_lt d x.0) refl
@@ -92,12 +92,12 @@ left_on left next found x is on d late low = on d low ∙ ap (λ (o : Option Doc
     go true h = let before = ltb-true d x.0 h in absurd (omega (arith, before, late))
     go false h = refl
 
-pub found_step : (row : ℕ → Option ℤ) (score left : ℕ → ℕ) (to : ℕ) (found : Option DocId) (x : DocId) (given : ℕ) (scores next : Rows ℕ) → found ≡ Some x → IsFirst left to found → AreOneToOne row → AreScoresBefore row score to scores
+pub found_step : (row : ℕ → Option ℤ) (score left : ℕ → ℕ) (to : ℕ) (found : Option DocId) (x : DocId) (given : ℕ) (scores next : Rows ℕ) → found ≡ Some x → IsFirstScored left to found → AreOneToOne row → AreScoresBefore row score to scores
     → ((d : ℕ) → to ≤ d → d < 2 ^ 32 → left d ≡ score d) → given ≡ score_found found left → x.0 < 2 ^ 32 → next ≡ with_score (row x.0) given scores → AreScoresBefore row score (x.0 + 1) next
 found_step row score left to found x given scores next is first one far same has room made =
-    let f : IsFirst left to (Some x) = subst (IsFirst left to) is first in
+    let f : IsFirstScored left to (Some x) = subst (IsFirstScored left to) is first in
     step row score left to x.0 given scores next one far same f.0 room f.1 f.2 (has ∙ ap (λ (o : Option DocId). score_found o left) is) made
 
-pub found_last : (row : ℕ → Option ℤ) (score left : ℕ → ℕ) (to : ℕ) (found : Option DocId) (scores : Rows ℕ) → found ≡ None → IsFirst left to found → AreOneToOne row → AreScoresBefore row score to scores
+pub found_last : (row : ℕ → Option ℤ) (score left : ℕ → ℕ) (to : ℕ) (found : Option DocId) (scores : Rows ℕ) → found ≡ None → IsFirstScored left to found → AreOneToOne row → AreScoresBefore row score to scores
     → ((d : ℕ) → to ≤ d → d < 2 ^ 32 → left d ≡ score d) → to ≤ 2 ^ 32 → AreScores row score scores
-found_last row score left to found scores is first one far same room = last row score left to scores one far same room (subst (IsFirst left to) is first)
+found_last row score left to found scores is first one far same room = last row score left to scores one far same room (subst (IsFirstScored left to) is first)

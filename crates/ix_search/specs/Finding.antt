@@ -23,19 +23,19 @@ use Rattle.q_tree.specs.Trees.{Reduced, Term, Joined, Inside}
 use Rattle.q_tree.specs.Scores.{whole_score}
 use Rattle.ix_docmap.specs.Marks.{Mark, Pending, Settled}
 use Rattle.ix_context.specs.Indexes.{Index, OfContext, marks_in, text_seen, no_part}
-use Rattle.ix_search.specs.Texts.{text_postings, with_tags}
+use Rattle.ix_search.specs.Texts.{scanned_postings, with_tags}
 
 -- the score of a query on a text, by its words and sections
 abbrev pub query_score : Prefs → Reduced → List ℕ → ℕ
-query_score p q text = whole_score q (text_postings p text)
+query_score p q text = whole_score q (scanned_postings p text)
 
 -- a row with its score, where the score is above n
-abbrev pub if_above : ℕ → ℤ → ℕ → Option (ℤ × ℕ)
-if_above n r score = if nat_lt n score then Some (r, score) else None
+abbrev pub scored_above : ℕ → ℤ → ℕ → Option (ℤ × ℕ)
+scored_above n r score = if nat_lt n score then Some (r, score) else None
 
 abbrev pub scored : Prefs → Reduced → ℕ → ℤ → Option (List ℕ) → Option (ℤ × ℕ)
 scored p q n r None = None
-scored p q n r (Some text) = if_above n r (query_score p q text)
+scored p q n r (Some text) = scored_above n r (query_score p q text)
 
 abbrev pub found_at : Tables → Index → Reduced → ℕ → ℤ → Mark (Unit {0}) → Option (ℤ × ℕ)
 found_at ts x q n r Pending = None
@@ -51,10 +51,10 @@ key_query key = Term ((Takes (key ∷ []) [] ∷ []) ∷ [])
 
 -- ---- computed examples
 
-above : if_above 1 (pos 7) 2 ≡ Some (pos 7, 2)
+above : scored_above 1 (pos 7) 2 ≡ Some (pos 7, 2)
 above = refl
 
-only_as_high : if_above 2 (pos 7) 2 ≡ None
+only_as_high : scored_above 2 (pos 7) 2 ≡ None
 only_as_high = refl
 
 fox_and_dog : query_score default_prefs (Joined And (key_query (codes "fox")) (key_query (codes "dog"))) (codes "fox dog fox") ≡ 1

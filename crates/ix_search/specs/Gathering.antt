@@ -14,12 +14,12 @@ abbrev pub Documents : Type 0 → Type 0
 Documents X = FinMap nat_cmp X
 
 -- with this row of a document, if there is one
-abbrev pub with_row : ℕ → Option ℤ → Documents ℤ → Documents ℤ
-with_row d None rows = rows
-with_row d (Some r) rows = insert rows d r
+abbrev pub with_row_of : ℕ → Option ℤ → Documents ℤ → Documents ℤ
+with_row_of d None rows = rows
+with_row_of d (Some r) rows = insert rows d r
 
 -- These are rows of documents, and that of each document with a score is among them.
-pub record AreRows (row : ℕ → Option ℤ) (score : ℕ → ℕ) (rows : Documents ℤ) : Type 0 where
+pub record AreRowsOfDocuments (row : ℕ → Option ℤ) (score : ℕ → ℕ) (rows : Documents ℤ) : Type 0 where
   pub own : (d : ℕ) (r : ℤ) → get rows d ≡ Some r → row d ≡ Some r
   pub all : (d : ℕ) → d < 2 ^ 32 → 0 < score d → get rows d ≡ row d
 
@@ -31,10 +31,10 @@ abbrev pub gathered_score : Gathered → ℕ → ℕ
 gathered_score g d = score (reduced_of g.flat.now) (postings_read g.feeds d) 0 1 last_position
 
 -- WHAT WAS GATHERED GIVES THESE ROWS: no two documents have one row, and the scores of the rows, by those of all documents, are these in order of the rows' keys.
-pub record Gives (g : Gathered) (rows : List (ℤ × ℕ)) : Type 0 where
+pub record GivesRows (g : Gathered) (rows : List (ℤ × ℕ)) : Type 0 where
   pub one : AreOneToOne (gathered_row g)
   pub scores : (scores : Rows ℕ) → AreScores (gathered_row g) (gathered_score g) scores → entries scores ≡ rows
 
 -- computed example
-no_row : (rows : Documents ℤ) → with_row 7 None rows ≡ rows
+no_row : (rows : Documents ℤ) → with_row_of 7 None rows ≡ rows
 no_row rows = refl

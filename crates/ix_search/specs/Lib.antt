@@ -1,7 +1,6 @@
 pub mod Texts
 pub mod Parts
 pub mod Wanting
-pub mod Holding
 pub mod Reading
 pub mod Looking
 pub mod Walking

@@ -1,14 +1,15 @@
 -- How much the reading of a query's rows looks at.
-use Rattle.std.specs.Prelude.{ℕ, ◌+◌, ◌≤◌, List, [], ◌∷◌, ◌++◌}
+use Rattle.std.specs.Prelude.{ℕ, ◌≡◌, ◌+◌, ◌≤◌, List, [], ◌∷◌, ◌++◌, codes, refl}
 use Rattle.ct_keep.specs.Content.{Content}
 use Rattle.ct_keep.specs.KeeperViews.{Counts}
 use Rattle.ct_keep.specs.Looks.{no_looks, plus, scan_looks}
 use Rattle.ct_entry.specs.declared.kinds.Kind.TheVariants as kind
 use Rattle.ct_entry.specs.Keys.{prefix_of}
-use Rattle.q_tree.specs.Trees.{Reduced}
+use Rattle.q_tree.specs.declared.flats.Slot.TheVariants.{Any}
+use Rattle.q_tree.specs.Trees.{Reduced, Term}
 use Rattle.ix_search.specs.declared.wanting.Wanted.{Wanted}
 use Rattle.ix_search.specs.Parts.{keys_of}
-use Rattle.ix_search.specs.Reading.{key_prefix, name_prefix, slots_of, names_of}
+use Rattle.ix_search.specs.Reading.{key_prefix, name_prefix, wanted_slots, section_names}
 
 -- a scan of the rows of a key in a stream, and of those of a section
 abbrev pub key_looks : Content → List ℕ → ℕ → List ℕ → Counts
@@ -32,10 +33,16 @@ names_looks m i (n ∷ ns) = plus (name_looks m i n) (names_looks m i ns)
 
 -- WHAT A QUERY LOOKS AT: one scan for each key of each of its slots, where equal slots of a stream count once, and one for each of its sections
 abbrev pub query_looks : Content → List ℕ → Reduced → Counts
-query_looks m i q = plus (slots_looks m i (slots_of q)) (names_looks m i (names_of q))
+query_looks m i q = plus (slots_looks m i (wanted_slots q)) (names_looks m i (section_names q))
 
 -- What is still to be looked at is within what all may add.
 pub record LooksLeft (rest all old now : Counts) : Type 0 where
   pub texts : now.texts + rest.texts ≤ old.texts + all.texts
   pub rows : now.rows + rest.rows ≤ old.rows + all.rows
   pub rules : now.rules + rest.rules ≤ old.rules + all.rules
+
+-- ---- computed examples
+
+-- a slot that takes any word is looked for nowhere
+any_is_not_read : (m : Content) → query_looks m (codes "di") (Term ((Any ∷ []) ∷ [])) ≡ no_looks
+any_is_not_read m = refl

@@ -15,7 +15,7 @@ use Rattle.ix_cursor.specs.declared.reading.Feeds.{Feeds}
 use Rattle.ix_search.specs.declared.wanting.Wanted.{Wanted}
 use Rattle.ix_search.specs.Parts.{keys_of}
 use Rattle.ix_search.specs.Wanting.{with_slots, with_names}
-use Rattle.ix_search.specs.Holding.{HoldRows, HoldSpans}
+use Rattle.ix_rows.specs.Holding.{HoldRows, HoldSpans}
 
 -- what follows the index in the keys of the rows of a key in a stream, and of those of a section, up to the document
 abbrev pub key_prefix : ℕ → List ℕ → List ℕ
@@ -52,15 +52,34 @@ abbrev pub section_feed : NameRows → List ℕ → SectionFeed
 section_feed held name = record { section = name; rows = held name }
 
 -- the slots and sections of a query
-abbrev pub slots_of : Reduced → List Wanted
-slots_of f = with_slots f 0 []
+abbrev pub wanted_slots : Reduced → List Wanted
+wanted_slots f = with_slots f 0 []
 
-abbrev pub names_of : Reduced → List (List ℕ)
-names_of f = with_names f []
+abbrev pub section_names : Reduced → List (List ℕ)
+section_names f = with_names f []
 
 -- WHAT IS READ FOR A QUERY, by the rows that there are
 abbrev pub feeds_of : KeyRows → NameRows → Reduced → Feeds
-feeds_of words spans f = record { slots = map (slot_feed words) (slots_of f); sections = map (section_feed spans) (names_of f) }
+feeds_of words spans f = record { slots = map (slot_feed words) (wanted_slots f); sections = map (section_feed spans) (section_names f) }
+
+-- ---- what was read, by the rows that the content holds
+
+-- of each of some keys in a stream
+abbrev pub AreRowsOfKeys : Content → List ℕ → ℕ → List (List ℕ) → List (List (List RowDocument)) → Type 0
+AreRowsOfKeys m i stream keys rows = (held : List ℕ → List (List RowDocument)) → EachIs (λ key. HoldsKey m i stream key (held key)) keys → rows ≡ map held keys
+
+-- of each of some slots
+abbrev pub AreFeedsOfSlots : Content → List ℕ → List Wanted → List SlotFeed → Type 0
+AreFeedsOfSlots m i slots feeds = (held : KeyRows) → EachIs (HoldsSlot m i held) slots → feeds ≡ map (slot_feed held) slots
+
+-- of each of some sections
+abbrev pub AreFeedsOfSections : Content → List ℕ → List (List ℕ) → List SectionFeed → Type 0
+AreFeedsOfSections m i names feeds = (held : NameRows) → EachIs (HoldsName m i held) names → feeds ≡ map (section_feed held) names
+
+-- and of a query
+abbrev pub AreFeedsOfQuery : Content → List ℕ → Reduced → Feeds → Type 0
+AreFeedsOfQuery m i q feeds =
+    (words : KeyRows) (spans : NameRows) → EachIs (HoldsSlot m i words) (wanted_slots q) → EachIs (HoldsName m i spans) (section_names q) → feeds ≡ feeds_of words spans q
 
 -- computed example
 the_prefix : key_prefix 1 (codes "fox") ≡ 1 ∷ 3 ∷ codes "fox"

@@ -38,12 +38,12 @@ text_words p text = doc_words (document p (chars text)).words
 abbrev pub text_sections : Prefs → List ℕ → List DocSection
 text_sections p text = doc_sections (document p (chars text)).sections
 
-abbrev pub text_entries : Prefs → List ℕ → List DocEntry
-text_entries p text = map doc_entry (entries (document p (chars text)))
+abbrev pub entries_of_text : Prefs → List ℕ → List DocEntry
+entries_of_text p text = map doc_entry (entries (document p (chars text)))
 
 -- THE POSTINGS OF A TEXT, by scanning its words and sections
-abbrev pub text_postings : Prefs → List ℕ → DocPostings
-text_postings p text = postings_of_words (text_words p text) (text_sections p text)
+abbrev pub scanned_postings : Prefs → List ℕ → DocPostings
+scanned_postings p text = postings_of_words (text_words p text) (text_sections p text)
 
 -- computed examples: the field t is invisible, and p is a zone
 abbrev pub with_tags : List ℕ

@@ -28,7 +28,7 @@ pub struct Gathered<'q> {
 }
 
 impl<'q> Gathered<'q> {
-    ghost use Rattle.ix_search.specs.Gathering.{Gives};
+    ghost use Rattle.ix_search.specs.Gathering.{GivesRows};
     ghost use Rattle.ix_search.specs.Hits.{hit_rows};
     ghost use Rattle.std.specs.Prelude.{ℤ, ℕ, List, IfOk};
 
@@ -47,11 +47,11 @@ impl<'q> Gathered<'q> {
     /// The rows that the query finds, with their scores, in order of their keys. Documents that aren't mapped are left out. It reads nothing,
     /// and changes nothing: each call gives the same.
     ///
-    /// It costs the decoding of the rows of postings that the query can't pass over, and for each document that it scores the logarithm of
-    /// their number.
+    /// It decodes each row of postings up to the last document that it looks at, and takes for each document that it scores the logarithm
+    /// of their number.
     #[tactic(auto, using(crate::specs::laws::Parts::alone_is_plain))]
     pub fn hits(&self, alloc: Global) -> Result<Vec<Hit>, Memory>
-        ensures { IfOk result (λ hits. (rows : List (ℤ × ℕ)) → Gives self.now rows → hit_rows hits.items ≡ rows) }
+        ensures { IfOk result (λ hits. (rows : List (ℤ × ℕ)) → GivesRows self.now rows → hit_rows hits.items ≡ rows) }
     {
         let mut cursor = Cursor::build(alloc, self.flat, &self.feeds)?;
         let scores = walk(alloc, &self.rows, &mut cursor)?;

@@ -9,8 +9,6 @@ mod mapping;
 mod reading;
 mod scores;
 mod searching;
-mod span_taking;
-mod taking;
 mod walking;
 mod wanting;
 

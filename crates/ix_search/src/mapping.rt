@@ -7,7 +7,7 @@ ghost use Rattle.ct_keep.specs.Looks.{no_looks, LooksAtMost};
 ghost use Rattle.ct_entry.specs.Keys.{at};
 ghost use Rattle.ix_docmap.specs.Readings.{row_at_document};
 ghost use Rattle.ix_cursor.specs.Candidates.{ahead};
-ghost use Rattle.ix_search.specs.Gathering.{with_row, AreRows};
+ghost use Rattle.ix_search.specs.Gathering.{with_row_of, AreRowsOfDocuments};
 
 use crate::document_rows::DocumentRows;
 use ct_base::{DocId, Name};
@@ -25,7 +25,7 @@ fn map_document<K: Keeper>(
     document: DocId,
 ) -> Result<(), KeepFault>
     requires { (K.view keeper.old).ready }
-    ensures rows { Told K.view keeper.old (λ m. OnOk result (rows.new ≡ with_row document.0 (row_at_document (at m) index.now document.0) rows.old)) }
+    ensures rows { Told K.view keeper.old (λ m. OnOk result (rows.new ≡ with_row_of document.0 (row_at_document (at m) index.now document.0) rows.old)) }
     ensures reads { OnlyReads K.view keeper.old keeper.new result }
     ensures at_most { LooksAtMost K.view keeper.old keeper.new no_looks }
 {
@@ -43,17 +43,15 @@ pub(crate) fn map_documents<K: Keeper>(
     candidates: &mut Candidates,
 ) -> Result<DocumentRows, KeepFault>
     requires { (K.view keeper.old).ready }
-    ensures rows { Finds K.view keeper.old result (λ m rows. AreRows (row_at_document (at m) index.now) (ahead candidates.old) rows) }
+    ensures rows { Finds K.view keeper.old result (λ m rows. AreRowsOfDocuments (row_at_document (at m) index.now) (ahead candidates.old) rows) }
     ensures reads { OnlyReads K.view keeper.old keeper.new result }
     ensures at_most { LooksAtMost K.view keeper.old keeper.new no_looks }
 {
     let mut rows = DocumentRows::new(alloc);
-    'documents: for _ in 0..u64::MAX {
+    'documents: loop {
         let Some(document) = candidates.next(alloc)? else {
             return Ok(rows);
         };
         map_document(alloc, keeper, index, &mut rows, document)?;
     }
-    // there are no so many documents
-    Err(KeepFault::Memory)
 }

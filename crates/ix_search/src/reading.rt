@@ -1,7 +1,7 @@
 //! What a query reads of an index.
 #![tactic(auto, using(ct_keep::specs::Composing::reads_on, ct_keep::specs::Composing::reads_short))]
 
-ghost use Rattle.std.specs.Prelude.{◌≡◌, ℕ, List, IfOk, map, MatchOption};
+ghost use Rattle.std.specs.Prelude.{◌≡◌, ℕ, List, IfOk, MatchOption};
 ghost use Rattle.ct_keep.specs.KeeperViews.{Finds, OnlyReads, Told};
 ghost use Rattle.ct_keep.specs.Looks.{LooksAtMost};
 ghost use Rattle.ct_base.specs.Names.{IsName};
@@ -11,20 +11,20 @@ ghost use Rattle.ix_posting.specs.declared.rows.RowDocument.{RowDocument};
 ghost use Rattle.ix_posting.specs.declared.span_rows.SpanDocument.{SpanDocument};
 ghost use Rattle.ix_posting.specs.Rows.{DocumentsRise};
 ghost use Rattle.ix_posting.specs.SpanRows.{SpanDocumentsRise};
+ghost use Rattle.ix_posting.specs.Lists.{posting_list};
 ghost use Rattle.q_tree.specs.Trees.{reduced_of};
-ghost use Rattle.ix_cursor.specs.Documents.{joined};
-ghost use Rattle.ix_cursor.specs.Reading.{TokensRise, SlotsRise, SectionsRise, FeedsRise};
+ghost use Rattle.ix_cursor.specs.Reading.{TokensRise, SlotFeedsRise, SectionFeedsRise, FeedsRise};
 ghost use Rattle.ix_search.specs.Parts.{keys_of};
 ghost use Rattle.ix_search.specs.Looking.{key_looks, keys_looks, slots_looks, name_looks, names_looks, query_looks};
-ghost use Rattle.ix_search.specs.Reading.{key_prefix, name_prefix, KeyRows, NameRows, HoldsKey, HoldsSlot, HoldsName, slot_feed, section_feed, slots_of, names_of, feeds_of};
+ghost use Rattle.ix_search.specs.Reading.{key_prefix, name_prefix, KeyRows, NameRows, HoldsKey, HoldsSlot, HoldsName, AreRowsOfKeys, AreFeedsOfSlots, AreFeedsOfSections, AreFeedsOfQuery, slot_feed, section_feed, section_names};
 
-use crate::span_taking::span_rows_in;
-use crate::taking::rows_in;
 use crate::wanting::{Wanted, want_names, want_slots};
 use ct_base::{Listed, Memory, Name};
 use ct_entry::{Kind, entries_of};
 use ct_keep::{KeepFault, Keeper};
-use ix_cursor::{EncodedRows, EncodedSpanRows, Feeds, SectionFeed, SlotFeed};
+use ix_cursor::{Feeds, SectionFeed, SlotFeed};
+use ix_posting::{EncodedRows, EncodedSpanRows};
+use ix_rows::{rows_in, span_rows_in};
 use q_tree::{Flat, Slot};
 use std::alloc::Global;
 use tx_chars::Key;
@@ -54,7 +54,7 @@ fn read_key<K: Keeper>(
     key: &Key,
 ) -> Result<EncodedRows, KeepFault>
     requires { (K.view keeper.old).ready }
-    ensures rise { IfOk result (λ rows. DocumentsRise 0 (joined rows)) }
+    ensures rise { IfOk result (λ rows. DocumentsRise 0 (posting_list rows)) }
     ensures rows { Finds K.view keeper.old result (λ m rows. (held : List (List RowDocument)) → HoldsKey m index.now stream key.now held → rows ≡ held) }
     ensures reads { OnlyReads K.view keeper.old keeper.new result }
     ensures at_most { Told K.view keeper.old (λ m. LooksAtMost K.view keeper.old keeper.new (key_looks m index.now stream key.now)) }
@@ -77,7 +77,7 @@ fn read_keys<K: Keeper>(
 ) -> Result<Listed<EncodedRows>, KeepFault>
     requires { (K.view keeper.old).ready }
     ensures rise { IfOk result (λ tokens. TokensRise tokens) }
-    ensures rows { Finds K.view keeper.old result (λ m tokens. (held : List ℕ → List (List RowDocument)) → EachIs (λ key. HoldsKey m index.now stream key (held key)) keys.now → tokens ≡ map held keys.now) }
+    ensures rows { Finds K.view keeper.old result (λ m tokens. AreRowsOfKeys m index.now stream keys.now tokens) }
     ensures reads { OnlyReads K.view keeper.old keeper.new result }
     ensures at_most { Told K.view keeper.old (λ m. LooksAtMost K.view keeper.old keeper.new (keys_looks m index.now stream keys.now)) }
 {
@@ -128,8 +128,8 @@ fn read_slots<K: Keeper>(
     wanted: Vec<Wanted>,
 ) -> Result<Listed<SlotFeed>, KeepFault>
     requires { (K.view keeper.old).ready }
-    ensures rise { IfOk result (λ feeds. SlotsRise feeds) }
-    ensures rows { Finds K.view keeper.old result (λ m feeds. (held : KeyRows) → EachIs (HoldsSlot m index.now held) wanted.items → feeds ≡ map (slot_feed held) wanted.items) }
+    ensures rise { IfOk result (λ feeds. SlotFeedsRise feeds) }
+    ensures rows { Finds K.view keeper.old result (λ m feeds. AreFeedsOfSlots m index.now wanted.items feeds) }
     ensures reads { OnlyReads K.view keeper.old keeper.new result }
     ensures at_most { Told K.view keeper.old (λ m. LooksAtMost K.view keeper.old keeper.new (slots_looks m index.now wanted.items)) }
 {
@@ -163,7 +163,7 @@ fn read_name<K: Keeper>(
 ) -> Result<SectionFeed, KeepFault>
     requires { (K.view keeper.old).ready }
     ensures named { IfOk result (λ _. IsName name) }
-    ensures rise { IfOk result (λ feed. SpanDocumentsRise 0 (joined feed.rows)) }
+    ensures rise { IfOk result (λ feed. SpanDocumentsRise 0 (posting_list feed.rows)) }
     ensures rows { Finds K.view keeper.old result (λ m feed. (held : NameRows) → HoldsName m index.now held name → feed ≡ section_feed held name) }
     ensures reads { OnlyReads K.view keeper.old keeper.new result }
     ensures at_most { Told K.view keeper.old (λ m. LooksAtMost K.view keeper.old keeper.new (name_looks m index.now name)) }
@@ -185,8 +185,8 @@ fn read_names<K: Keeper>(
 ) -> Result<Listed<SectionFeed>, KeepFault>
     requires { (K.view keeper.old).ready }
     ensures named { IfOk result (λ _. EachIs IsName names.items) }
-    ensures rise { IfOk result (λ feeds. SectionsRise feeds) }
-    ensures rows { Finds K.view keeper.old result (λ m feeds. (held : NameRows) → EachIs (HoldsName m index.now held) names.items → feeds ≡ map (section_feed held) names.items) }
+    ensures rise { IfOk result (λ feeds. SectionFeedsRise feeds) }
+    ensures rows { Finds K.view keeper.old result (λ m feeds. AreFeedsOfSections m index.now names.items feeds) }
     ensures reads { OnlyReads K.view keeper.old keeper.new result }
     ensures at_most { Told K.view keeper.old (λ m. LooksAtMost K.view keeper.old keeper.new (names_looks m index.now names.items)) }
 {
@@ -207,9 +207,9 @@ pub(crate) fn read<K: Keeper>(
     flat: &Flat,
 ) -> Result<Feeds, KeepFault>
     requires { (K.view keeper.old).ready }
-    ensures named { IfOk result (λ _. EachIs IsName (names_of (reduced_of flat.now))) }
+    ensures named { IfOk result (λ _. EachIs IsName (section_names (reduced_of flat.now))) }
     ensures rise { IfOk result (λ feeds. FeedsRise feeds) }
-    ensures rows { Finds K.view keeper.old result (λ m feeds. (words : KeyRows) (spans : NameRows) → EachIs (HoldsSlot m index.now words) (slots_of (reduced_of flat.now)) → EachIs (HoldsName m index.now spans) (names_of (reduced_of flat.now)) → feeds ≡ feeds_of words spans (reduced_of flat.now)) }
+    ensures rows { Finds K.view keeper.old result (λ m feeds. AreFeedsOfQuery m index.now (reduced_of flat.now) feeds) }
     ensures reads { OnlyReads K.view keeper.old keeper.new result }
     ensures at_most { Told K.view keeper.old (λ m. LooksAtMost K.view keeper.old keeper.new (query_looks m index.now (reduced_of flat.now))) }
 {

@@ -10,7 +10,7 @@ ghost use Rattle.q_tree.specs.Soundness.{is_sound};
 ghost use Rattle.ix_context.specs.Sees.{SeesWithinLimits};
 ghost use Rattle.ix_search.specs.Parts.{has_keys_alone};
 ghost use Rattle.ix_search.specs.Finding.{found};
-ghost use Rattle.ix_search.specs.Gathering.{Gives};
+ghost use Rattle.ix_search.specs.Gathering.{GivesRows};
 ghost use Rattle.ix_search.specs.Hits.{hit_rows};
 ghost use Rattle.ix_search.specs.Looking.{query_looks};
 
@@ -26,10 +26,9 @@ use std::alloc::Global;
 
 /// Reads what a query needs, so that it can be searched without the keeper. The query has no pattern and no DEFINESCORE.
 ///
-/// It reads the rows of each key of the query in each stream where it is looked for, and those of each of its sections,
-/// once each; and the row of each document that isn't ruled out by which documents the parts of the query are in. It costs
-/// the decoding of the rows, and for each such document one look-up and the logarithm of their number. It reads no text,
-/// and never answers Full.
+/// It reads, once each, the rows of each key in each stream where the query looks for it, and those of each section. Then it makes one
+/// look-up for each candidate: each document with those words and sections of the query that a score needs. It decodes each row once
+/// to check it, and once more as far as candidates are looked for in it. It reads no text, and never answers Full.
 pub fn gather<'q, K: Keeper>(
     alloc: Global,
     keeper: &mut K,
@@ -39,7 +38,7 @@ pub fn gather<'q, K: Keeper>(
     requires ready { (K.view keeper.old).ready }
     requires sound { is_sound (reduced_of flat.now) ≡ true }
     requires plain { has_keys_alone (reduced_of flat.now) ≡ true }
-    ensures gathered { SeesWithinLimits K.view keeper.old index.now result (λ ts x g. IsPrefs x.prefs → Gives g (found ts x (reduced_of flat.now) 0)) }
+    ensures gathered { SeesWithinLimits K.view keeper.old index.now result (λ ts x g. IsPrefs x.prefs → GivesRows g (found ts x (reduced_of flat.now) 0)) }
     ensures reads { OnlyReads K.view keeper.old keeper.new result }
     ensures at_most { Told K.view keeper.old (λ m. LooksAtMost K.view keeper.old keeper.new (query_looks m index.now (reduced_of flat.now))) }
 {

@@ -1,12 +1,9 @@
 -- What the tests' lists are made of.
-use Rattle.std.proofs.Common.{ℕ, ◌<◌, ◌+◌, List, [], ◌∷◌, ◌++◌, Option, subst, sym, arith}
+use Rattle.std.proofs.Common.{ℕ, ◌<◌, ◌+◌, List, [], ◌∷◌, ◌++◌, Option, arith}
 use Rattle.std.specs.Global.{Vec}
-use Rattle.ct_base.specs.declared.numbers.Pair.{Pair}
-use Rattle.ix_spans.specs.InOrder.{StartsInOrder, EachInOrder}
 use Rattle.ix_spans.specs.Rising.{Above, Rising}
 use Rattle.ix_spans.specs.Slots.{SlotRises, SlotsRise}
-use Rattle.ix_spans.specs.Views.{slot_view, slots_view, pairs_view}
-use Rattle.ix_spans.specs.laws.Nearness.{pairs_push, each_in_order_push}
+use Rattle.ix_spans.specs.Views.{slot_view, slots_view}
 
 -- ---- rising numbers
 
@@ -36,6 +33,3 @@ below_push p (n ∷ ns) h = let f = h.0 in (omega (arith, f), below_push p ns h.
 pub slots_push : (ss : List (Option (Vec ℕ))) (s : Option (Vec ℕ)) → SlotsRise (slots_view ss) → SlotRises (slot_view s) → SlotsRise (slots_view (ss ++ s ∷ []))
 slots_push [] s h k = (k, tt)
 slots_push (r ∷ ss) s h k = (h.0, slots_push ss s h.1 k)
-
-pub operands_push : (os : List (Vec Pair)) (o : Vec Pair) → EachInOrder (pairs_view os) → StartsInOrder o.items → EachInOrder (pairs_view (os ++ o ∷ []))
-operands_push os o h k = subst EachInOrder (sym (pairs_push os o)) (each_in_order_push (pairs_view os) o.items h k)

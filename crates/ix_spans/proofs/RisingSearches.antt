@@ -7,8 +7,8 @@ use Rattle.std.specs.Result.{is_ok}
 use Rattle.std.proofs.Common.{◌≡◌, ◌≢◌, ℕ, zero, suc, ◌≤◌, ◌<◌, Bool, true, false, cond, ◌&&◌, List, [], ◌∷◌, length, get_or, take, drop, Result, Ok, Err, refl, sym, ap, ◌∙◌, arith, inl, inr}
 use Rattle.std.proofs.lemmas.Bool.{cases_lt, ltb-true, le-leb, lt-leb, ltb-false, eq-eqb, ne_eqb}
 use Rattle.std.proofs.lemmas.List.Sorted.{searched}
-use Rattle.ix_spans.specs.Occurrences.{has}
-use Rattle.ix_spans.specs.Rising.{Above, Rising, is_in}
+use Rattle.ix_spans.specs.Occurrences.{has_number}
+use Rattle.ix_spans.specs.Rising.{Above, Rising, is_between_places}
 use Rattle.ix_spans.proofs.Parting.{back_is, front_is}
 use Rattle.ix_spans.specs.laws.Rising.{above_rises}
 
@@ -28,20 +28,20 @@ in_order (p ∷ ps) (suc i) (suc j) d h before within = in_order ps i j d (above
 
 -- ---- whether a number is there
 
-has_at : (ps : List ℕ) (p i : ℕ) → i < length ps → get_or ps i 0 ≡ p → has ps p ≡ true
+has_at : (ps : List ℕ) (p i : ℕ) → i < length ps → get_or ps i 0 ≡ p → has_number ps p ≡ true
 has_at [] p i within is = absurd (omega (arith, within))
-has_at (q ∷ ps) p zero within is = ap (λ t. t || has ps p) (eq-eqb q p is)
+has_at (q ∷ ps) p zero within is = ap (λ t. t || has_number ps p) (eq-eqb q p is)
 has_at (q ∷ ps) p (suc i) within is = later (eqb q p) (has_at ps p i (omega (arith, within)) is)
   where
-    later : (b : Bool) → has ps p ≡ true → (b || has ps p) ≡ true
+    later : (b : Bool) → has_number ps p ≡ true → (b || has_number ps p) ≡ true
     later true h = refl
     later false h = h
 
-none_at : (ps : List ℕ) (p : ℕ) → ((k : ℕ) → k < length ps → get_or ps k 0 ≢ p) → has ps p ≡ false
+none_at : (ps : List ℕ) (p : ℕ) → ((k : ℕ) → k < length ps → get_or ps k 0 ≢ p) → has_number ps p ≡ false
 none_at [] p h = refl
-none_at (q ∷ ps) p h = ap (λ t. t || has ps p) (ne_eqb q p (h 0 (omega arith))) ∙ none_at ps p (λ k within. h (suc k) (omega (arith, within)))
+none_at (q ∷ ps) p h = ap (λ t. t || has_number ps p) (ne_eqb q p (h 0 (omega arith))) ∙ none_at ps p (λ k within. h (suc k) (omega (arith, within)))
 
-pub has_searched : (ps : List ℕ) (p : ℕ) (r : Result ℕ ℕ) → Rising ps → IsBinarySearchResult (λ y. nat_cmp y p) ps r → is_ok r ≡ has ps p
+pub has_searched : (ps : List ℕ) (p : ℕ) (r : Result ℕ ℕ) → Rising ps → IsBinarySearchResult (λ y. nat_cmp y p) ps r → is_ok r ≡ has_number ps p
 has_searched ps p (Ok i) h is = let f = searched ps p (Ok i) is (λ i j b w. in_order ps i j 0 h b w) in sym (has_at ps p i f.0 f.1)
 has_searched ps p (Err i) h is =
     let f = searched ps p (Err i) is (λ i j b w. in_order ps i j 0 h b w) in
@@ -63,10 +63,10 @@ from_point ps least i within point =
 pub to_point : (ps : List ℕ) (most i : ℕ) → i ≤ length ps → IsPartitionPoint (λ n. nat_le n most ≡ true) (λ n. nat_le n most ≡ false) ps i → take i ps ≡ filter (λ n. nat_le n most) ps
 to_point ps most i within point = front_is (λ n. nat_le n most) ps i within (λ k d h. point.0 k d (omega arith) h) (λ k d h w. point.1 k d h w)
 
-pub from_and_to : (ps : List ℕ) (lo hi : ℕ) → filter (λ n. nat_le n hi) (filter (λ n. nat_le lo n) ps) ≡ filter (is_in lo hi) ps
+pub from_and_to : (ps : List ℕ) (lo hi : ℕ) → filter (λ n. nat_le n hi) (filter (λ n. nat_le lo n) ps) ≡ filter (is_between_places lo hi) ps
 from_and_to [] lo hi = refl
 from_and_to (p ∷ ps) lo hi = go (from_and_to ps lo hi) (nat_le lo p)
   where
-    go : filter (λ n. nat_le n hi) (filter (λ n. nat_le lo n) ps) ≡ filter (is_in lo hi) ps → (b : Bool) → filter (λ n. nat_le n hi) (cond b (p ∷ filter (λ n. nat_le lo n) ps) (filter (λ n. nat_le lo n) ps)) ≡ cond (b && nat_le p hi) (p ∷ filter (is_in lo hi) ps) (filter (is_in lo hi) ps)
+    go : filter (λ n. nat_le n hi) (filter (λ n. nat_le lo n) ps) ≡ filter (is_between_places lo hi) ps → (b : Bool) → filter (λ n. nat_le n hi) (cond b (p ∷ filter (λ n. nat_le lo n) ps) (filter (λ n. nat_le lo n) ps)) ≡ cond (b && nat_le p hi) (p ∷ filter (is_between_places lo hi) ps) (filter (is_between_places lo hi) ps)
     go rest true = ap (λ (l : List ℕ). cond (nat_le p hi) (p ∷ l) l) rest
     go rest false = rest

@@ -4,13 +4,11 @@ use Rattle.std.specs.List.{list_all, filter}
 use Rattle.std.specs.Option.{option_and_then}
 use Rattle.std.proofs.lemmas.Bool.{cases_lt, and_parts, and_from, leb-true, le-leb, false_from_ne_true}
 use Rattle.ct_base.specs.declared.numbers.Pair.{Pair}
+use Rattle.ct_base.specs.laws.Options.{same_value}
 use Rattle.ix_spans.specs.Occurrences.{choices, is_within_span, is_near, near_holds}
 use Rattle.ix_spans.specs.Windows.{starts_from, least_of, least_of_all, least_end, opening}
 use Rattle.ix_spans.specs.laws.Choices.{Within, any_of, any_by, all_of, all_by, Picks, choice_picks, pick_choice}
 use Rattle.ix_spans.proofs.PairSearches.{within_filter, filter_within}
-
-some_is : (s t : ℕ) → Some s ≡ Some t → s ≡ t
-some_is s t h = cc
 
 -- ---- the least end
 
@@ -38,12 +36,12 @@ least_one q (r ∷ ps) = go (least_one r ps) (least_one q ps) (cases_lt r.last q
 
 end_of_one : (ps : List Pair) (e : ℕ) → least_of_all ps ≡ Some e → (p : Pair) × Within p ps × (p.last ≡ e)
 end_of_one [] e h = cc
-end_of_one (q ∷ ps) e h = let x = least_one q ps in (x.0, x.1, x.2 ∙ some_is (least_of q.last ps) e h)
+end_of_one (q ∷ ps) e h = let x = least_one q ps in (x.0, x.1, x.2 ∙ same_value (least_of q.last ps) e h)
 
 end_under : (ps : List Pair) (e : ℕ) (p : Pair) → least_of_all ps ≡ Some e → Within p ps → e ≤ p.last
 end_under [] e p h w = absurd w
-end_under (q ∷ ps) e p h (inl is) = let s = some_is (least_of q.last ps) e h in let r = least_at_most q.last ps in rw is (omega (arith, s, r))
-end_under (q ∷ ps) e p h (inr w) = let s = some_is (least_of q.last ps) e h in let r = least_under q.last ps p w in omega (arith, s, r)
+end_under (q ∷ ps) e p h (inl is) = let s = same_value (least_of q.last ps) e h in let r = least_at_most q.last ps in rw is (omega (arith, s, r))
+end_under (q ∷ ps) e p h (inr w) = let s = same_value (least_of q.last ps) e h in let r = least_under q.last ps p w in omega (arith, s, r)
 
 -- what the least end from a number on is
 pub record IsLeastEnd (s : ℕ) (o : List Pair) (e : ℕ) : Type 0 where
@@ -75,7 +73,7 @@ none_from s o p h w k = nothing_within (filter (starts_from s) o) p h (filter_wi
 -- ---- where a window may open
 
 pub opening_rises : (span s : ℕ) (os : List (List Pair)) (t : ℕ) → opening span s os ≡ Some t → s ≤ t
-opening_rises span s [] t h = let e = some_is s t h in omega (arith, e)
+opening_rises span s [] t h = let e = same_value s t h in omega (arith, e)
 opening_rises span s (o ∷ os) t h = go (λ n. opening_rises span n os t) (least_end s o) h
   where
     go : ((n : ℕ) → opening span n os ≡ Some t → n ≤ t) → (l : Option ℕ) → option_and_then (λ e. opening span (max s (e - span)) os) l ≡ Some t → s ≤ t
@@ -116,7 +114,7 @@ close span c p q h v w = leb-true p.last (q.first + span) (all_of (λ (y : Pair)
 module _ (span : ℕ) (c : List Pair) (near : is_within_span span c ≡ true) where
   -- where it goes on, what is near stands from there on
   goes_on : (s : ℕ) (os : List (List Pair)) (d : List Pair) (t : ℕ) → AllFrom s c → Picks os d → ((p : Pair) → Within p d → Within p c) → opening span s os ≡ Some t → AllFrom t c
-  goes_on s [] d t all h part k = λ q w. let e = some_is s t k in let a = all q w in omega (arith, e, a)
+  goes_on s [] d t all h part k = λ q w. let e = same_value s t k in let a = all q w in omega (arith, e, a)
   goes_on s (o ∷ os) [] t all h part k = absurd h
   goes_on s (o ∷ os) (p ∷ d) t all h part k = go (λ n more. goes_on n os d t more h.1 (λ q w. part q (inr w))) (least_end s o) refl k
     where

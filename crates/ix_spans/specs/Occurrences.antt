@@ -5,9 +5,9 @@ use Rattle.std.specs.List.{flat_map, list_any, list_all}
 use Rattle.ct_base.specs.declared.numbers.Pair.{Pair}
 
 -- whether a number is in a list
-abbrev pub has : List ℕ → ℕ → Bool
-has [] p = false
-has (q ∷ qs) p = eqb q p || has qs p
+abbrev pub has_number : List ℕ → ℕ → Bool
+has_number [] p = false
+has_number (q ∷ qs) p = eqb q p || has_number qs p
 
 -- The slots of a phrase, each by the positions that it takes in a document, rising; None takes every position.
 abbrev pub Slots : Type 0
@@ -16,7 +16,7 @@ Slots = List (Option (List ℕ))
 -- whether one slot takes the position
 abbrev pub fits_at : Option (List ℕ) → ℕ → Bool
 fits_at None p = true
-fits_at (Some ps) p = has ps p
+fits_at (Some ps) p = has_number ps p
 
 -- whether the slots take the positions from p on
 abbrev pub occurs_at : Slots → ℕ → Bool
@@ -28,10 +28,10 @@ abbrev pub is_start : Slots → ℕ → ℕ → ℕ → Bool
 is_start rest lo hi p = nat_le lo p && nat_le (p + length rest) hi && occurs_at rest (p + 1)
 
 -- the starts of a phrase within lo to hi: its first slot isn't Any, so each is a position of that slot
-abbrev pub starts : Slots → ℕ → ℕ → List ℕ
-starts [] lo hi = []
-starts (None ∷ rest) lo hi = []
-starts (Some ps ∷ rest) lo hi = filter (is_start rest lo hi) ps
+abbrev pub phrase_starts : Slots → ℕ → ℕ → List ℕ
+phrase_starts [] lo hi = []
+phrase_starts (None ∷ rest) lo hi = []
+phrase_starts (Some ps ∷ rest) lo hi = filter (is_start rest lo hi) ps
 
 -- ---- occurrences as pairs of a start and an end
 
@@ -51,16 +51,16 @@ more_slots (s ∷ ss) = length ss
 
 -- the occurrences of one phrase
 abbrev pub phrase_pairs : Slots → ℕ → ℕ → List Pair
-phrase_pairs slots lo hi = pairs_from (more_slots slots) (starts slots lo hi)
+phrase_pairs slots lo hi = pairs_from (more_slots slots) (phrase_starts slots lo hi)
 
 -- the score of a phrase: how many occurrences it has, at most 100
-abbrev pub counted : List Pair → ℕ
-counted ps = min 100 (length ps)
+abbrev pub phrase_score : List Pair → ℕ
+phrase_score ps = min 100 (length ps)
 
 -- the score of a term: the greatest of its phrases
 abbrev pub term_score : List Slots → ℕ → ℕ → ℕ
 term_score [] lo hi = 0
-term_score (s ∷ ss) lo hi = max (counted (phrase_pairs s lo hi)) (term_score ss lo hi)
+term_score (s ∷ ss) lo hi = max (phrase_score (phrase_pairs s lo hi)) (term_score ss lo hi)
 
 -- the occurrences of the phrases of a term; one that several phrases have stands several times
 abbrev pub term_pairs : List Slots → ℕ → ℕ → List Pair
@@ -100,21 +100,21 @@ abbrev pub near_holds : List (List Pair) → ℕ → Bool → Bool
 near_holds operands span ordered = list_any (is_near span ordered) (choices operands)
 
 -- the pair lies within lo to hi
-abbrev pub is_inside : ℕ → ℕ → Pair → Bool
-is_inside lo hi p = nat_le lo p.first && nat_le p.last hi
+abbrev pub is_pair_inside : ℕ → ℕ → Pair → Bool
+is_pair_inside lo hi p = nat_le lo p.first && nat_le p.last hi
 
 -- computed examples: `a b a b`, where a stands at 1 and 3, and b at 2 and 4
 abbrev a_b : Slots
 a_b = Some (1 ∷ 3 ∷ []) ∷ Some (2 ∷ 4 ∷ []) ∷ []
 
-both : starts a_b 1 9 ≡ 1 ∷ 3 ∷ []
+both : phrase_starts a_b 1 9 ≡ 1 ∷ 3 ∷ []
 both = refl
 
-one_inside : starts a_b 2 4 ≡ 3 ∷ []
+one_inside : phrase_starts a_b 2 4 ≡ 3 ∷ []
 one_inside = refl
 
 -- a word between, whatever it is
-around : starts (Some (1 ∷ 3 ∷ []) ∷ None ∷ Some (1 ∷ 3 ∷ []) ∷ []) 1 9 ≡ 1 ∷ []
+around : phrase_starts (Some (1 ∷ 3 ∷ []) ∷ None ∷ Some (1 ∷ 3 ∷ []) ∷ []) 1 9 ≡ 1 ∷ []
 around = refl
 
 next_to_it : near_holds ((record { first = 1; last = 1 } ∷ []) ∷ (record { first = 2; last = 2 } ∷ []) ∷ []) 1 false ≡ true

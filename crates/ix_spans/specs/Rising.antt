@@ -11,8 +11,8 @@ Rising [] = Unit {0}
 Rising (p ∷ ps) = Above p ps
 
 -- the number is in lo to hi
-abbrev pub is_in : ℕ → ℕ → ℕ → Bool
-is_in lo hi p = nat_le lo p && nat_le p hi
+abbrev pub is_between_places : ℕ → ℕ → ℕ → Bool
+is_between_places lo hi p = nat_le lo p && nat_le p hi
 
 -- the positions that lie so many before those of a list, where there are any
 abbrev pub moved_back : ℕ → List ℕ → List ℕ
@@ -22,7 +22,7 @@ moved_back n ps = map (λ p. p - n) (filter (λ p. nat_le n p) ps)
 one_and_three : Above 0 (1 ∷ 3 ∷ []) → 0 < 1
 one_and_three h = h.0
 
-in_two_to_five : filter (is_in 2 5) (1 ∷ 3 ∷ 5 ∷ 6 ∷ []) ≡ 3 ∷ 5 ∷ []
+in_two_to_five : filter (is_between_places 2 5) (1 ∷ 3 ∷ 5 ∷ 6 ∷ []) ≡ 3 ∷ 5 ∷ []
 in_two_to_five = refl
 
 two_before : moved_back 2 (1 ∷ 2 ∷ 7 ∷ []) ≡ 0 ∷ 5 ∷ []

@@ -1,7 +1,8 @@
 -- The slots of a phrase as a search for its starts takes them.
-use Rattle.std.specs.Prelude.{ℕ, ◌≡◌, ◌<◌, nat_lt, Bool, true, false, ◌&&◌, List, [], ◌∷◌, Option, Some, None, length, get_or, refl}
-use Rattle.ix_spans.specs.Occurrences.{has, Slots, is_start}
-use Rattle.ix_spans.specs.Rising.{Rising}
+use Rattle.std.specs.Prelude.{ℕ, ◌≡◌, ◌<◌, nat_lt, Bool, true, false, ◌&&◌, List, [], ◌∷◌, filter, Option, Some, None, length, get_or, refl}
+use Rattle.ct_base.specs.declared.numbers.Pair.{Pair}
+use Rattle.ix_spans.specs.Occurrences.{has_number, Slots, is_start, more_slots, pairs_from}
+use Rattle.ix_spans.specs.Rising.{Rising, moved_back}
 
 -- the positions of a slot rise strictly, where it has a list of them
 abbrev pub SlotRises : Option (List ℕ) → Type 0
@@ -27,7 +28,15 @@ pub record IsShortest (slots : Slots) (i : ℕ) : Type 0 where
 abbrev pub starts_at : Slots → ℕ → ℕ → ℕ → Bool
 starts_at [] lo hi p = false
 starts_at (None ∷ rest) lo hi p = false
-starts_at (Some ps ∷ rest) lo hi p = has ps p && is_start rest lo hi p
+starts_at (Some ps ∷ rest) lo hi p = has_number ps p && is_start rest lo hi p
+
+-- the starts that the positions of one slot give, before which so many others are
+abbrev pub slot_starts : Slots → ℕ → ℕ → ℕ → List ℕ → List ℕ
+slot_starts slots before lo hi ps = filter (starts_at slots lo hi) (moved_back before ps)
+
+-- and the occurrences that begin there
+abbrev pub slot_pairs : Slots → ℕ → ℕ → ℕ → List ℕ → List Pair
+slot_pairs slots before lo hi ps = pairs_from (more_slots slots) (slot_starts slots before lo hi ps)
 
 -- computed examples: `a % b`, where a stands at 1 and 4, and b at 3
 abbrev a_any_b : Slots
@@ -38,6 +47,9 @@ at_one = refl
 
 not_at_four : starts_at a_any_b 1 9 4 ≡ false
 not_at_four = refl
+
+by_the_last_slot : slot_starts a_any_b 2 1 9 (3 ∷ []) ≡ 1 ∷ []
+by_the_last_slot = refl
 
 b_is_shorter : is_shorter (Some (3 ∷ [])) (Some (1 ∷ 4 ∷ [])) ≡ true
 b_is_shorter = refl

@@ -5,7 +5,7 @@ ghost use Rattle.ix_spans.specs.InOrder.{StartsInOrder, SamePairs};
 
 use ct_base::{Memory, Pair};
 
-/// The pairs in the order of their starts; those that start together stay as they stood.
+/// The same pairs in the order of their starts.
 ///
 /// The cost is n times the logarithm of n for n pairs, and n for pairs that are in order. More than 20 that aren't take memory
 /// for as many while they are sorted; after Memory the pairs are gone.

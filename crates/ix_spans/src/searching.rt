@@ -1,13 +1,13 @@
 //! Searches in lists of numbers that rise strictly. Each costs the logarithm of the list's length.
 
 ghost use Rattle.std.specs.Prelude.{◌≡◌, ◌≤◌, length, take, drop, filter, nat_le};
-ghost use Rattle.ix_spans.specs.Occurrences.{has};
-ghost use Rattle.ix_spans.specs.Rising.{Rising, is_in};
+ghost use Rattle.ix_spans.specs.Occurrences.{has_number};
+ghost use Rattle.ix_spans.specs.Rising.{Rising, is_between_places};
 
 /// Whether a number is in a list that rises.
-pub(crate) fn has(numbers: &[u32], number: u32) -> bool
+pub(crate) fn has_number(numbers: &[u32], number: u32) -> bool
     requires { Rising numbers.now }
-    ensures { result ≡ has numbers.now number }
+    ensures { result ≡ has_number numbers.now number }
 {
     numbers.binary_search(&number).is_ok()
 }
@@ -50,7 +50,7 @@ fn up_to(numbers: &[u32], most: u32) -> &[u32]
 #[tactic(auto, using(crate::specs::laws::Rising::filter_rises))]
 pub(crate) fn those_in(numbers: &[u32], lo: u32, hi: u32) -> &[u32]
     requires { Rising numbers.now }
-    ensures { result.now ≡ filter (is_in lo hi) numbers.now }
+    ensures { result.now ≡ filter (is_between_places lo hi) numbers.now }
 {
     up_to(from_on(numbers, lo), hi)
 }

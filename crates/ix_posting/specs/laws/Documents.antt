@@ -2,7 +2,7 @@
 use Rattle.std.proofs.Common.{◌≡◌, ℕ, ◌+◌, ◌<◌, ◌≤◌, ◌^◌, List, ◌++◌, length, refl, ap, ◌∙◌, arith}
 use Rattle.ct_base.specs.declared.numbers.Pair.{Pair}
 use Rattle.ix_posting.specs.Rows.{Rise, DocumentsRise, IsPostingRow, document_bytes, documents_bytes, posting_bytes}
-use Rattle.ix_posting.specs.SpanRows.{PairsRise, SpanDocumentsRise, IsSpanRow, no_pair, span_document_bytes, span_documents_bytes, span_row_bytes}
+use Rattle.ix_posting.specs.SpanRows.{PairsFollow, SpanDocumentsRise, IsSpanRow, no_pair, span_document_bytes, span_documents_bytes, span_row_bytes}
 use Rattle.ix_posting.specs.Places.{StandsAt, AreItemsAt, HasDocumentParts, steps_bytes, pair_steps_bytes, IsDocumentAt, AreDocumentsAt, IsSpanDocumentAt, AreSpanDocumentsAt}
 use Rattle.ix_posting.specs.declared.rows.RowDocument.{RowDocument}
 use Rattle.ix_posting.specs.declared.span_rows.SpanDocument.{SpanDocument}
@@ -69,7 +69,7 @@ with_pairs n ps = record { document = n; pairs = ps }
 
 span_document_alone : (bytes : List ℕ) (before at : ℕ) (d : SpanDocument) (i : ℕ) (e : SpanDocument) (j : ℕ) → IsSpanDocumentAt bytes before at d i → IsSpanDocumentAt bytes before at e j → (d ≡ e) × (i ≡ j)
 span_document_alone bytes before at d i e j first second =
-    let same = parts_alone PairsRise pair_steps_bytes no_pair bytes _ _ (pairs bytes) before at d.document d.pairs i e.document e.pairs j first second in
+    let same = parts_alone PairsFollow pair_steps_bytes no_pair bytes _ _ (pairs bytes) before at d.document d.pairs i e.document e.pairs j first second in
     (ap (λ n. with_pairs n d.pairs) same.0 ∙ ap (with_pairs e.document) same.1, same.2)
 
 pub span_documents : (bytes : List ℕ) → AreItems (IsSpanDocumentAt bytes) (AreSpanDocumentsAt bytes) (λ d. d.document)
@@ -77,9 +77,9 @@ span_documents bytes = items_of (IsSpanDocumentAt bytes) SpanDocumentsRise span_
   none = λ before. tt;
   no_bytes = λ before. refl;
   more_bytes = λ before d ds. refl;
-  stands = λ before at d next is. parts_stand PairsRise pair_steps_bytes no_pair bytes before at d.document d.pairs next is;
+  stands = λ before at d next is. parts_stand PairsFollow pair_steps_bytes no_pair bytes before at d.document d.pairs next is;
   rises = λ before at d next ds is others. (is.head.number.rises, is.head.number.small, is.head.some, is.head.places.small, is.places.rise, others);
-  one = λ before at d next ds rise stands. has_document_parts PairsRise pair_steps_bytes no_pair bytes before at d.document d.pairs next rise.0 rise.1 rise.2 rise.3 rise.4 stands;
+  one = λ before at d next ds rise stands. has_document_parts PairsFollow pair_steps_bytes no_pair bytes before at d.document d.pairs next rise.0 rise.1 rise.2 rise.3 rise.4 stands;
   others = λ before d ds rise. rise.5;
   alone = span_document_alone bytes;
 }

@@ -5,7 +5,7 @@ use Rattle.ix_posting.specs.Places.{StandsAt, AreItemsAt}
 use Rattle.ix_posting.specs.laws.Standing.{nothing_stands, nothing_left, joined, first_part, second_part}
 
 -- Of so many items the first, and the others.
-pub record Parts {X S : Type 0} (One : S → ℕ → X → ℕ → Type 0) (Many : S → ℕ → ℕ → List X → ℕ → Type 0) (after : X → S) (s : S) (at k : ℕ) (xs : List X) (next : ℕ) : Type 0 where
+pub record ItemAndRest {X S : Type 0} (One : S → ℕ → X → ℕ → Type 0) (Many : S → ℕ → ℕ → List X → ℕ → Type 0) (after : X → S) (s : S) (at k : ℕ) (xs : List X) (next : ℕ) : Type 0 where
   pub first : X
   pub rest : List X
   pub mid : ℕ
@@ -18,7 +18,7 @@ pub record AreItems {X S : Type 0} (One : S → ℕ → X → ℕ → Type 0) (M
   pub none : (s : S) (at : ℕ) → Many s at 0 [] at
   pub ended : (s : S) (at : ℕ) (xs : List X) (next : ℕ) → Many s at 0 xs next → (xs ≡ []) × (next ≡ at)
   pub joined : (s : S) (at : ℕ) (x : X) (mid k : ℕ) (xs : List X) (next : ℕ) → One s at x mid → Many (after x) mid k xs next → Many s at (suc k) (x ∷ xs) next
-  pub parts : (s : S) (at k : ℕ) (xs : List X) (next : ℕ) → Many s at (suc k) xs next → Parts One Many after s at k xs next
+  pub parts : (s : S) (at k : ℕ) (xs : List X) (next : ℕ) → Many s at (suc k) xs next → ItemAndRest One Many after s at k xs next
   pub alone : (s : S) (at : ℕ) (x : X) (i : ℕ) (y : X) (j : ℕ) → One s at x i → One s at y j → (x ≡ y) × (i ≡ j)
 
 -- ---- items by their bytes
@@ -49,7 +49,7 @@ module _ {X S : Type 0} (One : S → ℕ → X → ℕ → Type 0) (Rises : S �
     stand = subst (λ (b : List ℕ). StandsAt bytes at b next) (sym (is.more_bytes s x xs)) (joined bytes at (piece s x) mid (spelling (after x) xs) next (is.stands s at x mid one) others.stand);
   }
 
-  parts_at : (s : S) (at k : ℕ) (xs : List X) (next : ℕ) → AreItemsAt Rises spelling bytes s at (suc k) xs next → Parts One (AreItemsAt Rises spelling bytes) after s at k xs next
+  parts_at : (s : S) (at k : ℕ) (xs : List X) (next : ℕ) → AreItemsAt Rises spelling bytes s at (suc k) xs next → ItemAndRest One (AreItemsAt Rises spelling bytes) after s at k xs next
   parts_at s at k [] next are = absurd (omega (arith, are.many))
   parts_at s at k (x ∷ xs) next are =
       let all = subst (λ (b : List ℕ). StandsAt bytes at b next) (is.more_bytes s x xs) are.stand in

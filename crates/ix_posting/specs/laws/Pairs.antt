@@ -3,7 +3,7 @@ use Rattle.std.proofs.Common.{◌≡◌, ℕ, ◌+◌, ◌-◌, ◌<◌, ◌≤�
 use Rattle.ct_base.specs.declared.numbers.Pair.{Pair}
 use Rattle.ct_bytes.specs.Varints.{varint}
 use Rattle.ct_bytes.specs.laws.Varints.{varint_at_one}
-use Rattle.ix_posting.specs.SpanRows.{ComesAfter, PairsRise}
+use Rattle.ix_posting.specs.SpanRows.{ComesAfter, PairsFollow}
 use Rattle.ix_posting.specs.Places.{StandsAt, IsPairAt, ArePairsAt, pair_steps_bytes}
 use Rattle.ix_posting.specs.laws.Items.{AreItems, items_of}
 use Rattle.ix_posting.specs.laws.Standing.{joined, first_part, second_part, varint_stands, varint_is}
@@ -55,7 +55,7 @@ unfolding pair_bytes
 more_pairs before p ps = sym (append_assoc (varint (p.first - before.first)) (varint (p.last - p.first)) (pair_steps_bytes p ps))
 
 pub pairs : (bytes : List ℕ) → AreItems (IsPairAt bytes) (ArePairsAt bytes) (λ p. p)
-pairs bytes = items_of (IsPairAt bytes) PairsRise pair_steps_bytes pair_bytes (λ p. p) bytes record {
+pairs bytes = items_of (IsPairAt bytes) PairsFollow pair_steps_bytes pair_bytes (λ p. p) bytes record {
   none = λ before. tt;
   no_bytes = λ before. refl;
   more_bytes = more_pairs;

@@ -9,7 +9,7 @@ use Rattle.std.proofs.Common.{sym, ap, subst, ◌∙◌, arith, inl, inr}
 use Rattle.ct_entry.specs.declared.kinds.Kind.{Kind}
 use Rattle.ct_entry.specs.Keys.{same_list}
 use Rattle.ct_entry.specs.laws.Maps.{names_tie}
-use Rattle.ix_rows.specs.Posts.{posting_list}
+use Rattle.ix_posting.specs.Lists.{posting_list}
 use Rattle.ix_rows.specs.laws.Spelling.{added, EachHasFirst}
 use Rattle.ct_entry.specs.Lists.{EachIs, IsIn, AreApart}
 use Rattle.ct_base.specs.laws.Orders.{equal_from_test}

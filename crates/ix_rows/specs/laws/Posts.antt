@@ -4,7 +4,8 @@ use Rattle.std.specs.Option.{option_or}
 use Rattle.std.proofs.Common.{sym, ap, subst, ◌∙◌, inl, inr, arith, append_assoc}
 use Rattle.std.proofs.lemmas.Bool.{eqb-true, eq-eqb, ne_eqb}
 use Rattle.ct_entry.specs.Lists.{IsIn, AreApart}
-use Rattle.ix_rows.specs.Posts.{posting_list, posting, Rises}
+use Rattle.ix_posting.specs.Lists.{posting_list}
+use Rattle.ix_rows.specs.Posts.{posting, Rises}
 
 module _ {D : Type 0} where
   pub posting_list-append : (xs ys : List (List D)) → posting_list (xs ++ ys) ≡ posting_list xs ++ posting_list ys

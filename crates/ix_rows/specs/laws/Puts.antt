@@ -4,10 +4,11 @@ use Rattle.std.specs.List.{filter_map, cons_option}
 use Rattle.std.proofs.Common.{sym, ap, subst, ◌∙◌, inl, inr, arith}
 use Rattle.ct_entry.specs.declared.kinds.Kind.{Kind}
 use Rattle.ct_entry.specs.Keys.{same_list}
-use Rattle.ct_entry.specs.Each.{is_among, numbered}
+use Rattle.ct_entry.specs.Each.{is_any_of, numbered}
 use Rattle.ct_entry.specs.laws.Keys.{list_from_same}
 use Rattle.ct_entry.specs.Lists.{IsIn, AreApart, EachIs}
-use Rattle.ix_rows.specs.Posts.{posting_list, Rises}
+use Rattle.ix_posting.specs.Lists.{posting_list}
+use Rattle.ix_rows.specs.Posts.{Rises}
 use Rattle.ix_rows.specs.laws.Spelling.{added, EachHasFirst, posting_list-greedy}
 use Rattle.ix_rows.specs.Spelling.{greedy}
 use Rattle.ix_rows.specs.laws.Inverted.{inverted_rise}
@@ -28,42 +29,42 @@ module _ {D : Type 0} (number : D → ℕ) (bytes_of : List D → List ℕ) (IsR
   abbrev pub put_of : ℕ → List ℤ → List (List ℕ) → List (List ℕ × List (List D))
   put_of given rows ts = map (λ t. (t, greedy number bytes_of (news_of given rows t))) ts
 
-  none_added : (given : ℕ) (rows : List ℤ) (ts : List (List ℕ)) (t : List ℕ) → is_among t ts ≡ false → added number bytes_of kind i (put_of given rows ts) t ≡ []
+  none_added : (given : ℕ) (rows : List ℤ) (ts : List (List ℕ)) (t : List ℕ) → is_any_of t ts ≡ false → added number bytes_of kind i (put_of given rows ts) t ≡ []
   none_added given rows [] t h = refl
   none_added given rows (u ∷ ts) t h = go (same_list t u) refl h (none_added given rows ts t)
     where
-      go : (b : Bool) → same_list t u ≡ b → (b || is_among t ts) ≡ false → (is_among t ts ≡ false → added number bytes_of kind i (put_of given rows ts) t ≡ []) → added number bytes_of kind i (put_of given rows (u ∷ ts)) t ≡ []
+      go : (b : Bool) → same_list t u ≡ b → (b || is_any_of t ts) ≡ false → (is_any_of t ts ≡ false → added number bytes_of kind i (put_of given rows ts) t ≡ []) → added number bytes_of kind i (put_of given rows (u ∷ ts)) t ≡ []
       go true e h rest = cc
       go false e h rest = ap (λ (b : Bool). cond b (greedy number bytes_of (news_of given rows u) ++ added number bytes_of kind i (put_of given rows ts) t) (added number bytes_of kind i (put_of given rows ts) t)) e ∙ rest h
 
-  not_among : (t : List ℕ) (ts : List (List ℕ)) → (IsIn t ts → ⊥) → is_among t ts ≡ false
+  not_among : (t : List ℕ) (ts : List (List ℕ)) → (IsIn t ts → ⊥) → is_any_of t ts ≡ false
   not_among t [] h = refl
   not_among t (u ∷ ts) h = go (same_list t u) refl (not_among t ts (λ k. h (inr k)))
     where
-      go : (b : Bool) → same_list t u ≡ b → is_among t ts ≡ false → (same_list t u || is_among t ts) ≡ false
+      go : (b : Bool) → same_list t u ≡ b → is_any_of t ts ≡ false → (same_list t u || is_any_of t ts) ≡ false
       go true e rest = absurd (h (inl (list_from_same t u e)))
-      go false e rest = ap (λ (b : Bool). b || is_among t ts) e ∙ rest
+      go false e rest = ap (λ (b : Bool). b || is_any_of t ts) e ∙ rest
 
   nil : (xs : List (List D)) → xs ++ [] ≡ xs
   nil [] = refl
   nil (x ∷ xs) = ap (λ (l : List (List D)). x ∷ l) (nil xs)
 
-  added_of : (given : ℕ) (rows : List ℤ) (ts : List (List ℕ)) (t : List ℕ) → AreApart ts → added number bytes_of kind i (put_of given rows ts) t ≡ cond (is_among t ts) (greedy number bytes_of (news_of given rows t)) []
+  added_of : (given : ℕ) (rows : List ℤ) (ts : List (List ℕ)) (t : List ℕ) → AreApart ts → added number bytes_of kind i (put_of given rows ts) t ≡ cond (is_any_of t ts) (greedy number bytes_of (news_of given rows t)) []
   added_of given rows [] t apart = refl
   added_of given rows (u ∷ ts) t apart = go (same_list t u) refl (added_of given rows ts t apart.1)
     where
-      go : (b : Bool) → same_list t u ≡ b → added number bytes_of kind i (put_of given rows ts) t ≡ cond (is_among t ts) (greedy number bytes_of (news_of given rows t)) []
-          → added number bytes_of kind i (put_of given rows (u ∷ ts)) t ≡ cond (same_list t u || is_among t ts) (greedy number bytes_of (news_of given rows t)) []
+      go : (b : Bool) → same_list t u ≡ b → added number bytes_of kind i (put_of given rows ts) t ≡ cond (is_any_of t ts) (greedy number bytes_of (news_of given rows t)) []
+          → added number bytes_of kind i (put_of given rows (u ∷ ts)) t ≡ cond (same_list t u || is_any_of t ts) (greedy number bytes_of (news_of given rows t)) []
       go true e rest =
           let one = list_from_same t u e in
           let gone = none_added given rows ts t (not_among t ts (λ h. apart.0 (subst (λ (v : List ℕ). IsIn v ts) one h))) in
           ap (λ (b : Bool). cond b (greedy number bytes_of (news_of given rows u) ++ added number bytes_of kind i (put_of given rows ts) t) (added number bytes_of kind i (put_of given rows ts) t)) e
           ∙ ap (λ (l : List (List D)). greedy number bytes_of (news_of given rows u) ++ l) gone ∙ nil (greedy number bytes_of (news_of given rows u))
           ∙ ap (λ (v : List ℕ). greedy number bytes_of (news_of given rows v)) (sym one)
-          ∙ sym (ap (λ (b : Bool). cond (b || is_among t ts) (greedy number bytes_of (news_of given rows t)) []) e)
+          ∙ sym (ap (λ (b : Bool). cond (b || is_any_of t ts) (greedy number bytes_of (news_of given rows t)) []) e)
       go false e rest =
           ap (λ (b : Bool). cond b (greedy number bytes_of (news_of given rows u) ++ added number bytes_of kind i (put_of given rows ts) t) (added number bytes_of kind i (put_of given rows ts) t)) e ∙ rest
-          ∙ sym (ap (λ (b : Bool). cond (b || is_among t ts) (greedy number bytes_of (news_of given rows t)) []) e)
+          ∙ sym (ap (λ (b : Bool). cond (b || is_any_of t ts) (greedy number bytes_of (news_of given rows t)) []) e)
 
   in_news : (given : ℕ) (rows : List ℤ) (t : List ℕ) (x : D) → ((r : ℤ) (d : ℕ) (y : D) → want r t d ≡ Some y → IsGood y) → IsIn x (news_of given rows t) → IsGood x
   in_news given [] t x good h = absurd h
@@ -75,11 +76,11 @@ module _ {D : Type 0} (number : D → ℕ) (bytes_of : List D → List ℕ) (IsR
 
   -- THE SPLIT OF WHAT IS NEW may be put: where all terms are listed that some row has
   pub put_rows : (given : ℕ) (rows : List ℤ) (ts : List (List ℕ)) → AreApart ts → given + length rows < 2 ^ 32 → ((t : List ℕ) (r : ℤ) (d : ℕ) (y : D) → want r t d ≡ Some y → IsGood y)
-      → ((t : List ℕ) → IsTerm t → is_among t ts ≡ false → news_of given rows t ≡ []) → AreRowsOf number bytes_of IsRow IsTerm kind i want given rows (put_of given rows ts)
+      → ((t : List ℕ) → IsTerm t → is_any_of t ts ≡ false → news_of given rows t ≡ []) → AreRowsOf number bytes_of IsRow IsTerm kind i want given rows (put_of given rows ts)
   put_rows given rows ts apart room good others = record {
     firsts = firsts ts;
-    each = λ t is. subst (EachIs IsRow) (sym (added_of given rows ts t apart)) (at (is_among t ts) t);
-    same = λ t is. ap posting_list (added_of given rows ts t apart) ∙ same t is (is_among t ts) refl;
+    each = λ t is. subst (EachIs IsRow) (sym (added_of given rows ts t apart)) (at (is_any_of t ts) t);
+    same = λ t is. ap posting_list (added_of given rows ts t apart) ∙ same t is (is_any_of t ts) refl;
   }
     where
       split : (t : List ℕ) → EachIs IsRow (greedy number bytes_of (news_of given rows t))
@@ -97,6 +98,6 @@ module _ {D : Type 0} (number : D → ℕ) (bytes_of : List D → List ℕ) (IsR
       at true t = split t
       at false t = tt
 
-      same : (t : List ℕ) → IsTerm t → (b : Bool) → is_among t ts ≡ b → posting_list (cond b (greedy number bytes_of (news_of given rows t)) []) ≡ news_of given rows t
+      same : (t : List ℕ) → IsTerm t → (b : Bool) → is_any_of t ts ≡ b → posting_list (cond b (greedy number bytes_of (news_of given rows t)) []) ≡ news_of given rows t
       same t is true h = posting_list-greedy number bytes_of (news_of given rows t)
       same t is false h = sym (others t is h)

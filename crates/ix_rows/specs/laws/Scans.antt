@@ -15,11 +15,12 @@ use Rattle.ct_entry.specs.Keys.{at, prefix_of, document_part, IsDocument, IsPart
 use Rattle.ct_entry.specs.Each.{latest}
 use Rattle.ct_entry.specs.laws.Documents.{document_spells}
 use Rattle.ct_entry.specs.laws.Listings.{prefix_listed}
-use Rattle.ct_entry.specs.Listings.{listed}
+use Rattle.ct_entry.specs.Listings.{entries_where}
 use Rattle.ct_bytes.specs.laws.ByteOrder.{nat_cmp_less, nat_cmp_equal}
 use Rattle.ct_base.specs.laws.Orders.{equal_from_test}
 use Rattle.ct_entry.specs.laws.Lists.{in_right}
-use Rattle.ix_rows.specs.Posts.{posting_list, Rises}
+use Rattle.ix_posting.specs.Lists.{posting_list}
+use Rattle.ix_rows.specs.Posts.{Rises}
 use Rattle.ix_rows.specs.laws.Posts.{above}
 use Rattle.ix_rows.specs.Spelling.{row_value, first_document, RowsSpelled}
 use Rattle.ct_entry.specs.Lists.{EachIs}
@@ -86,7 +87,7 @@ module _ {D : Type 0} (number : D → ℕ) (bytes_of : List D → List ℕ) wher
       go true e up rest = let low = eqb-true d (number x) e in sym (latest_miss (λ row. d == first_document number row) value rows (value (x ∷ xs)) (none_hit d (number x) rows (omega (arith, low)) up))
       go false e up rest = rest
 
-  all_listed : (rows : List (List D)) → listed document_part value (by_first rows) ≡ map (λ row. (document_part (first_document number row), bytes_of row)) rows
+  all_listed : (rows : List (List D)) → entries_where document_part value (by_first rows) ≡ map (λ row. (document_part (first_document number row), bytes_of row)) rows
   all_listed [] = refl
   all_listed (row ∷ rows) = ap (λ (l : List (List ℕ × List ℕ)). (document_part (first_document number row), bytes_of row) ∷ l) (all_listed rows)
 
@@ -109,4 +110,4 @@ module _ {D : Type 0} (number : D → ℕ) (bytes_of : List D → List ℕ) wher
       prefix_listed nat_cmp document_part IsDocument document_spells value c kind i term (from_sorted es) only parts
       (λ d row h. documents_first (rows term) firsts d row (sym (get-from_sorted nat_cmp es d sorted) ∙ h))
       (λ d doc. spelled.spelled term d is doc ∙ sym (found_first (rows term) 0 d some rise) ∙ ap (option_and_then value) (sym (get-from_sorted nat_cmp es d sorted)))
-      ∙ ap (listed document_part value) (entries-from_sorted nat_cmp es sorted) ∙ all_listed (rows term)
+      ∙ ap (entries_where document_part value) (entries-from_sorted nat_cmp es sorted) ∙ all_listed (rows term)

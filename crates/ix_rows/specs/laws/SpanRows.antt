@@ -10,10 +10,11 @@ use Rattle.ct_entry.specs.declared.kinds.Kind.TheVariants as kind
 use Rattle.ct_entry.specs.Keys.{key, bytes, document_part}
 use Rattle.ix_posting.specs.Rows.{varints}
 use Rattle.ix_posting.specs.declared.span_rows.SpanDocument.{SpanDocument}
-use Rattle.ix_posting.specs.SpanRows.{IsSpanRow, SpanDocumentsRise, PairsRise, no_pair, pair_steps, span_document_bytes, span_documents_bytes, span_row_bytes}
+use Rattle.ix_posting.specs.SpanRows.{IsSpanRow, SpanDocumentsRise, PairsFollow, no_pair, pair_steps, span_document_bytes, span_documents_bytes, span_row_bytes}
 use Rattle.ix_rows.specs.Spelling.{row_key, first_document}
 use Rattle.ix_rows.specs.laws.Weighs.{singles}
 use Rattle.ix_rows.specs.laws.Tidies.{RowLaws}
+use Rattle.ix_rows.specs.laws.WordRows.{one_byte, five_bytes}
 use Rattle.ct_entry.specs.Lists.{IsIn}
 use Rattle.ix_rows.specs.Posts.{Rises}
 use Rattle.ix_rows.specs.WordRows.{last_document}
@@ -30,14 +31,6 @@ places_length x = length (varint (length x.pairs)) + length (varints (pair_steps
 
 document_length : (before : ℕ) (x : SpanDocument) → length (span_document_bytes before x) ≡ length (varint (x.document - before)) + places_length x
 document_length before x = omega (arith, length-append (varint (x.document - before) ++ varint (length x.pairs)) (varints (pair_steps no_pair x.pairs)), length-append (varint (x.document - before)) (varint (length x.pairs)))
-
-one_byte : length (varint 1) ≡ 1
-unfolding varint
-one_byte = refl
-
-five_bytes : length (varint last_document) ≡ 5
-unfolding varint
-five_bytes = refl
 
 abbrev lasts : SpanDocument → SpanDocument
 lasts x = record { document = last_document; pairs = x.pairs }
@@ -102,7 +95,7 @@ span_row_light i (t, x ∷ y ∷ xs) row =
 -- ---- rows and their documents
 
 abbrev pub HasPairs : SpanDocument → Type 0
-HasPairs x = (1 ≤ length x.pairs) × (length x.pairs < 2 ^ 32) × PairsRise no_pair x.pairs
+HasPairs x = (1 ≤ length x.pairs) × (length x.pairs < 2 ^ 32) × PairsFollow no_pair x.pairs
 
 rise_of : (before : ℕ) (xs : List SpanDocument) → SpanDocumentsRise before xs → Rises span_number before xs
 rise_of before [] r = tt

@@ -6,15 +6,15 @@ use Rattle.std.proofs.lemmas.Bool.{eqb-true, eq-eqb, and_from, and_parts}
 use Rattle.std.proofs.lemmas.List.{length-append}
 use Rattle.ct_entry.specs.declared.kinds.Kind.{Kind}
 use Rattle.ct_entry.specs.Keys.{Key, key, same_key, same_list, document_part, IsDocument}
-use Rattle.ct_entry.specs.Changes.{put, drop_key, told, view}
+use Rattle.ct_entry.specs.Changes.{put_value, drop_key, told, view}
 use Rattle.ct_entry.specs.Each.{each, latest}
 use Rattle.ct_entry.specs.laws.Each.{latest-append, latest_gone}
 use Rattle.ct_entry.specs.laws.Keys.{list_from_same, list_same, lists_tie}
 use Rattle.ct_base.specs.laws.Lists.{append_parts}
 use Rattle.ct_entry.specs.laws.Parts.{same_kind, document_part_apart}
 use Rattle.ct_entry.specs.laws.Changes.{told-append}
-use Rattle.ix_rows.specs.Posts.{posting_list}
 use Rattle.ct_entry.specs.Lists.{EachIs}
+use Rattle.ix_posting.specs.Lists.{posting_list}
 use Rattle.ix_rows.specs.Spelling.{row_key, first_document, row_value, RowsSpelled, greedy_from, greedy}
 
 -- two such rests are one exactly where both parts are, since documents take four bytes
@@ -43,7 +43,7 @@ module _ {D : Type 0} (number : D → ℕ) (bytes_of : List D → List ℕ) wher
   -- ---- changes
 
   abbrev pub put_row : Kind → List ℕ → List ℕ → List D → Key × Option (List ℕ)
-  put_row kind i term row = put (key kind i (row_key term (first_document number row))) (bytes_of row)
+  put_row kind i term row = put_value (key kind i (row_key term (first_document number row))) (bytes_of row)
 
   abbrev pub drop_row : Kind → List ℕ → List ℕ → List D → Key × Option (List ℕ)
   drop_row kind i term row = drop_key (key kind i (row_key term (first_document number row)))

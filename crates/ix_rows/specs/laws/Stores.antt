@@ -6,7 +6,8 @@ use Rattle.ct_entry.specs.Keys.{Key, key, same_list}
 use Rattle.ct_entry.specs.Changes.{view}
 use Rattle.ct_entry.specs.laws.Keys.{list_from_same}
 use Rattle.ct_entry.specs.Lists.{IsIn, EachIs}
-use Rattle.ix_rows.specs.Posts.{posting_list, posting, Rises}
+use Rattle.ix_posting.specs.Lists.{posting_list}
+use Rattle.ix_rows.specs.Posts.{posting, Rises}
 use Rattle.ix_rows.specs.laws.Posts.{posting_list-append, in_posting}
 use Rattle.ix_rows.specs.laws.Stored.{AreNew, without, lists_again, lists_see, lists_added, lists_unmapped, lists_thinned, lists_clean}
 use Rattle.ix_rows.specs.Spelling.{row_key, AreRows}

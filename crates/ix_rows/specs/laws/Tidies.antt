@@ -4,12 +4,13 @@ use Rattle.std.proofs.Common.{sym, ap, subst, ◌∙◌, inl, inr, arith, append
 use Rattle.ct_entry.specs.declared.kinds.Kind.{Kind}
 use Rattle.ct_entry.specs.Keys.{Key, same_list}
 use Rattle.ct_entry.specs.Changes.{view}
-use Rattle.ct_entry.specs.Each.{each, is_among}
+use Rattle.ct_entry.specs.Each.{each, is_any_of}
 use Rattle.ct_entry.specs.laws.Keys.{list_from_same}
 use Rattle.ct_entry.specs.laws.Changes.{view-append}
 use Rattle.ct_entry.specs.Lists.{IsIn, AreApart, EachIs}
 use Rattle.ct_entry.specs.laws.Lists.{in_filter, in_left, in_right, in_either}
-use Rattle.ix_rows.specs.Posts.{posting_list, Rises}
+use Rattle.ix_posting.specs.Lists.{posting_list}
+use Rattle.ix_rows.specs.Posts.{Rises}
 use Rattle.ix_rows.specs.Spelling.{AreRows, greedy, greedy_from}
 use Rattle.ix_rows.specs.laws.Spelling.{HasFirst, renew_changes, renewed, posting_list-greedy}
 use Rattle.ix_rows.specs.Stores.{Tidiness, Untidy, Packed, Clean, StoreStands, IsTidy}
@@ -32,7 +33,7 @@ module _ {D : Type 0} (number : D → ℕ) (bytes_of : List D → List ℕ) (IsR
 
   -- the rows after them
   abbrev pub renewed_all : (List ℕ → List (List D)) → (List ℕ → List (List D)) → List (List ℕ) → List ℕ → List (List D)
-  renewed_all olds news ts t = cond (is_among t ts) (news t) (olds t)
+  renewed_all olds news ts t = cond (is_any_of t ts) (news t) (olds t)
 
   module _ (kind : Kind) (i : List ℕ) (want : ℤ → List ℕ → ℕ → Option D) (row : ℕ → Option ℤ) (given : ℕ) (tidiness : Tidiness) (waste : ℕ) where
     abbrev Stands : (Key → Option (List ℕ)) → (List ℕ → List (List D)) → Type 0
@@ -59,17 +60,17 @@ module _ {D : Type 0} (number : D → ℕ) (bytes_of : List D → List ℕ) (IsR
         others u h true e was = absurd (apart.0 (subst (λ (v : List ℕ). IsIn v ts) (list_from_same u t e) h))
         others u h false e was = was
 
-        both : (u : List ℕ) (b : Bool) → same_list u t ≡ b → cond (is_among u ts) (news u) (cond (same_list u t) (news t) (rows u)) ≡ cond (same_list u t || is_among u ts) (news u) (rows u)
+        both : (u : List ℕ) (b : Bool) → same_list u t ≡ b → cond (is_any_of u ts) (news u) (cond (same_list u t) (news t) (rows u)) ≡ cond (same_list u t || is_any_of u ts) (news u) (rows u)
         both u true e =
-            ap (λ (b : Bool). cond (is_among u ts) (news u) (cond b (news t) (rows u))) e
-            ∙ ap (λ (v : List ℕ). cond (is_among u ts) (news u) (news v)) (sym (list_from_same u t e)) ∙ idle (is_among u ts) (news u)
-            ∙ ap (λ (b : Bool). cond (b || is_among u ts) (news u) (rows u)) (sym e)
+            ap (λ (b : Bool). cond (is_any_of u ts) (news u) (cond b (news t) (rows u))) e
+            ∙ ap (λ (v : List ℕ). cond (is_any_of u ts) (news u) (news v)) (sym (list_from_same u t e)) ∙ idle (is_any_of u ts) (news u)
+            ∙ ap (λ (b : Bool). cond (b || is_any_of u ts) (news u) (rows u)) (sym e)
           where
             idle : (b : Bool) (l : List (List D)) → cond b l l ≡ l
             idle true l = refl
             idle false l = refl
         both u false e =
-            ap (λ (b : Bool). cond (is_among u ts) (news u) (cond b (news t) (rows u))) e ∙ ap (λ (b : Bool). cond (b || is_among u ts) (news u) (rows u)) (sym e)
+            ap (λ (b : Bool). cond (is_any_of u ts) (news u) (cond b (news t) (rows u))) e ∙ ap (λ (b : Bool). cond (b || is_any_of u ts) (news u) (rows u)) (sym e)
 
 -- ---- what is known of the rows of a kind
 
@@ -188,11 +189,11 @@ module _ {D : Type 0} (number : D → ℕ) (bytes_of : List D → List ℕ) (IsR
         store_renewed_all number bytes_of IsRow IsTerm cost kind i want row given tidiness waste keep mapped rows (λ t. kept keep (rows t)) ts apart
         (λ t h. renews row tidiness keep (rows t) (stand.are t (terms t h)) (stand.tidy t (terms t h))) f rows (λ t h. refl) stand
 
-    module _ (others : (t : List ℕ) → IsTerm t → is_among t ts ≡ false → rows t ≡ []) where
+    module _ (others : (t : List ℕ) → IsTerm t → is_any_of t ts ≡ false → rows t ≡ []) where
       at_term : (T : Tidiness) (keep : ℕ → Bool) → Tidy T row [] → ((olds : List (List D)) → Tidy T row (kept keep olds)) → (t : List ℕ) → IsTerm t → Tidy T row (tidy_rows keep t)
-      at_term T keep none each t is = go (is_among t ts) refl
+      at_term T keep none each t is = go (is_any_of t ts) refl
         where
-          go : (b : Bool) → is_among t ts ≡ b → Tidy T row (cond b (kept keep (rows t)) (rows t))
+          go : (b : Bool) → is_any_of t ts ≡ b → Tidy T row (cond b (kept keep (rows t)) (rows t))
           go true h = each (rows t)
           go false h = subst (Tidy T row) (sym (others t is h)) none
 

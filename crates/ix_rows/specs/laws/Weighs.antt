@@ -6,7 +6,8 @@ use Rattle.ct_entry.specs.declared.kinds.Kind.{Kind}
 use Rattle.ct_entry.specs.Keys.{Key}
 use Rattle.ct_entry.specs.Lists.{IsIn, AreApart, EachIs}
 use Rattle.ct_entry.specs.laws.Lists.{in_map, in_flat_map, in_filter, apart_filter, apart_flat_map, sum_by-parts, sum_by-within, sum_by-le-flat_map}
-use Rattle.ix_rows.specs.Posts.{posting_list, posting, Rises}
+use Rattle.ix_posting.specs.Lists.{posting_list}
+use Rattle.ix_rows.specs.Posts.{posting, Rises}
 use Rattle.ix_rows.specs.laws.Posts.{in_posting_list, in_posting, one_row, rises_apart}
 use Rattle.ix_rows.specs.Stored.{IsStray}
 use Rattle.ix_rows.specs.Stores.{Tidiness, StoreStands}

@@ -32,11 +32,11 @@ places_length x = length (varint (length x.positions)) + length (varints (steps 
 document_length : (before : ℕ) (x : RowDocument) → length (document_bytes before x) ≡ length (varint (x.document - before)) + places_length x
 document_length before x = omega (arith, length-append (varint (x.document - before) ++ varint (length x.positions)) (varints (steps 0 x.positions)), length-append (varint (x.document - before)) (varint (length x.positions)))
 
-one_byte : length (varint 1) ≡ 1
+pub one_byte : length (varint 1) ≡ 1
 unfolding varint
 one_byte = refl
 
-five_bytes : length (varint last_document) ≡ 5
+pub five_bytes : length (varint last_document) ≡ 5
 unfolding varint
 five_bytes = refl
 

@@ -16,13 +16,13 @@ use Rattle.ct_base.specs.laws.Bools.{same_tests}
 use Rattle.ct_base.specs.laws.Lists.{cons_parts}
 use Rattle.ct_keep.specs.RisingKeys.{below, rises, entries_rise}
 use Rattle.ct_keep.specs.FoundKeys.{none_below, below_tied, AllKeys, all_keys}
-use Rattle.ix_spans.specs.Occurrences.{has}
+use Rattle.ix_spans.specs.Occurrences.{has_number}
 use Rattle.tx_settings.specs.declared.preferences.Prefs.{Prefs}
 use Rattle.tx_settings.specs.PrefsBytes.{IsPrefs}
 use Rattle.tx_document.specs.declared.views.WordView.{WordView}
 use Rattle.tx_document.specs.declared.views.SectionView.{SectionView}
 use Rattle.tx_document.specs.Documents.{document, pair}
-use Rattle.tx_document.specs.Entries.{Place, places_of, places_under, place_map, positions_of, section_stream, section_place, word_places, entry_of}
+use Rattle.tx_document.specs.Entries.{DocumentPlace, places_of, places_under, place_map, positions_of, section_stream, section_place, word_places, entry_of}
 use Rattle.tx_document.specs.Promises.{if_any, as_pairs}
 use Rattle.tx_document.specs.laws.Found.{get-place_map, places_are_positions, places_under-append}
 use Rattle.tx_document.specs.laws.Ordered.{no_word, the_streams}
@@ -69,13 +69,13 @@ at_found test None = false
 at_found test (Some ps) = test ps
 
 module _ (s : ℕ) (t : List ℕ) where
-  any_found : (n : ℕ) (ns : List Named) → AllKeys order IsSome_ ns → rises order ns ≡ true → list_any (has_position s t n) (entries_named ns) ≡ at_found (λ ps. has (firsts ps) n) (find order (s ∷ t) ns)
+  any_found : (n : ℕ) (ns : List Named) → AllKeys order IsSome_ ns → rises order ns ≡ true → list_any (has_position s t n) (entries_named ns) ≡ at_found (λ ps. has_number (firsts ps) n) (find order (s ∷ t) ns)
   any_found n [] some up = refl
   any_found n (([], places) ∷ ns) some up = let none = some.0 in absurd (omega (arith, none))
   any_found n ((stream ∷ token, places) ∷ ns) some up =
       let b = and_parts (below order (stream ∷ token) ns) (rises order ns) up in
-      ap (λ (x : Bool). (x && has (firsts places) n) || list_any (has_position s t n) (entries_named ns)) (named_so s t stream token)
-      ∙ ap (λ (x : Bool). (eq_by_cmp order (s ∷ t) (stream ∷ token) && has (firsts places) n) || x) (any_found n ns some.1 b.1)
+      ap (λ (x : Bool). (x && has_number (firsts places) n) || list_any (has_position s t n) (entries_named ns)) (named_so s t stream token)
+      ∙ ap (λ (x : Bool). (eq_by_cmp order (s ∷ t) (stream ∷ token) && has_number (firsts places) n) || x) (any_found n ns some.1 b.1)
       ∙ go (eq_by_cmp order (s ∷ t) (stream ∷ token)) refl b.0
     where
       or_false : (x : Bool) → (x || false) ≡ x
@@ -83,8 +83,8 @@ module _ (s : ℕ) (t : List ℕ) where
       or_false false = refl
 
       go : (b : Bool) → eq_by_cmp order (s ∷ t) (stream ∷ token) ≡ b → below order (stream ∷ token) ns ≡ true
-          → ((b && has (firsts places) n) || at_found (λ ps. has (firsts ps) n) (find order (s ∷ t) ns)) ≡ at_found (λ ps. has (firsts ps) n) (cond b (Some places) (find order (s ∷ t) ns))
-      go true tie low = ap (λ (o : Option (List Pair)). has (firsts places) n || at_found (λ ps. has (firsts ps) n) o) (behind (s ∷ t) (stream ∷ token, places) ns tie low) ∙ or_false (has (firsts places) n)
+          → ((b && has_number (firsts places) n) || at_found (λ ps. has_number (firsts ps) n) (find order (s ∷ t) ns)) ≡ at_found (λ ps. has_number (firsts ps) n) (cond b (Some places) (find order (s ∷ t) ns))
+      go true tie low = ap (λ (o : Option (List Pair)). has_number (firsts places) n || at_found (λ ps. has_number (firsts ps) n) o) (behind (s ∷ t) (stream ∷ token, places) ns tie low) ∙ or_false (has_number (firsts places) n)
       go false tie low = refl
 
   abbrev had : Option (List Pair) → List Pair
@@ -113,7 +113,7 @@ module _ (s : ℕ) (t : List ℕ) where
 
 -- ---- no name is empty
 
-nothing_in : (name key : List ℕ) (q : Pair) (ss : List ℕ) → name ≡ [] → places_under name (map {B = Place} (λ s. (s ∷ key, q)) ss) ≡ []
+nothing_in : (name key : List ℕ) (q : Pair) (ss : List ℕ) → name ≡ [] → places_under name (map {B = DocumentPlace} (λ s. (s ∷ key, q)) ss) ≡ []
 nothing_in [] key q [] is = refl
 nothing_in [] key q (s ∷ ss) is = nothing_in [] key q ss is
 nothing_in (n ∷ name) key q ss is = cc
@@ -138,11 +138,11 @@ nothing_named ws ss = places_under-append [] (flat_map word_places ws) (map sect
 
 -- ---- the law
 
-firsts_same : (n : ℕ) (ps : List ℕ) → at_found (λ qs. has (firsts qs) n) (if_any (as_pairs ps)) ≡ has ps n
+firsts_same : (n : ℕ) (ps : List ℕ) → at_found (λ qs. has_number (firsts qs) n) (if_any (as_pairs ps)) ≡ has_number ps n
 firsts_same n [] = refl
 firsts_same n (p ∷ ps) = ap (λ (b : Bool). eqb p n || b) (go ps)
   where
-    go : (ps : List ℕ) → has (firsts (as_pairs ps)) n ≡ has ps n
+    go : (ps : List ℕ) → has_number (firsts (as_pairs ps)) n ≡ has_number ps n
     go [] = refl
     go (q ∷ qs) = ap (λ (b : Bool). eqb q n || b) (go qs)
 
@@ -162,7 +162,7 @@ sections_under name (s ∷ ss) =
     go false rest = rest
 
 module _ (p : Prefs) (text : List ℕ) where
-  abbrev places : List Place
+  abbrev places : List DocumentPlace
   places = places_of (document p (chars text))
 
   abbrev names : List Named
@@ -198,7 +198,7 @@ entries_are_postings p text is short =
     record {
       positions = λ s t n low.
           any_found s t n (names p text) (some_names p text) (entries_rise order (place_map (places_of d)))
-          ∙ ap (at_found (λ ps. has (firsts ps) n)) (found_under p text (s ∷ t) ∙ ap if_any (places_are_positions p text s t low))
+          ∙ ap (at_found (λ ps. has_number (firsts ps) n)) (found_under p text (s ∷ t) ∙ ap if_any (places_are_positions p text s t low))
           ∙ firsts_same n (positions_of s t d.words)
           ∙ positions_stand s t d.words n;
       pairs = λ name.

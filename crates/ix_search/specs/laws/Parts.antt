@@ -11,7 +11,7 @@ use Rattle.q_tree.specs.declared.flats.Slot.{Slot}
 use Rattle.q_tree.specs.declared.flats.Slot.TheVariants.{Any, Takes}
 use Rattle.q_tree.specs.declared.flats.Place.TheVariants.{Zone, Field, Sentence, Paragraph}
 use Rattle.q_tree.specs.Trees.{Reduced, Term, Joined, Weighted, Exceeding, Close, Inside, Defined}
-use Rattle.q_tree.specs.Soundness.{is_between, is_key, keys_rise, is_slot, takes_some, ends_well, is_phrase, is_term, is_sound}
+use Rattle.q_tree.specs.Soundness.{is_between, is_key, slot_keys_rise, is_slot, takes_some, ends_well, is_phrase, is_term, is_sound}
 use Rattle.q_tree.specs.Scores.{DocPostings, slot_positions, phrase_slots, term_slots, operand_slots, near_score, define_score, greatest_within, operated, weighted, if_above, score}
 use Rattle.ix_search.specs.Promises.{PartsScoreAlike}
 use Rattle.ix_cursor.specs.Reading.{IsPlain}
@@ -98,7 +98,7 @@ module _ (P R : ℕ → Slot → Type 0) (so : (s : ℕ) (slot : Slot) → P s s
 -- ---- the streams and keys of a sound query without patterns
 
 -- a stream that there is, and a slot with keys of 1 to 255 bytes and no pattern
-pub record IsRead (s : ℕ) (slot : Slot) : Type 0 where
+pub record CanBeRead (s : ℕ) (slot : Slot) : Type 0 where
   pub some : takes_some slot ≡ true
   pub stream : s ≤ stream_limit
   pub keys : EachIs IsToken (keys_of slot)
@@ -115,37 +115,37 @@ tokens_are (k ∷ ks) h =
     (record { some = leb-true 1 (length k) q.0; short = leb-true (length k) token_limit q.1 }, tokens_are ks p.1)
 
 module _ (s : ℕ) (low : s ≤ stream_limit) where
-  slots_read : (slots : List Slot) → list_all is_slot slots ≡ true → phrase_has_keys_alone slots ≡ true → OfPhrase IsRead s slots
+  slots_read : (slots : List Slot) → list_all is_slot slots ≡ true → phrase_has_keys_alone slots ≡ true → OfPhrase CanBeRead s slots
   slots_read [] h alone = tt
   slots_read (Any ∷ slots) h alone = (tt, slots_read slots h alone)
   slots_read (Takes keys patterns ∷ slots) h alone =
       let p = and_parts (is_slot (Takes keys patterns)) (list_all is_slot slots) h in
-      let q = and_parts (nat_le 1 (length keys + length patterns) && keys_rise keys) (list_all is_key keys) p.0 in
+      let q = and_parts (nat_le 1 (length keys + length patterns) && slot_keys_rise keys) (list_all is_key keys) p.0 in
       let a = and_parts (slot_has_keys_alone (Takes keys patterns)) (phrase_has_keys_alone slots) alone in
       (record { some = refl; stream = low; keys = tokens_are keys q.1; alone = a.0 }, slots_read slots p.1 a.1)
 
-  phrase_read : (phrase : List Slot) → is_phrase phrase ≡ true → phrase_has_keys_alone phrase ≡ true → OfPhrase IsRead s phrase
+  phrase_read : (phrase : List Slot) → is_phrase phrase ≡ true → phrase_has_keys_alone phrase ≡ true → OfPhrase CanBeRead s phrase
   phrase_read [] h alone = tt
   phrase_read (x ∷ xs) h alone = slots_read (x ∷ xs) (and_parts (takes_some x && ends_well (x ∷ xs)) (list_all is_slot (x ∷ xs)) h).1 alone
 
-  phrases_read : (phrases : List (List Slot)) → list_all is_phrase phrases ≡ true → term_has_keys_alone phrases ≡ true → OfTerm IsRead s phrases
+  phrases_read : (phrases : List (List Slot)) → list_all is_phrase phrases ≡ true → term_has_keys_alone phrases ≡ true → OfTerm CanBeRead s phrases
   phrases_read [] h alone = tt
   phrases_read (x ∷ xs) h alone =
       let p = and_parts (is_phrase x) (list_all is_phrase xs) h in
       let a = and_parts (phrase_has_keys_alone x) (term_has_keys_alone xs) alone in
       (phrase_read x p.0 a.0, phrases_read xs p.1 a.1)
 
-  term_read : (phrases : List (List Slot)) → is_term phrases ≡ true → term_has_keys_alone phrases ≡ true → OfTerm IsRead s phrases
+  term_read : (phrases : List (List Slot)) → is_term phrases ≡ true → term_has_keys_alone phrases ≡ true → OfTerm CanBeRead s phrases
   term_read phrases h alone = phrases_read phrases (and_parts (nat_le 1 (length phrases)) (list_all is_phrase phrases) h).1 alone
 
-  operands_read : (operands : List (List (List Slot))) → list_all is_term operands ≡ true → list_all term_has_keys_alone operands ≡ true → OfOperands IsRead s operands
+  operands_read : (operands : List (List (List Slot))) → list_all is_term operands ≡ true → list_all term_has_keys_alone operands ≡ true → OfOperands CanBeRead s operands
   operands_read [] h alone = tt
   operands_read (x ∷ xs) h alone =
       let p = and_parts (is_term x) (list_all is_term xs) h in
       let a = and_parts (term_has_keys_alone x) (list_all term_has_keys_alone xs) alone in
       (term_read x p.0 a.0, operands_read xs p.1 a.1)
 
-pub parts_read : (f : Reduced) → is_sound f ≡ true → has_keys_alone f ≡ true → (s : ℕ) → s ≤ stream_limit → OfParts IsRead AnyName f s
+pub parts_read : (f : Reduced) → is_sound f ≡ true → has_keys_alone f ≡ true → (s : ℕ) → s ≤ stream_limit → OfParts CanBeRead AnyName f s
 parts_read (Term phrases) h alone s low = term_read s low phrases h alone
 parts_read (Joined op a b) h alone s low =
     let p = and_parts (is_sound a) (is_sound b) h in

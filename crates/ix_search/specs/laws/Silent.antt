@@ -4,7 +4,7 @@ use Rattle.std.specs.List.{list_all}
 use Rattle.std.proofs.lemmas.Bool.{and_parts}
 use Rattle.ct_base.specs.Limits.{stream_limit}
 use Rattle.ct_base.specs.declared.numbers.Pair.{Pair}
-use Rattle.ix_spans.specs.Occurrences.{near_holds, starts, pairs_from, more_slots, phrase_pairs, counted, term_score, term_pairs}
+use Rattle.ix_spans.specs.Occurrences.{near_holds, phrase_starts, pairs_from, more_slots, phrase_pairs, phrase_score, term_score, term_pairs}
 use Rattle.q_tree.specs.declared.flats.Slot.{Slot}
 use Rattle.q_tree.specs.declared.flats.Slot.TheVariants.{Any, Takes}
 use Rattle.q_tree.specs.declared.flats.Place.TheVariants.{Zone, Field, Sentence, Paragraph}
@@ -16,32 +16,32 @@ use Rattle.q_tree.specs.Scores.{DocPostings, phrase_slots, term_slots, operand_s
 use Rattle.ix_search.specs.Parts.{has_keys_alone}
 
 -- a document of which nothing is known
-abbrev pub nothing : DocPostings
-nothing = record { positions = λ s slot. []; spans = λ name. [] }
+abbrev pub no_postings : DocPostings
+no_postings = record { positions = λ s slot. []; spans = λ name. [] }
 
 module _ (s lo hi : ℕ) where
-  no_starts : (phrase : List Slot) → is_phrase phrase ≡ true → starts (phrase_slots nothing s phrase) lo hi ≡ []
+  no_starts : (phrase : List Slot) → is_phrase phrase ≡ true → phrase_starts (phrase_slots no_postings s phrase) lo hi ≡ []
   no_starts [] h = cc
   no_starts (Any ∷ phrase) h = cc
   no_starts (Takes keys patterns ∷ phrase) h = refl
 
-  no_pairs : (phrase : List Slot) → is_phrase phrase ≡ true → phrase_pairs (phrase_slots nothing s phrase) lo hi ≡ []
-  no_pairs phrase h = ap (pairs_from (more_slots (phrase_slots nothing s phrase))) (no_starts phrase h)
+  no_pairs : (phrase : List Slot) → is_phrase phrase ≡ true → phrase_pairs (phrase_slots no_postings s phrase) lo hi ≡ []
+  no_pairs phrase h = ap (pairs_from (more_slots (phrase_slots no_postings s phrase))) (no_starts phrase h)
 
-  silent_term : (phrases : List (List Slot)) → list_all is_phrase phrases ≡ true → term_score (term_slots nothing s phrases) lo hi ≡ 0
+  silent_term : (phrases : List (List Slot)) → list_all is_phrase phrases ≡ true → term_score (term_slots no_postings s phrases) lo hi ≡ 0
   silent_term [] h = refl
   silent_term (x ∷ xs) h =
       let p = and_parts (is_phrase x) (list_all is_phrase xs) h in
-      ap (λ ps. max (counted ps) (term_score (term_slots nothing s xs) lo hi)) (no_pairs x p.0)
+      ap (λ ps. max (phrase_score ps) (term_score (term_slots no_postings s xs) lo hi)) (no_pairs x p.0)
       ∙ ap (max 0) (silent_term xs p.1)
 
-  silent_pairs : (phrases : List (List Slot)) → list_all is_phrase phrases ≡ true → term_pairs (term_slots nothing s phrases) lo hi ≡ []
+  silent_pairs : (phrases : List (List Slot)) → list_all is_phrase phrases ≡ true → term_pairs (term_slots no_postings s phrases) lo hi ≡ []
   silent_pairs [] h = refl
   silent_pairs (x ∷ xs) h =
       let p = and_parts (is_phrase x) (list_all is_phrase xs) h in
-      ap (λ ps. ps ++ term_pairs (term_slots nothing s xs) lo hi) (no_pairs x p.0) ∙ silent_pairs xs p.1
+      ap (λ ps. ps ++ term_pairs (term_slots no_postings s xs) lo hi) (no_pairs x p.0) ∙ silent_pairs xs p.1
 
-  silent_near : (operands : List (List (List Slot))) (span : ℕ) (ordered : Bool) → is_between 2 16 (length operands) ≡ true → list_all is_term operands ≡ true → near_score (operand_slots nothing s operands) span ordered lo hi ≡ 0
+  silent_near : (operands : List (List (List Slot))) (span : ℕ) (ordered : Bool) → is_between 2 16 (length operands) ≡ true → list_all is_term operands ≡ true → near_score (operand_slots no_postings s operands) span ordered lo hi ≡ 0
   silent_near [] span ordered some h = cc
   silent_near (o ∷ os) span ordered some h =
       let p = and_parts (is_term o) (list_all is_term os) h in
@@ -49,7 +49,7 @@ module _ (s lo hi : ℕ) where
       ap (λ ps. if_none ps) (silent_pairs o q.1)
     where
       if_none : List Pair → ℕ
-      if_none ps = if_near (near_holds (ps ∷ map (λ t. term_pairs t lo hi) (operand_slots nothing s os)) span ordered)
+      if_none ps = if_near (near_holds (ps ∷ map (λ t. term_pairs t lo hi) (operand_slots no_postings s os)) span ordered)
 
 silent_joined : (op : Op) → operated op 0 0 ≡ 0
 silent_joined And = refl
@@ -71,12 +71,12 @@ silent_above n = go (nat_lt n 0)
     go false = refl
 
 -- over no pair there is no score
-pub silent_score : (f : Reduced) → is_sound f ≡ true → has_keys_alone f ≡ true → (s lo hi : ℕ) → score f nothing s lo hi ≡ 0
+pub silent_score : (f : Reduced) → is_sound f ≡ true → has_keys_alone f ≡ true → (s lo hi : ℕ) → score f no_postings s lo hi ≡ 0
 silent_score (Term phrases) h alone s lo hi = silent_term s lo hi phrases (and_parts (nat_le 1 (length phrases)) (list_all is_phrase phrases) h).1
 silent_score (Joined op a b) h alone s lo hi =
     let p = and_parts (is_sound a) (is_sound b) h in
     let k = and_parts (has_keys_alone a) (has_keys_alone b) alone in
-    ap (λ n. operated op n (score b nothing s lo hi)) (silent_score a p.0 k.0 s lo hi) ∙ ap (operated op 0) (silent_score b p.1 k.1 s lo hi) ∙ silent_joined op
+    ap (λ n. operated op n (score b no_postings s lo hi)) (silent_score a p.0 k.0 s lo hi) ∙ ap (operated op 0) (silent_score b p.1 k.1 s lo hi) ∙ silent_joined op
 silent_score (Weighted w a) h alone s lo hi = ap (weighted w) (silent_score a (and_parts (is_between 1 100 w) (is_sound a) h).1 alone s lo hi) ∙ silent_weight w
 silent_score (Exceeding n a) h alone s lo hi = ap (if_above n) (silent_score a (and_parts (nat_le n 100) (is_sound a) h).1 alone s lo hi) ∙ silent_above n
 silent_score (Close operands span ordered) h alone s lo hi =

@@ -43,8 +43,8 @@ each_last P (x ∷ xs) y each h = (each.0, each_last P xs y each.1 h)
 abbrev pub IsThere : List Wanted → ℕ → Slot → Type 0
 IsThere ws s slot = is_wanted ws s slot ≡ true
 
-abbrev pub IsNamed : List (List ℕ) → List ℕ → Type 0
-IsNamed ns name = has_key ns name ≡ true
+abbrev pub IsAmongNames : List (List ℕ) → List ℕ → Type 0
+IsAmongNames ns name = has_key ns name ≡ true
 
 abbrev Stays : List Wanted → List Wanted → Type 0
 Stays ws vs = (s : ℕ) (slot : Slot) → IsThere ws s slot → IsThere vs s slot
@@ -82,14 +82,14 @@ slots_stay (Inside Sentence a) s ws t other h = slots_stay a s ws t other h
 slots_stay (Inside Paragraph a) s ws t other h = slots_stay a s ws t other h
 slots_stay (Defined phrases sum) s ws t other h = term_stays s phrases ws t other h
 
-name_stays : (name : List ℕ) (ns : List (List ℕ)) (other : List ℕ) → IsNamed ns other → IsNamed (with_name name ns) other
+name_stays : (name : List ℕ) (ns : List (List ℕ)) (other : List ℕ) → IsAmongNames ns other → IsAmongNames (with_name name ns) other
 name_stays name ns other h = go (has_key ns name)
   where
-    go : (b : Bool) → IsNamed (cond b ns (ns ++ name ∷ [])) other
+    go : (b : Bool) → IsAmongNames (cond b ns (ns ++ name ∷ [])) other
     go true = h
     go false = any_still (λ k. bytes_eq k other) ns (name ∷ []) h
 
-names_stay : (f : Reduced) (ns : List (List ℕ)) (other : List ℕ) → IsNamed ns other → IsNamed (with_names f ns) other
+names_stay : (f : Reduced) (ns : List (List ℕ)) (other : List ℕ) → IsAmongNames ns other → IsAmongNames (with_names f ns) other
 names_stay (Term phrases) ns other h = h
 names_stay (Joined op a b) ns other h = names_stay b (with_names a ns) other (names_stay a ns other h)
 names_stay (Weighted w a) ns other h = names_stay a ns other h
@@ -136,21 +136,21 @@ operands_there s (x ∷ xs) ws alone =
     let now = with_term s x ws in
     (term_so (IsThere now) (IsThere (with_operands s xs now)) (operands_stay s xs now) s x (term_there s x ws p.0), operands_there s xs now p.1)
 
-name_there : (name : List ℕ) (ns : List (List ℕ)) → IsNamed (with_name name ns) name
+name_there : (name : List ℕ) (ns : List (List ℕ)) → IsAmongNames (with_name name ns) name
 name_there name ns = go (has_key ns name) refl
   where
-    go : (b : Bool) → has_key ns name ≡ b → IsNamed (cond b ns (ns ++ name ∷ [])) name
+    go : (b : Bool) → has_key ns name ≡ b → IsAmongNames (cond b ns (ns ++ name ∷ [])) name
     go true is = is
     go false is = any_last (λ k. bytes_eq k name) ns name ((bytes_eq-Decides name name).1 refl)
 
 -- EACH SLOT AND SECTION of a query without patterns is among those that are read
-pub parts_there : (f : Reduced) (s : ℕ) (ws : List Wanted) (ns : List (List ℕ)) → has_keys_alone f ≡ true → OfParts (IsThere (with_slots f s ws)) (IsNamed (with_names f ns)) f s
+pub parts_there : (f : Reduced) (s : ℕ) (ws : List Wanted) (ns : List (List ℕ)) → has_keys_alone f ≡ true → OfParts (IsThere (with_slots f s ws)) (IsAmongNames (with_names f ns)) f s
 parts_there (Term phrases) s ws ns alone = term_there s phrases ws alone
 parts_there (Joined op a b) s ws ns alone =
     let p = and_parts (has_keys_alone a) (has_keys_alone b) alone in
     let now = with_slots a s ws in
     let named = with_names a ns in
-    (parts_so (IsThere now) (IsThere (with_slots b s now)) (slots_stay b s now) (IsNamed named) (IsNamed (with_names b named)) (names_stay b named) a s (parts_there a s ws ns p.0), parts_there b s now named p.1)
+    (parts_so (IsThere now) (IsThere (with_slots b s now)) (slots_stay b s now) (IsAmongNames named) (IsAmongNames (with_names b named)) (names_stay b named) a s (parts_there a s ws ns p.0), parts_there b s now named p.1)
 parts_there (Weighted w a) s ws ns alone = parts_there a s ws ns alone
 parts_there (Exceeding n a) s ws ns alone = parts_there a s ws ns alone
 parts_there (Close operands span ordered) s ws ns alone = operands_there s operands ws alone

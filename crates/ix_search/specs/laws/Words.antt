@@ -4,7 +4,7 @@ use Rattle.std.specs.List.{list_any}
 use Rattle.std.specs.Str.{chars, encode_utf8_all}
 use Rattle.std.proofs.lemmas.Slice.Eq.{bytes_eq-Decides}
 use Rattle.ct_base.specs.laws.Bools.{same_tests}
-use Rattle.ix_spans.specs.Occurrences.{has}
+use Rattle.ix_spans.specs.Occurrences.{has_number}
 use Rattle.ix_spans.specs.Rising.{Rising}
 use Rattle.ix_spans.specs.laws.Rising.{one_list}
 use Rattle.tx_lexer.specs.declared.tokens.Token.{Token}
@@ -15,7 +15,7 @@ use Rattle.tx_document.specs.Documents.{Extent, extents, words_from}
 use Rattle.tx_document.specs.Entries.{is_at, positions_of}
 use Rattle.q_tree.specs.declared.flats.Slot.TheVariants.{Takes}
 use Rattle.q_tree.specs.Slots.{has_key}
-use Rattle.q_tree.specs.Documents.{DocWord, is_in_stream, is_key_of, takes_word, fits_word, has_word, word_positions, put_all, WordsRise}
+use Rattle.q_tree.specs.Documents.{DocWord, is_in_stream, is_key_of, takes_word, fits_word, is_word_at, word_positions, put_all, WordsRise}
 use Rattle.q_tree.specs.laws.Occurring.{word_stands, word_positions_rise}
 use Rattle.q_tree.specs.laws.Postings.{has_put_all, put_all_rises}
 use Rattle.ix_search.specs.Texts.{doc_word, doc_words}
@@ -53,7 +53,7 @@ abbrev word_with : ℕ → Option (List ℕ) → List ℕ → ℕ → ℕ → Wo
 word_with position key streams start end = record { position = position; key = key; streams = streams; start = start; end = end }
 
 word_at : (s : ℕ) (t : List ℕ) (n position : ℕ) (key : Option (List ℕ)) (streams : List ℕ) (start end : ℕ)
-    → (is_at s t (word_with position key streams start end) && eqb position n) ≡ has_word s t n (doc_word (word_with position key streams start end))
+    → (is_at s t (word_with position key streams start end) && eqb position n) ≡ is_word_at s t n (doc_word (word_with position key streams start end))
 word_at s t n position None streams start end = and_false (eqb position n && list_any (λ x. eqb x s) streams)
 word_at s t n position (Some k) streams start end =
     ap (λ b. (b && list_any (λ x. s == x) streams) && eqb position n) (bytes_turned t k)
@@ -61,14 +61,14 @@ word_at s t n position (Some k) streams start end =
     ∙ three_turned (bytes_eq k t) (list_any (λ x. eqb x s) streams) (eqb position n)
 
 -- the positions of a key in a stream are those of the words that have it there
-pub positions_stand : (s : ℕ) (t : List ℕ) (ws : List WordView) (n : ℕ) → has (positions_of s t ws) n ≡ list_any (has_word s t n) (doc_words ws)
+pub positions_stand : (s : ℕ) (t : List ℕ) (ws : List WordView) (n : ℕ) → has_number (positions_of s t ws) n ≡ list_any (is_word_at s t n) (doc_words ws)
 positions_stand s t [] n = refl
 positions_stand s t (w ∷ ws) n =
     go (is_at s t w)
-    ∙ ap (λ b. b || has (positions_of s t ws) n) (word_at s t n w.position w.key w.streams w.start w.end)
-    ∙ ap (λ b. has_word s t n (doc_word w) || b) (positions_stand s t ws n)
+    ∙ ap (λ b. b || has_number (positions_of s t ws) n) (word_at s t n w.position w.key w.streams w.start w.end)
+    ∙ ap (λ b. is_word_at s t n (doc_word w) || b) (positions_stand s t ws n)
   where
-    go : (b : Bool) → has (cond b (w.position ∷ positions_of s t ws) (positions_of s t ws)) n ≡ ((b && eqb w.position n) || has (positions_of s t ws) n)
+    go : (b : Bool) → has_number (cond b (w.position ∷ positions_of s t ws) (positions_of s t ws)) n ≡ ((b && eqb w.position n) || has_number (positions_of s t ws) n)
     go true = refl
     go false = refl
 
@@ -107,15 +107,15 @@ same_any f g (x ∷ xs) same = ap (λ b. b || list_any f xs) (same x) ∙ ap (λ
 
 -- the word has one of these keys there
 abbrev has_word_of : ℕ → List (List ℕ) → ℕ → DocWord → Bool
-has_word_of s ks n w = list_any (λ k. has_word s k n w) ks
+has_word_of s ks n w = list_any (λ k. is_word_at s k n w) ks
 
-union_stands : (s : ℕ) (ws : List WordView) (n : ℕ) (ks : List (List ℕ)) → has (union (positions_of_each s ws ks)) n ≡ list_any (has_word_of s ks n) (doc_words ws)
+union_stands : (s : ℕ) (ws : List WordView) (n : ℕ) (ks : List (List ℕ)) → has_number (union (positions_of_each s ws ks)) n ≡ list_any (has_word_of s ks n) (doc_words ws)
 union_stands s ws n [] = nowhere (doc_words ws)
 union_stands s ws n (k ∷ ks) =
     has_put_all (positions_of s k ws) (union (positions_of_each s ws ks)) n
-    ∙ ap (λ b. b || has (union (positions_of_each s ws ks)) n) (positions_stand s k ws n)
-    ∙ ap (λ b. list_any (has_word s k n) (doc_words ws) || b) (union_stands s ws n ks)
-    ∙ any_either (has_word s k n) (has_word_of s ks n) (doc_words ws)
+    ∙ ap (λ b. b || has_number (union (positions_of_each s ws ks)) n) (positions_stand s k ws n)
+    ∙ ap (λ b. list_any (is_word_at s k n) (doc_words ws) || b) (union_stands s ws n ks)
+    ∙ any_either (is_word_at s k n) (has_word_of s ks n) (doc_words ws)
 
 or_false : (b : Bool) → b ≡ (b || false)
 or_false true = refl

@@ -1,5 +1,5 @@
 -- Nearness asks which pairs an operand has, and not how they are ordered.
-use Rattle.std.proofs.Common.{ℕ, ◌≡◌, ◌⊎◌, inl, inr, eqb, Bool, true, List, [], ◌∷◌, ◌++◌, refl, sym, ap, ◌∙◌}
+use Rattle.std.proofs.Common.{ℕ, ◌≡◌, ◌⊎◌, inl, inr, eqb, Bool, true, List, [], ◌∷◌, ◌++◌, refl, sym, ap, subst, ◌∙◌}
 use Rattle.std.specs.Global.{Vec}
 use Rattle.std.proofs.lemmas.Bool.{and_parts, and_from, or_cases, or_left, or_right, eqb-true, eq-eqb}
 use Rattle.ct_base.specs.laws.Bools.{same_tests}
@@ -67,6 +67,9 @@ pairs_push (p ∷ os) o = ap (λ (l : List (List Pair)). p.items ∷ l) (pairs_p
 pub each_in_order_push : (os : List (List Pair)) (o : List Pair) → EachInOrder os → StartsInOrder o → EachInOrder (os ++ o ∷ [])
 each_in_order_push [] o h k = (k, tt)
 each_in_order_push (p ∷ os) o h k = (h.0, each_in_order_push os o h.1 k)
+
+pub operands_push : (os : List (Vec Pair)) (o : Vec Pair) → EachInOrder (pairs_view os) → StartsInOrder o.items → EachInOrder (pairs_view (os ++ o ∷ []))
+operands_push os o h k = subst EachInOrder (sym (pairs_push os o)) (each_in_order_push (pairs_view os) o.items h k)
 
 pub each_same_push : (os ps : List (List Pair)) (o p : List Pair) → EachSame os ps → SamePairs o p → EachSame (os ++ o ∷ []) (ps ++ p ∷ [])
 each_same_push [] [] o p h k = (k, tt)

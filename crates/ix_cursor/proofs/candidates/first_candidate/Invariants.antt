@@ -1,5 +1,5 @@
 use Rattle.std.proofs.Common.{◌≤◌, ◌-◌, ◌^◌}
-use Rattle.ix_cursor.specs.Nodes.{KeepsScores}
+use Rattle.ix_cursor.specs.Nodes.{SameScoresFrom}
 use Rattle.ix_cursor.specs.Candidates.{NoneBetween}
 use Rattle.ix_cursor.proofs.candidates.first_candidate.Given as goal
 
@@ -7,7 +7,7 @@ abbrev pub invariant-documents : goal.invariant-documents
 invariant-documents l = record {
   from : l.from ≤ l.at;
   none : NoneBetween l.fn.root l.from l.at;
-  keeps : KeepsScores l.at l.fn.root l.root;
+  keeps : SameScoresFrom l.at l.fn.root l.root;
 }
 
 abbrev pub decreases-documents : goal.decreases-documents

@@ -1,5 +1,5 @@
 use Rattle.std.proofs.Common.{◌∙◌, ap, sym}
-use Rattle.ix_cursor.specs.Documents.{places_at}
+use Rattle.ix_lists.specs.Documents.{places_at}
 use Rattle.ix_cursor.proofs.Slotting.{tokens_set}
 use Rattle.ix_cursor.proofs.feeds.skip_tokens.Goals as goal
 

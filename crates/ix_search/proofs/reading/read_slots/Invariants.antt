@@ -1,8 +1,8 @@
 use Rattle.std.proofs.Common.{◌≡◌, Some, None}
 use Rattle.ct_keep.specs.Content.{Content}
-use Rattle.ct_keep.specs.KeeperViews.{Reads}
+use Rattle.ct_keep.specs.KeeperViews.{ReadsKeeper}
 use Rattle.ct_entry.specs.Lists.{EachIs}
-use Rattle.ix_cursor.specs.Reading.{SlotsRise}
+use Rattle.ix_cursor.specs.Reading.{SlotFeedsRise}
 use Rattle.ix_search.specs.Reading.{KeyRows, HoldsSlot, slot_feed}
 use Rattle.ix_search.specs.Looking.{slots_looks, LooksLeft}
 use Rattle.ix_search.proofs.ReadSteps.{ReadSoFar}
@@ -10,9 +10,9 @@ use Rattle.ix_search.proofs.reading.read_slots.Given as goal
 
 abbrev pub invariant-loop-want : goal.invariant-loop-want
 invariant-loop-want g l = record {
-  reads : Reads (g.K.Keeper.view l.fn.keeper) (g.K.Keeper.view l.keeper) None;
+  reads : ReadsKeeper (g.K.Keeper.view l.fn.keeper) (g.K.Keeper.view l.keeper) None;
   looks : (m : Content) → (g.K.Keeper.view l.fn.keeper).content ≡ Some m → LooksLeft (slots_looks m l.index l.want-iterator.rest.items) (slots_looks m l.index l.fn.wanted.items) (g.K.Keeper.view l.fn.keeper).counts (g.K.Keeper.view l.keeper).counts;
-  rise : SlotsRise l.feeds;
+  rise : SlotFeedsRise l.feeds;
   rows : (m : Content) (held : KeyRows) → (g.K.Keeper.view l.fn.keeper).content ≡ Some m → EachIs (HoldsSlot m l.index held) l.fn.wanted.items
       → ReadSoFar (HoldsSlot m l.index held) (slot_feed held) l.fn.wanted.items l.want-iterator.rest.items l.feeds;
 }

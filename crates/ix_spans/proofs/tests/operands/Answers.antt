@@ -1,7 +1,7 @@
 use Rattle.std.proofs.Common.{sym, subst}
 use Rattle.ix_spans.specs.InOrder.{EachInOrder}
 use Rattle.ix_spans.specs.Views.{pairs_view}
-use Rattle.ix_spans.proofs.Fixtures.{operands_push}
+use Rattle.ix_spans.specs.laws.Nearness.{operands_push}
 use Rattle.ix_spans.proofs.tests.operands.Goals as goal
 
 pub loop-row-preserved : goal.loop-row-preserved

@@ -1,14 +1,18 @@
 use Rattle.std.proofs.Common.{◌++◌, take, drop, length, ap, ◌∙◌}
+use Rattle.std.proofs.lemmas.Result.{IfOk-weaker}
+use Rattle.ix_lists.specs.Seeking.{NothingBefore}
 use Rattle.ix_cursor.specs.declared.feeds.SpanFeed.{SpanFeed}
-use Rattle.ix_cursor.specs.Feeding.{operands_at}
+use Rattle.ix_cursor.specs.Feeding.{AreSilent, term_at, operands_at}
 use Rattle.ix_cursor.specs.Nodes.{score_at}
-use Rattle.ix_cursor.specs.SpanDocuments.{pairs_at}
+use Rattle.ix_lists.specs.SpanDocuments.{pairs_at}
 use Rattle.ix_cursor.proofs.Slotting.{silent_score, silent_near}
 use Rattle.ix_cursor.proofs.Within.{greatest_kept, within_silent}
 use Rattle.ix_cursor.proofs.nodes.Node.+skip.Goals as goal
 
-pub skip_parts-returns-in_ok-skip_term-in-Term-clause-bound : goal.skip_parts-returns-in_ok-skip_term-in-Term-clause-bound
-skip_parts-returns-in_ok-skip_term-in-Term-clause-bound t c d lo hi before = silent_score _ lo hi (c.bound_term.ensures d before)
+pub skip_parts-returns-in-Term-clause-bound : goal.skip_parts-returns-in-Term-clause-bound
+skip_parts-returns-in-Term-clause-bound t c =
+    let new = c.pass_term.new.term in
+    IfOk-weaker c.pass_term.result (NothingBefore AreSilent (term_at new)) _ (λ bound silent d lo hi before. silent_score (term_at new d) lo hi (silent d before)) c.pass_term.ensures.bound
 
 pub skip_parts-returns-in_ok-skip_operands-in-Near-clause-bound : goal.skip_parts-returns-in_ok-skip_operands-in-Near-clause-bound
 skip_parts-returns-in_ok-skip_operands-in-Near-clause-bound t c d lo hi before =

@@ -11,5 +11,5 @@ returns c =
     let g = c.args.self.now in
     IfOk-weaker c.into_hits.result _ _
     (λ hits same rows gives. same
-    ∙ gives.scores c.in_ok-scores.scores (scores_same (get g.rows) (remaining c.in_ok-cursor.cursor) (gathered_score g) c.in_ok-scores.scores c.in_ok-cursor.ensures (c.in_ok-scores.ensures gives.one)))
+    ∙ gives.scores c.in_ok-scores.scores (scores_same (get g.rows) (remaining c.in_ok-cursor.cursor) (gathered_score g) c.in_ok-scores.scores c.in_ok-cursor.ensures.scores (c.in_ok-scores.ensures gives.one)))
     c.into_hits.ensures

@@ -1,0 +1,14 @@
+use Rattle.std.proofs.Common.{◌≡◌, ◌++◌, ◌∙◌, List, drop, sym, ap, subst}
+use Rattle.ix_posting.specs.declared.rows.RowDocument.{RowDocument}
+use Rattle.ix_lists.specs.Documents.{row_from, places_at, least_document}
+use Rattle.ix_lists.specs.Seeking.{NothingBefore, IsNowhere}
+use Rattle.ix_lists.proofs.Passing.{least_bounds}
+use Rattle.ix_lists.proofs.postings.Postings.bound.Goals as goal
+
+pub returns : goal.returns
+returns c =
+    let p = c.self.inside.place in
+    let decoded = row_from p.row p.next in
+    let rows = drop p.taken c.self.inside.rows in
+    let least : c.least_document.result ≡ least_document decoded rows = c.least_document.ensures ∙ ap (λ ds. least_document ds c.rows_from.result.now) c.row_from.ensures ∙ ap (least_document decoded) (c.rows_from.ensures ∙ ap (drop p.taken) c.as_slice.ensures) in
+    rw least (subst (λ ds. NothingBefore IsNowhere (places_at ds) (least_document decoded rows)) c.self.view_is (least_bounds decoded rows c.self.invariant.1))

@@ -1,0 +1,48 @@
+-- Documents in rising order, as they are and in rows.
+use Rattle.std.specs.Prelude.{ℕ, ◌≡◌, nat_lt, eqb, List, [], ◌∷◌, ◌++◌, Option, Some, None, drop, refl}
+use Rattle.std.specs.Bool.{if◌then◌else◌}
+use Rattle.ix_posting.specs.declared.rows.RowDocument.{RowDocument}
+use Rattle.ix_posting.specs.Lists.{posting_list}
+
+-- the positions in a document
+abbrev pub places_at : List RowDocument → ℕ → List ℕ
+places_at [] d = []
+places_at (x ∷ xs) d = if eqb x.document d then x.positions else places_at xs d
+
+-- what is left of rising documents where those before a number are passed
+abbrev pub from_on : ℕ → List RowDocument → List RowDocument
+from_on to [] = []
+from_on to (d ∷ ds) = if nat_lt d.document to then from_on to ds else d ∷ ds
+
+-- the positions in the first document, if that is the one
+abbrev pub first_places : List RowDocument → ℕ → List ℕ
+first_places [] d = []
+first_places (x ∷ xs) d = if eqb x.document d then x.positions else []
+
+-- the documents of a decoded row from a place on; there may be no row
+abbrev pub row_from : {D : Type 0} → Option (List D) → ℕ → List D
+row_from None n = []
+row_from (Some row) n = drop n row
+
+-- a document before which there is none: the first that is decoded, or any where rows are left
+abbrev pub least_document : List RowDocument → List (List RowDocument) → Option ℕ
+least_document (d ∷ ds) rows = Some d.document
+least_document [] (row ∷ rows) = Some 0
+least_document [] [] = None
+
+-- ---- computed examples: the documents 2 and 5 in one row, and 7 in the next
+
+abbrev at_1 : ℕ → RowDocument
+at_1 document = record { document = document; positions = 1 ∷ [] }
+
+abbrev three_documents : List RowDocument
+three_documents = posting_list ((at_1 2 ∷ at_1 5 ∷ []) ∷ (at_1 7 ∷ []) ∷ [])
+
+from_3 : from_on 3 three_documents ≡ at_1 5 ∷ at_1 7 ∷ []
+from_3 = refl
+
+in_7 : places_at three_documents 7 ≡ 1 ∷ []
+in_7 = refl
+
+in_6 : places_at three_documents 6 ≡ []
+in_6 = refl

@@ -1,0 +1,4 @@
+pub mod Numbers
+pub mod Documents
+pub mod SpanDocuments
+pub mod Seeking

@@ -1,0 +1,9 @@
+//! Posting lists that are walked document by document: their rows are decoded as they are needed, one at a time.
+#![tactic(auto)]
+
+mod merging;
+mod postings;
+mod span_postings;
+
+pub use postings::Postings;
+pub use span_postings::SpanPostings;

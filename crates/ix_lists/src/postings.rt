@@ -1,0 +1,226 @@
+//! The documents of a token that are left, of which one row is decoded at a time.
+
+ghost use Rattle.std.specs.Prelude.{◌≡◌, [], ℕ, ◌++◌, ◌≤◌, ◌<◌, drop, length, List, IfOk, OnOk, IfSome, IfNone};
+ghost use Rattle.ix_posting.specs.Rows.{DocumentsRise};
+ghost use Rattle.ix_posting.specs.declared.rows.RowDocument.{RowDocument};
+ghost use Rattle.ix_spans.specs.Rising.{Rising};
+ghost use Rattle.q_tree.specs.Documents.{put_all};
+ghost use Rattle.ix_posting.specs.Lists.{posting_list};
+ghost use Rattle.ix_lists.specs.Documents.{from_on, places_at, first_places, row_from, least_document};
+ghost use Rattle.ix_lists.specs.Seeking.{SameFrom, NothingBefore, IsNowhere};
+
+use crate::merging::merged;
+use ct_base::Memory;
+use ix_posting::{EncodedRow, EncodedRows, Row, RowDocument};
+use std::alloc::Global;
+use std::marker::Model;
+
+/// The documents of a row from a place on.
+fn row_from(row: &Option<Row>, next: usize) -> &[RowDocument]
+    ensures { result.now ≡ row_from row.now next }
+{
+    match row {
+        None => &[],
+        Some(row) => documents_from(row.documents(), next),
+    }
+}
+
+/// The documents from a place on.
+fn documents_from(documents: &[RowDocument], next: usize) -> &[RowDocument]
+    ensures { result.now ≡ drop next documents.now }
+{
+    if next > documents.len() {
+        return &[];
+    }
+    &documents[next..]
+}
+
+/// The first place from `next` on whose document doesn't stand before `to`; None where all of them do.
+fn place_among(documents: &[RowDocument], next: usize, to: u32) -> Option<usize>
+    ensures some { IfSome result (λ n. (drop n documents.now ≡ from_on to (drop next documents.now)) × (0 < length (drop n documents.now))) }
+    ensures none { IfNone result (from_on to (drop next documents.now) ≡ []) }
+{
+    for i in next..documents.len() {
+        if documents[i].document >= to {
+            return Some(i);
+        }
+    }
+    None
+}
+
+/// The same in a row that may be there.
+fn place_in(row: &Option<Row>, next: usize, to: u32) -> Option<usize>
+    ensures some { IfSome result (λ n. (row_from row.now n ≡ from_on to (row_from row.now next)) × (0 < length (row_from row.now n))) }
+    ensures none { IfNone result (from_on to (row_from row.now next) ≡ []) }
+{
+    match row {
+        None => None,
+        Some(row) => place_among(row.documents(), next, to),
+    }
+}
+
+/// A decoded row, if there is one, the place of its first document that is left, and how many rows were taken.
+#[derive(Drop)]
+struct Place {
+    row: Option<Row>,
+    next: usize,
+    taken: usize,
+}
+
+/// The place of the first document that doesn't stand before `to`, among rows of which so many were taken. It decodes one row after
+/// the other.
+fn seek(alloc: Global, rows: &[EncodedRow], taken: usize, to: u32) -> Result<Place, Memory>
+    requires { taken ≤ length rows.now }
+    ensures taken { IfOk result (λ p. p.taken ≤ length rows.now) }
+    ensures left { IfOk result (λ p. row_from p.row p.next ++ posting_list (drop p.taken rows.now) ≡ from_on to (posting_list (drop taken rows.now))) }
+    ensures first { IfOk result (λ p. (d : ℕ) → first_places (row_from p.row p.next) d ≡ first_places (from_on to (posting_list (drop taken rows.now))) d) }
+{
+    for i in taken..rows.len() {
+        let row = Some(rows[i].decode(alloc)?);
+        match place_in(&row, 0, to) {
+            Some(next) => {
+                return Ok(Place {
+                    row,
+                    next,
+                    taken: i + 1,
+                });
+            }
+            None => {}
+        }
+    }
+    Ok(Place {
+        row: None,
+        next: 0,
+        taken: rows.len(),
+    })
+}
+
+/// Leaves one place for another.
+fn go_to(place: &mut Place, other: Place)
+    ensures { place.new ≡ other }
+{
+    *place = other;
+}
+
+/// The positions of the first document, if that is the one.
+fn first_places(documents: &[RowDocument], document: u32) -> &[u32]
+    ensures { result.now ≡ first_places documents.now document }
+{
+    match documents {
+        [] => &[],
+        [first, ..] => {
+            if first.document == document {
+                first.positions.as_slice()
+            } else {
+                &[]
+            }
+        }
+    }
+}
+
+/// A document before which there is none, where these documents are decoded and these rows are left.
+fn least_document(decoded: &[RowDocument], rows: &[EncodedRow]) -> Option<u32>
+    ensures { result ≡ least_document decoded.now rows.now }
+{
+    match decoded {
+        [first, ..] => Some(first.document),
+        [] => match rows {
+            [_, ..] => Some(0),
+            [] => None,
+        },
+    }
+}
+
+/// The rows from a place on.
+fn rows_from(rows: &[EncodedRow], taken: usize) -> &[EncodedRow]
+    requires { taken ≤ length rows.now }
+    ensures { result.now ≡ drop taken rows.now }
+{
+    &rows[taken..]
+}
+
+/// The documents of a token that are left, in rising order. Its rows are decoded one after the other, as they are needed.
+#[derive(Drop)]
+pub struct Postings {
+    rows: EncodedRows,
+    place: Place,
+}
+
+impl Model for Postings {
+    ghost use Rattle.std.specs.Prelude.{List, drop, length, ◌≤◌, ◌++◌};
+    ghost use Rattle.ix_posting.specs.declared.rows.RowDocument.{RowDocument};
+    ghost use Rattle.ix_posting.specs.Rows.{DocumentsRise};
+    ghost use Rattle.ix_posting.specs.Lists.{posting_list};
+    ghost use Rattle.ix_lists.specs.Documents.{row_from};
+
+    ghost Value = { List RowDocument };
+
+    ghost view = { λ p. row_from p.place.row p.place.next ++ posting_list (drop p.place.taken p.rows) };
+
+    ghost invariant = { λ p. (p.place.taken ≤ length p.rows) × DocumentsRise 0 (row_from p.place.row p.place.next ++ posting_list (drop p.place.taken p.rows)) };
+}
+
+impl Postings {
+    /// All documents of these rows.
+    pub fn of(rows: EncodedRows) -> Postings
+        requires { DocumentsRise 0 (posting_list rows) }
+        ensures { result ≡ posting_list rows }
+    {
+        Postings {
+            rows,
+            place: Place {
+                row: None,
+                next: 0,
+                taken: 0,
+            },
+        }
+    }
+
+    /// Passes the documents before `to`. It decodes the rows from the present one on, as far as one with such a document; after an error it
+    /// may only be dropped.
+    pub fn skip(&mut self, alloc: Global, to: u32) -> Result<(), Memory>
+        ensures { OnOk result (SameFrom to (places_at self.old) (places_at self.new)) }
+    {
+        match place_in(&self.place.row, self.place.next, to) {
+            Some(next) => self.place.next = next,
+            None => {
+                let place = seek(alloc, self.rows.as_slice(), self.place.taken, to)?;
+                go_to(&mut self.place, place);
+            }
+        }
+        Ok(())
+    }
+
+    /// A document before which there is none.
+    pub fn bound(&self) -> Option<u32>
+        ensures { NothingBefore IsNowhere (places_at self.now) result }
+    {
+        least_document(
+            row_from(&self.place.row, self.place.next),
+            rows_from(self.rows.as_slice(), self.place.taken),
+        )
+    }
+
+    /// Merges the positions in a document into rising ones. At a document before which the others were passed it decodes nothing.
+    pub fn merge_at(
+        &self,
+        alloc: Global,
+        document: u32,
+        numbers: Vec<u32>,
+    ) -> Result<Vec<u32>, Memory>
+        requires { Rising numbers.items }
+        ensures { IfOk result (λ v. v.items ≡ put_all (places_at self.now document) numbers.items) }
+    {
+        match place_in(&self.place.row, self.place.next, document) {
+            Some(next) => {
+                let left = row_from(&self.place.row, next);
+                merged(alloc, first_places(left, document), numbers)
+            }
+            None => {
+                let place = seek(alloc, self.rows.as_slice(), self.place.taken, document)?;
+                let left = row_from(&place.row, place.next);
+                merged(alloc, first_places(left, document), numbers)
+            }
+        }
+    }
+}

@@ -1,0 +1,35 @@
+use Rattle.std.proofs.Common.{◌≡◌, List, ℕ, [], ◌∷◌, Vec, map, ap, subst, ◌∙◌, arith}
+use Rattle.std.specs.declared.alloc.Global.{Global}
+use Rattle.std.proofs.lemmas.Grind.{common_steps}
+use Rattle.ix_posting.specs.SpanRows.{SpanDocumentsRise, IsSpanRow, span_row_bytes}
+use Rattle.ix_rows.specs.SpanRows.{span_number}
+use Rattle.ix_rows.specs.Holding.{SpanTaken}
+use Rattle.ix_rows.proofs.TakeSteps.{SoFar, begun, taken, passed, ended, span_laws}
+use Rattle.ix_rows.proofs.span_taking.span_rows_in.Goals.{in-Some-2+in_ok-push, in_default}
+use Rattle.ix_rows.proofs.span_taking.span_rows_in.Goals as goal
+
+abbrev pairs_of : List (Vec ℕ Global × Vec ℕ Global) → List (List ℕ × List ℕ)
+pairs_of es = map (λ e. (e.0.items, e.1.items)) es
+
+pub loop-value-init : goal.loop-value-init
+loop-value-init c = begun span_number SpanDocumentsRise IsSpanRow span_row_bytes span_laws _ _ _ (ap pairs_of c.into_iter-value-iterator.ensures.into_iter_gives.0) c.new-rows.ensures.items
+
+pub loop-value-preserved : goal.loop-value-preserved
+loop-value-preserved c =
+    let es = pairs_of c.args.entries.items in
+    let far : SoFar span_number SpanDocumentsRise IsSpanRow span_row_bytes es (pairs_of ((c.in-Some.field-0-0, c.in-Some.value) ∷ c.next.new.self.rest.items)) c.loop-value.rows.items c.loop-value.last =
+    subst (λ (l : List (Vec ℕ Global × Vec ℕ Global)). SoFar span_number SpanDocumentsRise IsSpanRow span_row_bytes es (pairs_of l) c.loop-value.rows.items c.loop-value.last) c.in-Some.ensures.steps.0 c.loop-value.invariant in
+    let rest = pairs_of c.next.new.self.rest.items in
+    elim c.match-branch-2.branch [
+      | in-Some-2+in_ok-push w ↦
+          taken span_number SpanDocumentsRise IsSpanRow span_row_bytes span_laws es rest (c.in-Some.field-0-0.items, c.in-Some.value.items) c.loop-value.rows.items c.match-branch-2.rows.items c.loop-value.last w.in-Some-2.row w.in-Some-2.end c.match-branch-2.last
+          far (subst (SpanTaken c.loop-value.last c.in-Some.value.items) w.in-Some-2.is c.in_ok-row.ensures) (ap (λ v. v.items) w.rows-is ∙ w.in_ok-push.ensures.items) w.last-is
+      | in_default w ↦
+          passed span_number SpanDocumentsRise IsSpanRow span_row_bytes span_laws es rest (c.in-Some.field-0-0.items, c.in-Some.value.items) c.loop-value.rows.items c.match-branch-2.rows.items c.loop-value.last c.match-branch-2.last
+          far (subst (SpanTaken c.loop-value.last c.in-Some.value.items) w.in_default.is c.in_ok-row.ensures) (ap (λ v. v.items) w.rows-is) w.last-is
+    ]
+
+pub returns : goal.returns
+returns c =
+    let none : c.loop-value.value-iterator.rest.items ≡ [] = grind (arith, common_steps, c.in-None.ensures) in
+    ended span_number SpanDocumentsRise IsSpanRow span_row_bytes span_laws _ _ _ _ c.loop-value.invariant (ap pairs_of none)

@@ -1,8 +1,0 @@
-use Rattle.std.proofs.Common.{map}
-use Rattle.ix_posting.specs.Rows.{DocumentsRise, IsPostingRow, posting_bytes}
-use Rattle.ix_search.specs.Holding.{document_number}
-use Rattle.ix_search.proofs.TakeSteps.{SoFar}
-use Rattle.ix_search.proofs.taking.rows_in.Given as goal
-
-abbrev pub invariant-loop-value : goal.invariant-loop-value
-invariant-loop-value l = SoFar document_number DocumentsRise IsPostingRow posting_bytes (map (λ e. (e.0.items, e.1.items)) l.fn.entries.items) (map (λ e. (e.0.items, e.1.items)) l.value-iterator.rest.items) l.rows.items l.last
