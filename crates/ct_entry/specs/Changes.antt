@@ -1,7 +1,7 @@
 -- Changes on keys: what a call puts into a batch.
 use Rattle.std.specs.Prelude.{◌≡◌, ℕ, Bool, true, cond, List, [], ◌∷◌, Option, Some, None, pos, codes, refl}
 use Rattle.ct_entry.specs.declared.kinds.Kind.{Kind}
-use Rattle.ct_entry.specs.Keys.{Key, bytes, same_key, IsKey, key, row_part}
+use Rattle.ct_entry.specs.Keys.{Key, bytes, same_key, IsKeyOfKind, key, row_part}
 use Rattle.ct_bytes.specs.RowKeys.{row_bytes}
 use Rattle.ct_entry.specs.declared.kinds.Kind.TheVariants.{RowNumbers, Pending}
 
@@ -9,8 +9,8 @@ use Rattle.ct_entry.specs.declared.kinds.Kind.TheVariants.{RowNumbers, Pending}
 abbrev pub KeyChange : Type 0
 KeyChange = Key × Option (List ℕ)
 
-abbrev pub put : Key → List ℕ → KeyChange
-put k v = (k, Some v)
+abbrev pub put_value : Key → List ℕ → KeyChange
+put_value k v = (k, Some v)
 
 abbrev pub drop_key : Key → KeyChange
 drop_key k = (k, None)
@@ -32,7 +32,7 @@ view ws f k = told ws k (f k)
 -- the changes are on keys of the kinds
 abbrev pub AreChanges : List (Key × Option (List ℕ)) → Type 0
 AreChanges [] = Unit {0}
-AreChanges (w ∷ ws) = IsKey w.0 × AreChanges ws
+AreChanges (w ∷ ws) = IsKeyOfKind w.0 × AreChanges ws
 
 -- the changes are on kinds that pass the test
 abbrev pub AllOf : (Kind → Bool) → List (Key × Option (List ℕ)) → Type 0
@@ -61,16 +61,16 @@ abbrev row_two : Key
 row_two = key Pending (codes "di") (row_part (pos 2))
 
 -- the last change on a key counts
-last_counts : (old : Option (List ℕ)) → told (drop_key row_one ∷ put row_one (codes "x") ∷ put row_one (codes "y") ∷ []) row_one old ≡ Some (codes "y")
+last_counts : (old : Option (List ℕ)) → told (drop_key row_one ∷ put_value row_one (codes "x") ∷ put_value row_one (codes "y") ∷ []) row_one old ≡ Some (codes "y")
 unfolding row_bytes
 last_counts old = refl
 
-goes_again : (old : Option (List ℕ)) → told (put row_one (codes "x") ∷ drop_key row_one ∷ []) row_one old ≡ None
+goes_again : (old : Option (List ℕ)) → told (put_value row_one (codes "x") ∷ drop_key row_one ∷ []) row_one old ≡ None
 unfolding row_bytes
 goes_again old = refl
 
 -- changes on one key say nothing of another, nor of that with the same rest under another kind
-other_rows_stay : (old : Option (List ℕ)) → told (put row_one [] ∷ drop_key row_one ∷ []) row_two old ≡ old
+other_rows_stay : (old : Option (List ℕ)) → told (put_value row_one [] ∷ drop_key row_one ∷ []) row_two old ≡ old
 unfolding row_bytes
 other_rows_stay old = refl
 
@@ -78,5 +78,5 @@ other_kinds_stay : (old : Option (List ℕ)) → told (drop_key row_one ∷ []) 
 unfolding row_bytes
 other_kinds_stay old = refl
 
-spelt : spell (put (key Pending (codes "di") []) [] ∷ drop_key (key Pending (codes "dj") []) ∷ []) ≡ (0x23 ∷ 2 ∷ 0x64 ∷ 0x69 ∷ [], Some []) ∷ (0x23 ∷ 2 ∷ 0x64 ∷ 0x6a ∷ [], None) ∷ []
+spelt : spell (put_value (key Pending (codes "di") []) [] ∷ drop_key (key Pending (codes "dj") []) ∷ []) ≡ (0x23 ∷ 2 ∷ 0x64 ∷ 0x69 ∷ [], Some []) ∷ (0x23 ∷ 2 ∷ 0x64 ∷ 0x6a ∷ [], None) ∷ []
 spelt = refl

@@ -3,7 +3,7 @@ use Rattle.std.specs.Prelude.{ℕ, ℤ, pos, negsuc, ◌+◌, ◌==◌, Bool, co
 use Rattle.std.specs.List.{list_any}
 use Rattle.ct_entry.specs.Keys.{Key, same_list, key}
 use Rattle.ct_entry.specs.declared.kinds.Kind.TheVariants.{Pending}
-use Rattle.ct_entry.specs.Changes.{put, drop_key}
+use Rattle.ct_entry.specs.Changes.{put_value, drop_key}
 
 -- the changes for each, in order
 abbrev pub each : {I : Type 0} → (I → List (Key × Option (List ℕ))) → List I → List (Key × Option (List ℕ))
@@ -16,8 +16,8 @@ latest hit value [] old = old
 latest hit value (i ∷ is) old = latest hit value is (cond (hit i) (value i) old)
 
 -- whether the name is one of these
-abbrev pub is_among : List ℕ → List (List ℕ) → Bool
-is_among name names = list_any (λ j. same_list name j) names
+abbrev pub is_any_of : List ℕ → List (List ℕ) → Bool
+is_any_of name names = list_any (λ j. same_list name j) names
 
 -- rows, each with a document: the first has this one, and each other the next
 abbrev pub numbered : ℕ → List ℤ → List (ℕ × ℤ)
@@ -39,8 +39,8 @@ one_after_the_other = refl
 abbrev waits : List ℕ → Key
 waits i = key Pending i []
 
-in_order : each (λ i. drop_key (waits i) ∷ put (waits i) [] ∷ []) (codes "di" ∷ codes "dj" ∷ [])
-    ≡ drop_key (waits (codes "di")) ∷ put (waits (codes "di")) [] ∷ drop_key (waits (codes "dj")) ∷ put (waits (codes "dj")) [] ∷ []
+in_order : each (λ i. drop_key (waits i) ∷ put_value (waits i) [] ∷ []) (codes "di" ∷ codes "dj" ∷ [])
+    ≡ drop_key (waits (codes "di")) ∷ put_value (waits (codes "di")) [] ∷ drop_key (waits (codes "dj")) ∷ put_value (waits (codes "dj")) [] ∷ []
 in_order = refl
 
 -- of the numbers below 3 the last counts
@@ -50,8 +50,8 @@ last_below_three = refl
 none_below_three : latest (λ n. nat_lt n 3) (λ n. Some (n ∷ [])) (4 ∷ 5 ∷ []) (Some []) ≡ Some []
 none_below_three = refl
 
-among : is_among (codes "dj") (codes "di" ∷ codes "dj" ∷ []) ≡ true
+among : is_any_of (codes "dj") (codes "di" ∷ codes "dj" ∷ []) ≡ true
 among = refl
 
-not_among : is_among (codes "d") (codes "di" ∷ codes "dj" ∷ []) ≡ false
+not_among : is_any_of (codes "d") (codes "di" ∷ codes "dj" ∷ []) ≡ false
 not_among = refl

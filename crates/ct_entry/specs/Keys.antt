@@ -116,13 +116,13 @@ IsPart Anchors p = (anchor : List ℕ) × ((row : ℤ) × (length anchor ≤ tok
 IsPart RuleFaults p = IsRowPart p
 
 -- a key of one of the kinds, whose owner is a name
-pub record IsKey (k : Key) : Type 0 where
+pub record IsKeyOfKind (k : Key) : Type 0 where
   pub owner : IsName k.owner
   pub part : IsPart k.kind k.part
 
 -- no other entry: each key is one of these
 abbrev pub HasKeysOnly : Content → Type 0
-HasKeysOnly m = (b : List ℕ) → IsSome (get m b) → (k : Key) × (b ≡ bytes k) × IsKey k
+HasKeysOnly m = (b : List ℕ) → IsSome (get m b) → (k : Key) × (b ≡ bytes k) × IsKeyOfKind k
 
 -- computed examples
 numbers_of_row_seven : bytes (key RowNumbers (codes "t") (row_part (pos 7))) ≡ 0x02 ∷ 1 ∷ 0x74 ∷ 0x80 ∷ 0 ∷ 0 ∷ 0 ∷ 0 ∷ 0 ∷ 0 ∷ 7 ∷ []
@@ -175,5 +175,5 @@ apart_by_kind : same_key (key RowDocuments (codes "di") (row_part (pos 1))) (key
 apart_by_kind = refl
 
 -- the key of a table has no rest
-none_with_a_rest : IsKey (key Tables (codes "docs") (0 ∷ [])) → ⊥
+none_with_a_rest : IsKeyOfKind (key Tables (codes "docs") (0 ∷ [])) → ⊥
 none_with_a_rest is = let e : ◌≡◌ {A = List ℕ} (0 ∷ []) [] = is.part in cc

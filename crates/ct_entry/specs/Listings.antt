@@ -22,8 +22,8 @@ use Rattle.ct_entry.specs.Maps.{Names}
 -- ---- the entries of a map
 
 -- the entries that have a value by g, in the same order, each under the rest that its key spells
-abbrev pub listed : {K X : Type 0} → (K → List ℕ) → (X → Option (List ℕ)) → List (K × X) → List (List ℕ × List ℕ)
-listed part g es = filter_map (λ e. option_map (λ v. (part e.0, v)) (g e.1)) es
+abbrev pub entries_where : {K X : Type 0} → (K → List ℕ) → (X → Option (List ℕ)) → List (K × X) → List (List ℕ × List ℕ)
+entries_where part g es = filter_map (λ e. option_map (λ v. (part e.0, v)) (g e.1)) es
 
 -- the keys that have a value by g, in order
 abbrev pub keys_where : {K X : Type 0} → (X → Option (List ℕ)) → List (K × X) → List K
@@ -36,12 +36,12 @@ owner_entries kind owner prefix m = entries (tail (prefix_of kind owner ++ prefi
 -- ---- row keys
 
 -- the number whose sign bit was turned
-abbrev pub lowered : ℕ → ℤ
-lowered n = if nat_lt n (2 ^ 63) then negsuc (2 ^ 63 - 1 - n) else pos (n - 2 ^ 63)
+abbrev pub sign_turned_back : ℕ → ℤ
+sign_turned_back n = if nat_lt n (2 ^ 63) then negsuc (2 ^ 63 - 1 - n) else pos (n - 2 ^ 63)
 
 -- the row key that a rest spells; none where it hasn't 8 bytes
 abbrev pub row_of : List ℕ → Option ℤ
-row_of bytes = if length bytes == 8 then Some (lowered (from_be_bytes w64 bytes)) else None
+row_of bytes = if length bytes == 8 then Some (sign_turned_back (from_be_bytes w64 bytes)) else None
 
 -- the row keys among the rests of entries, in their order
 abbrev pub rows_of : List (List ℕ × List ℕ) → List ℤ

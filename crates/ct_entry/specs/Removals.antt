@@ -33,9 +33,13 @@ rests_of kind owner m = empty_rest (at m (key kind owner [])) ++ longer_rests ki
 abbrev pub drop_rests : Kind → List ℕ → List (List ℕ) → List (Key × Option (List ℕ))
 drop_rests kind owner rests = map (λ rest. drop_key (key kind owner rest)) rests
 
+-- a change for the entry of an owner whose key has no rest, if it is there, that it is to go
+abbrev pub removal_at_owner : Kind → List ℕ → Content → List (Key × Option (List ℕ))
+removal_at_owner kind owner m = drop_rests kind owner (empty_rest (at m (key kind owner [])))
+
 -- a change for each of an owner's entries of a kind, in the order of their keys, that it is to go
-abbrev pub removals : Kind → List ℕ → Content → List (Key × Option (List ℕ))
-removals kind owner m = drop_rests kind owner (rests_of kind owner m)
+abbrev pub owned_removals : Kind → List ℕ → Content → List (Key × Option (List ℕ))
+owned_removals kind owner m = drop_rests kind owner (rests_of kind owner m)
 
 -- ---- what they leave
 
@@ -81,7 +85,7 @@ rests_under prefix es = map (λ e. e.0) (cut 3 (filter (λ e. begins_with prefix
 abbrev all_rests : List ℕ → Option (List ℕ) → List (List ℕ × List ℕ) → List (List ℕ)
 all_rests prefix own es = empty_rest own ++ rests_under prefix es
 
-both_rows : removals RowNumbers (codes "t") the_content ≡ drop_key (key RowNumbers (codes "t") (row_part (pos 1))) ∷ drop_key (key RowNumbers (codes "t") (row_part (pos 2))) ∷ []
+both_rows : owned_removals RowNumbers (codes "t") the_content ≡ drop_key (key RowNumbers (codes "t") (row_part (pos 1))) ∷ drop_key (key RowNumbers (codes "t") (row_part (pos 2))) ∷ []
 unfolding row_bytes
 both_rows =
     ap (λ (es : List (List ℕ × List ℕ)). drop_rests RowNumbers (codes "t") (empty_rest (at the_content (key RowNumbers (codes "t") [])) ++ map (λ e. e.0) es)) (entries-tail (0x02 ∷ 1 ∷ 0x74 ∷ []) the_content)
@@ -89,7 +93,7 @@ both_rows =
     ∙ ap (λ (own : Option (List ℕ)). drop_rests RowNumbers (codes "t") (all_rests (0x02 ∷ 1 ∷ 0x74 ∷ []) own four_entries)) (get-from_sorted (slice_cmp nat_cmp) four_entries (bytes (key RowNumbers (codes "t") [])) tt)
 
 -- the key of a table has no rest
-the_table : removals Tables (codes "t") the_content ≡ drop_key (key Tables (codes "t") []) ∷ []
+the_table : owned_removals Tables (codes "t") the_content ≡ drop_key (key Tables (codes "t") []) ∷ []
 unfolding row_bytes
 the_table =
     ap (λ (es : List (List ℕ × List ℕ)). drop_rests Tables (codes "t") (empty_rest (at the_content (key Tables (codes "t") [])) ++ map (λ e. e.0) es)) (entries-tail (0x01 ∷ 1 ∷ 0x74 ∷ []) the_content)

@@ -2,13 +2,13 @@
 use Rattle.std.specs.Prelude.{ℕ, ◌≡◌, List, [], ◌∷◌, Option, codes, refl}
 use Rattle.ct_keep.specs.Changes.{AreWell}
 use Rattle.ct_entry.specs.declared.kinds.Kind.TheVariants.{Tables}
-use Rattle.ct_entry.specs.Keys.{Key, key, bytes, IsKey}
+use Rattle.ct_entry.specs.Keys.{Key, key, bytes, IsKeyOfKind}
 
 -- The bytes spell a key of one of the kinds, and the rule gives it this value.
 pub record IsShaped (rule : Key → List ℕ → Type 0) (spelling value : List ℕ) : Type 0 where
   pub key : Key
   pub spelt : spelling ≡ bytes key
-  pub parts : IsKey key
+  pub parts : IsKeyOfKind key
   pub has : rule key value
 
 -- Each change that puts an entry puts one within the bounds that is well shaped by a rule.

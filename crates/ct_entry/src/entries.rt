@@ -7,7 +7,7 @@ ghost use Rattle.ct_keep.specs.Counting.{count_under};
 ghost use Rattle.ct_keep.specs.KeeperViews.{Finds, OnlyReads, Told};
 ghost use Rattle.ct_keep.specs.Looks.{look, LooksAtMost};
 ghost use Rattle.ct_entry.specs.Keys.{key, bytes, at, prefix_of};
-ghost use Rattle.ct_entry.specs.Changes.{spell, put, drop_key};
+ghost use Rattle.ct_entry.specs.Changes.{spell, put_value, drop_key};
 
 use crate::kinds::Kind;
 use ct_base::{Memory, Name};
@@ -44,7 +44,7 @@ pub fn put_entry(
     part: &[u8],
     value: Vec<u8>,
 ) -> Result<(), Memory>
-    ensures ok { OnOk result (batch.new ≡ batch.old ++ spell (put (key kind owner.now part.now) value.items ∷ [])) }
+    ensures ok { OnOk result (batch.new ≡ batch.old ++ spell (put_value (key kind owner.now part.now) value.items ∷ [])) }
     ensures err { OnErr result (batch.new ≡ batch.old) }
 {
     let key = key_bytes(alloc, kind, owner, part)?;

@@ -6,7 +6,7 @@ ghost use Rattle.ct_keep.specs.KeeperViews.{OnlyReads, Told};
 ghost use Rattle.ct_keep.specs.Looks.{look, scan_looks, LooksAtMost};
 ghost use Rattle.ct_entry.specs.Keys.{key, bytes, at, prefix_of};
 ghost use Rattle.ct_entry.specs.Changes.{spell};
-ghost use Rattle.ct_entry.specs.Removals.{empty_rest, longer_rests, drop_rests, removals, OnlyRemoves, removal_looks};
+ghost use Rattle.ct_entry.specs.Removals.{removal_at_owner, longer_rests, drop_rests, owned_removals, OnlyRemoves, removal_looks};
 
 use crate::entries::{has_entry, prefix_bytes, remove_entry};
 use crate::kinds::Kind;
@@ -23,7 +23,7 @@ fn remove_own<K: Keeper>(
     owner: &Name,
 ) -> Result<(), KeepFault>
     requires { (K.view keeper.old).ready }
-    ensures ok { Told K.view keeper.old (λ m. OnOk result (batch.new ≡ batch.old ++ spell (drop_rests kind owner.now (empty_rest (at m (key kind owner.now [])))))) }
+    ensures ok { Told K.view keeper.old (λ m. OnOk result (batch.new ≡ batch.old ++ spell (removal_at_owner kind owner.now m))) }
     ensures removes { OnOk result (OnlyRemoves batch.old batch.new) }
     ensures reads { OnlyReads K.view keeper.old keeper.new result }
     ensures at_most { LooksAtMost K.view keeper.old keeper.new (look (bytes (key kind owner.now [])) None) }
@@ -76,7 +76,7 @@ pub fn remove_entries<K: Keeper>(
     owner: &Name,
 ) -> Result<(), KeepFault>
     requires { (K.view keeper.old).ready }
-    ensures ok { Told K.view keeper.old (λ m. OnOk result (batch.new ≡ batch.old ++ spell (removals kind owner.now m))) }
+    ensures ok { Told K.view keeper.old (λ m. OnOk result (batch.new ≡ batch.old ++ spell (owned_removals kind owner.now m))) }
     ensures err { OnErr result (batch.new ≡ batch.old) }
     ensures removes { OnOk result (OnlyRemoves batch.old batch.new) }
     ensures reads { OnlyReads K.view keeper.old keeper.new result }

@@ -10,7 +10,7 @@ use Rattle.ct_keep.specs.declared.keepers.KeepFault.TheVariants.{Memory, Disk, F
 use Rattle.ct_keep.specs.Content.{Content}
 use Rattle.ct_keep.specs.Changes.{AreWell}
 use Rattle.ct_keep.specs.WellLaws.{well_weaker}
-use Rattle.ct_keep.specs.KeeperViews.{KeeperView, Accepts, TakesAsBefore, Fixed, Counts, SameButContent, Reads, Goes, AnswersCommit, Came, IsLeft, IsDurable, SameStore, KeeperSays, PassesRoom, UnlessDisk, counted, disk_faults_after, is_full, committed, AtMostOneCommit}
+use Rattle.ct_keep.specs.KeeperViews.{KeeperView, Accepts, TakesAsBefore, Fixed, Counts, SameButContent, ReadsKeeper, Goes, AnswersCommit, Came, IsLeft, IsDurable, SameStore, KeeperSays, PassesRoom, UnlessDisk, counted, disk_faults_after, is_full, committed, AtMostOneCommit}
 
 -- ---- what never changes, by its fields
 
@@ -51,11 +51,11 @@ kept_short old new kept = record { ready = kept.ready; beside = kept.beside; wel
 
 -- ---- reads
 
-pub reads_none : (k : KeeperView) → k.ready → Reads k k None
+pub reads_none : (k : KeeperView) → k.ready → ReadsKeeper k k None
 reads_none k ready = record { not_full = λ e. cc; kept = kept_all k ready; content = refl; time = adds_nothing_itself k.time; now = λ stopped said now. now; fulls = refl; commits = refl }
 
 -- reads that succeeded, and then others
-pub reads_on : (old mid new : KeeperView) (fault : Option KeepFault) → Reads old mid None → Reads mid new fault → Reads old new fault
+pub reads_on : (old mid new : KeeperView) (fault : Option KeepFault) → ReadsKeeper old mid None → ReadsKeeper mid new fault → ReadsKeeper old new fault
 reads_on old mid new fault first second = record {
   not_full = second.not_full;
   kept = kept_then old mid new fault first.kept second.kept;
@@ -73,15 +73,15 @@ reads_on old mid new fault first second = record {
     same (Some Disk) c = c
 
 -- reads that succeeded, and then no memory
-pub reads_short : (old new : KeeperView) → Reads old new None → Reads old new (Some Memory)
+pub reads_short : (old new : KeeperView) → ReadsKeeper old new None → ReadsKeeper old new (Some Memory)
 reads_short old new reads = record { not_full = λ e. cc; kept = kept_short old new reads.kept; content = reads.content; time = reads.time; now = reads.now; fulls = reads.fulls; commits = reads.commits }
 
 -- what is held after them
-pub reads_hold : (old new : KeeperView) (m : Content) → Reads old new None → old.content ≡ Some m → new.content ≡ Some m
+pub reads_hold : (old new : KeeperView) (m : Content) → ReadsKeeper old new None → old.content ≡ Some m → new.content ≡ Some m
 reads_hold old new m reads holds = reads.content ∙ holds
 
 -- what a batch needs after them
-pub reads_well : (old new : KeeperView) (batch : List (List ℕ × Option (List ℕ))) → Reads old new None → AreWell old.well batch → AreWell new.well batch
+pub reads_well : (old new : KeeperView) (batch : List (List ℕ × Option (List ℕ))) → ReadsKeeper old new None → AreWell old.well batch → AreWell new.well batch
 reads_well old new batch reads are = well_weaker old.well new.well (λ key value entry is. reads.kept.well.takes key value is) batch are
 
 -- what may be changed before a call may be changed after it
@@ -89,12 +89,12 @@ pub accepts_still : {shape : List ℕ → List ℕ → Type 0} (old new : Keeper
 accepts_still old new ready well accepts = record { ready = ready; takes = λ key value entry is. well.takes key value (accepts.takes key value entry is) }
 
 -- and after reads
-pub accepts_on : {shape : List ℕ → List ℕ → Type 0} (old new : KeeperView) → Accepts shape old → Reads old new None → Accepts shape new
+pub accepts_on : {shape : List ℕ → List ℕ → Type 0} (old new : KeeperView) → Accepts shape old → ReadsKeeper old new None → Accepts shape new
 accepts_on old new accepts reads = accepts_still old new reads.kept.ready reads.kept.well accepts
 
 -- ---- reads, and then at most one commit
 
-pub reads_then : (m next : Content) (old mid new : KeeperView) (fault : Option KeepFault) → Reads old mid None → Goes m next mid new fault → Goes m next old new fault
+pub reads_then : (m next : Content) (old mid new : KeeperView) (fault : Option KeepFault) → ReadsKeeper old mid None → Goes m next mid new fault → Goes m next old new fault
 reads_then m next old mid new fault reads goes = record {
   content = goes.content;
   time = passes_then old.time mid.time new.time _ (passes_nothing old.time mid.time _ reads.time)
@@ -106,7 +106,7 @@ reads_then m next old mid new fault reads goes = record {
     before said is = ap (λ (b : Beside). b.said) (sym reads.kept.beside) ∙ is
 
 -- reads alone, which succeeded
-pub reads_only : (m : Content) (old new : KeeperView) → IsDurable old → old.content ≡ Some m → Reads old new None → Goes m m old new None
+pub reads_only : (m : Content) (old new : KeeperView) → IsDurable old → old.content ≡ Some m → ReadsKeeper old new None → Goes m m old new None
 reads_only m old new settled holds reads = record {
   content = reads.content ∙ holds;
   time = passes_nothing old.time new.time _ reads.time;
@@ -114,7 +114,7 @@ reads_only m old new settled holds reads = record {
 }
 
 -- or which failed
-pub reads_failed : (m next : Content) (old new : KeeperView) (fault : KeepFault) → IsDurable old → old.content ≡ Some m → Reads old new (Some fault) → Goes m next old new (Some fault)
+pub reads_failed : (m next : Content) (old new : KeeperView) (fault : KeepFault) → IsDurable old → old.content ≡ Some m → ReadsKeeper old new (Some fault) → Goes m next old new (Some fault)
 reads_failed m next old new fault settled holds reads = record {
   content = came fault reads.content;
   time = passes_nothing old.time new.time _ reads.time;
@@ -132,7 +132,7 @@ reads_failed m next old new fault settled holds reads = record {
     left Disk stopped is = inl is
 
 -- a commit, and then reads that succeeded
-pub goes_on : (m next : Content) (old mid new : KeeperView) → Goes m next old mid None → Reads mid new None → Goes m next old new None
+pub goes_on : (m next : Content) (old mid new : KeeperView) → Goes m next old mid None → ReadsKeeper mid new None → Goes m next old new None
 goes_on m next old mid new goes reads = record {
   content = reads.content ∙ goes.content;
   time = passes_then old.time mid.time new.time _ goes.time (passes_nothing mid.time new.time _ reads.time);
@@ -140,7 +140,7 @@ goes_on m next old mid new goes reads = record {
 }
 
 -- the answer of the commit, by the limit before the reads
-pub answers_then : (m next : Content) (old mid : KeeperView) (fault : Option KeepFault) → Reads old mid None → AnswersCommit fault mid.fixed.limit m next → AnswersCommit fault old.fixed.limit m next
+pub answers_then : (m next : Content) (old mid : KeeperView) (fault : Option KeepFault) → ReadsKeeper old mid None → AnswersCommit fault mid.fixed.limit m next → AnswersCommit fault old.fixed.limit m next
 answers_then m next old mid fault reads answers = subst (λ (limit : ℕ). AnswersCommit fault limit m next) (same_limit reads.kept.fixed) answers
 
 -- where the reads failed, no commit was tried
@@ -150,14 +150,14 @@ answers_failed Disk limit m next not_full = tt
 answers_failed Full limit m next not_full = absurd (not_full refl)
 
 -- how often a commit was refused
-pub fulls_then : (old mid : KeeperView) (new : Counts) (fault : Option KeepFault) → Reads old mid None → new ≡ committed fault mid.counts → new.fulls ≡ counted (is_full fault) old.counts.fulls
+pub fulls_then : (old mid : KeeperView) (new : Counts) (fault : Option KeepFault) → ReadsKeeper old mid None → new ≡ committed fault mid.counts → new.fulls ≡ counted (is_full fault) old.counts.fulls
 fulls_then old mid new fault reads commits = ap (λ (c : Counts). c.fulls) commits ∙ ap (counted (is_full fault)) reads.fulls
 
 -- how often a commit was called by reads and then one: once, and by reads alone never
-pub commits_then : (old mid : KeeperView) (new : Counts) (fault : Option KeepFault) → Reads old mid None → new ≡ committed fault mid.counts → AtMostOneCommit old.counts new
+pub commits_then : (old mid : KeeperView) (new : Counts) (fault : Option KeepFault) → ReadsKeeper old mid None → new ≡ committed fault mid.counts → AtMostOneCommit old.counts new
 commits_then old mid new fault reads commits = inr (ap (λ (c : Counts). c.commits) commits ∙ ap (counted true) reads.commits)
 
-pub commits_read : (old new : KeeperView) (fault : Option KeepFault) → Reads old new fault → AtMostOneCommit old.counts new.counts
+pub commits_read : (old new : KeeperView) (fault : Option KeepFault) → ReadsKeeper old new fault → AtMostOneCommit old.counts new.counts
 commits_read old new fault reads = inl reads.commits
 
 -- ---- hearing and saying

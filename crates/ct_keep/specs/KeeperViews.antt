@@ -94,7 +94,7 @@ pub record IsDurable (k : KeeperView) : Type 0 where
   pub here : (m : Content) → k.content ≡ Some m → (stopped : Option Content) (said : List ℕ) → k.now stopped said → (stopped ≡ Some m) × IsSaid k.beside.said said
 
 -- A call, or some calls, only read. They commit nothing, so they don't find the store full.
-pub record Reads (old new : KeeperView) (fault : Option KeepFault) : Type 0 where
+pub record ReadsKeeper (old new : KeeperView) (fault : Option KeepFault) : Type 0 where
   pub not_full : fault ≡ Some Full → ⊥
   pub kept : SameButContent old new fault
   pub content : UnlessDisk fault (new.content ≡ old.content)
@@ -105,7 +105,7 @@ pub record Reads (old new : KeeperView) (fault : Option KeepFault) : Type 0 wher
 
 -- A call with this result only read, by the view of a keeper before and after it.
 abbrev pub OnlyReads : {K T : Type 0} → (K → KeeperView) → K → K → Result T KeepFault → Type 0
-OnlyReads view old new result = Reads (view old) (view new) (fault_of result)
+OnlyReads view old new result = ReadsKeeper (view old) (view new) (fault_of result)
 
 -- what holds of the content, where that is told
 abbrev pub Told : {K : Type 0} → (K → KeeperView) → K → (Content → Type 0) → Type 0

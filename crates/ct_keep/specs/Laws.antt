@@ -12,7 +12,7 @@ use Rattle.std.proofs.lemmas.Cmp.{tied_itself, nat_cmp_total, nat_list_cmp_total
 use Rattle.std.proofs.lemmas.Map.Lookups.{exact_bytes}
 use Rattle.std.proofs.lemmas.List.Sums.{sum_by-cons}
 use Rattle.ct_keep.specs.Content.{Content, Change, set_to, after, entry_weight, weight, begins_with, entries_under}
-use Rattle.ct_keep.specs.Rising.{Entry, order, below, rises, rises_filter, entries_rise, sorted_from_rises, below_lower}
+use Rattle.ct_keep.specs.Rising.{Entry, order, below, is_rising, rises_filter, entries_rise, sorted_from_rises, below_lower}
 use Rattle.ct_base.specs.laws.Orders.{less_from_test, equal_from_test}
 use Rattle.std.proofs.lemmas.Bool.{and_parts}
 use Rattle.ct_base.specs.laws.Bools.{T_from_true}
@@ -161,22 +161,22 @@ by_order Less a b c = a
 by_order Equal a b c = b
 by_order Greater a b c = c
 
-total_put : (key value : List ℕ) (es : List Entry) → rises es ≡ true → total (put (slice_cmp nat_cmp) key value es) + value_weight key (find (slice_cmp nat_cmp) key es) ≡ total es + entry_weight (key, value)
+total_put : (key value : List ℕ) (es : List Entry) → is_rising es ≡ true → total (put (slice_cmp nat_cmp) key value es) + value_weight key (find (slice_cmp nat_cmp) key es) ≡ total es + entry_weight (key, value)
 unfolding total
 total_put key value [] h = omega arith
 total_put key value (e ∷ es) h =
-    let b = and_parts (below e.0 es) (rises es) h in
+    let b = and_parts (below e.0 es) (is_rising es) h in
     elim (order key e.0) as (λ o. order key e.0 ≡ o → total (by_order o ((key, value) ∷ e ∷ es) ((e.0, value) ∷ es) (e ∷ put (slice_cmp nat_cmp) key value es)) + value_weight key (cond (is_eq o) (Some e.1) (find (slice_cmp nat_cmp) key es)) ≡ (entry_weight e + total es) + entry_weight (key, value)) [
       | Less ↦ λ lt. rw (not_found key es (below_lower key e.0 es lt b.0)) (omega arith)
       | Equal ↦ λ eq. let one : key ≡ e.0 = exact_bytes key e.0 eq in rw one (omega arith)
       | Greater ↦ λ gt. let rest = total_put key value es b.1 in omega (arith, rest)
     ] refl
 
-total_without : (key : List ℕ) (es : List Entry) → rises es ≡ true → total (without key es) + value_weight key (find (slice_cmp nat_cmp) key es) ≡ total es
+total_without : (key : List ℕ) (es : List Entry) → is_rising es ≡ true → total (without key es) + value_weight key (find (slice_cmp nat_cmp) key es) ≡ total es
 unfolding total
 total_without key [] h = refl
 total_without key (e ∷ es) h =
-    let b = and_parts (below e.0 es) (rises es) h in
+    let b = and_parts (below e.0 es) (is_rising es) h in
     elim (same key e.0) as (λ t. same key e.0 ≡ t → total (cond (not t) (e ∷ without key es) (without key es)) + value_weight key (cond t (Some e.1) (find (slice_cmp nat_cmp) key es)) ≡ entry_weight e + total es) [
       | true ↦ λ t. let one : key ≡ e.0 = same_keys key e.0 t in rw (one, nothing_without e.0 es b.0) (omega arith)
       | false ↦ λ t. let rest = total_without key es b.1 in omega (arith, rest)

@@ -10,23 +10,23 @@ use Rattle.std.specs.Ordering.{nat_cmp, is_lt}
 use Rattle.std.specs.FinMap.{entries}
 use Rattle.ct_keep.specs.Content.{Content, begins_with, entries_above, entries_under}
 use Rattle.ct_keep.specs.KeeperViews.{Counts, counted, is_kind, is_kind_of, is_either, looked_up}
-use Rattle.ct_keep.specs.Rising.{Entry, order, above, beginning, below, rises, rises_filter, entries_rise, begins_itself, none_later}
+use Rattle.ct_keep.specs.Rising.{Entry, order, those_above, beginning, below, is_rising, rises_filter, entries_rise, begins_itself, none_later}
 use Rattle.ct_base.specs.laws.Orders.{less_from_test, less_by_parts, lt_from_less, eq_from_equal}
 use Rattle.ct_keep.specs.Tail.{tail}
 use Rattle.ct_keep.specs.TailLaws.{entries-tail}
-use Rattle.ct_keep.specs.Looks.{one_if, look, no_looks, plus, looks, scan_looks, behind, raised_by, with_looks, RisesBy}
+use Rattle.ct_keep.specs.Looks.{one_if, look, no_looks, plus, looks, scan_looks, behind, raised_count, with_looks, RisesBy}
 
 same_counts : (a b : Counts) → a.texts ≡ b.texts → a.rows ≡ b.rows → a.rules ≡ b.rules → a.fulls ≡ b.fulls → a.commits ≡ b.commits → a ≡ b
 same_counts a b texts rows rules fulls commits = λ i. record { texts = texts i; rows = rows i; rules = rules i; fulls = fulls i; commits = commits i }
 
-raised_by-plus : (m n k : ℕ) → raised_by n (raised_by m k) ≡ raised_by (m + n) k
-raised_by-plus m n k = grind (arith, nat_tests)
+raised_count-plus : (m n k : ℕ) → raised_count n (raised_count m k) ≡ raised_count (m + n) k
+raised_count-plus m n k = grind (arith, nat_tests)
 
-raised_by-one_if : (b : Bool) (k : ℕ) → counted b k ≡ raised_by (one_if b) k
-raised_by-one_if true k = refl
-raised_by-one_if false k = refl
+raised_count-one_if : (b : Bool) (k : ℕ) → counted b k ≡ raised_count (one_if b) k
+raised_count-one_if true k = refl
+raised_count-one_if false k = refl
 
-raised_by_le : (n k : ℕ) → raised_by n k ≤ k + n
+raised_by_le : (n k : ℕ) → raised_count n k ≤ k + n
 raised_by_le n k = grind (arith, nat_tests)
 
 -- ---- counts to which so much was added
@@ -36,13 +36,13 @@ raised-none c = refl
 
 -- one part after the other
 pub raised-plus : (a b c : Counts) → with_looks b (with_looks a c) ≡ with_looks (plus a b) c
-raised-plus a b c = same_counts _ _ (raised_by-plus a.texts b.texts c.texts) (raised_by-plus a.rows b.rows c.rows) (raised_by-plus a.rules b.rules c.rules) (raised_by-plus a.fulls b.fulls c.fulls) (raised_by-plus a.commits b.commits c.commits)
+raised-plus a b c = same_counts _ _ (raised_count-plus a.texts b.texts c.texts) (raised_count-plus a.rows b.rows c.rows) (raised_count-plus a.rules b.rules c.rules) (raised_count-plus a.fulls b.fulls c.fulls) (raised_count-plus a.commits b.commits c.commits)
 
 pub looked_up-raised : (asked : List ℕ) (handed : Option (List ℕ)) (c : Counts) → looked_up asked handed c ≡ with_looks (look asked handed) c
 looked_up-raised asked handed c = same_counts _ _
-    (raised_by-one_if (is_either 0x03 asked handed) c.texts)
-    (raised_by-one_if (is_either 0x24 asked handed || is_either 0x25 asked handed) c.rows)
-    (raised_by-one_if (is_either 0x2a asked handed) c.rules)
+    (raised_count-one_if (is_either 0x03 asked handed) c.texts)
+    (raised_count-one_if (is_either 0x24 asked handed || is_either 0x25 asked handed) c.rows)
+    (raised_count-one_if (is_either 0x2a asked handed) c.rules)
     refl
     refl
 
@@ -68,20 +68,20 @@ prefixes : List ℕ → List Entry → ℕ
 prefixes p [] = 0
 prefixes p (e ∷ es) = if begins_with p e.0 then prefixes p es + 1 else 0
 
-prefixes_are : (p k : List ℕ) (es : List Entry) → begins_with p k ≡ true → below k es ≡ true → rises es ≡ true → length (beginning p es) ≡ prefixes p es
+prefixes_are : (p k : List ℕ) (es : List Entry) → begins_with p k ≡ true → below k es ≡ true → is_rising es ≡ true → length (beginning p es) ≡ prefixes p es
 unfolding prefixes
 prefixes_are p k [] pk b r = refl
 prefixes_are p k (e ∷ es) pk b r =
     let b2 = and_parts (is_lt (order k e.0)) (below k es) b in
-    let r2 = and_parts (below e.0 es) (rises es) r in
+    let r2 = and_parts (below e.0 es) (is_rising es) r in
     elim (begins_with p e.0) as (λ t. begins_with p e.0 ≡ t → length (cond t (e ∷ beginning p es) (beginning p es)) ≡ cond t (prefixes p es + 1) 0) [
       | true ↦ λ t. let rest = prefixes_are p e.0 es t r2.0 r2.1 in omega (arith, rest)
       | false ↦ λ t. ap length (none_later p k e.0 es pk (less_from_test _ b2.0) t r2.0)
     ] refl
 
-below_above : (k : List ℕ) (es : List Entry) → below k (above k es) ≡ true
+below_above : (k : List ℕ) (es : List Entry) → below k (those_above k es) ≡ true
 below_above k [] = refl
-below_above k (e ∷ es) = elim (is_lt (order k e.0)) as (λ t. is_lt (order k e.0) ≡ t → below k (cond t (e ∷ above k es) (above k es)) ≡ true) [ true ↦ λ t. rw t (below_above k es) | false ↦ λ t. below_above k es ] refl
+below_above k (e ∷ es) = elim (is_lt (order k e.0)) as (λ t. is_lt (order k e.0) ≡ t → below k (cond t (e ∷ those_above k es) (those_above k es)) ≡ true) [ true ↦ λ t. rw t (below_above k es) | false ↦ λ t. below_above k es ] refl
 
 prefixes-tail : (p : List ℕ) (m : Content) → prefixes p (entries_above p m) ≡ length (entries (tail p m))
 prefixes-tail p m =

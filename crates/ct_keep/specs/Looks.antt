@@ -45,11 +45,11 @@ behind prefix [] = None
 behind prefix (e ∷ es) = if begins_with prefix e.0 then behind prefix es else Some e.0
 
 -- a count to which so much was added; it stands still at its end
-abbrev pub raised_by : ℕ → ℕ → ℕ
-raised_by n count = if n == 0 then count else min (count + n) (2 ^ 64 - 1)
+abbrev pub raised_count : ℕ → ℕ → ℕ
+raised_count n count = if n == 0 then count else min (count + n) (2 ^ 64 - 1)
 
 abbrev pub with_looks : Counts → Counts → Counts
-with_looks more c = record { texts = raised_by more.texts c.texts; rows = raised_by more.rows c.rows; rules = raised_by more.rules c.rules; fulls = raised_by more.fulls c.fulls; commits = raised_by more.commits c.commits }
+with_looks more c = record { texts = raised_count more.texts c.texts; rows = raised_count more.rows c.rows; rules = raised_count more.rules c.rules; fulls = raised_count more.fulls c.fulls; commits = raised_count more.commits c.commits }
 
 -- Each of the three counts rose by no more than this.
 pub record RisesBy (most old new : Counts) : Type 0 where
@@ -69,5 +69,5 @@ three_looks = refl
 one_look : looks (0x2a ∷ []) (0x2a ∷ []) ((0x2b ∷ [], []) ∷ []) ≡ record { texts = 0; rows = 0; rules = 1; fulls = 0; commits = 0 }
 one_look = refl
 
-raised_to_its_end : raised_by 3 (2 ^ 64 - 2) ≡ 2 ^ 64 - 1
+raised_to_its_end : raised_count 3 (2 ^ 64 - 2) ≡ 2 ^ 64 - 1
 raised_to_its_end = refl

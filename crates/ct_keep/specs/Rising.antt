@@ -19,8 +19,8 @@ Entry = List ℕ × List ℕ
 abbrev pub order : List ℕ → List ℕ → Ordering
 order a b = slice_cmp nat_cmp a b
 
-abbrev pub above : List ℕ → List Entry → List Entry
-above k es = filter (λ e. is_lt (order k e.0)) es
+abbrev pub those_above : List ℕ → List Entry → List Entry
+those_above k es = filter (λ e. is_lt (order k e.0)) es
 
 abbrev pub beginning : List ℕ → List Entry → List Entry
 beginning p es = filter (λ e. begins_with p e.0) es
@@ -30,18 +30,18 @@ abbrev pub below : List ℕ → List Entry → Bool
 below x es = below_by (slice_cmp nat_cmp) x es
 
 -- the keys strictly rise
-abbrev pub rises : List Entry → Bool
-rises es = rises_by (slice_cmp nat_cmp) es
+abbrev pub is_rising : List Entry → Bool
+is_rising es = rises_by (slice_cmp nat_cmp) es
 
 not_back : (o : Ordering) → o ≡ Less → is_lt (ordering_reverse o) ≡ false
 not_back o e = subst (λ r. is_lt (ordering_reverse r) ≡ false) (sym e) refl
 
 -- ---- the entries of a content rise, and so do some of them
 
-pub sorted_from_rises : (es : List Entry) → rises es ≡ true → is_sorted (slice_cmp nat_cmp) es ≡ true
+pub sorted_from_rises : (es : List Entry) → is_rising es ≡ true → is_sorted (slice_cmp nat_cmp) es ≡ true
 sorted_from_rises es h = sorted_from_rises_by (slice_cmp nat_cmp) es h
 
-pub entries_rise : (m : Content) → rises (entries m) ≡ true
+pub entries_rise : (m : Content) → is_rising (entries m) ≡ true
 entries_rise m = entries_rise_by (slice_cmp nat_cmp) m
 
 pub below_filter : (p : Entry → Bool) (x : List ℕ) (es : List Entry) → below x es ≡ true → below x (filter p es) ≡ true
@@ -50,11 +50,11 @@ below_filter p x (e ∷ es) h =
     let b = and_parts (is_lt (order x e.0)) (below x es) h in
     elim (p e) as (λ t. below x (cond t (e ∷ filter p es) (filter p es)) ≡ true) [ true ↦ and_from _ _ b.0 (below_filter p x es b.1) | false ↦ below_filter p x es b.1 ]
 
-pub rises_filter : (p : Entry → Bool) (es : List Entry) → rises es ≡ true → rises (filter p es) ≡ true
+pub rises_filter : (p : Entry → Bool) (es : List Entry) → is_rising es ≡ true → is_rising (filter p es) ≡ true
 rises_filter p [] h = refl
 rises_filter p (e ∷ es) h =
-    let b = and_parts (below e.0 es) (rises es) h in
-    elim (p e) as (λ t. rises (cond t (e ∷ filter p es) (filter p es)) ≡ true) [ true ↦ and_from _ _ (below_filter p e.0 es b.0) (rises_filter p es b.1) | false ↦ rises_filter p es b.1 ]
+    let b = and_parts (below e.0 es) (is_rising es) h in
+    elim (p e) as (λ t. is_rising (cond t (e ∷ filter p es) (filter p es)) ≡ true) [ true ↦ and_from _ _ (below_filter p e.0 es b.0) (rises_filter p es b.1) | false ↦ rises_filter p es b.1 ]
 
 -- a key below another is below all that the other is below
 pub below_lower : (k x : List ℕ) (es : List Entry) → order k x ≡ Less → below x es ≡ true → below k es ≡ true
@@ -65,40 +65,40 @@ below_lower k x (e ∷ es) p h =
 
 -- ---- the entries above a key
 
-pub all_above : (k : List ℕ) (es : List Entry) → below k es ≡ true → above k es ≡ es
+pub all_above : (k : List ℕ) (es : List Entry) → below k es ≡ true → those_above k es ≡ es
 all_above k [] h = refl
 all_above k (e ∷ es) h =
     let b = and_parts (is_lt (order k e.0)) (below k es) h in
     rw (less_from_test _ b.0) (ap (λ xs. e ∷ xs) (all_above k es b.1))
 
 -- the first of them is above whatever the whole list is above
-first_over : (x k : List ℕ) (es : List Entry) (e : Entry) (rest : List Entry) → below x es ≡ true → above k es ≡ e ∷ rest → order x e.0 ≡ Less
+first_over : (x k : List ℕ) (es : List Entry) (e : Entry) (rest : List Entry) → below x es ≡ true → those_above k es ≡ e ∷ rest → order x e.0 ≡ Less
 first_over x k [] e rest h is = cc
 first_over x k (y ∷ ys) e rest h is =
     let b = and_parts (is_lt (order x y.0)) (below x ys) h in
-    elim (is_lt (order k y.0)) as (λ t. cond t (y ∷ above k ys) (above k ys) ≡ e ∷ rest → order x e.0 ≡ Less) [
+    elim (is_lt (order k y.0)) as (λ t. cond t (y ∷ those_above k ys) (those_above k ys) ≡ e ∷ rest → order x e.0 ≡ Less) [
       | true ↦ λ is. let same : y ≡ e = cc in subst (λ (z : Entry). order x z.0 ≡ Less) same (less_from_test _ b.0)
       | false ↦ λ is. first_over x k ys e rest b.1 is
     ] is
 
-pub first_is_above : (k : List ℕ) (es : List Entry) (e : Entry) (rest : List Entry) → above k es ≡ e ∷ rest → order k e.0 ≡ Less
+pub first_is_above : (k : List ℕ) (es : List Entry) (e : Entry) (rest : List Entry) → those_above k es ≡ e ∷ rest → order k e.0 ≡ Less
 first_is_above k [] e rest is = cc
 first_is_above k (x ∷ xs) e rest is =
-    elim (is_lt (order k x.0)) as (λ t. is_lt (order k x.0) ≡ t → cond t (x ∷ above k xs) (above k xs) ≡ e ∷ rest → order k e.0 ≡ Less) [
+    elim (is_lt (order k x.0)) as (λ t. is_lt (order k x.0) ≡ t → cond t (x ∷ those_above k xs) (those_above k xs) ≡ e ∷ rest → order k e.0 ≡ Less) [
       | true ↦ λ t is. let same : x ≡ e = cc in subst (λ (z : Entry). order k z.0 ≡ Less) same (less_from_test _ t)
       | false ↦ λ t is. first_is_above k xs e rest is
     ] refl is
 
 -- what is above the first of them is the rest
-pub above_next : (k : List ℕ) (es : List Entry) (e : Entry) (rest : List Entry) → rises es ≡ true → above k es ≡ e ∷ rest → above e.0 es ≡ rest
+pub above_next : (k : List ℕ) (es : List Entry) (e : Entry) (rest : List Entry) → is_rising es ≡ true → those_above k es ≡ e ∷ rest → those_above e.0 es ≡ rest
 above_next k [] e rest s is = cc
 above_next k (x ∷ xs) e rest s is =
-    let b = and_parts (below x.0 xs) (rises xs) s in
-    elim (is_lt (order k x.0)) as (λ t. is_lt (order k x.0) ≡ t → cond t (x ∷ above k xs) (above k xs) ≡ e ∷ rest → above e.0 (x ∷ xs) ≡ rest) [
+    let b = and_parts (below x.0 xs) (is_rising xs) s in
+    elim (is_lt (order k x.0)) as (λ t. is_lt (order k x.0) ≡ t → cond t (x ∷ those_above k xs) (those_above k xs) ≡ e ∷ rest → those_above e.0 (x ∷ xs) ≡ rest) [
       | true ↦ λ t is.
           let same : x ≡ e = cc in
-          let rests : above k xs ≡ rest = cc in
-          subst (λ (z : Entry). above z.0 (x ∷ xs) ≡ rest) same
+          let rests : those_above k xs ≡ rest = cc in
+          subst (λ (z : Entry). those_above z.0 (x ∷ xs) ≡ rest) same
           (rw (tied_itself nat_list_cmp_total x.0) (all_above x.0 xs b.0 ∙ sym (all_above k xs (below_lower k x.0 xs (less_from_test _ t) b.0)) ∙ rests))
       | false ↦ λ t is.
           let up : order x.0 e.0 ≡ Less = first_over x.0 k xs e rest b.0 is in
@@ -173,6 +173,6 @@ none_later p a b (e ∷ es) pa ab differs s =
 pub stops : (m : Content) (p k : List ℕ) (e : Entry) → begins_with p k ≡ true → Some e ≡ first_entry (entries_above k m) → begins_with p e.0 ≡ false → beginning p (entries_above k m) ≡ []
 stops m p k e pk is differs =
     let next = first_then m k e is in
-    let rise : rises (entries_above k m) ≡ true = rises_filter (λ e. is_lt (order k e.0)) (entries m) (entries_rise m) in
-    let rise' : rises (e ∷ entries_above e.0 m) ≡ true = subst (λ (es : List Entry). rises es ≡ true) next rise in
+    let rise : is_rising (entries_above k m) ≡ true = rises_filter (λ e. is_lt (order k e.0)) (entries m) (entries_rise m) in
+    let rise' : is_rising (e ∷ entries_above e.0 m) ≡ true = subst (λ (es : List Entry). is_rising es ≡ true) next rise in
     rw (next, differs) (none_later p k e.0 (entries_above e.0 m) pk (first_is_above k (entries m) e _ next) differs (and_parts (below e.0 (entries_above e.0 m)) _ rise').0)

@@ -1,6 +1,6 @@
 -- Entries of a map in memory, whose keys strictly rise, against the finite map that they are.
-use Rattle.std.proofs.Common.{◌≡◌, ℕ, Bool, true, false, cond, length, map, List, [], ◌∷◌, Some, None, Vec, refl, sym, ap, subst, ◌∙◌}
-use Rattle.std.specs.Prelude.{◌&&◌, T, is_some}
+use Rattle.std.proofs.Common.{◌≡◌, ℕ, Bool, true, false, cond, length, map, List, [], ◌∷◌, Some, None, Vec, refl, sym, ap, ◌∙◌}
+use Rattle.std.specs.Prelude.{T, is_some}
 use Rattle.std.specs.Option.{option_map}
 use Rattle.std.specs.declared.alloc.Global.{Global}
 use Rattle.std.specs.declared.cmp.Ordering.{Ordering}
@@ -17,22 +17,8 @@ use Rattle.std.proofs.lemmas.Cmp.{nat_list_cmp_total, eq_by_cmp_equiv}
 use Rattle.std.proofs.lemmas.Map.{lookup-remove_entry, lookup-set_value}
 use Rattle.std.proofs.lemmas.Map.Keys.{sorted_head, sorted_tail}
 use Rattle.std.proofs.lemmas.Map.Lookups.{exact_bytes}
+use Rattle.ct_base.specs.laws.Bools.{T_from_true, T_both, T_first, T_second}
 use Rattle.ct_keep.specs.Pairs.{byte_order, pairs, content_of}
-
-both : (a b : Bool) → T a → T b → T (a && b)
-both true b p q = q
-both false b p q = p
-
-first : (a b : Bool) → T (a && b) → T a
-first true b p = tt
-first false b p = p
-
-second : (a b : Bool) → T (a && b) → T b
-second true b p = p
-second false b p = absurd p
-
-lower : (o : Ordering) → o ≡ Less → T (is_lt o)
-lower o e = subst (λ r. T (is_lt r)) (sym e) tt
 
 -- Keys and values seen as others, and an order of the keys that are seen.
 module _ {J V K X : Type 0} (R : K → K → Ordering) (key : J → K) (value : V → X) where
@@ -47,7 +33,7 @@ module _ {J V K X : Type 0} (R : K → K → Ordering) (key : J → K) (value : 
 
   sorted_cons : (k : J) (v : V) (es : List (J × V)) → AllByRecursion (λ y. order k y ≡ Less) (keys_of es) → T (is_sorted R (seen es)) → T (is_sorted R (seen ((k, v) ∷ es)))
   sorted_cons k v [] all s = tt
-  sorted_cons k v (e ∷ es) all s = both _ _ (both _ _ (lower _ all.0) (first _ _ (sorted_cons k v es all.1 (second _ _ s)))) s
+  sorted_cons k v (e ∷ es) all s = T_both _ _ (T_both _ _ (T_from_true _ (ap is_lt all.0)) (T_first _ _ (sorted_cons k v es all.1 (T_second _ _ s)))) s
 
   sorted_seen : (es : List (J × V)) → IsStrictlySortedBy order (keys_of es) → T (is_sorted R (seen es))
   sorted_seen [] s = tt

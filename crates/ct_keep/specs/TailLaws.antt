@@ -9,7 +9,7 @@ use Rattle.std.proofs.lemmas.Cmp.{tied_itself, nat_cmp_total, nat_list_cmp_total
 use Rattle.std.specs.Cmp.Lexicographic.{slice_cmp}
 use Rattle.std.specs.FinMap.{get, entries, is_sorted, find, entries-from_sorted, get-from_sorted, get-entries, empty}
 use Rattle.ct_keep.specs.Content.{Content, set_to, after, first_entry, entries_above, entries_under, begins_with}
-use Rattle.ct_keep.specs.Rising.{Entry, order, above, beginning, below, rises, rises_filter, entries_rise, sorted_from_rises, begins_itself, begins_with_prefix, stops, first_then, none_then}
+use Rattle.ct_keep.specs.Rising.{Entry, order, those_above, beginning, below, is_rising, rises_filter, entries_rise, sorted_from_rises, begins_itself, begins_with_prefix, stops, first_then, none_then}
 use Rattle.ct_base.specs.laws.Orders.{less_from_test}
 use Rattle.ct_base.specs.laws.Bools.{T_from_true}
 use Rattle.ct_keep.specs.Laws.{same, same_keys, same_other, same-prefix, get-set_to, same_content, three_changes, under_a}
@@ -31,10 +31,6 @@ cut_order (x ∷ p) (y ∷ a) (z ∷ b) pa pb =
 pub drop_prefix : (p q : List ℕ) → drop (length p) (p ++ q) ≡ q
 drop_prefix [] q = refl
 drop_prefix (x ∷ p) q = drop_prefix p q
-
-drop_all : (p : List ℕ) → drop (length p) p ≡ []
-drop_all [] = refl
-drop_all (x ∷ p) = drop_all p
 
 -- the prefix and the rest are the key
 pub prefix_and_rest : (p k : List ℕ) → begins_with p k ≡ true → p ++ drop (length p) k ≡ k
@@ -70,13 +66,13 @@ below_cut : (p a : List ℕ) (es : List Entry) → begins_with p a ≡ true → 
 below_cut p a [] pa h b = refl
 below_cut p a (e ∷ es) pa h b = let b2 = and_parts (is_lt (order a e.0)) (below a es) b in and_from _ _ (ap is_lt (cut_order p a e.0 pa h.0) ∙ b2.0) (below_cut p a es pa h.1 b2.1)
 
-rises_cut : (p : List ℕ) (es : List Entry) → AllBegin p es → rises es ≡ true → rises (cut (length p) es) ≡ true
+rises_cut : (p : List ℕ) (es : List Entry) → AllBegin p es → is_rising es ≡ true → is_rising (cut (length p) es) ≡ true
 rises_cut p [] h r = refl
-rises_cut p (e ∷ es) h r = let r2 = and_parts (below e.0 es) (rises es) r in and_from _ _ (below_cut p e.0 es h.0 h.1 r2.0) (rises_cut p es h.1 r2.1)
+rises_cut p (e ∷ es) h r = let r2 = and_parts (below e.0 es) (is_rising es) r in and_from _ _ (below_cut p e.0 es h.0 h.1 r2.0) (rises_cut p es h.1 r2.1)
 
 sorted_cut : (p : List ℕ) (m : Content) → is_sorted (slice_cmp nat_cmp) (cut (length p) (entries_under p m)) ≡ true
 sorted_cut p m =
-    let up : rises (entries_under p m) ≡ true = rises_filter (λ e. begins_with p e.0) (entries_above p m) (rises_filter (λ e. is_lt (order p e.0)) (entries m) (entries_rise m)) in
+    let up : is_rising (entries_under p m) ≡ true = rises_filter (λ e. begins_with p e.0) (entries_above p m) (rises_filter (λ e. is_lt (order p e.0)) (entries m) (entries_rise m)) in
     sorted_from_rises (cut (length p) (entries_under p m)) (rises_cut p (entries_under p m) (all_begin p (entries_above p m)) up)
 
 pub entries-tail : (p : List ℕ) (m : Content) → entries (tail p m) ≡ cut (length p) (entries_under p m)
@@ -84,8 +80,8 @@ unfolding tail
 entries-tail p m = entries-from_sorted (slice_cmp nat_cmp) (cut (length p) (entries_under p m)) (T_from_true _ (sorted_cut p m))
 
 -- an entry whose key begins so, kept by the one test where the other keeps it
-above_one : (p a : List ℕ) (e : Entry) (xs ys : List Entry) → begins_with p e.0 ≡ true → above a (cut (length p) (beginning p xs)) ≡ cut (length p) (beginning p ys)
-    → (s t : Bool) → is_lt (order p e.0) ≡ s → is_lt (order (p ++ a) e.0) ≡ t → above a (cut (length p) (beginning p (cond s (e ∷ xs) xs))) ≡ cut (length p) (beginning p (cond t (e ∷ ys) ys))
+above_one : (p a : List ℕ) (e : Entry) (xs ys : List Entry) → begins_with p e.0 ≡ true → those_above a (cut (length p) (beginning p xs)) ≡ cut (length p) (beginning p ys)
+    → (s t : Bool) → is_lt (order p e.0) ≡ s → is_lt (order (p ++ a) e.0) ≡ t → those_above a (cut (length p) (beginning p (cond s (e ∷ xs) xs))) ≡ cut (length p) (beginning p (cond t (e ∷ ys) ys))
 above_one p a e xs ys b rest true true s t = let u : is_lt (order a (drop (length p) e.0)) ≡ true = ap is_lt (prefix_order p a e.0 b) ∙ t in rw (b, u) (ap (λ (l : List Entry). (drop (length p) e.0, e.1) ∷ l) rest)
 above_one p a e xs ys b rest true false s t = let u : is_lt (order a (drop (length p) e.0)) ≡ false = ap is_lt (prefix_order p a e.0 b) ∙ t in rw (b, u) rest
 above_one p a e xs ys b rest false true s t = let u : is_lt (order p e.0) ≡ true = ap is_lt (prefix_lower p a e.0 (less_from_test _ t)) in cc
@@ -96,19 +92,19 @@ above_other : (p : List ℕ) (e : Entry) (xs : List Entry) → begins_with p e.0
 above_other p e xs b true = rw b refl
 above_other p e xs b false = refl
 
-above_cut : (p a : List ℕ) (es : List Entry) → above a (cut (length p) (beginning p (above p es))) ≡ cut (length p) (beginning p (above (p ++ a) es))
+above_cut : (p a : List ℕ) (es : List Entry) → those_above a (cut (length p) (beginning p (those_above p es))) ≡ cut (length p) (beginning p (those_above (p ++ a) es))
 above_cut p a [] = refl
 above_cut p a (e ∷ es) =
-    elim (begins_with p e.0) as (λ b. begins_with p e.0 ≡ b → above a (cut (length p) (beginning p (above p (e ∷ es)))) ≡ cut (length p) (beginning p (above (p ++ a) (e ∷ es)))) [
-      | true ↦ λ b. above_one p a e (above p es) (above (p ++ a) es) b (above_cut p a es) (is_lt (order p e.0)) (is_lt (order (p ++ a) e.0)) refl refl
+    elim (begins_with p e.0) as (λ b. begins_with p e.0 ≡ b → those_above a (cut (length p) (beginning p (those_above p (e ∷ es)))) ≡ cut (length p) (beginning p (those_above (p ++ a) (e ∷ es)))) [
+      | true ↦ λ b. above_one p a e (those_above p es) (those_above (p ++ a) es) b (above_cut p a es) (is_lt (order p e.0)) (is_lt (order (p ++ a) e.0)) refl refl
       | false ↦ λ b.
-          ap (λ (l : List Entry). above a (cut (length p) l)) (above_other p e (above p es) b (is_lt (order p e.0)))
-          ∙ above_cut p a es ∙ ap (cut (length p)) (sym (above_other p e (above (p ++ a) es) b (is_lt (order (p ++ a) e.0))))
+          ap (λ (l : List Entry). those_above a (cut (length p) l)) (above_other p e (those_above p es) b (is_lt (order p e.0)))
+          ∙ above_cut p a es ∙ ap (cut (length p)) (sym (above_other p e (those_above (p ++ a) es) b (is_lt (order (p ++ a) e.0))))
     ] refl
 
 -- the entries of a tail above a key
 pub entries_above-tail : (p a : List ℕ) (m : Content) → entries_above a (tail p m) ≡ cut (length p) (left_under p (p ++ a) m)
-entries_above-tail p a m = ap (above a) (entries-tail p m) ∙ above_cut p a (entries m)
+entries_above-tail p a m = ap (those_above a) (entries-tail p m) ∙ above_cut p a (entries m)
 
 -- each entry of a tail is above the empty key
 pub entries_above-tail_nil : (p : List ℕ) (m : Content) → entries_above [] (tail p m) ≡ entries (tail p m)
@@ -143,13 +139,13 @@ missed k e es apart = elim (is_eq (order k e.0)) as (λ t. is_eq (order k e.0) �
 ] refl
 
 -- the entries that are under the prefix are those whose rest is looked up
-find_under : (p : List ℕ) (x : ℕ) (q : List ℕ) (es : List Entry) → find (slice_cmp nat_cmp) (x ∷ q) (cut (length p) (beginning p (above p es))) ≡ find (slice_cmp nat_cmp) (p ++ x ∷ q) es
+find_under : (p : List ℕ) (x : ℕ) (q : List ℕ) (es : List Entry) → find (slice_cmp nat_cmp) (x ∷ q) (cut (length p) (beginning p (those_above p es))) ≡ find (slice_cmp nat_cmp) (p ++ x ∷ q) es
 find_under p x q [] = refl
 find_under p x q (e ∷ es) =
-    elim (is_lt (order p e.0)) as (λ a. is_lt (order p e.0) ≡ a → find (slice_cmp nat_cmp) (x ∷ q) (cut (length p) (beginning p (cond a (e ∷ above p es) (above p es)))) ≡ find (slice_cmp nat_cmp) (p ++ x ∷ q) (e ∷ es)) [
-      | true ↦ λ a. elim (begins_with p e.0) as (λ b. begins_with p e.0 ≡ b → find (slice_cmp nat_cmp) (x ∷ q) (cut (length p) (cond b (e ∷ beginning p (above p es)) (beginning p (above p es)))) ≡ find (slice_cmp nat_cmp) (p ++ x ∷ q) (e ∷ es)) [
+    elim (is_lt (order p e.0)) as (λ a. is_lt (order p e.0) ≡ a → find (slice_cmp nat_cmp) (x ∷ q) (cut (length p) (beginning p (cond a (e ∷ those_above p es) (those_above p es)))) ≡ find (slice_cmp nat_cmp) (p ++ x ∷ q) (e ∷ es)) [
+      | true ↦ λ a. elim (begins_with p e.0) as (λ b. begins_with p e.0 ≡ b → find (slice_cmp nat_cmp) (x ∷ q) (cut (length p) (cond b (e ∷ beginning p (those_above p es)) (beginning p (those_above p es)))) ≡ find (slice_cmp nat_cmp) (p ++ x ∷ q) (e ∷ es)) [
         | true ↦ λ b.
-            ap (λ (o : Ordering). cond (is_eq o) (Some e.1) (find (slice_cmp nat_cmp) (x ∷ q) (cut (length p) (beginning p (above p es))))) (prefix_order p (x ∷ q) e.0 b)
+            ap (λ (o : Ordering). cond (is_eq o) (Some e.1) (find (slice_cmp nat_cmp) (x ∷ q) (cut (length p) (beginning p (those_above p es))))) (prefix_order p (x ∷ q) e.0 b)
             ∙ ap (λ (o : Option (List ℕ)). cond (is_eq (order (p ++ x ∷ q) e.0)) (Some e.1) o) (find_under p x q es)
         | false ↦ λ b. find_under p x q es ∙ sym (missed (p ++ x ∷ q) e es (λ h. let is : begins_with p e.0 ≡ true = subst (λ (k : List ℕ). begins_with p k ≡ true) h (begins_with_prefix p (x ∷ q)) in cc))
       ] refl
@@ -161,14 +157,14 @@ pub get-tail : (p : List ℕ) (m : Content) (x : ℕ) (q : List ℕ) → get (ta
 unfolding tail
 get-tail p m x q = get-from_sorted (slice_cmp nat_cmp) (cut (length p) (entries_under p m)) (x ∷ q) (T_from_true _ (sorted_cut p m)) ∙ find_under p x q (entries m) ∙ sym (get-entries m (p ++ x ∷ q))
 
-find_nil : (p : List ℕ) (es : List Entry) → find (slice_cmp nat_cmp) [] (cut (length p) (beginning p (above p es))) ≡ None
+find_nil : (p : List ℕ) (es : List Entry) → find (slice_cmp nat_cmp) [] (cut (length p) (beginning p (those_above p es))) ≡ None
 find_nil p [] = refl
 find_nil p (e ∷ es) =
-    elim (is_lt (order p e.0)) as (λ a. is_lt (order p e.0) ≡ a → find (slice_cmp nat_cmp) [] (cut (length p) (beginning p (cond a (e ∷ above p es) (above p es)))) ≡ None) [
-      | true ↦ λ a. elim (begins_with p e.0) as (λ b. begins_with p e.0 ≡ b → find (slice_cmp nat_cmp) [] (cut (length p) (cond b (e ∷ beginning p (above p es)) (beginning p (above p es)))) ≡ None) [
+    elim (is_lt (order p e.0)) as (λ a. is_lt (order p e.0) ≡ a → find (slice_cmp nat_cmp) [] (cut (length p) (beginning p (cond a (e ∷ those_above p es) (those_above p es)))) ≡ None) [
+      | true ↦ λ a. elim (begins_with p e.0) as (λ b. begins_with p e.0 ≡ b → find (slice_cmp nat_cmp) [] (cut (length p) (cond b (e ∷ beginning p (those_above p es)) (beginning p (those_above p es)))) ≡ None) [
         | true ↦ λ b.
             let key : order [] (drop (length p) e.0) ≡ Less = prefix_order p [] e.0 b ∙ ap (λ (k : List ℕ). order k e.0) (append-nil p) ∙ less_from_test _ a in
-            ap (λ (o : Ordering). cond (is_eq o) (Some e.1) (find (slice_cmp nat_cmp) [] (cut (length p) (beginning p (above p es))))) key ∙ find_nil p es
+            ap (λ (o : Ordering). cond (is_eq o) (Some e.1) (find (slice_cmp nat_cmp) [] (cut (length p) (beginning p (those_above p es))))) key ∙ find_nil p es
         | false ↦ λ b. find_nil p es
       ] refl
       | false ↦ λ a. find_nil p es

@@ -1,7 +1,7 @@
 -- Bytes of a script that were put into a buffer.
 use Rattle.std.proofs.Common.{◌≡◌, ◌≤◌, ◌<◌, ◌+◌, ◌++◌, ◌∷◌, [], ℕ, Bool, true, false, nat_lt, List, length, take, drop, sym, arith, length-append, length-drop, take-take}
 use Rattle.ct_site.specs.declared.places.Place.{Place}
-use Rattle.ct_site.specs.Places.{with_place}
+use Rattle.ct_site.specs.Places.{with_kept_place}
 use Rattle.std.proofs.lemmas.List.{take-append-le, take-append-drop, length-take, drop-drop}
 
 -- the beginning of the buffer is that of what was left
@@ -15,6 +15,6 @@ heard_prefix script new old at count h e =
 pub kept_some : (n : ℕ) → nat_lt 0 n ≡ true → 0 < n
 kept_some n h = grind arith
 
-pub few_kept : (places : List Place) (kept : Bool) (p : Place) (n : ℕ) → kept ≡ nat_lt 0 n → length (with_place places kept p) ≤ length places + n
+pub few_kept : (places : List Place) (kept : Bool) (p : Place) (n : ℕ) → kept ≡ nat_lt 0 n → length (with_kept_place places kept p) ≤ length places + n
 few_kept places false p n is = omega arith
 few_kept places true p n is = let some = kept_some n (sym is) in omega (arith, some, length-append places (p ∷ []))

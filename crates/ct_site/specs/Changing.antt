@@ -6,7 +6,7 @@ use Rattle.ct_base.specs.laws.Moments.{grows_itself, adds_nothing_itself}
 use Rattle.ct_site.specs.Images.{written, Torn}
 use Rattle.ct_site.specs.Pieces.{torn_written}
 use Rattle.ct_site.specs.Hearings.{Hearing, WasCalled, with_present, present_there, present_adds, present_keeps}
-use Rattle.ct_site.specs.Disks.{DiskView, Beside, IsNow, Follows, Works, Leaves, Asks, Hears, Says}
+use Rattle.ct_site.specs.Disks.{DiskView, Beside, IsNow, FollowsBy, Works, Leaves, Asks, Hears, Says}
 use Rattle.ct_site.specs.Histories.{DiskChange, Wrote, Synced, Said, DiskState, begun, next, disk_after, said_in, said_by, after-push, said_by-push, image_left, timeline, moment_now, left_now, said_now, keeps_push, passes_push}
 use Rattle.ct_site.specs.Memory.{MemState, memory_view, image_of, said_of, hearings_of, wrote, after_sync, after_say, heard, hear_failed}
 
@@ -62,7 +62,7 @@ leaves_push s c P nothing here = record {
 }
 
 -- ---- a write
-crash_pushed : (s : MemState) (at : ℕ) (bytes : List ℕ) → at ≤ length (image_of s) → Follows (Torn at (length bytes)) (memory_view s).may_leave (pushed s (Wrote at bytes)).may_leave
+crash_pushed : (s : MemState) (at : ℕ) (bytes : List ℕ) → at ≤ length (image_of s) → FollowsBy (Torn at (length bytes)) (memory_view s).may_leave (pushed s (Wrote at bytes)).may_leave
 crash_pushed s at bytes within x (inl is) = (image_of s, image_left (begun s.first) s.log refl, subst (λ (y : List ℕ). Torn at (length bytes) (image_of s) y) (sym is) (torn_written at bytes (image_of s) within))
 crash_pushed s at bytes within x (inr torn) = (torn.from, torn.left, torn.torn)
 
@@ -72,8 +72,8 @@ write_works s at bytes = subst (λ (v : DiskView). Works {T = Unit {0}} (memory_
 pub write_leaves : (s : MemState) (at : ℕ) (bytes : List ℕ) → Leaves (memory_view s) (memory_view (wrote s at bytes)) (memory_view (wrote s at bytes)).may_leave
 write_leaves s at bytes = subst (λ (v : DiskView). Leaves (memory_view s) v v.may_leave) (sym (view_pushed s (Wrote at bytes))) (leaves_push s (Wrote at bytes) _ refl (λ image now. now))
 
-pub write_crash : (s : MemState) (at : ℕ) (bytes : List ℕ) → at ≤ length (image_of s) → Follows (Torn at (length bytes)) (memory_view s).may_leave (memory_view (wrote s at bytes)).may_leave
-write_crash s at bytes within = subst (λ (v : DiskView). Follows (Torn at (length bytes)) (memory_view s).may_leave v.may_leave) (sym (view_pushed s (Wrote at bytes))) (crash_pushed s at bytes within)
+pub write_crash : (s : MemState) (at : ℕ) (bytes : List ℕ) → at ≤ length (image_of s) → FollowsBy (Torn at (length bytes)) (memory_view s).may_leave (memory_view (wrote s at bytes)).may_leave
+write_crash s at bytes within = subst (λ (v : DiskView). FollowsBy (Torn at (length bytes)) (memory_view s).may_leave v.may_leave) (sym (view_pushed s (Wrote at bytes))) (crash_pushed s at bytes within)
 
 pub write_image : (s : MemState) (at : ℕ) (bytes : List ℕ) → image_of (wrote s at bytes) ≡ written at bytes (image_of s)
 write_image s at bytes = ap (λ (d : DiskState). d.image) (after-push (begun s.first) s.log (Wrote at bytes))

@@ -1,5 +1,5 @@
 -- What is known of a disk and of what stands beside it, and what each call makes of that.
-use Rattle.std.specs.Prelude.{◌≡◌, ◌⊎◌, ℕ, true, List, Option, None, Some, is_some, Result, Ok}
+use Rattle.std.specs.Prelude.{◌≡◌, ◌⊎◌, ℕ, true, List, Option, None, Some, is_some, Result, Ok, OnOk}
 use Rattle.std.proofs.Common.{refl, ap, sym, ◌∙◌}
 use Rattle.ct_site.specs.declared.outside.Failed.{Failed}
 use Rattle.ct_site.specs.FaultCounts.{CountsFaults, counts_then}
@@ -40,8 +40,12 @@ pub record IsSettled (disk : DiskView) (image : List ℕ) : Type 0 where
   pub only : (left : List ℕ) → disk.may_leave left → left ≡ image
 
 -- each image that may be left is one that might be left before, after a step
-abbrev pub Follows : (List ℕ → List ℕ → Type 0) → (List ℕ → Type 0) → (List ℕ → Type 0) → Type 0
-Follows step old new = (image : List ℕ) → new image → (before : List ℕ) × old before × step before image
+abbrev pub FollowsBy : (List ℕ → List ℕ → Type 0) → (List ℕ → Type 0) → (List ℕ → Type 0) → Type 0
+FollowsBy step old new = (image : List ℕ) → new image → (before : List ℕ) × old before × step before image
+
+-- After Ok, a crash leaves nothing but what a read gave before the call, where that is told.
+abbrev pub MakesDurable : {T : Type 0} → DiskView → DiskView → Result T Failed → Type 0
+MakesDurable old new result = (image : List ℕ) → old.image ≡ Some image → OnOk result ((left : List ℕ) → new.may_leave left → left ≡ image)
 
 -- A read gives what it gave, a crash leaves nothing new, and no moment came between.
 pub record IsSame (old new : DiskView) : Type 0 where

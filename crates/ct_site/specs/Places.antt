@@ -14,12 +14,12 @@ abbrev pub hearings_at : List ℕ → List ℕ → List Place → List Hearing
 hearings_at script said places = map (hearing_at script said) places
 
 -- places, and then one more, if that is to be kept
-abbrev pub with_place : List Place → Bool → Place → List Place
-with_place earlier false p = earlier
-with_place earlier true p = earlier ++ p ∷ []
+abbrev pub with_kept_place : List Place → Bool → Place → List Place
+with_kept_place earlier false p = earlier
+with_kept_place earlier true p = earlier ++ p ∷ []
 
 pub hearings_at-with : (script said : List ℕ) (earlier : List Place) (kept : Bool) (p : Place) → p.said ≡ length said
-    → hearings_at script said (with_place earlier kept p) ≡ with_present (hearings_at script said earlier) kept (drop p.taken script) said
+    → hearings_at script said (with_kept_place earlier kept p) ≡ with_present (hearings_at script said earlier) kept (drop p.taken script) said
 hearings_at-with script said earlier false p all = refl
 hearings_at-with script said earlier true p all =
     map-append (hearing_at script said) earlier (p ∷ [])
@@ -43,7 +43,7 @@ up_to_push : (n : ℕ) (places : List Place) (p : Place) → p.said ≤ n → Ar
 up_to_push n [] p h within = (h, tt)
 up_to_push n (q ∷ ps) p h within = (within.0, up_to_push n ps p h within.1)
 
-pub up_to_with : (n : ℕ) (places : List Place) (kept : Bool) (p : Place) → p.said ≤ n → AreUpTo n places → AreUpTo n (with_place places kept p)
+pub up_to_with : (n : ℕ) (places : List Place) (kept : Bool) (p : Place) → p.said ≤ n → AreUpTo n places → AreUpTo n (with_kept_place places kept p)
 up_to_with n places false p h within = within
 up_to_with n places true p h within = up_to_push n places p h within
 

@@ -6,7 +6,7 @@ ghost use Rattle.ct_base.specs.Told.{took, IsNothing};
 ghost use Rattle.ct_site.specs.FaultCounts.{CountsFaults};
 ghost use Rattle.ct_site.specs.Images.{written, Torn};
 ghost use Rattle.ct_site.specs.Lengths.{Lengthens};
-ghost use Rattle.ct_site.specs.Disks.{DiskView, Follows, IsNow, IsSame, Leaves, Works, Hears, Says};
+ghost use Rattle.ct_site.specs.Disks.{DiskView, FollowsBy, IsNow, IsSame, Leaves, MakesDurable, Works, Hears, Says};
 
 use thiserror::Error;
 
@@ -45,14 +45,14 @@ pub trait Disk {
         requires some { 0 < length bytes.now }
         ensures written { OnOk result ((disk self.new).image ≡ option_map (written at bytes.now) (disk self.old).image) }
         ensures too_far { 2 ^ 43 < at + length bytes.now → IsErr result }
-        ensures crash { Follows (Torn at (length bytes.now)) (disk self.old).may_leave (disk self.new).may_leave }
+        ensures crash { FollowsBy (Torn at (length bytes.now)) (disk self.old).may_leave (disk self.new).may_leave }
         ensures leaves { Leaves (disk self.old) (disk self.new) (disk self.new).may_leave }
         ensures grows { Lengthens (at + length bytes.now) (disk self.old) (disk self.new) }
         ensures works { Works (disk self.old) (disk self.new) result };
 
     /// Makes what was written last: after it a crash leaves what a read gives.
     fn sync(&mut self) -> Result<(), Failed>
-        ensures durable { (image : List ℕ) → (disk self.old).image ≡ Some image → OnOk result ((left : List ℕ) → (disk self.new).may_leave left → left ≡ image) }
+        ensures durable { MakesDurable (disk self.old) (disk self.new) result }
         ensures image { (disk self.new).image ≡ (disk self.old).image }
         ensures crash { (left : List ℕ) → (disk self.new).may_leave left → (disk self.old).may_leave left }
         ensures leaves { Leaves (disk self.old) (disk self.new) (disk self.old).may_leave }

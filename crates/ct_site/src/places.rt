@@ -2,7 +2,7 @@
 
 ghost use Rattle.std.specs.Prelude.{◌≡◌, ◌+◌, ◌≤◌, ◌<◌, IfOk, true, [], vec_len};
 ghost use Rattle.std.specs.Vec.{vec_capacity};
-ghost use Rattle.ct_site.specs.Places.{with_place};
+ghost use Rattle.ct_site.specs.Places.{with_kept_place};
 
 use ct_base::Memory;
 use std::alloc::Global;
@@ -27,7 +27,7 @@ pub(crate) fn places_for(alloc: Global, some: usize, more: usize) -> Result<Vec<
 /// Puts a place at the end, if it is to be kept, in memory that is there.
 pub(crate) fn keep_place(places: &mut Vec<Place>, is_kept: bool, place: Place)
     requires { is_kept ≡ true → vec_len places.old < vec_capacity places.old }
-    ensures items { places.new.items ≡ with_place places.old.items is_kept place }
+    ensures items { places.new.items ≡ with_kept_place places.old.items is_kept place }
     ensures capacity { vec_capacity places.old ≤ vec_capacity places.new }
     ensures len { vec_len places.new ≤ vec_len places.old + 1 }
 {

@@ -6,7 +6,7 @@ ghost use Rattle.ct_base.specs.Told.{took, IsNothing};
 ghost use Rattle.ct_site.specs.FaultCounts.{CountsFaults};
 ghost use Rattle.ct_site.specs.Images.{written, Torn};
 ghost use Rattle.ct_site.specs.Lengths.{Lengthens};
-ghost use Rattle.ct_site.specs.Disks.{Follows, IsSame, Leaves, Works, Hears, Says};
+ghost use Rattle.ct_site.specs.Disks.{FollowsBy, IsSame, Leaves, MakesDurable, Works, Hears, Says};
 
 use crate::fault_lists::Faults;
 use crate::memory::MemSite;
@@ -103,7 +103,7 @@ impl Disk for QuietSite {
         requires some { 0 < length bytes.now }
         ensures written { OnOk result ((memory_view self.new).image ≡ option_map (written at bytes.now) (memory_view self.old).image) }
         ensures too_far { 2 ^ 43 < at + length bytes.now → IsErr result }
-        ensures crash { Follows (Torn at (length bytes.now)) (memory_view self.old).may_leave (memory_view self.new).may_leave }
+        ensures crash { FollowsBy (Torn at (length bytes.now)) (memory_view self.old).may_leave (memory_view self.new).may_leave }
         ensures leaves { Leaves (memory_view self.old) (memory_view self.new) (memory_view self.new).may_leave }
         ensures grows { Lengthens (at + length bytes.now) (memory_view self.old) (memory_view self.new) }
         ensures works { Works (memory_view self.old) (memory_view self.new) result }
@@ -117,7 +117,7 @@ impl Disk for QuietSite {
 
     /// Makes what was written last.
     fn sync(&mut self) -> Result<(), Failed>
-        ensures durable { (image : List ℕ) → (memory_view self.old).image ≡ Some image → OnOk result ((left : List ℕ) → (memory_view self.new).may_leave left → left ≡ image) }
+        ensures durable { MakesDurable (memory_view self.old) (memory_view self.new) result }
         ensures image { (memory_view self.new).image ≡ (memory_view self.old).image }
         ensures crash { (left : List ℕ) → (memory_view self.new).may_leave left → (memory_view self.old).may_leave left }
         ensures leaves { Leaves (memory_view self.old) (memory_view self.new) (memory_view self.old).may_leave }

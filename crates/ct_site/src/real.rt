@@ -6,7 +6,7 @@ ghost use Rattle.ct_base.specs.Told.{took, IsNothing};
 ghost use Rattle.ct_site.specs.FaultCounts.{CountsFaults};
 ghost use Rattle.ct_site.specs.Images.{written, Torn};
 ghost use Rattle.ct_site.specs.Lengths.{Lengthens};
-ghost use Rattle.ct_site.specs.Disks.{Follows, IsSame, Leaves, Works, Hears, Says};
+ghost use Rattle.ct_site.specs.Disks.{FollowsBy, IsSame, Leaves, MakesDurable, Works, Hears, Says};
 
 use crate::counts::count_fault;
 use crate::outside::{Disk, Failed, LONGEST, Site};
@@ -137,7 +137,7 @@ impl<R: Input + Print + Files> Disk for RealSite<'_, R> {
         requires some { 0 < length bytes.now }
         ensures written { OnOk result ((real_view self.new).image ≡ option_map (written at bytes.now) (real_view self.old).image) }
         ensures too_far { 2 ^ 43 < at + length bytes.now → IsErr result }
-        ensures crash { Follows (Torn at (length bytes.now)) (real_view self.old).may_leave (real_view self.new).may_leave }
+        ensures crash { FollowsBy (Torn at (length bytes.now)) (real_view self.old).may_leave (real_view self.new).may_leave }
         ensures leaves { Leaves (real_view self.old) (real_view self.new) (real_view self.new).may_leave }
         ensures grows { Lengthens (at + length bytes.now) (real_view self.old) (real_view self.new) }
         ensures works { Works (real_view self.old) (real_view self.new) result }
@@ -154,7 +154,7 @@ impl<R: Input + Print + Files> Disk for RealSite<'_, R> {
 
     /// Makes what was written last. The entry of a new file in its folder isn't made last by it.
     fn sync(&mut self) -> Result<(), Failed>
-        ensures durable { (image : List ℕ) → (real_view self.old).image ≡ Some image → OnOk result ((left : List ℕ) → (real_view self.new).may_leave left → left ≡ image) }
+        ensures durable { MakesDurable (real_view self.old) (real_view self.new) result }
         ensures image { (real_view self.new).image ≡ (real_view self.old).image }
         ensures crash { (left : List ℕ) → (real_view self.new).may_leave left → (real_view self.old).may_leave left }
         ensures leaves { Leaves (real_view self.old) (real_view self.new) (real_view self.old).may_leave }

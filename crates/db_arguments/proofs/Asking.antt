@@ -15,7 +15,7 @@ use Rattle.db_arguments.specs.declared.reading.Next.{Next}
 use Rattle.db_arguments.specs.declared.reading.Next.TheVariants.{Any, Value, File}
 use Rattle.db_arguments.specs.Arguments.{Item, Spaced, Joined, Plain, item_arguments, item_files, item_values, IsItem, after_items, SpellsLimit, AsksFor, AskForNothing, least_limit, store_limit, is_option_like}
 use Rattle.db_arguments.specs.declared.arguments.Arguments.{Arguments}
-use Rattle.db_arguments.specs.Reading.{Seen, asked_by, start, limit_of, is_number, is_in_range, with_limit, with_file, with_option, with_item, with_argument, asked_at, after_prefix, outcome}
+use Rattle.db_arguments.specs.Reading.{ArgumentsSoFar, asked_by, start, limit_of, is_number, is_in_range, with_limit, with_file, with_option, with_item, with_argument, asked_at, after_prefix, outcome}
 use Rattle.db_arguments.specs.laws.OneReading.{IsLimitAfter, refused}
 
 -- ---- one argument
@@ -49,13 +49,13 @@ prefix_is (p ∷ ps) (b ∷ bs) rest e = go (eqb b p) refl (prefix_is ps bs rest
     go false same more f = cc
 
 -- what one value more leaves
-pub record TakesValue (found : Option (List ℕ)) (given : Option ℕ) (value : List ℕ) (t : Seen) : Type 0 where
+pub record TakesValue (found : Option (List ℕ)) (given : Option ℕ) (value : List ℕ) (t : ArgumentsSoFar) : Type 0 where
   pub limit : ℕ
   pub none : given ≡ None
   pub spelt : SpellsLimit value limit
   pub after : t ≡ record { file = found; limit = Some limit; next = Any }
 
-value_taken : (found : Option (List ℕ)) (given : Option ℕ) (next : Next) (value : List ℕ) (t : Seen)
+value_taken : (found : Option (List ℕ)) (given : Option ℕ) (next : Next) (value : List ℕ) (t : ArgumentsSoFar)
     → with_limit (record { file = found; limit = given; next = next }) value ≡ Some t → TakesValue found given value t
 value_taken found (Some n) next value t e = cc
 value_taken found None next value t e =
@@ -63,20 +63,20 @@ value_taken found None next value t e =
     record { limit = p.0; none = refl; spelt = read_is_spelt value p.0 p.1; after = sym p.2 }
 
 -- what one FILE more leaves
-file_taken : (found : Option (List ℕ)) (given : Option ℕ) (next : Next) (file : List ℕ) (t : Seen)
+file_taken : (found : Option (List ℕ)) (given : Option ℕ) (next : Next) (file : List ℕ) (t : ArgumentsSoFar)
     → with_file (record { file = found; limit = given; next = next }) file ≡ Some t
     → (found ≡ None) × (t ≡ record { file = Some file; limit = given; next = next })
 file_taken None given next file t e = (refl, cc)
 file_taken (Some f) given next file t e = cc
 
 -- an argument that begins an item, or is the `--`: which of these it is, and what it leaves
-pub data Takes (found : Option (List ℕ)) (given : Option ℕ) (argument : List ℕ) (t : Seen) : Type 0 where
+pub data Takes (found : Option (List ℕ)) (given : Option ℕ) (argument : List ℕ) (t : ArgumentsSoFar) : Type 0 where
   IsEnd : argument ≡ codes "--" → t ≡ record { file = found; limit = given; next = File } → Takes found given argument t
   IsOption : argument ≡ codes "--limit" → t ≡ record { file = found; limit = given; next = Value } → Takes found given argument t
   IsJoined : (value : List ℕ) → argument ≡ codes "--limit=" ++ value → TakesValue found given value t → Takes found given argument t
   IsFile : is_option_like argument ≡ false → found ≡ None → t ≡ record { file = Some argument; limit = given; next = Any } → Takes found given argument t
 
-module _ (found : Option (List ℕ)) (given : Option ℕ) (argument : List ℕ) (t : Seen) where
+module _ (found : Option (List ℕ)) (given : Option ℕ) (argument : List ℕ) (t : ArgumentsSoFar) where
   joined_taken : (o : Option (List ℕ)) → after_prefix (codes "--limit=") argument ≡ o
       → option_and_then (with_limit (record { file = found; limit = given; next = Any })) o ≡ Some t → Takes found given argument t
   joined_taken None is e = cc
@@ -193,7 +193,7 @@ none_more (Some f) given file limit e =
 module _ (argument : List ℕ) (more : List (List ℕ)) (asks : Asks more) where
   one_more_value : AsksWithValue (argument ∷ more)
   one_more_value found given file limit e =
-      let p = and_then_some (λ (t : Seen). outcome t more) (with_limit (record { file = found; limit = given; next = Value }) argument) (file, limit) e in
+      let p = and_then_some (λ (t : ArgumentsSoFar). outcome t more) (with_limit (record { file = found; limit = given; next = Value }) argument) (file, limit) e in
       let taken : TakesValue found given argument p.0 = value_taken found given Value argument p.0 p.1 in
       record {
         value = argument;
@@ -202,30 +202,30 @@ module _ (argument : List ℕ) (more : List (List ℕ)) (asks : Asks more) where
         spelt = refl;
         none = taken.none;
         spells = taken.spelt;
-        asks = asks found (Some taken.limit) file limit (ap (λ (t : Seen). outcome t more) (sym taken.after) ∙ p.2);
+        asks = asks found (Some taken.limit) file limit (ap (λ (t : ArgumentsSoFar). outcome t more) (sym taken.after) ∙ p.2);
       }
 
-  one_more_as : AsksWithValue more → (found : Option (List ℕ)) (given : Option ℕ) (file : List ℕ) (limit : ℕ) (t : Seen)
+  one_more_as : AsksWithValue more → (found : Option (List ℕ)) (given : Option ℕ) (file : List ℕ) (limit : ℕ) (t : ArgumentsSoFar)
       → Takes found given argument t → outcome t more ≡ Some (file, limit) → AsksAfter found given (argument ∷ more) file limit
   one_more_as with_value found given file limit t (IsEnd is after) e =
       subst (λ (v : List ℕ). AsksAfter found given (v ∷ more) file limit) (sym is)
-      (after_end found given more file limit (ap (λ (t : Seen). outcome t more) (sym after) ∙ e))
+      (after_end found given more file limit (ap (λ (t : ArgumentsSoFar). outcome t more) (sym after) ∙ e))
   one_more_as with_value found given file limit t (IsOption is after) e =
-      let r : AsksByValue found given more file limit = with_value found given file limit (ap (λ (t : Seen). outcome t more) (sym after) ∙ e) in
+      let r : AsksByValue found given more file limit = with_value found given file limit (ap (λ (t : ArgumentsSoFar). outcome t more) (sym after) ∙ e) in
       let same : codes "--limit" ∷ r.value ∷ r.rest ≡ argument ∷ more = λ i. sym is i ∷ sym r.spelt i in
       subst (λ (o : Option ℕ). AsksAfter found o (argument ∷ more) file limit) (sym r.none)
       (subst (λ (l : List (List ℕ)). AsksAfter found None l file limit) same (after_spaced found None r.rest file limit r.value r.number r.spells r.asks))
   one_more_as with_value found given file limit t (IsJoined value is taken) e =
-      let r : AsksAfter found (Some taken.limit) more file limit = asks found (Some taken.limit) file limit (ap (λ (t : Seen). outcome t more) (sym taken.after) ∙ e) in
+      let r : AsksAfter found (Some taken.limit) more file limit = asks found (Some taken.limit) file limit (ap (λ (t : ArgumentsSoFar). outcome t more) (sym taken.after) ∙ e) in
       subst (λ (o : Option ℕ). AsksAfter found o (argument ∷ more) file limit) (sym taken.none)
       (subst (λ (v : List ℕ). AsksAfter found None (v ∷ more) file limit) (sym is) (after_joined found None more file limit value taken.limit taken.spelt r))
   one_more_as with_value found given file limit t (IsFile plain none after) e =
       subst (λ (o : Option (List ℕ)). AsksAfter o given (argument ∷ more) file limit) (sym none)
-      (after_file None given more file limit argument plain (asks (Some argument) given file limit (ap (λ (t : Seen). outcome t more) (sym after) ∙ e)))
+      (after_file None given more file limit argument plain (asks (Some argument) given file limit (ap (λ (t : ArgumentsSoFar). outcome t more) (sym after) ∙ e)))
 
   one_more : AsksWithValue more → Asks (argument ∷ more)
   one_more with_value found given file limit e =
-      let p = and_then_some (λ (t : Seen). outcome t more) (with_item (record { file = found; limit = given; next = Any }) argument) (file, limit) e in
+      let p = and_then_some (λ (t : ArgumentsSoFar). outcome t more) (with_item (record { file = found; limit = given; next = Any }) argument) (file, limit) e in
       one_more_as with_value found given file limit p.0 (item_taken found given argument p.0 p.1) p.2
 
 all_ask : (arguments : List (List ℕ)) → Asks arguments × AsksWithValue arguments
@@ -250,7 +250,7 @@ none_is_asked arguments (Some a) e = tt
 
 -- ---- the ways out of the loop
 
-module _ {X : Type 0} (bytes : X → List ℕ) (xs : List X) (s : Seen) (place : ℕ)
+module _ {X : Type 0} (bytes : X → List ℕ) (xs : List X) (s : ArgumentsSoFar) (place : ℕ)
     (so_far : outcome s (map bytes (drop place xs)) ≡ outcome start (map bytes xs)) where
   pub at_end : length xs ≤ place → asked_at s.next s ≡ outcome start (map bytes xs)
   at_end past = sym (at_drop_all (λ (l : List X). outcome s (map bytes l)) xs place past) ∙ so_far
@@ -258,7 +258,7 @@ module _ {X : Type 0} (bytes : X → List ℕ) (xs : List X) (s : Seen) (place :
   pub at_refused : (x : X) → place < length xs → x ≡ get_or xs place x → with_argument s.next s (bytes x) ≡ None → None ≡ outcome start (map bytes xs)
   at_refused x within is none =
       let rest = map bytes (drop (place + 1) xs) in
-      let step : outcome s (map bytes (drop place xs)) ≡ option_and_then (λ (t : Seen). outcome t rest) (with_argument s.next s (bytes (get_or xs place x))) =
+      let step : outcome s (map bytes (drop place xs)) ≡ option_and_then (λ (t : ArgumentsSoFar). outcome t rest) (with_argument s.next s (bytes (get_or xs place x))) =
       at_drop_more (λ (l : List X). outcome s (map bytes l)) xs place x within in
       let refused : with_argument s.next s (bytes (get_or xs place x)) ≡ None = subst (λ (y : X). with_argument s.next s (bytes y) ≡ None) is none in
-      sym (ap (option_and_then (λ (t : Seen). outcome t rest)) refused) ∙ sym step ∙ so_far
+      sym (ap (option_and_then (λ (t : ArgumentsSoFar). outcome t rest)) refused) ∙ sym step ∙ so_far

@@ -14,16 +14,16 @@ use Rattle.db_arguments.specs.declared.reading.Next.TheVariants.{Any, Value, Fil
 use Rattle.db_arguments.specs.declared.reading.Reading.{Reading}
 
 -- what has been read
-pub record Seen : Type 0 where
+pub record ArgumentsSoFar : Type 0 where
   pub file : Option (List ℕ)
   pub limit : Option ℕ
   pub next : Next
 
-abbrev pub seen : Reading → Seen
+abbrev pub seen : Reading → ArgumentsSoFar
 seen r = record { file = option_map (λ (f : Bor (List ℕ)). f.now) r.file; limit = r.limit; next = r.next }
 
 -- before the first argument
-abbrev pub start : Seen
+abbrev pub start : ArgumentsSoFar
 start = record { file = None; limit = None; next = Any }
 
 -- a FILE and a limit
@@ -46,11 +46,11 @@ abbrev pub limit_of : List ℕ → Option ℕ
 limit_of value = if is_number value && is_in_range (digits_value 10 value) then Some (digits_value 10 value) else None
 
 -- what has been read with one FILE more; None where there is one already
-abbrev pub with_file : Seen → List ℕ → Option Seen
+abbrev pub with_file : ArgumentsSoFar → List ℕ → Option ArgumentsSoFar
 with_file s file = if is_none s.file then Some (record s { file = Some file }) else None
 
 -- with one value of the option more; None where there is one already, or this one spells no limit
-abbrev pub with_limit : Seen → List ℕ → Option Seen
+abbrev pub with_limit : ArgumentsSoFar → List ℕ → Option ArgumentsSoFar
 with_limit s value = if is_none s.limit then option_map (λ (n : ℕ). record s { limit = Some n; next = Any }) (limit_of value) else None
 
 -- what follows these bytes in a text that begins with them
@@ -60,32 +60,32 @@ after_prefix (p ∷ ps) [] = None
 after_prefix (p ∷ ps) (b ∷ bs) = if b == p then after_prefix ps bs else None
 
 -- with an argument that looks like an option
-abbrev pub with_option : Seen → List ℕ → Option Seen
+abbrev pub with_option : ArgumentsSoFar → List ℕ → Option ArgumentsSoFar
 with_option s argument =
     if bytes_eq argument (codes "--") then Some (record s { next = File })
     else (if bytes_eq argument (codes "--limit") then Some (record s { next = Value })
     else option_and_then (with_limit s) (after_prefix (codes "--limit=") argument))
 
 -- with an argument that begins an item, or is the `--`
-abbrev pub with_item : Seen → List ℕ → Option Seen
+abbrev pub with_item : ArgumentsSoFar → List ℕ → Option ArgumentsSoFar
 with_item s argument = if is_option_like argument then with_option s argument else with_file s argument
 
 -- with one argument more
-abbrev pub with_argument : Next → Seen → List ℕ → Option Seen
+abbrev pub with_argument : Next → ArgumentsSoFar → List ℕ → Option ArgumentsSoFar
 with_argument Any s argument = with_item s argument
 with_argument Value s argument = with_limit s argument
 with_argument File s argument = with_file s argument
 
 -- what is asked for where no argument follows; None where there is no FILE, or the option has no value
-abbrev pub asked_at : Next → Seen → Option Asked
+abbrev pub asked_at : Next → ArgumentsSoFar → Option Asked
 asked_at Any s = option_map (λ (f : List ℕ). (f, unwrap_or s.limit store_limit)) s.file
 asked_at Value s = None
 asked_at File s = option_map (λ (f : List ℕ). (f, unwrap_or s.limit store_limit)) s.file
 
 -- what is asked for in all, where these arguments follow
-abbrev pub outcome : Seen → List (List ℕ) → Option Asked
+abbrev pub outcome : ArgumentsSoFar → List (List ℕ) → Option Asked
 outcome s [] = asked_at s.next s
-outcome s (argument ∷ others) = option_and_then (λ (t : Seen). outcome t others) (with_argument s.next s argument)
+outcome s (argument ∷ others) = option_and_then (λ (t : ArgumentsSoFar). outcome t others) (with_argument s.next s argument)
 
 -- ---- computed examples
 

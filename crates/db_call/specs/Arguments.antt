@@ -29,14 +29,14 @@ text_at (suc place) (arg ∷ args) = text_at place args
 abbrev pub name_at : ℕ → List Arg → Option (List ℕ)
 name_at place args = option_and_then spelt_name (text_at place args)
 
-abbrev pub is_text : Arg → Bool
-is_text (Text text) = true
-is_text (Number n) = false
-is_text (Flag b) = false
+abbrev pub is_text_argument : Arg → Bool
+is_text_argument (Text text) = true
+is_text_argument (Number n) = false
+is_text_argument (Flag b) = false
 
 -- whether there are so many arguments, and each is a text
 abbrev pub are_texts : ℕ → List Arg → Bool
-are_texts count args = (length args == count) && list_all is_text args
+are_texts count args = (length args == count) && list_all is_text_argument args
 
 -- computed examples
 the_second : name_at 1 (Text (codes "g") ∷ Text (codes "Title") ∷ Number (Fits (pos 1)) ∷ []) ≡ Some (codes "title")

@@ -3,7 +3,7 @@
 ghost use Rattle.std.specs.Prelude.{◌≡◌, IfOk};
 ghost use Rattle.std.specs.List.{list_all};
 ghost use Rattle.std.specs.Option.{option_map};
-ghost use Rattle.db_call.specs.Arguments.{are_texts as are_so_many_texts, is_text, name_at as name_there, spelt_name as name_spelt, text_at as text_there, text_of as its_text};
+ghost use Rattle.db_call.specs.Arguments.{are_texts as are_so_many_texts, is_text_argument, name_at as name_there, spelt_name as name_spelt, text_at as text_there, text_of as its_text};
 
 use ct_base::{Memory, Name, NameFault};
 use st_parse::Arg;
@@ -57,7 +57,7 @@ pub fn name_at(alloc: Global, args: &[Arg], place: usize) -> Result<Option<Name>
 }
 
 fn are_all_texts(args: &[Arg]) -> bool
-    ensures { result ≡ list_all is_text args.now }
+    ensures { result ≡ list_all is_text_argument args.now }
 {
     args.iter().all(|arg| matches!(arg, Arg::Text(_)))
 }

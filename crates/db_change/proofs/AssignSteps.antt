@@ -12,7 +12,7 @@ use Rattle.ct_entry.specs.laws.Keys.{list_from_same, list_same}
 use Rattle.st_parse.specs.declared.statements.Assign.{Assign}
 use Rattle.tb_table.specs.declared.columns.Sort.{Sort}
 use Rattle.tb_table.specs.declared.columns.Column.{Column}
-use Rattle.tb_table.specs.Rules.{has_column, AreApart}
+use Rattle.tb_table.specs.Rules.{has_column, HaveDistinctNames}
 use Rattle.db_rows.specs.Checking.{sort_of}
 use Rattle.db_state.specs.Columns.{first_unknown}
 use Rattle.db_change.specs.Inserting.{is_of_sort, is_too_long, is_beyond_range}
@@ -80,7 +80,7 @@ module _ (columns : List Column) where
           fits_one s a.value (sym (ap (λ (o : Option Sort). of_sort is_of_sort o a.value) is) ∙ sorts) (sym (ap (λ (o : Option Sort). of_sort is_too_long o a.value) is) ∙ short) within kept.0 kept.1
       go false h sorts short within kept rest = rest
 
-  sets_fit : (cs : List Column) → ((name : List ℕ) (s : Sort) → sort_of name cs ≡ Some s → sort_of name columns ≡ Some s) → AreApart cs
+  sets_fit : (cs : List Column) → ((name : List ℕ) (s : Sort) → sort_of name cs ≡ Some s → sort_of name columns ≡ Some s) → HaveDistinctNames cs
       → (assigns : List Assign) → list_all (of_its_sort is_of_sort columns) assigns ≡ true → list_any (of_its_sort is_too_long columns) assigns ≡ false
       → list_any (λ (a : Assign). is_beyond_range a.value) assigns ≡ false → All IsKeptAssign assigns → SetFits assigns cs
   sets_fit [] within_all apart assigns sorts short within kept = tt
@@ -94,6 +94,6 @@ module _ (columns : List Column) where
       later name s is false h = ap (λ (b : Bool). cond b (Some c.sort) (sort_of name cs)) h ∙ is
 
 -- of all columns of a table, and of those behind the key
-pub set_values_fit : (columns : List Column) (assigns : List Assign) → AreApart columns → list_all (of_its_sort is_of_sort columns) assigns ≡ true → list_any (of_its_sort is_too_long columns) assigns ≡ false
+pub set_values_fit : (columns : List Column) (assigns : List Assign) → HaveDistinctNames columns → list_all (of_its_sort is_of_sort columns) assigns ≡ true → list_any (of_its_sort is_too_long columns) assigns ≡ false
     → list_any (λ (a : Assign). is_beyond_range a.value) assigns ≡ false → All IsKeptAssign assigns → SetFits assigns columns
 set_values_fit columns assigns apart sorts short within kept = sets_fit columns columns (λ name s is. is) apart assigns sorts short within kept

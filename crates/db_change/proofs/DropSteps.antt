@@ -14,7 +14,7 @@ use Rattle.db_names.specs.Findings.{AreIndexesOf}
 use Rattle.db_names.specs.Promises.{heads_of}
 use Rattle.db_names.specs.laws.Heads.{indexes_of_read}
 use Rattle.db_cond.specs.Faults.{UnknownName}
-use Rattle.db_state.specs.States.{State, Stands}
+use Rattle.db_state.specs.States.{StoreState, StandsForState}
 use Rattle.db_state.specs.Effects.{Effect, Does, with_found}
 use Rattle.db_state.specs.laws.Heads.{heads, heads_stand}
 use Rattle.db_change.specs.Dropping.{DropsTable, drop_table, table_dropped, with_table_dropped}
@@ -27,7 +27,7 @@ indexes_left es n e less is =
     ap (λ (l : List (List ℕ × IndexHead)). map (λ (x : List ℕ × IndexHead). x.0) l) first ∙ ap (λ (x : List ℕ × IndexHead). x.0 ∷ map (λ (y : List ℕ × IndexHead). y.0) (drop (n + 1) es)) (sym is)
 
 -- the removal of the table, and then that of each index that was found on it
-pub drops_table : (c : Content) (m : State) (t : List ℕ) (shown found : List (List ℕ × IndexHead)) (none one new : List (List ℕ × Option (List ℕ))) → Stands c m → shown ≡ found → AreIndexesOf (at c) t found → none ≡ []
+pub drops_table : (c : Content) (m : StoreState) (t : List ℕ) (shown found : List (List ℕ × IndexHead)) (none one new : List (List ℕ × Option (List ℕ))) → StandsForState c m → shown ≡ found → AreIndexesOf (at c) t found → none ≡ []
     → one ≡ none ++ spell (remove_changes t c) → new ≡ one ++ spell (remove_all_changes c (map (λ e. e.0) shown)) → DropsTable m c t new
 drops_table c m t shown found none one new stands same are empty first second =
     let names : found ≡ heads_of t (heads m.indexes) = indexes_of_read (at c) (heads m.indexes) (heads_stand (at c) m.tables m.indexes stands.state.tables stands.state.indexes stands.indexes) t found are in
@@ -41,10 +41,10 @@ drops_table c m t shown found none one new stands same are empty first second =
           ∙ sym (spell-append (remove_changes t c) (remove_all_changes c (names_on m.indexes t)));
     }
 
-drops : State → List ℕ → Option Table → Effect
+drops : StoreState → List ℕ → Option Table → Effect
 drops m t o = with_found o (UnknownName t) (λ (x : Table). Does (with_table_dropped m t) table_dropped)
 
-pub known_table : (m : State) (t : List ℕ) (there : Bool) → there ≡ is_some (get m.tables t) → there ≡ true → drop_table m t ≡ Does (with_table_dropped m t) table_dropped
+pub known_table : (m : StoreState) (t : List ℕ) (there : Bool) → there ≡ is_some (get m.tables t) → there ≡ true → drop_table m t ≡ Does (with_table_dropped m t) table_dropped
 unfolding drops
 known_table m t there is here = go (get m.tables t) (sym is ∙ here)
   where

@@ -25,7 +25,7 @@ use Rattle.db_names.specs.Findings.{AreIndexesOf}
 use Rattle.db_names.specs.laws.Heads.{indexes_of_read}
 use Rattle.db_rows.specs.Checking.{check_conds}
 use Rattle.db_rows.specs.Meeting.{meeting_keys}
-use Rattle.db_state.specs.States.{State, Stands}
+use Rattle.db_state.specs.States.{StoreState, StandsForState}
 use Rattle.db_state.specs.Effects.{Effect, Refused, Does, Checks, with_found}
 use Rattle.db_state.specs.laws.Heads.{heads, heads_stand}
 use Rattle.db_state.specs.Shapes.{AreStoreChanges, HasStoreValue}
@@ -76,7 +76,7 @@ changes_shaped batch more new before one is = subst AreStoreChanges (sym is) (ar
 
 -- ---- the statement
 
-module _ (m : State) (t : List ℕ) (conds : List Cond) where
+module _ (m : StoreState) (t : List ℕ) (conds : List Cond) where
   pub delete_none : get m.tables t ≡ None → delete_from m t conds ≡ Refused (UnknownName t)
   delete_none none = ap (λ (o : Option Table). with_found o (UnknownName t) (λ (x : Table). check_conds x.columns conds (delete_rows m t (meeting_keys x conds)))) none
 
@@ -89,7 +89,7 @@ module _ (m : State) (t : List ℕ) (conds : List Cond) where
     pub delete_refused : (fault : Fault) → ((done : Effect) → Checks (Some fault) (check_conds columns conds done) done) → delete_from m t conds ≡ Refused (refusal_of fault)
     delete_refused fault checks = delete_some ∙ checks (delete_rows m t (meeting_keys x conds))
 
-    module _ (c : Content) (stands : Stands c m) (found : List (List ℕ × IndexHead)) (are : AreIndexesOf (at c) t found) (rows : List RowKey) (met : map (λ row. row.0) rows ≡ meeting_keys x conds)
+    module _ (c : Content) (stands : StandsForState c m) (found : List (List ℕ × IndexHead)) (are : AreIndexesOf (at c) t found) (rows : List RowKey) (met : map (λ row. row.0) rows ≡ meeting_keys x conds)
         (batch : List (List ℕ × Option (List ℕ))) (changes : batch ≡ spell (gone_rows_changes (at c) t columns (map (λ e. e.0) found) (map (λ row. row.0) rows))) where
       batch_is : batch ≡ spell (gone_rows_changes (at c) t x.columns (names_on m.indexes t) (meeting_keys x conds))
       batch_is =
@@ -99,13 +99,13 @@ module _ (m : State) (t : List ℕ) (conds : List Cond) where
           (indexes_of_read (at c) (heads m.indexes) (heads_stand (at c) m.tables m.indexes stands.state.tables stands.state.indexes stands.indexes) t found are)
           ∙ ap (λ (rs : List ℤ). spell (gone_rows_changes (at c) t x.columns (names_on m.indexes t) rs)) met
 
-      pub delete_done : (count : ℕ) → count ≡ length rows → ((done : Effect) → Checks None (check_conds columns conds done) done) → (n : State) × (delete_from m t conds ≡ Does n (rows_deleted count)) × Stands (after batch c) n
+      pub delete_done : (count : ℕ) → count ≡ length rows → ((done : Effect) → Checks None (check_conds columns conds done) done) → (n : StoreState) × (delete_from m t conds ≡ Does n (rows_deleted count)) × StandsForState (after batch c) n
       delete_done count counted passed = (
         without_rows m t (meeting_keys x conds),
         delete_some ∙ passed (delete_rows m t (meeting_keys x conds))
             ∙ ap (λ (rs : List ℤ). Does (without_rows m t (meeting_keys x conds)) (rows_deleted (length rs))) (sym met)
             ∙ ap (λ (n : ℕ). Does (without_rows m t (meeting_keys x conds)) (rows_deleted n)) (length-map rows (λ (row : RowKey). row.0) ∙ sym counted),
-        subst (λ (ws : List (List ℕ × Option (List ℕ))). Stands (after ws c) (without_rows m t (meeting_keys x conds))) (sym batch_is)
+        subst (λ (ws : List (List ℕ × Option (List ℕ))). StandsForState (after ws c) (without_rows m t (meeting_keys x conds))) (sym batch_is)
             (gone_rows_stand c m t x (meeting_keys x conds) stands here (met_apart x conds) (met_there m.tables t x conds here)),
       )
 

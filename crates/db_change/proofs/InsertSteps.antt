@@ -10,18 +10,18 @@ use Rattle.tb_table.specs.Tables.{Table}
 use Rattle.db_cond.specs.declared.faults.Fault.{Fault}
 use Rattle.db_cond.specs.Faults.{Refusal, UnknownName, KeyExists, OutOfRange}
 use Rattle.db_cond.specs.Refused.{refusal_of}
-use Rattle.db_state.specs.States.{State}
+use Rattle.db_state.specs.States.{StoreState}
 use Rattle.db_state.specs.Effects.{Effect, Refused, Does, refuse, refuse_by, with_found, Checks}
-use Rattle.db_change.specs.Inserting.{are_of_sorts, arranged, check_list, check_values, has_row, has_too_long, insert_into, insert_row, insert_values, is_beyond_range, key_in, others_kept, row_created, taken_key, with_new_row, IsFreeRow}
+use Rattle.db_change.specs.Inserting.{are_of_sorts, arranged, check_list, check_row_values, has_row, has_too_long, insert_into, insert_row, insert_values, is_beyond_range, key_in, others_kept, row_created, taken_key, with_new_row, IsFreeRow}
 use Rattle.ct_base.specs.laws.Options.{no_value as gone}
 
 -- ---- chains of checks that lead on
 
-refuse_passed : (b : Bool) (refusal : Refusal) (effect : Effect) (m : State) → refuse b refusal effect ≡ Does m [] → (b ≡ false) × (effect ≡ Does m [])
+refuse_passed : (b : Bool) (refusal : Refusal) (effect : Effect) (m : StoreState) → refuse b refusal effect ≡ Does m [] → (b ≡ false) × (effect ≡ Does m [])
 refuse_passed true refusal effect m h = cc
 refuse_passed false refusal effect m h = (refl, h)
 
-pub refuse_by_passed : {X : Type 0} (o : Option X) (refusal : X → Refusal) (effect : Effect) (m : State) → refuse_by o refusal effect ≡ Does m [] → (o ≡ None) × (effect ≡ Does m [])
+pub refuse_by_passed : {X : Type 0} (o : Option X) (refusal : X → Refusal) (effect : Effect) (m : StoreState) → refuse_by o refusal effect ≡ Does m [] → (o ≡ None) × (effect ≡ Does m [])
 refuse_by_passed None refusal effect m h = (refl, h)
 refuse_by_passed (Some x) refusal effect m h = cc
 
@@ -35,18 +35,18 @@ not_taken false r h = refl
 
 -- ---- the values
 
-module _ (m : State) (t : List ℕ) (x : Table) (values : List Operand) (taken many : Bool) (columns : List Column)
+module _ (m : StoreState) (t : List ℕ) (x : Table) (values : List Operand) (taken many : Bool) (columns : List Column)
     (taken_is : taken ≡ has_row x (key_in values)) (many_is : many ≡ nat_le row_limit (length (entries x.rows))) (columns_are : x.columns ≡ columns) where
-  checked : insert_values m t x values ≡ check_values taken many columns values (with_found (key_in values) OutOfRange (λ (r : ℤ). insert_row m t values r))
+  checked : insert_values m t x values ≡ check_row_values taken many columns values (with_found (key_in values) OutOfRange (λ (r : ℤ). insert_row m t values r))
   checked =
-      ap (λ (b : Bool). check_values b (nat_le row_limit (length (entries x.rows))) x.columns values (with_found (key_in values) OutOfRange (λ (r : ℤ). insert_row m t values r))) (sym taken_is)
-      ∙ ap (λ (b : Bool). check_values taken b x.columns values (with_found (key_in values) OutOfRange (λ (r : ℤ). insert_row m t values r))) (sym many_is)
-      ∙ ap (λ (cs : List Column). check_values taken many cs values (with_found (key_in values) OutOfRange (λ (r : ℤ). insert_row m t values r))) columns_are
+      ap (λ (b : Bool). check_row_values b (nat_le row_limit (length (entries x.rows))) x.columns values (with_found (key_in values) OutOfRange (λ (r : ℤ). insert_row m t values r))) (sym taken_is)
+      ∙ ap (λ (b : Bool). check_row_values taken b x.columns values (with_found (key_in values) OutOfRange (λ (r : ℤ). insert_row m t values r))) (sym many_is)
+      ∙ ap (λ (cs : List Column). check_row_values taken many cs values (with_found (key_in values) OutOfRange (λ (r : ℤ). insert_row m t values r))) columns_are
 
-  pub values_refused : (fault : Fault) → ((done : Effect) → Checks (Some fault) (check_values taken many columns values done) done) → insert_values m t x values ≡ Refused (refusal_of fault)
+  pub values_refused : (fault : Fault) → ((done : Effect) → Checks (Some fault) (check_row_values taken many columns values done) done) → insert_values m t x values ≡ Refused (refusal_of fault)
   values_refused fault checks = checked ∙ checks (with_found (key_in values) OutOfRange (λ (r : ℤ). insert_row m t values r))
 
-  module _ (passed : (done : Effect) → Checks None (check_values taken many columns values done) done) where
+  module _ (passed : (done : Effect) → Checks None (check_row_values taken many columns values done) done) where
     pub values_without_key : key_in values ≡ None → insert_values m t x values ≡ Refused OutOfRange
     values_without_key none =
         checked ∙ passed (with_found (key_in values) OutOfRange (λ (r : ℤ). insert_row m t values r)) ∙ ap (λ (o : Option ℤ). with_found o OutOfRange (λ (r : ℤ). insert_row m t values r)) none
@@ -73,7 +73,7 @@ module _ (m : State) (t : List ℕ) (x : Table) (values : List Operand) (taken m
 
 -- ---- the table, and the list of columns
 
-module _ (m : State) (t : List ℕ) (names : Option (List (List ℕ))) (values : List Operand) where
+module _ (m : StoreState) (t : List ℕ) (names : Option (List (List ℕ))) (values : List Operand) where
   pub into_none : get m.tables t ≡ None → insert_into m t names values ≡ Refused (UnknownName t)
   into_none none = ap (λ (o : Option Table). with_found o (UnknownName t) (λ (x : Table). check_list x.columns names values (insert_values m t x (arranged names x.columns values)))) none
 

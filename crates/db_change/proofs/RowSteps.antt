@@ -15,13 +15,13 @@ use Rattle.db_names.specs.declared.heads.IndexHead.{IndexHead}
 use Rattle.db_names.specs.Findings.{AreIndexesOf}
 use Rattle.db_names.specs.Promises.{heads_of}
 use Rattle.db_names.specs.laws.Heads.{indexes_of_read}
-use Rattle.db_state.specs.States.{State, Stands}
+use Rattle.db_state.specs.States.{StoreState, StandsForState}
 use Rattle.db_change.specs.Inserting.{behind_key, kept_value, others_kept, note_all_changes, with_new_row, IsFreeRow, IsNumberKept, IsTextKept}
 use Rattle.db_state.specs.laws.Heads.{heads, heads_stand}
 use Rattle.db_change.proofs.KeptValues.{others_fit, few_others}
 use Rattle.db_change.specs.laws.NewRows.{names_on, new_row_changes, new_row_stands}
 
-module _ (c : Content) (m : State) (t : List ℕ) (x : Table) (r : ℤ) (values vs : List Operand) (stands : Stands c m) (here : get m.tables t ≡ Some x) (free : IsFreeRow x values r) (row : IsRow r)
+module _ (c : Content) (m : StoreState) (t : List ℕ) (x : Table) (r : ℤ) (values vs : List Operand) (stands : StandsForState c m) (here : get m.tables t ≡ Some x) (free : IsFreeRow x values r) (row : IsRow r)
     (behind : vs ≡ behind_key values) (numbers : All IsNumberKept vs) (texts : All IsTextKept vs) (shown found : List (List ℕ × IndexHead)) (same : shown ≡ found) (are : AreIndexesOf (at c) t found)
     (changes batch : List (List ℕ × Option (List ℕ))) (changes_are : length vs ≤ 255 → changes ≡ spell (insert_changes t r (numbers_of (map kept_value vs)) (texts_of (map kept_value vs))))
     (whole : batch ≡ changes ++ spell (note_all_changes (map (λ e. e.0) shown) r)) where
@@ -40,7 +40,7 @@ module _ (c : Content) (m : State) (t : List ℕ) (x : Table) (r : ℤ) (values 
       ∙ ap (λ (es : List (List ℕ × IndexHead)). spell (insert_changes t r (numbers_of (others_kept values)) (texts_of (others_kept values))) ++ spell (note_all_changes (map (λ e. e.0) es) r)) names_found
       ∙ sym (spell-append (insert_changes t r (numbers_of (others_kept values)) (texts_of (others_kept values))) (note_all_changes (names_on m.indexes t) r))
 
-  pub batch_stands : Stands (after batch c) (with_new_row m t r (others_kept values))
+  pub batch_stands : StandsForState (after batch c) (with_new_row m t r (others_kept values))
   batch_stands =
-      subst (λ (ws : List (List ℕ × Option (List ℕ))). Stands (after ws c) (with_new_row m t r (others_kept values))) (sym batch_is)
+      subst (λ (ws : List (List ℕ × Option (List ℕ))). StandsForState (after ws c) (with_new_row m t r (others_kept values))) (sym batch_is)
       (new_row_stands c m t x r (others_kept values) stands here free.free row (others_fit x values r free (subst (All IsNumberKept) behind numbers) (subst (All IsTextKept) behind texts)) (leb-false row_limit (length (entries x.rows)) free.few))

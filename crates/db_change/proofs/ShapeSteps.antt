@@ -18,7 +18,7 @@ use Rattle.db_state.specs.Shapes.{AreStoreChanges, HasStoreValue}
 use Rattle.tb_table.specs.Tables.{texts_from, texts_of}
 use Rattle.db_state.specs.Effects.{Effect, Refused}
 use Rattle.db_cond.specs.Faults.{WrongValues}
-use Rattle.db_change.specs.Inserting.{is_of_sort, are_of_sorts, behind_key, check_values, kept_value, number_value, IsShortValue}
+use Rattle.db_change.specs.Inserting.{is_of_sort, are_of_sorts, behind_key, check_row_values, kept_value, number_value, IsShortValue}
 use Rattle.db_change.proofs.NewValues.{sorts_apart}
 use Rattle.db_change.proofs.KeptValues.{sorts_length, behind_length}
 
@@ -48,7 +48,7 @@ pub none_left : (cs : List Column) (vs : List Operand) (i : ℕ) → i < length 
 none_left cs vs i less past sorts = let same = sorts_length cs vs sorts in omega (arith, same, less, past)
 
 -- more values than a table has columns are refused
-pub too_many_values : (taken many : Bool) (cs : List Column) (vs : List Operand) → column_limit < length vs → length cs ≤ column_limit → (done : Effect) → check_values taken many cs vs done ≡ Refused WrongValues
+pub too_many_values : (taken many : Bool) (cs : List Column) (vs : List Operand) → column_limit < length vs → length cs ≤ column_limit → (done : Effect) → check_row_values taken many cs vs done ≡ Refused WrongValues
 too_many_values taken many cs vs more few done = rw (← sorts_apart cs vs (λ e. omega (arith, e, more, few))) refl
 
 -- ---- but the key

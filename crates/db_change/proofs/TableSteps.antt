@@ -11,7 +11,7 @@ use Rattle.ct_base.specs.Limits.{table_limit}
 use Rattle.st_parse.specs.declared.statements.ColumnText.{ColumnText}
 use Rattle.db_state.specs.Effects.{Does}
 use Rattle.db_change.specs.Creating.{is_key_first, names_differ, all_sized, column_of, IsFreeTable, with_new_table, check_table, create_table, table_created}
-use Rattle.db_state.specs.States.{State, Stands}
+use Rattle.db_state.specs.States.{StoreState, StandsForState}
 use Rattle.db_state.specs.laws.Chains.{passed}
 use Rattle.std.proofs.lemmas.List.Elements.{All-head, All-tail}
 use Rattle.db_change.specs.laws.NewTables.{AllNamed, created_table_stands}
@@ -22,7 +22,7 @@ all_named [] all = tt
 all_named (c ∷ cs) all = (All-head (λ (k : Column). IsName k.name) (column_of c) (map column_of cs) all, all_named cs (All-tail (λ (k : Column). IsName k.name) (column_of c) (map column_of cs) all))
 
 -- no check holds of what is done
-pub table_free : (m : State) (t : List ℕ) (cs : List ColumnText) (n : State) (reply : List ℕ) → create_table m t cs ≡ Does n reply → IsFreeTable m t cs
+pub table_free : (m : StoreState) (t : List ℕ) (cs : List ColumnText) (n : StoreState) (reply : List ℕ) → create_table m t cs ≡ Does n reply → IsFreeTable m t cs
 table_free m t cs n reply is =
     let p = passed _ _ _ n reply is in
     let q = passed _ _ _ n reply p.1 in
@@ -35,17 +35,17 @@ table_free m t cs n reply is =
     not_false false h = cc
 
 -- the statement by what was read of the state
-pub table_read : (m : State) (t : List ℕ) (cs : List ColumnText) (there many : Bool) → there ≡ is_some (get m.tables t) → many ≡ nat_le table_limit (length (entries m.tables)) → create_table m t cs ≡ check_table there many t cs (Does (with_new_table m t cs) table_created)
+pub table_read : (m : StoreState) (t : List ℕ) (cs : List ColumnText) (there many : Bool) → there ≡ is_some (get m.tables t) → many ≡ nat_le table_limit (length (entries m.tables)) → create_table m t cs ≡ check_table there many t cs (Does (with_new_table m t cs) table_created)
 table_read m t cs there many is most = ap (λ (b : Bool). check_table b (nat_le table_limit (length (entries m.tables))) t cs (Does (with_new_table m t cs) table_created)) (sym is) ∙ ap (λ (b : Bool). check_table there b t cs (Does (with_new_table m t cs) table_created)) (sym most)
 
 -- the batch of a table that no check refuses
-pub table_made : (m : State) (k : Content) (t : List ℕ) (cs : List ColumnText) (batch : List (List ℕ × Option (List ℕ))) → Stands k m → IsName t
+pub table_made : (m : StoreState) (k : Content) (t : List ℕ) (cs : List ColumnText) (batch : List (List ℕ × Option (List ℕ))) → StandsForState k m → IsName t
     → (all_sized cs ≡ true → batch ≡ spell (table_changes t (map column_of cs))) → (all_sized cs ≡ true → All (λ (x : Column). IsName x.name) (map column_of cs)) → create_table m t cs ≡ Does (with_new_table m t cs) table_created
-    → (n : State) × (create_table m t cs ≡ Does n table_created) × Stands (after batch k) n
+    → (n : StoreState) × (create_table m t cs ≡ Does n table_created) × StandsForState (after batch k) n
 table_made m k t cs batch stands name changes named is =
     let free = table_free m t cs _ _ is in
     let named = all_named cs (named free.sized) in (
       with_new_table m t cs,
       is,
-      subst (λ (b : List (List ℕ × Option (List ℕ))). Stands (after b k) (with_new_table m t cs)) (sym (changes free.sized)) (created_table_stands k m t cs stands name named free),
+      subst (λ (b : List (List ℕ × Option (List ℕ))). StandsForState (after b k) (with_new_table m t cs)) (sym (changes free.sized)) (created_table_stands k m t cs stands name named free),
     )

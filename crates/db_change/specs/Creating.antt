@@ -14,19 +14,19 @@ use Rattle.tb_table.specs.declared.columns.Column.{Column}
 use Rattle.tb_table.specs.Tables.{with_table}
 use Rattle.ct_base.specs.Limits.{column_limit, table_limit, text_limit}
 use Rattle.db_cond.specs.Faults.{ExistsAlready, WrongValues, OutOfRange, LimitReached}
-use Rattle.db_state.specs.States.{State, is_view}
+use Rattle.db_state.specs.States.{StoreState, is_view}
 use Rattle.db_state.specs.Effects.{Effect, Does, refuse, as_count, Refused}
 use Rattle.st_parse.specs.declared.statements.Whole.TheVariants.{Fits, Beyond}
 
-abbrev pub is_number : SortText → Bool
-is_number NumberText = true
-is_number (Varchar2Text size) = false
-is_number ClobText = false
+abbrev pub is_number_sort : SortText → Bool
+is_number_sort NumberText = true
+is_number_sort (Varchar2Text size) = false
+is_number_sort ClobText = false
 
 -- the first column, and no other, is NUMBER PRIMARY KEY
 abbrev pub is_key_first : List ColumnText → Bool
 is_key_first [] = false
-is_key_first (c ∷ cs) = (is_number c.sort && c.primary) && list_all (λ (d : ColumnText). not d.primary) cs
+is_key_first (c ∷ cs) = (is_number_sort c.sort && c.primary) && list_all (λ (d : ColumnText). not d.primary) cs
 
 -- no two columns have one name
 abbrev pub names_differ : List ColumnText → Bool
@@ -47,13 +47,13 @@ is_sized ClobText = true
 abbrev pub all_sized : List ColumnText → Bool
 all_sized columns = list_all (λ (c : ColumnText). is_sized c.sort) columns
 
-abbrev pub sort_of : SortText → Sort
-sort_of NumberText = Number
-sort_of (Varchar2Text size) = Varchar2 (unwrap_or (as_count size) 0)
-sort_of ClobText = Clob
+abbrev pub declared_sort : SortText → Sort
+declared_sort NumberText = Number
+declared_sort (Varchar2Text size) = Varchar2 (unwrap_or (as_count size) 0)
+declared_sort ClobText = Clob
 
 abbrev pub column_of : ColumnText → Column
-column_of c = record { name = c.name; sort = sort_of c.sort }
+column_of c = record { name = c.name; sort = declared_sort c.sort }
 
 -- the checks in their order: whether the table is there, and whether there are as many tables as there may be
 abbrev pub check_table : Bool → Bool → List ℕ → List ColumnText → Effect → Effect
@@ -67,16 +67,16 @@ check_table there many t columns done =
 abbrev pub table_created : List ℕ
 table_created = codes "Table created.\n"
 
-abbrev pub with_new_table : State → List ℕ → List ColumnText → State
+abbrev pub with_new_table : StoreState → List ℕ → List ColumnText → StoreState
 with_new_table m t columns = record m { tables = with_table m.tables t (map column_of columns) }
 
-abbrev pub create_table : State → List ℕ → List ColumnText → Effect
+abbrev pub create_table : StoreState → List ℕ → List ColumnText → Effect
 create_table m t columns =
     check_table (is_some (get m.tables t)) (nat_le table_limit (length (entries m.tables))) t columns
     (Does (with_new_table m t columns) table_created)
 
 -- no check holds
-pub record IsFreeTable (m : State) (t : List ℕ) (columns : List ColumnText) : Type 0 where
+pub record IsFreeTable (m : StoreState) (t : List ℕ) (columns : List ColumnText) : Type 0 where
   pub free : (is_some (get m.tables t) || is_view t) ≡ false
   pub formed : (is_key_first columns && names_differ columns) ≡ true
   pub sized : all_sized columns ≡ true

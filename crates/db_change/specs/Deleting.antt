@@ -2,6 +2,7 @@
 use Rattle.std.specs.Prelude.{ℕ, ℤ, List, [], ◌∷◌, ◌++◌, length, Option, codes, ◌≡◌, refl}
 use Rattle.std.specs.FinMap.{get}
 use Rattle.st_parse.specs.declared.statements.Cond.{Cond}
+use Rattle.ct_entry.specs.Changes.{spell}
 use Rattle.ct_entry.specs.Each.{each}
 use Rattle.ct_entry.specs.Keys.{Key}
 use Rattle.tb_table.specs.declared.columns.Column.{Column}
@@ -14,12 +15,12 @@ use Rattle.db_cond.specs.Faults.{UnknownName}
 use Rattle.db_cond.specs.Lines.{rows_line}
 use Rattle.db_rows.specs.Checking.{check_conds}
 use Rattle.db_rows.specs.Meeting.{meeting_keys}
-use Rattle.db_state.specs.States.{State}
+use Rattle.db_state.specs.States.{StoreState}
 use Rattle.db_state.specs.Effects.{Effect, Does, with_found}
 
 -- The table without these rows, and each index on it without their marks: row by row, since what a settled row wastes in an index is
 -- what its document costs there.
-abbrev pub without_rows : State → List ℕ → List ℤ → State
+abbrev pub without_rows : StoreState → List ℕ → List ℤ → StoreState
 without_rows m t rows = record m {
   tables = tables_after (λ ts r. without_row ts t r) m.tables rows;
   indexes = gone_after (λ ts r. without_row ts t r) m.tables m.indexes t rows;
@@ -28,23 +29,31 @@ without_rows m t rows = record m {
 abbrev pub rows_deleted : ℕ → List ℕ
 rows_deleted rows = rows_line (codes "deleted.\n") rows
 
-abbrev pub delete_rows : State → List ℕ → List ℤ → Effect
+abbrev pub delete_rows : StoreState → List ℕ → List ℤ → Effect
 delete_rows m t rows = Does (without_rows m t rows) (rows_deleted (length rows))
 
-abbrev pub delete_from : State → List ℕ → List Cond → Effect
+abbrev pub delete_from : StoreState → List ℕ → List Cond → Effect
 delete_from m t conds = with_found (get m.tables t) (UnknownName t) (λ (x : Table). check_conds x.columns conds (delete_rows m t (meeting_keys x conds)))
 
 -- ---- what it puts into its batch
 
--- a row goes from its table, and from each of these indexes, where it is the document that the entries before name, or waits
+-- a row goes from an index, where it is the document that the entries before name, or waits
+abbrev pub index_gone_changes : (Key → Option (List ℕ)) → ℤ → List ℕ → List (Key × Option (List ℕ))
+index_gone_changes f r i = gone_changes i r (document_at f i r)
+
+-- a row goes from its table, and from each of these indexes
 abbrev pub gone_row_changes : (Key → Option (List ℕ)) → List ℕ → List Column → List (List ℕ) → ℤ → List (Key × Option (List ℕ))
-gone_row_changes f t columns names r = delete_changes t columns r ++ each (λ i. gone_changes i r (document_at f i r)) names
+gone_row_changes f t columns names r = delete_changes t columns r ++ each (λ i. index_gone_changes f r i) names
 
 abbrev pub gone_rows_changes : (Key → Option (List ℕ)) → List ℕ → List Column → List (List ℕ) → List ℤ → List (Key × Option (List ℕ))
 gone_rows_changes f t columns names rows = each (gone_row_changes f t columns names) rows
 
+-- The batch takes these rows from a table with these columns, and from each of these indexes.
+abbrev pub TakesRows : (Key → Option (List ℕ)) → List ℕ → List Column → List (List ℕ) → List ℤ → List (List ℕ × Option (List ℕ)) → Type 0
+TakesRows f t columns names rows batch = batch ≡ spell (gone_rows_changes f t columns names rows)
+
 -- computed examples: where no row meets the conditions, nothing is changed
-nothing_to_delete : (m : State) (t : List ℕ) → without_rows m t [] ≡ m
+nothing_to_delete : (m : StoreState) (t : List ℕ) → without_rows m t [] ≡ m
 nothing_to_delete m t = refl
 
 no_changes : (f : Key → Option (List ℕ)) (t : List ℕ) (columns : List Column) (names : List (List ℕ)) → gone_rows_changes f t columns names [] ≡ []

@@ -14,17 +14,17 @@ use Rattle.ix_context.specs.Promises.{AreIndexesOn}
 use Rattle.ix_context.specs.Removing.{remove_all_changes}
 use Rattle.ix_context.specs.Drops.{without_indexes_on}
 use Rattle.db_cond.specs.Faults.{UnknownName}
-use Rattle.db_state.specs.States.{State, empty_state}
+use Rattle.db_state.specs.States.{StoreState, empty_state}
 use Rattle.db_state.specs.Effects.{Effect, Does, Refused, with_found}
 
 -- the table is there no more, and with it go its indexes
-abbrev pub with_table_dropped : State → List ℕ → State
+abbrev pub with_table_dropped : StoreState → List ℕ → StoreState
 with_table_dropped m t = record m { tables = without_table m.tables t; indexes = without_indexes_on m.indexes t }
 
 abbrev pub table_dropped : List ℕ
 table_dropped = codes "Table dropped.\n"
 
-abbrev pub drop_table : State → List ℕ → Effect
+abbrev pub drop_table : StoreState → List ℕ → Effect
 drop_table m t = with_found (get m.tables t) (UnknownName t) (λ (x : Table). Does (with_table_dropped m t) table_dropped)
 
 -- ---- what its functions give
@@ -34,7 +34,7 @@ abbrev pub drop_table_changes : List ℕ → Content → List (List ℕ) → Lis
 drop_table_changes t c names = remove_changes t c ++ remove_all_changes c names
 
 -- The batch removes the table, and with it each index on it.
-pub record DropsTable (m : State) (c : Content) (t : List ℕ) (batch : List (List ℕ × Option (List ℕ))) : Type 0 where
+pub record DropsTable (m : StoreState) (c : Content) (t : List ℕ) (batch : List (List ℕ × Option (List ℕ))) : Type 0 where
   pub names : List (List ℕ)
   pub are : AreIndexesOn m.indexes t names
   pub is : batch ≡ spell (drop_table_changes t c names)

@@ -26,15 +26,15 @@ use Rattle.ct_keep.specs.Content.{Content, after}
 use Rattle.tb_table.specs.Spelling.{insert_changes}
 use Rattle.db_state.specs.declared.plans.Plan.{Plan}
 use Rattle.db_state.specs.Plans.{IsPlan}
-use Rattle.db_state.specs.States.{State, Stands}
+use Rattle.db_state.specs.States.{StoreState, StandsForState}
 use Rattle.db_state.specs.Effects.{Effect, Does, refuse, refuse_by, with_found, is_beyond, Refused}
 use Rattle.db_state.specs.Columns.{first_unknown}
 
 -- ---- the list of columns
 
-abbrev pub names_of : Option (List (List ℕ)) → List (List ℕ)
-names_of None = []
-names_of (Some names) = names
+abbrev pub listed_names : Option (List (List ℕ)) → List (List ℕ)
+listed_names None = []
+listed_names (Some names) = names
 
 -- the list names each column once; where there is none all are meant, in their order
 abbrev pub covers : Option (List (List ℕ)) → List Column → Bool
@@ -145,13 +145,13 @@ note_all_changes names r = each (λ i. note_insert_changes i r) names
 -- the checks of the list, in their order
 abbrev pub check_list : List Column → Option (List (List ℕ)) → List Operand → Effect → Effect
 check_list columns names values done =
-    refuse_by (first_unknown (names_of names) columns) UnknownName
+    refuse_by (first_unknown (listed_names names) columns) UnknownName
     (refuse (not (covers names columns) || not (length values == length columns)) WrongValues
     done)
 
 -- the checks of the values in the order of the columns, in their order: whether the table has a row of the key, and whether it has as many rows as it may have
-abbrev pub check_values : Bool → Bool → List Column → List Operand → Effect → Effect
-check_values taken many columns values done =
+abbrev pub check_row_values : Bool → Bool → List Column → List Operand → Effect → Effect
+check_row_values taken many columns values done =
     refuse (not (are_of_sorts columns values)) WrongValues
     (refuse_by (taken_key taken (key_in values)) KeyExists
     (refuse (has_too_long columns values) ValueTooLong
@@ -163,17 +163,17 @@ abbrev pub row_created : List ℕ
 row_created = codes "1 row created.\n"
 
 -- the table has the row, and each index on the table has it among those that wait
-abbrev pub with_new_row : State → List ℕ → ℤ → List Value → State
+abbrev pub with_new_row : StoreState → List ℕ → ℤ → List Value → StoreState
 with_new_row m t r vs = record m { tables = with_row m.tables t r vs; indexes = noted_on m.indexes t r }
 
-abbrev pub insert_row : State → List ℕ → List Operand → ℤ → Effect
+abbrev pub insert_row : StoreState → List ℕ → List Operand → ℤ → Effect
 insert_row m t values r = Does (with_new_row m t r (others_kept values)) row_created
 
 -- Values that pass the checks have a key: the first column of a table is a NUMBER, so the first value is a number, and one out
 -- of range is refused before. So the last OutOfRange here is never reached.
-abbrev pub insert_values : State → List ℕ → Table → List Operand → Effect
+abbrev pub insert_values : StoreState → List ℕ → Table → List Operand → Effect
 insert_values m t x values =
-    check_values (has_row x (key_in values)) (nat_le row_limit (length (entries x.rows))) x.columns values
+    check_row_values (has_row x (key_in values)) (nat_le row_limit (length (entries x.rows))) x.columns values
     (with_found (key_in values) OutOfRange (λ (r : ℤ). insert_row m t values r))
 
 -- no check holds of values in the order of the columns, of which this is the key
@@ -185,7 +185,7 @@ pub record IsFreeRow (x : Table) (values : List Operand) (r : ℤ) : Type 0 wher
   pub within : list_any is_beyond_range values ≡ false
   pub few : nat_le row_limit (length (entries x.rows)) ≡ false
 
-abbrev pub insert_into : State → List ℕ → Option (List (List ℕ)) → List Operand → Effect
+abbrev pub insert_into : StoreState → List ℕ → Option (List (List ℕ)) → List Operand → Effect
 insert_into m t names values =
     with_found (get m.tables t) (UnknownName t) (λ (x : Table).
     check_list x.columns names values
@@ -198,11 +198,11 @@ abbrev pub row_changes : List ℕ → ℤ → List Operand → List (Key × Opti
 row_changes t r values = insert_changes t r (numbers_of (map kept_value values)) (texts_of (map kept_value values))
 
 -- a batch that makes of the content one that stands for the state with the new row
-abbrev pub MakesRow : State → Content → List ℕ → ℤ → List Operand → List (List ℕ × Option (List ℕ)) → Type 0
-MakesRow m c t r values batch = Stands (after batch c) (with_new_row m t r (others_kept values))
+abbrev pub MakesRow : StoreState → Content → List ℕ → ℤ → List Operand → List (List ℕ × Option (List ℕ)) → Type 0
+MakesRow m c t r values batch = StandsForState (after batch c) (with_new_row m t r (others_kept values))
 
 -- what the statement comes to in a table with these columns
-abbrev pub PlansRow : State → Content → Table → List ℕ → List Column → List Operand → Result Plan KeepFault → Type 0
+abbrev pub PlansRow : StoreState → Content → Table → List ℕ → List Column → List Operand → Result Plan KeepFault → Type 0
 PlansRow m c x t columns values result = x.columns ≡ columns → IfOk result (IsPlan (insert_values m t x values) row_created c)
 
 -- computed examples: a table of id NUMBER PRIMARY KEY, title VARCHAR2(3), price NUMBER
@@ -230,26 +230,26 @@ any_order done = refl
 in_order : arranged (Some (codes "price" ∷ codes "id" ∷ codes "title" ∷ [])) title_columns (beyond ∷ one ∷ Text (codes "fox") ∷ []) ≡ one ∷ Text (codes "fox") ∷ beyond ∷ []
 in_order = refl
 
-wrong_sort_and_taken : (done : Effect) → check_values true true title_columns (one ∷ one ∷ one ∷ []) done ≡ Refused WrongValues
+wrong_sort_and_taken : (done : Effect) → check_row_values true true title_columns (one ∷ one ∷ one ∷ []) done ≡ Refused WrongValues
 wrong_sort_and_taken done = refl
 
-taken_and_too_long : (done : Effect) → check_values true true title_columns (one ∷ Text (codes "four") ∷ beyond ∷ []) done ≡ Refused (KeyExists (pos 1))
+taken_and_too_long : (done : Effect) → check_row_values true true title_columns (one ∷ Text (codes "four") ∷ beyond ∷ []) done ≡ Refused (KeyExists (pos 1))
 taken_and_too_long done = refl
 
-too_long_and_beyond : (done : Effect) → check_values false true title_columns (one ∷ Text (codes "four") ∷ beyond ∷ []) done ≡ Refused ValueTooLong
+too_long_and_beyond : (done : Effect) → check_row_values false true title_columns (one ∷ Text (codes "four") ∷ beyond ∷ []) done ≡ Refused ValueTooLong
 too_long_and_beyond done = refl
 
-beyond_and_too_many : (done : Effect) → check_values false true title_columns (one ∷ Text (codes "fox") ∷ beyond ∷ []) done ≡ Refused OutOfRange
+beyond_and_too_many : (done : Effect) → check_row_values false true title_columns (one ∷ Text (codes "fox") ∷ beyond ∷ []) done ≡ Refused OutOfRange
 beyond_and_too_many done = refl
 
-too_many_rows : (done : Effect) → check_values false true title_columns (one ∷ Text (codes "fox") ∷ one ∷ []) done ≡ Refused LimitReached
+too_many_rows : (done : Effect) → check_row_values false true title_columns (one ∷ Text (codes "fox") ∷ one ∷ []) done ≡ Refused LimitReached
 too_many_rows done = refl
 
-a_good_row : (done : Effect) → check_values false false title_columns (one ∷ Text (codes "fox") ∷ one ∷ []) done ≡ done
+a_good_row : (done : Effect) → check_row_values false false title_columns (one ∷ Text (codes "fox") ∷ one ∷ []) done ≡ done
 a_good_row done = refl
 
 -- a key out of range is no key that could be taken
-key_beyond : (done : Effect) → check_values true false title_columns (beyond ∷ Text (codes "fox") ∷ one ∷ []) done ≡ Refused OutOfRange
+key_beyond : (done : Effect) → check_row_values true false title_columns (beyond ∷ Text (codes "fox") ∷ one ∷ []) done ≡ Refused OutOfRange
 key_beyond done = refl
 
 kept : others_kept (one ∷ Text (codes "fox") ∷ one ∷ []) ≡ TextValue (codes "fox") ∷ NumberValue (pos 1) ∷ []

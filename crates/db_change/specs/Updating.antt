@@ -7,6 +7,7 @@ use Rattle.std.specs.FinMap.{get}
 use Rattle.ct_base.specs.declared.lists.Value.{Value}
 use Rattle.ct_base.specs.declared.lists.Value.TheVariants.{Number as NumberValue, Text as TextValue}
 use Rattle.ct_entry.specs.Keys.{Key, at, same_list}
+use Rattle.ct_entry.specs.Changes.{spell}
 use Rattle.ct_entry.specs.Each.{each}
 use Rattle.ct_keep.specs.Content.{Content}
 use Rattle.st_parse.specs.declared.statements.Assign.{Assign}
@@ -31,8 +32,8 @@ use Rattle.db_cond.specs.Lines.{rows_line}
 use Rattle.db_rows.specs.Checking.{cond_columns, fit_columns, has_beyond, sort_of}
 use Rattle.db_rows.specs.Meeting.{meeting_keys}
 use Rattle.db_rows.specs.Values.{row_values}
-use Rattle.db_state.specs.Columns.{first_unknown, place_of}
-use Rattle.db_state.specs.States.{State}
+use Rattle.db_state.specs.Columns.{first_unknown, column_place}
+use Rattle.db_state.specs.States.{StoreState}
 use Rattle.db_state.specs.Effects.{Effect, Does, Refused, refuse, refuse_by, with_found}
 use Rattle.db_change.specs.Inserting.{is_of_sort, is_too_long, is_beyond_range, kept_value, number_value, text_value, IsNumberKept, IsTextKept, IsShortValue}
 
@@ -69,32 +70,36 @@ value_after None value = value
 value_after (Some operand) value = kept_value operand
 
 -- the values of a row behind its key, in the order of their columns: those that are set, and of the other columns those that it has
-abbrev pub values_after : List Column → List Assign → List Value → List Value
-values_after [] assigns vs = []
-values_after (c ∷ columns) assigns [] = []
-values_after (c ∷ columns) assigns (v ∷ vs) = value_after (set_in assigns c.name) v ∷ values_after columns assigns vs
+abbrev pub updated_values : List Column → List Assign → List Value → List Value
+updated_values [] assigns vs = []
+updated_values (c ∷ columns) assigns [] = []
+updated_values (c ∷ columns) assigns (v ∷ vs) = value_after (set_in assigns c.name) v ∷ updated_values columns assigns vs
 
 -- the places of the columns that are set
 abbrev pub places_set : List Column → List Assign → List ℕ
-places_set columns assigns = filter_map (λ (a : Assign). place_of a.column columns) assigns
+places_set columns assigns = filter_map (λ (a : Assign). column_place a.column columns) assigns
 
 -- ---- the statement
+
+-- the key is set, or a column twice, or a value or a condition is of another type than its column
+abbrev pub is_wrong_update : List Column → List Assign → List Cond → Bool
+is_wrong_update columns assigns conds = sets_key columns assigns || has_twice (assign_columns assigns) || not (list_all (of_its_sort is_of_sort columns) assigns) || not (fit_columns columns conds)
 
 -- the checks in their order, of all names first
 abbrev pub check_update : List Column → List Assign → List Cond → Effect → Effect
 check_update columns assigns conds done =
     refuse_by (first_unknown (assign_columns assigns ++ cond_columns conds) columns) UnknownName
-    (refuse (sets_key columns assigns || has_twice (assign_columns assigns) || not (list_all (of_its_sort is_of_sort columns) assigns) || not (fit_columns columns conds)) WrongValues
+    (refuse (is_wrong_update columns assigns conds) WrongValues
     (refuse (list_any (of_its_sort is_too_long columns) assigns) ValueTooLong
     (refuse (list_any (λ (a : Assign). is_beyond_range a.value) assigns || has_beyond conds) OutOfRange
     done)))
 
 -- a row of a table with these columns has the values after
 abbrev pub row_updated : List ℕ → List Column → List Assign → Tables → ℤ → Tables
-row_updated t columns assigns ts r = with_row ts t r (values_after (others columns) assigns (row_values ts t r))
+row_updated t columns assigns ts r = with_row ts t r (updated_values (others columns) assigns (row_values ts t r))
 
 -- Each of these rows has the values after, and waits in each index on a column that is set, also where its text is the same as before.
-abbrev pub with_updates : State → List ℕ → List Column → List Assign → List ℤ → State
+abbrev pub with_updates : StoreState → List ℕ → List Column → List Assign → List ℤ → StoreState
 with_updates m t columns assigns rows = record m {
   tables = tables_after (row_updated t columns assigns) m.tables rows;
   indexes = changed_after (row_updated t columns assigns) m.tables m.indexes t (places_set columns assigns) rows;
@@ -103,10 +108,10 @@ with_updates m t columns assigns rows = record m {
 abbrev pub rows_updated : ℕ → List ℕ
 rows_updated rows = rows_line (codes "updated.\n") rows
 
-abbrev pub update_rows : State → List ℕ → List Column → List Assign → List ℤ → Effect
+abbrev pub update_rows : StoreState → List ℕ → List Column → List Assign → List ℤ → Effect
 update_rows m t columns assigns rows = Does (with_updates m t columns assigns rows) (rows_updated (length rows))
 
-abbrev pub update : State → List ℕ → List Assign → List Cond → Effect
+abbrev pub update : StoreState → List ℕ → List Assign → List Cond → Effect
 update m t assigns conds =
     with_found (get m.tables t) (UnknownName t) (λ (x : Table). check_update x.columns assigns conds (update_rows m t x.columns assigns (meeting_keys x conds)))
 
@@ -148,7 +153,7 @@ texts_set place (c ∷ columns) assigns = cons_option (option_map (λ text. (pla
 abbrev pub named_set : List ℕ → List (List ℕ × IndexHead) → List (List ℕ)
 named_set places heads = filter_map (λ e. if is_column places e.1.target.column then Some e.0 else None) heads
 
-abbrev pub indexes_set : State → List ℕ → List Column → List Assign → List (List ℕ)
+abbrev pub indexes_set : StoreState → List ℕ → List Column → List Assign → List (List ℕ)
 indexes_set m t columns assigns = named_set (places_set columns assigns) (heads_of t (heads m.indexes))
 
 -- a row with these numbers before gets those and the texts that are set; the columns are those behind the key
@@ -159,9 +164,25 @@ value_changes t columns assigns numbers r = insert_changes t r (numbers_after co
 abbrev pub note_changes : Content → List (List ℕ) → ℤ → List (Key × Option (List ℕ))
 note_changes c names r = each (λ i. changed_changes i r (document_at (at c) i r)) names
 
+-- the changes of one row
+abbrev pub row_update_changes : Content → StoreState → List ℕ → List Column → List Assign → List (List ℕ) → ℤ → List (Key × Option (List ℕ))
+row_update_changes c m t columns assigns names r = value_changes t columns assigns (numbers_of (row_values m.tables t r)) r ++ note_changes c names r
+
+-- The batch updates this row of a table with these columns behind the key, and has it wait in these indexes.
+abbrev pub UpdatesRow : Content → StoreState → List ℕ → List Column → List Assign → List (List ℕ) → ℤ → List (List ℕ × Option (List ℕ)) → Type 0
+UpdatesRow c m t columns assigns names r batch = batch ≡ spell (row_update_changes c m t columns assigns names r)
+
 -- the changes of each of these rows
-abbrev pub update_changes : Content → State → List ℕ → List Column → List Assign → List (List ℕ) → List ℤ → List (Key × Option (List ℕ))
-update_changes c m t columns assigns names rows = each (λ r. value_changes t columns assigns (numbers_of (row_values m.tables t r)) r ++ note_changes c names r) rows
+abbrev pub update_changes : Content → StoreState → List ℕ → List Column → List Assign → List (List ℕ) → List ℤ → List (Key × Option (List ℕ))
+update_changes c m t columns assigns names rows = each (λ r. row_update_changes c m t columns assigns names r) rows
+
+-- The same of each of these rows.
+abbrev pub UpdatesRows : Content → StoreState → List ℕ → List Column → List Assign → List (List ℕ) → List ℤ → List (List ℕ × Option (List ℕ)) → Type 0
+UpdatesRows c m t columns assigns names rows batch = batch ≡ spell (update_changes c m t columns assigns names rows)
+
+-- The batch updates these rows of a table with these columns, in each index on a column that is set.
+abbrev pub UpdatesTable : Content → StoreState → List ℕ → List Column → List Assign → List ℤ → List (List ℕ × Option (List ℕ)) → Type 0
+UpdatesTable c m t columns assigns rows batch = UpdatesRows c m t (others columns) assigns (indexes_set m t columns assigns) rows batch
 
 -- computed examples
 abbrev set_price : Operand → Assign
@@ -170,8 +191,11 @@ set_price value = record { column = codes "price"; value = value }
 named_twice : has_twice (codes "price" ∷ codes "body" ∷ codes "price" ∷ []) ≡ true
 named_twice = refl
 
-nothing_to_update : (m : State) (t : List ℕ) (columns : List Column) (assigns : List Assign) → with_updates m t columns assigns [] ≡ m
+nothing_to_update : (m : StoreState) (t : List ℕ) (columns : List Column) (assigns : List Assign) → with_updates m t columns assigns [] ≡ m
 nothing_to_update m t columns assigns = refl
+
+empty_batch : (c : Content) (m : StoreState) (t : List ℕ) (columns : List Column) (assigns : List Assign) → UpdatesTable c m t columns assigns [] []
+empty_batch c m t columns assigns = refl
 
 -- of a text and two numbers behind the key, the first number and no text is set
 abbrev priced : List Column
@@ -183,7 +207,7 @@ its_numbers = refl
 no_text_set : texts_set 1 priced (set_price (Number (Fits (pos 9))) ∷ []) ≡ []
 no_text_set = refl
 
-its_values : values_after priced (set_price (Number (Fits (pos 9))) ∷ []) (TextValue (codes "fox") ∷ NumberValue (pos 3) ∷ NumberValue (pos 4) ∷ []) ≡ TextValue (codes "fox") ∷ NumberValue (pos 9) ∷ NumberValue (pos 4) ∷ []
+its_values : updated_values priced (set_price (Number (Fits (pos 9))) ∷ []) (TextValue (codes "fox") ∷ NumberValue (pos 3) ∷ NumberValue (pos 4) ∷ []) ≡ TextValue (codes "fox") ∷ NumberValue (pos 9) ∷ NumberValue (pos 4) ∷ []
 its_values = refl
 
 -- the checks of a table of id NUMBER PRIMARY KEY, title VARCHAR2(3), price NUMBER

@@ -1,7 +1,7 @@
 //! The values that an UPDATE sets: their checks.
 #![tactic(auto)]
 
-ghost use Rattle.std.specs.Prelude.{◌≡◌, ◌≤◌, ◌++◌, ◌||◌, not, None, true, false, length};
+ghost use Rattle.std.specs.Prelude.{◌≡◌, ◌≤◌, ◌++◌, ◌||◌, None, true, false, length};
 ghost use Rattle.std.specs.Option.{option_map};
 ghost use Rattle.std.specs.List.{list_any, list_all, All};
 ghost use Rattle.ct_base.specs.Limits.{column_limit};
@@ -9,9 +9,9 @@ ghost use Rattle.ct_entry.specs.Keys.{same_list};
 ghost use Rattle.st_parse.specs.declared.statements.Assign.{Assign};
 ghost use Rattle.db_state.specs.Effects.{Effect, Checks};
 ghost use Rattle.db_state.specs.Columns.{first_unknown as unknown_name};
-ghost use Rattle.db_rows.specs.Checking.{cond_columns, fit_columns as all_fit};
+ghost use Rattle.db_rows.specs.Checking.{cond_columns};
 ghost use Rattle.db_change.specs.Inserting.{is_beyond_range, is_of_sort as sort_takes, is_too_long as too_long_for, IsShortValue, IsNumberKept, IsTextKept};
-ghost use Rattle.db_change.specs.Updating.{assign_columns, check_update, has_twice as any_twice, of_its_sort, sets_key as key_is_set, IsShortAssign, IsKeptAssign};
+ghost use Rattle.db_change.specs.Updating.{assign_columns, check_update, has_twice as any_twice, is_wrong_update, of_its_sort, sets_key as key_is_set, IsShortAssign, IsKeptAssign};
 
 use crate::inserting::{is_beyond, is_of_sort, is_too_long};
 use ct_base::{COLUMN_LIMIT, Name};
@@ -155,7 +155,7 @@ fn has_assign_beyond(assigns: &[Assign]) -> bool
 
 /// Whether the key or a column twice is set, or a value or a condition is of another type than its column.
 fn is_wrong(columns: &[Column], assigns: &[Assign], conds: &[Cond]) -> bool
-    ensures { result ≡ (key_is_set columns.now assigns.now || any_twice (assign_columns assigns.now) || not (list_all (of_its_sort sort_takes columns.now) assigns.now) || not (all_fit columns.now conds.now)) }
+    ensures { result ≡ is_wrong_update columns.now assigns.now conds.now }
 {
     sets_key(columns, assigns)
         || has_twice(assigns)

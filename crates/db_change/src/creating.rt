@@ -14,8 +14,8 @@ ghost use Rattle.st_parse.specs.declared.statements.ColumnText.{ColumnText};
 ghost use Rattle.tb_table.specs.Spelling.{table_changes};
 ghost use Rattle.tb_table.specs.declared.columns.Column.{Column};
 ghost use Rattle.db_state.specs.Effects.{Effect, as_count, Checks};
-ghost use Rattle.db_change.specs.Creating.{names_differ as columns_apart, check_table, column_of, all_sized, is_size, create_table as create_table_effect, is_key_first as key_first, is_number as sort_is_number, is_sized as sort_sized, sort_of, table_created};
-ghost use Rattle.db_state.specs.Plans.{IsStorePlan, Plans, Replies, always};
+ghost use Rattle.db_change.specs.Creating.{names_differ as columns_apart, check_table, column_of, all_sized, is_size, create_table as create_table_effect, is_key_first as key_first, is_number_sort as sort_is_number, is_sized as sort_sized, declared_sort, table_created};
+ghost use Rattle.db_state.specs.Plans.{IsStorePlan, Plans, Replies, line_for_all};
 ghost use Rattle.db_state.specs.Shapes.{AcceptsStatements};
 
 use ct_base::{COLUMN_LIMIT, Memory, Name, TEXT_LIMIT};
@@ -26,7 +26,7 @@ use st_parse::{ColumnText, SortText, Whole};
 use std::alloc::Global;
 use tb_table::{Column, Sort, create};
 
-fn is_number(sort: SortText) -> bool
+fn is_number_sort(sort: SortText) -> bool
     ensures { result ≡ sort_is_number sort }
 {
     match sort {
@@ -49,7 +49,7 @@ fn is_key_first(columns: &[ColumnText]) -> bool
     match columns {
         [] => false,
         [first, others @ ..] => {
-            is_number(first.sort) && first.primary && is_none_primary(others)
+            is_number_sort(first.sort) && first.primary && is_none_primary(others)
         }
     }
 }
@@ -135,7 +135,7 @@ fn kept_size(size: Whole) -> u16
 
 /// The type of a column as tables keep it.
 fn kept_sort(sort: SortText) -> Sort
-    ensures { sort_sized sort ≡ true → result ≡ sort_of sort }
+    ensures { sort_sized sort ≡ true → result ≡ declared_sort sort }
 {
     match sort {
         SortText::Number => Sort::Number,
@@ -211,7 +211,7 @@ pub fn create_table<K: Keeper>(
     columns: &[ColumnText],
 ) -> Result<Vec<u8>, KeepFault>
     requires { AcceptsStatements (K.view keeper.old) }
-    ensures { Replies K.view keeper.old keeper.new result (λ m. create_table_effect m table.now columns.now) (Some (always table_created)) }
+    ensures { Replies K.view keeper.old keeper.new result (λ m. create_table_effect m table.now columns.now) (Some (line_for_all table_created)) }
 {
     match table_plan(alloc, keeper, table, columns) {
         Ok(plan) => carry_out(alloc, keeper, plan, b"Table created.\n"),

@@ -8,16 +8,12 @@ ghost use Rattle.ct_entry.specs.Each.{each};
 ghost use Rattle.ct_entry.specs.Keys.{at};
 ghost use Rattle.ct_entry.specs.Changes.{spell};
 ghost use Rattle.ct_entry.specs.Shapes.{AreShaped};
-ghost use Rattle.tb_table.specs.Shapes.{HasTableValue};
-ghost use Rattle.tb_table.specs.Spelling.{delete_changes};
-ghost use Rattle.ix_docmap.specs.Changes.{gone_changes};
-ghost use Rattle.ix_docmap.specs.Readings.{document_at};
 ghost use Rattle.ix_context.specs.Shapes.{HasIndexValue, KeepsShape};
 ghost use Rattle.db_rows.specs.Checking.{check_conds};
 ghost use Rattle.db_state.specs.Effects.{Effect, Checks};
 ghost use Rattle.db_state.specs.Plans.{IsPlanOf, IsRemoval, IsStorePlan, Replies};
 ghost use Rattle.db_state.specs.Shapes.{AcceptsStatements, AreStoreChanges};
-ghost use Rattle.db_change.specs.Deleting.{delete_from as delete_from_effect, gone_row_changes, gone_rows_changes, rows_deleted};
+ghost use Rattle.db_change.specs.Deleting.{delete_from as delete_from_effect, gone_row_changes, index_gone_changes, rows_deleted, TakesRows};
 
 use ct_base::{COLUMN_LIMIT, Memory, Name, RowKey};
 use ct_keep::{Batch, KeepFault, Keeper};
@@ -39,7 +35,7 @@ fn note_gone<K: Keeper>(
     row: RowKey,
 ) -> Result<(), KeepFault>
     requires { (K.view keeper.old).ready }
-    ensures changes { Told K.view keeper.old (λ m. OnOk result (batch.new ≡ batch.old ++ spell (gone_changes index.now row.0 (document_at (at m) index.now row.0)))) }
+    ensures changes { Told K.view keeper.old (λ m. OnOk result (batch.new ≡ batch.old ++ spell (index_gone_changes (at m) row.0 index.now))) }
     ensures shaped { KeepsShape batch.old batch.new result }
     ensures reads { OnlyReads K.view keeper.old keeper.new result }
 {
@@ -59,7 +55,7 @@ fn index_changes<K: Keeper>(
     row: RowKey,
 ) -> Result<Batch, KeepFault>
     requires { (K.view keeper.old).ready }
-    ensures changes { Finds K.view keeper.old result (λ m notes. notes ≡ spell (each (λ i. gone_changes i row.0 (document_at (at m) i row.0)) (map (λ e. e.0) indexes.now))) }
+    ensures changes { Finds K.view keeper.old result (λ m notes. notes ≡ spell (each (λ i. index_gone_changes (at m) row.0 i) (map (λ e. e.0) indexes.now))) }
     ensures shaped { IfOk result (AreShaped HasIndexValue) }
     ensures reads { OnlyReads K.view keeper.old keeper.new result }
 {
@@ -103,7 +99,7 @@ fn rows_changes<K: Keeper>(
 ) -> Result<Batch, KeepFault>
     requires ready { (K.view keeper.old).ready }
     requires few { length columns.now ≤ column_limit }
-    ensures changes { Finds K.view keeper.old result (λ m batch. batch ≡ spell (gone_rows_changes (at m) table.now columns.now (map (λ e. e.0) indexes.now) (map (λ row. row.0) rows.now))) }
+    ensures changes { Finds K.view keeper.old result (λ m. TakesRows (at m) table.now columns.now (map (λ e. e.0) indexes.now) (map (λ row. row.0) rows.now)) }
     ensures shaped { IfOk result AreStoreChanges }
     ensures reads { OnlyReads K.view keeper.old keeper.new result }
 {

@@ -8,7 +8,7 @@ ghost use Rattle.ct_entry.specs.Removals.{OnlyRemoves};
 ghost use Rattle.ix_context.specs.Changes.{Adds};
 ghost use Rattle.ix_context.specs.Removing.{remove_all_changes};
 ghost use Rattle.db_state.specs.States.{OverStates};
-ghost use Rattle.db_state.specs.Plans.{IsRemoval, IsStorePlan, Plans, Replies, always};
+ghost use Rattle.db_state.specs.Plans.{IsRemoval, IsStorePlan, Plans, Replies, line_for_all};
 ghost use Rattle.db_state.specs.Shapes.{AcceptsStatements, AreStoreChanges};
 ghost use Rattle.db_change.specs.Dropping.{DropsTable, drop_table as drop_table_effect, table_dropped};
 
@@ -83,7 +83,7 @@ pub fn drop_table<K: Keeper>(
     table: &Name,
 ) -> Result<Vec<u8>, KeepFault>
     requires { AcceptsStatements (K.view keeper.old) }
-    ensures done { Replies K.view keeper.old keeper.new result (λ m. drop_table_effect m table.now) (Some (always table_dropped)) }
+    ensures done { Replies K.view keeper.old keeper.new result (λ m. drop_table_effect m table.now) (Some (line_for_all table_dropped)) }
     ensures never_full { Told K.view keeper.old (λ m. result ≡ Err KeepFault.Full → ⊥) }
 {
     match drop_plan(alloc, keeper, table) {

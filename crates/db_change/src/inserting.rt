@@ -14,11 +14,11 @@ ghost use Rattle.tb_table.specs.declared.columns.Column.{Column};
 ghost use Rattle.tb_table.specs.Shapes.{HasTableValue};
 ghost use Rattle.tb_table.specs.Tables.{Table, numbers_of, texts_of};
 ghost use Rattle.ix_context.specs.Shapes.{HasIndexValue};
-ghost use Rattle.db_state.specs.States.{OverTable};
+ghost use Rattle.db_state.specs.States.{OverNamedTable};
 ghost use Rattle.db_state.specs.Effects.{Effect, Checks};
 ghost use Rattle.db_state.specs.Columns.{first_unknown as unknown_name};
-ghost use Rattle.db_change.specs.Inserting.{MakesRow, PlansRow, row_changes, are_of_sorts as all_of_sorts, arranged as arranged_values, behind_key as others_of, check_list, check_values, covers as covers_columns, has_row as has_row_of, has_too_long as any_too_long, insert_into as insert_into_effect, is_beyond_range, is_of_sort as sort_takes, is_too_long as too_long_for, key_in as key_of, kept_value, number_value, text_value, IsNumberKept, IsShortValue, IsTextKept, note_all_changes, names_of, row_created, value_under as named_value, IsFreeRow};
-ghost use Rattle.db_state.specs.Plans.{IsStorePlan, Plans, Replies, always};
+ghost use Rattle.db_change.specs.Inserting.{MakesRow, PlansRow, row_changes, are_of_sorts as all_of_sorts, arranged as arranged_values, behind_key as others_of, check_list, check_row_values, covers as covers_columns, has_row as has_row_of, has_too_long as any_too_long, insert_into as insert_into_effect, is_beyond_range, is_of_sort as sort_takes, is_too_long as too_long_for, key_in as key_of, kept_value, number_value, text_value, IsNumberKept, IsShortValue, IsTextKept, note_all_changes, listed_names, row_created, value_under as named_value, IsFreeRow};
+ghost use Rattle.db_state.specs.Plans.{IsStorePlan, Plans, Replies, line_for_all};
 ghost use Rattle.db_state.specs.Shapes.{AcceptsStatements, AreStoreChanges};
 
 use ct_base::{COLUMN_LIMIT, Memory, Name, ROW_LIMIT, RowKey, TEXT_LIMIT, Text};
@@ -47,7 +47,7 @@ fn unknown_column<'a>(names: &'a [Name], columns: &[Column]) -> Option<&'a Name>
 
 /// The names of the list, if there is one.
 fn names_in(names: &Option<ColumnNames>) -> &[Name]
-    ensures { result.now ≡ names_of names.now }
+    ensures { result.now ≡ listed_names names.now }
 {
     match names {
         None => &[],
@@ -259,7 +259,7 @@ fn values_fault(
     columns: &[Column],
     values: &[Operand],
 ) -> Option<Fault<'static>>
-    ensures checks { length columns.now ≤ column_limit → (done : Effect) → Checks result (check_values taken many columns.now values.now done) done }
+    ensures checks { length columns.now ≤ column_limit → (done : Effect) → Checks result (check_row_values taken many columns.now values.now done) done }
     ensures few { result ≡ None → length values.now ≤ column_limit }
     ensures short { result ≡ None → All IsShortValue values.now }
 {
@@ -411,7 +411,7 @@ fn noted_batch<K: Keeper>(
     requires ready { (K.view keeper.old).ready }
     requires few { length values.items ≤ column_limit }
     requires short { All IsShortValue values.items }
-    ensures batch { OverTable K.view keeper.old table.now (λ m c x. IsFreeRow x values.items row.0 → IfOk result (MakesRow m c table.now row.0 values.items)) }
+    ensures batch { OverNamedTable K.view keeper.old table.now (λ m c x. IsFreeRow x values.items row.0 → IfOk result (MakesRow m c table.now row.0 values.items)) }
     ensures entries { IfOk result AreStoreChanges }
     ensures reads { OnlyReads K.view keeper.old keeper.new result }
 {
@@ -431,7 +431,7 @@ fn is_taken<K: Keeper>(
     key: Option<RowKey>,
 ) -> Result<bool, KeepFault>
     requires { (K.view keeper.old).ready }
-    ensures taken { OverTable K.view keeper.old table.now (λ m c x. IfOk result (λ taken. taken ≡ has_row_of x (option_map (λ key. key.0) key))) }
+    ensures taken { OverNamedTable K.view keeper.old table.now (λ m c x. IfOk result (λ taken. taken ≡ has_row_of x (option_map (λ key. key.0) key))) }
     ensures reads { OnlyReads K.view keeper.old keeper.new result }
 {
     match key {
@@ -443,7 +443,7 @@ fn is_taken<K: Keeper>(
 /// Whether the table has as many rows as it may have.
 fn has_most_rows<K: Keeper>(alloc: Global, keeper: &mut K, table: &Name) -> Result<bool, KeepFault>
     requires { (K.view keeper.old).ready }
-    ensures many { OverTable K.view keeper.old table.now (λ m c x. IfOk result (λ many. many ≡ nat_le row_limit (length (entries x.rows)))) }
+    ensures many { OverNamedTable K.view keeper.old table.now (λ m c x. IfOk result (λ many. many ≡ nat_le row_limit (length (entries x.rows)))) }
     ensures reads { OnlyReads K.view keeper.old keeper.new result }
 {
     let count = row_count(alloc, keeper, table)?;
@@ -459,7 +459,7 @@ fn values_plan<'a, K: Keeper>(
     values: Vec<Operand>,
 ) -> Result<Plan<'a>, KeepFault>
     requires { (K.view keeper.old).ready }
-    ensures plan { OverTable K.view keeper.old table.now (λ m c x. PlansRow m c x table.now columns.now values.items result) }
+    ensures plan { OverNamedTable K.view keeper.old table.now (λ m c x. PlansRow m c x table.now columns.now values.items result) }
     ensures entries { IfOk result IsStorePlan }
     ensures reads { OnlyReads K.view keeper.old keeper.new result }
 {
@@ -511,7 +511,7 @@ pub fn insert_into<K: Keeper>(
     values: &[Operand],
 ) -> Result<Vec<u8>, KeepFault>
     requires { AcceptsStatements (K.view keeper.old) }
-    ensures { Replies K.view keeper.old keeper.new result (λ m. insert_into_effect m table.now names.now values.now) (Some (always row_created)) }
+    ensures { Replies K.view keeper.old keeper.new result (λ m. insert_into_effect m table.now names.now values.now) (Some (line_for_all row_created)) }
 {
     match insert_plan(alloc, keeper, table, names, values) {
         Ok(plan) => carry_out(alloc, keeper, plan, b"1 row created.\n"),

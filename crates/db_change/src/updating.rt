@@ -1,7 +1,7 @@
 //! UPDATE.
 #![tactic(auto, using(ct_keep::specs::Composing::reads_on, ct_keep::specs::Composing::reads_short, ct_keep::specs::Composing::accepts_on))]
 
-ghost use Rattle.std.specs.Prelude.{◌≡◌, ◌≤◌, ◌+◌, ◌<◌, ◌++◌, IfOk, OnOk, Some, [], length, map};
+ghost use Rattle.std.specs.Prelude.{◌≡◌, ◌≤◌, ◌<◌, IfOk, Some, [], length, map};
 ghost use Rattle.std.specs.List.{All, filter_map, cons_option};
 ghost use Rattle.std.specs.Option.{option_map, option_and_then};
 ghost use Rattle.ct_base.specs.Limits.{column_limit};
@@ -17,13 +17,11 @@ ghost use Rattle.ix_context.specs.RowSteps.{is_column};
 ghost use Rattle.ix_context.specs.Shapes.{HasIndexValue, KeepsShape};
 ghost use Rattle.tb_table.specs.Rules.{others};
 ghost use Rattle.tb_table.specs.Shapes.{HasTableValue};
-ghost use Rattle.tb_table.specs.Tables.{numbers_of};
-ghost use Rattle.db_rows.specs.Values.{row_values};
-ghost use Rattle.db_state.specs.States.{OverStates, OverTable};
+ghost use Rattle.db_state.specs.States.{OverStates};
 ghost use Rattle.db_state.specs.Plans.{IsPlanOf, IsStorePlan, Replies};
 ghost use Rattle.db_state.specs.Shapes.{AcceptsStatements, AreStoreChanges};
 ghost use Rattle.db_change.specs.Inserting.{number_value, text_value};
-ghost use Rattle.db_change.specs.Updating.{indexes_set as indexes_of_set, named_set as names_on, note_changes, number_set as column_number, numbers_after as numbers_changed, places_set, rows_updated, set_in as value_set, texts_set as texts_changed, update as update_effect, update_changes, value_changes, with_set as numbers_with, IsShortAssign};
+ghost use Rattle.db_change.specs.Updating.{indexes_set as indexes_of_set, named_set as names_on, note_changes, number_set as column_number, numbers_after as numbers_changed, places_set, rows_updated, set_in as value_set, texts_set as texts_changed, update as update_effect, value_changes, with_set as numbers_with, IsShortAssign, UpdatesRow, UpdatesRows, UpdatesTable};
 
 use crate::assigning::update_fault;
 use crate::inserting::{column_of, number_in};
@@ -32,7 +30,7 @@ use ct_keep::{Batch, KeepFault, Keeper};
 use db_cond::{Fault, rows_line};
 use db_names::{IndexHead, indexes_of};
 use db_rows::{row_numbers, rows_meeting};
-use db_state::{Plan, carry_out, place_of, table_columns};
+use db_state::{Plan, carry_out, column_place, table_columns};
 use ix_context::{ContextFault, note_update};
 use st_parse::{Assign, Cond, Operand};
 use std::alloc::Global;
@@ -193,7 +191,7 @@ fn is_place_set(column: u8, columns: &[Column], assigns: &[Assign]) -> bool
     ensures { result ≡ is_column (places_set columns.now assigns.now) column }
 {
     for assign in assigns {
-        if is_at(place_of(&assign.column, columns), column) {
+        if is_at(column_place(&assign.column, columns), column) {
             return true;
         }
     }
@@ -308,7 +306,7 @@ fn row_batch<K: Keeper>(
     requires ready { (K.view keeper.old).ready }
     requires few { length columns.now ≤ column_limit }
     requires short { All IsShortAssign assigns.now }
-    ensures batch { OverStates K.view keeper.old (λ m c. IfOk result (λ batch. batch ≡ spell (value_changes table.now columns.now assigns.now (numbers_of (row_values m.tables table.now row.0)) row.0 ++ note_changes c indexes.now row.0))) }
+    ensures batch { OverStates K.view keeper.old (λ m c. IfOk result (UpdatesRow c m table.now columns.now assigns.now indexes.now row.0)) }
     ensures entries { IfOk result AreStoreChanges }
     ensures reads { OnlyReads K.view keeper.old keeper.new result }
 {
@@ -332,7 +330,7 @@ fn rows_batch<K: Keeper>(
     requires ready { (K.view keeper.old).ready }
     requires few { length columns.now ≤ column_limit }
     requires short { All IsShortAssign assigns.now }
-    ensures batch { OverStates K.view keeper.old (λ m c. IfOk result (λ batch. batch ≡ spell (update_changes c m table.now columns.now assigns.now indexes.now (map (λ row. row.0) rows.now)))) }
+    ensures batch { OverStates K.view keeper.old (λ m c. IfOk result (UpdatesRows c m table.now columns.now assigns.now indexes.now (map (λ r. r.0) rows.now))) }
     ensures entries { IfOk result AreStoreChanges }
     ensures reads { OnlyReads K.view keeper.old keeper.new result }
 {
@@ -356,7 +354,7 @@ fn update_batch<K: Keeper>(
     requires ready { (K.view keeper.old).ready }
     requires few { length columns.now ≤ column_limit }
     requires short { All IsShortAssign assigns.now }
-    ensures batch { OverStates K.view keeper.old (λ m c. IfOk result (λ batch. batch ≡ spell (update_changes c m table.now (others columns.now) assigns.now (indexes_of_set m table.now columns.now assigns.now) (map (λ row. row.0) rows.now)))) }
+    ensures batch { OverStates K.view keeper.old (λ m c. IfOk result (UpdatesTable c m table.now columns.now assigns.now (map (λ r. r.0) rows.now))) }
     ensures entries { IfOk result AreStoreChanges }
     ensures reads { OnlyReads K.view keeper.old keeper.new result }
 {

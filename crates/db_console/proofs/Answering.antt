@@ -10,7 +10,7 @@ use Rattle.ct_keep.specs.Content.{Content}
 use Rattle.ct_keep.specs.declared.keepers.KeepFault.TheVariants as keep_fault
 use Rattle.ct_keep.specs.KeeperViews.{KeeperView, Counts, KeeperSays, SameButContent, Goes, IsLeft, IsDurable, AtMostOneCommit}
 use Rattle.ct_keep.specs.Composing.{same_say_room, reads_none, reads_short, reads_only, reads_failed, passes_as}
-use Rattle.db_state.specs.States.{State, Stands}
+use Rattle.db_state.specs.States.{StoreState, StandsForState}
 use Rattle.db_state.specs.Effects.{Effect, state_by}
 use Rattle.db_engine.specs.Runs.{Piece, statement, Answer, Step, NoMemory, Full, Turn, turn, turn_by, effect_by, IsAllowed}
 use Rattle.db_state.specs.Plans.{StandsBy, Moves}
@@ -21,15 +21,15 @@ use Rattle.db_console.specs.declared.responses.Response.{Response}
 use Rattle.db_console.specs.declared.saying.AnswerFault.{AnswerFault}
 use Rattle.db_console.specs.declared.saying.AnswerFault.TheVariants.{Say, Disk}
 use Rattle.db_console.specs.Worlds.{World, LeavesState, IsMoment, IsPartOf, Answered, CommitsFor}
-use Rattle.db_console.specs.Views.{Shows, Spoke, SpokeInPart, Replied, Halted, LeavesEither, Answers, BrokeOff, BreaksOff}
+use Rattle.db_console.specs.Views.{Shows, Spoke, SpokeInPart, Replied, Halted, LeavesEither, AnswersPiece, BrokeOff, BreaksOff}
 use Rattle.db_console.proofs.Lasting.{faults_kept, faults_said, faults_then, fails_by_disk, frame_kept, frame_said, frame_then}
 
 -- ---- nothing is committed
 
-pub moves_not : (m : State) (effect : Effect) (c : Content) (k : KeeperView) → k.ready → IsDurable k → k.content ≡ Some c → Stands c (state_by m effect) → Moves m effect c k k None
+pub moves_not : (m : StoreState) (effect : Effect) (c : Content) (k : KeeperView) → k.ready → IsDurable k → k.content ≡ Some c → StandsForState c (state_by m effect) → Moves m effect c k k None
 moves_not m effect c k ready settled holds stands = record { next = c; stands = stands; goes = reads_only c k k settled holds (reads_none k ready); same = λ e. refl }
 
-pub moves_short : (m : State) (effect : Effect) (c : Content) (k : KeeperView) → k.ready → IsDurable k → k.content ≡ Some c → Moves m effect c k k (Some keep_fault.Memory)
+pub moves_short : (m : StoreState) (effect : Effect) (c : Content) (k : KeeperView) → k.ready → IsDurable k → k.content ≡ Some c → Moves m effect c k k (Some keep_fault.Memory)
 moves_short m effect c k ready settled holds = record { next = c; stands = refl; goes = reads_failed c c k k keep_fault.Memory settled holds (reads_short k k (reads_none k ready)); same = λ e. refl }
 
 -- ---- the moments of one turn
@@ -42,10 +42,10 @@ module _ (limit : ℕ) (was : World) (t : Turn) where
   reply = (turn limit was.state t).1
 
   -- nothing of the turn was done, or all but what is left to say
-  pub before : (c : Content) (x : Option Content) (w : List ℕ) → x ≡ Some c → Stands c was.state → IsSaid was.said w → IsMoment limit was (t ∷ []) x w
+  pub before : (c : Content) (x : Option Content) (w : List ℕ) → x ≡ Some c → StandsForState c was.state → IsSaid was.said w → IsMoment limit was (t ∷ []) x w
   before c x w is stands said = record { done = []; later = t ∷ []; split = refl; leaves = record { content = c; is = is; stands = stands }; says = nothing_said w said }
 
-  pub after : (c : Content) (x : Option Content) (w : List ℕ) → x ≡ Some c → Stands c (turn limit was.state t).0 → SaysPart was.said reply w → IsMoment limit was (t ∷ []) x w
+  pub after : (c : Content) (x : Option Content) (w : List ℕ) → x ≡ Some c → StandsForState c (turn limit was.state t).0 → SaysPart was.said reply w → IsMoment limit was (t ∷ []) x w
   after c x w is stands said = record { done = t ∷ []; later = []; split = refl; leaves = record { content = c; is = is; stands = stands }; says = says_prefix was.said reply [] w said }
 
   pub unsaid : (w : List ℕ) → IsSaid was.said w → SaysPart was.said reply w
@@ -89,7 +89,7 @@ module _ (limit : ℕ) (piece : Piece) (was : World) (old new : KeeperView) (sho
   replied_by a bytes moves allowed is = replied_with a bytes moves.next moves.stands moves.goes allowed is
 
   -- the disk failed
-  stands_either : (next : Content) (x : Option Content) → Stands next was.state ⊎ Stands next (state_by was.state does) → (x ≡ Some shows.content) ⊎ (x ≡ Some next)
+  stands_either : (next : Content) (x : Option Content) → StandsForState next was.state ⊎ StandsForState next (state_by was.state does) → (x ≡ Some shows.content) ⊎ (x ≡ Some next)
       → LeavesState x was.state ⊎ LeavesState x (turn limit was.state (one Step)).0
   stands_either next x stands left = ⊎_elim
       (λ is. inl (record { content = shows.content; is = is; stands = shows.stands }))
@@ -165,7 +165,7 @@ commits_said : {bytes : List ℕ} (piece : Piece) (old : Counts) (mid new : Keep
 commits_said piece old mid new commits says = subst (CommitsFor piece old) (sym says.apart.counts) commits
 
 -- ---- the answer to a piece, from the response to it and what was said of that
-pub answers_said : (limit : ℕ) (piece : Piece) (bytes : List ℕ) (old mid new : KeeperView) → SameButContent old mid None → ((was : World) → Shows old was → Replied limit piece was old mid bytes) → CommitsFor piece old.counts mid.counts → Spoke false bytes mid new → Answers limit piece old new
+pub answers_said : (limit : ℕ) (piece : Piece) (bytes : List ℕ) (old mid new : KeeperView) → SameButContent old mid None → ((was : World) → Shows old was → Replied limit piece was old mid bytes) → CommitsFor piece old.counts mid.counts → Spoke false bytes mid new → AnswersPiece limit piece old new
 answers_said limit piece bytes old mid new kept r commits s = record {
   unheard = frame_then old mid new (frame_kept old mid None kept) (frame_said false mid new bytes s);
   faults = faults_then false false false old mid new (faults_kept old mid kept) (faults_said false mid new bytes s);

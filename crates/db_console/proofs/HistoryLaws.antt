@@ -10,6 +10,7 @@ use Rattle.ct_base.specs.Told.{IsSaid, SaysPart, took}
 use Rattle.ct_base.specs.laws.Told.{with_suffix-nil}
 use Rattle.ct_base.specs.Moments.{Passes}
 use Rattle.ct_base.specs.laws.Moments.{passes_none}
+use Rattle.ct_base.specs.laws.Options.{same_value}
 use Rattle.ct_site.specs.declared.outside.Failed.{Failed}
 use Rattle.ct_keep.specs.Content.{Content, Change, after}
 use Rattle.ct_keep.specs.KeeperViews.{Counts, SameButContent, Goes, KeeperSays}
@@ -107,9 +108,6 @@ module _ (log : List MadeCommit) (all told : List ℕ) (by_now : AreMadeBy (leng
 
 -- ---- a commit that was made, after which the keeper is this one
 
-some_same : (x y : Content) → Some x ≡ Some y → x ≡ y
-some_same x y e = cc
-
 module _ (s new : KeeperState) (counts : Counts) (state : new ≡ record s { content = new.content; entries = new.entries; counts = counts }) where
   same_said : new.said ≡ s.said
   same_said = ap (λ (x : KeeperState). x.said) state
@@ -133,7 +131,7 @@ module _ (s new : KeeperState) (counts : Counts) (state : new ≡ record s { con
 
     pub goes_made : (commits later : ℕ) (m : Content) → Some (content_after log) ≡ Some m → Goes m (after changes m) (history_view s commits log) (history_view new later (log ++ (changes, length new.said) ∷ [])) None
     goes_made commits later m holds =
-        let before : content_after log ≡ m = some_same (content_after log) m holds in
+        let before : content_after log ≡ m = same_value (content_after log) m holds in
         let now_is : Some (content_after (log ++ (changes, length new.said) ∷ [])) ≡ Some (after changes m) = ap Some (content_from-push empty log (changes, length new.said) ∙ ap (after changes) before) in
         record {
           content = now_is;

@@ -9,10 +9,10 @@ use Rattle.st_cut.specs.Seen.{ShowsText}
 use Rattle.st_parse.specs.Grammar.{Read, NoStatement, Found, read}
 use Rattle.st_parse.specs.Grammar.{Blank}
 use Rattle.db_cond.specs.Faults.{NotUnderstood, StatementTooLong, out_of_memory, not_understood, statement_too_long}
-use Rattle.db_state.specs.States.{State, Stands}
+use Rattle.db_state.specs.States.{StoreState, StandsForState}
 use Rattle.db_state.specs.Effects.{Effect, Refused, state_by, reply_by, is_done}
 use Rattle.db_state.specs.Room.{room}
-use Rattle.db_engine.specs.Steps.{effect_of, is_text, read_bytes, step, rest_of, rest_step}
+use Rattle.db_engine.specs.Steps.{effect_of, is_utf8_text, read_bytes, statement_step, rest_of, rest_step}
 use Rattle.db_engine.specs.Runs.{Answer, Step, NoMemory, Full, statement, rest_piece, answered, can_fill, IsAllowed}
 use Rattle.db_state.specs.Plans.{Moves, HasNoPlace}
 use Rattle.db_engine.specs.Executing.{fault_for}
@@ -27,24 +27,24 @@ use Rattle.db_console.proofs.Answering.{moves_not, moves_short, replied_by, halt
 -- ---- what was read
 
 -- its step, which keeps the state, with nothing to do
-pub reply_still : (m : State) (r : Read) (c : Content) (k : KeeperView) (reply : List ℕ) → k.ready → IsDurable k → k.content ≡ Some c → Stands c m → state_by m (effect_of m r) ≡ m → reply ≡ reply_by (effect_of m r)
+pub reply_still : (m : StoreState) (r : Read) (c : Content) (k : KeeperView) (reply : List ℕ) → k.ready → IsDurable k → k.content ≡ Some c → StandsForState c m → state_by m (effect_of m r) ≡ m → reply ≡ reply_by (effect_of m r)
     → HasReply m r c k k reply
 reply_still m r c k reply ready settled holds stands same is = record {
   answer = Step;
-  moves = moves_not m (effect_of m r) c k ready settled holds (subst (Stands c) (sym same) stands);
+  moves = moves_not m (effect_of m r) c k ready settled holds (subst (StandsForState c) (sym same) stands);
   is = is;
   place = λ e. cc;
   can = λ e. cc;
 }
 
-pub reply_blank : (m : State) (r : Read) (c : Content) (k : KeeperView) → k.ready → IsDurable k → k.content ≡ Some c → Stands c m → r ≡ Blank → HasReply m r c k k []
+pub reply_blank : (m : StoreState) (r : Read) (c : Content) (k : KeeperView) → k.ready → IsDurable k → k.content ≡ Some c → StandsForState c m → r ≡ Blank → HasReply m r c k k []
 reply_blank m r c k ready settled holds stands e = reply_still m r c k [] ready settled holds stands (rw e refl) (rw e refl)
 
-pub reply_no_statement : (m : State) (r : Read) (c : Content) (k : KeeperView) → k.ready → IsDurable k → k.content ≡ Some c → Stands c m → r ≡ NoStatement → HasReply m r c k k not_understood
+pub reply_no_statement : (m : StoreState) (r : Read) (c : Content) (k : KeeperView) → k.ready → IsDurable k → k.content ≡ Some c → StandsForState c m → r ≡ NoStatement → HasReply m r c k k not_understood
 reply_no_statement m r c k ready settled holds stands e = reply_still m r c k not_understood ready settled holds stands (rw e refl) (rw e refl)
 
 -- for want of memory
-pub reply_short : (m : State) (r : Read) (c : Content) (k : KeeperView) → k.ready → IsDurable k → k.content ≡ Some c → HasReply m r c k k out_of_memory
+pub reply_short : (m : StoreState) (r : Read) (c : Content) (k : KeeperView) → k.ready → IsDurable k → k.content ≡ Some c → HasReply m r c k k out_of_memory
 reply_short m r c k ready settled holds = record { answer = NoMemory; moves = moves_short m (effect_of m r) c k ready settled holds; is = refl; place = λ e. cc; can = λ e. cc }
 
 -- ---- the step of a statement
@@ -55,42 +55,42 @@ within_limit n limit h = grind arith
 past_limit : (n limit : ℕ) → limit < n → leb n limit ≡ false
 past_limit n limit h = grind arith
 
-step_within : (limit : ℕ) (m : State) (bytes : List ℕ) → length bytes ≤ limit → step limit m bytes ≡ effect_of m (read_bytes bytes)
+step_within : (limit : ℕ) (m : StoreState) (bytes : List ℕ) → length bytes ≤ limit → statement_step limit m bytes ≡ effect_of m (read_bytes bytes)
 step_within limit m bytes short = rw (within_limit (length bytes) limit short) refl
 
-read_text : (bytes : List ℕ) → is_text bytes ≡ true → read_bytes bytes ≡ read (chars bytes)
+read_text : (bytes : List ℕ) → is_utf8_text bytes ≡ true → read_bytes bytes ≡ read (chars bytes)
 read_text bytes text = rw text refl
 
-read_no_text : (bytes : List ℕ) → is_text bytes ≡ false → read_bytes bytes ≡ NoStatement
+read_no_text : (bytes : List ℕ) → is_utf8_text bytes ≡ false → read_bytes bytes ≡ NoStatement
 read_no_text bytes text = rw text refl
 
-step_past : (limit : ℕ) (m : State) (bytes : List ℕ) → limit < length bytes → step limit m bytes ≡ Refused StatementTooLong
+step_past : (limit : ℕ) (m : StoreState) (bytes : List ℕ) → limit < length bytes → statement_step limit m bytes ≡ Refused StatementTooLong
 step_past limit m bytes long = rw (past_limit (length bytes) limit long) refl
 
-step_no_text : (limit : ℕ) (m : State) (bytes : List ℕ) → length bytes ≤ limit → is_text bytes ≡ false → step limit m bytes ≡ Refused NotUnderstood
+step_no_text : (limit : ℕ) (m : StoreState) (bytes : List ℕ) → length bytes ≤ limit → is_utf8_text bytes ≡ false → statement_step limit m bytes ≡ Refused NotUnderstood
 step_no_text limit m bytes short text = step_within limit m bytes short ∙ ap (effect_of m) (read_no_text bytes text)
 
-step_text : (limit : ℕ) (m : State) (bytes : List ℕ) → length bytes ≤ limit → is_text bytes ≡ true → step limit m bytes ≡ effect_of m (read (chars bytes))
+step_text : (limit : ℕ) (m : StoreState) (bytes : List ℕ) → length bytes ≤ limit → is_utf8_text bytes ≡ true → statement_step limit m bytes ≡ effect_of m (read (chars bytes))
 step_text limit m bytes short text = step_within limit m bytes short ∙ ap (effect_of m) (read_text bytes text)
 
 -- ---- the response to a statement
 
 module _ (limit : ℕ) (ended : List ℕ) (was : World) (old : KeeperView) (shows : Shows old was) where
   -- it is refused
-  replied_refused : (f : Effect) (bytes : List ℕ) → old.ready → IsDurable old → step limit was.state ended ≡ f → state_by was.state f ≡ was.state → bytes ≡ reply_by f → Replied limit (statement ended) was old old bytes
+  replied_refused : (f : Effect) (bytes : List ℕ) → old.ready → IsDurable old → statement_step limit was.state ended ≡ f → state_by was.state f ≡ was.state → bytes ≡ reply_by f → Replied limit (statement ended) was old old bytes
   replied_refused f bytes ready settled e same is =
       replied_by limit (statement ended) was old old shows Step bytes
-      (moves_not was.state (step limit was.state ended) shows.content old ready settled shows.holds (subst (Stands shows.content) (sym same ∙ ap (state_by was.state) (sym e)) shows.stands))
+      (moves_not was.state (statement_step limit was.state ended) shows.content old ready settled shows.holds (subst (StandsForState shows.content) (sym same ∙ ap (state_by was.state) (sym e)) shows.stands))
       tt (is ∙ ap reply_by (sym e))
 
   pub replied_past : old.ready → IsDurable old → limit < length ended → Replied limit (statement ended) was old old statement_too_long
   replied_past ready settled long = replied_refused (Refused StatementTooLong) statement_too_long ready settled (step_past limit was.state ended long) refl refl
 
-  pub replied_no_text : old.ready → IsDurable old → length ended ≤ limit → is_text ended ≡ false → Replied limit (statement ended) was old old not_understood
+  pub replied_no_text : old.ready → IsDurable old → length ended ≤ limit → is_utf8_text ended ≡ false → Replied limit (statement ended) was old old not_understood
   replied_no_text ready settled short text = replied_refused (Refused NotUnderstood) not_understood ready settled (step_no_text limit was.state ended short text) refl refl
 
-  module _ (new : KeeperView) (short : length ended ≤ limit) (text : is_text ended ≡ true) where
-    same_step : effect_of was.state (read (chars ended)) ≡ step limit was.state ended
+  module _ (new : KeeperView) (short : length ended ≤ limit) (text : is_utf8_text ended ≡ true) where
+    same_step : effect_of was.state (read (chars ended)) ≡ statement_step limit was.state ended
     same_step = sym (step_text limit was.state ended short text)
 
     allowed_by : (a : Answer) → (a ≡ Full → HasNoPlace was.state (effect_of was.state (read (chars ended))) old.fixed.limit) → (a ≡ Full → can_fill (read (chars ended)) ≡ true) → IsAllowed limit old.fixed.limit was.state (statement ended) a
@@ -118,17 +118,17 @@ module _ (given : Option (Bor (List ℕ))) (bytes : Bor (List ℕ)) (is : given 
   shown_as : (limit : ℕ) (ended : List ℕ) → ShowsText limit given ended → (bytes.now ≡ ended) × (length ended ≤ limit)
   shown_as limit ended shown = rw is at shown
 
-  pub no_text_given : (old : KeeperView) → old.ready → IsDurable old → is_text bytes.now ≡ false → RepliesToText given not_understood old old
+  pub no_text_given : (old : KeeperView) → old.ready → IsDurable old → is_utf8_text bytes.now ≡ false → RepliesToText given not_understood old old
   no_text_given old ready settled text limit ended shown was w =
       let p : (bytes.now ≡ ended) × (length ended ≤ limit) = shown_as limit ended shown in
-      replied_no_text limit ended was old w ready settled p.1 (subst (λ (xs : List ℕ). is_text xs ≡ false) p.0 text)
+      replied_no_text limit ended was old w ready settled p.1 (subst (λ (xs : List ℕ). is_utf8_text xs ≡ false) p.0 text)
 
-  module _ (text : List ℕ) (found : (is_text bytes.now ≡ true) × (text ≡ bytes.now)) (old new : KeeperView) where
+  module _ (text : List ℕ) (found : (is_utf8_text bytes.now ≡ true) × (text ≡ bytes.now)) (old new : KeeperView) where
     abbrev All : Result Response Stop → Type 0
     All result = RespondsToText text old new result
 
-    of_ended : (ended : List ℕ) → bytes.now ≡ ended → is_text ended ≡ true
-    of_ended ended e = subst (λ (xs : List ℕ). is_text xs ≡ true) e found.0
+    of_ended : (ended : List ℕ) → bytes.now ≡ ended → is_utf8_text ended ≡ true
+    of_ended ended e = subst (λ (xs : List ℕ). is_utf8_text xs ≡ true) e found.0
 
     same_text : (ended : List ℕ) → bytes.now ≡ ended → text ≡ ended
     same_text ended e = found.1 ∙ e
@@ -149,13 +149,13 @@ module _ (given : Option (Bor (List ℕ))) (bytes : Bor (List ℕ)) (is : given 
 
 -- ---- the response to a rest
 
-rest_keeps_read : (m : State) (r : Read) → state_by m (rest_of m r) ≡ m
+rest_keeps_read : (m : StoreState) (r : Read) → state_by m (rest_of m r) ≡ m
 rest_keeps_read m Blank = refl
 rest_keeps_read m NoStatement = refl
 rest_keeps_read m (Found s) = refl
 
 -- it changes nothing
-rest_keeps : (limit : ℕ) (m : State) (bytes : List ℕ) → state_by m (rest_step limit m bytes) ≡ m
+rest_keeps : (limit : ℕ) (m : StoreState) (bytes : List ℕ) → state_by m (rest_step limit m bytes) ≡ m
 rest_keeps limit m bytes = by_test (leb (length bytes) limit) refl
   where
     by_test : (b : Bool) → leb (length bytes) limit ≡ b → state_by m (rest_step limit m bytes) ≡ m
@@ -165,5 +165,5 @@ rest_keeps limit m bytes = by_test (leb (length bytes) limit) refl
 pub replied_rest : (limit : ℕ) (rest bytes : List ℕ) (was : World) (k : KeeperView) → k.ready → IsDurable k → bytes ≡ reply_by (rest_step limit was.state rest) → Shows k was → Replied limit (rest_piece rest) was k k bytes
 replied_rest limit rest bytes was k ready settled is shows =
     replied_by limit (rest_piece rest) was k k shows Step bytes
-    (moves_not was.state (rest_step limit was.state rest) shows.content k ready settled shows.holds (subst (Stands shows.content) (sym (rest_keeps limit was.state rest)) shows.stands))
+    (moves_not was.state (rest_step limit was.state rest) shows.content k ready settled shows.holds (subst (StandsForState shows.content) (sym (rest_keeps limit was.state rest)) shows.stands))
     tt is

@@ -19,7 +19,7 @@ use Rattle.pg_journal.specs.declared.faults.LoadFault.TheVariants.{Memory, Disk,
 use Rattle.pg_journal.specs.Looking.{Loads}
 use Rattle.pg_journal.specs.Recovered.{Alike}
 use Rattle.pg_heap.specs.Heaps.{HeapState, HeapStands}
-use Rattle.pg_heap.specs.Holding.{Recovers}
+use Rattle.pg_map.specs.Holding.{Recovers}
 use Rattle.pg_heap.specs.laws.Recovering.{load_passes, one_recovery}
 use Rattle.pg_keeper.specs.Loading.{HasNoStore}
 use Rattle.pg_keeper.specs.Paged.{told_content}
@@ -159,9 +159,6 @@ pub no_two_stores : (image : List ℕ) (m : Content) → Recovers image (Some m)
 no_two_stores image m is well none = ⊎_elim
     (λ nothing. let e : Some m ≡ None = one_recovery image (Some m) None is nothing in cc)
     (λ other. let e : Some other.0 ≡ Some m = one_recovery image (Some other.0) (Some m) other.1 is in let same : m ≡ other.0 = cc in other.2 (subst (HoldsWell IsStoreEntry) same well)) none
-
-pub some_same : (m n : Content) → Some m ≡ Some n → m ≡ n
-some_same m n e = cc
 
 -- what the status of a load tells of the file
 pub load_tells : (image : List ℕ) (fault : LoadFault) → (fault ≡ NotAStore → HasNoStore IsStoreEntry image) → TellsOfStore image (status_of_load fault)

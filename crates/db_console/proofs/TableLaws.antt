@@ -8,7 +8,7 @@ use Rattle.ct_keep.specs.Content.{Content}
 use Rattle.ct_keep.specs.KeeperViews.{KeeperView, Counts, PassesRoom, IsDurable, TakesAsBefore}
 use Rattle.ct_keep.specs.Composing.{takes_same, takes_then, same_limit, passes_behind, passes_as}
 use Rattle.st_cut.specs.Seen.{Seen, StandsOpen}
-use Rattle.db_state.specs.States.{State, Stands}
+use Rattle.db_state.specs.States.{StoreState, StandsForState}
 use Rattle.db_engine.specs.Runs.{Turn, turn, pieces, state_after, transcript, state_after-append, transcript-append, AllAllowed}
 use Rattle.db_console.specs.declared.saying.AnswerFault.{AnswerFault}
 use Rattle.db_console.specs.declared.saying.AnswerFault.TheVariants.{Say, Disk}
@@ -16,8 +16,8 @@ use Rattle.db_console.specs.declared.endings.Ending.{Ending}
 use Rattle.db_console.specs.declared.endings.Ending.TheVariants.{Done, HearFault, SayFault, NoMemory, DiskFault, PastLimit}
 use Rattle.db_console.specs.Worlds.{World, LeavesState, IsMoment, Leads, Served, ServedTo, CommitsWithin, world_after}
 use Rattle.db_console.specs.Asking.{AskedThen, Calls}
-use Rattle.db_console.specs.Views.{Shows, EndsHere, FaultsAre, NoFault, Heard, FailsBy, Serves, Broke, Breaks, Finishes, UnlessByDisk}
-use Rattle.db_console.specs.Table.{status_of, ending_of, Closes, AreFirst, SaidInPart, FailedInLast, SaidAll, Ends, Course, Because, FaultsBy, Outcome, TellsPast, IsReadyAfter}
+use Rattle.db_console.specs.Views.{Shows, EndsHere, FaultsAre, NoFault, Heard, FailsBy, Serves, Broke, Breaks, ServesEnd, UnlessByDisk}
+use Rattle.db_console.specs.Table.{status_of, ending_of, EndsRun, AreFirst, SaidInPart, FailedInLast, SaidAll, Ends, Course, Because, FaultsBy, Outcome, TellsPast, IsReadyAfter}
 use Rattle.db_console.proofs.Asked.{calls_none, calls_more, calls_same, calls_asked, asked_now, asked_taken, asked_as, asked_turns}
 use Rattle.db_console.proofs.WorldLaws.{pieces-append, served_as, served_on, served_then, served_start, allowed_then, moment_later}
 use Rattle.db_console.proofs.Lasting.{faults_none, faults_then, faults_heard}
@@ -133,7 +133,7 @@ shows_after limit store was now turns new l w = record {
   said = w.said ∙ rw (l.told, l.run.says) refl;
   content = w.content;
   holds = w.holds;
-  stands = subst (Stands w.content) l.run.state w.stands;
+  stands = subst (StandsForState w.content) l.run.state w.stands;
 }
 
 -- what a crash leaves now, where a prefix of all that the turns say was said
@@ -236,7 +236,7 @@ said_in_part limit store whole taken was old new k = record {
     said = k.by.shows.said ∙ rw k.leads.told (with_suffix_twice was.said k.leads.said k.by.part);
     content = k.by.shows.content;
     holds = k.by.shows.holds;
-    stands = subst (Stands k.by.shows.content) (sym (state_last limit store whole Say taken was old new k)) k.by.shows.stands;
+    stands = subst (StandsForState k.by.shows.content) (sym (state_last limit store whole Say taken was old new k)) k.by.shows.stands;
   };
   part = record {
     rest = k.by.reply.rest;
@@ -256,8 +256,8 @@ failed_in_last limit store whole taken was old new k = record {
   first = first limit store whole Disk taken was old new k;
   told = k.by.told ∙ rw (k.leads.told, k.leads.run.says) refl;
   leaves = λ x w n.
-      subst (λ (m : State). LeavesState x m ⊎ LeavesState x (state_after limit was.state (k.turns ++ k.last ∷ []))) k.leads.run.state
-      (subst (λ (m : State). LeavesState x k.mid.state ⊎ LeavesState x m) (sym (state_last limit store whole Disk taken was old new k)) (k.by.now x w n).leaves);
+      subst (λ (m : StoreState). LeavesState x m ⊎ LeavesState x (state_after limit was.state (k.turns ++ k.last ∷ []))) k.leads.run.state
+      (subst (λ (m : StoreState). LeavesState x k.mid.state ⊎ LeavesState x m) (sym (state_last limit store whole Disk taken was old new k)) (k.by.now x w n).leaves);
 }
 
 turns_broken_off : (fault : AnswerFault) (limit most store : ℕ) (whole : Bool) (taken : List ℕ) (was : World) (old new : KeeperView) → store ≡ old.fixed.limit → (whole ≡ true → EndsHere new.beside) → (k : Broke limit store whole fault [] taken was old new)
@@ -316,7 +316,7 @@ out_broke fault limit most taken piece old now new cutter ending s h whole n k e
       (λ h a. asked_turns old.beside.left limit was (s.heard ++ piece) (x.served.served.turns ++ b.turns) (b.last ∷ []) h (asked_turns old.beside.left limit was (s.heard ++ piece) x.served.served.turns b.turns h a))));
 })
 
-out_done : (limit most taken : ℕ) (old now new : KeeperView) (cutter : Seen) → (new.ready → IsDurable new) → Going false limit taken [] old now cutter → taken ≤ most → EndsHere now.beside → Finishes now new cutter → Outcome limit most old new Done
+out_done : (limit most taken : ℕ) (old now new : KeeperView) (cutter : Seen) → (new.ready → IsDurable new) → Going false limit taken [] old now cutter → taken ≤ most → EndsHere now.beside → ServesEnd now new cutter → Outcome limit most old new Done
 unfolding served_on served_as
 out_done limit most taken old now new cutter settled s h n k = record {
   taken = s.heard;
@@ -339,7 +339,7 @@ out_done limit most taken old now new cutter settled s h n k = record {
 }
 
 pub out_closed : (ending : Ending) (limit most taken : ℕ) (old mid now new : KeeperView) (cutter : Seen) → (new.ready → IsDurable new) → Going false limit taken [] old mid cutter → Heard false [] mid now → taken ≤ most → EndsHere now.beside
-    → Closes ending now new cutter → Outcome limit most old new ending
+    → EndsRun ending now new cutter → Outcome limit most old new ending
 out_closed Done limit most taken old mid now new cutter settled s h t n k = out_done limit most taken old now new cutter settled (going_heard false limit taken [] old mid now cutter s h) t n k
 out_closed HearFault limit most taken old mid now new cutter settled s h t n k = absurd k
 out_closed SayFault limit most taken old mid now new cutter settled s h t n k =

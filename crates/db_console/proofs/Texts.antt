@@ -3,13 +3,13 @@ use Rattle.std.proofs.Common.{◌≡◌, ℕ, Bool, true, false, List, Result, O
 use Rattle.std.specs.Result.{MatchResult, result_ok}
 use Rattle.std.specs.Str.{IsUtf8}
 use Rattle.std.proofs.lemmas.Str.{IsUtf8-from_is_utf8, is_utf8-from_IsUtf8}
-use Rattle.db_engine.specs.Steps.{is_text}
+use Rattle.db_engine.specs.Steps.{is_utf8_text}
 use Rattle.db_console.specs.Responses.{IsTextOf}
 
-no_text : (bytes : List ℕ) → ¬ (IsUtf8 bytes) → is_text bytes ≡ false
-no_text bytes none = go (is_text bytes) refl
+no_text : (bytes : List ℕ) → ¬ (IsUtf8 bytes) → is_utf8_text bytes ≡ false
+no_text bytes none = go (is_utf8_text bytes) refl
   where
-    go : (b : Bool) → is_text bytes ≡ b → is_text bytes ≡ false
+    go : (b : Bool) → is_utf8_text bytes ≡ b → is_utf8_text bytes ≡ false
     go true e = absurd (none (IsUtf8-from_is_utf8 bytes e))
     go false e = e
 

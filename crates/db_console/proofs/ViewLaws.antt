@@ -10,7 +10,7 @@ use Rattle.ct_keep.specs.KeeperViews.{KeeperView}
 use Rattle.db_engine.specs.Runs.{Piece, statement, rest_piece, turn_by, pieces}
 use Rattle.db_console.specs.declared.saying.AnswerFault.{AnswerFault}
 use Rattle.db_console.specs.Worlds.{World, HasPieces, Served, ServedTo, Answered, CommitsFor}
-use Rattle.db_console.specs.Views.{Shows, Answers, AnswersText, BrokeOff, BreaksOff, BreaksOffText, Serves, Broke, Breaks, Finishes}
+use Rattle.db_console.specs.Views.{Shows, AnswersPiece, AnswersText, BrokeOff, BreaksOff, BreaksOffText, Serves, Broke, Breaks, ServesEnd}
 use Rattle.db_console.proofs.WorldLaws.{leads_none, leads_then, moments_then, commits_then, commits_turn, pieces_then, pieces-append, served_then, served_open, served_statement, served_last, served_rest, newline_piece, ended_piece, rest_alone}
 use Rattle.db_console.proofs.Lasting.{faults_none, faults_then, frame_none, frame_then, fails_by_then}
 
@@ -144,7 +144,7 @@ serves_statement old new before after text e show answers n = record {
   ready = let x = shown text in (answers x.0 x.1 x.2).ready;
   serves = λ limit held h was w.
       let t : (s : List ℕ) × (first_statement true held ≡ Some (s, [])) = ended_text limit before held h e in
-      let one : Answers limit (statement t.0) old new = answers limit t.0 (show limit held t.0 h t.1) in
+      let one : AnswersPiece limit (statement t.0) old new = answers limit t.0 (show limit held t.0 h t.1) in
       let a : (now : World) × Shows new now × Answered limit old.fixed.limit (statement t.0) was now old new = one.answers was w in
       (a.0, a.1, served_statement limit old.fixed.limit held t.0 was a.0 old new after h.opened t.1 a.2 one.commits (subst (λ (x : ℕ). StandsOpen x after []) h.limited n));
 }
@@ -162,14 +162,14 @@ breaks_statement fault old new before text e show answers = record {
 }
 
 pub finishes_statement : (old new : KeeperView) (before : Seen) (text : Option (Bor (List ℕ))) → is_some before.stop ≡ true → ShowsEnded text before → AnswersText statement text old new
-    → Finishes old new before
+    → ServesEnd old new before
 finishes_statement old new before text e show answers = record {
   unheard = let x = shown text in (answers x.0 x.1 x.2).unheard;
   faults = let x = shown text in (answers x.0 x.1 x.2).faults;
   ready = let x = shown text in (answers x.0 x.1 x.2).ready;
   serves = λ limit held h was w.
       let t : (s : List ℕ) × (first_statement true held ≡ Some (s, [])) = ended_text limit before held h e in
-      let one : Answers limit (statement t.0) old new = answers limit t.0 (show limit held t.0 h t.1) in
+      let one : AnswersPiece limit (statement t.0) old new = answers limit t.0 (show limit held t.0 h t.1) in
       let a : (now : World) × Shows new now × Answered limit old.fixed.limit (statement t.0) was now old new = one.answers was w in
       (a.0, a.1, served_last limit old.fixed.limit held t.0 was a.0 old new t.1 a.2 one.commits);
 }
@@ -187,13 +187,13 @@ breaks_last fault old new before text e show answers = record {
 }
 
 pub finishes_rest : (old new : KeeperView) (before : Seen) (text : Option (Bor (List ℕ))) → is_some before.stop ≡ false → ShowsRest text before → AnswersText rest_piece text old new
-    → Finishes old new before
+    → ServesEnd old new before
 finishes_rest old new before text e show answers = record {
   unheard = let x = shown text in (answers x.0 x.1 x.2).unheard;
   faults = let x = shown text in (answers x.0 x.1 x.2).faults;
   ready = let x = shown text in (answers x.0 x.1 x.2).ready;
   serves = λ limit held h was w.
-      let one : Answers limit (rest_piece held) old new = answers limit held (show limit held h) in
+      let one : AnswersPiece limit (rest_piece held) old new = answers limit held (show limit held h) in
       let a : (now : World) × Shows new now × Answered limit old.fixed.limit (rest_piece held) was now old new = one.answers was w in
       (a.0, a.1, served_rest limit old.fixed.limit held was a.0 old new (no_text limit before held h e) a.2 one.commits);
 }

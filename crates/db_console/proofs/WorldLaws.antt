@@ -13,7 +13,7 @@ use Rattle.ct_keep.specs.KeeperViews.{KeeperView, Counts, AtMostOneCommit}
 use Rattle.st_cut.specs.Cut.{first_statement}
 use Rattle.st_cut.specs.Seen.{Seen, StandsOpen}
 use Rattle.st_cut.proofs.Cuts.{cuts_go_on, open_newline}
-use Rattle.db_state.specs.States.{State}
+use Rattle.db_state.specs.States.{StoreState}
 use Rattle.db_state.specs.Effects.{state_by, reply_by}
 use Rattle.db_engine.specs.Steps.{rest_step}
 use Rattle.db_engine.specs.Runs.{Piece, statement, rest_piece, Step, Turn, turn_by, pieces, state_after, transcript, state_after-append, transcript-append, allowed-append, AllAllowed, Ran}
@@ -21,7 +21,7 @@ use Rattle.db_console.specs.Worlds.{HasPieces, World, LeavesState, IsMoment, Lea
 
 -- ---- turns
 
-ran_then : (limit : ℕ) (old mid new : State) (ts us : List Turn) (a b : List ℕ) → Ran limit old ts mid a → Ran limit mid us new b → Ran limit old (ts ++ us) new (a ++ b)
+ran_then : (limit : ℕ) (old mid new : StoreState) (ts us : List Turn) (a b : List ℕ) → Ran limit old ts mid a → Ran limit mid us new b → Ran limit old (ts ++ us) new (a ++ b)
 ran_then limit old mid new ts us a b r s = record {
   state = s.state ∙ rw r.state (sym (state_after-append limit old ts us));
   says = rw (r.says, s.says, r.state) (sym (transcript-append limit old ts us));
@@ -31,7 +31,7 @@ pub leads_none : (limit store : ℕ) (world : World) → Leads limit store world
 leads_none limit store world = record { said = []; run = record { state = refl; says = refl }; told = sym (with_suffix-nil world.said); allowed = tt }
 
 pub allowed_then : (limit store : ℕ) (old mid : World) (ts us : List Turn) → Leads limit store old ts mid → AllAllowed limit store mid.state us → AllAllowed limit store old.state (ts ++ us)
-allowed_then limit store old mid ts us a h = allowed-append limit store old.state ts us a.allowed (subst (λ (m : State). AllAllowed limit store m us) a.run.state h)
+allowed_then limit store old mid ts us a h = allowed-append limit store old.state ts us a.allowed (subst (λ (m : StoreState). AllAllowed limit store m us) a.run.state h)
 
 pub leads_then : (limit store : ℕ) (old mid new : World) (ts us : List Turn) → Leads limit store old ts mid → Leads limit store mid us new → Leads limit store old (ts ++ us) new
 leads_then limit store old mid new ts us a b = record {
@@ -55,7 +55,7 @@ moment_first limit old ts us x w p = record {
 
 pub moment_later : (limit store : ℕ) (old mid : World) (ts us : List Turn) → Leads limit store old ts mid → (x : Option Content) (w : List ℕ) → IsMoment limit mid us x w → IsMoment limit old (ts ++ us) x w
 moment_later limit store old mid ts us a x w p =
-    let state : state_after limit mid.state p.done ≡ state_after limit old.state (ts ++ p.done) = ap (λ (m : State). state_after limit m p.done) a.run.state ∙ sym (state_after-append limit old.state ts p.done) in
+    let state : state_after limit mid.state p.done ≡ state_after limit old.state (ts ++ p.done) = ap (λ (m : StoreState). state_after limit m p.done) a.run.state ∙ sym (state_after-append limit old.state ts p.done) in
     let says : a.said ++ transcript limit mid.state p.done ≡ transcript limit old.state (ts ++ p.done) =
     rw (a.run.says, a.run.state) (sym (transcript-append limit old.state ts p.done)) in
     record {
@@ -191,11 +191,11 @@ rest_alone held e = rw (append-nil held) (record { statements = []; cut = (e, re
 zero_within : (n : ℕ) → leb 0 n ≡ true
 zero_within n = grind arith
 
-empty_reply : (limit : ℕ) (m : State) → reply_by (rest_step limit m []) ≡ []
+empty_reply : (limit : ℕ) (m : StoreState) → reply_by (rest_step limit m []) ≡ []
 unfolding chars is_utf8 encode
 empty_reply limit m = rw (zero_within limit) refl
 
-empty_state_by : (limit : ℕ) (m : State) → state_by m (rest_step limit m []) ≡ m
+empty_state_by : (limit : ℕ) (m : StoreState) → state_by m (rest_step limit m []) ≡ m
 unfolding chars is_utf8 encode
 empty_state_by limit m = rw (zero_within limit) refl
 

@@ -8,8 +8,8 @@ use Rattle.ct_keep.specs.declared.keepers.KeepFault.TheVariants.{Disk}
 use Rattle.ct_keep.specs.KeeperViews.{KeeperView}
 use Rattle.st_parse.specs.Grammar.{Read, read}
 use Rattle.db_cond.specs.Faults.{not_understood, statement_too_long, store_full, out_of_memory}
-use Rattle.db_state.specs.States.{State, Stands}
-use Rattle.db_engine.specs.Steps.{effect_of, is_text}
+use Rattle.db_state.specs.States.{StoreState, StandsForState}
+use Rattle.db_engine.specs.Steps.{effect_of, is_utf8_text}
 use Rattle.db_engine.specs.Runs.{Answer, Full, answered, can_fill}
 use Rattle.db_state.specs.Plans.{Moves, HasNoPlace}
 use Rattle.db_engine.specs.Executing.{fault_for}
@@ -28,10 +28,10 @@ response_bytes NoMemory = out_of_memory
 
 -- the bytes as a text, or nothing where they are none
 abbrev pub IsTextOf : Option (Bor (List ℕ)) → List ℕ → Type 0
-IsTextOf found bytes = MatchOption found (is_text bytes ≡ false) (λ text. (is_text bytes ≡ true) × (text.now ≡ bytes))
+IsTextOf found bytes = MatchOption found (is_utf8_text bytes ≡ false) (λ text. (is_utf8_text bytes ≡ true) × (text.now ≡ bytes))
 
 -- What was read has this reply.
-pub record HasReply (m : State) (r : Read) (c : Content) (old new : KeeperView) (reply : List ℕ) : Type 0 where
+pub record HasReply (m : StoreState) (r : Read) (c : Content) (old new : KeeperView) (reply : List ℕ) : Type 0 where
   pub answer : Answer
   pub moves : Moves m (effect_of m r) c old new (fault_for answer)
   pub is : reply ≡ (answered answer m (effect_of m r)).1
@@ -39,13 +39,13 @@ pub record HasReply (m : State) (r : Read) (c : Content) (old new : KeeperView) 
   pub can : answer ≡ Full → can_fill r ≡ true
 
 -- the same, or the disk failed
-abbrev pub Responds : State → Read → Content → KeeperView → KeeperView → Result Response Stop → Type 0
+abbrev pub Responds : StoreState → Read → Content → KeeperView → KeeperView → Result Response Stop → Type 0
 Responds m r c old new (Ok response) = HasReply m r c old new (response_bytes response)
 Responds m r c old new (Err DiskStop) = Moves m (effect_of m r) c old new (Some Disk)
 
 -- The response to a text, over each state that the content stands for.
 abbrev pub RespondsToText : List ℕ → KeeperView → KeeperView → Result Response Stop → Type 0
-RespondsToText text old new result = (m : State) (c : Content) → old.content ≡ Some c → Stands c m → Responds m (read (chars text)) c old new result
+RespondsToText text old new result = (m : StoreState) (c : Content) → old.content ≡ Some c → StandsForState c m → Responds m (read (chars text)) c old new result
 
 -- computed examples: what is said where the store is full, and to nothing
 full_line : response_bytes StoreFull ≡ codes "E80: store full\n"

@@ -11,7 +11,7 @@ use Rattle.pg_journal.specs.declared.faults.LoadFault.{LoadFault}
 use Rattle.pg_journal.specs.declared.faults.LoadFault.TheVariants.{Memory, Disk, NotAStore}
 use Rattle.pg_journal.specs.Recovered.{Alike, HasNoOpenGate, IsOnlyRead}
 use Rattle.pg_heap.specs.Heaps.{HeapState}
-use Rattle.pg_heap.specs.Holding.{Recovers}
+use Rattle.pg_map.specs.Holding.{Recovers}
 use Rattle.pg_keeper.specs.Loading.{HasNoStore, StaysAs}
 use Rattle.pg_keeper.specs.Paged.{paged_view}
 use Rattle.db_arguments.specs.Arguments.{AsksFor}

@@ -16,7 +16,7 @@ use Rattle.db_state.specs.laws.Empty.{empty_stands}
 use Rattle.db_engine.specs.Runs.{Piece, Turn, pieces, state_after, transcript, AllAllowed, statement, rest_piece, Step, turn_by}
 use Rattle.db_console.specs.Worlds.{World, HasPieces, LeavesState, IsMoment, IsPartOf, IsPrefixOf, CommitsWithin, world_after, world}
 use Rattle.db_console.specs.Asking.{AskedThen, Calls}
-use Rattle.db_console.specs.Views.{Shows, EndsHere, HearRose, SayRose, FaultsAre, Breaks, Finishes}
+use Rattle.db_console.specs.Views.{Shows, EndsHere, HearRose, SayRose, FaultsAre, Breaks, ServesEnd}
 use Rattle.db_console.specs.declared.endings.Ending.{Ending}
 use Rattle.db_console.specs.declared.endings.Ending.TheVariants.{Done, HearFault, SayFault, NoMemory, DiskFault, PastLimit}
 use Rattle.db_console.specs.declared.saying.AnswerFault.{AnswerFault}
@@ -35,11 +35,11 @@ ending_of Say = SayFault
 ending_of Disk = DiskFault
 
 -- The end of the script was served, and the run ends so.
-abbrev pub Closes : Ending → KeeperView → KeeperView → Seen → Type 0
-Closes Done old new before = Finishes old new before
-Closes SayFault old new before = Breaks true Say [] old new before
-Closes DiskFault old new before = Breaks true Disk [] old new before
-Closes ending old new before = ⊥
+abbrev pub EndsRun : Ending → KeeperView → KeeperView → Seen → Type 0
+EndsRun Done old new before = ServesEnd old new before
+EndsRun SayFault old new before = Breaks true Say [] old new before
+EndsRun DiskFault old new before = Breaks true Disk [] old new before
+EndsRun ending old new before = ⊥
 
 -- ---- what was answered, and what was said of it
 

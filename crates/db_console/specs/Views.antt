@@ -1,5 +1,5 @@
 -- What the console does to what is known of a keeper.
-use Rattle.std.specs.Prelude.{ℕ, ◌≡◌, ◌⊎◌, Bool, true, false, List, [], ◌∷◌, ◌++◌, Option, Some}
+use Rattle.std.specs.Prelude.{ℕ, ◌≡◌, ◌⊎◌, Bool, true, false, List, [], ◌∷◌, ◌++◌, Option, Some, refl}
 use denote.Ref.{Bor}
 use Rattle.ct_base.specs.Causes.{Rose}
 use Rattle.ct_base.specs.Told.{with_suffix, IsNothing, IsSaid}
@@ -8,7 +8,7 @@ use Rattle.ct_site.specs.Disks.{Beside}
 use Rattle.ct_keep.specs.Content.{Content}
 use Rattle.ct_keep.specs.KeeperViews.{KeeperView, TakesAsBefore, KeeperHears, KeeperSays, PassesRoom, IsDurable, counted}
 use Rattle.st_cut.specs.Seen.{Seen, StandsOpen, ShowsText}
-use Rattle.db_state.specs.States.{Stands}
+use Rattle.db_state.specs.States.{StandsForState}
 use Rattle.db_engine.specs.Runs.{Piece, statement, Answer, Step, Turn, turn_by, turn, pieces, IsAllowed}
 use Rattle.db_console.specs.Worlds.{World, HasPieces, LeavesState, IsMoment, Leads, Served, ServedTo, Answered, IsPartOf, CommitsWithin, CommitsFor}
 use Rattle.db_console.specs.declared.saying.AnswerFault.{AnswerFault}
@@ -19,7 +19,7 @@ pub record Shows (view : KeeperView) (world : World) : Type 0 where
   pub said : view.beside.said ≡ world.said
   pub content : Content
   pub holds : view.content ≡ Some content
-  pub stands : Stands content world.state
+  pub stands : StandsForState content world.state
 
 -- the count of faults of hearing, of saying, or of the disk, rose or stands at its last value
 abbrev pub HearRose : Beside → Beside → Type 0
@@ -78,7 +78,7 @@ pub record Replied (limit : ℕ) (piece : Piece) (was : World) (old new : Keeper
   pub is : reply ≡ (turn limit was.state (turn_by piece answer)).1
   pub content : Content
   pub holds : new.content ≡ Some content
-  pub stands : Stands content (turn limit was.state (turn_by piece answer)).0
+  pub stands : StandsForState content (turn limit was.state (turn_by piece answer)).0
   pub moments : Passes old.time new.time (IsMoment limit was (turn_by piece answer ∷ []))
 
 -- what a crash leaves where the disk failed in a turn: the state before it or after it; and nothing of it was said
@@ -92,7 +92,7 @@ pub record Halted (limit : ℕ) (piece : Piece) (was : World) (old new : KeeperV
   pub now : (left : Option Content) (said : List ℕ) → new.now left said → LeavesEither limit was (turn_by piece Step) left said
 
 -- A piece was answered, and the reply was said.
-pub record Answers (limit : ℕ) (piece : Piece) (old new : KeeperView) : Type 0 where
+pub record AnswersPiece (limit : ℕ) (piece : Piece) (old new : KeeperView) : Type 0 where
   pub unheard : HearsNothing old new
   pub faults : NoFault old new
   pub ready : new.ready
@@ -169,7 +169,7 @@ HaltsInText given old new = OverTexts given (λ limit text. OverWorlds old (λ w
 
 -- The piece, a statement or a rest, was answered, and the reply was said.
 abbrev pub AnswersText : (List ℕ → Piece) → Option (Bor (List ℕ)) → KeeperView → KeeperView → Type 0
-AnswersText piece given old new = OverTexts given (λ limit text. Answers limit (piece text) old new)
+AnswersText piece given old new = OverTexts given (λ limit text. AnswersPiece limit (piece text) old new)
 
 -- The answer to it broke off for this fault.
 abbrev pub BreaksOffText : (List ℕ → Piece) → AnswerFault → Option (Bor (List ℕ)) → KeeperView → KeeperView → Type 0
@@ -207,8 +207,15 @@ pub record Breaks (whole : Bool) (fault : AnswerFault) (bytes : List ℕ) (old n
   pub breaks : (limit : ℕ) (held : List ℕ) → StandsOpen limit before held → (was : World) → Shows old was → Broke limit old.fixed.limit whole fault held bytes was old new
 
 -- The end of the script was served.
-pub record Finishes (old new : KeeperView) (before : Seen) : Type 0 where
+pub record ServesEnd (old new : KeeperView) (before : Seen) : Type 0 where
   pub unheard : HearsNothing old new
   pub faults : NoFault old new
   pub ready : new.ready
   pub serves : (limit : ℕ) (held : List ℕ) → StandsOpen limit before held → (was : World) → Shows old was → (now : World) × Shows new now × Served limit old.fixed.limit true held [] was now old new
+
+-- computed examples: nothing is asked where the disk failed, and a fault of saying isn't one of the disk
+nothing_by_disk : UnlessByDisk Disk ⊥
+nothing_by_disk = tt
+
+saying_alone : is_say Say ∷ is_disk Say ∷ is_say Disk ∷ is_disk Disk ∷ [] ≡ true ∷ false ∷ false ∷ true ∷ []
+saying_alone = refl

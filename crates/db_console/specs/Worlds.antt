@@ -14,7 +14,7 @@ use Rattle.ct_keep.specs.Content.{Content}
 use Rattle.ct_keep.specs.KeeperViews.{KeeperView, Counts, AtMostOneCommit}
 use Rattle.st_cut.specs.Cut.{Cuts}
 use Rattle.st_cut.specs.Seen.{Seen, StandsOpen}
-use Rattle.db_state.specs.States.{State, empty_state, Stands}
+use Rattle.db_state.specs.States.{StoreState, empty_state, StandsForState}
 use Rattle.db_engine.specs.Runs.{Piece, statement, rest_piece, Answer, Step, Turn, turn_by, pieces, state_after, transcript, AllAllowed, Ran}
 
 -- all pieces of these statements, and of the rest where the script has ended
@@ -30,7 +30,7 @@ pub record HasPieces (whole : Bool) (script : List ℕ) (all : List Piece) (rest
 
 -- What a turn changes: the state, and the bytes said, where they are told.
 pub record World : Type 0 where
-  pub state : State
+  pub state : StoreState
   pub said : Option (List ℕ)
 
 -- the world after these turns, in which all that they say was said
@@ -51,10 +51,10 @@ pub record CommitsFor (piece : Piece) (old new : Counts) : Type 0 where
   pub none : piece.is_ended ≡ false → new.commits ≡ old.commits
 
 -- What a crash leaves is a content that stands for this state.
-pub record LeavesState (left : Option Content) (m : State) : Type 0 where
+pub record LeavesState (left : Option Content) (m : StoreState) : Type 0 where
   pub content : Content
   pub is : left ≡ Some content
-  pub stands : Stands content m
+  pub stands : StandsForState content m
 
 -- A moment of these turns: a crash leaves the state after some of the first ones, and what was said by then is a prefix of what these say.
 pub record IsMoment (limit : ℕ) (old : World) (turns : List Turn) (left : Option Content) (said : List ℕ) : Type 0 where

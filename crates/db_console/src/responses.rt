@@ -3,7 +3,7 @@
 ghost use Rattle.std.specs.Prelude.{◌≡◌, IfOk, OnErr};
 ghost use Rattle.ct_keep.specs.KeeperViews.{AtMostOneCommit, SameButContent};
 ghost use Rattle.db_state.specs.Shapes.{AcceptsStatements};
-ghost use Rattle.db_state.specs.States.{State};
+ghost use Rattle.db_state.specs.States.{StoreState};
 ghost use Rattle.db_state.specs.Effects.{reply_by};
 ghost use Rattle.db_engine.specs.Steps.{rest_step};
 ghost use Rattle.db_engine.specs.Executing.{fault_of_stop};
@@ -110,7 +110,7 @@ pub fn respond<R: Threads + Sync, K: Keeper>(
 
 /// The response to the rest of a script, which is given where it isn't too long. It takes no memory, and executes nothing.
 pub fn respond_to_rest(text: Option<&[u8]>) -> Response
-    ensures { OverTexts text.entry (λ limit rest. (m : State) → response_bytes result ≡ reply_by (rest_step limit m rest)) }
+    ensures { OverTexts text.entry (λ limit rest. (m : StoreState) → response_bytes result ≡ reply_by (rest_step limit m rest)) }
 {
     let Some(bytes) = text else {
         return Response::TooLong;

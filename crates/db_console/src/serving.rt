@@ -4,8 +4,8 @@ ghost use Rattle.std.specs.Prelude.{◌≡◌, ◌≤◌, ◌<◌, ◌∷◌, []
 ghost use Rattle.ct_base.specs.Told.{took};
 ghost use Rattle.db_state.specs.Shapes.{AcceptsStatements};
 ghost use Rattle.db_engine.specs.Runs.{statement, rest_piece};
-ghost use Rattle.db_console.specs.Views.{AnswersText, Breaks, BreaksOffText, EndsHere, Finishes, Heard, Serves};
-ghost use Rattle.db_console.specs.Table.{Closes, Outcome};
+ghost use Rattle.db_console.specs.Views.{AnswersText, Breaks, BreaksOffText, EndsHere, ServesEnd, Heard, Serves};
+ghost use Rattle.db_console.specs.Table.{EndsRun, Outcome};
 
 use crate::endings::Ending;
 use crate::responses::{respond, respond_to_rest};
@@ -97,7 +97,7 @@ fn finish<R: Threads + Sync, K: Keeper>(
     cutter: &Cutter,
 ) -> Result<(), AnswerFault>
     requires { AcceptsStatements (K.view keeper.old) }
-    ensures served { OnOk result (Finishes (K.view keeper.old) (K.view keeper.new) cutter.now) }
+    ensures served { OnOk result (ServesEnd (K.view keeper.old) (K.view keeper.new) cutter.now) }
     ensures broke { IfErr result (λ fault. Breaks true fault [] (K.view keeper.old) (K.view keeper.new) cutter.now) }
 {
     if cutter.is_ending() {
@@ -115,7 +115,7 @@ fn close<R: Threads + Sync, K: Keeper>(
     cutter: &Cutter,
 ) -> Ending
     requires { AcceptsStatements (K.view keeper.old) }
-    ensures { Closes result (K.view keeper.old) (K.view keeper.new) cutter.now }
+    ensures { EndsRun result (K.view keeper.old) (K.view keeper.new) cutter.now }
 {
     match finish(rt, alloc, degree, keeper, cutter) {
         Ok(()) => Ending::Done,

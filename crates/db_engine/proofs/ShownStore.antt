@@ -22,10 +22,10 @@ use Rattle.ct_keep.specs.Laws.{applied, entries-after}
 use Rattle.ct_entry.specs.declared.kinds.Kind.TheVariants as kind
 use Rattle.ct_entry.specs.Keys.{key, same_list, row_part, document_part, IsRow}
 use Rattle.ct_entry.specs.Maps.{Names, Rows, altered}
-use Rattle.ct_entry.specs.Changes.{KeyChange, spell, put, drop_key}
+use Rattle.ct_entry.specs.Changes.{KeyChange, spell, put_value, drop_key}
 use Rattle.ct_entry.specs.Listings.{key_order}
 use Rattle.ct_entry.specs.laws.Owners.{key_order_total}
-use Rattle.tb_table.specs.Tables.{Table, Tables, docs_columns, keys_in, row_in, text_of, with_table, with_row}
+use Rattle.tb_table.specs.Tables.{Table, Tables, docs_columns, keys_in, row_in, text_in_column, with_table, with_row}
 use Rattle.tb_table.specs.Spelling.{table_changes}
 use Rattle.tb_table.specs.Rules.{FitColumns, others}
 use Rattle.tx_document.specs.declared.entries.Entry.{Entry}
@@ -36,7 +36,7 @@ use Rattle.tx_document.specs.Entries.{entry}
 use Rattle.tx_settings.specs.PrefsBytes.{IsPrefs}
 use Rattle.ix_rows.specs.Stores.{Untidy}
 use Rattle.ix_docmap.specs.Marks.{Mark, Pending, Settled}
-use Rattle.ix_context.specs.Indexes.{Index, Part, OfContext, in_queue, pending_rows, text_seen, in_range, rows_in, made, created_body, all_settled, created, with_index, waiting_on, noted_on, synced_index, synced}
+use Rattle.ix_context.specs.Indexes.{Index, Part, OfContext, in_queue, pending_rows, text_seen, is_key_in, rows_in, made, created_body, all_settled, created, with_index, waiting_on, noted_on, synced_index, synced}
 use Rattle.ct_entry.specs.Listings.{keys_where}
 use Rattle.ix_context.specs.Changes.{entry_change, document_changes, mark_with, sync_rows_changes, sync_changes, create_changes}
 use Rattle.ix_context.specs.Postings.{fox_and_quick}
@@ -47,19 +47,19 @@ use Rattle.st_parse.specs.declared.statements.Arg.TheVariants.{Text as TextArg}
 use Rattle.st_parse.specs.declared.statements.Operand.{Operand}
 use Rattle.st_parse.specs.declared.statements.Statement.TheVariants.{Insert}
 use Rattle.db_names.specs.declared.heads.IndexHead.{IndexHead}
-use Rattle.db_names.specs.Promises.{is_of}
+use Rattle.db_names.specs.Promises.{is_on_table}
 use Rattle.db_cond.specs.Faults.{UnknownName, OutOfRange, LimitReached}
-use Rattle.db_state.specs.Columns.{place_of}
+use Rattle.db_state.specs.Columns.{column_place}
 use Rattle.db_state.specs.Effects.{Effect, Does, refuse, with_found, state_by}
 use Rattle.db_state.specs.Lines.{call_done}
 use Rattle.tx_prefs.specs.Preferences.{no_preferences}
-use Rattle.db_state.specs.States.{State, Stands, empty_state, is_view, index_limit, indexes_on}
+use Rattle.db_state.specs.States.{StoreState, StandsForState, empty_state, is_view, index_limit, indexes_on}
 use Rattle.db_state.specs.Room.{room, its_room}
 use Rattle.db_state.specs.laws.EachValue.{entries-each_value, entries-from_rising}
 use Rattle.db_state.specs.laws.Empty.{empty_stands}
 use Rattle.db_state.specs.laws.Heads.{heads, head_of_index}
 use Rattle.db_change.specs.Creating.{IsFreeTable, check_table, table_created, with_new_table}
-use Rattle.db_change.specs.Inserting.{arranged, check_list, check_values, has_row, insert_row, insert_values, key_in, others_kept, row_created}
+use Rattle.db_change.specs.Inserting.{arranged, check_list, check_row_values, has_row, insert_row, insert_values, key_in, others_kept, row_created}
 use Rattle.db_change.specs.laws.NewTables.{AllNamed, created_table_stands}
 use Rattle.db_change.specs.laws.NewRows.{names_on, new_row_changes, new_row_stands}
 use Rattle.tx_settings.specs.declared.preferences.Prefs.{Prefs}
@@ -122,10 +122,10 @@ indexes_of x = from_sorted ((di, x) ∷ [])
 abbrev indexes_with : ℕ → List (ℤ × Its) → Names Index
 indexes_with given marks = indexes_of (index_with given marks)
 
-abbrev state_with : List (ℤ × List Value) → ℕ → List (ℤ × Its) → State
+abbrev state_with : List (ℤ × List Value) → ℕ → List (ℤ × Its) → StoreState
 state_with rows given marks = record { tables = tables_with rows; indexes = indexes_with given marks; preferences = no_preferences }
 
-abbrev without_index : State
+abbrev without_index : StoreState
 without_index = record { tables = tables_with []; indexes = empty; preferences = no_preferences }
 
 table_there : (rows : List (ℤ × List Value)) → get (tables_with rows) docs ≡ Some (table_with rows)
@@ -165,15 +165,15 @@ first_changes = table_changes docs docs_columns
 abbrev first : Content
 first = after (spell first_changes) empty
 
-first_stands : Stands first without_index
-first_stands = subst (λ (ts : Tables). Stands first (record { tables = ts; indexes = empty; preferences = no_preferences })) tables_created (created_table_stands empty empty_state docs shown_columns empty_stands docs_name columns_named table_free)
+first_stands : StandsForState first without_index
+first_stands = subst (λ (ts : Tables). StandsForState first (record { tables = ts; indexes = empty; preferences = no_preferences })) tables_created (created_table_stands empty empty_state docs shown_columns empty_stands docs_name columns_named table_free)
 
 -- ---- CREATE INDEX di ON docs(body)
 
 no_row_yet : rows_in (tables_with []) docs all_rows ≡ []
 no_row_yet =
-    ap (λ (o : Option Table). filter (in_range all_rows) (keys_in o)) (table_there [])
-    ∙ ap (λ (es : List (ℤ × List Value)). filter (in_range all_rows) (map (λ e. e.0) es)) (entries-from_sorted int_cmp [] tt)
+    ap (λ (o : Option Table). filter (is_key_in all_rows) (keys_in o)) (table_there [])
+    ∙ ap (λ (es : List (ℤ × List Value)). filter (is_key_in all_rows) (map (λ e. e.0) es)) (entries-from_sorted int_cmp [] tt)
 
 index_free : IsFreeIndex without_index di docs (table_with []) 1
 index_free = record {
@@ -197,11 +197,11 @@ indexes_created =
     ∙ ap (λ (marks : Rows Its). indexes_of (index_of 0 marks)) (no_rows Its)
 
 abbrev second_changes : List KeyChange
-second_changes = put (key kind.Indexes di []) (index_bytes docs 1 default_prefs 1) ∷ []
+second_changes = put_value (key kind.Indexes di []) (index_bytes docs 1 default_prefs 1) ∷ []
 
 second_are : create_changes (tables_with []) di (target docs 1) default_prefs all_rows ≡ second_changes
 second_are =
-    ap (λ (rows : List ℤ). put (key kind.Indexes di []) (index_entry (settling rows)) ∷ each (mark_with default_prefs di (text_seen (tables_with []) (created (tables_with []) (target docs 1) default_prefs all_rows))) (numbered 1 rows)) no_row_yet
+    ap (λ (rows : List ℤ). put_value (key kind.Indexes di []) (index_entry (settling rows)) ∷ each (mark_with default_prefs di (text_seen (tables_with []) (created (tables_with []) (target docs 1) default_prefs all_rows))) (numbered 1 rows)) no_row_yet
 
 abbrev second : Content
 second = after (spell second_changes) first
@@ -209,10 +209,10 @@ second = after (spell second_changes) first
 the_defaults_are : IsPrefs default_prefs
 the_defaults_are = record { lexer = refl; can_be = defaults_can_be_set; stop = refl; group = refl; named = refl }
 
-second_stands : Stands second (state_with [] 0 [])
+second_stands : StandsForState second (state_with [] 0 [])
 second_stands =
-    subst (λ (ws : List KeyChange). Stands (after (spell ws) first) (state_with [] 0 [])) second_are
-    (subst (λ (xs : Names Index). Stands (after (spell (create_changes (tables_with []) di (target docs 1) default_prefs all_rows)) first) (record { tables = tables_with []; indexes = xs; preferences = no_preferences })) indexes_created
+    subst (λ (ws : List KeyChange). StandsForState (after (spell ws) first) (state_with [] 0 [])) second_are
+    (subst (λ (xs : Names Index). StandsForState (after (spell (create_changes (tables_with []) di (target docs 1) default_prefs all_rows)) first) (record { tables = tables_with []; indexes = xs; preferences = no_preferences })) indexes_created
     (new_index_stands first without_index di docs (table_with []) 1 default_prefs first_stands di_name the_defaults_are index_free))
 
 -- ---- INSERT INTO docs
@@ -224,7 +224,7 @@ its_names given marks =
     let listed : entries (heads (indexes_with given marks)) ≡ head ∷ [] =
     entries-each_value (slice_cmp nat_cmp) head_of_index nat_list_cmp_total (indexes_with given marks)
     ∙ ap (map {B = List ℕ × IndexHead} (λ (e : List ℕ × Index). (e.0, head_of_index e.1))) (entries-from_sorted (slice_cmp nat_cmp) ((di, index_with given marks) ∷ []) tt) in
-    ap (λ (es : List (List ℕ × IndexHead)). map (λ (e : List ℕ × IndexHead). e.0) (filter (λ (e : List ℕ × IndexHead). is_of docs e.1) es))
+    ap (λ (es : List (List ℕ × IndexHead)). map (λ (e : List ℕ × IndexHead). e.0) (filter (λ (e : List ℕ × IndexHead). is_on_table docs e.1) es))
     (ap (λ (es : List (List ℕ × IndexHead)). entries (from_entries {R = key_order} es)) listed ∙ entries-from_rising key_order key_order_total (head ∷ []) refl)
 
 module _ (rows : List (ℤ × List Value)) (given : ℕ) (marks : List (ℤ × Its)) (r : ℤ) (vs : List Value) (rows_rise : T (is_sorted int_cmp rows)) (marks_rise : T (is_sorted int_cmp marks))
@@ -242,14 +242,14 @@ module _ (rows : List (ℤ × List Value)) (given : ℕ) (marks : List (ℤ × I
       ∙ ap (map {B = List ℕ × Index} (λ (e : List ℕ × Index). (e.0, waiting_on docs r e.1))) (entries-from_sorted (slice_cmp nat_cmp) ((di, index_with given marks) ∷ []) tt))
       ∙ ap (λ (ms : Rows Its). indexes_of (index_of given ms)) (insert_is int_cmp int_cmp_total (from_sorted marks) r Pending marks (entries-from_sorted int_cmp marks marks_rise) then_marks)
 
-  row_stands : (c : Content) → Stands c (state_with rows given marks) → find int_cmp r rows ≡ None → IsRow r → FitColumns (others docs_columns) vs → length rows < 100000
-      → Stands (after (spell (new_row_changes docs r vs (di ∷ []))) c) (state_with (put_pair int_cmp r vs rows) given (put_pair int_cmp r Pending marks))
+  row_stands : (c : Content) → StandsForState c (state_with rows given marks) → find int_cmp r rows ≡ None → IsRow r → FitColumns (others docs_columns) vs → length rows < 100000
+      → StandsForState (after (spell (new_row_changes docs r vs (di ∷ []))) c) (state_with (put_pair int_cmp r vs rows) given (put_pair int_cmp r Pending marks))
   row_stands c stands free row fit few =
       let m = state_with rows given marks in
       let count : length (entries (table_with rows).rows) ≡ length rows = ap length (entries-from_sorted int_cmp rows rows_rise) in
-      subst (λ (names : List (List ℕ)). Stands (after (spell (new_row_changes docs r vs names)) c) (state_with (put_pair int_cmp r vs rows) given (put_pair int_cmp r Pending marks))) (its_names given marks)
-      (subst (λ (ts : Tables). Stands (after (spell (new_row_changes docs r vs (names_on m.indexes docs))) c) (record { tables = ts; indexes = indexes_with given (put_pair int_cmp r Pending marks); preferences = no_preferences })) tables_with_row
-      (subst (λ (xs : Names Index). Stands (after (spell (new_row_changes docs r vs (names_on m.indexes docs))) c) (record { tables = with_row (tables_with rows) docs r vs; indexes = xs; preferences = no_preferences })) indexes_with_note
+      subst (λ (names : List (List ℕ)). StandsForState (after (spell (new_row_changes docs r vs names)) c) (state_with (put_pair int_cmp r vs rows) given (put_pair int_cmp r Pending marks))) (its_names given marks)
+      (subst (λ (ts : Tables). StandsForState (after (spell (new_row_changes docs r vs (names_on m.indexes docs))) c) (record { tables = ts; indexes = indexes_with given (put_pair int_cmp r Pending marks); preferences = no_preferences })) tables_with_row
+      (subst (λ (xs : Names Index). StandsForState (after (spell (new_row_changes docs r vs (names_on m.indexes docs))) c) (record { tables = with_row (tables_with rows) docs r vs; indexes = xs; preferences = no_preferences })) indexes_with_note
       (new_row_stands c m docs (table_with rows) r vs stands (table_there rows) (get-from_sorted int_cmp rows r rows_rise ∙ free) row fit (omega (arith, count, few)))))
 
 abbrev row_one : List Value
@@ -269,7 +269,7 @@ two_fits = ((omega arith, (codes "slow", (refl, refl))), (omega arith, tt))
 abbrev third : Content
 third = after (spell (new_row_changes docs (pos 1) row_one (di ∷ []))) second
 
-third_stands : Stands third (state_with ((pos 1, row_one) ∷ []) 0 ((pos 1, Pending) ∷ []))
+third_stands : StandsForState third (state_with ((pos 1, row_one) ∷ []) 0 ((pos 1, Pending) ∷ []))
 third_stands = row_stands [] 0 [] (pos 1) row_one tt tt tt tt second second_stands refl (omega arith) one_fits (omega arith)
 
 -- ---- EXEC CTX_DDL.SYNC_INDEX('di')
@@ -285,12 +285,12 @@ one_waits = ap (λ (es : List (ℤ × Its)). keys_where in_queue es) (entries-fr
 
 its_text : text_seen (tables_with one_row) waiting (pos 1) ≡ Some (codes "quick fox quick")
 its_text =
-    ap (λ (o : Option Table). option_and_then (λ vs. text_of vs 1) (row_in o (pos 1))) (table_there one_row)
-    ∙ ap (λ (o : Option (List Value)). option_and_then (λ vs. text_of vs 1) o) (get-from_sorted int_cmp one_row (pos 1) tt)
+    ap (λ (o : Option Table). option_and_then (λ vs. text_in_column vs 1) (row_in o (pos 1))) (table_there one_row)
+    ∙ ap (λ (o : Option (List Value)). option_and_then (λ vs. text_in_column vs 1) o) (get-from_sorted int_cmp one_row (pos 1) tt)
 
 abbrev settled_first : List KeyChange
 settled_first =
-    drop_key (key kind.Pending di (row_part (pos 1))) ∷ put (key kind.DocumentRows di (document_part 1)) (row_bytes (pos 1)) ∷ put (key kind.RowDocuments di (row_part (pos 1))) (to_be_bytes w32 1) ∷ []
+    drop_key (key kind.Pending di (row_part (pos 1))) ∷ put_value (key kind.DocumentRows di (document_part 1)) (row_bytes (pos 1)) ∷ put_value (key kind.RowDocuments di (row_part (pos 1))) (to_be_bytes w32 1) ∷ []
 
 abbrev fox : Entry
 fox = entry 0 (codes "fox") (pair 2 2 ∷ [])
@@ -300,14 +300,14 @@ quick = entry 0 (codes "quick") (pair 1 1 ∷ pair 3 3 ∷ [])
 
 abbrev fourth_changes : List KeyChange
 fourth_changes =
-    settled_first ++ entry_change di 1 fox ∷ entry_change di 1 quick ∷ put (key kind.Indexes di []) (index_bytes docs 1 default_prefs 2) ∷ []
+    settled_first ++ entry_change di 1 fox ∷ entry_change di 1 quick ∷ put_value (key kind.Indexes di []) (index_bytes docs 1 default_prefs 2) ∷ []
 
 fourth_are : sync_changes (tables_with one_row) di waiting ≡ fourth_changes
 fourth_are =
     ap (sync_rows_changes (tables_with one_row) di waiting) one_waits
-    ∙ ap (λ (o : Option (List ℕ)). ((drop_key (key kind.Pending di (row_part (pos 1))) ∷ document_changes default_prefs di 1 (pos 1) o) ++ []) ++ put (key kind.Indexes di []) (index_entry (synced_index waiting)) ∷ []) its_text
-    ∙ ap (λ (es : List Entry). ((settled_first ++ map (entry_change di 1) es) ++ []) ++ put (key kind.Indexes di []) (index_entry (synced_index waiting)) ∷ []) fox_and_quick
-    ∙ ap (λ (rs : List ℤ). (settled_first ++ entry_change di 1 fox ∷ entry_change di 1 quick ∷ []) ++ put (key kind.Indexes di []) (index_bytes docs 1 default_prefs ((made (length rs) (part_with 0)).given + 1)) ∷ []) one_waits
+    ∙ ap (λ (o : Option (List ℕ)). ((drop_key (key kind.Pending di (row_part (pos 1))) ∷ document_changes default_prefs di 1 (pos 1) o) ++ []) ++ put_value (key kind.Indexes di []) (index_entry (synced_index waiting)) ∷ []) its_text
+    ∙ ap (λ (es : List Entry). ((settled_first ++ map (entry_change di 1) es) ++ []) ++ put_value (key kind.Indexes di []) (index_entry (synced_index waiting)) ∷ []) fox_and_quick
+    ∙ ap (λ (rs : List ℤ). (settled_first ++ entry_change di 1 fox ∷ entry_change di 1 quick ∷ []) ++ put_value (key kind.Indexes di []) (index_bytes docs 1 default_prefs ((made (length rs) (part_with 0)).given + 1)) ∷ []) one_waits
 
 few_enough : has_too_many waiting ≡ false
 few_enough = ap (λ (rs : List ℤ). nat_lt most_given (0 + length rs)) one_waits
@@ -326,10 +326,10 @@ indexes_synced =
 abbrev fourth : Content
 fourth = after (spell fourth_changes) third
 
-fourth_stands : Stands fourth (state_with one_row 1 ((pos 1, Settled tt) ∷ []))
+fourth_stands : StandsForState fourth (state_with one_row 1 ((pos 1, Settled tt) ∷ []))
 fourth_stands =
-    subst (λ (ws : List KeyChange). Stands (after (spell ws) third) (state_with one_row 1 ((pos 1, Settled tt) ∷ []))) fourth_are
-    (subst (λ (xs : Names Index). Stands (after (spell (sync_changes (tables_with one_row) di waiting)) third) (record { tables = tables_with one_row; indexes = xs; preferences = no_preferences })) indexes_synced
+    subst (λ (ws : List KeyChange). StandsForState (after (spell ws) third) (state_with one_row 1 ((pos 1, Settled tt) ∷ []))) fourth_are
+    (subst (λ (xs : Names Index). StandsForState (after (spell (sync_changes (tables_with one_row) di waiting)) third) (record { tables = tables_with one_row; indexes = xs; preferences = no_preferences })) indexes_synced
     (synced_stands third (state_with one_row 0 ((pos 1, Pending) ∷ [])) di waiting third_stands (index_there 0 ((pos 1, Pending) ∷ [])) few_enough))
 
 -- ---- INSERT INTO docs once more
@@ -337,7 +337,7 @@ fourth_stands =
 abbrev fifth : Content
 fifth = after (spell (new_row_changes docs (pos 2) row_two (di ∷ []))) fourth
 
-fifth_stands : Stands fifth shown_state
+fifth_stands : StandsForState fifth shown_state
 fifth_stands = row_stands one_row 1 ((pos 1, Settled tt) ∷ []) (pos 2) row_two tt tt tt tt fourth fourth_stands refl (omega arith) two_fits (omega arith)
 
 -- ---- the entries then
@@ -362,7 +362,7 @@ table_is_created =
 index_is_created : effect without_index index_statement ≡ Does (state_with [] 0 []) index_created
 index_is_created =
     let done : Prefs → Effect = λ prefs. Does (with_new_index without_index di docs 1 prefs) index_created in
-    ap (λ (o : Option Table). with_found o (UnknownName docs) (λ (x : Table). with_found (place_of (codes "body") x.columns) (UnknownName (codes "body")) (λ (place : ℕ). create_index_by without_index di docs (requests_in None) x place))) (table_there [])
+    ap (λ (o : Option Table). with_found o (UnknownName docs) (λ (x : Table). with_found (column_place (codes "body") x.columns) (UnknownName (codes "body")) (λ (place : ℕ). create_index_by without_index di docs (requests_in None) x place))) (table_there [])
     ∙ ap (λ (b : Bool). check_index b true (Some default_prefs) (nat_le index_limit (length (indexes_on without_index.indexes docs)) || has_too_many_rows without_index docs) di done) index_free.free
     ∙ ap (λ (b : Bool). check_index false true (Some default_prefs) b di done) index_free.few
     ∙ ap (λ (xs : Names Index). Does (record { tables = tables_with []; indexes = xs; preferences = no_preferences }) index_created) indexes_created
@@ -370,7 +370,7 @@ index_is_created =
 module _ (rows : List (ℤ × List Value)) (given : ℕ) (marks : List (ℤ × Its)) (r : ℤ) (values : List Operand) (rows_rise : T (is_sorted int_cmp rows)) (marks_rise : T (is_sorted int_cmp marks))
     (then_rows : T (is_sorted int_cmp (put_pair int_cmp r (others_kept values) rows))) (then_marks : T (is_sorted int_cmp (put_pair int_cmp r Pending marks))) where
   row_is_inserted : key_in values ≡ Some r → find int_cmp r rows ≡ None → nat_le row_limit (length rows) ≡ false
-      → ((done : Effect) → check_list docs_columns None values done ≡ done) → ((done : Effect) → check_values false false docs_columns values done ≡ done)
+      → ((done : Effect) → check_list docs_columns None values done ≡ done) → ((done : Effect) → check_row_values false false docs_columns values done ≡ done)
       → effect (state_with rows given marks) (Insert docs None values) ≡ Does (state_with (put_pair int_cmp r (others_kept values) rows) given (put_pair int_cmp r Pending marks)) row_created
   row_is_inserted key free few listed checked =
       let m = state_with rows given marks in
@@ -378,10 +378,10 @@ module _ (rows : List (ℤ × List Value)) (given : ℕ) (marks : List (ℤ × I
       let done = insert_row m docs values r in
       ap (λ (o : Option Table). with_found o (UnknownName docs) (λ (x : Table). check_list x.columns None values (insert_values m docs x (arranged None x.columns values)))) (table_there rows)
       ∙ listed (insert_values m docs x values)
-      ∙ ap (λ (o : Option ℤ). check_values (has_row x o) (nat_le row_limit (length (entries x.rows))) docs_columns values (with_found o OutOfRange (λ (r : ℤ). insert_row m docs values r))) key
-      ∙ ap (λ (o : Option (List Value)). check_values (is_some o) (nat_le row_limit (length (entries x.rows))) docs_columns values done) (get-from_sorted int_cmp rows r rows_rise ∙ free)
-      ∙ ap (λ (es : List (ℤ × List Value)). check_values false (nat_le row_limit (length es)) docs_columns values done) (entries-from_sorted int_cmp rows rows_rise)
-      ∙ ap (λ (b : Bool). check_values false b docs_columns values done) few
+      ∙ ap (λ (o : Option ℤ). check_row_values (has_row x o) (nat_le row_limit (length (entries x.rows))) docs_columns values (with_found o OutOfRange (λ (r : ℤ). insert_row m docs values r))) key
+      ∙ ap (λ (o : Option (List Value)). check_row_values (is_some o) (nat_le row_limit (length (entries x.rows))) docs_columns values done) (get-from_sorted int_cmp rows r rows_rise ∙ free)
+      ∙ ap (λ (es : List (ℤ × List Value)). check_row_values false (nat_le row_limit (length es)) docs_columns values done) (entries-from_sorted int_cmp rows rows_rise)
+      ∙ ap (λ (b : Bool). check_row_values false b docs_columns values done) few
       ∙ checked done
       ∙ ap (λ (ts : Tables). Does (record { tables = ts; indexes = noted_on (indexes_with given marks) docs r; preferences = no_preferences }) row_created) (tables_with_row rows given marks r (others_kept values) rows_rise marks_rise then_rows then_marks)
       ∙ ap (λ (xs : Names Index). Does (record { tables = tables_with (put_pair int_cmp r (others_kept values) rows); indexes = xs; preferences = no_preferences }) row_created) (indexes_with_note rows given marks r (others_kept values) rows_rise marks_rise then_rows then_marks)
@@ -404,8 +404,8 @@ it_is_led_to =
 
 -- ---- and so the store
 
-pub it_stands : Stands shown_store shown_state
-it_stands = subst (λ (c : Content). Stands c shown_state) (map_is (slice_cmp nat_cmp) nat_list_cmp_total fifth shown_entries tt its_entries) fifth_stands
+pub it_stands : StandsForState shown_store shown_state
+it_stands = subst (λ (c : Content). StandsForState c shown_state) (map_is (slice_cmp nat_cmp) nat_list_cmp_total fifth shown_entries tt its_entries) fifth_stands
 
 pub it_weighs : weight shown_store ≡ 704
 it_weighs = ap (sum_by entry_weight) (entries-from_sorted (slice_cmp nat_cmp) shown_entries tt)

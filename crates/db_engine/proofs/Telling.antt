@@ -18,7 +18,7 @@ use Rattle.db_index.specs.Dropping.{index_dropped}
 use Rattle.db_state.specs.Lines.{call_done}
 use Rattle.db_engine.specs.Steps.{is_built_index}
 use Rattle.db_engine.specs.Executing.{done_line, is_fixed, Tells}
-use Rattle.db_state.specs.Plans.{DoneLines, always, Returns}
+use Rattle.db_state.specs.Plans.{DoneLines, line_for_all, Returns}
 use Rattle.db_engine.specs.declared.replies.Reply.TheVariants.{Text as ReplyText}
 
 -- ---- lines
@@ -74,14 +74,14 @@ if_some false line done is = cc
 -- and no change is said to be made by that line
 pub not_done : (s : Statement) (done : DoneLines) (rows : ℕ) → done_line s ≡ Some done → done rows ≡ store_full → ⊥
 unfolding second before_last
-not_done (CreateTable name columns) done rows is full = let line : always table_created ≡ done = cc in let e : 97 ≡ 56 = ap second (ap (λ (l : DoneLines). l rows) line ∙ full) in omega (arith, e)
-not_done (CreateIndex name table column kind parameters parallel) done rows is full = let e : 110 ≡ 56 = ap second (ap (λ (l : DoneLines). l rows) (if_some (is_built_index kind parallel) (always index_created) done is) ∙ full) in omega (arith, e)
-not_done (Insert table columns values) done rows is full = let line : always row_created ≡ done = cc in let e : 32 ≡ 56 = ap second (ap (λ (l : DoneLines). l rows) line ∙ full) in omega (arith, e)
+not_done (CreateTable name columns) done rows is full = let line : line_for_all table_created ≡ done = cc in let e : 97 ≡ 56 = ap second (ap (λ (l : DoneLines). l rows) line ∙ full) in omega (arith, e)
+not_done (CreateIndex name table column kind parameters parallel) done rows is full = let e : 110 ≡ 56 = ap second (ap (λ (l : DoneLines). l rows) (if_some (is_built_index kind parallel) (line_for_all index_created) done is) ∙ full) in omega (arith, e)
+not_done (Insert table columns values) done rows is full = let line : line_for_all row_created ≡ done = cc in let e : 32 ≡ 56 = ap second (ap (λ (l : DoneLines). l rows) line ∙ full) in omega (arith, e)
 not_done (Exec PolicyTokens args) done rows is full = cc
-not_done (Exec SyncIndex args) done rows is full = let line : always call_done ≡ done = cc in let e : 76 ≡ 56 = ap second (ap (λ (l : DoneLines). l rows) line ∙ full) in omega (arith, e)
-not_done (Exec (Define definition) args) done rows is full = let line : always call_done ≡ done = cc in let e : 76 ≡ 56 = ap second (ap (λ (l : DoneLines). l rows) line ∙ full) in omega (arith, e)
-not_done (DropTable name) done rows is full = let line : always table_dropped ≡ done = cc in let e : 97 ≡ 56 = ap second (ap (λ (l : DoneLines). l rows) line ∙ full) in omega (arith, e)
-not_done (DropIndex name) done rows is full = let line : always index_dropped ≡ done = cc in let e : 110 ≡ 56 = ap second (ap (λ (l : DoneLines). l rows) line ∙ full) in omega (arith, e)
+not_done (Exec SyncIndex args) done rows is full = let line : line_for_all call_done ≡ done = cc in let e : 76 ≡ 56 = ap second (ap (λ (l : DoneLines). l rows) line ∙ full) in omega (arith, e)
+not_done (Exec (Define definition) args) done rows is full = let line : line_for_all call_done ≡ done = cc in let e : 76 ≡ 56 = ap second (ap (λ (l : DoneLines). l rows) line ∙ full) in omega (arith, e)
+not_done (DropTable name) done rows is full = let line : line_for_all table_dropped ≡ done = cc in let e : 97 ≡ 56 = ap second (ap (λ (l : DoneLines). l rows) line ∙ full) in omega (arith, e)
+not_done (DropIndex name) done rows is full = let line : line_for_all index_dropped ≡ done = cc in let e : 110 ≡ 56 = ap second (ap (λ (l : DoneLines). l rows) line ∙ full) in omega (arith, e)
 not_done (Update table assigns conds) done rows is full = let lines : rows_updated ≡ done = cc in ends_otherwise _ 117 112 100 (codes "ated.\n") refl (ap (λ (l : DoneLines). l rows) lines ∙ full)
 not_done (Delete table conds) done rows is full = let lines : rows_deleted ≡ done = cc in ends_otherwise _ 100 101 108 (codes "eted.\n") refl (ap (λ (l : DoneLines). l rows) lines ∙ full)
 not_done (Select list table preds orders) done rows is full = cc
@@ -94,7 +94,7 @@ if_none false line is = refl
 
 pub fixed_looks : (s : Statement) → is_fixed s ≡ true → done_line s ≡ None
 fixed_looks (CreateTable name columns) is = cc
-fixed_looks (CreateIndex name table column kind parameters parallel) is = if_none (is_built_index kind parallel) (always index_created) is
+fixed_looks (CreateIndex name table column kind parameters parallel) is = if_none (is_built_index kind parallel) (line_for_all index_created) is
 fixed_looks (Insert table columns values) is = cc
 fixed_looks (Exec PolicyTokens args) is = refl
 fixed_looks (Exec SyncIndex args) is = cc

@@ -14,7 +14,7 @@ use Rattle.st_parse.specs.declared.procedures.Procedure.TheVariants.{PolicyToken
 use Rattle.st_parse.specs.declared.statements.Statement.{Statement}
 use Rattle.st_parse.specs.declared.statements.Statement.TheVariants.{CreateTable, DropTable, DropIndex, CreateIndex, Insert, Update, Delete, Select, Exec, Commit}
 use Rattle.db_cond.specs.Faults.{store_full}
-use Rattle.db_state.specs.States.{State, Stands}
+use Rattle.db_state.specs.States.{StoreState, StandsForState}
 use Rattle.db_state.specs.Effects.{Effect, reply_by}
 use Rattle.db_change.specs.Creating.{table_created}
 use Rattle.db_index.specs.Indexing.{index_created}
@@ -31,7 +31,7 @@ use Rattle.db_engine.specs.declared.replies.Reply.{Reply}
 use Rattle.db_engine.specs.declared.replies.Reply.TheVariants.{Text as ReplyText, Full as ReplyFull, NoMemory as ReplyNoMemory}
 use Rattle.db_engine.specs.declared.replies.Stop.{Stop}
 use Rattle.db_engine.specs.declared.replies.Stop.TheVariants.{Disk as DiskStop}
-use Rattle.db_state.specs.Plans.{DoneLines, always, Moves, HasNoPlace, CommitsOnce, ContentStays, IsMade, IsRefused}
+use Rattle.db_state.specs.Plans.{DoneLines, line_for_all, Moves, HasNoPlace, CommitsOnce, ContentStays, IsMade, IsRefused}
 
 -- ---- the answers of `execute`
 
@@ -54,7 +54,7 @@ IsReplyBy Full effect ReplyFull = Unit {0}
 IsReplyBy Full effect ReplyNoMemory = ⊥
 
 -- A statement with this effect was answered. `may` tells whether it may fill the store.
-pub record IsAnswered (m : State) (effect : Effect) (may : Bool) (c : Content) (old new : KeeperView) (reply : Reply) : Type 0 where
+pub record IsAnswered (m : StoreState) (effect : Effect) (may : Bool) (c : Content) (old new : KeeperView) (reply : Reply) : Type 0 where
   pub answer : Answer
   pub moves : Moves m effect c old new (fault_for answer)
   pub says : IsReplyBy answer effect reply
@@ -62,13 +62,13 @@ pub record IsAnswered (m : State) (effect : Effect) (may : Bool) (c : Content) (
   pub may_fill : answer ≡ Full → may ≡ true
   pub fulls : answer ≡ Full → Rose old.counts.fulls new.counts.fulls
 
-abbrev pub Executes : State → Effect → Bool → Content → KeeperView → KeeperView → Result Reply Stop → Type 0
+abbrev pub Executes : StoreState → Effect → Bool → Content → KeeperView → KeeperView → Result Reply Stop → Type 0
 Executes m effect may c old new (Ok reply) = IsAnswered m effect may c old new reply
 Executes m effect may c old new (Err DiskStop) = Moves m effect c old new (Some Disk)
 
 -- The statement was answered so over each state that the content stands for, where it is told.
 abbrev pub ExecutesStatement : Statement → KeeperView → KeeperView → Result Reply Stop → Type 0
-ExecutesStatement s old new result = (m : State) (c : Content) → old.content ≡ Some c → Stands c m → Executes m (effect m s) (may_fill s) c old new result
+ExecutesStatement s old new result = (m : StoreState) (c : Content) → old.content ≡ Some c → StandsForState c m → Executes m (effect m s) (may_fill s) c old new result
 
 abbrev pub fault_of_stop : {T : Type 0} → Result T Stop → Option KeepFault
 fault_of_stop (Ok x) = None
@@ -78,22 +78,22 @@ fault_of_stop (Err DiskStop) = Some Disk
 
 -- the lines by which CREATE INDEX, where it is built, and the call of a procedure say that their change is made
 abbrev pub index_line : Bool → Option DoneLines
-index_line built = if built then Some (always index_created) else None
+index_line built = if built then Some (line_for_all index_created) else None
 
 abbrev pub call_line : Procedure → Option DoneLines
 call_line PolicyTokens = None
-call_line SyncIndex = Some (always call_done)
-call_line (Define definition) = Some (always call_done)
+call_line SyncIndex = Some (line_for_all call_done)
+call_line (Define definition) = Some (line_for_all call_done)
 
 -- The lines by which a statement says that its change is made. None where it changes nothing: it only looks, is COMMIT, or is refused since it isn't built yet.
 abbrev pub done_line : Statement → Option DoneLines
-done_line (CreateTable name columns) = Some (always table_created)
+done_line (CreateTable name columns) = Some (line_for_all table_created)
 done_line (CreateIndex name table column kind parameters parallel) = index_line (is_built_index kind parallel)
-done_line (Insert table columns values) = Some (always row_created)
+done_line (Insert table columns values) = Some (line_for_all row_created)
 done_line (Update table assigns conds) = Some rows_updated
 done_line (Delete table conds) = Some rows_deleted
-done_line (DropTable name) = Some (always table_dropped)
-done_line (DropIndex name) = Some (always index_dropped)
+done_line (DropTable name) = Some (line_for_all table_dropped)
+done_line (DropIndex name) = Some (line_for_all index_dropped)
 done_line (Exec procedure args) = call_line procedure
 done_line (Select list table preds orders) = None
 done_line Commit = None
@@ -154,13 +154,13 @@ NoTextIsFull result = IfText (λ reply. reply ≡ store_full → ⊥) result
 two_rows : done_line (Delete (codes "docs") []) ≡ Some rows_deleted
 two_rows = refl
 
-row_line : done_line (Insert (codes "docs") None []) ≡ Some (always (codes "1 row created.\n"))
+row_line : done_line (Insert (codes "docs") None []) ≡ Some (line_for_all (codes "1 row created.\n"))
 row_line = refl
 
-sync_line : done_line (Exec SyncIndex []) ≡ Some (always (codes "PL/SQL procedure successfully completed.\n"))
+sync_line : done_line (Exec SyncIndex []) ≡ Some (line_for_all (codes "PL/SQL procedure successfully completed.\n"))
 sync_line = refl
 
-definition_line : done_line (Exec (Define CreateStoplist) []) ≡ Some (always (codes "PL/SQL procedure successfully completed.\n"))
+definition_line : done_line (Exec (Define CreateStoplist) []) ≡ Some (line_for_all (codes "PL/SQL procedure successfully completed.\n"))
 definition_line = refl
 
 select_line : done_line (Select Star (codes "docs") [] []) ≡ None

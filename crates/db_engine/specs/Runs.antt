@@ -5,10 +5,10 @@ use Rattle.std.proofs.Common.{ap, sym, ◌∙◌, append_assoc}
 use Rattle.db_cond.specs.Faults.{out_of_memory, store_full}
 use Rattle.st_parse.specs.Grammar.{Read, NoStatement, Found}
 use Rattle.st_parse.specs.Grammar.{Blank}
-use Rattle.db_state.specs.States.{State, empty_state}
+use Rattle.db_state.specs.States.{StoreState, empty_state}
 use Rattle.db_state.specs.Effects.{Effect, state_by, reply_by, is_done}
 use Rattle.db_state.specs.Room.{room}
-use Rattle.db_engine.specs.Steps.{step, rest_step, is_text, read_bytes, may_fill}
+use Rattle.db_engine.specs.Steps.{statement_step, rest_step, is_utf8_text, read_bytes, may_fill}
 use Rattle.std.specs.Str.{chars, is_utf8}
 use lib.Utf8.{encode}
 use Rattle.std.proofs.lemmas.Bool.{false≢true}
@@ -42,31 +42,31 @@ abbrev pub pieces : List Turn → List Piece
 pieces turns = map (λ (t : Turn). t.piece) turns
 
 -- what a piece does by itself; a statement may have `limit` bytes
-abbrev pub effect_by : ℕ → State → Piece → Effect
-effect_by limit m piece = if piece.is_ended then step limit m piece.text else rest_step limit m piece.text
+abbrev pub effect_by : ℕ → StoreState → Piece → Effect
+effect_by limit m piece = if piece.is_ended then statement_step limit m piece.text else rest_step limit m piece.text
 
 -- the state after an answer, and what is said with it
-abbrev pub answered : Answer → State → Effect → State × List ℕ
+abbrev pub answered : Answer → StoreState → Effect → StoreState × List ℕ
 answered Step m effect = (state_by m effect, reply_by effect)
 answered NoMemory m effect = (m, out_of_memory)
 answered Full m effect = (m, store_full)
 
 -- the state after a turn, and what is said in it
-abbrev pub turn : ℕ → State → Turn → State × List ℕ
+abbrev pub turn : ℕ → StoreState → Turn → StoreState × List ℕ
 turn limit m t = answered t.answer m (effect_by limit m t.piece)
 
 -- the state after the turns
-abbrev pub state_after : ℕ → State → List Turn → State
+abbrev pub state_after : ℕ → StoreState → List Turn → StoreState
 state_after limit m [] = m
 state_after limit m (t ∷ ts) = state_after limit (turn limit m t).0 ts
 
 -- all that is said in the turns
-abbrev pub transcript : ℕ → State → List Turn → List ℕ
+abbrev pub transcript : ℕ → StoreState → List Turn → List ℕ
 transcript limit m [] = []
 transcript limit m (t ∷ ts) = (turn limit m t).1 ++ transcript limit (turn limit m t).0 ts
 
 -- These turns lead from the old state to the new one, and this is said in them.
-pub record Ran (limit : ℕ) (old : State) (turns : List Turn) (new : State) (said : List ℕ) : Type 0 where
+pub record Ran (limit : ℕ) (old : StoreState) (turns : List Turn) (new : StoreState) (said : List ℕ) : Type 0 where
   pub state : new ≡ state_after limit old turns
   pub says : said ≡ transcript limit old turns
 
@@ -80,30 +80,30 @@ can_fill (Found s) = may_fill s
 
 -- For want of memory no other piece is answered than a statement that is a text and isn't too long; and that the store is full
 -- only a statement that isn't refused and may fill the store, whose state would take more room than the store has.
-abbrev pub IsAllowed : ℕ → ℕ → State → Piece → Answer → Type 0
+abbrev pub IsAllowed : ℕ → ℕ → StoreState → Piece → Answer → Type 0
 IsAllowed limit store m piece Step = Unit {0}
-IsAllowed limit store m piece NoMemory = (piece.is_ended ≡ true) × (length piece.text ≤ limit) × (is_text piece.text ≡ true)
+IsAllowed limit store m piece NoMemory = (piece.is_ended ≡ true) × (length piece.text ≤ limit) × (is_utf8_text piece.text ≡ true)
 IsAllowed limit store m piece Full =
-    (piece.is_ended ≡ true) × (is_done (step limit m piece.text) ≡ true) × (can_fill (read_bytes piece.text) ≡ true) × (store < room (state_by m (step limit m piece.text)))
+    (piece.is_ended ≡ true) × (is_done (statement_step limit m piece.text) ≡ true) × (can_fill (read_bytes piece.text) ≡ true) × (store < room (state_by m (statement_step limit m piece.text)))
 
 -- each answer is, in its turn
-abbrev pub AllAllowed : ℕ → ℕ → State → List Turn → Type 0
+abbrev pub AllAllowed : ℕ → ℕ → StoreState → List Turn → Type 0
 AllAllowed limit store m [] = Unit {0}
 AllAllowed limit store m (t ∷ ts) = IsAllowed limit store m t.piece t.answer × AllAllowed limit store (turn limit m t).0 ts
 
 -- ---- runs one after the other
 
-pub state_after-append : (limit : ℕ) (m : State) (ts us : List Turn) → state_after limit m (ts ++ us) ≡ state_after limit (state_after limit m ts) us
+pub state_after-append : (limit : ℕ) (m : StoreState) (ts us : List Turn) → state_after limit m (ts ++ us) ≡ state_after limit (state_after limit m ts) us
 state_after-append limit m [] us = refl
 state_after-append limit m (t ∷ ts) us = state_after-append limit (turn limit m t).0 ts us
 
-pub transcript-append : (limit : ℕ) (m : State) (ts us : List Turn) → transcript limit m (ts ++ us) ≡ transcript limit m ts ++ transcript limit (state_after limit m ts) us
+pub transcript-append : (limit : ℕ) (m : StoreState) (ts us : List Turn) → transcript limit m (ts ++ us) ≡ transcript limit m ts ++ transcript limit (state_after limit m ts) us
 transcript-append limit m [] us = refl
 transcript-append limit m (t ∷ ts) us =
     ap (λ (l : List ℕ). (turn limit m t).1 ++ l) (transcript-append limit (turn limit m t).0 ts us)
     ∙ sym (append_assoc (turn limit m t).1 (transcript limit (turn limit m t).0 ts) (transcript limit (state_after limit (turn limit m t).0 ts) us))
 
-pub allowed-append : (limit store : ℕ) (m : State) (ts us : List Turn) → AllAllowed limit store m ts → AllAllowed limit store (state_after limit m ts) us → AllAllowed limit store m (ts ++ us)
+pub allowed-append : (limit store : ℕ) (m : StoreState) (ts us : List Turn) → AllAllowed limit store m ts → AllAllowed limit store (state_after limit m ts) us → AllAllowed limit store m (ts ++ us)
 allowed-append limit store m [] us first second = second
 allowed-append limit store m (t ∷ ts) us first second = (first.0, allowed-append limit store (turn limit m t).0 ts us first.1 second)
 
@@ -122,12 +122,12 @@ unfolding chars is_utf8 encode
 three_turns = refl
 
 -- an answer for want of memory leaves the state
-state_stays : (m : State) (text : List ℕ) → state_after 65536 m (turn_by (statement text) NoMemory ∷ []) ≡ m
+state_stays : (m : StoreState) (text : List ℕ) → state_after 65536 m (turn_by (statement text) NoMemory ∷ []) ≡ m
 state_stays m text = refl
 
 -- no rest is answered so, nor that the store is full
-rest_has_memory : (m : State) (text : List ℕ) → IsAllowed 65536 64 m (rest_piece text) NoMemory → ⊥
+rest_has_memory : (m : StoreState) (text : List ℕ) → IsAllowed 65536 64 m (rest_piece text) NoMemory → ⊥
 rest_has_memory m text is = false≢true is.0
 
-rest_is_never_full : (m : State) (text : List ℕ) → IsAllowed 65536 64 m (rest_piece text) Full → ⊥
+rest_is_never_full : (m : StoreState) (text : List ℕ) → IsAllowed 65536 64 m (rest_piece text) Full → ⊥
 rest_is_never_full m text is = false≢true is.0

@@ -20,7 +20,7 @@ use Rattle.st_parse.specs.declared.procedures.Procedure.TheVariants.{SyncIndex}
 use Rattle.st_parse.specs.declared.statements.Statement.TheVariants.{CreateTable, CreateIndex, Insert, Exec}
 use Rattle.st_parse.specs.declared.statements.Whole.TheVariants.{Fits}
 use Rattle.tx_prefs.specs.Preferences.{no_preferences}
-use Rattle.db_state.specs.States.{State}
+use Rattle.db_state.specs.States.{StoreState}
 use Rattle.db_state.specs.Effects.{state_by}
 use Rattle.db_state.specs.Room.{docs_and_di}
 use Rattle.db_engine.specs.Steps.{effect}
@@ -53,7 +53,7 @@ abbrev pub shown_statements : List Statement
 shown_statements = table_statement ∷ index_statement ∷ Insert (codes "docs") None first_values ∷ sync_statement ∷ Insert (codes "docs") None second_values ∷ []
 
 -- the state after statements, none of which fails
-abbrev pub after_all : State → List Statement → State
+abbrev pub after_all : StoreState → List Statement → StoreState
 after_all m [] = m
 after_all m (s ∷ ss) = after_all (state_by m (effect m s)) ss
 
@@ -102,7 +102,7 @@ shown_index = record {
   body = OfContext (record { part = record { given = 1; tidiness = Untidy; waste = 0 }; marks = from_sorted ((pos 1, Settled tt) ∷ (pos 2, Pending) ∷ []) });
 }
 
-abbrev pub shown_state : State
+abbrev pub shown_state : StoreState
 shown_state = record { tables = from_sorted ((codes "docs", shown_table) ∷ []); indexes = from_sorted ((codes "di", shown_index) ∷ []); preferences = no_preferences }
 
 -- the state whose room is an example of rooms

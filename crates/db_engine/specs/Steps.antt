@@ -4,7 +4,7 @@ use Rattle.std.specs.Bool.{if◌then◌else◌}
 use Rattle.std.specs.Str.{chars, is_utf8}
 use Rattle.st_parse.specs.declared.statements.Arg.{Arg}
 use Rattle.db_cond.specs.Faults.{NotUnderstood, StatementTooLong}
-use Rattle.db_state.specs.States.{State, empty_state}
+use Rattle.db_state.specs.States.{StoreState, empty_state}
 use Rattle.db_state.specs.Effects.{Effect, Refused, Does, refuse, reply_by}
 use Rattle.std.specs.Fmt.{digits}
 use lib.Utf8.{encode}
@@ -35,7 +35,7 @@ use Rattle.db_prefs.specs.Defining.{define}
 
 -- ---- what the call of a procedure does
 
-abbrev pub call : State → Procedure → List Arg → Effect
+abbrev pub call : StoreState → Procedure → List Arg → Effect
 call m PolicyTokens args = policy_tokens m args
 call m SyncIndex args = sync_index m args
 call m (Define definition) args = define m definition args
@@ -50,7 +50,7 @@ abbrev pub is_built_index : IndexKind → Option Whole → Bool
 is_built_index kind parallel = is_context kind && is_none parallel
 
 -- CREATE INDEX, where it is built
-abbrev pub create_index_if : Bool → State → List ℕ → List ℕ → List ℕ → Option (List ℕ) → Effect
+abbrev pub create_index_if : Bool → StoreState → List ℕ → List ℕ → List ℕ → Option (List ℕ) → Effect
 create_index_if built m i t column parameters = refuse (not built) NotUnderstood (create_index m i t column parameters)
 
 -- COMMIT changes nothing, since each statement is kept by itself
@@ -58,7 +58,7 @@ abbrev pub commit_complete : List ℕ
 commit_complete = codes "Commit complete.\n"
 
 -- what a statement does
-abbrev pub effect : State → Statement → Effect
+abbrev pub effect : StoreState → Statement → Effect
 effect m (CreateTable name columns) = create_table m name columns
 effect m (CreateIndex name table column kind parameters parallel) = create_index_if (is_built_index kind parallel) m name table column parameters
 effect m (Insert table columns values) = insert_into m table columns values
@@ -87,29 +87,29 @@ may_fill Commit = false
 may_fill statement = true
 
 -- Which bytes are a text: those in UTF-8.
-abbrev pub is_text : List ℕ → Bool
-is_text bytes = is_utf8 bytes
+abbrev pub is_utf8_text : List ℕ → Bool
+is_utf8_text bytes = is_utf8 bytes
 
 -- what some bytes are as a statement
 abbrev pub read_bytes : List ℕ → Read
-read_bytes bytes = if is_text bytes then read (chars bytes) else NoStatement
+read_bytes bytes = if is_utf8_text bytes then read (chars bytes) else NoStatement
 
-abbrev pub effect_of : State → Read → Effect
+abbrev pub effect_of : StoreState → Read → Effect
 effect_of m Blank = Does m []
 effect_of m NoStatement = Refused NotUnderstood
 effect_of m (Found statement) = effect m statement
 
 -- What the bytes of a statement do, of which there may be `limit`.
-abbrev pub step : ℕ → State → List ℕ → Effect
-step limit m bytes = if nat_le (length bytes) limit then effect_of m (read_bytes bytes) else Refused StatementTooLong
+abbrev pub statement_step : ℕ → StoreState → List ℕ → Effect
+statement_step limit m bytes = if nat_le (length bytes) limit then effect_of m (read_bytes bytes) else Refused StatementTooLong
 
 -- What stands behind the last statement of a script does: it is no statement, and is answered where it is too long or isn't blank.
-abbrev pub rest_of : State → Read → Effect
+abbrev pub rest_of : StoreState → Read → Effect
 rest_of m Blank = Does m []
 rest_of m NoStatement = Refused NotUnderstood
 rest_of m (Found statement) = Refused NotUnderstood
 
-abbrev pub rest_step : ℕ → State → List ℕ → Effect
+abbrev pub rest_step : ℕ → StoreState → List ℕ → Effect
 rest_step limit m bytes = if nat_le (length bytes) limit then rest_of m (read_bytes bytes) else Refused StatementTooLong
 
 -- computed examples
@@ -117,7 +117,7 @@ an_index_in_parallel : is_built_index Context (Some (Fits (pos 2))) ≡ false
 an_index_in_parallel = refl
 
 abbrev reply : List ℕ → List ℕ
-reply bytes = reply_by (step 65536 empty_state bytes)
+reply bytes = reply_by (statement_step 65536 empty_state bytes)
 
 some_text : reply (codes "EXEC CTX_DOC.POLICY_TOKENS('some text')") ≡ codes "some|0|4\ntext|5|4\n"
 unfolding encode digits chars is_utf8 caseless ucd_category key_text
@@ -153,7 +153,7 @@ rest_without_end : reply_by (rest_step 65536 empty_state (codes "DROP TABLE docs
 unfolding chars is_utf8 encode
 rest_without_end = refl
 
-too_long : reply_by (step 3 empty_state (codes "SELEC")) ≡ codes "E19: statement too long\n"
+too_long : reply_by (statement_step 3 empty_state (codes "SELEC")) ≡ codes "E19: statement too long\n"
 too_long = refl
 
 table_may_fill : may_fill (CreateTable (codes "docs") []) ≡ true

@@ -2,11 +2,11 @@
 #![tactic(auto, using(ct_keep::specs::Composing::reads_on, ct_keep::specs::Composing::reads_short))]
 
 ghost use Rattle.std.specs.Prelude.{ℕ, ◌≡◌, ◌&&◌, List, IfOk, Some, None, Err, true, false, not, codes, bytes_eq};
-ghost use Rattle.ct_keep.specs.KeeperViews.{AtMostOneCommit, SameButContent, OnlyReads, Reads, Told};
+ghost use Rattle.ct_keep.specs.KeeperViews.{AtMostOneCommit, SameButContent, OnlyReads, ReadsKeeper, Told};
 ghost use Rattle.db_state.specs.Shapes.{AcceptsStatements};
 ghost use Rattle.db_cond.specs.Faults.{NotUnderstood, refusal_line};
 ghost use Rattle.db_state.specs.Effects.{reply_by};
-ghost use Rattle.db_state.specs.States.{State};
+ghost use Rattle.db_state.specs.States.{StoreState};
 ghost use Rattle.db_engine.specs.Steps.{call as call_effect, create_index_if, effect, is_built_index as built_index, may_fill, may_fill_by};
 ghost use Rattle.db_engine.specs.Executing.{ExecutesStatement, FullByCount, IfText, NoTextIsFull, Tells, call_line, done_line, fault_of_stop, index_line, is_fixed, is_fixed_call};
 ghost use Rattle.db_state.specs.Plans.{DoneLines, GivesReply, Replies};
@@ -40,7 +40,7 @@ fn call<K: Keeper>(
 ) -> Result<Vec<u8>, KeepFault>
     requires { AcceptsStatements (K.view keeper.old) }
     ensures serves { Replies K.view keeper.old keeper.new result (λ m. call_effect m procedure args.now) (call_line procedure) }
-    ensures fixed { (m : State) → is_fixed_call procedure args.now ≡ true → GivesReply result (call_effect m procedure args.now) }
+    ensures fixed { (m : StoreState) → is_fixed_call procedure args.now ≡ true → GivesReply result (call_effect m procedure args.now) }
     ensures may { result ≡ Err KeepFault.Full → may_fill_by procedure ≡ true }
 {
     match procedure {
@@ -85,7 +85,7 @@ fn reply_to<K: Keeper>(
 ) -> Result<Vec<u8>, KeepFault>
     requires { AcceptsStatements (K.view keeper.old) }
     ensures serves { Replies K.view keeper.old keeper.new result (λ m. effect m statement.now) (done_line statement.now) }
-    ensures fixed { (m : State) → is_fixed statement.now ≡ true → GivesReply result (effect m statement.now) }
+    ensures fixed { (m : StoreState) → is_fixed statement.now ≡ true → GivesReply result (effect m statement.now) }
     ensures may { Told K.view keeper.old (λ m. result ≡ Err KeepFault.Full → may_fill statement.now ≡ true) }
 {
     match statement {
@@ -144,11 +144,11 @@ pub fn execute<R: Threads + Sync, K: Keeper>(
     ensures kept { SameButContent (K.view keeper.old) (K.view keeper.new) (fault_of_stop result) }
     ensures once { AtMostOneCommit (K.view keeper.old).counts (K.view keeper.new).counts }
     ensures executes { ExecutesStatement statement.now (K.view keeper.old) (K.view keeper.new) result }
-    ensures reads { done_line statement.now ≡ None → Reads (K.view keeper.old) (K.view keeper.new) (fault_of_stop result) }
+    ensures reads { done_line statement.now ≡ None → ReadsKeeper (K.view keeper.old) (K.view keeper.new) (fault_of_stop result) }
     ensures tells { (done : DoneLines) → done_line statement.now ≡ Some done → Tells done (K.view keeper.old) (K.view keeper.new) result }
     ensures full { FullByCount (K.view keeper.old) (K.view keeper.new) result }
     ensures no_text { (done : DoneLines) → done_line statement.now ≡ Some done → NoTextIsFull result }
-    ensures fixed { (m : State) → is_fixed statement.now ≡ true → IfText (λ reply. reply ≡ reply_by (effect m statement.now)) result }
+    ensures fixed { (m : StoreState) → is_fixed statement.now ≡ true → IfText (λ reply. reply ≡ reply_by (effect m statement.now)) result }
 {
     match reply_to(alloc, keeper, statement) {
         Ok(lines) => Ok(Reply::Text(Bytes::of(lines))),

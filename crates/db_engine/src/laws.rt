@@ -3,14 +3,14 @@
 ghost use Rattle.std.specs.Prelude.{◌≡◌};
 ghost use Rattle.ct_keep.specs.Content.{weight};
 ghost use Rattle.db_state.specs.Room.{room};
-ghost use Rattle.db_state.specs.States.{Stands, empty_state};
+ghost use Rattle.db_state.specs.States.{StandsForState, empty_state};
 ghost use Rattle.db_engine.specs.ShownStore.{after_all, shown_state, shown_statements, shown_store};
 
 /// The store that docs/STORE.md shows stands for the state that its statements lead to, and has the weight and the room that
 /// stand there.
 pub fn shown_store_stands()
     ensures state { after_all empty_state shown_statements ≡ shown_state }
-    ensures stands { Stands shown_store shown_state }
+    ensures stands { StandsForState shown_store shown_state }
     ensures weight { weight shown_store ≡ 704 }
     ensures room { room shown_state ≡ 921 }
 {}

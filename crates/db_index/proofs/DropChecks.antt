@@ -4,14 +4,14 @@ use Rattle.std.specs.Prelude.{Bool, is_some}
 use Rattle.std.specs.FinMap.{get}
 use Rattle.ix_context.specs.Indexes.{Index}
 use Rattle.db_cond.specs.Faults.{UnknownName}
-use Rattle.db_state.specs.States.{State}
+use Rattle.db_state.specs.States.{StoreState}
 use Rattle.db_state.specs.Effects.{Effect, Does, with_found}
 use Rattle.db_index.specs.Dropping.{drop_index, index_dropped, with_index_dropped}
 
-drops : State → List ℕ → Option Index → Effect
+drops : StoreState → List ℕ → Option Index → Effect
 drops m i o = with_found o (UnknownName i) (λ (x : Index). Does (with_index_dropped m i) index_dropped)
 
-pub known_index : (m : State) (i : List ℕ) (there : Bool) → there ≡ is_some (get m.indexes i) → there ≡ true → drop_index m i ≡ Does (with_index_dropped m i) index_dropped
+pub known_index : (m : StoreState) (i : List ℕ) (there : Bool) → there ≡ is_some (get m.indexes i) → there ≡ true → drop_index m i ≡ Does (with_index_dropped m i) index_dropped
 unfolding drops
 known_index m i there is here = go (get m.indexes i) (sym is ∙ here)
   where

@@ -24,20 +24,19 @@ use Rattle.tb_table.specs.Tables.{Table, keys_in, row_keys}
 use Rattle.tb_table.specs.Rules.{AreTables}
 use Rattle.tx_settings.specs.declared.preferences.Prefs.{Prefs}
 use Rattle.tx_prefs.specs.declared.requests.Request.{Request}
-use Rattle.tx_prefs.specs.Sees.{HoldsPreferences}
 use Rattle.ix_context.specs.Indexes.{Index, rows_in}
 use Rattle.ix_context.specs.Rules.{most_given}
 use Rattle.ix_context.specs.laws.Rules.{rows_in-all}
 use Rattle.db_names.specs.declared.heads.IndexHead.{IndexHead}
-use Rattle.db_names.specs.Promises.{is_of, heads_of}
+use Rattle.db_names.specs.Promises.{is_on_table, heads_of}
 use Rattle.db_cond.specs.declared.faults.Fault.{Fault}
 use Rattle.db_cond.specs.Faults.{UnknownName, BadValue}
 use Rattle.db_cond.specs.Refused.{refusal_of}
-use Rattle.db_state.specs.States.{State, Stands, indexes_on, index_limit}
+use Rattle.db_state.specs.States.{StoreState, StandsForState, indexes_on, index_limit}
 use Rattle.db_state.specs.Effects.{Effect, Refused, Does, Checks, refuse_by, with_found}
 use Rattle.db_state.specs.declared.plans.Plan.{Plan}
 use Rattle.db_state.specs.Plans.{IsPlan}
-use Rattle.db_state.specs.Columns.{place_of, place_from}
+use Rattle.db_state.specs.Columns.{column_place, place_from}
 use Rattle.db_index.specs.Indexing.{has_context_index, has_too_many_rows, all_rows, target, is_text_at, check_index, check_flags, index_created, with_new_index, create_index_on, create_index_by, create_index, IsFreeIndex, requests_in, unknown_asked, prefs_asked}
 use Rattle.db_state.specs.Lookups.{index_among, FoundOn}
 use Rattle.db_state.specs.laws.Chains.{checked, passed, refused}
@@ -90,9 +89,9 @@ module _ {X : Type 0} (p : X → Bool) where
 -- as many as the indexes on it
 pub heads_count : (xs : Names Index) (t : List ℕ) → length (heads_of t (heads xs)) ≡ length (indexes_on xs t)
 heads_count xs t =
-    reordered (is_of t) (entries (heads xs)) (entries_rise (slice_cmp nat_cmp) (heads xs))
-    ∙ ap (λ (es : List (List ℕ × IndexHead)). length (filter (λ (e : List ℕ × IndexHead). is_of t e.1) es)) (entries-each_value (slice_cmp nat_cmp) head_of_index nat_list_cmp_total xs)
-    ∙ count_alike (λ (e : List ℕ × Index). (e.0, head_of_index e.1)) (λ (e : List ℕ × IndexHead). is_of t e.1) (λ (e : List ℕ × Index). same_list e.1.table t) (λ e. refl) (entries xs)
+    reordered (is_on_table t) (entries (heads xs)) (entries_rise (slice_cmp nat_cmp) (heads xs))
+    ∙ ap (λ (es : List (List ℕ × IndexHead)). length (filter (λ (e : List ℕ × IndexHead). is_on_table t e.1) es)) (entries-each_value (slice_cmp nat_cmp) head_of_index nat_list_cmp_total xs)
+    ∙ count_alike (λ (e : List ℕ × Index). (e.0, head_of_index e.1)) (λ (e : List ℕ × IndexHead). is_on_table t e.1) (λ (e : List ℕ × Index). same_list e.1.table t) (λ e. refl) (entries xs)
 
 -- ---- the checks
 
@@ -101,13 +100,13 @@ or_false true b h = refl
 or_false false b h = h
 
 -- no table has more rows than an index has numbers
-few_rows : (m : State) (t : List ℕ) (x : Table) → AreTables m.tables → get m.tables t ≡ Some x → has_too_many_rows m t ≡ false
+few_rows : (m : StoreState) (t : List ℕ) (x : Table) → AreTables m.tables → get m.tables t ≡ Some x → has_too_many_rows m t ≡ false
 few_rows m t x are there =
     let all : rows_in m.tables t all_rows ≡ row_keys m.tables t = rows_in-all m.tables are t all_rows every_row in
     let keys = keys_few m t x are there in
     le-ltb most_given (length (rows_in m.tables t all_rows)) (let same = ap length all in omega (arith, same, keys))
   where
-    keys_few : (m : State) (t : List ℕ) (x : Table) → AreTables m.tables → get m.tables t ≡ Some x → length (row_keys m.tables t) ≤ 100000
+    keys_few : (m : StoreState) (t : List ℕ) (x : Table) → AreTables m.tables → get m.tables t ≡ Some x → length (row_keys m.tables t) ≤ 100000
     keys_few m t x are there =
         let keys : row_keys m.tables t ≡ map (λ e. e.0) (entries x.rows) = ap keys_in there in
         let same = ap length keys ∙ length-map (entries x.rows) (λ e. e.0) in
@@ -124,7 +123,7 @@ by_flags there texts None many i done = refl
 by_flags there texts (Some prefs) many i done = refl
 
 -- the effect by what was read
-pub index_as : (m : State) (i t : List ℕ) (x : Table) (place : ℕ) (prefs : Option Prefs) (taken texts formed many : Bool) → AreTables m.tables → get m.tables t ≡ Some x
+pub index_as : (m : StoreState) (i t : List ℕ) (x : Table) (place : ℕ) (prefs : Option Prefs) (taken texts formed many : Bool) → AreTables m.tables → get m.tables t ≡ Some x
     → taken ≡ (is_some (get m.indexes i) || has_context_index m.indexes t place) → texts ≡ is_text_at x.columns place → formed ≡ is_some prefs → many ≡ nat_le index_limit (length (indexes_on m.indexes t))
     → create_index_on m i t x place prefs ≡ check_flags taken texts formed many i (done_by prefs (λ prefs. Does (with_new_index m i t place prefs) index_created))
 index_as m i t x place prefs taken texts formed many are there taken_is texts_is formed_is many_is =
@@ -136,7 +135,7 @@ index_as m i t x place prefs taken texts formed many are there taken_is texts_is
     ∙ ap (λ (b : Bool). check_flags taken texts b many i (done_by prefs done)) (sym formed_is)
 
 -- the effect by the fault that the checks of what was read found, or where they found none
-module _ (m : State) (i t : List ℕ) (x : Table) (place : ℕ) (prefs : Option Prefs) (taken texts formed many : Bool) (found : Option Fault) (are : AreTables m.tables) (there : get m.tables t ≡ Some x)
+module _ (m : StoreState) (i t : List ℕ) (x : Table) (place : ℕ) (prefs : Option Prefs) (taken texts formed many : Bool) (found : Option Fault) (are : AreTables m.tables) (there : get m.tables t ≡ Some x)
     (taken_is : taken ≡ (is_some (get m.indexes i) || has_context_index m.indexes t place)) (texts_is : texts ≡ is_text_at x.columns place) (formed_is : formed ≡ is_some prefs) (many_is : many ≡ nat_le index_limit (length (indexes_on m.indexes t)))
     (checks : (done : Effect) → Checks found (check_flags taken texts formed many i done) done) where
   abbrev made : Effect
@@ -152,7 +151,7 @@ module _ (m : State) (i t : List ℕ) (x : Table) (place : ℕ) (prefs : Option 
   faultless is = as_checked ∙ checked found (check_flags taken texts formed many i made) made is (checks made)
 
 -- no check holds of what is done
-pub index_free : (m : State) (i t : List ℕ) (x : Table) (place : ℕ) (prefs : Prefs) (n : State) (reply : List ℕ) → get m.tables t ≡ Some x → create_index_on m i t x place (Some prefs) ≡ Does n reply → IsFreeIndex m i t x place
+pub index_free : (m : StoreState) (i t : List ℕ) (x : Table) (place : ℕ) (prefs : Prefs) (n : StoreState) (reply : List ℕ) → get m.tables t ≡ Some x → create_index_on m i t x place (Some prefs) ≡ Does n reply → IsFreeIndex m i t x place
 index_free m i t x place prefs n reply there is =
     let p = passed _ _ _ n reply is in
     let q = passed _ _ _ n reply p.1 in
@@ -165,21 +164,21 @@ index_free m i t x place prefs n reply there is =
 
 -- ---- the table and the column
 
-pub no_table : (m : State) (t : List ℕ) (o : Option (List Column)) → o ≡ option_map (λ (x : Table). x.columns) (get m.tables t) → o ≡ None → get m.tables t ≡ None
+pub no_table : (m : StoreState) (t : List ℕ) (o : Option (List Column)) → o ≡ option_map (λ (x : Table). x.columns) (get m.tables t) → o ≡ None → get m.tables t ≡ None
 no_table m t o is none = go (get m.tables t) (sym none ∙ is)
   where
     go : (p : Option Table) → None ≡ option_map (λ (x : Table). x.columns) p → p ≡ None
     go None h = refl
     go (Some x) h = cc
 
-pub the_table : (m : State) (t : List ℕ) (o : Option (List Column)) (cs : List Column) → o ≡ option_map (λ (x : Table). x.columns) (get m.tables t) → o ≡ Some cs → (x : Table) × (get m.tables t ≡ Some x) × (cs ≡ x.columns)
+pub the_table : (m : StoreState) (t : List ℕ) (o : Option (List Column)) (cs : List Column) → o ≡ option_map (λ (x : Table). x.columns) (get m.tables t) → o ≡ Some cs → (x : Table) × (get m.tables t ≡ Some x) × (cs ≡ x.columns)
 the_table m t o cs is some = go (get m.tables t) refl (sym some ∙ is)
   where
     go : (p : Option Table) → get m.tables t ≡ p → Some cs ≡ option_map (λ (x : Table). x.columns) p → (x : Table) × (get m.tables t ≡ Some x) × (cs ≡ x.columns)
     go None there h = cc
     go (Some x) there h = (x, there, cc)
 
-pub place_within : (name : List ℕ) (cs : List Column) (place : ℕ) → place_of name cs ≡ Some place → place < length cs
+pub place_within : (name : List ℕ) (cs : List Column) (place : ℕ) → column_place name cs ≡ Some place → place < length cs
 place_within name cs place is = let far = go 0 cs is in omega (arith, far)
   where
     go : (from : ℕ) (cs : List Column) → place_from from name cs ≡ Some place → place < from + length cs
@@ -190,16 +189,13 @@ place_within name cs place is = let far = go 0 cs is in omega (arith, far)
         at_head true h rest = let same : from ≡ place = cc in omega (arith, same)
         at_head false h rest = let far = rest h in omega (arith, far)
 
-pub holds_tables : (c : Content) (m : State) → Stands c m → HoldsTables c m.tables
+pub holds_tables : (c : Content) (m : StoreState) → StandsForState c m → HoldsTables c m.tables
 holds_tables c m stands = record { only = stands.only; stand = stands.tables; rules = stands.state.tables }
 
-pub holds_indexes : (c : Content) (m : State) → Stands c m → HoldsIndexes c m.tables m.indexes
+pub holds_indexes : (c : Content) (m : StoreState) → StandsForState c m → HoldsIndexes c m.tables m.indexes
 holds_indexes c m stands = record { tables = holds_tables c m stands; stand = stands.indexes; rules = stands.state.indexes }
 
-pub holds_preferences : (c : Content) (m : State) → Stands c m → HoldsPreferences c m.preferences
-holds_preferences c m stands = record { only = stands.only; stand = stands.preferences; rules = stands.state.preferences }
-
-pub rows_given : (m : State) (on : Target) (t : List ℕ) (place : ℕ) (x : Table) → AreTables m.tables → get m.tables t ≡ Some x → on ≡ target t place → most_given < length (rows_in m.tables on.table all_rows) → ⊥
+pub rows_given : (m : StoreState) (on : Target) (t : List ℕ) (place : ℕ) (x : Table) → AreTables m.tables → get m.tables t ≡ Some x → on ≡ target t place → most_given < length (rows_in m.tables on.table all_rows) → ⊥
 rows_given m on t place x are there is over =
     let few = ltb-false most_given (length (rows_in m.tables t all_rows)) (few_rows m t x are there) in
     let same = ap (λ (y : Target). length (rows_in m.tables y.table all_rows)) is in
@@ -207,24 +203,24 @@ rows_given m on t place x are there is over =
 
 -- ---- the effect by the table and the column
 
-pub unknown_table : (m : State) (i t column : List ℕ) (parameters : Option (List ℕ)) → get m.tables t ≡ None → create_index m i t column parameters ≡ Refused (UnknownName t)
-unknown_table m i t column parameters none = ap (λ (o : Option Table). with_found o (UnknownName t) (λ (x : Table). with_found (place_of column x.columns) (UnknownName column) (λ (place : ℕ). create_index_by m i t (requests_in parameters) x place))) none
+pub unknown_table : (m : StoreState) (i t column : List ℕ) (parameters : Option (List ℕ)) → get m.tables t ≡ None → create_index m i t column parameters ≡ Refused (UnknownName t)
+unknown_table m i t column parameters none = ap (λ (o : Option Table). with_found o (UnknownName t) (λ (x : Table). with_found (column_place column x.columns) (UnknownName column) (λ (place : ℕ). create_index_by m i t (requests_in parameters) x place))) none
 
-pub unknown_column : (m : State) (i t column : List ℕ) (parameters : Option (List ℕ)) (x : Table) → get m.tables t ≡ Some x → place_of column x.columns ≡ None → create_index m i t column parameters ≡ Refused (UnknownName column)
+pub unknown_column : (m : StoreState) (i t column : List ℕ) (parameters : Option (List ℕ)) (x : Table) → get m.tables t ≡ Some x → column_place column x.columns ≡ None → create_index m i t column parameters ≡ Refused (UnknownName column)
 unknown_column m i t column parameters x there none =
-    ap (λ (o : Option Table). with_found o (UnknownName t) (λ (x : Table). with_found (place_of column x.columns) (UnknownName column) (λ (place : ℕ). create_index_by m i t (requests_in parameters) x place))) there
+    ap (λ (o : Option Table). with_found o (UnknownName t) (λ (x : Table). with_found (column_place column x.columns) (UnknownName column) (λ (place : ℕ). create_index_by m i t (requests_in parameters) x place))) there
     ∙ ap (λ (o : Option ℕ). with_found o (UnknownName column) (λ (place : ℕ). create_index_by m i t (requests_in parameters) x place)) none
 
-pub known_column : (m : State) (i t column : List ℕ) (parameters : Option (List ℕ)) (x : Table) (place : ℕ) → get m.tables t ≡ Some x → place_of column x.columns ≡ Some place → create_index m i t column parameters ≡ create_index_by m i t (requests_in parameters) x place
+pub known_column : (m : StoreState) (i t column : List ℕ) (parameters : Option (List ℕ)) (x : Table) (place : ℕ) → get m.tables t ≡ Some x → column_place column x.columns ≡ Some place → create_index m i t column parameters ≡ create_index_by m i t (requests_in parameters) x place
 known_column m i t column parameters x place there some =
-    ap (λ (o : Option Table). with_found o (UnknownName t) (λ (x : Table). with_found (place_of column x.columns) (UnknownName column) (λ (place : ℕ). create_index_by m i t (requests_in parameters) x place))) there
+    ap (λ (o : Option Table). with_found o (UnknownName t) (λ (x : Table). with_found (column_place column x.columns) (UnknownName column) (λ (place : ℕ). create_index_by m i t (requests_in parameters) x place))) there
     ∙ ap (λ (o : Option ℕ). with_found o (UnknownName column) (λ (place : ℕ). create_index_by m i t (requests_in parameters) x place)) some
 
 -- and by what PARAMETERS asks for
-pub unknown_preference : (m : State) (i t : List ℕ) (requests : Option (List Request)) (x : Table) (place : ℕ) (name : List ℕ) → unknown_asked m.preferences requests ≡ Some name → create_index_by m i t requests x place ≡ Refused (UnknownName name)
+pub unknown_preference : (m : StoreState) (i t : List ℕ) (requests : Option (List Request)) (x : Table) (place : ℕ) (name : List ℕ) → unknown_asked m.preferences requests ≡ Some name → create_index_by m i t requests x place ≡ Refused (UnknownName name)
 unknown_preference m i t requests x place name is = ap (λ (o : Option (List ℕ)). refuse_by o UnknownName (create_index_on m i t x place (prefs_asked m.preferences requests))) is
 
-pub known_preferences : (m : State) (i t : List ℕ) (requests : Option (List Request)) (x : Table) (place : ℕ) (prefs : Option Prefs) → unknown_asked m.preferences requests ≡ None → prefs ≡ prefs_asked m.preferences requests → create_index_by m i t requests x place ≡ create_index_on m i t x place prefs
+pub known_preferences : (m : StoreState) (i t : List ℕ) (requests : Option (List Request)) (x : Table) (place : ℕ) (prefs : Option Prefs) → unknown_asked m.preferences requests ≡ None → prefs ≡ prefs_asked m.preferences requests → create_index_by m i t requests x place ≡ create_index_on m i t x place prefs
 known_preferences m i t requests x place prefs none is =
     ap (λ (o : Option (List ℕ)). refuse_by o UnknownName (create_index_on m i t x place (prefs_asked m.preferences requests))) none
     ∙ ap (create_index_on m i t x place) (sym is)

@@ -9,17 +9,18 @@ use Rattle.tx_settings.specs.declared.attributes.Setting.{Setting}
 use Rattle.st_parse.specs.declared.statements.Arg.{Arg}
 use Rattle.db_call.specs.Arguments.{name_at}
 use Rattle.db_cond.specs.Faults.{Refusal, UnknownName, WrongValues, ValueTooLong, BadValue}
-use Rattle.db_state.specs.States.{State}
+use Rattle.db_state.specs.States.{StoreState}
 use Rattle.db_state.specs.Effects.{Effect, Refused, Does, refuse, refuse_by, state_by, with_found}
+use Rattle.db_state.specs.laws.Unchanged.{kept_by, kept_found, kept_unless}
 use Rattle.db_index.specs.Tokenizing.{lexer_name, policy_tokens, reads_no_preference, settings_asked, text_asked, token_lines, tokens_asked, unknown_lexer}
 
 -- ---- the preference
 
-pub by_default : (m : State) (args : List Arg) → reads_no_preference args ≡ true → policy_tokens m args ≡ tokens_asked m (Some []) args
+pub by_default : (m : StoreState) (args : List Arg) → reads_no_preference args ≡ true → policy_tokens m args ≡ tokens_asked m (Some []) args
 by_default m args few =
     ap (λ (b : Bool). refuse_by (unknown_lexer m.preferences (if b then None else name_at 0 args)) UnknownName (tokens_asked m (if b then Some [] else option_and_then (get m.preferences.lexers) (name_at 0 args)) args)) few
 
-module _ (m : State) (args : List Arg) (more : reads_no_preference args ≡ false) where
+module _ (m : StoreState) (args : List Arg) (more : reads_no_preference args ≡ false) where
   abbrev by_name : Option (List ℕ) → Effect
   by_name name = refuse_by (unknown_lexer m.preferences name) UnknownName (tokens_asked m (option_and_then (get m.preferences.lexers) name) args)
 
@@ -42,19 +43,7 @@ module _ (m : State) (args : List Arg) (more : reads_no_preference args ≡ fals
 
 -- ---- the state stays
 
-kept_by : (m : State) (b : Bool) (refusal : Refusal) (e : Effect) → state_by m e ≡ m → state_by m (refuse b refusal e) ≡ m
-kept_by m true refusal e kept = refl
-kept_by m false refusal e kept = kept
-
-kept_found : {X : Type 0} (m : State) (o : Option X) (refusal : Refusal) (f : X → Effect) → ((x : X) → state_by m (f x) ≡ m) → state_by m (with_found o refusal f) ≡ m
-kept_found m None refusal f kept = refl
-kept_found m (Some x) refusal f kept = kept x
-
-kept_unless : {X : Type 0} (m : State) (o : Option X) (refusal : X → Refusal) (e : Effect) → state_by m e ≡ m → state_by m (refuse_by o refusal e) ≡ m
-kept_unless m None refusal e kept = kept
-kept_unless m (Some x) refusal e kept = refl
-
-pub tokens_keep : (m : State) (args : List Arg) → state_by m (policy_tokens m args) ≡ m
+pub tokens_keep : (m : StoreState) (args : List Arg) → state_by m (policy_tokens m args) ≡ m
 tokens_keep m args =
     kept_unless m (unknown_lexer m.preferences (lexer_name args)) UnknownName _
     (kept_found m (text_asked args) WrongValues _ (λ text.

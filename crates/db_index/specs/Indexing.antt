@@ -14,22 +14,22 @@ use Rattle.tx_settings.specs.declared.preferences.Prefs.{Prefs}
 use Rattle.tx_settings.specs.Defaults.{default_prefs}
 use Rattle.tx_prefs.specs.declared.requests.Request.{Request}
 use Rattle.tx_prefs.specs.Preferences.{Preferences}
-use Rattle.tx_prefs.specs.Requests.{requests_of, parameters_of, unknown_in}
+use Rattle.tx_prefs.specs.Requests.{requests_of, requested_parameters, unknown_in}
 use Rattle.tx_prefs.specs.Copies.{copied}
 use Rattle.ix_context.specs.declared.ranges.KeyRange.{KeyRange}
 use Rattle.ix_context.specs.Indexes.{Index, rows_in, with_index}
 use Rattle.ix_context.specs.Rules.{most_given}
 use Rattle.db_cond.specs.Faults.{UnknownName, ExistsAlready, WrongValues, BadValue, LimitReached}
-use Rattle.db_state.specs.States.{State, indexes_on, index_limit}
+use Rattle.db_state.specs.States.{StoreState, indexes_on, index_limit}
 use Rattle.db_state.specs.Effects.{Effect, Does, refuse, refuse_by, with_found, Refused}
-use Rattle.db_state.specs.Columns.{place_of}
+use Rattle.db_state.specs.Columns.{column_place}
 use Rattle.ct_keep.specs.declared.keepers.KeepFault.{KeepFault}
 use Rattle.ct_keep.specs.Content.{Content}
 use Rattle.ct_entry.specs.Changes.{spell}
 use Rattle.ix_context.specs.Changes.{create_changes}
 use Rattle.db_state.specs.declared.plans.Plan.{Plan}
 use Rattle.db_index.specs.declared.asking.Asked.{Asked}
-use Rattle.db_state.specs.Plans.{IsPlan}
+use Rattle.db_state.specs.Plans.{IsPlan, DoneLines, line_for_all}
 
 abbrev pub is_text_sort : Sort → Bool
 is_text_sort Number = false
@@ -64,7 +64,7 @@ unknown_asked ps requests = option_and_then (unknown_in ps) requests
 
 -- the preferences that they mean now
 abbrev pub prefs_asked : Preferences → Option (List Request) → Option Prefs
-prefs_asked ps requests = option_and_then (λ rs. copied ps (parameters_of rs)) requests
+prefs_asked ps requests = option_and_then (λ rs. copied ps (requested_parameters rs)) requests
 
 -- The checks in their order: whether there is an index of the name or on the column, whether that is a column of texts, whether PARAMETERS is of its form, and whether a limit would be passed.
 abbrev pub check_index : Bool → Bool → Option Prefs → Bool → List ℕ → (Prefs → Effect) → Effect
@@ -78,18 +78,22 @@ check_flags there texts formed many i done = refuse there (ExistsAlready i) (ref
 abbrev pub index_created : List ℕ
 index_created = codes "Index created.\n"
 
-abbrev pub with_new_index : State → List ℕ → List ℕ → ℕ → Prefs → State
+-- the line of every CREATE INDEX that makes one
+abbrev pub index_made : Option DoneLines
+index_made = Some (line_for_all index_created)
+
+abbrev pub with_new_index : StoreState → List ℕ → List ℕ → ℕ → Prefs → StoreState
 with_new_index m i t place prefs = record m { indexes = with_index m.tables m.indexes i (target t place) prefs all_rows }
 
 -- there are more rows than an index has numbers
-abbrev pub has_too_many_rows : State → List ℕ → Bool
+abbrev pub has_too_many_rows : StoreState → List ℕ → Bool
 has_too_many_rows m t = nat_lt most_given (length (rows_in m.tables t all_rows))
 
 -- whether the name is that of an index, or the column has one
-abbrev pub is_index_taken : State → List ℕ → List ℕ → ℕ → Bool
+abbrev pub is_index_taken : StoreState → List ℕ → List ℕ → ℕ → Bool
 is_index_taken m i t place = is_some (get m.indexes i) || has_context_index m.indexes t place
 
-abbrev pub create_index_on : State → List ℕ → List ℕ → Table → ℕ → Option Prefs → Effect
+abbrev pub create_index_on : StoreState → List ℕ → List ℕ → Table → ℕ → Option Prefs → Effect
 create_index_on m i t x place prefs =
     check_index
     (is_index_taken m i t place)
@@ -100,41 +104,45 @@ create_index_on m i t x place prefs =
     (λ prefs. Does (with_new_index m i t place prefs) index_created)
 
 -- no check holds
-pub record IsFreeIndex (m : State) (i t : List ℕ) (x : Table) (place : ℕ) : Type 0 where
+pub record IsFreeIndex (m : StoreState) (i t : List ℕ) (x : Table) (place : ℕ) : Type 0 where
   pub there : get m.tables t ≡ Some x
   pub free : is_index_taken m i t place ≡ false
   pub texts : is_text_at x.columns place ≡ true
   pub few : (nat_le index_limit (length (indexes_on m.indexes t)) || has_too_many_rows m t) ≡ false
 
 -- what follows where the table and the column are there
-abbrev pub create_index_by : State → List ℕ → List ℕ → Option (List Request) → Table → ℕ → Effect
+abbrev pub create_index_by : StoreState → List ℕ → List ℕ → Option (List Request) → Table → ℕ → Effect
 create_index_by m i t requests x place =
     refuse_by (unknown_asked m.preferences requests) UnknownName (create_index_on m i t x place (prefs_asked m.preferences requests))
 
-abbrev pub create_index : State → List ℕ → List ℕ → List ℕ → Option (List ℕ) → Effect
+abbrev pub create_index : StoreState → List ℕ → List ℕ → List ℕ → Option (List ℕ) → Effect
 create_index m i t column parameters =
     with_found (get m.tables t) (UnknownName t) (λ (x : Table).
-    with_found (place_of column x.columns) (UnknownName column) (λ (place : ℕ).
+    with_found (column_place column x.columns) (UnknownName column) (λ (place : ℕ).
     create_index_by m i t (requests_in parameters) x place))
 
 -- ---- what its functions give
 
 -- What PARAMETERS asks for: the first name that is not defined, and what the names mean.
-pub record AsksFor (ps : Preferences) (requests : Option (List Request)) (asked : Asked) : Type 0 where
+pub record AsksForPreferences (ps : Preferences) (requests : Option (List Request)) (asked : Asked) : Type 0 where
   pub unknown : asked.unknown ≡ unknown_asked ps requests
   pub prefs : asked.prefs ≡ prefs_asked ps requests
 
 -- the changes of the new index: there are some
-abbrev pub MakesIndex : State → List ℕ → List ℕ → ℕ → Prefs → Option (List (List ℕ × Option (List ℕ))) → Type 0
+abbrev pub MakesIndex : StoreState → List ℕ → List ℕ → ℕ → Prefs → Option (List (List ℕ × Option (List ℕ))) → Type 0
 MakesIndex m i t place prefs batch = MatchOption batch ⊥ (λ changes. changes ≡ spell (create_changes m.tables i (target t place) prefs all_rows))
 
 -- the same of an index that may be made, unless the call failed
-abbrev pub MakesFreeIndex : State → List ℕ → List ℕ → ℕ → Prefs → Result (Option (List (List ℕ × Option (List ℕ)))) KeepFault → Type 0
+abbrev pub MakesFreeIndex : StoreState → List ℕ → List ℕ → ℕ → Prefs → Result (Option (List (List ℕ × Option (List ℕ)))) KeepFault → Type 0
 MakesFreeIndex m i t place prefs result = (x : Table) → place < 256 → IsFreeIndex m i t x place → IfOk result (MakesIndex m i t place prefs)
 
 -- what the statement comes to on a column, by its place, of a table with these columns
-abbrev pub PlansIndex : State → Content → Table → List ℕ → List ℕ → List Column → ℕ → Option Prefs → Result Plan KeepFault → Type 0
+abbrev pub PlansIndex : StoreState → Content → Table → List ℕ → List ℕ → List Column → ℕ → Option Prefs → Result Plan KeepFault → Type 0
 PlansIndex m c x i t columns place prefs result = place < 256 → columns ≡ x.columns → IfOk result (IsPlan (create_index_on m i t x place prefs) index_created c)
+
+-- what the statement comes to, where PARAMETERS asks for these preferences
+abbrev pub PlansAsked : StoreState → Content → List ℕ → List ℕ → List ℕ → Asked → Result Plan KeepFault → Type 0
+PlansAsked m c i t column asked result = (parameters : Option (List ℕ)) → AsksForPreferences m.preferences (requests_in parameters) asked → IfOk result (IsPlan (create_index m i t column parameters) index_created c)
 
 -- computed examples: an index on a column of a table with the columns id, body and price; the body, a CLOB, is at the place 1
 a_good_index : (done : Prefs → Effect) → check_index false (is_text_at docs_columns 1) (Some default_prefs) false (codes "di") done ≡ done default_prefs

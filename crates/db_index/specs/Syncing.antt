@@ -10,7 +10,7 @@ use Rattle.ix_context.specs.Changes.{sync_changes}
 use Rattle.ix_context.specs.Indexes.{given, Index, pending_rows, synced}
 use Rattle.ix_context.specs.Rules.{most_given}
 use Rattle.db_cond.specs.Faults.{UnknownName, WrongValues, BadValue, LimitReached}
-use Rattle.db_state.specs.States.{State}
+use Rattle.db_state.specs.States.{StoreState}
 use Rattle.db_state.specs.Effects.{Effect, Refused, Does, refuse, refuse_by, with_found}
 use Rattle.st_parse.specs.declared.statements.Whole.TheVariants.{Fits}
 use Rattle.db_state.specs.Lines.{call_done}
@@ -53,28 +53,28 @@ check_sync unknown args done =
 abbrev pub has_too_many : Index → Bool
 has_too_many x = nat_lt most_given (given x + length (pending_rows x))
 
-abbrev pub with_synced : State → List ℕ → State
+abbrev pub with_synced : StoreState → List ℕ → StoreState
 with_synced m i = record m { indexes = synced m.indexes i }
 
-abbrev pub sync_found : State → List ℕ → Index → Effect
+abbrev pub sync_found : StoreState → List ℕ → Index → Effect
 sync_found m i x = refuse (has_too_many x) LimitReached (Does (with_synced m i) call_done)
 
 -- What the checks let pass has the name of an index, or is spelt as no name, which is a bad value. So the UnknownName here is never reached.
-abbrev pub sync_named : State → Option (List ℕ) → Effect
+abbrev pub sync_named : StoreState → Option (List ℕ) → Effect
 sync_named m None = Refused BadValue
 sync_named m (Some i) = with_found (get m.indexes i) (UnknownName i) (λ (x : Index). sync_found m i x)
 
-abbrev pub has_index : State → Option (List ℕ) → Bool
+abbrev pub has_index : StoreState → Option (List ℕ) → Bool
 has_index m None = false
 has_index m (Some i) = is_some (get m.indexes i)
 
-abbrev pub sync_index : State → List Arg → Effect
+abbrev pub sync_index : StoreState → List Arg → Effect
 sync_index m args = check_sync (unknown_name (has_index m (name_at 0 args)) (name_at 0 args)) args (sync_named m (name_at 0 args))
 
 -- ---- what its functions give
 
 -- the changes of the synchronisation; none where the index would need more documents than there are numbers
-abbrev pub MakesSync : List ℕ → State → Index → Option (List (List ℕ × Option (List ℕ))) → Type 0
+abbrev pub MakesSync : List ℕ → StoreState → Index → Option (List (List ℕ × Option (List ℕ))) → Type 0
 MakesSync i m x batch = MatchOption batch (has_too_many x ≡ true) (λ changes. (has_too_many x ≡ false) × (changes ≡ spell (sync_changes m.tables i x)))
 
 -- computed examples
@@ -97,7 +97,7 @@ no_name_and_a_number : (done : Effect) → check_sync (unknown_name false (name_
     ≡ Refused WrongValues
 no_name_and_a_number done = refl
 
-no_name_alone : (m : State) → sync_index m (TextArg (codes "no name") ∷ []) ≡ Refused BadValue
+no_name_alone : (m : StoreState) → sync_index m (TextArg (codes "no name") ∷ []) ≡ Refused BadValue
 no_name_alone m = refl
 
 bad_size : (done : Effect) → check_sync (unknown_name true (Some (codes "di"))) (TextArg (codes "di") ∷ TextArg (codes "16") ∷ []) done ≡ Refused BadValue

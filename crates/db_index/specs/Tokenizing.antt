@@ -23,7 +23,7 @@ use Rattle.ct_base.specs.Limits.{text_limit}
 use Rattle.db_call.specs.Arguments.{are_texts, name_at, text_at}
 use Rattle.db_cond.specs.Faults.{UnknownName, WrongValues, ValueTooLong, BadValue}
 use Rattle.db_cond.specs.Lines.{line}
-use Rattle.db_state.specs.States.{State, empty_state}
+use Rattle.db_state.specs.States.{StoreState, empty_state}
 use Rattle.db_state.specs.Effects.{Effect, Refused, Does, refuse, refuse_by, with_found}
 use Rattle.std.specs.Fmt.{digits}
 use Rattle.db_state.specs.Lines.{lines_or_none}
@@ -63,14 +63,14 @@ abbrev pub settings_asked : Preferences → List Arg → Option (List Setting)
 settings_asked ps args = if reads_no_preference args then Some [] else option_and_then (get ps.lexers) (name_at 0 args)
 
 -- What follows where no name is unknown: the arguments are one text or two, the text isn't too long, and there are settings, which are missing where the name is badly spelt.
-abbrev pub tokens_asked : State → Option (List Setting) → List Arg → Effect
+abbrev pub tokens_asked : StoreState → Option (List Setting) → List Arg → Effect
 tokens_asked m settings args =
     with_found (text_asked args) WrongValues (λ text.
     refuse (nat_lt text_limit (length text)) ValueTooLong
     (with_found settings BadValue (λ settings.
     Does m (token_lines settings text))))
 
-abbrev pub policy_tokens : State → List Arg → Effect
+abbrev pub policy_tokens : StoreState → List Arg → Effect
 policy_tokens m args = refuse_by (unknown_lexer m.preferences (lexer_name args)) UnknownName (tokens_asked m (settings_asked m.preferences args) args)
 
 -- ---- computed examples
@@ -81,33 +81,33 @@ unfolding digits
 site = refl
 
 -- one text, by the defaults
-a_text : (m : State) → policy_tokens m (TextArg (codes "Web-site") ∷ []) ≡ Does m (token_lines [] (codes "Web-site"))
+a_text : (m : StoreState) → policy_tokens m (TextArg (codes "Web-site") ∷ []) ≡ Does m (token_lines [] (codes "Web-site"))
 a_text m = refl
 
 -- two texts, by the settings of the preference that the first one names
-by_settings : (m : State) (settings : List Setting) → tokens_asked m (Some settings) (TextArg (codes "LX") ∷ TextArg (codes "Web-site") ∷ []) ≡ Does m (token_lines settings (codes "Web-site"))
+by_settings : (m : StoreState) (settings : List Setting) → tokens_asked m (Some settings) (TextArg (codes "LX") ∷ TextArg (codes "Web-site") ∷ []) ≡ Does m (token_lines settings (codes "Web-site"))
 by_settings m settings = refl
 
 the_name : lexer_name (TextArg (codes "LX") ∷ TextArg (codes "Web-site") ∷ []) ≡ Some (codes "lx")
 the_name = refl
 
-no_argument : (m : State) → policy_tokens m [] ≡ Refused WrongValues
+no_argument : (m : StoreState) → policy_tokens m [] ≡ Refused WrongValues
 no_argument m = refl
 
-a_number : (m : State) → policy_tokens m (NumberArg (Fits (pos 1)) ∷ []) ≡ Refused WrongValues
+a_number : (m : StoreState) → policy_tokens m (NumberArg (Fits (pos 1)) ∷ []) ≡ Refused WrongValues
 a_number m = refl
 
-text_too_long : (m : State) → policy_tokens m (TextArg (replicate 4001 0x61) ∷ []) ≡ Refused ValueTooLong
+text_too_long : (m : StoreState) → policy_tokens m (TextArg (replicate 4001 0x61) ∷ []) ≡ Refused ValueTooLong
 text_too_long m = refl
 
-badly_spelt : (m : State) → policy_tokens m (TextArg (codes "no name") ∷ TextArg (codes "a") ∷ []) ≡ Refused BadValue
+badly_spelt : (m : StoreState) → policy_tokens m (TextArg (codes "no name") ∷ TextArg (codes "a") ∷ []) ≡ Refused BadValue
 badly_spelt m = refl
 
 -- a long text comes before a name that is badly spelt, and the number of arguments before both
-too_long_first : (m : State) → policy_tokens m (TextArg (codes "no name") ∷ TextArg (replicate 4001 0x61) ∷ []) ≡ Refused ValueTooLong
+too_long_first : (m : StoreState) → policy_tokens m (TextArg (codes "no name") ∷ TextArg (replicate 4001 0x61) ∷ []) ≡ Refused ValueTooLong
 too_long_first m = refl
 
-wrong_first : (m : State) → policy_tokens m (TextArg (codes "no name") ∷ TextArg (replicate 4001 0x61) ∷ Flag true ∷ []) ≡ Refused WrongValues
+wrong_first : (m : StoreState) → policy_tokens m (TextArg (codes "no name") ∷ TextArg (replicate 4001 0x61) ∷ Flag true ∷ []) ≡ Refused WrongValues
 wrong_first m = refl
 
 -- a new store has no preference; and an unknown name comes before a wrong number of arguments

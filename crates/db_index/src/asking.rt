@@ -5,12 +5,12 @@ ghost use Rattle.std.specs.Prelude.{◌≡◌, IfOk, IfSome, Some, true};
 ghost use Rattle.ct_keep.specs.KeeperViews.{OnlyReads};
 ghost use Rattle.tx_settings.specs.Attributes.{can_be_set};
 ghost use Rattle.db_state.specs.States.{Sees};
-ghost use Rattle.db_index.specs.Indexing.{AsksFor, requests_in};
+ghost use Rattle.db_index.specs.Indexing.{AsksForPreferences, requests_in};
 
 use ct_base::{Name, Text};
 use ct_keep::{KeepFault, Keeper};
 use std::alloc::Global;
-use tx_prefs::{Request, copy, parameters_of, read_requests, unknown_request};
+use tx_prefs::{Request, copy, read_requests, requested_parameters, unknown_request};
 use tx_settings::Prefs;
 
 /// What is asked for.
@@ -29,12 +29,12 @@ fn asked_by<K: Keeper>(
     requests: &[Request],
 ) -> Result<Asked, KeepFault>
     requires { (K.view keeper.old).ready }
-    ensures asked { Sees K.view keeper.old result (λ m asked. AsksFor m.preferences (Some requests.now) asked) }
+    ensures asked { Sees K.view keeper.old result (λ m asked. AsksForPreferences m.preferences (Some requests.now) asked) }
     ensures set { IfOk result (λ asked. IfSome asked.prefs (λ prefs. can_be_set prefs.lexer ≡ true)) }
     ensures reads { OnlyReads K.view keeper.old keeper.new result }
 {
     let unknown = unknown_request(alloc, keeper, requests)?;
-    let parameters = parameters_of(requests)?;
+    let parameters = requested_parameters(requests)?;
     let prefs = copy(alloc, keeper, &parameters)?;
     Ok(Asked { unknown, prefs })
 }
@@ -46,7 +46,7 @@ pub(crate) fn read_asked<K: Keeper>(
     parameters: &Option<Text>,
 ) -> Result<Asked, KeepFault>
     requires { (K.view keeper.old).ready }
-    ensures asked { Sees K.view keeper.old result (λ m asked. AsksFor m.preferences (requests_in parameters.now) asked) }
+    ensures asked { Sees K.view keeper.old result (λ m asked. AsksForPreferences m.preferences (requests_in parameters.now) asked) }
     ensures set { IfOk result (λ asked. IfSome asked.prefs (λ prefs. can_be_set prefs.lexer ≡ true)) }
     ensures reads { OnlyReads K.view keeper.old keeper.new result }
 {

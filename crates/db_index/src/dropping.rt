@@ -5,8 +5,8 @@ ghost use Rattle.std.specs.Prelude.{◌≡◌, IfOk, Some, Err};
 ghost use Rattle.ct_keep.specs.Laws.{changes_weight};
 ghost use Rattle.ct_keep.specs.KeeperViews.{Finds, OnlyReads, Told};
 ghost use Rattle.ct_entry.specs.Changes.{spell};
-ghost use Rattle.ix_context.specs.Removing.{remove_changes};
-ghost use Rattle.db_state.specs.Plans.{IsRemoval, IsStorePlan, Plans, Replies, always};
+ghost use Rattle.ix_context.specs.Removing.{index_removals};
+ghost use Rattle.db_state.specs.Plans.{IsRemoval, IsStorePlan, Plans, Replies, line_for_all};
 ghost use Rattle.db_state.specs.Shapes.{AcceptsStatements, AreStoreChanges};
 ghost use Rattle.db_index.specs.Dropping.{drop_index as drop_index_effect, index_dropped};
 
@@ -20,7 +20,7 @@ use std::alloc::Global;
 /// The changes by which an index goes.
 fn dropped<K: Keeper>(alloc: Global, keeper: &mut K, index: &Name) -> Result<Batch, KeepFault>
     requires { (K.view keeper.old).ready }
-    ensures changes { Finds K.view keeper.old result (λ m batch. batch ≡ spell (remove_changes index.now m)) }
+    ensures changes { Finds K.view keeper.old result (λ m batch. batch ≡ spell (index_removals index.now m)) }
     ensures light { IfOk result (λ batch. changes_weight batch ≡ 0) }
     ensures entries { IfOk result AreStoreChanges }
     ensures reads { OnlyReads K.view keeper.old keeper.new result }
@@ -59,7 +59,7 @@ pub fn drop_index<K: Keeper>(
     index: &Name,
 ) -> Result<Vec<u8>, KeepFault>
     requires { AcceptsStatements (K.view keeper.old) }
-    ensures done { Replies K.view keeper.old keeper.new result (λ m. drop_index_effect m index.now) (Some (always index_dropped)) }
+    ensures done { Replies K.view keeper.old keeper.new result (λ m. drop_index_effect m index.now) (Some (line_for_all index_dropped)) }
     ensures never_full { Told K.view keeper.old (λ m. result ≡ Err KeepFault.Full → ⊥) }
 {
     match drop_plan(alloc, keeper, index) {

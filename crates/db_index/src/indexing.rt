@@ -1,15 +1,15 @@
 //! CREATE INDEX.
 #![tactic(auto, using(ct_keep::specs::Composing::reads_on, ct_keep::specs::Composing::reads_short, ct_keep::specs::Composing::accepts_on))]
 
-ghost use Rattle.std.specs.Prelude.{ℕ, Option, List, ◌≡◌, ◌<◌, IfOk, IfSome, Some, nat_le, length, true};
+ghost use Rattle.std.specs.Prelude.{◌≡◌, ◌<◌, IfOk, IfSome, Some, nat_le, length, true};
 ghost use Rattle.ct_base.specs.Names.{IsName};
 ghost use Rattle.ct_keep.specs.KeeperViews.{OnlyReads};
 ghost use Rattle.tb_table.specs.Tables.{Table};
 ghost use Rattle.tx_settings.specs.Attributes.{can_be_set};
-ghost use Rattle.db_state.specs.States.{OverStates, OverTable, indexes_on, index_limit, Sees};
+ghost use Rattle.db_state.specs.States.{OverStates, OverNamedTable, indexes_on, index_limit, Sees};
 ghost use Rattle.db_state.specs.Effects.{Effect, Checks};
-ghost use Rattle.db_index.specs.Indexing.{MakesFreeIndex, PlansIndex, check_flags, AsksFor, requests_in, create_index as create_index_effect, has_context_index as column_has_index, index_created, is_index_taken, is_text_at as text_at, is_text_sort as sort_of_texts, IsFreeIndex};
-ghost use Rattle.db_state.specs.Plans.{IsStorePlan, IsPlan, Replies, always};
+ghost use Rattle.db_index.specs.Indexing.{MakesFreeIndex, PlansAsked, PlansIndex, check_flags, create_index as create_index_effect, has_context_index as column_has_index, index_made, is_index_taken, is_text_at as text_at, is_text_sort as sort_of_texts, IsFreeIndex};
+ghost use Rattle.db_state.specs.Plans.{IsStorePlan, Replies};
 ghost use Rattle.db_state.specs.Shapes.{AcceptsStatements, AreStoreChanges};
 
 use crate::asking::{Asked, read_asked};
@@ -17,7 +17,7 @@ use ct_base::{Name, Text};
 use ct_keep::{Batch, KeepFault, Keeper};
 use db_cond::Fault;
 use db_names::{IndexHead, indexes_of};
-use db_state::{Plan, carry_out, context_index, has_index, place_of, table_columns, target_of};
+use db_state::{Plan, carry_out, column_place, context_index, has_index, table_columns, target_of};
 use ix_context::{ContextFault, KeyRange, create};
 use std::alloc::Global;
 use tb_table::{Column, Sort};
@@ -179,7 +179,7 @@ fn plan_on<'a, K: Keeper>(
 ) -> Result<Plan<'a>, KeepFault>
     requires ready { (K.view keeper.old).ready }
     requires set { IfSome prefs.now (λ prefs. can_be_set prefs.lexer ≡ true) }
-    ensures plan { OverTable K.view keeper.old table.now (λ m c x. PlansIndex m c x index.now table.now columns.now place prefs.now result) }
+    ensures plan { OverNamedTable K.view keeper.old table.now (λ m c x. PlansIndex m c x index.now table.now columns.now place prefs.now result) }
     ensures entries { IfOk result IsStorePlan }
     ensures reads { OnlyReads K.view keeper.old keeper.new result }
 {
@@ -216,14 +216,14 @@ fn index_plan<'a, K: Keeper>(
 ) -> Result<Plan<'a>, KeepFault>
     requires ready { (K.view keeper.old).ready }
     requires set { IfSome asked.now.prefs (λ prefs. can_be_set prefs.lexer ≡ true) }
-    ensures plan { OverStates K.view keeper.old (λ m c. (parameters : Option (List ℕ)) → AsksFor m.preferences (requests_in parameters) asked.now → IfOk result (IsPlan (create_index_effect m index.now table.now column.now parameters) index_created c)) }
+    ensures plan { OverStates K.view keeper.old (λ m c. PlansAsked m c index.now table.now column.now asked.now result) }
     ensures entries { IfOk result IsStorePlan }
     ensures reads { OnlyReads K.view keeper.old keeper.new result }
 {
     let Some(columns) = table_columns(alloc, keeper, table)? else {
         return Ok(Plan::Refused(Fault::UnknownName(table.as_str())));
     };
-    let Some(place) = place_of(column, &columns) else {
+    let Some(place) = column_place(column, &columns) else {
         return Ok(Plan::Refused(Fault::UnknownName(column.as_str())));
     };
     if let Some(name) = &asked.unknown {
@@ -248,7 +248,7 @@ pub fn create_index<K: Keeper>(
     parameters: &Option<Text>,
 ) -> Result<Vec<u8>, KeepFault>
     requires { AcceptsStatements (K.view keeper.old) }
-    ensures { Replies K.view keeper.old keeper.new result (λ m. create_index_effect m index.now table.now column.now parameters.now) (Some (always index_created)) }
+    ensures { Replies K.view keeper.old keeper.new result (λ m. create_index_effect m index.now table.now column.now parameters.now) index_made }
 {
     let asked = match read_asked(alloc, keeper, parameters) {
         Ok(asked) => asked,

@@ -9,7 +9,7 @@ ghost use Rattle.db_state.specs.States.{OverIndex, Sees};
 ghost use Rattle.db_state.specs.Effects.{Effect, Checks};
 ghost use Rattle.db_index.specs.Syncing.{MakesSync, are_sync_args as sync_args, check_sync, has_index as has_named_index, is_bad_size as bad_size, is_memory_size as memory_size, is_unit as unit_letter, sync_index as sync_effect, unknown_name as name_unknown};
 ghost use Rattle.db_state.specs.Lines.{call_done};
-ghost use Rattle.db_state.specs.Plans.{IsStorePlan, Plans, Replies, always};
+ghost use Rattle.db_state.specs.Plans.{IsStorePlan, Plans, Replies, line_for_all};
 ghost use Rattle.db_state.specs.Shapes.{AcceptsStatements, AreStoreChanges};
 
 use ct_base::Name;
@@ -163,7 +163,7 @@ pub fn sync_index<K: Keeper>(
     args: &[Arg],
 ) -> Result<Vec<u8>, KeepFault>
     requires { AcceptsStatements (K.view keeper.old) }
-    ensures { Replies K.view keeper.old keeper.new result (λ m. sync_effect m args.now) (Some (always call_done)) }
+    ensures { Replies K.view keeper.old keeper.new result (λ m. sync_effect m args.now) (Some (line_for_all call_done)) }
 {
     let name = name_at(alloc, args, 0)?;
     match sync_plan(alloc, keeper, &name, args) {

@@ -6,7 +6,7 @@ ghost use Rattle.std.specs.Option.{option_map};
 ghost use Rattle.ct_base.specs.Limits.{text_limit};
 ghost use Rattle.ct_keep.specs.KeeperViews.{OnlyReads};
 ghost use Rattle.db_cond.specs.Lines.{line};
-ghost use Rattle.db_state.specs.States.{Sees, State};
+ghost use Rattle.db_state.specs.States.{Sees, StoreState};
 ghost use Rattle.db_state.specs.Effects.{reply_by};
 ghost use Rattle.db_state.specs.Lines.{lines_or_none};
 ghost use Rattle.db_state.specs.Plans.{GivesReply, Replies};
@@ -36,7 +36,7 @@ pub fn policy_tokens<K: Keeper>(
 ) -> Result<Vec<u8>, KeepFault>
     requires { (K.view keeper.old).ready }
     ensures serves { Replies K.view keeper.old keeper.new result (λ m. policy_tokens_effect m args.now) None }
-    ensures fixed { (m : State) → are_few args.now ≡ true → GivesReply result (policy_tokens_effect m args.now) }
+    ensures fixed { (m : StoreState) → are_few args.now ≡ true → GivesReply result (policy_tokens_effect m args.now) }
     ensures reads { OnlyReads K.view keeper.old keeper.new result }
 {
     if reads_no_preference(args) {
@@ -55,7 +55,7 @@ fn reads_no_preference(args: &[Arg]) -> bool
 /// The reply where no preference is named.
 fn default_tokens(alloc: Global, args: &[Arg]) -> Result<Vec<u8>, Memory>
     requires { are_few args.now ≡ true }
-    ensures { (m : State) → IfOk result (λ reply. reply.items ≡ reply_by (policy_tokens_effect m args.now)) }
+    ensures { (m : StoreState) → IfOk result (λ reply. reply.items ≡ reply_by (policy_tokens_effect m args.now)) }
 {
     let settings = Vec::new(alloc);
     tokens_asked(alloc, Some(&settings), args)
@@ -87,7 +87,7 @@ fn tokens_asked(
     settings: Option<&[Setting]>,
     args: &[Arg],
 ) -> Result<Vec<u8>, Memory>
-    ensures { (m : State) → IfOk result (λ reply. reply.items ≡ reply_by (asked_effect m (option_map (λ s. s.now) settings.entry) args.now)) }
+    ensures { (m : StoreState) → IfOk result (λ reply. reply.items ≡ reply_by (asked_effect m (option_map (λ s. s.now) settings.entry) args.now)) }
 {
     let Some(text) = text_asked(args) else {
         return fault_line(alloc, Fault::WrongValues);

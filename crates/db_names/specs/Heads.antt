@@ -17,8 +17,8 @@ index_code Catalogue = 2
 index_code Rules = 3
 
 -- the byte of the kind, the table as a text, and the column in one byte
-abbrev pub head_bytes : IndexKind → List ℕ → ℕ → List ℕ
-head_bytes kind table column = index_code kind ∷ text_bytes table ++ column ∷ []
+abbrev pub index_head_bytes : IndexKind → List ℕ → ℕ → List ℕ
+index_head_bytes kind table column = index_code kind ∷ text_bytes table ++ column ∷ []
 
 -- a head that an index may have: its table is a name, and its column has one byte
 pub record IsHead (h : IndexHead) : Type 0 where
@@ -28,7 +28,7 @@ pub record IsHead (h : IndexHead) : Type 0 where
 -- There is an entry, and its value begins with this head.
 pub record HasHead (entry : Option (List ℕ)) (h : IndexHead) : Type 0 where
   pub rest : List ℕ
-  pub whole : entry ≡ Some (head_bytes h.kind h.target.table h.target.column ++ rest)
+  pub whole : entry ≡ Some (index_head_bytes h.kind h.target.table h.target.column ++ rest)
 
 -- the entry begins with this head; or with none
 abbrev pub SpellsHead : Option (List ℕ) → Option IndexHead → Type 0
@@ -49,6 +49,6 @@ pub record HeadsStand (f : Key → Option (List ℕ)) (hs : Names IndexHead) : T
   pub each : (i : List ℕ) (h : IndexHead) → get hs i ≡ Some h → IsHead h
 
 -- computed example: what the entry of a CTXCAT index on the column 1 of a table `items` begins with
-a_head : head_bytes Catalogue (codes "items") 1 ≡ 2 ∷ 5 ∷ codes "items" ++ 1 ∷ []
+a_head : index_head_bytes Catalogue (codes "items") 1 ≡ 2 ∷ 5 ∷ codes "items" ++ 1 ∷ []
 unfolding varint
 a_head = refl

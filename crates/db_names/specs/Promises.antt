@@ -31,16 +31,16 @@ abbrev pub IndexesOnAreRead : Type 0
 IndexesOnAreRead = (f : Key → Option (List ℕ)) (hs : Names IndexHead) → HeadsStand f hs → (target : Target) (kind : IndexKind) (found : Option (List ℕ)) → IsIndexOn f target kind found → IsOn hs (record { kind = kind; target = target }) found
 
 -- whether an index is on a table
-abbrev pub is_of : List ℕ → IndexHead → Bool
-is_of t h = same_list h.target.table t
+abbrev pub is_on_table : List ℕ → IndexHead → Bool
+is_on_table t h = same_list h.target.table t
 
 -- the head of an index, where it is on the table
 abbrev pub head_of : List ℕ → Option IndexHead → Option IndexHead
-head_of t o = option_filter (is_of t) o
+head_of t o = option_filter (is_on_table t) o
 
 -- the indexes on a table, in the order of their keys
 abbrev pub heads_of : List ℕ → Names IndexHead → List (List ℕ × IndexHead)
-heads_of t hs = filter (λ e. is_of t e.1) (entries (in_key_order hs))
+heads_of t hs = filter (λ e. is_on_table t e.1) (entries (in_key_order hs))
 
 -- the indexes that are found on a table are those on it
 abbrev pub IndexesOfAreRead : Type 0

@@ -4,6 +4,7 @@ use Rattle.std.specs.Prelude.{not, is_some}
 use Rattle.std.specs.Bool.{if◌then◌else◌}
 use Rattle.std.specs.Option.{option_map}
 use Rattle.std.specs.FinMap.{get}
+use Rattle.ct_base.specs.laws.Options.{is_some-option_map}
 use Rattle.ct_entry.specs.Maps.{Names}
 use Rattle.st_parse.specs.declared.statements.Arg.{Arg}
 use Rattle.tx_tags.specs.declared.groups.SectionKind.{SectionKind}
@@ -12,23 +13,19 @@ use Rattle.tx_settings.specs.declared.attributes.Setting.{Setting}
 use Rattle.tx_prefs.specs.declared.kinds.PrefKind.{PrefKind}
 use Rattle.db_call.specs.Arguments.{are_texts, text_at}
 use Rattle.db_cond.specs.Faults.{Refusal, BadValue}
-use Rattle.db_state.specs.States.{State}
+use Rattle.db_state.specs.States.{StoreState}
 use Rattle.db_state.specs.Effects.{Effect, Refused, Does, refuse, with_found}
-use Rattle.db_prefs.specs.Defining.{add_section, add_special_section, add_stopword, among, are_new_args, attribute_set, check, create, get_named, has_stopword_length, is_null_type, is_there, is_type, new_made, of_both, of_other_kind, or_else, section_added, set_attribute, setting_of, special_added, special_of, stopword_added, taken_name, taken_section, taken_special, taken_tag, unknown_name}
+use Rattle.db_prefs.specs.Defining.{add_section, add_special_section, add_stopword, among, are_new_args, attribute_set, check, create, get_named, has_stopword_length, is_null_type, is_there, is_type, new_made, of_both, of_other_kind, or_else, section_added, set_attribute, setting_of, special_added, special_of, stopword_added, taken_name, taken_section, taken_special, taken_tag, missing_name}
 use Rattle.db_prefs.specs.declared.special_sections.Special.{Special}
 
 -- ---- one step
 
-pub some_mapped : {X Y : Type 0} (f : X → Y) (o : Option X) → is_some (option_map f o) ≡ is_some o
-some_mapped f None = refl
-some_mapped f (Some x) = refl
-
 -- the name that nothing has, by what was read
-pub unknown_by : {X Y : Type 0} (f : X → Y) (found : Option X) (name unknown : Option (List ℕ)) (there : Bool) → there ≡ is_some found → unknown ≡ unknown_name there name → unknown ≡ unknown_name (is_some (option_map f found)) name
-unknown_by f found name unknown there there_is unknown_is = unknown_is ∙ ap (λ (b : Bool). unknown_name b name) (there_is ∙ sym (some_mapped f found))
+pub unknown_by : {X Y : Type 0} (f : X → Y) (found : Option X) (name unknown : Option (List ℕ)) (there : Bool) → there ≡ is_some found → unknown ≡ missing_name there name → unknown ≡ missing_name (is_some (option_map f found)) name
+unknown_by f found name unknown there there_is unknown_is = unknown_is ∙ ap (λ (b : Bool). missing_name b name) (there_is ∙ sym (is_some-option_map f found))
 
-pub unknown_of : {X : Type 0} (found : Option X) (name unknown : Option (List ℕ)) (there : Bool) → there ≡ is_some found → unknown ≡ unknown_name there name → unknown ≡ unknown_name (is_some found) name
-unknown_of found name unknown there there_is unknown_is = unknown_is ∙ ap (λ (b : Bool). unknown_name b name) there_is
+pub unknown_of : {X : Type 0} (found : Option X) (name unknown : Option (List ℕ)) (there : Bool) → there ≡ is_some found → unknown ≡ missing_name there name → unknown ≡ missing_name (is_some found) name
+unknown_of found name unknown there there_is unknown_is = unknown_is ∙ ap (λ (b : Bool). missing_name b name) there_is
 
 -- what the name has
 pub had : {X : Type 0} (xs : Names X) (name : Option (List ℕ)) (n : List ℕ) (found : Option X) (x : X) → found ≡ get_named xs name → name ≡ Some n → found ≡ Some x → get xs n ≡ Some x
@@ -50,7 +47,7 @@ pub both_there : {X Y : Type 0} (o : Option X) (p : Option Y) (x : X) (y : Y) (e
 both_there o p x y effect first second = λ i. of_both (first i) (second i) effect
 
 -- what the first checks let pass isn't there yet
-pub check_passed : (unknown taken : Option (List ℕ)) (shaped : Bool) (m : State) → check unknown taken shaped (Does m []) ≡ Does m [] → taken ≡ None
+pub check_passed : (unknown taken : Option (List ℕ)) (shaped : Bool) (m : StoreState) → check unknown taken shaped (Does m []) ≡ Does m [] → taken ≡ None
 check_passed (Some x) taken shaped m h = cc
 check_passed None (Some x) shaped m h = cc
 check_passed None None shaped m h = refl
@@ -73,7 +70,7 @@ section_fresh kind taken section tag s t found g is none found_is section_is tag
 
 -- ---- each effect
 
-module _ (m : State) (args : List Arg) where
+module _ (m : StoreState) (args : List Arg) where
   -- after the first checks
   abbrev pub create_on : PrefKind → Option (List ℕ) → Option (List ℕ) → Effect
   create_on kind name text = refuse (not (is_type kind text)) BadValue (with_found name BadValue (new_made kind (is_null_type text) m))
@@ -89,11 +86,11 @@ module _ (m : State) (args : List Arg) where
   abbrev pub attribute_on : Option (List ℕ) → Option (List Setting) → Option Setting → Effect
   attribute_on name found set = with_found set BadValue (λ (s : Setting). of_both name found (attribute_set s m))
 
-  pub attribute_as : (name unknown : Option (List ℕ)) (found : Option (List Setting)) (set : Option Setting) (shaped : Bool) → found ≡ get_named m.preferences.lexers name → unknown ≡ unknown_name (is_some found) name → shaped ≡ are_texts 3 args
+  pub attribute_as : (name unknown : Option (List ℕ)) (found : Option (List Setting)) (set : Option Setting) (shaped : Bool) → found ≡ get_named m.preferences.lexers name → unknown ≡ missing_name (is_some found) name → shaped ≡ are_texts 3 args
       → set ≡ setting_of (text_at 1 args) (text_at 2 args) → set_attribute m name args ≡ check unknown None shaped (attribute_on name found set)
   attribute_as name unknown found set shaped read unknown_is shaped_is set_is =
       let by_found : get_named m.preferences.lexers name ≡ found = sym read in
-      let by_name : unknown_name (is_some (get_named m.preferences.lexers name)) name ≡ unknown = ap (λ (f : Option (List Setting)). unknown_name (is_some f) name) by_found ∙ sym unknown_is in
+      let by_name : missing_name (is_some (get_named m.preferences.lexers name)) name ≡ unknown = ap (λ (f : Option (List Setting)). missing_name (is_some f) name) by_found ∙ sym unknown_is in
       let by_args : are_texts 3 args ≡ shaped = sym shaped_is in
       let by_set : setting_of (text_at 1 args) (text_at 2 args) ≡ set = sym set_is in
       λ i. check (by_name i) None (by_args i) (attribute_on name (by_found i) (by_set i))
@@ -101,11 +98,11 @@ module _ (m : State) (args : List Arg) where
   abbrev pub stopword_on : Option (List ℕ) → Option (List (List ℕ)) → Option (List ℕ) → Effect
   stopword_on name found word = with_found word BadValue (λ (word : List ℕ). refuse (not (has_stopword_length word)) BadValue (of_both name found (stopword_added word m)))
 
-  pub stopword_as : (name unknown taken word : Option (List ℕ)) (found : Option (List (List ℕ))) (shaped : Bool) → found ≡ get_named m.preferences.stoplists name → unknown ≡ unknown_name (is_some found) name → taken ≡ among found word → shaped ≡ are_texts 2 args
+  pub stopword_as : (name unknown taken word : Option (List ℕ)) (found : Option (List (List ℕ))) (shaped : Bool) → found ≡ get_named m.preferences.stoplists name → unknown ≡ missing_name (is_some found) name → taken ≡ among found word → shaped ≡ are_texts 2 args
       → word ≡ text_at 1 args → add_stopword m name args ≡ check unknown taken shaped (stopword_on name found word)
   stopword_as name unknown taken word found shaped read unknown_is taken_is shaped_is word_is =
       let by_found : get_named m.preferences.stoplists name ≡ found = sym read in
-      let by_name : unknown_name (is_some (get_named m.preferences.stoplists name)) name ≡ unknown = ap (λ (f : Option (List (List ℕ))). unknown_name (is_some f) name) by_found ∙ sym unknown_is in
+      let by_name : missing_name (is_some (get_named m.preferences.stoplists name)) name ≡ unknown = ap (λ (f : Option (List (List ℕ))). missing_name (is_some f) name) by_found ∙ sym unknown_is in
       let by_word : text_at 1 args ≡ word = sym word_is in
       let by_list : among (get_named m.preferences.stoplists name) (text_at 1 args) ≡ taken = (λ i. among (by_found i) (by_word i)) ∙ sym taken_is in
       let by_args : are_texts 2 args ≡ shaped = sym shaped_is in
@@ -114,24 +111,24 @@ module _ (m : State) (args : List Arg) where
   abbrev pub special_on : Option (List ℕ) → Option Group → Option Special → Effect
   special_on name found asked = with_found asked BadValue (λ (s : Special). of_both name found (special_added s m))
 
-  pub special_as : (name unknown taken : Option (List ℕ)) (found : Option Group) (asked : Option Special) (shaped : Bool) → found ≡ get_named m.preferences.groups name → unknown ≡ unknown_name (is_some found) name → taken ≡ taken_special asked found → shaped ≡ are_texts 2 args
+  pub special_as : (name unknown taken : Option (List ℕ)) (found : Option Group) (asked : Option Special) (shaped : Bool) → found ≡ get_named m.preferences.groups name → unknown ≡ missing_name (is_some found) name → taken ≡ taken_special asked found → shaped ≡ are_texts 2 args
       → asked ≡ special_of (text_at 1 args) → add_special_section m name args ≡ check unknown taken shaped (special_on name found asked)
   special_as name unknown taken found asked shaped read unknown_is taken_is shaped_is asked_is =
       let by_found : get_named m.preferences.groups name ≡ found = sym read in
-      let by_name : unknown_name (is_some (get_named m.preferences.groups name)) name ≡ unknown = ap (λ (f : Option Group). unknown_name (is_some f) name) by_found ∙ sym unknown_is in
+      let by_name : missing_name (is_some (get_named m.preferences.groups name)) name ≡ unknown = ap (λ (f : Option Group). missing_name (is_some f) name) by_found ∙ sym unknown_is in
       let by_word : special_of (text_at 1 args) ≡ asked = sym asked_is in
       let by_group : taken_special (special_of (text_at 1 args)) (get_named m.preferences.groups name) ≡ taken = (λ i. taken_special (by_word i) (by_found i)) ∙ sym taken_is in
       let by_args : are_texts 2 args ≡ shaped = sym shaped_is in
       λ i. check (by_name i) (by_group i) (by_args i) (special_on name (by_found i) (by_word i))
 
-module _ (m : State) (kind : SectionKind) (section tag : Option (List ℕ)) where
+module _ (m : StoreState) (kind : SectionKind) (section tag : Option (List ℕ)) where
   abbrev pub section_on : Option (List ℕ) → Option Group → Effect
   section_on name found = of_both name found (λ name g. of_both section tag (section_added kind name g m))
 
-  pub section_as : (name unknown taken : Option (List ℕ)) (found : Option Group) (shaped : Bool) → found ≡ get_named m.preferences.groups name → unknown ≡ unknown_name (is_some found) name → taken ≡ taken_section kind section tag found
+  pub section_as : (name unknown taken : Option (List ℕ)) (found : Option Group) (shaped : Bool) → found ≡ get_named m.preferences.groups name → unknown ≡ missing_name (is_some found) name → taken ≡ taken_section kind section tag found
       → add_section kind shaped m name section tag ≡ check unknown taken shaped (section_on name found)
   section_as name unknown taken found shaped read unknown_is taken_is =
       let by_found : get_named m.preferences.groups name ≡ found = sym read in
-      let by_name : unknown_name (is_some (get_named m.preferences.groups name)) name ≡ unknown = ap (λ (f : Option Group). unknown_name (is_some f) name) by_found ∙ sym unknown_is in
+      let by_name : missing_name (is_some (get_named m.preferences.groups name)) name ≡ unknown = ap (λ (f : Option Group). missing_name (is_some f) name) by_found ∙ sym unknown_is in
       let by_group : taken_section kind section tag (get_named m.preferences.groups name) ≡ taken = ap (taken_section kind section tag) by_found ∙ sym taken_is in
       λ i. check (by_name i) (by_group i) shaped (section_on name (by_found i))

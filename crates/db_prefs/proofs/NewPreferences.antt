@@ -23,17 +23,14 @@ use Rattle.tx_prefs.specs.declared.kinds.PrefKind.TheVariants.{Lexer, Stoplist, 
 use Rattle.tx_prefs.specs.Preferences.{Preferences, with_lexer, with_stoplist, with_group}
 use Rattle.tx_prefs.specs.Spelling.{PreferencesStand, lexer_changes, stoplist_changes, group_changes}
 use Rattle.tx_prefs.specs.Rules.{AreNamed, ArePreferences, are_stopwords, preference_limit}
-use Rattle.tx_prefs.specs.Sees.{HoldsPreferences, is_full}
+use Rattle.tx_prefs.specs.Sees.{is_kind_full}
 use Rattle.tx_prefs.specs.laws.Changes.{is_of_preferences, lexer_stands, stoplist_stands, group_stands}
 use Rattle.tx_prefs.specs.laws.Rules.{named_more, named_again}
 use Rattle.db_state.specs.laws.ShortRows.{rows_frame}
-use Rattle.db_state.specs.States.{HasShortRows, State, Stands, is_built, is_of_rows}
+use Rattle.db_state.specs.States.{HasShortRows, StoreState, StandsForState, is_built, is_of_rows}
 use Rattle.db_prefs.specs.Defining.{new_changes, with_new}
 
 -- what is read of preferences
-pub holds_preferences : (c : Content) (m : State) → Stands c m → HoldsPreferences c m.preferences
-holds_preferences c m stands = record { only = stands.only; stand = stands.preferences; rules = stands.state.preferences }
-
 -- ---- the kinds of entries
 
 preferences_built : (k : Kind) → is_built k ≡ false → is_of_preferences k ≡ false
@@ -63,8 +60,8 @@ indexes_preferences k h = refl
 -- ---- other preferences
 
 -- Changes of entries of preferences, after which these spell preferences that keep their rules, leave all else.
-module _ (c : Content) (m : State) (ps : Preferences) (ws : List (Key × Option (List ℕ))) where
-  preferences_stand : Stands c m → AllOf is_of_preferences ws → AreChanges ws → PreferencesStand (view ws (at c)) ps → ArePreferences ps → Stands (after (spell ws) c) (record m { preferences = ps })
+module _ (c : Content) (m : StoreState) (ps : Preferences) (ws : List (Key × Option (List ℕ))) where
+  preferences_stand : StandsForState c m → AllOf is_of_preferences ws → AreChanges ws → PreferencesStand (view ws (at c)) ps → ArePreferences ps → StandsForState (after (spell ws) c) (record m { preferences = ps })
   preferences_stand stands of are stand rules = record {
     only = only-after ws c stands.only are;
     unbuilt = λ k h. at-after ws c k ∙ told_frame is_of_preferences ws k (at c k) of (preferences_built k.kind h) ∙ stands.unbuilt k h;
@@ -81,43 +78,43 @@ module _ (c : Content) (m : State) (ps : Preferences) (ws : List (Key × Option 
     };
   }
 
-module _ (c : Content) (m : State) (name : List ℕ) (stands : Stands c m) where
+module _ (c : Content) (m : StoreState) (name : List ℕ) (stands : StandsForState c m) where
   rules : ArePreferences m.preferences
   rules = stands.state.preferences
 
   lexer_put : (settings : List Setting) → IsName name → AreNamed are_lexer_settings (insert m.preferences.lexers name settings)
-      → Stands (after (spell (lexer_changes name settings)) c) (record m { preferences = with_lexer m.preferences name settings })
+      → StandsForState (after (spell (lexer_changes name settings)) c) (record m { preferences = with_lexer m.preferences name settings })
   lexer_put settings is_name are =
       preferences_stand c m (with_lexer m.preferences name settings) (lexer_changes name settings) stands (refl, tt) (record { owner = is_name; part = refl }, tt)
       (lexer_stands (at c) m.preferences name settings stands.preferences) (record { lexers = are; stoplists = rules.stoplists; groups = rules.groups })
 
   stoplist_put : (words : List (List ℕ)) → IsName name → AreNamed are_stopwords (insert m.preferences.stoplists name words)
-      → Stands (after (spell (stoplist_changes name words)) c) (record m { preferences = with_stoplist m.preferences name words })
+      → StandsForState (after (spell (stoplist_changes name words)) c) (record m { preferences = with_stoplist m.preferences name words })
   stoplist_put words is_name are =
       preferences_stand c m (with_stoplist m.preferences name words) (stoplist_changes name words) stands (refl, tt) (record { owner = is_name; part = refl }, tt)
       (stoplist_stands (at c) m.preferences name words stands.preferences) (record { lexers = rules.lexers; stoplists = are; groups = rules.groups })
 
   group_put : (group : Group) → IsName name → AreNamed is_named_group (insert m.preferences.groups name group)
-      → Stands (after (spell (group_changes name group)) c) (record m { preferences = with_group m.preferences name group })
+      → StandsForState (after (spell (group_changes name group)) c) (record m { preferences = with_group m.preferences name group })
   group_put group is_name are =
       preferences_stand c m (with_group m.preferences name group) (group_changes name group) stands (refl, tt) (record { owner = is_name; part = refl }, tt)
       (group_stands (at c) m.preferences name group stands.preferences) (record { lexers = rules.lexers; stoplists = rules.stoplists; groups = are })
 
   -- another value of one that is there
-  pub lexer_again : (old settings : List Setting) → get m.preferences.lexers name ≡ Some old → are_lexer_settings settings ≡ true → Stands (after (spell (lexer_changes name settings)) c) (record m { preferences = with_lexer m.preferences name settings })
+  pub lexer_again : (old settings : List Setting) → get m.preferences.lexers name ≡ Some old → are_lexer_settings settings ≡ true → StandsForState (after (spell (lexer_changes name settings)) c) (record m { preferences = with_lexer m.preferences name settings })
   lexer_again old settings there keeps = lexer_put settings (rules.lexers.names name old there) (named_again are_lexer_settings m.preferences.lexers name settings old there rules.lexers keeps)
 
-  pub stoplist_again : (old words : List (List ℕ)) → get m.preferences.stoplists name ≡ Some old → are_stopwords words ≡ true → Stands (after (spell (stoplist_changes name words)) c) (record m { preferences = with_stoplist m.preferences name words })
+  pub stoplist_again : (old words : List (List ℕ)) → get m.preferences.stoplists name ≡ Some old → are_stopwords words ≡ true → StandsForState (after (spell (stoplist_changes name words)) c) (record m { preferences = with_stoplist m.preferences name words })
   stoplist_again old words there keeps = stoplist_put words (rules.stoplists.names name old there) (named_again are_stopwords m.preferences.stoplists name words old there rules.stoplists keeps)
 
-  pub group_again : (old group : Group) → get m.preferences.groups name ≡ Some old → is_named_group group ≡ true → Stands (after (spell (group_changes name group)) c) (record m { preferences = with_group m.preferences name group })
+  pub group_again : (old group : Group) → get m.preferences.groups name ≡ Some old → is_named_group group ≡ true → StandsForState (after (spell (group_changes name group)) c) (record m { preferences = with_group m.preferences name group })
   group_again old group there keeps = group_put group (rules.groups.names name old there) (named_again is_named_group m.preferences.groups name group old there rules.groups keeps)
 
   -- a new one, where there is room for one
   few : (count : ℕ) → nat_le preference_limit count ≡ false → count < preference_limit
   few count room = leb-false preference_limit count room
 
-  pub new_stands : (k : PrefKind) (is_null : Bool) → IsName name → is_full k m.preferences ≡ false → Stands (after (spell (new_changes k name is_null)) c) (record m { preferences = with_new k m.preferences name is_null })
+  pub new_stands : (k : PrefKind) (is_null : Bool) → IsName name → is_kind_full k m.preferences ≡ false → StandsForState (after (spell (new_changes k name is_null)) c) (record m { preferences = with_new k m.preferences name is_null })
   new_stands Lexer is_null is_name room = lexer_put [] is_name (named_more are_lexer_settings m.preferences.lexers name [] rules.lexers is_name refl (few (length (entries m.preferences.lexers)) room))
   new_stands Stoplist is_null is_name room = stoplist_put [] is_name (named_more are_stopwords m.preferences.stoplists name [] rules.stoplists is_name refl (few (length (entries m.preferences.stoplists)) room))
   new_stands SectionGroup is_null is_name room =

@@ -23,13 +23,13 @@ use Rattle.tx_prefs.specs.Preferences.{with_setting}
 use Rattle.tx_prefs.specs.Promises.{has_room, kind_count}
 use Rattle.tx_settings.specs.PrefsPromises.{stopword_limit}
 use Rattle.tx_prefs.specs.Rules.{are_stopwords, is_stopword}
-use Rattle.tx_prefs.specs.Sees.{is_full}
+use Rattle.tx_prefs.specs.Sees.{is_kind_full}
 use Rattle.tx_prefs.specs.Shapes.{HasPrefValue}
 use Rattle.tx_prefs.specs.Spelling.{lexer_changes, stoplist_changes, group_changes}
 use Rattle.tx_prefs.specs.laws.Keeps.{stopwords_kept, groups_kept}
 use Rattle.tx_prefs.specs.laws.Lengths.{settings_short, words_short}
 use Rattle.db_cond.specs.Faults.{BadValue, LimitReached}
-use Rattle.db_state.specs.States.{State, Stands}
+use Rattle.db_state.specs.States.{StoreState, StandsForState}
 use Rattle.db_state.specs.Effects.{Effect, Does}
 use Rattle.db_state.specs.Shapes.{AreStoreChanges, HasStoreValue}
 use Rattle.db_state.specs.Plans.{IsPlan}
@@ -69,22 +69,19 @@ new_stoplist name words found none made =
     always_made found (length (words_bytes [])) (spell (stoplist_changes name [])) (omega (arith, short))
     (subst (λ (ws : List (List ℕ)). MatchOption found (value_limit < length (words_bytes ws)) (λ batch. batch ≡ spell (stoplist_changes name ws))) none made)
 
-pub not_none : {X : Type 0} (found : Option X) (made : X) → found ≡ None → found ≡ Some made → ⊥
-not_none found made none has = let e : None ≡ Some made = sym none ∙ has in cc
-
 -- the batch that was found is the one that was made
 pub same_batch : {X : Type 0} (found : Option X) (batch made : X) → found ≡ Some batch → found ≡ Some made → batch ≡ made
 same_batch found batch made is has = let e : Some batch ≡ Some made = sym is ∙ has in cc
 
 -- the plan of the changes by which a content stands for a state
-plan_of : (effect : Effect) (c : Content) (n : State) (ws : List (Key × Option (List ℕ))) (batch : List (List ℕ × Option (List ℕ))) → effect ≡ Does n call_done → batch ≡ spell ws → Stands (after (spell ws) c) n → IsPlan effect call_done c (Done batch)
-plan_of effect c n ws batch does is stands = (n, does, subst (λ (b : List (List ℕ × Option (List ℕ))). Stands (after b c) n) (sym is) stands)
+plan_of : (effect : Effect) (c : Content) (n : StoreState) (ws : List (Key × Option (List ℕ))) (batch : List (List ℕ × Option (List ℕ))) → effect ≡ Does n call_done → batch ≡ spell ws → StandsForState (after (spell ws) c) n → IsPlan effect call_done c (Done batch)
+plan_of effect c n ws batch does is stands = (n, does, subst (λ (b : List (List ℕ × Option (List ℕ))). StandsForState (after b c) n) (sym is) stands)
 
-module _ (c : Content) (m : State) (name : List ℕ) (batch : List (List ℕ × Option (List ℕ))) (stands : Stands c m) where
+module _ (c : Content) (m : StoreState) (name : List ℕ) (batch : List (List ℕ × Option (List ℕ))) (stands : StandsForState c m) where
   -- something new
-  pub new_planned : (k : PrefKind) (is_null : Bool) → IsName name → is_full k m.preferences ≡ false → batch ≡ spell (new_changes k name is_null) → IsPlan (new_made k is_null m name) call_done c (Done batch)
+  pub new_planned : (k : PrefKind) (is_null : Bool) → IsName name → is_kind_full k m.preferences ≡ false → batch ≡ spell (new_changes k name is_null) → IsPlan (new_made k is_null m name) call_done c (Done batch)
   new_planned k is_null is_name room is =
-      plan_of (new_made k is_null m name) c _ (new_changes k name is_null) batch (passes (is_full k m.preferences) LimitReached _ room) is (new_stands c m name stands k is_null is_name room)
+      plan_of (new_made k is_null m name) c _ (new_changes k name is_null) batch (passes (is_kind_full k m.preferences) LimitReached _ room) is (new_stands c m name stands k is_null is_name room)
 
   -- an attribute
   pub attribute_planned : (s : Setting) (old : List Setting) → get m.preferences.lexers name ≡ Some old → are_lexer_settings (with_setting s old) ≡ true → batch ≡ spell (lexer_changes name (with_setting s old))

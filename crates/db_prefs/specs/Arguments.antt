@@ -23,9 +23,9 @@ is_flagged (a ∷ b ∷ c ∷ Flag d ∷ args) = d
 is_flagged args = false
 
 -- whether there is a text, and it is this word, which is given in lower case, in any ASCII case
-abbrev pub is_word : List ℕ → Option (List ℕ) → Bool
-is_word word None = false
-is_word word (Some text) = is_spelt word text
+abbrev pub spells_word : List ℕ → Option (List ℕ) → Bool
+spells_word word None = false
+spells_word word (Some text) = is_spelt word text
 
 -- computed examples
 a_tag : lower_at 1 (Text (codes "g") ∷ Text (codes "H1") ∷ []) ≡ Some (codes "h1")
@@ -40,5 +40,5 @@ a_visible_field = refl
 no_flag : are_texts_and_flag (Text (codes "g") ∷ Text (codes "f") ∷ Text (codes "t") ∷ Text (codes "TRUE") ∷ []) ≡ false
 no_flag = refl
 
-in_any_case : is_word (codes "basic_lexer") (Some (codes "Basic_Lexer")) ≡ true
+in_any_case : spells_word (codes "basic_lexer") (Some (codes "Basic_Lexer")) ≡ true
 in_any_case = refl

@@ -25,20 +25,20 @@ use Rattle.tx_prefs.specs.Preferences.{Preferences, with_lexer, with_stoplist, w
 use Rattle.tx_settings.specs.PrefsPromises.{stopword_limit}
 use Rattle.tx_prefs.specs.Promises.{kind_count}
 use Rattle.tx_prefs.specs.Spelling.{lexer_changes, stoplist_changes, group_changes}
-use Rattle.tx_prefs.specs.Sees.{has_named, is_full}
+use Rattle.tx_prefs.specs.Sees.{has_named, is_kind_full}
 use Rattle.db_cond.specs.Faults.{UnknownName, ExistsAlready, WrongValues, BadValue, LimitReached}
 use Rattle.db_call.specs.Arguments.{text_at, name_at, are_texts}
-use Rattle.db_state.specs.States.{State, Stands, empty_state}
+use Rattle.db_state.specs.States.{StoreState, StandsForState, empty_state}
 use Rattle.db_state.specs.Effects.{Effect, Refused, Does, refuse, refuse_by, with_found}
 use Rattle.db_state.specs.Lines.{call_done}
 use Rattle.db_state.specs.Plans.{IsPlan}
 use Rattle.db_state.specs.declared.plans.Plan.{Plan}
 use Rattle.db_prefs.specs.declared.special_sections.Special.{Special}
 use Rattle.db_prefs.specs.declared.special_sections.Special.TheVariants.{Sentence, Paragraph}
-use Rattle.db_prefs.specs.Arguments.{lower_at, are_texts_and_flag, is_flagged, is_word}
+use Rattle.db_prefs.specs.Arguments.{lower_at, are_texts_and_flag, is_flagged, spells_word}
 
 -- the preferences are these now
-abbrev pub with_preferences : State → Preferences → Effect
+abbrev pub with_preferences : StoreState → Preferences → Effect
 with_preferences m ps = Does (record m { preferences = ps }) call_done
 
 -- what a name has, if it is there
@@ -49,8 +49,8 @@ get_named xs name = option_and_then (get xs) name
 abbrev pub taken_name : Bool → Option (List ℕ) → Option (List ℕ)
 taken_name there name = if there then name else None
 
-abbrev pub unknown_name : Bool → Option (List ℕ) → Option (List ℕ)
-unknown_name there name = if there then None else name
+abbrev pub missing_name : Bool → Option (List ℕ) → Option (List ℕ)
+missing_name there name = if there then None else name
 
 -- The checks that come first, in their order: of a name that nothing has, of what exists already, and of the number and kinds of the arguments.
 abbrev pub check : Option (List ℕ) → Option (List ℕ) → Bool → Effect → Effect
@@ -75,13 +75,13 @@ are_new_args Stoplist args = are_texts 1 args || are_texts 2 args
 are_new_args SectionGroup args = are_texts 2 args
 
 abbrev pub is_null_type : Option (List ℕ) → Bool
-is_null_type text = is_word (codes "null_section_group") text
+is_null_type text = spells_word (codes "null_section_group") text
 
 -- whether the type is one that the kind has
 abbrev pub is_type : PrefKind → Option (List ℕ) → Bool
-is_type Lexer text = is_word (codes "basic_lexer") text
-is_type Stoplist text = is_none text || is_word (codes "basic_stoplist") text
-is_type SectionGroup text = is_null_type text || is_word (codes "basic_section_group") text
+is_type Lexer text = spells_word (codes "basic_lexer") text
+is_type Stoplist text = is_none text || spells_word (codes "basic_stoplist") text
+is_type SectionGroup text = is_null_type text || spells_word (codes "basic_section_group") text
 
 -- with a new one of this name; whether a section group is a null one is told
 abbrev pub with_new : PrefKind → Preferences → List ℕ → Bool → Preferences
@@ -94,12 +94,12 @@ abbrev pub is_there : PrefKind → Preferences → Option (List ℕ) → Bool
 is_there kind ps None = false
 is_there kind ps (Some name) = has_named kind name ps
 
-abbrev pub new_made : PrefKind → Bool → State → List ℕ → Effect
+abbrev pub new_made : PrefKind → Bool → StoreState → List ℕ → Effect
 new_made kind is_null m name =
-    refuse (is_full kind m.preferences) LimitReached
+    refuse (is_kind_full kind m.preferences) LimitReached
     (with_preferences m (with_new kind m.preferences name is_null))
 
-abbrev pub create : PrefKind → State → Option (List ℕ) → List Arg → Effect
+abbrev pub create : PrefKind → StoreState → Option (List ℕ) → List Arg → Effect
 create kind m name args =
     let text = text_at 1 args in
     check None (taken_name (is_there kind m.preferences name) name) (are_new_args kind args)
@@ -112,13 +112,13 @@ create kind m name args =
 abbrev pub setting_of : Option (List ℕ) → Option (List ℕ) → Option Setting
 setting_of attribute value = option_and_then (λ text. option_and_then (λ a. option_and_then (λ v. if takes_value a v then Some (setting a v) else None) value) (attribute_named text)) attribute
 
-abbrev pub attribute_set : Setting → State → List ℕ → List Setting → Effect
+abbrev pub attribute_set : Setting → StoreState → List ℕ → List Setting → Effect
 attribute_set s m name settings = with_preferences m (with_lexer m.preferences name (with_setting s settings))
 
-abbrev pub set_attribute : State → Option (List ℕ) → List Arg → Effect
+abbrev pub set_attribute : StoreState → Option (List ℕ) → List Arg → Effect
 set_attribute m name args =
     let found = get_named m.preferences.lexers name in
-    check (unknown_name (is_some found) name) None (are_texts 3 args)
+    check (missing_name (is_some found) name) None (are_texts 3 args)
     (with_found (setting_of (text_at 1 args) (text_at 2 args)) BadValue (λ (s : Setting).
     of_both name found (attribute_set s m)))
 
@@ -132,16 +132,16 @@ among words word = option_and_then (λ ws. option_and_then (λ w. if is_among w 
 abbrev pub has_stopword_length : List ℕ → Bool
 has_stopword_length word = nat_le 1 (length word) && nat_le (length word) stopword_limit
 
-abbrev pub stopword_added : List ℕ → State → List ℕ → List (List ℕ) → Effect
+abbrev pub stopword_added : List ℕ → StoreState → List ℕ → List (List ℕ) → Effect
 stopword_added word m name words =
     refuse (nat_le stop_limit (length words)) LimitReached
     (with_preferences m (with_stoplist m.preferences name (words ++ word ∷ [])))
 
-abbrev pub add_stopword : State → Option (List ℕ) → List Arg → Effect
+abbrev pub add_stopword : StoreState → Option (List ℕ) → List Arg → Effect
 add_stopword m name args =
     let word = text_at 1 args in
     let found = get_named m.preferences.stoplists name in
-    check (unknown_name (is_some found) name) (among found word) (are_texts 2 args)
+    check (missing_name (is_some found) name) (among found word) (are_texts 2 args)
     (with_found word BadValue (λ (word : List ℕ).
     refuse (not (has_stopword_length word)) BadValue
     (of_both name found (stopword_added word m))))
@@ -184,16 +184,16 @@ abbrev pub with_section : Group → List ℕ → SectionKind → List ℕ → Gr
 with_section g name kind tag = record g { sections = with_tag name kind tag g.sections }
 
 -- the checks of the section and the tag in a group that is there, and the group with them
-abbrev pub section_added : SectionKind → List ℕ → Group → State → List ℕ → List ℕ → Effect
+abbrev pub section_added : SectionKind → List ℕ → Group → StoreState → List ℕ → List ℕ → Effect
 section_added kind name g m section tag =
     refuse (not (is_good_section g section tag)) BadValue
     (refuse (is_full_group g kind section) LimitReached
     (with_preferences m (with_group m.preferences name (with_section g section kind tag))))
 
-abbrev pub add_section : SectionKind → Bool → State → Option (List ℕ) → Option (List ℕ) → Option (List ℕ) → Effect
+abbrev pub add_section : SectionKind → Bool → StoreState → Option (List ℕ) → Option (List ℕ) → Option (List ℕ) → Effect
 add_section kind shaped m name section tag =
     let found = get_named m.preferences.groups name in
-    check (unknown_name (is_some found) name) (taken_section kind section tag found) shaped
+    check (missing_name (is_some found) name) (taken_section kind section tag found) shaped
     (of_both name found (λ name g. of_both section tag (section_added kind name g m)))
 
 abbrev pub field_kind : List Arg → SectionKind
@@ -207,7 +207,7 @@ special_name Paragraph = codes "paragraph"
 
 -- which of the two a word asks for
 abbrev pub special_of : Option (List ℕ) → Option Special
-special_of text = if is_word (codes "sentence") text then Some Sentence else (if is_word (codes "paragraph") text then Some Paragraph else None)
+special_of text = if spells_word (codes "sentence") text then Some Sentence else (if spells_word (codes "paragraph") text then Some Paragraph else None)
 
 abbrev pub has_special : Group → Special → Bool
 has_special g Sentence = g.sentence
@@ -221,21 +221,21 @@ with_special g Paragraph = record g { paragraph = true }
 abbrev pub taken_special : Option Special → Option Group → Option (List ℕ)
 taken_special asked found = option_and_then (λ g. option_and_then (λ s. if has_special g s then Some (special_name s) else None) asked) found
 
-abbrev pub special_added : Special → State → List ℕ → Group → Effect
+abbrev pub special_added : Special → StoreState → List ℕ → Group → Effect
 special_added s m name g = with_preferences m (with_group m.preferences name (with_special g s))
 
-abbrev pub add_special_section : State → Option (List ℕ) → List Arg → Effect
+abbrev pub add_special_section : StoreState → Option (List ℕ) → List Arg → Effect
 add_special_section m name args =
     let asked = special_of (text_at 1 args) in
     let found = get_named m.preferences.groups name in
-    check (unknown_name (is_some found) name) (taken_special asked found) (are_texts 2 args)
+    check (missing_name (is_some found) name) (taken_special asked found) (are_texts 2 args)
     (with_found asked BadValue (λ (s : Special).
     of_both name found (special_added s m)))
 
 -- ---- all of them
 
 -- by what a refusal may show: the names that the first two arguments spell, and the third in lower case
-abbrev pub define_by : State → Definition → Option (List ℕ) → Option (List ℕ) → Option (List ℕ) → List Arg → Effect
+abbrev pub define_by : StoreState → Definition → Option (List ℕ) → Option (List ℕ) → Option (List ℕ) → List Arg → Effect
 define_by m CreatePreference name section tag args = create Lexer m name args
 define_by m SetAttribute name section tag args = set_attribute m name args
 define_by m CreateStoplist name section tag args = create Stoplist m name args
@@ -245,14 +245,22 @@ define_by m AddZoneSection name section tag args = add_section Zone (are_texts 3
 define_by m AddFieldSection name section tag args = add_section (field_kind args) (are_texts 3 args || are_texts_and_flag args) m name section tag
 define_by m AddSpecialSection name section tag args = add_special_section m name args
 
-abbrev pub define : State → Definition → List Arg → Effect
+abbrev pub define : StoreState → Definition → List Arg → Effect
 define m procedure args = define_by m procedure (name_at 0 args) (name_at 1 args) (lower_at 2 args) args
 
 -- ---- what its functions give
 
 -- The call gave the plan of this effect over each state of which this holds, unless it failed.
-abbrev pub PlansWhere : {E : Type 0} → Result Plan E → (State → Type 0) → (State → Effect) → Type 0
-PlansWhere result holds effect = (m : State) (c : Content) → Stands c m → holds m → IfOk result (IsPlan (effect m) call_done c)
+abbrev pub PlansWhere : {E : Type 0} → Result Plan E → (StoreState → Type 0) → (StoreState → Effect) → Type 0
+PlansWhere result holds effect = (m : StoreState) (c : Content) → StandsForState c m → holds m → IfOk result (IsPlan (effect m) call_done c)
+
+-- The call gave the plan that adds the word to the stoplist of this name, over each state where it has these words.
+abbrev pub PlansStopword : {E : Type 0} → Result Plan E → List ℕ → List (List ℕ) → List ℕ → Type 0
+PlansStopword result name words word = PlansWhere result (λ m. get m.preferences.stoplists name ≡ Some words) (λ m. stopword_added word m name words)
+
+-- The call gave the plan that adds the section with the tag to the group of this name, over each state where it is this group.
+abbrev pub PlansSection : {E : Type 0} → Result Plan E → SectionKind → List ℕ → Group → List ℕ → List ℕ → Type 0
+PlansSection result kind name g section tag = PlansWhere result (λ m. get m.preferences.groups name ≡ Some g) (λ m. section_added kind name g m section tag)
 
 -- what a new one puts into a batch
 abbrev pub new_changes : PrefKind → List ℕ → Bool → List (Key × Option (List ℕ))
@@ -267,7 +275,7 @@ nothing_there Stoplist name = ap is_some (get-empty (slice_cmp nat_cmp) name)
 nothing_there SectionGroup name = ap is_some (get-empty (slice_cmp nat_cmp) name)
 
 no_lexer : define empty_state SetAttribute (Text (codes "lx") ∷ []) ≡ Refused (UnknownName (codes "lx"))
-no_lexer = ap (λ (b : Bool). refuse_by (unknown_name b (Some (codes "lx"))) UnknownName (Refused WrongValues)) (nothing_there Lexer (codes "lx"))
+no_lexer = ap (λ (b : Bool). refuse_by (missing_name b (Some (codes "lx"))) UnknownName (Refused WrongValues)) (nothing_there Lexer (codes "lx"))
 
 -- a type that isn't there, and a name that isn't spelt as one
 another_type : define empty_state CreatePreference (Text (codes "lx") ∷ Text (codes "WORLD_LEXER") ∷ []) ≡ Refused BadValue

@@ -11,7 +11,7 @@ ghost use Rattle.db_state.specs.Lines.{call_done};
 ghost use Rattle.db_state.specs.Plans.{IsStorePlan, Plans};
 ghost use Rattle.db_prefs.specs.Defining.{PlansWhere, attribute_set, set_attribute, setting_of as setting_named};
 
-use crate::checks::{first_fault, unknown_name};
+use crate::checks::{first_fault, missing_name};
 use crate::lookups::settings_of;
 use ct_base::{Memory, Name, Text};
 use ct_keep::{KeepFault, Keeper};
@@ -91,7 +91,7 @@ pub(crate) fn attribute_plan<'a, K: Keeper>(
     ensures reads { OnlyReads K.view keeper.old keeper.new result }
 {
     let found = settings_of(alloc, keeper, name)?;
-    let unknown = unknown_name(found.is_some(), name);
+    let unknown = missing_name(found.is_some(), name);
     let taken: Option<&'a str> = None;
     if let Some(fault) = first_fault(unknown, taken, are_texts(args, 3)) {
         return Ok(Plan::Refused(fault));

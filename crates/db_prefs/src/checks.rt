@@ -3,7 +3,7 @@
 ghost use Rattle.std.specs.Prelude.{◌≡◌};
 ghost use Rattle.std.specs.Option.{option_map};
 ghost use Rattle.db_state.specs.Effects.{Effect, Checks};
-ghost use Rattle.db_prefs.specs.Defining.{check, taken_name as name_taken, unknown_name as name_unknown};
+ghost use Rattle.db_prefs.specs.Defining.{check, taken_name as name_taken, missing_name as name_unknown};
 
 use ct_base::Name;
 use db_cond::Fault;
@@ -19,7 +19,7 @@ pub(crate) fn taken_name(there: bool, name: &Option<Name>) -> Option<&str>
 }
 
 /// The name, where nothing has it.
-pub(crate) fn unknown_name(there: bool, name: &Option<Name>) -> Option<&str>
+pub(crate) fn missing_name(there: bool, name: &Option<Name>) -> Option<&str>
     ensures { option_map (λ n. n.now) result ≡ name_unknown there name.now }
 {
     match name {

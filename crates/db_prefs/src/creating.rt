@@ -7,13 +7,13 @@ ghost use Rattle.ct_base.specs.Names.{IsName};
 ghost use Rattle.ct_keep.specs.KeeperViews.{OnlyReads};
 ghost use Rattle.ct_entry.specs.Changes.{spell};
 ghost use Rattle.ct_entry.specs.Shapes.{AreShaped};
-ghost use Rattle.tx_prefs.specs.Sees.{is_full as is_full_kind};
+ghost use Rattle.tx_prefs.specs.Sees.{is_kind_full};
 ghost use Rattle.tx_prefs.specs.Shapes.{HasPrefValue};
 ghost use Rattle.db_state.specs.Lines.{call_done};
 ghost use Rattle.db_state.specs.Plans.{IsStorePlan, Plans};
 ghost use Rattle.db_prefs.specs.Defining.{PlansWhere, are_new_args as new_args, create, is_null_type as null_type, is_type as type_of_kind, new_changes, new_made};
 
-use crate::arguments::is_word;
+use crate::arguments::spells_word;
 use crate::checks::{first_fault, taken_name};
 use crate::lookups::{is_full, is_there};
 use ct_base::{Memory, Name};
@@ -40,7 +40,7 @@ fn are_new_args(kind: PrefKind, args: &[Arg]) -> bool
 fn is_null_type(text: Option<&str>) -> bool
     ensures { result ≡ null_type (option_map (λ t. t.now) text.entry) }
 {
-    is_word(text, "null_section_group")
+    spells_word(text, "null_section_group")
 }
 
 /// Whether the type is one that the kind has.
@@ -48,9 +48,9 @@ fn is_type(kind: PrefKind, text: Option<&str>) -> bool
     ensures { result ≡ type_of_kind kind (option_map (λ t. t.now) text.entry) }
 {
     match kind {
-        PrefKind::Lexer => is_word(text, "basic_lexer"),
-        PrefKind::Stoplist => text.is_none() || is_word(text, "basic_stoplist"),
-        PrefKind::SectionGroup => is_null_type(text) || is_word(text, "basic_section_group"),
+        PrefKind::Lexer => spells_word(text, "basic_lexer"),
+        PrefKind::Stoplist => text.is_none() || spells_word(text, "basic_stoplist"),
+        PrefKind::SectionGroup => is_null_type(text) || spells_word(text, "basic_section_group"),
     }
 }
 
@@ -89,7 +89,7 @@ fn new_plan<'a>(
     is_null: bool,
     full: bool,
 ) -> Result<Plan<'a>, Memory>
-    ensures plan { PlansWhere result (λ m. full ≡ is_full_kind kind m.preferences) (λ m. new_made kind is_null m name.now) }
+    ensures plan { PlansWhere result (λ m. full ≡ is_kind_full kind m.preferences) (λ m. new_made kind is_null m name.now) }
     ensures entries { IfOk result IsStorePlan }
 {
     let _named = name.as_str();

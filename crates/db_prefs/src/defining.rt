@@ -5,7 +5,7 @@ ghost use Rattle.std.specs.Prelude.{◌≡◌, ◌||◌, IfOk, Some};
 ghost use Rattle.ct_keep.specs.KeeperViews.{OnlyReads};
 ghost use Rattle.db_call.specs.Arguments.{are_texts as are_so_many_texts, name_at as name_there};
 ghost use Rattle.db_state.specs.Lines.{call_done};
-ghost use Rattle.db_state.specs.Plans.{IsStorePlan, Plans, Replies, always};
+ghost use Rattle.db_state.specs.Plans.{IsStorePlan, Plans, Replies, line_for_all};
 ghost use Rattle.db_state.specs.Shapes.{AcceptsStatements};
 ghost use Rattle.db_prefs.specs.Arguments.{are_texts_and_flag as texts_and_flag, lower_at as lower_there};
 ghost use Rattle.db_prefs.specs.Defining.{define as define_effect, define_by, field_kind as kind_of_field};
@@ -117,7 +117,7 @@ pub fn define<K: Keeper>(
     args: &[Arg],
 ) -> Result<Vec<u8>, KeepFault>
     requires { AcceptsStatements (K.view keeper.old) }
-    ensures { Replies K.view keeper.old keeper.new result (λ m. define_effect m procedure args.now) (Some (always call_done)) }
+    ensures { Replies K.view keeper.old keeper.new result (λ m. define_effect m procedure args.now) (Some (line_for_all call_done)) }
 {
     let shown = shown_by(alloc, args)?;
     match define_plan(alloc, keeper, procedure, &shown, args) {

@@ -5,7 +5,7 @@ ghost use Rattle.std.specs.Prelude.{◌≡◌, true, IfOk, IfSome};
 ghost use Rattle.std.specs.Option.{option_map};
 ghost use Rattle.ct_keep.specs.KeeperViews.{OnlyReads};
 ghost use Rattle.tx_settings.specs.PrefsBytes.{are_settings, are_words};
-ghost use Rattle.tx_prefs.specs.Sees.{is_full as is_full_kind};
+ghost use Rattle.tx_prefs.specs.Sees.{is_kind_full};
 ghost use Rattle.db_state.specs.States.{Sees};
 ghost use Rattle.db_prefs.specs.Defining.{get_named, is_there as is_named};
 
@@ -40,10 +40,10 @@ pub(crate) fn is_full<K: Keeper>(
     kind: PrefKind,
 ) -> Result<bool, KeepFault>
     requires { (K.view keeper.old).ready }
-    ensures full { Sees K.view keeper.old result (λ m full. full ≡ is_full_kind kind m.preferences) }
+    ensures full { Sees K.view keeper.old result (λ m full. full ≡ is_kind_full kind m.preferences) }
     ensures reads { OnlyReads K.view keeper.old keeper.new result }
 {
-    tx_prefs::is_full(alloc, keeper, kind)
+    tx_prefs::is_kind_full(alloc, keeper, kind)
 }
 
 /// The settings of the lexer preference of the name.

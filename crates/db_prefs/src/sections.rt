@@ -1,17 +1,16 @@
 //! CTX_DDL.ADD_ZONE_SECTION and ADD_FIELD_SECTION.
 #![tactic(auto, using(ct_keep::specs::Composing::reads_on, ct_keep::specs::Composing::reads_short))]
 
-ghost use Rattle.std.specs.Prelude.{◌≡◌, IfOk, Some, false};
-ghost use Rattle.std.specs.FinMap.{get};
+ghost use Rattle.std.specs.Prelude.{◌≡◌, IfOk, false};
 ghost use Rattle.std.specs.Option.{option_map};
 ghost use Rattle.ct_keep.specs.KeeperViews.{OnlyReads};
 ghost use Rattle.tx_tags.specs.Groups.{is_among, is_reserved as name_reserved, tag_names};
 ghost use Rattle.tx_prefs.specs.Promises.{kind_count as count_of_kind};
 ghost use Rattle.db_state.specs.Lines.{call_done};
 ghost use Rattle.db_state.specs.Plans.{IsStorePlan, Plans};
-ghost use Rattle.db_prefs.specs.Defining.{PlansWhere, add_section, is_full_group as group_full, is_good_section as good_section, is_same_kind as same_kind, of_other_kind as name_of_other_kind, section_added, taken_section as section_taken, taken_tag as tag_taken};
+ghost use Rattle.db_prefs.specs.Defining.{PlansSection, add_section, is_full_group as group_full, is_good_section as good_section, is_same_kind as same_kind, of_other_kind as name_of_other_kind, taken_section as section_taken, taken_tag as tag_taken};
 
-use crate::checks::{first_fault, unknown_name};
+use crate::checks::{first_fault, missing_name};
 use crate::lookups::group_of;
 use ct_base::{Memory, Name, Text};
 use ct_keep::{KeepFault, Keeper};
@@ -127,7 +126,7 @@ fn added_plan<'a>(
     section: &Name,
     tag: &str,
 ) -> Result<Plan<'a>, Memory>
-    ensures plan { is_among tag.now (tag_names group.sections) ≡ false → PlansWhere result (λ m. get m.preferences.groups name.now ≡ Some group) (λ m. section_added kind name.now group m section.now tag.now) }
+    ensures plan { is_among tag.now (tag_names group.sections) ≡ false → PlansSection result kind name.now group section.now tag.now }
     ensures entries { IfOk result IsStorePlan }
 {
     let _named = section.as_str();
@@ -161,7 +160,7 @@ pub(crate) fn section_plan<'a, K: Keeper>(
     ensures reads { OnlyReads K.view keeper.old keeper.new result }
 {
     let found = group_of(alloc, keeper, name)?;
-    let unknown = unknown_name(found.is_some(), name);
+    let unknown = missing_name(found.is_some(), name);
     let taken = taken_section(kind, section, tag, &found);
     if let Some(fault) = first_fault(unknown, taken, shaped) {
         return Ok(Plan::Refused(fault));

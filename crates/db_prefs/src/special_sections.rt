@@ -9,8 +9,8 @@ ghost use Rattle.db_state.specs.Lines.{call_done};
 ghost use Rattle.db_state.specs.Plans.{IsStorePlan, Plans};
 ghost use Rattle.db_prefs.specs.Defining.{PlansWhere, add_special_section, has_special as has_it, special_added, special_name, special_of as special_named, taken_special as special_taken, with_special as with_it};
 
-use crate::arguments::is_word;
-use crate::checks::{first_fault, unknown_name};
+use crate::arguments::spells_word;
+use crate::checks::{first_fault, missing_name};
 use crate::lookups::group_of;
 use ct_base::{Memory, Name};
 use ct_keep::{KeepFault, Keeper};
@@ -33,10 +33,10 @@ pub(crate) enum Special {
 fn special_of(text: Option<&str>) -> Option<Special>
     ensures { result ≡ special_named (option_map (λ t. t.now) text.entry) }
 {
-    if is_word(text, "sentence") {
+    if spells_word(text, "sentence") {
         return Some(Special::Sentence);
     }
-    if is_word(text, "paragraph") {
+    if spells_word(text, "paragraph") {
         return Some(Special::Paragraph);
     }
     None
@@ -118,7 +118,7 @@ pub(crate) fn special_plan<'a, K: Keeper>(
 {
     let found = group_of(alloc, keeper, name)?;
     let asked = special_of(text_at(args, 1));
-    let unknown = unknown_name(found.is_some(), name);
+    let unknown = missing_name(found.is_some(), name);
     let taken = taken_special(asked, &found);
     if let Some(fault) = first_fault(unknown, taken, are_texts(args, 2)) {
         return Ok(Plan::Refused(fault));

@@ -1,17 +1,16 @@
 //! CTX_DDL.ADD_STOPWORD.
 #![tactic(auto, using(ct_keep::specs::Composing::reads_on, ct_keep::specs::Composing::reads_short))]
 
-ghost use Rattle.std.specs.Prelude.{◌≡◌, IfOk, Some, true, false};
-ghost use Rattle.std.specs.FinMap.{get};
+ghost use Rattle.std.specs.Prelude.{◌≡◌, IfOk, true, false};
 ghost use Rattle.std.specs.Option.{option_map};
 ghost use Rattle.ct_keep.specs.KeeperViews.{OnlyReads};
 ghost use Rattle.tx_tags.specs.Groups.{is_among as is_one_of};
 ghost use Rattle.tx_settings.specs.PrefsBytes.{are_words};
 ghost use Rattle.db_state.specs.Lines.{call_done};
 ghost use Rattle.db_state.specs.Plans.{IsStorePlan, Plans};
-ghost use Rattle.db_prefs.specs.Defining.{PlansWhere, add_stopword, among, has_stopword_length as stopword_length, stopword_added};
+ghost use Rattle.db_prefs.specs.Defining.{PlansStopword, add_stopword, among, has_stopword_length as stopword_length};
 
-use crate::checks::{first_fault, unknown_name};
+use crate::checks::{first_fault, missing_name};
 use crate::lookups::words_of;
 use ct_base::{Memory, Name, Text};
 use ct_keep::{KeepFault, Keeper};
@@ -73,7 +72,7 @@ fn added_plan<'a>(
 ) -> Result<Plan<'a>, Memory>
     requires are { are_words words.items ≡ true }
     requires length { stopword_length word.now ≡ true }
-    ensures plan { is_one_of word.now words.items ≡ false → PlansWhere result (λ m. get m.preferences.stoplists name.now ≡ Some words.items) (λ m. stopword_added word.now m name.now words.items) }
+    ensures plan { is_one_of word.now words.items ≡ false → PlansStopword result name.now words.items word.now }
     ensures entries { IfOk result IsStorePlan }
 {
     if words.len() >= STOP_LIMIT {
@@ -101,7 +100,7 @@ pub(crate) fn stopword_plan<'a, K: Keeper>(
 {
     let found = words_of(alloc, keeper, name)?;
     let word = text_at(args, 1);
-    let unknown = unknown_name(found.is_some(), name);
+    let unknown = missing_name(found.is_some(), name);
     if let Some(fault) = first_fault(unknown, taken_word(&found, word), are_texts(args, 2)) {
         return Ok(Plan::Refused(fault));
     }

@@ -16,8 +16,8 @@ use Rattle.st_parse.specs.declared.statements.Cond.{Cond}
 use Rattle.tb_table.specs.declared.columns.Column.{Column}
 use Rattle.tb_table.specs.Tables.{Table, Tables}
 use Rattle.tb_table.specs.Rules.{IsTable, AreTables}
-use Rattle.db_rows.specs.Values.{value_of, values_of, row_values}
-use Rattle.db_rows.specs.Sources.{source_of, source_value, is_key}
+use Rattle.db_rows.specs.Values.{value_of_column, values_of, row_values}
+use Rattle.db_rows.specs.Sources.{source_of, source_value, is_key_source}
 use Rattle.db_rows.specs.Checking.{cond_column}
 use Rattle.db_rows.specs.Meeting.{holds_of, key_meets}
 use Rattle.db_rows.specs.Bounds.{meets_by}
@@ -37,7 +37,7 @@ all_same p q same (x ∷ xs) = ap (λ (b : Bool). b && list_all p xs) (same x) �
 pub meets_read : (x : Table) → IsTable x → (conds : List Cond) (r : ℤ) → key_meets x conds r ≡ meets_by x.columns conds r (values_of (get x.rows r))
 meets_read x is conds r =
     let vs : List Value = values_of (get x.rows r) in
-    all_same (λ cond. holds_of cond (value_of x.columns r vs (cond_column cond))) (met_by x.columns r vs) (λ cond. ap (holds_of cond) (value_from x is r (cond_column cond))) conds
+    all_same (λ cond. holds_of cond (value_of_column x.columns r vs (cond_column cond))) (met_by x.columns r vs) (λ cond. ap (holds_of cond) (value_from x is r (cond_column cond))) conds
 
 -- what was read so far, and that the first `i` conditions hold
 pub record AreMet (columns : List Column) (conds : List Cond) (r : ℤ) (vs : List Value) (i : ℕ) (read : RowRead) : Type 0 where
@@ -73,14 +73,14 @@ met_there ts t x are here columns same conds r =
 
 -- ---- conditions on the key
 
-held : (r : ℤ) (vs : List Value) (cond : Cond) (s : Source) → is_key s ≡ true → holds_of cond (source_value r vs s) ≡ true → holds cond (NumberValue r) ≡ true
+held : (r : ℤ) (vs : List Value) (cond : Cond) (s : Source) → is_key_source s ≡ true → holds_of cond (source_value r vs s) ≡ true → holds cond (NumberValue r) ≡ true
 held r vs cond Key key is = is
 held r vs cond (Number place) key is = cc
 held r vs cond (Text column) key is = cc
 held r vs cond Nothing key is = cc
 
 -- of those that hold, one that is on the key holds of the key
-pub key_met : (columns : List Column) (conds : List Cond) (r : ℤ) (vs : List Value) (i : ℕ) (cond : Cond) → i < length conds → cond ≡ get_or conds i cond → meets_by columns conds r vs ≡ true → is_key (source_of (cond_column cond) columns) ≡ true
+pub key_met : (columns : List Column) (conds : List Cond) (r : ℤ) (vs : List Value) (i : ℕ) (cond : Cond) → i < length conds → cond ≡ get_or conds i cond → meets_by columns conds r vs ≡ true → is_key_source (source_of (cond_column cond) columns) ≡ true
     → holds cond (NumberValue r) ≡ true
 key_met columns conds r vs i cond within at met key =
     held r vs cond (source_of (cond_column cond) columns) key

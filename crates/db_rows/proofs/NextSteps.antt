@@ -11,10 +11,10 @@ use Rattle.ct_entry.specs.Listings.{first_of, rows_above, row_after}
 use Rattle.ct_entry.specs.laws.Rows.{IsPlace}
 use Rattle.tb_table.specs.Tables.{Table, Tables, keys_in, row_keys}
 use Rattle.tb_table.specs.laws.Reading.{next_read}
-use Rattle.db_state.specs.States.{State, Stands}
+use Rattle.db_state.specs.States.{StoreState, StandsForState}
 use Rattle.db_rows.proofs.Walks.{none_at_all, none_within}
 
-pub next_of : (m : State) (c : Content) → Stands c m → (t : List _) (after : Option ℤ) → IsPlace after → (next : Option ℤ) → next ≡ row_after after kind.RowNumbers t c → next ≡ first_of (rows_above after (row_keys m.tables t))
+pub next_of : (m : StoreState) (c : Content) → StandsForState c m → (t : List _) (after : Option ℤ) → IsPlace after → (next : Option ℤ) → next ≡ row_after after kind.RowNumbers t c → next ≡ first_of (rows_above after (row_keys m.tables t))
 next_of m c stands t after place next is = is ∙ next_read c m.tables stands.only stands.tables stands.state.tables t after place
 
 over : (g r : ℤ) → g <ℤ r → is_lt (int_cmp g r) ≡ true

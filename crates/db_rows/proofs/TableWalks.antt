@@ -18,7 +18,7 @@ use Rattle.tb_table.specs.Tables.{Table, Tables, keys_in, row_keys}
 use Rattle.tb_table.specs.Rules.{IsTable}
 use Rattle.db_rows.specs.Values.{values_of}
 use Rattle.db_rows.specs.Meeting.{row_meets, key_meets, meeting_keys}
-use Rattle.db_rows.specs.Bounds.{IsWithin, BoundRows, meets_by}
+use Rattle.db_rows.specs.Bounds.{IsWithinBounds, BoundRows, meets_by}
 use Rattle.db_rows.specs.Walking.{IsStart, is_above}
 use Rattle.db_rows.specs.declared.bounds.KeyBounds.{KeyBounds}
 use Rattle.db_rows.proofs.MeetSteps.{meets_read}
@@ -36,9 +36,9 @@ module _ (x : Table) (conds : List Cond) where
   has_read : IsTable x → (r : ℤ) (vs : List Value) → get x.rows r ≡ Some vs → row_meets x.columns conds r vs ≡ meets_by x.columns conds r vs
   has_read is r vs here = subst (λ (o : Option (List Value)). row_meets x.columns conds r (values_of o) ≡ meets_by x.columns conds r (values_of o)) here (meets_read x is conds r)
 
-  within_bounds : IsTable x → (columns : List Column) → x.columns ≡ columns → (b : KeyBounds) → BoundRows columns conds b → AllByRecursion (λ e. entry_meets e ≡ true → IsWithin b e.0) (entries x.rows)
+  within_bounds : IsTable x → (columns : List Column) → x.columns ≡ columns → (b : KeyBounds) → BoundRows columns conds b → AllByRecursion (λ e. entry_meets e ≡ true → IsWithinBounds b e.0) (entries x.rows)
   within_bounds is columns same b bounds =
-      found_listed int_cmp int_cmp_total (λ e. entry_meets e ≡ true → IsWithin b e.0) (entries x.rows) (entries_rise int_cmp x.rows)
+      found_listed int_cmp int_cmp_total (λ e. entry_meets e ≡ true → IsWithinBounds b e.0) (entries x.rows) (entries_rise int_cmp x.rows)
       (λ r vs found. let here = get-entries x.rows r ∙ found in λ met.
       bounds r vs (is.keys r vs here) (ap (λ (cs : List Column). meets_by cs conds r vs) (sym same) ∙ sym (has_read is r vs here) ∙ met))
 
@@ -46,7 +46,7 @@ module _ (x : Table) (conds : List Cond) where
   table_begins is columns same b bounds after start rows none =
       subst (λ (rows : List RowKey). IsWalked entry_meets (entries x.rows) after (map (λ row. row.0) rows)) (sym none)
       (walk_begins entry_meets (entries x.rows) after
-      (all_weaker (λ e. entry_meets e ≡ true → IsWithin b e.0) (λ e. entry_meets e ≡ true → is_above after e.0 ≡ true) (λ e within met. start e.0 (within met)) (entries x.rows) (within_bounds is columns same b bounds)))
+      (all_weaker (λ e. entry_meets e ≡ true → IsWithinBounds b e.0) (λ e. entry_meets e ≡ true → is_above after e.0 ≡ true) (λ e within met. start e.0 (within met)) (entries x.rows) (within_bounds is columns same b bounds)))
 
   keys_are : (ts : Tables) (t : List ℕ) (after : Option ℤ) → get ts t ≡ Some x → rows_above after (row_keys ts t) ≡ map (λ e. e.0) (left after (entries x.rows))
   keys_are ts t after here = ap (λ (o : Option Table). rows_above after (keys_in o)) here ∙ keys_left after (entries x.rows)
@@ -73,5 +73,5 @@ module _ (x : Table) (conds : List Cond) where
       → list_all (λ r. is_lt (int_cmp b.greatest.0 r)) (rows_above after (row_keys ts t)) ≡ true → map (λ row. row.0) rows ≡ meeting_keys x conds
   table_ends is columns same b bounds ts t after rows here walked over =
       walk_ends entry_meets (entries x.rows) after (map (λ row. row.0) rows) b.greatest.0 walked
-      (all_weaker (λ e. entry_meets e ≡ true → IsWithin b e.0) (λ e. entry_meets e ≡ true → e.0 ≤ℤ b.greatest.0) (λ e within met. (within met).high) (entries x.rows) (within_bounds is columns same b bounds))
+      (all_weaker (λ e. entry_meets e ≡ true → IsWithinBounds b e.0) (λ e. entry_meets e ≡ true → e.0 ≤ℤ b.greatest.0) (λ e within met. (within met).high) (entries x.rows) (within_bounds is columns same b bounds))
       (ap (list_all (λ r. is_lt (int_cmp b.greatest.0 r))) (sym (keys_are ts t after here)) ∙ over)

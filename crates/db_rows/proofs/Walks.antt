@@ -10,10 +10,11 @@ use Rattle.std.specs.FinMap.{find}
 use Rattle.std.proofs.lemmas.Bool.{and_parts, and_from}
 use Rattle.std.proofs.lemmas.Cmp.{int_cmp_total, tied_itself}
 use Rattle.std.proofs.lemmas.Int.{ints}
+use Rattle.ct_base.specs.laws.Lists.{map-filter}
 use Rattle.ct_base.specs.laws.Orders.{less_from_test}
 use Rattle.ct_keep.specs.RisingKeys.{below, rises}
 use Rattle.ct_entry.specs.Listings.{first_of, rows_above}
-use Rattle.db_rows.specs.Walking.{is_above, is_past}
+use Rattle.db_rows.specs.Walking.{is_above, is_past_greatest}
 
 -- ---- orders
 
@@ -35,14 +36,6 @@ not_above g r p q = grind (arith, ints)
 
 -- ---- lists
 
-pub filter_mapped : {X Y : Type 0} (p : Y → Bool) (f : X → Y) (xs : List X) → map f (filter (λ x. p (f x)) xs) ≡ filter p (map f xs)
-filter_mapped p f [] = refl
-filter_mapped p f (x ∷ xs) = go (p (f x)) (filter_mapped p f xs)
-  where
-    go : (b : Bool) → map f (filter (λ x. p (f x)) xs) ≡ filter p (map f xs) → map f (cond b (x ∷ filter (λ x. p (f x)) xs) (filter (λ x. p (f x)) xs)) ≡ cond b (f x ∷ filter p (map f xs)) (filter p (map f xs))
-    go true rest = ap (λ l. f x ∷ l) rest
-    go false rest = rest
-
 all_pass : {X : Type 0} (xs : List X) → filter (λ _. true) xs ≡ xs
 all_pass [] = refl
 all_pass (x ∷ xs) = ap (λ l. x ∷ l) (all_pass xs)
@@ -58,7 +51,7 @@ module _ {X : Type 0} where
   left after es = filter (λ e. is_above after e.0) es
 
   pub keys_left : (after : Option ℤ) (es : List (ℤ × X)) → rows_above after (map (λ e. e.0) es) ≡ map (λ e. e.0) (left after es)
-  keys_left after es = rows_pass after (map (λ e. e.0) es) ∙ sym (filter_mapped (is_above after) (λ (e : ℤ × X). e.0) es)
+  keys_left after es = rows_pass after (map (λ e. e.0) es) ∙ sym (map-filter (is_above after) (λ (e : ℤ × X). e.0) es)
 
   -- all entries are left that stand above what does
   all_left : (after : Option ℤ) (k : ℤ) (es : List (ℤ × X)) → ((c : ℤ) → is_lt (int_cmp k c) ≡ true → is_above after c ≡ true) → below int_cmp k es ≡ true → left after es ≡ es
@@ -178,7 +171,7 @@ at_most : (a g : ℤ) → not (is_lt (int_cmp a g)) ≡ true → g ≤ℤ a
 at_most a g past = grind (arith, ints)
 
 -- after the greatest, all are greater
-pub none_after : (after : Option ℤ) (g : ℤ) (keys : List ℤ) → is_past after g ≡ true → list_all (λ r. is_lt (int_cmp g r)) (rows_above after keys) ≡ true
+pub none_after : (after : Option ℤ) (g : ℤ) (keys : List ℤ) → is_past_greatest after g ≡ true → list_all (λ r. is_lt (int_cmp g r)) (rows_above after keys) ≡ true
 none_after None g keys past = cc
 none_after (Some a) g keys past = over_last a g keys (at_most a g past)
 

@@ -21,34 +21,38 @@ use Rattle.db_rows.specs.Meeting.{holds_of}
 use Rattle.db_rows.specs.declared.bounds.KeyBounds.{KeyBounds}
 
 -- The key lies from the one bound to the other, both included.
-pub record IsWithin (b : KeyBounds) (r : ℤ) : Type 0 where
+pub record IsWithinBounds (b : KeyBounds) (r : ℤ) : Type 0 where
   pub low : b.least.0 ≤ℤ r
   pub high : r ≤ℤ b.greatest.0
 
 -- the keys that lie within are those of which the comparison holds
 abbrev pub AreBoundsOf : Compare → Operand → KeyBounds → Type 0
-AreBoundsOf op operand b = (r : ℤ) → IsRow r → (compares op (NumberValue r) operand ≡ true) ↔ IsWithin b r
+AreBoundsOf op operand b = (r : ℤ) → IsRow r → (compares op (NumberValue r) operand ≡ true) ↔ IsWithinBounds b r
 
 -- each key of which the condition holds lies within
-abbrev pub Bounds : Cond → KeyBounds → Type 0
-Bounds cond b = (r : ℤ) → IsRow r → holds cond (NumberValue r) ≡ true → IsWithin b r
+abbrev pub BoundKeys : Cond → KeyBounds → Type 0
+BoundKeys cond b = (r : ℤ) → IsRow r → holds cond (NumberValue r) ≡ true → IsWithinBounds b r
 
--- whether a row meets the conditions, by where the values of their columns come from
+-- whether a condition holds of a row, by where the value of its column comes from
+abbrev pub holds_by : List Column → Cond → ℤ → List Value → Bool
+holds_by columns cond r vs = holds_of cond (source_value r vs (source_of (cond_column cond) columns))
+
+-- whether a row meets all conditions, each by where the value of its column comes from
 abbrev pub meets_by : List Column → List Cond → ℤ → List Value → Bool
-meets_by columns conds r vs = list_all (λ cond. holds_of cond (source_value r vs (source_of (cond_column cond) columns))) conds
+meets_by columns conds r vs = list_all (λ cond. holds_by columns cond r vs) conds
 
 -- each row that meets the conditions has a key that lies within
 abbrev pub BoundRows : List Column → List Cond → KeyBounds → Type 0
-BoundRows columns conds b = (r : ℤ) (vs : List Value) → IsRow r → meets_by columns conds r vs ≡ true → IsWithin b r
+BoundRows columns conds b = (r : ℤ) (vs : List Value) → IsRow r → meets_by columns conds r vs ≡ true → IsWithinBounds b r
 
 -- computed examples
 abbrev from_to : ℤ → ℤ → KeyBounds
 from_to least greatest = record { least = record { 0 = least }; greatest = record { 0 = greatest } }
 
-at_an_end : IsWithin (from_to (pos 3) (pos 7)) (pos 7)
+at_an_end : IsWithinBounds (from_to (pos 3) (pos 7)) (pos 7)
 at_an_end = record { low = omega (arith, ints); high = omega (arith, ints) }
 
-nothing_within : (r : ℤ) → IsWithin (from_to (pos 7) (pos 3)) r → ⊥
+nothing_within : (r : ℤ) → IsWithinBounds (from_to (pos 7) (pos 3)) r → ⊥
 nothing_within r is = omega (arith, ints, is.low, is.high)
 
 -- of a table with the columns id, a, n and b the row 7 of a text, 5 and a text

@@ -34,13 +34,13 @@ cond_operands (OneOf column operands) = operands
 -- ---- types
 
 -- a number outside 64 bits is a number all the same
-abbrev pub is_number : Operand → Bool
-is_number (Number n) = true
-is_number (Text text) = false
+abbrev pub is_number_operand : Operand → Bool
+is_number_operand (Number n) = true
+is_number_operand (Text text) = false
 
-abbrev pub is_text : Operand → Bool
-is_text (Number n) = false
-is_text (Text text) = true
+abbrev pub is_text_operand : Operand → Bool
+is_text_operand (Number n) = false
+is_text_operand (Text text) = true
 
 -- the sort of the column with this name
 abbrev pub sort_of : List ℕ → List Column → Option Sort
@@ -50,8 +50,8 @@ sort_of name (c ∷ cs) = if same_list name c.name then Some c.sort else sort_of
 -- a NUMBER is compared with numbers, a VARCHAR2 with texts, and a CLOB with nothing
 abbrev pub fit_sort : List Operand → Option Sort → Bool
 fit_sort operands None = false
-fit_sort operands (Some NumberSort) = list_all is_number operands
-fit_sort operands (Some (Varchar2 size)) = list_all is_text operands
+fit_sort operands (Some NumberSort) = list_all is_number_operand operands
+fit_sort operands (Some (Varchar2 size)) = list_all is_text_operand operands
 fit_sort operands (Some Clob) = false
 
 -- the condition is on a column that is there, and compares its values with such as it has

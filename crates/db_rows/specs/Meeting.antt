@@ -14,7 +14,7 @@ use Rattle.st_parse.specs.declared.statements.Cond.TheVariants.{Compare, Between
 use Rattle.tb_table.specs.declared.columns.Column.{Column}
 use Rattle.tb_table.specs.Tables.{Table, docs_columns, docs_rows, docs_table}
 use Rattle.db_cond.specs.Conditions.{holds}
-use Rattle.db_rows.specs.Values.{value_of, values_of}
+use Rattle.db_rows.specs.Values.{value_of_column, values_of}
 use Rattle.db_rows.specs.Checking.{cond_column}
 
 -- the condition holds of the value; where there is none, it doesn't
@@ -24,7 +24,7 @@ holds_of cond (Some value) = holds cond value
 
 -- each condition holds of the value in its column, of a row with this key and these other values
 abbrev pub row_meets : List Column → List Cond → ℤ → List Value → Bool
-row_meets columns conds r vs = list_all (λ cond. holds_of cond (value_of columns r vs (cond_column cond))) conds
+row_meets columns conds r vs = list_all (λ cond. holds_of cond (value_of_column columns r vs (cond_column cond))) conds
 
 -- the same of the row of a table with this key
 abbrev pub key_meets : Table → List Cond → ℤ → Bool

@@ -9,7 +9,7 @@ use Rattle.ct_entry.specs.Keys.{same_list}
 use Rattle.tb_table.specs.declared.columns.Sort.{Sort}
 use Rattle.tb_table.specs.declared.columns.Sort.TheVariants.{Number as NumberSort, Varchar2, Clob}
 use Rattle.tb_table.specs.declared.columns.Column.{Column}
-use Rattle.tb_table.specs.Tables.{numbers_of, text_of}
+use Rattle.tb_table.specs.Tables.{numbers_of, text_in_column}
 use Rattle.db_rows.specs.declared.sources.Source.{Source}
 use Rattle.db_rows.specs.declared.sources.Source.TheVariants.{Key, Number, Text, Nothing}
 
@@ -44,14 +44,14 @@ source_of name columns = source_from 0 0 name columns
 abbrev pub source_value : ℤ → List Value → Source → Option Value
 source_value r vs Key = Some (NumberValue r)
 source_value r vs (Number place) = option_map NumberValue (slice_get (numbers_of vs) place)
-source_value r vs (Text column) = option_map TextValue (text_of vs column)
+source_value r vs (Text column) = option_map TextValue (text_in_column vs column)
 source_value r vs Nothing = None
 
-abbrev pub is_key : Source → Bool
-is_key Key = true
-is_key (Number place) = false
-is_key (Text column) = false
-is_key Nothing = false
+abbrev pub is_key_source : Source → Bool
+is_key_source Key = true
+is_key_source (Number place) = false
+is_key_source (Text column) = false
+is_key_source Nothing = false
 
 -- computed examples: of a table with a key, a number and two texts
 abbrev pub of_columns : List Column

@@ -4,7 +4,7 @@ use Rattle.ct_base.specs.declared.lists.Value.{Value}
 use Rattle.ct_base.specs.declared.lists.Value.TheVariants.{Number, Text}
 use Rattle.tb_table.specs.declared.columns.Column.{Column}
 use Rattle.tb_table.specs.Tables.{Tables, row_at, docs_columns, docs_alone, row_one}
-use Rattle.db_state.specs.Columns.{place_of}
+use Rattle.db_state.specs.Columns.{column_place}
 use Rattle.std.proofs.Common.{ap}
 
 -- the value at a place of a row with this key and these other values, the place of the key being 0
@@ -19,8 +19,8 @@ at_place r vs None = None
 at_place r vs (Some place) = value_at r vs place
 
 -- the value of the column with this name
-abbrev pub value_of : List Column → ℤ → List Value → List ℕ → Option Value
-value_of columns r vs name = at_place r vs (place_of name columns)
+abbrev pub value_of_column : List Column → ℤ → List Value → List ℕ → Option Value
+value_of_column columns r vs name = at_place r vs (column_place name columns)
 
 -- the values of a row behind its key; none where the row isn't there
 abbrev pub values_of : Option (List Value) → List Value
@@ -32,7 +32,7 @@ row_values ts t r = values_of (row_at ts t r)
 
 -- computed examples: of a table with the columns id, body and price, the row 7 of a text and a number
 abbrev seven : List ℕ → Option Value
-seven name = value_of docs_columns (pos 7) (Text (codes "fox") ∷ Number (pos 30) ∷ []) name
+seven name = value_of_column docs_columns (pos 7) (Text (codes "fox") ∷ Number (pos 30) ∷ []) name
 
 its_key : seven (codes "id") ≡ Some (Number (pos 7))
 its_key = refl
@@ -47,7 +47,7 @@ no_such_column : seven (codes "title") ≡ None
 no_such_column = refl
 
 -- a row that isn't there has no value but its key
-no_value : value_of docs_columns (pos 7) (values_of None) (codes "price") ≡ None
+no_value : value_of_column docs_columns (pos 7) (values_of None) (codes "price") ≡ None
 no_value = refl
 
 in_the_table : row_values docs_alone (codes "docs") (pos 1) ≡ Text (codes "quick fox quick") ∷ Number (pos 0) ∷ []

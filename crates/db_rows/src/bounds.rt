@@ -8,9 +8,9 @@ ghost use Rattle.ct_entry.specs.Listings.{number_of};
 ghost use Rattle.ct_entry.specs.laws.Rows.{IsPlace};
 ghost use Rattle.st_parse.specs.declared.statements.Compare.TheVariants as compare;
 ghost use Rattle.db_cond.specs.Conditions.{compares};
-ghost use Rattle.db_rows.specs.Sources.{is_key, source_of as source_of_column};
+ghost use Rattle.db_rows.specs.Sources.{is_key_source, source_of as source_of_column};
 ghost use Rattle.db_rows.specs.Checking.{cond_column as column_of_cond};
-ghost use Rattle.db_rows.specs.Bounds.{AreBoundsOf, BoundRows, Bounds, IsWithin};
+ghost use Rattle.db_rows.specs.Bounds.{AreBoundsOf, BoundRows, BoundKeys, IsWithinBounds};
 ghost use Rattle.db_rows.specs.Walking.{IsStart};
 
 use crate::checking::cond_column;
@@ -106,7 +106,7 @@ fn lesser(a: RowKey, b: RowKey) -> RowKey
 
 /// The keys that lie within both.
 fn overlap(a: KeyBounds, b: KeyBounds) -> KeyBounds
-    ensures { (r : ℤ) → IsWithin result r ↔ (IsWithin a r × IsWithin b r) }
+    ensures { (r : ℤ) → IsWithinBounds result r ↔ (IsWithinBounds a r × IsWithinBounds b r) }
 {
     let least = greater(a.least, b.least);
     let greatest = lesser(a.greatest, b.greatest);
@@ -115,7 +115,7 @@ fn overlap(a: KeyBounds, b: KeyBounds) -> KeyBounds
 
 /// From the least of both to the greatest.
 fn span(a: KeyBounds, b: KeyBounds) -> KeyBounds
-    ensures { (r : ℤ) → IsWithin a r ⊎ IsWithin b r → IsWithin result r }
+    ensures { (r : ℤ) → IsWithinBounds a r ⊎ IsWithinBounds b r → IsWithinBounds result r }
 {
     let least = lesser(a.least, b.least);
     let greatest = greater(a.greatest, b.greatest);
@@ -124,7 +124,7 @@ fn span(a: KeyBounds, b: KeyBounds) -> KeyBounds
 
 /// From the least of the numbers to the greatest.
 fn list_bounds(operands: &[Operand]) -> KeyBounds
-    ensures { (r : ℤ) → IsRow r → list_any (compares compare.Equal (NumberValue r)) operands.now ≡ true → IsWithin result r }
+    ensures { (r : ℤ) → IsRow r → list_any (compares compare.Equal (NumberValue r)) operands.now ≡ true → IsWithinBounds result r }
 {
     let mut bounds = KeyBounds::NONE;
     for operand in operands {
@@ -135,7 +135,7 @@ fn list_bounds(operands: &[Operand]) -> KeyBounds
 
 /// Bounds of the keys of which a condition holds.
 fn cond_bounds(cond: &Cond) -> KeyBounds
-    ensures { Bounds cond.now result }
+    ensures { BoundKeys cond.now result }
 {
     match cond {
         Cond::Compare { op, value, .. } => compare_bounds(*op, value),
@@ -149,7 +149,7 @@ fn cond_bounds(cond: &Cond) -> KeyBounds
 
 /// Whether the condition is on the key.
 fn is_on_key(cond: &Cond, columns: &[Column]) -> bool
-    ensures { result ≡ is_key (source_of_column (column_of_cond cond.now) columns.now) }
+    ensures { result ≡ is_key_source (source_of_column (column_of_cond cond.now) columns.now) }
 {
     matches!(source_of(cond_column(cond), columns), Source::Key)
 }

@@ -5,7 +5,7 @@ ghost use Rattle.std.specs.List.{list_all, list_any};
 ghost use Rattle.std.specs.Option.{option_map};
 ghost use Rattle.db_state.specs.Columns.{first_unknown};
 ghost use Rattle.db_state.specs.Effects.{Effect, Checks};
-ghost use Rattle.db_rows.specs.Checking.{check_conds, cond_column as column_of_cond, cond_columns, fit_columns as all_fit, fit_sort, fits_cond as cond_fits, has_beyond as any_beyond, is_beyond_cond as cond_is_beyond, is_beyond_operand as operand_is_beyond, is_number as is_a_number, is_text as is_a_text, sort_of as column_sort};
+ghost use Rattle.db_rows.specs.Checking.{check_conds, cond_column as column_of_cond, cond_columns, fit_columns as all_fit, fit_sort, fits_cond as cond_fits, has_beyond as any_beyond, is_beyond_cond as cond_is_beyond, is_beyond_operand as operand_is_beyond, is_number_operand as is_a_number, is_text_operand as is_a_text, sort_of as column_sort};
 
 use ct_base::Name;
 use db_cond::Fault;
@@ -37,13 +37,13 @@ pub fn unknown_column<'a>(conds: &'a [Cond], columns: &[Column]) -> Option<&'a N
     None
 }
 
-fn is_number(operand: &Operand) -> bool
+fn is_number_operand(operand: &Operand) -> bool
     ensures { result ≡ is_a_number operand.now }
 {
     matches!(operand, Operand::Number(_))
 }
 
-fn is_text(operand: &Operand) -> bool
+fn is_text_operand(operand: &Operand) -> bool
     ensures { result ≡ is_a_text operand.now }
 {
     matches!(operand, Operand::Text(_))
@@ -67,8 +67,8 @@ fn fits_one(sort: Option<Sort>, operand: &Operand) -> bool
     ensures { result ≡ fit_sort (operand.now ∷ []) sort }
 {
     match sort {
-        Some(Sort::Number) => is_number(operand),
-        Some(Sort::Varchar2(_)) => is_text(operand),
+        Some(Sort::Number) => is_number_operand(operand),
+        Some(Sort::Varchar2(_)) => is_text_operand(operand),
         Some(Sort::Clob) | None => false,
     }
 }
@@ -76,13 +76,13 @@ fn fits_one(sort: Option<Sort>, operand: &Operand) -> bool
 fn are_numbers(operands: &[Operand]) -> bool
     ensures { result ≡ list_all is_a_number operands.now }
 {
-    operands.iter().all(|operand| is_number(operand))
+    operands.iter().all(|operand| is_number_operand(operand))
 }
 
 fn are_texts(operands: &[Operand]) -> bool
     ensures { result ≡ list_all is_a_text operands.now }
 {
-    operands.iter().all(|operand| is_text(operand))
+    operands.iter().all(|operand| is_text_operand(operand))
 }
 
 /// Whether the values of this sort are compared with such operands.

@@ -3,10 +3,8 @@
 
 ghost use Rattle.std.specs.Prelude.{◌≡◌, IfOk, OnOk, Some};
 ghost use Rattle.ct_keep.specs.KeeperViews.{OnlyReads};
-ghost use Rattle.db_state.specs.States.{OverTable};
-ghost use Rattle.db_rows.specs.Sources.{source_of as column_source, source_value};
-ghost use Rattle.db_rows.specs.Reading.{IsReadOf, OverRow};
-ghost use Rattle.db_rows.specs.Checking.{cond_column as column_of_cond};
+ghost use Rattle.db_rows.specs.Bounds.{holds_by};
+ghost use Rattle.db_rows.specs.Reading.{IsReadOf, OverColumns, OverRow};
 ghost use Rattle.db_rows.specs.Meeting.{holds_of as holds_of_value, key_meets};
 
 use crate::checking::cond_column;
@@ -40,7 +38,7 @@ fn meets_one<K: Keeper>(
     read: &mut RowRead,
 ) -> Result<bool, KeepFault>
     requires { (K.view keeper.old).ready }
-    ensures met { OverRow K.view keeper.old table.now row.0 read.old (λ vs. IfOk result (λ met. met ≡ holds_of_value cond.now (source_value row.0 vs (column_source (column_of_cond cond.now) columns.now)))) }
+    ensures met { OverRow K.view keeper.old table.now row.0 read.old (λ vs. IfOk result (λ met. met ≡ holds_by columns.now cond.now row.0 vs)) }
     ensures read { OverRow K.view keeper.old table.now row.0 read.old (λ vs. OnOk result (IsReadOf vs read.new)) }
     ensures reads { OnlyReads K.view keeper.old keeper.new result }
 {
@@ -62,7 +60,7 @@ pub fn meets<K: Keeper>(
     row: RowKey,
 ) -> Result<bool, KeepFault>
     requires { (K.view keeper.old).ready }
-    ensures met { OverTable K.view keeper.old table.now (λ m c x. x.columns ≡ columns.now → IfOk result (λ met. met ≡ key_meets x conds.now row.0)) }
+    ensures met { OverColumns K.view keeper.old table.now columns.now (λ x. IfOk result (λ met. met ≡ key_meets x conds.now row.0)) }
     ensures reads { OnlyReads K.view keeper.old keeper.new result }
 {
     let mut read = RowRead::nothing(alloc);

@@ -7,7 +7,7 @@ ghost use Rattle.std.specs.Map.{lookup};
 ghost use Rattle.std.specs.Option.{option_map};
 ghost use Rattle.ct_base.specs.declared.lists.Value.{Value as RowValue};
 ghost use Rattle.ct_keep.specs.KeeperViews.{OnlyReads};
-ghost use Rattle.tb_table.specs.Tables.{numbers_of, text_of as row_text};
+ghost use Rattle.tb_table.specs.Tables.{numbers_of, text_in_column as row_text};
 ghost use Rattle.db_state.specs.States.{Sees};
 ghost use Rattle.db_rows.specs.Values.{row_values};
 ghost use Rattle.db_rows.specs.Sources.{source_value};

@@ -1,15 +1,13 @@
 //! The rows of a table that meet conditions.
 #![tactic(auto, using(ct_keep::specs::Composing::reads_on, ct_keep::specs::Composing::reads_short))]
 
-ghost use Rattle.std.specs.Prelude.{◌≡◌, ◌++◌, [], ◌∷◌, map, IfOk, OnOk};
-ghost use Rattle.std.specs.Bool.{if◌then◌else◌};
+ghost use Rattle.std.specs.Prelude.{◌≡◌, map, IfOk, OnOk};
 ghost use Rattle.ct_keep.specs.KeeperViews.{OnlyReads};
 ghost use Rattle.ct_entry.specs.Listings.{number_of};
-ghost use Rattle.ct_entry.specs.laws.Rows.{IsPlace};
-ghost use Rattle.tb_table.specs.Tables.{row_keys};
-ghost use Rattle.db_state.specs.States.{OverStates, OverTable};
-ghost use Rattle.db_rows.specs.Meeting.{key_meets, meeting_keys};
-ghost use Rattle.db_rows.specs.Walking.{IsNext, is_past as is_past_greatest};
+ghost use Rattle.db_state.specs.States.{OverStates};
+ghost use Rattle.db_rows.specs.Meeting.{meeting_keys};
+ghost use Rattle.db_rows.specs.Reading.{OverColumns};
+ghost use Rattle.db_rows.specs.Walking.{AddsIfMet, FindsNext, is_past_greatest as past_greatest, with_met};
 
 use crate::bounds::{KeyBounds, key_bounds, start};
 use crate::meeting::meets;
@@ -20,8 +18,8 @@ use std::alloc::Global;
 use tb_table::{Column, next_row};
 
 /// Whether no key after this one lies within the bounds.
-fn is_past(after: Option<RowKey>, bounds: KeyBounds) -> bool
-    ensures { result ≡ is_past_greatest (number_of after) bounds.greatest.0 }
+fn is_past_greatest(after: Option<RowKey>, bounds: KeyBounds) -> bool
+    ensures { result ≡ past_greatest (number_of after) bounds.greatest.0 }
 {
     match after {
         Some(last) => last.0 >= bounds.greatest.0,
@@ -39,10 +37,10 @@ fn next_within<K: Keeper>(
     after: Option<RowKey>,
 ) -> Result<Option<RowKey>, KeepFault>
     requires { (K.view keeper.old).ready }
-    ensures next { OverStates K.view keeper.old (λ m c. IsPlace (number_of after) → IfOk result (λ row. IsNext (number_of after) bounds.greatest.0 (row_keys m.tables table.now) (number_of row))) }
+    ensures next { OverStates K.view keeper.old (λ m c. FindsNext m.tables table.now (number_of after) bounds.greatest.0 result) }
     ensures reads { OnlyReads K.view keeper.old keeper.new result }
 {
-    if is_past(after, bounds) {
+    if is_past_greatest(after, bounds) {
         return Ok(None);
     }
     let Some(row) = next_row(alloc, keeper, table, after)? else {
@@ -56,7 +54,7 @@ fn next_within<K: Keeper>(
 
 /// Puts the key of a row that meets the conditions.
 fn push_met(rows: &mut Vec<RowKey>, row: RowKey, met: bool) -> Result<(), Memory>
-    ensures { OnOk result (rows.new.items ≡ rows.old.items ++ (if met then row ∷ [] else [])) }
+    ensures { OnOk result (rows.new.items ≡ with_met met row rows.old.items) }
 {
     if met {
         rows.push(row)?;
@@ -75,7 +73,7 @@ fn note_row<K: Keeper>(
     row: RowKey,
 ) -> Result<(), KeepFault>
     requires { (K.view keeper.old).ready }
-    ensures rows { OverTable K.view keeper.old table.now (λ m c x. x.columns ≡ columns.now → OnOk result (rows.new.items ≡ rows.old.items ++ (if key_meets x conds.now row.0 then row ∷ [] else []))) }
+    ensures rows { OverColumns K.view keeper.old table.now columns.now (λ x. OnOk result (AddsIfMet x conds.now row rows.old.items rows.new.items)) }
     ensures reads { OnlyReads K.view keeper.old keeper.new result }
 {
     let met = meets(alloc, keeper, table, columns, conds, row)?;
@@ -96,7 +94,7 @@ pub fn rows_meeting<K: Keeper>(
     conds: &[Cond],
 ) -> Result<Vec<RowKey>, KeepFault>
     requires { (K.view keeper.old).ready }
-    ensures keys { OverTable K.view keeper.old table.now (λ m c x. x.columns ≡ columns.now → IfOk result (λ rows. map (λ row. row.0) rows.items ≡ meeting_keys x conds.now)) }
+    ensures keys { OverColumns K.view keeper.old table.now columns.now (λ x. IfOk result (λ rows. map (λ row. row.0) rows.items ≡ meeting_keys x conds.now)) }
     ensures reads { OnlyReads K.view keeper.old keeper.new result }
 {
     let bounds = key_bounds(conds, columns);

@@ -16,13 +16,14 @@ use Rattle.st_parse.specs.declared.statements.Cond.{Cond}
 use Rattle.tb_table.specs.Tables.{Table}
 use Rattle.ix_search.specs.declared.hits.Hit.{Hit}
 use Rattle.ix_context.specs.Indexes.{Index}
-use Rattle.db_state.specs.States.{State}
+use Rattle.db_state.specs.States.{StoreState}
 use Rattle.db_rows.specs.Values.{values_of}
 use Rattle.db_rows.specs.Meeting.{row_meets, key_meets, meeting_keys}
 use Rattle.db_select.specs.Predicates.{Search}
 use Rattle.db_select.specs.Checking.{threshold_of}
 use Rattle.db_select.specs.Selecting.{index_of_search, found_in, hits}
-use Rattle.db_select.specs.Sources.{found_scores, unscored}
+use Rattle.ix_search.specs.Hits.{hit_rows}
+use Rattle.db_select.specs.Sources.{unscored}
 use Rattle.db_select.proofs.Scores.{filter_mapped}
 use Rattle.db_select.proofs.Selects.{map_map}
 
@@ -51,16 +52,16 @@ module _ (p : Hit → Bool) (found : List Hit) where
 
 -- ---- with a search
 
-pub searched_are : (m : State) (t : List ℕ) (x : Table) (s : Search) (conds : List Cond) (y : Index) → index_of_search m t x.columns s ≡ Some y → (o : Option ℕ) → threshold_of s.above ≡ o
+pub searched_are : (m : StoreState) (t : List ℕ) (x : Table) (s : Search) (conds : List Cond) (y : Index) → index_of_search m t x.columns s ≡ Some y → (o : Option ℕ) → threshold_of s.above ≡ o
     → filter (λ h. key_meets x conds h.0) (found_in m.tables (Some y) s.query o) ≡ hits m t x (Some s) conds
 searched_are m t x s conds y needed o is =
     sym (ap (λ (i : Option Index). filter (λ (h : ℤ × ℕ). key_meets x conds h.0) (found_in m.tables i s.query (threshold_of s.above))) needed
     ∙ ap (λ (o : Option ℕ). filter (λ (h : ℤ × ℕ). key_meets x conds h.0) (found_in m.tables (Some y) s.query o)) is)
 
-pub met_are : (x : Table) (conds : List Cond) (all met : List Hit) (found : List (ℤ × ℕ)) → found_scores all ≡ found → met ≡ filter (λ h. key_meets x conds h.key.0) all
-    → found_scores met ≡ filter (λ h. key_meets x conds h.0) found
+pub met_are : (x : Table) (conds : List Cond) (all met : List Hit) (found : List (ℤ × ℕ)) → hit_rows all ≡ found → met ≡ filter (λ h. key_meets x conds h.key.0) all
+    → hit_rows met ≡ filter (λ h. key_meets x conds h.0) found
 met_are x conds all met found scored is =
-    ap found_scores is
+    ap hit_rows is
     ∙ filter_mapped (λ (h : ℤ × ℕ). key_meets x conds h.0) (λ (h : Hit). (h.key.0, h.score)) all
     ∙ ap (filter (λ (h : ℤ × ℕ). key_meets x conds h.0)) scored
 
@@ -75,13 +76,13 @@ entries_alike x conds =
     found_listed int_cmp int_cmp_total (λ e. row_meets x.columns conds e.0 e.1 ≡ key_meets x conds e.0) (entries x.rows) (entries_rise int_cmp x.rows)
     (λ r vs found. ap (λ (o : Option (List Value)). row_meets x.columns conds r (values_of o)) (sym (get-entries x.rows r ∙ found)))
 
-pub unsearched_are : (m : State) (t : List ℕ) (x : Table) (conds : List Cond) (rows : List RowKey) (all : List Hit) → map (λ row. row.0) rows ≡ meeting_keys x conds → all ≡ map unscored rows
-    → found_scores all ≡ hits m t x None conds
+pub unsearched_are : (m : StoreState) (t : List ℕ) (x : Table) (conds : List Cond) (rows : List RowKey) (all : List Hit) → map (λ row. row.0) rows ≡ meeting_keys x conds → all ≡ map unscored rows
+    → hit_rows all ≡ hits m t x None conds
 unsearched_are m t x conds rows all met is =
     let pair : ℤ → ℤ × ℕ = λ r. (r, 0) in
     let entry_pair : ℤ × List Value → ℤ × ℕ = λ e. (e.0, 0) in
     let entry_meets : ℤ × List Value → Bool = λ e. row_meets x.columns conds e.0 e.1 in
-    ap found_scores is
+    ap hit_rows is
     ∙ sym (map_map (λ (h : Hit). (h.key.0, h.score)) unscored rows)
     ∙ map_map pair (λ (row : RowKey). row.0) rows
     ∙ ap (map pair) met

@@ -17,7 +17,7 @@ use Rattle.q_tree.specs.declared.queries.Op.{Op}
 use Rattle.q_tree.specs.declared.queries.Op.TheVariants.{And, Or, Not, Minus}
 use Rattle.q_tree.specs.Limits.{has_wildcard}
 use Rattle.q_tree.specs.Trees.{Tree, Single, Both, Weight, Above, Nearness, InSection, ScoredBy, Reduced, Weighted, Exceeding}
-use Rattle.q_reduce.specs.Reducing.{Context, word_keys, key_slot, pattern, word_slots, joined_keys, joined_patterns, in_order, slot_of, joined_slot, place_slots, front_dropped, unless_last_any, end_dropped, trimmed, phrases_of, leaf_phrases, phrases, term, right_alone, joined, has_phrase, close, place_of, within, reduced}
+use Rattle.q_reduce.specs.Reducing.{Context, word_keys, key_slot, pattern, word_slots, joined_keys, joined_patterns, in_order, slot_of, joined_slot, place_slots, front_dropped, unless_last_any, end_dropped, trimmed, phrases_of_slots, leaf_phrases, operand_phrases, term, right_alone, joined_query, has_phrase, close, named_place, within_place, reduced}
 use Rattle.ix_search.specs.Parts.{slot_has_keys_alone, phrase_has_keys_alone, term_has_keys_alone, has_keys_alone}
 use Rattle.db_select.specs.Querying.{is_built_leaf, has_built_forms}
 
@@ -101,7 +101,7 @@ trimmed_alone slots all = end_alone (front_dropped slots) (front_alone slots all
 
 -- ---- phrases
 
-phrases_of_alone : (slots : List Slot) → phrase_has_keys_alone slots ≡ true → term_has_keys_alone (phrases_of slots) ≡ true
+phrases_of_alone : (slots : List Slot) → phrase_has_keys_alone slots ≡ true → term_has_keys_alone (phrases_of_slots slots) ≡ true
 phrases_of_alone [] all = refl
 phrases_of_alone (slot ∷ slots) all = and_from _ _ all refl
 
@@ -111,7 +111,7 @@ leaf_alone x (Phrase places) built =
     phrases_of_alone (trimmed slots) (trimmed_alone slots (all_joined slot_has_keys_alone (list_all is_plain) (place_slots x) places (place_alone x) built))
 leaf_alone x (Thes relation words level thesaurus) built = refl
 
-phrases_alone : (x : Context) (leaves : List Leaf) → list_all is_built_leaf leaves ≡ true → term_has_keys_alone (phrases x leaves) ≡ true
+phrases_alone : (x : Context) (leaves : List Leaf) → list_all is_built_leaf leaves ≡ true → term_has_keys_alone (operand_phrases x leaves) ≡ true
 phrases_alone x leaves built = all_joined phrase_has_keys_alone is_built_leaf (leaf_phrases x) leaves (leaf_alone x) built
 
 -- ---- operators
@@ -126,7 +126,7 @@ right_keys Or b is = is
 right_keys Not b is = tt
 right_keys Minus b is = tt
 
-joined_alone : (op : Op) (a b : Option Reduced) → HasKeysAlone a → HasKeysAlone b → HasKeysAlone (joined op a b)
+joined_alone : (op : Op) (a b : Option Reduced) → HasKeysAlone a → HasKeysAlone b → HasKeysAlone (joined_query op a b)
 joined_alone op None None left right = tt
 joined_alone op None (Some b) left right = right_keys op b right
 joined_alone op (Some a) None left right = left
@@ -140,20 +140,20 @@ exceeding_alone : (n : ℕ) (a : Option Reduced) → HasKeysAlone a → HasKeysA
 exceeding_alone n None is = tt
 exceeding_alone n (Some a) is = is
 
-within_alone : (place : Option Place) (a : Option Reduced) → HasKeysAlone a → HasKeysAlone (within place a)
+within_alone : (place : Option Place) (a : Option Reduced) → HasKeysAlone a → HasKeysAlone (within_place place a)
 within_alone None a is = tt
 within_alone (Some place) None is = tt
 within_alone (Some place) (Some a) is = is
 
 -- ---- nearness
 
-kept_alone : (x : Context) (ops : List (List Leaf)) → list_all (list_all is_built_leaf) ops ≡ true → list_all term_has_keys_alone (filter has_phrase (map (phrases x) ops)) ≡ true
+kept_alone : (x : Context) (ops : List (List Leaf)) → list_all (list_all is_built_leaf) ops ≡ true → list_all term_has_keys_alone (filter has_phrase (map (operand_phrases x) ops)) ≡ true
 kept_alone x [] built = refl
 kept_alone x (op ∷ ops) built =
     let parts = and_parts (list_all is_built_leaf op) (list_all (list_all is_built_leaf) ops) built in
-    go (phrases x op) (phrases_alone x op parts.0) (kept_alone x ops parts.1)
+    go (operand_phrases x op) (phrases_alone x op parts.0) (kept_alone x ops parts.1)
   where
-    go : (ps : List (List Slot)) → term_has_keys_alone ps ≡ true → list_all term_has_keys_alone (filter has_phrase (map (phrases x) ops)) ≡ true → list_all term_has_keys_alone (filter has_phrase (ps ∷ map (phrases x) ops)) ≡ true
+    go : (ps : List (List Slot)) → term_has_keys_alone ps ≡ true → list_all term_has_keys_alone (filter has_phrase (map (operand_phrases x) ops)) ≡ true → list_all term_has_keys_alone (filter has_phrase (ps ∷ map (operand_phrases x) ops)) ≡ true
     go [] all rest = rest
     go (p ∷ ps) all rest = and_from _ _ all rest
 
@@ -172,6 +172,6 @@ keys_alone x (Both op a b) built =
     joined_alone op (reduced x a) (reduced x b) (keys_alone x a parts.0) (keys_alone x b parts.1)
 keys_alone x (Weight tenths a) built = weighted_alone tenths (reduced x a) (keys_alone x a built)
 keys_alone x (Above n a) built = exceeding_alone n (reduced x a) (keys_alone x a built)
-keys_alone x (Nearness ops span ordered) built = close_alone span ordered (filter has_phrase (map (phrases x) ops)) (kept_alone x ops built)
-keys_alone x (InSection name a) built = within_alone (place_of x.group name) (reduced x a) (keys_alone x a built)
+keys_alone x (Nearness ops span ordered) built = close_alone span ordered (filter has_phrase (map (operand_phrases x) ops)) (kept_alone x ops built)
+keys_alone x (InSection name a) built = within_alone (named_place x.group name) (reduced x a) (keys_alone x a built)
 keys_alone x (ScoredBy leaves sum) built = absurd (cc)

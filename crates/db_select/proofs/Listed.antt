@@ -8,10 +8,10 @@ use Rattle.tb_table.specs.declared.columns.Column.{Column}
 use Rattle.tb_table.specs.Rules.{has_column}
 use Rattle.std.specs.Option.{option_and_then}
 use Rattle.ct_entry.specs.Keys.{same_list}
-use Rattle.db_state.specs.States.{State}
+use Rattle.db_state.specs.States.{StoreState}
 use Rattle.db_state.specs.Lookups.{FoundOn, index_on}
 use Rattle.db_select.specs.Searches.{NeedsIndex}
-use Rattle.db_state.specs.Columns.{first_unknown, place_from, place_of}
+use Rattle.db_state.specs.Columns.{first_unknown, place_from, column_place}
 use Rattle.db_select.specs.Predicates.{Search, columns_among}
 
 -- a column that is there, one that isn't, and a score
@@ -31,10 +31,6 @@ pub score_passed : (items rest : List Item) (item : Item) (columns : List Column
 score_passed items rest item columns own is score =
     ap (λ (l : List Item). first_unknown (columns_among l) columns) is
     ∙ ap (λ (i : Item). first_unknown (columns_among (i ∷ rest)) columns) score
-
--- an element of a list, and those behind it
-pub here : {X : Type 0} (xs : List X) (i : ℕ) (x : X) → i < length xs → x ≡ get_or xs i x → drop i xs ≡ x ∷ drop (i + 1) xs
-here xs i x within is = drop-cons xs i x within ∙ ap (λ y. y ∷ drop (suc i) xs) (sym is) ∙ ap (λ (j : ℕ). x ∷ drop j xs) (sym (add-one i))
 
 -- the first name that is unknown, of two lists
 pub unknown_first : (names more : List (List ℕ)) (columns : List Column) (name : List ℕ) → first_unknown names columns ≡ Some name → first_unknown (names ++ more) columns ≡ Some name
@@ -64,10 +60,10 @@ place_below k name (c ∷ cs) place is = go (same_list name c.name) is (place_be
     go true is rest = let e : k ≡ place = cc in omega (arith, e)
     go false is rest = let low = rest is in omega (arith, low)
 
-pub place_small : (name : List ℕ) (columns : List Column) (place : ℕ) → place_of name columns ≡ Some place → length columns ≤ 256 → place < 256
+pub place_small : (name : List ℕ) (columns : List Column) (place : ℕ) → column_place name columns ≡ Some place → length columns ≤ 256 → place < 256
 place_small name columns place is few = let low = place_below 0 name columns place is in omega (arith, low)
 
 -- the index on the place of the column is the one that the search needs
-pub needed_at : (m : State) (t : List ℕ) (columns : List Column) (s : Search) (place : ℕ) → place_of s.column columns ≡ Some place → (found : Option (List ℕ)) → FoundOn m.indexes t place found → NeedsIndex m t columns s found
+pub needed_at : (m : StoreState) (t : List ℕ) (columns : List Column) (s : Search) (place : ℕ) → column_place s.column columns ≡ Some place → (found : Option (List ℕ)) → FoundOn m.indexes t place found → NeedsIndex m t columns s found
 needed_at m t columns s place is None found = ap (option_and_then (λ (place : ℕ). index_on m.indexes t place)) is ∙ found
 needed_at m t columns s place is (Some i) found = (found.0, (found.1.0, ap (option_and_then (λ (place : ℕ). index_on m.indexes t place)) is ∙ found.1.1))

@@ -7,7 +7,7 @@ use Rattle.std.proofs.lemmas.Map.Entries.{option_filter}
 use Rattle.tb_table.specs.Tables.{Tables}
 use Rattle.ix_docmap.specs.Marks.{Mark, Pending, Settled}
 use Rattle.ix_context.specs.Indexes.{Index, marks_in, text_seen}
-use Rattle.ix_search.specs.Finding.{query_score, if_above, scored, found_at, found}
+use Rattle.ix_search.specs.Finding.{query_score, scored_above, scored, found_at, found}
 use Rattle.q_tree.specs.Trees.{Reduced}
 use Rattle.tx_settings.specs.declared.preferences.Prefs.{Prefs}
 
@@ -18,7 +18,7 @@ none_above n score h = let l = ltb-false 0 score h in not_below (nat_lt n score)
     not_below true e l = let m = ltb-true n score e in absurd (omega (arith, m, l))
     not_below false e l = refl
 
-above_of_all : (n : ℕ) (r : ℤ) (score : ℕ) → option_filter (λ (h : ℤ × ℕ). nat_lt n h.1) (if_above 0 r score) ≡ if_above n r score
+above_of_all : (n : ℕ) (r : ℤ) (score : ℕ) → option_filter (λ (h : ℤ × ℕ). nat_lt n h.1) (scored_above 0 r score) ≡ scored_above n r score
 above_of_all n r score = go (nat_lt 0 score) refl
   where
     go : (b : Bool) → nat_lt 0 score ≡ b → option_filter (λ (h : ℤ × ℕ). nat_lt n h.1) (cond b (Some (r, score)) None) ≡ cond (nat_lt n score) (Some (r, score)) None

@@ -15,8 +15,9 @@ use Rattle.st_parse.specs.declared.statements.Cond.{Cond}
 use Rattle.ix_search.specs.declared.hits.Hit.{Hit}
 use Rattle.ix_context.specs.Indexes.{Index}
 use Rattle.db_cond.specs.Faults.{Refusal, NotUnderstood, UnknownName, WrongValues, OutOfRange, NoIndexOfKind, refusal_line}
-use Rattle.db_state.specs.States.{State, is_view}
+use Rattle.db_state.specs.States.{StoreState, is_view}
 use Rattle.db_state.specs.Effects.{Effect, Does, Refused, refuse, refuse_by, with_found, state_by, reply_by}
+use Rattle.db_state.specs.laws.Unchanged.{kept_by, kept_found, kept_unless}
 use Rattle.db_state.specs.Columns.{first_unknown}
 use Rattle.db_rows.specs.Checking.{fit_columns, has_beyond}
 use Rattle.db_select.specs.Predicates.{Search, is_built_pred, label_in, list_columns, pred_column, search_in, conds_in}
@@ -32,24 +33,12 @@ use Rattle.db_select.proofs.FieldLaws.{hit_line_is}
 
 -- ---- the table
 
-pub few_columns : (m : State) (t : List ℕ) (x : Table) (columns : List Column) → AreTables m.tables → get m.tables t ≡ Some x → x.columns ≡ columns → length columns ≤ 256
+pub few_columns : (m : StoreState) (t : List ℕ) (x : Table) (columns : List Column) → AreTables m.tables → get m.tables t ≡ Some x → x.columns ≡ columns → length columns ≤ 256
 few_columns m t x columns are here same = let few = (are.each t x here).columns.few in omega (arith, few, ap length same)
 
 -- ---- the state stays
 
-kept_by : (m : State) (b : Bool) (refusal : Refusal) (e : Effect) → state_by m e ≡ m → state_by m (refuse b refusal e) ≡ m
-kept_by m true refusal e kept = refl
-kept_by m false refusal e kept = kept
-
-kept_found : {X : Type 0} (m : State) (o : Option X) (refusal : Refusal) (f : X → Effect) → ((x : X) → state_by m (f x) ≡ m) → state_by m (with_found o refusal f) ≡ m
-kept_found m None refusal f kept = refl
-kept_found m (Some x) refusal f kept = kept x
-
-kept_unless : {X : Type 0} (m : State) (o : Option X) (refusal : X → Refusal) (e : Effect) → state_by m e ≡ m → state_by m (refuse_by o refusal e) ≡ m
-kept_unless m None refusal e kept = kept
-kept_unless m (Some x) refusal e kept = refl
-
-select_keeps : (m : State) (list : SelectList) (t : List ℕ) (preds : List Pred) → state_by m (select m list t preds) ≡ m
+select_keeps : (m : StoreState) (list : SelectList) (t : List ℕ) (preds : List Pred) → state_by m (select m list t preds) ≡ m
 select_keeps m list t preds =
     let search = search_in preds in
     let conds = conds_in preds in
@@ -60,11 +49,11 @@ select_keeps m list t preds =
     (kept_by m (is_out_of_range search || has_beyond conds) OutOfRange _
     (kept_unless m (query_refusal m t x.columns search) (λ refusal. refusal) _ refl)))))
 
-kept_either : (m : State) (b : Bool) (e f : Effect) → state_by m e ≡ m → state_by m f ≡ m → state_by m (if b then e else f) ≡ m
+kept_either : (m : StoreState) (b : Bool) (e f : Effect) → state_by m e ≡ m → state_by m f ≡ m → state_by m (if b then e else f) ≡ m
 kept_either m true e f kept other = kept
 kept_either m false e f kept other = other
 
-pub statement_keeps : (m : State) (list : SelectList) (t : List ℕ) (preds : List Pred) → state_by m (select_statement m list t preds) ≡ m
+pub statement_keeps : (m : StoreState) (list : SelectList) (t : List ℕ) (preds : List Pred) → state_by m (select_statement m list t preds) ≡ m
 statement_keeps m list t preds =
     kept_by m (not (list_all is_built_pred preds)) NotUnderstood _
     (kept_either m (bytes_eq t (codes "ctx_user_pending")) (select_pending m list preds) (refuse (is_view t) NotUnderstood (select m list t preds))
@@ -81,7 +70,7 @@ map_same : {X Y : Type 0} (f g : X → Y) → ((x : X) → f x ≡ g x) → (xs 
 map_same f g same [] = refl
 map_same f g same (x ∷ xs) = λ i. same x i ∷ map_same f g same xs i
 
-pub rows_are : (m : State) (t : List ℕ) (x : Table) (items : List Item) (columns : List Column) (sources : List FieldSource) (hits : List Hit) → AreTables m.tables → get m.tables t ≡ Some x → x.columns ≡ columns → sources ≡ map (field_source columns) items
+pub rows_are : (m : StoreState) (t : List ℕ) (x : Table) (items : List Item) (columns : List Column) (sources : List FieldSource) (hits : List Hit) → AreTables m.tables → get m.tables t ≡ Some x → x.columns ≡ columns → sources ≡ map (field_source columns) items
     → map (λ h. hit_fields m.tables t sources (h.key.0, h.score)) hits ≡ map (hit_line m.tables t x.columns items) (map (λ h. (h.key.0, h.score)) hits)
 rows_are m t x items columns sources hits are here same from =
     map_map (hit_fields m.tables t sources) (λ (h : Hit). (h.key.0, h.score)) hits
@@ -96,7 +85,7 @@ columns_are columns sources x same is =
 
 -- ---- the replies
 
-module _ (m : State) (t : List ℕ) (x : Table) (list : SelectList) (search : Option Search) (conds : List Cond) (columns : List Column) (same : x.columns ≡ columns) (w o : Bool)
+module _ (m : StoreState) (t : List ℕ) (x : Table) (list : SelectList) (search : Option Search) (conds : List Cond) (columns : List Column) (same : x.columns ≡ columns) (w o : Bool)
     (wrong : w ≡ (not (fit_labels list (label_in search)) || not (fit_columns columns conds))) (out : o ≡ (is_out_of_range search || has_beyond conds)) where
   checked : (done : Effect) → check_values x.columns list search conds done ≡ check_parts w o done
   checked done =
@@ -128,12 +117,12 @@ module _ (m : State) (t : List ℕ) (x : Table) (list : SelectList) (search : Op
       → rows_reply m.tables t x.columns list found ≡ reply_by (select_rows m t x list search conds)
   passed there passes none found is = ap (rows_reply m.tables t x.columns list) is ∙ ap reply_by (sym (by_query there passes None none))
 
-pub has_needed : (m : State) (t : List ℕ) (x : Table) (s : Search) (y : Index) → index_of_search m t x.columns s ≡ Some y → lacks_index m t x.columns (Some s) ≡ false
+pub has_needed : (m : StoreState) (t : List ℕ) (x : Table) (s : Search) (y : Index) → index_of_search m t x.columns s ≡ Some y → lacks_index m t x.columns (Some s) ≡ false
 has_needed m t x s y needed = ap is_none needed
 
 -- ---- the query of a search
 
-module _ (m : State) (t : List ℕ) (x : Table) (s : Search) (y : Index) (needed : index_of_search m t x.columns s ≡ Some y) where
+module _ (m : StoreState) (t : List ℕ) (x : Table) (s : Search) (y : Index) (needed : index_of_search m t x.columns s ≡ Some y) where
   by_index : query_refusal m t x.columns (Some s) ≡ refusal_in (meaning_of y.prefs s.query)
   by_index = ap (λ (o : Option Index). refused_by o s.query) needed
 
@@ -145,7 +134,7 @@ module _ (m : State) (t : List ℕ) (x : Table) (s : Search) (y : Index) (needed
 
 -- ---- the whole of a table
 
-module _ (m : State) (list : SelectList) (t : List ℕ) (preds : List Pred) (x : Table) (there : get m.tables t ≡ Some x) (columns : List Column) (same : x.columns ≡ columns) where
+module _ (m : StoreState) (list : SelectList) (t : List ℕ) (preds : List Pred) (x : Table) (there : get m.tables t ≡ Some x) (columns : List Column) (same : x.columns ≡ columns) where
   known : first_unknown (list_columns list ++ map pred_column preds) columns ≡ None → select m list t preds ≡ select_rows m t x list (search_in preds) (conds_in preds)
   known none =
       ap (λ (o : Option Table). with_found o (UnknownName t) (λ (x : Table). refuse_by (first_unknown (list_columns list ++ map pred_column preds) x.columns) UnknownName (select_rows m t x list (search_in preds) (conds_in preds)))) there

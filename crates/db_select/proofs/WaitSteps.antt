@@ -23,14 +23,14 @@ use Rattle.ix_context.specs.Indexes.{Index, in_queue, mark_of, pending_rows}
 use Rattle.ix_context.specs.Stands.{HoldsIndexes}
 use Rattle.ix_context.specs.laws.Reading.{pending_read}
 use Rattle.db_cond.specs.Lines.{line}
-use Rattle.db_state.specs.States.{State, Stands}
+use Rattle.db_state.specs.States.{StoreState, StandsForState}
 use Rattle.db_state.specs.Lines.{lines_or_none}
 use Rattle.db_select.specs.Pending.{pending_line, pending_of, pending_lines}
 use Rattle.db_select.specs.Waiting.{text_or_none, waiting_at, waiting_in, waiting_text}
 
 -- ---- the queue of an index, and where there is none
 
-holds_indexes : (m : State) (c : Content) → Stands c m → HoldsIndexes c m.tables m.indexes
+holds_indexes : (m : StoreState) (c : Content) → StandsForState c m → HoldsIndexes c m.tables m.indexes
 holds_indexes m c stands = record {
   tables = record { only = stands.only; stand = stands.tables; rules = stands.state.tables };
   stand = stands.indexes;
@@ -44,7 +44,7 @@ none_in_empty = none (entries (empty {K = ℤ} {X = Mark (Unit {0})} {R = int_cm
     none [] e = refl
     none (x ∷ es) e = cc
 
-pub waiting_read : (m : State) (c : Content) → Stands c m → (i : List ℕ) → rows_under kind.Pending i c ≡ waiting_at m.indexes i
+pub waiting_read : (m : StoreState) (c : Content) → StandsForState c m → (i : List ℕ) → rows_under kind.Pending i c ≡ waiting_at m.indexes i
 waiting_read m c stands i = go (get m.indexes i) refl
   where
     go : (o : Option Index) → get m.indexes i ≡ o → rows_under kind.Pending i c ≡ waiting_in o

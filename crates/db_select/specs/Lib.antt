@@ -6,5 +6,6 @@ pub mod Meanings
 pub mod Selecting
 pub mod Searches
 pub mod Sources
+pub mod Found
 pub mod Statements
 pub mod Waiting

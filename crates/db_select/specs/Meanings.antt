@@ -1,5 +1,5 @@
 -- What a query text means, as code holds it.
-use Rattle.std.specs.Prelude.{◌≡◌, true, Option, Some, None}
+use Rattle.std.specs.Prelude.{◌≡◌, true, Option, Some, None, refl}
 use Rattle.std.specs.Option.{option_map}
 use Rattle.q_tree.specs.declared.flats.Flat.{Flat}
 use Rattle.q_tree.specs.Soundness.{is_sound}
@@ -27,3 +27,7 @@ CanSearchIt (Some flat) = CanSearch flat
 abbrev pub IsSearchable : Held → Type 0
 IsSearchable (Refused line) = Unit {0}
 IsSearchable (Found flat) = CanSearchIt flat
+
+-- computed example: a query of stopwords alone finds nothing
+nothing_is_found : Means (Found None) (Finds None)
+nothing_is_found = refl

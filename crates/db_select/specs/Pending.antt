@@ -18,7 +18,7 @@ use Rattle.tx_settings.specs.Defaults.{default_prefs}
 use Rattle.ix_context.specs.Indexes.{Index, OfContext, no_part, in_queue, pending_rows}
 use Rattle.db_cond.specs.Faults.{WrongValues}
 use Rattle.db_cond.specs.Lines.{line}
-use Rattle.db_state.specs.States.{State}
+use Rattle.db_state.specs.States.{StoreState}
 use Rattle.db_state.specs.Effects.{Effect, Does, Refused, refuse}
 use Rattle.db_state.specs.Lines.{lines_or_none}
 use Rattle.db_select.specs.Predicates.{below_seven}
@@ -54,7 +54,7 @@ view_reply CountAll lines = line (Number (pos (length lines)) ∷ [])
 view_reply (Items items) lines = lines_or_none lines
 
 -- A list of items is refused before, so the reply to it is never reached.
-abbrev pub select_pending : State → SelectList → List Pred → Effect
+abbrev pub select_pending : StoreState → SelectList → List Pred → Effect
 select_pending m list preds = refuse (not (is_view_list list && is_bare preds)) WrongValues (Does m (view_reply list (pending_lines m.indexes)))
 
 -- computed examples: an index of two settled rows and the row 3, which waits
@@ -90,8 +90,8 @@ as_number = refl
 none_waits : view_reply Star [] ≡ codes "no rows selected\n"
 none_waits = refl
 
-with_a_predicate : (m : State) → select_pending m Star (CondPred (below_seven (codes "id")) ∷ []) ≡ Refused WrongValues
+with_a_predicate : (m : StoreState) → select_pending m Star (CondPred (below_seven (codes "id")) ∷ []) ≡ Refused WrongValues
 with_a_predicate m = refl
 
-of_a_list : (m : State) → select_pending m (Items []) [] ≡ Refused WrongValues
+of_a_list : (m : StoreState) → select_pending m (Items []) [] ≡ Refused WrongValues
 of_a_list m = refl

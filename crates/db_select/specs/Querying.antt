@@ -15,8 +15,8 @@ use Rattle.q_tree.specs.declared.queries.Leaf.{Leaf}
 use Rattle.q_tree.specs.declared.queries.Leaf.TheVariants.{Phrase, Thes}
 use Rattle.q_tree.specs.Limits.{has_wildcard}
 use Rattle.q_tree.specs.Trees.{Tree, Single, Both, Weight, Above, Nearness, InSection, ScoredBy, Reduced, Joined}
-use Rattle.q_parse.specs.declared.lexemes.Cause.{Cause}
-use Rattle.q_parse.specs.declared.lexemes.Cause.TheVariants.{OutOfRange, NotInProfile as ForeignCause, Syntax}
+use Rattle.q_parse.specs.declared.faults.Cause.{Cause}
+use Rattle.q_parse.specs.declared.faults.Cause.TheVariants.{OutOfRange, NotInProfile as ForeignCause, Syntax}
 use Rattle.q_parse.specs.Faults.{Verdict, TooLarge, Found, Fault}
 use Rattle.q_parse.specs.Verdicts.{verdict}
 use Rattle.q_reduce.specs.Reducing.{Context, reduced}
@@ -124,3 +124,11 @@ two_words = refl
 a_wildcard : meaning_of default_prefs (codes "caf%") ≡ Refuses not_searched_yet
 unfolding encode chars caseless ucd_category key_text
 a_wildcard = refl
+
+a_synonym : meaning_of default_prefs (codes "SYN(a)") ≡ Refuses not_searched_yet
+unfolding encode chars caseless ucd_category key_text
+a_synonym = refl
+
+a_sum : meaning_of default_prefs (codes "DEFINESCORE(a, OCCURRENCE)") ≡ Refuses not_searched_yet
+unfolding encode chars caseless ucd_category key_text
+a_sum = refl

@@ -19,12 +19,12 @@ use Rattle.ix_context.specs.Indexes.{Index}
 use Rattle.ix_search.specs.Finding.{found}
 use Rattle.db_cond.specs.Faults.{Refusal, UnknownName, NoIndexOfKind}
 use Rattle.db_cond.specs.Lines.{line}
-use Rattle.db_state.specs.States.{State}
+use Rattle.db_state.specs.States.{StoreState}
 use Rattle.db_state.specs.Effects.{Effect, Does, refuse, refuse_by, with_found}
-use Rattle.db_state.specs.Columns.{place_of, first_unknown}
+use Rattle.db_state.specs.Columns.{column_place, first_unknown}
 use Rattle.db_state.specs.Lines.{lines_or_none}
 use Rattle.db_state.specs.Lookups.{index_on}
-use Rattle.db_rows.specs.Values.{value_of, values_of, row_values}
+use Rattle.db_rows.specs.Values.{value_of_column, values_of, row_values}
 use Rattle.db_rows.specs.Meeting.{key_meets}
 use Rattle.db_select.specs.Querying.{Meaning, Finds, meaning_of, refusal_in}
 use Rattle.db_select.specs.Predicates.{Search, list_columns, pred_column, search_in, conds_in}
@@ -34,11 +34,11 @@ use Rattle.std.proofs.Common.{ap}
 -- ---- the rows
 
 -- the index that a search needs: that on its column
-abbrev pub index_of_search : State → List ℕ → List Column → Search → Option Index
-index_of_search m t columns s = option_and_then (λ (place : ℕ). index_on m.indexes t place) (place_of s.column columns)
+abbrev pub index_of_search : StoreState → List ℕ → List Column → Search → Option Index
+index_of_search m t columns s = option_and_then (λ (place : ℕ). index_on m.indexes t place) (column_place s.column columns)
 
 -- there is a search, and no index that it needs
-abbrev pub lacks_index : State → List ℕ → List Column → Option Search → Bool
+abbrev pub lacks_index : StoreState → List ℕ → List Column → Option Search → Bool
 lacks_index m t columns None = false
 lacks_index m t columns (Some s) = is_none (index_of_search m t columns s)
 
@@ -57,24 +57,24 @@ abbrev pub refused_by : Option Index → List ℕ → Option Refusal
 refused_by None query = None
 refused_by (Some x) query = refusal_in (meaning_of x.prefs query)
 
-abbrev pub query_refusal : State → List ℕ → List Column → Option Search → Option Refusal
+abbrev pub query_refusal : StoreState → List ℕ → List Column → Option Search → Option Refusal
 query_refusal m t columns None = None
 query_refusal m t columns (Some s) = refused_by (index_of_search m t columns s) s.query
 
 -- The keys of rows with their scores, in the order of the keys: of those that the search finds, or without one of all, with
 -- the score 0, for which no SCORE asks.
-abbrev pub found_rows : State → List ℕ → Table → Option Search → List (ℤ × ℕ)
+abbrev pub found_rows : StoreState → List ℕ → Table → Option Search → List (ℤ × ℕ)
 found_rows m t x None = map {B = ℤ × ℕ} (λ e. (e.0, 0)) (entries x.rows)
 found_rows m t x (Some s) = found_in m.tables (index_of_search m t x.columns s) s.query (threshold_of s.above)
 
 -- of them those that meet all conditions
-abbrev pub hits : State → List ℕ → Table → Option Search → List Cond → List (ℤ × ℕ)
+abbrev pub hits : StoreState → List ℕ → Table → Option Search → List Cond → List (ℤ × ℕ)
 hits m t x search conds = filter (λ h. key_meets x conds h.0) (found_rows m t x search)
 
 -- ---- the lines
 
 abbrev pub field : List Column → ℤ → List Value → ℕ → Item → Option Value
-field columns r vs score (ColumnItem name) = value_of columns r vs name
+field columns r vs score (ColumnItem name) = value_of_column columns r vs name
 field columns r vs score (Score label) = Some (Number (pos score))
 
 -- the line of a row that was found, with its score
@@ -93,7 +93,7 @@ rows_reply ts t columns (Items items) hs = lines_or_none (map (hit_line ts t col
 -- ---- the statement
 
 -- what follows where its columns are there
-abbrev pub select_rows : State → List ℕ → Table → SelectList → Option Search → List Cond → Effect
+abbrev pub select_rows : StoreState → List ℕ → Table → SelectList → Option Search → List Cond → Effect
 select_rows m t x list search conds =
     refuse (lacks_index m t x.columns search) NoIndexOfKind
     (check_values x.columns list search conds
@@ -101,7 +101,7 @@ select_rows m t x list search conds =
     (Does m (rows_reply m.tables t x.columns list (hits m t x search conds)))))
 
 -- SELECT of a list from a table by predicates
-abbrev pub select : State → SelectList → List ℕ → List Pred → Effect
+abbrev pub select : StoreState → SelectList → List ℕ → List Pred → Effect
 select m list t preds =
     with_found (get m.tables t) (UnknownName t) (λ (x : Table).
     refuse_by (first_unknown (list_columns list ++ map pred_column preds) x.columns) UnknownName

@@ -27,14 +27,14 @@ abbrev pub field_value : ℤ → List Value → ℕ → FieldSource → Option V
 field_value r vs score (OfColumn source) = source_value r vs source
 field_value r vs score Score = Some (NumberValue (pos score))
 
-abbrev pub fields : List FieldSource → ℤ → List Value → ℕ → List Value
-fields sources r vs score = filter_map (field_value r vs score) sources
+abbrev pub line_fields : List FieldSource → ℤ → List Value → ℕ → List Value
+line_fields sources r vs score = filter_map (field_value r vs score) sources
 
 -- ---- what is read of a row
 
 -- the fields of a row that was found, with its score
 abbrev pub hit_fields : Tables → List ℕ → List FieldSource → ℤ × ℕ → List Value
-hit_fields ts t sources h = fields sources h.0 (row_values ts t h.0) h.1
+hit_fields ts t sources h = line_fields sources h.0 (row_values ts t h.0) h.1
 
 -- the fields of a row as it was found
 abbrev pub found_fields : Tables → List ℕ → List FieldSource → Hit → List Value
@@ -48,10 +48,6 @@ found_value hit vs source = field_value hit.key.0 vs hit.score source
 abbrev pub found_line : Tables → List ℕ → List FieldSource → Hit → List ℕ
 found_line ts t sources hit = line (found_fields ts t sources hit)
 
--- the keys of rows as they were found, each with its score
-abbrev pub found_scores : List Hit → List (ℤ × ℕ)
-found_scores hits = map (λ h. (h.key.0, h.score)) hits
-
 -- a row that was found without a search
 abbrev pub unscored : RowKey → Hit
 unscored row = record { key = row; score = 0 }
@@ -64,6 +60,6 @@ column_source columns c = OfColumn (source_of c.name columns)
 its_sources : map (field_source of_columns) (ColumnItem (codes "b") ∷ ScoreItem (Fits (pos 1)) ∷ ColumnItem (codes "id") ∷ []) ≡ OfColumn (Text 3) ∷ Score ∷ OfColumn Key ∷ []
 its_sources = refl
 
-its_fields : fields (OfColumn (Number 0) ∷ OfColumn (Text 3) ∷ Score ∷ OfColumn Key ∷ []) (pos 7) (TextValue (codes "x") ∷ NumberValue (pos 5) ∷ TextValue (codes "y") ∷ []) 2
+its_fields : line_fields (OfColumn (Number 0) ∷ OfColumn (Text 3) ∷ Score ∷ OfColumn Key ∷ []) (pos 7) (TextValue (codes "x") ∷ NumberValue (pos 5) ∷ TextValue (codes "y") ∷ []) 2
     ≡ NumberValue (pos 5) ∷ TextValue (codes "y") ∷ NumberValue (pos 2) ∷ NumberValue (pos 7) ∷ []
 its_fields = refl

@@ -7,28 +7,28 @@ use Rattle.st_parse.specs.declared.statements.Pred.TheVariants.{Matches}
 use Rattle.st_parse.specs.declared.statements.SelectList.{SelectList}
 use Rattle.st_parse.specs.declared.statements.SelectList.TheVariants.{Star, CountAll}
 use Rattle.db_cond.specs.Faults.{NotUnderstood}
-use Rattle.db_state.specs.States.{State, is_view}
+use Rattle.db_state.specs.States.{StoreState, is_view}
 use Rattle.db_state.specs.Effects.{Effect, Refused, refuse}
 use Rattle.db_select.specs.Pending.{select_pending}
 use Rattle.db_select.specs.Predicates.{is_built_pred}
 use Rattle.db_select.specs.Selecting.{select}
 
 -- Of what is only looked at, by its name: the rows that wait. CTX_USER_INDEX_ERRORS isn't built yet.
-abbrev pub select_from : State → SelectList → List ℕ → List Pred → Effect
+abbrev pub select_from : StoreState → SelectList → List ℕ → List Pred → Effect
 select_from m list t preds =
     if bytes_eq t (codes "ctx_user_pending") then select_pending m list preds
     else refuse (is_view t) NotUnderstood (select m list t preds)
 
 -- CATSEARCH and MATCHES aren't built yet, which comes before all else.
-abbrev pub select_statement : State → SelectList → List ℕ → List Pred → Effect
+abbrev pub select_statement : StoreState → SelectList → List ℕ → List Pred → Effect
 select_statement m list t preds = refuse (not (list_all is_built_pred preds)) NotUnderstood (select_from m list t preds)
 
 -- computed examples
-not_built : (m : State) → select_statement m Star (codes "docs") (Matches (codes "body") (codes "a fox") ∷ []) ≡ Refused NotUnderstood
+not_built : (m : StoreState) → select_statement m Star (codes "docs") (Matches (codes "body") (codes "a fox") ∷ []) ≡ Refused NotUnderstood
 not_built m = refl
 
-what_waits : (m : State) → select_statement m CountAll (codes "ctx_user_pending") [] ≡ select_pending m CountAll []
+what_waits : (m : StoreState) → select_statement m CountAll (codes "ctx_user_pending") [] ≡ select_pending m CountAll []
 what_waits m = refl
 
-no_errors_yet : (m : State) → select_statement m Star (codes "ctx_user_index_errors") [] ≡ Refused NotUnderstood
+no_errors_yet : (m : StoreState) → select_statement m Star (codes "ctx_user_index_errors") [] ≡ Refused NotUnderstood
 no_errors_yet m = refl

@@ -1,22 +1,18 @@
 //! The rows that a SELECT finds.
 #![tactic(auto, using(ct_keep::specs::Composing::reads_on, ct_keep::specs::Composing::reads_short))]
 
-ghost use Rattle.std.specs.Prelude.{◌≡◌, ◌++◌, ◌∷◌, [], nat_lt, filter, map, IfOk, OnOk, Some, None};
-ghost use Rattle.std.specs.Bool.{if◌then◌else◌};
-ghost use Rattle.std.specs.FinMap.{get};
+ghost use Rattle.std.specs.Prelude.{◌≡◌, nat_lt, filter, map, IfOk, OnOk, Some, None};
 ghost use Rattle.ct_keep.specs.KeeperViews.{OnlyReads};
-ghost use Rattle.std.specs.Option.{option_map};
 ghost use Rattle.q_tree.specs.Trees.{reduced_of};
-ghost use Rattle.ix_context.specs.Indexes.{Index};
 ghost use Rattle.ix_search.specs.Finding.{found};
 ghost use Rattle.db_select.specs.Meanings.{CanSearch, CanSearchIt};
-ghost use Rattle.db_state.specs.States.{OverIndex, OverTable};
+ghost use Rattle.db_state.specs.States.{OverIndex};
+ghost use Rattle.db_rows.specs.Walking.{with_met};
 ghost use Rattle.db_rows.specs.Meeting.{key_meets};
-ghost use Rattle.db_select.specs.Checking.{threshold_of};
-ghost use Rattle.db_select.specs.Predicates.{Search};
-ghost use Rattle.db_select.specs.Querying.{Finds, meaning_of};
-ghost use Rattle.db_select.specs.Selecting.{found_by, hits, index_of_search};
-ghost use Rattle.db_select.specs.Sources.{found_scores, unscored as unscored_hit};
+ghost use Rattle.db_select.specs.Found.{FindsBy, GivesOver, GivesScores, GivesSearched, PutsIfMet};
+ghost use Rattle.db_select.specs.Selecting.{hits};
+ghost use Rattle.ix_search.specs.Hits.{hit_rows};
+ghost use Rattle.db_select.specs.Sources.{unscored as unscored_hit};
 
 use ct_base::{Memory, Name, RowKey};
 use ct_keep::{KeepFault, Keeper};
@@ -44,7 +40,7 @@ fn hits_above<K: Keeper>(
 ) -> Result<Vec<Hit>, KeepFault>
     requires ready { (K.view keeper.old).ready }
     requires searchable { CanSearch flat.now }
-    ensures found { OverIndex K.view keeper.old index.now (λ m x. IfOk result (λ hits. found_scores hits.items ≡ found m.tables x (reduced_of flat.now) above)) }
+    ensures found { OverIndex K.view keeper.old index.now (λ m x. IfOk result (λ hits. hit_rows hits.items ≡ found m.tables x (reduced_of flat.now) above)) }
     ensures reads { OnlyReads K.view keeper.old keeper.new result }
 {
     let mut hits = search(alloc, keeper, index, flat)?;
@@ -62,7 +58,7 @@ fn found_hits<K: Keeper>(
 ) -> Result<Vec<Hit>, KeepFault>
     requires ready { (K.view keeper.old).ready }
     requires searchable { CanSearchIt flat.now }
-    ensures found { OverIndex K.view keeper.old index.now (λ m x. IfOk result (λ hits. found_scores hits.items ≡ found_by m.tables x (Finds (option_map reduced_of flat.now)) above)) }
+    ensures found { OverIndex K.view keeper.old index.now (λ m x. FindsBy m.tables x flat.now above result) }
     ensures reads { OnlyReads K.view keeper.old keeper.new result }
 {
     let Some(flat) = flat else {
@@ -76,7 +72,7 @@ fn found_hits<K: Keeper>(
 
 /// Puts a row that meets the conditions.
 fn push_met(hits: &mut Vec<Hit>, hit: Hit, met: bool) -> Result<(), Memory>
-    ensures { OnOk result (hits.new.items ≡ hits.old.items ++ (if met then hit ∷ [] else [])) }
+    ensures { OnOk result (hits.new.items ≡ with_met met hit hits.old.items) }
 {
     if met {
         hits.push(hit)?;
@@ -95,7 +91,7 @@ fn note_hit<K: Keeper>(
     hit: Hit,
 ) -> Result<(), KeepFault>
     requires { (K.view keeper.old).ready }
-    ensures hits { OverTable K.view keeper.old table.now (λ m c x. x.columns ≡ columns.now → OnOk result (hits.new.items ≡ hits.old.items ++ (if key_meets x conds.now hit.key.0 then hit ∷ [] else []))) }
+    ensures hits { PutsIfMet K.view keeper.old table.now columns.now conds.now hit result hits.old.items hits.new.items }
     ensures reads { OnlyReads K.view keeper.old keeper.new result }
 {
     let met = meets(alloc, keeper, table, columns, conds, hit.key)?;
@@ -113,7 +109,7 @@ fn met_hits<K: Keeper>(
     found: &[Hit],
 ) -> Result<Vec<Hit>, KeepFault>
     requires { (K.view keeper.old).ready }
-    ensures hits { OverTable K.view keeper.old table.now (λ m c x. x.columns ≡ columns.now → IfOk result (λ hits. hits.items ≡ filter (λ h. key_meets x conds.now h.key.0) found.now)) }
+    ensures hits { GivesOver K.view keeper.old table.now columns.now result (λ m x hits. hits.items ≡ filter (λ h. key_meets x conds.now h.key.0) found.now) }
     ensures reads { OnlyReads K.view keeper.old keeper.new result }
 {
     let mut hits = Vec::new(alloc);
@@ -138,7 +134,7 @@ pub(crate) fn searched_hits<K: Keeper>(
 ) -> Result<Vec<Hit>, KeepFault>
     requires ready { (K.view keeper.old).ready }
     requires searchable { CanSearchIt flat.now }
-    ensures hits { OverTable K.view keeper.old table.now (λ m c x. x.columns ≡ columns.now → (y : Index) (s : Search) → get m.indexes index.now ≡ Some y → index_of_search m table.now columns.now s ≡ Some y → meaning_of y.prefs s.query ≡ Finds (option_map reduced_of flat.now) → threshold_of s.above ≡ above → IfOk result (λ found. found_scores found.items ≡ hits m table.now x (Some s) conds.now)) }
+    ensures hits { GivesSearched K.view keeper.old index.now table.now columns.now flat.now above result (λ m x s. hits m table.now x (Some s) conds.now) }
     ensures reads { OnlyReads K.view keeper.old keeper.new result }
 {
     let found = found_hits(alloc, keeper, index, flat, above)?;
@@ -170,7 +166,7 @@ pub(crate) fn unsearched_hits<K: Keeper>(
     conds: &[Cond],
 ) -> Result<Vec<Hit>, KeepFault>
     requires { (K.view keeper.old).ready }
-    ensures hits { OverTable K.view keeper.old table.now (λ m c x. x.columns ≡ columns.now → IfOk result (λ found. found_scores found.items ≡ hits m table.now x None conds.now)) }
+    ensures hits { GivesScores K.view keeper.old table.now columns.now result (λ m x. hits m table.now x None conds.now) }
     ensures reads { OnlyReads K.view keeper.old keeper.new result }
 {
     let rows = rows_meeting(alloc, keeper, table, columns, conds)?;

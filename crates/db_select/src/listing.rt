@@ -5,10 +5,12 @@ ghost use Rattle.std.specs.Prelude.{◌≡◌, ◌++◌, ◌∷◌, [], map, len
 ghost use Rattle.ct_base.specs.declared.lists.Value.TheVariants.{Number};
 ghost use Rattle.ct_keep.specs.KeeperViews.{OnlyReads};
 ghost use Rattle.db_cond.specs.Lines.{line as line_text};
-ghost use Rattle.db_state.specs.States.{OverStates, OverTable, Sees};
+ghost use Rattle.db_state.specs.States.{OverStates, Sees};
 ghost use Rattle.db_state.specs.Lines.{lines_or_none};
+ghost use Rattle.db_select.specs.Found.{GivesLines};
 ghost use Rattle.db_select.specs.Selecting.{rows_reply as reply_of_rows};
-ghost use Rattle.db_select.specs.Sources.{found_fields, found_line, found_scores};
+ghost use Rattle.ix_search.specs.Hits.{hit_rows};
+ghost use Rattle.db_select.specs.Sources.{found_fields, found_line};
 
 use crate::fields::row_fields;
 use crate::sources::{FieldSource, column_sources, sources_of};
@@ -82,7 +84,7 @@ pub(crate) fn rows_reply<K: Keeper>(
     hits: &[Hit],
 ) -> Result<Vec<u8>, KeepFault>
     requires { (K.view keeper.old).ready }
-    ensures reply { OverTable K.view keeper.old table.now (λ m c x. x.columns ≡ columns.now → IfOk result (λ reply. reply.items ≡ reply_of_rows m.tables table.now x.columns list.now (found_scores hits.now))) }
+    ensures reply { GivesLines K.view keeper.old table.now columns.now result (λ m x. reply_of_rows m.tables table.now x.columns list.now (hit_rows hits.now)) }
     ensures reads { OnlyReads K.view keeper.old keeper.new result }
 {
     match list {

@@ -7,6 +7,7 @@ ghost use Rattle.ct_keep.specs.KeeperViews.{OnlyReads};
 ghost use Rattle.db_cond.specs.Lines.{line as line_text};
 ghost use Rattle.db_state.specs.States.{OverStates, Sees};
 ghost use Rattle.db_state.specs.Effects.{reply_by};
+ghost use Rattle.db_select.specs.Found.{key_numbers};
 ghost use Rattle.db_select.specs.Pending.{is_bare, is_view_list, pending_line, select_pending as pending_effect, view_reply as reply_of_view, pending_lines as all_lines};
 ghost use Rattle.db_select.specs.Waiting.{text_or_none, waiting_at, waiting_text};
 
@@ -111,7 +112,7 @@ fn push_keys<K: Keeper>(
     index: &Name,
 ) -> Result<(), KeepFault>
     requires { (K.view keeper.old).ready }
-    ensures keys { OverStates K.view keeper.old (λ m c. OnOk result (map (λ row. row.0) keys.new.items ≡ map (λ row. row.0) keys.old.items ++ waiting_at m.indexes index.now)) }
+    ensures keys { OverStates K.view keeper.old (λ m c. OnOk result (key_numbers keys.new.items ≡ key_numbers keys.old.items ++ waiting_at m.indexes index.now)) }
     ensures reads { OnlyReads K.view keeper.old keeper.new result }
 {
     let rows = waiting(alloc, keeper, index)?;
@@ -126,7 +127,7 @@ fn waiting_keys<K: Keeper>(
     names: &[Name],
 ) -> Result<Vec<RowKey>, KeepFault>
     requires { (K.view keeper.old).ready }
-    ensures keys { Sees K.view keeper.old result (λ m keys. map (λ row. row.0) keys.items ≡ flat_map (waiting_at m.indexes) names.now) }
+    ensures keys { Sees K.view keeper.old result (λ m keys. key_numbers keys.items ≡ flat_map (waiting_at m.indexes) names.now) }
     ensures reads { OnlyReads K.view keeper.old keeper.new result }
 {
     let mut keys = Vec::new(alloc);

@@ -7,7 +7,7 @@ ghost use Rattle.std.specs.Option.{option_map};
 ghost use Rattle.db_state.specs.Columns.{first_unknown};
 ghost use Rattle.db_rows.specs.Checking.{cond_column as column_of_cond};
 ghost use Rattle.db_select.specs.Predicates.{columns_among, cond_in, conds_in as all_conds, is_built_pred, list_columns, pred_column as column_of_pred, search_in as first_search, search_of as search_of_pred};
-ghost use Rattle.db_select.specs.Searches.{asked};
+ghost use Rattle.db_select.specs.Searches.{held_search};
 
 use crate::copying::copy_cond;
 use ct_base::{Memory, Name};
@@ -142,7 +142,7 @@ pub(crate) fn conds_in(alloc: Global, preds: &[Pred]) -> Result<Vec<Cond>, Memor
 
 /// What a predicate asks, if it is a CONTAINS.
 fn search_of<'a>(pred: &'a Pred) -> Option<Search<'a>>
-    ensures { option_map asked result ≡ search_of_pred pred.now }
+    ensures { option_map held_search result ≡ search_of_pred pred.now }
 {
     match pred {
         Pred::Contains {
@@ -162,7 +162,7 @@ fn search_of<'a>(pred: &'a Pred) -> Option<Search<'a>>
 
 /// What the CONTAINS among predicates asks.
 pub(crate) fn search_in<'a>(preds: &'a [Pred]) -> Option<Search<'a>>
-    ensures { option_map asked result ≡ first_search preds.now }
+    ensures { option_map held_search result ≡ first_search preds.now }
 {
     for pred in preds {
         if let Some(search) = search_of(pred) {

@@ -4,12 +4,12 @@
 ghost use Rattle.std.specs.Prelude.{◌≡◌, ◌≤◌, length, IfOk, Some};
 ghost use Rattle.ct_keep.specs.KeeperViews.{OnlyReads};
 ghost use Rattle.db_state.specs.States.{OverStates};
-ghost use Rattle.db_select.specs.Searches.{asked, NeedsIndex};
+ghost use Rattle.db_select.specs.Searches.{held_search, NeedsIndex};
 
 use crate::predicates::Search;
 use ct_base::Name;
 use ct_keep::{KeepFault, Keeper};
-use db_state::{context_index, place_of};
+use db_state::{column_place, context_index};
 use std::alloc::Global;
 use tb_table::Column;
 
@@ -22,10 +22,10 @@ pub(crate) fn needed_index<K: Keeper>(
     search: &Search<'_>,
 ) -> Result<Option<Name>, KeepFault>
     requires { (K.view keeper.old).ready }
-    ensures index { OverStates K.view keeper.old (λ m c. length columns.now ≤ 256 → IfOk result (NeedsIndex m table.now columns.now (asked search.now))) }
+    ensures index { OverStates K.view keeper.old (λ m c. length columns.now ≤ 256 → IfOk result (NeedsIndex m table.now columns.now (held_search search.now))) }
     ensures reads { OnlyReads K.view keeper.old keeper.new result }
 {
-    match place_of(search.column, columns) {
+    match column_place(search.column, columns) {
         Some(place) => context_index(alloc, keeper, table, place),
         None => Ok(None),
     }

@@ -1,13 +1,14 @@
 //! SELECT of a table.
 #![tactic(auto, using(ct_keep::specs::Composing::reads_on, ct_keep::specs::Composing::reads_short))]
 
-ghost use Rattle.std.specs.Prelude.{◌≡◌, ◌||◌, IfOk, Some, None};
+ghost use Rattle.std.specs.Prelude.{◌≡◌, ◌||◌, Some, None};
 ghost use Rattle.ct_keep.specs.KeeperViews.{OnlyReads};
-ghost use Rattle.db_state.specs.States.{OverTable, Sees};
+ghost use Rattle.db_state.specs.States.{Sees};
 ghost use Rattle.db_state.specs.Effects.{reply_by};
 ghost use Rattle.db_rows.specs.Checking.{has_beyond as any_beyond};
 ghost use Rattle.db_select.specs.Checking.{is_out_of_range as out_of_range};
-ghost use Rattle.db_select.specs.Searches.{asked};
+ghost use Rattle.db_select.specs.Found.{GivesLines, searched_reply};
+ghost use Rattle.db_select.specs.Searches.{held_search};
 ghost use Rattle.db_select.specs.Selecting.{select as select_effect, select_rows};
 
 use crate::checks::{first_fault, has_wrong_values, is_out_of_range, threshold_of};
@@ -35,7 +36,7 @@ fn select_met<K: Keeper>(
     conds: &[Cond],
 ) -> Result<Vec<u8>, KeepFault>
     requires { (K.view keeper.old).ready }
-    ensures reply { OverTable K.view keeper.old table.now (λ m c x. x.columns ≡ columns.now → IfOk result (λ reply. reply.items ≡ reply_by (select_rows m table.now x list.now None conds.now))) }
+    ensures reply { GivesLines K.view keeper.old table.now columns.now result (λ m x. reply_by (select_rows m table.now x list.now None conds.now)) }
     ensures reads { OnlyReads K.view keeper.old keeper.new result }
 {
     let wrong_values = has_wrong_values(list, None, conds, columns);
@@ -49,7 +50,7 @@ fn select_met<K: Keeper>(
 
 /// Whether a number of a search or a condition is out of its range.
 fn has_bad_number(search: &Search<'_>, conds: &[Cond]) -> bool
-    ensures { result ≡ (out_of_range (Some (asked search.now)) || any_beyond conds.now) }
+    ensures { result ≡ (out_of_range (Some (held_search search.now)) || any_beyond conds.now) }
 {
     is_out_of_range(search.label, search.above) || has_beyond(conds)
 }
@@ -65,7 +66,7 @@ fn select_searched<K: Keeper>(
     conds: &[Cond],
 ) -> Result<Vec<u8>, KeepFault>
     requires { (K.view keeper.old).ready }
-    ensures reply { OverTable K.view keeper.old table.now (λ m c x. x.columns ≡ columns.now → IfOk result (λ reply. reply.items ≡ reply_by (select_rows m table.now x list.now (Some (asked search.now)) conds.now))) }
+    ensures reply { GivesLines K.view keeper.old table.now columns.now result (λ m x. searched_reply m table.now x list.now (held_search search.now) conds.now) }
     ensures reads { OnlyReads K.view keeper.old keeper.new result }
 {
     let Some(index) = needed_index(alloc, keeper, table, columns, search)? else {

@@ -3,7 +3,7 @@
 
 ghost use Rattle.std.specs.Prelude.{◌≡◌, bytes_eq, codes};
 ghost use Rattle.ct_keep.specs.KeeperViews.{OnlyReads};
-ghost use Rattle.db_state.specs.States.{State, Sees};
+ghost use Rattle.db_state.specs.States.{StoreState, Sees};
 ghost use Rattle.db_state.specs.Effects.{reply_by, state_by};
 ghost use Rattle.db_select.specs.Statements.{select_from as from_effect, select_statement};
 
@@ -62,7 +62,7 @@ pub fn select<K: Keeper>(
 ) -> Result<Vec<u8>, KeepFault>
     requires ready { (K.view keeper.old).ready }
     ensures reply { Sees K.view keeper.old result (λ m reply. reply.items ≡ reply_by (select_statement m list.now table.now preds.now)) }
-    ensures state { (m : State) → state_by m (select_statement m list.now table.now preds.now) ≡ m }
+    ensures state { (m : StoreState) → state_by m (select_statement m list.now table.now preds.now) ≡ m }
     ensures reads { OnlyReads K.view keeper.old keeper.new result }
 {
     if !are_built(preds) {

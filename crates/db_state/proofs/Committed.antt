@@ -6,9 +6,9 @@ use Rattle.ct_keep.specs.declared.keepers.KeepFault.TheVariants.{Memory, Disk, F
 use Rattle.ct_keep.specs.Content.{Content, after}
 use Rattle.ct_keep.specs.Laws.{changes_weight}
 use Rattle.ct_keep.specs.KeeperViews.{KeeperView, Goes, AnswersCommit}
-use Rattle.db_state.specs.States.{State, Stands}
+use Rattle.db_state.specs.States.{StoreState, StandsForState}
 use Rattle.db_state.specs.Effects.{Does}
-use Rattle.db_state.specs.Plans.{Gives}
+use Rattle.db_state.specs.Plans.{GivesEffect}
 use Rattle.db_state.specs.laws.Serving.{removal_fits}
 use Rattle.db_state.proofs.Weighing.{weighs}
 
@@ -21,14 +21,14 @@ stayed c next old new goes = record { content = goes.content; time = goes.time; 
 stayed_full : (c next : Content) (old new : KeeperView) → Goes c next old new (Some NoRoom) → Goes c c old new (Some NoRoom)
 stayed_full c next old new goes = record { content = goes.content; time = goes.time; now = goes.now }
 
-pub gives_committed : (m n : State) (reply : Vec ℕ Global) (c next : Content) (old new : KeeperView) → Stands next n → Goes c next old new None → Gives m (Does n reply.items) c old new (Ok reply)
+pub gives_committed : (m n : StoreState) (reply : Vec ℕ Global) (c next : Content) (old new : KeeperView) → StandsForState next n → Goes c next old new None → GivesEffect m (Does n reply.items) c old new (Ok reply)
 gives_committed m n reply c next old new stands goes = record {
   moves = record { next = next; stands = stands; goes = goes; same = λ e. cc };
   reply = refl;
   full = λ e. cc;
 }
 
-pub gives_uncommitted : (m n : State) (reply : List ℕ) (c next : Content) (old new : KeeperView) (fault : KeepFault) → Stands next n → Goes c next old new (Some fault) → AnswersCommit (Some fault) old.fixed.limit c next → Gives m (Does n reply) c old new (Err fault)
+pub gives_uncommitted : (m n : StoreState) (reply : List ℕ) (c next : Content) (old new : KeeperView) (fault : KeepFault) → StandsForState next n → Goes c next old new (Some fault) → AnswersCommit (Some fault) old.fixed.limit c next → GivesEffect m (Does n reply) c old new (Err fault)
 gives_uncommitted m n reply c next old new Memory stands goes answers = record {
   moves = record { next = c; stands = refl; goes = stayed c next old new goes; same = λ e. refl };
   reply = tt;

@@ -1,19 +1,20 @@
 -- Each entry of a content that stands for a state is one that a store has.
-use Rattle.std.proofs.Common.{◌≡◌, ℕ, ◌≤◌, true, false, List, ◌∷◌, length, Option, Some, None, refl, sym, ap, subst, ◌∙◌, inl, inr}
+use Rattle.std.proofs.Common.{◌≡◌, ℕ, ◌≤◌, true, false, List, ◌∷◌, length, Some, refl, sym, ap, subst, ◌∙◌, inl, inr}
 use Rattle.std.specs.Prelude.{IsSome}
 use Rattle.std.specs.FinMap.{get}
+use Rattle.ct_base.specs.laws.Options.{none_or_some}
 use Rattle.ct_keep.specs.Content.{Content, IsEntry, value_limit}
 use Rattle.ct_keep.specs.Changes.{IsWell}
 use Rattle.ct_entry.specs.declared.kinds.Kind.{Kind}
 use Rattle.ct_entry.specs.declared.kinds.Kind.TheVariants as kind
 use Rattle.ct_entry.specs.Keys.{Key, key, at, IsPart, posting_part, IsToken, IsDocument}
-use Rattle.ct_entry.specs.laws.Parts.{is_short}
+use Rattle.ct_entry.specs.laws.Parts.{has_short_keys}
 use Rattle.ct_entry.specs.laws.Well.{entry_of_key}
 use Rattle.tb_table.specs.Shapes.{HasTableValue}
 use Rattle.ix_context.specs.Shapes.{HasIndexValue}
 use Rattle.tx_prefs.specs.Shapes.{HasPrefValue}
 use Rattle.tx_prefs.specs.laws.Values.{lexer_value, stoplist_value, group_value}
-use Rattle.db_state.specs.States.{State, Stands, is_built}
+use Rattle.db_state.specs.States.{StoreState, StandsForState, is_built}
 use Rattle.db_state.specs.Shapes.{HasStoreValue, IsStoreEntry}
 use Rattle.db_state.specs.Promises.{StoresAreWell}
 use Rattle.db_state.proofs.StoreTables.{table_value, numbers_value, text_value}
@@ -27,24 +28,21 @@ use Rattle.ix_rows.specs.WordRows.{word_term}
 record IsStored (k : Key) (v : List ℕ) : Type 0 where
   has : HasStoreValue k v
   bounded : length v ≤ value_limit
-  short : is_short k.kind ≡ true
+  short : has_short_keys k.kind ≡ true
 
-of_table : (k : Key) (v : List ℕ) → is_short k.kind ≡ true → HasTableValue k v × (length v ≤ value_limit) → IsStored k v
+of_table : (k : Key) (v : List ℕ) → has_short_keys k.kind ≡ true → HasTableValue k v × (length v ≤ value_limit) → IsStored k v
 of_table k v short is = record { has = inl is.0; bounded = is.1; short = short }
 
-of_index : (k : Key) (v : List ℕ) → is_short k.kind ≡ true → HasIndexValue k v × (length v ≤ value_limit) → IsStored k v
+of_index : (k : Key) (v : List ℕ) → has_short_keys k.kind ≡ true → HasIndexValue k v × (length v ≤ value_limit) → IsStored k v
 of_index k v short is = record { has = inr (inl is.0); bounded = is.1; short = short }
 
-of_preference : (k : Key) (v : List ℕ) → is_short k.kind ≡ true → HasPrefValue k v × (length v ≤ value_limit) → IsStored k v
+of_preference : (k : Key) (v : List ℕ) → has_short_keys k.kind ≡ true → HasPrefValue k v × (length v ≤ value_limit) → IsStored k v
 of_preference k v short is = record { has = inr (inr is.0); bounded = is.1; short = short }
 
-not_both : (o : Option (List ℕ)) (v : List ℕ) → o ≡ None → o ≡ Some v → ⊥
-not_both o v none some = cc
-
-module _ (c : Content) (m : State) (stands : Stands c m) where
+module _ (c : Content) (m : StoreState) (stands : StandsForState c m) where
   -- a kind that has no entries
   nothing : (k : Key) (v : List ℕ) → is_built k.kind ≡ false → at c k ≡ Some v → IsStored k v
-  nothing k v none has = absurd (not_both (at c k) v (stands.unbuilt k none) has)
+  nothing k v none has = absurd (none_or_some (at c k) v (stands.unbuilt k none) has)
 
   posting : (i token v : List ℕ) (stream d : ℕ) → stream ≤ stream_limit → IsToken token → IsDocument d → at c (key kind.Postings i (posting_part stream token d)) ≡ Some v → IsStored (key kind.Postings i (posting_part stream token d)) v
   posting i token v stream d few is_token document has =

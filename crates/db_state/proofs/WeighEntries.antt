@@ -13,7 +13,7 @@ use Rattle.ix_docmap.specs.Marks.{Mark, Pending, Settled}
 use Rattle.ix_context.specs.Indexes.{Index, marks_in}
 use Rattle.ix_context.specs.Spelling.{index_entry}
 use Rattle.tx_prefs.specs.Room.{preference_entries}
-use Rattle.db_state.specs.States.{State}
+use Rattle.db_state.specs.States.{StoreState}
 
 abbrev pub Entry : Type 0
 Entry = List ℕ × List ℕ
@@ -47,5 +47,5 @@ index_entries document e = entry (key kind.Indexes e.0 []) (index_entry e.1) ∷
 
 -- ---- the state
 
-abbrev pub all_entries : (List ℕ → ℤ → Option ℕ) → State → List Entry
+abbrev pub all_entries : (List ℕ → ℤ → Option ℕ) → StoreState → List Entry
 all_entries document m = flat_map table_entries (entries m.tables) ++ (flat_map (index_entries document) (entries m.indexes) ++ preference_entries m.preferences)

@@ -18,7 +18,7 @@ use Rattle.ix_context.specs.Indexes.{Index, marks_in, part_in}
 use Rattle.ix_context.specs.Documents.{document_cost, postings_in}
 use Rattle.ix_context.specs.Spelling.{index_entry}
 use Rattle.tx_prefs.specs.Room.{preference_entries}
-use Rattle.db_state.specs.States.{State}
+use Rattle.db_state.specs.States.{StoreState}
 use Rattle.db_state.specs.Room.{key_weight, text_room, row_room, table_room, mark_room, index_room, room}
 use Rattle.ct_entry.specs.laws.Lists.{sum_by-map-le, sum_by-flat_map-le}
 use Rattle.db_state.proofs.WeighEntries.{entry, text_entry, row_entries, table_entries, document_entries, mark_entries, index_entries, all_entries}
@@ -123,7 +123,7 @@ indexes_weigh document ts (e ∷ es) =
 
 -- ---- the state
 
-pub all_weigh : (document : List ℕ → ℤ → Option ℕ) (m : State) → sum_by entry_weight (all_entries document m) + sum_by (postings_room m.tables) (entries m.indexes) ≤ room m
+pub all_weigh : (document : List ℕ → ℤ → Option ℕ) (m : StoreState) → sum_by entry_weight (all_entries document m) + sum_by (postings_room m.tables) (entries m.indexes) ≤ room m
 all_weigh document m = omega (
   arith,
   sum_by-append entry_weight (flat_map table_entries (entries m.tables)) (flat_map (index_entries document) (entries m.indexes) ++ preference_entries m.preferences),

@@ -7,7 +7,7 @@ use Rattle.ct_base.specs.declared.lists.Value.TheVariants.{Number, Text}
 use Rattle.ct_entry.specs.declared.kinds.Kind.TheVariants as kind
 use Rattle.ct_entry.specs.Keys.{Key, key, row_part, text_part, IsRow}
 use Rattle.ct_base.specs.laws.Options.{option_map_some, and_then_some}
-use Rattle.tb_table.specs.Tables.{Table, Tables, row_in, row_at, numbers_of, as_text, text_in, text_of, texts_from, texts_of}
+use Rattle.tb_table.specs.Tables.{Table, Tables, row_in, row_at, numbers_of, as_text, text_in, text_in_column, texts_from, texts_of}
 use Rattle.tb_table.specs.Spelling.{columns_bytes, row_numbers_bytes, TablesStand}
 use Rattle.ct_entry.specs.Lists.{IsIn}
 use Rattle.ct_entry.specs.laws.Lists.{in_mapped, in_flat_mapped}
@@ -33,7 +33,7 @@ text_from [] place column at text sums is = cc
 text_from (v ∷ vs) zero column at text sums is = let e : column ≡ at = omega arith in subst (λ (c : ℕ). IsIn (c, text) (texts_from column (v ∷ vs))) e (text_here v text column vs is)
 text_from (v ∷ vs) (suc place) column at text sums is = text_behind v (at, text) column vs (text_from vs place (suc column) at text (omega arith) is)
 
-text_there : (vs : List Value) (c : ℕ) (text : List ℕ) → text_of vs c ≡ Some text → IsIn (c, text) (texts_of vs)
+text_there : (vs : List Value) (c : ℕ) (text : List ℕ) → text_in_column vs c ≡ Some text → IsIn (c, text) (texts_of vs)
 text_there vs zero text is = cc
 text_there vs (suc place) text is = text_from vs place 1 (suc place) text (omega arith) is
 
@@ -63,5 +63,5 @@ module _ (ts : Tables) where
 
     pub text_in_all : (t v : List ℕ) (c : ℕ) (r : ℤ) → c < 256 → IsRow r → f (key kind.RowTexts t (text_part c r)) ≡ Some v → IsIn (entry (key kind.RowTexts t (text_part c r)) v) (flat_map table_entries (entries ts))
     text_in_all t v c r few row has =
-        let vs = and_then_some (λ (vs : List Value). text_of vs c) (row_at ts t r) v (sym (stand.texts t c r few row) ∙ has) in
+        let vs = and_then_some (λ (vs : List Value). text_in_column vs c) (row_at ts t r) v (sym (stand.texts t c r few row) ∙ has) in
         in_row t r vs.0 _ vs.1 (inr (in_mapped (text_entry t r) (c, v) (texts_of vs.0) (text_there vs.0 c v vs.2)))

@@ -6,6 +6,7 @@ use Rattle.std.specs.Ordering.{int_cmp, eq_by_cmp}
 use Rattle.std.specs.FinMap.{get, entries, find, get-entries, nat_cmp-IsAntisymmetric, int_cmp-IsAntisymmetric, slice_cmp-IsAntisymmetric}
 use Rattle.std.proofs.lemmas.Cmp.{nat_list_cmp_total}
 use Rattle.std.proofs.lemmas.List.Sums.{sum_by-cons}
+use Rattle.ct_base.specs.laws.Options.{none_or_some}
 use Rattle.ct_base.specs.laws.Orders.{equal_from_test}
 use Rattle.ct_keep.specs.Content.{Content, weight}
 use Rattle.ct_entry.specs.declared.kinds.Kind.{Kind}
@@ -21,15 +22,12 @@ use Rattle.ix_context.specs.Documents.{document_cost, postings_in}
 use Rattle.ix_context.specs.laws.Weights.{has_code, weighs as postings_weigh}
 use Rattle.tx_prefs.specs.Room.{preference_entries}
 use Rattle.tx_prefs.specs.laws.Room.{lexer_in, stoplist_in, group_in}
-use Rattle.db_state.specs.States.{State, Stands, is_built, is_of_rows}
+use Rattle.db_state.specs.States.{StoreState, StandsForState, is_built, is_of_rows}
 use Rattle.db_state.specs.Room.{room}
 use Rattle.db_state.proofs.WeighEntries.{Entry, entry, table_entries, index_entries, all_entries}
 use Rattle.db_state.proofs.WeighRooms.{all_weigh, settled_keys, postings_room}
 use Rattle.db_state.proofs.WeighTables.{table_in, numbers_in, text_in_all}
 use Rattle.db_state.proofs.WeighIndexes.{numbers, index_in, document_row_in, row_document_in, pending_in}
-
-not_both : (o : Option (List ℕ)) (v : List ℕ) → o ≡ None → o ≡ Some v → ⊥
-not_both o v none some = cc
 
 -- a row that is settled is among the settled ones
 in_settled : (r : ℤ) (es : List (ℤ × Mark (Unit {0}))) → is_settled (find int_cmp r es) ≡ true → IsIn r (settled_keys es)
@@ -44,7 +42,7 @@ in_settled r (e ∷ es) h = go (eq_by_cmp int_cmp r e.0) refl (is_settled (Some 
     go false tie true is h rest = inr (rest h)
     go false tie false is h rest = rest h
 
-module _ (c : Content) (m : State) (stands : Stands c m) where
+module _ (c : Content) (m : StoreState) (stands : StandsForState c m) where
   abbrev its_numbers : List ℕ → ℤ → Option ℕ
   its_numbers = numbers (at c) m.tables m.indexes stands.indexes
 
@@ -66,7 +64,7 @@ module _ (c : Content) (m : State) (stands : Stands c m) where
 
   -- a kind that has no entries
   nothing : (k : Key) (v : List ℕ) → is_built k.kind ≡ false → at c k ≡ Some v → IsListed k v
-  nothing k v none has = absurd (not_both (at c k) v (stands.unbuilt k none) has)
+  nothing k v none has = absurd (none_or_some (at c k) v (stands.unbuilt k none) has)
 
   -- by the part of the key
   by_part : (kind : Kind) (o v p q : List ℕ) → p ≡ q → (at c (key kind o q) ≡ Some v → IsListed (key kind o q) v) → at c (key kind o p) ≡ Some v → IsListed (key kind o p) v

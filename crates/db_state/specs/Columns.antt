@@ -13,8 +13,8 @@ abbrev pub place_from : ℕ → List ℕ → List Column → Option ℕ
 place_from place name [] = None
 place_from place name (c ∷ cs) = if same_list name c.name then Some place else place_from (suc place) name cs
 
-abbrev pub place_of : List ℕ → List Column → Option ℕ
-place_of name columns = place_from 0 name columns
+abbrev pub column_place : List ℕ → List Column → Option ℕ
+column_place name columns = place_from 0 name columns
 
 -- the first of some names that is no column's
 abbrev pub first_unknown : List (List ℕ) → List Column → Option (List ℕ)
@@ -22,10 +22,10 @@ first_unknown [] columns = None
 first_unknown (name ∷ names) columns = if has_column name columns then first_unknown names columns else Some name
 
 -- columns id, body, price
-place_of_price : place_of (codes "price") docs_columns ≡ Some 2
-place_of_price = refl
+place_of_the_price : column_place (codes "price") docs_columns ≡ Some 2
+place_of_the_price = refl
 
-no_place : place_of (codes "pric") docs_columns ≡ None
+no_place : column_place (codes "pric") docs_columns ≡ None
 no_place = refl
 
 first_of_two_unknown : first_unknown (codes "body" ∷ codes "nope" ∷ codes "none" ∷ []) docs_columns ≡ Some (codes "nope")

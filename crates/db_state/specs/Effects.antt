@@ -5,11 +5,11 @@ use Rattle.db_cond.specs.Refused.{refusal_of}
 use Rattle.st_parse.specs.declared.statements.Whole.{Whole}
 use Rattle.st_parse.specs.declared.statements.Whole.TheVariants.{Fits, Beyond}
 use Rattle.db_cond.specs.Faults.{Refusal, refusal_line, NotUnderstood, WrongValues, OutOfRange, LimitReached}
-use Rattle.db_state.specs.States.{State}
+use Rattle.db_state.specs.States.{StoreState}
 
 pub data Effect : Type 0 where
   Refused : Refusal → Effect
-  Does : State → List ℕ → Effect
+  Does : StoreState → List ℕ → Effect
 
 -- a refusal where the test holds, and else what follows: of a chain the first that holds
 abbrev pub refuse : Bool → Refusal → Effect → Effect
@@ -27,7 +27,7 @@ with_found None refusal effect = Refused refusal
 with_found (Some x) refusal effect = effect x
 
 -- the state after, and the reply
-abbrev pub state_by : State → Effect → State
+abbrev pub state_by : StoreState → Effect → StoreState
 state_by m (Refused refusal) = m
 state_by m (Does next reply) = next
 
@@ -64,7 +64,7 @@ none_holds : (effect : Effect) → refuse false WrongValues (refuse false OutOfR
 none_holds effect = refl
 
 -- a statement that is refused leaves the state
-state_stays : (m : State) → state_by m (Refused NotUnderstood) ≡ m
+state_stays : (m : StoreState) → state_by m (Refused NotUnderstood) ≡ m
 state_stays m = refl
 
 one_hundred : as_count (Fits (pos 100)) ≡ Some 100

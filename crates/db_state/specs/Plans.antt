@@ -5,10 +5,10 @@ use Rattle.ct_keep.specs.Content.{Content, after}
 use Rattle.ct_keep.specs.Laws.{changes_weight}
 use Rattle.ct_keep.specs.declared.keepers.KeepFault.{KeepFault}
 use Rattle.ct_keep.specs.declared.keepers.KeepFault.TheVariants.{Memory, Disk, Full as NoRoom}
-use Rattle.ct_keep.specs.KeeperViews.{AtMostOneCommit, KeeperView, SameButContent, Reads, Goes, IsDurable, fault_of, counted, is_full}
+use Rattle.ct_keep.specs.KeeperViews.{AtMostOneCommit, KeeperView, SameButContent, ReadsKeeper, Goes, IsDurable, fault_of, counted, is_full}
 use Rattle.db_cond.specs.Faults.{Refusal, WrongValues, refusal_line}
 use Rattle.db_cond.specs.declared.faults.Fault.TheVariants.{WrongValues as WrongValuesFault}
-use Rattle.db_state.specs.States.{State, Stands}
+use Rattle.db_state.specs.States.{StoreState, StandsForState}
 use Rattle.db_state.specs.Effects.{Effect, Refused, Does, state_by, reply_by, is_done}
 use Rattle.db_state.specs.Shapes.{AreStoreChanges}
 use Rattle.db_state.specs.Room.{room}
@@ -18,14 +18,14 @@ use Rattle.db_state.specs.declared.plans.Plan.TheVariants.{Refused as PlanRefuse
 
 -- Where nothing failed, the next content stands for the state by the effect. Where memory or room was wanting, there is no other content than the old one;
 -- and where the disk failed, the one that may have come stands for the state before or after.
-abbrev pub StandsBy : Option KeepFault → State → Effect → Content → Content → Type 0
-StandsBy None m effect c next = Stands next (state_by m effect)
+abbrev pub StandsBy : Option KeepFault → StoreState → Effect → Content → Content → Type 0
+StandsBy None m effect c next = StandsForState next (state_by m effect)
 StandsBy (Some Memory) m effect c next = next ≡ c
 StandsBy (Some NoRoom) m effect c next = next ≡ c
-StandsBy (Some Disk) m effect c next = Stands next m ⊎ Stands next (state_by m effect)
+StandsBy (Some Disk) m effect c next = StandsForState next m ⊎ StandsForState next (state_by m effect)
 
 -- From a content that stands for the state m to the next one by at most one commit, which failed so if it did.
-pub record Moves (m : State) (effect : Effect) (c : Content) (old new : KeeperView) (fault : Option KeepFault) : Type 0 where
+pub record Moves (m : StoreState) (effect : Effect) (c : Content) (old new : KeeperView) (fault : Option KeepFault) : Type 0 where
   pub next : Content
   pub stands : StandsBy fault m effect c next
   pub goes : Goes c next old new fault
@@ -33,12 +33,12 @@ pub record Moves (m : State) (effect : Effect) (c : Content) (old new : KeeperVi
   pub same : is_done effect ≡ false → next ≡ c
 
 -- There is no room for it: the effect is no refusal, and its state needs more room than the store has.
-pub record HasNoPlace (m : State) (effect : Effect) (limit : ℕ) : Type 0 where
+pub record HasNoPlace (m : StoreState) (effect : Effect) (limit : ℕ) : Type 0 where
   pub done : is_done effect ≡ true
   pub over : limit < room (state_by m effect)
 
 -- What the function of a statement returned, against the statement's effect.
-pub record Gives (m : State) (effect : Effect) (c : Content) (old new : KeeperView) (result : Result (Vec ℕ Global) KeepFault) : Type 0 where
+pub record GivesEffect (m : StoreState) (effect : Effect) (c : Content) (old new : KeeperView) (result : Result (Vec ℕ Global) KeepFault) : Type 0 where
   pub moves : Moves m effect c old new (fault_of result)
   pub reply : IfOk result (λ reply. reply.items ≡ reply_by effect)
   pub full : fault_of result ≡ Some NoRoom → HasNoPlace m effect old.fixed.limit
@@ -60,8 +60,8 @@ ContentStays old new = (c : Content) → old.content ≡ Some c → Goes c c old
 abbrev pub DoneLines : Type 0
 DoneLines = ℕ → List ℕ
 
-abbrev pub always : List ℕ → DoneLines
-always line n = line
+abbrev pub line_for_all : List ℕ → DoneLines
+line_for_all line n = line
 
 -- The reply says that the change is made, by at most one commit.
 pub record IsMade (done : DoneLines) (reply : List ℕ) (old new : KeeperView) : Type 0 where
@@ -73,7 +73,7 @@ pub record IsMade (done : DoneLines) (reply : List ℕ) (old new : KeeperView) :
 pub record IsRefused (reply : List ℕ) (old new : KeeperView) : Type 0 where
   pub refusal : Refusal
   pub says : reply ≡ refusal_line refusal
-  pub reads : Reads old new None
+  pub reads : ReadsKeeper old new None
 
 -- What the function of a statement returned that says by one of these lines that its change is made.
 abbrev pub Returns : DoneLines → KeeperView → KeeperView → Result (Vec ℕ Global) KeepFault → Type 0
@@ -84,7 +84,7 @@ Returns done old new (Err Disk) = CommitsOnce old new (Some Disk)
 
 -- what the function of a statement returned, by its lines: with none it only read
 abbrev pub ReturnsBy : Option DoneLines → KeeperView → KeeperView → Result (Vec ℕ Global) KeepFault → Type 0
-ReturnsBy None old new result = Reads old new (fault_of result)
+ReturnsBy None old new result = ReadsKeeper old new (fault_of result)
 ReturnsBy (Some done) old new result = Returns done old new result
 
 -- the reply of this effect, unless the call failed
@@ -94,23 +94,23 @@ GivesReply result effect = IfOk result (λ reply. reply.items ≡ reply_by effec
 -- What a commit of this batch with this reply gave, of each state from which the batch may have been made.
 abbrev pub CommitGives : List (List ℕ × Option (List ℕ)) → List ℕ → KeeperView → KeeperView → Result (Vec ℕ Global) KeepFault → Type 0
 CommitGives batch reply old new result =
-    (m n : State) (c : Content) → old.content ≡ Some c → Stands (after batch c) n → Gives m (Does n reply) c old new result
+    (m n : StoreState) (c : Content) → old.content ≡ Some c → StandsForState (after batch c) n → GivesEffect m (Does n reply) c old new result
 
 -- ---- the function of a statement
 
 -- What it returned, by the statement's effect in each state, and by the lines by which the statement says that its change is made (None where it changes nothing).
 -- It is all that `execute` needs of a statement: of a content that stands for a state, and of any content.
-pub record Fulfils (effect : State → Effect) (lines : Option DoneLines) (old new : KeeperView) (result : Result (Vec ℕ Global) KeepFault) : Type 0 where
+pub record Fulfils (effect : StoreState → Effect) (lines : Option DoneLines) (old new : KeeperView) (result : Result (Vec ℕ Global) KeepFault) : Type 0 where
   pub kept : SameButContent old new (fault_of result)
   pub fulls : new.counts.fulls ≡ counted (is_full (fault_of result)) old.counts.fulls
   pub once : AtMostOneCommit old.counts new.counts
-  pub gives : IsDurable old → (m : State) (c : Content) → old.content ≡ Some c → Stands c m → Gives m (effect m) c old new result
+  pub gives : IsDurable old → (m : StoreState) (c : Content) → old.content ≡ Some c → StandsForState c m → GivesEffect m (effect m) c old new result
   pub tells : IsDurable old → ReturnsBy lines old new result
 
 -- What a statement with this effect comes to over the content c: the line of its refusal, or a batch that makes of c a content that stands for its state, with this line.
 abbrev pub IsPlan : Effect → List ℕ → Content → Plan → Type 0
 IsPlan effect line c (PlanRefused fault) = effect ≡ Refused (refusal_of fault)
-IsPlan effect line c (PlanDone batch) = (n : State) × (effect ≡ Does n line) × Stands (after batch c) n
+IsPlan effect line c (PlanDone batch) = (n : StoreState) × (effect ≡ Does n line) × StandsForState (after batch c) n
 
 -- Whatever the content is, the batch of a plan puts entries that a store has.
 abbrev pub IsStorePlan : Plan → Type 0
@@ -123,27 +123,27 @@ IsRemoval (PlanRefused fault) = Unit {0}
 IsRemoval (PlanDone batch) = changes_weight batch ≡ 0
 
 -- A plan is that of the statement over each state that the content stands for.
-pub record IsPlanOf (effect : State → Effect) (line : List ℕ) (old : KeeperView) (plan : Plan) : Type 0 where
-  pub made : (m : State) (c : Content) → old.content ≡ Some c → Stands c m → IsPlan (effect m) line c plan
+pub record IsPlanOf (effect : StoreState → Effect) (line : List ℕ) (old : KeeperView) (plan : Plan) : Type 0 where
+  pub made : (m : StoreState) (c : Content) → old.content ≡ Some c → StandsForState c m → IsPlan (effect m) line c plan
 
 -- What a call that carries out a plan returned: of each statement whose plan it is.
 abbrev pub CarriesOut : {K : Type 0} → (K → KeeperView) → K → K → Result (Vec ℕ Global) KeepFault → Plan → List ℕ → Type 0
-CarriesOut view old new result plan line = (effect : State → Effect) → IsPlanOf effect line (view old) plan → Fulfils effect (Some (always line)) (view old) (view new) result
+CarriesOut view old new result plan line = (effect : StoreState → Effect) → IsPlanOf effect line (view old) plan → Fulfils effect (Some (line_for_all line)) (view old) (view new) result
 
 -- What the function of a statement returned, by the view of the keeper before and after it.
-abbrev pub Replies : {K : Type 0} → (K → KeeperView) → K → K → Result (Vec ℕ Global) KeepFault → (State → Effect) → Option DoneLines → Type 0
+abbrev pub Replies : {K : Type 0} → (K → KeeperView) → K → K → Result (Vec ℕ Global) KeepFault → (StoreState → Effect) → Option DoneLines → Type 0
 Replies view old new result effect lines = Fulfils effect lines (view old) (view new) result
 
 -- The call gave a plan of the statement, unless it failed.
-abbrev pub Plans : {K : Type 0} → (K → KeeperView) → K → Result Plan KeepFault → (State → Effect) → List ℕ → Type 0
+abbrev pub Plans : {K : Type 0} → (K → KeeperView) → K → Result Plan KeepFault → (StoreState → Effect) → List ℕ → Type 0
 Plans view old result effect line = IfOk result (IsPlanOf effect line (view old))
 
 -- computed examples: the plan of a statement that is refused, and the reply that an effect gives
 a_refusal : (c : Content) → IsPlan (Refused WrongValues) [] c (PlanRefused WrongValuesFault)
 a_refusal c = refl
 
-one_line_for_all : always (codes "Table created.\n") 7 ≡ codes "Table created.\n"
+one_line_for_all : line_for_all (codes "Table created.\n") 7 ≡ codes "Table created.\n"
 one_line_for_all = refl
 
-its_content : (m : State) (c : Content) → StandsBy (Some Memory) m (Refused WrongValues) c c
+its_content : (m : StoreState) (c : Content) → StandsBy (Some Memory) m (Refused WrongValues) c c
 its_content m c = refl

@@ -1,7 +1,7 @@
 -- How much room a state takes at most: that of its tables, of its indexes, and of what is defined for indexes.
 use Rattle.std.specs.Prelude.{ℕ, ◌+◌, sum_by, ◌≡◌, ◌∷◌, [], codes, refl}
 use Rattle.std.specs.FinMap.{entries, from_sorted, entries-from_sorted}
-use Rattle.db_state.specs.States.{State}
+use Rattle.db_state.specs.States.{StoreState}
 pub use Rattle.tb_table.specs.Room.{key_weight, text_room, row_room, table_room}
 pub use Rattle.ix_context.specs.Room.{mark_room, longest_resume, index_room}
 pub use Rattle.tx_prefs.specs.Room.{preferences_room}
@@ -15,14 +15,14 @@ use Rattle.tb_table.specs.Room.{docs_room}
 use Rattle.ix_context.specs.Indexes.{Index}
 use Rattle.ix_context.specs.Room.{di_index, di_room}
 
-abbrev pub room : State → ℕ
+abbrev pub room : StoreState → ℕ
 room m = sum_by table_room (entries m.tables) + sum_by (index_room m.tables) (entries m.indexes) + preferences_room m.preferences
 
 -- computed example: the table `docs` with two rows, which takes 320, and an index on its column 1 of which one row is settled and one waits, which takes 601 and what it may waste
 both : ◌≡◌ {A = ℕ} (320 + 601) 921
 both = refl
 
-abbrev pub docs_and_di : State
+abbrev pub docs_and_di : StoreState
 docs_and_di = record { tables = docs_alone; indexes = from_sorted ((codes "di", di_index 0) ∷ []); preferences = no_preferences }
 
 pub its_room : room docs_and_di ≡ 921

@@ -19,13 +19,13 @@ use Rattle.ix_context.specs.Standing.{IndexesStand}
 use Rattle.ix_context.specs.Rules.{AreIndexes}
 
 -- the tables with their rows, the text indexes on them, and what has been defined for indexes
-pub record State : Type 0 where
+pub record StoreState : Type 0 where
   pub tables : Tables
   pub indexes : Names Index
   pub preferences : Preferences
 
 -- as a new store has it
-abbrev pub empty_state : State
+abbrev pub empty_state : StoreState
 empty_state = record { tables = empty; indexes = empty; preferences = no_preferences }
 
 -- the names that are kept for what is only looked at, and are never those of tables
@@ -41,7 +41,7 @@ abbrev pub index_limit : ℕ
 index_limit = 16
 
 -- The rules that hold in every state.
-pub record IsState (m : State) : Type 0 where
+pub record IsState (m : StoreState) : Type 0 where
   pub tables : AreTables m.tables
   pub indexes : AreIndexes m.tables m.indexes
   pub views : (t : List ℕ) (x : Table) → get m.tables t ≡ Some x → is_view t ≡ false
@@ -81,7 +81,7 @@ abbrev pub HasShortRows : (Key → Option (List ℕ)) → Type 0
 HasShortRows f = (k : Key) (v : List ℕ) → is_of_rows k.kind ≡ true → f k ≡ Some v → length v ≤ value_limit
 
 -- The content's entries spell this state, and there is no other entry.
-pub record Stands (c : Content) (m : State) : Type 0 where
+pub record StandsForState (c : Content) (m : StoreState) : Type 0 where
   pub only : HasKeysOnly c
   -- no entry of another kind
   pub unbuilt : (k : Key) → is_built k.kind ≡ false → at c k ≡ None
@@ -94,19 +94,19 @@ pub record Stands (c : Content) (m : State) : Type 0 where
 -- ---- what calls say of the states that a keeper's content stands for, by the view of the keeper before them
 
 -- This holds over each state that the content stands for, where it is told.
-abbrev pub OverStates : {K : Type 0} → (K → KeeperView) → K → (State → Content → Type 0) → Type 0
-OverStates view old holds = (m : State) (c : Content) → (view old).content ≡ Some c → Stands c m → holds m c
+abbrev pub OverStates : {K : Type 0} → (K → KeeperView) → K → (StoreState → Content → Type 0) → Type 0
+OverStates view old holds = (m : StoreState) (c : Content) → (view old).content ≡ Some c → StandsForState c m → holds m c
 
 -- This holds of the table of this name, where there is one.
-abbrev pub OverTable : {K : Type 0} → (K → KeeperView) → K → List ℕ → (State → Content → Table → Type 0) → Type 0
-OverTable view old t holds = (m : State) (c : Content) (x : Table) → (view old).content ≡ Some c → Stands c m → get m.tables t ≡ Some x → holds m c x
+abbrev pub OverNamedTable : {K : Type 0} → (K → KeeperView) → K → List ℕ → (StoreState → Content → Table → Type 0) → Type 0
+OverNamedTable view old t holds = (m : StoreState) (c : Content) (x : Table) → (view old).content ≡ Some c → StandsForState c m → get m.tables t ≡ Some x → holds m c x
 
 -- This holds of the index of this name, where there is one.
-abbrev pub OverIndex : {K : Type 0} → (K → KeeperView) → K → List ℕ → (State → Index → Type 0) → Type 0
-OverIndex view old i holds = (m : State) (c : Content) (x : Index) → (view old).content ≡ Some c → Stands c m → get m.indexes i ≡ Some x → holds m x
+abbrev pub OverIndex : {K : Type 0} → (K → KeeperView) → K → List ℕ → (StoreState → Index → Type 0) → Type 0
+OverIndex view old i holds = (m : StoreState) (c : Content) (x : Index) → (view old).content ≡ Some c → StandsForState c m → get m.indexes i ≡ Some x → holds m x
 
 -- What a call gave, unless it failed.
-abbrev pub Sees : {K T : Type 0} → (K → KeeperView) → K → Result T KeepFault → (State → T → Type 0) → Type 0
+abbrev pub Sees : {K T : Type 0} → (K → KeeperView) → K → Result T KeepFault → (StoreState → T → Type 0) → Type 0
 Sees view old result gives = OverStates view old (λ m c. IfOk result (gives m))
 
 -- computed examples: a name that no table has, one that a table may have, and a kind of entries that nothing has yet

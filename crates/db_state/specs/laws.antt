@@ -10,3 +10,6 @@ pub mod Columns
 pub mod OneState
 pub mod ShortRows
 pub mod Removing
+pub mod Kinds
+pub mod Holding
+pub mod Unchanged

@@ -3,14 +3,14 @@
 
 ghost use Rattle.std.specs.Prelude.{◌≡◌};
 ghost use Rattle.tb_table.specs.Rules.{has_column as is_column};
-ghost use Rattle.db_state.specs.Columns.{place_of as column_place};
+ghost use Rattle.db_state.specs.Columns.{column_place as place_named};
 
 use ct_base::Name;
 use tb_table::Column;
 
 /// The place of a column by its name, that of the key being 0. Its cost is the number of columns.
-pub fn place_of(name: &Name, columns: &[Column]) -> Option<usize>
-    ensures { result ≡ column_place name.now columns.now }
+pub fn column_place(name: &Name, columns: &[Column]) -> Option<usize>
+    ensures { result ≡ place_named name.now columns.now }
 {
     let name = name.as_str();
     for (place, column) in columns.iter().enumerate() {
@@ -26,5 +26,5 @@ pub fn place_of(name: &Name, columns: &[Column]) -> Option<usize>
 pub fn has_column(name: &Name, columns: &[Column]) -> bool
     ensures { result ≡ is_column name.now columns.now }
 {
-    place_of(name, columns).is_some()
+    column_place(name, columns).is_some()
 }

@@ -5,9 +5,9 @@ ghost use Rattle.std.specs.Prelude.{◌≡◌, Some, Err, IfOk};
 ghost use Rattle.ct_keep.specs.Content.{Content, after};
 ghost use Rattle.ct_keep.specs.Laws.{changes_weight};
 ghost use Rattle.ct_keep.specs.KeeperViews.{AtMostOneCommit, SameButContent, Told, counted, fault_of, is_full};
-ghost use Rattle.db_state.specs.States.{State, Stands};
+ghost use Rattle.db_state.specs.States.{StoreState, StandsForState};
 ghost use Rattle.db_state.specs.Effects.{Does};
-ghost use Rattle.db_state.specs.Plans.{CommitGives, Returns, always};
+ghost use Rattle.db_state.specs.Plans.{CommitGives, Returns, line_for_all};
 ghost use Rattle.db_state.specs.Shapes.{AcceptsStatements, AreStoreChanges};
 
 use ct_base::Memory;
@@ -35,7 +35,7 @@ pub(crate) fn commit<K: Keeper>(
     ensures once { AtMostOneCommit (K.view keeper.old).counts (K.view keeper.new).counts }
     ensures light { changes_weight batch ≡ 0 → Told K.view keeper.old (λ m. result ≡ Err KeepFault.Full → ⊥) }
     ensures gives { CommitGives batch reply.items (K.view keeper.old) (K.view keeper.new) result }
-    ensures tells { Returns (always reply.items) (K.view keeper.old) (K.view keeper.new) result }
+    ensures tells { Returns (line_for_all reply.items) (K.view keeper.old) (K.view keeper.new) result }
 {
     keeper.commit(alloc, batch)?;
     Ok(reply)

@@ -8,7 +8,7 @@ mod lookups;
 mod plans;
 mod shapes;
 
-pub use columns::{has_column, place_of};
+pub use columns::{column_place, has_column};
 pub use committing::fixed_reply;
 pub use laws::{one_state, stores_are_well, stores_are_within_room};
 pub use lookups::{

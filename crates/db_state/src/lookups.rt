@@ -8,7 +8,7 @@ ghost use Rattle.ct_base.specs.Limits.{table_limit};
 ghost use Rattle.ct_keep.specs.Content.{Content};
 ghost use Rattle.ct_keep.specs.KeeperViews.{OnlyReads};
 ghost use Rattle.tb_table.specs.Tables.{Table};
-ghost use Rattle.db_state.specs.States.{OverStates, State, Stands, is_view as is_view_name, Sees};
+ghost use Rattle.db_state.specs.States.{OverStates, StoreState, StandsForState, is_view as is_view_name, Sees};
 ghost use Rattle.db_state.specs.Lookups.{FoundOn};
 
 use ct_base::{Memory, Name, TABLE_LIMIT};

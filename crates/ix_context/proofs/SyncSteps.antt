@@ -7,7 +7,7 @@ use Rattle.ct_base.specs.declared.numbers.RowKey.{RowKey}
 use Rattle.ct_keep.specs.declared.keepers.KeepFault.{KeepFault}
 use Rattle.ct_entry.specs.declared.kinds.Kind.TheVariants as kind
 use Rattle.ct_entry.specs.Keys.{key}
-use Rattle.ct_entry.specs.Changes.{put, spell}
+use Rattle.ct_entry.specs.Changes.{put_value, spell}
 use Rattle.ct_entry.specs.laws.Changes.{spell-append}
 use Rattle.ct_entry.specs.Each.{numbered, each}
 use Rattle.tb_table.specs.declared.columns.Target.{Target}
@@ -54,16 +54,16 @@ at_least_one first next given is n = omega (arith, is, n)
 pub settled_added : (i : List ℕ) (target : Target) (prefs : Prefs) (text : ℤ → Option (List ℕ)) (first next : ℕ) (rows : List RowKey) (none before new : Changes)
     → (length rows == 0) ≡ false → none ≡ []
     → before ≡ none ++ spell (each (settle_with prefs i text) (numbered first (keys rows)))
-    → new ≡ before ++ spell (put (key kind.Indexes i []) (index_bytes target.table target.column prefs next) ∷ [])
+    → new ≡ before ++ spell (put_value (key kind.Indexes i []) (index_bytes target.table target.column prefs next) ∷ [])
     → next ≡ first + length rows → new ≡ spell (settled_with i target prefs text first (keys rows))
 settled_added i target prefs text first next [] none before new some empty settled last next_is = cc
 settled_added i target prefs text first next (r ∷ rs) none before new some empty settled last next_is =
     let changes = each (settle_with prefs i text) (numbered first (keys (r ∷ rs))) in
     let count : next ≡ first + length (keys (r ∷ rs)) = next_is ∙ ap (λ n. first + n) (sym (length-map (r ∷ rs) (λ (r : RowKey). r.0))) in
     last
-    ∙ ap (λ (b : Changes). b ++ spell (put (key kind.Indexes i []) (index_bytes target.table target.column prefs next) ∷ [])) (settled ∙ ap (λ (b : Changes). b ++ spell changes) empty)
-    ∙ sym (spell-append changes (put (key kind.Indexes i []) (index_bytes target.table target.column prefs next) ∷ []))
-    ∙ ap (λ n. spell (changes ++ put (key kind.Indexes i []) (index_bytes target.table target.column prefs n) ∷ [])) count
+    ∙ ap (λ (b : Changes). b ++ spell (put_value (key kind.Indexes i []) (index_bytes target.table target.column prefs next) ∷ [])) (settled ∙ ap (λ (b : Changes). b ++ spell changes) empty)
+    ∙ sym (spell-append changes (put_value (key kind.Indexes i []) (index_bytes target.table target.column prefs next) ∷ []))
+    ∙ ap (λ n. spell (changes ++ put_value (key kind.Indexes i []) (index_bytes target.table target.column prefs n) ∷ [])) count
 
 settled_rows : (ts : Tables) (i : List ℕ) (x : Index) (rows : List ℤ) → pending_rows x ≡ rows
     → settled_with i (target_of x) x.prefs (target_text ts (target_of x)) ((given x) + 1) rows ≡ sync_rows_changes ts i x rows
@@ -73,7 +73,7 @@ settled_rows ts i x (r ∷ rs) is =
     let l : length (pending_rows x) ≡ length (r ∷ rs) = ap length is in
     let n : given (synced_index x) ≡ given x + length (pending_rows x) = ap (λ (p : Part). p.given) (part_in-synced x.body) ∙ given-made (length (pending_rows x)) (part_in x.body) in
     omega arith in
-    ap (λ n. each (settle_with x.prefs i (target_text ts (target_of x))) (numbered ((given x) + 1) (r ∷ rs)) ++ put (key kind.Indexes i []) (index_bytes x.table x.column x.prefs n) ∷ []) count
+    ap (λ n. each (settle_with x.prefs i (target_text ts (target_of x))) (numbered ((given x) + 1) (r ∷ rs)) ++ put_value (key kind.Indexes i []) (index_bytes x.table x.column x.prefs n) ∷ []) count
 
 -- the changes for what was read of the index are those of its synchronisation
 pub settled_is : (ts : Tables) (i : List ℕ) (x : Index) (e : IndexEntry) (first : ℕ) (rows : List ℤ) → e ≡ parts_of x → first ≡ (given x) + 1
@@ -109,7 +109,7 @@ count_created ts t range rows are = sym (length-map rows (λ (r : RowKey). r.0))
 -- the change of its entry was added, and then those of its rows
 pub created_added : (ts : Tables) (i : List ℕ) (target : Target) (prefs : Prefs) (range : KeyRange) (rows : List RowKey) (next : ℕ) (none first new : Changes)
     → keys rows ≡ rows_in ts target.table range → next ≡ 1 + length rows → none ≡ []
-    → first ≡ none ++ spell (put (key kind.Indexes i []) (index_bytes target.table target.column prefs next) ∷ [])
+    → first ≡ none ++ spell (put_value (key kind.Indexes i []) (index_bytes target.table target.column prefs next) ∷ [])
     → new ≡ first ++ spell (each (mark_with prefs i (target_text ts target)) (numbered 1 (keys rows)))
     → new ≡ spell (create_changes ts i target prefs range)
 created_added ts i target prefs range rows next none first new are next_is empty entry marks =
@@ -119,6 +119,6 @@ created_added ts i target prefs range rows next none first new are next_is empty
     let n = given-made (length (rows_in ts target.table range)) no_part in
     omega (arith, next_is, count, n) in
     marks
-    ∙ ap (λ (b : Changes). b ++ spell (each (mark_with prefs i (target_text ts target)) (numbered 1 (keys rows)))) (entry ∙ ap (λ (b : Changes). b ++ spell (put (key kind.Indexes i []) (index_bytes target.table target.column prefs next) ∷ [])) empty)
-    ∙ ap (λ n. spell (put (key kind.Indexes i []) (index_bytes target.table target.column prefs n) ∷ each (mark_with prefs i (target_text ts target)) (numbered 1 (keys rows)))) number
-    ∙ ap (λ l. spell (put (key kind.Indexes i []) (index_bytes target.table target.column prefs (given x + 1)) ∷ each (mark_with prefs i (target_text ts target)) (numbered 1 l))) are
+    ∙ ap (λ (b : Changes). b ++ spell (each (mark_with prefs i (target_text ts target)) (numbered 1 (keys rows)))) (entry ∙ ap (λ (b : Changes). b ++ spell (put_value (key kind.Indexes i []) (index_bytes target.table target.column prefs next) ∷ [])) empty)
+    ∙ ap (λ n. spell (put_value (key kind.Indexes i []) (index_bytes target.table target.column prefs n) ∷ each (mark_with prefs i (target_text ts target)) (numbered 1 (keys rows)))) number
+    ∙ ap (λ l. spell (put_value (key kind.Indexes i []) (index_bytes target.table target.column prefs (given x + 1)) ∷ each (mark_with prefs i (target_text ts target)) (numbered 1 l))) are

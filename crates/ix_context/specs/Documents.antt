@@ -1,5 +1,5 @@
 -- What a document of an index has: its postings, and what they cost.
-use Rattle.std.specs.Prelude.{Bool, false, ◌||◌, ◌==◌, pos, ℕ, ℤ, ◌≡◌, ◌+◌, sum_by, List, [], ◌∷◌, Option, Some, None, codes}
+use Rattle.std.specs.Prelude.{Bool, false, ◌||◌, ◌==◌, pos, ℕ, ℤ, ◌≡◌, ◌+◌, sum_by, List, [], ◌∷◌, Option, Some, None, codes, refl}
 use Rattle.std.specs.Bool.{if◌then◌else◌}
 use Rattle.std.specs.List.{list_any}
 use Rattle.std.proofs.lemmas.Bool.{ne_eqb}
@@ -102,6 +102,9 @@ abbrev pub changed_on : Tables → Names Index → List ℕ → List ℕ → ℤ
 changed_on ts xs t columns r = on_table (changed_index ts columns r) t xs
 
 -- computed examples
+nothing_is_seen : (ts : Tables) → seen_in ts None (pos 7) ≡ None
+nothing_is_seen ts = refl
+
 another_column : (ts : Tables) (x : Index) → changed_index ts ((x.column + 1) ∷ []) (pos 7) (codes "di") x ≡ x
 another_column ts x = ap (λ (b : Bool). if b || false then record x { body = note_changed (row_cost ts (codes "di") x (pos 7)) (pos 7) x.body } else x) (ne_eqb (x.column + 1) x.column (λ e. omega (arith, e)))
 

@@ -4,7 +4,7 @@ use Rattle.std.specs.FinMap.{get, remove}
 use Rattle.ct_keep.specs.Content.{Content}
 use Rattle.ct_entry.specs.Keys.{Key, at, same_list}
 use Rattle.ct_entry.specs.Changes.{view}
-use Rattle.ct_entry.specs.Each.{is_among}
+use Rattle.ct_entry.specs.Each.{is_any_of}
 use Rattle.ct_entry.specs.Maps.{Names}
 use Rattle.tb_table.specs.Tables.{Tables}
 use Rattle.ix_context.specs.Indexes.{Index}
@@ -12,7 +12,7 @@ use Rattle.ix_context.specs.Rules.{AreIndexes}
 use Rattle.ix_context.specs.Standing.{IndexesStand}
 use Rattle.ix_context.specs.Promises.{is_on}
 use Rattle.ix_context.specs.Spelling.{is_of_indexes}
-use Rattle.ix_context.specs.Removing.{remove_changes, remove_all_changes}
+use Rattle.ix_context.specs.Removing.{index_removals, remove_all_changes}
 use Rattle.ix_context.specs.Drops.{without_indexes_on, HaveSameTablesBut, LosesIndexes}
 
 -- ---- indexes and tables that are dropped
@@ -40,10 +40,10 @@ DroppedTablesKeepIndexRules = (ts us : Tables) (xs : Names Index) (t : List ℕ)
 -- Where entries of indexes are as in the content, the removal of an index takes away all its entries, and no other index's.
 abbrev pub RemovedIndexesLoseEntries : Type 0
 RemovedIndexesLoseEntries =
-    (i : List ℕ) (m : Content) (f : Key → Option (List ℕ)) → ((k : Key) → is_of_indexes k.kind ≡ true → f k ≡ at m k) → LosesIndexes (λ q. same_list q i) f (view (remove_changes i m) f)
+    (i : List ℕ) (m : Content) (f : Key → Option (List ℕ)) → ((k : Key) → is_of_indexes k.kind ≡ true → f k ≡ at m k) → LosesIndexes (λ q. same_list q i) f (view (index_removals i m) f)
 
 -- So do the removals of several, one after the other.
 abbrev pub AllRemovedIndexesLoseEntries : Type 0
 AllRemovedIndexesLoseEntries =
     (names : List (List ℕ)) (m : Content) (f : Key → Option (List ℕ)) → ((k : Key) → is_of_indexes k.kind ≡ true → f k ≡ at m k)
-    → LosesIndexes (λ q. is_among q names) f (view (remove_all_changes m names) f)
+    → LosesIndexes (λ q. is_any_of q names) f (view (remove_all_changes m names) f)

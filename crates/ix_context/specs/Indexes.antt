@@ -8,7 +8,7 @@ use Rattle.ct_entry.specs.Keys.{same_list}
 use Rattle.ct_entry.specs.Listings.{keys_where}
 use Rattle.ct_entry.specs.Maps.{Names, Rows, alter, each_value}
 use Rattle.tb_table.specs.declared.columns.Target.{Target}
-use Rattle.tb_table.specs.Tables.{Tables, row_at, row_keys, text_of}
+use Rattle.tb_table.specs.Tables.{Tables, row_at, row_keys, text_in_column}
 use Rattle.ix_rows.specs.Stores.{Tidiness, Untidy, Packed}
 use Rattle.ix_docmap.specs.Marks.{Mark, Pending, Settled, Marks, queued}
 use Rattle.ix_context.specs.declared.ranges.KeyRange.{KeyRange}
@@ -26,13 +26,13 @@ pub record Part : Type 0 where
   pub waste : ℕ
 
 -- a CONTEXT index: of each row whether it waits or is settled
-pub record Context : Type 0 where
+pub record ContextIndex : Type 0 where
   pub part : Part
   pub marks : Rows (Mark (Unit {0}))
 
 -- The kinds of indexes; for now there is one.
 pub data Body : Type 0 where
-  OfContext : Context → Body
+  OfContext : ContextIndex → Body
 
 pub record Index : Type 0 where
   -- the table, and the place of the column in it
@@ -79,11 +79,11 @@ pending_rows x = waiting_rows (marks_in x.body)
 
 -- the text of a row that an index sees
 abbrev pub text_seen : Tables → Index → ℤ → Option (List ℕ)
-text_seen ts x r = option_and_then (λ vs. text_of vs x.column) (row_at ts x.table r)
+text_seen ts x r = option_and_then (λ vs. text_in_column vs x.column) (row_at ts x.table r)
 
 -- the text of a row in a column
 abbrev pub target_text : Tables → Target → ℤ → Option (List ℕ)
-target_text ts target r = option_and_then (λ vs. text_of vs target.column) (row_at ts target.table r)
+target_text ts target r = option_and_then (λ vs. text_in_column vs target.column) (row_at ts target.table r)
 
 -- ---- what statements make of an index
 
@@ -139,12 +139,12 @@ abbrev pub synced : Names Index → List ℕ → Names Index
 synced xs i = alter xs i synced_index
 
 -- the row key lies in the range, both ends included
-abbrev pub in_range : KeyRange → ℤ → Bool
-in_range range r = not (is_lt (int_cmp r range.from.0)) && not (is_lt (int_cmp range.to.0 r))
+abbrev pub is_key_in : KeyRange → ℤ → Bool
+is_key_in range r = not (is_lt (int_cmp r range.from.0)) && not (is_lt (int_cmp range.to.0 r))
 
 -- the keys of a table's rows that lie in the range, in order
 abbrev pub rows_in : Tables → List ℕ → KeyRange → List ℤ
-rows_in ts t range = filter (in_range range) (row_keys ts t)
+rows_in ts t range = filter (is_key_in range) (row_keys ts t)
 
 -- these rows are settled, and no other has a mark
 abbrev pub settled_rows : List ℤ → Rows (Mark (Unit {0}))
@@ -198,5 +198,5 @@ none_more = refl
 abbrev some_range : KeyRange
 some_range = record { from = record { 0 = negsuc 1 }; to = record { 0 = pos 5 } }
 
-its_rows : filter (in_range some_range) (negsuc 2 ∷ negsuc 1 ∷ pos 0 ∷ pos 5 ∷ pos 6 ∷ []) ≡ negsuc 1 ∷ pos 0 ∷ pos 5 ∷ []
+its_rows : filter (is_key_in some_range) (negsuc 2 ∷ negsuc 1 ∷ pos 0 ∷ pos 5 ∷ pos 6 ∷ []) ≡ negsuc 1 ∷ pos 0 ∷ pos 5 ∷ []
 its_rows = refl

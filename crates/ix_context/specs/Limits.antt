@@ -6,7 +6,7 @@ use Rattle.std.specs.Cmp.Lexicographic.{slice_cmp}
 use Rattle.std.specs.FinMap.{get, empty, get-empty}
 use Rattle.std.proofs.Common.{sym, ap, ◌∙◌, arith}
 use Rattle.ct_entry.specs.Keys.{IsRow}
-use Rattle.tb_table.specs.Tables.{Table, Tables, row_in, text_of}
+use Rattle.tb_table.specs.Tables.{Table, Tables, row_in, text_in_column}
 use Rattle.tx_settings.specs.Defaults.{default_prefs}
 use Rattle.ix_context.specs.Indexes.{Index, OfContext, no_part, given, marks_in, text_seen}
 use Rattle.ix_context.specs.Rules.{most_given}
@@ -27,6 +27,6 @@ of_no_row = record {
   numbers = omega arith;
   texts = λ r text seen.
       let none : text_seen empty (record { table = codes "docs"; column = 1; prefs = default_prefs; body = OfContext (record { part = no_part; marks = empty }) }) r ≡ None =
-      ap (λ (t : Option Table). option_and_then (λ vs. text_of vs 1) (row_in t r)) (get-empty (slice_cmp nat_cmp) (codes "docs")) in
+      ap (λ (t : Option Table). option_and_then (λ vs. text_in_column vs 1) (row_in t r)) (get-empty (slice_cmp nat_cmp) (codes "docs")) in
       let wrong : None ≡ Some text = sym none ∙ seen in cc;
 }

@@ -24,9 +24,9 @@ use Rattle.tx_document.specs.declared.views.DocView.{DocView}
 use Rattle.tx_document.specs.declared.entries.Entry.{Entry}
 use Rattle.tx_settings.specs.Defaults.{default_prefs, plain}
 use Rattle.tx_document.specs.Documents.{document, pair}
-use Rattle.tx_document.specs.Entries.{Place, section_stream, places_of, entry, entry_of, entries}
+use Rattle.tx_document.specs.Entries.{DocumentPlace, section_stream, places_of, entry, entry_of, entries}
 use Rattle.ix_posting.specs.Rows.{Rise}
-use Rattle.ix_posting.specs.SpanRows.{PairsRise, no_pair}
+use Rattle.ix_posting.specs.SpanRows.{PairsFollow, no_pair}
 use Rattle.ix_rows.specs.WordRows.{word_term}
 
 -- ---- texts as documents
@@ -35,8 +35,8 @@ abbrev pub text_document : Prefs → List ℕ → DocView
 text_document p text = document p (chars text)
 
 -- where its words and sections stand
-abbrev pub text_places : Prefs → List ℕ → List Place
-text_places p text = places_of (text_document p text)
+abbrev pub places_in_text : Prefs → List ℕ → List DocumentPlace
+places_in_text p text = places_of (text_document p text)
 
 -- ---- its entries as terms
 
@@ -45,12 +45,12 @@ abbrev pub text_entries : Prefs → List ℕ → List Entry
 text_entries p text = entries (text_document p text)
 
 -- a section, or a key of a stream
-abbrev pub is_section : Entry → Bool
-is_section e = e.stream == section_stream
+abbrev pub is_section_entry : Entry → Bool
+is_section_entry e = e.stream == section_stream
 
 -- the positions of a key; each place is a pair of one twice
-abbrev pub firsts : List Pair → List ℕ
-firsts ps = map (λ p. p.first) ps
+abbrev pub first_positions : List Pair → List ℕ
+first_positions ps = map (λ p. p.first) ps
 
 -- a section, as it stands in a key: the length of its name, and the name
 abbrev pub section_term : List ℕ → List ℕ
@@ -58,11 +58,11 @@ section_term section = length section ∷ section
 
 -- the term of a key of a stream, with its positions
 abbrev pub word_in : Entry → Option (List ℕ × List ℕ)
-word_in e = if is_section e then None else Some (word_term e.stream e.token, firsts e.places)
+word_in e = if is_section_entry e then None else Some (word_term e.stream e.token, first_positions e.places)
 
 -- the term of a section, with its pairs
 abbrev pub section_in : Entry → Option (List ℕ × List Pair)
-section_in e = if is_section e then Some (section_term e.token, e.places) else None
+section_in e = if is_section_entry e then Some (section_term e.token, e.places) else None
 
 abbrev pub word_terms : List Entry → List (List ℕ × List ℕ)
 word_terms es = filter_map word_in es
@@ -76,36 +76,36 @@ pub record IsWord (e : Entry) : Type 0 where
   pub stream : e.stream ≤ stream_limit
   pub token : IsToken e.token
   pub some : 1 ≤ length e.places
-  pub rise : Rise 0 (firsts e.places)
+  pub rise : Rise 0 (first_positions e.places)
 
 pub record IsSection (e : Entry) : Type 0 where
   pub named : IsName e.token
   pub some : 1 ≤ length e.places
   pub few : length e.places < 2 ^ 32
-  pub rise : PairsRise no_pair e.places
+  pub rise : PairsFollow no_pair e.places
 
-abbrev pub IsOneOf : Bool → Entry → Type 0
-IsOneOf true e = IsSection e
-IsOneOf false e = IsWord e
+abbrev pub IsSectionOrWord : Bool → Entry → Type 0
+IsSectionOrWord true e = IsSection e
+IsSectionOrWord false e = IsWord e
 
 abbrev pub IsPosting : Entry → Type 0
-IsPosting e = IsOneOf (is_section e) e
+IsPosting e = IsSectionOrWord (is_section_entry e) e
 
 -- ---- short texts
 
 -- A text that is indexed has at most so many bytes: then each of its entries makes a row of postings that a keeper takes.
-abbrev pub text_limit : ℕ
-text_limit = 2 ^ 19
+abbrev pub indexed_text_limit : ℕ
+indexed_text_limit = 2 ^ 19
 
 -- a text of at most so many bytes, or none
-abbrev pub HasShortText : Option (List ℕ) → Type 0
-HasShortText None = Unit {0}
-HasShortText (Some text) = length text ≤ text_limit
+abbrev pub IsShortOrNone : Option (List ℕ) → Type 0
+IsShortOrNone None = Unit {0}
+IsShortOrNone (Some text) = length text ≤ indexed_text_limit
 
 -- the text, if it is one
 abbrev pub if_short : Option (List ℕ) → Option (List ℕ)
 if_short None = None
-if_short (Some text) = if nat_le (length text) text_limit then Some text else None
+if_short (Some text) = if nat_le (length text) indexed_text_limit then Some text else None
 
 -- ---- computed examples
 
@@ -113,7 +113,7 @@ if_short (Some text) = if nat_le (length text) text_limit then Some text else No
 abbrev with_tags : List ℕ
 with_tags = codes "<T>alpha</T> <Q>one <P>beta</P></Q>"
 
-its_places : text_places (plain zones) with_tags
+its_places : places_in_text (plain zones) with_tags
     ≡ (1 ∷ codes "alpha", pair 1 1) ∷ (0 ∷ codes "one", pair 2 2) ∷ (0 ∷ codes "beta", pair 3 3) ∷ (255 ∷ codes "p", pair 3 3) ∷ (255 ∷ codes "q", pair 2 3) ∷ []
 unfolding encode chars caseless ucd_category key_text
 its_places = refl

@@ -5,7 +5,7 @@ use Rattle.ct_base.specs.Names.{IsName}
 use Rattle.ct_base.specs.declared.lists.Value.{Value}
 use Rattle.ct_entry.specs.Keys.{Key, same_list, IsRow}
 use Rattle.ct_entry.specs.Changes.{view}
-use Rattle.ct_entry.specs.Each.{each, is_among}
+use Rattle.ct_entry.specs.Each.{each, is_any_of}
 use Rattle.ct_entry.specs.Maps.{Names}
 use Rattle.tb_table.specs.declared.columns.Column.{Column}
 use Rattle.tb_table.specs.declared.columns.Target.{Target}
@@ -14,7 +14,7 @@ use Rattle.tb_table.specs.Rules.{AreTables}
 use Rattle.tx_settings.specs.declared.preferences.Prefs.{Prefs}
 use Rattle.tx_settings.specs.PrefsBytes.{IsPrefs}
 use Rattle.ix_context.specs.declared.ranges.KeyRange.{KeyRange}
-use Rattle.ix_context.specs.Indexes.{Index, given, marks_in, pending_rows, noted, noted_on, synced, in_range, rows_in, with_index}
+use Rattle.ix_context.specs.Indexes.{Index, given, marks_in, pending_rows, noted, noted_on, synced, is_key_in, rows_in, with_index}
 use Rattle.ix_context.specs.Rules.{IsTarget, AreIndexes, most_given}
 use Rattle.ix_context.specs.Standing.{IndexesStand}
 use Rattle.ix_context.specs.Changes.{note_insert_changes, sync_changes, create_changes}
@@ -59,7 +59,7 @@ CreatedIndexesStand =
 -- no name stands twice
 abbrev pub AreDistinct : List (List ℕ) → Type 0
 AreDistinct [] = Unit {0}
-AreDistinct (i ∷ is) = (is_among i is ≡ false) × AreDistinct is
+AreDistinct (i ∷ is) = (is_any_of i is ≡ false) × AreDistinct is
 
 -- there is an index, and it is on this table
 abbrev pub is_on : List ℕ → Option Index → Bool
@@ -69,7 +69,7 @@ is_on t (Some x) = same_list x.table t
 -- these are the names of the indexes on the table, each once
 pub record AreIndexesOn (xs : Names Index) (t : List ℕ) (names : List (List ℕ)) : Type 0 where
   pub distinct : AreDistinct names
-  pub each : (i : List ℕ) → is_among i names ≡ is_on t (get xs i)
+  pub each : (i : List ℕ) → is_any_of i names ≡ is_on t (get xs i)
 
 -- after a note of a row that is new in each index on its table
 abbrev pub NotesOfRowsStand : Type 0
@@ -99,7 +99,7 @@ SyncsKeepIndexRules =
 
 -- the range has every row key
 abbrev pub HasAllRows : KeyRange → Type 0
-HasAllRows range = (r : ℤ) → IsRow r → in_range range r ≡ true
+HasAllRows range = (r : ℤ) → IsRow r → is_key_in range r ≡ true
 
 -- no index is on this column
 abbrev pub IsFreeColumn : Names Index → List ℕ → ℕ → Type 0

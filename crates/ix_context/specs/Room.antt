@@ -5,7 +5,7 @@ use Rattle.std.specs.FinMap.{entries, from_sorted, entries-from_sorted}
 use Rattle.ct_bytes.specs.RowKeys.{row_bytes}
 use Rattle.ct_entry.specs.declared.kinds.Kind.TheVariants as kind
 use Rattle.ct_entry.specs.Keys.{key, bytes, row_part, document_part}
-use Rattle.tb_table.specs.Tables.{Tables, docs_alone, row_one, text_of}
+use Rattle.tb_table.specs.Tables.{Tables, docs_alone, row_one, text_in_column}
 use Rattle.tb_table.specs.Room.{key_weight}
 use Rattle.ct_keep.specs.Laws.{entries_put, entries-insert_empty}
 use Rattle.ct_entry.specs.laws.Maps.{entries-none}
@@ -62,7 +62,7 @@ di_index waste = record { table = codes "docs"; column = 1; prefs = default_pref
 two_words_cost : (waste : ℕ) → document_cost (codes "di") (postings_in docs_alone (Some (di_index waste)) (pos 1)) ≡ 128
 unfolding varint
 two_words_cost waste =
-    ap (λ (o : Option (List Value)). document_cost (codes "di") (text_postings default_prefs (option_and_then (λ vs. text_of vs 1) o))) row_one
+    ap (λ (o : Option (List Value)). document_cost (codes "di") (text_postings default_prefs (option_and_then (λ vs. text_in_column vs 1) o))) row_one
     ∙ ap (λ (es : List Entry). document_cost (codes "di") (entries_postings es)) fox_and_quick
     ∙ ap (λ (es : List (List ℕ × List ℕ)). sum_by (posting_cost (codes "di")) es + spans_cost (codes "di") (entries_postings [])) (entries_put _ (0 ∷ 3 ∷ codes "fox") (2 ∷ []) _ (entries-insert_empty (0 ∷ 5 ∷ codes "quick") (1 ∷ 3 ∷ [])))
     ∙ ap (λ (es : List (List ℕ × List Pair)). 128 + sum_by (pairs_cost (codes "di")) es) (entries-none (slice_cmp nat_cmp))

@@ -8,10 +8,10 @@ use Rattle.std.specs.FinMap.{get, empty, get-empty}
 use Rattle.std.specs.Cmp.Lexicographic.{slice_cmp}
 use Rattle.ct_base.specs.declared.lists.Value.{Value}
 use Rattle.ct_entry.specs.Keys.{Key, same_list}
-use Rattle.ct_entry.specs.Each.{is_among}
+use Rattle.ct_entry.specs.Each.{is_any_of}
 use Rattle.ct_entry.specs.Lists.{IsIn}
 use Rattle.ct_entry.specs.Maps.{Names}
-use Rattle.tb_table.specs.Tables.{Table, Tables, row_at, text_of, docs_alone, row_one}
+use Rattle.tb_table.specs.Tables.{Table, Tables, row_at, text_in_column, docs_alone, row_one}
 use Rattle.tb_table.specs.Rules.{AreTables}
 use Rattle.tx_settings.specs.Defaults.{default_prefs}
 use Rattle.ix_context.specs.Indexes.{Index, created_body}
@@ -31,8 +31,8 @@ abbrev pub HaveSameColumns : Tables → Tables → Type 0
 HaveSameColumns ts us = (q : List ℕ) → option_map (λ (x : Table). x.columns) (get us q) ≡ option_map (λ (x : Table). x.columns) (get ts q)
 
 -- the text that a row has in a column, counted from the key, which is the column 0
-abbrev pub text_at : Tables → List ℕ → ℕ → ℤ → Option (List ℕ)
-text_at ts t column r = option_and_then (λ vs. text_of vs column) (row_at ts t r)
+abbrev pub value_as_text : Tables → List ℕ → ℕ → ℤ → Option (List ℕ)
+value_as_text ts t column r = option_and_then (λ vs. text_in_column vs column) (row_at ts t r)
 
 -- whether the column is one of these
 abbrev pub is_column : List ℕ → ℕ → Bool
@@ -48,7 +48,7 @@ pub record LosesRow (ts us : Tables) (t : List ℕ) (r : ℤ) : Type 0 where
 pub record SetsColumns (ts us : Tables) (t : List ℕ) (columns : List ℕ) (r : ℤ) : Type 0 where
   pub alike : HaveSameColumns ts us
   pub there : is_some (row_at us t r) ≡ true
-  pub texts : (column : ℕ) → is_column columns column ≡ false → text_at us t column r ≡ text_at ts t column r
+  pub texts : (column : ℕ) → is_column columns column ≡ false → value_as_text us t column r ≡ value_as_text ts t column r
   pub others : HaveSameRowsBut ts us t r
 
 -- ---- the indexes that see what an UPDATE sets
@@ -61,7 +61,7 @@ is_on_columns t columns (Some x) = same_list x.table t && is_column columns x.co
 -- these are the names of the indexes on these columns of the table, each once
 pub record AreIndexesOnColumns (xs : Names Index) (t : List ℕ) (columns : List ℕ) (names : List (List ℕ)) : Type 0 where
   pub distinct : AreDistinct names
-  pub each : (i : List ℕ) → is_among i names ≡ is_on_columns t columns (get xs i)
+  pub each : (i : List ℕ) → is_any_of i names ≡ is_on_columns t columns (get xs i)
 
 -- ---- several rows, one after the other
 
@@ -106,11 +106,11 @@ pub record IndexesHold (f : Key → Option (List ℕ)) (ts : Tables) (xs : Names
   pub stand : IndexesStand f ts xs
 
 -- computed examples: the row 1 of the table `docs`
-its_text : text_at docs_alone (codes "docs") 1 (pos 1) ≡ Some (codes "quick fox quick")
-its_text = ap (option_and_then (λ (vs : List Value). text_of vs 1)) row_one
+its_text : value_as_text docs_alone (codes "docs") 1 (pos 1) ≡ Some (codes "quick fox quick")
+its_text = ap (option_and_then (λ (vs : List Value). text_in_column vs 1)) row_one
 
-no_text_of_its_price : text_at docs_alone (codes "docs") 2 (pos 1) ≡ None
-no_text_of_its_price = ap (option_and_then (λ (vs : List Value). text_of vs 2)) row_one
+no_text_of_its_price : value_as_text docs_alone (codes "docs") 2 (pos 1) ≡ None
+no_text_of_its_price = ap (option_and_then (λ (vs : List Value). text_in_column vs 2)) row_one
 
 -- tables have the rows that they have; so the row isn't lost, and no text of it is another
 all_rows_same : HaveSameRowsBut docs_alone docs_alone (codes "docs") (pos 1)

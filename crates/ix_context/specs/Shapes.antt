@@ -1,5 +1,5 @@
 -- Which entries of indexes are well shaped, each by itself.
-use Rattle.std.specs.Prelude.{ℕ, ◌≡◌, ◌≤◌, ◌<◌, ◌^◌, pos, List, [], ◌∷◌, Option, Result, OnOk, codes, refl}
+use Rattle.std.specs.Prelude.{ℕ, ◌≡◌, ◌≤◌, ◌<◌, ◌^◌, pos, List, [], ◌∷◌, Option, MatchOption, Result, OnOk, codes, refl}
 use Rattle.std.proofs.Common.{arith, inl}
 use Rattle.ct_base.specs.Names.{IsName}
 use Rattle.ct_base.specs.Limits.{stream_limit}
@@ -64,6 +64,10 @@ pub record IsSpanPart (part : List ℕ) (document : ℕ) : Type 0 where
   pub section : List ℕ
   pub named : IsName section
   pub spelt : part ≡ span_part section document
+
+-- the first document that the rest of a key of spans names, or none where it is no such rest
+abbrev pub NamesSpanDocument : List ℕ → Option ℕ → Type 0
+NamesSpanDocument part found = MatchOption found ((document : ℕ) → IsDocument document → IsSpanPart part document → ⊥) (λ document. IsSpanPart part document)
 
 -- ---- entries
 

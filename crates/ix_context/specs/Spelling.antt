@@ -6,7 +6,7 @@ use Rattle.ct_base.specs.Names.{IsName}
 use Rattle.ct_entry.specs.declared.kinds.Kind.{Kind}
 use Rattle.ct_entry.specs.declared.kinds.Kind.TheVariants as kind
 use Rattle.ct_entry.specs.Keys.{Key, key}
-use Rattle.ct_entry.specs.Changes.{put}
+use Rattle.ct_entry.specs.Changes.{put_value}
 use Rattle.tb_table.specs.declared.columns.Target.{Target}
 use Rattle.tx_settings.specs.declared.preferences.Prefs.{Prefs}
 use Rattle.tx_settings.specs.Defaults.{default_prefs}
@@ -26,7 +26,7 @@ index_bytes table column prefs next = 1 ∷ text_bytes table ++ after_table colu
 
 -- the change that gives an index on this target its entry, with the document that it gives next
 abbrev pub index_change : List ℕ → Target → Prefs → ℕ → Key × Option (List ℕ)
-index_change i target prefs next = put (key kind.Indexes i []) (index_bytes target.table target.column prefs next)
+index_change i target prefs next = put_value (key kind.Indexes i []) (index_bytes target.table target.column prefs next)
 
 abbrev pub index_entry : Index → List ℕ
 index_entry x = index_bytes x.table x.column x.prefs (given x + 1)

@@ -18,12 +18,12 @@ use Rattle.ix_context.specs.Indexes.{Index, Part, mark_of, part_of}
 use Rattle.ix_context.specs.Documents.{Postings, postings_in, want_words, want_spans}
 use Rattle.ix_context.specs.Spelling.{index_entry}
 
-abbrev pub WordsStand : (Key → Option (List ℕ)) → List ℕ → (ℤ → Postings) → (ℕ → Option ℤ) → ℕ → Tidiness → ℕ → (List ℕ → List (List RowDocument)) → Type 0
-WordsStand f i doc row given tidiness waste rows =
+abbrev pub WordRowsStand : (Key → Option (List ℕ)) → List ℕ → (ℤ → Postings) → (ℕ → Option ℤ) → ℕ → Tidiness → ℕ → (List ℕ → List (List RowDocument)) → Type 0
+WordRowsStand f i doc row given tidiness waste rows =
     StoreStands document_number posting_bytes IsPostingRow IsWordTerm (word_cost i) f kind.Postings i (want_words doc) row given tidiness waste rows
 
-abbrev pub SpansStand : (Key → Option (List ℕ)) → List ℕ → (ℤ → Postings) → (ℕ → Option ℤ) → ℕ → Tidiness → ℕ → (List ℕ → List (List SpanDocument)) → Type 0
-SpansStand f i doc row given tidiness waste rows =
+abbrev pub SpanRowsStand : (Key → Option (List ℕ)) → List ℕ → (ℤ → Postings) → (ℕ → Option ℤ) → ℕ → Tidiness → ℕ → (List ℕ → List (List SpanDocument)) → Type 0
+SpanRowsStand f i doc row given tidiness waste rows =
     StoreStands span_number span_row_bytes IsSpanRow IsSpanTerm (span_cost i) f kind.Spans i (want_spans doc) row given tidiness waste rows
 
 -- The entries of the index of this name, but that of the kind Indexes, stand for these marks, where the rows have these postings: with some numbering of the
@@ -36,8 +36,8 @@ pub record PartStands (f : Key → Option (List ℕ)) (i : List ℕ) (doc : ℤ 
   pub words_waste : ℕ
   pub spans_waste : ℕ
   pub documents : MapStands f i mark part.given document row
-  pub words : WordsStand f i doc row part.given part.tidiness words_waste word_rows
-  pub spans : SpansStand f i doc row part.given part.tidiness spans_waste span_rows
+  pub words : WordRowsStand f i doc row part.given part.tidiness words_waste word_rows
+  pub spans : SpanRowsStand f i doc row part.given part.tidiness spans_waste span_rows
   pub waste : words_waste + spans_waste ≤ part.waste
 
 -- The entries of this name stand for the index, or for none.

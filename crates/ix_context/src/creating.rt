@@ -2,10 +2,10 @@
 #![tactic(auto, using(ct_keep::specs::Composing::reads_on, ct_keep::specs::Composing::reads_short))]
 
 ghost use Rattle.std.specs.Prelude.{◌≡◌, ◌+◌, ◌≤◌, ◌<◌, ◌^◌, IfOk, IfSome, OnOk, OnErr, Some, Err, filter, length, map, true};
-ghost use Rattle.ct_keep.specs.KeeperViews.{OnlyReads, Reads};
+ghost use Rattle.ct_keep.specs.KeeperViews.{OnlyReads, ReadsKeeper};
 ghost use Rattle.ct_entry.specs.Shapes.{AreShaped};
 ghost use Rattle.tx_settings.specs.Attributes.{can_be_set};
-ghost use Rattle.ix_context.specs.Indexes.{in_range, rows_in};
+ghost use Rattle.ix_context.specs.Indexes.{is_key_in, rows_in};
 ghost use Rattle.ix_context.specs.Changes.{create_changes, Adds, mark_rows_changes, AreCreateChanges};
 ghost use Rattle.ix_context.specs.Faults.{context_fault_of};
 ghost use Rattle.ix_context.specs.Rules.{most_given};
@@ -25,7 +25,7 @@ use tx_settings::Prefs;
 
 /// The row keys that lie in a range, in their order.
 fn rows_within(alloc: Global, rows: &[RowKey], range: KeyRange) -> Result<Vec<RowKey>, Memory>
-    ensures { IfOk result (λ kept. map (λ r. r.0) kept.items ≡ filter (in_range range) (map (λ r. r.0) rows.now)) }
+    ensures { IfOk result (λ kept. map (λ r. r.0) kept.items ≡ filter (is_key_in range) (map (λ r. r.0) rows.now)) }
 {
     let mut kept = Vec::new(alloc);
     for row in rows {
@@ -125,7 +125,7 @@ pub fn create<K: Keeper>(
     ensures many { ToldTables K.view keeper.old (λ ts. result ≡ Err ContextFault.TooMany → most_given < length (rows_in ts target.now.table range)) }
     ensures err { OnErr result (batch.new ≡ batch.old) }
     ensures shaped { AreShaped HasIndexValue batch.old → AreShaped HasIndexValue batch.new }
-    ensures reads { Reads (K.view keeper.old) (K.view keeper.new) (context_fault_of result) }
+    ensures reads { ReadsKeeper (K.view keeper.old) (K.view keeper.new) (context_fault_of result) }
 {
     let found = match changes_of_create(alloc, keeper, index, target, prefs, range) {
         Ok(found) => found,

@@ -12,7 +12,7 @@ ghost use Rattle.tx_settings.specs.Attributes.{can_be_set};
 ghost use Rattle.ix_context.specs.Indexes.{target_text};
 ghost use Rattle.ix_context.specs.Documents.{word_posting, span_posting};
 ghost use Rattle.ix_context.specs.Changes.{word_change, section_change, entry_change, text_changes, document_changes, Adds, mark_row_changes};
-ghost use Rattle.ix_context.specs.Postings.{firsts, IsWord, IsSection, IsPosting, HasShortText, if_short};
+ghost use Rattle.ix_context.specs.Postings.{first_positions, IsWord, IsSection, IsPosting, IsShortOrNone, if_short};
 ghost use Rattle.ix_context.specs.Sees.{ToldTables, SeesTables};
 ghost use Rattle.ix_context.specs.Shapes.{HasIndexValue, KeepsShape};
 
@@ -35,7 +35,7 @@ const SECTIONS: u8 = 255;
 
 /// The positions of a word, which are the firsts of its places.
 fn positions(alloc: Global, places: &[Pair]) -> Result<Positions, Memory>
-    ensures { IfOk result (λ positions. positions ≡ firsts places.now) }
+    ensures { IfOk result (λ positions. positions ≡ first_positions places.now) }
 {
     let mut positions = Vec::new(alloc);
     for place in places {
@@ -182,7 +182,7 @@ fn put_text(
     text: Option<Text>,
 ) -> Result<(), Memory>
     requires some { 1 ≤ document }
-    requires short { HasShortText text }
+    requires short { IsShortOrNone text }
     requires set { can_be_set prefs.now.lexer ≡ true }
     ensures { Adds batch.old batch.new result (text_changes prefs.now index.now document text) }
 {
@@ -209,7 +209,7 @@ pub(crate) fn mark_row(
     text: Option<Text>,
 ) -> Result<(), Memory>
     requires some { 1 ≤ document }
-    requires short { HasShortText text }
+    requires short { IsShortOrNone text }
     requires set { can_be_set prefs.now.lexer ≡ true }
     ensures changes { Adds batch.old batch.new result (document_changes prefs.now index.now document row.0 text) }
     ensures shaped { AreShaped HasIndexValue (spell (document_changes prefs.now index.now document row.0 text)) }
@@ -240,7 +240,7 @@ fn seen_text<K: Keeper>(
 ) -> Result<Option<Text>, KeepFault>
     requires { (K.view keeper.old).ready }
     ensures text { SeesTables K.view keeper.old result (λ ts text. text ≡ target_text ts target.now row.0) }
-    ensures short { IfOk result (λ text. HasShortText text) }
+    ensures short { IfOk result (λ text. IsShortOrNone text) }
     ensures reads { OnlyReads K.view keeper.old keeper.new result }
 {
     let text = text_of(alloc, keeper, &target.table, target.column, row)?;

@@ -3,7 +3,7 @@
 
 ghost use Rattle.std.specs.Prelude.{◌≡◌, ℕ, Option, OnErr, Some, Err};
 ghost use Rattle.std.specs.Option.{option_map};
-ghost use Rattle.ct_keep.specs.KeeperViews.{Reads, Told};
+ghost use Rattle.ct_keep.specs.KeeperViews.{ReadsKeeper, Told};
 ghost use Rattle.ct_keep.specs.Looks.{no_looks, LooksAtMost};
 ghost use Rattle.ct_entry.specs.Keys.{at};
 ghost use Rattle.ct_entry.specs.Changes.{spell};
@@ -94,7 +94,7 @@ pub fn note_delete<K: Keeper>(
     ensures never_too_many { result ≡ Err ContextFault.TooMany → ⊥ }
     ensures shaped { (d : Option ℕ) → AreShaped HasIndexValue (spell (gone_changes index.now key.0 d)) }
     ensures batch_shaped { KeepsShape batch.old batch.new result }
-    ensures reads { Reads (K.view keeper.old) (K.view keeper.new) (context_fault_of result) }
+    ensures reads { ReadsKeeper (K.view keeper.old) (K.view keeper.new) (context_fault_of result) }
     ensures at_most { LooksAtMost K.view keeper.old keeper.new no_looks }
 {
     let document = match number_of(alloc, keeper, index, key) {
@@ -123,7 +123,7 @@ pub fn note_update<K: Keeper>(
     ensures never_too_many { result ≡ Err ContextFault.TooMany → ⊥ }
     ensures shaped { (d : Option ℕ) → AreShaped HasIndexValue (spell (changed_changes index.now key.0 d)) }
     ensures batch_shaped { KeepsShape batch.old batch.new result }
-    ensures reads { Reads (K.view keeper.old) (K.view keeper.new) (context_fault_of result) }
+    ensures reads { ReadsKeeper (K.view keeper.old) (K.view keeper.new) (context_fault_of result) }
     ensures at_most { LooksAtMost K.view keeper.old keeper.new no_looks }
 {
     // Read so that the proof knows that it is a name.

@@ -1,7 +1,7 @@
 //! Ranges of row keys.
 
 ghost use Rattle.std.specs.Prelude.{◌≡◌};
-ghost use Rattle.ix_context.specs.Indexes.{in_range};
+ghost use Rattle.ix_context.specs.Indexes.{is_key_in};
 
 use ct_base::RowKey;
 
@@ -21,7 +21,7 @@ impl KeyRange {
 
     /// Whether the key lies in the range.
     pub fn contains(self, key: RowKey) -> bool
-        ensures { result ≡ in_range self key.0 }
+        ensures { result ≡ is_key_in self key.0 }
     {
         self.from <= key && key <= self.to
     }

@@ -5,7 +5,7 @@ ghost use Rattle.std.specs.Prelude.{◌≡◌, OnOk, OnErr};
 ghost use Rattle.ct_keep.specs.KeeperViews.{OnlyReads, Told};
 ghost use Rattle.ct_entry.specs.Removals.{OnlyRemoves};
 ghost use Rattle.ix_context.specs.Changes.{Adds};
-ghost use Rattle.ix_context.specs.Removing.{kind_removals, remove_changes};
+ghost use Rattle.ix_context.specs.Removing.{kind_removals, index_removals};
 
 use ct_base::Name;
 use ct_entry::{Kind, remove_entries};
@@ -53,7 +53,7 @@ pub fn remove<K: Keeper>(
     index: &Name,
 ) -> Result<(), KeepFault>
     requires { (K.view keeper.old).ready }
-    ensures changes { Told K.view keeper.old (λ m. Adds batch.old batch.new result (remove_changes index.now m)) }
+    ensures changes { Told K.view keeper.old (λ m. Adds batch.old batch.new result (index_removals index.now m)) }
     ensures err { OnErr result (batch.new ≡ batch.old) }
     ensures removes { OnOk result (OnlyRemoves batch.old batch.new) }
     ensures reads { OnlyReads K.view keeper.old keeper.new result }

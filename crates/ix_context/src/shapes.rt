@@ -1,9 +1,9 @@
 //! Which entries of indexes are well shaped, each by itself.
 
-ghost use Rattle.std.specs.Prelude.{◌≡◌, ◌↔◌, ◌≤◌, ℕ, List, IfOk, IfSome, IfNone, IsTrue, MatchOption, length};
+ghost use Rattle.std.specs.Prelude.{◌≡◌, ◌↔◌, ◌≤◌, ℕ, List, IfOk, IfSome, IfNone, IsTrue, length};
 ghost use Rattle.ct_entry.specs.Keys.{span_part, IsDocument};
 ghost use Rattle.ct_entry.specs.declared.kinds.Kind.TheVariants as kind;
-ghost use Rattle.ix_context.specs.Shapes.{IsDocumentPart, IsIndexShape, IsPostingPart, IsSpanPart, IsRowFrom, IsSpanRowFrom};
+ghost use Rattle.ix_context.specs.Shapes.{IsDocumentPart, IsIndexShape, IsPostingPart, NamesSpanDocument, IsRowFrom, IsSpanRowFrom};
 
 use crate::entries::index_of;
 use ct_base::{Memory, Name};
@@ -57,7 +57,7 @@ fn posting_document(part: &[u8]) -> Option<u32>
 
 /// The first document that the rest of a key of spans names. None where the bytes are no such rest.
 fn span_document(alloc: Global, part: &[u8]) -> Result<Option<u32>, Memory>
-    ensures { IfOk result (λ found. MatchOption found ((document : ℕ) → IsDocument document → IsSpanPart part.now document → ⊥) (λ document. IsSpanPart part.now document)) }
+    ensures { IfOk result (λ found. NamesSpanDocument part.now found) }
 {
     let Some((section, document)) = text_and_document(part) else {
         return Ok(None);

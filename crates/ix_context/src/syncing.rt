@@ -2,11 +2,11 @@
 #![tactic(auto, using(ct_keep::specs::Composing::reads_on, ct_keep::specs::Composing::reads_short))]
 
 ghost use Rattle.std.specs.Prelude.{◌≡◌, ◌+◌, ◌≤◌, ◌<◌, ◌^◌, IfOk, IfSome, OnOk, OnErr, Some, Err, length, true};
-ghost use Rattle.ct_keep.specs.KeeperViews.{OnlyReads, Reads};
+ghost use Rattle.ct_keep.specs.KeeperViews.{OnlyReads, ReadsKeeper};
 ghost use Rattle.ct_entry.specs.Shapes.{AreShaped};
 ghost use Rattle.tx_settings.specs.Attributes.{can_be_set};
 ghost use Rattle.ix_context.specs.Indexes.{given, pending_rows};
-ghost use Rattle.ix_context.specs.Changes.{sync_changes, Adds, settle_row_changes, settle_rows_changes, AreSettleChanges, AreSyncChanges};
+ghost use Rattle.ix_context.specs.Changes.{sync_changes, Adds, settle_row_changes, AddsSettledRows, AreSettleChanges, AreSyncChanges};
 ghost use Rattle.ix_context.specs.Faults.{context_fault_of};
 ghost use Rattle.ix_context.specs.Rules.{most_given};
 ghost use Rattle.ix_context.specs.Sees.{ToldTables, SeesTables, ToldIndex, SeesIndex};
@@ -60,7 +60,7 @@ fn settle_rows<K: Keeper>(
     requires some { 1 ≤ first }
     requires room { first + length rows.now < 2 ^ 32 }
     requires set { can_be_set prefs.now.lexer ≡ true }
-    ensures changes { ToldTables K.view keeper.old (λ ts. Adds changes.old changes.new result (settle_rows_changes ts index.now target.now prefs.now first rows.now)) }
+    ensures changes { ToldTables K.view keeper.old (λ ts. AddsSettledRows ts index.now target.now prefs.now first rows.now changes.old changes.new result) }
     ensures shaped { KeepsShape changes.old changes.new result }
     ensures reads { OnlyReads K.view keeper.old keeper.new result }
 {
@@ -158,7 +158,7 @@ pub fn sync<K: Keeper>(
     ensures many { ToldIndex K.view keeper.old index.now (λ ts x. result ≡ Err ContextFault.TooMany → most_given < given x + length (pending_rows x)) }
     ensures err { OnErr result (batch.new ≡ batch.old) }
     ensures shaped { AreShaped HasIndexValue batch.old → AreShaped HasIndexValue batch.new }
-    ensures reads { Reads (K.view keeper.old) (K.view keeper.new) (context_fault_of result) }
+    ensures reads { ReadsKeeper (K.view keeper.old) (K.view keeper.new) (context_fault_of result) }
 {
     let found = match changes_of_sync(alloc, keeper, index) {
         Ok(found) => found,

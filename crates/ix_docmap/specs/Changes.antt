@@ -4,12 +4,12 @@ use Rattle.std.specs.Int.{to_be_bytes, w32}
 use Rattle.ct_bytes.specs.RowKeys.{row_bytes}
 use Rattle.ct_entry.specs.declared.kinds.Kind.TheVariants as kind
 use Rattle.ct_entry.specs.Keys.{Key, key, row_part, document_part}
-use Rattle.ct_entry.specs.Changes.{put, drop_key, spell}
+use Rattle.ct_entry.specs.Changes.{put_value, drop_key, spell}
 use Rattle.ct_entry.specs.Each.{each, numbered}
 
 -- the row waits
 abbrev pub queue_changes : List ℕ → ℤ → List (Key × Option (List ℕ))
-queue_changes i r = put (key kind.Pending i (row_part r)) [] ∷ []
+queue_changes i r = put_value (key kind.Pending i (row_part r)) [] ∷ []
 
 -- the row waits no more
 abbrev pub unqueue_changes : List ℕ → ℤ → List (Key × Option (List ℕ))
@@ -17,7 +17,7 @@ unqueue_changes i r = drop_key (key kind.Pending i (row_part r)) ∷ []
 
 -- the row is this document
 abbrev pub mark_changes : List ℕ → ℕ → ℤ → List (Key × Option (List ℕ))
-mark_changes i d r = put (key kind.DocumentRows i (document_part d)) (row_bytes r) ∷ put (key kind.RowDocuments i (row_part r)) (to_be_bytes w32 d) ∷ []
+mark_changes i d r = put_value (key kind.DocumentRows i (document_part d)) (row_bytes r) ∷ put_value (key kind.RowDocuments i (row_part r)) (to_be_bytes w32 d) ∷ []
 
 -- the row is this document no more
 abbrev pub unmark_changes : List ℕ → ℕ → ℤ → List (Key × Option (List ℕ))

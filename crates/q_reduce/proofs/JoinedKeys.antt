@@ -3,6 +3,7 @@ use Rattle.std.proofs.Common.{◌≡◌, ℕ, Bool, true, false, cond, List, [],
 use Rattle.std.specs.Prelude.{not, filter, ◌&&◌, ◌||◌}
 use Rattle.std.specs.List.{flat_map, list_any}
 use Rattle.std.specs.Str.{bytes_eq}
+use Rattle.std.proofs.Math.Bool.{and-false}
 use Rattle.std.proofs.lemmas.List.Folds.{list_any-append}
 use Rattle.std.proofs.lemmas.Slice.Eq.{bytes_eq-Decides}
 use Rattle.tx_stop.specs.StopKeys.{is_stop}
@@ -13,10 +14,6 @@ use Rattle.q_reduce.specs.Promises.{has_the_key, JoinedKeysAreThoseOfWords, Join
 use Rattle.q_reduce.specs.Reducing.{Context, word_keys, joined_keys}
 use Rattle.q_reduce.proofs.RisingKeys.{has_in_order, keys_in_order_rise}
 use Rattle.q_reduce.proofs.SoundSlots.{joined_keys_are_keys}
-
-and_false : (a : Bool) → (a && false) ≡ false
-and_false true = refl
-and_false false = refl
 
 -- of either of two, and not of a stopword
 either : (s a b : Bool) → ((not s && a) || (not s && b)) ≡ (not s && (a || b))
@@ -33,7 +30,7 @@ kept_step false true false r alike = refl
 kept_step false false s r alike = refl
 
 has_kept : (stop keys : List (List ℕ)) (q : List ℕ) → is_stop (filter (λ key. not (is_stop stop key)) keys) q ≡ (not (is_stop stop q) && is_stop keys q)
-has_kept stop [] q = sym (and_false (not (is_stop stop q)))
+has_kept stop [] q = sym (and-false (not (is_stop stop q)))
 has_kept stop (k ∷ keys) q =
     first (is_stop stop k) (has_kept stop keys q)
     ∙ kept_step (is_stop stop k) (bytes_eq k q) (is_stop stop q) (is_stop keys q) (λ same. ap (is_stop stop) ((bytes_eq-Decides k q).0 same))
@@ -47,11 +44,11 @@ has_joined : (x : Context) (w : Word) (q : List ℕ) → is_stop (joined_keys x 
 has_joined x w q = go (has_wildcard w.bits)
   where
     go : (b : Bool) → is_stop (cond b [] (filter (λ key. not (is_stop x.stop key)) (word_keys x w))) q ≡ (not (is_stop x.stop q) && (not b && has_key (word_keys x w) q))
-    go true = sym (and_false (not (is_stop x.stop q)))
+    go true = sym (and-false (not (is_stop x.stop q)))
     go false = has_kept x.stop (word_keys x w) q
 
 has_all : (x : Context) (ws : List Word) (q : List ℕ) → is_stop (flat_map (joined_keys x) ws) q ≡ (not (is_stop x.stop q) && list_any (has_the_key x q) ws)
-has_all x [] q = sym (and_false (not (is_stop x.stop q)))
+has_all x [] q = sym (and-false (not (is_stop x.stop q)))
 has_all x (w ∷ ws) q =
     list_any-append (λ k. bytes_eq k q) (joined_keys x w) (flat_map (joined_keys x) ws)
     ∙ ap (λ (b : Bool). b || is_stop (flat_map (joined_keys x) ws) q) (has_joined x w q)

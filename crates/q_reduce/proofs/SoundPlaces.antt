@@ -10,7 +10,7 @@ use Rattle.tx_tags.specs.Groups.{SectionGroup, is_field, field_count, is_group, 
 use Rattle.q_tree.specs.declared.flats.Place.{Place}
 use Rattle.q_tree.specs.declared.flats.Place.TheVariants.{Field, Sentence, Paragraph}
 use Rattle.q_tree.specs.Soundness.{is_place}
-use Rattle.q_reduce.specs.Reducing.{section_place, find_section, special, place_of}
+use Rattle.q_reduce.specs.Reducing.{zone_or_field, find_section, special, named_place}
 
 -- the place is sound, if there is one
 abbrev pub IsSoundPlace : Option Place → Type 0
@@ -26,7 +26,7 @@ one_field s ss is =
     omega (arith, ap (λ b. length (cond b (s ∷ fields) fields)) is)
 
 -- the place of a section, where all fields have room
-one_place : (kind : SectionKind) (stream : ℕ) (name : List ℕ) (ss : List Section) (s : Section) → s.kind ≡ kind → 1 ≤ stream → stream + field_count (s ∷ ss) ≤ 65 → is_place (section_place kind stream name) ≡ true
+one_place : (kind : SectionKind) (stream : ℕ) (name : List ℕ) (ss : List Section) (s : Section) → s.kind ≡ kind → 1 ≤ stream → stream + field_count (s ∷ ss) ≤ 65 → is_place (zone_or_field kind stream name) ≡ true
 one_place ZoneKind stream name ss s is low room = refl
 one_place FieldKind stream name ss s is low room = is_stream stream low (omega (arith, room, one_field s ss (ap is_field is)))
 one_place VisibleFieldKind stream name ss s is low room = is_stream stream low (omega (arith, room, one_field s ss (ap is_field is)))
@@ -47,8 +47,8 @@ found_place stream (s ∷ ss) name low room =
     let next = cond (is_field s.kind) (stream + 1) stream in
     go (bytes_eq s.name name) (one_place s.kind stream name ss s refl low room) (found_place next ss name (next_low (is_field s.kind) stream low) (next_room (is_field s.kind) stream ss s room))
   where
-    go : (b : Bool) → is_place (section_place s.kind stream name) ≡ true → IsSoundPlace (find_section (cond (is_field s.kind) (stream + 1) stream) ss name)
-        → IsSoundPlace (cond b (Some (section_place s.kind stream name)) (find_section (cond (is_field s.kind) (stream + 1) stream) ss name))
+    go : (b : Bool) → is_place (zone_or_field s.kind stream name) ≡ true → IsSoundPlace (find_section (cond (is_field s.kind) (stream + 1) stream) ss name)
+        → IsSoundPlace (cond b (Some (zone_or_field s.kind stream name)) (find_section (cond (is_field s.kind) (stream + 1) stream) ss name))
     go true here rest = here
     go false here rest = rest
 
@@ -60,7 +60,7 @@ few_fields : (g : SectionGroup) → is_group g ≡ true → field_count g.sectio
 few_fields g is =
     leb-true (field_count g.sections) section_limit (and_parts _ _ (and_parts _ _ (and_parts _ _ is).1).1).0
 
-pub place_sound : (g : SectionGroup) (name : List ℕ) → is_group g ≡ true → IsSoundPlace (place_of g name)
+pub place_sound : (g : SectionGroup) (name : List ℕ) → is_group g ≡ true → IsSoundPlace (named_place g name)
 place_sound g name is = go (bytes_eq name (codes "sentence")) (bytes_eq name (codes "paragraph")) (found_place 1 g.sections name (omega arith) (omega (arith, few_fields g is)))
   where
     go : (b c : Bool) → IsSoundPlace (find_section 1 g.sections name)

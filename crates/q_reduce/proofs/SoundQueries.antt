@@ -19,7 +19,7 @@ use Rattle.q_reduce.specs.declared.faults.ReduceFault.{ReduceFault}
 use Rattle.q_reduce.specs.Faults.{Fault}
 use Rattle.q_reduce.specs.Results.{Reduces}
 use Rattle.q_reduce.specs.Promises.{ReducedIsSound, IsTrimmed}
-use Rattle.q_reduce.specs.Reducing.{Context, place_slots, trimmed, phrases_of, leaf_phrases, phrases, term, right_alone, joined, has_phrase, close, place_of, within, defined, reduced}
+use Rattle.q_reduce.specs.Reducing.{Context, place_slots, trimmed, phrases_of_slots, leaf_phrases, operand_phrases, term, right_alone, joined_query, has_phrase, close, named_place, within_place, defined_query, reduced}
 use Rattle.q_reduce.proofs.SoundSlots.{all_joined, place_slots_sound}
 use Rattle.q_reduce.proofs.SoundPlaces.{IsSoundPlace, place_sound}
 use Rattle.q_reduce.proofs.TrimmedSlots.{all_trimmed, trimmed_ends}
@@ -30,7 +30,7 @@ IsSound q = IfSome q (λ r. is_sound r ≡ true)
 
 -- ---- phrases
 
-phrases_of_sound : (slots : List Slot) → IsTrimmed slots → list_all is_slot slots ≡ true → list_all is_phrase (phrases_of slots) ≡ true
+phrases_of_sound : (slots : List Slot) → IsTrimmed slots → list_all is_slot slots ≡ true → list_all is_phrase (phrases_of_slots slots) ≡ true
 phrases_of_sound [] ends all = refl
 phrases_of_sound (slot ∷ slots) ends all = and_from _ _ (and_from _ _ (and_from _ _ ends.0 ends.1) all) refl
 
@@ -40,7 +40,7 @@ leaf_sound x (Phrase places) =
     phrases_of_sound (trimmed slots) (trimmed_ends slots) (all_trimmed is_slot slots (all_joined is_slot (place_slots x) places (place_slots_sound x)))
 leaf_sound x (Thes relation words level thesaurus) = refl
 
-phrases_sound : (x : Context) (leaves : List Leaf) → list_all is_phrase (phrases x leaves) ≡ true
+phrases_sound : (x : Context) (leaves : List Leaf) → list_all is_phrase (operand_phrases x leaves) ≡ true
 phrases_sound x leaves = all_joined is_phrase (leaf_phrases x) leaves (leaf_sound x)
 
 -- phrases of which there are some are a term
@@ -59,7 +59,7 @@ right_sound Or b is = is
 right_sound Not b is = tt
 right_sound Minus b is = tt
 
-joined_sound : (op : Op) (a b : Option Reduced) → IsSound a → IsSound b → IsSound (joined op a b)
+joined_sound : (op : Op) (a b : Option Reduced) → IsSound a → IsSound b → IsSound (joined_query op a b)
 joined_sound op None None left right = tt
 joined_sound op None (Some b) left right = right_sound op b right
 joined_sound op (Some a) None left right = left
@@ -73,30 +73,30 @@ exceeding_sound : (n : ℕ) (a : Option Reduced) → nat_le n 100 ≡ true → I
 exceeding_sound n None within is = tt
 exceeding_sound n (Some a) within is = and_from _ _ within is
 
-within_sound : (place : Option Place) (a : Option Reduced) → IsSoundPlace place → IsSound a → IsSound (within place a)
+within_sound : (place : Option Place) (a : Option Reduced) → IsSoundPlace place → IsSound a → IsSound (within_place place a)
 within_sound None a known is = tt
 within_sound (Some place) None known is = tt
 within_sound (Some place) (Some a) known is = and_from _ _ known is
 
-defined_sound : (sum : List SumStep) (ps : List (List Slot)) → is_sum sum ≡ true → list_all is_phrase ps ≡ true → IsSound (defined sum ps)
+defined_sound : (sum : List SumStep) (ps : List (List Slot)) → is_sum sum ≡ true → list_all is_phrase ps ≡ true → IsSound (defined_query sum ps)
 defined_sound sum [] sums all = tt
 defined_sound sum (p ∷ ps) sums all = and_from _ _ (term_of p ps all) sums
 
 -- ---- nearness
 
-kept_sound : (x : Context) (ops : List (List Leaf)) → list_all is_term (filter has_phrase (map (phrases x) ops)) ≡ true
+kept_sound : (x : Context) (ops : List (List Leaf)) → list_all is_term (filter has_phrase (map (operand_phrases x) ops)) ≡ true
 kept_sound x [] = refl
-kept_sound x (op ∷ ops) = go (phrases x op) (phrases_sound x op) (kept_sound x ops)
+kept_sound x (op ∷ ops) = go (operand_phrases x op) (phrases_sound x op) (kept_sound x ops)
   where
-    go : (ps : List (List Slot)) → list_all is_phrase ps ≡ true → list_all is_term (filter has_phrase (map (phrases x) ops)) ≡ true → list_all is_term (filter has_phrase (ps ∷ map (phrases x) ops)) ≡ true
+    go : (ps : List (List Slot)) → list_all is_phrase ps ≡ true → list_all is_term (filter has_phrase (map (operand_phrases x) ops)) ≡ true → list_all is_term (filter has_phrase (ps ∷ map (operand_phrases x) ops)) ≡ true
     go [] all rest = rest
     go (p ∷ ps) all rest = and_from _ _ (term_of p ps all) rest
 
-kept_few : (x : Context) (ops : List (List Leaf)) → length (filter has_phrase (map (phrases x) ops)) ≤ length ops
+kept_few : (x : Context) (ops : List (List Leaf)) → length (filter has_phrase (map (operand_phrases x) ops)) ≤ length ops
 kept_few x [] = omega arith
-kept_few x (op ∷ ops) = go (phrases x op) (kept_few x ops)
+kept_few x (op ∷ ops) = go (operand_phrases x op) (kept_few x ops)
   where
-    go : (ps : List (List Slot)) → length (filter has_phrase (map (phrases x) ops)) ≤ length ops → length (filter has_phrase (ps ∷ map (phrases x) ops)) ≤ length (op ∷ ops)
+    go : (ps : List (List Slot)) → length (filter has_phrase (map (operand_phrases x) ops)) ≤ length ops → length (filter has_phrase (ps ∷ map (operand_phrases x) ops)) ≤ length (op ∷ ops)
     go [] few = omega (arith, few)
     go (p ∷ ps) few = omega (arith, few)
 
@@ -111,7 +111,7 @@ near_sound : (x : Context) (ops : List (List Leaf)) (span : ℕ) (ordered : Bool
 near_sound x ops span ordered limits =
     let parts = and_parts (is_between 2 16 (length ops) && list_all leaves_keep_limits ops) (nat_le span 100) limits in
     let few = leb-true (length ops) 16 (and_parts _ _ (and_parts (is_between 2 16 (length ops)) (list_all leaves_keep_limits ops) parts.0).0).1 in
-    close_sound span ordered (filter has_phrase (map (phrases x) ops)) parts.1 (kept_sound x ops) (omega (arith, few, kept_few x ops))
+    close_sound span ordered (filter has_phrase (map (operand_phrases x) ops)) parts.1 (kept_sound x ops) (omega (arith, few, kept_few x ops))
 
 -- ---- queries
 
@@ -127,8 +127,8 @@ reduced_is_sound x (Above n a) limits group =
     let parts = and_parts (nat_le n 100) (keeps_limits a) limits in
     exceeding_sound n (reduced x a) parts.0 (reduced_is_sound x a parts.1 group)
 reduced_is_sound x (Nearness ops span ordered) limits group = near_sound x ops span ordered limits
-reduced_is_sound x (InSection name a) limits group = within_sound (place_of x.group name) (reduced x a) (place_sound x.group name group) (reduced_is_sound x a limits group)
-reduced_is_sound x (ScoredBy leaves sum) limits group = defined_sound sum (phrases x leaves) (and_parts (leaves_keep_limits leaves) (is_sum sum) limits).1 (phrases_sound x leaves)
+reduced_is_sound x (InSection name a) limits group = within_sound (named_place x.group name) (reduced x a) (place_sound x.group name group) (reduced_is_sound x a limits group)
+reduced_is_sound x (ScoredBy leaves sum) limits group = defined_sound sum (operand_phrases x leaves) (and_parts (leaves_keep_limits leaves) (is_sum sum) limits).1 (phrases_sound x leaves)
 
 -- ---- answers
 

@@ -16,7 +16,7 @@ use Rattle.q_tree.specs.declared.flats.PatternBit.{PatternBit}
 use Rattle.q_tree.specs.declared.flats.Slot.TheVariants.{Any, Takes}
 use Rattle.q_tree.specs.declared.queries.Word.{Word}
 use Rattle.q_tree.specs.Limits.{has_wildcard}
-use Rattle.q_tree.specs.Soundness.{is_key, keys_rise, is_slot}
+use Rattle.q_tree.specs.Soundness.{is_key, slot_keys_rise, is_slot}
 use Rattle.q_reduce.specs.Reducing.{Context, word_text, word_keys, key_slot, pattern, word_slots, joined_keys, joined_patterns, in_order, slot_of, joined_slot, place_slots}
 use Rattle.q_reduce.proofs.RisingKeys.{keys_in_order_rise, all_in_order}
 
@@ -71,7 +71,7 @@ word_slots_sound x w = go (has_wildcard w.bits)
     go true = refl
     go false = key_slots_sound x (word_keys x w) (word_keys_are_keys x w)
 
-slot_of_sound : (keys : List (List ℕ)) (patterns : List (List PatternBit)) → keys_rise keys ≡ true → list_all is_key keys ≡ true → is_slot (slot_of keys patterns) ≡ true
+slot_of_sound : (keys : List (List ℕ)) (patterns : List (List PatternBit)) → slot_keys_rise keys ≡ true → list_all is_key keys ≡ true → is_slot (slot_of keys patterns) ≡ true
 slot_of_sound [] [] rise all = refl
 slot_of_sound [] (p ∷ ps) rise all = and_from _ _ (and_from _ _ (le-leb 1 (length {A = List ℕ} [] + length (p ∷ ps)) (omega arith)) refl) refl
 slot_of_sound (k ∷ ks) ps rise all = and_from _ _ (and_from _ _ (le-leb 1 (length (k ∷ ks) + length ps) (omega arith)) rise) all

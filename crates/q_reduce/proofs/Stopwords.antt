@@ -15,8 +15,8 @@ use Rattle.q_tree.specs.declared.queries.Word.{Word}
 use Rattle.q_tree.specs.Limits.{has_wildcard}
 use Rattle.q_tree.specs.Soundness.{takes_some}
 use Rattle.q_tree.specs.Trees.{Single, Both, Weight, Above, Nearness, InSection, ScoredBy, Weighted, Exceeding}
-use Rattle.q_reduce.specs.Promises.{leaf_words, query_words, is_stopword, StopwordsFindNothing}
-use Rattle.q_reduce.specs.Reducing.{Context, word_keys, pattern, key_slot, word_slots, joined_keys, joined_patterns, in_order, slot_of, joined_slot, place_slots, front_dropped, end_dropped, phrases_of, leaf_phrases, phrases, term, joined, has_phrase, close, place_of, within, defined, reduced}
+use Rattle.q_reduce.specs.Promises.{leaf_words, query_words, has_only_stopwords, StopwordsFindNothing}
+use Rattle.q_reduce.specs.Reducing.{Context, word_keys, pattern, key_slot, word_slots, joined_keys, joined_patterns, in_order, slot_of, joined_slot, place_slots, front_dropped, end_dropped, phrases_of_slots, leaf_phrases, operand_phrases, term, joined_query, has_phrase, close, named_place, within_place, defined_query, reduced}
 
 -- ---- lists
 
@@ -51,7 +51,7 @@ any_keys x (key ∷ keys) all =
     let parts = and_parts (is_stop x.stop key) (list_all (is_stop x.stop) keys) all in
     and_from _ _ (ap (λ b. is_any (cond b Any (Takes (key ∷ []) []))) parts.0) (any_keys x keys parts.1)
 
-any_word : (x : Context) (w : Word) → is_stopword x w ≡ true → list_all is_any (word_slots x w) ≡ true
+any_word : (x : Context) (w : Word) → has_only_stopwords x w ≡ true → list_all is_any (word_slots x w) ≡ true
 any_word x w stop = go (has_wildcard w.bits) stop
   where
     go : (b : Bool) → (not b && list_all (is_stop x.stop) (word_keys x w)) ≡ true → list_all is_any (cond b (Takes [] (pattern x w ∷ []) ∷ []) (map (key_slot x) (word_keys x w))) ≡ true
@@ -64,28 +64,28 @@ none_kept x (key ∷ keys) all =
     let parts = and_parts (is_stop x.stop key) (list_all (is_stop x.stop) keys) all in
     ap (λ b. cond (not b) (key ∷ filter (λ k. not (is_stop x.stop k)) keys) (filter (λ k. not (is_stop x.stop k)) keys)) parts.0 ∙ none_kept x keys parts.1
 
-no_keys : (x : Context) (w : Word) → is_stopword x w ≡ true → joined_keys x w ≡ []
+no_keys : (x : Context) (w : Word) → has_only_stopwords x w ≡ true → joined_keys x w ≡ []
 no_keys x w stop = go (has_wildcard w.bits) stop
   where
     go : (b : Bool) → (not b && list_all (is_stop x.stop) (word_keys x w)) ≡ true → cond b [] (filter (λ key. not (is_stop x.stop key)) (word_keys x w)) ≡ []
     go true stop = refl
     go false stop = none_kept x (word_keys x w) stop
 
-no_patterns : (x : Context) (w : Word) → is_stopword x w ≡ true → joined_patterns x w ≡ []
+no_patterns : (x : Context) (w : Word) → has_only_stopwords x w ≡ true → joined_patterns x w ≡ []
 no_patterns x w stop = go (has_wildcard w.bits) stop
   where
     go : (b : Bool) → (not b && list_all (is_stop x.stop) (word_keys x w)) ≡ true → cond b (pattern x w ∷ []) [] ≡ []
     go true stop = absurd (cc)
     go false stop = refl
 
-any_joined : (x : Context) (ws : List Word) → list_all (is_stopword x) ws ≡ true → joined_slot x ws ≡ Any
+any_joined : (x : Context) (ws : List Word) → list_all (has_only_stopwords x) ws ≡ true → joined_slot x ws ≡ Any
 any_joined x ws stop =
-    ap (λ keys. slot_of (in_order keys) (flat_map (joined_patterns x) ws)) (none_joined (joined_keys x) (is_stopword x) ws (no_keys x) stop)
-    ∙ ap (slot_of []) (none_joined (joined_patterns x) (is_stopword x) ws (no_patterns x) stop)
+    ap (λ keys. slot_of (in_order keys) (flat_map (joined_patterns x) ws)) (none_joined (joined_keys x) (has_only_stopwords x) ws (no_keys x) stop)
+    ∙ ap (slot_of []) (none_joined (joined_patterns x) (has_only_stopwords x) ws (no_patterns x) stop)
 
-any_place : (x : Context) (ws : List Word) → list_all (is_stopword x) ws ≡ true → list_all is_any (place_slots x ws) ≡ true
+any_place : (x : Context) (ws : List Word) → list_all (has_only_stopwords x) ws ≡ true → list_all is_any (place_slots x ws) ≡ true
 any_place x [] stop = refl
-any_place x (w ∷ []) stop = any_word x w (and_parts (is_stopword x w) true stop).0
+any_place x (w ∷ []) stop = any_word x w (and_parts (has_only_stopwords x w) true stop).0
 any_place x (w ∷ v ∷ ws) stop = ap (λ slot. list_all is_any (slot ∷ [])) (any_joined x (w ∷ v ∷ ws) stop)
 
 none_left : (slots : List Slot) → list_all is_any slots ≡ true → front_dropped slots ≡ []
@@ -95,36 +95,36 @@ none_left (Takes keys patterns ∷ slots) all = absurd (cc)
 
 -- ---- phrases
 
-no_phrase : (x : Context) (leaf : Leaf) → list_all (is_stopword x) (leaf_words leaf) ≡ true → leaf_phrases x leaf ≡ []
+no_phrase : (x : Context) (leaf : Leaf) → list_all (has_only_stopwords x) (leaf_words leaf) ≡ true → leaf_phrases x leaf ≡ []
 no_phrase x (Phrase places) stop =
-    let each = each_list (is_stopword x) (λ (words : List Word). words) places stop in
-    let any = all_joined_where is_any (place_slots x) (list_all (is_stopword x)) places (any_place x) each in
-    ap (λ slots. phrases_of (end_dropped slots)) (none_left (flat_map (place_slots x) places) any)
+    let each = each_list (has_only_stopwords x) (λ (words : List Word). words) places stop in
+    let any = all_joined_where is_any (place_slots x) (list_all (has_only_stopwords x)) places (any_place x) each in
+    ap (λ slots. phrases_of_slots (end_dropped slots)) (none_left (flat_map (place_slots x) places) any)
 no_phrase x (Thes relation words level thesaurus) stop = refl
 
-no_phrases : (x : Context) (leaves : List Leaf) → list_all (is_stopword x) (flat_map leaf_words leaves) ≡ true → phrases x leaves ≡ []
+no_phrases : (x : Context) (leaves : List Leaf) → list_all (has_only_stopwords x) (flat_map leaf_words leaves) ≡ true → operand_phrases x leaves ≡ []
 no_phrases x leaves stop =
-    none_joined (leaf_phrases x) (λ leaf. list_all (is_stopword x) (leaf_words leaf)) leaves (no_phrase x) (each_list (is_stopword x) leaf_words leaves stop)
+    none_joined (leaf_phrases x) (λ leaf. list_all (has_only_stopwords x) (leaf_words leaf)) leaves (no_phrase x) (each_list (has_only_stopwords x) leaf_words leaves stop)
 
-no_operand : (x : Context) (ops : List (List Leaf)) → list_all (λ leaves. list_all (is_stopword x) (flat_map leaf_words leaves)) ops ≡ true → filter has_phrase (map (phrases x) ops) ≡ []
+no_operand : (x : Context) (ops : List (List Leaf)) → list_all (λ leaves. list_all (has_only_stopwords x) (flat_map leaf_words leaves)) ops ≡ true → filter has_phrase (map (operand_phrases x) ops) ≡ []
 no_operand x [] stop = refl
 no_operand x (op ∷ ops) stop =
-    let parts = and_parts (list_all (is_stopword x) (flat_map leaf_words op)) (list_all (λ leaves. list_all (is_stopword x) (flat_map leaf_words leaves)) ops) stop in
-    ap (λ ps. filter has_phrase (ps ∷ map (phrases x) ops)) (no_phrases x op parts.0) ∙ no_operand x ops parts.1
+    let parts = and_parts (list_all (has_only_stopwords x) (flat_map leaf_words op)) (list_all (λ leaves. list_all (has_only_stopwords x) (flat_map leaf_words leaves)) ops) stop in
+    ap (λ ps. filter has_phrase (ps ∷ map (operand_phrases x) ops)) (no_phrases x op parts.0) ∙ no_operand x ops parts.1
 
 -- ---- queries
 
-within_none : (place : Option Place) → within place None ≡ None
+within_none : (place : Option Place) → within_place place None ≡ None
 within_none None = refl
 within_none (Some place) = refl
 
 pub stopwords_find_nothing : StopwordsFindNothing
 stopwords_find_nothing x (Single leaf) stop = ap term (no_phrase x leaf stop)
 stopwords_find_nothing x (Both op a b) stop =
-    let parts = and_parts (list_all (is_stopword x) (query_words a)) (list_all (is_stopword x) (query_words b)) (sym (list_all-append (is_stopword x) (query_words a) (query_words b)) ∙ stop) in
-    ap (λ q. joined op q (reduced x b)) (stopwords_find_nothing x a parts.0) ∙ ap (joined op None) (stopwords_find_nothing x b parts.1)
+    let parts = and_parts (list_all (has_only_stopwords x) (query_words a)) (list_all (has_only_stopwords x) (query_words b)) (sym (list_all-append (has_only_stopwords x) (query_words a) (query_words b)) ∙ stop) in
+    ap (λ q. joined_query op q (reduced x b)) (stopwords_find_nothing x a parts.0) ∙ ap (joined_query op None) (stopwords_find_nothing x b parts.1)
 stopwords_find_nothing x (Weight tenths a) stop = ap (option_map (Weighted tenths)) (stopwords_find_nothing x a stop)
 stopwords_find_nothing x (Above n a) stop = ap (option_map (Exceeding n)) (stopwords_find_nothing x a stop)
-stopwords_find_nothing x (Nearness ops span ordered) stop = ap (close span ordered) (no_operand x ops (each_list (is_stopword x) (flat_map leaf_words) ops stop))
-stopwords_find_nothing x (InSection name a) stop = ap (within (place_of x.group name)) (stopwords_find_nothing x a stop) ∙ within_none (place_of x.group name)
-stopwords_find_nothing x (ScoredBy leaves sum) stop = ap (defined sum) (no_phrases x leaves stop)
+stopwords_find_nothing x (Nearness ops span ordered) stop = ap (close span ordered) (no_operand x ops (each_list (has_only_stopwords x) (flat_map leaf_words) ops stop))
+stopwords_find_nothing x (InSection name a) stop = ap (within_place (named_place x.group name)) (stopwords_find_nothing x a stop) ∙ within_none (named_place x.group name)
+stopwords_find_nothing x (ScoredBy leaves sum) stop = ap (defined_query sum) (no_phrases x leaves stop)

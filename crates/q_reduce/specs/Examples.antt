@@ -19,7 +19,7 @@ use Rattle.q_tree.specs.declared.queries.Leaf.TheVariants.{Phrase}
 use Rattle.q_tree.specs.declared.queries.Op.TheVariants.{And, Not}
 use Rattle.q_tree.specs.Trees.{Single, Both, Weight, Nearness, InSection, Term, Inside}
 use Rattle.q_reduce.specs.Reducing.{Context, trimmed, reduced}
-use Rattle.q_reduce.specs.Promises.{slot_keys, query_words, is_stopword}
+use Rattle.q_reduce.specs.Promises.{slot_keys, query_words, has_only_stopwords}
 use Rattle.q_reduce.specs.Faults.{faults, NoSection, FieldInside, ManyTokens}
 
 -- an index with the stopword `is` and the zones p and q and the field t
@@ -107,7 +107,7 @@ unfolding encode chars caseless ucd_category key_text
 keys_of_equiv = refl
 
 -- `is NOT is` has no other word
-stopwords_alone : list_all (is_stopword its) (query_words (Both Not (Single (leaf 1 (codes "is"))) (Single (leaf 8 (codes "is"))))) ≡ true
+stopwords_alone : list_all (has_only_stopwords its) (query_words (Both Not (Single (leaf 1 (codes "is"))) (Single (leaf 8 (codes "is"))))) ≡ true
 unfolding encode chars caseless ucd_category key_text
 stopwords_alone = refl
 

@@ -1,15 +1,15 @@
 -- Why a query can't be reduced for an index.
-use Rattle.std.specs.Prelude.{ℕ, ◌==◌, Bool, true, ◌||◌, List, [], ◌∷◌, ◌++◌, length, Option, Some, None}
+use Rattle.std.specs.Prelude.{ℕ, ◌≡◌, ◌==◌, Bool, true, false, ◌||◌, List, [], ◌∷◌, ◌++◌, length, Option, Some, None, refl}
 use Rattle.std.specs.Bool.{if◌then◌else◌}
 use Rattle.std.specs.List.{flat_map}
 use Rattle.q_tree.specs.declared.flats.Place.{Place}
-use Rattle.q_tree.specs.declared.flats.Place.TheVariants.{Field}
+use Rattle.q_tree.specs.declared.flats.Place.TheVariants.{Zone, Field}
 use Rattle.q_tree.specs.declared.queries.Word.{Word}
 use Rattle.q_tree.specs.declared.queries.Leaf.{Leaf}
 use Rattle.q_tree.specs.declared.queries.Leaf.TheVariants.{Phrase, Thes}
 use Rattle.q_tree.specs.Limits.{has_wildcard}
 use Rattle.q_tree.specs.Trees.{Tree, Single, Both, Weight, Above, Nearness, InSection, ScoredBy}
-use Rattle.q_reduce.specs.Reducing.{Context, word_keys, place_of}
+use Rattle.q_reduce.specs.Reducing.{Context, word_keys, named_place}
 
 -- The group has no section of the name; a field stands inside another WITHIN; a word that EQUIV joins, at this place, isn't one token.
 pub data Fault : Type 0 where
@@ -35,6 +35,9 @@ leaf_faults x (Thes relation words level thesaurus) = []
 abbrev pub leaves_faults : Context → List Leaf → List Fault
 leaves_faults x leaves = flat_map (leaf_faults x) leaves
 
+abbrev pub operands_faults : Context → List (List Leaf) → List Fault
+operands_faults x operands = flat_map (leaves_faults x) operands
+
 -- ---- sections
 
 -- a section's fault stands at its name; `inside` tells whether another WITHIN stands around it
@@ -51,6 +54,21 @@ faults x inside (Single leaf) = leaf_faults x leaf
 faults x inside (Both op a b) = faults x inside a ++ faults x inside b
 faults x inside (Weight tenths a) = faults x inside a
 faults x inside (Above n a) = faults x inside a
-faults x inside (Nearness operands span ordered) = flat_map (leaves_faults x) operands
-faults x inside (InSection name a) = faults x true a ++ section_faults inside name (place_of x.group name)
+faults x inside (Nearness operands span ordered) = operands_faults x operands
+faults x inside (InSection name a) = faults x true a ++ section_faults inside name (named_place x.group name)
 faults x inside (ScoredBy leaves sum) = leaves_faults x leaves
+
+-- ---- computed examples; those of whole queries are in `Examples.antt`
+
+-- a word that stands by itself may have any number of tokens
+word_alone : (x : Context) (w : Word) → place_faults x (w ∷ []) ≡ []
+word_alone x w = refl
+
+field_outside : (name : List ℕ) → section_faults false name (Some (Field 1)) ≡ []
+field_outside name = refl
+
+field_inside : (name : List ℕ) → section_faults true name (Some (Field 1)) ≡ FieldInside name ∷ []
+field_inside name = refl
+
+zone_inside : (name : List ℕ) → section_faults true name (Some (Zone name)) ≡ []
+zone_inside name = refl

@@ -1,5 +1,5 @@
 -- What the laws of reduction say.
-use Rattle.std.specs.Prelude.{None, ℕ, ◌≡◌, Bool, true, not, ◌&&◌, List, [], ◌∷◌, ◌++◌, IfSome}
+use Rattle.std.specs.Prelude.{None, ℕ, ◌≡◌, Bool, true, false, not, ◌&&◌, List, [], ◌∷◌, ◌++◌, IfSome, refl}
 use Rattle.std.specs.List.{list_all, list_any, flat_map}
 use lib.ListN.{replicate}
 use Rattle.tx_tags.specs.Groups.{is_group}
@@ -11,7 +11,7 @@ use Rattle.q_tree.specs.declared.queries.Leaf.{Leaf}
 use Rattle.q_tree.specs.declared.queries.Leaf.TheVariants.{Phrase, Thes}
 use Rattle.q_tree.specs.Limits.{has_wildcard, keeps_limits}
 use Rattle.q_tree.specs.Slots.{has_key}
-use Rattle.q_tree.specs.Soundness.{keys_rise, takes_some, ends_well, is_sound}
+use Rattle.q_tree.specs.Soundness.{slot_keys_rise, takes_some, ends_well, is_sound}
 use Rattle.q_tree.specs.Trees.{Tree, Single, Both, Weight, Above, Nearness, InSection, ScoredBy}
 use Rattle.q_reduce.specs.Reducing.{Context, word_keys, joined_keys, in_order, trimmed, reduced}
 
@@ -33,7 +33,7 @@ JoinedKeysAreThoseOfWords = (x : Context) (ws : List Word) (key : List ℕ) → 
 
 -- and its keys rise, each once.
 abbrev pub JoinedKeysRise : Type 0
-JoinedKeysRise = (x : Context) (ws : List Word) → keys_rise (slot_keys x ws) ≡ true
+JoinedKeysRise = (x : Context) (ws : List Word) → slot_keys_rise (slot_keys x ws) ≡ true
 
 -- From slots nothing is dropped but Any, at the front and at the end.
 abbrev pub DropsOnlyAny : List Slot → Type 0
@@ -68,9 +68,21 @@ query_words (InSection name a) = query_words a
 query_words (ScoredBy leaves sum) = flat_map leaf_words leaves
 
 -- whether all tokens of the word are stopwords
-abbrev pub is_stopword : Context → Word → Bool
-is_stopword x w = not (has_wildcard w.bits) && list_all (is_stop x.stop) (word_keys x w)
+abbrev pub has_only_stopwords : Context → Word → Bool
+has_only_stopwords x w = not (has_wildcard w.bits) && list_all (is_stop x.stop) (word_keys x w)
 
 -- A query of stopwords alone finds nothing.
 abbrev pub StopwordsFindNothing : Type 0
-StopwordsFindNothing = (x : Context) (t : Tree) → list_all (is_stopword x) (query_words t) ≡ true → reduced x t ≡ None
+StopwordsFindNothing = (x : Context) (t : Tree) → list_all (has_only_stopwords x) (query_words t) ≡ true → reduced x t ≡ None
+
+-- ---- computed examples
+
+-- Any alone is dropped once
+any_alone : DropsOnlyAny (Any ∷ [])
+any_alone = (1, 0, refl)
+
+not_trimmed : (slot : Slot) → IsTrimmed (Any ∷ slot ∷ []) → false ≡ true
+not_trimmed slot is = is.0
+
+words_of_places : (u v w : Word) → leaf_words (Phrase ((u ∷ v ∷ []) ∷ (w ∷ []) ∷ [])) ≡ u ∷ v ∷ w ∷ []
+words_of_places u v w = refl

@@ -1,5 +1,5 @@
 -- How a query is reduced for an index: words become keys, stopwords take any word, and what has nothing to find falls away.
-use Rattle.std.specs.Prelude.{ℕ, ◌+◌, Bool, true, false, not, List, [], ◌∷◌, ◌++◌, map, filter, bytes_eq, Option, Some, None, codes}
+use Rattle.std.specs.Prelude.{ℕ, ◌≡◌, ◌+◌, Bool, true, false, not, List, [], ◌∷◌, ◌++◌, map, filter, bytes_eq, Option, Some, None, codes, refl}
 use Rattle.std.specs.Bool.{if◌then◌else◌}
 use Rattle.std.specs.List.{flat_map}
 use Rattle.std.specs.Option.{option_map}
@@ -116,18 +116,18 @@ abbrev pub trimmed : List Slot → List Slot
 trimmed slots = end_dropped (front_dropped slots)
 
 -- a phrase without slots is none
-abbrev pub phrases_of : List Slot → List (List Slot)
-phrases_of [] = []
-phrases_of (slot ∷ slots) = (slot ∷ slots) ∷ []
+abbrev pub phrases_of_slots : List Slot → List (List Slot)
+phrases_of_slots [] = []
+phrases_of_slots (slot ∷ slots) = (slot ∷ slots) ∷ []
 
 -- The phrases of a leaf: none or one. Thesauri aren't built, so an operator of theirs has none.
 abbrev pub leaf_phrases : Context → Leaf → List (List Slot)
-leaf_phrases x (Phrase places) = phrases_of (trimmed (flat_map (place_slots x) places))
+leaf_phrases x (Phrase places) = phrases_of_slots (trimmed (flat_map (place_slots x) places))
 leaf_phrases x (Thes relation words level thesaurus) = []
 
 -- the phrases of an operand
-abbrev pub phrases : Context → List Leaf → List (List Slot)
-phrases x leaves = flat_map (leaf_phrases x) leaves
+abbrev pub operand_phrases : Context → List Leaf → List (List Slot)
+operand_phrases x leaves = flat_map (leaf_phrases x) leaves
 
 -- ---- operators over what may be nothing
 
@@ -145,16 +145,20 @@ right_alone Minus b = None
 
 -- AND and OR with one side nothing are the other; NOT and MINUS with the right side nothing are the left, and with the left side
 -- nothing they are nothing.
-abbrev pub joined : Op → Option Reduced → Option Reduced → Option Reduced
-joined op None None = None
-joined op None (Some b) = right_alone op b
-joined op (Some a) None = Some a
-joined op (Some a) (Some b) = Some (Joined op a b)
+abbrev pub joined_query : Op → Option Reduced → Option Reduced → Option Reduced
+joined_query op None None = None
+joined_query op None (Some b) = right_alone op b
+joined_query op (Some a) None = Some a
+joined_query op (Some a) (Some b) = Some (Joined op a b)
 
 -- whether an operand has a phrase
 abbrev pub has_phrase : List (List Slot) → Bool
 has_phrase [] = false
 has_phrase (p ∷ ps) = true
+
+-- the phrases of each operand that has some
+abbrev pub kept_operands : Context → List (List Leaf) → List (List (List Slot))
+kept_operands x operands = filter has_phrase (map (operand_phrases x) operands)
 
 -- Of NEAR the operands that are nothing are dropped; one that is left is itself, and without any it is nothing.
 abbrev pub close : ℕ → Bool → List (List (List Slot)) → Option Reduced
@@ -165,43 +169,60 @@ close span ordered (o ∷ p ∷ os) = Some (Close (o ∷ p ∷ os) span ordered)
 -- ---- sections
 
 -- a zone by its name, a field by its stream
-abbrev pub section_place : SectionKind → ℕ → List ℕ → Place
-section_place ZoneKind stream name = Zone name
-section_place kind stream name = Field stream
+abbrev pub zone_or_field : SectionKind → ℕ → List ℕ → Place
+zone_or_field ZoneKind stream name = Zone name
+zone_or_field kind stream name = Field stream
 
 -- the section of a name, where the next field has this stream
 abbrev pub find_section : ℕ → List Section → List ℕ → Option Place
 find_section stream [] name = None
 find_section stream (s ∷ ss) name =
-    if bytes_eq s.name name then Some (section_place s.kind stream name)
+    if bytes_eq s.name name then Some (zone_or_field s.kind stream name)
     else find_section (if is_field s.kind then stream + 1 else stream) ss name
 
 abbrev pub special : Bool → Place → Option Place
 special has_it place = if has_it then Some place else None
 
 -- what a name says in WITHIN: sentences and paragraphs where the group has them, else a section
-abbrev pub place_of : SectionGroup → List ℕ → Option Place
-place_of g name =
+abbrev pub named_place : SectionGroup → List ℕ → Option Place
+named_place g name =
     if bytes_eq name (codes "sentence") then special g.sentence Sentence
     else (if bytes_eq name (codes "paragraph") then special g.paragraph Paragraph
     else find_section 1 g.sections name)
 
-abbrev pub within : Option Place → Option Reduced → Option Reduced
-within None q = None
-within (Some place) q = option_map (Inside place) q
+abbrev pub within_place : Option Place → Option Reduced → Option Reduced
+within_place None q = None
+within_place (Some place) q = option_map (Inside place) q
 
-abbrev pub defined : List SumStep → List (List Slot) → Option Reduced
-defined sum [] = None
-defined sum (p ∷ ps) = Some (Defined (p ∷ ps) sum)
+abbrev pub defined_query : List SumStep → List (List Slot) → Option Reduced
+defined_query sum [] = None
+defined_query sum (p ∷ ps) = Some (Defined (p ∷ ps) sum)
 
 -- ---- queries
 
 -- THE REDUCED QUERY. None is a query that finds nothing. What it is where the query has a fault doesn't matter.
 abbrev pub reduced : Context → Tree → Option Reduced
 reduced x (Single leaf) = term (leaf_phrases x leaf)
-reduced x (Both op a b) = joined op (reduced x a) (reduced x b)
+reduced x (Both op a b) = joined_query op (reduced x a) (reduced x b)
 reduced x (Weight tenths a) = option_map (Weighted tenths) (reduced x a)
 reduced x (Above n a) = option_map (Exceeding n) (reduced x a)
-reduced x (Nearness operands span ordered) = close span ordered (filter has_phrase (map (phrases x) operands))
-reduced x (InSection name a) = within (place_of x.group name) (reduced x a)
-reduced x (ScoredBy leaves sum) = defined sum (phrases x leaves)
+reduced x (Nearness operands span ordered) = close span ordered (kept_operands x operands)
+reduced x (InSection name a) = within_place (named_place x.group name) (reduced x a)
+reduced x (ScoredBy leaves sum) = defined_query sum (operand_phrases x leaves)
+
+-- ---- computed examples; those of whole queries are in `Examples.antt`
+
+nothing_and_a_part : (q : Reduced) → joined_query And None (Some q) ≡ Some q
+nothing_and_a_part q = refl
+
+nothing_minus_a_part : (q : Reduced) → joined_query Minus None (Some q) ≡ None
+nothing_minus_a_part q = refl
+
+one_operand_left : (p : List Slot) → close 5 true ((p ∷ []) ∷ []) ≡ Some (Term (p ∷ []))
+one_operand_left p = refl
+
+any_between : trimmed (Any ∷ Takes [] [] ∷ Any ∷ Takes [] [] ∷ Any ∷ []) ≡ Takes [] [] ∷ Any ∷ Takes [] [] ∷ []
+any_between = refl
+
+no_such_sentences : special false Sentence ≡ None
+no_such_sentences = refl

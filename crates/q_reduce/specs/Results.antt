@@ -1,5 +1,5 @@
 -- What the calls of reduction answer.
-use Rattle.std.specs.Prelude.{◌≡◌, List, [], ◌∷◌, Option, Some, None, Result, Ok, Err}
+use Rattle.std.specs.Prelude.{◌≡◌, List, [], ◌∷◌, ◌++◌, Option, Some, None, Result, Ok, Err, refl}
 use Rattle.std.specs.Option.{option_map}
 use Rattle.q_tree.specs.declared.flats.Flat.{Flat}
 use Rattle.q_tree.specs.Trees.{Reduced, reduced_of}
@@ -29,6 +29,19 @@ abbrev pub Answers : {X : Type 0} → Result X ReduceFault → List Fault → (X
 Answers (Ok x) fs is_so = (fs ≡ []) × is_so x
 Answers (Err fault) fs is_so = IsFirst fault fs
 
+-- There are none of these faults, and behind the elements that there were stand these; or what is answered is the first fault.
+abbrev pub PutsMore : {X Y : Type 0} → Result X ReduceFault → List Fault → List Y → List Y → List Y → Type 0
+PutsMore result fs old new more = Answers result fs (λ _. new ≡ old ++ more)
+
 -- The query has no fault, and this is what it is reduced to; or this is its first fault.
 abbrev pub Reduces : Result (Option Flat) ReduceFault → List Fault → Option Reduced → Type 0
 Reduces result fs q = Answers result fs (λ found. option_map reduced_of found ≡ q)
+
+-- ---- computed examples
+
+first_of_two : (f g : Fault) → first_fault (f ∷ g ∷ []) ≡ Some f
+first_of_two f g = refl
+
+-- where there is a fault, no value is answered
+no_value : (f : Fault) (x : Option Flat) → Reduces (Ok x) (f ∷ []) None → f ∷ [] ≡ []
+no_value f x answer = answer.0

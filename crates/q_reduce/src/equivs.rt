@@ -2,7 +2,7 @@
 
 ghost use Rattle.std.specs.Prelude.{◌≡◌, ◌++◌, [], ◌∷◌, true, false};
 ghost use Rattle.std.specs.List.{list_all, flat_map};
-ghost use Rattle.q_tree.specs.Limits.{has_wildcard, is_short};
+ghost use Rattle.q_tree.specs.Limits.{has_wildcard, word_keeps_limit};
 ghost use Rattle.q_reduce.specs.Faults.{word_faults};
 ghost use Rattle.q_reduce.specs.Reducing.{joined_keys, joined_patterns, joined_slot, slot_of, word_keys};
 ghost use Rattle.q_reduce.specs.Results.{Answers, context_of};
@@ -23,7 +23,7 @@ pub(crate) fn joined_slot(
     ctx: &ReduceCtx<'_>,
     words: &[Word],
 ) -> Result<Slot, ReduceFault>
-    requires { list_all is_short words.now ≡ true }
+    requires { list_all word_keeps_limit words.now ≡ true }
     ensures { Answers result (flat_map (word_faults (context_of ctx.now)) words.now) (λ slot. slot ≡ joined_slot (context_of ctx.now) words.now) }
 {
     let mut keys = Vec::new(alloc);
@@ -58,7 +58,7 @@ fn put_joined(
     patterns: &mut Vec<Pattern>,
     word: &Word,
 ) -> Result<(), ReduceFault>
-    requires { is_short word.now ≡ true }
+    requires { word_keeps_limit word.now ≡ true }
     ensures { Answers result (word_faults (context_of ctx.now) word.now) (λ _.
         (keys.new.items ≡ keys.old.items ++ joined_keys (context_of ctx.now) word.now)
         × (patterns.new.items ≡ patterns.old.items ++ joined_patterns (context_of ctx.now) word.now)) }
@@ -76,7 +76,7 @@ fn put_joined(
 
 /// The key of a word without wildcards, which must have exactly one token.
 fn only_key(alloc: Global, ctx: &ReduceCtx<'_>, word: &Word) -> Result<Key, ReduceFault>
-    requires short { is_short word.now ≡ true }
+    requires short { word_keeps_limit word.now ≡ true }
     requires plain { has_wildcard word.now.bits ≡ false }
     ensures { Answers result (word_faults (context_of ctx.now) word.now) (λ key. word_keys (context_of ctx.now) word.now ≡ key ∷ []) }
 {

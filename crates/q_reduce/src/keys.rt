@@ -1,7 +1,7 @@
 //! Keys in rising order, each once.
 
 ghost use Rattle.std.specs.Prelude.{◌≡◌, ◌≤◌, IfOk, OnOk, bytes_eq, length};
-ghost use Rattle.tx_stop.specs.StopKeys.{is_stop, place_of, with_key};
+ghost use Rattle.tx_stop.specs.StopKeys.{is_stop, key_place, with_key};
 ghost use Rattle.q_reduce.specs.Reducing.{in_order};
 
 use ct_base::Memory;
@@ -27,7 +27,7 @@ fn put_key(keys: &mut Vec<Key>, key: Key) -> Result<(), Memory>
     if key.as_slice().is_empty() || has_key(keys.as_slice(), &key) {
         return Ok(());
     }
-    let place = place_of(keys.as_slice(), &key);
+    let place = key_place(keys.as_slice(), &key);
     keys.insert(place, key)?;
     Ok(())
 }
@@ -45,8 +45,8 @@ fn is_same(a: &Key, b: &Key) -> bool
 }
 
 /// How many of the keys at the beginning are less.
-fn place_of(keys: &[Key], key: &Key) -> usize
-    ensures place { result ≡ place_of key.now keys.now }
+fn key_place(keys: &[Key], key: &Key) -> usize
+    ensures place { result ≡ key_place key.now keys.now }
     ensures within { result ≤ length keys.now }
 {
     let mut place = 0;

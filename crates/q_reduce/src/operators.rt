@@ -3,7 +3,7 @@
 ghost use Rattle.std.specs.Prelude.{◌≡◌, IfOk};
 ghost use Rattle.std.specs.Option.{option_map};
 ghost use Rattle.q_tree.specs.Trees.{reduced_of, Joined, Weighted, Exceeding, Inside};
-ghost use Rattle.q_reduce.specs.Reducing.{close, defined, joined, right_alone, term};
+ghost use Rattle.q_reduce.specs.Reducing.{close, defined_query, joined_query, right_alone, term};
 
 use ct_base::{Listed, Memory};
 use q_tree::{Flat, Op, Phrase, Phrases, Place, SumStep};
@@ -46,13 +46,13 @@ fn right_alone(op: Op, b: Flat) -> Option<Flat>
 }
 
 /// What an operator makes of its sides, either of which may be nothing.
-pub(crate) fn joined(
+pub(crate) fn joined_query(
     alloc: Global,
     op: Op,
     a: Option<Flat>,
     b: Option<Flat>,
 ) -> Result<Option<Flat>, Memory>
-    ensures { IfOk result (λ q. option_map reduced_of q ≡ joined op (option_map reduced_of a) (option_map reduced_of b)) }
+    ensures { IfOk result (λ q. option_map reduced_of q ≡ joined_query op (option_map reduced_of a) (option_map reduced_of b)) }
 {
     match (a, b) {
         (Some(a), Some(b)) => Ok(Some(both(alloc, op, a, b)?)),
@@ -111,12 +111,12 @@ pub(crate) fn close(operands: Vec<Phrases>, span: u8, ordered: bool) -> Option<F
 }
 
 /// A term of these phrases with the sum that its score is, which is nothing where there are none.
-pub(crate) fn defined(
+pub(crate) fn defined_query(
     alloc: Global,
     phrases: Vec<Phrase>,
     sum: &[SumStep],
 ) -> Result<Option<Flat>, Memory>
-    ensures { IfOk result (λ q. option_map reduced_of q ≡ defined sum.now phrases.items) }
+    ensures { IfOk result (λ q. option_map reduced_of q ≡ defined_query sum.now phrases.items) }
 {
     if phrases.is_empty() {
         return Ok(None);

@@ -1,11 +1,11 @@
 //! The phrases of leaves and operands.
 
-ghost use Rattle.std.specs.Prelude.{◌≡◌, ◌++◌, true, map, drop, filter, length, take, ◌≤◌};
+ghost use Rattle.std.specs.Prelude.{◌≡◌, ◌++◌, true, drop, length, take, ◌≤◌};
 ghost use Rattle.std.specs.List.{list_all, flat_map};
-ghost use Rattle.q_tree.specs.Limits.{is_short, leaf_keeps_limits, leaves_keep_limits};
-ghost use Rattle.q_reduce.specs.Faults.{place_faults, leaf_faults, leaves_faults};
-ghost use Rattle.q_reduce.specs.Reducing.{end_dropped, front_dropped, has_phrase, leaf_phrases, phrases, phrases_of, place_slots, trimmed};
-ghost use Rattle.q_reduce.specs.Results.{Answers, context_of};
+ghost use Rattle.q_tree.specs.Limits.{word_keeps_limit, leaf_keeps_limits, leaves_keep_limits};
+ghost use Rattle.q_reduce.specs.Faults.{place_faults, leaf_faults, leaves_faults, operands_faults};
+ghost use Rattle.q_reduce.specs.Reducing.{end_dropped, front_dropped, kept_operands, leaf_phrases, operand_phrases, phrases_of_slots, place_slots, trimmed};
+ghost use Rattle.q_reduce.specs.Results.{Answers, PutsMore, context_of};
 ghost use Rattle.q_tree.specs.Soundness.{takes_some};
 ghost use Rattle.std.specs.Prelude.{IfOk, OnOk};
 
@@ -24,8 +24,8 @@ fn put_place(
     slots: &mut Vec<Slot>,
     words: &[Word],
 ) -> Result<(), ReduceFault>
-    requires { list_all is_short words.now ≡ true }
-    ensures { Answers result (place_faults (context_of ctx.now) words.now) (λ _. slots.new.items ≡ slots.old.items ++ place_slots (context_of ctx.now) words.now) }
+    requires { list_all word_keeps_limit words.now ≡ true }
+    ensures { PutsMore result (place_faults (context_of ctx.now) words.now) slots.old.items slots.new.items (place_slots (context_of ctx.now) words.now) }
 {
     if let [word] = words {
         put_word(alloc, ctx, slots, word)?;
@@ -37,7 +37,7 @@ fn put_place(
 
 /// The slots of all places.
 fn slots(alloc: Global, ctx: &ReduceCtx<'_>, places: &[WordSlot]) -> Result<Vec<Slot>, ReduceFault>
-    requires { list_all (λ place. list_all is_short place) places.now ≡ true }
+    requires { list_all (λ place. list_all word_keeps_limit place) places.now ≡ true }
     ensures { Answers result (flat_map (place_faults (context_of ctx.now)) places.now) (λ v. v.items ≡ flat_map (place_slots (context_of ctx.now)) places.now) }
 {
     let mut slots = Vec::new(alloc);
@@ -110,7 +110,7 @@ fn put_leaf(
     leaf: &Leaf,
 ) -> Result<(), ReduceFault>
     requires { leaf_keeps_limits leaf.now ≡ true }
-    ensures { Answers result (leaf_faults (context_of ctx.now) leaf.now) (λ _. phrases.new.items ≡ phrases.old.items ++ leaf_phrases (context_of ctx.now) leaf.now) }
+    ensures { PutsMore result (leaf_faults (context_of ctx.now) leaf.now) phrases.old.items phrases.new.items (leaf_phrases (context_of ctx.now) leaf.now) }
 {
     let Leaf::Phrase(places) = leaf else {
         return Ok(());
@@ -123,7 +123,7 @@ fn put_leaf(
 
 /// Puts a phrase, unless it has no slots.
 fn put_phrase(phrases: &mut Vec<Phrase>, slots: Vec<Slot>) -> Result<(), Memory>
-    ensures { OnOk result (phrases.new.items ≡ phrases.old.items ++ phrases_of slots.items) }
+    ensures { OnOk result (phrases.new.items ≡ phrases.old.items ++ phrases_of_slots slots.items) }
 {
     if !slots.is_empty() {
         phrases.push(Listed::of(slots))?;
@@ -146,13 +146,13 @@ pub(crate) fn leaf_phrases(
 }
 
 /// The phrases of an operand.
-pub(crate) fn phrases(
+pub(crate) fn operand_phrases(
     alloc: Global,
     ctx: &ReduceCtx<'_>,
     leaves: &[Leaf],
 ) -> Result<Vec<Phrase>, ReduceFault>
     requires { leaves_keep_limits leaves.now ≡ true }
-    ensures { Answers result (leaves_faults (context_of ctx.now) leaves.now) (λ v. v.items ≡ phrases (context_of ctx.now) leaves.now) }
+    ensures { Answers result (leaves_faults (context_of ctx.now) leaves.now) (λ v. v.items ≡ operand_phrases (context_of ctx.now) leaves.now) }
 {
     let mut phrases = Vec::new(alloc);
     let mut rest = leaves;
@@ -170,12 +170,12 @@ pub(crate) fn operands(
     operands: &[Listed<Leaf>],
 ) -> Result<Vec<Phrases>, ReduceFault>
     requires { list_all leaves_keep_limits operands.now ≡ true }
-    ensures { Answers result (flat_map (leaves_faults (context_of ctx.now)) operands.now) (λ v. v.items ≡ filter has_phrase (map (phrases (context_of ctx.now)) operands.now)) }
+    ensures { Answers result (operands_faults (context_of ctx.now) operands.now) (λ v. v.items ≡ kept_operands (context_of ctx.now) operands.now) }
 {
     let mut found = Vec::new(alloc);
     let mut rest = operands;
     while let [leaves, later @ ..] = rest {
-        let phrases = phrases(alloc, ctx, leaves.as_slice())?;
+        let phrases = operand_phrases(alloc, ctx, leaves.as_slice())?;
         if !phrases.is_empty() {
             found.push(Listed::of(phrases))?;
         }

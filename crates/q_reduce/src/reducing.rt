@@ -1,21 +1,21 @@
 //! Reduction of queries.
 #![tactic(auto)]
 
-ghost use Rattle.std.specs.Prelude.{◌≡◌, IfOk, IfSome, true, false, filter, map};
-ghost use Rattle.std.specs.List.{flat_map, list_all};
+ghost use Rattle.std.specs.Prelude.{◌≡◌, IfOk, IfSome, true, false};
+ghost use Rattle.std.specs.List.{list_all};
 ghost use Rattle.q_tree.specs.Limits.{keeps_limits, leaves_keep_limits};
 ghost use Rattle.q_tree.specs.Soundness.{is_sound};
 ghost use Rattle.q_tree.specs.Trees.{reduced_of, tree_of};
-ghost use Rattle.q_reduce.specs.Faults.{faults, leaves_faults};
-ghost use Rattle.q_reduce.specs.Reducing.{close, has_phrase, phrases, reduced};
+ghost use Rattle.q_reduce.specs.Faults.{faults, leaves_faults, operands_faults};
+ghost use Rattle.q_reduce.specs.Reducing.{close, defined_query, kept_operands, operand_phrases, reduced};
 ghost use Rattle.q_reduce.specs.Results.{Reduces, context_of};
 
 use crate::faults::ReduceFault;
-use crate::operators::{close, defined, exceeding, joined, term, weighted, within};
-use crate::phrases::{leaf_phrases, operands, phrases};
+use crate::operators::{close, defined_query, exceeding, joined_query, term, weighted, within};
+use crate::phrases::{leaf_phrases, operand_phrases, operands};
 use crate::sections::section;
 use ct_base::Listed;
-use q_tree::{Flat, Leaf, Op, Query};
+use q_tree::{Flat, Leaf, Op, Query, SumStep};
 use std::alloc::Global;
 use tx_lexer::LexerOptions;
 use tx_stop::StopKeys;
@@ -63,30 +63,28 @@ fn reduce_part(
         Query::And(a, b) => {
             let a = reduce_part(alloc, a, ctx, inside)?;
             let b = reduce_part(alloc, b, ctx, inside)?;
-            Ok(joined(alloc, Op::And, a, b)?)
+            Ok(joined_query(alloc, Op::And, a, b)?)
         }
         Query::Or(a, b) => {
             let a = reduce_part(alloc, a, ctx, inside)?;
             let b = reduce_part(alloc, b, ctx, inside)?;
-            Ok(joined(alloc, Op::Or, a, b)?)
+            Ok(joined_query(alloc, Op::Or, a, b)?)
         }
         Query::Not(a, b) => {
             let a = reduce_part(alloc, a, ctx, inside)?;
             let b = reduce_part(alloc, b, ctx, inside)?;
-            Ok(joined(alloc, Op::Not, a, b)?)
+            Ok(joined_query(alloc, Op::Not, a, b)?)
         }
         Query::Minus(a, b) => {
             let a = reduce_part(alloc, a, ctx, inside)?;
             let b = reduce_part(alloc, b, ctx, inside)?;
-            Ok(joined(alloc, Op::Minus, a, b)?)
+            Ok(joined_query(alloc, Op::Minus, a, b)?)
         }
         Query::Weight(tenths, a) => {
-            let a = reduce_part(alloc, a, ctx, inside)?;
-            Ok(weighted(alloc, *tenths, a)?)
+            Ok(weighted(alloc, *tenths, reduce_part(alloc, a, ctx, inside)?)?)
         }
         Query::Above(number, a) => {
-            let a = reduce_part(alloc, a, ctx, inside)?;
-            Ok(exceeding(alloc, *number, a)?)
+            Ok(exceeding(alloc, *number, reduce_part(alloc, a, ctx, inside)?)?)
         }
         Query::Near {
             operands,
@@ -98,10 +96,7 @@ fn reduce_part(
             let place = section(ctx.group, name, inside)?;
             Ok(within(alloc, place, a)?)
         }
-        Query::Define(leaves, sum) => {
-            let phrases = phrases(alloc, ctx, leaves.as_slice())?;
-            Ok(defined(alloc, phrases, sum.as_slice())?)
-        }
+        Query::Define(leaves, sum) => reduce_define(alloc, ctx, leaves.as_slice(), sum.as_slice()),
     }
 }
 
@@ -114,8 +109,22 @@ fn reduce_near(
     ordered: bool,
 ) -> Result<Option<Flat>, ReduceFault>
     requires { list_all leaves_keep_limits parts.now ≡ true }
-    ensures { Reduces result (flat_map (leaves_faults (context_of ctx.now)) parts.now) (close span ordered (filter has_phrase (map (phrases (context_of ctx.now)) parts.now))) }
+    ensures { Reduces result (operands_faults (context_of ctx.now) parts.now) (close span ordered (kept_operands (context_of ctx.now) parts.now)) }
 {
     let operands = operands(alloc, ctx, parts)?;
     Ok(close(operands, span, ordered))
+}
+
+/// An operand with the sum that its score is, unless it is nothing.
+fn reduce_define(
+    alloc: Global,
+    ctx: &ReduceCtx<'_>,
+    leaves: &[Leaf],
+    sum: &[SumStep],
+) -> Result<Option<Flat>, ReduceFault>
+    requires { leaves_keep_limits leaves.now ≡ true }
+    ensures { Reduces result (leaves_faults (context_of ctx.now) leaves.now) (defined_query sum.now (operand_phrases (context_of ctx.now) leaves.now)) }
+{
+    let phrases = operand_phrases(alloc, ctx, leaves)?;
+    Ok(defined_query(alloc, phrases, sum)?)
 }

@@ -3,7 +3,7 @@
 ghost use Rattle.std.specs.Prelude.{◌≡◌, ◌+◌, ◌≤◌, bytes_eq, IfOk, Some};
 ghost use Rattle.tx_tags.specs.Groups.{field_count, is_field};
 ghost use Rattle.q_reduce.specs.Faults.{section_faults};
-ghost use Rattle.q_reduce.specs.Reducing.{find_section, place_of, section_place, special};
+ghost use Rattle.q_reduce.specs.Reducing.{find_section, named_place, zone_or_field, special};
 ghost use Rattle.q_reduce.specs.Results.{Answers};
 
 use crate::faults::ReduceFault;
@@ -23,8 +23,8 @@ fn is_field(kind: SectionKind) -> bool
 }
 
 /// Where a section is looked for: a zone by its name, a field by its stream.
-fn section_place(kind: SectionKind, stream: u8, name: &Name) -> Result<Place, Memory>
-    ensures { IfOk result (λ place. place ≡ section_place kind stream name.now) }
+fn zone_or_field(kind: SectionKind, stream: u8, name: &Name) -> Result<Place, Memory>
+    ensures { IfOk result (λ place. place ≡ zone_or_field kind stream name.now) }
 {
     match kind {
         SectionKind::Zone => Ok(Place::Zone(name.clone()?)),
@@ -48,7 +48,7 @@ fn find_section(sections: &[Section], name: &Name) -> Result<Option<Place>, Memo
     let mut rest = sections;
     while let [section, later @ ..] = rest {
         if is_same(&section.name, name) {
-            return Ok(Some(section_place(section.kind, stream, name)?));
+            return Ok(Some(zone_or_field(section.kind, stream, name)?));
         }
         if is_field(section.kind) {
             stream += 1;
@@ -66,8 +66,8 @@ fn special(has_it: bool, place: Place) -> Option<Place>
 }
 
 /// What a name says: sentences and paragraphs where the group has them, else a section.
-fn place_of(group: &Group, name: &Name) -> Result<Option<Place>, Memory>
-    ensures { IfOk result (λ found. found ≡ place_of group.now name.now) }
+fn named_place(group: &Group, name: &Name) -> Result<Option<Place>, Memory>
+    ensures { IfOk result (λ found. found ≡ named_place group.now name.now) }
 {
     match name.as_str() {
         "sentence" => Ok(special(group.has_sentences(), Place::Sentence)),
@@ -78,9 +78,9 @@ fn place_of(group: &Group, name: &Name) -> Result<Option<Place>, Memory>
 
 /// Where a name of WITHIN is looked for; `inside` tells whether another WITHIN stands around it.
 pub(crate) fn section(group: &Group, name: &Name, inside: bool) -> Result<Place, ReduceFault>
-    ensures { Answers result (section_faults inside name.now (place_of group.now name.now)) (λ place. place_of group.now name.now ≡ Some place) }
+    ensures { Answers result (section_faults inside name.now (named_place group.now name.now)) (λ place. named_place group.now name.now ≡ Some place) }
 {
-    match place_of(group, name)? {
+    match named_place(group, name)? {
         None => Err(ReduceFault::NoSection(name.clone()?)),
         Some(Place::Field(stream)) => {
             if inside {

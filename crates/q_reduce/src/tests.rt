@@ -2,7 +2,7 @@
 
 ghost use Rattle.std.specs.Prelude.{◌≡◌, true, IfOk};
 ghost use Rattle.std.specs.List.{list_all};
-ghost use Rattle.q_tree.specs.Limits.{is_short, keeps_limits};
+ghost use Rattle.q_tree.specs.Limits.{word_keeps_limit, keeps_limits};
 ghost use Rattle.q_tree.specs.Trees.{tree_of};
 
 use crate::{ReduceCtx, ReduceFault, reduce};
@@ -19,7 +19,7 @@ use tx_tags::{Group, SectionKind};
 
 /// A word at a place of a text. There is no long one.
 fn word(alloc: Global, place: u32, text: &str) -> Result<Word, Memory>
-    ensures { IfOk result (λ w. is_short w ≡ true) }
+    ensures { IfOk result (λ w. word_keeps_limit w ≡ true) }
 {
     if text.len() > 100 {
         return Err(Memory);
@@ -30,14 +30,14 @@ fn word(alloc: Global, place: u32, text: &str) -> Result<Word, Memory>
 
 /// A word that stands by itself.
 fn alone(alloc: Global, place: u32, text: &str) -> Result<WordSlot, Memory>
-    ensures { IfOk result (λ ws. list_all is_short ws ≡ true) }
+    ensures { IfOk result (λ ws. list_all word_keeps_limit ws ≡ true) }
 {
     Listed::empty(alloc).with(word(alloc, place, text)?)
 }
 
 /// Two words that EQUIV joins.
 fn joined(alloc: Global, first: &str, second: &str) -> Result<WordSlot, Memory>
-    ensures { IfOk result (λ ws. list_all is_short ws ≡ true) }
+    ensures { IfOk result (λ ws. list_all word_keeps_limit ws ≡ true) }
 {
     Listed::empty(alloc)
         .with(word(alloc, 1, first)?)?
@@ -46,7 +46,7 @@ fn joined(alloc: Global, first: &str, second: &str) -> Result<WordSlot, Memory>
 
 /// The phrase of one place.
 fn single(alloc: Global, words: WordSlot) -> Result<Query, Memory>
-    requires { list_all is_short words ≡ true }
+    requires { list_all word_keeps_limit words ≡ true }
     ensures { IfOk result (λ q. keeps_limits (tree_of q) ≡ true) }
 {
     let places = Listed::empty(alloc).with(words)?;

@@ -5,7 +5,7 @@ ghost use Rattle.std.specs.Str.{chars};
 ghost use Rattle.std.specs.String.{string_bytes};
 ghost use Rattle.tx_lexer.specs.Tokens.{rules, tokens};
 ghost use Rattle.tx_lexer.specs.declared.tokens.Token.{Token};
-ghost use Rattle.q_tree.specs.Limits.{has_wildcard, is_short};
+ghost use Rattle.q_tree.specs.Limits.{has_wildcard, word_keeps_limit};
 ghost use Rattle.q_tree.specs.declared.flats.Slot.TheVariants.{Takes};
 ghost use Rattle.q_reduce.specs.Reducing.{key_slot, pattern, word_slots, word_text};
 ghost use Rattle.q_reduce.specs.Results.{context_of};
@@ -53,7 +53,7 @@ pub(crate) fn word_tokens(
     lexer: &LexerOptions,
     word: &Word,
 ) -> Result<Vec<Token>, Memory>
-    requires { is_short word.now ≡ true }
+    requires { word_keeps_limit word.now ≡ true }
     ensures { IfOk result (λ v. v.items ≡ tokens (rules lexer.now) (chars (word_text word.now.bits))) }
 {
     if let [WordBit::Chars(text)] = word.bits.as_slice() {
@@ -83,7 +83,7 @@ pub(crate) fn put_word(
     slots: &mut Vec<Slot>,
     word: &Word,
 ) -> Result<(), Memory>
-    requires { is_short word.now ≡ true }
+    requires { word_keeps_limit word.now ≡ true }
     ensures { OnOk result (slots.new.items ≡ slots.old.items ++ word_slots (context_of ctx.now) word.now) }
 {
     if has_wildcard(word.bits.as_slice()) {

@@ -6,7 +6,7 @@ use Rattle.std.specs.Str.{chars}
 use lib.Utf8.{encode}
 use Rattle.ct_base.specs.Limits.{stream_limit}
 use Rattle.ct_base.specs.declared.numbers.Pair.{Pair}
-use Rattle.ix_spans.specs.Occurrences.{has}
+use Rattle.ix_spans.specs.Occurrences.{has_number}
 use Rattle.q_tree.specs.declared.flats.Slot.{Slot}
 use Rattle.q_tree.specs.declared.flats.Slot.TheVariants.{Any, Takes}
 use Rattle.q_tree.specs.Slots.{takes}
@@ -74,17 +74,17 @@ pub record DocEntry : Type 0 where
   pub token : List ℕ
   pub places : List Pair
 
-abbrev pub section_stream : ℕ
-section_stream = 255
+abbrev pub stream_of_sections : ℕ
+stream_of_sections = 255
 
 -- a rising list with one number more, each once
-abbrev pub put : ℕ → List ℕ → List ℕ
-put p [] = p ∷ []
-put p (q ∷ qs) = if nat_lt p q then p ∷ q ∷ qs else (if eqb p q then q ∷ qs else q ∷ put p qs)
+abbrev pub put_position : ℕ → List ℕ → List ℕ
+put_position p [] = p ∷ []
+put_position p (q ∷ qs) = if nat_lt p q then p ∷ q ∷ qs else (if eqb p q then q ∷ qs else q ∷ put_position p qs)
 
 abbrev pub put_all : List ℕ → List ℕ → List ℕ
 put_all [] qs = qs
-put_all (p ∷ ps) qs = put p (put_all ps qs)
+put_all (p ∷ ps) qs = put_position p (put_all ps qs)
 
 abbrev pub firsts : List Pair → List ℕ
 firsts ps = map (λ (p : Pair). p.first) ps
@@ -97,11 +97,11 @@ abbrev pub entry_positions : ℕ → Slot → List DocEntry → List ℕ
 entry_positions stream slot [] = []
 entry_positions stream slot (e ∷ es) = if fits_entry stream slot e then put_all (firsts e.places) (entry_positions stream slot es) else entry_positions stream slot es
 
-abbrev pub is_section : List ℕ → DocEntry → Bool
-is_section name e = eqb e.stream section_stream && bytes_eq e.token name
+abbrev pub is_stored_section : List ℕ → DocEntry → Bool
+is_stored_section name e = eqb e.stream stream_of_sections && bytes_eq e.token name
 
 abbrev pub entry_pairs : List ℕ → List DocEntry → List Pair
-entry_pairs name es = flat_map (λ (e : DocEntry). e.places) (filter (is_section name) es)
+entry_pairs name es = flat_map (λ (e : DocEntry). e.places) (filter (is_stored_section name) es)
 
 abbrev pub postings_of_entries : List DocEntry → DocPostings
 postings_of_entries es = record { positions = λ stream slot. entry_positions stream slot es; spans = λ name. entry_pairs name es }
@@ -113,16 +113,16 @@ is_key_of token None = false
 is_key_of token (Some key) = bytes_eq key token
 
 -- a word of this key is in the stream and has the position
-abbrev pub has_word : ℕ → List ℕ → ℕ → DocWord → Bool
-has_word stream token n w = eqb w.position n && is_in_stream stream w && is_key_of token w.key
+abbrev pub is_word_at : ℕ → List ℕ → ℕ → DocWord → Bool
+is_word_at stream token n w = eqb w.position n && is_in_stream stream w && is_key_of token w.key
 
 -- an entry of this key and stream has the position
 abbrev pub has_position : ℕ → List ℕ → ℕ → DocEntry → Bool
-has_position stream token n e = eqb e.stream stream && bytes_eq e.token token && has (firsts e.places) n
+has_position stream token n e = eqb e.stream stream && bytes_eq e.token token && has_number (firsts e.places) n
 
 -- THE ENTRIES ARE THE POSTINGS of a document: a key stands at a position of a stream by the entries where it does by the words, and a section has the same pairs by both.
 pub record ArePostings (ws : List DocWord) (ss : List DocSection) (es : List DocEntry) : Type 0 where
-  pub positions : (stream : ℕ) (token : List ℕ) (n : ℕ) → stream ≤ stream_limit → list_any (has_position stream token n) es ≡ list_any (has_word stream token n) ws
+  pub positions : (stream : ℕ) (token : List ℕ) (n : ℕ) → stream ≤ stream_limit → list_any (has_position stream token n) es ≡ list_any (is_word_at stream token n) ws
   pub pairs : (name : List ℕ) → entry_pairs name es ≡ section_pairs name ss
 
 -- ---- computed examples: `jack grew big`, where `grew` is a stopword

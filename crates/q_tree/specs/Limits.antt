@@ -30,14 +30,14 @@ has_wildcard (One ∷ bits) = true
 has_wildcard (Many ∷ bits) = true
 
 -- a word is no longer than a query text
-abbrev pub is_short : Word → Bool
-is_short w = nat_le (word_length w.bits) query_limit
+abbrev pub word_keeps_limit : Word → Bool
+word_keeps_limit w = nat_le (word_length w.bits) query_limit
 
 -- ---- leaves and trees
 
 abbrev pub leaf_keeps_limits : Leaf → Bool
-leaf_keeps_limits (Phrase slots) = list_all (λ slot. list_all is_short slot) slots
-leaf_keeps_limits (Thes relation words level thesaurus) = list_all is_short words && is_between 1 99 level
+leaf_keeps_limits (Phrase slots) = list_all (λ slot. list_all word_keeps_limit slot) slots
+leaf_keeps_limits (Thes relation words level thesaurus) = list_all word_keeps_limit words && is_between 1 99 level
 
 abbrev pub leaves_keep_limits : List Leaf → Bool
 leaves_keep_limits leaves = list_all leaf_keeps_limits leaves

@@ -2,7 +2,7 @@
 use Rattle.std.specs.Prelude.{ℕ, ℤ, pos, zero, suc, ◌≡◌, ◌+◌, ◌-◌, ◌*◌, ◌/◌, min, max, nat_lt, eqb, Bool, List, [], ◌∷◌, length, map, Option, Some, None, codes, refl}
 use Rattle.std.specs.Bool.{if◌then◌else◌}
 use Rattle.ct_base.specs.declared.numbers.Pair.{Pair}
-use Rattle.ix_spans.specs.Occurrences.{Slots, starts, term_score, term_pairs, distinct, near_holds, is_inside}
+use Rattle.ix_spans.specs.Occurrences.{Slots, phrase_starts, term_score, term_pairs, distinct, near_holds, is_pair_inside}
 use Rattle.q_tree.specs.declared.flats.Slot.{Slot}
 use Rattle.q_tree.specs.declared.flats.Slot.TheVariants.{Any, Takes}
 use Rattle.q_tree.specs.declared.flats.Place.TheVariants.{Zone, Field, Sentence, Paragraph}
@@ -45,7 +45,7 @@ if_near b = if b then 100 else 0
 -- the greatest score over the pairs that lie within lo to hi, each as the new range
 abbrev pub greatest_within : (ℕ → ℕ → ℕ) → ℕ → ℕ → List Pair → ℕ
 greatest_within f lo hi [] = 0
-greatest_within f lo hi (p ∷ ps) = max (if is_inside lo hi p then f p.first p.last else 0) (greatest_within f lo hi ps)
+greatest_within f lo hi (p ∷ ps) = max (if is_pair_inside lo hi p then f p.first p.last else 0) (greatest_within f lo hi ps)
 
 -- a whole number as a score: at least 1, at most 100
 abbrev pub clamped : ℤ → ℕ
@@ -75,7 +75,7 @@ operand_slots d stream operands = map (term_slots d stream) operands
 
 -- THE OCCURRENCES of a phrase in a stream within lo to hi, by the position of the first word
 abbrev pub occurrences : List Slot → DocPostings → ℕ → ℕ → ℕ → List ℕ
-occurrences phrase d stream lo hi = starts (phrase_slots d stream phrase) lo hi
+occurrences phrase d stream lo hi = phrase_starts (phrase_slots d stream phrase) lo hi
 
 -- NEAR: 100 where one occurrence of each operand can be chosen that stand near one another
 abbrev pub near_score : List (List Slots) → ℕ → Bool → ℕ → ℕ → ℕ

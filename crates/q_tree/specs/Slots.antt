@@ -23,9 +23,9 @@ behind_one rest [] = false
 behind_one rest (c ∷ cs) = rest cs
 
 -- some end of the characters, which may be all of them or none, has a property
-abbrev pub ends : (List ℕ → Bool) → List ℕ → Bool
-ends rest [] = rest []
-ends rest (c ∷ cs) = rest (c ∷ cs) || ends rest cs
+abbrev pub some_end : (List ℕ → Bool) → List ℕ → Bool
+some_end rest [] = rest []
+some_end rest (c ∷ cs) = rest (c ∷ cs) || some_end rest cs
 
 abbrev pub is_end : List ℕ → Bool
 is_end [] = true
@@ -36,7 +36,7 @@ abbrev pub matches : List PatternBit → List ℕ → Bool
 matches [] cs = is_end cs
 matches (Chars t ∷ bits) cs = begins (matches bits) (chars t) cs
 matches (One ∷ bits) cs = behind_one (matches bits) cs
-matches (Many ∷ bits) cs = ends (matches bits) cs
+matches (Many ∷ bits) cs = some_end (matches bits) cs
 
 -- ---- slots
 

@@ -24,15 +24,15 @@ abbrev pub is_key : List ℕ → Bool
 is_key key = is_between 1 token_limit (length key)
 
 -- the keys rise strictly, in the order of bytes
-abbrev pub keys_rise : List (List ℕ) → Bool
-keys_rise [] = true
-keys_rise (k ∷ []) = true
-keys_rise (k ∷ l ∷ ks) = is_lt (slice_cmp nat_cmp k l) && keys_rise (l ∷ ks)
+abbrev pub slot_keys_rise : List (List ℕ) → Bool
+slot_keys_rise [] = true
+slot_keys_rise (k ∷ []) = true
+slot_keys_rise (k ∷ l ∷ ks) = is_lt (slice_cmp nat_cmp k l) && slot_keys_rise (l ∷ ks)
 
 -- a slot that isn't Any has a key or a pattern, and its keys rise
 abbrev pub is_slot : Slot → Bool
 is_slot Any = true
-is_slot (Takes keys patterns) = nat_le 1 (length keys + length patterns) && keys_rise keys && list_all is_key keys
+is_slot (Takes keys patterns) = nat_le 1 (length keys + length patterns) && slot_keys_rise keys && list_all is_key keys
 
 abbrev pub takes_some : Slot → Bool
 takes_some Any = false
@@ -55,8 +55,8 @@ abbrev pub is_term : List (List Slot) → Bool
 is_term phrases = nat_le 1 (length phrases) && list_all is_phrase phrases
 
 -- two to 16 terms, and a span of 0 to 100
-abbrev pub is_near : List (List (List Slot)) → ℕ → Bool
-is_near operands span = is_between 2 16 (length operands) && list_all is_term operands && nat_le span 100
+abbrev pub is_nearness : List (List (List Slot)) → ℕ → Bool
+is_nearness operands span = is_between 2 16 (length operands) && list_all is_term operands && nat_le span 100
 
 -- ---- sums in postfix form
 
@@ -106,7 +106,7 @@ is_sound (Term phrases) = is_term phrases
 is_sound (Joined op a b) = is_sound a && is_sound b
 is_sound (Weighted w a) = is_between 1 100 w && is_sound a
 is_sound (Exceeding n a) = nat_le n 100 && is_sound a
-is_sound (Close operands span ordered) = is_near operands span
+is_sound (Close operands span ordered) = is_nearness operands span
 is_sound (Inside place a) = is_place place && is_sound a
 is_sound (Defined phrases sum) = is_term phrases && is_sum sum
 

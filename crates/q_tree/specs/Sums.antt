@@ -23,16 +23,16 @@ atom_value k Discrete = pos 100
 atom_value k Occurrence = pos (min 100 k)
 atom_value k s = pos 0
 
-abbrev pub operated : SumStep → ℤ → ℤ → ℤ
-operated Plus a b = a +ℤ b
-operated Less a b = a -ℤ b
-operated Times a b = a *ℤ b
-operated s a b = pos 0
+abbrev pub operator_value : SumStep → ℤ → ℤ → ℤ
+operator_value Plus a b = a +ℤ b
+operator_value Less a b = a -ℤ b
+operator_value Times a b = a *ℤ b
+operator_value s a b = pos 0
 
 -- the value of a sum
-abbrev pub value : ℕ → Sum → ℤ
-value k (Atom s) = atom_value k s
-value k (Both op a b) = operated op (value k a) (value k b)
+abbrev pub sum_value : ℕ → Sum → ℤ
+sum_value k (Atom s) = atom_value k s
+sum_value k (Both op a b) = operator_value op (sum_value k a) (sum_value k b)
 
 -- each operator behind its two sums
 abbrev pub postfix : Sum → List SumStep
@@ -48,9 +48,9 @@ pub record IsPostfix (steps : List SumStep) : Type 0 where
 -- ---- as steps over a stack of values
 
 abbrev pub sum_step : ℕ → SumStep → List ℤ → List ℤ
-sum_step k Plus (b ∷ a ∷ stack) = operated Plus a b ∷ stack
-sum_step k Less (b ∷ a ∷ stack) = operated Less a b ∷ stack
-sum_step k Times (b ∷ a ∷ stack) = operated Times a b ∷ stack
+sum_step k Plus (b ∷ a ∷ stack) = operator_value Plus a b ∷ stack
+sum_step k Less (b ∷ a ∷ stack) = operator_value Less a b ∷ stack
+sum_step k Times (b ∷ a ∷ stack) = operator_value Times a b ∷ stack
 sum_step k Plus stack = []
 sum_step k Less stack = []
 sum_step k Times stack = []
@@ -74,7 +74,7 @@ steps_value k steps = top (sum_of k steps [])
 abbrev ten_times_and_5 : Sum
 ten_times_and_5 = Both Plus (Both Times (Atom Occurrence) (Atom (Number 10))) (Atom (Number 5))
 
-its_value : value 2 ten_times_and_5 ≡ pos 25
+its_value : sum_value 2 ten_times_and_5 ≡ pos 25
 its_value = refl
 
 its_postfix : postfix ten_times_and_5 ≡ Occurrence ∷ Number 10 ∷ Times ∷ Number 5 ∷ Plus ∷ []
@@ -84,5 +84,5 @@ by_steps : steps_value 2 (postfix ten_times_and_5) ≡ pos 25
 by_steps = refl
 
 -- 0 - 5 + 7: from the left
-from_the_left : value 1 (Both Plus (Both Less (Atom (Number 0)) (Atom (Number 5))) (Atom (Number 7))) ≡ pos 2
+from_the_left : sum_value 1 (Both Plus (Both Less (Atom (Number 0)) (Atom (Number 5))) (Atom (Number 7))) ≡ pos 2
 from_the_left = refl

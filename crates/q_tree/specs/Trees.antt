@@ -1,5 +1,5 @@
 -- Queries without where their parts lie in memory: as they are written, and as they are reduced.
-use Rattle.std.specs.Prelude.{ℕ, Bool, List}
+use Rattle.std.specs.Prelude.{ℕ, ◌≡◌, Bool, true, false, List, refl}
 use Rattle.q_tree.specs.declared.flats.Slot.{Slot}
 use Rattle.q_tree.specs.declared.flats.Place.{Place}
 use Rattle.q_tree.specs.declared.flats.SumStep.{SumStep}
@@ -56,3 +56,16 @@ reduced_of (FlatAbove n p a) = Exceeding n (reduced_of a)
 reduced_of (FlatNear operands span ordered) = Close operands span ordered
 reduced_of (FlatWithin place p a) = Inside place (reduced_of a)
 reduced_of (FlatDefine phrases sum) = Defined phrases sum
+
+-- ---- computed examples
+
+-- NEAR((a,b),5,TRUE), of any operands
+ordered_near : (operands : List (List Leaf)) → tree_of (NearQuery operands 5 true) ≡ Nearness operands 5 true
+ordered_near operands = refl
+
+flat_near : (operands : List (List (List Slot))) → reduced_of (FlatNear operands 5 false) ≡ Close operands 5 false
+flat_near operands = refl
+
+-- DEFINESCORE
+with_its_sum : (phrases : List (List Slot)) (sum : List SumStep) → reduced_of (FlatDefine phrases sum) ≡ Defined phrases sum
+with_its_sum phrases sum = refl

@@ -2,7 +2,7 @@
 
 ghost use Rattle.std.specs.Prelude.{◌≡◌, ◌∷◌, ◌&&◌, ◌≤◌, length, Option};
 ghost use Rattle.std.specs.List.{list_all};
-ghost use Rattle.q_tree.specs.Soundness.{is_key, keys_rise, is_slot, takes_some, ends_well, is_phrase, is_term, is_near, is_operator, is_step, values, operators, is_sum, is_place, is_sound};
+ghost use Rattle.q_tree.specs.Soundness.{is_key, slot_keys_rise, is_slot, takes_some, ends_well, is_phrase, is_term, is_nearness, is_operator, is_step, values, operators, is_sum, is_place, is_sound};
 ghost use Rattle.q_tree.specs.Trees.{reduced_of};
 
 use crate::flats::{Flat, Phrase, Phrases, Place, Slot, SumStep};
@@ -35,7 +35,7 @@ fn are_keys(keys: &[Key]) -> bool
 
 /// Whether the key is less than the first of these.
 fn is_below(key: &Key, later: &[Key]) -> bool
-    ensures { (result && keys_rise later.now) ≡ keys_rise (key.now ∷ later.now) }
+    ensures { (result && slot_keys_rise later.now) ≡ slot_keys_rise (key.now ∷ later.now) }
 {
     match later {
         [] => true,
@@ -45,7 +45,7 @@ fn is_below(key: &Key, later: &[Key]) -> bool
 
 /// Whether keys rise in the order of bytes.
 fn rise(keys: &[Key]) -> bool
-    ensures { result ≡ keys_rise keys.now }
+    ensures { result ≡ slot_keys_rise keys.now }
 {
     let mut rest = keys;
     while let [first, later @ ..] = rest {
@@ -125,8 +125,8 @@ fn are_terms(operands: &[Phrases]) -> bool
     operands.iter().all(|phrases| is_term(phrases.as_slice()))
 }
 
-fn is_near(operands: &[Phrases], span: u8) -> bool
-    ensures { result ≡ is_near operands.now span }
+fn is_nearness(operands: &[Phrases], span: u8) -> bool
+    ensures { result ≡ is_nearness operands.now span }
 {
     2 <= operands.len() && operands.len() <= OPERAND_LIMIT && are_terms(operands) && span <= 100
 }
@@ -217,7 +217,7 @@ impl Flat {
             Flat::Minus(a, b) => a.is_sound() && b.is_sound(),
             Flat::Weight(tenths, a) => 1 <= *tenths && *tenths <= 100 && a.is_sound(),
             Flat::Above(number, a) => *number <= 100 && a.is_sound(),
-            Flat::Near { operands, span, .. } => is_near(operands.as_slice(), *span),
+            Flat::Near { operands, span, .. } => is_nearness(operands.as_slice(), *span),
             Flat::Within(place, a) => is_place(place) && a.is_sound(),
             Flat::Define(phrases, sum) => is_term(phrases.as_slice()) && is_sum(sum.as_slice()),
         }

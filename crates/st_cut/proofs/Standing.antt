@@ -1,5 +1,6 @@
 use Rattle.std.proofs.Common.{ℕ, ◌≡◌, ◌+◌, ◌≤◌, min, zero, suc, true, false, eqb, List, [], ◌∷◌, ◌++◌, Option, Some, None, take, length, inl, inr, refl, sym, ap, ◌∙◌, subst, arith, length-append, take-take}
 use Rattle.std.proofs.lemmas.Bool.{cases_Bool}
+use Rattle.ct_base.specs.laws.Options.{same_value}
 use Rattle.st_cut.specs.Cut.{is_blank_byte, first_statement}
 use Rattle.st_cut.specs.Seen.{Seen, clip, end_count, next_stop, StandsOpen}
 use Rattle.st_cut.proofs.Cuts.{open_other, open_newline, open_newline_none, open_blank, open_byte, open_semicolon, first_prefix}
@@ -58,15 +59,12 @@ pub stands_push_inside : (limit : ℕ) (inside now new : Seen) (held : List ℕ)
 stands_push_inside limit inside now new held b v s k =
     stands_push limit inside new held b (subst (λ (x : Seen). StandsOpen limit x held) (sym v) s) (λ n. ap (λ (x : Seen). x.stop) v ∙ k n)
 
-some_is : (a b : ℕ) → Some a ≡ Some b → a ≡ b
-some_is a b h = cc
-
 -- the statement that ends now, from what is seen
 pub stands_statement : (limit stop : ℕ) (now : Seen) (held statement : List ℕ) → StandsOpen limit now held
     → first_statement true held ≡ Some (statement, []) → now.stop ≡ Some stop
     → stop ≡ clip limit (length statement)
 stands_statement limit stop now held statement s h e =
-    let p : Some stop ≡ end_count limit (first_statement true held) = sym e ∙ s.stop in some_is _ _ (rw h at p)
+    let p : Some stop ≡ end_count limit (first_statement true held) = sym e ∙ s.stop in same_value _ _ (rw h at p)
 
 pub statement_kept : (limit stop : ℕ) (now : Seen) (held statement : List ℕ) → StandsOpen limit now held
     → first_statement true held ≡ Some (statement, []) → now.stop ≡ Some stop

@@ -17,7 +17,7 @@ use Rattle.st_parse.specs.Values.{IsSigned, signed_at}
 use Rattle.st_parse.specs.declared.procedures.Definition.TheVariants.{CreatePreference, SetAttribute, CreateStoplist, AddStopword, CreateSectionGroup, AddZoneSection, AddFieldSection, AddSpecialSection}
 use Rattle.st_parse.specs.declared.procedures.Procedure.{Procedure}
 use Rattle.st_parse.specs.declared.procedures.Procedure.TheVariants.{PolicyTokens, SyncIndex, Define}
-use Rattle.st_parse.specs.Procedures.{procedure_package, procedure_name, all_procedures, named_among, procedure_named}
+use Rattle.st_parse.specs.Procedures.{procedure_package, procedure_name, all_procedures, procedure_among, procedure_named}
 use Rattle.st_parse.specs.Calling.{IsExec, IsArg, AreArgs, arg_at, args_of, call_of, exec_of}
 use Rattle.st_parse.specs.Grammar.{IsStatement}
 use Rattle.st_parse.proofs.Spelt.{Spelt, Wholly, Follows, enclosed_last-spelt, enclosed_last-again}
@@ -58,11 +58,11 @@ args-again ls [] e = ap args_of e
 args-again ls (arg ∷ args) are = some-again ls (arg ∷ args) (enclosed_last-again IsArg arg_at arg-again ls (arg ∷ args) are)
 
 -- which procedure has two names
-named-spelt : (pack name : List ℕ) (ps : List Procedure) (p : Procedure) → named_among pack name ps ≡ Some p → (pack ≡ procedure_package p) × (name ≡ procedure_name p)
+named-spelt : (pack name : List ℕ) (ps : List Procedure) (p : Procedure) → procedure_among pack name ps ≡ Some p → (pack ≡ procedure_package p) × (name ≡ procedure_name p)
 named-spelt pack name [] p is = cc
 named-spelt pack name (q ∷ qs) p is = go (bytes_eq (procedure_package q) pack) (bytes_eq (procedure_name q) name) refl refl (named-spelt pack name qs p) is
   where
-    go : (b c : Bool) → bytes_eq (procedure_package q) pack ≡ b → bytes_eq (procedure_name q) name ≡ c → (named_among pack name qs ≡ Some p → (pack ≡ procedure_package p) × (name ≡ procedure_name p)) → cond (b && c) (Some q) (named_among pack name qs) ≡ Some p → (pack ≡ procedure_package p) × (name ≡ procedure_name p)
+    go : (b c : Bool) → bytes_eq (procedure_package q) pack ≡ b → bytes_eq (procedure_name q) name ≡ c → (procedure_among pack name qs ≡ Some p → (pack ≡ procedure_package p) × (name ≡ procedure_name p)) → cond (b && c) (Some q) (procedure_among pack name qs) ≡ Some p → (pack ≡ procedure_package p) × (name ≡ procedure_name p)
     go true true e f later h =
         let same : q ≡ p = cc in
         (sym ((bytes_eq-Decides (procedure_package q) pack).0 e) ∙ ap procedure_package same, sym ((bytes_eq-Decides (procedure_name q) name).0 f) ∙ ap procedure_name same)

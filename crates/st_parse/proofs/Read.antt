@@ -11,12 +11,12 @@ use Rattle.st_parse.specs.declared.lexemes.Symbol.TheVariants.{Open, Close, Comm
 use Rattle.st_parse.specs.declared.lexemes.Lexeme.{Lexeme}
 use Rattle.st_parse.specs.declared.lexemes.Lexeme.TheVariants.{Word, Name, Text, Number, Sign}
 use Rattle.st_parse.specs.Keywords.{keyword_of}
-use Rattle.st_parse.specs.Lexemes.{word_or, word_of, is_in_line, run, after_run, text_at, sign_of, sign_at, ◌>>=◌, lexeme_at, begins_comment, lexemes_in, lexemes}
+use Rattle.st_parse.specs.Lexemes.{word_or, keyword_or_name, is_in_line, run, after_run, text_at, sign_of, sign_at, ◌>>=◌, lexeme_at, begins_comment, lexemes_in, lexemes}
 use Rattle.st_parse.specs.Writing.{White, Comment, starts, quoted, sign, IsWordOf, IsDigits, IsWritten, joins_sign, joins, IsText}
 use Rattle.st_parse.proofs.Steps.{letter-word, run-joins, after-shorter}
-use Rattle.std.proofs.lemmas.Bool.{and_parts}
+use Rattle.std.proofs.lemmas.Bool.{eqb-true, and_parts}
 use Rattle.std.proofs.lemmas.Option.{same_Some}
-use Rattle.st_parse.proofs.Written.{is-eq, quote-bytes, one-some}
+use Rattle.st_parse.proofs.Written.{quote-bytes, one-some}
 
 abbrev value : {A : Type 0} → A → Option A → A
 value d None = d
@@ -68,10 +68,10 @@ word-piece-or (Some k) word p e = subst (λ p. IsWordPiece p) (same_Some (Word k
 word-piece-or None word p e = name-piece (is_spelling word) word p e
 
 word-written : (c : ℕ) (cs : List ℕ) (p : Lexeme) → is_ascii_alphabetic c ≡ true
-    → word_of (map to_ascii_lowercase (run is_name_byte (c ∷ cs))) ≡ Some p → Reads p (c ∷ cs) (after_run is_name_byte (c ∷ cs))
+    → keyword_or_name (map to_ascii_lowercase (run is_name_byte (c ∷ cs))) ≡ Some p → Reads p (c ∷ cs) (after_run is_name_byte (c ∷ cs))
 word-written c cs p letter is =
     let first = run-first is_name_byte c cs (letter-word c letter) in
-    let of = ap (λ x. word_of (map to_ascii_lowercase x)) (sym first) ∙ is in
+    let of = ap (λ x. keyword_or_name (map to_ascii_lowercase x)) (sym first) ∙ is in
     let piece = word-piece-or (keyword_of (map to_ascii_lowercase (c ∷ run is_name_byte cs))) (map to_ascii_lowercase (c ∷ run is_name_byte cs)) p of in
     (c ∷ run is_name_byte cs, sym (run-joins is_name_byte (c ∷ cs)) ∙ ap (λ x. x ++ after_run is_name_byte (c ∷ cs)) first, piece.0 (c ∷ run is_name_byte cs) (letter, passes is_name_byte cs, of), piece.1 (after_run is_name_byte (c ∷ cs)) (stops is_name_byte (c ∷ cs)))
 
@@ -89,7 +89,7 @@ text-last : (b : Bool) (prefix t rest : List ℕ) (c : ℕ) → (c == 39) ≡ b
     → cond {A = Option (List ℕ × List ℕ)} b (Some (prefix, [])) None ≡ Some (t, rest) → TextReads prefix t (c ∷ []) rest
 text-last true prefix t rest c e h =
     let pr : (prefix, []) ≡ (t, rest) = same_Some (prefix, []) (t, rest) h in
-    ([], sym (ap (λ x. x.0) pr) ∙ sym (append-nil prefix), ap (λ x. x ∷ []) (is-eq c 39 e) ∙ ap (λ x. 39 ∷ x.1) pr, subst (λ x. starts (λ c. c == 39) x.1 ≡ false) pr refl)
+    ([], sym (ap (λ x. x.0) pr) ∙ sym (append-nil prefix), ap (λ x. x ∷ []) (eqb-true c 39 e) ∙ ap (λ x. 39 ∷ x.1) pr, subst (λ x. starts (λ c. c == 39) x.1 ≡ false) pr refl)
 text-last false prefix t rest c e h = cc
 
 text-next : (b b' : Bool) (prefix t rest cs : List ℕ) (c d : ℕ) → (c == 39) ≡ b → (d == 39) ≡ b'
@@ -99,10 +99,10 @@ text-next : (b b' : Bool) (prefix t rest cs : List ℕ) (c d : ℕ) → (c == 39
     → TextReads prefix t (c ∷ d ∷ cs) rest
 text-next true true prefix t rest cs c d e e' one two h =
     let r = one h in
-    (39 ∷ r.0, r.1 ∙ append_assoc prefix (39 ∷ []) (encode_utf8_all r.0) ∙ ap (λ x. prefix ++ (x ++ encode_utf8_all r.0)) (sym quote-bytes), ap (λ x. x ∷ d ∷ cs) (is-eq c 39 e) ∙ ap (λ x. 39 ∷ x ∷ cs) (is-eq d 39 e') ∙ ap (λ x. 39 ∷ 39 ∷ x) r.2, r.3)
+    (39 ∷ r.0, r.1 ∙ append_assoc prefix (39 ∷ []) (encode_utf8_all r.0) ∙ ap (λ x. prefix ++ (x ++ encode_utf8_all r.0)) (sym quote-bytes), ap (λ x. x ∷ d ∷ cs) (eqb-true c 39 e) ∙ ap (λ x. 39 ∷ x ∷ cs) (eqb-true d 39 e') ∙ ap (λ x. 39 ∷ 39 ∷ x) r.2, r.3)
 text-next true false prefix t rest cs c d e e' one two h =
     let pr : (prefix, d ∷ cs) ≡ (t, rest) = same_Some (prefix, d ∷ cs) (t, rest) h in
-    ([], sym (ap (λ x. x.0) pr) ∙ sym (append-nil prefix), ap (λ x. x ∷ d ∷ cs) (is-eq c 39 e) ∙ ap (λ x. 39 ∷ x.1) pr, subst (λ x. starts (λ c. c == 39) x.1 ≡ false) pr e')
+    ([], sym (ap (λ x. x.0) pr) ∙ sym (append-nil prefix), ap (λ x. x ∷ d ∷ cs) (eqb-true c 39 e) ∙ ap (λ x. 39 ∷ x.1) pr, subst (λ x. starts (λ c. c == 39) x.1 ≡ false) pr e')
 text-next false b' prefix t rest cs c d e e' one two h =
     let r = two h in
     (c ∷ r.0, r.1 ∙ append_assoc prefix (encode_utf8 c) (encode_utf8_all r.0), ap (λ x. c ∷ x) r.2 ∙ (rw e refl), r.3)
@@ -115,7 +115,7 @@ text-written (c ∷ d ∷ cs) prefix t rest h =
 
 pick : (b : Bool) (k : ℕ) (t s : Symbol) (y : Option Symbol) (c : ℕ) → (c == k) ≡ b → k ∷ [] ≡ sign t → (y ≡ Some s → c ∷ [] ≡ sign s)
     → cond b (Some t) y ≡ Some s → c ∷ [] ≡ sign s
-pick true k t s y c e spelled more h = ap (λ x. x ∷ []) (is-eq c k e) ∙ spelled ∙ ap sign (same_Some t s h)
+pick true k t s y c e spelled more h = ap (λ x. x ∷ []) (eqb-true c k e) ∙ spelled ∙ ap sign (same_Some t s h)
 pick false k t s y c e spelled more h = more h
 
 sign-is : (c : ℕ) (s : Symbol) → sign_of c ≡ Some s → c ∷ [] ≡ sign s
@@ -154,7 +154,7 @@ sign-parted s c cs e a b d =
 
 second : (cs : List ℕ) → is_first 61 cs ≡ true → cs ≡ 61 ∷ drop 1 cs
 second [] h = cc
-second (d ∷ cs) h = ap (λ x. x ∷ cs) (is-eq d 61 h)
+second (d ∷ cs) h = ap (λ x. x ∷ cs) (eqb-true d 61 h)
 
 sign-step : (a b : Bool) (c : ℕ) (cs rest : List ℕ) (s : Symbol) → ((c == 60) && is_first 61 cs) ≡ a → ((c == 62) && is_first 61 cs) ≡ b
     → begins_comment c cs ≡ false
@@ -163,11 +163,11 @@ sign-step : (a b : Bool) (c : ℕ) (cs rest : List ℕ) (s : Symbol) → ((c == 
 sign-step true b c cs rest s e e' d h =
     let parts = and_parts (c == 60) (is_first 61 cs) e in
     let pr : (AtMost, drop 1 cs) ≡ (s, rest) = same_Some (AtMost, drop 1 cs) (s, rest) h in
-    subst (λ x. Reads (Sign x.0) (c ∷ cs) x.1) pr (60 ∷ 61 ∷ [], ap (λ x. x ∷ cs) (is-eq c 60 parts.0) ∙ ap (λ x. 60 ∷ x) (second cs parts.1), refl, no-start (drop 1 cs))
+    subst (λ x. Reads (Sign x.0) (c ∷ cs) x.1) pr (60 ∷ 61 ∷ [], ap (λ x. x ∷ cs) (eqb-true c 60 parts.0) ∙ ap (λ x. 60 ∷ x) (second cs parts.1), refl, no-start (drop 1 cs))
 sign-step false true c cs rest s e e' d h =
     let parts = and_parts (c == 62) (is_first 61 cs) e' in
     let pr : (AtLeast, drop 1 cs) ≡ (s, rest) = same_Some (AtLeast, drop 1 cs) (s, rest) h in
-    subst (λ x. Reads (Sign x.0) (c ∷ cs) x.1) pr (62 ∷ 61 ∷ [], ap (λ x. x ∷ cs) (is-eq c 62 parts.0) ∙ ap (λ x. 62 ∷ x) (second cs parts.1), refl, no-start (drop 1 cs))
+    subst (λ x. Reads (Sign x.0) (c ∷ cs) x.1) pr (62 ∷ 61 ∷ [], ap (λ x. x ∷ cs) (eqb-true c 62 parts.0) ∙ ap (λ x. 62 ∷ x) (second cs parts.1), refl, no-start (drop 1 cs))
 sign-step false false c cs rest s e e' d h =
     let found = bound (sign_of c) (λ s. Some (s, cs)) (s, rest) h in
     let spelled = sign-is c found.0 found.1 in
@@ -176,12 +176,12 @@ sign-step false false c cs rest s e e' d h =
 
 one-step : (letter digit quote : Bool) (c : ℕ) (cs rest : List ℕ) (p : Lexeme) → is_ascii_alphabetic c ≡ letter → is_ascii_digit c ≡ digit
     → (c == 39) ≡ quote → begins_comment c cs ≡ false
-    → cond {A = Option (Lexeme × List ℕ)} letter (◌>>=◌ {B = Lexeme × List ℕ} (word_of (map to_ascii_lowercase (run is_name_byte (c ∷ cs)))) (λ w. Some (w, after_run is_name_byte (c ∷ cs))))
+    → cond {A = Option (Lexeme × List ℕ)} letter (◌>>=◌ {B = Lexeme × List ℕ} (keyword_or_name (map to_ascii_lowercase (run is_name_byte (c ∷ cs)))) (λ w. Some (w, after_run is_name_byte (c ∷ cs))))
     (cond {A = Option (Lexeme × List ℕ)} digit (Some (Number (run is_ascii_digit (c ∷ cs)), after_run is_ascii_digit (c ∷ cs)))
     (cond {A = Option (Lexeme × List ℕ)} quote (◌>>=◌ {B = Lexeme × List ℕ} (text_at [] cs) (λ t. Some (Text t.0, t.1))) (◌>>=◌ {B = Lexeme × List ℕ} (sign_at c cs) (λ s. Some (Sign s.0, s.1))))) ≡ Some (p, rest)
     → Reads p (c ∷ cs) rest
 one-step true digit quote c cs rest p e e' e'' d h =
-    let found = bound (word_of (map to_ascii_lowercase (run is_name_byte (c ∷ cs)))) (λ w. Some (w, after_run is_name_byte (c ∷ cs))) (p, rest) h in
+    let found = bound (keyword_or_name (map to_ascii_lowercase (run is_name_byte (c ∷ cs)))) (λ w. Some (w, after_run is_name_byte (c ∷ cs))) (p, rest) h in
     let pr : (found.0, after_run is_name_byte (c ∷ cs)) ≡ (p, rest) = same_Some (found.0, after_run is_name_byte (c ∷ cs)) (p, rest) found.2 in
     subst (λ x. Reads x.0 (c ∷ cs) x.1) pr (word-written c cs found.0 e found.1)
 one-step false true quote c cs rest p e e' e'' d h =
@@ -191,7 +191,7 @@ one-step false false true c cs rest p e e' e'' d h =
     let found = bound (text_at [] cs) (λ t. Some (Text t.0, t.1)) (p, rest) h in
     let pr : (Text found.0.0, found.0.1) ≡ (p, rest) = same_Some (Text found.0.0, found.0.1) (p, rest) found.2 in
     let r = text-written cs [] found.0.0 found.0.1 found.1 in
-    subst (λ x. Reads x.0 (c ∷ cs) x.1) pr (39 ∷ quoted r.0, ap (λ x. x ∷ cs) (is-eq c 39 e'') ∙ ap (λ x. 39 ∷ x) r.2, (r.0, r.1, refl), r.3)
+    subst (λ x. Reads x.0 (c ∷ cs) x.1) pr (39 ∷ quoted r.0, ap (λ x. x ∷ cs) (eqb-true c 39 e'') ∙ ap (λ x. 39 ∷ x) r.2, (r.0, r.1, refl), r.3)
 one-step false false false c cs rest p e e' e'' d h =
     let found = bound (sign_at c cs) (λ s. Some (Sign s.0, s.1)) (p, rest) h in
     let pr : (Sign found.0.0, found.0.1) ≡ (p, rest) = same_Some (Sign found.0.0, found.0.1) (p, rest) found.2 in
@@ -220,9 +220,9 @@ comment-written ps c [] d is = absurd (no ((and_parts (c == 45) false d).1))
     no h = cc
 comment-written ps c (x ∷ cs) d is =
     let parts = and_parts (c == 45) (x == 45) d in
-    let dash = is-eq x 45 parts.1 in
+    let dash = eqb-true x 45 parts.1 in
     more-comment ps (c ∷ x ∷ cs) (run is_in_line cs) (after_run is_in_line cs)
-    (ap (λ y. y ∷ x ∷ cs) (is-eq c 45 parts.0) ∙ ap (λ y. 45 ∷ y ∷ cs) dash ∙ ap (λ y. 45 ∷ 45 ∷ y) (sym (run-joins is_in_line cs)))
+    (ap (λ y. y ∷ x ∷ cs) (eqb-true c 45 parts.0) ∙ ap (λ y. 45 ∷ y ∷ cs) dash ∙ ap (λ y. 45 ∷ 45 ∷ y) (sym (run-joins is_in_line cs)))
     (passes is_in_line cs) (stops is_in_line cs) (subst (λ y. IsText ps (after_run is_in_line (y ∷ cs))) dash is)
 
 abbrev Sound : ℕ → Type 0

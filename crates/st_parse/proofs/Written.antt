@@ -3,7 +3,7 @@ use Rattle.std.proofs.Common.{◌≡◌, ℕ, ◌<◌, ◌≤◌, Bool, true, fa
 use Rattle.std.specs.Char.{is_ascii_digit, is_ascii_alphabetic, is_whitespace, encode_utf8}
 use Rattle.std.specs.List.{list_all}
 use Rattle.std.specs.Prelude.{◌==◌, zero, suc, nat_lt, ◌≢◌, encode_utf8_all}
-use Rattle.std.proofs.lemmas.Bool.{and_parts}
+use Rattle.std.proofs.lemmas.Bool.{eqb-true, and_parts}
 use lib.Utf8.{encode}
 use Rattle.ct_base.specs.Names.{is_name_byte}
 use Rattle.st_parse.specs.declared.lexemes.Symbol.{Symbol}
@@ -28,9 +28,6 @@ end-of-text : (prefix rest : List ℕ) → starts (λ c. c == 39) rest ≡ false
 end-of-text prefix [] parted = refl
 end-of-text prefix (d ∷ rest) parted = rw parted refl
 
-pub is-eq : (c d : ℕ) → (c == d) ≡ true → c ≡ d
-is-eq c d h = grind arith
-
 -- a quote's bytes
 pub quote-bytes : encode_utf8 39 ≡ 39 ∷ []
 unfolding encode
@@ -47,7 +44,7 @@ quoted-step false prefix t rest c e is more =
 quoted-read : (t rest : List ℕ) → starts (λ c. c == 39) rest ≡ false → (prefix : List ℕ)
     → text_at prefix (quoted t ++ rest) ≡ Some (prefix ++ encode_utf8_all t, rest)
 quoted-read [] rest parted prefix = end-of-text prefix rest parted ∙ ap (λ x. Some (x, rest)) (sym (append-nil prefix))
-quoted-read (c ∷ t) rest parted prefix = quoted-step (c == 39) prefix t rest c refl (is-eq c 39) (quoted-read t rest parted)
+quoted-read (c ∷ t) rest parted prefix = quoted-step (c == 39) prefix t rest c refl (eqb-true c 39) (quoted-read t rest parted)
 
 text-read-back : (t w rest : List ℕ) → IsWritten (Text t) w → starts (joins (Text t)) rest ≡ false → lexeme_at (w ++ rest) ≡ Some (Text t, rest)
 text-read-back t w rest (cs, bytes, spelt) parted =

@@ -40,8 +40,8 @@ abbrev pub word_or : List ℕ → Option Keyword → Option Lexeme
 word_or word (Some k) = Some (Word k)
 word_or word None = name_lexeme word
 
-abbrev pub word_of : List ℕ → Option Lexeme
-word_of word = word_or word (keyword_of word)
+abbrev pub keyword_or_name : List ℕ → Option Lexeme
+keyword_or_name word = word_or word (keyword_of word)
 
 -- Of a text whose quote was opened and that has these bytes so far: all its bytes, and what follows its last quote. A quote is 39.
 abbrev pub text_at : List ℕ → List ℕ → Option (List ℕ × List ℕ)
@@ -75,7 +75,7 @@ sign_at c cs =
 abbrev pub lexeme_at : List ℕ → Option (Lexeme × List ℕ)
 lexeme_at [] = None
 lexeme_at (c ∷ cs) =
-    if is_ascii_alphabetic c then (word_of (map to_ascii_lowercase (run is_name_byte (c ∷ cs))) >>= λ w. Some (w, after_run is_name_byte (c ∷ cs)))
+    if is_ascii_alphabetic c then (keyword_or_name (map to_ascii_lowercase (run is_name_byte (c ∷ cs))) >>= λ w. Some (w, after_run is_name_byte (c ∷ cs)))
     else (if is_ascii_digit c then Some (Number (run is_ascii_digit (c ∷ cs)), after_run is_ascii_digit (c ∷ cs))
     else (if c == 39 then (text_at [] cs >>= λ t. Some (Text t.0, t.1))
     else (sign_at c cs >>= λ s. Some (Sign s.0, s.1))))

@@ -32,13 +32,13 @@ all_procedures =
     ∷ Define AddFieldSection ∷ Define AddSpecialSection ∷ []
 
 -- the first of some that has these names
-abbrev pub named_among : List ℕ → List ℕ → List Procedure → Option Procedure
-named_among pack name [] = None
-named_among pack name (p ∷ ps) = if bytes_eq (procedure_package p) pack && bytes_eq (procedure_name p) name then Some p else named_among pack name ps
+abbrev pub procedure_among : List ℕ → List ℕ → List Procedure → Option Procedure
+procedure_among pack name [] = None
+procedure_among pack name (p ∷ ps) = if bytes_eq (procedure_package p) pack && bytes_eq (procedure_name p) name then Some p else procedure_among pack name ps
 
 -- the procedure of these names, which are given in lower case
 abbrev pub procedure_named : List ℕ → List ℕ → Option Procedure
-procedure_named pack name = named_among pack name all_procedures
+procedure_named pack name = procedure_among pack name all_procedures
 
 -- computed examples
 a_definition : procedure_named (codes "ctx_ddl") (codes "add_stopword") ≡ Some (Define AddStopword)

@@ -8,7 +8,7 @@ use Rattle.st_parse.specs.declared.lexemes.Symbol.{Symbol}
 use Rattle.st_parse.specs.declared.lexemes.Symbol.TheVariants.{Open, Close, Comma, Dot, Star, Equal, Less, AtMost, Greater, AtLeast, Minus}
 use Rattle.st_parse.specs.declared.lexemes.Lexeme.{Lexeme}
 use Rattle.st_parse.specs.declared.lexemes.Lexeme.TheVariants.{Word, Name, Text, Number, Sign}
-use Rattle.st_parse.specs.Lexemes.{is_in_line, word_of}
+use Rattle.st_parse.specs.Lexemes.{is_in_line, keyword_or_name}
 
 -- the first character passes, if there is one
 abbrev pub starts : (ℕ → Bool) → List ℕ → Bool
@@ -36,7 +36,7 @@ sign Minus = 45 ∷ []
 -- a letter and then letters, digits, `_`, `$` and `#`, which in lower case are this keyword or name
 abbrev pub IsWordOf : Lexeme → List ℕ → Type 0
 IsWordOf l [] = ⊥
-IsWordOf l (c ∷ cs) = (is_ascii_alphabetic c ≡ true) × (list_all is_name_byte cs ≡ true) × (word_of (map to_ascii_lowercase (c ∷ cs)) ≡ Some l)
+IsWordOf l (c ∷ cs) = (is_ascii_alphabetic c ≡ true) × (list_all is_name_byte cs ≡ true) × (keyword_or_name (map to_ascii_lowercase (c ∷ cs)) ≡ Some l)
 
 abbrev pub IsDigits : List ℕ → Type 0
 IsDigits [] = ⊥

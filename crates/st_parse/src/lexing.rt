@@ -7,7 +7,7 @@ ghost use Rattle.std.specs.String.{string_bytes};
 ghost use Rattle.ct_base.specs.Characters.{is_first};
 ghost use Rattle.ct_base.specs.Names.{is_name_byte};
 ghost use Rattle.st_parse.specs.Keywords.{keyword_of};
-ghost use Rattle.st_parse.specs.Lexemes.{run, after_run, is_in_line, name_lexeme, word_of, text_at, sign_of, sign_at, lexeme_at, begins_comment, lexemes};
+ghost use Rattle.st_parse.specs.Lexemes.{run, after_run, is_in_line, name_lexeme, keyword_or_name, text_at, sign_of, sign_at, lexeme_at, begins_comment, lexemes};
 ghost use Rattle.st_parse.specs.Reading.{LexGives};
 ghost use Rattle.st_parse.specs.declared.lexing.LexFault.TheVariants.{NoLexeme, Memory as NoMemory};
 
@@ -165,9 +165,9 @@ fn name_of(alloc: Global, word: &str) -> Result<Lexeme, LexFault>
 }
 
 /// The keyword or the name that a word in lower case is.
-fn word_of(alloc: Global, word: &str) -> Result<Lexeme, LexFault>
+fn keyword_or_name(alloc: Global, word: &str) -> Result<Lexeme, LexFault>
     requires { map to_ascii_lowercase word.now ≡ word.now }
-    ensures { LexGives (λ l. l) result (word_of word.now) }
+    ensures { LexGives (λ l. l) result (keyword_or_name word.now) }
 {
     match keyword_of(word) {
         Some(keyword) => Ok(Lexeme::Word(keyword)),
@@ -214,7 +214,7 @@ fn lexeme_at(alloc: Global, text: &str) -> Result<(Lexeme, &str), LexFault>
     };
     if c.is_ascii_alphabetic() {
         let (word, rest) = read_word(alloc, text)?;
-        Ok((word_of(alloc, word.as_str())?, rest))
+        Ok((keyword_or_name(alloc, word.as_str())?, rest))
     } else if c.is_ascii_digit() {
         let (digits, rest) = read_digits(alloc, text)?;
         Ok((Lexeme::Number(Text::owned(digits)), rest))

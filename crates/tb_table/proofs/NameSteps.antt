@@ -1,18 +1,15 @@
 -- How the names that a scan finds become the names of all tables.
-use Rattle.std.proofs.Common.{◌≡◌, ℕ, suc, ◌+◌, ◌<◌, ◌≤◌, Bool, true, false, cond, List, [], ◌∷◌, length, get_or, Option, Some, None, refl, sym, ap, subst, ◌∙◌, arith, append-nil, zero-add, is_lt}
-use Rattle.std.specs.Prelude.{◌&&◌, ◌||◌, is_some, sum_by, IsPermutation, IsSorted}
+use Rattle.std.proofs.Common.{◌≡◌, ℕ, ◌+◌, Bool, true, false, cond, List, [], ◌∷◌, length, Option, Some, None, refl, sym, ap, subst, ◌∙◌, arith, append-nil, zero-add}
+use Rattle.std.specs.Prelude.{◌&&◌, is_some, IsPermutation, IsSorted}
 use Rattle.std.specs.List.{cons_option}
 use Rattle.std.specs.declared.cmp.Ordering.{Ordering}
-use Rattle.std.specs.declared.cmp.Ordering.TheVariants.{Less, Equal, Greater}
-use Rattle.std.specs.Ordering.{nat_cmp, is_eq, eq_by_cmp, ordering_reverse}
+use Rattle.std.specs.Ordering.{nat_cmp, is_eq, eq_by_cmp}
 use Rattle.std.specs.Cmp.Lexicographic.{slice_cmp}
 use Rattle.std.specs.FinMap.{entries, find, get, get-entries}
-use Rattle.std.proofs.lemmas.Bool.{eq-eqb, and_parts, and_from}
+use Rattle.std.proofs.lemmas.Bool.{eq-eqb, and_parts}
 use Rattle.std.proofs.lemmas.Cmp.{nat_list_cmp_total, tied_itself}
 use Rattle.std.proofs.lemmas.Map.Lookups.{exact_bytes}
-use Rattle.std.proofs.lemmas.List.MinMax.{ranks_by}
-use Rattle.std.proofs.lemmas.List.Sorted.{sorted_far, sum_by-IsPermutation}
-use Rattle.std.proofs.lemmas.List.Sums.{sum_by-cons}
+use Rattle.std.proofs.lemmas.List.Sorted.{sum_by-IsPermutation}
 use Rattle.ct_base.specs.Names.{is_kept, kept_name}
 use Rattle.ct_keep.specs.Content.{Content}
 use Rattle.ct_keep.specs.Looks.{one_if}
@@ -22,44 +19,16 @@ use Rattle.ct_keep.specs.RisingKeys.{below, rises, entries_rise}
 use Rattle.ct_entry.specs.declared.kinds.Kind.TheVariants as kind
 use Rattle.ct_entry.specs.Kinds.{code}
 use Rattle.ct_entry.specs.Keys.{counted_bytes, same_list}
-use Rattle.ct_entry.specs.Each.{is_among}
 use Rattle.ct_base.specs.laws.Orders.{equal_from_test}
 use Rattle.ct_entry.specs.laws.Keys.{list_from_same, list_same}
 use Rattle.ct_keep.specs.FoundKeys.{none_below, below_tied}
 use Rattle.ct_entry.specs.Listings.{owner_of, owners_of, owners_under}
 use Rattle.ct_entry.specs.laws.Owners.{owner_some}
-use Rattle.tb_table.specs.Readings.{all_above, names_rise, has_table, AreTableNames}
+use Rattle.tb_table.specs.laws.NameOrder.{tally, tally-cons, among_once, at_most_one, sorted_names_rise}
+use Rattle.tb_table.specs.Readings.{has_table, AreTableNames}
 
 abbrev order : List ℕ → List ℕ → Ordering
 order = slice_cmp nat_cmp
-
--- ---- how often a name stands among others
-
-abbrev tally : List ℕ → List (List ℕ) → ℕ
-tally t us = sum_by (λ u. one_if (same_list t u)) us
-
-tally-cons : (t u : List ℕ) (us : List (List ℕ)) → tally t (u ∷ us) ≡ one_if (same_list t u) + tally t us
-tally-cons t u us = sum_by-cons (λ u. one_if (same_list t u)) u us
-
-tally_none : (t : List ℕ) (us : List (List ℕ)) → tally t us ≡ 0 → is_among t us ≡ false
-tally_none t [] h = refl
-tally_none t (u ∷ us) h = go (same_list t u) (sym (tally-cons t u us) ∙ h) (tally_none t us)
-  where
-    go : (b : Bool) → one_if b + tally t us ≡ 0 → (tally t us ≡ 0 → is_among t us ≡ false) → (b || is_among t us) ≡ false
-    go true e rest = absurd (omega arith)
-    go false e rest = rest (omega arith)
-
-tally_some : (t : List ℕ) (us : List (List ℕ)) → 0 < tally t us → is_among t us ≡ true
-tally_some t [] h = absurd (omega arith)
-tally_some t (u ∷ us) h = go (same_list t u) (let e = tally-cons t u us in omega (arith, e)) (tally_some t us)
-  where
-    go : (b : Bool) → 0 < one_if b + tally t us → (0 < tally t us → is_among t us ≡ true) → (b || is_among t us) ≡ true
-    go true e rest = refl
-    go false e rest = rest (omega arith)
-
-among_once : (t : List ℕ) (us : List (List ℕ)) (b : Bool) → tally t us ≡ one_if b → is_among t us ≡ b
-among_once t us true h = tally_some t us (omega (arith, h))
-among_once t us false h = tally_none t us h
 
 -- ---- the names that a scan finds, each once
 
@@ -125,46 +94,10 @@ tally-under t m =
     ∙ ap (λ (o : Option (List ℕ)). one_if (is_kept t && is_some o))
     (sym (get-entries (tail (code kind.Tables ∷ []) m) (counted_bytes t)) ∙ get-tail (code kind.Tables ∷ []) m (length t) t ∙ ap (λ (l : List ℕ). get m (code kind.Tables ∷ length t ∷ l)) (sym (append-nil t)))
 
--- ---- names in order, none of them twice
-
-abbrev NeverFalls : List (List ℕ) → Type 0
-NeverFalls us = (i j : ℕ) (d : List ℕ) → i ≤ j → j < length us → is_lt (order (get_or us j d) (get_or us i d)) ≡ false
-
-above : (t : List ℕ) (us : List (List ℕ)) → ((k : ℕ) (d : List ℕ) → k < length us → is_lt (order (get_or us k d) t) ≡ false) → is_among t us ≡ false → all_above t us ≡ true
-above t [] low none = refl
-above t (u ∷ us) low none =
-    let apart = neither (same_list t u) (is_among t us) none in
-    and_from _ _ (less (order t u) refl (low 0 [] (omega arith)) apart.0) (above t us (λ k d h. low (suc k) d (omega arith)) apart.1)
-  where
-    neither : (a b : Bool) → (a || b) ≡ false → (a ≡ false) × (b ≡ false)
-    neither true b h = cc
-    neither false b h = (refl, h)
-
-    less : (o : Ordering) → order t u ≡ o → is_lt (order u t) ≡ false → same_list t u ≡ false → is_lt (order t u) ≡ true
-    less Less is high apart = ap is_lt is
-    less Equal is high apart =
-        let same : t ≡ u = exact_bytes t u is in
-        let one : same_list t u ≡ true = subst (λ (v : List ℕ). same_list t v ≡ true) same (list_same t) in
-        cc
-    less Greater is high apart =
-        let back : order u t ≡ Less = nat_list_cmp_total.antisymm u t ∙ ap ordering_reverse is in
-        cc
-
-rise : (us : List (List ℕ)) → NeverFalls us → ((t : List ℕ) → tally t us ≤ 1) → names_rise us ≡ true
-rise [] far once = refl
-rise (u ∷ us) far once =
-    let here : tally u us ≡ 0 = (let e = tally-cons u u us in let o = once u in let s : same_list u u ≡ true = list_same u in let c : one_if (same_list u u) ≡ 1 = rw s refl in omega (arith, e, o, c)) in
-    and_from _ _ (above u us (λ k d h. far 0 (suc k) d (omega arith) (omega arith)) (tally_none u us here))
-    (rise us (λ i j d le h. far (suc i) (suc j) d (omega arith) (omega arith)) (λ t. let e = tally-cons t u us in let o = once t in omega (arith, e, o)))
-
-at_most_one : (b : Bool) → one_if b ≤ 1
-at_most_one true = omega arith
-at_most_one false = omega arith
-
 -- the names that a scan finds, put into order
 pub tables_named : (m : Content) (found names : List (List ℕ)) → found ≡ owners_under kind.Tables m → IsPermutation found names → IsSorted (slice_cmp nat_cmp) names → AreTableNames m names
 tables_named m found names is moved sorted = record {
-  rising = rise names (λ i j d le h. sorted_far (λ x y. is_lt (order x y)) (ranks_by nat_list_cmp_total (λ x. x)) names sorted i j d le h) (λ t. let e = once t in let l = at_most_one (has_table m t) in omega (arith, e, l));
+  rising = sorted_names_rise names sorted (λ t. let e = once t in let l = at_most_one (has_table m t) in omega (arith, e, l));
   each = λ t. among_once t names (has_table m t) (once t);
 }
   where

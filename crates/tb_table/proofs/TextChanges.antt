@@ -4,12 +4,12 @@ use Rattle.std.specs.List.{All}
 use Rattle.std.proofs.lemmas.List.Elements.{All-cons}
 use Rattle.ct_entry.specs.declared.kinds.Kind.TheVariants as kind
 use Rattle.ct_entry.specs.Keys.{key, text_part}
-use Rattle.ct_entry.specs.Changes.{KeyChange, spell, put}
+use Rattle.ct_entry.specs.Changes.{KeyChange, spell, put_value}
 use Rattle.tb_table.specs.Shapes.{IsTextEntry}
 use Rattle.tb_table.specs.Spelling.{row_text_changes}
 
 abbrev pub text_change : List ℕ → ℤ → ℕ × List ℕ → KeyChange
-text_change t r x = put (key kind.RowTexts t (text_part x.0 r)) x.1
+text_change t r x = put_value (key kind.RowTexts t (text_part x.0 r)) x.1
 
 -- with the changes of what is left the batch is the same as before
 pub text_added : (t : List ℕ) (r : ℤ) (batch new all : List (List ℕ × Option (List ℕ))) (x : ℕ × List ℕ) (xs rest : List (ℕ × List ℕ))

@@ -8,7 +8,7 @@ use Rattle.ct_base.specs.Names.{IsName, is_kept}
 use Rattle.ct_keep.specs.Content.{Content}
 use Rattle.ct_entry.specs.declared.kinds.Kind.TheVariants as kind
 use Rattle.ct_entry.specs.Keys.{key, at}
-use Rattle.ct_entry.specs.Each.{is_among}
+use Rattle.ct_entry.specs.Each.{is_any_of}
 use Rattle.tb_table.specs.declared.columns.Sort.{Sort}
 use Rattle.tb_table.specs.declared.columns.Column.{Column}
 use Rattle.tb_table.specs.Spelling.{sort_code, sort_size, column_bytes, columns_bytes, row_numbers_bytes}
@@ -83,7 +83,7 @@ has_table m t = is_kept t && is_some (at m (key kind.Tables t []))
 -- The names of all tables, each once, in the order of their bytes.
 pub record AreTableNames (m : Content) (names : List (List ℕ)) : Type 0 where
   pub rising : names_rise names ≡ true
-  pub each : (t : List ℕ) → is_among t names ≡ has_table m t
+  pub each : (t : List ℕ) → is_any_of t names ≡ has_table m t
 
 -- computed examples
 abbrev two_columns : List Column

@@ -43,9 +43,9 @@ has_column name [] = false
 has_column name (c ∷ cs) = if same_list name c.name then true else has_column name cs
 
 -- no two columns have one name
-abbrev pub AreApart : List Column → Type 0
-AreApart [] = Unit {0}
-AreApart (c ∷ cs) = (has_column c.name cs ≡ false) × AreApart cs
+abbrev pub HaveDistinctNames : List Column → Type 0
+HaveDistinctNames [] = Unit {0}
+HaveDistinctNames (c ∷ cs) = (has_column c.name cs ≡ false) × HaveDistinctNames cs
 
 abbrev pub AllColumns : List Column → Type 0
 AllColumns [] = Unit {0}
@@ -59,7 +59,7 @@ IsKeyFirst (c ∷ cs) = c.sort ≡ Number
 pub record AreColumns (cs : List Column) : Type 0 where
   pub each : AllColumns cs
   pub key : IsKeyFirst cs
-  pub apart : AreApart cs
+  pub apart : HaveDistinctNames cs
   pub few : length cs ≤ column_limit
 
 -- the columns but the key

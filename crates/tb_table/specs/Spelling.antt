@@ -8,15 +8,15 @@ use Rattle.ct_bytes.specs.Varints.{varint, text_bytes}
 use Rattle.ct_bytes.specs.RowKeys.{row_bytes}
 use Rattle.ct_entry.specs.declared.kinds.Kind.TheVariants as kind
 use Rattle.ct_entry.specs.Keys.{Key, key, row_part, text_part, IsRow}
-use Rattle.ct_entry.specs.Changes.{put, drop_key, spell}
-use Rattle.ct_entry.specs.Removals.{removals, removal_looks, SameOwned}
+use Rattle.ct_entry.specs.Changes.{put_value, drop_key, spell}
+use Rattle.ct_entry.specs.Removals.{owned_removals, removal_looks, SameOwned}
 use Rattle.ct_keep.specs.Content.{Content}
 use Rattle.ct_keep.specs.KeeperViews.{Counts}
 use Rattle.ct_keep.specs.Looks.{plus}
 use Rattle.tb_table.specs.declared.columns.Sort.{Sort}
 use Rattle.tb_table.specs.declared.columns.Sort.TheVariants.{Number, Varchar2, Clob}
 use Rattle.tb_table.specs.declared.columns.Column.{Column}
-use Rattle.tb_table.specs.Tables.{Table, Tables, row_at, numbers_of, text_of, texts_of, docs_columns}
+use Rattle.tb_table.specs.Tables.{Table, Tables, row_at, numbers_of, text_in_column, texts_of, docs_columns}
 use Rattle.ct_base.specs.declared.lists.Value.TheVariants.{Number as NumberValue, Text}
 
 -- the byte of a sort, and its size, which is 0 but for VARCHAR2
@@ -50,7 +50,7 @@ numbers_key t r = key kind.RowNumbers t (row_part r)
 pub record TablesStand (f : Key → Option (List ℕ)) (ts : Tables) : Type 0 where
   pub tables : (t : List ℕ) → f (key kind.Tables t []) ≡ option_map (λ (x : Table). columns_bytes x.columns) (get ts t)
   pub numbers : (t : List ℕ) (r : ℤ) → IsRow r → f (key kind.RowNumbers t (row_part r)) ≡ option_map (λ vs. row_numbers_bytes (numbers_of vs)) (row_at ts t r)
-  pub texts : (t : List ℕ) (c : ℕ) (r : ℤ) → c < 256 → IsRow r → f (key kind.RowTexts t (text_part c r)) ≡ option_and_then (λ vs. text_of vs c) (row_at ts t r)
+  pub texts : (t : List ℕ) (c : ℕ) (r : ℤ) → c < 256 → IsRow r → f (key kind.RowTexts t (text_part c r)) ≡ option_and_then (λ vs. text_in_column vs c) (row_at ts t r)
 
 -- The second view has of a table's entries what the first has.
 pub record SameTable (t : List ℕ) (f g : Key → Option (List ℕ)) : Type 0 where
@@ -61,14 +61,14 @@ pub record SameTable (t : List ℕ) (f g : Key → Option (List ℕ)) : Type 0 w
 -- ---- what calls put into a batch
 
 abbrev pub table_changes : List ℕ → List Column → List (Key × Option (List ℕ))
-table_changes t columns = put (key kind.Tables t []) (columns_bytes columns) ∷ []
+table_changes t columns = put_value (key kind.Tables t []) (columns_bytes columns) ∷ []
 
 -- a change for each text, by its column
 abbrev pub row_text_changes : List ℕ → ℤ → List (ℕ × List ℕ) → List (Key × Option (List ℕ))
-row_text_changes t r texts = map (λ (x : ℕ × List ℕ). put (key kind.RowTexts t (text_part x.0 r)) x.1) texts
+row_text_changes t r texts = map (λ (x : ℕ × List ℕ). put_value (key kind.RowTexts t (text_part x.0 r)) x.1) texts
 
 abbrev pub insert_changes : List ℕ → ℤ → List ℤ → List (ℕ × List ℕ) → List (Key × Option (List ℕ))
-insert_changes t r numbers texts = put (key kind.RowNumbers t (row_part r)) (row_numbers_bytes numbers) ∷ row_text_changes t r texts
+insert_changes t r numbers texts = put_value (key kind.RowNumbers t (row_part r)) (row_numbers_bytes numbers) ∷ row_text_changes t r texts
 
 -- the place of a column, if it has texts
 abbrev pub text_place : ℕ → Sort → List ℕ
@@ -94,7 +94,7 @@ delete_changes t columns r = drop_key (numbers_key t r) ∷ drop_texts t r (text
 
 -- the removal of a table: of its own entry, and of the numbers and the texts of all its rows
 abbrev pub remove_changes : List ℕ → Content → List (Key × Option (List ℕ))
-remove_changes t m = removals kind.Tables t m ++ removals kind.RowNumbers t m ++ removals kind.RowTexts t m
+remove_changes t m = owned_removals kind.Tables t m ++ owned_removals kind.RowNumbers t m ++ owned_removals kind.RowTexts t m
 
 -- what its look-ups add
 abbrev pub remove_looks : List ℕ → Content → Counts

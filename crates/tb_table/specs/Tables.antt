@@ -48,9 +48,9 @@ text_in (v ∷ vs) zero = as_text v
 text_in (v ∷ vs) (suc place) = text_in vs place
 
 -- the text of a column, that of the key being the column 0
-abbrev pub text_of : List Value → ℕ → Option (List ℕ)
-text_of vs zero = None
-text_of vs (suc place) = text_in vs place
+abbrev pub text_in_column : List Value → ℕ → Option (List ℕ)
+text_in_column vs zero = None
+text_in_column vs (suc place) = text_in vs place
 
 -- the texts of values of which the first stands in this column, each with its column
 abbrev pub texts_from : ℕ → List Value → List (ℕ × List ℕ)
@@ -80,9 +80,9 @@ given_text column (x ∷ texts) = option_or (given_text column texts) (if column
 -- These texts make the texts of the one row those of the other.
 pub record IsUpdate (texts : List (ℕ × List ℕ)) (old new : List Value) : Type 0 where
   -- the text that is given for a column is the new one
-  pub given : (column : ℕ) (text : List ℕ) → given_text column texts ≡ Some text → text_of new column ≡ Some text
+  pub given : (column : ℕ) (text : List ℕ) → given_text column texts ≡ Some text → text_in_column new column ≡ Some text
   -- a column for which none is given has the text that it had, or none as before
-  pub others : (column : ℕ) → given_text column texts ≡ None → text_of new column ≡ text_of old column
+  pub others : (column : ℕ) → given_text column texts ≡ None → text_in_column new column ≡ text_in_column old column
 
 -- ---- what statements make of the tables
 
@@ -162,13 +162,13 @@ its_numbers = refl
 its_texts : texts_of mixed_row ≡ (1, codes "a b") ∷ (3, []) ∷ []
 its_texts = refl
 
-an_empty_text : text_of mixed_row 3 ≡ Some []
+an_empty_text : text_in_column mixed_row 3 ≡ Some []
 an_empty_text = refl
 
-no_text_of_a_number : text_of mixed_row 2 ≡ None
+no_text_of_a_number : text_in_column mixed_row 2 ≡ None
 no_text_of_a_number = refl
 
-no_text_of_the_key : text_of mixed_row 0 ≡ None
+no_text_of_the_key : text_in_column mixed_row 0 ≡ None
 no_text_of_the_key = refl
 
 -- of two texts for a column the last counts
@@ -188,12 +188,12 @@ an_update = record { given = given; others = others }
     later : (place : ℕ) → given_text (suc (suc place)) ((1, codes "c d") ∷ []) ≡ None
     later place = ap (λ (b : Bool). if b then Some (codes "c d") else None) (ne_eqb (suc (suc place)) 1 (λ e. omega arith))
 
-    given : (column : ℕ) (text : List ℕ) → given_text column ((1, codes "c d") ∷ []) ≡ Some text → text_of updated_row column ≡ Some text
+    given : (column : ℕ) (text : List ℕ) → given_text column ((1, codes "c d") ∷ []) ≡ Some text → text_in_column updated_row column ≡ Some text
     given zero text is = cc
     given (suc zero) text is = is
     given (suc (suc place)) text is = let wrong : None ≡ Some text = sym (later place) ∙ is in cc
 
-    others : (column : ℕ) → given_text column ((1, codes "c d") ∷ []) ≡ None → text_of updated_row column ≡ text_of mixed_row column
+    others : (column : ℕ) → given_text column ((1, codes "c d") ∷ []) ≡ None → text_in_column updated_row column ≡ text_in_column mixed_row column
     others zero is = refl
     others (suc zero) is = cc
     others (suc (suc zero)) is = refl

@@ -6,3 +6,4 @@ pub mod Well
 pub mod Shapes
 pub mod Updates
 pub mod Removals
+pub mod NameOrder

@@ -4,7 +4,7 @@ ghost use Rattle.std.specs.Prelude.{◌≡◌, [], ◌∷◌, ◌++◌, ◌≤�
 ghost use Rattle.std.specs.List.{All};
 ghost use Rattle.ct_base.specs.Limits.{column_limit};
 ghost use Rattle.ct_entry.specs.Shapes.{AreShaped};
-ghost use Rattle.ct_entry.specs.Changes.{spell, put};
+ghost use Rattle.ct_entry.specs.Changes.{spell, put_value};
 ghost use Rattle.ct_entry.specs.declared.kinds.Kind.TheVariants as kind;
 ghost use Rattle.ct_entry.specs.Keys.{key, text_part};
 ghost use Rattle.tb_table.specs.Shapes.{HasTableValue, HaveShortTexts, IsTextEntry};
@@ -44,7 +44,7 @@ fn put_text(
     column: u8,
     text: Text,
 ) -> Result<(), Memory>
-    ensures changes { OnOk result (batch.new ≡ batch.old ++ spell (put (key kind.RowTexts table.now (text_part column row.0)) text ∷ [])) }
+    ensures changes { OnOk result (batch.new ≡ batch.old ++ spell (put_value (key kind.RowTexts table.now (text_part column row.0)) text ∷ [])) }
     ensures text { IsTextEntry (column, text) }
 {
     let _utf8 = text.as_str();

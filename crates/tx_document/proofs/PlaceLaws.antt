@@ -13,12 +13,12 @@ use Rattle.std.proofs.lemmas.Map.Text.{is_eq-slice_cmp}
 use Rattle.std.proofs.lemmas.Slice.Eq.{bytes_eq-Decides}
 use Rattle.ct_base.specs.declared.numbers.Pair.{Pair}
 use Rattle.tx_document.specs.declared.views.WordView.{WordView}
-use Rattle.tx_document.specs.Entries.{Place, place_map, places_under, word_places}
-use Rattle.tx_document.specs.Places.{PlaceMap, had, with_place, with_places, with_words}
+use Rattle.tx_document.specs.Entries.{DocumentPlace, place_map, places_under, word_places}
+use Rattle.tx_document.specs.Places.{PlaceMap, had, with_place, with_places, with_word_places}
 use Rattle.tx_document.specs.Promises.{if_any}
 use Rattle.tx_document.specs.laws.Found.{get-place_map}
 
-with_places_twice : (m : PlaceMap) (xs ys : List Place) → with_places m (xs ++ ys) ≡ with_places (with_places m xs) ys
+with_places_twice : (m : PlaceMap) (xs ys : List DocumentPlace) → with_places m (xs ++ ys) ≡ with_places (with_places m xs) ys
 with_places_twice m [] ys = refl
 with_places_twice m (x ∷ xs) ys = with_places_twice (with_place m x.0 x.1) xs ys
 
@@ -46,7 +46,7 @@ joined_more : (o : Option (List Pair)) (p : Pair) (ps : List Pair) → joined (S
 joined_more None p ps = refl
 joined_more (Some qs) p ps = ap (λ (l : List Pair). Some l) (append_assoc qs (p ∷ []) ps)
 
-with_places_at : (xs : List Place) (m : PlaceMap) (q : List ℕ) → get (with_places m xs) q ≡ joined (get m q) (places_under q xs)
+with_places_at : (xs : List DocumentPlace) (m : PlaceMap) (q : List ℕ) → get (with_places m xs) q ≡ joined (get m q) (places_under q xs)
 with_places_at [] m q = sym (joined_none (get m q))
 with_places_at (x ∷ xs) m q =
     with_places_at xs (with_place m x.0 x.1) q
@@ -61,7 +61,7 @@ with_places_at (x ∷ xs) m q =
     here false is = refl
 
 -- what all places come to
-pub with_places-place_map : (xs : List Place) → with_places empty xs ≡ place_map xs
+pub with_places-place_map : (xs : List DocumentPlace) → with_places empty xs ≡ place_map xs
 with_places-place_map xs = same_map nat_list_cmp_total exact_bytes (with_places empty xs) (place_map xs) (λ q.
     with_places_at xs empty q
     ∙ ap (λ (o : Option (List Pair)). joined o (places_under q xs)) (get-empty (slice_cmp nat_cmp) q)
@@ -72,12 +72,12 @@ pub had-or_none : (o : Option (Vec Pair Global)) (none : Vec Pair Global) → no
 had-or_none None none is = is
 had-or_none (Some v) none is = refl
 
-with_words_places : (m : PlaceMap) (ws : List WordView) → with_words m ws ≡ with_places m (flat_map word_places ws)
+with_words_places : (m : PlaceMap) (ws : List WordView) → with_word_places m ws ≡ with_places m (flat_map word_places ws)
 with_words_places m [] = refl
 with_words_places m (w ∷ ws) = with_words_places (with_places m (word_places w)) ws ∙ sym (with_places_twice m (word_places w) (flat_map word_places ws))
 
 -- the places of words, and then those of sections
-pub noted : (none words all : PlaceMap) (ws : List WordView) (ys : List Place) → none ≡ empty → words ≡ with_words none ws → all ≡ with_places words ys → all ≡ place_map (flat_map word_places ws ++ ys)
+pub noted : (none words all : PlaceMap) (ws : List WordView) (ys : List DocumentPlace) → none ≡ empty → words ≡ with_word_places none ws → all ≡ with_places words ys → all ≡ place_map (flat_map word_places ws ++ ys)
 noted none words all ws ys from first second =
-    second ∙ ap (λ (m : PlaceMap). with_places m ys) (first ∙ ap (λ (m : PlaceMap). with_words m ws) from ∙ with_words_places empty ws)
+    second ∙ ap (λ (m : PlaceMap). with_places m ys) (first ∙ ap (λ (m : PlaceMap). with_word_places m ws) from ∙ with_words_places empty ws)
     ∙ sym (with_places_twice empty (flat_map word_places ws) ys) ∙ with_places-place_map (flat_map word_places ws ++ ys)

@@ -11,9 +11,9 @@ use Rattle.std.proofs.lemmas.List.Sorted.{Contains-permutation, IsPermutation-sy
 use Rattle.std.proofs.lemmas.Map.Keys.{sorted_head, sorted_tail}
 use Rattle.ct_base.specs.laws.Orders.{equal_from_test}
 use Rattle.tx_document.specs.declared.views.SectionView.{SectionView}
-use Rattle.tx_document.specs.Documents.{rising, has_instance, place_of, section_cmp}
+use Rattle.tx_document.specs.Documents.{rising, has_instance, instance_place, section_cmp}
 use Rattle.tx_document.specs.Promises.{InstancesRise}
-use Rattle.tx_document.specs.laws.Instances.{put, put_is, rising_rises, section_cmp_total, section_cmp_exact}
+use Rattle.tx_document.specs.laws.Instances.{put_instance, put_is, rising_rises, section_cmp_total, section_cmp_exact}
 
 -- ---- members
 
@@ -81,7 +81,7 @@ has_in i (j ∷ js) has = go (or_cases (is_eq (section_cmp j i)) (has_instance i
     go (inl tie) rest = inl (sym (section_cmp_exact j i (equal_from_test _ tie)))
     go (inr later) rest = inr (rest later)
 
-in_put : (i j : SectionView) (is : List SectionView) → In i (put j is) → (i ≡ j) ⊎ In i is
+in_put : (i j : SectionView) (is : List SectionView) → In i (put_instance j is) → (i ≡ j) ⊎ In i is
 in_put i j [] there = there
 in_put i j (k ∷ ks) there = go (is_lt (section_cmp k j)) there (in_put i j ks)
   where
@@ -89,16 +89,16 @@ in_put i j (k ∷ ks) there = go (is_lt (section_cmp k j)) there (in_put i j ks)
     later (inl same) = inl same
     later (inr more) = inr (inr more)
 
-    go : (b : Bool) → In i (cond b (k ∷ put j ks) (j ∷ k ∷ ks)) → (In i (put j ks) → (i ≡ j) ⊎ In i ks) → (i ≡ j) ⊎ In i (k ∷ ks)
+    go : (b : Bool) → In i (cond b (k ∷ put_instance j ks) (j ∷ k ∷ ks)) → (In i (put_instance j ks) → (i ≡ j) ⊎ In i ks) → (i ≡ j) ⊎ In i (k ∷ ks)
     go true (inl same) rest = inr (inl same)
     go true (inr more) rest = later (rest more)
     go false more rest = more
 
-put_in : (i j : SectionView) (is : List SectionView) → (i ≡ j) ⊎ In i is → In i (put j is)
+put_in : (i j : SectionView) (is : List SectionView) → (i ≡ j) ⊎ In i is → In i (put_instance j is)
 put_in i j [] there = there
 put_in i j (k ∷ ks) there = go (is_lt (section_cmp k j)) there (put_in i j ks)
   where
-    go : (b : Bool) → (i ≡ j) ⊎ In i (k ∷ ks) → ((i ≡ j) ⊎ In i ks → In i (put j ks)) → In i (cond b (k ∷ put j ks) (j ∷ k ∷ ks))
+    go : (b : Bool) → (i ≡ j) ⊎ In i (k ∷ ks) → ((i ≡ j) ⊎ In i ks → In i (put_instance j ks)) → In i (cond b (k ∷ put_instance j ks) (j ∷ k ∷ ks))
     go true (inl same) rest = inr (rest (inl same))
     go true (inr (inl same)) rest = inl same
     go true (inr (inr more)) rest = inr (rest (inr more))
@@ -108,7 +108,7 @@ in_rising : (is : List SectionView) → SameMembers is (rising is)
 in_rising [] i there = there
 in_rising (j ∷ js) i there = go (has_instance j (rising js)) refl there (in_rising js i)
   where
-    go : (b : Bool) → has_instance j (rising js) ≡ b → (i ≡ j) ⊎ In i js → (In i js → In i (rising js)) → In i (cond b (rising js) (insert (rising js) (place_of j (rising js)) j))
+    go : (b : Bool) → has_instance j (rising js) ≡ b → (i ≡ j) ⊎ In i js → (In i js → In i (rising js)) → In i (cond b (rising js) (insert (rising js) (instance_place j (rising js)) j))
     go true has (inl same) rest = subst (λ (k : SectionView). In k (rising js)) (sym same) (has_in j (rising js) has)
     go true has (inr more) rest = rest more
     go false has (inl same) rest = subst (In i) (sym (put_is j (rising js))) (put_in i j (rising js) (inl same))
@@ -122,7 +122,7 @@ of_rising (j ∷ js) i there = go (has_instance j (rising js)) there (of_rising 
     either (inl same) rest = inl same
     either (inr more) rest = inr (rest more)
 
-    go : (b : Bool) → In i (cond b (rising js) (insert (rising js) (place_of j (rising js)) j)) → (In i (rising js) → In i js) → In i (j ∷ js)
+    go : (b : Bool) → In i (cond b (rising js) (insert (rising js) (instance_place j (rising js)) j)) → (In i (rising js) → In i js) → In i (j ∷ js)
     go true more rest = inr (rest more)
     go false more rest = either (in_put i j (rising js) (subst (In i) (put_is j (rising js)) more)) rest
 

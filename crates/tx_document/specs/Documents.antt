@@ -154,13 +154,13 @@ abbrev pub has_instance : SectionView → List SectionView → Bool
 has_instance i is = list_any (λ (j : SectionView). is_eq (section_cmp j i)) is
 
 -- how many of them at the beginning are less
-abbrev pub place_of : SectionView → List SectionView → ℕ
-place_of i [] = 0
-place_of i (j ∷ js) = if is_lt (section_cmp j i) then place_of i js + 1 else 0
+abbrev pub instance_place : SectionView → List SectionView → ℕ
+instance_place i [] = 0
+instance_place i (j ∷ js) = if is_lt (section_cmp j i) then instance_place i js + 1 else 0
 
 -- the rising list with one more, each once
 abbrev pub with_instance : SectionView → List SectionView → List SectionView
-with_instance i is = if has_instance i is then is else insert is (place_of i is) i
+with_instance i is = if has_instance i is then is else insert is (instance_place i is) i
 
 -- these instances in rising order, equal ones once
 abbrev pub rising : List SectionView → List SectionView

@@ -23,31 +23,31 @@ abbrev pub section_stream : ℕ
 section_stream = 255
 
 -- A place of a document: the stream and the token, or the stream of sections and the name of one, as bytes one after the other; and where it stands.
-abbrev pub Place : Type 0
-Place = List ℕ × Pair
+abbrev pub DocumentPlace : Type 0
+DocumentPlace = List ℕ × Pair
 
 -- a position p is the pair (p, p)
-abbrev pub word_places : WordView → List Place
+abbrev pub word_places : WordView → List DocumentPlace
 word_places w = of w.key
   where
-    of : Option (List ℕ) → List Place
+    of : Option (List ℕ) → List DocumentPlace
     of None = []
-    of (Some key) = map {B = Place} (λ stream. (stream ∷ key, pair w.position w.position)) w.streams
+    of (Some key) = map {B = DocumentPlace} (λ stream. (stream ∷ key, pair w.position w.position)) w.streams
 
-abbrev pub section_place : SectionView → Place
+abbrev pub section_place : SectionView → DocumentPlace
 section_place s = (section_stream ∷ s.section, pair s.first s.last)
 
 -- the places of words in the order of their positions, and those of sections in their order
-abbrev pub places_of : DocView → List Place
+abbrev pub places_of : DocView → List DocumentPlace
 places_of d = flat_map word_places d.words ++ map section_place d.sections
 
 -- where one stands, in the order of these places
-abbrev pub places_under : List ℕ → List Place → List Pair
+abbrev pub places_under : List ℕ → List DocumentPlace → List Pair
 places_under name [] = []
 places_under name (x ∷ xs) = if bytes_eq name x.0 then x.1 ∷ places_under name xs else places_under name xs
 
 -- each that stands anywhere, with its places
-abbrev pub place_map : List Place → FinMap (slice_cmp nat_cmp) (List Pair)
+abbrev pub place_map : List DocumentPlace → FinMap (slice_cmp nat_cmp) (List Pair)
 place_map xs = from_entries (map {B = List ℕ × List Pair} (λ x. (x.0, places_under x.0 xs)) xs)
 
 abbrev pub entry : ℕ → List ℕ → List Pair → Entry

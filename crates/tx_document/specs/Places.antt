@@ -9,7 +9,7 @@ use Rattle.std.specs.FinMap.{FinMap, get, insert, remove, empty, from_sorted, co
 use Rattle.ct_base.specs.declared.numbers.Pair.{Pair}
 use Rattle.tx_document.specs.declared.views.WordView.{WordView}
 use Rattle.tx_document.specs.Documents.{pair}
-use Rattle.tx_document.specs.Entries.{Place, word_places}
+use Rattle.tx_document.specs.Entries.{DocumentPlace, word_places}
 
 -- the places of names, in the order of the names' bytes
 abbrev pub PlaceMap : Type 0
@@ -25,14 +25,14 @@ abbrev pub with_place : PlaceMap → List ℕ → Pair → PlaceMap
 with_place m name p = insert (remove m name) name (had (get m name) ++ p ∷ [])
 
 -- places one after the other
-abbrev pub with_places : PlaceMap → List Place → PlaceMap
+abbrev pub with_places : PlaceMap → List DocumentPlace → PlaceMap
 with_places m [] = m
 with_places m (x ∷ xs) = with_places (with_place m x.0 x.1) xs
 
 -- the places of words one after the other
-abbrev pub with_words : PlaceMap → List WordView → PlaceMap
-with_words m [] = m
-with_words m (w ∷ ws) = with_words (with_places m (word_places w)) ws
+abbrev pub with_word_places : PlaceMap → List WordView → PlaceMap
+with_word_places m [] = m
+with_word_places m (w ∷ ws) = with_word_places (with_places m (word_places w)) ws
 
 -- ---- the entries of a map in memory, seen as names and places
 

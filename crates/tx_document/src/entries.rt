@@ -2,8 +2,8 @@
 
 ghost use Rattle.std.specs.Prelude.{◌≡◌, ◌∷◌, IfOk, OnOk, map};
 ghost use Rattle.tx_document.specs.Documents.{pair};
-ghost use Rattle.tx_document.specs.Entries.{Place, entries, entry_of, section_place, section_stream, word_places};
-ghost use Rattle.tx_document.specs.Places.{with_place, with_places, with_words};
+ghost use Rattle.tx_document.specs.Entries.{DocumentPlace, entries, entry_of, section_place, section_stream, word_places};
+ghost use Rattle.tx_document.specs.Places.{with_place, with_places, with_word_places};
 
 use crate::places::Places;
 use crate::views::{DocView, SectionView, WordView};
@@ -41,7 +41,7 @@ impl DocView {
 
 /// Notes the words in their streams.
 fn note_words(alloc: Global, places: &mut Places, words: &[WordView]) -> Result<(), Memory>
-    ensures { OnOk result (places.new ≡ with_words places.old words.now) }
+    ensures { OnOk result (places.new ≡ with_word_places places.old words.now) }
 {
     let mut rest = words;
     while let [word, later @ ..] = rest {
@@ -75,7 +75,7 @@ fn note_streams(
     streams: &[u8],
     position: u32,
 ) -> Result<(), Memory>
-    ensures { OnOk result (places.new ≡ with_places places.old (map {B = Place} (λ stream. (stream ∷ key.now, pair position position)) streams.now)) }
+    ensures { OnOk result (places.new ≡ with_places places.old (map {B = DocumentPlace} (λ stream. (stream ∷ key.now, pair position position)) streams.now)) }
 {
     let mut rest = streams;
     while let [stream, later @ ..] = rest {

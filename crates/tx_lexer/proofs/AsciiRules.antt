@@ -1,5 +1,6 @@
 -- The default rules and those for ASCII give the same tokens of an ASCII text.
 use Rattle.std.proofs.Common.{◌≡◌, ◌<◌, ℕ, suc, ◌+◌, Bool, true, false, cond, ◌||◌, ◌&&◌, List, [], ◌∷◌, ◌++◌, map, take, Option, Some, None, refl, sym, ap, ◌∙◌}
+use Rattle.std.proofs.Math.Bool.{or-false}
 use Rattle.std.specs.Prelude.{◌==◌}
 use Rattle.std.specs.Char.{is_ascii_alphanumeric, len_utf8, to_ascii_lowercase}
 use Rattle.std.specs.Str.{IsAscii}
@@ -75,16 +76,12 @@ digit_at : (o : Option ℕ) → IsAsciiAt o → is_digit_at o ≡ is_ascii_digit
 digit_at None h = refl
 digit_at (Some c) h = digits_are_decimal c h
 
-or_none : (b : Bool) → (b || false) ≡ b
-or_none true = refl
-or_none false = refl
-
 abbrev chosen : ℕ → Bool → Bool → Bool → Role
 chosen c core before after = cond core Core (cond ((46 == c || 44 == c) && (before && after)) Number Out)
 
 same_role : (before : Option ℕ) (c : ℕ) (after : Option ℕ) → IsAsciiAt before → c < 128 → IsAsciiAt after → role_at default_options before c after ≡ ascii_role before c after
 same_role before c after hb h ha =
-    ap (λ w. chosen c w (is_digit_at before) (is_digit_at after)) (or_none (is_word c) ∙ words_are_alphanumeric c h)
+    ap (λ w. chosen c w (is_digit_at before) (is_digit_at after)) (or-false (is_word c) ∙ words_are_alphanumeric c h)
     ∙ ap (λ d. chosen c (is_ascii_alphanumeric c) d (is_digit_at after)) (digit_at before hb)
     ∙ ap (λ d. chosen c (is_ascii_alphanumeric c) (is_ascii_digit_at before) d) (digit_at after ha)
 

@@ -1,5 +1,5 @@
 -- On ASCII the default options are rules that ask no table of characters.
-use Rattle.std.specs.Prelude.{ℕ, ◌≡◌, ◌==◌, Bool, false, ◌||◌, ◌&&◌, List, [], ◌∷◌, map, take, Option, Some, None}
+use Rattle.std.specs.Prelude.{ℕ, ◌≡◌, ◌==◌, Bool, true, false, ◌||◌, ◌&&◌, List, [], ◌∷◌, map, take, Option, Some, None, codes, refl}
 use Rattle.std.specs.Bool.{if◌then◌else◌}
 use Rattle.std.specs.Char.{is_ascii_alphanumeric, is_ascii_digit, to_ascii_lowercase}
 use Rattle.std.specs.Str.{IsAscii, chars}
@@ -28,3 +28,25 @@ ascii_rules = record { role = ascii_role; key = λ text. take token_limit (map t
 -- The tokens of an ASCII text by the default options are those by these rules.
 abbrev pub TokensOfAscii : Type 0
 TokensOfAscii = (text : List ℕ) → IsAscii text → tokens default (chars text) ≡ tokens ascii_rules text
+
+-- computed examples
+
+-- the `.` of `1.2`, of `1.a`, and at the end of `1.`
+between_digits : ascii_role (Some 49) 46 (Some 50) ≡ Number
+between_digits = refl
+
+before_a_letter : ascii_role (Some 49) 46 (Some 97) ≡ Out
+before_a_letter = refl
+
+at_the_end : ascii_role (Some 49) 46 None ≡ Out
+at_the_end = refl
+
+a_key : ascii_rules.key (codes "Jack") ≡ codes "jack"
+a_key = refl
+
+-- `.` closes a sentence and `,` doesn't
+a_full_stop : ascii_rules.closes 46 ≡ true
+a_full_stop = refl
+
+a_comma : ascii_rules.closes 44 ≡ false
+a_comma = refl

@@ -7,6 +7,7 @@ use Rattle.std.proofs.lemmas.Cmp.{nat_list_cmp_total}
 use Rattle.std.proofs.lemmas.List.{length-map}
 use Rattle.std.proofs.lemmas.List.Sums.{sum_by-cons}
 use Rattle.ct_base.specs.laws.Lists.{cons_parts}
+use Rattle.ct_base.specs.laws.Options.{is_some-option_map}
 use Rattle.ct_keep.specs.Content.{Content}
 use Rattle.ct_entry.specs.declared.kinds.Kind.{Kind}
 use Rattle.ct_entry.specs.declared.kinds.Kind.TheVariants as kind
@@ -27,14 +28,10 @@ use Rattle.tx_prefs.specs.Sees.{HoldsPreferences, has_named, named_count}
 
 -- ---- whether there is one
 
-some_mapped : {X Y : Type 0} (f : X → Y) (o : Option X) → is_some (option_map f o) ≡ is_some o
-some_mapped f None = refl
-some_mapped f (Some x) = refl
-
 pub named_there : (f : Key → Option (List ℕ)) (ps : Preferences) (k : PrefKind) (name : List ℕ) → PreferencesStand f ps → is_some (f (key (entry_kind k) name [])) ≡ has_named k name ps
-named_there f ps Lexer name stand = ap is_some (stand.lexers name) ∙ some_mapped settings_bytes (get ps.lexers name)
-named_there f ps Stoplist name stand = ap is_some (stand.stoplists name) ∙ some_mapped words_bytes (get ps.stoplists name)
-named_there f ps SectionGroup name stand = ap is_some (stand.groups name) ∙ some_mapped group_bytes (get ps.groups name)
+named_there f ps Lexer name stand = ap is_some (stand.lexers name) ∙ is_some-option_map settings_bytes (get ps.lexers name)
+named_there f ps Stoplist name stand = ap is_some (stand.stoplists name) ∙ is_some-option_map words_bytes (get ps.stoplists name)
+named_there f ps SectionGroup name stand = ap is_some (stand.groups name) ∙ is_some-option_map group_bytes (get ps.groups name)
 
 -- ---- how many there are
 

@@ -15,9 +15,6 @@ use Rattle.tx_prefs.specs.Promises.{value_of, tags_of, kind_with}
 
 -- ---- settings
 
-eqb-is : (a b : ℕ) → (a == b) ≡ true → a ≡ b
-eqb-is a b h = eqb-true a b h
-
 -- of three attributes: the first is less than the second, and which of them is the third one
 first_less : (s t : Setting) (rest others : Option (List ℕ)) (new its : Bool) (p q : ℕ) → p < q → (p ≡ q → ⊥) → rest ≡ cond new (Some s.value) others
     → ((its ≡ true) → (new ≡ true) → ⊥) → cond its (Some t.value) rest ≡ cond new (Some s.value) (cond its (Some t.value) others)
@@ -30,10 +27,10 @@ last_value-step : (s t : Setting) (rest others : Option (List ℕ)) (less same n
     → cond less (cond its (Some t.value) rest) (cond same (cond new (Some s.value) others) (cond new (Some s.value) (cond its (Some t.value) others))) ≡ cond new (Some s.value) (cond its (Some t.value) others)
 last_value-step s t rest others true same new its p q a less_is same_is new_is its_is is =
     first_less s t rest others new its p q (ltb-true p q less_is) (λ e. let l = ltb-true p q less_is in omega (arith, e, l)) is
-    (λ i n. let l = ltb-true p q less_is in let e = eqb-is p a (its_is ∙ i) in let f = eqb-is q a (new_is ∙ n) in omega (arith, e, f, l))
+    (λ i n. let l = ltb-true p q less_is in let e = eqb-true p a (its_is ∙ i) in let f = eqb-true q a (new_is ∙ n) in omega (arith, e, f, l))
 last_value-step s t rest others false true true its p q a less_is same_is new_is its_is is = refl
 last_value-step s t rest others false true false true p q a less_is same_is new_is its_is is =
-    let e = eqb-is p q same_is in let f = eqb-is p a its_is in let g : q ≡ a = sym e ∙ f in absurd (false≢true (sym new_is ∙ eq-eqb q a g))
+    let e = eqb-true p q same_is in let f = eqb-true p a its_is in let g : q ≡ a = sym e ∙ f in absurd (false≢true (sym new_is ∙ eq-eqb q a g))
 last_value-step s t rest others false true false false p q a less_is same_is new_is its_is is = refl
 last_value-step s t rest others false false new its p q a less_is same_is new_is its_is is = refl
 

@@ -88,8 +88,8 @@ abbrev pub name_for : PrefKind → List Request → Option (List ℕ)
 name_for kind [] = None
 name_for kind (r ∷ rs) = if is_of kind r.kind then r.name else name_for kind rs
 
-abbrev pub parameters_of : List Request → Parameters
-parameters_of rs = record { lexer = name_for Lexer rs; stoplist = name_for Stoplist rs; group = name_for SectionGroup rs }
+abbrev pub requested_parameters : List Request → Parameters
+requested_parameters rs = record { lexer = name_for Lexer rs; stoplist = name_for Stoplist rs; group = name_for SectionGroup rs }
 
 -- the name, where none of the kind has it, and else the other
 abbrev pub unknown_or : Option (List ℕ) → PrefKind → Option (List ℕ) → Preferences → Option (List ℕ)
@@ -122,5 +122,5 @@ another_word : requests_of (codes "lexer a transactional") ≡ None
 unfolding chars encode
 another_word = refl
 
-a_lexer_alone : parameters_of (request Lexer (Some (codes "lx")) ∷ []) ≡ record { lexer = Some (codes "lx"); stoplist = None; group = None }
+a_lexer_alone : requested_parameters (request Lexer (Some (codes "lx")) ∷ []) ≡ record { lexer = Some (codes "lx"); stoplist = None; group = None }
 a_lexer_alone = refl

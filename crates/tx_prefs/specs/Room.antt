@@ -16,24 +16,24 @@ use Rattle.tx_settings.specs.PrefsBytes.{settings_bytes, words_bytes, group_byte
 use Rattle.tx_prefs.specs.Preferences.{Preferences, no_preferences}
 
 -- an entry by its key and value
-abbrev pub Entry : Type 0
-Entry = List ℕ × List ℕ
+abbrev pub PreferenceEntry : Type 0
+PreferenceEntry = List ℕ × List ℕ
 
 -- the entry of a name of this kind
-abbrev pub named_entry : {X : Type 0} → Kind → (X → List ℕ) → List ℕ × X → Entry
+abbrev pub named_entry : {X : Type 0} → Kind → (X → List ℕ) → List ℕ × X → PreferenceEntry
 named_entry k spelling e = (bytes (key k e.0 []), spelling e.1)
 
-abbrev pub lexer_entries : Preferences → List Entry
+abbrev pub lexer_entries : Preferences → List PreferenceEntry
 lexer_entries ps = map (named_entry kind.Preferences settings_bytes) (entries ps.lexers)
 
-abbrev pub stoplist_entries : Preferences → List Entry
+abbrev pub stoplist_entries : Preferences → List PreferenceEntry
 stoplist_entries ps = map (named_entry kind.Stoplists words_bytes) (entries ps.stoplists)
 
-abbrev pub group_entries : Preferences → List Entry
+abbrev pub group_entries : Preferences → List PreferenceEntry
 group_entries ps = map (named_entry kind.SectionGroups group_bytes) (entries ps.groups)
 
 -- all entries of preferences
-abbrev pub preference_entries : Preferences → List Entry
+abbrev pub preference_entries : Preferences → List PreferenceEntry
 preference_entries ps = lexer_entries ps ++ (stoplist_entries ps ++ group_entries ps)
 
 abbrev pub preferences_room : Preferences → ℕ

@@ -1,5 +1,5 @@
 -- What calls say of the preferences that a content holds, by the view of the keeper before them.
-use Rattle.std.specs.Prelude.{ℕ, ◌≡◌, Bool, false, nat_le, is_some, List, length, Result}
+use Rattle.std.specs.Prelude.{ℕ, ◌≡◌, Bool, true, false, nat_le, is_some, List, length, Result}
 use Rattle.std.specs.FinMap.{get, get-empty, entries}
 use Rattle.std.specs.Ordering.{nat_cmp}
 use Rattle.std.specs.Cmp.Lexicographic.{slice_cmp}
@@ -37,9 +37,18 @@ named_count Stoplist ps = length (entries ps.stoplists)
 named_count SectionGroup ps = length (entries ps.groups)
 
 -- whether there are as many as there may be
-abbrev pub is_full : PrefKind → Preferences → Bool
-is_full kind ps = nat_le preference_limit (named_count kind ps)
+abbrev pub is_kind_full : PrefKind → Preferences → Bool
+is_kind_full kind ps = nat_le preference_limit (named_count kind ps)
 
--- example: a new store has no stoplist of any name
+-- computed examples
+
+-- a new store has no stoplist of any name
 none_yet : (name : List ℕ) → has_named Stoplist name no_preferences ≡ false
 none_yet name = ap is_some (get-empty (slice_cmp nat_cmp) name)
+
+-- with 255 of a kind there may be one more, with 256 there may not
+not_yet_full : (ps : Preferences) → named_count Stoplist ps ≡ 255 → is_kind_full Stoplist ps ≡ false
+not_yet_full ps count = ap (nat_le preference_limit) count
+
+full : (ps : Preferences) → named_count Stoplist ps ≡ 256 → is_kind_full Stoplist ps ≡ true
+full ps count = ap (nat_le preference_limit) count

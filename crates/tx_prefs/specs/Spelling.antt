@@ -7,7 +7,7 @@ use Rattle.ct_keep.specs.Content.{value_limit}
 use Rattle.ct_entry.specs.declared.kinds.Kind.{Kind}
 use Rattle.ct_entry.specs.declared.kinds.Kind.TheVariants as kind
 use Rattle.ct_entry.specs.Keys.{Key, key}
-use Rattle.ct_entry.specs.Changes.{put, spell}
+use Rattle.ct_entry.specs.Changes.{put_value, spell}
 use Rattle.ct_entry.specs.Maps.{Names}
 use Rattle.tx_tags.specs.Groups.{SectionGroup, no_sections}
 use Rattle.tx_settings.specs.declared.attributes.Attribute.TheVariants.{Skipjoins}
@@ -37,13 +37,13 @@ entry_kind Group = kind.SectionGroups
 -- ---- what calls put into a batch
 
 abbrev pub lexer_changes : List ℕ → List Setting → List (Key × Option (List ℕ))
-lexer_changes name settings = put (key kind.Preferences name []) (settings_bytes settings) ∷ []
+lexer_changes name settings = put_value (key kind.Preferences name []) (settings_bytes settings) ∷ []
 
 abbrev pub stoplist_changes : List ℕ → List (List ℕ) → List (Key × Option (List ℕ))
-stoplist_changes name words = put (key kind.Stoplists name []) (words_bytes words) ∷ []
+stoplist_changes name words = put_value (key kind.Stoplists name []) (words_bytes words) ∷ []
 
 abbrev pub group_changes : List ℕ → SectionGroup → List (Key × Option (List ℕ))
-group_changes name group = put (key kind.SectionGroups name []) (group_bytes group) ∷ []
+group_changes name group = put_value (key kind.SectionGroups name []) (group_bytes group) ∷ []
 
 -- The changes as a batch, or None where the value that they put would be longer than a value may be.
 abbrev pub MakesBatch : List ℕ → List (Key × Option (List ℕ)) → Option (List (List ℕ × Option (List ℕ))) → Type 0

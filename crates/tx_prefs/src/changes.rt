@@ -1,7 +1,7 @@
 //! What calls put into a batch.
 
 ghost use Rattle.std.specs.Prelude.{◌≡◌, true, [], ◌∷◌, IfOk, IfSome};
-ghost use Rattle.ct_entry.specs.Changes.{spell, put};
+ghost use Rattle.ct_entry.specs.Changes.{spell, put_value};
 ghost use Rattle.ct_entry.specs.Keys.{key};
 ghost use Rattle.ct_entry.specs.Shapes.{AreShaped};
 ghost use Rattle.tx_settings.specs.PrefsBytes.{are_settings, are_words, settings_bytes, words_bytes};
@@ -17,7 +17,7 @@ use tx_tags::Group;
 
 /// The change by which the entry of a name has this value.
 fn change(alloc: Global, kind: Kind, name: &Name, value: Vec<u8>) -> Result<Batch, Memory>
-    ensures { IfOk result (λ batch. batch ≡ spell (put (key kind name.now []) value.items ∷ [])) }
+    ensures { IfOk result (λ batch. batch ≡ spell (put_value (key kind name.now []) value.items ∷ [])) }
 {
     let mut batch = Batch::new(alloc);
     put_entry(alloc, &mut batch, kind, name, &[], value)?;

@@ -7,7 +7,7 @@ ghost use Rattle.std.specs.FinMap.{get};
 ghost use Rattle.ct_keep.specs.KeeperViews.{OnlyReads};
 ghost use Rattle.tx_settings.specs.PrefsBytes.{are_settings, are_words};
 ghost use Rattle.tx_prefs.specs.Rules.{preference_limit};
-ghost use Rattle.tx_prefs.specs.Sees.{SeesPreferences, has_named as is_named, is_full as is_full_of};
+ghost use Rattle.tx_prefs.specs.Sees.{SeesPreferences, has_named as is_named, is_kind_full};
 
 use crate::kinds::PrefKind;
 use crate::reading::{group_in, settings_in, words_in};
@@ -98,9 +98,13 @@ fn are_most(names: &[Name]) -> bool
 
 /// Whether there are as many of this kind as there may be, which is 256. It reads all entries of the kind whole. It never answers
 /// Full.
-pub fn is_full<K: Keeper>(alloc: Global, keeper: &mut K, kind: PrefKind) -> Result<bool, KeepFault>
+pub fn is_kind_full<K: Keeper>(
+    alloc: Global,
+    keeper: &mut K,
+    kind: PrefKind,
+) -> Result<bool, KeepFault>
     requires { (K.view keeper.old).ready }
-    ensures full { SeesPreferences K.view keeper.old result (λ ps full. full ≡ is_full_of kind ps) }
+    ensures full { SeesPreferences K.view keeper.old result (λ ps full. full ≡ is_kind_full kind ps) }
     ensures reads { OnlyReads K.view keeper.old keeper.new result }
 {
     let names = owners(alloc, keeper, kind.entry_kind())?;

@@ -4,7 +4,7 @@ ghost use Rattle.std.specs.Prelude.{◌≡◌, ◌<◌, [], true, IfOk, IfSome, 
 ghost use Rattle.std.specs.List.{list_all};
 ghost use Rattle.std.specs.Option.{option_map};
 ghost use Rattle.std.specs.Char.{to_ascii_lowercase};
-ghost use Rattle.tx_prefs.specs.Requests.{asked, default_name, is_free, is_of, name_for, parameters_of, requests_from, requests_of};
+ghost use Rattle.tx_prefs.specs.Requests.{asked, default_name, is_free, is_of, name_for, requested_parameters, requests_from, requests_of};
 ghost use Rattle.tx_prefs.specs.RequestWords.{first_request, keyword, read_word};
 
 use crate::kinds::PrefKind;
@@ -151,8 +151,8 @@ fn is_word(text: &Text, word: &str) -> bool
 }
 
 /// What requests ask for, each kind by the first request of it. Its cost is linear in the number of requests.
-pub fn parameters_of(requests: &[Request]) -> Result<Parameters, Memory>
-    ensures { IfOk result (λ parameters. parameters ≡ parameters_of requests.now) }
+pub fn requested_parameters(requests: &[Request]) -> Result<Parameters, Memory>
+    ensures { IfOk result (λ parameters. parameters ≡ requested_parameters requests.now) }
 {
     Ok(Parameters {
         lexer: name_for(PrefKind::Lexer, requests)?,

@@ -5,9 +5,9 @@ ghost use Rattle.ct_keep.specs.SeenChanges.{change_of};
 ghost use Rattle.ct_keep.specs.Changes.{AnyEntry, AreWell};
 
 use crate::{
-    Parameters, PrefKind, Request, copy, group_changes, has_named, is_full, is_pref_shape,
-    lexer_changes, lexer_settings, parameters_of, read_requests, section_group, stoplist_changes,
-    stoplist_words, unknown_request, with_setting,
+    Parameters, PrefKind, Request, copy, group_changes, has_named, is_kind_full, is_pref_shape,
+    lexer_changes, lexer_settings, read_requests, requested_parameters, section_group,
+    stoplist_changes, stoplist_words, unknown_request, with_setting,
 };
 use ct_base::{Memory, Name, Text};
 use ct_entry::Kind;
@@ -213,7 +213,7 @@ fn is_full_of(alloc: Global, count: u16) -> Result<bool, KeepFault> {
         let name = named(alloc, text.as_str())?;
         add(alloc, &mut keeper, PrefKind::Stoplist, &name, b"\0")?;
     }
-    is_full(alloc, &mut keeper, PrefKind::Stoplist)
+    is_kind_full(alloc, &mut keeper, PrefKind::Stoplist)
 }
 
 #[test]
@@ -322,7 +322,7 @@ fn say_name(line: &mut String, name: &Option<Name>) -> Result<(), Memory> {
 fn say_requests(alloc: Global, line: &mut String, requests: &[Request]) -> Result<(), KeepFault> {
     let mut keeper = stored(alloc)?;
     let unknown = unknown_request(alloc, &mut keeper, requests)?;
-    let asked = parameters_of(requests)?;
+    let asked = requested_parameters(requests)?;
     say_name(line, &unknown)?;
     say_name(line, &asked.lexer)?;
     say_name(line, &asked.stoplist)?;

@@ -1,5 +1,5 @@
 -- What the functions of `src/prefs_laws.rt` promise of preferences as bytes.
-use Rattle.std.specs.Prelude.{ℕ, ◌≡◌, ◌≤◌, ◌<◌, ◌^◌, Bool, true, nat_le, List, ◌++◌, length}
+use Rattle.std.specs.Prelude.{ℕ, ◌≡◌, ◌≤◌, ◌<◌, ◌^◌, Bool, true, false, nat_le, List, [], ◌∷◌, ◌++◌, length, refl, replicate}
 use Rattle.std.specs.List.{list_all}
 use Rattle.std.specs.Str.{IsUtf8}
 use Rattle.tx_lexer.specs.declared.options.LexerOptions.{LexerOptions}
@@ -7,9 +7,10 @@ use Rattle.tx_lexer.specs.Tokens.{default_options}
 use Rattle.tx_stop.specs.StopKeys.{stop_limit}
 use Rattle.tx_tags.specs.Groups.{SectionGroup}
 use Rattle.tx_settings.specs.declared.attributes.Attribute.{Attribute}
+use Rattle.tx_settings.specs.declared.attributes.Attribute.TheVariants.{Printjoins}
 use Rattle.tx_settings.specs.declared.attributes.Setting.{Setting}
 use Rattle.tx_settings.specs.declared.preferences.Prefs.{Prefs}
-use Rattle.tx_settings.specs.Attributes.{are_taken, can_be_set, options_of, settings_of, takes_value}
+use Rattle.tx_settings.specs.Attributes.{are_taken, can_be_set, options_of, setting, settings_of, takes_value}
 use Rattle.tx_settings.specs.PrefsBytes.{IsPrefs, are_options, are_settings, are_short, are_words, group_bytes, is_named_group, is_short, prefs_bytes, settings_bytes, words_bytes}
 
 -- ---- no spelling begins another
@@ -87,3 +88,10 @@ GroupsAreShort = (g : SectionGroup) → is_named_group g ≡ true → length (gr
 
 abbrev pub PrefsAreShort : Type 0
 PrefsAreShort = (p : Prefs) → IsPrefs p → length (prefs_bytes p) < 2 ^ 21
+
+-- computed examples: a value of 256 bytes, and one of 257
+as_long_as_may_be : have_short_values (setting Printjoins (replicate 256 0x2b) ∷ []) ≡ true
+as_long_as_may_be = refl
+
+a_byte_too_long : have_short_values (setting Printjoins (replicate 257 0x2b) ∷ []) ≡ false
+a_byte_too_long = refl

@@ -1,3 +1,2 @@
-pub mod RisingKeys
 pub mod SearchedKeys
 pub mod KeysOfWords

@@ -12,8 +12,8 @@ use Rattle.std.proofs.lemmas.Bool.{and_parts}
 use Rattle.std.proofs.lemmas.Cmp.{nat_list_cmp_total}
 use Rattle.std.proofs.lemmas.List.Sorted.{searchable_from_sorted}
 use Rattle.std.proofs.lemmas.Map.Text.{is_eq-slice_cmp}
-use Rattle.tx_stop.specs.StopKeys.{is_stop, place_of, keys_rise}
-use Rattle.tx_stop.proofs.RisingKeys.{lt}
+use Rattle.tx_stop.specs.StopKeys.{is_stop, key_place, keys_rise}
+use Rattle.tx_stop.specs.laws.RisingKeys.{lt}
 
 abbrev cmp : List ℕ → List ℕ → Ordering
 cmp k l = slice_cmp nat_cmp k l
@@ -47,12 +47,12 @@ less_other k key e = sym (is_eq-slice_cmp k key) ∙ ap is_eq e
 greater_other : (k key : List ℕ) → cmp k key ≡ Greater → bytes_eq k key ≡ false
 greater_other k key e = sym (is_eq-slice_cmp k key) ∙ ap is_eq e
 
-place_at : (ks : List (List ℕ)) (key : List ℕ) (i : ℕ) → i ≤ length ks → Parts ks key i → place_of key ks ≡ i
+place_at : (ks : List (List ℕ)) (key : List ℕ) (i : ℕ) → i ≤ length ks → Parts ks key i → key_place key ks ≡ i
 place_at [] key i within parts = omega (arith, within)
-place_at (k ∷ ks) key zero within parts = ap (λ (b : Bool). cond b (place_of key ks + 1) 0) (ap is_lt (parts.1 0 k (omega arith) (omega arith)))
+place_at (k ∷ ks) key zero within parts = ap (λ (b : Bool). cond b (key_place key ks + 1) 0) (ap is_lt (parts.1 0 k (omega arith) (omega arith)))
 place_at (k ∷ ks) key (suc i) within parts =
     let rest = place_at ks key i (omega (arith, within)) ((λ j d h. parts.0 (suc j) d (omega (arith, h))), (λ j d h w. parts.1 (suc j) d (omega (arith, h)) (omega (arith, w)))) in
-    ap (λ (b : Bool). cond b (place_of key ks + 1) 0) (ap is_lt (parts.0 0 k (omega arith))) ∙ (omega (arith, rest))
+    ap (λ (b : Bool). cond b (key_place key ks + 1) 0) (ap is_lt (parts.0 0 k (omega arith))) ∙ (omega (arith, rest))
 
 none_at : (ks : List (List ℕ)) (key : List ℕ) (i : ℕ) → i ≤ length ks → Parts ks key i → is_stop ks key ≡ false
 none_at [] key i within parts = refl
@@ -76,7 +76,7 @@ stop_at (k ∷ ks) key (suc i) within same = later (bytes_eq k key) (stop_at ks 
 
 pub record IsSearched (ks : List (List ℕ)) (key : List ℕ) (r : Result ℕ ℕ) : Type 0 where
   pub found : is_ok r ≡ is_stop ks key
-  pub place : IfErr r (λ i. i ≡ place_of key ks)
+  pub place : IfErr r (λ i. i ≡ key_place key ks)
 
 pub searched_keys : (ks : List (List ℕ)) (key : List ℕ) (r : Result ℕ ℕ) → keys_rise ks ≡ true → MatchResult r (λ i. i < length ks) (λ i. i ≤ length ks)
     → IsBinarySearchResult (λ k. cmp k key) ks r → IsSearched ks key r

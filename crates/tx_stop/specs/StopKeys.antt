@@ -16,13 +16,13 @@ abbrev pub is_stop : List (List ℕ) → List ℕ → Bool
 is_stop keys key = list_any (λ k. bytes_eq k key) keys
 
 -- how many of them at the beginning are less, in the order of bytes
-abbrev pub place_of : List ℕ → List (List ℕ) → ℕ
-place_of key [] = 0
-place_of key (k ∷ ks) = if is_lt (slice_cmp nat_cmp k key) then place_of key ks + 1 else 0
+abbrev pub key_place : List ℕ → List (List ℕ) → ℕ
+key_place key [] = 0
+key_place key (k ∷ ks) = if is_lt (slice_cmp nat_cmp k key) then key_place key ks + 1 else 0
 
 -- with one more, which is passed over where it is empty or there already
 abbrev pub with_key : List ℕ → List (List ℕ) → List (List ℕ)
-with_key key keys = if (length key == 0) || is_stop keys key then keys else insert keys (place_of key keys) key
+with_key key keys = if (length key == 0) || is_stop keys key then keys else insert keys (key_place key keys) key
 
 abbrev pub with_words : Bool → Bool → List (List ℕ) → List (List ℕ) → List (List ℕ)
 with_words base_letter mixed_case keys [] = keys

@@ -12,7 +12,7 @@ use Rattle.std.proofs.Math.Seq.{take-length}
 use Rattle.tx_tags.specs.declared.groups.Section.{Section}
 use Rattle.tx_tags.specs.Groups.{tag_names}
 use Rattle.tx_tags.specs.Tags.{GroupTag, group_tags, tag_named}
-use Rattle.tx_tags.specs.Tables.{found, place_parts, either_tag, section_tags}
+use Rattle.tx_tags.specs.Tables.{tag_in_table, place_parts, either_tag, section_tags}
 
 by_name : (b : Bool) (p : TagPlace) (old new : Option TagPlace) → new ≡ cond b (Some p) old → (b ≡ true → old ≡ None)
     → option_map place_parts new ≡ either_tag (option_map place_parts old) (cond b (Some (place_parts p)) None)
@@ -25,12 +25,12 @@ not_there None h = refl
 not_there (Some p) h = cc
 
 pub found_more : (tag section : List ℕ) (n : ℕ) (k : String Global) (p : TagPlace) (old new : BTreeMap (String Global) TagPlace) (name : List ℕ) → string_bytes k ≡ tag → place_parts p ≡ (section, n) → is_some (get_by_text old tag) ≡ false
-    → Updates string_cmp old new k (Some p) → found name new ≡ either_tag (found name old) (cond (bytes_eq tag name) (Some (section, n)) None)
+    → Updates string_cmp old new k (Some p) → tag_in_table name new ≡ either_tag (tag_in_table name old) (cond (bytes_eq tag name) (Some (section, n)) None)
 found_more tag section n k p old new name is parts none put =
     by_name (bytes_eq tag name) p (get_by_text old name) (get_by_text new name)
     (btree_map_updates_text (string_bytes k) old new (Some p) put name ∙ ap (λ (bs : List ℕ). cond (bytes_eq bs name) (Some p) (get_by_text old name)) is)
     (λ same. ap (get_by_text old) (sym ((bytes_eq-Decides tag name).0 same)) ∙ not_there (get_by_text old tag) none)
-    ∙ ap (λ (x : List ℕ × ℕ). either_tag (found name old) (cond (bytes_eq tag name) (Some x) None)) parts
+    ∙ ap (λ (x : List ℕ × ℕ). either_tag (tag_in_table name old) (cond (bytes_eq tag name) (Some x) None)) parts
 
 -- ---- the tags of a list of sections, one section after the other
 

@@ -1,5 +1,5 @@
 -- Section groups, and the rules that every group keeps.
-use Rattle.std.specs.Prelude.{ℕ, ◌≡◌, ◌==◌, Bool, true, false, not, ◌&&◌, ◌||◌, nat_le, List, [], ◌∷◌, ◌++◌, length, map, filter, bytes_eq, Option, Some, None, codes, refl, replicate}
+use Rattle.std.specs.Prelude.{ℕ, ◌≡◌, ◌==◌, Bool, true, false, not, ◌&&◌, ◌||◌, nat_le, List, [], ◌∷◌, ◌++◌, length, map, filter, bytes_eq, Option, Some, None, MatchOption, codes, refl, replicate}
 use Rattle.std.specs.Bool.{if◌then◌else◌}
 use Rattle.std.specs.List.{list_all, list_any, flat_map}
 use Rattle.std.specs.Char.{is_ascii_lowercase, is_ascii_digit}
@@ -92,6 +92,10 @@ are_sections ss =
 abbrev pub is_group : SectionGroup → Bool
 is_group g = (not g.is_null || is_empty g.sections) && are_sections g.sections
 
+-- Of these parts there is the group, exactly where they keep the rules.
+abbrev pub IsGroupOf : SectionGroup → Option SectionGroup → Type 0
+IsGroupOf parts o = MatchOption o (is_group parts ≡ false) (λ g. g ≡ parts)
+
 -- ---- one more
 
 -- the sections with one tag more: of the section of this name, or of a new one behind the others
@@ -122,6 +126,12 @@ no_null_group = refl
 a_second_tag : with_tag (codes "q") Zone (codes "h1") zones.sections
     ≡ record { name = codes "p"; kind = Zone; tags = codes "p" ∷ [] } ∷ record { name = codes "q"; kind = Zone; tags = codes "q" ∷ codes "h1" ∷ [] } ∷ record { name = codes "t"; kind = Field; tags = codes "t" ∷ [] } ∷ []
 a_second_tag = refl
+
+one_group : IsGroupOf zones (Some zones)
+one_group = refl
+
+no_group : IsGroupOf (record zones { is_null = true }) None
+no_group = refl
 
 -- the tag p stands in the zone p already
 twice : is_group (record zones { sections = with_tag (codes "r") Zone (codes "p") zones.sections }) ≡ false

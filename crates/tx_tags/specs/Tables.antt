@@ -1,5 +1,5 @@
 -- A table of the tags of a group by their names.
-use Rattle.std.specs.Prelude.{ℕ, ◌≡◌, List, [], ◌∷◌, map, codes, refl, Option, Some, None, String, true}
+use Rattle.std.specs.Prelude.{ℕ, ◌≡◌, ◌+◌, List, [], ◌∷◌, ◌++◌, length, map, bytes_eq, codes, refl, Option, Some, None, String, true}
 use Rattle.std.specs.Option.{option_map}
 use Rattle.std.specs.declared.alloc.Global.{Global}
 use Rattle.std.specs.BTreeMap.{BTreeMap, get_by_text}
@@ -19,8 +19,8 @@ abbrev pub place_parts : TagPlace → List ℕ × ℕ
 place_parts p = (p.section, p.number)
 
 -- what the table has at a name
-abbrev pub found : List ℕ → BTreeMap (String Global) TagPlace → Option (List ℕ × ℕ)
-found name table = option_map place_parts (get_by_text table name)
+abbrev pub tag_in_table : List ℕ → BTreeMap (String Global) TagPlace → Option (List ℕ × ℕ)
+tag_in_table name table = option_map place_parts (get_by_text table name)
 
 -- the first, or the second where there is no first
 abbrev pub either_tag : Option (List ℕ × ℕ) → Option (List ℕ × ℕ) → Option (List ℕ × ℕ)
@@ -29,8 +29,17 @@ either_tag (Some place) other = Some place
 
 -- it has at each name what the sections have, whose tags are spelt as tags
 pub record IsTableOf (ss : List Section) (table : BTreeMap (String Global) TagPlace) : Type 0 where
-  pub finds : (name : List ℕ) → found name table ≡ tag_named name 0 (group_tags ss)
+  pub finds : (name : List ℕ) → tag_in_table name table ≡ tag_named name 0 (group_tags ss)
   pub spelt : list_all is_tag (tag_names ss) ≡ true
+
+-- The new table has at each name what the old one has, and else the tag of this name, section and number.
+abbrev pub AddsTag : BTreeMap (String Global) TagPlace → BTreeMap (String Global) TagPlace → List ℕ → List ℕ → ℕ → Type 0
+AddsTag old new section tag number = (name : List ℕ) → tag_in_table name new ≡ either_tag (tag_in_table name old) (if bytes_eq tag name then Some (section, number) else None)
+
+-- The new table has what the old one has, and else the tags of a section, of which the first has the number `first`; it does so whatever tags come behind them.
+abbrev pub AddsTags : BTreeMap (String Global) TagPlace → BTreeMap (String Global) TagPlace → List ℕ → List (List ℕ) → ℕ → Type 0
+AddsTags old new section tags first = (name : List ℕ) (more : List GroupTag)
+    → either_tag (tag_in_table name new) (tag_named name (first + length tags) more) ≡ either_tag (tag_in_table name old) (tag_named name first (section_tags section tags ++ more))
 
 -- a name, if a tag can have it
 abbrev pub only_tag : Option (List ℕ) → Option (List ℕ)

@@ -54,6 +54,10 @@ tag_of place closing name t = record { section = t.0; tag = t.1; closing = closi
 abbrev pub named_tag : List GroupTag → ℕ → Spelt → Option TagView
 named_tag ts place s = option_map (tag_of place s.0 s.1) (tag_named s.1 0 ts)
 
+-- the tag at a place whose name this text begins with, up to a `>`; whether it closes was read before
+abbrev pub tag_before_close : List GroupTag → ℕ → Bool → List ℕ → Option TagView
+tag_before_close ts place closing text = option_and_then (named_tag ts place) (option_map (spelt closing) (name_before_close text))
+
 -- the tag of the group that begins the text, which stands at this place
 abbrev pub tag_at : List GroupTag → ℕ → List ℕ → Option TagView
 tag_at ts place [] = None
@@ -98,6 +102,9 @@ some_tags : tags_in zones (codes "<T>alpha</T> <Q>one <P>beta</P></Q>")
     ∷ record { section = codes "p"; tag = 0; closing = true; start = 27; end = 31 }
     ∷ record { section = codes "q"; tag = 1; closing = true; start = 31; end = 35 } ∷ []
 some_tags = refl
+
+no_tag_without_end : tag_before_close (group_tags zones.sections) 0 false (codes "p") ≡ None
+no_tag_without_end = refl
 
 -- a tag that the group doesn't have, a blank within a tag, and a `<` that begins none are plain text
 some_blanks : blanked zones (codes "<T>alpha</T> <x> < p> <p é") ≡ codes "   alpha     <x> < p> <p é"

@@ -1,7 +1,7 @@
 //! Section groups.
 
-ghost use Rattle.std.specs.Prelude.{◌≡◌, true, false, IfOk, MatchOption, length};
-ghost use Rattle.tx_tags.specs.Groups.{SectionGroup, field_count, is_among, is_group, kind_of, no_sections, tag_names, with_tag, zone_count};
+ghost use Rattle.std.specs.Prelude.{◌≡◌, true, IfOk, length};
+ghost use Rattle.tx_tags.specs.Groups.{IsGroupOf, field_count, is_among, is_group, kind_of, no_sections, tag_names, with_tag, zone_count};
 
 use crate::rules::{field_count, have_tag, keep_rules, tag_count, zone_count};
 use crate::sections::{kind_among, sections_with_tag};
@@ -78,7 +78,7 @@ impl Group {
         sentence: bool,
         paragraph: bool,
     ) -> Result<Option<Group>, Memory>
-        ensures { IfOk result (λ o. let parts : SectionGroup = record { is_null = is_null; sections = sections.items; sentence = sentence; paragraph = paragraph } in MatchOption o (is_group parts ≡ false) (λ g. g ≡ parts)) }
+        ensures { IfOk result (λ o. IsGroupOf (record { is_null = is_null; sections = sections.items; sentence = sentence; paragraph = paragraph }) o) }
     {
         if !keep_rules(is_null, sections.as_slice()) {
             return Ok(None);
@@ -101,7 +101,7 @@ impl Group {
         kind: SectionKind,
         tag: &str,
     ) -> Result<Option<Group>, Memory>
-        ensures { IfOk result (λ o. let parts = record self { sections = with_tag name.now kind tag.now self.sections } in MatchOption o (is_group parts ≡ false) (λ g. g ≡ parts)) }
+        ensures { IfOk result (λ o. IsGroupOf (record self { sections = with_tag name.now kind tag.now self.sections }) o) }
     {
         let Group {
             is_null,

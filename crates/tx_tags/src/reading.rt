@@ -2,11 +2,11 @@
 
 ghost use Rattle.std.specs.Prelude.{◌≡◌, ◌+◌, ◌<◌, ◌≤◌, ◌++◌, ◌^◌, [], IfOk, OnOk, length, option_to_list, replicate};
 ghost use Rattle.std.specs.Char.{len_utf8};
-ghost use Rattle.std.specs.Option.{option_and_then, option_map};
+ghost use Rattle.std.specs.Option.{option_and_then};
 ghost use Rattle.std.specs.Str.{chars};
 ghost use Rattle.std.specs.String.{string_bytes};
 ghost use Rattle.tx_tags.specs.Tables.{OverTable, place_parts};
-ghost use Rattle.tx_tags.specs.Tags.{blanked, blanked_from, group_tags, kept_or_blank, left_at, name_before_close, named_tag, spelt, spelt_tag, tag_at, tag_of, tags_from, tags_in};
+ghost use Rattle.tx_tags.specs.Tags.{blanked, blanked_from, group_tags, kept_or_blank, left_at, named_tag, spelt_tag, tag_at, tag_before_close, tag_of, tags_from, tags_in};
 
 use crate::groups::Group;
 use crate::spelling::read_name;
@@ -153,7 +153,7 @@ fn tag_named(
     text: &str,
 ) -> Result<Option<TagView>, Memory>
     requires { place ≤ 2 ^ 24 }
-    ensures { IfOk result (λ t. OverTable table.now.places (λ ts. t ≡ option_and_then (named_tag ts place) (option_map (spelt closing) (name_before_close (chars text.now))))) }
+    ensures { IfOk result (λ t. OverTable table.now.places (λ ts. t ≡ tag_before_close ts place closing (chars text.now))) }
 {
     let Some(name) = read_name(alloc, text)? else {
         return Ok(None);

@@ -1,12 +1,10 @@
 //! The tags of a group by their names.
 
-ghost use Rattle.std.specs.Prelude.{◌≡◌, ◌≤◌, ◌+◌, ◌++◌, true, ℕ, List, Some, None, IfOk, OnOk, length, bytes_eq};
-ghost use Rattle.std.specs.Bool.{if◌then◌else◌};
+ghost use Rattle.std.specs.Prelude.{◌≡◌, ◌≤◌, ◌+◌, true, IfOk, OnOk, length};
 ghost use Rattle.std.specs.Option.{option_map};
 ghost use Rattle.std.specs.List.{list_all};
 ghost use Rattle.tx_tags.specs.Groups.{is_tag, tag_names};
-ghost use Rattle.tx_tags.specs.Tables.{IsTableOf, found, place_parts, either_tag, section_tags};
-ghost use Rattle.tx_tags.specs.Tags.{tag_named};
+ghost use Rattle.tx_tags.specs.Tables.{AddsTag, AddsTags, IsTableOf, tag_in_table, place_parts};
 
 use crate::groups::Section;
 use ct_base::{Memory, Name, Text};
@@ -60,7 +58,7 @@ impl TagTable {
     /// Puts the tags of a section, where the first one has this number through the group.
     fn put_section(&mut self, alloc: Global, section: &Section, first: usize) -> Result<(), Memory>
         requires { first + length section.now.tags ≤ 256 }
-        ensures { OnOk result ((name : List ℕ) (more : List (List ℕ × List ℕ)) → either_tag (found name self.new.places) (tag_named name (first + length section.now.tags) more) ≡ either_tag (found name self.old.places) (tag_named name first (section_tags section.now.name section.now.tags ++ more))) }
+        ensures { OnOk result (AddsTags self.old.places self.new.places section.now.name section.now.tags first) }
     {
         let mut number = first;
         let mut rest = section.tags.as_slice();
@@ -80,7 +78,7 @@ impl TagTable {
         tag: &Text,
         number: usize,
     ) -> Result<(), Memory>
-        ensures { OnOk result ((name : List ℕ) → found name self.new.places ≡ either_tag (found name self.old.places) (if bytes_eq tag.now name then Some (section.now, number) else None)) }
+        ensures { OnOk result (AddsTag self.old.places self.new.places section.now tag.now number) }
     {
         if !self.places.contains_key(tag.as_str()) {
             let place = TagPlace::of(section, number)?;
@@ -92,7 +90,7 @@ impl TagTable {
 
     /// The place of the tag of this name. Its cost is the logarithm of the number of tags.
     pub(crate) fn find(&self, name: &str) -> Option<&TagPlace>
-        ensures { option_map (λ p. place_parts p.now) result ≡ found name.now self.now.places }
+        ensures { option_map (λ p. place_parts p.now) result ≡ tag_in_table name.now self.now.places }
     {
         self.places.get(name)
     }

@@ -1,6 +1,6 @@
 -- Lists.
-use Rattle.std.proofs.Common.{◌≡◌, ℕ, true, List, [], ◌∷◌, ◌++◌, length, take, drop, refl, sym, ap, ◌∙◌}
-use Rattle.std.specs.Prelude.{nat_eq}
+use Rattle.std.proofs.Common.{◌≡◌, ◌<◌, ◌+◌, ℕ, zero, suc, Bool, true, false, List, [], ◌∷◌, ◌++◌, length, take, drop, get_or, map, refl, sym, ap, ◌∙◌, arith}
+use Rattle.std.specs.Prelude.{nat_eq, filter}
 use Rattle.std.specs.Cmp.Lexicographic.{pointwise}
 use Rattle.std.proofs.lemmas.Bool.{eq-eqb, and_from}
 use Rattle.std.proofs.lemmas.List.{take_at, drop_at}
@@ -16,6 +16,24 @@ module _ {X : Type 0} where
     sym (take_at a r (length a) refl) ∙ ap (take (length a)) e ∙ take_at b s (length a) (sym long),
     sym (drop_at a r (length a) refl) ∙ ap (drop (length a)) e ∙ drop_at b s (length a) (sym long),
   )
+
+  -- the element at a place, and those behind it
+  pub drop_next : (xs : List X) (i : ℕ) (x : X) → i < length xs → x ≡ get_or xs i x → drop i xs ≡ x ∷ drop (i + 1) xs
+  drop_next [] i x within is = absurd (omega (arith, within))
+  drop_next (y ∷ ys) zero x within is = ap (λ (z : X). z ∷ ys) (sym is)
+  drop_next (y ∷ ys) (suc i) x within is =
+      let next : suc (i + 1) ≡ suc i + 1 = omega arith in
+      drop_next ys i x (omega (arith, within)) is ∙ ap (λ (n : ℕ). x ∷ drop n (y ∷ ys)) next
+
+module _ {X Y : Type 0} where
+  -- those whose image passes a test, mapped, are the images that pass it
+  pub map-filter : (p : Y → Bool) (f : X → Y) (xs : List X) → map f (filter (λ x. p (f x)) xs) ≡ filter p (map f xs)
+  map-filter p f [] = refl
+  map-filter p f (x ∷ xs) = go (p (f x)) refl (map-filter p f xs)
+    where
+      go : (b : Bool) → p (f x) ≡ b → map f (filter (λ y. p (f y)) xs) ≡ filter p (map f xs) → map f (filter (λ y. p (f y)) (x ∷ xs)) ≡ filter p (map f (x ∷ xs))
+      go true e rest = rw e (ap (λ (ys : List Y). f x ∷ ys) rest)
+      go false e rest = rw e rest
 
 -- a list of numbers is the same as itself, element by element
 pub same_as_itself : (xs : List ℕ) → pointwise nat_eq xs xs ≡ true

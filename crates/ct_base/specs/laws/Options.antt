@@ -1,5 +1,6 @@
 -- Values that may be missing.
-use Rattle.std.specs.Prelude.{◌≡◌, true, false, Option, Some, None, is_some, IfNone, refl}
+use Rattle.std.specs.Prelude.{◌≡◌, true, false, Option, Some, None, is_some, IfNone, MatchOption, refl}
+use Rattle.std.proofs.Common.{subst}
 use Rattle.std.specs.Option.{option_map, option_and_then}
 
 module _ {X : Type 0} where
@@ -10,6 +11,17 @@ module _ {X : Type 0} where
   pub no_value : (o : Option X) → is_some o ≡ false → o ≡ None
   no_value None h = refl
   no_value (Some x) h = cc
+
+  -- there is one value at most
+  pub same_value : (x y : X) → Some x ≡ Some y → x ≡ y
+  same_value x y e = cc
+
+  pub none_or_some : (o : Option X) (x : X) → o ≡ None → o ≡ Some x → ⊥
+  none_or_some o x none some = cc
+
+  -- what is said of nothing, where there is nothing
+  pub match_none : (o : Option X) (N : Type 0) (S : X → Type 0) → o ≡ None → MatchOption o N S → N
+  match_none o N S none m = subst (λ (o : Option X). MatchOption o N S) none m
 
   -- what holds anyway holds where there is none
   pub if_none : (o : Option X) (P : Type 0) → P → IfNone o P
@@ -24,6 +36,11 @@ module _ {X Y : Type 0} where
     where
       same : Some (f x) ≡ Some y → f x ≡ y
       same e = cc
+
+  -- a map gives something exactly where there was something
+  pub is_some-option_map : (f : X → Y) (o : Option X) → is_some (option_map f o) ≡ is_some o
+  is_some-option_map f None = refl
+  is_some-option_map f (Some x) = refl
 
   pub and_then_some : (f : X → Option Y) (o : Option X) (y : Y) → option_and_then f o ≡ Some y → (x : X) × (o ≡ Some x) × (f x ≡ Some y)
   and_then_some f None y is = cc

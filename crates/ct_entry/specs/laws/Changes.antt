@@ -8,7 +8,7 @@ use Rattle.std.specs.Cmp.Lexicographic.{slice_cmp}
 use Rattle.std.specs.FinMap.{get, get-insert, get-remove}
 use Rattle.ct_keep.specs.Content.{Content, set_to, after}
 use Rattle.ct_entry.specs.declared.kinds.Kind.{Kind}
-use Rattle.ct_entry.specs.Keys.{Key, bytes, same_key, same_list, at, IsKey, HasKeysOnly}
+use Rattle.ct_entry.specs.Keys.{Key, bytes, same_key, same_list, at, IsKeyOfKind, HasKeysOnly}
 use Rattle.ct_entry.specs.Changes.{spell, told, view, AreChanges, AllOf, AllOn}
 use Rattle.ct_base.specs.laws.Orders.{equal_from_test}
 use Rattle.ct_entry.specs.laws.Keys.{key_from_same, bytes_same, list_same}
@@ -44,9 +44,9 @@ get-set_to : (m : Content) (j : List ℕ) (v : Option (List ℕ)) (b : List ℕ)
 get-set_to m j (Some v) b = get-insert nat_list_cmp_total m j v b
 get-set_to m j None b = get-remove nat_list_cmp_total m j b
 
-only-set_to : (m : Content) (j : Key) (v : Option (List ℕ)) → HasKeysOnly m → IsKey j → HasKeysOnly (set_to (bytes j) v m)
+only-set_to : (m : Content) (j : Key) (v : Option (List ℕ)) → HasKeysOnly m → IsKeyOfKind j → HasKeysOnly (set_to (bytes j) v m)
 only-set_to m j v only is b has =
-    elim (eq_by_cmp (slice_cmp nat_cmp) b (bytes j)) as (λ t. eq_by_cmp (slice_cmp nat_cmp) b (bytes j) ≡ t → is_some (cond t v (get m b)) ≡ true → (k : Key) × (b ≡ bytes k) × IsKey k) [
+    elim (eq_by_cmp (slice_cmp nat_cmp) b (bytes j)) as (λ t. eq_by_cmp (slice_cmp nat_cmp) b (bytes j) ≡ t → is_some (cond t v (get m b)) ≡ true → (k : Key) × (b ≡ bytes k) × IsKeyOfKind k) [
       | true ↦ λ t _. (j, exact_bytes b (bytes j) (equal_from_test _ t), is)
       | false ↦ λ t h. only b h
     ] refl (sym (ap is_some (get-set_to m (bytes j) v b)) ∙ has)

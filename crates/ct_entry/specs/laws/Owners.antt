@@ -15,14 +15,14 @@ use Rattle.ct_base.specs.laws.Names.{kept_is_name, kept_name-name}
 use Rattle.ct_keep.specs.Content.{Content}
 use Rattle.ct_entry.specs.declared.kinds.Kind.{Kind}
 use Rattle.ct_entry.specs.Kinds.{code}
-use Rattle.ct_entry.specs.Keys.{Key, key, bytes, at, counted_bytes, same_list, IsPart, IsKey, HasKeysOnly}
+use Rattle.ct_entry.specs.Keys.{Key, key, bytes, at, counted_bytes, same_list, IsPart, IsKeyOfKind, HasKeysOnly}
 use Rattle.ct_entry.specs.Maps.{Names}
 use Rattle.ct_base.specs.laws.Bools.{same_tests}
 use Rattle.ct_base.specs.laws.Orders.{equal_from_test}
 use Rattle.ct_entry.specs.laws.Keys.{kind_from_code, list_from_same, list_same}
 use Rattle.ct_entry.specs.laws.Maps.{names_tie}
 use Rattle.ct_keep.specs.FoundKeys.{AllKeys, all_keys}
-use Rattle.ct_entry.specs.Listings.{listed, keys_where, owner_of, owners_of, owners_under, key_order, in_key_order}
+use Rattle.ct_entry.specs.Listings.{entries_where, keys_where, owner_of, owners_of, owners_under, key_order, in_key_order}
 use Rattle.ct_entry.specs.laws.Listings.{Spells, tail_listed}
 
 pub key_order_total : IsTotalOrder key_order
@@ -67,13 +67,13 @@ owner_some (n ∷ t) u e = go (length t == n) refl (is_kept t) refl e
     go true h false kept e = cc
     go false h k kept e = cc
 
-owners_of-listed : {X : Type 0} (g : X → Option (List ℕ)) (es : List (List ℕ × X)) → AllKeys key_order IsName es → owners_of (listed counted_bytes g es) ≡ keys_where g es
-owners_of-listed g [] all = refl
-owners_of-listed g (e ∷ es) all = at_head (g e.1) (owners_of-listed g es all.1)
+owners_of-entries_where : {X : Type 0} (g : X → Option (List ℕ)) (es : List (List ℕ × X)) → AllKeys key_order IsName es → owners_of (entries_where counted_bytes g es) ≡ keys_where g es
+owners_of-entries_where g [] all = refl
+owners_of-entries_where g (e ∷ es) all = at_head (g e.1) (owners_of-entries_where g es all.1)
   where
-    at_head : (o : Option (List ℕ)) → owners_of (listed counted_bytes g es) ≡ keys_where g es → owners_of (cons_option (option_map (λ v. (counted_bytes e.0, v)) o) (listed counted_bytes g es)) ≡ cons_option (option_map (λ _. e.0) o) (keys_where g es)
+    at_head : (o : Option (List ℕ)) → owners_of (entries_where counted_bytes g es) ≡ keys_where g es → owners_of (cons_option (option_map (λ v. (counted_bytes e.0, v)) o) (entries_where counted_bytes g es)) ≡ cons_option (option_map (λ _. e.0) o) (keys_where g es)
     at_head None rest = rest
-    at_head (Some v) rest = ap (λ (o : Option (List ℕ)). cons_option o (owners_of (listed counted_bytes g es))) (owner_of-counted_bytes e.0 all.0) ∙ ap (λ l. e.0 ∷ l) rest
+    at_head (Some v) rest = ap (λ (o : Option (List ℕ)). cons_option o (owners_of (entries_where counted_bytes g es))) (owner_of-counted_bytes e.0 all.0) ∙ ap (λ l. e.0 ∷ l) rest
 
 -- the keys of the kind have no rest
 abbrev pub HasNoPart : Kind → Type 0
@@ -85,7 +85,7 @@ pub owners_listed : {X : Type 0} (g : X → Option (List ℕ)) (c : Content) (ki
     → owners_under kind c ≡ keys_where g (entries (in_key_order G))
 owners_listed {X} g c kind G only bare has each =
     ap owners_of (tail_listed key_order counted_bytes IsName (name_spells IsName) g c (code kind ∷ []) (in_key_order G) named at_name (λ q there some. of_key q (only (code kind ∷ q) there)))
-    ∙ owners_of-listed g (entries (in_key_order G)) (all_keys key_order key_order_total IsName (in_key_order G) named)
+    ∙ owners_of-entries_where g (entries (in_key_order G)) (all_keys key_order key_order_total IsName (in_key_order G) named)
   where
     named : (t : List ℕ) (x : X) → get (in_key_order G) t ≡ Some x → IsName t
     named t x is = has t x (sym (get-in_key_order G t) ∙ is)
@@ -96,7 +96,7 @@ owners_listed {X} g c kind G only bare has each =
     parts : (m n : ℕ) (xs ys : List ℕ) → m ∷ xs ≡ n ∷ ys → (m ≡ n) × (xs ≡ ys)
     parts m n xs ys e = (cc, cc)
 
-    of_key : (q : List ℕ) → (k : Key) × (code kind ∷ q ≡ bytes k) × IsKey k → (t : List ℕ) × IsName t × (q ≡ counted_bytes t)
+    of_key : (q : List ℕ) → (k : Key) × (code kind ∷ q ≡ bytes k) × IsKeyOfKind k → (t : List ℕ) × IsName t × (q ≡ counted_bytes t)
     of_key q k =
         let e = parts (code kind) (code k.0.kind) q (length k.0.owner ∷ (k.0.owner ++ k.0.part)) k.1 in
         let part : k.0.part ≡ [] = bare k.0.part (subst (λ (j : Kind). IsPart j k.0.part) (sym (kind_from_code kind k.0.kind e.0)) k.2.part) in

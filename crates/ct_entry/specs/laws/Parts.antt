@@ -15,7 +15,7 @@ use Rattle.ct_entry.specs.declared.kinds.Kind.{Kind}
 use Rattle.ct_entry.specs.declared.kinds.Kind.TheVariants.{Tables, RowNumbers, RowTexts, Preferences, Stoplists, SectionGroups, IndexSets, Thesauri, Relations, Indexes, DocumentRows, RowDocuments, Pending, Postings, Spans, Catalogue, Rules, Anchors, RuleFaults}
 use Rattle.ct_base.specs.laws.Names.{name_length}
 use Rattle.ct_entry.specs.Kinds.{code}
-use Rattle.ct_entry.specs.Keys.{Key, key, bytes, same_list, same_key, row_part, text_part, document_part, posting_part, span_part, relation_part, anchor_part, IsRow, IsDocument, IsPart, IsKey}
+use Rattle.ct_entry.specs.Keys.{Key, key, bytes, same_list, same_key, row_part, text_part, document_part, posting_part, span_part, relation_part, anchor_part, IsRow, IsDocument, IsPart, IsKeyOfKind}
 use Rattle.ct_base.specs.laws.Orders.{equal_from_test}
 use Rattle.ct_entry.specs.laws.Keys.{list_from_same, list_same, lists_tie}
 use Rattle.ct_base.specs.laws.Lists.{append_parts, cons_parts}
@@ -94,11 +94,11 @@ same_kind kind o o' p p' = ap (λ (b : Bool). b && (same_list o o' && same_list 
 -- ---- how long
 
 -- the kinds whose keys are short: all but that of a catalogue index, whose keys hold values
-abbrev pub is_short : Kind → Bool
-is_short Catalogue = false
-is_short kind = true
+abbrev pub has_short_keys : Kind → Bool
+has_short_keys Catalogue = false
+has_short_keys kind = true
 
-pub part_is_short : (kind : Kind) (p : List ℕ) → IsPart kind p → is_short kind ≡ true → length p ≤ 568
+pub part_is_short : (kind : Kind) (p : List ℕ) → IsPart kind p → has_short_keys kind ≡ true → length p ≤ 568
 part_is_short Tables p is h = omega (arith, ap length is)
 part_is_short RowNumbers p is h = omega (arith, ap length is.2, length-row_bytes is.0)
 part_is_short RowTexts p is h = omega (arith, ap length is.1.3, length-row_bytes is.1.0)
@@ -120,7 +120,7 @@ part_is_short Anchors p is h = let short = is.1.1 in omega (arith, simp length-a
 part_is_short RuleFaults p is h = omega (arith, ap length is.2, length-row_bytes is.0)
 
 -- a key has as many bytes as an entry must
-pub key_is_short : (k : Key) → IsKey k → is_short k.kind ≡ true → (1 ≤ length (bytes k)) × (length (bytes k) ≤ key_limit)
+pub key_is_short : (k : Key) → IsKeyOfKind k → has_short_keys k.kind ≡ true → (1 ≤ length (bytes k)) × (length (bytes k) ≤ key_limit)
 key_is_short k is h =
     let owner = name_length k.owner is.owner in
     let part : length k.part ≤ 568 = part_is_short k.kind k.part is.part h in

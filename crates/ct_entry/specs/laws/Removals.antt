@@ -17,10 +17,10 @@ use Rattle.ct_keep.specs.Changes.{AreWell}
 use Rattle.ct_keep.specs.FoundKeys.{AllKeys, all_keys}
 use Rattle.ct_entry.specs.declared.kinds.Kind.{Kind}
 use Rattle.ct_entry.specs.Kinds.{code}
-use Rattle.ct_entry.specs.Keys.{Key, key, bytes, at, prefix_of, same_list, same_key, IsKey, HasKeysOnly}
+use Rattle.ct_entry.specs.Keys.{Key, key, bytes, at, prefix_of, same_list, same_key, IsKeyOfKind, HasKeysOnly}
 use Rattle.ct_entry.specs.Changes.{spell, drop_key, told, view, AreChanges, AllOf}
 use Rattle.ct_entry.specs.Shapes.{AreShaped}
-use Rattle.ct_entry.specs.Removals.{empty_rest, longer_rests, rests_of, drop_rests, removals, is_owned, without_owned, SameOwned, OnlyRemoves}
+use Rattle.ct_entry.specs.Removals.{empty_rest, longer_rests, rests_of, drop_rests, owned_removals, is_owned, without_owned, SameOwned, OnlyRemoves}
 use Rattle.ct_entry.specs.laws.Keys.{kind_from_code, key_from_parts, key_from_bytes, list_from_same, list_same}
 use Rattle.ct_entry.specs.laws.Changes.{at_view}
 use Rattle.ct_entry.specs.laws.Each.{map-each, told_each}
@@ -91,8 +91,8 @@ owned_is kind owner k h =
     key_from_parts k (key kind owner k.part) (kind_from_code k.kind kind (eqb-true (code k.kind) (code kind) both.0)) (list_from_same k.owner owner both.1) refl
 
 -- After the removal a view has nothing at a key of the kind and the owner, and at every other key what it had, where it had the owner's entries of the content.
-pub view-removals : (kind : Kind) (owner : List ℕ) (m : Content) (f : Key → Option (List ℕ)) → SameOwned kind owner (at m) f → view (removals kind owner m) f ≡ without_owned kind owner f
-view-removals kind owner m f same = λ i k. at_key k i
+pub view-owned_removals : (kind : Kind) (owner : List ℕ) (m : Content) (f : Key → Option (List ℕ)) → SameOwned kind owner (at m) f → view (owned_removals kind owner m) f ≡ without_owned kind owner f
+view-owned_removals kind owner m f same = λ i k. at_key k i
   where
     gone : (o : Option (List ℕ)) → cond (is_some o) None o ≡ None
     gone None = refl
@@ -102,28 +102,28 @@ view-removals kind owner m f same = λ i k. at_key k i
     by_owner k true h = ap (cond (is_some (at m (key kind owner k.part))) None) (ap f (owned_is kind owner k h) ∙ same k.part) ∙ gone (at m (key kind owner k.part))
     by_owner k false h = refl
 
-    at_key : (k : Key) → told (removals kind owner m) k (f k) ≡ without_owned kind owner f k
+    at_key : (k : Key) → told (owned_removals kind owner m) k (f k) ≡ without_owned kind owner f k
     at_key k =
         told-drop_rests kind owner (rests_of kind owner m) k (f k)
         ∙ ap (λ (b : Bool). cond (is_owned kind owner k && b) None (f k)) (rests_are kind owner m k.part)
         ∙ by_owner k (is_owned kind owner k) refl
 
 -- after the removal of a content's own entries
-pub view-removals_at : (kind : Kind) (owner : List ℕ) (m : Content) → view (removals kind owner m) (at m) ≡ without_owned kind owner (at m)
-view-removals_at kind owner m = view-removals kind owner m (at m) (λ rest. refl)
+pub view-owned_removals_at : (kind : Kind) (owner : List ℕ) (m : Content) → view (owned_removals kind owner m) (at m) ≡ without_owned kind owner (at m)
+view-owned_removals_at kind owner m = view-owned_removals kind owner m (at m) (λ rest. refl)
 
 -- no entry of the kind and the owner is there
-pub owned_gone : (kind : Kind) (owner : List ℕ) (m : Content) (rest : List ℕ) → at (after (spell (removals kind owner m)) m) (key kind owner rest) ≡ None
+pub owned_gone : (kind : Kind) (owner : List ℕ) (m : Content) (rest : List ℕ) → at (after (spell (owned_removals kind owner m)) m) (key kind owner rest) ≡ None
 owned_gone kind owner m rest =
-    (λ i. at_view (removals kind owner m) m i (key kind owner rest))
-    ∙ (λ i. view-removals_at kind owner m i (key kind owner rest))
+    (λ i. at_view (owned_removals kind owner m) m i (key kind owner rest))
+    ∙ (λ i. view-owned_removals_at kind owner m i (key kind owner rest))
     ∙ ap (λ (b : Bool). cond b None (at m (key kind owner rest))) (and_from (code kind == code kind) (same_list owner owner) (eq-eqb (code kind) (code kind) refl) (list_same owner))
 
 -- and every other key has what it had
-pub others_left : (kind : Kind) (owner : List ℕ) (m : Content) (k : Key) → is_owned kind owner k ≡ false → at (after (spell (removals kind owner m)) m) k ≡ at m k
+pub others_left : (kind : Kind) (owner : List ℕ) (m : Content) (k : Key) → is_owned kind owner k ≡ false → at (after (spell (owned_removals kind owner m)) m) k ≡ at m k
 others_left kind owner m k other =
-    (λ i. at_view (removals kind owner m) m i k)
-    ∙ (λ i. view-removals_at kind owner m i k)
+    (λ i. at_view (owned_removals kind owner m) m i k)
+    ∙ (λ i. view-owned_removals_at kind owner m i k)
     ∙ ap (λ (b : Bool). cond b None (at m k)) other
 
 -- ---- the changes themselves
@@ -133,10 +133,10 @@ pub drops_shaped : (rule : Key → List ℕ → Type 0) (kind : Kind) (owner : L
 drops_shaped rule kind owner [] = tt
 drops_shaped rule kind owner (r ∷ rs) = drops_shaped rule kind owner rs
 
-pub removals_shaped : (rule : Key → List ℕ → Type 0) (kind : Kind) (owner : List ℕ) (m : Content) → AreShaped rule (spell (removals kind owner m))
+pub removals_shaped : (rule : Key → List ℕ → Type 0) (kind : Kind) (owner : List ℕ) (m : Content) → AreShaped rule (spell (owned_removals kind owner m))
 removals_shaped rule kind owner m = drops_shaped rule kind owner (rests_of kind owner m)
 
-pub all_removals : (p : Kind → Bool) (kind : Kind) (owner : List ℕ) (m : Content) → p kind ≡ true → AllOf p (removals kind owner m)
+pub all_removals : (p : Kind → Bool) (kind : Kind) (owner : List ℕ) (m : Content) → p kind ≡ true → AllOf p (owned_removals kind owner m)
 all_removals p kind owner m of = each (rests_of kind owner m)
   where
     each : (rests : List (List ℕ)) → AllOf p (drop_rests kind owner rests)
@@ -144,22 +144,22 @@ all_removals p kind owner m of = each (rests_of kind owner m)
     each (r ∷ rs) = (of, each rs)
 
 -- where the content has keys of the kinds only, so have its removals
-pub are_removals : (kind : Kind) (owner : List ℕ) (m : Content) → HasKeysOnly m → AreChanges (removals kind owner m)
+pub are_removals : (kind : Kind) (owner : List ℕ) (m : Content) → HasKeysOnly m → AreChanges (owned_removals kind owner m)
 are_removals kind owner m only = first (at m (key kind owner [])) refl
   where
-    is_key : (rest : List ℕ) → is_some (at m (key kind owner rest)) ≡ true → IsKey (key kind owner rest)
-    is_key rest there = let k = only (bytes (key kind owner rest)) there in subst IsKey (key_from_bytes k.0 (key kind owner rest) (sym k.1)) k.2
+    is_key : (rest : List ℕ) → is_some (at m (key kind owner rest)) ≡ true → IsKeyOfKind (key kind owner rest)
+    is_key rest there = let k = only (bytes (key kind owner rest)) there in subst IsKeyOfKind (key_from_bytes k.0 (key kind owner rest) (sym k.1)) k.2
 
-    behind : (rest value : List ℕ) → get (tail (prefix_of kind owner) m) rest ≡ Some value → IsKey (key kind owner rest)
+    behind : (rest value : List ℕ) → get (tail (prefix_of kind owner) m) rest ≡ Some value → IsKeyOfKind (key kind owner rest)
     behind [] value is = let none : None ≡ Some value = sym (get-tail_nil (prefix_of kind owner) m) ∙ is in cc
     behind (x ∷ q) value is = is_key (x ∷ q) (ap is_some (sym (get-tail (prefix_of kind owner) m x q) ∙ is))
 
-    each : (es : List (List ℕ × List ℕ)) → AllKeys (slice_cmp nat_cmp) (λ rest. IsKey (key kind owner rest)) es → AreChanges (drop_rests kind owner (map (λ e. e.0) es))
+    each : (es : List (List ℕ × List ℕ)) → AllKeys (slice_cmp nat_cmp) (λ rest. IsKeyOfKind (key kind owner rest)) es → AreChanges (drop_rests kind owner (map (λ e. e.0) es))
     each [] all = tt
     each (e ∷ es) all = (all.0, each es all.1)
 
     longer : AreChanges (drop_rests kind owner (longer_rests kind owner m))
-    longer = each (entries (tail (prefix_of kind owner) m)) (all_keys (slice_cmp nat_cmp) nat_list_cmp_total (λ rest. IsKey (key kind owner rest)) (tail (prefix_of kind owner) m) behind)
+    longer = each (entries (tail (prefix_of kind owner) m)) (all_keys (slice_cmp nat_cmp) nat_list_cmp_total (λ rest. IsKeyOfKind (key kind owner rest)) (tail (prefix_of kind owner) m) behind)
 
     first : (o : Option (List ℕ)) → at m (key kind owner []) ≡ o → AreChanges (drop_rests kind owner (empty_rest o ++ longer_rests kind owner m))
     first None is = longer

@@ -22,7 +22,7 @@ use Rattle.std.proofs.lemmas.Bool.{and_parts, and_from}
 use Rattle.ct_keep.specs.RisingKeys.{below, rises, entries_rise}
 use Rattle.ct_base.specs.laws.Orders.{no_tie}
 use Rattle.ct_keep.specs.FoundKeys.{none_below, below_tied, AllKeys, all_keys}
-use Rattle.ct_entry.specs.Listings.{listed, keys_where, lowered, row_of, rows_of, rows_under, first_of, rows_above, row_after}
+use Rattle.ct_entry.specs.Listings.{entries_where, keys_where, sign_turned_back, row_of, rows_of, rows_under, first_of, rows_above, row_after}
 use Rattle.ct_entry.specs.laws.Listings.{Spells, HasPartsOnly, family_listed}
 
 abbrev listed_at : {K : Type 0} → (K → List ℕ) → K → Option (List ℕ) → List (List ℕ × List ℕ) → List (List ℕ × List ℕ)
@@ -42,9 +42,9 @@ row_spells = record { total = int_cmp_total; order = row_bytes_in_order; some = 
 
 -- ---- row keys
 
-lowered-raised : (z : ℤ) → IsRow z → lowered (sign_turned z) ≡ z
-lowered-raised (pos n) fits = let e : nat_lt (n + 2 ^ 63) (2 ^ 63) ≡ false = grind (arith, nat_tests) in rw e (ap pos (omega arith))
-lowered-raised (negsuc n) fits = let e : nat_lt (2 ^ 63 - 1 - n) (2 ^ 63) ≡ true = grind (arith, nat_tests) in rw e (ap negsuc (omega (arith, ints)))
+sign_turned_back-turned : (z : ℤ) → IsRow z → sign_turned_back (sign_turned z) ≡ z
+sign_turned_back-turned (pos n) fits = let e : nat_lt (n + 2 ^ 63) (2 ^ 63) ≡ false = grind (arith, nat_tests) in rw e (ap pos (omega arith))
+sign_turned_back-turned (negsuc n) fits = let e : nat_lt (2 ^ 63 - 1 - n) (2 ^ 63) ≡ true = grind (arith, nat_tests) in rw e (ap negsuc (omega (arith, ints)))
 
 raised_fits : (z : ℤ) → IsRow z → sign_turned z < 2 ^ 64
 raised_fits (pos n) fits = omega arith
@@ -53,16 +53,16 @@ raised_fits (negsuc n) fits = omega arith
 -- the row key is read back
 pub row_of-row_part : (z : ℤ) → IsRow z → row_of (row_part z) ≡ Some z
 unfolding row_bytes
-row_of-row_part z fits = ap (λ (n : ℕ). Some (lowered n)) (from_be_bytes-to_be_bytes_8 (sign_turned z) (raised_fits z fits)) ∙ ap Some (lowered-raised z fits)
+row_of-row_part z fits = ap (λ (n : ℕ). Some (sign_turned_back n)) (from_be_bytes-to_be_bytes_8 (sign_turned z) (raised_fits z fits)) ∙ ap Some (sign_turned_back-turned z fits)
 
 -- the row keys that a scan finds are those that have a value
-pub rows_of-listed : {X : Type 0} (g : X → Option (List ℕ)) (es : List (ℤ × X)) → AllKeys int_cmp IsRow es → rows_of (listed row_part g es) ≡ keys_where g es
-rows_of-listed g [] all = refl
-rows_of-listed g (e ∷ es) all = at_head (g e.1) (rows_of-listed g es all.1)
+pub rows_of-entries_where : {X : Type 0} (g : X → Option (List ℕ)) (es : List (ℤ × X)) → AllKeys int_cmp IsRow es → rows_of (entries_where row_part g es) ≡ keys_where g es
+rows_of-entries_where g [] all = refl
+rows_of-entries_where g (e ∷ es) all = at_head (g e.1) (rows_of-entries_where g es all.1)
   where
-    at_head : (o : Option (List ℕ)) → rows_of (listed row_part g es) ≡ keys_where g es → rows_of (listed_at row_part e.0 o (listed row_part g es)) ≡ kept_at e.0 o (keys_where g es)
+    at_head : (o : Option (List ℕ)) → rows_of (entries_where row_part g es) ≡ keys_where g es → rows_of (listed_at row_part e.0 o (entries_where row_part g es)) ≡ kept_at e.0 o (keys_where g es)
     at_head None rest = rest
-    at_head (Some v) rest = ap (λ (o : Option ℤ). cons_option o (rows_of (listed row_part g es))) (row_of-row_part e.0 all.0) ∙ ap (λ (rs : List ℤ). e.0 ∷ rs) rest
+    at_head (Some v) rest = ap (λ (o : Option ℤ). cons_option o (rows_of (entries_where row_part g es))) (row_of-row_part e.0 all.0) ∙ ap (λ (rs : List ℤ). e.0 ∷ rs) rest
 
 -- At a kind whose keys end in a row key: where an owner's entries are what a map of rows has, they have the map's row keys, in its order.
 pub rows_listed : {X : Type 0} (g : X → Option (List ℕ)) (c : Content) (kind : Kind) (owner : List ℕ) (G : FinMap int_cmp X)
@@ -70,7 +70,7 @@ pub rows_listed : {X : Type 0} (g : X → Option (List ℕ)) (c : Content) (kind
     → rows_under kind owner c ≡ keys_where g (entries G)
 rows_listed g c kind owner G only form has each =
     ap rows_of (family_listed int_cmp row_part IsRow row_spells g c kind owner G only form has each)
-    ∙ rows_of-listed g (entries G) (all_keys int_cmp int_cmp_total IsRow G has)
+    ∙ rows_of-entries_where g (entries G) (all_keys int_cmp int_cmp_total IsRow G has)
 
 -- ---- the keys of a map that have a value
 
@@ -99,24 +99,24 @@ keys_always f (e ∷ es) = ap (λ l. e.0 ∷ l) (keys_always f es)
 
 -- ---- the next row key
 
-first_listed : {X : Type 0} (g : X → Option (List ℕ)) (es : List (ℤ × X)) → AllKeys int_cmp IsRow es → option_and_then (λ e. row_of e.0) (first_entry (listed row_part g es)) ≡ first_of (keys_where g es)
+first_listed : {X : Type 0} (g : X → Option (List ℕ)) (es : List (ℤ × X)) → AllKeys int_cmp IsRow es → option_and_then (λ e. row_of e.0) (first_entry (entries_where row_part g es)) ≡ first_of (keys_where g es)
 first_listed g [] all = refl
 first_listed g (e ∷ es) all = at_head (g e.1) (first_listed g es all.1)
   where
-    at_head : (o : Option (List ℕ)) → option_and_then (λ e. row_of e.0) (first_entry (listed row_part g es)) ≡ first_of (keys_where g es) → option_and_then (λ e. row_of e.0) (first_entry (listed_at row_part e.0 o (listed row_part g es))) ≡ first_of (kept_at e.0 o (keys_where g es))
+    at_head : (o : Option (List ℕ)) → option_and_then (λ e. row_of e.0) (first_entry (entries_where row_part g es)) ≡ first_of (keys_where g es) → option_and_then (λ e. row_of e.0) (first_entry (listed_at row_part e.0 o (entries_where row_part g es))) ≡ first_of (kept_at e.0 o (keys_where g es))
     at_head None rest = rest
     at_head (Some v) rest = row_of-row_part e.0 all.0
 
 next_listed : {X : Type 0} (g : X → Option (List ℕ)) (r : ℤ) → IsRow r → (es : List (ℤ × X)) → AllKeys int_cmp IsRow es
-    → option_and_then (λ e. row_of e.0) (first_entry (filter (λ e. is_lt (slice_cmp nat_cmp (row_part r) e.0)) (listed row_part g es))) ≡ first_of (filter (λ s. is_lt (int_cmp r s)) (keys_where g es))
+    → option_and_then (λ e. row_of e.0) (first_entry (filter (λ e. is_lt (slice_cmp nat_cmp (row_part r) e.0)) (entries_where row_part g es))) ≡ first_of (filter (λ s. is_lt (int_cmp r s)) (keys_where g es))
 next_listed g r fits [] all = refl
 next_listed g r fits (e ∷ es) all = at_head (g e.1) (is_lt (int_cmp r e.0)) refl (next_listed g r fits es all.1)
   where
     in_order : slice_cmp nat_cmp (row_part r) (row_part e.0) ≡ int_cmp r e.0
     in_order = row_bytes_in_order r e.0 fits all.0
 
-    at_head : (o : Option (List ℕ)) (b : Bool) → is_lt (int_cmp r e.0) ≡ b → option_and_then (λ e. row_of e.0) (first_entry (filter (λ e. is_lt (slice_cmp nat_cmp (row_part r) e.0)) (listed row_part g es))) ≡ first_of (filter (λ s. is_lt (int_cmp r s)) (keys_where g es))
-        → option_and_then (λ e. row_of e.0) (first_entry (filter (λ e. is_lt (slice_cmp nat_cmp (row_part r) e.0)) (listed_at row_part e.0 o (listed row_part g es)))) ≡ first_of (filter (λ s. is_lt (int_cmp r s)) (kept_at e.0 o (keys_where g es)))
+    at_head : (o : Option (List ℕ)) (b : Bool) → is_lt (int_cmp r e.0) ≡ b → option_and_then (λ e. row_of e.0) (first_entry (filter (λ e. is_lt (slice_cmp nat_cmp (row_part r) e.0)) (entries_where row_part g es))) ≡ first_of (filter (λ s. is_lt (int_cmp r s)) (keys_where g es))
+        → option_and_then (λ e. row_of e.0) (first_entry (filter (λ e. is_lt (slice_cmp nat_cmp (row_part r) e.0)) (listed_at row_part e.0 o (entries_where row_part g es)))) ≡ first_of (filter (λ s. is_lt (int_cmp r s)) (kept_at e.0 o (keys_where g es)))
     at_head None b is rest = rest
     at_head (Some v) true is rest = rw (in_order, is) (row_of-row_part e.0 all.0)
     at_head (Some v) false is rest = rw (in_order, is) rest
@@ -144,9 +144,9 @@ keys_below R k [] = true
 keys_below R k (j ∷ js) = is_lt (R k j) && keys_below R k js
 
 -- each key is below all after it
-abbrev pub keys_rise : {K : Type 0} → (K → K → Ordering) → List K → Bool
-keys_rise R [] = true
-keys_rise R (k ∷ ks) = keys_below R k ks && keys_rise R ks
+abbrev pub keys_rise_by : {K : Type 0} → (K → K → Ordering) → List K → Bool
+keys_rise_by R [] = true
+keys_rise_by R (k ∷ ks) = keys_below R k ks && keys_rise_by R ks
 
 module _ {K X : Type 0} (R : K → K → Ordering) (g : X → Option (List ℕ)) where
   below_where : (k : K) (es : List (K × X)) → below R k es ≡ true → keys_below R k (keys_where g es) ≡ true
@@ -159,18 +159,18 @@ module _ {K X : Type 0} (R : K → K → Ordering) (g : X → Option (List ℕ))
       at_head None l rest = rest
       at_head (Some v) l rest = and_from _ _ l rest
 
-  rises_where : (es : List (K × X)) → rises R es ≡ true → keys_rise R (keys_where g es) ≡ true
+  rises_where : (es : List (K × X)) → rises R es ≡ true → keys_rise_by R (keys_where g es) ≡ true
   rises_where [] h = refl
   rises_where (e ∷ es) h =
       let b = and_parts (below R e.0 es) (rises R es) h in
       at_head (g e.1) (below_where e.0 es b.0) (rises_where es b.1)
     where
-      at_head : (o : Option (List ℕ)) → keys_below R e.0 (keys_where g es) ≡ true → keys_rise R (keys_where g es) ≡ true → keys_rise R (kept_at e.0 o (keys_where g es)) ≡ true
+      at_head : (o : Option (List ℕ)) → keys_below R e.0 (keys_where g es) ≡ true → keys_rise_by R (keys_where g es) ≡ true → keys_rise_by R (kept_at e.0 o (keys_where g es)) ≡ true
       at_head None l rest = rest
       at_head (Some v) l rest = and_from _ _ l rest
 
   -- the keys that are listed strictly rise
-  pub listed_rise : (G : FinMap R X) → keys_rise R (keys_where g (entries G)) ≡ true
+  pub listed_rise : (G : FinMap R X) → keys_rise_by R (keys_where g (entries G)) ≡ true
   listed_rise G = rises_where (entries G) (entries_rise R G)
 
 -- a key below others isn't among them, so that none is listed twice

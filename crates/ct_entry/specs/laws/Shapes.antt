@@ -4,7 +4,7 @@ use Rattle.ct_keep.specs.Content.{value_limit}
 use Rattle.ct_keep.specs.WellLaws.{well_weaker}
 use Rattle.ct_entry.specs.Keys.{Key}
 use Rattle.ct_entry.specs.Changes.{spell, AreChanges, AllOf, AllPut}
-use Rattle.ct_entry.specs.laws.Parts.{is_short}
+use Rattle.ct_entry.specs.laws.Parts.{has_short_keys}
 use Rattle.ct_entry.specs.laws.Well.{entry_of_key, well-append}
 use Rattle.ct_entry.specs.Shapes.{IsShaped, AreShaped}
 
@@ -24,7 +24,7 @@ pub record HasWithin (rule : Key → List ℕ → Type 0) (k : Key) (value : Lis
   pub has : rule k value
 
 -- changes on short keys, each of which puts such a value
-pub are_shaped : (rule : Key → List ℕ → Type 0) (ws : List (Key × Option (List ℕ))) → AreChanges ws → AllOf is_short ws → AllPut (HasWithin rule) ws → AreShaped rule (spell ws)
+pub are_shaped : (rule : Key → List ℕ → Type 0) (ws : List (Key × Option (List ℕ))) → AreChanges ws → AllOf has_short_keys ws → AllPut (HasWithin rule) ws → AreShaped rule (spell ws)
 are_shaped rule [] are short puts = tt
 are_shaped rule ((k, None) ∷ ws) are short puts = are_shaped rule ws are.1 short.1 puts.1
 are_shaped rule ((k, Some v) ∷ ws) are short puts = (

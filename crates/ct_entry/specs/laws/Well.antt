@@ -5,10 +5,10 @@ use Rattle.ct_keep.specs.declared.batches.Change.{Change}
 use Rattle.ct_keep.specs.Content.{IsEntry, value_limit}
 use Rattle.ct_keep.specs.SeenChanges.{change_of}
 use Rattle.ct_keep.specs.Changes.{AreWell}
-use Rattle.ct_entry.specs.Keys.{Key, bytes, IsKey}
-use Rattle.ct_entry.specs.laws.Parts.{is_short, key_is_short}
+use Rattle.ct_entry.specs.Keys.{Key, bytes, IsKeyOfKind}
+use Rattle.ct_entry.specs.laws.Parts.{has_short_keys, key_is_short}
 
-pub entry_of_key : (k : Key) (value : List ℕ) → IsKey k → is_short k.kind ≡ true → length value ≤ value_limit → IsEntry (bytes k) value
+pub entry_of_key : (k : Key) (value : List ℕ) → IsKeyOfKind k → has_short_keys k.kind ≡ true → length value ≤ value_limit → IsEntry (bytes k) value
 entry_of_key k value is short bounded = let l = key_is_short k is short in record { some = l.0; short = l.1; bounded = bounded }
 
 pub well-append : (well : List ℕ → List ℕ → Type 0) (xs ys : List (List ℕ × Option (List ℕ))) → AreWell well xs → AreWell well ys → AreWell well (xs ++ ys)

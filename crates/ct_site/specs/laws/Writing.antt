@@ -7,7 +7,7 @@ use Rattle.std.proofs.lemmas.Bool.{false≢true}
 use Rattle.ct_site.specs.declared.outside.Failed.{Failed}
 use Rattle.ct_site.specs.Images.{written, Torn}
 use Rattle.ct_site.specs.Pieces.{torn_none, length-written}
-use Rattle.ct_site.specs.Disks.{DiskView, Follows, Leaves, leaves_more, leaves_none, leaves_then}
+use Rattle.ct_site.specs.Disks.{DiskView, FollowsBy, Leaves, leaves_more, leaves_none, leaves_then}
 use Rattle.ct_site.specs.Lengths.{Lengthens, IsWithin}
 use Rattle.ct_site.specs.Writing.{IsCutShort, Writes, Progress, DiskGives}
 use Rattle.ct_site.specs.laws.Lengths.{grows_more, grows_same, grows_between}
@@ -61,7 +61,7 @@ writes_nothing at disk = record {
 
 -- one write of a disk
 pub writes_one : (at : ℕ) (bytes : List ℕ) (old new : DiskView) (result : Result (Unit {0}) Failed) → OnOk result (new.image ≡ option_map (written at bytes) old.image)
-    → Follows (Torn at (length bytes)) old.may_leave new.may_leave → Leaves old new new.may_leave → Lengthens (at + length bytes) old new → Writes at bytes old new result
+    → FollowsBy (Torn at (length bytes)) old.may_leave new.may_leave → Leaves old new new.may_leave → Lengthens (at + length bytes) old new → Writes at bytes old new result
 writes_one at bytes old new result is crash leaves grows = record {
   written = is;
   leaves = leaves_more old new _ _ leaves (λ x left. let f = crash x left in record { before = f.0; left = f.1; torn = f.2 });

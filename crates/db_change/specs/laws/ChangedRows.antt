@@ -16,7 +16,7 @@ use Rattle.ct_keep.specs.RisingKeys.{below, rises, entries_rise}
 use Rattle.ct_entry.specs.declared.kinds.Kind.{Kind}
 use Rattle.ct_entry.specs.declared.kinds.Kind.TheVariants as kind
 use Rattle.ct_entry.specs.Keys.{Key, at, same_list, IsRow}
-use Rattle.ct_entry.specs.Each.{each, is_among}
+use Rattle.ct_entry.specs.Each.{each, is_any_of}
 use Rattle.ct_entry.specs.Lists.{IsIn, AreApart}
 use Rattle.ct_entry.specs.Maps.{Names, each_at}
 use Rattle.ct_entry.specs.Changes.{spell, view, AreChanges, AllOf}
@@ -25,7 +25,7 @@ use Rattle.ct_entry.specs.laws.Each.{all_each}
 use Rattle.ct_entry.specs.laws.Keys.{list_same}
 use Rattle.ct_entry.specs.laws.Parts.{int_from_eq}
 use Rattle.tb_table.specs.declared.columns.Column.{Column}
-use Rattle.tb_table.specs.Tables.{Table, Tables, row_in, row_at, numbers_of, text_of, with_row}
+use Rattle.tb_table.specs.Tables.{Table, Tables, row_in, row_at, numbers_of, text_in_column, with_row}
 use Rattle.tb_table.specs.Spelling.{TablesStand, insert_changes}
 use Rattle.tb_table.specs.Rules.{FitColumns, AreTables, others}
 use Rattle.tb_table.specs.laws.Changes.{is_of_tables, all_insert, tables_frame, columns-with_row, row_at-with_row}
@@ -48,10 +48,11 @@ use Rattle.st_parse.specs.declared.statements.Assign.{Assign}
 use Rattle.db_rows.specs.Values.{values_of, row_values}
 use Rattle.tx_prefs.specs.Spelling.{PreferencesStand}
 use Rattle.tx_prefs.specs.laws.Changes.{preferences_frame, other_kinds}
-use Rattle.db_state.specs.States.{State, Stands, HasShortRows, is_of_rows, is_built, is_view, indexes_on, index_limit}
+use Rattle.db_state.specs.States.{StoreState, StandsForState, HasShortRows, is_of_rows, is_built, is_view, indexes_on, index_limit}
 use Rattle.db_state.specs.laws.EachValue.{entries-from_rising, count_alike}
+use Rattle.db_state.specs.laws.Kinds.{tables_no_map}
 use Rattle.db_state.specs.laws.ShortRows.{rows_frame}
-use Rattle.db_change.specs.Updating.{values_after, places_set, row_updated, with_updates, numbers_after, texts_set, value_changes, note_changes, update_changes}
+use Rattle.db_change.specs.Updating.{updated_values, places_set, row_updated, with_updates, numbers_after, texts_set, value_changes, note_changes, update_changes}
 use Rattle.db_change.specs.laws.NewTables.{apart}
 use Rattle.std.proofs.lemmas.Bool.{or_right}
 use Rattle.db_change.specs.laws.SetValues.{SetFits, values_fit, numbers_values, is_update, set_places, text_stays}
@@ -85,12 +86,6 @@ update_rows : (k : Kind) → is_of_rows k ≡ true → is_of_update k ≡ false
 update_rows kind.Postings h = refl
 update_rows kind.Spans h = refl
 update_rows k h = cc
-
-tables_map : (k : Kind) → is_of_tables k ≡ true → is_of_map k ≡ false
-tables_map kind.Tables h = refl
-tables_map kind.RowNumbers h = refl
-tables_map kind.RowTexts h = refl
-tables_map k h = cc
 
 notes_map : (c : Content) (names : List (List ℕ)) (r : ℤ) → AllOf is_of_map (note_changes c names r)
 notes_map c names r = all_each is_of_map (λ i. changed_changes i r (document_at (at c) i r)) (λ i. all_changed i r (document_at (at c) i r)) names
@@ -146,11 +141,11 @@ alike_with_row ts t r vs q = go (get ts t) refl
 alike_after : (t : List ℕ) (columns : List Column) (assigns : List Assign) (rows : List ℤ) (ts : Tables) → HaveSameColumns ts (tables_after (row_updated t columns assigns) ts rows)
 alike_after t columns assigns [] ts q = refl
 alike_after t columns assigns (r ∷ rows) ts q =
-    alike_after t columns assigns rows (row_updated t columns assigns ts r) q ∙ alike_with_row ts t r (values_after (others columns) assigns (row_values ts t r)) q
+    alike_after t columns assigns rows (row_updated t columns assigns ts r) q ∙ alike_with_row ts t r (updated_values (others columns) assigns (row_values ts t r)) q
 
 -- ---- the rows of a statement
 
-module _ (c : Content) (m : State) (t : List ℕ) (x : Table) (assigns : List Assign) (names : List (List ℕ)) (stands : Stands c m) (here : get m.tables t ≡ Some x) (set : SetFits assigns (others x.columns))
+module _ (c : Content) (m : StoreState) (t : List ℕ) (x : Table) (assigns : List Assign) (names : List (List ℕ)) (stands : StandsForState c m) (here : get m.tables t ≡ Some x) (set : SetFits assigns (others x.columns))
     (on : AreIndexesOnColumns m.indexes t (places_set x.columns assigns) names) where
   abbrev columns : List Column
   columns = others x.columns
@@ -188,13 +183,13 @@ module _ (c : Content) (m : State) (t : List ℕ) (x : Table) (assigns : List As
 
   module _ (ts : Tables) (r : ℤ) (at_turn : Turn ts r) where
     abbrev new : List Value
-    new = values_after columns assigns at_turn.old
+    new = updated_values columns assigns at_turn.old
 
     row_now : row_at ts t r ≡ Some at_turn.old
     row_now = ap (λ (o : Option Table). row_in o r) at_turn.still.here ∙ at_turn.still.row
 
     step_is : step ts r ≡ with_row ts t r new
-    step_is = ap (λ (o : Option (List Value)). with_row ts t r (values_after columns assigns (values_of o))) row_now
+    step_is = ap (λ (o : Option (List Value)). with_row ts t r (updated_values columns assigns (values_of o))) row_now
 
     own_is : insert_changes t r (numbers_of new) (texts_set 1 columns assigns) ≡ own r
     own_is =
@@ -208,13 +203,13 @@ module _ (c : Content) (m : State) (t : List ℕ) (x : Table) (assigns : List As
         subst (λ (us : Tables). AreTables us × SetsColumns ts us t places r) (sym step_is) (
           update_keeps ts t r at_turn.old new still.table awaits.rules still.here still.row (subst (λ (cs : List Column). FitColumns (others cs) new) (sym still.columns) (values_fit assigns columns at_turn.old at_turn.fit set)),
           sets_columns ts (with_row ts t r new) t places r new (columns-with_row ts t r new still.table still.here) (row_at-with_row ts t r new still.table still.here)
-              (λ column other. text_stays x.columns assigns at_turn.old apart at_turn.fit set column other ∙ sym (ap (option_and_then (λ (vs : List Value). text_of vs column)) row_now)),
+              (λ column other. text_stays x.columns assigns at_turn.old apart at_turn.fit set column other ∙ sym (ap (option_and_then (λ (vs : List Value). text_in_column vs column)) row_now)),
         )
 
     stands_then : (f : Key → Option (List ℕ)) → IsRow r → TablesStand f ts → TablesStand (view (own r ++ notes r) f) (step ts r)
     stands_then f row stand =
         subst (λ (g : Key → Option (List ℕ)). TablesStand g (step ts r)) (sym (view-append (own r) (notes r) f))
-        (tables_frame is_of_map (notes r) (view (own r) f) (step ts r) (notes_map c names r) tables_map
+        (tables_frame is_of_map (notes r) (view (own r) f) (step ts r) (notes_map c names r) tables_no_map
         (subst (λ (ws : List (Key × Option (List ℕ))). TablesStand (view ws f) (step ts r)) own_is
         (subst (TablesStand (view (insert_changes t r (numbers_of new) (texts_set 1 columns assigns)) f)) (sym step_is)
         (stand_update f ts t r at_turn.old new (texts_set 1 columns assigns) row_now row (is_update assigns columns at_turn.old at_turn.fit set) stand))))
@@ -267,13 +262,13 @@ module _ (c : Content) (m : State) (t : List ℕ) (x : Table) (assigns : List As
   index_named i None is on = cc
   index_named i (Some y) is on = stands.state.indexes.names i y is
 
-  notes_are : (r : ℤ) → IsRow r → (is : List (List ℕ)) → ((i : List ℕ) → is_among i is ≡ true → is_on_columns t places (get m.indexes i) ≡ true) → AreChanges (note_changes c is r)
+  notes_are : (r : ℤ) → IsRow r → (is : List (List ℕ)) → ((i : List ℕ) → is_any_of i is ≡ true → is_on_columns t places (get m.indexes i) ≡ true) → AreChanges (note_changes c is r)
   notes_are r row [] each_on = tt
   notes_are r row (i ∷ is) each_on =
-      let first = each_on i (ap (λ (b : Bool). b || is_among i is) (list_same i)) in
+      let first = each_on i (ap (λ (b : Bool). b || is_any_of i is) (list_same i)) in
       are-append (changed_changes i r (document_at (at c) i r)) (note_changes c is r)
       (are_changed i r (document_at (at c) i r) (index_named i (get m.indexes i) refl first) row (document_few i r row (get m.indexes i) refl first))
-      (notes_are r row is (λ j among. each_on j (or_right (same_list j i) (is_among j is) among)))
+      (notes_are r row is (λ j among. each_on j (or_right (same_list j i) (is_any_of j is) among)))
 
   updates_are : (rows : List ℤ) → ((r : ℤ) → IsIn r rows → is_some (row_at m.tables t r) ≡ true) → AreChanges (update_changes c m t columns assigns names rows)
   updates_are [] there = tt
@@ -305,7 +300,7 @@ module _ (c : Content) (m : State) (t : List ℕ) (x : Table) (assigns : List As
         let was = option_map_some (λ (z : Table). z.columns) (get m.tables q) y.columns (sym (alike_after t x.columns assigns rows m.tables q) ∙ ap (option_map (λ (z : Table). z.columns)) is) in
         stands.state.views q was.0 was.1
 
-    pub changed_rows_stand : Stands (after (spell (update_changes c m t columns assigns names rows)) c) (with_updates m t x.columns assigns rows)
+    pub changed_rows_stand : StandsForState (after (spell (update_changes c m t columns assigns names rows)) c) (with_updates m t x.columns assigns rows)
     changed_rows_stand =
         let ws = update_changes c m t columns assigns names rows in
         let us = tables_after step m.tables rows in

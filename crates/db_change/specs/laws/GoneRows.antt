@@ -39,7 +39,8 @@ use Rattle.ix_context.specs.laws.Turns.{rows_gone_stand}
 use Rattle.tx_prefs.specs.Spelling.{PreferencesStand}
 use Rattle.tx_prefs.specs.laws.Changes.{preferences_frame, other_kinds}
 use Rattle.db_state.specs.laws.ShortRows.{rows_frame}
-use Rattle.db_state.specs.States.{State, Stands, HasShortRows, is_of_rows, is_view, is_built, indexes_on, index_limit}
+use Rattle.db_state.specs.laws.Kinds.{tables_no_map}
+use Rattle.db_state.specs.States.{StoreState, StandsForState, HasShortRows, is_of_rows, is_view, is_built, indexes_on, index_limit}
 use Rattle.db_change.specs.Deleting.{gone_row_changes, gone_rows_changes, without_rows}
 use Rattle.db_change.specs.laws.IndexCounts.{few_on_table}
 use Rattle.db_change.specs.laws.NewRows.{names_on, names_on_table}
@@ -134,12 +135,6 @@ row_rows kind.RowDocuments h = cc
 row_rows kind.Pending h = cc
 row_rows k h = refl
 
-tables_map : (k : Kind) → is_of_tables k ≡ true → is_of_map k ≡ false
-tables_map kind.DocumentRows h = cc
-tables_map kind.RowDocuments h = cc
-tables_map kind.Pending h = cc
-tables_map k h = refl
-
 -- ---- the tables
 
 abbrev lose_row : List ℕ → Tables → ℤ → Tables
@@ -161,7 +156,7 @@ tables_without f ts t x names read (r ∷ rows) here are each_row stand =
     let us = without_row ts t r in
     let one : TablesStand (view (a ++ b) f) us =
     subst (λ (g : Key → Option (List ℕ)). TablesStand g us) (sym (view-append a b f))
-    (tables_frame is_of_map b (view a f) us (all_each is_of_map (λ i. gone_changes i r (read i r)) (λ i. all_gone i r (read i r)) names) tables_map (stand_delete f ts t r x here are (each_row r (inl refl)) stand)) in
+    (tables_frame is_of_map b (view a f) us (all_each is_of_map (λ i. gone_changes i r (read i r)) (λ i. all_gone i r (read i r)) names) tables_no_map (stand_delete f ts t r x here are (each_row r (inl refl)) stand)) in
     subst (λ (g : Key → Option (List ℕ)). TablesStand g (tables_after (lose_row t) us rows)) (sym (view-append (a ++ b) (each (λ r. delete_changes t x.columns r ++ each (λ i. gone_changes i r (read i r)) names) rows) f))
     (tables_without (view (a ++ b) f) us t (record x { rows = remove x.rows r }) names read rows (still_there ts t x r here) (delete_keeps ts t r are) (λ s later. each_row s (inr later)) one)
 
@@ -169,7 +164,7 @@ same_columns : (ts : Tables) (t : List ℕ) (rows : List ℤ) (q : List ℕ) →
 same_columns ts t [] q = refl
 same_columns ts t (r ∷ rows) q = same_columns (without_row ts t r) t rows q ∙ columns-without_row ts t r q
 
-no_views : (m : State) (t : List ℕ) (rows : List ℤ) → ((q : List ℕ) (y : Table) → get m.tables q ≡ Some y → is_view q ≡ false) → (q : List ℕ) (y : Table) → get (tables_after (lose_row t) m.tables rows) q ≡ Some y → is_view q ≡ false
+no_views : (m : StoreState) (t : List ℕ) (rows : List ℤ) → ((q : List ℕ) (y : Table) → get m.tables q ≡ Some y → is_view q ≡ false) → (q : List ℕ) (y : Table) → get (tables_after (lose_row t) m.tables rows) q ≡ Some y → is_view q ≡ false
 no_views m t rows views q y is = go (get m.tables q) refl (sym (same_columns m.tables t rows q) ∙ ap (option_map (λ (z : Table). z.columns)) is)
   where
     go : (o : Option Table) → get m.tables q ≡ o → option_map (λ (z : Table). z.columns) o ≡ Some y.columns → is_view q ≡ false
@@ -192,8 +187,8 @@ few_after ts xs t (r ∷ rows) q = few_after (without_row ts t r) (gone_on ts xs
 -- ---- the state
 
 -- after these rows of a table went, each of which is there once
-pub gone_rows_stand : (c : Content) (m : State) (t : List ℕ) (x : Table) (rows : List ℤ) → Stands c m → get m.tables t ≡ Some x → AreApart rows → ((r : ℤ) → IsIn r rows → is_some (row_at m.tables t r) ≡ true)
-    → Stands (after (spell (gone_rows_changes (at c) t x.columns (names_on m.indexes t) rows)) c) (without_rows m t rows)
+pub gone_rows_stand : (c : Content) (m : StoreState) (t : List ℕ) (x : Table) (rows : List ℤ) → StandsForState c m → get m.tables t ≡ Some x → AreApart rows → ((r : ℤ) → IsIn r rows → is_some (row_at m.tables t r) ≡ true)
+    → StandsForState (after (spell (gone_rows_changes (at c) t x.columns (names_on m.indexes t) rows)) c) (without_rows m t rows)
 gone_rows_stand c m t x rows stands here once there =
     let names = names_on m.indexes t in
     let ws = gone_rows_changes (at c) t x.columns names rows in

@@ -7,8 +7,6 @@ use Rattle.std.specs.FinMap.{get, entries}
 use Rattle.std.proofs.lemmas.Cmp.{nat_list_cmp_total}
 use Rattle.ct_keep.specs.Content.{Content, after}
 use Rattle.ct_keep.specs.RisingKeys.{entries_rise}
-use Rattle.ct_entry.specs.declared.kinds.Kind.{Kind}
-use Rattle.ct_entry.specs.declared.kinds.Kind.TheVariants as kind
 use Rattle.ct_entry.specs.Keys.{Key, at, same_list}
 use Rattle.ct_entry.specs.Maps.{Names}
 use Rattle.ct_entry.specs.Changes.{spell, told, view}
@@ -30,36 +28,20 @@ use Rattle.ix_context.specs.laws.Well.{are_changes, all_of_indexes}
 use Rattle.db_names.specs.laws.Pairs.{rises_filter}
 use Rattle.tx_prefs.specs.Spelling.{PreferencesStand}
 use Rattle.tx_prefs.specs.laws.Changes.{preferences_frame, other_kinds}
-use Rattle.db_state.specs.States.{State, Stands, HasShortRows, is_view, is_built, indexes_on, index_limit}
+use Rattle.db_state.specs.States.{StoreState, StandsForState, HasShortRows, is_view, indexes_on, index_limit}
 use Rattle.db_state.specs.laws.ShortRows.{rows_frame, rows_put}
 use Rattle.db_state.specs.laws.EachValue.{entries-from_rising}
+use Rattle.db_state.specs.laws.Kinds.{indexes_built, tables_no_indexes}
 use Rattle.db_state.specs.laws.Removing.{fewer_kept}
 use Rattle.db_change.specs.Dropping.{with_table_dropped, drop_table_changes}
 use Rattle.db_change.specs.laws.NewTables.{tables_built, rows_tables, apart}
-
--- ---- kinds
-
-tables_apart : (k : Kind) → is_of_tables k ≡ true → is_of_indexes k ≡ false
-tables_apart kind.Tables h = refl
-tables_apart kind.RowNumbers h = refl
-tables_apart kind.RowTexts h = refl
-tables_apart k h = cc
-
-indexes_built : (k : Kind) → is_built k ≡ false → is_of_indexes k ≡ false
-indexes_built kind.Indexes h = cc
-indexes_built kind.DocumentRows h = cc
-indexes_built kind.RowDocuments h = cc
-indexes_built kind.Pending h = cc
-indexes_built kind.Postings h = cc
-indexes_built kind.Spans h = cc
-indexes_built k h = refl
 
 -- ---- the state keeps its rules
 
 others_same : (ts : Tables) (t : List ℕ) → HaveSameTablesBut ts (without_table ts t) t
 others_same ts t q other = get-without_table ts t q ∙ ap (λ (b : Bool). cond b None (get ts q)) other
 
-views_left : (m : State) (t : List ℕ) → ((q : List ℕ) (x : Table) → get m.tables q ≡ Some x → is_view q ≡ false) → (q : List ℕ) (x : Table) → get (without_table m.tables t) q ≡ Some x → is_view q ≡ false
+views_left : (m : StoreState) (t : List ℕ) → ((q : List ℕ) (x : Table) → get m.tables q ≡ Some x → is_view q ≡ false) → (q : List ℕ) (x : Table) → get (without_table m.tables t) q ≡ Some x → is_view q ≡ false
 views_left m t views q x is = go (same_list q t) (sym (get-without_table m.tables t q) ∙ is)
   where
     go : (b : Bool) → cond b None (get m.tables q) ≡ Some x → is_view q ≡ false
@@ -77,7 +59,7 @@ few_left xs t q few =
 
 -- ---- the entries
 
-module _ (c : Content) (m : State) (t : List ℕ) (names : List (List ℕ)) (on : AreIndexesOn m.indexes t names) (stands : Stands c m) where
+module _ (c : Content) (m : StoreState) (t : List ℕ) (names : List (List ℕ)) (on : AreIndexesOn m.indexes t names) (stands : StandsForState c m) where
   -- what each key has once the table's own entries are gone
   abbrev of_tables_gone : Key → Option (List ℕ)
   of_tables_gone = view (remove_changes t c) (at c)
@@ -96,7 +78,7 @@ module _ (c : Content) (m : State) (t : List ℕ) (names : List (List ℕ)) (on 
         others = λ k of other. lost.others k of (on.each k.owner ∙ other) ∙ same_indexes k of;
       }
 
-  pub dropped_stands : Stands (after (spell (drop_table_changes t c names)) c) (with_table_dropped m t)
+  pub dropped_stands : StandsForState (after (spell (drop_table_changes t c names)) c) (with_table_dropped m t)
   dropped_stands =
       let us = remove_changes t c in
       let vs = remove_all_changes c names in
@@ -111,7 +93,7 @@ module _ (c : Content) (m : State) (t : List ℕ) (names : List (List ℕ)) (on 
             ∙ told_frame is_of_tables us k (at c k) (all_remove t c) (tables_built k.kind h)
             ∙ stands.unbuilt k h;
         tables = subst (λ (f : Key → Option (List ℕ)). TablesStand f (without_table m.tables t)) (sym seen)
-            (tables_frame is_of_indexes vs of_tables_gone (without_table m.tables t) (all_of_indexes vs are) tables_apart
+            (tables_frame is_of_indexes vs of_tables_gone (without_table m.tables t) (all_of_indexes vs are) tables_no_indexes
             (stand_remove (at c) m.tables t c (record { table = λ rest. refl; numbers = λ rest. refl; texts = λ rest. refl }) stands.tables));
         indexes = subst (λ (f : Key → Option (List ℕ)). IndexesStand f (without_table m.tables t) (without_indexes_on m.indexes t)) (sym seen)
             (drop_table_stands (at c) all_gone m.tables (without_table m.tables t) m.indexes t loses (others_same m.tables t) stands.indexes);

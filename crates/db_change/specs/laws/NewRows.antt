@@ -19,7 +19,7 @@ use Rattle.ct_keep.specs.FoundKeys.{none_below}
 use Rattle.ct_entry.specs.Listings.{key_order}
 use Rattle.std.proofs.lemmas.Bool.{and_parts, or_right}
 use Rattle.ct_keep.specs.RisingKeys.{below, rises}
-use Rattle.ct_entry.specs.Each.{is_among}
+use Rattle.ct_entry.specs.Each.{is_any_of}
 use Rattle.ct_entry.specs.laws.Each.{all_each}
 use Rattle.ct_entry.specs.Changes.{spell, told, view, AreChanges, AllOf}
 use Rattle.ct_entry.specs.laws.Changes.{at_view, at-after, only-after, told_frame, told-append, view-append, are-append}
@@ -42,7 +42,7 @@ use Rattle.db_names.specs.laws.Pairs.{lookup-find}
 use Rattle.tx_prefs.specs.Spelling.{PreferencesStand}
 use Rattle.tx_prefs.specs.laws.Changes.{preferences_frame, other_kinds}
 use Rattle.db_state.specs.laws.ShortRows.{rows_frame}
-use Rattle.db_state.specs.States.{State, IsState, Stands, HasShortRows, is_of_rows, is_view, is_built, indexes_on, index_limit}
+use Rattle.db_state.specs.States.{StoreState, IsState, StandsForState, HasShortRows, is_of_rows, is_view, is_built, indexes_on, index_limit}
 use Rattle.db_change.specs.Inserting.{note_all_changes, with_new_row}
 use Rattle.db_state.specs.laws.Heads.{heads, get-heads, head_of_index}
 use Rattle.db_state.specs.laws.EachValue.{entries-each_value, count_alike}
@@ -65,7 +65,7 @@ on_table t (Some x) = go (same_list x.table t)
     go true = refl
     go false = refl
 
-pub names_listed : (xs : Names Index) (t i : List ℕ) → is_among i (names_on xs t) ≡ is_on t (get xs i)
+pub names_listed : (xs : Names Index) (t i : List ℕ) → is_any_of i (names_on xs t) ≡ is_on t (get xs i)
 names_listed xs t i =
     sym (is_some-lookup (same_list i) (heads_of t (heads xs)))
     ∙ ap is_some (heads_at t (heads xs) i)
@@ -84,7 +84,7 @@ distinct (e ∷ es) up =
 pub names_on_table : (xs : Names Index) (t : List ℕ) → AreIndexesOn xs t (names_on xs t)
 names_on_table xs t = record { distinct = distinct (heads_of t (heads xs)) (heads_rise t (heads xs)); each = names_listed xs t }
 
-names_are : (ts : Tables) (xs : Names Index) → AreIndexes ts xs → (t i : List ℕ) → is_among i (names_on xs t) ≡ true → IsName i
+names_are : (ts : Tables) (xs : Names Index) → AreIndexes ts xs → (t i : List ℕ) → is_any_of i (names_on xs t) ≡ true → IsName i
 names_are ts xs are t i there = go (get xs i) refl (sym (names_listed xs t i) ∙ there)
   where
     go : (o : Option Index) → get xs i ≡ o → is_on t o ≡ true → IsName i
@@ -104,14 +104,14 @@ is_pending k = false
 notes_pending : (names : List (List ℕ)) (r : ℤ) → AllOf is_pending (note_all_changes names r)
 notes_pending names r = all_each is_pending (λ i. note_insert_changes i r) (λ i. (refl, tt)) names
 
-notes_are : (names : List (List ℕ)) (r : ℤ) → IsRow r → ((i : List ℕ) → is_among i names ≡ true → IsName i) → AreChanges (note_all_changes names r)
+notes_are : (names : List (List ℕ)) (r : ℤ) → IsRow r → ((i : List ℕ) → is_any_of i names ≡ true → IsName i) → AreChanges (note_all_changes names r)
 notes_are [] r row named = tt
 notes_are (i ∷ is) r row named = (
-  record { owner = named i (ap (λ (b : Bool). b || is_among i is) (list_same i)); part = (r, row, refl) },
-  notes_are is r row (λ j there. named j (or_right (same_list j i) (is_among j is) there)),
+  record { owner = named i (ap (λ (b : Bool). b || is_any_of i is) (list_same i)); part = (r, row, refl) },
+  notes_are is r row (λ j there. named j (or_right (same_list j i) (is_any_of j is) there)),
 )
 
-module _ (m : State) (t : List ℕ) (x : Table) (r : ℤ) (vs : List Value) (is : get m.tables t ≡ Some x) (state : IsState m) (row : IsRow r) (fit : FitColumns (others x.columns) vs) where
+module _ (m : StoreState) (t : List ℕ) (x : Table) (r : ℤ) (vs : List Value) (is : get m.tables t ≡ Some x) (state : IsState m) (row : IsRow r) (fit : FitColumns (others x.columns) vs) where
   pub new_row_changes_are : AreChanges (new_row_changes t r vs (names_on m.indexes t))
   new_row_changes_are =
       are-append (insert_changes t r (numbers_of vs) (texts_of vs)) (note_all_changes (names_on m.indexes t) r)
@@ -132,7 +132,7 @@ pending_built : (k : Kind) → is_built k ≡ false → is_pending k ≡ false
 pending_built kind.Pending h = cc
 pending_built k h = refl
 
-views_stay : (m : State) (t : List ℕ) (x : Table) (r : ℤ) (vs : List Value) → get m.tables t ≡ Some x → ((q : List ℕ) (y : Table) → get m.tables q ≡ Some y → is_view q ≡ false)
+views_stay : (m : StoreState) (t : List ℕ) (x : Table) (r : ℤ) (vs : List Value) → get m.tables t ≡ Some x → ((q : List ℕ) (y : Table) → get m.tables q ≡ Some y → is_view q ≡ false)
     → (q : List ℕ) (y : Table) → get (with_row m.tables t r vs) q ≡ Some y → is_view q ≡ false
 views_stay m t x r vs here views q y is = go (same_list q t) refl (sym (get-with_row m.tables t r vs x here q) ∙ is)
   where
@@ -153,7 +153,7 @@ few_stay xs t r q =
     ap (λ (es : List (List ℕ × Index)). length (filter (λ e. same_list e.1.table q) es)) (entries-each_value (slice_cmp nat_cmp) (waiting_on t r) nat_list_cmp_total xs)
     ∙ count_alike (λ (e : List ℕ × Index). (e.0, waiting_on t r e.1)) (λ e. same_list e.1.table q) (λ e. same_list e.1.table q) (λ e. ap (λ (u : List ℕ). same_list u q) (noted_table t r e.1)) (entries xs)
 
-new_row_state : (m : State) (t : List ℕ) (x : Table) (r : ℤ) (vs : List Value) → get m.tables t ≡ Some x → IsState m → IsRow r → FitColumns (others x.columns) vs → length (entries x.rows) < 100000 → IsState (with_new_row m t r vs)
+new_row_state : (m : StoreState) (t : List ℕ) (x : Table) (r : ℤ) (vs : List Value) → get m.tables t ≡ Some x → IsState m → IsRow r → FitColumns (others x.columns) vs → length (entries x.rows) < 100000 → IsState (with_new_row m t r vs)
 new_row_state m t x r vs is state row fit room = record {
   tables = insert_keeps m.tables t r vs x state.tables is row fit room;
   indexes = row_keeps m.tables m.indexes t r vs x is state.indexes;
@@ -170,8 +170,8 @@ free_marks ts xs t x r is none are i y here on = gone (get (marks_in y.body) r) 
     no_row : row_at ts t r ≡ None
     no_row = rw is none
 
-pub new_row_stands : (c : Content) (m : State) (t : List ℕ) (x : Table) (r : ℤ) (vs : List Value) → Stands c m → get m.tables t ≡ Some x → get x.rows r ≡ None → IsRow r → FitColumns (others x.columns) vs → length (entries x.rows) < 100000
-    → Stands (after (spell (new_row_changes t r vs (names_on m.indexes t))) c) (with_new_row m t r vs)
+pub new_row_stands : (c : Content) (m : StoreState) (t : List ℕ) (x : Table) (r : ℤ) (vs : List Value) → StandsForState c m → get m.tables t ≡ Some x → get x.rows r ≡ None → IsRow r → FitColumns (others x.columns) vs → length (entries x.rows) < 100000
+    → StandsForState (after (spell (new_row_changes t r vs (names_on m.indexes t))) c) (with_new_row m t r vs)
 new_row_stands c m t x r vs stands is none row fit room =
     let a = insert_changes t r (numbers_of vs) (texts_of vs) in
     let b = note_all_changes (names_on m.indexes t) r in

@@ -17,7 +17,7 @@ use Rattle.ct_entry.specs.laws.Changes.{at_view, at-after, only-after, told_fram
 use Rattle.tb_table.specs.declared.columns.Column.{Column}
 use Rattle.tb_table.specs.Tables.{Table, Tables, with_table}
 use Rattle.tb_table.specs.Spelling.{TablesStand, table_changes}
-use Rattle.tb_table.specs.Rules.{AreColumns, HasAllowedSize, IsKeyFirst, AllColumns, AreApart, has_column}
+use Rattle.tb_table.specs.Rules.{AreColumns, HasAllowedSize, IsKeyFirst, AllColumns, HaveDistinctNames, has_column}
 use Rattle.ct_base.specs.Limits.{column_limit, table_limit, text_limit}
 use Rattle.tb_table.specs.laws.Changes.{is_of_tables, all_create, stand_create, get-with_table, row_at-with_table}
 use Rattle.tb_table.specs.laws.Rules.{create_keeps}
@@ -36,9 +36,9 @@ use Rattle.tb_table.specs.declared.columns.Sort.TheVariants.{Number}
 use Rattle.tx_prefs.specs.Spelling.{PreferencesStand}
 use Rattle.tx_prefs.specs.laws.Changes.{preferences_frame, other_kinds}
 use Rattle.db_state.specs.Effects.{as_count}
-use Rattle.db_change.specs.Creating.{is_number, is_key_first, names_differ, is_size, is_sized, all_sized, sort_of, column_of, IsFreeTable, with_new_table}
+use Rattle.db_change.specs.Creating.{is_number_sort, is_key_first, names_differ, is_size, is_sized, all_sized, declared_sort, column_of, IsFreeTable, with_new_table}
 use Rattle.db_state.specs.laws.ShortRows.{rows_frame}
-use Rattle.db_state.specs.States.{HasShortRows, is_of_rows, State, Stands, is_view, is_built}
+use Rattle.db_state.specs.States.{HasShortRows, is_of_rows, StoreState, StandsForState, is_view, is_built}
 use Rattle.std.proofs.lemmas.Bool.{or_parts as either, and_parts as both, not-true as not_true}
 use Rattle.ct_base.specs.laws.Options.{no_value as no_some}
 
@@ -70,7 +70,7 @@ indexes_keep ts xs t columns none are = record {
 
 -- ---- and the state its own
 
-views_stay : (m : State) (t : List ℕ) (columns : List Column) → is_view t ≡ false → ((q : List ℕ) (x : Table) → get m.tables q ≡ Some x → is_view q ≡ false)
+views_stay : (m : StoreState) (t : List ℕ) (columns : List Column) → is_view t ≡ false → ((q : List ℕ) (x : Table) → get m.tables q ≡ Some x → is_view q ≡ false)
     → (q : List ℕ) (x : Table) → get (with_table m.tables t columns) q ≡ Some x → is_view q ≡ false
 views_stay m t columns free views q x is = go (same_list q t) refl (sym (get-with_table m.tables t columns q) ∙ is)
   where
@@ -98,8 +98,8 @@ apart kind.RowNumbers h = cc
 apart kind.RowTexts h = cc
 apart k h = refl
 
-pub new_table_stands : (c : Content) (m : State) (t : List ℕ) (columns : List Column) → Stands c m → get m.tables t ≡ None → is_view t ≡ false → IsName t → AreColumns columns → length (entries m.tables) < 64
-    → Stands (after (spell (table_changes t columns)) c) (record m { tables = with_table m.tables t columns })
+pub new_table_stands : (c : Content) (m : StoreState) (t : List ℕ) (columns : List Column) → StandsForState c m → get m.tables t ≡ None → is_view t ≡ false → IsName t → AreColumns columns → length (entries m.tables) < 64
+    → StandsForState (after (spell (table_changes t columns)) c) (record m { tables = with_table m.tables t columns })
 new_table_stands c m t columns stands none free name are few =
     let ws = table_changes t columns in
     record {
@@ -121,7 +121,7 @@ new_table_stands c m t columns stands none free name are few =
 
 -- ---- columns that pass the checks
 
-is_sort : (s : SortText) → is_sized s ≡ true → HasAllowedSize (sort_of s)
+is_sort : (s : SortText) → is_sized s ≡ true → HasAllowedSize (declared_sort s)
 is_sort NumberText h = tt
 is_sort (Varchar2Text size) h = go (as_count size) h
   where
@@ -147,7 +147,7 @@ all_columns : (cs : List ColumnText) → AllNamed cs → all_sized cs ≡ true �
 all_columns [] named h = tt
 all_columns (c ∷ cs) named h = let b = both (is_sized c.sort) (all_sized cs) h in (named.0, is_sort c.sort b.0, all_columns cs named.1 b.1)
 
-apart_columns : (cs : List ColumnText) → names_differ cs ≡ true → AreApart (map column_of cs)
+apart_columns : (cs : List ColumnText) → names_differ cs ≡ true → HaveDistinctNames (map column_of cs)
 apart_columns [] h = tt
 apart_columns (c ∷ cs) h =
     let b = both (not (list_any (λ (d : ColumnText). same_list c.name d.name) cs)) (names_differ cs) h in
@@ -155,14 +155,14 @@ apart_columns (c ∷ cs) h =
 
 key_first : (cs : List ColumnText) → is_key_first cs ≡ true → IsKeyFirst (map column_of cs)
 key_first [] h = cc
-key_first (c ∷ cs) h = number c.sort (both (is_number c.sort) c.primary (both (is_number c.sort && c.primary) (list_all (λ (d : ColumnText). not d.primary) cs) h).0).0
+key_first (c ∷ cs) h = number c.sort (both (is_number_sort c.sort) c.primary (both (is_number_sort c.sort && c.primary) (list_all (λ (d : ColumnText). not d.primary) cs) h).0).0
   where
-    number : (s : SortText) → is_number s ≡ true → sort_of s ≡ Number
+    number : (s : SortText) → is_number_sort s ≡ true → declared_sort s ≡ Number
     number NumberText h = refl
     number (Varchar2Text size) h = cc
     number ClobText h = cc
 
-pub columns_pass : (m : State) (t : List ℕ) (cs : List ColumnText) → AllNamed cs → IsFreeTable m t cs → AreColumns (map column_of cs)
+pub columns_pass : (m : StoreState) (t : List ℕ) (cs : List ColumnText) → AllNamed cs → IsFreeTable m t cs → AreColumns (map column_of cs)
 columns_pass m t cs named free =
     let formed = both (is_key_first cs) (names_differ cs) free.formed in
     let few = either (nat_lt column_limit (length cs)) (nat_le table_limit (length (entries m.tables))) free.few in
@@ -174,7 +174,7 @@ columns_pass m t cs named free =
     }
 
 -- the state after CREATE TABLE
-pub created_table_stands : (c : Content) (m : State) (t : List ℕ) (cs : List ColumnText) → Stands c m → IsName t → AllNamed cs → IsFreeTable m t cs → Stands (after (spell (table_changes t (map column_of cs))) c) (with_new_table m t cs)
+pub created_table_stands : (c : Content) (m : StoreState) (t : List ℕ) (cs : List ColumnText) → StandsForState c m → IsName t → AllNamed cs → IsFreeTable m t cs → StandsForState (after (spell (table_changes t (map column_of cs))) c) (with_new_table m t cs)
 created_table_stands c m t cs stands name named free =
     let there = either (is_some (get m.tables t)) (is_view t) free.free in
     let few = either (nat_lt column_limit (length cs)) (nat_le table_limit (length (entries m.tables))) free.few in

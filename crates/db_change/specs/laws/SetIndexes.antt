@@ -8,7 +8,7 @@ use Rattle.std.specs.FinMap.{get}
 use Rattle.std.proofs.lemmas.Bool.{or_parts as or_false}
 use Rattle.ct_entry.specs.Keys.{same_list}
 use Rattle.ct_entry.specs.laws.Keys.{list_from_same}
-use Rattle.ct_entry.specs.Each.{is_among}
+use Rattle.ct_entry.specs.Each.{is_any_of}
 use Rattle.ct_entry.specs.Maps.{Names}
 use Rattle.db_names.specs.declared.heads.IndexHead.{IndexHead}
 use Rattle.db_names.specs.Promises.{head_of, heads_of}
@@ -26,12 +26,12 @@ module _ (places : List ℕ) where
   on_set None = false
   on_set (Some h) = is_column places h.target.column
 
-  none_named : (i : List ℕ) (hs : List (List ℕ × IndexHead)) → is_among i (map (λ e. e.0) hs) ≡ false → is_among i (named_set places hs) ≡ false
+  none_named : (i : List ℕ) (hs : List (List ℕ × IndexHead)) → is_any_of i (map (λ e. e.0) hs) ≡ false → is_any_of i (named_set places hs) ≡ false
   none_named i [] none = refl
-  none_named i (e ∷ hs) none = let o = or_false (same_list i e.0) (is_among i (map (λ e. e.0) hs)) none in one (is_column places e.1.target.column) o.0 (none_named i hs o.1)
+  none_named i (e ∷ hs) none = let o = or_false (same_list i e.0) (is_any_of i (map (λ e. e.0) hs)) none in one (is_column places e.1.target.column) o.0 (none_named i hs o.1)
     where
-      one : (b : Bool) → same_list i e.0 ≡ false → is_among i (named_set places hs) ≡ false → is_among i (cons_option (cond b (Some e.0) None) (named_set places hs)) ≡ false
-      one true other rest = ap (λ (b : Bool). b || is_among i (named_set places hs)) other ∙ rest
+      one : (b : Bool) → same_list i e.0 ≡ false → is_any_of i (named_set places hs) ≡ false → is_any_of i (cons_option (cond b (Some e.0) None) (named_set places hs)) ≡ false
+      one true other rest = ap (λ (b : Bool). b || is_any_of i (named_set places hs)) other ∙ rest
       one false other rest = rest
 
   distinct_named : (hs : List (List ℕ × IndexHead)) → AreDistinct (map (λ e. e.0) hs) → AreDistinct (named_set places hs)
@@ -42,15 +42,15 @@ module _ (places : List ℕ) where
       one true rest = (none_named e.0 hs distinct.0, rest)
       one false rest = rest
 
-  among_named : (i : List ℕ) (hs : List (List ℕ × IndexHead)) → AreDistinct (map (λ e. e.0) hs) → is_among i (named_set places hs) ≡ on_set (lookup (same_list i) hs)
+  among_named : (i : List ℕ) (hs : List (List ℕ × IndexHead)) → AreDistinct (map (λ e. e.0) hs) → is_any_of i (named_set places hs) ≡ on_set (lookup (same_list i) hs)
   among_named i [] distinct = refl
   among_named i (e ∷ hs) distinct = one (same_list i e.0) refl (is_column places e.1.target.column) refl (among_named i hs distinct.1)
     where
-      one : (a : Bool) → same_list i e.0 ≡ a → (b : Bool) → is_column places e.1.target.column ≡ b → is_among i (named_set places hs) ≡ on_set (lookup (same_list i) hs)
-          → is_among i (cons_option (cond b (Some e.0) None) (named_set places hs)) ≡ on_set (cond a (Some e.1) (lookup (same_list i) hs))
-      one true h true is rest = ap (λ (b : Bool). b || is_among i (named_set places hs)) h ∙ sym is
-      one true h false is rest = none_named i hs (ap (λ (n : List ℕ). is_among n (map (λ e. e.0) hs)) (list_from_same i e.0 h) ∙ distinct.0) ∙ sym is
-      one false h true is rest = ap (λ (b : Bool). b || is_among i (named_set places hs)) h ∙ rest
+      one : (a : Bool) → same_list i e.0 ≡ a → (b : Bool) → is_column places e.1.target.column ≡ b → is_any_of i (named_set places hs) ≡ on_set (lookup (same_list i) hs)
+          → is_any_of i (cons_option (cond b (Some e.0) None) (named_set places hs)) ≡ on_set (cond a (Some e.1) (lookup (same_list i) hs))
+      one true h true is rest = ap (λ (b : Bool). b || is_any_of i (named_set places hs)) h ∙ sym is
+      one true h false is rest = none_named i hs (ap (λ (n : List ℕ). is_any_of n (map (λ e. e.0) hs)) (list_from_same i e.0 h) ∙ distinct.0) ∙ sym is
+      one false h true is rest = ap (λ (b : Bool). b || is_any_of i (named_set places hs)) h ∙ rest
       one false h false is rest = rest
 
   on_columns : (t : List ℕ) (o : Option Index) → on_set (head_of t (option_map head_of_index o)) ≡ is_on_columns t places o

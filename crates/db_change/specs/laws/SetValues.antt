@@ -15,13 +15,13 @@ use Rattle.st_parse.specs.declared.statements.Whole.TheVariants.{Fits, Beyond}
 use Rattle.tb_table.specs.declared.columns.Sort.{Sort}
 use Rattle.tb_table.specs.declared.columns.Sort.TheVariants.{Number as NumberSort, Varchar2, Clob}
 use Rattle.tb_table.specs.declared.columns.Column.{Column}
-use Rattle.tb_table.specs.Tables.{numbers_of, as_text, text_in, text_of, given_text, IsUpdate}
-use Rattle.tb_table.specs.Rules.{IsOfSort as FitsSort, FitColumns, AreApart, has_column, others}
+use Rattle.tb_table.specs.Tables.{numbers_of, as_text, text_in, text_in_column, given_text, IsUpdate}
+use Rattle.tb_table.specs.Rules.{IsOfSort as FitsSort, FitColumns, HaveDistinctNames, has_column, others}
 use Rattle.tb_table.specs.laws.Well.{EachPlace}
 use Rattle.ix_context.specs.RowSteps.{is_column}
-use Rattle.db_state.specs.Columns.{place_from, place_of}
+use Rattle.db_state.specs.Columns.{place_from, column_place}
 use Rattle.db_change.specs.Inserting.{kept_value, number_value, text_value}
-use Rattle.db_change.specs.Updating.{set_in, value_after, values_after, places_set, of_numbers, number_set, with_set, numbers_after, texts_set}
+use Rattle.db_change.specs.Updating.{set_in, value_after, updated_values, places_set, of_numbers, number_set, with_set, numbers_after, texts_set}
 use Rattle.std.proofs.lemmas.Bool.{or_right}
 
 -- what is set in a column fits it
@@ -40,7 +40,7 @@ others_fit_set assigns (c ∷ cs) fit = fit.1
 module _ (assigns : List Assign) where
   -- ---- the values fit the columns still
 
-  pub values_fit : (cs : List Column) (vs : List Value) → FitColumns cs vs → SetFits assigns cs → FitColumns cs (values_after cs assigns vs)
+  pub values_fit : (cs : List Column) (vs : List Value) → FitColumns cs vs → SetFits assigns cs → FitColumns cs (updated_values cs assigns vs)
   values_fit [] [] fit set = tt
   values_fit [] (v ∷ vs) fit set = absurd fit
   values_fit (c ∷ cs) [] fit set = absurd fit
@@ -52,14 +52,14 @@ module _ (assigns : List Assign) where
 
   -- ---- numbers
 
-  pub numbers_values : (cs : List Column) (vs : List Value) → FitColumns cs vs → SetFits assigns cs → numbers_of (values_after cs assigns vs) ≡ numbers_after cs assigns (numbers_of vs)
+  pub numbers_values : (cs : List Column) (vs : List Value) → FitColumns cs vs → SetFits assigns cs → numbers_of (updated_values cs assigns vs) ≡ numbers_after cs assigns (numbers_of vs)
   numbers_values [] [] fit set = refl
   numbers_values [] (v ∷ vs) fit set = absurd fit
   numbers_values (c ∷ cs) [] fit set = absurd fit
   numbers_values (c ∷ cs) (v ∷ vs) fit set = one c.sort (set_in assigns c.name) v fit.0 set.0 (numbers_values cs vs fit.1 set.1)
     where
-      one : (s : Sort) (o : Option Operand) (v : Value) → FitsSort s v → FitsSet s o → numbers_of (values_after cs assigns vs) ≡ numbers_after cs assigns (numbers_of vs)
-          → numbers_of (value_after o v ∷ values_after cs assigns vs) ≡ with_set (cons_option (of_numbers s (option_and_then number_value o)) (filter_map (number_set assigns) cs)) (numbers_of (v ∷ vs))
+      one : (s : Sort) (o : Option Operand) (v : Value) → FitsSort s v → FitsSet s o → numbers_of (updated_values cs assigns vs) ≡ numbers_after cs assigns (numbers_of vs)
+          → numbers_of (value_after o v ∷ updated_values cs assigns vs) ≡ with_set (cons_option (of_numbers s (option_and_then number_value o)) (filter_map (number_set assigns) cs)) (numbers_of (v ∷ vs))
       one NumberSort o (TextValue text) old new rest = absurd old
       one (Varchar2 size) o (NumberValue n) old new rest = absurd old
       one Clob o (NumberValue n) old new rest = absurd old
@@ -112,7 +112,7 @@ module _ (assigns : List Assign) where
           ∙ or_none (given_text q (texts_set (suc place) cs assigns)) ∙ rest
 
   -- a text that is set is the new one
-  set_there : (cs : List Column) (vs : List Value) (k : ℕ) (text : List ℕ) → FitColumns cs vs → text_set_at cs k ≡ Some text → text_in (values_after cs assigns vs) k ≡ Some text
+  set_there : (cs : List Column) (vs : List Value) (k : ℕ) (text : List ℕ) → FitColumns cs vs → text_set_at cs k ≡ Some text → text_in (updated_values cs assigns vs) k ≡ Some text
   set_there [] vs k text fit is = cc
   set_there (c ∷ cs) [] k text fit is = absurd fit
   set_there (c ∷ cs) (v ∷ vs) zero text fit is = one (set_in assigns c.name) is
@@ -124,7 +124,7 @@ module _ (assigns : List Assign) where
   set_there (c ∷ cs) (v ∷ vs) (suc k) text fit is = set_there cs vs k text fit.1 is
 
   -- where none is set, the text is as before
-  pub none_there : (cs : List Column) (vs : List Value) (k : ℕ) → FitColumns cs vs → SetFits assigns cs → text_set_at cs k ≡ None → text_in (values_after cs assigns vs) k ≡ text_in vs k
+  pub none_there : (cs : List Column) (vs : List Value) (k : ℕ) → FitColumns cs vs → SetFits assigns cs → text_set_at cs k ≡ None → text_in (updated_values cs assigns vs) k ≡ text_in vs k
   none_there [] [] k fit set is = refl
   none_there [] (v ∷ vs) k fit set is = absurd fit
   none_there (c ∷ cs) [] k fit set is = absurd fit
@@ -142,14 +142,14 @@ module _ (assigns : List Assign) where
       one Clob (Some (Number Beyond)) v old new is = absurd new
   none_there (c ∷ cs) (v ∷ vs) (suc k) fit set is = none_there cs vs k fit.1 set.1 is
 
-  pub is_update : (cs : List Column) (vs : List Value) → FitColumns cs vs → SetFits assigns cs → IsUpdate (texts_set 1 cs assigns) vs (values_after cs assigns vs)
+  pub is_update : (cs : List Column) (vs : List Value) → FitColumns cs vs → SetFits assigns cs → IsUpdate (texts_set 1 cs assigns) vs (updated_values cs assigns vs)
   is_update cs vs fit set = record { given = given; others = unset }
     where
-      given : (column : ℕ) (text : List ℕ) → given_text column (texts_set 1 cs assigns) ≡ Some text → text_of (values_after cs assigns vs) column ≡ Some text
+      given : (column : ℕ) (text : List ℕ) → given_text column (texts_set 1 cs assigns) ≡ Some text → text_in_column (updated_values cs assigns vs) column ≡ Some text
       given zero text is = let wrong : None ≡ Some text = sym (none_below 0 1 cs (omega arith)) ∙ is in cc
       given (suc k) text is = set_there cs vs k text fit (sym (given_at cs 1 k (suc k) (omega arith)) ∙ is)
 
-      unset : (column : ℕ) → given_text column (texts_set 1 cs assigns) ≡ None → text_of (values_after cs assigns vs) column ≡ text_of vs column
+      unset : (column : ℕ) → given_text column (texts_set 1 cs assigns) ≡ None → text_in_column (updated_values cs assigns vs) column ≡ text_in_column vs column
       unset zero is = refl
       unset (suc k) is = none_there cs vs k fit set (sym (given_at cs 1 k (suc k) (omega arith)) ∙ is)
 
@@ -179,7 +179,7 @@ module _ (assigns : List Assign) where
     set : set_in assigns name ≡ Some value
     place : place_from from name cs ≡ Some (from + k)
 
-  set_at : (cs : List Column) (from k : ℕ) (text : List ℕ) → AreApart cs → text_set_at cs k ≡ Some text → IsSetAt cs from k
+  set_at : (cs : List Column) (from k : ℕ) (text : List ℕ) → HaveDistinctNames cs → text_set_at cs k ≡ Some text → IsSetAt cs from k
   set_at [] from k text apart is = cc
   set_at (c ∷ cs) from zero text apart is = one (set_in assigns c.name) refl is
     where
@@ -205,7 +205,7 @@ module _ (assigns : List Assign) where
           let wrong : true ≡ false = sym (place_there (suc from) later.name cs (suc from + k) later.place) ∙ ap (λ (n : List ℕ). has_column n cs) (list_from_same later.name c.name h) ∙ apart.0 in cc
       one later false h = ap (λ (b : Bool). cond b (Some from) (place_from (suc from) later.name cs)) h ∙ later.place ∙ ap Some (omega arith)
 
-placed : (columns : List Column) (name : List ℕ) (p : ℕ) → place_of name columns ≡ Some p → (assigns : List Assign) (w : Operand) → set_in assigns name ≡ Some w → is_column (places_set columns assigns) p ≡ true
+placed : (columns : List Column) (name : List ℕ) (p : ℕ) → column_place name columns ≡ Some p → (assigns : List Assign) (w : Operand) → set_in assigns name ≡ Some w → is_column (places_set columns assigns) p ≡ true
 placed columns name p place [] w set = cc
 placed columns name p place (a ∷ assigns) w set = one (same_list name a.column) refl set (placed columns name p place assigns w)
   where
@@ -216,18 +216,18 @@ placed columns name p place (a ∷ assigns) w set = one (same_list name a.column
     one : (b : Bool) → same_list name a.column ≡ b → cond b (Some a.value) (set_in assigns name) ≡ Some w → (set_in assigns name ≡ Some w → is_column (places_set columns assigns) p ≡ true)
         → is_column (places_set columns (a ∷ assigns)) p ≡ true
     one true h set rest =
-        ap (λ (o : Option ℕ). is_column (cons_option o (places_set columns assigns)) p) (ap (λ (n : List ℕ). place_of n columns) (sym (list_from_same name a.column h)) ∙ place)
+        ap (λ (o : Option ℕ). is_column (cons_option o (places_set columns assigns)) p) (ap (λ (n : List ℕ). column_place n columns) (sym (list_from_same name a.column h)) ∙ place)
         ∙ ap (λ (b : Bool). b || is_column (places_set columns assigns) p) (eq-eqb p p refl)
-    one false h set rest = later (place_of a.column columns) (rest set)
+    one false h set rest = later (column_place a.column columns) (rest set)
 
 -- a column that isn't set has the text that it had
-pub text_stays : (columns : List Column) (assigns : List Assign) (vs : List Value) → AreApart columns → FitColumns (others columns) vs → SetFits assigns (others columns) → (column : ℕ) → is_column (places_set columns assigns) column ≡ false
-    → text_of (values_after (others columns) assigns vs) column ≡ text_of vs column
+pub text_stays : (columns : List Column) (assigns : List Assign) (vs : List Value) → HaveDistinctNames columns → FitColumns (others columns) vs → SetFits assigns (others columns) → (column : ℕ) → is_column (places_set columns assigns) column ≡ false
+    → text_in_column (updated_values (others columns) assigns vs) column ≡ text_in_column vs column
 text_stays columns assigns vs apart fit set zero other = refl
 text_stays [] assigns vs apart fit set (suc k) other = none_there assigns [] vs k fit set refl
 text_stays (c ∷ cs) assigns vs apart fit set (suc k) other = one (text_set_at assigns cs k) refl
   where
-    one : (o : Option (List ℕ)) → text_set_at assigns cs k ≡ o → text_in (values_after cs assigns vs) k ≡ text_in vs k
+    one : (o : Option (List ℕ)) → text_set_at assigns cs k ≡ o → text_in (updated_values cs assigns vs) k ≡ text_in vs k
     one None is = none_there assigns cs vs k fit set is
     one (Some text) is =
         let at = set_at assigns (c ∷ cs) 0 (suc k) text apart is in

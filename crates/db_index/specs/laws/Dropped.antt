@@ -16,17 +16,17 @@ use Rattle.tb_table.specs.laws.Changes.{tables_frame}
 use Rattle.ix_context.specs.Indexes.{Index}
 use Rattle.ix_context.specs.Spelling.{is_of_indexes}
 use Rattle.ix_context.specs.Standing.{IndexesStand}
-use Rattle.ix_context.specs.Removing.{remove_changes}
+use Rattle.ix_context.specs.Removing.{index_removals}
 use Rattle.ix_context.specs.laws.Dropped.{drop_stands, drop_keeps}
 use Rattle.ix_context.specs.laws.Removing.{remove_loses, index_changes_remove}
 use Rattle.ix_context.specs.laws.Well.{are_changes, all_of_indexes}
 use Rattle.tx_prefs.specs.Spelling.{PreferencesStand}
 use Rattle.tx_prefs.specs.laws.Changes.{preferences_frame, other_kinds}
-use Rattle.db_state.specs.States.{State, Stands, HasShortRows, indexes_on, index_limit}
+use Rattle.db_state.specs.States.{StoreState, StandsForState, HasShortRows, indexes_on, index_limit}
 use Rattle.db_state.specs.laws.ShortRows.{rows_put}
 use Rattle.db_state.specs.laws.Removing.{fewer_kept}
 use Rattle.db_index.specs.Dropping.{with_index_dropped}
-use Rattle.db_index.specs.laws.NewMarks.{apart, indexes_built}
+use Rattle.db_state.specs.laws.Kinds.{indexes_built, tables_no_indexes}
 
 -- a table has no more indexes than before
 few_dropped : (xs : Names Index) (i t : List ℕ) → length (indexes_on xs t) ≤ index_limit → length (indexes_on (remove xs i) t) ≤ index_limit
@@ -36,14 +36,14 @@ few_dropped xs i t few =
     let same = ap (λ (es : List (List ℕ × Index)). length (filter (λ e. same_list e.1.table t) es)) left in
     omega (arith, less, same, few)
 
-pub dropped_stands : (c : Content) (m : State) (i : List ℕ) → Stands c m → Stands (after (spell (remove_changes i c)) c) (with_index_dropped m i)
+pub dropped_stands : (c : Content) (m : StoreState) (i : List ℕ) → StandsForState c m → StandsForState (after (spell (index_removals i c)) c) (with_index_dropped m i)
 dropped_stands c m i stands =
-    let ws = remove_changes i c in
+    let ws = index_removals i c in
     let are = index_changes_remove i c stands.only in
     record {
       only = only-after ws c stands.only (are_changes ws are);
       unbuilt = λ k h. at-after ws c k ∙ told_frame is_of_indexes ws k (at c k) (all_of_indexes ws are) (indexes_built k.kind h) ∙ stands.unbuilt k h;
-      tables = subst (λ (f : Key → Option (List ℕ)). TablesStand f m.tables) (sym (at_view ws c)) (tables_frame is_of_indexes ws (at c) m.tables (all_of_indexes ws are) apart stands.tables);
+      tables = subst (λ (f : Key → Option (List ℕ)). TablesStand f m.tables) (sym (at_view ws c)) (tables_frame is_of_indexes ws (at c) m.tables (all_of_indexes ws are) tables_no_indexes stands.tables);
       indexes = subst (λ (f : Key → Option (List ℕ)). IndexesStand f m.tables (remove m.indexes i)) (sym (at_view ws c)) (drop_stands (at c) (view ws (at c)) m.tables m.indexes i (remove_loses i c (at c) (λ k of. refl)) stands.indexes);
       preferences = subst (λ (f : Key → Option (List ℕ)). PreferencesStand f m.preferences) (sym (at_view ws c)) (preferences_frame is_of_indexes ws (at c) m.preferences (all_of_indexes ws are) (other_kinds is_of_indexes refl refl refl) stands.preferences);
       short_rows = subst HasShortRows (sym (at_view ws c)) (rows_put ws (at c) are stands.short_rows);

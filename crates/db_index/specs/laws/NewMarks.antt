@@ -9,8 +9,6 @@ use Rattle.std.specs.FinMap.{get, insert, entries, find, get-entries}
 use Rattle.std.proofs.lemmas.Bool.{ltb-false, leb-false, le-ltb, eq-eqb, and_from}
 use Rattle.std.proofs.lemmas.Cmp.{nat_list_cmp_total}
 use Rattle.ct_keep.specs.Content.{Content, after}
-use Rattle.ct_entry.specs.declared.kinds.Kind.{Kind}
-use Rattle.ct_entry.specs.declared.kinds.Kind.TheVariants as kind
 use Rattle.ct_base.specs.Names.{IsName}
 use Rattle.ct_entry.specs.Keys.{Key, at, same_list, IsRow}
 use Rattle.ct_entry.specs.laws.Keys.{list_from_same, list_same}
@@ -22,7 +20,7 @@ use Rattle.tb_table.specs.declared.columns.Sort.TheVariants.{Number as NumberSor
 use Rattle.tb_table.specs.declared.columns.Column.{Column}
 use Rattle.tb_table.specs.Tables.{Table}
 use Rattle.tb_table.specs.Spelling.{TablesStand}
-use Rattle.tb_table.specs.laws.Changes.{is_of_tables, tables_frame}
+use Rattle.tb_table.specs.laws.Changes.{tables_frame}
 use Rattle.tx_settings.specs.declared.preferences.Prefs.{Prefs}
 use Rattle.tx_settings.specs.PrefsBytes.{IsPrefs}
 use Rattle.ix_context.specs.Indexes.{Index, given, pending_rows, synced, synced_index, rows_in, created, with_index}
@@ -39,39 +37,11 @@ use Rattle.db_index.specs.Indexing.{is_text_sort, is_text_at, has_context_index,
 use Rattle.tx_prefs.specs.Spelling.{PreferencesStand}
 use Rattle.tx_prefs.specs.laws.Changes.{preferences_frame, other_kinds}
 use Rattle.db_state.specs.laws.ShortRows.{rows_put}
-use Rattle.db_state.specs.States.{State, Stands, HasShortRows, indexes_on, index_limit, is_built}
+use Rattle.db_state.specs.laws.Kinds.{indexes_built, tables_no_indexes}
+use Rattle.db_state.specs.States.{StoreState, StandsForState, HasShortRows, indexes_on, index_limit}
 use Rattle.db_index.specs.laws.Counting.{one, counted, count_insert, one_true, one_false}
 use Rattle.std.proofs.lemmas.Bool.{or_parts as either}
 use Rattle.ct_base.specs.laws.Options.{no_value as no_some}
-
--- ---- kinds
-
-pub apart : (k : Kind) → is_of_tables k ≡ true → is_of_indexes k ≡ false
-apart kind.Tables h = refl
-apart kind.RowNumbers h = refl
-apart kind.RowTexts h = refl
-apart k h = cc
-
-pub indexes_built : (k : Kind) → is_built k ≡ false → is_of_indexes k ≡ false
-indexes_built kind.Tables h = cc
-indexes_built kind.RowNumbers h = cc
-indexes_built kind.RowTexts h = cc
-indexes_built kind.Preferences h = refl
-indexes_built kind.Stoplists h = refl
-indexes_built kind.SectionGroups h = refl
-indexes_built kind.IndexSets h = refl
-indexes_built kind.Thesauri h = refl
-indexes_built kind.Relations h = refl
-indexes_built kind.Indexes h = cc
-indexes_built kind.DocumentRows h = cc
-indexes_built kind.RowDocuments h = cc
-indexes_built kind.Pending h = cc
-indexes_built kind.Postings h = cc
-indexes_built kind.Spans h = cc
-indexes_built kind.Catalogue h = refl
-indexes_built kind.Rules h = refl
-indexes_built kind.Anchors h = refl
-indexes_built kind.RuleFaults h = refl
 
 -- ---- the state after a synchronisation
 
@@ -92,14 +62,14 @@ few_synced xs i x there t =
         let same : counted {K = List ℕ} (slice_cmp nat_cmp) (λ (z : Index). same_list z.table t) (Some y) ≡ one (same_list x.table t) = ap (counted {K = List ℕ} (slice_cmp nat_cmp) (λ (z : Index). same_list z.table t)) e in
         omega (arith, counts, same)
 
-pub synced_stands : (c : Content) (m : State) (i : List ℕ) (x : Index) → Stands c m → get m.indexes i ≡ Some x → has_too_many x ≡ false → Stands (after (spell (sync_changes m.tables i x)) c) (with_synced m i)
+pub synced_stands : (c : Content) (m : StoreState) (i : List ℕ) (x : Index) → StandsForState c m → get m.indexes i ≡ Some x → has_too_many x ≡ false → StandsForState (after (spell (sync_changes m.tables i x)) c) (with_synced m i)
 synced_stands c m i x stands there few =
     let ws = sync_changes m.tables i x in
     let are = index_changes_sync m.tables m.indexes i x stands.state.tables stands.state.indexes there (room_left x few) in
     record {
       only = only-after ws c stands.only (are_changes ws are);
       unbuilt = λ k h. at-after ws c k ∙ told_frame is_of_indexes ws k (at c k) (all_of_indexes ws are) (indexes_built k.kind h) ∙ stands.unbuilt k h;
-      tables = subst (λ (f : Key → Option (List ℕ)). TablesStand f m.tables) (sym (at_view ws c)) (tables_frame is_of_indexes ws (at c) m.tables (all_of_indexes ws are) apart stands.tables);
+      tables = subst (λ (f : Key → Option (List ℕ)). TablesStand f m.tables) (sym (at_view ws c)) (tables_frame is_of_indexes ws (at c) m.tables (all_of_indexes ws are) tables_no_indexes stands.tables);
       indexes = subst (λ (f : Key → Option (List ℕ)). IndexesStand f m.tables (synced m.indexes i)) (sym (at_view ws c)) (sync_stands (at c) m.tables m.indexes i x there (room_left x few) stands.state.tables stands.state.indexes stands.indexes);
       preferences = subst (λ (f : Key → Option (List ℕ)). PreferencesStand f m.preferences) (sym (at_view ws c)) (preferences_frame is_of_indexes ws (at c) m.preferences (all_of_indexes ws are) (other_kinds is_of_indexes refl refl refl) stands.preferences);
       short_rows = subst HasShortRows (sym (at_view ws c)) (rows_put ws (at c) are stands.short_rows);
@@ -124,7 +94,7 @@ text_column (c ∷ cs) zero h = sort c.sort h
     sort Clob h = tt
 text_column (c ∷ cs) (suc place) h = text_column cs place h
 
-target_of_texts : (m : State) (t : List ℕ) (x : Table) (place : ℕ) → get m.tables t ≡ Some x → is_text_at x.columns place ≡ true → IsTarget m.tables t place
+target_of_texts : (m : StoreState) (t : List ℕ) (x : Table) (place : ℕ) → get m.tables t ≡ Some x → is_text_at x.columns place ≡ true → IsTarget m.tables t place
 target_of_texts m t x place there texts = record { table = x; there = there; texts = text_column x.columns place texts }
 
 -- no index is on the column
@@ -187,7 +157,7 @@ few_created xs i x none t room few =
         let more : one (same_list x.table t) ≡ 0 = ap one is ∙ one_false in
         omega (arith, counts, free, more, few)
 
-pub new_index_stands : (c : Content) (m : State) (i t : List ℕ) (x : Table) (place : ℕ) (prefs : Prefs) → Stands c m → IsName i → IsPrefs prefs → IsFreeIndex m i t x place → Stands (after (spell (create_changes m.tables i (target t place) prefs all_rows)) c) (with_new_index m i t place prefs)
+pub new_index_stands : (c : Content) (m : StoreState) (i t : List ℕ) (x : Table) (place : ℕ) (prefs : Prefs) → StandsForState c m → IsName i → IsPrefs prefs → IsFreeIndex m i t x place → StandsForState (after (spell (create_changes m.tables i (target t place) prefs all_rows)) c) (with_new_index m i t place prefs)
 new_index_stands c m i t x place prefs stands name are_prefs free =
     let ws = create_changes m.tables i (target t place) prefs all_rows in
     let few = either (nat_le index_limit (length (indexes_on m.indexes t))) (has_too_many_rows m t) free.few in
@@ -198,7 +168,7 @@ new_index_stands c m i t x place prefs stands name are_prefs free =
     record {
       only = only-after ws c stands.only (are_changes ws are);
       unbuilt = λ k h. at-after ws c k ∙ told_frame is_of_indexes ws k (at c k) (all_of_indexes ws are) (indexes_built k.kind h) ∙ stands.unbuilt k h;
-      tables = subst (λ (f : Key → Option (List ℕ)). TablesStand f m.tables) (sym (at_view ws c)) (tables_frame is_of_indexes ws (at c) m.tables (all_of_indexes ws are) apart stands.tables);
+      tables = subst (λ (f : Key → Option (List ℕ)). TablesStand f m.tables) (sym (at_view ws c)) (tables_frame is_of_indexes ws (at c) m.tables (all_of_indexes ws are) tables_no_indexes stands.tables);
       indexes = subst (λ (f : Key → Option (List ℕ)). IndexesStand f m.tables (with_index m.tables m.indexes i (target t place) prefs all_rows)) (sym (at_view ws c)) (create_stands (at c) m.tables m.indexes i (target t place) prefs all_rows none are_prefs room stands.state.tables stands.indexes);
       preferences = subst (λ (f : Key → Option (List ℕ)). PreferencesStand f m.preferences) (sym (at_view ws c)) (preferences_frame is_of_indexes ws (at c) m.preferences (all_of_indexes ws are) (other_kinds is_of_indexes refl refl refl) stands.preferences);
       short_rows = subst HasShortRows (sym (at_view ws c)) (rows_put ws (at c) are stands.short_rows);

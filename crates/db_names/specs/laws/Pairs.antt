@@ -14,7 +14,7 @@ use Rattle.std.proofs.lemmas.Bool.{and_parts, and_from}
 use Rattle.ct_base.specs.laws.Bools.{T_from_true}
 use Rattle.ct_keep.specs.RisingKeys.{below, rises, sorted_from_rises}
 use Rattle.ct_entry.specs.Keys.{same_list}
-use Rattle.ct_entry.specs.Each.{is_among}
+use Rattle.ct_entry.specs.Each.{is_any_of}
 use Rattle.ct_entry.specs.laws.Keys.{list_from_same}
 use Rattle.ct_keep.specs.FoundKeys.{none_below, below_tied}
 pub use Rattle.ct_keep.specs.FoundKeys.{pair_found}
@@ -86,11 +86,11 @@ module _ {X : Type 0} where
       go false two there rest = rest there
 
   -- the names of the list are those at which it has something
-  pub among_names : (i : List ℕ) (es : List (List ℕ × X)) → is_among i (map (λ e. e.0) es) ≡ is_some (lookup (same_list i) es)
+  pub among_names : (i : List ℕ) (es : List (List ℕ × X)) → is_any_of i (map (λ e. e.0) es) ≡ is_some (lookup (same_list i) es)
   among_names i [] = refl
   among_names i (e ∷ es) = go (same_list i e.0) (among_names i es)
     where
-      go : (b : Bool) → is_among i (map (λ e. e.0) es) ≡ is_some (lookup (same_list i) es) → (b || is_among i (map (λ e. e.0) es)) ≡ is_some (cond b (Some e.1) (lookup (same_list i) es))
+      go : (b : Bool) → is_any_of i (map (λ e. e.0) es) ≡ is_some (lookup (same_list i) es) → (b || is_any_of i (map (λ e. e.0) es)) ≡ is_some (cond b (Some e.1) (lookup (same_list i) es))
       go true rest = refl
       go false rest = rest
 

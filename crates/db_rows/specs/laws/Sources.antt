@@ -10,11 +10,11 @@ use Rattle.ct_entry.specs.Keys.{same_list}
 use Rattle.tb_table.specs.declared.columns.Sort.{Sort}
 use Rattle.tb_table.specs.declared.columns.Sort.TheVariants.{Number as NumberSort, Varchar2, Clob}
 use Rattle.tb_table.specs.declared.columns.Column.{Column}
-use Rattle.tb_table.specs.Tables.{Table, Tables, row_in, numbers_of, text_in, text_of}
+use Rattle.tb_table.specs.Tables.{Table, Tables, row_in, numbers_of, text_in, text_in_column}
 use Rattle.tb_table.specs.Rules.{IsOfSort, FitColumns, IsKeyFirst, IsTable, AreTables, others}
 use Rattle.db_state.specs.Columns.{place_from}
 use Rattle.db_rows.specs.declared.sources.Source.TheVariants.{Key, Number, Text, Nothing}
-use Rattle.db_rows.specs.Values.{value_at, values_of, at_place, value_of, row_values}
+use Rattle.db_rows.specs.Values.{value_at, values_of, at_place, value_of_column, row_values}
 use Rattle.db_rows.specs.Sources.{number_source, text_source, source_by, with_sort, source_from, source_of, source_value}
 
 -- ---- a row that may be shorter than the columns
@@ -51,7 +51,7 @@ as_far (c ∷ cs) (v ∷ vs) fit = (suits c.sort v fit.0, as_far cs vs fit.1)
 pub record IsRest (r : ℤ) (vs : List Value) (place before : ℕ) (row : List Value) : Type 0 where
   pub values : (j : ℕ) → value_at r vs (place + j) ≡ slice_get row j
   pub numbers : (j : ℕ) → slice_get (r ∷ numbers_of vs) (before + j) ≡ slice_get (numbers_of row) j
-  pub texts : (j : ℕ) → text_of vs (place + j) ≡ text_in row j
+  pub texts : (j : ℕ) → text_in_column vs (place + j) ≡ text_in row j
 
 value_whole : (r : ℤ) (vs : List Value) (j : ℕ) → value_at r vs j ≡ slice_get (NumberValue r ∷ vs) j
 value_whole r vs zero = refl
@@ -59,7 +59,7 @@ value_whole r [] (suc j) = refl
 value_whole r (v ∷ vs) (suc zero) = refl
 value_whole r (v ∷ vs) (suc (suc j)) = value_whole r vs (suc j)
 
-text_whole : (r : ℤ) (vs : List Value) (j : ℕ) → text_of vs j ≡ text_in (NumberValue r ∷ vs) j
+text_whole : (r : ℤ) (vs : List Value) (j : ℕ) → text_in_column vs j ≡ text_in (NumberValue r ∷ vs) j
 text_whole r vs zero = refl
 text_whole r vs (suc j) = refl
 
@@ -67,7 +67,7 @@ whole_row : (r : ℤ) (vs : List Value) → IsRest r vs 0 0 (NumberValue r ∷ v
 whole_row r vs = record {
   values = λ j. ap (value_at r vs) (zero-add j) ∙ value_whole r vs j;
   numbers = λ j. ap (slice_get (r ∷ numbers_of vs)) (zero-add j);
-  texts = λ j. ap (text_of vs) (zero-add j) ∙ text_whole r vs j;
+  texts = λ j. ap (text_in_column vs) (zero-add j) ∙ text_whole r vs j;
 }
 
 after : (n j : ℕ) → suc n + j ≡ n + suc j
@@ -78,7 +78,7 @@ behind : (r : ℤ) (vs : List Value) (place before : ℕ) (s : Sort) (v : Value)
 behind r vs place before s v row fits rest = record {
   values = λ j. ap (value_at r vs) (after place j) ∙ rest.values (suc j);
   numbers = numbers s v fits rest.numbers;
-  texts = λ j. ap (text_of vs) (after place j) ∙ rest.texts (suc j);
+  texts = λ j. ap (text_in_column vs) (after place j) ∙ rest.texts (suc j);
 }
   where
     numbers : (s : Sort) (v : Value) → Suits s v → ((j : ℕ) → slice_get (r ∷ numbers_of vs) (before + j) ≡ slice_get (numbers_of (v ∷ row)) j) → (j : ℕ) → slice_get (r ∷ numbers_of vs) (with_sort s before + j) ≡ slice_get (numbers_of row) j
@@ -94,7 +94,7 @@ behind_end : (r : ℤ) (vs : List Value) (place before : ℕ) (s : Sort) → IsR
 behind_end r vs place before s rest = record {
   values = λ j. ap (value_at r vs) (after place j) ∙ rest.values (suc j);
   numbers = numbers s rest.numbers;
-  texts = λ j. ap (text_of vs) (after place j) ∙ rest.texts (suc j);
+  texts = λ j. ap (text_in_column vs) (after place j) ∙ rest.texts (suc j);
 }
   where
     numbers : (s : Sort) → ((j : ℕ) → slice_get (r ∷ numbers_of vs) (before + j) ≡ None) → (j : ℕ) → slice_get (r ∷ numbers_of vs) (with_sort s before + j) ≡ None
@@ -112,10 +112,10 @@ number_value r vs (suc before) = go (eqb (suc before) 0) refl
     go true h = let e = eqb-true (suc before) 0 h in absurd (omega (arith, e))
     go false h = let e : suc before - 1 ≡ before = omega arith in ap (λ (n : ℕ). option_map NumberValue (slice_get (numbers_of vs) n)) e
 
-text_value : (r : ℤ) (vs : List Value) (place : ℕ) → place < 256 → source_value r vs (text_source place) ≡ option_map TextValue (text_of vs place)
+text_value : (r : ℤ) (vs : List Value) (place : ℕ) → place < 256 → source_value r vs (text_source place) ≡ option_map TextValue (text_in_column vs place)
 text_value r vs place small = go (nat_lt place 256) refl
   where
-    go : (b : Bool) → nat_lt place 256 ≡ b → source_value r vs (cond b (Text place) Nothing) ≡ option_map TextValue (text_of vs place)
+    go : (b : Bool) → nat_lt place 256 ≡ b → source_value r vs (cond b (Text place) Nothing) ≡ option_map TextValue (text_in_column vs place)
     go true h = refl
     go false h = absurd (let l = ltb-false place 256 h in omega (arith, l))
 
@@ -138,7 +138,7 @@ first_text Clob (NumberValue n ∷ row) other suit = absurd suit
 at_text : (r : ℤ) (vs : List Value) (place before : ℕ) (s : Sort) (row : List Value) → (s ≡ NumberSort → ⊥) → place < 256 → SuitsFirst s row → IsRest r vs place before row → value_at r vs place ≡ source_value r vs (text_source place)
 at_text r vs place before s row other small suit rest =
     ap (value_at r vs) (sym (add-zero place)) ∙ rest.values 0 ∙ first_text s row other suit
-    ∙ ap (option_map TextValue) (sym (rest.texts 0) ∙ ap (text_of vs) (add-zero place))
+    ∙ ap (option_map TextValue) (sym (rest.texts 0) ∙ ap (text_in_column vs) (add-zero place))
     ∙ sym (text_value r vs place small)
 
 at_column : (r : ℤ) (vs : List Value) (place before : ℕ) (s : Sort) (row : List Value) → place < 256 → SuitsFirst s row → IsRest r vs place before row → value_at r vs place ≡ source_value r vs (source_by s place before)
@@ -174,7 +174,7 @@ values_suit x r is None there = tt
 values_suit x r is (Some vs) there = as_far (others x.columns) vs (is.rows r vs there)
 
 -- in a row of a table, and also in one that isn't there
-pub value_from : (x : Table) → IsTable x → (r : ℤ) (name : List ℕ) → value_of x.columns r (values_of (get x.rows r)) name ≡ source_value r (values_of (get x.rows r)) (source_of name x.columns)
+pub value_from : (x : Table) → IsTable x → (r : ℤ) (name : List ℕ) → value_of_column x.columns r (values_of (get x.rows r)) name ≡ source_value r (values_of (get x.rows r)) (source_of name x.columns)
 value_from x is r name =
     let few = is.columns.few in
     let vs : List Value = values_of (get x.rows r) in
@@ -184,7 +184,7 @@ pub values_there : (ts : Tables) (t : List ℕ) (x : Table) (r : ℤ) → get ts
 values_there ts t x r here = ap (λ (o : Option Table). values_of (row_in o r)) here
 
 -- the same by the name of the table
-pub column_from : (ts : Tables) (t : List ℕ) (x : Table) → AreTables ts → get ts t ≡ Some x → (r : ℤ) (name : List ℕ) → value_of x.columns r (row_values ts t r) name ≡ source_value r (row_values ts t r) (source_of name x.columns)
+pub column_from : (ts : Tables) (t : List ℕ) (x : Table) → AreTables ts → get ts t ≡ Some x → (r : ℤ) (name : List ℕ) → value_of_column x.columns r (row_values ts t r) name ≡ source_value r (row_values ts t r) (source_of name x.columns)
 column_from ts t x are here r name =
     let same = values_there ts t x r here in
-    ap (λ (vs : List Value). value_of x.columns r vs name) same ∙ value_from x (are.each t x here) r name ∙ ap (λ (vs : List Value). source_value r vs (source_of name x.columns)) (sym same)
+    ap (λ (vs : List Value). value_of_column x.columns r vs name) same ∙ value_from x (are.each t x here) r name ∙ ap (λ (vs : List Value). source_value r vs (source_of name x.columns)) (sym same)

@@ -3,7 +3,7 @@ use Rattle.std.proofs.Common.{◌≡◌, ℕ, Bool, true, false, List, Option, S
 use Rattle.db_cond.specs.declared.faults.Fault.{Fault}
 use Rattle.db_cond.specs.Faults.{Refusal}
 use Rattle.db_cond.specs.Refused.{refusal_of}
-use Rattle.db_state.specs.States.{State}
+use Rattle.db_state.specs.States.{StoreState}
 use Rattle.db_state.specs.Effects.{Effect, Refused, Does, refuse, Checks}
 
 pub passes : (t : Bool) (r : Refusal) (e : Effect) → t ≡ false → refuse t r e ≡ e
@@ -13,7 +13,7 @@ pub fails : (t : Bool) (r : Refusal) (e : Effect) → t ≡ true → refuse t r 
 fails t r e h = ap (λ (b : Bool). refuse b r e) h
 
 -- what was done was refused by no check
-pub passed : (t : Bool) (r : Refusal) (e : Effect) (n : State) (reply : List ℕ) → refuse t r e ≡ Does n reply → (t ≡ false) × (e ≡ Does n reply)
+pub passed : (t : Bool) (r : Refusal) (e : Effect) (n : StoreState) (reply : List ℕ) → refuse t r e ≡ Does n reply → (t ≡ false) × (e ≡ Does n reply)
 passed true r e n reply is = cc
 passed false r e n reply is = (refl, is)
 

@@ -22,7 +22,7 @@ use Rattle.ix_context.specs.Rules.{AreIndexes}
 use Rattle.tx_settings.specs.PrefsBytes.{are_lexer_settings, settings_bytes, words_bytes, group_bytes, is_named_group}
 use Rattle.tx_prefs.specs.Spelling.{NamesStand}
 use Rattle.tx_prefs.specs.Rules.{AreNamed, are_stopwords}
-use Rattle.db_state.specs.States.{empty_state, Stands}
+use Rattle.db_state.specs.States.{empty_state, StandsForState}
 
 abbrev no_content : Content
 no_content = empty
@@ -91,7 +91,7 @@ none_named {X} rule = record {
   few = let e = ap length (no_entries {X = X}) in omega (arith, e);
 }
 
-pub empty_stands : Stands empty empty_state
+pub empty_stands : StandsForState empty empty_state
 empty_stands = record {
   only = λ b some. absurd (false≢true (subst (λ (o : Option (List ℕ)). IsSome o) (not_there b) some));
   unbuilt = λ k h. not_there (bytes k);

@@ -5,29 +5,29 @@ use Rattle.std.specs.declared.alloc.Global.{Global}
 use Rattle.ct_keep.specs.declared.keepers.KeepFault.{KeepFault}
 use Rattle.ct_keep.specs.declared.keepers.KeepFault.TheVariants.{Memory, Disk, Full as NoRoom}
 use Rattle.ct_keep.specs.Content.{Content}
-use Rattle.ct_keep.specs.KeeperViews.{KeeperView, Reads, IsDurable, fault_of, is_full, counted}
+use Rattle.ct_keep.specs.KeeperViews.{KeeperView, ReadsKeeper, IsDurable, fault_of, is_full, counted}
 use Rattle.ct_keep.specs.Composing.{same_limit, reads_then, reads_only, reads_failed}
 use Rattle.db_cond.specs.Faults.{Refusal, refusal_line}
-use Rattle.db_state.specs.States.{State, Stands}
+use Rattle.db_state.specs.States.{StoreState, StandsForState}
 use Rattle.db_state.specs.Effects.{Effect, Refused, state_by, reply_by}
 use Rattle.db_state.specs.Room.{room}
-use Rattle.db_state.specs.Plans.{StandsBy, Gives}
+use Rattle.db_state.specs.Plans.{StandsBy, GivesEffect}
 
 -- ---- a statement that is refused, or fails, or only reads
 
-pub gives_refused : (m : State) (effect : Effect) (c : Content) (old new : KeeperView) (v : Vec ℕ Global) → IsDurable old → old.content ≡ Some c → Stands c (state_by m effect) → Reads old new None → v.items ≡ reply_by effect → Gives m effect c old new (Ok v)
+pub gives_refused : (m : StoreState) (effect : Effect) (c : Content) (old new : KeeperView) (v : Vec ℕ Global) → IsDurable old → old.content ≡ Some c → StandsForState c (state_by m effect) → ReadsKeeper old new None → v.items ≡ reply_by effect → GivesEffect m effect c old new (Ok v)
 gives_refused m effect c old new v settled holds stands reads is = record {
   moves = record { next = c; stands = stands; goes = reads_only c old new settled holds reads; same = λ e. refl };
   reply = is;
   full = λ e. cc;
 }
 
-stands_failed : (m : State) (effect : Effect) (c : Content) (fault : KeepFault) → Stands c m → StandsBy (Some fault) m effect c c
+stands_failed : (m : StoreState) (effect : Effect) (c : Content) (fault : KeepFault) → StandsForState c m → StandsBy (Some fault) m effect c c
 stands_failed m effect c Memory stands = refl
 stands_failed m effect c NoRoom stands = refl
 stands_failed m effect c Disk stands = inl stands
 
-pub gives_failed : (m : State) (effect : Effect) (c : Content) (old new : KeeperView) (fault : KeepFault) → IsDurable old → old.content ≡ Some c → Stands c m → Reads old new (Some fault) → Gives m effect c old new (Err fault)
+pub gives_failed : (m : StoreState) (effect : Effect) (c : Content) (old new : KeeperView) (fault : KeepFault) → IsDurable old → old.content ≡ Some c → StandsForState c m → ReadsKeeper old new (Some fault) → GivesEffect m effect c old new (Err fault)
 gives_failed m effect c old new fault settled holds stands reads = record {
   moves = record { next = c; stands = stands_failed m effect c fault stands; goes = reads_failed c c old new fault settled holds reads; same = λ e. refl };
   reply = tt;
@@ -36,7 +36,7 @@ gives_failed m effect c old new fault settled holds stands reads = record {
 
 -- ---- reads, and then more
 
-pub gives_then : (m : State) (effect : Effect) (c : Content) (old mid new : KeeperView) (result : Result (Vec ℕ Global) KeepFault) → Reads old mid None → Gives m effect c mid new result → Gives m effect c old new result
+pub gives_then : (m : StoreState) (effect : Effect) (c : Content) (old mid new : KeeperView) (result : Result (Vec ℕ Global) KeepFault) → ReadsKeeper old mid None → GivesEffect m effect c mid new result → GivesEffect m effect c old new result
 gives_then m effect c old mid new result reads gives = record {
   moves = record { next = gives.moves.next; stands = gives.moves.stands; goes = reads_then c gives.moves.next old mid new (fault_of result) reads gives.moves.goes; same = gives.moves.same };
   reply = gives.reply;
@@ -46,24 +46,24 @@ gives_then m effect c old mid new result reads gives = record {
 -- ---- ways out that say what they return
 
 -- a refusal, by its line
-pub gives_line : (m : State) (effect : Effect) (refusal : Refusal) (c : Content) (old new : KeeperView) (v : Vec ℕ Global) → IsDurable old → old.content ≡ Some c → Stands c m → Reads old new None → effect ≡ Refused refusal → v.items ≡ refusal_line refusal → Gives m effect c old new (Ok v)
+pub gives_line : (m : StoreState) (effect : Effect) (refusal : Refusal) (c : Content) (old new : KeeperView) (v : Vec ℕ Global) → IsDurable old → old.content ≡ Some c → StandsForState c m → ReadsKeeper old new None → effect ≡ Refused refusal → v.items ≡ refusal_line refusal → GivesEffect m effect c old new (Ok v)
 gives_line m effect refusal c old new v settled holds stands reads is line =
-    subst (λ (e : Effect). Gives m e c old new (Ok v)) (sym is) (gives_refused m (Refused refusal) c old new v settled holds stands reads line)
+    subst (λ (e : Effect). GivesEffect m e c old new (Ok v)) (sym is) (gives_refused m (Refused refusal) c old new v settled holds stands reads line)
 
 -- the effect as it is computed
-pub gives_as : (m : State) (effect done : Effect) (c : Content) (old new : KeeperView) (result : Result (Vec ℕ Global) KeepFault) → effect ≡ done → Gives m done c old new result → Gives m effect c old new result
-gives_as m effect done c old new result is gives = subst (λ (e : Effect). Gives m e c old new result) (sym is) gives
+pub gives_as : (m : StoreState) (effect done : Effect) (c : Content) (old new : KeeperView) (result : Result (Vec ℕ Global) KeepFault) → effect ≡ done → GivesEffect m done c old new result → GivesEffect m effect c old new result
+gives_as m effect done c old new result is gives = subst (λ (e : Effect). GivesEffect m e c old new result) (sym is) gives
 
 -- ---- statements that only read
 
 -- what reads alone give of an effect that leaves the state
-pub gives_read : (m : State) (effect : Effect) (c : Content) (old new : KeeperView) (result : Result (Vec ℕ Global) KeepFault) → IsDurable old → old.content ≡ Some c → Stands c m → Reads old new (fault_of result)
-    → IfOk result (λ v. v.items ≡ reply_by effect) → state_by m effect ≡ m → Gives m effect c old new result
-gives_read m effect c old new (Ok v) settled holds stands reads reply same = gives_refused m effect c old new v settled holds (subst (Stands c) (sym same) stands) reads reply
+pub gives_read : (m : StoreState) (effect : Effect) (c : Content) (old new : KeeperView) (result : Result (Vec ℕ Global) KeepFault) → IsDurable old → old.content ≡ Some c → StandsForState c m → ReadsKeeper old new (fault_of result)
+    → IfOk result (λ v. v.items ≡ reply_by effect) → state_by m effect ≡ m → GivesEffect m effect c old new result
+gives_read m effect c old new (Ok v) settled holds stands reads reply same = gives_refused m effect c old new v settled holds (subst (StandsForState c) (sym same) stands) reads reply
 gives_read m effect c old new (Err fault) settled holds stands reads reply same = gives_failed m effect c old new fault settled holds stands reads
 
 -- how often a commit was refused: they make none
-pub reads_fulls : (old new : KeeperView) (result : Result (Vec ℕ Global) KeepFault) → Reads old new (fault_of result) → new.counts.fulls ≡ counted (is_full (fault_of result)) old.counts.fulls
+pub reads_fulls : (old new : KeeperView) (result : Result (Vec ℕ Global) KeepFault) → ReadsKeeper old new (fault_of result) → new.counts.fulls ≡ counted (is_full (fault_of result)) old.counts.fulls
 reads_fulls old new (Ok v) reads = reads.fulls
 reads_fulls old new (Err Memory) reads = reads.fulls
 reads_fulls old new (Err Disk) reads = reads.fulls

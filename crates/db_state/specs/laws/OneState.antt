@@ -7,24 +7,25 @@ use Rattle.std.proofs.Common.{sym, ap, subst, ◌∙◌, arith}
 use Rattle.std.proofs.lemmas.Cmp.{nat_list_cmp_total, int_cmp_total}
 use Rattle.ct_base.specs.declared.lists.Value.{Value}
 use Rattle.ct_base.specs.declared.lists.Value.TheVariants.{Number as NumberValue, Text as TextValue}
+use Rattle.ct_base.specs.laws.Options.{is_some-option_map}
 use Rattle.ct_entry.specs.Keys.{Key, at, IsRow}
 use Rattle.ct_entry.specs.Maps.{Names, each_value}
 use Rattle.ct_entry.specs.laws.Maps.{get-each_value}
 use Rattle.tb_table.specs.declared.columns.Column.{Column}
-use Rattle.tb_table.specs.Tables.{Table, Tables, row_in, numbers_of, text_in, text_of}
+use Rattle.tb_table.specs.Tables.{Table, Tables, row_in, numbers_of, text_in, text_in_column}
 use Rattle.tb_table.specs.Spelling.{TablesStand, columns_bytes, row_numbers_bytes}
 use Rattle.tb_table.specs.Rules.{AreTables, FitColumns, others}
 use Rattle.tb_table.specs.laws.Spelling.{columns_apart, numbers_apart}
 use Rattle.tb_table.specs.laws.Reading.{are_spellable, numbers_fit}
 use Rattle.ix_docmap.specs.Marks.{Mark, Pending, Settled, is_settled, queued}
-use Rattle.ix_context.specs.Indexes.{Index, Part, Context, Body, OfContext, given, part_in, marks_in, mark_of, mark_at}
+use Rattle.ix_context.specs.Indexes.{Index, Part, ContextIndex, Body, OfContext, given, part_in, marks_in, mark_of, mark_at}
 use Rattle.ix_context.specs.Standing.{IndexesStand}
 use Rattle.ix_context.specs.laws.Changes.{mark_is_row}
 use Rattle.ix_context.specs.Spelling.{index_entry}
 use Rattle.ix_context.specs.Rules.{AreIndexes}
 use Rattle.ix_context.specs.laws.Reading.{index_bytes_one}
 use Rattle.tx_prefs.specs.laws.Values.{one_preferences}
-use Rattle.db_state.specs.States.{State}
+use Rattle.db_state.specs.States.{StoreState}
 use Rattle.db_state.specs.Promises.{without_waste, unwasted, but_for_waste, OneState}
 
 -- ---- the values of a row
@@ -60,7 +61,7 @@ abbrev spelt_numbers : Option (List Value) → Option (List ℕ)
 spelt_numbers o = option_map (λ (vs : List Value). row_numbers_bytes (numbers_of vs)) o
 
 abbrev text_at : ℕ → Option (List Value) → Option (List ℕ)
-text_at c o = option_and_then (λ (vs : List Value). text_of vs c) o
+text_at c o = option_and_then (λ (vs : List Value). text_in_column vs c) o
 
 module _ (f : Key → Option (List ℕ)) (ts us : Tables) (ts_stand : TablesStand f ts) (us_stand : TablesStand f us) (ts_are : AreTables ts) (us_are : AreTables us) where
   module _ (t : List ℕ) (x y : Table) (here : get ts t ≡ Some x) (there : get us t ≡ Some y) where
@@ -126,7 +127,7 @@ module _ (f : Key → Option (List ℕ)) (ts us : Tables) (ts_stand : TablesStan
 part_is : (p q : Part) → p.given ≡ q.given → p.tidiness ≡ q.tidiness → record p { waste = 0 } ≡ record q { waste = 0 }
 part_is p q given tidiness i = record { given = given i; tidiness = tidiness i; waste = 0 }
 
-context_is : (c d : Context) → record c.part { waste = 0 } ≡ record d.part { waste = 0 } → c.marks ≡ d.marks → OfContext (record c { part = record c.part { waste = 0 } }) ≡ OfContext (record d { part = record d.part { waste = 0 } })
+context_is : (c d : ContextIndex) → record c.part { waste = 0 } ≡ record d.part { waste = 0 } → c.marks ≡ d.marks → OfContext (record c { part = record c.part { waste = 0 } }) ≡ OfContext (record d { part = record d.part { waste = 0 } })
 context_is c d part marks i = OfContext (record { part = part i; marks = marks i })
 
 body_is : (b d : Body) → (part_in b).given ≡ (part_in d).given → (part_in b).tidiness ≡ (part_in d).tidiness → marks_in b ≡ marks_in d → without_waste b ≡ without_waste d
@@ -146,10 +147,6 @@ one_mark (Some (Settled a)) None marked queue = cc
 one_mark (Some (Settled a)) (Some Pending) marked queue = cc
 one_mark (Some (Settled a)) (Some (Settled b)) marked queue = refl
 
-there_mapped : {X Y : Type 0} (h : X → Y) (o : Option X) → is_some (option_map h o) ≡ is_some o
-there_mapped h None = refl
-there_mapped h (Some x) = refl
-
 module _ (f : Key → Option (List ℕ)) (ts : Tables) (xs ys : Names Index) (ts_are : AreTables ts) (xs_stand : IndexesStand f ts xs) (ys_stand : IndexesStand f ts ys) (xs_are : AreIndexes ts xs) (ys_are : AreIndexes ts ys) where
   row_of_mark : (zs : Names Index) → AreIndexes ts zs → (i : List ℕ) (z : Index) (r : ℤ) (mark : Mark (Unit {0})) → get zs i ≡ Some z → get (marks_in z.body) r ≡ Some mark → IsRow r
   row_of_mark zs are i z r mark here marks = mark_is_row ts z ts_are (are.each i z here) r (ap is_some marks)
@@ -159,8 +156,8 @@ module _ (f : Key → Option (List ℕ)) (ts : Tables) (xs ys : Names Index) (ts
       let n = (xs_stand i).context in
       let k = (ys_stand i).context in
       let marked : is_settled (mark_at xs i r) ≡ is_settled (mark_at ys i r) =
-      sym (n.documents.numbers.marked r) ∙ sym (there_mapped (to_be_bytes w32) (n.document r)) ∙ ap is_some (sym (n.documents.documents r row) ∙ k.documents.documents r row)
-      ∙ there_mapped (to_be_bytes w32) (k.document r) ∙ k.documents.numbers.marked r in
+      sym (n.documents.numbers.marked r) ∙ sym (is_some-option_map (to_be_bytes w32) (n.document r)) ∙ ap is_some (sym (n.documents.documents r row) ∙ k.documents.documents r row)
+      ∙ is_some-option_map (to_be_bytes w32) (k.document r) ∙ k.documents.numbers.marked r in
       one_mark (mark_at xs i r) (mark_at ys i r) marked (sym (n.documents.queue r row) ∙ k.documents.queue r row)
 
   module _ (i : List ℕ) (x y : Index) (here : get xs i ≡ Some x) (there : get ys i ≡ Some y) where
@@ -203,7 +200,7 @@ module _ (f : Key → Option (List ℕ)) (ts : Tables) (xs ys : Names Index) (ts
 
 -- ---- the state
 
-state_is : (m n : State) → m.tables ≡ n.tables → each_value unwasted m.indexes ≡ each_value unwasted n.indexes → m.preferences ≡ n.preferences → but_for_waste m ≡ but_for_waste n
+state_is : (m n : StoreState) → m.tables ≡ n.tables → each_value unwasted m.indexes ≡ each_value unwasted n.indexes → m.preferences ≡ n.preferences → but_for_waste m ≡ but_for_waste n
 state_is m n tables indexes preferences i = record { tables = tables i; indexes = indexes i; preferences = preferences i }
 
 pub one_state : OneState

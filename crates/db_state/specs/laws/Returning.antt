@@ -3,8 +3,8 @@ use Rattle.std.proofs.Common.{◌≡◌, ℕ, List, Some, None, Ok, Err, Vec, re
 use Rattle.std.specs.declared.alloc.Global.{Global}
 use Rattle.ct_keep.specs.Content.{Content}
 use Rattle.ct_keep.specs.declared.keepers.KeepFault.TheVariants.{Memory, Full as NoRoom, Disk}
-use Rattle.ct_keep.specs.KeeperViews.{KeeperView, SameButContent, Reads, Goes, IsDurable, fault_of}
-use Rattle.db_state.specs.Plans.{DoneLines, always, CommitsOnce, ContentStays, Returns, ReturnsBy}
+use Rattle.ct_keep.specs.KeeperViews.{KeeperView, SameButContent, ReadsKeeper, Goes, IsDurable, fault_of}
+use Rattle.db_state.specs.Plans.{DoneLines, line_for_all, CommitsOnce, ContentStays, Returns, ReturnsBy}
 use Rattle.ct_base.specs.laws.Moments.{passes_more}
 use Rattle.ct_keep.specs.declared.keepers.KeepFault.{KeepFault}
 use Rattle.ct_keep.specs.Composing.{reads_on, reads_hold, reads_then, reads_only, reads_failed}
@@ -19,14 +19,14 @@ kept_full old new kept = record { ready = kept.ready; beside = kept.beside; well
 -- ---- before a commit
 
 -- reads that ended for want of memory or of room are reads
-pub reads_memory : (old new : KeeperView) → Reads old new (Some Memory) → Reads old new None
+pub reads_memory : (old new : KeeperView) → ReadsKeeper old new (Some Memory) → ReadsKeeper old new None
 reads_memory old new reads = record { not_full = λ e. cc; kept = kept_memory old new reads.kept; content = reads.content; time = reads.time; now = reads.now; fulls = reads.fulls; commits = reads.commits }
 
 -- they leave the content
-pub stays_read : (old new : KeeperView) → IsDurable old → Reads old new None → ContentStays old new
+pub stays_read : (old new : KeeperView) → IsDurable old → ReadsKeeper old new None → ContentStays old new
 stays_read old new settled reads = λ c holds. reads_only c old new settled holds reads
 
-pub returns_failed : (done : DoneLines) (old new : KeeperView) (fault : KeepFault) → IsDurable old → Reads old new (Some fault) → Returns done old new (Err fault)
+pub returns_failed : (done : DoneLines) (old new : KeeperView) (fault : KeepFault) → IsDurable old → ReadsKeeper old new (Some fault) → Returns done old new (Err fault)
 returns_failed done old new Memory settled reads = stays_read old new settled (reads_memory old new reads)
 returns_failed done old new NoRoom settled reads = absurd (reads.not_full refl)
 returns_failed done old new Disk settled reads = λ c holds. record { next = c; goes = reads_failed c c old new Disk settled holds reads }
@@ -58,20 +58,20 @@ returns_uncommitted done old new next result fault goes p =
     failed NoRoom goes = λ c holds. came_full c (next c) old new (goes c holds)
     failed Disk goes = λ c holds. record { next = next c; goes = goes c holds }
 
-pub returns_committed : (old new : KeeperView) (next : Content → Content) (reply : Vec ℕ Global) → ((c : Content) → old.content ≡ Some c → Goes c (next c) old new None) → Returns (always reply.items) old new (Ok reply)
+pub returns_committed : (old new : KeeperView) (next : Content → Content) (reply : Vec ℕ Global) → ((c : Content) → old.content ≡ Some c → Goes c (next c) old new None) → Returns (line_for_all reply.items) old new (Ok reply)
 returns_committed old new next reply goes = inl (record { rows = 0; says = refl; commits = λ c holds. record { next = next c; goes = goes c holds } })
 
 -- ---- reads, and then more
 
-stays_then : (old mid new : KeeperView) → Reads old mid None → ContentStays mid new → ContentStays old new
+stays_then : (old mid new : KeeperView) → ReadsKeeper old mid None → ContentStays mid new → ContentStays old new
 stays_then old mid new reads stays = λ c holds. reads_then c c old mid new None reads (stays c (reads_hold old mid c reads holds))
 
-commits_then : (old mid new : KeeperView) (fault : Option KeepFault) → Reads old mid None → CommitsOnce mid new fault → CommitsOnce old new fault
+commits_then : (old mid new : KeeperView) (fault : Option KeepFault) → ReadsKeeper old mid None → CommitsOnce mid new fault → CommitsOnce old new fault
 commits_then old mid new fault reads commits = λ c holds.
     let x = commits c (reads_hold old mid c reads holds) in
     record { next = x.next; goes = reads_then c x.next old mid new fault reads x.goes }
 
-pub returns_then : (done : DoneLines) (old mid new : KeeperView) (result : Result (Vec ℕ Global) KeepFault) → Reads old mid None → Returns done mid new result → Returns done old new result
+pub returns_then : (done : DoneLines) (old mid new : KeeperView) (result : Result (Vec ℕ Global) KeepFault) → ReadsKeeper old mid None → Returns done mid new result → Returns done old new result
 returns_then done old mid new (Ok reply) reads (inl made) = inl (record { rows = made.rows; says = made.says; commits = commits_then old mid new None reads made.commits })
 returns_then done old mid new (Ok reply) reads (inr refused) = inr (record { refusal = refused.refusal; says = refused.says; reads = reads_on old mid new None reads refused.reads })
 returns_then done old mid new (Err Memory) reads stays = stays_then old mid new reads stays
@@ -80,7 +80,7 @@ returns_then done old mid new (Err Disk) reads commits = commits_then old mid ne
 
 -- ---- by the line that a statement has
 
-pub looks_none : (line : Option DoneLines) (old new : KeeperView) (result : Result (Vec ℕ Global) KeepFault) → line ≡ None → ReturnsBy line old new result → Reads old new (fault_of result)
+pub looks_none : (line : Option DoneLines) (old new : KeeperView) (result : Result (Vec ℕ Global) KeepFault) → line ≡ None → ReturnsBy line old new result → ReadsKeeper old new (fault_of result)
 looks_none None old new result is looks = looks
 looks_none (Some done) old new result is returns = cc
 

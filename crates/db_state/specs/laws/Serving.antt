@@ -7,12 +7,12 @@ use Rattle.ct_keep.specs.declared.keepers.KeepFault.TheVariants.{Memory, Disk, F
 use Rattle.ct_keep.specs.Content.{Content, after}
 use Rattle.ct_keep.specs.Laws.{changes_weight, weight-after_le}
 use Rattle.ct_base.specs.Told.{IsSaid}
-use Rattle.ct_keep.specs.KeeperViews.{AtMostOneCommit, KeeperView, SameButContent, Reads, IsDurable, fault_of, counted, is_full, PassesLimit}
+use Rattle.ct_keep.specs.KeeperViews.{AtMostOneCommit, KeeperView, SameButContent, ReadsKeeper, IsDurable, fault_of, counted, is_full, PassesLimit}
 use Rattle.ct_keep.specs.Composing.{commits_read, kept_then, reads_hold, reads_on, reads_short}
 use Rattle.db_cond.specs.Faults.{Refusal, refusal_line}
-use Rattle.db_state.specs.States.{State, Stands}
+use Rattle.db_state.specs.States.{StoreState, StandsForState}
 use Rattle.db_state.specs.Effects.{Effect, Refused, Does, state_by, reply_by}
-use Rattle.db_state.specs.Plans.{DoneLines, always, Gives, Returns, ReturnsBy, Fulfils, IsPlanOf, IsPlan}
+use Rattle.db_state.specs.Plans.{DoneLines, line_for_all, GivesEffect, Returns, ReturnsBy, Fulfils, IsPlanOf, IsPlan}
 use Rattle.db_state.specs.declared.plans.Plan.{Plan}
 use Rattle.db_state.specs.declared.plans.Plan.TheVariants.{Done}
 use Rattle.db_state.specs.laws.Giving.{gives_failed, gives_line, gives_then, gives_as, gives_read, reads_fulls}
@@ -25,12 +25,12 @@ IsFault result fault = (x : KeepFault) × (result ≡ Err x) × (x ≡ fault)
 on_fault : (P : Result (Vec ℕ Global) KeepFault → Type 0) (result : Result (Vec ℕ Global) KeepFault) (fault : KeepFault) → IsFault result fault → P (Err fault) → P result
 on_fault P result fault p holds = subst P (sym p.1) (subst (λ (x : KeepFault). P (Err x)) (sym p.2) holds)
 
-module _ (effect : State → Effect) (line : Option DoneLines) (old new : KeeperView) where
-  failed_by : (line : Option DoneLines) (fault : KeepFault) → IsDurable old → Reads old new (Some fault) → ReturnsBy line old new (Err fault)
+module _ (effect : StoreState → Effect) (line : Option DoneLines) (old new : KeeperView) where
+  failed_by : (line : Option DoneLines) (fault : KeepFault) → IsDurable old → ReadsKeeper old new (Some fault) → ReturnsBy line old new (Err fault)
   failed_by None fault settled reads = reads
   failed_by (Some done) fault settled reads = returns_failed done old new fault settled reads
 
-  pub serves_err : (fault : KeepFault) → Reads old new (Some fault) → Fulfils effect line old new (Err fault)
+  pub serves_err : (fault : KeepFault) → ReadsKeeper old new (Some fault) → Fulfils effect line old new (Err fault)
   serves_err fault reads = record {
     kept = reads.kept;
     fulls = reads_fulls old new (Err fault) reads;
@@ -40,19 +40,19 @@ module _ (effect : State → Effect) (line : Option DoneLines) (old new : Keeper
   }
 
   -- a read failed
-  pub serves_failed : (result : Result (Vec ℕ Global) KeepFault) (fault : KeepFault) → Reads old new (Some fault) → IsFault result fault → Fulfils effect line old new result
+  pub serves_failed : (result : Result (Vec ℕ Global) KeepFault) (fault : KeepFault) → ReadsKeeper old new (Some fault) → IsFault result fault → Fulfils effect line old new result
   serves_failed result fault reads p = on_fault (Fulfils effect line old new) result fault p (serves_err fault reads)
 
   -- after reads there was no memory
-  pub serves_short : (result : Result (Vec ℕ Global) KeepFault) → Reads old new None → IsFault result Memory → Fulfils effect line old new result
+  pub serves_short : (result : Result (Vec ℕ Global) KeepFault) → ReadsKeeper old new None → IsFault result Memory → Fulfils effect line old new result
   serves_short result reads p = serves_failed result Memory (reads_short old new reads) p
 
-  refused_by : (line : Option DoneLines) (refusal : Refusal) (reply : Vec ℕ Global) → Reads old new None → reply.items ≡ refusal_line refusal → ReturnsBy line old new (Ok reply)
+  refused_by : (line : Option DoneLines) (refusal : Refusal) (reply : Vec ℕ Global) → ReadsKeeper old new None → reply.items ≡ refusal_line refusal → ReturnsBy line old new (Ok reply)
   refused_by None refusal reply reads says = reads
   refused_by (Some done) refusal reply reads says = inr (record { refusal = refusal; says = says; reads = reads })
 
   -- after reads it is refused
-  pub serves_refused : (refusal : Refusal) (reply : Vec ℕ Global) → Reads old new None → ((m : State) (c : Content) → old.content ≡ Some c → Stands c m → effect m ≡ Refused refusal) → reply.items ≡ refusal_line refusal → Fulfils effect line old new (Ok reply)
+  pub serves_refused : (refusal : Refusal) (reply : Vec ℕ Global) → ReadsKeeper old new None → ((m : StoreState) (c : Content) → old.content ≡ Some c → StandsForState c m → effect m ≡ Refused refusal) → reply.items ≡ refusal_line refusal → Fulfils effect line old new (Ok reply)
   serves_refused refusal reply reads is says = record {
     kept = reads.kept;
     fulls = reads.fulls;
@@ -62,8 +62,8 @@ module _ (effect : State → Effect) (line : Option DoneLines) (old new : Keeper
   }
 
 -- it only reads
-pub serves_look : (effect : State → Effect) (old new : KeeperView) (result : Result (Vec ℕ Global) KeepFault) → Reads old new (fault_of result)
-    → ((m : State) (c : Content) → old.content ≡ Some c → Stands c m → IfOk result (λ reply. reply.items ≡ reply_by (effect m))) → ((m : State) → state_by m (effect m) ≡ m) → Fulfils effect None old new result
+pub serves_look : (effect : StoreState → Effect) (old new : KeeperView) (result : Result (Vec ℕ Global) KeepFault) → ReadsKeeper old new (fault_of result)
+    → ((m : StoreState) (c : Content) → old.content ≡ Some c → StandsForState c m → IfOk result (λ reply. reply.items ≡ reply_by (effect m))) → ((m : StoreState) → state_by m (effect m) ≡ m) → Fulfils effect None old new result
 serves_look effect old new result reads reply stays = record {
   kept = reads.kept;
   fulls = reads_fulls old new result reads;
@@ -74,22 +74,22 @@ serves_look effect old new result reads reply stays = record {
 
 -- ---- reads, and then more
 
-settled_then : (old mid : KeeperView) → Reads old mid None → IsDurable old → IsDurable mid
+settled_then : (old mid : KeeperView) → ReadsKeeper old mid None → IsDurable old → IsDurable mid
 settled_then old mid reads settled = record {
   here = λ m holds stopped said now.
       let p = settled.here m (sym reads.content ∙ holds) stopped said (reads.now stopped said now) in
       (p.0, subst (λ b. IsSaid b.said said) (sym reads.kept.beside) p.1);
 }
 
-returns_by_then : (line : Option DoneLines) (old mid new : KeeperView) (result : Result (Vec ℕ Global) KeepFault) → Reads old mid None → ReturnsBy line mid new result → ReturnsBy line old new result
+returns_by_then : (line : Option DoneLines) (old mid new : KeeperView) (result : Result (Vec ℕ Global) KeepFault) → ReadsKeeper old mid None → ReturnsBy line mid new result → ReturnsBy line old new result
 returns_by_then None old mid new result reads looks = reads_on old mid new (fault_of result) reads looks
 returns_by_then (Some done) old mid new result reads returns = returns_then done old mid new result reads returns
 
-once_then : (old mid new : KeeperView) → Reads old mid None → AtMostOneCommit mid.counts new.counts → AtMostOneCommit old.counts new.counts
+once_then : (old mid new : KeeperView) → ReadsKeeper old mid None → AtMostOneCommit mid.counts new.counts → AtMostOneCommit old.counts new.counts
 once_then old mid new reads (inl none) = inl (none ∙ reads.commits)
 once_then old mid new reads (inr one) = inr (one ∙ ap (counted true) reads.commits)
 
-pub serves_then : (effect : State → Effect) (line : Option DoneLines) (old mid new : KeeperView) (result : Result (Vec ℕ Global) KeepFault) → Reads old mid None → Fulfils effect line mid new result → Fulfils effect line old new result
+pub serves_then : (effect : StoreState → Effect) (line : Option DoneLines) (old mid new : KeeperView) (result : Result (Vec ℕ Global) KeepFault) → ReadsKeeper old mid None → Fulfils effect line mid new result → Fulfils effect line old new result
 serves_then effect line old mid new result reads serves = record {
   kept = kept_then old mid new (fault_of result) reads.kept serves.kept;
   fulls = serves.fulls ∙ ap (counted (is_full (fault_of result))) reads.fulls;
@@ -99,13 +99,13 @@ serves_then effect line old mid new result reads serves = record {
 }
 
 -- a plan that was made by the reads
-pub plan_then : (effect : State → Effect) (line : List ℕ) (old mid : KeeperView) (plan : Plan) → Reads old mid None → IsPlanOf effect line old plan → IsPlanOf effect line mid plan
+pub plan_then : (effect : StoreState → Effect) (line : List ℕ) (old mid : KeeperView) (plan : Plan) → ReadsKeeper old mid None → IsPlanOf effect line old plan → IsPlanOf effect line mid plan
 plan_then effect line old mid plan reads fits = record { made = λ m c holds stands. fits.made m c (sym reads.content ∙ holds) stands }
 
 -- the commit of a batch, by what is promised of it for every state
-pub serves_batch : (effect : State → Effect) (line : List ℕ) (batch : List (List ℕ × Option (List ℕ))) (reply : List ℕ) (old new : KeeperView) (result : Result (Vec ℕ Global) KeepFault) → reply ≡ line → IsPlanOf effect line old (Done batch)
+pub serves_batch : (effect : StoreState → Effect) (line : List ℕ) (batch : List (List ℕ × Option (List ℕ))) (reply : List ℕ) (old new : KeeperView) (result : Result (Vec ℕ Global) KeepFault) → reply ≡ line → IsPlanOf effect line old (Done batch)
     → SameButContent old new (fault_of result) → new.counts.fulls ≡ counted (is_full (fault_of result)) old.counts.fulls → AtMostOneCommit old.counts new.counts
-    → ((m n : State) (c : Content) → old.content ≡ Some c → Stands (after batch c) n → Gives m (Does n reply) c old new result) → Returns (always reply) old new result → Fulfils effect (Some (always line)) old new result
+    → ((m n : StoreState) (c : Content) → old.content ≡ Some c → StandsForState (after batch c) n → GivesEffect m (Does n reply) c old new result) → Returns (line_for_all reply) old new result → Fulfils effect (Some (line_for_all line)) old new result
 serves_batch effect line batch reply old new result same fits kept fulls once gives tells = record {
   kept = kept;
   fulls = fulls;
@@ -113,11 +113,11 @@ serves_batch effect line batch reply old new result same fits kept fulls once gi
   gives = λ settled m c holds stands.
       let made = fits.made m c holds stands in
       gives_as m (effect m) (Does made.0 reply) c old new result (made.1 ∙ ap (Does made.0) (sym same)) (gives m made.0 c holds made.2);
-  tells = λ settled. subst (λ (l : List ℕ). Returns (always l) old new result) same tells;
+  tells = λ settled. subst (λ (l : List ℕ). Returns (line_for_all l) old new result) same tells;
 }
 
 -- the same effect and line by other names
-pub serves_as : (effect effect' : State → Effect) (line line' : Option DoneLines) (old new : KeeperView) (result : Result (Vec ℕ Global) KeepFault) → ((m : State) → effect' m ≡ effect m) → line' ≡ line → Fulfils effect line old new result → Fulfils effect' line' old new result
+pub serves_as : (effect effect' : StoreState → Effect) (line line' : Option DoneLines) (old new : KeeperView) (result : Result (Vec ℕ Global) KeepFault) → ((m : StoreState) → effect' m ≡ effect m) → line' ≡ line → Fulfils effect line old new result → Fulfils effect' line' old new result
 serves_as effect effect' line line' old new result same is serves = record {
   kept = serves.kept;
   fulls = serves.fulls;
@@ -127,20 +127,20 @@ serves_as effect effect' line line' old new result same is serves = record {
 }
 
 -- a plan that another call made, of the effect as it is computed in each state
-pub plans_as : (effect : State → Effect) (line : List ℕ) (old : KeeperView) (result : Result Plan KeepFault)
-    → ((m : State) (c : Content) → old.content ≡ Some c → Stands c m → (e : Effect) × (effect m ≡ e) × IfOk result (IsPlan e line c)) → IfOk result (IsPlanOf effect line old)
+pub plans_as : (effect : StoreState → Effect) (line : List ℕ) (old : KeeperView) (result : Result Plan KeepFault)
+    → ((m : StoreState) (c : Content) → old.content ≡ Some c → StandsForState c m → (e : Effect) × (effect m ≡ e) × IfOk result (IsPlan e line c)) → IfOk result (IsPlanOf effect line old)
 plans_as effect line old (Err fault) of = tt
 plans_as effect line old (Ok plan) of = record { made = λ m c holds stands. let p = of m c holds stands in subst (λ (e : Effect). IsPlan e line c plan) (sym p.1) p.2 }
 
 -- one line is among those that a statement has, the one for this number of rows
-returns_counted : (done : DoneLines) (rows : ℕ) (line : List ℕ) (old new : KeeperView) (result : Result (Vec ℕ Global) KeepFault) → line ≡ done rows → Returns (always line) old new result → Returns done old new result
+returns_counted : (done : DoneLines) (rows : ℕ) (line : List ℕ) (old new : KeeperView) (result : Result (Vec ℕ Global) KeepFault) → line ≡ done rows → Returns (line_for_all line) old new result → Returns done old new result
 returns_counted done rows line old new (Ok reply) is (inl made) = inl (record { rows = rows; says = made.says ∙ is; commits = made.commits })
 returns_counted done rows line old new (Ok reply) is (inr refused) = inr refused
 returns_counted done rows line old new (Err Memory) is stays = stays
 returns_counted done rows line old new (Err NoRoom) is stays = stays
 returns_counted done rows line old new (Err Disk) is commits = commits
 
-pub serves_counted : (effect : State → Effect) (done : DoneLines) (rows : ℕ) (line : List ℕ) (old new : KeeperView) (result : Result (Vec ℕ Global) KeepFault) → line ≡ done rows → Fulfils effect (Some (always line)) old new result → Fulfils effect (Some done) old new result
+pub serves_counted : (effect : StoreState → Effect) (done : DoneLines) (rows : ℕ) (line : List ℕ) (old new : KeeperView) (result : Result (Vec ℕ Global) KeepFault) → line ≡ done rows → Fulfils effect (Some (line_for_all line)) old new result → Fulfils effect (Some done) old new result
 serves_counted effect done rows line old new result is serves = record {
   kept = serves.kept;
   fulls = serves.fulls;

@@ -14,7 +14,7 @@ use Rattle.ix_posting.specs.declared.rows.RowDocument.{RowDocument}
 use Rattle.ix_posting.specs.declared.span_rows.SpanDocument.{SpanDocument}
 use Rattle.ix_posting.specs.Rows.{IsPostingRow, posting_bytes}
 use Rattle.ix_posting.specs.SpanRows.{IsSpanRow, span_row_bytes}
-use Rattle.ix_context.specs.Postings.{text_entries, is_section, firsts, section_term, word_terms, section_terms}
+use Rattle.ix_context.specs.Postings.{text_entries, is_section_entry, first_positions, section_term, word_terms, section_terms}
 use Rattle.ix_context.specs.Changes.{word_change, section_change, entry_change, text_changes, settle_with}
 use Rattle.ix_docmap.specs.Changes.{map_settle_changes}
 use Rattle.ix_context.specs.Documents.{word_posting, span_posting}
@@ -40,16 +40,16 @@ puts_sections i d ts = add_changes span_number span_row_bytes kind.Spans i (sect
 
 no_words : (es : List Entry) → AllSections es → word_terms es ≡ []
 no_words [] all = refl
-no_words (e ∷ es) all = ap (λ (b : Bool). cons_option (cond b None (Some (word_term e.stream e.token, firsts e.places))) (word_terms es)) all.0 ∙ no_words es all.1
+no_words (e ∷ es) all = ap (λ (b : Bool). cons_option (cond b None (Some (word_term e.stream e.token, first_positions e.places))) (word_terms es)) all.0 ∙ no_words es all.1
 
 -- the changes of entries are those of one row a posting, of the words first
 pub entries_are : (i : List ℕ) (d : ℕ) (es : List Entry) → SectionsLast es → map (entry_change i d) es ≡ puts_words i d (word_terms es) ++ puts_sections i d (section_terms es)
 entries_are i d [] last = refl
-entries_are i d (e ∷ es) last = go (is_section e) last.0 (entries_are i d es last.1)
+entries_are i d (e ∷ es) last = go (is_section_entry e) last.0 (entries_are i d es last.1)
   where
     go : (b : Bool) → (b ≡ true → AllSections es) → map (entry_change i d) es ≡ puts_words i d (word_terms es) ++ puts_sections i d (section_terms es)
         → cond b (section_change i d e) (word_change i d e) ∷ map (entry_change i d) es
-        ≡ puts_words i d (cons_option (cond b None (Some (word_term e.stream e.token, firsts e.places))) (word_terms es))
+        ≡ puts_words i d (cons_option (cond b None (Some (word_term e.stream e.token, first_positions e.places))) (word_terms es))
         ++ puts_sections i d (cons_option (cond b (Some (section_term e.token, e.places)) None) (section_terms es))
     go false all rest = ap (λ (ws : List (Key × Option (List ℕ))). word_change i d e ∷ ws) rest
     go true all rest =

@@ -22,7 +22,7 @@ use Rattle.ix_context.specs.Indexes.{Part, Body, OfContext, Index, wasted, part_
 use Rattle.ix_context.specs.Documents.{text_postings, row_cost, changed_index, changed_on}
 use Rattle.ix_context.specs.Rules.{IsIndex, most_given}
 use Rattle.ix_context.specs.Spelling.{index_bytes}
-use Rattle.ix_context.specs.RowSteps.{text_at, is_column, SetsColumns, is_on_columns}
+use Rattle.ix_context.specs.RowSteps.{value_as_text, is_column, SetsColumns, is_on_columns}
 use Rattle.ix_context.specs.RowPromises.{IndexStandsWithChangedRow, IndexesStandWithChangedRow, ChangedRowsKeepIndexRules}
 use Rattle.ix_context.specs.Standing.{IndexStands}
 use Rattle.ix_context.specs.laws.Standing.{index_sees}
@@ -94,8 +94,8 @@ same_columns ts us t columns r sets x apart s = go (same_list x.table t) refl (i
   where
     seen : x.table ≡ t → s ≡ r → is_column columns x.column ≡ false → text_seen us x s ≡ text_seen ts x s
     seen table row other =
-        ap (λ (l : List ℕ). text_at us l x.column s) table ∙ ap (text_at us t x.column) row ∙ sets.texts x.column other
-        ∙ sym (ap (λ (l : List ℕ). text_at ts l x.column s) table ∙ ap (text_at ts t x.column) row)
+        ap (λ (l : List ℕ). value_as_text us l x.column s) table ∙ ap (value_as_text us t x.column) row ∙ sets.texts x.column other
+        ∙ sym (ap (λ (l : List ℕ). value_as_text ts l x.column s) table ∙ ap (value_as_text ts t x.column) row)
 
     go : (a : Bool) → same_list x.table t ≡ a → (b : Bool) → int_eq s r ≡ b → text_seen us x s ≡ text_seen ts x s
     go a h false e = other_row ts us t r sets.others x s e

@@ -11,34 +11,34 @@ use Rattle.ct_base.specs.declared.lists.Value.{Value}
 use Rattle.ct_base.specs.laws.Options.{some_value}
 use Rattle.ct_entry.specs.declared.kinds.Kind.TheVariants as kind
 use Rattle.ct_entry.specs.Keys.{Key, key, same_list, IsRow}
-use Rattle.ct_entry.specs.Changes.{put, told, view, AllOf, AllOn}
+use Rattle.ct_entry.specs.Changes.{put_value, told, view, AllOf, AllOn}
 use Rattle.ct_entry.specs.Each.{each, numbered}
 use Rattle.ct_entry.specs.laws.Each.{all_each, all_on-each}
 use Rattle.ct_entry.specs.laws.Keys.{list_from_same, list_same}
 use Rattle.ct_entry.specs.laws.Parts.{int_from_eq}
 use Rattle.ct_entry.specs.Maps.{Names, alter}
 use Rattle.ct_entry.specs.laws.Maps.{get_name-insert, get_name-alter}
-use Rattle.ct_entry.specs.laws.Rows.{keys_below, keys_rise, listed_rise, has_key, keys_always}
+use Rattle.ct_entry.specs.laws.Rows.{keys_below, keys_rise_by, listed_rise, has_key, keys_always}
 use Rattle.ct_entry.specs.laws.Changes.{told_frame, told-append, view-append, all_on-append}
 use Rattle.tb_table.specs.declared.columns.Target.{Target}
-use Rattle.tb_table.specs.Tables.{Table, Tables, row_in, row_at, text_of, keys_in, row_keys, with_table, with_row}
+use Rattle.tb_table.specs.Tables.{Table, Tables, row_in, row_at, text_in_column, keys_in, row_keys, with_table, with_row}
 use Rattle.tb_table.specs.Rules.{AreTables}
 use Rattle.tb_table.specs.laws.Changes.{row_at-with_table, row_at-with_row}
 use Rattle.tb_table.specs.laws.Reading.{row_of_table}
 use Rattle.ix_context.specs.declared.ranges.KeyRange.{KeyRange}
 use Rattle.ix_docmap.specs.Marks.{Mark, Pending, Settled, Marks, is_settled}
 use Rattle.ix_docmap.specs.laws.Documents.{settled_in}
-use Rattle.ix_context.specs.Indexes.{Index, Body, OfContext, Context, given, part_in, marks_in, no_part, mark_of, in_queue, waiting_rows, pending_rows, text_seen, note_new, made, all_settled, synced_body, noted_index, noted, synced_index, synced, in_range, rows_in, settled_rows, created, with_index}
+use Rattle.ix_context.specs.Indexes.{Index, Body, OfContext, ContextIndex, given, part_in, marks_in, no_part, mark_of, in_queue, waiting_rows, pending_rows, text_seen, note_new, made, all_settled, synced_body, noted_index, noted, synced_index, synced, is_key_in, rows_in, settled_rows, created, with_index}
 use Rattle.ix_context.specs.Rules.{IsIndex, most_given}
 use Rattle.tx_settings.specs.declared.preferences.Prefs.{Prefs}
 use Rattle.tx_document.specs.declared.entries.Entry.{Entry}
 use Rattle.tx_settings.specs.Defaults.{default_prefs}
 use Rattle.tx_settings.specs.PrefsBytes.{IsPrefs}
-use Rattle.ix_context.specs.Postings.{text_entries, is_section}
+use Rattle.ix_context.specs.Postings.{text_entries, is_section_entry}
 use Rattle.ix_context.specs.Documents.{seen_in}
 use Rattle.ix_context.specs.Standing.{PartStands, IndexStands, IndexesStand}
 use Rattle.ix_context.specs.Spelling.{index_bytes, index_entry}
-use Rattle.ix_context.specs.Changes.{note_insert_changes, word_change, section_change, entry_change, text_changes, document_changes, mark_with, mark_changes, settle_changes, sync_rows_changes, sync_changes, create_changes}
+use Rattle.ix_context.specs.Changes.{note_insert_changes, word_change, section_change, entry_change, text_changes, document_changes, mark_with, seen_document_changes, settle_changes, sync_rows_changes, sync_changes, create_changes}
 use Rattle.ix_context.specs.laws.Standing.{is_of_part, index_sees, one_changes, entry_put, entry_here}
 use Rattle.ix_context.specs.laws.Parts.{part_see}
 use Rattle.ix_context.specs.laws.Notes.{context_new}
@@ -61,7 +61,7 @@ indexes_see f ts us xs same stand i = index_sees f ts us i (get xs i) (alike i (
   where
     alike : (i : List ℕ) (o : Option Index) → get xs i ≡ o → (r : ℤ) → is_settled (mark_of o r) ≡ true → seen_in us o r ≡ seen_in ts o r
     alike i None is r marked = refl
-    alike i (Some x) is r marked = ap (option_and_then (λ vs. text_of vs x.column)) (same i x r is (marked_there (get (marks_in x.body) r) marked))
+    alike i (Some x) is r marked = ap (option_and_then (λ vs. text_in_column vs x.column)) (same i x r is (marked_there (get (marks_in x.body) r) marked))
 
 pub stay_with_table : IndexesStayWithTables
 stay_with_table f ts xs t columns free stand =
@@ -123,7 +123,7 @@ all_document p i d r text = (refl, (refl, of_text text))
 
     of_entries : (es : List Entry) → AllOf is_of_part (map (entry_change i d) es)
     of_entries [] = tt
-    of_entries (e ∷ es) = (of_entry e (is_section e), of_entries es)
+    of_entries (e ∷ es) = (of_entry e (is_section_entry e), of_entries es)
 
     of_text : (text : Option (List ℕ)) → AllOf is_of_part (text_changes p i d text)
     of_text None = tt
@@ -139,7 +139,7 @@ all_on_texts p i d (Some t) = go (text_entries p t)
 
     go : (es : List Entry) → AllOn i (map (entry_change i d) es)
     go [] = tt
-    go (e ∷ es) = (one e (is_section e), go es)
+    go (e ∷ es) = (one e (is_section_entry e), go es)
 
 pub all_on_document : (p : Prefs) (i : List ℕ) (d : ℕ) (r : ℤ) (text : Option (List ℕ)) → AllOn i (document_changes p i d r text)
 all_on_document p i d r text = (refl, (refl, all_on_texts p i d text))
@@ -152,12 +152,12 @@ all_on_sync ts i x (r ∷ rs) =
 pub all_on_create : (ts : Tables) (i : List ℕ) (target : Target) (prefs : Prefs) (range : KeyRange) → AllOn i (create_changes ts i target prefs range)
 all_on_create ts i target prefs range = (
   refl,
-  all_on-each i (λ (p : ℕ × ℤ). mark_changes ts i (created ts target prefs range) p.0 p.1) (λ p. all_on_document prefs i p.0 p.1 (text_seen ts (created ts target prefs range) p.1)) (numbered 1 (rows_in ts target.table range)),
+  all_on-each i (λ (p : ℕ × ℤ). seen_document_changes ts i (created ts target prefs range) p.0 p.1) (λ p. all_on_document prefs i p.0 p.1 (text_seen ts (created ts target prefs range) p.1)) (numbered 1 (rows_in ts target.table range)),
 )
 
 -- ---- a synchronisation
 
-pub pending_rise : (x : Index) → keys_rise int_cmp (pending_rows x) ≡ true
+pub pending_rise : (x : Index) → keys_rise_by int_cmp (pending_rows x) ≡ true
 pending_rise x = listed_rise int_cmp in_queue (marks_in x.body)
 
 pub pending_there : (x : Index) (r : ℤ) → list_any (int_eq r) (pending_rows x) ≡ is_some (option_and_then in_queue (get (marks_in x.body) r))
@@ -198,7 +198,7 @@ synced_stands f ts i x room are is stand = of_body x.body (pending_rows x) refl 
         → IndexStands (view (sync_rows_changes ts i (record x { body = b }) rows) f) ts i (Some (record x { body = synced_body b }))
     of_body (OfContext c) rows is_rows entry part = go rows is_rows (marks_as part)
       where
-        now : Context
+        now : ContextIndex
         now = record { part = made (length (waiting_rows c.marks)) c.part; marks = all_settled c.marks }
 
         marks_as : PartStands (view (each (settle_changes ts i x) (numbered (c.part.given + 1) rows)) f) i (docs x.prefs (text_seen ts x)) (settled_in rows (get c.marks)) (made (length rows) c.part)
@@ -216,7 +216,7 @@ synced_stands f ts i x room are is stand = of_body x.body (pending_rows x) refl 
         }
         go (r ∷ rs) some part =
             let changes = each (settle_changes ts i x) (numbered (c.part.given + 1) (r ∷ rs)) in
-            let last = put (key kind.Indexes i []) (index_entry (record x { body = OfContext now })) ∷ [] in
+            let last = put_value (key kind.Indexes i []) (index_entry (record x { body = OfContext now })) ∷ [] in
             record {
               entry = told-append changes last (key kind.Indexes i []) (f (key kind.Indexes i [])) ∙ entry_here i (index_entry (record x { body = OfContext now })) (told changes (key kind.Indexes i []) (f (key kind.Indexes i [])));
               context = subst (λ (g : Key → Option (List ℕ)). PartStands g i (docs x.prefs (text_seen ts x)) (get (all_settled c.marks)) (made (length (waiting_rows c.marks)) c.part)) (sym (view-append changes last f)) (entry_put (view changes f) i (index_entry (record x { body = OfContext now })) (docs x.prefs (text_seen ts x)) (get (all_settled c.marks)) (made (length (waiting_rows c.marks)) c.part) part);
@@ -257,22 +257,22 @@ filter_below p k (r ∷ rows) h = let b = and_parts (is_lt (int_cmp k r)) (keys_
     go true low rest = and_from _ _ low rest
     go false low rest = rest
 
-filter_rise : (p : ℤ → Bool) (rows : List ℤ) → keys_rise int_cmp rows ≡ true → keys_rise int_cmp (filter p rows) ≡ true
+filter_rise : (p : ℤ → Bool) (rows : List ℤ) → keys_rise_by int_cmp rows ≡ true → keys_rise_by int_cmp (filter p rows) ≡ true
 filter_rise p [] h = refl
 filter_rise p (r ∷ rows) h =
-    let b = and_parts (keys_below int_cmp r rows) (keys_rise int_cmp rows) h in go (p r) (filter_below p r rows b.0) (filter_rise p rows b.1)
+    let b = and_parts (keys_below int_cmp r rows) (keys_rise_by int_cmp rows) h in go (p r) (filter_below p r rows b.0) (filter_rise p rows b.1)
   where
-    go : (b : Bool) → keys_below int_cmp r (filter p rows) ≡ true → keys_rise int_cmp (filter p rows) ≡ true
-        → keys_rise int_cmp (cond b (r ∷ filter p rows) (filter p rows)) ≡ true
+    go : (b : Bool) → keys_below int_cmp r (filter p rows) ≡ true → keys_rise_by int_cmp (filter p rows) ≡ true
+        → keys_rise_by int_cmp (cond b (r ∷ filter p rows) (filter p rows)) ≡ true
     go true low rest = and_from _ _ low rest
     go false low rest = rest
 
-rows_rise : (ts : Tables) (t : List ℕ) → keys_rise int_cmp (row_keys ts t) ≡ true
+rows_rise : (ts : Tables) (t : List ℕ) → keys_rise_by int_cmp (row_keys ts t) ≡ true
 rows_rise ts t = go (get ts t)
   where
-    go : (o : Option Table) → keys_rise int_cmp (keys_in o) ≡ true
+    go : (o : Option Table) → keys_rise_by int_cmp (keys_in o) ≡ true
     go None = refl
-    go (Some x) = ap (keys_rise int_cmp) (sym (keys_always (λ _. []) (entries x.rows))) ∙ listed_rise int_cmp (λ _. Some []) x.rows
+    go (Some x) = ap (keys_rise_by int_cmp) (sym (keys_always (λ _. []) (entries x.rows))) ∙ listed_rise int_cmp (λ _. Some []) x.rows
 
 -- a row key is listed exactly where the row is there
 pub row_listed : (ts : Tables) (t : List ℕ) (r : ℤ) → list_any (int_eq r) (row_keys ts t) ≡ is_some (row_at ts t r)
@@ -295,7 +295,7 @@ no_marks r = None
 pub rows_free : (ts : Tables) → AreTables ts → (t : List ℕ) (range : KeyRange)
     → EachRow (λ s. IsRow s × (not (is_some (no_marks s)) ≡ true)) (rows_in ts t range)
 rows_free ts are t range =
-    each_among (λ s. IsRow s × (not (is_some (no_marks s)) ≡ true)) (rows_in ts t range) (λ r there. (row_is_row ts are t r (sym (row_listed ts t r) ∙ filter_among (in_range range) (row_keys ts t) r there), refl))
+    each_among (λ s. IsRow s × (not (is_some (no_marks s)) ≡ true)) (rows_in ts t range) (λ r there. (row_is_row ts are t r (sym (row_listed ts t r) ∙ filter_among (is_key_in range) (row_keys ts t) r there), refl))
 
 not_some : (o : Option (Mark (Unit {0}))) → not (is_some o) ≡ true → o ≡ None
 not_some None h = refl
@@ -311,7 +311,7 @@ created_part f ts i target prefs range prefs_are room are stand =
     (subst (λ (m : Marks). PartStands (view (each (mark_with prefs i (text_seen ts x)) (numbered 1 rows)) f) i (docs prefs (text_seen ts x)) m (made (length rows) no_part)) (λ j s. settled_in-at rows no_marks s j)
     (parts_all (mark_with prefs i (text_seen ts x)) i (docs x.prefs (text_seen ts x)) (λ m. not (is_some m))
     (λ g mark part r is_row free room stand. part_marked g prefs prefs_are i (text_seen ts x) mark part r is_row (not_some _ free) room (seen_is_short ts are x r) stand)
-    rows f no_marks no_part (filter_rise (in_range range) (row_keys ts target.table) (rows_rise ts target.table)) (rows_free ts are target.table range) (omega arith)
+    rows f no_marks no_part (filter_rise (is_key_in range) (row_keys ts target.table) (rows_rise ts target.table)) (rows_free ts are target.table range) (omega arith)
     (part_see f i (docs default_prefs (λ _. None)) (docs x.prefs (text_seen ts x)) no_marks no_part (λ r h. cc) stand)))
 
 pub created_stands : (f : Key → Option (List ℕ)) (ts : Tables) (i : List ℕ) (target : Target) (prefs : Prefs) (range : KeyRange) → IsPrefs prefs
@@ -319,7 +319,7 @@ pub created_stands : (f : Key → Option (List ℕ)) (ts : Tables) (i : List ℕ
     → IndexStands (view (create_changes ts i target prefs range) f) ts i (Some (created ts target prefs range))
 created_stands f ts i target prefs range prefs_are room are stand =
     let x = created ts target prefs range in
-    let first = put (key kind.Indexes i []) (index_entry x) ∷ [] in
+    let first = put_value (key kind.Indexes i []) (index_entry x) ∷ [] in
     let changes = each (mark_with prefs i (text_seen ts x)) (numbered 1 (rows_in ts target.table range)) in
     record {
       entry =

@@ -14,7 +14,7 @@ use Rattle.ct_entry.specs.Keys.{Key, same_list}
 use Rattle.ct_entry.specs.Maps.{Names, Rows}
 use Rattle.ct_entry.specs.laws.Maps.{entries-none, get_name-remove, get_row-insert, get_row-remove}
 use Rattle.ct_entry.specs.laws.Parts.{int_same}
-use Rattle.tb_table.specs.Tables.{Table, Tables, row_in, text_of}
+use Rattle.tb_table.specs.Tables.{Table, Tables, row_in, text_in_column}
 use Rattle.ix_docmap.specs.Marks.{Mark, Pending, is_settled}
 use Rattle.ix_context.specs.Indexes.{Index, marks_in, text_seen, note_gone, note_changed}
 use Rattle.ix_context.specs.Documents.{postings_in, seen_in}
@@ -98,7 +98,7 @@ drop_stands f g ts xs i loses stand = indexes_gone (λ q. same_list q i) f g ts 
 
 -- an index on another table sees the same texts
 other_texts : (ts us : Tables) (t : List ℕ) → HaveSameTablesBut ts us t → (x : Index) → same_list x.table t ≡ false → (r : ℤ) → text_seen us x r ≡ text_seen ts x r
-other_texts ts us t same x other r = ap (λ (o : Option Table). option_and_then (λ (vs : List Value). text_of vs x.column) (row_in o r)) (same x.table other)
+other_texts ts us t same x other r = ap (λ (o : Option Table). option_and_then (λ (vs : List Value). text_in_column vs x.column) (row_in o r)) (same x.table other)
 
 pub drop_table_stands : IndexesStandWithoutTable
 drop_table_stands f g ts us xs t loses same stand =

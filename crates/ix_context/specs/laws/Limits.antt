@@ -4,7 +4,7 @@ use Rattle.std.specs.FinMap.{get}
 use Rattle.ct_base.specs.declared.lists.Value.{Value}
 use Rattle.ct_base.specs.laws.Options.{some_value, and_then_some}
 use Rattle.tb_table.specs.laws.Rules.{short_column}
-use Rattle.tb_table.specs.Tables.{Table, Tables, row_in, row_at, text_of}
+use Rattle.tb_table.specs.Tables.{Table, Tables, row_in, row_at, text_in_column}
 use Rattle.tb_table.specs.Rules.{AreTables, IsTable}
 use Rattle.ix_context.specs.Indexes.{Index}
 use Rattle.ix_context.specs.Rules.{IsIndex}
@@ -31,7 +31,7 @@ within_limits ts x are is = record {
       kept.is.keys r row.0 kept.there;
   numbers = let l = is.numbers in omega (arith, l);
   texts = λ r text seen.
-      let row = and_then_some (λ vs. text_of vs x.column) (row_at ts x.table r) text seen in
+      let row = and_then_some (λ vs. text_in_column vs x.column) (row_at ts x.table r) text seen in
       let kept = row_kept ts x.table r row.0 are row.1 in
       let l = short_column kept.table.columns row.0 x.column text kept.is.columns.each (kept.is.rows r row.0 kept.there) row.2 in
       omega (arith, l);

@@ -5,14 +5,14 @@ use Rattle.std.specs.FinMap.{get, insert, remove}
 use Rattle.std.proofs.Common.{sym, ap, subst, ◌∙◌}
 use Rattle.ct_entry.specs.declared.kinds.Kind.TheVariants as kind
 use Rattle.ct_entry.specs.Keys.{Key, key, row_part, IsRow}
-use Rattle.ct_entry.specs.Changes.{put, drop_key, view}
+use Rattle.ct_entry.specs.Changes.{put_value, drop_key, view}
 use Rattle.ct_entry.specs.laws.Maps.{get_row-insert, get_row-remove}
 use Rattle.ct_entry.specs.laws.Changes.{view-append}
 use Rattle.ct_entry.specs.laws.Parts.{int_same, int_from_eq}
 use Rattle.ix_rows.specs.Stores.{Untidy}
 use Rattle.ix_rows.specs.laws.Stores.{store_untidy}
 use Rattle.ix_docmap.specs.Marks.{Mark, Pending, Settled, is_settled, Marks}
-use Rattle.ix_context.specs.Indexes.{Part, Context, OfContext, wasted, note_new, note_changed, note_gone, part_in, marks_in}
+use Rattle.ix_context.specs.Indexes.{Part, ContextIndex, OfContext, wasted, note_new, note_changed, note_gone, part_in, marks_in}
 use Rattle.ix_docmap.specs.laws.Documents.{with_mark}
 use Rattle.ix_docmap.specs.Changes.{unmark_changes}
 use Rattle.ix_context.specs.Documents.{Postings, document_cost, want_words, want_spans}
@@ -24,15 +24,15 @@ use Rattle.ix_posting.specs.Rows.{IsPostingRow, posting_bytes}
 use Rattle.ix_rows.specs.WordRows.{document_number, IsWordTerm, word_cost}
 
 -- INSERT: a new row waits
-pub context_new : (f : Key → Option (List ℕ)) (i : List ℕ) (doc doc' : ℤ → Postings) (x : Context) (r : ℤ) → IsRow r → get x.marks r ≡ None → ((s : ℤ) → is_settled (get x.marks s) ≡ true → doc' s ≡ doc s)
+pub context_new : (f : Key → Option (List ℕ)) (i : List ℕ) (doc doc' : ℤ → Postings) (x : ContextIndex) (r : ℤ) → IsRow r → get x.marks r ≡ None → ((s : ℤ) → is_settled (get x.marks s) ≡ true → doc' s ≡ doc s)
     → PartStands f i doc ((λ s. get x.marks s)) x.part
-    → PartStands (view (put (key kind.Pending i (row_part r)) [] ∷ []) f) i doc' ((λ s. get (marks_in (note_new r (OfContext x))) s)) (part_in (note_new r (OfContext x)))
+    → PartStands (view (put_value (key kind.Pending i (row_part r)) [] ∷ []) f) i doc' ((λ s. get (marks_in (note_new r (OfContext x))) s)) (part_in (note_new r (OfContext x)))
 context_new f i doc doc' x r is_row free same stand =
     let seen = part_see f i doc doc' (λ s. get x.marks s) x.part same stand in
     let waits = part_queued f i doc' (λ s. get x.marks s) x.part r (Some Pending) is_row (ap is_settled free) refl seen in
-    subst (λ (m : Marks). PartStands (view (put (key kind.Pending i (row_part r)) [] ∷ []) f) i doc' m x.part) (λ j s. sym (get_row-insert x.marks r Pending s) j) waits
+    subst (λ (m : Marks). PartStands (view (put_value (key kind.Pending i (row_part r)) [] ∷ []) f) i doc' m x.part) (λ j s. sym (get_row-insert x.marks r Pending s) j) waits
 
-other_row : (x : Context) (r s : ℤ) → is_settled (with_mark r None (λ s. get x.marks s) s) ≡ true → (int_eq s r ≡ false) × (is_settled (get x.marks s) ≡ true)
+other_row : (x : ContextIndex) (r s : ℤ) → is_settled (with_mark r None (λ s. get x.marks s) s) ≡ true → (int_eq s r ≡ false) × (is_settled (get x.marks s) ≡ true)
 other_row x r s = go (int_eq s r) refl
   where
     go : (b : Bool) → int_eq s r ≡ b → is_settled (cond b None (get x.marks s)) ≡ true → (int_eq s r ≡ false) × (is_settled (get x.marks s) ≡ true)
@@ -40,7 +40,7 @@ other_row x r s = go (int_eq s r) refl
     go false e h = (e, h)
 
 -- DELETE of a row that is settled: the entries of its document go, its postings stay, and their cost is wasted
-pub context_gone : (f : Key → Option (List ℕ)) (i : List ℕ) (doc doc' : ℤ → Postings) (x : Context) (r : ℤ) → IsRow r → get x.marks r ≡ Some (Settled tt) → x.part.given < 2 ^ 32 → ((s : ℤ) → int_eq s r ≡ false → is_settled (get x.marks s) ≡ true → doc' s ≡ doc s)
+pub context_gone : (f : Key → Option (List ℕ)) (i : List ℕ) (doc doc' : ℤ → Postings) (x : ContextIndex) (r : ℤ) → IsRow r → get x.marks r ≡ Some (Settled tt) → x.part.given < 2 ^ 32 → ((s : ℤ) → int_eq s r ≡ false → is_settled (get x.marks s) ≡ true → doc' s ≡ doc s)
     → (stand : PartStands f i doc ((λ s. get x.marks s)) x.part) (d : ℕ) → stand.document r ≡ Some d
     → PartStands (view (unmark_changes i d r) f) i doc' ((λ s. get (marks_in (note_gone (document_cost i (doc r)) r (OfContext x))) s)) (part_in (note_gone (document_cost i (doc r)) r (OfContext x)))
 context_gone f i doc doc' x r is_row here room same stand d is =
@@ -50,17 +50,17 @@ context_gone f i doc doc' x r is_row here room same stand d is =
     subst (λ (o : Option (Mark (Unit {0}))). PartStands (view (unmark_changes i d r) f) i doc' (λ s. get (remove x.marks r) s) (wasted o (document_cost i (doc r)) x.part)) (sym here) marks
 
 -- UPDATE of the column of a row that is settled: the same, and the row waits
-pub context_changed : (f : Key → Option (List ℕ)) (i : List ℕ) (doc doc' : ℤ → Postings) (x : Context) (r : ℤ) → IsRow r → get x.marks r ≡ Some (Settled tt) → x.part.given < 2 ^ 32 → ((s : ℤ) → int_eq s r ≡ false → is_settled (get x.marks s) ≡ true → doc' s ≡ doc s)
+pub context_changed : (f : Key → Option (List ℕ)) (i : List ℕ) (doc doc' : ℤ → Postings) (x : ContextIndex) (r : ℤ) → IsRow r → get x.marks r ≡ Some (Settled tt) → x.part.given < 2 ^ 32 → ((s : ℤ) → int_eq s r ≡ false → is_settled (get x.marks s) ≡ true → doc' s ≡ doc s)
     → (stand : PartStands f i doc ((λ s. get x.marks s)) x.part) (d : ℕ) → stand.document r ≡ Some d
-    → PartStands (view (unmark_changes i d r ++ put (key kind.Pending i (row_part r)) [] ∷ []) f) i doc' ((λ s. get (marks_in (note_changed (document_cost i (doc r)) r (OfContext x))) s)) (part_in (note_changed (document_cost i (doc r)) r (OfContext x)))
+    → PartStands (view (unmark_changes i d r ++ put_value (key kind.Pending i (row_part r)) [] ∷ []) f) i doc' ((λ s. get (marks_in (note_changed (document_cost i (doc r)) r (OfContext x))) s)) (part_in (note_changed (document_cost i (doc r)) r (OfContext x)))
 context_changed f i doc doc' x r is_row here room same stand d is =
     let lost = context_gone f i doc doc' x r is_row here room same stand d is in
     let part = wasted (get x.marks r) (document_cost i (doc r)) x.part in
     let free : is_settled (get (remove x.marks r) r) ≡ false = ap is_settled (get_row-remove x.marks r r ∙ ap (λ (b : Bool). cond b None (get x.marks r)) (int_same r)) in
     let waits = part_queued (view (unmark_changes i d r) f) i doc' (λ s. get (remove x.marks r) s) part r (Some Pending) is_row free refl lost in
-    let words : view (put (key kind.Pending i (row_part r)) [] ∷ []) (view (unmark_changes i d r) f) ≡ view (unmark_changes i d r ++ put (key kind.Pending i (row_part r)) [] ∷ []) f = sym (view-append (unmark_changes i d r) (put (key kind.Pending i (row_part r)) [] ∷ []) f) in
+    let words : view (put_value (key kind.Pending i (row_part r)) [] ∷ []) (view (unmark_changes i d r) f) ≡ view (unmark_changes i d r ++ put_value (key kind.Pending i (row_part r)) [] ∷ []) f = sym (view-append (unmark_changes i d r) (put_value (key kind.Pending i (row_part r)) [] ∷ []) f) in
     subst (λ (g : Key → Option (List ℕ)). PartStands g i doc' (λ s. get (insert x.marks r Pending) s) part) words
-    (subst (λ (m : Marks). PartStands (view (put (key kind.Pending i (row_part r)) [] ∷ []) (view (unmark_changes i d r) f)) i doc' m part) (λ j s. both s j) waits)
+    (subst (λ (m : Marks). PartStands (view (put_value (key kind.Pending i (row_part r)) [] ∷ []) (view (unmark_changes i d r) f)) i doc' m part) (λ j s. both s j) waits)
   where
     both : (s : ℤ) → with_mark r (Some Pending) (λ s. get (remove x.marks r) s) s ≡ get (insert x.marks r Pending) s
     both s = ap (cond (int_eq s r) (Some Pending)) (get_row-remove x.marks r s) ∙ once (int_eq s r) ∙ sym (get_row-insert x.marks r Pending s)
@@ -86,7 +86,7 @@ part_untidy f i doc mark part stand = record {
 }
 
 -- DELETE of a row that waits
-pub context_gone_waiting : (f : Key → Option (List ℕ)) (i : List ℕ) (doc doc' : ℤ → Postings) (cost : ℕ) (x : Context) (r : ℤ) → IsRow r → get x.marks r ≡ Some Pending → ((s : ℤ) → is_settled (get x.marks s) ≡ true → doc' s ≡ doc s)
+pub context_gone_waiting : (f : Key → Option (List ℕ)) (i : List ℕ) (doc doc' : ℤ → Postings) (cost : ℕ) (x : ContextIndex) (r : ℤ) → IsRow r → get x.marks r ≡ Some Pending → ((s : ℤ) → is_settled (get x.marks s) ≡ true → doc' s ≡ doc s)
     → PartStands f i doc ((λ s. get x.marks s)) x.part
     → PartStands (view (drop_key (key kind.Pending i (row_part r)) ∷ []) f) i doc' ((λ s. get (marks_in (note_gone cost r (OfContext x))) s)) (part_in (note_gone cost r (OfContext x)))
 context_gone_waiting f i doc doc' cost x r is_row here same stand =
@@ -97,7 +97,7 @@ context_gone_waiting f i doc doc' cost x r is_row here same stand =
     subst (λ (o : Option (Mark (Unit {0}))). PartStands (view (drop_key (key kind.Pending i (row_part r)) ∷ []) f) i doc' (λ s. get (remove x.marks r) s) (wasted o cost x.part)) (sym here) marks
 
 -- UPDATE of a row that waits: it waits on, and nothing is put
-pub context_changed_waiting : (f : Key → Option (List ℕ)) (i : List ℕ) (doc doc' : ℤ → Postings) (cost : ℕ) (x : Context) (r : ℤ) → get x.marks r ≡ Some Pending → ((s : ℤ) → is_settled (get x.marks s) ≡ true → doc' s ≡ doc s)
+pub context_changed_waiting : (f : Key → Option (List ℕ)) (i : List ℕ) (doc doc' : ℤ → Postings) (cost : ℕ) (x : ContextIndex) (r : ℤ) → get x.marks r ≡ Some Pending → ((s : ℤ) → is_settled (get x.marks s) ≡ true → doc' s ≡ doc s)
     → PartStands f i doc ((λ s. get x.marks s)) x.part → PartStands f i doc' ((λ s. get (marks_in (note_changed cost r (OfContext x))) s)) (part_in (note_changed cost r (OfContext x)))
 context_changed_waiting f i doc doc' cost x r here same stand =
     let seen = part_see f i doc doc' (λ s. get x.marks s) x.part same stand in

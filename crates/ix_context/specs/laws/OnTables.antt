@@ -8,7 +8,7 @@ use Rattle.std.proofs.lemmas.Map.Lookups.{exact_bytes}
 use Rattle.ct_base.specs.laws.Options.{option_map_some}
 use Rattle.ct_entry.specs.Keys.{Key, same_list}
 use Rattle.ct_entry.specs.Changes.{told, view, AllOn}
-use Rattle.ct_entry.specs.Each.{each, is_among}
+use Rattle.ct_entry.specs.Each.{each, is_any_of}
 use Rattle.ct_entry.specs.Maps.{Names}
 use Rattle.ct_entry.specs.laws.Changes.{told-append, told_others}
 use Rattle.ct_entry.specs.laws.Keys.{list_from_same}
@@ -26,36 +26,36 @@ use Rattle.ix_context.specs.laws.Standing.{index_agree}
 
 -- where each has changes of its own, the changes of an index alone tell of its entries
 pub told_own : (changes : List ℕ → List (Key × Option (List ℕ))) → ((i : List ℕ) → AllOn i (changes i)) → (names : List (List ℕ)) → AreDistinct names
-    → (k : Key) (old : Option (List ℕ)) → told (each changes names) k old ≡ cond (is_among k.owner names) (told (changes k.owner) k old) old
+    → (k : Key) (old : Option (List ℕ)) → told (each changes names) k old ≡ cond (is_any_of k.owner names) (told (changes k.owner) k old) old
 told_own changes own [] distinct k old = refl
 told_own changes own (i ∷ is) distinct k old =
     told-append (changes i) (each changes is) k old ∙ told_own changes own is distinct.1 k (told (changes i) k old) ∙ go (same_list k.owner i) refl
   where
-    here : k.owner ≡ i → cond (is_among k.owner is) (told (changes k.owner) k (told (changes i) k old)) (told (changes i) k old) ≡ told (changes k.owner) k old
+    here : k.owner ≡ i → cond (is_any_of k.owner is) (told (changes k.owner) k (told (changes i) k old)) (told (changes i) k old) ≡ told (changes k.owner) k old
     here one =
-        ap (λ (b : Bool). cond b (told (changes k.owner) k (told (changes i) k old)) (told (changes i) k old)) (ap (λ (l : List ℕ). is_among l is) one ∙ distinct.0)
+        ap (λ (b : Bool). cond b (told (changes k.owner) k (told (changes i) k old)) (told (changes i) k old)) (ap (λ (l : List ℕ). is_any_of l is) one ∙ distinct.0)
         ∙ ap (λ (l : List ℕ). told (changes l) k old) (sym one)
 
     go : (b : Bool) → same_list k.owner i ≡ b
-        → cond (is_among k.owner is) (told (changes k.owner) k (told (changes i) k old)) (told (changes i) k old) ≡ cond (b || is_among k.owner is) (told (changes k.owner) k old) old
+        → cond (is_any_of k.owner is) (told (changes k.owner) k (told (changes i) k old)) (told (changes i) k old) ≡ cond (b || is_any_of k.owner is) (told (changes k.owner) k old) old
     go true h = here (list_from_same k.owner i h)
-    go false h = ap (λ (v : Option (List ℕ)). cond (is_among k.owner is) (told (changes k.owner) k v) v) (told_others i (changes i) k old (own i) h)
+    go false h = ap (λ (v : Option (List ℕ)). cond (is_any_of k.owner is) (told (changes k.owner) k v) v) (told_others i (changes i) k old (own i) h)
 
 -- Each index of these names stands by its own changes as it is in ys, and each other stands so as it is: then all do by the changes of all.
 pub each_index : (f : Key → Option (List ℕ)) (us : Tables) (ys : Names Index) (names : List (List ℕ)) (changes : List ℕ → List (Key × Option (List ℕ)))
     → ((i : List ℕ) → AllOn i (changes i)) → AreDistinct names
-    → ((i : List ℕ) → is_among i names ≡ true → IndexStands (view (changes i) f) us i (get ys i))
-    → ((i : List ℕ) → is_among i names ≡ false → IndexStands f us i (get ys i))
+    → ((i : List ℕ) → is_any_of i names ≡ true → IndexStands (view (changes i) f) us i (get ys i))
+    → ((i : List ℕ) → is_any_of i names ≡ false → IndexStands f us i (get ys i))
     → IndexesStand (view (each changes names) f) us ys
-each_index f us ys names changes own distinct those others i = go (is_among i names) refl
+each_index f us ys names changes own distinct those others i = go (is_any_of i names) refl
   where
-    at : (b : Bool) → is_among i names ≡ b → (k : Key) → k.owner ≡ i → view (each changes names) f k ≡ cond b (told (changes i) k (f k)) (f k)
+    at : (b : Bool) → is_any_of i names ≡ b → (k : Key) → k.owner ≡ i → view (each changes names) f k ≡ cond b (told (changes i) k (f k)) (f k)
     at b is k owner =
         told_own changes own names distinct k (f k)
-        ∙ ap (λ (l : List ℕ). cond (is_among l names) (told (changes l) k (f k)) (f k)) owner
+        ∙ ap (λ (l : List ℕ). cond (is_any_of l names) (told (changes l) k (f k)) (f k)) owner
         ∙ ap (λ (c : Bool). cond c (told (changes i) k (f k)) (f k)) is
 
-    go : (b : Bool) → is_among i names ≡ b → IndexStands (view (each changes names) f) us i (get ys i)
+    go : (b : Bool) → is_any_of i names ≡ b → IndexStands (view (each changes names) f) us i (get ys i)
     go true is = index_agree (view (changes i) f) (view (each changes names) f) us i (get ys i) (λ k owner of. at true is k owner) (those i is)
     go false is = index_agree f (view (each changes names) f) us i (get ys i) (λ k owner of. at false is k owner) (others i is)
 

@@ -17,6 +17,7 @@ use Rattle.ct_entry.specs.laws.Changes.{told_frame, told-append}
 use Rattle.ct_base.specs.laws.Options.{option_map_some}
 use Rattle.ix_posting.specs.declared.rows.RowDocument.{RowDocument}
 use Rattle.ix_posting.specs.declared.span_rows.SpanDocument.{SpanDocument}
+use Rattle.ix_posting.specs.Lists.{posting_list}
 use Rattle.ix_posting.specs.SpanRows.{IsSpanRow, span_row_bytes}
 use Rattle.ix_posting.specs.Rows.{IsPostingRow, posting_bytes}
 use Rattle.ct_entry.specs.Lists.{IsIn, AreApart}
@@ -25,7 +26,7 @@ use Rattle.ix_context.specs.Indexes.{Part, made}
 use Rattle.ix_rows.specs.laws.Stored.{without}
 use Rattle.ix_rows.specs.Spelling.{row_key, first_document}
 use Rattle.ix_rows.specs.laws.Spelling.{added, add_changes}
-use Rattle.ix_rows.specs.Posts.{posting_list, Rises}
+use Rattle.ix_rows.specs.Posts.{Rises}
 use Rattle.ix_rows.specs.Stores.{Untidy}
 use Rattle.ix_rows.specs.laws.Stores.{store_agree, store_added, store_unmapped, store_see}
 use Rattle.ix_rows.specs.laws.Inverted.{inverted_new, inverted_rise}

@@ -8,21 +8,21 @@ use Rattle.ct_entry.specs.declared.kinds.Kind.TheVariants as kind
 use Rattle.ct_entry.specs.Kinds.{code}
 use Rattle.ct_entry.specs.Keys.{Key, key, at, same_list, HasKeysOnly}
 use Rattle.ct_entry.specs.Changes.{told, view, AreChanges}
-use Rattle.ct_entry.specs.Each.{is_among}
-use Rattle.ct_entry.specs.Removals.{drop_rests, rests_of, removals, is_owned}
+use Rattle.ct_entry.specs.Each.{is_any_of}
+use Rattle.ct_entry.specs.Removals.{drop_rests, rests_of, owned_removals, is_owned}
 use Rattle.ct_entry.specs.laws.Each.{told_each}
 use Rattle.ct_entry.specs.laws.Removals.{told-drop_rests, rests_are, owned_is, are_removals}
 use Rattle.ix_context.specs.Spelling.{is_of_indexes}
 use Rattle.ix_context.specs.Drops.{LosesIndexes}
 use Rattle.ix_context.specs.DropPromises.{RemovedIndexesLoseEntries, AllRemovedIndexesLoseEntries}
-use Rattle.ix_context.specs.Removing.{index_kinds, kind_removals, remove_changes, remove_all_changes}
+use Rattle.ix_context.specs.Removing.{index_kinds, kind_removals, index_removals, remove_all_changes}
 use Rattle.ix_context.specs.laws.Well.{AreIndexChanges, index_changes-append}
 
 -- ---- what a key has after the removals
 
 -- of one kind
-told-removals : (kind : Kind) (i : List ℕ) (m : Content) (k : Key) (old : Option (List ℕ)) → told (removals kind i m) k old ≡ cond (is_owned kind i k && is_some (at m k)) None old
-told-removals kind i m k old =
+told-owned_removals : (kind : Kind) (i : List ℕ) (m : Content) (k : Key) (old : Option (List ℕ)) → told (owned_removals kind i m) k old ≡ cond (is_owned kind i k && is_some (at m k)) None old
+told-owned_removals kind i m k old =
     told-drop_rests kind i (rests_of kind i m) k old
     ∙ ap (λ (b : Bool). cond (is_owned kind i k && b) None old) (rests_are kind i m k.part)
     ∙ by_owner (is_owned kind i k) refl
@@ -61,20 +61,20 @@ kinds_tie j b c = go j
     go kind.RuleFaults = refl
 
 -- of an index
-pub told-remove : (i : List ℕ) (m : Content) (k : Key) (old : Option (List ℕ)) → told (remove_changes i m) k old ≡ cond ((is_of_indexes k.kind && same_list k.owner i) && is_some (at m k)) None old
+pub told-remove : (i : List ℕ) (m : Content) (k : Key) (old : Option (List ℕ)) → told (index_removals i m) k old ≡ cond ((is_of_indexes k.kind && same_list k.owner i) && is_some (at m k)) None old
 told-remove i m k old =
-    told_each (λ (kind : Kind). removals kind i m) k (λ kind. is_owned kind i k && is_some (at m k)) None (λ kind o. told-removals kind i m k o) index_kinds old
+    told_each (λ (kind : Kind). owned_removals kind i m) k (λ kind. is_owned kind i k && is_some (at m k)) None (λ kind o. told-owned_removals kind i m k o) index_kinds old
     ∙ ap (λ (b : Bool). cond b None old) (kinds_tie k.kind (same_list k.owner i) (is_some (at m k)))
 
 -- of several indexes
-pub told-remove_all : (m : Content) (names : List (List ℕ)) (k : Key) (old : Option (List ℕ)) → is_of_indexes k.kind ≡ true → told (remove_all_changes m names) k old ≡ cond (is_among k.owner names && is_some (at m k)) None old
+pub told-remove_all : (m : Content) (names : List (List ℕ)) (k : Key) (old : Option (List ℕ)) → is_of_indexes k.kind ≡ true → told (remove_all_changes m names) k old ≡ cond (is_any_of k.owner names && is_some (at m k)) None old
 told-remove_all m names k old of =
-    told_each (λ i. remove_changes i m) k (λ i. same_list k.owner i && is_some (at m k)) None (λ i o. told-remove i m k o ∙ ap (λ (b : Bool). cond ((b && same_list k.owner i) && is_some (at m k)) None o) of) names old
+    told_each (λ i. index_removals i m) k (λ i. same_list k.owner i && is_some (at m k)) None (λ i o. told-remove i m k o ∙ ap (λ (b : Bool). cond ((b && same_list k.owner i) && is_some (at m k)) None o) of) names old
     ∙ ap (λ (b : Bool). cond b None old) (among (is_some (at m k)) names)
   where
-    among : (c : Bool) (names : List (List ℕ)) → list_any (λ i. same_list k.owner i && c) names ≡ (is_among k.owner names && c)
+    among : (c : Bool) (names : List (List ℕ)) → list_any (λ i. same_list k.owner i && c) names ≡ (is_any_of k.owner names && c)
     among c [] = refl
-    among c (i ∷ is) = ap (λ (b : Bool). (same_list k.owner i && c) || b) (among c is) ∙ one (same_list k.owner i) (is_among k.owner is) c
+    among c (i ∷ is) = ap (λ (b : Bool). (same_list k.owner i && c) || b) (among c is) ∙ one (same_list k.owner i) (is_any_of k.owner is) c
       where
         one : (a b c : Bool) → ((a && c) || (b && c)) ≡ ((a || b) && c)
         one true b true = refl
@@ -99,11 +99,11 @@ loses_by gone m ws f same tell = record {
 
 pub remove_loses : RemovedIndexesLoseEntries
 remove_loses i m f same =
-    loses_by (λ q. same_list q i) m (remove_changes i m) f same
+    loses_by (λ q. same_list q i) m (index_removals i m) f same
     (λ k of. told-remove i m k (f k) ∙ ap (λ (b : Bool). cond ((b && same_list k.owner i) && is_some (at m k)) None (f k)) of)
 
 pub remove_all_loses : AllRemovedIndexesLoseEntries
-remove_all_loses names m f same = loses_by (λ q. is_among q names) m (remove_all_changes m names) f same (λ k of. told-remove_all m names k (f k) of)
+remove_all_loses names m f same = loses_by (λ q. is_any_of q names) m (remove_all_changes m names) f same (λ k of. told-remove_all m names k (f k) of)
 
 -- ---- the changes themselves
 
@@ -112,7 +112,7 @@ drops_of_indexes kind i [] of are = tt
 drops_of_indexes kind i (r ∷ rs) of are = (record { key = are.0; of = of; bounded = tt }, drops_of_indexes kind i rs of are.1)
 
 -- where the content has keys of the kinds only, they are changes on entries of indexes
-pub index_changes_remove : (i : List ℕ) (m : Content) → HasKeysOnly m → AreIndexChanges (remove_changes i m)
+pub index_changes_remove : (i : List ℕ) (m : Content) → HasKeysOnly m → AreIndexChanges (index_removals i m)
 index_changes_remove i m only =
     then_more kind.Indexes (kind.DocumentRows ∷ kind.RowDocuments ∷ kind.Pending ∷ kind.Postings ∷ kind.Spans ∷ []) refl (
     then_more kind.DocumentRows (kind.RowDocuments ∷ kind.Pending ∷ kind.Postings ∷ kind.Spans ∷ []) refl (
@@ -123,8 +123,8 @@ index_changes_remove i m only =
   where
     then_more : (kind : Kind) (kinds : List Kind) → is_of_indexes kind ≡ true → AreIndexChanges (kind_removals i m kinds) → AreIndexChanges (kind_removals i m (kind ∷ kinds))
     then_more kind kinds of more =
-        index_changes-append (removals kind i m) (kind_removals i m kinds) (drops_of_indexes kind i (rests_of kind i m) of (are_removals kind i m only)) more
+        index_changes-append (owned_removals kind i m) (kind_removals i m kinds) (drops_of_indexes kind i (rests_of kind i m) of (are_removals kind i m only)) more
 
 pub index_changes_remove_all : (m : Content) (names : List (List ℕ)) → HasKeysOnly m → AreIndexChanges (remove_all_changes m names)
 index_changes_remove_all m [] only = tt
-index_changes_remove_all m (i ∷ is) only = index_changes-append (remove_changes i m) (remove_all_changes m is) (index_changes_remove i m only) (index_changes_remove_all m is only)
+index_changes_remove_all m (i ∷ is) only = index_changes-append (index_removals i m) (remove_all_changes m is) (index_changes_remove i m only) (index_changes_remove_all m is only)

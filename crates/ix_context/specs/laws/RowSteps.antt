@@ -10,10 +10,10 @@ use Rattle.ct_entry.specs.Keys.{same_list}
 use Rattle.ct_entry.specs.laws.Keys.{list_same}
 use Rattle.ct_entry.specs.laws.Parts.{int_same}
 use Rattle.tb_table.specs.declared.columns.Column.{Column}
-use Rattle.tb_table.specs.Tables.{Table, Tables, row_in, row_at, text_of}
+use Rattle.tb_table.specs.Tables.{Table, Tables, row_in, row_at, text_in_column}
 use Rattle.ix_context.specs.Indexes.{Index, text_seen}
 use Rattle.ix_context.specs.Rules.{IsTarget, HasTextAt}
-use Rattle.ix_context.specs.RowSteps.{HaveSameRowsBut, HaveSameColumns, text_at, is_column, LosesRow, SetsColumns, AwaitsTurn}
+use Rattle.ix_context.specs.RowSteps.{HaveSameRowsBut, HaveSameColumns, value_as_text, is_column, LosesRow, SetsColumns, AwaitsTurn}
 
 pub and_false : (a b : Bool) → b ≡ false → (a && b) ≡ false
 and_false true b h = h
@@ -21,11 +21,11 @@ and_false false b h = refl
 
 -- an index on another table sees the same texts
 pub other_table : (ts us : Tables) (t : List ℕ) (r : ℤ) → HaveSameRowsBut ts us t r → (x : Index) → same_list x.table t ≡ false → (s : ℤ) → text_seen us x s ≡ text_seen ts x s
-other_table ts us t r same x other s = ap (option_and_then (λ (vs : List Value). text_of vs x.column)) (same x.table s (ap (λ (b : Bool). b && int_eq s r) other))
+other_table ts us t r same x other s = ap (option_and_then (λ (vs : List Value). text_in_column vs x.column)) (same x.table s (ap (λ (b : Bool). b && int_eq s r) other))
 
 -- and each sees the same texts of other rows
 pub other_row : (ts us : Tables) (t : List ℕ) (r : ℤ) → HaveSameRowsBut ts us t r → (x : Index) (s : ℤ) → int_eq s r ≡ false → text_seen us x s ≡ text_seen ts x s
-other_row ts us t r same x s other = ap (option_and_then (λ (vs : List Value). text_of vs x.column)) (same x.table s (and_false (same_list x.table t) (int_eq s r) other))
+other_row ts us t r same x s other = ap (option_and_then (λ (vs : List Value). text_in_column vs x.column)) (same x.table s (and_false (same_list x.table t) (int_eq s r) other))
 
 -- targets stay where the columns do
 pub target_alike : (ts us : Tables) → HaveSameColumns ts us → (q : List ℕ) (column : ℕ) → IsTarget ts q column → IsTarget us q column
@@ -55,11 +55,11 @@ loses_row ts us t r alike each = record { alike = alike; gone = here_now ts us t
 
 pub sets_columns : (ts us : Tables) (t columns : List ℕ) (r : ℤ) (vs : List Value) → HaveSameColumns ts us
     → ((q : List ℕ) (s : ℤ) → row_at us q s ≡ cond (same_list q t) (cond (int_eq s r) (Some vs) (row_at ts q s)) (row_at ts q s))
-    → ((column : ℕ) → is_column columns column ≡ false → text_of vs column ≡ text_at ts t column r) → SetsColumns ts us t columns r
+    → ((column : ℕ) → is_column columns column ≡ false → text_in_column vs column ≡ value_as_text ts t column r) → SetsColumns ts us t columns r
 sets_columns ts us t columns r vs alike each texts = record {
   alike = alike;
   there = ap is_some (here_now ts us t r (Some vs) each);
-  texts = λ column other. ap (option_and_then (λ (vs : List Value). text_of vs column)) (here_now ts us t r (Some vs) each) ∙ texts column other;
+  texts = λ column other. ap (option_and_then (λ (vs : List Value). text_in_column vs column)) (here_now ts us t r (Some vs) each) ∙ texts column other;
   others = same_rows_but ts us t r (Some vs) each;
 }
 

@@ -17,12 +17,12 @@ use Rattle.ct_base.specs.Names.{IsName}
 use Rattle.ct_base.specs.declared.lists.Value.{Value}
 use Rattle.ct_entry.specs.Keys.{Key, same_list, IsRow}
 use Rattle.ct_entry.specs.Changes.{view}
-use Rattle.ct_entry.specs.Each.{each, is_among}
+use Rattle.ct_entry.specs.Each.{each, is_any_of}
 use Rattle.ct_entry.specs.laws.Changes.{view-append}
 use Rattle.ct_entry.specs.laws.Keys.{list_from_same, list_same}
 use Rattle.ct_entry.specs.Maps.{Rows, Names}
 use Rattle.ct_entry.specs.laws.Maps.{get_name-insert, get_name-alter, get_row-insert, get-each_value}
-use Rattle.ct_base.specs.laws.Options.{option_map_some}
+use Rattle.ct_base.specs.laws.Options.{none_or_some, option_map_some}
 use Rattle.tb_table.specs.declared.columns.Column.{Column}
 use Rattle.tb_table.specs.declared.columns.Target.{Target}
 use Rattle.tb_table.specs.Tables.{Table, Tables, row_at, row_keys, with_table, with_row}
@@ -32,7 +32,7 @@ use Rattle.tx_settings.specs.declared.preferences.Prefs.{Prefs}
 use Rattle.tx_settings.specs.PrefsBytes.{IsPrefs}
 use Rattle.ix_context.specs.declared.ranges.KeyRange.{KeyRange}
 use Rattle.ix_docmap.specs.Marks.{Mark, Pending, Settled}
-use Rattle.ix_context.specs.Indexes.{Index, Part, part_in, marks_in, no_part, noted_index, noted, waiting_on, noted_on, pending_rows, synced_index, synced, in_range, rows_in, created, with_index}
+use Rattle.ix_context.specs.Indexes.{Index, Part, part_in, marks_in, no_part, noted_index, noted, waiting_on, noted_on, pending_rows, synced_index, synced, is_key_in, rows_in, created, with_index}
 use Rattle.ix_context.specs.Rules.{IsTarget, HasTextAt, IsIndex, most_given}
 use Rattle.ix_context.specs.Standing.{IndexesStand}
 use Rattle.ix_context.specs.Changes.{note_insert_changes}
@@ -44,9 +44,6 @@ use Rattle.ix_context.specs.Promises.{NewTablesKeepIndexRules, NewRowsKeepIndexR
 
 -- ---- a new table
 
-none_some : {X : Type 0} (o : Option X) (x : X) → o ≡ None → o ≡ Some x → ⊥
-none_some o x none is = let wrong : None ≡ Some x = sym none ∙ is in cc
-
 index_with_table : (ts : Tables) (t : List ℕ) (columns : List Column) (x : Index) → get ts t ≡ None → IsIndex ts x → IsIndex (with_table ts t columns) x
 index_with_table ts t columns x free is = record {
   target = record { table = is.target.table; there = get-with_table ts t columns x.table ∙ here (same_list x.table t) refl; texts = is.target.texts };
@@ -57,7 +54,7 @@ index_with_table ts t columns x free is = record {
 }
   where
     here : (b : Bool) → same_list x.table t ≡ b → cond b (Some (record { columns = columns; rows = empty })) (get ts x.table) ≡ Some is.target.table
-    here true one = absurd (none_some (get ts t) is.target.table free (ap (get ts) (sym (list_from_same x.table t one)) ∙ is.target.there))
+    here true one = absurd (none_or_some (get ts t) is.target.table free (ap (get ts) (sym (list_from_same x.table t one)) ∙ is.target.there))
     here false one = is.target.there
 
 pub table_keeps : NewTablesKeepIndexRules
@@ -145,12 +142,12 @@ get-noted : (xs : Names Index) (i : List ℕ) (r : ℤ) (q : List ℕ) → get (
 get-noted xs i r q = get_name-alter xs i (noted_index r) q
 
 get-noted_each : (names : List (List ℕ)) (xs : Names Index) (r : ℤ) (q : List ℕ) → AreDistinct names
-    → get (noted_each xs names r) q ≡ cond (is_among q names) (option_map (noted_index r) (get xs q)) (get xs q)
+    → get (noted_each xs names r) q ≡ cond (is_any_of q names) (option_map (noted_index r) (get xs q)) (get xs q)
 get-noted_each [] xs r q distinct = refl
 get-noted_each (i ∷ is) xs r q distinct =
     get-noted_each is (noted xs i r) r q distinct.1
-    ∙ ap (λ (o : Option Index). cond (is_among q is) (option_map (noted_index r) o) o) (get-noted xs i r q)
-    ∙ go (same_list q i) (is_among q is) (λ h. ap (λ (k : List ℕ). is_among k is) (list_from_same q i h) ∙ distinct.0)
+    ∙ ap (λ (o : Option Index). cond (is_any_of q is) (option_map (noted_index r) o) o) (get-noted xs i r q)
+    ∙ go (same_list q i) (is_any_of q is) (λ h. ap (λ (k : List ℕ). is_any_of k is) (list_from_same q i h) ∙ distinct.0)
   where
     go : (a b : Bool) → (a ≡ true → b ≡ false)
         → cond b (option_map (noted_index r) (cond a (option_map (noted_index r) (get xs q)) (get xs q))) (cond a (option_map (noted_index r) (get xs q)) (get xs q)) ≡ cond (a || b) (option_map (noted_index r) (get xs q)) (get xs q)
@@ -183,20 +180,20 @@ AreNewIn xs r [] = Unit {0}
 AreNewIn xs r (i ∷ is) = ((x : Index) × (get xs i ≡ Some x) × (get (marks_in x.body) r ≡ None)) × AreNewIn xs r is
 
 new_among : (xs : Names Index) (r : ℤ) (names : List (List ℕ))
-    → ((i : List ℕ) → is_among i names ≡ true → (x : Index) × (get xs i ≡ Some x) × (get (marks_in x.body) r ≡ None)) → AreNewIn xs r names
+    → ((i : List ℕ) → is_any_of i names ≡ true → (x : Index) × (get xs i ≡ Some x) × (get (marks_in x.body) r ≡ None)) → AreNewIn xs r names
 new_among xs r [] each = tt
 new_among xs r (i ∷ is) each =
-    (each i (ap (λ (b : Bool). b || is_among i is) (list_same i)), new_among xs r is (λ j there. each j (later (same_list j i) (is_among j is) there)))
+    (each i (ap (λ (b : Bool). b || is_any_of i is) (list_same i)), new_among xs r is (λ j there. each j (later (same_list j i) (is_any_of j is) there)))
   where
     later : (a b : Bool) → b ≡ true → (a || b) ≡ true
     later true b h = refl
     later false b h = h
 
 -- a note leaves the indexes of other names
-still_new : (xs : Names Index) (i : List ℕ) (r : ℤ) (names : List (List ℕ)) → is_among i names ≡ false → AreNewIn xs r names → AreNewIn (noted xs i r) r names
+still_new : (xs : Names Index) (i : List ℕ) (r : ℤ) (names : List (List ℕ)) → is_any_of i names ≡ false → AreNewIn xs r names → AreNewIn (noted xs i r) r names
 still_new xs i r [] apart are = tt
 still_new xs i r (j ∷ js) apart are =
-    let b = neither (same_list i j) (is_among i js) apart in
+    let b = neither (same_list i j) (is_any_of i js) apart in
     ((are.0.0, get-alter_other xs i (noted_index r) j (turned (same_list j i) refl b.0) ∙ are.0.1, are.0.2), still_new xs i r js b.1 are.1)
   where
     neither : (a b : Bool) → (a || b) ≡ false → (a ≡ false) × (b ≡ false)
@@ -278,7 +275,7 @@ filter_all p (r ∷ rows) all = ap (λ (b : Bool). cond b (r ∷ filter p rows) 
 -- in such a range lie all rows
 pub rows_in-all : (ts : Tables) → AreTables ts → (t : List ℕ) (range : KeyRange) → HasAllRows range → rows_in ts t range ≡ row_keys ts t
 rows_in-all ts are t range has =
-    filter_all (in_range range) (row_keys ts t) (each_among (λ r. in_range range r ≡ true) (row_keys ts t) (λ r there. has r (row_is_row ts are t r (sym (row_listed ts t r) ∙ there))))
+    filter_all (is_key_in range) (row_keys ts t) (each_among (λ r. is_key_in range r ≡ true) (row_keys ts t) (λ r there. has r (row_is_row ts are t r (sym (row_listed ts t r) ∙ there))))
 
 created_is : (ts : Tables) (target : Target) (prefs : Prefs) (range : KeyRange) → IsTarget ts target.table target.column → IsPrefs prefs → HasAllRows range
     → length (rows_in ts target.table range) ≤ most_given → AreTables ts → IsIndex ts (created ts target prefs range)

@@ -16,7 +16,7 @@ use Rattle.ct_entry.specs.Lists.{IsIn}
 use Rattle.ct_entry.specs.Each.{each, numbered}
 use Rattle.ct_entry.specs.laws.Changes.{view-append}
 use Rattle.ct_entry.specs.laws.Parts.{int_from_eq, int_same}
-use Rattle.ct_entry.specs.laws.Rows.{keys_below, keys_rise}
+use Rattle.ct_entry.specs.laws.Rows.{keys_below, keys_rise_by}
 use Rattle.ix_posting.specs.declared.rows.RowDocument.{RowDocument}
 use Rattle.ix_posting.specs.declared.span_rows.SpanDocument.{SpanDocument}
 use Rattle.ix_posting.specs.Rows.{IsPostingRow, posting_bytes}
@@ -30,7 +30,7 @@ use Rattle.ix_docmap.specs.Marks.{Mark, Settled, Marks, is_settled, queued}
 use Rattle.ix_docmap.specs.laws.Documents.{with_mark, settled_in}
 use Rattle.tx_settings.specs.declared.preferences.Prefs.{Prefs}
 use Rattle.tx_settings.specs.PrefsBytes.{IsPrefs}
-use Rattle.ix_context.specs.Postings.{text_entries, word_terms, section_terms, text_limit, HasShortText}
+use Rattle.ix_context.specs.Postings.{text_entries, word_terms, section_terms, indexed_text_limit, IsShortOrNone}
 use Rattle.ix_context.specs.Indexes.{Part, made}
 use Rattle.ix_context.specs.Documents.{Postings, text_postings, word_posting, span_posting, want_words, want_spans}
 use Rattle.ix_context.specs.Standing.{PartStands}
@@ -70,7 +70,7 @@ module _ (p : Prefs) (prefs_are : IsPrefs p) (i : List ℕ) (text : ℤ → Opti
   no_sections is = none_are span_number span_row_bytes IsSpanRow IsSpanTerm kind.Spans i (want_spans (docs p text)) given r
       (λ t d. ap (λ (o : Option (List ℕ)). option_map (span_posting d) (get (text_postings p o).spans t)) is ∙ ap (option_map (span_posting d)) (get-empty (slice_cmp nat_cmp) t))
 
-  its_words : (t : List ℕ) → text r ≡ Some t → length t ≤ text_limit → given + 1 < 2 ^ 32 → WordRowsAre (words_alone i (given + 1) (word_terms (text_entries p t)))
+  its_words : (t : List ℕ) → text r ≡ Some t → length t ≤ indexed_text_limit → given + 1 < 2 ^ 32 → WordRowsAre (words_alone i (given + 1) (word_terms (text_entries p t)))
   its_words t is few room =
       let names = names_of p prefs_are t few in
       alone_are document_number posting_bytes IsPostingRow IsWordTerm kind.Postings i word_posting (λ d x. refl) (want_words (docs p text)) given r (word_terms (text_entries p t))
@@ -78,7 +78,7 @@ module _ (p : Prefs) (prefs_are : IsPrefs p) (i : List ℕ) (text : ℤ → Opti
       (λ x u found. word_term_is_row (given + 1) (omega arith) room p t prefs_are (omega (arith, few)) x u found)
       (λ u d. ap (λ (o : Option (List ℕ)). option_map (word_posting d) (get (text_postings p o).words u)) is ∙ ap (option_map (word_posting d)) (get-from_entries nat_list_cmp_total (word_terms (text_entries p t)) u))
 
-  its_sections : (t : List ℕ) → text r ≡ Some t → length t ≤ text_limit → given + 1 < 2 ^ 32 → SectionRowsAre (sections_alone i (given + 1) (section_terms (text_entries p t)))
+  its_sections : (t : List ℕ) → text r ≡ Some t → length t ≤ indexed_text_limit → given + 1 < 2 ^ 32 → SectionRowsAre (sections_alone i (given + 1) (section_terms (text_entries p t)))
   its_sections t is few room =
       let names = names_of p prefs_are t few in
       alone_are span_number span_row_bytes IsSpanRow IsSpanTerm kind.Spans i span_posting (λ d x. refl) (want_spans (docs p text)) given r (section_terms (text_entries p t))
@@ -88,7 +88,7 @@ module _ (p : Prefs) (prefs_are : IsPrefs p) (i : List ℕ) (text : ℤ → Opti
 
 -- a row that isn't settled leaves the queue and becomes the next document
 pub part_settled : (f : Key → Option (List ℕ)) (p : Prefs) → IsPrefs p → (i : List ℕ) (text : ℤ → Option (List ℕ)) (mark : Marks) (part : Part) (r : ℤ)
-    → IsRow r → is_settled (mark r) ≡ false → part.given + 1 < 2 ^ 32 → HasShortText (text r) → PartStands f i (docs p text) mark part
+    → IsRow r → is_settled (mark r) ≡ false → part.given + 1 < 2 ^ 32 → IsShortOrNone (text r) → PartStands f i (docs p text) mark part
     → PartStands (view (settle_with p i text (part.given + 1, r)) f) i (docs p text) (with_mark r (Some (Settled tt)) mark) (made 1 part)
 part_settled f p prefs_are i text mark part r is_row free room short stand = go (text r) refl short
   where
@@ -102,7 +102,7 @@ part_settled f p prefs_are i text mark part r is_row free room short stand = go 
         subst (λ (ws : List (Key × Option (List ℕ))). PartStands (view ws f) i (docs p text) (with_mark r (Some (Settled tt)) mark) (made 1 part)) (sym same)
         (part_synced f i (docs p text) mark part (r ∷ []) es ss (apart, tt) (is_row, free, tt) room words sections stand)
 
-    go : (o : Option (List ℕ)) → text r ≡ o → HasShortText o → PartStands (view (settle_with p i text (part.given + 1, r)) f) i (docs p text) (with_mark r (Some (Settled tt)) mark) (made 1 part)
+    go : (o : Option (List ℕ)) → text r ≡ o → IsShortOrNone o → PartStands (view (settle_with p i text (part.given + 1, r)) f) i (docs p text) (with_mark r (Some (Settled tt)) mark) (made 1 part)
     go None is few = settled [] [] (no_words p prefs_are i text part.given r is) (no_sections p prefs_are i text part.given r is) (present_map p i part.given r text is)
     go (Some t) is few =
         settled (words_alone i (part.given + 1) (word_terms (text_entries p t))) (sections_alone i (part.given + 1) (section_terms (text_entries p t)))
@@ -111,7 +111,7 @@ part_settled f p prefs_are i text mark part r is_row free room short stand = go 
 
 -- a row that has no mark becomes the next document
 pub part_marked : (f : Key → Option (List ℕ)) (p : Prefs) → IsPrefs p → (i : List ℕ) (text : ℤ → Option (List ℕ)) (mark : Marks) (part : Part) (r : ℤ)
-    → IsRow r → mark r ≡ None → part.given + 1 < 2 ^ 32 → HasShortText (text r) → PartStands f i (docs p text) mark part
+    → IsRow r → mark r ≡ None → part.given + 1 < 2 ^ 32 → IsShortOrNone (text r) → PartStands f i (docs p text) mark part
     → PartStands (view (mark_with p i text (part.given + 1, r)) f) i (docs p text) (with_mark r (Some (Settled tt)) mark) (made 1 part)
 part_marked f p prefs_are i text mark part r is_row none room short stand =
     subst (λ (g : Key → Option (List ℕ)). PartStands g i (docs p text) (with_mark r (Some (Settled tt)) mark) (made 1 part))
@@ -156,12 +156,12 @@ still_free free mark r (s ∷ rows) low all =
 -- changes that make one row the next document make several rows the next documents, one after the other
 pub parts_all : (changes : ℕ × ℤ → List (Key × Option (List ℕ))) (i : List ℕ) (doc : ℤ → Postings) (free : Option (Mark (Unit {0})) → Bool)
     → ((f : Key → Option (List ℕ)) (mark : Marks) (part : Part) (r : ℤ) → IsRow r → free (mark r) ≡ true → part.given + 1 < 2 ^ 32 → PartStands f i doc mark part → PartStands (view (changes (part.given + 1, r)) f) i doc (with_mark r (Some (Settled tt)) mark) (made 1 part))
-    → (rows : List ℤ) (f : Key → Option (List ℕ)) (mark : Marks) (part : Part) → keys_rise int_cmp rows ≡ true
+    → (rows : List ℤ) (f : Key → Option (List ℕ)) (mark : Marks) (part : Part) → keys_rise_by int_cmp rows ≡ true
     → EachRow (λ s. IsRow s × (free (mark s) ≡ true)) rows → part.given + length rows < 2 ^ 32 → PartStands f i doc mark part
     → PartStands (view (each changes (numbered (part.given + 1) rows)) f) i doc (settled_in rows mark) (made (length rows) part)
 parts_all changes i doc free step [] f mark part rise all room stand = stand
 parts_all changes i doc free step (r ∷ rs) f mark part rise all room stand =
-    let b = and_parts (keys_below int_cmp r rs) (keys_rise int_cmp rs) rise in
+    let b = and_parts (keys_below int_cmp r rs) (keys_rise_by int_cmp rs) rise in
     let one = step f mark part r all.0.0 all.0.1 (omega arith) stand in
     let rest = parts_all changes i doc free step rs (view (changes (part.given + 1, r)) f) (with_mark r (Some (Settled tt)) mark) (made 1 part) b.1 (still_free free mark r rs b.0 all.1) (omega arith) one in
     subst (λ (g : Key → Option (List ℕ)). PartStands g i doc (settled_in (r ∷ rs) mark) (made (length (r ∷ rs)) part)) (sym (view-append (changes (part.given + 1, r)) (each changes (numbered (part.given + 1 + 1) rs)) f))

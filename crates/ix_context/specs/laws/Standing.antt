@@ -4,7 +4,7 @@ use Rattle.std.specs.FinMap.{get}
 use Rattle.ct_entry.specs.declared.kinds.Kind.{Kind}
 use Rattle.ct_entry.specs.declared.kinds.Kind.TheVariants as kind
 use Rattle.ct_entry.specs.Keys.{Key, key, same_list}
-use Rattle.ct_entry.specs.Changes.{put, told, view, AllOf, AllOn}
+use Rattle.ct_entry.specs.Changes.{put_value, told, view, AllOf, AllOn}
 use Rattle.ct_entry.specs.laws.Keys.{list_from_same, key_same}
 use Rattle.ct_entry.specs.laws.Changes.{told_frame, told_others}
 use Rattle.ct_entry.specs.Maps.{Names}
@@ -118,9 +118,9 @@ no_entry k h = cc
 
 -- its change leaves what the others stand for
 pub entry_put : (f : Key → Option (List ℕ)) (i v : List ℕ) (doc : ℤ → Postings) (mark : Marks) (part : Part)
-    → PartStands f i doc mark part → PartStands (view (put (key kind.Indexes i []) v ∷ []) f) i doc mark part
+    → PartStands f i doc mark part → PartStands (view (put_value (key kind.Indexes i []) v ∷ []) f) i doc mark part
 entry_put f i v doc mark part stand =
-    part_agree f (view (put (key kind.Indexes i []) v ∷ []) f) i doc mark part (λ k owner of. told_frame is_entry (put (key kind.Indexes i []) v ∷ []) k (f k) (refl, tt) (no_entry k.kind of)) stand
+    part_agree f (view (put_value (key kind.Indexes i []) v ∷ []) f) i doc mark part (λ k owner of. told_frame is_entry (put_value (key kind.Indexes i []) v ∷ []) k (f k) (refl, tt) (no_entry k.kind of)) stand
 
-pub entry_here : (i : List ℕ) (v : List ℕ) (old : Option (List ℕ)) → told (put (key kind.Indexes i []) v ∷ []) (key kind.Indexes i []) old ≡ Some v
+pub entry_here : (i : List ℕ) (v : List ℕ) (old : Option (List ℕ)) → told (put_value (key kind.Indexes i []) v ∷ []) (key kind.Indexes i []) old ≡ Some v
 entry_here i v old = ap (λ (b : Bool). cond b (Some v) old) (key_same (key kind.Indexes i []))

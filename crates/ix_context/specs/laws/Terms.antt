@@ -18,7 +18,7 @@ use Rattle.tx_settings.specs.declared.preferences.Prefs.{Prefs}
 use Rattle.tx_document.specs.Entries.{section_stream, place_map, entry_of}
 use Rattle.tx_settings.specs.PrefsBytes.{IsPrefs}
 use Rattle.ix_rows.specs.WordRows.{word_term}
-use Rattle.ix_context.specs.Postings.{text_places, text_limit, is_section, section_term, word_in, section_in, word_terms, section_terms, IsOneOf, IsPosting}
+use Rattle.ix_context.specs.Postings.{places_in_text, indexed_text_limit, is_section_entry, section_term, word_in, section_in, word_terms, section_terms, IsSectionOrWord, IsPosting}
 use Rattle.ix_context.specs.laws.Postings.{Named, text_names, names_fit}
 
 -- the names of entries that make rows of postings
@@ -69,7 +69,7 @@ module _ {X : Type 0} (f : Entry → Option (List ℕ × X)) (tells : TellsNames
 -- the name of a word, and that of a section
 word_named : (n : Named) (s : List ℕ × List ℕ) → IsPosting (entry_of n) → word_in (entry_of n) ≡ Some s → (stream : ℕ) × ((token : List ℕ) × (n.0 ≡ stream ∷ token) × (s.0 ≡ word_term stream token))
 word_named ([], places) s fit is = let some = fit.token.some in absurd (omega arith)
-word_named (stream ∷ token, places) s fit is = go (is_section (entry_of (stream ∷ token, places))) is
+word_named (stream ∷ token, places) s fit is = go (is_section_entry (entry_of (stream ∷ token, places))) is
   where
     go : (b : Bool) → cond b None (Some (word_term stream token, map (λ (p : Pair). p.first) places)) ≡ Some s → (stream' : ℕ) × ((token' : List ℕ) × (stream ∷ token ≡ stream' ∷ token') × (s.0 ≡ word_term stream' token'))
     go true is = absurd (none_some s is)
@@ -77,9 +77,9 @@ word_named (stream ∷ token, places) s fit is = go (is_section (entry_of (strea
 
 section_named : (n : Named) (s : List ℕ × List Pair) → section_in (entry_of n) ≡ Some s → (token : List ℕ) × (n.0 ≡ section_stream ∷ token) × (s.0 ≡ section_term token)
 section_named ([], places) s is = absurd (none_some s is)
-section_named (stream ∷ token, places) s is = go (is_section (entry_of (stream ∷ token, places))) refl is
+section_named (stream ∷ token, places) s is = go (is_section_entry (entry_of (stream ∷ token, places))) refl is
   where
-    go : (b : Bool) → is_section (entry_of (stream ∷ token, places)) ≡ b → cond b (Some (section_term token, places)) None ≡ Some s → (token' : List ℕ) × (stream ∷ token ≡ section_stream ∷ token') × (s.0 ≡ section_term token')
+    go : (b : Bool) → is_section_entry (entry_of (stream ∷ token, places)) ≡ b → cond b (Some (section_term token, places)) None ≡ Some s → (token' : List ℕ) × (stream ∷ token ≡ section_stream ∷ token') × (s.0 ≡ section_term token')
     go true so is = (token, ap (λ (n : ℕ). n ∷ token) (eqb-true stream section_stream so), let e : s ≡ (section_term token, places) = cc in ap (λ (q : List ℕ × List Pair). q.0) e)
     go false so is = absurd (none_some s is)
 
@@ -109,19 +109,19 @@ sections_apart ns all up = apart_terms section_in sections_tell ns all up
 
 abbrev pub AllSections : List Entry → Type 0
 AllSections [] = Unit {0}
-AllSections (e ∷ es) = (is_section e ≡ true) × AllSections es
+AllSections (e ∷ es) = (is_section_entry e ≡ true) × AllSections es
 
 -- behind a section are sections only
 abbrev pub SectionsLast : List Entry → Type 0
 SectionsLast [] = Unit {0}
-SectionsLast (e ∷ es) = (is_section e ≡ true → AllSections es) × SectionsLast es
+SectionsLast (e ∷ es) = (is_section_entry e ≡ true → AllSections es) × SectionsLast es
 
 -- the name of a word comes before those of sections
-not_above : (token : List ℕ) (n : Named) → IsPosting (entry_of n) → is_lt (slice_cmp nat_cmp (section_stream ∷ token) n.0) ≡ true → is_section (entry_of n) ≡ true
+not_above : (token : List ℕ) (n : Named) → IsPosting (entry_of n) → is_lt (slice_cmp nat_cmp (section_stream ∷ token) n.0) ≡ true → is_section_entry (entry_of n) ≡ true
 not_above token ([], places) fit low = let wrong : false ≡ true = low in cc
-not_above token (stream ∷ other, places) fit low = go (is_section (entry_of (stream ∷ other, places))) refl fit
+not_above token (stream ∷ other, places) fit low = go (is_section_entry (entry_of (stream ∷ other, places))) refl fit
   where
-    go : (b : Bool) → is_section (entry_of (stream ∷ other, places)) ≡ b → IsOneOf b (entry_of (stream ∷ other, places)) → b ≡ true
+    go : (b : Bool) → is_section_entry (entry_of (stream ∷ other, places)) ≡ b → IsSectionOrWord b (entry_of (stream ∷ other, places)) → b ≡ true
     go true so fit = refl
     go false so fit =
         let least = fit.stream in
@@ -141,14 +141,14 @@ sections_last (n ∷ ns) all up =
     let b = and_parts (below (slice_cmp nat_cmp) n.0 ns) (rises (slice_cmp nat_cmp) ns) up in
     (after n b.0, sections_last ns all.1 b.1)
   where
-    after : (n : Named) → below (slice_cmp nat_cmp) n.0 ns ≡ true → is_section (entry_of n) ≡ true → AllSections (map entry_of ns)
+    after : (n : Named) → below (slice_cmp nat_cmp) n.0 ns ≡ true → is_section_entry (entry_of n) ≡ true → AllSections (map entry_of ns)
     after ([], places) low so = let wrong : false ≡ true = so in absurd (cc)
     after (stream ∷ token, places) low so = sections_above token ns all.1 (ap (λ (s : ℕ). below (slice_cmp nat_cmp) (s ∷ token) ns) (sym (eqb-true stream section_stream so)) ∙ low)
 
 -- ---- the names of a text
 
-pub names_of : (p : Prefs) → IsPrefs p → (text : List ℕ) → length text ≤ text_limit → AllFit (text_names p text)
+pub names_of : (p : Prefs) → IsPrefs p → (text : List ℕ) → length text ≤ indexed_text_limit → AllFit (text_names p text)
 names_of p is text short = recursion_from_All (λ (n : Named). IsPosting (entry_of n)) (text_names p text) (names_fit p text is (omega (arith, short)))
 
 pub names_rise : (p : Prefs) (text : List ℕ) → rises (slice_cmp nat_cmp) (text_names p text) ≡ true
-names_rise p text = entries_rise (slice_cmp nat_cmp) (place_map (text_places p text))
+names_rise p text = entries_rise (slice_cmp nat_cmp) (place_map (places_in_text p text))

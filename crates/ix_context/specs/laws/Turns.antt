@@ -15,7 +15,7 @@ use Rattle.ct_entry.specs.Maps.{Names}
 use Rattle.ct_entry.specs.laws.Changes.{told_frame, told-append, view-append}
 use Rattle.ct_entry.specs.laws.Each.{told_each_none}
 use Rattle.ct_entry.specs.laws.Parts.{int_from_eq, int_same, rows_tie, same_kind}
-use Rattle.ct_entry.specs.laws.Rows.{keys_below, keys_rise, apart_below}
+use Rattle.ct_entry.specs.laws.Rows.{keys_below, keys_rise_by, apart_below}
 use Rattle.tb_table.specs.Tables.{Tables, row_at}
 use Rattle.tb_table.specs.Rules.{AreTables}
 use Rattle.ix_docmap.specs.Changes.{gone_changes, changed_changes}
@@ -55,9 +55,9 @@ changed_others i j r s (Some d) old r_is s_is apart = ap (λ (b : Bool). cond b 
 -- ---- several rows
 
 -- rows whose keys rise are apart
-pub rising_apart : (rows : List ℤ) → keys_rise int_cmp rows ≡ true → AreApart rows
+pub rising_apart : (rows : List ℤ) → keys_rise_by int_cmp rows ≡ true → AreApart rows
 rising_apart [] rise = tt
-rising_apart (r ∷ rows) rise = let b = and_parts (keys_below int_cmp r rows) (keys_rise int_cmp rows) rise in (once rows (apart_below int_cmp r rows b.0), rising_apart rows b.1)
+rising_apart (r ∷ rows) rise = let b = and_parts (keys_below int_cmp r rows) (keys_rise_by int_cmp rows) rise in (once rows (apart_below int_cmp r rows b.0), rising_apart rows b.1)
   where
     once : (rows : List ℤ) → list_any (int_eq r) rows ≡ false → IsIn r rows → ⊥
     once [] none there = there

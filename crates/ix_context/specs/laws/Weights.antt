@@ -17,12 +17,12 @@ use Rattle.ct_entry.specs.Keys.{Key, key, bytes, at, HasKeysOnly, IsPart, IsDocu
 use Rattle.ct_entry.specs.laws.Keys.{kind_from_code}
 use Rattle.ix_posting.specs.declared.rows.RowDocument.{RowDocument}
 use Rattle.ix_posting.specs.declared.span_rows.SpanDocument.{SpanDocument}
+use Rattle.ix_posting.specs.Lists.{posting_list}
 use Rattle.ix_posting.specs.SpanRows.{IsSpanRow, span_row_bytes}
 use Rattle.ix_posting.specs.Rows.{IsPostingRow, posting_bytes}
 use Rattle.ct_entry.specs.Lists.{IsIn}
 use Rattle.ct_entry.specs.laws.Lists.{in_left, in_right, in_filter, apart_filter, sum_by-within, sum_by-parts}
 use Rattle.ix_rows.specs.Spelling.{row_key}
-use Rattle.ix_rows.specs.Posts.{posting_list}
 use Rattle.ix_rows.specs.laws.Posts.{in_posting_list, in_posting}
 use Rattle.ix_rows.specs.laws.Weighs.{each_in}
 use Rattle.ix_context.specs.Indexes.{Part}
@@ -37,8 +37,8 @@ use Rattle.ct_entry.specs.laws.MapEntries.{rises_apart, in_find}
 use Rattle.ix_rows.specs.WordRows.{document_number, word_term, IsWordTerm, posting_cost, word_cost}
 use Rattle.ix_rows.specs.laws.WordRows.{row_light}
 
-abbrev pub Entry : Type 0
-Entry = List ℕ × List ℕ
+abbrev pub StoredEntry : Type 0
+StoredEntry = List ℕ × List ℕ
 
 -- ---- the kinds of postings
 
@@ -46,7 +46,7 @@ abbrev first_byte : List ℕ → ℕ
 first_byte [] = 0
 first_byte (b ∷ bs) = b
 
-abbrev pub has_code : ℕ → Entry → Bool
+abbrev pub has_code : ℕ → StoredEntry → Bool
 has_code n e = first_byte e.0 == n
 
 -- ---- what settled rows have, as documents
@@ -82,20 +82,20 @@ module _ (c : Content) (only : HasKeysOnly c) (doc : List ℕ → ℤ → Postin
   abbrev number_of_row : List ℕ → ℤ → ℕ
   number_of_row i r = number_or ((stand i).document r)
 
-  entry_at : (e : Entry) → IsIn e (entries c) → (k : Key) × (e.0 ≡ bytes k) × IsPart k.kind k.part × (at c k ≡ Some e.1)
+  entry_at : (e : StoredEntry) → IsIn e (entries c) → (k : Key) × (e.0 ≡ bytes k) × IsPart k.kind k.part × (at c k ≡ Some e.1)
   entry_at e h =
       let has : get c e.0 ≡ Some e.1 = get-entries c e.0 ∙ in_find (slice_cmp nat_cmp) nat_list_cmp_total e (entries c) (entries_rise (slice_cmp nat_cmp) c) h in
       let k = only e.0 (subst IsSome (sym has) refl) in
       (k.0, k.1, k.2.part, ap (get c) (sym k.1) ∙ has)
 
-  kind_at : (k : Kind) (e : Entry) → IsIn e (entries c) → has_code (code k) e ≡ true → (i part : List ℕ) × (e.0 ≡ bytes (key k i part)) × IsPart k part × (at c (key k i part) ≡ Some e.1)
+  kind_at : (k : Kind) (e : StoredEntry) → IsIn e (entries c) → has_code (code k) e ≡ true → (i part : List ℕ) × (e.0 ≡ bytes (key k i part)) × IsPart k part × (at c (key k i part) ≡ Some e.1)
   kind_at k e h is =
       let a = entry_at e h in
       let same : a.0.kind ≡ k = kind_from_code a.0.kind k (sym (ap first_byte a.1) ∙ eqb-true (first_byte e.0) (code k) is) in
       let whole : a.0 ≡ key k a.0.owner a.0.part = λ j. key (same j) a.0.owner a.0.part in
       (a.0.owner, a.0.part, a.1 ∙ ap bytes whole, subst (λ (z : Kind). IsPart z a.0.part) same a.2, ap (at c) (sym whole) ∙ a.3)
 
-  word_entry : (e : Entry) → IsIn e (entries c) → has_code (code kind.Postings) e ≡ true
+  word_entry : (e : StoredEntry) → IsIn e (entries c) → has_code (code kind.Postings) e ≡ true
       → (i term : List ℕ) × ((d : ℕ) × IsWordTerm term × IsDocument d × (e.0 ≡ bytes (key kind.Postings i (row_key term d))) × (at c (key kind.Postings i (row_key term d)) ≡ Some e.1))
   word_entry e h is =
       let k = kind_at kind.Postings e h is in
@@ -103,7 +103,7 @@ module _ (c : Content) (only : HasKeysOnly c) (doc : List ℕ → ℤ → Postin
       let part : k.1 ≡ row_key (word_term p.0 p.2.0) p.1 = p.2.4 in
       (k.0, word_term p.0 p.2.0, (p.1, (p.0, (p.2.0, p.2.1, p.2.2, refl)), p.2.3, k.2 ∙ ap (λ (q : List ℕ). bytes (key kind.Postings k.0 q)) part, sym (ap (λ (q : List ℕ). at c (key kind.Postings k.0 q)) part) ∙ k.4))
 
-  span_entry : (e : Entry) → IsIn e (entries c) → has_code (code kind.Spans) e ≡ true
+  span_entry : (e : StoredEntry) → IsIn e (entries c) → has_code (code kind.Spans) e ≡ true
       → (i term : List ℕ) × ((d : ℕ) × IsSpanTerm term × IsDocument d × (e.0 ≡ bytes (key kind.Spans i (row_key term d))) × (at c (key kind.Spans i (row_key term d)) ≡ Some e.1))
   span_entry e h is =
       let k = kind_at kind.Spans e h is in
@@ -171,7 +171,7 @@ module _ (c : Content) (only : HasKeysOnly c) (doc : List ℕ → ℤ → Postin
         )
 
     -- WEIGHT AND ROOM: `rest` has all entries of other kinds
-    pub weighs : (rest : List Entry) → ((e : Entry) → IsIn e (entries c) → has_code (code kind.Postings) e ≡ false → has_code (code kind.Spans) e ≡ false → IsIn e rest) → weight c ≤ sum_by entry_weight rest + sum_by postings_room names
+    pub weighs : (rest : List StoredEntry) → ((e : StoredEntry) → IsIn e (entries c) → has_code (code kind.Postings) e ≡ false → has_code (code kind.Spans) e ≡ false → IsIn e rest) → weight c ≤ sum_by entry_weight rest + sum_by postings_room names
     weighs rest others =
         let es = entries c in
         let apart = rises_apart (slice_cmp nat_cmp) nat_list_cmp_total es (entries_rise (slice_cmp nat_cmp) c) in
@@ -180,7 +180,7 @@ module _ (c : Content) (only : HasKeysOnly c) (doc : List ℕ → ℤ → Postin
         let left_apart = apart_filter (λ e. not (has_code (code kind.Postings) e)) es apart in
         let ss = filter (has_code (code kind.Spans)) left in
         let os = filter (λ e. not (has_code (code kind.Spans) e)) left in
-        let in_left_es : (e : Entry) → IsIn e left → IsIn e es × (not (has_code (code kind.Postings) e) ≡ true) = λ e h. in_filter (λ e. not (has_code (code kind.Postings) e)) e es h in
+        let in_left_es : (e : StoredEntry) → IsIn e left → IsIn e es × (not (has_code (code kind.Postings) e) ≡ true) = λ e h. in_filter (λ e. not (has_code (code kind.Postings) e)) e es h in
         let of_words = kind_weighs document_number posting_bytes IsPostingRow IsWordTerm word_cost kind.Postings (λ i e r. row_light i e r) (at c) (λ i. want_words (doc i)) (λ i. (stand i).row) (λ i. (part i).given) (λ i. (part i).tidiness) (λ i. (stand i).words_waste) (λ i. (stand i).word_rows) (λ i. (stand i).words)
         ws names word_its (apart_filter (has_code (code kind.Postings)) es apart) (λ e h. let p = in_filter (has_code (code kind.Postings)) e es h in word_entry e p.0 p.1) words_named
         (λ i term d r x is has wants. let l = row_listed i r d has in in_rows word_posting (number_of_row i) (λ r. entries (doc i r).words) (rows i) r (term, x) l.0 (subst (λ (n : ℕ). IsIn {A = List ℕ × RowDocument} (term, x) (its word_posting n (doc i r).words)) l.1 (in_its word_posting d (doc i r).words term x wants)))

@@ -10,9 +10,9 @@ use Rattle.ct_bytes.specs.laws.Varints.{varint_length}
 use Rattle.ct_bytes.specs.laws.RowKeys.{length-row_bytes}
 use Rattle.ct_keep.specs.Content.{value_limit}
 use Rattle.ct_entry.specs.declared.kinds.Kind.TheVariants as kind
-use Rattle.ct_entry.specs.Keys.{Key, key, IsRow, IsKey}
+use Rattle.ct_entry.specs.Keys.{Key, key, IsRow, IsKeyOfKind}
 use Rattle.ct_entry.specs.Maps.{Names}
-use Rattle.ct_entry.specs.Changes.{put, AreChanges, AllOf, Puts}
+use Rattle.ct_entry.specs.Changes.{put_value, AreChanges, AllOf, Puts}
 use Rattle.ct_entry.specs.Each.{each}
 use Rattle.tb_table.specs.declared.columns.Target.{Target}
 use Rattle.tb_table.specs.Tables.{Tables}
@@ -26,7 +26,7 @@ use Rattle.ix_context.specs.declared.ranges.KeyRange.{KeyRange}
 use Rattle.tx_settings.specs.declared.preferences.Prefs.{Prefs}
 use Rattle.tx_document.specs.declared.entries.Entry.{Entry}
 use Rattle.tx_settings.specs.PrefsBytes.{IsPrefs, prefs_bytes}
-use Rattle.ix_context.specs.Postings.{text_entries, is_section, firsts, IsOneOf, IsPosting}
+use Rattle.ix_context.specs.Postings.{text_entries, is_section_entry, first_positions, IsSectionOrWord, IsPosting}
 use Rattle.ix_context.specs.Documents.{word_posting, span_posting}
 use Rattle.tx_settings.specs.laws.Lengths.{prefs_are_short}
 use Rattle.ix_context.specs.laws.Postings.{most_places, entries_fit, entries_few}
@@ -35,7 +35,7 @@ use Rattle.ix_context.specs.Indexes.{Index, given, marks_in, pending_rows, text_
 use Rattle.ix_context.specs.Rules.{AreIndexes, most_given}
 use Rattle.ix_context.specs.Spelling.{index_bytes, after_table, index_entry, is_of_indexes}
 use Rattle.ct_entry.specs.Each.{numbered}
-use Rattle.ix_context.specs.Changes.{note_insert_changes, word_change, section_change, entry_change, text_changes, document_changes, mark_changes, settle_changes, sync_rows_changes, sync_changes, create_changes}
+use Rattle.ix_context.specs.Changes.{note_insert_changes, word_change, section_change, entry_change, text_changes, document_changes, seen_document_changes, settle_changes, sync_rows_changes, sync_changes, create_changes}
 use Rattle.ix_context.specs.laws.Settling.{EachRow}
 use Rattle.ix_context.specs.laws.Changes.{rows_wait, no_marks, rows_free}
 use Rattle.ix_context.specs.laws.Reading.{target_of}
@@ -45,7 +45,7 @@ use Rattle.ix_context.specs.laws.Texts.{target_short}
 
 -- A change on an entry of an index, with a value that an entry may have.
 pub record IsIndexChange (w : Key × Option (List ℕ)) : Type 0 where
-  pub key : IsKey w.0
+  pub key : IsKeyOfKind w.0
   pub of : is_of_indexes w.0.kind ≡ true
   pub bounded : Puts (λ k v. length v ≤ value_limit) w.0 w.1
 
@@ -130,9 +130,9 @@ IsTableText None = Unit {0}
 IsTableText (Some text) = length text ≤ 4000
 
 -- the values of rows of one document are bounded, where there are few places
-pub length-word_le : (d : ℕ) (e : Entry) → length e.places ≤ most_places → length (posting_bytes (word_posting d (firsts e.places) ∷ [])) ≤ value_limit
+pub length-word_le : (d : ℕ) (e : Entry) → length e.places ≤ most_places → length (posting_bytes (word_posting d (first_positions e.places) ∷ [])) ≤ value_limit
 length-word_le d e few =
-    let long = length-one_row_le d (firsts e.places) in
+    let long = length-one_row_le d (first_positions e.places) in
     let same = length-map e.places (λ (p : Pair). p.first) in
     omega (arith, long, same, few)
 
@@ -140,9 +140,9 @@ pub length-section_le : (d : ℕ) (e : Entry) → length e.places ≤ most_place
 length-section_le d e few = let long = length-section_row_le d e.places in omega (arith, long, few)
 
 one_posting : (i : List ℕ) (d : ℕ) (e : Entry) → IsName i → d < 2 ^ 32 → IsPosting e → length e.places ≤ most_places → IsIndexChange (entry_change i d e)
-one_posting i d e name doc fit few = go (is_section e) fit
+one_posting i d e name doc fit few = go (is_section_entry e) fit
   where
-    go : (b : Bool) → IsOneOf b e → IsIndexChange (cond b (section_change i d e) (word_change i d e))
+    go : (b : Bool) → IsSectionOrWord b e → IsIndexChange (cond b (section_change i d e) (word_change i d e))
     go true is = record { key = record { owner = name; part = (d, (e.token, is.named, doc, refl)) }; of = refl; bounded = length-section_le d e few }
     go false is = record { key = record { owner = name; part = (e.stream, d, (e.token, is.stream, is.token, doc, refl)) }; of = refl; bounded = length-word_le d e few }
 
@@ -176,7 +176,7 @@ target_is_table_text ts are target r = go (target_text ts target r) refl
 pub index_changes_note : (i : List ℕ) (r : ℤ) → IsName i → IsRow r → AreIndexChanges (note_insert_changes i r)
 index_changes_note i r name row = (record { key = record { owner = name; part = (r, row, refl) }; of = refl; bounded = omega arith }, tt)
 
-index_put : (i : List ℕ) (t : List ℕ) (c : ℕ) (p : Prefs) (n : ℕ) → IsName i → IsName t → IsPrefs p → IsIndexChange (put (key kind.Indexes i []) (index_bytes t c p n))
+index_put : (i : List ℕ) (t : List ℕ) (c : ℕ) (p : Prefs) (n : ℕ) → IsName i → IsName t → IsPrefs p → IsIndexChange (put_value (key kind.Indexes i []) (index_bytes t c p n))
 index_put i t c p n name table are =
     record { key = record { owner = name; part = refl }; of = refl; bounded = let long = length-entry_le t c p n table are in omega (arith, long) }
 
@@ -201,13 +201,13 @@ index_changes_sync ts xs i x are rules is room =
     go : (rows : List ℤ) → EachRow IsRow rows → given x + length rows ≤ most_given → AreIndexChanges (sync_rows_changes ts i x rows)
     go [] rows_are room = tt
     go (r ∷ rs) rows_are room =
-        index_changes-append (each (settle_changes ts i x) (numbered (given x + 1) (r ∷ rs))) (put (key kind.Indexes i []) (index_entry (synced_index x)) ∷ []) (index_changes-each (settle_changes ts i x) one (r ∷ rs) (given x + 1) (omega arith) rows_are)
+        index_changes-append (each (settle_changes ts i x) (numbered (given x + 1) (r ∷ rs))) (put_value (key kind.Indexes i []) (index_entry (synced_index x)) ∷ []) (index_changes-each (settle_changes ts i x) one (r ∷ rs) (given x + 1) (omega arith) rows_are)
         (index_put i x.table x.column x.prefs (given (synced_index x) + 1) (rules.names i x is) table (rules.each i x is).prefs, tt)
 
 pub index_changes_create : (ts : Tables) (i : List ℕ) (target : Target) (prefs : Prefs) (range : KeyRange) → AreTables ts → IsName i → IsName target.table → IsPrefs prefs
     → length (rows_in ts target.table range) ≤ most_given → AreIndexChanges (create_changes ts i target prefs range)
 index_changes_create ts i target prefs range are name table prefs_are room = (
   index_put i target.table target.column prefs (given (created ts target prefs range) + 1) name table prefs_are,
-  index_changes-each (λ (n : ℕ × ℤ). mark_changes ts i (created ts target prefs range) n.0 n.1) (λ d r doc row. index_changes_document prefs prefs_are i d r (target_text ts target r) name doc row (target_is_table_text ts are target r)) (rows_in ts target.table range) 1 (omega arith)
+  index_changes-each (λ (n : ℕ × ℤ). seen_document_changes ts i (created ts target prefs range) n.0 n.1) (λ d r doc row. index_changes_document prefs prefs_are i d r (target_text ts target r) name doc row (target_is_table_text ts are target r)) (rows_in ts target.table range) 1 (omega arith)
       (each_row (λ s. not (is_some (no_marks s)) ≡ true) (rows_in ts target.table range) (rows_free ts are target.table range)),
 )

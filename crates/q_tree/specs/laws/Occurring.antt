@@ -3,7 +3,7 @@ use Rattle.std.proofs.Common.{ℕ, ◌≡◌, ◌+◌, ◌&&◌, ◌||◌, nat_l
 use Rattle.std.specs.List.{filter}
 use Rattle.std.proofs.lemmas.Bool.{leb-true, le-leb}
 use Rattle.ct_base.specs.laws.Bools.{same_tests}
-use Rattle.ix_spans.specs.Occurrences.{has, occurs_at}
+use Rattle.ix_spans.specs.Occurrences.{has_number, occurs_at}
 use Rattle.ix_spans.specs.Rising.{Above, Rising}
 use Rattle.ix_spans.specs.laws.Rising.{above_lower, above_rises}
 use Rattle.ix_spans.specs.laws.Starts.{starts_are, starts_rise}
@@ -22,11 +22,11 @@ and_false true y = refl
 and_false false y = refl
 
 -- the positions of a slot are those of the words that it takes
-pub word_stands : (ws : List DocWord) (stream : ℕ) (slot : Slot) (n : ℕ) → has (word_positions stream slot ws) n ≡ stands_at ws stream slot n
+pub word_stands : (ws : List DocWord) (stream : ℕ) (slot : Slot) (n : ℕ) → has_number (word_positions stream slot ws) n ≡ stands_at ws stream slot n
 word_stands [] stream slot n = refl
 word_stands (w ∷ ws) stream slot n = go (fits_word stream slot w) (word_stands ws stream slot n)
   where
-    go : (b : Bool) → has (word_positions stream slot ws) n ≡ stands_at ws stream slot n → has (map (λ (v : DocWord). v.position) (cond b (w ∷ filter (fits_word stream slot) ws) (filter (fits_word stream slot) ws))) n ≡ ((eqb w.position n && b) || stands_at ws stream slot n)
+    go : (b : Bool) → has_number (word_positions stream slot ws) n ≡ stands_at ws stream slot n → has_number (map (λ (v : DocWord). v.position) (cond b (w ∷ filter (fits_word stream slot) ws) (filter (fits_word stream slot) ws))) n ≡ ((eqb w.position n && b) || stands_at ws stream slot n)
     go true rest = ap (λ t. eqb w.position n || t) rest ∙ ap (λ t. t || stands_at ws stream slot n) (and_true (eqb w.position n))
     go false rest = rest ∙ and_false (eqb w.position n) (stands_at ws stream slot n)
 
@@ -55,7 +55,7 @@ moved false true true c = refl
 moved false true false c = refl
 moved false false b c = refl
 
-pub occurs_where : (ws : List DocWord) (ss : List DocSection) (stream : ℕ) (phrase : List Slot) (lo hi p : ℕ) → is_phrase phrase ≡ true → has (occurrences phrase (postings_of_words ws ss) stream lo hi) p ≡ occurs ws stream phrase lo hi p
+pub occurs_where : (ws : List DocWord) (ss : List DocSection) (stream : ℕ) (phrase : List Slot) (lo hi p : ℕ) → is_phrase phrase ≡ true → has_number (occurrences phrase (postings_of_words ws ss) stream lo hi) p ≡ occurs ws stream phrase lo hi p
 occurs_where ws ss stream [] lo hi p h = cc
 occurs_where ws ss stream (Any ∷ phrase) lo hi p h = cc
 occurs_where ws ss stream (Takes keys patterns ∷ phrase) lo hi p h =
@@ -63,8 +63,8 @@ occurs_where ws ss stream (Takes keys patterns ∷ phrase) lo hi p h =
     let first = word_positions stream (Takes keys patterns) ws in
     let count : nat_le (p + length slots) hi ≡ nat_le (p + suc (length phrase)) (hi + 1) = ap (λ n. nat_le (p + n) hi) (slot_count ws ss stream phrase) ∙ last_place p (length phrase) hi in
     starts_are first slots lo hi p
-    ∙ moved (has first p) (nat_le lo p) (nat_le (p + length slots) hi) (occurs_at slots (p + 1))
-    ∙ ap (λ t. nat_le lo p && t && (has first p && occurs_at slots (p + 1))) count
+    ∙ moved (has_number first p) (nat_le lo p) (nat_le (p + length slots) hi) (occurs_at slots (p + 1))
+    ∙ ap (λ t. nat_le lo p && t && (has_number first p && occurs_at slots (p + 1))) count
     ∙ ap (λ t. nat_le lo p && nat_le (p + suc (length phrase)) (hi + 1) && t) (slots_stand ws ss stream (Takes keys patterns ∷ phrase) p)
 
 -- ---- in rising order

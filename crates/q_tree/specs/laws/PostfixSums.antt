@@ -2,10 +2,11 @@
 use Rattle.std.proofs.Common.{ℕ, ◌≡◌, ◌+◌, ◌&&◌, not, Bool, true, false, suc, List, [], ◌∷◌, ◌++◌, length, Option, Some, None, refl, sym, ap, subst, ◌∙◌, arith, append_assoc, append-nil}
 use Rattle.std.specs.Prelude.{ℤ}
 use Rattle.std.proofs.lemmas.Bool.{and_parts, eqb-true}
+use Rattle.ct_base.specs.laws.Options.{same_value}
 use Rattle.q_tree.specs.declared.flats.SumStep.{SumStep}
 use Rattle.q_tree.specs.declared.flats.SumStep.TheVariants.{Number, Discrete, Occurrence, Plus, Minus as Less, Times}
 use Rattle.q_tree.specs.Soundness.{is_operator, values_after, values, is_one}
-use Rattle.q_tree.specs.Sums.{Sum, Atom, Both, is_tree, atom_value, operated, value, postfix, sum_step, sum_of, steps_value, top, IsPostfix}
+use Rattle.q_tree.specs.Sums.{Sum, Atom, Both, is_tree, atom_value, operator_value, sum_value, postfix, sum_step, sum_of, steps_value, top, IsPostfix}
 
 -- ---- values
 
@@ -17,7 +18,7 @@ atom_step k Plus stack h = cc
 atom_step k Less stack h = cc
 atom_step k Times stack h = cc
 
-operator_step : (k : ℕ) (op : SumStep) (a b : ℤ) (stack : List ℤ) → is_operator op ≡ true → sum_step k op (b ∷ a ∷ stack) ≡ operated op a b ∷ stack
+operator_step : (k : ℕ) (op : SumStep) (a b : ℤ) (stack : List ℤ) → is_operator op ≡ true → sum_step k op (b ∷ a ∷ stack) ≡ operator_value op a b ∷ stack
 operator_step k (Number n) a b stack h = cc
 operator_step k Discrete a b stack h = cc
 operator_step k Occurrence a b stack h = cc
@@ -26,17 +27,17 @@ operator_step k Less a b stack h = refl
 operator_step k Times a b stack h = refl
 
 -- the steps of a sum put its value on the stack
-runs : (k : ℕ) (e : Sum) (rest : List SumStep) (stack : List ℤ) → is_tree e ≡ true → sum_of k (postfix e ++ rest) stack ≡ sum_of k rest (value k e ∷ stack)
+runs : (k : ℕ) (e : Sum) (rest : List SumStep) (stack : List ℤ) → is_tree e ≡ true → sum_of k (postfix e ++ rest) stack ≡ sum_of k rest (sum_value k e ∷ stack)
 runs k (Atom s) rest stack h = ap (sum_of k rest) (atom_step k s stack h)
 runs k (Both op a b) rest stack h =
     let p = and_parts (is_operator op) (is_tree a && is_tree b) h in
     let q = and_parts (is_tree a) (is_tree b) p.1 in
     ap (λ ss. sum_of k ss stack) (append_assoc (postfix a) (postfix b ++ op ∷ []) rest ∙ ap (λ ss. postfix a ++ ss) (append_assoc (postfix b) (op ∷ []) rest))
     ∙ runs k a (postfix b ++ op ∷ rest) stack q.0
-    ∙ runs k b (op ∷ rest) (value k a ∷ stack) q.1
-    ∙ ap (sum_of k rest) (operator_step k op (value k a) (value k b) stack p.0)
+    ∙ runs k b (op ∷ rest) (sum_value k a ∷ stack) q.1
+    ∙ ap (sum_of k rest) (operator_step k op (sum_value k a) (sum_value k b) stack p.0)
 
-pub postfix_value : (k : ℕ) (e : Sum) → is_tree e ≡ true → steps_value k (postfix e) ≡ value k e
+pub postfix_value : (k : ℕ) (e : Sum) → is_tree e ≡ true → steps_value k (postfix e) ≡ sum_value k e
 postfix_value k e h = ap (λ ss. steps_value k ss) (sym (append-nil (postfix e))) ∙ ap top (runs k e [] [] h)
 
 -- ---- the postfix form of a sum leaves one value
@@ -49,7 +50,8 @@ atom_count Plus h = cc
 atom_count Less h = cc
 atom_count Times h = cc
 
-two_less : (n : ℕ) → values_after true (n + 1 + 1) ≡ Some (n + 1)
+-- of two values more an operator leaves one
+pub two_less : (n : ℕ) → values_after true (n + 1 + 1) ≡ Some (n + 1)
 two_less n = let e : n + 1 + 1 ≡ suc (suc n) = omega arith in let f : suc n ≡ n + 1 = omega arith in ap (values_after true) e ∙ ap Some f
 
 counts : (e : Sum) (rest : List SumStep) (n : ℕ) → is_tree e ≡ true → values (postfix e ++ rest) n ≡ values rest (n + 1)
@@ -82,11 +84,8 @@ record Leaves (ss : List SumStep) (n : ℕ) : Type 0 where
   count : length sums ≡ n
   steps : postfixes sums ≡ ss
 
-some-is : (m n : ℕ) → Some m ≡ Some n → m ≡ n
-some-is m n h = cc
-
 leaves : (ss : List SumStep) (es : List Sum) (n : ℕ) → AreTrees es → values ss (length es) ≡ Some n → Leaves (postfixes es ++ ss) n
-leaves [] es n ts h = record { sums = es; trees = ts; count = some-is (length es) n h; steps = sym (append-nil (postfixes es)) }
+leaves [] es n ts h = record { sums = es; trees = ts; count = same_value (length es) n h; steps = sym (append-nil (postfixes es)) }
 leaves (s ∷ ss) es n ts h = go (is_operator s) refl es ts (leaves ss) h
   where
     go : (o : Bool) → is_operator s ≡ o → (es : List Sum) → AreTrees es

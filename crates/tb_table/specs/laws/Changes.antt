@@ -17,7 +17,7 @@ use Rattle.ct_entry.specs.laws.Parts.{rows_tie, texts_tie, same_kind, int_from_e
 use Rattle.ct_entry.specs.laws.Maps.{get_name-insert, get_row-insert}
 use Rattle.ct_entry.specs.laws.Changes.{told_frame}
 use Rattle.tb_table.specs.declared.columns.Column.{Column}
-use Rattle.tb_table.specs.Tables.{Table, Tables, row_in, row_at, numbers_of, as_text, text_in, text_of, texts_from, texts_of, with_table, with_row}
+use Rattle.tb_table.specs.Tables.{Table, Tables, row_in, row_at, numbers_of, as_text, text_in, text_in_column, texts_from, texts_of, with_table, with_row}
 use Rattle.ct_entry.specs.Maps.{altered}
 use Rattle.tb_table.specs.Spelling.{columns_bytes, row_numbers_bytes, TablesStand, table_changes, row_text_changes, insert_changes}
 
@@ -115,7 +115,7 @@ stand_create f ts t columns none stand = record {
       ∙ at_table (same_list q t) (get ts q)
       ∙ ap (option_map (λ (x : Table). columns_bytes x.columns)) (sym (get-with_table ts t columns q));
   numbers = λ q s row. stand.numbers q s row ∙ ap (option_map (λ vs. row_numbers_bytes (numbers_of vs))) (sym (row_at-with_table ts t columns none q s));
-  texts = λ q c s few row. stand.texts q c s few row ∙ ap (option_and_then (λ vs. text_of vs c)) (sym (row_at-with_table ts t columns none q s));
+  texts = λ q c s few row. stand.texts q c s few row ∙ ap (option_and_then (λ vs. text_in_column vs c)) (sym (row_at-with_table ts t columns none q s));
 }
   where
     at_table : (b : Bool) (o : Option Table) → cond (b && true) (Some (columns_bytes columns)) (option_map (λ (x : Table). columns_bytes x.columns) o) ≡ option_map (λ (x : Table). columns_bytes x.columns) (cond b (Some (new_table columns)) o)
@@ -142,7 +142,7 @@ text_from_at from (suc place) (v ∷ vs) =
     ∙ ap (text_from (suc from) vs) (let e : suc place + from ≡ place + suc from = omega arith in e)
     ∙ text_from_at (suc from) place vs
 
-text_from-text_of : (vs : List Value) (c : ℕ) → text_from 1 vs c ≡ text_of vs c
+text_from-text_of : (vs : List Value) (c : ℕ) → text_from 1 vs c ≡ text_in_column vs c
 text_from-text_of vs zero = text_from_passed 1 vs 0 (omega arith)
 text_from-text_of vs (suc place) = ap (text_from 1 vs) (let e : suc place ≡ place + 1 = omega arith in e) ∙ text_from_at 1 place vs
 
@@ -184,7 +184,7 @@ no_row ts t r x is none = ap (λ (o : Option Table). row_in o r) is ∙ none
 -- the numbers and some texts of a row were put: the tables stand with the row where its texts do
 pub row_stands : (f : Key → Option (List ℕ)) (ts : Tables) (t : List ℕ) (r : ℤ) (vs : List Value) (texts : List (ℕ × List ℕ)) (x : Table) → get ts t ≡ Some x → IsRow r → TablesStand f ts
     → ((q : List ℕ) (c : ℕ) (s : ℤ) → c < 256 → IsRow s
-    → told (row_text_changes t r texts) (key kind.RowTexts q (text_part c s)) (f (key kind.RowTexts q (text_part c s))) ≡ option_and_then (λ ws. text_of ws c) (row_at (with_row ts t r vs) q s))
+    → told (row_text_changes t r texts) (key kind.RowTexts q (text_part c s)) (f (key kind.RowTexts q (text_part c s))) ≡ option_and_then (λ ws. text_in_column ws c) (row_at (with_row ts t r vs) q s))
     → TablesStand (view (insert_changes t r (numbers_of vs) texts) f) (with_row ts t r vs)
 row_stands f ts t r vs texts x is row stand each = record {
   tables = λ q.
@@ -208,9 +208,9 @@ pub stand_insert : NewRowsStand
 stand_insert f ts t r vs x is none row stand = row_stands f ts t r vs (texts_of vs) x is row stand (λ q c s few here.
     told_texts t r q c s row here 1 vs (f (key kind.RowTexts q (text_part c s)))
     ∙ ap (λ (o : Option (List ℕ)). cond (same_list q t && int_eq s r) (option_or (text_from 1 vs c) o) o) (stand.texts q c s few here)
-    ∙ ap (λ (o : Option (List ℕ)). cond (same_list q t && int_eq s r) (option_or o (option_and_then (λ ws. text_of ws c) (row_at ts q s))) (option_and_then (λ ws. text_of ws c) (row_at ts q s))) (text_from-text_of vs c)
+    ∙ ap (λ (o : Option (List ℕ)). cond (same_list q t && int_eq s r) (option_or o (option_and_then (λ ws. text_in_column ws c) (row_at ts q s))) (option_and_then (λ ws. text_in_column ws c) (row_at ts q s))) (text_from-text_of vs c)
     ∙ at_texts c (same_list q t) (int_eq s r) (row_at ts q s) (absent q s)
-    ∙ ap (option_and_then (λ ws. text_of ws c)) (sym (row_at-with_row ts t r vs x is q s)))
+    ∙ ap (option_and_then (λ ws. text_in_column ws c)) (sym (row_at-with_row ts t r vs x is q s)))
   where
     absent : (q : List ℕ) (s : ℤ) → same_list q t ≡ true → int_eq s r ≡ true → row_at ts q s ≡ None
     absent q s a b = ap (λ (o : List ℕ). row_at ts o s) (list_from_same q t a) ∙ ap (row_at ts t) (int_from_eq s r b) ∙ no_row ts t r x is none
@@ -220,7 +220,7 @@ stand_insert f ts t r vs x is none row stand = row_stands f ts t r vs (texts_of 
     or_none (Some y) = refl
 
     at_texts : (c : ℕ) (a b : Bool) (old : Option (List Value)) → (a ≡ true → b ≡ true → old ≡ None)
-        → cond (a && b) (option_or (text_of vs c) (option_and_then (λ ws. text_of ws c) old)) (option_and_then (λ ws. text_of ws c) old) ≡ option_and_then (λ ws. text_of ws c) (cond a (cond b (Some vs) old) old)
-    at_texts c true true old gone = ap (λ (o : Option (List Value)). option_or (text_of vs c) (option_and_then (λ ws. text_of ws c) o)) (gone refl refl) ∙ or_none (text_of vs c)
+        → cond (a && b) (option_or (text_in_column vs c) (option_and_then (λ ws. text_in_column ws c) old)) (option_and_then (λ ws. text_in_column ws c) old) ≡ option_and_then (λ ws. text_in_column ws c) (cond a (cond b (Some vs) old) old)
+    at_texts c true true old gone = ap (λ (o : Option (List Value)). option_or (text_in_column vs c) (option_and_then (λ ws. text_in_column ws c) o)) (gone refl refl) ∙ or_none (text_in_column vs c)
     at_texts c true false old gone = refl
     at_texts c false b old gone = refl

@@ -9,7 +9,7 @@ use Rattle.std.specs.declared.cmp.Ordering.TheVariants.{Less, Equal, Greater}
 use Rattle.std.specs.Ordering.{nat_cmp, int_cmp, is_lt, eq_by_cmp, ordering_reverse}
 use Rattle.std.specs.Cmp.Lexicographic.{slice_cmp}
 use Rattle.std.proofs.lemmas.Cmp.{nat_list_cmp_total, tied_itself}
-use Rattle.std.specs.FinMap.{get, entries, empty, len-empty, len-entries, get-empty, contains_key-keys}
+use Rattle.std.specs.FinMap.{get, entries, empty, get-empty, contains_key-keys}
 use Rattle.ct_base.specs.Names.{is_kept}
 use Rattle.ct_base.specs.laws.Names.{name_is_kept}
 use Rattle.ct_base.specs.declared.lists.Value.{Value}
@@ -19,15 +19,15 @@ use Rattle.std.proofs.lemmas.Bool.{and_parts, and_from}
 use Rattle.ct_keep.specs.RisingKeys.{below, rises, entries_rise}
 use Rattle.ct_entry.specs.declared.kinds.Kind.TheVariants as kind
 use Rattle.ct_entry.specs.Keys.{Key, key, at, same_list, row_part, text_part, IsRow, HasKeysOnly}
-use Rattle.ct_entry.specs.Each.{is_among}
+use Rattle.ct_entry.specs.Each.{is_any_of}
 use Rattle.ct_entry.specs.laws.Keys.{list_from_same, list_same}
-use Rattle.ct_entry.specs.laws.Maps.{names_tie}
+use Rattle.ct_entry.specs.laws.Maps.{names_tie, entries-none}
 use Rattle.ct_entry.specs.Listings.{keys_where, first_of, rows_above, row_after, rows_under}
 use Rattle.ct_entry.specs.laws.Rows.{IsPlace, rows_listed, next_row_listed, keys_always}
 use Rattle.tb_table.specs.declared.columns.Sort.{Sort}
 use Rattle.tb_table.specs.declared.columns.Sort.TheVariants.{Number, Varchar2, Clob}
 use Rattle.tb_table.specs.declared.columns.Column.{Column}
-use Rattle.tb_table.specs.Tables.{Table, Tables, row_in, row_at, numbers_of, as_text, text_in, text_of, keys_in, row_keys}
+use Rattle.tb_table.specs.Tables.{Table, Tables, row_in, row_at, numbers_of, as_text, text_in, text_in_column, keys_in, row_keys}
 use Rattle.tb_table.specs.Spelling.{sort_size, columns_bytes, row_numbers_bytes, TablesStand}
 use Rattle.tb_table.specs.Rules.{HasAllowedSize, IsOfSort, FitColumns, AllColumns, AreColumns, others, AreTables}
 use Rattle.tb_table.specs.Readings.{EachSpellable, AreSpellable, EachFits, SpellsColumns, SpellsNumbers, SpellsText, all_above, names_rise, AreTableNames}
@@ -86,7 +86,7 @@ numbers_fit (c ∷ cs) (NumberValue n ∷ vs) fit = (number c.sort fit.0, number
     number Clob fits = absurd fits
 numbers_fit (c ∷ cs) (TextValue text ∷ vs) fit = numbers_fit cs vs fit.1
 
-text_is_utf8 : (s : Sort) (v : Value) (text : List ℕ) → IsOfSort s v → as_text v ≡ Some text → IsUtf8 text
+pub text_is_utf8 : (s : Sort) (v : Value) (text : List ℕ) → IsOfSort s v → as_text v ≡ Some text → IsUtf8 text
 text_is_utf8 Number (NumberValue n) text fits is = cc
 text_is_utf8 Number (TextValue u) text fits is = absurd fits
 text_is_utf8 (Varchar2 size) (NumberValue n) text fits is = cc
@@ -94,7 +94,7 @@ text_is_utf8 (Varchar2 size) (TextValue u) text fits is = let e : u ≡ text = c
 text_is_utf8 Clob (NumberValue n) text fits is = cc
 text_is_utf8 Clob (TextValue u) text fits is = let e : u ≡ text = cc in subst IsUtf8 e fits.1
 
-texts_are_utf8 : (cs : List Column) (vs : List Value) (place : ℕ) (text : List ℕ) → FitColumns cs vs → text_in vs place ≡ Some text → IsUtf8 text
+pub texts_are_utf8 : (cs : List Column) (vs : List Value) (place : ℕ) (text : List ℕ) → FitColumns cs vs → text_in vs place ≡ Some text → IsUtf8 text
 texts_are_utf8 cs [] place text fit is = cc
 texts_are_utf8 [] (v ∷ vs) place text fit is = absurd fit
 texts_are_utf8 (c ∷ cs) (v ∷ vs) zero text fit is = text_is_utf8 c.sort v text fit.0 is
@@ -119,31 +119,24 @@ row_read f ts stand t r row = ap is_some (stand.numbers t r row) ∙ go (row_at 
 
 -- the text that is read is the one of the row in the column
 pub text_read : (f : Key → Option (List ℕ)) (ts : Tables) → TablesStand f ts → AreTables ts → (t : List ℕ) (column : ℕ) (r : ℤ) → column < 256 → IsRow r → (found : Option (List ℕ)) → SpellsText (f (key kind.RowTexts t (text_part column r))) found
-    → found ≡ option_and_then (λ vs. text_of vs column) (row_at ts t r)
+    → found ≡ option_and_then (λ vs. text_in_column vs column) (row_at ts t r)
 text_read f ts stand are t column r few row found spelt =
-    text_one (f (key kind.RowTexts t (text_part column r))) found (option_and_then (λ vs. text_of vs column) (row_at ts t r)) spelt
-    (go (option_and_then (λ vs. text_of vs column) (row_at ts t r)) refl (stand.texts t column r few row))
+    text_one (f (key kind.RowTexts t (text_part column r))) found (option_and_then (λ vs. text_in_column vs column) (row_at ts t r)) spelt
+    (go (option_and_then (λ vs. text_in_column vs column) (row_at ts t r)) refl (stand.texts t column r few row))
   where
-    of_column : (column : ℕ) (vs : List Value) (text : List ℕ) → row_at ts t r ≡ Some vs → text_of vs column ≡ Some text → IsUtf8 text
+    of_column : (column : ℕ) (vs : List Value) (text : List ℕ) → row_at ts t r ≡ Some vs → text_in_column vs column ≡ Some text → IsUtf8 text
     of_column zero vs text is e = cc
     of_column (suc place) vs text is e = let fit = row_fits ts are t r vs is in texts_are_utf8 fit.0 vs place text fit.1 e
 
-    utf8 : (o : Option (List Value)) (text : List ℕ) → row_at ts t r ≡ o → option_and_then (λ vs. text_of vs column) o ≡ Some text → IsUtf8 text
+    utf8 : (o : Option (List Value)) (text : List ℕ) → row_at ts t r ≡ o → option_and_then (λ vs. text_in_column vs column) o ≡ Some text → IsUtf8 text
     utf8 None text is e = cc
     utf8 (Some vs) text is e = of_column column vs text is e
 
-    go : (o : Option (List ℕ)) → option_and_then (λ vs. text_of vs column) (row_at ts t r) ≡ o → f (key kind.RowTexts t (text_part column r)) ≡ o → SpellsText (f (key kind.RowTexts t (text_part column r))) o
+    go : (o : Option (List ℕ)) → option_and_then (λ vs. text_in_column vs column) (row_at ts t r) ≡ o → f (key kind.RowTexts t (text_part column r)) ≡ o → SpellsText (f (key kind.RowTexts t (text_part column r))) o
     go None is e = λ text utf whole. let wrong : None ≡ Some text = sym e ∙ whole in cc
     go (Some text) is e = (utf8 (row_at ts t r) text refl is, e)
 
 -- ---- the keys of rows
-
-none_in_empty : {K X : Type 0} (R : K → K → Ordering) → entries (empty {X = X} {R = R}) ≡ []
-none_in_empty {K} {X} R = none (entries (empty {X = X} {R = R})) (sym (len-entries (empty {X = X} {R = R})) ∙ len-empty R X)
-  where
-    none : (es : List (K × X)) → length es ≡ 0 → es ≡ []
-    none [] e = refl
-    none (x ∷ es) e = absurd (omega arith)
 
 -- the value of a row's entry of numbers
 row_value : List Value → Option (List ℕ)
@@ -166,7 +159,7 @@ rows_read c ts only stand are t = go (get ts t) refl
     go None is =
         rows_listed row_value c kind.RowNumbers t empty only (λ q p. p) (λ r vs e. let wrong : None ≡ Some vs = sym (get-empty int_cmp r) ∙ e in cc)
         (λ r row. stand.numbers t r row ∙ ap (λ (o : Option Table). option_map (λ vs. row_numbers_bytes (numbers_of vs)) (row_in o r)) is ∙ sym (ap (option_and_then row_value) (get-empty int_cmp r)))
-        ∙ ap (keys_where row_value) (none_in_empty int_cmp)
+        ∙ ap (keys_where row_value) (entries-none int_cmp)
     go (Some x) is =
         rows_listed row_value c kind.RowNumbers t x.rows only (λ q p. p) (are.each t x is).keys
         (λ r row. stand.numbers t r row ∙ ap (λ (o : Option Table). option_map (λ vs. row_numbers_bytes (numbers_of vs)) (row_in o r)) is ∙ at_row (get x.rows r))
@@ -180,7 +173,7 @@ next_read c ts only stand are t after place = go (get ts t) refl
     go None is =
         next_row_listed row_value c kind.RowNumbers t empty only (λ q p. p) (λ r vs e. let wrong : None ≡ Some vs = sym (get-empty int_cmp r) ∙ e in cc)
         (λ r row. stand.numbers t r row ∙ ap (λ (o : Option Table). option_map (λ vs. row_numbers_bytes (numbers_of vs)) (row_in o r)) is ∙ sym (ap (option_and_then row_value) (get-empty int_cmp r))) after place
-        ∙ ap (λ (es : List (ℤ × List Value)). first_of (rows_above after (keys_where row_value es))) (none_in_empty int_cmp)
+        ∙ ap (λ (es : List (ℤ × List Value)). first_of (rows_above after (keys_where row_value es))) (entries-none int_cmp)
     go (Some x) is =
         next_row_listed row_value c kind.RowNumbers t x.rows only (λ q p. p) (are.each t x is).keys
         (λ r row. stand.numbers t r row ∙ ap (λ (o : Option Table). option_map (λ vs. row_numbers_bytes (numbers_of vs)) (row_in o r)) is ∙ at_row (get x.rows r)) after place
@@ -189,13 +182,13 @@ next_read c ts only stand are t after place = go (get ts t) refl
 -- ---- the names of tables
 
 -- no name stands after greater ones
-not_above : (t : List ℕ) (us : List (List ℕ)) → all_above t us ≡ true → is_among t us ≡ false
+not_above : (t : List ℕ) (us : List (List ℕ)) → all_above t us ≡ true → is_any_of t us ≡ false
 not_above t [] h = refl
 not_above t (u ∷ us) h =
     let b = and_parts (is_lt (slice_cmp nat_cmp t u)) (all_above t us) h in
     at_head (same_list t u) refl (not_above t us b.1)
   where
-    at_head : (s : Bool) → same_list t u ≡ s → is_among t us ≡ false → (s || is_among t us) ≡ false
+    at_head : (s : Bool) → same_list t u ≡ s → is_any_of t us ≡ false → (s || is_any_of t us) ≡ false
     at_head true one rest =
         let same : t ≡ u = list_from_same t u one in
         let wrong : is_lt (slice_cmp nat_cmp t t) ≡ true = subst (λ (v : List ℕ). is_lt (slice_cmp nat_cmp t v) ≡ true) (sym same) (and_parts (is_lt (slice_cmp nat_cmp t u)) (all_above t us) h).0 in
@@ -203,13 +196,13 @@ not_above t (u ∷ us) h =
         cc
     at_head false one rest = rest
 
-below_among : (t u : List ℕ) (us : List (List ℕ)) → all_above t us ≡ true → is_among u us ≡ true → is_lt (slice_cmp nat_cmp t u) ≡ true
+below_among : (t u : List ℕ) (us : List (List ℕ)) → all_above t us ≡ true → is_any_of u us ≡ true → is_lt (slice_cmp nat_cmp t u) ≡ true
 below_among t u [] h there = cc
 below_among t u (v ∷ us) h there =
     let b = and_parts (is_lt (slice_cmp nat_cmp t v)) (all_above t us) h in
     at_head (same_list u v) refl b.0 there (below_among t u us b.1)
   where
-    at_head : (s : Bool) → same_list u v ≡ s → is_lt (slice_cmp nat_cmp t v) ≡ true → (s || is_among u us) ≡ true → (is_among u us ≡ true → is_lt (slice_cmp nat_cmp t u) ≡ true) → is_lt (slice_cmp nat_cmp t u) ≡ true
+    at_head : (s : Bool) → same_list u v ≡ s → is_lt (slice_cmp nat_cmp t v) ≡ true → (s || is_any_of u us) ≡ true → (is_any_of u us ≡ true → is_lt (slice_cmp nat_cmp t u) ≡ true) → is_lt (slice_cmp nat_cmp t u) ≡ true
     at_head true one low there rest = subst (λ (x : List ℕ). is_lt (slice_cmp nat_cmp t x) ≡ true) (sym (list_from_same u v one)) low
     at_head false one low there rest = rest there
 
@@ -222,10 +215,10 @@ not_both_ways t u p q = go (slice_cmp nat_cmp u t) (nat_list_cmp_total.antisymm 
     go Greater e p q = cc
 
 -- names that rise and are the same ones are one list
-pub same_names : (xs ys : List (List ℕ)) → names_rise xs ≡ true → names_rise ys ≡ true → ((t : List ℕ) → is_among t xs ≡ is_among t ys) → xs ≡ ys
+pub same_names : (xs ys : List (List ℕ)) → names_rise xs ≡ true → names_rise ys ≡ true → ((t : List ℕ) → is_any_of t xs ≡ is_any_of t ys) → xs ≡ ys
 same_names [] [] up down same = refl
-same_names [] (y ∷ ys) up down same = let e : false ≡ true = same y ∙ ap (λ (b : Bool). b || is_among y ys) (list_same y) in cc
-same_names (x ∷ xs) [] up down same = let e : true ≡ false = sym (ap (λ (b : Bool). b || is_among x xs) (list_same x)) ∙ same x in cc
+same_names [] (y ∷ ys) up down same = let e : false ≡ true = same y ∙ ap (λ (b : Bool). b || is_any_of y ys) (list_same y) in cc
+same_names (x ∷ xs) [] up down same = let e : true ≡ false = sym (ap (λ (b : Bool). b || is_any_of x xs) (list_same x)) ∙ same x in cc
 same_names (x ∷ xs) (y ∷ ys) up down same =
     let a = and_parts (all_above x xs) (names_rise xs) up in
     let b = and_parts (all_above y ys) (names_rise ys) down in
@@ -237,19 +230,19 @@ same_names (x ∷ xs) (y ∷ ys) up down same =
     first true one q other a b = list_from_same x y one
     first false one true other a b = sym (list_from_same y x other)
     first false one false other a b =
-        let x_there : is_among x ys ≡ true = sym (ap (λ (b : Bool). b || is_among x ys) one) ∙ sym (same x) ∙ ap (λ (b : Bool). b || is_among x xs) (list_same x) in
-        let y_there : is_among y xs ≡ true = sym (ap (λ (b : Bool). b || is_among y xs) other) ∙ same y ∙ ap (λ (b : Bool). b || is_among y ys) (list_same y) in
+        let x_there : is_any_of x ys ≡ true = sym (ap (λ (b : Bool). b || is_any_of x ys) one) ∙ sym (same x) ∙ ap (λ (b : Bool). b || is_any_of x xs) (list_same x) in
+        let y_there : is_any_of y xs ≡ true = sym (ap (λ (b : Bool). b || is_any_of y xs) other) ∙ same y ∙ ap (λ (b : Bool). b || is_any_of y ys) (list_same y) in
         absurd (not_both_ways y x (below_among y x ys b x_there) (below_among x y xs a y_there))
 
-    end : (t : List ℕ) → x ≡ y → all_above x xs ≡ true → all_above y ys ≡ true → (s : Bool) → same_list t x ≡ s → is_among t xs ≡ is_among t ys
+    end : (t : List ℕ) → x ≡ y → all_above x xs ≡ true → all_above y ys ≡ true → (s : Bool) → same_list t x ≡ s → is_any_of t xs ≡ is_any_of t ys
     end t head a b true one =
         let here : t ≡ x = list_from_same t x one in
-        let left : is_among t xs ≡ false = ap (λ (v : List ℕ). is_among v xs) here ∙ not_above x xs a in
-        let right : is_among t ys ≡ false = ap (λ (v : List ℕ). is_among v ys) (here ∙ head) ∙ not_above y ys b in
+        let left : is_any_of t xs ≡ false = ap (λ (v : List ℕ). is_any_of v xs) here ∙ not_above x xs a in
+        let right : is_any_of t ys ≡ false = ap (λ (v : List ℕ). is_any_of v ys) (here ∙ head) ∙ not_above y ys b in
         left ∙ sym right
     end t head a b false one =
         let other : same_list t y ≡ false = ap (same_list t) (sym head) ∙ one in
-        sym (ap (λ (b : Bool). b || is_among t xs) one) ∙ same t ∙ ap (λ (b : Bool). b || is_among t ys) other
+        sym (ap (λ (b : Bool). b || is_any_of t xs) one) ∙ same t ∙ ap (λ (b : Bool). b || is_any_of t ys) other
 
 keys_rise : {X : Type 0} (es : List (List ℕ × X)) → rises (slice_cmp nat_cmp) es ≡ true → names_rise (map (λ e. e.0) es) ≡ true
 keys_rise [] h = refl
@@ -275,6 +268,6 @@ tables_read c ts stand are names listed =
         neither false = refl
     is_there t (Some x) is = ap (λ (b : Bool). b && true) (name_is_kept t (are.names t x is)) ∙ sym (ap is_some is)
 
-    alike : (t : List ℕ) (us : List (List ℕ)) → list_any (eq_by_cmp (slice_cmp nat_cmp) t) us ≡ is_among t us
+    alike : (t : List ℕ) (us : List (List ℕ)) → list_any (eq_by_cmp (slice_cmp nat_cmp) t) us ≡ is_any_of t us
     alike t [] = refl
     alike t (u ∷ us) = ap (λ (b : Bool). b || list_any (eq_by_cmp (slice_cmp nat_cmp) t) us) (names_tie t u) ∙ ap (λ (b : Bool). same_list t u || b) (alike t us)

@@ -16,7 +16,7 @@ use Rattle.ct_entry.specs.declared.kinds.Kind.TheVariants as kind
 use Rattle.ct_entry.specs.Keys.{Key, key, same_key, same_list, row_part, text_part, IsRow, HasKeysOnly}
 use Rattle.ct_entry.specs.Changes.{drop_key, spell, told, view, AreChanges, AllOf}
 use Rattle.ct_entry.specs.Shapes.{AreShaped}
-use Rattle.ct_entry.specs.Removals.{removals, without_owned}
+use Rattle.ct_entry.specs.Removals.{owned_removals, without_owned}
 use Rattle.ct_entry.specs.laws.Keys.{list_from_same, list_same}
 use Rattle.ct_entry.specs.laws.Parts.{rows_tie, texts_tie, same_kind, int_from_eq}
 use Rattle.ct_entry.specs.laws.Each.{map-each, told_each}
@@ -24,11 +24,11 @@ use Rattle.ct_entry.specs.laws.Maps.{get_name-alter, get_name-remove, get_row-re
 use Rattle.ct_entry.specs.laws.MapRemovals.{keys_without}
 use Rattle.ct_entry.specs.laws.Changes.{told_frame, view-append, spell-append, are-append, all-append}
 use Rattle.ct_entry.specs.laws.Shapes.{are_shaped-append}
-use Rattle.ct_entry.specs.laws.Removals.{view-removals, removals_shaped, all_removals, are_removals}
+use Rattle.ct_entry.specs.laws.Removals.{view-owned_removals, removals_shaped, all_removals, are_removals}
 use Rattle.tb_table.specs.declared.columns.Sort.{Sort}
 use Rattle.tb_table.specs.declared.columns.Sort.TheVariants.{Number, Varchar2, Clob}
 use Rattle.tb_table.specs.declared.columns.Column.{Column}
-use Rattle.tb_table.specs.Tables.{Table, Tables, row_in, row_at, keys_in, numbers_of, as_text, text_in, text_of, without_row, without_table}
+use Rattle.tb_table.specs.Tables.{Table, Tables, row_in, row_at, keys_in, numbers_of, as_text, text_in, text_in_column, without_row, without_table}
 use Rattle.tb_table.specs.Rules.{IsOfSort, FitColumns, others}
 use Rattle.tb_table.specs.Spelling.{columns_bytes, row_numbers_bytes, TablesStand, text_place, text_places_from, text_places, drop_texts, delete_changes, remove_changes}
 use Rattle.tb_table.specs.Shapes.{HasTableValue}
@@ -126,7 +126,7 @@ no_text_elsewhere (d ∷ cs) (v ∷ vs) from zero c is fit none = no_text_here c
 no_text_elsewhere (d ∷ cs) (v ∷ vs) from (suc place) c is fit none = no_text_elsewhere cs vs (suc from) place c (omega arith) fit.1 (not_after c from d.sort (text_places_from (suc from) cs) none)
 
 -- a row whose values fit has texts in no other columns than those that have texts
-pub no_other_text : (cs : List Column) (vs : List Value) (c : ℕ) → FitColumns (others cs) vs → list_any (λ p. c == p) (text_places cs) ≡ false → text_of vs c ≡ None
+pub no_other_text : (cs : List Column) (vs : List Value) (c : ℕ) → FitColumns (others cs) vs → list_any (λ p. c == p) (text_places cs) ≡ false → text_in_column vs c ≡ None
 no_other_text cs vs zero fit none = refl
 no_other_text [] [] (suc place) fit none = refl
 no_other_text [] (v ∷ vs) (suc place) fit none = absurd fit
@@ -147,8 +147,8 @@ all_delete t cs r = (refl, each (text_places cs))
 
 pub all_remove : (t : List ℕ) (m : Content) → AllOf is_of_tables (remove_changes t m)
 all_remove t m =
-    all-append is_of_tables (removals kind.Tables t m ++ removals kind.RowNumbers t m) (removals kind.RowTexts t m)
-    (all-append is_of_tables (removals kind.Tables t m) (removals kind.RowNumbers t m) (all_removals is_of_tables kind.Tables t m refl) (all_removals is_of_tables kind.RowNumbers t m refl))
+    all-append is_of_tables (owned_removals kind.Tables t m ++ owned_removals kind.RowNumbers t m) (owned_removals kind.RowTexts t m)
+    (all-append is_of_tables (owned_removals kind.Tables t m) (owned_removals kind.RowNumbers t m) (all_removals is_of_tables kind.Tables t m refl) (all_removals is_of_tables kind.RowNumbers t m refl))
     (all_removals is_of_tables kind.RowTexts t m refl)
 
 pub are_delete : (t : List ℕ) (cs : List Column) (r : ℤ) → IsName t → IsRow r → length cs ≤ column_limit → AreChanges (delete_changes t cs r)
@@ -166,8 +166,8 @@ are_delete t cs r name row few = (record { owner = name; part = (r, row, refl) }
 -- where the content has keys of the kinds only
 pub are_remove : (t : List ℕ) (m : Content) → HasKeysOnly m → AreChanges (remove_changes t m)
 are_remove t m only =
-    are-append (removals kind.Tables t m ++ removals kind.RowNumbers t m) (removals kind.RowTexts t m)
-    (are-append (removals kind.Tables t m) (removals kind.RowNumbers t m) (are_removals kind.Tables t m only) (are_removals kind.RowNumbers t m only))
+    are-append (owned_removals kind.Tables t m ++ owned_removals kind.RowNumbers t m) (owned_removals kind.RowTexts t m)
+    (are-append (owned_removals kind.Tables t m) (owned_removals kind.RowNumbers t m) (are_removals kind.Tables t m only) (are_removals kind.RowNumbers t m only))
     (are_removals kind.RowTexts t m only)
 
 pub delete_shaped : (t : List ℕ) (cs : List Column) (r : ℤ) → AreShaped HasTableValue (spell (delete_changes t cs r))
@@ -179,10 +179,10 @@ delete_shaped t cs r = each (text_places cs)
 
 pub remove_shaped : (t : List ℕ) (m : Content) → AreShaped HasTableValue (spell (remove_changes t m))
 remove_shaped t m =
-    subst (AreShaped HasTableValue) (sym (spell-append (removals kind.Tables t m ++ removals kind.RowNumbers t m) (removals kind.RowTexts t m)))
-    (are_shaped-append HasTableValue (spell (removals kind.Tables t m ++ removals kind.RowNumbers t m)) (spell (removals kind.RowTexts t m))
-    (subst (AreShaped HasTableValue) (sym (spell-append (removals kind.Tables t m) (removals kind.RowNumbers t m)))
-    (are_shaped-append HasTableValue (spell (removals kind.Tables t m)) (spell (removals kind.RowNumbers t m)) (removals_shaped HasTableValue kind.Tables t m) (removals_shaped HasTableValue kind.RowNumbers t m)))
+    subst (AreShaped HasTableValue) (sym (spell-append (owned_removals kind.Tables t m ++ owned_removals kind.RowNumbers t m) (owned_removals kind.RowTexts t m)))
+    (are_shaped-append HasTableValue (spell (owned_removals kind.Tables t m ++ owned_removals kind.RowNumbers t m)) (spell (owned_removals kind.RowTexts t m))
+    (subst (AreShaped HasTableValue) (sym (spell-append (owned_removals kind.Tables t m) (owned_removals kind.RowNumbers t m)))
+    (are_shaped-append HasTableValue (spell (owned_removals kind.Tables t m)) (spell (owned_removals kind.RowNumbers t m)) (removals_shaped HasTableValue kind.Tables t m) (removals_shaped HasTableValue kind.RowNumbers t m)))
     (removals_shaped HasTableValue kind.RowTexts t m))
 
 -- ---- after the removal of a row
@@ -202,7 +202,7 @@ stand_delete f ts t r x is are row stand = record {
       told-drop_texts t r q c s row here (text_places x.columns) (f (key kind.RowTexts q (text_part c s)))
       ∙ ap (cond ((same_list q t && int_eq s r) && list_any (λ p. c == p) (text_places x.columns)) None) (stand.texts q c s few here)
       ∙ at_texts c (row_at ts q s) (same_list q t && int_eq s r) (list_any (λ p. c == p) (text_places x.columns)) refl (λ h vs there. fits q s vs h there)
-      ∙ ap (option_and_then (λ ws. text_of ws c)) (sym (row_at-without_row ts t r q s));
+      ∙ ap (option_and_then (λ ws. text_in_column ws c)) (sym (row_at-without_row ts t r q s));
 }
   where
     at_numbers : (b : Bool) (old : Option (List Value)) → cond b None (option_map (λ ws. row_numbers_bytes (numbers_of ws)) old) ≡ option_map (λ ws. row_numbers_bytes (numbers_of ws)) (cond b None old)
@@ -216,7 +216,7 @@ stand_delete f ts t r x is are row stand = record {
         (are.each t x is).rows r vs (sym here ∙ there)
 
     at_texts : (c : ℕ) (old : Option (List Value)) (b d : Bool) → list_any (λ p. c == p) (text_places x.columns) ≡ d → (b ≡ true → (vs : List Value) → old ≡ Some vs → FitColumns (others x.columns) vs)
-        → cond (b && d) None (option_and_then (λ ws. text_of ws c) old) ≡ option_and_then (λ ws. text_of ws c) (cond b None old)
+        → cond (b && d) None (option_and_then (λ ws. text_in_column ws c) old) ≡ option_and_then (λ ws. text_in_column ws c) (cond b None old)
     at_texts c old true true is fit = refl
     at_texts c None true false is fit = refl
     at_texts c (Some vs) true false is fit = no_other_text x.columns vs c (fit refl vs refl) is
@@ -243,19 +243,19 @@ stand_remove f ts t m same stand = subst (λ (g : Key → Option (List ℕ)). Ta
       ∙ ap (option_map (λ vs. row_numbers_bytes (numbers_of vs))) (sym (row_at-without_table ts t q s));
   texts = λ q c s few here.
       ap (cond (same_list q t) None) (stand.texts q c s few here)
-      ∙ chained (λ vs. text_of vs c) (same_list q t) (row_at ts q s)
-      ∙ ap (option_and_then (λ vs. text_of vs c)) (sym (row_at-without_table ts t q s));
+      ∙ chained (λ vs. text_in_column vs c) (same_list q t) (row_at ts q s)
+      ∙ ap (option_and_then (λ vs. text_in_column vs c)) (sym (row_at-without_table ts t q s));
 })
   where
     gone : view (remove_changes t m) f ≡ without_owned kind.RowTexts t (without_owned kind.RowNumbers t (without_owned kind.Tables t f))
     gone =
-        view-append (removals kind.Tables t m ++ removals kind.RowNumbers t m) (removals kind.RowTexts t m) f
-        ∙ ap (view (removals kind.RowTexts t m)) (
-        view-append (removals kind.Tables t m) (removals kind.RowNumbers t m) f
-        ∙ ap (view (removals kind.RowNumbers t m)) (view-removals kind.Tables t m f same.table)
-        ∙ view-removals kind.RowNumbers t m (without_owned kind.Tables t f) (λ rest. same.numbers rest)
+        view-append (owned_removals kind.Tables t m ++ owned_removals kind.RowNumbers t m) (owned_removals kind.RowTexts t m) f
+        ∙ ap (view (owned_removals kind.RowTexts t m)) (
+        view-append (owned_removals kind.Tables t m) (owned_removals kind.RowNumbers t m) f
+        ∙ ap (view (owned_removals kind.RowNumbers t m)) (view-owned_removals kind.Tables t m f same.table)
+        ∙ view-owned_removals kind.RowNumbers t m (without_owned kind.Tables t f) (λ rest. same.numbers rest)
         )
-        ∙ view-removals kind.RowTexts t m (without_owned kind.RowNumbers t (without_owned kind.Tables t f)) (λ rest. same.texts rest)
+        ∙ view-owned_removals kind.RowTexts t m (without_owned kind.RowNumbers t (without_owned kind.Tables t f)) (λ rest. same.texts rest)
 
     mapped : {X Y : Type 0} (g : X → Y) (b : Bool) (o : Option X) → cond b None (option_map g o) ≡ option_map g (cond b None o)
     mapped g true o = refl

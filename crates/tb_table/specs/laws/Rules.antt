@@ -21,7 +21,7 @@ use Rattle.ct_entry.specs.laws.Keys.{list_from_same}
 use Rattle.ct_entry.specs.laws.Parts.{int_from_eq}
 use Rattle.ct_entry.specs.laws.Maps.{get_row-insert, get_row-remove, get_name-remove}
 use Rattle.tb_table.specs.declared.columns.Column.{Column}
-use Rattle.tb_table.specs.Tables.{Table, Tables, text_in, text_of, as_text, with_row}
+use Rattle.tb_table.specs.Tables.{Table, Tables, text_in, text_in_column, as_text, with_row}
 use Rattle.ct_entry.specs.Maps.{altered}
 use Rattle.tb_table.specs.Rules.{FitColumns, AreColumns, others, IsTable, AreTables, AllColumns, HasAllowedSize, IsOfSort}
 use Rattle.tb_table.specs.laws.Changes.{get-with_table, get-with_row}
@@ -201,6 +201,6 @@ short_text (c ∷ cs) (v ∷ vs) zero text are fit is = short_value c.sort v tex
 short_text (c ∷ cs) (v ∷ vs) (suc place) text are fit is = short_text cs vs place text are.2 fit.1 is
 
 -- the text of a column of a row
-pub short_column : (cs : List Column) (vs : List Value) (column : ℕ) (text : List ℕ) → AllColumns cs → FitColumns (others cs) vs → text_of vs column ≡ Some text → length text ≤ text_limit
+pub short_column : (cs : List Column) (vs : List Value) (column : ℕ) (text : List ℕ) → AllColumns cs → FitColumns (others cs) vs → text_in_column vs column ≡ Some text → length text ≤ text_limit
 short_column cs vs zero text are fit is = cc
 short_column cs vs (suc place) text are fit is = short_text (others cs) vs place text (all_others cs are) fit is

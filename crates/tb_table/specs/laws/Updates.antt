@@ -11,7 +11,7 @@ use Rattle.ct_entry.specs.Changes.{told}
 use Rattle.ct_entry.specs.laws.Keys.{list_from_same}
 use Rattle.ct_entry.specs.laws.Parts.{texts_tie, same_kind, int_from_eq}
 use Rattle.tb_table.specs.Promises.{UpdatedRowsStand, UpdatedRowsAreThere}
-use Rattle.tb_table.specs.Tables.{Table, Tables, row_in, row_at, text_of, given_text}
+use Rattle.tb_table.specs.Tables.{Table, Tables, row_in, row_at, text_in_column, given_text}
 use Rattle.tb_table.specs.Spelling.{row_text_changes}
 use Rattle.tb_table.specs.laws.Changes.{row_at-with_row, row_stands}
 
@@ -56,15 +56,15 @@ stand_update f ts t r old new texts there row update stand =
     told_given t r q c s row here texts (f (key kind.RowTexts q (text_part c s)))
     ∙ ap (λ (o : Option (List ℕ)). cond (same_list q t && int_eq s r) (option_or (given_text c texts) o) o) (stand.texts q c s few here)
     ∙ at_texts c (same_list q t) (int_eq s r) (row_at ts q s) (λ a b. ap (λ (o : List ℕ). row_at ts o s) (list_from_same q t a) ∙ ap (row_at ts t) (int_from_eq s r b) ∙ there)
-    ∙ ap (option_and_then (λ ws. text_of ws c)) (sym (row_at-with_row ts t r new x.0 x.1 q s)))
+    ∙ ap (option_and_then (λ ws. text_in_column ws c)) (sym (row_at-with_row ts t r new x.0 x.1 q s)))
   where
-    at_place : (c : ℕ) (o : Option (List ℕ)) → given_text c texts ≡ o → option_or o (text_of old c) ≡ text_of new c
+    at_place : (c : ℕ) (o : Option (List ℕ)) → given_text c texts ≡ o → option_or o (text_in_column old c) ≡ text_in_column new c
     at_place c None is = sym (update.others c is)
     at_place c (Some text) is = sym (update.given c text is)
 
     at_texts : (c : ℕ) (a b : Bool) (o : Option (List Value)) → (a ≡ true → b ≡ true → o ≡ Some old)
-        → cond (a && b) (option_or (given_text c texts) (option_and_then (λ ws. text_of ws c) o)) (option_and_then (λ ws. text_of ws c) o) ≡ option_and_then (λ ws. text_of ws c) (cond a (cond b (Some new) o) o)
-    at_texts c true true o is = ap (λ (o : Option (List Value)). option_or (given_text c texts) (option_and_then (λ ws. text_of ws c) o)) (is refl refl) ∙ at_place c (given_text c texts) refl
+        → cond (a && b) (option_or (given_text c texts) (option_and_then (λ ws. text_in_column ws c) o)) (option_and_then (λ ws. text_in_column ws c) o) ≡ option_and_then (λ ws. text_in_column ws c) (cond a (cond b (Some new) o) o)
+    at_texts c true true o is = ap (λ (o : Option (List Value)). option_or (given_text c texts) (option_and_then (λ ws. text_in_column ws c) o)) (is refl refl) ∙ at_place c (given_text c texts) refl
     at_texts c true false o is = refl
     at_texts c false b o is = refl
 

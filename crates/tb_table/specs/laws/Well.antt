@@ -9,7 +9,7 @@ use Rattle.ct_bytes.specs.Varints.{varint, text_bytes}
 use Rattle.ct_bytes.specs.laws.Varints.{varint_length}
 use Rattle.ct_entry.specs.Keys.{IsRow}
 use Rattle.ct_entry.specs.Changes.{AreChanges, AllOf}
-use Rattle.ct_entry.specs.laws.Parts.{is_short}
+use Rattle.ct_entry.specs.laws.Parts.{has_short_keys}
 use Rattle.tb_table.specs.declared.columns.Column.{Column}
 use Rattle.tb_table.specs.Tables.{texts_from, texts_of}
 use Rattle.tb_table.specs.Spelling.{column_bytes, table_changes, row_text_changes, insert_changes}
@@ -33,13 +33,13 @@ are_insert t r numbers texts name row places = (record { owner = name; part = (r
     each [] places = tt
     each (x ∷ texts) places = (record { owner = name; part = (x.0, (r, places.0, row, refl)) }, each texts places.1)
 
-pub short_create : (t : List ℕ) (columns : List Column) → AllOf is_short (table_changes t columns)
+pub short_create : (t : List ℕ) (columns : List Column) → AllOf has_short_keys (table_changes t columns)
 short_create t columns = (refl, tt)
 
-pub short_insert : (t : List ℕ) (r : ℤ) (numbers : List ℤ) (texts : List (ℕ × List ℕ)) → AllOf is_short (insert_changes t r numbers texts)
+pub short_insert : (t : List ℕ) (r : ℤ) (numbers : List ℤ) (texts : List (ℕ × List ℕ)) → AllOf has_short_keys (insert_changes t r numbers texts)
 short_insert t r numbers texts = (refl, each texts)
   where
-    each : (texts : List (ℕ × List ℕ)) → AllOf is_short (row_text_changes t r texts)
+    each : (texts : List (ℕ × List ℕ)) → AllOf has_short_keys (row_text_changes t r texts)
     each [] = tt
     each (x ∷ texts) = (refl, each texts)
 
@@ -48,18 +48,18 @@ each_place from [] few = tt
 each_place from (NumberValue n ∷ vs) few = each_place (suc from) vs (omega arith)
 each_place from (TextValue text ∷ vs) few = (omega arith, each_place (suc from) vs (omega arith))
 
-fit_length : (cs : List Column) (vs : List Value) → FitColumns cs vs → length vs ≡ length cs
+pub fit_length : (cs : List Column) (vs : List Value) → FitColumns cs vs → length vs ≡ length cs
 fit_length [] [] fit = refl
 fit_length [] (v ∷ vs) fit = absurd fit
 fit_length (c ∷ cs) [] fit = absurd fit
 fit_length (c ∷ cs) (v ∷ vs) fit = let rest = fit_length cs vs fit.1 in omega arith
 
-others_length : (cs : List Column) → length (others cs) ≤ length cs
+pub others_length : (cs : List Column) → length (others cs) ≤ length cs
 others_length [] = omega arith
 others_length (c ∷ cs) = omega arith
 
 -- the values of a row are fewer than 16
-few_values : (cs : List Column) (vs : List Value) → AreColumns cs → FitColumns (others cs) vs → length vs ≤ column_limit
+pub few_values : (cs : List Column) (vs : List Value) → AreColumns cs → FitColumns (others cs) vs → length vs ≤ column_limit
 few_values cs vs are fit = let l = fit_length (others cs) vs fit in let o = others_length cs in let few = are.few in omega (arith, l, o, few)
 
 -- the texts of a row stand in columns of such places

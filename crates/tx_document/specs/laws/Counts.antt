@@ -23,7 +23,7 @@ use Rattle.tx_tags.specs.Pairs.{spans, spans_from, span, stop_at, closer}
 use Rattle.tx_document.specs.declared.endings.Ending.{Ending}
 use Rattle.tx_document.specs.declared.endings.Ending.TheVariants.{Sentence, Paragraph}
 use Rattle.tx_document.specs.declared.views.SectionView.{SectionView}
-use Rattle.tx_document.specs.Documents.{Extent, extents_from, extents, ends, runs_from, runs_if, instance, section_name, zone_instances, instance_of, reach_of, positions_in, instances, rising, has_instance, place_of, section_cmp}
+use Rattle.tx_document.specs.Documents.{Extent, extents_from, extents, ends, runs_from, runs_if, instance, section_name, zone_instances, instance_of, reach_of, positions_in, instances, rising, has_instance, instance_place, section_cmp}
 
 -- ---- characters and tokens
 
@@ -194,11 +194,11 @@ few_runs_if : (b : Bool) (ending : Ending) (ts : List Token) → length (runs_if
 few_runs_if true ending ts = few_runs ending 1 1 ts
 few_runs_if false ending ts = omega arith
 
-place_within : (i : SectionView) (is : List SectionView) → place_of i is ≤ length is
+place_within : (i : SectionView) (is : List SectionView) → instance_place i is ≤ length is
 place_within i [] = omega arith
 place_within i (j ∷ js) = go (is_lt (section_cmp j i)) (place_within i js)
   where
-    go : (b : Bool) → place_of i js ≤ length js → cond b (place_of i js + 1) 0 ≤ suc (length js)
+    go : (b : Bool) → instance_place i js ≤ length js → cond b (instance_place i js + 1) 0 ≤ suc (length js)
     go true rest = omega arith
     go false rest = omega arith
 
@@ -206,9 +206,9 @@ few_rising : (is : List SectionView) → length (rising is) ≤ length is
 few_rising [] = omega arith
 few_rising (i ∷ is) = go (has_instance i (rising is)) (few_rising is)
   where
-    go : (b : Bool) → length (rising is) ≤ length is → length (cond b (rising is) (insert (rising is) (place_of i (rising is)) i)) ≤ suc (length is)
+    go : (b : Bool) → length (rising is) ≤ length is → length (cond b (rising is) (insert (rising is) (instance_place i (rising is)) i)) ≤ suc (length is)
     go true rest = omega arith
-    go false rest = let more = length-insert (rising is) (place_of i (rising is)) i (place_within i (rising is)) in omega (arith, more, rest)
+    go false rest = let more = length-insert (rising is) (instance_place i (rising is)) i (place_within i (rising is)) in omega (arith, more, rest)
 
 -- how many instances a text has at most: each tag begins one span, and each token ends a sentence and a paragraph
 pub instances_few : (r : Rules) (g : SectionGroup) (end : ℕ) (text : List ℕ)

@@ -18,7 +18,7 @@ use Rattle.tx_tags.specs.Tags.{tags_in, blanked}
 use Rattle.tx_document.specs.declared.views.WordView.{WordView}
 use Rattle.tx_document.specs.declared.views.SectionView.{SectionView}
 use Rattle.tx_document.specs.Documents.{Extent, document, extents, pair, words_from}
-use Rattle.tx_document.specs.Entries.{Place, places_of, places_under, place_map, positions_of, section_stream, section_place, word_places, is_at}
+use Rattle.tx_document.specs.Entries.{DocumentPlace, places_of, places_under, place_map, positions_of, section_stream, section_place, word_places, is_at}
 use Rattle.tx_document.specs.Promises.{if_any, as_pairs, PlacesAreFound, PlacesArePositions}
 use Rattle.tx_document.specs.Fields.{fields}
 use Rattle.tx_document.specs.laws.Streams.{Between, streams_between}
@@ -35,7 +35,7 @@ any_places [] = refl
 any_places (p ∷ ps) = refl
 
 -- of places, each with what f gives its name, those of a name stand where it has some
-find_place : (f : List ℕ → List Pair) (name : List ℕ) (xs : List Place)
+find_place : (f : List ℕ → List Pair) (name : List ℕ) (xs : List DocumentPlace)
     → find (slice_cmp nat_cmp) name (map {B = List ℕ × List Pair} (λ x. (x.0, f x.0)) xs) ≡ where_any (places_under name xs) (Some (f name))
 find_place f name [] = refl
 find_place f name (x ∷ xs) =
@@ -48,7 +48,7 @@ find_place f name (x ∷ xs) =
     here true is rest = ap (λ (k : List ℕ). Some (f k)) (sym ((bytes_eq-Decides name x.0).0 is))
     here false is rest = rest
 
-pub get-place_map : (xs : List Place) (name : List ℕ) → get (place_map xs) name ≡ if_any (places_under name xs)
+pub get-place_map : (xs : List DocumentPlace) (name : List ℕ) → get (place_map xs) name ≡ if_any (places_under name xs)
 get-place_map xs name =
     get-from_entries nat_list_cmp_total (map {B = List ℕ × List Pair} (λ x. (x.0, places_under x.0 xs)) xs) name
     ∙ find_place (λ n. places_under n xs) name xs
@@ -59,7 +59,7 @@ places_are_found p text name = get-place_map (places_of (document p (chars text)
 
 -- ---- the places of words
 
-pub places_under-append : (name : List ℕ) (xs ys : List Place) → places_under name (xs ++ ys) ≡ places_under name xs ++ places_under name ys
+pub places_under-append : (name : List ℕ) (xs ys : List DocumentPlace) → places_under name (xs ++ ys) ≡ places_under name xs ++ places_under name ys
 places_under-append name [] ys = refl
 places_under-append name (x ∷ xs) ys = go (bytes_eq name x.0) (places_under-append name xs ys)
   where
@@ -92,7 +92,7 @@ none_above stream least most (n ∷ ns) less b = go (stream == n) refl (none_abo
 
 -- streams that rise have a key in a stream once at most
 once : (stream : ℕ) (key k : List ℕ) (p : Pair) (least most : ℕ) (ns : List ℕ) → Between least most ns
-    → places_under (stream ∷ key) (map {B = Place} (λ s. (s ∷ k, p)) ns) ≡ one_if (bytes_eq key k && list_any (λ s. stream == s) ns) p
+    → places_under (stream ∷ key) (map {B = DocumentPlace} (λ s. (s ∷ k, p)) ns) ≡ one_if (bytes_eq key k && list_any (λ s. stream == s) ns) p
 once stream key k p least most [] b = nothing (bytes_eq key k)
   where
     nothing : (t : Bool) → [] ≡ one_if (t && false) p
@@ -100,8 +100,8 @@ once stream key k p least most [] b = nothing (bytes_eq key k)
     nothing false = refl
 once stream key k p least most (n ∷ ns) b = go (stream == n) (bytes_eq key k) refl refl (once stream key k p (n + 1) most ns b.2)
   where
-    go : (t u : Bool) → (stream == n) ≡ t → bytes_eq key k ≡ u → places_under (stream ∷ key) (map {B = Place} (λ s. (s ∷ k, p)) ns) ≡ one_if (bytes_eq key k && list_any (λ s. stream == s) ns) p
-        → cond (t && u) (p ∷ places_under (stream ∷ key) (map {B = Place} (λ s. (s ∷ k, p)) ns)) (places_under (stream ∷ key) (map {B = Place} (λ s. (s ∷ k, p)) ns)) ≡ one_if (u && (t || list_any (λ s. stream == s) ns)) p
+    go : (t u : Bool) → (stream == n) ≡ t → bytes_eq key k ≡ u → places_under (stream ∷ key) (map {B = DocumentPlace} (λ s. (s ∷ k, p)) ns) ≡ one_if (bytes_eq key k && list_any (λ s. stream == s) ns) p
+        → cond (t && u) (p ∷ places_under (stream ∷ key) (map {B = DocumentPlace} (λ s. (s ∷ k, p)) ns)) (places_under (stream ∷ key) (map {B = DocumentPlace} (λ s. (s ∷ k, p)) ns)) ≡ one_if (u && (t || list_any (λ s. stream == s) ns)) p
     go true true is same rest =
         let above : stream < n + 1 = omega (arith, eqb-true stream n is) in
         ap (λ (l : List Pair). p ∷ l) (rest ∙ ap (λ (v : Bool). one_if (bytes_eq key k && v) p) (none_above stream (n + 1) most ns above b.2) ∙ ap (λ (v : Bool). one_if (v && false) p) same)

@@ -22,7 +22,7 @@ use Rattle.tx_tags.specs.Groups.{SectionGroup, is_zone}
 use Rattle.tx_document.specs.declared.endings.Ending.{Ending}
 use Rattle.tx_document.specs.declared.endings.Ending.TheVariants.{Sentence, Paragraph}
 use Rattle.tx_document.specs.declared.views.SectionView.{SectionView}
-use Rattle.tx_document.specs.Documents.{Extent, extents_from, ends, runs_from, runs_if, instance, section_name, zone_instances, instance_of, reach_of, positions_in, last_of, is_inside, instances, rising, has_instance, place_of, section_cmp}
+use Rattle.tx_document.specs.Documents.{Extent, extents_from, ends, runs_from, runs_if, instance, section_name, zone_instances, instance_of, reach_of, positions_in, last_of, is_inside, instances, rising, has_instance, instance_place, section_cmp}
 use Rattle.tx_document.specs.Promises.{InstancesRise, IsInstance}
 
 -- ---- the order of instances
@@ -49,24 +49,24 @@ section_cmp_exact a b e =
 -- ---- instances that strictly rise
 
 -- an instance before the first that isn't less
-abbrev pub put : SectionView → List SectionView → List SectionView
-put i [] = i ∷ []
-put i (j ∷ js) = if is_lt (section_cmp j i) then j ∷ put i js else i ∷ j ∷ js
+abbrev pub put_instance : SectionView → List SectionView → List SectionView
+put_instance i [] = i ∷ []
+put_instance i (j ∷ js) = if is_lt (section_cmp j i) then j ∷ put_instance i js else i ∷ j ∷ js
 
-put_step : (b : Bool) (i j : SectionView) (js : List SectionView) → insert js (place_of i js) i ≡ put i js
-    → insert (j ∷ js) (cond b (place_of i js + 1) 0) i ≡ cond b (j ∷ put i js) (i ∷ j ∷ js)
-put_step true i j js same = ap (λ n. insert (j ∷ js) n i) (add-one (place_of i js)) ∙ ap (λ (l : List SectionView). j ∷ l) same
+put_step : (b : Bool) (i j : SectionView) (js : List SectionView) → insert js (instance_place i js) i ≡ put_instance i js
+    → insert (j ∷ js) (cond b (instance_place i js + 1) 0) i ≡ cond b (j ∷ put_instance i js) (i ∷ j ∷ js)
+put_step true i j js same = ap (λ n. insert (j ∷ js) n i) (add-one (instance_place i js)) ∙ ap (λ (l : List SectionView). j ∷ l) same
 put_step false i j js same = refl
 
-pub put_is : (i : SectionView) (is : List SectionView) → insert is (place_of i is) i ≡ put i is
+pub put_is : (i : SectionView) (is : List SectionView) → insert is (instance_place i is) i ≡ put_instance i is
 put_is i [] = refl
 put_is i (j ∷ js) = put_step (is_lt (section_cmp j i)) i j js (put_is i js)
 
-all_put : (P : SectionView → Type 0) (i : SectionView) (is : List SectionView) → P i → AllByRecursion P is → AllByRecursion P (put i is)
+all_put : (P : SectionView → Type 0) (i : SectionView) (is : List SectionView) → P i → AllByRecursion P is → AllByRecursion P (put_instance i is)
 all_put P i [] here all = (here, tt)
 all_put P i (j ∷ js) here all = go (is_lt (section_cmp j i)) (all_put P i js here all.1)
   where
-    go : (b : Bool) → AllByRecursion P (put i js) → AllByRecursion P (cond b (j ∷ put i js) (i ∷ j ∷ js))
+    go : (b : Bool) → AllByRecursion P (put_instance i js) → AllByRecursion P (cond b (j ∷ put_instance i js) (i ∷ j ∷ js))
     go true rest = (all.0, rest)
     go false rest = (here, all)
 
@@ -80,13 +80,13 @@ below_all : (i j : SectionView) (js : List SectionView) → section_cmp i j ≡ 
 below_all i j [] less all = tt
 below_all i j (k ∷ ks) less all = (section_cmp_total.trans i j k less all.0, below_all i j ks less all.1)
 
-put_rises : (i : SectionView) (is : List SectionView) → InstancesRise is → has_instance i is ≡ false → InstancesRise (put i is)
+put_rises : (i : SectionView) (is : List SectionView) → InstancesRise is → has_instance i is ≡ false → InstancesRise (put_instance i is)
 put_rises i [] rise none = (tt, tt)
 put_rises i (j ∷ js) rise none =
     let others = or_parts (is_eq (section_cmp j i)) (has_instance i js) none in
     go (is_lt (section_cmp j i)) refl others.0 (put_rises i js rise.1 others.1)
   where
-    go : (b : Bool) → is_lt (section_cmp j i) ≡ b → is_eq (section_cmp j i) ≡ false → InstancesRise (put i js) → InstancesRise (cond b (j ∷ put i js) (i ∷ j ∷ js))
+    go : (b : Bool) → is_lt (section_cmp j i) ≡ b → is_eq (section_cmp j i) ≡ false → InstancesRise (put_instance i js) → InstancesRise (cond b (j ∷ put_instance i js) (i ∷ j ∷ js))
     go true less other rest = (all_put (λ (k : SectionView). section_cmp j k ≡ Less) i js (less_from_test _ less) rise.0, rest)
     go false less other rest =
         let low : section_cmp i j ≡ Less = section_cmp_total.antisymm i j ∙ ap ordering_reverse (greater (section_cmp j i) less other) in
@@ -96,7 +96,7 @@ pub rising_rises : (is : List SectionView) → InstancesRise (rising is)
 rising_rises [] = tt
 rising_rises (i ∷ is) = go (has_instance i (rising is)) refl (rising_rises is)
   where
-    go : (b : Bool) → has_instance i (rising is) ≡ b → InstancesRise (rising is) → InstancesRise (cond b (rising is) (insert (rising is) (place_of i (rising is)) i))
+    go : (b : Bool) → has_instance i (rising is) ≡ b → InstancesRise (rising is) → InstancesRise (cond b (rising is) (insert (rising is) (instance_place i (rising is)) i))
     go true has rest = rest
     go false has rest = subst InstancesRise (sym (put_is i (rising is))) (put_rises i (rising is) rest has)
 
@@ -104,7 +104,7 @@ pub all_rising : (P : SectionView → Type 0) (is : List SectionView) → AllByR
 all_rising P [] all = tt
 all_rising P (i ∷ is) all = go (has_instance i (rising is)) (all_rising P is all.1)
   where
-    go : (b : Bool) → AllByRecursion P (rising is) → AllByRecursion P (cond b (rising is) (insert (rising is) (place_of i (rising is)) i))
+    go : (b : Bool) → AllByRecursion P (rising is) → AllByRecursion P (cond b (rising is) (insert (rising is) (instance_place i (rising is)) i))
     go true rest = rest
     go false rest = subst (AllByRecursion P) (sym (put_is i (rising is))) (all_put P i (rising is) all.0 rest)
 

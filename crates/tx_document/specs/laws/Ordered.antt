@@ -27,7 +27,7 @@ use Rattle.tx_settings.specs.declared.preferences.Prefs.{Prefs}
 use Rattle.tx_document.specs.declared.views.WordView.{WordView}
 use Rattle.tx_document.specs.declared.views.SectionView.{SectionView}
 use Rattle.tx_document.specs.Documents.{Extent, extents, pair, words_from, word_of, instances, rising, section_cmp}
-use Rattle.tx_document.specs.Entries.{Place, places_under, place_map, positions_of, section_stream, section_place, word_places, is_at}
+use Rattle.tx_document.specs.Entries.{DocumentPlace, places_under, place_map, positions_of, section_stream, section_place, word_places, is_at}
 use Rattle.tx_settings.specs.PrefsBytes.{IsPrefs}
 use Rattle.tx_document.specs.Promises.{InstancesRise, IsInstance, IsKey, if_any, as_pairs, PositionsRise, Follows, PairsRise, IsWordEntry, IsSectionEntry, EntriesAreOrdered}
 use Rattle.tx_document.specs.Fields.{fields}
@@ -54,14 +54,14 @@ pub record IsSectionName (name : List ℕ) : Type 0 where
 abbrev IsAnyName : List ℕ → Type 0
 IsAnyName name = IsWordName name ⊎ IsSectionName name
 
-abbrev HasName : Place → Type 0
+abbrev HasName : DocumentPlace → Type 0
 HasName x = IsAnyName x.0
 
-places_append : (P : Place → Type 0) (xs ys : List Place) → AllByRecursion P xs → AllByRecursion P ys → AllByRecursion P (xs ++ ys)
+places_append : (P : DocumentPlace → Type 0) (xs ys : List DocumentPlace) → AllByRecursion P xs → AllByRecursion P ys → AllByRecursion P (xs ++ ys)
 places_append P [] ys all more = more
 places_append P (x ∷ xs) ys all more = (all.0, places_append P xs ys all.1 more)
 
-streams_named : (k : List ℕ) (q : Pair) (least : ℕ) (ns : List ℕ) → (1 ≤ length k) × (length k ≤ token_limit) → Between least (1 + stream_limit) ns → AllByRecursion HasName (map {B = Place} (λ s. (s ∷ k, q)) ns)
+streams_named : (k : List ℕ) (q : Pair) (least : ℕ) (ns : List ℕ) → (1 ≤ length k) × (length k ≤ token_limit) → Between least (1 + stream_limit) ns → AllByRecursion HasName (map {B = DocumentPlace} (λ s. (s ∷ k, q)) ns)
 streams_named k q least [] key b = tt
 streams_named k q least (n ∷ ns) key b =
     (inl (record { stream = n; token = k; named = refl; main_or_field = omega (arith, b.1); some = key.0; short = key.1 }), streams_named k q (n + 1) ns key b.2)
@@ -82,7 +82,7 @@ sections_named count [] all = tt
 sections_named count (i ∷ is) all = (inr (record { section = i.section; named = refl; is_name = all.0.named }), sections_named count is all.1)
 
 -- a name under which something stands is that of a place
-found_named : (name : List ℕ) (xs : List Place) → AllByRecursion HasName xs → (p : Pair) (ps : List Pair) → places_under name xs ≡ p ∷ ps → IsAnyName name
+found_named : (name : List ℕ) (xs : List DocumentPlace) → AllByRecursion HasName xs → (p : Pair) (ps : List Pair) → places_under name xs ≡ p ∷ ps → IsAnyName name
 found_named name [] all p ps is = cc
 found_named name (x ∷ xs) all p ps is = go (bytes_eq name x.0) refl is (found_named name xs all.1 p ps)
   where
@@ -156,7 +156,7 @@ follow_none : (section : List ℕ) (count : ℕ) (is : List SectionView) → All
 follow_none section count [] all = tt
 follow_none section count (i ∷ is) all = let some = all.0.some in (λ same. inl (omega (arith, some)), follow_none section count is all.1)
 
-pub few_under : (name : List ℕ) (xs : List Place) → length (places_under name xs) ≤ length xs
+pub few_under : (name : List ℕ) (xs : List DocumentPlace) → length (places_under name xs) ≤ length xs
 few_under name [] = omega arith
 few_under name (x ∷ xs) = go (bytes_eq name x.0) (few_under name xs)
   where
@@ -165,12 +165,12 @@ few_under name (x ∷ xs) = go (bytes_eq name x.0) (few_under name xs)
     go false few = omega arith
 
 -- no word stands under the name of a section
-no_word_in : (section k : List ℕ) (q : Pair) (least most : ℕ) (ns : List ℕ) → most ≤ section_stream → Between least most ns → places_under (section_stream ∷ section) (map {B = Place} (λ s. (s ∷ k, q)) ns) ≡ []
+no_word_in : (section k : List ℕ) (q : Pair) (least most : ℕ) (ns : List ℕ) → most ≤ section_stream → Between least most ns → places_under (section_stream ∷ section) (map {B = DocumentPlace} (λ s. (s ∷ k, q)) ns) ≡ []
 no_word_in section k q least most [] le b = refl
 no_word_in section k q least most (n ∷ ns) le b = go (section_stream == n) refl (no_word_in section k q (n + 1) most ns le b.2)
   where
-    go : (t : Bool) → (section_stream == n) ≡ t → places_under (section_stream ∷ section) (map {B = Place} (λ s. (s ∷ k, q)) ns) ≡ []
-        → cond (t && bytes_eq section k) (q ∷ places_under (section_stream ∷ section) (map {B = Place} (λ s. (s ∷ k, q)) ns)) (places_under (section_stream ∷ section) (map {B = Place} (λ s. (s ∷ k, q)) ns)) ≡ []
+    go : (t : Bool) → (section_stream == n) ≡ t → places_under (section_stream ∷ section) (map {B = DocumentPlace} (λ s. (s ∷ k, q)) ns) ≡ []
+        → cond (t && bytes_eq section k) (q ∷ places_under (section_stream ∷ section) (map {B = DocumentPlace} (λ s. (s ∷ k, q)) ns)) (places_under (section_stream ∷ section) (map {B = DocumentPlace} (λ s. (s ∷ k, q)) ns)) ≡ []
     go true is rest = absurd (omega (arith, eqb-true section_stream n is, b.1, le))
     go false is rest = rest
 
@@ -211,7 +211,7 @@ module _ (p : Prefs) (text : List ℕ) (rules_are : IsPrefs p) (short : length t
   abbrev pub all_instances : List SectionView
   all_instances = rising (instances p.group all_extents all_tokens)
 
-  abbrev pub all_places : List Place
+  abbrev pub all_places : List DocumentPlace
   all_places = flat_map word_places all_words ++ map section_place all_instances
 
   pub the_streams : AllByRecursion (Streams (1 + stream_limit)) all_words

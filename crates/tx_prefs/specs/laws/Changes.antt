@@ -6,7 +6,7 @@ use Rattle.std.specs.FinMap.{get, insert}
 use Rattle.ct_entry.specs.declared.kinds.Kind.{Kind}
 use Rattle.ct_entry.specs.declared.kinds.Kind.TheVariants as kind
 use Rattle.ct_entry.specs.Keys.{Key, key, same_list}
-use Rattle.ct_entry.specs.Changes.{put, view, AllOf}
+use Rattle.ct_entry.specs.Changes.{put_value, view, AllOf}
 use Rattle.ct_entry.specs.Maps.{Names}
 use Rattle.ct_entry.specs.laws.Parts.{same_kind}
 use Rattle.ct_entry.specs.laws.Maps.{get_name-insert}
@@ -45,7 +45,7 @@ preferences_frame p ws f ps all other stand = preferences_agree f (view ws f) ps
 
 -- one more name, or one that has another value now
 names_put : {X : Type 0} (f : Key → Option (List ℕ)) (k : Kind) (spelling : X → List ℕ) (xs : Names X) (name : List ℕ) (x : X)
-    → NamesStand f k spelling xs → NamesStand (view (put (key k name []) (spelling x) ∷ []) f) k spelling (insert xs name x)
+    → NamesStand f k spelling xs → NamesStand (view (put_value (key k name []) (spelling x) ∷ []) f) k spelling (insert xs name x)
 names_put {X} f k spelling xs name x stand q =
     ap (λ (b : Bool). cond b (Some (spelling x)) (f (key k q []))) (same_kind k q name [] [])
     ∙ ap (cond (same_list q name && true) (Some (spelling x))) (stand q)

@@ -1,7 +1,7 @@
 use Rattle.std.proofs.Common.{sym, subst, List, ℕ, Option}
 use Rattle.ct_keep.specs.Content.{after}
 use Rattle.ct_keep.specs.Composing.{reads_hold}
-use Rattle.db_state.specs.States.{Stands}
+use Rattle.db_state.specs.States.{StandsForState}
 use Rattle.db_change.specs.Dropping.{with_table_dropped}
 use Rattle.db_change.specs.laws.GoneTables.{dropped_stands}
 use Rattle.db_change.proofs.DropSteps.{known_table}
@@ -14,6 +14,6 @@ returns-clause-plan g c = record {
       let drops = c.in_ok-batch.ensures.changes m k (reads_hold _ _ k c.in_ok-there.ensures.reads holds) stands in (
         with_table_dropped m t,
         known_table m t c.in_ok-there.there (c.in_ok-there.ensures.there m k holds stands) c.if-not-there.false,
-        subst (λ (b : List (List ℕ × Option (List ℕ))). Stands (after b k) (with_table_dropped m t)) (sym drops.is) (dropped_stands k m t drops.names drops.are stands),
+        subst (λ (b : List (List ℕ × Option (List ℕ))). StandsForState (after b k) (with_table_dropped m t)) (sym drops.is) (dropped_stands k m t drops.names drops.are stands),
       );
 }

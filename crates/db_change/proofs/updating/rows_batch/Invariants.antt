@@ -1,15 +1,15 @@
 use Rattle.std.proofs.Common.{◌≡◌, Some, None, map, take}
 use Rattle.ct_keep.specs.Content.{Content}
-use Rattle.ct_keep.specs.KeeperViews.{Reads}
+use Rattle.ct_keep.specs.KeeperViews.{ReadsKeeper}
 use Rattle.ct_entry.specs.Changes.{spell}
-use Rattle.db_state.specs.States.{State, Stands}
+use Rattle.db_state.specs.States.{StoreState, StandsForState}
 use Rattle.db_state.specs.Shapes.{AreStoreChanges}
 use Rattle.db_change.specs.Updating.{update_changes}
 use Rattle.db_change.proofs.updating.rows_batch.Given as goal
 
 abbrev pub invariant-loop-row : goal.invariant-loop-row
 invariant-loop-row g l = record {
-  reads : Reads (g.K.Keeper.view l.fn.keeper) (g.K.Keeper.view l.keeper) None;
-  batch : (m : State) (c : Content) → (g.K.Keeper.view l.fn.keeper).content ≡ Some c → Stands c m → l.batch ≡ spell (update_changes c m l.table l.columns l.assigns l.indexes (map (λ row. row.0) (take l.row-index l.rows)));
+  reads : ReadsKeeper (g.K.Keeper.view l.fn.keeper) (g.K.Keeper.view l.keeper) None;
+  batch : (m : StoreState) (c : Content) → (g.K.Keeper.view l.fn.keeper).content ≡ Some c → StandsForState c m → l.batch ≡ spell (update_changes c m l.table l.columns l.assigns l.indexes (map (λ row. row.0) (take l.row-index l.rows)));
   entries : AreStoreChanges l.batch;
 }

@@ -3,8 +3,9 @@ use Rattle.std.proofs.Common.{◌≡◌, refl, ap, inl, inr}
 use Rattle.pg_journal.specs.declared.faults.LoadFault.TheVariants.{NotAStore}
 use Rattle.pg_heap.specs.laws.Recovering.{one_recovery}
 use Rattle.pg_keeper.specs.laws.Loading.{settled_moments}
+use Rattle.ct_base.specs.laws.Options.{same_value}
 use Rattle.db_console.specs.Limits.{statement_limit, script_limit}
-use Rattle.db_console.proofs.StoreLaws.{served_before, past_none, completes_none, load_status, load_tells, serve_tells, completes_before, no_two_stores, some_same}
+use Rattle.db_console.proofs.StoreLaws.{served_before, past_none, completes_none, load_status, load_tells, serve_tells, completes_before, no_two_stores}
 use Rattle.db_console.proofs.running.serve_store.Goals as goal
 
 -- ---- it wasn't loaded
@@ -37,7 +38,7 @@ returns-clause-table g c = λ image m settled is well.
     let t = c.serve_heap.ensures.table in
     inl (
       c.in-Ok.heap,
-      some_same _ _ (one_recovery image _ _ loaded.0 is),
+      same_value _ _ (one_recovery image _ _ loaded.0 is),
       (
         t.0,
         t.1,

@@ -1,4 +1,4 @@
-use Rattle.db_state.specs.Plans.{always}
+use Rattle.db_state.specs.Plans.{line_for_all}
 use Rattle.std.proofs.lemmas.Result.{err_from_is_err_and}
 use Rattle.std.proofs.Common.{ap, Bool, Some, None}
 use Rattle.std.specs.Prelude.{not}
@@ -18,4 +18,4 @@ returns-then-not-built-clause-serves g c = serves_refused _ _ _ _ NotUnderstood 
 
 pub returns-clause-serves : goal.returns-clause-serves
 returns-clause-serves g c =
-    serves_as _ _ (Some (always index_created)) _ _ _ c.create_index.result (λ m. passes _ NotUnderstood _ (ap not c.if-not-built.false)) (ap (λ (b : Bool). if b then Some (always index_created) else None) c.if-not-built.false) c.create_index.ensures
+    serves_as _ _ (Some (line_for_all index_created)) _ _ _ c.create_index.result (λ m. passes _ NotUnderstood _ (ap not c.if-not-built.false)) (ap (λ (b : Bool). if b then Some (line_for_all index_created) else None) c.if-not-built.false) c.create_index.ensures

@@ -1,4 +1,4 @@
-use Rattle.db_state.specs.Plans.{always}
+use Rattle.db_state.specs.Plans.{line_for_all}
 use Rattle.std.proofs.Common.{◌≡◌, ⊎_elim, ap, sym, ◌∙◌, List, Bool, Some, None, refl}
 use Rattle.std.specs.Prelude.{not}
 use Rattle.std.specs.Bool.{if◌then◌else◌}
@@ -34,7 +34,7 @@ returns-in-CreateIndex-clause-serves g c =
     let kind = c.in-CreateIndex.kind in let parameters = c.in-CreateIndex.parameters in let parallel = c.in-CreateIndex.parallel in
     serves_as _ _ _ _ _ _ c.index_statement.result
     (λ m. ap (effect m) c.in-CreateIndex.is ∙ ap (λ (b : Bool). refuse (not b) NotUnderstood (create_index m c.in-CreateIndex.name c.in-CreateIndex.table c.in-CreateIndex.column c.in-CreateIndex.parameters)) (sym c.is_built_index-built.ensures))
-    (ap done_line c.in-CreateIndex.is ∙ ap (λ (b : Bool). if b then Some (always index_created) else None) (sym c.is_built_index-built.ensures)) c.index_statement.ensures.serves
+    (ap done_line c.in-CreateIndex.is ∙ ap (λ (b : Bool). if b then Some (line_for_all index_created) else None) (sym c.is_built_index-built.ensures)) c.index_statement.ensures.serves
 
 pub returns-in-Insert-clause-serves : goal.returns-in-Insert-clause-serves
 returns-in-Insert-clause-serves g c =

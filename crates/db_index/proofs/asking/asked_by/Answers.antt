@@ -2,7 +2,7 @@ use Rattle.std.proofs.Common.{ap, ◌∙◌}
 use Rattle.std.proofs.lemmas.Result.{err_from_is_err_and}
 use Rattle.ct_keep.specs.Composing.{reads_hold, reads_on}
 use Rattle.tx_prefs.specs.Copies.{copied}
-use Rattle.db_index.proofs.IndexChecks.{holds_preferences}
+use Rattle.db_state.specs.laws.Holding.{holds_preferences}
 use Rattle.db_index.proofs.asking.asked_by.Goals as goal
 
 pub returns-in_err-prefs-clause-reads : goal.returns-in_err-prefs-clause-reads

@@ -6,7 +6,7 @@ use Rattle.ct_keep.specs.Composing.{reads_hold}
 use Rattle.tb_table.specs.declared.columns.Column.{Column}
 use Rattle.db_cond.specs.Faults.{UnknownName}
 use Rattle.db_state.specs.Effects.{Refused}
-use Rattle.db_state.specs.Columns.{place_of}
+use Rattle.db_state.specs.Columns.{column_place}
 use Rattle.db_index.specs.Indexing.{index_created, requests_in}
 use Rattle.db_index.proofs.IndexChecks.{no_table, the_table, place_within, unknown_table, unknown_column, known_column, unknown_preference, known_preferences, plan_as}
 use Rattle.db_index.proofs.indexing.index_plan.Goals as goal
@@ -20,21 +20,21 @@ returns-in_default-clause-plan g c = λ m k holds stands parameters asks.
     unknown_table m c.args.index.now c.args.table.now c.args.column.now parameters (no_table m c.args.table.now (items c.in_ok-columns.field-0) (c.in_ok-columns.ensures.columns m k holds stands) (ap items c.in_default.is))
     ∙ ap (λ n. Refused (UnknownName n)) (sym c.as_str.ensures.text)
 
-pub returns-in_default-place_of-clause-plan : goal.returns-in_default-place_of-clause-plan
+pub returns-in_default-column_place-clause-plan : goal.returns-in_default-column_place-clause-plan
 unfolding items
-returns-in_default-place_of-clause-plan g c = λ m k holds stands parameters asks.
+returns-in_default-column_place-clause-plan g c = λ m k holds stands parameters asks.
     let x = the_table m c.args.table.now (items c.in_ok-columns.field-0) c.in-Some.columns.items (c.in_ok-columns.ensures.columns m k holds stands) (ap items c.in-Some.is) in
-    unknown_column m c.args.index.now c.args.table.now c.args.column.now parameters x.0 x.1 (ap (place_of c.args.column.now) (sym x.2) ∙ ap (place_of c.args.column.now) (sym c.deref.ensures.value) ∙ sym c.place_of.ensures ∙ c.in_default-place_of.is)
-    ∙ ap (λ n. Refused (UnknownName n)) (sym c.as_str-in_default-place_of.ensures.text)
+    unknown_column m c.args.index.now c.args.table.now c.args.column.now parameters x.0 x.1 (ap (column_place c.args.column.now) (sym x.2) ∙ ap (column_place c.args.column.now) (sym c.deref.ensures.value) ∙ sym c.column_place.ensures ∙ c.in_default-column_place.is)
+    ∙ ap (λ n. Refused (UnknownName n)) (sym c.as_str-in_default-column_place.ensures.text)
 
 pub returns-in-Some-unknown-clause-plan : goal.returns-in-Some-unknown-clause-plan
 unfolding items
 returns-in-Some-unknown-clause-plan g c = λ m k holds stands parameters asks.
     let i = c.args.index.now in let t = c.args.table.now in let column = c.args.column.now in
     let x = the_table m t (items c.in_ok-columns.field-0) c.in-Some.columns.items (c.in_ok-columns.ensures.columns m k holds stands) (ap items c.in-Some.is) in
-    let place : place_of column x.0.columns ≡ Some c.in-Some-place_of.place = ap (place_of column) (sym x.2) ∙ ap (place_of column) (sym c.deref.ensures.value) ∙ sym c.place_of.ensures ∙ c.in-Some-place_of.is in
-    known_column m i t column parameters x.0 c.in-Some-place_of.place x.1 place
-    ∙ unknown_preference m i t (requests_in parameters) x.0 c.in-Some-place_of.place c.in-Some-unknown.name (sym asks.unknown ∙ c.in-Some-unknown.is)
+    let place : column_place column x.0.columns ≡ Some c.in-Some-column_place.place = ap (column_place column) (sym x.2) ∙ ap (column_place column) (sym c.deref.ensures.value) ∙ sym c.column_place.ensures ∙ c.in-Some-column_place.is in
+    known_column m i t column parameters x.0 c.in-Some-column_place.place x.1 place
+    ∙ unknown_preference m i t (requests_in parameters) x.0 c.in-Some-column_place.place c.in-Some-unknown.name (sym asks.unknown ∙ c.in-Some-unknown.is)
     ∙ ap (λ n. Refused (UnknownName n)) (sym c.as_str-in-Some-unknown.ensures.text)
 
 pub returns-clause-plan : goal.returns-clause-plan
@@ -42,11 +42,11 @@ unfolding items
 returns-clause-plan g c = λ m k holds stands parameters asks.
     let i = c.args.index.now in let t = c.args.table.now in let column = c.args.column.now in
     let x = the_table m t (items c.in_ok-columns.field-0) c.in-Some.columns.items (c.in_ok-columns.ensures.columns m k holds stands) (ap items c.in-Some.is) in
-    let place : place_of column x.0.columns ≡ Some c.in-Some-place_of.place = ap (place_of column) (sym x.2) ∙ ap (place_of column) (sym c.deref.ensures.value) ∙ sym c.place_of.ensures ∙ c.in-Some-place_of.is in
-    let within = place_within column x.0.columns c.in-Some-place_of.place place in
+    let place : column_place column x.0.columns ≡ Some c.in-Some-column_place.place = ap (column_place column) (sym x.2) ∙ ap (column_place column) (sym c.deref.ensures.value) ∙ sym c.column_place.ensures ∙ c.in-Some-column_place.is in
+    let within = place_within column x.0.columns c.in-Some-column_place.place place in
     let few = (stands.state.tables.each t x.0 x.1).columns.few in
     let effect =
-    known_column m i t column parameters x.0 c.in-Some-place_of.place x.1 place
-    ∙ known_preferences m i t (requests_in parameters) x.0 c.in-Some-place_of.place c.args.asked.now.prefs (sym asks.unknown ∙ c.in_default-unknown.is) asks.prefs in
+    known_column m i t column parameters x.0 c.in-Some-column_place.place x.1 place
+    ∙ known_preferences m i t (requests_in parameters) x.0 c.in-Some-column_place.place c.args.asked.now.prefs (sym asks.unknown ∙ c.in_default-unknown.is) asks.prefs in
     IfOk-weaker c.plan_on.result _ _ (λ plan fits. plan_as _ _ index_created k plan effect fits)
     (c.plan_on.ensures.plan m k x.0 (reads_hold _ _ k c.in_ok-columns.ensures.reads holds) stands x.1 (omega (arith, within, few)) (c.deref-2.ensures.value ∙ x.2))

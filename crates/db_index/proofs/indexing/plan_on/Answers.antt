@@ -1,14 +1,15 @@
 use Rattle.std.proofs.Common.{◌≡◌, ℕ, List, Option, Some, None, sym, ap, subst, ◌∙◌}
+use Rattle.ct_base.specs.laws.Options.{match_none}
 use Rattle.ct_keep.specs.Content.{after}
 use Rattle.ct_keep.specs.Composing.{reads_on, reads_hold}
 use Rattle.tx_settings.specs.declared.preferences.Prefs.{Prefs}
-use Rattle.db_state.specs.States.{State, Stands}
+use Rattle.db_state.specs.States.{StoreState, StandsForState}
 use Rattle.db_state.specs.Effects.{Effect, Does}
 use Rattle.tb_table.specs.Tables.{Table}
 use Rattle.db_index.specs.Indexing.{create_index_on, index_created, is_text_at, with_new_index}
 use Rattle.db_index.proofs.IndexChecks.{done_by, faulty, faultless, index_free}
 use Rattle.db_index.specs.laws.NewMarks.{new_index_stands}
-use Rattle.db_index.proofs.Found.{found_none, found_some}
+use Rattle.db_index.proofs.Found.{found_some}
 use Rattle.db_index.proofs.indexing.plan_on.Goals as goal
 
 pub returns-in-Some-clause-plan : goal.returns-in-Some-clause-plan
@@ -30,7 +31,7 @@ returns-in_default-prefs-clause-plan g c = λ m k x holds stands there small col
     ∙ ap (λ (o : Option Prefs). done_by o done) c.in_default-prefs.is
 
 -- what the checks let pass, by the preferences
-passed_as : (m : State) (i t : List ℕ) (x : Table) (place : ℕ) (o : Option Prefs) (prefs : Prefs) → o ≡ Some prefs
+passed_as : (m : StoreState) (i t : List ℕ) (x : Table) (place : ℕ) (o : Option Prefs) (prefs : Prefs) → o ≡ Some prefs
     → create_index_on m i t x place o ≡ done_by o (λ prefs. Does (with_new_index m i t place prefs) index_created) → create_index_on m i t x place (Some prefs) ≡ Does (with_new_index m i t place prefs) index_created
 passed_as m i t x place None prefs is effect = cc
 passed_as m i t x place (Some p) prefs is effect =
@@ -47,7 +48,7 @@ returns-in_default-found-clause-plan g c = λ m k x holds stands there small col
     (c.in_ok-many.ensures.many m k (reads_hold _ _ k c.in_ok-there.ensures.reads holds) stands)
     c.index_fault.ensures.checks c.in_default.is in
     let effect = passed_as m i t x place prefs c.in-Some-prefs.prefs c.in-Some-prefs.is is in
-    absurd (found_none c.in_ok-found.found _ _ c.in_default-found.is (c.in_ok-found.ensures.changes m k after stands x small (index_free m i t x place c.in-Some-prefs.prefs _ _ there effect)))
+    absurd (match_none c.in_ok-found.found _ _ c.in_default-found.is (c.in_ok-found.ensures.changes m k after stands x small (index_free m i t x place c.in-Some-prefs.prefs _ _ there effect)))
 
 pub returns-clause-plan : goal.returns-clause-plan
 returns-clause-plan g c = λ m k x holds stands there small columns.
@@ -64,5 +65,5 @@ returns-clause-plan g c = λ m k x holds stands there small columns.
     let changes = found_some c.in_ok-found.found c.in-Some-found.batch _ _ c.in-Some-found.is (c.in_ok-found.ensures.changes m k held stands x small free) in (
       with_new_index m i t place read,
       ap (create_index_on m i t x place) c.in-Some-prefs.is ∙ effect,
-      subst (λ (b : List (List ℕ × Option (List ℕ))). Stands (after b k) (with_new_index m i t place read)) (sym changes) (new_index_stands k m i t x place read stands c.index_fault.ensures.named c.keep_rules.ensures free),
+      subst (λ (b : List (List ℕ × Option (List ℕ))). StandsForState (after b k) (with_new_index m i t place read)) (sym changes) (new_index_stands k m i t x place read stands c.index_fault.ensures.named c.keep_rules.ensures free),
     )

@@ -1,14 +1,15 @@
 use Rattle.std.proofs.Common.{ℕ, List, Option, [], sym, ap, subst, ◌∙◌}
+use Rattle.ct_base.specs.laws.Options.{match_none}
 use Rattle.ct_keep.specs.Content.{after}
 use Rattle.ct_keep.specs.Composing.{reads_hold}
 use Rattle.db_cond.specs.Faults.{LimitReached}
 use Rattle.db_call.specs.Arguments.{name_at}
 use Rattle.db_index.specs.Syncing.{sync_named, with_synced}
 use Rattle.db_state.specs.Effects.{Does}
-use Rattle.db_state.specs.States.{Stands}
+use Rattle.db_state.specs.States.{StandsForState}
 use Rattle.db_state.specs.laws.Chains.{checked, refused, fails, passes}
 use Rattle.db_index.specs.laws.NewMarks.{synced_stands}
-use Rattle.db_index.proofs.Found.{found_none, found_some}
+use Rattle.db_index.proofs.Found.{found_some}
 use Rattle.db_index.proofs.SyncChecks.{sync_as, passed_by, index_there, found_is}
 use Rattle.db_index.proofs.syncing.sync_plan.Goals as goal
 
@@ -38,7 +39,7 @@ returns-in_default-found-clause-plan g c = record {
       ∙ checked c.sync_fault.result _ _ c.in_default.is (c.sync_fault.ensures (sync_named m (name_at 0 c.args.args.now)))
       ∙ ap (sync_named m) (sym c.requires.named)
       ∙ found_is m c.args.name.now i x.0 c.in-Some-name.is x.1
-      ∙ fails _ LimitReached _ (found_none c.in_ok-found.found _ _ c.in_default-found.is (c.in_ok-found.ensures.changes m k x.0 (reads_hold _ _ k c.in_ok-there.ensures.reads holds) stands x.1));
+      ∙ fails _ LimitReached _ (match_none c.in_ok-found.found _ _ c.in_default-found.is (c.in_ok-found.ensures.changes m k x.0 (reads_hold _ _ k c.in_ok-there.ensures.reads holds) stands x.1));
 }
 
 pub returns-clause-plan : goal.returns-clause-plan
@@ -55,6 +56,6 @@ returns-clause-plan g c = record {
             ∙ ap (sync_named m) (sym c.requires.named)
             ∙ found_is m c.args.name.now i x.0 c.in-Some-name.is x.1
             ∙ passes _ LimitReached _ found.0,
-        subst (λ (b : List (List ℕ × Option (List ℕ))). Stands (after b k) (with_synced m i)) (sym found.1) (synced_stands k m i x.0 stands x.1 found.0),
+        subst (λ (b : List (List ℕ × Option (List ℕ))). StandsForState (after b k) (with_synced m i)) (sym found.1) (synced_stands k m i x.0 stands x.1 found.0),
       );
 }

@@ -3,7 +3,7 @@ use Rattle.tx_settings.specs.declared.attributes.Setting.{Setting}
 use Rattle.db_cond.specs.Faults.{UnknownName, refusal_line}
 use Rattle.db_state.specs.Effects.{reply_by}
 use Rattle.db_index.specs.Tokenizing.{tokens_asked}
-use Rattle.db_index.proofs.IndexChecks.{holds_preferences}
+use Rattle.db_state.specs.laws.Holding.{holds_preferences}
 use Rattle.db_index.proofs.TokenChecks.{badly_named, lexer_unknown, lexer_known}
 use Rattle.db_index.proofs.tokenizing.named_tokens.Goals as goal
 

@@ -21,7 +21,7 @@ returns-in_default-2-clause-plan g c = record {
       let name = c.args.name.now in
       let found = option_map items c.in_ok-found.found in
       let set = c.in_ok-setting.field-0 in
-      attribute_as m args name _ found set _ (c.in_ok-found.ensures.settings m k holds stands) (unknown_by items c.in_ok-found.found name _ c.is_some.result c.is_some.ensures c.unknown_name-unknown.ensures) c.are_texts.ensures
+      attribute_as m args name _ found set _ (c.in_ok-found.ensures.settings m k holds stands) (unknown_by items c.in_ok-found.found name _ c.is_some.result c.is_some.ensures c.missing_name-unknown.ensures) c.are_texts.ensures
       (c.in_ok-setting.ensures.is ∙ (λ i. setting_of (c.text_at.ensures i) (c.text_at-2.ensures i)))
       ∙ checked c.first_fault.result _ _ c.in_default.is (c.first_fault.ensures (attribute_on m args name found set))
       ∙ not_found set BadValue _ c.in_default-2.is;
@@ -34,7 +34,7 @@ returns-in_default-found-clause-plan g c = record {
       let name = c.args.name.now in
       let found = option_map items c.in_ok-found.found in
       let set = c.in_ok-setting.field-0 in
-      attribute_as m args name _ found set _ (c.in_ok-found.ensures.settings m k holds stands) (unknown_by items c.in_ok-found.found name _ c.is_some.result c.is_some.ensures c.unknown_name-unknown.ensures) c.are_texts.ensures
+      attribute_as m args name _ found set _ (c.in_ok-found.ensures.settings m k holds stands) (unknown_by items c.in_ok-found.found name _ c.is_some.result c.is_some.ensures c.missing_name-unknown.ensures) c.are_texts.ensures
       (c.in_ok-setting.ensures.is ∙ (λ i. setting_of (c.text_at.ensures i) (c.text_at-2.ensures i)))
       ∙ checked c.first_fault.result _ _ c.in_default.is (c.first_fault.ensures (attribute_on m args name found set))
       ∙ is_found set c.in-Some-2.setting BadValue _ c.in-Some-2.is
@@ -52,7 +52,7 @@ returns-clause-plan g c = record {
       let there = ap (option_map items) c.in-Some-found.is in
       subst (λ (e : Effect). IsPlan e call_done k c.in_ok-plan.plan)
       (sym
-      (attribute_as m args name _ found set _ read (unknown_by items c.in_ok-found.found name _ c.is_some.result c.is_some.ensures c.unknown_name-unknown.ensures) c.are_texts.ensures
+      (attribute_as m args name _ found set _ read (unknown_by items c.in_ok-found.found name _ c.is_some.result c.is_some.ensures c.missing_name-unknown.ensures) c.are_texts.ensures
       (c.in_ok-setting.ensures.is ∙ (λ i. setting_of (c.text_at.ensures i) (c.text_at-2.ensures i)))
       ∙ checked c.first_fault.result _ _ c.in_default.is (c.first_fault.ensures (attribute_on m args name found set))
       ∙ is_found set c.in-Some-2.setting BadValue _ c.in-Some-2.is

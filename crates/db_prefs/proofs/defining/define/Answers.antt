@@ -2,7 +2,7 @@ use Rattle.std.proofs.Common.{Some, refl, sym}
 use Rattle.std.proofs.lemmas.Result.{err_from_is_err_and}
 use Rattle.ct_keep.specs.Composing.{reads_none}
 use Rattle.db_state.specs.Lines.{call_done}
-use Rattle.db_state.specs.Plans.{always}
+use Rattle.db_state.specs.Plans.{line_for_all}
 use Rattle.db_state.specs.laws.Serving.{serves_as, serves_err, serves_short, serves_then, plan_then}
 use Rattle.db_prefs.specs.Defining.{define, define_by}
 use Rattle.db_prefs.proofs.defining.define.Goals as goal
@@ -13,7 +13,7 @@ returns-in_err-shown g c = serves_short _ _ _ _ _ (reads_none _ c.requires.ready
 pub returns-in-Ok : goal.returns-in-Ok
 returns-in-Ok g c =
     let shown = c.in_ok-shown.shown in
-    serves_as (λ m. define_by m c.args.procedure shown.name shown.section shown.tag c.args.args.now) (λ m. define m c.args.procedure c.args.args.now) (Some (always call_done)) (Some (always call_done)) _ _ _
+    serves_as (λ m. define_by m c.args.procedure shown.name shown.section shown.tag c.args.args.now) (λ m. define m c.args.procedure c.args.args.now) (Some (line_for_all call_done)) (Some (line_for_all call_done)) _ _ _
     (λ m i. define_by m c.args.procedure (sym c.in_ok-shown.ensures.name i) (sym c.in_ok-shown.ensures.section i) (sym c.in_ok-shown.ensures.tag i) c.args.args.now) refl
     (serves_then _ _ _ _ _ _ c.in-Ok.ensures.reads (c.carry_out.ensures.done _ (plan_then _ _ _ _ _ c.in-Ok.ensures.reads c.in-Ok.ensures.plan)))
 

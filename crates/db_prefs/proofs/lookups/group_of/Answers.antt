@@ -1,5 +1,5 @@
 use Rattle.std.proofs.lemmas.Result.{IfOk-weaker}
-use Rattle.db_prefs.proofs.NewPreferences.{holds_preferences}
+use Rattle.db_state.specs.laws.Holding.{holds_preferences}
 use Rattle.db_prefs.proofs.lookups.group_of.Goals as goal
 
 pub returns-in-Some-clause-group : goal.returns-in-Some-clause-group

@@ -20,7 +20,7 @@ returns-clause-plan g c = record {
       let fresh = section_fresh c.args.kind _ c.args.section.now c.args.tag.now section tag c.in_ok-found.found group c.taken_section-taken.ensures none c.in-Some-found.is c.in-Some-section.is c.in-Some-tag.is in
       subst (λ (e : Effect). IsPlan e call_done k c.in_ok-plan.plan)
       (sym
-      (section_as m c.args.kind c.args.section.now c.args.tag.now name _ _ c.in_ok-found.found c.args.shaped read (unknown_of _ _ _ c.is_some.result c.is_some.ensures c.unknown_name-unknown.ensures) c.taken_section-taken.ensures
+      (section_as m c.args.kind c.args.section.now c.args.tag.now name _ _ c.in_ok-found.found c.args.shaped read (unknown_of _ _ _ c.is_some.result c.is_some.ensures c.missing_name-unknown.ensures) c.taken_section-taken.ensures
       ∙ checked c.first_fault.result _ _ c.in_default.is (c.first_fault.ensures (section_on m c.args.kind c.args.section.now c.args.tag.now name c.in_ok-found.found))
       ∙ both_there _ _ c.in-Some-name.name group (λ name g. of_both c.args.section.now c.args.tag.now (section_added c.args.kind name g m)) c.in-Some-name.is c.in-Some-found.is
       ∙ both_there _ _ section tag (section_added c.args.kind c.in-Some-name.name group m) c.in-Some-section.is c.in-Some-tag.is

@@ -14,7 +14,7 @@ returns-clause-plan g c = record {
       let read = c.in_ok-found.ensures.group m k holds stands in
       subst (λ (e : Effect). IsPlan e call_done k c.in_ok-plan.plan)
       (sym
-      (special_as m c.args.args.now c.args.name.now _ _ c.in_ok-found.found c.special_of-asked.result _ read (unknown_of _ _ _ c.is_some.result c.is_some.ensures c.unknown_name-unknown.ensures) c.taken_special-taken.ensures c.are_texts.ensures
+      (special_as m c.args.args.now c.args.name.now _ _ c.in_ok-found.found c.special_of-asked.result _ read (unknown_of _ _ _ c.is_some.result c.is_some.ensures c.missing_name-unknown.ensures) c.taken_special-taken.ensures c.are_texts.ensures
       (c.special_of-asked.ensures ∙ ap special_of c.text_at.ensures)
       ∙ checked c.first_fault.result _ _ c.in_default.is (c.first_fault.ensures (special_on m c.args.args.now c.args.name.now c.in_ok-found.found c.special_of-asked.result))
       ∙ is_found _ c.in-Some-asked.special BadValue _ c.in-Some-asked.is

@@ -2,7 +2,7 @@ use Rattle.std.proofs.Common.{rules, ◌≡◌, ℕ, List, Option, subst, sym, a
 use Rattle.std.specs.Prelude.{◌==◌}
 use Rattle.std.specs.Map.{lookup}
 use Rattle.ct_entry.specs.Keys.{IsRow}
-use Rattle.tb_table.specs.Tables.{text_of}
+use Rattle.tb_table.specs.Tables.{text_in_column}
 use Rattle.db_rows.specs.Values.{row_values}
 use Rattle.db_rows.specs.Reading.{KnowTexts}
 use Rattle.db_rows.proofs.RowReads.{know_more, text_is}
@@ -22,7 +22,7 @@ pub returns-clause-read : goal.returns-clause-read
 returns-clause-read g c = λ m k holds stands read.
     let row : IsRow c.args.row.0 = search rules in
     let vs = row_values m.tables c.args.table.now c.args.row.0 in
-    let is : c.in_ok-text-2.text ≡ text_of vs c.args.column = text_is m k stands c.args.table.now c.args.column c.args.row.0 c.ranges.column.fits row c.in_ok-text-2.text (c.in_ok-text-2.ensures.value k holds) in
+    let is : c.in_ok-text-2.text ≡ text_in_column vs c.args.column = text_is m k stands c.args.table.now c.args.column c.args.row.0 c.ranges.column.fits row c.in_ok-text-2.text (c.in_ok-text-2.ensures.value k holds) in
     record {
       numbers = read.numbers;
       texts = subst (KnowTexts vs) (sym {A = List (ℕ × Option (List ℕ))} c.in_ok-note_text.ensures) (know_more vs c.args.read.now.texts.items c.args.column c.in_ok-text-2.text read.texts is);

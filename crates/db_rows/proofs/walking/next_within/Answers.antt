@@ -5,9 +5,9 @@ use Rattle.db_rows.proofs.Walks.{none_after}
 use Rattle.db_rows.proofs.NextSteps.{next_of, none_next, far_next}
 use Rattle.db_rows.proofs.walking.next_within.Goals as goal
 
-pub returns-then-is_past-clause-next : goal.returns-then-is_past-clause-next
-returns-then-is_past-clause-next g c = λ m k holds stands place.
-    none_after (number_of c.args.after) c.args.bounds.greatest.0 (row_keys m.tables c.args.table.now) (sym c.is_past.ensures ∙ c.if-is_past.true)
+pub returns-then-is_past_greatest-clause-next : goal.returns-then-is_past_greatest-clause-next
+returns-then-is_past_greatest-clause-next g c = λ m k holds stands place.
+    none_after (number_of c.args.after) c.args.bounds.greatest.0 (row_keys m.tables c.args.table.now) (sym c.is_past_greatest.ensures ∙ c.if-is_past_greatest.true)
 
 pub returns-in_default-clause-next : goal.returns-in_default-clause-next
 returns-in_default-clause-next g c = λ m k holds stands place.

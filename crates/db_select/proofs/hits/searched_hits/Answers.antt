@@ -4,7 +4,7 @@ use Rattle.ct_keep.specs.Composing.{reads_hold}
 use Rattle.tb_table.specs.declared.columns.Column.{Column}
 use Rattle.db_select.specs.Querying.{Meaning}
 use Rattle.db_select.specs.Selecting.{found_by, index_of_search}
-use Rattle.db_select.specs.Sources.{found_scores}
+use Rattle.ix_search.specs.Hits.{hit_rows}
 use Rattle.db_select.proofs.HitSteps.{met_are, searched_are}
 use Rattle.db_select.proofs.hits.searched_hits.Goals as goal
 
@@ -15,7 +15,7 @@ returns-clause-hits g c = λ m k x holds stands there same y s index needed mean
     let o = c.args.above in
     let behind = reads_hold _ _ k c.in_ok-found.ensures.reads holds in
     let all =
-    ap found_scores c.deref.ensures.value
+    ap hit_rows c.deref.ensures.value
     ∙ c.in_ok-found.ensures.found m k y holds stands index
     ∙ ap (λ (q : Meaning). found_by m.tables y q o) (sym means) in
     IfOk-weaker c.met_hits.result _ _

@@ -4,7 +4,8 @@ use Rattle.st_parse.specs.declared.statements.Item.{Item}
 use Rattle.st_parse.specs.declared.statements.SelectList.{SelectList}
 use Rattle.db_state.specs.Lines.{lines_or_none}
 use Rattle.db_select.specs.Selecting.{all_columns, rows_reply}
-use Rattle.db_select.specs.Sources.{field_source, found_scores}
+use Rattle.ix_search.specs.Hits.{hit_rows}
+use Rattle.db_select.specs.Sources.{field_source}
 use Rattle.db_select.proofs.Selects.{columns_are, rows_are}
 use Rattle.db_select.proofs.listing.rows_reply.Goals as goal
 
@@ -17,7 +18,7 @@ returns-in_ok-sources-in-Star-clause-reply g c = λ m k x holds stands there sam
     (λ lines is.
     is
     ∙ ap lines_or_none (rows_are m t x (all_columns x.columns) columns c.deref.result.now c.args.hits.now stands.state.tables there same sources)
-    ∙ ap (λ (list : SelectList). rows_reply m.tables t x.columns list (found_scores c.args.hits.now)) (sym c.in-Star.is))
+    ∙ ap (λ (list : SelectList). rows_reply m.tables t x.columns list (hit_rows c.args.hits.now)) (sym c.in-Star.is))
     (c.hit_lines.ensures.lines m k holds stands)
 
 pub returns-in_ok-sources-in-Items-clause-reply : goal.returns-in_ok-sources-in-Items-clause-reply
@@ -31,5 +32,5 @@ returns-in_ok-sources-in-Items-clause-reply g c = λ m k x holds stands there sa
     (λ lines is.
     is
     ∙ ap lines_or_none (rows_are m t x items columns c.deref-in-Items.result.now c.args.hits.now stands.state.tables there same sources)
-    ∙ ap (λ (list : SelectList). rows_reply m.tables t x.columns list (found_scores c.args.hits.now)) (sym c.in-Items.is))
+    ∙ ap (λ (list : SelectList). rows_reply m.tables t x.columns list (hit_rows c.args.hits.now)) (sym c.in-Items.is))
     (c.hit_lines-in-Items.ensures.lines m k holds stands)

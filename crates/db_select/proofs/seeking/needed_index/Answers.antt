@@ -1,11 +1,11 @@
 use Rattle.std.proofs.Common.{sym}
 use Rattle.std.proofs.lemmas.Result.{IfOk-weaker}
-use Rattle.db_select.specs.Searches.{asked}
+use Rattle.db_select.specs.Searches.{held_search}
 use Rattle.db_select.proofs.Listed.{place_small, needed_at}
 use Rattle.db_select.proofs.seeking.needed_index.Goals as goal
 
 pub returns-in-Some-clause-index : goal.returns-in-Some-clause-index
 returns-in-Some-clause-index g c = λ m k holds stands few.
-    let search = asked c.args.search.now in
+    let search = held_search c.args.search.now in
     let small = place_small search.column c.args.columns.now c.in-Some.place (sym c.in-Some.ensures) few in
     IfOk-weaker c.context_index.result _ _ (needed_at m c.args.table.now c.args.columns.now search c.in-Some.place (sym c.in-Some.ensures)) (c.context_index.ensures.found m k holds stands small)

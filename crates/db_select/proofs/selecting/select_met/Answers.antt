@@ -1,7 +1,7 @@
 use Rattle.std.proofs.Common.{None, refl, ap, ◌∙◌}
 use Rattle.std.proofs.lemmas.Result.{IfOk-weaker}
 use Rattle.ct_keep.specs.Composing.{reads_hold}
-use Rattle.db_select.specs.Sources.{found_scores}
+use Rattle.ix_search.specs.Hits.{hit_rows}
 use Rattle.db_select.proofs.Selects.{passed}
 use Rattle.db_select.proofs.selecting.select_met.Goals as goal
 
@@ -12,5 +12,5 @@ returns-clause-reply g c = λ m k x holds stands there same.
     (λ reply is.
     is
     ∙ passed m c.args.table.now x c.args.list.now None c.args.conds.now c.args.columns.now same _ _ c.has_wrong_values-wrong_values.ensures c.has_beyond-out_of_range.ensures refl c.in_default.ensures refl
-    (found_scores c.deref.result.now) (ap found_scores c.deref.ensures.value ∙ c.in_ok-hits.ensures.hits m k x holds stands there same))
+    (hit_rows c.deref.result.now) (ap hit_rows c.deref.ensures.value ∙ c.in_ok-hits.ensures.hits m k x holds stands there same))
     (c.rows_reply.ensures.reply m k x behind stands there same)

@@ -8,9 +8,9 @@ use Rattle.q_tree.specs.Trees.{reduced_of}
 use Rattle.db_select.specs.Meanings.{Means}
 use Rattle.db_select.specs.declared.querying.Meaning.TheVariants.{Refused}
 use Rattle.db_select.specs.Querying.{meaning_of, Finds}
-use Rattle.db_select.specs.Searches.{asked, NeedsIndex}
+use Rattle.db_select.specs.Searches.{held_search, NeedsIndex}
 use Rattle.db_select.specs.Selecting.{index_of_search}
-use Rattle.db_select.specs.Sources.{found_scores}
+use Rattle.ix_search.specs.Hits.{hit_rows}
 use Rattle.db_select.proofs.Selects.{few_columns, has_needed, faulty, passed, refused, refusal_is, no_refusal}
 use Rattle.db_select.proofs.selecting.select_searched.Goals as goal
 
@@ -18,7 +18,7 @@ pub returns-in-Some-first_fault-clause-reply : goal.returns-in-Some-first_fault-
 returns-in-Some-first_fault-clause-reply g c = λ m k x holds stands there same.
     let t = c.args.table.now in
     let columns : List Column = c.args.columns.now in
-    let s = asked c.args.search.now in
+    let s = held_search c.args.search.now in
     let few = few_columns m t x columns stands.state.tables there same in
     let index : NeedsIndex m t columns s (Some c.in-Some.index) = subst (NeedsIndex m t columns s) c.in-Some.is (c.in_ok-index.ensures.index m k holds stands few) in
     let needed = has_needed m t x s index.0 (ap (λ (cs : List Column). index_of_search m t cs s) same ∙ index.1.1) in
@@ -30,7 +30,7 @@ pub returns-in-Refused-clause-reply : goal.returns-in-Refused-clause-reply
 returns-in-Refused-clause-reply g c = λ m k x holds stands there same.
     let t = c.args.table.now in
     let columns : List Column = c.args.columns.now in
-    let s = asked c.args.search.now in
+    let s = held_search c.args.search.now in
     let few = few_columns m t x columns stands.state.tables there same in
     let index : NeedsIndex m t columns s (Some c.in-Some.index) = subst (NeedsIndex m t columns s) c.in-Some.is (c.in_ok-index.ensures.index m k holds stands few) in
     let here = ap (λ (cs : List Column). index_of_search m t cs s) same ∙ index.1.1 in
@@ -45,7 +45,7 @@ pub returns-clause-reply : goal.returns-clause-reply
 returns-clause-reply g c = λ m k x holds stands there same.
     let t = c.args.table.now in
     let columns : List Column = c.args.columns.now in
-    let s = asked c.args.search.now in
+    let s = held_search c.args.search.now in
     let few = few_columns m t x columns stands.state.tables there same in
     let index : NeedsIndex m t columns s (Some c.in-Some.index) = subst (NeedsIndex m t columns s) c.in-Some.is (c.in_ok-index.ensures.index m k holds stands few) in
     let here = ap (λ (cs : List Column). index_of_search m t cs s) same ∙ index.1.1 in
@@ -58,6 +58,6 @@ returns-clause-reply g c = λ m k x holds stands there same.
     (λ reply is.
     is
     ∙ passed m t x c.args.list.now (Some s) c.args.conds.now columns same _ _ c.has_wrong_values-wrong_values.ensures c.has_bad_number-out_of_range.ensures
-    needed c.in_default-first_fault.ensures (no_refusal m t x s index.0 here (option_map reduced_of c.in-Finds.flat) means) (found_scores c.deref.result.now)
-    (ap found_scores c.deref.ensures.value ∙ c.in_ok-hits-in-Finds.ensures.hits m k x later stands there same index.0 s index.1.0 index.1.1 means (sym c.threshold_of-above.ensures)))
+    needed c.in_default-first_fault.ensures (no_refusal m t x s index.0 here (option_map reduced_of c.in-Finds.flat) means) (hit_rows c.deref.result.now)
+    (ap hit_rows c.deref.ensures.value ∙ c.in_ok-hits-in-Finds.ensures.hits m k x later stands there same index.0 s index.1.0 index.1.1 means (sym c.threshold_of-above.ensures)))
     (c.rows_reply.ensures.reply m k x last stands there same)

@@ -7,7 +7,7 @@ use Rattle.ct_keep.specs.Composing.{reads_hold}
 use Rattle.tb_table.specs.declared.columns.Column.{Column}
 use Rattle.tb_table.specs.Tables.{Table}
 use Rattle.db_state.specs.laws.Columns.{some_table}
-use Rattle.db_select.specs.Searches.{asked}
+use Rattle.db_select.specs.Searches.{held_search}
 use Rattle.db_select.proofs.Selects.{table_reply}
 use Rattle.db_select.proofs.selecting.select_table.Goals as goal
 
@@ -42,6 +42,6 @@ returns-clause-reply g c = λ m k holds stands.
     IfOk-weaker c.select_searched.result _ _
     (λ reply is.
     is
-    ∙ table_reply m list t preds table.0 table.1 columns table.2 (sym c.in_default-unknown_name.ensures) (Some (asked c.in-Some-search_in.search)) c.deref-in-Some-search_in-2.result.now c.in-Some-search_in.ensures
+    ∙ table_reply m list t preds table.0 table.1 columns table.2 (sym c.in_default-unknown_name.ensures) (Some (held_search c.in-Some-search_in.search)) c.deref-in-Some-search_in-2.result.now c.in-Some-search_in.ensures
     (c.deref-in-Some-search_in-2.ensures.value ∙ c.in_ok-conds.ensures))
     (c.select_searched.ensures.reply m k table.0 behind stands table.1 (table.2 ∙ lent))

@@ -4,7 +4,7 @@ use Rattle.ct_keep.specs.Content.{after}
 use Rattle.ct_keep.specs.WellLaws.{well_weaker}
 use Rattle.db_state.specs.Shapes.{IsStoreEntry}
 use Rattle.db_state.proofs.Committed.{always_fits, gives_committed, gives_uncommitted}
-use Rattle.db_state.specs.Plans.{always}
+use Rattle.db_state.specs.Plans.{line_for_all}
 use Rattle.db_state.specs.laws.Returning.{returns_uncommitted, returns_committed}
 use Rattle.ct_keep.specs.KeeperViews.{Counts}
 use Rattle.db_state.proofs.committing.commit.Goals as goal
@@ -26,7 +26,7 @@ returns-clause-gives g c = λ m n k holds stands.
 
 pub returns-in_err-commit-clause-tells : goal.returns-in_err-commit-clause-tells
 returns-in_err-commit-clause-tells g c =
-    returns_uncommitted (always c.args.reply.items) (g.K.Keeper.view c.args.keeper.now) (g.K.Keeper.view c.commit.new.self) (after c.args.batch) c.from_residual.result c.in_err-commit.field-0.0 c.in_err-commit.ensures.goes (err_from_is_err_and c.from_residual.result c.from_residual.ensures.1)
+    returns_uncommitted (line_for_all c.args.reply.items) (g.K.Keeper.view c.args.keeper.now) (g.K.Keeper.view c.commit.new.self) (after c.args.batch) c.from_residual.result c.in_err-commit.field-0.0 c.in_err-commit.ensures.goes (err_from_is_err_and c.from_residual.result c.from_residual.ensures.1)
 
 pub returns-clause-tells : goal.returns-clause-tells
 returns-clause-tells g c =

@@ -1,8 +1,8 @@
 use Rattle.std.proofs.Common.{◌≡◌, ◌++◌, drop, map}
 use Rattle.std.specs.Prelude.{filter}
-use Rattle.ix_context.specs.Indexes.{in_range}
+use Rattle.ix_context.specs.Indexes.{is_key_in}
 use Rattle.ix_context.proofs.creating.rows_within.Given as goal
 
 abbrev pub invariant-loop-row : goal.invariant-loop-row
 invariant-loop-row l =
-    map (λ r. r.0) l.kept.items ++ filter (in_range l.range) (map (λ r. r.0) (drop l.row-index l.rows)) ≡ filter (in_range l.range) (map (λ r. r.0) l.rows)
+    map (λ r. r.0) l.kept.items ++ filter (is_key_in l.range) (map (λ r. r.0) (drop l.row-index l.rows)) ≡ filter (is_key_in l.range) (map (λ r. r.0) l.rows)

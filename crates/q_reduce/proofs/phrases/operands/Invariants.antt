@@ -3,7 +3,7 @@ use Rattle.std.specs.Prelude.{filter}
 use Rattle.std.specs.List.{flat_map, list_all}
 use Rattle.q_tree.specs.Limits.{leaves_keep_limits}
 use Rattle.q_reduce.specs.Faults.{leaves_faults}
-use Rattle.q_reduce.specs.Reducing.{has_phrase, phrases}
+use Rattle.q_reduce.specs.Reducing.{has_phrase, operand_phrases}
 use Rattle.q_reduce.specs.Results.{context_of}
 use Rattle.q_reduce.proofs.phrases.operands.Given as goal
 
@@ -13,7 +13,7 @@ invariant-loop-rest l =
     record {
       limits : list_all leaves_keep_limits l.rest ≡ true;
       faults : flat_map (leaves_faults x) l.rest ≡ flat_map (leaves_faults x) l.operands;
-      found : l.found.items ++ filter has_phrase (map (phrases x) l.rest) ≡ filter has_phrase (map (phrases x) l.operands);
+      found : l.found.items ++ filter has_phrase (map (operand_phrases x) l.rest) ≡ filter has_phrase (map (operand_phrases x) l.operands);
     }
 
 abbrev pub decreases-loop-rest : goal.decreases-loop-rest

@@ -1,11 +1,12 @@
 use Rattle.std.proofs.Common.{sym, ◌∙◌, ap}
+use Rattle.ct_base.specs.laws.Options.{match_none}
 use Rattle.tx_settings.specs.Attributes.{are_taken}
-use Rattle.tx_settings.proofs.Found.{none_of, some_of}
+use Rattle.tx_settings.proofs.Found.{some_of}
 use Rattle.tx_settings.proofs.PrefsSteps.{none_taken, not_taken, taken_stand}
 use Rattle.tx_settings.proofs.reading.read_taken.Goals as goal
 
 pub returns-in_default : goal.returns-in_default
-returns-in_default c = none_taken c.args.bytes.now c.args.at (none_of c.in_ok-settings.field-0 _ _ c.in_default.is c.in_ok-settings.ensures)
+returns-in_default c = none_taken c.args.bytes.now c.args.at (match_none c.in_ok-settings.field-0 _ _ c.in_default.is c.in_ok-settings.ensures)
 
 pub returns-then-are_taken : goal.returns-then-are_taken
 returns-then-are_taken c =

@@ -4,7 +4,7 @@ use Rattle.ct_site.specs.Images.{written, Torn}
 use Rattle.ct_site.specs.Pieces.{length-written}
 use Rattle.ct_site.specs.Lengths.{Lengthens}
 use Rattle.ct_site.specs.laws.Lengths.{grows_written}
-use Rattle.ct_site.specs.Disks.{Leaves, Works, Follows}
+use Rattle.ct_site.specs.Disks.{Leaves, Works, FollowsBy}
 use Rattle.ct_site.specs.Histories.{DiskChange, Wrote, DiskState, begun, disk_after, after-push, said_by}
 use Rattle.ct_site.specs.Crashes.{AreWithin, within_after}
 use Rattle.ct_site.specs.Logs.{LogState}
@@ -53,7 +53,7 @@ returns-clause-written c = ap Some (ap image_of (new_is c) ∙ write_image c.arg
 
 pub returns-clause-crash : goal.returns-clause-crash
 returns-clause-crash c =
-    subst (λ (s : MemState). Follows (Torn c.args.at (length c.args.bytes.now)) (memory_view c.args.self.now).may_leave (memory_view s).may_leave) (sym (new_is c))
+    subst (λ (s : MemState). FollowsBy (Torn c.args.at (length c.args.bytes.now)) (memory_view c.args.self.now).may_leave (memory_view s).may_leave) (sym (new_is c))
     (write_crash c.args.self.now c.args.at c.args.bytes.now (c.requires.within (image_of c.args.self.now) refl))
 
 pub returns-clause-leaves : goal.returns-clause-leaves

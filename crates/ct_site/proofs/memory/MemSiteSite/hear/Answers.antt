@@ -6,7 +6,7 @@ use Rattle.ct_site.specs.Hearings.{Hearing, with_present}
 use Rattle.ct_site.specs.Histories.{said_by}
 use Rattle.ct_site.specs.Memory.{MemState, memory_view, heard, hear_failed}
 use Rattle.ct_site.specs.MemoryFields.{state_of}
-use Rattle.ct_site.specs.Places.{AreUpTo, hearings_at, hearings_at-with, up_to_with, with_place}
+use Rattle.ct_site.specs.Places.{AreUpTo, hearings_at, hearings_at-with, up_to_with, with_kept_place}
 use Rattle.ct_site.specs.declared.places.Place.{Place}
 use Rattle.ct_site.specs.Changing.{hears_of, hears_failed}
 use Rattle.ct_site.proofs.Heard.{heard_prefix, kept_some, few_kept}

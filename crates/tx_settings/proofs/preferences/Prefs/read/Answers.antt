@@ -1,25 +1,26 @@
 use Rattle.std.proofs.Common.{◌∙◌, ap}
 use Rattle.tx_settings.specs.Attributes.{are_taken, options_of}
 use Rattle.std.proofs.lemmas.Bool.{MatchBool-at_false, and_parts}
+use Rattle.ct_base.specs.laws.Options.{match_none}
 use Rattle.tx_settings.specs.PrefsBytes.{are_settings}
-use Rattle.tx_settings.proofs.Found.{none_of, some_of}
+use Rattle.tx_settings.proofs.Found.{some_of}
 use Rattle.tx_settings.proofs.PrefsSteps.{no_prefs, no_prefs_group, no_prefs_settings, no_prefs_stop}
 use Rattle.tx_settings.proofs.preferences.Prefs.read.Goals as goal
 
 pub returns-in_default : goal.returns-in_default
-returns-in_default c = no_prefs_settings c.args.bytes.now c.args.at (none_of c.in_ok-settings.field-0 _ _ c.in_default.is c.in_ok-settings.ensures)
+returns-in_default c = no_prefs_settings c.args.bytes.now c.args.at (match_none c.in_ok-settings.field-0 _ _ c.in_default.is c.in_ok-settings.ensures)
 
 pub returns-in_default-2 : goal.returns-in_default-2
 returns-in_default-2 c =
     no_prefs_stop c.args.bytes.now c.args.at c.in-Some.settings.items c.in-Some.stop_at (some_of c.in_ok-settings.field-0 _ _ (c.in-Some.settings, c.in-Some.stop_at) c.in-Some.is c.in_ok-settings.ensures)
-    (none_of c.in_ok-stop.field-0 _ _ c.in_default-2.is c.in_ok-stop.ensures)
+    (match_none c.in_ok-stop.field-0 _ _ c.in_default-2.is c.in_ok-stop.ensures)
 
 pub returns-in_default-3 : goal.returns-in_default-3
 returns-in_default-3 c =
     no_prefs_group c.args.bytes.now c.args.at c.in-Some.settings.items c.in-Some.stop_at c.in-Some-2.stop c.in-Some-2.group_at
     (some_of c.in_ok-settings.field-0 _ _ (c.in-Some.settings, c.in-Some.stop_at) c.in-Some.is c.in_ok-settings.ensures)
     (some_of c.in_ok-stop.field-0 _ _ (c.in-Some-2.stop, c.in-Some-2.group_at) c.in-Some-2.is c.in_ok-stop.ensures)
-    (none_of c.in_ok-group.field-0 _ _ c.in_default-3.is c.in_ok-group.ensures)
+    (match_none c.in_ok-group.field-0 _ _ c.in_default-3.is c.in_ok-group.ensures)
 
 pub is_spelt-requires-clause-can_be : goal.is_spelt-requires-clause-can_be
 is_spelt-requires-clause-can_be c =

@@ -4,7 +4,7 @@ use Rattle.q_tree.specs.Limits.{leaf_keeps_limits}
 use Rattle.q_reduce.specs.Faults.{leaf_faults}
 use Rattle.q_reduce.specs.Reducing.{leaf_phrases}
 use Rattle.q_reduce.specs.Results.{context_of}
-use Rattle.q_reduce.proofs.phrases.phrases.Given as goal
+use Rattle.q_reduce.proofs.phrases.operand_phrases.Given as goal
 
 abbrev pub invariant-loop-rest : goal.invariant-loop-rest
 invariant-loop-rest l =

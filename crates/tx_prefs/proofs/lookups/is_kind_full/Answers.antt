@@ -4,7 +4,7 @@ use Rattle.ct_entry.specs.declared.kinds.Kind.{Kind}
 use Rattle.ct_entry.specs.Listings.{owners_under}
 use Rattle.tx_prefs.specs.Rules.{preference_limit}
 use Rattle.tx_prefs.proofs.CountSteps.{named_owners}
-use Rattle.tx_prefs.proofs.lookups.is_full.Goals as goal
+use Rattle.tx_prefs.proofs.lookups.is_kind_full.Goals as goal
 
 pub returns-clause-full : goal.returns-clause-full
 returns-clause-full g c = λ m told ps holds.
