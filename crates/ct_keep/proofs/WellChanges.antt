@@ -1,5 +1,5 @@
 -- Some changes of a batch, and then more; what a content holds after a commit.
-use Rattle.std.proofs.Common.{◌≡◌, ℕ, Bool, true, List, [], ◌∷◌, ◌++◌, Some, None, Result, Ok, Err}
+use Rattle.std.proofs.Common.{◌≡◌, ℕ, List, [], ◌∷◌, ◌++◌, Some, None, Result, Ok, Err}
 use Rattle.std.specs.Result.{OnOk, OnErr}
 use Rattle.ct_keep.specs.Content.{Content, Change, after}
 use Rattle.ct_keep.specs.Changes.{AnyEntry, AreWell, HoldsEntries}

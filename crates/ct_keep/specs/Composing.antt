@@ -1,5 +1,5 @@
 -- What calls of a keeper make together: each of its relations of one call after another.
-use Rattle.std.specs.Prelude.{ℕ, ◌≡◌, List, [], ◌++◌, Bool, true, Option, Some, None, refl}
+use Rattle.std.specs.Prelude.{ℕ, ◌≡◌, List, [], ◌++◌, true, Option, Some, None, refl}
 use Rattle.std.proofs.Common.{sym, ap, subst, inl, inr, ◌∙◌, arith, length-append}
 use Rattle.ct_base.specs.Told.{IsSaid, with_suffix, SaysPart}
 use Rattle.ct_base.specs.laws.Told.{with_suffix-nil, with_suffix_twice, says_prefix, says_suffix}

@@ -1,5 +1,5 @@
 -- What a keeper in memory holds, beside a script and a buffer for what is said.
-use Rattle.std.specs.Prelude.{ℕ, ◌≡◌, ◌≤◌, List, [], true, Some, None, Vec, length, refl}
+use Rattle.std.specs.Prelude.{ℕ, ◌≡◌, ◌≤◌, List, [], Some, None, Vec, length, refl}
 use Rattle.std.specs.Vec.{vec_len, vec_capacity}
 use Rattle.std.specs.FinMap.{empty}
 use Rattle.std.specs.Coded.{Coded, code_by, coded_ℕ, coded_list, coded×, prop_coded}

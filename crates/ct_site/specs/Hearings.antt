@@ -1,7 +1,7 @@
 -- The calls of `hear`, each with what stood beside it.
-use Rattle.std.specs.Prelude.{◌≡◌, ◌⊎◌, ℕ, ◌+◌, ◌<◌, Bool, true, false, List, [], ◌∷◌, ◌++◌, length, map, drop, take, Option, Some, None, codes, refl}
+use Rattle.std.specs.Prelude.{◌≡◌, ◌⊎◌, ℕ, Bool, true, false, List, [], ◌∷◌, ◌++◌, Option, Some, None, codes, refl}
 use Rattle.std.specs.List.{Contains}
-use Rattle.std.proofs.Common.{inl, inr, sym, subst, arith}
+use Rattle.std.proofs.Common.{inl, inr, sym}
 use Rattle.std.proofs.lemmas.List.Elements.{Contains-append_left, Contains-push, Contains-push_cases}
 
 -- A call of `hear`: what was left of the script, and what had been said by then.

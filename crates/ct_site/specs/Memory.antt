@@ -1,5 +1,5 @@
 -- A site in memory: what is known of it, which of its calls fail, and what each call leaves.
-use Rattle.std.specs.Prelude.{◌≡◌, ℕ, ◌+◌, ◌-◌, ◌^◌, ◌==◌, nat_le, nat_lt, min, Bool, true, false, ◌||◌, List, [], ◌∷◌, ◌++◌, length, drop, Option, Some, None, codes, refl}
+use Rattle.std.specs.Prelude.{◌≡◌, ℕ, ◌+◌, ◌^◌, ◌==◌, nat_le, nat_lt, Bool, true, false, ◌||◌, List, [], ◌∷◌, ◌++◌, length, drop, Option, Some, None, codes, refl}
 use Rattle.std.specs.List.{list_any}
 use Rattle.ct_site.specs.declared.fault_lists.Faults.{Faults}
 use Rattle.ct_site.specs.declared.room_sizes.Rooms.{Rooms}

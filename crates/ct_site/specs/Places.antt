@@ -1,6 +1,6 @@
 -- The calls of `hear` as a site in memory keeps them: by how much of the script was taken, and how much was said.
 use Rattle.std.specs.Prelude.{◌≡◌, ℕ, ◌≤◌, Bool, true, false, List, [], ◌∷◌, ◌++◌, length, map, drop, take, codes, refl}
-use Rattle.std.proofs.Common.{sym, ap, ◌∙◌, arith, length-append}
+use Rattle.std.proofs.Common.{ap, ◌∙◌, arith, length-append}
 use Rattle.std.proofs.lemmas.List.{take_all, take-append-le, map-append}
 use Rattle.ct_site.specs.Histories.{DiskChange, said_in, said_by, said_by-push}
 use Rattle.ct_site.specs.Hearings.{Hearing, with_present}

@@ -1,5 +1,5 @@
 -- What executing a statement does to what is known of a keeper.
-use Rattle.std.specs.Prelude.{ℕ, ◌≡◌, ◌⊎◌, ◌&&◌, Bool, true, false, not, List, [], Option, Some, None, Result, Ok, Err, codes, bytes_eq, refl}
+use Rattle.std.specs.Prelude.{ℕ, ◌≡◌, ◌⊎◌, Bool, true, false, not, List, [], Option, Some, None, Result, Ok, Err, codes, refl}
 use Rattle.std.specs.Bool.{if◌then◌else◌}
 use Rattle.ct_base.specs.Causes.{Rose}
 use Rattle.ct_keep.specs.Content.{Content}

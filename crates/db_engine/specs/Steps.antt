@@ -1,5 +1,5 @@
 -- What one statement does: the state after it, and its reply.
-use Rattle.std.specs.Prelude.{ℕ, pos, Bool, true, false, not, ◌||◌, ◌&&◌, List, [], ◌∷◌, length, Option, Some, None, codes, bytes_eq, ◌≡◌, refl, nat_le, is_none, ◌++◌}
+use Rattle.std.specs.Prelude.{ℕ, pos, Bool, true, false, not, ◌&&◌, List, [], ◌∷◌, length, Option, Some, codes, ◌≡◌, refl, nat_le, is_none, ◌++◌}
 use Rattle.std.specs.Bool.{if◌then◌else◌}
 use Rattle.std.specs.Str.{chars, is_utf8}
 use Rattle.st_parse.specs.declared.statements.Arg.{Arg}

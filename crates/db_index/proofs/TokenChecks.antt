@@ -8,9 +8,9 @@ use Rattle.ct_base.specs.Limits.{text_limit}
 use Rattle.tx_settings.specs.declared.attributes.Setting.{Setting}
 use Rattle.st_parse.specs.declared.statements.Arg.{Arg}
 use Rattle.db_call.specs.Arguments.{name_at}
-use Rattle.db_cond.specs.Faults.{Refusal, UnknownName, WrongValues, ValueTooLong, BadValue}
+use Rattle.db_cond.specs.Faults.{UnknownName, WrongValues, ValueTooLong, BadValue}
 use Rattle.db_state.specs.States.{StoreState}
-use Rattle.db_state.specs.Effects.{Effect, Refused, Does, refuse, refuse_by, state_by, with_found}
+use Rattle.db_state.specs.Effects.{Effect, Refused, Does, refuse_by, state_by}
 use Rattle.db_state.specs.laws.Unchanged.{kept_by, kept_found, kept_unless}
 use Rattle.db_index.specs.Tokenizing.{lexer_name, policy_tokens, reads_no_preference, settings_asked, text_asked, token_lines, tokens_asked, unknown_lexer}
 

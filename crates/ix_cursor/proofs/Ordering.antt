@@ -1,12 +1,12 @@
 -- The pairs of operands, one operand after the other.
-use Rattle.std.proofs.Common.{ℕ, ◌≡◌, ◌<◌, ◌+◌, List, [], ◌∷◌, ◌++◌, map, take, get_or, length, sym, ap, subst, ◌∙◌}
+use Rattle.std.proofs.Common.{ℕ, ◌≡◌, ◌<◌, ◌+◌, List, [], ◌∷◌, ◌++◌, map, take, get_or, length, sym, ap, ◌∙◌}
 use Rattle.std.proofs.lemmas.List.{map_more, map-append}
 use Rattle.std.specs.Global.{Vec}
 use Rattle.ct_base.specs.declared.numbers.Pair.{Pair}
-use Rattle.ix_spans.specs.InOrder.{StartsInOrder, EachInOrder, SamePairs, EachSame}
+use Rattle.ix_spans.specs.InOrder.{SamePairs, EachSame}
 use Rattle.ix_spans.specs.Occurrences.{Slots}
 use Rattle.ix_spans.specs.Views.{pairs_view}
-use Rattle.ix_spans.specs.laws.Nearness.{pairs_push, each_in_order_push, each_same_push}
+use Rattle.ix_spans.specs.laws.Nearness.{pairs_push, each_same_push}
 use Rattle.ix_cursor.specs.declared.feeds.TermFeed.{TermFeed}
 use Rattle.ix_cursor.specs.Seen.{seen_term, seen_operands}
 

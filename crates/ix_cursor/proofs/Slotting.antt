@@ -1,11 +1,11 @@
 -- Slots and phrases, one after the other.
-use Rattle.std.proofs.Common.{ℕ, ◌≡◌, ◌≤◌, ◌<◌, ◌&&◌, ◌+◌, ◌⊎◌, inl, inr, Bool, true, false, List, [], ◌∷◌, ◌++◌, Option, Some, None, map, set, get_or, length, zero, suc, nat_le, subst, refl, sym, ap, ◌∙◌, arith}
+use Rattle.std.proofs.Common.{ℕ, ◌≡◌, ◌≤◌, ◌<◌, ◌&&◌, ◌+◌, ◌⊎◌, inl, inr, Bool, true, false, List, [], ◌∷◌, ◌++◌, Option, Some, None, map, set, get_or, length, zero, suc, nat_le, subst, refl, ap, ◌∙◌, arith}
 use Rattle.std.specs.List.{filter, flat_map}
 use Rattle.ct_base.specs.declared.numbers.Pair.{Pair}
 use Rattle.q_tree.specs.Scores.{near_score}
 use Rattle.ix_cursor.specs.declared.feeds.TermFeed.{TermFeed}
 use Rattle.std.proofs.lemmas.Bool.{cases_lt}
-use Rattle.ix_spans.specs.Occurrences.{Slots, has_number, fits_at, occurs_at, is_start, phrase_pairs, pairs_from, term_score, term_pairs, choices}
+use Rattle.ix_spans.specs.Occurrences.{Slots, fits_at, occurs_at, is_start, pairs_from, term_score, term_pairs, choices}
 use Rattle.ix_posting.specs.declared.rows.RowDocument.{RowDocument}
 use Rattle.ix_cursor.specs.declared.feeds.TokenFeeds.{TokenFeeds}
 use Rattle.ix_spans.specs.Rising.{Rising}
@@ -14,7 +14,7 @@ use Rattle.q_tree.specs.Documents.{put_all}
 use Rattle.q_tree.specs.laws.Postings.{put_all_rises}
 use Rattle.ix_cursor.specs.declared.feeds.PhraseFeed.{PhraseFeed}
 use Rattle.ix_lists.specs.Documents.{places_at}
-use Rattle.ix_lists.specs.Seeking.{SameFrom, NothingBefore, Before}
+use Rattle.ix_lists.specs.Seeking.{NothingBefore, Before}
 use Rattle.ix_cursor.specs.Bounding.{later, earlier}
 use Rattle.ix_cursor.specs.Feeding.{SlotDocuments, union_at, slot_at, slots_at, phrases_at, IsVacant, IsSilent, AreSilent, HasSilent, term_at, operands_at}
 

@@ -1,5 +1,5 @@
 -- What passing documents leaves.
-use Rattle.std.proofs.Common.{ℕ, ◌≡◌, ◌≤◌, ◌<◌, ◌+◌, Bool, true, false, nat_lt, eqb, List, [], ◌∷◌, ◌++◌, Option, Some, None, drop, get_or, zero, suc, length, refl, sym, ap, subst, ◌∙◌, arith}
+use Rattle.std.proofs.Common.{ℕ, ◌≡◌, ◌≤◌, ◌<◌, ◌+◌, Bool, true, false, nat_lt, eqb, List, [], ◌∷◌, ◌++◌, drop, get_or, zero, suc, length, refl, sym, ap, subst, ◌∙◌, arith}
 use Rattle.std.specs.Bool.{if◌then◌else◌}
 use Rattle.std.proofs.lemmas.Bool.Decides.{nat_tests}
 use Rattle.ix_posting.specs.Lists.{posting_list}
@@ -8,7 +8,7 @@ use Rattle.ix_posting.specs.declared.rows.RowDocument.{RowDocument}
 use Rattle.ix_spans.specs.Rising.{Above, Rising}
 use Rattle.ix_spans.specs.laws.Rising.{above_rises}
 use Rattle.ix_lists.specs.Documents.{from_on, places_at, first_places, least_document}
-use Rattle.ix_lists.specs.Seeking.{SameFrom, NothingBefore, Before, IsNowhere}
+use Rattle.ix_lists.specs.Seeking.{SameFrom, NothingBefore, IsNowhere}
 
 -- ---- rising documents
 

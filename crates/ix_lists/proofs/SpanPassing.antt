@@ -1,5 +1,5 @@
 -- What passing documents of a section leaves.
-use Rattle.std.proofs.Common.{ℕ, ◌≡◌, ◌≤◌, ◌<◌, ◌+◌, Bool, true, false, nat_lt, eqb, List, [], ◌∷◌, ◌++◌, Option, Some, None, drop, get_or, zero, suc, length, refl, sym, ap, subst, ◌∙◌, arith}
+use Rattle.std.proofs.Common.{ℕ, ◌≡◌, ◌≤◌, ◌<◌, ◌+◌, Bool, true, false, nat_lt, eqb, List, [], ◌∷◌, ◌++◌, drop, get_or, length, refl, sym, ap, subst, ◌∙◌, arith}
 use Rattle.std.specs.Bool.{if◌then◌else◌}
 use Rattle.std.proofs.lemmas.Bool.Decides.{nat_tests}
 use Rattle.ix_posting.specs.Lists.{posting_list}
@@ -7,7 +7,7 @@ use Rattle.ix_posting.specs.SpanRows.{SpanDocumentsRise}
 use Rattle.ix_posting.specs.declared.span_rows.SpanDocument.{SpanDocument}
 use Rattle.ix_lists.specs.SpanDocuments.{span_from_on, pairs_at, first_pairs, span_least_document}
 use Rattle.ix_lists.proofs.Passing.{at_place}
-use Rattle.ix_lists.specs.Seeking.{SameFrom, NothingBefore, Before, HasNoPairs}
+use Rattle.ix_lists.specs.Seeking.{SameFrom, NothingBefore, HasNoPairs}
 
 -- ---- rising documents
 

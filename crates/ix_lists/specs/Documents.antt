@@ -1,5 +1,5 @@
 -- Documents in rising order, as they are and in rows.
-use Rattle.std.specs.Prelude.{ℕ, ◌≡◌, nat_lt, eqb, List, [], ◌∷◌, ◌++◌, Option, Some, None, drop, refl}
+use Rattle.std.specs.Prelude.{ℕ, ◌≡◌, nat_lt, eqb, List, [], ◌∷◌, Option, Some, None, drop, refl}
 use Rattle.std.specs.Bool.{if◌then◌else◌}
 use Rattle.ix_posting.specs.declared.rows.RowDocument.{RowDocument}
 use Rattle.ix_posting.specs.Lists.{posting_list}

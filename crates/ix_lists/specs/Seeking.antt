@@ -1,5 +1,5 @@
 -- What passing documents keeps, and before which document there is nothing.
-use Rattle.std.specs.Prelude.{ℕ, ◌≡◌, ◌≤◌, ◌<◌, ◌+◌, List, [], ◌∷◌, Option, Some, None, refl}
+use Rattle.std.specs.Prelude.{ℕ, ◌≡◌, ◌≤◌, ◌<◌, List, [], ◌∷◌, Option, Some, None, refl}
 use Rattle.std.proofs.Common.{arith}
 use Rattle.ct_base.specs.declared.numbers.Pair.{Pair}
 

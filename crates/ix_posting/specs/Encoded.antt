@@ -1,5 +1,5 @@
 -- Rows as their bytes.
-use Rattle.std.specs.Prelude.{ℕ, ◌≡◌, List, [], ◌∷◌, ◌++◌, refl}
+use Rattle.std.specs.Prelude.{ℕ, ◌≡◌, List, refl}
 use Rattle.std.specs.Coded.{Coded, Coded-set, coded_list, coded×, coded_ℕ, code_by}
 use Rattle.std.proofs.Common.{sym, ◌∙◌}
 use Rattle.std.proofs.Math.Logic.{∥∥₁_elim, ∥∥₁_prop}

@@ -45,7 +45,6 @@ use Rattle.tx_document.specs.Entries.{positions_of}
 use Rattle.tx_document.specs.Promises.{if_any}
 use Rattle.ix_context.specs.Postings.{section_term}
 use Rattle.ix_context.specs.Indexes.{Index, marks_in, text_seen}
-use Rattle.ix_context.specs.Documents.{postings_in}
 use Rattle.ix_context.specs.Documents as documents
 use Rattle.ix_context.specs.Standing.{IndexStands}
 use Rattle.ix_context.specs.Limits.{IsWithinLimits}

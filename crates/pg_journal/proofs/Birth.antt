@@ -1,6 +1,6 @@
 -- Birth, write by write.
-use Rattle.std.proofs.Common.{◌≡◌, ◌≢◌, inl, inr, ℕ, suc, ◌+◌, ◌-◌, ◌≤◌, ◌<◌, List, [], ◌∷◌, ◌++◌, length, take, drop, Some, Result, Ok, refl, sym, ap, subst, ◌∙◌, arith, append_assoc, append-nil, length-append}
-use Rattle.std.specs.Prelude.{codes, ◌^◌}
+use Rattle.std.proofs.Common.{◌≡◌, ◌≢◌, inl, inr, ℕ, suc, ◌+◌, ◌-◌, ◌≤◌, List, [], ◌∷◌, ◌++◌, length, take, drop, Some, Result, Ok, refl, sym, ap, subst, ◌∙◌, arith, append_assoc, append-nil, length-append}
+use Rattle.std.specs.Prelude.{codes}
 use Rattle.std.specs.Option.{option_map}
 use Rattle.std.proofs.lemmas.List.{length-replicate, take_at, drop_at, take_all, drop_all, get_or_at}
 use Rattle.std.proofs.lemmas.Bool.{cases_eq}
@@ -9,7 +9,7 @@ use Rattle.ct_site.specs.declared.outside.Failed.{Failed}
 use Rattle.ct_site.specs.Images.{written, Torn}
 use Rattle.ct_site.specs.Pieces.{written_piece, torn_piece, length-written, IsPiece}
 use Rattle.ct_site.specs.Disks.{DiskView, IsSettled, Leaves}
-use Rattle.pg_journal.specs.Pages.{page, byte, homes_in, root_page, IsRoot, homes_of}
+use Rattle.pg_journal.specs.Pages.{page, homes_in, root_page}
 use Rattle.ct_base.specs.Zeros.{zeros}
 use Rattle.pg_journal.specs.Recovered.{IsUnborn, IsRecovered, gate, mark, first_pages}
 use Rattle.pg_journal.specs.Births.{born, IsCleared}

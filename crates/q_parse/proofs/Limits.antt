@@ -15,7 +15,7 @@ use Rattle.q_tree.specs.declared.queries.WordBit.TheVariants.{Chars, One, Many}
 use Rattle.q_tree.specs.declared.flats.SumStep.{SumStep}
 use Rattle.q_tree.specs.declared.flats.SumStep.TheVariants.{Number, Discrete, Occurrence}
 use Rattle.q_tree.specs.Limits.{query_limit, word_length, word_keeps_limit, leaf_keeps_limits, leaves_keep_limits, keeps_limits}
-use Rattle.q_tree.specs.Soundness.{is_between, is_operator, operators as step_operators, is_step, values_after, values, is_one, is_sum}
+use Rattle.q_tree.specs.Soundness.{is_between, is_operator, operators as step_operators, is_step, values, is_one, is_sum}
 use Rattle.q_tree.specs.Trees.{Tree, Nearness, tree_of}
 use Rattle.q_tree.specs.laws.PostfixSums.{two_less}
 use Rattle.q_parse.specs.declared.faults.QueryFault.{QueryFault}

@@ -1,5 +1,5 @@
 -- The ways out of the function of a statement: each is proved once, by one of these.
-use Rattle.std.proofs.Common.{◌≡◌, ℕ, true, List, Option, Some, None, Result, Ok, Err, Vec, sym, ap, subst, ◌∙◌, ◌≤◌, arith, inr, inl}
+use Rattle.std.proofs.Common.{◌≡◌, ℕ, true, List, Option, Some, None, Result, Ok, Err, Vec, sym, ap, subst, ◌∙◌, arith, inr, inl}
 use Rattle.std.specs.Result.{IfOk}
 use Rattle.std.specs.declared.alloc.Global.{Global}
 use Rattle.ct_keep.specs.declared.keepers.KeepFault.{KeepFault}

@@ -1,11 +1,11 @@
-use Rattle.std.proofs.Common.{sym, ap, ◌∙◌, ◌≡◌, Some, None, List, refl}
+use Rattle.std.proofs.Common.{sym, ap, ◌∙◌, None}
 use Rattle.std.proofs.lemmas.Bool.{false≢true}
 use Rattle.std.proofs.lemmas.Result.{IfOk-weaker}
 use Rattle.ct_keep.specs.KeeperViews.{fault_of}
 use Rattle.st_parse.specs.declared.procedures.Procedure.{Procedure}
 use Rattle.db_state.specs.Effects.{reply_by}
 use Rattle.db_state.specs.laws.Serving.{serves_as}
-use Rattle.db_engine.specs.Steps.{call, may_fill_by}
+use Rattle.db_engine.specs.Steps.{call}
 use Rattle.db_engine.specs.Executing.{call_line, is_fixed_call}
 use Rattle.db_engine.proofs.executing.call.Goals as goal
 

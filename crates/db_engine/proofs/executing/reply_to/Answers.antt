@@ -1,5 +1,5 @@
 use Rattle.db_state.specs.Plans.{line_for_all}
-use Rattle.std.proofs.Common.{◌≡◌, ⊎_elim, ap, sym, ◌∙◌, List, Bool, Some, None, refl}
+use Rattle.std.proofs.Common.{ap, sym, ◌∙◌, List, Bool, Some, None, refl}
 use Rattle.std.specs.Prelude.{not}
 use Rattle.std.specs.Bool.{if◌then◌else◌}
 use Rattle.std.proofs.lemmas.Result.{err_from_is_err_and, IfOk-weaker}
@@ -9,7 +9,7 @@ use Rattle.st_parse.specs.declared.statements.ColumnText.{ColumnText}
 use Rattle.st_parse.specs.declared.statements.Statement.{Statement}
 use Rattle.st_parse.specs.declared.statements.Statement.TheVariants.{Commit}
 use Rattle.db_cond.specs.Faults.{NotUnderstood}
-use Rattle.db_state.specs.Effects.{Refused, refuse, reply_by}
+use Rattle.db_state.specs.Effects.{refuse, reply_by}
 use Rattle.db_change.specs.Creating.{create_table}
 use Rattle.db_index.specs.Indexing.{create_index, index_created}
 use Rattle.db_change.specs.Inserting.{insert_into}
@@ -21,7 +21,7 @@ use Rattle.st_parse.specs.declared.statements.Assign.{Assign}
 use Rattle.db_select.specs.Statements.{select_statement}
 use Rattle.db_engine.specs.Steps.{effect, call}
 use Rattle.db_engine.specs.Executing.{done_line, is_fixed, is_fixed_call}
-use Rattle.db_state.specs.laws.Serving.{serves_short, serves_refused, serves_look, serves_as}
+use Rattle.db_state.specs.laws.Serving.{serves_short, serves_look, serves_as}
 use Rattle.db_engine.proofs.executing.reply_to.Goals as goal
 
 pub returns-in-CreateTable-clause-serves : goal.returns-in-CreateTable-clause-serves

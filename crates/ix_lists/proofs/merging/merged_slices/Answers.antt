@@ -1,5 +1,5 @@
-use Rattle.std.proofs.Common.{◌≡◌, [], ◌∷◌, ◌++◌, ◌+◌, ◌∙◌, sym, ap, drop, get_or, subst, List, ℕ}
-use Rattle.ix_lists.specs.Numbers.{lesser, greater}
+use Rattle.std.proofs.Common.{◌≡◌, [], ◌∷◌, ◌++◌, ◌+◌, ◌∙◌, ap, drop, get_or, subst}
+use Rattle.ix_lists.specs.Numbers.{lesser}
 use Rattle.ix_lists.proofs.Merges.{Merging, merging_first, merging_more}
 use Rattle.ix_lists.proofs.Passing.{at_place}
 use Rattle.ix_lists.proofs.merging.merged_slices.Goals as goal

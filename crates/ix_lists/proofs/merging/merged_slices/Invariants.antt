@@ -1,4 +1,4 @@
-use Rattle.std.proofs.Common.{◌≡◌, ◌++◌, drop}
+use Rattle.std.proofs.Common.{drop}
 use Rattle.ix_lists.proofs.Merges.{Merging}
 use Rattle.ix_lists.proofs.merging.merged_slices.Given as goal
 

@@ -1,4 +1,4 @@
-use Rattle.std.proofs.Common.{◌≡◌, ◌++◌, ◌+◌, ◌∙◌, List, drop, sym, ap}
+use Rattle.std.proofs.Common.{◌≡◌, ◌++◌, ◌+◌, ◌∙◌, drop, sym, ap}
 use Rattle.ix_posting.specs.Lists.{posting_list}
 use Rattle.ix_lists.specs.Documents.{from_on, first_places}
 use Rattle.ix_lists.proofs.Passing.{next_row, within, past, first_more}

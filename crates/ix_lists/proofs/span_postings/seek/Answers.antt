@@ -1,4 +1,4 @@
-use Rattle.std.proofs.Common.{◌≡◌, ◌++◌, ◌+◌, ◌∙◌, List, drop, sym, ap}
+use Rattle.std.proofs.Common.{◌≡◌, ◌++◌, ◌+◌, ◌∙◌, drop, sym, ap}
 use Rattle.ix_posting.specs.Lists.{posting_list}
 use Rattle.ix_lists.specs.SpanDocuments.{span_from_on, first_pairs}
 use Rattle.ix_lists.proofs.SpanPassing.{next_row, within, past, first_more}

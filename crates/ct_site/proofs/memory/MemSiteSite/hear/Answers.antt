@@ -1,13 +1,12 @@
 -- What was left before is what the buffer holds now, and then what is left now.
-use Rattle.std.proofs.Common.{◌≡◌, ◌≤◌, ◌<◌, ◌+◌, ◌-◌, ◌++◌, ◌∷◌, [], ℕ, List, Bool, true, nat_eq, nat_lt, length, take, drop, refl, sym, ap, subst, ◌∙◌, arith, drop-drop}
+use Rattle.std.proofs.Common.{◌≡◌, ◌+◌, ◌-◌, ◌++◌, [], ℕ, List, true, nat_eq, nat_lt, length, take, drop, refl, sym, ap, subst, ◌∙◌, arith, drop-drop}
 use Rattle.ct_site.specs.FaultCounts.{raised}
 use Rattle.ct_site.specs.Disks.{Hears}
 use Rattle.ct_site.specs.Hearings.{Hearing, with_present}
 use Rattle.ct_site.specs.Histories.{said_by}
 use Rattle.ct_site.specs.Memory.{MemState, memory_view, heard, hear_failed}
 use Rattle.ct_site.specs.MemoryFields.{state_of}
-use Rattle.ct_site.specs.Places.{AreUpTo, hearings_at, hearings_at-with, up_to_with, with_kept_place}
-use Rattle.ct_site.specs.declared.places.Place.{Place}
+use Rattle.ct_site.specs.Places.{AreUpTo, hearings_at, hearings_at-with, up_to_with}
 use Rattle.ct_site.specs.Changing.{hears_of, hears_failed}
 use Rattle.ct_site.proofs.Heard.{heard_prefix, kept_some, few_kept}
 use Rattle.ct_site.proofs.memory.MemSiteSite.hear.Goals as goal

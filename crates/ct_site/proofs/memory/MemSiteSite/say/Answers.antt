@@ -1,7 +1,7 @@
 use Rattle.std.proofs.Common.{◌≡◌, ◌++◌, ◌∷◌, [], List, false, length, sym, ap, subst, ◌∙◌, arith, length-append, refl}
 use Rattle.std.proofs.lemmas.List.{take_all}
 use Rattle.ct_site.specs.Disks.{Says}
-use Rattle.ct_site.specs.Hearings.{Hearing, with_present}
+use Rattle.ct_site.specs.Hearings.{Hearing}
 use Rattle.ct_site.specs.Histories.{DiskChange, Said, DiskState, begun, disk_after, after-push, said_by}
 use Rattle.ct_site.specs.Crashes.{AreWithin, within_after}
 use Rattle.ct_site.specs.Logs.{LogState}

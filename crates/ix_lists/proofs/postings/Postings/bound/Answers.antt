@@ -1,5 +1,4 @@
-use Rattle.std.proofs.Common.{◌≡◌, ◌++◌, ◌∙◌, List, drop, sym, ap, subst}
-use Rattle.ix_posting.specs.declared.rows.RowDocument.{RowDocument}
+use Rattle.std.proofs.Common.{◌≡◌, ◌∙◌, drop, ap, subst}
 use Rattle.ix_lists.specs.Documents.{row_from, places_at, least_document}
 use Rattle.ix_lists.specs.Seeking.{NothingBefore, IsNowhere}
 use Rattle.ix_lists.proofs.Passing.{least_bounds}

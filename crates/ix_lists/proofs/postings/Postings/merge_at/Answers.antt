@@ -1,6 +1,5 @@
-use Rattle.std.proofs.Common.{◌≡◌, ◌++◌, ◌∙◌, ◌≤◌, List, drop, length, sym, ap, subst, ℕ}
+use Rattle.std.proofs.Common.{◌≡◌, ◌++◌, ◌∙◌, drop, sym, ap, subst}
 use Rattle.std.specs.Result.{IfOk}
-use Rattle.ix_posting.specs.declared.rows.RowDocument.{RowDocument}
 use Rattle.ix_posting.specs.Lists.{posting_list}
 use Rattle.ix_spans.specs.Rising.{Rising}
 use Rattle.q_tree.specs.Documents.{put_all}

@@ -1,5 +1,4 @@
-use Rattle.std.proofs.Common.{◌≡◌, ◌++◌, ◌∙◌, ◌≤◌, List, drop, length, sym, ap, subst}
-use Rattle.ix_posting.specs.declared.rows.RowDocument.{RowDocument}
+use Rattle.std.proofs.Common.{◌≡◌, ◌++◌, ◌∙◌, ◌≤◌, drop, length, sym, ap, subst}
 use Rattle.ix_posting.specs.Lists.{posting_list}
 use Rattle.ix_lists.specs.Documents.{row_from, places_at, from_on}
 use Rattle.ix_lists.proofs.Passing.{within, left_beyond, left_rises, left_keeps}

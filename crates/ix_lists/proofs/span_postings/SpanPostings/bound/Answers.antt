@@ -1,5 +1,4 @@
-use Rattle.std.proofs.Common.{◌≡◌, ◌++◌, ◌∙◌, List, drop, sym, ap, subst}
-use Rattle.ix_posting.specs.declared.span_rows.SpanDocument.{SpanDocument}
+use Rattle.std.proofs.Common.{◌≡◌, ◌∙◌, drop, ap, subst}
 use Rattle.ix_lists.specs.Documents.{row_from}
 use Rattle.ix_lists.specs.SpanDocuments.{pairs_at, span_least_document}
 use Rattle.ix_lists.specs.Seeking.{NothingBefore, HasNoPairs}

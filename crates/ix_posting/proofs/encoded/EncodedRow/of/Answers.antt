@@ -1,4 +1,4 @@
-use Rattle.std.proofs.Common.{◌≡◌, ap}
+use Rattle.std.proofs.Common.{ap}
 use Rattle.ix_posting.specs.Encoded.{SpeltRow, one_row}
 use Rattle.ix_posting.proofs.encoded.EncodedRow.of.Goals as goal
 

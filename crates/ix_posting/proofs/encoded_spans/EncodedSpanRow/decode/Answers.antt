@@ -1,6 +1,5 @@
-use Rattle.std.proofs.Common.{◌≡◌, ◌∙◌, sym, ap, Err}
+use Rattle.std.proofs.Common.{◌∙◌, sym, ap, Err}
 use Rattle.std.proofs.Math.Logic.{∥∥₁_elim}
-use Rattle.ix_posting.specs.declared.faults.RowFault.TheVariants.{BadRow}
 use Rattle.ix_posting.specs.EncodedSpans.{same_span_row}
 use Rattle.ix_posting.proofs.encoded_spans.EncodedSpanRow.decode.Goals as goal
 

@@ -1,4 +1,4 @@
-use Rattle.std.proofs.Common.{◌≡◌, ap}
+use Rattle.std.proofs.Common.{ap}
 use Rattle.ix_posting.specs.EncodedSpans.{SpeltSpanRow, one_span_row}
 use Rattle.ix_posting.proofs.encoded_spans.EncodedSpanRow.of.Goals as goal
 
