@@ -4,8 +4,6 @@
 mod laws;
 mod numbers;
 mod row_keys;
-#[cfg(test)]
-mod tests;
 mod texts;
 mod varints;
 

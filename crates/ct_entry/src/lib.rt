@@ -6,8 +6,6 @@ mod kinds;
 mod listings;
 mod parts;
 mod removals;
-#[cfg(test)]
-mod tests;
 
 pub use entries::{entry_count, fetch_entry, has_entry, key_bytes, put_entry, remove_entry};
 pub use kinds::Kind;

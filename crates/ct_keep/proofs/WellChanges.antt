@@ -1,14 +1,9 @@
--- Some changes of a batch, and then more; what a content holds after a commit.
-use Rattle.std.proofs.Common.{◌≡◌, ℕ, List, [], ◌∷◌, ◌++◌, Some, None, Result, Ok, Err}
+-- What a content holds after a commit.
+use Rattle.std.proofs.Common.{◌≡◌, List, Result, Ok, Err}
 use Rattle.std.specs.Result.{OnOk, OnErr}
 use Rattle.ct_keep.specs.Content.{Content, Change, after}
 use Rattle.ct_keep.specs.Changes.{AnyEntry, AreWell, HoldsEntries}
 use Rattle.ct_keep.specs.WellLaws.{holds_after}
-
-pub well_more : (well : List ℕ → List ℕ → Type 0) (ws vs : List Change) → AreWell well ws → AreWell well vs → AreWell well (ws ++ vs)
-well_more well [] vs a b = b
-well_more well ((key, None) ∷ ws) vs a b = well_more well ws vs a b
-well_more well ((key, Some value) ∷ ws) vs a b = (a.0, a.1, well_more well ws vs a.2 b)
 
 pub holds_done : {T E : Type 0} (result : Result T E) (m next : Content) (changes ws : List Change) → HoldsEntries m → AreWell AnyEntry ws → changes ≡ ws → OnOk result (next ≡ after changes m) → OnErr result (next ≡ m) → HoldsEntries next
 holds_done (Ok x) m next changes ws h a is ok err = rw (ok, is) (holds_after AnyEntry m ws h a)

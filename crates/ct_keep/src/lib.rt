@@ -11,8 +11,6 @@ mod owner_counts;
 mod scans;
 mod sorted_entries;
 mod tallies;
-#[cfg(test)]
-mod tests;
 mod transactions;
 
 pub use batches::{Batch, Change};

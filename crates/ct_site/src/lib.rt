@@ -10,11 +10,7 @@ mod picks;
 mod places;
 mod quiet;
 mod real;
-#[cfg(test)]
-mod real_tests;
 mod room_sizes;
-#[cfg(test)]
-mod tests;
 
 pub use fault_lists::Faults;
 pub use memory::MemSite;

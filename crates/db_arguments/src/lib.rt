@@ -5,8 +5,6 @@ mod arguments;
 mod laws;
 mod limits;
 mod reading;
-#[cfg(test)]
-mod tests;
 
 pub use arguments::{Arguments, file_of, read_arguments};
 pub use laws::one_reading;

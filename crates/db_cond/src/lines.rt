@@ -110,23 +110,6 @@ pub fn word_line(
     Ok(())
 }
 
-#[cfg(test)]
-mod tests {
-    use super::line;
-    use ct_base::{Text, Value};
-    use std::test::Fail;
-
-    #[test]
-    fn a_line_of_two_fields(rt: HostRuntime) -> Result<(), Fail> {
-        let alloc = rt.alloc();
-        let text = Text::of(alloc, "a|b\\c\nd\r")?;
-        let mut out = Vec::from_slice(alloc, b"x\n")?;
-        line(alloc, &mut out, &[Value::Text(text), Value::Number(-7)])?;
-        assert_eq!(rt; out.as_slice(), b"x\na\\|b\\\\c\\nd\\r|-7\n".as_slice());
-        Ok(())
-    }
-}
-
 /// The line of a statement that changes rows: how many there were, and what was done to them, with its newline.
 pub fn rows_line(alloc: Global, rows: usize, done: &[u8]) -> Result<Vec<u8>, Memory>
     ensures { IfOk result (λ line. line.items ≡ line_of_rows done.now rows) }

@@ -8,4 +8,3 @@ pub mod Responding
 pub mod ViewLaws
 pub mod TableLaws
 pub mod StoreLaws
-pub mod HistoryLaws

@@ -5,4 +5,3 @@ pub mod Responses
 pub mod Views
 pub mod Table
 pub mod Stores
-pub mod Histories

@@ -2,16 +2,10 @@
 #![tactic(auto)]
 
 mod endings;
-#[cfg(test)]
-mod histories;
 mod responses;
 mod running;
 mod saying;
 mod serving;
-#[cfg(test)]
-mod store_tests;
-#[cfg(test)]
-mod tests;
 
 pub use running::{SCRIPT_LIMIT, STATEMENT_LIMIT, run, serve};
 pub use st_cut::cut;

@@ -6,8 +6,6 @@ mod laws;
 mod listings;
 mod lookups;
 mod reading;
-#[cfg(test)]
-mod tests;
 
 pub use heads::{IndexHead, IndexKind};
 pub use laws::heads_are_exact;

@@ -10,7 +10,5 @@ mod lookups;
 mod sections;
 mod special_sections;
 mod stopwords;
-#[cfg(test)]
-mod tests;
 
 pub use defining::define;

@@ -6,8 +6,6 @@ mod checking;
 mod meeting;
 mod reading;
 mod sources;
-#[cfg(test)]
-mod tests;
 mod walking;
 
 pub use checking::{conds_fault, fit_columns, has_beyond, sort_of, unknown_column};

@@ -14,7 +14,5 @@ mod seeking;
 mod selecting;
 mod sources;
 mod statements;
-#[cfg(test)]
-mod tests;
 
 pub use statements::select;

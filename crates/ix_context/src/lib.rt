@@ -12,8 +12,6 @@ mod ranges;
 mod removing;
 mod shapes;
 mod syncing;
-#[cfg(test)]
-mod tests;
 
 pub use creating::create;
 pub use faults::ContextFault;

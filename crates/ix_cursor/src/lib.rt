@@ -10,8 +10,6 @@ mod reading;
 mod scoring;
 mod seeing;
 mod sources;
-#[cfg(test)]
-mod tests;
 
 pub use candidates::Candidates;
 pub use cursors::Cursor;

@@ -3,8 +3,6 @@
 
 mod changes;
 mod lookups;
-#[cfg(test)]
-mod tests;
 
 pub use changes::{mark, queue, unmark, unqueue};
 pub use lookups::{is_pending, number_of, pending, row_of};

@@ -10,8 +10,6 @@ mod rows;
 mod span_reading;
 mod span_rows;
 mod span_writing;
-#[cfg(test)]
-mod tests;
 mod writing;
 
 pub use encoded::{EncodedRow, EncodedRows};

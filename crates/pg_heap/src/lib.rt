@@ -8,13 +8,9 @@ mod drafts;
 mod heaps;
 mod hints;
 mod loading;
-#[cfg(test)]
-mod loading_tests;
 mod pages;
 mod plans;
 mod puts;
 mod slots;
-#[cfg(test)]
-mod tests;
 
 pub use heaps::Heap;

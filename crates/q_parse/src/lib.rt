@@ -13,8 +13,6 @@ mod stages;
 mod stepping;
 mod sums;
 mod terms;
-#[cfg(test)]
-mod tests;
 mod thesauri;
 
 pub use faults::{Cause, QueryFault};

@@ -10,8 +10,6 @@ mod patterns;
 mod phrases;
 mod reducing;
 mod sections;
-#[cfg(test)]
-mod tests;
 mod words;
 
 pub use faults::ReduceFault;

@@ -16,8 +16,6 @@ mod parsing;
 mod procedures;
 mod selecting;
 mod statements;
-#[cfg(test)]
-mod tests;
 mod updating;
 mod values;
 

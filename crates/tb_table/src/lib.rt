@@ -10,8 +10,6 @@ mod reading;
 mod removals;
 mod row_counts;
 mod shapes;
-#[cfg(test)]
-mod tests;
 mod writing;
 
 pub use changes::{create, insert, update};

@@ -3,8 +3,6 @@
 
 mod keying;
 mod keys;
-#[cfg(test)]
-mod tests;
 
 pub use keying::{is_digit, is_word, key, key_laws};
 pub use keys::Key;

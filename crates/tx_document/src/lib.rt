@@ -11,8 +11,6 @@ mod laws;
 mod ordering;
 mod places;
 mod ranges;
-#[cfg(test)]
-mod tests;
 mod views;
 mod words;
 

@@ -8,8 +8,6 @@ mod lexing;
 mod options;
 mod roles;
 mod runs;
-#[cfg(test)]
-mod tests;
 mod tokens;
 
 pub use char_sets::CharSet;

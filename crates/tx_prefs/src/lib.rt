@@ -11,8 +11,6 @@ mod reading;
 mod requests;
 mod settings;
 mod shapes;
-#[cfg(test)]
-mod tests;
 mod unknown_names;
 mod words;
 

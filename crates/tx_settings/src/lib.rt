@@ -6,8 +6,6 @@ mod attributes;
 mod group_reading;
 mod preferences;
 mod prefs_laws;
-#[cfg(test)]
-mod prefs_tests;
 mod reading;
 mod setting_reading;
 mod settings;

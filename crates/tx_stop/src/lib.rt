@@ -5,8 +5,6 @@ mod laws;
 mod rules;
 mod searching;
 mod stopping;
-#[cfg(test)]
-mod tests;
 
 pub use laws::stop_keys_are_those_of_words;
 pub use rules::STOP_LIMIT;

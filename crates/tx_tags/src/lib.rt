@@ -10,8 +10,6 @@ mod sections;
 mod spelling;
 mod tables;
 mod tags;
-#[cfg(test)]
-mod tests;
 
 pub use groups::{Group, Section, SectionKind, Tags};
 pub use laws::closing_laws;

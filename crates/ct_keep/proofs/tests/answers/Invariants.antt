@@ -1,5 +1,0 @@
-use Rattle.ct_keep.specs.KeeperViews.{AcceptsChanges}
-use Rattle.ct_keep.proofs.tests.answers.Given as goal
-
-abbrev pub invariant-loop-call : goal.invariant-loop-call
-invariant-loop-call g l = AcceptsChanges (g.K.Keeper.view l.keeper)

@@ -1,5 +1,0 @@
-use Rattle.db_console.proofs.HistoryLaws.{says_history}
-use Rattle.db_console.proofs.histories.HistoryKeeperKeeper.say.Goals as goal
-
-pub returns-clause-says : goal.returns-clause-says
-returns-clause-says c = says_history c.say.result c.args.bytes.now _ _ _ _ c.say.ensures.all c.say.ensures.ok c.say.ensures.err

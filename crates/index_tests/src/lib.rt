@@ -1,0 +1,13 @@
+//! Tests of posting rows, document maps, occurrences, cursors and indexes.
+#![tactic(auto)]
+
+#[cfg(test)]
+mod cursors;
+#[cfg(test)]
+mod document_maps;
+#[cfg(test)]
+mod indexes;
+#[cfg(test)]
+mod occurrences;
+#[cfg(test)]
+mod posting_rows;

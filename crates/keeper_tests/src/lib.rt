@@ -1,0 +1,9 @@
+//! Tests of keepers and entries.
+#![tactic(auto)]
+
+#[cfg(test)]
+mod entries;
+#[cfg(test)]
+mod keepers;
+#[cfg(test)]
+mod scans;

@@ -1,0 +1,206 @@
+//! Queries and faults in one line. A line is one of these, with one blank between parts:
+//!
+//! - `E20 3`, `E21 3` and `E22 3`: the text breaks the grammar at this place, has something that this profile doesn't have, or has a
+//!   number in no form or out of its range; `E26`: the text is too large
+//! - `(P [..] [..])`: a phrase, and in each bracket the words of which one may stand there
+//! - `(SYN 1 default ..)`, likewise PT, BT and NT: the level, the thesaurus and the words
+//! - `(AND a b)`, `(OR a b)`, `(NOT a b)`, `(MINUS a b)`: two queries
+//! - `(W 25 a)`: a weight, in tenths; `(ABOVE 5 a)`: what the score has to be above; `(WITHIN s a)`: in a section
+//! - `(NEAR 100 false {..} {..})`: the span, whether the order counts, and the operands, each with its phrases
+//! - `(DEFINE {..} 1 OCCURRENCE +)`: the operand, and the sum in postfix form
+//!
+//! A word is `7"dog%"`: its place, and its pieces in quotation marks, with `_` for one character and `%` for any. Where these two signs, a quotation
+//! mark or a backslash are characters of a word, a backslash stands before them; a newline, a return and a tab are `\n`, `\r` and `\t`.
+
+use ct_base::Listed;
+use q_parse::{QueryFault, parse};
+use q_tree::{Leaf, Query, Relation, SumStep, Word, WordBit, WordSlot};
+use std::alloc::Global;
+use std::test::Fail;
+
+/// What the text gives: its tree, or its fault.
+pub(crate) fn answer(alloc: Global, text: &str) -> Result<String, Fail> {
+    let mut out = String::new(alloc);
+    match parse(alloc, text) {
+        Ok(query) => put_query(alloc, &mut out, &query)?,
+        Err(QueryFault::Syntax(place)) => put_fault(alloc, &mut out, "E20", place)?,
+        Err(QueryFault::NotInProfile(place)) => put_fault(alloc, &mut out, "E21", place)?,
+        Err(QueryFault::BadNumber(place)) => put_fault(alloc, &mut out, "E22", place)?,
+        Err(QueryFault::TooLarge) => out.push_str("E26")?,
+        Err(QueryFault::Memory) => out.push_str("no memory")?,
+    }
+    Ok(out)
+}
+
+fn put_fault(alloc: Global, out: &mut String, name: &str, place: u32) -> Result<(), Fail> {
+    let line = format!(in alloc; "{name} {place}")?;
+    out.push_str(line.as_str())?;
+    Ok(())
+}
+
+/// Its cost is linear in the size of the tree, and it goes as deep.
+fn put_query(alloc: Global, out: &mut String, query: &Query) -> Result<(), Fail> {
+    match query {
+        Query::Leaf(leaf) => return put_leaf(alloc, out, leaf),
+        Query::And(a, b) | Query::Or(a, b) | Query::Not(a, b) | Query::Minus(a, b) => {
+            put_head(alloc, out, query)?;
+            put_query(alloc, out, a)?;
+            out.push(' ')?;
+            put_query(alloc, out, b)?;
+        }
+        Query::Weight(_, a) | Query::Above(_, a) | Query::Within(_, a) => {
+            put_head(alloc, out, query)?;
+            put_query(alloc, out, a)?;
+        }
+        Query::Near { operands, .. } => {
+            put_head(alloc, out, query)?;
+            put_operands(alloc, out, operands.as_slice())?;
+        }
+        Query::Define(operand, steps) => {
+            put_head(alloc, out, query)?;
+            put_operand(alloc, out, operand.as_slice())?;
+            put_steps(alloc, out, steps.as_slice())?;
+        }
+    }
+    out.push(')')?;
+    Ok(())
+}
+
+/// What stands before the parts of a query that is no leaf.
+fn put_head(alloc: Global, out: &mut String, query: &Query) -> Result<(), Fail> {
+    let head = match query {
+        Query::Leaf(_) => String::new(alloc),
+        Query::And(_, _) => format!(in alloc; "(AND ")?,
+        Query::Or(_, _) => format!(in alloc; "(OR ")?,
+        Query::Not(_, _) => format!(in alloc; "(NOT ")?,
+        Query::Minus(_, _) => format!(in alloc; "(MINUS ")?,
+        Query::Weight(tenths, _) => format!(in alloc; "(W {tenths} ")?,
+        Query::Above(number, _) => format!(in alloc; "(ABOVE {number} ")?,
+        Query::Near { span, ordered, .. } => format!(in alloc; "(NEAR {span} {ordered}")?,
+        Query::Within(name, _) => {
+            let name = name.as_str();
+            format!(in alloc; "(WITHIN {name} ")?
+        }
+        Query::Define(_, _) => format!(in alloc; "(DEFINE ")?,
+    };
+    out.push_str(head.as_str())?;
+    Ok(())
+}
+
+fn put_operands(alloc: Global, out: &mut String, operands: &[Listed<Leaf>]) -> Result<(), Fail> {
+    for operand in operands {
+        out.push(' ')?;
+        put_operand(alloc, out, operand.as_slice())?;
+    }
+    Ok(())
+}
+
+fn put_operand(alloc: Global, out: &mut String, leaves: &[Leaf]) -> Result<(), Fail> {
+    let mut before = '{';
+    for leaf in leaves {
+        out.push(before)?;
+        put_leaf(alloc, out, leaf)?;
+        before = ' ';
+    }
+    out.push('}')?;
+    Ok(())
+}
+
+fn put_steps(alloc: Global, out: &mut String, steps: &[SumStep]) -> Result<(), Fail> {
+    for step in steps {
+        let step = match step {
+            SumStep::Number(number) => format!(in alloc; " {number}")?,
+            SumStep::Discrete => format!(in alloc; " DISCRETE")?,
+            SumStep::Occurrence => format!(in alloc; " OCCURRENCE")?,
+            SumStep::Plus => format!(in alloc; " +")?,
+            SumStep::Minus => format!(in alloc; " -")?,
+            SumStep::Times => format!(in alloc; " *")?,
+        };
+        out.push_str(step.as_str())?;
+    }
+    Ok(())
+}
+
+fn put_leaf(alloc: Global, out: &mut String, leaf: &Leaf) -> Result<(), Fail> {
+    match leaf {
+        Leaf::Phrase(slots) => {
+            out.push_str("(P")?;
+            put_slots(alloc, out, slots.as_slice())?;
+        }
+        Leaf::Thes {
+            relation,
+            words,
+            level,
+            thesaurus,
+        } => {
+            let relation = relation_name(*relation);
+            let thesaurus = thesaurus.as_str();
+            let head = format!(in alloc; "({relation} {level} {thesaurus} ")?;
+            out.push_str(head.as_str())?;
+            put_words(alloc, out, words.as_slice())?;
+        }
+    }
+    out.push(')')?;
+    Ok(())
+}
+
+fn relation_name(relation: Relation) -> &'static str {
+    match relation {
+        Relation::Syn => "SYN",
+        Relation::Broader => "BT",
+        Relation::Narrower => "NT",
+        Relation::Preferred => "PT",
+    }
+}
+
+fn put_slots(alloc: Global, out: &mut String, slots: &[WordSlot]) -> Result<(), Fail> {
+    for slot in slots {
+        out.push_str(" [")?;
+        put_words(alloc, out, slot.as_slice())?;
+        out.push(']')?;
+    }
+    Ok(())
+}
+
+/// The words, with a blank between two.
+fn put_words(alloc: Global, out: &mut String, words: &[Word]) -> Result<(), Fail> {
+    let mut between = "";
+    for word in words {
+        out.push_str(between)?;
+        put_word(alloc, out, word)?;
+        between = " ";
+    }
+    Ok(())
+}
+
+fn put_word(alloc: Global, out: &mut String, word: &Word) -> Result<(), Fail> {
+    let place = word.place;
+    let head = format!(in alloc; "{place}\"")?;
+    out.push_str(head.as_str())?;
+    for bit in word.bits.as_slice() {
+        match bit {
+            WordBit::Chars(text) => put_chars(out, text.as_str())?,
+            WordBit::One => out.push('_')?,
+            WordBit::Many => out.push('%')?,
+        }
+    }
+    out.push('"')?;
+    Ok(())
+}
+
+/// The characters of a word, with a backslash before those that would be read as signs.
+fn put_chars(out: &mut String, text: &str) -> Result<(), Fail> {
+    for c in text.chars() {
+        match c {
+            '\n' => out.push_str("\\n")?,
+            '\r' => out.push_str("\\r")?,
+            '\t' => out.push_str("\\t")?,
+            '\\' => out.push_str("\\\\")?,
+            '"' => out.push_str("\\\"")?,
+            '_' => out.push_str("\\_")?,
+            '%' => out.push_str("\\%")?,
+            _ => out.push(c)?,
+        }
+    }
+    Ok(())
+}

@@ -1,0 +1,19 @@
+//! Tests of the arguments of the command, statements, conditions and lines, and of what statements do.
+#![tactic(auto)]
+
+#[cfg(test)]
+mod arguments;
+#[cfg(test)]
+mod conditions;
+#[cfg(test)]
+mod definitions;
+#[cfg(test)]
+mod lines;
+#[cfg(test)]
+mod rows;
+#[cfg(test)]
+mod scripts;
+#[cfg(test)]
+mod selections;
+#[cfg(test)]
+mod statements;

@@ -1,0 +1,411 @@
+//! Preferences in a keeper in memory.
+
+ghost use Rattle.std.specs.Prelude.{◌∷◌, [], IsTrue};
+ghost use Rattle.ct_keep.specs.SeenChanges.{change_of};
+ghost use Rattle.ct_keep.specs.Changes.{AnyEntry, AreWell};
+
+use ct_base::{Memory, Name, Text};
+use ct_entry::Kind;
+use ct_keep::{Batch, Change, KeepFault, Keeper, MemKeeper};
+use std::alloc::Global;
+use std::test::Fail;
+use tx_prefs::{
+    Parameters, PrefKind, Request, copy, group_changes, has_named, is_kind_full, is_pref_shape,
+    lexer_changes, lexer_settings, read_requests, requested_parameters, section_group,
+    stoplist_changes, stoplist_words, unknown_request, with_setting,
+};
+use tx_settings::{Attribute, Setting, read_group, read_settings, read_words};
+use tx_tags::Section;
+
+/// Whether a keeper may hold what the change puts.
+fn is_entry(change: &Change) -> bool
+    ensures { IsTrue result → AreWell AnyEntry (change_of change.now ∷ []) }
+{
+    match &change.value {
+        None => true,
+        Some(value) => !change.key.is_empty() && change.key.len() <= 600 && value.len() <= 10_000,
+    }
+}
+
+/// Whether a keeper may hold what the changes put.
+fn are_entries(batch: &Batch) -> bool
+    ensures { IsTrue result → AreWell AnyEntry batch.now }
+{
+    for change in batch.changes() {
+        if !is_entry(change) {
+            return false;
+        }
+    }
+    true
+}
+
+/// Commits the changes, if there are any and the keeper may hold what they put.
+fn commit(alloc: Global, keeper: &mut MemKeeper, batch: Option<Batch>) -> Result<(), KeepFault> {
+    let Some(batch) = batch else {
+        return Err(KeepFault::Full);
+    };
+    if !are_entries(&batch) {
+        return Err(KeepFault::Full);
+    }
+    keeper.commit(alloc, batch)
+}
+
+fn named(alloc: Global, text: &str) -> Result<Name, Memory> {
+    Name::read(alloc, text).map_err(|_| Memory)
+}
+
+/// The change by which the lexer preference has the settings that the bytes spell.
+fn lexer_change(alloc: Global, name: &Name, bytes: &[u8]) -> Result<Option<Batch>, Memory> {
+    match read_settings(alloc, bytes, 0)? {
+        Some((settings, _)) => lexer_changes(alloc, name, &settings),
+        None => Ok(None),
+    }
+}
+
+/// The change by which the stoplist has the words that the bytes spell.
+fn stoplist_change(alloc: Global, name: &Name, bytes: &[u8]) -> Result<Option<Batch>, Memory> {
+    match read_words(alloc, bytes, 0)? {
+        Some((words, _)) => stoplist_changes(alloc, name, &words),
+        None => Ok(None),
+    }
+}
+
+/// The change by which the section group is the one that the bytes spell.
+fn group_change(alloc: Global, name: &Name, bytes: &[u8]) -> Result<Option<Batch>, Memory> {
+    match read_group(alloc, bytes, 0)? {
+        Some((group, _)) => Ok(Some(group_changes(alloc, name, &group)?)),
+        None => Ok(None),
+    }
+}
+
+/// Stores what the bytes spell.
+fn add(
+    alloc: Global,
+    keeper: &mut MemKeeper,
+    kind: PrefKind,
+    name: &Name,
+    bytes: &[u8],
+) -> Result<(), KeepFault> {
+    let batch = match kind {
+        PrefKind::Lexer => lexer_change(alloc, name, bytes)?,
+        PrefKind::Stoplist => stoplist_change(alloc, name, bytes)?,
+        PrefKind::SectionGroup => group_change(alloc, name, bytes)?,
+    };
+    commit(alloc, keeper, batch)
+}
+
+const STORED: &[(PrefKind, &str, &[u8])] = &[
+    (PrefKind::Stoplist, "sl", b"\x01\x05other"),
+    (
+        PrefKind::Lexer,
+        "lx",
+        b"\x02\x0amixed_case\x03Yes\x09skipjoins\x01-",
+    ),
+    (PrefKind::Stoplist, "sl", b"\x02\x03the\x02Is"),
+    (
+        PrefKind::SectionGroup,
+        "g",
+        b"\x01\x01\x01\x01p\x01\x02\x01p\x02h1",
+    ),
+];
+
+/// A keeper in memory with a preference, a stoplist whose words were others at first, and a section group.
+fn stored(alloc: Global) -> Result<MemKeeper, KeepFault> {
+    let mut keeper = MemKeeper::new(alloc, Vec::new(alloc), 1_000_000, 0)?;
+    for (kind, name, bytes) in STORED {
+        let name = named(alloc, name)?;
+        add(alloc, &mut keeper, *kind, &name, bytes)?;
+    }
+    Ok(keeper)
+}
+
+fn say(line: &mut String, text: &str) -> Result<(), Memory> {
+    line.push_str(text)?;
+    line.push_str(" ")?;
+    Ok(())
+}
+
+fn say_settings(line: &mut String, settings: &[Setting]) -> Result<(), Memory> {
+    for setting in settings {
+        say(line, setting.attribute.name())?;
+        say(line, setting.value.as_str())?;
+    }
+    Ok(())
+}
+
+fn say_words(line: &mut String, words: &[Text]) -> Result<(), Memory> {
+    for word in words {
+        say(line, word.as_str())?;
+    }
+    Ok(())
+}
+
+fn say_sections(line: &mut String, sections: &[Section]) -> Result<(), Memory> {
+    for section in sections {
+        say(line, section.name.as_str())?;
+        say_words(line, section.tags.as_slice())?;
+    }
+    Ok(())
+}
+
+/// Says what a name is of this kind.
+fn say_stored(
+    alloc: Global,
+    line: &mut String,
+    keeper: &mut MemKeeper,
+    kind: PrefKind,
+    name: &Name,
+) -> Result<(), KeepFault> {
+    match kind {
+        PrefKind::Lexer => {
+            if let Some(settings) = lexer_settings(alloc, keeper, name)? {
+                say_settings(line, &settings)?;
+            }
+        }
+        PrefKind::Stoplist => {
+            if let Some(words) = stoplist_words(alloc, keeper, name)? {
+                say_words(line, &words)?;
+            }
+        }
+        PrefKind::SectionGroup => {
+            if let Some(group) = section_group(alloc, keeper, name)? {
+                say_sections(line, group.sections())?;
+            }
+        }
+    }
+    let is_there = has_named(alloc, keeper, kind, name)?;
+    say(line, if is_there { "there" } else { "gone" })?;
+    Ok(())
+}
+
+fn stored_line(alloc: Global, kind: PrefKind, name: &str) -> Result<String, KeepFault> {
+    let mut keeper = stored(alloc)?;
+    let name = named(alloc, name)?;
+    let mut line = String::new(alloc);
+    say_stored(alloc, &mut line, &mut keeper, kind, &name)?;
+    Ok(line)
+}
+
+/// Names, and what they are.
+const LINES: &[(PrefKind, &str, &str)] = &[
+    (PrefKind::Lexer, "lx", "mixed_case Yes skipjoins - there "),
+    (PrefKind::Stoplist, "sl", "the Is there "),
+    (PrefKind::SectionGroup, "g", "p p h1 there "),
+    (PrefKind::Lexer, "sl", "gone "),
+    (PrefKind::Stoplist, "s", "gone "),
+    (PrefKind::SectionGroup, "lx", "gone "),
+];
+
+#[test]
+fn lookups(rt: HostRuntime) -> Result<(), Fail> {
+    for (kind, name, line) in LINES {
+        let found = stored_line(rt.alloc(), *kind, name)?;
+        assert_eq!(&rt; found.as_str(), *line, "of {name:?}");
+    }
+    Ok(())
+}
+
+/// Whether there are as many stoplists as there may be, with so many of them.
+fn is_full_of(alloc: Global, count: u16) -> Result<bool, KeepFault> {
+    let mut keeper = stored(alloc)?;
+    for i in 1..count {
+        let text = format!(in alloc; "s{i}").map_err(Memory::from)?;
+        let name = named(alloc, text.as_str())?;
+        add(alloc, &mut keeper, PrefKind::Stoplist, &name, b"\0")?;
+    }
+    is_kind_full(alloc, &mut keeper, PrefKind::Stoplist)
+}
+
+#[test]
+fn limits(rt: HostRuntime) -> Result<(), Fail> {
+    assert!(&rt; !is_full_of(rt.alloc(), 255)?);
+    assert!(&rt; is_full_of(rt.alloc(), 256)?);
+    Ok(())
+}
+
+/// The name, if there is one.
+fn optional(alloc: Global, text: &str) -> Result<Option<Name>, Memory> {
+    if text.is_empty() {
+        return Ok(None);
+    }
+    Ok(Some(named(alloc, text)?))
+}
+
+fn parameters(
+    alloc: Global,
+    lexer: &str,
+    stoplist: &str,
+    group: &str,
+) -> Result<Parameters, Memory> {
+    Ok(Parameters {
+        lexer: optional(alloc, lexer)?,
+        stoplist: optional(alloc, stoplist)?,
+        group: optional(alloc, group)?,
+    })
+}
+
+/// Whether case is kept, how many stop keys and characters that are left out there are, and the sections; or `none`.
+fn copied_line(
+    alloc: Global,
+    lexer: &str,
+    stoplist: &str,
+    group: &str,
+) -> Result<String, KeepFault> {
+    let mut keeper = stored(alloc)?;
+    let asked = parameters(alloc, lexer, stoplist, group)?;
+    let mut line = String::new(alloc);
+    let Some(prefs) = copy(alloc, &mut keeper, &asked)? else {
+        say(&mut line, "none")?;
+        return Ok(line);
+    };
+    let mixed = prefs.lexer.mixed_case;
+    let count = prefs.stop.keys().len();
+    let left_out = prefs.lexer.skipjoins.as_slice().len();
+    let numbers = format!(in alloc; "{mixed} {count} {left_out}").map_err(Memory::from)?;
+    say(&mut line, numbers.as_str())?;
+    say_sections(&mut line, prefs.group.sections())?;
+    Ok(line)
+}
+
+/// Names of a preference, a stoplist and a group, and what is copied.
+const COPIES: &[(&str, &str, &str, &str)] = &[
+    ("", "", "", "false 0 0 "),
+    ("lx", "sl", "g", "true 2 1 p p h1 "),
+    ("", "sl", "", "false 2 0 "),
+    ("g", "", "", "none "),
+    ("", "lx", "", "none "),
+    ("lx", "sl", "sl", "none "),
+];
+
+#[test]
+fn copies(rt: HostRuntime) -> Result<(), Fail> {
+    for (lexer, stoplist, group, line) in COPIES {
+        let found = copied_line(rt.alloc(), lexer, stoplist, group)?;
+        assert_eq!(&rt;
+            found.as_str(),
+            *line,
+            "of {lexer:?} {stoplist:?} {group:?}"
+        );
+    }
+    Ok(())
+}
+
+/// Entries by their kinds, the rests of their keys and their values, and whether they are well shaped.
+const SHAPES: &[(Kind, &[u8], &[u8], bool)] = &[
+    (Kind::Preferences, b"", b"\x01\x09skipjoins\x01-", true),
+    (Kind::Preferences, b"", b"\x01\x09skipjoins\x01-\0", false),
+    (Kind::Preferences, b"\0", b"\x01\x09skipjoins\x01-", false),
+    (Kind::Stoplists, b"", b"\x02\x03the\x02Is", true),
+    (Kind::Stoplists, b"", b"\x03\x03the\x02Is", false),
+    (Kind::SectionGroups, b"", b"\x02\0\0", true),
+    (Kind::SectionGroups, b"", b"\x02\0\0\0", false),
+    (Kind::Tables, b"", b"\x02\0\0", false),
+];
+
+#[test]
+fn shapes(rt: HostRuntime) -> Result<(), Fail> {
+    for (kind, part, value, is) in SHAPES {
+        let found = is_pref_shape(rt.alloc(), *kind, part, value)?;
+        assert_eq!(&rt; found, *is, "of {value:?}");
+    }
+    Ok(())
+}
+
+fn say_name(line: &mut String, name: &Option<Name>) -> Result<(), Memory> {
+    match name {
+        Some(name) => say(line, name.as_str()),
+        None => say(line, "-"),
+    }
+}
+
+/// The name that none has, if there is one, and then those of the preference, the stoplist and the group.
+fn say_requests(alloc: Global, line: &mut String, requests: &[Request]) -> Result<(), KeepFault> {
+    let mut keeper = stored(alloc)?;
+    let unknown = unknown_request(alloc, &mut keeper, requests)?;
+    let asked = requested_parameters(requests)?;
+    say_name(line, &unknown)?;
+    say_name(line, &asked.lexer)?;
+    say_name(line, &asked.stoplist)?;
+    say_name(line, &asked.group)?;
+    Ok(())
+}
+
+fn requests_line(alloc: Global, text: &str) -> Result<String, KeepFault> {
+    let mut line = String::new(alloc);
+    match read_requests(alloc, text)? {
+        Some(requests) => say_requests(alloc, &mut line, &requests)?,
+        None => say(&mut line, "none")?,
+    }
+    Ok(line)
+}
+
+/// Texts, and what they ask for.
+const REQUESTS: &[(&str, &str)] = &[
+    ("", "- - - - "),
+    (
+        " Lexer LX\n\tSECTION group ctxsys.Null_Section_Group ",
+        "- lx - - ",
+    ),
+    ("stoplist sl section group g lexer lx", "- lx sl g "),
+    (
+        "lexer ctxsys.default_lexer stoplist lx section group sl",
+        "lx - lx sl ",
+    ),
+    ("lexer a lexer b", "none "),
+    ("lexer", "none "),
+    ("section g", "none "),
+    ("lexer lé", "none "),
+    ("lexer lx transactional", "none "),
+    ("lexer ctxsys.empty_stoplist", "none "),
+];
+
+#[test]
+fn requests(rt: HostRuntime) -> Result<(), Fail> {
+    for (text, line) in REQUESTS {
+        let found = requests_line(rt.alloc(), text)?;
+        assert_eq!(&rt; found.as_str(), *line, "of {text:?}");
+    }
+    Ok(())
+}
+
+/// Two settings with a third.
+fn set_line(alloc: Global, attribute: Attribute, value: &str) -> Result<String, Memory> {
+    let mut line = String::new(alloc);
+    let bytes = b"\x02\x0amixed_case\x03Yes\x09skipjoins\x01-";
+    if let Some((settings, _)) = read_settings(alloc, bytes, 0)? {
+        let value = Text::of(alloc, value)?;
+        let more = with_setting(alloc, settings, Setting { attribute, value })?;
+        say_settings(&mut line, &more)?;
+    }
+    Ok(line)
+}
+
+/// An attribute with its value, and the settings with it.
+const SET: &[(Attribute, &str, &str)] = &[
+    (Attribute::MixedCase, "no", "mixed_case no skipjoins - "),
+    (
+        Attribute::Numjoin,
+        ".",
+        "mixed_case Yes numjoin . skipjoins - ",
+    ),
+    (Attribute::Skipjoins, "_", "mixed_case Yes skipjoins _ "),
+    (
+        Attribute::BaseLetter,
+        "no",
+        "base_letter no mixed_case Yes skipjoins - ",
+    ),
+    (
+        Attribute::Startjoins,
+        "#",
+        "mixed_case Yes skipjoins - startjoins # ",
+    ),
+];
+
+#[test]
+fn settings(rt: HostRuntime) -> Result<(), Fail> {
+    for (attribute, value, line) in SET {
+        let found = set_line(rt.alloc(), *attribute, value)?;
+        assert_eq!(&rt; found.as_str(), *line, "of {value:?}");
+    }
+    Ok(())
+}
