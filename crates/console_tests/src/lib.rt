@@ -1,4 +1,4 @@
-//! Tests of scripts that are served and of whole runs.
+//! Tests of scripts that are served and of whole runs, apart from the crates that they test: docs/ARCHITECTURE.md says why.
 #![tactic(auto)]
 
 #[cfg(test)]

@@ -1,4 +1,4 @@
-//! Tests of posting rows, document maps, occurrences, cursors and indexes.
+//! Tests of posting rows, document maps, occurrences, cursors and indexes, apart from the crates that they test: docs/ARCHITECTURE.md says why.
 #![tactic(auto)]
 
 #[cfg(test)]

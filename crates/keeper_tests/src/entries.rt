@@ -18,7 +18,7 @@ use std::test::Fail;
 /// A change: a kind, an owner, the row that the key ends in, if it ends in one, and the value, or None where the entry is to go.
 type Change = (Kind, &'static str, Option<i64>, Option<&'static str>);
 
-const WORDS: &[Change] = &[
+const CHANGES: &[Change] = &[
     (Kind::Tables, "zoo", None, Some("three")),
     (Kind::Tables, "docs", None, Some("four")),
     (Kind::Tables, "ab", None, Some("two")),
@@ -93,7 +93,7 @@ fn commit<K: Keeper>(alloc: Global, keeper: &mut K, changes: &[Change]) -> Resul
 /// A keeper in memory that holds what the changes say.
 fn kept(alloc: Global) -> Result<MemKeeper, KeepFault> {
     let mut keeper = MemKeeper::new(alloc, Vec::new(alloc), 100_000, 0)?;
-    commit(alloc, &mut keeper, WORDS)?;
+    commit(alloc, &mut keeper, CHANGES)?;
     Ok(keeper)
 }
 

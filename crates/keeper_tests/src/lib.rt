@@ -1,4 +1,4 @@
-//! Tests of keepers and entries.
+//! Tests of keepers and entries, apart from the crates that they test: docs/ARCHITECTURE.md says why.
 #![tactic(auto)]
 
 #[cfg(test)]

@@ -1,4 +1,4 @@
-//! Tests of pages, the journal and the heap.
+//! Tests of pages, the journal and the heap, apart from the crates that they test: docs/ARCHITECTURE.md says why.
 #![tactic(auto)]
 
 #[cfg(test)]

@@ -1,4 +1,4 @@
-//! Tests of query texts and their reduction.
+//! Tests of query texts and their reduction, apart from the crates that they test: docs/ARCHITECTURE.md says why.
 #![tactic(auto)]
 
 #[cfg(test)]

@@ -1,4 +1,4 @@
-//! Tests of numbers as bytes, and of sites.
+//! Tests of numbers as bytes, and of sites, apart from the crates that they test: docs/ARCHITECTURE.md says why.
 #![tactic(auto)]
 
 #[cfg(test)]

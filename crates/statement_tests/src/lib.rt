@@ -1,4 +1,4 @@
-//! Tests of the arguments of the command, statements, conditions and lines, and of what statements do.
+//! Tests of the arguments of the command, statements, conditions and lines, and of what statements do, apart from the crates that they test: docs/ARCHITECTURE.md says why.
 #![tactic(auto)]
 
 #[cfg(test)]

@@ -1,4 +1,4 @@
-//! Tests of tables, stored preferences, and the names of indexes.
+//! Tests of tables, stored preferences, and the names of indexes, apart from the crates that they test: docs/ARCHITECTURE.md says why.
 #![tactic(auto)]
 
 #[cfg(test)]

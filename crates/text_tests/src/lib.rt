@@ -1,4 +1,4 @@
-//! Tests of keys, lexers, tags, stopwords, preferences and documents.
+//! Tests of keys, lexers, tags, stopwords, preferences and documents, apart from the crates that they test: docs/ARCHITECTURE.md says why.
 #![tactic(auto)]
 
 #[cfg(test)]
