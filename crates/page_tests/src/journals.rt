@@ -251,7 +251,7 @@ fn a_batch_has_the_pages_that_were_put(rt: HostRuntime) -> Result<(), Fail> {
     batch.put(7, &[7; 4096]);
     batch.put(3, &[3; 4096]);
     batch.put(5, &[5; 4096]);
-    assert!(rt; batch.has(5) && !batch.has(4));
+    assert!(rt; batch.has(3) && batch.has(5) && batch.has(7) && !batch.has(4));
     assert!(rt; !batch.is_empty());
     Ok(())
 }
