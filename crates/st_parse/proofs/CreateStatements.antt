@@ -13,7 +13,7 @@ use Rattle.st_parse.specs.declared.statements.Statement.{Statement}
 use Rattle.st_parse.specs.declared.statements.Statement.TheVariants.{CreateTable, CreateIndex}
 use Rattle.st_parse.specs.Lexemes.{◌>>=◌}
 use Rattle.st_parse.specs.Lists.{AreEnclosed, enclosed_last}
-use Rattle.st_parse.specs.Creating.{IsSortText, primary_key, IsColumn, IsIndexKind, sort_text_at, primary_key_at, column_text, column_at, IsParameters, kind_at, index_kind_at, enclosed_text_of, parameters_of, create_table_of, create_index_of, create_of}
+use Rattle.st_parse.specs.Creating.{IsSortText, primary_key, IsColumn, IsIndexKind, sort_text_at, primary_key_at, column_text, column_at, IsParameters, kind_at, index_kind_at, enclosed_text_of, parameters_of, create_table_of, create_index_of, index_on_of, create_of}
 use Rattle.st_parse.specs.Grammar.{IsStatement}
 use Rattle.st_parse.proofs.Spelt.{Spelt, Follows, Wholly, enclosed_last-spelt, enclosed_last-again}
 
@@ -118,9 +118,12 @@ create_table-means : (ls : List Lexeme) → Wholly IsStatement (create_table_of 
 create_table-means (Name name ∷ ls) = table-means name (enclosed_last column_at ls) ls (enclosed_last-spelt IsColumn column_at column-spelt ls)
 create_table-means ls = tt
 
+index_on-means : (name table : List ℕ) (ls : List Lexeme) → Wholly IsStatement (index_on_of name table ls) (Word CREATE ∷ Word INDEX ∷ Name name ∷ Word ON ∷ Name table ∷ ls)
+index_on-means name table (Sign Open ∷ Name column ∷ Sign Close ∷ ls) = index-means name table column (index_kind_at ls) ls (kind-spelt ls)
+index_on-means name table ls = tt
+
 create_index-means : (ls : List Lexeme) → Wholly IsStatement (create_index_of ls) (Word CREATE ∷ Word INDEX ∷ ls)
-create_index-means (Name name ∷ Word ON ∷ Name table ∷ Sign Open ∷ Name column ∷ Sign Close ∷ ls) =
-    index-means name table column (index_kind_at ls) ls (kind-spelt ls)
+create_index-means (Name name ∷ Word ON ∷ Name table ∷ ls) = index_on-means name table ls
 create_index-means ls = tt
 
 pub create-means : (ls : List Lexeme) → Wholly IsStatement (create_of ls) (Word CREATE ∷ ls)

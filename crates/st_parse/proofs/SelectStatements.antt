@@ -19,14 +19,18 @@ use Rattle.st_parse.specs.declared.statements.Statement.TheVariants.{Select}
 use Rattle.st_parse.specs.Lexemes.{◌>>=◌}
 use Rattle.st_parse.specs.Lists.{AreListed, IsWhere, list_at, where_of}
 use Rattle.st_parse.specs.Conditions.{IsCond, cond_at}
-use Rattle.st_parse.specs.Selecting.{IsSelectItem, IsSelectList, IsLabel, IsPred, is_search, item_at, select_list_at, label_at, above_at, pred_at, select_by, from_of, select_of}
+use Rattle.st_parse.specs.Selecting.{IsSelectItem, IsSelectList, IsLabel, IsPred, is_search, score_at, item_at, items_at, count_at, select_list_at, label_at, above_at, contains_at, pred_at, select_by, from_of, select_of}
 use Rattle.st_parse.specs.Grammar.{IsStatement}
 use Rattle.st_parse.proofs.Spelt.{Spelt, Wholly, Follows, list_at-spelt, list_at-again, where-spelt, where-again}
 use Rattle.st_parse.proofs.SpeltConditions.{cond-spelt, cond-again}
 
+score-spelt : (ls : List Lexeme) → Spelt IsSelectItem (score_at ls) (Word SCORE ∷ ls)
+score-spelt (Sign Open ∷ Number digits ∷ Sign Close ∷ ls) = (Word SCORE ∷ Sign Open ∷ Number digits ∷ Sign Close ∷ [], (digits, refl, refl), refl)
+score-spelt ls = tt
+
 item-spelt : (ls : List Lexeme) → Spelt IsSelectItem (item_at ls) ls
 item-spelt (Name name ∷ ls) = (Name name ∷ [], refl, refl)
-item-spelt (Word SCORE ∷ Sign Open ∷ Number digits ∷ Sign Close ∷ ls) = (Word SCORE ∷ Sign Open ∷ Number digits ∷ Sign Close ∷ [], (digits, refl, refl), refl)
+item-spelt (Word SCORE ∷ ls) = score-spelt ls
 item-spelt ls = tt
 
 item-again : (prefix rest : List Lexeme) (item : Item) → IsSelectItem prefix item → Follows rest → item_at (prefix ++ rest) ≡ Some (item, rest)
@@ -38,15 +42,19 @@ items-spelt : (o : Option (List Item × List Lexeme)) (ls : List Lexeme) → Spe
 items-spelt None ls are = tt
 items-spelt (Some (items, rest)) ls are = are
 
+count-spelt : (ls : List Lexeme) → Spelt IsSelectList (count_at ls) (Word COUNT ∷ ls)
+count-spelt (Sign Open ∷ Sign Star ∷ Sign Close ∷ ls) = (Word COUNT ∷ Sign Open ∷ Sign Star ∷ Sign Close ∷ [], refl, refl)
+count-spelt ls = tt
+
 list-spelt : (ls : List Lexeme) → Spelt IsSelectList (select_list_at ls) ls
 list-spelt (Sign Star ∷ ls) = (Sign Star ∷ [], refl, refl)
-list-spelt (Word COUNT ∷ Sign Open ∷ Sign Star ∷ Sign Close ∷ ls) = (Word COUNT ∷ Sign Open ∷ Sign Star ∷ Sign Close ∷ [], refl, refl)
+list-spelt (Word COUNT ∷ ls) = count-spelt ls
 list-spelt ls = items-spelt (list_at ByComma item_at ls) ls (list_at-spelt IsSelectItem item_at item-spelt ByComma ls)
 
 -- items begin neither with `*` nor with COUNT
 items-first : (ls rest : List Lexeme) (items : List Item) → list_at ByComma item_at ls ≡ Some (items, rest) → select_list_at ls ≡ Some (Items items, rest)
 items-first (Sign Star ∷ ls) rest items read = cc
-items-first (Word COUNT ∷ Sign Open ∷ Sign Star ∷ Sign Close ∷ ls) rest items read = cc
+items-first (Word COUNT ∷ ls) rest items read = cc
 items-first ls rest items read = ap (λ o. o >>= λ found. Some (Items found.0, found.1)) read
 
 list-again : (prefix rest : List Lexeme) (list : SelectList) → IsSelectList prefix list → select_list_at (prefix ++ Word FROM ∷ rest) ≡ Some (list, Word FROM ∷ rest)
@@ -82,13 +90,17 @@ condition-spelt : (o : Option (Condition × List Lexeme)) (ls : List Lexeme) →
 condition-spelt None ls is = tt
 condition-spelt (Some (condition, rest)) ls is = is
 
+contains-spelt : (ls : List Lexeme) → Spelt IsPred (contains_at ls) (Word CONTAINS ∷ ls)
+contains-spelt (Sign Open ∷ Name column ∷ Sign Comma ∷ Text query ∷ ls) = above-spelt column query (label_at ls) ls (label-spelt ls)
+contains-spelt ls = tt
+
 pred-spelt : (ls : List Lexeme) → Spelt IsPred (pred_at ls) ls
-pred-spelt (Word CONTAINS ∷ Sign Open ∷ Name column ∷ Sign Comma ∷ Text query ∷ ls) = above-spelt column query (label_at ls) ls (label-spelt ls)
+pred-spelt (Word CONTAINS ∷ ls) = contains-spelt ls
 pred-spelt ls = condition-spelt (cond_at ls) ls (cond-spelt ls)
 
 -- a condition doesn't begin with CONTAINS
 condition-first : (ls rest : List Lexeme) (condition : Condition) → cond_at ls ≡ Some (condition, rest) → pred_at ls ≡ Some (Cond condition, rest)
-condition-first (Word CONTAINS ∷ Sign Open ∷ Name column ∷ Sign Comma ∷ Text query ∷ ls) rest condition read = cc
+condition-first (Word CONTAINS ∷ ls) rest condition read = cc
 condition-first ls rest condition read = ap (λ o. o >>= λ found. Some (Cond found.0, found.1)) read
 
 pred-again : (prefix rest : List Lexeme) (pred : Pred) → IsPred prefix pred → Follows rest → pred_at (prefix ++ rest) ≡ Some (pred, rest)

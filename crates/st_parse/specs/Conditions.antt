@@ -48,10 +48,20 @@ abbrev pub between_at : List ℕ → Operand × List Lexeme → Option (Cond × 
 between_at column (low, Word AND ∷ ls) = operand_at ls >>= λ high. Some (Between column low high.0, high.1)
 between_at column found = None
 
+-- what follows a column: a sign and what follows that, what follows BETWEEN, and what follows IN
+abbrev pub comparison_at : List ℕ → Symbol → Reader Cond
+comparison_at column sign ls = comparison_of sign >>= λ op. compared_at column op ls
+
+abbrev pub range_at : List ℕ → Reader Cond
+range_at column ls = operand_at ls >>= between_at column
+
+abbrev pub one_of_at : List ℕ → Reader Cond
+one_of_at column ls = enclosed operand_at ls >>= λ values. Some (OneOf column values.0, values.1)
+
 abbrev pub cond_at : Reader Cond
-cond_at (Name column ∷ Sign sign ∷ ls) = comparison_of sign >>= λ op. compared_at column op ls
-cond_at (Name column ∷ Word BETWEEN ∷ ls) = operand_at ls >>= between_at column
-cond_at (Name column ∷ Word IN ∷ ls) = enclosed operand_at ls >>= λ values. Some (OneOf column values.0, values.1)
+cond_at (Name column ∷ Sign sign ∷ ls) = comparison_at column sign ls
+cond_at (Name column ∷ Word BETWEEN ∷ ls) = range_at column ls
+cond_at (Name column ∷ Word IN ∷ ls) = one_of_at column ls
 cond_at ls = None
 
 -- computed examples

@@ -84,8 +84,13 @@ create_table_of ls = None
 abbrev pub index_of : List ℕ → List ℕ → List ℕ → List Lexeme → Option Statement
 index_of name table column ls = index_kind_at ls >>= λ kind. parameters_of kind.1 >>= λ parameters. Some (CreateIndex name table column kind.0 parameters None)
 
+-- the index of a table, by what follows the table
+abbrev pub index_on_of : List ℕ → List ℕ → List Lexeme → Option Statement
+index_on_of name table (Sign Open ∷ Name column ∷ Sign Close ∷ ls) = index_of name table column ls
+index_on_of name table ls = None
+
 abbrev pub create_index_of : List Lexeme → Option Statement
-create_index_of (Name name ∷ Word ON ∷ Name table ∷ Sign Open ∷ Name column ∷ Sign Close ∷ ls) = index_of name table column ls
+create_index_of (Name name ∷ Word ON ∷ Name table ∷ ls) = index_on_of name table ls
 create_index_of ls = None
 
 -- what follows CREATE

@@ -4,6 +4,7 @@ use Rattle.st_parse.specs.declared.lexemes.Keyword.TheVariants.{Into as INTO, Va
 use Rattle.st_parse.specs.declared.lexemes.Symbol.TheVariants.{Open, Close, Comma}
 use Rattle.st_parse.specs.declared.lexemes.Lexeme.{Lexeme}
 use Rattle.st_parse.specs.declared.lexemes.Lexeme.TheVariants.{Word, Name, Text, Sign}
+use Rattle.st_parse.specs.declared.statements.Operand.{Operand}
 use Rattle.st_parse.specs.declared.statements.Operand.TheVariants.{Text as TextValue}
 use Rattle.st_parse.specs.declared.statements.Statement.{Statement}
 use Rattle.st_parse.specs.declared.statements.Statement.TheVariants.{Insert}
@@ -24,13 +25,21 @@ abbrev pub name_at : Reader (List ℕ)
 name_at (Name name ∷ ls) = Some (name, ls)
 name_at ls = None
 
+-- VALUES and the values, where nothing follows
+abbrev pub values_of : List Lexeme → Option (List Operand)
+values_of (Word VALUES ∷ ls) = enclosed_last operand_at ls
+values_of ls = None
+
 abbrev pub insert_values_of : List ℕ → Option (List (List ℕ)) → List Lexeme → Option Statement
-insert_values_of table columns (Word VALUES ∷ ls) = enclosed_last operand_at ls >>= λ values. Some (Insert table columns values)
-insert_values_of table columns ls = None
+insert_values_of table columns ls = values_of ls >>= λ values. Some (Insert table columns values)
+
+-- the same after the names of columns
+abbrev pub insert_named_of : List ℕ → List Lexeme → Option Statement
+insert_named_of table ls = enclosed name_at ls >>= λ names. insert_values_of table (Some names.0) names.1
 
 abbrev pub insert_columns_of : List ℕ → List Lexeme → Option Statement
 insert_columns_of table (Word VALUES ∷ ls) = insert_values_of table None (Word VALUES ∷ ls)
-insert_columns_of table ls = enclosed name_at ls >>= λ names. insert_values_of table (Some names.0) names.1
+insert_columns_of table ls = insert_named_of table ls
 
 -- what follows INSERT
 abbrev pub insert_of : List Lexeme → Option Statement

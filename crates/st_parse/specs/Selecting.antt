@@ -50,15 +50,27 @@ is_search (Cond cond) = false
 is_search pred = true
 
 -- The same as functions.
+abbrev pub score_at : Reader Item
+score_at (Sign Open ∷ Number digits ∷ Sign Close ∷ ls) = Some (Score (number digits), ls)
+score_at ls = None
+
 abbrev pub item_at : Reader Item
 item_at (Name name ∷ ls) = Some (Column name, ls)
-item_at (Word SCORE ∷ Sign Open ∷ Number digits ∷ Sign Close ∷ ls) = Some (Score (number digits), ls)
+item_at (Word SCORE ∷ ls) = score_at ls
 item_at ls = None
+
+abbrev pub items_at : Reader SelectList
+items_at ls = list_at ByComma item_at ls >>= λ items. Some (Items items.0, items.1)
+
+-- what follows COUNT
+abbrev pub count_at : Reader SelectList
+count_at (Sign Open ∷ Sign Star ∷ Sign Close ∷ ls) = Some (CountAll, ls)
+count_at ls = None
 
 abbrev pub select_list_at : Reader SelectList
 select_list_at (Sign Star ∷ ls) = Some (AllColumns, ls)
-select_list_at (Word COUNT ∷ Sign Open ∷ Sign Star ∷ Sign Close ∷ ls) = Some (CountAll, ls)
-select_list_at ls = list_at ByComma item_at ls >>= λ items. Some (Items items.0, items.1)
+select_list_at (Word COUNT ∷ ls) = count_at ls
+select_list_at ls = items_at ls
 
 abbrev pub label_at : List Lexeme → Option Whole × List Lexeme
 label_at (Sign Comma ∷ Number digits ∷ ls) = (Some (number digits), ls)
@@ -68,8 +80,13 @@ abbrev pub above_at : List ℕ → List ℕ → Option Whole × List Lexeme → 
 above_at column query (label, Sign Close ∷ Sign Greater ∷ Number digits ∷ ls) = Some (Contains column query label (number digits), ls)
 above_at column query found = None
 
+-- what follows CONTAINS
+abbrev pub contains_at : Reader Pred
+contains_at (Sign Open ∷ Name column ∷ Sign Comma ∷ Text query ∷ ls) = above_at column query (label_at ls)
+contains_at ls = None
+
 abbrev pub pred_at : Reader Pred
-pred_at (Word CONTAINS ∷ Sign Open ∷ Name column ∷ Sign Comma ∷ Text query ∷ ls) = above_at column query (label_at ls)
+pred_at (Word CONTAINS ∷ ls) = contains_at ls
 pred_at ls = cond_at ls >>= λ cond. Some (Cond cond.0, cond.1)
 
 abbrev pub select_by : SelectList → List ℕ → List Pred → Option Statement

@@ -1,7 +1,7 @@
 //! CREATE TABLE and CREATE INDEX.
 
 ghost use Rattle.std.specs.Prelude.{◌≡◌, ◌≤◌, length, IfOk};
-ghost use Rattle.st_parse.specs.Creating.{sort_text_at, primary_key_at, column_at, kind_at, index_kind_at, enclosed_text_of, parameters_of, index_of, create_table_of, create_index_of, create_of};
+ghost use Rattle.st_parse.specs.Creating.{sort_text_at, primary_key_at, column_at, kind_at, index_kind_at, enclosed_text_of, parameters_of, index_of, index_on_of, create_table_of, create_index_of, create_of};
 ghost use Rattle.st_parse.specs.Reading.{ReadGives, StatementGives};
 
 use crate::lexemes::{Keyword, Lexeme, Symbol};
@@ -161,6 +161,21 @@ fn index(
     })
 }
 
+/// The index of a table, by what follows the table.
+fn index_on(name: &Name, table: &Name, lexemes: &[Lexeme]) -> Result<Statement, StatementFault>
+    ensures { StatementGives result (index_on_of name.now table.now lexemes.now) }
+{
+    match lexemes {
+        [
+            Lexeme::Sign(Symbol::Open),
+            Lexeme::Name(column),
+            Lexeme::Sign(Symbol::Close),
+            rest @ ..,
+        ] => index(name, table, column, rest),
+        _ => Err(StatementFault::Syntax),
+    }
+}
+
 /// What follows CREATE INDEX.
 fn create_index(lexemes: &[Lexeme]) -> Result<Statement, StatementFault>
     ensures { StatementGives result (create_index_of lexemes.now) }
@@ -170,11 +185,8 @@ fn create_index(lexemes: &[Lexeme]) -> Result<Statement, StatementFault>
             Lexeme::Name(name),
             Lexeme::Word(Keyword::On),
             Lexeme::Name(table),
-            Lexeme::Sign(Symbol::Open),
-            Lexeme::Name(column),
-            Lexeme::Sign(Symbol::Close),
             rest @ ..,
-        ] => index(name, table, column, rest),
+        ] => index_on(name, table, rest),
         _ => Err(StatementFault::Syntax),
     }
 }

@@ -3,7 +3,7 @@
 use ct_base::{Name, Text};
 
 /// A word of the grammar, in any case. It is never a name.
-#[derive(Clone, Copy, Debug, PartialEq, Eq)]
+#[derive(Clone, Copy)]
 pub enum Keyword {
     Create,
     Table,
@@ -102,7 +102,7 @@ pub(crate) const KEYWORDS: &[(Keyword, &str)] = &[
 ];
 
 /// A sign of the grammar.
-#[derive(Clone, Copy, Debug, PartialEq, Eq)]
+#[derive(Clone, Copy)]
 pub enum Symbol {
     Open,
     Close,
@@ -118,7 +118,7 @@ pub enum Symbol {
 }
 
 /// A lexeme of a statement.
-#[derive(Debug, Drop)]
+#[derive(Drop)]
 pub enum Lexeme {
     Word(Keyword),
     Name(Name),

@@ -16,7 +16,7 @@ use ct_base::{Memory, Name, NameFault, Text, push_ascii, push_char, split_first}
 use std::alloc::{AllocFailed, Global};
 
 /// Why a text gave no lexemes.
-#[derive(Clone, Copy, Debug, PartialEq, Eq)]
+#[derive(Clone, Copy)]
 pub(crate) enum LexFault {
     /// No lexeme begins at some place.
     NoLexeme,

@@ -1,7 +1,7 @@
 //! SELECT.
 
 ghost use Rattle.std.specs.Prelude.{◌≡◌, ◌≤◌, nat_le, count_by, length, IfOk};
-ghost use Rattle.st_parse.specs.Selecting.{item_at, label_at, above_at, pred_at, is_search, from_of, select_list_at, select_of};
+ghost use Rattle.st_parse.specs.Selecting.{score_at, item_at, label_at, above_at, contains_at, pred_at, is_search, from_of, count_at, items_at, select_list_at, select_of};
 ghost use Rattle.st_parse.specs.Reading.{ReadGives, StatementGives};
 
 use crate::lexemes::{Keyword, Lexeme, Symbol};
@@ -12,19 +12,29 @@ use crate::statements::{Cond, Item, Items, Orders, Pred, Preds, SelectList, Stat
 use ct_base::{Name, Text};
 use std::alloc::Global;
 
+/// What follows SCORE: a label in parentheses.
+fn read_score(lexemes: &[Lexeme]) -> Result<(Item, &[Lexeme]), StatementFault>
+    ensures gives { ReadGives (λ x. (x.0, x.1.now)) result (score_at lexemes.now) }
+    ensures rest { IfOk result (λ x. length x.1.now ≤ length lexemes.now) }
+{
+    match lexemes {
+        [
+            Lexeme::Sign(Symbol::Open),
+            Lexeme::Number(digits),
+            Lexeme::Sign(Symbol::Close),
+            rest @ ..,
+        ] => Ok((Item::Score(number(digits)), rest)),
+        _ => Err(StatementFault::Syntax),
+    }
+}
+
 impl Element for Item {
     ghost item_at = { item_at };
 
     fn read(_alloc: Global, lexemes: &[Lexeme]) -> Result<(Item, &[Lexeme]), StatementFault> {
         match lexemes {
             [Lexeme::Name(name), rest @ ..] => Ok((Item::Column(name.clone()?), rest)),
-            [
-                Lexeme::Word(Keyword::Score),
-                Lexeme::Sign(Symbol::Open),
-                Lexeme::Number(digits),
-                Lexeme::Sign(Symbol::Close),
-                rest @ ..,
-            ] => Ok((Item::Score(number(digits)), rest)),
+            [Lexeme::Word(Keyword::Score), rest @ ..] => read_score(rest),
             _ => Err(StatementFault::Syntax),
         }
     }
@@ -46,13 +56,13 @@ fn read_label(lexemes: &[Lexeme]) -> (Option<Whole>, &[Lexeme])
 }
 
 /// CONTAINS, by what follows its label.
-fn read_above(
-    column: Name,
-    query: Text,
+fn read_above<'a>(
+    column: &Name,
+    query: &Text,
     label: Option<Whole>,
-    lexemes: &[Lexeme],
-) -> Result<(Pred, &[Lexeme]), StatementFault>
-    ensures gives { ReadGives (λ x. (x.0, x.1.now)) result (above_at column query (label, lexemes.now)) }
+    lexemes: &'a [Lexeme],
+) -> Result<(Pred, &'a [Lexeme]), StatementFault>
+    ensures gives { ReadGives (λ x. (x.0, x.1.now)) result (above_at column.now query.now (label, lexemes.now)) }
     ensures rest { IfOk result (λ x. length x.1.now ≤ length lexemes.now) }
 {
     match lexemes {
@@ -63,8 +73,8 @@ fn read_above(
             rest @ ..,
         ] => Ok((
             Pred::Contains {
-                column,
-                query,
+                column: column.clone()?,
+                query: query.clone()?,
                 label,
                 above: number(digits),
             },
@@ -74,22 +84,32 @@ fn read_above(
     }
 }
 
+/// CONTAINS, by what follows it.
+fn read_contains(lexemes: &[Lexeme]) -> Result<(Pred, &[Lexeme]), StatementFault>
+    ensures gives { ReadGives (λ x. (x.0, x.1.now)) result (contains_at lexemes.now) }
+    ensures rest { IfOk result (λ x. length x.1.now ≤ length lexemes.now) }
+{
+    match lexemes {
+        [
+            Lexeme::Sign(Symbol::Open),
+            Lexeme::Name(column),
+            Lexeme::Sign(Symbol::Comma),
+            Lexeme::Text(query),
+            rest @ ..,
+        ] => {
+            let (label, rest) = read_label(rest);
+            read_above(column, query, label, rest)
+        }
+        _ => Err(StatementFault::Syntax),
+    }
+}
+
 impl Element for Pred {
     ghost item_at = { pred_at };
 
     fn read(alloc: Global, lexemes: &[Lexeme]) -> Result<(Pred, &[Lexeme]), StatementFault> {
         match lexemes {
-            [
-                Lexeme::Word(Keyword::Contains),
-                Lexeme::Sign(Symbol::Open),
-                Lexeme::Name(column),
-                Lexeme::Sign(Symbol::Comma),
-                Lexeme::Text(query),
-                rest @ ..,
-            ] => {
-                let (label, rest) = read_label(rest);
-                read_above(column.clone()?, query.clone()?, label, rest)
-            }
+            [Lexeme::Word(Keyword::Contains), rest @ ..] => read_contains(rest),
             _ => {
                 let (cond, rest) = Cond::read(alloc, lexemes)?;
                 Ok((Pred::Cond(cond), rest))
@@ -136,6 +156,29 @@ fn from(alloc: Global, list: SelectList, lexemes: &[Lexeme]) -> Result<Statement
     }
 }
 
+/// What follows COUNT: a `*` in parentheses.
+fn read_count(lexemes: &[Lexeme]) -> Result<(SelectList, &[Lexeme]), StatementFault>
+    ensures { ReadGives (λ x. (x.0, x.1.now)) result (count_at lexemes.now) }
+{
+    match lexemes {
+        [
+            Lexeme::Sign(Symbol::Open),
+            Lexeme::Sign(Symbol::Star),
+            Lexeme::Sign(Symbol::Close),
+            rest @ ..,
+        ] => Ok((SelectList::CountAll, rest)),
+        _ => Err(StatementFault::Syntax),
+    }
+}
+
+/// Items with a comma between them, and what follows them.
+fn read_items(alloc: Global, lexemes: &[Lexeme]) -> Result<(SelectList, &[Lexeme]), StatementFault>
+    ensures { ReadGives (λ x. (x.0, x.1.now)) result (items_at lexemes.now) }
+{
+    let (items, rest) = read_list(alloc, Separator::Comma, lexemes)?;
+    Ok((SelectList::Items(Items::of(items)), rest))
+}
+
 /// The list at the beginning, and what follows it.
 fn read_select_list(
     alloc: Global,
@@ -145,17 +188,8 @@ fn read_select_list(
 {
     match lexemes {
         [Lexeme::Sign(Symbol::Star), rest @ ..] => Ok((SelectList::Star, rest)),
-        [
-            Lexeme::Word(Keyword::Count),
-            Lexeme::Sign(Symbol::Open),
-            Lexeme::Sign(Symbol::Star),
-            Lexeme::Sign(Symbol::Close),
-            rest @ ..,
-        ] => Ok((SelectList::CountAll, rest)),
-        _ => {
-            let (items, rest) = read_list(alloc, Separator::Comma, lexemes)?;
-            Ok((SelectList::Items(Items::of(items)), rest))
-        }
+        [Lexeme::Word(Keyword::Count), rest @ ..] => read_count(rest),
+        _ => read_items(alloc, lexemes),
     }
 }
 
