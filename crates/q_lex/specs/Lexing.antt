@@ -1,4 +1,5 @@
--- The lexemes of a text. Texts are lists of characters here; places are counted in bytes from 1.
+-- The lexemes of a text, as they are read. Texts are lists of characters here; places are counted in bytes from 1.
+-- That these are the lexemes as which the text is written (`IsWrittenAs`), and that it is written as no others, is the law `one_list_of_lexemes`.
 use Rattle.std.specs.Prelude.{ℕ, zero, suc, ◌≡◌, ◌+◌, ◌-◌, ◌==◌, ◌≤◌, nat_lt, is_some, not, ◌||◌, ◌&&◌, Bool, true, false, List, [], ◌∷◌, ◌++◌, length, Option, Some, None, codes, refl}
 use Rattle.std.specs.Bool.{if◌then◌else◌}
 use Rattle.std.specs.List.{list_any}

@@ -1,3 +1,5 @@
 pub mod Words
 pub mod Lexing
 pub mod Runs
+pub mod Writing
+pub mod laws
