@@ -1,25 +1,20 @@
 -- Which documents a query may score.
-use Rattle.std.specs.Prelude.{ℕ, ◌≡◌, ◌≤◌, ◌<◌, ◌^◌, nat_le, nat_lt, Option, Some, None, refl}
-use Rattle.std.specs.Bool.{if◌then◌else◌}
+use Rattle.std.specs.Prelude.{ℕ, ◌≡◌, ◌≤◌, ◌<◌, ◌^◌, nat_le, nat_lt, Bool, true, false, ◌&&◌, Option, Some, None, refl}
 use Rattle.std.proofs.Common.{arith}
+use Rattle.std.proofs.lemmas.Bool.{lt-leb}
 use Rattle.ct_base.specs.declared.numbers.DocId.{DocId}
-use Rattle.q_tree.specs.Scores.{last_position}
 use Rattle.ix_cursor.specs.declared.nodes.Node.{Node}
 use Rattle.ix_cursor.specs.declared.candidates.Candidates.{Candidates}
-use Rattle.ix_cursor.specs.Nodes.{score_at, SameScoresFrom}
+use Rattle.ix_cursor.specs.Nodes.{may_at, SameScoresFrom, SameDocumentsFrom}
 
--- the score of a document, over all its words
-abbrev pub node_score : Node → ℕ → ℕ
-node_score n d = score_at n d 1 last_position
+-- the document isn't passed; None stands behind the last one
+abbrev pub is_from : Option ℕ → ℕ → Bool
+is_from None d = false
+is_from (Some from) d = nat_le from d
 
--- what is left of a score from a document on; None stands behind the last one
-abbrev pub unless_before : Option ℕ → ℕ → ℕ → ℕ
-unless_before None d score = 0
-unless_before (Some from) d score = if nat_lt d from then 0 else score
-
--- The score of each document that hasn't been passed, and 0 of the others. Those that were given are passed.
-abbrev pub ahead : Candidates → ℕ → ℕ
-ahead c d = unless_before c.from d (node_score c.root.value d)
+-- WHETHER A DOCUMENT IS STILL AHEAD: the query may score in it, and it wasn't passed. Those that were given are passed.
+abbrev pub ahead : Candidates → ℕ → Bool
+ahead c d = is_from c.from d && may_at c.root.value d
 
 -- the least number that may still be given; 2 ^ 32 where none is left
 abbrev pub from_or_end : Option ℕ → ℕ
@@ -34,40 +29,49 @@ abbrev pub MovesOn : ℕ → Option DocId → ℕ → Type 0
 MovesOn before None later = later ≡ 2 ^ 32
 MovesOn before (Some x) later = (before ≤ x.0) × (x.0 < later)
 
--- no document before the one that was found has a score; where none was found, no document has
-abbrev pub NoneBefore : (ℕ → ℕ) → Option DocId → Type 0
-NoneBefore score None = (d : ℕ) → d < 2 ^ 32 → score d ≡ 0
-NoneBefore score (Some x) = (d : ℕ) → d < x.0 → score d ≡ 0
+-- THE LEAST DOCUMENT that passes a test; None where no document does. Documents are numbers below 2 ^ 32.
+abbrev pub IsLeast : (ℕ → Bool) → Option DocId → Type 0
+IsLeast passes None = (d : ℕ) → d < 2 ^ 32 → passes d ≡ false
+IsLeast passes (Some x) = (x.0 < 2 ^ 32) × (passes x.0 ≡ true) × ((d : ℕ) → d < x.0 → passes d ≡ false)
 
--- the scores behind what was found
-abbrev pub behind_found : Option DocId → (ℕ → ℕ) → ℕ → ℕ
-behind_found None score d = 0
-behind_found (Some x) score d = if nat_le d x.0 then 0 else score d
+-- the test for the documents behind what was found
+abbrev pub behind_found : Option DocId → (ℕ → Bool) → ℕ → Bool
+behind_found None passes d = false
+behind_found (Some x) passes d = nat_lt x.0 d && passes d
 
--- no document from one number to below another has a score
-abbrev pub NoneBetween : Node → ℕ → ℕ → Type 0
-NoneBetween n from to = (d : ℕ) → from ≤ d → d < to → node_score n d ≡ 0
+-- no document from one number to below another may have a score
+abbrev pub NoneMayBetween : Node → ℕ → ℕ → Type 0
+NoneMayBetween n from to = (d : ℕ) → from ≤ d → d < to → may_at n d ≡ false
 
--- the documents from one number on were passed as far as one of them, and none of those has a score
+-- the documents from one number on were passed as far as the first that may have a score
 pub record LeapsTo (old new : Node) (from to : ℕ) : Type 0 where
   pub at_least : from ≤ to
-  pub none : NoneBetween old from to
-  pub keeps : SameScoresFrom to old new
+  pub none : NoneMayBetween old from to
+  pub candidate : may_at old to ≡ true
+  pub scores : SameScoresFrom to old new
+  pub documents : SameDocumentsFrom to old new
 
 abbrev pub Leaps : Node → Node → ℕ → Option ℕ → Type 0
-Leaps old new from None = NoneBetween old from (2 ^ 32)
+Leaps old new from None = (d : ℕ) → from ≤ d → may_at old d ≡ false
 Leaps old new from (Some to) = LeapsTo old new from to
 
--- ---- computed examples, where each document has a score of 7
+-- ---- computed examples, where each document passes
 
-behind_2 : behind_found (Some (record { 0 = 2 })) (λ d. 7) 2 ≡ 0
+behind_2 : behind_found (Some (record { 0 = 2 })) (λ d. true) 2 ≡ false
 behind_2 = refl
 
-behind_3 : behind_found (Some (record { 0 = 2 })) (λ d. 7) 3 ≡ 7
+behind_3 : behind_found (Some (record { 0 = 2 })) (λ d. true) 3 ≡ true
 behind_3 = refl
 
-from_3_on : unless_before (Some 3) 2 7 ≡ 0
+from_3_on : is_from (Some 3) 2 ≡ false
 from_3_on = refl
+
+-- the least of the documents from the third on
+the_third : IsLeast (λ d. nat_le 3 d) (Some (record { 0 = 3 }))
+the_third = (omega arith, refl, λ d lt. lt-leb 3 d lt)
+
+not_the_fourth : IsLeast (λ d. nat_le 3 d) (Some (record { 0 = 4 })) → ⊥
+not_the_fourth least = let wrong : true ≡ false = least.2 3 (omega arith) in cc
 
 -- the document 2 doesn't come once more
 never_again : MovesOn 3 (Some (record { 0 = 2 })) 3 → ⊥

@@ -2,13 +2,17 @@
 use Rattle.std.specs.Prelude.{ℕ, ◌≡◌, ◌<◌, ◌≤◌, ◌^◌, ◌+◌, max, nat_lt, Option, Some, None, refl}
 use Rattle.std.specs.Bool.{if◌then◌else◌}
 use Rattle.ct_base.specs.declared.numbers.DocId.{DocId}
+use Rattle.q_tree.specs.Scores.{last_position}
 use Rattle.ix_cursor.specs.declared.nodes.Node.{Node}
 use Rattle.ix_cursor.specs.declared.cursors.Cursor.{Cursor}
 use Rattle.ix_cursor.specs.declared.cursors.Scored.{Scored}
 use Rattle.ix_cursor.specs.declared.cursors.Standing.{Standing}
 use Rattle.ix_cursor.specs.declared.cursors.Standing.TheVariants.{Before, At, After}
-use Rattle.ix_cursor.specs.Nodes.{SameScoresFrom}
-use Rattle.ix_cursor.specs.Candidates.{node_score, NoneBetween}
+use Rattle.ix_cursor.specs.Nodes.{score_at, SameScoresFrom}
+
+-- the score of a document, over all its words
+abbrev pub node_score : Node → ℕ → ℕ
+node_score n d = score_at n d 1 last_position
 
 -- what is left of a score where the cursor stands
 abbrev pub unless_passed : Standing → ℕ → ℕ → ℕ
@@ -50,6 +54,20 @@ from_found (Some x) score d = if nat_lt d x.0 then 0 else score d
 abbrev pub score_found : Option DocId → (ℕ → ℕ) → ℕ
 score_found None score = 0
 score_found (Some x) score = score x.0
+
+-- no document from one number to below another has a score
+abbrev pub NoneBetween : Node → ℕ → ℕ → Type 0
+NoneBetween n from to = (d : ℕ) → from ≤ d → d < to → node_score n d ≡ 0
+
+-- the documents from one number on were passed as far as another, and none of those has a score
+pub record LeapsOverTo (old new : Node) (from to : ℕ) : Type 0 where
+  pub at_least : from ≤ to
+  pub none : NoneBetween old from to
+  pub keeps : SameScoresFrom to old new
+
+abbrev pub LeapsOver : Node → Node → ℕ → Option ℕ → Type 0
+LeapsOver old new from None = NoneBetween old from (2 ^ 32)
+LeapsOver old new from (Some to) = LeapsOverTo old new from to
 
 pub record FindsScoredAt (old new : Node) (from : ℕ) (x : Scored) : Type 0 where
   pub at_least : from ≤ x.document

@@ -1,6 +1,6 @@
 -- What the feeds of a query's parts have of each document.
-use Rattle.std.specs.Prelude.{ℕ, ◌≡◌, ◌⊎◌, List, [], ◌∷◌, map, Option, Some, None, refl}
-use Rattle.ix_spans.specs.Occurrences.{Slots, phrase_pairs}
+use Rattle.std.specs.Prelude.{ℕ, ◌≡◌, List, [], ◌∷◌, map, Option, Some, None, refl}
+use Rattle.ix_spans.specs.Occurrences.{Slots}
 use Rattle.ix_posting.specs.declared.rows.RowDocument.{RowDocument}
 use Rattle.q_tree.specs.Documents.{put_all}
 use Rattle.ix_cursor.specs.declared.feeds.TokenFeeds.{TokenFeeds}
@@ -29,25 +29,6 @@ phrase_at p d = slots_at p.slots.items d
 
 abbrev pub phrases_at : List PhraseFeed → ℕ → List Slots
 phrases_at ps d = map (λ p. phrase_at p d) ps
-
--- a slot that takes no position
-abbrev pub IsVacant : Option (List ℕ) → Type 0
-IsVacant None = ⊥
-IsVacant (Some ps) = ps ≡ []
-
--- the phrase occurs nowhere
-abbrev pub IsSilent : Slots → Type 0
-IsSilent slots = (lo hi : ℕ) → phrase_pairs slots lo hi ≡ []
-
--- no phrase occurs
-abbrev pub AreSilent : List Slots → Type 0
-AreSilent [] = Unit {0}
-AreSilent (s ∷ ss) = IsSilent s × AreSilent ss
-
--- some term has no occurrence
-abbrev pub HasSilent : List (List Slots) → Type 0
-HasSilent [] = ⊥
-HasSilent (o ∷ os) = AreSilent o ⊎ HasSilent os
 
 abbrev pub term_at : TermFeed → ℕ → List Slots
 term_at t d = phrases_at t.phrases.items d

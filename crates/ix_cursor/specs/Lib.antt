@@ -5,3 +5,6 @@ pub mod Nodes
 pub mod Reading
 pub mod Candidates
 pub mod Cursors
+pub mod MayScore
+pub mod Passing
+pub mod laws

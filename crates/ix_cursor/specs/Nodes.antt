@@ -1,5 +1,6 @@
 -- The scores of a cursor's nodes.
-use Rattle.std.specs.Prelude.{ℕ, ◌≡◌, ◌-◌, ◌≤◌, min, max, List, Option, None, refl}
+use Rattle.std.specs.Prelude.{ℕ, ◌≡◌, ◌-◌, ◌≤◌, min, max, Bool, true, false, ◌&&◌, ◌||◌, List, refl}
+use Rattle.std.specs.List.{list_all}
 use Rattle.ix_spans.specs.Occurrences.{term_score}
 use Rattle.q_tree.specs.Trees.{Reduced}
 use Rattle.q_tree.specs.Scores.{DocPostings, score, unless, weighted, if_above, near_score, greatest_within}
@@ -8,7 +9,8 @@ use Rattle.ix_cursor.specs.declared.nodes.Node.TheVariants.{Term, And', Or', Not
 use Rattle.ix_lists.specs.SpanDocuments.{pairs_at}
 use Rattle.ix_cursor.specs.Feeding.{phrases_at, operands_at}
 use Rattle.ix_cursor.specs.Seen.{seen_phrases, seen_operands, greatest_inside}
-use Rattle.ix_lists.specs.Seeking.{Before}
+use Rattle.ix_lists.specs.Seeking.{SameFrom, has_any}
+use Rattle.ix_cursor.specs.MayScore.{may_match, may_score}
 
 -- the score of a document within lo to hi
 abbrev pub score_at : Node → ℕ → ℕ → ℕ → ℕ
@@ -36,6 +38,27 @@ seen_score (Near n) lo hi = near_score (seen_operands n.operands.items) n.span n
 seen_score (Within' s p a) lo hi = greatest_inside lo hi s.value.seen s.value.scores.items
 seen_score Done lo hi = 0
 
+-- WHETHER A NODE MAY SCORE in a document, by which documents its slots and sections are in
+abbrev pub may_at : Node → ℕ → Bool
+may_at (Term t) d = may_match (phrases_at t.phrases.items d)
+may_at (And' p a q b) d = may_at a d && may_at b d
+may_at (Or' p a q b) d = may_at a d || may_at b d
+may_at (Not' p a q b) d = may_at a d
+may_at (Minus' p a q b) d = may_at a d
+may_at (Weight' w p a) d = may_at a d
+may_at (Above' n p a) d = may_at a d
+may_at (Near n) d = list_all may_match (operands_at n.operands.items d)
+may_at (Within' s p a) d = has_any (pairs_at s.value.documents d) && may_at a d
+may_at Done d = false
+
+-- it may score in the documents in which a query over postings and a stream may
+abbrev pub MayScore : Node → Reduced → (ℕ → DocPostings) → ℕ → Type 0
+MayScore n f postings stream = (d : ℕ) → may_at n d ≡ may_score f (postings d) stream
+
+-- and so for a query in a section of that name
+abbrev pub MayScoreWithin : Node → Reduced → List ℕ → (ℕ → DocPostings) → ℕ → Type 0
+MayScoreWithin n f name postings stream = (d : ℕ) → may_at n d ≡ (has_any ((postings d).spans name) && may_score f (postings d) stream)
+
 -- the scores of each document are those of a query over postings and a stream
 abbrev pub Scores : Node → Reduced → (ℕ → DocPostings) → ℕ → Type 0
 Scores n f postings stream = (d lo hi : ℕ) → score_at n d lo hi ≡ score f (postings d) stream lo hi
@@ -48,14 +71,14 @@ ScoresWithin n f name postings stream = (d lo hi : ℕ) → score_at n d lo hi �
 abbrev pub SameScoresFrom : ℕ → Node → Node → Type 0
 SameScoresFrom to old new = (d lo hi : ℕ) → to ≤ d → score_at new d lo hi ≡ score_at old d lo hi
 
--- no document before the bound has a score, within any range
-abbrev pub NoScoreBefore : Node → Option ℕ → Type 0
-NoScoreBefore n bound = (d lo hi : ℕ) → Before bound d → score_at n d lo hi ≡ 0
+-- in the same documents from `to` on it may score
+abbrev pub SameDocumentsFrom : ℕ → Node → Node → Type 0
+SameDocumentsFrom to old new = SameFrom to (may_at old) (may_at new)
 
 -- ---- computed examples: a node of which nothing is left
 
 never_scored : score_at Done 3 1 9 ≡ 0
 never_scored = refl
 
-scored_nowhere : NoScoreBefore Done None
-scored_nowhere d lo hi before = refl
+in_no_document : may_at Done 3 ≡ false
+in_no_document = refl

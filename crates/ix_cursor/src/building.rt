@@ -5,7 +5,8 @@ ghost use Rattle.q_tree.specs.Trees.{reduced_of, Term, Joined, Close, Inside};
 ghost use Rattle.q_tree.specs.Scores.{operated, slot_positions, phrase_slots, term_slots, operand_slots};
 ghost use Rattle.ix_lists.specs.SpanDocuments.{pairs_at};
 ghost use Rattle.ix_cursor.specs.Feeding.{slot_at, slots_at, phrase_at, term_at, operands_at};
-ghost use Rattle.ix_cursor.specs.Nodes.{score_at, Scores, ScoresWithin};
+ghost use Rattle.ix_cursor.specs.Nodes.{score_at, may_at, Scores, ScoresWithin, MayScore, MayScoreWithin};
+ghost use Rattle.ix_cursor.specs.MayScore.{may_join};
 ghost use Rattle.ix_cursor.specs.Reading.{IsPlain};
 
 use crate::feeds::{NearFeed, PhraseFeed, SeenSlots, SpanFeed, TermFeed, TokenFeeds};
@@ -117,7 +118,8 @@ fn boxed(alloc: Global, node: Node) -> Result<Box<Node>, Memory>
 
 /// The node of an operator between two nodes.
 fn operator_node(op: Op, a: Box<Node>, b: Box<Node>) -> Node
-    ensures { (d lo hi : ℕ) → score_at result d lo hi ≡ operated op (score_at a.value d lo hi) (score_at b.value d lo hi) }
+    ensures scores { (d lo hi : ℕ) → score_at result d lo hi ≡ operated op (score_at a.value d lo hi) (score_at b.value d lo hi) }
+    ensures documents { (d : ℕ) → may_at result d ≡ may_join op (may_at a.value d) (may_at b.value d) }
 {
     match op {
         Op::And => Node::And(a, b),
@@ -135,7 +137,8 @@ fn build_term<S: Source>(
     stream: u8,
 ) -> Result<Box<Node>, Memory>
     requires { S.well source.now }
-    ensures { IfOk result (λ n. Scores n.value (Term phrases.now) (S.postings source.now) stream) }
+    ensures scores { IfOk result (λ n. Scores n.value (Term phrases.now) (S.postings source.now) stream) }
+    ensures documents { IfOk result (λ n. MayScore n.value (Term phrases.now) (S.postings source.now) stream) }
 {
     let term = feed_of_term(alloc, source, stream, phrases)?;
     boxed(alloc, Node::Term(term))
@@ -151,7 +154,8 @@ fn build_near<S: Source>(
     stream: u8,
 ) -> Result<Box<Node>, Memory>
     requires { S.well source.now }
-    ensures { IfOk result (λ n. Scores n.value (Close terms.now span ordered) (S.postings source.now) stream) }
+    ensures scores { IfOk result (λ n. Scores n.value (Close terms.now span ordered) (S.postings source.now) stream) }
+    ensures documents { IfOk result (λ n. MayScore n.value (Close terms.now span ordered) (S.postings source.now) stream) }
 {
     let operands = feed_of_operands(alloc, source, stream, terms)?;
     boxed(
@@ -174,7 +178,8 @@ pub(crate) fn build<S: Source>(
 ) -> Result<Box<Node>, Memory>
     requires well { S.well source.now }
     requires plain { IsPlain (reduced_of flat.now) }
-    ensures { IfOk result (λ n. Scores n.value (reduced_of flat.now) (S.postings source.now) stream) }
+    ensures scores { IfOk result (λ n. Scores n.value (reduced_of flat.now) (S.postings source.now) stream) }
+    ensures documents { IfOk result (λ n. MayScore n.value (reduced_of flat.now) (S.postings source.now) stream) }
 {
     match flat {
         Flat::Term(phrases) => build_term(alloc, source, phrases.as_slice(), stream),
@@ -213,7 +218,8 @@ fn build_both<S: Source>(
     requires well { S.well source.now }
     requires first { IsPlain (reduced_of a.now) }
     requires second { IsPlain (reduced_of b.now) }
-    ensures { IfOk result (λ n. Scores n.value (Joined op (reduced_of a.now) (reduced_of b.now)) (S.postings source.now) stream) }
+    ensures scores { IfOk result (λ n. Scores n.value (Joined op (reduced_of a.now) (reduced_of b.now)) (S.postings source.now) stream) }
+    ensures documents { IfOk result (λ n. MayScore n.value (Joined op (reduced_of a.now) (reduced_of b.now)) (S.postings source.now) stream) }
 {
     let first = build(alloc, source, a, stream)?;
     let second = build(alloc, source, b, stream)?;
@@ -231,7 +237,8 @@ fn build_within<S: Source>(
 ) -> Result<Box<Node>, Memory>
     requires well { S.well source.now }
     requires plain { IsPlain (reduced_of a.now) }
-    ensures { IfOk result (λ n. Scores n.value (Inside place.now (reduced_of a.now)) (S.postings source.now) stream) }
+    ensures scores { IfOk result (λ n. Scores n.value (Inside place.now (reduced_of a.now)) (S.postings source.now) stream) }
+    ensures documents { IfOk result (λ n. MayScore n.value (Inside place.now (reduced_of a.now)) (S.postings source.now) stream) }
 {
     match place {
         Place::Field(field) => build(alloc, source, a, *field),
@@ -252,7 +259,8 @@ fn build_in_section<S: Source>(
 ) -> Result<Box<Node>, Memory>
     requires well { S.well source.now }
     requires plain { IsPlain (reduced_of a.now) }
-    ensures { IfOk result (λ n. ScoresWithin n.value (reduced_of a.now) name.now (S.postings source.now) stream) }
+    ensures scores { IfOk result (λ n. ScoresWithin n.value (reduced_of a.now) name.now (S.postings source.now) stream) }
+    ensures documents { IfOk result (λ n. MayScoreWithin n.value (reduced_of a.now) name.now (S.postings source.now) stream) }
 {
     let node = build(alloc, source, a, stream)?;
     let section = feed_of_section(alloc, source, name)?;

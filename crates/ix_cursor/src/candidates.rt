@@ -3,9 +3,9 @@
 ghost use Rattle.std.specs.Prelude.{◌≡◌, ◌<◌, ◌^◌, ℕ, true, IfOk};
 ghost use Rattle.q_tree.specs.Trees.{reduced_of};
 ghost use Rattle.q_tree.specs.Soundness.{is_sound};
-ghost use Rattle.q_tree.specs.Scores.{score, last_position};
 ghost use Rattle.ix_cursor.specs.Reading.{postings_read, FeedsRise, IsPlain};
-ghost use Rattle.ix_cursor.specs.Candidates.{ahead, least_ahead, MovesOn, NoneBefore, behind_found, Leaps};
+ghost use Rattle.ix_cursor.specs.Candidates.{ahead, least_ahead, MovesOn, IsLeast, behind_found, Leaps};
+ghost use Rattle.ix_cursor.specs.MayScore.{may_score};
 
 use crate::building::build;
 use crate::nodes::Node;
@@ -14,7 +14,7 @@ use ct_base::{DocId, Memory};
 use q_tree::Flat;
 use std::alloc::Global;
 
-/// The documents that a query may score: those that aren't ruled out by which documents its parts are in. It reads no position.
+/// The documents in which a query may score, by which documents its slots and sections are in. It takes up no position.
 #[derive(Drop)]
 pub struct Candidates {
     root: Box<Node>,
@@ -22,7 +22,7 @@ pub struct Candidates {
     from: Option<u32>,
 }
 
-/// The first document from one on that isn't ruled out. The node has passed those before it.
+/// The first document from one on in which the node may score. The node has passed those before it.
 pub(crate) fn first_candidate(
     alloc: Global,
     root: &mut Node,
@@ -43,14 +43,14 @@ pub(crate) fn first_candidate(
 }
 
 impl Candidates {
-    /// The documents that the query may score, over what was read for it. It decodes no row yet, and shares the rows of the feeds.
+    /// The documents in which the query may score, over what was read for it. It decodes no row yet, and shares the rows of the feeds.
     /// Queries with DEFINESCORE are not taken yet. Its cost is the number of slots of the query times that of the slots that were read; it
     /// goes as deep as the query.
     pub fn build(alloc: Global, flat: &Flat, feeds: &Feeds) -> Result<Candidates, Memory>
         requires sound { is_sound (reduced_of flat.now) ≡ true }
         requires plain { IsPlain (reduced_of flat.now) }
         requires rows { FeedsRise feeds.now }
-        ensures { IfOk result (λ c. (d : ℕ) → d < 2 ^ 32 → ahead c d ≡ score (reduced_of flat.now) (postings_read feeds.now d) 0 1 last_position) }
+        ensures { IfOk result (λ c. (d : ℕ) → d < 2 ^ 32 → ahead c d ≡ may_score (reduced_of flat.now) (postings_read feeds.now d) 0) }
     {
         let root = build(alloc, feeds, flat, 0)?;
         Ok(Candidates {
@@ -59,10 +59,10 @@ impl Candidates {
         })
     }
 
-    /// The next one, which is greater than all that were given before; None where none is left, and from then on. It decodes rows one after
+    /// The least that is left, which is greater than all that were given before; None where none is left, and from then on. It decodes rows one after
     /// the other, as far as it goes; Memory where one found none, and then it may only be dropped.
     pub fn next(&mut self, alloc: Global) -> Result<Option<DocId>, Memory>
-        ensures first { IfOk result (λ found. NoneBefore (ahead self.old) found) }
+        ensures least { IfOk result (λ found. IsLeast (ahead self.old) found) }
         ensures onward { IfOk result (λ found. MovesOn (least_ahead self.old) found (least_ahead self.new)) }
         ensures left { IfOk result (λ found. (d : ℕ) → d < 2 ^ 32 → ahead self.new d ≡ behind_found found (ahead self.old) d) }
     {

@@ -5,7 +5,7 @@ ghost use Rattle.q_tree.specs.Trees.{reduced_of};
 ghost use Rattle.q_tree.specs.Soundness.{is_sound};
 ghost use Rattle.q_tree.specs.Scores.{score, last_position};
 ghost use Rattle.ix_cursor.specs.Reading.{postings_read, FeedsRise, IsPlain};
-ghost use Rattle.ix_cursor.specs.Cursors.{remaining, present_score, cursor_from, IsFirstScored, from_found, score_found, FindsScored};
+ghost use Rattle.ix_cursor.specs.Cursors.{remaining, present_score, cursor_from, IsFirstScored, from_found, score_found, FindsScored, LeapsOver};
 
 use crate::building::build;
 use crate::candidates::first_candidate;
@@ -37,13 +37,20 @@ struct Scored {
     score: u32,
 }
 
+/// A document from one on, before which none from there on has a score. It is the first in which the node may score.
+fn next_to_score(alloc: Global, root: &mut Node, from: u32) -> Result<Option<u32>, Memory>
+    ensures { IfOk result (λ found. LeapsOver root.old root.new from found) }
+{
+    first_candidate(alloc, root, from)
+}
+
 /// The first document from one on that has a score above 0.
 fn first_scored(alloc: Global, root: &mut Node, from: u32) -> Result<Option<Scored>, Memory>
     ensures { IfOk result (λ found. FindsScored root.old root.new from found) }
 {
     let mut at = from;
     'documents: loop {
-        let Some(document) = first_candidate(alloc, root, at)? else {
+        let Some(document) = next_to_score(alloc, root, at)? else {
             return Ok(None);
         };
         root.see(alloc, document)?;

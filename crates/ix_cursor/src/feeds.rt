@@ -1,12 +1,15 @@
 //! What the parts of a query read.
 
-ghost use Rattle.std.specs.Prelude.{◌≡◌, [], IfOk, OnOk};
+ghost use Rattle.std.specs.Prelude.{◌≡◌, [], true, IfOk, OnOk};
 ghost use Rattle.ix_spans.specs.Slots.{SlotsRise};
 ghost use Rattle.ix_spans.specs.Views.{slots_view};
-ghost use Rattle.ix_lists.specs.Seeking.{SameFrom, NothingBefore, IsNowhere, HasNoPairs};
+ghost use Rattle.std.specs.List.{list_all};
+ghost use Rattle.ix_lists.specs.Seeking.{SameFrom, BoundsFrom, has_any};
 ghost use Rattle.ix_cursor.specs.Bounding.{later, earlier};
 ghost use Rattle.ix_lists.specs.SpanDocuments.{pairs_at};
-ghost use Rattle.ix_cursor.specs.Feeding.{union_at, slot_at, slots_at, phrase_at, phrases_at, IsVacant, IsSilent, AreSilent, HasSilent, term_at, operands_at};
+ghost use Rattle.ix_cursor.specs.Feeding.{union_at, slot_at, slots_at, phrase_at, phrases_at, term_at, operands_at};
+ghost use Rattle.ix_cursor.specs.MayScore.{may_fit, may_occur, may_match};
+ghost use Rattle.ix_cursor.specs.Passing.{token_passed, slot_passed, phrase_passed, term_passed, section_passed};
 
 use ct_base::{Memory, Pairs};
 use ix_lists::{Postings, SpanPostings};
@@ -116,158 +119,111 @@ pub(crate) fn earlier(a: Option<u32>, b: Option<u32>) -> Option<u32>
     }
 }
 
-/// Passes the documents before `to` of each token.
-fn skip_tokens(tokens: &mut [Postings], alloc: Global, to: u32) -> Result<(), Memory>
-    ensures { OnOk result (SameFrom to (union_at tokens.old) (union_at tokens.new)) }
-{
-    for i in 0..tokens.len() {
-        tokens[i].skip(alloc, to)?;
-    }
-    Ok(())
-}
-
-/// A document before which no token is in any.
-fn bound_tokens(tokens: &[Postings]) -> Option<u32>
-    ensures { NothingBefore IsNowhere (union_at tokens.now) result }
+/// Passes the documents before `to` of each token, and gives the first in which one of them is left.
+fn pass_tokens(tokens: &mut [Postings], alloc: Global, to: u32) -> Result<Option<u32>, Memory>
+    ensures keeps { OnOk result (SameFrom to (union_at tokens.old) (union_at tokens.new)) }
+    ensures passed { OnOk result (list_all (token_passed to) tokens.new ≡ true) }
+    ensures bound { IfOk result (λ bound. BoundsFrom to (λ d. has_any (union_at tokens.new d)) bound) }
 {
     let mut bound = None;
-    let mut rest = tokens;
-    while let [first, more @ ..] = rest {
-        bound = earlier(bound, first.bound());
-        rest = more;
+    for i in 0..tokens.len() {
+        bound = earlier(bound, tokens[i].skip(alloc, to)?);
     }
-    bound
+    Ok(bound)
 }
 
-/// Passes the documents before `to` in a slot.
-fn skip_slot(slot: &mut Option<TokenFeeds>, alloc: Global, to: u32) -> Result<(), Memory>
-    ensures { OnOk result (SameFrom to (slot_at slot.old) (slot_at slot.new)) }
+/// Passes the documents before `to` in a slot, and bounds those in which it may fit.
+fn pass_slot(slot: &mut Option<TokenFeeds>, alloc: Global, to: u32) -> Result<Option<u32>, Memory>
+    ensures keeps { OnOk result (SameFrom to (slot_at slot.old) (slot_at slot.new)) }
+    ensures passed { OnOk result (slot_passed to slot.new ≡ true) }
+    ensures bound { IfOk result (λ bound. BoundsFrom to (λ d. may_fit (slot_at slot.new d)) bound) }
 {
     match slot {
-        None => Ok(()),
+        None => Ok(Some(0)),
         Some(feeds) => {
-            skip_tokens(&mut feeds.tokens, alloc, to)?;
-            Ok(())
+            let bound = pass_tokens(&mut feeds.tokens, alloc, to)?;
+            Ok(bound)
         }
     }
 }
 
-/// Passes the documents before `to` in each slot.
-fn skip_slots(slots: &mut [Option<TokenFeeds>], alloc: Global, to: u32) -> Result<(), Memory>
-    ensures { OnOk result (SameFrom to (slots_at slots.old) (slots_at slots.new)) }
-{
-    for i in 0..slots.len() {
-        skip_slot(&mut slots[i], alloc, to)?;
-    }
-    Ok(())
-}
-
-/// Passes the documents before `to` in a phrase.
-fn skip_phrase(phrase: &mut PhraseFeed, alloc: Global, to: u32) -> Result<(), Memory>
-    ensures { OnOk result (SameFrom to (phrase_at phrase.old) (phrase_at phrase.new)) }
-{
-    skip_slots(&mut phrase.slots, alloc, to)?;
-    Ok(())
-}
-
-/// Passes the documents before `to` in each phrase.
-fn skip_phrases(phrases: &mut [PhraseFeed], alloc: Global, to: u32) -> Result<(), Memory>
-    ensures { OnOk result (SameFrom to (phrases_at phrases.old) (phrases_at phrases.new)) }
-{
-    for i in 0..phrases.len() {
-        skip_phrase(&mut phrases[i], alloc, to)?;
-    }
-    Ok(())
-}
-
-/// A document before which a slot is in none.
-fn bound_slot(slot: &Option<TokenFeeds>) -> Option<u32>
-    ensures { NothingBefore IsVacant (slot_at slot.now) result }
-{
-    match slot {
-        None => Some(0),
-        Some(feeds) => bound_tokens(&feeds.tokens),
-    }
-}
-
-/// A document before which the phrase is in none.
-fn bound_slots(slots: &[Option<TokenFeeds>]) -> Option<u32>
-    ensures { NothingBefore IsSilent (slots_at slots.now) result }
+/// Passes the documents before `to` in each slot, and bounds those in which the phrase may occur.
+fn pass_slots(
+    slots: &mut [Option<TokenFeeds>],
+    alloc: Global,
+    to: u32,
+) -> Result<Option<u32>, Memory>
+    ensures keeps { OnOk result (SameFrom to (slots_at slots.old) (slots_at slots.new)) }
+    ensures passed { OnOk result (list_all (slot_passed to) slots.new ≡ true) }
+    ensures bound { IfOk result (λ bound. BoundsFrom to (λ d. may_occur (slots_at slots.new d)) bound) }
 {
     let mut bound = Some(0);
-    for slot in slots {
-        bound = later(bound, bound_slot(slot));
+    for i in 0..slots.len() {
+        bound = later(bound, pass_slot(&mut slots[i], alloc, to)?);
     }
-    bound
+    Ok(bound)
 }
 
-/// A document before which each phrase is in none.
-fn bound_phrases(phrases: &[PhraseFeed]) -> Option<u32>
-    ensures { NothingBefore AreSilent (phrases_at phrases.now) result }
+/// Passes the documents before `to` in a phrase, and bounds those in which it may occur.
+fn pass_phrase(phrase: &mut PhraseFeed, alloc: Global, to: u32) -> Result<Option<u32>, Memory>
+    ensures keeps { OnOk result (SameFrom to (phrase_at phrase.old) (phrase_at phrase.new)) }
+    ensures passed { OnOk result (phrase_passed to phrase.new ≡ true) }
+    ensures bound { IfOk result (λ bound. BoundsFrom to (λ d. may_occur (phrase_at phrase.new d)) bound) }
+{
+    let bound = pass_slots(&mut phrase.slots, alloc, to)?;
+    Ok(bound)
+}
+
+/// Passes the documents before `to` in each phrase, and bounds those in which the term may occur.
+fn pass_phrases(phrases: &mut [PhraseFeed], alloc: Global, to: u32) -> Result<Option<u32>, Memory>
+    ensures keeps { OnOk result (SameFrom to (phrases_at phrases.old) (phrases_at phrases.new)) }
+    ensures passed { OnOk result (list_all (phrase_passed to) phrases.new ≡ true) }
+    ensures bound { IfOk result (λ bound. BoundsFrom to (λ d. may_match (phrases_at phrases.new d)) bound) }
 {
     let mut bound = None;
-    let mut rest = phrases;
-    while let [first, more @ ..] = rest {
-        bound = earlier(bound, bound_slots(&first.slots));
-        rest = more;
+    for i in 0..phrases.len() {
+        bound = earlier(bound, pass_phrase(&mut phrases[i], alloc, to)?);
     }
-    bound
+    Ok(bound)
 }
 
-/// Passes the documents before `to` in a term.
-fn skip_term(term: &mut TermFeed, alloc: Global, to: u32) -> Result<(), Memory>
-    ensures { OnOk result (SameFrom to (term_at term.old) (term_at term.new)) }
-{
-    skip_phrases(&mut term.phrases, alloc, to)?;
-    Ok(())
-}
-
-/// Passes the documents before `to` in each operand.
-pub(crate) fn skip_operands(operands: &mut [TermFeed], alloc: Global, to: u32) -> Result<(), Memory>
-    ensures { OnOk result (SameFrom to (operands_at operands.old) (operands_at operands.new)) }
-{
-    for i in 0..operands.len() {
-        skip_term(&mut operands[i], alloc, to)?;
-    }
-    Ok(())
-}
-
-/// A document before which a term is in none.
-fn bound_term(term: &TermFeed) -> Option<u32>
-    ensures { NothingBefore AreSilent (term_at term.now) result }
-{
-    bound_phrases(&term.phrases)
-}
-
-/// A document before which not each operand occurs.
-pub(crate) fn bound_operands(operands: &[TermFeed]) -> Option<u32>
-    ensures { NothingBefore HasSilent (operands_at operands.now) result }
-{
-    let mut bound = Some(0);
-    for operand in operands {
-        bound = later(bound, bound_term(operand));
-    }
-    bound
-}
-
-/// Passes the documents before `to` of a term, and tells a document before which it is in none that is left.
+/// Passes the documents before `to` in a term, and bounds those in which it may occur.
 pub(crate) fn pass_term(term: &mut TermFeed, alloc: Global, to: u32) -> Result<Option<u32>, Memory>
     ensures keeps { OnOk result (SameFrom to (term_at term.old) (term_at term.new)) }
-    ensures bound { IfOk result (λ bound. NothingBefore AreSilent (term_at term.new) bound) }
+    ensures passed { OnOk result (term_passed to term.new ≡ true) }
+    ensures bound { IfOk result (λ bound. BoundsFrom to (λ d. may_match (term_at term.new d)) bound) }
 {
-    skip_term(term, alloc, to)?;
-    Ok(bound_term(term))
+    let bound = pass_phrases(&mut term.phrases, alloc, to)?;
+    Ok(bound)
 }
 
-/// Passes the documents before `to` of a section, and tells a document before which it has no pair in any that is left.
+/// Passes the documents before `to` in each operand, and bounds those in which each operand may occur.
+pub(crate) fn pass_operands(
+    operands: &mut [TermFeed],
+    alloc: Global,
+    to: u32,
+) -> Result<Option<u32>, Memory>
+    ensures keeps { OnOk result (SameFrom to (operands_at operands.old) (operands_at operands.new)) }
+    ensures passed { OnOk result (list_all (term_passed to) operands.new ≡ true) }
+    ensures bound { IfOk result (λ bound. BoundsFrom to (λ d. list_all may_match (operands_at operands.new d)) bound) }
+{
+    let mut bound = Some(0);
+    for i in 0..operands.len() {
+        bound = later(bound, pass_term(&mut operands[i], alloc, to)?);
+    }
+    Ok(bound)
+}
+
+/// Passes the documents before `to` of a section, and gives the first that is left.
 pub(crate) fn pass_section(
     section: &mut SpanFeed,
     alloc: Global,
     to: u32,
 ) -> Result<Option<u32>, Memory>
     ensures keeps { OnOk result (SameFrom to (pairs_at section.old.documents) (pairs_at section.new.documents)) }
-    ensures bound { IfOk result (λ bound. NothingBefore HasNoPairs (pairs_at section.new.documents) bound) }
+    ensures passed { OnOk result (section_passed to section.new ≡ true) }
+    ensures bound { IfOk result (λ bound. BoundsFrom to (λ d. has_any (pairs_at section.new.documents d)) bound) }
 {
-    section.documents.skip(alloc, to)?;
-    Ok(section.documents.bound())
+    let first = section.documents.skip(alloc, to)?;
+    Ok(first)
 }

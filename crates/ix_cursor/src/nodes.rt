@@ -1,12 +1,13 @@
 //! The nodes of a cursor.
 
-ghost use Rattle.std.specs.Prelude.{◌≡◌, ℕ, IfOk, OnOk, map, min, ◌-◌};
+ghost use Rattle.std.specs.Prelude.{◌≡◌, ℕ, true, IfOk, OnOk, map, min, ◌-◌};
 ghost use Rattle.q_tree.specs.Scores.{unless};
-ghost use Rattle.ix_cursor.specs.Nodes.{score_at, seen_score, SameScoresFrom, NoScoreBefore};
+ghost use Rattle.ix_lists.specs.Seeking.{BoundsFrom};
+ghost use Rattle.ix_cursor.specs.Passing.{node_passed};
+ghost use Rattle.ix_cursor.specs.Nodes.{score_at, seen_score, may_at, SameScoresFrom, SameDocumentsFrom};
 
 use crate::feeds::{
-    NearFeed, SpanFeed, TermFeed, bound_operands, earlier, later, pass_section, pass_term,
-    skip_operands,
+    NearFeed, SpanFeed, TermFeed, earlier, later, pass_operands, pass_section, pass_term,
 };
 use crate::scoring::{greatest_inside, if_above, score_near, score_phrases, unless, weighted};
 use crate::seeing::{see_operands, see_section, see_term};
@@ -29,12 +30,14 @@ pub(crate) enum Node {
 }
 
 impl Node {
-    /// Passes the documents before `to`, and gives a bound: no document before it has a score, within any range. None where no document
-    /// has one; the node then drops its parts.
+    /// Passes the documents before `to`, and bounds those in which the node may score. None where it may in no document; the node then
+    /// drops its parts.
     #[cycle(skip)]
     pub(crate) fn skip(&mut self, alloc: Global, to: u32) -> Result<Option<u32>, Memory>
-        ensures keeps { OnOk result (SameScoresFrom to self.old self.new) }
-        ensures bound { IfOk result (λ bound. NoScoreBefore self.new bound) }
+        ensures scores { OnOk result (SameScoresFrom to self.old self.new) }
+        ensures documents { OnOk result (SameDocumentsFrom to self.old self.new) }
+        ensures passed { OnOk result (node_passed to self.new ≡ true) }
+        ensures bound { IfOk result (λ bound. BoundsFrom to (may_at self.new) bound) }
     {
         let bound = self.skip_parts(alloc, to)?;
         if bound.is_none() {
@@ -43,14 +46,19 @@ impl Node {
         Ok(bound)
     }
 
-    /// Passes the documents before `to` in each part, and tells such a document.
+    /// Passes the documents before `to` in each part, and tells that bound.
     #[cycle(skip)]
     fn skip_parts(&mut self, alloc: Global, to: u32) -> Result<Option<u32>, Memory>
-        ensures keeps { OnOk result (SameScoresFrom to self.old self.new) }
-        ensures bound { IfOk result (λ bound. NoScoreBefore self.new bound) }
+        ensures scores { OnOk result (SameScoresFrom to self.old self.new) }
+        ensures documents { OnOk result (SameDocumentsFrom to self.old self.new) }
+        ensures passed { OnOk result (node_passed to self.new ≡ true) }
+        ensures bound { IfOk result (λ bound. BoundsFrom to (may_at self.new) bound) }
     {
         match self {
-            Node::Term(term) => pass_term(term, alloc, to),
+            Node::Term(term) => {
+                let bound = pass_term(term, alloc, to)?;
+                Ok(bound)
+            }
             Node::And(a, b) => {
                 let first = a.skip(alloc, to)?;
                 let second = b.skip(alloc, to)?;
@@ -72,8 +80,8 @@ impl Node {
             Node::Weight(_, a) => a.skip(alloc, to),
             Node::Above(_, a) => a.skip(alloc, to),
             Node::Near(near) => {
-                skip_operands(&mut near.operands, alloc, to)?;
-                Ok(bound_operands(&near.operands))
+                let bound = pass_operands(&mut near.operands, alloc, to)?;
+                Ok(bound)
             }
             Node::Within(section, a) => {
                 let first = pass_section(section, alloc, to)?;

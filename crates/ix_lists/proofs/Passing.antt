@@ -7,8 +7,8 @@ use Rattle.ix_posting.specs.Rows.{Rise, DocumentsRise}
 use Rattle.ix_posting.specs.declared.rows.RowDocument.{RowDocument}
 use Rattle.ix_spans.specs.Rising.{Above, Rising}
 use Rattle.ix_spans.specs.laws.Rising.{above_rises}
-use Rattle.ix_lists.specs.Documents.{from_on, places_at, first_places, least_document}
-use Rattle.ix_lists.specs.Seeking.{SameFrom, NothingBefore, IsNowhere}
+use Rattle.ix_lists.specs.Documents.{from_on, places_at, first_places, first_document}
+use Rattle.ix_lists.specs.laws.Passing.{places_at_none}
 
 -- ---- rising documents
 
@@ -23,29 +23,6 @@ from_on_rise to b (d ∷ ds) h = let first = h.0 in go (rise_below b d.document 
     go : DocumentsRise b (from_on to ds) → (t : Bool) → DocumentsRise b (if t then from_on to ds else d ∷ ds)
     go rest true = rest
     go rest false = h
-
-places_none : (b : ℕ) (ds : List RowDocument) (d : ℕ) → DocumentsRise b ds → d ≤ b → places_at ds d ≡ []
-places_none b [] d h le = refl
-places_none b (x ∷ xs) d h le =
-    let first = h.0 in
-    let rest = places_none x.document xs d h.4 (omega (arith, first)) in
-    let other : eqb x.document d ≡ false = grind (arith, nat_tests, first) in
-    rw (other) rest
-
-head_missed : (b : ℕ) (x : RowDocument) (xs : List RowDocument) (d : ℕ) → DocumentsRise b (x ∷ xs) → d < x.document → places_at (x ∷ xs) d ≡ []
-head_missed b x xs d h before =
-    let other : eqb x.document d ≡ false = grind (arith, nat_tests, before) in
-    rw other (places_none x.document xs d h.4 (omega (arith, before)))
-
-from_on_same : (to : ℕ) (ds : List RowDocument) (d : ℕ) → to ≤ d → places_at (from_on to ds) d ≡ places_at ds d
-from_on_same to [] d le = refl
-from_on_same to (x ∷ xs) d le = go (from_on_same to xs d le) (nat_lt x.document to) refl
-  where
-    go : places_at (from_on to xs) d ≡ places_at xs d → (t : Bool) → nat_lt x.document to ≡ t → places_at (if t then from_on to xs else x ∷ xs) d ≡ places_at (x ∷ xs) d
-    go rest true e =
-        let other : eqb x.document d ≡ false = grind (arith, nat_tests, e) in
-        rest ∙ sym (ap (λ (b : Bool). if b then x.positions else places_at xs d) other)
-    go rest false e = refl
 
 -- ---- documents in rows
 
@@ -80,13 +57,10 @@ within to ls xs ys is some = all xs (subst (λ zs. 0 < length zs) is some) ∙ a
 pub left_rises : (to : ℕ) (new old : List RowDocument) → new ≡ from_on to old → DocumentsRise 0 old → DocumentsRise 0 new
 left_rises to new old is rise = subst (DocumentsRise 0) (sym is) (from_on_rise to 0 old rise)
 
-pub left_keeps : (to : ℕ) (new old : List RowDocument) → new ≡ from_on to old → SameFrom to (places_at old) (places_at new)
-left_keeps to new old is d le = ap (λ ds. places_at ds d) is ∙ from_on_same to old d le
-
-pub least_bounds : (ds : List RowDocument) (rows : List (List RowDocument)) → DocumentsRise 0 (ds ++ posting_list rows) → NothingBefore IsNowhere (places_at (ds ++ posting_list rows)) (least_document ds rows)
-least_bounds [] [] rise d before = refl
-least_bounds [] (row ∷ rows) rise d before = absurd (omega (arith, before))
-least_bounds (x ∷ xs) rows rise d before = head_missed 0 x (xs ++ posting_list rows) d rise before
+-- the first that is decoded is the first of all
+pub first_of_all : (xs ys : List RowDocument) → 0 < length xs → first_document xs ≡ first_document (xs ++ ys)
+first_of_all [] ys some = absurd (omega (arith, some))
+first_of_all (x ∷ xs) ys some = refl
 
 -- ---- the positions in one document
 
@@ -109,7 +83,7 @@ first_found b (x ∷ xs) d h = go (first_found x.document xs d h.4) (nat_lt x.do
   where
     there : nat_lt x.document d ≡ false → (t : Bool) → eqb x.document d ≡ t → (if t then x.positions else []) ≡ (if t then x.positions else places_at xs d)
     there e true is = refl
-    there e false is = sym (places_none x.document xs d h.4 (grind (arith, nat_tests, e)))
+    there e false is = sym (places_at_none x.document xs d h.4 (grind (arith, nat_tests, e)))
 
     go : first_places (from_on d xs) d ≡ places_at xs d → (t : Bool) → nat_lt x.document d ≡ t → first_places (if t then from_on d xs else x ∷ xs) d ≡ places_at (x ∷ xs) d
     go rest true e =

@@ -5,9 +5,9 @@ use Rattle.std.proofs.lemmas.Bool.Decides.{nat_tests}
 use Rattle.ix_posting.specs.Lists.{posting_list}
 use Rattle.ix_posting.specs.SpanRows.{SpanDocumentsRise}
 use Rattle.ix_posting.specs.declared.span_rows.SpanDocument.{SpanDocument}
-use Rattle.ix_lists.specs.SpanDocuments.{span_from_on, pairs_at, first_pairs, span_least_document}
+use Rattle.ix_lists.specs.SpanDocuments.{span_from_on, pairs_at, first_pairs, span_first_document}
 use Rattle.ix_lists.proofs.Passing.{at_place}
-use Rattle.ix_lists.specs.Seeking.{SameFrom, NothingBefore, HasNoPairs}
+use Rattle.ix_lists.specs.laws.SpanPassing.{pairs_at_none}
 
 -- ---- rising documents
 
@@ -22,29 +22,6 @@ from_on_rise to b (d ∷ ds) h = let first = h.0 in go (rise_below b d.document 
     go : SpanDocumentsRise b (span_from_on to ds) → (t : Bool) → SpanDocumentsRise b (if t then span_from_on to ds else d ∷ ds)
     go rest true = rest
     go rest false = h
-
-places_none : (b : ℕ) (ds : List SpanDocument) (d : ℕ) → SpanDocumentsRise b ds → d ≤ b → pairs_at ds d ≡ []
-places_none b [] d h le = refl
-places_none b (x ∷ xs) d h le =
-    let first = h.0 in
-    let rest = places_none x.document xs d h.5 (omega (arith, first)) in
-    let other : eqb x.document d ≡ false = grind (arith, nat_tests, first) in
-    rw (other) rest
-
-head_missed : (b : ℕ) (x : SpanDocument) (xs : List SpanDocument) (d : ℕ) → SpanDocumentsRise b (x ∷ xs) → d < x.document → pairs_at (x ∷ xs) d ≡ []
-head_missed b x xs d h before =
-    let other : eqb x.document d ≡ false = grind (arith, nat_tests, before) in
-    rw other (places_none x.document xs d h.5 (omega (arith, before)))
-
-from_on_same : (to : ℕ) (ds : List SpanDocument) (d : ℕ) → to ≤ d → pairs_at (span_from_on to ds) d ≡ pairs_at ds d
-from_on_same to [] d le = refl
-from_on_same to (x ∷ xs) d le = go (from_on_same to xs d le) (nat_lt x.document to) refl
-  where
-    go : pairs_at (span_from_on to xs) d ≡ pairs_at xs d → (t : Bool) → nat_lt x.document to ≡ t → pairs_at (if t then span_from_on to xs else x ∷ xs) d ≡ pairs_at (x ∷ xs) d
-    go rest true e =
-        let other : eqb x.document d ≡ false = grind (arith, nat_tests, e) in
-        rest ∙ sym (ap (λ (b : Bool). if b then x.pairs else pairs_at xs d) other)
-    go rest false e = refl
 
 -- ---- documents in rows
 
@@ -72,13 +49,10 @@ within to ls xs ys is some = all xs (subst (λ zs. 0 < length zs) is some) ∙ a
 pub left_rises : (to : ℕ) (new old : List SpanDocument) → new ≡ span_from_on to old → SpanDocumentsRise 0 old → SpanDocumentsRise 0 new
 left_rises to new old is rise = subst (SpanDocumentsRise 0) (sym is) (from_on_rise to 0 old rise)
 
-pub left_keeps : (to : ℕ) (new old : List SpanDocument) → new ≡ span_from_on to old → SameFrom to (pairs_at old) (pairs_at new)
-left_keeps to new old is d le = ap (λ ds. pairs_at ds d) is ∙ from_on_same to old d le
-
-pub least_bounds : (ds : List SpanDocument) (rows : List (List SpanDocument)) → SpanDocumentsRise 0 (ds ++ posting_list rows) → NothingBefore HasNoPairs (pairs_at (ds ++ posting_list rows)) (span_least_document ds rows)
-least_bounds [] [] rise d before = refl
-least_bounds [] (row ∷ rows) rise d before = absurd (omega (arith, before))
-least_bounds (x ∷ xs) rows rise d before = head_missed 0 x (xs ++ posting_list rows) d rise before
+-- the first that is decoded is the first of all
+pub first_of_all : (xs ys : List SpanDocument) → 0 < length xs → span_first_document xs ≡ span_first_document (xs ++ ys)
+first_of_all [] ys some = absurd (omega (arith, some))
+first_of_all (x ∷ xs) ys some = refl
 
 -- ---- the pairs in one document
 
@@ -89,7 +63,7 @@ first_found b (x ∷ xs) d h = go (first_found x.document xs d h.5) (nat_lt x.do
   where
     there : nat_lt x.document d ≡ false → (t : Bool) → eqb x.document d ≡ t → (if t then x.pairs else []) ≡ (if t then x.pairs else pairs_at xs d)
     there e true is = refl
-    there e false is = sym (places_none x.document xs d h.5 (grind (arith, nat_tests, e)))
+    there e false is = sym (pairs_at_none x.document xs d h.5 (grind (arith, nat_tests, e)))
 
     go : first_pairs (span_from_on d xs) d ≡ pairs_at xs d → (t : Bool) → nat_lt x.document d ≡ t → first_pairs (if t then span_from_on d xs else x ∷ xs) d ≡ pairs_at (x ∷ xs) d
     go rest true e =

@@ -24,11 +24,10 @@ abbrev pub row_from : {D : Type 0} → Option (List D) → ℕ → List D
 row_from None n = []
 row_from (Some row) n = drop n row
 
--- a document before which there is none: the first that is decoded, or any where rows are left
-abbrev pub least_document : List RowDocument → List (List RowDocument) → Option ℕ
-least_document (d ∷ ds) rows = Some d.document
-least_document [] (row ∷ rows) = Some 0
-least_document [] [] = None
+-- the number of the first document; None where there is none
+abbrev pub first_document : List RowDocument → Option ℕ
+first_document [] = None
+first_document (d ∷ ds) = Some d.document
 
 -- ---- computed examples: the documents 2 and 5 in one row, and 7 in the next
 
@@ -40,6 +39,12 @@ three_documents = posting_list ((at_1 2 ∷ at_1 5 ∷ []) ∷ (at_1 7 ∷ []) �
 
 from_3 : from_on 3 three_documents ≡ at_1 5 ∷ at_1 7 ∷ []
 from_3 = refl
+
+the_first_from_3 : first_document (from_on 3 three_documents) ≡ Some 5
+the_first_from_3 = refl
+
+none_from_8 : first_document (from_on 8 three_documents) ≡ None
+none_from_8 = refl
 
 in_7 : places_at three_documents 7 ≡ 1 ∷ []
 in_7 = refl

@@ -1,43 +1,37 @@
--- What passing documents keeps, and before which document there is nothing.
-use Rattle.std.specs.Prelude.{ℕ, ◌≡◌, ◌≤◌, ◌<◌, List, [], ◌∷◌, Option, Some, None, refl}
+-- Documents from a number on: what passing the others keeps, and where the first may be that passes a test.
+use Rattle.std.specs.Prelude.{ℕ, ◌≡◌, ◌≤◌, ◌<◌, Bool, true, false, eqb, List, [], ◌∷◌, Option, Some, None, refl}
 use Rattle.std.proofs.Common.{arith}
-use Rattle.ct_base.specs.declared.numbers.Pair.{Pair}
-
--- d stands before the bound; with no bound each document does
-abbrev pub Before : Option ℕ → ℕ → Type 0
-Before None d = Unit {0}
-Before (Some x) d = d < x
+use Rattle.std.proofs.lemmas.Bool.{ne_eqb}
 
 -- what each document from `to` on has is the same
 abbrev pub SameFrom : {V : Type 0} → ℕ → (ℕ → V) → (ℕ → V) → Type 0
 SameFrom to old new = (d : ℕ) → to ≤ d → new d ≡ old d
 
--- before the bound each document has nothing
-abbrev pub NothingBefore : {V : Type 0} → (V → Type 0) → (ℕ → V) → Option ℕ → Type 0
-NothingBefore IsNothing has bound = (d : ℕ) → Before bound d → IsNothing (has d)
+-- whether there is anything in a list
+abbrev pub has_any : {X : Type 0} → List X → Bool
+has_any [] = false
+has_any (x ∷ xs) = true
 
--- no position
-abbrev pub IsNowhere : List ℕ → Type 0
-IsNowhere ps = ps ≡ []
+-- Of the documents from `to` on, those before the bound don't pass the test; where the bound is `to` or less, the document `to` passes it.
+-- With no bound none passes.
+abbrev pub BoundsFrom : ℕ → (ℕ → Bool) → Option ℕ → Type 0
+BoundsFrom to passes None = (d : ℕ) → to ≤ d → passes d ≡ false
+BoundsFrom to passes (Some bound) = ((d : ℕ) → to ≤ d → d < bound → passes d ≡ false) × (bound ≤ to → passes to ≡ true)
 
--- no pair
-abbrev pub HasNoPairs : List Pair → Type 0
-HasNoPairs ps = ps ≡ []
-
--- ---- computed examples: a list that has each document's own number, and one that has none
+-- ---- computed examples: a list that has each document's own number, and the test whether a document is the fifth
 
 abbrev own : ℕ → List ℕ
 own d = d ∷ []
 
-abbrev none_of_all : ℕ → List ℕ
-none_of_all d = []
-
 same_as_itself_from_3 : SameFrom 3 own own
 same_as_itself_from_3 d le = refl
 
-nothing_before_any : NothingBefore IsNowhere none_of_all None
-nothing_before_any d before = refl
+the_fifth_from_3 : BoundsFrom 3 (λ d. eqb d 5) (Some 5)
+the_fifth_from_3 = (λ d le lt. ne_eqb d 5 (λ same. omega (arith, lt, same)), λ le. absurd (omega (arith, le)))
 
--- with the bound 0 nothing is said
-anything_before_0 : NothingBefore IsNowhere own (Some 0)
-anything_before_0 d before = absurd (omega (arith, before))
+the_fifth_from_5 : BoundsFrom 5 (λ d. eqb d 5) (Some 5)
+the_fifth_from_5 = (λ d le lt. ne_eqb d 5 (λ same. omega (arith, lt, same)), λ le. refl)
+
+-- 0 is no bound where the document 3 doesn't pass
+never_0 : BoundsFrom 3 (λ d. eqb d 5) (Some 0) → ⊥
+never_0 bounds = let wrong : false ≡ true = bounds.1 (omega arith) in cc

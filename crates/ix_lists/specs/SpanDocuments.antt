@@ -19,11 +19,10 @@ abbrev pub first_pairs : List SpanDocument → ℕ → List Pair
 first_pairs [] d = []
 first_pairs (x ∷ xs) d = if eqb x.document d then x.pairs else []
 
--- a document before which there is none: the first that is decoded, or any where rows are left
-abbrev pub span_least_document : List SpanDocument → List (List SpanDocument) → Option ℕ
-span_least_document (d ∷ ds) rows = Some d.document
-span_least_document [] (row ∷ rows) = Some 0
-span_least_document [] [] = None
+-- the number of the first document; None where there is none
+abbrev pub span_first_document : List SpanDocument → Option ℕ
+span_first_document [] = None
+span_first_document (d ∷ ds) = Some d.document
 
 -- ---- computed examples: a section stands at the words 1 to 3 of the documents 2 and 5
 
@@ -43,8 +42,8 @@ in_5 = refl
 not_first : first_pairs two_documents 5 ≡ []
 not_first = refl
 
-from_2 : span_least_document two_documents [] ≡ Some 2
-from_2 = refl
+the_first_from_3 : span_first_document (span_from_on 3 two_documents) ≡ Some 5
+the_first_from_3 = refl
 
-anywhere : span_least_document [] (two_documents ∷ []) ≡ Some 0
-anywhere = refl
+none_from_6 : span_first_document (span_from_on 6 two_documents) ≡ None
+none_from_6 = refl

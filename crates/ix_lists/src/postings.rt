@@ -6,8 +6,7 @@ ghost use Rattle.ix_posting.specs.declared.rows.RowDocument.{RowDocument};
 ghost use Rattle.ix_spans.specs.Rising.{Rising};
 ghost use Rattle.q_tree.specs.Documents.{put_all};
 ghost use Rattle.ix_posting.specs.Lists.{posting_list};
-ghost use Rattle.ix_lists.specs.Documents.{from_on, places_at, first_places, row_from, least_document};
-ghost use Rattle.ix_lists.specs.Seeking.{SameFrom, NothingBefore, IsNowhere};
+ghost use Rattle.ix_lists.specs.Documents.{from_on, places_at, first_places, row_from, first_document};
 
 use crate::merging::merged;
 use ct_base::Memory;
@@ -73,6 +72,7 @@ fn seek(alloc: Global, rows: &[EncodedRow], taken: usize, to: u32) -> Result<Pla
     requires { taken ≤ length rows.now }
     ensures taken { IfOk result (λ p. p.taken ≤ length rows.now) }
     ensures left { IfOk result (λ p. row_from p.row p.next ++ posting_list (drop p.taken rows.now) ≡ from_on to (posting_list (drop taken rows.now))) }
+    ensures shown { IfOk result (λ p. first_document (row_from p.row p.next) ≡ first_document (row_from p.row p.next ++ posting_list (drop p.taken rows.now))) }
     ensures first { IfOk result (λ p. (d : ℕ) → first_places (row_from p.row p.next) d ≡ first_places (from_on to (posting_list (drop taken rows.now))) d) }
 {
     for i in taken..rows.len() {
@@ -118,25 +118,14 @@ fn first_places(documents: &[RowDocument], document: u32) -> &[u32]
     }
 }
 
-/// A document before which there is none, where these documents are decoded and these rows are left.
-fn least_document(decoded: &[RowDocument], rows: &[EncodedRow]) -> Option<u32>
-    ensures { result ≡ least_document decoded.now rows.now }
+/// The number of the first document.
+fn first_document(documents: &[RowDocument]) -> Option<u32>
+    ensures { result ≡ first_document documents.now }
 {
-    match decoded {
+    match documents {
+        [] => None,
         [first, ..] => Some(first.document),
-        [] => match rows {
-            [_, ..] => Some(0),
-            [] => None,
-        },
     }
-}
-
-/// The rows from a place on.
-fn rows_from(rows: &[EncodedRow], taken: usize) -> &[EncodedRow]
-    requires { taken ≤ length rows.now }
-    ensures { result.now ≡ drop taken rows.now }
-{
-    &rows[taken..]
 }
 
 /// The documents of a token that are left, in rising order. Its rows are decoded one after the other, as they are needed.
@@ -176,29 +165,25 @@ impl Postings {
         }
     }
 
-    /// Passes the documents before `to`. It decodes the rows from the present one on, as far as one with such a document; after an error it
-    /// may only be dropped.
-    pub fn skip(&mut self, alloc: Global, to: u32) -> Result<(), Memory>
-        ensures { OnOk result (SameFrom to (places_at self.old) (places_at self.new)) }
+    /// Passes the documents before `to`, and gives the first that is left; None where none is. It decodes the rows from the present one on,
+    /// as far as one with such a document; after an error it may only be dropped.
+    pub fn skip(&mut self, alloc: Global, to: u32) -> Result<Option<u32>, Memory>
+        ensures left { OnOk result (self.new ≡ from_on to self.old) }
+        ensures first { IfOk result (λ first. first ≡ first_document self.new) }
+        ensures rise { OnOk result (DocumentsRise 0 self.new) }
     {
         match place_in(&self.place.row, self.place.next, to) {
-            Some(next) => self.place.next = next,
+            Some(next) => {
+                self.place.next = next;
+                Ok(first_document(row_from(&self.place.row, next)))
+            }
             None => {
                 let place = seek(alloc, self.rows.as_slice(), self.place.taken, to)?;
+                let first = first_document(row_from(&place.row, place.next));
                 go_to(&mut self.place, place);
+                Ok(first)
             }
         }
-        Ok(())
-    }
-
-    /// A document before which there is none.
-    pub fn bound(&self) -> Option<u32>
-        ensures { NothingBefore IsNowhere (places_at self.now) result }
-    {
-        least_document(
-            row_from(&self.place.row, self.place.next),
-            rows_from(self.rows.as_slice(), self.place.taken),
-        )
     }
 
     /// Merges the positions in a document into rising ones. At a document before which the others were passed it decodes nothing.

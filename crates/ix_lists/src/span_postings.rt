@@ -5,8 +5,7 @@ ghost use Rattle.ix_posting.specs.SpanRows.{SpanDocumentsRise};
 ghost use Rattle.ix_posting.specs.declared.span_rows.SpanDocument.{SpanDocument};
 ghost use Rattle.ix_posting.specs.Lists.{posting_list};
 ghost use Rattle.ix_lists.specs.Documents.{row_from};
-ghost use Rattle.ix_lists.specs.SpanDocuments.{span_from_on, pairs_at, first_pairs, span_least_document};
-ghost use Rattle.ix_lists.specs.Seeking.{SameFrom, NothingBefore, HasNoPairs};
+ghost use Rattle.ix_lists.specs.SpanDocuments.{span_from_on, pairs_at, first_pairs, span_first_document};
 
 use ct_base::{Memory, Pair, Pairs};
 use ix_posting::{EncodedSpanRow, EncodedSpanRows, SpanDocument, SpanRow};
@@ -71,6 +70,7 @@ fn seek(alloc: Global, rows: &[EncodedSpanRow], taken: usize, to: u32) -> Result
     requires { taken ≤ length rows.now }
     ensures taken { IfOk result (λ p. p.taken ≤ length rows.now) }
     ensures left { IfOk result (λ p. row_from p.row p.next ++ posting_list (drop p.taken rows.now) ≡ span_from_on to (posting_list (drop taken rows.now))) }
+    ensures shown { IfOk result (λ p. span_first_document (row_from p.row p.next) ≡ span_first_document (row_from p.row p.next ++ posting_list (drop p.taken rows.now))) }
     ensures first { IfOk result (λ p. (d : ℕ) → first_pairs (row_from p.row p.next) d ≡ first_pairs (span_from_on to (posting_list (drop taken rows.now))) d) }
 {
     for i in taken..rows.len() {
@@ -123,25 +123,14 @@ fn first_pairs(documents: &[SpanDocument], document: u32) -> &[Pair]
     }
 }
 
-/// A document before which there is none, where these documents are decoded and these rows are left.
-fn least_document(decoded: &[SpanDocument], rows: &[EncodedSpanRow]) -> Option<u32>
-    ensures { result ≡ span_least_document decoded.now rows.now }
+/// The number of the first document.
+fn first_document(documents: &[SpanDocument]) -> Option<u32>
+    ensures { result ≡ span_first_document documents.now }
 {
-    match decoded {
+    match documents {
+        [] => None,
         [first, ..] => Some(first.document),
-        [] => match rows {
-            [_, ..] => Some(0),
-            [] => None,
-        },
     }
-}
-
-/// The rows from a place on.
-fn rows_from(rows: &[EncodedSpanRow], taken: usize) -> &[EncodedSpanRow]
-    requires { taken ≤ length rows.now }
-    ensures { result.now ≡ drop taken rows.now }
-{
-    &rows[taken..]
 }
 
 /// The documents of a section that are left, in rising order. Its rows are decoded one after the other, as they are needed.
@@ -181,29 +170,25 @@ impl SpanPostings {
         }
     }
 
-    /// Passes the documents before `to`. It decodes the rows from the present one on, as far as one with such a document; after an error it
-    /// may only be dropped.
-    pub fn skip(&mut self, alloc: Global, to: u32) -> Result<(), Memory>
-        ensures { OnOk result (SameFrom to (pairs_at self.old) (pairs_at self.new)) }
+    /// Passes the documents before `to`, and gives the first that is left; None where none is. It decodes the rows from the present one on,
+    /// as far as one with such a document; after an error it may only be dropped.
+    pub fn skip(&mut self, alloc: Global, to: u32) -> Result<Option<u32>, Memory>
+        ensures left { OnOk result (self.new ≡ span_from_on to self.old) }
+        ensures first { IfOk result (λ first. first ≡ span_first_document self.new) }
+        ensures rise { OnOk result (SpanDocumentsRise 0 self.new) }
     {
         match place_in(&self.place.row, self.place.next, to) {
-            Some(next) => self.place.next = next,
+            Some(next) => {
+                self.place.next = next;
+                Ok(first_document(row_from(&self.place.row, next)))
+            }
             None => {
                 let place = seek(alloc, self.rows.as_slice(), self.place.taken, to)?;
+                let first = first_document(row_from(&place.row, place.next));
                 go_to(&mut self.place, place);
+                Ok(first)
             }
         }
-        Ok(())
-    }
-
-    /// A document before which there is none.
-    pub fn bound(&self) -> Option<u32>
-        ensures { NothingBefore HasNoPairs (pairs_at self.now) result }
-    {
-        least_document(
-            row_from(&self.place.row, self.place.next),
-            rows_from(self.rows.as_slice(), self.place.taken),
-        )
     }
 
     /// The pairs in a document. At a document before which the others were passed it decodes nothing.

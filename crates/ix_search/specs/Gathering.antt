@@ -1,5 +1,5 @@
 -- What was gathered for a query, and the rows that it gives.
-use Rattle.std.specs.Prelude.{ℕ, ℤ, ◌≡◌, ◌<◌, ◌^◌, List, Option, Some, None, refl}
+use Rattle.std.specs.Prelude.{ℕ, ℤ, ◌≡◌, ◌<◌, ◌^◌, Bool, true, List, Option, Some, None, refl}
 use Rattle.std.specs.Ordering.{nat_cmp}
 use Rattle.std.specs.FinMap.{FinMap, get, insert, entries}
 use Rattle.ct_entry.specs.Maps.{Rows}
@@ -18,10 +18,10 @@ abbrev pub with_row_of : ℕ → Option ℤ → Documents ℤ → Documents ℤ
 with_row_of d None rows = rows
 with_row_of d (Some r) rows = insert rows d r
 
--- These are rows of documents, and that of each document with a score is among them.
-pub record AreRowsOfDocuments (row : ℕ → Option ℤ) (score : ℕ → ℕ) (rows : Documents ℤ) : Type 0 where
-  pub own : (d : ℕ) (r : ℤ) → get rows d ≡ Some r → row d ≡ Some r
-  pub all : (d : ℕ) → d < 2 ^ 32 → 0 < score d → get rows d ≡ row d
+-- THESE ARE THE ROWS OF THE CANDIDATES: the documents that have one are candidates, and each candidate has its own, if it is mapped.
+pub record AreRowsOfDocuments (row : ℕ → Option ℤ) (candidate : ℕ → Bool) (rows : Documents ℤ) : Type 0 where
+  pub own : (d : ℕ) (r : ℤ) → get rows d ≡ Some r → (candidate d ≡ true) × (row d ≡ Some r)
+  pub all : (d : ℕ) → d < 2 ^ 32 → candidate d ≡ true → get rows d ≡ row d
 
 -- the row of a document that was gathered, and the score of a document by what was
 abbrev pub gathered_row : Gathered → ℕ → Option ℤ

@@ -1,7 +1,7 @@
 use Rattle.std.proofs.Common.{◌≡◌, ◌++◌, ◌+◌, ◌∙◌, drop, sym, ap}
 use Rattle.ix_posting.specs.Lists.{posting_list}
 use Rattle.ix_lists.specs.SpanDocuments.{span_from_on, first_pairs}
-use Rattle.ix_lists.proofs.SpanPassing.{next_row, within, past, first_more}
+use Rattle.ix_lists.proofs.SpanPassing.{next_row, within, past, first_more, first_of_all}
 use Rattle.ix_lists.proofs.span_postings.seek.Goals as goal
 
 pub returns-in-Some-clause-left : goal.returns-in-Some-clause-left
@@ -20,6 +20,9 @@ returns-in-Some-clause-first c d =
     let at : posting_list (drop i c.args.rows.now) ≡ row ++ rest = next_row c.args.rows.now i row c.index-rows-i.result c.loop-i-test.true c.in_ok-decode.ensures c.index-rows-i.is in
     first_more (drop c.in-Some.next row) rest d c.in-Some.ensures.some.1
     ∙ ap (λ ds. first_pairs ds d) (sym (within c.args.to (drop c.in-Some.next row) row rest c.in-Some.ensures.some.0 c.in-Some.ensures.some.1) ∙ ap (span_from_on c.args.to) (sym at) ∙ c.loop-i.invariant)
+
+pub returns-in-Some-clause-shown : goal.returns-in-Some-clause-shown
+returns-in-Some-clause-shown c = first_of_all (drop c.in-Some.next c.in_ok-decode.field-0) (posting_list (drop (c.loop-i.i + 1) c.args.rows.now)) c.in-Some.ensures.some.1
 
 pub loop-i-preserved : goal.loop-i-preserved
 loop-i-preserved c =

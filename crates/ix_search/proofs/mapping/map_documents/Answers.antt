@@ -25,11 +25,11 @@ documents-preserved g c =
       at_most = record { texts = omega (arith, a.texts, b.texts); rows = omega (arith, a.rows, b.rows); rules = omega (arith, a.rules, b.rules) };
       rows = λ m told.
           rows_next (row_at_document (at m) i) (ahead c.args.candidates.now) (ahead c.documents.candidates) (ahead c.next.new.self) c.in_ok-document.field-0 c.in-Some.document c.documents.rows c.map_document.new.rows
-          c.in-Some.is c.in_ok-document.ensures.first c.in_ok-document.ensures.left
+          c.in-Some.is c.in_ok-document.ensures.least c.in_ok-document.ensures.left
           (c.in_ok-map_document.ensures.rows m (reads_hold old mid m c.documents.invariant.reads told)) (c.documents.invariant.rows m told);
     }
 
 pub returns-in_default-clause-rows : goal.returns-in_default-clause-rows
 returns-in_default-clause-rows g c = λ m told.
     rows_end (row_at_document (at m) c.args.index.now) (ahead c.args.candidates.now) (ahead c.documents.candidates) c.in_ok-document.field-0 c.documents.rows
-    c.in_default.is c.in_ok-document.ensures.first (c.documents.invariant.rows m told)
+    c.in_default.is c.in_ok-document.ensures.least (c.documents.invariant.rows m told)
