@@ -10,7 +10,7 @@ use Rattle.ct_keep.specs.declared.keepers.KeepFault.TheVariants.{Memory, Disk, F
 use Rattle.ct_keep.specs.Content.{Content}
 use Rattle.ct_keep.specs.Changes.{AreWell}
 use Rattle.ct_keep.specs.WellLaws.{well_weaker}
-use Rattle.ct_keep.specs.KeeperViews.{KeeperView, Accepts, TakesAsBefore, Fixed, Counts, SameButContent, ReadsKeeper, Goes, AnswersCommit, Came, IsLeft, IsDurable, SameStore, KeeperSays, PassesRoom, UnlessDisk, counted, disk_faults_after, is_full, committed, AtMostOneCommit}
+use Rattle.ct_keep.specs.KeeperViews.{KeeperView, Accepts, TakesAsBefore, Fixed, Counts, SameButContent, ReadsKeeper, Goes, AnswersCommit, Came, IsLeft, IsDurable, SameStore, KeeperSays, PassesRoom, UnlessDisk, counted, disk_faults_after, is_full, committed, AtMostOneCommit, CountsCommit}
 
 -- ---- what never changes, by its fields
 
@@ -52,7 +52,7 @@ kept_short old new kept = record { ready = kept.ready; beside = kept.beside; wel
 -- ---- reads
 
 pub reads_none : (k : KeeperView) → k.ready → ReadsKeeper k k None
-reads_none k ready = record { not_full = λ e. cc; kept = kept_all k ready; content = refl; time = adds_nothing_itself k.time; now = λ stopped said now. now; fulls = refl; commits = refl }
+reads_none k ready = record { not_full = λ e. cc; kept = kept_all k ready; content = refl; time = adds_nothing_itself k.time; now = λ stopped said now. now; fulls = refl; commits = refl; syncs = refl }
 
 -- reads that succeeded, and then others
 pub reads_on : (old mid new : KeeperView) (fault : Option KeepFault) → ReadsKeeper old mid None → ReadsKeeper mid new fault → ReadsKeeper old new fault
@@ -64,6 +64,7 @@ reads_on old mid new fault first second = record {
   now = λ stopped said now. first.now stopped said (second.now stopped said now);
   fulls = second.fulls ∙ first.fulls;
   commits = second.commits ∙ first.commits;
+  syncs = second.syncs ∙ first.syncs;
 }
   where
     same : (fault : Option KeepFault) → UnlessDisk fault (new.content ≡ mid.content) → UnlessDisk fault (new.content ≡ old.content)
@@ -74,7 +75,7 @@ reads_on old mid new fault first second = record {
 
 -- reads that succeeded, and then no memory
 pub reads_short : (old new : KeeperView) → ReadsKeeper old new None → ReadsKeeper old new (Some Memory)
-reads_short old new reads = record { not_full = λ e. cc; kept = kept_short old new reads.kept; content = reads.content; time = reads.time; now = reads.now; fulls = reads.fulls; commits = reads.commits }
+reads_short old new reads = record { not_full = λ e. cc; kept = kept_short old new reads.kept; content = reads.content; time = reads.time; now = reads.now; fulls = reads.fulls; commits = reads.commits; syncs = reads.syncs }
 
 -- what is held after them
 pub reads_hold : (old new : KeeperView) (m : Content) → ReadsKeeper old new None → old.content ≡ Some m → new.content ≡ Some m
@@ -150,15 +151,15 @@ answers_failed Disk limit m next not_full = tt
 answers_failed Full limit m next not_full = absurd (not_full refl)
 
 -- how often a commit was refused
-pub fulls_then : (old mid : KeeperView) (new : Counts) (fault : Option KeepFault) → ReadsKeeper old mid None → new ≡ committed fault mid.counts → new.fulls ≡ counted (is_full fault) old.counts.fulls
-fulls_then old mid new fault reads commits = ap (λ (c : Counts). c.fulls) commits ∙ ap (counted (is_full fault)) reads.fulls
+pub fulls_then : (old mid : KeeperView) (new : Counts) (fault : Option KeepFault) → ReadsKeeper old mid None → CountsCommit fault mid.counts new → new.fulls ≡ counted (is_full fault) old.counts.fulls
+fulls_then old mid new fault reads commits = ap (λ (c : Counts). c.fulls) commits.is ∙ ap (counted (is_full fault)) reads.fulls
 
--- how often a commit was called by reads and then one: once, and by reads alone never
-pub commits_then : (old mid : KeeperView) (new : Counts) (fault : Option KeepFault) → ReadsKeeper old mid None → new ≡ committed fault mid.counts → AtMostOneCommit old.counts new
-commits_then old mid new fault reads commits = inr (ap (λ (c : Counts). c.commits) commits ∙ ap (counted true) reads.commits)
+-- how often a commit was called by reads and then one: once, which synced four times at most; and by reads alone never
+pub commits_then : (old mid : KeeperView) (new : Counts) (fault : Option KeepFault) → ReadsKeeper old mid None → CountsCommit fault mid.counts new → AtMostOneCommit old.counts new
+commits_then old mid new fault reads commits = inr (ap (λ (c : Counts). c.commits) commits.is ∙ ap (counted true) reads.commits, omega (arith, commits.few, reads.syncs))
 
 pub commits_read : (old new : KeeperView) (fault : Option KeepFault) → ReadsKeeper old new fault → AtMostOneCommit old.counts new.counts
-commits_read old new fault reads = inl reads.commits
+commits_read old new fault reads = inl (reads.commits, reads.syncs)
 
 -- ---- hearing and saying
 
@@ -176,7 +177,7 @@ apart_then old mid new first second = record {
 }
 
 pub says_none : (k : KeeperView) → KeeperSays [] k k
-says_none k = record { apart = apart_all k; said = sym (with_suffix-nil k.beside.said); left = refl; hearings = refl; hear_faults = refl; time = λ ready m holds. passes_none k.time _ }
+says_none k = record { apart = apart_all k; said = sym (with_suffix-nil k.beside.said); left = refl; hearings = refl; ends = refl; hear_faults = refl; time = λ ready m holds. passes_none k.time _ }
 
 -- one piece said, and then another
 pub says_then : (old mid new : KeeperView) (a b : List ℕ) → KeeperSays a old mid → KeeperSays b mid new → KeeperSays (a ++ b) old new
@@ -185,6 +186,7 @@ says_then old mid new a b first second = record {
   said = second.said ∙ ap (λ (told : Option (List ℕ)). with_suffix told b) first.said ∙ with_suffix_twice old.beside.said a b;
   left = second.left ∙ first.left;
   hearings = second.hearings ∙ first.hearings;
+  ends = second.ends ∙ first.ends;
   hear_faults = second.hear_faults ∙ first.hear_faults;
   time = λ ready m holds.
       passes_then old.time mid.time new.time _

@@ -2,6 +2,7 @@
 use Rattle.std.specs.Prelude.{ℕ, ◌≡◌, ◌⊎◌, ◌+◌, ◌-◌, ◌^◌, ◌<◌, ◌≤◌, ◌==◌, ◌||◌, min, Bool, true, false, List, [], ◌∷◌, length, Option, Some, None, Result, Ok, Err, refl}
 use Rattle.std.specs.Bool.{if◌then◌else◌}
 use Rattle.std.specs.Result.{IfOk}
+use Rattle.std.proofs.Common.{arith}
 use base.Fml.{GName}
 use Rattle.ct_base.specs.Told.{IsSaid, with_prefix, with_suffix, SaysPart}
 use Rattle.ct_base.specs.Moments.{Timeline, Passes, AddsNothing}
@@ -12,14 +13,15 @@ use Rattle.ct_keep.specs.declared.keepers.KeepFault.TheVariants.{Memory, Disk, F
 use Rattle.ct_keep.specs.Content.{Content, IsEntry, weight}
 use Rattle.ct_keep.specs.Changes.{AnyEntry}
 
--- How often entries of some kinds were asked for or handed out, how often a commit was refused for want of room, and how often one
--- was called, however it ended; each up to 2 ^ 64 - 1.
+-- How often entries of some kinds were asked for or handed out, how often a commit was refused for want of room, how often one
+-- was called, however it ended, and how often the disk was synced; each up to 2 ^ 64 - 1.
 pub record Counts : Type 0 where
   pub texts : ℕ
   pub rows : ℕ
   pub rules : ℕ
   pub fulls : ℕ
   pub commits : ℕ
+  pub syncs : ℕ
 
 -- What never changes.
 pub record Fixed : Type 0 where
@@ -93,7 +95,7 @@ pub record SameButContent (old new : KeeperView) (fault : Option KeepFault) : Ty
 pub record IsDurable (k : KeeperView) : Type 0 where
   pub here : (m : Content) → k.content ≡ Some m → (stopped : Option Content) (said : List ℕ) → k.now stopped said → (stopped ≡ Some m) × IsSaid k.beside.said said
 
--- A call, or some calls, only read. They commit nothing, so they don't find the store full.
+-- A call, or some calls, only read. They commit nothing, so they don't find the store full, and sync nothing.
 pub record ReadsKeeper (old new : KeeperView) (fault : Option KeepFault) : Type 0 where
   pub not_full : fault ≡ Some Full → ⊥
   pub kept : SameButContent old new fault
@@ -102,6 +104,7 @@ pub record ReadsKeeper (old new : KeeperView) (fault : Option KeepFault) : Type 
   pub now : (stopped : Option Content) (said : List ℕ) → new.now stopped said → old.now stopped said
   pub fulls : new.counts.fulls ≡ old.counts.fulls
   pub commits : new.counts.commits ≡ old.counts.commits
+  pub syncs : new.counts.syncs ≡ old.counts.syncs
 
 -- A call with this result only read, by the view of a keeper before and after it.
 abbrev pub OnlyReads : {K T : Type 0} → (K → KeeperView) → K → K → Result T KeepFault → Type 0
@@ -140,13 +143,14 @@ looked_up asked handed c = record {
   rules = counted (is_either 0x2a asked handed) c.rules;
   fulls = c.fulls;
   commits = c.commits;
+  syncs = c.syncs;
 }
 
 abbrev pub is_full : Option KeepFault → Bool
 is_full (Some Full) = true
 is_full fault = false
 
--- the counts after a commit
+-- the counts after a commit that synced nothing
 abbrev pub committed : Option KeepFault → Counts → Counts
 committed fault c = record {
   texts = c.texts;
@@ -154,11 +158,17 @@ committed fault c = record {
   rules = c.rules;
   fulls = counted (is_full fault) c.fulls;
   commits = counted true c.commits;
+  syncs = c.syncs;
 }
 
--- A commit was called once, or none was.
+-- A commit that ended so was counted, and synced the disk four times at most.
+pub record CountsCommit (fault : Option KeepFault) (old new : Counts) : Type 0 where
+  pub is : new ≡ record (committed fault old) { syncs = new.syncs }
+  pub few : new.syncs ≤ old.syncs + 4
+
+-- A commit was called once, which synced the disk four times at most, or none was called and nothing was synced.
 abbrev pub AtMostOneCommit : Counts → Counts → Type 0
-AtMostOneCommit old new = (new.commits ≡ old.commits) ⊎ (new.commits ≡ counted true old.commits)
+AtMostOneCommit old new = ((new.commits ≡ old.commits) × (new.syncs ≡ old.syncs)) ⊎ ((new.commits ≡ counted true old.commits) × (new.syncs ≤ old.syncs + 4))
 
 -- ---- commits
 
@@ -209,7 +219,7 @@ pub record SameStore (old new : KeeperView) : Type 0 where
   pub counts : new.counts ≡ old.counts
   pub disk_faults : new.disk_faults ≡ old.disk_faults
 
--- Bytes of the script were heard by one call, and nothing else was done.
+-- Bytes of the script were heard by one call, and nothing else was done, but that the end may have been told.
 pub record KeeperHears (heard : List ℕ) (old new : KeeperView) : Type 0 where
   pub apart : SameStore old new
   pub left : old.beside.left ≡ with_prefix heard new.beside.left
@@ -224,6 +234,7 @@ pub record KeeperSays (told : List ℕ) (old new : KeeperView) : Type 0 where
   pub said : new.beside.said ≡ with_suffix old.beside.said told
   pub left : new.beside.left ≡ old.beside.left
   pub hearings : new.beside.hearings ≡ old.beside.hearings
+  pub ends : new.beside.ends ≡ old.beside.ends
   pub hear_faults : new.beside.hear_faults ≡ old.beside.hear_faults
   pub time : old.ready → (m : Content) → old.content ≡ Some m → Passes old.time new.time (λ stopped said. (stopped ≡ Some m) × SaysPart old.beside.said told said)
 
@@ -233,17 +244,21 @@ pub record PassesRoom (room : Option ℕ) (told : Option (List ℕ)) (bytes : Li
 
 -- computed examples: a text that is asked for, a posting row that is handed out where a document was asked for, and a count at its end
 abbrev nothing_yet : Counts
-nothing_yet = record { texts = 0; rows = 0; rules = 0; fulls = 0; commits = 0 }
+nothing_yet = record { texts = 0; rows = 0; rules = 0; fulls = 0; commits = 0; syncs = 0 }
 
-one_text : looked_up (0x03 ∷ 1 ∷ []) None nothing_yet ≡ record { texts = 1; rows = 0; rules = 0; fulls = 0; commits = 0 }
+one_text : looked_up (0x03 ∷ 1 ∷ []) None nothing_yet ≡ record { texts = 1; rows = 0; rules = 0; fulls = 0; commits = 0; syncs = 0 }
 one_text = refl
 
-one_row : looked_up (0x22 ∷ []) (Some (0x24 ∷ 1 ∷ [])) nothing_yet ≡ record { texts = 0; rows = 1; rules = 0; fulls = 0; commits = 0 }
+one_row : looked_up (0x22 ∷ []) (Some (0x24 ∷ 1 ∷ [])) nothing_yet ≡ record { texts = 0; rows = 1; rules = 0; fulls = 0; commits = 0; syncs = 0 }
 one_row = refl
 
 -- a commit that was refused for want of room was called too
-one_commit : committed (Some Full) nothing_yet ≡ record { texts = 0; rows = 0; rules = 0; fulls = 1; commits = 1 }
+one_commit : committed (Some Full) nothing_yet ≡ record { texts = 0; rows = 0; rules = 0; fulls = 1; commits = 1; syncs = 0 }
 one_commit = refl
+
+-- one that synced the disk four times
+four_syncs : CountsCommit None nothing_yet (record nothing_yet { commits = 1; syncs = 4 })
+four_syncs = record { is = refl; few = omega arith }
 
 disk_failed : disk_faults_after (Some Disk) 4 ≡ 5
 disk_failed = refl

@@ -4,11 +4,11 @@ ghost use Rattle.std.specs.Prelude.{◌≡◌, ◌≤◌, ◌<◌, ◌↔◌, �
 ghost use Rattle.std.specs.Option.{option_map};
 ghost use Rattle.std.specs.FinMap.{get};
 ghost use Rattle.ct_base.specs.Told.{took, IsNothing, IsSaid};
-ghost use Rattle.ct_site.specs.FaultCounts.{CountsFaults};
+ghost use Rattle.ct_site.specs.FaultCounts.{CountsFaults, ends_after};
 ghost use Rattle.ct_keep.specs.Content.{Content, after, entries_above, first_entry};
 ghost use Rattle.ct_keep.specs.Changes.{AreWell, HoldsWell};
 ghost use Rattle.ct_keep.specs.Counting.{count_under, IsOwner};
-ghost use Rattle.ct_keep.specs.KeeperViews.{Finds, Told, KeeperView, SameButContent, OnlyReads, Goes, AnswersCommit, IsDurable, KeeperHears, KeeperSays, PassesRoom, fault_of, looked_up, committed};
+ghost use Rattle.ct_keep.specs.KeeperViews.{Finds, Told, KeeperView, SameButContent, OnlyReads, Goes, AnswersCommit, IsDurable, KeeperHears, KeeperSays, PassesRoom, fault_of, looked_up, CountsCommit};
 ghost use Rattle.ct_keep.specs.Handed.{handed};
 
 use crate::batches::Batch;
@@ -82,7 +82,7 @@ pub trait Keeper {
         ensures kept { SameButContent (view self.old) (view self.new) (fault_of result) }
         ensures goes { (m : Content) → (view self.old).content ≡ Some m → Goes m (after batch m) (view self.old) (view self.new) (fault_of result) }
         ensures answers { (m : Content) → (view self.old).content ≡ Some m → AnswersCommit (fault_of result) (view self.old).fixed.limit m (after batch m) }
-        ensures counts { (view self.new).counts ≡ committed (fault_of result) (view self.old).counts };
+        ensures counts { CountsCommit (fault_of result) (view self.old).counts (view self.new).counts };
 
     /// Takes bytes of the script into the beginning of `into`, and answers how many. 0 means the end of the script. It may be
     /// called after Disk too.
@@ -91,6 +91,7 @@ pub trait Keeper {
         ensures bound { IfOk result (λ count. count ≤ length into.old) }
         ensures hears { KeeperHears (took result into.new) (view self.old) (view self.new) }
         ensures end { result ≡ Ok 0 → IsNothing (view self.new).beside.left }
+        ensures ends { (view self.new).beside.ends ≡ ends_after result (view self.old).beside.ends }
         ensures cause { CountsFaults (view self.old).beside.hear_faults (view self.new).beside.hear_faults result };
 
     /// Says bytes from the beginning of `bytes`, at least one, and answers how many. Where it is told what was said and how many bytes

@@ -3,7 +3,7 @@
 ghost use Rattle.std.specs.Prelude.{◌≡◌, ◌+◌, ◌-◌, ◌^◌, ◌≤◌, ◌↔◌, ◌++◌, [], true, Some, None, Ok, Err, IfOk, OnOk, OnErr, IsOk, length, min, take, drop};
 ghost use Rattle.std.specs.FinMap.{get};
 ghost use Rattle.std.specs.Option.{option_map};
-ghost use Rattle.ct_site.specs.FaultCounts.{CountsFaults};
+ghost use Rattle.ct_site.specs.FaultCounts.{CountsFaults, ends_after};
 ghost use Rattle.ct_keep.specs.Content.{after, entries_above, first_entry};
 ghost use Rattle.ct_keep.specs.Counting.{count_under, IsOwner};
 ghost use Rattle.ct_keep.specs.Handed.{handed};
@@ -31,6 +31,7 @@ pub struct MemKeeper {
     said: Vec<u8>,
     said_room: usize,
     say_faults: u64,
+    ends: u64,
 }
 
 impl Model for MemKeeper {
@@ -41,7 +42,7 @@ impl Model for MemKeeper {
 
     ghost coded = { keeper_state_code };
 
-    ghost view = { λ k. record { content = k.held.content; entries = k.held.entries; limit = k.held.limit; counts = k.held.counts; left = drop k.heard k.script.items; said = k.said.items; said_room = k.said_room; say_faults = k.say_faults } };
+    ghost view = { λ k. record { content = k.held.content; entries = k.held.entries; limit = k.held.limit; counts = k.held.counts; left = drop k.heard k.script.items; said = k.said.items; said_room = k.said_room; say_faults = k.say_faults; ends = k.ends } };
 
     ghost invariant = { λ k. IsRoomy k.script.items k.heard k.said k.said_room };
 }
@@ -64,6 +65,7 @@ impl MemKeeper {
             said,
             said_room,
             say_faults: 0,
+            ends: 0,
         })
     }
 
@@ -121,11 +123,14 @@ impl Keeper for MemKeeper {
     fn hear(&mut self, into: &mut [u8]) -> Result<usize, Failed>
         ensures count { result ≡ Ok (min (length into.old) (length self.old.left)) }
         ensures heard { IfOk result (λ count. take count into.new ≡ take count self.old.left) }
-        ensures state { IfOk result (λ count. self.new ≡ record self.old { left = drop count self.old.left }) }
+        ensures state { IfOk result (λ count. self.new ≡ record self.old { left = drop count self.old.left; ends = ends_after result self.old.ends }) }
     {
         let count = into.len().min(self.script.len() - self.heard);
         into[..count].copy_from_slice(&self.script[self.heard..self.heard + count]);
         self.heard += count;
+        if count == 0 {
+            self.ends = self.ends.saturating_add(1);
+        }
         Ok(count)
     }
 

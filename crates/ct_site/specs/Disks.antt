@@ -15,6 +15,8 @@ pub record Beside : Type 0 where
   pub said : Option (List ℕ)
   -- the calls of `hear` so far, where they are told; one more between which and the last nothing was heard or said may be left out
   pub hearings : Option (List Hearing)
+  -- how often `hear` was told the end of the script, up to 2^64 - 1
+  pub ends : ℕ
   -- how often hearing and saying failed, up to 2^64 - 1
   pub hear_faults : ℕ
   pub say_faults : ℕ
@@ -29,6 +31,8 @@ pub record DiskView : Type 1 where
   pub time : Timeline (List ℕ)
   -- how often a call of the disk failed, up to 2^64 - 1
   pub faults : ℕ
+  -- how often `sync` was called, however it ended, up to 2^64 - 1
+  pub syncs : ℕ
 
 -- a crash between two calls may leave this image, when this was said
 abbrev pub IsNow : DiskView → List ℕ → List ℕ → Type 0
@@ -47,11 +51,12 @@ FollowsBy step old new = (image : List ℕ) → new image → (before : List ℕ
 abbrev pub MakesDurable : {T : Type 0} → DiskView → DiskView → Result T Failed → Type 0
 MakesDurable old new result = (image : List ℕ) → old.image ≡ Some image → OnOk result ((left : List ℕ) → new.may_leave left → left ≡ image)
 
--- A read gives what it gave, a crash leaves nothing new, and no moment came between.
+-- A read gives what it gave, a crash leaves nothing new, no moment came between, and nothing was synced.
 pub record IsSame (old new : DiskView) : Type 0 where
   pub image : new.image ≡ old.image
   pub crash : (image : List ℕ) → new.may_leave image → old.may_leave image
   pub time : AddsNothing old.time new.time
+  pub syncs : new.syncs ≡ old.syncs
 
 -- What every call of a disk keeps, and every function that makes such calls alone.
 pub record Works {T : Type 0} (old new : DiskView) (result : Result T Failed) : Type 0 where
@@ -110,7 +115,7 @@ pub record Asks (old new : Beside) : Type 0 where
   pub notes : (h : Hearing) → is_some old.hearings ≡ true → IsHearing old h → WasCalled new.hearings h
   pub adds : (h : Hearing) → WasCalled new.hearings h → WasCalled old.hearings h ⊎ IsHearing old h
 
--- Bytes of the script were heard by one call, and nothing else was done.
+-- Bytes of the script were heard by one call, and nothing else was done, but that the end may have been told.
 pub record Hears (heard : List ℕ) (old new : DiskView) : Type 0 where
   pub left : old.beside.left ≡ with_prefix heard new.beside.left
   pub said : new.beside.said ≡ old.beside.said
@@ -125,9 +130,11 @@ pub record Says (told : List ℕ) (old new : DiskView) : Type 0 where
   pub said : new.beside.said ≡ with_suffix old.beside.said told
   pub left : new.beside.left ≡ old.beside.left
   pub hearings : new.beside.hearings ≡ old.beside.hearings
+  pub ends : new.beside.ends ≡ old.beside.ends
   pub hear_faults : new.beside.hear_faults ≡ old.beside.hear_faults
   pub image : new.image ≡ old.image
   pub crash : (image : List ℕ) → new.may_leave image → old.may_leave image
   pub time : Passes old.time new.time (λ image said. old.may_leave image × SaysPart old.beside.said told said)
   pub kept : Grows old.time new.time
   pub faults : new.faults ≡ old.faults
+  pub syncs : new.syncs ≡ old.syncs

@@ -1,5 +1,5 @@
--- Counts of faults. One fault more raises a count by one; it stands still at 2^64 - 1.
-use Rattle.std.specs.Prelude.{◌≡◌, ℕ, ◌+◌, ◌-◌, ◌^◌, ◌≤◌, min, if◌then◌else◌, Result, Ok, Err, is_err, refl}
+-- Counts of faults, and of how often the end of the script was told. One more raises a count by one; it stands still at 2^64 - 1.
+use Rattle.std.specs.Prelude.{◌≡◌, ℕ, ◌+◌, ◌-◌, ◌^◌, ◌≤◌, ◌==◌, min, Bool, if◌then◌else◌, Result, Ok, Err, is_err, refl}
 use Rattle.std.specs.Result.{OnOk, OnErr}
 use Rattle.std.proofs.Common.{◌∙◌, ap, arith}
 use Rattle.ct_base.specs.Causes.{Rose}
@@ -7,6 +7,15 @@ use Rattle.ct_base.specs.Causes.{Rose}
 -- a count after one more, up to 2^64 - 1
 abbrev pub raised : ℕ → ℕ
 raised n = min (n + 1) (2 ^ 64 - 1)
+
+-- and after one more, if that is to be counted
+abbrev pub raised_if : Bool → ℕ → ℕ
+raised_if counts n = if counts then raised n else n
+
+-- how often the end of the script was told, after one more call of `hear`: it is told by Ok 0
+abbrev pub ends_after : {E : Type 0} → Result ℕ E → ℕ → ℕ
+ends_after (Ok count) n = raised_if (count == 0) n
+ends_after (Err fault) n = n
 
 -- a count after a call that may have failed
 abbrev pub faults_after : {T E : Type 0} → Result T E → ℕ → ℕ
@@ -40,6 +49,12 @@ a_fault = refl
 
 no_fault : faults_after {T = ℕ} {E = ℕ} (Ok 7) 4 ≡ 4
 no_fault = refl
+
+end_told : ends_after {E = ℕ} (Ok 0) 0 ≡ 1
+end_told = refl
+
+bytes_heard : ends_after {E = ℕ} (Ok 3) 1 ≡ 1
+bytes_heard = refl
 
 at_its_end : raised (2 ^ 64 - 1) ≡ 2 ^ 64 - 1
 at_its_end = refl

@@ -3,7 +3,7 @@ use Rattle.std.specs.Prelude.{◌≡◌, ℕ, ◌+◌, ◌^◌, ◌==◌, nat_le
 use Rattle.std.specs.List.{list_any}
 use Rattle.ct_site.specs.declared.fault_lists.Faults.{Faults}
 use Rattle.ct_site.specs.declared.room_sizes.Rooms.{Rooms}
-use Rattle.ct_site.specs.FaultCounts.{raised}
+use Rattle.ct_site.specs.FaultCounts.{raised, raised_if}
 use Rattle.ct_site.specs.Hearings.{Hearing, with_present}
 use Rattle.ct_site.specs.Disks.{DiskView}
 use Rattle.ct_site.specs.Histories.{DiskChange, Wrote, Synced, Said, begun, disk_after, said_by, timeline}
@@ -31,6 +31,9 @@ pub record MemState : Type 0 where
   pub hear_faults : ℕ
   pub say_faults : ℕ
   pub disk_faults : ℕ
+  -- how often `sync` was called, and how often `hear` was told the end of the script, up to 2^64 - 1
+  pub syncs : ℕ
+  pub ends : ℕ
 
 -- the image as a read gives it, and the bytes said
 abbrev pub image_of : MemState → List ℕ
@@ -48,9 +51,10 @@ abbrev pub memory_view : MemState → DiskView
 memory_view s = record {
   image = Some (image_of s);
   may_leave = (disk_after (begun s.first) s.log).may_leave;
-  beside = record { left = Some s.left; said = Some (said_of s); hearings = Some (hearings_of s); hear_faults = s.hear_faults; say_faults = s.say_faults };
+  beside = record { left = Some s.left; said = Some (said_of s); hearings = Some (hearings_of s); ends = s.ends; hear_faults = s.hear_faults; say_faults = s.say_faults };
   time = timeline s.first s.log;
   faults = s.disk_faults;
+  syncs = s.syncs;
 }
 
 abbrev pub no_faults : Faults
@@ -74,6 +78,8 @@ fresh script image faults rooms = record {
   hear_faults = 0;
   say_faults = 0;
   disk_faults = 0;
+  syncs = 0;
+  ends = 0;
 }
 
 -- whether the call after so many calls is listed as one that fails
@@ -131,6 +137,9 @@ say_counted s = record s { calls = raised s.calls; say_calls = raised s.say_call
 abbrev pub disk_counted : MemState → MemState
 disk_counted s = record s { calls = raised s.calls; disk_calls = raised s.disk_calls }
 
+abbrev pub sync_counted : MemState → MemState
+sync_counted s = record s { calls = raised s.calls; disk_calls = raised s.disk_calls; syncs = raised s.syncs }
+
 -- after each call that failed
 abbrev pub hear_failed : MemState → MemState
 hear_failed s = record s { calls = raised s.calls; hear_calls = raised s.hear_calls; has_asked = true; hear_faults = raised s.hear_faults }
@@ -141,6 +150,9 @@ say_failed s = record s { calls = raised s.calls; say_calls = raised s.say_calls
 abbrev pub disk_failed : MemState → MemState
 disk_failed s = record s { calls = raised s.calls; disk_calls = raised s.disk_calls; disk_faults = raised s.disk_faults }
 
+abbrev pub sync_failed : MemState → MemState
+sync_failed s = record s { calls = raised s.calls; disk_calls = raised s.disk_calls; disk_faults = raised s.disk_faults; syncs = raised s.syncs }
+
 -- after so many bytes of the script were heard
 abbrev pub heard : MemState → ℕ → MemState
 heard s count = record s {
@@ -149,6 +161,7 @@ heard s count = record s {
   left = drop count s.left;
   hearings = with_present s.hearings (nat_lt 0 count) s.left (said_of s);
   has_asked = count == 0;
+  ends = raised_if (count == 0) s.ends;
 }
 
 -- after these bytes were said
@@ -175,7 +188,7 @@ wrote s at bytes = record s {
 }
 
 abbrev pub after_sync : MemState → MemState
-after_sync s = record s { calls = raised s.calls; disk_calls = raised s.disk_calls; log = s.log ++ Synced ∷ [] }
+after_sync s = record s { calls = raised s.calls; disk_calls = raised s.disk_calls; log = s.log ++ Synced ∷ []; syncs = raised s.syncs }
 
 -- ---- computed examples, on a site whose second hearing, first saying and third call of the disk fail
 abbrev example : MemState
@@ -219,6 +232,12 @@ writing_past_room = refl
 
 third_call : sync_fails (looked (wrote example 0 (codes "z"))) ≡ true
 third_call = refl
+
+synced_once : (memory_view (after_sync example)).syncs ≡ 1
+synced_once = refl
+
+end_told_once : (memory_view (heard (heard example 3) 0)).beside.ends ≡ 1
+end_told_once = refl
 
 third_change : change_passes (after_sync (after_say example (codes "ok"))) ≡ true
 third_change = refl

@@ -27,6 +27,8 @@ state_of s = record {
   hear_faults = s.hear_faults;
   say_faults = s.say_faults;
   disk_faults = s.disk_faults;
+  syncs = s.syncs;
+  ends = s.ends;
 }
 
 -- the state with another log

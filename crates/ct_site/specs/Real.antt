@@ -1,4 +1,4 @@
--- A site over the real outside: its counts of faults are all that is known of it.
+-- A site over the real outside: its counts are all that is known of it.
 use Rattle.std.specs.Prelude.{◌≡◌, ℕ, List, Bool, false, None, Some, Result, Err, IsErr, refl}
 use Rattle.ct_site.specs.Disks.{DiskView}
 use Rattle.ct_site.specs.FaultCounts.{faults_after}
@@ -10,19 +10,23 @@ pub record RealState : Type 0 where
   pub hear_faults : ℕ
   pub say_faults : ℕ
   pub disk_faults : ℕ
+  -- how often `sync` was called, and how often `hear` was told the end of the script, up to 2^64 - 1
+  pub syncs : ℕ
+  pub ends : ℕ
 
 -- what it tells: the counts alone
 abbrev pub real_view : RealState → DiskView
 real_view s = record {
   image = None;
   may_leave = λ image. ⊥;
-  beside = record { left = None; said = None; hearings = None; hear_faults = s.hear_faults; say_faults = s.say_faults };
+  beside = record { left = None; said = None; hearings = None; ends = s.ends; hear_faults = s.hear_faults; say_faults = s.say_faults };
   time = record { clock = 0; since = λ t image said. ⊥ };
   faults = s.disk_faults;
+  syncs = s.syncs;
 }
 
 abbrev pub unused : Bool → RealState
-unused has_path = record { has_path = has_path; hear_faults = 0; say_faults = 0; disk_faults = 0 }
+unused has_path = record { has_path = has_path; hear_faults = 0; say_faults = 0; disk_faults = 0; syncs = 0; ends = 0 }
 
 -- a crash may leave what a read gives: no read is told to give anything
 pub may_stay : (s : RealState) (image : List ℕ) → (real_view s).image ≡ Some image → (real_view s).may_leave image

@@ -1,7 +1,7 @@
-//! Counts of calls and of faults, which stand still at 2^64 - 1.
+//! Counts of calls, of faults, and of how often the end of the script was told, which stand still at 2^64 - 1.
 
-ghost use Rattle.std.specs.Prelude.{◌≡◌, ◌≤◌};
-ghost use Rattle.ct_site.specs.FaultCounts.{raised};
+ghost use Rattle.std.specs.Prelude.{◌≡◌, ◌≤◌, ◌==◌};
+ghost use Rattle.ct_site.specs.FaultCounts.{raised, raised_if};
 ghost use Rattle.ct_site.specs.Memory.{is_listed, is_past};
 
 use crate::outside::Failed;
@@ -27,6 +27,22 @@ pub(crate) fn count_stop(calls: &mut u64, stop: Option<u64>) -> bool
     };
     *calls = calls.saturating_add(1);
     is_past
+}
+
+/// Counts one more.
+pub(crate) fn count_one(count: &mut u64)
+    ensures { count.new ≡ raised count.old }
+{
+    *count = count.saturating_add(1);
+}
+
+/// Counts an end of the script, which is told where no byte was heard.
+pub(crate) fn count_end(ends: &mut u64, heard: usize)
+    ensures { ends.new ≡ raised_if (heard == 0) ends.old }
+{
+    if heard == 0 {
+        count_one(ends);
+    }
 }
 
 /// Counts a fault.

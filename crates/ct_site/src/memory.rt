@@ -4,12 +4,12 @@ ghost use Rattle.std.specs.Prelude.{◌≡◌, ◌≤◌, ◌<◌, ◌+◌, ◌^
 ghost use Rattle.std.specs.Option.{option_map};
 ghost use Rattle.std.specs.Vec.{vec_capacity};
 ghost use Rattle.ct_base.specs.Told.{took, IsNothing};
-ghost use Rattle.ct_site.specs.FaultCounts.{CountsFaults};
+ghost use Rattle.ct_site.specs.FaultCounts.{CountsFaults, ends_after, raised};
 ghost use Rattle.ct_site.specs.Images.{written, Torn};
 ghost use Rattle.ct_site.specs.Lengths.{Lengthens};
 ghost use Rattle.ct_site.specs.Disks.{DiskView, FollowsBy, IsSame, Leaves, MakesDurable, Works, Hears, Says};
 
-use crate::counts::{count_call, count_fault, count_stop};
+use crate::counts::{count_call, count_end, count_fault, count_one, count_stop};
 use crate::fault_lists::Faults;
 use crate::logs::Log;
 use crate::outside::{Disk, Failed, LONGEST, Site};
@@ -41,6 +41,8 @@ pub struct MemSite {
     hear_faults: u64,
     say_faults: u64,
     disk_faults: u64,
+    syncs: u64,
+    ends: u64,
 }
 
 impl Model for MemSite {
@@ -56,7 +58,7 @@ impl Model for MemSite {
 }
 
 impl MemSite {
-    ghost use Rattle.ct_site.specs.Memory.{fresh, image_of, said_of, memory_view, change_passes, say_passes, write_passes, hear_fails, say_faulty, look_fails, hear_counted, say_counted, disk_counted};
+    ghost use Rattle.ct_site.specs.Memory.{fresh, image_of, said_of, memory_view, change_passes, say_passes, write_passes, hear_fails, say_faulty, look_fails, hear_counted, say_counted, disk_counted, sync_counted};
     ghost use Rattle.ct_site.specs.Crashes.{crashed};
 
     /// A site with this script and this image, on which no call was made. It takes all the memory that its rooms need, that of
@@ -91,6 +93,8 @@ impl MemSite {
             hear_faults: 0,
             say_faults: 0,
             disk_faults: 0,
+            syncs: 0,
+            ends: 0,
         })
     }
 
@@ -147,6 +151,15 @@ impl MemSite {
         is_past || is_listed
     }
 
+    /// Counts a sync, and tells whether it fails, whatever is to be synced.
+    fn count_sync(&mut self) -> bool
+        ensures counted { self.new ≡ sync_counted self.old }
+        ensures fails { result ≡ look_fails self.old }
+    {
+        count_one(&mut self.syncs);
+        self.count_disk()
+    }
+
     /// Whether saying so many bytes passes no room.
     fn may_say(&self, count: usize) -> bool
         ensures { result ≡ not (say_passes self.now count) }
@@ -182,7 +195,7 @@ fn overwrite(image: &mut Vec<u8>, at: usize, bytes: &[u8])
 }
 
 impl Disk for MemSite {
-    ghost use Rattle.ct_site.specs.Memory.{image_of, memory_view, look_fails, write_fails, sync_fails, disk_failed, looked, wrote, after_sync};
+    ghost use Rattle.ct_site.specs.Memory.{image_of, memory_view, look_fails, write_fails, sync_fails, disk_failed, sync_failed, looked, wrote, after_sync};
     ghost use Rattle.ct_site.specs.Changing.{may_stay, counts_now, only_now};
 
     ghost disk = { memory_view };
@@ -231,6 +244,7 @@ impl Disk for MemSite {
         ensures crash { FollowsBy (Torn at (length bytes.now)) (memory_view self.old).may_leave (memory_view self.new).may_leave }
         ensures leaves { Leaves (memory_view self.old) (memory_view self.new) (memory_view self.new).may_leave }
         ensures grows { Lengthens (at + length bytes.now) (memory_view self.old) (memory_view self.new) }
+        ensures syncs { (memory_view self.new).syncs ≡ (memory_view self.old).syncs }
         ensures works { Works (memory_view self.old) (memory_view self.new) result }
 
         ensures fails { IsErr result ↔ IsTrue (write_fails self.old at (length bytes.now)) }
@@ -251,13 +265,14 @@ impl Disk for MemSite {
         ensures image { (memory_view self.new).image ≡ (memory_view self.old).image }
         ensures crash { (left : List ℕ) → (memory_view self.new).may_leave left → (memory_view self.old).may_leave left }
         ensures leaves { Leaves (memory_view self.old) (memory_view self.new) (memory_view self.old).may_leave }
+        ensures syncs { (memory_view self.new).syncs ≡ raised (memory_view self.old).syncs }
         ensures works { Works (memory_view self.old) (memory_view self.new) result }
 
         ensures fails { IsErr result ↔ IsTrue (sync_fails self.old) }
         ensures done { OnOk result (self.new ≡ after_sync self.old) }
-        ensures failed { OnErr result (self.new ≡ disk_failed self.old) }
+        ensures failed { OnErr result (self.new ≡ sync_failed self.old) }
     {
-        if self.count_disk() || !self.log.may_change() {
+        if self.count_sync() || !self.log.may_change() {
             return Err(count_fault(&mut self.disk_faults));
         }
         self.log.sync();
@@ -280,6 +295,7 @@ impl Site for MemSite {
         ensures bound { IfOk result (λ count. count ≤ length into.old) }
         ensures hears { Hears (took result into.new) (memory_view self.old) (memory_view self.new) }
         ensures end { result ≡ Ok 0 → IsNothing (memory_view self.new).beside.left }
+        ensures ends { (memory_view self.new).beside.ends ≡ ends_after result (memory_view self.old).beside.ends }
         ensures cause { CountsFaults self.old.hear_faults self.new.hear_faults result }
 
         ensures fails { IsErr result ↔ IsTrue (hear_fails self.old) }
@@ -299,6 +315,7 @@ impl Site for MemSite {
             said: self.log.said_count(),
         };
         keep_place(&mut self.hearings, count > 0, here);
+        count_end(&mut self.ends, count);
         self.has_asked = count == 0;
         self.taken += count;
         Ok(count)

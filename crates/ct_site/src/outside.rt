@@ -3,7 +3,7 @@
 ghost use Rattle.std.specs.Prelude.{◌≡◌, ◌≤◌, ◌<◌, ◌+◌, ◌^◌, ℕ, List, Option, Some, Ok, IfOk, OnOk, IsErr, length, take, drop};
 ghost use Rattle.std.specs.Option.{option_map};
 ghost use Rattle.ct_base.specs.Told.{took, IsNothing};
-ghost use Rattle.ct_site.specs.FaultCounts.{CountsFaults};
+ghost use Rattle.ct_site.specs.FaultCounts.{CountsFaults, ends_after, raised};
 ghost use Rattle.ct_site.specs.Images.{written, Torn};
 ghost use Rattle.ct_site.specs.Lengths.{Lengthens};
 ghost use Rattle.ct_site.specs.Disks.{DiskView, FollowsBy, IsNow, IsSame, Leaves, MakesDurable, Works, Hears, Says};
@@ -48,6 +48,7 @@ pub trait Disk {
         ensures crash { FollowsBy (Torn at (length bytes.now)) (disk self.old).may_leave (disk self.new).may_leave }
         ensures leaves { Leaves (disk self.old) (disk self.new) (disk self.new).may_leave }
         ensures grows { Lengthens (at + length bytes.now) (disk self.old) (disk self.new) }
+        ensures syncs { (disk self.new).syncs ≡ (disk self.old).syncs }
         ensures works { Works (disk self.old) (disk self.new) result };
 
     /// Makes what was written last: after it a crash leaves what a read gives.
@@ -56,6 +57,7 @@ pub trait Disk {
         ensures image { (disk self.new).image ≡ (disk self.old).image }
         ensures crash { (left : List ℕ) → (disk self.new).may_leave left → (disk self.old).may_leave left }
         ensures leaves { Leaves (disk self.old) (disk self.new) (disk self.old).may_leave }
+        ensures syncs { (disk self.new).syncs ≡ raised (disk self.old).syncs }
         ensures works { Works (disk self.old) (disk self.new) result };
 
     /// A crash may leave what a read gives.
@@ -76,6 +78,7 @@ pub trait Site: Disk {
         ensures bound { IfOk result (λ count. count ≤ length into.old) }
         ensures hears { Hears (took result into.new) (Self.disk self.old) (Self.disk self.new) }
         ensures end { result ≡ Ok 0 → IsNothing (Self.disk self.new).beside.left }
+        ensures ends { (Self.disk self.new).beside.ends ≡ ends_after result (Self.disk self.old).beside.ends }
         ensures cause { CountsFaults (Self.disk self.old).beside.hear_faults (Self.disk self.new).beside.hear_faults result };
 
     /// Says bytes from the beginning of `bytes`, at least one, and answers how many.

@@ -3,7 +3,7 @@
 ghost use Rattle.std.specs.Prelude.{◌≡◌, ◌≤◌, ◌<◌, ◌+◌, ◌^◌, ◌++◌, ◌↔◌, ℕ, List, Some, Ok, IfOk, OnOk, OnErr, IsOk, IsErr, IsTrue, length, take, drop, min, vec_len};
 ghost use Rattle.std.specs.Option.{option_map};
 ghost use Rattle.ct_base.specs.Told.{took, IsNothing};
-ghost use Rattle.ct_site.specs.FaultCounts.{CountsFaults};
+ghost use Rattle.ct_site.specs.FaultCounts.{CountsFaults, ends_after, raised};
 ghost use Rattle.ct_site.specs.Images.{written, Torn};
 ghost use Rattle.ct_site.specs.Lengths.{Lengthens};
 ghost use Rattle.ct_site.specs.Disks.{FollowsBy, IsSame, Leaves, MakesDurable, Works, Hears, Says};
@@ -67,7 +67,7 @@ impl QuietSite {
 }
 
 impl Disk for QuietSite {
-    ghost use Rattle.ct_site.specs.Memory.{image_of, memory_view, change_passes, write_passes, disk_failed, looked, wrote, after_sync};
+    ghost use Rattle.ct_site.specs.Memory.{image_of, memory_view, change_passes, write_passes, disk_failed, sync_failed, looked, wrote, after_sync};
     ghost use Rattle.ct_site.specs.Changing.{may_stay, counts_now, only_now};
 
     ghost disk = { memory_view };
@@ -106,6 +106,7 @@ impl Disk for QuietSite {
         ensures crash { FollowsBy (Torn at (length bytes.now)) (memory_view self.old).may_leave (memory_view self.new).may_leave }
         ensures leaves { Leaves (memory_view self.old) (memory_view self.new) (memory_view self.new).may_leave }
         ensures grows { Lengthens (at + length bytes.now) (memory_view self.old) (memory_view self.new) }
+        ensures syncs { (memory_view self.new).syncs ≡ (memory_view self.old).syncs }
         ensures works { Works (memory_view self.old) (memory_view self.new) result }
 
         ensures fails { IsErr result ↔ IsTrue (write_passes self.old at (length bytes.now)) }
@@ -121,11 +122,12 @@ impl Disk for QuietSite {
         ensures image { (memory_view self.new).image ≡ (memory_view self.old).image }
         ensures crash { (left : List ℕ) → (memory_view self.new).may_leave left → (memory_view self.old).may_leave left }
         ensures leaves { Leaves (memory_view self.old) (memory_view self.new) (memory_view self.old).may_leave }
+        ensures syncs { (memory_view self.new).syncs ≡ raised (memory_view self.old).syncs }
         ensures works { Works (memory_view self.old) (memory_view self.new) result }
 
         ensures fails { IsErr result ↔ IsTrue (change_passes self.old) }
         ensures done { OnOk result (self.new ≡ after_sync self.old) }
-        ensures failed { OnErr result (self.new ≡ disk_failed self.old) }
+        ensures failed { OnErr result (self.new ≡ sync_failed self.old) }
     {
         self.site.sync()
     }
@@ -146,6 +148,7 @@ impl Site for QuietSite {
         ensures bound { IfOk result (λ count. count ≤ length into.old) }
         ensures hears { Hears (took result into.new) (memory_view self.old) (memory_view self.new) }
         ensures end { result ≡ Ok 0 → IsNothing (memory_view self.new).beside.left }
+        ensures ends { (memory_view self.new).beside.ends ≡ ends_after result (memory_view self.old).beside.ends }
         ensures cause { CountsFaults self.old.hear_faults self.new.hear_faults result }
 
         ensures succeeds { IsOk result }

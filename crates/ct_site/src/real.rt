@@ -3,12 +3,12 @@
 ghost use Rattle.std.specs.Prelude.{◌≡◌, ◌≤◌, ◌<◌, ◌+◌, ◌^◌, ℕ, List, Some, Ok, IfOk, OnOk, IsErr, IsNone, is_some, false, length, take, drop};
 ghost use Rattle.std.specs.Option.{option_map};
 ghost use Rattle.ct_base.specs.Told.{took, IsNothing};
-ghost use Rattle.ct_site.specs.FaultCounts.{CountsFaults};
+ghost use Rattle.ct_site.specs.FaultCounts.{CountsFaults, ends_after, raised};
 ghost use Rattle.ct_site.specs.Images.{written, Torn};
 ghost use Rattle.ct_site.specs.Lengths.{Lengthens};
 ghost use Rattle.ct_site.specs.Disks.{FollowsBy, IsSame, Leaves, MakesDurable, Works, Hears, Says};
 
-use crate::counts::count_fault;
+use crate::counts::{count_end, count_fault, count_one};
 use crate::outside::{Disk, Failed, LONGEST, Site};
 use std::fs::{OpenFile, OpenOptions};
 use std::io;
@@ -17,7 +17,8 @@ use std::marker::Model;
 use std::rt::Files;
 
 /// The trusted edge: standard input is the script, what is said goes to standard output, and the disk is the file at a path.
-/// Nothing is known of their bytes. Each `Err` raises the count of its kind, up to 2^64 - 1.
+/// Nothing is known of their bytes. Each `Err` raises the count of its kind, up to 2^64 - 1; syncs are counted, and how often
+/// the end of the script was told.
 #[derive(Drop)]
 pub struct RealSite<'a, R: Input + Print + Files> {
     rt: &'a R,
@@ -27,6 +28,8 @@ pub struct RealSite<'a, R: Input + Print + Files> {
     hear_faults: u64,
     say_faults: u64,
     disk_faults: u64,
+    syncs: u64,
+    ends: u64,
 }
 
 impl<'a, R: Input + Print + Files> Model for RealSite<'a, R> {
@@ -35,7 +38,7 @@ impl<'a, R: Input + Print + Files> Model for RealSite<'a, R> {
 
     ghost Value = { RealState };
 
-    ghost view = { λ s. record { has_path = is_some s.path; hear_faults = s.hear_faults; say_faults = s.say_faults; disk_faults = s.disk_faults } };
+    ghost view = { λ s. record { has_path = is_some s.path; hear_faults = s.hear_faults; say_faults = s.say_faults; disk_faults = s.disk_faults; syncs = s.syncs; ends = s.ends } };
 }
 
 impl<'a, R: Input + Print + Files> RealSite<'a, R> {
@@ -54,6 +57,8 @@ impl<'a, R: Input + Print + Files> RealSite<'a, R> {
             hear_faults: 0,
             say_faults: 0,
             disk_faults: 0,
+            syncs: 0,
+            ends: 0,
         }
     }
 }
@@ -140,6 +145,7 @@ impl<R: Input + Print + Files> Disk for RealSite<'_, R> {
         ensures crash { FollowsBy (Torn at (length bytes.now)) (real_view self.old).may_leave (real_view self.new).may_leave }
         ensures leaves { Leaves (real_view self.old) (real_view self.new) (real_view self.new).may_leave }
         ensures grows { Lengthens (at + length bytes.now) (real_view self.old) (real_view self.new) }
+        ensures syncs { (real_view self.new).syncs ≡ (real_view self.old).syncs }
         ensures works { Works (real_view self.old) (real_view self.new) result }
         ensures uses { UsesFile self.old self.new result }
     {
@@ -158,9 +164,11 @@ impl<R: Input + Print + Files> Disk for RealSite<'_, R> {
         ensures image { (real_view self.new).image ≡ (real_view self.old).image }
         ensures crash { (left : List ℕ) → (real_view self.new).may_leave left → (real_view self.old).may_leave left }
         ensures leaves { Leaves (real_view self.old) (real_view self.new) (real_view self.old).may_leave }
+        ensures syncs { (real_view self.new).syncs ≡ raised (real_view self.old).syncs }
         ensures works { Works (real_view self.old) (real_view self.new) result }
-        ensures uses { UsesFile self.old self.new result }
+        ensures uses { UsesFile (record self.old { syncs = raised self.old.syncs }) self.new result }
     {
+        count_one(&mut self.syncs);
         if let Some(file) = opened(self.rt, self.path, &mut self.file)
             && sync_all(file).is_ok()
         {
@@ -186,8 +194,9 @@ impl<R: Input + Print + Files> Site for RealSite<'_, R> {
         ensures bound { IfOk result (λ count. count ≤ length into.old) }
         ensures hears { Hears (took result into.new) (real_view self.old) (real_view self.new) }
         ensures end { result ≡ Ok 0 → IsNothing (real_view self.new).beside.left }
+        ensures ends { (real_view self.new).beside.ends ≡ ends_after result (real_view self.old).beside.ends }
         ensures cause { CountsFaults self.old.hear_faults self.new.hear_faults result }
-        ensures faults_after { self.new ≡ record self.old { hear_faults = faults_after result self.old.hear_faults } }
+        ensures faults_after { self.new ≡ record self.old { hear_faults = faults_after result self.old.hear_faults; ends = ends_after result self.old.ends } }
     {
         if self.input.is_none() {
             self.input = Some(self.rt.reader());
@@ -195,6 +204,7 @@ impl<R: Input + Print + Files> Site for RealSite<'_, R> {
         if let Some(input) = &mut self.input
             && let Ok(count) = input.read(into)
         {
+            count_end(&mut self.ends, count);
             return Ok(count);
         }
         Err(count_fault(&mut self.hear_faults))

@@ -8,3 +8,4 @@ pub mod JournalFields
 pub mod Births
 pub mod Looking
 pub mod laws
+pub mod Syncs

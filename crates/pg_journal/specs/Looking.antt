@@ -1,6 +1,6 @@
 -- What is found where an image is looked at.
 use Rattle.std.specs.Prelude.{◌≡◌, ◌≢◌, ℕ, ◌+◌, ◌*◌, ◌≤◌, ◌<◌, ◌⊎◌, Bool, true, false, if◌then◌else◌, List, [], ◌∷◌, refl, length, take, drop, Option, Some, None, Result, Ok, Err}
-use Rattle.std.proofs.Common.{◌∙◌, ap, arith}
+use Rattle.std.proofs.Common.{◌∙◌, ap, arith, inl, inr}
 use Rattle.ct_site.specs.FaultCounts.{raised}
 use Rattle.ct_site.specs.declared.outside.Failed.{Failed}
 use Rattle.ct_base.specs.Moments.{Grows}
@@ -11,7 +11,7 @@ use Rattle.pg_journal.specs.declared.faults.LoadFault.{LoadFault}
 use Rattle.pg_journal.specs.declared.faults.LoadFault.TheVariants.{Memory, Disk, NotAStore}
 use Rattle.pg_journal.specs.Pages.{page, byte, Numbered, AreBetween, put_on, homes_in, IsRoot}
 use Rattle.ct_base.specs.Zeros.{zeros}
-use Rattle.pg_journal.specs.Recovered.{mark, IsRecovered, IsOpen, IsOpened, batch_page, batch_count, batch_in, filling, table, numbered_at}
+use Rattle.pg_journal.specs.Recovered.{mark, IsUnborn, IsStore, gate, IsRecovered, IsOpen, IsOpened, batch_page, batch_count, batch_in, filling, table, numbered_at}
 use Rattle.pg_journal.specs.Births.{IsUnbornAs}
 use Rattle.pg_journal.specs.Standing.{DiskStands}
 
@@ -70,6 +70,53 @@ WritesNothing (Ok x) old new = Unit {0}
 WritesNothing (Err Memory) old new = IsSame old new
 WritesNothing (Err Disk) old new = Unit {0}
 WritesNothing (Err NotAStore) old new = IsSame old new
+
+-- What may be answered of this image: it is loaded where it is unborn or a store by its mark and its length, and memory is wanted
+-- for the batch of such a store behind an open gate alone.
+abbrev pub AnswersBy : {T : Type 0} → List ℕ → Result T LoadFault → Type 0
+AnswersBy image (Ok x) = IsUnborn image ⊎ IsStore image
+AnswersBy image (Err Memory) = IsStore image × (gate image ≡ 1)
+AnswersBy image (Err Disk) = Unit {0}
+AnswersBy image (Err NotAStore) = Unit {0}
+
+-- Whoever loads more than the journal may want memory wherever it has loaded that: of a file that is neither unborn nor a store by its
+-- mark and its length nothing comes but NotAStore and Disk.
+abbrev pub LoadsKnown : {T : Type 0} → List ℕ → Result T LoadFault → Type 0
+LoadsKnown image (Ok x) = IsUnborn image ⊎ IsStore image
+LoadsKnown image (Err Memory) = IsUnborn image ⊎ IsStore image
+LoadsKnown image (Err Disk) = Unit {0}
+LoadsKnown image (Err NotAStore) = Unit {0}
+
+pub known_by : {T : Type 0} (image : List ℕ) (result : Result T LoadFault) → IsUnborn image ⊎ IsStore image → LoadsKnown image result
+known_by image (Ok x) known = known
+known_by image (Err Memory) known = known
+known_by image (Err Disk) known = tt
+known_by image (Err NotAStore) known = tt
+
+-- a fault, handed on
+pub known_again : (T U : Type 0) (image : List ℕ) (fault : LoadFault) → LoadsKnown {T = T} image (Err fault) → LoadsKnown {T = U} image (Err fault)
+known_again T U image Memory known = known
+known_again T U image Disk known = tt
+known_again T U image NotAStore known = tt
+
+-- and that of the journal
+pub known_fault : (T U : Type 0) (image : List ℕ) (fault : LoadFault) → AnswersBy {T = T} image (Err fault) → LoadsKnown {T = U} image (Err fault)
+known_fault T U image Memory answers = inr answers.0
+known_fault T U image Disk answers = tt
+known_fault T U image NotAStore answers = tt
+
+-- where the gate is open; and where no memory was wanted
+pub answers_open : {T : Type 0} (image : List ℕ) (result : Result T LoadFault) → IsStore image → gate image ≡ 1 → AnswersBy image result
+answers_open image (Ok x) store is_open = inr store
+answers_open image (Err Memory) store is_open = (store, is_open)
+answers_open image (Err Disk) store is_open = tt
+answers_open image (Err NotAStore) store is_open = tt
+
+pub answers_known : {T : Type 0} (image : List ℕ) (result : Result T LoadFault) → IsUnborn image ⊎ IsStore image → (result ≡ Err Memory → ⊥) → AnswersBy image result
+answers_known image (Ok x) known other = known
+answers_known image (Err Memory) known other = absurd (other refl)
+answers_known image (Err Disk) known other = tt
+answers_known image (Err NotAStore) known other = tt
 
 pub nothing_when_same : {T : Type 0} (result : Result T LoadFault) (old new : DiskView) → IsSame old new → WritesNothing result old new
 nothing_when_same (Ok x) old new same = tt
@@ -170,6 +217,10 @@ loads_more old mid new x y result other first second = record {
 -- ---- computed examples: zeros, and a count of faults after a load that the disk failed and after one that found no store
 two_zeros : AreZeros true 2 (0 ∷ 0 ∷ [])
 two_zeros = refl
+
+-- an empty file may be loaded
+empty_is_loaded : AnswersBy {T = ℕ} [] (Ok 3)
+empty_is_loaded = inl (inl (omega arith))
 
 a_fault_counted : faults_after_load {T = ℕ} (Err Disk) 4 ≡ 5
 a_fault_counted = refl

@@ -6,6 +6,7 @@ ghost use Rattle.ct_site.specs.Disks.{IsSettled, Leaves, Works};
 ghost use Rattle.pg_journal.specs.Recovered.{IsUnborn, IsRecovered, first_pages};
 ghost use Rattle.pg_journal.specs.Births.{born, Cleared, IsCleared, IsUnbornAs};
 ghost use Rattle.pg_journal.specs.Standing.{DiskStands};
+ghost use Rattle.pg_journal.specs.Syncs.{SyncsAtMost};
 ghost use Rattle.ct_site.specs.Lengths.{Lengthens, IsWithin};
 
 use crate::writing::write;
@@ -35,6 +36,7 @@ pub(crate) fn clear<D: Disk>(disk: &mut D) -> Result<(), Failed>
     ensures cleared { (image : List ℕ) → IsSettled (D.disk disk.old) image → length image ≤ 1 → OnOk result (Cleared (D.disk disk.new)) }
     ensures within { OnOk result (IsWithin 1 (D.disk disk.new)) }
     ensures length { Lengthens 12288 (D.disk disk.old) (D.disk disk.new) }
+    ensures syncs { SyncsAtMost 1 (D.disk disk.old) (D.disk disk.new) }
     ensures works { Works (D.disk disk.old) (D.disk disk.new) result }
 {
     write(disk, 0, &[0])?;
@@ -47,6 +49,7 @@ pub(crate) fn write_pages<D: Disk>(disk: &mut D) -> Result<(), Failed>
     ensures moments { (image : List ℕ) → IsSettled (D.disk disk.old) image → IsCleared image → Leaves (D.disk disk.old) (D.disk disk.new) IsUnborn }
     ensures bytes { (image : List ℕ) → IsSettled (D.disk disk.old) image → IsCleared image → OnOk result (IsSettled (D.disk disk.new) (0 ∷ born)) }
     ensures length { Lengthens 12288 (D.disk disk.old) (D.disk disk.new) }
+    ensures syncs { SyncsAtMost 1 (D.disk disk.old) (D.disk disk.new) }
     ensures works { Works (D.disk disk.old) (D.disk disk.new) result }
 {
     write(disk, 1, &born_bytes())?;
@@ -58,6 +61,7 @@ pub(crate) fn set_birth<D: Disk>(disk: &mut D) -> Result<(), Failed>
     ensures moments { IsSettled (D.disk disk.old) (0 ∷ born) → Leaves (D.disk disk.old) (D.disk disk.new) (λ x. IsRecovered x first_pages) }
     ensures stands { IsSettled (D.disk disk.old) (0 ∷ born) → OnOk result (DiskStands (D.disk disk.new) 3 first_pages) }
     ensures length { Lengthens 12288 (D.disk disk.old) (D.disk disk.new) }
+    ensures syncs { SyncsAtMost 1 (D.disk disk.old) (D.disk disk.new) }
     ensures works { Works (D.disk disk.old) (D.disk disk.new) result }
 {
     write(disk, 0, &[1])?;
@@ -71,6 +75,7 @@ fn clear_where<D: Disk>(disk: &mut D, empty: bool) -> Result<(), Failed>
     ensures cleared { (image : List ℕ) → IsSettled (D.disk disk.old) image → IsUnbornAs empty image → OnOk result (Cleared (D.disk disk.new)) }
     ensures within { OnOk result (IsWithin 1 (D.disk disk.new)) }
     ensures length { Lengthens 12288 (D.disk disk.old) (D.disk disk.new) }
+    ensures syncs { SyncsAtMost 1 (D.disk disk.old) (D.disk disk.new) }
     ensures works { Works (D.disk disk.old) (D.disk disk.new) result }
 {
     if empty { clear(disk) } else { Ok(()) }
@@ -83,6 +88,7 @@ pub(crate) fn make_store<D: Disk>(disk: &mut D, empty: bool) -> Result<(), Faile
         → Leaves (D.disk disk.old) (D.disk disk.new) (λ x. IsRecovered x first_pages) }
     ensures stands { (image : List ℕ) → IsSettled (D.disk disk.old) image → IsUnbornAs empty image → OnOk result (DiskStands (D.disk disk.new) 3 first_pages) }
     ensures length { Lengthens 12288 (D.disk disk.old) (D.disk disk.new) }
+    ensures syncs { SyncsAtMost 3 (D.disk disk.old) (D.disk disk.new) }
     ensures works { Works (D.disk disk.old) (D.disk disk.new) result }
 {
     clear_where(disk, empty)?;

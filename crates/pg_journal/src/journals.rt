@@ -3,12 +3,13 @@
 ghost use Rattle.std.specs.Prelude.{◌≡◌, ◌≢◌, ◌≤◌, ◌+◌, ◌*◌, ◌^◌, false, ℕ, List, Option, Some, Err, IfOk, OnOk, OnErr, length, max};
 ghost use Rattle.ct_site.specs.Disks.{IsSame, IsSettled, Leaves, Works};
 ghost use Rattle.pg_journal.specs.Births.{IsUnbornAs};
-ghost use Rattle.pg_journal.specs.Looking.{IsNoStore, IsSized, Loaded, Loads, WritesNothing};
+ghost use Rattle.pg_journal.specs.Looking.{AnswersBy, IsNoStore, IsSized, Loaded, Loads, WritesNothing};
 ghost use Rattle.pg_journal.specs.Pages.{AreBetween, Has, changed, homes_in, homes_of};
 ghost use Rattle.pg_journal.specs.Recovered.{Alike, IsOnlyRead, IsRecovered, IsStore, gate, number_pages};
 ghost use Rattle.pg_journal.specs.Staging.{OverGoal};
 ghost use Rattle.ct_site.specs.Lengths.{IsWithin, Lengthens};
 ghost use Rattle.pg_journal.specs.Standing.{commit_end, homes_with, IsEither, MayCommit, DiskStands, OverPages};
+ghost use Rattle.pg_journal.specs.Syncs.{SyncsAtMost};
 
 use crate::batch_reading::look_open;
 use crate::batches::PageBatch;
@@ -42,13 +43,17 @@ impl Journal {
     /// each moment the disk recovers to what it did. NotAStore exactly where it recovers to no pages. The memory for a batch
     /// is taken before anything is written, so after NotAStore and after Memory the disk is as it was; and a file that isn't
     /// unborn and has no batch under way is only read, whatever the answer. What a crash leaves is told where nothing was pending.
+    /// It syncs three times at most. A file that is neither unborn nor a store by its mark and its length is answered by NotAStore,
+    /// or by Disk; and memory is taken for the batch behind an open gate alone.
     pub fn load<D: Disk>(alloc: Global, disk: &mut D) -> Result<Journal, LoadFault>
         ensures moments { (image : List ℕ) → IsSettled (D.disk disk.old) image → Leaves (D.disk disk.old) (D.disk disk.new) (Alike image) }
         ensures loaded { (image : List ℕ) → IsSettled (D.disk disk.old) image → IfOk result (λ journal. Loaded image (D.disk disk.new) journal) }
         ensures no_store { (image : List ℕ) → (D.disk disk.old).image ≡ Some image → result ≡ Err LoadFault.NotAStore → IsNoStore image }
         ensures same { WritesNothing result (D.disk disk.old) (D.disk disk.new) }
         ensures kept { (image : List ℕ) → (D.disk disk.old).image ≡ Some image → IsOnlyRead image → IsSame (D.disk disk.old) (D.disk disk.new) }
+        ensures answers { (image : List ℕ) → (D.disk disk.old).image ≡ Some image → AnswersBy image result }
         ensures length { Lengthens 12288 (D.disk disk.old) (D.disk disk.new) }
+        ensures syncs { SyncsAtMost 3 (D.disk disk.old) (D.disk disk.new) }
         ensures loads { Loads (D.disk disk.old) (D.disk disk.new) result }
     {
         let Ok(size) = disk.size() else {
@@ -88,12 +93,14 @@ impl Journal {
     }
 
     /// Puts the pages of a batch on those of the store, all of them or none. At each moment the recovered pages are the old
-    /// ones or those with the batch put on them, and after Ok the latter. After an error the journal is loaded again.
+    /// ones or those with the batch put on them, and after Ok the latter. After an error the journal is loaded again. It syncs
+    /// four times at most.
     pub fn commit<D: Disk>(&mut self, disk: &mut D, batch: &PageBatch) -> Result<(), Failed>
         requires { MayCommit self.old batch.now.pages }
         ensures moments { OverPages (D.disk disk.old) self.old (λ pages. Leaves (D.disk disk.old) (D.disk disk.new) (IsEither pages batch.now.pages)) }
         ensures stands { OverPages (D.disk disk.old) self.old (λ pages. OnOk result (DiskStands (D.disk disk.new) self.new (changed batch.now.pages pages))) }
         ensures length { Lengthens (commit_end self.old batch.now.pages) (D.disk disk.old) (D.disk disk.new) }
+        ensures syncs { SyncsAtMost 4 (D.disk disk.old) (D.disk disk.new) }
         ensures works { Works (D.disk disk.old) (D.disk disk.new) result }
         ensures homes { OnOk result (self.new ≡ homes_with self.old batch.now.pages) }
         ensures err { OnErr result (self.new ≡ self.old) }
@@ -109,6 +116,7 @@ impl Journal {
     pub fn fill<D: Disk>(&self, disk: &mut D) -> Failed
         ensures moments { (pages : List (List ℕ)) → DiskStands (D.disk disk.old) self.now pages
             → Leaves (D.disk disk.old) (D.disk disk.new) (λ image. IsRecovered image pages) }
+        ensures syncs { (D.disk disk.new).syncs ≡ (D.disk disk.old).syncs }
         ensures works { Works {T = Unit {0}} (D.disk disk.old) (D.disk disk.new) (Err result) }
     {
         fill(disk)
@@ -122,8 +130,10 @@ fn load_unborn<D: Disk>(disk: &mut D, empty: bool) -> Result<Journal, LoadFault>
     ensures loaded { (image : List ℕ) → IsSettled (D.disk disk.old) image → IsUnbornAs empty image
         → IfOk result (λ journal. Loaded image (D.disk disk.new) journal) }
     ensures store { result ≡ Err LoadFault.NotAStore → ⊥ }
+    ensures memory { result ≡ Err LoadFault.Memory → ⊥ }
     ensures same { WritesNothing result (D.disk disk.old) (D.disk disk.new) }
     ensures length { Lengthens 12288 (D.disk disk.old) (D.disk disk.new) }
+    ensures syncs { SyncsAtMost 3 (D.disk disk.old) (D.disk disk.new) }
     ensures loads { Loads (D.disk disk.old) (D.disk disk.new) result }
 {
     match make_store(disk, empty) {
@@ -140,6 +150,7 @@ fn load_closed<D: Disk>(disk: &mut D, size: u64) -> Result<Journal, LoadFault>
     requires gate { (image : List ℕ) → (D.disk disk.old).image ≡ Some image → gate image ≢ 1 }
     ensures loaded { (image : List ℕ) → IsSettled (D.disk disk.old) image → IfOk result (λ journal. Loaded image (D.disk disk.new) journal) }
     ensures no_store { (image : List ℕ) → (D.disk disk.old).image ≡ Some image → result ≡ Err LoadFault.NotAStore → IsNoStore image }
+    ensures memory { result ≡ Err LoadFault.Memory → ⊥ }
     ensures same { IsSame (D.disk disk.old) (D.disk disk.new) }
     ensures loads { Loads (D.disk disk.old) (D.disk disk.new) result }
 {
@@ -163,6 +174,7 @@ fn load_open<D: Disk>(alloc: Global, disk: &mut D, size: u64) -> Result<Journal,
     ensures no_store { (image : List ℕ) → (D.disk disk.old).image ≡ Some image → result ≡ Err LoadFault.NotAStore → IsNoStore image }
     ensures same { WritesNothing result (D.disk disk.old) (D.disk disk.new) }
     ensures length { Lengthens 0 (D.disk disk.old) (D.disk disk.new) }
+    ensures syncs { SyncsAtMost 2 (D.disk disk.old) (D.disk disk.new) }
     ensures loads { Loads (D.disk disk.old) (D.disk disk.new) result }
 {
     let Some((batch, homes)) = look_open(alloc, disk, size)? else {
@@ -181,6 +193,7 @@ fn finish<D: Disk>(disk: &mut D, batch: &PageBatch) -> Result<(), Failed>
     ensures moments { OverGoal (D.disk disk.old) batch.now.pages (λ goal. Leaves (D.disk disk.old) (D.disk disk.new) (λ x. IsRecovered x (homes_of goal))) }
     ensures stands { OverGoal (D.disk disk.old) batch.now.pages (λ goal. OnOk result (DiskStands (D.disk disk.new) (homes_in (goal 2)) (homes_of goal))) }
     ensures length { Lengthens 0 (D.disk disk.old) (D.disk disk.new) }
+    ensures syncs { SyncsAtMost 2 (D.disk disk.old) (D.disk disk.new) }
     ensures works { Works (D.disk disk.old) (D.disk disk.new) result }
 {
     put_home(disk, batch)?;
@@ -201,6 +214,7 @@ fn commit_pages<D: Disk>(
     ensures moments { OverPages (D.disk disk.old) homes (λ pages. Leaves (D.disk disk.old) (D.disk disk.new) (IsEither pages batch.now.pages)) }
     ensures stands { OverPages (D.disk disk.old) homes (λ pages. OnOk result (DiskStands (D.disk disk.new) after (changed batch.now.pages pages))) }
     ensures length { Lengthens (4096 * (max homes after + number_pages (length batch.now.pages) + length batch.now.pages)) (D.disk disk.old) (D.disk disk.new) }
+    ensures syncs { SyncsAtMost 4 (D.disk disk.old) (D.disk disk.new) }
     ensures works { Works (D.disk disk.old) (D.disk disk.new) result }
 {
     let place = homes.max(after);

@@ -11,6 +11,7 @@ ghost use Rattle.pg_journal.specs.Pages.{Has, AreBetween};
 ghost use Rattle.pg_journal.specs.Recovered.{batch_bytes, number_pages};
 ghost use Rattle.pg_journal.specs.Staging.{Staged, IsGateWrite, IsGateSet, IsSettling, AtHome, WritesUpTo};
 ghost use Rattle.pg_journal.specs.Standing.{IsShut, DiskStands};
+ghost use Rattle.pg_journal.specs.Syncs.{SyncsAtMost};
 
 use crate::batches::PageBatch;
 use crate::writing::{write, write_numbers, write_zeros};
@@ -21,6 +22,7 @@ fn lengthen<D: Disk>(disk: &mut D, end: u64) -> Result<(), Failed>
     requires fits { end ≤ 2 ^ 43 }
     ensures writes { WritesUpTo end (D.disk disk.old) (D.disk disk.new) result }
     ensures within { OnOk result (IsWithin end (D.disk disk.new)) }
+    ensures syncs { (D.disk disk.new).syncs ≡ (D.disk disk.old).syncs }
     ensures works { Works (D.disk disk.old) (D.disk disk.new) result }
 {
     let size = disk.size()?;
@@ -36,6 +38,7 @@ fn write_zero_page<D: Disk>(disk: &mut D, at: u64) -> Result<(), Failed>
     requires within { IsWithin at (D.disk disk.old) }
     ensures writes { Writes at (zeros 4096) (D.disk disk.old) (D.disk disk.new) result }
     ensures inside { OnOk result (at + 4096 ≤ 2 ^ 43) }
+    ensures syncs { (D.disk disk.new).syncs ≡ (D.disk disk.old).syncs }
     ensures works { Works (D.disk disk.old) (D.disk disk.new) result }
 {
     disk.write_at(at, &[0; 4096])
@@ -46,6 +49,7 @@ fn fill_from<D: Disk>(disk: &mut D, size: u64) -> Failed
     requires { IsWithin size (D.disk disk.old) }
     ensures moments { (homes : ℕ) (ps : List (List ℕ)) → 4096 * homes ≤ size → ((image : List ℕ) → (D.disk disk.old).may_leave image → IsShut homes ps image)
         → Leaves (D.disk disk.old) (D.disk disk.new) (IsShut homes ps) }
+    ensures syncs { (D.disk disk.new).syncs ≡ (D.disk disk.old).syncs }
     ensures works { Works {T = Unit {0}} (D.disk disk.old) (D.disk disk.new) (Err result) }
 {
     let mut at = size;
@@ -60,6 +64,7 @@ fn fill_from<D: Disk>(disk: &mut D, size: u64) -> Failed
 /// Writes zeros past the end of the file, a page at a time, until a write fails.
 pub(crate) fn fill<D: Disk>(disk: &mut D) -> Failed
     ensures moments { (homes : ℕ) (ps : List (List ℕ)) → DiskStands (D.disk disk.old) homes ps → Leaves (D.disk disk.old) (D.disk disk.new) (IsShut homes ps) }
+    ensures syncs { (D.disk disk.new).syncs ≡ (D.disk disk.old).syncs }
     ensures works { Works {T = Unit {0}} (D.disk disk.old) (D.disk disk.new) (Err result) }
 {
     match disk.size() {
@@ -75,6 +80,7 @@ fn write_batch<D: Disk>(disk: &mut D, place: u32, batch: &PageBatch) -> Result<(
     requires some { 1 ≤ length batch.now.pages }
     requires between { AreBetween 2 place batch.now.pages }
     ensures writes { Writes (4096 * place) (batch_bytes batch.now.pages) (D.disk disk.old) (D.disk disk.new) result }
+    ensures syncs { (D.disk disk.new).syncs ≡ (D.disk disk.old).syncs }
     ensures works { Works (D.disk disk.old) (D.disk disk.new) result }
 {
     let at = 4096 * place as u64;
@@ -105,6 +111,7 @@ pub(crate) fn stage<D: Disk>(disk: &mut D, place: u32, batch: &PageBatch) -> Res
         → OnOk result (Staged (D.disk disk.new) homes ps place (batch.now.pages)) }
     ensures within { OnOk result (IsWithin (4096 * place) (D.disk disk.new)) }
     ensures length { Lengthens (4096 * (place + number_pages (length batch.now.pages) + length batch.now.pages)) (D.disk disk.old) (D.disk disk.new) }
+    ensures syncs { SyncsAtMost 1 (D.disk disk.old) (D.disk disk.new) }
     ensures works { Works (D.disk disk.old) (D.disk disk.new) result }
 {
     lengthen(disk, 4096 * place as u64)?;
@@ -120,6 +127,7 @@ pub(crate) fn set_gate<D: Disk>(disk: &mut D, gate: u8) -> Result<(), Failed>
     ensures moments { (image : List ℕ) → IsSettled (D.disk disk.old) image → Leaves (D.disk disk.old) (D.disk disk.new) (IsGateWrite image) }
     ensures set { (image : List ℕ) → IsSettled (D.disk disk.old) image → OnOk result (IsGateSet gate image (D.disk disk.new)) }
     ensures length { Lengthens 0 (D.disk disk.old) (D.disk disk.new) }
+    ensures syncs { SyncsAtMost 1 (D.disk disk.old) (D.disk disk.new) }
     ensures works { Works (D.disk disk.old) (D.disk disk.new) result }
 {
     write(disk, 4096, &[gate])?;
@@ -150,6 +158,7 @@ pub(crate) fn put_home<D: Disk>(disk: &mut D, batch: &PageBatch) -> Result<(), F
     ensures home { (place : ℕ) (goal : ℕ → List ℕ) (image : List ℕ) → IsSettled (D.disk disk.old) image → IsSettling place batch.now.pages goal image
         → OnOk result (AtHome (D.disk disk.new) place batch.now.pages goal) }
     ensures length { Lengthens 0 (D.disk disk.old) (D.disk disk.new) }
+    ensures syncs { SyncsAtMost 1 (D.disk disk.old) (D.disk disk.new) }
     ensures works { Works (D.disk disk.old) (D.disk disk.new) result }
 {
     let numbers = batch.numbers();

@@ -16,6 +16,7 @@ pub(crate) fn write<D: Disk>(disk: &mut D, at: u64, bytes: &[u8]) -> Result<(), 
     requires within { IsWithin at (D.disk disk.old) }
     requires some { 0 < length bytes.now }
     ensures writes { Writes at bytes.now (D.disk disk.old) (D.disk disk.new) result }
+    ensures syncs { (D.disk disk.new).syncs ≡ (D.disk disk.old).syncs }
     ensures works { Works (D.disk disk.old) (D.disk disk.new) result }
 {
     disk.write_at(at, bytes)
@@ -29,6 +30,7 @@ pub(crate) fn write_zeros<D: Disk>(disk: &mut D, at: u64, count: u64) -> Result<
     requires within { IsWithin at (D.disk disk.old) }
     requires fits { at + count < 2 ^ 45 }
     ensures writes { Writes at (zeros count) (D.disk disk.old) (D.disk disk.new) result }
+    ensures syncs { (D.disk disk.new).syncs ≡ (D.disk disk.old).syncs }
     ensures works { Works (D.disk disk.old) (D.disk disk.new) result }
 {
     let piece = [0; PIECE as usize];
@@ -60,6 +62,7 @@ pub(crate) fn write_numbers<D: Disk>(disk: &mut D, at: u64, numbers: &[u32]) -> 
     requires within { IsWithin at (D.disk disk.old) }
     requires fits { at + 4 * length numbers.now < 2 ^ 45 }
     ensures writes { Writes at (spelled numbers.now ++ zeros (filling (length numbers.now))) (D.disk disk.old) (D.disk disk.new) result }
+    ensures syncs { (D.disk disk.new).syncs ≡ (D.disk disk.old).syncs }
     ensures works { Works (D.disk disk.old) (D.disk disk.new) result }
 {
     let mut next = at;

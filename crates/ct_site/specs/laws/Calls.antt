@@ -9,6 +9,7 @@ same_then old mid new first second = record {
   image = second.image ∙ first.image;
   crash = λ image left. first.crash image (second.crash image left);
   time = adds_nothing_then old.time mid.time new.time first.time second.time;
+  syncs = second.syncs ∙ first.syncs;
 }
 
 pub settled_same : (old new : DiskView) (image : List ℕ) → IsSame old new → IsSettled old image → IsSettled new image

@@ -1,4 +1,4 @@
-use Rattle.std.proofs.Common.{◌+◌, ◌*◌, ◌≤◌, List, ℕ, length, Result, Ok, subst, arith}
+use Rattle.std.proofs.Common.{◌+◌, ◌*◌, ◌≤◌, List, ℕ, length, Result, Ok, ◌∙◌, subst, arith}
 use Rattle.std.proofs.lemmas.List.{length-replicate}
 use Rattle.ct_base.specs.Zeros.{zeros}
 use Rattle.ct_site.specs.declared.outside.Failed.{Failed}
@@ -23,6 +23,7 @@ loop-at-preserved g c = record {
   past = omega (arith, c.loop-at.invariant.past);
   within = within_page c.loop-at.at _ _ c.loop-at.invariant.within c.in-Ok.ensures.writes;
   leaves = λ homes ps inside here. filled c.loop-at.at homes ps _ _ _ _ (omega (arith, inside, c.loop-at.invariant.past)) (c.loop-at.invariant.leaves homes ps inside here) c.in-Ok.ensures.writes;
+  syncs = c.in-Ok.ensures.syncs ∙ c.loop-at.invariant.syncs;
   works = works_then _ _ _ tt _ c.loop-at.invariant.works c.in-Ok.ensures.works;
 }
 

@@ -1,4 +1,4 @@
-use Rattle.std.proofs.Common.{refl, rules, ◌+◌, ◌*◌, get_or, drop, arith}
+use Rattle.std.proofs.Common.{refl, ◌∙◌, rules, ◌+◌, ◌*◌, get_or, drop, arith}
 use Rattle.std.proofs.lemmas.List.{drop_all}
 use Rattle.std.proofs.lemmas.Result.{on_ok_weaker}
 use Rattle.ct_site.specs.Disks.{works_then, leaves_then, leaves_more}
@@ -12,6 +12,7 @@ loop-done-init g c = record {
   leaves = λ place aim image settled s. settling_now place _ aim image _ settled s;
   gives = λ place aim image settled s. homes_begun place _ aim image _ settled s;
   length = grows_same 0 _ _ refl;
+  syncs = refl;
   works = search rules;
 }
 
@@ -62,6 +63,7 @@ loop-done-preserved g c = record {
       (run_grows c.args.batch.now.pages _ _ _ c.numbers-numbers.ensures.between c.numbers-numbers.ensures.numbers c.bytes-bytes.ensures c.loop-done.done c.run_end-end.result c.run_end-end.ensures.more c.run_end-end.ensures.within
       c.run_end-end.ensures.run 0 (λ i. drop i c.bytes-bytes.result.now) (g.D.Disk.disk c.args.disk.now) _ _ c.write.result
       (λ i has. within_grown _ 0 _ _ c.loop-done.invariant.works.untold c.loop-done.invariant.length (c.requires.within i has)) c.write.ensures.writes);
+  syncs = c.in_ok-write.ensures.syncs ∙ c.loop-done.invariant.syncs;
   works = works_then _ _ _ tt _ c.loop-done.invariant.works c.in_ok-write.ensures.works;
 }
 

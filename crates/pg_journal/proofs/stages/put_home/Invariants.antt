@@ -1,4 +1,4 @@
-use Rattle.std.proofs.Common.{ℕ, List, Ok, drop, length, ◌≤◌, ◌-◌}
+use Rattle.std.proofs.Common.{ℕ, List, Ok, drop, length, ◌≡◌, ◌≤◌, ◌-◌}
 use Rattle.ct_site.specs.Disks.{IsSettled, Leaves, Works}
 use Rattle.ct_site.specs.Lengths.{Lengthens}
 use Rattle.ct_site.specs.Writing.{DiskGives}
@@ -13,6 +13,7 @@ invariant-loop-done g l = record {
   gives : (place : ℕ) (aim : ℕ → List ℕ) (image : List ℕ) → IsSettled (g.D.Disk.disk l.fn.disk) image → IsSettling place l.batch.pages aim image
       → DiskGives (IsPartHome place l.batch.pages (drop l.done l.batch.pages) aim) (g.D.Disk.disk l.disk);
   length : Lengthens 0 (g.D.Disk.disk l.fn.disk) (g.D.Disk.disk l.disk);
+  syncs : (g.D.Disk.disk l.disk).syncs ≡ (g.D.Disk.disk l.fn.disk).syncs;
   works : Works {T = Unit {0}} (g.D.Disk.disk l.fn.disk) (g.D.Disk.disk l.disk) (Ok tt);
 }
 

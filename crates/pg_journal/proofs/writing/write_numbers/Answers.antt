@@ -1,4 +1,4 @@
-use Rattle.std.proofs.Common.{◌+◌, arith}
+use Rattle.std.proofs.Common.{◌∙◌, ◌+◌, arith}
 use Rattle.ct_site.specs.Disks.{works_then}
 use Rattle.ct_site.specs.laws.Writing.{progress_step, progress_failed}
 use Rattle.pg_journal.proofs.BatchPages.{area_rest, length-number_page}
@@ -17,5 +17,6 @@ loop-done-preserved g c = record {
       progress_step c.args.at c.loop-done.next (c.loop-done.next + 4096) _ _ _ _ _ _ _
       (area_rest c.args.numbers.now c.loop-done.done c.min-end.result _ c.loop-done-test.true c.min-end.ensures c.number_page.ensures)
       (omega (arith, length-number_page c.args.numbers.now c.loop-done.done c.min-end.result _ c.loop-done-test.true c.min-end.ensures c.number_page.ensures)) c.loop-done.invariant.progress c.in_ok-write.ensures.writes;
+  syncs = c.in_ok-write.ensures.syncs ∙ c.loop-done.invariant.syncs;
   works = works_then _ _ _ tt _ c.loop-done.invariant.works c.in_ok-write.ensures.works;
 }

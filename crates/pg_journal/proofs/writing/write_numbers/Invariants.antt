@@ -9,6 +9,7 @@ invariant-loop-done g l = record {
   most : l.done ≤ length l.numbers;
   place : l.done < length l.numbers → l.next ≡ l.at + 4 * l.done;
   progress : Progress l.at l.next (number_area l.numbers) (number_area (drop l.done l.numbers)) (g.D.Disk.disk l.fn.disk) (g.D.Disk.disk l.disk);
+  syncs : (g.D.Disk.disk l.disk).syncs ≡ (g.D.Disk.disk l.fn.disk).syncs;
   works : Works {T = Unit {0}} (g.D.Disk.disk l.fn.disk) (g.D.Disk.disk l.disk) (Ok tt);
 }
 

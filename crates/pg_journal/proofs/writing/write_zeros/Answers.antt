@@ -1,4 +1,4 @@
-use Rattle.std.proofs.Common.{refl, ◌+◌, arith}
+use Rattle.std.proofs.Common.{refl, ◌∙◌, ◌+◌, arith}
 use Rattle.ct_base.specs.laws.Zeros.{take-zeros}
 use Rattle.ct_site.specs.Disks.{works_then}
 use Rattle.pg_journal.proofs.Zeros.{zeros_step, zeros_short, zeros_within}
@@ -17,5 +17,6 @@ loop-done-preserved g c =
       most = omega (arith, c.min-more.ensures, c.loop-done-test.true);
       within = zeros_within c.args.at c.loop-done.done c.min-more.result _ _ _ piece c.loop-done.invariant.within c.in_ok-write.ensures.writes;
       writes = zeros_step c.args.at (c.args.at + c.loop-done.done) c.loop-done.done c.min-more.result _ _ _ _ _ c.requires.within refl piece c.loop-done.invariant.writes c.in_ok-write.ensures.writes;
+      syncs = c.in_ok-write.ensures.syncs ∙ c.loop-done.invariant.syncs;
       works = works_then _ _ _ tt _ c.loop-done.invariant.works c.in_ok-write.ensures.works;
     }

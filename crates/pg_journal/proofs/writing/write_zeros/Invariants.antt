@@ -1,4 +1,4 @@
-use Rattle.std.proofs.Common.{◌-◌, ◌≤◌, ◌+◌, Ok}
+use Rattle.std.proofs.Common.{◌-◌, ◌≡◌, ◌≤◌, ◌+◌, Ok}
 use Rattle.ct_base.specs.Zeros.{zeros}
 use Rattle.ct_site.specs.Disks.{Works}
 use Rattle.ct_site.specs.Lengths.{IsWithin}
@@ -10,6 +10,7 @@ invariant-loop-done g l = record {
   most : l.done ≤ l.count;
   within : IsWithin (l.at + l.done) (g.D.Disk.disk l.disk);
   writes : Writes l.at (zeros l.done) (g.D.Disk.disk l.fn.disk) (g.D.Disk.disk l.disk) (Ok tt);
+  syncs : (g.D.Disk.disk l.disk).syncs ≡ (g.D.Disk.disk l.fn.disk).syncs;
   works : Works {T = Unit {0}} (g.D.Disk.disk l.fn.disk) (g.D.Disk.disk l.disk) (Ok tt);
 }
 

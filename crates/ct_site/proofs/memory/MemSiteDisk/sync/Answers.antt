@@ -14,7 +14,7 @@ new_is : (c : After-sync) → with_log c.self-2.inside c.sync.new.self ≡ after
 new_is c =
     ap (with_log c.self-2.inside) c.sync.ensures
     ∙ with_log-push c.self-2.inside Synced c.self-2.inside.log.written_bytes c.self-2.invariant.heard
-    ∙ ap (λ (x : MemState). record x { log = x.log ++ Synced ∷ [] }) (c.self-2.view_is ∙ c.count_disk.ensures.counted)
+    ∙ ap (λ (x : MemState). record x { log = x.log ++ Synced ∷ [] }) (c.self-2.view_is ∙ c.count_sync.ensures.counted)
 
 pub invariant_of-self-2 : goal.invariant_of-self-2
 invariant_of-self-2 c =

@@ -1,6 +1,6 @@
 -- What was left before is what the buffer holds now, and then what is left now.
 use Rattle.std.proofs.Common.{◌≡◌, ◌+◌, ◌-◌, ◌++◌, [], ℕ, List, true, nat_eq, nat_lt, length, take, drop, refl, sym, ap, subst, ◌∙◌, arith, drop-drop}
-use Rattle.ct_site.specs.FaultCounts.{raised}
+use Rattle.ct_site.specs.FaultCounts.{raised, raised_if}
 use Rattle.ct_site.specs.Disks.{Hears}
 use Rattle.ct_site.specs.Hearings.{Hearing, with_present}
 use Rattle.ct_site.specs.Histories.{said_by}
@@ -40,6 +40,7 @@ pub returns-clause-hears : goal.returns-clause-hears
 returns-clause-hears c =
     let s = c.self.inside in
     let n = c.min-count.result in
+    let ends = c.count_end.new.ends in
     let bytes = take n (c.copy_from_slice.new.self ++ drop n c.args.into.now) in
     let m : s.taken + n - s.taken ≡ n = omega arith in
     let later : drop (s.taken + n) s.script.items ≡ drop n (drop s.taken s.script.items) = sym (drop-drop n s.taken s.script.items) in
@@ -48,9 +49,10 @@ returns-clause-hears c =
     let left : c.args.self.now.left ≡ drop s.taken s.script.items = ap (λ (x : MemState). x.left) (sym same) in
     let kept : hearings_at s.script.items (said_by s.log.changes) c.keep_place.new.places.items ≡ with_present (state_of s).hearings (nat_lt 0 n) (drop s.taken s.script.items) (said_by s.log.changes) =
     ap (hearings_at s.script.items (said_by s.log.changes)) c.keep_place.ensures.items ∙ hearings_at-with s.script.items (said_by s.log.changes) s.hearings.items (nat_lt 0 n) (record { taken = s.taken; said = c.said_count.result }) c.said_count.ensures.count in
-    let new_is : record (state_of s) { left = drop (s.taken + n) s.script.items; hearings = hearings_at s.script.items (said_by s.log.changes) c.keep_place.new.places.items; has_asked = nat_eq n 0 } ≡ heard c.args.self.now n =
-    ap (λ (l : List ℕ). record (state_of s) { left = l; hearings = hearings_at s.script.items (said_by s.log.changes) c.keep_place.new.places.items; has_asked = nat_eq n 0 }) later
-    ∙ ap (λ (hs : List Hearing). record (state_of s) { left = drop n (drop s.taken s.script.items); hearings = hs; has_asked = nat_eq n 0 }) kept
-    ∙ ap (λ (x : MemState). record x { left = drop n x.left; hearings = with_present x.hearings (nat_lt 0 n) x.left (said_by x.log); has_asked = nat_eq n 0 }) same in
+    let new_is : record (state_of s) { left = drop (s.taken + n) s.script.items; hearings = hearings_at s.script.items (said_by s.log.changes) c.keep_place.new.places.items; has_asked = nat_eq n 0; ends = ends } ≡ heard c.args.self.now n =
+    ap (λ (k : ℕ). record (state_of s) { left = drop (s.taken + n) s.script.items; hearings = hearings_at s.script.items (said_by s.log.changes) c.keep_place.new.places.items; has_asked = nat_eq n 0; ends = k }) c.count_end.ensures
+    ∙ ap (λ (l : List ℕ). record (state_of s) { left = l; hearings = hearings_at s.script.items (said_by s.log.changes) c.keep_place.new.places.items; has_asked = nat_eq n 0; ends = raised_if (nat_eq n 0) s.ends }) later
+    ∙ ap (λ (hs : List Hearing). record (state_of s) { left = drop n (drop s.taken s.script.items); hearings = hs; has_asked = nat_eq n 0; ends = raised_if (nat_eq n 0) s.ends }) kept
+    ∙ ap (λ (x : MemState). record x { left = drop n x.left; hearings = with_present x.hearings (nat_lt 0 n) x.left (said_by x.log); has_asked = nat_eq n 0; ends = raised_if (nat_eq n 0) x.ends }) same in
     subst (λ (x : MemState). Hears bytes (memory_view c.args.self.now) (memory_view x)) (sym new_is)
     (hears_of c.args.self.now bytes n (left ∙ prefix ∙ ap (λ (l : List ℕ). bytes ++ l) (later ∙ ap (λ (l : List ℕ). drop n l) (sym left))))

@@ -1,7 +1,7 @@
-use Rattle.std.proofs.Common.{true, false, sym, ◌∙◌, arith}
+use Rattle.std.proofs.Common.{true, false, inl, inr, sym, ◌∙◌, arith}
 use Rattle.ct_site.specs.laws.Calls.{same_then, settled_same}
 use Rattle.ct_site.specs.laws.Lengths.{grows_then, grows_same, grows_more}
-use Rattle.pg_journal.specs.Looking.{nothing_when_same, nothing_then}
+use Rattle.pg_journal.specs.Looking.{nothing_when_same, nothing_then, answers_open, answers_known}
 use Rattle.pg_journal.proofs.Loading.{nothing_written, unborn_is, born_is, born_within, after_same, marked_is, no_mark, too_short, is_store, as_unborn}
 use Rattle.pg_journal.proofs.journals.Journal.load.Goals as goal
 
@@ -114,6 +114,27 @@ returns-then-gate-eq1-clause-same g c =
 pub returns-else-gate-eq1-clause-same : goal.returns-else-gate-eq1-clause-same
 returns-else-gate-eq1-clause-same g c =
     nothing_when_same c.load_closed.result _ _ (same_then _ _ _ c.size.ensures.same (same_then _ _ _ c.unborn.ensures.same (same_then _ _ _ c.has_mark.ensures.same (same_then _ _ _ c.read_byte.ensures.same c.load_closed.ensures.same))))
+
+pub returns-in-Some-clause-answers : goal.returns-in-Some-clause-answers
+returns-in-Some-clause-answers g c = λ image told.
+    let unborn = unborn_is c.in-Ok-unborn.found c.in-Some.empty image (c.in-Ok-unborn.ensures.is image (c.size.ensures.same.image ∙ told)) c.in-Some.is in
+    answers_known image c.load_unborn.result (inl (as_unborn c.in-Some.empty image unborn)) c.load_unborn.ensures.memory
+
+pub returns-then-gate-eq1-clause-answers : goal.returns-then-gate-eq1-clause-answers
+returns-then-gate-eq1-clause-answers g c = λ image told.
+    let told0 = c.size.ensures.same.image ∙ told in
+    let told1 = c.unborn.ensures.same.image ∙ told0 in
+    let store = is_store image (born_is c.in-Ok-unborn.found image (c.in-Ok-unborn.ensures.is image told0) c.in_default-found.is)
+    (marked_is c.in-Ok-has_mark.marked true image (c.in-Ok-has_mark.ensures.is image told1) c.if-not-marked.false) (omega (arith, c.in-Ok.ensures.size image told, c.if-size-lt12288.false)) in
+    answers_open image c.load_open.result store (sym (c.in-Ok-read_byte.ensures.is image (c.has_mark.ensures.same.image ∙ told1)) ∙ c.if-gate-eq1.true)
+
+pub returns-else-gate-eq1-clause-answers : goal.returns-else-gate-eq1-clause-answers
+returns-else-gate-eq1-clause-answers g c = λ image told.
+    let told0 = c.size.ensures.same.image ∙ told in
+    let told1 = c.unborn.ensures.same.image ∙ told0 in
+    let store = is_store image (born_is c.in-Ok-unborn.found image (c.in-Ok-unborn.ensures.is image told0) c.in_default-found.is)
+    (marked_is c.in-Ok-has_mark.marked true image (c.in-Ok-has_mark.ensures.is image told1) c.if-not-marked.false) (omega (arith, c.in-Ok.ensures.size image told, c.if-size-lt12288.false)) in
+    answers_known image c.load_closed.result (inr store) c.load_closed.ensures.memory
 
 pub returns-in_default-clause-length : goal.returns-in_default-clause-length
 returns-in_default-clause-length g c = grows_same 12288 _ _ c.size.ensures.same.image
