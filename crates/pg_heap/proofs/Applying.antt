@@ -1,5 +1,5 @@
 -- A batch is applied: what a crash leaves meanwhile, and how long the file is then.
-use Rattle.std.proofs.Common.{◌≡◌, ◌≤◌, ◌⊎◌, inl, inr, refl, Bool, true, false, nat_lt, ℕ, ◌+◌, ◌*◌, List, length, sym, ap, subst, ◌∙◌, arith}
+use Rattle.std.proofs.Common.{◌≡◌, ◌≤◌, ◌⊎◌, inl, inr, refl, Bool, true, false, nat_lt, ℕ, ◌+◌, ◌*◌, List, length, max, sym, ap, subst, ◌∙◌, arith}
 use Rattle.ct_site.specs.Disks.{DiskView, Leaves, leaves_more}
 use Rattle.ct_site.specs.Lengths.{Lengthens}
 use Rattle.ct_site.specs.laws.Lengths.{grows_more}
@@ -12,7 +12,8 @@ use Rattle.pg_journal.specs.Standing.{DiskStands}
 use Rattle.pg_map.specs.Kinds.{Kind}
 use Rattle.pg_map.specs.MapReading.{behind_root}
 use Rattle.pg_map.specs.Done.{IsDone}
-use Rattle.pg_heap.specs.BatchPages.{batch_pages, batch_end}
+use Rattle.pg_heap.specs.BatchPages.{changed_pages, batch_end, homes_needed}
+use Rattle.pg_heap.specs.FreePlaces.{NeedsPages, used_pages}
 use Rattle.pg_heap.specs.Committing.{AreEither}
 use Rattle.pg_heap.specs.laws.Committing.{done_holds}
 use Rattle.pg_heap.specs.Heaps.{HeapState, HeapStands, IsMap}
@@ -36,22 +37,27 @@ fill_moments old new homes changes heap homes_is done leaves st =
     leaves_more old new _ (λ image. IsMap heap.held image ⊎ IsMap (after changes heap.held) image) (leaves (behind_root heap.kinds) (subst (λ (n : ℕ). DiskStands old n (behind_root heap.kinds)) (sym homes_is) st))
     (λ image r. inl (behind_root heap.kinds, r, done_holds heap.kinds heap.held done))
 
--- the bound: h homes before, n pages in the batch, of which the changes gave p at most
-end_within : (h h1 n p : ℕ) → h1 ≤ h + p → n ≤ 1 + 2 * p → 3 ≤ h → 4096 * (h1 + number_pages n + n) ≤ 4096 * (8 * (h + p))
-end_within h h1 n p homes pages least = omega (arith, homes, pages, least)
+-- the bound: h homes after, n pages in the batch
+end_within : (h h1 n p : ℕ) → h1 ≤ h → n ≤ 1 + p → 4096 * (h1 + number_pages n + n) ≤ 4096 * (h + number_pages (1 + p) + (1 + p))
+end_within h h1 n p homes pages = omega (arith, homes, pages)
 
-pub commit_length : (old new : DiskView) (before now : List Kind) (n : ℕ) (m : Content) (changes : List Change) (heap : HeapState) → heap.homes ≡ 3 + length heap.kinds → before ≡ heap.kinds → m ≡ heap.held → length now ≤ length before + batch_pages changes m → n ≤ 1 + 2 * batch_pages changes m
-    → Lengthens (4096 * (3 + length now + number_pages n + n)) old new → Lengthens (batch_end heap.homes (batch_pages changes heap.held)) old new
-commit_length old new before now n m changes heap homes before_is m_is grows few lengthens =
-    let p : batch_pages changes m ≡ batch_pages changes heap.held = ap (batch_pages changes) m_is in
-    let k : length before ≡ length heap.kinds = ap (λ (l : List Kind). length l) before_is in
-    grows_more _ _ _ _ (end_within heap.homes (3 + length now) n (batch_pages changes heap.held) (within (length now) (length before) (length heap.kinds) heap.homes (batch_pages changes m) (batch_pages changes heap.held) grows k homes p) (fewer n (batch_pages changes m) (batch_pages changes heap.held) few p) (omega (arith, homes))) lengthens
+pub commit_length : (old new : DiskView) (homes : ℕ) (now : List Kind) (n : ℕ) (m : Content) (changes : List Change) (heap : HeapState) → m ≡ heap.held → 3 + length now ≤ homes → n ≤ 1 + changed_pages changes m
+    → Lengthens (4096 * (3 + length now + number_pages n + n)) old new → Lengthens (batch_end homes (changed_pages changes heap.held)) old new
+commit_length old new homes now n m changes heap m_is grows few lengthens =
+    let p : changed_pages changes m ≡ changed_pages changes heap.held = ap (changed_pages changes) m_is in
+    grows_more _ _ _ _ (end_within homes (3 + length now) n (changed_pages changes heap.held) grows (fewer n (changed_pages changes m) (changed_pages changes heap.held) few p)) lengthens
   where
-    within : (x y z h p q : ℕ) → x ≤ y + p → y ≡ z → h ≡ 3 + z → p ≡ q → 3 + x ≤ h + q
-    within x y z h p q a b c d = omega (arith, a, b, c, d)
-
-    fewer : (n p q : ℕ) → n ≤ 1 + 2 * p → p ≡ q → n ≤ 1 + 2 * q
+    fewer : (n p q : ℕ) → n ≤ 1 + p → p ≡ q → n ≤ 1 + q
     fewer n p q a b = omega (arith, a, b)
+
+-- how many home pages there may be
+pub homes_within : (before now : List Kind) (p : ℕ) (heap : HeapState) → heap.homes ≡ 3 + length heap.kinds → before ≡ heap.kinds → NeedsPages before now p → 3 + length now ≤ homes_needed heap.homes (used_pages heap.kinds) p
+homes_within before now p heap homes before_is needs =
+    let all = subst (λ (ks : List Kind). length now ≤ max (length ks) (used_pages ks + p)) before_is needs.all in
+    of _ _ _ _ _ all homes
+  where
+    of : (n l u h p : ℕ) → n ≤ max l (u + p) → h ≡ 3 + l → 3 + n ≤ max h (3 + u + p)
+    of n l u h p a b = omega (arith, a, b)
 
 -- a map that was made within the limit, or no heavier than before
 not_passing : (limit a b : ℕ) → (nat_lt limit b && nat_lt a b) ≡ false → (b ≤ limit) ⊎ (b ≤ a)

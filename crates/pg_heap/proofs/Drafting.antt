@@ -1,6 +1,8 @@
 -- One page of a draft more.
-use Rattle.std.proofs.Common.{◌≤◌, ◌<◌, ◌≡◌, ◌≢◌, Bool, true, false, ◌==◌, length-append, ℕ, zero, suc, ◌+◌, List, [], ◌∷◌, ◌++◌, length, get_or, set, take, refl, sym, ap, subst, ◌∙◌, arith}
-use Rattle.std.specs.List.{Contains}
+use Rattle.std.proofs.Common.{◌≤◌, ◌<◌, ◌≡◌, ◌≢◌, Bool, true, false, ◌==◌, length-append, ℕ, zero, suc, ◌+◌, ◌-◌, List, [], ◌∷◌, ◌++◌, length, get_or, set, take, Some, None, refl, sym, ap, subst, ◌∙◌, arith}
+use Rattle.std.specs.List.{Contains, slice_get}
+use Rattle.std.specs.Option.{option_map}
+use Rattle.std.proofs.lemmas.Option.{slice_get-map}
 use Rattle.pg_heap.specs.declared.drafts.Note.{Note}
 use Rattle.pg_map.specs.declared.sheets.Sheet.{Sheet}
 use Rattle.pg_map.specs.Kinds.{Each, Kind}
@@ -8,7 +10,7 @@ use Rattle.pg_map.specs.Sheets.{sheet_kind, sheet_kinds}
 use Rattle.pg_heap.specs.Drafts.{undone, touched_by, Drafted, EndsWith}
 use Rattle.pg_heap.specs.DraftFields.{draft_of, IsDraftOf}
 use Rattle.std.proofs.lemmas.List.Elements.{Contains-append_left, Contains-push}
-use Rattle.std.proofs.lemmas.List.{length-set}
+use Rattle.std.proofs.lemmas.List.{length-set, length-map}
 use Rattle.pg_map.specs.laws.Sheets.{length-sheet_kinds}
 
 pub kinds_set : (xs : List Sheet) (at : ℕ) (x : Sheet) → sheet_kinds (set xs at x) ≡ set (sheet_kinds xs) at (sheet_kind x)
@@ -71,6 +73,23 @@ again_view sheets sheets1 notes b at new d is put last =
     ap (λ (l : List Kind). record { before = take b l; now = sheet_kinds sheets1; touched = touched_by notes }) before
     ∙ ap (λ (l : List Kind). record { before = take b (undone notes (sheet_kinds sheets)); now = l; touched = touched_by notes }) now
     ∙ ap (λ (x : Drafted). record { before = x.before; now = set x.now at (sheet_kind new); touched = x.touched }) is
+
+-- the place that the last note has
+pub last_at : (ns : List Note) (at : ℕ) → EndsWith (touched_by ns) at → option_map {T = Note} {U = ℕ} (λ n. n.at) (slice_get ns (length ns - 1)) ≡ Some at
+last_at ns at ends = sym (slice_get-map (λ (n : Note). n.at) ns (length ns - 1)) ∙ ap (λ (l : List ℕ). slice_get l (length ns - 1)) ends.is ∙ ap (slice_get (ends.first ++ at ∷ [])) number ∙ of ends.first
+  where
+    number : length ns - 1 ≡ length ends.first
+    number = let e = length-map ns (λ (n : Note). n.at) in let f = ap (λ (l : List ℕ). length l) ends.is in let g = length-append ends.first (at ∷ []) in omega (arith, e, f, g)
+
+    of : (first : List ℕ) → slice_get (first ++ at ∷ []) (length first) ≡ Some at
+    of [] = refl
+    of (x ∷ first) = of first
+
+pub no_last : (ns : List Note) (at : ℕ) → slice_get ns (length ns - 1) ≡ None → EndsWith (touched_by ns) at → ⊥
+no_last ns at none ends = let e = sym (ap (option_map {T = Note} {U = ℕ} (λ n. n.at)) none) ∙ last_at ns at ends in cc e
+
+pub other_last : (ns : List Note) (n : Note) (at : ℕ) → slice_get ns (length ns - 1) ≡ Some n → (n.at ≡ at → ⊥) → EndsWith (touched_by ns) at → ⊥
+other_last ns n at some other ends = let e : Some n.at ≡ Some at = sym (ap (option_map {T = Note} {U = ℕ} (λ n. n.at)) some) ∙ last_at ns at ends in other (cc e)
 
 -- ---- one note more
 

@@ -1,6 +1,7 @@
 pub mod Batching
 pub mod Copying
 pub mod Drafting
+pub mod Freeing
 pub mod Loadings
 pub mod Planning
 pub mod Taking

@@ -1,18 +1,18 @@
 -- The pages behind a root, and what an image recovers to with them.
-use Rattle.std.specs.Prelude.{map, Result, Err}
-use Rattle.std.proofs.Common.{◌≡◌, ℕ, zero, suc, ◌+◌, ◌-◌, ◌<◌, ◌≤◌, List, [], ◌∷◌, ◌++◌, length, get_or, Option, Some, None, refl, sym, ap, subst, inl, ⊎_elim, ◌∙◌, arith, length-append}
+use Rattle.std.specs.Prelude.{map, Result, Ok, Err}
+use Rattle.std.proofs.Common.{◌≡◌, ℕ, zero, suc, ◌+◌, ◌-◌, ◌<◌, ◌≤◌, List, [], ◌∷◌, ◌++◌, length, get_or, Option, Some, None, refl, sym, ap, subst, inl, inr, ⊎_elim, ◌∙◌, arith, length-append}
 use Rattle.std.specs.Option.{option_map}
 use Rattle.std.proofs.lemmas.List.{map-append, length-map}
 use Rattle.ct_site.specs.Disks.{DiskView, IsSame, Leaves, leaves_same, leaves_then}
 use Rattle.ct_site.specs.laws.Calls.{settled_same, same_then}
 use Rattle.ct_keep.specs.Content.{Content}
-use Rattle.pg_journal.specs.Looking.{IsNoStore, Loaded, WritesNothing}
+use Rattle.pg_journal.specs.Looking.{AnswersBy, IsNoStore, Loaded, LoadsKnown, WritesNothing}
 use Rattle.pg_journal.specs.Pages.{page, pages_from, homes_in, root_page}
 use Rattle.pg_journal.specs.Recovered.{IsRecovered, IsStore, first_pages}
 use Rattle.pg_journal.specs.Standing.{DiskStands}
 use Rattle.pg_journal.specs.laws.Recovered.{one_recovered}
 use Rattle.pg_journal.specs.declared.faults.LoadFault.{LoadFault}
-use Rattle.pg_journal.specs.declared.faults.LoadFault.TheVariants.{NotAStore}
+use Rattle.pg_journal.specs.declared.faults.LoadFault.TheVariants.{Memory, Disk, NotAStore}
 use Rattle.pg_map.specs.MapReading.{nothing}
 use Rattle.pg_map.specs.laws.MapReading.{first_hold}
 use Rattle.pg_map.specs.declared.sheets.Sheet.{Sheet}
@@ -153,3 +153,26 @@ pub map_found : (found : Option (Content × PagePlaces)) (held : Content) (place
     → IsDone (sheet_kinds sheets) held × HasPlaces (sheet_kinds sheets) places
 map_found found held places now sheets map_ some is =
     subst (λ (l : List Sheet). IsDone (sheet_kinds l) held × HasPlaces (sheet_kinds l) places) is (subst (λ (o : Option (Content × PagePlaces)). IsMapOr (option_map {T = Content × PagePlaces} {U = Content × PagePlaces} (λ f. (f.0, f.1)) o) (sheet_kinds now)) some map_)
+
+-- ---- what may be answered, where a fault is handed on
+
+no_memory : {T U : Type 0} (fault other : LoadFault) → ◌≡◌ {A = Result T LoadFault} (Err other) (Err fault) → ◌≡◌ {A = Result U LoadFault} (Err Memory) (Err fault) → (other ≡ Memory → ⊥) → ⊥
+no_memory fault other was is different = let a : other ≡ fault = cc in let b : Memory ≡ fault = cc in different (a ∙ sym b)
+
+pub known_handed : {T U : Type 0} (image : List ℕ) (r : Result T LoadFault) (s : Result U LoadFault) (fault : LoadFault) → r ≡ Err fault → s ≡ Err fault → AnswersBy image r → LoadsKnown image s
+known_handed image r (Ok x) fault was is answers = absurd (cc is)
+known_handed image r (Err Disk) fault was is answers = tt
+known_handed image r (Err NotAStore) fault was is answers = tt
+known_handed image (Ok x) (Err Memory) fault was is answers = answers
+known_handed image (Err Memory) (Err Memory) fault was is answers = inr answers.0
+known_handed image (Err Disk) (Err Memory) fault was is answers = absurd (no_memory fault Disk was is (λ e. cc))
+known_handed image (Err NotAStore) (Err Memory) fault was is answers = absurd (no_memory fault NotAStore was is (λ e. cc))
+
+pub known_on : {T U : Type 0} (image : List ℕ) (r : Result T LoadFault) (s : Result U LoadFault) (fault : LoadFault) → r ≡ Err fault → s ≡ Err fault → LoadsKnown image r → LoadsKnown image s
+known_on image r (Ok x) fault was is known = absurd (cc is)
+known_on image r (Err Disk) fault was is known = tt
+known_on image r (Err NotAStore) fault was is known = tt
+known_on image (Ok x) (Err Memory) fault was is known = known
+known_on image (Err Memory) (Err Memory) fault was is known = known
+known_on image (Err Disk) (Err Memory) fault was is known = absurd (no_memory fault Disk was is (λ e. cc))
+known_on image (Err NotAStore) (Err Memory) fault was is known = absurd (no_memory fault NotAStore was is (λ e. cc))

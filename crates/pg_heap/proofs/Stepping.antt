@@ -1,7 +1,7 @@
 -- Keys on pages while a batch is planned, and the pages that its steps take.
 use Rattle.std.specs.Prelude.{Bool, true, false, cond, map, is_some}
-use Rattle.std.proofs.lemmas.Bool.{cases_lt, false≢true}
-use Rattle.std.proofs.Common.{◌≤◌, ◌<◌, ◌≡◌, ◌⊎◌, inl, inr, ⊎_elim, ℕ, zero, suc, ◌+◌, ◌-◌, ◌*◌, ◌/◌, ◌%◌, ◌^◌, List, [], ◌∷◌, ◌++◌, length, get_or, set, take, drop, Option, Some, None, refl, sym, ap, subst, ◌∙◌, length-append, append-nil, arith}
+use Rattle.std.proofs.lemmas.Bool.{cases_lt, false≢true, le-ltb, lt-ltb}
+use Rattle.std.proofs.Common.{◌≤◌, ◌<◌, ◌≡◌, ◌⊎◌, inl, inr, ⊎_elim, ℕ, zero, suc, ◌+◌, ◌-◌, ◌%◌, ◌^◌, max, List, [], ◌∷◌, ◌++◌, length, get_or, set, take, drop, Option, Some, None, refl, sym, ap, subst, ◌∙◌, length-append, append-nil, arith}
 use Rattle.std.specs.FinMap.{get, insert, remove, empty, get-insert, get-remove}
 use Rattle.std.proofs.lemmas.Cmp.{nat_list_cmp_total}
 use Rattle.ct_keep.specs.Content.{Content, Change, set_to, after}
@@ -17,15 +17,17 @@ use Rattle.pg_map.specs.laws.MapReading.{first_layout}
 use Rattle.pg_map.specs.laws.Whole.{loosened}
 use Rattle.pg_map.specs.PageStrings.{string_key}
 use Rattle.pg_heap.specs.Slots.{without_at}
-use Rattle.pg_heap.specs.Drafts.{Drafted}
+use Rattle.pg_heap.specs.Drafts.{Drafted, EndsWith, with_free_page}
+use Rattle.pg_heap.specs.FreePlaces.{ListsFree, NeedsPages, used_pages}
+use Rattle.pg_heap.proofs.Freeing.{used_set, used_over, used_end, used_all}
 use Rattle.pg_map.specs.Places.{PagePlaces}
 use Rattle.pg_heap.specs.Planned.{IsRoomier, IsPut, HasChain, HasNone, IsLongAt}
 use Rattle.pg_map.specs.Done.{IsPlanned, IsDone, HasKeyAt}
 use Rattle.pg_heap.specs.laws.Planned.{taken_at, freed_at}
 use Rattle.pg_heap.specs.laws.LooseSteps.{at_end}
 use Rattle.pg_map.specs.laws.MapReading.{kind_is}
-use Rattle.pg_heap.specs.BatchPages.{started, entry_pages, change_pages, batch_pages}
-use Rattle.pg_heap.specs.PlanSteps.{long_pages, value_bytes, NoNewKey, TakesPages, IsIndexed, MakesChange, MakesChanges}
+use Rattle.pg_heap.specs.BatchPages.{entry_pages, put_pages, changed_pages, long_pages}
+use Rattle.pg_heap.specs.PlanSteps.{MayAdd, NoNewKey, TakesPages, IsIndexed, MakesChange, MakesChanges}
 use Rattle.pg_heap.proofs.Copying.{without_fits}
 use Rattle.pg_map.specs.laws.PageStrings.{item_key}
 use Rattle.pg_heap.proofs.Taking.{item_at, without_cut}
@@ -251,46 +253,171 @@ put_made ks mid ls m k key v value at e f keys made0 = record {
 
 -- ---- pages
 
+pub needs_same : (old new : List Kind) → new ≡ old → NeedsPages old new 0
+needs_same old new is = subst (λ (l : List Kind). NeedsPages old l 0) (sym is) (record { used = omega arith; all = omega arith })
+
+pub needs_then : (old mid new : List Kind) (p q : ℕ) → NeedsPages old mid p → NeedsPages mid new q → NeedsPages old new (p + q)
+needs_then old mid new p q first second = record { used = of _ _ _ _ _ first.used second.used; all = more _ _ _ _ _ _ _ first.used first.all second.all }
+  where
+    of : (x y z p q : ℕ) → y ≤ x + p → z ≤ y + q → z ≤ x + (p + q)
+    of x y z p q a b = omega (arith, a, b)
+
+    more : (l m n u v p q : ℕ) → v ≤ u + p → m ≤ max l (u + p) → n ≤ max m (v + q) → n ≤ max l (u + (p + q))
+    more l m n u v p q a b c = omega (arith, a, b, c)
+
+pub needs_none : (old mid new : List Kind) (q : ℕ) → NeedsPages old mid 0 → NeedsPages mid new q → NeedsPages old new q
+needs_none old mid new q first second = record { used = of _ _ _ _ first.used second.used; all = more _ _ _ _ _ _ first.used first.all second.all }
+  where
+    of : (x y z q : ℕ) → y ≤ x + 0 → z ≤ y + q → z ≤ x + q
+    of x y z q a b = omega (arith, a, b)
+
+    more : (l m n u v q : ℕ) → v ≤ u + 0 → m ≤ max l (u + 0) → n ≤ max m (v + q) → n ≤ max l (u + q)
+    more l m n u v q a b c = omega (arith, a, b, c)
+
+pub needs_more : (old new : List Kind) (p q : ℕ) → p ≤ q → NeedsPages old new p → NeedsPages old new q
+needs_more old new p q less needs = record { used = of _ _ _ _ needs.used less; all = more _ _ _ _ _ needs.all less }
+  where
+    of : (x y p q : ℕ) → x ≤ y + p → p ≤ q → x ≤ y + q
+    of x y p q a b = omega (arith, a, b)
+
+    more : (n l u p q : ℕ) → n ≤ max l (u + p) → p ≤ q → n ≤ max l (u + q)
+    more n l u p q a b = omega (arith, a, b)
+
+-- pages that were those before are so still
+pub needs_from : (before now new : List Kind) (p : ℕ) → now ≡ before → NeedsPages now new p → NeedsPages before new p
+needs_from before now new p is needs = subst (λ (ks : List Kind). NeedsPages ks new p) is needs
+
+pub too_many : (before now new : List Kind) (p : ℕ) → now ≡ before → NeedsPages now new p → 2147483645 ≤ length new → 2 ^ 31 ≤ 3 + max (length before) (used_pages before + p)
+too_many before now new p is needs many = of _ _ _ _ (needs_from before now new p is needs).all many
+  where
+    of : (n l u p : ℕ) → n ≤ max l (u + p) → 2147483645 ≤ n → 2 ^ 31 ≤ 3 + max l (u + p)
+    of n l u p a b = omega (arith, a, b)
+
 -- a value is laid so far
 pub record Lays (old new : Drafted) (all left : ℕ) : Type 0 where
-  pub pages_are : length new.now + long_pages left ≤ length old.now + long_pages all
-  pub touches_are : length new.touched + 2 * long_pages left ≤ length old.touched + 2 * long_pages all
+  pub used_are : used_pages new.now + long_pages left ≤ used_pages old.now + long_pages all
+  pub pages_are : length new.now + long_pages left ≤ max (length old.now + long_pages left) (used_pages old.now + long_pages all)
+  pub touches_are : length new.touched + long_pages left ≤ length old.touched + long_pages all
 
 pub lays_none : (d : Drafted) (all left : ℕ) → left ≡ all → Lays d d all left
-lays_none d all left is = let e = ap long_pages is in record { pages_are = omega (arith, e); touches_are = omega (arith, e) }
+lays_none d all left is = let e = ap long_pages is in record { used_are = omega (arith, e); pages_are = omega (arith, e); touches_are = omega (arith, e) }
 
 page_less : (left : ℕ) → 1 ≤ left → long_pages (left - ((left - 1) % 4088 + 1)) + 1 ≤ long_pages left
 page_less left some = omega (arith, some)
 
-pub lays_more : (old mid new : Drafted) (all left : ℕ) → Lays old mid all left → TakesPages mid new 1 2 → 1 ≤ left → Lays old new all (left - ((left - 1) % 4088 + 1))
+pub lays_more : (old mid new : Drafted) (all left : ℕ) → Lays old mid all left → TakesPages mid new 1 → 1 ≤ left → Lays old new all (left - ((left - 1) % 4088 + 1))
 lays_more old mid new all left lays takes some =
     let e = page_less left some in
-    let a = lays.pages_are in
-    let b = lays.touches_are in
-    let c = takes.pages_are in
-    let d = takes.touches_are in
-    record { pages_are = of _ _ _ _ _ e a c; touches_are = two _ _ _ _ _ e b d }
+    record { used_are = of _ _ _ _ _ e lays.used_are takes.needs.used; pages_are = pages _ _ _ _ _ _ _ _ e lays.used_are lays.pages_are takes.needs.all; touches_are = of _ _ _ _ _ e lays.touches_are takes.touches_are }
   where
     of : (x y less more z : ℕ) → less + 1 ≤ more → y + more ≤ z → x ≤ y + 1 → x + less ≤ z
     of x y less more z e a c = omega (arith, e, a, c)
 
-    two : (x y less more z : ℕ) → less + 1 ≤ more → y + 2 * more ≤ z → x ≤ y + 2 → x + 2 * less ≤ z
-    two x y less more z e a c = omega (arith, e, a, c)
+    pages : (l m n u v less rest all : ℕ) → less + 1 ≤ rest → v + rest ≤ u + all → m + rest ≤ max (l + rest) (u + all) → n ≤ max m (v + 1) → n + less ≤ max (l + less) (u + all)
+    pages l m n u v less rest all e a b c = omega (arith, e, a, b, c)
 
-pub lays_all : (old new : Drafted) (all left : ℕ) → Lays old new all left → TakesPages old new (long_pages all) (2 * long_pages all)
-lays_all old new all left lays = let a = lays.pages_are in let b = lays.touches_are in record { pages_are = of _ _ _ a; touches_are = of _ _ _ b }
+pub lays_all : (old new : Drafted) (all left : ℕ) → Lays old new all left → TakesPages old new (long_pages all)
+lays_all old new all left lays = record { needs = record { used = of _ _ _ lays.used_are; all = more _ _ _ _ lays.pages_are }; touches_are = of _ _ _ lays.touches_are }
   where
     of : (x y z : ℕ) → x + y ≤ z → x ≤ z
     of x y z a = omega (arith, a)
 
+    more : (n l left z : ℕ) → n + left ≤ max (l + left) z → n ≤ max l z
+    more n l left z a = omega (arith, a)
+
 -- where a page failed
-pub lays_failed : (old mid new : Drafted) (all left : ℕ) → Lays old mid all left → TakesPages mid new 1 2 → 1 ≤ left → TakesPages old new (long_pages all) (2 * long_pages all)
+pub lays_failed : (old mid new : Drafted) (all left : ℕ) → Lays old mid all left → TakesPages mid new 1 → 1 ≤ left → TakesPages old new (long_pages all)
 lays_failed old mid new all left lays takes some = lays_all old new all (left - ((left - 1) % 4088 + 1)) (lays_more old mid new all left lays takes some)
 
-pub takes_then : (old mid new : Drafted) (p q t u : ℕ) → TakesPages old mid p t → TakesPages mid new q u → TakesPages old new (p + q) (t + u)
-takes_then old mid new p q t u first second =
-    let a = first.pages_are in let b = second.pages_are in let c = first.touches_are in let d = second.touches_are in
-    record { pages_are = omega (arith, a, b); touches_are = omega (arith, c, d) }
+pub takes_then : (old mid new : Drafted) (p q : ℕ) → TakesPages old mid p → TakesPages mid new q → TakesPages old new (q + p)
+takes_then old mid new p q first second = record { needs = subst (NeedsPages old.now new.now) (turn p q) (needs_then old.now mid.now new.now p q first.needs second.needs); touches_are = of _ _ _ _ _ first.touches_are second.touches_are }
+  where
+    turn : (p q : ℕ) → p + q ≡ q + p
+    turn p q = omega arith
+
+    of : (x y z p q : ℕ) → y ≤ x + p → z ≤ y + q → z ≤ x + (q + p)
+    of x y z p q a b = omega (arith, a, b)
+
+pub takes_more : (old new : Drafted) (p q : ℕ) → p ≤ q → TakesPages old new p → TakesPages old new q
+takes_more old new p q less takes = record { needs = needs_more old.now new.now p q less takes.needs; touches_are = let a = takes.touches_are in omega (arith, a, less) }
+
+pub takes_same : (old new : Drafted) → new ≡ old → TakesPages old new 1
+takes_same old new is = subst (λ (d : Drafted). TakesPages old d 1) (sym is) (record { needs = record { used = omega arith; all = omega arith }; touches_are = omega arith })
+
+-- then nothing changed
+pub takes_on : (old mid new : Drafted) → TakesPages old mid 1 → new ≡ mid → TakesPages old new 1
+takes_on old mid new takes is = subst (λ (d : Drafted). TakesPages old d 1) (sym is) takes
+
+-- a page is added where none is free
+pub takes_added : (old new : Drafted) (places : List ℕ) → ListsFree old.now places → places ≡ [] → new ≡ with_free_page old → TakesPages old new 1
+takes_added old new places listed none is = subst (λ (d : Drafted). TakesPages old d 1) (sym is) (record {
+  needs = record { used = let e = used_end old.now in omega (arith, e); all = let e = used_all old.now places listed none in let n = length-append old.now (Free ∷ []) in omega (arith, e, n) };
+  touches_are = let n = length-append old.touched (length old.now ∷ []) in omega (arith, n);
+})
+
+pub may_add : (old new : Drafted) → new ≡ with_free_page old → MayAdd old new (length old.now)
+may_add old new is = subst (λ (d : Drafted). MayAdd old d (length old.now)) (sym is) (record { used = used_end old.now; touched = inr refl })
+
+pub adds_none : (old new : Drafted) (at : ℕ) → new ≡ old → MayAdd old new at
+adds_none old new at is = subst (λ (d : Drafted). MayAdd old d at) (sym is) (record { used = refl; touched = inl refl })
+
+length_set : (ks : List Kind) (at : ℕ) (k : Kind) → length (set ks at k) ≡ length ks
+length_set [] at k = refl
+length_set (j ∷ ks) zero k = refl
+length_set (j ∷ ks) (suc at) k = ap suc (length_set ks at k)
+
+-- a page that may have been added is filled, and noted once
+pub fills_added : (old mid new : Drafted) (at : ℕ) (k : Kind) → TakesPages old mid 1 → MayAdd old mid at → new.now ≡ set mid.now at k → length new.touched ≤ length mid.touched + 1 → (EndsWith mid.touched at → new.touched ≡ mid.touched) → TakesPages old new 1
+fills_added old mid new at k takes added is touches last = record {
+  needs = record {
+    used = used _ _ _ _ (ap used_pages is) (used_set mid.now at k) added.used;
+    all = all _ _ _ _ _ (ap (λ (l : List Kind). length l) is) (length_set mid.now at k) takes.needs.all;
+  };
+  touches_are = ⊎_elim
+      (λ same_. let e = ap (λ (l : List ℕ). length l) same_ in omega (arith, e, touches))
+      (λ more. let e = ap (λ (l : List ℕ). length l) (last (record { first = old.touched; is = more })) in let b = takes.touches_are in omega (arith, e, b)) added.touched;
+}
+  where
+    used : (n s m o : ℕ) → n ≡ s → s ≤ m + 1 → m ≡ o → n ≤ o + 1
+    used n s m o a b c = omega (arith, a, b, c)
+
+    all : (n s m l u : ℕ) → n ≡ s → s ≡ m → m ≤ max l (u + 1) → n ≤ max l (u + 1)
+    all n s m l u a b c = omega (arith, a, b, c)
+
+-- a page is filled that was there
+pub fills_there : (old new : Drafted) (at : ℕ) (k : Kind) → new.now ≡ set old.now at k → length new.touched ≤ length old.touched + 1 → TakesPages old new 1
+fills_there old new at k is touches = record {
+  needs = record {
+    used = used _ _ _ (ap used_pages is) (used_set old.now at k);
+    all = all _ _ _ _ (ap (λ (l : List Kind). length l) is) (length_set old.now at k);
+  };
+  touches_are = touches;
+}
+  where
+    used : (n s o : ℕ) → n ≡ s → s ≤ o + 1 → n ≤ o + 1
+    used n s o a b = omega (arith, a, b)
+
+    all : (n s l u : ℕ) → n ≡ s → s ≡ l → n ≤ max l (u + 1)
+    all n s l u a b = omega (arith, a, b)
+
+-- an entry leaves its page, and its long pages are freed
+pub removal_needs : (old mid new : List Kind) (at : ℕ) (k : Kind) → (get_or old at Free ≡ Free → ⊥) → mid ≡ set old at k → length new ≡ length mid → used_pages new ≤ used_pages mid → NeedsPages old new 0
+removal_needs old mid new at k full is same_ less = record {
+  used = used _ _ _ _ less (ap used_pages is) (used_over old at k full);
+  all = all _ _ _ _ _ same_ (ap (λ (l : List Kind). length l) is) (length_set old at k);
+}
+  where
+    used : (n m s o : ℕ) → n ≤ m → m ≡ s → s ≤ o → n ≤ o + 0
+    used n m s o a b c = omega (arith, a, b, c)
+
+    all : (n m s l u : ℕ) → n ≡ m → m ≡ s → s ≡ l → n ≤ max l (u + 0)
+    all n m s l u a b c = omega (arith, a, b, c)
+
+pub slotted_full : (ks : List Kind) (at : ℕ) (ss : List (List ℕ)) → get_or ks at Free ≡ Slotted ss → get_or ks at Free ≡ Free → ⊥
+slotted_full ks at ss is free = cc (is, free)
+
+pub long_full : (ks : List Kind) (at next : ℕ) (bytes : List ℕ) → get_or ks at Free ≡ Long next bytes → get_or ks at Free ≡ Free → ⊥
+long_full ks at next bytes is free = cc (is, free)
 
 -- ---- a chain is freed
 
@@ -357,96 +484,98 @@ touched_all before begins count old now left m value is chain long = let e = is.
     of : (x y z : ℕ) → x + y ≤ z → x ≤ z
     of x y z a = omega (arith, a)
 
-more_pages : (n b : ℕ) → n ≤ b → long_pages n ≤ long_pages b
-more_pages n b less = omega (arith, less)
-
-pub removal_touches : (old mid new : Drafted) (at count bytes : ℕ) → mid.touched ≡ old.touched ++ at ∷ [] → length new.touched ≤ length mid.touched + long_pages count → count ≤ bytes → length new.touched ≤ length old.touched + (1 + long_pages bytes)
-removal_touches old mid new at count bytes put frees most =
+pub removal_touches : (old mid new : Drafted) (at count pages : ℕ) → mid.touched ≡ old.touched ++ at ∷ [] → length new.touched ≤ length mid.touched + long_pages count → 1 + long_pages count ≤ pages → length new.touched ≤ length old.touched + pages
+removal_touches old mid new at count pages put frees most =
     let long = ap (λ (l : List ℕ). length l) put ∙ length-append old.touched (at ∷ []) in
-    of _ _ _ _ _ frees long (more_pages count bytes most)
+    of _ _ _ _ _ frees long most
   where
-    of : (x y z p q : ℕ) → x ≤ y + p → y ≡ z + 1 → p ≤ q → x ≤ z + (1 + q)
+    of : (x y z p q : ℕ) → x ≤ y + p → y ≡ z + 1 → 1 + p ≤ q → x ≤ z + q
     of x y z p q a b e = omega (arith, a, b, e)
+
+-- ---- the pages of an entry
+
+-- the old entry of a key left its pages, and a new one was put
+pub put_touches : (old mid new : Drafted) (m : Content) (k key v : List ℕ) (n : ℕ) → k ≡ key → length mid.touched ≤ length old.touched + entry_pages k (get m k) → TakesPages mid new n → entry_pages key (Some v) ≡ n
+    → length new.touched ≤ length old.touched + (entry_pages key (get m key) + entry_pages key (Some v))
+put_touches old mid new m k key v n is gone takes pages = of _ _ _ _ _ _ (subst (λ (q : List ℕ). length mid.touched ≤ length old.touched + entry_pages q (get m q)) is gone) takes.touches_are pages
+  where
+    of : (x y z e n p : ℕ) → y ≤ z + e → x ≤ y + n → p ≡ n → x ≤ z + (e + p)
+    of x y z e n p a b c = omega (arith, a, b, c)
+
+pub put_needs : (old mid : List Kind) (d new : Drafted) (key v : List ℕ) (n : ℕ) → NeedsPages old mid 0 → d.now ≡ mid → TakesPages d new n → entry_pages key (Some v) ≡ n → NeedsPages old new.now (entry_pages key (Some v))
+put_needs old mid d new key v n gone is takes pages = subst (NeedsPages old new.now) (sym pages) (needs_none old mid new.now n gone (subst (λ (ks : List Kind). NeedsPages ks new.now n) is takes.needs))
+
+-- where nothing was put
+pub gone_touches : (old mid : Drafted) (m : Content) (k key : List ℕ) (more : ℕ) → k ≡ key → length mid.touched ≤ length old.touched + entry_pages k (get m k) → length mid.touched ≤ length old.touched + (entry_pages key (get m key) + more)
+gone_touches old mid m k key more is gone = of _ _ _ _ (subst (λ (q : List ℕ). length mid.touched ≤ length old.touched + entry_pages q (get m q)) is gone)
+  where
+    of : (y z e p : ℕ) → y ≤ z + e → y ≤ z + (e + p)
+    of y z e p a = omega (arith, a)
+
+pub short_pages : (key value : List ℕ) → 3 + length key + length value ≤ 4084 → entry_pages key (Some value) ≡ 1
+short_pages key value short = ap (λ (b : Bool). 1 + cond b (long_pages (length value)) 0) (le-ltb 4084 (3 + length key + length value) short)
+
+pub far_entry_pages : (key value : List ℕ) → 4084 < 3 + length key + length value → entry_pages key (Some value) ≡ 1 + long_pages (length value)
+far_entry_pages key value long = ap (λ (b : Bool). 1 + cond b (long_pages (length value)) 0) (lt-ltb 4084 (3 + length key + length value) long)
 
 -- ---- all changes
 
-touches_less : (k b n : ℕ) (x : ℕ) → x ≡ (k + b + 1023) / 1024 → (b + 4087) / 4088 ≤ x
-touches_less k b n x is = omega (arith, is)
+pub changed_pages-append : (ws us : List Change) (m : Content) → changed_pages (ws ++ us) m ≡ changed_pages ws m + changed_pages us (after ws m)
+changed_pages-append [] us m = omega arith
+changed_pages-append (w ∷ ws) us m = let e = changed_pages-append ws us (set_to w.0 w.1 m) in omega (arith, e)
 
-entry_more : (key : List ℕ) (o : Option (List ℕ)) → long_pages (value_bytes o) ≤ entry_pages key o
-entry_more key None = omega arith
-entry_more key (Some value) = touches_less (length key) (length value) 0 (started (length key + length value)) refl
-
-pub change_touches : (key : List ℕ) (value : Option (List ℕ)) (m : Content) → 3 + long_pages (value_bytes (get m key)) + 2 * long_pages (value_bytes value) ≤ 2 * change_pages (key, value) m
-change_touches key value m = let a = entry_more key (get m key) in let b = entry_more key value in of _ _ _ _ a b
-  where
-    of : (x y a b : ℕ) → x ≤ a → y ≤ b → 3 + x + 2 * y ≤ 2 * (512 + a + b)
-    of x y a b e f = omega (arith, e, f)
-
-pub change_grows : (key : List ℕ) (value : Option (List ℕ)) (m : Content) → 1 + long_pages (value_bytes value) ≤ change_pages (key, value) m
-change_grows key value m = let b = entry_more key value in of _ _ _ b
-  where
-    of : (y a b : ℕ) → y ≤ b → 1 + y ≤ 512 + a + b
-    of y a b f = omega (arith, f)
-
-pub batch_pages-append : (ws us : List Change) (m : Content) → batch_pages (ws ++ us) m ≡ batch_pages ws m + batch_pages us (after ws m)
-batch_pages-append [] us m = omega arith
-batch_pages-append (w ∷ ws) us m = let e = batch_pages-append ws us (set_to w.0 w.1 m) in omega (arith, e)
-
-pub batch_pages-one : (ws us : List Change) (key : List ℕ) (value : Option (List ℕ)) (m : Content) → us ≡ ws ++ (key, value) ∷ [] → batch_pages us m ≡ batch_pages ws m + change_pages (key, value) (after ws m)
-batch_pages-one ws us key value m is = ap (λ (l : List Change). batch_pages l m) is ∙ batch_pages-append ws ((key, value) ∷ []) m ∙ of _ _
+pub changed_pages-one : (ws us : List Change) (key : List ℕ) (value : Option (List ℕ)) (m : Content) → us ≡ ws ++ (key, value) ∷ [] → changed_pages us m ≡ changed_pages ws m + (entry_pages key (get (after ws m) key) + entry_pages key value)
+changed_pages-one ws us key value m is = ap (λ (l : List Change). changed_pages l m) is ∙ changed_pages-append ws ((key, value) ∷ []) m ∙ of _ _
   where
     of : (a b : ℕ) → a + (b + 0) ≡ a + b
     of a b = omega arith
 
+pub put_pages-one : (ws us : List Change) (key : List ℕ) (value : Option (List ℕ)) → us ≡ ws ++ (key, value) ∷ [] → put_pages us ≡ put_pages ws + entry_pages key value
+put_pages-one ws us key value is = ap put_pages is ∙ of ws
+  where
+    of : (ws : List Change) → put_pages (ws ++ (key, value) ∷ []) ≡ put_pages ws + entry_pages key value
+    of [] = omega arith
+    of (w ∷ ws) = let e = of ws in omega (arith, e)
+
 pub made_more : (old mid new : Drafted) (places places1 : PagePlaces) (ws us : List Change) (m : Content) (key : List ℕ) (value : Option (List ℕ)) (at : ℕ) → MakesChanges old mid places ws m → us ≡ ws ++ (key, value) ∷ []
-    → MakesChange mid.now new.now (after ws m) key value at → places1 ≡ insert places key at → length new.touched ≤ length mid.touched + (3 + long_pages (value_bytes (get (after ws m) key)) + 2 * long_pages (value_bytes value))
+    → MakesChange mid.now new.now (after ws m) key value at → places1 ≡ insert places key at → length new.touched ≤ length mid.touched + (entry_pages key (get (after ws m) key) + entry_pages key value)
     → MakesChanges old new places1 us m
 made_more old mid new places places1 ws us m key value at is more made put touches = record {
   done = subst (IsDone new.now) (sym (ap (λ (l : List Change). after l m) more ∙ after-append ws ((key, value) ∷ []) m)) made.done;
   index = record { place = λ a q has. ap (λ (p : PagePlaces). get p q) put ∙ get-insert nat_list_cmp_total places key at q ∙ of a q has (same q key) refl };
-  touches = let a = is.touches in let b = change_touches key value (after ws m) in let c = batch_pages-one ws us key value m more in sum _ _ _ _ _ _ _ a touches b c;
+  touches = let a = is.touches in let c = changed_pages-one ws us key value m more in sum _ _ _ _ _ _ a touches c;
 }
   where
     of : (a : ℕ) (q : List ℕ) → HasKeyAt new.now a q → (b : Bool) → same q key ≡ b → cond (same q key) (Some at) (get places q) ≡ Some a
     of a q has true e = ap (λ (b : Bool). cond b (Some at) (get places q)) e ∙ ap (λ (n : ℕ). Some n) (sym (made.here a (subst (λ (k : List ℕ). HasKeyAt new.now a k) (same_keys q key e) has)))
     of a q has false e = ap (λ (b : Bool). cond b (Some at) (get places q)) e ∙ is.index.place a q (made.others a q (λ is_. false≢true (sym e ∙ ap (same q) (sym is_) ∙ same_itself q)) has)
 
-    sum : (x y z t p c q : ℕ) → y ≤ z + 2 * p → x ≤ y + t → t ≤ 2 * c → q ≡ p + c → x ≤ z + 2 * q
-    sum x y z t p c q a b e f = omega (arith, a, b, e, f)
+    sum : (x y z t p q : ℕ) → y ≤ z + p → x ≤ y + t → q ≡ p + t → x ≤ z + q
+    sum x y z t p q a b f = omega (arith, a, b, f)
 
 pub made_none : (d : Drafted) (places : PagePlaces) (m : Content) → IsDone d.now m → IsIndexed d.now places → MakesChanges d d places [] m
 made_none d places m done index = record { done = done; index = index; touches = omega arith }
 
-batch_take : (ws : List rust.Change) (i : ℕ) (m : Content) → batch_pages (map change_of (take i ws)) m ≤ batch_pages (map change_of ws) m
-batch_take ws zero m = omega arith
-batch_take [] (suc i) m = omega arith
-batch_take (w ∷ ws) (suc i) m = let e = batch_take ws i (set_to (change_of w).0 (change_of w).1 m) in omega (arith, e)
+put_pages-take : (ws : List rust.Change) (i : ℕ) → put_pages (map change_of (take i ws)) ≤ put_pages (map change_of ws)
+put_pages-take ws zero = omega arith
+put_pages-take [] (suc i) = omega arith
+put_pages-take (w ∷ ws) (suc i) = let e = put_pages-take ws i in omega (arith, e)
 
--- as many pages more as the first changes take, while a plan goes on
-pub record GrowsAlong (old new : Drafted) (ws : List rust.Change) (i : ℕ) : Type 0 where
-  pub is : (m : Content) → length new.now ≤ length old.now + batch_pages (map change_of (take i ws)) m
+-- as many pages as the first changes put, while a plan goes on
+pub record NeedsAlong (old new : List Kind) (ws : List rust.Change) (i : ℕ) : Type 0 where
+  pub is : NeedsPages old new (put_pages (map change_of (take i ws)))
 
-pub grows_none : (d : Drafted) (ws : List rust.Change) → GrowsAlong d d ws 0
-grows_none d ws = record { is = λ m. omega arith }
+pub along_none : (ks : List Kind) (ws : List rust.Change) → NeedsAlong ks ks ws 0
+along_none ks ws = record { is = needs_same ks ks refl }
 
-pub grows_more : (old mid new : Drafted) (ws : List rust.Change) (i : ℕ) (w : rust.Change) → GrowsAlong old mid ws i → i < length ws → w ≡ get_or ws i w → length new.now ≤ length mid.now + (1 + long_pages (value_bytes (change_of w).1)) → GrowsAlong old new ws (i + 1)
-grows_more old mid new ws i w grows less at step = record {
-  is = λ m.
-      let a = grows.is m in
-      let b = change_grows (change_of w).0 (change_of w).1 (after (map change_of (take i ws)) m) in
-      let c = batch_pages-one (map change_of (take i ws)) (map change_of (take (i + 1) ws)) (change_of w).0 (change_of w).1 m (changes_take ws i w less at) in
-      sum _ _ _ _ _ _ _ a step b c;
+pub along_more : (old mid new : List Kind) (ws : List rust.Change) (i : ℕ) (w : rust.Change) → NeedsAlong old mid ws i → i < length ws → w ≡ get_or ws i w → NeedsPages mid new (entry_pages (change_of w).0 (change_of w).1) → NeedsAlong old new ws (i + 1)
+along_more old mid new ws i w so_far less at step = record {
+  is = subst (NeedsPages old new) (sym (put_pages-one (map change_of (take i ws)) (map change_of (take (i + 1) ws)) (change_of w).0 (change_of w).1 (changes_take ws i w less at)))
+      (needs_then old mid new (put_pages (map change_of (take i ws))) (entry_pages (change_of w).0 (change_of w).1) so_far.is step);
 }
-  where
-    sum : (x y z t p c q : ℕ) → y ≤ z + p → x ≤ y + t → t ≤ c → q ≡ p + c → x ≤ z + q
-    sum x y z t p c q a b e f = omega (arith, a, b, e, f)
 
-pub grows_all : (old new : Drafted) (ws : List rust.Change) (i : ℕ) → GrowsAlong old new ws i → (m : Content) → length new.now ≤ length old.now + batch_pages (map change_of ws) m
-grows_all old new ws i grows m = let a = grows.is m in let b = batch_take ws i m in of _ _ _ _ a b
-  where
-    of : (x z p q : ℕ) → x ≤ z + p → p ≤ q → x ≤ z + q
-    of x z p q a b = omega (arith, a, b)
+pub along_all : (old new : List Kind) (ws : List rust.Change) (i : ℕ) → NeedsAlong old new ws i → NeedsPages old new (put_pages (map change_of ws))
+along_all old new ws i so_far = needs_more old new (put_pages (map change_of (take i ws))) (put_pages (map change_of ws)) (put_pages-take ws i) so_far.is
 
 -- a key that the map hasn't may lose its place
 pub forgotten : (kinds : List Kind) (m : Content) (places places1 : PagePlaces) (key : List ℕ) → IsDone kinds m → IsIndexed kinds places → is_some (get m key) ≡ false → places1 ≡ remove places key → IsIndexed kinds places1

@@ -1,12 +1,14 @@
 -- An entry is taken off its page, and one is put on a page.
-use Rattle.std.proofs.Common.{◌≤◌, ◌<◌, ◌≡◌, ℕ, zero, suc, ◌+◌, ◌-◌, ◌*◌, List, [], ◌∷◌, ◌++◌, length, get_or, set, take, drop, None, Some, refl, sym, ap, subst, ◌∙◌, append_assoc, append-nil, length-append, arith}
+use Rattle.std.specs.Prelude.{Bool, true, false, cond, nat_lt}
+use Rattle.std.proofs.lemmas.Bool.{ltb-false}
+use Rattle.std.proofs.Common.{◌≤◌, ◌<◌, ◌≡◌, ℕ, zero, suc, ◌+◌, ◌-◌, ◌*◌, List, [], ◌∷◌, ◌++◌, length, get_or, set, take, drop, Option, None, Some, refl, sym, ap, subst, ◌∙◌, append_assoc, append-nil, length-append, arith}
 use Rattle.std.specs.FinMap.{get}
 use Rattle.ct_keep.specs.Content.{Content, set_to}
-use Rattle.pg_heap.specs.PlanSteps.{value_bytes}
+use Rattle.pg_heap.specs.BatchPages.{entry_pages, long_pages}
 use Rattle.pg_page.specs.Pages.{taken, Fits, free}
 use Rattle.pg_page.specs.PageLaws.{taken-push}
 use Rattle.pg_page.specs.ReadLaws.{at_slot}
-use Rattle.pg_map.specs.Kinds.{Each, Kind, Free, Slotted, strings_of, StringItem, item_bytes, IsStringItem, key_in_item}
+use Rattle.pg_map.specs.Kinds.{Each, Kind, Free, Slotted, strings_of, StringItem, Short, Far, item_bytes, IsStringItem, key_in_item, count_of}
 use Rattle.pg_map.specs.Holding.{Placed, one_if_long, bytes_of}
 use Rattle.pg_map.specs.laws.Holding.{strings-append}
 use Rattle.pg_heap.specs.laws.LooseSteps.{parted, with_kind, tail_is}
@@ -78,12 +80,21 @@ item_at kinds m at ss i done within kind less =
     let r = parted done.is.placed (strings_of s.before ++ take i ss) (get_or ss i [] ∷ (drop (suc i) ss ++ strings_of s.behind)) strings in
     first_item r.vs (get_or ss i []) (drop (suc i) ss ++ strings_of s.behind) (right_items r.us r.vs (subst (Each (λ (p : Placed). IsStringItem p.item)) r.is done.is.items)) r.behind_is
 
+-- the page with an entry's string, and the long ones that its item names, are those of the entry
+pub far_pages : (k n : ℕ) (value : List ℕ) (far : Bool) → nat_lt 4084 (3 + k + length value) ≡ far → 4084 < 3 + k + n → n ≤ length value → 1 + long_pages n ≤ 1 + cond far (long_pages (length value)) 0
+far_pages k n value true is long most = omega (arith, most)
+far_pages k n value false is long most = let e = ltb-false 4084 (3 + k + length value) is in omega (arith, e, long, most)
+
+item_pages : (item : StringItem) (key value : List ℕ) → IsStringItem item → key_in_item item ≡ key → count_of item ≤ length value → 1 + long_pages (count_of item) ≤ entry_pages key (Some value)
+item_pages (Short k v) key value good is most = omega arith
+item_pages (Far k n first) key value good is most = let e = ap (λ (l : List ℕ). length l) is in let long = good.3 in far_pages (length key) n value (nat_lt 4084 (3 + length key + length value)) refl (omega (arith, e, long)) most
+
 -- what is left of the pages, and the chain that is to be freed
 pub record Takes (kinds : List Kind) (m : Content) (key : List ℕ) (first count : ℕ) : Type 0 where
   pub value : List ℕ
   pub chain : HasChain kinds (set_to key None m) first value
   pub long : length value ≡ count
-  pub most : count ≤ value_bytes (get m key)
+  pub pages : 1 + long_pages count ≤ entry_pages key (get m key)
 
 pub takes : (kinds news : List Kind) (m : Content) (at : ℕ) (key : List ℕ) (rest : List (List ℕ)) (first count : ℕ) → IsDone kinds m → IsTaking kinds at key rest first count → news ≡ set kinds at (Slotted rest) → Takes news m key first count
 takes kinds news m at key rest first count done t put =
@@ -103,5 +114,5 @@ takes kinds news m at key rest first count done t put =
             (subst (λ (n : ℕ). IsPlanned (set kinds at (Slotted (take t.number t.strings ++ drop (suc t.number) t.strings))) (set_to (key_in_item i.item) None m) n r.loose r.rest) (sym two.0) r.is));
       };
       long = r.count ∙ sym two.1;
-      most = let n = r.most in let e : get m key ≡ Some r.entry.1 = ap (get m) (sym key_is) ∙ r.has in let b = ap value_bytes e in omega (arith, n, b, two.1);
+      pages = subst (λ (n : ℕ). 1 + long_pages n ≤ entry_pages key (get m key)) (sym two.1) (subst (λ (o : Option (List ℕ)). 1 + long_pages (count_of i.item) ≤ entry_pages key o) (sym (ap (get m) (sym key_is) ∙ r.has)) (item_pages i.item key r.entry.1 i.good key_is r.most));
     }

@@ -1,19 +1,21 @@
--- What a call that commits pages leaves of the disk and of its count of faults.
+-- What a call that commits pages leaves of the disk, of its count of faults, and of that of its syncs.
 use Rattle.std.specs.Prelude.{◌≡◌, ◌≤◌, ℕ, None, Result, Ok, Err, refl}
 use Rattle.ct_base.specs.Moments.{Grows}
 use Rattle.ct_site.specs.Disks.{DiskView}
+use Rattle.pg_journal.specs.Syncs.{SyncsAtMost}
 use Rattle.ct_keep.specs.declared.keepers.KeepFault.{KeepFault}
 use Rattle.ct_keep.specs.declared.keepers.KeepFault.TheVariants.{Memory, Full, Disk}
 use Rattle.ct_keep.specs.KeeperViews.{disk_faults_after, fault_of}
 
 -- Disk is answered exactly where a call of the disk failed: the disk's count of faults rose by one, or stands at its end. After every
--- other answer the count is as it was.
+-- other answer the count is as it was. The disk was synced four times at most.
 pub record CommitsPages {T : Type 0} (old new : DiskView) (result : Result T KeepFault) : Type 0 where
   pub beside : new.beside ≡ old.beside
   pub untold : old.image ≡ None → new.image ≡ None
   pub kept : Grows old.time new.time
   pub later : old.faults ≤ new.faults
   pub faults : new.faults ≡ disk_faults_after (fault_of result) old.faults
+  pub syncs : SyncsAtMost 4 old new
 
 -- an answer that isn't Disk leaves the count
 pub same_faults : {T : Type 0} (result : Result T KeepFault) (n : ℕ) → (result ≡ Err Disk → ⊥) → n ≡ disk_faults_after (fault_of result) n

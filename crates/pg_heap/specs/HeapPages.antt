@@ -1,5 +1,5 @@
 -- The pages of a heap in memory, as contracts see them.
-use Rattle.std.specs.Prelude.{◌≡◌, ◌+◌, ◌*◌, ◌^◌, ◌≤◌, ◌<◌, List, [], length}
+use Rattle.std.specs.Prelude.{◌≡◌, ◌+◌, ◌^◌, ◌≤◌, ◌<◌, List, [], length}
 use Rattle.ct_keep.specs.Content.{Change, after, weight}
 use Rattle.pg_journal.specs.Pages.{Numbered}
 use Rattle.pg_heap.specs.declared.pages.Pages.{Pages}
@@ -7,7 +7,8 @@ use Rattle.pg_heap.specs.declared.batch_plans.BatchPlan.{BatchPlan}
 use Rattle.pg_map.specs.Sheets.{sheet_kinds}
 use Rattle.pg_map.specs.Done.{IsDone}
 use Rattle.pg_heap.specs.PlanSteps.{IsIndexed}
-use Rattle.pg_heap.specs.BatchPages.{batch_pages}
+use Rattle.pg_heap.specs.BatchPages.{changed_pages, put_pages}
+use Rattle.pg_heap.specs.FreePlaces.{NeedsPages}
 use Rattle.pg_heap.specs.Committing.{IsBatchOf}
 use Rattle.std.specs.Prelude.{refl}
 
@@ -50,8 +51,8 @@ pub record IsPlanMade (p : BatchPlan) (changes : List Change) (pages : List Numb
   pub bound : weight p.entries.seen < 2 ^ 64
   pub batch : IsBatchOf p.draft.before p.draft.now pages
   pub grown : length p.draft.before ≤ length p.draft.now
-  pub grows : length p.draft.now ≤ length p.draft.before + batch_pages changes p.entries.before
-  pub limit : length pages ≤ 1 + 2 * batch_pages changes p.entries.before
+  pub needs : NeedsPages p.draft.before p.draft.now (put_pages changes)
+  pub limit : length pages ≤ 1 + changed_pages changes p.entries.before
 
 -- ---- example
 nothing_changed : (p : Pages) → SameButPlaces p p

@@ -3,6 +3,8 @@ pub mod Commits
 pub mod Committing
 pub mod DraftFields
 pub mod Drafts
+pub mod FreeFields
+pub mod FreePlaces
 pub mod HeapFields
 pub mod HeapPages
 pub mod Heaps

@@ -1,34 +1,31 @@
 -- What the steps of a plan leave of the keys on pages, and how many pages they take.
-use Rattle.std.specs.Prelude.{◌≡◌, ◌≢◌, ℕ, ◌+◌, ◌*◌, ◌/◌, ◌≤◌, List, length, Option, Some, None, refl}
+use Rattle.std.specs.Prelude.{◌≡◌, ◌≢◌, ◌⊎◌, ℕ, ◌+◌, ◌≤◌, List, [], ◌∷◌, ◌++◌, length, Option, Some, refl}
 use Rattle.std.specs.FinMap.{get}
 use Rattle.ct_keep.specs.Content.{Content, Change, set_to, after}
 use Rattle.pg_map.specs.Kinds.{Kind}
 use Rattle.pg_heap.specs.Drafts.{Drafted}
 use Rattle.pg_map.specs.Places.{PagePlaces}
 use Rattle.pg_map.specs.Done.{IsDone, HasKeyAt}
-use Rattle.pg_heap.specs.BatchPages.{batch_pages}
-
--- how many long pages so many bytes take
-abbrev pub long_pages : ℕ → ℕ
-long_pages n = (n + 4087) / 4088
-
--- how many bytes a value has, if there is one
-abbrev pub value_bytes : Option (List ℕ) → ℕ
-value_bytes None = 0
-value_bytes (Some value) = length value
+use Rattle.pg_heap.specs.BatchPages.{changed_pages, entry_pages, long_pages}
+use Rattle.pg_heap.specs.FreePlaces.{NeedsPages, used_pages}
 
 -- No key has come to a page.
 pub record NoNewKey (old new : List Kind) : Type 0 where
   pub none : (at : ℕ) (key : List ℕ) → HasKeyAt new at key → HasKeyAt old at key
 
--- There are at most so many pages more, and at most so many changes of pages were noted.
-pub record TakesPages (old new : Drafted) (pages touches : ℕ) : Type 0 where
-  pub pages_are : length new.now ≤ length old.now + pages
-  pub touches_are : length new.touched ≤ length old.touched + touches
+-- At most so many pages were needed, and at most so many changes of pages were noted.
+pub record TakesPages (old new : Drafted) (pages : ℕ) : Type 0 where
+  pub needs : NeedsPages old.now new.now pages
+  pub touches_are : length new.touched ≤ length old.touched + pages
 
--- Where the pages held a map, at most one page was changed beside the long ones of the key's value.
+-- A free page was added at this place, and that was noted last; or nothing changed.
+pub record MayAdd (old new : Drafted) (at : ℕ) : Type 0 where
+  pub used : used_pages new.now ≡ used_pages old.now
+  pub touched : (new.touched ≡ old.touched) ⊎ (new.touched ≡ old.touched ++ at ∷ [])
+
+-- Where the pages held a map, at most the pages of the key's entry were changed.
 abbrev pub TouchesEntry : Drafted → Drafted → List ℕ → Type 0
-TouchesEntry old new key = (m : Content) → IsDone old.now m → length new.touched ≤ length old.touched + (1 + long_pages (value_bytes (get m key)))
+TouchesEntry old new key = (m : Content) → IsDone old.now m → length new.touched ≤ length old.touched + entry_pages key (get m key)
 
 -- Each key that stands on a page stands where the places say.
 pub record IsIndexed (kinds : List Kind) (places : PagePlaces) : Type 0 where
@@ -45,7 +42,7 @@ pub record MakesChange (old new : List Kind) (m : Content) (key : List ℕ) (val
 pub record MakesChanges (old new : Drafted) (places : PagePlaces) (ws : List Change) (m : Content) : Type 0 where
   pub done : IsDone new.now (after ws m)
   pub index : IsIndexed new.now places
-  pub touches : length new.touched ≤ length old.touched + 2 * batch_pages ws m
+  pub touches : length new.touched ≤ length old.touched + changed_pages ws m
 
 -- ---- computed examples: 9,000 bytes take three long pages, and a full page takes one
 of_9000 : long_pages 9000 ≡ 3

@@ -5,3 +5,4 @@ pub mod Heaps
 pub mod LooseSteps
 pub mod Planned
 pub mod Recovering
+pub mod RoughEnds

@@ -1,13 +1,14 @@
 //! The plan of a batch: what it makes of pages, map and places, all in memory.
 
-ghost use Rattle.std.specs.Prelude.{true, ◌≡◌, ◌<◌, ◌≤◌, ◌+◌, ◌^◌, ◌&&◌, nat_lt, Err, IfOk, length, map};
+ghost use Rattle.std.specs.Prelude.{true, ◌≡◌, ◌<◌, ◌≤◌, ◌+◌, ◌^◌, ◌&&◌, nat_lt, Err, IfOk, OnOk, length, map, max};
 ghost use Rattle.ct_keep.specs.Content.{weight};
 ghost use Rattle.ct_keep.specs.SeenChanges.{change_of};
 ghost use Rattle.ct_keep.specs.Changes.{AnyEntry, AreWell};
 ghost use Rattle.pg_map.specs.Sheets.{sheet_kinds};
 ghost use Rattle.pg_map.specs.Done.{IsDone};
 ghost use Rattle.pg_heap.specs.PlanSteps.{IsIndexed};
-ghost use Rattle.pg_heap.specs.BatchPages.{batch_pages};
+ghost use Rattle.pg_heap.specs.BatchPages.{put_pages};
+ghost use Rattle.pg_heap.specs.FreePlaces.{ListsFree, used_pages};
 ghost use Rattle.pg_heap.specs.HeapPages.{IsSound, IsUndoable, IsFresh, GoesBackAs, IsPlanMade};
 
 use crate::changes::do_changes;
@@ -78,6 +79,7 @@ impl BatchPlan {
     }
 
     /// Makes the changes of a batch, and gives the pages that are to be committed.
+    #[tactic(auto, using(crate::proofs::Stepping::needs_from, crate::proofs::Stepping::too_many))]
     pub(crate) fn make(
         &mut self,
         alloc: Global,
@@ -87,9 +89,12 @@ impl BatchPlan {
         requires well { AreWell AnyEntry batch.now }
         requires undoable { IsUndoable self.old }
         requires fresh { IsFresh self.old }
+        requires listed { ListsFree self.old.draft.now hints.old.free.now }
         ensures same { GoesBackAs self.old self.new }
+        ensures kept { hints.new.free.before ≡ hints.old.free.before }
+        ensures listed { OnOk result (ListsFree self.new.draft.now hints.new.free.now) }
         ensures made { IfOk result (λ pages. IsPlanMade self.new batch.now pages.pages) }
-        ensures too_many { result ≡ Err PlanFault.TooMany → 2 ^ 31 ≤ 3 + length self.old.draft.before + batch_pages batch.now self.old.entries.before }
+        ensures too_many { result ≡ Err PlanFault.TooMany → 2 ^ 31 ≤ 3 + max (length self.old.draft.before) (used_pages self.old.draft.before + put_pages batch.now) }
     {
         let changes = batch.changes();
         do_changes(alloc, &mut self.draft, hints, &mut self.places, changes)?;

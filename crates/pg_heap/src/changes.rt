@@ -8,7 +8,8 @@ ghost use Rattle.ct_keep.specs.Changes.{AnyEntry, AreWell};
 ghost use Rattle.pg_heap.specs.Planned.{HasNone};
 ghost use Rattle.pg_map.specs.Done.{IsDone};
 ghost use Rattle.pg_heap.specs.PlanSteps.{IsIndexed, MakesChanges};
-ghost use Rattle.pg_heap.specs.BatchPages.{batch_pages};
+ghost use Rattle.pg_heap.specs.BatchPages.{put_pages};
+ghost use Rattle.pg_heap.specs.FreePlaces.{ListsFree, NeedsPages};
 
 use crate::drafts::Draft;
 use crate::hints::Hints;
@@ -36,12 +37,15 @@ pub(crate) fn do_changes(
     places: &mut PlaceChanges,
     changes: &[Change],
 ) -> Result<(), PlanFault>
-    requires { AreWell AnyEntry (map change_of changes.now) }
+    requires well { AreWell AnyEntry (map change_of changes.now) }
+    requires listed { ListsFree draft.old.now hints.old.free.now }
     ensures before { draft.new.before ≡ draft.old.before }
+    ensures kept { hints.new.free.before ≡ hints.old.free.before }
+    ensures listed { OnOk result (ListsFree draft.new.now hints.new.free.now) }
     ensures places { places.new.before ≡ places.old.before }
     ensures done { (m : Content) → IsDone draft.old.now m → IsIndexed draft.old.now places.old.now
         → OnOk result (MakesChanges draft.old draft.new places.new.now (map change_of changes.now) m) }
-    ensures pages { (m : Content) → length draft.new.now ≤ length draft.old.now + batch_pages (map change_of changes.now) m }
+    ensures needs { NeedsPages draft.old.now draft.new.now (put_pages (map change_of changes.now)) }
     ensures too_many { result ≡ Err PlanFault.TooMany → 2147483645 ≤ length draft.new.now }
 {
     for i in 0..changes.len() {

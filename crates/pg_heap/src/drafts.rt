@@ -1,6 +1,6 @@
 //! Pages that are changed in memory.
 
-ghost use Rattle.std.specs.Prelude.{◌≡◌, ◌<◌, ◌≤◌, ◌+◌, ◌^◌, IsTrue, IfOk, ◌++◌, ◌∷◌, [], OnOk, OnErr, length, get_or, set};
+ghost use Rattle.std.specs.Prelude.{◌≡◌, ◌<◌, ◌≤◌, ◌+◌, ◌^◌, IsTrue, IsFalse, IfOk, ◌++◌, ◌∷◌, [], OnOk, OnErr, length, get_or, set};
 ghost use Rattle.pg_map.specs.Kinds.{Each, Free, IsKind, bytes_of_kind};
 ghost use Rattle.pg_heap.specs.Committing.{IsBatchOf, IsOneMore};
 ghost use Rattle.pg_map.specs.Sheets.{sheet_kind, sheet_kinds};
@@ -69,9 +69,26 @@ impl Draft {
         Ok(())
     }
 
+    /// Puts a page in place of another one, which is noted unless it was the one that was changed last.
+    pub(crate) fn put(&mut self, at: usize, sheet: Sheet) -> Result<(), Memory>
+        requires { at < length self.old.now }
+        ensures before { self.new.before ≡ self.old.before }
+        ensures now { OnOk result (self.new.now ≡ set self.old.now at (sheet_kind sheet)) }
+        ensures touches { length self.new.touched ≤ length self.old.touched + 1 }
+        ensures last { EndsWith self.old.touched at → self.new.touched ≡ self.old.touched }
+        ensures err { OnErr result (self.new ≡ self.old) }
+    {
+        if self.is_last(at) {
+            self.set_last(at, sheet);
+            return Ok(());
+        }
+        self.set(at, sheet)
+    }
+
     /// Whether the page at a place is the one that was changed last.
-    pub(crate) fn is_last(&self, at: usize) -> bool
-        ensures { IsTrue result → EndsWith self.now.touched at }
+    fn is_last(&self, at: usize) -> bool
+        ensures yes { IsTrue result → EndsWith self.now.touched at }
+        ensures no { IsFalse result → EndsWith self.now.touched at → ⊥ }
     {
         match self.notes.last() {
             Some(note) => note.at == at,
@@ -80,7 +97,7 @@ impl Draft {
     }
 
     /// Puts a page in place of the one that was changed last. It takes no memory: what was there first is noted.
-    pub(crate) fn set_last(&mut self, at: usize, sheet: Sheet)
+    fn set_last(&mut self, at: usize, sheet: Sheet)
         requires within { at < length self.old.now }
         requires last { EndsWith self.old.touched at }
         ensures { self.new ≡ record { before = self.old.before; now = set self.old.now at (sheet_kind sheet); touched = self.old.touched } }

@@ -1,6 +1,6 @@
 //! The heap.
 
-ghost use Rattle.std.specs.Prelude.{true, ◌≡◌, ◌↔◌, ◌≢◌, IsTrue, ◌⊎◌, ◌<◌, ◌+◌, ◌^◌, ℕ, List, None, Some, Err, OnErr, OnOk, IfOk, length};
+ghost use Rattle.std.specs.Prelude.{true, ◌≡◌, ◌↔◌, ◌≢◌, IsTrue, ◌⊎◌, ◌<◌, ◌≤◌, ◌+◌, ◌^◌, ℕ, List, None, Some, Err, OnErr, OnOk, IfOk, length};
 ghost use Rattle.std.specs.Option.{option_map};
 ghost use Rattle.std.specs.FinMap.{get};
 ghost use Rattle.ct_site.specs.Disks.{IsSame, IsSettled, Leaves};
@@ -9,11 +9,13 @@ ghost use Rattle.ct_keep.specs.Content.{after, entries_above, first_entry, weigh
 ghost use Rattle.ct_keep.specs.Changes.{AnyEntry, AreWell, HoldsWell};
 ghost use Rattle.ct_keep.specs.Counting.{count_under, IsOwner};
 ghost use Rattle.ct_keep.specs.KeeperViews.{AnswersCommit, fault_of};
-ghost use Rattle.pg_journal.specs.Looking.{Loads};
+ghost use Rattle.pg_journal.specs.Looking.{Loads, LoadsKnown};
 ghost use Rattle.pg_journal.specs.Recovered.{Alike, IsOnlyRead};
+ghost use Rattle.pg_journal.specs.Syncs.{SyncsAtMost};
 ghost use Rattle.pg_map.specs.Holding.{Holds, Recovers};
 ghost use Rattle.pg_map.specs.MapReading.{behind_root};
-ghost use Rattle.pg_heap.specs.BatchPages.{batch_end, batch_pages};
+ghost use Rattle.pg_heap.specs.BatchPages.{batch_end, changed_pages, homes_needed, put_pages};
+ghost use Rattle.pg_heap.specs.FreePlaces.{ListsFree, used_pages};
 ghost use Rattle.pg_heap.specs.Commits.{CommitsPages};
 ghost use Rattle.pg_heap.specs.Heaps.{HeapStands, IsMap};
 ghost use Rattle.pg_heap.specs.HeapPages.{IsSound};
@@ -60,6 +62,8 @@ impl Heap {
     pub(crate) fn of(journal: Journal, pages: Pages, hints: Hints) -> Heap
         requires sound { IsSound pages }
         requires homes { journal ≡ 3 + length (sheet_kinds pages.sheets.items) }
+        requires listed { ListsFree (sheet_kinds pages.sheets.items) hints.free.now }
+        requires settled { hints.free.now ≡ hints.free.before }
         ensures { result ≡ record { homes = journal; kinds = sheet_kinds pages.sheets.items; held = pages.held } }
     {
         Heap {
@@ -72,7 +76,8 @@ impl Heap {
     /// Loads the heap of a store: makes a store on an unborn disk, or puts home a batch that a crash has left. At each moment the disk
     /// recovers to what it did. NotAStore exactly where it recovers to no map, and then the file is as it was, but for a batch that was
     /// put home. A file that isn't unborn and has no batch under way is only read, whatever the answer. What a crash leaves is told where
-    /// nothing was pending. Each page is read once.
+    /// nothing was pending. Each page is read once, and the disk is synced three times at most. A file that is neither unborn nor a store
+    /// by its mark and its length is answered by NotAStore or by Disk.
     pub fn load<D: Disk>(alloc: Global, disk: &mut D) -> Result<Heap, LoadFault>
         ensures moments { (image : List ℕ) → IsSettled (D.disk disk.old) image → Leaves (D.disk disk.old) (D.disk disk.new) (Alike image) }
         ensures loaded { (image : List ℕ) → IsSettled (D.disk disk.old) image → IfOk result (λ heap. IsMap heap.held image × HeapStands (D.disk disk.new) heap) }
@@ -80,6 +85,8 @@ impl Heap {
         ensures no_store { (image : List ℕ) → IsSettled (D.disk disk.old) image → result ≡ Err LoadFault.NotAStore → Recovers image None }
         ensures refused { RefusedIsSame (D.disk disk.old) (D.disk disk.new) result }
         ensures kept { (image : List ℕ) → (D.disk disk.old).image ≡ Some image → IsOnlyRead image → IsSame (D.disk disk.old) (D.disk disk.new) }
+        ensures answers { (image : List ℕ) → (D.disk disk.old).image ≡ Some image → LoadsKnown image result }
+        ensures syncs { SyncsAtMost 3 (D.disk disk.old) (D.disk disk.new) }
         ensures length { Lengthens 12288 (D.disk disk.old) (D.disk disk.new) }
         ensures loads { Loads (D.disk disk.old) (D.disk disk.new) result }
     {
@@ -117,9 +124,10 @@ impl Heap {
         ensures memory { result ≡ Err KeepFault.Memory → disk.new ≡ disk.old }
         ensures full { result ≡ Err KeepFault.Full → ⊥ }
         ensures commits { CommitsPages (D.disk disk.old) (D.disk disk.new) result }
-        ensures length { OnOk result (Lengthens (batch_end self.old.homes (batch_pages batch.now self.old.held)) (D.disk disk.old) (D.disk disk.new)) }
-        ensures length_failed { self.old.homes + batch_pages batch.now self.old.held < 2 ^ 31
-            → Lengthens (batch_end self.old.homes (batch_pages batch.now self.old.held)) (D.disk disk.old) (D.disk disk.new) }
+        ensures grows { OnOk result (self.new.homes ≤ homes_needed self.old.homes (used_pages self.old.kinds) (put_pages batch.now)) }
+        ensures length { OnOk result (Lengthens (batch_end self.new.homes (changed_pages batch.now self.old.held)) (D.disk disk.old) (D.disk disk.new)) }
+        ensures length_failed { homes_needed self.old.homes (used_pages self.old.kinds) (put_pages batch.now) < 2 ^ 31
+            → Lengthens (batch_end (homes_needed self.old.homes (used_pages self.old.kinds) (put_pages batch.now)) (changed_pages batch.now self.old.held)) (D.disk disk.old) (D.disk disk.new) }
     {
         self.apply_within(alloc, disk, batch, u64::MAX)
     }
@@ -144,9 +152,10 @@ impl Heap {
         ensures full { result ≡ Err KeepFault.Full → (disk.new ≡ disk.old) × (weight (after batch.now self.old.held) < 2 ^ 64) }
         ensures answers { AnswersCommit (fault_of result) limit self.old.held (after batch.now self.old.held) }
         ensures commits { CommitsPages (D.disk disk.old) (D.disk disk.new) result }
-        ensures length { OnOk result (Lengthens (batch_end self.old.homes (batch_pages batch.now self.old.held)) (D.disk disk.old) (D.disk disk.new)) }
-        ensures length_failed { self.old.homes + batch_pages batch.now self.old.held < 2 ^ 31
-            → Lengthens (batch_end self.old.homes (batch_pages batch.now self.old.held)) (D.disk disk.old) (D.disk disk.new) }
+        ensures grows { OnOk result (self.new.homes ≤ homes_needed self.old.homes (used_pages self.old.kinds) (put_pages batch.now)) }
+        ensures length { OnOk result (Lengthens (batch_end self.new.homes (changed_pages batch.now self.old.held)) (D.disk disk.old) (D.disk disk.new)) }
+        ensures length_failed { homes_needed self.old.homes (used_pages self.old.kinds) (put_pages batch.now) < 2 ^ 31
+            → Lengthens (batch_end (homes_needed self.old.homes (used_pages self.old.kinds) (put_pages batch.now)) (changed_pages batch.now self.old.held)) (D.disk disk.old) (D.disk disk.new) }
     {
         let pages = replace(&mut self.pages, Pages::none(alloc));
         let mut plan = BatchPlan::begin(alloc, pages);
@@ -154,22 +163,27 @@ impl Heap {
             Ok(pages) => {
                 if plan.passes(limit) {
                     self.pages = plan.roll_back();
+                    self.hints.free.roll_back();
                     return Err(KeepFault::Full);
                 }
                 if let Err(fault) = commit_draft(disk, &mut self.journal, &plan.draft, &pages) {
                     self.pages = plan.roll_back();
+                    self.hints.free.roll_back();
                     return Err(fault);
                 }
                 self.pages = plan.finish();
+                self.hints.free.settle();
                 self.pages.forget(batch);
                 Ok(())
             }
             Err(PlanFault::Memory) => {
                 self.pages = plan.roll_back();
+                self.hints.free.roll_back();
                 Err(KeepFault::Memory)
             }
             Err(PlanFault::TooMany) => {
                 self.pages = plan.roll_back();
+                self.hints.free.roll_back();
                 let Failed = self.journal.fill(disk);
                 Err(KeepFault::Disk)
             }

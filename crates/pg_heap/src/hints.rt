@@ -1,7 +1,8 @@
 //! Where there may be room.
 
-ghost use Rattle.std.specs.Prelude.{◌≤◌, IfOk, length};
+ghost use Rattle.std.specs.Prelude.{◌≡◌, ◌≤◌, IfOk, length};
 
+use crate::free_lists::FreeList;
 use ct_base::Memory;
 use pg_map::Sheet;
 use std::alloc::Global;
@@ -9,22 +10,19 @@ use std::alloc::Global;
 /// How many free bytes a page has at least that is noted as one with room when a store is loaded.
 const NOTED_ROOM: usize = 512;
 
-/// Places of pages that may be free, and of pages that may have room for a string. Each is tried before it is used, so one that is
-/// lost, for want of memory or as one of another kind, costs room in the file and nothing else.
+/// Where there is room: the places of all free pages, and of pages that may have room for a string. The latter are tried before they
+/// are used, so one that is lost, for want of memory or as one of another kind, costs room in the file and nothing else.
 #[derive(Debug, Drop)]
 pub(crate) struct Hints {
-    pub(crate) free: Vec<usize>,
+    pub(crate) free: FreeList,
     pub(crate) roomy: Vec<usize>,
 }
 
 impl Hints {
-    /// Notes a page that was freed.
-    pub(crate) fn add_free(&mut self, at: usize) {
-        let _ = self.free.push(at);
-    }
-
     /// Notes a page that a string was put on or taken from.
-    pub(crate) fn add_roomy(&mut self, at: usize) {
+    pub(crate) fn add_roomy(&mut self, at: usize)
+        ensures { self.new.free ≡ self.old.free }
+    {
         if self.roomy.last() != Some(&at) {
             let _ = self.roomy.push(at);
         }

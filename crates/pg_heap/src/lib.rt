@@ -5,6 +5,7 @@ mod batch_plans;
 mod changes;
 mod commits;
 mod drafts;
+mod free_lists;
 mod heaps;
 mod hints;
 mod loading;

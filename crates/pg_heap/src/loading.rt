@@ -3,16 +3,18 @@
 ghost use Rattle.std.specs.Prelude.{◌≡◌, ◌≢◌, ◌≤◌, ◌<◌, ◌+◌, ◌-◌, ◌*◌, ◌^◌, ℕ, List, Some, None, Err, IfOk, length};
 ghost use Rattle.ct_site.specs.Disks.{IsSame, IsSettled, Leaves, Works};
 ghost use Rattle.ct_site.specs.Lengths.{IsWithin, Lengthens};
-ghost use Rattle.pg_journal.specs.Looking.{Loads};
+ghost use Rattle.pg_journal.specs.Looking.{Loads, LoadsKnown};
 ghost use Rattle.pg_journal.specs.Pages.{page};
 ghost use Rattle.pg_journal.specs.Recovered.{Alike, IsOnlyRead};
 ghost use Rattle.pg_journal.specs.Standing.{DiskStands};
+ghost use Rattle.pg_journal.specs.Syncs.{SyncsAtMost};
 ghost use Rattle.pg_map.specs.Holding.{Recovers};
 ghost use Rattle.pg_map.specs.Kinds.{Each, IsKind};
+ghost use Rattle.pg_heap.specs.FreePlaces.{ListsFree};
 ghost use Rattle.pg_heap.specs.Loading.{ArePages, ArePagesOf, AreNoPages, HaveNoKinds, LoadsParts, PartsAgree, RefusedIsSame};
-ghost use Rattle.pg_map.specs.Readings.{free_to};
 ghost use Rattle.pg_map.specs.Sheets.{sheet_kinds};
 
+use crate::free_lists::FreeList;
 use crate::hints::{Hints, roomy_places};
 use ct_keep::EntryMap;
 use ct_site::{Disk, Failed};
@@ -100,11 +102,14 @@ pub(crate) struct Loaded {
 pub(crate) fn load_parts<D: Disk>(alloc: Global, disk: &mut D) -> Result<Loaded, LoadFault>
     ensures moments { (image : List ℕ) → IsSettled (D.disk disk.old) image → Leaves (D.disk disk.old) (D.disk disk.new) (Alike image) }
     ensures agree { IfOk result (λ l. PartsAgree l.journal (sheet_kinds l.sheets.items) l.held l.places) }
-    ensures free { IfOk result (λ l. l.hints.free.items ≡ free_to (sheet_kinds l.sheets.items) (length l.sheets.items)) }
+    ensures listed { IfOk result (λ l. ListsFree (sheet_kinds l.sheets.items) l.hints.free.now) }
+    ensures settled { IfOk result (λ l. l.hints.free.now ≡ l.hints.free.before) }
     ensures loaded { LoadsParts (D.disk disk.old) (D.disk disk.new) result }
     ensures no_store { (image : List ℕ) → IsSettled (D.disk disk.old) image → result ≡ Err LoadFault.NotAStore → Recovers image None }
     ensures refused { RefusedIsSame (D.disk disk.old) (D.disk disk.new) result }
     ensures kept { (image : List ℕ) → (D.disk disk.old).image ≡ Some image → IsOnlyRead image → IsSame (D.disk disk.old) (D.disk disk.new) }
+    ensures answers { (image : List ℕ) → (D.disk disk.old).image ≡ Some image → LoadsKnown image result }
+    ensures syncs { SyncsAtMost 3 (D.disk disk.old) (D.disk disk.new) }
     ensures length { Lengthens 12288 (D.disk disk.old) (D.disk disk.new) }
     ensures loads { Loads (D.disk disk.old) (D.disk disk.new) result }
 {
@@ -125,7 +130,10 @@ pub(crate) fn load_parts<D: Disk>(alloc: Global, disk: &mut D) -> Result<Loaded,
     Ok(Loaded {
         journal,
         sheets,
-        hints: Hints { free, roomy },
+        hints: Hints {
+            free: FreeList::of(alloc, free),
+            roomy,
+        },
         held,
         places,
     })

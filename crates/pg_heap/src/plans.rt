@@ -1,13 +1,15 @@
 //! The steps of a plan: long values.
 
-ghost use Rattle.std.specs.Prelude.{◌≡◌, ◌≤◌, ◌<◌, ◌+◌, ◌-◌, ◌++◌, ◌∷◌, [], ℕ, List, true, IfOk, IfSome, IsNone, OnOk, OnErr, Err, ◌*◌, length, get_or, set};
+ghost use Rattle.std.specs.Prelude.{◌≡◌, ◌≤◌, ◌<◌, ◌+◌, ◌-◌, ◌++◌, ◌∷◌, [], ℕ, List, true, IfOk, IfSome, IsNone, OnOk, OnErr, Err, length, get_or, set};
 ghost use Rattle.ct_keep.specs.Content.{Content};
 ghost use Rattle.pg_map.specs.Kinds.{Free, Long, IsKind};
 ghost use Rattle.pg_map.specs.Holding.{kind_of_page};
 ghost use Rattle.pg_map.specs.Sheets.{sheet_kind};
 ghost use Rattle.pg_heap.specs.Planned.{HasFree, HasChain, IsLongAt};
 ghost use Rattle.pg_map.specs.Done.{IsPlanned, IsDone};
-ghost use Rattle.pg_heap.specs.PlanSteps.{NoNewKey, TakesPages, long_pages};
+ghost use Rattle.pg_heap.specs.BatchPages.{long_pages};
+ghost use Rattle.pg_heap.specs.FreePlaces.{ListsFree, used_pages};
+ghost use Rattle.pg_heap.specs.PlanSteps.{MayAdd, NoNewKey, TakesPages};
 
 use crate::drafts::Draft;
 use crate::hints::Hints;
@@ -25,28 +27,25 @@ pub(crate) enum PlanFault {
 /// The greatest place of a page, counted from the first one behind the root.
 const LAST: usize = 2147483644;
 
-fn is_free(sheet: &Sheet) -> bool
-    ensures { result ≡ true → sheet_kind sheet.now ≡ Free }
-{
-    match sheet {
-        Sheet::Free => true,
-        _ => false,
-    }
-}
-
-/// The place of the free page that was listed last, if it still is free; else that of a new page at the end.
+/// The place of the free page that was listed last, or of a new page at the end where none was free.
+#[tactic(auto, using(crate::proofs::Stepping::takes_same, crate::proofs::Stepping::takes_added, crate::proofs::Stepping::may_add, crate::proofs::Stepping::adds_none, crate::proofs::Freeing::added_free, crate::proofs::Freeing::last_is_free))]
 pub(crate) fn free_page(draft: &mut Draft, hints: &mut Hints) -> Result<usize, PlanFault>
+    requires listed { ListsFree draft.old.now hints.old.free.now }
     ensures before { draft.new.before ≡ draft.old.before }
+    ensures kept { hints.new.free.before ≡ hints.old.free.before }
+    ensures listed { IfOk result (λ at. ListsFree draft.new.now (hints.new.free.now ++ at ∷ [])) }
     ensures free { IfOk result (λ at. HasFree draft.old.now draft.new.now at) }
     ensures bound { IfOk result (λ at. at ≤ 2147483644) }
-    ensures takes { TakesPages draft.old draft.new 1 1 }
+    ensures takes { TakesPages draft.old draft.new 1 }
+    ensures added { IfOk result (λ at. MayAdd draft.old draft.new at) }
     ensures keys { NoNewKey draft.old.now draft.new.now }
     ensures too_many { result ≡ Err PlanFault.TooMany → 2147483645 ≤ length draft.new.now }
 {
-    if let Some(at) = hints.free.pop() {
-        if at <= LAST && at < draft.count() && is_free(draft.sheet(at)) {
-            return Ok(at);
+    if let Some(at) = hints.free.take() {
+        if at > LAST {
+            return Err(PlanFault::TooMany);
         }
+        return Ok(at);
     }
     let at = draft.count();
     if at > LAST {
@@ -59,6 +58,7 @@ pub(crate) fn free_page(draft: &mut Draft, hints: &mut Hints) -> Result<usize, P
 }
 
 /// Puts a long page in front of a chain, and gives its number.
+#[tactic(auto, using(crate::proofs::Stepping::fills_added, crate::proofs::Stepping::takes_on, crate::proofs::Freeing::used_up))]
 fn put_page(
     alloc: Global,
     draft: &mut Draft,
@@ -67,10 +67,13 @@ fn put_page(
     bytes: &[u8],
 ) -> Result<u32, PlanFault>
     requires kind { IsKind (Long next bytes.now) }
+    requires listed { ListsFree draft.old.now hints.old.free.now }
     ensures before { draft.new.before ≡ draft.old.before }
+    ensures kept { hints.new.free.before ≡ hints.old.free.before }
+    ensures listed { OnOk result (ListsFree draft.new.now hints.new.free.now) }
     ensures laid { (m : Content) (value : List ℕ) → HasChain draft.old.now m next value
         → IfOk result (λ first. HasChain draft.new.now m first (bytes.now ++ value)) }
-    ensures takes { TakesPages draft.old draft.new 1 2 }
+    ensures takes { TakesPages draft.old draft.new 1 }
     ensures keys { NoNewKey draft.old.now draft.new.now }
     ensures too_many { result ≡ Err PlanFault.TooMany → 2147483645 ≤ length draft.new.now }
 {
@@ -78,7 +81,7 @@ fn put_page(
     let Ok(bytes) = Vec::from_slice(alloc, bytes) else {
         return Err(PlanFault::Memory);
     };
-    let Ok(()) = draft.set(at, Sheet::Long { next, bytes }) else {
+    let Ok(()) = draft.put(at, Sheet::Long { next, bytes }) else {
         return Err(PlanFault::Memory);
     };
     Ok(at as u32 + 3)
@@ -109,9 +112,12 @@ pub(crate) fn put_long(
     hints: &mut Hints,
     value: &[u8],
 ) -> Result<u32, PlanFault>
+    requires listed { ListsFree draft.old.now hints.old.free.now }
     ensures before { draft.new.before ≡ draft.old.before }
+    ensures kept { hints.new.free.before ≡ hints.old.free.before }
+    ensures listed { OnOk result (ListsFree draft.new.now hints.new.free.now) }
     ensures laid { (m : Content) → IsDone draft.old.now m → IfOk result (λ first. HasChain draft.new.now m first value.now) }
-    ensures takes { TakesPages draft.old draft.new (long_pages (length value.now)) (2 * long_pages (length value.now)) }
+    ensures takes { TakesPages draft.old draft.new (long_pages (length value.now)) }
     ensures keys { NoNewKey draft.old.now draft.new.now }
     ensures too_many { result ≡ Err PlanFault.TooMany → 2147483645 ≤ length draft.new.now }
 {
@@ -132,9 +138,13 @@ pub(crate) fn free_long(
     first: u32,
     count: u32,
 ) -> Result<(), PlanFault>
+    requires listed { ListsFree draft.old.now hints.old.free.now }
     ensures before { draft.new.before ≡ draft.old.before }
+    ensures kept { hints.new.free.before ≡ hints.old.free.before }
+    ensures listed { OnOk result (ListsFree draft.new.now hints.new.free.now) }
     ensures freed { (m : Content) (value : List ℕ) → HasChain draft.old.now m first value → length value ≡ count → OnOk result (IsDone draft.new.now m) }
     ensures pages { length draft.new.now ≡ length draft.old.now }
+    ensures used { used_pages draft.new.now ≤ used_pages draft.old.now }
     ensures touches { (m : Content) (value : List ℕ) → HasChain draft.old.now m first value → length value ≡ count
         → length draft.new.touched ≤ length draft.old.touched + long_pages count }
     ensures keys { NoNewKey draft.old.now draft.new.now }
@@ -147,10 +157,12 @@ pub(crate) fn free_long(
             return Ok(());
         };
         let at = first as usize - 3;
+        let Ok(()) = hints.free.add(at) else {
+            return Err(PlanFault::Memory);
+        };
         let Ok(()) = draft.set(at, Sheet::Free) else {
             return Err(PlanFault::Memory);
         };
-        hints.add_free(at);
         first = next;
         left = left.saturating_sub(used);
     }

@@ -1,6 +1,6 @@
 //! The steps of a plan: entries.
 
-ghost use Rattle.std.specs.Prelude.{◌≡◌, ◌≤◌, ◌<◌, ◌+◌, ◌-◌, ◌^◌, ◌++◌, ◌∷◌, [], ℕ, List, Bool, true, false, IfOk, IfSome, IsNone, OnOk, OnErr, Err, ◌*◌, length, get_or, set, Some, None};
+ghost use Rattle.std.specs.Prelude.{◌≡◌, ◌≢◌, ◌≤◌, ◌<◌, ◌+◌, ◌-◌, ◌^◌, ◌++◌, ◌∷◌, [], ℕ, List, Bool, true, false, IfOk, IfSome, IsNone, OnOk, OnErr, Err, length, get_or, set, Some, None};
 ghost use Rattle.std.specs.Bool.{if◌then◌else◌};
 ghost use Rattle.std.specs.Option.{option_map};
 ghost use Rattle.std.specs.FinMap.{get};
@@ -9,7 +9,10 @@ ghost use Rattle.ct_keep.specs.Content.{Content, set_to};
 ghost use Rattle.pg_map.specs.Kinds.{Free, Slotted};
 ghost use Rattle.pg_heap.specs.Planned.{IsPut, HasRoom, HasNone, IsTaking, HasChain};
 ghost use Rattle.pg_map.specs.Done.{IsPlanned, IsDone};
-ghost use Rattle.pg_heap.specs.PlanSteps.{NoNewKey, TakesPages, TouchesEntry, MakesChange, long_pages, value_bytes};
+ghost use Rattle.pg_heap.specs.BatchPages.{entry_pages, long_pages};
+ghost use Rattle.pg_heap.specs.FreePlaces.{ListsFree, NeedsPages};
+ghost use Rattle.pg_map.specs.Sheets.{sheet_kind};
+ghost use Rattle.pg_heap.specs.PlanSteps.{NoNewKey, TakesPages, TouchesEntry, MakesChange};
 
 use crate::drafts::Draft;
 use crate::hints::Hints;
@@ -43,47 +46,57 @@ fn with_string(draft: &Draft, at: usize, string: &[u8]) -> Option<Page>
     Some(page)
 }
 
+/// The same for a page that isn't free.
+fn with_another(draft: &Draft, at: usize, string: &[u8]) -> Option<Page>
+    ensures some { IfSome result (λ page. HasRoom draft.now.now at string.now page) }
+    ensures used { IfSome result (λ page. get_or draft.now.now at Free ≢ Free) }
+{
+    let page = with_string(draft, at, string)?;
+    if is_free(draft.sheet(at)) {
+        return None;
+    }
+    Some(page)
+}
+
+fn is_free(sheet: &Sheet) -> bool
+    ensures { result ≡ false → sheet_kind sheet.now ≢ Free }
+{
+    match sheet {
+        Sheet::Free => true,
+        _ => false,
+    }
+}
+
 /// A page with the string behind its others: one of the pages that were noted last as ones with room. Those that have none for it
 /// are noted no more.
-fn roomy_page(draft: &Draft, hints: &mut Hints, string: &[u8]) -> Option<(usize, Page)>
-    ensures { IfSome result (λ found. HasRoom draft.now.now found.0 string.now found.1) }
+fn roomy_page(draft: &Draft, roomy: &mut Vec<usize>, string: &[u8]) -> Option<(usize, Page)>
+    ensures some { IfSome result (λ found. HasRoom draft.now.now found.0 string.now found.1) }
+    ensures used { IfSome result (λ found. get_or draft.now.now found.0 Free ≢ Free) }
 {
     for _ in 0..TRIES {
-        let at = *hints.roomy.last()?;
-        if let Some(page) = with_string(draft, at, string) {
+        let at = *roomy.last()?;
+        if let Some(page) = with_another(draft, at, string) {
             return Some((at, page));
         }
-        let _ = hints.roomy.pop();
+        let _ = roomy.pop();
     }
     None
 }
 
-/// Puts a page with strings in place of another one.
-fn put_page(draft: &mut Draft, at: usize, page: Page) -> Result<(), Memory>
-    requires { at < length draft.old.now }
-    ensures before { draft.new.before ≡ draft.old.before }
-    ensures now { OnOk result (draft.new.now ≡ set draft.old.now at (Slotted page)) }
-    ensures touches { length draft.new.touched ≤ length draft.old.touched + 1 }
-    ensures err { OnErr result (draft.new ≡ draft.old) }
-{
-    let sheet = Sheet::Slotted(page);
-    if draft.is_last(at) {
-        draft.set_last(at, sheet);
-        return Ok(());
-    }
-    draft.set(at, sheet)
-}
-
 /// Puts a string on a page that has room, or else on a free one; gives its place.
+#[tactic(auto, using(crate::proofs::Stepping::fills_added, crate::proofs::Stepping::fills_there, crate::proofs::Stepping::takes_same, crate::proofs::Stepping::takes_on, crate::proofs::Freeing::used_up, crate::proofs::Freeing::used_still))]
 fn put_string(draft: &mut Draft, hints: &mut Hints, string: &[u8]) -> Result<usize, PlanFault>
-    requires { length string.now ≤ 4084 }
+    requires short { length string.now ≤ 4084 }
+    requires listed { ListsFree draft.old.now hints.old.free.now }
     ensures before { draft.new.before ≡ draft.old.before }
+    ensures kept { hints.new.free.before ≡ hints.old.free.before }
+    ensures listed { OnOk result (ListsFree draft.new.now hints.new.free.now) }
     ensures put { IfOk result (IsPut draft.old.now draft.new.now string.now) }
-    ensures takes { TakesPages draft.old draft.new 1 2 }
+    ensures takes { TakesPages draft.old draft.new 1 }
     ensures too_many { result ≡ Err PlanFault.TooMany → 2147483645 ≤ length draft.new.now }
 {
-    if let Some((at, page)) = roomy_page(draft, hints, string) {
-        let Ok(()) = put_page(draft, at, page) else {
+    if let Some((at, page)) = roomy_page(draft, &mut hints.roomy, string) {
+        let Ok(()) = draft.put(at, Sheet::Slotted(page)) else {
             return Err(PlanFault::Memory);
         };
         return Ok(at);
@@ -92,7 +105,7 @@ fn put_string(draft: &mut Draft, hints: &mut Hints, string: &[u8]) -> Result<usi
     let Some(page) = with_string(draft, at, string) else {
         unreachable!()
     };
-    let Ok(()) = put_page(draft, at, page) else {
+    let Ok(()) = draft.put(at, Sheet::Slotted(page)) else {
         return Err(PlanFault::Memory);
     };
     hints.add_roomy(at);
@@ -117,11 +130,15 @@ fn taking(draft: &Draft, at: usize, key: &[u8]) -> Option<(Page, u32, u32)>
 }
 
 /// Takes the entry of a key off the page at a place, and frees its long pages; whether it was there.
+#[tactic(auto, using(crate::proofs::Stepping::needs_same, crate::proofs::Stepping::removal_needs, crate::proofs::Stepping::slotted_full, crate::proofs::Freeing::used_still))]
 fn remove_at(draft: &mut Draft, hints: &mut Hints, at: usize, key: &[u8]) -> Result<bool, PlanFault>
+    requires listed { ListsFree draft.old.now hints.old.free.now }
     ensures before { draft.new.before ≡ draft.old.before }
+    ensures kept { hints.new.free.before ≡ hints.old.free.before }
+    ensures listed { OnOk result (ListsFree draft.new.now hints.new.free.now) }
     ensures gone { (m : Content) → IsDone draft.old.now m → IfOk result (λ found. IsDone draft.new.now (if found then set_to key.now None m else m)) }
     ensures none { IfOk result (λ found. found ≡ false → HasNone draft.old.now at key.now) }
-    ensures pages { length draft.new.now ≡ length draft.old.now }
+    ensures needs { NeedsPages draft.old.now draft.new.now 0 }
     ensures touches { TouchesEntry draft.old draft.new key.now }
     ensures keys { NoNewKey draft.old.now draft.new.now }
     ensures too_many { result ≡ Err PlanFault.TooMany → ⊥ }
@@ -146,9 +163,12 @@ fn put_short(
     value: &[u8],
 ) -> Result<usize, PlanFault>
     requires short { 3 + length key.now + length value.now ≤ 4084 }
+    requires listed { ListsFree draft.old.now hints.old.free.now }
     ensures before { draft.new.before ≡ draft.old.before }
+    ensures kept { hints.new.free.before ≡ hints.old.free.before }
+    ensures listed { OnOk result (ListsFree draft.new.now hints.new.free.now) }
     ensures put { (m : Content) → IsDone draft.old.now m → get m key.now ≡ None → IfOk result (MakesChange draft.old.now draft.new.now m key.now (Some value.now)) }
-    ensures takes { TakesPages draft.old draft.new 1 2 }
+    ensures takes { TakesPages draft.old draft.new 1 }
     ensures too_many { result ≡ Err PlanFault.TooMany → 2147483645 ≤ length draft.new.now }
 {
     let Ok(string) = short_string(alloc, key, value) else {
@@ -168,9 +188,12 @@ fn put_far(
     requires key { length key.now ≤ 600 }
     requires value { length value.now ≤ 2 ^ 26 }
     requires long { 4084 < 3 + length key.now + length value.now }
+    requires listed { ListsFree draft.old.now hints.old.free.now }
     ensures before { draft.new.before ≡ draft.old.before }
+    ensures kept { hints.new.free.before ≡ hints.old.free.before }
+    ensures listed { OnOk result (ListsFree draft.new.now hints.new.free.now) }
     ensures put { (m : Content) → IsDone draft.old.now m → get m key.now ≡ None → IfOk result (MakesChange draft.old.now draft.new.now m key.now (Some value.now)) }
-    ensures takes { TakesPages draft.old draft.new (long_pages (length value.now) + 1) (2 * long_pages (length value.now) + 2) }
+    ensures takes { TakesPages draft.old draft.new (1 + long_pages (length value.now)) }
     ensures too_many { result ≡ Err PlanFault.TooMany → 2147483645 ≤ length draft.new.now }
 {
     let first = put_long(alloc, draft, hints, value)?;
@@ -188,13 +211,16 @@ pub(crate) fn do_change(
     at: usize,
     change: &Change,
 ) -> Result<usize, PlanFault>
+    requires listed { ListsFree draft.old.now hints.old.free.now }
     requires value { IfSome change.now.value (λ value. (length change.now.key.items ≤ 600) × (length value.items ≤ 2 ^ 26)) }
     ensures before { draft.new.before ≡ draft.old.before }
+    ensures kept { hints.new.free.before ≡ hints.old.free.before }
+    ensures listed { OnOk result (ListsFree draft.new.now hints.new.free.now) }
     ensures done { (m : Content) → IsDone draft.old.now m → (HasNone draft.old.now at change.now.key.items → get m change.now.key.items ≡ None)
         → IfOk result (MakesChange draft.old.now draft.new.now m change.now.key.items (option_map (λ v. v.items) change.now.value)) }
-    ensures pages { length draft.new.now ≤ length draft.old.now + (1 + long_pages (value_bytes (option_map (λ v. v.items) change.now.value))) }
+    ensures needs { NeedsPages draft.old.now draft.new.now (entry_pages change.now.key.items (option_map (λ v. v.items) change.now.value)) }
     ensures touches { (m : Content) → IsDone draft.old.now m → length draft.new.touched
-        ≤ length draft.old.touched + (3 + long_pages (value_bytes (get m change.now.key.items)) + 2 * long_pages (value_bytes (option_map (λ v. v.items) change.now.value))) }
+        ≤ length draft.old.touched + (entry_pages change.now.key.items (get m change.now.key.items) + entry_pages change.now.key.items (option_map (λ v. v.items) change.now.value)) }
     ensures too_many { result ≡ Err PlanFault.TooMany → 2147483645 ≤ length draft.new.now }
 {
     let _ = remove_at(draft, hints, at, &change.key)?;

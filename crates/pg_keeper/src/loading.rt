@@ -3,8 +3,9 @@
 ghost use Rattle.std.specs.Prelude.{◌≡◌, ℕ, List, Some, Err, IfOk};
 ghost use Rattle.ct_site.specs.Disks.{IsSettled, Leaves};
 ghost use Rattle.ct_site.specs.Lengths.{Lengthens};
-ghost use Rattle.pg_journal.specs.Looking.{Loads};
+ghost use Rattle.pg_journal.specs.Looking.{Loads, LoadsKnown};
 ghost use Rattle.pg_journal.specs.Recovered.{IsOnlyRead};
+ghost use Rattle.pg_journal.specs.Syncs.{SyncsAtMost};
 ghost use Rattle.pg_heap.specs.Heaps.{HeapStands, IsMap};
 ghost use Rattle.pg_keeper.specs.Loading.{HasNoStore, IsOldOrAlike, RefusedStays, StaysAs};
 ghost use Rattle.pg_keeper.specs.Paged.{IsUsable};
@@ -18,7 +19,8 @@ use std::alloc::Global;
 /// Loads the heap of a store, each entry of which is one that the shape takes, after a sync of its file: so what it tells holds of
 /// what a crash leaves from then on, whatever was pending; until then a crash leaves nothing new. NotAStore exactly where the image recovers to nothing, or to a map with an
 /// entry that the shape doesn't take. A file that isn't unborn and has no batch under way is only read, whatever the answer; one that is
-/// refused is as it was, but for a batch that was put home. Its cost is that of reading each page once.
+/// refused is as it was, but for a batch that was put home. A file that is neither unborn nor a store by its mark and its length is
+/// answered by NotAStore or by Disk. Its cost is that of reading each page once, and of four syncs at most.
 pub fn load_heap<D: Disk, H: Shape>(
     alloc: Global,
     disk: &mut D,
@@ -29,6 +31,8 @@ pub fn load_heap<D: Disk, H: Shape>(
     ensures usable { IfOk result (λ heap. IsUsable (D.disk disk.new) heap (H.is_well shape.now)) }
     ensures no_store { (image : List ℕ) → (D.disk disk.old).image ≡ Some image → result ≡ Err LoadFault.NotAStore → HasNoStore (H.is_well shape.now) image }
     ensures kept { (image : List ℕ) → IsSettled (D.disk disk.old) image → IsOnlyRead image → StaysAs image (D.disk disk.old) (D.disk disk.new) }
+    ensures answers { (image : List ℕ) → (D.disk disk.old).image ≡ Some image → LoadsKnown image result }
+    ensures syncs { SyncsAtMost 4 (D.disk disk.old) (D.disk disk.new) }
     ensures refused { RefusedStays (D.disk disk.old) (D.disk disk.new) result }
     ensures length { Lengthens 12288 (D.disk disk.old) (D.disk disk.new) }
     ensures loads { Loads (D.disk disk.old) (D.disk disk.new) result }

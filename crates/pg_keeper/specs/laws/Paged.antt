@@ -1,5 +1,5 @@
 -- Laws of a keeper over the disk of a site.
-use Rattle.std.specs.Prelude.{ℕ, ◌≡◌, ◌⊎◌, ◌≤◌, List, Option, Some, None, Result, Ok, Err, refl}
+use Rattle.std.specs.Prelude.{ℕ, ◌≡◌, ◌⊎◌, ◌+◌, ◌≤◌, List, Option, Some, None, Result, Ok, Err, refl}
 use Rattle.std.specs.Result.{OnOk, OnErr}
 use Rattle.ct_keep.specs.KeeperViews.{fault_of}
 use Rattle.pg_heap.specs.Commits.{CommitsPages}
@@ -14,7 +14,7 @@ use Rattle.ct_keep.specs.declared.keepers.KeepFault.TheVariants.{Memory, Disk, F
 use Rattle.ct_keep.specs.Content.{Content, Change, after}
 use Rattle.ct_keep.specs.Changes.{AreWell, HoldsWell}
 use Rattle.ct_keep.specs.WellLaws.{holds_after}
-use Rattle.ct_keep.specs.KeeperViews.{AnswersCommit, KeeperView, Counts, IsDurable, Goes, ReadsKeeper, SameButContent, KeeperHears, KeeperSays, UnlessDisk}
+use Rattle.ct_keep.specs.KeeperViews.{AnswersCommit, KeeperView, Counts, IsDurable, Goes, ReadsKeeper, SameButContent, KeeperHears, KeeperSays, UnlessDisk, CountsCommit, committed, looked_up}
 use Rattle.pg_journal.specs.Standing.{DiskStands}
 use Rattle.pg_journal.specs.Recovered.{IsRecovered}
 use Rattle.pg_heap.specs.Heaps.{HeapState, HeapStands, IsMap}
@@ -104,7 +104,7 @@ module _ (old new : DiskView) (heap : HeapState) (well : List ℕ → List ℕ �
       well = record { takes = λ key value is. is };
       fixed = refl;
       content = ap (λ (o : Option (List ℕ)). told_content o heap.held) hears.same.image;
-      counts = refl;
+      counts = ap (λ (n : ℕ). record counts { syncs = n }) hears.same.syncs;
       disk_faults = hears.faults;
     };
     left = hears.left;
@@ -125,12 +125,13 @@ module _ (old new : DiskView) (heap : HeapState) (well : List ℕ → List ℕ �
       well = record { takes = λ key value is. is };
       fixed = refl;
       content = ap (λ (o : Option (List ℕ)). told_content o heap.held) says.image;
-      counts = refl;
+      counts = ap (λ (n : ℕ). record counts { syncs = n }) says.syncs;
       disk_faults = says.faults;
     };
     said = says.said;
     left = says.left;
     hearings = says.hearings;
+    ends = says.ends;
     hear_faults = says.hear_faults;
     time = λ ready m holds.
         let t = told_of old.image heap.held m holds in
@@ -166,6 +167,7 @@ looked disk heap well limit counts after_it lender fault ready how fulls commits
       now = λ stopped said now. now;
       fulls = fulls;
       commits = commits;
+      syncs = refl;
     }
 
     failed : ReadsKeeper old new (Some Memory)
@@ -177,9 +179,19 @@ looked disk heap well limit counts after_it lender fault ready how fulls commits
       now = λ stopped said now. now;
       fulls = fulls;
       commits = commits;
+      syncs = refl;
     }
 
+-- what it counted
+pub looked_counts : (asked : List ℕ) (handed : Option (List ℕ)) (counts after_it : Counts) (old new : ℕ) → after_it ≡ looked_up asked handed counts → new ≡ old
+    → record after_it { syncs = new } ≡ looked_up asked handed (record counts { syncs = old })
+looked_counts asked handed counts after_it old new is same = ap (λ (c : Counts). record c { syncs = new }) is ∙ ap (λ (n : ℕ). record (looked_up asked handed counts) { syncs = n }) same
+
 -- ---- a commit
+
+-- what it counted
+pub commit_counts : (fault : Option KeepFault) (counts counts' : Counts) (old new : ℕ) → counts' ≡ committed fault counts → new ≤ old + 4 → CountsCommit fault (record counts { syncs = old }) (record counts' { syncs = new })
+commit_counts fault counts counts' old new is few = record { is = ap (λ (c : Counts). record c { syncs = new }) is; few = few }
 
 abbrev MapsOf : Content → Content → List ℕ → Type 0
 MapsOf m next image = IsMap m image ⊎ IsMap next image

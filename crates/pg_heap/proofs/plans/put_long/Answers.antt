@@ -8,6 +8,8 @@ loop-left-init c = record {
   before = refl;
   puts = puts_none c.args.draft.now.now c.args.value.now (length c.args.value.now) refl;
   lays = lays_none c.args.draft.now (length c.args.value.now) (length c.args.value.now) refl;
+  kept = refl;
+  listed = c.requires.listed;
   keys = no_new_same c.args.draft.now.now;
 }
 
@@ -19,6 +21,8 @@ loop-left-preserved c =
       puts = puts_more c.args.draft.now.now c.loop-left.draft.now c.put_page.new.draft.now c.args.value.now _ c.loop-left.first c.in_ok-first.first c.loop-left.left ((c.loop-left.left - 1) % 4088 + 1) c.loop-left.invariant.puts refl
           some (ap (λ (n : ℕ). take n (drop (c.loop-left.left - ((c.loop-left.left - 1) % 4088 + 1)) c.args.value.now)) (twice c.loop-left.left some)) (search rules) (λ m v chain. c.in_ok-first.ensures.laid m v chain);
       lays = lays_more c.args.draft.now c.loop-left.draft c.put_page.new.draft (length c.args.value.now) c.loop-left.left c.loop-left.invariant.lays c.put_page.ensures.takes some;
+      kept = c.put_page.ensures.kept ∙ c.loop-left.invariant.kept;
+      listed = search rules;
       keys = no_new_then c.args.draft.now.now c.loop-left.draft.now c.put_page.new.draft.now c.loop-left.invariant.keys c.put_page.ensures.keys;
     }
 

@@ -2,6 +2,7 @@ use Rattle.std.proofs.Common.{◌≡◌, length}
 use Rattle.pg_heap.specs.PlanSteps.{NoNewKey}
 use Rattle.pg_heap.proofs.Planning.{PutsLong}
 use Rattle.pg_heap.proofs.Stepping.{Lays}
+use Rattle.pg_heap.specs.FreePlaces.{ListsFree}
 use Rattle.pg_heap.proofs.plans.put_long.Given as goal
 
 abbrev pub invariant-loop-left : goal.invariant-loop-left
@@ -9,6 +10,8 @@ invariant-loop-left l = record {
   before : l.draft.before ≡ l.initial.draft.before;
   puts : PutsLong l.initial.draft.now l.draft.now l.value l.first l.left;
   lays : Lays l.initial.draft l.draft (length l.value) l.left;
+  kept : l.hints.free.before ≡ l.initial.hints.free.before;
+  listed : ListsFree l.draft.now l.hints.free.now;
   keys : NoNewKey l.initial.draft.now l.draft.now;
 }
 

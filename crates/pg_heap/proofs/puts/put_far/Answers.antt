@@ -1,7 +1,7 @@
-use Rattle.std.proofs.Common.{rules, refl, subst, ◌∙◌, List, ℕ, length, ◌*◌}
+use Rattle.std.proofs.Common.{rules, refl, subst, ◌∙◌, List, ℕ, length}
 use Rattle.std.proofs.lemmas.Result.{IfOk-weaker}
 use Rattle.pg_heap.specs.Planned.{IsPut}
-use Rattle.pg_heap.specs.PlanSteps.{long_pages}
+use Rattle.pg_heap.specs.BatchPages.{long_pages}
 use Rattle.pg_heap.proofs.Stepping.{far_made, takes_then}
 use Rattle.pg_heap.proofs.puts.put_far.Goals as goal
 
@@ -16,4 +16,4 @@ returns-clause-put c = λ m done none.
 
 pub returns-clause-takes : goal.returns-clause-takes
 returns-clause-takes c =
-    takes_then c.args.draft.now c.put_long.new.draft c.put_string.new.draft (long_pages (length c.args.value.now)) 1 (2 * long_pages (length c.args.value.now)) 2 c.put_long.ensures.takes c.put_string.ensures.takes
+    takes_then c.args.draft.now c.put_long.new.draft c.put_string.new.draft (long_pages (length c.args.value.now)) 1 c.put_long.ensures.takes c.put_string.ensures.takes

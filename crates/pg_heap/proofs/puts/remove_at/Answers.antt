@@ -3,7 +3,7 @@ use Rattle.ct_keep.specs.Content.{set_to}
 use Rattle.std.specs.FinMap.{get}
 use Rattle.pg_heap.specs.Drafts.{Drafted}
 use Rattle.pg_heap.specs.Planned.{IsTaking}
-use Rattle.pg_heap.specs.PlanSteps.{value_bytes}
+use Rattle.pg_heap.specs.BatchPages.{entry_pages}
 use Rattle.pg_heap.proofs.Taking.{takes}
 use Rattle.pg_heap.proofs.Stepping.{no_new_then, no_new_without, removal_touches}
 use Rattle.pg_heap.proofs.puts.remove_at.Goals as goal
@@ -16,12 +16,12 @@ returns-clause-gone c = λ m done.
 pub returns-clause-touches : goal.returns-clause-touches
 returns-clause-touches c = λ m done.
     let t = takes c.args.draft.now.now c.set.new.self.now m c.args.at c.args.key.now c.in-Some.rest c.in-Some.first c.in-Some.count done (search rules) (ap (λ (d : Drafted). d.now) c.in-Ok.ensures.ok) in
-    removal_touches c.args.draft.now c.set.new.self c.free_long.new.draft c.args.at c.in-Some.count (value_bytes (get m c.args.key.now)) (ap (λ (d : Drafted). d.touched) c.in-Ok.ensures.ok) (c.free_long.ensures.touches (set_to c.args.key.now None m) t.value t.chain t.long) t.most
+    removal_touches c.args.draft.now c.set.new.self c.free_long.new.draft c.args.at c.in-Some.count (entry_pages c.args.key.now (get m c.args.key.now)) (ap (λ (d : Drafted). d.touched) c.in-Ok.ensures.ok) (c.free_long.ensures.touches (set_to c.args.key.now None m) t.value t.chain t.long) t.pages
 
 pub returns-in_err-free_long-clause-touches : goal.returns-in_err-free_long-clause-touches
 returns-in_err-free_long-clause-touches c = λ m done.
     let t = takes c.args.draft.now.now c.set.new.self.now m c.args.at c.args.key.now c.in-Some.rest c.in-Some.first c.in-Some.count done (search rules) (ap (λ (d : Drafted). d.now) c.in-Ok.ensures.ok) in
-    removal_touches c.args.draft.now c.set.new.self c.free_long.new.draft c.args.at c.in-Some.count (value_bytes (get m c.args.key.now)) (ap (λ (d : Drafted). d.touched) c.in-Ok.ensures.ok) (c.free_long.ensures.touches (set_to c.args.key.now None m) t.value t.chain t.long) t.most
+    removal_touches c.args.draft.now c.set.new.self c.free_long.new.draft c.args.at c.in-Some.count (entry_pages c.args.key.now (get m c.args.key.now)) (ap (λ (d : Drafted). d.touched) c.in-Ok.ensures.ok) (c.free_long.ensures.touches (set_to c.args.key.now None m) t.value t.chain t.long) t.pages
 
 pub returns-clause-keys : goal.returns-clause-keys
 returns-clause-keys c =

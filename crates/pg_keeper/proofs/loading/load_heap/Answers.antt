@@ -55,6 +55,15 @@ returns-in-Err-clause-refused g c = λ image settled shut is.
     stays_read _ _ _ image (quiet_sync _ _ image settled (record { image = c.sync.ensures.image; crash = c.sync.ensures.crash; leaves = c.sync.ensures.leaves }))
     (c.in-Err.ensures.refused image (settled_sync _ _ image (record { image = c.sync.ensures.image; crash = c.sync.ensures.crash; leaves = c.sync.ensures.leaves }) c.in-Ok.ensures.durable settled.told) shut (ap Err (err_same _ _ is))) c.load.ensures.loads.beside
 
+pub returns-in-Err-clause-answers : goal.returns-in-Err-clause-answers
+returns-in-Err-clause-answers g c = λ image told. c.in-Err.ensures.answers image (c.sync.ensures.image ∙ told)
+
+pub returns-in-Ok-true-clause-answers : goal.returns-in-Ok-true-clause-answers
+returns-in-Ok-true-clause-answers g c = λ image told. c.in-Ok-load.ensures.answers image (c.sync.ensures.image ∙ told)
+
+pub returns-in-Err-are_well-clause-answers : goal.returns-in-Err-are_well-clause-answers
+returns-in-Err-are_well-clause-answers g c = λ image told. c.in-Ok-load.ensures.answers image (c.sync.ensures.image ∙ told)
+
 -- ---- it was loaded, and has an entry that isn't well shaped
 
 pub returns-in-Ok-false-clause-no_store : goal.returns-in-Ok-false-clause-no_store
@@ -82,3 +91,17 @@ returns-in-Ok-true-clause-usable g c = record {
   holds = c.in-Ok-load.ensures.whole;
   entries = c.in-Ok-true.ensures.0 c.in-Ok-true.field-0-test;
 }
+
+-- ---- how long the file is
+
+pub returns-in-Err-clause-length : goal.returns-in-Err-clause-length
+returns-in-Err-clause-length g c = record { bounds = λ image x told given. c.load.ensures.length.bounds image x (c.sync.ensures.image ∙ told) given }
+
+pub returns-in-Ok-true-clause-length : goal.returns-in-Ok-true-clause-length
+returns-in-Ok-true-clause-length g c = record { bounds = λ image x told given. c.load.ensures.length.bounds image x (c.sync.ensures.image ∙ told) given }
+
+pub returns-in-Ok-false-clause-length : goal.returns-in-Ok-false-clause-length
+returns-in-Ok-false-clause-length g c = record { bounds = λ image x told given. c.load.ensures.length.bounds image x (c.sync.ensures.image ∙ told) given }
+
+pub returns-in-Err-are_well-clause-length : goal.returns-in-Err-are_well-clause-length
+returns-in-Err-are_well-clause-length g c = record { bounds = λ image x told given. c.load.ensures.length.bounds image x (c.sync.ensures.image ∙ told) given }
