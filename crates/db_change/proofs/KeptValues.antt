@@ -1,8 +1,7 @@
 -- What a row keeps of values.
-use Rattle.std.proofs.Common.{◌≡◌, ℕ, ℤ, suc, ◌+◌, ◌-◌, ◌^◌, ◌<◌, ◌≤◌, true, false, List, [], ◌∷◌, ◌++◌, length, map, take, get_or, pos, Option, Some, None, refl, sym, ap, subst, ◌∙◌, arith, append-nil, append_assoc}
+use Rattle.std.proofs.Common.{◌≡◌, ℕ, ℤ, suc, ◌+◌, ◌-◌, ◌^◌, ◌<◌, ◌≤◌, true, false, List, [], ◌∷◌, ◌++◌, length, map, pos, Option, Some, None, refl, sym, ap, subst, ◌∙◌, arith, append-nil, append_assoc}
 use Rattle.std.specs.Prelude.{min}
 use Rattle.std.specs.List.{All, list_any, filter_map, remove}
-use Rattle.std.proofs.lemmas.List.Elements.{All-more, All-cons}
 use Rattle.std.proofs.lemmas.Bool.{ltb-false, and_parts}
 use Rattle.ct_base.specs.declared.lists.Value.{Value}
 use Rattle.st_parse.specs.declared.statements.Operand.{Operand}
@@ -89,17 +88,9 @@ module _ (all left rest : List Operand) (x : Operand) (place next : ℕ) (items 
 pub texts_whole : (all left : List Operand) (place : ℕ) (items : List (ℕ × List ℕ)) → TextsSoFar all left place items → left ≡ [] → length all ≤ 255 → items ≡ texts_of (map kept_value all)
 texts_whole all left place items so_far none few = sym (append-nil items) ∙ ap (λ (vs : List Operand). items ++ texts_from (place + 1) (map kept_value vs)) (sym none) ∙ so_far.whole few
 
--- a value more is kept
-pub kept_front : (P : Operand → Type 0) (all left rest : List Operand) (x : Operand) → (All P left → All P all) → left ≡ x ∷ rest → P x → All P rest → All P all
-kept_front P all left rest x so_far is p more = so_far (subst (All P) (sym is) (All-cons P x rest p more))
-
 pub key_removed : (vs : List Operand) → 1 ≤ length vs → remove vs 0 ≡ behind_key vs
 key_removed [] some = absurd (omega (arith, some))
 key_removed (v ∷ vs) some = refl
-
--- one value more
-pub kept_more : (P : Operand → Type 0) (vs : List Operand) (i : ℕ) (x : Operand) → All P (take i vs) → i < length vs → x ≡ get_or vs i x → P x → All P (take (i + 1) vs)
-kept_more P vs i x so_far less is p = All-more P vs i x less so_far (subst P is p)
 
 -- ---- the columns
 

@@ -10,11 +10,11 @@ use Rattle.tb_table.specs.Spelling.{table_changes}
 use Rattle.ct_base.specs.Limits.{table_limit}
 use Rattle.st_parse.specs.declared.statements.ColumnText.{ColumnText}
 use Rattle.db_state.specs.Effects.{Does}
-use Rattle.db_change.specs.Creating.{is_key_first, names_differ, all_sized, column_of, IsFreeTable, with_new_table, check_table, create_table, table_created}
+use Rattle.db_change.specs.Creating.{is_key_first, names_differ, all_sized, column_of, with_new_table, check_table, create_table, table_created}
 use Rattle.db_state.specs.States.{StoreState, StandsForState}
 use Rattle.db_state.specs.laws.Chains.{passed}
 use Rattle.std.proofs.lemmas.List.Elements.{All-head, All-tail}
-use Rattle.db_change.specs.laws.NewTables.{AllNamed, created_table_stands}
+use Rattle.db_change.specs.laws.NewTables.{AllNamed, IsFreeTable, created_table_stands}
 
 -- the columns of the batch have names
 pub all_named : (cs : List ColumnText) → All (λ (k : Column). IsName k.name) (map column_of cs) → AllNamed cs

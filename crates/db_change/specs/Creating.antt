@@ -75,13 +75,6 @@ create_table m t columns =
     check_table (is_some (get m.tables t)) (nat_le table_limit (length (entries m.tables))) t columns
     (Does (with_new_table m t columns) table_created)
 
--- no check holds
-pub record IsFreeTable (m : StoreState) (t : List ℕ) (columns : List ColumnText) : Type 0 where
-  pub free : (is_some (get m.tables t) || is_view t) ≡ false
-  pub formed : (is_key_first columns && names_differ columns) ≡ true
-  pub sized : all_sized columns ≡ true
-  pub few : (nat_lt column_limit (length columns) || nat_le table_limit (length (entries m.tables))) ≡ false
-
 -- computed examples
 abbrev number_text : List ℕ → Bool → ColumnText
 number_text name primary = record { name = name; sort = NumberText; primary = primary }

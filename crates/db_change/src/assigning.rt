@@ -10,15 +10,15 @@ ghost use Rattle.st_parse.specs.declared.statements.Assign.{Assign};
 ghost use Rattle.db_state.specs.Effects.{Effect, Checks};
 ghost use Rattle.db_state.specs.Columns.{first_unknown as unknown_name};
 ghost use Rattle.db_rows.specs.Checking.{cond_columns};
-ghost use Rattle.db_change.specs.Inserting.{is_beyond_range, is_of_sort as sort_takes, is_too_long as too_long_for, IsShortValue, IsNumberKept, IsTextKept};
-ghost use Rattle.db_change.specs.Updating.{assign_columns, check_update, has_twice as any_twice, is_wrong_update, of_its_sort, sets_key as key_is_set, IsShortAssign, IsKeptAssign};
+ghost use Rattle.db_change.specs.Inserting.{is_beyond_range, is_of_sort as sort_takes, is_too_long as too_long_for, IsShortValue};
+ghost use Rattle.db_change.specs.Updating.{assign_columns, check_update, has_twice as any_twice, is_wrong_update, of_its_sort, sets_key as key_is_set, IsShortAssign};
 
 use crate::inserting::{is_beyond, is_of_sort, is_too_long};
 use ct_base::{COLUMN_LIMIT, Name};
 use db_cond::Fault;
 use db_rows::{fit_columns, has_beyond, sort_of, unknown_column};
 use db_state::has_column;
-use st_parse::{Assign, Cond, Operand, Whole};
+use st_parse::{Assign, Cond};
 use tb_table::Column;
 
 // ---- the columns
@@ -100,34 +100,13 @@ fn are_taken(columns: &[Column], assigns: &[Assign]) -> bool
     assigns.iter().all(|assign| is_taken(columns, assign))
 }
 
-/// The value itself; the proof then knows what it may be.
-fn known(value: &Operand) -> &Operand
-    ensures same { result.now ≡ value.now }
-    ensures number { IsNumberKept value.now }
-    ensures text { IsTextKept value.now }
-{
-    match value {
-        Operand::Text(text) => {
-            let _utf8 = text.as_str();
-        }
-        Operand::Number(Whole::Fits(number)) => {
-            let _number = *number;
-        }
-        Operand::Number(Whole::Beyond) => {}
-    }
-    value
-}
-
 /// Whether the value is longer than its column takes.
 fn is_longer(columns: &[Column], assign: &Assign) -> bool
     ensures long { result ≡ of_its_sort too_long_for columns.now assign.now }
     ensures short { of_its_sort sort_takes columns.now assign.now ≡ true → result ≡ false → IsShortValue assign.now.value }
-    ensures number { IsNumberKept assign.now.value }
-    ensures text { IsTextKept assign.now.value }
 {
-    let value = known(&assign.value);
     match sort_of(&assign.column, columns) {
-        Some(sort) => is_too_long(sort, value),
+        Some(sort) => is_too_long(sort, &assign.value),
         None => false,
     }
 }
@@ -136,7 +115,6 @@ fn is_longer(columns: &[Column], assign: &Assign) -> bool
 fn has_longer(columns: &[Column], assigns: &[Assign]) -> bool
     ensures long { result ≡ list_any (of_its_sort too_long_for columns.now) assigns.now }
     ensures short { list_all (of_its_sort sort_takes columns.now) assigns.now ≡ true → result ≡ false → All IsShortAssign assigns.now }
-    ensures kept { result ≡ false → All IsKeptAssign assigns.now }
 {
     for assign in assigns {
         if is_longer(columns, assign) {
@@ -173,7 +151,6 @@ pub(crate) fn update_fault<'a>(
     ensures checks { length columns.now ≤ column_limit → (done : Effect) → Checks result (check_update columns.now assigns.now conds.now done) done }
     ensures few { result ≡ None → length columns.now ≤ column_limit }
     ensures short { result ≡ None → All IsShortAssign assigns.now }
-    ensures kept { result ≡ None → All IsKeptAssign assigns.now }
 {
     if columns.len() > COLUMN_LIMIT {
         return Some(Fault::WrongValues);

@@ -105,7 +105,6 @@ fn table_fault<'a>(
 ) -> Option<Fault<'a>>
     ensures checks { (done : Effect) → Checks result (check_table there many table.now columns.now done) done }
     ensures few { result ≡ None → length columns.now ≤ 16 }
-    ensures named { IsName table.now }
 {
     let name = table.as_str();
     if there || is_view(name) {
@@ -193,6 +192,8 @@ fn table_plan<'a, K: Keeper>(
     ensures entries { IfOk result IsStorePlan }
     ensures reads { OnlyReads K.view keeper.old keeper.new result }
 {
+    // Read so that the proof knows that it is a name.
+    let _named = table.as_str();
     let there = has_table(alloc, keeper, table)?;
     let many = has_most_tables(alloc, keeper)?;
     if let Some(fault) = table_fault(there, many, table, columns) {
@@ -202,8 +203,8 @@ fn table_plan<'a, K: Keeper>(
     Ok(Plan::Done(batch))
 }
 
-/// CREATE TABLE: makes a table without rows. It reads whether the name is free, and which tables there are. Its cost grows with the
-/// square of the columns written, also past 16, since two of one name are refused before too many are.
+/// CREATE TABLE: makes a table without rows. Its cost is that of the entries of all tables, and grows with the square of the columns
+/// written, also past 16, since two of one name are refused before too many are.
 pub fn create_table<K: Keeper>(
     alloc: Global,
     keeper: &mut K,

@@ -151,10 +151,9 @@ fn delete_plan<'a, K: Keeper>(
 /// DELETE: takes the rows that meet all conditions out of their table and out of the indexes on it, by at most one commit. There is
 /// always room for it, so Memory and Disk are the only errors.
 ///
-/// It reads the table's columns, what `rows_meeting` reads for the conditions, and the entries of all indexes; then, for each row
-/// and each index on the table, the row's document by one look-up. No posting is read, and no text but those that a condition is on.
-/// So `id = 7` costs, beside the entries of all indexes, one look-up for the row and one for each index on its table. Its changes
-/// take memory: for each row one and one more for each column with texts, and at most two for each index.
+/// Its cost is that of `rows_meeting` for the conditions, of the entries of all indexes, and of the document of each row in each index
+/// on the table. So a DELETE of one row by its key costs as much in any table. Its changes take memory: for each row one and one more
+/// for each column with texts, and at most two for each index.
 pub fn delete_from<K: Keeper>(
     alloc: Global,
     keeper: &mut K,

@@ -17,10 +17,11 @@ ghost use Rattle.ix_context.specs.Shapes.{HasIndexValue};
 ghost use Rattle.db_state.specs.States.{OverNamedTable};
 ghost use Rattle.db_state.specs.Effects.{Effect, Checks};
 ghost use Rattle.db_state.specs.Columns.{first_unknown as unknown_name};
-ghost use Rattle.db_change.specs.Inserting.{MakesRow, PlansRow, row_changes, are_of_sorts as all_of_sorts, arranged as arranged_values, behind_key as others_of, check_list, check_row_values, covers as covers_columns, has_row as has_row_of, has_too_long as any_too_long, insert_into as insert_into_effect, is_beyond_range, is_of_sort as sort_takes, is_too_long as too_long_for, key_in as key_of, kept_value, number_value, text_value, IsNumberKept, IsShortValue, IsTextKept, note_all_changes, listed_names, row_created, value_under as named_value, IsFreeRow};
+ghost use Rattle.db_change.specs.Inserting.{MakesRow, PlansRow, row_changes, are_of_sorts as all_of_sorts, arranged as arranged_values, behind_key as others_of, check_list, check_row_values, covers as covers_columns, has_row as has_row_of, has_too_long as any_too_long, insert_into as insert_into_effect, is_beyond_range, is_of_sort as sort_takes, is_too_long as too_long_for, key_in as key_of, kept_value, number_value, text_value, IsShortValue, note_all_changes, listed_names, row_created, value_under as named_value, IsFreeRow};
 ghost use Rattle.db_state.specs.Plans.{IsStorePlan, Plans, Replies, line_for_all};
 ghost use Rattle.db_state.specs.Shapes.{AcceptsStatements, AreStoreChanges};
 
+use crate::keeping::keep_values;
 use ct_base::{COLUMN_LIMIT, Memory, Name, ROW_LIMIT, RowKey, TEXT_LIMIT, Text};
 use ct_keep::{Batch, KeepFault, Keeper};
 use db_cond::Fault;
@@ -288,8 +289,7 @@ fn values_fault(
 
 /// The number that a row keeps of a value, if any; in place of one that is out of its range, 0.
 pub(crate) fn number_in(value: &Operand) -> Option<i64>
-    ensures number { result ≡ number_value value.now }
-    ensures fits { IsNumberKept value.now }
+    ensures { result ≡ number_value value.now }
 {
     match value {
         Operand::Text(_) => None,
@@ -300,8 +300,7 @@ pub(crate) fn number_in(value: &Operand) -> Option<i64>
 
 /// The numbers of a row by its values but the key, in the order of their columns.
 fn numbers_in(alloc: Global, values: &[Operand]) -> Result<Vec<i64>, Memory>
-    ensures numbers { IfOk result (λ numbers. numbers.items ≡ filter_map number_value values.now) }
-    ensures fit { IfOk result (λ _. All IsNumberKept values.now) }
+    ensures { IfOk result (λ numbers. numbers.items ≡ filter_map number_value values.now) }
 {
     let mut numbers = Vec::new(alloc);
     for value in values {
@@ -315,14 +314,10 @@ fn numbers_in(alloc: Global, values: &[Operand]) -> Result<Vec<i64>, Memory>
 
 /// The text that a row keeps of a value, if any.
 fn text_in(value: Operand) -> Option<Text>
-    ensures text { result ≡ text_value value }
-    ensures utf8 { IsTextKept value }
+    ensures { result ≡ text_value value }
 {
     match value {
-        Operand::Text(text) => {
-            let _utf8 = text.as_str();
-            Some(text)
-        }
+        Operand::Text(text) => Some(text),
         Operand::Number(_) => None,
     }
 }
@@ -336,8 +331,7 @@ pub(crate) fn column_of(place: usize) -> u8
 
 /// The texts of a row by its values but the key, each with its column. None is copied.
 fn texts_in(alloc: Global, values: Vec<Operand>) -> Result<Vec<(u8, Text)>, Memory>
-    ensures texts { IfOk result (λ texts. length values.items ≤ 255 → texts.items ≡ texts_of (map kept_value values.items)) }
-    ensures utf8 { IfOk result (λ _. All IsTextKept values.items) }
+    ensures { IfOk result (λ texts. length values.items ≤ 255 → texts.items ≡ texts_of (map kept_value values.items)) }
 {
     let mut texts = Vec::new(alloc);
     let mut place: usize = 0;
@@ -362,8 +356,6 @@ fn row_batch(
     requires few { length values.items ≤ column_limit }
     requires short { All IsShortValue values.items }
     ensures changes { IfOk result (λ batch. length values.items ≤ 255 → batch ≡ spell (row_changes table.now row.0 values.items)) }
-    ensures numbers { IfOk result (λ _. All IsNumberKept values.items) }
-    ensures texts { IfOk result (λ _. All IsTextKept values.items) }
     ensures shaped { IfOk result (λ batch. AreShaped HasTableValue batch) }
 {
     let numbers = numbers_in(alloc, values.as_slice())?;
@@ -384,6 +376,8 @@ fn note_all(
     ensures shaped { OnOk result (AreShaped HasIndexValue (spell (note_all_changes (map (λ e. e.0) indexes.now) row.0))) }
 {
     for (index, _) in indexes {
+        // Read so that the proof knows that it is a name.
+        let _named = index.as_str();
         note_insert(alloc, batch, index, row).map_err(|_| Memory)?;
     }
     Ok(())
@@ -415,7 +409,9 @@ fn noted_batch<K: Keeper>(
     ensures entries { IfOk result AreStoreChanges }
     ensures reads { OnlyReads K.view keeper.old keeper.new result }
 {
-    let mut batch = row_batch(alloc, table, row, behind_key(values))?;
+    let values = behind_key(values);
+    keep_values(values.as_slice());
+    let mut batch = row_batch(alloc, table, row, values)?;
     let indexes = indexes_of(alloc, keeper, table)?;
     note_all(alloc, &mut batch, &indexes, row)?;
     Ok(batch)
@@ -500,9 +496,8 @@ fn insert_plan<'a, K: Keeper>(
     values_plan(alloc, keeper, table, &columns, values)
 }
 
-/// INSERT. Beside the table's columns it reads whether the key is taken, whether the table has room for a row, and the entries
-/// of all indexes; its cost is theirs, and that of the values' bytes, which are copied once. That the table has room is read from
-/// the keeper's count, by no look-up.
+/// INSERT. Its cost is that of the table's columns, of the entries of all indexes, and of the values' bytes, which are copied once. The
+/// keeper counts the rows of the table, so they aren't read.
 pub fn insert_into<K: Keeper>(
     alloc: Global,
     keeper: &mut K,

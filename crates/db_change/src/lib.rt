@@ -6,6 +6,7 @@ mod creating;
 mod deleting;
 mod dropping;
 mod inserting;
+mod keeping;
 mod updating;
 
 pub use creating::create_table;

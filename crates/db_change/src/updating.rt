@@ -25,6 +25,7 @@ ghost use Rattle.db_change.specs.Updating.{indexes_set as indexes_of_set, named_
 
 use crate::assigning::update_fault;
 use crate::inserting::{column_of, number_in};
+use crate::keeping::keep_assigns;
 use ct_base::{Memory, Name, RowKey, Text};
 use ct_keep::{Batch, KeepFault, Keeper};
 use db_cond::{Fault, rows_line};
@@ -391,14 +392,15 @@ fn update_plan<'a, K: Keeper>(
     if let Some(fault) = update_fault(&columns, assigns, conds) {
         return Ok((Plan::Refused(fault), 0));
     }
+    keep_assigns(assigns);
     let rows = rows_meeting(alloc, keeper, table, &columns, conds)?;
     let batch = update_batch(alloc, keeper, table, &columns, assigns, &rows)?;
     Ok((Plan::Done(batch), rows.len()))
 }
 
-/// UPDATE, by at most one commit. Beside the table's columns and the entries of all indexes it reads what tells which rows meet the
-/// conditions, and of each of these its numbers and its document in each index on a column that is set: no text, and no posting.
-/// The conditions on the key bound the rows that are looked at, so an UPDATE of one row by its key costs as much in any table.
+/// UPDATE, by at most one commit. Its cost is that of `rows_meeting` for the conditions, of the entries of all indexes, and, for each
+/// row, of its numbers and its document in each index on a column that is set. So an UPDATE of one row by its key costs as much in any
+/// table.
 pub fn update<K: Keeper>(
     alloc: Global,
     keeper: &mut K,

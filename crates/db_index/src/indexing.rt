@@ -1,9 +1,11 @@
 //! CREATE INDEX.
 #![tactic(auto, using(ct_keep::specs::Composing::reads_on, ct_keep::specs::Composing::reads_short, ct_keep::specs::Composing::accepts_on))]
 
-ghost use Rattle.std.specs.Prelude.{◌≡◌, ◌<◌, IfOk, IfSome, Some, nat_le, length, true};
-ghost use Rattle.ct_base.specs.Names.{IsName};
-ghost use Rattle.ct_keep.specs.KeeperViews.{OnlyReads};
+ghost use Rattle.std.specs.Prelude.{◌≡◌, ◌<◌, ◌∷◌, [], IfOk, IfSome, Some, None, nat_le, length, true};
+ghost use Rattle.ct_keep.specs.KeeperViews.{OnlyReads, Told};
+ghost use Rattle.ct_keep.specs.Looks.{scan_looks, LooksAtMost};
+ghost use Rattle.ct_entry.specs.declared.kinds.Kind.TheVariants as kind;
+ghost use Rattle.ct_entry.specs.Kinds.{code};
 ghost use Rattle.tb_table.specs.Tables.{Table};
 ghost use Rattle.tx_settings.specs.Attributes.{can_be_set};
 ghost use Rattle.db_state.specs.States.{OverStates, OverNamedTable, indexes_on, index_limit, Sees};
@@ -60,6 +62,7 @@ fn has_context_index<K: Keeper>(
     requires { (K.view keeper.old).ready }
     ensures there { OverStates K.view keeper.old (λ m c. place < 256 → IfOk result (λ there. there ≡ column_has_index m.indexes table.now place)) }
     ensures reads { OnlyReads K.view keeper.old keeper.new result }
+    ensures at_most { Told K.view keeper.old (λ m. LooksAtMost K.view keeper.old keeper.new (scan_looks (code kind.Indexes ∷ []) m)) }
 {
     let other = context_index(alloc, keeper, table, place)?;
     Ok(other.is_some())
@@ -98,6 +101,7 @@ fn has_most_indexes<K: Keeper>(
     requires { (K.view keeper.old).ready }
     ensures many { Sees K.view keeper.old result (λ m many. many ≡ nat_le index_limit (length (indexes_on m.indexes table.now))) }
     ensures reads { OnlyReads K.view keeper.old keeper.new result }
+    ensures at_most { Told K.view keeper.old (λ m. LooksAtMost K.view keeper.old keeper.new (scan_looks (code kind.Indexes ∷ []) m)) }
 {
     let indexes = indexes_of(alloc, keeper, table)?;
     Ok(are_most(&indexes))
@@ -112,7 +116,7 @@ fn index_fault<'a>(
     index: &'a Name,
 ) -> Option<Fault<'a>>
     ensures checks { (done : Effect) → Checks result (check_flags there texts formed many index.now done) done }
-    ensures named { IsName index.now }
+    ensures formed { result ≡ None → formed ≡ true }
 {
     let name = index.as_str();
     if there {
@@ -183,6 +187,8 @@ fn plan_on<'a, K: Keeper>(
     ensures entries { IfOk result IsStorePlan }
     ensures reads { OnlyReads K.view keeper.old keeper.new result }
 {
+    // Read so that the proof knows that it is a name.
+    let _named = index.as_str();
     let there = is_taken(alloc, keeper, index, table, place)?;
     let many = has_most_indexes(alloc, keeper, table)?;
     if let Some(fault) = index_fault(
@@ -195,7 +201,7 @@ fn plan_on<'a, K: Keeper>(
         return Ok(Plan::Refused(fault));
     }
     let Some(prefs) = prefs else {
-        return Ok(Plan::Refused(Fault::BadValue));
+        unreachable!();
     };
     prefs.keep_rules();
     let found = created(alloc, keeper, index, table, place, prefs)?;

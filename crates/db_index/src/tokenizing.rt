@@ -27,8 +27,8 @@ use tx_settings::{Setting, options_of};
 /// more spells a name that no lexer preference has; E13 where the arguments are neither one text nor two; E16 where the text has
 /// over 4000 bytes; E30 where the first of two texts spells no name.
 ///
-/// It reads one entry at most, and none where there are fewer than two arguments. Beside this its cost is that of `options_of` over
-/// the settings, and linear in the length of the text. It changes nothing, and never answers Full.
+/// Where there are fewer than two arguments its reply is the same in every state. Its cost is that of reading the preference, if one is
+/// named, and of `options_of` over its settings, and linear in the length of the text. It changes nothing, and never answers Full.
 pub fn policy_tokens<K: Keeper>(
     alloc: Global,
     keeper: &mut K,

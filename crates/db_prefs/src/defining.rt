@@ -107,9 +107,9 @@ fn define_plan<'a, K: Keeper>(
 /// many or of other kinds; where a type, an attribute, a value, a word, a tag or a name is bad; and where a limit would be passed:
 /// 256 of each kind, 4096 words in a stoplist, and 64 zones, 64 fields and 256 tags in a group.
 ///
-/// It reads at most one entry, and where something new is made all entries of its kind, whole. Beside this its cost is linear in what
-/// it reads, and for a section group the square of the number of its tags, of which there are at most 256. Since each call reads and
-/// writes the whole entry, n stopwords that are added one by one cost the square of n.
+/// Its cost is linear in the length of the entry, and where something new is made of all entries of its kind; for a section group it is
+/// the square of the number of its tags, of which there are at most 256. Since each call reads and writes the whole entry, n stopwords
+/// that are added one by one cost the square of n.
 pub fn define<K: Keeper>(
     alloc: Global,
     keeper: &mut K,

@@ -1,8 +1,17 @@
 -- The steps of bounding keys.
-use Rattle.std.proofs.Common.{◌≡◌, ◌≤ℤ◌, ◌⊎◌, ◌↔◌, ℤ, arith, inl, inr, subst, sym}
+use Rattle.std.proofs.Common.{◌≡◌, ◌<◌, ◌+◌, ◌≤ℤ◌, ◌⊎◌, ◌↔◌, ℕ, ℤ, Bool, true, false, List, length, get_or, take, arith, inl, inr, refl, ap, subst, sym, ◌∙◌}
+use Rattle.std.specs.Prelude.{not, ◌||◌, ◌&&◌}
+use Rattle.std.specs.List.{list_all}
+use Rattle.std.proofs.lemmas.List.Folds.{list_all_more}
 use Rattle.std.proofs.lemmas.Int.{ints}
 use Rattle.ct_base.specs.declared.numbers.RowKey.{RowKey}
-use Rattle.db_rows.specs.Bounds.{IsWithinBounds}
+use Rattle.ct_base.specs.declared.lists.Value.TheVariants.{Number as NumberValue}
+use Rattle.st_parse.specs.declared.statements.Cond.{Cond}
+use Rattle.tb_table.specs.declared.columns.Column.{Column}
+use Rattle.db_cond.specs.Conditions.{holds}
+use Rattle.db_rows.specs.Sources.{is_key_source, source_of}
+use Rattle.db_rows.specs.Checking.{cond_column}
+use Rattle.db_rows.specs.Bounds.{allows_key, is_range, IsWithinBounds}
 use Rattle.db_rows.specs.declared.bounds.KeyBounds.{KeyBounds}
 
 pub both_within : (a b : KeyBounds) (least greatest : RowKey) → a.least.0 ≤ℤ least.0 → b.least.0 ≤ℤ least.0 → (least ≡ a.least) ⊎ (least ≡ b.least) → greatest.0 ≤ℤ a.greatest.0 → greatest.0 ≤ℤ b.greatest.0 → (greatest ≡ a.greatest) ⊎ (greatest ≡ b.greatest)
@@ -23,3 +32,26 @@ both_within a b least greatest la lb le ga gb ge r = (
 pub either_within : (a b : KeyBounds) (least greatest : RowKey) → least.0 ≤ℤ a.least.0 → least.0 ≤ℤ b.least.0 → a.greatest.0 ≤ℤ greatest.0 → b.greatest.0 ≤ℤ greatest.0
     → (r : ℤ) → IsWithinBounds a r ⊎ IsWithinBounds b r → IsWithinBounds (record { least = least; greatest = greatest }) r
 either_within a b least greatest la lb ga gb r is = record { low = omega (arith, ints, la, lb, is); high = omega (arith, ints, ga, gb, is) }
+
+-- ---- conditions that hold of each key within
+
+-- one condition more
+pub tight_more : (columns : List Column) (conds : List Cond) (i : ℕ) (cond : Cond) (r : ℤ) → list_all (allows_key columns r) (take i conds) ≡ true → i < length conds → cond ≡ get_or conds i cond → allows_key columns r cond ≡ true
+    → list_all (allows_key columns r) (take (i + 1) conds) ≡ true
+tight_more columns conds i cond r so_far within at allows =
+    list_all_more (allows_key columns r) conds i cond within
+    ∙ ap (λ (b : Bool). b && allows_key columns r (get_or conds i cond)) so_far
+    ∙ sym (ap (allows_key columns r) at) ∙ allows
+
+-- one on the key
+pub allowed_here : (columns : List Column) (cond : Cond) (r : ℤ) → (is_range cond ≡ true → holds cond (NumberValue r) ≡ true) → allows_key columns r cond ≡ true
+allowed_here columns cond r = go (is_key_source (source_of (cond_column cond) columns)) (is_range cond) (holds cond (NumberValue r))
+  where
+    go : (key range here : Bool) → (range ≡ true → here ≡ true) → (not key || (not range || here)) ≡ true
+    go false range here holds = refl
+    go true false here holds = refl
+    go true true here holds = holds refl
+
+-- one on another column
+pub allowed_elsewhere : (columns : List Column) (cond : Cond) (r : ℤ) → is_key_source (source_of (cond_column cond) columns) ≡ false → allows_key columns r cond ≡ true
+allowed_elsewhere columns cond r other = ap (λ (key : Bool). not key || (not (is_range cond) || holds cond (NumberValue r))) other

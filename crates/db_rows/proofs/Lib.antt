@@ -1,5 +1,6 @@
 pub mod BoundSteps
 pub mod RowReads
+pub mod LookSteps
 pub mod MeetSteps
 pub mod Walks
 pub mod NextSteps

@@ -1,5 +1,5 @@
 -- Between which keys the rows lie that meet conditions.
-use Rattle.std.specs.Prelude.{ℤ, pos, ◌≡◌, ◌↔◌, ◌≤ℤ◌, Bool, true, false, List, [], ◌∷◌, codes, refl}
+use Rattle.std.specs.Prelude.{ℤ, pos, ◌≡◌, ◌↔◌, ◌≤ℤ◌, ◌||◌, not, Bool, true, false, List, [], ◌∷◌, codes, refl}
 use Rattle.std.specs.List.{list_all}
 use Rattle.std.proofs.Common.{arith}
 use Rattle.std.proofs.lemmas.Int.{ints}
@@ -10,12 +10,12 @@ use Rattle.st_parse.specs.declared.statements.Operand.{Operand}
 use Rattle.st_parse.specs.declared.statements.Operand.TheVariants.{Number}
 use Rattle.st_parse.specs.declared.statements.Whole.TheVariants.{Fits}
 use Rattle.st_parse.specs.declared.statements.Compare.{Compare}
-use Rattle.st_parse.specs.declared.statements.Compare.TheVariants.{Less}
+use Rattle.st_parse.specs.declared.statements.Compare.TheVariants.{Equal, Less}
 use Rattle.st_parse.specs.declared.statements.Cond.{Cond}
-use Rattle.st_parse.specs.declared.statements.Cond.TheVariants.{Compare as Compared}
+use Rattle.st_parse.specs.declared.statements.Cond.TheVariants.{Compare as Compared, Between, OneOf}
 use Rattle.tb_table.specs.declared.columns.Column.{Column}
 use Rattle.db_cond.specs.Conditions.{compares, holds}
-use Rattle.db_rows.specs.Sources.{source_of, source_value, of_columns}
+use Rattle.db_rows.specs.Sources.{is_key_source, source_of, source_value, of_columns}
 use Rattle.db_rows.specs.Checking.{cond_column}
 use Rattle.db_rows.specs.Meeting.{holds_of}
 use Rattle.db_rows.specs.declared.bounds.KeyBounds.{KeyBounds}
@@ -45,6 +45,24 @@ meets_by columns conds r vs = list_all (λ cond. holds_by columns cond r vs) con
 abbrev pub BoundRows : List Column → List Cond → KeyBounds → Type 0
 BoundRows columns conds b = (r : ℤ) (vs : List Value) → IsRow r → meets_by columns conds r vs ≡ true → IsWithinBounds b r
 
+-- a condition by one comparison or two, and not by a list
+abbrev pub is_range : Cond → Bool
+is_range (Compared column op operand) = true
+is_range (Between column low high) = true
+is_range (OneOf column operands) = false
+
+-- of each key that lies within the condition holds, unless it is a list
+abbrev pub HoldsWithin : Cond → KeyBounds → Type 0
+HoldsWithin cond b = is_range cond ≡ true → (r : ℤ) → IsRow r → IsWithinBounds b r → holds cond (NumberValue r) ≡ true
+
+-- whether the condition holds of the key, if it is on the key and no list
+abbrev pub allows_key : List Column → ℤ → Cond → Bool
+allows_key columns r cond = not (is_key_source (source_of (cond_column cond) columns)) || (not (is_range cond) || holds cond (NumberValue r))
+
+-- of each key that lies within each such condition holds
+abbrev pub AreTight : List Column → List Cond → KeyBounds → Type 0
+AreTight columns conds b = (r : ℤ) → IsRow r → IsWithinBounds b r → list_all (allows_key columns r) conds ≡ true
+
 -- computed examples
 abbrev from_to : ℤ → ℤ → KeyBounds
 from_to least greatest = record { least = record { 0 = least }; greatest = record { 0 = greatest } }
@@ -58,6 +76,19 @@ nothing_within r is = omega (arith, ints, is.low, is.high)
 -- of a table with the columns id, a, n and b the row 7 of a text, 5 and a text
 abbrev its_row : Compare → ℤ → Bool
 its_row op n = meets_by of_columns (Compared (codes "n") op (Number (Fits n)) ∷ []) (pos 7) (TextValue (codes "x") ∷ NumberValue (pos 5) ∷ TextValue (codes "y") ∷ [])
+
+-- where the key is to be 7, no other key lies within tight bounds; a condition on another column doesn't bound it
+abbrev key_seven : Cond
+key_seven = Compared (codes "id") Equal (Number (Fits (pos 7)))
+
+only_seven : allows_key of_columns (pos 7) key_seven ≡ true
+only_seven = refl
+
+not_eight : allows_key of_columns (pos 8) key_seven ≡ false
+not_eight = refl
+
+any_by_a_number : allows_key of_columns (pos 8) (Compared (codes "n") Equal (Number (Fits (pos 7)))) ≡ true
+any_by_a_number = refl
 
 below_six : its_row Less (pos 6) ≡ true
 below_six = refl

@@ -53,6 +53,12 @@ is_key_source (Number place) = false
 is_key_source (Text column) = false
 is_key_source Nothing = false
 
+abbrev pub is_text_source : Source → Bool
+is_text_source Key = false
+is_text_source (Number place) = false
+is_text_source (Text column) = true
+is_text_source Nothing = false
+
 -- computed examples: of a table with a key, a number and two texts
 abbrev pub of_columns : List Column
 of_columns =

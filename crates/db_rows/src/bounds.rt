@@ -10,7 +10,7 @@ ghost use Rattle.st_parse.specs.declared.statements.Compare.TheVariants as compa
 ghost use Rattle.db_cond.specs.Conditions.{compares};
 ghost use Rattle.db_rows.specs.Sources.{is_key_source, source_of as source_of_column};
 ghost use Rattle.db_rows.specs.Checking.{cond_column as column_of_cond};
-ghost use Rattle.db_rows.specs.Bounds.{AreBoundsOf, BoundRows, BoundKeys, IsWithinBounds};
+ghost use Rattle.db_rows.specs.Bounds.{AreBoundsOf, AreTight, BoundRows, BoundKeys, HoldsWithin, IsWithinBounds};
 ghost use Rattle.db_rows.specs.Walking.{IsStart};
 
 use crate::checking::cond_column;
@@ -135,7 +135,8 @@ fn list_bounds(operands: &[Operand]) -> KeyBounds
 
 /// Bounds of the keys of which a condition holds.
 fn cond_bounds(cond: &Cond) -> KeyBounds
-    ensures { BoundKeys cond.now result }
+    ensures bound { BoundKeys cond.now result }
+    ensures tight { HoldsWithin cond.now result }
 {
     match cond {
         Cond::Compare { op, value, .. } => compare_bounds(*op, value),
@@ -154,9 +155,11 @@ fn is_on_key(cond: &Cond, columns: &[Column]) -> bool
     matches!(source_of(cond_column(cond), columns), Source::Key)
 }
 
-/// Bounds of the keys of the rows that meet all conditions: those of the conditions on the key, all together.
+/// Bounds of the keys of the rows that meet all conditions: those of the conditions on the key, all together. Of a list they are the
+/// least and the greatest of its numbers.
 pub(crate) fn key_bounds(conds: &[Cond], columns: &[Column]) -> KeyBounds
-    ensures { BoundRows columns.now conds.now result }
+    ensures bound { BoundRows columns.now conds.now result }
+    ensures tight { AreTight columns.now conds.now result }
 {
     let mut bounds = KeyBounds::ALL;
     for cond in conds {

@@ -3,8 +3,9 @@
 
 ghost use Rattle.std.specs.Prelude.{◌≡◌, IfOk, OnOk, Some};
 ghost use Rattle.ct_keep.specs.KeeperViews.{OnlyReads};
+ghost use Rattle.ct_keep.specs.Looks.{LooksAtMost};
 ghost use Rattle.db_rows.specs.Bounds.{holds_by};
-ghost use Rattle.db_rows.specs.Reading.{IsReadOf, OverColumns, OverRow};
+ghost use Rattle.db_rows.specs.Reading.{IsReadOf, OverColumns, OverRow, cond_looks, texts_for};
 ghost use Rattle.db_rows.specs.Meeting.{holds_of as holds_of_value, key_meets};
 
 use crate::checking::cond_column;
@@ -41,6 +42,7 @@ fn meets_one<K: Keeper>(
     ensures met { OverRow K.view keeper.old table.now row.0 read.old (λ vs. IfOk result (λ met. met ≡ holds_by columns.now cond.now row.0 vs)) }
     ensures read { OverRow K.view keeper.old table.now row.0 read.old (λ vs. OnOk result (IsReadOf vs read.new)) }
     ensures reads { OnlyReads K.view keeper.old keeper.new result }
+    ensures at_most { LooksAtMost K.view keeper.old keeper.new (cond_looks columns.now cond.now read.old) }
 {
     let source = source_of(cond_column(cond), columns);
     let value = column_value(alloc, keeper, table, row, read, source)?;
@@ -49,8 +51,7 @@ fn meets_one<K: Keeper>(
 
 /// Whether a row of a table meets all conditions, which are tried one after the other up to the first that doesn't hold.
 ///
-/// It looks up the numbers of the row once at most, and each text once at most that a condition is on; so it makes no look-up
-/// where all conditions are on the key. It never answers Full.
+/// It reads at most one text for each condition that is on a text, and no posting. It never answers Full.
 pub fn meets<K: Keeper>(
     alloc: Global,
     keeper: &mut K,
@@ -62,6 +63,7 @@ pub fn meets<K: Keeper>(
     requires { (K.view keeper.old).ready }
     ensures met { OverColumns K.view keeper.old table.now columns.now (λ x. IfOk result (λ met. met ≡ key_meets x conds.now row.0)) }
     ensures reads { OnlyReads K.view keeper.old keeper.new result }
+    ensures at_most { LooksAtMost K.view keeper.old keeper.new (texts_for columns.now conds.now) }
 {
     let mut read = RowRead::nothing(alloc);
     for cond in conds {

@@ -1,17 +1,18 @@
 //! Reads the values of a row, each entry once.
 #![tactic(auto, using(ct_keep::specs::Composing::reads_on, ct_keep::specs::Composing::reads_short))]
 
-ghost use Rattle.std.specs.Prelude.{◌≡◌, ◌==◌, List, [], ◌∷◌, ◌++◌, IfOk, OnOk, Some};
+ghost use Rattle.std.specs.Prelude.{◌≡◌, ◌==◌, List, [], ◌∷◌, ◌++◌, IfOk, OnOk, Some, is_some, true};
 ghost use Rattle.std.specs.List.{slice_get};
 ghost use Rattle.std.specs.Map.{lookup};
 ghost use Rattle.std.specs.Option.{option_map};
 ghost use Rattle.ct_base.specs.declared.lists.Value.{Value as RowValue};
 ghost use Rattle.ct_keep.specs.KeeperViews.{OnlyReads};
+ghost use Rattle.ct_keep.specs.Looks.{no_looks, LooksAtMost};
 ghost use Rattle.tb_table.specs.Tables.{numbers_of, text_in_column as row_text};
 ghost use Rattle.db_state.specs.States.{Sees};
 ghost use Rattle.db_rows.specs.Values.{row_values};
 ghost use Rattle.db_rows.specs.Sources.{source_value};
-ghost use Rattle.db_rows.specs.Reading.{IsReadOf, OverRow};
+ghost use Rattle.db_rows.specs.Reading.{IsReadOf, OverRow, source_looks, text_looks};
 
 use crate::sources::Source;
 use ct_base::{Memory, Name, RowKey, Text, Value};
@@ -48,7 +49,7 @@ fn number_at(numbers: &[i64], place: usize) -> Option<i64>
     numbers.get(place).copied()
 }
 
-/// The numbers of a row; none where it isn't there. It makes one look-up, and never answers Full.
+/// The numbers of a row; none where it isn't there. It reads no text and no posting, and never answers Full.
 pub fn row_numbers<K: Keeper>(
     alloc: Global,
     keeper: &mut K,
@@ -58,6 +59,7 @@ pub fn row_numbers<K: Keeper>(
     requires { (K.view keeper.old).ready }
     ensures numbers { Sees K.view keeper.old result (λ m numbers. numbers.items ≡ numbers_of (row_values m.tables table.now row.0)) }
     ensures reads { OnlyReads K.view keeper.old keeper.new result }
+    ensures at_most { LooksAtMost K.view keeper.old keeper.new no_looks }
 {
     match number_row(alloc, keeper, table, row)? {
         Some(numbers) => Ok(numbers),
@@ -86,7 +88,7 @@ fn note_text(texts: &mut Vec<ReadText>, column: u8, text: &Option<Text>) -> Resu
     Ok(())
 }
 
-/// The number at a place among those of a row. They are read once; `read` keeps them.
+/// The number at a place among those of a row. They are read unless `read` has them, which then keeps them.
 fn number_once<K: Keeper>(
     alloc: Global,
     keeper: &mut K,
@@ -98,7 +100,9 @@ fn number_once<K: Keeper>(
     requires { (K.view keeper.old).ready }
     ensures number { OverRow K.view keeper.old table.now row.0 read.old (λ vs. IfOk result (λ number. number ≡ slice_get (numbers_of vs) place)) }
     ensures read { OverRow K.view keeper.old table.now row.0 read.old (λ vs. OnOk result (IsReadOf vs read.new)) }
+    ensures kept { OnOk result (is_some read.new.numbers ≡ true) }
     ensures reads { OnlyReads K.view keeper.old keeper.new result }
+    ensures at_most { LooksAtMost K.view keeper.old keeper.new no_looks }
 {
     if let Some(numbers) = &read.numbers {
         return Ok(number_at(numbers, place));
@@ -109,7 +113,7 @@ fn number_once<K: Keeper>(
     Ok(number)
 }
 
-/// The text of a row in a column. It is read once; `read` keeps it.
+/// The text of a row in a column. It is read unless `read` has it, which then keeps it.
 fn text_once<K: Keeper>(
     alloc: Global,
     keeper: &mut K,
@@ -121,7 +125,9 @@ fn text_once<K: Keeper>(
     requires { (K.view keeper.old).ready }
     ensures text { OverRow K.view keeper.old table.now row.0 read.old (λ vs. IfOk result (λ text. text ≡ row_text vs column)) }
     ensures read { OverRow K.view keeper.old table.now row.0 read.old (λ vs. OnOk result (IsReadOf vs read.new)) }
+    ensures kept { IfOk result (λ text. lookup (λ place. column == place) read.new.texts.items ≡ Some text) }
     ensures reads { OnlyReads K.view keeper.old keeper.new result }
+    ensures at_most { LooksAtMost K.view keeper.old keeper.new (text_looks read.old column) }
 {
     if let Some(text) = known_text(&read.texts, column)? {
         return Ok(text);
@@ -131,8 +137,8 @@ fn text_once<K: Keeper>(
     Ok(text)
 }
 
-/// The value of a row that comes from this place; None where the row has none. It takes no look-up for the key, and one for the
-/// numbers and for each text, unless `read` has them.
+/// The value of a row that comes from this place; None where the row has none. It reads the numbers of the row, or the text, unless
+/// `read` has them, and nothing for the key.
 pub fn column_value<K: Keeper>(
     alloc: Global,
     keeper: &mut K,
@@ -145,6 +151,7 @@ pub fn column_value<K: Keeper>(
     ensures value { OverRow K.view keeper.old table.now row.0 read.old (λ vs. IfOk result (λ value. value ≡ source_value row.0 vs source)) }
     ensures read { OverRow K.view keeper.old table.now row.0 read.old (λ vs. OnOk result (IsReadOf vs read.new)) }
     ensures reads { OnlyReads K.view keeper.old keeper.new result }
+    ensures at_most { LooksAtMost K.view keeper.old keeper.new (source_looks read.old source) }
 {
     match source {
         Source::Key => Ok(Some(Value::Number(row.0))),

@@ -1,9 +1,12 @@
 //! The rows of a table that meet conditions.
 #![tactic(auto, using(ct_keep::specs::Composing::reads_on, ct_keep::specs::Composing::reads_short))]
 
-ghost use Rattle.std.specs.Prelude.{◌≡◌, map, IfOk, OnOk};
-ghost use Rattle.ct_keep.specs.KeeperViews.{OnlyReads};
-ghost use Rattle.ct_entry.specs.Listings.{number_of};
+ghost use Rattle.std.specs.Prelude.{◌≡◌, ◌++◌, map, IfOk, OnOk};
+ghost use Rattle.ct_keep.specs.KeeperViews.{OnlyReads, Told};
+ghost use Rattle.ct_keep.specs.Looks.{next_looks, LooksAtMost};
+ghost use Rattle.ct_entry.specs.declared.kinds.Kind.TheVariants as kind;
+ghost use Rattle.ct_entry.specs.Keys.{prefix_of};
+ghost use Rattle.ct_entry.specs.Listings.{number_of, start_after};
 ghost use Rattle.db_state.specs.States.{OverStates};
 ghost use Rattle.db_rows.specs.Meeting.{meeting_keys};
 ghost use Rattle.db_rows.specs.Reading.{OverColumns};
@@ -27,8 +30,8 @@ fn is_past_greatest(after: Option<RowKey>, bounds: KeyBounds) -> bool
     }
 }
 
-/// The next key of the table after one, where it lies within the bounds. It takes one look-up at most, and none where the last
-/// key was the greatest that does.
+/// The next key of the table after one, where it lies within the bounds. Nothing is read where the last key was the greatest that
+/// does.
 fn next_within<K: Keeper>(
     alloc: Global,
     keeper: &mut K,
@@ -39,6 +42,7 @@ fn next_within<K: Keeper>(
     requires { (K.view keeper.old).ready }
     ensures next { OverStates K.view keeper.old (λ m c. FindsNext m.tables table.now (number_of after) bounds.greatest.0 result) }
     ensures reads { OnlyReads K.view keeper.old keeper.new result }
+    ensures at_most { Told K.view keeper.old (λ m. LooksAtMost K.view keeper.old keeper.new (next_looks (prefix_of kind.RowNumbers table.now ++ start_after after) m)) }
 {
     if is_past_greatest(after, bounds) {
         return Ok(None);
@@ -83,9 +87,9 @@ fn note_row<K: Keeper>(
 
 /// The keys of the rows of a table that meet all conditions, in order.
 ///
-/// The conditions on the key bound the keys from below and from above. It makes one look-up for each row between the bounds and
-/// one more, or none more where a row stands at the upper bound; and for each of these rows at most one look-up of its numbers and
-/// one of each text that a condition is on. So `id = 7` costs one look-up in any table. It never answers Full.
+/// The conditions on the key bound the keys from below and from above. Its cost is that of a walk over the rows between the bounds,
+/// of the row behind them unless one stands at the upper bound, and of what the conditions are on in each of these rows. So a row by
+/// its key costs as much in any table. It never answers Full.
 pub fn rows_meeting<K: Keeper>(
     alloc: Global,
     keeper: &mut K,

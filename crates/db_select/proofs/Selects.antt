@@ -1,8 +1,6 @@
 -- The ways out of a SELECT.
 use Rattle.std.proofs.Common.{◌≡◌, ◌≤◌, ℕ, ℤ, Bool, true, false, List, [], ◌∷◌, ◌++◌, length, map, Option, Some, None, refl, sym, ap, ◌∙◌, arith}
-use Rattle.std.specs.Prelude.{not, ◌||◌, ◌&&◌, is_none, bytes_eq, codes}
-use Rattle.std.specs.Bool.{if◌then◌else◌}
-use Rattle.std.specs.List.{list_all}
+use Rattle.std.specs.Prelude.{not, ◌||◌, is_none}
 use Rattle.std.specs.FinMap.{get}
 use Rattle.st_parse.specs.declared.statements.Item.{Item}
 use Rattle.st_parse.specs.declared.statements.Item.TheVariants.{Column as ColumnItem}
@@ -14,19 +12,16 @@ use Rattle.tb_table.specs.Rules.{AreTables}
 use Rattle.st_parse.specs.declared.statements.Cond.{Cond}
 use Rattle.ix_search.specs.declared.hits.Hit.{Hit}
 use Rattle.ix_context.specs.Indexes.{Index}
-use Rattle.db_cond.specs.Faults.{Refusal, NotUnderstood, UnknownName, WrongValues, OutOfRange, NoIndexOfKind, refusal_line}
-use Rattle.db_state.specs.States.{StoreState, is_view}
-use Rattle.db_state.specs.Effects.{Effect, Does, Refused, refuse, refuse_by, with_found, state_by, reply_by}
-use Rattle.db_state.specs.laws.Unchanged.{kept_by, kept_found, kept_unless}
+use Rattle.db_cond.specs.Faults.{Refusal, UnknownName, NoIndexOfKind, refusal_line}
+use Rattle.db_state.specs.States.{StoreState}
+use Rattle.db_state.specs.Effects.{Effect, Does, Refused, refuse, refuse_by, with_found, reply_by}
 use Rattle.db_state.specs.Columns.{first_unknown}
 use Rattle.db_rows.specs.Checking.{fit_columns, has_beyond}
-use Rattle.db_select.specs.Predicates.{Search, is_built_pred, label_in, list_columns, pred_column, search_in, conds_in}
+use Rattle.db_select.specs.Predicates.{Search, label_in, list_columns, pred_column, search_in, conds_in}
 use Rattle.q_tree.specs.Trees.{Reduced}
 use Rattle.db_select.specs.Querying.{Refuses, Finds, meaning_of, refusal_in}
 use Rattle.db_select.specs.Checking.{fit_labels, is_out_of_range, check_parts, check_values}
 use Rattle.db_select.specs.Selecting.{all_columns, hit_line, hits, index_of_search, lacks_index, query_refusal, refused_by, rows_reply, select, select_rows}
-use Rattle.db_select.specs.Pending.{is_bare, is_view_list, select_pending}
-use Rattle.db_select.specs.Statements.{select_statement}
 use Rattle.db_select.specs.declared.sources.FieldSource.{FieldSource}
 use Rattle.db_select.specs.Sources.{column_source, field_source, hit_fields}
 use Rattle.db_select.proofs.FieldLaws.{hit_line_is}
@@ -35,30 +30,6 @@ use Rattle.db_select.proofs.FieldLaws.{hit_line_is}
 
 pub few_columns : (m : StoreState) (t : List ℕ) (x : Table) (columns : List Column) → AreTables m.tables → get m.tables t ≡ Some x → x.columns ≡ columns → length columns ≤ 256
 few_columns m t x columns are here same = let few = (are.each t x here).columns.few in omega (arith, few, ap length same)
-
--- ---- the state stays
-
-select_keeps : (m : StoreState) (list : SelectList) (t : List ℕ) (preds : List Pred) → state_by m (select m list t preds) ≡ m
-select_keeps m list t preds =
-    let search = search_in preds in
-    let conds = conds_in preds in
-    kept_found m (get m.tables t) (UnknownName t) _ (λ x.
-    kept_unless m (first_unknown (list_columns list ++ map pred_column preds) x.columns) UnknownName _
-    (kept_by m (lacks_index m t x.columns search) NoIndexOfKind _
-    (kept_by m (not (fit_labels list (label_in search)) || not (fit_columns x.columns conds)) WrongValues _
-    (kept_by m (is_out_of_range search || has_beyond conds) OutOfRange _
-    (kept_unless m (query_refusal m t x.columns search) (λ refusal. refusal) _ refl)))))
-
-kept_either : (m : StoreState) (b : Bool) (e f : Effect) → state_by m e ≡ m → state_by m f ≡ m → state_by m (if b then e else f) ≡ m
-kept_either m true e f kept other = kept
-kept_either m false e f kept other = other
-
-pub statement_keeps : (m : StoreState) (list : SelectList) (t : List ℕ) (preds : List Pred) → state_by m (select_statement m list t preds) ≡ m
-statement_keeps m list t preds =
-    kept_by m (not (list_all is_built_pred preds)) NotUnderstood _
-    (kept_either m (bytes_eq t (codes "ctx_user_pending")) (select_pending m list preds) (refuse (is_view t) NotUnderstood (select m list t preds))
-    (kept_by m (not (is_view_list list && is_bare preds)) WrongValues _ refl)
-    (kept_by m (is_view t) NotUnderstood _ (select_keeps m list t preds)))
 
 -- ---- the lines
 

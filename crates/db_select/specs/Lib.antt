@@ -9,3 +9,4 @@ pub mod Sources
 pub mod Found
 pub mod Statements
 pub mod Waiting
+pub mod laws

@@ -2,7 +2,8 @@
 #![tactic(auto, using(ct_keep::specs::Composing::reads_on, ct_keep::specs::Composing::reads_short))]
 
 ghost use Rattle.std.specs.Prelude.{◌≡◌, nat_lt, filter, map, IfOk, OnOk, Some, None};
-ghost use Rattle.ct_keep.specs.KeeperViews.{OnlyReads};
+ghost use Rattle.ct_keep.specs.KeeperViews.{OnlyReads, Told};
+ghost use Rattle.ct_keep.specs.Looks.{LooksAtMost};
 ghost use Rattle.q_tree.specs.Trees.{reduced_of};
 ghost use Rattle.ix_search.specs.Finding.{found};
 ghost use Rattle.db_select.specs.Meanings.{CanSearch, CanSearchIt};
@@ -12,6 +13,7 @@ ghost use Rattle.db_rows.specs.Meeting.{key_meets};
 ghost use Rattle.db_select.specs.Found.{FindsBy, GivesOver, GivesScores, GivesSearched, PutsIfMet};
 ghost use Rattle.db_select.specs.Selecting.{hits};
 ghost use Rattle.ix_search.specs.Hits.{hit_rows};
+ghost use Rattle.ix_search.specs.Looking.{query_looks};
 ghost use Rattle.db_select.specs.Sources.{unscored as unscored_hit};
 
 use ct_base::{Memory, Name, RowKey};
@@ -30,7 +32,7 @@ fn keep_above(hits: &mut Vec<Hit>, above: u32)
     hits.retain(|hit| above < hit.score);
 }
 
-/// The rows to which a query gives a score above a number, in order of their keys.
+/// The rows to which a query gives a score above a number, in order of their keys. It searches once.
 fn hits_above<K: Keeper>(
     alloc: Global,
     keeper: &mut K,
@@ -42,6 +44,7 @@ fn hits_above<K: Keeper>(
     requires searchable { CanSearch flat.now }
     ensures found { OverIndex K.view keeper.old index.now (λ m x. IfOk result (λ hits. hit_rows hits.items ≡ found m.tables x (reduced_of flat.now) above)) }
     ensures reads { OnlyReads K.view keeper.old keeper.new result }
+    ensures at_most { Told K.view keeper.old (λ m. LooksAtMost K.view keeper.old keeper.new (query_looks m index.now (reduced_of flat.now))) }
 {
     let mut hits = search(alloc, keeper, index, flat)?;
     keep_above(&mut hits, above);

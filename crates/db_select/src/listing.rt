@@ -41,8 +41,8 @@ fn push_row<K: Keeper>(
     Ok(())
 }
 
-/// A line for each row that was found, or that there is none. Of each row it reads the numbers at most once, and each text
-/// at most once.
+/// A line for each row that was found, or that there is none. Its cost is that of the numbers of each row, and of its texts that are
+/// shown.
 fn hit_lines<K: Keeper>(
     alloc: Global,
     keeper: &mut K,

@@ -1,11 +1,14 @@
 //! The names of all indexes.
 #![tactic(auto, using(ct_keep::specs::Composing::reads_on, ct_keep::specs::Composing::reads_short))]
 
-ghost use Rattle.std.specs.Prelude.{◌≡◌, map, OnOk, IsPermutation, IsSorted};
+ghost use Rattle.std.specs.Prelude.{◌≡◌, ◌∷◌, [], map, OnOk, IsPermutation, IsSorted};
 ghost use Rattle.std.specs.Ordering.{nat_cmp};
 ghost use Rattle.std.specs.Cmp.Lexicographic.{slice_cmp};
 ghost use Rattle.std.specs.FinMap.{entries};
-ghost use Rattle.ct_keep.specs.KeeperViews.{OnlyReads};
+ghost use Rattle.ct_keep.specs.KeeperViews.{OnlyReads, Told};
+ghost use Rattle.ct_keep.specs.Looks.{scan_looks, LooksAtMost};
+ghost use Rattle.ct_entry.specs.declared.kinds.Kind.TheVariants as kind;
+ghost use Rattle.ct_entry.specs.Kinds.{code};
 ghost use Rattle.db_state.specs.States.{Sees};
 
 use ct_base::{Memory, Name};
@@ -35,6 +38,7 @@ pub(crate) fn index_names<K: Keeper>(alloc: Global, keeper: &mut K) -> Result<Ve
     requires { (K.view keeper.old).ready }
     ensures names { Sees K.view keeper.old result (λ m names. names.items ≡ map (λ e. e.0) (entries m.indexes)) }
     ensures reads { OnlyReads K.view keeper.old keeper.new result }
+    ensures at_most { Told K.view keeper.old (λ m. LooksAtMost K.view keeper.old keeper.new (scan_looks (code kind.Indexes ∷ []) m)) }
 {
     let mut names = owners(alloc, keeper, Kind::Indexes)?;
     sort_names(&mut names)?;

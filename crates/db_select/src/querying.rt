@@ -4,6 +4,7 @@
 ghost use Rattle.std.specs.Prelude.{◌≡◌, not, ◌∷◌, [], IfOk, MatchOption, Some, true};
 ghost use Rattle.std.specs.List.{list_all};
 ghost use Rattle.ct_keep.specs.KeeperViews.{OnlyReads};
+ghost use Rattle.ct_keep.specs.Looks.{no_looks, LooksAtMost};
 ghost use Rattle.q_tree.specs.Limits.{has_wildcard, keeps_limits};
 ghost use Rattle.q_tree.specs.Trees.{tree_of};
 ghost use Rattle.db_cond.specs.Refused.{refusal_of};
@@ -138,7 +139,7 @@ pub(crate) fn meaning_of(alloc: Global, prefs: &Prefs, text: &str) -> Result<Mea
 
 /// What a query text means to an index. Where there is no such index it finds nothing.
 ///
-/// It takes one look-up, of the index's entry, of which it reads all preferences.
+/// It reads no text and no posting. Its cost is that of the index's entry, of which it reads all preferences.
 pub(crate) fn meaning_in<K: Keeper>(
     alloc: Global,
     keeper: &mut K,
@@ -149,6 +150,7 @@ pub(crate) fn meaning_in<K: Keeper>(
     ensures meaning { OverIndex K.view keeper.old index.now (λ m x. IfOk result (λ meaning. Means meaning (text_meaning x.prefs text.now))) }
     ensures searchable { IfOk result (λ meaning. IsSearchable meaning) }
     ensures reads { OnlyReads K.view keeper.old keeper.new result }
+    ensures at_most { LooksAtMost K.view keeper.old keeper.new no_looks }
 {
     let prefs = prefs_of(alloc, keeper, index)?;
     match prefs {

@@ -3,8 +3,8 @@
 
 ghost use Rattle.std.specs.Prelude.{◌≡◌, bytes_eq, codes};
 ghost use Rattle.ct_keep.specs.KeeperViews.{OnlyReads};
-ghost use Rattle.db_state.specs.States.{StoreState, Sees};
-ghost use Rattle.db_state.specs.Effects.{reply_by, state_by};
+ghost use Rattle.db_state.specs.States.{Sees};
+ghost use Rattle.db_state.specs.Effects.{reply_by};
 ghost use Rattle.db_select.specs.Statements.{select_from as from_effect, select_statement};
 
 use crate::pending::select_pending;
@@ -48,11 +48,10 @@ fn select_from<K: Keeper>(
 /// SELECT of a list by predicates: of the rows of a table, in order of their keys; or, from CTX_USER_PENDING, of the rows that
 /// wait for a synchronisation, in order of the names of indexes and of keys.
 ///
-/// Without CONTAINS it costs a walk over the rows that the conditions on the key bound: one look-up for each of them, one of its
-/// numbers where another condition is on a number, and one of each text that a condition is on. With CONTAINS it costs the search,
-/// and for each row that this finds only the look-ups for the conditions. COUNT(*) reads nothing more; a list, and `*`, read each
-/// text of theirs, and the numbers of a row, once. What waits costs a scan of the indexes' entries and of those of the rows that
-/// wait. It changes nothing, and never answers Full.
+/// Without CONTAINS its cost is that of a walk over the rows that the conditions on the key bound, and of what the other conditions are
+/// on in each of them; with CONTAINS that of the search, and of what the conditions are on in each row that this finds. COUNT(*) costs
+/// no more; a list, and `*`, cost beside it the texts that they show, and the numbers of the rows. What waits costs a scan of the
+/// indexes' entries and of those of the rows that wait. It changes nothing, and never answers Full.
 pub fn select<K: Keeper>(
     alloc: Global,
     keeper: &mut K,
@@ -62,7 +61,6 @@ pub fn select<K: Keeper>(
 ) -> Result<Vec<u8>, KeepFault>
     requires ready { (K.view keeper.old).ready }
     ensures reply { Sees K.view keeper.old result (λ m reply. reply.items ≡ reply_by (select_statement m list.now table.now preds.now)) }
-    ensures state { (m : StoreState) → state_by m (select_statement m list.now table.now preds.now) ≡ m }
     ensures reads { OnlyReads K.view keeper.old keeper.new result }
 {
     if !are_built(preds) {

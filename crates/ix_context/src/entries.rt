@@ -7,13 +7,11 @@ ghost use Rattle.ct_keep.specs.KeeperViews.{Finds, OnlyReads};
 ghost use Rattle.ct_keep.specs.Looks.{look, LooksAtMost};
 ghost use Rattle.ct_entry.specs.declared.kinds.Kind.TheVariants as kind;
 ghost use Rattle.ct_entry.specs.Keys.{key, bytes, at};
-ghost use Rattle.ct_entry.specs.Changes.{spell};
-ghost use Rattle.ct_entry.specs.Shapes.{AreShaped};
 ghost use Rattle.tx_settings.specs.Attributes.{can_be_set};
 ghost use Rattle.ix_context.specs.Spelling.{index_bytes, SpellsIndex, index_change};
 ghost use Rattle.ix_context.specs.Spelling.{HasIndexParts};
 ghost use Rattle.ix_context.specs.Changes.{Adds};
-ghost use Rattle.ix_context.specs.Shapes.{HasIndexValue};
+ghost use Rattle.ix_context.specs.Shapes.{KeepsShape};
 
 use ct_base::{Memory, Name};
 use ct_bytes::{put_text, put_u32, read_text, read_u32};
@@ -65,7 +63,7 @@ pub(crate) fn put_index(
     requires { can_be_set prefs.now.lexer ≡ true }
     ensures ok { Adds batch.old batch.new result (index_change index.now target.now prefs.now next_document ∷ []) }
     ensures err { OnErr result (batch.new ≡ batch.old) }
-    ensures shaped { AreShaped HasIndexValue (spell (index_change index.now target.now prefs.now next_document ∷ [])) }
+    ensures shaped { KeepsShape batch.old batch.new result }
 {
     // What names, preferences and a number behind a reference keep to is known once they are read.
     let _named = index.as_str();

@@ -3,9 +3,7 @@
 
 ghost use Rattle.std.specs.Prelude.{◌≡◌, ◌+◌, ◌<◌, ◌≤◌, ◌^◌, ◌∷◌, ◌++◌, [], All, IfOk, OnOk, Some, MatchOption, length, map, true};
 ghost use Rattle.ct_keep.specs.KeeperViews.{OnlyReads};
-ghost use Rattle.ct_entry.specs.Changes.{spell};
 ghost use Rattle.ct_entry.specs.Keys.{posting_part, span_part};
-ghost use Rattle.ct_entry.specs.Shapes.{AreShaped};
 ghost use Rattle.ix_posting.specs.Rows.{IsPostingRow, posting_bytes};
 ghost use Rattle.ix_posting.specs.SpanRows.{IsSpanRow, span_row_bytes};
 ghost use Rattle.tx_settings.specs.Attributes.{can_be_set};
@@ -14,7 +12,7 @@ ghost use Rattle.ix_context.specs.Documents.{word_posting, span_posting};
 ghost use Rattle.ix_context.specs.Changes.{word_change, section_change, entry_change, text_changes, document_changes, Adds, mark_row_changes};
 ghost use Rattle.ix_context.specs.Postings.{first_positions, IsWord, IsSection, IsPosting, IsShortOrNone, if_short};
 ghost use Rattle.ix_context.specs.Sees.{ToldTables, SeesTables};
-ghost use Rattle.ix_context.specs.Shapes.{HasIndexValue, KeepsShape};
+ghost use Rattle.ix_context.specs.Shapes.{KeepsShape};
 
 use ct_base::{DocId, Memory, Name, Pair, Pairs, RowKey, Text};
 use ct_bytes::put_u32;
@@ -211,12 +209,8 @@ pub(crate) fn mark_row(
     requires some { 1 ≤ document }
     requires short { IsShortOrNone text }
     requires set { can_be_set prefs.now.lexer ≡ true }
-    ensures changes { Adds batch.old batch.new result (document_changes prefs.now index.now document row.0 text) }
-    ensures shaped { AreShaped HasIndexValue (spell (document_changes prefs.now index.now document row.0 text)) }
+    ensures { Adds batch.old batch.new result (document_changes prefs.now index.now document row.0 text) }
 {
-    // Read so that the proof knows that it is a name, and the rules of the preferences.
-    let _named = index.as_str();
-    prefs.keep_rules();
     mark(alloc, batch, index, row, DocId(document))?;
     put_text(alloc, batch, index, prefs, document, text)
 }
@@ -266,6 +260,9 @@ pub(crate) fn mark_next<K: Keeper>(
     ensures shaped { KeepsShape changes.old changes.new result }
     ensures reads { OnlyReads K.view keeper.old keeper.new result }
 {
+    // Read so that the proof knows that it is a name, and the rules of the preferences.
+    let _named = index.as_str();
+    prefs.keep_rules();
     let text = seen_text(alloc, keeper, target, row)?;
     mark_row(alloc, changes, index, prefs, document, row, text)?;
     Ok(())

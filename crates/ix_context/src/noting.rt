@@ -1,18 +1,16 @@
 //! Noting changes of rows in indexes.
 #![tactic(auto, using(ct_keep::specs::Composing::reads_on, ct_keep::specs::Composing::reads_short))]
 
-ghost use Rattle.std.specs.Prelude.{◌≡◌, ℕ, Option, OnErr, Some, Err};
+ghost use Rattle.std.specs.Prelude.{◌≡◌, OnErr, Some, Err};
 ghost use Rattle.std.specs.Option.{option_map};
 ghost use Rattle.ct_keep.specs.KeeperViews.{ReadsKeeper, Told};
 ghost use Rattle.ct_keep.specs.Looks.{no_looks, LooksAtMost};
 ghost use Rattle.ct_entry.specs.Keys.{at};
-ghost use Rattle.ct_entry.specs.Changes.{spell};
-ghost use Rattle.ct_entry.specs.Shapes.{AreShaped};
 ghost use Rattle.ix_docmap.specs.Changes.{gone_changes, changed_changes};
 ghost use Rattle.ix_docmap.specs.Readings.{document_at};
 ghost use Rattle.ix_context.specs.Changes.{note_insert_changes, Adds};
 ghost use Rattle.ix_context.specs.Faults.{context_fault_of};
-ghost use Rattle.ix_context.specs.Shapes.{HasIndexValue, KeepsShape};
+ghost use Rattle.ix_context.specs.Shapes.{KeepsShape};
 
 use crate::faults::{ContextFault, fault_of_reads};
 use ct_base::{DocId, Memory, Name, RowKey};
@@ -31,10 +29,7 @@ pub fn note_insert(
     ensures err { OnErr result (batch.new ≡ batch.old) }
     ensures no_disk { result ≡ Err ContextFault.Disk → ⊥ }
     ensures never_too_many { result ≡ Err ContextFault.TooMany → ⊥ }
-    ensures shaped { AreShaped HasIndexValue (spell (note_insert_changes index.now key.0)) }
 {
-    // Read so that the proof knows that it is a name.
-    let _named = index.as_str();
     queue(alloc, batch, index, key)?;
     Ok(())
 }
@@ -92,8 +87,7 @@ pub fn note_delete<K: Keeper>(
     ensures changes { Told K.view keeper.old (λ m. Adds batch.old batch.new result (gone_changes index.now key.0 (document_at (at m) index.now key.0))) }
     ensures err { OnErr result (batch.new ≡ batch.old) }
     ensures never_too_many { result ≡ Err ContextFault.TooMany → ⊥ }
-    ensures shaped { (d : Option ℕ) → AreShaped HasIndexValue (spell (gone_changes index.now key.0 d)) }
-    ensures batch_shaped { KeepsShape batch.old batch.new result }
+    ensures shaped { KeepsShape batch.old batch.new result }
     ensures reads { ReadsKeeper (K.view keeper.old) (K.view keeper.new) (context_fault_of result) }
     ensures at_most { LooksAtMost K.view keeper.old keeper.new no_looks }
 {
@@ -121,8 +115,7 @@ pub fn note_update<K: Keeper>(
     ensures changes { Told K.view keeper.old (λ m. Adds batch.old batch.new result (changed_changes index.now key.0 (document_at (at m) index.now key.0))) }
     ensures err { OnErr result (batch.new ≡ batch.old) }
     ensures never_too_many { result ≡ Err ContextFault.TooMany → ⊥ }
-    ensures shaped { (d : Option ℕ) → AreShaped HasIndexValue (spell (changed_changes index.now key.0 d)) }
-    ensures batch_shaped { KeepsShape batch.old batch.new result }
+    ensures shaped { KeepsShape batch.old batch.new result }
     ensures reads { ReadsKeeper (K.view keeper.old) (K.view keeper.new) (context_fault_of result) }
     ensures at_most { LooksAtMost K.view keeper.old keeper.new no_looks }
 {

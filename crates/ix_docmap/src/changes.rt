@@ -1,7 +1,7 @@
 //! Changes of the map and the queue.
 
 ghost use Rattle.std.specs.Prelude.{◌≡◌, ◌++◌, OnOk, OnErr};
-ghost use Rattle.ct_entry.specs.Changes.{spell, AreChanges};
+ghost use Rattle.ct_entry.specs.Changes.{spell};
 ghost use Rattle.ix_docmap.specs.Changes.{mark_changes, unmark_changes, queue_changes, unqueue_changes};
 
 use ct_base::{DocId, Memory, Name, RowKey};
@@ -22,10 +22,7 @@ pub fn mark(
 ) -> Result<(), Memory>
     ensures ok { OnOk result (batch.new ≡ batch.old ++ spell (mark_changes index.now doc.0 key.0)) }
     ensures err { OnErr result (batch.new ≡ batch.old) }
-    ensures keys { AreChanges (mark_changes index.now doc.0 key.0) }
 {
-    // Read so that the proof knows that it is a name.
-    let _named = index.as_str();
     let row = row_key_bytes(key);
     let document = doc.0.to_be_bytes();
     let row_value = Vec::from_slice(alloc, &row)?;
@@ -62,10 +59,7 @@ pub fn unmark(
 ) -> Result<(), Memory>
     ensures ok { OnOk result (batch.new ≡ batch.old ++ spell (unmark_changes index.now doc.0 key.0)) }
     ensures err { OnErr result (batch.new ≡ batch.old) }
-    ensures keys { AreChanges (unmark_changes index.now doc.0 key.0) }
 {
-    // Read so that the proof knows that it is a name.
-    let _named = index.as_str();
     let row = row_key_bytes(key);
     let document = doc.0.to_be_bytes();
     let mut changes = Batch::new(alloc);
@@ -80,10 +74,7 @@ pub fn unmark(
 pub fn queue(alloc: Global, batch: &mut Batch, index: &Name, key: RowKey) -> Result<(), Memory>
     ensures ok { OnOk result (batch.new ≡ batch.old ++ spell (queue_changes index.now key.0)) }
     ensures err { OnErr result (batch.new ≡ batch.old) }
-    ensures keys { AreChanges (queue_changes index.now key.0) }
 {
-    // Read so that the proof knows that it is a name.
-    let _named = index.as_str();
     let row = row_key_bytes(key);
     put_entry(alloc, batch, Kind::Pending, index, &row, Vec::new(alloc))
 }
@@ -94,10 +85,7 @@ pub fn queue(alloc: Global, batch: &mut Batch, index: &Name, key: RowKey) -> Res
 pub fn unqueue(alloc: Global, batch: &mut Batch, index: &Name, key: RowKey) -> Result<(), Memory>
     ensures ok { OnOk result (batch.new ≡ batch.old ++ spell (unqueue_changes index.now key.0)) }
     ensures err { OnErr result (batch.new ≡ batch.old) }
-    ensures keys { AreChanges (unqueue_changes index.now key.0) }
 {
-    // Read so that the proof knows that it is a name.
-    let _named = index.as_str();
     let row = row_key_bytes(key);
     remove_entry(alloc, batch, Kind::Pending, index, &row)
 }

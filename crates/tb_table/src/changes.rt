@@ -35,6 +35,14 @@ pub fn create(
     put_entry(alloc, batch, Kind::Tables, table, &[], value)
 }
 
+/// What each text of a row keeps to: it is UTF-8, and its column has one byte. The function only states this law, which is known
+/// of a text once it is read.
+fn keep_text(column: u8, text: &Text)
+    ensures { IsTextEntry (column, text.now) }
+{
+    let _utf8 = text.as_str();
+}
+
 /// Adds the change of a text of a row, whose bytes become the value.
 fn put_text(
     alloc: Global,
@@ -44,10 +52,8 @@ fn put_text(
     column: u8,
     text: Text,
 ) -> Result<(), Memory>
-    ensures changes { OnOk result (batch.new ≡ batch.old ++ spell (put_value (key kind.RowTexts table.now (text_part column row.0)) text ∷ [])) }
-    ensures text { IsTextEntry (column, text) }
+    ensures { OnOk result (batch.new ≡ batch.old ++ spell (put_value (key kind.RowTexts table.now (text_part column row.0)) text ∷ [])) }
 {
-    let _utf8 = text.as_str();
     let part = text_part(column, row);
     put_entry(
         alloc,
@@ -71,6 +77,7 @@ fn put_texts(
     ensures texts { OnOk result (All IsTextEntry texts.items) }
 {
     for (column, text) in texts {
+        keep_text(column, &text);
         put_text(alloc, batch, table, key, column, text)?;
     }
     Ok(())

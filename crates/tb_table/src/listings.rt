@@ -1,13 +1,16 @@
 //! What tables there are, and the rows of a table.
 #![tactic(auto, using(ct_keep::specs::Composing::reads_short))]
 
-ghost use Rattle.std.specs.Prelude.{◌≡◌, OnOk, IsPermutation, IsSorted};
+ghost use Rattle.std.specs.Prelude.{◌≡◌, ◌++◌, ◌∷◌, [], OnOk, IsPermutation, IsSorted};
 ghost use Rattle.std.specs.Option.{option_map};
 ghost use Rattle.std.specs.Ordering.{nat_cmp};
 ghost use Rattle.std.specs.Cmp.Lexicographic.{slice_cmp};
-ghost use Rattle.ct_keep.specs.KeeperViews.{Finds, OnlyReads};
+ghost use Rattle.ct_keep.specs.KeeperViews.{Finds, OnlyReads, Told};
+ghost use Rattle.ct_keep.specs.Looks.{next_looks, scan_looks, LooksAtMost};
 ghost use Rattle.ct_entry.specs.declared.kinds.Kind.TheVariants as kind;
-ghost use Rattle.ct_entry.specs.Listings.{row_after};
+ghost use Rattle.ct_entry.specs.Kinds.{code};
+ghost use Rattle.ct_entry.specs.Keys.{prefix_of};
+ghost use Rattle.ct_entry.specs.Listings.{row_after, start_after};
 ghost use Rattle.tb_table.specs.Readings.{AreTableNames};
 
 use ct_base::{Memory, Name, RowKey};
@@ -28,6 +31,7 @@ pub fn next_row<K: Keeper>(
     requires { (K.view keeper.old).ready }
     ensures row { Finds K.view keeper.old result (λ m row. option_map (λ r. r.0) row ≡ row_after (option_map (λ r. r.0) after) kind.RowNumbers table.now m) }
     ensures reads { OnlyReads K.view keeper.old keeper.new result }
+    ensures at_most { Told K.view keeper.old (λ m. LooksAtMost K.view keeper.old keeper.new (next_looks (prefix_of kind.RowNumbers table.now ++ start_after after) m)) }
 {
     next_row_key(alloc, keeper, Kind::RowNumbers, table, after)
 }
@@ -55,6 +59,7 @@ pub fn tables<K: Keeper>(alloc: Global, keeper: &mut K) -> Result<Vec<Name>, Kee
     requires { (K.view keeper.old).ready }
     ensures names { Finds K.view keeper.old result (λ m names. AreTableNames m names.items) }
     ensures reads { OnlyReads K.view keeper.old keeper.new result }
+    ensures at_most { Told K.view keeper.old (λ m. LooksAtMost K.view keeper.old keeper.new (scan_looks (code kind.Tables ∷ []) m)) }
 {
     let mut names = owners(alloc, keeper, Kind::Tables)?;
     sort_names(&mut names)?;

@@ -36,11 +36,18 @@ use Rattle.tb_table.specs.declared.columns.Sort.TheVariants.{Number}
 use Rattle.tx_prefs.specs.Spelling.{PreferencesStand}
 use Rattle.tx_prefs.specs.laws.Changes.{preferences_frame, other_kinds}
 use Rattle.db_state.specs.Effects.{as_count}
-use Rattle.db_change.specs.Creating.{is_number_sort, is_key_first, names_differ, is_size, is_sized, all_sized, declared_sort, column_of, IsFreeTable, with_new_table}
+use Rattle.db_change.specs.Creating.{is_number_sort, is_key_first, names_differ, is_size, is_sized, all_sized, declared_sort, column_of, with_new_table}
 use Rattle.db_state.specs.laws.ShortRows.{rows_frame}
 use Rattle.db_state.specs.States.{HasShortRows, is_of_rows, StoreState, StandsForState, is_view, is_built}
 use Rattle.std.proofs.lemmas.Bool.{or_parts as either, and_parts as both, not-true as not_true}
 use Rattle.ct_base.specs.laws.Options.{no_value as no_some}
+
+-- No check of a new table holds.
+pub record IsFreeTable (m : StoreState) (t : List ℕ) (columns : List ColumnText) : Type 0 where
+  pub free : (is_some (get m.tables t) || is_view t) ≡ false
+  pub formed : (is_key_first columns && names_differ columns) ≡ true
+  pub sized : all_sized columns ≡ true
+  pub few : (nat_lt column_limit (length columns) || nat_le table_limit (length (entries m.tables))) ≡ false
 
 -- ---- the indexes keep their rules
 

@@ -15,7 +15,7 @@ returns-in-Some-clause-plan g c = record {
 pub returns-clause-plan : goal.returns-clause-plan
 returns-clause-plan g c = record {
   made = λ m k holds stands.
-      table_made m k c.args.table.now c.args.columns.now _ stands c.table_fault.ensures.named c.in_ok-batch.ensures.changes c.in_ok-batch.ensures.named
+      table_made m k c.args.table.now c.args.columns.now _ stands c.as_str-named.ensures.name c.in_ok-batch.ensures.changes c.in_ok-batch.ensures.named
       (table_read m c.args.table.now c.args.columns.now _ _ (c.in_ok-there.ensures.there m k holds stands) (c.in_ok-many.ensures.many m k (reads_hold _ _ k c.in_ok-there.ensures.reads holds) stands)
       ∙ checked c.table_fault.result _ _ c.in_default.is (c.table_fault.ensures.checks _));
 }

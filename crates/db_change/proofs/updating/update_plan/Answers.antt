@@ -1,4 +1,4 @@
-use Rattle.std.proofs.Common.{arith, ◌≡◌, ◌≤◌, List, Vec, length, map, refl, ap, sym, subst, ◌∙◌}
+use Rattle.std.proofs.Common.{arith, ◌≡◌, ◌≤◌, List, Vec, length, map, ap, sym, subst, ◌∙◌}
 use Rattle.std.proofs.lemmas.List.{length-map}
 use Rattle.ct_base.specs.Limits.{column_limit}
 use Rattle.ct_base.specs.declared.numbers.RowKey.{RowKey}
@@ -27,7 +27,7 @@ returns-clause-plan g c = record {
       let rows_are = ap (map (λ (row : RowKey). row.0)) c.deref-4.ensures.value ∙ c.in_ok-rows.ensures.keys m k x there stands found.1 (found.2 ∙ sym c.deref-2.ensures.value) in
       let rows = map (λ (row : RowKey). row.0) c.deref-4.result.now in
       let counted : c.len.result ≡ length c.in_ok-rows.rows.items = omega (arith, c.len.ensures) in
-      update_made m c.args.table.now c.args.assigns.now c.args.conds.now x columns found.1 columns_are k stands (c.in_default-update_fault.ensures.checks few) (c.in_default-update_fault.ensures.kept refl) rows rows_are c.len.result
+      update_made m c.args.table.now c.args.assigns.now c.args.conds.now x columns found.1 columns_are k stands (c.in_default-update_fault.ensures.checks few) c.keep_assigns.ensures rows rows_are c.len.result
       (counted ∙ ap length (sym c.deref-4.ensures.value) ∙ sym (length-map c.deref-4.result.now (λ (row : RowKey). row.0))) c.in_ok-batch.batch
       (c.in_ok-batch.ensures.batch m k mid stands
       ∙ ap (λ (cs : List Column). spell (update_changes k m c.args.table.now (others cs) c.args.assigns.now (indexes_set m c.args.table.now cs c.args.assigns.now) rows)) (c.deref-3.ensures.value ∙ sym c.deref.ensures.value));

@@ -20,16 +20,6 @@ returns-in-Some-clause-plan g c = λ m k x holds stands there small columns.
     (c.in_ok-many.ensures.many m k (reads_hold _ _ k c.in_ok-there.ensures.reads holds) stands)
     c.index_fault.ensures.checks c.in-Some.fault c.in-Some.is
 
-pub returns-in_default-prefs-clause-plan : goal.returns-in_default-prefs-clause-plan
-returns-in_default-prefs-clause-plan g c = λ m k x holds stands there small columns.
-    let i = c.args.index.now in let t = c.args.table.now in let place = c.args.place in let prefs = c.args.prefs.now in
-    let done : Prefs → Effect = λ prefs. Does (with_new_index m i t place prefs) index_created in
-    faultless m i t x place prefs c.in_ok-there.there c.is_text_at.result c.is_some.result c.in_ok-many.many c.index_fault.result stands.state.tables there (c.in_ok-there.ensures.taken m k holds stands small) (c.is_text_at.ensures ∙ ap (λ cs. is_text_at cs place) columns)
-    c.is_some.ensures
-    (c.in_ok-many.ensures.many m k (reads_hold _ _ k c.in_ok-there.ensures.reads holds) stands)
-    c.index_fault.ensures.checks c.in_default.is
-    ∙ ap (λ (o : Option Prefs). done_by o done) c.in_default-prefs.is
-
 -- what the checks let pass, by the preferences
 passed_as : (m : StoreState) (i t : List ℕ) (x : Table) (place : ℕ) (o : Option Prefs) (prefs : Prefs) → o ≡ Some prefs
     → create_index_on m i t x place o ≡ done_by o (λ prefs. Does (with_new_index m i t place prefs) index_created) → create_index_on m i t x place (Some prefs) ≡ Does (with_new_index m i t place prefs) index_created
@@ -65,5 +55,5 @@ returns-clause-plan g c = λ m k x holds stands there small columns.
     let changes = found_some c.in_ok-found.found c.in-Some-found.batch _ _ c.in-Some-found.is (c.in_ok-found.ensures.changes m k held stands x small free) in (
       with_new_index m i t place read,
       ap (create_index_on m i t x place) c.in-Some-prefs.is ∙ effect,
-      subst (λ (b : List (List ℕ × Option (List ℕ))). StandsForState (after b k) (with_new_index m i t place read)) (sym changes) (new_index_stands k m i t x place read stands c.index_fault.ensures.named c.keep_rules.ensures free),
+      subst (λ (b : List (List ℕ × Option (List ℕ))). StandsForState (after b k) (with_new_index m i t place read)) (sym changes) (new_index_stands k m i t x place read stands c.as_str-named.ensures.name c.keep_rules.ensures free),
     )

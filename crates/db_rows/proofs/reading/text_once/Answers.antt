@@ -5,6 +5,7 @@ use Rattle.ct_entry.specs.Keys.{IsRow}
 use Rattle.tb_table.specs.Tables.{text_in_column}
 use Rattle.db_rows.specs.Values.{row_values}
 use Rattle.db_rows.specs.Reading.{KnowTexts}
+use Rattle.db_rows.proofs.LookSteps.{known_now, rises_unknown}
 use Rattle.db_rows.proofs.RowReads.{know_more, text_is}
 use Rattle.db_rows.proofs.reading.text_once.Goals as goal
 
@@ -27,3 +28,28 @@ returns-clause-read g c = λ m k holds stands read.
       numbers = read.numbers;
       texts = subst (KnowTexts vs) (sym {A = List (ℕ × Option (List ℕ))} c.in_ok-note_text.ensures) (know_more vs c.args.read.now.texts.items c.args.column c.in_ok-text-2.text read.texts is);
     }
+
+pub returns-in-Some-clause-kept : goal.returns-in-Some-clause-kept
+returns-in-Some-clause-kept g c = ap (lookup (λ place. c.args.column == place)) (sym c.deref.ensures.value) ∙ sym c.in_ok-text.ensures ∙ c.in-Some.is
+
+pub returns-clause-kept : goal.returns-clause-kept
+returns-clause-kept g c =
+    let none = ap (lookup (λ place. c.args.column == place)) (sym c.deref.ensures.value) ∙ sym c.in_ok-text.ensures ∙ c.in_default.is in
+    ap {A = List (ℕ × Option (List ℕ))} (lookup (λ place. c.args.column == place)) c.in_ok-note_text.ensures ∙ known_now c.args.read.now.texts.items c.args.column c.in_ok-text-2.text none
+
+-- ---- the look-ups
+
+pub returns-in_err-text-2-clause-at_most : goal.returns-in_err-text-2-clause-at_most
+returns-in_err-text-2-clause-at_most g c =
+    let none = ap (lookup (λ place. c.args.column == place)) (sym c.deref.ensures.value) ∙ sym c.in_ok-text.ensures ∙ c.in_default.is in
+    rises_unknown _ _ _ none c.text_of.ensures.at_most
+
+pub returns-in_err-note_text-clause-at_most : goal.returns-in_err-note_text-clause-at_most
+returns-in_err-note_text-clause-at_most g c =
+    let none = ap (lookup (λ place. c.args.column == place)) (sym c.deref.ensures.value) ∙ sym c.in_ok-text.ensures ∙ c.in_default.is in
+    rises_unknown _ _ _ none c.in_ok-text-2.ensures.at_most
+
+pub returns-clause-at_most : goal.returns-clause-at_most
+returns-clause-at_most g c =
+    let none = ap (lookup (λ place. c.args.column == place)) (sym c.deref.ensures.value) ∙ sym c.in_ok-text.ensures ∙ c.in_default.is in
+    rises_unknown _ _ _ none c.in_ok-text-2.ensures.at_most

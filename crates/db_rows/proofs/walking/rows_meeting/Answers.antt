@@ -12,7 +12,7 @@ steps-init g c = record {
   reads = reads_none _ c.requires;
   place = λ m k x holds stands there. c.start-after.ensures.place;
   walked = λ m k x holds stands there same.
-      table_begins x c.args.conds.now (stands.state.tables.each c.args.table.now x there) c.args.columns.now same c.key_bounds-bounds.result c.key_bounds-bounds.ensures (number_of c.start-after.result) c.start-after.ensures.start c.new-rows.result.items c.new-rows.ensures.items;
+      table_begins x c.args.conds.now (stands.state.tables.each c.args.table.now x there) c.args.columns.now same c.key_bounds-bounds.result c.key_bounds-bounds.ensures.bound (number_of c.start-after.result) c.start-after.ensures.start c.new-rows.result.items c.new-rows.ensures.items;
 }
 
 pub steps-preserved : goal.steps-preserved
@@ -41,5 +41,5 @@ returns-in_default-clause-keys g c = λ m k x holds stands there same.
     let t = c.args.table.now in
     let here = reads_hold _ _ k c.steps.invariant.reads holds in
     let next = subst (λ (o : Option RowKey). IsNext (number_of c.steps.after) c.key_bounds-bounds.result.greatest.0 (row_keys m.tables t) (number_of o)) c.in_default.is (c.in_ok-row.ensures.next m k here stands (c.steps.invariant.place m k x holds stands there)) in
-    table_ends x c.args.conds.now (stands.state.tables.each t x there) c.args.columns.now same c.key_bounds-bounds.result c.key_bounds-bounds.ensures m.tables t (number_of c.steps.after) c.steps.rows.items there
+    table_ends x c.args.conds.now (stands.state.tables.each t x there) c.args.columns.now same c.key_bounds-bounds.result c.key_bounds-bounds.ensures.bound m.tables t (number_of c.steps.after) c.steps.rows.items there
     (c.steps.invariant.walked m k x holds stands there same) next

@@ -1,11 +1,13 @@
-use Rattle.std.proofs.Common.{◌≡◌, ◌≤◌, ◌+◌, ◌++◌, List, length, map, ap, ◌∙◌, arith, rules}
+use Rattle.std.proofs.Common.{◌≡◌, ◌≤◌, ◌+◌, ◌++◌, List, length, map, sym, ap, subst, ◌∙◌, arith, rules}
 use Rattle.ct_base.specs.declared.numbers.RowKey.{RowKey}
 use Rattle.ct_entry.specs.Each.{numbered, each}
 use Rattle.ct_entry.specs.Changes.{spell}
+use Rattle.ct_entry.specs.Shapes.{AreShaped}
 use Rattle.ct_keep.specs.Composing.{reads_on, reads_hold}
 use Rattle.ix_context.specs.Indexes.{rows_in, target_text}
 use Rattle.ix_context.specs.Rules.{most_given}
 use Rattle.ix_context.specs.Changes.{mark_with}
+use Rattle.ix_context.specs.Shapes.{HasIndexValue}
 use Rattle.ix_context.proofs.SyncSteps.{created_added, count_created}
 use Rattle.ix_context.proofs.creating.changes_of_create.Goals as goal
 
@@ -29,3 +31,8 @@ returns-in_err-mark_rows-clause-reads g c = reads_on _ _ _ _ c.in_ok-rows.ensure
 
 pub returns-clause-reads : goal.returns-clause-reads
 returns-clause-reads g c = reads_on _ _ _ _ c.in_ok-rows.ensures.reads c.in_ok-mark_rows.ensures.reads
+
+pub returns-clause-shaped : goal.returns-clause-shaped
+returns-clause-shaped g c =
+    let none : AreShaped HasIndexValue c.new-changes.result = subst (AreShaped HasIndexValue) (sym c.new-changes.ensures) tt in
+    c.in_ok-mark_rows.ensures.shaped (c.in_ok-put_index.ensures.shaped none)

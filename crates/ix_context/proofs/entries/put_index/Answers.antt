@@ -1,15 +1,18 @@
-use Rattle.std.proofs.Common.{◌<◌, ◌^◌, arith, rules}
-use Rattle.ix_context.specs.laws.Shapes.{shaped_index}
+use Rattle.std.proofs.Common.{◌<◌, ◌^◌, ℕ, List, [], ◌∷◌, Option, sym, subst, arith, rules}
+use Rattle.std.proofs.lemmas.Result.{on_ok_weaker}
+use Rattle.ct_entry.specs.declared.kinds.Kind.TheVariants as kind
+use Rattle.ct_entry.specs.Keys.{key}
+use Rattle.ct_entry.specs.Changes.{put_value, spell}
+use Rattle.ct_entry.specs.Shapes.{AreShaped}
+use Rattle.ix_context.specs.Shapes.{HasIndexValue}
+use Rattle.ix_context.specs.laws.Shapes.{shaped_added, shaped_index}
 use Rattle.ix_context.proofs.entries.put_index.Goals as goal
-
-pub returns-in_err-value-clause-shaped : goal.returns-in_err-value-clause-shaped
-returns-in_err-value-clause-shaped c =
-    let column : c.args.target.now.column < 256 = search rules in
-    let next : c.args.next_document < 2 ^ 32 = omega arith in
-    shaped_index c.args.index.now c.args.target.now c.args.prefs.now c.args.next_document c.as_str-named.ensures.name c.as_str-table.ensures.name column c.keep_rules.ensures next
 
 pub returns-clause-shaped : goal.returns-clause-shaped
 returns-clause-shaped c =
     let column : c.args.target.now.column < 256 = search rules in
     let next : c.args.next_document < 2 ^ 32 = omega arith in
-    shaped_index c.args.index.now c.args.target.now c.args.prefs.now c.args.next_document c.as_str-named.ensures.name c.as_str-table.ensures.name column c.keep_rules.ensures next
+    let entry = shaped_index c.args.index.now c.args.target.now c.args.prefs.now c.args.next_document c.as_str-named.ensures.name c.as_str-table.ensures.name column c.keep_rules.ensures next in
+    let more : List (List ℕ × Option (List ℕ)) = spell (put_value (key kind.Indexes c.args.index.now []) c.in_ok-value.value.items ∷ []) in
+    let shaped : AreShaped HasIndexValue more = subst (λ (value : List ℕ). AreShaped HasIndexValue (spell (put_value (key kind.Indexes c.args.index.now []) value ∷ []))) (sym c.in_ok-value.ensures) entry in
+    on_ok_weaker c.put_entry.result (λ added. shaped_added c.args.batch.now c.put_entry.new.batch more added shaped) c.put_entry.ensures.ok

@@ -8,23 +8,8 @@ use Rattle.ix_context.specs.laws.Shapes.{shaped_added}
 use Rattle.ix_context.proofs.NoteSteps.{shaped_changed}
 use Rattle.ix_context.proofs.noting.note_update.Goals as goal
 
-pub returns-in-Err-clause-shaped : goal.returns-in-Err-clause-shaped
-returns-in-Err-clause-shaped g c = λ document.
-    let row : IsRow c.args.key.0 = search rules in
-    shaped_changed c.args.index.now c.args.key.0 document c.as_str-named.ensures.name row
-
-pub returns-in_err-requeue_row-clause-shaped : goal.returns-in_err-requeue_row-clause-shaped
-returns-in_err-requeue_row-clause-shaped g c = λ document.
-    let row : IsRow c.args.key.0 = search rules in
-    shaped_changed c.args.index.now c.args.key.0 document c.as_str-named.ensures.name row
-
 pub returns-clause-shaped : goal.returns-clause-shaped
-returns-clause-shaped g c = λ document.
-    let row : IsRow c.args.key.0 = search rules in
-    shaped_changed c.args.index.now c.args.key.0 document c.as_str-named.ensures.name row
-
-pub returns-clause-batch_shaped : goal.returns-clause-batch_shaped
-returns-clause-batch_shaped g c =
+returns-clause-shaped g c =
     let row : IsRow c.args.key.0 = search rules in
     let document = option_map (λ (d : DocId). d.0) c.in-Ok.document in
     shaped_added c.args.batch.now c.requeue_row.new.batch (spell (changed_changes c.args.index.now c.args.key.0 document)) c.in_ok-requeue_row.ensures.ok

@@ -1,9 +1,6 @@
-use Rattle.std.proofs.Common.{[], ◌∷◌, sym, subst, ◌∙◌, arith}
-use Rattle.ct_entry.specs.Changes.{spell}
+use Rattle.std.proofs.Common.{sym, subst, ◌∙◌, arith}
 use Rattle.ct_entry.specs.Shapes.{AreShaped}
-use Rattle.ix_context.specs.Spelling.{index_change}
 use Rattle.ix_context.specs.Shapes.{HasIndexValue}
-use Rattle.ix_context.specs.laws.Shapes.{shaped_added}
 use Rattle.ix_context.specs.Indexes.{target_text}
 use Rattle.ix_context.proofs.SyncSteps.{settled_added}
 use Rattle.ix_context.proofs.syncing.settled_changes.Goals as goal
@@ -19,5 +16,4 @@ returns-clause-changes g c = λ m ts holds told.
 pub returns-clause-shaped : goal.returns-clause-shaped
 returns-clause-shaped g c =
     let none : AreShaped HasIndexValue c.new-changes.result = subst (AreShaped HasIndexValue) (sym c.new-changes.ensures) tt in
-    shaped_added c.settle_rows.new.changes c.put_index.new.batch (spell (index_change c.args.index.now c.args.target.now c.args.prefs.now c.in-Some.next ∷ []))
-    c.in_ok-put_index.ensures.ok c.in_ok-put_index.ensures.shaped (c.in_ok-settle_rows.ensures.shaped none)
+    c.in_ok-put_index.ensures.shaped (c.in_ok-settle_rows.ensures.shaped none)

@@ -20,8 +20,8 @@ pub loop-column-preserved : goal.loop-column-preserved
 loop-column-preserved c =
     let x : ℕ × List ℕ = (c.in-Some.column, c.in-Some.text) in
     record {
-      changes = text_added c.args.table.now c.args.key.0 c.loop-column.batch c.put_text.new.batch _ x _ c.next.new.self.rest.items c.loop-column.invariant.changes c.in-Some.ensures.steps.0 c.in_ok-put_text.ensures.changes;
-      texts = text_passed _ _ c.next.new.self.rest.items x c.loop-column.invariant.texts c.in-Some.ensures.steps.0 c.in_ok-put_text.ensures.text;
+      changes = text_added c.args.table.now c.args.key.0 c.loop-column.batch c.put_text.new.batch _ x _ c.next.new.self.rest.items c.loop-column.invariant.changes c.in-Some.ensures.steps.0 c.in_ok-put_text.ensures;
+      texts = text_passed _ _ c.next.new.self.rest.items x c.loop-column.invariant.texts c.in-Some.ensures.steps.0 c.keep_text.ensures;
     }
 
 pub returns-clause-texts : goal.returns-clause-texts
