@@ -8,10 +8,11 @@ use Rattle.ct_base.specs.laws.Told.{with_suffix-nil, says_prefix}
 use Rattle.ct_site.specs.Disks.{Beside}
 use Rattle.ct_keep.specs.Content.{Content}
 use Rattle.ct_keep.specs.declared.keepers.KeepFault.TheVariants as keep_fault
-use Rattle.ct_keep.specs.KeeperViews.{KeeperView, Counts, KeeperSays, SameButContent, Goes, IsLeft, IsDurable, AtMostOneCommit}
+use Rattle.ct_keep.specs.KeeperViews.{KeeperView, Counts, KeeperSays, SameButContent, Goes, AnswersCommit, IsLeft, IsDurable, AtMostOneCommit}
 use Rattle.ct_keep.specs.Composing.{same_say_room, reads_none, reads_short, reads_only, reads_failed, passes_as}
 use Rattle.db_state.specs.States.{StoreState, StandsForState}
 use Rattle.db_state.specs.Effects.{Effect, state_by}
+use Rattle.db_state.specs.laws.Giving.{keeps_itself}
 use Rattle.db_engine.specs.Runs.{Piece, statement, Answer, Step, NoMemory, Full, Turn, turn, turn_by, effect_by, IsAllowed}
 use Rattle.db_state.specs.Plans.{StandsBy, Moves}
 use Rattle.db_engine.specs.Executing.{fault_for, fault_of_stop}
@@ -27,10 +28,10 @@ use Rattle.db_console.proofs.Lasting.{faults_kept, faults_said, faults_then, fai
 -- ---- nothing is committed
 
 pub moves_not : (m : StoreState) (effect : Effect) (c : Content) (k : KeeperView) → k.ready → IsDurable k → k.content ≡ Some c → StandsForState c (state_by m effect) → Moves m effect c k k None
-moves_not m effect c k ready settled holds stands = record { next = c; stands = stands; goes = reads_only c k k settled holds (reads_none k ready); same = λ e. refl }
+moves_not m effect c k ready settled holds stands = record { next = c; stands = stands; goes = reads_only c k k settled holds (reads_none k ready); limited = keeps_itself k.fixed.limit c; same = λ e. refl }
 
 pub moves_short : (m : StoreState) (effect : Effect) (c : Content) (k : KeeperView) → k.ready → IsDurable k → k.content ≡ Some c → Moves m effect c k k (Some keep_fault.Memory)
-moves_short m effect c k ready settled holds = record { next = c; stands = refl; goes = reads_failed c c k k keep_fault.Memory settled holds (reads_short k k (reads_none k ready)); same = λ e. refl }
+moves_short m effect c k ready settled holds = record { next = c; stands = refl; goes = reads_failed c c k k keep_fault.Memory settled holds (reads_short k k (reads_none k ready)); limited = tt; same = λ e. refl }
 
 -- ---- the moments of one turn
 
@@ -70,35 +71,44 @@ module _ (limit : ℕ) (piece : Piece) (was : World) (old new : KeeperView) (sho
   told : (w : List ℕ) → IsSaid old.beside.said w → IsSaid was.said w
   told w said = sym shows.said ∙ said
 
-  in_commit : (a : Answer) (next : Content) → StandsBy (fault_for a) was.state does shows.content next → (x : Option Content) (w : List ℕ)
-      → IsLeft (fault_for a) shows.content next x → IsSaid old.beside.said w → IsMoment limit was (one a ∷ []) x w
+  in_commit : (a : Answer) (next : Content) → StandsBy (fault_for a) was.state does was.content next → (x : Option Content) (w : List ℕ)
+      → IsLeft (fault_for a) was.content next x → IsSaid old.beside.said w → IsMoment limit was (one a ∷ []) x w
   in_commit Step next stands x w left said = ⊎_elim
-      (λ is. before limit was (one Step) shows.content x w is shows.stands (told w said))
+      (λ is. before limit was (one Step) was.content x w is shows.stands (told w said))
       (λ is. after limit was (one Step) next x w is stands (unsaid limit was (one Step) w (told w said)))
       left
-  in_commit NoMemory next stands x w left said = before limit was (one NoMemory) shows.content x w left shows.stands (told w said)
-  in_commit Full next stands x w left said = before limit was (one Full) shows.content x w left shows.stands (told w said)
+  in_commit NoMemory next stands x w left said = before limit was (one NoMemory) was.content x w left shows.stands (told w said)
+  in_commit Full next stands x w left said = before limit was (one Full) was.content x w left shows.stands (told w said)
 
-  replied_with : (a : Answer) (bytes : List ℕ) (next : Content) → StandsBy (fault_for a) was.state does shows.content next → Goes shows.content next old new (fault_for a)
-      → IsAllowed limit old.fixed.limit was.state piece a → bytes ≡ (turn limit was.state (one a)).1 → Replied limit piece was old new bytes
-  replied_with Step bytes next stands goes allowed is = record { answer = Step; allowed = allowed; is = is; content = next; holds = goes.content; stands = stands; moments = passes_more old.time new.time _ _ goes.time (λ x w p. in_commit Step next stands x w p.0 p.1) }
-  replied_with NoMemory bytes next stands goes allowed is = record { answer = NoMemory; allowed = allowed; is = is; content = shows.content; holds = goes.content; stands = shows.stands; moments = passes_more old.time new.time _ _ goes.time (λ x w p. in_commit NoMemory next stands x w p.0 p.1) }
-  replied_with Full bytes next stands goes allowed is = record { answer = Full; allowed = allowed; is = is; content = shows.content; holds = goes.content; stands = shows.stands; moments = passes_more old.time new.time _ _ goes.time (λ x w p. in_commit Full next stands x w p.0 p.1) }
+  replied_with : (a : Answer) (bytes : List ℕ) (next : Content) → StandsBy (fault_for a) was.state does was.content next → Goes was.content next old new (fault_for a)
+      → AnswersCommit (fault_for a) old.fixed.limit was.content next → IsAllowed limit old.fixed.limit was.state piece a → bytes ≡ (turn limit was.state (one a)).1 → Replied limit piece was old new bytes
+  replied_with Step bytes next stands goes answers allowed is = record { answer = Step; allowed = allowed; is = is; content = next; holds = goes.content; stands = stands; limited = (stands, answers); moments = passes_more old.time new.time _ _ goes.time (λ x w p. in_commit Step next stands x w p.0 p.1) }
+  replied_with NoMemory bytes next stands goes answers allowed is = record { answer = NoMemory; allowed = allowed; is = is; content = was.content; holds = goes.content; stands = shows.stands; limited = refl; moments = passes_more old.time new.time _ _ goes.time (λ x w p. in_commit NoMemory next stands x w p.0 p.1) }
+  replied_with Full bytes next stands goes answers allowed is = record {
+    answer = Full;
+    allowed = allowed;
+    is = is;
+    content = was.content;
+    holds = goes.content;
+    stands = shows.stands;
+    limited = (refl, record { next = next; stands = stands; passes = answers });
+    moments = passes_more old.time new.time _ _ goes.time (λ x w p. in_commit Full next stands x w p.0 p.1);
+  }
 
-  pub replied_by : (a : Answer) (bytes : List ℕ) → Moves was.state does shows.content old new (fault_for a) → IsAllowed limit old.fixed.limit was.state piece a → bytes ≡ (turn limit was.state (one a)).1 → Replied limit piece was old new bytes
-  replied_by a bytes moves allowed is = replied_with a bytes moves.next moves.stands moves.goes allowed is
+  pub replied_by : (a : Answer) (bytes : List ℕ) → Moves was.state does was.content old new (fault_for a) → IsAllowed limit old.fixed.limit was.state piece a → bytes ≡ (turn limit was.state (one a)).1 → Replied limit piece was old new bytes
+  replied_by a bytes moves allowed is = replied_with a bytes moves.next moves.stands moves.goes moves.limited allowed is
 
   -- the disk failed
-  stands_either : (next : Content) (x : Option Content) → StandsForState next was.state ⊎ StandsForState next (state_by was.state does) → (x ≡ Some shows.content) ⊎ (x ≡ Some next)
+  stands_either : (next : Content) (x : Option Content) → StandsForState next was.state ⊎ StandsForState next (state_by was.state does) → (x ≡ Some was.content) ⊎ (x ≡ Some next)
       → LeavesState x was.state ⊎ LeavesState x (turn limit was.state (one Step)).0
   stands_either next x stands left = ⊎_elim
-      (λ is. inl (record { content = shows.content; is = is; stands = shows.stands }))
+      (λ is. inl (record { content = was.content; is = is; stands = shows.stands }))
       (λ is. ⊎_elim (λ s. inl (record { content = next; is = is; stands = s })) (λ s. inr (record { content = next; is = is; stands = s })) stands)
       left
 
-  pub halted_by : Moves was.state does shows.content old new (Some keep_fault.Disk) → Halted limit piece was old new
+  pub halted_by : Moves was.state does was.content old new (Some keep_fault.Disk) → Halted limit piece was old new
   halted_by moves =
-      let each : (x : Option Content) (w : List ℕ) → IsLeft (Some keep_fault.Disk) shows.content moves.next x × IsSaid old.beside.said w → LeavesEither limit was (one Step) x w =
+      let each : (x : Option Content) (w : List ℕ) → IsLeft (Some keep_fault.Disk) was.content moves.next x × IsSaid old.beside.said w → LeavesEither limit was (one Step) x w =
       λ x w p. record { leaves = stands_either moves.next x moves.stands p.0; said_before = told w p.1 } in
       record {
         moments = passes_more old.time new.time _ _ moves.goes.time (λ x w p. either limit was (one Step) x w (each x w p));
@@ -123,12 +133,12 @@ module _ (limit : ℕ) (piece : Piece) (was : World) (old mid new : KeeperView) 
       (subst (λ (l : List ℕ). SaysPart was.said l w) (sym prefix ∙ r.is)
       (says_prefix was.said part rest w (subst (λ (o : Option (List ℕ)). SaysPart o part w) said_mid p.1)))))
 
-  shows_said : (part : List ℕ) → KeeperSays part mid new → Shows new (record { state = (turn limit was.state made).0; said = with_suffix was.said part })
-  shows_said part s = record { said = s.said ∙ ap (λ (o : Option (List ℕ)). with_suffix o part) said_mid; content = r.content; holds = s.apart.content ∙ r.holds; stands = r.stands }
+  shows_said : (part : List ℕ) → KeeperSays part mid new → Shows new (record { content = r.content; state = (turn limit was.state made).0; said = with_suffix was.said part })
+  shows_said part s = record { said = s.said ∙ ap (λ (o : Option (List ℕ)). with_suffix o part) said_mid; holds = s.apart.content ∙ r.holds; stands = r.stands }
 
   pub answered_by : KeeperSays bytes mid new → (now : World) × Shows new now × Answered limit old.fixed.limit piece was now old new
   answered_by s = (
-    record { state = (turn limit was.state made).0; said = with_suffix was.said bytes },
+    record { content = r.content; state = (turn limit was.state made).0; said = with_suffix was.said bytes },
     shows_said bytes s,
     record {
       answer = r.answer;
@@ -137,6 +147,7 @@ module _ (limit : ℕ) (piece : Piece) (was : World) (old mid new : KeeperView) 
         run = record { state = refl; says = r.is ∙ sym (append-nil (turn limit was.state made).1) };
         told = refl;
         allowed = (r.allowed, tt);
+        limited = (r.content, r.limited, refl);
       };
       moments = moments_said bytes [] (sym (append-nil bytes)) s;
     },
@@ -147,7 +158,15 @@ module _ (limit : ℕ) (piece : Piece) (was : World) (old mid new : KeeperView) 
     answer = r.answer;
     allowed = r.allowed;
     moments = moments_said s.part s.is.rest s.is.is s.spoke.says;
-    by = record { part = s.part; reply = subst (IsPartOf s.part) r.is s.is; passes = passes_as _ _ _ _ _ _ s.passes (same_say_room s.spoke.says.apart.fixed) (sym said_mid) (sym r.is); shows = shows_said s.part s.spoke.says; settled = settled };
+    by = record {
+      content = r.content;
+      limited = r.limited;
+      part = s.part;
+      reply = subst (IsPartOf s.part) r.is s.is;
+      passes = passes_as _ _ _ _ _ _ s.passes (same_say_room s.spoke.says.apart.fixed) (sym said_mid) (sym r.is);
+      shows = shows_said s.part s.spoke.says;
+      settled = settled;
+    };
   }
 
 -- ---- commits
@@ -158,7 +177,7 @@ commits_statement text old new once = record { once = once; none = λ e. cc }
 
 -- nothing was called
 pub commits_none : (piece : Piece) (counts : Counts) → CommitsFor piece counts counts
-commits_none piece counts = record { once = inl refl; none = λ e. refl }
+commits_none piece counts = record { once = inl (refl, refl); none = λ e. (refl, refl) }
 
 -- and saying calls none
 commits_said : {bytes : List ℕ} (piece : Piece) (old : Counts) (mid new : KeeperView) → CommitsFor piece old mid.counts → KeeperSays bytes mid new → CommitsFor piece old new.counts

@@ -6,28 +6,33 @@ use Rattle.ct_keep.specs.Content.{Content}
 use Rattle.ct_keep.specs.declared.keepers.KeepFault.TheVariants.{Disk}
 use Rattle.ct_keep.specs.KeeperViews.{KeeperView, IsDurable}
 use Rattle.st_cut.specs.Seen.{ShowsText}
-use Rattle.st_parse.specs.Grammar.{Read, NoStatement, Found, read}
-use Rattle.st_parse.specs.Grammar.{Blank}
+use Rattle.st_parse.specs.Grammar.{Read, Blank, NoStatement, Found, ParseGives, read}
+use Rattle.st_parse.specs.declared.statements.Statement.{Statement}
+use Rattle.st_parse.specs.declared.parsing.StatementFault.{StatementFault}
+use Rattle.st_parse.specs.declared.parsing.StatementFault.TheVariants.{Syntax, Memory}
 use Rattle.db_cond.specs.Faults.{NotUnderstood, StatementTooLong, out_of_memory, not_understood, statement_too_long}
 use Rattle.db_state.specs.States.{StoreState, StandsForState}
 use Rattle.db_state.specs.Effects.{Effect, Refused, state_by, reply_by, is_done}
 use Rattle.db_state.specs.Room.{room}
-use Rattle.db_engine.specs.Steps.{effect_of, is_utf8_text, read_bytes, statement_step, rest_of, rest_step}
+use Rattle.db_engine.specs.Steps.{effect, may_fill, effect_of, is_utf8_text, read_bytes, statement_step, rest_of, rest_step}
 use Rattle.db_engine.specs.Runs.{Answer, Step, NoMemory, Full, statement, rest_piece, answered, can_fill, IsAllowed}
 use Rattle.db_state.specs.Plans.{Moves, HasNoPlace}
-use Rattle.db_engine.specs.Executing.{fault_for}
+use Rattle.db_engine.specs.Executing.{fault_for, ExecutesStatement, IsAnswered, IsReplyBy}
+use Rattle.db_engine.specs.declared.replies.Reply.{Reply}
+use Rattle.db_engine.specs.declared.replies.Reply.TheVariants.{Text as TextReply, Full as FullReply, NoMemory as NoMemoryReply}
 use Rattle.db_console.specs.Worlds.{World}
 use Rattle.db_engine.specs.declared.replies.Stop.{Stop}
 use Rattle.db_engine.specs.declared.replies.Stop.TheVariants.{Disk as DiskStop}
 use Rattle.db_console.specs.declared.responses.Response.{Response}
-use Rattle.db_console.specs.Responses.{HasReply, RespondsToText, response_bytes}
+use Rattle.db_console.specs.declared.responses.Response.TheVariants.{Nothing}
+use Rattle.db_console.specs.Responses.{HasReply, Responds, RespondsToRead, response_bytes, response_to, response_to_unread}
 use Rattle.db_console.specs.Views.{Shows, Replied, Halted, RepliesToText, HaltsInText}
 use Rattle.db_console.proofs.Answering.{moves_not, moves_short, replied_by, halted_by}
 
 -- ---- what was read
 
 -- its step, which keeps the state, with nothing to do
-pub reply_still : (m : StoreState) (r : Read) (c : Content) (k : KeeperView) (reply : List ℕ) → k.ready → IsDurable k → k.content ≡ Some c → StandsForState c m → state_by m (effect_of m r) ≡ m → reply ≡ reply_by (effect_of m r)
+reply_still : (m : StoreState) (r : Read) (c : Content) (k : KeeperView) (reply : List ℕ) → k.ready → IsDurable k → k.content ≡ Some c → StandsForState c m → state_by m (effect_of m r) ≡ m → reply ≡ reply_by (effect_of m r)
     → HasReply m r c k k reply
 reply_still m r c k reply ready settled holds stands same is = record {
   answer = Step;
@@ -37,15 +42,53 @@ reply_still m r c k reply ready settled holds stands same is = record {
   can = λ e. cc;
 }
 
-pub reply_blank : (m : StoreState) (r : Read) (c : Content) (k : KeeperView) → k.ready → IsDurable k → k.content ≡ Some c → StandsForState c m → r ≡ Blank → HasReply m r c k k []
+reply_blank : (m : StoreState) (r : Read) (c : Content) (k : KeeperView) → k.ready → IsDurable k → k.content ≡ Some c → StandsForState c m → r ≡ Blank → HasReply m r c k k []
 reply_blank m r c k ready settled holds stands e = reply_still m r c k [] ready settled holds stands (rw e refl) (rw e refl)
 
-pub reply_no_statement : (m : StoreState) (r : Read) (c : Content) (k : KeeperView) → k.ready → IsDurable k → k.content ≡ Some c → StandsForState c m → r ≡ NoStatement → HasReply m r c k k not_understood
+reply_no_statement : (m : StoreState) (r : Read) (c : Content) (k : KeeperView) → k.ready → IsDurable k → k.content ≡ Some c → StandsForState c m → r ≡ NoStatement → HasReply m r c k k not_understood
 reply_no_statement m r c k ready settled holds stands e = reply_still m r c k not_understood ready settled holds stands (rw e refl) (rw e refl)
 
 -- for want of memory
-pub reply_short : (m : StoreState) (r : Read) (c : Content) (k : KeeperView) → k.ready → IsDurable k → k.content ≡ Some c → HasReply m r c k k out_of_memory
+reply_short : (m : StoreState) (r : Read) (c : Content) (k : KeeperView) → k.ready → IsDurable k → k.content ≡ Some c → HasReply m r c k k out_of_memory
 reply_short m r c k ready settled holds = record { answer = NoMemory; moves = moves_short m (effect_of m r) c k ready settled holds; is = refl; place = λ e. cc; can = λ e. cc }
+
+-- what executing answered, as what is said to it
+reply_executed : (m : StoreState) (s : Statement) (c : Content) (old new : KeeperView) (reply : Reply) → IsAnswered m (effect m s) (may_fill s) c old new reply → HasReply m (Found s) c old new (response_bytes (response_to reply))
+reply_executed m s c old new reply a = record { answer = a.answer; moves = a.moves; is = said a.answer reply a.says; place = a.place; can = a.may_fill }
+  where
+    said : (answer : Answer) (reply : Reply) → IsReplyBy answer (effect m s) reply → response_bytes (response_to reply) ≡ (answered answer m (effect m s)).1
+    said Step (TextReply lines) is = is
+    said Step FullReply is = absurd is
+    said Step NoMemoryReply is = absurd is
+    said NoMemory (TextReply lines) is = absurd is
+    said NoMemory FullReply is = absurd is
+    said NoMemory NoMemoryReply is = refl
+    said Full (TextReply lines) is = absurd is
+    said Full FullReply is = refl
+    said Full NoMemoryReply is = absurd is
+
+pub responds_reply : (s : Statement) (old new : KeeperView) (reply : Reply) (response : Response) → response ≡ response_to reply → ExecutesStatement s old new (Ok reply) → RespondsToRead (Found s) old new (Ok response)
+responds_reply s old new reply response is executes = λ m c holds stands.
+    subst (λ (r : Response). HasReply m (Found s) c old new (response_bytes r)) (sym is) (reply_executed m s c old new reply (executes m c holds stands))
+
+pub responds_stop : (s : Statement) (old new : KeeperView) (stop : Stop) → ExecutesStatement s old new (Err stop) → RespondsToRead (Found s) old new (Err stop)
+responds_stop s old new DiskStop executes = executes
+
+-- what was read is the statement that was executed
+pub responds_found : (r : Read) (found : Option Statement) (s : Statement) (old new : KeeperView) (result : Result Response Stop) → found ≡ Some s → ParseGives (Ok found) r → RespondsToRead (Found s) old new result → RespondsToRead r old new result
+responds_found r found s old new result is gives responds =
+    let read : r ≡ Found s = subst (λ (o : Option Statement). ParseGives (Ok o) r) is gives in
+    subst (λ (x : Read). RespondsToRead x old new result) (sym read) responds
+
+-- nothing was executed
+pub responds_blank : (r : Read) (k : KeeperView) → k.ready → IsDurable k → r ≡ Blank → RespondsToRead r k k (Ok Nothing)
+responds_blank r k ready settled is = λ m c holds stands. reply_blank m r c k ready settled holds stands is
+
+pub responds_unread : (r : Read) (k : KeeperView) (fault : StatementFault) (response : Response) → response ≡ response_to_unread fault → k.ready → IsDurable k → ParseGives (Err fault) r → RespondsToRead r k k (Ok response)
+responds_unread r k Syntax response is ready settled gives = λ m c holds stands.
+    subst (λ (x : Response). HasReply m r c k k (response_bytes x)) (sym is) (reply_no_statement m r c k ready settled holds stands gives)
+responds_unread r k Memory response is ready settled gives = λ m c holds stands.
+    subst (λ (x : Response). HasReply m r c k k (response_bytes x)) (sym is) (reply_short m r c k ready settled holds)
 
 -- ---- the step of a statement
 
@@ -80,7 +123,7 @@ module _ (limit : ℕ) (ended : List ℕ) (was : World) (old : KeeperView) (show
   replied_refused : (f : Effect) (bytes : List ℕ) → old.ready → IsDurable old → statement_step limit was.state ended ≡ f → state_by was.state f ≡ was.state → bytes ≡ reply_by f → Replied limit (statement ended) was old old bytes
   replied_refused f bytes ready settled e same is =
       replied_by limit (statement ended) was old old shows Step bytes
-      (moves_not was.state (statement_step limit was.state ended) shows.content old ready settled shows.holds (subst (StandsForState shows.content) (sym same ∙ ap (state_by was.state) (sym e)) shows.stands))
+      (moves_not was.state (statement_step limit was.state ended) was.content old ready settled shows.holds (subst (StandsForState was.content) (sym same ∙ ap (state_by was.state) (sym e)) shows.stands))
       tt (is ∙ ap reply_by (sym e))
 
   pub replied_past : old.ready → IsDurable old → limit < length ended → Replied limit (statement ended) was old old statement_too_long
@@ -103,15 +146,15 @@ module _ (limit : ℕ) (ended : List ℕ) (was : World) (old : KeeperView) (show
       subst (λ (f : Effect). old.fixed.limit < room (state_by was.state f)) same_step (place refl).over,
     )
 
-    pub replied_text : (bytes : List ℕ) → HasReply was.state (read (chars ended)) shows.content old new bytes → Replied limit (statement ended) was old new bytes
+    pub replied_text : (bytes : List ℕ) → HasReply was.state (read (chars ended)) was.content old new bytes → Replied limit (statement ended) was old new bytes
     replied_text bytes h =
         replied_by limit (statement ended) was old new shows h.answer bytes
-        (subst (λ (f : Effect). Moves was.state f shows.content old new (fault_for h.answer)) same_step h.moves)
+        (subst (λ (f : Effect). Moves was.state f was.content old new (fault_for h.answer)) same_step h.moves)
         (allowed_by h.answer h.place h.can)
         (h.is ∙ ap (λ (f : Effect). (answered h.answer was.state f).1) same_step)
 
-    pub halted_text : Moves was.state (effect_of was.state (read (chars ended))) shows.content old new (Some Disk) → Halted limit (statement ended) was old new
-    halted_text moves = halted_by limit (statement ended) was old new shows (subst (λ (f : Effect). Moves was.state f shows.content old new (Some Disk)) same_step moves)
+    pub halted_text : Moves was.state (effect_of was.state (read (chars ended))) was.content old new (Some Disk) → Halted limit (statement ended) was old new
+    halted_text moves = halted_by limit (statement ended) was old new shows (subst (λ (f : Effect). Moves was.state f was.content old new (Some Disk)) same_step moves)
 
 -- what is given is these bytes, which are this text
 module _ (given : Option (Bor (List ℕ))) (bytes : Bor (List ℕ)) (is : given ≡ Some bytes) where
@@ -125,7 +168,7 @@ module _ (given : Option (Bor (List ℕ))) (bytes : Bor (List ℕ)) (is : given 
 
   module _ (text : List ℕ) (found : (is_utf8_text bytes.now ≡ true) × (text ≡ bytes.now)) (old new : KeeperView) where
     abbrev All : Result Response Stop → Type 0
-    All result = RespondsToText text old new result
+    All result = RespondsToRead (read (chars text)) old new result
 
     of_ended : (ended : List ℕ) → bytes.now ≡ ended → is_utf8_text ended ≡ true
     of_ended ended e = subst (λ (xs : List ℕ). is_utf8_text xs ≡ true) e found.0
@@ -138,14 +181,14 @@ module _ (given : Option (Bor (List ℕ))) (bytes : Bor (List ℕ)) (is : given 
     replied_given (Ok response) all = λ limit ended shown was w.
         let p : (bytes.now ≡ ended) × (length ended ≤ limit) = shown_as limit ended shown in
         replied_text limit ended was old w new p.1 (of_ended ended p.0) (response_bytes response)
-        (subst (λ (xs : List ℕ). HasReply was.state (read (chars xs)) w.content old new (response_bytes response)) (same_text ended p.0) (all was.state w.content w.holds w.stands))
+        (subst (λ (xs : List ℕ). HasReply was.state (read (chars xs)) was.content old new (response_bytes response)) (same_text ended p.0) (all was.state was.content w.holds w.stands))
 
     pub halted_given : (result : Result Response Stop) → All result → OnErr result (HaltsInText given old new)
     halted_given (Ok response) all = tt
     halted_given (Err DiskStop) all = λ limit ended shown was w.
         let p : (bytes.now ≡ ended) × (length ended ≤ limit) = shown_as limit ended shown in
         halted_text limit ended was old w new p.1 (of_ended ended p.0)
-        (subst (λ (xs : List ℕ). Moves was.state (effect_of was.state (read (chars xs))) w.content old new (Some Disk)) (same_text ended p.0) (all was.state w.content w.holds w.stands))
+        (subst (λ (xs : List ℕ). Moves was.state (effect_of was.state (read (chars xs))) was.content old new (Some Disk)) (same_text ended p.0) (all was.state was.content w.holds w.stands))
 
 -- ---- the response to a rest
 
@@ -165,5 +208,5 @@ rest_keeps limit m bytes = by_test (leb (length bytes) limit) refl
 pub replied_rest : (limit : ℕ) (rest bytes : List ℕ) (was : World) (k : KeeperView) → k.ready → IsDurable k → bytes ≡ reply_by (rest_step limit was.state rest) → Shows k was → Replied limit (rest_piece rest) was k k bytes
 replied_rest limit rest bytes was k ready settled is shows =
     replied_by limit (rest_piece rest) was k k shows Step bytes
-    (moves_not was.state (rest_step limit was.state rest) shows.content k ready settled shows.holds (subst (StandsForState shows.content) (sym (rest_keeps limit was.state rest)) shows.stands))
+    (moves_not was.state (rest_step limit was.state rest) was.content k ready settled shows.holds (subst (StandsForState was.content) (sym (rest_keeps limit was.state rest)) shows.stands))
     tt is

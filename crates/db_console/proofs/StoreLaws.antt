@@ -1,6 +1,6 @@
 -- A run over the store of a site, from what loading and serving did.
 use Rattle.std.specs.Prelude.{Err, ◌++◌, ◌==◌, length}
-use Rattle.std.proofs.Common.{◌≡◌, ◌⊎◌, ℕ, suc, List, [], Option, Some, None, refl, sym, ap, subst, inl, inr, ⊎_elim, ◌∙◌, arith, length-append}
+use Rattle.std.proofs.Common.{◌≡◌, ◌⊎◌, ◌+◌, ◌≤◌, ℕ, suc, Bool, true, false, List, [], Option, Some, None, refl, sym, ap, subst, inl, inr, ⊎_elim, ◌∙◌, arith, length-append}
 use base.Fml.{GName}
 use Rattle.ct_base.specs.Told.{IsSaid}
 use Rattle.ct_base.specs.laws.Told.{with_suffix-nil}
@@ -17,7 +17,7 @@ use Rattle.ct_keep.specs.KeeperStates.{no_counts}
 use Rattle.pg_journal.specs.declared.faults.LoadFault.{LoadFault}
 use Rattle.pg_journal.specs.declared.faults.LoadFault.TheVariants.{Memory, Disk, NotAStore}
 use Rattle.pg_journal.specs.Looking.{Loads}
-use Rattle.pg_journal.specs.Recovered.{Alike}
+use Rattle.pg_journal.specs.Recovered.{Alike, IsStore, IsUnborn}
 use Rattle.pg_heap.specs.Heaps.{HeapState, HeapStands}
 use Rattle.pg_map.specs.Holding.{Recovers}
 use Rattle.pg_heap.specs.laws.Recovering.{load_passes, one_recovery}
@@ -27,8 +27,8 @@ use Rattle.db_engine.specs.Runs.{Turn, AllAllowed}
 use Rattle.db_state.specs.Shapes.{IsStoreEntry}
 use Rattle.db_console.specs.Worlds.{World, IsMoment, CommitsWithin}
 use Rattle.db_console.specs.Asking.{AskedThen, Calls}
-use Rattle.db_console.specs.Views.{Shows}
-use Rattle.db_console.specs.Table.{Because, Outcome, TellsPast, Completes, status_of}
+use Rattle.db_console.specs.Views.{Shows, ToldEndOnce}
+use Rattle.db_console.specs.Table.{Because, Ends, Outcome, TellsPast, Completes, status_of}
 use Rattle.db_console.specs.Stores.{SiteFaultsBy, ServedHeap, TellsOfStore, store_view, status_of_load}
 use Rattle.db_console.specs.declared.endings.Ending.{Ending}
 use Rattle.db_console.specs.declared.endings.Ending.TheVariants.{Done, HearFault, SayFault, NoMemory, DiskFault, PastLimit}
@@ -44,21 +44,27 @@ pub record Opens (old new : KeeperView) : Type 0 where
   pub content : new.content ≡ old.content
   pub time : (m : Content) → old.content ≡ Some m → Passes old.time new.time (λ stopped said. (stopped ≡ Some m) × IsSaid old.beside.said said)
 
+told_before : (ended : Bool) (old mid : KeeperView) → mid.beside ≡ old.beside → counted ended mid.beside.ends ≡ counted ended old.beside.ends
+told_before ended old mid same = ap (λ (b : Beside). counted ended b.ends) same
+
+once_before : (old mid new : KeeperView) → mid.beside ≡ old.beside → ToldEndOnce mid.beside new.beside → ToldEndOnce old.beside new.beside
+once_before old mid new same once = record { ended = once.ended; told = once.told ∙ told_before once.ended old mid same; here = once.here }
+
 because_before : (most : ℕ) (taken : List ℕ) (old mid new : KeeperView) (ending : Ending) → mid.beside ≡ old.beside → Because most taken mid new ending → Because most taken old new ending
-because_before most taken old mid new Done same b = b
-because_before most taken old mid new HearFault same b = b
-because_before most taken old mid new SayFault same b = b
+because_before most taken old mid new Done same b = (b.0, b.1, b.2 ∙ told_before true old mid same)
+because_before most taken old mid new HearFault same b = (b.0, b.1 ∙ told_before false old mid same)
+because_before most taken old mid new SayFault same b = (b.0, once_before old mid new same b.1)
 because_before most taken old mid new NoMemory same b = (b.0, b.1 ∙ same)
-because_before most taken old mid new DiskFault same b = b
-because_before most taken old mid new PastLimit same b = b
+because_before most taken old mid new DiskFault same b = (b.0, once_before old mid new same b.1)
+because_before most taken old mid new PastLimit same b = (b.0, b.1 ∙ told_before false old mid same)
 
 -- what was held before the first turn
-moment_none : (limit : ℕ) (was : World) (turns : List Turn) (old : KeeperView) (stopped : Option Content) (said : List ℕ) → (w : Shows old was) → (stopped ≡ Some w.content) × IsSaid old.beside.said said → IsMoment limit was turns stopped said
+moment_none : (limit : ℕ) (was : World) (turns : List Turn) (old : KeeperView) (stopped : Option Content) (said : List ℕ) → (w : Shows old was) → (stopped ≡ Some was.content) × IsSaid old.beside.said said → IsMoment limit was turns stopped said
 moment_none limit was turns old stopped said w p = record {
   done = [];
   later = turns;
   split = refl;
-  leaves = record { content = w.content; is = p.0; stands = w.stands };
+  leaves = record { content = was.content; is = p.0; stands = w.stands };
   says = record { part = []; later = []; split = refl; is = with_suffix-nil was.said ∙ sym w.said ∙ p.1 };
 }
 
@@ -75,12 +81,12 @@ outcome_before limit most old mid new ending opens o = record {
   because = because_before most o.taken old mid new ending opens.beside o.because;
   ready = o.ready;
   course = λ was w.
-      let c = o.course was (record { said = ap (λ (b : Beside). b.said) opens.beside ∙ w.said; content = w.content; holds = opens.content ∙ w.holds; stands = w.stands }) in
+      let c = o.course was (record { said = ap (λ (b : Beside). b.said) opens.beside ∙ w.said; holds = opens.content ∙ w.holds; stands = w.stands }) in
       record {
         turns = c.turns;
         allowed = subst (λ (n : ℕ). AllAllowed limit n was.state c.turns) (same_limit opens.fixed) c.allowed;
-        ends = c.ends;
-        moments = passes_then old.time mid.time new.time _ (passes_more old.time mid.time _ _ (opens.time w.content w.holds) (λ stopped said p. moment_none limit was c.turns old stopped said w p)) c.moments;
+        ends = subst (λ (n : ℕ). Ends limit n most o.taken was c.turns new ending) (same_limit opens.fixed) c.ends;
+        moments = passes_then old.time mid.time new.time _ (passes_more old.time mid.time _ _ (opens.time was.content w.holds) (λ stopped said p. moment_none limit was c.turns old stopped said w p)) c.moments;
         now = c.now;
         commits = subst (λ (k : Counts). CommitsWithin c.turns k new.counts) opens.counts c.commits;
         asked = subst (λ (b : Beside). Calls b.hearings new.beside.hearings (AskedThen b.left o.taken limit was c.turns)) opens.beside c.asked;
@@ -88,9 +94,9 @@ outcome_before limit most old mid new ending opens o = record {
 }
 
 -- a store that was loaded
-pub opens_loaded : (old new : DiskView) (image : List ℕ) (heap : HeapState) (store : ℕ) (name : GName) → IsSettled old image → Recovers image (Some heap.held) → HeapStands new heap → Leaves old new (Alike image)
-    → new.beside ≡ old.beside → new.faults ≡ old.faults → Opens (store_view old heap store no_counts name) (store_view new heap store no_counts name)
-opens_loaded old new image heap store name settled is stands leaves beside faults = record {
+pub opens_loaded : (old new : DiskView) (opened : ℕ) (image : List ℕ) (heap : HeapState) (store : ℕ) (name : GName) → IsSettled old image → Recovers image (Some heap.held) → HeapStands new heap → Leaves old new (Alike image)
+    → new.beside ≡ old.beside → new.faults ≡ old.faults → Opens (store_view (record old { syncs = opened }) heap store no_counts name) (store_view (record new { syncs = opened }) heap store no_counts name)
+opens_loaded old new opened image heap store name settled is stands leaves beside faults = record {
   beside = beside;
   fixed = refl;
   counts = refl;
@@ -107,8 +113,10 @@ pub same_name : (a b : GName) → Some a ≡ Some b → a ≡ b
 same_name a b e = cc
 
 pub served_over : (limit most store weight : ℕ) (old new : DiskView) (name last : GName) (heap later : HeapState) (counts : Counts) (ending : Ending)
-    → Outcome limit most (store_view old heap store no_counts name) (store_view new later weight counts last) ending → ServedHeap limit most store heap old new ending
+    → Outcome limit most (store_view old heap store no_counts name) (store_view new later weight counts last) ending → ServedHeap limit most store 0 heap old new ending
 served_over limit most store weight old new name last heap later counts ending o = record {
+  opened = old.syncs;
+  loads = omega arith;
   name = name;
   later = later;
   counts = counts;
@@ -118,12 +126,14 @@ served_over limit most store weight old new name last heap later counts ending o
 }
 
 pub served_before : (limit most store : ℕ) (old mid new : DiskView) (image : List ℕ) (heap : HeapState) (ending : Ending) → IsSettled old image → Recovers image (Some heap.held) → HeapStands mid heap → Leaves old mid (Alike image)
-    → mid.beside ≡ old.beside → mid.faults ≡ old.faults → ServedHeap limit most store heap mid new ending → ServedHeap limit most store heap old new ending
-served_before limit most store old mid new image heap ending settled is stands leaves beside faults s = record {
+    → mid.beside ≡ old.beside → mid.faults ≡ old.faults → mid.syncs ≤ old.syncs + 4 → ServedHeap limit most store 0 heap mid new ending → ServedHeap limit most store 4 heap old new ending
+served_before limit most store old mid new image heap ending settled is stands leaves beside faults few s = record {
+  opened = s.opened;
+  loads = omega (arith, few, s.loads);
   name = s.name;
   later = s.later;
   counts = s.counts;
-  outcome = outcome_before limit most _ _ _ ending (opens_loaded old mid image heap store s.name settled is stands leaves beside faults) s.outcome;
+  outcome = outcome_before limit most _ _ _ ending (opens_loaded old mid s.opened image heap store s.name settled is stands leaves beside faults) s.outcome;
 }
 
 -- ---- statuses
@@ -161,16 +171,17 @@ no_two_stores image m is well none = ⊎_elim
     (λ other. let e : Some other.0 ≡ Some m = one_recovery image (Some other.0) (Some m) other.1 is in let same : m ≡ other.0 = cc in other.2 (subst (HoldsWell IsStoreEntry) same well)) none
 
 -- what the status of a load tells of the file
-pub load_tells : (image : List ℕ) (fault : LoadFault) → (fault ≡ NotAStore → HasNoStore IsStoreEntry image) → TellsOfStore image (status_of_load fault)
-load_tells image Memory refused = record { refused = λ is. let wrong : ⊥ = omega (arith, is) in absurd wrong; foreign = λ none. inl refl }
-load_tells image Disk refused = record { refused = λ is. let wrong : ⊥ = omega (arith, is) in absurd wrong; foreign = λ none. inr (inl refl) }
-load_tells image NotAStore refused = record { refused = λ is. refused refl; foreign = λ none. inr (inr refl) }
+pub load_tells : (image : List ℕ) (fault : LoadFault) → (fault ≡ NotAStore → HasNoStore IsStoreEntry image) → (fault ≡ Memory → IsUnborn image ⊎ IsStore image) → TellsOfStore image (status_of_load fault)
+load_tells image Memory refused known = record { refused = λ is. let wrong : ⊥ = omega (arith, is) in absurd wrong; foreign = λ none. inl refl; unmarked = λ none. absurd (none (known refl)) }
+load_tells image Disk refused known = record { refused = λ is. let wrong : ⊥ = omega (arith, is) in absurd wrong; foreign = λ none. inr (inl refl); unmarked = λ none. inl refl }
+load_tells image NotAStore refused known = record { refused = λ is. refused refl; foreign = λ none. inr (inr refl); unmarked = λ none. inr refl }
 
 -- and that of serving over it
-pub serve_tells : (image : List ℕ) (m : Content) (ending : Ending) (status : ℕ) → status ≡ status_of ending → Recovers image (Some m) → HoldsWell IsStoreEntry m → TellsOfStore image status
-serve_tells image m ending status is holds well = record {
+pub serve_tells : (image : List ℕ) (m : Content) (ending : Ending) (status : ℕ) → status ≡ status_of ending → Recovers image (Some m) → HoldsWell IsStoreEntry m → IsUnborn image ⊎ IsStore image → TellsOfStore image status
+serve_tells image m ending status is holds well known = record {
   refused = λ seven. absurd (not_seven ending (sym is ∙ seven));
   foreign = λ none. absurd (no_two_stores image m holds well none);
+  unmarked = λ none. absurd (none known);
 }
 
 -- ---- faults

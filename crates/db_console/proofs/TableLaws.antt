@@ -1,12 +1,13 @@
 -- How serving goes on, how it ends, and what follows of a run.
-use Rattle.std.proofs.Common.{◌≡◌, ◌≤◌, ◌+◌, ◌++◌, ◌∷◌, [], ℕ, suc, List, Bool, true, false, Option, Some, length, refl, sym, ap, ◌∙◌, subst, arith, append-nil, append_assoc, length-append}
+use Rattle.std.proofs.Common.{◌≡◌, ◌≤◌, ◌+◌, ◌++◌, ◌∷◌, [], ℕ, suc, List, Bool, true, false, Option, Some, None, length, refl, inl, inr, sym, ap, ◌∙◌, subst, arith, append-nil, append_assoc, length-append}
 use Rattle.std.specs.Prelude.{◌↔◌, ◌⊎◌}
 use Rattle.ct_base.specs.laws.Moments.{passes_none, passes_nothing, passes_then}
 use Rattle.ct_base.specs.Told.{with_prefix, with_suffix, IsNothing}
 use Rattle.ct_base.specs.laws.Told.{with_prefix-nil, with_prefix_twice, with_suffix-nil, with_suffix_twice}
 use Rattle.ct_keep.specs.Content.{Content}
-use Rattle.ct_keep.specs.KeeperViews.{KeeperView, Counts, PassesRoom, IsDurable, TakesAsBefore}
+use Rattle.ct_keep.specs.KeeperViews.{KeeperView, Counts, PassesRoom, IsDurable, TakesAsBefore, counted}
 use Rattle.ct_keep.specs.Composing.{takes_same, takes_then, same_limit, passes_behind, passes_as}
+use Rattle.ct_site.specs.FaultCounts.{rose_raised}
 use Rattle.st_cut.specs.Seen.{Seen, StandsOpen}
 use Rattle.db_state.specs.States.{StoreState, StandsForState}
 use Rattle.db_engine.specs.Runs.{Turn, turn, pieces, state_after, transcript, state_after-append, transcript-append, AllAllowed}
@@ -16,22 +17,22 @@ use Rattle.db_console.specs.declared.endings.Ending.{Ending}
 use Rattle.db_console.specs.declared.endings.Ending.TheVariants.{Done, HearFault, SayFault, NoMemory, DiskFault, PastLimit}
 use Rattle.db_console.specs.Worlds.{World, LeavesState, IsMoment, Leads, Served, ServedTo, CommitsWithin, world_after}
 use Rattle.db_console.specs.Asking.{AskedThen, Calls}
-use Rattle.db_console.specs.Views.{Shows, EndsHere, FaultsAre, NoFault, Heard, FailsBy, Serves, Broke, Breaks, ServesEnd, UnlessByDisk}
-use Rattle.db_console.specs.Table.{status_of, ending_of, EndsRun, AreFirst, SaidInPart, FailedInLast, SaidAll, Ends, Course, Because, FaultsBy, Outcome, TellsPast, IsReadyAfter}
+use Rattle.db_console.specs.Views.{Shows, EndsHere, DiskRose, ToldEnd, ToldEndOnce, FaultsAre, NoFault, Heard, FailsBy, Serves, Broke, Breaks, ServesEnd, UnlessByDisk}
+use Rattle.db_console.specs.Table.{status_of, ending_of, EndsRun, AreFirst, SaidInPart, FailedInLast, SaidAll, Ends, Course, Because, FaultsBy, Outcome, TellsPast, Completes, IsReadyAfter}
 use Rattle.db_console.proofs.Asked.{calls_none, calls_more, calls_same, calls_asked, asked_now, asked_taken, asked_as, asked_turns}
-use Rattle.db_console.proofs.WorldLaws.{pieces-append, served_as, served_on, served_then, served_start, allowed_then, moment_later}
+use Rattle.db_console.proofs.WorldLaws.{pieces-append, served_as, served_on, served_then, served_start, allowed_then, obey_then, moment_later}
 use Rattle.db_console.proofs.Lasting.{faults_none, faults_then, faults_heard}
 use Rattle.db_console.proofs.Answering.{either}
 use Rattle.db_console.proofs.ViewLaws.{broke_then}
 
 -- hearing shows the same world
-shows_heard : (failed : Bool) (old new : KeeperView) (bytes : List ℕ) (world : World) → Heard failed bytes old new → Shows old world → Shows new world
-shows_heard failed old new bytes world h w = record { said = h.hears.said ∙ w.said; content = w.content; holds = h.hears.apart.content ∙ w.holds; stands = w.stands }
+shows_heard : (failed ended : Bool) (old new : KeeperView) (bytes : List ℕ) (world : World) → Heard failed ended bytes old new → Shows old world → Shows new world
+shows_heard failed ended old new bytes world h w = record { said = h.hears.said ∙ w.said; holds = h.hears.apart.content ∙ w.holds; stands = w.stands }
 
 -- and adds no moment
-unfoldable served_heard : (limit store : ℕ) (failed : Bool) (bytes heard : List ℕ) (was is : World) (old mid new : KeeperView) (cutter : Seen) → Heard failed heard mid new
+unfoldable served_heard : (limit store : ℕ) (failed ended : Bool) (bytes heard : List ℕ) (was is : World) (old mid new : KeeperView) (cutter : Seen) → Heard failed ended heard mid new
     → ServedTo limit store [] bytes was is old mid cutter → ServedTo limit store [] bytes was is old new cutter
-served_heard limit store failed bytes heard was is old mid new cutter h s = record {
+served_heard limit store failed ended bytes heard was is old mid new cutter h s = record {
   served = record {
     turns = s.served.turns;
     rest = s.served.rest;
@@ -52,36 +53,39 @@ pub record SoFar (limit : ℕ) (heard piece : List ℕ) (was : World) (old now :
   pub served : ServedTo limit old.fixed.limit [] heard was is old now cutter
   pub asked : Calls old.beside.hearings now.beside.hearings (AskedThen old.beside.left (heard ++ piece) limit was served.served.turns)
 
--- so many bytes were taken and served, and then this piece was heard, by a call that may have failed
-pub record Going (failed : Bool) (limit taken : ℕ) (piece : List ℕ) (old now : KeeperView) (cutter : Seen) : Type 0 where
+-- so many bytes were taken and served, and then this piece was heard, by a call that may have failed or been told the end
+pub record Going (failed ended : Bool) (limit taken : ℕ) (piece : List ℕ) (old now : KeeperView) (cutter : Seen) : Type 0 where
   pub heard : List ℕ
   pub count : length heard ≡ taken
   pub prefix : old.beside.left ≡ with_prefix (heard ++ piece) now.beside.left
   pub faults : FaultsAre failed false false old now
+  pub end : ToldEnd ended old.beside now.beside
   pub well : TakesAsBefore old now
   pub fixed : now.fixed ≡ old.fixed
   pub ready : now.ready
   pub going : (was : World) → Shows old was → SoFar limit heard piece was old now cutter
 
-pub going_start : (limit : ℕ) (view : KeeperView) (cutter : Seen) → view.ready → StandsOpen limit cutter [] → Going false limit 0 [] view view cutter
+pub going_start : (limit : ℕ) (view : KeeperView) (cutter : Seen) → view.ready → StandsOpen limit cutter [] → Going false false limit 0 [] view view cutter
 going_start limit view cutter ready s = record {
   heard = [];
   count = refl;
   prefix = sym (with_prefix-nil view.beside.left);
   faults = faults_none view;
+  end = refl;
   well = takes_same view;
   fixed = refl;
   ready = ready;
   going = λ was w. record { is = was; shows = w; served = served_start limit view.fixed.limit [] was view cutter s; asked = calls_none view.beside.hearings _ };
 }
 
-pub going_heard : (failed : Bool) (limit taken : ℕ) (piece : List ℕ) (old mid now : KeeperView) (cutter : Seen) → Going false limit taken [] old mid cutter → Heard failed piece mid now → Going failed limit taken piece old now cutter
+pub going_heard : (failed ended : Bool) (limit taken : ℕ) (piece : List ℕ) (old mid now : KeeperView) (cutter : Seen) → Going false false limit taken [] old mid cutter → Heard failed ended piece mid now → Going failed ended limit taken piece old now cutter
 unfolding served_heard
-going_heard failed limit taken piece old mid now cutter s h = record {
+going_heard failed ended limit taken piece old mid now cutter s h = record {
   heard = s.heard;
   count = s.count;
   prefix = s.prefix ∙ rw (append-nil s.heard, h.hears.left) (with_prefix_twice s.heard piece now.beside.left);
-  faults = faults_then failed false false old mid now s.faults (faults_heard failed mid now piece h);
+  faults = faults_then failed false false old mid now s.faults (faults_heard failed ended mid now piece h);
+  end = h.end ∙ ap (counted ended) s.end;
   well = takes_then old mid now s.well h.hears.apart.well;
   fixed = h.hears.apart.fixed ∙ s.fixed;
   ready = h.hears.apart.ready s.ready;
@@ -89,8 +93,8 @@ going_heard failed limit taken piece old mid now cutter s h = record {
       let x : SoFar limit s.heard [] was old mid cutter = s.going was w in
       record {
         is = x.is;
-        shows = shows_heard failed mid now piece x.is h x.shows;
-        served = served_heard limit old.fixed.limit failed s.heard piece was x.is old mid now cutter h x.served;
+        shows = shows_heard failed ended mid now piece x.is h x.shows;
+        served = served_heard limit old.fixed.limit failed ended s.heard piece was x.is old mid now cutter h x.served;
         asked = calls_asked old.beside.hearings mid.beside now.beside _ h.hears.asks
             (calls_more old.beside.hearings mid.beside.hearings _ _ x.asked (asked_taken old.beside.left limit was s.heard piece x.served.served.turns))
             (asked_now old.beside.left limit was s.heard piece x.served.served.turns x.served.served.rest mid.beside (rw (append-nil s.heard) at s.prefix) x.served.served.cut
@@ -98,14 +102,15 @@ going_heard failed limit taken piece old mid now cutter s h = record {
       };
 }
 
-pub going_on : (limit taken count : ℕ) (piece : List ℕ) (old now new : KeeperView) (cutter later : Seen) → Going false limit taken piece old now cutter → length piece ≡ count
-    → Serves piece now new cutter later → Going false limit (taken + count) [] old new later
+pub going_on : (limit taken count : ℕ) (piece : List ℕ) (old now new : KeeperView) (cutter later : Seen) → Going false false limit taken piece old now cutter → length piece ≡ count
+    → Serves piece now new cutter later → Going false false limit (taken + count) [] old new later
 unfolding served_on served_then
 going_on limit taken count piece old now new cutter later s n k = record {
   heard = s.heard ++ piece;
   count = length-append s.heard piece ∙ rw (s.count, n) refl;
   prefix = rw (append-nil (s.heard ++ piece), k.unheard.left) s.prefix;
   faults = faults_then false false false old now new s.faults k.faults;
+  end = k.unheard.ends ∙ s.end;
   well = takes_then old now new s.well k.unheard.well;
   fixed = k.unheard.fixed ∙ s.fixed;
   ready = k.ready;
@@ -128,39 +133,38 @@ going_on limit taken count piece old now new cutter later s n k = record {
 -- ---- how it ends
 
 -- the world shown is the one after the turns
-shows_after : (limit store : ℕ) (was now : World) (turns : List Turn) (new : KeeperView) → Leads limit store was turns now → Shows new now → Shows new (world_after limit was turns)
+shows_after : (limit store : ℕ) (was now : World) (turns : List Turn) (new : KeeperView) → Leads limit store was turns now → Shows new now → Shows new (world_after limit was turns now.content)
 shows_after limit store was now turns new l w = record {
   said = w.said ∙ rw (l.told, l.run.says) refl;
-  content = w.content;
   holds = w.holds;
-  stands = subst (StandsForState w.content) l.run.state w.stands;
+  stands = subst (StandsForState now.content) l.run.state w.stands;
 }
 
 -- what a crash leaves now, where a prefix of all that the turns say was said
-moment_now : (limit : ℕ) (was : World) (turns : List Turn) (new : KeeperView) (said rest : List ℕ) → transcript limit was.state turns ≡ said ++ rest → IsDurable new
-    → Shows new (record { state = state_after limit was.state turns; said = with_suffix was.said said }) → (x : Option Content) (w : List ℕ) → new.now x w → IsMoment limit was turns x w
-moment_now limit was turns new said rest prefix settled shows x w n =
-    let p = settled.here shows.content shows.holds x w n in
+moment_now : (limit : ℕ) (was : World) (turns : List Turn) (new : KeeperView) (content : Content) (said rest : List ℕ) → transcript limit was.state turns ≡ said ++ rest → IsDurable new
+    → Shows new (record { content = content; state = state_after limit was.state turns; said = with_suffix was.said said }) → (x : Option Content) (w : List ℕ) → new.now x w → IsMoment limit was turns x w
+moment_now limit was turns new content said rest prefix settled shows x w n =
+    let p = settled.here content shows.holds x w n in
     record {
       done = turns;
       later = [];
       split = sym (append-nil turns);
-      leaves = record { content = shows.content; is = p.0; stands = shows.stands };
+      leaves = record { content = content; is = p.0; stands = shows.stands };
       says = record { part = said; later = rest; split = prefix; is = sym shows.said ∙ p.1 };
     }
 
 -- all was said
 turns_all : (limit most store : ℕ) (whole : Bool) (taken script : List ℕ) (was now : World) (old new : KeeperView) (ending : Ending) → store ≡ old.fixed.limit → IsDurable new → Shows new now → (s : Served limit store whole [] script was now old new)
-    → Calls old.beside.hearings new.beside.hearings (AskedThen old.beside.left taken limit was s.turns) → (SaidAll limit whole script was s.turns new → Ends limit most taken was s.turns new ending) → Course limit most taken was old new ending
+    → Calls old.beside.hearings new.beside.hearings (AskedThen old.beside.left taken limit was s.turns) → (SaidAll limit store whole script was s.turns new → Ends limit store most taken was s.turns new ending) → Course limit most taken was old new ending
 turns_all limit most store whole taken script was now old new ending is settled w s asked ends =
-    let shows : Shows new (world_after limit was s.turns) = shows_after limit store was now s.turns new s.leads w in
+    let shows : Shows new (world_after limit was s.turns now.content) = shows_after limit store was now s.turns new s.leads w in
     record {
       turns = s.turns;
       allowed = subst (λ (n : ℕ). AllAllowed limit n was.state s.turns) is s.leads.allowed;
-      ends = ends (record { rest = s.rest; cut = s.cut; shows = shows; settled = settled });
+      ends = subst (λ (n : ℕ). Ends limit n most taken was s.turns new ending) is (ends (record { rest = s.rest; cut = s.cut; content = now.content; limited = s.leads.limited; shows = shows; settled = settled }));
       moments = s.moments;
       commits = s.commits;
-      now = moment_now limit was s.turns new (transcript limit was.state s.turns) [] (sym (append-nil (transcript limit was.state s.turns))) settled shows;
+      now = moment_now limit was s.turns new now.content (transcript limit was.state s.turns) [] (sym (append-nil (transcript limit was.state s.turns))) settled shows;
       asked = asked;
     }
 
@@ -177,8 +181,8 @@ out_memory limit most view ready settled = record {
     allowed = tt;
     ends = (refl, w, settled);
     moments = passes_none view.time _;
-    commits = omega arith;
-    now = moment_now limit was [] view [] [] refl settled (record { said = w.said ∙ sym (with_suffix-nil was.said); content = w.content; holds = w.holds; stands = w.stands });
+    commits = (omega arith, omega arith);
+    now = moment_now limit was [] view was.content [] [] refl settled (record { said = w.said ∙ sym (with_suffix-nil was.said); holds = w.holds; stands = w.stands });
     asked = calls_none view.beside.hearings _;
   };
 }
@@ -188,15 +192,15 @@ asked_whole : (limit : ℕ) (taken : List ℕ) (was : World) (turns : List Turn)
     → Calls old.beside.hearings new.beside.hearings (AskedThen old.beside.left taken limit was turns)
 asked_whole limit taken was turns old new calls = calls_more _ _ _ _ calls (λ h a. asked_as old.beside.left limit was (taken ++ []) taken turns h (sym (append-nil taken)) a)
 
-pub out_fault : (limit most taken : ℕ) (old mid now : KeeperView) (cutter : Seen) → (now.ready → IsDurable now) → Going false limit taken [] old mid cutter → taken ≤ most → Heard true [] mid now → Outcome limit most old now HearFault
+pub out_fault : (limit most taken : ℕ) (old mid now : KeeperView) (cutter : Seen) → (now.ready → IsDurable now) → Going false false limit taken [] old mid cutter → taken ≤ most → Heard true false [] mid now → Outcome limit most old now HearFault
 out_fault limit most taken old mid now cutter settled before h k =
-    let s : Going true limit taken [] old now cutter = going_heard true limit taken [] old mid now cutter before k in
+    let s : Going true false limit taken [] old now cutter = going_heard true false limit taken [] old mid now cutter before k in
     record {
       taken = s.heard;
       prefix = rw (append-nil s.heard) at s.prefix;
       faults = s.faults;
       fixed = s.fixed;
-      because = rw s.count h;
+      because = (rw s.count h, s.end);
       ready = s.ready;
       course = λ was w.
           let x : SoFar limit s.heard [] was old now cutter = s.going was w in
@@ -227,16 +231,17 @@ module _ (limit store : ℕ) (whole : Bool) (fault : AnswerFault) (taken : List 
   all_allowed : AllAllowed limit store was.state all
   all_allowed = allowed_then limit store was k.mid k.turns (k.last ∷ []) k.leads (k.allowed, tt)
 
-said_in_part : (limit store : ℕ) (whole : Bool) (taken : List ℕ) (was : World) (old new : KeeperView) (k : Broke limit store whole Say [] taken was old new) → SaidInPart limit whole taken was (k.turns ++ k.last ∷ []) new
+said_in_part : (limit store : ℕ) (whole : Bool) (taken : List ℕ) (was : World) (old new : KeeperView) (k : Broke limit store whole Say [] taken was old new) → SaidInPart limit store whole taken was (k.turns ++ k.last ∷ []) new
 said_in_part limit store whole taken was old new k = record {
   done = k.turns;
   first = first limit store whole Say taken was old new k;
   said = k.leads.said ++ k.by.part;
+  content = k.by.content;
+  limited = obey_then limit store was k.mid k.turns (k.last ∷ []) k.by.content k.leads (k.by.content, k.by.limited, refl);
   shows = record {
     said = k.by.shows.said ∙ rw k.leads.told (with_suffix_twice was.said k.leads.said k.by.part);
-    content = k.by.shows.content;
     holds = k.by.shows.holds;
-    stands = subst (StandsForState k.by.shows.content) (sym (state_last limit store whole Say taken was old new k)) k.by.shows.stands;
+    stands = subst (StandsForState k.by.content) (sym (state_last limit store whole Say taken was old new k)) k.by.shows.stands;
   };
   part = record {
     rest = k.by.reply.rest;
@@ -250,10 +255,12 @@ said_in_part limit store whole taken was old new k = record {
   settled = k.by.settled;
 }
 
-failed_in_last : (limit store : ℕ) (whole : Bool) (taken : List ℕ) (was : World) (old new : KeeperView) (k : Broke limit store whole Disk [] taken was old new) → FailedInLast limit whole taken was (k.turns ++ k.last ∷ []) new
+failed_in_last : (limit store : ℕ) (whole : Bool) (taken : List ℕ) (was : World) (old new : KeeperView) (k : Broke limit store whole Disk [] taken was old new) → FailedInLast limit store whole taken was (k.turns ++ k.last ∷ []) new
 failed_in_last limit store whole taken was old new k = record {
   done = k.turns;
   first = first limit store whole Disk taken was old new k;
+  content = k.mid.content;
+  limited = k.leads.limited;
   told = k.by.told ∙ rw (k.leads.told, k.leads.run.says) refl;
   leaves = λ x w n.
       subst (λ (m : StoreState). LeavesState x m ⊎ LeavesState x (state_after limit was.state (k.turns ++ k.last ∷ []))) k.leads.run.state
@@ -263,29 +270,29 @@ failed_in_last limit store whole taken was old new k = record {
 turns_broken_off : (fault : AnswerFault) (limit most store : ℕ) (whole : Bool) (taken : List ℕ) (was : World) (old new : KeeperView) → store ≡ old.fixed.limit → (whole ≡ true → EndsHere new.beside) → (k : Broke limit store whole fault [] taken was old new)
     → Calls old.beside.hearings new.beside.hearings (AskedThen old.beside.left taken limit was (k.turns ++ k.last ∷ [])) → Course limit most taken was old new (ending_of fault)
 turns_broken_off Say limit most store whole taken was old new is n k asked =
-    let s : SaidInPart limit whole taken was (k.turns ++ k.last ∷ []) new = said_in_part limit store whole taken was old new k in
+    let s : SaidInPart limit store whole taken was (k.turns ++ k.last ∷ []) new = said_in_part limit store whole taken was old new k in
     record {
       turns = k.turns ++ k.last ∷ [];
       allowed = subst (λ (n : ℕ). AllAllowed limit n was.state (k.turns ++ k.last ∷ [])) is (all_allowed limit store whole Say taken was old new k);
-      ends = (whole, n, s);
+      ends = subst (λ (m : ℕ). Ends limit m most taken was (k.turns ++ k.last ∷ []) new SayFault) is (whole, n, s);
       moments = k.moments;
       commits = k.commits;
-      now = moment_now limit was (k.turns ++ k.last ∷ []) new s.said s.part.rest s.part.is k.by.settled s.shows;
+      now = moment_now limit was (k.turns ++ k.last ∷ []) new s.content s.said s.part.rest s.part.is k.by.settled s.shows;
       asked = asked;
     }
 turns_broken_off Disk limit most store whole taken was old new is n k asked = record {
   turns = k.turns ++ k.last ∷ [];
   allowed = subst (λ (n : ℕ). AllAllowed limit n was.state (k.turns ++ k.last ∷ [])) is (all_allowed limit store whole Disk taken was old new k);
-  ends = (whole, n, failed_in_last limit store whole taken was old new k);
+  ends = subst (λ (m : ℕ). Ends limit m most taken was (k.turns ++ k.last ∷ []) new DiskFault) is (whole, n, failed_in_last limit store whole taken was old new k);
   moments = k.moments;
   commits = k.commits;
   now = λ x w m. moment_later limit store was k.mid k.turns (k.last ∷ []) k.leads x w (either limit k.mid k.last x w (k.by.now x w m));
   asked = asked;
 }
 
-because_of : (fault : AnswerFault) (most : ℕ) (taken : List ℕ) (old new : KeeperView) → length taken ≤ most → Because most taken old new (ending_of fault)
-because_of Say most taken old new h = h
-because_of Disk most taken old new h = h
+because_of : (fault : AnswerFault) (most : ℕ) (taken : List ℕ) (old new : KeeperView) → length taken ≤ most → ToldEndOnce old.beside new.beside → Because most taken old new (ending_of fault)
+because_of Say most taken old new h once = (h, once)
+because_of Disk most taken old new h once = (h, once)
 
 faults_of : (fault : AnswerFault) (old now new : KeeperView) → NoFault old now → FailsBy fault now new → FaultsBy (status_of (ending_of fault)) old new
 faults_of Say old now new f r = faults_then false true false old now new f r.faults
@@ -295,15 +302,16 @@ ready_after : (fault : AnswerFault) (new : KeeperView) → UnlessByDisk fault ne
 ready_after Say new r = r
 ready_after Disk new r = tt
 
-pub out_broke : (fault : AnswerFault) (limit most taken : ℕ) (piece : List ℕ) (old now new : KeeperView) (cutter : Seen) (ending : Ending) → Going false limit taken piece old now cutter → taken + length piece ≤ most
-    → (whole : Bool) → (whole ≡ true → EndsHere now.beside) → Breaks whole fault piece now new cutter → ending ≡ ending_of fault → Outcome limit most old new ending
+pub out_broke : (fault : AnswerFault) (limit most taken : ℕ) (piece : List ℕ) (old now new : KeeperView) (cutter : Seen) (ending : Ending) (whole : Bool) → Going false whole limit taken piece old now cutter → taken + length piece ≤ most
+    → (whole ≡ true → EndsHere now.beside) → Breaks whole fault piece now new cutter → ending ≡ ending_of fault → Outcome limit most old new ending
 unfolding broke_then
-out_broke fault limit most taken piece old now new cutter ending s h whole n k e = rw e (record {
+out_broke fault limit most taken piece old now new cutter ending whole s h n k e = rw e (record {
   taken = s.heard ++ piece;
   prefix = rw k.unheard.left s.prefix;
   faults = faults_of fault old now new s.faults k.cause;
   fixed = k.unheard.fixed ∙ s.fixed;
-  because = because_of fault most (s.heard ++ piece) old new (omega (arith, length-append s.heard piece, s.count, h));
+  because = because_of fault most (s.heard ++ piece) old new (omega (arith, length-append s.heard piece, s.count, h))
+      (record { ended = whole; told = k.unheard.ends ∙ s.end; here = λ x. subst IsNothing (sym k.unheard.left) (n x) });
   ready = ready_after fault new k.ready;
   course = λ was w.
       let x : SoFar limit s.heard piece was old now cutter = s.going was w in
@@ -316,14 +324,14 @@ out_broke fault limit most taken piece old now new cutter ending s h whole n k e
       (λ h a. asked_turns old.beside.left limit was (s.heard ++ piece) (x.served.served.turns ++ b.turns) (b.last ∷ []) h (asked_turns old.beside.left limit was (s.heard ++ piece) x.served.served.turns b.turns h a))));
 })
 
-out_done : (limit most taken : ℕ) (old now new : KeeperView) (cutter : Seen) → (new.ready → IsDurable new) → Going false limit taken [] old now cutter → taken ≤ most → EndsHere now.beside → ServesEnd now new cutter → Outcome limit most old new Done
+out_done : (limit most taken : ℕ) (old now new : KeeperView) (cutter : Seen) → (new.ready → IsDurable new) → Going false true limit taken [] old now cutter → taken ≤ most → EndsHere now.beside → ServesEnd now new cutter → Outcome limit most old new Done
 unfolding served_on served_as
 out_done limit most taken old now new cutter settled s h n k = record {
   taken = s.heard;
   prefix = rw k.unheard.left (rw (append-nil s.heard) at s.prefix);
   faults = faults_then false false false old now new s.faults k.faults;
   fixed = k.unheard.fixed ∙ s.fixed;
-  because = (rw s.count h, subst IsNothing (sym k.unheard.left) n);
+  because = (rw s.count h, subst IsNothing (sym k.unheard.left) n, k.unheard.ends ∙ s.end);
   ready = k.ready;
   course = λ was w.
       let x : SoFar limit s.heard [] was old now cutter = s.going was w in
@@ -338,26 +346,26 @@ out_done limit most taken old now new cutter settled s h n k = record {
       (λ e. e);
 }
 
-pub out_closed : (ending : Ending) (limit most taken : ℕ) (old mid now new : KeeperView) (cutter : Seen) → (new.ready → IsDurable new) → Going false limit taken [] old mid cutter → Heard false [] mid now → taken ≤ most → EndsHere now.beside
+pub out_closed : (ending : Ending) (limit most taken : ℕ) (old mid now new : KeeperView) (cutter : Seen) → (new.ready → IsDurable new) → Going false false limit taken [] old mid cutter → Heard false true [] mid now → taken ≤ most → EndsHere now.beside
     → EndsRun ending now new cutter → Outcome limit most old new ending
-out_closed Done limit most taken old mid now new cutter settled s h t n k = out_done limit most taken old now new cutter settled (going_heard false limit taken [] old mid now cutter s h) t n k
+out_closed Done limit most taken old mid now new cutter settled s h t n k = out_done limit most taken old now new cutter settled (going_heard false true limit taken [] old mid now cutter s h) t n k
 out_closed HearFault limit most taken old mid now new cutter settled s h t n k = absurd k
 out_closed SayFault limit most taken old mid now new cutter settled s h t n k =
-    out_broke Say limit most taken [] old now new cutter SayFault (going_heard false limit taken [] old mid now cutter s h) (omega arith) true (λ e. n) k refl
+    out_broke Say limit most taken [] old now new cutter SayFault true (going_heard false true limit taken [] old mid now cutter s h) (omega arith) (λ e. n) k refl
 out_closed NoMemory limit most taken old mid now new cutter settled s h t n k = absurd k
 out_closed DiskFault limit most taken old mid now new cutter settled s h t n k =
-    out_broke Disk limit most taken [] old now new cutter DiskFault (going_heard false limit taken [] old mid now cutter s h) (omega arith) true (λ e. n) k refl
+    out_broke Disk limit most taken [] old now new cutter DiskFault true (going_heard false true limit taken [] old mid now cutter s h) (omega arith) (λ e. n) k refl
 out_closed PastLimit limit most taken old mid now new cutter settled s h t n k = absurd k
 
-pub out_past : (limit most taken byte : ℕ) (old mid now : KeeperView) (cutter : Seen) → (now.ready → IsDurable now) → Going false limit taken [] old mid cutter → Heard false (byte ∷ []) mid now → taken ≡ most → Outcome limit most old now PastLimit
+pub out_past : (limit most taken byte : ℕ) (old mid now : KeeperView) (cutter : Seen) → (now.ready → IsDurable now) → Going false false limit taken [] old mid cutter → Heard false false (byte ∷ []) mid now → taken ≡ most → Outcome limit most old now PastLimit
 out_past limit most taken byte old mid now cutter settled before k h =
-    let s : Going false limit taken (byte ∷ []) old now cutter = going_heard false limit taken (byte ∷ []) old mid now cutter before k in
+    let s : Going false false limit taken (byte ∷ []) old now cutter = going_heard false false limit taken (byte ∷ []) old mid now cutter before k in
     record {
       taken = s.heard ++ byte ∷ [];
       prefix = s.prefix;
       faults = s.faults;
       fixed = s.fixed;
-      because = omega (arith, length-append s.heard (byte ∷ []), s.count);
+      because = (omega (arith, length-append s.heard (byte ∷ []), s.count), s.end);
       ready = s.ready;
       course = λ was w.
           let x : SoFar limit s.heard (byte ∷ []) was old now cutter = s.going was w in
@@ -369,11 +377,11 @@ out_past limit most taken byte old mid now cutter settled before k h =
 -- how many bytes were taken, by the ending
 past_taken : (ending : Ending) (most : ℕ) (taken : List ℕ) (old new : KeeperView) → Because most taken old new ending → (status_of ending ≡ 8) ↔ (length taken ≡ suc most)
 past_taken Done most taken old new b = (λ e. absurd (omega arith), λ e. absurd (omega (arith, b.0)))
-past_taken HearFault most taken old new b = (λ e. absurd (omega arith), λ e. absurd (omega (arith, b)))
-past_taken SayFault most taken old new b = (λ e. absurd (omega arith), λ e. absurd (omega (arith, b)))
+past_taken HearFault most taken old new b = (λ e. absurd (omega arith), λ e. absurd (omega (arith, b.0)))
+past_taken SayFault most taken old new b = (λ e. absurd (omega arith), λ e. absurd (omega (arith, b.0)))
 past_taken NoMemory most taken old new b = (λ e. absurd (omega arith), λ e. absurd (omega (arith, ap length b.0)))
-past_taken DiskFault most taken old new b = (λ e. absurd (omega arith), λ e. absurd (omega (arith, b)))
-past_taken PastLimit most taken old new b = (λ e. b, λ e. refl)
+past_taken DiskFault most taken old new b = (λ e. absurd (omega arith), λ e. absurd (omega (arith, b.0)))
+past_taken PastLimit most taken old new b = (λ e. b.0, λ e. refl)
 
 -- what was taken, where the script is told
 taken_told : (taken other left : List ℕ) → Some (taken ++ left) ≡ Some (other ++ left) → length taken ≡ length other
@@ -386,4 +394,26 @@ tells_past ending limit most old new o = record {
   tells = λ taken left before after.
       let f : Some (taken ++ left) ≡ Some (o.taken ++ left) = sym before ∙ o.prefix ∙ ap (with_prefix o.taken) after in
       rw (taken_told taken o.taken left f) (past_taken ending most o.taken old new o.because);
+}
+
+-- without a fault all of a script that isn't too long is served, unless there is no memory
+taken_within : (taken : List ℕ) (left : Option (List ℕ)) (script : List ℕ) → Some script ≡ with_prefix taken left → length taken ≤ length script
+taken_within taken None script e = cc
+taken_within taken (Some rest) script e =
+    let same : script ≡ taken ++ rest = cc in
+    let size = ap (λ (l : List ℕ). length l) same in
+    omega (arith, size, length-append taken rest)
+
+pub completes_by : (ending : Ending) (limit most : ℕ) (old new : KeeperView) → Outcome limit most old new ending → Completes most (status_of ending) old.beside new.beside (¬ DiskRose old new)
+completes_by Done limit most old new o = record { completes = λ script told short hear say quiet. inl refl }
+completes_by HearFault limit most old new o = record { completes = λ script told short hear say quiet. absurd (hear (rose_raised old.beside.hear_faults new.beside.hear_faults o.faults.hear)) }
+completes_by SayFault limit most old new o = record { completes = λ script told short hear say quiet. absurd (say (rose_raised old.beside.say_faults new.beside.say_faults o.faults.say)) }
+completes_by NoMemory limit most old new o = record { completes = λ script told short hear say quiet. inr refl }
+completes_by DiskFault limit most old new o = record { completes = λ script told short hear say quiet. absurd (quiet (rose_raised old.disk_faults new.disk_faults o.faults.disk)) }
+completes_by PastLimit limit most old new o = record {
+  completes = λ script told short hear say quiet.
+      let within = taken_within o.taken new.beside.left script (sym told ∙ o.prefix) in
+      let long = o.because.0 in
+      let wrong : ⊥ = omega (arith, within, long, short) in
+      absurd wrong;
 }

@@ -171,7 +171,7 @@ finishes_statement old new before text e show answers = record {
       let t : (s : List ℕ) × (first_statement true held ≡ Some (s, [])) = ended_text limit before held h e in
       let one : AnswersPiece limit (statement t.0) old new = answers limit t.0 (show limit held t.0 h t.1) in
       let a : (now : World) × Shows new now × Answered limit old.fixed.limit (statement t.0) was now old new = one.answers was w in
-      (a.0, a.1, served_last limit old.fixed.limit held t.0 was a.0 old new t.1 a.2 one.commits);
+      (a.0, a.1, served_last limit old.fixed.limit held t.0 was a.0 old new t.1 a.1.stands a.2 one.commits);
 }
 
 pub breaks_last : (fault : AnswerFault) (old new : KeeperView) (before : Seen) (text : Option (Bor (List ℕ))) → is_some before.stop ≡ true → ShowsEnded text before → BreaksOffText statement fault text old new

@@ -13,10 +13,11 @@ use Rattle.ct_keep.specs.KeeperViews.{KeeperView, Counts, AtMostOneCommit}
 use Rattle.st_cut.specs.Cut.{first_statement}
 use Rattle.st_cut.specs.Seen.{Seen, StandsOpen}
 use Rattle.st_cut.proofs.Cuts.{cuts_go_on, open_newline}
-use Rattle.db_state.specs.States.{StoreState}
+use Rattle.db_state.specs.States.{StoreState, StandsForState}
+use Rattle.db_state.specs.laws.Giving.{keeps_itself}
 use Rattle.db_state.specs.Effects.{state_by, reply_by}
 use Rattle.db_engine.specs.Steps.{rest_step}
-use Rattle.db_engine.specs.Runs.{Piece, statement, rest_piece, Step, Turn, turn_by, pieces, state_after, transcript, state_after-append, transcript-append, allowed-append, AllAllowed, Ran}
+use Rattle.db_engine.specs.Runs.{Piece, statement, rest_piece, Step, Turn, turn_by, pieces, state_after, transcript, state_after-append, transcript-append, allowed-append, obey-append, AllAllowed, AllObeyLimit, Ran}
 use Rattle.db_console.specs.Worlds.{HasPieces, World, LeavesState, IsMoment, Leads, Served, ServedTo, Answered, CommitsWithin, CommitsFor, statement_count}
 
 -- ---- turns
@@ -28,10 +29,14 @@ ran_then limit old mid new ts us a b r s = record {
 }
 
 pub leads_none : (limit store : ℕ) (world : World) → Leads limit store world [] world
-leads_none limit store world = record { said = []; run = record { state = refl; says = refl }; told = sym (with_suffix-nil world.said); allowed = tt }
+leads_none limit store world = record { said = []; run = record { state = refl; says = refl }; told = sym (with_suffix-nil world.said); allowed = tt; limited = refl }
 
 pub allowed_then : (limit store : ℕ) (old mid : World) (ts us : List Turn) → Leads limit store old ts mid → AllAllowed limit store mid.state us → AllAllowed limit store old.state (ts ++ us)
 allowed_then limit store old mid ts us a h = allowed-append limit store old.state ts us a.allowed (subst (λ (m : StoreState). AllAllowed limit store m us) a.run.state h)
+
+pub obey_then : (limit store : ℕ) (old mid : World) (ts us : List Turn) (last : Content) → Leads limit store old ts mid → AllObeyLimit limit store mid.state us mid.content last → AllObeyLimit limit store old.state (ts ++ us) old.content last
+obey_then limit store old mid ts us last a h =
+    obey-append limit store old.state ts us old.content mid.content last a.limited (subst (λ (m : StoreState). AllObeyLimit limit store m us mid.content last) a.run.state h)
 
 pub leads_then : (limit store : ℕ) (old mid new : World) (ts us : List Turn) → Leads limit store old ts mid → Leads limit store mid us new → Leads limit store old (ts ++ us) new
 leads_then limit store old mid new ts us a b = record {
@@ -39,6 +44,7 @@ leads_then limit store old mid new ts us a b = record {
   run = ran_then limit old.state mid.state new.state ts us a.said b.said a.run b.run;
   told = b.told ∙ rw a.told (with_suffix_twice old.said a.said b.said);
   allowed = allowed_then limit store old mid ts us a b.allowed;
+  limited = obey_then limit store old mid ts us new.content a b.limited;
 }
 
 -- ---- moments
@@ -79,10 +85,13 @@ statement_count-append : (ts us : List Turn) → statement_count (ts ++ us) ≡ 
 statement_count-append ts us = sum_by-append (λ (t : Turn). cond t.piece.is_ended 1 0) ts us
 
 pub commits_then : (ts us : List Turn) (a b c : Counts) → CommitsWithin ts a b → CommitsWithin us b c → CommitsWithin (ts ++ us) a c
-commits_then ts us a b c first second = omega (arith, first, second, statement_count-append ts us)
+commits_then ts us a b c first second =
+    let both = statement_count-append ts us in
+    (omega (arith, first.0, second.0, both), omega (arith, first.1, second.1, both))
 
-at_most_one_more : (old new : Counts) → AtMostOneCommit old new → new.commits ≤ old.commits + 1
-at_most_one_more old new once = ⊎_elim (λ same. omega (arith, same)) (λ one. omega (arith, one)) once
+at_most_one_more : (old new : Counts) → AtMostOneCommit old new → (new.commits ≤ old.commits + 1) × (new.syncs ≤ old.syncs + 4)
+at_most_one_more old new once =
+    ⊎_elim (λ same. let count = same.0 in let syncs = same.1 in (omega (arith, count), omega (arith, syncs))) (λ one. let count = one.0 in (omega (arith, count), one.1)) once
 
 -- those of one piece
 pub commits_turn : (t : Turn) (old new : Counts) → CommitsFor t.piece old new → CommitsWithin (t ∷ []) old new
@@ -90,7 +99,7 @@ commits_turn t old new c = by_kind t.piece.is_ended refl
   where
     by_kind : (ended : Bool) → t.piece.is_ended ≡ ended → CommitsWithin (t ∷ []) old new
     by_kind true is = rw is (at_most_one_more old new c.once)
-    by_kind false is = rw is (omega (arith, c.none is))
+    by_kind false is = let none = c.none is in rw is (omega (arith, none.0), omega (arith, none.1))
 
 -- ---- pieces
 
@@ -153,7 +162,7 @@ served_open limit store held bytes world k cutter h = record {
     cut = record { statements = []; cut = (h.opened, refl); are = refl };
     leads = leads_none limit store world;
     moments = passes_none k.time _;
-    commits = omega arith;
+    commits = (omega arith, omega arith);
   };
   stands = h;
 }
@@ -199,25 +208,26 @@ empty_state_by : (limit : ℕ) (m : StoreState) → state_by m (rest_step limit 
 unfolding chars is_utf8 encode
 empty_state_by limit m = rw (zero_within limit) refl
 
-empty_rest : (limit store : ℕ) (world : World) → Leads limit store world (turn_by (rest_piece []) Step ∷ []) world
-empty_rest limit store world = record {
+empty_rest : (limit store : ℕ) (world : World) → StandsForState world.content world.state → Leads limit store world (turn_by (rest_piece []) Step ∷ []) world
+empty_rest limit store world stands = record {
   said = [];
   run = record { state = sym (empty_state_by limit world.state); says = sym (ap (λ (xs : List ℕ). xs ++ []) (empty_reply limit world.state)) };
   told = sym (with_suffix-nil world.said);
   allowed = (tt, tt);
+  limited = (world.content, (subst (StandsForState world.content) (sym (empty_state_by limit world.state)) stands, keeps_itself store world.content), refl);
 }
 
-pub served_last : (limit store : ℕ) (held text : List ℕ) (old new : World) (t u : KeeperView) → first_statement true held ≡ Some (text, [])
+pub served_last : (limit store : ℕ) (held text : List ℕ) (old new : World) (t u : KeeperView) → first_statement true held ≡ Some (text, []) → StandsForState new.content new.state
     → Answered limit store (statement text) old new t u → CommitsFor (statement text) t.counts u.counts → Served limit store true held [] old new t u
-served_last limit store held text old new t u e a c = record {
+served_last limit store held text old new t u e stands a c = record {
   turns = turn_by (statement text) a.answer ∷ turn_by (rest_piece []) Step ∷ [];
   rest = [];
   cut = ended_piece held text e;
-  leads = leads_then limit store old new new (turn_by (statement text) a.answer ∷ []) (turn_by (rest_piece []) Step ∷ []) a.leads (empty_rest limit store new);
+  leads = leads_then limit store old new new (turn_by (statement text) a.answer ∷ []) (turn_by (rest_piece []) Step ∷ []) a.leads (empty_rest limit store new stands);
   moments = passes_more t.time u.time _ _ a.moments (moment_first limit old (turn_by (statement text) a.answer ∷ []) (turn_by (rest_piece []) Step ∷ []));
   commits =
       commits_then (turn_by (statement text) a.answer ∷ []) (turn_by (rest_piece []) Step ∷ []) t.counts u.counts u.counts
-      (commits_turn (turn_by (statement text) a.answer) t.counts u.counts c) (omega arith);
+      (commits_turn (turn_by (statement text) a.answer) t.counts u.counts c) (omega arith, omega arith);
 }
 
 pub served_rest : (limit store : ℕ) (held : List ℕ) (old new : World) (t u : KeeperView) → first_statement true held ≡ None

@@ -1,5 +1,5 @@
 -- How a run over the store of a site ends, by its status.
-use Rattle.std.specs.Prelude.{ℕ, ◌≡◌, ◌==◌, ◌⊎◌, List, Some, refl}
+use Rattle.std.specs.Prelude.{ℕ, ◌≡◌, ◌==◌, ◌+◌, ◌≤◌, ◌⊎◌, List, Some, refl}
 use base.Fml.{GName}
 use Rattle.ct_base.specs.Causes.{Rose}
 use Rattle.ct_site.specs.Disks.{DiskView, IsSettled, Leaves}
@@ -9,7 +9,7 @@ use Rattle.ct_keep.specs.KeeperViews.{KeeperView, Counts, counted}
 use Rattle.ct_keep.specs.KeeperStates.{no_counts}
 use Rattle.pg_journal.specs.declared.faults.LoadFault.{LoadFault}
 use Rattle.pg_journal.specs.declared.faults.LoadFault.TheVariants.{Memory, Disk, NotAStore}
-use Rattle.pg_journal.specs.Recovered.{Alike, HasNoOpenGate, IsOnlyRead}
+use Rattle.pg_journal.specs.Recovered.{Alike, HasNoOpenGate, IsOnlyRead, IsStore, IsUnborn}
 use Rattle.pg_heap.specs.Heaps.{HeapState}
 use Rattle.pg_map.specs.Holding.{Recovers}
 use Rattle.pg_keeper.specs.Loading.{HasNoStore, StaysAs}
@@ -30,16 +30,19 @@ pub record SiteFaultsBy (status : ℕ) (old new : DiskView) : Type 0 where
 abbrev pub store_view : DiskView → HeapState → ℕ → Counts → GName → KeeperView
 store_view disk heap limit counts name = paged_view disk heap IsStoreEntry limit counts name
 
--- The script was served over a heap, which then was this one. Its content may weigh `store`.
-pub record ServedHeap (limit most store : ℕ) (heap : HeapState) (old new : DiskView) (ending : Ending) : Type 0 where
+-- The script was served over a heap, which then was this one. Its content may weigh `store`. To load it the disk was synced so often at most;
+-- since then it was synced as the outcome says, which counts from there.
+pub record ServedHeap (limit most store loading : ℕ) (heap : HeapState) (old new : DiskView) (ending : Ending) : Type 0 where
+  pub opened : ℕ
+  pub loads : opened ≤ old.syncs + loading
   pub name : GName
   pub later : HeapState
   pub counts : Counts
-  pub outcome : Outcome limit most (store_view old heap store no_counts name) (store_view new later store counts name) ending
+  pub outcome : Outcome limit most (store_view (record old { syncs = opened }) heap store no_counts name) (store_view new later store counts name) ending
 
 -- the same, within the limits of a run, by its status
-abbrev pub ServesHeap : ℕ → HeapState → DiskView → DiskView → ℕ → Type 0
-ServesHeap store heap old new status = (ending : Ending) × (status ≡ status_of ending) × ServedHeap statement_limit script_limit store heap old new ending
+abbrev pub ServesHeap : ℕ → ℕ → HeapState → DiskView → DiskView → ℕ → Type 0
+ServesHeap store loading heap old new status = (ending : Ending) × (status ≡ status_of ending) × ServedHeap statement_limit script_limit store loading heap old new ending
 
 -- ---- loading
 
@@ -63,11 +66,11 @@ FailsToLoad image old new status = (fault : LoadFault) × (status ≡ status_of_
 
 -- ---- a run
 
--- What a run did with this status over an image that recovers to the map m. It served the script over a heap that holds m; or there was
--- no memory to load it, or the disk failed then.
+-- What a run did with this status over an image that recovers to the map m. It served the script over a heap that holds m, which it loaded
+-- with at most four syncs; or there was no memory to load it, or the disk failed then.
 abbrev pub RanOver : ℕ → List ℕ → Content → DiskView → DiskView → ℕ → Type 0
 RanOver store image m old new status =
-    ((heap : HeapState) × (heap.held ≡ m) × ServesHeap store heap old new status)
+    ((heap : HeapState) × (heap.held ≡ m) × ServesHeap store 4 heap old new status)
     ⊎ (((status ≡ 5) ⊎ (status ≡ 6)) × FailsToLoad image old new status)
 
 -- what holds of each image that recovers to a map, where nothing was pending
@@ -86,9 +89,11 @@ abbrev pub RefusesBy : List (List ℕ) → DiskView → DiskView → ℕ → Typ
 RefusesBy arguments old new status = OverForeign old (λ image. (file : List ℕ) (limit : ℕ) → AsksFor arguments file limit → FailsToLoad image old new status)
 
 -- By its status a run tells of the file, whatever was pending on it: 7 comes of no store alone, and of no store nothing but 5, 6 and 7.
+-- Of a file that is neither unborn nor a store by its mark and its length nothing comes but 6 and 7: no memory is wanted for it.
 pub record TellsOfStore (image : List ℕ) (status : ℕ) : Type 0 where
   pub refused : status ≡ 7 → HasNoStore IsStoreEntry image
   pub foreign : HasNoStore IsStoreEntry image → (status ≡ 5) ⊎ (status ≡ 6) ⊎ (status ≡ 7)
+  pub unmarked : (IsUnborn image ⊎ IsStore image → ⊥) → (status ≡ 6) ⊎ (status ≡ 7)
 
 -- of the image that a read gave, where it is told
 abbrev pub TellsBy : DiskView → ℕ → Type 0

@@ -2,7 +2,7 @@
 use Rattle.std.specs.Prelude.{ℕ, suc, ◌≡◌, ◌≢◌, ◌≤◌, ◌==◌, ◌⊎◌, ◌↔◌, Bool, true, false, List, [], ◌∷◌, ◌++◌, length, Option, Some, codes, refl, None}
 use Rattle.std.specs.Str.{chars, is_utf8}
 use lib.Utf8.{encode}
-use Rattle.std.proofs.Common.{lit<, arith}
+use Rattle.std.proofs.Common.{lit<, inr, arith}
 use Rattle.std.specs.FinMap.{empty}
 use Rattle.ct_base.specs.Told.{with_prefix, with_suffix}
 use Rattle.ct_base.specs.Moments.{Passes}
@@ -13,10 +13,10 @@ use Rattle.ct_keep.specs.InMemory.{in_memory, settled_in_memory}
 use Rattle.ct_keep.specs.KeeperStates.{KeeperState, no_counts, mem_view}
 use Rattle.st_cut.specs.Seen.{Seen}
 use Rattle.db_state.specs.laws.Empty.{empty_stands}
-use Rattle.db_engine.specs.Runs.{Piece, Turn, pieces, state_after, transcript, AllAllowed, statement, rest_piece, Step, turn_by}
+use Rattle.db_engine.specs.Runs.{Piece, Turn, pieces, state_after, transcript, AllAllowed, AllObeyLimit, statement, rest_piece, Step, turn_by}
 use Rattle.db_console.specs.Worlds.{World, HasPieces, LeavesState, IsMoment, IsPartOf, IsPrefixOf, CommitsWithin, world_after, world}
 use Rattle.db_console.specs.Asking.{AskedThen, Calls}
-use Rattle.db_console.specs.Views.{Shows, EndsHere, HearRose, SayRose, FaultsAre, Breaks, ServesEnd}
+use Rattle.db_console.specs.Views.{Shows, EndsHere, ToldEnd, ToldEndOnce, HearRose, SayRose, FaultsAre, Breaks, ServesEnd}
 use Rattle.db_console.specs.declared.endings.Ending.{Ending}
 use Rattle.db_console.specs.declared.endings.Ending.TheVariants.{Done, HearFault, SayFault, NoMemory, DiskFault, PastLimit}
 use Rattle.db_console.specs.declared.saying.AnswerFault.{AnswerFault}
@@ -44,11 +44,13 @@ EndsRun ending old new before = ⊥
 -- ---- what was answered, and what was said of it
 
 -- The turns are those of a script, whole or as far as it has come: each piece of it was answered, and each reply was said.
--- A crash now leaves the state after them.
-pub record SaidAll (limit : ℕ) (whole : Bool) (script : List ℕ) (was : World) (turns : List Turn) (new : KeeperView) : Type 0 where
+-- Each of them obeys the limit on the content. A crash now leaves the state after them.
+pub record SaidAll (limit store : ℕ) (whole : Bool) (script : List ℕ) (was : World) (turns : List Turn) (new : KeeperView) : Type 0 where
   pub rest : List ℕ
   pub cut : HasPieces whole script (pieces turns) rest
-  pub shows : Shows new (world_after limit was turns)
+  pub content : Content
+  pub limited : AllObeyLimit limit store was.state turns was.content content
+  pub shows : Shows new (world_after limit was turns content)
   pub settled : IsDurable new
 
 -- The turns are those of the first pieces of a script, and the answer of the last one broke off.
@@ -61,45 +63,52 @@ pub record AreFirst (whole : Bool) (script : List ℕ) (turns done : List Turn) 
 
 -- The reply to the last one was said in part: the bytes said are a prefix of all that the turns say, and not all of it,
 -- and begin with all that the turns before the last one say. Where it is told what was said before and how many bytes may
--- be said in all, all that the turns say would have been too many. A crash now leaves the state after all of them.
-pub record SaidInPart (limit : ℕ) (whole : Bool) (script : List ℕ) (was : World) (turns : List Turn) (new : KeeperView) : Type 0 where
+-- be said in all, all that the turns say would have been too many. Each turn obeys the limit on the content. A crash now leaves the
+-- state after all of them.
+pub record SaidInPart (limit store : ℕ) (whole : Bool) (script : List ℕ) (was : World) (turns : List Turn) (new : KeeperView) : Type 0 where
   pub done : List Turn
   pub first : AreFirst whole script turns done
   pub said : List ℕ
-  pub shows : Shows new (record { state = state_after limit was.state turns; said = with_suffix was.said said })
+  pub content : Content
+  pub limited : AllObeyLimit limit store was.state turns was.content content
+  pub shows : Shows new (record { content = content; state = state_after limit was.state turns; said = with_suffix was.said said })
   pub part : IsPartOf said (transcript limit was.state turns)
   pub prefix : IsPrefixOf (transcript limit was.state done) said
   pub passes : PassesRoom new.fixed.say_room was.said (transcript limit was.state turns)
   pub settled : IsDurable new
 
--- The disk failed in the last one: all was said that the turns before it say, and a crash leaves the state before it or after it.
-pub record FailedInLast (limit : ℕ) (whole : Bool) (script : List ℕ) (was : World) (turns : List Turn) (new : KeeperView) : Type 0 where
+-- The disk failed in the last one: all was said that the turns before it say, each of which obeys the limit on the content, and a crash
+-- leaves the state before it or after it.
+pub record FailedInLast (limit store : ℕ) (whole : Bool) (script : List ℕ) (was : World) (turns : List Turn) (new : KeeperView) : Type 0 where
   pub done : List Turn
+  pub content : Content
+  pub limited : AllObeyLimit limit store was.state done was.content content
   pub first : AreFirst whole script turns done
   pub told : new.beside.said ≡ with_suffix was.said (transcript limit was.state done)
   pub leaves : (left : Option Content) (said : List ℕ) → new.now left said → LeavesState left (state_after limit was.state done) ⊎ LeavesState left (state_after limit was.state turns)
 
--- which turns were answered and what was said of them, by how the run ended and by the bytes taken from the script
-abbrev pub Ends : ℕ → ℕ → List ℕ → World → List Turn → KeeperView → Ending → Type 0
+-- Which turns were answered and what was said of them, by how the run ended and by the bytes taken from the script. `store` is how much
+-- the content may weigh.
+abbrev pub Ends : ℕ → ℕ → ℕ → List ℕ → World → List Turn → KeeperView → Ending → Type 0
 -- each statement of the script, and the rest
-Ends limit most taken was turns new Done = SaidAll limit true taken was turns new
+Ends limit store most taken was turns new Done = SaidAll limit store true taken was turns new
 -- the statements that a newline ends in the bytes taken
-Ends limit most taken was turns new HearFault = SaidAll limit false taken was turns new
+Ends limit store most taken was turns new HearFault = SaidAll limit store false taken was turns new
 -- up to one whose reply was said in part; the end of the bytes taken counts as the script's end only where nothing is left
-Ends limit most taken was turns new SayFault = (whole : Bool) × (whole ≡ true → EndsHere new.beside) × SaidInPart limit whole taken was turns new
+Ends limit store most taken was turns new SayFault = (whole : Bool) × (whole ≡ true → EndsHere new.beside) × SaidInPart limit store whole taken was turns new
 -- nothing
-Ends limit most taken was turns new NoMemory = (turns ≡ []) × Shows new was × IsDurable new
+Ends limit store most taken was turns new NoMemory = (turns ≡ []) × Shows new was × IsDurable new
 -- up to one in which the disk failed
-Ends limit most taken was turns new DiskFault = (whole : Bool) × (whole ≡ true → EndsHere new.beside) × FailedInLast limit whole taken was turns new
+Ends limit store most taken was turns new DiskFault = (whole : Bool) × (whole ≡ true → EndsHere new.beside) × FailedInLast limit store whole taken was turns new
 -- the statements that a newline ends in the first `most` bytes
-Ends limit most taken was turns new PastLimit = (first : List ℕ) × (more : ℕ) × (taken ≡ first ++ more ∷ []) × (length first ≡ most) × SaidAll limit false first was turns new
+Ends limit store most taken was turns new PastLimit = (first : List ℕ) × (more : ℕ) × (taken ≡ first ++ more ∷ []) × (length first ≡ most) × SaidAll limit store false first was turns new
 
 -- The answers of a run. At each moment since its start, and now, a crash leaves the state after some of the first turns,
 -- and what was said by then is a prefix of what these say. There were at most as many commits as statements among the turns.
 pub record Course (limit most : ℕ) (taken : List ℕ) (was : World) (old new : KeeperView) (ending : Ending) : Type 0 where
   pub turns : List Turn
   pub allowed : AllAllowed limit old.fixed.limit was.state turns
-  pub ends : Ends limit most taken was turns new ending
+  pub ends : Ends limit old.fixed.limit most taken was turns new ending
   pub moments : Passes old.time new.time (IsMoment limit was turns)
   pub now : (left : Option Content) (said : List ℕ) → new.now left said → IsMoment limit was turns left said
   pub commits : CommitsWithin turns old.counts new.counts
@@ -109,14 +118,15 @@ pub record Course (limit most : ℕ) (taken : List ℕ) (was : World) (old new :
 -- ---- why it ended so
 
 abbrev pub Because : ℕ → List ℕ → KeeperView → KeeperView → Ending → Type 0
--- `hear` answered that the script ends
-Because most taken old new Done = (length taken ≤ most) × EndsHere new.beside
-Because most taken old new HearFault = length taken ≤ most
-Because most taken old new SayFault = length taken ≤ most
+-- `hear` answered that the script ends, and wasn't called again
+Because most taken old new Done = (length taken ≤ most) × EndsHere new.beside × ToldEnd true old.beside new.beside
+-- it had not answered so
+Because most taken old new HearFault = (length taken ≤ most) × ToldEnd false old.beside new.beside
+Because most taken old new SayFault = (length taken ≤ most) × ToldEndOnce old.beside new.beside
 -- nothing was heard or said
 Because most taken old new NoMemory = (taken ≡ []) × (new.beside ≡ old.beside)
-Because most taken old new DiskFault = length taken ≤ most
-Because most taken old new PastLimit = length taken ≡ suc most
+Because most taken old new DiskFault = (length taken ≤ most) × ToldEndOnce old.beside new.beside
+Because most taken old new PastLimit = (length taken ≡ suc most) × ToldEnd false old.beside new.beside
 
 -- The counts of faults after a run with this status: that of hearing rose exactly with 3, that of saying with 4, that of the disk with 6.
 abbrev pub FaultsBy : ℕ → KeeperView → KeeperView → Type 0
@@ -168,9 +178,9 @@ abbrev bad : List ℕ → Turn
 bad text = turn_by (statement text) Step
 
 abbrev telling : List ℕ → List ℕ → KeeperView
-telling left said = in_memory empty 0 no_counts (record { left = Some left; said = Some said; hearings = None; hear_faults = 0; say_faults = 0 }) (Some 40)
+telling left said = in_memory empty 0 no_counts (record { left = Some left; said = Some said; hearings = None; ends = 0; hear_faults = 0; say_faults = 0 }) (Some 40)
 
-ten_bytes : Ends 65536 10 (codes "SELEC;\nSELE") (world []) (bad (codes "SELEC") ∷ []) (telling (codes "C;\n") (codes "E10: statement not understood\n")) PastLimit
+ten_bytes : Ends 65536 0 10 (codes "SELEC;\nSELE") (world []) (bad (codes "SELEC") ∷ []) (telling (codes "C;\n") (codes "E10: statement not understood\n")) PastLimit
 unfolding chars is_utf8 encode
 ten_bytes = (
   codes "SELEC;\nSEL",
@@ -180,22 +190,26 @@ ten_bytes = (
   record {
     rest = codes "SEL";
     cut = record { statements = codes "SELEC" ∷ []; cut = (_, refl, (refl, refl)); are = refl };
-    shows = record { said = refl; content = empty; holds = refl; stands = empty_stands };
+    content = empty;
+    limited = (empty, (empty_stands, inr (omega arith)), refl);
+    shows = record { said = refl; holds = refl; stands = empty_stands };
     settled = settled_in_memory empty 0 no_counts _ _;
   },
 )
 
 -- hearing failed after a whole statement, which no newline had ended yet
-not_ended : Ends 65536 10 (codes "SELEC;") (world []) [] (telling (codes "\n") []) HearFault
+not_ended : Ends 65536 0 10 (codes "SELEC;") (world []) [] (telling (codes "\n") []) HearFault
 not_ended = record {
   rest = codes "SELEC;";
   cut = record { statements = []; cut = (refl, refl); are = refl };
-  shows = record { said = refl; content = empty; holds = refl; stands = empty_stands };
+  content = empty;
+  limited = refl;
+  shows = record { said = refl; holds = refl; stands = empty_stands };
   settled = settled_in_memory empty 0 no_counts _ _;
 }
 
 -- the first reply was said, and a prefix of the second one, since both have 54 bytes
-in_part : SaidInPart 4 true (codes "a;\nSELEC;") (world []) (bad (codes "a") ∷ bad (codes "SELEC") ∷ []) (telling [] (codes "E10: statement not understood\nE1"))
+in_part : SaidInPart 4 0 true (codes "a;\nSELEC;") (world []) (bad (codes "a") ∷ bad (codes "SELEC") ∷ []) (telling [] (codes "E10: statement not understood\nE1"))
 unfolding chars is_utf8 encode
 in_part = record {
   done = bad (codes "a") ∷ [];
@@ -207,7 +221,9 @@ in_part = record {
     cut = record { statements = codes "a" ∷ codes "SELEC" ∷ []; cut = (_, refl, (_, refl, (refl, refl))); are = refl };
   };
   said = codes "E10: statement not understood\nE1";
-  shows = record { said = refl; content = empty; holds = refl; stands = empty_stands };
+  content = empty;
+  limited = (empty, (empty_stands, inr (omega arith)), (empty, (empty_stands, inr (omega arith)), refl));
+  shows = record { said = refl; holds = refl; stands = empty_stands };
   part = record { rest = codes "9: statement too long\n"; is = refl; more = lit< tt };
   prefix = record { rest = codes "E1"; is = refl };
   passes = record { passes = λ most said room was. let forty : 40 ≡ most = cc in let nothing : [] ≡ said = cc in rw (← forty, ← nothing) (lit< tt) };

@@ -1,5 +1,5 @@
 -- What the console does to what is known of a keeper.
-use Rattle.std.specs.Prelude.{ℕ, ◌≡◌, ◌⊎◌, Bool, true, false, List, [], ◌∷◌, ◌++◌, Option, Some, refl}
+use Rattle.std.specs.Prelude.{ℕ, ◌≡◌, ◌==◌, ◌⊎◌, Bool, true, false, List, [], ◌∷◌, ◌++◌, Option, Some, Result, Ok, Err, refl}
 use denote.Ref.{Bor}
 use Rattle.ct_base.specs.Causes.{Rose}
 use Rattle.ct_base.specs.Told.{with_suffix, IsNothing, IsSaid}
@@ -9,17 +9,16 @@ use Rattle.ct_keep.specs.Content.{Content}
 use Rattle.ct_keep.specs.KeeperViews.{KeeperView, TakesAsBefore, KeeperHears, KeeperSays, PassesRoom, IsDurable, counted}
 use Rattle.st_cut.specs.Seen.{Seen, StandsOpen, ShowsText}
 use Rattle.db_state.specs.States.{StandsForState}
-use Rattle.db_engine.specs.Runs.{Piece, statement, Answer, Step, Turn, turn_by, turn, pieces, IsAllowed}
+use Rattle.db_engine.specs.Runs.{Piece, statement, Answer, Step, Turn, turn_by, turn, effect_by, pieces, IsAllowed, ObeysLimit}
 use Rattle.db_console.specs.Worlds.{World, HasPieces, LeavesState, IsMoment, Leads, Served, ServedTo, Answered, IsPartOf, CommitsWithin, CommitsFor}
 use Rattle.db_console.specs.declared.saying.AnswerFault.{AnswerFault}
 use Rattle.db_console.specs.declared.saying.AnswerFault.TheVariants.{Say, Disk}
 
--- This is a world that the keeper shows: its content stands for the state, and it tells that so much was said.
+-- This is a world that the keeper shows: it holds the content, which stands for the state, and it tells that so much was said.
 pub record Shows (view : KeeperView) (world : World) : Type 0 where
   pub said : view.beside.said ≡ world.said
-  pub content : Content
-  pub holds : view.content ≡ Some content
-  pub stands : StandsForState content world.state
+  pub holds : view.content ≡ Some world.content
+  pub stands : StandsForState world.content world.state
 
 -- the count of faults of hearing, of saying, or of the disk, rose or stands at its last value
 abbrev pub HearRose : Beside → Beside → Type 0
@@ -35,6 +34,21 @@ DiskRose old new = Rose old.disk_faults new.disk_faults
 abbrev pub EndsHere : Beside → Type 0
 EndsHere beside = IsNothing beside.left
 
+-- `hear` was told the end of the script once more, where this says so, and else not.
+abbrev pub ToldEnd : Bool → Beside → Beside → Type 0
+ToldEnd ended old new = new.ends ≡ counted ended old.ends
+
+-- It was told the end at most once more, and only where nothing is left.
+pub record ToldEndOnce (old new : Beside) : Type 0 where
+  pub ended : Bool
+  pub told : ToldEnd ended old new
+  pub here : ended ≡ true → EndsHere new
+
+-- a call of `hear` with this result was told the end
+abbrev pub is_end : {E : Type 0} → Result ℕ E → Bool
+is_end (Ok count) = count == 0
+is_end (Err fault) = false
+
 -- The counts of faults of hearing, of saying and of the disk: each rose by one, up to 2^64 - 1, where this says so, and is else as it was.
 pub record FaultsAre (of_hear of_say of_disk : Bool) (old new : KeeperView) : Type 0 where
   pub hear : new.beside.hear_faults ≡ counted of_hear old.beside.hear_faults
@@ -45,10 +59,11 @@ pub record FaultsAre (of_hear of_say of_disk : Bool) (old new : KeeperView) : Ty
 abbrev pub NoFault : KeeperView → KeeperView → Type 0
 NoFault old new = FaultsAre false false false old new
 
--- Bytes were heard by one call, which may have failed, and nothing else was done.
-pub record Heard (failed : Bool) (heard : List ℕ) (old new : KeeperView) : Type 0 where
+-- Bytes were heard by one call, which may have failed or been told the end, and nothing else was done.
+pub record Heard (failed ended : Bool) (heard : List ℕ) (old new : KeeperView) : Type 0 where
   pub hears : KeeperHears heard old new
   pub counts : new.beside.hear_faults ≡ counted failed old.beside.hear_faults
+  pub end : ToldEnd ended old.beside new.beside
 
 -- Bytes were said, by any number of calls of which the last one may have failed, and nothing else was done.
 pub record Spoke (failed : Bool) (bytes : List ℕ) (old new : KeeperView) : Type 0 where
@@ -66,6 +81,7 @@ pub record SpokeInPart (bytes : List ℕ) (old new : KeeperView) : Type 0 where
 pub record HearsNothing (old new : KeeperView) : Type 0 where
   pub left : new.beside.left ≡ old.beside.left
   pub hearings : new.beside.hearings ≡ old.beside.hearings
+  pub ends : new.beside.ends ≡ old.beside.ends
   pub well : TakesAsBefore old new
   pub fixed : new.fixed ≡ old.fixed
 
@@ -79,6 +95,7 @@ pub record Replied (limit : ℕ) (piece : Piece) (was : World) (old new : Keeper
   pub content : Content
   pub holds : new.content ≡ Some content
   pub stands : StandsForState content (turn limit was.state (turn_by piece answer)).0
+  pub limited : ObeysLimit old.fixed.limit was.state (effect_by limit was.state piece) answer was.content content
   pub moments : Passes old.time new.time (IsMoment limit was (turn_by piece answer ∷ []))
 
 -- what a crash leaves where the disk failed in a turn: the state before it or after it; and nothing of it was said
@@ -116,12 +133,15 @@ is_disk Disk = true
 pub record FailsBy (fault : AnswerFault) (old new : KeeperView) : Type 0 where
   pub faults : FaultsAre false (is_say fault) (is_disk fault) old new
 
--- The reply of the last turn was said in part, behind what had been said; where the room for that is told, the whole of it would have passed it.
-pub record SaysInPart (limit : ℕ) (was : World) (last : Turn) (new : KeeperView) : Type 0 where
+-- The last turn obeys the limit on the content. Its reply was said in part, behind what had been said; where the room for that is told,
+-- the whole of it would have passed it.
+pub record SaysInPart (limit store : ℕ) (was : World) (last : Turn) (new : KeeperView) : Type 0 where
+  pub content : Content
+  pub limited : ObeysLimit store was.state (effect_by limit was.state last.piece) last.answer was.content content
   pub part : List ℕ
   pub reply : IsPartOf part (turn limit was.state last).1
   pub passes : PassesRoom new.fixed.say_room was.said (turn limit was.state last).1
-  pub shows : Shows new (record { state = (turn limit was.state last).0; said = with_suffix was.said part })
+  pub shows : Shows new (record { content = content; state = (turn limit was.state last).0; said = with_suffix was.said part })
   pub settled : IsDurable new
 
 -- The disk failed in the last turn, and nothing of its reply was said.
@@ -130,16 +150,16 @@ pub record FailsInTurn (limit : ℕ) (was : World) (last : Turn) (new : KeeperVi
   pub now : (left : Option Content) (said : List ℕ) → new.now left said → LeavesEither limit was last left said
 
 -- what is left of a turn whose answer broke off for this fault
-abbrev pub LeavesTurn : AnswerFault → ℕ → World → Turn → KeeperView → Type 0
-LeavesTurn Say limit was last new = SaysInPart limit was last new
-LeavesTurn Disk limit was last new = FailsInTurn limit was last new
+abbrev pub LeavesTurn : AnswerFault → ℕ → ℕ → World → Turn → KeeperView → Type 0
+LeavesTurn Say limit store was last new = SaysInPart limit store was last new
+LeavesTurn Disk limit store was last new = FailsInTurn limit was last new
 
 -- The answer to a piece broke off for this fault.
 pub record BrokeOff (limit : ℕ) (piece : Piece) (fault : AnswerFault) (was : World) (old new : KeeperView) : Type 0 where
   pub answer : Answer
   pub allowed : IsAllowed limit old.fixed.limit was.state piece answer
   pub moments : Passes old.time new.time (IsMoment limit was (turn_by piece answer ∷ []))
-  pub by : LeavesTurn fault limit was (turn_by piece answer) new
+  pub by : LeavesTurn fault limit old.fixed.limit was (turn_by piece answer) new
 
 -- The same, in each world that the keeper showed, with its cause and what it left alone.
 pub record BreaksOff (limit : ℕ) (piece : Piece) (fault : AnswerFault) (old new : KeeperView) : Type 0 where
@@ -185,7 +205,8 @@ pub record Serves (bytes : List ℕ) (old new : KeeperView) (before after : Seen
   pub serves : (limit : ℕ) (held : List ℕ) → StandsOpen limit before held → (was : World) → Shows old was → (now : World) × Shows new now × ServedTo limit old.fixed.limit held bytes was now old new after
 
 -- Where `held` stood open, serving `bytes` answered some pieces of them, and then the answer to the next one broke off.
--- Each moment that came between is one of these turns, and there were at most as many commits as statements among them.
+-- Each moment that came between is one of these turns, and there were at most as many commits as statements among them, and at most four
+-- syncs for each.
 pub record Broke (limit store : ℕ) (whole : Bool) (fault : AnswerFault) (held bytes : List ℕ) (was : World) (old new : KeeperView) : Type 0 where
   pub turns : List Turn
   pub mid : World
@@ -197,7 +218,7 @@ pub record Broke (limit store : ℕ) (whole : Bool) (fault : AnswerFault) (held 
   pub cut : HasPieces whole (held ++ bytes) (pieces turns ++ last.piece ∷ later) rest
   pub moments : Passes old.time new.time (IsMoment limit was (turns ++ last ∷ []))
   pub commits : CommitsWithin (turns ++ last ∷ []) old.counts new.counts
-  pub by : LeavesTurn fault limit mid last new
+  pub by : LeavesTurn fault limit store mid last new
 
 -- Serving bytes broke off for this fault.
 pub record Breaks (whole : Bool) (fault : AnswerFault) (bytes : List ℕ) (old new : KeeperView) (before : Seen) : Type 0 where
@@ -219,3 +240,7 @@ nothing_by_disk = tt
 
 saying_alone : is_say Say ∷ is_disk Say ∷ is_say Disk ∷ is_disk Disk ∷ [] ≡ true ∷ false ∷ false ∷ true ∷ []
 saying_alone = refl
+
+-- a call that heard nothing was told the end, and one that failed was not
+nothing_heard : is_end {E = ℕ} (Ok 0) ∷ is_end {E = ℕ} (Ok 7) ∷ is_end {E = ℕ} (Err 1) ∷ [] ≡ true ∷ false ∷ false ∷ []
+nothing_heard = refl

@@ -1,6 +1,7 @@
 -- What serving some bytes of a script does to the world, and what a crash in between leaves of it.
-use Rattle.std.specs.Prelude.{ℕ, ◌≡◌, ◌≤◌, ◌<◌, ◌+◌, Bool, true, false, List, [], ◌∷◌, ◌++◌, length, map, count_by, codes, Option, Some, refl}
-use Rattle.std.proofs.Common.{arith}
+use Rattle.std.specs.Prelude.{ℕ, ◌≡◌, ◌≤◌, ◌<◌, ◌+◌, ◌*◌, Bool, true, false, List, [], ◌∷◌, ◌++◌, length, map, count_by, codes, Option, Some, refl}
+use Rattle.std.specs.FinMap.{empty}
+use Rattle.std.proofs.Common.{inr, arith}
 use Rattle.std.specs.Str.{chars, is_utf8}
 use Rattle.std.specs.Fmt.{digits}
 use lib.Utf8.{encode}
@@ -15,7 +16,8 @@ use Rattle.ct_keep.specs.KeeperViews.{KeeperView, Counts, AtMostOneCommit}
 use Rattle.st_cut.specs.Cut.{Cuts}
 use Rattle.st_cut.specs.Seen.{Seen, StandsOpen}
 use Rattle.db_state.specs.States.{StoreState, empty_state, StandsForState}
-use Rattle.db_engine.specs.Runs.{Piece, statement, rest_piece, Answer, Step, Turn, turn_by, pieces, state_after, transcript, AllAllowed, Ran}
+use Rattle.db_state.specs.laws.Empty.{empty_stands}
+use Rattle.db_engine.specs.Runs.{Piece, statement, rest_piece, Answer, Step, Turn, turn_by, pieces, state_after, transcript, AllAllowed, AllObeyLimit, Ran}
 
 -- all pieces of these statements, and of the rest where the script has ended
 abbrev pub pieces_of : Bool → List (List ℕ) → List ℕ → List Piece
@@ -28,27 +30,29 @@ pub record HasPieces (whole : Bool) (script : List ℕ) (all : List Piece) (rest
   pub cut : Cuts whole script statements rest
   pub are : all ≡ pieces_of whole statements rest
 
--- What a turn changes: the state, and the bytes said, where they are told.
+-- What a turn changes: the content of the store, the state that it stands for, and the bytes said, where they are told.
 pub record World : Type 0 where
+  pub content : Content
   pub state : StoreState
   pub said : Option (List ℕ)
 
--- the world after these turns, in which all that they say was said
-abbrev pub world_after : ℕ → World → List Turn → World
-world_after limit old turns = record { state = state_after limit old.state turns; said = with_suffix old.said (transcript limit old.state turns) }
+-- the world after these turns, which lead to this content, when all that they say was said
+abbrev pub world_after : ℕ → World → List Turn → Content → World
+world_after limit old turns content = record { content = content; state = state_after limit old.state turns; said = with_suffix old.said (transcript limit old.state turns) }
 
 -- how many of these turns are of statements
 abbrev pub statement_count : List Turn → ℕ
 statement_count turns = count_by (λ (t : Turn). t.piece.is_ended) turns
 
--- Between these counts at most as many commits were called as these turns answer statements; a rest counts for none.
+-- Between these counts at most as many commits were called as these turns answer statements, and for each of these the disk was synced four
+-- times at most; a rest counts for none.
 abbrev pub CommitsWithin : List Turn → Counts → Counts → Type 0
-CommitsWithin turns old new = new.commits ≤ old.commits + statement_count turns
+CommitsWithin turns old new = (new.commits ≤ old.commits + statement_count turns) × (new.syncs ≤ old.syncs + 4 * statement_count turns)
 
--- For a piece at most one commit was called, and none where it is a rest.
+-- For a piece at most one commit was called, which synced the disk four times at most; none was called, and nothing synced, where it is a rest.
 pub record CommitsFor (piece : Piece) (old new : Counts) : Type 0 where
   pub once : AtMostOneCommit old new
-  pub none : piece.is_ended ≡ false → new.commits ≡ old.commits
+  pub none : piece.is_ended ≡ false → (new.commits ≡ old.commits) × (new.syncs ≡ old.syncs)
 
 -- What a crash leaves is a content that stands for this state.
 pub record LeavesState (left : Option Content) (m : StoreState) : Type 0 where
@@ -64,17 +68,18 @@ pub record IsMoment (limit : ℕ) (old : World) (turns : List Turn) (left : Opti
   pub leaves : LeavesState left (state_after limit old.state done)
   pub says : SaysPart old.said (transcript limit old.state done) said
 
--- These turns lead from the old world to the new one, and all that is said in them was said.
+-- These turns lead from the old world to the new one, each obeys the limit on the content, and all that is said in them was said.
 -- `store` is how much the content of the store may weigh.
 pub record Leads (limit store : ℕ) (old : World) (turns : List Turn) (new : World) : Type 0 where
   pub said : List ℕ
   pub run : Ran limit old.state turns new.state said
   pub told : new.said ≡ with_suffix old.said said
   pub allowed : AllAllowed limit store old.state turns
+  pub limited : AllObeyLimit limit store old.state turns old.content new.content
 
 -- Where `held` stood open, serving `bytes` answered each statement that ends in them, and said each reply.
 -- Where they end the script it answered the rest too. Each moment that came between is one of these turns, and there were
--- at most as many commits as statements among them.
+-- at most as many commits as statements among them, and at most four syncs for each.
 pub record Served (limit store : ℕ) (whole : Bool) (held bytes : List ℕ) (old new : World) (before after : KeeperView) : Type 0 where
   pub turns : List Turn
   pub rest : List ℕ
@@ -107,7 +112,7 @@ pub record Answered (limit store : ℕ) (piece : Piece) (old new : World) (befor
 
 -- computed examples: a script of one statement and a rest that is a comment
 abbrev pub world : List ℕ → World
-world said = record { state = empty_state; said = Some said }
+world said = record { content = empty; state = empty_state; said = Some said }
 
 half_a_word : (k : KeeperView) → Served 65536 0 true [] (codes "SELEC;\n-- note") (world []) (world (codes "E10: statement not understood\n")) k k
 unfolding chars is_utf8 encode
@@ -115,9 +120,15 @@ half_a_word k = record {
   turns = turn_by (statement (codes "SELEC")) Step ∷ turn_by (rest_piece (codes "-- note")) Step ∷ [];
   rest = codes "-- note";
   cut = record { statements = codes "SELEC" ∷ []; cut = (_, refl, (refl, refl)); are = refl };
-  leads = record { said = codes "E10: statement not understood\n"; run = record { state = refl; says = refl }; told = refl; allowed = (tt, (tt, tt)) };
+  leads = record {
+    said = codes "E10: statement not understood\n";
+    run = record { state = refl; says = refl };
+    told = refl;
+    allowed = (tt, (tt, tt));
+    limited = (empty, (empty_stands, inr (omega arith)), (empty, (empty_stands, inr (omega arith)), refl));
+  };
   moments = passes_none k.time _;
-  commits = omega arith;
+  commits = (omega arith, omega arith);
 }
 
 -- a statement that a newline ends, while the next one stands open
@@ -127,9 +138,9 @@ some_text k = record {
   turns = turn_by (statement (codes "EXEC CTX_DOC.POLICY_TOKENS('some text')")) Step ∷ [];
   rest = codes "SELEC;";
   cut = record { statements = codes "EXEC CTX_DOC.POLICY_TOKENS('some text')" ∷ []; cut = (_, refl, (refl, refl)); are = refl };
-  leads = record { said = codes "some|0|4\ntext|5|4\n"; run = record { state = refl; says = refl }; told = refl; allowed = (tt, tt) };
+  leads = record { said = codes "some|0|4\ntext|5|4\n"; run = record { state = refl; says = refl }; told = refl; allowed = (tt, tt); limited = (empty, (empty_stands, inr (omega arith)), refl) };
   moments = passes_none k.time _;
-  commits = omega arith;
+  commits = (omega arith, omega arith);
 }
 
 -- the rest of a script isn't a statement, so two turns may have called one commit

@@ -1,20 +1,22 @@
 //! What is said to a piece of a script.
 
 ghost use Rattle.std.specs.Prelude.{◌≡◌, IfOk, OnErr};
+ghost use Rattle.std.specs.Str.{chars};
 ghost use Rattle.ct_keep.specs.KeeperViews.{AtMostOneCommit, SameButContent};
+ghost use Rattle.st_parse.specs.Grammar.{Found, read};
 ghost use Rattle.db_state.specs.Shapes.{AcceptsStatements};
 ghost use Rattle.db_state.specs.States.{StoreState};
 ghost use Rattle.db_state.specs.Effects.{reply_by};
 ghost use Rattle.db_engine.specs.Steps.{rest_step};
 ghost use Rattle.db_engine.specs.Executing.{fault_of_stop};
 ghost use Rattle.db_console.specs.Views.{HaltsInText, OverTexts, RepliesToText};
-ghost use Rattle.db_console.specs.Responses.{response_bytes, IsTextOf, RespondsToText};
+ghost use Rattle.db_console.specs.Responses.{response_bytes, response_to, response_to_unread, IsTextOf, RespondsToRead};
 
 use ct_base::Bytes;
 use ct_keep::Keeper;
 use db_cond::{not_understood, out_of_memory, statement_too_long, store_full};
 use db_engine::{Reply, Stop, execute};
-use st_parse::{StatementFault, is_blank, parse};
+use st_parse::{Statement, StatementFault, is_blank, parse};
 use std::alloc::Global;
 use std::str::from_utf8;
 use std::thread::Threads;
@@ -59,6 +61,46 @@ fn text_of(bytes: &[u8]) -> Option<&str>
     from_utf8(bytes).ok()
 }
 
+/// The response to what executing a statement answered.
+fn response_to(reply: Reply) -> Response
+    ensures { result ≡ response_to reply }
+{
+    match reply {
+        Reply::Text(lines) => Response::Lines(lines),
+        Reply::Full => Response::Full,
+        Reply::NoMemory => Response::NoMemory,
+    }
+}
+
+/// The response to a text that isn't read as a statement.
+fn response_to_unread(fault: StatementFault) -> Response
+    ensures { result ≡ response_to_unread fault }
+{
+    match fault {
+        StatementFault::Syntax => Response::NotUnderstood,
+        StatementFault::Memory => Response::NoMemory,
+    }
+}
+
+/// The response to a statement, which is executed first.
+fn respond_to_statement<R: Threads + Sync, K: Keeper>(
+    rt: &R,
+    alloc: Global,
+    degree: u32,
+    keeper: &mut K,
+    statement: &Statement,
+) -> Result<Response, Stop>
+    requires { AcceptsStatements (K.view keeper.old) }
+    ensures kept { SameButContent (K.view keeper.old) (K.view keeper.new) (fault_of_stop result) }
+    ensures once { AtMostOneCommit (K.view keeper.old).counts (K.view keeper.new).counts }
+    ensures responds { RespondsToRead (Found statement.now) (K.view keeper.old) (K.view keeper.new) result }
+{
+    match execute(rt, alloc, degree, keeper, statement) {
+        Ok(reply) => Ok(response_to(reply)),
+        Err(stop) => Err(stop),
+    }
+}
+
 /// The response to a text that isn't too long: where it is a statement, that is executed first.
 fn respond_to_text<R: Threads + Sync, K: Keeper>(
     rt: &R,
@@ -70,18 +112,12 @@ fn respond_to_text<R: Threads + Sync, K: Keeper>(
     requires { AcceptsStatements (K.view keeper.old) }
     ensures kept { SameButContent (K.view keeper.old) (K.view keeper.new) (fault_of_stop result) }
     ensures once { AtMostOneCommit (K.view keeper.old).counts (K.view keeper.new).counts }
-    ensures responds { RespondsToText text.now (K.view keeper.old) (K.view keeper.new) result }
+    ensures responds { RespondsToRead (read (chars text.now)) (K.view keeper.old) (K.view keeper.new) result }
 {
     match parse(alloc, text) {
+        Ok(Some(statement)) => respond_to_statement(rt, alloc, degree, keeper, &statement),
         Ok(None) => Ok(Response::Nothing),
-        Ok(Some(statement)) => match execute(rt, alloc, degree, keeper, &statement) {
-            Ok(Reply::Text(lines)) => Ok(Response::Lines(lines)),
-            Ok(Reply::Full) => Ok(Response::Full),
-            Ok(Reply::NoMemory) => Ok(Response::NoMemory),
-            Err(stop) => Err(stop),
-        },
-        Err(StatementFault::Syntax) => Ok(Response::NotUnderstood),
-        Err(StatementFault::Memory) => Ok(Response::NoMemory),
+        Err(fault) => Ok(response_to_unread(fault)),
     }
 }
 

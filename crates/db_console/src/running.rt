@@ -77,7 +77,7 @@ fn serve_heap<R: Threads + Sync, S: Site>(
     site: &mut S,
 ) -> u8
     requires { IsUsable (S.disk site.old) heap IsStoreEntry }
-    ensures table { ServesHeap limit heap (S.disk site.old) (S.disk site.new) result }
+    ensures table { ServesHeap limit 0 heap (S.disk site.old) (S.disk site.new) result }
     ensures faults { SiteFaultsBy result (S.disk site.old) (S.disk site.new) }
     ensures memory { result ≡ 5 → (S.disk site.new).beside ≡ (S.disk site.old).beside }
     ensures past { TellsPast script_limit result (S.disk site.old).beside (S.disk site.new).beside }

@@ -58,9 +58,9 @@ use Rattle.db_state.specs.Room.{room, its_room}
 use Rattle.db_state.specs.laws.EachValue.{entries-each_value, entries-from_rising}
 use Rattle.db_state.specs.laws.Empty.{empty_stands}
 use Rattle.db_state.specs.laws.Heads.{heads, head_of_index}
-use Rattle.db_change.specs.Creating.{IsFreeTable, check_table, table_created, with_new_table}
+use Rattle.db_change.specs.Creating.{check_table, table_created, with_new_table}
 use Rattle.db_change.specs.Inserting.{arranged, check_list, check_row_values, has_row, insert_row, insert_values, key_in, others_kept, row_created}
-use Rattle.db_change.specs.laws.NewTables.{AllNamed, created_table_stands}
+use Rattle.db_change.specs.laws.NewTables.{AllNamed, IsFreeTable, created_table_stands}
 use Rattle.db_change.specs.laws.NewRows.{names_on, new_row_changes, new_row_stands}
 use Rattle.tx_settings.specs.declared.preferences.Prefs.{Prefs}
 use Rattle.db_index.specs.Indexing.{IsFreeIndex, all_rows, check_index, create_index_by, index_created, requests_in, target, has_too_many_rows, with_new_index}

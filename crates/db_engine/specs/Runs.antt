@@ -1,11 +1,15 @@
 -- A run: how the pieces of a script were answered, the state that they lead to, and all that was said.
-use Rattle.std.specs.Prelude.{ℕ, ◌≡◌, ◌≤◌, ◌<◌, Bool, true, false, List, [], ◌∷◌, ◌++◌, map, length, refl, codes}
+use Rattle.std.specs.Prelude.{ℕ, ◌≡◌, ◌≤◌, ◌<◌, ◌⊎◌, Bool, true, false, List, [], ◌∷◌, ◌++◌, map, length, refl, codes}
 use Rattle.std.specs.Bool.{if◌then◌else◌}
-use Rattle.std.proofs.Common.{ap, sym, ◌∙◌, append_assoc}
+use Rattle.std.specs.FinMap.{empty}
+use Rattle.std.proofs.Common.{ap, sym, ◌∙◌, subst, inl, inr, ⊎_elim, arith, append_assoc}
 use Rattle.db_cond.specs.Faults.{out_of_memory, store_full}
 use Rattle.st_parse.specs.Grammar.{Read, NoStatement, Found}
 use Rattle.st_parse.specs.Grammar.{Blank}
-use Rattle.db_state.specs.States.{StoreState, empty_state}
+use Rattle.ct_keep.specs.Content.{Content, weight}
+use Rattle.ct_keep.specs.KeeperViews.{KeepsLimit, PassesLimit}
+use Rattle.db_state.specs.States.{StoreState, StandsForState, empty_state}
+use Rattle.db_state.specs.laws.Empty.{empty_stands}
 use Rattle.db_state.specs.Effects.{Effect, state_by, reply_by, is_done}
 use Rattle.db_state.specs.Room.{room}
 use Rattle.db_engine.specs.Steps.{statement_step, rest_step, is_utf8_text, read_bytes, may_fill}
@@ -91,6 +95,49 @@ abbrev pub AllAllowed : ℕ → ℕ → StoreState → List Turn → Type 0
 AllAllowed limit store m [] = Unit {0}
 AllAllowed limit store m (t ∷ ts) = IsAllowed limit store m t.piece t.answer × AllAllowed limit store (turn limit m t).0 ts
 
+-- ---- how the limit binds
+
+-- The step would lead from the content c to one that stands for the state m, and there is no room to go to that.
+pub record WouldPassLimit (store : ℕ) (m : StoreState) (c : Content) : Type 0 where
+  pub next : Content
+  pub stands : StandsForState next m
+  pub passes : PassesLimit store c next
+
+-- A piece with this effect in the state m was answered so over the content c, which then was `next`, and the limit bound: by its step
+-- it leads to a content that is within the limit or no heavier, and nothing else changes the content; that the store is full is
+-- answered only where its step would lead to one that is over the limit and heavier.
+abbrev pub ObeysLimit : ℕ → StoreState → Effect → Answer → Content → Content → Type 0
+ObeysLimit store m effect Step c next = StandsForState next (state_by m effect) × KeepsLimit store c next
+ObeysLimit store m effect NoMemory c next = next ≡ c
+ObeysLimit store m effect Full c next = (next ≡ c) × WouldPassLimit store (state_by m effect) c
+
+-- Each of these turns obeys the limit. They lead from the content c, which stands for the state m, to `last`.
+abbrev pub AllObeyLimit : ℕ → ℕ → StoreState → List Turn → Content → Content → Type 0
+AllObeyLimit limit store m [] c last = last ≡ c
+AllObeyLimit limit store m (t ∷ ts) c last =
+    (next : Content) × ObeysLimit store m (effect_by limit m t.piece) t.answer c next × AllObeyLimit limit store (turn limit m t).0 ts next last
+
+-- laws: after one of them the content is within the limit, or no heavier than before it; and so it is after all of them (`RunsKeepLimit`)
+pub obeys_keeps : (store : ℕ) (m : StoreState) (effect : Effect) (answer : Answer) (c next : Content) → ObeysLimit store m effect answer c next → KeepsLimit store c next
+obeys_keeps store m effect Step c next obeys = obeys.1
+obeys_keeps store m effect NoMemory c next same = let light = ap weight same in inr (omega (arith, light))
+obeys_keeps store m effect Full c next obeys = let light = ap weight obeys.0 in inr (omega (arith, light))
+
+keeps_then : (store : ℕ) (c mid last : Content) → KeepsLimit store c mid → KeepsLimit store mid last → KeepsLimit store c last
+keeps_then store c mid last first second = ⊎_elim
+    inl
+    (λ lighter. ⊎_elim (λ within. inl (omega (arith, lighter, within))) (λ light. inr (omega (arith, lighter, light))) first)
+    second
+
+pub all_keep : (limit store : ℕ) (m : StoreState) (turns : List Turn) (c last : Content) → AllObeyLimit limit store m turns c last → KeepsLimit store c last
+all_keep limit store m [] c last same = let light = ap weight same in inr (omega (arith, light))
+all_keep limit store m (t ∷ ts) c last obey =
+    keeps_then store c obey.0 last (obeys_keeps store m (effect_by limit m t.piece) t.answer c obey.0 obey.1) (all_keep limit store (turn limit m t).0 ts obey.0 last obey.2)
+
+-- After turns that obey the limit the content is within it, or no heavier than before them.
+abbrev pub RunsKeepLimit : Type 0
+RunsKeepLimit = (limit store : ℕ) (m : StoreState) (turns : List Turn) (c last : Content) → AllObeyLimit limit store m turns c last → KeepsLimit store c last
+
 -- ---- runs one after the other
 
 pub state_after-append : (limit : ℕ) (m : StoreState) (ts us : List Turn) → state_after limit m (ts ++ us) ≡ state_after limit (state_after limit m ts) us
@@ -106,6 +153,11 @@ transcript-append limit m (t ∷ ts) us =
 pub allowed-append : (limit store : ℕ) (m : StoreState) (ts us : List Turn) → AllAllowed limit store m ts → AllAllowed limit store (state_after limit m ts) us → AllAllowed limit store m (ts ++ us)
 allowed-append limit store m [] us first second = second
 allowed-append limit store m (t ∷ ts) us first second = (first.0, allowed-append limit store (turn limit m t).0 ts us first.1 second)
+
+pub obey-append : (limit store : ℕ) (m : StoreState) (ts us : List Turn) (c mid last : Content)
+    → AllObeyLimit limit store m ts c mid → AllObeyLimit limit store (state_after limit m ts) us mid last → AllObeyLimit limit store m (ts ++ us) c last
+obey-append limit store m [] us c mid last same second = subst (λ (x : Content). AllObeyLimit limit store m us x last) same second
+obey-append limit store m (t ∷ ts) us c mid last first second = (first.0, first.1, obey-append limit store (turn limit m t).0 ts us first.0 mid last first.2 second)
 
 -- computed examples
 
@@ -124,6 +176,14 @@ three_turns = refl
 -- an answer for want of memory leaves the state
 state_stays : (m : StoreState) (text : List ℕ) → state_after 65536 m (turn_by (statement text) NoMemory ∷ []) ≡ m
 state_stays m text = refl
+
+-- a step that changes nothing obeys each limit; and one to a heavier content that is over the limit doesn't
+nothing_obeys : (store : ℕ) → AllObeyLimit 65536 store empty_state (turn_by (statement (codes "COMMIT")) Step ∷ []) empty empty
+unfolding chars is_utf8 encode
+nothing_obeys store = (empty, (empty_stands, inr (omega arith)), refl)
+
+too_heavy : (m : StoreState) (effect : Effect) (c next : Content) → weight c ≡ 64 → weight next ≡ 128 → ObeysLimit 100 m effect Step c next → ⊥
+too_heavy m effect c next light heavy obeys = ⊎_elim (λ within. omega (arith, heavy, within)) (λ lighter. omega (arith, light, heavy, lighter)) obeys.1
 
 -- no rest is answered so, nor that the store is full
 rest_has_memory : (m : StoreState) (text : List ℕ) → IsAllowed 65536 64 m (rest_piece text) NoMemory → ⊥

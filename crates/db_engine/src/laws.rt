@@ -1,9 +1,10 @@
-//! What holds of the store that docs/STORE.md shows. The function here only states it, which its contract proves.
+//! What holds of all runs, and of the store that docs/STORE.md shows. The functions here only state it, which their contracts prove.
 
 ghost use Rattle.std.specs.Prelude.{◌≡◌};
 ghost use Rattle.ct_keep.specs.Content.{weight};
 ghost use Rattle.db_state.specs.Room.{room};
 ghost use Rattle.db_state.specs.States.{StandsForState, empty_state};
+ghost use Rattle.db_engine.specs.Runs.{RunsKeepLimit};
 ghost use Rattle.db_engine.specs.ShownStore.{after_all, shown_state, shown_statements, shown_store};
 
 /// The store that docs/STORE.md shows stands for the state that its statements lead to, and has the weight and the room that
@@ -13,4 +14,9 @@ pub fn shown_store_stands()
     ensures stands { StandsForState shown_store shown_state }
     ensures weight { weight shown_store ≡ 704 }
     ensures room { room shown_state ≡ 921 }
+{}
+
+/// After statements that were answered within a limit on the content, it is within the limit, or no heavier than before them.
+pub fn runs_keep_limit()
+    ensures { RunsKeepLimit }
 {}

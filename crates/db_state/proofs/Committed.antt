@@ -14,33 +14,30 @@ use Rattle.db_state.proofs.Weighing.{weighs}
 
 -- ---- a commit
 
--- where memory or room was wanting, there is no other content
+-- where memory was wanting, there is no other content
 stayed : (c next : Content) (old new : KeeperView) → Goes c next old new (Some Memory) → Goes c c old new (Some Memory)
 stayed c next old new goes = record { content = goes.content; time = goes.time; now = goes.now }
 
-stayed_full : (c next : Content) (old new : KeeperView) → Goes c next old new (Some NoRoom) → Goes c c old new (Some NoRoom)
-stayed_full c next old new goes = record { content = goes.content; time = goes.time; now = goes.now }
-
-pub gives_committed : (m n : StoreState) (reply : Vec ℕ Global) (c next : Content) (old new : KeeperView) → StandsForState next n → Goes c next old new None → GivesEffect m (Does n reply.items) c old new (Ok reply)
-gives_committed m n reply c next old new stands goes = record {
-  moves = record { next = next; stands = stands; goes = goes; same = λ e. cc };
+pub gives_committed : (m n : StoreState) (reply : Vec ℕ Global) (c next : Content) (old new : KeeperView) → StandsForState next n → Goes c next old new None → AnswersCommit None old.fixed.limit c next → GivesEffect m (Does n reply.items) c old new (Ok reply)
+gives_committed m n reply c next old new stands goes answers = record {
+  moves = record { next = next; stands = stands; goes = goes; limited = answers; same = λ e. cc };
   reply = refl;
   full = λ e. cc;
 }
 
 pub gives_uncommitted : (m n : StoreState) (reply : List ℕ) (c next : Content) (old new : KeeperView) (fault : KeepFault) → StandsForState next n → Goes c next old new (Some fault) → AnswersCommit (Some fault) old.fixed.limit c next → GivesEffect m (Does n reply) c old new (Err fault)
 gives_uncommitted m n reply c next old new Memory stands goes answers = record {
-  moves = record { next = c; stands = refl; goes = stayed c next old new goes; same = λ e. refl };
+  moves = record { next = c; stands = refl; goes = stayed c next old new goes; limited = tt; same = λ e. refl };
   reply = tt;
   full = λ e. cc;
 }
 gives_uncommitted m n reply c next old new Disk stands goes answers = record {
-  moves = record { next = next; stands = inr stands; goes = goes; same = λ e. cc };
+  moves = record { next = next; stands = inr stands; goes = goes; limited = tt; same = λ e. cc };
   reply = tt;
   full = λ e. cc;
 }
 gives_uncommitted m n reply c next old new NoRoom stands goes answers = record {
-  moves = record { next = c; stands = refl; goes = stayed_full c next old new goes; same = λ e. refl };
+  moves = record { next = next; stands = stands; goes = goes; limited = answers; same = λ e. cc };
   reply = tt;
   full = λ e. record { done = refl; over = let w = weighs next n stands in omega (arith, w, answers.over) };
 }

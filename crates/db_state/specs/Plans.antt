@@ -5,7 +5,7 @@ use Rattle.ct_keep.specs.Content.{Content, after}
 use Rattle.ct_keep.specs.Laws.{changes_weight}
 use Rattle.ct_keep.specs.declared.keepers.KeepFault.{KeepFault}
 use Rattle.ct_keep.specs.declared.keepers.KeepFault.TheVariants.{Memory, Disk, Full as NoRoom}
-use Rattle.ct_keep.specs.KeeperViews.{AtMostOneCommit, KeeperView, SameButContent, ReadsKeeper, Goes, IsDurable, fault_of, counted, is_full}
+use Rattle.ct_keep.specs.KeeperViews.{AtMostOneCommit, KeeperView, SameButContent, ReadsKeeper, Goes, AnswersCommit, IsDurable, fault_of, counted, is_full}
 use Rattle.db_cond.specs.Faults.{Refusal, WrongValues, refusal_line}
 use Rattle.db_cond.specs.declared.faults.Fault.TheVariants.{WrongValues as WrongValuesFault}
 use Rattle.db_state.specs.States.{StoreState, StandsForState}
@@ -16,12 +16,13 @@ use Rattle.db_cond.specs.Refused.{refusal_of}
 use Rattle.db_state.specs.declared.plans.Plan.{Plan}
 use Rattle.db_state.specs.declared.plans.Plan.TheVariants.{Refused as PlanRefused, Done as PlanDone}
 
--- Where nothing failed, the next content stands for the state by the effect. Where memory or room was wanting, there is no other content than the old one;
--- and where the disk failed, the one that may have come stands for the state before or after.
+-- Where nothing failed, the next content stands for the state by the effect, and where room was wanting so does the one that was to come.
+-- Where memory was wanting, there is no other content than the old one; and where the disk failed, the one that may have come stands for
+-- the state before or after.
 abbrev pub StandsBy : Option KeepFault → StoreState → Effect → Content → Content → Type 0
 StandsBy None m effect c next = StandsForState next (state_by m effect)
 StandsBy (Some Memory) m effect c next = next ≡ c
-StandsBy (Some NoRoom) m effect c next = next ≡ c
+StandsBy (Some NoRoom) m effect c next = StandsForState next (state_by m effect)
 StandsBy (Some Disk) m effect c next = StandsForState next m ⊎ StandsForState next (state_by m effect)
 
 -- From a content that stands for the state m to the next one by at most one commit, which failed so if it did.
@@ -29,6 +30,8 @@ pub record Moves (m : StoreState) (effect : Effect) (c : Content) (old new : Kee
   pub next : Content
   pub stands : StandsBy fault m effect c next
   pub goes : Goes c next old new fault
+  -- the limit binds: it failed for want of room only where the next content passes the limit, and nothing failed only where it doesn't
+  pub limited : AnswersCommit fault old.fixed.limit c next
   -- a refusal leaves the content as it was
   pub same : is_done effect ≡ false → next ≡ c
 

@@ -1,12 +1,15 @@
 //! What statements ask of the tables and the indexes.
 #![tactic(auto, using(ct_keep::specs::Composing::reads_on, ct_keep::specs::Composing::reads_short))]
 
-ghost use Rattle.std.specs.Prelude.{◌≡◌, ◌<◌, IfOk, Some, is_some, nat_le, length};
+ghost use Rattle.std.specs.Prelude.{◌≡◌, ◌<◌, ◌∷◌, [], IfOk, Some, is_some, nat_le, length};
 ghost use Rattle.std.specs.Option.{option_map};
 ghost use Rattle.std.specs.FinMap.{get, entries};
 ghost use Rattle.ct_base.specs.Limits.{table_limit};
 ghost use Rattle.ct_keep.specs.Content.{Content};
-ghost use Rattle.ct_keep.specs.KeeperViews.{OnlyReads};
+ghost use Rattle.ct_keep.specs.KeeperViews.{OnlyReads, Told};
+ghost use Rattle.ct_keep.specs.Looks.{no_looks, scan_looks, LooksAtMost};
+ghost use Rattle.ct_entry.specs.declared.kinds.Kind.TheVariants as kind;
+ghost use Rattle.ct_entry.specs.Kinds.{code};
 ghost use Rattle.tb_table.specs.Tables.{Table};
 ghost use Rattle.db_state.specs.States.{OverStates, StoreState, StandsForState, is_view as is_view_name, Sees};
 ghost use Rattle.db_state.specs.Lookups.{FoundOn};
@@ -33,6 +36,7 @@ pub fn table_columns<K: Keeper>(
     requires { (K.view keeper.old).ready }
     ensures columns { Sees K.view keeper.old result (λ m found. option_map (λ v. v.items) found ≡ option_map (λ (x : Table). x.columns) (get m.tables table.now)) }
     ensures reads { OnlyReads K.view keeper.old keeper.new result }
+    ensures at_most { LooksAtMost K.view keeper.old keeper.new no_looks }
 {
     columns_of(alloc, keeper, table)
 }
@@ -42,6 +46,7 @@ pub fn has_table<K: Keeper>(alloc: Global, keeper: &mut K, table: &Name) -> Resu
     requires { (K.view keeper.old).ready }
     ensures there { Sees K.view keeper.old result (λ m there. there ≡ is_some (get m.tables table.now)) }
     ensures reads { OnlyReads K.view keeper.old keeper.new result }
+    ensures at_most { LooksAtMost K.view keeper.old keeper.new no_looks }
 {
     let columns = table_columns(alloc, keeper, table)?;
     Ok(columns.is_some())
@@ -59,6 +64,7 @@ pub fn has_most_tables<K: Keeper>(alloc: Global, keeper: &mut K) -> Result<bool,
     requires { (K.view keeper.old).ready }
     ensures many { Sees K.view keeper.old result (λ m many. many ≡ nat_le table_limit (length (entries m.tables))) }
     ensures reads { OnlyReads K.view keeper.old keeper.new result }
+    ensures at_most { Told K.view keeper.old (λ m. LooksAtMost K.view keeper.old keeper.new (scan_looks (code kind.Tables ∷ []) m)) }
 {
     let names = tables(alloc, keeper)?;
     Ok(are_most(&names))
@@ -82,6 +88,7 @@ pub fn context_index<K: Keeper>(
     requires { (K.view keeper.old).ready }
     ensures found { OverStates K.view keeper.old (λ m c. place < 256 → IfOk result (FoundOn m.indexes table.now place)) }
     ensures reads { OnlyReads K.view keeper.old keeper.new result }
+    ensures at_most { Told K.view keeper.old (λ m. LooksAtMost K.view keeper.old keeper.new (scan_looks (code kind.Indexes ∷ []) m)) }
 {
     let Ok(column) = u8::try_from(place) else {
         return Ok(None);
@@ -95,6 +102,7 @@ pub fn has_index<K: Keeper>(alloc: Global, keeper: &mut K, index: &Name) -> Resu
     requires { (K.view keeper.old).ready }
     ensures there { Sees K.view keeper.old result (λ m there. there ≡ is_some (get m.indexes index.now)) }
     ensures reads { OnlyReads K.view keeper.old keeper.new result }
+    ensures at_most { LooksAtMost K.view keeper.old keeper.new no_looks }
 {
     let head = index_of(alloc, keeper, index)?;
     Ok(head.is_some())

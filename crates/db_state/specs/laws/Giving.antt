@@ -1,12 +1,12 @@
 -- What reads and a commit give of an effect.
-use Rattle.std.proofs.Common.{◌≡◌, ℕ, ◌<◌, Some, None, Result, Ok, Err, Vec, refl, sym, subst, inl}
+use Rattle.std.proofs.Common.{◌≡◌, ℕ, ◌<◌, Some, None, Result, Ok, Err, Vec, refl, sym, ap, subst, inl, inr, arith}
 use Rattle.std.specs.Result.{IfOk}
 use Rattle.std.specs.declared.alloc.Global.{Global}
 use Rattle.ct_keep.specs.declared.keepers.KeepFault.{KeepFault}
 use Rattle.ct_keep.specs.declared.keepers.KeepFault.TheVariants.{Memory, Disk, Full as NoRoom}
 use Rattle.ct_keep.specs.Content.{Content}
-use Rattle.ct_keep.specs.KeeperViews.{KeeperView, ReadsKeeper, IsDurable, fault_of, is_full, counted}
-use Rattle.ct_keep.specs.Composing.{same_limit, reads_then, reads_only, reads_failed}
+use Rattle.ct_keep.specs.KeeperViews.{KeeperView, ReadsKeeper, IsDurable, KeepsLimit, fault_of, is_full, counted}
+use Rattle.ct_keep.specs.Composing.{same_limit, reads_then, reads_only, reads_failed, answers_then, answers_failed}
 use Rattle.db_cond.specs.Faults.{Refusal, refusal_line}
 use Rattle.db_state.specs.States.{StoreState, StandsForState}
 use Rattle.db_state.specs.Effects.{Effect, Refused, state_by, reply_by}
@@ -15,21 +15,31 @@ use Rattle.db_state.specs.Plans.{StandsBy, GivesEffect}
 
 -- ---- a statement that is refused, or fails, or only reads
 
+-- a content that stays is no heavier
+pub keeps_itself : (limit : ℕ) (c : Content) → KeepsLimit limit c c
+keeps_itself limit c = inr (omega arith)
+
 pub gives_refused : (m : StoreState) (effect : Effect) (c : Content) (old new : KeeperView) (v : Vec ℕ Global) → IsDurable old → old.content ≡ Some c → StandsForState c (state_by m effect) → ReadsKeeper old new None → v.items ≡ reply_by effect → GivesEffect m effect c old new (Ok v)
 gives_refused m effect c old new v settled holds stands reads is = record {
-  moves = record { next = c; stands = stands; goes = reads_only c old new settled holds reads; same = λ e. refl };
+  moves = record { next = c; stands = stands; goes = reads_only c old new settled holds reads; limited = keeps_itself old.fixed.limit c; same = λ e. refl };
   reply = is;
   full = λ e. cc;
 }
 
-stands_failed : (m : StoreState) (effect : Effect) (c : Content) (fault : KeepFault) → StandsForState c m → StandsBy (Some fault) m effect c c
-stands_failed m effect c Memory stands = refl
-stands_failed m effect c NoRoom stands = refl
-stands_failed m effect c Disk stands = inl stands
+stands_failed : (m : StoreState) (effect : Effect) (c : Content) (fault : KeepFault) → (Some fault ≡ Some NoRoom → ⊥) → StandsForState c m → StandsBy (Some fault) m effect c c
+stands_failed m effect c Memory not_full stands = refl
+stands_failed m effect c NoRoom not_full stands = absurd (not_full refl)
+stands_failed m effect c Disk not_full stands = inl stands
 
 pub gives_failed : (m : StoreState) (effect : Effect) (c : Content) (old new : KeeperView) (fault : KeepFault) → IsDurable old → old.content ≡ Some c → StandsForState c m → ReadsKeeper old new (Some fault) → GivesEffect m effect c old new (Err fault)
 gives_failed m effect c old new fault settled holds stands reads = record {
-  moves = record { next = c; stands = stands_failed m effect c fault stands; goes = reads_failed c c old new fault settled holds reads; same = λ e. refl };
+  moves = record {
+    next = c;
+    stands = stands_failed m effect c fault reads.not_full stands;
+    goes = reads_failed c c old new fault settled holds reads;
+    limited = answers_failed fault old.fixed.limit c c (λ e. reads.not_full (ap (λ (f : KeepFault). Some f) e));
+    same = λ e. refl;
+  };
   reply = tt;
   full = λ e. absurd (reads.not_full e);
 }
@@ -38,7 +48,13 @@ gives_failed m effect c old new fault settled holds stands reads = record {
 
 pub gives_then : (m : StoreState) (effect : Effect) (c : Content) (old mid new : KeeperView) (result : Result (Vec ℕ Global) KeepFault) → ReadsKeeper old mid None → GivesEffect m effect c mid new result → GivesEffect m effect c old new result
 gives_then m effect c old mid new result reads gives = record {
-  moves = record { next = gives.moves.next; stands = gives.moves.stands; goes = reads_then c gives.moves.next old mid new (fault_of result) reads gives.moves.goes; same = gives.moves.same };
+  moves = record {
+    next = gives.moves.next;
+    stands = gives.moves.stands;
+    goes = reads_then c gives.moves.next old mid new (fault_of result) reads gives.moves.goes;
+    limited = answers_then c gives.moves.next old mid (fault_of result) reads gives.moves.limited;
+    same = gives.moves.same;
+  };
   reply = gives.reply;
   full = λ e. let place = gives.full e in record { done = place.done; over = subst (λ (limit : ℕ). limit < room (state_by m effect)) (same_limit reads.kept.fixed) place.over };
 }

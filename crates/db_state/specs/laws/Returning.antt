@@ -20,7 +20,7 @@ kept_full old new kept = record { ready = kept.ready; beside = kept.beside; well
 
 -- reads that ended for want of memory or of room are reads
 pub reads_memory : (old new : KeeperView) → ReadsKeeper old new (Some Memory) → ReadsKeeper old new None
-reads_memory old new reads = record { not_full = λ e. cc; kept = kept_memory old new reads.kept; content = reads.content; time = reads.time; now = reads.now; fulls = reads.fulls; commits = reads.commits }
+reads_memory old new reads = record { not_full = λ e. cc; kept = kept_memory old new reads.kept; content = reads.content; time = reads.time; now = reads.now; fulls = reads.fulls; commits = reads.commits; syncs = reads.syncs }
 
 -- they leave the content
 pub stays_read : (old new : KeeperView) → IsDurable old → ReadsKeeper old new None → ContentStays old new

@@ -86,8 +86,8 @@ returns_by_then None old mid new result reads looks = reads_on old mid new (faul
 returns_by_then (Some done) old mid new result reads returns = returns_then done old mid new result reads returns
 
 once_then : (old mid new : KeeperView) → ReadsKeeper old mid None → AtMostOneCommit mid.counts new.counts → AtMostOneCommit old.counts new.counts
-once_then old mid new reads (inl none) = inl (none ∙ reads.commits)
-once_then old mid new reads (inr one) = inr (one ∙ ap (counted true) reads.commits)
+once_then old mid new reads (inl none) = inl (none.0 ∙ reads.commits, none.1 ∙ reads.syncs)
+once_then old mid new reads (inr one) = let few = one.1 in inr (one.0 ∙ ap (counted true) reads.commits, omega (arith, few, reads.syncs))
 
 pub serves_then : (effect : StoreState → Effect) (line : Option DoneLines) (old mid new : KeeperView) (result : Result (Vec ℕ Global) KeepFault) → ReadsKeeper old mid None → Fulfils effect line mid new result → Fulfils effect line old new result
 serves_then effect line old mid new result reads serves = record {

@@ -42,7 +42,7 @@ returns-clause-table g c = λ image m settled is well.
       (
         t.0,
         t.1,
-        served_before statement_limit script_limit c.args.limit _ _ _ image c.in-Ok.heap t.0 settled loaded.0 loaded.1 (settled_moments _ _ image settled (c.load_heap.ensures.moments image settled.told)) c.load_heap.ensures.loads.beside c.in-Ok.ensures.loads.cause t.2,
+        served_before statement_limit script_limit c.args.limit _ _ _ image c.in-Ok.heap t.0 settled loaded.0 loaded.1 (settled_moments _ _ image settled (c.load_heap.ensures.moments image settled.told)) c.load_heap.ensures.loads.beside c.in-Ok.ensures.loads.cause c.load_heap.ensures.syncs t.2,
       ),
     )
 
@@ -55,8 +55,8 @@ returns-clause-complete g c = λ image m settled is well. completes_before scrip
 -- ---- what its status tells, whatever was pending
 
 pub returns-in-Err-clause-stores : goal.returns-in-Err-clause-stores
-returns-in-Err-clause-stores g c = λ image told. rw c.status_of_load.ensures (load_tells image c.in-Err.fault (λ e. c.in-Err.ensures.no_store image told (ap Err e)))
+returns-in-Err-clause-stores g c = λ image told. rw c.status_of_load.ensures (load_tells image c.in-Err.fault (λ e. c.in-Err.ensures.no_store image told (ap Err e)) (λ is. rw is at (c.in-Err.ensures.answers image told)))
 
 pub returns-clause-stores : goal.returns-clause-stores
 returns-clause-stores g c = λ image told. let t = c.serve_heap.ensures.table in
-    serve_tells image c.in-Ok.heap.held t.0 c.serve_heap.result t.1 (c.in-Ok.ensures.loaded image told).0 c.in-Ok.ensures.usable.entries
+    serve_tells image c.in-Ok.heap.held t.0 c.serve_heap.result t.1 (c.in-Ok.ensures.loaded image told).0 c.in-Ok.ensures.usable.entries (c.in-Ok.ensures.answers image told)

@@ -1,5 +1,6 @@
 use Rattle.std.proofs.Common.{◌≤◌, ◌-◌, false, Ok, ap, arith}
 use Rattle.std.proofs.lemmas.Bool.{false≢true}
+use Rattle.db_console.proofs.Lasting.{heard_end, heard_more}
 use Rattle.db_console.proofs.TableLaws.{going_start, going_heard, going_on, out_memory, out_fault, out_broke, out_closed, out_past}
 use Rattle.db_console.proofs.serving.serve_script.Goals as goal
 
@@ -15,19 +16,19 @@ returns-in_default-hear_some-clause-outcome g c =
 
 pub returns-then-count-eq0-clause-outcome : goal.returns-then-count-eq0-clause-outcome
 returns-then-count-eq0-clause-outcome g c =
-    out_closed c.close.result _ _ _ _ _ _ _ _ (g.met.K.Keeper.settled c.close.new.keeper) c.loop-taken.invariant.going (rw c.if-count-eq0.true at c.in-Ok-hear_some.ensures.heard) c.loop-taken.invariant.within
+    out_closed c.close.result _ _ _ _ _ _ _ _ (g.met.K.Keeper.settled c.close.new.keeper) c.loop-taken.invariant.going (heard_end c.in-Ok-hear_some.count _ _ _ c.if-count-eq0.true c.in-Ok-hear_some.ensures.heard) c.loop-taken.invariant.within
     (c.in-Ok-hear_some.ensures.end (ap Ok c.if-count-eq0.true)) c.close.ensures
 
 pub returns-in-Err-clause-outcome : goal.returns-in-Err-clause-outcome
 returns-in-Err-clause-outcome g c =
     let b : c.in-Ok-hear_some.count ≤ c.args.most - c.loop-taken.taken = omega (arith, c.in-Ok-hear_some.ensures.bound, c.min-room.ensures) in
-    out_broke c.in-Err.fault _ _ _ _ _ _ _ _ _ (going_heard false _ _ _ _ _ _ _ c.loop-taken.invariant.going c.in-Ok-hear_some.ensures.heard)
-    (rw c.in-Ok-hear_some.ensures.sized (omega (arith, b, c.loop-taken-test.true, c.loop-taken.invariant.within))) false (λ e. absurd (false≢true e)) c.in-Err.ensures.broke c.ending.ensures
+    out_broke c.in-Err.fault _ _ _ _ _ _ _ _ _ false (going_heard false false _ _ _ _ _ _ _ c.loop-taken.invariant.going (heard_more c.in-Ok-hear_some.count _ _ _ c.if-count-eq0.false c.in-Ok-hear_some.ensures.heard))
+    (rw c.in-Ok-hear_some.ensures.sized (omega (arith, b, c.loop-taken-test.true, c.loop-taken.invariant.within))) (λ e. absurd (false≢true e)) c.in-Err.ensures.broke c.ending.ensures
 
 pub loop-taken-preserved : goal.loop-taken-preserved
 loop-taken-preserved g c = record {
   within = omega (arith, c.in-Ok-hear_some.ensures.bound, c.min-room.ensures, c.loop-taken-test.true);
-  going = going_on _ _ _ _ _ _ _ _ _ (going_heard false _ _ _ _ _ _ _ c.loop-taken.invariant.going c.in-Ok-hear_some.ensures.heard) c.in-Ok-hear_some.ensures.sized c.in_default-serve_bytes.ensures.served;
+  going = going_on _ _ _ _ _ _ _ _ _ (going_heard false false _ _ _ _ _ _ _ c.loop-taken.invariant.going (heard_more c.in-Ok-hear_some.count _ _ _ c.if-count-eq0.false c.in-Ok-hear_some.ensures.heard)) c.in-Ok-hear_some.ensures.sized c.in_default-serve_bytes.ensures.served;
 }
 
 pub returns-in_default-hear_past-clause-outcome : goal.returns-in_default-hear_past-clause-outcome

@@ -19,6 +19,7 @@ use Rattle.db_change.specs.Dropping.{drop_table}
 use Rattle.db_index.specs.Dropping.{drop_index}
 use Rattle.st_parse.specs.declared.statements.Assign.{Assign}
 use Rattle.db_select.specs.Statements.{select_statement}
+use Rattle.db_select.specs.laws.Selects.{statement_keeps}
 use Rattle.db_engine.specs.Steps.{effect, call}
 use Rattle.db_engine.specs.Executing.{done_line, is_fixed, is_fixed_call}
 use Rattle.db_state.specs.laws.Serving.{serves_short, serves_look, serves_as}
@@ -45,7 +46,7 @@ pub returns-in-Select-clause-serves : goal.returns-in-Select-clause-serves
 returns-in-Select-clause-serves g c =
     serves_as (λ m. select_statement m c.in-Select.list c.in-Select.table c.as_slice-in-Select.result.now) _ None _ _ _ c.select.result
     (λ m. ap (effect m) c.in-Select.is ∙ ap (select_statement m c.in-Select.list c.in-Select.table) (sym c.as_slice-in-Select.ensures)) (ap done_line c.in-Select.is)
-    (serves_look _ _ _ _ c.select.ensures.reads c.select.ensures.reply c.select.ensures.state)
+    (serves_look _ _ _ _ c.select.ensures.reads c.select.ensures.reply (λ m. statement_keeps m c.in-Select.list c.in-Select.table c.as_slice-in-Select.result.now))
 
 pub returns-in-Exec-clause-serves : goal.returns-in-Exec-clause-serves
 returns-in-Exec-clause-serves g c =

@@ -20,7 +20,7 @@ returns-in_err-commit-clause-gives g c = λ m n k holds stands.
 
 pub returns-clause-gives : goal.returns-clause-gives
 returns-clause-gives g c = λ m n k holds stands.
-    gives_committed m n c.args.reply k (after c.args.batch k) _ _ stands (c.in_ok-commit.ensures.goes k holds)
+    gives_committed m n c.args.reply k (after c.args.batch k) _ _ stands (c.in_ok-commit.ensures.goes k holds) (c.in_ok-commit.ensures.answers k holds)
 
 -- ---- what it tells over any content
 
@@ -35,10 +35,18 @@ returns-clause-tells g c =
 -- ---- how many commits it made
 
 pub returns-in_err-commit-clause-once : goal.returns-in_err-commit-clause-once
-returns-in_err-commit-clause-once g c = inr (ap (λ (n : Counts). n.commits) c.in_err-commit.ensures.counts)
+returns-in_err-commit-clause-once g c = inr (ap (λ (n : Counts). n.commits) c.in_err-commit.ensures.counts.is, c.in_err-commit.ensures.counts.few)
 
 pub returns-clause-once : goal.returns-clause-once
-returns-clause-once g c = inr (ap (λ (n : Counts). n.commits) c.in_ok-commit.ensures.counts)
+returns-clause-once g c = inr (ap (λ (n : Counts). n.commits) c.in_ok-commit.ensures.counts.is, c.in_ok-commit.ensures.counts.few)
+
+-- ---- how often one was refused
+
+pub returns-in_err-commit-clause-fulls : goal.returns-in_err-commit-clause-fulls
+returns-in_err-commit-clause-fulls g c = let p = err_from_is_err_and c.from_residual.result c.from_residual.ensures.1 in rw (p.1, p.2) (ap (λ (n : Counts). n.fulls) c.in_err-commit.ensures.counts.is)
+
+pub returns-clause-fulls : goal.returns-clause-fulls
+returns-clause-fulls g c = ap (λ (n : Counts). n.fulls) c.in_ok-commit.ensures.counts.is
 
 -- ---- what only takes entries away
 
