@@ -156,6 +156,7 @@ said_more s told commits log = record {
   said = refl;
   left = refl;
   hearings = refl;
+  ends = refl;
   hear_faults = refl;
   time = λ r m holds. passes_said log s.said told r.by_now _ (λ left said is says. (is ∙ holds, says));
 }
@@ -166,6 +167,7 @@ said_nothing s faults commits log = record {
   said = sym (with_suffix-nil (Some s.said));
   left = refl;
   hearings = refl;
+  ends = refl;
   hear_faults = refl;
   time = λ r m holds. passes_none (history_time log s.said) _;
 }

@@ -186,7 +186,9 @@ CREATE TABLE c (id NUMBER PRIMARY KEY);
 ";
 
 /// How much the content may weigh, how many bytes may be said, the status, and the last moments.
-static MOMENTS: [(u64, usize, u8, &str); 3] = [
+type Moments = (u64, usize, u8, &'static str);
+
+const MOMENTS: &[Moments] = &[
     // each table is there before it is said so, and nothing of that was said when it wasn't there
     (
         4096,
@@ -242,13 +244,17 @@ E10: statement not understood
     ),
 ];
 
+/// Whether serving the script ends with the status of a row, and with its moments.
+fn is_remembered<R: Threads + Sync>(rt: &R, alloc: Global, row: &Moments) -> Result<bool, Memory> {
+    let (limit, said_room, status, moments) = *row;
+    let (ended, found) = remembered(rt, alloc, TABLES, limit, said_room)?;
+    Ok(ended == status && found.as_slice() == moments.as_bytes())
+}
+
 #[test]
 fn no_reply_is_said_before_its_commit(rt: HostRuntime) -> Result<(), Fail> {
-    let alloc = rt.alloc();
-    for (limit, room, want, moments) in MOMENTS.iter() {
-        let (status, found) = remembered(&rt, alloc, TABLES, *limit, *room)?;
-        assert_eq!(rt; status, *want);
-        assert!(rt; found.as_slice() == moments.as_bytes(), "{limit} {room}");
+    for row in MOMENTS {
+        assert!(rt; is_remembered(&rt, rt.alloc(), row)?, "{} {}", row.0, row.1);
     }
     Ok(())
 }

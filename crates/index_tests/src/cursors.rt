@@ -116,19 +116,30 @@ fn slot_feed(
     })
 }
 
+/// What is read for a slot of one token.
+fn single_feed(alloc: Global, stream: u8, key: &str, spelt: &[&[u8]]) -> Result<SlotFeed, Fail>
+    ensures { IfOk result (λ f. TokensRise f.tokens) }
+{
+    let tokens = vec![in alloc; rows(alloc, spelt)?]?;
+    Ok(slot_feed(alloc, stream, key, tokens)?)
+}
+
+/// What is read for a slot of `a` and `c`.
+fn double_feed(alloc: Global) -> Result<SlotFeed, Fail>
+    ensures { IfOk result (λ f. TokensRise f.tokens) }
+{
+    let tokens = vec![in alloc; rows(alloc, A)?, rows(alloc, C)?]?;
+    Ok(slot_feed(alloc, 0, "ac", tokens)?)
+}
+
 fn slot_feeds(alloc: Global) -> Result<Vec<SlotFeed>, Fail>
     ensures { IfOk result (λ fs. SlotFeedsRise fs.items) }
 {
-    let a = slot_feed(alloc, 0, "a", vec![in alloc; rows(alloc, A)?]?)?;
-    let b = slot_feed(alloc, 0, "b", vec![in alloc; rows(alloc, B)?]?)?;
-    let c = slot_feed(alloc, 0, "c", vec![in alloc; rows(alloc, C)?]?)?;
-    let both = slot_feed(
-        alloc,
-        0,
-        "ac",
-        vec![in alloc; rows(alloc, A)?, rows(alloc, C)?]?,
-    )?;
-    let field = slot_feed(alloc, 1, "a", vec![in alloc; rows(alloc, FIELD)?]?)?;
+    let a = single_feed(alloc, 0, "a", A)?;
+    let b = single_feed(alloc, 0, "b", B)?;
+    let c = single_feed(alloc, 0, "c", C)?;
+    let both = double_feed(alloc)?;
+    let field = single_feed(alloc, 1, "a", FIELD)?;
     Ok(vec![in alloc; a, b, c, both, field]?)
 }
 
@@ -272,20 +283,20 @@ fn is_plain(query: &Flat) -> bool
 }
 
 fn cursor(alloc: Global, text: &[u8]) -> Result<Cursor, Fail> {
+    let feeds = feeds(alloc)?;
     let query = query(alloc, text)?;
     if !query.is_sound() || !is_plain(&query) {
         return Err(Fail::new("no such query"));
     }
-    let feeds = feeds(alloc)?;
     Ok(Cursor::build(alloc, &query, &feeds)?)
 }
 
 fn candidates(alloc: Global, text: &[u8]) -> Result<Candidates, Fail> {
+    let feeds = feeds(alloc)?;
     let query = query(alloc, text)?;
     if !query.is_sound() || !is_plain(&query) {
         return Err(Fail::new("no such query"));
     }
-    let feeds = feeds(alloc)?;
     Ok(Candidates::build(alloc, &query, &feeds)?)
 }
 
@@ -486,15 +497,24 @@ fn leaps(alloc: Global, text: &[u8], to: &[u32]) -> Result<Vec<(u32, u32)>, Fail
     Ok(found)
 }
 
+/// A query, where a cursor over it is to leap, and where it stands then.
+type Leaps = (&'static [u8], &'static [u32], &'static [(u32, u32)]);
+
+const LEAPS: &[Leaps] = &[
+    (
+        b"ab|",
+        &[2, 1, 5, 0, LAST],
+        &[(2, 1), (2, 1), (LAST, 1), (LAST, 1), (LAST, 1)],
+    ),
+    (b"ab!", &[3, 5, 0], &[(4, 1), (0, 0), (0, 0)]),
+];
+
 #[test]
 fn cursors_leap_and_never_go_back(rt: HostRuntime) -> Result<(), Fail> {
-    let found = leaps(rt.alloc(), b"ab|", &[2, 1, 5, 0, LAST])?;
-    assert_eq!(rt;
-        found.as_slice(),
-        [(2, 1), (2, 1), (LAST, 1), (LAST, 1), (LAST, 1)].as_slice()
-    );
-    let found = leaps(rt.alloc(), b"ab!", &[3, 5, 0])?;
-    assert_eq!(rt; found.as_slice(), [(4, 1), (0, 0), (0, 0)].as_slice());
+    for (query, to, places) in LEAPS {
+        let found = leaps(rt.alloc(), query, to)?;
+        assert_eq!(rt; found.as_slice(), *places);
+    }
     Ok(())
 }
 
@@ -510,8 +530,7 @@ fn nested(alloc: Global, weights: usize) -> Result<Vec<u8>, Memory> {
 #[test]
 fn queries_may_nest(rt: HostRuntime) -> Result<(), Fail> {
     let text = nested(rt.alloc(), 1100)?;
-    let mut cursor = cursor(rt.alloc(), text.as_slice())?;
-    assert_eq!(rt; cursor.advance(rt.alloc(), DocId(2))?, Some(DocId(2)));
-    assert_eq!(rt; cursor.score(), 100);
+    let found = leaps(rt.alloc(), text.as_slice(), &[2])?;
+    assert_eq!(rt; found.as_slice(), [(2, 100)].as_slice());
     Ok(())
 }

@@ -1,53 +1,14 @@
 //! The map and the queue in a keeper in memory.
 
-ghost use Rattle.std.specs.Prelude.{IsTrue, [], ◌∷◌};
-ghost use Rattle.ct_keep.specs.SeenChanges.{change_of};
-ghost use Rattle.ct_keep.specs.Changes.{AnyEntry, AreWell};
-
-use ct_base::{DocId, Memory, Name, RowKey};
-use ct_keep::{Batch, Change, Keeper, MemKeeper};
+use ct_base::{DocId, Memory, RowKey};
+use ct_keep::{Batch, KeepFault, MemKeeper};
 use ix_docmap::{is_pending, mark, number_of, pending, queue, row_of, unmark, unqueue};
 use std::alloc::Global;
 use std::test::Fail;
+use test_keepers::{commit, named, new_keeper};
 
-/// Whether a keeper may hold what the change puts.
-fn is_entry(change: &Change) -> bool
-    ensures { IsTrue result → AreWell AnyEntry (change_of change.now ∷ []) }
-{
-    match &change.value {
-        None => true,
-        Some(value) => !change.key.is_empty() && change.key.len() <= 600 && value.len() <= 8,
-    }
-}
-
-/// Whether a keeper may hold what the changes put.
-fn are_entries(batch: &Batch) -> bool
-    ensures { IsTrue result → AreWell AnyEntry batch.now }
-{
-    for change in batch.changes() {
-        if !is_entry(change) {
-            return false;
-        }
-    }
-    true
-}
-
-/// Commits the changes, if the keeper may hold what they put.
-fn commit(alloc: Global, keeper: &mut MemKeeper, batch: Batch) -> Result<(), Fail> {
-    if !are_entries(&batch) {
-        return Err(Fail::new("no keeper holds such an entry"));
-    }
-    keeper.commit(alloc, batch)?;
-    Ok(())
-}
-
-fn named(alloc: Global, text: &str) -> Result<Name, Memory> {
-    Name::read(alloc, text).map_err(|_| Memory)
-}
-
-/// Of the index `di` the rows -12 and 7 are documents, and the rows 3 and -5 wait; of another one the row 7 is a document.
-fn mapped(alloc: Global) -> Result<MemKeeper, Fail> {
-    let mut keeper = MemKeeper::new(alloc, Vec::new(alloc), 100_000, 0)?;
+/// Of the index `di` the rows -12 and 7 are documents, and the rows 3 and -5 wait; of the index `dj` the row 7 is a document.
+fn map_changes(alloc: Global) -> Result<Batch, Memory> {
     let index = named(alloc, "di")?;
     let other = named(alloc, "dj")?;
     let mut batch = Batch::new(alloc);
@@ -56,98 +17,128 @@ fn mapped(alloc: Global) -> Result<MemKeeper, Fail> {
     queue(alloc, &mut batch, &index, RowKey(3))?;
     queue(alloc, &mut batch, &index, RowKey(-5))?;
     mark(alloc, &mut batch, &other, RowKey(7), DocId(2))?;
-    commit(alloc, &mut keeper, batch)?;
-    Ok(keeper)
+    Ok(batch)
 }
 
-/// The row 7 of that index goes, and the row 3 is taken out of its queue.
-fn without(alloc: Global) -> Result<MemKeeper, Fail> {
-    let mut keeper = mapped(alloc)?;
+/// The row 7 of the index `di` goes, and the row 3 is taken out of its queue.
+fn removals(alloc: Global) -> Result<Batch, Memory> {
     let index = named(alloc, "di")?;
     let mut batch = Batch::new(alloc);
     unmark(alloc, &mut batch, &index, RowKey(7), DocId(1))?;
     unqueue(alloc, &mut batch, &index, RowKey(3))?;
-    commit(alloc, &mut keeper, batch)?;
+    Ok(batch)
+}
+
+/// A keeper with those documents, before those removals and after them.
+fn mapped(alloc: Global, are_removed: bool) -> Result<MemKeeper, KeepFault> {
+    let mut keeper = new_keeper(alloc)?;
+    commit(alloc, &mut keeper, map_changes(alloc)?)?;
+    if are_removed {
+        commit(alloc, &mut keeper, removals(alloc)?)?;
+    }
     Ok(keeper)
 }
 
-/// What a row of an index is: its document, or 0, and whether it waits.
-fn of_row(
+/// What is asked of an index.
+#[derive(Clone, Copy, Debug)]
+enum Asked {
+    /// The document that a row is, or 0, and whether it waits.
+    Row(i64),
+    /// The row that a document is, or 0.
+    Document(u32),
+    /// The rows that wait.
+    Waiting,
+}
+
+fn row_text(
     alloc: Global,
     keeper: &mut MemKeeper,
     index: &str,
     row: i64,
-) -> Result<(u32, bool), Fail> {
+) -> Result<String, KeepFault> {
     let index = named(alloc, index)?;
-    let document = number_of(alloc, keeper, &index, RowKey(row))?;
+    let document = number_of(alloc, keeper, &index, RowKey(row))?.map_or(0, |d| d.0);
     let waits = is_pending(alloc, keeper, &index, RowKey(row))?;
-    Ok((document.map_or(0, |d| d.0), waits))
+    Ok(format!(in alloc; "{document} {waits}").map_err(Memory::from)?)
 }
 
-/// The row that a document of an index is, or 0.
-fn of_document(
+fn document_text(
     alloc: Global,
     keeper: &mut MemKeeper,
     index: &str,
     document: u32,
-) -> Result<i64, Fail> {
+) -> Result<String, KeepFault> {
     let index = named(alloc, index)?;
-    let row = row_of(alloc, keeper, &index, DocId(document))?;
-    Ok(row.map_or(0, |r| r.0))
+    let row = row_of(alloc, keeper, &index, DocId(document))?.map_or(0, |r| r.0);
+    Ok(format!(in alloc; "{row}").map_err(Memory::from)?)
 }
 
-/// The rows that wait.
-fn waiting(alloc: Global, keeper: &mut MemKeeper, index: &str) -> Result<Vec<RowKey>, Fail> {
+fn rows_text(alloc: Global, rows: &[RowKey]) -> Result<String, Memory> {
+    let mut line = String::new(alloc);
+    for RowKey(row) in rows {
+        let text = format!(in alloc; "{row} ")?;
+        line.push_str(text.as_str())?;
+    }
+    Ok(line)
+}
+
+fn waiting_text(alloc: Global, keeper: &mut MemKeeper, index: &str) -> Result<String, KeepFault> {
     let index = named(alloc, index)?;
     let rows = pending(alloc, keeper, &index)?;
-    Ok(rows)
+    Ok(rows_text(alloc, &rows)?)
+}
+
+fn found(
+    alloc: Global,
+    keeper: &mut MemKeeper,
+    index: &str,
+    asked: Asked,
+) -> Result<String, KeepFault> {
+    match asked {
+        Asked::Row(row) => row_text(alloc, keeper, index, row),
+        Asked::Document(document) => document_text(alloc, keeper, index, document),
+        Asked::Waiting => waiting_text(alloc, keeper, index),
+    }
+}
+
+/// Whether it is asked after the removals, an index, what is asked of it, and the answer.
+type Row = (bool, &'static str, Asked, &'static str);
+
+const ROWS: &[Row] = &[
+    // rows are documents, or wait
+    (false, "di", Asked::Row(7), "1 false"),
+    (false, "di", Asked::Row(-12), "300 false"),
+    (false, "di", Asked::Row(3), "0 true"),
+    (false, "di", Asked::Row(8), "0 false"),
+    (false, "dj", Asked::Row(7), "2 false"),
+    // documents are rows
+    (false, "di", Asked::Document(1), "7"),
+    (false, "di", Asked::Document(300), "-12"),
+    (false, "di", Asked::Document(2), "0"),
+    (false, "dj", Asked::Document(2), "7"),
+    // rows wait in their order
+    (false, "di", Asked::Waiting, "-5 3 "),
+    (false, "dj", Asked::Waiting, ""),
+    // a row goes from both sides
+    (true, "di", Asked::Row(7), "0 false"),
+    (true, "di", Asked::Document(1), "0"),
+    (true, "di", Asked::Document(300), "-12"),
+    (true, "dj", Asked::Row(7), "2 false"),
+    // a row leaves the queue
+    (true, "di", Asked::Waiting, "-5 "),
+];
+
+fn answer(alloc: Global, row: &Row) -> Result<String, KeepFault> {
+    let (are_removed, index, asked, _) = *row;
+    let mut keeper = mapped(alloc, are_removed)?;
+    found(alloc, &mut keeper, index, asked)
 }
 
 #[test]
-fn rows_are_documents_or_wait(rt: HostRuntime) -> Result<(), Fail> {
-    let mut keeper = mapped(rt.alloc())?;
-    assert_eq!(rt; of_row(rt.alloc(), &mut keeper, "di", 7)?, (1, false));
-    assert_eq!(rt; of_row(rt.alloc(), &mut keeper, "di", -12)?, (300, false));
-    assert_eq!(rt; of_row(rt.alloc(), &mut keeper, "di", 3)?, (0, true));
-    assert_eq!(rt; of_row(rt.alloc(), &mut keeper, "di", 8)?, (0, false));
-    assert_eq!(rt; of_row(rt.alloc(), &mut keeper, "dj", 7)?, (2, false));
-    Ok(())
-}
-
-#[test]
-fn documents_are_rows(rt: HostRuntime) -> Result<(), Fail> {
-    let mut keeper = mapped(rt.alloc())?;
-    assert_eq!(rt; of_document(rt.alloc(), &mut keeper, "di", 1)?, 7);
-    assert_eq!(rt; of_document(rt.alloc(), &mut keeper, "di", 300)?, -12);
-    assert_eq!(rt; of_document(rt.alloc(), &mut keeper, "di", 2)?, 0);
-    assert_eq!(rt; of_document(rt.alloc(), &mut keeper, "dj", 2)?, 7);
-    Ok(())
-}
-
-#[test]
-fn waiting_rows_in_order(rt: HostRuntime) -> Result<(), Fail> {
-    let mut keeper = mapped(rt.alloc())?;
-    let rows = waiting(rt.alloc(), &mut keeper, "di")?;
-    assert_eq!(rt; rows.as_slice(), [RowKey(-5), RowKey(3)].as_slice());
-    let rows = waiting(rt.alloc(), &mut keeper, "dj")?;
-    assert_eq!(rt; rows.len(), 0);
-    Ok(())
-}
-
-#[test]
-fn a_row_goes_from_both_sides(rt: HostRuntime) -> Result<(), Fail> {
-    let mut keeper = without(rt.alloc())?;
-    assert_eq!(rt; of_row(rt.alloc(), &mut keeper, "di", 7)?, (0, false));
-    assert_eq!(rt; of_document(rt.alloc(), &mut keeper, "di", 1)?, 0);
-    assert_eq!(rt; of_document(rt.alloc(), &mut keeper, "di", 300)?, -12);
-    assert_eq!(rt; of_row(rt.alloc(), &mut keeper, "dj", 7)?, (2, false));
-    Ok(())
-}
-
-#[test]
-fn a_row_leaves_the_queue(rt: HostRuntime) -> Result<(), Fail> {
-    let mut keeper = without(rt.alloc())?;
-    let rows = waiting(rt.alloc(), &mut keeper, "di")?;
-    assert_eq!(rt; rows.as_slice(), [RowKey(-5)].as_slice());
+fn documents_and_rows_that_wait(rt: HostRuntime) -> Result<(), Fail> {
+    for row in ROWS {
+        let answer = answer(rt.alloc(), row)?;
+        assert_eq!(rt; answer.as_str(), row.3, "{row:?}");
+    }
     Ok(())
 }

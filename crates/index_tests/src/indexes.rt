@@ -1,70 +1,34 @@
 //! Indexes in a keeper in memory.
 
-ghost use Rattle.std.specs.Prelude.{◌≡◌, ◌≤◌, length, true, IfOk, IsTrue, [], ◌∷◌};
-ghost use Rattle.ct_keep.specs.SeenChanges.{change_of};
-ghost use Rattle.ct_keep.specs.Changes.{AnyEntry, AreWell};
-ghost use Rattle.tb_table.specs.Shapes.{HaveShortTexts};
+ghost use Rattle.std.specs.Prelude.{◌≡◌, ◌≤◌, length, true, IfOk};
 ghost use Rattle.tx_settings.specs.Attributes.{can_be_set};
 
 use ct_base::{DocId, Memory, Name, RowKey, Text};
 use ct_entry::Kind;
-use ct_keep::{Batch, Change, Keeper, MemKeeper};
+use ct_keep::{Batch, KeepFault, MemKeeper};
 use ix_context::{
-    KeyRange, create, is_index_shape, note_delete, note_insert, note_update, prefs_of, sync,
+    ContextFault, KeyRange, create, is_index_shape, note_delete, note_insert, note_update,
+    prefs_of, sync,
 };
 use ix_docmap::{pending, row_of};
 use std::alloc::Global;
 use std::test::Fail;
 use tb_table::{Target, insert};
+use test_keepers::{commit, named, new_keeper, one_text};
 use tx_settings::Prefs;
 use tx_tags::{Group, Section, SectionKind, Tags};
 
-/// Whether a keeper may hold what the change puts.
-fn is_entry(change: &Change) -> bool
-    ensures { IsTrue result → AreWell AnyEntry (change_of change.now ∷ []) }
-{
-    match &change.value {
-        None => true,
-        Some(value) => !change.key.is_empty() && change.key.len() <= 600 && value.len() <= 10_000,
+/// The fault of a keeper that a fault of an index stands for.
+fn keep_fault(fault: ContextFault) -> KeepFault {
+    match fault {
+        ContextFault::Memory => KeepFault::Memory,
+        ContextFault::Disk => KeepFault::Disk,
+        ContextFault::TooMany => KeepFault::Full,
     }
-}
-
-/// Whether a keeper may hold what the changes put.
-fn are_entries(batch: &Batch) -> bool
-    ensures { IsTrue result → AreWell AnyEntry batch.now }
-{
-    for change in batch.changes() {
-        if !is_entry(change) {
-            return false;
-        }
-    }
-    true
-}
-
-/// Commits the changes, if the keeper may hold what they put.
-fn commit(alloc: Global, keeper: &mut MemKeeper, batch: Batch) -> Result<(), Fail> {
-    if !are_entries(&batch) {
-        return Err(Fail::new("no keeper holds such an entry"));
-    }
-    keeper.commit(alloc, batch)?;
-    Ok(())
-}
-
-fn named(alloc: Global, text: &str) -> Result<Name, Memory> {
-    Name::read(alloc, text).map_err(|_| Memory)
-}
-
-fn one_text(alloc: Global, text: &str) -> Result<Vec<(u8, Text)>, Memory>
-    requires { length text.now ≤ 100 }
-    ensures { IfOk result (λ texts. HaveShortTexts texts.items) }
-{
-    let mut texts = Vec::new(alloc);
-    texts.push((1, Text::of(alloc, text)?))?;
-    Ok(texts)
 }
 
 /// Puts a row with one text into a table.
-fn add_row(alloc: Global, keeper: &mut MemKeeper, row: i64, text: &str) -> Result<(), Fail>
+fn add_row(alloc: Global, keeper: &mut MemKeeper, row: i64, text: &str) -> Result<(), KeepFault>
     requires { length text.now ≤ 100 }
 {
     let table = named(alloc, "docs")?;
@@ -81,27 +45,32 @@ fn add_index(
     index: &Name,
     prefs: &Prefs,
     range: KeyRange,
-) -> Result<(), Fail>
+) -> Result<(), KeepFault>
     requires { can_be_set prefs.now.lexer ≡ true }
 {
     let table = named(alloc, "docs")?;
     let target = Target { table, column: 1 };
     let mut batch = Batch::new(alloc);
-    create(alloc, keeper, &mut batch, index, &target, prefs, range)?;
+    create(alloc, keeper, &mut batch, index, &target, prefs, range).map_err(keep_fault)?;
     commit(alloc, keeper, batch)
 }
 
 /// Lets a row wait.
-fn add_note(alloc: Global, keeper: &mut MemKeeper, index: &Name, row: i64) -> Result<(), Fail> {
+fn add_note(
+    alloc: Global,
+    keeper: &mut MemKeeper,
+    index: &Name,
+    row: i64,
+) -> Result<(), KeepFault> {
     let mut batch = Batch::new(alloc);
-    note_insert(alloc, &mut batch, index, RowKey(row))?;
+    note_insert(alloc, &mut batch, index, RowKey(row)).map_err(keep_fault)?;
     commit(alloc, keeper, batch)
 }
 
 /// Lets a row go from the index, and counts the changes that this took.
-fn lose(alloc: Global, keeper: &mut MemKeeper, index: &Name, row: i64) -> Result<usize, Fail> {
+fn lose(alloc: Global, keeper: &mut MemKeeper, index: &Name, row: i64) -> Result<usize, KeepFault> {
     let mut batch = Batch::new(alloc);
-    note_delete(alloc, keeper, &mut batch, index, RowKey(row))?;
+    note_delete(alloc, keeper, &mut batch, index, RowKey(row)).map_err(keep_fault)?;
     let count = batch.changes().len();
     commit(alloc, keeper, batch)?;
     Ok(count)
@@ -114,24 +83,30 @@ fn rewrite(
     index: &Name,
     row: i64,
     text: &str,
-) -> Result<usize, Fail>
+) -> Result<usize, KeepFault>
     requires { length text.now ≤ 100 }
 {
     add_row(alloc, keeper, row, text)?;
     let mut batch = Batch::new(alloc);
-    note_update(alloc, keeper, &mut batch, index, RowKey(row))?;
+    note_update(alloc, keeper, &mut batch, index, RowKey(row)).map_err(keep_fault)?;
     let count = batch.changes().len();
     commit(alloc, keeper, batch)?;
     Ok(count)
 }
 
 /// Synchronises an index, and counts the changes that this took.
-fn settle(alloc: Global, keeper: &mut MemKeeper, index: &Name) -> Result<usize, Fail> {
+fn settle(alloc: Global, keeper: &mut MemKeeper, index: &Name) -> Result<usize, KeepFault> {
     let mut batch = Batch::new(alloc);
-    sync(alloc, keeper, &mut batch, index)?;
+    sync(alloc, keeper, &mut batch, index).map_err(keep_fault)?;
     let count = batch.changes().len();
     commit(alloc, keeper, batch)?;
     Ok(count)
+}
+
+fn put_pair(alloc: Global, line: &mut String, document: u32, row: i64) -> Result<(), Memory> {
+    let text = format!(in alloc; "{document}:{row} ")?;
+    line.push_str(text.as_str())?;
+    Ok(())
 }
 
 /// Puts the row that is this document of an index, if there is one.
@@ -141,16 +116,15 @@ fn put_document(
     index: &Name,
     line: &mut String,
     document: u32,
-) -> Result<(), Fail> {
+) -> Result<(), KeepFault> {
     if let Some(RowKey(row)) = row_of(alloc, keeper, index, DocId(document))? {
-        let text = format!(in alloc; "{document}:{row} ")?;
-        line.push_str(text.as_str())?;
+        put_pair(alloc, line, document, row)?;
     }
     Ok(())
 }
 
 /// The rows that are the documents 1 to 5 of an index.
-fn documents(alloc: Global, keeper: &mut MemKeeper, index: &Name) -> Result<String, Fail> {
+fn documents(alloc: Global, keeper: &mut MemKeeper, index: &Name) -> Result<String, KeepFault> {
     let mut line = String::new(alloc);
     for document in 1..6 {
         put_document(alloc, keeper, index, &mut line, document)?;
@@ -166,7 +140,7 @@ fn put_row(alloc: Global, line: &mut String, key: RowKey) -> Result<(), Memory> 
 }
 
 /// The rows that are the documents 1 to 5 of an index, and then those that wait.
-fn marks(alloc: Global, keeper: &mut MemKeeper, index: &Name) -> Result<String, Fail> {
+fn marks(alloc: Global, keeper: &mut MemKeeper, index: &Name) -> Result<String, KeepFault> {
     let mut line = documents(alloc, keeper, index)?;
     let waiting = pending(alloc, keeper, index)?;
     for key in waiting.iter() {
@@ -176,8 +150,8 @@ fn marks(alloc: Global, keeper: &mut MemKeeper, index: &Name) -> Result<String, 
 }
 
 /// Two rows of a table, and an index on their texts.
-fn indexed(alloc: Global, index: &Name, range: KeyRange) -> Result<MemKeeper, Fail> {
-    let mut keeper = MemKeeper::new(alloc, Vec::new(alloc), 1_000_000, 0)?;
+fn indexed(alloc: Global, index: &Name, range: KeyRange) -> Result<MemKeeper, KeepFault> {
+    let mut keeper = new_keeper(alloc)?;
     add_row(alloc, &mut keeper, 7, "Quick fox, quick!")?;
     add_row(alloc, &mut keeper, -12, "a slow fox")?;
     add_index(alloc, &mut keeper, index, &Prefs::defaults(alloc)?, range)?;
@@ -185,117 +159,140 @@ fn indexed(alloc: Global, index: &Name, range: KeyRange) -> Result<MemKeeper, Fa
 }
 
 /// The marks of a new index on those rows.
-fn marked_at_once(alloc: Global, range: KeyRange) -> Result<String, Fail> {
+fn marked_at_once(alloc: Global, range: KeyRange) -> Result<String, KeepFault> {
     let index = named(alloc, "di")?;
     let mut keeper = indexed(alloc, &index, range)?;
     marks(alloc, &mut keeper, &index)
 }
 
 /// The rows 7 and -12 of that table are documents of an index, and the row 3 waits.
-fn indexed_and_waiting(alloc: Global, index: &Name) -> Result<MemKeeper, Fail> {
+fn indexed_and_waiting(alloc: Global, index: &Name) -> Result<MemKeeper, KeepFault> {
     let mut keeper = indexed(alloc, index, KeyRange::ALL)?;
     add_row(alloc, &mut keeper, 3, "quick")?;
     add_note(alloc, &mut keeper, index, 3)?;
     Ok(keeper)
 }
 
-/// The marks of that index after so many synchronisations, and how many changes the last of them took.
-fn marked_later(alloc: Global, times: u32) -> Result<(String, usize), Fail> {
-    let index = named(alloc, "di")?;
-    let mut keeper = indexed_and_waiting(alloc, &index)?;
+/// Synchronises an index so many times, and gives how many changes the last time took.
+fn settle_often(
+    alloc: Global,
+    keeper: &mut MemKeeper,
+    index: &Name,
+    times: u32,
+) -> Result<usize, KeepFault> {
     let mut count = 0;
     for _ in 0..times {
-        count = settle(alloc, &mut keeper, &index)?;
+        count = settle(alloc, keeper, index)?;
     }
-    let line = marks(alloc, &mut keeper, &index)?;
-    Ok((line, count))
+    Ok(count)
 }
 
-/// How many changes it takes that a row goes, the marks then, and the marks after a synchronisation.
-fn marked_without(alloc: Global, row: i64) -> Result<(usize, String, String), Fail> {
+/// A line of how many changes something took, and marks.
+fn told(alloc: Global, count: usize, marks: &str) -> Result<String, Memory> {
+    Ok(format!(in alloc; "{count}: {marks}")?)
+}
+
+/// How many changes the last of so many synchronisations of that index took, and its marks then.
+fn marked_later(alloc: Global, times: u32) -> Result<String, KeepFault> {
+    let index = named(alloc, "di")?;
+    let mut keeper = indexed_and_waiting(alloc, &index)?;
+    let count = settle_often(alloc, &mut keeper, &index, times)?;
+    let line = marks(alloc, &mut keeper, &index)?;
+    Ok(told(alloc, count, line.as_str())?)
+}
+
+/// How many changes something took, the marks then, and the marks after a synchronisation.
+fn marked_around(
+    alloc: Global,
+    keeper: &mut MemKeeper,
+    index: &Name,
+    count: usize,
+) -> Result<String, KeepFault> {
+    let before = marks(alloc, keeper, index)?;
+    let mut line = told(alloc, count, before.as_str())?;
+    settle(alloc, keeper, index)?;
+    put_text(&mut line, "then ")?;
+    let after = marks(alloc, keeper, index)?;
+    put_text(&mut line, after.as_str())?;
+    Ok(line)
+}
+
+fn put_text(line: &mut String, text: &str) -> Result<(), Memory> {
+    line.push_str(text)?;
+    Ok(())
+}
+
+/// The same where a row goes.
+fn marked_without(alloc: Global, row: i64) -> Result<String, KeepFault> {
     let index = named(alloc, "di")?;
     let mut keeper = indexed_and_waiting(alloc, &index)?;
     let count = lose(alloc, &mut keeper, &index, row)?;
-    let before = marks(alloc, &mut keeper, &index)?;
-    settle(alloc, &mut keeper, &index)?;
-    let after = marks(alloc, &mut keeper, &index)?;
-    Ok((count, before, after))
+    marked_around(alloc, &mut keeper, &index, count)
 }
 
 /// The same where a row gets another text.
-fn marked_rewritten(alloc: Global, row: i64) -> Result<(usize, String, String), Fail> {
+fn marked_rewritten(alloc: Global, row: i64) -> Result<String, KeepFault> {
     let index = named(alloc, "di")?;
     let mut keeper = indexed_and_waiting(alloc, &index)?;
     let count = rewrite(alloc, &mut keeper, &index, row, "slow quick cat")?;
-    let before = marks(alloc, &mut keeper, &index)?;
-    settle(alloc, &mut keeper, &index)?;
-    let after = marks(alloc, &mut keeper, &index)?;
-    Ok((count, before, after))
+    marked_around(alloc, &mut keeper, &index, count)
 }
 
-#[test]
-fn rows_in_the_range_are_documents(rt: HostRuntime) -> Result<(), Fail> {
-    let all = marked_at_once(rt.alloc(), KeyRange::ALL)?;
-    assert_eq!(&rt; all.as_str(), "1:-12 2:7 ");
-    let range = KeyRange {
-        from: RowKey(-11),
-        to: RowKey(7),
-    };
-    let some = marked_at_once(rt.alloc(), range)?;
-    assert_eq!(&rt; some.as_str(), "1:7 ");
-    Ok(())
+/// What is done with an index.
+#[derive(Clone, Copy, Debug)]
+enum Case {
+    /// It is made over the rows from the first key to the second one.
+    Made(i64, i64),
+    /// It is synchronised so many times.
+    Settled(u32),
+    /// A row goes.
+    Without(i64),
+    /// A row gets another text.
+    Rewritten(i64),
 }
 
-#[test]
-fn a_row_waits_until_the_synchronisation(rt: HostRuntime) -> Result<(), Fail> {
-    let (before, _) = marked_later(rt.alloc(), 0)?;
-    assert_eq!(&rt; before.as_str(), "1:-12 2:7 +3 ");
-    let (after, count) = marked_later(rt.alloc(), 1)?;
-    assert_eq!(&rt; after.as_str(), "1:-12 2:7 3:3 ");
-    // out of the queue, its document, its row, one token, and the entry of the index
-    assert_eq!(&rt; count, 5);
-    Ok(())
+fn case_line(alloc: Global, case: Case) -> Result<String, KeepFault> {
+    match case {
+        Case::Made(from, to) => {
+            let range = KeyRange {
+                from: RowKey(from),
+                to: RowKey(to),
+            };
+            marked_at_once(alloc, range)
+        }
+        Case::Settled(times) => marked_later(alloc, times),
+        Case::Without(row) => marked_without(alloc, row),
+        Case::Rewritten(row) => marked_rewritten(alloc, row),
+    }
 }
 
-#[test]
-fn a_second_one_has_nothing_to_do(rt: HostRuntime) -> Result<(), Fail> {
-    let (line, count) = marked_later(rt.alloc(), 2)?;
-    assert_eq!(&rt; line.as_str(), "1:-12 2:7 3:3 ");
-    assert_eq!(&rt; count, 0);
-    Ok(())
-}
+const CASES: &[(Case, &str)] = &[
+    (Case::Made(i64::MIN, i64::MAX), "1:-12 2:7 "),
+    (Case::Made(-11, 7), "1:7 "),
+    // a row waits until the synchronisation, which takes it out of the queue, and puts its document, its row, one token, and the entry
+    // of the index; a second one has nothing to do
+    (Case::Settled(0), "0: 1:-12 2:7 +3 "),
+    (Case::Settled(1), "5: 1:-12 2:7 3:3 "),
+    (Case::Settled(2), "0: 1:-12 2:7 3:3 "),
+    // a document goes, with its row
+    (Case::Without(7), "2: 1:-12 +3 then 1:-12 3:3 "),
+    // a row that waits goes
+    (Case::Without(3), "1: 1:-12 2:7 then 1:-12 2:7 "),
+    // a document gets another text: its document, its row, and the queue
+    (Case::Rewritten(7), "3: 1:-12 +3 +7 then 1:-12 3:3 4:7 "),
+];
 
 #[test]
-fn a_document_goes(rt: HostRuntime) -> Result<(), Fail> {
-    let (count, before, after) = marked_without(rt.alloc(), 7)?;
-    assert_eq!(&rt; before.as_str(), "1:-12 +3 ");
-    assert_eq!(&rt; after.as_str(), "1:-12 3:3 ");
-    // its document, and its row
-    assert_eq!(&rt; count, 2);
-    Ok(())
-}
-
-#[test]
-fn a_row_that_waits_goes(rt: HostRuntime) -> Result<(), Fail> {
-    let (count, before, after) = marked_without(rt.alloc(), 3)?;
-    assert_eq!(&rt; before.as_str(), "1:-12 2:7 ");
-    assert_eq!(&rt; after.as_str(), "1:-12 2:7 ");
-    assert_eq!(&rt; count, 1);
-    Ok(())
-}
-
-#[test]
-fn a_document_gets_another_text(rt: HostRuntime) -> Result<(), Fail> {
-    let (count, before, after) = marked_rewritten(rt.alloc(), 7)?;
-    assert_eq!(&rt; before.as_str(), "1:-12 +3 +7 ");
-    assert_eq!(&rt; after.as_str(), "1:-12 3:3 4:7 ");
-    // its document, its row, and the queue
-    assert_eq!(&rt; count, 3);
+fn rows_are_documents_or_wait(rt: HostRuntime) -> Result<(), Fail> {
+    for (case, line) in CASES {
+        let found = case_line(rt.alloc(), *case)?;
+        assert_eq!(rt; found.as_str(), *line, "{case:?}");
+    }
     Ok(())
 }
 
 /// A section of one tag, which has its name.
-fn section(alloc: Global, text: &str, kind: SectionKind) -> Result<Section, Fail> {
+fn section(alloc: Global, text: &str, kind: SectionKind) -> Result<Section, Memory> {
     let mut tags = Vec::new(alloc);
     tags.push(Text::of(alloc, text)?)?;
     Ok(Section {
@@ -306,22 +303,20 @@ fn section(alloc: Global, text: &str, kind: SectionKind) -> Result<Section, Fail
 }
 
 /// Preferences with the invisible field t and the zone p.
-fn with_sections(alloc: Global) -> Result<Prefs, Fail>
+fn with_sections(alloc: Global) -> Result<Prefs, Memory>
     ensures { IfOk result (λ p. can_be_set p.lexer ≡ true) }
 {
     let mut sections = Vec::new(alloc);
     sections.push(section(alloc, "t", SectionKind::Field)?)?;
     sections.push(section(alloc, "p", SectionKind::Zone)?)?;
-    let Some(group) = Group::of(alloc, false, sections, false, false)? else {
-        return Err(Fail::new("these sections make a group"));
-    };
+    let group = Group::of(alloc, false, sections, false, false)?.ok_or(Memory)?;
     let mut prefs = Prefs::defaults(alloc)?;
     prefs.group = group;
     Ok(prefs)
 }
 
 /// Preferences by which case is kept.
-fn with_case(alloc: Global) -> Result<Prefs, Fail>
+fn with_case(alloc: Global) -> Result<Prefs, Memory>
     ensures { IfOk result (λ p. can_be_set p.lexer ≡ true) }
 {
     let mut prefs = Prefs::defaults(alloc)?;
@@ -330,11 +325,16 @@ fn with_case(alloc: Global) -> Result<Prefs, Fail>
 }
 
 /// An index with these preferences, in which a row with this text waits.
-fn waiting_in(alloc: Global, index: &Name, prefs: &Prefs, text: &str) -> Result<MemKeeper, Fail>
+fn waiting_in(
+    alloc: Global,
+    index: &Name,
+    prefs: &Prefs,
+    text: &str,
+) -> Result<MemKeeper, KeepFault>
     requires set { can_be_set prefs.now.lexer ≡ true }
     requires short { length text.now ≤ 100 }
 {
-    let mut keeper = MemKeeper::new(alloc, Vec::new(alloc), 1_000_000, 0)?;
+    let mut keeper = new_keeper(alloc)?;
     add_index(alloc, &mut keeper, index, prefs, KeyRange::ALL)?;
     add_row(alloc, &mut keeper, 1, text)?;
     add_note(alloc, &mut keeper, index, 1)?;
@@ -342,7 +342,7 @@ fn waiting_in(alloc: Global, index: &Name, prefs: &Prefs, text: &str) -> Result<
 }
 
 /// How many changes it takes to settle a row with this text in an index with these preferences.
-fn settled_by(alloc: Global, prefs: &Prefs, text: &str) -> Result<usize, Fail>
+fn settled_by(alloc: Global, prefs: &Prefs, text: &str) -> Result<usize, KeepFault>
     requires set { can_be_set prefs.now.lexer ≡ true }
     requires short { length text.now ≤ 100 }
 {
@@ -351,30 +351,33 @@ fn settled_by(alloc: Global, prefs: &Prefs, text: &str) -> Result<usize, Fail>
     settle(alloc, &mut keeper, &index)
 }
 
+fn settled_with_sections(alloc: Global) -> Result<usize, KeepFault> {
+    let prefs = with_sections(alloc)?;
+    settled_by(alloc, &prefs, "<T>alpha</T> <P>beta</P>")
+}
+
+/// Out of the queue, its document, its row, a word in the field, one in the main stream, a section, and the entry.
 #[test]
 fn words_of_each_stream_and_sections_have_entries(rt: HostRuntime) -> Result<(), Fail> {
-    let prefs = with_sections(rt.alloc())?;
-    let count = settled_by(rt.alloc(), &prefs, "<T>alpha</T> <P>beta</P>")?;
-    // out of the queue, its document, its row, a word in the field, one in the main stream, a section, and the entry
-    assert_eq!(&rt; count, 7);
+    assert_eq!(rt; settled_with_sections(rt.alloc())?, 7);
     Ok(())
 }
 
-/// Whether case is kept in an index with these preferences; none where there is no index of the name.
-fn keeps_case(alloc: Global, prefs: &Prefs, name: &str) -> Result<Option<bool>, Fail>
-    requires { can_be_set prefs.now.lexer ≡ true }
-{
+/// Whether case is kept in an index in which it is; none where there is no index of the name.
+fn keeps_case(alloc: Global, name: &str) -> Result<Option<bool>, KeepFault> {
+    let prefs = with_case(alloc)?;
     let index = named(alloc, "di")?;
-    let mut keeper = waiting_in(alloc, &index, prefs, "a")?;
-    let found = prefs_of(alloc, &mut keeper, &named(alloc, name)?)?;
+    let other = named(alloc, name)?;
+    let mut keeper = waiting_in(alloc, &index, &prefs, "a")?;
+    let found = prefs_of(alloc, &mut keeper, &other)?;
     Ok(found.map(|prefs| prefs.lexer.mixed_case))
 }
 
 #[test]
 fn preferences_are_those_of_the_index(rt: HostRuntime) -> Result<(), Fail> {
-    let prefs = with_case(rt.alloc())?;
-    assert_eq!(&rt; keeps_case(rt.alloc(), &prefs, "di")?, Some(true));
-    assert_eq!(&rt; keeps_case(rt.alloc(), &prefs, "ti")?, None);
+    for (name, keeps) in [("di", Some(true)), ("ti", None)] {
+        assert_eq!(rt; keeps_case(rt.alloc(), name)?, keeps);
+    }
     Ok(())
 }
 
@@ -478,7 +481,7 @@ fn is_as_told(alloc: Global, shape: &Shape) -> Result<bool, Memory> {
 #[test]
 fn entries_are_told_by_their_shape(rt: HostRuntime) -> Result<(), Fail> {
     for shape in &SHAPES {
-        assert!(&rt; is_as_told(rt.alloc(), shape)?);
+        assert!(rt; is_as_told(rt.alloc(), shape)?);
     }
     Ok(())
 }

@@ -139,24 +139,37 @@ fn operands(alloc: Global, rows: &[&[(u32, u32)]]) -> Result<Vec<Vec<Pair>>, Mem
     Ok(all)
 }
 
+/// Where the phrase of a row starts.
+fn starts_of(alloc: Global, row: &PhraseRow) -> Result<Vec<u32>, Memory> {
+    let (text, phrase, lo, hi, _) = *row;
+    if text.len() > 8 {
+        return Err(Memory);
+    }
+    let slots = slots(alloc, text, phrase)?;
+    let mut found = Vec::new(alloc);
+    phrase_starts(&slots, lo, hi, &mut found)?;
+    Ok(found)
+}
+
 #[test]
 fn phrases_start(rt: HostRuntime) -> Result<(), Fail> {
-    for (text, phrase, lo, hi, starts) in PHRASES {
-        assert!(&rt; text.len() <= 8);
-        let slots = slots(rt.alloc(), text, phrase)?;
-        let mut found = Vec::new(rt.alloc());
-        phrase_starts(&slots, *lo, *hi, &mut found)?;
-        assert_eq!(&rt; found.as_slice(), *starts, "{phrase:?} in {text:?}");
+    for row in PHRASES {
+        let found = starts_of(rt.alloc(), row)?;
+        assert_eq!(rt; found.as_slice(), row.4, "{row:?}");
     }
     Ok(())
 }
 
+fn is_near(alloc: Global, row: &NearRow) -> Result<bool, Memory> {
+    let (rows, span, ordered, _) = *row;
+    let operands = operands(alloc, rows)?;
+    Ok(near_holds(&operands, span, ordered))
+}
+
 #[test]
 fn operands_stand_near(rt: HostRuntime) -> Result<(), Fail> {
-    for (rows, span, ordered, near) in NEAR {
-        let operands = operands(rt.alloc(), rows)?;
-        let found = near_holds(&operands, *span, *ordered);
-        assert_eq!(&rt; found, *near, "{rows:?} within {span}, in order {ordered}");
+    for row in NEAR {
+        assert!(rt; is_near(rt.alloc(), row)? == row.3, "{row:?}");
     }
     Ok(())
 }

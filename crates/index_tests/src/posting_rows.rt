@@ -1,8 +1,8 @@
 //! Bytes worked out by hand.
 
-use ct_base::{Pair, Pairs};
+use ct_base::{Memory, Pair, Pairs};
 use ix_posting::{Positions, Row, RowDocument, RowFault, SpanDocument, SpanRow};
-use std::process::Abort;
+use std::alloc::Global;
 use std::test::Fail;
 
 /// Each document of a row with its positions, and the row's bytes.
@@ -38,20 +38,33 @@ static NO_ROWS: [&[u8]; 16] = [
     &[0xff, 0xff, 0xff, 0xff, 0x0f, 1, 1, 1],
 ];
 
-fn assert_row(rt: &impl Abort, row: &Row, expected: &[(u32, &[u32])]) {
-    assert_eq!(rt; row.documents().len(), expected.len());
-    for (document, (number, positions)) in row.documents().iter().zip(expected) {
-        assert_eq!(rt; document.document, *number);
-        assert_eq!(rt; document.positions.as_slice(), *positions);
+fn is_document(document: &RowDocument, expected: &(u32, &[u32])) -> bool {
+    document.document == expected.0 && document.positions.as_slice() == expected.1
+}
+
+fn is_row(row: &Row, expected: &[(u32, &[u32])]) -> bool {
+    for (document, expected) in row.documents().iter().zip(expected) {
+        if !is_document(document, expected) {
+            return false;
+        }
     }
+    row.documents().len() == expected.len()
+}
+
+/// The bytes of the row that bytes spell, where it has these documents.
+fn row_again(alloc: Global, bytes: &[u8], expected: &[(u32, &[u32])]) -> Result<Vec<u8>, RowFault> {
+    let row = Row::decode(alloc, bytes)?;
+    if !is_row(&row, expected) {
+        return Err(RowFault::BadRow);
+    }
+    Ok(row.encode(alloc)?)
 }
 
 #[test]
 fn rows(rt: HostRuntime) -> Result<(), Fail> {
     for (documents, bytes) in &ROWS {
-        let row = Row::decode(rt.alloc(), bytes)?;
-        assert_row(&rt, &row, documents);
-        assert_eq!(rt; row.encode(rt.alloc())?.as_slice(), *bytes);
+        let again = row_again(rt.alloc(), bytes, documents)?;
+        assert_eq!(rt; again.as_slice(), *bytes);
     }
     Ok(())
 }
@@ -59,8 +72,10 @@ fn rows(rt: HostRuntime) -> Result<(), Fail> {
 #[test]
 fn no_rows(rt: HostRuntime) {
     for bytes in &NO_ROWS {
-        let row = Row::decode(rt.alloc(), bytes);
-        assert!(rt; matches!(row, Err(RowFault::BadRow)));
+        assert!(rt;
+            matches!(Row::decode(rt.alloc(), bytes), Err(RowFault::BadRow)),
+            "{bytes:?}"
+        );
     }
 }
 
@@ -101,29 +116,46 @@ static NO_SPAN_ROWS: [&[u8]; 16] = [
     &[0xff, 0xff, 0xff, 0xff, 0x0f, 1, 1, 1, 0],
 ];
 
-fn assert_span_row(rt: &impl Abort, row: &SpanRow, expected: &[(u32, &[(u32, u32)])]) {
-    assert_eq!(rt; row.documents().len(), expected.len());
-    for (document, (number, pairs)) in row.documents().iter().zip(expected) {
-        assert_eq!(rt; document.document, *number);
-        assert_eq!(rt; document.pairs.as_slice().len(), pairs.len());
-        for (pair, (first, last)) in document.pairs.as_slice().iter().zip(*pairs) {
-            assert_eq!(rt;
-                *pair,
-                Pair {
-                    first: *first,
-                    last: *last
-                }
-            );
+fn are_pairs(pairs: &[Pair], expected: &[(u32, u32)]) -> bool {
+    for (pair, (first, last)) in pairs.iter().zip(expected) {
+        if pair.first != *first || pair.last != *last {
+            return false;
         }
     }
+    pairs.len() == expected.len()
+}
+
+fn is_span_document(document: &SpanDocument, expected: &(u32, &[(u32, u32)])) -> bool {
+    document.document == expected.0 && are_pairs(document.pairs.as_slice(), expected.1)
+}
+
+fn is_span_row(row: &SpanRow, expected: &[(u32, &[(u32, u32)])]) -> bool {
+    for (document, expected) in row.documents().iter().zip(expected) {
+        if !is_span_document(document, expected) {
+            return false;
+        }
+    }
+    row.documents().len() == expected.len()
+}
+
+/// The bytes of the row that bytes spell, where it has these documents.
+fn span_row_again(
+    alloc: Global,
+    bytes: &[u8],
+    expected: &[(u32, &[(u32, u32)])],
+) -> Result<Vec<u8>, RowFault> {
+    let row = SpanRow::decode(alloc, bytes)?;
+    if !is_span_row(&row, expected) {
+        return Err(RowFault::BadRow);
+    }
+    Ok(row.encode(alloc)?)
 }
 
 #[test]
 fn span_rows(rt: HostRuntime) -> Result<(), Fail> {
     for (documents, bytes) in &SPAN_ROWS {
-        let row = SpanRow::decode(rt.alloc(), bytes)?;
-        assert_span_row(&rt, &row, documents);
-        assert_eq!(rt; row.encode(rt.alloc())?.as_slice(), *bytes);
+        let again = span_row_again(rt.alloc(), bytes, documents)?;
+        assert_eq!(rt; again.as_slice(), *bytes);
     }
     Ok(())
 }
@@ -131,26 +163,42 @@ fn span_rows(rt: HostRuntime) -> Result<(), Fail> {
 #[test]
 fn no_span_rows(rt: HostRuntime) {
     for bytes in &NO_SPAN_ROWS {
-        let row = SpanRow::decode(rt.alloc(), bytes);
-        assert!(rt; matches!(row, Err(RowFault::BadRow)));
+        assert!(rt;
+            matches!(SpanRow::decode(rt.alloc(), bytes), Err(RowFault::BadRow)),
+            "{bytes:?}"
+        );
     }
 }
 
-#[test]
-fn rows_that_are_made(rt: HostRuntime) -> Result<(), Fail> {
-    let positions = Positions::of(vec![in rt.alloc(); 1, 3]?);
-    let mut documents = Vec::new(rt.alloc());
-    documents.push(RowDocument {
-        document: 1,
-        positions,
-    })?;
-    let bytes = Row::of(documents).encode(rt.alloc())?;
-    assert_eq!(rt; bytes.as_slice(), [1, 1, 2, 1, 2].as_slice());
+/// A row of one document with two positions.
+fn made_row(alloc: Global) -> Result<Vec<u8>, Memory> {
+    let positions = Positions::of(vec![in alloc; 1, 3]?);
+    let documents = vec![in alloc;
+        RowDocument {
+            document: 1,
+            positions
+        },
+    ]?;
+    Ok(Row::of(documents).encode(alloc)?)
+}
 
-    let pairs = Pairs::of(vec![in rt.alloc(); Pair { first: 1, last: 3 }]?);
-    let mut documents = Vec::new(rt.alloc());
-    documents.push(SpanDocument { document: 1, pairs })?;
-    let bytes = SpanRow::of(documents).encode(rt.alloc())?;
+#[test]
+fn a_row_that_is_made(rt: HostRuntime) -> Result<(), Fail> {
+    let bytes = made_row(rt.alloc())?;
+    assert_eq!(rt; bytes.as_slice(), [1, 1, 2, 1, 2].as_slice());
+    Ok(())
+}
+
+/// A row of one document with a pair.
+fn made_span_row(alloc: Global) -> Result<Vec<u8>, Memory> {
+    let pairs = Pairs::of(vec![in alloc; Pair { first: 1, last: 3 }]?);
+    let documents = vec![in alloc; SpanDocument { document: 1, pairs }]?;
+    Ok(SpanRow::of(documents).encode(alloc)?)
+}
+
+#[test]
+fn a_span_row_that_is_made(rt: HostRuntime) -> Result<(), Fail> {
+    let bytes = made_span_row(rt.alloc())?;
     assert_eq!(rt; bytes.as_slice(), [1, 1, 1, 1, 2].as_slice());
     Ok(())
 }

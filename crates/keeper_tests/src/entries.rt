@@ -13,6 +13,7 @@ use ct_entry::{
 };
 use ct_keep::{Batch, KeepFault, Keeper, MemKeeper};
 use std::alloc::Global;
+use std::str::from_utf8;
 use std::test::Fail;
 
 /// A change: a kind, an owner, the row that the key ends in, if it ends in one, and the value, or None where the entry is to go.
@@ -97,23 +98,37 @@ fn kept(alloc: Global) -> Result<MemKeeper, KeepFault> {
     Ok(keeper)
 }
 
+/// A kind, an owner and a row, and the bytes of their key.
+type KeyRow = (Kind, &'static str, Option<i64>, &'static [u8]);
+
+const KEY_BYTES: &[KeyRow] = &[
+    (
+        Kind::RowNumbers,
+        "t",
+        Some(7),
+        &[2, 1, b't', 0x80, 0, 0, 0, 0, 0, 0, 7],
+    ),
+    (Kind::RuleFaults, "t", None, &[0x2c, 1, b't']),
+];
+
+fn key_of(alloc: Global, kind: Kind, owner: &str, row: Option<i64>) -> Result<Vec<u8>, Memory> {
+    let owner = named(alloc, owner)?;
+    let part = part_of(alloc, row)?;
+    key_bytes(alloc, kind, &owner, &part)
+}
+
 #[test]
 fn the_bytes_of_keys(rt: HostRuntime) -> Result<(), Fail> {
-    let alloc = rt.alloc();
-    let table = named(alloc, "t")?;
-    let row = part_of(alloc, Some(7))?;
-    let key = key_bytes(alloc, Kind::RowNumbers, &table, &row)?;
-    assert_eq!(rt;
-        key.as_slice(),
-        [2, 1, b't', 0x80, 0, 0, 0, 0, 0, 0, 7].as_slice()
-    );
-    let key = key_bytes(alloc, Kind::RuleFaults, &table, b"")?;
-    assert_eq!(rt; key.as_slice(), [0x2c, 1, b't'].as_slice());
+    for (kind, owner, row, bytes) in KEY_BYTES {
+        assert!(rt; key_of(rt.alloc(), *kind, owner, *row)?.as_slice() == *bytes);
+    }
     Ok(())
 }
 
 /// Single entries: the value of each key, or None.
-const VALUES: &[(Kind, &str, Option<i64>, Option<&str>)] = &[
+type Value = (Kind, &'static str, Option<i64>, Option<&'static str>);
+
+const VALUES: &[Value] = &[
     (Kind::Tables, "docs", None, Some("four")),
     (Kind::Tables, "gone", None, None),
     (Kind::Tables, "own", None, None),
@@ -124,76 +139,37 @@ const VALUES: &[(Kind, &str, Option<i64>, Option<&str>)] = &[
     (Kind::Pending, "docs", Some(5), None),
 ];
 
+fn is_same(found: Option<Vec<u8>>, value: Option<&str>) -> bool {
+    match (&found, value) {
+        (Some(found), Some(value)) => found.as_slice() == value.as_bytes(),
+        (None, None) => true,
+        _ => false,
+    }
+}
+
+/// Whether the entry of a key is the one of the row, and is there exactly where the row has one.
+fn is_found(alloc: Global, keeper: &mut MemKeeper, value: Value) -> Result<bool, KeepFault> {
+    let owner = named(alloc, value.1)?;
+    let part = part_of(alloc, value.2)?;
+    let there = has_entry(alloc, keeper, value.0, &owner, &part)?;
+    let found = fetch_entry(alloc, keeper, value.0, &owner, &part)?;
+    Ok(there == value.3.is_some() && is_same(found, value.3))
+}
+
+/// The number of the first row whose entry is another one.
+fn wrong_value(alloc: Global) -> Result<Option<usize>, KeepFault> {
+    let mut keeper = kept(alloc)?;
+    for (number, value) in VALUES.iter().enumerate() {
+        if !is_found(alloc, &mut keeper, *value)? {
+            return Ok(Some(number));
+        }
+    }
+    Ok(None)
+}
+
 #[test]
 fn single_entries(rt: HostRuntime) -> Result<(), Fail> {
-    let alloc = rt.alloc();
-    let mut keeper = kept(alloc)?;
-    for (kind, owner, row, value) in VALUES {
-        let owner = named(alloc, owner)?;
-        let part = part_of(alloc, *row)?;
-        let found = fetch_entry(alloc, &mut keeper, *kind, &owner, &part)?;
-        let there = has_entry(alloc, &mut keeper, *kind, &owner, &part)?;
-        assert_eq!(rt; there, value.is_some());
-        let same = match (&found, value) {
-            (Some(found), Some(value)) => found.as_slice() == value.as_bytes(),
-            (found, value) => found.is_none() && value.is_none(),
-        };
-        assert!(rt; same);
-    }
-    Ok(())
-}
-
-#[test]
-fn the_rows_of_an_owner(rt: HostRuntime) -> Result<(), Fail> {
-    let alloc = rt.alloc();
-    let mut keeper = kept(alloc)?;
-    let docs = named(alloc, "docs")?;
-    let rows = row_keys(alloc, &mut keeper, Kind::RowNumbers, &docs)?;
-    let expected = [RowKey(i64::MIN), RowKey(-3), RowKey(0), RowKey(5)];
-    assert_eq!(rt; rows.as_slice(), expected.as_slice());
-    let none = row_keys(alloc, &mut keeper, Kind::RowDocuments, &docs)?;
-    assert_eq!(rt; none.len(), 0);
-    let nexts = [
-        (None, Some(RowKey(i64::MIN))),
-        (Some(RowKey(-4)), Some(RowKey(-3))),
-        (Some(RowKey(-3)), Some(RowKey(0))),
-        (Some(RowKey(5)), None),
-    ];
-    for (after, next) in nexts {
-        let found = next_row_key(alloc, &mut keeper, Kind::RowNumbers, &docs, after)?;
-        assert_eq!(rt; found, next);
-    }
-    Ok(())
-}
-
-/// Entries whose rests begin with a byte, as those of the rows from 0 on.
-#[test]
-fn the_entries_of_an_owner(rt: HostRuntime) -> Result<(), Fail> {
-    let alloc = rt.alloc();
-    let mut keeper = kept(alloc)?;
-    let docs = named(alloc, "docs")?;
-    let found = entries_of(alloc, &mut keeper, Kind::RowNumbers, &docs, &[0x80])?;
-    let mut all = Vec::new(alloc);
-    for (rest, value) in &found {
-        assert_eq!(rt; rest.len(), 7);
-        all.extend_from_slice(value)?;
-        all.push(b' ')?;
-    }
-    assert_eq!(rt; all.as_slice(), b"zero five ".as_slice());
-    Ok(())
-}
-
-#[test]
-fn the_owners_of_a_kind(rt: HostRuntime) -> Result<(), Fail> {
-    let alloc = rt.alloc();
-    let mut keeper = kept(alloc)?;
-    let names = owners(alloc, &mut keeper, Kind::Tables)?;
-    let mut all = String::new(alloc);
-    for name in &names {
-        all.push_str(name.as_str())?;
-        all.push_str(" ")?;
-    }
-    assert_eq!(rt; all.as_str(), "ab zoo docs ");
+    assert_eq!(rt; wrong_value(rt.alloc())?, None);
     Ok(())
 }
 
@@ -211,23 +187,156 @@ fn remove_all(
     Ok(count)
 }
 
-#[test]
-fn all_entries_of_an_owner_go(rt: HostRuntime) -> Result<(), Fail> {
-    let alloc = rt.alloc();
+/// A call.
+#[derive(Clone, Copy)]
+enum Step {
+    /// The rows of an owner.
+    Rows,
+    /// The row behind another one.
+    Next(Option<i64>),
+    /// How long the rests of the entries are that begin with a byte, and the values.
+    Entries(u8),
+    Owners,
+    Has,
+    /// How many entries go.
+    Remove,
+}
+
+fn put_row(alloc: Global, line: &mut String, row: RowKey) -> Result<(), Memory> {
+    let RowKey(row) = row;
+    let text = format!(in alloc; "{row} ")?;
+    line.push_str(text.as_str())?;
+    Ok(())
+}
+
+fn rows_text(alloc: Global, rows: &[RowKey]) -> Result<String, Memory> {
+    let mut line = String::new(alloc);
+    for row in rows {
+        put_row(alloc, &mut line, *row)?;
+    }
+    Ok(line)
+}
+
+fn entries_text(alloc: Global, entries: &[(Vec<u8>, Vec<u8>)]) -> Result<String, Memory> {
+    let mut line = String::new(alloc);
+    for (rest, value) in entries {
+        let length = rest.len();
+        let value = from_utf8(value).unwrap_or("no text");
+        let text = format!(in alloc; "{length} {value} ")?;
+        line.push_str(text.as_str())?;
+    }
+    Ok(line)
+}
+
+fn names_text(alloc: Global, names: &[Name]) -> Result<String, Memory> {
+    let mut line = String::new(alloc);
+    for name in names {
+        line.push_str(name.as_str())?;
+        line.push(' ')?;
+    }
+    Ok(line)
+}
+
+fn count_text(alloc: Global, count: usize) -> Result<String, Memory> {
+    Ok(format!(in alloc; "{count}")?)
+}
+
+fn truth_text(alloc: Global, holds: bool) -> Result<String, Memory> {
+    Ok(String::from_str(alloc, if holds { "yes" } else { "no" })?)
+}
+
+/// What a call gives.
+fn step_text(
+    alloc: Global,
+    keeper: &mut MemKeeper,
+    step: Step,
+    kind: Kind,
+    owner: &Name,
+) -> Result<String, KeepFault> {
+    let text = match step {
+        Step::Rows => rows_text(alloc, &row_keys(alloc, keeper, kind, owner)?),
+        Step::Next(after) => next_text(
+            alloc,
+            next_row_key(alloc, keeper, kind, owner, after.map(RowKey))?,
+        ),
+        Step::Entries(first) => entries_text(
+            alloc,
+            &entries_of(alloc, keeper, kind, owner, &[first])?,
+        ),
+        Step::Owners => names_text(alloc, &owners(alloc, keeper, kind)?),
+        Step::Has => truth_text(alloc, has_entry(alloc, keeper, kind, owner, &[])?),
+        Step::Remove => count_text(alloc, remove_all(alloc, keeper, kind, owner)?),
+    };
+    Ok(text?)
+}
+
+fn next_text(alloc: Global, next: Option<RowKey>) -> Result<String, Memory> {
+    match next {
+        Some(row) => rows_text(alloc, &[row]),
+        None => rows_text(alloc, &[]),
+    }
+}
+
+/// A call, the kind and the owner that it is made with, and what it gives.
+type StepRow = (Step, Kind, &'static str, &'static str);
+
+const STEPS: &[StepRow] = &[
+    (
+        Step::Rows,
+        Kind::RowNumbers,
+        "docs",
+        "-9223372036854775808 -3 0 5 ",
+    ),
+    (Step::Rows, Kind::RowDocuments, "docs", ""),
+    (
+        Step::Next(None),
+        Kind::RowNumbers,
+        "docs",
+        "-9223372036854775808 ",
+    ),
+    (Step::Next(Some(-4)), Kind::RowNumbers, "docs", "-3 "),
+    (Step::Next(Some(-3)), Kind::RowNumbers, "docs", "0 "),
+    (Step::Next(Some(5)), Kind::RowNumbers, "docs", ""),
+    // as those of the rows from 0 on
+    (
+        Step::Entries(0x80),
+        Kind::RowNumbers,
+        "docs",
+        "7 zero 7 five ",
+    ),
+    (Step::Owners, Kind::Tables, "any", "ab zoo docs "),
+    // all entries of an owner go
+    (Step::Remove, Kind::RowNumbers, "docs", "4"),
+    (Step::Remove, Kind::RowNumbers, "docs", "0"),
+    (Step::Rows, Kind::RowNumbers, "docs", ""),
+    (Step::Rows, Kind::RowNumbers, "docss", "9 "),
+    (Step::Has, Kind::Tables, "docs", "yes"),
+    (Step::Remove, Kind::Tables, "docs", "1"),
+    (Step::Has, Kind::Tables, "docs", "no"),
+    (Step::Rows, Kind::Pending, "docs", "2 "),
+];
+
+fn is_step(alloc: Global, keeper: &mut MemKeeper, row: StepRow) -> Result<bool, KeepFault> {
+    let (step, kind, owner, wanted) = row;
+    let owner = named(alloc, owner)?;
+    let found = step_text(alloc, keeper, step, kind, &owner)?;
+    Ok(found.as_str() == wanted)
+}
+
+/// The number of the first step that gives something else.
+fn wrong_step(alloc: Global) -> Result<Option<usize>, KeepFault> {
     let mut keeper = kept(alloc)?;
-    let docs = named(alloc, "docs")?;
-    let longer = named(alloc, "docss")?;
-    assert_eq!(rt; remove_all(alloc, &mut keeper, Kind::RowNumbers, &docs)?, 4);
-    assert_eq!(rt; remove_all(alloc, &mut keeper, Kind::RowNumbers, &docs)?, 0);
-    let rows = row_keys(alloc, &mut keeper, Kind::RowNumbers, &docs)?;
-    assert_eq!(rt; rows.len(), 0);
-    let rows = row_keys(alloc, &mut keeper, Kind::RowNumbers, &longer)?;
-    assert_eq!(rt; rows.as_slice(), [RowKey(9)].as_slice());
-    assert!(rt; has_entry(alloc, &mut keeper, Kind::Tables, &docs, &[])?);
-    assert_eq!(rt; remove_all(alloc, &mut keeper, Kind::Tables, &docs)?, 1);
-    assert!(rt; !has_entry(alloc, &mut keeper, Kind::Tables, &docs, &[])?);
-    let rows = row_keys(alloc, &mut keeper, Kind::Pending, &docs)?;
-    assert_eq!(rt; rows.as_slice(), [RowKey(2)].as_slice());
+    for (number, row) in STEPS.iter().enumerate() {
+        if !is_step(alloc, &mut keeper, *row)? {
+            return Ok(Some(number));
+        }
+    }
+    Ok(None)
+}
+
+#[test]
+fn the_entries_of_an_owner_are_found_and_go(rt: HostRuntime) -> Result<(), Fail> {
+    assert_eq!(rt; wrong_step(rt.alloc())?, None);
     Ok(())
 }
 
@@ -273,13 +382,28 @@ fn has_parts(
 #[test]
 fn the_parts_of_keys(rt: HostRuntime) -> Result<(), Fail> {
     for (bytes, kind, owner, part) in KEYS {
-        assert!(rt; has_parts(rt.alloc(), bytes, *kind, owner, part)?);
+        assert!(rt;
+            has_parts(rt.alloc(), bytes, *kind, owner, part)?,
+            "{bytes:?}"
+        );
     }
-    for bytes in NO_KEYS {
-        assert!(rt; key_parts(rt.alloc(), bytes)?.is_none());
-    }
-    assert!(rt; is_row_part(b"12345678"));
-    assert!(rt; !is_row_part(b"1234567"));
-    assert!(rt; !is_row_part(b"123456789"));
     Ok(())
+}
+
+#[test]
+fn bytes_that_spell_no_key(rt: HostRuntime) -> Result<(), Fail> {
+    for bytes in NO_KEYS {
+        assert!(rt; key_parts(rt.alloc(), bytes)?.is_none(), "{bytes:?}");
+    }
+    Ok(())
+}
+
+#[test]
+fn the_rests_of_rows(rt: HostRuntime) {
+    let found = [
+        is_row_part(b"12345678"),
+        is_row_part(b"1234567"),
+        is_row_part(b"123456789"),
+    ];
+    assert!(rt; found == [true, false, false]);
 }

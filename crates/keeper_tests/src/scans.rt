@@ -63,7 +63,7 @@ fn entry_line(alloc: Global, found: Option<Entry>) -> Result<Vec<u8>, Memory> {
 static KEYS: [&str; 5] = ["b", "abc", "a", "ac", "ab"];
 
 /// Prefixes, and what stands behind each: the prefix itself and its neighbours don't.
-static BEHIND: [(&str, &str); 7] = [
+const BEHIND: &[(&str, &str)] = &[
     ("a", "b=ab bc=abc c=ac "),
     ("ab", "c=abc "),
     ("abc", ""),
@@ -73,20 +73,31 @@ static BEHIND: [(&str, &str); 7] = [
     ("", "a=a ab=ab abc=abc ac=ac b=b "),
 ];
 
+fn scan_line(alloc: Global, keeper: &mut MemKeeper, prefix: &str) -> Result<Vec<u8>, KeepFault> {
+    let found = scan(alloc, keeper, prefix.as_bytes())?;
+    Ok(line_of(alloc, &found)?)
+}
+
+/// The first prefix behind which something else stands.
+fn wrong_scan(alloc: Global) -> Result<Option<&'static str>, KeepFault> {
+    let mut keeper = keeper_of(alloc, &KEYS)?;
+    for (prefix, want) in BEHIND {
+        let line = scan_line(alloc, &mut keeper, prefix)?;
+        if line.as_slice() != want.as_bytes() {
+            return Ok(Some(*prefix));
+        }
+    }
+    Ok(None)
+}
+
 #[test]
 fn scans_find_all_behind_a_prefix(rt: HostRuntime) -> Result<(), Fail> {
-    let alloc = rt.alloc();
-    let mut keeper = keeper_of(alloc, &KEYS)?;
-    for (prefix, want) in &BEHIND {
-        let found = scan(alloc, &mut keeper, prefix.as_bytes())?;
-        let line = line_of(alloc, &found)?;
-        assert_eq!(rt; line.as_slice(), want.as_bytes(), "behind {prefix}");
-    }
+    assert_eq!(rt; wrong_scan(rt.alloc())?, None);
     Ok(())
 }
 
 /// Prefixes, rests, and the entry behind each.
-static NEXT: [(&str, &str, &str); 6] = [
+const NEXT: &[(&str, &str, &str)] = &[
     ("a", "", "b=ab "),
     ("a", "aa", "b=ab "),
     ("a", "b", "bc=abc "),
@@ -95,21 +106,43 @@ static NEXT: [(&str, &str, &str); 6] = [
     ("b", "", ""),
 ];
 
+fn next_line(
+    alloc: Global,
+    keeper: &mut MemKeeper,
+    prefix: &str,
+    after: &str,
+) -> Result<Vec<u8>, KeepFault> {
+    let found = next_under(alloc, keeper, prefix.as_bytes(), after.as_bytes())?;
+    Ok(entry_line(alloc, found)?)
+}
+
+/// The first prefix and rest behind which another entry comes.
+fn wrong_next(alloc: Global) -> Result<Option<(&'static str, &'static str)>, KeepFault> {
+    let mut keeper = keeper_of(alloc, &KEYS)?;
+    for (prefix, after, want) in NEXT {
+        let line = next_line(alloc, &mut keeper, prefix, after)?;
+        if line.as_slice() != want.as_bytes() {
+            return Ok(Some((*prefix, *after)));
+        }
+    }
+    Ok(None)
+}
+
 #[test]
 fn look_ups_find_the_next_behind_a_prefix(rt: HostRuntime) -> Result<(), Fail> {
-    let alloc = rt.alloc();
+    assert_eq!(rt; wrong_next(rt.alloc())?, None);
+    Ok(())
+}
+
+fn first_line(alloc: Global, prefix: &[u8]) -> Result<Vec<u8>, KeepFault> {
     let mut keeper = keeper_of(alloc, &KEYS)?;
-    for (prefix, after, want) in &NEXT {
-        let found = next_under(alloc, &mut keeper, prefix.as_bytes(), after.as_bytes())?;
-        let line = entry_line(alloc, found)?;
-        assert_eq!(rt;
-            line.as_slice(),
-            want.as_bytes(),
-            "behind {prefix} and {after}"
-        );
-    }
-    let found = first_under(alloc, &mut keeper, b"a")?;
-    let line = entry_line(alloc, found)?;
+    let found = first_under(alloc, &mut keeper, prefix)?;
+    Ok(entry_line(alloc, found)?)
+}
+
+#[test]
+fn look_ups_find_the_first_behind_a_prefix(rt: HostRuntime) -> Result<(), Fail> {
+    let line = first_line(rt.alloc(), b"a")?;
     assert_eq!(rt; line.as_slice(), b"b=ab ".as_slice());
     Ok(())
 }

@@ -167,40 +167,54 @@ fn is_empty(alloc: Global, heap: &mut Heap, site: &mut MemSite) -> bool {
 }
 
 /// The same over a new store.
+fn pages_over(
+    alloc: Global,
+    site: &mut MemSite,
+    case: Case,
+) -> Result<(usize, usize, bool), Memory> {
+    match heap_of(alloc, site) {
+        Some(mut heap) => pages_in(alloc, &mut heap, site, case),
+        None => Ok((0, 0, false)),
+    }
+}
+
 fn pages_after(alloc: Global, case: Case) -> Result<(usize, usize, bool), Memory> {
     let mut site = site_of(alloc, 0)?;
-    let Some(mut heap) = heap_of(alloc, &mut site) else {
-        return Ok((0, 0, false));
-    };
-    pages_in(alloc, &mut heap, &mut site, case)
+    pages_over(alloc, &mut site, case)
 }
+
+/// Values of each length stand on pages, entries that go leave no long page, and long pages are taken again.
+const CASES: &[(Case, usize)] = &[(Case::Values, 3), (Case::Removals, 0), (Case::Reuse, 3)];
 
 #[test]
 fn values_of_each_length_stand_on_pages(rt: HostRuntime) -> Result<(), Fail> {
-    assert_eq!(rt; pages_after(rt.alloc(), Case::Values)?, (6, 3, true));
+    for (case, left) in CASES {
+        assert_eq!(rt; pages_after(rt.alloc(), *case)?, (6, *left, true));
+    }
     Ok(())
 }
 
-#[test]
-fn entries_that_go_leave_no_long_page(rt: HostRuntime) -> Result<(), Fail> {
-    assert_eq!(rt; pages_after(rt.alloc(), Case::Removals)?, (6, 0, true));
-    Ok(())
+/// Whether a value is put into a heap, and whether it is there then.
+fn is_put_and_there(
+    alloc: Global,
+    heap: &mut Heap,
+    site: &mut MemSite,
+) -> Result<(bool, bool), Memory> {
+    let is_put = is_put(alloc, heap, site, 1, 5000)?;
+    Ok((is_put, count_of(alloc, heap, site, 1).is_some()))
 }
 
-#[test]
-fn long_pages_are_taken_again(rt: HostRuntime) -> Result<(), Fail> {
-    assert_eq!(rt; pages_after(rt.alloc(), Case::Reuse)?, (6, 3, true));
-    Ok(())
+fn put_over(alloc: Global, site: &mut MemSite) -> Result<(bool, bool), Memory> {
+    match heap_of(alloc, site) {
+        Some(mut heap) => is_put_and_there(alloc, &mut heap, site),
+        None => Ok((false, true)),
+    }
 }
 
 /// Whether a heap goes on with its old map where a call of the disk fails.
 fn is_as_before(alloc: Global, call: u64) -> Result<bool, Memory> {
     let mut site = site_of(alloc, call)?;
-    let Some(mut heap) = heap_of(alloc, &mut site) else {
-        return Ok(false);
-    };
-    let first = is_put(alloc, &mut heap, &mut site, 1, 5000)?;
-    Ok(!first && count_of(alloc, &mut heap, &mut site, 1).is_none())
+    Ok(put_over(alloc, &mut site)? == (false, false))
 }
 
 /// How many calls of the disk, of the first forty, leave the old map where they fail.

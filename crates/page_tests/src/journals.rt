@@ -37,14 +37,17 @@ fn grown(alloc: Global) -> Result<PageBatch, Memory>
     Ok(batch)
 }
 
-/// Whether a store is there, and the batch was committed to it.
-fn is_committed(alloc: Global, site: &mut MemSite) -> Result<bool, Memory> {
-    let batch = grown(alloc)?;
-    let Ok(mut journal) = Journal::load(alloc, site) else {
-        return Ok(false);
-    };
-    let _homes = journal.homes();
-    Ok(journal.commit(site, &batch).is_ok())
+/// Whether the batch was committed to the store that is there.
+fn is_committed(alloc: Global, site: &mut MemSite, batch: &PageBatch) -> bool
+    requires { (homes : ℕ) → 3 ≤ homes → MayCommit homes batch.now.pages }
+{
+    match Journal::load(alloc, site) {
+        Ok(mut journal) => {
+            let _homes = journal.homes();
+            journal.commit(site, batch).is_ok()
+        }
+        Err(_) => false,
+    }
 }
 
 /// How many homes a store has, 3 or 4; 1 where it has four and page 3 isn't whole.
@@ -58,53 +61,83 @@ fn homes_of(image: &[u8]) -> u8 {
     *homes
 }
 
+/// What a stop at this call and a crash leave.
+fn left(alloc: Global, stop: u64, pick: Pick) -> Result<Vec<u8>, Memory> {
+    let batch = grown(alloc)?;
+    let mut site = stopped(alloc, b"", Some(stop))?;
+    let _ = is_committed(alloc, &mut site, &batch);
+    site.crash(alloc, pick)
+}
+
+/// How many homes a store has that is loaded; 0 where it is none.
+fn loaded_homes(alloc: Global, site: &mut MemSite) -> u8 {
+    match Journal::load(alloc, site) {
+        Ok(_) => homes_of(site.image()),
+        Err(_) => 0,
+    }
+}
+
 /// What is loaded after a stop at this call and a crash; 0 where it is no store.
 fn outcome(alloc: Global, stop: u64, pick: Pick) -> Result<u8, Memory> {
-    let mut first = stopped(alloc, b"", Some(stop))?;
-    let _ = is_committed(alloc, &mut first)?;
-    let left = first.crash(alloc, pick)?;
-    let mut second = stopped(alloc, &left, None)?;
-    if Journal::load(alloc, &mut second).is_err() {
-        return Ok(0);
+    let left = left(alloc, stop, pick)?;
+    let mut site = stopped(alloc, &left, None)?;
+    Ok(loaded_homes(alloc, &mut site))
+}
+
+/// How often the old pages are loaded, how often the new ones, and how often something else, over all stops and picks.
+fn outcomes(alloc: Global) -> Result<[u64; 3], Memory> {
+    let mut old = 0u64;
+    let mut new = 0u64;
+    let mut others = 0u64;
+    for stop in 0..30 {
+        for pick in PICKS {
+            match outcome(alloc, stop, pick)? {
+                3 => old = old.saturating_add(1),
+                4 => new = new.saturating_add(1),
+                _ => others = others.saturating_add(1),
+            }
+        }
     }
-    Ok(homes_of(second.image()))
+    Ok([old, new, others])
 }
 
 #[test]
 fn a_stop_leaves_the_old_pages_or_the_new_ones(rt: HostRuntime) -> Result<(), Fail> {
-    let alloc = rt.alloc();
-    let mut old = false;
-    let mut new = false;
-    for stop in 0..30 {
-        for pick in PICKS {
-            let homes = outcome(alloc, stop, pick)?;
-            assert!(rt; homes == 3 || homes == 4);
-            old = old || homes == 3;
-            new = new || homes == 4;
-        }
-    }
-    assert!(rt; old && new);
+    let [old, new, others] = outcomes(rt.alloc())?;
+    assert!(rt; old > 0 && new > 0 && others == 0, "{old} {new} {others}");
     Ok(())
+}
+
+/// An empty disk of which this call fails.
+fn failing(alloc: Global, call: u64) -> Result<MemSite, Memory> {
+    let mut faults = Faults::none(alloc);
+    faults.disk = Numbers::of(Vec::from_slice(alloc, &[call])?);
+    MemSite::new(alloc, Vec::new(alloc), Vec::new(alloc), faults, ROOMS)
 }
 
 /// Whether a load from an empty image or a commit fails where this call of the disk fails, and the store stands after another
 /// load.
 fn is_mended(alloc: Global, call: u64) -> Result<bool, Memory> {
-    let mut faults = Faults::none(alloc);
-    faults.disk = Numbers::of(Vec::from_slice(alloc, &[call])?);
-    let mut site = MemSite::new(alloc, Vec::new(alloc), Vec::new(alloc), faults, ROOMS)?;
-    if is_committed(alloc, &mut site)? {
-        return Ok(false);
-    }
-    Ok(Journal::load(alloc, &mut site).is_ok() && homes_of(site.image()) >= 3)
+    let batch = grown(alloc)?;
+    let mut site = failing(alloc, call)?;
+    let is_committed = is_committed(alloc, &mut site, &batch);
+    Ok(!is_committed && loaded_homes(alloc, &mut site) >= 3)
 }
 
+/// The first call whose failing isn't told, or leaves no store.
+fn unmended(alloc: Global) -> Result<Option<u64>, Memory> {
+    for call in 1..30 {
+        if !is_mended(alloc, call)? {
+            return Ok(Some(call));
+        }
+    }
+    Ok(None)
+}
+
+/// A load of an empty image and a commit call the disk nineteen times.
 #[test]
 fn each_call_that_fails_is_told(rt: HostRuntime) -> Result<(), Fail> {
-    for call in 1..20 {
-        assert!(rt; is_mended(rt.alloc(), call)?);
-    }
-    assert!(rt; !is_mended(rt.alloc(), 20)?);
+    assert_eq!(rt; unmended(rt.alloc())?, Some(20));
     Ok(())
 }
 
@@ -224,34 +257,59 @@ fn image_of(alloc: Global, damaged: &Damaged) -> Result<Vec<u8>, Memory> {
 /// Whether an image is a store, and whether it is as before once it was loaded.
 fn is_loaded(alloc: Global, image: &[u8]) -> Result<(bool, bool), Memory> {
     let mut site = stopped(alloc, image, None)?;
-    let is_store = match Journal::load(alloc, &mut site) {
-        Ok(_) => true,
-        Err(_) => false,
-    };
+    let is_store = Journal::load(alloc, &mut site).is_ok();
     Ok((is_store, site.image() == image))
+}
+
+fn is_damaged_loaded(alloc: Global, damaged: &Damaged) -> Result<(bool, bool), Memory> {
+    let image = image_of(alloc, damaged)?;
+    is_loaded(alloc, &image)
 }
 
 #[test]
 fn damaged_images_are_no_store(rt: HostRuntime) -> Result<(), Fail> {
-    let alloc = rt.alloc();
     for damaged in IMAGES {
-        let image = image_of(alloc, damaged)?;
-        let found = is_loaded(alloc, &image)?;
-        assert!(rt; found == (damaged.is_store, damaged.stays));
+        assert!(rt; is_damaged_loaded(rt.alloc(), damaged)? == (damaged.is_store, damaged.stays));
     }
-    assert!(rt; is_loaded(alloc, b"hello world\n")? == (false, true));
-    assert!(rt; is_loaded(alloc, b"\x07")? == (true, false));
     Ok(())
+}
+
+/// Images that are no damaged stores, whether they are loaded, and whether they are as before then.
+const OTHERS: &[(&[u8], bool, bool)] = &[(b"hello world\n", false, true), (b"\x07", true, false)];
+
+#[test]
+fn other_images(rt: HostRuntime) -> Result<(), Fail> {
+    for (image, is_store, stays) in OTHERS {
+        assert!(rt; is_loaded(rt.alloc(), image)? == (*is_store, *stays));
+    }
+    Ok(())
+}
+
+/// Which of the pages 3, 4, 5 and 7 a batch of three pages has.
+fn pages_put(alloc: Global) -> Result<[bool; 4], Memory> {
+    let mut batch = PageBatch::new(alloc, 3)?;
+    batch.put(7, &[7; 4096]);
+    batch.put(3, &[3; 4096]);
+    batch.put(5, &[5; 4096]);
+    Ok([batch.has(3), batch.has(4), batch.has(5), batch.has(7)])
 }
 
 #[test]
 fn a_batch_has_the_pages_that_were_put(rt: HostRuntime) -> Result<(), Fail> {
-    let mut batch = PageBatch::new(rt.alloc(), 3)?;
-    assert!(rt; batch.is_empty());
+    assert!(rt; pages_put(rt.alloc())? == [true, false, true, true]);
+    Ok(())
+}
+
+/// Whether a batch is empty before a page is put, and then.
+fn are_empty(alloc: Global) -> Result<[bool; 2], Memory> {
+    let mut batch = PageBatch::new(alloc, 1)?;
+    let before = batch.is_empty();
     batch.put(7, &[7; 4096]);
-    batch.put(3, &[3; 4096]);
-    batch.put(5, &[5; 4096]);
-    assert!(rt; batch.has(3) && batch.has(5) && batch.has(7) && !batch.has(4));
-    assert!(rt; !batch.is_empty());
+    Ok([before, batch.is_empty()])
+}
+
+#[test]
+fn a_batch_is_empty_until_a_page_is_put(rt: HostRuntime) -> Result<(), Fail> {
+    assert!(rt; are_empty(rt.alloc())? == [true, false]);
     Ok(())
 }

@@ -155,58 +155,70 @@ fn image_of(alloc: Global, pages: &[Behind]) -> Result<Vec<u8>, Memory> {
     Ok(image)
 }
 
-fn site_of(alloc: Global, pages: &[Behind], call: u64) -> Result<MemSite, Memory> {
+fn site_of(alloc: Global, image: &[u8], call: u64) -> Result<MemSite, Memory> {
     let mut faults = Faults::none(alloc);
     faults.disk = Numbers::of(Vec::from_slice(alloc, &[call])?);
-    let image = image_of(alloc, pages)?;
     let count = image.len().min(ROOMS.image);
     let image = Vec::from_slice(alloc, &image[..count])?;
     MemSite::new(alloc, Vec::new(alloc), image, faults, ROOMS)
 }
 
-/// What is loaded of these pages where this call of the disk fails, and whether the image is then as before.
-fn load(
-    alloc: Global,
-    pages: &[Behind],
-    call: u64,
-) -> Result<(Result<Heap, LoadFault>, bool), Memory> {
-    let mut site = site_of(alloc, pages, call)?;
-    let heap = Heap::load(alloc, &mut site);
-    let image = image_of(alloc, pages)?;
-    Ok((heap, site.image() == image.as_slice()))
+/// Whether a heap is loaded from a disk, or why not.
+#[derive(Clone, Copy, PartialEq, Eq)]
+enum Loaded {
+    Store,
+    NoStore,
+    Disk,
+    Memory,
 }
 
-/// Whether they are a store.
-fn is_store(alloc: Global, pages: &[Behind]) -> Result<Option<bool>, Memory> {
-    let (heap, is_same) = load(alloc, pages, 0)?;
-    if !is_same {
-        return Ok(None);
+fn load_outcome(alloc: Global, site: &mut MemSite) -> Loaded {
+    match Heap::load(alloc, site) {
+        Ok(_) => Loaded::Store,
+        Err(LoadFault::NotAStore) => Loaded::NoStore,
+        Err(LoadFault::Disk) => Loaded::Disk,
+        Err(LoadFault::Memory) => Loaded::Memory,
     }
-    match heap {
-        Ok(_) => Ok(Some(true)),
-        Err(LoadFault::NotAStore) => Ok(Some(false)),
-        Err(_) => Ok(None),
+}
+
+/// What is loaded of these pages where this call of the disk fails, and whether the image is then as before.
+fn load(alloc: Global, pages: &[Behind], call: u64) -> Result<(Loaded, bool), Memory> {
+    let image = image_of(alloc, pages)?;
+    let mut site = site_of(alloc, &image, call)?;
+    let loaded = load_outcome(alloc, &mut site);
+    Ok((loaded, site.image() == image.as_slice()))
+}
+
+fn wanted(store: &Store) -> Loaded {
+    if store.is_store {
+        Loaded::Store
+    } else {
+        Loaded::NoStore
     }
 }
 
 #[test]
 fn pages_that_hold_no_map_are_no_store(rt: HostRuntime) -> Result<(), Fail> {
     for store in STORES {
-        assert!(rt; is_store(rt.alloc(), store.pages)? == Some(store.is_store));
+        assert!(rt; load(rt.alloc(), store.pages, 0)? == (wanted(store), true));
     }
     Ok(())
 }
 
 /// How many bytes the value of a key has, if it is there.
-fn look_up(alloc: Global, pages: &[Behind], key: &[u8]) -> Result<Option<usize>, Memory> {
-    let mut site = site_of(alloc, pages, 0)?;
-    let Ok(mut heap) = Heap::load(alloc, &mut site) else {
-        return Ok(None);
-    };
-    let Ok(Some(value)) = heap.fetch(alloc, &mut site, key) else {
-        return Ok(None);
-    };
-    Ok(Some(value.len()))
+fn length_of(alloc: Global, heap: &mut Heap, site: &mut MemSite, key: &[u8]) -> Option<usize> {
+    match heap.fetch(alloc, site, key) {
+        Ok(Some(value)) => Some(value.len()),
+        _ => None,
+    }
+}
+
+/// The same in the heap of a disk.
+fn look_up(alloc: Global, site: &mut MemSite, key: &[u8]) -> Option<usize> {
+    match Heap::load(alloc, site) {
+        Ok(mut heap) => length_of(alloc, &mut heap, site, key),
+        Err(_) => None,
+    }
 }
 
 const THREE: &[Behind] = &[
@@ -216,29 +228,36 @@ const THREE: &[Behind] = &[
     Behind::Long(4, 4088),
 ];
 
+/// The same over `THREE`.
+fn look_up_three(alloc: Global, key: &[u8]) -> Result<Option<usize>, Memory> {
+    let image = image_of(alloc, THREE)?;
+    let mut site = site_of(alloc, &image, 0)?;
+    Ok(look_up(alloc, &mut site, key))
+}
+
+const VALUES: &[(&[u8], Option<usize>)] = &[(b"k", Some(5000)), (b"ab", Some(0)), (b"a", None)];
+
 #[test]
 fn a_store_is_loaded(rt: HostRuntime) -> Result<(), Fail> {
-    let alloc = rt.alloc();
-    assert!(rt; look_up(alloc, THREE, b"k")? == Some(5000));
-    assert!(rt; look_up(alloc, THREE, b"ab")? == Some(0));
-    assert!(rt; look_up(alloc, THREE, b"a")?.is_none());
+    for (key, length) in VALUES {
+        assert!(rt; look_up_three(rt.alloc(), key)? == *length);
+    }
     Ok(())
 }
 
-/// Whether the disk's fault is told where this call of it fails.
-fn is_told(alloc: Global, call: u64) -> Result<bool, Memory> {
-    let (heap, is_same) = load(alloc, THREE, call)?;
-    match heap {
-        Err(LoadFault::Disk) => Ok(is_same),
-        _ => Ok(false),
+/// The first call of the disk that fails and isn't told, or leaves another image.
+fn untold(alloc: Global) -> Result<Option<u64>, Memory> {
+    for call in 1..20 {
+        if load(alloc, THREE, call)? != (Loaded::Disk, true) {
+            return Ok(Some(call));
+        }
     }
+    Ok(None)
 }
 
+/// A load of these pages calls the disk nine times.
 #[test]
 fn each_call_that_fails_is_told(rt: HostRuntime) -> Result<(), Fail> {
-    for call in 1..10 {
-        assert!(rt; is_told(rt.alloc(), call)?);
-    }
-    assert!(rt; !is_told(rt.alloc(), 10)?);
+    assert_eq!(rt; untold(rt.alloc())?, Some(10));
     Ok(())
 }

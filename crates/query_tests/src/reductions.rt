@@ -87,19 +87,20 @@ fn within(alloc: Global, name: Name, a: Query) -> Result<Query, Memory>
 
 // ---- what is shown of reduced queries
 
-fn put_slot(line: &mut String, slot: &Slot) -> Result<(), Fail> {
-    let Slot::Takes { keys, .. } = slot else {
-        line.push_str("* ")?;
-        return Ok(());
-    };
-    for key in keys.as_slice() {
-        line.push_str(from_utf8(key.as_slice())?)?;
-        line.push(' ')?;
+fn put_slot(line: &mut String, slot: &Slot) -> Result<(), Memory> {
+    match slot {
+        Slot::Takes { keys, .. } => {
+            for key in keys.as_slice() {
+                line.push_str(from_utf8(key.as_slice()).unwrap_or("no text"))?;
+                line.push(' ')?;
+            }
+        }
+        _ => line.push_str("* ")?,
     }
     Ok(())
 }
 
-fn put_phrases(line: &mut String, phrases: &Phrases) -> Result<(), Fail> {
+fn put_phrases(line: &mut String, phrases: &Phrases) -> Result<(), Memory> {
     for phrase in phrases.as_slice() {
         for slot in phrase.as_slice() {
             put_slot(line, slot)?;
@@ -108,17 +109,16 @@ fn put_phrases(line: &mut String, phrases: &Phrases) -> Result<(), Fail> {
     Ok(())
 }
 
-fn put_place(line: &mut String, place: &Place) -> Result<(), Fail> {
+fn place_text(place: &Place) -> &str {
     match place {
-        Place::Zone(name) => line.push_str(name.as_str())?,
-        Place::Field(1) => line.push_str("the first field")?,
-        _ => line.push_str("another place")?,
+        Place::Zone(name) => name.as_str(),
+        Place::Field(1) => "the first field",
+        _ => "another place",
     }
-    Ok(())
 }
 
 /// A query of ANDs, WITHINs and terms; of another one nothing.
-fn put_query(line: &mut String, query: &Flat) -> Result<(), Fail> {
+fn put_query(line: &mut String, query: &Flat) -> Result<(), Memory> {
     match query {
         Flat::Term(phrases) => put_phrases(line, phrases)?,
         Flat::And(a, b) => {
@@ -129,59 +129,57 @@ fn put_query(line: &mut String, query: &Flat) -> Result<(), Fail> {
         Flat::Within(place, a) => {
             put_query(line, a)?;
             line.push_str("within ")?;
-            put_place(line, place)?;
+            line.push_str(place_text(place))?;
         }
         _ => {}
     }
     Ok(())
 }
 
-fn put_fault(line: &mut String, fault: &ReduceFault) -> Result<(), Fail> {
+/// What is wrong, and the name that it is said of.
+fn fault_texts(fault: &ReduceFault) -> (&'static str, &str) {
     match fault {
-        ReduceFault::NoSection(name) => {
-            line.push_str("no section ")?;
-            line.push_str(name.as_str())?;
-        }
-        ReduceFault::FieldInside(name) => {
-            line.push_str("a field inside: ")?;
-            line.push_str(name.as_str())?;
-        }
-        ReduceFault::ManyTokens(20) => line.push_str("the second word isn't one token")?,
-        ReduceFault::ManyTokens(_) => line.push_str("the first word isn't one token")?,
-        ReduceFault::Memory => line.push_str("no memory")?,
+        ReduceFault::NoSection(name) => ("no section ", name.as_str()),
+        ReduceFault::FieldInside(name) => ("a field inside: ", name.as_str()),
+        ReduceFault::ManyTokens(20) => ("the second word isn't one token", ""),
+        ReduceFault::ManyTokens(_) => ("the first word isn't one token", ""),
+        ReduceFault::Memory => ("no memory", ""),
     }
+}
+
+fn put_fault(line: &mut String, fault: &ReduceFault) -> Result<(), Memory> {
+    let (what, name) = fault_texts(fault);
+    line.push_str(what)?;
+    line.push_str(name)?;
     Ok(())
 }
 
-/// A group with the zone z and the field t.
-fn group(alloc: Global) -> Result<Group, Fail> {
-    let zone = Name::read(alloc, "z")?;
-    let field = Name::read(alloc, "t")?;
-    let Some(group) = Group::empty(alloc, false).with_tag(alloc, &zone, SectionKind::Zone, "z")?
-    else {
-        return Err(Fail::new("the group has room for the tag"));
-    };
-    let Some(group) = group.with_tag(alloc, &field, SectionKind::Field, "t")? else {
-        return Err(Fail::new("the group has room for the tag"));
-    };
+/// A section, its kind, and its only tag.
+type Row = (&'static str, SectionKind);
+
+/// The zone z and the field t.
+const SECTIONS: &[Row] = &[("z", SectionKind::Zone), ("t", SectionKind::Field)];
+
+fn section_name(alloc: Global, text: &str) -> Result<Name, Memory> {
+    Name::read(alloc, text).map_err(|_| Memory)
+}
+
+/// The group of these sections, each with a tag that is named as it is.
+fn group_of(alloc: Global, rows: &[Row]) -> Result<Group, Memory> {
+    let mut group = Group::empty(alloc, false);
+    for (section, kind) in rows {
+        let name = section_name(alloc, section)?;
+        group = group.with_tag(alloc, &name, *kind, section)?.ok_or(Memory)?;
+    }
     Ok(group)
 }
 
-/// What a query is reduced to where `is` is a stopword.
-fn shown(alloc: Global, query: &Query) -> Result<String, Fail>
+/// What a query is reduced to.
+fn reduced(alloc: Global, query: &Query, ctx: &ReduceCtx) -> Result<String, Memory>
     requires { keeps_limits (tree_of query.now) ≡ true }
 {
-    let lexer = LexerOptions::defaults(alloc)?;
-    let words = [Text::of(alloc, "is")?];
-    let stop = StopKeys::new(alloc, &words, false, false)?;
-    let group = group(alloc)?;
-    let ctx = ReduceCtx {
-        lexer: &lexer,
-        stop: &stop,
-        group: &group,
-    };
     let mut line = String::new(alloc);
-    match reduce(alloc, query, &ctx) {
+    match reduce(alloc, query, ctx) {
         Ok(None) => line.push_str("nothing")?,
         Ok(Some(query)) => put_query(&mut line, &query)?,
         Err(fault) => put_fault(&mut line, &fault)?,
@@ -189,66 +187,106 @@ fn shown(alloc: Global, query: &Query) -> Result<String, Fail>
     Ok(line)
 }
 
-#[test]
-fn phrases(rt: HostRuntime) -> Result<(), Fail> {
-    let query = phrase(rt.alloc(), "Jack", "is", "big")?;
-    assert_eq!(&rt; shown(rt.alloc(), &query)?.as_str(), "jack * big ");
-    let query = phrase(rt.alloc(), "is", "web-site", "is")?;
-    assert_eq!(&rt; shown(rt.alloc(), &query)?.as_str(), "web site ");
-    let query = plain(rt.alloc(), "is")?;
-    assert_eq!(&rt; shown(rt.alloc(), &query)?.as_str(), "nothing");
-    Ok(())
+/// The stop keys of `is`.
+fn stop_keys(alloc: Global) -> Result<StopKeys, Memory> {
+    let words = [Text::of(alloc, "is")?];
+    StopKeys::new(alloc, &words, false, false)
 }
 
-#[test]
-fn joined_words(rt: HostRuntime) -> Result<(), Fail> {
-    let words = joined(rt.alloc(), "web", "shop")?;
-    let query = single(rt.alloc(), words)?;
-    assert_eq!(&rt; shown(rt.alloc(), &query)?.as_str(), "shop web ");
-    let words = joined(rt.alloc(), "web", "shop-window")?;
-    let query = single(rt.alloc(), words)?;
-    assert_eq!(&rt;
-        shown(rt.alloc(), &query)?.as_str(),
-        "the second word isn't one token"
-    );
-    Ok(())
+/// What a query is reduced to where `is` is a stopword.
+fn shown(alloc: Global, query: &Query) -> Result<String, Memory>
+    requires { keeps_limits (tree_of query.now) ≡ true }
+{
+    let lexer = LexerOptions::defaults(alloc)?;
+    let stop = stop_keys(alloc)?;
+    let group = group_of(alloc, SECTIONS)?;
+    let ctx = ReduceCtx {
+        lexer: &lexer,
+        stop: &stop,
+        group: &group,
+    };
+    reduced(alloc, query, &ctx)
 }
 
-#[test]
-fn operators(rt: HostRuntime) -> Result<(), Fail> {
-    let query = and(
-        rt.alloc(),
-        plain(rt.alloc(), "web")?,
-        plain(rt.alloc(), "shop")?,
-    )?;
-    assert_eq!(&rt; shown(rt.alloc(), &query)?.as_str(), "web and shop ");
-    let query = and(
-        rt.alloc(),
-        plain(rt.alloc(), "is")?,
-        plain(rt.alloc(), "shop")?,
-    )?;
-    assert_eq!(&rt; shown(rt.alloc(), &query)?.as_str(), "shop ");
-    Ok(())
+// ---- queries with what they are reduced to
+
+/// A query.
+#[derive(Clone, Copy)]
+enum Asked {
+    Word(&'static str),
+    Phrase(&'static str, &'static str, &'static str),
+    /// Two words that EQUIV joins.
+    Joined(&'static str, &'static str),
+    Both(&'static str, &'static str),
+    /// A word in a section.
+    Within(&'static str, &'static str),
+    /// A word in the second section, all of it in the first.
+    Nested(&'static str, &'static str, &'static str),
 }
 
+/// Two words, both of which have to be there.
+fn both(alloc: Global, a: &str, b: &str) -> Result<Query, Memory>
+    ensures { IfOk result (λ q. keeps_limits (tree_of q) ≡ true) }
+{
+    let first = plain(alloc, a)?;
+    let second = plain(alloc, b)?;
+    and(alloc, first, second)
+}
+
+fn word_within(alloc: Global, section: &str, text: &str) -> Result<Query, Memory>
+    ensures { IfOk result (λ q. keeps_limits (tree_of q) ≡ true) }
+{
+    within(alloc, section_name(alloc, section)?, plain(alloc, text)?)
+}
+
+fn nested(alloc: Global, outer: &str, inner: &str, text: &str) -> Result<Query, Memory>
+    ensures { IfOk result (λ q. keeps_limits (tree_of q) ≡ true) }
+{
+    within(
+        alloc,
+        section_name(alloc, outer)?,
+        word_within(alloc, inner, text)?,
+    )
+}
+
+fn query_of(alloc: Global, asked: Asked) -> Result<Query, Memory>
+    ensures { IfOk result (λ q. keeps_limits (tree_of q) ≡ true) }
+{
+    match asked {
+        Asked::Word(a) => plain(alloc, a),
+        Asked::Phrase(a, b, c) => phrase(alloc, a, b, c),
+        Asked::Joined(a, b) => single(alloc, joined(alloc, a, b)?),
+        Asked::Both(a, b) => both(alloc, a, b),
+        Asked::Within(section, a) => word_within(alloc, section, a),
+        Asked::Nested(outer, inner, a) => nested(alloc, outer, inner, a),
+    }
+}
+
+fn shown_of(alloc: Global, asked: Asked) -> Result<String, Memory> {
+    let query = query_of(alloc, asked)?;
+    shown(alloc, &query)
+}
+
+const QUERIES: &[(Asked, &str)] = &[
+    (Asked::Phrase("Jack", "is", "big"), "jack * big "),
+    (Asked::Phrase("is", "web-site", "is"), "web site "),
+    (Asked::Word("is"), "nothing"),
+    (Asked::Joined("web", "shop"), "shop web "),
+    (
+        Asked::Joined("web", "shop-window"),
+        "the second word isn't one token",
+    ),
+    (Asked::Both("web", "shop"), "web and shop "),
+    (Asked::Both("is", "shop"), "shop "),
+    (Asked::Within("t", "web"), "web within the first field"),
+    (Asked::Nested("z", "t", "web"), "a field inside: t"),
+    (Asked::Within("s", "is"), "no section s"),
+];
+
 #[test]
-fn sections(rt: HostRuntime) -> Result<(), Fail> {
-    let field = within(
-        rt.alloc(),
-        Name::read(rt.alloc(), "t")?,
-        plain(rt.alloc(), "web")?,
-    )?;
-    assert_eq!(&rt;
-        shown(rt.alloc(), &field)?.as_str(),
-        "web within the first field"
-    );
-    let inside = within(rt.alloc(), Name::read(rt.alloc(), "z")?, field)?;
-    assert_eq!(&rt; shown(rt.alloc(), &inside)?.as_str(), "a field inside: t");
-    let query = within(
-        rt.alloc(),
-        Name::read(rt.alloc(), "s")?,
-        plain(rt.alloc(), "is")?,
-    )?;
-    assert_eq!(&rt; shown(rt.alloc(), &query)?.as_str(), "no section s");
+fn reductions(rt: HostRuntime) -> Result<(), Fail> {
+    for (asked, line) in QUERIES {
+        assert_eq!(rt; shown_of(rt.alloc(), *asked)?.as_str(), *line);
+    }
     Ok(())
 }

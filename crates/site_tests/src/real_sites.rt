@@ -10,37 +10,65 @@ use std::rt::Files;
 use std::test::Fail;
 use std::{env, fs, io, process};
 
+/// What of a file fails each time.
+#[derive(Clone, Copy, PartialEq, Eq)]
+enum Failing {
+    Nothing,
+    Opening,
+    Reading,
+    Syncing,
+}
+
+/// How often something was called.
+#[derive(Drop)]
+struct Counts {
+    readers: Cell<u64>,
+    sayings: Cell<u64>,
+    openings: Cell<u64>,
+    syncs: Cell<u64>,
+}
+
+impl Counts {
+    fn new() -> Counts {
+        Counts {
+            readers: Cell::new(0),
+            sayings: Cell::new(0),
+            openings: Cell::new(0),
+            syncs: Cell::new(0),
+        }
+    }
+}
+
+fn count(calls: &Cell<u64>) {
+    calls.set(calls.get().saturating_add(1));
+}
+
 /// Files of the host, each of whose writes takes one byte; a standard input that is read once and then fails; and a standard
 /// output that takes one byte, then none, and then fails.
 #[derive(Drop)]
 struct Outside<'a> {
     host: &'a HostRuntime,
-    readers: Cell<u64>,
-    writes: Cell<u64>,
+    failing: Failing,
+    counts: &'a Counts,
 }
 
-impl Outside<'_> {
-    fn over(host: &HostRuntime) -> Outside<'_> {
-        Outside {
-            host,
-            readers: Cell::new(0),
-            writes: Cell::new(0),
+#[derive(Drop)]
+struct ByteFile<'a> {
+    file: File,
+    failing: Failing,
+    counts: &'a Counts,
+}
+
+impl Read for ByteFile<'_> {
+    fn read(&mut self, buf: &mut [u8]) -> io::Result<usize> {
+        match self.failing {
+            Failing::Reading => Err(unsupported()),
+            _ => self.file.read(buf),
         }
     }
 }
 
-#[derive(Drop)]
-struct ByteFile {
-    file: File,
-}
-
-impl Read for ByteFile {
-    fn read(&mut self, buf: &mut [u8]) -> io::Result<usize> {
-        self.file.read(buf)
-    }
-}
-
-impl Write for ByteFile {
+impl Write for ByteFile<'_> {
     fn write(&mut self, buf: &[u8]) -> io::Result<usize> {
         let count = buf.len().min(1);
         self.file.write(&buf[..count])
@@ -51,13 +79,13 @@ impl Write for ByteFile {
     }
 }
 
-impl Seek for ByteFile {
+impl Seek for ByteFile<'_> {
     fn seek(&mut self, to: SeekFrom) -> io::Result<u64> {
         self.file.seek(to)
     }
 }
 
-impl OpenFile for ByteFile {
+impl OpenFile for ByteFile<'_> {
     fn metadata(&self) -> io::Result<Metadata> {
         self.file.metadata()
     }
@@ -67,7 +95,11 @@ impl OpenFile for ByteFile {
     }
 
     fn sync_all(&self) -> io::Result<()> {
-        self.file.sync_all()
+        count(&self.counts.syncs);
+        match self.failing {
+            Failing::Syncing => Err(unsupported()),
+            _ => self.file.sync_all(),
+        }
     }
 
     fn sync_data(&self) -> io::Result<()> {
@@ -75,14 +107,22 @@ impl OpenFile for ByteFile {
     }
 }
 
-impl Files for Outside<'_> {
-    type File = ByteFile;
+impl<'a> Files for Outside<'a> {
+    type File = ByteFile<'a>;
 
     type Dir = <HostRuntime as Files>::Dir;
 
-    fn open_file(&self, how: &OpenOptions, path: &str) -> io::Result<ByteFile> {
+    fn open_file(&self, how: &OpenOptions, path: &str) -> io::Result<ByteFile<'a>> {
+        count(&self.counts.openings);
+        if self.failing == Failing::Opening {
+            return Err(unsupported());
+        }
         let file = self.host.open_file(how, path)?;
-        Ok(ByteFile { file })
+        Ok(ByteFile {
+            file,
+            failing: self.failing,
+            counts: self.counts,
+        })
     }
 
     fn open_dir(&self, path: &str) -> io::Result<Self::Dir> {
@@ -165,7 +205,7 @@ impl Input for Outside<'_> {
     }
 
     fn reader(&self) -> Once {
-        self.readers.set(self.readers.get().saturating_add(1));
+        count(&self.counts.readers);
         Once {
             first: b"abc",
             reads: 0,
@@ -187,14 +227,20 @@ impl Print for Outside<'_> {
     }
 
     fn write_some(&self, bytes: &[u8]) -> io::Result<usize> {
-        let writes = self.writes.get();
-        self.writes.set(writes.saturating_add(1));
-        match writes {
-            0 => Ok(bytes.len().min(1)),
-            1 => Ok(0),
+        count(&self.counts.sayings);
+        match self.counts.sayings.get() {
+            1 => Ok(bytes.len().min(1)),
+            2 => Ok(0),
             _ => Err(unsupported()),
         }
     }
+}
+
+/// A path for a file of this process, in the folder of temporary files.
+pub(crate) fn temp_path(rt: &HostRuntime, name: &str) -> Result<String, Fail> {
+    let folder = env::temp_dir(rt)?;
+    let id = process::id(rt.process());
+    Ok(format!(in rt.alloc(); "{}/ct_site_{id}.{name}", folder.as_str())?)
 }
 
 /// What three hearings answer, a fault as None, and what the first one put into its buffer.
@@ -208,14 +254,24 @@ fn hearings(outside: &Outside<'_>) -> ([Option<usize>; 3], [u8; 4]) {
     ([first, second, third], into)
 }
 
-#[test]
-fn a_failing_read_is_no_end_and_no_reason_for_a_new_reader(rt: HostRuntime) -> Result<(), Fail> {
-    let outside = Outside::over(&rt);
+/// The same, and how many readers of standard input were taken.
+fn counted_hearings(host: &HostRuntime) -> ([Option<usize>; 3], [u8; 4], u64) {
+    let counts = Counts::new();
+    let outside = Outside {
+        host,
+        failing: Failing::Nothing,
+        counts: &counts,
+    };
     let (answers, into) = hearings(&outside);
-    assert_eq!(rt; answers, [Some(3), None, None]);
-    assert_eq!(rt; into, *b"abc\0");
-    assert_eq!(rt; outside.readers.get(), 1);
-    Ok(())
+    (answers, into, counts.readers.get())
+}
+
+#[test]
+fn a_failing_read_is_no_end_and_no_reason_for_a_new_reader(rt: HostRuntime) {
+    assert_eq!(rt;
+        counted_hearings(&rt),
+        ([Some(3), None, None], *b"abc\0", 1)
+    );
 }
 
 /// What three sayings answer, a fault as None.
@@ -227,12 +283,21 @@ fn sayings(outside: &Outside<'_>) -> [Option<usize>; 3] {
     [first, second, third]
 }
 
+/// The same, and how often something was written to standard output.
+fn counted_sayings(host: &HostRuntime) -> ([Option<usize>; 3], u64) {
+    let counts = Counts::new();
+    let outside = Outside {
+        host,
+        failing: Failing::Nothing,
+        counts: &counts,
+    };
+    let answers = sayings(&outside);
+    (answers, counts.sayings.get())
+}
+
 #[test]
-fn a_sink_that_takes_nothing_is_a_fault(rt: HostRuntime) -> Result<(), Fail> {
-    let outside = Outside::over(&rt);
-    assert_eq!(rt; sayings(&outside), [Some(1), None, None]);
-    assert_eq!(rt; outside.writes.get(), 3);
-    Ok(())
+fn a_sink_that_takes_nothing_is_a_fault(rt: HostRuntime) {
+    assert_eq!(rt; counted_sayings(&rt), ([Some(1), None, None], 3));
 }
 
 /// Writes a file by one site, and then reads it by another; gives its size and the bytes.
@@ -247,14 +312,64 @@ fn twice(outside: &Outside<'_>, path: &str) -> (Option<u64>, [u8; 5]) {
     (again.size().ok(), bytes)
 }
 
+/// The same over files that never fail.
+fn twice_over(host: &HostRuntime, path: &str) -> (Option<u64>, [u8; 5]) {
+    let counts = Counts::new();
+    let outside = Outside {
+        host,
+        failing: Failing::Nothing,
+        counts: &counts,
+    };
+    twice(&outside, path)
+}
+
 #[test]
 fn a_file_holds_all_of_each_write_when_it_is_opened_again(rt: HostRuntime) -> Result<(), Fail> {
-    let folder = env::temp_dir(&rt)?;
-    let id = process::id(rt.process());
-    let path = format!(in rt.alloc(); "{}/ct_site_{id}.bytes", folder.as_str())?;
-    let (size, bytes) = twice(&Outside::over(&rt), path.as_str());
-    fs::remove_file(&rt, path.as_str())?;
-    assert_eq!(rt; size, Some(5));
-    assert_eq!(rt; bytes, *b"wxy12");
+    let path = temp_path(&rt, "bytes")?;
+    let found = twice_over(&rt, path.as_str());
+    let _ = fs::remove_file(&rt, path.as_str());
+    assert_eq!(rt; found, (Some(5), *b"wxy12"));
+    Ok(())
+}
+
+/// Whether a write, two syncs and a read of a file succeed.
+fn file_calls(outside: &Outside<'_>, path: &str) -> [bool; 4] {
+    let mut site = RealSite::new(outside, Some(path));
+    let mut bytes = [0u8; 2];
+    let is_written = site.write_at(0, b"wxyz").is_ok();
+    let is_synced = site.sync().is_ok();
+    let is_read = site.read(1, &mut bytes).is_ok();
+    let is_synced_again = site.sync().is_ok();
+    [is_written, is_synced, is_read, is_synced_again]
+}
+
+/// The same, and how often a file was opened and synced.
+fn counted_calls(host: &HostRuntime, path: &str, failing: Failing) -> ([bool; 4], u64, u64) {
+    let counts = Counts::new();
+    let outside = Outside {
+        host,
+        failing,
+        counts: &counts,
+    };
+    let answers = file_calls(&outside, path);
+    (answers, counts.openings.get(), counts.syncs.get())
+}
+
+/// What fails, the answers of `file_calls`, and how often the file was opened, which is tried anew where it failed, and synced.
+const FAILING: &[(Failing, [bool; 4], u64, u64)] = &[
+    (Failing::Nothing, [true, true, true, true], 1, 2),
+    (Failing::Opening, [false, false, false, false], 4, 0),
+    (Failing::Reading, [true, true, false, true], 1, 2),
+    (Failing::Syncing, [true, false, true, false], 1, 2),
+];
+
+#[test]
+fn a_file_that_fails_is_a_fault_and_each_sync_reaches_it(rt: HostRuntime) -> Result<(), Fail> {
+    let path = temp_path(&rt, "failing")?;
+    for (failing, answers, openings, syncs) in FAILING {
+        let found = counted_calls(&rt, path.as_str(), *failing);
+        let _ = fs::remove_file(&rt, path.as_str());
+        assert_eq!(rt; found, (*answers, *openings, *syncs));
+    }
     Ok(())
 }

@@ -2,11 +2,12 @@
 
 ghost use Rattle.std.specs.Prelude.{◌≡◌, IfOk, length, vec_len};
 
+use crate::real_sites::temp_path;
 use ct_base::{Memory, Numbers};
 use ct_site::{Disk, Faults, MemSite, Pick, QuietSite, RealSite, Rooms, Site};
 use std::alloc::Global;
+use std::fs;
 use std::test::Fail;
-use std::{env, fs, process};
 
 /// A call of a site. A read or a write asks for the size first, which is a call of the disk too.
 #[derive(Clone, Copy)]
@@ -231,70 +232,98 @@ fn over_quiet(alloc: Global, rooms: Rooms, calls: &[Call]) -> Result<Vec<u8>, Me
     outcome(all, site.said(), site.image())
 }
 
+/// Whether both sites in memory have the outcome of a row.
+fn is_outcome(alloc: Global, row: &Row) -> Result<bool, Memory> {
+    let quiet = over_quiet(alloc, row.rooms, row.calls)?;
+    let memory = over_memory(alloc, Faults::none(alloc), row.rooms, row.calls)?;
+    let wanted = row.outcome.as_bytes();
+    Ok(quiet.as_slice() == wanted && memory.as_slice() == wanted)
+}
+
 #[test]
 fn rooms_are_filled_and_not_passed(rt: HostRuntime) -> Result<(), Fail> {
-    let alloc = rt.alloc();
     for row in ROWS {
-        let quiet = over_quiet(alloc, row.rooms, row.calls)?;
-        assert_eq!(rt; quiet.as_slice(), row.outcome.as_bytes());
-        let memory = over_memory(alloc, Faults::none(alloc), row.rooms, row.calls)?;
-        assert_eq!(rt; memory.as_slice(), row.outcome.as_bytes());
+        assert!(rt; is_outcome(rt.alloc(), row)?, "{}", row.outcome);
     }
     Ok(())
 }
 
-const LISTED: &[Call] = &[
-    Call::Hear(4),
-    Call::Hear(4),
-    Call::Hear(4),
-    Call::Say("lost"),
-    Call::Say("told"),
-    Call::Say("lost"),
-    Call::Write(0, "ab"),
-    Call::Sync,
-    Call::Write(1, "lost"),
-    Call::Write(1, "cd"),
-    Call::Sync,
-    Call::Size,
+/// The calls that fail, and what comes of some calls.
+struct Faulty {
+    hear: &'static [u64],
+    say: &'static [u64],
+    disk: &'static [u64],
+    stop: Option<u64>,
+    calls: &'static [Call],
+    outcome: &'static str,
+}
+
+const FAULTY: &[Faulty] = &[
+    // listed calls fail
+    Faulty {
+        hear: &[2],
+        say: &[3, 1],
+        disk: &[3, 5],
+        stop: None,
+        calls: &[
+            Call::Hear(4),
+            Call::Hear(4),
+            Call::Hear(4),
+            Call::Say("lost"),
+            Call::Say("told"),
+            Call::Say("lost"),
+            Call::Write(0, "ab"),
+            Call::Sync,
+            Call::Write(1, "lost"),
+            Call::Write(1, "cd"),
+            Call::Sync,
+            Call::Size,
+        ],
+        outcome: "abcd - efg - 4 - . - - . . 4 |told| acdz",
+    },
+    // no call succeeds after the stop
+    Faulty {
+        hear: &[],
+        say: &[],
+        disk: &[],
+        stop: Some(4),
+        calls: &[
+            Call::Hear(3),
+            Call::Say("one"),
+            Call::Write(0, "ab"),
+            Call::Sync,
+            Call::Hear(3),
+            Call::Say("two"),
+            Call::Size,
+        ],
+        outcome: "abc 3 . - - - - |one| abyz",
+    },
 ];
 
-fn faults(alloc: Global) -> Result<Faults, Memory> {
+fn numbers(alloc: Global, numbers: &[u64]) -> Result<Numbers, Memory> {
+    Ok(Numbers::of(Vec::from_slice(alloc, numbers)?))
+}
+
+fn faults_of(alloc: Global, row: &Faulty) -> Result<Faults, Memory> {
     Ok(Faults {
-        hear: Numbers::of(Vec::from_slice(alloc, &[2])?),
-        say: Numbers::of(Vec::from_slice(alloc, &[3, 1])?),
-        disk: Numbers::of(Vec::from_slice(alloc, &[3, 5])?),
-        stop: None,
+        hear: numbers(alloc, row.hear)?,
+        say: numbers(alloc, row.say)?,
+        disk: numbers(alloc, row.disk)?,
+        stop: row.stop,
     })
 }
 
-#[test]
-fn listed_calls_fail(rt: HostRuntime) -> Result<(), Fail> {
-    let alloc = rt.alloc();
-    let memory = over_memory(alloc, faults(alloc)?, AMPLE, LISTED)?;
-    assert_eq!(rt;
-        memory.as_slice(),
-        b"abcd - efg - 4 - . - - . . 4 |told| acdz".as_slice()
-    );
-    Ok(())
+fn over_faults(alloc: Global, row: &Faulty) -> Result<Vec<u8>, Memory> {
+    let faults = faults_of(alloc, row)?;
+    over_memory(alloc, faults, AMPLE, row.calls)
 }
 
-const STOPPED: &[Call] = &[
-    Call::Hear(3),
-    Call::Say("one"),
-    Call::Write(0, "ab"),
-    Call::Sync,
-    Call::Hear(3),
-    Call::Say("two"),
-    Call::Size,
-];
-
 #[test]
-fn no_call_succeeds_after_the_stop(rt: HostRuntime) -> Result<(), Fail> {
-    let alloc = rt.alloc();
-    let mut faults = Faults::none(alloc);
-    faults.stop = Some(4);
-    let memory = over_memory(alloc, faults, AMPLE, STOPPED)?;
-    assert_eq!(rt; memory.as_slice(), b"abc 3 . - - - - |one| abyz".as_slice());
+fn listed_calls_and_those_after_the_stop_fail(rt: HostRuntime) -> Result<(), Fail> {
+    for row in FAULTY {
+        let found = over_faults(rt.alloc(), row)?;
+        assert_eq!(rt; found.as_slice(), row.outcome.as_bytes());
+    }
     Ok(())
 }
 
@@ -317,17 +346,18 @@ fn crashed(alloc: Global, pick: Pick) -> Result<Vec<u8>, Memory> {
     site.crash(alloc, pick)
 }
 
+const LEFT: &[(Pick, &[u8])] = &[
+    (Pick::Old, b"wXYz"),
+    (Pick::New, b"wXY12"),
+    (Pick::Zeros, b"wXY\0\0"),
+    (Pick::Ones, b"wXY\xff\xff"),
+];
+
 #[test]
 fn a_crash_leaves_what_was_synced_and_what_is_picked(rt: HostRuntime) -> Result<(), Fail> {
-    let alloc = rt.alloc();
-    for (pick, image) in [
-        (Pick::Old, b"wXYz".as_slice()),
-        (Pick::New, b"wXY12".as_slice()),
-        (Pick::Zeros, b"wXY\0\0".as_slice()),
-        (Pick::Ones, b"wXY\xff\xff".as_slice()),
-    ] {
-        let left = crashed(alloc, pick)?;
-        assert_eq!(rt; left.as_slice(), image);
+    for (pick, image) in LEFT {
+        let left = crashed(rt.alloc(), *pick)?;
+        assert_eq!(rt; left.as_slice(), *image);
     }
     Ok(())
 }
@@ -354,20 +384,21 @@ fn over_file(rt: &HostRuntime, path: &str) -> Result<Vec<u8>, Memory> {
 
 #[test]
 fn a_file_is_a_disk(rt: HostRuntime) -> Result<(), Fail> {
-    let folder = env::temp_dir(&rt)?;
-    let id = process::id(rt.process());
-    let path = format!(in rt.alloc(); "{}/ct_site_{id}.image", folder.as_str())?;
+    let path = temp_path(&rt, "image")?;
     let all = over_file(&rt, path.as_str());
-    fs::remove_file(&rt, path.as_str())?;
-    let all = all?;
-    assert_eq!(rt; all.as_slice(), b"0 . . . . 5 XY1 -".as_slice());
+    let _ = fs::remove_file(&rt, path.as_str());
+    assert_eq!(rt; all?.as_slice(), b"0 . . . . 5 XY1 -".as_slice());
     Ok(())
+}
+
+fn over_no_path(rt: &HostRuntime) -> Result<Vec<u8>, Memory> {
+    let mut site = RealSite::new(rt, None);
+    answers(rt.alloc(), &mut site, &[Call::Size, Call::Sync])
 }
 
 #[test]
 fn no_path_is_no_disk(rt: HostRuntime) -> Result<(), Fail> {
-    let mut site = RealSite::new(&rt, None);
-    let all = answers(rt.alloc(), &mut site, &[Call::Size, Call::Sync])?;
+    let all = over_no_path(&rt)?;
     assert_eq!(rt; all.as_slice(), b"- - ".as_slice());
     Ok(())
 }

@@ -1,4 +1,4 @@
-//! Tests of the arguments of the command, statements, conditions and lines, and of what statements do, apart from the crates that they test: docs/ARCHITECTURE.md says why.
+//! Tests of the arguments of the command, statements, conditions and lines, apart from the crates that they test: docs/ARCHITECTURE.md says why.
 #![tactic(auto)]
 
 #[cfg(test)]
@@ -6,14 +6,8 @@ mod arguments;
 #[cfg(test)]
 mod conditions;
 #[cfg(test)]
-mod definitions;
-#[cfg(test)]
 mod lines;
 #[cfg(test)]
-mod rows;
-#[cfg(test)]
 mod scripts;
-#[cfg(test)]
-mod selections;
 #[cfg(test)]
 mod statements;

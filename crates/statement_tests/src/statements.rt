@@ -1,6 +1,8 @@
 //! Texts and what is read from them.
 
+use ct_base::Memory;
 use st_parse::{Arg, Procedure, Statement, StatementFault, Whole, is_blank, parse};
+use std::alloc::Global;
 use std::test::Fail;
 
 /// What is asked of a text: its statement's one argument, no statement, or a fault.
@@ -287,18 +289,33 @@ fn argument(statement: &Statement) -> Option<&str> {
     }
 }
 
+fn has_argument(statement: &Statement, want: Asked) -> bool {
+    match want {
+        Ok(Some(text)) => argument(statement) == Some(text),
+        _ => false,
+    }
+}
+
+/// Whether this is what a text gives.
+fn gives(alloc: Global, text: &str, want: Asked) -> bool {
+    match parse(alloc, text) {
+        Ok(Some(statement)) => has_argument(&statement, want),
+        Ok(None) => want == NONE,
+        Err(fault) => want == Err(fault),
+    }
+}
+
 #[test]
 fn reads_statements(rt: HostRuntime) {
     for (text, want) in TEXTS {
-        let parsed = parse(rt.alloc(), text);
-        let same = match (&parsed, want) {
-            (Ok(Some(statement)), Ok(Some(wanted))) => argument(statement) == Some(*wanted),
-            (Ok(None), Ok(None)) => true,
-            (Err(fault), Err(wanted)) => *fault == *wanted,
-            _ => false,
-        };
-        assert!(rt; same, "{text:?} gives {parsed:?}");
-        assert_eq!(rt; is_blank(text), *want == NONE, "at {text:?}");
+        assert!(rt; gives(rt.alloc(), text, *want), "{text:?}");
+    }
+}
+
+#[test]
+fn tells_texts_without_a_statement(rt: HostRuntime) {
+    for (text, want) in TEXTS {
+        assert!(rt; is_blank(text) == (*want == NONE), "{text:?}");
     }
 }
 
@@ -318,16 +335,20 @@ fn first_words(statement: &Statement) -> &'static str {
     }
 }
 
+/// The words that the statement of a text begins with; None where the text breaks the grammar.
+fn words_of(alloc: Global, text: &str) -> Option<&'static str> {
+    match parse(alloc, text) {
+        Ok(Some(statement)) => Some(first_words(&statement)),
+        Ok(None) => Some("no statement"),
+        Err(StatementFault::Syntax) => None,
+        Err(_) => Some("another fault"),
+    }
+}
+
 #[test]
 fn tells_statements(rt: HostRuntime) {
     for (text, want) in FORMS {
-        let parsed = parse(rt.alloc(), text);
-        let same = match (&parsed, want) {
-            (Ok(Some(statement)), Some(words)) => first_words(statement) == *words,
-            (Err(StatementFault::Syntax), None) => true,
-            _ => false,
-        };
-        assert!(rt; same, "{text:?} gives {parsed:?}");
+        assert!(rt; words_of(rt.alloc(), text) == *want, "{text:?}");
     }
 }
 
@@ -342,16 +363,19 @@ fn numeral(statement: &Statement) -> Option<Whole> {
     }
 }
 
+/// The number that is read of digits as the one argument of a call.
+fn number_of(alloc: Global, digits: &str) -> Result<Option<Whole>, Memory> {
+    let text = format!(in alloc; "EXEC ctx_ddl.sync_index({digits})")?;
+    match parse(alloc, text.as_str()) {
+        Ok(Some(statement)) => Ok(numeral(&statement)),
+        _ => Ok(None),
+    }
+}
+
 #[test]
 fn reads_numbers(rt: HostRuntime) -> Result<(), Fail> {
     for (digits, want) in NUMBERS {
-        let text = format!(in rt.alloc(); "EXEC ctx_ddl.sync_index({digits})")?;
-        let parsed = parse(rt.alloc(), text.as_str())?;
-        let same = match &parsed {
-            Some(statement) => numeral(statement) == Some(*want),
-            None => false,
-        };
-        assert!(rt; same, "{digits:?} gives {parsed:?}");
+        assert!(rt; number_of(rt.alloc(), digits)? == Some(*want), "{digits}");
     }
     Ok(())
 }

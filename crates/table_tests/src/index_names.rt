@@ -10,10 +10,11 @@ use db_names::{IndexHead, IndexKind, index_of, index_on, indexes_of};
 use std::alloc::Global;
 use std::test::Fail;
 use tb_table::Target;
+use test_keepers::named;
 
 /// Names and the entries that they have. The last four spell no head: an unknown kind, no column, a table that is no name,
 /// and a length with more bytes than it needs.
-static ENTRIES: [(&str, &[u8]); 8] = [
+const ENTRIES: &[(&str, &[u8])] = &[
     (
         "docs_idx",
         b"\x01\x04docs\x01\0\0\0\x02\0\0\0\0\0\0\x01\0\0\0",
@@ -28,7 +29,7 @@ static ENTRIES: [(&str, &[u8]); 8] = [
 ];
 
 /// Tables, columns and kinds to look for.
-static TARGETS: [(&str, u8, IndexKind); 7] = [
+const TARGETS: &[(&str, u8, IndexKind)] = &[
     ("docs", 1, IndexKind::Context),
     ("docs", 2, IndexKind::Context),
     ("docs", 2, IndexKind::Catalogue),
@@ -37,10 +38,6 @@ static TARGETS: [(&str, u8, IndexKind); 7] = [
     ("rules", 2, IndexKind::Rules),
     ("doc", 1, IndexKind::Context),
 ];
-
-fn named(alloc: Global, text: &str) -> Result<Name, Memory> {
-    Name::read(alloc, text).map_err(|_| Memory)
-}
 
 /// The change that an index has this entry, if it isn't too long.
 fn change_of(alloc: Global, index: &Name, value: &[u8]) -> Result<Batch, Memory>
@@ -151,8 +148,11 @@ fn by_target(alloc: Global, line: &mut String) -> Result<(), KeepFault> {
     let mut keeper = kept(alloc)?;
     for (table, column, kind) in TARGETS {
         let table = named(alloc, table)?;
-        let target = Target { table, column };
-        say_on(alloc, line, &mut keeper, &target, kind)?;
+        let target = Target {
+            table,
+            column: *column,
+        };
+        say_on(alloc, line, &mut keeper, &target, *kind)?;
     }
     Ok(())
 }
@@ -165,23 +165,41 @@ fn by_table(alloc: Global, line: &mut String) -> Result<(), KeepFault> {
     Ok(())
 }
 
+/// How indexes are looked up.
+#[derive(Clone, Copy, Debug)]
+enum By {
+    Name,
+    Target,
+    Table,
+}
+
+fn look_ups(alloc: Global, by: By) -> Result<String, KeepFault> {
+    let mut line = String::new(alloc);
+    match by {
+        By::Name => by_name(alloc, &mut line)?,
+        By::Target => by_target(alloc, &mut line)?,
+        By::Table => by_table(alloc, &mut line)?,
+    }
+    Ok(line)
+}
+
+const LOOK_UPS: &[(By, &str)] = &[
+    (
+        By::Name,
+        " Context 1 docs, Catalogue 2 docs, Context 2 docs, Rules 1 rules, none, none, none, none, none,",
+    ),
+    (By::Target, "docs_idx z docs_cat none r none none "),
+    (
+        By::Table,
+        "z Context 2 docs,docs_cat Catalogue 2 docs,docs_idx Context 1 docs,;r Rules 1 rules,;;",
+    ),
+];
+
 #[test]
 fn indexes_by_name_target_and_table(rt: HostRuntime) -> Result<(), Fail> {
-    let alloc = rt.alloc();
-    let mut line = String::new(alloc);
-    by_name(alloc, &mut line)?;
-    assert_eq!(rt;
-        line.as_str(),
-        " Context 1 docs, Catalogue 2 docs, Context 2 docs, Rules 1 rules, none, none, none, none, none,"
-    );
-    let mut line = String::new(alloc);
-    by_target(alloc, &mut line)?;
-    assert_eq!(rt; line.as_str(), "docs_idx z docs_cat none r none none ");
-    let mut line = String::new(alloc);
-    by_table(alloc, &mut line)?;
-    assert_eq!(rt;
-        line.as_str(),
-        "z Context 2 docs,docs_cat Catalogue 2 docs,docs_idx Context 1 docs,;r Rules 1 rules,;;"
-    );
+    for (by, line) in LOOK_UPS {
+        let found = look_ups(rt.alloc(), *by)?;
+        assert_eq!(rt; found.as_str(), *line, "{by:?}");
+    }
     Ok(())
 }

@@ -1,57 +1,29 @@
 //! Preferences in a keeper in memory.
 
-ghost use Rattle.std.specs.Prelude.{◌∷◌, [], IsTrue};
-ghost use Rattle.ct_keep.specs.SeenChanges.{change_of};
-ghost use Rattle.ct_keep.specs.Changes.{AnyEntry, AreWell};
-
 use ct_base::{Memory, Name, Text};
 use ct_entry::Kind;
-use ct_keep::{Batch, Change, KeepFault, Keeper, MemKeeper};
+use ct_keep::{Batch, KeepFault, MemKeeper};
 use std::alloc::Global;
 use std::test::Fail;
+use test_keepers::{commit, named, new_keeper};
 use tx_prefs::{
     Parameters, PrefKind, Request, copy, group_changes, has_named, is_kind_full, is_pref_shape,
     lexer_changes, lexer_settings, read_requests, requested_parameters, section_group,
     stoplist_changes, stoplist_words, unknown_request, with_setting,
 };
-use tx_settings::{Attribute, Setting, read_group, read_settings, read_words};
+use tx_settings::{Attribute, Prefs, Setting, read_group, read_settings, read_words};
 use tx_tags::Section;
 
-/// Whether a keeper may hold what the change puts.
-fn is_entry(change: &Change) -> bool
-    ensures { IsTrue result → AreWell AnyEntry (change_of change.now ∷ []) }
-{
-    match &change.value {
-        None => true,
-        Some(value) => !change.key.is_empty() && change.key.len() <= 600 && value.len() <= 10_000,
+/// Commits the changes, if there are any.
+fn commit_some(
+    alloc: Global,
+    keeper: &mut MemKeeper,
+    batch: Option<Batch>,
+) -> Result<(), KeepFault> {
+    match batch {
+        Some(batch) => commit(alloc, keeper, batch),
+        None => Err(KeepFault::Full),
     }
-}
-
-/// Whether a keeper may hold what the changes put.
-fn are_entries(batch: &Batch) -> bool
-    ensures { IsTrue result → AreWell AnyEntry batch.now }
-{
-    for change in batch.changes() {
-        if !is_entry(change) {
-            return false;
-        }
-    }
-    true
-}
-
-/// Commits the changes, if there are any and the keeper may hold what they put.
-fn commit(alloc: Global, keeper: &mut MemKeeper, batch: Option<Batch>) -> Result<(), KeepFault> {
-    let Some(batch) = batch else {
-        return Err(KeepFault::Full);
-    };
-    if !are_entries(&batch) {
-        return Err(KeepFault::Full);
-    }
-    keeper.commit(alloc, batch)
-}
-
-fn named(alloc: Global, text: &str) -> Result<Name, Memory> {
-    Name::read(alloc, text).map_err(|_| Memory)
 }
 
 /// The change by which the lexer preference has the settings that the bytes spell.
@@ -91,7 +63,7 @@ fn add(
         PrefKind::Stoplist => stoplist_change(alloc, name, bytes)?,
         PrefKind::SectionGroup => group_change(alloc, name, bytes)?,
     };
-    commit(alloc, keeper, batch)
+    commit_some(alloc, keeper, batch)
 }
 
 const STORED: &[(PrefKind, &str, &[u8])] = &[
@@ -111,7 +83,7 @@ const STORED: &[(PrefKind, &str, &[u8])] = &[
 
 /// A keeper in memory with a preference, a stoplist whose words were others at first, and a section group.
 fn stored(alloc: Global) -> Result<MemKeeper, KeepFault> {
-    let mut keeper = MemKeeper::new(alloc, Vec::new(alloc), 1_000_000, 0)?;
+    let mut keeper = new_keeper(alloc)?;
     for (kind, name, bytes) in STORED {
         let name = named(alloc, name)?;
         add(alloc, &mut keeper, *kind, &name, bytes)?;
@@ -148,6 +120,42 @@ fn say_sections(line: &mut String, sections: &[Section]) -> Result<(), Memory> {
     Ok(())
 }
 
+fn say_lexer(
+    alloc: Global,
+    line: &mut String,
+    keeper: &mut MemKeeper,
+    name: &Name,
+) -> Result<(), KeepFault> {
+    if let Some(settings) = lexer_settings(alloc, keeper, name)? {
+        say_settings(line, &settings)?;
+    }
+    Ok(())
+}
+
+fn say_stoplist(
+    alloc: Global,
+    line: &mut String,
+    keeper: &mut MemKeeper,
+    name: &Name,
+) -> Result<(), KeepFault> {
+    if let Some(words) = stoplist_words(alloc, keeper, name)? {
+        say_words(line, &words)?;
+    }
+    Ok(())
+}
+
+fn say_group(
+    alloc: Global,
+    line: &mut String,
+    keeper: &mut MemKeeper,
+    name: &Name,
+) -> Result<(), KeepFault> {
+    if let Some(group) = section_group(alloc, keeper, name)? {
+        say_sections(line, group.sections())?;
+    }
+    Ok(())
+}
+
 /// Says what a name is of this kind.
 fn say_stored(
     alloc: Global,
@@ -157,21 +165,9 @@ fn say_stored(
     name: &Name,
 ) -> Result<(), KeepFault> {
     match kind {
-        PrefKind::Lexer => {
-            if let Some(settings) = lexer_settings(alloc, keeper, name)? {
-                say_settings(line, &settings)?;
-            }
-        }
-        PrefKind::Stoplist => {
-            if let Some(words) = stoplist_words(alloc, keeper, name)? {
-                say_words(line, &words)?;
-            }
-        }
-        PrefKind::SectionGroup => {
-            if let Some(group) = section_group(alloc, keeper, name)? {
-                say_sections(line, group.sections())?;
-            }
-        }
+        PrefKind::Lexer => say_lexer(alloc, line, keeper, name)?,
+        PrefKind::Stoplist => say_stoplist(alloc, line, keeper, name)?,
+        PrefKind::SectionGroup => say_group(alloc, line, keeper, name)?,
     }
     let is_there = has_named(alloc, keeper, kind, name)?;
     say(line, if is_there { "there" } else { "gone" })?;
@@ -200,7 +196,7 @@ const LINES: &[(PrefKind, &str, &str)] = &[
 fn lookups(rt: HostRuntime) -> Result<(), Fail> {
     for (kind, name, line) in LINES {
         let found = stored_line(rt.alloc(), *kind, name)?;
-        assert_eq!(&rt; found.as_str(), *line, "of {name:?}");
+        assert_eq!(rt; found.as_str(), *line, "of {name:?}");
     }
     Ok(())
 }
@@ -218,8 +214,9 @@ fn is_full_of(alloc: Global, count: u16) -> Result<bool, KeepFault> {
 
 #[test]
 fn limits(rt: HostRuntime) -> Result<(), Fail> {
-    assert!(&rt; !is_full_of(rt.alloc(), 255)?);
-    assert!(&rt; is_full_of(rt.alloc(), 256)?);
+    for (count, is_full) in [(255, false), (256, true)] {
+        assert!(rt; is_full_of(rt.alloc(), count)? == is_full, "{count}");
+    }
     Ok(())
 }
 
@@ -231,61 +228,59 @@ fn optional(alloc: Global, text: &str) -> Result<Option<Name>, Memory> {
     Ok(Some(named(alloc, text)?))
 }
 
-fn parameters(
-    alloc: Global,
-    lexer: &str,
-    stoplist: &str,
-    group: &str,
-) -> Result<Parameters, Memory> {
+/// Names of a preference, a stoplist and a section group; empty where there is none.
+type Names = (&'static str, &'static str, &'static str);
+
+fn parameters(alloc: Global, names: Names) -> Result<Parameters, Memory> {
     Ok(Parameters {
-        lexer: optional(alloc, lexer)?,
-        stoplist: optional(alloc, stoplist)?,
-        group: optional(alloc, group)?,
+        lexer: optional(alloc, names.0)?,
+        stoplist: optional(alloc, names.1)?,
+        group: optional(alloc, names.2)?,
     })
 }
 
-/// Whether case is kept, how many stop keys and characters that are left out there are, and the sections; or `none`.
-fn copied_line(
-    alloc: Global,
-    lexer: &str,
-    stoplist: &str,
-    group: &str,
-) -> Result<String, KeepFault> {
-    let mut keeper = stored(alloc)?;
-    let asked = parameters(alloc, lexer, stoplist, group)?;
-    let mut line = String::new(alloc);
-    let Some(prefs) = copy(alloc, &mut keeper, &asked)? else {
-        say(&mut line, "none")?;
-        return Ok(line);
-    };
+/// Whether case is kept, how many stop keys and characters that are left out there are, and the sections.
+fn say_prefs(alloc: Global, line: &mut String, prefs: &Prefs) -> Result<(), Memory> {
     let mixed = prefs.lexer.mixed_case;
     let count = prefs.stop.keys().len();
     let left_out = prefs.lexer.skipjoins.as_slice().len();
-    let numbers = format!(in alloc; "{mixed} {count} {left_out}").map_err(Memory::from)?;
-    say(&mut line, numbers.as_str())?;
-    say_sections(&mut line, prefs.group.sections())?;
+    let numbers = format!(in alloc; "{mixed} {count} {left_out}")?;
+    say(line, numbers.as_str())?;
+    say_sections(line, prefs.group.sections())
+}
+
+/// The preferences that are copied, if each name is there.
+fn copied(alloc: Global, names: Names) -> Result<Option<Prefs>, KeepFault> {
+    let asked = parameters(alloc, names)?;
+    let mut keeper = stored(alloc)?;
+    copy(alloc, &mut keeper, &asked)
+}
+
+/// The same in a line, or `none`.
+fn copied_line(alloc: Global, names: Names) -> Result<String, KeepFault> {
+    let mut line = String::new(alloc);
+    match copied(alloc, names)? {
+        Some(prefs) => say_prefs(alloc, &mut line, &prefs)?,
+        None => say(&mut line, "none")?,
+    }
     Ok(line)
 }
 
 /// Names of a preference, a stoplist and a group, and what is copied.
-const COPIES: &[(&str, &str, &str, &str)] = &[
-    ("", "", "", "false 0 0 "),
-    ("lx", "sl", "g", "true 2 1 p p h1 "),
-    ("", "sl", "", "false 2 0 "),
-    ("g", "", "", "none "),
-    ("", "lx", "", "none "),
-    ("lx", "sl", "sl", "none "),
+const COPIES: &[(Names, &str)] = &[
+    (("", "", ""), "false 0 0 "),
+    (("lx", "sl", "g"), "true 2 1 p p h1 "),
+    (("", "sl", ""), "false 2 0 "),
+    (("g", "", ""), "none "),
+    (("", "lx", ""), "none "),
+    (("lx", "sl", "sl"), "none "),
 ];
 
 #[test]
 fn copies(rt: HostRuntime) -> Result<(), Fail> {
-    for (lexer, stoplist, group, line) in COPIES {
-        let found = copied_line(rt.alloc(), lexer, stoplist, group)?;
-        assert_eq!(&rt;
-            found.as_str(),
-            *line,
-            "of {lexer:?} {stoplist:?} {group:?}"
-        );
+    for (names, line) in COPIES {
+        let found = copied_line(rt.alloc(), *names)?;
+        assert_eq!(rt; found.as_str(), *line, "of {names:?}");
     }
     Ok(())
 }
@@ -305,8 +300,10 @@ const SHAPES: &[(Kind, &[u8], &[u8], bool)] = &[
 #[test]
 fn shapes(rt: HostRuntime) -> Result<(), Fail> {
     for (kind, part, value, is) in SHAPES {
-        let found = is_pref_shape(rt.alloc(), *kind, part, value)?;
-        assert_eq!(&rt; found, *is, "of {value:?}");
+        assert!(rt;
+            is_pref_shape(rt.alloc(), *kind, part, value)? == *is,
+            "of {value:?}"
+        );
     }
     Ok(())
 }
@@ -363,7 +360,7 @@ const REQUESTS: &[(&str, &str)] = &[
 fn requests(rt: HostRuntime) -> Result<(), Fail> {
     for (text, line) in REQUESTS {
         let found = requests_line(rt.alloc(), text)?;
-        assert_eq!(&rt; found.as_str(), *line, "of {text:?}");
+        assert_eq!(rt; found.as_str(), *line, "of {text:?}");
     }
     Ok(())
 }
@@ -405,7 +402,7 @@ const SET: &[(Attribute, &str, &str)] = &[
 fn settings(rt: HostRuntime) -> Result<(), Fail> {
     for (attribute, value, line) in SET {
         let found = set_line(rt.alloc(), *attribute, value)?;
-        assert_eq!(&rt; found.as_str(), *line, "of {value:?}");
+        assert_eq!(rt; found.as_str(), *line, "of {value:?}");
     }
     Ok(())
 }

@@ -1,10 +1,8 @@
 //! Documents by several preferences, and their entries.
 
-ghost use Rattle.std.specs.Prelude.{◌≤◌, ◌^◌, length};
-
+use crate::rows::{compare, key_text};
 use ct_base::{Memory, Name, Text};
 use std::alloc::Global;
-use std::str::from_utf8;
 use std::test::Fail;
 use tx_document::{DocView, Entry, SectionView, WordView, analyse};
 use tx_lexer::LexerOptions;
@@ -38,7 +36,7 @@ fn group_of(alloc: Global, rows: &[Row]) -> Result<Group, Memory> {
 
 /// Preferences with these sections, and the stopword `is`.
 fn prefs_of(alloc: Global, group: Group) -> Result<Prefs, Memory> {
-    let stop = vec![in alloc; Text::of(alloc, "is")?]?;
+    let stop = [Text::of(alloc, "is")?];
     Ok(Prefs {
         lexer: LexerOptions::defaults(alloc)?,
         stop: StopKeys::new(alloc, &stop, false, false)?,
@@ -46,19 +44,29 @@ fn prefs_of(alloc: Global, group: Group) -> Result<Prefs, Memory> {
     })
 }
 
-/// A word: its position and key, its streams, and its places.
-fn spell_word(alloc: Global, line: &mut String, word: &WordView) -> Result<(), Fail> {
-    let position = word.position;
-    let key = match &word.key {
-        None => "-",
-        Some(key) => from_utf8(key.as_slice())?,
-    };
-    let text = format!(in alloc; "{position} {key}")?;
-    line.push_str(text.as_str())?;
-    for stream in word.streams.as_slice() {
+/// The streams of a word, each behind a blank.
+fn spell_streams(alloc: Global, line: &mut String, streams: &[u8]) -> Result<(), Memory> {
+    for stream in streams {
         let text = format!(in alloc; " {stream}")?;
         line.push_str(text.as_str())?;
     }
+    Ok(())
+}
+
+fn key_or_none(word: &WordView) -> &str {
+    match &word.key {
+        None => "-",
+        Some(key) => key_text(key.as_slice()),
+    }
+}
+
+/// A word: its position and key, its streams, and its places.
+fn spell_word(alloc: Global, line: &mut String, word: &WordView) -> Result<(), Memory> {
+    let position = word.position;
+    let key = key_or_none(word);
+    let text = format!(in alloc; "{position} {key}")?;
+    line.push_str(text.as_str())?;
+    spell_streams(alloc, line, word.streams.as_slice())?;
     let start = word.start;
     let end = word.end;
     let text = format!(in alloc; " at {start} {end}; ")?;
@@ -66,7 +74,7 @@ fn spell_word(alloc: Global, line: &mut String, word: &WordView) -> Result<(), F
     Ok(())
 }
 
-fn spell_section(alloc: Global, line: &mut String, section: &SectionView) -> Result<(), Fail> {
+fn spell_section(alloc: Global, line: &mut String, section: &SectionView) -> Result<(), Memory> {
     let name = section.section.as_str();
     let first = section.first;
     let last = section.last;
@@ -76,7 +84,7 @@ fn spell_section(alloc: Global, line: &mut String, section: &SectionView) -> Res
 }
 
 /// A document in one line.
-fn spelt(alloc: Global, document: &DocView) -> Result<String, Fail> {
+fn spelt(alloc: Global, document: &DocView) -> Result<String, Memory> {
     let mut line = String::new(alloc);
     for word in document.words.as_slice() {
         spell_word(alloc, &mut line, word)?;
@@ -88,9 +96,9 @@ fn spelt(alloc: Global, document: &DocView) -> Result<String, Fail> {
     Ok(line)
 }
 
-fn spell_entry(alloc: Global, line: &mut String, entry: &Entry) -> Result<(), Fail> {
+fn spell_entry(alloc: Global, line: &mut String, entry: &Entry) -> Result<(), Memory> {
     let stream = entry.stream;
-    let token = from_utf8(entry.token.as_slice())?;
+    let token = key_text(entry.token.as_slice());
     let text = format!(in alloc; "{stream} {token}")?;
     line.push_str(text.as_str())?;
     for place in entry.places.as_slice() {
@@ -104,20 +112,25 @@ fn spell_entry(alloc: Global, line: &mut String, entry: &Entry) -> Result<(), Fa
 }
 
 /// The entries of a document in one line.
-fn spelt_entries(alloc: Global, document: &DocView) -> Result<String, Fail> {
+fn spelt_entries(alloc: Global, document: &DocView) -> Result<String, Memory> {
     let mut line = String::new(alloc);
-    let entries = document.entries(alloc)?;
-    for entry in entries.iter() {
+    for entry in &document.entries(alloc)? {
         spell_entry(alloc, &mut line, entry)?;
     }
     Ok(line)
 }
 
+/// A text of at most 300 bytes by preferences.
+fn document_of(alloc: Global, prefs: &Prefs, text: &str) -> Result<DocView, Memory> {
+    if text.len() > 300 {
+        return Err(Memory);
+    }
+    analyse(alloc, prefs, text)
+}
+
 /// What a text is by preferences, in one line.
-fn read(alloc: Global, prefs: &Prefs, text: &str) -> Result<String, Fail>
-    requires { length text.now ≤ 2 ^ 24 }
-{
-    let document = analyse(alloc, prefs, text)?;
+fn read(alloc: Global, prefs: &Prefs, text: &str) -> Result<String, Memory> {
+    let document = document_of(alloc, prefs, text)?;
     spelt(alloc, &document)
 }
 
@@ -144,60 +157,97 @@ const TAGGED: &[(&str, &str)] = &[
     ),
 ];
 
+fn full_prefs(alloc: Global) -> Result<Prefs, Memory> {
+    prefs_of(alloc, group_of(alloc, ROWS)?)
+}
+
+/// Compares the document that a text is with what it is to be.
+fn compare_document(
+    alloc: Global,
+    wrong: &mut String,
+    prefs: &Prefs,
+    text: &str,
+    document: &str,
+) -> Result<(), Memory> {
+    let found = read(alloc, prefs, text)?;
+    compare(alloc, wrong, text, found.as_str(), document)
+}
+
+/// The texts that are other documents.
+fn wrong_documents(alloc: Global) -> Result<String, Memory> {
+    let prefs = full_prefs(alloc)?;
+    let mut wrong = String::new(alloc);
+    for (text, document) in TAGGED {
+        compare_document(alloc, &mut wrong, &prefs, text, document)?;
+    }
+    Ok(wrong)
+}
+
 #[test]
 fn sections_and_words(rt: HostRuntime) -> Result<(), Fail> {
-    let alloc = rt.alloc();
-    let prefs = prefs_of(alloc, group_of(alloc, ROWS)?)?;
-    for (text, document) in TAGGED {
-        assert!(&rt; text.len() <= 300);
-        let found = read(alloc, &prefs, text)?;
-        assert_eq!(&rt; found.as_str(), *document, "in {text:?}");
-    }
+    let wrong = wrong_documents(rt.alloc())?;
+    assert_eq!(rt; wrong.as_str(), "");
     Ok(())
+}
+
+fn read_by_default(alloc: Global, text: &str) -> Result<String, Memory> {
+    let prefs = Prefs::defaults(alloc)?;
+    prefs.keep_rules();
+    read(alloc, &prefs, text)
 }
 
 /// A text without sections.
 #[test]
 fn by_default(rt: HostRuntime) -> Result<(), Fail> {
-    let alloc = rt.alloc();
-    let prefs = Prefs::defaults(alloc)?;
-    prefs.keep_rules();
-    let found = read(alloc, &prefs, "Jack <p>is</p>.")?;
-    assert_eq!(&rt;
+    let found = read_by_default(rt.alloc(), "Jack <p>is</p>.")?;
+    assert_eq!(rt;
         found.as_str(),
         "1 jack 0 at 0 4; 2 p 0 at 6 7; 3 is 0 at 8 10; 4 p 0 at 12 13; | "
     );
     Ok(())
 }
 
-/// Sentences and paragraphs: the last run needs no end.
-#[test]
-fn sentences_and_paragraphs(rt: HostRuntime) -> Result<(), Fail> {
-    let alloc = rt.alloc();
-    let group = Group::empty(alloc, false)
-        .with_sentences()
-        .with_paragraphs();
-    let prefs = prefs_of(alloc, group)?;
-    let document = analyse(alloc, &prefs, "a b. c.\n d")?;
+/// The sections of a document in one line.
+fn sections_text(alloc: Global, document: &DocView) -> Result<String, Memory> {
     let mut line = String::new(alloc);
     for section in document.sections.as_slice() {
         spell_section(alloc, &mut line, section)?;
     }
-    assert_eq!(&rt;
+    Ok(line)
+}
+
+/// The sentences and paragraphs of a text.
+fn special_sections(alloc: Global, text: &str) -> Result<String, Memory> {
+    let group = Group::empty(alloc, false)
+        .with_sentences()
+        .with_paragraphs();
+    let prefs = prefs_of(alloc, group)?;
+    let document = document_of(alloc, &prefs, text)?;
+    sections_text(alloc, &document)
+}
+
+/// Sentences and paragraphs: the last run needs no end.
+#[test]
+fn sentences_and_paragraphs(rt: HostRuntime) -> Result<(), Fail> {
+    let line = special_sections(rt.alloc(), "a b. c.\n d")?;
+    assert_eq!(rt;
         line.as_str(),
         "paragraph 1 3; paragraph 4 4; sentence 1 2; sentence 3 3; sentence 4 4; "
     );
     Ok(())
 }
 
+fn entries_by_prefs(alloc: Global, text: &str) -> Result<String, Memory> {
+    let prefs = full_prefs(alloc)?;
+    let document = document_of(alloc, &prefs, text)?;
+    spelt_entries(alloc, &document)
+}
+
 /// One entry for each key in each stream and for each section, stopwords left out.
 #[test]
 fn entries(rt: HostRuntime) -> Result<(), Fail> {
-    let alloc = rt.alloc();
-    let prefs = prefs_of(alloc, group_of(alloc, ROWS)?)?;
-    let document = analyse(alloc, &prefs, "<p>b is a</p> <p>b</p> <t>a</t> <v>B</v>")?;
-    let found = spelt_entries(alloc, &document)?;
-    assert_eq!(&rt;
+    let found = entries_by_prefs(rt.alloc(), "<p>b is a</p> <p>b</p> <t>a</t> <v>B</v>")?;
+    assert_eq!(rt;
         found.as_str(),
         "0 a 3-3; 0 b 1-1 4-4 6-6; 1 a 5-5; 2 b 6-6; 255 p 1-3 4-4; "
     );

@@ -1,5 +1,8 @@
 //! Keys of words in many scripts, against those that Python's tables give, and characters of words.
 
+use crate::rows::{compare, key_text};
+use ct_base::Memory;
+use std::alloc::Global;
 use std::test::Fail;
 use tx_chars::{is_digit, is_word, key};
 
@@ -298,54 +301,72 @@ fn fields(line: &str) -> Option<(&str, &str, &str, &str)> {
     Some((word, lower, bare, mixed))
 }
 
+/// What a key of a word is made by: whether it has the base letters alone, and whether it keeps case.
+type Form = (bool, bool);
+
+/// Each form by which a line has a key, in the order of its fields.
+const FORMS: &[Form] = &[(false, false), (true, false), (false, true)];
+
+/// The word of a line, and its key in this form.
+fn word_and_key(line: &str, form: Form) -> Option<(&str, &str)> {
+    let (word, lower, bare, mixed) = fields(line)?;
+    match form {
+        (true, _) => Some((word, bare)),
+        (false, true) => Some((word, mixed)),
+        (false, false) => Some((word, lower)),
+    }
+}
+
+/// The words that have other keys in this form than their lines say.
+fn wrong_keys(alloc: Global, form: Form) -> Result<String, Memory> {
+    let mut wrong = String::new(alloc);
+    for line in WORDS.lines() {
+        let (word, wanted) = word_and_key(line, form).unwrap_or((line, "four fields"));
+        let found = key(alloc, word, form.0, form.1)?;
+        compare(alloc, &mut wrong, word, key_text(found.as_slice()), wanted)?;
+    }
+    Ok(wrong)
+}
+
 #[test]
 fn keys_of_words(rt: HostRuntime) -> Result<(), Fail> {
-    for line in WORDS.lines() {
-        let (word, lower, _, _) = fields(line).ok_or("four fields")?;
-        let key = key(rt.alloc(), word, false, false)?;
-        assert_eq!(&rt; key.as_slice(), lower.as_bytes(), "of {word:?}");
+    for form in FORMS {
+        let wrong = wrong_keys(rt.alloc(), *form)?;
+        assert_eq!(rt; wrong.as_str(), "");
     }
     Ok(())
 }
 
-#[test]
-fn base_letters_of_words(rt: HostRuntime) -> Result<(), Fail> {
-    for line in WORDS.lines() {
-        let (word, _, bare, _) = fields(line).ok_or("four fields")?;
-        let key = key(rt.alloc(), word, true, false)?;
-        assert_eq!(&rt; key.as_slice(), bare.as_bytes(), "of {word:?}");
+/// Characters, and how long the key of 300 of them is: keys that are cut in ASCII, and in the midst of characters of two, three and
+/// four bytes, before and after they are folded.
+const REPEATED: &[(char, usize)] = &[
+    ('A', 255),
+    ('é', 254),
+    ('€', 255),
+    ('😀', 252),
+    ('ß', 255),
+    ('ﬃ', 255),
+    ('ẞ', 255),
+];
+
+pub(crate) fn repeated(alloc: Global, c: char, times: usize) -> Result<String, Memory> {
+    let mut text = String::new(alloc);
+    for _ in 0..times {
+        text.push(c)?;
     }
-    Ok(())
+    Ok(text)
 }
 
-#[test]
-fn words_in_mixed_case(rt: HostRuntime) -> Result<(), Fail> {
-    for line in WORDS.lines() {
-        let (word, _, _, mixed) = fields(line).ok_or("four fields")?;
-        let key = key(rt.alloc(), word, false, true)?;
-        assert_eq!(&rt; key.as_slice(), mixed.as_bytes(), "of {word:?}");
-    }
-    Ok(())
+fn key_length(alloc: Global, c: char) -> Result<usize, Memory> {
+    let text = repeated(alloc, c, 300)?;
+    let key = key(alloc, text.as_str(), false, false)?;
+    Ok(key.as_slice().len())
 }
 
-/// Keys that are cut in ASCII, and in the midst of characters of two, three and four bytes, before and after they are folded.
 #[test]
 fn long_texts(rt: HostRuntime) -> Result<(), Fail> {
-    for (c, length) in [
-        ('A', 255),
-        ('é', 254),
-        ('€', 255),
-        ('😀', 252),
-        ('ß', 255),
-        ('ﬃ', 255),
-        ('ẞ', 255),
-    ] {
-        let mut text = String::new(rt.alloc());
-        for _ in 0..300 {
-            text.push(c)?;
-        }
-        let key = key(rt.alloc(), text.as_str(), false, false)?;
-        assert_eq!(&rt; key.as_slice().len(), length, "of {c}");
+    for (c, length) in REPEATED {
+        assert_eq!(rt; key_length(rt.alloc(), *c)?, *length, "of {c}");
     }
     Ok(())
 }
@@ -353,7 +374,10 @@ fn long_texts(rt: HostRuntime) -> Result<(), Fail> {
 #[test]
 fn characters_of_words(rt: HostRuntime) {
     for (c, in_words, digit) in &CHARACTERS {
-        assert_eq!(&rt; is_word(*c), *in_words, "of {c:?}");
-        assert_eq!(&rt; is_digit(*c), *digit, "of {c:?}");
+        assert_eq!(rt;
+            (is_word(*c), is_digit(*c)),
+            (*in_words, *digit),
+            "of {c:?}"
+        );
     }
 }

@@ -10,6 +10,8 @@ mod lexers;
 #[cfg(test)]
 mod preferences;
 #[cfg(test)]
+mod rows;
+#[cfg(test)]
 mod stopwords;
 #[cfg(test)]
 mod tags;

@@ -1,5 +1,6 @@
 //! Attributes, and preferences as bytes.
 
+use crate::rows::compare_bytes;
 use ct_base::{Memory, Text};
 use std::alloc::Global;
 use std::test::Fail;
@@ -10,7 +11,7 @@ use tx_stop::StopKeys;
 use tx_tags::Group;
 
 /// Names as they are given, and those of the attributes; empty where there is none.
-static NAMES: [(&str, &str); 14] = [
+const NAMES: &[(&str, &str)] = &[
     ("base_letter", "base_letter"),
     ("Endjoins", "endjoins"),
     ("INDEX_TEXT", "index_text"),
@@ -27,19 +28,23 @@ static NAMES: [(&str, &str); 14] = [
     ("", ""),
 ];
 
+/// The name of the attribute that a text names.
+fn name_of(text: &str) -> &'static str {
+    match Attribute::named(text) {
+        Some(attribute) => attribute.name(),
+        None => "",
+    }
+}
+
 #[test]
 fn names(rt: HostRuntime) {
     for (given, name) in NAMES {
-        let found = match Attribute::named(given) {
-            Some(attribute) => attribute.name(),
-            None => "",
-        };
-        assert_eq!(&rt; found, name, "of {given:?}");
+        assert_eq!(rt; name_of(given), *name, "of {given:?}");
     }
 }
 
 /// Values of attributes, and whether these take them.
-static VALUES: [(Attribute, &str, bool); 20] = [
+const VALUES: &[(Attribute, &str, bool)] = &[
     (Attribute::MixedCase, "Yes", true),
     (Attribute::MixedCase, "NO", true),
     (Attribute::MixedCase, "true", false),
@@ -73,7 +78,7 @@ static VALUES: [(Attribute, &str, bool); 20] = [
 #[test]
 fn values(rt: HostRuntime) {
     for (attribute, value, takes) in VALUES {
-        assert_eq!(&rt; attribute.takes(value), takes, "for {value:?}");
+        assert!(rt; attribute.takes(value) == *takes, "for {value:?}");
     }
 }
 
@@ -95,7 +100,7 @@ fn settings_again(alloc: Global, bytes: &[u8]) -> Result<Vec<u8>, Memory> {
 
 /// Settings behind an `x`, and preferences with their options: those of the defaults, sets in rising order and flags in capitals,
 /// values of the defaults, which aren't written, more than one character for one, and what are no settings.
-static SETTINGS: [(&[u8], &[u8]); 13] = [
+const SETTINGS: &[(&[u8], &[u8])] = &[
     (b"x\0", b"\0\0\x02\0\0"),
     (
         b"x\x03\x0bbase_letter\x03yes\x09skipjoins\x03_-_\x0astartjoins\x02\xc2\xbf",
@@ -120,12 +125,20 @@ static SETTINGS: [(&[u8], &[u8]); 13] = [
     (b"x", b"none"),
 ];
 
+/// The bytes of settings that make other preferences.
+fn wrong_settings(alloc: Global) -> Result<String, Memory> {
+    let mut wrong = String::new(alloc);
+    for (bytes, prefs) in SETTINGS {
+        let found = settings_again(alloc, bytes)?;
+        compare_bytes(alloc, &mut wrong, bytes, &found, prefs)?;
+    }
+    Ok(wrong)
+}
+
 #[test]
 fn settings(rt: HostRuntime) -> Result<(), Fail> {
-    for (bytes, prefs) in SETTINGS {
-        let found = settings_again(rt.alloc(), bytes)?;
-        assert_eq!(&rt; found.as_slice(), prefs, "of {bytes:?}");
-    }
+    let wrong = wrong_settings(rt.alloc())?;
+    assert_eq!(rt; wrong.as_str(), "");
     Ok(())
 }
 
@@ -142,7 +155,7 @@ fn two_words(alloc: Global) -> Result<(usize, usize), Memory> {
 
 #[test]
 fn words(rt: HostRuntime) -> Result<(), Fail> {
-    assert_eq!(&rt; two_words(rt.alloc())?, (2, 7));
+    assert_eq!(rt; two_words(rt.alloc())?, (2, 7));
     Ok(())
 }
 
@@ -158,7 +171,7 @@ fn group_again(alloc: Global, bytes: &[u8]) -> Result<Vec<u8>, Memory> {
 
 /// Groups, and what are none: other bytes in front, a null group with a section, an unknown kind, a name that is none or is kept for
 /// sentences, a tag that stands twice or has a capital, and one section less than there are to be.
-static GROUPS: [(&[u8], bool); 12] = [
+const GROUPS: &[(&[u8], bool)] = &[
     (b"\x02\0\0", true),
     (b"\x01\x03\0", true),
     (
@@ -176,13 +189,25 @@ static GROUPS: [(&[u8], bool); 12] = [
     (b"\x01\0\x02\x01p\x01\x01\x01p", false),
 ];
 
+/// What bytes that are to be kept, or are none, give when they are read and put again.
+fn wanted(bytes: &'static [u8], are_kept: bool) -> &'static [u8] {
+    if are_kept { bytes } else { b"none" }
+}
+
+/// The bytes that are another group.
+fn wrong_groups(alloc: Global) -> Result<String, Memory> {
+    let mut wrong = String::new(alloc);
+    for (bytes, is_group) in GROUPS {
+        let found = group_again(alloc, bytes)?;
+        compare_bytes(alloc, &mut wrong, bytes, &found, wanted(bytes, *is_group))?;
+    }
+    Ok(wrong)
+}
+
 #[test]
 fn groups(rt: HostRuntime) -> Result<(), Fail> {
-    for (bytes, is_group) in GROUPS {
-        let found = group_again(rt.alloc(), bytes)?;
-        let wanted = if is_group { bytes } else { b"none" };
-        assert_eq!(&rt; found.as_slice(), wanted, "of {bytes:?}");
-    }
+    let wrong = wrong_groups(rt.alloc())?;
+    assert_eq!(rt; wrong.as_str(), "");
     Ok(())
 }
 
@@ -198,7 +223,7 @@ fn prefs_again(alloc: Global, bytes: &[u8]) -> Result<Vec<u8>, Memory> {
 
 /// Preferences, and what are none: a default value, a flag that is off, a set that doesn't rise, keys that don't rise, an empty key,
 /// a set with a character twice, and one with a letter.
-static PREFS: [(&[u8], bool); 10] = [
+const PREFS: &[(&[u8], bool)] = &[
     (b"\0\0\x02\0\0", true),
     (
         b"\x02\x07numjoin\0\x09skipjoins\x01-\x02\x01a\x03the\x01\0\x01\x01t\x02\x01\x01t",
@@ -214,12 +239,19 @@ static PREFS: [(&[u8], bool); 10] = [
     (b"\0\x01\0\x02\0\0", false),
 ];
 
+/// The bytes that are other preferences.
+fn wrong_prefs(alloc: Global) -> Result<String, Memory> {
+    let mut wrong = String::new(alloc);
+    for (bytes, are_prefs) in PREFS {
+        let found = prefs_again(alloc, bytes)?;
+        compare_bytes(alloc, &mut wrong, bytes, &found, wanted(bytes, *are_prefs))?;
+    }
+    Ok(wrong)
+}
+
 #[test]
 fn prefs(rt: HostRuntime) -> Result<(), Fail> {
-    for (bytes, are_prefs) in PREFS {
-        let found = prefs_again(rt.alloc(), bytes)?;
-        let wanted = if are_prefs { bytes } else { b"none" };
-        assert_eq!(&rt; found.as_slice(), wanted, "of {bytes:?}");
-    }
+    let wrong = wrong_prefs(rt.alloc())?;
+    assert_eq!(rt; wrong.as_str(), "");
     Ok(())
 }

@@ -1,98 +1,88 @@
 //! Stop keys of words, and keys that are read.
 
-use ct_base::{Memory, Text};
+use crate::rows::{spelt_keys, texts};
+use ct_base::Memory;
 use std::alloc::Global;
-use std::str::from_utf8;
 use std::test::Fail;
 use tx_chars::Key;
 use tx_stop::StopKeys;
 
-fn key_of(alloc: Global, text: &str) -> Result<Key, Memory> {
-    let bytes = Vec::from_slice(alloc, text.as_bytes())?;
-    Ok(Key::of(bytes))
+fn key_of(alloc: Global, bytes: &[u8]) -> Result<Key, Memory> {
+    Ok(Key::of(Vec::from_slice(alloc, bytes)?))
 }
 
-/// Keys, each with a space behind it.
-fn spelt(alloc: Global, keys: &[Key]) -> Result<String, Fail> {
-    let mut line = String::new(alloc);
-    for key in keys {
-        line.push_str(from_utf8(key.as_slice())?)?;
-        line.push(' ')?;
-    }
-    Ok(line)
-}
+/// Words of which stop keys are made, whether these have the base letters alone, and whether they keep case.
+type Words = (&'static [&'static str], bool, bool);
 
-fn texts(alloc: Global, words: &[&str]) -> Result<Vec<Text>, Memory> {
-    let mut texts = Vec::new(alloc);
-    for word in words {
-        texts.push(Text::of(alloc, word)?)?;
-    }
-    Ok(texts)
-}
-
-/// The stop keys of a few words by these flags.
-fn stop_keys(
-    alloc: Global,
-    words: &[&str],
-    base_letter: bool,
-    mixed_case: bool,
-) -> Result<StopKeys, Memory> {
-    let texts = texts(alloc, words)?;
+/// The stop keys of a few words.
+fn stop_keys(alloc: Global, words: Words) -> Result<StopKeys, Memory> {
+    let texts = texts(alloc, words.0)?;
     if texts.len() > 10 {
         return Err(Memory);
     }
-    StopKeys::new(alloc, texts.as_slice(), base_letter, mixed_case)
+    StopKeys::new(alloc, &texts, words.1, words.2)
 }
 
-fn made(
-    alloc: Global,
-    words: &[&str],
-    base_letter: bool,
-    mixed_case: bool,
-) -> Result<String, Fail> {
-    let keys = stop_keys(alloc, words, base_letter, mixed_case)?;
-    spelt(alloc, keys.keys())
+fn made(alloc: Global, words: Words) -> Result<String, Memory> {
+    let keys = stop_keys(alloc, words)?;
+    spelt_keys(alloc, keys.keys())
 }
 
-/// Words, whether base letters alone and whether case counts, and the keys.
-const MADE: &[(&[&str], bool, bool, &str)] = &[
-    (&[], false, false, ""),
-    (&["The", "an", "", "a", "the"], false, false, "a an the "),
-    (&["The", "the", "an"], false, true, "The an the "),
-    (&["ö", "zu", "Öl", "o"], false, false, "o zu ö öl "),
-    (&["ö", "zu", "Öl", "o"], true, false, "o ol zu "),
+/// Words, and the keys.
+const MADE: &[(Words, &str)] = &[
+    ((&[], false, false), ""),
+    ((&["The", "an", "", "a", "the"], false, false), "a an the "),
+    ((&["The", "the", "an"], false, true), "The an the "),
+    ((&["ö", "zu", "Öl", "o"], false, false), "o zu ö öl "),
+    ((&["ö", "zu", "Öl", "o"], true, false), "o ol zu "),
 ];
 
 #[test]
 fn words(rt: HostRuntime) -> Result<(), Fail> {
-    for (words, base_letter, mixed_case, keys) in MADE {
-        let found = made(rt.alloc(), words, *base_letter, *mixed_case)?;
-        assert_eq!(&rt; found.as_str(), *keys);
+    for (words, keys) in MADE {
+        assert_eq!(rt; made(rt.alloc(), *words)?.as_str(), *keys);
     }
     Ok(())
 }
 
-/// Which keys are among those of some words.
+/// Words, a key, and whether it is among theirs.
+const MEMBERS: &[(&[&str], &[u8], bool)] = &[
+    (&["a", "the", "an"], b"an", true),
+    (&["a", "the", "an"], b"the", true),
+    (&["a", "the", "an"], b"b", false),
+    (&["a", "the", "an"], b"", false),
+];
+
+fn is_member(alloc: Global, words: &'static [&'static str], key: &[u8]) -> Result<bool, Memory> {
+    let keys = stop_keys(alloc, (words, false, false))?;
+    let key = key_of(alloc, key)?;
+    Ok(keys.has(&key))
+}
+
 #[test]
 fn members(rt: HostRuntime) -> Result<(), Fail> {
-    let keys = stop_keys(rt.alloc(), &["a", "the", "an"], false, false)?;
-    assert!(&rt; keys.has(&key_of(rt.alloc(), "an")?));
-    assert!(&rt; keys.has(&key_of(rt.alloc(), "the")?));
-    assert!(&rt; !keys.has(&key_of(rt.alloc(), "b")?));
-    assert!(&rt; !keys.has(&key_of(rt.alloc(), "")?));
-    assert!(&rt; !StopKeys::none(rt.alloc()).has(&key_of(rt.alloc(), "a")?));
+    for (words, key, is_there) in MEMBERS {
+        assert_eq!(rt; is_member(rt.alloc(), words, key)?, *is_there);
+    }
+    Ok(())
+}
+
+#[test]
+fn no_stop_keys(rt: HostRuntime) -> Result<(), Fail> {
+    let key = key_of(rt.alloc(), b"a")?;
+    assert!(rt; !StopKeys::none(rt.alloc()).has(&key));
     Ok(())
 }
 
 /// Keys that are read, each ended by a space, or `refused`.
-fn read(alloc: Global, list: &[&[u8]]) -> Result<String, Fail> {
+fn read(alloc: Global, list: &[&[u8]]) -> Result<String, Memory> {
     let mut keys = Vec::new(alloc);
     for bytes in list {
-        keys.push(Key::of(Vec::from_slice(alloc, bytes)?))?;
+        keys.push(key_of(alloc, bytes)?)?;
     }
     match StopKeys::read_keys(keys) {
         None => Ok(String::from_str(alloc, "refused")?),
-        Some(keys) => spelt(alloc, keys.keys()),
+        Some(keys) => spelt_keys(alloc, keys.keys()),
     }
 }
 
@@ -109,7 +99,7 @@ const READ: &[(&[&[u8]], &str)] = &[
 #[test]
 fn kept(rt: HostRuntime) -> Result<(), Fail> {
     for (list, keys) in READ {
-        assert_eq!(&rt; read(rt.alloc(), list)?.as_str(), *keys);
+        assert_eq!(rt; read(rt.alloc(), list)?.as_str(), *keys);
     }
     Ok(())
 }

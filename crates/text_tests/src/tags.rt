@@ -1,11 +1,14 @@
 //! Groups, the tags of texts by them, and what they enclose.
 
-ghost use Rattle.std.specs.Prelude.{◌≤◌, ◌^◌, length};
+ghost use Rattle.std.specs.Prelude.{◌≤◌, IfOk, length};
 
+use crate::rows::compare;
 use ct_base::{Memory, Name, Text};
 use std::alloc::Global;
 use std::test::Fail;
-use tx_tags::{Group, Section, SectionKind, Spans, TagView, all_spans, is_tag, read_tags, spans};
+use tx_tags::{
+    Group, Section, SectionKind, Spans, TagView, Tagged, all_spans, is_tag, read_tags, spans,
+};
 
 /// A section, its kind, and a tag of it.
 type Row = (&'static str, SectionKind, &'static str);
@@ -43,7 +46,7 @@ fn kind_text(kind: SectionKind) -> &'static str {
     }
 }
 
-fn spell_section(alloc: Global, line: &mut String, section: &Section) -> Result<(), Fail> {
+fn spell_section(alloc: Global, line: &mut String, section: &Section) -> Result<(), Memory> {
     let name = section.name.as_str();
     let kind = kind_text(section.kind);
     let head = format!(in alloc; "{kind} {name}:")?;
@@ -57,7 +60,7 @@ fn spell_section(alloc: Global, line: &mut String, section: &Section) -> Result<
 }
 
 /// The sections of a group in one line.
-fn spelt_group(alloc: Global, group: &Group) -> Result<String, Fail> {
+fn spelt_group(alloc: Global, group: &Group) -> Result<String, Memory> {
     let mut line = String::new(alloc);
     for section in group.sections() {
         spell_section(alloc, &mut line, section)?;
@@ -66,7 +69,7 @@ fn spelt_group(alloc: Global, group: &Group) -> Result<String, Fail> {
 }
 
 /// The group that these rows make, in one line, or `refused`.
-fn made(alloc: Global, rows: &[Row]) -> Result<String, Fail> {
+fn made(alloc: Global, rows: &[Row]) -> Result<String, Memory> {
     match group_of(alloc, rows)? {
         None => Ok(String::from_str(alloc, "refused")?),
         Some(group) => spelt_group(alloc, &group),
@@ -96,33 +99,71 @@ const MADE: &[(&[Row], &str)] = &[
 #[test]
 fn groups(rt: HostRuntime) -> Result<(), Fail> {
     for (rows, line) in MADE {
-        assert_eq!(&rt; made(rt.alloc(), rows)?.as_str(), *line);
+        assert_eq!(rt; made(rt.alloc(), rows)?.as_str(), *line);
     }
     Ok(())
+}
+
+/// The group of `ROWS`.
+fn full_group(alloc: Global) -> Result<Group, Memory> {
+    group_of(alloc, ROWS)?.ok_or(Memory)
+}
+
+/// The kind of a section, whether two tags are there, how many zones, fields and tags there are, and whether it is the null group and
+/// has sentences and paragraphs.
+fn facts(alloc: Global, group: &Group) -> Result<String, Memory> {
+    let kind = group.kind_of(&named(alloc, "t")?).map_or("none", kind_text);
+    let q = group.has_tag("q");
+    let x = group.has_tag("x");
+    let zones = group.zone_count();
+    let fields = group.field_count();
+    let tags = group.tag_count();
+    let null = group.is_null();
+    let sentences = group.has_sentences();
+    let paragraphs = group.has_paragraphs();
+    Ok(format!(in alloc; "{kind} {q} {x} {zones} {fields} {tags} {null} {sentences} {paragraphs}")?)
+}
+
+fn plain_facts(alloc: Global) -> Result<String, Memory> {
+    facts(alloc, &full_group(alloc)?)
+}
+
+fn special_facts(alloc: Global) -> Result<String, Memory> {
+    let group = full_group(alloc)?.with_sentences().with_paragraphs();
+    facts(alloc, &group)
 }
 
 /// What a group tells of itself.
 #[test]
 fn parts(rt: HostRuntime) -> Result<(), Fail> {
-    let Some(group) = group_of(rt.alloc(), ROWS)? else {
-        return Err(Memory.into());
-    };
-    let kind = group.kind_of(&named(rt.alloc(), "t")?);
-    assert!(&rt; kind == Some(SectionKind::Field));
-    assert!(&rt; group.has_tag("q") && !group.has_tag("x"));
-    assert_eq!(&rt; group.zone_count(), 2);
-    assert_eq!(&rt; group.field_count(), 1);
-    assert_eq!(&rt; group.tag_count(), 4);
-    assert!(&rt; !group.is_null() && !group.has_sentences());
-    let group = group.with_sentences().with_paragraphs();
-    assert!(&rt; group.has_sentences() && group.has_paragraphs());
-    assert!(&rt; is_tag("h1") && !is_tag("h 1"));
-    assert!(&rt; is_tag("a23456789012345678901234567890"));
-    assert!(&rt; !is_tag("a234567890123456789012345678901"));
+    let plain = plain_facts(rt.alloc())?;
+    assert_eq!(rt; plain.as_str(), "field true false 2 1 4 false false false");
     Ok(())
 }
 
-fn spell_tag(alloc: Global, line: &mut String, tag: &TagView) -> Result<(), Fail> {
+#[test]
+fn special_sections(rt: HostRuntime) -> Result<(), Fail> {
+    let special = special_facts(rt.alloc())?;
+    assert_eq!(rt; special.as_str(), "field true false 2 1 4 false true true");
+    Ok(())
+}
+
+/// Texts, and whether they are tags.
+const TAGS: &[(&str, bool)] = &[
+    ("h1", true),
+    ("h 1", false),
+    ("a23456789012345678901234567890", true),
+    ("a234567890123456789012345678901", false),
+];
+
+#[test]
+fn names_of_tags(rt: HostRuntime) {
+    for (text, is_one) in TAGS {
+        assert_eq!(rt; is_tag(text), *is_one, "of {text}");
+    }
+}
+
+fn spell_tag(alloc: Global, line: &mut String, tag: &TagView) -> Result<(), Memory> {
     let slash = if tag.closing { "/" } else { "" };
     let section = tag.section.as_str();
     let number = tag.tag;
@@ -133,12 +174,20 @@ fn spell_tag(alloc: Global, line: &mut String, tag: &TagView) -> Result<(), Fail
     Ok(())
 }
 
-/// The tags of a text, and behind them the text without them.
-fn spelt_tags(alloc: Global, group: &Group, text: &str) -> Result<String, Fail>
-    requires { length text.now ≤ 2 ^ 24 }
+/// The tags of a text of at most 300 bytes.
+fn tagged(alloc: Global, group: &Group, text: &str) -> Result<Tagged, Memory>
+    ensures { IfOk result (λ _. length text.now ≤ 300) }
 {
+    if text.len() > 300 {
+        return Err(Memory);
+    }
+    read_tags(alloc, group, text)
+}
+
+/// The tags of a text, and behind them the text without them.
+fn spelt_tags(alloc: Global, group: &Group, text: &str) -> Result<String, Memory> {
     let mut line = String::new(alloc);
-    let tagged = read_tags(alloc, group, text)?;
+    let tagged = tagged(alloc, group, text)?;
     for tag in tagged.tags.as_slice() {
         spell_tag(alloc, &mut line, tag)?;
     }
@@ -166,22 +215,32 @@ const TAGGED: &[(&str, &str)] = &[
     ),
 ];
 
+/// The texts that give other tags, or are something else without them.
+fn wrong_tags(alloc: Global) -> Result<String, Memory> {
+    let mut wrong = String::new(alloc);
+    let group = full_group(alloc)?;
+    for (text, line) in TAGGED {
+        let found = spelt_tags(alloc, &group, text)?;
+        compare(alloc, &mut wrong, text, found.as_str(), line)?;
+    }
+    Ok(wrong)
+}
+
 #[test]
 fn tags(rt: HostRuntime) -> Result<(), Fail> {
-    let Some(group) = group_of(rt.alloc(), ROWS)? else {
-        return Err(Memory.into());
-    };
-    for (text, line) in TAGGED {
-        assert!(&rt; text.len() <= 300);
-        let found = spelt_tags(rt.alloc(), &group, text)?;
-        assert_eq!(&rt; found.as_str(), *line, "in {text:?}");
-    }
-    let plain = spelt_tags(rt.alloc(), &Group::empty(rt.alloc(), true), "<p>")?;
-    assert_eq!(&rt; plain.as_str(), "[<p>]");
+    let wrong = wrong_tags(rt.alloc())?;
+    assert_eq!(rt; wrong.as_str(), "");
     Ok(())
 }
 
-fn spell_spans(alloc: Global, line: &mut String, spans: &Spans) -> Result<(), Fail> {
+#[test]
+fn no_tags_of_the_null_group(rt: HostRuntime) -> Result<(), Fail> {
+    let plain = spelt_tags(rt.alloc(), &Group::empty(rt.alloc(), true), "<p>")?;
+    assert_eq!(rt; plain.as_str(), "[<p>]");
+    Ok(())
+}
+
+fn spell_spans(alloc: Global, line: &mut String, spans: &Spans) -> Result<(), Memory> {
     for span in spans.as_slice() {
         let start = span.start;
         let end = span.end;
@@ -193,11 +252,9 @@ fn spell_spans(alloc: Global, line: &mut String, spans: &Spans) -> Result<(), Fa
 }
 
 /// What the tags of a text enclose, for each of the numbers below 3.
-fn spelt_spans(alloc: Global, group: &Group, text: &str) -> Result<String, Fail>
-    requires { length text.now ≤ 2 ^ 24 }
-{
+fn spelt_spans(alloc: Global, group: &Group, text: &str) -> Result<String, Memory> {
     let mut line = String::new(alloc);
-    let tagged = read_tags(alloc, group, text)?;
+    let tagged = tagged(alloc, group, text)?;
     let all = all_spans(alloc, tagged.tags.as_slice(), 3, text.len() as u32)?;
     for spans in &all {
         spell_spans(alloc, &mut line, spans)?;
@@ -215,29 +272,38 @@ const SPANS: &[(&str, &str)] = &[
     ("</q><q>a<p>b</q>c</p></q>", "11-17 | 7-12 | | "),
 ];
 
+/// The texts whose tags enclose something else.
+fn wrong_spans(alloc: Global) -> Result<String, Memory> {
+    let mut wrong = String::new(alloc);
+    let group = full_group(alloc)?;
+    for (text, line) in SPANS {
+        let found = spelt_spans(alloc, &group, text)?;
+        compare(alloc, &mut wrong, text, found.as_str(), line)?;
+    }
+    Ok(wrong)
+}
+
 #[test]
 fn enclosed(rt: HostRuntime) -> Result<(), Fail> {
-    let Some(group) = group_of(rt.alloc(), ROWS)? else {
-        return Err(Memory.into());
-    };
-    for (text, line) in SPANS {
-        assert!(&rt; text.len() <= 300);
-        let found = spelt_spans(rt.alloc(), &group, text)?;
-        assert_eq!(&rt; found.as_str(), *line, "in {text:?}");
-    }
+    let wrong = wrong_spans(rt.alloc())?;
+    assert_eq!(rt; wrong.as_str(), "");
     Ok(())
+}
+
+/// What the tags with the number 1 enclose.
+fn spelt_second(alloc: Global) -> Result<String, Memory> {
+    let group = full_group(alloc)?;
+    let tagged = tagged(alloc, &group, "<p>a<q>b</p>c")?;
+    let found = spans(alloc, tagged.tags.as_slice(), 1, 13)?;
+    let mut line = String::new(alloc);
+    spell_spans(alloc, &mut line, &Spans::of(found))?;
+    Ok(line)
 }
 
 /// What the tags with one number enclose is what it is among all.
 #[test]
 fn one_number(rt: HostRuntime) -> Result<(), Fail> {
-    let Some(group) = group_of(rt.alloc(), ROWS)? else {
-        return Err(Memory.into());
-    };
-    let tagged = read_tags(rt.alloc(), &group, "<p>a<q>b</p>c")?;
-    let found = spans(rt.alloc(), tagged.tags.as_slice(), 1, 13)?;
-    let mut line = String::new(rt.alloc());
-    spell_spans(rt.alloc(), &mut line, &Spans::of(found))?;
-    assert_eq!(&rt; line.as_str(), "7-13 | ");
+    let line = spelt_second(rt.alloc())?;
+    assert_eq!(rt; line.as_str(), "7-13 | ");
     Ok(())
 }

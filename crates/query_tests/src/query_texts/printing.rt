@@ -12,34 +12,44 @@
 //! A word is `7"dog%"`: its place, and its pieces in quotation marks, with `_` for one character and `%` for any. Where these two signs, a quotation
 //! mark or a backslash are characters of a word, a backslash stands before them; a newline, a return and a tab are `\n`, `\r` and `\t`.
 
-use ct_base::Listed;
+use ct_base::{Listed, Memory};
 use q_parse::{QueryFault, parse};
 use q_tree::{Leaf, Query, Relation, SumStep, Word, WordBit, WordSlot};
 use std::alloc::Global;
-use std::test::Fail;
 
 /// What the text gives: its tree, or its fault.
-pub(crate) fn answer(alloc: Global, text: &str) -> Result<String, Fail> {
+pub(crate) fn answer(alloc: Global, text: &str) -> Result<String, Memory> {
     let mut out = String::new(alloc);
     match parse(alloc, text) {
         Ok(query) => put_query(alloc, &mut out, &query)?,
-        Err(QueryFault::Syntax(place)) => put_fault(alloc, &mut out, "E20", place)?,
-        Err(QueryFault::NotInProfile(place)) => put_fault(alloc, &mut out, "E21", place)?,
-        Err(QueryFault::BadNumber(place)) => put_fault(alloc, &mut out, "E22", place)?,
-        Err(QueryFault::TooLarge) => out.push_str("E26")?,
-        Err(QueryFault::Memory) => out.push_str("no memory")?,
+        Err(fault) => put_fault(alloc, &mut out, &fault)?,
     }
     Ok(out)
 }
 
-fn put_fault(alloc: Global, out: &mut String, name: &str, place: u32) -> Result<(), Fail> {
-    let line = format!(in alloc; "{name} {place}")?;
-    out.push_str(line.as_str())?;
+/// The name of a fault, and its place, 0 where it has none.
+fn fault_parts(fault: &QueryFault) -> (&'static str, u32) {
+    match fault {
+        QueryFault::Syntax(place) => ("E20", *place),
+        QueryFault::NotInProfile(place) => ("E21", *place),
+        QueryFault::BadNumber(place) => ("E22", *place),
+        QueryFault::TooLarge => ("E26", 0),
+        QueryFault::Memory => ("no memory", 0),
+    }
+}
+
+fn put_fault(alloc: Global, out: &mut String, fault: &QueryFault) -> Result<(), Memory> {
+    let (name, place) = fault_parts(fault);
+    out.push_str(name)?;
+    if place > 0 {
+        let place = format!(in alloc; " {place}")?;
+        out.push_str(place.as_str())?;
+    }
     Ok(())
 }
 
 /// Its cost is linear in the size of the tree, and it goes as deep.
-fn put_query(alloc: Global, out: &mut String, query: &Query) -> Result<(), Fail> {
+fn put_query(alloc: Global, out: &mut String, query: &Query) -> Result<(), Memory> {
     match query {
         Query::Leaf(leaf) => return put_leaf(alloc, out, leaf),
         Query::And(a, b) | Query::Or(a, b) | Query::Not(a, b) | Query::Minus(a, b) => {
@@ -66,28 +76,46 @@ fn put_query(alloc: Global, out: &mut String, query: &Query) -> Result<(), Fail>
     Ok(())
 }
 
-/// What stands before the parts of a query that is no leaf.
-fn put_head(alloc: Global, out: &mut String, query: &Query) -> Result<(), Fail> {
-    let head = match query {
-        Query::Leaf(_) => String::new(alloc),
-        Query::And(_, _) => format!(in alloc; "(AND ")?,
-        Query::Or(_, _) => format!(in alloc; "(OR ")?,
-        Query::Not(_, _) => format!(in alloc; "(NOT ")?,
-        Query::Minus(_, _) => format!(in alloc; "(MINUS ")?,
-        Query::Weight(tenths, _) => format!(in alloc; "(W {tenths} ")?,
-        Query::Above(number, _) => format!(in alloc; "(ABOVE {number} ")?,
-        Query::Near { span, ordered, .. } => format!(in alloc; "(NEAR {span} {ordered}")?,
+/// What stands before the parts of a query that is no leaf, up to the first number or name.
+fn head_word(query: &Query) -> &'static str {
+    match query {
+        Query::Leaf(_) => "",
+        Query::And(_, _) => "(AND ",
+        Query::Or(_, _) => "(OR ",
+        Query::Not(_, _) => "(NOT ",
+        Query::Minus(_, _) => "(MINUS ",
+        Query::Weight(_, _) => "(W ",
+        Query::Above(_, _) => "(ABOVE ",
+        Query::Near { .. } => "(NEAR ",
+        Query::Within(_, _) => "(WITHIN ",
+        Query::Define(_, _) => "(DEFINE ",
+    }
+}
+
+/// The numbers and names of a query itself.
+fn head_rest(alloc: Global, query: &Query) -> Result<String, Memory> {
+    let rest = match query {
+        Query::Weight(tenths, _) => format!(in alloc; "{tenths} ")?,
+        Query::Above(number, _) => format!(in alloc; "{number} ")?,
+        Query::Near { span, ordered, .. } => format!(in alloc; "{span} {ordered}")?,
         Query::Within(name, _) => {
             let name = name.as_str();
-            format!(in alloc; "(WITHIN {name} ")?
+            format!(in alloc; "{name} ")?
         }
-        Query::Define(_, _) => format!(in alloc; "(DEFINE ")?,
+        _ => String::new(alloc),
     };
-    out.push_str(head.as_str())?;
+    Ok(rest)
+}
+
+/// What stands before the parts of a query that is no leaf.
+fn put_head(alloc: Global, out: &mut String, query: &Query) -> Result<(), Memory> {
+    let rest = head_rest(alloc, query)?;
+    out.push_str(head_word(query))?;
+    out.push_str(rest.as_str())?;
     Ok(())
 }
 
-fn put_operands(alloc: Global, out: &mut String, operands: &[Listed<Leaf>]) -> Result<(), Fail> {
+fn put_operands(alloc: Global, out: &mut String, operands: &[Listed<Leaf>]) -> Result<(), Memory> {
     for operand in operands {
         out.push(' ')?;
         put_operand(alloc, out, operand.as_slice())?;
@@ -95,7 +123,7 @@ fn put_operands(alloc: Global, out: &mut String, operands: &[Listed<Leaf>]) -> R
     Ok(())
 }
 
-fn put_operand(alloc: Global, out: &mut String, leaves: &[Leaf]) -> Result<(), Fail> {
+fn put_operand(alloc: Global, out: &mut String, leaves: &[Leaf]) -> Result<(), Memory> {
     let mut before = '{';
     for leaf in leaves {
         out.push(before)?;
@@ -106,22 +134,30 @@ fn put_operand(alloc: Global, out: &mut String, leaves: &[Leaf]) -> Result<(), F
     Ok(())
 }
 
-fn put_steps(alloc: Global, out: &mut String, steps: &[SumStep]) -> Result<(), Fail> {
+/// A step that is no number.
+fn step_word(step: &SumStep) -> &'static str {
+    match step {
+        SumStep::Number(_) => " ",
+        SumStep::Discrete => " DISCRETE",
+        SumStep::Occurrence => " OCCURRENCE",
+        SumStep::Plus => " +",
+        SumStep::Minus => " -",
+        SumStep::Times => " *",
+    }
+}
+
+fn put_steps(alloc: Global, out: &mut String, steps: &[SumStep]) -> Result<(), Memory> {
     for step in steps {
-        let step = match step {
-            SumStep::Number(number) => format!(in alloc; " {number}")?,
-            SumStep::Discrete => format!(in alloc; " DISCRETE")?,
-            SumStep::Occurrence => format!(in alloc; " OCCURRENCE")?,
-            SumStep::Plus => format!(in alloc; " +")?,
-            SumStep::Minus => format!(in alloc; " -")?,
-            SumStep::Times => format!(in alloc; " *")?,
-        };
-        out.push_str(step.as_str())?;
+        out.push_str(step_word(step))?;
+        if let SumStep::Number(number) = step {
+            let number = format!(in alloc; "{number}")?;
+            out.push_str(number.as_str())?;
+        }
     }
     Ok(())
 }
 
-fn put_leaf(alloc: Global, out: &mut String, leaf: &Leaf) -> Result<(), Fail> {
+fn put_leaf(alloc: Global, out: &mut String, leaf: &Leaf) -> Result<(), Memory> {
     match leaf {
         Leaf::Phrase(slots) => {
             out.push_str("(P")?;
@@ -153,7 +189,7 @@ fn relation_name(relation: Relation) -> &'static str {
     }
 }
 
-fn put_slots(alloc: Global, out: &mut String, slots: &[WordSlot]) -> Result<(), Fail> {
+fn put_slots(alloc: Global, out: &mut String, slots: &[WordSlot]) -> Result<(), Memory> {
     for slot in slots {
         out.push_str(" [")?;
         put_words(alloc, out, slot.as_slice())?;
@@ -163,7 +199,7 @@ fn put_slots(alloc: Global, out: &mut String, slots: &[WordSlot]) -> Result<(), 
 }
 
 /// The words, with a blank between two.
-fn put_words(alloc: Global, out: &mut String, words: &[Word]) -> Result<(), Fail> {
+fn put_words(alloc: Global, out: &mut String, words: &[Word]) -> Result<(), Memory> {
     let mut between = "";
     for word in words {
         out.push_str(between)?;
@@ -173,7 +209,7 @@ fn put_words(alloc: Global, out: &mut String, words: &[Word]) -> Result<(), Fail
     Ok(())
 }
 
-fn put_word(alloc: Global, out: &mut String, word: &Word) -> Result<(), Fail> {
+fn put_word(alloc: Global, out: &mut String, word: &Word) -> Result<(), Memory> {
     let place = word.place;
     let head = format!(in alloc; "{place}\"")?;
     out.push_str(head.as_str())?;
@@ -188,18 +224,26 @@ fn put_word(alloc: Global, out: &mut String, word: &Word) -> Result<(), Fail> {
     Ok(())
 }
 
+/// How a character is written that is written otherwise than by itself.
+fn escaped(c: char) -> Option<&'static str> {
+    match c {
+        '\n' => Some("\\n"),
+        '\r' => Some("\\r"),
+        '\t' => Some("\\t"),
+        '\\' => Some("\\\\"),
+        '"' => Some("\\\""),
+        '_' => Some("\\_"),
+        '%' => Some("\\%"),
+        _ => None,
+    }
+}
+
 /// The characters of a word, with a backslash before those that would be read as signs.
-fn put_chars(out: &mut String, text: &str) -> Result<(), Fail> {
+fn put_chars(out: &mut String, text: &str) -> Result<(), Memory> {
     for c in text.chars() {
-        match c {
-            '\n' => out.push_str("\\n")?,
-            '\r' => out.push_str("\\r")?,
-            '\t' => out.push_str("\\t")?,
-            '\\' => out.push_str("\\\\")?,
-            '"' => out.push_str("\\\"")?,
-            '_' => out.push_str("\\_")?,
-            '%' => out.push_str("\\%")?,
-            _ => out.push(c)?,
+        match escaped(c) {
+            Some(text) => out.push_str(text)?,
+            None => out.push(c)?,
         }
     }
     Ok(())

@@ -1,0 +1,25 @@
+-- a lexer preference, a stoplist and a section group, and an index that copies them
+CREATE TABLE docs (id NUMBER PRIMARY KEY, body CLOB, price NUMBER);
+CREATE INDEX di ON docs(body) INDEXTYPE IS CTXSYS.CONTEXT;
+EXEC CTX_DDL.CREATE_PREFERENCE('lx','BASIC_LEXER');
+EXEC CTX_DDL.SET_ATTRIBUTE('lx','skipjoins','-');
+EXEC CTX_DOC.POLICY_TOKENS('lx','Web-site, 1,000.50!');
+EXEC CTX_DDL.SET_ATTRIBUTE('lx','printjoins','a');
+EXEC CTX_DDL.CREATE_STOPLIST('sl');
+EXEC CTX_DDL.ADD_STOPWORD('sl','Is');
+EXEC CTX_DDL.CREATE_SECTION_GROUP('g','BASIC_SECTION_GROUP');
+EXEC CTX_DDL.ADD_ZONE_SECTION('g','q','Q');
+EXEC CTX_DDL.ADD_FIELD_SECTION('g','t','T');
+EXEC CTX_DDL.ADD_SPECIAL_SECTION('g','SENTENCE');
+CREATE TABLE pages (id NUMBER PRIMARY KEY, body CLOB);
+CREATE INDEX pi ON pages(body) INDEXTYPE IS CTXSYS.CONTEXT PARAMETERS ('LEXER lx STOPLIST sl SECTION GROUP g');
+INSERT INTO pages VALUES (1,'<T>alpha</T> <Q>one beta</Q>');
+INSERT INTO pages VALUES (2,'jack is a Web-site');
+EXEC CTX_DDL.SYNC_INDEX('pi');
+SELECT id FROM pages WHERE CONTAINS(body,'alpha') > 0;
+SELECT id FROM pages WHERE CONTAINS(body,'beta') > 0;
+SELECT id FROM pages WHERE CONTAINS(body,'is') > 0;
+SELECT id FROM pages WHERE CONTAINS(body,'website') > 0;
+SELECT id FROM pages WHERE CONTAINS(body,'jack AND is') > 0;
+SELECT id FROM pages WHERE CONTAINS(body,'is NOT jack') > 0;
+SELECT id FROM pages WHERE CONTAINS(body,'is = web\-site = is') > 0;

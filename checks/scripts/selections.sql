@@ -1,0 +1,26 @@
+-- rows of two tables, of which an index has two, and one waits in each index
+CREATE TABLE docs (id NUMBER PRIMARY KEY, body CLOB, price NUMBER);
+INSERT INTO docs VALUES (1,'quick fox quick',0);
+INSERT INTO docs VALUES (2,'slow',-1);
+CREATE INDEX di ON docs(body) INDEXTYPE IS CONTEXT;
+CREATE TABLE other (id NUMBER PRIMARY KEY, body CLOB);
+CREATE INDEX aai ON other(body) INDEXTYPE IS CONTEXT;
+INSERT INTO docs VALUES (3,'quick',7);
+INSERT INTO other VALUES (9,'none');
+SELECT * FROM docs;
+SELECT COUNT(*) FROM docs;
+SELECT price, id FROM docs WHERE price >= 0 AND id < 3;
+SELECT id FROM docs WHERE id = 4;
+SELECT COUNT(*) FROM docs WHERE id = 4;
+SELECT id, SCORE(1) FROM docs WHERE CONTAINS(body, 'quick', 1) > 0;
+SELECT id FROM docs WHERE price < 0 AND CONTAINS(body, 'quick') > 0;
+SELECT COUNT(*) FROM docs WHERE CONTAINS(body, 'quick') > 0 AND price < 1;
+SELECT SCORE(1) FROM docs;
+SELECT id FROM docs WHERE body = 'slow';
+SELECT nope FROM docs WHERE CONTAINS(price, 'a b') > 101 AND none = 1;
+SELECT * FROM docs WHERE CONTAINS(price, 'a b') > 101 AND id = 'x';
+SELECT * FROM docs WHERE CONTAINS(body, 'a b') > 0 AND id = 9223372036854775808;
+SELECT * FROM ctx_user_pending;
+SELECT COUNT(*) FROM ctx_user_pending;
+SELECT * FROM ctx_user_pending WHERE id = 3;
+SELECT * FROM ctx_user_index_errors;
