@@ -24,7 +24,7 @@ pub record KeeperState : Type 0 where
   -- how many bytes may be said in all
   pub said_room : ℕ
   pub say_faults : ℕ
-  -- how often `hear` was told the end of the script
+  -- how often `hear` answered that the script ends
   pub ends : ℕ
 
 abbrev pub no_counts : Counts

@@ -15,7 +15,7 @@ pub record Beside : Type 0 where
   pub said : Option (List ℕ)
   -- the calls of `hear` so far, where they are told; one more between which and the last nothing was heard or said may be left out
   pub hearings : Option (List Hearing)
-  -- how often `hear` was told the end of the script, up to 2^64 - 1
+  -- how often `hear` answered that the script ends, up to 2^64 - 1
   pub ends : ℕ
   -- how often hearing and saying failed, up to 2^64 - 1
   pub hear_faults : ℕ

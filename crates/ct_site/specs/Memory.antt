@@ -31,7 +31,7 @@ pub record MemState : Type 0 where
   pub hear_faults : ℕ
   pub say_faults : ℕ
   pub disk_faults : ℕ
-  -- how often `sync` was called, and how often `hear` was told the end of the script, up to 2^64 - 1
+  -- how often `sync` was called, and how often `hear` answered that the script ends, up to 2^64 - 1
   pub syncs : ℕ
   pub ends : ℕ
 

@@ -152,7 +152,7 @@ fn delete_plan<'a, K: Keeper>(
 /// always room for it, so Memory and Disk are the only errors.
 ///
 /// Its cost is that of `rows_meeting` for the conditions, of the entries of all indexes, and of the document of each row in each index
-/// on the table. So a DELETE of one row by its key costs as much in any table. Its changes take memory: for each row one and one more
+/// on the table. So a DELETE of one row by its key costs the same in a table of any size. Its changes take memory: for each row one and one more
 /// for each column with texts, and at most two for each index.
 pub fn delete_from<K: Keeper>(
     alloc: Global,

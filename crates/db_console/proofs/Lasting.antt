@@ -37,7 +37,7 @@ pub heard_by : {E : Type 0} (result : Result ℕ E) (bytes rest : List ℕ) (a b
 heard_by (Ok count) bytes rest a b bound hears ends counts = rw (take-append-le count bytes rest bound) (record { hears = hears; counts = counts.passed; end = ends })
 heard_by (Err fault) bytes rest a b bound hears ends counts = record { hears = hears; counts = counts.failed; end = ends }
 
--- it heard some bytes, or was told the end
+-- it heard some bytes, or answered that the script ends
 some_heard : (count : ℕ) → (count ≡ 0 → ⊥) → (count == 0) ≡ false
 some_heard count some = grind arith
 

@@ -53,7 +53,7 @@ pub record SoFar (limit : ℕ) (heard piece : List ℕ) (was : World) (old now :
   pub served : ServedTo limit old.fixed.limit [] heard was is old now cutter
   pub asked : Calls old.beside.hearings now.beside.hearings (AskedThen old.beside.left (heard ++ piece) limit was served.served.turns)
 
--- so many bytes were taken and served, and then this piece was heard, by a call that may have failed or been told the end
+-- so many bytes were taken and served, and then this piece was heard, by a call that may have failed or answered that the script ends
 pub record Going (failed ended : Bool) (limit taken : ℕ) (piece : List ℕ) (old now : KeeperView) (cutter : Seen) : Type 0 where
   pub heard : List ℕ
   pub count : length heard ≡ taken

@@ -30,8 +30,8 @@ pub record SiteFaultsBy (status : ℕ) (old new : DiskView) : Type 0 where
 abbrev pub store_view : DiskView → HeapState → ℕ → Counts → GName → KeeperView
 store_view disk heap limit counts name = paged_view disk heap IsStoreEntry limit counts name
 
--- The script was served over a heap, which then was this one. Its content may weigh `store`. To load it the disk was synced so often at most;
--- since then it was synced as the outcome says, which counts from there.
+-- The script was served over a heap, which then was this one. Its content may weigh `store`. Loading it took at most `loading`
+-- syncs. `opened` is the disk's count then, and the outcome counts on from there.
 pub record ServedHeap (limit most store loading : ℕ) (heap : HeapState) (old new : DiskView) (ending : Ending) : Type 0 where
   pub opened : ℕ
   pub loads : opened ≤ old.syncs + loading

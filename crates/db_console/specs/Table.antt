@@ -120,7 +120,7 @@ pub record Course (limit most : ℕ) (taken : List ℕ) (was : World) (old new :
 abbrev pub Because : ℕ → List ℕ → KeeperView → KeeperView → Ending → Type 0
 -- `hear` answered that the script ends, and wasn't called again
 Because most taken old new Done = (length taken ≤ most) × EndsHere new.beside × ToldEnd true old.beside new.beside
--- it had not answered so
+-- `hear` never answered that the script ends
 Because most taken old new HearFault = (length taken ≤ most) × ToldEnd false old.beside new.beside
 Because most taken old new SayFault = (length taken ≤ most) × ToldEndOnce old.beside new.beside
 -- nothing was heard or said

@@ -34,17 +34,17 @@ DiskRose old new = Rose old.disk_faults new.disk_faults
 abbrev pub EndsHere : Beside → Type 0
 EndsHere beside = IsNothing beside.left
 
--- `hear` was told the end of the script once more, where this says so, and else not.
+-- `hear` answered once more that the script ends, exactly where `ended` is true.
 abbrev pub ToldEnd : Bool → Beside → Beside → Type 0
 ToldEnd ended old new = new.ends ≡ counted ended old.ends
 
--- It was told the end at most once more, and only where nothing is left.
+-- It answered so at most once more, and only where nothing is left.
 pub record ToldEndOnce (old new : Beside) : Type 0 where
   pub ended : Bool
   pub told : ToldEnd ended old new
   pub here : ended ≡ true → EndsHere new
 
--- a call of `hear` with this result was told the end
+-- a call of `hear` with this result answered that the script ends
 abbrev pub is_end : {E : Type 0} → Result ℕ E → Bool
 is_end (Ok count) = count == 0
 is_end (Err fault) = false
@@ -59,7 +59,7 @@ pub record FaultsAre (of_hear of_say of_disk : Bool) (old new : KeeperView) : Ty
 abbrev pub NoFault : KeeperView → KeeperView → Type 0
 NoFault old new = FaultsAre false false false old new
 
--- Bytes were heard by one call, which may have failed or been told the end, and nothing else was done.
+-- Bytes were heard by one call, which may have failed or answered that the script ends, and nothing else was done.
 pub record Heard (failed ended : Bool) (heard : List ℕ) (old new : KeeperView) : Type 0 where
   pub hears : KeeperHears heard old new
   pub counts : new.beside.hear_faults ≡ counted failed old.beside.hear_faults
@@ -241,6 +241,6 @@ nothing_by_disk = tt
 saying_alone : is_say Say ∷ is_disk Say ∷ is_say Disk ∷ is_disk Disk ∷ [] ≡ true ∷ false ∷ false ∷ true ∷ []
 saying_alone = refl
 
--- a call that heard nothing was told the end, and one that failed was not
+-- a call that heard nothing answered that the script ends, and one that failed did not
 nothing_heard : is_end {E = ℕ} (Ok 0) ∷ is_end {E = ℕ} (Ok 7) ∷ is_end {E = ℕ} (Err 1) ∷ [] ≡ true ∷ false ∷ false ∷ []
 nothing_heard = refl

@@ -1,4 +1,4 @@
-//! What holds of all runs, and of the store that docs/STORE.md shows. The functions here only state it, which their contracts prove.
+//! What holds of all runs, and of the store that docs/STORE.md shows. Each function here has a law as its contract, and does nothing.
 
 ghost use Rattle.std.specs.Prelude.{◌≡◌};
 ghost use Rattle.ct_keep.specs.Content.{weight};

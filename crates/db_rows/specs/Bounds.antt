@@ -51,7 +51,7 @@ is_range (Compared column op operand) = true
 is_range (Between column low high) = true
 is_range (OneOf column operands) = false
 
--- of each key that lies within the condition holds, unless it is a list
+-- the condition, unless it is a list, holds of each key within the bounds
 abbrev pub HoldsWithin : Cond → KeyBounds → Type 0
 HoldsWithin cond b = is_range cond ≡ true → (r : ℤ) → IsRow r → IsWithinBounds b r → holds cond (NumberValue r) ≡ true
 
@@ -59,7 +59,7 @@ HoldsWithin cond b = is_range cond ≡ true → (r : ℤ) → IsRow r → IsWith
 abbrev pub allows_key : List Column → ℤ → Cond → Bool
 allows_key columns r cond = not (is_key_source (source_of (cond_column cond) columns)) || (not (is_range cond) || holds cond (NumberValue r))
 
--- of each key that lies within each such condition holds
+-- so does each such condition
 abbrev pub AreTight : List Column → List Cond → KeyBounds → Type 0
 AreTight columns conds b = (r : ℤ) → IsRow r → IsWithinBounds b r → list_all (allows_key columns r) conds ≡ true
 

@@ -43,7 +43,7 @@ OverColumns view old t columns holds = OverNamedTable view old t (λ m c x. x.co
 abbrev pub one_text : Counts
 one_text = record no_looks { texts = 1 }
 
--- a look at a text that was read before, or wasn't: what was read before isn't read again
+-- what a look at a text costs: nothing where it was read before
 abbrev pub unless_known : {X : Type 0} → Option X → Counts
 unless_known None = one_text
 unless_known (Some known) = no_looks
@@ -52,14 +52,14 @@ unless_known (Some known) = no_looks
 abbrev pub text_looks : RowRead → ℕ → Counts
 text_looks read column = unless_known (lookup (λ place. column == place) read.texts.items)
 
--- what a look at the value adds at most that comes from this place: keys and numbers are no texts
+-- what a look at the value that comes from this place adds at most: keys and numbers are no texts
 abbrev pub source_looks : RowRead → Source → Counts
 source_looks read Key = no_looks
 source_looks read (Number place) = no_looks
 source_looks read (TextSource column) = text_looks read column
 source_looks read Nothing = no_looks
 
--- what a look at the value adds at most that a condition is on
+-- what a look at the value that a condition is on adds at most
 abbrev pub cond_looks : List Column → Cond → RowRead → Counts
 cond_looks columns cond read = source_looks read (source_of (cond_column cond) columns)
 

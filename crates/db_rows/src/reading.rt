@@ -88,7 +88,7 @@ fn note_text(texts: &mut Vec<ReadText>, column: u8, text: &Option<Text>) -> Resu
     Ok(())
 }
 
-/// The number at a place among those of a row. They are read unless `read` has them, which then keeps them.
+/// The number at a place among those of a row. They are read unless `read` has them; then `read` has them.
 fn number_once<K: Keeper>(
     alloc: Global,
     keeper: &mut K,

@@ -89,7 +89,7 @@ fn note_row<K: Keeper>(
 ///
 /// The conditions on the key bound the keys from below and from above. Its cost is that of a walk over the rows between the bounds,
 /// of the row behind them unless one stands at the upper bound, and of what the conditions are on in each of these rows. So a row by
-/// its key costs as much in any table. It never answers Full.
+/// its key costs the same in a table of any size. It never answers Full.
 pub fn rows_meeting<K: Keeper>(
     alloc: Global,
     keeper: &mut K,

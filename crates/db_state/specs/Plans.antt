@@ -30,7 +30,7 @@ pub record Moves (m : StoreState) (effect : Effect) (c : Content) (old new : Kee
   pub next : Content
   pub stands : StandsBy fault m effect c next
   pub goes : Goes c next old new fault
-  -- the limit binds: it failed for want of room only where the next content passes the limit, and nothing failed only where it doesn't
+  -- the limit binds: want of room was answered only where the next content passes the limit, and success only where it doesn't
   pub limited : AnswersCommit fault old.fixed.limit c next
   -- a refusal leaves the content as it was
   pub same : is_done effect ≡ false → next ≡ c

@@ -71,7 +71,7 @@ ScoresWithin n f name postings stream = (d lo hi : ℕ) → score_at n d lo hi �
 abbrev pub SameScoresFrom : ℕ → Node → Node → Type 0
 SameScoresFrom to old new = (d lo hi : ℕ) → to ≤ d → score_at new d lo hi ≡ score_at old d lo hi
 
--- in the same documents from `to` on it may score
+-- from `to` on it may score in the same documents
 abbrev pub SameDocumentsFrom : ℕ → Node → Node → Type 0
 SameDocumentsFrom to old new = SameFrom to (may_at old) (may_at new)
 

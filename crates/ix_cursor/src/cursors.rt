@@ -6,6 +6,7 @@ ghost use Rattle.q_tree.specs.Soundness.{is_sound};
 ghost use Rattle.q_tree.specs.Scores.{score, last_position};
 ghost use Rattle.ix_cursor.specs.Reading.{postings_read, FeedsRise, IsPlain};
 ghost use Rattle.ix_cursor.specs.Cursors.{remaining, present_score, cursor_from, IsFirstScored, from_found, score_found, FindsScored, LeapsOver};
+ghost use Rattle.ix_cursor.specs.Candidates.{Leaps};
 
 use crate::building::build;
 use crate::candidates::first_candidate;
@@ -37,9 +38,10 @@ struct Scored {
     score: u32,
 }
 
-/// A document from one on, before which none from there on has a score. It is the first in which the node may score.
+/// The first document from one on in which the node may score; none before it has a score.
 fn next_to_score(alloc: Global, root: &mut Node, from: u32) -> Result<Option<u32>, Memory>
-    ensures { IfOk result (λ found. LeapsOver root.old root.new from found) }
+    ensures candidate { IfOk result (λ found. Leaps root.old root.new from found) }
+    ensures over { IfOk result (λ found. LeapsOver root.old root.new from found) }
 {
     first_candidate(alloc, root, from)
 }

@@ -71,16 +71,15 @@ WritesNothing (Err Memory) old new = IsSame old new
 WritesNothing (Err Disk) old new = Unit {0}
 WritesNothing (Err NotAStore) old new = IsSame old new
 
--- What may be answered of this image: it is loaded where it is unborn or a store by its mark and its length, and memory is wanted
--- for the batch of such a store behind an open gate alone.
+-- What may be answered of this image: Ok only where it is unborn or a store by its mark and its length, and Memory only of such a store
+-- whose gate is open.
 abbrev pub AnswersBy : {T : Type 0} → List ℕ → Result T LoadFault → Type 0
 AnswersBy image (Ok x) = IsUnborn image ⊎ IsStore image
 AnswersBy image (Err Memory) = IsStore image × (gate image ≡ 1)
 AnswersBy image (Err Disk) = Unit {0}
 AnswersBy image (Err NotAStore) = Unit {0}
 
--- Whoever loads more than the journal may want memory wherever it has loaded that: of a file that is neither unborn nor a store by its
--- mark and its length nothing comes but NotAStore and Disk.
+-- The same for a call that loads the journal and then more, and so may want memory for each file that the journal loads.
 abbrev pub LoadsKnown : {T : Type 0} → List ℕ → Result T LoadFault → Type 0
 LoadsKnown image (Ok x) = IsUnborn image ⊎ IsStore image
 LoadsKnown image (Err Memory) = IsUnborn image ⊎ IsStore image
