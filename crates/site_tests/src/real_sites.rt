@@ -43,8 +43,8 @@ fn count(calls: &Cell<u64>) {
     calls.set(calls.get().saturating_add(1));
 }
 
-/// Files of the host, each of whose writes takes one byte; a standard input that is read once and then fails; and a standard
-/// output that takes one byte, then none, and then fails.
+/// Files of the host, each of whose writes takes one byte; a standard input that is read once, then ends, and then fails; and a
+/// standard output that takes one byte, then none, and then fails.
 #[derive(Drop)]
 struct Outside<'a> {
     host: &'a HostRuntime,
@@ -166,7 +166,7 @@ fn unsupported() -> io::Error {
     io::Error::from(ErrorKind::Unsupported)
 }
 
-/// What is read of standard input: `first` at the first call, and then a fault.
+/// What is read of standard input: `first` at the first call, its end at the second, and then a fault.
 #[derive(Drop)]
 struct Once {
     first: &'static [u8],
@@ -175,13 +175,16 @@ struct Once {
 
 impl Read for Once {
     fn read(&mut self, buf: &mut [u8]) -> io::Result<usize> {
-        if self.reads > 0 {
-            return Err(unsupported());
+        self.reads = self.reads.saturating_add(1);
+        match self.reads {
+            1 => {
+                let count = self.first.len().min(buf.len());
+                buf[..count].copy_from_slice(&self.first[..count]);
+                Ok(count)
+            }
+            2 => Ok(0),
+            _ => Err(unsupported()),
         }
-        self.reads = 1;
-        let count = self.first.len().min(buf.len());
-        buf[..count].copy_from_slice(&self.first[..count]);
-        Ok(count)
     }
 }
 
@@ -243,19 +246,20 @@ pub(crate) fn temp_path(rt: &HostRuntime, name: &str) -> Result<String, Fail> {
     Ok(format!(in rt.alloc(); "{}/ct_site_{id}.{name}", folder.as_str())?)
 }
 
-/// What three hearings answer, a fault as None, and what the first one put into its buffer.
-fn hearings(outside: &Outside<'_>) -> ([Option<usize>; 3], [u8; 4]) {
+/// What four hearings answer, a fault as None, and what the first one put into its buffer.
+fn hearings(outside: &Outside<'_>) -> ([Option<usize>; 4], [u8; 4]) {
     let mut site = RealSite::new(outside, None);
     let mut into = [0u8; 4];
     let mut other = [0u8; 4];
     let first = site.hear(&mut into).ok();
     let second = site.hear(&mut other).ok();
     let third = site.hear(&mut other).ok();
-    ([first, second, third], into)
+    let fourth = site.hear(&mut other).ok();
+    ([first, second, third, fourth], into)
 }
 
 /// The same, and how many readers of standard input were taken.
-fn counted_hearings(host: &HostRuntime) -> ([Option<usize>; 3], [u8; 4], u64) {
+fn counted_hearings(host: &HostRuntime) -> ([Option<usize>; 4], [u8; 4], u64) {
     let counts = Counts::new();
     let outside = Outside {
         host,
@@ -266,11 +270,12 @@ fn counted_hearings(host: &HostRuntime) -> ([Option<usize>; 3], [u8; 4], u64) {
     (answers, into, counts.readers.get())
 }
 
+/// The end is told by the read that finds it, and a read that fails is no end.
 #[test]
-fn a_failing_read_is_no_end_and_no_reason_for_a_new_reader(rt: HostRuntime) {
+fn each_hearing_is_one_read_of_the_one_reader(rt: HostRuntime) {
     assert_eq!(rt;
         counted_hearings(&rt),
-        ([Some(3), None, None], *b"abc\0", 1)
+        ([Some(3), Some(0), None, None], *b"abc\0", 1)
     );
 }
 
