@@ -6,16 +6,16 @@ use Rattle.std.proofs.lemmas.List.{length-map}
 use Rattle.ct_base.specs.declared.numbers.RowKey.{RowKey}
 use Rattle.ct_keep.specs.declared.keepers.KeepFault.{KeepFault}
 use Rattle.ct_entry.specs.declared.kinds.Kind.TheVariants as kind
-use Rattle.ct_entry.specs.Keys.{key}
+use Rattle.ct_entry.specs.Keys.{Key, key}
 use Rattle.ct_entry.specs.Changes.{put_value, spell}
 use Rattle.ct_entry.specs.laws.Changes.{spell-append}
-use Rattle.ct_entry.specs.Each.{numbered, each}
 use Rattle.tb_table.specs.declared.columns.Target.{Target}
 use Rattle.tb_table.specs.Tables.{Tables}
 use Rattle.ix_context.specs.declared.ranges.KeyRange.{KeyRange}
 use Rattle.ix_context.specs.Indexes.{Index, Part, given, part_in, no_part, synced_index, created, pending_rows, rows_in, target_text}
 use Rattle.ix_context.specs.Spelling.{index_bytes}
-use Rattle.ix_context.specs.Changes.{mark_with, settle_with, settled_with, sync_rows_changes, sync_changes, create_changes, AreSettleChanges, AreSyncChanges}
+use Rattle.ix_context.specs.Documents.{postings_by}
+use Rattle.ix_context.specs.Changes.{mark_rows_with, settle_rows_with, postings_changes, settled_with, sync_rows_changes, sync_changes, create_changes, AreSettleChanges, AreSyncChanges}
 use Rattle.tx_settings.specs.declared.preferences.Prefs.{Prefs}
 use Rattle.std.proofs.lemmas.Option.{same_Some}
 use Rattle.ix_context.specs.declared.entries.IndexEntry.{IndexEntry}
@@ -53,12 +53,12 @@ at_least_one first next given is n = omega (arith, is, n)
 -- the changes of the rows were added, and then that of the entry
 pub settled_added : (i : List ℕ) (target : Target) (prefs : Prefs) (text : ℤ → Option (List ℕ)) (first next : ℕ) (rows : List RowKey) (none before new : Changes)
     → (length rows == 0) ≡ false → none ≡ []
-    → before ≡ none ++ spell (each (settle_with prefs i text) (numbered first (keys rows)))
+    → before ≡ none ++ spell (settle_rows_with i first (keys rows) ++ postings_changes i (postings_by prefs text) first (keys rows))
     → new ≡ before ++ spell (put_value (key kind.Indexes i []) (index_bytes target.table target.column prefs next) ∷ [])
     → next ≡ first + length rows → new ≡ spell (settled_with i target prefs text first (keys rows))
 settled_added i target prefs text first next [] none before new some empty settled last next_is = cc
 settled_added i target prefs text first next (r ∷ rs) none before new some empty settled last next_is =
-    let changes = each (settle_with prefs i text) (numbered first (keys (r ∷ rs))) in
+    let changes = settle_rows_with i first (keys (r ∷ rs)) ++ postings_changes i (postings_by prefs text) first (keys (r ∷ rs)) in
     let count : next ≡ first + length (keys (r ∷ rs)) = next_is ∙ ap (λ n. first + n) (sym (length-map (r ∷ rs) (λ (r : RowKey). r.0))) in
     last
     ∙ ap (λ (b : Changes). b ++ spell (put_value (key kind.Indexes i []) (index_bytes target.table target.column prefs next) ∷ [])) (settled ∙ ap (λ (b : Changes). b ++ spell changes) empty)
@@ -73,7 +73,7 @@ settled_rows ts i x (r ∷ rs) is =
     let l : length (pending_rows x) ≡ length (r ∷ rs) = ap length is in
     let n : given (synced_index x) ≡ given x + length (pending_rows x) = ap (λ (p : Part). p.given) (part_in-synced x.body) ∙ given-made (length (pending_rows x)) (part_in x.body) in
     omega arith in
-    ap (λ n. each (settle_with x.prefs i (target_text ts (target_of x))) (numbered ((given x) + 1) (r ∷ rs)) ++ put_value (key kind.Indexes i []) (index_bytes x.table x.column x.prefs n) ∷ []) count
+    ap (λ n. settle_rows_with i (given x + 1) (r ∷ rs) ++ postings_changes i (postings_by x.prefs (target_text ts (target_of x))) (given x + 1) (r ∷ rs) ++ put_value (key kind.Indexes i []) (index_bytes x.table x.column x.prefs n) ∷ []) count
 
 -- the changes for what was read of the index are those of its synchronisation
 pub settled_is : (ts : Tables) (i : List ℕ) (x : Index) (e : IndexEntry) (first : ℕ) (rows : List ℤ) → e ≡ parts_of x → first ≡ (given x) + 1
@@ -110,15 +110,16 @@ count_created ts t range rows are = sym (length-map rows (λ (r : RowKey). r.0))
 pub created_added : (ts : Tables) (i : List ℕ) (target : Target) (prefs : Prefs) (range : KeyRange) (rows : List RowKey) (next : ℕ) (none first new : Changes)
     → keys rows ≡ rows_in ts target.table range → next ≡ 1 + length rows → none ≡ []
     → first ≡ none ++ spell (put_value (key kind.Indexes i []) (index_bytes target.table target.column prefs next) ∷ [])
-    → new ≡ first ++ spell (each (mark_with prefs i (target_text ts target)) (numbered 1 (keys rows)))
+    → new ≡ first ++ spell (mark_rows_with i 1 (keys rows) ++ postings_changes i (postings_by prefs (target_text ts target)) 1 (keys rows))
     → new ≡ spell (create_changes ts i target prefs range)
 created_added ts i target prefs range rows next none first new are next_is empty entry marks =
     let x = created ts target prefs range in
+    let made : List ℤ → List (Key × Option (List ℕ)) = λ l. mark_rows_with i 1 l ++ postings_changes i (postings_by prefs (target_text ts target)) 1 l in
     let number : next ≡ given x + 1 =
     let count = count_created ts target.table range rows are in
     let n = given-made (length (rows_in ts target.table range)) no_part in
     omega (arith, next_is, count, n) in
     marks
-    ∙ ap (λ (b : Changes). b ++ spell (each (mark_with prefs i (target_text ts target)) (numbered 1 (keys rows)))) (entry ∙ ap (λ (b : Changes). b ++ spell (put_value (key kind.Indexes i []) (index_bytes target.table target.column prefs next) ∷ [])) empty)
-    ∙ ap (λ n. spell (put_value (key kind.Indexes i []) (index_bytes target.table target.column prefs n) ∷ each (mark_with prefs i (target_text ts target)) (numbered 1 (keys rows)))) number
-    ∙ ap (λ l. spell (put_value (key kind.Indexes i []) (index_bytes target.table target.column prefs (given x + 1)) ∷ each (mark_with prefs i (target_text ts target)) (numbered 1 l))) are
+    ∙ ap (λ (b : Changes). b ++ spell (made (keys rows))) (entry ∙ ap (λ (b : Changes). b ++ spell (put_value (key kind.Indexes i []) (index_bytes target.table target.column prefs next) ∷ [])) empty)
+    ∙ ap (λ n. spell (put_value (key kind.Indexes i []) (index_bytes target.table target.column prefs n) ∷ made (keys rows))) number
+    ∙ ap (λ l. spell (put_value (key kind.Indexes i []) (index_bytes target.table target.column prefs (given x + 1)) ∷ made l)) are

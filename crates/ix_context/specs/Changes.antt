@@ -1,25 +1,30 @@
 -- What calls put into a batch.
-use Rattle.std.specs.Prelude.{ℕ, ℤ, ◌+◌, ◌-◌, ◌^◌, ◌<◌, ◌≤◌, MatchOption, Result, OnOk, List, [], ◌∷◌, ◌++◌, length, map, Option, Some, None, pos, ◌≡◌, codes, refl}
-use Rattle.std.specs.Int.{to_be_bytes, w32}
+use Rattle.std.specs.Prelude.{ℕ, ℤ, ◌+◌, ◌-◌, ◌^◌, ◌<◌, ◌≤◌, MatchOption, Result, OnOk, List, [], ◌∷◌, ◌++◌, length, map, Option, Some, pos, ◌≡◌, codes, refl}
+use Rattle.std.specs.List.{cons_option}
+use Rattle.std.specs.Option.{option_map}
+use Rattle.std.specs.Ordering.{nat_cmp}
+use Rattle.std.specs.Cmp.Lexicographic.{slice_cmp}
+use Rattle.std.specs.FinMap.{from_sorted, get-from_sorted}
 use Rattle.ct_base.specs.declared.numbers.RowKey.{RowKey}
 use Rattle.ct_bytes.specs.RowKeys.{row_bytes}
 use Rattle.ct_entry.specs.declared.kinds.Kind.TheVariants as kind
-use Rattle.ct_entry.specs.Keys.{Key, key, row_part, document_part, posting_part, span_part}
-use Rattle.ct_entry.specs.Changes.{put_value, drop_key, spell}
+use Rattle.ct_entry.specs.Keys.{Key, key, row_part}
+use Rattle.ct_entry.specs.Changes.{put_value, spell}
+use Rattle.ct_entry.specs.Maps.{Names}
 use Rattle.ct_entry.specs.Each.{each, numbered}
 use Rattle.tb_table.specs.declared.columns.Target.{Target}
 use Rattle.tb_table.specs.Tables.{Tables}
 use Rattle.tx_settings.specs.declared.preferences.Prefs.{Prefs}
-use Rattle.tx_document.specs.declared.entries.Entry.{Entry}
-use Rattle.tx_settings.specs.Defaults.{default_prefs}
-use Rattle.tx_document.specs.Documents.{pair}
-use Rattle.tx_document.specs.Entries.{entry}
-use Rattle.std.specs.Bool.{if◌then◌else◌}
 use Rattle.ix_posting.specs.Rows.{posting_bytes}
 use Rattle.ix_posting.specs.SpanRows.{span_row_bytes}
 use Rattle.ix_context.specs.declared.ranges.KeyRange.{KeyRange}
-use Rattle.ix_context.specs.Postings.{is_section_entry, first_positions, text_entries, fox_and_quick}
-use Rattle.ix_context.specs.Documents.{word_posting, span_posting}
+use Rattle.ix_rows.specs.Spelling.{greedy}
+use Rattle.ix_rows.specs.WordRows.{document_number}
+use Rattle.ix_rows.specs.SpanRows.{span_number}
+use Rattle.ix_rows.specs.Gathering.{terms_of, gathered_rows, rows_put}
+use Rattle.ix_docmap.specs.Changes.{mark_changes, map_settle_changes}
+use Rattle.ix_context.specs.Gathering.{Gathering, with_texts}
+use Rattle.ix_context.specs.Documents.{Postings, postings_by, word_posting, span_posting}
 use Rattle.ix_context.specs.Indexes.{Index, given, pending_rows, text_seen, target_text, synced_index, created, rows_in}
 use Rattle.ix_context.specs.Rules.{most_given}
 use Rattle.ix_context.specs.Spelling.{index_bytes, index_entry}
@@ -30,55 +35,38 @@ use Rattle.ct_bytes.specs.Varints.{varint}
 abbrev pub note_insert_changes : List ℕ → ℤ → List (Key × Option (List ℕ))
 note_insert_changes i r = put_value (key kind.Pending i (row_part r)) [] ∷ []
 
--- the row of postings of a key of a stream that one document has, and that of a section
-abbrev pub word_change : List ℕ → ℕ → Entry → Key × Option (List ℕ)
-word_change i d e = put_value (key kind.Postings i (posting_part e.stream e.token d)) (posting_bytes (word_posting d (first_positions e.places) ∷ []))
+-- The rows of postings of rows that become documents, the first of them this one, by what they have: of each term under which some of them have anything, in
+-- the order of the keys, the split of its posting list; first of words, and then of sections.
+abbrev pub word_changes : List ℕ → (ℤ → Postings) → ℕ → List ℤ → List (Key × Option (List ℕ))
+word_changes i doc first rows =
+    rows_put document_number posting_bytes word_posting kind.Postings i (gathered_rows document_number posting_bytes word_posting (λ r. (doc r).words) (numbered first rows) (terms_of (λ r. (doc r).words) rows))
 
-abbrev pub section_change : List ℕ → ℕ → Entry → Key × Option (List ℕ)
-section_change i d e = put_value (key kind.Spans i (span_part e.token d)) (span_row_bytes (span_posting d e.places ∷ []))
+abbrev pub section_changes : List ℕ → (ℤ → Postings) → ℕ → List ℤ → List (Key × Option (List ℕ))
+section_changes i doc first rows =
+    rows_put span_number span_row_bytes span_posting kind.Spans i (gathered_rows span_number span_row_bytes span_posting (λ r. (doc r).spans) (numbered first rows) (terms_of (λ r. (doc r).spans) rows))
 
-abbrev pub entry_change : List ℕ → ℕ → Entry → Key × Option (List ℕ)
-entry_change i d e = if is_section_entry e then section_change i d e else word_change i d e
+abbrev pub postings_changes : List ℕ → (ℤ → Postings) → ℕ → List ℤ → List (Key × Option (List ℕ))
+postings_changes i doc first rows = word_changes i doc first rows ++ section_changes i doc first rows
 
--- a row of postings for each key of each stream of a document's text and then for each section, in the order of stream and token; none where there is no text
-abbrev pub text_changes : Prefs → List ℕ → ℕ → Option (List ℕ) → List (Key × Option (List ℕ))
-text_changes p i d None = []
-text_changes p i d (Some text) = map (entry_change i d) (text_entries p text)
+-- rows become documents, the first of them this one
+abbrev pub mark_rows_with : List ℕ → ℕ → List ℤ → List (Key × Option (List ℕ))
+mark_rows_with i first rows = each (λ n. mark_changes i n.0 n.1) (numbered first rows)
 
--- a row becomes this document of an index that reads so, with the postings of its text, if it has one
-abbrev pub document_changes : Prefs → List ℕ → ℕ → ℤ → Option (List ℕ) → List (Key × Option (List ℕ))
-document_changes p i d r text =
-    put_value (key kind.DocumentRows i (document_part d)) (row_bytes r)
-    ∷ put_value (key kind.RowDocuments i (row_part r)) (to_be_bytes w32 d)
-    ∷ text_changes p i d text
+-- rows that wait become documents, the first of them this one
+abbrev pub settle_rows_with : List ℕ → ℕ → List ℤ → List (Key × Option (List ℕ))
+settle_rows_with i first rows = each (map_settle_changes i) (numbered first rows)
 
--- the same, with the text that the index sees
-abbrev pub seen_document_changes : Tables → List ℕ → Index → ℕ → ℤ → List (Key × Option (List ℕ))
-seen_document_changes ts i x d r = document_changes x.prefs i d r (text_seen ts x r)
-
--- a row becomes a document, where rows have these texts
-abbrev pub mark_with : Prefs → List ℕ → (ℤ → Option (List ℕ)) → ℕ × ℤ → List (Key × Option (List ℕ))
-mark_with p i text n = document_changes p i n.0 n.1 (text n.1)
-
--- a row that waits becomes a document, where rows have these texts
-abbrev pub settle_with : Prefs → List ℕ → (ℤ → Option (List ℕ)) → ℕ × ℤ → List (Key × Option (List ℕ))
-settle_with p i text n = drop_key (key kind.Pending i (row_part n.1)) ∷ mark_with p i text n
-
--- the same, with the texts that the index sees
-abbrev pub settle_changes : Tables → List ℕ → Index → ℕ × ℤ → List (Key × Option (List ℕ))
-settle_changes ts i x n = settle_with x.prefs i (text_seen ts x) n
-
--- each row that waits becomes a document, and the index has given these; nothing where no row waits
+-- each row that waits becomes a document, with its postings, and the index has given these; nothing where no row waits
 abbrev pub sync_rows_changes : Tables → List ℕ → Index → List ℤ → List (Key × Option (List ℕ))
 sync_rows_changes ts i x [] = []
 sync_rows_changes ts i x (r ∷ rs) =
-    each (settle_changes ts i x) (numbered (given x + 1) (r ∷ rs)) ++ put_value (key kind.Indexes i []) (index_entry (synced_index x)) ∷ []
+    settle_rows_with i (given x + 1) (r ∷ rs) ++ postings_changes i (postings_by x.prefs (text_seen ts x)) (given x + 1) (r ∷ rs) ++ put_value (key kind.Indexes i []) (index_entry (synced_index x)) ∷ []
 
 -- the same for an index on a target that reads so and gives this document next, where rows have these texts
 abbrev pub settled_with : List ℕ → Target → Prefs → (ℤ → Option (List ℕ)) → ℕ → List ℤ → List (Key × Option (List ℕ))
 settled_with i target prefs text first [] = []
 settled_with i target prefs text first (r ∷ rs) =
-    each (settle_with prefs i text) (numbered first (r ∷ rs)) ++ put_value (key kind.Indexes i []) (index_bytes target.table target.column prefs (first + length (r ∷ rs))) ∷ []
+    settle_rows_with i first (r ∷ rs) ++ postings_changes i (postings_by prefs text) first (r ∷ rs) ++ put_value (key kind.Indexes i []) (index_bytes target.table target.column prefs (first + length (r ∷ rs))) ∷ []
 
 abbrev pub sync_changes : Tables → List ℕ → Index → List (Key × Option (List ℕ))
 sync_changes ts i x = sync_rows_changes ts i x (pending_rows x)
@@ -87,7 +75,7 @@ sync_changes ts i x = sync_rows_changes ts i x (pending_rows x)
 abbrev pub create_changes : Tables → List ℕ → Target → Prefs → KeyRange → List (Key × Option (List ℕ))
 create_changes ts i target prefs range =
     put_value (key kind.Indexes i []) (index_entry (created ts target prefs range))
-    ∷ each (mark_with prefs i (text_seen ts (created ts target prefs range))) (numbered 1 (rows_in ts target.table range))
+    ∷ (mark_rows_with i 1 (rows_in ts target.table range) ++ postings_changes i (postings_by prefs (text_seen ts (created ts target prefs range))) 1 (rows_in ts target.table range))
 
 -- ---- what calls add to a batch
 
@@ -95,24 +83,21 @@ create_changes ts i target prefs range =
 abbrev pub Adds : {T E : Type 0} → List (List ℕ × Option (List ℕ)) → List (List ℕ × Option (List ℕ)) → Result T E → List (Key × Option (List ℕ)) → Type 0
 Adds old new result changes = OnOk result (new ≡ old ++ spell changes)
 
--- a row becomes this document of an index on this target that reads so
-abbrev pub mark_row_changes : Tables → List ℕ → Target → Prefs → ℕ → RowKey → List (Key × Option (List ℕ))
-mark_row_changes ts i target prefs document row = document_changes prefs i document row.0 (target_text ts target row.0)
-
--- rows become documents of it, the first of them this one
+-- rows become documents of an index on this target that reads so, with their postings, the first of them this one
 abbrev pub mark_rows_changes : Tables → List ℕ → Target → Prefs → ℕ → List RowKey → List (Key × Option (List ℕ))
-mark_rows_changes ts i target prefs first rows = each (mark_with prefs i (target_text ts target)) (numbered first (map (λ r. r.0) rows))
+mark_rows_changes ts i target prefs first rows = mark_rows_with i first (map (λ r. r.0) rows) ++ postings_changes i (postings_by prefs (target_text ts target)) first (map (λ r. r.0) rows)
 
--- a row that waits becomes this document of it, and rows that wait become documents of it, the first of them this one
-abbrev pub settle_row_changes : Tables → List ℕ → Target → Prefs → ℕ → RowKey → List (Key × Option (List ℕ))
-settle_row_changes ts i target prefs document row = settle_with prefs i (target_text ts target) (document, row.0)
-
+-- rows that wait become documents of it
 abbrev pub settle_rows_changes : Tables → List ℕ → Target → Prefs → ℕ → List RowKey → List (Key × Option (List ℕ))
-settle_rows_changes ts i target prefs first rows = each (settle_with prefs i (target_text ts target)) (numbered first (map (λ r. r.0) rows))
+settle_rows_changes ts i target prefs first rows = settle_rows_with i first (map (λ r. r.0) rows) ++ postings_changes i (postings_by prefs (target_text ts target)) first (map (λ r. r.0) rows)
 
 -- Unless the call failed, rows that wait become documents of it by the changes that the batch has more.
 abbrev pub AddsSettledRows : {T E : Type 0} → Tables → List ℕ → Target → Prefs → ℕ → List RowKey → List (List ℕ × Option (List ℕ)) → List (List ℕ × Option (List ℕ)) → Result T E → Type 0
 AddsSettledRows ts i target prefs first rows old new result = Adds old new result (settle_rows_changes ts i target prefs first rows)
+
+-- Unless the call failed, what is gathered has these documents of rows more, the first of them this one.
+abbrev pub GathersRows : {T E : Type 0} → Tables → Target → Prefs → ℕ → List RowKey → Gathering → Gathering → Result T E → Type 0
+GathersRows ts target prefs first rows old new result = OnOk result (new ≡ with_texts prefs (target_text ts target) old (numbered first (map (λ r. r.0) rows)))
 
 -- ---- what calls find to do, or not
 
@@ -137,25 +122,19 @@ row_two_waits : spell (note_insert_changes (codes "di") (pos 2)) ≡ (0x23 ∷ 2
 unfolding row_bytes
 row_two_waits = refl
 
--- the row 1 becomes the document 1, with a row of postings for each of its two words
-row_one_becomes_a_document : spell (document_changes default_prefs (codes "di") 1 (pos 1) (Some (codes "quick fox quick")))
-    ≡ (0x21 ∷ 2 ∷ 0x64 ∷ 0x69 ∷ 0 ∷ 0 ∷ 0 ∷ 1 ∷ [], Some (0x80 ∷ 0 ∷ 0 ∷ 0 ∷ 0 ∷ 0 ∷ 0 ∷ 1 ∷ []))
-    ∷ (0x22 ∷ 2 ∷ 0x64 ∷ 0x69 ∷ 0x80 ∷ 0 ∷ 0 ∷ 0 ∷ 0 ∷ 0 ∷ 0 ∷ 1 ∷ [], Some (0 ∷ 0 ∷ 0 ∷ 1 ∷ []))
-    ∷ (0x24 ∷ 2 ∷ 0x64 ∷ 0x69 ∷ 0 ∷ 3 ∷ codes "fox" ++ 0 ∷ 0 ∷ 0 ∷ 1 ∷ [], Some (1 ∷ 1 ∷ 1 ∷ 2 ∷ []))
-    ∷ (0x24 ∷ 2 ∷ 0x64 ∷ 0x69 ∷ 0 ∷ 5 ∷ codes "quick" ++ 0 ∷ 0 ∷ 0 ∷ 1 ∷ [], Some (1 ∷ 1 ∷ 2 ∷ 1 ∷ 2 ∷ [])) ∷ []
-unfolding row_bytes varint
-row_one_becomes_a_document =
-    ap (λ (es : List Entry). spell (put_value (key kind.DocumentRows (codes "di") (document_part 1)) (row_bytes (pos 1)) ∷ put_value (key kind.RowDocuments (codes "di") (row_part (pos 1))) (to_be_bytes w32 1) ∷ map (entry_change (codes "di") 1) es)) fox_and_quick
+-- two rows that have the word `a` at the position 1 become the documents 1 and 2: it has one row of postings, under the first of them
+abbrev has_a : Names (List ℕ)
+has_a = from_sorted ((0 ∷ 1 ∷ codes "a", 1 ∷ []) ∷ [])
 
--- a key of the first field, and a section from the second word to the third
-abbrev two_entries : List Entry
-two_entries = entry 1 (codes "alpha") (pair 1 1 ∷ []) ∷ entry 255 (codes "q") (pair 2 3 ∷ []) ∷ []
+abbrev rows_of_a : Option (List ℕ) → List (List ℕ × Option (List ℕ))
+rows_of_a o = spell (rows_put document_number posting_bytes word_posting kind.Postings (codes "di")
+    ((0 ∷ 1 ∷ codes "a", greedy document_number posting_bytes (cons_option (option_map (word_posting 1) o) (cons_option (option_map (word_posting 2) o) []))) ∷ []))
 
-a_field_and_a_section : spell (map (entry_change (codes "di") 7) two_entries)
-    ≡ (0x24 ∷ 2 ∷ 0x64 ∷ 0x69 ∷ 1 ∷ 5 ∷ codes "alpha" ++ 0 ∷ 0 ∷ 0 ∷ 7 ∷ [], Some (1 ∷ 7 ∷ 1 ∷ 1 ∷ []))
-    ∷ (0x25 ∷ 2 ∷ 0x64 ∷ 0x69 ∷ 1 ∷ codes "q" ++ 0 ∷ 0 ∷ 0 ∷ 7 ∷ [], Some (1 ∷ 7 ∷ 1 ∷ 2 ∷ 1 ∷ [])) ∷ []
+one_row_of_two_documents :
+    spell (rows_put document_number posting_bytes word_posting kind.Postings (codes "di") (gathered_rows document_number posting_bytes word_posting (λ r. has_a) ((1, pos 1) ∷ (2, pos 2) ∷ []) ((0 ∷ 1 ∷ codes "a") ∷ [])))
+    ≡ (0x24 ∷ 2 ∷ 0x64 ∷ 0x69 ∷ 0 ∷ 1 ∷ 0x61 ∷ 0 ∷ 0 ∷ 0 ∷ 1 ∷ [], Some (2 ∷ 1 ∷ 1 ∷ 1 ∷ 1 ∷ 1 ∷ 1 ∷ [])) ∷ []
 unfolding varint
-a_field_and_a_section = refl
+one_row_of_two_documents = ap rows_of_a (get-from_sorted (slice_cmp nat_cmp) ((0 ∷ 1 ∷ codes "a", 1 ∷ []) ∷ []) (0 ∷ 1 ∷ codes "a") tt)
 
 -- nothing is put where no row waits
 nothing_to_settle : (ts : Tables) (x : Index) → sync_rows_changes ts (codes "di") x [] ≡ []

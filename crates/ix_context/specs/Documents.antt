@@ -36,6 +36,10 @@ abbrev pub text_postings : Prefs → Option (List ℕ) → Postings
 text_postings p None = record { words = empty; spans = empty }
 text_postings p (Some text) = entries_postings (text_entries p text)
 
+-- what rows have by these texts
+abbrev pub postings_by : Prefs → (ℤ → Option (List ℕ)) → ℤ → Postings
+postings_by p text r = text_postings p (text r)
+
 -- the texts that an index sees
 abbrev pub seen_in : Tables → Option Index → ℤ → Option (List ℕ)
 seen_in ts None r = None

@@ -6,6 +6,8 @@ pub mod Documents
 pub mod Standing
 pub mod Stands
 pub mod Sees
+pub mod Gathering
+pub mod Grown
 pub mod Changes
 pub mod Limits
 pub mod Room

@@ -1,11 +1,14 @@
 pub mod Postings
+pub mod Lengths
+pub mod IndexChanges
 pub mod Terms
 pub mod Standing
 pub mod Bodies
 pub mod Parts
+pub mod Gathered
+pub mod Grown
 pub mod Notes
 pub mod Syncs
-pub mod Alone
 pub mod Settling
 pub mod Texts
 pub mod Changes

@@ -6,7 +6,8 @@ ghost use Rattle.ct_keep.specs.KeeperViews.{OnlyReads, ReadsKeeper};
 ghost use Rattle.ct_entry.specs.Shapes.{AreShaped};
 ghost use Rattle.tx_settings.specs.Attributes.{can_be_set};
 ghost use Rattle.ix_context.specs.Indexes.{is_key_in, rows_in};
-ghost use Rattle.ix_context.specs.Changes.{create_changes, Adds, mark_rows_changes, AreCreateChanges};
+ghost use Rattle.ix_context.specs.Changes.{create_changes, Adds, mark_rows_changes, mark_rows_with, AreCreateChanges, GathersRows};
+ghost use Rattle.ix_context.specs.Grown.{AreGathered};
 ghost use Rattle.ix_context.specs.Faults.{context_fault_of};
 ghost use Rattle.ix_context.specs.Rules.{most_given};
 ghost use Rattle.ix_context.specs.Sees.{ToldTables, SeesTables};
@@ -14,6 +15,7 @@ ghost use Rattle.ix_context.specs.Shapes.{HasIndexValue, KeepsShape};
 
 use crate::entries::put_index;
 use crate::faults::{ContextFault, fault_of_reads};
+use crate::gathering::Gathered;
 use crate::marking::{mark_next, number_after};
 use crate::ranges::KeyRange;
 use ct_base::{Memory, Name, RowKey};
@@ -52,8 +54,39 @@ fn rows_of<K: Keeper>(
     Ok(kept)
 }
 
-/// Adds the changes by which rows become documents of an index on this target that reads texts so, the first of them the
-/// document 1.
+/// Rows become documents of an index on this target that reads texts so, the first of them the document 1: the changes of their numbers
+/// are added, and their postings are gathered.
+fn mark_each<K: Keeper>(
+    alloc: Global,
+    keeper: &mut K,
+    changes: &mut Batch,
+    gathered: &mut Gathered,
+    index: &Name,
+    target: &Target,
+    prefs: &Prefs,
+    rows: &[RowKey],
+) -> Result<(), KeepFault>
+    requires ready { (K.view keeper.old).ready }
+    requires room { 1 + length rows.now < 2 ^ 32 }
+    requires set { can_be_set prefs.now.lexer ≡ true }
+    ensures changes { Adds changes.old changes.new result (mark_rows_with index.now 1 (map (λ r. r.0) rows.now)) }
+    ensures shaped { KeepsShape changes.old changes.new result }
+    ensures gathers { ToldTables K.view keeper.old (λ ts. GathersRows ts target.now prefs.now 1 rows.now gathered.old gathered.new result) }
+    ensures grown { OnOk result (AreGathered gathered.old → AreGathered gathered.new) }
+    ensures reads { OnlyReads K.view keeper.old keeper.new result }
+{
+    let mut document = 1;
+    for row in rows {
+        mark_next(
+            alloc, keeper, changes, gathered, index, target, prefs, document, *row,
+        )?;
+        document += 1;
+    }
+    Ok(())
+}
+
+/// Adds the changes by which rows become documents of an index on this target that reads texts so, with their postings, the first of them
+/// the document 1.
 fn mark_rows<K: Keeper>(
     alloc: Global,
     keeper: &mut K,
@@ -70,11 +103,20 @@ fn mark_rows<K: Keeper>(
     ensures shaped { KeepsShape changes.old changes.new result }
     ensures reads { OnlyReads K.view keeper.old keeper.new result }
 {
-    let mut document = 1;
-    for row in rows {
-        mark_next(alloc, keeper, changes, index, target, prefs, document, *row)?;
-        document += 1;
-    }
+    // Read so that the proof knows that it is a name.
+    let _named = index.as_str();
+    let mut gathered = Gathered::new(alloc);
+    mark_each(
+        alloc,
+        keeper,
+        changes,
+        &mut gathered,
+        index,
+        target,
+        prefs,
+        rows,
+    )?;
+    gathered.into_changes(alloc, changes, index)?;
     Ok(())
 }
 
@@ -107,7 +149,7 @@ fn changes_of_create<K: Keeper>(
 /// range becomes a document of it, in order of the keys from 1 on, and the words of these rows' texts in all streams and their
 /// sections get postings.
 ///
-/// It costs what these texts hold, times a logarithm, and a scan of the table's keys. TooMany where over 2^32 - 2 rows lie
+/// It costs what these texts hold, times a logarithm, and a scan of the table's keys. Its memory is that of one text and of the rows of postings. TooMany where over 2^32 - 2 rows lie
 /// in the range. The batch is unchanged at each error.
 pub fn create<K: Keeper>(
     alloc: Global,

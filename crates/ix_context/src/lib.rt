@@ -4,6 +4,7 @@
 mod creating;
 mod entries;
 mod faults;
+mod gathering;
 mod laws;
 mod marking;
 mod noting;

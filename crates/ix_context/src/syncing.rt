@@ -1,12 +1,15 @@
 //! Synchronising indexes.
 #![tactic(auto, using(ct_keep::specs::Composing::reads_on, ct_keep::specs::Composing::reads_short))]
 
-ghost use Rattle.std.specs.Prelude.{◌≡◌, ◌+◌, ◌≤◌, ◌<◌, ◌^◌, IfOk, IfSome, OnOk, OnErr, Some, Err, length, true};
+ghost use Rattle.std.specs.Prelude.{◌≡◌, ◌+◌, ◌≤◌, ◌<◌, ◌^◌, IfOk, IfSome, OnOk, OnErr, Some, Err, length, map, true};
 ghost use Rattle.ct_keep.specs.KeeperViews.{OnlyReads, ReadsKeeper};
 ghost use Rattle.ct_entry.specs.Shapes.{AreShaped};
 ghost use Rattle.tx_settings.specs.Attributes.{can_be_set};
-ghost use Rattle.ix_context.specs.Indexes.{given, pending_rows};
-ghost use Rattle.ix_context.specs.Changes.{sync_changes, Adds, settle_row_changes, AddsSettledRows, AreSettleChanges, AreSyncChanges};
+ghost use Rattle.ix_docmap.specs.Changes.{map_settle_changes};
+ghost use Rattle.ix_context.specs.Indexes.{given, pending_rows, target_text};
+ghost use Rattle.ix_context.specs.Gathering.{with_text};
+ghost use Rattle.ix_context.specs.Grown.{AreGathered};
+ghost use Rattle.ix_context.specs.Changes.{sync_changes, Adds, AddsSettledRows, AreSettleChanges, AreSyncChanges, GathersRows, settle_rows_with};
 ghost use Rattle.ix_context.specs.Faults.{context_fault_of};
 ghost use Rattle.ix_context.specs.Rules.{most_given};
 ghost use Rattle.ix_context.specs.Sees.{ToldTables, SeesTables, ToldIndex, SeesIndex};
@@ -14,6 +17,7 @@ ghost use Rattle.ix_context.specs.Shapes.{HasIndexValue, KeepsShape};
 
 use crate::entries::{put_index, read_index};
 use crate::faults::{ContextFault, fault_of_reads};
+use crate::gathering::Gathered;
 use crate::marking::{mark_next, number_after};
 use ct_base::{Name, RowKey};
 use ct_keep::{Batch, KeepFault, Keeper};
@@ -22,11 +26,13 @@ use std::alloc::Global;
 use tb_table::Target;
 use tx_settings::Prefs;
 
-/// Adds the changes by which a row that waits becomes a document of an index on this target that reads texts so.
+/// A row that waits becomes a document of an index on this target that reads texts so: the changes of its number and of the queue are added,
+/// and its postings are gathered.
 fn settle_row<K: Keeper>(
     alloc: Global,
     keeper: &mut K,
     changes: &mut Batch,
+    gathered: &mut Gathered,
     index: &Name,
     target: &Target,
     prefs: &Prefs,
@@ -34,18 +40,53 @@ fn settle_row<K: Keeper>(
     row: RowKey,
 ) -> Result<(), KeepFault>
     requires ready { (K.view keeper.old).ready }
-    requires some { 1 ≤ document }
     requires set { can_be_set prefs.now.lexer ≡ true }
-    ensures changes { ToldTables K.view keeper.old (λ ts. Adds changes.old changes.new result (settle_row_changes ts index.now target.now prefs.now document row)) }
+    ensures changes { Adds changes.old changes.new result (map_settle_changes index.now (document, row.0)) }
     ensures shaped { KeepsShape changes.old changes.new result }
+    ensures gathers { ToldTables K.view keeper.old (λ ts. OnOk result (gathered.new ≡ with_text prefs.now gathered.old document (target_text ts target.now row.0))) }
+    ensures grown { OnOk result (AreGathered gathered.old → AreGathered gathered.new) }
     ensures reads { OnlyReads K.view keeper.old keeper.new result }
 {
     unqueue(alloc, changes, index, row)?;
-    mark_next(alloc, keeper, changes, index, target, prefs, document, row)
+    mark_next(
+        alloc, keeper, changes, gathered, index, target, prefs, document, row,
+    )
 }
 
-/// Adds the changes by which rows that wait become documents of an index on this target that reads texts so, the first of them
-/// this one.
+/// Rows that wait become documents of an index on this target that reads texts so, the first of them this one: the changes of their numbers
+/// and of the queue are added, and their postings are gathered.
+fn settle_each<K: Keeper>(
+    alloc: Global,
+    keeper: &mut K,
+    changes: &mut Batch,
+    gathered: &mut Gathered,
+    index: &Name,
+    target: &Target,
+    prefs: &Prefs,
+    first: u32,
+    rows: &[RowKey],
+) -> Result<(), KeepFault>
+    requires ready { (K.view keeper.old).ready }
+    requires room { first + length rows.now < 2 ^ 32 }
+    requires set { can_be_set prefs.now.lexer ≡ true }
+    ensures changes { Adds changes.old changes.new result (settle_rows_with index.now first (map (λ r. r.0) rows.now)) }
+    ensures shaped { KeepsShape changes.old changes.new result }
+    ensures gathers { ToldTables K.view keeper.old (λ ts. GathersRows ts target.now prefs.now first rows.now gathered.old gathered.new result) }
+    ensures grown { OnOk result (AreGathered gathered.old → AreGathered gathered.new) }
+    ensures reads { OnlyReads K.view keeper.old keeper.new result }
+{
+    let mut document = first;
+    for row in rows {
+        settle_row(
+            alloc, keeper, changes, gathered, index, target, prefs, document, *row,
+        )?;
+        document += 1;
+    }
+    Ok(())
+}
+
+/// Adds the changes by which rows that wait become documents of an index on this target that reads texts so, with their postings, the first
+/// of them this one.
 fn settle_rows<K: Keeper>(
     alloc: Global,
     keeper: &mut K,
@@ -64,11 +105,21 @@ fn settle_rows<K: Keeper>(
     ensures shaped { KeepsShape changes.old changes.new result }
     ensures reads { OnlyReads K.view keeper.old keeper.new result }
 {
-    let mut document = first;
-    for row in rows {
-        settle_row(alloc, keeper, changes, index, target, prefs, document, *row)?;
-        document += 1;
-    }
+    // Read so that the proof knows that it is a name.
+    let _named = index.as_str();
+    let mut gathered = Gathered::new(alloc);
+    settle_each(
+        alloc,
+        keeper,
+        changes,
+        &mut gathered,
+        index,
+        target,
+        prefs,
+        first,
+        rows,
+    )?;
+    gathered.into_changes(alloc, changes, index)?;
     Ok(())
 }
 
@@ -144,7 +195,7 @@ fn changes_of_sync<K: Keeper>(
 /// index. Nothing where no row waits, and where there is no such
 /// index.
 ///
-/// It costs what the texts of these rows hold, times a logarithm. TooMany where the index would have given over 2^32 - 2
+/// It costs what the texts of these rows hold, times a logarithm. Its memory is that of one text and of the rows of postings. TooMany where the index would have given over 2^32 - 2
 /// documents. The batch is unchanged at each error.
 pub fn sync<K: Keeper>(
     alloc: Global,

@@ -1,1 +1,2 @@
 pub mod TakeSteps
+pub mod MapSteps

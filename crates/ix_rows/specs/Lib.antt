@@ -2,6 +2,12 @@ pub mod Posts
 pub mod Stored
 pub mod Spelling
 pub mod Stores
+pub mod Splits
+pub mod Growing
+pub mod PlaceBytes
+pub mod RowMaps
+pub mod Gathering
+pub mod Grown
 pub mod Holding
 pub mod WordRows
 pub mod SpanRows

@@ -3,6 +3,8 @@
 use Rattle.std.specs.Prelude.{ℕ, ℤ, pos, ◌≡◌, ◌+◌, sum_by, List, ◌++◌, Option, Some, refl}
 use Rattle.ct_entry.specs.Lists.{IsIn}
 use Rattle.ix_posting.specs.declared.rows.RowDocument.{RowDocument}
+use Rattle.ix_rows.specs.Spelling.{greedy}
+use Rattle.ix_rows.specs.Splits.{IsSplit}
 use Rattle.ix_rows.specs.Stored.{ListsStand}
 use Rattle.ix_rows.specs.WordRows.{document_number, IsWordTerm, word_cost}
 use Rattle.ix_rows.specs.laws.Stored.{AreNew, without}
@@ -31,6 +33,13 @@ DeadDocumentsStand =
     (i : List ℕ) (want : Wanted) (row : ℕ → Option ℤ) (given : ℕ) (list : WordLists) (waste d : ℕ) (r : ℤ) (its : List (List ℕ × RowDocument))
     → row d ≡ Some r → ((term : List ℕ) (x : RowDocument) → IsWordTerm term → want r term d ≡ Some x → IsIn (term, x) its)
     → WordsStand i want row given list waste → WordsStand i want (without document_number IsWordTerm row d) given list (waste + sum_by (word_cost i) its)
+
+-- ---- the split of posting lists into rows
+
+-- There is one split of each posting list: one after the other its rows are the list, each is within the limit, and none could take the next document.
+pub record HasOneSplit {D : Type 0} (number : D → ℕ) (bytes_of : List D → List ℕ) : Type 0 where
+  pub there : (list : List D) → IsSplit number bytes_of list (greedy number bytes_of list)
+  pub one : (list : List D) (rows : List (List D)) → IsSplit number bytes_of list rows → rows ≡ greedy number bytes_of list
 
 -- computed example: where the document 2 is a row no more, the document 1 still is
 the_first_stays : without document_number IsWordTerm (λ d. Some (pos d)) 2 1 ≡ Some (pos 1)

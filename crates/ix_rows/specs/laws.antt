@@ -1,6 +1,10 @@
 pub mod Posts
 pub mod Stored
 pub mod Spelling
+pub mod Splits
+pub mod Growing
+pub mod Gathering
+pub mod Grown
 pub mod Stores
 pub mod Tidies
 pub mod Inverted

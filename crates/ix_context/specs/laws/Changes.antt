@@ -1,25 +1,27 @@
 -- What changes make of entries that spell indexes: what statements make of the indexes.
-use Rattle.std.proofs.Common.{◌≡◌, ℕ, ℤ, ◌+◌, ◌≤◌, Bool, true, false, cond, List, [], ◌∷◌, length, map, Option, Some, None, refl, sym, ap, subst, ◌∙◌, arith}
+use Rattle.std.proofs.Common.{◌≡◌, ℕ, ℤ, ◌+◌, ◌≤◌, Bool, true, false, cond, List, [], ◌∷◌, ◌++◌, length, map, zero, suc, Option, Some, None, refl, sym, ap, subst, ◌∙◌, arith}
 use Rattle.std.specs.Prelude.{◌||◌, is_some, not, filter}
 use Rattle.std.specs.Option.{option_map, option_and_then}
 use Rattle.std.specs.List.{list_any}
 use Rattle.std.specs.Ordering.{int_cmp, int_eq, is_lt}
 use Rattle.std.proofs.lemmas.Cmp.{int_cmp_total}
 use Rattle.std.specs.FinMap.{get, entries, contains_key-keys}
-use Rattle.std.proofs.lemmas.Bool.{not-true, and_parts, and_from}
+use Rattle.std.proofs.lemmas.Bool.{and_parts, and_from}
 use Rattle.ct_base.specs.declared.lists.Value.{Value}
 use Rattle.ct_base.specs.laws.Options.{some_value}
+use Rattle.ct_entry.specs.declared.kinds.Kind.{Kind}
 use Rattle.ct_entry.specs.declared.kinds.Kind.TheVariants as kind
-use Rattle.ct_entry.specs.Keys.{Key, key, same_list, IsRow}
+use Rattle.ct_entry.specs.Keys.{Key, key, row_part, same_list, IsRow}
+use Rattle.ct_entry.specs.Lists.{AreApart}
 use Rattle.ct_entry.specs.Changes.{put_value, told, view, AllOf, AllOn}
-use Rattle.ct_entry.specs.Each.{each, numbered}
+use Rattle.ct_entry.specs.Each.{numbered}
 use Rattle.ct_entry.specs.laws.Each.{all_each, all_on-each}
 use Rattle.ct_entry.specs.laws.Keys.{list_from_same, list_same}
 use Rattle.ct_entry.specs.laws.Parts.{int_from_eq}
 use Rattle.ct_entry.specs.Maps.{Names, alter}
 use Rattle.ct_entry.specs.laws.Maps.{get_name-insert, get_name-alter}
 use Rattle.ct_entry.specs.laws.Rows.{keys_below, keys_rise_by, listed_rise, has_key, keys_always}
-use Rattle.ct_entry.specs.laws.Changes.{told_frame, told-append, view-append, all_on-append}
+use Rattle.ct_entry.specs.laws.Changes.{told_frame, told-append, view-append, all-append, all_on-append}
 use Rattle.tb_table.specs.declared.columns.Target.{Target}
 use Rattle.tb_table.specs.Tables.{Table, Tables, row_in, row_at, text_in_column, keys_in, row_keys, with_table, with_row}
 use Rattle.tb_table.specs.Rules.{AreTables}
@@ -27,23 +29,29 @@ use Rattle.tb_table.specs.laws.Changes.{row_at-with_table, row_at-with_row}
 use Rattle.tb_table.specs.laws.Reading.{row_of_table}
 use Rattle.ix_context.specs.declared.ranges.KeyRange.{KeyRange}
 use Rattle.ix_docmap.specs.Marks.{Mark, Pending, Settled, Marks, is_settled}
-use Rattle.ix_docmap.specs.laws.Documents.{settled_in}
-use Rattle.ix_context.specs.Indexes.{Index, Body, OfContext, ContextIndex, given, part_in, marks_in, no_part, mark_of, in_queue, waiting_rows, pending_rows, text_seen, note_new, made, all_settled, synced_body, noted_index, noted, synced_index, synced, is_key_in, rows_in, settled_rows, created, with_index}
+use Rattle.ix_docmap.specs.Changes.{mark_changes, map_settle_changes}
+use Rattle.ix_docmap.specs.laws.Documents.{settled_in, AllFree}
+use Rattle.ix_posting.specs.Rows.{posting_bytes}
+use Rattle.ix_posting.specs.SpanRows.{span_row_bytes}
+use Rattle.ix_rows.specs.Gathering.{terms_of, gathered_rows, rows_put}
+use Rattle.ix_rows.specs.Spelling.{row_key, first_document}
+use Rattle.ix_rows.specs.Stores.{Untidy}
+use Rattle.ix_rows.specs.WordRows.{document_number}
+use Rattle.ix_rows.specs.SpanRows.{span_number}
+use Rattle.ix_context.specs.Indexes.{Index, Part, Body, OfContext, ContextIndex, given, part_in, marks_in, no_part, mark_of, in_queue, waiting_rows, pending_rows, text_seen, note_new, made, all_settled, synced_body, noted_index, noted, synced_index, synced, is_key_in, rows_in, settled_rows, created, with_index}
 use Rattle.ix_context.specs.Rules.{IsIndex, most_given}
 use Rattle.tx_settings.specs.declared.preferences.Prefs.{Prefs}
-use Rattle.tx_document.specs.declared.entries.Entry.{Entry}
 use Rattle.tx_settings.specs.Defaults.{default_prefs}
 use Rattle.tx_settings.specs.PrefsBytes.{IsPrefs}
-use Rattle.ix_context.specs.Postings.{text_entries, is_section_entry}
-use Rattle.ix_context.specs.Documents.{seen_in}
+use Rattle.ix_context.specs.Documents.{Postings, postings_by, word_posting, span_posting, seen_in}
 use Rattle.ix_context.specs.Standing.{PartStands, IndexStands, IndexesStand}
 use Rattle.ix_context.specs.Spelling.{index_bytes, index_entry}
-use Rattle.ix_context.specs.Changes.{note_insert_changes, word_change, section_change, entry_change, text_changes, document_changes, mark_with, seen_document_changes, settle_changes, sync_rows_changes, sync_changes, create_changes}
+use Rattle.ix_context.specs.Changes.{note_insert_changes, word_changes, section_changes, postings_changes, mark_rows_with, settle_rows_with, sync_rows_changes, sync_changes, create_changes}
 use Rattle.ix_context.specs.laws.Standing.{is_of_part, index_sees, one_changes, entry_put, entry_here}
 use Rattle.ix_context.specs.laws.Parts.{part_see}
 use Rattle.ix_context.specs.laws.Notes.{context_new}
 use Rattle.ix_context.specs.laws.Syncs.{settled_in-at, settled_pending, settled_row}
-use Rattle.ix_context.specs.laws.Settling.{docs, part_settled, part_marked, EachRow, each_among, parts_all}
+use Rattle.ix_context.specs.laws.Settling.{docs, part_settled, EachRow, each_among, drops_nothing, rows_apart, all_free}
 use Rattle.ix_context.specs.laws.Texts.{seen_is_short}
 use Rattle.ix_context.specs.Promises.{IndexesStayWithTables, IndexesStayWithRows, NotedRowsStand, SyncedIndexesStand, CreatedIndexesStand}
 
@@ -114,45 +122,40 @@ note_stands f ts xs i x r is free is_row stand =
 
 -- ---- which changes they are
 
-pub all_document : (p : Prefs) (i : List ℕ) (d : ℕ) (r : ℤ) (text : Option (List ℕ)) → AllOf is_of_part (document_changes p i d r text)
-all_document p i d r text = (refl, (refl, of_text text))
-  where
-    of_entry : (e : Entry) (b : Bool) → is_of_part (cond b (section_change i d e) (word_change i d e)).0.kind ≡ true
-    of_entry e true = refl
-    of_entry e false = refl
+module _ {D : Type 0} (number : D → ℕ) (bytes_of : List D → List ℕ) {X : Type 0} (made : ℕ → X → D) (k : Kind) (i : List ℕ) where
+  rows_of_part : is_of_part k ≡ true → (es : List (List ℕ × List (List D))) → AllOf is_of_part (rows_put number bytes_of made k i es)
+  rows_of_part is [] = tt
+  rows_of_part is (e ∷ es) = all-append is_of_part (map (λ (row : List D). put_value (key k i (row_key e.0 (first_document number row))) (bytes_of row)) e.1) (rows_put number bytes_of made k i es) (one e.1) (rows_of_part is es)
+    where
+      one : (rows : List (List D)) → AllOf is_of_part (map (λ (row : List D). put_value (key k i (row_key e.0 (first_document number row))) (bytes_of row)) rows)
+      one [] = tt
+      one (row ∷ rows) = (is, one rows)
 
-    of_entries : (es : List Entry) → AllOf is_of_part (map (entry_change i d) es)
-    of_entries [] = tt
-    of_entries (e ∷ es) = (of_entry e (is_section_entry e), of_entries es)
+  rows_on : (es : List (List ℕ × List (List D))) → AllOn i (rows_put number bytes_of made k i es)
+  rows_on [] = tt
+  rows_on (e ∷ es) = all_on-append i (map (λ (row : List D). put_value (key k i (row_key e.0 (first_document number row))) (bytes_of row)) e.1) (rows_put number bytes_of made k i es) (one e.1) (rows_on es)
+    where
+      one : (rows : List (List D)) → AllOn i (map (λ (row : List D). put_value (key k i (row_key e.0 (first_document number row))) (bytes_of row)) rows)
+      one [] = tt
+      one (row ∷ rows) = (refl, one rows)
 
-    of_text : (text : Option (List ℕ)) → AllOf is_of_part (text_changes p i d text)
-    of_text None = tt
-    of_text (Some t) = of_entries (text_entries p t)
+postings_of_part : (i : List ℕ) (doc : ℤ → Postings) (first : ℕ) (rows : List ℤ) → AllOf is_of_part (postings_changes i doc first rows)
+postings_of_part i doc first rows = all-append is_of_part (word_changes i doc first rows) (section_changes i doc first rows) (rows_of_part document_number posting_bytes word_posting kind.Postings i refl (gathered_rows document_number posting_bytes word_posting (λ r. (doc r).words) (numbered first rows) (terms_of (λ r. (doc r).words) rows))) (rows_of_part span_number span_row_bytes span_posting kind.Spans i refl (gathered_rows span_number span_row_bytes span_posting (λ r. (doc r).spans) (numbered first rows) (terms_of (λ r. (doc r).spans) rows)))
 
-all_on_texts : (p : Prefs) (i : List ℕ) (d : ℕ) (text : Option (List ℕ)) → AllOn i (text_changes p i d text)
-all_on_texts p i d None = tt
-all_on_texts p i d (Some t) = go (text_entries p t)
-  where
-    one : (e : Entry) (b : Bool) → (cond b (section_change i d e) (word_change i d e)).0.owner ≡ i
-    one e true = refl
-    one e false = refl
-
-    go : (es : List Entry) → AllOn i (map (entry_change i d) es)
-    go [] = tt
-    go (e ∷ es) = (one e (is_section_entry e), go es)
-
-pub all_on_document : (p : Prefs) (i : List ℕ) (d : ℕ) (r : ℤ) (text : Option (List ℕ)) → AllOn i (document_changes p i d r text)
-all_on_document p i d r text = (refl, (refl, all_on_texts p i d text))
+postings_on : (i : List ℕ) (doc : ℤ → Postings) (first : ℕ) (rows : List ℤ) → AllOn i (postings_changes i doc first rows)
+postings_on i doc first rows = all_on-append i (word_changes i doc first rows) (section_changes i doc first rows) (rows_on document_number posting_bytes word_posting kind.Postings i (gathered_rows document_number posting_bytes word_posting (λ r. (doc r).words) (numbered first rows) (terms_of (λ r. (doc r).words) rows))) (rows_on span_number span_row_bytes span_posting kind.Spans i (gathered_rows span_number span_row_bytes span_posting (λ r. (doc r).spans) (numbered first rows) (terms_of (λ r. (doc r).spans) rows)))
 
 pub all_on_sync : (ts : Tables) (i : List ℕ) (x : Index) (rows : List ℤ) → AllOn i (sync_rows_changes ts i x rows)
 all_on_sync ts i x [] = tt
 all_on_sync ts i x (r ∷ rs) =
-    all_on-append i (each (settle_changes ts i x) (numbered (given x + 1) (r ∷ rs))) _ (all_on-each i (settle_changes ts i x) (λ p. (refl, all_on_document x.prefs i p.0 p.1 (text_seen ts x p.1))) (numbered (given x + 1) (r ∷ rs))) (refl, tt)
+    let postings = postings_changes i (postings_by x.prefs (text_seen ts x)) (given x + 1) (r ∷ rs) in
+    all_on-append i (settle_rows_with i (given x + 1) (r ∷ rs) ++ postings) (put_value (key kind.Indexes i []) (index_entry (synced_index x)) ∷ [])
+    (all_on-append i (settle_rows_with i (given x + 1) (r ∷ rs)) postings (all_on-each i (map_settle_changes i) (λ p. (refl, (refl, (refl, tt)))) (numbered (given x + 1) (r ∷ rs))) (postings_on i (postings_by x.prefs (text_seen ts x)) (given x + 1) (r ∷ rs))) (refl, tt)
 
 pub all_on_create : (ts : Tables) (i : List ℕ) (target : Target) (prefs : Prefs) (range : KeyRange) → AllOn i (create_changes ts i target prefs range)
 all_on_create ts i target prefs range = (
   refl,
-  all_on-each i (λ (p : ℕ × ℤ). seen_document_changes ts i (created ts target prefs range) p.0 p.1) (λ p. all_on_document prefs i p.0 p.1 (text_seen ts (created ts target prefs range) p.1)) (numbered 1 (rows_in ts target.table range)),
+  all_on-append i (mark_rows_with i 1 (rows_in ts target.table range)) (postings_changes i (postings_by prefs (text_seen ts (created ts target prefs range))) 1 (rows_in ts target.table range)) (all_on-each i (λ (n : ℕ × ℤ). mark_changes i n.0 n.1) (λ p. (refl, (refl, tt))) (numbered 1 (rows_in ts target.table range))) (postings_on i (postings_by prefs (text_seen ts (created ts target prefs range))) 1 (rows_in ts target.table range)),
 )
 
 -- ---- a synchronisation
@@ -181,41 +184,49 @@ rows_wait ts x are is =
     go r (Some Pending) here there = (mark_is_row ts x are is r (ap is_some here), ap (λ (p : Option (Mark (Unit {0}))). not (is_settled p)) here)
     go r (Some (Settled a)) here there = cc
 
+-- the map and the postings of rows that wait; nothing where none waits
+abbrev settling : Tables → List ℕ → Index → List ℤ → List (Key × Option (List ℕ))
+settling ts i x [] = []
+settling ts i x (r ∷ rs) = settle_rows_with i (given x + 1) (r ∷ rs) ++ postings_changes i (postings_by x.prefs (text_seen ts x)) (given x + 1) (r ∷ rs)
+
 synced_part : (f : Key → Option (List ℕ)) (ts : Tables) (i : List ℕ) (x : Index) → given x + length (pending_rows x) ≤ most_given → AreTables ts → IsIndex ts x
     → PartStands f i (docs x.prefs (text_seen ts x)) (get (marks_in x.body)) (part_in x.body)
-    → PartStands (view (each (settle_changes ts i x) (numbered (given x + 1) (pending_rows x))) f) i (docs x.prefs (text_seen ts x)) (settled_in (pending_rows x) (get (marks_in x.body))) (made (length (pending_rows x)) (part_in x.body))
+    → PartStands (view (settling ts i x (pending_rows x)) f) i (docs x.prefs (text_seen ts x)) (settled_in (pending_rows x) (get (marks_in x.body))) (made (length (pending_rows x)) (part_in x.body))
 synced_part f ts i x room are is stand =
-    parts_all (settle_changes ts i x) i (docs x.prefs (text_seen ts x)) (λ m. not (is_settled m))
-    (λ g mark part r is_row free room stand. part_settled g x.prefs is.prefs i (text_seen ts x) mark part r is_row (not-true _ free) room (seen_is_short ts are x r) stand)
-    (pending_rows x) f (get (marks_in x.body)) (part_in x.body) (pending_rise x) (rows_wait ts x are is) (omega arith) stand
+    go (pending_rows x) (rows_apart (pending_rows x) (pending_rise x)) (all_free (get (marks_in x.body)) (pending_rows x) (rows_wait ts x are is)) room
+  where
+    go : (rows : List ℤ) → AreApart rows → AllFree (get (marks_in x.body)) rows → given x + length rows ≤ most_given
+        → PartStands (view (settling ts i x rows) f) i (docs x.prefs (text_seen ts x)) (settled_in rows (get (marks_in x.body))) (made (length rows) (part_in x.body))
+    go [] apart free room = stand
+    go (r ∷ rs) apart free room = part_settled x.prefs is.prefs (text_seen ts x) (seen_is_short ts are x) f i (get (marks_in x.body)) (part_in x.body) (r ∷ rs) apart free (omega arith) stand
 
 synced_stands : (f : Key → Option (List ℕ)) (ts : Tables) (i : List ℕ) (x : Index) → given x + length (pending_rows x) ≤ most_given → AreTables ts
     → IsIndex ts x → IndexStands f ts i (Some x) → IndexStands (view (sync_changes ts i x) f) ts i (Some (synced_index x))
 synced_stands f ts i x room are is stand = of_body x.body (pending_rows x) refl stand.entry (synced_part f ts i x room are is stand.context)
   where
     of_body : (b : Body) (rows : List ℤ) → waiting_rows (marks_in b) ≡ rows → f (key kind.Indexes i []) ≡ Some (index_entry (record x { body = b }))
-        → PartStands (view (each (settle_changes ts i x) (numbered ((part_in b).given + 1) rows)) f) i (docs x.prefs (text_seen ts x)) (settled_in rows (get (marks_in b))) (made (length rows) (part_in b))
+        → PartStands (view (settling ts i (record x { body = b }) rows) f) i (docs x.prefs (text_seen ts x)) (settled_in rows (get (marks_in b))) (made (length rows) (part_in b))
         → IndexStands (view (sync_rows_changes ts i (record x { body = b }) rows) f) ts i (Some (record x { body = synced_body b }))
     of_body (OfContext c) rows is_rows entry part = go rows is_rows (marks_as part)
       where
         now : ContextIndex
         now = record { part = made (length (waiting_rows c.marks)) c.part; marks = all_settled c.marks }
 
-        marks_as : PartStands (view (each (settle_changes ts i x) (numbered (c.part.given + 1) rows)) f) i (docs x.prefs (text_seen ts x)) (settled_in rows (get c.marks)) (made (length rows) c.part)
-            → PartStands (view (each (settle_changes ts i x) (numbered (c.part.given + 1) rows)) f) i (docs x.prefs (text_seen ts x)) (get (all_settled c.marks)) (made (length (waiting_rows c.marks)) c.part)
+        marks_as : PartStands (view (settling ts i (record x { body = OfContext c }) rows) f) i (docs x.prefs (text_seen ts x)) (settled_in rows (get c.marks)) (made (length rows) c.part)
+            → PartStands (view (settling ts i (record x { body = OfContext c }) rows) f) i (docs x.prefs (text_seen ts x)) (get (all_settled c.marks)) (made (length (waiting_rows c.marks)) c.part)
         marks_as part =
-            subst (λ (m : Marks). PartStands (view (each (settle_changes ts i x) (numbered (c.part.given + 1) rows)) f) i (docs x.prefs (text_seen ts x)) m (made (length (waiting_rows c.marks)) c.part)) (λ j r. settled_pending c.marks r j)
-            (subst (λ (l : List ℤ). PartStands (view (each (settle_changes ts i x) (numbered (c.part.given + 1) rows)) f) i (docs x.prefs (text_seen ts x)) (settled_in l (get c.marks)) (made (length l) c.part)) (sym is_rows) part)
+            subst (λ (m : Marks). PartStands (view (settling ts i (record x { body = OfContext c }) rows) f) i (docs x.prefs (text_seen ts x)) m (made (length (waiting_rows c.marks)) c.part)) (λ j r. settled_pending c.marks r j)
+            (subst (λ (l : List ℤ). PartStands (view (settling ts i (record x { body = OfContext c }) rows) f) i (docs x.prefs (text_seen ts x)) (settled_in l (get c.marks)) (made (length l) c.part)) (sym is_rows) part)
 
         go : (rows : List ℤ) → waiting_rows c.marks ≡ rows
-            → PartStands (view (each (settle_changes ts i x) (numbered (c.part.given + 1) rows)) f) i (docs x.prefs (text_seen ts x)) (get (all_settled c.marks)) (made (length (waiting_rows c.marks)) c.part)
+            → PartStands (view (settling ts i (record x { body = OfContext c }) rows) f) i (docs x.prefs (text_seen ts x)) (get (all_settled c.marks)) (made (length (waiting_rows c.marks)) c.part)
             → IndexStands (view (sync_rows_changes ts i (record x { body = OfContext c }) rows) f) ts i (Some (record x { body = OfContext now }))
         go [] none part = record {
           entry = entry ∙ ap (λ (n : ℕ). Some (index_bytes x.table x.column x.prefs (n + 1))) (ap (λ (l : List ℤ). (made (length l) c.part).given) (sym none));
           context = part;
         }
         go (r ∷ rs) some part =
-            let changes = each (settle_changes ts i x) (numbered (c.part.given + 1) (r ∷ rs)) in
+            let changes = settling ts i (record x { body = OfContext c }) (r ∷ rs) in
             let last = put_value (key kind.Indexes i []) (index_entry (record x { body = OfContext now })) ∷ [] in
             record {
               entry = told-append changes last (key kind.Indexes i []) (f (key kind.Indexes i [])) ∙ entry_here i (index_entry (record x { body = OfContext now })) (told changes (key kind.Indexes i []) (f (key kind.Indexes i [])));
@@ -297,22 +308,44 @@ pub rows_free : (ts : Tables) → AreTables ts → (t : List ℕ) (range : KeyRa
 rows_free ts are t range =
     each_among (λ s. IsRow s × (not (is_some (no_marks s)) ≡ true)) (rows_in ts t range) (λ r there. (row_is_row ts are t r (sym (row_listed ts t r) ∙ filter_among (is_key_in range) (row_keys ts t) r there), refl))
 
-not_some : (o : Option (Mark (Unit {0}))) → not (is_some o) ≡ true → o ≡ None
-not_some None h = refl
-not_some (Some m) h = cc
+-- the rows of a new index wait nowhere
+none_queued : (f : Key → Option (List ℕ)) (i : List ℕ) (doc : ℤ → Postings) → PartStands f i doc no_marks no_part → (rows : List ℤ) → EachRow (λ s. IsRow s × (not (is_some (no_marks s)) ≡ true)) rows → EachRow (λ s. f (key kind.Pending i (row_part s)) ≡ None) rows
+none_queued f i doc stand [] all = tt
+none_queued f i doc stand (r ∷ rs) all = (stand.documents.queue r all.0.0, none_queued f i doc stand rs all.1)
+
+free_rows : (rows : List ℤ) → EachRow (λ s. IsRow s × (not (is_some (no_marks s)) ≡ true)) rows → AllFree no_marks rows
+free_rows [] all = tt
+free_rows (r ∷ rs) all = (all.0.0, refl, free_rows rs all.1)
+
+made_none : (n : ℕ) → record no_part { given = 0 + n; tidiness = Untidy } ≡ made n no_part
+made_none zero = refl
+made_none (suc n) = refl
 
 created_part : (f : Key → Option (List ℕ)) (ts : Tables) (i : List ℕ) (target : Target) (prefs : Prefs) (range : KeyRange) → IsPrefs prefs
     → length (rows_in ts target.table range) ≤ most_given → AreTables ts → PartStands f i (docs default_prefs (λ _. None)) no_marks no_part
-    → PartStands (view (each (mark_with prefs i (text_seen ts (created ts target prefs range))) (numbered 1 (rows_in ts target.table range))) f) i (docs prefs (text_seen ts (created ts target prefs range))) (get (settled_rows (rows_in ts target.table range))) (made (length (rows_in ts target.table range)) no_part)
+    → PartStands (view (mark_rows_with i 1 (rows_in ts target.table range) ++ postings_changes i (postings_by prefs (text_seen ts (created ts target prefs range))) 1 (rows_in ts target.table range)) f) i (docs prefs (text_seen ts (created ts target prefs range))) (get (settled_rows (rows_in ts target.table range))) (made (length (rows_in ts target.table range)) no_part)
 created_part f ts i target prefs range prefs_are room are stand =
-    let x = created ts target prefs range in
     let rows = rows_in ts target.table range in
-    subst (λ (m : Marks). PartStands (view (each (mark_with prefs i (text_seen ts x)) (numbered 1 rows)) f) i (docs prefs (text_seen ts x)) m (made (length rows) no_part)) (λ j s. sym (settled_row rows s) j)
-    (subst (λ (m : Marks). PartStands (view (each (mark_with prefs i (text_seen ts x)) (numbered 1 rows)) f) i (docs prefs (text_seen ts x)) m (made (length rows) no_part)) (λ j s. settled_in-at rows no_marks s j)
-    (parts_all (mark_with prefs i (text_seen ts x)) i (docs x.prefs (text_seen ts x)) (λ m. not (is_some m))
-    (λ g mark part r is_row free room stand. part_marked g prefs prefs_are i (text_seen ts x) mark part r is_row (not_some _ free) room (seen_is_short ts are x r) stand)
-    rows f no_marks no_part (filter_rise (is_key_in range) (row_keys ts target.table) (rows_rise ts target.table)) (rows_free ts are target.table range) (omega arith)
-    (part_see f i (docs default_prefs (λ _. None)) (docs x.prefs (text_seen ts x)) no_marks no_part (λ r h. cc) stand)))
+    let doc = docs prefs (text_seen ts (created ts target prefs range)) in
+    let changes = mark_rows_with i 1 rows ++ postings_changes i doc 1 rows in
+    subst (λ (m : Marks). PartStands (view changes f) i doc m (made (length rows) no_part)) (λ j s. sym (settled_row rows s) j)
+    (subst (λ (m : Marks). PartStands (view changes f) i doc m (made (length rows) no_part)) (λ j s. settled_in-at rows no_marks s j)
+    (subst (λ (q : Part). PartStands (view changes f) i doc (settled_in rows no_marks) q) (made_none (length rows))
+    (subst (λ (g : Key → Option (List ℕ)). PartStands g i doc (settled_in rows no_marks) (record no_part { given = 0 + length rows; tidiness = Untidy })) same settled)))
+  where
+    seen : PartStands f i (docs prefs (text_seen ts (created ts target prefs range))) no_marks no_part
+    seen = part_see f i (docs default_prefs (λ _. None)) (docs prefs (text_seen ts (created ts target prefs range))) no_marks no_part (λ r h. cc) stand
+
+    settled : PartStands (view (settle_rows_with i 1 (rows_in ts target.table range) ++ postings_changes i (docs prefs (text_seen ts (created ts target prefs range))) 1 (rows_in ts target.table range)) f) i (docs prefs (text_seen ts (created ts target prefs range))) (settled_in (rows_in ts target.table range) no_marks) (record no_part { given = 0 + length (rows_in ts target.table range); tidiness = Untidy })
+    settled =
+        part_settled prefs prefs_are (text_seen ts (created ts target prefs range)) (seen_is_short ts are (created ts target prefs range)) f i no_marks no_part (rows_in ts target.table range)
+        (rows_apart (rows_in ts target.table range) (filter_rise (is_key_in range) (row_keys ts target.table) (rows_rise ts target.table))) (free_rows (rows_in ts target.table range) (rows_free ts are target.table range)) (omega arith) seen
+
+    same : view (settle_rows_with i 1 (rows_in ts target.table range) ++ postings_changes i (docs prefs (text_seen ts (created ts target prefs range))) 1 (rows_in ts target.table range)) f ≡ view (mark_rows_with i 1 (rows_in ts target.table range) ++ postings_changes i (docs prefs (text_seen ts (created ts target prefs range))) 1 (rows_in ts target.table range)) f
+    same =
+        view-append (settle_rows_with i 1 (rows_in ts target.table range)) (postings_changes i (docs prefs (text_seen ts (created ts target prefs range))) 1 (rows_in ts target.table range)) f
+        ∙ ap (view (postings_changes i (docs prefs (text_seen ts (created ts target prefs range))) 1 (rows_in ts target.table range))) (drops_nothing i 1 (rows_in ts target.table range) f (none_queued f i (docs default_prefs (λ _. None)) stand (rows_in ts target.table range) (rows_free ts are target.table range)))
+        ∙ sym (view-append (mark_rows_with i 1 (rows_in ts target.table range)) (postings_changes i (docs prefs (text_seen ts (created ts target prefs range))) 1 (rows_in ts target.table range)) f)
 
 pub created_stands : (f : Key → Option (List ℕ)) (ts : Tables) (i : List ℕ) (target : Target) (prefs : Prefs) (range : KeyRange) → IsPrefs prefs
     → length (rows_in ts target.table range) ≤ most_given → AreTables ts → IndexStands f ts i None
@@ -320,10 +353,12 @@ pub created_stands : (f : Key → Option (List ℕ)) (ts : Tables) (i : List ℕ
 created_stands f ts i target prefs range prefs_are room are stand =
     let x = created ts target prefs range in
     let first = put_value (key kind.Indexes i []) (index_entry x) ∷ [] in
-    let changes = each (mark_with prefs i (text_seen ts x)) (numbered 1 (rows_in ts target.table range)) in
+    let postings = postings_changes i (postings_by prefs (text_seen ts x)) 1 (rows_in ts target.table range) in
+    let changes = mark_rows_with i 1 (rows_in ts target.table range) ++ postings in
     record {
       entry =
-          told_frame is_of_part changes (key kind.Indexes i []) (told first (key kind.Indexes i []) (f (key kind.Indexes i []))) (all_each is_of_part (mark_with prefs i (text_seen ts x)) (λ p. all_document prefs i p.0 p.1 (text_seen ts x p.1)) (numbered 1 (rows_in ts target.table range))) refl
+          told_frame is_of_part changes (key kind.Indexes i []) (told first (key kind.Indexes i []) (f (key kind.Indexes i [])))
+          (all-append is_of_part (mark_rows_with i 1 (rows_in ts target.table range)) postings (all_each is_of_part (λ (n : ℕ × ℤ). mark_changes i n.0 n.1) (λ p. (refl, (refl, tt))) (numbered 1 (rows_in ts target.table range))) (postings_of_part i (postings_by prefs (text_seen ts x)) 1 (rows_in ts target.table range))) refl
           ∙ entry_here i (index_entry x) (f (key kind.Indexes i []));
       context = created_part (view first f) ts i target prefs range prefs_are room are (entry_put f i (index_entry x) (docs default_prefs (λ _. None)) no_marks no_part stand.context);
     }

@@ -138,10 +138,10 @@ part_see f i doc doc' mark part same stand = record {
 
 -- ---- a synchronisation
 
-numbers_words : (doc : ℤ → Postings) (r : ℤ) (term : List ℕ) (d : ℕ) (x : RowDocument) → want_words doc r term d ≡ Some x → document_number x ≡ d
+pub numbers_words : (doc : ℤ → Postings) (r : ℤ) (term : List ℕ) (d : ℕ) (x : RowDocument) → want_words doc r term d ≡ Some x → document_number x ≡ d
 numbers_words doc r term d x is = let p = option_map_some (word_posting d) (get (doc r).words term) x is in sym (ap document_number p.2)
 
-numbers_spans : (doc : ℤ → Postings) (r : ℤ) (term : List ℕ) (d : ℕ) (x : SpanDocument) → want_spans doc r term d ≡ Some x → span_number x ≡ d
+pub numbers_spans : (doc : ℤ → Postings) (r : ℤ) (term : List ℕ) (d : ℕ) (x : SpanDocument) → want_spans doc r term d ≡ Some x → span_number x ≡ d
 numbers_spans doc r term d x is = let p = option_map_some (span_posting d) (get (doc r).spans term) x is in sym (ap span_number p.2)
 
 abbrev pub synced_changes : List ℕ → ℕ → List ℤ → List (List ℕ × List (List RowDocument)) → List (List ℕ × List (List SpanDocument)) → List (Key × Option (List ℕ))

@@ -1,6 +1,6 @@
 -- A row of sections weighs at most what its postings cost, and the split of a list is rows.
 use Rattle.std.specs.Prelude.{ℕ, ◌≡◌, ◌+◌, ◌-◌, ◌≤◌, ◌<◌, ◌^◌, List, [], ◌∷◌, ◌++◌, length, sum_by, refl}
-use Rattle.std.proofs.Common.{sym, subst, arith, inl, inr}
+use Rattle.std.proofs.Common.{sym, ap, ◌∙◌, append_assoc, subst, arith, inl, inr}
 use Rattle.std.proofs.lemmas.List.{length-append}
 use Rattle.std.proofs.lemmas.List.Sums.{sum_by-cons}
 use Rattle.ct_bytes.specs.Varints.{varint}
@@ -12,6 +12,8 @@ use Rattle.ix_posting.specs.Rows.{varints}
 use Rattle.ix_posting.specs.declared.span_rows.SpanDocument.{SpanDocument}
 use Rattle.ix_posting.specs.SpanRows.{IsSpanRow, SpanDocumentsRise, PairsFollow, no_pair, pair_steps, span_document_bytes, span_documents_bytes, span_row_bytes}
 use Rattle.ix_rows.specs.Spelling.{row_key, first_document}
+use Rattle.ix_rows.specs.PlaceBytes.{pair_bytes}
+use Rattle.ix_rows.specs.laws.Growing.{steps_of}
 use Rattle.ix_rows.specs.laws.Weighs.{singles}
 use Rattle.ix_rows.specs.laws.Tidies.{RowLaws}
 use Rattle.ix_rows.specs.laws.WordRows.{one_byte, five_bytes}
@@ -120,3 +122,17 @@ span_laws = record {
   some = λ row is. is.some;
   row = λ xs some r good. let bound = few 0 xs r (omega arith) in record { some = some; few = omega (arith, bound); rise = of_rise 0 xs r good };
 }
+
+-- ---- the bytes of a row, document by document
+
+abbrev pub span_places : SpanDocument → List ℕ
+span_places x = pair_bytes x.pairs
+
+documents_spelt : (before : ℕ) (xs : List SpanDocument) → span_documents_bytes before xs ≡ steps_of span_number span_places before xs
+documents_spelt before [] = refl
+documents_spelt before (x ∷ xs) =
+    ap (λ (l : List ℕ). l ++ span_documents_bytes x.document xs) (append_assoc (varint (x.document - before)) (varint (length x.pairs)) (varints (pair_steps no_pair x.pairs)))
+    ∙ ap (λ (l : List ℕ). (varint (x.document - before) ++ span_places x) ++ l) (documents_spelt x.document xs)
+
+pub span_spelt : (row : List SpanDocument) → span_row_bytes row ≡ varint (length row) ++ steps_of span_number span_places 0 row
+span_spelt row = ap (λ (l : List ℕ). varint (length row) ++ l) (documents_spelt 0 row)

@@ -1,6 +1,6 @@
 -- A row of words weighs at most what its postings cost, and the split of a posting list is rows.
 use Rattle.std.specs.Prelude.{ℕ, ◌≡◌, ◌+◌, ◌-◌, ◌≤◌, ◌<◌, ◌^◌, List, [], ◌∷◌, ◌++◌, length, sum_by, refl}
-use Rattle.std.proofs.Common.{sym, subst, inl, inr, arith}
+use Rattle.std.proofs.Common.{sym, ap, ◌∙◌, append_assoc, subst, inl, inr, arith}
 use Rattle.std.proofs.lemmas.List.{length-append}
 use Rattle.std.proofs.lemmas.List.Sums.{sum_by-cons}
 use Rattle.ct_bytes.specs.Varints.{varint}
@@ -13,6 +13,8 @@ use Rattle.ix_posting.specs.Rows.{Rise, DocumentsRise, IsPostingRow, steps, vari
 use Rattle.ct_entry.specs.Lists.{IsIn}
 use Rattle.ix_rows.specs.Posts.{Rises}
 use Rattle.ix_rows.specs.Spelling.{row_key, first_document}
+use Rattle.ix_rows.specs.PlaceBytes.{position_bytes}
+use Rattle.ix_rows.specs.laws.Growing.{steps_of}
 use Rattle.ix_rows.specs.laws.Weighs.{singles}
 use Rattle.ix_rows.specs.laws.Tidies.{RowLaws}
 use Rattle.ix_rows.specs.WordRows.{document_number, last_document, word_cost}
@@ -129,3 +131,17 @@ word_laws = record {
   some = λ row is. is.some;
   row = λ xs some r good. let bound = few 0 xs r (omega arith) in record { some = some; few = omega (arith, bound); rise = of_rise 0 xs r good };
 }
+
+-- ---- the bytes of a row, document by document
+
+abbrev pub word_places : RowDocument → List ℕ
+word_places x = position_bytes x.positions
+
+documents_spelt : (before : ℕ) (xs : List RowDocument) → documents_bytes before xs ≡ steps_of document_number word_places before xs
+documents_spelt before [] = refl
+documents_spelt before (x ∷ xs) =
+    ap (λ (l : List ℕ). l ++ documents_bytes x.document xs) (append_assoc (varint (x.document - before)) (varint (length x.positions)) (varints (steps 0 x.positions)))
+    ∙ ap (λ (l : List ℕ). (varint (x.document - before) ++ word_places x) ++ l) (documents_spelt x.document xs)
+
+pub word_spelt : (row : List RowDocument) → posting_bytes row ≡ varint (length row) ++ steps_of document_number word_places 0 row
+word_spelt row = ap (λ (l : List ℕ). varint (length row) ++ l) (documents_spelt 0 row)

@@ -1,12 +1,11 @@
-use Rattle.std.proofs.Common.{◌≡◌, ◌≤◌, ◌+◌, ◌++◌, List, length, map, sym, ap, subst, ◌∙◌, arith, rules}
+use Rattle.std.proofs.Common.{◌≡◌, ◌≤◌, ◌+◌, ◌++◌, List, length, sym, ap, subst, ◌∙◌, arith, rules}
 use Rattle.ct_base.specs.declared.numbers.RowKey.{RowKey}
-use Rattle.ct_entry.specs.Each.{numbered, each}
 use Rattle.ct_entry.specs.Changes.{spell}
 use Rattle.ct_entry.specs.Shapes.{AreShaped}
 use Rattle.ct_keep.specs.Composing.{reads_on, reads_hold}
-use Rattle.ix_context.specs.Indexes.{rows_in, target_text}
+use Rattle.ix_context.specs.Indexes.{rows_in}
 use Rattle.ix_context.specs.Rules.{most_given}
-use Rattle.ix_context.specs.Changes.{mark_with}
+use Rattle.ix_context.specs.Changes.{mark_rows_changes}
 use Rattle.ix_context.specs.Shapes.{HasIndexValue}
 use Rattle.ix_context.proofs.SyncSteps.{created_added, count_created}
 use Rattle.ix_context.proofs.creating.changes_of_create.Goals as goal
@@ -23,7 +22,7 @@ returns-clause-changes g c = λ m ts holds told.
     let marks = c.in_ok-mark_rows.ensures.changes m ts again told in (
       few,
       created_added ts c.args.index.now c.args.target.now c.args.prefs.now c.args.range c.in_ok-rows.rows.items c.in-Some.next c.new-changes.result c.put_index.new.batch c.mark_rows.new.changes rows next c.new-changes.ensures c.in_ok-put_index.ensures.ok
-          (marks ∙ ap (λ (l : List RowKey). c.put_index.new.batch ++ spell (each (mark_with c.args.prefs.now c.args.index.now (target_text ts c.args.target.now)) (numbered 1 (map (λ (r : RowKey). r.0) l)))) c.deref.ensures.value),
+          (marks ∙ ap (λ (l : List RowKey). c.put_index.new.batch ++ spell (mark_rows_changes ts c.args.index.now c.args.target.now c.args.prefs.now 1 l)) c.deref.ensures.value),
     )
 
 pub returns-in_err-mark_rows-clause-reads : goal.returns-in_err-mark_rows-clause-reads

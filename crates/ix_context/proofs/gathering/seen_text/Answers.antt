@@ -4,7 +4,7 @@ use Rattle.ix_context.specs.Postings.{if_short}
 use Rattle.ix_context.specs.Indexes.{target_text}
 use Rattle.ix_context.specs.laws.Reading.{target_read}
 use Rattle.ix_context.specs.laws.Texts.{target_has_short, short_kept}
-use Rattle.ix_context.proofs.marking.seen_text.Goals as goal
+use Rattle.ix_context.proofs.gathering.seen_text.Goals as goal
 
 pub returns-clause-text : goal.returns-clause-text
 returns-clause-text g c = λ m ts holds told.

@@ -1,0 +1,253 @@
+//! Gathering the postings of rows that become documents.
+#![tactic(auto, using(ct_keep::specs::Composing::reads_on, ct_keep::specs::Composing::reads_short))]
+
+ghost use Rattle.std.specs.Prelude.{◌≡◌, ◌++◌, ◌<◌, ◌≤◌, ◌^◌, All, IfOk, OnOk, length, true};
+ghost use Rattle.ct_keep.specs.KeeperViews.{OnlyReads};
+ghost use Rattle.ct_entry.specs.Changes.{spell};
+ghost use Rattle.ix_rows.specs.PlaceBytes.{position_bytes, pair_bytes};
+ghost use Rattle.ix_rows.specs.WordRows.{word_term};
+ghost use Rattle.tx_settings.specs.Attributes.{can_be_set};
+ghost use Rattle.ix_context.specs.Changes.{Adds};
+ghost use Rattle.ix_context.specs.Gathering.{nothing_gathered, with_word, with_section, with_entry, with_entries, with_text, gathering_changes};
+ghost use Rattle.ix_context.specs.Grown.{AreGathered};
+ghost use Rattle.ix_context.specs.Indexes.{target_text};
+ghost use Rattle.ix_context.specs.Postings.{first_positions, section_term, IsWord, IsSection, IsPosting, IsShortOrNone, if_short};
+ghost use Rattle.ix_context.specs.Sees.{ToldTables, SeesTables};
+
+use ct_base::{Memory, Name, RowKey, Text};
+use ct_entry::Kind;
+use ct_keep::{Batch, KeepFault, Keeper};
+use ix_rows::{TermRows, put_firsts, put_pairs};
+use std::alloc::Global;
+use std::marker::Model;
+use tb_table::{Target, text_of};
+use tx_document::{Entry, analyse};
+use tx_settings::Prefs;
+
+/// How many bytes of text a document may have: far more than a text of a table.
+const MOST_BYTES: usize = 1 << 19;
+
+/// The stream of sections, which is none of words.
+const SECTIONS: u8 = 255;
+
+/// The bytes of a term and of a document's places under it, in memory that is used again for each.
+#[derive(Drop)]
+struct Spelling {
+    term: Vec<u8>,
+    places: Vec<u8>,
+}
+
+/// Spells a key in its stream, as it stands in a row's key, and its positions.
+fn spell_word(spelling: &mut Spelling, word: &Entry) -> Result<(), Memory>
+    requires { IsWord word.now }
+    ensures term { OnOk result (spelling.new.term.items ≡ word_term word.now.stream word.now.token) }
+    ensures places { OnOk result (spelling.new.places.items ≡ position_bytes (first_positions word.now.places)) }
+{
+    let token = word.token.as_slice();
+    spelling.term.clear();
+    spelling.places.clear();
+    spelling.term.push(word.stream)?;
+    spelling.term.push(token.len() as u8)?;
+    spelling.term.extend_from_slice(token)?;
+    put_firsts(&mut spelling.places, word.places.as_slice())
+}
+
+/// Spells a section, as it stands in a row's key, and its pairs.
+fn spell_section(spelling: &mut Spelling, section: &Entry) -> Result<(), Memory>
+    requires { IsSection section.now }
+    ensures term { OnOk result (spelling.new.term.items ≡ section_term section.now.token) }
+    ensures places { OnOk result (spelling.new.places.items ≡ pair_bytes section.now.places) }
+{
+    let name = section.token.as_slice();
+    spelling.term.clear();
+    spelling.places.clear();
+    spelling.term.push(name.len() as u8)?;
+    spelling.term.extend_from_slice(name)?;
+    put_pairs(&mut spelling.places, section.places.as_slice())
+}
+
+/// The rows of postings of words and of sections, of documents that come in rising order: their bytes, and nothing else of the texts.
+#[derive(Drop)]
+pub(crate) struct Gathered {
+    words: TermRows,
+    sections: TermRows,
+}
+
+impl Model for Gathered {
+    ghost use Rattle.ix_context.specs.Gathering.{Gathering, gathering_code};
+
+    ghost Value = { Gathering };
+
+    ghost coded = { gathering_code };
+
+    ghost view = { λ g. record { words = g.words; sections = g.sections } };
+}
+
+impl Gathered {
+    /// Nothing yet. It takes no memory.
+    pub(crate) fn new(alloc: Global) -> Gathered
+        ensures { result ≡ nothing_gathered }
+    {
+        Gathered {
+            words: TermRows::new(alloc),
+            sections: TermRows::new(alloc),
+        }
+    }
+
+    /// A key of a document in its stream comes.
+    fn put_word(
+        &mut self,
+        alloc: Global,
+        spelling: &mut Spelling,
+        document: u32,
+        word: &Entry,
+    ) -> Result<(), Memory>
+        requires { IsWord word.now }
+        ensures { OnOk result (self.new ≡ with_word self.old document word.now) }
+    {
+        spell_word(spelling, word)?;
+        self.words
+            .put(alloc, &spelling.term, document, &spelling.places)
+    }
+
+    /// A section of a document comes.
+    fn put_section(
+        &mut self,
+        alloc: Global,
+        spelling: &mut Spelling,
+        document: u32,
+        section: &Entry,
+    ) -> Result<(), Memory>
+        requires { IsSection section.now }
+        ensures { OnOk result (self.new ≡ with_section self.old document section.now) }
+    {
+        spell_section(spelling, section)?;
+        self.sections
+            .put(alloc, &spelling.term, document, &spelling.places)
+    }
+
+    /// An entry of a document comes.
+    fn put_entry(
+        &mut self,
+        alloc: Global,
+        spelling: &mut Spelling,
+        document: u32,
+        entry: &Entry,
+    ) -> Result<(), Memory>
+        requires { IsPosting entry.now }
+        ensures { OnOk result (self.new ≡ with_entry self.old document entry.now) }
+    {
+        if entry.stream == SECTIONS {
+            self.put_section(alloc, spelling, document, entry)
+        } else {
+            self.put_word(alloc, spelling, document, entry)
+        }
+    }
+
+    /// The entries of a document come.
+    fn put_entries(
+        &mut self,
+        alloc: Global,
+        document: u32,
+        entries: Vec<Entry>,
+    ) -> Result<(), Memory>
+        requires { All IsPosting entries.items }
+        ensures { OnOk result (self.new ≡ with_entries self.old document entries.items) }
+    {
+        let mut spelling = Spelling {
+            term: Vec::new(alloc),
+            places: Vec::new(alloc),
+        };
+        for entry in entries {
+            self.put_entry(alloc, &mut spelling, document, &entry)?;
+        }
+        Ok(())
+    }
+
+    /// The words and the sections of a document's text of at most 2^19 bytes come, if it has one.
+    fn put_text(
+        &mut self,
+        alloc: Global,
+        prefs: &Prefs,
+        document: u32,
+        text: Option<Text>,
+    ) -> Result<(), Memory>
+        requires short { IsShortOrNone text }
+        requires set { can_be_set prefs.now.lexer ≡ true }
+        ensures gathers { OnOk result (self.new ≡ with_text prefs.now self.old document text) }
+        ensures grown { OnOk result (AreGathered self.old → AreGathered self.new) }
+    {
+        prefs.keep_rules();
+        let Some(text) = text else {
+            return Ok(());
+        };
+        let document_text = analyse(alloc, prefs, text.as_str())?;
+        let entries = document_text.entries(alloc)?;
+        self.put_entries(alloc, document, entries)
+    }
+
+    /// The words and the sections of a row's text come, of which an index on this target is a copy; the row becomes this document.
+    pub(crate) fn put_row<K: Keeper>(
+        &mut self,
+        alloc: Global,
+        keeper: &mut K,
+        target: &Target,
+        prefs: &Prefs,
+        document: u32,
+        row: RowKey,
+    ) -> Result<(), KeepFault>
+        requires ready { (K.view keeper.old).ready }
+        requires set { can_be_set prefs.now.lexer ≡ true }
+        ensures gathers { ToldTables K.view keeper.old (λ ts. OnOk result (self.new ≡ with_text prefs.now self.old document (target_text ts target.now row.0))) }
+        ensures grown { OnOk result (AreGathered self.old → AreGathered self.new) }
+        ensures reads { OnlyReads K.view keeper.old keeper.new result }
+    {
+        let text = seen_text(alloc, keeper, target, row)?;
+        self.put_text(alloc, prefs, document, text)?;
+        Ok(())
+    }
+
+    /// Adds the changes that put all rows, in the order of their keys.
+    pub(crate) fn into_changes(
+        self,
+        alloc: Global,
+        batch: &mut Batch,
+        index: &Name,
+    ) -> Result<(), Memory>
+        ensures { Adds batch.old batch.new result (gathering_changes index.now self) }
+    {
+        let gathered = self;
+        gathered
+            .words
+            .into_changes(alloc, batch, Kind::Postings, index)?;
+        gathered
+            .sections
+            .into_changes(alloc, batch, Kind::Spans, index)
+    }
+}
+
+/// The text, unless it has over 2^19 bytes.
+fn if_short(text: Option<Text>) -> Option<Text>
+    ensures { result ≡ if_short text }
+{
+    match text {
+        Some(text) if text.as_str().len() <= MOST_BYTES => Some(text),
+        _ => None,
+    }
+}
+
+/// The text of a row that an index on this target sees. One of over 2^19 bytes, which no table has, counts as none.
+fn seen_text<K: Keeper>(
+    alloc: Global,
+    keeper: &mut K,
+    target: &Target,
+    row: RowKey,
+) -> Result<Option<Text>, KeepFault>
+    requires { (K.view keeper.old).ready }
+    ensures text { SeesTables K.view keeper.old result (λ ts text. text ≡ target_text ts target.now row.0) }
+    ensures short { IfOk result (λ text. IsShortOrNone text) }
+    ensures reads { OnlyReads K.view keeper.old keeper.new result }
+{
+    let text = text_of(alloc, keeper, &target.table, target.column, row)?;
+    Ok(if_short(text))
+}

@@ -1,0 +1,11 @@
+use Rattle.std.proofs.Common.{ℕ, Vec, ap, ◌∙◌}
+use Rattle.std.specs.declared.alloc.Global.{Global}
+use Rattle.std.specs.Ordering.{nat_cmp}
+use Rattle.std.specs.Cmp.Lexicographic.{slice_cmp}
+use Rattle.ct_keep.specs.SortedLaws.{seen-none}
+use Rattle.ix_rows.specs.Growing.{Growing}
+use Rattle.ix_rows.specs.RowMaps.{row_map_of}
+use Rattle.ix_rows.proofs.row_maps.TermRows.new.Goals as goal
+
+pub returns : goal.returns
+returns c = ap row_map_of c.new.ensures.empty ∙ seen-none (slice_cmp nat_cmp) (λ (t : Vec ℕ Global). t.items) (λ (g : Growing). g)
