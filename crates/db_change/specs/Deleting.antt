@@ -10,7 +10,8 @@ use Rattle.tb_table.specs.Tables.{Table, without_row}
 use Rattle.tb_table.specs.Spelling.{delete_changes}
 use Rattle.ix_docmap.specs.Changes.{gone_changes}
 use Rattle.ix_docmap.specs.Readings.{document_at}
-use Rattle.ix_context.specs.RowSteps.{tables_after, gone_after}
+use Rattle.ix_kinds.specs.Statements.{tables_after, every, indexes_after}
+use Rattle.ix_indexes.specs.Indexes.{kinds}
 use Rattle.db_cond.specs.Faults.{UnknownName}
 use Rattle.db_cond.specs.Lines.{rows_line}
 use Rattle.db_rows.specs.Checking.{check_conds}
@@ -23,7 +24,7 @@ use Rattle.db_state.specs.Effects.{Effect, Does, with_found}
 abbrev pub without_rows : StoreState → List ℕ → List ℤ → StoreState
 without_rows m t rows = record m {
   tables = tables_after (λ ts r. without_row ts t r) m.tables rows;
-  indexes = gone_after (λ ts r. without_row ts t r) m.tables m.indexes t rows;
+  indexes = indexes_after kinds (every kinds) (λ ts r. without_row ts t r) m.tables t rows m.indexes;
 }
 
 abbrev pub rows_deleted : ℕ → List ℕ

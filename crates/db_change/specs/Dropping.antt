@@ -10,9 +10,9 @@ use Rattle.ct_entry.specs.Keys.{Key}
 use Rattle.ct_entry.specs.Changes.{spell}
 use Rattle.tb_table.specs.Tables.{Table, without_table}
 use Rattle.tb_table.specs.Spelling.{remove_changes}
-use Rattle.ix_context.specs.Promises.{AreIndexesOn}
+use Rattle.ix_kinds.specs.Statements.{every, AreIndexesOn, without_indexes_on}
+use Rattle.ix_indexes.specs.Indexes.{kinds}
 use Rattle.ix_context.specs.Removing.{remove_all_changes}
-use Rattle.ix_context.specs.Drops.{without_indexes_on}
 use Rattle.db_cond.specs.Faults.{UnknownName}
 use Rattle.db_state.specs.States.{StoreState, empty_state}
 use Rattle.db_state.specs.Effects.{Effect, Does, Refused, with_found}
@@ -36,7 +36,7 @@ drop_table_changes t c names = remove_changes t c ++ remove_all_changes c names
 -- The batch removes the table, and with it each index on it.
 pub record DropsTable (m : StoreState) (c : Content) (t : List ℕ) (batch : List (List ℕ × Option (List ℕ))) : Type 0 where
   pub names : List (List ℕ)
-  pub are : AreIndexesOn m.indexes t names
+  pub are : AreIndexesOn kinds (every kinds) m.indexes t names
   pub is : batch ≡ spell (drop_table_changes t c names)
 
 -- computed examples: a table without indexes goes alone, and in the empty state there is nothing to drop

@@ -18,7 +18,9 @@ use Rattle.tb_table.specs.declared.columns.Column.{Column}
 use Rattle.tb_table.specs.Shapes.{text_entry_limit}
 use Rattle.tb_table.specs.Tables.{Table, numbers_of, texts_of, with_row}
 use Rattle.ct_base.specs.Limits.{row_limit, text_limit}
-use Rattle.ix_context.specs.Indexes.{noted_on}
+use Rattle.ix_kinds.specs.Rows.{row_change}
+use Rattle.ix_kinds.specs.Statements.{every, indexes_after_row}
+use Rattle.ix_indexes.specs.Indexes.{kinds}
 use Rattle.ix_context.specs.Changes.{note_insert_changes}
 use Rattle.db_cond.specs.Faults.{UnknownName, WrongValues, KeyExists, ValueTooLong, OutOfRange, LimitReached}
 use Rattle.ct_keep.specs.declared.keepers.KeepFault.{KeepFault}
@@ -162,9 +164,9 @@ check_row_values taken many columns values done =
 abbrev pub row_created : List ℕ
 row_created = codes "1 row created.\n"
 
--- the table has the row, and each index on the table has it among those that wait
+-- the table has the row, and each index on the table has been told of it
 abbrev pub with_new_row : StoreState → List ℕ → ℤ → List Value → StoreState
-with_new_row m t r vs = record m { tables = with_row m.tables t r vs; indexes = noted_on m.indexes t r }
+with_new_row m t r vs = record m { tables = with_row m.tables t r vs; indexes = indexes_after_row kinds (every kinds) t (row_change m.tables (with_row m.tables t r vs) t r) m.indexes }
 
 abbrev pub insert_row : StoreState → List ℕ → List Operand → ℤ → Effect
 insert_row m t values r = Does (with_new_row m t r (others_kept values)) row_created

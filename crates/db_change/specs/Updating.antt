@@ -23,7 +23,9 @@ use Rattle.tb_table.specs.Tables.{Table, Tables, numbers_of, with_row}
 use Rattle.tb_table.specs.Spelling.{insert_changes}
 use Rattle.ix_docmap.specs.Changes.{changed_changes}
 use Rattle.ix_docmap.specs.Readings.{document_at}
-use Rattle.ix_context.specs.RowSteps.{is_column, tables_after, changed_after}
+use Rattle.ix_kinds.specs.Statements.{tables_after, looks_at_any, indexes_after}
+use Rattle.ix_kinds.specs.RowSteps.{is_column}
+use Rattle.ix_indexes.specs.Indexes.{kinds}
 use Rattle.db_names.specs.declared.heads.IndexHead.{IndexHead}
 use Rattle.db_names.specs.Promises.{heads_of}
 use Rattle.db_state.specs.laws.Heads.{heads}
@@ -98,11 +100,11 @@ check_update columns assigns conds done =
 abbrev pub row_updated : List ℕ → List Column → List Assign → Tables → ℤ → Tables
 row_updated t columns assigns ts r = with_row ts t r (updated_values (others columns) assigns (row_values ts t r))
 
--- Each of these rows has the values after, and waits in each index on a column that is set, also where its text is the same as before.
+-- Each of these rows has the values after, and each index that looks at a column that is set is told of it, also where its value is the same as before.
 abbrev pub with_updates : StoreState → List ℕ → List Column → List Assign → List ℤ → StoreState
 with_updates m t columns assigns rows = record m {
   tables = tables_after (row_updated t columns assigns) m.tables rows;
-  indexes = changed_after (row_updated t columns assigns) m.tables m.indexes t (places_set columns assigns) rows;
+  indexes = indexes_after kinds (looks_at_any kinds (places_set columns assigns)) (row_updated t columns assigns) m.tables t rows m.indexes;
 }
 
 abbrev pub rows_updated : ℕ → List ℕ

@@ -13,7 +13,7 @@ ghost use Rattle.ix_docmap.specs.Changes.{changed_changes};
 ghost use Rattle.ix_docmap.specs.Readings.{document_at};
 ghost use Rattle.ix_context.specs.Changes.{Adds};
 ghost use Rattle.ix_context.specs.Faults.{keeper_fault};
-ghost use Rattle.ix_context.specs.RowSteps.{is_column};
+ghost use Rattle.ix_kinds.specs.RowSteps.{is_column};
 ghost use Rattle.ix_context.specs.Shapes.{HasIndexValue, KeepsShape};
 ghost use Rattle.tb_table.specs.Rules.{others};
 ghost use Rattle.tb_table.specs.Shapes.{HasTableValue};

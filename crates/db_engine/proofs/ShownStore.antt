@@ -1,6 +1,6 @@
 -- The store that docs/STORE.md shows stands for its state, by the laws of the five statements that lead there.
 use Rattle.std.proofs.Common.{◌≡◌, ℕ, ℤ, pos, negsuc, ◌<◌, ◌+◌, Bool, true, false, List, [], ◌∷◌, ◌++◌, length, map, Option, Some, None, refl, sym, ap, subst, ◌∙◌, arith}
-use Rattle.std.specs.Prelude.{◌||◌, ◌==◌, ◌&&◌, nat_le, nat_lt, is_some, filter, codes, sum_by, T}
+use Rattle.std.specs.Prelude.{◌||◌, ◌==◌, ◌&&◌, not, nat_le, nat_lt, is_some, filter, codes, sum_by, T}
 use Rattle.std.specs.List.{list_any}
 use Rattle.std.specs.Int.{to_be_bytes, w32}
 use Rattle.std.specs.Option.{option_and_then}
@@ -19,15 +19,17 @@ use Rattle.ct_bytes.specs.RowKeys.{row_bytes}
 use Rattle.ct_bytes.specs.Varints.{varint}
 use Rattle.ct_keep.specs.Content.{Content, after, entry_weight, weight}
 use Rattle.ct_keep.specs.Laws.{applied, entries-after}
+use Rattle.ct_entry.specs.declared.kinds.Kind.{Kind}
 use Rattle.ct_entry.specs.declared.kinds.Kind.TheVariants as kind
 use Rattle.ct_entry.specs.Keys.{key, same_list, row_part, document_part, IsRow}
 use Rattle.ct_entry.specs.Maps.{Names, Rows, altered}
 use Rattle.ct_entry.specs.Changes.{KeyChange, spell, put_value, drop_key}
 use Rattle.ct_entry.specs.Listings.{key_order}
 use Rattle.ct_entry.specs.laws.Owners.{key_order_total}
-use Rattle.tb_table.specs.Tables.{Table, Tables, docs_columns, keys_in, row_in, text_in_column, with_table, with_row}
+use Rattle.tb_table.specs.Tables.{Table, Tables, docs_columns, row_in, row_at, text_in_column, with_table, with_row}
 use Rattle.tb_table.specs.Spelling.{table_changes}
 use Rattle.tb_table.specs.Rules.{FitColumns, others}
+use Rattle.tb_table.specs.laws.Changes.{row_at-with_row}
 use Rattle.tx_document.specs.declared.entries.Entry.{Entry}
 use Rattle.tx_settings.specs.laws.Settable.{defaults_can_be_set}
 use Rattle.tx_settings.specs.Defaults.{default_prefs}
@@ -36,13 +38,26 @@ use Rattle.tx_document.specs.Entries.{entry}
 use Rattle.tx_settings.specs.PrefsBytes.{IsPrefs}
 use Rattle.ix_rows.specs.Stores.{Untidy}
 use Rattle.ix_docmap.specs.Marks.{Mark, Pending, Settled}
-use Rattle.ix_context.specs.Indexes.{Index, Part, OfContext, in_queue, pending_rows, text_seen, is_key_in, rows_in, made, created_body, all_settled, created, with_index, waiting_on, noted_on, synced_index, synced}
+use Rattle.ix_kinds.specs.Rows.{RowChange, table_or_none, table_at, row_change}
+use Rattle.ix_kinds.specs.Statements.{every, after_row_on, indexes_after_row, index_after_sync, indexes_after_sync, new_index, with_index}
+use Rattle.ix_kinds.specs.laws.Tables.{row_now}
+use Rattle.ix_context.specs.Indexes.{Part, in_queue, is_key_in, made, no_part, settled_rows, all_settled}
 use Rattle.ct_entry.specs.Listings.{keys_where}
-use Rattle.ix_context.specs.Changes.{entry_change, document_changes, mark_with, sync_rows_changes, sync_changes, create_changes}
+use Rattle.ix_rows.specs.PlaceBytes.{position_bytes}
+use Rattle.ix_rows.specs.Growing.{Growing, nothing_yet, grown, grown_rows}
+use Rattle.ix_rows.specs.RowMaps.{RowMap, or_nothing, with_posting, row_changes, row_map_changes}
+use Rattle.ix_rows.specs.Spelling.{row_key}
+use Rattle.ix_rows.specs.WordRows.{word_term}
+use Rattle.ix_context.specs.Changes.{mark_rows_with, postings_changes}
+use Rattle.ix_context.specs.Documents.{postings_by}
+use Rattle.ix_context.specs.Gathering.{nothing_gathered, with_text, with_entries, gathering_changes}
+use Rattle.ix_context.specs.laws.Gathered.{gathered_postings}
 use Rattle.ix_context.specs.Postings.{fox_and_quick}
 use Rattle.ix_context.specs.Rules.{most_given}
-use Rattle.ix_context.specs.Spelling.{index_bytes, index_entry}
-use Rattle.ct_entry.specs.Each.{each, numbered}
+use Rattle.ix_context.specs.Spelling.{index_bytes}
+use Rattle.ix_indexes.specs.Contexts.{texts_in, rows_within, context_entry, context_synced, context_sync_changes}
+use Rattle.ix_indexes.specs.Indexes.{Index, kinds, pending_rows}
+use Rattle.ct_entry.specs.Each.{each}
 use Rattle.st_parse.specs.declared.statements.Arg.TheVariants.{Text as TextArg}
 use Rattle.st_parse.specs.declared.statements.Operand.{Operand}
 use Rattle.st_parse.specs.declared.statements.Statement.TheVariants.{Insert}
@@ -108,7 +123,7 @@ abbrev part_with : ℕ → Part
 part_with given = record { given = given; tidiness = Untidy; waste = 0 }
 
 abbrev context_of : Part → Rows Its → Index
-context_of part marks = record { table = docs; column = 1; prefs = default_prefs; body = OfContext (record { part = part; marks = marks }) }
+context_of part marks = record { table = docs; column = 1; prefs = default_prefs; body = record { part = part; marks = marks } }
 
 abbrev index_of : ℕ → Rows Its → Index
 index_of given marks = context_of (part_with given) marks
@@ -130,6 +145,9 @@ without_index = record { tables = tables_with []; indexes = empty; preferences =
 
 table_there : (rows : List (ℤ × List Value)) → get (tables_with rows) docs ≡ Some (table_with rows)
 table_there rows = get-from_sorted (slice_cmp nat_cmp) ((docs, table_with rows) ∷ []) docs tt
+
+the_table : (rows : List (ℤ × List Value)) → table_at (tables_with rows) docs ≡ table_with rows
+the_table rows = ap table_or_none (table_there rows)
 
 index_there : (given : ℕ) (marks : List (ℤ × Its)) → get (indexes_with given marks) di ≡ Some (index_with given marks)
 index_there given marks = get-from_sorted (slice_cmp nat_cmp) ((di, index_with given marks) ∷ []) di tt
@@ -170,9 +188,9 @@ first_stands = subst (λ (ts : Tables). StandsForState first (record { tables = 
 
 -- ---- CREATE INDEX di ON docs(body)
 
-no_row_yet : rows_in (tables_with []) docs all_rows ≡ []
+no_row_yet : rows_within (table_at (tables_with []) docs) all_rows ≡ []
 no_row_yet =
-    ap (λ (o : Option Table). filter (is_key_in all_rows) (keys_in o)) (table_there [])
+    ap (λ (x : Table). rows_within x all_rows) (the_table [])
     ∙ ap (λ (es : List (ℤ × List Value)). filter (is_key_in all_rows) (map (λ e. e.0) es)) (entries-from_sorted int_cmp [] tt)
 
 index_free : IsFreeIndex without_index di docs (table_with []) 1
@@ -184,24 +202,39 @@ index_free = record {
   texts = refl;
   few =
       ap (λ (es : List (List ℕ × Index)). nat_le index_limit (length (filter (λ (e : List ℕ × Index). same_list e.1.table docs) es)) || has_too_many_rows without_index docs) (nothing (slice_cmp nat_cmp) nat_list_cmp_total)
-      ∙ ap (λ (rs : List ℤ). nat_lt most_given (length rs)) no_row_yet;
+      ∙ ap (λ (rs : List ℤ). not (nat_le (length rs) most_given)) no_row_yet;
 }
 
 abbrev settling : List ℤ → Index
-settling rows = record { table = docs; column = 1; prefs = default_prefs; body = created_body rows }
+settling rows = context_of (made (length rows) no_part) (settled_rows rows)
 
-indexes_created : with_index (tables_with []) empty di (target docs 1) default_prefs all_rows ≡ indexes_with 0 []
+indexes_created : with_index kinds all_rows tt (tables_with []) di (target docs 1) default_prefs empty ≡ indexes_with 0 []
 indexes_created =
-    insert_is (slice_cmp nat_cmp) nat_list_cmp_total empty di (created (tables_with []) (target docs 1) default_prefs all_rows) [] (nothing (slice_cmp nat_cmp) nat_list_cmp_total) tt
+    insert_is (slice_cmp nat_cmp) nat_list_cmp_total empty di (new_index kinds all_rows tt (tables_with []) (target docs 1) default_prefs) [] (nothing (slice_cmp nat_cmp) nat_list_cmp_total) tt
     ∙ ap (λ (rows : List ℤ). indexes_of (settling rows)) no_row_yet
     ∙ ap (λ (marks : Rows Its). indexes_of (index_of 0 marks)) (no_rows Its)
 
 abbrev second_changes : List KeyChange
 second_changes = put_value (key kind.Indexes di []) (index_bytes docs 1 default_prefs 1) ∷ []
 
-second_are : create_changes (tables_with []) di (target docs 1) default_prefs all_rows ≡ second_changes
+-- what a term's rows are put as
+abbrev its_rows : Kind → List ℕ × Growing → List KeyChange
+its_rows k e = row_changes k di e.0 (grown_rows e.1)
+
+-- no postings are put where there are no rows
+abbrev texts_then : ℤ → Option (List ℕ)
+texts_then = texts_in (table_at (tables_with []) docs) 1
+
+no_postings : postings_changes di (postings_by default_prefs texts_then) 1 [] ≡ []
+no_postings =
+    sym (gathered_postings default_prefs texts_then di 0 [] (omega arith))
+    ∙ ap (λ (es : List (List ℕ × Growing)). each (its_rows kind.Postings) es ++ row_map_changes kind.Spans di empty) (nothing (slice_cmp nat_cmp) nat_list_cmp_total)
+    ∙ ap (λ (es : List (List ℕ × Growing)). each (its_rows kind.Spans) es) (nothing (slice_cmp nat_cmp) nat_list_cmp_total)
+
+second_are : kinds.create_changes all_rows tt (table_at (tables_with []) docs) di (target docs 1) default_prefs ≡ second_changes
 second_are =
-    ap (λ (rows : List ℤ). put_value (key kind.Indexes di []) (index_entry (settling rows)) ∷ each (mark_with default_prefs di (text_seen (tables_with []) (created (tables_with []) (target docs 1) default_prefs all_rows))) (numbered 1 rows)) no_row_yet
+    ap (λ (rows : List ℤ). put_value (key kind.Indexes di []) (context_entry (settling rows)) ∷ (mark_rows_with di 1 rows ++ postings_changes di (postings_by default_prefs texts_then) 1 rows)) no_row_yet
+    ∙ ap (λ (ws : List KeyChange). put_value (key kind.Indexes di []) (context_entry (settling [])) ∷ ws) no_postings
 
 abbrev second : Content
 second = after (spell second_changes) first
@@ -212,7 +245,7 @@ the_defaults_are = record { lexer = refl; can_be = defaults_can_be_set; stop = r
 second_stands : StandsForState second (state_with [] 0 [])
 second_stands =
     subst (λ (ws : List KeyChange). StandsForState (after (spell ws) first) (state_with [] 0 [])) second_are
-    (subst (λ (xs : Names Index). StandsForState (after (spell (create_changes (tables_with []) di (target docs 1) default_prefs all_rows)) first) (record { tables = tables_with []; indexes = xs; preferences = no_preferences })) indexes_created
+    (subst (λ (xs : Names Index). StandsForState (after (spell (kinds.create_changes all_rows tt (table_at (tables_with []) docs) di (target docs 1) default_prefs)) first) (record { tables = tables_with []; indexes = xs; preferences = no_preferences })) indexes_created
     (new_index_stands first without_index di docs (table_with []) 1 default_prefs first_stands di_name the_defaults_are index_free))
 
 -- ---- INSERT INTO docs
@@ -228,23 +261,35 @@ its_names given marks =
     (ap (λ (es : List (List ℕ × IndexHead)). entries (from_entries {R = key_order} es)) listed ∙ entries-from_rising key_order key_order_total (head ∷ []) refl)
 
 module _ (rows : List (ℤ × List Value)) (given : ℕ) (marks : List (ℤ × Its)) (r : ℤ) (vs : List Value) (rows_rise : T (is_sorted int_cmp rows)) (marks_rise : T (is_sorted int_cmp marks))
-    (then_rows : T (is_sorted int_cmp (put_pair int_cmp r vs rows))) (then_marks : T (is_sorted int_cmp (put_pair int_cmp r Pending marks))) where
+    (then_rows : T (is_sorted int_cmp (put_pair int_cmp r vs rows))) (then_marks : T (is_sorted int_cmp (put_pair int_cmp r Pending marks))) (free : find int_cmp r rows ≡ None) where
   tables_with_row : with_row (tables_with rows) docs r vs ≡ tables_with (put_pair int_cmp r vs rows)
   tables_with_row =
       ap (altered (tables_with rows) docs (λ (x : Table). record x { rows = insert x.rows r vs })) (table_there rows)
       ∙ insert_is (slice_cmp nat_cmp) nat_list_cmp_total (tables_with rows) docs (table_of (insert (from_sorted rows) r vs)) ((docs, table_with rows) ∷ []) (entries-from_sorted (slice_cmp nat_cmp) ((docs, table_with rows) ∷ []) tt) tt
       ∙ ap tables_of (insert_is int_cmp int_cmp_total (from_sorted rows) r vs rows (entries-from_sorted int_cmp rows rows_rise) then_rows)
 
-  indexes_with_note : noted_on (indexes_with given marks) docs r ≡ indexes_with given (put_pair int_cmp r Pending marks)
+  -- what INSERT does to the row: it comes
+  abbrev came : RowChange
+  came = record { row = r; old = None; new = Some vs }
+
+  it_came : row_change (tables_with rows) (with_row (tables_with rows) docs r vs) docs r ≡ came
+  it_came =
+      let was : row_at (tables_with rows) docs r ≡ None = ap (λ (o : Option Table). row_in o r) (table_there rows) ∙ (get-from_sorted int_cmp rows r rows_rise ∙ free) in
+      let is : row_at (with_row (tables_with rows) docs r vs) docs r ≡ Some vs = row_now (tables_with rows) (with_row (tables_with rows) docs r vs) docs r (Some vs) (λ q s. row_at-with_row (tables_with rows) docs r vs (table_with rows) (table_there rows) q s) in
+      λ i. record { row = r; old = was i; new = is i }
+
+  indexes_with_note : indexes_after_row kinds (every kinds) docs (row_change (tables_with rows) (with_row (tables_with rows) docs r vs) docs r) (indexes_with given marks) ≡ indexes_with given (put_pair int_cmp r Pending marks)
   indexes_with_note =
-      map_is (slice_cmp nat_cmp) nat_list_cmp_total (noted_on (indexes_with given marks) docs r) ((di, index_of given (insert (from_sorted marks) r Pending)) ∷ []) tt
-      (entries-each_value (slice_cmp nat_cmp) (waiting_on docs r) nat_list_cmp_total (indexes_with given marks)
-      ∙ ap (map {B = List ℕ × Index} (λ (e : List ℕ × Index). (e.0, waiting_on docs r e.1))) (entries-from_sorted (slice_cmp nat_cmp) ((di, index_with given marks) ∷ []) tt))
+      let noted : List ℕ × Index = (di, index_of given (insert (from_sorted marks) r Pending)) in
+      ap (λ (c : RowChange). indexes_after_row kinds (every kinds) docs c (indexes_with given marks)) it_came
+      ∙ map_is (slice_cmp nat_cmp) nat_list_cmp_total (indexes_after_row kinds (every kinds) docs came (indexes_with given marks)) (noted ∷ []) tt
+      (ap (λ (es : List (List ℕ × Index)). entries (from_entries {R = slice_cmp nat_cmp} (map {B = List ℕ × Index} (λ (e : List ℕ × Index). (e.0, after_row_on kinds (every kinds) docs came e.0 e.1)) es))) (entries-from_sorted (slice_cmp nat_cmp) ((di, index_with given marks) ∷ []) tt)
+      ∙ entries-from_rising (slice_cmp nat_cmp) nat_list_cmp_total (noted ∷ []) refl)
       ∙ ap (λ (ms : Rows Its). indexes_of (index_of given ms)) (insert_is int_cmp int_cmp_total (from_sorted marks) r Pending marks (entries-from_sorted int_cmp marks marks_rise) then_marks)
 
-  row_stands : (c : Content) → StandsForState c (state_with rows given marks) → find int_cmp r rows ≡ None → IsRow r → FitColumns (others docs_columns) vs → length rows < 100000
+  row_stands : (c : Content) → StandsForState c (state_with rows given marks) → IsRow r → FitColumns (others docs_columns) vs → length rows < 100000
       → StandsForState (after (spell (new_row_changes docs r vs (di ∷ []))) c) (state_with (put_pair int_cmp r vs rows) given (put_pair int_cmp r Pending marks))
-  row_stands c stands free row fit few =
+  row_stands c stands row fit few =
       let m = state_with rows given marks in
       let count : length (entries (table_with rows).rows) ≡ length rows = ap length (entries-from_sorted int_cmp rows rows_rise) in
       subst (λ (names : List (List ℕ)). StandsForState (after (spell (new_row_changes docs r vs names)) c) (state_with (put_pair int_cmp r vs rows) given (put_pair int_cmp r Pending marks))) (its_names given marks)
@@ -270,7 +315,7 @@ abbrev third : Content
 third = after (spell (new_row_changes docs (pos 1) row_one (di ∷ []))) second
 
 third_stands : StandsForState third (state_with ((pos 1, row_one) ∷ []) 0 ((pos 1, Pending) ∷ []))
-third_stands = row_stands [] 0 [] (pos 1) row_one tt tt tt tt second second_stands refl (omega arith) one_fits (omega arith)
+third_stands = row_stands [] 0 [] (pos 1) row_one tt tt tt tt refl second second_stands (omega arith) one_fits (omega arith)
 
 -- ---- EXEC CTX_DDL.SYNC_INDEX('di')
 
@@ -283,9 +328,12 @@ waiting = index_with 0 ((pos 1, Pending) ∷ [])
 one_waits : pending_rows waiting ≡ pos 1 ∷ []
 one_waits = ap (λ (es : List (ℤ × Its)). keys_where in_queue es) (entries-from_sorted int_cmp ((pos 1, Pending) ∷ []) tt)
 
-its_text : text_seen (tables_with one_row) waiting (pos 1) ≡ Some (codes "quick fox quick")
+abbrev its_texts : ℤ → Option (List ℕ)
+its_texts = texts_in (table_at (tables_with one_row) docs) 1
+
+its_text : its_texts (pos 1) ≡ Some (codes "quick fox quick")
 its_text =
-    ap (λ (o : Option Table). option_and_then (λ vs. text_in_column vs 1) (row_in o (pos 1))) (table_there one_row)
+    ap (λ (x : Table). texts_in x 1 (pos 1)) (the_table one_row)
     ∙ ap (λ (o : Option (List Value)). option_and_then (λ vs. text_in_column vs 1) o) (get-from_sorted int_cmp one_row (pos 1) tt)
 
 abbrev settled_first : List KeyChange
@@ -298,26 +346,66 @@ fox = entry 0 (codes "fox") (pair 2 2 ∷ [])
 abbrev quick : Entry
 quick = entry 0 (codes "quick") (pair 1 1 ∷ pair 3 3 ∷ [])
 
-abbrev fourth_changes : List KeyChange
-fourth_changes =
-    settled_first ++ entry_change di 1 fox ∷ entry_change di 1 quick ∷ put_value (key kind.Indexes di []) (index_bytes docs 1 default_prefs 2) ∷ []
+abbrev fox_term : List ℕ
+fox_term = word_term 0 (codes "fox")
 
-fourth_are : sync_changes (tables_with one_row) di waiting ≡ fourth_changes
+abbrev quick_term : List ℕ
+quick_term = word_term 0 (codes "quick")
+
+abbrev fox_rows : Growing
+fox_rows = grown nothing_yet 1 (position_bytes (2 ∷ []))
+
+abbrev quick_rows : Growing
+quick_rows = grown nothing_yet 1 (position_bytes (1 ∷ 3 ∷ []))
+
+-- the keys of the text in order, each with its rows
+abbrev found_rows : List (List ℕ × Growing)
+found_rows = (fox_term, fox_rows) ∷ (quick_term, quick_rows) ∷ []
+
+its_words : with_posting (with_posting empty fox_term 1 (position_bytes (2 ∷ []))) quick_term 1 (position_bytes (1 ∷ 3 ∷ [])) ≡ from_sorted found_rows
+unfolding varint
+its_words =
+    ap (λ (o : Option Growing). with_posting (insert empty fox_term (grown (or_nothing o) 1 (position_bytes (2 ∷ [])))) quick_term 1 (position_bytes (1 ∷ 3 ∷ []))) (get-empty (slice_cmp nat_cmp) fox_term)
+    ∙ ap (λ (m : RowMap). with_posting m quick_term 1 (position_bytes (1 ∷ 3 ∷ []))) (insert_is (slice_cmp nat_cmp) nat_list_cmp_total empty fox_term fox_rows [] (nothing (slice_cmp nat_cmp) nat_list_cmp_total) tt)
+    ∙ ap (λ (o : Option Growing). insert (from_sorted ((fox_term, fox_rows) ∷ [])) quick_term (grown (or_nothing o) 1 (position_bytes (1 ∷ 3 ∷ [])))) (get-from_sorted (slice_cmp nat_cmp) ((fox_term, fox_rows) ∷ []) quick_term tt)
+    ∙ insert_is (slice_cmp nat_cmp) nat_list_cmp_total (from_sorted ((fox_term, fox_rows) ∷ [])) quick_term quick_rows ((fox_term, fox_rows) ∷ []) (entries-from_sorted (slice_cmp nat_cmp) ((fox_term, fox_rows) ∷ []) tt) tt
+
+abbrev put_words : List KeyChange
+put_words = put_value (key kind.Postings di (row_key fox_term 1)) (1 ∷ 1 ∷ 1 ∷ 2 ∷ []) ∷ put_value (key kind.Postings di (row_key quick_term 1)) (1 ∷ 1 ∷ 2 ∷ 1 ∷ 2 ∷ []) ∷ []
+
+words_are_put : gathering_changes di (with_entries nothing_gathered 1 (fox ∷ quick ∷ [])) ≡ put_words
+unfolding varint
+words_are_put =
+    ap (λ (m : RowMap). row_map_changes kind.Postings di m ++ row_map_changes kind.Spans di empty) its_words
+    ∙ ap (λ (es : List (List ℕ × Growing)). each (its_rows kind.Postings) es ++ row_map_changes kind.Spans di empty) (entries-from_sorted (slice_cmp nat_cmp) found_rows tt)
+    ∙ ap (λ (es : List (List ℕ × Growing)). each (its_rows kind.Postings) found_rows ++ each (its_rows kind.Spans) es) (nothing (slice_cmp nat_cmp) nat_list_cmp_total)
+
+postings_are : postings_changes di (postings_by default_prefs its_texts) 1 (pos 1 ∷ []) ≡ put_words
+postings_are =
+    sym (gathered_postings default_prefs its_texts di 0 (pos 1 ∷ []) (omega arith))
+    ∙ ap (λ (o : Option (List ℕ)). gathering_changes di (with_text default_prefs nothing_gathered 1 o)) its_text
+    ∙ ap (λ (es : List Entry). gathering_changes di (with_entries nothing_gathered 1 es)) fox_and_quick
+    ∙ words_are_put
+
+abbrev fourth_changes : List KeyChange
+fourth_changes = (settled_first ++ put_words) ++ put_value (key kind.Indexes di []) (index_bytes docs 1 default_prefs 2) ∷ []
+
+fourth_are : kinds.sync_changes tt (table_at (tables_with one_row) docs) di waiting ≡ fourth_changes
 fourth_are =
-    ap (sync_rows_changes (tables_with one_row) di waiting) one_waits
-    ∙ ap (λ (o : Option (List ℕ)). ((drop_key (key kind.Pending di (row_part (pos 1))) ∷ document_changes default_prefs di 1 (pos 1) o) ++ []) ++ put_value (key kind.Indexes di []) (index_entry (synced_index waiting)) ∷ []) its_text
-    ∙ ap (λ (es : List Entry). ((settled_first ++ map (entry_change di 1) es) ++ []) ++ put_value (key kind.Indexes di []) (index_entry (synced_index waiting)) ∷ []) fox_and_quick
-    ∙ ap (λ (rs : List ℤ). (settled_first ++ entry_change di 1 fox ∷ entry_change di 1 quick ∷ []) ++ put_value (key kind.Indexes di []) (index_bytes docs 1 default_prefs ((made (length rs) (part_with 0)).given + 1)) ∷ []) one_waits
+    ap (context_sync_changes di waiting its_texts) one_waits
+    ∙ ap (λ (ws : List KeyChange). (settled_first ++ ws) ++ put_value (key kind.Indexes di []) (context_entry (record waiting { body = context_synced waiting.body })) ∷ []) postings_are
+    ∙ ap (λ (rs : List ℤ). (settled_first ++ put_words) ++ put_value (key kind.Indexes di []) (index_bytes docs 1 default_prefs ((made (length rs) (part_with 0)).given + 1)) ∷ []) one_waits
 
 few_enough : has_too_many waiting ≡ false
-few_enough = ap (λ (rs : List ℤ). nat_lt most_given (0 + length rs)) one_waits
+few_enough = ap (λ (rs : List ℤ). not (nat_le (0 + length rs) most_given)) one_waits
 
-indexes_synced : synced (indexes_with 0 ((pos 1, Pending) ∷ [])) di ≡ indexes_with 1 ((pos 1, Settled tt) ∷ [])
+indexes_synced : indexes_after_sync kinds tt (tables_with one_row) di (indexes_with 0 ((pos 1, Pending) ∷ [])) ≡ indexes_with 1 ((pos 1, Settled tt) ∷ [])
 indexes_synced =
     let marks : Rows Its = from_sorted ((pos 1, Pending) ∷ []) in
     let all : Rows Its = all_settled marks in
-    ap (altered (indexes_with 0 ((pos 1, Pending) ∷ [])) di synced_index) (index_there 0 ((pos 1, Pending) ∷ []))
-    ∙ insert_is (slice_cmp nat_cmp) nat_list_cmp_total (indexes_with 0 ((pos 1, Pending) ∷ [])) di (synced_index waiting) ((di, waiting) ∷ []) (entries-from_sorted (slice_cmp nat_cmp) ((di, waiting) ∷ []) tt) tt
+    let change : Index → Index = index_after_sync kinds tt (tables_with one_row) in
+    ap (altered (indexes_with 0 ((pos 1, Pending) ∷ [])) di change) (index_there 0 ((pos 1, Pending) ∷ []))
+    ∙ insert_is (slice_cmp nat_cmp) nat_list_cmp_total (indexes_with 0 ((pos 1, Pending) ∷ [])) di (change waiting) ((di, waiting) ∷ []) (entries-from_sorted (slice_cmp nat_cmp) ((di, waiting) ∷ []) tt) tt
     ∙ ap (λ (rs : List ℤ). indexes_of (context_of (made (length rs) (part_with 0)) all)) one_waits
     ∙ ap (λ (ms : Rows Its). indexes_of (index_of 1 ms))
     (map_is int_cmp int_cmp_total all ((pos 1, Settled tt) ∷ []) tt
@@ -329,7 +417,7 @@ fourth = after (spell fourth_changes) third
 fourth_stands : StandsForState fourth (state_with one_row 1 ((pos 1, Settled tt) ∷ []))
 fourth_stands =
     subst (λ (ws : List KeyChange). StandsForState (after (spell ws) third) (state_with one_row 1 ((pos 1, Settled tt) ∷ []))) fourth_are
-    (subst (λ (xs : Names Index). StandsForState (after (spell (sync_changes (tables_with one_row) di waiting)) third) (record { tables = tables_with one_row; indexes = xs; preferences = no_preferences })) indexes_synced
+    (subst (λ (xs : Names Index). StandsForState (after (spell (kinds.sync_changes tt (table_at (tables_with one_row) docs) di waiting)) third) (record { tables = tables_with one_row; indexes = xs; preferences = no_preferences })) indexes_synced
     (synced_stands third (state_with one_row 0 ((pos 1, Pending) ∷ [])) di waiting third_stands (index_there 0 ((pos 1, Pending) ∷ [])) few_enough))
 
 -- ---- INSERT INTO docs once more
@@ -338,7 +426,7 @@ abbrev fifth : Content
 fifth = after (spell (new_row_changes docs (pos 2) row_two (di ∷ []))) fourth
 
 fifth_stands : StandsForState fifth shown_state
-fifth_stands = row_stands one_row 1 ((pos 1, Settled tt) ∷ []) (pos 2) row_two tt tt tt tt fourth fourth_stands refl (omega arith) two_fits (omega arith)
+fifth_stands = row_stands one_row 1 ((pos 1, Settled tt) ∷ []) (pos 2) row_two tt tt tt tt refl fourth fourth_stands (omega arith) two_fits (omega arith)
 
 -- ---- the entries then
 
@@ -368,13 +456,14 @@ index_is_created =
     ∙ ap (λ (xs : Names Index). Does (record { tables = tables_with []; indexes = xs; preferences = no_preferences }) index_created) indexes_created
 
 module _ (rows : List (ℤ × List Value)) (given : ℕ) (marks : List (ℤ × Its)) (r : ℤ) (values : List Operand) (rows_rise : T (is_sorted int_cmp rows)) (marks_rise : T (is_sorted int_cmp marks))
-    (then_rows : T (is_sorted int_cmp (put_pair int_cmp r (others_kept values) rows))) (then_marks : T (is_sorted int_cmp (put_pair int_cmp r Pending marks))) where
-  row_is_inserted : key_in values ≡ Some r → find int_cmp r rows ≡ None → nat_le row_limit (length rows) ≡ false
+    (then_rows : T (is_sorted int_cmp (put_pair int_cmp r (others_kept values) rows))) (then_marks : T (is_sorted int_cmp (put_pair int_cmp r Pending marks))) (free : find int_cmp r rows ≡ None) where
+  row_is_inserted : key_in values ≡ Some r → nat_le row_limit (length rows) ≡ false
       → ((done : Effect) → check_list docs_columns None values done ≡ done) → ((done : Effect) → check_row_values false false docs_columns values done ≡ done)
       → effect (state_with rows given marks) (Insert docs None values) ≡ Does (state_with (put_pair int_cmp r (others_kept values) rows) given (put_pair int_cmp r Pending marks)) row_created
-  row_is_inserted key free few listed checked =
+  row_is_inserted key few listed checked =
       let m = state_with rows given marks in
       let x = table_with rows in
+      let us = with_row (tables_with rows) docs r (others_kept values) in
       let done = insert_row m docs values r in
       ap (λ (o : Option Table). with_found o (UnknownName docs) (λ (x : Table). check_list x.columns None values (insert_values m docs x (arranged None x.columns values)))) (table_there rows)
       ∙ listed (insert_values m docs x values)
@@ -383,8 +472,8 @@ module _ (rows : List (ℤ × List Value)) (given : ℕ) (marks : List (ℤ × I
       ∙ ap (λ (es : List (ℤ × List Value)). check_row_values false (nat_le row_limit (length es)) docs_columns values done) (entries-from_sorted int_cmp rows rows_rise)
       ∙ ap (λ (b : Bool). check_row_values false b docs_columns values done) few
       ∙ checked done
-      ∙ ap (λ (ts : Tables). Does (record { tables = ts; indexes = noted_on (indexes_with given marks) docs r; preferences = no_preferences }) row_created) (tables_with_row rows given marks r (others_kept values) rows_rise marks_rise then_rows then_marks)
-      ∙ ap (λ (xs : Names Index). Does (record { tables = tables_with (put_pair int_cmp r (others_kept values) rows); indexes = xs; preferences = no_preferences }) row_created) (indexes_with_note rows given marks r (others_kept values) rows_rise marks_rise then_rows then_marks)
+      ∙ ap (λ (xs : Names Index). Does (record { tables = us; indexes = xs; preferences = no_preferences }) row_created) (indexes_with_note rows given marks r (others_kept values) rows_rise marks_rise then_rows then_marks free)
+      ∙ ap (λ (ts : Tables). Does (record { tables = ts; indexes = indexes_with given (put_pair int_cmp r Pending marks); preferences = no_preferences }) row_created) (tables_with_row rows given marks r (others_kept values) rows_rise marks_rise then_rows then_marks free)
 
 index_is_synced : effect (state_with one_row 0 ((pos 1, Pending) ∷ [])) sync_statement ≡ Does (state_with one_row 1 ((pos 1, Settled tt) ∷ [])) call_done
 index_is_synced =

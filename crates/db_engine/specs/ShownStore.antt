@@ -8,7 +8,7 @@ use Rattle.tb_table.specs.Tables.{Table}
 use Rattle.tx_settings.specs.Defaults.{default_prefs}
 use Rattle.ix_rows.specs.Stores.{Untidy}
 use Rattle.ix_docmap.specs.Marks.{Pending, Settled}
-use Rattle.ix_context.specs.Indexes.{Index, OfContext}
+use Rattle.ix_indexes.specs.Indexes.{Index}
 use Rattle.st_parse.specs.declared.statements.Arg.TheVariants.{Text as TextArg}
 use Rattle.st_parse.specs.declared.statements.ColumnText.{ColumnText}
 use Rattle.st_parse.specs.declared.statements.IndexKind.TheVariants.{Context}
@@ -99,7 +99,7 @@ shown_index = record {
   table = codes "docs";
   column = 1;
   prefs = default_prefs;
-  body = OfContext (record { part = record { given = 1; tidiness = Untidy; waste = 0 }; marks = from_sorted ((pos 1, Settled tt) ∷ (pos 2, Pending) ∷ []) });
+  body = record { part = record { given = 1; tidiness = Untidy; waste = 0 }; marks = from_sorted ((pos 1, Settled tt) ∷ (pos 2, Pending) ∷ []) };
 }
 
 abbrev pub shown_state : StoreState

@@ -2,7 +2,7 @@
 use Rattle.std.proofs.Common.{◌≡◌, ℕ, true, List, Option, Some, None, refl, sym, ◌∙◌}
 use Rattle.std.specs.Prelude.{Bool, is_some}
 use Rattle.std.specs.FinMap.{get}
-use Rattle.ix_context.specs.Indexes.{Index}
+use Rattle.ix_indexes.specs.Indexes.{Index}
 use Rattle.db_cond.specs.Faults.{UnknownName}
 use Rattle.db_state.specs.States.{StoreState}
 use Rattle.db_state.specs.Effects.{Effect, Does, with_found}

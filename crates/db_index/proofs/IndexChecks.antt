@@ -6,7 +6,7 @@ use Rattle.std.specs.Option.{option_map}
 use Rattle.std.specs.Ordering.{nat_cmp, eq_by_cmp}
 use Rattle.std.specs.Cmp.Lexicographic.{slice_cmp}
 use Rattle.std.specs.FinMap.{get, entries, from_entries, find, get-from_entries, empty, len-entries, len-empty}
-use Rattle.std.proofs.lemmas.Bool.{le-ltb, ltb-false, and_parts}
+use Rattle.std.proofs.lemmas.Bool.{le-leb, leb-true, and_parts}
 use Rattle.ct_keep.specs.Content.{Content}
 use Rattle.tb_table.specs.declared.columns.Target.{Target}
 use Rattle.ix_context.specs.Stands.{HoldsTables, HoldsIndexes}
@@ -24,7 +24,11 @@ use Rattle.tb_table.specs.Tables.{Table, keys_in, row_keys}
 use Rattle.tb_table.specs.Rules.{AreTables}
 use Rattle.tx_settings.specs.declared.preferences.Prefs.{Prefs}
 use Rattle.tx_prefs.specs.declared.requests.Request.{Request}
-use Rattle.ix_context.specs.Indexes.{Index, rows_in}
+use Rattle.ix_kinds.specs.Rows.{table_at}
+use Rattle.ix_context.specs.Indexes.{rows_in}
+use Rattle.ix_indexes.specs.Contexts.{rows_within}
+use Rattle.ix_indexes.specs.Indexes.{Index, kinds}
+use Rattle.ix_indexes.specs.laws.Bridges.{olds, olds_hold, same_rows}
 use Rattle.ix_context.specs.Rules.{most_given}
 use Rattle.ix_context.specs.laws.Rules.{rows_in-all}
 use Rattle.db_names.specs.declared.heads.IndexHead.{IndexHead}
@@ -102,9 +106,9 @@ or_false false b h = h
 -- no table has more rows than an index has numbers
 few_rows : (m : StoreState) (t : List ℕ) (x : Table) → AreTables m.tables → get m.tables t ≡ Some x → has_too_many_rows m t ≡ false
 few_rows m t x are there =
-    let all : rows_in m.tables t all_rows ≡ row_keys m.tables t = rows_in-all m.tables are t all_rows every_row in
+    let all : rows_within (table_at m.tables t) all_rows ≡ row_keys m.tables t = sym (same_rows m.tables t all_rows) ∙ rows_in-all m.tables are t all_rows every_row in
     let keys = keys_few m t x are there in
-    le-ltb most_given (length (rows_in m.tables t all_rows)) (let same = ap length all in omega (arith, same, keys))
+    ap not (le-leb (length (rows_within (table_at m.tables t) all_rows)) most_given (let same = ap length all in omega (arith, same, keys)))
   where
     keys_few : (m : StoreState) (t : List ℕ) (x : Table) → AreTables m.tables → get m.tables t ≡ Some x → length (row_keys m.tables t) ≤ 100000
     keys_few m t x are there =
@@ -192,14 +196,18 @@ place_within name cs place is = let far = go 0 cs is in omega (arith, far)
 pub holds_tables : (c : Content) (m : StoreState) → StandsForState c m → HoldsTables c m.tables
 holds_tables c m stands = record { only = stands.only; stand = stands.tables; rules = stands.state.tables }
 
-pub holds_indexes : (c : Content) (m : StoreState) → StandsForState c m → HoldsIndexes c m.tables m.indexes
-holds_indexes c m stands = record { tables = holds_tables c m stands; stand = stands.indexes; rules = stands.state.indexes }
+pub holds_indexes : (c : Content) (m : StoreState) → StandsForState c m → HoldsIndexes c m.tables (olds m.indexes)
+holds_indexes c m stands = olds_hold c m.tables m.indexes stands.only stands.tables stands.state.tables stands.indexes stands.state.indexes
 
 pub rows_given : (m : StoreState) (on : Target) (t : List ℕ) (place : ℕ) (x : Table) → AreTables m.tables → get m.tables t ≡ Some x → on ≡ target t place → most_given < length (rows_in m.tables on.table all_rows) → ⊥
 rows_given m on t place x are there is over =
-    let few = ltb-false most_given (length (rows_in m.tables t all_rows)) (few_rows m t x are there) in
-    let same = ap (λ (y : Target). length (rows_in m.tables y.table all_rows)) is in
+    let few = leb-true (length (rows_within (table_at m.tables t) all_rows)) most_given (room (kinds.can_create (table_at m.tables t) all_rows) (few_rows m t x are there)) in
+    let same = ap (λ (y : Target). length (rows_in m.tables y.table all_rows)) is ∙ ap length (same_rows m.tables t all_rows) in
     omega (arith, few, same, over)
+  where
+    room : (b : Bool) → not b ≡ false → b ≡ true
+    room true h = refl
+    room false h = cc
 
 -- ---- the effect by the table and the column
 

@@ -4,7 +4,7 @@ use Rattle.std.specs.FinMap.{get, remove, get-empty}
 use Rattle.std.specs.Ordering.{nat_cmp}
 use Rattle.std.specs.Cmp.Lexicographic.{slice_cmp}
 use Rattle.std.proofs.Common.{ap}
-use Rattle.ix_context.specs.Indexes.{Index}
+use Rattle.ix_indexes.specs.Indexes.{Index}
 use Rattle.db_cond.specs.Faults.{UnknownName}
 use Rattle.db_state.specs.States.{StoreState, empty_state}
 use Rattle.db_state.specs.Effects.{Effect, Does, Refused, with_found}

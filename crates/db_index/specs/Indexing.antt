@@ -1,5 +1,5 @@
 -- What CREATE INDEX does.
-use Rattle.std.specs.Prelude.{ℕ, zero, suc, pos, negsuc, ◌-◌, ◌^◌, ◌≡◌, ◌==◌, nat_le, nat_lt, Bool, true, false, not, ◌||◌, ◌&&◌, is_some, ◌<◌, List, [], ◌∷◌, length, Option, Some, None, Result, IfOk, MatchOption, codes, refl}
+use Rattle.std.specs.Prelude.{ℕ, zero, suc, pos, negsuc, ◌-◌, ◌^◌, ◌≡◌, ◌==◌, nat_le, Bool, true, false, not, ◌||◌, ◌&&◌, is_some, ◌<◌, List, [], ◌∷◌, length, Option, Some, None, Result, IfOk, MatchOption, codes, refl}
 use Rattle.std.specs.List.{list_any}
 use Rattle.std.specs.Option.{option_and_then}
 use Rattle.std.specs.FinMap.{get, entries}
@@ -17,8 +17,9 @@ use Rattle.tx_prefs.specs.Preferences.{Preferences}
 use Rattle.tx_prefs.specs.Requests.{requests_of, requested_parameters, unknown_in}
 use Rattle.tx_prefs.specs.Copies.{copied}
 use Rattle.ix_context.specs.declared.ranges.KeyRange.{KeyRange}
-use Rattle.ix_context.specs.Indexes.{Index, rows_in, with_index}
-use Rattle.ix_context.specs.Rules.{most_given}
+use Rattle.ix_kinds.specs.Rows.{table_at}
+use Rattle.ix_kinds.specs.Statements.{with_index}
+use Rattle.ix_indexes.specs.Indexes.{Index, kinds}
 use Rattle.db_cond.specs.Faults.{UnknownName, ExistsAlready, WrongValues, BadValue, LimitReached}
 use Rattle.db_state.specs.States.{StoreState, indexes_on, index_limit}
 use Rattle.db_state.specs.Effects.{Effect, Does, refuse, refuse_by, with_found, Refused}
@@ -26,7 +27,6 @@ use Rattle.db_state.specs.Columns.{column_place}
 use Rattle.ct_keep.specs.declared.keepers.KeepFault.{KeepFault}
 use Rattle.ct_keep.specs.Content.{Content}
 use Rattle.ct_entry.specs.Changes.{spell}
-use Rattle.ix_context.specs.Changes.{create_changes}
 use Rattle.db_state.specs.declared.plans.Plan.{Plan}
 use Rattle.db_index.specs.declared.asking.Asked.{Asked}
 use Rattle.db_state.specs.Plans.{IsPlan, DoneLines, line_for_all}
@@ -83,11 +83,11 @@ abbrev pub index_made : Option DoneLines
 index_made = Some (line_for_all index_created)
 
 abbrev pub with_new_index : StoreState → List ℕ → List ℕ → ℕ → Prefs → StoreState
-with_new_index m i t place prefs = record m { indexes = with_index m.tables m.indexes i (target t place) prefs all_rows }
+with_new_index m i t place prefs = record m { indexes = with_index kinds all_rows tt m.tables i (target t place) prefs m.indexes }
 
 -- there are more rows than an index has numbers
 abbrev pub has_too_many_rows : StoreState → List ℕ → Bool
-has_too_many_rows m t = nat_lt most_given (length (rows_in m.tables t all_rows))
+has_too_many_rows m t = not (kinds.can_create (table_at m.tables t) all_rows)
 
 -- whether the name is that of an index, or the column has one
 abbrev pub is_index_taken : StoreState → List ℕ → List ℕ → ℕ → Bool
@@ -130,7 +130,7 @@ pub record AsksForPreferences (ps : Preferences) (requests : Option (List Reques
 
 -- the changes of the new index: there are some
 abbrev pub MakesIndex : StoreState → List ℕ → List ℕ → ℕ → Prefs → Option (List (List ℕ × Option (List ℕ))) → Type 0
-MakesIndex m i t place prefs batch = MatchOption batch ⊥ (λ changes. changes ≡ spell (create_changes m.tables i (target t place) prefs all_rows))
+MakesIndex m i t place prefs batch = MatchOption batch ⊥ (λ changes. changes ≡ spell (kinds.create_changes all_rows tt (table_at m.tables t) i (target t place) prefs))
 
 -- the same of an index that may be made, unless the call failed
 abbrev pub MakesFreeIndex : StoreState → List ℕ → List ℕ → ℕ → Prefs → Result (Option (List (List ℕ × Option (List ℕ)))) KeepFault → Type 0

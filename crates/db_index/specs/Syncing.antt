@@ -1,14 +1,14 @@
 -- What CTX_DDL.SYNC_INDEX does.
-use Rattle.std.specs.Prelude.{ℕ, pos, ◌+◌, ◌==◌, nat_lt, Bool, true, false, not, ◌||◌, ◌&&◌, is_some, List, [], ◌∷◌, length, Option, Some, None, codes, ◌≡◌, refl, MatchOption}
+use Rattle.std.specs.Prelude.{ℕ, pos, ◌==◌, Bool, true, false, not, ◌||◌, ◌&&◌, is_some, List, [], ◌∷◌, Option, Some, None, codes, ◌≡◌, refl, MatchOption}
 use Rattle.std.specs.Char.{to_ascii_lowercase, is_ascii_digit}
 use Rattle.std.specs.FinMap.{get}
 use Rattle.st_parse.specs.declared.statements.Arg.{Arg}
 use Rattle.st_parse.specs.declared.statements.Arg.TheVariants.{Text as TextArg, Number as NumberArg}
 use Rattle.db_call.specs.Arguments.{are_texts, name_at}
 use Rattle.ct_entry.specs.Changes.{spell}
-use Rattle.ix_context.specs.Changes.{sync_changes}
-use Rattle.ix_context.specs.Indexes.{given, Index, pending_rows, synced}
-use Rattle.ix_context.specs.Rules.{most_given}
+use Rattle.ix_kinds.specs.Rows.{table_at}
+use Rattle.ix_kinds.specs.Statements.{indexes_after_sync}
+use Rattle.ix_indexes.specs.Indexes.{Index, kinds}
 use Rattle.db_cond.specs.Faults.{UnknownName, WrongValues, BadValue, LimitReached}
 use Rattle.db_state.specs.States.{StoreState}
 use Rattle.db_state.specs.Effects.{Effect, Refused, Does, refuse, refuse_by, with_found}
@@ -51,10 +51,10 @@ check_sync unknown args done =
 
 -- there are too few numbers for the rows that wait
 abbrev pub has_too_many : Index → Bool
-has_too_many x = nat_lt most_given (given x + length (pending_rows x))
+has_too_many x = not (kinds.can_sync x)
 
 abbrev pub with_synced : StoreState → List ℕ → StoreState
-with_synced m i = record m { indexes = synced m.indexes i }
+with_synced m i = record m { indexes = indexes_after_sync kinds tt m.tables i m.indexes }
 
 abbrev pub sync_found : StoreState → List ℕ → Index → Effect
 sync_found m i x = refuse (has_too_many x) LimitReached (Does (with_synced m i) call_done)
@@ -75,7 +75,7 @@ sync_index m args = check_sync (unknown_name (has_index m (name_at 0 args)) (nam
 
 -- the changes of the synchronisation; none where the index would need more documents than there are numbers
 abbrev pub MakesSync : List ℕ → StoreState → Index → Option (List (List ℕ × Option (List ℕ))) → Type 0
-MakesSync i m x batch = MatchOption batch (has_too_many x ≡ true) (λ changes. (has_too_many x ≡ false) × (changes ≡ spell (sync_changes m.tables i x)))
+MakesSync i m x batch = MatchOption batch (has_too_many x ≡ true) (λ changes. (has_too_many x ≡ false) × (changes ≡ spell (kinds.sync_changes tt (table_at m.tables x.table) i x)))
 
 -- computed examples
 sixteen_megabytes : is_memory_size (codes "16m") ≡ true

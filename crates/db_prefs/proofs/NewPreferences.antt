@@ -12,9 +12,10 @@ use Rattle.ct_entry.specs.Changes.{AllOf, AreChanges, spell, view}
 use Rattle.ct_entry.specs.laws.Changes.{at_view, at-after, only-after, told_frame}
 use Rattle.tb_table.specs.Spelling.{TablesStand}
 use Rattle.tb_table.specs.laws.Changes.{is_of_tables, tables_frame}
-use Rattle.ix_context.specs.Standing.{IndexesStand}
-use Rattle.ix_context.specs.Spelling.{is_of_indexes}
-use Rattle.ix_context.specs.laws.Standing.{indexes_frame}
+use Rattle.ix_kinds.specs.Standing.{is_of_indexes}
+use Rattle.ix_kinds.specs.laws.Standing.{indexes_frame}
+use Rattle.ix_indexes.specs.Indexes.{kinds, IndexesStand}
+use Rattle.ix_indexes.specs.laws.ContextRows.{context_alone}
 use Rattle.tx_tags.specs.Groups.{SectionGroup as Group, no_sections}
 use Rattle.tx_settings.specs.declared.attributes.Setting.{Setting}
 use Rattle.tx_settings.specs.PrefsBytes.{is_named_group, are_lexer_settings}
@@ -66,7 +67,7 @@ module _ (c : Content) (m : StoreState) (ps : Preferences) (ws : List (Key × Op
     only = only-after ws c stands.only are;
     unbuilt = λ k h. at-after ws c k ∙ told_frame is_of_preferences ws k (at c k) of (preferences_built k.kind h) ∙ stands.unbuilt k h;
     tables = subst (λ (f : Key → Option (List ℕ)). TablesStand f m.tables) (sym (at_view ws c)) (tables_frame is_of_preferences ws (at c) m.tables of tables_preferences stands.tables);
-    indexes = subst (λ (f : Key → Option (List ℕ)). IndexesStand f m.tables m.indexes) (sym (at_view ws c)) (indexes_frame is_of_preferences ws (at c) m.tables m.indexes of indexes_preferences stands.indexes);
+    indexes = subst (λ (f : Key → Option (List ℕ)). IndexesStand f m.tables m.indexes) (sym (at_view ws c)) (indexes_frame kinds context_alone is_of_preferences ws (at c) m.tables m.indexes of indexes_preferences stands.indexes);
     preferences = subst (λ (f : Key → Option (List ℕ)). PreferencesStand f ps) (sym (at_view ws c)) stand;
     short_rows = subst HasShortRows (sym (at_view ws c)) (rows_frame is_of_preferences ws (at c) of rows_preferences stands.short_rows);
     state = record {

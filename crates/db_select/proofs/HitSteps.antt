@@ -15,7 +15,7 @@ use Rattle.ct_keep.specs.FoundKeys.{found_listed}
 use Rattle.st_parse.specs.declared.statements.Cond.{Cond}
 use Rattle.tb_table.specs.Tables.{Table}
 use Rattle.ix_search.specs.declared.hits.Hit.{Hit}
-use Rattle.ix_context.specs.Indexes.{Index}
+use Rattle.ix_indexes.specs.Indexes.{Index}
 use Rattle.db_state.specs.States.{StoreState}
 use Rattle.db_rows.specs.Values.{values_of}
 use Rattle.db_rows.specs.Meeting.{row_meets, key_meets, meeting_keys}

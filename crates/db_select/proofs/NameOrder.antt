@@ -15,7 +15,7 @@ use Rattle.ct_keep.specs.Looks.{one_if}
 use Rattle.ct_keep.specs.RisingKeys.{below, rises, entries_rise}
 use Rattle.ct_keep.specs.FoundKeys.{none_below, below_tied}
 use Rattle.ct_entry.specs.declared.kinds.Kind.TheVariants as kind
-use Rattle.ct_entry.specs.Keys.{same_list}
+use Rattle.ct_entry.specs.Keys.{at, same_list}
 use Rattle.ct_entry.specs.Maps.{Names}
 use Rattle.ct_entry.specs.Listings.{owners_under, key_order, in_key_order}
 use Rattle.ct_entry.specs.laws.Maps.{names_tie}
@@ -24,8 +24,8 @@ use Rattle.ct_entry.specs.laws.Rows.{keys_always}
 use Rattle.tb_table.specs.Readings.{all_above, names_rise}
 use Rattle.tb_table.specs.laws.Reading.{same_names}
 use Rattle.tb_table.specs.laws.NameOrder.{tally, tally-cons, among_once, at_most_one, sorted_names_rise}
-use Rattle.ix_context.specs.Indexes.{Index}
-use Rattle.ix_context.specs.Spelling.{index_entry}
+use Rattle.ix_indexes.specs.Indexes.{Index, index_entry}
+use Rattle.ix_indexes.specs.laws.Indexes.{entry_at}
 use Rattle.db_state.specs.States.{StoreState, StandsForState}
 
 abbrev order : List ℕ → List ℕ → Ordering
@@ -88,7 +88,7 @@ names_sorted {X} G found names is moved sorted =
 owners_are : (m : StoreState) (c : Content) → StandsForState c m → owners_under kind.Indexes c ≡ map (λ e. e.0) (entries (in_key_order m.indexes))
 owners_are m c stands =
     owners_listed (λ (x : Index). Some (index_entry x)) c kind.Indexes m.indexes stands.only (λ p bare. bare) stands.state.indexes.names
-    (λ i name. (stands.indexes i).entry ∙ put (get m.indexes i))
+    (λ i name. entry_at (at c) m.tables i (get m.indexes i) (stands.indexes i) ∙ put (get m.indexes i))
     ∙ keys_always index_entry (entries (in_key_order m.indexes))
   where
     put : (o : Option Index) → option_map index_entry o ≡ option_and_then (λ (x : Index). Some (index_entry x)) o

@@ -1,5 +1,5 @@
 -- The ways out of a SELECT.
-use Rattle.std.proofs.Common.{◌≡◌, ◌≤◌, ℕ, ℤ, Bool, true, false, List, [], ◌∷◌, ◌++◌, length, map, Option, Some, None, refl, sym, ap, ◌∙◌, arith}
+use Rattle.std.proofs.Common.{◌≡◌, ◌≤◌, ℕ, ℤ, Bool, false, List, [], ◌∷◌, ◌++◌, length, map, Option, Some, None, refl, sym, ap, ◌∙◌, arith}
 use Rattle.std.specs.Prelude.{not, ◌||◌, is_none}
 use Rattle.std.specs.FinMap.{get}
 use Rattle.st_parse.specs.declared.statements.Item.{Item}
@@ -11,7 +11,7 @@ use Rattle.tb_table.specs.Tables.{Table}
 use Rattle.tb_table.specs.Rules.{AreTables}
 use Rattle.st_parse.specs.declared.statements.Cond.{Cond}
 use Rattle.ix_search.specs.declared.hits.Hit.{Hit}
-use Rattle.ix_context.specs.Indexes.{Index}
+use Rattle.ix_indexes.specs.Indexes.{Index}
 use Rattle.db_cond.specs.Faults.{Refusal, UnknownName, NoIndexOfKind, refusal_line}
 use Rattle.db_state.specs.States.{StoreState}
 use Rattle.db_state.specs.Effects.{Effect, Does, Refused, refuse, refuse_by, with_found, reply_by}

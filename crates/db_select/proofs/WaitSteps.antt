@@ -15,27 +15,24 @@ use Rattle.ct_keep.specs.Content.{Content}
 use Rattle.ct_keep.specs.RisingKeys.{entries_rise}
 use Rattle.ct_keep.specs.FoundKeys.{found_listed}
 use Rattle.ct_entry.specs.declared.kinds.Kind.TheVariants as kind
+use Rattle.ct_entry.specs.Keys.{at}
 use Rattle.ct_entry.specs.Maps.{Names}
 use Rattle.ct_entry.specs.Listings.{keys_where, rows_under}
 use Rattle.ct_entry.specs.laws.Rows.{rows_listed}
 use Rattle.ix_docmap.specs.Marks.{Mark, queued}
-use Rattle.ix_context.specs.Indexes.{Index, in_queue, mark_of, pending_rows}
-use Rattle.ix_context.specs.Stands.{HoldsIndexes}
+use Rattle.ix_context.specs.Indexes.{in_queue}
 use Rattle.ix_context.specs.laws.Reading.{pending_read}
+use Rattle.ix_indexes.specs.Indexes.{Index, mark_of, pending_rows}
+use Rattle.ix_indexes.specs.laws.Bridges.{old_of, olds, old_there}
+use Rattle.ix_indexes.specs.laws.Indexes.{context_at}
 use Rattle.db_cond.specs.Lines.{line}
 use Rattle.db_state.specs.States.{StoreState, StandsForState}
 use Rattle.db_state.specs.Lines.{lines_or_none}
 use Rattle.db_select.specs.Pending.{pending_line, pending_of, pending_lines}
 use Rattle.db_select.specs.Waiting.{text_or_none, waiting_at, waiting_in, waiting_text}
+use Rattle.db_select.proofs.OldIndexes.{holds_indexes}
 
 -- ---- the queue of an index, and where there is none
-
-holds_indexes : (m : StoreState) (c : Content) → StandsForState c m → HoldsIndexes c m.tables m.indexes
-holds_indexes m c stands = record {
-  tables = record { only = stands.only; stand = stands.tables; rules = stands.state.tables };
-  stand = stands.indexes;
-  rules = stands.state.indexes;
-}
 
 none_in_empty : entries (empty {K = ℤ} {X = Mark (Unit {0})} {R = int_cmp}) ≡ []
 none_in_empty = none (entries (empty {K = ℤ} {X = Mark (Unit {0})} {R = int_cmp})) (sym (len-entries (empty {K = ℤ} {X = Mark (Unit {0})} {R = int_cmp})) ∙ len-empty int_cmp (Mark (Unit {0})))
@@ -50,9 +47,9 @@ waiting_read m c stands i = go (get m.indexes i) refl
     go : (o : Option Index) → get m.indexes i ≡ o → rows_under kind.Pending i c ≡ waiting_in o
     go None is =
         rows_listed in_queue c kind.Pending i empty stands.only (λ q p. p) (λ r v e. let wrong : None ≡ Some v = sym (get-empty int_cmp r) ∙ e in cc)
-        (λ r row. (stands.indexes i).context.documents.queue r row ∙ ap (λ (o : Option Index). queued (mark_of o r)) is ∙ sym (ap (option_and_then in_queue) (get-empty int_cmp r)))
+        (λ r row. (context_at (at c) m.tables i (get m.indexes i) (stands.indexes i)).documents.queue r row ∙ ap (λ (o : Option Index). queued (mark_of o r)) is ∙ sym (ap (option_and_then in_queue) (get-empty int_cmp r)))
         ∙ ap (keys_where in_queue) none_in_empty
-    go (Some x) is = pending_read c m.tables m.indexes (holds_indexes m c stands) i x is
+    go (Some x) is = pending_read c m.tables (olds m.indexes) (holds_indexes m c stands) i (old_of x) (old_there m.indexes i x is)
 
 -- ---- of some indexes, and of all
 

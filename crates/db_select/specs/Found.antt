@@ -12,7 +12,7 @@ use Rattle.tb_table.specs.declared.columns.Column.{Column}
 use Rattle.tb_table.specs.Tables.{Table, Tables}
 use Rattle.q_tree.specs.declared.flats.Flat.{Flat}
 use Rattle.q_tree.specs.Trees.{reduced_of}
-use Rattle.ix_context.specs.Indexes.{Index}
+use Rattle.ix_indexes.specs.Indexes.{Index}
 use Rattle.ix_search.specs.declared.hits.Hit.{Hit}
 use Rattle.db_state.specs.States.{StoreState, OverNamedTable}
 use Rattle.db_state.specs.Effects.{reply_by}

@@ -15,7 +15,8 @@ use Rattle.st_parse.specs.declared.statements.SelectList.{SelectList}
 use Rattle.st_parse.specs.declared.statements.SelectList.TheVariants.{Star, CountAll, Items}
 use Rattle.ix_docmap.specs.Marks.{Mark, Pending, Settled}
 use Rattle.tx_settings.specs.Defaults.{default_prefs}
-use Rattle.ix_context.specs.Indexes.{Index, OfContext, no_part, in_queue, pending_rows}
+use Rattle.ix_context.specs.Indexes.{no_part, in_queue}
+use Rattle.ix_indexes.specs.Indexes.{Index, pending_rows}
 use Rattle.db_cond.specs.Faults.{WrongValues}
 use Rattle.db_cond.specs.Lines.{line}
 use Rattle.db_state.specs.States.{StoreState}
@@ -62,7 +63,7 @@ abbrev three_marks : List (ℤ × Mark (Unit {0}))
 three_marks = (pos 1, Settled tt) ∷ (pos 2, Settled tt) ∷ (pos 3, Pending) ∷ []
 
 abbrev one_waits : Index
-one_waits = record { table = codes "docs"; column = 1; prefs = default_prefs; body = OfContext (record { part = no_part; marks = from_sorted three_marks }) }
+one_waits = record { table = codes "docs"; column = 1; prefs = default_prefs; body = record { part = no_part; marks = from_sorted three_marks } }
 
 its_row : pending_rows one_waits ≡ pos 3 ∷ []
 its_row = ap (λ (es : List (ℤ × Mark (Unit {0}))). keys_where in_queue es) (entries-from_sorted int_cmp three_marks tt)

@@ -2,7 +2,7 @@
 use Rattle.std.specs.Prelude.{ℕ, ◌≡◌, List, [], Option, Some, None, codes, refl}
 use Rattle.std.specs.FinMap.{get}
 use Rattle.tb_table.specs.declared.columns.Column.{Column}
-use Rattle.ix_context.specs.Indexes.{Index}
+use Rattle.ix_indexes.specs.Indexes.{Index}
 use Rattle.db_state.specs.States.{StoreState}
 use Rattle.db_select.specs.Predicates.{Search}
 use Rattle.db_select.specs.Selecting.{index_of_search}

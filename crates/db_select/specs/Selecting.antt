@@ -15,7 +15,8 @@ use Rattle.st_parse.specs.declared.statements.SelectList.TheVariants.{Star, Coun
 use Rattle.st_parse.specs.declared.statements.Whole.TheVariants.{Fits}
 use Rattle.tb_table.specs.declared.columns.Column.{Column}
 use Rattle.tb_table.specs.Tables.{Table, Tables, docs_columns, docs_alone, row_one}
-use Rattle.ix_context.specs.Indexes.{Index}
+use Rattle.ix_indexes.specs.Indexes.{Index}
+use Rattle.ix_indexes.specs.laws.Bridges.{old_of}
 use Rattle.ix_search.specs.Finding.{found}
 use Rattle.db_cond.specs.Faults.{Refusal, UnknownName, NoIndexOfKind}
 use Rattle.db_cond.specs.Lines.{line}
@@ -42,9 +43,9 @@ abbrev pub lacks_index : StoreState → List ℕ → List Column → Option Sear
 lacks_index m t columns None = false
 lacks_index m t columns (Some s) = is_none (index_of_search m t columns s)
 
--- what a query finds in an index with a score above a number; nothing without a number
+-- what a query finds in an index with a score above a number; nothing without a number. A search is told of the index as `ix_context` has it.
 abbrev pub found_by : Tables → Index → Meaning → Option ℕ → List (ℤ × ℕ)
-found_by ts x (Finds (Some q)) (Some n) = found ts x q n
+found_by ts x (Finds (Some q)) (Some n) = found ts (old_of x) q n
 found_by ts x meaning threshold = []
 
 -- the same of a query text; nothing without an index

@@ -3,7 +3,7 @@ use Rattle.std.specs.Prelude.{ℕ, ℤ, ◌≡◌, List, [], ◌∷◌, Option, 
 use Rattle.std.specs.List.{flat_map}
 use Rattle.std.specs.FinMap.{get}
 use Rattle.ct_entry.specs.Maps.{Names}
-use Rattle.ix_context.specs.Indexes.{Index, pending_rows}
+use Rattle.ix_indexes.specs.Indexes.{Index, pending_rows}
 use Rattle.db_cond.specs.Faults.{no_rows}
 use Rattle.db_cond.specs.Lines.{line}
 use Rattle.db_select.specs.Pending.{pending_line}

@@ -22,59 +22,60 @@ use Rattle.ix_rows.specs.WordRows.{document_number, IsWordTerm}
 use Rattle.ix_rows.specs.SpanRows.{span_number, IsSpanTerm}
 use Rattle.ix_rows.specs.laws.Rooms.{row_found}
 use Rattle.ix_docmap.specs.Marks.{is_settled}
-use Rattle.ix_context.specs.Indexes.{Index, given, marks_in, mark_of, mark_at, part_of}
-use Rattle.ix_context.specs.Rules.{AreIndexes}
-use Rattle.ix_context.specs.Standing.{IndexesStand}
-use Rattle.ix_context.specs.Spelling.{index_entry}
+use Rattle.ix_context.specs.Standing.{PartStands}
+use Rattle.ix_indexes.specs.Indexes.{Defined, Index, index_entry, IndexesStand, AreIndexes, mark_of, mark_at, part_of, postings_in}
+use Rattle.ix_indexes.specs.laws.ContextRows.{entry_is}
+use Rattle.ix_indexes.specs.laws.Indexes.{context_at, entry_at, context_is, marked_row, column_few}
 use Rattle.ix_context.specs.Shapes.{HasIndexValue, IsRowFrom, IsSpanRowFrom}
-use Rattle.ix_context.specs.laws.Changes.{mark_is_row}
-use Rattle.ix_context.specs.laws.Reading.{column_few}
 use Rattle.ix_context.specs.laws.Well.{length-entry_le}
 use Rattle.db_state.proofs.WeighIndexes.{settled_there, is_queued}
 
 module _ (f : Key → Option (List ℕ)) (ts : Tables) (xs : Names Index) (tables : AreTables ts) (are : AreIndexes ts xs) (stand : IndexesStand f ts xs) where
+  its_part : (i : List ℕ) → PartStands f i (postings_in ts (get xs i)) (mark_at xs i) (part_of (get xs i))
+  its_part i = context_at f ts i (get xs i) (stand i)
+
   -- a row that has a number is a row of the table, and the number is one that fits
-  numbered : (i : List ℕ) (r : ℤ) (d : ℕ) → (stand i).context.document r ≡ Some d → IsRow r × (1 ≤ d) × (d < 2 ^ 32)
-  numbered i r d is = go (get xs i) refl (sym ((stand i).context.documents.numbers.marked r) ∙ ap is_some is) ((stand i).context.documents.numbers.within r d is)
+  numbered : (i : List ℕ) (r : ℤ) (d : ℕ) → (its_part i).document r ≡ Some d → IsRow r × (1 ≤ d) × (d < 2 ^ 32)
+  numbered i r d is = go (get xs i) refl (sym ((its_part i).documents.numbers.marked r) ∙ ap is_some is) ((its_part i).documents.numbers.within r d is)
     where
       go : (o : Option Index) → get xs i ≡ o → is_settled (mark_of o r) ≡ true → (1 ≤ d) × (d ≤ (part_of o).given) → IsRow r × (1 ≤ d) × (d < 2 ^ 32)
       go None here settled within = cc
       go (Some x) here settled within =
           let rules = are.each i x here in
-          let few = rules.numbers in
-          (mark_is_row ts x tables rules r (ap is_some (settled_there (get (marks_in x.body) r) settled)), within.0, omega (arith, within.1, few))
+          let few = (context_is ts x rules).numbers in
+          (marked_row ts x tables rules r (ap is_some (settled_there (get x.body.marks r) settled)), within.0, omega (arith, within.1, few))
 
   pub index_value : (i v : List ℕ) → f (key kind.Indexes i []) ≡ Some v → HasIndexValue (key kind.Indexes i []) v × (length v ≤ value_limit)
   index_value i v has =
-      let x = option_map_some index_entry (get xs i) v (sym (stand i).entry ∙ has) in
+      let x = option_map_some index_entry (get xs i) v (sym (entry_at f ts i (get xs i) (stand i)) ∙ has) in
       let index = are.each i x.0 x.1 in
       let name = tables.names x.0.table index.target.table index.target.there in
       let few = column_few ts tables x.0.table x.0.column index.target in
-      let most = index.numbers in
-      let long = length-entry_le x.0.table x.0.column x.0.prefs (given x.0 + 1) name index.prefs in (
-        record { table = x.0.table; column = x.0.column; prefs = x.0.prefs; next = given x.0 + 1; named = name; place = omega (arith, few); are = index.prefs; fits = omega (arith, most); spelt = sym x.2 },
-        omega (arith, long, ap length x.2),
+      let most = (context_is ts x.0 index).numbers in
+      let long = length-entry_le x.0.table x.0.column x.0.prefs (x.0.body.part.given + 1) name index.prefs in (
+        record { table = x.0.table; column = x.0.column; prefs = x.0.prefs; next = x.0.body.part.given + 1; named = name; place = omega (arith, few); are = index.prefs; fits = omega (arith, most); spelt = sym (entry_is Defined x.0 ∙ x.2) },
+        omega (arith, long, ap length (entry_is Defined x.0 ∙ x.2)),
       )
 
   pub document_row_value : (i v : List ℕ) (d : ℕ) → IsDocument d → f (key kind.DocumentRows i (document_part d)) ≡ Some v → HasIndexValue (key kind.DocumentRows i (document_part d)) v × (length v ≤ value_limit)
   document_row_value i v d document has =
-      let r = option_map_some row_bytes ((stand i).context.row d) v (sym ((stand i).context.documents.rows d document) ∙ has) in
+      let r = option_map_some row_bytes ((its_part i).row d) v (sym ((its_part i).documents.rows d document) ∙ has) in
       let eight = length-row_bytes r.0 in
-      ((r.0, (numbered i r.0 d ((stand i).context.documents.numbers.back r.0 d r.1)).0, sym r.2), omega (arith, eight, ap length r.2))
+      ((r.0, (numbered i r.0 d ((its_part i).documents.numbers.back r.0 d r.1)).0, sym r.2), omega (arith, eight, ap length r.2))
 
   pub row_document_value : (i v : List ℕ) (r : ℤ) → IsRow r → f (key kind.RowDocuments i (row_part r)) ≡ Some v → HasIndexValue (key kind.RowDocuments i (row_part r)) v × (length v ≤ value_limit)
   row_document_value i v r row has =
-      let d = option_map_some (to_be_bytes w32) ((stand i).context.document r) v (sym ((stand i).context.documents.documents r row) ∙ has) in
+      let d = option_map_some (to_be_bytes w32) ((its_part i).document r) v (sym ((its_part i).documents.documents r row) ∙ has) in
       ((d.0, (numbered i r d.0 d.1).2, sym d.2), omega (arith, ap length d.2))
 
   pub pending_value : (i v : List ℕ) (r : ℤ) → IsRow r → f (key kind.Pending i (row_part r)) ≡ Some v → HasIndexValue (key kind.Pending i (row_part r)) v × (length v ≤ value_limit)
-  pending_value i v r row has = let q = is_queued (mark_at xs i r) v (sym ((stand i).context.documents.queue r row) ∙ has) in (q.1, omega (arith, ap length q.1))
+  pending_value i v r row has = let q = is_queued (mark_at xs i r) v (sym ((its_part i).documents.queue r row) ∙ has) in (q.1, omega (arith, ap length q.1))
 
   -- a row of postings, of documents that are rows or dead ones
   pub posting_value : (i v term : List ℕ) (d : ℕ) → IsWordTerm term → IsDocument d → f (key kind.Postings i (row_key term d)) ≡ Some v → IsRowFrom d v
   posting_value i v term d is document has =
-      let r = row_found document_number posting_bytes ((stand i).context.word_rows term) d v (sym ((stand i).context.words.spelled.spelled term d is document) ∙ has) in
-      go r.0 (each_at_in IsPostingRow r.0 ((stand i).context.word_rows term) ((stand i).context.words.are term is).each r.1) r.2 r.3
+      let r = row_found document_number posting_bytes ((its_part i).word_rows term) d v (sym ((its_part i).words.spelled.spelled term d is document) ∙ has) in
+      go r.0 (each_at_in IsPostingRow r.0 ((its_part i).word_rows term) ((its_part i).words.are term is).each r.1) r.2 r.3
     where
       go : (row : List RowDocument) → IsPostingRow row → d ≡ first_document document_number row → v ≡ posting_bytes row → IsRowFrom d v
       go [] row first spelt = let some = row.some in absurd (omega (arith, some))
@@ -82,8 +83,8 @@ module _ (f : Key → Option (List ℕ)) (ts : Tables) (xs : Names Index) (table
 
   pub span_value : (i v term : List ℕ) (d : ℕ) → IsSpanTerm term → IsDocument d → f (key kind.Spans i (row_key term d)) ≡ Some v → IsSpanRowFrom d v
   span_value i v term d is document has =
-      let r = row_found span_number span_row_bytes ((stand i).context.span_rows term) d v (sym ((stand i).context.spans.spelled.spelled term d is document) ∙ has) in
-      go r.0 (each_at_in IsSpanRow r.0 ((stand i).context.span_rows term) ((stand i).context.spans.are term is).each r.1) r.2 r.3
+      let r = row_found span_number span_row_bytes ((its_part i).span_rows term) d v (sym ((its_part i).spans.spelled.spelled term d is document) ∙ has) in
+      go r.0 (each_at_in IsSpanRow r.0 ((its_part i).span_rows term) ((its_part i).spans.are term is).each r.1) r.2 r.3
     where
       go : (row : List SpanDocument) → IsSpanRow row → d ≡ first_document span_number row → v ≡ span_row_bytes row → IsSpanRowFrom d v
       go [] row first spelt = let some = row.some in absurd (omega (arith, some))

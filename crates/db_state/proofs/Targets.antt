@@ -15,9 +15,7 @@ use Rattle.ct_entry.specs.Maps.{Names}
 use Rattle.ct_entry.specs.laws.Keys.{list_from_same, list_same}
 use Rattle.tb_table.specs.Tables.{Tables}
 use Rattle.tb_table.specs.Rules.{AreTables}
-use Rattle.ix_context.specs.Indexes.{Index}
-use Rattle.ix_context.specs.Rules.{AreIndexes}
-use Rattle.ix_context.specs.Standing.{IndexesStand}
+use Rattle.ix_indexes.specs.Indexes.{Index, IndexesStand, AreIndexes}
 use Rattle.db_names.specs.declared.heads.IndexKind.TheVariants.{Context}
 use Rattle.db_names.specs.declared.heads.IndexHead.{IndexHead}
 use Rattle.db_names.specs.Findings.{IsIndexOn}
@@ -108,5 +106,5 @@ index_found f ts xs tables are stand t place (Some i) is = (x, (found.1, one (in
         (and_from _ _ (subst (λ (u : List ℕ). same_list x.table u ≡ true) table (list_same x.table)) (eq-eqb x.column place column)) e)
     one (Some y) e =
         let on = among_on xs t place (entries xs) y (all_there xs) e in
-        let same : on.name ≡ i = are.one on.name i y x on.there found.1 (on.table ∙ sym table) (on.column ∙ sym column) in
+        let same : on.name ≡ i = are.one on.name i y x on.there found.1 (on.table ∙ sym table) (on.column ∙ sym column) refl in
         sym on.there ∙ ap (get xs) same ∙ found.1

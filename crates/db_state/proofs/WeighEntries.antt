@@ -10,8 +10,7 @@ use Rattle.ct_entry.specs.Keys.{Key, key, bytes, row_part, text_part, document_p
 use Rattle.tb_table.specs.Tables.{Table, numbers_of, texts_of}
 use Rattle.tb_table.specs.Spelling.{columns_bytes, row_numbers_bytes}
 use Rattle.ix_docmap.specs.Marks.{Mark, Pending, Settled}
-use Rattle.ix_context.specs.Indexes.{Index, marks_in}
-use Rattle.ix_context.specs.Spelling.{index_entry}
+use Rattle.ix_indexes.specs.Indexes.{Index, index_entry}
 use Rattle.tx_prefs.specs.Room.{preference_entries}
 use Rattle.db_state.specs.States.{StoreState}
 
@@ -43,7 +42,7 @@ mark_entries document i (r, Pending) = entry (key kind.Pending i (row_part r)) [
 mark_entries document i (r, Settled _) = document_entries i r (document i r)
 
 abbrev pub index_entries : (List ℕ → ℤ → Option ℕ) → List ℕ × Index → List Entry
-index_entries document e = entry (key kind.Indexes e.0 []) (index_entry e.1) ∷ flat_map (mark_entries document e.0) (entries (marks_in e.1.body))
+index_entries document e = entry (key kind.Indexes e.0 []) (index_entry e.1) ∷ flat_map (mark_entries document e.0) (entries e.1.body.marks)
 
 -- ---- the state
 

@@ -14,9 +14,9 @@ use Rattle.ct_entry.specs.laws.MapEntries.{get_in}
 use Rattle.ct_entry.specs.Maps.{Names}
 use Rattle.tb_table.specs.Tables.{Tables}
 use Rattle.ix_docmap.specs.Marks.{Mark, Pending, Settled, is_settled, queued}
-use Rattle.ix_context.specs.Indexes.{Index, marks_in, mark_of, mark_at}
-use Rattle.ix_context.specs.Spelling.{index_entry}
-use Rattle.ix_context.specs.Standing.{IndexesStand}
+use Rattle.ix_context.specs.Standing.{PartStands}
+use Rattle.ix_indexes.specs.Indexes.{Index, index_entry, IndexesStand, mark_of, mark_at, part_of, postings_in}
+use Rattle.ix_indexes.specs.laws.Indexes.{context_at, entry_at}
 use Rattle.db_state.proofs.WeighEntries.{Entry, entry, document_entries, mark_entries, index_entries}
 
 -- ---- marks
@@ -31,16 +31,19 @@ is_queued None v is = cc
 is_queued (Some Pending) v is = (refl, cc)
 is_queued (Some (Settled a)) v is = cc
 
-mark_there : (o : Option Index) (r : ℤ) (m : Mark (Unit {0})) → mark_of o r ≡ Some m → (x : Index) × (o ≡ Some x) × (get (marks_in x.body) r ≡ Some m)
+mark_there : (o : Option Index) (r : ℤ) (m : Mark (Unit {0})) → mark_of o r ≡ Some m → (x : Index) × (o ≡ Some x) × (get x.body.marks r ≡ Some m)
 mark_there None r m h = cc
 mark_there (Some x) r m h = (x, refl, h)
 
 -- ---- the entries of indexes
 
 module _ (f : Key → Option (List ℕ)) (ts : Tables) (xs : Names Index) (stand : IndexesStand f ts xs) where
+  pub its_part : (i : List ℕ) → PartStands f i (postings_in ts (get xs i)) (mark_at xs i) (part_of (get xs i))
+  its_part i = context_at f ts i (get xs i) (stand i)
+
   -- which document each settled row is
   abbrev pub numbers : List ℕ → ℤ → Option ℕ
-  numbers i r = (stand i).context.document r
+  numbers i r = (its_part i).document r
 
   -- the entry is among those of all indexes
   abbrev IsListed : Entry → Type 0
@@ -51,33 +54,33 @@ module _ (f : Key → Option (List ℕ)) (ts : Tables) (xs : Names Index) (stand
   in_index i x e is h = in_flat_mapped (index_entries numbers) (i, x) (entries xs) e (get_in (slice_cmp-IsAntisymmetric nat_cmp-IsAntisymmetric) xs i x is) h
 
   -- what is among a mark's
-  in_mark : (i : List ℕ) (x : Index) (r : ℤ) (m : Mark (Unit {0})) (e : Entry) → get xs i ≡ Some x → get (marks_in x.body) r ≡ Some m → IsIn e (mark_entries numbers i (r, m)) → IsListed e
-  in_mark i x r m e is at h = in_index i x e is (inr (in_flat_mapped (mark_entries numbers i) (r, m) (entries (marks_in x.body)) e (get_in int_cmp-IsAntisymmetric (marks_in x.body) r m at) h))
+  in_mark : (i : List ℕ) (x : Index) (r : ℤ) (m : Mark (Unit {0})) (e : Entry) → get xs i ≡ Some x → get x.body.marks r ≡ Some m → IsIn e (mark_entries numbers i (r, m)) → IsListed e
+  in_mark i x r m e is at h = in_index i x e is (inr (in_flat_mapped (mark_entries numbers i) (r, m) (entries x.body.marks) e (get_in int_cmp-IsAntisymmetric x.body.marks r m at) h))
 
   -- what is among a document's
   in_document : (i : List ℕ) (r : ℤ) (d : ℕ) (e : Entry) → numbers i r ≡ Some d → IsIn e (document_entries i r (Some d)) → IsListed e
   in_document i r d e is h =
-      let settled = settled_there (mark_of (get xs i) r) (sym ((stand i).context.documents.numbers.marked r) ∙ ap is_some is) in
+      let settled = settled_there (mark_of (get xs i) r) (sym ((its_part i).documents.numbers.marked r) ∙ ap is_some is) in
       let x = mark_there (get xs i) r (Settled tt) settled in
       in_mark i x.0 r (Settled tt) e x.1 x.2 (subst (λ (o : Option ℕ). IsIn e (document_entries i r o)) (sym is) h)
 
   pub index_in : (i v : List ℕ) → f (key kind.Indexes i []) ≡ Some v → IsListed (entry (key kind.Indexes i []) v)
   index_in i v has =
-      let x = option_map_some index_entry (get xs i) v (sym (stand i).entry ∙ has) in
+      let x = option_map_some index_entry (get xs i) v (sym (entry_at f ts i (get xs i) (stand i)) ∙ has) in
       in_index i x.0 _ x.1 (inl (ap (entry (key kind.Indexes i [])) (sym x.2)))
 
   pub document_row_in : (i v : List ℕ) (d : ℕ) → IsDocument d → f (key kind.DocumentRows i (document_part d)) ≡ Some v → IsListed (entry (key kind.DocumentRows i (document_part d)) v)
   document_row_in i v d document has =
-      let r = option_map_some row_bytes ((stand i).context.row d) v (sym ((stand i).context.documents.rows d document) ∙ has) in
-      in_document i r.0 d _ ((stand i).context.documents.numbers.back r.0 d r.1) (inl (ap (entry (key kind.DocumentRows i (document_part d))) (sym r.2)))
+      let r = option_map_some row_bytes ((its_part i).row d) v (sym ((its_part i).documents.rows d document) ∙ has) in
+      in_document i r.0 d _ ((its_part i).documents.numbers.back r.0 d r.1) (inl (ap (entry (key kind.DocumentRows i (document_part d))) (sym r.2)))
 
   pub row_document_in : (i v : List ℕ) (r : ℤ) → IsRow r → f (key kind.RowDocuments i (row_part r)) ≡ Some v → IsListed (entry (key kind.RowDocuments i (row_part r)) v)
   row_document_in i v r row has =
-      let d = option_map_some (to_be_bytes w32) (numbers i r) v (sym ((stand i).context.documents.documents r row) ∙ has) in
+      let d = option_map_some (to_be_bytes w32) (numbers i r) v (sym ((its_part i).documents.documents r row) ∙ has) in
       in_document i r d.0 _ d.1 (inr (inl (ap (entry (key kind.RowDocuments i (row_part r))) (sym d.2))))
 
   pub pending_in : (i v : List ℕ) (r : ℤ) → IsRow r → f (key kind.Pending i (row_part r)) ≡ Some v → IsListed (entry (key kind.Pending i (row_part r)) v)
   pending_in i v r row has =
-      let q = is_queued (mark_at xs i r) v (sym ((stand i).context.documents.queue r row) ∙ has) in
+      let q = is_queued (mark_at xs i r) v (sym ((its_part i).documents.queue r row) ∙ has) in
       let x = mark_there (get xs i) r Pending q.0 in
       in_mark i x.0 r Pending _ x.1 x.2 (inl (ap (entry (key kind.Pending i (row_part r))) q.1))

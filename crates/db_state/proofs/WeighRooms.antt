@@ -14,12 +14,12 @@ use Rattle.tb_table.specs.Tables.{Table, Tables, numbers_of, texts_of}
 use Rattle.tb_table.specs.Spelling.{columns_bytes, row_numbers_bytes}
 use Rattle.ix_rows.specs.WordRows.{last_document}
 use Rattle.ix_docmap.specs.Marks.{Mark, Pending, Settled, is_settled}
-use Rattle.ix_context.specs.Indexes.{Index, marks_in, part_in}
-use Rattle.ix_context.specs.Documents.{document_cost, postings_in}
-use Rattle.ix_context.specs.Spelling.{index_entry}
+use Rattle.ix_context.specs.Documents.{document_cost}
+use Rattle.ix_indexes.specs.Contexts.{row_room as mark_room}
+use Rattle.ix_indexes.specs.Indexes.{Index, index_entry, postings_in}
 use Rattle.tx_prefs.specs.Room.{preference_entries}
 use Rattle.db_state.specs.States.{StoreState}
-use Rattle.db_state.specs.Room.{key_weight, text_room, row_room, table_room, mark_room, index_room, room}
+use Rattle.db_state.specs.Room.{key_weight, text_room, row_room, table_room, index_room, room}
 use Rattle.ct_entry.specs.laws.Lists.{sum_by-map-le, sum_by-flat_map-le}
 use Rattle.db_state.proofs.WeighEntries.{entry, text_entry, row_entries, table_entries, document_entries, mark_entries, index_entries, all_entries}
 
@@ -69,18 +69,18 @@ abbrev mark_cost : Tables → List ℕ → Index → ℤ × Mark (Unit {0}) → 
 mark_cost ts i x (r, Pending) = 0
 mark_cost ts i x (r, Settled _) = document_cost i (postings_in ts (Some x) r)
 
-mark_weighs : (document : List ℕ → ℤ → Option ℕ) (ts : Tables) (i : List ℕ) (x : Index) (e : ℤ × Mark (Unit {0})) → sum_by entry_weight (mark_entries document i e) + mark_cost ts i x e ≤ mark_room ts i x e
+mark_weighs : (document : List ℕ → ℤ → Option ℕ) (ts : Tables) (i : List ℕ) (x : Index) (e : ℤ × Mark (Unit {0})) → sum_by entry_weight (mark_entries document i e) + mark_cost ts i x e ≤ mark_room i (postings_in ts (Some x)) e
 mark_weighs document ts i x (r, Pending) = omega arith
 mark_weighs document ts i x (r, Settled _) = let pair = document_weighs i r (document i r) in omega (arith, pair)
 
-marks_weigh : (document : List ℕ → ℤ → Option ℕ) (ts : Tables) (i : List ℕ) (x : Index) (es : List (ℤ × Mark (Unit {0}))) → sum_by entry_weight (flat_map (mark_entries document i) es) + sum_by (mark_cost ts i x) es ≤ sum_by (mark_room ts i x) es
+marks_weigh : (document : List ℕ → ℤ → Option ℕ) (ts : Tables) (i : List ℕ) (x : Index) (es : List (ℤ × Mark (Unit {0}))) → sum_by entry_weight (flat_map (mark_entries document i) es) + sum_by (mark_cost ts i x) es ≤ sum_by (mark_room i (postings_in ts (Some x))) es
 marks_weigh document ts i x [] = omega arith
 marks_weigh document ts i x (e ∷ es) =
     omega (
       arith,
       sum_by-append entry_weight (mark_entries document i e) (flat_map (mark_entries document i) es),
       sum_by-cons (mark_cost ts i x) e es,
-      sum_by-cons (mark_room ts i x) e es,
+      sum_by-cons (mark_room i (postings_in ts (Some x))) e es,
       mark_weighs document ts i x e,
       marks_weigh document ts i x es,
     )
@@ -98,15 +98,15 @@ costs_are ts i x ((r, Settled a) ∷ es) =
 
 -- what an index has room for, for its postings
 abbrev pub postings_room : Tables → List ℕ × Index → ℕ
-postings_room ts e = sum_by (λ r. document_cost e.0 (postings_in ts (Some e.1) r)) (settled_keys (entries (marks_in e.1.body))) + (part_in e.1.body).waste
+postings_room ts e = sum_by (λ r. document_cost e.0 (postings_in ts (Some e.1) r)) (settled_keys (entries e.1.body.marks)) + e.1.body.part.waste
 
 index_weighs : (document : List ℕ → ℤ → Option ℕ) (ts : Tables) (e : List ℕ × Index) → sum_by entry_weight (index_entries document e) + postings_room ts e ≤ index_room ts e
 index_weighs document ts e =
     omega (
       arith,
-      sum_by-cons entry_weight (entry (key kind.Indexes e.0 []) (index_entry e.1)) (flat_map (mark_entries document e.0) (entries (marks_in e.1.body))),
-      marks_weigh document ts e.0 e.1 (entries (marks_in e.1.body)),
-      costs_are ts e.0 e.1 (entries (marks_in e.1.body)),
+      sum_by-cons entry_weight (entry (key kind.Indexes e.0 []) (index_entry e.1)) (flat_map (mark_entries document e.0) (entries e.1.body.marks)),
+      marks_weigh document ts e.0 e.1 (entries e.1.body.marks),
+      costs_are ts e.0 e.1 (entries e.1.body.marks),
     )
 
 indexes_weigh : (document : List ℕ → ℤ → Option ℕ) (ts : Tables) (es : List (List ℕ × Index)) → sum_by entry_weight (flat_map (index_entries document) es) + sum_by (postings_room ts) es ≤ sum_by (index_room ts) es

@@ -17,8 +17,9 @@ use Rattle.ct_entry.specs.Lists.{IsIn}
 use Rattle.ct_entry.specs.laws.Lists.{in_left, in_right, in_mapped}
 use Rattle.ct_entry.specs.laws.MapEntries.{get_in, in_get}
 use Rattle.ix_docmap.specs.Marks.{Mark, is_settled}
-use Rattle.ix_context.specs.Indexes.{Index, marks_in, mark_of, part_of}
-use Rattle.ix_context.specs.Documents.{document_cost, postings_in}
+use Rattle.ix_context.specs.Documents.{document_cost}
+use Rattle.ix_indexes.specs.Indexes.{Index, mark_of, part_of, postings_in}
+use Rattle.ix_indexes.specs.laws.Indexes.{context_at}
 use Rattle.ix_context.specs.laws.Weights.{has_code, weighs as postings_weigh}
 use Rattle.tx_prefs.specs.Room.{preference_entries}
 use Rattle.tx_prefs.specs.laws.Room.{lexer_in, stoplist_in, group_in}
@@ -111,11 +112,11 @@ module _ (c : Content) (m : StoreState) (stands : StandsForState c m) where
   -- the settled rows of the index of a name
   abbrev settled_of : Option Index → List ℤ
   settled_of None = []
-  settled_of (Some x) = settled_keys (entries (marks_in x.body))
+  settled_of (Some x) = settled_keys (entries x.body.marks)
 
   settled_listed : (o : Option Index) (r : ℤ) → is_settled (mark_of o r) ≡ true → IsIn r (settled_of o)
   settled_listed None r h = cc
-  settled_listed (Some x) r h = in_settled r (entries (marks_in x.body)) (ap is_settled (sym (get-entries (marks_in x.body) r)) ∙ h)
+  settled_listed (Some x) r h = in_settled r (entries x.body.marks) (ap is_settled (sym (get-entries x.body.marks r)) ∙ h)
 
   abbrev room_of : List ℕ → ℕ
   room_of i = sum_by (λ r. document_cost i (postings_in m.tables (get m.indexes i) r)) (settled_of (get m.indexes i)) + (part_of (get m.indexes i)).waste
@@ -136,9 +137,9 @@ module _ (c : Content) (m : StoreState) (stands : StandsForState c m) where
 
   pub weighs : weight c ≤ room m
   weighs =
-      let whole = postings_weigh c stands.only (λ i. postings_in m.tables (get m.indexes i)) (λ i. mark_of (get m.indexes i)) (λ i. part_of (get m.indexes i)) (λ i. (stands.indexes i).context)
+      let whole = postings_weigh c stands.only (λ i. postings_in m.tables (get m.indexes i)) (λ i. mark_of (get m.indexes i)) (λ i. part_of (get m.indexes i)) (λ i. context_at (at c) m.tables i (get m.indexes i) (stands.indexes i))
       (map (λ e. e.0) (entries m.indexes)) (λ i. settled_of (get m.indexes i))
-      (λ i r h. settled_listed (get m.indexes i) r (sym ((stands.indexes i).context.documents.numbers.marked r) ∙ h)) named
+      (λ i r h. settled_listed (get m.indexes i) r (sym ((context_at (at c) m.tables i (get m.indexes i) (stands.indexes i)).documents.numbers.marked r) ∙ h)) named
       (all_entries its_numbers m) entry_listed in
       let rooms = rooms_are (entries m.indexes) (λ e h. in_get nat_list_cmp_total m.indexes e h) in
       omega (arith, whole, rooms, all_weigh its_numbers m)

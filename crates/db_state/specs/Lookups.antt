@@ -4,7 +4,8 @@ use Rattle.std.specs.FinMap.{get, entries}
 use Rattle.ct_entry.specs.Maps.{Names, Rows}
 use Rattle.ix_docmap.specs.Marks.{Mark}
 use Rattle.tx_settings.specs.Defaults.{default_prefs}
-use Rattle.ix_context.specs.Indexes.{Index, OfContext, no_part}
+use Rattle.ix_context.specs.Indexes.{no_part}
+use Rattle.ix_indexes.specs.Indexes.{Index}
 use Rattle.std.specs.Bool.{if◌then◌else◌}
 use Rattle.ct_entry.specs.Keys.{same_list}
 
@@ -23,7 +24,7 @@ FoundOn xs t place None = index_on xs t place ≡ None
 
 -- computed examples: two indexes on columns of `docs`, whatever their marks, and none on another column
 abbrev on_docs : ℕ → Rows (Mark (Unit {0})) → Index
-on_docs column marks = record { table = codes "docs"; column = column; prefs = default_prefs; body = OfContext (record { part = no_part; marks = marks }) }
+on_docs column marks = record { table = codes "docs"; column = column; prefs = default_prefs; body = record { part = no_part; marks = marks } }
 
 the_second : (ms : Rows (Mark (Unit {0}))) → index_among (codes "docs") 2 ((codes "di", on_docs 1 ms) ∷ (codes "dj", on_docs 2 ms) ∷ []) ≡ Some (on_docs 2 ms)
 the_second ms = refl

@@ -7,17 +7,15 @@ use Rattle.std.proofs.Common.{ap, ◌∙◌, sym, arith}
 use Rattle.ct_keep.specs.Content.{Content, weight}
 use Rattle.ct_keep.specs.Changes.{HoldsWell}
 use Rattle.ct_entry.specs.Maps.{each_value}
-use Rattle.ix_context.specs.Indexes.{Index, Body, OfContext}
+use Rattle.ix_kinds.specs.Statements as statements
+use Rattle.ix_indexes.specs.Indexes.{Index, kinds}
 use Rattle.db_state.specs.States.{StoreState, empty_state, StandsForState}
 use Rattle.db_state.specs.Room.{room}
 use Rattle.db_state.specs.Shapes.{IsStoreEntry}
 
 -- an index, and a state, with nothing that is wasted
-abbrev pub without_waste : Body → Body
-without_waste (OfContext c) = OfContext (record c { part = record c.part { waste = 0 } })
-
 abbrev pub unwasted : Index → Index
-unwasted x = record x { body = without_waste x.body }
+unwasted x = statements.unwasted kinds x
 
 abbrev pub but_for_waste : StoreState → StoreState
 but_for_waste m = record m { indexes = each_value unwasted m.indexes }

@@ -3,7 +3,7 @@ use Rattle.std.specs.Prelude.{ℕ, ◌+◌, sum_by, ◌≡◌, ◌∷◌, [], co
 use Rattle.std.specs.FinMap.{entries, from_sorted, entries-from_sorted}
 use Rattle.db_state.specs.States.{StoreState}
 pub use Rattle.tb_table.specs.Room.{key_weight, text_room, row_room, table_room}
-pub use Rattle.ix_context.specs.Room.{mark_room, longest_resume, index_room}
+pub use Rattle.ix_indexes.specs.Room.{longest_resume, index_room}
 pub use Rattle.tx_prefs.specs.Room.{preferences_room}
 use Rattle.tx_prefs.specs.Room.{no_room}
 use Rattle.tx_prefs.specs.Preferences.{no_preferences}
@@ -12,8 +12,8 @@ use Rattle.std.specs.Cmp.Lexicographic.{slice_cmp}
 use Rattle.std.proofs.Common.{List, ap, ◌∙◌}
 use Rattle.tb_table.specs.Tables.{Table, docs_table, docs_alone}
 use Rattle.tb_table.specs.Room.{docs_room}
-use Rattle.ix_context.specs.Indexes.{Index}
-use Rattle.ix_context.specs.Room.{di_index, di_room}
+use Rattle.ix_indexes.specs.Indexes.{Index}
+use Rattle.ix_indexes.specs.Room.{di_index, di_room}
 
 abbrev pub room : StoreState → ℕ
 room m = sum_by table_room (entries m.tables) + sum_by (index_room m.tables) (entries m.indexes) + preferences_room m.preferences

@@ -11,12 +11,10 @@ use Rattle.ct_entry.specs.Maps.{Names}
 use Rattle.tb_table.specs.Tables.{Table, Tables}
 use Rattle.tb_table.specs.Spelling.{TablesStand}
 use Rattle.tb_table.specs.Rules.{AreTables}
-use Rattle.ix_context.specs.Indexes.{Index}
+use Rattle.ix_indexes.specs.Indexes.{Index, IndexesStand, AreIndexes}
 use Rattle.tx_prefs.specs.Preferences.{Preferences, no_preferences}
 use Rattle.tx_prefs.specs.Spelling.{PreferencesStand}
 use Rattle.tx_prefs.specs.Rules.{ArePreferences}
-use Rattle.ix_context.specs.Standing.{IndexesStand}
-use Rattle.ix_context.specs.Rules.{AreIndexes}
 
 -- the tables with their rows, the text indexes on them, and what has been defined for indexes
 pub record StoreState : Type 0 where

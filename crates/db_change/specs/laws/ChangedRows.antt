@@ -1,31 +1,25 @@
 -- The state after new values of rows.
-use Rattle.std.proofs.Common.{◌≡◌, ℕ, ℤ, ◌<◌, ◌≤◌, ◌^◌, Bool, true, false, cond, List, [], ◌∷◌, ◌++◌, length, map, Option, Some, None, refl, sym, ap, subst, ◌∙◌, arith, inl, inr}
-use Rattle.std.specs.Prelude.{is_some, filter, ◌||◌, ◌&&◌}
-use Rattle.std.specs.Option.{option_map, option_and_then}
-use Rattle.std.specs.Ordering.{int_eq, is_lt, nat_cmp}
-use Rattle.std.specs.declared.cmp.Ordering.{Ordering}
-use Rattle.std.specs.Cmp.{IsTotalOrder}
-use Rattle.std.specs.Cmp.Lexicographic.{slice_cmp}
-use Rattle.std.specs.FinMap.{FinMap, get, entries}
-use Rattle.std.proofs.lemmas.Cmp.{nat_list_cmp_total}
+use Rattle.std.proofs.Common.{◌≡◌, ℕ, ℤ, ◌<◌, ◌≤◌, ◌^◌, Bool, true, false, List, [], ◌∷◌, ◌++◌, length, Option, Some, None, refl, sym, ap, subst, ◌∙◌, arith, inl, inr}
+use Rattle.std.specs.Prelude.{is_some, ◌||◌}
+use Rattle.std.specs.Option.{option_map}
+use Rattle.std.specs.Ordering.{int_eq}
+use Rattle.std.specs.FinMap.{get}
 use Rattle.ct_base.specs.Names.{IsName}
 use Rattle.ct_base.specs.declared.lists.Value.{Value}
 use Rattle.ct_base.specs.laws.Options.{option_map_some}
 use Rattle.ct_keep.specs.Content.{Content, after}
-use Rattle.ct_keep.specs.RisingKeys.{below, rises, entries_rise}
 use Rattle.ct_entry.specs.declared.kinds.Kind.{Kind}
 use Rattle.ct_entry.specs.declared.kinds.Kind.TheVariants as kind
 use Rattle.ct_entry.specs.Keys.{Key, at, same_list, IsRow}
 use Rattle.ct_entry.specs.Each.{each, is_any_of}
 use Rattle.ct_entry.specs.Lists.{IsIn, AreApart}
-use Rattle.ct_entry.specs.Maps.{Names, each_at}
 use Rattle.ct_entry.specs.Changes.{spell, view, AreChanges, AllOf}
 use Rattle.ct_entry.specs.laws.Changes.{at_view, at-after, only-after, told_frame, view-append, are-append, all-append}
 use Rattle.ct_entry.specs.laws.Each.{all_each}
 use Rattle.ct_entry.specs.laws.Keys.{list_same}
 use Rattle.ct_entry.specs.laws.Parts.{int_from_eq}
 use Rattle.tb_table.specs.declared.columns.Column.{Column}
-use Rattle.tb_table.specs.Tables.{Table, Tables, row_in, row_at, numbers_of, text_in_column, with_row}
+use Rattle.tb_table.specs.Tables.{Table, Tables, row_in, row_at, numbers_of, with_row}
 use Rattle.tb_table.specs.Spelling.{TablesStand, insert_changes}
 use Rattle.tb_table.specs.Rules.{FitColumns, AreTables, others}
 use Rattle.tb_table.specs.laws.Changes.{is_of_tables, all_insert, tables_frame, columns-with_row, row_at-with_row}
@@ -35,27 +29,29 @@ use Rattle.tb_table.specs.laws.Well.{are_insert}
 use Rattle.ix_docmap.specs.Changes.{changed_changes}
 use Rattle.ix_docmap.specs.Readings.{document_at}
 use Rattle.ix_docmap.specs.laws.Documents.{is_of_map}
-use Rattle.ix_context.specs.Indexes.{Index, marks_in, part_in}
-use Rattle.ix_context.specs.Documents.{changed_index, changed_on}
-use Rattle.ix_context.specs.Standing.{IndexStands, IndexesStand}
-use Rattle.ix_context.specs.RowSteps.{HaveSameColumns, SetsColumns, AwaitsTurn, StepsSetColumns, AreIndexesOnColumns, IndexesHold, is_on_columns, tables_after, changed_after}
-use Rattle.ix_context.specs.laws.RowSteps.{HasStill, has_still, sets_columns, and_false}
-use Rattle.ix_context.specs.laws.Turns.{rows_changed_stand}
-use Rattle.ix_context.specs.laws.Changed.{all_changed, changed_table}
-use Rattle.ix_context.specs.laws.Changes.{row_is_row}
+use Rattle.ix_kinds.specs.Rows.{RowChange, table_at, value_of}
+use Rattle.ix_kinds.specs.Statements.{tables_after, looks_at_any, is_on, AreIndexesOn, indexes_after, row_changes_at}
+use Rattle.ix_kinds.specs.RowSteps.{HaveSameColumns, DifferInRow, SetsColumns, AwaitsTurn, IsStep, AreSteps, IndexesHold}
+use Rattle.ix_kinds.specs.laws.Tables.{and_false, differs, row_now as row_after, set_looks_alike, HasStill, has_still}
+use Rattle.ix_kinds.specs.laws.Turns.{row_is_row, rows_in_turn}
 use Rattle.ix_context.specs.laws.Gone.{document_read}
+use Rattle.ix_context.specs.laws.Changed.{all_changed}
+use Rattle.ix_indexes.specs.Indexes.{Index, kinds, StandsAt, IndexesStand}
+use Rattle.ix_indexes.specs.laws.ContextCreates.{context_laws}
+use Rattle.ix_indexes.specs.laws.Indexes.{context_is}
+use Rattle.ix_indexes.specs.laws.Rows.{each_among, sets_are}
+use Rattle.db_change.specs.laws.IndexCounts.{few_after}
 use Rattle.st_parse.specs.declared.statements.Assign.{Assign}
 use Rattle.db_rows.specs.Values.{values_of, row_values}
 use Rattle.tx_prefs.specs.Spelling.{PreferencesStand}
 use Rattle.tx_prefs.specs.laws.Changes.{preferences_frame, other_kinds}
-use Rattle.db_state.specs.States.{StoreState, StandsForState, HasShortRows, is_of_rows, is_built, is_view, indexes_on, index_limit}
-use Rattle.db_state.specs.laws.EachValue.{entries-from_rising, count_alike}
+use Rattle.db_state.specs.States.{StoreState, StandsForState, HasShortRows, is_of_rows, is_built, is_view, index_limit}
 use Rattle.db_state.specs.laws.Kinds.{tables_no_map}
 use Rattle.db_state.specs.laws.ShortRows.{rows_frame}
 use Rattle.db_change.specs.Updating.{updated_values, places_set, row_updated, with_updates, numbers_after, texts_set, value_changes, note_changes, update_changes}
 use Rattle.db_change.specs.laws.NewTables.{apart}
 use Rattle.std.proofs.lemmas.Bool.{or_right}
-use Rattle.db_change.specs.laws.SetValues.{SetFits, values_fit, numbers_values, is_update, set_places, text_stays}
+use Rattle.db_change.specs.laws.SetValues.{SetFits, values_fit, numbers_values, is_update, set_places, value_stays}
 
 -- ---- the kinds of the changes
 
@@ -99,36 +95,6 @@ are_changed i r (Some d) name row few = (
   (record { owner = name; part = (r, row, refl) }, (record { owner = name; part = (r, row, refl) }, tt)),
 )
 
--- ---- how many indexes
-
-module _ {K X Y : Type 0} (R : K → K → Ordering) (f : K → X → Y) where
-  at_below : (k : K) (es : List (K × X)) → below R k (map (λ e. (e.0, f e.0 e.1)) es) ≡ below R k es
-  at_below k [] = refl
-  at_below k (e ∷ es) = ap (λ (b : Bool). is_lt (R k e.0) && b) (at_below k es)
-
-  at_rise : (es : List (K × X)) → rises R (map (λ e. (e.0, f e.0 e.1)) es) ≡ rises R es
-  at_rise [] = refl
-  at_rise (e ∷ es) = ap (λ (b : Bool). b && rises R (map (λ e. (e.0, f e.0 e.1)) es)) (at_below e.0 es) ∙ ap (λ (b : Bool). below R e.0 es && b) (at_rise es)
-
-  entries-each_at : IsTotalOrder R → (m : FinMap R X) → entries (each_at f m) ≡ map (λ e. (e.0, f e.0 e.1)) (entries m)
-  entries-each_at o m = entries-from_rising R o (map (λ e. (e.0, f e.0 e.1)) (entries m)) (at_rise (entries m) ∙ entries_rise R m)
-
-few_changed : (ts : Tables) (xs : Names Index) (t places : List ℕ) (r : ℤ) (q : List ℕ) → length (indexes_on (changed_on ts xs t places r) q) ≡ length (indexes_on xs q)
-few_changed ts xs t places r q =
-    ap (λ (es : List (List ℕ × Index)). length (filter (λ e. same_list e.1.table q) es)) (entries-each_at (slice_cmp nat_cmp) now nat_list_cmp_total xs)
-    ∙ count_alike (λ (e : List ℕ × Index). (e.0, now e.0 e.1)) (λ e. same_list e.1.table q) (λ e. same_list e.1.table q) (λ e. ap (λ (u : List ℕ). same_list u q) (same e.0 e.1 (same_list e.1.table t))) (entries xs)
-  where
-    now : List ℕ → Index → Index
-    now i x = cond (same_list x.table t) (changed_index ts places r i x) x
-
-    same : (i : List ℕ) (x : Index) (b : Bool) → (cond b (changed_index ts places r i x) x).table ≡ x.table
-    same i x true = changed_table ts places r i x
-    same i x false = refl
-
-few_after : (step : Tables → ℤ → Tables) (t places : List ℕ) (rows : List ℤ) (ts : Tables) (xs : Names Index) (q : List ℕ) → length (indexes_on (changed_after step ts xs t places rows) q) ≡ length (indexes_on xs q)
-few_after step t places [] ts xs q = refl
-few_after step t places (r ∷ rows) ts xs q = few_after step t places rows (step ts r) (changed_on ts xs t places r) q ∙ few_changed ts xs t places r q
-
 -- ---- the same columns
 
 alike_with_row : (ts : Tables) (t : List ℕ) (r : ℤ) (vs : List Value) → HaveSameColumns ts (with_row ts t r vs)
@@ -146,7 +112,7 @@ alike_after t columns assigns (r ∷ rows) ts q =
 -- ---- the rows of a statement
 
 module _ (c : Content) (m : StoreState) (t : List ℕ) (x : Table) (assigns : List Assign) (names : List (List ℕ)) (stands : StandsForState c m) (here : get m.tables t ≡ Some x) (set : SetFits assigns (others x.columns))
-    (on : AreIndexesOnColumns m.indexes t (places_set x.columns assigns) names) where
+    (on : AreIndexesOn kinds (looks_at_any kinds (places_set x.columns assigns)) m.indexes t names) where
   abbrev columns : List Column
   columns = others x.columns
 
@@ -161,6 +127,10 @@ module _ (c : Content) (m : StoreState) (t : List ℕ) (x : Table) (assigns : Li
 
   abbrev notes : ℤ → List (Key × Option (List ℕ))
   notes r = note_changes c names r
+
+  -- a row as UPDATE tells of it
+  abbrev change : ℤ → RowChange
+  change r = record { row = r; old = row_at m.tables t r; new = Some (updated_values columns assigns (row_values m.tables t r)) }
 
   -- a row that is there, as its turn comes
   record Turn (ts : Tables) (r : ℤ) : Type 0 where
@@ -196,15 +166,31 @@ module _ (c : Content) (m : StoreState) (t : List ℕ) (x : Table) (assigns : Li
         ap (λ (ns : List ℤ). insert_changes t r ns (texts_set 1 columns assigns))
         (numbers_values assigns columns at_turn.old at_turn.fit set ∙ ap (λ (o : Option (List Value)). numbers_after columns assigns (numbers_of (values_of o))) (sym at_turn.first))
 
-    sets : AwaitsTurn m.tables ts t r → AreTables (step ts r) × SetsColumns ts (step ts r) t places r
-    sets awaits =
+    differ : DifferInRow ts (with_row ts t r new) t r
+    differ = differs ts (with_row ts t r new) t r (Some new) (columns-with_row ts t r new at_turn.still.table at_turn.still.here) (row_at-with_row ts t r new at_turn.still.table at_turn.still.here)
+
+    has_it : row_at (with_row ts t r new) t r ≡ Some new
+    has_it = row_after ts (with_row ts t r new) t r (Some new) (row_at-with_row ts t r new at_turn.still.table at_turn.still.here)
+
+    sets : SetsColumns ts (with_row ts t r new) t places r
+    sets = record {
+      was = ap is_some row_now;
+      there = ap is_some has_it;
+      values = λ column other.
+          ap (λ (o : Option (List Value)). value_of o column) has_it
+          ∙ value_stays x.columns assigns at_turn.old (stands.state.tables.each t x here).columns.apart at_turn.fit column other
+          ∙ sym (ap (λ (o : Option (List Value)). value_of o column) row_now);
+    }
+
+    is_step : AwaitsTurn m.tables ts t r → IsStep kinds (looks_at_any kinds places) ts (step ts r) t (change r)
+    is_step awaits =
         let still = at_turn.still in
-        let apart = (stands.state.tables.each t x here).columns.apart in
-        subst (λ (us : Tables). AreTables us × SetsColumns ts us t places r) (sym step_is) (
-          update_keeps ts t r at_turn.old new still.table awaits.rules still.here still.row (subst (λ (cs : List Column). FitColumns (others cs) new) (sym still.columns) (values_fit assigns columns at_turn.old at_turn.fit set)),
-          sets_columns ts (with_row ts t r new) t places r new (columns-with_row ts t r new still.table still.here) (row_at-with_row ts t r new still.table still.here)
-              (λ column other. text_stays x.columns assigns at_turn.old apart at_turn.fit set column other ∙ sym (ap (option_and_then (λ (vs : List Value). text_in_column vs column)) row_now)),
-        )
+        subst (λ (us : Tables). IsStep kinds (looks_at_any kinds places) ts us t (change r)) (sym step_is) (record {
+          rules = update_keeps ts t r at_turn.old new still.table awaits.rules still.here still.row (subst (λ (cs : List Column). FitColumns (others cs) new) (sym still.columns) (values_fit assigns columns at_turn.old at_turn.fit set));
+          differ = differ;
+          told = let same = ap (λ (o : Option (List Value)). Some (updated_values columns assigns (values_of o))) at_turn.first ∙ sym has_it in λ j. record { row = r; old = sym awaits.row j; new = same j };
+          unseen = λ y unseen. set_looks_alike ts (with_row ts t r new) t places r (kinds.looks y) differ sets unseen;
+        })
 
     stands_then : (f : Key → Option (List ℕ)) → IsRow r → TablesStand f ts → TablesStand (view (own r ++ notes r) f) (step ts r)
     stands_then f row stand =
@@ -214,8 +200,8 @@ module _ (c : Content) (m : StoreState) (t : List ℕ) (x : Table) (assigns : Li
         (subst (TablesStand (view (insert_changes t r (numbers_of new) (texts_set 1 columns assigns)) f)) (sym step_is)
         (stand_update f ts t r at_turn.old new (texts_set 1 columns assigns) row_now row (is_update assigns columns at_turn.old at_turn.fit set) stand))))
 
-  steps_set : (rows : List ℤ) → ((r : ℤ) → IsIn r rows → is_some (row_at m.tables t r) ≡ true) → StepsSetColumns m.tables step t places rows
-  steps_set rows there ts r among awaits = sets ts r (turn ts r (there r among) awaits) awaits
+  are_steps : (rows : List ℤ) → ((r : ℤ) → IsIn r rows → is_some (row_at m.tables t r) ≡ true) → AreSteps kinds (looks_at_any kinds places) m.tables step t change rows
+  are_steps rows there ts r among awaits = is_step ts r (turn ts r (there r among) awaits) awaits
 
   -- ---- the tables, row by row
 
@@ -232,11 +218,11 @@ module _ (c : Content) (m : StoreState) (t : List ℕ) (x : Table) (assigns : Li
   tables_stand (r ∷ rows) distinct there f ts rules alike same stand =
       let awaits : AwaitsTurn m.tables ts t r = record { rules = rules; alike = alike; row = same r (inl refl) } in
       let at_turn = turn ts r (there r (inl refl)) awaits in
-      let next = sets ts r at_turn awaits in
+      let next = is_step ts r at_turn awaits in
       let row = row_is_row m.tables stands.state.tables t r (there r (inl refl)) in
       subst (λ (g : Key → Option (List ℕ)). TablesStand g (tables_after step (step ts r) rows)) (sym (view-append (own r ++ notes r) (each (λ r. own r ++ notes r) rows) f))
-      (tables_stand rows distinct.1 (λ s later. there s (inr later)) (view (own r ++ notes r) f) (step ts r) next.0 (λ q. next.1.alike q ∙ alike q)
-      (λ s later. next.1.others t s (and_false (same_list t t) (int_eq s r) (other_row r s rows distinct.0 later)) ∙ same s (inr later))
+      (tables_stand rows distinct.1 (λ s later. there s (inr later)) (view (own r ++ notes r) f) (step ts r) next.rules (λ q. next.differ.alike q ∙ alike q)
+      (λ s later. next.differ.others t s (and_false (same_list t t) (int_eq s r) (other_row r s rows distinct.0 later)) ∙ same s (inr later))
       (stands_then ts r at_turn f row stand))
 
   -- ---- the changes
@@ -249,20 +235,20 @@ module _ (c : Content) (m : StoreState) (t : List ℕ) (x : Table) (assigns : Li
       (all_weaker is_of_map is_of_update of_map (notes r) (notes_map c names r))) rows
 
   -- an index on a column that is set gives its document a number that keys have
-  document_few : (i : List ℕ) (r : ℤ) → IsRow r → (o : Option Index) → get m.indexes i ≡ o → is_on_columns t places o ≡ true → (d : ℕ) → document_at (at c) i r ≡ Some d → d < 2 ^ 32
+  document_few : (i : List ℕ) (r : ℤ) → IsRow r → (o : Option Index) → get m.indexes i ≡ o → is_on kinds (looks_at_any kinds places) t o ≡ true → (d : ℕ) → document_at (at c) i r ≡ Some d → d < 2 ^ 32
   document_few i r row None is on d read = cc
   document_few i r row (Some y) is on d read =
-      let stand : IndexStands (at c) m.tables i (Some y) = subst (IndexStands (at c) m.tables i) is (stands.indexes i) in
-      let most = (stands.state.indexes.each i y is).numbers in
-      let known = document_read (at c) i (get (marks_in y.body)) (part_in y.body).given stand.context.document stand.context.row stand.context.documents (omega (arith, most)) r row in
-      let within = (stand.context.documents.numbers.within r d (sym known ∙ read)).1 in
+      let stand : StandsAt (at c) m.tables i (Some y) = subst (StandsAt (at c) m.tables i) is (stands.indexes i) in
+      let most = (context_is m.tables y (stands.state.indexes.each i y is)).numbers in
+      let known = document_read (at c) i (get y.body.marks) y.body.part.given stand.part.document stand.part.row stand.part.documents (omega (arith, most)) r row in
+      let within = (stand.part.documents.numbers.within r d (sym known ∙ read)).1 in
       omega (arith, most, within)
 
-  index_named : (i : List ℕ) (o : Option Index) → get m.indexes i ≡ o → is_on_columns t places o ≡ true → IsName i
+  index_named : (i : List ℕ) (o : Option Index) → get m.indexes i ≡ o → is_on kinds (looks_at_any kinds places) t o ≡ true → IsName i
   index_named i None is on = cc
   index_named i (Some y) is on = stands.state.indexes.names i y is
 
-  notes_are : (r : ℤ) → IsRow r → (is : List (List ℕ)) → ((i : List ℕ) → is_any_of i is ≡ true → is_on_columns t places (get m.indexes i) ≡ true) → AreChanges (note_changes c is r)
+  notes_are : (r : ℤ) → IsRow r → (is : List (List ℕ)) → ((i : List ℕ) → is_any_of i is ≡ true → is_on kinds (looks_at_any kinds places) t (get m.indexes i) ≡ true) → AreChanges (note_changes c is r)
   notes_are r row [] each_on = tt
   notes_are r row (i ∷ is) each_on =
       let first = each_on i (ap (λ (b : Bool). b || is_any_of i is) (list_same i)) in
@@ -289,11 +275,20 @@ module _ (c : Content) (m : StoreState) (t : List ℕ) (x : Table) (assigns : Li
   -- ---- the state
 
   module _ (rows : List ℤ) (distinct : AreApart rows) (there : (r : ℤ) → IsIn r rows → is_some (row_at m.tables t r) ≡ true) where
-    hold : IndexesHold (view (update_changes c m t columns assigns names rows) (at c)) (tables_after step m.tables rows) (changed_after step m.tables m.indexes t places rows)
+    abbrev told : ℤ → List (Key × Option (List ℕ))
+    told r = own r ++ each (row_changes_at kinds (at c) m.indexes (table_at m.tables t).columns (change r)) names
+
+    as_told : each told rows ≡ update_changes c m t columns assigns names rows
+    as_told =
+        each_among told (λ r. own r ++ notes r) rows
+        (λ r among. ap (λ (ws : List (Key × Option (List ℕ))). own r ++ ws) (sets_are (at c) m.indexes (table_at m.tables t).columns (change r) (looks_at_any kinds places) t names on (there r among) refl))
+
+    hold : IndexesHold kinds (view (update_changes c m t columns assigns names rows) (at c)) (tables_after step m.tables rows) (indexes_after kinds (looks_at_any kinds places) step m.tables t rows m.indexes)
     hold =
-        rows_changed_stand (at c) m.tables m.indexes t places names rows step is_of_tables own on distinct there (steps_set rows there)
+        subst (λ (ws : List (Key × Option (List ℕ))). IndexesHold kinds (view ws (at c)) (tables_after step m.tables rows) (indexes_after kinds (looks_at_any kinds places) step m.tables t rows m.indexes)) as_told
+        (rows_in_turn kinds context_laws (looks_at_any kinds places) (λ y b. refl) t names (at c) m.indexes m.tables step change (λ r. refl) is_of_tables own
         (λ r. all_insert t r (numbers_after columns assigns (numbers_of (row_values m.tables t r))) (texts_set 1 columns assigns)) apart
-        (record { tables = stands.state.tables; rules = stands.state.indexes; stand = stands.indexes })
+        rows (are_steps rows there) distinct (λ r among. row_is_row m.tables stands.state.tables t r (there r among)) on (record { tables = stands.state.tables; rules = stands.state.indexes; stand = stands.indexes }))
 
     views_stay : (q : List ℕ) (y : Table) → get (tables_after step m.tables rows) q ≡ Some y → is_view q ≡ false
     views_stay q y is =
@@ -304,7 +299,7 @@ module _ (c : Content) (m : StoreState) (t : List ℕ) (x : Table) (assigns : Li
     changed_rows_stand =
         let ws = update_changes c m t columns assigns names rows in
         let us = tables_after step m.tables rows in
-        let ys = changed_after step m.tables m.indexes t places rows in
+        let ys = indexes_after kinds (looks_at_any kinds places) step m.tables t rows m.indexes in
         record {
           only = only-after ws c stands.only (updates_are rows there);
           unbuilt = λ k h. at-after ws c k ∙ told_frame is_of_update ws k (at c k) (updates_kinds rows) (update_built k.kind h) ∙ stands.unbuilt k h;
@@ -317,7 +312,7 @@ module _ (c : Content) (m : StoreState) (t : List ℕ) (x : Table) (assigns : Li
             tables = hold.tables;
             indexes = hold.rules;
             views = views_stay;
-            few = λ q. subst (λ (n : ℕ). n ≤ index_limit) (sym (few_after step t places rows m.tables m.indexes q)) (stands.state.few q);
+            few = λ q. subst (λ (n : ℕ). n ≤ index_limit) (sym (few_after (looks_at_any kinds places) step m.tables t rows m.indexes q)) (stands.state.few q);
             preferences = stands.state.preferences;
           };
         }

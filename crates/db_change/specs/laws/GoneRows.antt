@@ -1,5 +1,5 @@
 -- The state after rows went.
-use Rattle.std.proofs.Common.{◌≡◌, ℕ, ℤ, ◌≤◌, Bool, true, false, cond, List, [], ◌∷◌, ◌++◌, length, Option, Some, None, refl, sym, ap, subst, ◌∙◌, inl, inr, arith}
+use Rattle.std.proofs.Common.{◌≡◌, ℕ, ℤ, ◌≤◌, Bool, true, false, cond, List, [], ◌∷◌, ◌++◌, Option, Some, None, refl, sym, ap, subst, ◌∙◌, inl, inr, arith}
 use Rattle.std.specs.Prelude.{is_some, ◌&&◌}
 use Rattle.std.specs.Option.{option_map}
 use Rattle.std.specs.Ordering.{int_eq, nat_cmp, eq_by_cmp}
@@ -12,7 +12,6 @@ use Rattle.ct_entry.specs.declared.kinds.Kind.{Kind}
 use Rattle.ct_entry.specs.declared.kinds.Kind.TheVariants as kind
 use Rattle.ct_entry.specs.Keys.{Key, HasKeysOnly, IsRow, at, bytes, same_list}
 use Rattle.ct_entry.specs.laws.Keys.{list_same}
-use Rattle.ct_entry.specs.Maps.{Names}
 use Rattle.ct_entry.specs.Lists.{IsIn, AreApart}
 use Rattle.ct_entry.specs.Each.{each}
 use Rattle.ct_entry.specs.laws.Each.{all_each}
@@ -28,21 +27,22 @@ use Rattle.tb_table.specs.laws.Rules.{delete_keeps}
 use Rattle.ix_docmap.specs.Changes.{gone_changes}
 use Rattle.ix_docmap.specs.Readings.{document_at}
 use Rattle.ix_docmap.specs.laws.Documents.{is_of_map}
-use Rattle.ix_context.specs.Indexes.{Index}
-use Rattle.ix_context.specs.Documents.{gone_index, gone_on}
-use Rattle.ix_context.specs.Standing.{IndexesStand}
-use Rattle.ix_context.specs.RowSteps.{StepsLoseRows, tables_after, gone_after}
-use Rattle.ix_context.specs.laws.Changes.{row_is_row}
 use Rattle.ix_context.specs.laws.Gone.{all_gone}
-use Rattle.ix_context.specs.laws.RowSteps.{loses_row}
-use Rattle.ix_context.specs.laws.Turns.{rows_gone_stand}
+use Rattle.ix_kinds.specs.Rows.{table_at, RowChange}
+use Rattle.ix_kinds.specs.Statements.{tables_after, every, indexes_after, row_changes_at}
+use Rattle.ix_kinds.specs.RowSteps.{AreSteps, IndexesHold}
+use Rattle.ix_kinds.specs.laws.Tables.{differs, row_now}
+use Rattle.ix_kinds.specs.laws.Turns.{row_is_row, rows_in_turn}
+use Rattle.ix_indexes.specs.Indexes.{kinds, IndexesStand}
+use Rattle.ix_indexes.specs.laws.ContextCreates.{context_laws}
+use Rattle.ix_indexes.specs.laws.Rows.{each_among, goes_are}
 use Rattle.tx_prefs.specs.Spelling.{PreferencesStand}
 use Rattle.tx_prefs.specs.laws.Changes.{preferences_frame, other_kinds}
 use Rattle.db_state.specs.laws.ShortRows.{rows_frame}
 use Rattle.db_state.specs.laws.Kinds.{tables_no_map}
-use Rattle.db_state.specs.States.{StoreState, StandsForState, HasShortRows, is_of_rows, is_view, is_built, indexes_on, index_limit}
+use Rattle.db_state.specs.States.{StoreState, StandsForState, HasShortRows, is_of_rows, is_view, is_built, index_limit}
 use Rattle.db_change.specs.Deleting.{gone_row_changes, gone_rows_changes, without_rows}
-use Rattle.db_change.specs.laws.IndexCounts.{few_on_table}
+use Rattle.db_change.specs.laws.IndexCounts.{few_after}
 use Rattle.db_change.specs.laws.NewRows.{names_on, names_on_table}
 use Rattle.db_change.specs.laws.NewTables.{apart}
 
@@ -173,16 +173,24 @@ no_views m t rows views q y is = go (get m.tables q) refl (sym (same_columns m.t
 
 -- ---- the indexes
 
-loses_each : (first : Tables) (t : List ℕ) (rows : List ℤ) → StepsLoseRows first (lose_row t) t rows
-loses_each first t rows ts r among awaits = (delete_keeps ts t r awaits.rules, loses_row ts (without_row ts t r) t r (columns-without_row ts t r) (λ q s. row_at-without_row ts t r q s ∙ apart_tests (same_list q t) (int_eq s r) (row_at ts q s)))
+-- a row as DELETE tells of it
+abbrev pub going : StoreState → List ℕ → ℤ → RowChange
+going m t r = record { row = r; old = row_at m.tables t r; new = None }
+
+loses_each : (m : StoreState) (t : List ℕ) (rows : List ℤ) → AreSteps kinds (every kinds) m.tables (lose_row t) t (going m t) rows
+loses_each m t rows ts r among awaits = record {
+  rules = delete_keeps ts t r awaits.rules;
+  differ = differs ts (without_row ts t r) t r None (columns-without_row ts t r) each;
+  told = λ j. record { row = r; old = sym awaits.row j; new = sym (row_now ts (without_row ts t r) t r None each) j };
+  unseen = λ x h. cc;
+}
   where
     apart_tests : {X : Type 0} (a b : Bool) (o : Option X) → cond (a && b) None o ≡ cond a (cond b None o) o
     apart_tests true b o = refl
     apart_tests false b o = refl
 
-few_after : (ts : Tables) (xs : Names Index) (t : List ℕ) (rows : List ℤ) (q : List ℕ) → length (indexes_on (gone_after (lose_row t) ts xs t rows) q) ≡ length (indexes_on xs q)
-few_after ts xs t [] q = refl
-few_after ts xs t (r ∷ rows) q = few_after (without_row ts t r) (gone_on ts xs t r) t rows q ∙ few_on_table (gone_index ts r) (λ i x. refl) t xs q
+    each : (q : List ℕ) (s : ℤ) → row_at (without_row ts t r) q s ≡ cond (same_list q t) (cond (int_eq s r) None (row_at ts q s)) (row_at ts q s)
+    each q s = row_at-without_row ts t r q s ∙ apart_tests (same_list q t) (int_eq s r) (row_at ts q s)
 
 -- ---- the state
 
@@ -193,14 +201,20 @@ gone_rows_stand c m t x rows stands here once there =
     let names = names_on m.indexes t in
     let ws = gone_rows_changes (at c) t x.columns names rows in
     let seen = at_view ws c in
-    let hold =
-    rows_gone_stand (at c) m.tables m.indexes t names rows (lose_row t) is_of_tables (λ r. delete_changes t x.columns r) (names_on_table m.indexes t) once there (loses_each m.tables t rows)
-    (λ r. all_delete t x.columns r) apart (record { tables = stands.state.tables; rules = stands.state.indexes; stand = stands.indexes }) in
+    let is_row : (r : ℤ) → IsIn r rows → IsRow r = λ r among. row_is_row m.tables stands.state.tables t r (there r among) in
+    let told =
+    rows_in_turn kinds context_laws (every kinds) (λ x b. refl) t names (at c) m.indexes m.tables (lose_row t) (going m t) (λ r. refl) is_of_tables (λ r. delete_changes t x.columns r) (λ r. all_delete t x.columns r) apart
+    rows (loses_each m t rows) once is_row (names_on_table m.indexes t) (record { tables = stands.state.tables; rules = stands.state.indexes; stand = stands.indexes }) in
+    let same : each (λ r. delete_changes t x.columns r ++ each (row_changes_at kinds (at c) m.indexes (table_at m.tables t).columns (going m t r)) names) rows ≡ ws =
+    each_among (λ r. delete_changes t x.columns r ++ each (row_changes_at kinds (at c) m.indexes (table_at m.tables t).columns (going m t r)) names) (gone_row_changes (at c) t x.columns names) rows
+    (λ r among. ap (λ (notes : List (Key × Option (List ℕ))). delete_changes t x.columns r ++ notes) (goes_are (at c) m.indexes (table_at m.tables t).columns (going m t r) (every kinds) t names (names_on_table m.indexes t) (there r among) refl)) in
+    let hold : IndexesHold kinds (view ws (at c)) (tables_after (lose_row t) m.tables rows) (indexes_after kinds (every kinds) (lose_row t) m.tables t rows m.indexes) =
+    subst (λ (ws : List (Key × Option (List ℕ))). IndexesHold kinds (view ws (at c)) (tables_after (lose_row t) m.tables rows) (indexes_after kinds (every kinds) (lose_row t) m.tables t rows m.indexes)) same told in
     record {
       only = drops_leave ws c (rows_drop (at c) t x.columns names rows) stands.only;
       tables = subst (λ (f : Key → Option (List ℕ)). TablesStand f (tables_after (lose_row t) m.tables rows)) (sym seen)
           (tables_without (at c) m.tables t x names (λ i r. document_at (at c) i r) rows here stands.state.tables (λ r among. row_is_row m.tables stands.state.tables t r (there r among)) stands.tables);
-      indexes = subst (λ (f : Key → Option (List ℕ)). IndexesStand f (tables_after (lose_row t) m.tables rows) (gone_after (lose_row t) m.tables m.indexes t rows)) (sym seen) hold.stand;
+      indexes = subst (λ (f : Key → Option (List ℕ)). IndexesStand f (tables_after (lose_row t) m.tables rows) (indexes_after kinds (every kinds) (lose_row t) m.tables t rows m.indexes)) (sym seen) hold.stand;
       unbuilt = λ k h. at-after ws c k ∙ told_frame is_of_row ws k (at c k) (all_rows (at c) t x.columns names rows) (row_built k.kind h) ∙ stands.unbuilt k h;
       preferences = subst (λ (f : Key → Option (List ℕ)). PreferencesStand f m.preferences) (sym seen) (preferences_frame is_of_row ws (at c) m.preferences (all_rows (at c) t x.columns names rows) (other_kinds is_of_row refl refl refl) stands.preferences);
       short_rows = subst HasShortRows (sym seen) (rows_frame is_of_row ws (at c) (all_rows (at c) t x.columns names rows) row_rows stands.short_rows);
@@ -208,7 +222,7 @@ gone_rows_stand c m t x rows stands here once there =
         tables = hold.tables;
         indexes = hold.rules;
         views = no_views m t rows stands.state.views;
-        few = λ q. subst (λ (n : ℕ). n ≤ index_limit) (sym (few_after m.tables m.indexes t rows q)) (stands.state.few q);
+        few = λ q. subst (λ (n : ℕ). n ≤ index_limit) (sym (few_after (every kinds) (lose_row t) m.tables t rows m.indexes q)) (stands.state.few q);
         preferences = stands.state.preferences;
       };
     }

@@ -13,7 +13,7 @@ use Rattle.ct_entry.specs.laws.MapEntries.{in_get}
 use Rattle.ct_entry.specs.laws.Rows.{keys_below, keys_rise_by}
 use Rattle.st_parse.specs.declared.statements.Cond.{Cond}
 use Rattle.tb_table.specs.Tables.{Table, Tables, row_at, row_in}
-use Rattle.ix_context.specs.laws.Turns.{rising_apart}
+use Rattle.ix_kinds.specs.laws.Turns.{rising_apart}
 use Rattle.db_rows.specs.Meeting.{row_meets, meeting, meeting_keys}
 
 -- ---- entries that pass a test have keys that rise

@@ -1,12 +1,9 @@
 -- The state after a new row.
 use Rattle.std.proofs.Common.{◌≡◌, ℕ, ℤ, ◌<◌, ◌≤◌, Bool, true, false, cond, List, [], ◌∷◌, ◌++◌, length, map, Option, Some, None, refl, sym, ap, subst, ◌∙◌}
-use Rattle.std.specs.Prelude.{◌||◌, is_some, filter}
+use Rattle.std.specs.Prelude.{◌&&◌, ◌||◌, is_some}
 use Rattle.std.specs.Option.{option_map}
 use Rattle.std.specs.FinMap.{get, insert, entries}
-use Rattle.std.proofs.lemmas.Cmp.{nat_list_cmp_total}
 use Rattle.std.proofs.lemmas.Map.Made.{is_some-lookup}
-use Rattle.std.specs.Cmp.Lexicographic.{slice_cmp}
-use Rattle.std.specs.Ordering.{nat_cmp}
 use Rattle.ct_base.specs.Names.{IsName}
 use Rattle.ct_base.specs.declared.lists.Value.{Value}
 use Rattle.ct_keep.specs.Content.{Content, after}
@@ -25,16 +22,11 @@ use Rattle.ct_entry.specs.Changes.{spell, told, view, AreChanges, AllOf}
 use Rattle.ct_entry.specs.laws.Changes.{at_view, at-after, only-after, told_frame, told-append, view-append, are-append}
 use Rattle.tb_table.specs.Tables.{Table, Tables, numbers_of, texts_of, row_at, with_row}
 use Rattle.tb_table.specs.Spelling.{TablesStand, insert_changes}
-use Rattle.tb_table.specs.Rules.{FitColumns, others}
-use Rattle.tb_table.specs.laws.Changes.{is_of_tables, all_insert, stand_insert, tables_frame, get-with_row}
+use Rattle.tb_table.specs.Rules.{AreTables, FitColumns, others}
+use Rattle.tb_table.specs.laws.Changes.{is_of_tables, all_insert, stand_insert, tables_frame, get-with_row, columns-with_row, row_at-with_row}
 use Rattle.tb_table.specs.laws.Rules.{insert_keeps}
 use Rattle.tb_table.specs.laws.Well.{are_insert, row_places}
-use Rattle.ix_context.specs.Indexes.{Index, marks_in, noted_index, waiting_on, noted_on}
-use Rattle.ix_context.specs.Rules.{AreIndexes}
-use Rattle.ix_context.specs.Standing.{IndexesStand}
 use Rattle.ix_context.specs.Changes.{note_insert_changes}
-use Rattle.ix_context.specs.laws.Standing.{indexes_frame}
-use Rattle.ix_context.specs.laws.Changes.{stay_with_row}
 use Rattle.db_names.specs.declared.heads.IndexHead.{IndexHead}
 use Rattle.db_names.specs.Promises.{head_of, heads_of}
 use Rattle.db_names.specs.laws.Heads.{heads_at, heads_rise}
@@ -42,14 +34,21 @@ use Rattle.db_names.specs.laws.Pairs.{lookup-find}
 use Rattle.tx_prefs.specs.Spelling.{PreferencesStand}
 use Rattle.tx_prefs.specs.laws.Changes.{preferences_frame, other_kinds}
 use Rattle.db_state.specs.laws.ShortRows.{rows_frame}
-use Rattle.db_state.specs.States.{StoreState, IsState, StandsForState, HasShortRows, is_of_rows, is_view, is_built, indexes_on, index_limit}
+use Rattle.db_state.specs.States.{StoreState, IsState, StandsForState, HasShortRows, is_of_rows, is_view, is_built, index_limit}
 use Rattle.db_change.specs.Inserting.{note_all_changes, with_new_row}
 use Rattle.db_state.specs.laws.Heads.{heads, get-heads, head_of_index}
-use Rattle.db_state.specs.laws.EachValue.{entries-each_value, count_alike}
-use Rattle.ix_context.specs.Promises.{is_on, AreDistinct, AreIndexesOn}
-use Rattle.ix_context.specs.laws.Rules.{row_keeps, row_notes_stand}
+use Rattle.ix_kinds.specs.Rows.{table_at, row_change}
+use Rattle.ix_kinds.specs.Statements.{AreDistinct, every, is_on, AreIndexesOn}
+use Rattle.ix_kinds.specs.RowSteps.{DifferInRow, AreUnseen}
+use Rattle.ix_kinds.specs.laws.Standing.{indexes_frame}
+use Rattle.ix_kinds.specs.laws.Tables.{differs, row_now}
+use Rattle.ix_kinds.specs.laws.Rows.{row_stands, row_keeps}
+use Rattle.ix_indexes.specs.Indexes.{Index, kinds, IndexesStand, AreIndexes}
+use Rattle.ix_indexes.specs.laws.ContextRows.{context_alone}
+use Rattle.ix_indexes.specs.laws.ContextCreates.{context_laws}
+use Rattle.ix_indexes.specs.laws.Rows.{comes_are}
+use Rattle.db_change.specs.laws.IndexCounts.{few_after_row}
 use Rattle.db_change.specs.laws.NewTables.{tables_built, rows_tables, apart}
-use Rattle.ct_base.specs.laws.Options.{no_value as gone}
 
 -- ---- the indexes on a table
 
@@ -57,15 +56,15 @@ use Rattle.ct_base.specs.laws.Options.{no_value as gone}
 abbrev pub names_on : Names Index → List ℕ → List (List ℕ)
 names_on xs t = map (λ e. e.0) (heads_of t (heads xs))
 
-on_table : (t : List ℕ) (o : Option Index) → is_some (head_of t (option_map head_of_index o)) ≡ is_on t o
+on_table : (t : List ℕ) (o : Option Index) → is_some (head_of t (option_map head_of_index o)) ≡ is_on kinds (every kinds) t o
 on_table t None = refl
 on_table t (Some x) = go (same_list x.table t)
   where
-    go : (b : Bool) → is_some (cond b (Some (head_of_index x)) None) ≡ b
+    go : (b : Bool) → is_some (cond b (Some (head_of_index x)) None) ≡ (b && true)
     go true = refl
     go false = refl
 
-pub names_listed : (xs : Names Index) (t i : List ℕ) → is_any_of i (names_on xs t) ≡ is_on t (get xs i)
+pub names_listed : (xs : Names Index) (t i : List ℕ) → is_any_of i (names_on xs t) ≡ is_on kinds (every kinds) t (get xs i)
 names_listed xs t i =
     sym (is_some-lookup (same_list i) (heads_of t (heads xs)))
     ∙ ap is_some (heads_at t (heads xs) i)
@@ -81,13 +80,13 @@ distinct (e ∷ es) up =
       distinct es b.1,
     )
 
-pub names_on_table : (xs : Names Index) (t : List ℕ) → AreIndexesOn xs t (names_on xs t)
+pub names_on_table : (xs : Names Index) (t : List ℕ) → AreIndexesOn kinds (every kinds) xs t (names_on xs t)
 names_on_table xs t = record { distinct = distinct (heads_of t (heads xs)) (heads_rise t (heads xs)); each = names_listed xs t }
 
 names_are : (ts : Tables) (xs : Names Index) → AreIndexes ts xs → (t i : List ℕ) → is_any_of i (names_on xs t) ≡ true → IsName i
 names_are ts xs are t i there = go (get xs i) refl (sym (names_listed xs t i) ∙ there)
   where
-    go : (o : Option Index) → get xs i ≡ o → is_on t o ≡ true → IsName i
+    go : (o : Option Index) → get xs i ≡ o → is_on kinds (every kinds) t o ≡ true → IsName i
     go None here on = cc
     go (Some x) here on = are.names i x here
 
@@ -140,35 +139,41 @@ views_stay m t x r vs here views q y is = go (same_list q t) refl (sym (get-with
     go true h e = ap is_view (list_from_same q t h) ∙ views t x here
     go false h e = views q y e
 
--- what an index becomes keeps its table
-noted_table : (t : List ℕ) (r : ℤ) (x : Index) → (waiting_on t r x).table ≡ x.table
-noted_table t r x = go (same_list x.table t)
-  where
-    go : (b : Bool) → (cond b (noted_index r x) x).table ≡ x.table
-    go true = refl
-    go false = refl
+-- ---- the tables
 
-few_stay : (xs : Names Index) (t : List ℕ) (r : ℤ) (q : List ℕ) → length (indexes_on (noted_on xs t r) q) ≡ length (indexes_on xs q)
-few_stay xs t r q =
-    ap (λ (es : List (List ℕ × Index)). length (filter (λ e. same_list e.1.table q) es)) (entries-each_value (slice_cmp nat_cmp) (waiting_on t r) nat_list_cmp_total xs)
-    ∙ count_alike (λ (e : List ℕ × Index). (e.0, waiting_on t r e.1)) (λ e. same_list e.1.table q) (λ e. same_list e.1.table q) (λ e. ap (λ (u : List ℕ). same_list u q) (noted_table t r e.1)) (entries xs)
+differ_in_row : (ts : Tables) (t : List ℕ) (r : ℤ) (vs : List Value) (x : Table) → get ts t ≡ Some x → DifferInRow ts (with_row ts t r vs) t r
+differ_in_row ts t r vs x is = differs ts (with_row ts t r vs) t r (Some vs) (λ q. columns-with_row ts t r vs x is q) (λ q s. row_at-with_row ts t r vs x is q s)
+
+has_it : (ts : Tables) (t : List ℕ) (r : ℤ) (vs : List Value) (x : Table) → get ts t ≡ Some x → row_at (with_row ts t r vs) t r ≡ Some vs
+has_it ts t r vs x is = row_now ts (with_row ts t r vs) t r (Some vs) (λ q s. row_at-with_row ts t r vs x is q s)
+
+-- no index is passed over
+none_unseen : (ts us : Tables) (t : List ℕ) (xs : Names Index) → AreUnseen kinds (every kinds) ts us t xs
+none_unseen ts us t xs i y here on h = cc
 
 new_row_state : (m : StoreState) (t : List ℕ) (x : Table) (r : ℤ) (vs : List Value) → get m.tables t ≡ Some x → IsState m → IsRow r → FitColumns (others x.columns) vs → length (entries x.rows) < 100000 → IsState (with_new_row m t r vs)
 new_row_state m t x r vs is state row fit room = record {
   tables = insert_keeps m.tables t r vs x state.tables is row fit room;
-  indexes = row_keeps m.tables m.indexes t r vs x is state.indexes;
+  indexes = row_keeps kinds context_laws m.tables (with_row m.tables t r vs) m.indexes t r (every kinds) state.tables (insert_keeps m.tables t r vs x state.tables is row fit room) (differ_in_row m.tables t r vs x is)
+      (none_unseen m.tables (with_row m.tables t r vs) t m.indexes) state.indexes;
   views = views_stay m t x r vs is state.views;
-  few = λ q. subst (λ (n : ℕ). n ≤ index_limit) (sym (few_stay m.indexes t r q)) (state.few q);
+  few = λ q. subst (λ (n : ℕ). n ≤ index_limit) (sym (few_after_row (every kinds) t (row_change m.tables (with_row m.tables t r vs) t r) m.indexes q)) (state.few q);
   preferences = state.preferences;
 }
 
 -- ---- the entries
 
-free_marks : (ts : Tables) (xs : Names Index) (t : List ℕ) (x : Table) (r : ℤ) → get ts t ≡ Some x → get x.rows r ≡ None → AreIndexes ts xs → (i : List ℕ) (y : Index) → get xs i ≡ Some y → y.table ≡ t → get (marks_in y.body) r ≡ None
-free_marks ts xs t x r is none are i y here on = gone (get (marks_in y.body) r) ((are.each i y here).marks r ∙ ap is_some (ap (λ (u : List ℕ). row_at ts u r) on ∙ no_row))
-  where
-    no_row : row_at ts t r ≡ None
-    no_row = rw is none
+notes_stand : (c : Content) (m : StoreState) (t : List ℕ) (x : Table) (r : ℤ) (vs : List Value) → StandsForState c m → get m.tables t ≡ Some x → get x.rows r ≡ None → AreTables (with_row m.tables t r vs)
+    → IndexesStand (view (note_all_changes (names_on m.indexes t) r) (view (insert_changes t r (numbers_of vs) (texts_of vs)) (at c))) (with_row m.tables t r vs) (with_new_row m t r vs).indexes
+notes_stand c m t x r vs stands is none after =
+    let a = insert_changes t r (numbers_of vs) (texts_of vs) in
+    let us = with_row m.tables t r vs in
+    let change = row_change m.tables us t r in
+    let on = names_on_table m.indexes t in
+    subst (λ (ws : List (Key × Option (List ℕ))). IndexesStand (view ws (view a (at c))) us (with_new_row m t r vs).indexes)
+    (comes_are (view a (at c)) m.indexes (table_at m.tables t).columns change (every kinds) t (names_on m.indexes t) on vs (rw is none) (has_it m.tables t r vs x is))
+    (row_stands kinds context_laws (view a (at c)) m.tables us m.indexes t r (every kinds) (names_on m.indexes t) stands.state.tables after stands.state.indexes on (differ_in_row m.tables t r vs x is) (none_unseen m.tables us t m.indexes)
+    (indexes_frame kinds context_alone is_of_tables a (at c) m.tables m.indexes (all_insert t r (numbers_of vs) (texts_of vs)) apart stands.indexes))
 
 pub new_row_stands : (c : Content) (m : StoreState) (t : List ℕ) (x : Table) (r : ℤ) (vs : List Value) → StandsForState c m → get m.tables t ≡ Some x → get x.rows r ≡ None → IsRow r → FitColumns (others x.columns) vs → length (entries x.rows) < 100000
     → StandsForState (after (spell (new_row_changes t r vs (names_on m.indexes t))) c) (with_new_row m t r vs)
@@ -181,9 +186,8 @@ new_row_stands c m t x r vs stands is none row fit room =
       only = only-after (a ++ b) c stands.only (new_row_changes_are m t x r vs is stands.state row fit);
       tables = subst (λ (f : Key → Option (List ℕ)). TablesStand f us) (sym seen)
           (tables_frame is_pending b (view a (at c)) us (notes_pending (names_on m.indexes t) r) tables_pending (stand_insert (at c) m.tables t r vs x is none row stands.tables));
-      indexes = subst (λ (f : Key → Option (List ℕ)). IndexesStand f us (noted_on m.indexes t r)) (sym seen)
-          (row_notes_stand (view a (at c)) us m.indexes t r (names_on m.indexes t) (names_on_table m.indexes t) (free_marks m.tables m.indexes t x r is none stands.state.indexes) row
-          (indexes_frame is_of_tables a (at c) us m.indexes (all_insert t r (numbers_of vs) (texts_of vs)) apart (stay_with_row (at c) m.tables m.indexes t r vs x is none stands.state.indexes stands.indexes)));
+      indexes = subst (λ (f : Key → Option (List ℕ)). IndexesStand f us (with_new_row m t r vs).indexes) (sym seen)
+          (notes_stand c m t x r vs stands is none (insert_keeps m.tables t r vs x stands.state.tables is row fit room));
       unbuilt = λ k h.
           at-after (a ++ b) c k ∙ told-append a b k (at c k)
           ∙ told_frame is_pending b k (told a k (at c k)) (notes_pending (names_on m.indexes t) r) (pending_built k.kind h)

@@ -11,7 +11,6 @@ use Rattle.ct_entry.specs.declared.kinds.Kind.{Kind}
 use Rattle.ct_entry.specs.declared.kinds.Kind.TheVariants as kind
 use Rattle.ct_entry.specs.Keys.{Key, at, same_list}
 use Rattle.ct_entry.specs.laws.Keys.{list_from_same}
-use Rattle.ct_entry.specs.Maps.{Names}
 use Rattle.ct_entry.specs.Changes.{spell}
 use Rattle.ct_entry.specs.laws.Changes.{at_view, at-after, only-after, told_frame}
 use Rattle.tb_table.specs.declared.columns.Column.{Column}
@@ -19,15 +18,15 @@ use Rattle.tb_table.specs.Tables.{Table, Tables, with_table}
 use Rattle.tb_table.specs.Spelling.{TablesStand, table_changes}
 use Rattle.tb_table.specs.Rules.{AreColumns, HasAllowedSize, IsKeyFirst, AllColumns, HaveDistinctNames, has_column}
 use Rattle.ct_base.specs.Limits.{column_limit, table_limit, text_limit}
-use Rattle.tb_table.specs.laws.Changes.{is_of_tables, all_create, stand_create, get-with_table, row_at-with_table}
+use Rattle.tb_table.specs.laws.Changes.{is_of_tables, all_create, stand_create, get-with_table}
 use Rattle.tb_table.specs.laws.Rules.{create_keeps}
 use Rattle.tb_table.specs.laws.Well.{are_create}
-use Rattle.ix_context.specs.Indexes.{Index}
-use Rattle.ix_context.specs.Rules.{AreIndexes, IsTarget}
-use Rattle.ix_context.specs.Standing.{IndexesStand}
-use Rattle.ix_context.specs.Spelling.{is_of_indexes}
-use Rattle.ix_context.specs.laws.Standing.{indexes_frame}
-use Rattle.ix_context.specs.laws.Changes.{stay_with_table}
+use Rattle.ix_kinds.specs.Standing.{is_of_indexes}
+use Rattle.ix_kinds.specs.laws.Standing.{indexes_frame}
+use Rattle.ix_kinds.specs.laws.Creates.{table_stands, table_keeps}
+use Rattle.ix_indexes.specs.Indexes.{kinds, IndexesStand}
+use Rattle.ix_indexes.specs.laws.ContextRows.{context_alone}
+use Rattle.ix_indexes.specs.laws.ContextCreates.{context_laws}
 use Rattle.st_parse.specs.declared.statements.ColumnText.{ColumnText}
 use Rattle.st_parse.specs.declared.statements.SortText.{SortText}
 use Rattle.st_parse.specs.declared.statements.SortText.TheVariants.{Number as NumberText, Varchar2 as Varchar2Text, Clob as ClobText}
@@ -49,33 +48,7 @@ pub record IsFreeTable (m : StoreState) (t : List ℕ) (columns : List ColumnTex
   pub sized : all_sized columns ≡ true
   pub few : (nat_lt column_limit (length columns) || nat_le table_limit (length (entries m.tables))) ≡ false
 
--- ---- the indexes keep their rules
-
-target_stays : (ts : Tables) (t : List ℕ) (columns : List Column) (q : List ℕ) (place : ℕ) → get ts t ≡ None → IsTarget ts q place → IsTarget (with_table ts t columns) q place
-target_stays ts t columns q place none target = record {
-  table = target.table;
-  there = get-with_table ts t columns q ∙ other (same_list q t) refl;
-  texts = target.texts;
-}
-  where
-    other : (b : Bool) → same_list q t ≡ b → cond b (Some (record { columns = columns; rows = empty })) (get ts q) ≡ Some target.table
-    other true h = let wrong : None ≡ Some target.table = sym none ∙ ap (get ts) (sym (list_from_same q t h)) ∙ target.there in cc
-    other false h = target.there
-
-pub indexes_keep : (ts : Tables) (xs : Names Index) (t : List ℕ) (columns : List Column) → get ts t ≡ None → AreIndexes ts xs → AreIndexes (with_table ts t columns) xs
-indexes_keep ts xs t columns none are = record {
-  names = are.names;
-  each = λ i x is. let index = are.each i x is in record {
-    target = target_stays ts t columns x.table x.column none index.target;
-    prefs = index.prefs;
-    marks = λ r. index.marks r ∙ ap is_some (sym (row_at-with_table ts t columns none x.table r));
-    numbers = index.numbers;
-    untidy = index.untidy;
-  };
-  one = are.one;
-}
-
--- ---- and the state its own
+-- ---- the state keeps its rules
 
 views_stay : (m : StoreState) (t : List ℕ) (columns : List Column) → is_view t ≡ false → ((q : List ℕ) (x : Table) → get m.tables q ≡ Some x → is_view q ≡ false)
     → (q : List ℕ) (x : Table) → get (with_table m.tables t columns) q ≡ Some x → is_view q ≡ false
@@ -113,13 +86,14 @@ new_table_stands c m t columns stands none free name are few =
       only = only-after ws c stands.only (are_create t columns name);
       tables = subst (λ (f : Key → Option (List ℕ)). TablesStand f (with_table m.tables t columns)) (sym (at_view ws c)) (stand_create (at c) m.tables t columns none stands.tables);
       indexes = subst (λ (f : Key → Option (List ℕ)). IndexesStand f (with_table m.tables t columns) m.indexes) (sym (at_view ws c))
-          (indexes_frame is_of_tables ws (at c) (with_table m.tables t columns) m.indexes (all_create t columns) apart (stay_with_table (at c) m.tables m.indexes t columns none stands.indexes));
+          (indexes_frame kinds context_alone is_of_tables ws (at c) (with_table m.tables t columns) m.indexes (all_create t columns) apart
+          (table_stands kinds context_laws (at c) m.tables m.indexes t columns none stands.state.indexes stands.indexes));
       unbuilt = λ k h. at-after ws c k ∙ told_frame is_of_tables ws k (at c k) (all_create t columns) (tables_built k.kind h) ∙ stands.unbuilt k h;
       preferences = subst (λ (f : Key → Option (List ℕ)). PreferencesStand f m.preferences) (sym (at_view ws c)) (preferences_frame is_of_tables ws (at c) m.preferences (all_create t columns) (other_kinds is_of_tables refl refl refl) stands.preferences);
       short_rows = subst HasShortRows (sym (at_view ws c)) (rows_frame is_of_tables ws (at c) (all_create t columns) rows_tables stands.short_rows);
       state = record {
         tables = create_keeps m.tables t columns stands.state.tables name are few;
-        indexes = indexes_keep m.tables m.indexes t columns none stands.state.indexes;
+        indexes = table_keeps kinds context_laws m.tables m.indexes t columns none stands.state.indexes;
         views = views_stay m t columns free stands.state.views;
         few = stands.state.few;
         preferences = stands.state.preferences;

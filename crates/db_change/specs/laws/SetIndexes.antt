@@ -14,9 +14,9 @@ use Rattle.db_names.specs.declared.heads.IndexHead.{IndexHead}
 use Rattle.db_names.specs.Promises.{head_of, heads_of}
 use Rattle.db_names.specs.laws.Heads.{heads_at}
 use Rattle.db_state.specs.laws.Heads.{heads, get-heads, head_of_index}
-use Rattle.ix_context.specs.Indexes.{Index}
-use Rattle.ix_context.specs.Promises.{AreDistinct}
-use Rattle.ix_context.specs.RowSteps.{is_column, is_on_columns, AreIndexesOnColumns}
+use Rattle.ix_kinds.specs.Statements.{AreDistinct, looks_at_any, is_on, AreIndexesOn}
+use Rattle.ix_kinds.specs.RowSteps.{is_column}
+use Rattle.ix_indexes.specs.Indexes.{Index, kinds}
 use Rattle.db_change.specs.Updating.{named_set}
 use Rattle.db_change.specs.laws.NewRows.{names_on_table}
 
@@ -53,7 +53,7 @@ module _ (places : List ℕ) where
       one false h true is rest = ap (λ (b : Bool). b || is_any_of i (named_set places hs)) h ∙ rest
       one false h false is rest = rest
 
-  on_columns : (t : List ℕ) (o : Option Index) → on_set (head_of t (option_map head_of_index o)) ≡ is_on_columns t places o
+  on_columns : (t : List ℕ) (o : Option Index) → on_set (head_of t (option_map head_of_index o)) ≡ is_on kinds (looks_at_any kinds places) t o
   on_columns t None = refl
   on_columns t (Some x) = one (same_list x.table t)
     where
@@ -61,7 +61,7 @@ module _ (places : List ℕ) where
       one true = refl
       one false = refl
 
-  pub named_on_columns : (xs : Names Index) (t : List ℕ) → AreIndexesOnColumns xs t places (named_set places (heads_of t (heads xs)))
+  pub named_on_columns : (xs : Names Index) (t : List ℕ) → AreIndexesOn kinds (looks_at_any kinds places) xs t (named_set places (heads_of t (heads xs)))
   named_on_columns xs t =
       let distinct = (names_on_table xs t).distinct in
       record {

@@ -18,7 +18,8 @@ use Rattle.tb_table.specs.declared.columns.Column.{Column}
 use Rattle.tb_table.specs.Tables.{numbers_of, as_text, text_in, text_in_column, given_text, IsUpdate}
 use Rattle.tb_table.specs.Rules.{IsOfSort as FitsSort, FitColumns, HaveDistinctNames, has_column, others}
 use Rattle.tb_table.specs.laws.Well.{EachPlace}
-use Rattle.ix_context.specs.RowSteps.{is_column}
+use Rattle.ix_kinds.specs.Rows.{value_at, value_in_column}
+use Rattle.ix_kinds.specs.RowSteps.{is_column}
 use Rattle.db_state.specs.Columns.{place_from, column_place}
 use Rattle.db_change.specs.Inserting.{kept_value, number_value, text_value}
 use Rattle.db_change.specs.Updating.{set_in, value_after, updated_values, places_set, of_numbers, number_set, with_set, numbers_after, texts_set}
@@ -205,6 +206,44 @@ module _ (assigns : List Assign) where
           let wrong : true ≡ false = sym (place_there (suc from) later.name cs (suc from + k) later.place) ∙ ap (λ (n : List ℕ). has_column n cs) (list_from_same later.name c.name h) ∙ apart.0 in cc
       one later false h = ap (λ (b : Bool). cond b (Some from) (place_from (suc from) later.name cs)) h ∙ later.place ∙ ap Some (omega arith)
 
+  -- ---- any value
+
+  -- what is set in the column at a place
+  abbrev pub value_set_at : List Column → ℕ → Option Operand
+  value_set_at [] k = None
+  value_set_at (c ∷ cs) zero = set_in assigns c.name
+  value_set_at (c ∷ cs) (suc k) = value_set_at cs k
+
+  -- where nothing is set, the value is as before
+  pub value_there : (cs : List Column) (vs : List Value) (k : ℕ) → FitColumns cs vs → value_set_at cs k ≡ None → value_at (updated_values cs assigns vs) k ≡ value_at vs k
+  value_there [] [] k fit none = refl
+  value_there [] (v ∷ vs) k fit none = absurd fit
+  value_there (c ∷ cs) [] k fit none = absurd fit
+  value_there (c ∷ cs) (v ∷ vs) zero fit none = ap (λ (o : Option Operand). Some (value_after o v)) none
+  value_there (c ∷ cs) (v ∷ vs) (suc k) fit none = value_there cs vs k fit.1 none
+
+  value_place : (cs : List Column) (from k : ℕ) (w : Operand) → HaveDistinctNames cs → value_set_at cs k ≡ Some w → IsSetAt cs from k
+  value_place [] from k w apart is = cc
+  value_place (c ∷ cs) from zero w apart is = record {
+    name = c.name;
+    value = w;
+    set = is;
+    place = ap (λ (b : Bool). cond b (Some from) (place_from (suc from) c.name cs)) (list_same c.name) ∙ ap Some (omega arith);
+  }
+  value_place (c ∷ cs) from (suc k) w apart is =
+      let later = value_place cs (suc from) k w apart.1 is in
+      record {
+        name = later.name;
+        value = later.value;
+        set = later.set;
+        place = one later (same_list later.name c.name) refl;
+      }
+    where
+      one : (later : IsSetAt cs (suc from) k) (b : Bool) → same_list later.name c.name ≡ b → cond (same_list later.name c.name) (Some from) (place_from (suc from) later.name cs) ≡ Some (from + suc k)
+      one later true h =
+          let wrong : true ≡ false = sym (place_there (suc from) later.name cs (suc from + k) later.place) ∙ ap (λ (n : List ℕ). has_column n cs) (list_from_same later.name c.name h) ∙ apart.0 in cc
+      one later false h = ap (λ (b : Bool). cond b (Some from) (place_from (suc from) later.name cs)) h ∙ later.place ∙ ap Some (omega arith)
+
 placed : (columns : List Column) (name : List ℕ) (p : ℕ) → column_place name columns ≡ Some p → (assigns : List Assign) (w : Operand) → set_in assigns name ≡ Some w → is_column (places_set columns assigns) p ≡ true
 placed columns name p place [] w set = cc
 placed columns name p place (a ∷ assigns) w set = one (same_list name a.column) refl set (placed columns name p place assigns w)
@@ -220,15 +259,15 @@ placed columns name p place (a ∷ assigns) w set = one (same_list name a.column
         ∙ ap (λ (b : Bool). b || is_column (places_set columns assigns) p) (eq-eqb p p refl)
     one false h set rest = later (column_place a.column columns) (rest set)
 
--- a column that isn't set has the text that it had
-pub text_stays : (columns : List Column) (assigns : List Assign) (vs : List Value) → HaveDistinctNames columns → FitColumns (others columns) vs → SetFits assigns (others columns) → (column : ℕ) → is_column (places_set columns assigns) column ≡ false
-    → text_in_column (updated_values (others columns) assigns vs) column ≡ text_in_column vs column
-text_stays columns assigns vs apart fit set zero other = refl
-text_stays [] assigns vs apart fit set (suc k) other = none_there assigns [] vs k fit set refl
-text_stays (c ∷ cs) assigns vs apart fit set (suc k) other = one (text_set_at assigns cs k) refl
+-- a column that isn't set has the value that it had
+pub value_stays : (columns : List Column) (assigns : List Assign) (vs : List Value) → HaveDistinctNames columns → FitColumns (others columns) vs → (column : ℕ) → is_column (places_set columns assigns) column ≡ false
+    → value_in_column (updated_values (others columns) assigns vs) column ≡ value_in_column vs column
+value_stays columns assigns vs apart fit zero other = refl
+value_stays [] assigns vs apart fit (suc k) other = value_there assigns [] vs k fit refl
+value_stays (c ∷ cs) assigns vs apart fit (suc k) other = one (value_set_at assigns cs k) refl
   where
-    one : (o : Option (List ℕ)) → text_set_at assigns cs k ≡ o → text_in (updated_values cs assigns vs) k ≡ text_in vs k
-    one None is = none_there assigns cs vs k fit set is
-    one (Some text) is =
-        let at = set_at assigns (c ∷ cs) 0 (suc k) text apart is in
+    one : (o : Option Operand) → value_set_at assigns cs k ≡ o → value_at (updated_values cs assigns vs) k ≡ value_at vs k
+    one None is = value_there assigns cs vs k fit is
+    one (Some w) is =
+        let at = value_place assigns (c ∷ cs) 0 (suc k) w apart is in
         let wrong : true ≡ false = sym (placed (c ∷ cs) at.name (suc k) (at.place ∙ ap Some (omega arith)) assigns at.value at.set) ∙ other in cc

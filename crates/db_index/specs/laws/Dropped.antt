@@ -1,5 +1,5 @@
 -- The state after an index is dropped.
-use Rattle.std.proofs.Common.{ℕ, ◌≤◌, List, length, Option, refl, sym, ap, subst, ◌∙◌, arith}
+use Rattle.std.proofs.Common.{◌≡◌, ℕ, ◌≤◌, false, List, length, Option, refl, sym, ap, subst, ◌∙◌, arith, ⊎_elim}
 use Rattle.std.specs.Prelude.{not, filter}
 use Rattle.std.specs.Ordering.{nat_cmp, eq_by_cmp}
 use Rattle.std.specs.Cmp.Lexicographic.{slice_cmp}
@@ -13,20 +13,21 @@ use Rattle.ct_entry.specs.laws.Changes.{at_view, at-after, only-after, told_fram
 use Rattle.ct_entry.specs.laws.MapRemovals.{entries_without}
 use Rattle.tb_table.specs.Spelling.{TablesStand}
 use Rattle.tb_table.specs.laws.Changes.{tables_frame}
-use Rattle.ix_context.specs.Indexes.{Index}
 use Rattle.ix_context.specs.Spelling.{is_of_indexes}
-use Rattle.ix_context.specs.Standing.{IndexesStand}
 use Rattle.ix_context.specs.Removing.{index_removals}
-use Rattle.ix_context.specs.laws.Dropped.{drop_stands, drop_keeps}
+use Rattle.ix_kinds.specs.Drops.{LosesIndexes}
+use Rattle.ix_kinds.specs.laws.Drops.{drop_stands, drop_keeps}
+use Rattle.ix_indexes.specs.Indexes.{Index, kinds, IndexesStand}
+use Rattle.ix_indexes.specs.laws.ContextCreates.{context_laws}
 use Rattle.ix_context.specs.laws.Removing.{remove_loses, index_changes_remove}
 use Rattle.ix_context.specs.laws.Well.{are_changes, all_of_indexes}
 use Rattle.tx_prefs.specs.Spelling.{PreferencesStand}
 use Rattle.tx_prefs.specs.laws.Changes.{preferences_frame, other_kinds}
-use Rattle.db_state.specs.States.{StoreState, StandsForState, HasShortRows, indexes_on, index_limit}
+use Rattle.db_state.specs.States.{StoreState, StandsForState, HasShortRows, is_built, indexes_on, index_limit}
 use Rattle.db_state.specs.laws.ShortRows.{rows_put}
 use Rattle.db_state.specs.laws.Removing.{fewer_kept}
 use Rattle.db_index.specs.Dropping.{with_index_dropped}
-use Rattle.db_state.specs.laws.Kinds.{indexes_built, tables_no_indexes}
+use Rattle.db_state.specs.laws.Kinds.{indexes_built, tables_no_indexes, built_or_none}
 
 -- a table has no more indexes than before
 few_dropped : (xs : Names Index) (i t : List ℕ) → length (indexes_on xs t) ≤ index_limit → length (indexes_on (remove xs i) t) ≤ index_limit
@@ -36,6 +37,18 @@ few_dropped xs i t few =
     let same = ap (λ (es : List (List ℕ × Index)). length (filter (λ e. same_list e.1.table t) es)) left in
     omega (arith, less, same, few)
 
+-- its entries are gone, and all others stay
+loses : (c : Content) (m : StoreState) (i : List ℕ) → StandsForState c m → LosesIndexes (λ q. same_list q i) (at c) (view (index_removals i c) (at c))
+loses c m i stands =
+    let lost = remove_loses i c (at c) (λ k of. refl) in
+    record {
+      none = λ k of gone. ⊎_elim (λ own. lost.none k own gone) (λ unbuilt. frame k unbuilt ∙ stands.unbuilt k unbuilt) (built_or_none k.kind of);
+      others = λ k of other. ⊎_elim (λ own. lost.others k own other) (λ unbuilt. frame k unbuilt) (built_or_none k.kind of);
+    }
+  where
+    frame : (k : Key) → is_built k.kind ≡ false → view (index_removals i c) (at c) k ≡ at c k
+    frame k h = told_frame is_of_indexes (index_removals i c) k (at c k) (all_of_indexes (index_removals i c) (index_changes_remove i c stands.only)) (indexes_built k.kind h)
+
 pub dropped_stands : (c : Content) (m : StoreState) (i : List ℕ) → StandsForState c m → StandsForState (after (spell (index_removals i c)) c) (with_index_dropped m i)
 dropped_stands c m i stands =
     let ws = index_removals i c in
@@ -44,12 +57,12 @@ dropped_stands c m i stands =
       only = only-after ws c stands.only (are_changes ws are);
       unbuilt = λ k h. at-after ws c k ∙ told_frame is_of_indexes ws k (at c k) (all_of_indexes ws are) (indexes_built k.kind h) ∙ stands.unbuilt k h;
       tables = subst (λ (f : Key → Option (List ℕ)). TablesStand f m.tables) (sym (at_view ws c)) (tables_frame is_of_indexes ws (at c) m.tables (all_of_indexes ws are) tables_no_indexes stands.tables);
-      indexes = subst (λ (f : Key → Option (List ℕ)). IndexesStand f m.tables (remove m.indexes i)) (sym (at_view ws c)) (drop_stands (at c) (view ws (at c)) m.tables m.indexes i (remove_loses i c (at c) (λ k of. refl)) stands.indexes);
+      indexes = subst (λ (f : Key → Option (List ℕ)). IndexesStand f m.tables (remove m.indexes i)) (sym (at_view ws c)) (drop_stands kinds context_laws (at c) (view ws (at c)) m.tables m.indexes i (loses c m i stands) stands.indexes);
       preferences = subst (λ (f : Key → Option (List ℕ)). PreferencesStand f m.preferences) (sym (at_view ws c)) (preferences_frame is_of_indexes ws (at c) m.preferences (all_of_indexes ws are) (other_kinds is_of_indexes refl refl refl) stands.preferences);
       short_rows = subst HasShortRows (sym (at_view ws c)) (rows_put ws (at c) are stands.short_rows);
       state = record {
         tables = stands.state.tables;
-        indexes = drop_keeps m.tables m.indexes i stands.state.indexes;
+        indexes = drop_keeps kinds context_laws m.tables m.indexes i stands.state.indexes;
         views = stands.state.views;
         preferences = stands.state.preferences;
         few = λ t. few_dropped m.indexes i t (stands.state.few t);

@@ -6,7 +6,7 @@ use Rattle.std.specs.declared.cmp.Ordering.TheVariants.{Less, Equal, Greater}
 use Rattle.std.specs.Ordering.{nat_cmp, int_cmp, is_lt, eq_by_cmp}
 use Rattle.std.specs.Cmp.Lexicographic.{slice_cmp}
 use Rattle.std.specs.FinMap.{get, insert, entries, find, get-entries}
-use Rattle.std.proofs.lemmas.Bool.{ltb-false, leb-false, le-ltb, eq-eqb, and_from}
+use Rattle.std.proofs.lemmas.Bool.{leb-true, leb-false, le-ltb, eq-eqb, and_from}
 use Rattle.std.proofs.lemmas.Cmp.{nat_list_cmp_total}
 use Rattle.ct_keep.specs.Content.{Content, after}
 use Rattle.ct_base.specs.Names.{IsName}
@@ -18,67 +18,83 @@ use Rattle.ct_entry.specs.laws.Changes.{at_view, at-after, only-after, told_fram
 use Rattle.tb_table.specs.declared.columns.Sort.{Sort}
 use Rattle.tb_table.specs.declared.columns.Sort.TheVariants.{Number as NumberSort, Varchar2, Clob}
 use Rattle.tb_table.specs.declared.columns.Column.{Column}
-use Rattle.tb_table.specs.Tables.{Table}
+use Rattle.tb_table.specs.Tables.{Table, Tables}
 use Rattle.tb_table.specs.Spelling.{TablesStand}
 use Rattle.tb_table.specs.laws.Changes.{tables_frame}
 use Rattle.tx_settings.specs.declared.preferences.Prefs.{Prefs}
 use Rattle.tx_settings.specs.PrefsBytes.{IsPrefs}
-use Rattle.ix_context.specs.Indexes.{Index, given, pending_rows, synced, synced_index, rows_in, created, with_index}
-use Rattle.ix_context.specs.Changes.{sync_changes, create_changes}
-use Rattle.ix_context.specs.Rules.{most_given, IsTextSort, HasTextAt, IsTarget}
-use Rattle.ix_context.specs.Standing.{IndexesStand}
 use Rattle.ix_context.specs.Spelling.{is_of_indexes}
-use Rattle.ix_context.specs.laws.Changes.{sync_stands, create_stands}
-use Rattle.ix_context.specs.Promises.{HasAllRows, IsFreeColumn}
-use Rattle.ix_context.specs.laws.Rules.{sync_keeps, create_keeps}
-use Rattle.ix_context.specs.laws.Well.{are_changes, all_of_indexes, index_changes_sync, index_changes_create}
+use Rattle.ix_kinds.specs.Rows.{table_at}
+use Rattle.ix_kinds.specs.Targets.{IsTextSort, HasTextAt, IsTarget}
+use Rattle.ix_kinds.specs.Statements.{index_after_sync, indexes_after_sync, new_index, with_index, IsFreeColumn}
+use Rattle.ix_kinds.specs.laws.Syncs.{sync_stands, sync_keeps}
+use Rattle.ix_kinds.specs.laws.Creates.{create_stands, create_keeps}
+use Rattle.db_names.specs.declared.heads.IndexKind.TheVariants.{Context}
+use Rattle.ix_context.specs.Indexes.{rows_in}
+use Rattle.ix_context.specs.Rules.{most_given}
+use Rattle.ix_context.specs.Promises.{HasAllRows}
+use Rattle.ix_context.specs.laws.Well.{AreIndexChanges, are_changes, all_of_indexes, index_changes_sync, index_changes_create}
+use Rattle.ix_indexes.specs.Contexts.{rows_within}
+use Rattle.ix_indexes.specs.Indexes.{Index, kinds, IndexesStand, pending_rows}
+use Rattle.ix_indexes.specs.laws.ContextCreates.{context_laws}
+use Rattle.ix_indexes.specs.laws.Bridges.{old_of, olds, old_there, old_are, same_sync, same_rows, same_create}
 use Rattle.db_index.specs.Syncing.{has_too_many, with_synced}
 use Rattle.db_index.specs.Indexing.{is_text_sort, is_text_at, has_context_index, has_too_many_rows, all_rows, target, with_new_index, IsFreeIndex}
 use Rattle.tx_prefs.specs.Spelling.{PreferencesStand}
 use Rattle.tx_prefs.specs.laws.Changes.{preferences_frame, other_kinds}
 use Rattle.db_state.specs.laws.ShortRows.{rows_put}
 use Rattle.db_state.specs.laws.Kinds.{indexes_built, tables_no_indexes}
-use Rattle.db_state.specs.States.{StoreState, StandsForState, HasShortRows, indexes_on, index_limit}
+use Rattle.db_state.specs.States.{StoreState, IsState, StandsForState, HasShortRows, indexes_on, index_limit}
 use Rattle.db_index.specs.laws.Counting.{one, counted, count_insert, one_true, one_false}
 use Rattle.std.proofs.lemmas.Bool.{or_parts as either}
 use Rattle.ct_base.specs.laws.Options.{no_value as no_some}
 
 -- ---- the state after a synchronisation
 
-room_left : (x : Index) → has_too_many x ≡ false → given x + length (pending_rows x) ≤ most_given
-room_left x h = ltb-false most_given (given x + length (pending_rows x)) h
+not_false : (b : Bool) → not b ≡ false → b ≡ true
+not_false true h = refl
+not_false false h = cc
+
+room_left : (x : Index) → has_too_many x ≡ false → kinds.can_sync x ≡ true
+room_left x h = not_false (kinds.can_sync x) h
 
 -- a table has as many indexes as before
-few_synced : (xs : Names Index) (i : List ℕ) (x : Index) → get xs i ≡ Some x → (t : List ℕ) → length (indexes_on (synced xs i) t) ≡ length (indexes_on xs t)
-few_synced xs i x there t =
-    let is : synced xs i ≡ insert xs i (synced_index x) = ap (altered xs i synced_index) there in
-    let counts = count_insert (slice_cmp nat_cmp) (λ (y : Index). same_list y.table t) nat_list_cmp_total xs i (synced_index x) in
+few_synced : (ts : Tables) (xs : Names Index) (i : List ℕ) (x : Index) → get xs i ≡ Some x → (t : List ℕ) → length (indexes_on (indexes_after_sync kinds tt ts i xs) t) ≡ length (indexes_on xs t)
+few_synced ts xs i x there t =
+    let is : indexes_after_sync kinds tt ts i xs ≡ insert xs i (index_after_sync kinds tt ts x) = ap (altered xs i (index_after_sync kinds tt ts)) there in
+    let counts = count_insert (slice_cmp nat_cmp) (λ (y : Index). same_list y.table t) nat_list_cmp_total xs i (index_after_sync kinds tt ts x) in
     ap (λ (ys : Names Index). length (indexes_on ys t)) is ∙ alike (get xs i) there counts
   where
-    alike : (o : Option Index) → o ≡ Some x → length (indexes_on (insert xs i (synced_index x)) t) + counted (slice_cmp nat_cmp) (λ (y : Index). same_list y.table t) o ≡ length (indexes_on xs t) + one (same_list x.table t)
-        → length (indexes_on (insert xs i (synced_index x)) t) ≡ length (indexes_on xs t)
+    alike : (o : Option Index) → o ≡ Some x → length (indexes_on (insert xs i (index_after_sync kinds tt ts x)) t) + counted (slice_cmp nat_cmp) (λ (y : Index). same_list y.table t) o ≡ length (indexes_on xs t) + one (same_list x.table t)
+        → length (indexes_on (insert xs i (index_after_sync kinds tt ts x)) t) ≡ length (indexes_on xs t)
     alike None e counts = cc
     alike (Some y) e counts =
         let same : counted {K = List ℕ} (slice_cmp nat_cmp) (λ (z : Index). same_list z.table t) (Some y) ≡ one (same_list x.table t) = ap (counted {K = List ℕ} (slice_cmp nat_cmp) (λ (z : Index). same_list z.table t)) e in
         omega (arith, counts, same)
 
-pub synced_stands : (c : Content) (m : StoreState) (i : List ℕ) (x : Index) → StandsForState c m → get m.indexes i ≡ Some x → has_too_many x ≡ false → StandsForState (after (spell (sync_changes m.tables i x)) c) (with_synced m i)
+-- the changes are ones of the entries of indexes
+sync_changes_are : (m : StoreState) (i : List ℕ) (x : Index) → IsState m → get m.indexes i ≡ Some x → has_too_many x ≡ false → AreIndexChanges (kinds.sync_changes tt (table_at m.tables x.table) i x)
+sync_changes_are m i x state there few =
+    subst AreIndexChanges (same_sync m.tables i x)
+    (index_changes_sync m.tables (olds m.indexes) i (old_of x) state.tables (old_are m.tables m.indexes state.indexes) (old_there m.indexes i x there) (leb-true (x.body.part.given + length (pending_rows x)) most_given (room_left x few)))
+
+pub synced_stands : (c : Content) (m : StoreState) (i : List ℕ) (x : Index) → StandsForState c m → get m.indexes i ≡ Some x → has_too_many x ≡ false → StandsForState (after (spell (kinds.sync_changes tt (table_at m.tables x.table) i x)) c) (with_synced m i)
 synced_stands c m i x stands there few =
-    let ws = sync_changes m.tables i x in
-    let are = index_changes_sync m.tables m.indexes i x stands.state.tables stands.state.indexes there (room_left x few) in
+    let ws = kinds.sync_changes tt (table_at m.tables x.table) i x in
+    let are = sync_changes_are m i x stands.state there few in
     record {
       only = only-after ws c stands.only (are_changes ws are);
       unbuilt = λ k h. at-after ws c k ∙ told_frame is_of_indexes ws k (at c k) (all_of_indexes ws are) (indexes_built k.kind h) ∙ stands.unbuilt k h;
       tables = subst (λ (f : Key → Option (List ℕ)). TablesStand f m.tables) (sym (at_view ws c)) (tables_frame is_of_indexes ws (at c) m.tables (all_of_indexes ws are) tables_no_indexes stands.tables);
-      indexes = subst (λ (f : Key → Option (List ℕ)). IndexesStand f m.tables (synced m.indexes i)) (sym (at_view ws c)) (sync_stands (at c) m.tables m.indexes i x there (room_left x few) stands.state.tables stands.state.indexes stands.indexes);
+      indexes = subst (λ (f : Key → Option (List ℕ)). IndexesStand f m.tables (indexes_after_sync kinds tt m.tables i m.indexes)) (sym (at_view ws c)) (sync_stands kinds context_laws (at c) m.tables m.indexes tt i x there (room_left x few) stands.state.tables stands.state.indexes stands.indexes);
       preferences = subst (λ (f : Key → Option (List ℕ)). PreferencesStand f m.preferences) (sym (at_view ws c)) (preferences_frame is_of_indexes ws (at c) m.preferences (all_of_indexes ws are) (other_kinds is_of_indexes refl refl refl) stands.preferences);
       short_rows = subst HasShortRows (sym (at_view ws c)) (rows_put ws (at c) are stands.short_rows);
       state = record {
         tables = stands.state.tables;
-        indexes = sync_keeps m.tables m.indexes i x there (room_left x few) stands.state.indexes;
+        indexes = sync_keeps kinds context_laws m.tables m.indexes tt i x there (room_left x few) stands.state.tables stands.state.indexes;
         views = stands.state.views;
         preferences = stands.state.preferences;
-        few = λ t. subst (λ (n : ℕ). n ≤ index_limit) (sym (few_synced m.indexes i x there t)) (stands.state.few t);
+        few = λ t. subst (λ (n : ℕ). n ≤ index_limit) (sym (few_synced m.tables m.indexes i x there t)) (stands.state.few t);
       };
     }
 
@@ -109,8 +125,8 @@ no_entry t place (e ∷ es) h j y is =
     go true is none rest = let e1 : e.1 ≡ y = cc in subst (λ (z : Index). (same_list z.table t && (z.column == place)) ≡ false) e1 none
     go false is none rest = rest is
 
-column_free : (xs : Names Index) (t : List ℕ) (place : ℕ) → has_context_index xs t place ≡ false → IsFreeColumn xs t place
-column_free xs t place h j y is table column =
+column_free : (xs : Names Index) (t : List ℕ) (place : ℕ) → has_context_index xs t place ≡ false → IsFreeColumn kinds xs (target t place) Context
+column_free xs t place h j y is table column kind =
     let none = no_entry t place (entries xs) h j y (sym (get-entries xs j) ∙ is) in
     let yes : (same_list y.table t && (y.column == place)) ≡ true = and_from (same_list y.table t) (y.column == place) (ap (λ (u : List ℕ). same_list u t) table ∙ list_same t) (eq-eqb y.column place column) in
     let wrong : true ≡ false = sym yes ∙ none in
@@ -157,26 +173,28 @@ few_created xs i x none t room few =
         let more : one (same_list x.table t) ≡ 0 = ap one is ∙ one_false in
         omega (arith, counts, free, more, few)
 
-pub new_index_stands : (c : Content) (m : StoreState) (i t : List ℕ) (x : Table) (place : ℕ) (prefs : Prefs) → StandsForState c m → IsName i → IsPrefs prefs → IsFreeIndex m i t x place → StandsForState (after (spell (create_changes m.tables i (target t place) prefs all_rows)) c) (with_new_index m i t place prefs)
+pub new_index_stands : (c : Content) (m : StoreState) (i t : List ℕ) (x : Table) (place : ℕ) (prefs : Prefs) → StandsForState c m → IsName i → IsPrefs prefs → IsFreeIndex m i t x place → StandsForState (after (spell (kinds.create_changes all_rows tt (table_at m.tables t) i (target t place) prefs)) c) (with_new_index m i t place prefs)
 new_index_stands c m i t x place prefs stands name are_prefs free =
-    let ws = create_changes m.tables i (target t place) prefs all_rows in
+    let ws = kinds.create_changes all_rows tt (table_at m.tables t) i (target t place) prefs in
     let few = either (nat_le index_limit (length (indexes_on m.indexes t))) (has_too_many_rows m t) free.few in
-    let room = ltb-false most_given (length (rows_in m.tables t all_rows)) few.1 in
+    let room : kinds.can_create (table_at m.tables t) all_rows ≡ true = not_false (kinds.can_create (table_at m.tables t) all_rows) few.1 in
+    let rows : length (rows_in m.tables t all_rows) ≤ most_given = subst (λ (rs : List ℤ). length rs ≤ most_given) (sym (same_rows m.tables t all_rows)) (leb-true (length (rows_within (table_at m.tables t) all_rows)) most_given room) in
     let taken = either (is_some (get m.indexes i)) (has_context_index m.indexes t place) free.free in
     let none : get m.indexes i ≡ None = no_some (get m.indexes i) taken.0 in
-    let are = index_changes_create m.tables i (target t place) prefs all_rows stands.state.tables name (stands.state.tables.names t x free.there) are_prefs room in
+    let are = subst AreIndexChanges (same_create m.tables i (target t place) prefs all_rows) (index_changes_create m.tables i (target t place) prefs all_rows stands.state.tables name (stands.state.tables.names t x free.there) are_prefs rows) in
+    let on = target_of_texts m t x place free.there free.texts in
     record {
       only = only-after ws c stands.only (are_changes ws are);
       unbuilt = λ k h. at-after ws c k ∙ told_frame is_of_indexes ws k (at c k) (all_of_indexes ws are) (indexes_built k.kind h) ∙ stands.unbuilt k h;
       tables = subst (λ (f : Key → Option (List ℕ)). TablesStand f m.tables) (sym (at_view ws c)) (tables_frame is_of_indexes ws (at c) m.tables (all_of_indexes ws are) tables_no_indexes stands.tables);
-      indexes = subst (λ (f : Key → Option (List ℕ)). IndexesStand f m.tables (with_index m.tables m.indexes i (target t place) prefs all_rows)) (sym (at_view ws c)) (create_stands (at c) m.tables m.indexes i (target t place) prefs all_rows none are_prefs room stands.state.tables stands.indexes);
+      indexes = subst (λ (f : Key → Option (List ℕ)). IndexesStand f m.tables (with_index kinds all_rows tt m.tables i (target t place) prefs m.indexes)) (sym (at_view ws c)) (create_stands kinds context_laws (at c) m.tables m.indexes all_rows tt i (target t place) prefs none on are_prefs every_row room stands.state.tables stands.indexes);
       preferences = subst (λ (f : Key → Option (List ℕ)). PreferencesStand f m.preferences) (sym (at_view ws c)) (preferences_frame is_of_indexes ws (at c) m.preferences (all_of_indexes ws are) (other_kinds is_of_indexes refl refl refl) stands.preferences);
       short_rows = subst HasShortRows (sym (at_view ws c)) (rows_put ws (at c) are stands.short_rows);
       state = record {
         tables = stands.state.tables;
-        indexes = create_keeps m.tables m.indexes i (target t place) prefs all_rows name none (target_of_texts m t x place free.there free.texts) are_prefs (column_free m.indexes t place taken.1) every_row room stands.state.tables stands.state.indexes;
+        indexes = create_keeps kinds context_laws m.tables m.indexes all_rows tt i (target t place) prefs name none on are_prefs (column_free m.indexes t place taken.1) every_row room stands.state.tables stands.state.indexes;
         views = stands.state.views;
         preferences = stands.state.preferences;
-        few = λ q. few_created m.indexes i (created m.tables (target t place) prefs all_rows) none q (leb-false index_limit (length (indexes_on m.indexes t)) few.0) stands.state.few;
+        few = λ q. few_created m.indexes i (new_index kinds all_rows tt m.tables (target t place) prefs) none q (leb-false index_limit (length (indexes_on m.indexes t)) few.0) stands.state.few;
       };
     }

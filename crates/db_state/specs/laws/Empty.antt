@@ -14,11 +14,7 @@ use Rattle.ct_entry.specs.Maps.{Names}
 use Rattle.tb_table.specs.Tables.{Table, Tables}
 use Rattle.tb_table.specs.Spelling.{TablesStand}
 use Rattle.tb_table.specs.Rules.{AreTables}
-use Rattle.ix_context.specs.Indexes.{Index}
-use Rattle.ix_context.specs.Documents.{postings_in}
-use Rattle.ix_context.specs.Standing.{IndexStands, IndexesStand}
-use Rattle.ix_context.specs.laws.Syncs.{part_empty}
-use Rattle.ix_context.specs.Rules.{AreIndexes}
+use Rattle.ix_indexes.specs.Indexes.{Index, StandsAt, IndexesStand, AreIndexes}
 use Rattle.tx_settings.specs.PrefsBytes.{are_lexer_settings, settings_bytes, words_bytes, group_bytes, is_named_group}
 use Rattle.tx_prefs.specs.Spelling.{NamesStand}
 use Rattle.tx_prefs.specs.Rules.{AreNamed, are_stopwords}
@@ -61,10 +57,7 @@ tables_stand = record {
 }
 
 indexes_stand : IndexesStand (at no_content) no_tables no_indexes
-indexes_stand i = subst (IndexStands (at no_content) no_tables i) (sym (not_there {X = Index} i)) (record {
-  entry = no_key (key kind.Indexes i []);
-  context = part_empty (at no_content) i (postings_in no_tables None) (λ k owner. no_key k);
-})
+indexes_stand i = subst (StandsAt (at no_content) no_tables i) (sym (not_there {X = Index} i)) (λ k owner of. no_key k)
 
 are_tables : AreTables no_tables
 are_tables = record {
@@ -77,7 +70,7 @@ are_indexes : AreIndexes no_tables no_indexes
 are_indexes = record {
   names = λ i x is. absurd (not_found i x is);
   each = λ i x is. absurd (not_found i x is);
-  one = λ i j x y is other table column. absurd (not_found i x is);
+  one = λ i j x y is other table column kind. absurd (not_found i x is);
 }
 
 -- nothing is defined

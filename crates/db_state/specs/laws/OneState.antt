@@ -1,32 +1,25 @@
 -- A content stands for at most one state, but for what is wasted: its entries determine the tables, their rows, and the indexes with their marks.
-use Rattle.std.specs.Prelude.{ℕ, ℤ, suc, ◌+◌, ◌<◌, ◌≤◌, ◌≡◌, List, [], ◌∷◌, length, is_some, Option, Some, None, refl}
-use Rattle.std.specs.Int.{to_be_bytes, w32}
+use Rattle.std.specs.Prelude.{ℕ, ℤ, suc, ◌<◌, ◌≤◌, ◌≡◌, List, [], ◌∷◌, length, Option, Some, None, refl}
 use Rattle.std.specs.Option.{option_map, option_and_then}
 use Rattle.std.specs.FinMap.{get, same_map, int_cmp-IsAntisymmetric, nat_cmp-IsAntisymmetric, slice_cmp-IsAntisymmetric}
 use Rattle.std.proofs.Common.{sym, ap, subst, ◌∙◌, arith}
 use Rattle.std.proofs.lemmas.Cmp.{nat_list_cmp_total, int_cmp_total}
 use Rattle.ct_base.specs.declared.lists.Value.{Value}
 use Rattle.ct_base.specs.declared.lists.Value.TheVariants.{Number as NumberValue, Text as TextValue}
-use Rattle.ct_base.specs.laws.Options.{is_some-option_map}
 use Rattle.ct_entry.specs.Keys.{Key, at, IsRow}
-use Rattle.ct_entry.specs.Maps.{Names, each_value}
-use Rattle.ct_entry.specs.laws.Maps.{get-each_value}
+use Rattle.ct_entry.specs.Maps.{each_value}
 use Rattle.tb_table.specs.declared.columns.Column.{Column}
 use Rattle.tb_table.specs.Tables.{Table, Tables, row_in, numbers_of, text_in, text_in_column}
 use Rattle.tb_table.specs.Spelling.{TablesStand, columns_bytes, row_numbers_bytes}
 use Rattle.tb_table.specs.Rules.{AreTables, FitColumns, others}
 use Rattle.tb_table.specs.laws.Spelling.{columns_apart, numbers_apart}
 use Rattle.tb_table.specs.laws.Reading.{are_spellable, numbers_fit}
-use Rattle.ix_docmap.specs.Marks.{Mark, Pending, Settled, is_settled, queued}
-use Rattle.ix_context.specs.Indexes.{Index, Part, ContextIndex, Body, OfContext, given, part_in, marks_in, mark_of, mark_at}
-use Rattle.ix_context.specs.Standing.{IndexesStand}
-use Rattle.ix_context.specs.laws.Changes.{mark_is_row}
-use Rattle.ix_context.specs.Spelling.{index_entry}
-use Rattle.ix_context.specs.Rules.{AreIndexes}
-use Rattle.ix_context.specs.laws.Reading.{index_bytes_one}
+use Rattle.ix_kinds.specs.laws.Telling.{one_indexes}
+use Rattle.ix_indexes.specs.Indexes.{kinds, IndexesStand, AreIndexes}
+use Rattle.ix_indexes.specs.laws.ContextCreates.{context_laws}
 use Rattle.tx_prefs.specs.laws.Values.{one_preferences}
 use Rattle.db_state.specs.States.{StoreState}
-use Rattle.db_state.specs.Promises.{without_waste, unwasted, but_for_waste, OneState}
+use Rattle.db_state.specs.Promises.{unwasted, but_for_waste, OneState}
 
 -- ---- the values of a row
 
@@ -121,83 +114,6 @@ module _ (f : Key → Option (List ℕ)) (ts us : Tables) (ts_stand : TablesStan
   pub one_tables : ts ≡ us
   one_tables = same_map nat_list_cmp_total (slice_cmp-IsAntisymmetric nat_cmp-IsAntisymmetric) ts us same_tables
 
--- ---- indexes
-
--- parts that have given as many marks and are as tidy are one but for what is wasted
-part_is : (p q : Part) → p.given ≡ q.given → p.tidiness ≡ q.tidiness → record p { waste = 0 } ≡ record q { waste = 0 }
-part_is p q given tidiness i = record { given = given i; tidiness = tidiness i; waste = 0 }
-
-context_is : (c d : ContextIndex) → record c.part { waste = 0 } ≡ record d.part { waste = 0 } → c.marks ≡ d.marks → OfContext (record c { part = record c.part { waste = 0 } }) ≡ OfContext (record d { part = record d.part { waste = 0 } })
-context_is c d part marks i = OfContext (record { part = part i; marks = marks i })
-
-body_is : (b d : Body) → (part_in b).given ≡ (part_in d).given → (part_in b).tidiness ≡ (part_in d).tidiness → marks_in b ≡ marks_in d → without_waste b ≡ without_waste d
-body_is (OfContext c) (OfContext d) given tidiness marks = context_is c d (part_is c.part d.part given tidiness) marks
-
-index_is : (x y : Index) → x.table ≡ y.table → x.column ≡ y.column → x.prefs ≡ y.prefs → without_waste x.body ≡ without_waste y.body → record x { body = without_waste x.body } ≡ record y { body = without_waste y.body }
-index_is x y table column prefs body i = record { table = table i; column = column i; prefs = prefs i; body = body i }
-
-one_mark : (o p : Option (Mark (Unit {0}))) → is_settled o ≡ is_settled p → queued o ≡ queued p → o ≡ p
-one_mark None None marked queue = refl
-one_mark None (Some Pending) marked queue = cc
-one_mark None (Some (Settled a)) marked queue = cc
-one_mark (Some Pending) None marked queue = cc
-one_mark (Some Pending) (Some Pending) marked queue = refl
-one_mark (Some Pending) (Some (Settled a)) marked queue = cc
-one_mark (Some (Settled a)) None marked queue = cc
-one_mark (Some (Settled a)) (Some Pending) marked queue = cc
-one_mark (Some (Settled a)) (Some (Settled b)) marked queue = refl
-
-module _ (f : Key → Option (List ℕ)) (ts : Tables) (xs ys : Names Index) (ts_are : AreTables ts) (xs_stand : IndexesStand f ts xs) (ys_stand : IndexesStand f ts ys) (xs_are : AreIndexes ts xs) (ys_are : AreIndexes ts ys) where
-  row_of_mark : (zs : Names Index) → AreIndexes ts zs → (i : List ℕ) (z : Index) (r : ℤ) (mark : Mark (Unit {0})) → get zs i ≡ Some z → get (marks_in z.body) r ≡ Some mark → IsRow r
-  row_of_mark zs are i z r mark here marks = mark_is_row ts z ts_are (are.each i z here) r (ap is_some marks)
-
-  same_marks_at : (i : List ℕ) (r : ℤ) → IsRow r → mark_at xs i r ≡ mark_at ys i r
-  same_marks_at i r row =
-      let n = (xs_stand i).context in
-      let k = (ys_stand i).context in
-      let marked : is_settled (mark_at xs i r) ≡ is_settled (mark_at ys i r) =
-      sym (n.documents.numbers.marked r) ∙ sym (is_some-option_map (to_be_bytes w32) (n.document r)) ∙ ap is_some (sym (n.documents.documents r row) ∙ k.documents.documents r row)
-      ∙ is_some-option_map (to_be_bytes w32) (k.document r) ∙ k.documents.numbers.marked r in
-      one_mark (mark_at xs i r) (mark_at ys i r) marked (sym (n.documents.queue r row) ∙ k.documents.queue r row)
-
-  module _ (i : List ℕ) (x y : Index) (here : get xs i ≡ Some x) (there : get ys i ≡ Some y) where
-    same_marks : (r : ℤ) → get (marks_in x.body) r ≡ get (marks_in y.body) r
-    same_marks r = go (get (marks_in x.body) r) (get (marks_in y.body) r) refl refl
-      where
-        by_row : IsRow r → get (marks_in x.body) r ≡ get (marks_in y.body) r
-        by_row row = sym (ap (λ o. mark_of o r) here) ∙ same_marks_at i r row ∙ ap (λ o. mark_of o r) there
-
-        go : (o p : Option (Mark (Unit {0}))) → get (marks_in x.body) r ≡ o → get (marks_in y.body) r ≡ p → get (marks_in x.body) r ≡ get (marks_in y.body) r
-        go None None e d = e ∙ sym d
-        go None (Some mark) e d = by_row (row_of_mark ys ys_are i y r mark there d)
-        go (Some mark) p e d = by_row (row_of_mark xs xs_are i x r mark here e)
-
-    same_index : record x { body = without_waste x.body } ≡ record y { body = without_waste y.body }
-    same_index =
-        let entry : Some (index_entry x) ≡ Some (index_entry y) = sym (ap (option_map index_entry) here) ∙ sym (xs_stand i).entry ∙ (ys_stand i).entry ∙ ap (option_map index_entry) there in
-        let mine = (xs_are.each i x here).numbers in
-        let other = (ys_are.each i y there).numbers in
-        let parts = index_bytes_one x.table y.table x.column y.column x.prefs y.prefs (given x + 1) (given y + 1) (xs_are.each i x here).prefs (ys_are.each i y there).prefs (omega (arith, mine)) (omega (arith, other)) cc in
-        index_is x y parts.0 parts.1 parts.2
-        (body_is x.body y.body (let next = parts.3 in omega (arith, next)) ((xs_are.each i x here).untidy ∙ sym (ys_are.each i y there).untidy)
-        (same_map int_cmp_total int_cmp-IsAntisymmetric (marks_in x.body) (marks_in y.body) same_marks))
-
-  same_indexes : (i : List ℕ) → option_map unwasted (get xs i) ≡ option_map unwasted (get ys i)
-  same_indexes i = go (get xs i) (get ys i) refl refl
-    where
-      entry : option_map index_entry (get xs i) ≡ option_map index_entry (get ys i)
-      entry = sym (xs_stand i).entry ∙ (ys_stand i).entry
-
-      go : (o p : Option Index) → get xs i ≡ o → get ys i ≡ p → option_map unwasted (get xs i) ≡ option_map unwasted (get ys i)
-      go None None e d = ap (option_map unwasted) (e ∙ sym d)
-      go None (Some y) e d = let wrong : None ≡ Some (index_entry y) = sym (ap (option_map index_entry) e) ∙ entry ∙ ap (option_map index_entry) d in cc
-      go (Some x) None e d = let wrong : Some (index_entry x) ≡ None = sym (ap (option_map index_entry) e) ∙ entry ∙ ap (option_map index_entry) d in cc
-      go (Some x) (Some y) e d = ap (option_map unwasted) e ∙ ap Some (same_index i x y e d) ∙ sym (ap (option_map unwasted) d)
-
-  pub one_indexes : each_value unwasted xs ≡ each_value unwasted ys
-  one_indexes = same_map nat_list_cmp_total (slice_cmp-IsAntisymmetric nat_cmp-IsAntisymmetric) (each_value unwasted xs) (each_value unwasted ys)
-      (λ i. get-each_value nat_list_cmp_total unwasted xs i ∙ same_indexes i ∙ sym (get-each_value nat_list_cmp_total unwasted ys i))
-
 -- ---- the state
 
 state_is : (m n : StoreState) → m.tables ≡ n.tables → each_value unwasted m.indexes ≡ each_value unwasted n.indexes → m.preferences ≡ n.preferences → but_for_waste m ≡ but_for_waste n
@@ -207,7 +123,7 @@ pub one_state : OneState
 one_state c m n first second =
     let tables = one_tables (at c) m.tables n.tables first.tables second.tables first.state.tables second.state.tables in
     state_is m n tables
-    (one_indexes (at c) m.tables m.indexes n.indexes first.state.tables first.indexes
+    (one_indexes kinds context_laws (at c) m.tables m.indexes n.indexes first.state.tables first.indexes
     (subst (λ (ts : Tables). IndexesStand (at c) ts n.indexes) (sym tables) second.indexes) first.state.indexes
     (subst (λ (ts : Tables). AreIndexes ts n.indexes) (sym tables) second.state.indexes))
     (one_preferences (at c) m.preferences n.preferences first.preferences second.preferences first.state.preferences second.state.preferences)

@@ -1,5 +1,5 @@
 use Rattle.std.proofs.Common.{◌≡◌, drop}
-use Rattle.ix_context.specs.RowSteps.{is_column}
+use Rattle.ix_kinds.specs.RowSteps.{is_column}
 use Rattle.db_change.specs.Updating.{places_set}
 use Rattle.db_change.proofs.updating.is_place_set.Given as goal
 

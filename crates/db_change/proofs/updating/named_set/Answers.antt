@@ -1,6 +1,6 @@
 use Rattle.std.proofs.Common.{ℕ, List, [], ◌∷◌, ◌++◌, Some, None, Bool, cond, ap, ◌∙◌}
 use Rattle.db_names.specs.declared.heads.IndexHead.{IndexHead}
-use Rattle.ix_context.specs.RowSteps.{is_column}
+use Rattle.ix_kinds.specs.RowSteps.{is_column}
 use Rattle.db_change.specs.Updating.{places_set}
 use Rattle.db_change.proofs.NewValues.{filter_none, filter_some}
 use Rattle.db_change.proofs.updating.named_set.Goals as goal

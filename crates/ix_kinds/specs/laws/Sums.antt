@@ -1,0 +1,196 @@
+-- Two kinds of indexes that give what a kind has to give do so as one.
+use Rattle.std.proofs.Common.{◌≡◌, ℕ, ℤ, true, false, List, [], ◌∷◌, ◌++◌, Option, Some, refl, sym, ap, ◌⊎◌, inl, inr, arith}
+use Rattle.std.specs.Ordering.{int_eq}
+use Rattle.ct_base.specs.declared.lists.Value.{Value}
+use Rattle.ct_base.specs.laws.Lists.{cons_parts}
+use Rattle.ct_bytes.specs.Varints.{text_bytes}
+use Rattle.ct_entry.specs.declared.kinds.Kind.{Kind}
+use Rattle.ct_entry.specs.declared.kinds.Kind.TheVariants as kind
+use Rattle.ct_entry.specs.Keys.{Key, key, IsRow}
+use Rattle.ct_entry.specs.Changes.{told, view, AllOf, AllOn}
+use Rattle.tb_table.specs.declared.columns.Column.{Column}
+use Rattle.tb_table.specs.Tables.{Table}
+use Rattle.tb_table.specs.Rules.{IsTable}
+use Rattle.tx_settings.specs.PrefsBytes.{IsPrefs}
+use Rattle.db_names.specs.Heads.{index_code}
+use Rattle.db_names.specs.declared.heads.IndexKind.{IndexKind}
+use Rattle.db_names.specs.declared.heads.IndexKind.TheVariants.{Context, Catalogue, Rules}
+use Rattle.ix_kinds.specs.Rows.{RowChange, ChangesBy, LookAlike}
+use Rattle.ix_kinds.specs.Indextypes.{IndexOf, Indextype}
+use Rattle.ix_kinds.specs.Standing.{is_of_part, index_entry, HasNoEntries}
+use Rattle.ix_kinds.specs.IndextypeLaws.{is_its, by_row, by_sync, made, SameKind, AreOwnChanges, StandsAlone, RowsChange, Synchronises, Creates, TellsOne, IndextypeLaws}
+use Rattle.ix_kinds.specs.Sums.{index_with, own_in, Is, Stands, looks_in, kind_in, rest_in, cost_in, after_row_in, read_in, row_changes_of, can_sync_in, after_sync_in, sync_changes_in, either}
+
+-- the codes of kinds tell them apart
+one_kind : (a b : IndexKind) → index_code a ≡ index_code b → a ≡ b
+one_kind Context Context e = refl
+one_kind Context Catalogue e = absurd (omega (arith, e))
+one_kind Context Rules e = absurd (omega (arith, e))
+one_kind Catalogue Context e = absurd (omega (arith, e))
+one_kind Catalogue Catalogue e = refl
+one_kind Catalogue Rules e = absurd (omega (arith, e))
+one_kind Rules Context e = absurd (omega (arith, e))
+one_kind Rules Catalogue e = absurd (omega (arith, e))
+one_kind Rules Rules e = refl
+
+module _ {B C A E D R S : Type 0} (K : Indextype B A D R) (L : Indextype C E D S) (k : IndextypeLaws K) (l : IndextypeLaws L) (differ : (b : B) (c : C) → K.kind b ≡ L.kind c → ⊥) where
+  -- ---- it stands alone
+
+  either_alone : StandsAlone (either K L)
+  either_alone = record {
+    part = part;
+    agree = λ f g i x t. agree f g i x x.body t;
+    alike = λ f i x t u. alike f i x x.body t u;
+    is_alike = λ x t u. is_alike x x.body t u;
+  }
+    where
+      part : (b : B ⊎ C) (j : Kind) → own_in K L b j ≡ true → is_of_part j ≡ true
+      part (inl b) j h = k.alone.part b j h
+      part (inr c) j h = l.alone.part c j h
+
+      agree : (f g : Key → Option (List ℕ)) (i : List ℕ) (x : IndexOf (B ⊎ C)) (b : B ⊎ C) (t : Table) → ((j : Key) → j.owner ≡ i → own_in K L b j.kind ≡ true → g j ≡ f j) → Stands K L f i x b t → Stands K L g i x b t
+      agree f g i x (inl b) t same stand = k.alone.agree f g i (index_with x b) t same stand
+      agree f g i x (inr c) t same stand = l.alone.agree f g i (index_with x c) t same stand
+
+      alike : (f : Key → Option (List ℕ)) (i : List ℕ) (x : IndexOf (B ⊎ C)) (b : B ⊎ C) (t u : Table) → LookAlike (looks_in K L x b) t u → Is K L t x b → Stands K L f i x b t → Stands K L f i x b u
+      alike f i x (inl b) t u same is stand = k.alone.alike f i (index_with x b) t u same is stand
+      alike f i x (inr c) t u same is stand = l.alone.alike f i (index_with x c) t u same is stand
+
+      is_alike : (x : IndexOf (B ⊎ C)) (b : B ⊎ C) (t u : Table) → LookAlike (looks_in K L x b) t u → Is K L t x b → Is K L u x b
+      is_alike x (inl b) t u same is = k.alone.is_alike (index_with x b) t u same is
+      is_alike x (inr c) t u same is = l.alone.is_alike (index_with x c) t u same is
+
+  -- ---- a row changes
+
+  same_first : (x y : IndexOf B) → SameKind K x y → SameKind (either K L) (index_with x (inl x.body)) (index_with y (inl y.body))
+  same_first x y same = record { kind = same.kind; own = same.own; looks = same.looks }
+
+  same_second : (x y : IndexOf C) → SameKind L x y → SameKind (either K L) (index_with x (inr x.body)) (index_with y (inr y.body))
+  same_second x y same = record { kind = same.kind; own = same.own; looks = same.looks }
+
+  own_first : (i : List ℕ) (x y : IndexOf B) (ws : List (Key × Option (List ℕ))) → AreOwnChanges K i x y ws → AreOwnChanges (either K L) i (index_with x (inl x.body)) (index_with y (inl y.body)) ws
+  own_first i x y ws own = record { on = own.on; of = own.of; entry = own.entry }
+
+  own_second : (i : List ℕ) (x y : IndexOf C) (ws : List (Key × Option (List ℕ))) → AreOwnChanges L i x y ws → AreOwnChanges (either K L) i (index_with x (inr x.body)) (index_with y (inr y.body)) ws
+  own_second i x y ws own = record { on = own.on; of = own.of; entry = own.entry }
+
+  either_rows : RowsChange (either K L)
+  either_rows = record {
+    same = λ c n x. same c n x x.body;
+    own = λ f i x columns c n. own f i x x.body columns c n;
+    is = λ t u x c n. is t u x x.body c n;
+    stands = λ f i x t u c n. stands f i x x.body t u c n;
+    read_agree = λ f g i x r. read_agree f g i x x.body r;
+    changes_same = λ f i x columns c d n. changes_same f i x x.body columns c d n;
+    apart = λ f i x columns c r. apart f i x x.body columns c r;
+  }
+    where
+      same : (c : RowChange) (n : ℕ) (x : IndexOf (B ⊎ C)) (b : B ⊎ C) → SameKind (either K L) (index_with x b) (index_with x (after_row_in K L c n b))
+      same c n x (inl b) = same_first (index_with x b) (by_row K c n (index_with x b)) (k.rows.same c n (index_with x b))
+      same c n x (inr b) = same_second (index_with x b) (by_row L c n (index_with x b)) (l.rows.same c n (index_with x b))
+
+      own : (f : Key → Option (List ℕ)) (i : List ℕ) (x : IndexOf (B ⊎ C)) (b : B ⊎ C) (columns : List Column) (c : RowChange) (n : ℕ)
+          → AreOwnChanges (either K L) i (index_with x b) (index_with x (after_row_in K L c n b)) (row_changes_of K L i x b columns c (read_in K L f i x b c.row))
+      own f i x (inl b) columns c n = own_first i (index_with x b) (by_row K c n (index_with x b)) (K.row_changes i (index_with x b) columns c (K.read f i (index_with x b) c.row)) (k.rows.own f i (index_with x b) columns c n)
+      own f i x (inr b) columns c n = own_second i (index_with x b) (by_row L c n (index_with x b)) (L.row_changes i (index_with x b) columns c (L.read f i (index_with x b) c.row)) (l.rows.own f i (index_with x b) columns c n)
+
+      is : (t u : Table) (x : IndexOf (B ⊎ C)) (b : B ⊎ C) (c : RowChange) (n : ℕ) → IsTable t → IsTable u → ChangesBy c t u → Is K L t x b → Is K L u x (after_row_in K L c n b)
+      is t u x (inl b) c n is_t is_u by it = k.rows.is t u (index_with x b) c n is_t is_u by it
+      is t u x (inr b) c n is_t is_u by it = l.rows.is t u (index_with x b) c n is_t is_u by it
+
+      stands : (f : Key → Option (List ℕ)) (i : List ℕ) (x : IndexOf (B ⊎ C)) (b : B ⊎ C) (t u : Table) (c : RowChange) (n : ℕ) → IsTable t → IsTable u → ChangesBy c t u
+          → ((vs : List Value) → c.old ≡ Some vs → n ≡ cost_in K L i x b vs) → Is K L t x b → Stands K L f i x b t
+          → Stands K L (view (row_changes_of K L i x b t.columns c (read_in K L f i x b c.row)) f) i x (after_row_in K L c n b) u
+      stands f i x (inl b) t u c n is_t is_u by cost it stand = k.rows.stands f i (index_with x b) t u c n is_t is_u by cost it stand
+      stands f i x (inr b) t u c n is_t is_u by cost it stand = l.rows.stands f i (index_with x b) t u c n is_t is_u by cost it stand
+
+      read_agree : (f g : Key → Option (List ℕ)) (i : List ℕ) (x : IndexOf (B ⊎ C)) (b : B ⊎ C) (r : ℤ) → ((j : Key) → j.owner ≡ i → own_in K L b j.kind ≡ true → g j ≡ f j) → read_in K L g i x b r ≡ read_in K L f i x b r
+      read_agree f g i x (inl b) r same = ap inl (k.rows.read_agree f g i (index_with x b) r same)
+      read_agree f g i x (inr b) r same = ap inr (l.rows.read_agree f g i (index_with x b) r same)
+
+      changes_same : (f : Key → Option (List ℕ)) (i : List ℕ) (x : IndexOf (B ⊎ C)) (b : B ⊎ C) (columns : List Column) (c d : RowChange) (n : ℕ)
+          → row_changes_of K L i x (after_row_in K L c n b) columns d (read_in K L f i x (after_row_in K L c n b) d.row) ≡ row_changes_of K L i x b columns d (read_in K L f i x b d.row)
+      changes_same f i x (inl b) columns c d n = k.rows.changes_same f i (index_with x b) columns c d n
+      changes_same f i x (inr b) columns c d n = l.rows.changes_same f i (index_with x b) columns c d n
+
+      apart : (f : Key → Option (List ℕ)) (i : List ℕ) (x : IndexOf (B ⊎ C)) (b : B ⊎ C) (columns : List Column) (c : RowChange) (r : ℤ) → IsRow c.row → IsRow r → int_eq r c.row ≡ false
+          → read_in K L (view (row_changes_of K L i x b columns c (read_in K L f i x b c.row)) f) i x b r ≡ read_in K L f i x b r
+      apart f i x (inl b) columns c r row is_row away = ap inl (k.rows.apart f i (index_with x b) columns c r row is_row away)
+      apart f i x (inr b) columns c r row is_row away = ap inr (l.rows.apart f i (index_with x b) columns c r row is_row away)
+
+  -- ---- it is synchronised
+
+  either_syncs : Synchronises (either K L)
+  either_syncs = record {
+    same = λ d t x. same d t x x.body;
+    own = λ d t i x. own d t i x x.body;
+    is = λ d t x. is d t x x.body;
+    stands = λ f d t i x. stands f d t i x x.body;
+  }
+    where
+      same : (d : D) (t : Table) (x : IndexOf (B ⊎ C)) (b : B ⊎ C) → SameKind (either K L) (index_with x b) (index_with x (after_sync_in K L d t x b))
+      same d t x (inl b) = same_first (index_with x b) (by_sync K d t (index_with x b)) (k.syncs.same d t (index_with x b))
+      same d t x (inr b) = same_second (index_with x b) (by_sync L d t (index_with x b)) (l.syncs.same d t (index_with x b))
+
+      own : (d : D) (t : Table) (i : List ℕ) (x : IndexOf (B ⊎ C)) (b : B ⊎ C) → AreOwnChanges (either K L) i (index_with x b) (index_with x (after_sync_in K L d t x b)) (sync_changes_in K L d t i x b)
+      own d t i x (inl b) = own_first i (index_with x b) (by_sync K d t (index_with x b)) (K.sync_changes d t i (index_with x b)) (k.syncs.own d t i (index_with x b))
+      own d t i x (inr b) = own_second i (index_with x b) (by_sync L d t (index_with x b)) (L.sync_changes d t i (index_with x b)) (l.syncs.own d t i (index_with x b))
+
+      is : (d : D) (t : Table) (x : IndexOf (B ⊎ C)) (b : B ⊎ C) → IsTable t → IsPrefs x.prefs → can_sync_in K L x b ≡ true → Is K L t x b → Is K L t x (after_sync_in K L d t x b)
+      is d t x (inl b) is_t prefs room it = k.syncs.is d t (index_with x b) is_t prefs room it
+      is d t x (inr b) is_t prefs room it = l.syncs.is d t (index_with x b) is_t prefs room it
+
+      stands : (f : Key → Option (List ℕ)) (d : D) (t : Table) (i : List ℕ) (x : IndexOf (B ⊎ C)) (b : B ⊎ C) → IsTable t → IsPrefs x.prefs → can_sync_in K L x b ≡ true → Is K L t x b → Stands K L f i x b t
+          → Stands K L (view (sync_changes_in K L d t i x b) f) i x (after_sync_in K L d t x b) t
+      stands f d t i x (inl b) is_t prefs room it stand = k.syncs.stands f d t i (index_with x b) is_t prefs room it stand
+      stands f d t i x (inr b) is_t prefs room it stand = l.syncs.stands f d t i (index_with x b) is_t prefs room it stand
+
+  -- ---- it is made
+
+  either_creates : Creates (either K L)
+  either_creates = record {
+    on = λ a d t i target prefs. elim a as (λ a. AllOn i ((either K L).create_changes a d t i target prefs)) [ inl a ↦ k.creates.on a d t i target prefs | inr e ↦ l.creates.on e d t i target prefs ];
+    of = λ a d t i target prefs. elim a as (λ a. AllOf (is_its (either K L) ((either K L).new_body a d t target prefs)) ((either K L).create_changes a d t i target prefs)) [
+      | inl a ↦ k.creates.of a d t i target prefs
+      | inr e ↦ l.creates.of e d t i target prefs
+    ];
+    entry = λ a d t i target prefs old. elim a as (λ a. told ((either K L).create_changes a d t i target prefs) (key kind.Indexes i []) old ≡ Some (index_entry (either K L) (made (either K L) a d t target prefs))) [
+      | inl a ↦ k.creates.entry a d t i target prefs old
+      | inr e ↦ l.creates.entry e d t i target prefs old
+    ];
+    is = λ a d t target prefs is_t texts prefs_are. elim a as (λ a. (either K L).asks t a → (either K L).can_create t a ≡ true → (either K L).is t (made (either K L) a d t target prefs)) [
+      | inl a ↦ k.creates.is a d t target prefs is_t texts prefs_are
+      | inr e ↦ l.creates.is e d t target prefs is_t texts prefs_are
+    ];
+    stands = λ f a d t i target prefs is_t texts prefs_are. elim a as (λ a. (either K L).asks t a → (either K L).can_create t a ≡ true → HasNoEntries (either K L) f i
+        → (either K L).stands (view ((either K L).create_changes a d t i target prefs) f) i (made (either K L) a d t target prefs) t) [
+          | inl a ↦ k.creates.stands f a d t i target prefs is_t texts prefs_are
+          | inr e ↦ l.creates.stands f e d t i target prefs is_t texts prefs_are
+        ];
+  }
+
+  -- ---- the entries tell what it is
+
+  either_tells : TellsOne (either K L)
+  either_tells = record { one = λ f i x y t u. one f i x y x.body y.body t u }
+    where
+      -- an entry begins with the code of its kind
+      kinds : (x y : IndexOf (B ⊎ C)) → index_entry (either K L) x ≡ index_entry (either K L) y → kind_in K L x.body ≡ kind_in K L y.body
+      kinds x y e =
+          one_kind (kind_in K L x.body) (kind_in K L y.body)
+          (cons_parts (index_code (kind_in K L x.body)) (index_code (kind_in K L y.body)) ((text_bytes x.table ++ x.column ∷ []) ++ rest_in K L x x.body) ((text_bytes y.table ++ y.column ∷ []) ++ rest_in K L y y.body) e).0
+
+      one : (f : Key → Option (List ℕ)) (i : List ℕ) (x y : IndexOf (B ⊎ C)) (b c : B ⊎ C) (t u : Table) → IsTable t → IsTable u → Is K L t x b → Is K L u y c → IsPrefs x.prefs → IsPrefs y.prefs → (x.table ≡ y.table → t ≡ u)
+          → index_entry (either K L) (index_with x b) ≡ index_entry (either K L) (index_with y c) → Stands K L f i x b t → Stands K L f i y c u
+          → index_with x ((either K L).unwasted b) ≡ index_with y ((either K L).unwasted c)
+      one f i x y (inl b) (inl c) t u is_t is_u x_is y_is x_prefs y_prefs same entry x_stands y_stands =
+          ap (λ (z : IndexOf B). index_with z (inl z.body)) (k.one.one f i (index_with x b) (index_with y c) t u is_t is_u x_is y_is x_prefs y_prefs same entry x_stands y_stands)
+      one f i x y (inr b) (inr c) t u is_t is_u x_is y_is x_prefs y_prefs same entry x_stands y_stands =
+          ap (λ (z : IndexOf C). index_with z (inr z.body)) (l.one.one f i (index_with x b) (index_with y c) t u is_t is_u x_is y_is x_prefs y_prefs same entry x_stands y_stands)
+      one f i x y (inl b) (inr c) t u is_t is_u x_is y_is x_prefs y_prefs same entry x_stands y_stands = absurd (differ b c (kinds (index_with x (inl b)) (index_with y (inr c)) entry))
+      one f i x y (inr b) (inl c) t u is_t is_u x_is y_is x_prefs y_prefs same entry x_stands y_stands = absurd (differ c b (sym (kinds (index_with x (inr b)) (index_with y (inl c)) entry)))
+
+  -- ---- all of it
+
+  pub either_laws : IndextypeLaws (either K L)
+  either_laws = record { alone = either_alone; rows = either_rows; syncs = either_syncs; creates = either_creates; one = either_tells }
