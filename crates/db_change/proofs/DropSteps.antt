@@ -8,7 +8,6 @@ use Rattle.ct_entry.specs.Changes.{spell}
 use Rattle.ct_entry.specs.laws.Changes.{spell-append}
 use Rattle.tb_table.specs.Tables.{Table}
 use Rattle.tb_table.specs.Spelling.{remove_changes}
-use Rattle.ix_context.specs.Removing.{remove_all_changes}
 use Rattle.db_names.specs.declared.heads.IndexHead.{IndexHead}
 use Rattle.db_names.specs.Findings.{AreIndexesOf}
 use Rattle.db_names.specs.Promises.{heads_of}
@@ -16,9 +15,10 @@ use Rattle.db_names.specs.laws.Heads.{indexes_of_read}
 use Rattle.db_cond.specs.Faults.{UnknownName}
 use Rattle.db_state.specs.States.{StoreState, StandsForState}
 use Rattle.db_state.specs.Effects.{Effect, Does, with_found}
-use Rattle.db_state.specs.laws.Heads.{heads, heads_stand}
+use Rattle.db_state.specs.laws.Heads.{store_heads, heads_stand}
 use Rattle.db_change.specs.Dropping.{DropsTable, drop_table, table_dropped, with_table_dropped}
 use Rattle.db_change.specs.laws.NewRows.{names_on, names_on_table}
+use Rattle.ix_indexes.specs.Removing.{remove_all_changes}
 
 -- the name of the first of the indexes that are left
 pub indexes_left : (es : List (List ℕ × IndexHead)) (n : ℕ) (e : List ℕ × IndexHead) → n < length es → e ≡ get_or es n e → map (λ (x : List ℕ × IndexHead). x.0) (drop n es) ≡ e.0 ∷ map (λ (x : List ℕ × IndexHead). x.0) (drop (n + 1) es)
@@ -30,7 +30,7 @@ indexes_left es n e less is =
 pub drops_table : (c : Content) (m : StoreState) (t : List ℕ) (shown found : List (List ℕ × IndexHead)) (none one new : List (List ℕ × Option (List ℕ))) → StandsForState c m → shown ≡ found → AreIndexesOf (at c) t found → none ≡ []
     → one ≡ none ++ spell (remove_changes t c) → new ≡ one ++ spell (remove_all_changes c (map (λ e. e.0) shown)) → DropsTable m c t new
 drops_table c m t shown found none one new stands same are empty first second =
-    let names : found ≡ heads_of t (heads m.indexes) = indexes_of_read (at c) (heads m.indexes) (heads_stand (at c) m.tables m.indexes stands.state.tables stands.state.indexes stands.indexes) t found are in
+    let names : found ≡ heads_of t (store_heads m.indexes) = indexes_of_read (at c) (store_heads m.indexes) (heads_stand (at c) m.tables m.indexes stands.state.tables stands.state.indexes stands.indexes) t found are in
     record {
       names = names_on m.indexes t;
       are = names_on_table m.indexes t;

@@ -27,11 +27,11 @@ use Rattle.db_rows.specs.Checking.{check_conds}
 use Rattle.db_rows.specs.Meeting.{meeting_keys}
 use Rattle.db_state.specs.States.{StoreState, StandsForState}
 use Rattle.db_state.specs.Effects.{Effect, Refused, Does, Checks, with_found}
-use Rattle.db_state.specs.laws.Heads.{heads, heads_stand}
+use Rattle.db_state.specs.laws.Heads.{store_heads, heads_stand}
 use Rattle.db_state.specs.Shapes.{AreStoreChanges, HasStoreValue}
 use Rattle.db_change.proofs.ShapeSteps.{row_and_notes, shaped_alone}
 use Rattle.db_change.specs.Deleting.{delete_from, delete_rows, gone_rows_changes, rows_deleted, without_rows}
-use Rattle.db_change.specs.laws.NewRows.{names_on}
+use Rattle.db_change.specs.laws.NewRows.{heads_on}
 use Rattle.db_change.specs.laws.MetRows.{met_apart, met_there}
 use Rattle.db_change.specs.laws.GoneRows.{gone_rows_stand, drops_weigh_nothing, rows_drop}
 
@@ -90,14 +90,14 @@ module _ (m : StoreState) (t : List ℕ) (conds : List Cond) where
     delete_refused fault checks = delete_some ∙ checks (delete_rows m t (meeting_keys x conds))
 
     module _ (c : Content) (stands : StandsForState c m) (found : List (List ℕ × IndexHead)) (are : AreIndexesOf (at c) t found) (rows : List RowKey) (met : map (λ row. row.0) rows ≡ meeting_keys x conds)
-        (batch : List (List ℕ × Option (List ℕ))) (changes : batch ≡ spell (gone_rows_changes (at c) t columns (map (λ e. e.0) found) (map (λ row. row.0) rows))) where
-      batch_is : batch ≡ spell (gone_rows_changes (at c) t x.columns (names_on m.indexes t) (meeting_keys x conds))
+        (batch : List (List ℕ × Option (List ℕ))) (changes : batch ≡ spell (gone_rows_changes (at c) t columns found (map (λ row. row.0) rows))) where
+      batch_is : batch ≡ spell (gone_rows_changes (at c) t x.columns (heads_on m.indexes t) (meeting_keys x conds))
       batch_is =
           changes
-          ∙ ap (λ (cs : List Column). spell (gone_rows_changes (at c) t cs (map (λ e. e.0) found) (map (λ (row : RowKey). row.0) rows))) (sym same)
-          ∙ ap (λ (es : List (List ℕ × IndexHead)). spell (gone_rows_changes (at c) t x.columns (map (λ e. e.0) es) (map (λ (row : RowKey). row.0) rows)))
-          (indexes_of_read (at c) (heads m.indexes) (heads_stand (at c) m.tables m.indexes stands.state.tables stands.state.indexes stands.indexes) t found are)
-          ∙ ap (λ (rs : List ℤ). spell (gone_rows_changes (at c) t x.columns (names_on m.indexes t) rs)) met
+          ∙ ap (λ (cs : List Column). spell (gone_rows_changes (at c) t cs found (map (λ (row : RowKey). row.0) rows))) (sym same)
+          ∙ ap (λ (es : List (List ℕ × IndexHead)). spell (gone_rows_changes (at c) t x.columns es (map (λ (row : RowKey). row.0) rows)))
+          (indexes_of_read (at c) (store_heads m.indexes) (heads_stand (at c) m.tables m.indexes stands.state.tables stands.state.indexes stands.indexes) t found are)
+          ∙ ap (λ (rs : List ℤ). spell (gone_rows_changes (at c) t x.columns (heads_on m.indexes t) rs)) met
 
       pub delete_done : (count : ℕ) → count ≡ length rows → ((done : Effect) → Checks None (check_conds columns conds done) done) → (n : StoreState) × (delete_from m t conds ≡ Does n (rows_deleted count)) × StandsForState (after batch c) n
       delete_done count counted passed = (
@@ -111,12 +111,12 @@ module _ (m : StoreState) (t : List ℕ) (conds : List Cond) where
 
 -- the same changes by equal lists
 pub same_changes : (f : Key → Option (List ℕ)) (t : List ℕ) (cs ds : List Column) (es fs : List (List ℕ × IndexHead)) (rs ss : List RowKey) → cs ≡ ds → es ≡ fs → rs ≡ ss
-    → spell (gone_rows_changes f t cs (map (λ e. e.0) es) (map (λ row. row.0) rs)) ≡ spell (gone_rows_changes f t ds (map (λ e. e.0) fs) (map (λ row. row.0) ss))
+    → spell (gone_rows_changes f t cs es (map (λ row. row.0) rs)) ≡ spell (gone_rows_changes f t ds fs (map (λ row. row.0) ss))
 same_changes f t cs ds es fs rs ss columns indexes rows =
-    ap (λ (l : List Column). spell (gone_rows_changes f t l (map (λ e. e.0) es) (map (λ (row : RowKey). row.0) rs))) columns
-    ∙ ap (λ (l : List (List ℕ × IndexHead)). spell (gone_rows_changes f t ds (map (λ e. e.0) l) (map (λ (row : RowKey). row.0) rs))) indexes
-    ∙ ap (λ (l : List RowKey). spell (gone_rows_changes f t ds (map (λ e. e.0) fs) (map (λ row. row.0) l))) rows
+    ap (λ (l : List Column). spell (gone_rows_changes f t l es (map (λ (row : RowKey). row.0) rs))) columns
+    ∙ ap (λ (l : List (List ℕ × IndexHead)). spell (gone_rows_changes f t ds l (map (λ (row : RowKey). row.0) rs))) indexes
+    ∙ ap (λ (l : List RowKey). spell (gone_rows_changes f t ds fs (map (λ row. row.0) l))) rows
 
 -- they weigh nothing
-pub deletes_weigh_nothing : (c : Content) (t : List ℕ) (columns : List Column) (names : List (List ℕ)) (rows : List ℤ) (batch : List (List ℕ × Option (List ℕ))) → batch ≡ spell (gone_rows_changes (at c) t columns names rows) → changes_weight batch ≡ 0
-deletes_weigh_nothing c t columns names rows batch is = ap changes_weight is ∙ drops_weigh_nothing (gone_rows_changes (at c) t columns names rows) (rows_drop (at c) t columns names rows)
+pub deletes_weigh_nothing : (c : Content) (t : List ℕ) (columns : List Column) (es : List (List ℕ × IndexHead)) (rows : List ℤ) (batch : List (List ℕ × Option (List ℕ))) → batch ≡ spell (gone_rows_changes (at c) t columns es rows) → changes_weight batch ≡ 0
+deletes_weigh_nothing c t columns es rows batch is = ap changes_weight is ∙ drops_weigh_nothing (gone_rows_changes (at c) t columns es rows) (rows_drop (at c) t columns es rows)

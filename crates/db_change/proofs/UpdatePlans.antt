@@ -25,7 +25,7 @@ use Rattle.db_state.specs.declared.plans.Plan.TheVariants.{Done}
 use Rattle.db_change.specs.Inserting.{is_of_sort, is_too_long, is_beyond_range}
 use Rattle.db_change.specs.Updating.{assign_columns, sets_key, has_twice, of_its_sort, places_set, check_update, with_updates, rows_updated, update_rows, update, indexes_set, update_changes, IsKeptAssign}
 use Rattle.db_change.specs.laws.SetValues.{SetFits, others_fit_set}
-use Rattle.db_change.specs.laws.SetIndexes.{named_on_columns}
+use Rattle.db_change.specs.laws.SetIndexes.{named_on_columns, own_heads_set}
 use Rattle.db_change.specs.laws.ChangedRows.{changed_rows_stand}
 use Rattle.db_change.specs.laws.MetRows.{met_apart, met_there}
 use Rattle.db_change.proofs.AssignSteps.{set_values_fit}
@@ -65,7 +65,7 @@ module _ (m : StoreState) (t : List ℕ) (assigns : List Assign) (conds : List C
       with_updates m t x.columns assigns (meeting_keys x conds),
       update_some ∙ checks (update_rows m t x.columns assigns (meeting_keys x conds)) ∙ ap (λ (n : ℕ). Does (with_updates m t x.columns assigns (meeting_keys x conds)) (rows_updated n)) (sym (counted ∙ ap (λ (rs : List ℤ). length rs) rows_are)),
       subst (λ (ws : List (List ℕ × Option (List ℕ))). StandsForState (after ws k) (with_updates m t x.columns assigns (meeting_keys x conds))) (sym whole)
-          (changed_rows_stand k m t x assigns (indexes_set m t x.columns assigns) stands here fits (named_on_columns (places_set x.columns assigns) m.indexes t) (meeting_keys x conds) (met_apart x conds) (met_there m.tables t x conds here)),
+          (changed_rows_stand k m t x assigns (indexes_set m t x.columns assigns) stands here fits (own_heads_set (places_set x.columns assigns) m.indexes t) (named_on_columns (places_set x.columns assigns) m.indexes t) (meeting_keys x conds) (met_apart x conds) (met_there m.tables t x conds here)),
     )
       where
         whole : batch ≡ spell (update_changes k m t (others x.columns) assigns (indexes_set m t x.columns assigns) (meeting_keys x conds))

@@ -6,12 +6,17 @@ use Rattle.ct_entry.specs.Changes.{spell}
 use Rattle.ct_entry.specs.Each.{each}
 use Rattle.ct_entry.specs.Keys.{Key}
 use Rattle.tb_table.specs.declared.columns.Column.{Column}
+use Rattle.tb_table.specs.declared.columns.Target.{Target}
 use Rattle.tb_table.specs.Tables.{Table, without_row}
 use Rattle.tb_table.specs.Spelling.{delete_changes}
 use Rattle.ix_docmap.specs.Changes.{gone_changes}
 use Rattle.ix_docmap.specs.Readings.{document_at}
 use Rattle.ix_kinds.specs.Statements.{tables_after, every, indexes_after}
+use Rattle.ix_indexes.specs.declared.noting.RowStep.TheVariants.{Goes}
 use Rattle.ix_indexes.specs.Indexes.{kinds}
+use Rattle.ix_indexes.specs.Noting.{heads_changes}
+use Rattle.db_names.specs.declared.heads.IndexKind.TheVariants.{Context}
+use Rattle.db_names.specs.declared.heads.IndexHead.{IndexHead}
 use Rattle.db_cond.specs.Faults.{UnknownName}
 use Rattle.db_cond.specs.Lines.{rows_line}
 use Rattle.db_rows.specs.Checking.{check_conds}
@@ -38,28 +43,25 @@ delete_from m t conds = with_found (get m.tables t) (UnknownName t) (λ (x : Tab
 
 -- ---- what it puts into its batch
 
--- a row goes from an index, where it is the document that the entries before name, or waits
-abbrev pub index_gone_changes : (Key → Option (List ℕ)) → ℤ → List ℕ → List (Key × Option (List ℕ))
-index_gone_changes f r i = gone_changes i r (document_at f i r)
+-- a row goes from its table, and from each of the indexes with these heads, as their kinds have it by the entries before
+abbrev pub gone_row_changes : (Key → Option (List ℕ)) → List ℕ → List Column → List (List ℕ × IndexHead) → ℤ → List (Key × Option (List ℕ))
+gone_row_changes f t columns indexes r = delete_changes t columns r ++ heads_changes f r Goes indexes
 
--- a row goes from its table, and from each of these indexes
-abbrev pub gone_row_changes : (Key → Option (List ℕ)) → List ℕ → List Column → List (List ℕ) → ℤ → List (Key × Option (List ℕ))
-gone_row_changes f t columns names r = delete_changes t columns r ++ each (λ i. index_gone_changes f r i) names
-
-abbrev pub gone_rows_changes : (Key → Option (List ℕ)) → List ℕ → List Column → List (List ℕ) → List ℤ → List (Key × Option (List ℕ))
-gone_rows_changes f t columns names rows = each (gone_row_changes f t columns names) rows
+abbrev pub gone_rows_changes : (Key → Option (List ℕ)) → List ℕ → List Column → List (List ℕ × IndexHead) → List ℤ → List (Key × Option (List ℕ))
+gone_rows_changes f t columns indexes rows = each (gone_row_changes f t columns indexes) rows
 
 -- The batch takes these rows from a table with these columns, and from each of these indexes.
-abbrev pub TakesRows : (Key → Option (List ℕ)) → List ℕ → List Column → List (List ℕ) → List ℤ → List (List ℕ × Option (List ℕ)) → Type 0
-TakesRows f t columns names rows batch = batch ≡ spell (gone_rows_changes f t columns names rows)
+abbrev pub TakesRows : (Key → Option (List ℕ)) → List ℕ → List Column → List (List ℕ × IndexHead) → List ℤ → List (List ℕ × Option (List ℕ)) → Type 0
+TakesRows f t columns indexes rows batch = batch ≡ spell (gone_rows_changes f t columns indexes rows)
 
 -- computed examples: where no row meets the conditions, nothing is changed
 nothing_to_delete : (m : StoreState) (t : List ℕ) → without_rows m t [] ≡ m
 nothing_to_delete m t = refl
 
-no_changes : (f : Key → Option (List ℕ)) (t : List ℕ) (columns : List Column) (names : List (List ℕ)) → gone_rows_changes f t columns names [] ≡ []
-no_changes f t columns names = refl
+no_changes : (f : Key → Option (List ℕ)) (t : List ℕ) (columns : List Column) (indexes : List (List ℕ × IndexHead)) → gone_rows_changes f t columns indexes [] ≡ []
+no_changes f t columns indexes = refl
 
-one_row_of_an_index : (f : Key → Option (List ℕ)) (t : List ℕ) (columns : List Column) (i : List ℕ) (r : ℤ)
-    → gone_row_changes f t columns (i ∷ []) r ≡ delete_changes t columns r ++ (gone_changes i r (document_at f i r) ++ [])
-one_row_of_an_index f t columns i r = refl
+-- a row goes from a CONTEXT index where it is the document that the entries before name, or waits
+one_row_of_an_index : (f : Key → Option (List ℕ)) (t : List ℕ) (columns : List Column) (i : List ℕ) (target : Target) (r : ℤ)
+    → gone_row_changes f t columns ((i, record { kind = Context; target = target }) ∷ []) r ≡ delete_changes t columns r ++ (gone_changes i r (document_at f i r) ++ [])
+one_row_of_an_index f t columns i target r = refl

@@ -12,10 +12,10 @@ use Rattle.tb_table.specs.Tables.{Table, without_table}
 use Rattle.tb_table.specs.Spelling.{remove_changes}
 use Rattle.ix_kinds.specs.Statements.{every, AreIndexesOn, without_indexes_on}
 use Rattle.ix_indexes.specs.Indexes.{kinds}
-use Rattle.ix_context.specs.Removing.{remove_all_changes}
 use Rattle.db_cond.specs.Faults.{UnknownName}
 use Rattle.db_state.specs.States.{StoreState, empty_state}
 use Rattle.db_state.specs.Effects.{Effect, Does, Refused, with_found}
+use Rattle.ix_indexes.specs.Removing.{remove_all_changes}
 
 -- the table is there no more, and with it go its indexes
 abbrev pub with_table_dropped : StoreState → List ℕ → StoreState

@@ -21,7 +21,6 @@ use Rattle.ct_base.specs.Limits.{row_limit, text_limit}
 use Rattle.ix_kinds.specs.Rows.{row_change}
 use Rattle.ix_kinds.specs.Statements.{every, indexes_after_row}
 use Rattle.ix_indexes.specs.Indexes.{kinds}
-use Rattle.ix_context.specs.Changes.{note_insert_changes}
 use Rattle.db_cond.specs.Faults.{UnknownName, WrongValues, KeyExists, ValueTooLong, OutOfRange, LimitReached}
 use Rattle.ct_keep.specs.declared.keepers.KeepFault.{KeepFault}
 use Rattle.ct_keep.specs.Content.{Content, after}
@@ -137,10 +136,6 @@ IsTextKept (Number n) = Unit {0}
 abbrev pub IsShortValue : Operand → Type 0
 IsShortValue (Text text) = length text ≤ text_entry_limit
 IsShortValue (Number n) = Unit {0}
-
--- the changes that a row waits in each of these indexes
-abbrev pub note_all_changes : List (List ℕ) → ℤ → List (Key × Option (List ℕ))
-note_all_changes names r = each (λ i. note_insert_changes i r) names
 
 -- ---- the statement
 

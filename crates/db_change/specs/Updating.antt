@@ -1,5 +1,5 @@
 -- What UPDATE does.
-use Rattle.std.specs.Prelude.{ℕ, ℤ, suc, pos, ◌≡◌, Bool, true, false, not, ◌||◌, List, [], ◌∷◌, ◌++◌, length, map, Option, Some, None, codes, refl}
+use Rattle.std.specs.Prelude.{ℕ, ℤ, suc, pos, ◌≡◌, Bool, true, false, not, ◌||◌, List, [], ◌∷◌, ◌++◌, length, map, filter, Option, Some, None, codes, refl}
 use Rattle.std.specs.Bool.{if◌then◌else◌}
 use Rattle.std.specs.List.{list_any, list_all, filter_map, cons_option}
 use Rattle.std.specs.Option.{option_map, option_and_then, unwrap_or}
@@ -21,14 +21,14 @@ use Rattle.tb_table.specs.declared.columns.Column.{Column}
 use Rattle.tb_table.specs.Rules.{others}
 use Rattle.tb_table.specs.Tables.{Table, Tables, numbers_of, with_row}
 use Rattle.tb_table.specs.Spelling.{insert_changes}
-use Rattle.ix_docmap.specs.Changes.{changed_changes}
-use Rattle.ix_docmap.specs.Readings.{document_at}
 use Rattle.ix_kinds.specs.Statements.{tables_after, looks_at_any, indexes_after}
 use Rattle.ix_kinds.specs.RowSteps.{is_column}
+use Rattle.ix_indexes.specs.declared.noting.RowStep.TheVariants.{Changes}
 use Rattle.ix_indexes.specs.Indexes.{kinds}
+use Rattle.ix_indexes.specs.Noting.{heads_changes}
 use Rattle.db_names.specs.declared.heads.IndexHead.{IndexHead}
 use Rattle.db_names.specs.Promises.{heads_of}
-use Rattle.db_state.specs.laws.Heads.{heads}
+use Rattle.db_state.specs.laws.Heads.{store_heads}
 use Rattle.db_cond.specs.Faults.{UnknownName, WrongValues, ValueTooLong, OutOfRange}
 use Rattle.db_cond.specs.Lines.{rows_line}
 use Rattle.db_rows.specs.Checking.{cond_columns, fit_columns, has_beyond, sort_of}
@@ -151,36 +151,32 @@ abbrev pub texts_set : ℕ → List Column → List Assign → List (ℕ × List
 texts_set place [] assigns = []
 texts_set place (c ∷ columns) assigns = cons_option (option_map (λ text. (place, text)) (option_and_then text_value (set_in assigns c.name))) (texts_set (suc place) columns assigns)
 
--- the names of the indexes on columns that are set
-abbrev pub named_set : List ℕ → List (List ℕ × IndexHead) → List (List ℕ)
-named_set places heads = filter_map (λ e. if is_column places e.1.target.column then Some e.0 else None) heads
+-- the indexes on columns that are set
+abbrev pub heads_set : List ℕ → List (List ℕ × IndexHead) → List (List ℕ × IndexHead)
+heads_set places heads = filter (λ e. is_column places e.1.target.column) heads
 
-abbrev pub indexes_set : StoreState → List ℕ → List Column → List Assign → List (List ℕ)
-indexes_set m t columns assigns = named_set (places_set columns assigns) (heads_of t (heads m.indexes))
+abbrev pub indexes_set : StoreState → List ℕ → List Column → List Assign → List (List ℕ × IndexHead)
+indexes_set m t columns assigns = heads_set (places_set columns assigns) (heads_of t (store_heads m.indexes))
 
 -- a row with these numbers before gets those and the texts that are set; the columns are those behind the key
 abbrev pub value_changes : List ℕ → List Column → List Assign → List ℤ → ℤ → List (Key × Option (List ℕ))
 value_changes t columns assigns numbers r = insert_changes t r (numbers_after columns assigns numbers) (texts_set 1 columns assigns)
 
--- the row waits in each of these indexes
-abbrev pub note_changes : Content → List (List ℕ) → ℤ → List (Key × Option (List ℕ))
-note_changes c names r = each (λ i. changed_changes i r (document_at (at c) i r)) names
+-- the changes of one row: its values, and what the kind of each of these indexes has for it
+abbrev pub row_update_changes : Content → StoreState → List ℕ → List Column → List Assign → List (List ℕ × IndexHead) → ℤ → List (Key × Option (List ℕ))
+row_update_changes c m t columns assigns indexes r = value_changes t columns assigns (numbers_of (row_values m.tables t r)) r ++ heads_changes (at c) r Changes indexes
 
--- the changes of one row
-abbrev pub row_update_changes : Content → StoreState → List ℕ → List Column → List Assign → List (List ℕ) → ℤ → List (Key × Option (List ℕ))
-row_update_changes c m t columns assigns names r = value_changes t columns assigns (numbers_of (row_values m.tables t r)) r ++ note_changes c names r
-
--- The batch updates this row of a table with these columns behind the key, and has it wait in these indexes.
-abbrev pub UpdatesRow : Content → StoreState → List ℕ → List Column → List Assign → List (List ℕ) → ℤ → List (List ℕ × Option (List ℕ)) → Type 0
-UpdatesRow c m t columns assigns names r batch = batch ≡ spell (row_update_changes c m t columns assigns names r)
+-- The batch updates this row of a table with these columns behind the key, and tells these indexes of it.
+abbrev pub UpdatesRow : Content → StoreState → List ℕ → List Column → List Assign → List (List ℕ × IndexHead) → ℤ → List (List ℕ × Option (List ℕ)) → Type 0
+UpdatesRow c m t columns assigns indexes r batch = batch ≡ spell (row_update_changes c m t columns assigns indexes r)
 
 -- the changes of each of these rows
-abbrev pub update_changes : Content → StoreState → List ℕ → List Column → List Assign → List (List ℕ) → List ℤ → List (Key × Option (List ℕ))
-update_changes c m t columns assigns names rows = each (λ r. row_update_changes c m t columns assigns names r) rows
+abbrev pub update_changes : Content → StoreState → List ℕ → List Column → List Assign → List (List ℕ × IndexHead) → List ℤ → List (Key × Option (List ℕ))
+update_changes c m t columns assigns indexes rows = each (λ r. row_update_changes c m t columns assigns indexes r) rows
 
 -- The same of each of these rows.
-abbrev pub UpdatesRows : Content → StoreState → List ℕ → List Column → List Assign → List (List ℕ) → List ℤ → List (List ℕ × Option (List ℕ)) → Type 0
-UpdatesRows c m t columns assigns names rows batch = batch ≡ spell (update_changes c m t columns assigns names rows)
+abbrev pub UpdatesRows : Content → StoreState → List ℕ → List Column → List Assign → List (List ℕ × IndexHead) → List ℤ → List (List ℕ × Option (List ℕ)) → Type 0
+UpdatesRows c m t columns assigns indexes rows batch = batch ≡ spell (update_changes c m t columns assigns indexes rows)
 
 -- The batch updates these rows of a table with these columns, in each index on a column that is set.
 abbrev pub UpdatesTable : Content → StoreState → List ℕ → List Column → List Assign → List ℤ → List (List ℕ × Option (List ℕ)) → Type 0

@@ -1,19 +1,16 @@
 //! DELETE.
 #![tactic(auto, using(ct_keep::specs::Composing::reads_on, ct_keep::specs::Composing::reads_short, ct_keep::specs::Composing::accepts_on))]
 
-ghost use Rattle.std.specs.Prelude.{◌≡◌, ◌≤◌, ◌++◌, IfOk, OnOk, Some, None, Err, length, map};
+ghost use Rattle.std.specs.Prelude.{◌≡◌, ◌≤◌, IfOk, Some, None, Err, length, map};
 ghost use Rattle.ct_base.specs.Limits.{column_limit};
 ghost use Rattle.ct_keep.specs.KeeperViews.{Finds, OnlyReads, Told};
-ghost use Rattle.ct_entry.specs.Each.{each};
 ghost use Rattle.ct_entry.specs.Keys.{at};
 ghost use Rattle.ct_entry.specs.Changes.{spell};
-ghost use Rattle.ct_entry.specs.Shapes.{AreShaped};
-ghost use Rattle.ix_context.specs.Shapes.{HasIndexValue, KeepsShape};
 ghost use Rattle.db_rows.specs.Checking.{check_conds};
 ghost use Rattle.db_state.specs.Effects.{Effect, Checks};
 ghost use Rattle.db_state.specs.Plans.{IsPlanOf, IsRemoval, IsStorePlan, Replies};
 ghost use Rattle.db_state.specs.Shapes.{AcceptsStatements, AreStoreChanges};
-ghost use Rattle.db_change.specs.Deleting.{delete_from as delete_from_effect, gone_row_changes, index_gone_changes, rows_deleted, TakesRows};
+ghost use Rattle.db_change.specs.Deleting.{delete_from as delete_from_effect, gone_row_changes, rows_deleted, TakesRows};
 
 use ct_base::{COLUMN_LIMIT, Memory, Name, RowKey};
 use ct_keep::{Batch, KeepFault, Keeper};
@@ -21,50 +18,10 @@ use db_cond::{Fault, rows_line};
 use db_names::{IndexHead, indexes_of};
 use db_rows::{conds_fault, rows_meeting};
 use db_state::{Plan, carry_out, table_columns};
-use ix_context::{ContextFault, note_delete};
+use ix_indexes::{RowStep, row_notes};
 use st_parse::Cond;
 use std::alloc::Global;
 use tb_table::{Column, delete};
-
-/// Adds the changes by which a row goes from an index.
-fn note_gone<K: Keeper>(
-    alloc: Global,
-    keeper: &mut K,
-    batch: &mut Batch,
-    index: &Name,
-    row: RowKey,
-) -> Result<(), KeepFault>
-    requires { (K.view keeper.old).ready }
-    ensures changes { Told K.view keeper.old (λ m. OnOk result (batch.new ≡ batch.old ++ spell (index_gone_changes (at m) row.0 index.now))) }
-    ensures shaped { KeepsShape batch.old batch.new result }
-    ensures reads { OnlyReads K.view keeper.old keeper.new result }
-{
-    match note_delete(alloc, keeper, batch, index, row) {
-        Ok(()) => Ok(()),
-        Err(ContextFault::Memory) => Err(KeepFault::Memory),
-        Err(ContextFault::Disk) => Err(KeepFault::Disk),
-        Err(ContextFault::TooMany) => unreachable!(),
-    }
-}
-
-/// The changes by which a row goes from each of the indexes.
-fn index_changes<K: Keeper>(
-    alloc: Global,
-    keeper: &mut K,
-    indexes: &[(Name, IndexHead)],
-    row: RowKey,
-) -> Result<Batch, KeepFault>
-    requires { (K.view keeper.old).ready }
-    ensures changes { Finds K.view keeper.old result (λ m notes. notes ≡ spell (each (λ i. index_gone_changes (at m) row.0 i) (map (λ e. e.0) indexes.now))) }
-    ensures shaped { IfOk result (AreShaped HasIndexValue) }
-    ensures reads { OnlyReads K.view keeper.old keeper.new result }
-{
-    let mut notes = Batch::new(alloc);
-    for (index, _) in indexes {
-        note_gone(alloc, keeper, &mut notes, index, row)?;
-    }
-    Ok(notes)
-}
 
 /// The changes by which a row goes from its table and from each of the indexes.
 fn row_changes<K: Keeper>(
@@ -77,13 +34,13 @@ fn row_changes<K: Keeper>(
 ) -> Result<Batch, KeepFault>
     requires ready { (K.view keeper.old).ready }
     requires few { length columns.now ≤ column_limit }
-    ensures changes { Finds K.view keeper.old result (λ m batch. batch ≡ spell (gone_row_changes (at m) table.now columns.now (map (λ e. e.0) indexes.now) row.0)) }
+    ensures changes { Finds K.view keeper.old result (λ m batch. batch ≡ spell (gone_row_changes (at m) table.now columns.now indexes.now row.0)) }
     ensures shaped { IfOk result AreStoreChanges }
     ensures reads { OnlyReads K.view keeper.old keeper.new result }
 {
     let mut batch = Batch::new(alloc);
     delete(alloc, &mut batch, table, columns, row)?;
-    let notes = index_changes(alloc, keeper, indexes, row)?;
+    let notes = row_notes(alloc, keeper, indexes, row, RowStep::Goes)?;
     batch.append(notes)?;
     Ok(batch)
 }
@@ -99,7 +56,7 @@ fn rows_changes<K: Keeper>(
 ) -> Result<Batch, KeepFault>
     requires ready { (K.view keeper.old).ready }
     requires few { length columns.now ≤ column_limit }
-    ensures changes { Finds K.view keeper.old result (λ m. TakesRows (at m) table.now columns.now (map (λ e. e.0) indexes.now) (map (λ row. row.0) rows.now)) }
+    ensures changes { Finds K.view keeper.old result (λ m. TakesRows (at m) table.now columns.now indexes.now (map (λ row. row.0) rows.now)) }
     ensures shaped { IfOk result AreStoreChanges }
     ensures reads { OnlyReads K.view keeper.old keeper.new result }
 {

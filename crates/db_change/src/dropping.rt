@@ -6,11 +6,11 @@ ghost use Rattle.ct_keep.specs.Laws.{changes_weight};
 ghost use Rattle.ct_keep.specs.KeeperViews.{OnlyReads, Told};
 ghost use Rattle.ct_entry.specs.Removals.{OnlyRemoves};
 ghost use Rattle.ix_context.specs.Changes.{Adds};
-ghost use Rattle.ix_context.specs.Removing.{remove_all_changes};
 ghost use Rattle.db_state.specs.States.{OverStates};
 ghost use Rattle.db_state.specs.Plans.{IsRemoval, IsStorePlan, Plans, Replies, line_for_all};
 ghost use Rattle.db_state.specs.Shapes.{AcceptsStatements, AreStoreChanges};
 ghost use Rattle.db_change.specs.Dropping.{DropsTable, drop_table as drop_table_effect, table_dropped};
+ghost use Rattle.ix_indexes.specs.Removing.{remove_all_changes};
 
 use ct_base::Name;
 use ct_keep::{Batch, KeepFault, Keeper};
@@ -32,7 +32,7 @@ fn remove_indexes<K: Keeper>(
     ensures reads { OnlyReads K.view keeper.old keeper.new result }
 {
     for (index, _) in indexes {
-        ix_context::remove(alloc, keeper, batch, index)?;
+        ix_indexes::remove(alloc, keeper, batch, index)?;
     }
     Ok(())
 }

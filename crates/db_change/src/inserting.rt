@@ -13,11 +13,10 @@ ghost use Rattle.ct_entry.specs.Shapes.{AreShaped};
 ghost use Rattle.tb_table.specs.declared.columns.Column.{Column};
 ghost use Rattle.tb_table.specs.Shapes.{HasTableValue};
 ghost use Rattle.tb_table.specs.Tables.{Table, numbers_of, texts_of};
-ghost use Rattle.ix_context.specs.Shapes.{HasIndexValue};
 ghost use Rattle.db_state.specs.States.{OverNamedTable};
 ghost use Rattle.db_state.specs.Effects.{Effect, Checks};
 ghost use Rattle.db_state.specs.Columns.{first_unknown as unknown_name};
-ghost use Rattle.db_change.specs.Inserting.{MakesRow, PlansRow, row_changes, are_of_sorts as all_of_sorts, arranged as arranged_values, behind_key as others_of, check_list, check_row_values, covers as covers_columns, has_row as has_row_of, has_too_long as any_too_long, insert_into as insert_into_effect, is_beyond_range, is_of_sort as sort_takes, is_too_long as too_long_for, key_in as key_of, kept_value, number_value, text_value, IsShortValue, note_all_changes, listed_names, row_created, value_under as named_value, IsFreeRow};
+ghost use Rattle.db_change.specs.Inserting.{MakesRow, PlansRow, row_changes, are_of_sorts as all_of_sorts, arranged as arranged_values, behind_key as others_of, check_list, check_row_values, covers as covers_columns, has_row as has_row_of, has_too_long as any_too_long, insert_into as insert_into_effect, is_beyond_range, is_of_sort as sort_takes, is_too_long as too_long_for, key_in as key_of, kept_value, number_value, text_value, IsShortValue, listed_names, row_created, value_under as named_value, IsFreeRow};
 ghost use Rattle.db_state.specs.Plans.{IsStorePlan, Plans, Replies, line_for_all};
 ghost use Rattle.db_state.specs.Shapes.{AcceptsStatements, AreStoreChanges};
 
@@ -25,9 +24,9 @@ use crate::keeping::keep_values;
 use ct_base::{COLUMN_LIMIT, Memory, Name, ROW_LIMIT, RowKey, TEXT_LIMIT, Text};
 use ct_keep::{Batch, KeepFault, Keeper};
 use db_cond::Fault;
-use db_names::{IndexHead, indexes_of};
+use db_names::indexes_of;
 use db_state::{Plan, carry_out, has_column, table_columns};
-use ix_context::note_insert;
+use ix_indexes::{RowStep, row_notes};
 use st_parse::{ColumnNames, Operand, Whole};
 use std::alloc::Global;
 use tb_table::{Column, Sort, has_row, insert, row_count};
@@ -365,24 +364,6 @@ fn row_batch(
     Ok(batch)
 }
 
-/// Adds the changes that the row waits in each of the indexes.
-fn note_all(
-    alloc: Global,
-    batch: &mut Batch,
-    indexes: &[(Name, IndexHead)],
-    row: RowKey,
-) -> Result<(), Memory>
-    ensures notes { OnOk result (batch.new ≡ batch.old ++ spell (note_all_changes (map (λ e. e.0) indexes.now) row.0)) }
-    ensures shaped { OnOk result (AreShaped HasIndexValue (spell (note_all_changes (map (λ e. e.0) indexes.now) row.0))) }
-{
-    for (index, _) in indexes {
-        // Read so that the proof knows that it is a name.
-        let _named = index.as_str();
-        note_insert(alloc, batch, index, row).map_err(|_| Memory)?;
-    }
-    Ok(())
-}
-
 /// The values but the key.
 #[tactic(auto, using(crate::proofs::KeptValues::key_removed))]
 fn behind_key(mut values: Vec<Operand>) -> Vec<Operand>
@@ -394,7 +375,7 @@ fn behind_key(mut values: Vec<Operand>) -> Vec<Operand>
     values
 }
 
-/// The batch of a row that has passed the checks: its changes and those that it waits in each index on the table.
+/// The batch of a row that has passed the checks: its changes, and what each index on the table is told of it.
 fn noted_batch<K: Keeper>(
     alloc: Global,
     keeper: &mut K,
@@ -413,7 +394,8 @@ fn noted_batch<K: Keeper>(
     keep_values(values.as_slice());
     let mut batch = row_batch(alloc, table, row, values)?;
     let indexes = indexes_of(alloc, keeper, table)?;
-    note_all(alloc, &mut batch, &indexes, row)?;
+    let notes = row_notes(alloc, keeper, &indexes, row, RowStep::Comes)?;
+    batch.append(notes)?;
     Ok(batch)
 }
 

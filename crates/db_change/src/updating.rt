@@ -5,23 +5,17 @@ ghost use Rattle.std.specs.Prelude.{◌≡◌, ◌≤◌, ◌<◌, IfOk, Some, [
 ghost use Rattle.std.specs.List.{All, filter_map, cons_option};
 ghost use Rattle.std.specs.Option.{option_map, option_and_then};
 ghost use Rattle.ct_base.specs.Limits.{column_limit};
-ghost use Rattle.ct_keep.specs.KeeperViews.{OnlyReads, Finds, Told};
+ghost use Rattle.ct_keep.specs.KeeperViews.{OnlyReads};
 ghost use Rattle.ct_entry.specs.Changes.{spell};
-ghost use Rattle.ct_entry.specs.Keys.{at};
 ghost use Rattle.ct_entry.specs.Shapes.{AreShaped};
-ghost use Rattle.ix_docmap.specs.Changes.{changed_changes};
-ghost use Rattle.ix_docmap.specs.Readings.{document_at};
-ghost use Rattle.ix_context.specs.Changes.{Adds};
-ghost use Rattle.ix_context.specs.Faults.{keeper_fault};
 ghost use Rattle.ix_kinds.specs.RowSteps.{is_column};
-ghost use Rattle.ix_context.specs.Shapes.{HasIndexValue, KeepsShape};
 ghost use Rattle.tb_table.specs.Rules.{others};
 ghost use Rattle.tb_table.specs.Shapes.{HasTableValue};
 ghost use Rattle.db_state.specs.States.{OverStates};
 ghost use Rattle.db_state.specs.Plans.{IsPlanOf, IsStorePlan, Replies};
 ghost use Rattle.db_state.specs.Shapes.{AcceptsStatements, AreStoreChanges};
 ghost use Rattle.db_change.specs.Inserting.{number_value, text_value};
-ghost use Rattle.db_change.specs.Updating.{indexes_set as indexes_of_set, named_set as names_on, note_changes, number_set as column_number, numbers_after as numbers_changed, places_set, rows_updated, set_in as value_set, texts_set as texts_changed, update as update_effect, value_changes, with_set as numbers_with, IsShortAssign, UpdatesRow, UpdatesRows, UpdatesTable};
+ghost use Rattle.db_change.specs.Updating.{indexes_set as indexes_of_set, heads_set as heads_on_set, number_set as column_number, numbers_after as numbers_changed, places_set, rows_updated, set_in as value_set, texts_set as texts_changed, update as update_effect, value_changes, with_set as numbers_with, IsShortAssign, UpdatesRow, UpdatesRows, UpdatesTable};
 
 use crate::assigning::update_fault;
 use crate::inserting::{column_of, number_in};
@@ -32,7 +26,7 @@ use db_cond::{Fault, rows_line};
 use db_names::{IndexHead, indexes_of};
 use db_rows::{row_numbers, rows_meeting};
 use db_state::{Plan, carry_out, column_place, table_columns};
-use ix_context::{ContextFault, note_update};
+use ix_indexes::{RowStep, row_notes};
 use st_parse::{Assign, Cond, Operand};
 use std::alloc::Global;
 use tb_table::{Column, Sort};
@@ -199,29 +193,11 @@ fn is_place_set(column: u8, columns: &[Column], assigns: &[Assign]) -> bool
     false
 }
 
-fn copy_of(name: &Name) -> Result<Name, Memory>
-    ensures { IfOk result (λ copy. copy ≡ name.now) }
+/// Keeps the indexes on columns that are set.
+fn keep_set(indexes: &mut Vec<(Name, IndexHead)>, columns: &[Column], assigns: &[Assign])
+    ensures { indexes.new.items ≡ heads_on_set (places_set columns.now assigns.now) indexes.old.items }
 {
-    Ok(name.clone()?)
-}
-
-/// The names of the indexes on columns that are set, among the indexes on the table.
-fn named_set(
-    alloc: Global,
-    heads: &[(Name, IndexHead)],
-    columns: &[Column],
-    assigns: &[Assign],
-) -> Result<Vec<Name>, Memory>
-    ensures { IfOk result (λ names. names.items ≡ names_on (places_set columns.now assigns.now) heads.now) }
-{
-    let mut names = Vec::new(alloc);
-    for (index, head) in heads {
-        if !is_place_set(head.target.column, columns, assigns) {
-            continue;
-        }
-        names.push(copy_of(index)?)?;
-    }
-    Ok(names)
+    indexes.retain(|index| is_place_set(index.1.target.column, columns, assigns));
 }
 
 /// The indexes on columns that are set.
@@ -231,64 +207,14 @@ fn indexes_set<K: Keeper>(
     table: &Name,
     columns: &[Column],
     assigns: &[Assign],
-) -> Result<Vec<Name>, KeepFault>
+) -> Result<Vec<(Name, IndexHead)>, KeepFault>
     requires { (K.view keeper.old).ready }
-    ensures names { OverStates K.view keeper.old (λ m c. IfOk result (λ names. names.items ≡ indexes_of_set m table.now columns.now assigns.now)) }
+    ensures heads { OverStates K.view keeper.old (λ m c. IfOk result (λ heads. heads.items ≡ indexes_of_set m table.now columns.now assigns.now)) }
     ensures reads { OnlyReads K.view keeper.old keeper.new result }
 {
-    let heads = indexes_of(alloc, keeper, table)?;
-    let names = named_set(alloc, &heads, columns, assigns)?;
-    Ok(names)
-}
-
-/// The keeper's fault that a fault of a note is.
-fn fault_of_note(fault: ContextFault) -> KeepFault
-    requires { fault ≡ ContextFault.TooMany → ⊥ }
-    ensures { keeper_fault fault ≡ Some result }
-{
-    match fault {
-        ContextFault::Memory => KeepFault::Memory,
-        ContextFault::Disk => KeepFault::Disk,
-        ContextFault::TooMany => unreachable!(),
-    }
-}
-
-/// Adds the changes by which a row waits in an index.
-fn note_one<K: Keeper>(
-    alloc: Global,
-    keeper: &mut K,
-    batch: &mut Batch,
-    index: &Name,
-    row: RowKey,
-) -> Result<(), KeepFault>
-    requires { (K.view keeper.old).ready }
-    ensures changes { Told K.view keeper.old (λ c. Adds batch.old batch.new result (changed_changes index.now row.0 (document_at (at c) index.now row.0))) }
-    ensures shaped { KeepsShape batch.old batch.new result }
-    ensures reads { OnlyReads K.view keeper.old keeper.new result }
-{
-    match note_update(alloc, keeper, batch, index, row) {
-        Ok(()) => Ok(()),
-        Err(fault) => Err(fault_of_note(fault)),
-    }
-}
-
-/// The changes by which a row waits in each of these indexes.
-fn notes<K: Keeper>(
-    alloc: Global,
-    keeper: &mut K,
-    indexes: &[Name],
-    row: RowKey,
-) -> Result<Batch, KeepFault>
-    requires { (K.view keeper.old).ready }
-    ensures changes { Finds K.view keeper.old result (λ c batch. batch ≡ spell (note_changes c indexes.now row.0)) }
-    ensures shaped { IfOk result (AreShaped HasIndexValue) }
-    ensures reads { OnlyReads K.view keeper.old keeper.new result }
-{
-    let mut batch = Batch::new(alloc);
-    for index in indexes {
-        note_one(alloc, keeper, &mut batch, index, row)?;
-    }
-    Ok(batch)
+    let mut heads = indexes_of(alloc, keeper, table)?;
+    keep_set(&mut heads, columns, assigns);
+    Ok(heads)
 }
 
 // ---- the rows
@@ -301,7 +227,7 @@ fn row_batch<K: Keeper>(
     table: &Name,
     columns: &[Column],
     assigns: &[Assign],
-    indexes: &[Name],
+    indexes: &[(Name, IndexHead)],
     row: RowKey,
 ) -> Result<Batch, KeepFault>
     requires ready { (K.view keeper.old).ready }
@@ -313,7 +239,7 @@ fn row_batch<K: Keeper>(
 {
     let numbers = row_numbers(alloc, keeper, table, row)?;
     let mut batch = value_batch(alloc, table, columns, assigns, row, &numbers)?;
-    let notes = notes(alloc, keeper, indexes, row)?;
+    let notes = row_notes(alloc, keeper, indexes, row, RowStep::Changes)?;
     batch.append(notes)?;
     Ok(batch)
 }
@@ -325,7 +251,7 @@ fn rows_batch<K: Keeper>(
     table: &Name,
     columns: &[Column],
     assigns: &[Assign],
-    indexes: &[Name],
+    indexes: &[(Name, IndexHead)],
     rows: &[RowKey],
 ) -> Result<Batch, KeepFault>
     requires ready { (K.view keeper.old).ready }

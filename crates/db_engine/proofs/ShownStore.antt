@@ -21,7 +21,7 @@ use Rattle.ct_keep.specs.Content.{Content, after, entry_weight, weight}
 use Rattle.ct_keep.specs.Laws.{applied, entries-after}
 use Rattle.ct_entry.specs.declared.kinds.Kind.{Kind}
 use Rattle.ct_entry.specs.declared.kinds.Kind.TheVariants as kind
-use Rattle.ct_entry.specs.Keys.{key, same_list, row_part, document_part, IsRow}
+use Rattle.ct_entry.specs.Keys.{key, at, same_list, row_part, document_part, IsRow}
 use Rattle.ct_entry.specs.Maps.{Names, Rows, altered}
 use Rattle.ct_entry.specs.Changes.{KeyChange, spell, put_value, drop_key}
 use Rattle.ct_entry.specs.Listings.{key_order}
@@ -41,7 +41,7 @@ use Rattle.ix_docmap.specs.Marks.{Mark, Pending, Settled}
 use Rattle.ix_kinds.specs.Rows.{RowChange, table_or_none, table_at, row_change}
 use Rattle.ix_kinds.specs.Statements.{every, after_row_on, indexes_after_row, index_after_sync, indexes_after_sync, new_index, with_index}
 use Rattle.ix_kinds.specs.laws.Tables.{row_now}
-use Rattle.ix_context.specs.Indexes.{Part, in_queue, is_key_in, made, no_part, settled_rows, all_settled}
+use Rattle.ix_context.specs.Indexes.{Part, in_queue, is_key_in, made, no_part, settled_rows, all_settled, most_given, texts_in, rows_within}
 use Rattle.ct_entry.specs.Listings.{keys_where}
 use Rattle.ix_rows.specs.PlaceBytes.{position_bytes}
 use Rattle.ix_rows.specs.Growing.{Growing, nothing_yet, grown, grown_rows}
@@ -53,15 +53,14 @@ use Rattle.ix_context.specs.Documents.{postings_by}
 use Rattle.ix_context.specs.Gathering.{nothing_gathered, with_text, with_entries, gathering_changes}
 use Rattle.ix_context.specs.laws.Gathered.{gathered_postings}
 use Rattle.ix_context.specs.Postings.{fox_and_quick}
-use Rattle.ix_context.specs.Rules.{most_given}
 use Rattle.ix_context.specs.Spelling.{index_bytes}
-use Rattle.ix_indexes.specs.Contexts.{texts_in, rows_within, context_entry, context_synced, context_sync_changes}
 use Rattle.ix_indexes.specs.Indexes.{Index, kinds, pending_rows}
 use Rattle.ct_entry.specs.Each.{each}
 use Rattle.st_parse.specs.declared.statements.Arg.TheVariants.{Text as TextArg}
 use Rattle.st_parse.specs.declared.statements.Operand.{Operand}
 use Rattle.st_parse.specs.declared.statements.Statement.TheVariants.{Insert}
 use Rattle.db_names.specs.declared.heads.IndexHead.{IndexHead}
+use Rattle.db_names.specs.declared.heads.IndexKind.TheVariants.{Context}
 use Rattle.db_names.specs.Promises.{is_on_table}
 use Rattle.db_cond.specs.Faults.{UnknownName, OutOfRange, LimitReached}
 use Rattle.db_state.specs.Columns.{column_place}
@@ -72,17 +71,19 @@ use Rattle.db_state.specs.States.{StoreState, StandsForState, empty_state, is_vi
 use Rattle.db_state.specs.Room.{room, its_room}
 use Rattle.db_state.specs.laws.EachValue.{entries-each_value, entries-from_rising}
 use Rattle.db_state.specs.laws.Empty.{empty_stands}
-use Rattle.db_state.specs.laws.Heads.{heads, head_of_index}
+use Rattle.db_state.specs.laws.Heads.{store_heads, store_head}
 use Rattle.db_change.specs.Creating.{check_table, table_created, with_new_table}
 use Rattle.db_change.specs.Inserting.{arranged, check_list, check_row_values, has_row, insert_row, insert_values, key_in, others_kept, row_created}
 use Rattle.db_change.specs.laws.NewTables.{AllNamed, IsFreeTable, created_table_stands}
-use Rattle.db_change.specs.laws.NewRows.{names_on, new_row_changes, new_row_stands}
+use Rattle.db_change.specs.laws.NewRows.{heads_on, new_row_changes, new_row_stands}
 use Rattle.tx_settings.specs.declared.preferences.Prefs.{Prefs}
-use Rattle.db_index.specs.Indexing.{IsFreeIndex, all_rows, check_index, create_index_by, index_created, requests_in, target, has_too_many_rows, with_new_index}
+use Rattle.db_state.specs.Lookups.{is_on_column}
+use Rattle.db_index.specs.Indexing.{IsFreeIndex, all_rows, check_index, create_index_by, index_created, requests_in, target, has_too_many_rows, has_index_on, with_new_index}
 use Rattle.db_index.specs.Syncing.{check_sync, has_too_many, sync_found, sync_named, unknown_name, with_synced}
 use Rattle.db_index.specs.laws.NewMarks.{new_index_stands, synced_stands}
 use Rattle.db_engine.specs.Steps.{effect}
 use Rattle.db_engine.specs.ShownStore.{shown_columns, table_statement, index_statement, first_values, sync_statement, second_values, shown_statements, after_all, shown_entries, shown_store, shown_state}
+use Rattle.ix_context.specs.Contexts.{context_entry, context_synced, context_sync_changes}
 
 abbrev docs : List ℕ
 docs = codes "docs"
@@ -197,8 +198,8 @@ index_free : IsFreeIndex without_index di docs (table_with []) 1
 index_free = record {
   there = table_there [];
   free =
-      ap (λ (o : Option Index). is_some o || list_any (λ (e : List ℕ × Index). same_list e.1.table docs && (e.1.column == 1)) (entries (empty {X = Index} {R = slice_cmp nat_cmp}))) (get-empty (slice_cmp nat_cmp) di)
-      ∙ ap (λ (es : List (List ℕ × Index)). list_any (λ (e : List ℕ × Index). same_list e.1.table docs && (e.1.column == 1)) es) (nothing (slice_cmp nat_cmp) nat_list_cmp_total);
+      ap (λ (o : Option Index). is_some o || has_index_on Context (empty {X = Index} {R = slice_cmp nat_cmp}) docs 1) (get-empty (slice_cmp nat_cmp) di)
+      ∙ ap (λ (es : List (List ℕ × Index)). list_any (λ (e : List ℕ × Index). is_on_column Context docs 1 e.1) es) (nothing (slice_cmp nat_cmp) nat_list_cmp_total);
   texts = refl;
   few =
       ap (λ (es : List (List ℕ × Index)). nat_le index_limit (length (filter (λ (e : List ℕ × Index). same_list e.1.table docs) es)) || has_too_many_rows without_index docs) (nothing (slice_cmp nat_cmp) nat_list_cmp_total)
@@ -251,13 +252,16 @@ second_stands =
 -- ---- INSERT INTO docs
 
 -- the index is the one on the table
-its_names : (given : ℕ) (marks : List (ℤ × Its)) → names_on (indexes_with given marks) docs ≡ di ∷ []
-its_names given marks =
-    let head : List ℕ × IndexHead = (di, head_of_index (index_with given marks)) in
-    let listed : entries (heads (indexes_with given marks)) ≡ head ∷ [] =
-    entries-each_value (slice_cmp nat_cmp) head_of_index nat_list_cmp_total (indexes_with given marks)
-    ∙ ap (map {B = List ℕ × IndexHead} (λ (e : List ℕ × Index). (e.0, head_of_index e.1))) (entries-from_sorted (slice_cmp nat_cmp) ((di, index_with given marks) ∷ []) tt) in
-    ap (λ (es : List (List ℕ × IndexHead)). map (λ (e : List ℕ × IndexHead). e.0) (filter (λ (e : List ℕ × IndexHead). is_on_table docs e.1) es))
+abbrev its_heads : List (List ℕ × IndexHead)
+its_heads = (di, record { kind = Context; target = record { table = docs; column = 1 } }) ∷ []
+
+heads_are : (given : ℕ) (marks : List (ℤ × Its)) → heads_on (indexes_with given marks) docs ≡ its_heads
+heads_are given marks =
+    let head : List ℕ × IndexHead = (di, store_head (index_with given marks)) in
+    let listed : entries (store_heads (indexes_with given marks)) ≡ head ∷ [] =
+    entries-each_value (slice_cmp nat_cmp) store_head nat_list_cmp_total (indexes_with given marks)
+    ∙ ap (map {B = List ℕ × IndexHead} (λ (e : List ℕ × Index). (e.0, store_head e.1))) (entries-from_sorted (slice_cmp nat_cmp) ((di, index_with given marks) ∷ []) tt) in
+    ap (λ (es : List (List ℕ × IndexHead)). filter (λ (e : List ℕ × IndexHead). is_on_table docs e.1) es)
     (ap (λ (es : List (List ℕ × IndexHead)). entries (from_entries {R = key_order} es)) listed ∙ entries-from_rising key_order key_order_total (head ∷ []) refl)
 
 module _ (rows : List (ℤ × List Value)) (given : ℕ) (marks : List (ℤ × Its)) (r : ℤ) (vs : List Value) (rows_rise : T (is_sorted int_cmp rows)) (marks_rise : T (is_sorted int_cmp marks))
@@ -288,13 +292,13 @@ module _ (rows : List (ℤ × List Value)) (given : ℕ) (marks : List (ℤ × I
       ∙ ap (λ (ms : Rows Its). indexes_of (index_of given ms)) (insert_is int_cmp int_cmp_total (from_sorted marks) r Pending marks (entries-from_sorted int_cmp marks marks_rise) then_marks)
 
   row_stands : (c : Content) → StandsForState c (state_with rows given marks) → IsRow r → FitColumns (others docs_columns) vs → length rows < 100000
-      → StandsForState (after (spell (new_row_changes docs r vs (di ∷ []))) c) (state_with (put_pair int_cmp r vs rows) given (put_pair int_cmp r Pending marks))
+      → StandsForState (after (spell (new_row_changes (at c) docs r vs its_heads)) c) (state_with (put_pair int_cmp r vs rows) given (put_pair int_cmp r Pending marks))
   row_stands c stands row fit few =
       let m = state_with rows given marks in
       let count : length (entries (table_with rows).rows) ≡ length rows = ap length (entries-from_sorted int_cmp rows rows_rise) in
-      subst (λ (names : List (List ℕ)). StandsForState (after (spell (new_row_changes docs r vs names)) c) (state_with (put_pair int_cmp r vs rows) given (put_pair int_cmp r Pending marks))) (its_names given marks)
-      (subst (λ (ts : Tables). StandsForState (after (spell (new_row_changes docs r vs (names_on m.indexes docs))) c) (record { tables = ts; indexes = indexes_with given (put_pair int_cmp r Pending marks); preferences = no_preferences })) tables_with_row
-      (subst (λ (xs : Names Index). StandsForState (after (spell (new_row_changes docs r vs (names_on m.indexes docs))) c) (record { tables = with_row (tables_with rows) docs r vs; indexes = xs; preferences = no_preferences })) indexes_with_note
+      subst (λ (heads : List (List ℕ × IndexHead)). StandsForState (after (spell (new_row_changes (at c) docs r vs heads)) c) (state_with (put_pair int_cmp r vs rows) given (put_pair int_cmp r Pending marks))) (heads_are given marks)
+      (subst (λ (ts : Tables). StandsForState (after (spell (new_row_changes (at c) docs r vs (heads_on m.indexes docs))) c) (record { tables = ts; indexes = indexes_with given (put_pair int_cmp r Pending marks); preferences = no_preferences })) tables_with_row
+      (subst (λ (xs : Names Index). StandsForState (after (spell (new_row_changes (at c) docs r vs (heads_on m.indexes docs))) c) (record { tables = with_row (tables_with rows) docs r vs; indexes = xs; preferences = no_preferences })) indexes_with_note
       (new_row_stands c m docs (table_with rows) r vs stands (table_there rows) (get-from_sorted int_cmp rows r rows_rise ∙ free) row fit (omega (arith, count, few)))))
 
 abbrev row_one : List Value
@@ -312,7 +316,7 @@ unfolding encode
 two_fits = ((omega arith, (codes "slow", (refl, refl))), (omega arith, tt))
 
 abbrev third : Content
-third = after (spell (new_row_changes docs (pos 1) row_one (di ∷ []))) second
+third = after (spell (new_row_changes (at second) docs (pos 1) row_one its_heads)) second
 
 third_stands : StandsForState third (state_with ((pos 1, row_one) ∷ []) 0 ((pos 1, Pending) ∷ []))
 third_stands = row_stands [] 0 [] (pos 1) row_one tt tt tt tt refl second second_stands (omega arith) one_fits (omega arith)
@@ -423,7 +427,7 @@ fourth_stands =
 -- ---- INSERT INTO docs once more
 
 abbrev fifth : Content
-fifth = after (spell (new_row_changes docs (pos 2) row_two (di ∷ []))) fourth
+fifth = after (spell (new_row_changes (at fourth) docs (pos 2) row_two its_heads)) fourth
 
 fifth_stands : StandsForState fifth shown_state
 fifth_stands = row_stands one_row 1 ((pos 1, Settled tt) ∷ []) (pos 2) row_two tt tt tt tt refl fourth fourth_stands (omega arith) two_fits (omega arith)
@@ -433,7 +437,7 @@ fifth_stands = row_stands one_row 1 ((pos 1, Settled tt) ∷ []) (pos 2) row_two
 its_entries : entries fifth ≡ shown_entries
 unfolding row_bytes varint
 its_entries =
-    step (new_row_changes docs (pos 2) row_two (di ∷ [])) fourth _ (step fourth_changes third _ (step (new_row_changes docs (pos 1) row_one (di ∷ [])) second _ (step second_changes first _ (step first_changes empty [] (nothing (slice_cmp nat_cmp) nat_list_cmp_total)))))
+    step (new_row_changes (at fourth) docs (pos 2) row_two its_heads) fourth _ (step fourth_changes third _ (step (new_row_changes (at second) docs (pos 1) row_one its_heads) second _ (step second_changes first _ (step first_changes empty [] (nothing (slice_cmp nat_cmp) nat_list_cmp_total)))))
   where
     step : (ws : List KeyChange) (m : Content) (es : List (List ℕ × List ℕ)) → entries m ≡ es → entries (after (spell ws) m) ≡ applied (spell ws) es
     step ws m es is = entries-after (spell ws) m ∙ ap (applied (spell ws)) is

@@ -9,7 +9,6 @@ use Rattle.std.specs.FinMap.{get, entries, from_entries, find, get-from_entries,
 use Rattle.std.proofs.lemmas.Bool.{le-leb, leb-true, and_parts}
 use Rattle.ct_keep.specs.Content.{Content}
 use Rattle.tb_table.specs.declared.columns.Target.{Target}
-use Rattle.ix_context.specs.Stands.{HoldsTables, HoldsIndexes}
 use Rattle.std.proofs.lemmas.Cmp.{nat_list_cmp_total}
 use Rattle.ct_entry.specs.Keys.{same_list}
 use Rattle.ct_entry.specs.Maps.{Names}
@@ -25,44 +24,44 @@ use Rattle.tb_table.specs.Rules.{AreTables}
 use Rattle.tx_settings.specs.declared.preferences.Prefs.{Prefs}
 use Rattle.tx_prefs.specs.declared.requests.Request.{Request}
 use Rattle.ix_kinds.specs.Rows.{table_at}
-use Rattle.ix_context.specs.Indexes.{rows_in}
-use Rattle.ix_indexes.specs.Contexts.{rows_within}
+use Rattle.ix_context.specs.Indexes.{rows_within, most_given}
 use Rattle.ix_indexes.specs.Indexes.{Index, kinds}
-use Rattle.ix_indexes.specs.laws.Bridges.{olds, olds_hold, same_rows}
-use Rattle.ix_context.specs.Rules.{most_given}
-use Rattle.ix_context.specs.laws.Rules.{rows_in-all}
+use Rattle.ix_kinds.specs.laws.Tables.{table_is}
+use Rattle.ix_context.specs.laws.ContextCreates.{all_within}
 use Rattle.db_names.specs.declared.heads.IndexHead.{IndexHead}
 use Rattle.db_names.specs.Promises.{is_on_table, heads_of}
 use Rattle.db_cond.specs.declared.faults.Fault.{Fault}
 use Rattle.db_cond.specs.Faults.{UnknownName, BadValue}
 use Rattle.db_cond.specs.Refused.{refusal_of}
-use Rattle.db_state.specs.States.{StoreState, StandsForState, indexes_on, index_limit}
+use Rattle.db_state.specs.States.{StoreState, indexes_on, index_limit}
 use Rattle.db_state.specs.Effects.{Effect, Refused, Does, Checks, refuse_by, with_found}
 use Rattle.db_state.specs.declared.plans.Plan.{Plan}
 use Rattle.db_state.specs.Plans.{IsPlan}
 use Rattle.db_state.specs.Columns.{column_place, place_from}
-use Rattle.db_index.specs.Indexing.{has_context_index, has_too_many_rows, all_rows, target, is_text_at, check_index, check_flags, index_created, with_new_index, create_index_on, create_index_by, create_index, IsFreeIndex, requests_in, unknown_asked, prefs_asked}
-use Rattle.db_state.specs.Lookups.{index_among, FoundOn}
+use Rattle.db_index.specs.Indexing.{has_index_on, has_too_many_rows, all_rows, target, is_text_at, check_index, check_flags, index_created, with_new_index, create_index_on, create_index_by, create_index, IsFreeIndex, requests_in, unknown_asked, prefs_asked}
+use Rattle.db_names.specs.declared.heads.IndexKind.{IndexKind}
+use Rattle.db_names.specs.declared.heads.IndexKind.TheVariants.{Context}
+use Rattle.db_state.specs.Lookups.{is_on_column, index_among, FoundOn}
 use Rattle.db_state.specs.laws.Chains.{checked, passed, refused}
 use Rattle.db_index.specs.laws.Counting.{counted, count-cons, count_insert}
 use Rattle.db_state.specs.laws.EachValue.{entries-each_value, count_alike}
-use Rattle.db_state.specs.laws.Heads.{head_of_index, heads}
+use Rattle.db_state.specs.laws.Heads.{store_head, store_heads}
 use Rattle.db_index.specs.laws.NewMarks.{every_row}
 
 -- ---- the index on a column
 
-any_among : (t : List ℕ) (place : ℕ) (es : List (List ℕ × Index)) → is_some (index_among t place es) ≡ list_any (λ (e : List ℕ × Index). same_list e.1.table t && (e.1.column == place)) es
-any_among t place [] = refl
-any_among t place (e ∷ es) = go (same_list e.1.table t && (e.1.column == place)) (any_among t place es)
+any_among : (kind : IndexKind) (t : List ℕ) (place : ℕ) (es : List (List ℕ × Index)) → is_some (index_among kind t place es) ≡ list_any (λ (e : List ℕ × Index). is_on_column kind t place e.1) es
+any_among kind t place [] = refl
+any_among kind t place (e ∷ es) = go (is_on_column kind t place e.1) (any_among kind t place es)
   where
-    go : (b : Bool) → is_some (index_among t place es) ≡ list_any (λ (e : List ℕ × Index). same_list e.1.table t && (e.1.column == place)) es
-        → is_some (cond b (Some e.1) (index_among t place es)) ≡ (b || list_any (λ (e : List ℕ × Index). same_list e.1.table t && (e.1.column == place)) es)
+    go : (b : Bool) → is_some (index_among kind t place es) ≡ list_any (λ (e : List ℕ × Index). is_on_column kind t place e.1) es
+        → is_some (cond b (Some e.1) (index_among kind t place es)) ≡ (b || list_any (λ (e : List ℕ × Index). is_on_column kind t place e.1) es)
     go true rest = refl
     go false rest = rest
 
-pub found_on : (xs : Names Index) (t : List ℕ) (place : ℕ) (found : Option (List ℕ)) → FoundOn xs t place found → is_some found ≡ has_context_index xs t place
-found_on xs t place None is = sym (ap is_some is) ∙ any_among t place (entries xs)
-found_on xs t place (Some i) is = sym (ap is_some is.1.1) ∙ any_among t place (entries xs)
+pub found_on : (kind : IndexKind) (xs : Names Index) (t : List ℕ) (place : ℕ) (found : Option (List ℕ)) → FoundOn kind xs t place found → is_some found ≡ has_index_on kind xs t place
+found_on kind xs t place None is = sym (ap is_some is) ∙ any_among kind t place (entries xs)
+found_on kind xs t place (Some i) is = sym (ap is_some is.1.1) ∙ any_among kind t place (entries xs)
 
 -- ---- how many indexes a table has
 
@@ -91,11 +90,11 @@ module _ {X : Type 0} (p : X → Bool) where
       omega (arith, counts, free, more, rest)
 
 -- as many as the indexes on it
-pub heads_count : (xs : Names Index) (t : List ℕ) → length (heads_of t (heads xs)) ≡ length (indexes_on xs t)
+pub heads_count : (xs : Names Index) (t : List ℕ) → length (heads_of t (store_heads xs)) ≡ length (indexes_on xs t)
 heads_count xs t =
-    reordered (is_on_table t) (entries (heads xs)) (entries_rise (slice_cmp nat_cmp) (heads xs))
-    ∙ ap (λ (es : List (List ℕ × IndexHead)). length (filter (λ (e : List ℕ × IndexHead). is_on_table t e.1) es)) (entries-each_value (slice_cmp nat_cmp) head_of_index nat_list_cmp_total xs)
-    ∙ count_alike (λ (e : List ℕ × Index). (e.0, head_of_index e.1)) (λ (e : List ℕ × IndexHead). is_on_table t e.1) (λ (e : List ℕ × Index). same_list e.1.table t) (λ e. refl) (entries xs)
+    reordered (is_on_table t) (entries (store_heads xs)) (entries_rise (slice_cmp nat_cmp) (store_heads xs))
+    ∙ ap (λ (es : List (List ℕ × IndexHead)). length (filter (λ (e : List ℕ × IndexHead). is_on_table t e.1) es)) (entries-each_value (slice_cmp nat_cmp) store_head nat_list_cmp_total xs)
+    ∙ count_alike (λ (e : List ℕ × Index). (e.0, store_head e.1)) (λ (e : List ℕ × IndexHead). is_on_table t e.1) (λ (e : List ℕ × Index). same_list e.1.table t) (λ e. refl) (entries xs)
 
 -- ---- the checks
 
@@ -106,16 +105,10 @@ or_false false b h = h
 -- no table has more rows than an index has numbers
 few_rows : (m : StoreState) (t : List ℕ) (x : Table) → AreTables m.tables → get m.tables t ≡ Some x → has_too_many_rows m t ≡ false
 few_rows m t x are there =
-    let all : rows_within (table_at m.tables t) all_rows ≡ row_keys m.tables t = sym (same_rows m.tables t all_rows) ∙ rows_in-all m.tables are t all_rows every_row in
-    let keys = keys_few m t x are there in
-    ap not (le-leb (length (rows_within (table_at m.tables t) all_rows)) most_given (let same = ap length all in omega (arith, same, keys)))
-  where
-    keys_few : (m : StoreState) (t : List ℕ) (x : Table) → AreTables m.tables → get m.tables t ≡ Some x → length (row_keys m.tables t) ≤ 100000
-    keys_few m t x are there =
-        let keys : row_keys m.tables t ≡ map (λ e. e.0) (entries x.rows) = ap keys_in there in
-        let same = ap length keys ∙ length-map (entries x.rows) (λ e. e.0) in
-        let few = (are.each t x there).few in
-        omega (arith, same, few)
+    let is = table_is m.tables t x are there in
+    let all = ap length (all_within (table_at m.tables t) is all_rows every_row) ∙ length-map (entries (table_at m.tables t).rows) (λ e. e.0) in
+    let few = is.few in
+    ap not (le-leb (length (rows_within (table_at m.tables t) all_rows)) most_given (omega (arith, all, few)))
 
 -- what is done by what PARAMETERS means; where that is nothing, the check of its form refuses
 abbrev pub done_by : Option Prefs → (Prefs → Effect) → Effect
@@ -128,7 +121,7 @@ by_flags there texts (Some prefs) many i done = refl
 
 -- the effect by what was read
 pub index_as : (m : StoreState) (i t : List ℕ) (x : Table) (place : ℕ) (prefs : Option Prefs) (taken texts formed many : Bool) → AreTables m.tables → get m.tables t ≡ Some x
-    → taken ≡ (is_some (get m.indexes i) || has_context_index m.indexes t place) → texts ≡ is_text_at x.columns place → formed ≡ is_some prefs → many ≡ nat_le index_limit (length (indexes_on m.indexes t))
+    → taken ≡ (is_some (get m.indexes i) || has_index_on Context m.indexes t place) → texts ≡ is_text_at x.columns place → formed ≡ is_some prefs → many ≡ nat_le index_limit (length (indexes_on m.indexes t))
     → create_index_on m i t x place prefs ≡ check_flags taken texts formed many i (done_by prefs (λ prefs. Does (with_new_index m i t place prefs) index_created))
 index_as m i t x place prefs taken texts formed many are there taken_is texts_is formed_is many_is =
     let done : Prefs → Effect = λ prefs. Does (with_new_index m i t place prefs) index_created in
@@ -140,7 +133,7 @@ index_as m i t x place prefs taken texts formed many are there taken_is texts_is
 
 -- the effect by the fault that the checks of what was read found, or where they found none
 module _ (m : StoreState) (i t : List ℕ) (x : Table) (place : ℕ) (prefs : Option Prefs) (taken texts formed many : Bool) (found : Option Fault) (are : AreTables m.tables) (there : get m.tables t ≡ Some x)
-    (taken_is : taken ≡ (is_some (get m.indexes i) || has_context_index m.indexes t place)) (texts_is : texts ≡ is_text_at x.columns place) (formed_is : formed ≡ is_some prefs) (many_is : many ≡ nat_le index_limit (length (indexes_on m.indexes t)))
+    (taken_is : taken ≡ (is_some (get m.indexes i) || has_index_on Context m.indexes t place)) (texts_is : texts ≡ is_text_at x.columns place) (formed_is : formed ≡ is_some prefs) (many_is : many ≡ nat_le index_limit (length (indexes_on m.indexes t)))
     (checks : (done : Effect) → Checks found (check_flags taken texts formed many i done) done) where
   abbrev made : Effect
   made = done_by prefs (λ prefs. Does (with_new_index m i t place prefs) index_created)
@@ -193,16 +186,10 @@ place_within name cs place is = let far = go 0 cs is in omega (arith, far)
         at_head true h rest = let same : from ≡ place = cc in omega (arith, same)
         at_head false h rest = let far = rest h in omega (arith, far)
 
-pub holds_tables : (c : Content) (m : StoreState) → StandsForState c m → HoldsTables c m.tables
-holds_tables c m stands = record { only = stands.only; stand = stands.tables; rules = stands.state.tables }
-
-pub holds_indexes : (c : Content) (m : StoreState) → StandsForState c m → HoldsIndexes c m.tables (olds m.indexes)
-holds_indexes c m stands = olds_hold c m.tables m.indexes stands.only stands.tables stands.state.tables stands.indexes stands.state.indexes
-
-pub rows_given : (m : StoreState) (on : Target) (t : List ℕ) (place : ℕ) (x : Table) → AreTables m.tables → get m.tables t ≡ Some x → on ≡ target t place → most_given < length (rows_in m.tables on.table all_rows) → ⊥
+pub rows_given : (m : StoreState) (on : Target) (t : List ℕ) (place : ℕ) (x : Table) → AreTables m.tables → get m.tables t ≡ Some x → on ≡ target t place → most_given < length (rows_within (table_at m.tables on.table) all_rows) → ⊥
 rows_given m on t place x are there is over =
     let few = leb-true (length (rows_within (table_at m.tables t) all_rows)) most_given (room (kinds.can_create (table_at m.tables t) all_rows) (few_rows m t x are there)) in
-    let same = ap (λ (y : Target). length (rows_in m.tables y.table all_rows)) is ∙ ap length (same_rows m.tables t all_rows) in
+    let same = ap (λ (y : Target). length (rows_within (table_at m.tables y.table) all_rows)) is in
     omega (arith, few, same, over)
   where
     room : (b : Bool) → not b ≡ false → b ≡ true

@@ -1,9 +1,8 @@
 -- What CREATE INDEX does.
-use Rattle.std.specs.Prelude.{ℕ, zero, suc, pos, negsuc, ◌-◌, ◌^◌, ◌≡◌, ◌==◌, nat_le, Bool, true, false, not, ◌||◌, ◌&&◌, is_some, ◌<◌, List, [], ◌∷◌, length, Option, Some, None, Result, IfOk, MatchOption, codes, refl}
+use Rattle.std.specs.Prelude.{ℕ, zero, suc, pos, negsuc, ◌-◌, ◌^◌, ◌≡◌, nat_le, Bool, true, false, not, ◌||◌, is_some, ◌<◌, List, [], ◌∷◌, length, Option, Some, None, Result, IfOk, MatchOption, codes, refl}
 use Rattle.std.specs.List.{list_any}
 use Rattle.std.specs.Option.{option_and_then}
 use Rattle.std.specs.FinMap.{get, entries}
-use Rattle.ct_entry.specs.Keys.{same_list}
 use Rattle.ct_entry.specs.Maps.{Names}
 use Rattle.tb_table.specs.declared.columns.Sort.{Sort}
 use Rattle.tb_table.specs.declared.columns.Sort.TheVariants.{Number, Varchar2, Clob}
@@ -19,7 +18,10 @@ use Rattle.tx_prefs.specs.Copies.{copied}
 use Rattle.ix_context.specs.declared.ranges.KeyRange.{KeyRange}
 use Rattle.ix_kinds.specs.Rows.{table_at}
 use Rattle.ix_kinds.specs.Statements.{with_index}
+use Rattle.db_names.specs.declared.heads.IndexKind.{IndexKind}
+use Rattle.db_names.specs.declared.heads.IndexKind.TheVariants.{Context}
 use Rattle.ix_indexes.specs.Indexes.{Index, kinds}
+use Rattle.db_state.specs.Lookups.{is_on_column}
 use Rattle.db_cond.specs.Faults.{UnknownName, ExistsAlready, WrongValues, BadValue, LimitReached}
 use Rattle.db_state.specs.States.{StoreState, indexes_on, index_limit}
 use Rattle.db_state.specs.Effects.{Effect, Does, refuse, refuse_by, with_found, Refused}
@@ -42,9 +44,9 @@ is_text_at [] place = false
 is_text_at (c ∷ cs) zero = is_text_sort c.sort
 is_text_at (c ∷ cs) (suc place) = is_text_at cs place
 
--- whether a column, by its place in the table, has a CONTEXT index
-abbrev pub has_context_index : Names Index → List ℕ → ℕ → Bool
-has_context_index xs t place = list_any (λ (e : List ℕ × Index). same_list e.1.table t && (e.1.column == place)) (entries xs)
+-- whether a column, by its place in the table, has an index of this kind
+abbrev pub has_index_on : IndexKind → Names Index → List ℕ → ℕ → Bool
+has_index_on kind xs t place = list_any (λ (e : List ℕ × Index). is_on_column kind t place e.1) (entries xs)
 
 -- all row keys, from the least of 64 bits to the greatest
 abbrev pub all_rows : KeyRange
@@ -89,9 +91,9 @@ with_new_index m i t place prefs = record m { indexes = with_index kinds all_row
 abbrev pub has_too_many_rows : StoreState → List ℕ → Bool
 has_too_many_rows m t = not (kinds.can_create (table_at m.tables t) all_rows)
 
--- whether the name is that of an index, or the column has one
+-- whether the name is that of an index, or the column has one of the kind CONTEXT
 abbrev pub is_index_taken : StoreState → List ℕ → List ℕ → ℕ → Bool
-is_index_taken m i t place = is_some (get m.indexes i) || has_context_index m.indexes t place
+is_index_taken m i t place = is_some (get m.indexes i) || has_index_on Context m.indexes t place
 
 abbrev pub create_index_on : StoreState → List ℕ → List ℕ → Table → ℕ → Option Prefs → Effect
 create_index_on m i t x place prefs =

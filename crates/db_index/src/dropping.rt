@@ -5,16 +5,16 @@ ghost use Rattle.std.specs.Prelude.{◌≡◌, IfOk, Some, Err};
 ghost use Rattle.ct_keep.specs.Laws.{changes_weight};
 ghost use Rattle.ct_keep.specs.KeeperViews.{Finds, OnlyReads, Told};
 ghost use Rattle.ct_entry.specs.Changes.{spell};
-ghost use Rattle.ix_context.specs.Removing.{index_removals};
 ghost use Rattle.db_state.specs.Plans.{IsRemoval, IsStorePlan, Plans, Replies, line_for_all};
 ghost use Rattle.db_state.specs.Shapes.{AcceptsStatements, AreStoreChanges};
 ghost use Rattle.db_index.specs.Dropping.{drop_index as drop_index_effect, index_dropped};
+ghost use Rattle.ix_indexes.specs.Removing.{index_removals};
 
 use ct_base::Name;
 use ct_keep::{Batch, KeepFault, Keeper};
 use db_cond::Fault;
 use db_state::{Plan, carry_out, has_index};
-use ix_context::remove;
+use ix_indexes::remove;
 use std::alloc::Global;
 
 /// The changes by which an index goes.

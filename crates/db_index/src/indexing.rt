@@ -4,13 +4,13 @@
 ghost use Rattle.std.specs.Prelude.{◌≡◌, ◌<◌, ◌∷◌, [], IfOk, IfSome, Some, None, nat_le, length, true};
 ghost use Rattle.ct_keep.specs.KeeperViews.{OnlyReads, Told};
 ghost use Rattle.ct_keep.specs.Looks.{scan_looks, LooksAtMost};
-ghost use Rattle.ct_entry.specs.declared.kinds.Kind.TheVariants as kind;
+ghost use Rattle.ct_entry.specs.declared.kinds.Kind.TheVariants as entry;
 ghost use Rattle.ct_entry.specs.Kinds.{code};
 ghost use Rattle.tb_table.specs.Tables.{Table};
 ghost use Rattle.tx_settings.specs.Attributes.{can_be_set};
 ghost use Rattle.db_state.specs.States.{OverStates, OverNamedTable, indexes_on, index_limit, Sees};
 ghost use Rattle.db_state.specs.Effects.{Effect, Checks};
-ghost use Rattle.db_index.specs.Indexing.{MakesFreeIndex, PlansAsked, PlansIndex, check_flags, create_index as create_index_effect, has_context_index as column_has_index, index_made, is_index_taken, is_text_at as text_at, is_text_sort as sort_of_texts, IsFreeIndex};
+ghost use Rattle.db_index.specs.Indexing.{MakesFreeIndex, PlansAsked, PlansIndex, check_flags, create_index as create_index_effect, has_index_on as column_has_index, index_made, is_index_taken, is_text_at as text_at, is_text_sort as sort_of_texts};
 ghost use Rattle.db_state.specs.Plans.{IsStorePlan, Replies};
 ghost use Rattle.db_state.specs.Shapes.{AcceptsStatements, AreStoreChanges};
 
@@ -18,8 +18,10 @@ use crate::asking::{Asked, read_asked};
 use ct_base::{Name, Text};
 use ct_keep::{Batch, KeepFault, Keeper};
 use db_cond::Fault;
-use db_names::{IndexHead, indexes_of};
-use db_state::{Plan, carry_out, column_place, context_index, has_index, table_columns, target_of};
+use db_names::{IndexHead, IndexKind, indexes_of};
+use db_state::{
+    Plan, carry_out, column_place, has_index, index_of_column, table_columns, target_of,
+};
 use ix_context::{ContextFault, KeyRange, create};
 use std::alloc::Global;
 use tb_table::{Column, Sort};
@@ -52,23 +54,24 @@ fn is_text_at(columns: &[Column], place: usize) -> bool
     false
 }
 
-/// Whether there is a CONTEXT index on a column, by its place.
-fn has_context_index<K: Keeper>(
+/// Whether there is an index of a kind on a column, by its place.
+fn has_index_on<K: Keeper>(
     alloc: Global,
     keeper: &mut K,
+    kind: IndexKind,
     table: &Name,
     place: usize,
 ) -> Result<bool, KeepFault>
     requires { (K.view keeper.old).ready }
-    ensures there { OverStates K.view keeper.old (λ m c. place < 256 → IfOk result (λ there. there ≡ column_has_index m.indexes table.now place)) }
+    ensures there { OverStates K.view keeper.old (λ m c. place < 256 → IfOk result (λ there. there ≡ column_has_index kind m.indexes table.now place)) }
     ensures reads { OnlyReads K.view keeper.old keeper.new result }
-    ensures at_most { Told K.view keeper.old (λ m. LooksAtMost K.view keeper.old keeper.new (scan_looks (code kind.Indexes ∷ []) m)) }
+    ensures at_most { Told K.view keeper.old (λ m. LooksAtMost K.view keeper.old keeper.new (scan_looks (code entry.Indexes ∷ []) m)) }
 {
-    let other = context_index(alloc, keeper, table, place)?;
+    let other = index_of_column(alloc, keeper, kind, table, place)?;
     Ok(other.is_some())
 }
 
-/// Whether there is an index of the name, or one on the column.
+/// Whether there is an index of the name, or one of the kind CONTEXT on the column.
 fn is_taken<K: Keeper>(
     alloc: Global,
     keeper: &mut K,
@@ -81,7 +84,7 @@ fn is_taken<K: Keeper>(
     ensures reads { OnlyReads K.view keeper.old keeper.new result }
 {
     let there = has_index(alloc, keeper, index)?;
-    let other = has_context_index(alloc, keeper, table, place)?;
+    let other = has_index_on(alloc, keeper, IndexKind::Context, table, place)?;
     Ok(there || other)
 }
 
@@ -101,7 +104,7 @@ fn has_most_indexes<K: Keeper>(
     requires { (K.view keeper.old).ready }
     ensures many { Sees K.view keeper.old result (λ m many. many ≡ nat_le index_limit (length (indexes_on m.indexes table.now))) }
     ensures reads { OnlyReads K.view keeper.old keeper.new result }
-    ensures at_most { Told K.view keeper.old (λ m. LooksAtMost K.view keeper.old keeper.new (scan_looks (code kind.Indexes ∷ []) m)) }
+    ensures at_most { Told K.view keeper.old (λ m. LooksAtMost K.view keeper.old keeper.new (scan_looks (code entry.Indexes ∷ []) m)) }
 {
     let indexes = indexes_of(alloc, keeper, table)?;
     Ok(are_most(&indexes))

@@ -15,7 +15,6 @@ use Rattle.tb_table.specs.laws.Changes.{is_of_tables, tables_frame}
 use Rattle.ix_kinds.specs.Standing.{is_of_indexes}
 use Rattle.ix_kinds.specs.laws.Standing.{indexes_frame}
 use Rattle.ix_indexes.specs.Indexes.{kinds, IndexesStand}
-use Rattle.ix_indexes.specs.laws.ContextRows.{context_alone}
 use Rattle.tx_tags.specs.Groups.{SectionGroup as Group, no_sections}
 use Rattle.tx_settings.specs.declared.attributes.Setting.{Setting}
 use Rattle.tx_settings.specs.PrefsBytes.{is_named_group, are_lexer_settings}
@@ -30,6 +29,7 @@ use Rattle.tx_prefs.specs.laws.Rules.{named_more, named_again}
 use Rattle.db_state.specs.laws.ShortRows.{rows_frame}
 use Rattle.db_state.specs.States.{HasShortRows, StoreState, StandsForState, is_built, is_of_rows}
 use Rattle.db_prefs.specs.Defining.{new_changes, with_new}
+use Rattle.ix_context.specs.laws.ContextRows.{context_alone}
 
 -- what is read of preferences
 -- ---- the kinds of entries

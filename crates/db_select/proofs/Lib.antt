@@ -5,7 +5,6 @@ pub mod KeysAlone
 pub mod LineSteps
 pub mod Listed
 pub mod NameOrder
-pub mod OldIndexes
 pub mod Scores
 pub mod Searchable
 pub mod Selects

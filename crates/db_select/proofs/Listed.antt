@@ -8,6 +8,7 @@ use Rattle.tb_table.specs.Rules.{has_column}
 use Rattle.std.specs.Option.{option_and_then}
 use Rattle.ct_entry.specs.Keys.{same_list}
 use Rattle.db_state.specs.States.{StoreState}
+use Rattle.db_names.specs.declared.heads.IndexKind.TheVariants.{Context}
 use Rattle.db_state.specs.Lookups.{FoundOn, index_on}
 use Rattle.db_select.specs.Searches.{NeedsIndex}
 use Rattle.db_state.specs.Columns.{first_unknown, place_from, column_place}
@@ -63,6 +64,6 @@ pub place_small : (name : List ℕ) (columns : List Column) (place : ℕ) → co
 place_small name columns place is few = let low = place_below 0 name columns place is in omega (arith, low)
 
 -- the index on the place of the column is the one that the search needs
-pub needed_at : (m : StoreState) (t : List ℕ) (columns : List Column) (s : Search) (place : ℕ) → column_place s.column columns ≡ Some place → (found : Option (List ℕ)) → FoundOn m.indexes t place found → NeedsIndex m t columns s found
-needed_at m t columns s place is None found = ap (option_and_then (λ (place : ℕ). index_on m.indexes t place)) is ∙ found
-needed_at m t columns s place is (Some i) found = (found.0, (found.1.0, ap (option_and_then (λ (place : ℕ). index_on m.indexes t place)) is ∙ found.1.1))
+pub needed_at : (m : StoreState) (t : List ℕ) (columns : List Column) (s : Search) (place : ℕ) → column_place s.column columns ≡ Some place → (found : Option (List ℕ)) → FoundOn Context m.indexes t place found → NeedsIndex m t columns s found
+needed_at m t columns s place is None found = ap (option_and_then (λ (place : ℕ). index_on Context m.indexes t place)) is ∙ found
+needed_at m t columns s place is (Some i) found = (found.0, (found.1.0, ap (option_and_then (λ (place : ℕ). index_on Context m.indexes t place)) is ∙ found.1.1))

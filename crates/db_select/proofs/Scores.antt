@@ -4,12 +4,13 @@ use Rattle.std.specs.Prelude.{nat_lt, filter}
 use Rattle.std.specs.List.{filter_map, cons_option}
 use Rattle.std.specs.FinMap.{entries}
 use Rattle.std.proofs.lemmas.Map.Entries.{option_filter}
-use Rattle.tb_table.specs.Tables.{Tables}
+use Rattle.tb_table.specs.Tables.{Table}
 use Rattle.ix_docmap.specs.Marks.{Mark, Pending, Settled}
-use Rattle.ix_context.specs.Indexes.{Index, marks_in, text_seen}
+use Rattle.ix_context.specs.Indexes.{texts_in}
 use Rattle.ix_search.specs.Finding.{query_score, scored_above, scored, found_at, found}
 use Rattle.q_tree.specs.Trees.{Reduced}
 use Rattle.tx_settings.specs.declared.preferences.Prefs.{Prefs}
+use Rattle.ix_indexes.specs.Indexes.{Index}
 
 none_above : (n score : ℕ) → nat_lt 0 score ≡ false → nat_lt n score ≡ false
 none_above n score h = let l = ltb-false 0 score h in not_below (nat_lt n score) refl l
@@ -29,9 +30,9 @@ scored_of_all : (p : Prefs) (q : Reduced) (n : ℕ) (r : ℤ) (text : Option (Li
 scored_of_all p q n r None = refl
 scored_of_all p q n r (Some text) = above_of_all n r (query_score p q text)
 
-at_of_all : (ts : Tables) (x : Index) (q : Reduced) (n : ℕ) (r : ℤ) (m : Mark (Unit {0})) → option_filter (λ (h : ℤ × ℕ). nat_lt n h.1) (found_at ts x q 0 r m) ≡ found_at ts x q n r m
-at_of_all ts x q n r Pending = refl
-at_of_all ts x q n r (Settled _) = scored_of_all x.prefs q n r (text_seen ts x r)
+at_of_all : (t : Table) (x : Index) (q : Reduced) (n : ℕ) (r : ℤ) (m : Mark (Unit {0})) → option_filter (λ (h : ℤ × ℕ). nat_lt n h.1) (found_at t x q 0 r m) ≡ found_at t x q n r m
+at_of_all t x q n r Pending = refl
+at_of_all t x q n r (Settled _) = scored_of_all x.prefs q n r (texts_in t x.column r)
 
 -- a filter of what is given is what is given through it
 kept : {Y : Type 0} (p : Y → Bool) (y : Y) (ys zs : List Y) (b : Bool) → p y ≡ b → filter p ys ≡ zs → cond b (y ∷ filter p ys) (filter p ys) ≡ cons_option (cond b (Some y) None) zs
@@ -46,8 +47,8 @@ filter_given : {X Y : Type 0} (p : Y → Bool) (f g : X → Option Y) → ((x : 
 filter_given p f g same [] = refl
 filter_given p f g same (x ∷ xs) = filter_cons p (f x) (g x) (filter_map f xs) (filter_map g xs) (same x) (filter_given p f g same xs)
 
-pub above_filtered : (ts : Tables) (x : Index) (q : Reduced) (n : ℕ) → filter (λ (h : ℤ × ℕ). nat_lt n h.1) (found ts x q 0) ≡ found ts x q n
-above_filtered ts x q n = filter_given (λ (h : ℤ × ℕ). nat_lt n h.1) (λ e. found_at ts x q 0 e.0 e.1) (λ e. found_at ts x q n e.0 e.1) (λ e. at_of_all ts x q n e.0 e.1) (entries (marks_in x.body))
+pub above_filtered : (t : Table) (x : Index) (q : Reduced) (n : ℕ) → filter (λ (h : ℤ × ℕ). nat_lt n h.1) (found t x q 0) ≡ found t x q n
+above_filtered t x q n = filter_given (λ (h : ℤ × ℕ). nat_lt n h.1) (λ e. found_at t x q 0 e.0 e.1) (λ e. found_at t x q n e.0 e.1) (λ e. at_of_all t x q n e.0 e.1) (entries x.body.marks)
 
 pub filter_mapped : {X Y : Type 0} (p : Y → Bool) (f : X → Y) (xs : List X) → map f (filter (λ x. p (f x)) xs) ≡ filter p (map f xs)
 filter_mapped p f [] = refl

@@ -23,14 +23,13 @@ use Rattle.ix_docmap.specs.Marks.{Mark, queued}
 use Rattle.ix_context.specs.Indexes.{in_queue}
 use Rattle.ix_context.specs.laws.Reading.{pending_read}
 use Rattle.ix_indexes.specs.Indexes.{Index, mark_of, pending_rows}
-use Rattle.ix_indexes.specs.laws.Bridges.{old_of, olds, old_there}
 use Rattle.ix_indexes.specs.laws.Indexes.{context_at}
 use Rattle.db_cond.specs.Lines.{line}
 use Rattle.db_state.specs.States.{StoreState, StandsForState}
 use Rattle.db_state.specs.Lines.{lines_or_none}
 use Rattle.db_select.specs.Pending.{pending_line, pending_of, pending_lines}
 use Rattle.db_select.specs.Waiting.{text_or_none, waiting_at, waiting_in, waiting_text}
-use Rattle.db_select.proofs.OldIndexes.{holds_indexes}
+use Rattle.db_state.specs.laws.Contexts.{holds_index}
 
 -- ---- the queue of an index, and where there is none
 
@@ -49,7 +48,7 @@ waiting_read m c stands i = go (get m.indexes i) refl
         rows_listed in_queue c kind.Pending i empty stands.only (λ q p. p) (λ r v e. let wrong : None ≡ Some v = sym (get-empty int_cmp r) ∙ e in cc)
         (λ r row. (context_at (at c) m.tables i (get m.indexes i) (stands.indexes i)).documents.queue r row ∙ ap (λ (o : Option Index). queued (mark_of o r)) is ∙ sym (ap (option_and_then in_queue) (get-empty int_cmp r)))
         ∙ ap (keys_where in_queue) none_in_empty
-    go (Some x) is = pending_read c m.tables (olds m.indexes) (holds_indexes m c stands) i (old_of x) (old_there m.indexes i x is)
+    go (Some x) is = pending_read c m.tables i x (holds_index c m stands i x is)
 
 -- ---- of some indexes, and of all
 

@@ -65,8 +65,8 @@ reduction_refusal (FieldFault name) = FieldInside name
 reduction_refusal (ManyTokens place) = NotOneWord place
 
 -- by what an index with these preferences reduces queries
-abbrev pub context : Prefs → Context
-context p = record { lexer = p.lexer; stop = p.stop; group = p.group }
+abbrev pub reduction_context : Prefs → Context
+reduction_context p = record { lexer = p.lexer; stop = p.stop; group = p.group }
 
 -- a fault of reduction comes first, also where what is left is nothing
 abbrev pub meaning_of_reduction : List ReductionFault → Option Reduced → Meaning
@@ -74,7 +74,7 @@ meaning_of_reduction (f ∷ fs) q = Refuses (reduction_refusal f)
 meaning_of_reduction [] q = Finds q
 
 abbrev pub meaning_of_tree : Prefs → Tree → Meaning
-meaning_of_tree p t = if has_built_forms t then meaning_of_reduction (faults (context p) false t) (reduced (context p) t) else Refuses not_searched_yet
+meaning_of_tree p t = if has_built_forms t then meaning_of_reduction (faults (reduction_context p) false t) (reduced (reduction_context p) t) else Refuses not_searched_yet
 
 abbrev pub meaning_of_verdict : Prefs → Verdict → Meaning
 meaning_of_verdict p TooLarge = Refuses QueryTooLarge

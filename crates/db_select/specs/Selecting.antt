@@ -16,7 +16,7 @@ use Rattle.st_parse.specs.declared.statements.Whole.TheVariants.{Fits}
 use Rattle.tb_table.specs.declared.columns.Column.{Column}
 use Rattle.tb_table.specs.Tables.{Table, Tables, docs_columns, docs_alone, row_one}
 use Rattle.ix_indexes.specs.Indexes.{Index}
-use Rattle.ix_indexes.specs.laws.Bridges.{old_of}
+use Rattle.ix_kinds.specs.Rows.{table_at}
 use Rattle.ix_search.specs.Finding.{found}
 use Rattle.db_cond.specs.Faults.{Refusal, UnknownName, NoIndexOfKind}
 use Rattle.db_cond.specs.Lines.{line}
@@ -24,6 +24,7 @@ use Rattle.db_state.specs.States.{StoreState}
 use Rattle.db_state.specs.Effects.{Effect, Does, refuse, refuse_by, with_found}
 use Rattle.db_state.specs.Columns.{column_place, first_unknown}
 use Rattle.db_state.specs.Lines.{lines_or_none}
+use Rattle.db_names.specs.declared.heads.IndexKind.TheVariants.{Context}
 use Rattle.db_state.specs.Lookups.{index_on}
 use Rattle.db_rows.specs.Values.{value_of_column, values_of, row_values}
 use Rattle.db_rows.specs.Meeting.{key_meets}
@@ -36,16 +37,16 @@ use Rattle.std.proofs.Common.{ap}
 
 -- the index that a search needs: that on its column
 abbrev pub index_of_search : StoreState → List ℕ → List Column → Search → Option Index
-index_of_search m t columns s = option_and_then (λ (place : ℕ). index_on m.indexes t place) (column_place s.column columns)
+index_of_search m t columns s = option_and_then (λ (place : ℕ). index_on Context m.indexes t place) (column_place s.column columns)
 
 -- there is a search, and no index that it needs
 abbrev pub lacks_index : StoreState → List ℕ → List Column → Option Search → Bool
 lacks_index m t columns None = false
 lacks_index m t columns (Some s) = is_none (index_of_search m t columns s)
 
--- what a query finds in an index with a score above a number; nothing without a number. A search is told of the index as `ix_context` has it.
+-- what a query finds in an index with a score above a number; nothing without a number
 abbrev pub found_by : Tables → Index → Meaning → Option ℕ → List (ℤ × ℕ)
-found_by ts x (Finds (Some q)) (Some n) = found ts (old_of x) q n
+found_by ts x (Finds (Some q)) (Some n) = found (table_at ts x.table) x q n
 found_by ts x meaning threshold = []
 
 -- the same of a query text; nothing without an index

@@ -5,7 +5,7 @@ ghost use Rattle.std.specs.Prelude.{◌≡◌, nat_lt, filter, map, IfOk, OnOk, 
 ghost use Rattle.ct_keep.specs.KeeperViews.{OnlyReads, Told};
 ghost use Rattle.ct_keep.specs.Looks.{LooksAtMost};
 ghost use Rattle.q_tree.specs.Trees.{reduced_of};
-ghost use Rattle.ix_indexes.specs.laws.Bridges.{old_of};
+ghost use Rattle.ix_kinds.specs.Rows.{table_at};
 ghost use Rattle.ix_search.specs.Finding.{found};
 ghost use Rattle.db_select.specs.Meanings.{CanSearch, CanSearchIt};
 ghost use Rattle.db_state.specs.States.{OverIndex};
@@ -43,7 +43,7 @@ fn hits_above<K: Keeper>(
 ) -> Result<Vec<Hit>, KeepFault>
     requires ready { (K.view keeper.old).ready }
     requires searchable { CanSearch flat.now }
-    ensures found { OverIndex K.view keeper.old index.now (λ m x. IfOk result (λ hits. hit_rows hits.items ≡ found m.tables (old_of x) (reduced_of flat.now) above)) }
+    ensures found { OverIndex K.view keeper.old index.now (λ m x. IfOk result (λ hits. hit_rows hits.items ≡ found (table_at m.tables x.table) x (reduced_of flat.now) above)) }
     ensures reads { OnlyReads K.view keeper.old keeper.new result }
     ensures at_most { Told K.view keeper.old (λ m. LooksAtMost K.view keeper.old keeper.new (query_looks m index.now (reduced_of flat.now))) }
 {

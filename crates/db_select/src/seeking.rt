@@ -9,7 +9,8 @@ ghost use Rattle.db_select.specs.Searches.{held_search, NeedsIndex};
 use crate::predicates::Search;
 use ct_base::Name;
 use ct_keep::{KeepFault, Keeper};
-use db_state::{column_place, context_index};
+use db_names::IndexKind;
+use db_state::{column_place, index_of_column};
 use std::alloc::Global;
 use tb_table::Column;
 
@@ -26,7 +27,7 @@ pub(crate) fn needed_index<K: Keeper>(
     ensures reads { OnlyReads K.view keeper.old keeper.new result }
 {
     match column_place(search.column, columns) {
-        Some(place) => context_index(alloc, keeper, table, place),
+        Some(place) => index_of_column(alloc, keeper, IndexKind::Context, table, place),
         None => Ok(None),
     }
 }

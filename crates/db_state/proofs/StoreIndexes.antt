@@ -24,11 +24,12 @@ use Rattle.ix_rows.specs.laws.Rooms.{row_found}
 use Rattle.ix_docmap.specs.Marks.{is_settled}
 use Rattle.ix_context.specs.Standing.{PartStands}
 use Rattle.ix_indexes.specs.Indexes.{Defined, Index, index_entry, IndexesStand, AreIndexes, mark_of, mark_at, part_of, postings_in}
-use Rattle.ix_indexes.specs.laws.ContextRows.{entry_is}
-use Rattle.ix_indexes.specs.laws.Indexes.{context_at, entry_at, context_is, marked_row, column_few}
+use Rattle.ix_indexes.specs.laws.Indexes.{context_at, entry_at, context_is, marked_row}
 use Rattle.ix_context.specs.Shapes.{HasIndexValue, IsRowFrom, IsSpanRowFrom}
 use Rattle.ix_context.specs.laws.Well.{length-entry_le}
 use Rattle.db_state.proofs.WeighIndexes.{settled_there, is_queued}
+use Rattle.ix_context.specs.laws.ContextRows.{entry_is}
+use Rattle.ix_context.specs.laws.Reading.{column_few}
 
 module _ (f : Key → Option (List ℕ)) (ts : Tables) (xs : Names Index) (tables : AreTables ts) (are : AreIndexes ts xs) (stand : IndexesStand f ts xs) where
   its_part : (i : List ℕ) → PartStands f i (postings_in ts (get xs i)) (mark_at xs i) (part_of (get xs i))

@@ -15,7 +15,7 @@ use Rattle.tb_table.specs.Spelling.{columns_bytes, row_numbers_bytes}
 use Rattle.ix_rows.specs.WordRows.{last_document}
 use Rattle.ix_docmap.specs.Marks.{Mark, Pending, Settled, is_settled}
 use Rattle.ix_context.specs.Documents.{document_cost}
-use Rattle.ix_indexes.specs.Contexts.{row_room as mark_room}
+use Rattle.ix_context.specs.Contexts.{mark_room}
 use Rattle.ix_indexes.specs.Indexes.{Index, index_entry, postings_in}
 use Rattle.tx_prefs.specs.Room.{preference_entries}
 use Rattle.db_state.specs.States.{StoreState}

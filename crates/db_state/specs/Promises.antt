@@ -14,11 +14,11 @@ use Rattle.db_state.specs.Room.{room}
 use Rattle.db_state.specs.Shapes.{IsStoreEntry}
 
 -- an index, and a state, with nothing that is wasted
-abbrev pub unwasted : Index → Index
-unwasted x = statements.unwasted kinds x
+abbrev pub but_wasted : Index → Index
+but_wasted x = statements.unwasted kinds x
 
 abbrev pub but_for_waste : StoreState → StoreState
-but_for_waste m = record m { indexes = each_value unwasted m.indexes }
+but_for_waste m = record m { indexes = each_value but_wasted m.indexes }
 
 -- A content stands for at most one state but for what is wasted, of which a state has a bound alone.
 abbrev pub OneState : Type 0

@@ -13,3 +13,4 @@ pub mod Removing
 pub mod Kinds
 pub mod Holding
 pub mod Unchanged
+pub mod Contexts

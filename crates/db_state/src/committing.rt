@@ -5,8 +5,6 @@ ghost use Rattle.std.specs.Prelude.{◌≡◌, Some, Err, IfOk};
 ghost use Rattle.ct_keep.specs.Content.{Content, after};
 ghost use Rattle.ct_keep.specs.Laws.{changes_weight};
 ghost use Rattle.ct_keep.specs.KeeperViews.{AtMostOneCommit, SameButContent, Told, counted, fault_of, is_full};
-ghost use Rattle.db_state.specs.States.{StoreState, StandsForState};
-ghost use Rattle.db_state.specs.Effects.{Does};
 ghost use Rattle.db_state.specs.Plans.{CommitGives, Returns, line_for_all};
 ghost use Rattle.db_state.specs.Shapes.{AcceptsStatements, AreStoreChanges};
 

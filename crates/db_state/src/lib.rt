@@ -12,7 +12,7 @@ pub use columns::{column_place, has_column};
 pub use committing::fixed_reply;
 pub use laws::{one_state, stores_are_well, stores_are_within_room};
 pub use lookups::{
-    context_index, has_index, has_most_tables, has_table, is_view, table_columns, target_of,
+    has_index, has_most_tables, has_table, index_of_column, is_view, table_columns, target_of,
 };
 pub use plans::{Plan, carry_out};
 pub use shapes::StoreShape;

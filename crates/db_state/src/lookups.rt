@@ -8,10 +8,10 @@ ghost use Rattle.ct_base.specs.Limits.{table_limit};
 ghost use Rattle.ct_keep.specs.Content.{Content};
 ghost use Rattle.ct_keep.specs.KeeperViews.{OnlyReads, Told};
 ghost use Rattle.ct_keep.specs.Looks.{no_looks, scan_looks, LooksAtMost};
-ghost use Rattle.ct_entry.specs.declared.kinds.Kind.TheVariants as kind;
+ghost use Rattle.ct_entry.specs.declared.kinds.Kind.TheVariants as entry;
 ghost use Rattle.ct_entry.specs.Kinds.{code};
 ghost use Rattle.tb_table.specs.Tables.{Table};
-ghost use Rattle.db_state.specs.States.{OverStates, StoreState, StandsForState, is_view as is_view_name, Sees};
+ghost use Rattle.db_state.specs.States.{OverStates, is_view as is_view_name, Sees};
 ghost use Rattle.db_state.specs.Lookups.{FoundOn};
 
 use ct_base::{Memory, Name, TABLE_LIMIT};
@@ -64,7 +64,7 @@ pub fn has_most_tables<K: Keeper>(alloc: Global, keeper: &mut K) -> Result<bool,
     requires { (K.view keeper.old).ready }
     ensures many { Sees K.view keeper.old result (λ m many. many ≡ nat_le table_limit (length (entries m.tables))) }
     ensures reads { OnlyReads K.view keeper.old keeper.new result }
-    ensures at_most { Told K.view keeper.old (λ m. LooksAtMost K.view keeper.old keeper.new (scan_looks (code kind.Tables ∷ []) m)) }
+    ensures at_most { Told K.view keeper.old (λ m. LooksAtMost K.view keeper.old keeper.new (scan_looks (code entry.Tables ∷ []) m)) }
 {
     let names = tables(alloc, keeper)?;
     Ok(are_most(&names))
@@ -78,23 +78,24 @@ pub fn target_of(table: &Name, column: u8) -> Result<Target, Memory>
     Ok(Target { table, column })
 }
 
-/// The CONTEXT index on a column of a table by its place.
-pub fn context_index<K: Keeper>(
+/// The index of a kind on a column of a table by its place.
+pub fn index_of_column<K: Keeper>(
     alloc: Global,
     keeper: &mut K,
+    kind: IndexKind,
     table: &Name,
     place: usize,
 ) -> Result<Option<Name>, KeepFault>
     requires { (K.view keeper.old).ready }
-    ensures found { OverStates K.view keeper.old (λ m c. place < 256 → IfOk result (FoundOn m.indexes table.now place)) }
+    ensures found { OverStates K.view keeper.old (λ m c. place < 256 → IfOk result (FoundOn kind m.indexes table.now place)) }
     ensures reads { OnlyReads K.view keeper.old keeper.new result }
-    ensures at_most { Told K.view keeper.old (λ m. LooksAtMost K.view keeper.old keeper.new (scan_looks (code kind.Indexes ∷ []) m)) }
+    ensures at_most { Told K.view keeper.old (λ m. LooksAtMost K.view keeper.old keeper.new (scan_looks (code entry.Indexes ∷ []) m)) }
 {
     let Ok(column) = u8::try_from(place) else {
         return Ok(None);
     };
     let target = target_of(table, column)?;
-    index_on(alloc, keeper, &target, IndexKind::Context)
+    index_on(alloc, keeper, &target, kind)
 }
 
 /// Whether there is an index of the name.

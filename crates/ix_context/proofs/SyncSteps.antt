@@ -1,5 +1,4 @@
 -- Steps of synchronisations and of new indexes.
-use Rattle.ix_context.specs.laws.Bodies.{part_in-synced, given-made}
 use Rattle.std.proofs.Common.{◌≡◌, ℕ, ℤ, ◌+◌, max, false, List, [], ◌∷◌, ◌++◌, length, map, Option, Some, None, Result, Ok, Err, refl, sym, ap, subst, ◌∙◌, arith}
 use Rattle.std.specs.Prelude.{◌==◌, MatchOption, IfOk}
 use Rattle.std.proofs.lemmas.List.{length-map}
@@ -10,15 +9,20 @@ use Rattle.ct_entry.specs.Keys.{Key, key}
 use Rattle.ct_entry.specs.Changes.{put_value, spell}
 use Rattle.ct_entry.specs.laws.Changes.{spell-append}
 use Rattle.tb_table.specs.declared.columns.Target.{Target}
-use Rattle.tb_table.specs.Tables.{Tables}
-use Rattle.ix_context.specs.declared.ranges.KeyRange.{KeyRange}
-use Rattle.ix_context.specs.Indexes.{Index, Part, given, part_in, no_part, synced_index, created, pending_rows, rows_in, target_text}
-use Rattle.ix_context.specs.Spelling.{index_bytes}
-use Rattle.ix_context.specs.Documents.{postings_by}
-use Rattle.ix_context.specs.Changes.{mark_rows_with, settle_rows_with, postings_changes, settled_with, sync_rows_changes, sync_changes, create_changes, AreSettleChanges, AreSyncChanges}
+use Rattle.tb_table.specs.Tables.{Table, Tables}
 use Rattle.tx_settings.specs.declared.preferences.Prefs.{Prefs}
 use Rattle.std.proofs.lemmas.Option.{same_Some}
+use Rattle.ix_kinds.specs.Rows.{table_at}
+use Rattle.ix_kinds.specs.Indextypes.{IndexOf}
+use Rattle.ix_context.specs.declared.ranges.KeyRange.{KeyRange}
 use Rattle.ix_context.specs.declared.entries.IndexEntry.{IndexEntry}
+use Rattle.ix_context.specs.Indexes.{ContextIndex, no_part, waiting_rows, texts_in, rows_within, target_text}
+use Rattle.ix_context.specs.Spelling.{index_bytes}
+use Rattle.ix_context.specs.Documents.{postings_by}
+use Rattle.ix_context.specs.Changes.{mark_rows_with, settle_rows_with, postings_changes, settled_with, AreSettleChanges}
+use Rattle.ix_context.specs.Contexts.{context_synced, context_sync_changes, new_context, context_create_changes}
+use Rattle.ix_context.specs.Sees.{AreSyncChanges}
+use Rattle.ix_context.specs.laws.Bodies.{given-made}
 use Rattle.ix_context.specs.laws.Reading.{target_of, parts_of}
 
 abbrev Changes : Type 0
@@ -65,36 +69,36 @@ settled_added i target prefs text first next (r ∷ rs) none before new some emp
     ∙ sym (spell-append changes (put_value (key kind.Indexes i []) (index_bytes target.table target.column prefs next) ∷ []))
     ∙ ap (λ n. spell (changes ++ put_value (key kind.Indexes i []) (index_bytes target.table target.column prefs n) ∷ [])) count
 
-settled_rows : (ts : Tables) (i : List ℕ) (x : Index) (rows : List ℤ) → pending_rows x ≡ rows
-    → settled_with i (target_of x) x.prefs (target_text ts (target_of x)) ((given x) + 1) rows ≡ sync_rows_changes ts i x rows
-settled_rows ts i x [] is = refl
-settled_rows ts i x (r ∷ rs) is =
-    let count : given x + 1 + length (r ∷ rs) ≡ given (synced_index x) + 1 =
-    let l : length (pending_rows x) ≡ length (r ∷ rs) = ap length is in
-    let n : given (synced_index x) ≡ given x + length (pending_rows x) = ap (λ (p : Part). p.given) (part_in-synced x.body) ∙ given-made (length (pending_rows x)) (part_in x.body) in
-    omega arith in
-    ap (λ n. settle_rows_with i (given x + 1) (r ∷ rs) ++ postings_changes i (postings_by x.prefs (target_text ts (target_of x))) (given x + 1) (r ∷ rs) ++ put_value (key kind.Indexes i []) (index_bytes x.table x.column x.prefs n) ∷ []) count
+settled_rows : (i : List ℕ) (x : IndexOf ContextIndex) (text : ℤ → Option (List ℕ)) (rows : List ℤ) → waiting_rows x.body.marks ≡ rows
+    → settled_with i (target_of x) x.prefs text (x.body.part.given + 1) rows ≡ context_sync_changes i x text rows
+settled_rows i x text [] is = refl
+settled_rows i x text (r ∷ rs) is =
+    let count : x.body.part.given + 1 + length (r ∷ rs) ≡ (context_synced x.body).part.given + 1 =
+    let l : length (waiting_rows x.body.marks) ≡ length (r ∷ rs) = ap length is in
+    let n = given-made (length (waiting_rows x.body.marks)) x.body.part in
+    omega (arith, l, n) in
+    ap (λ n. settle_rows_with i (x.body.part.given + 1) (r ∷ rs) ++ postings_changes i (postings_by x.prefs text) (x.body.part.given + 1) (r ∷ rs) ++ put_value (key kind.Indexes i []) (index_bytes x.table x.column x.prefs n) ∷ []) count
 
 -- the changes for what was read of the index are those of its synchronisation
-pub settled_is : (ts : Tables) (i : List ℕ) (x : Index) (e : IndexEntry) (first : ℕ) (rows : List ℤ) → e ≡ parts_of x → first ≡ (given x) + 1
-    → rows ≡ pending_rows x
-    → settled_with i e.target e.prefs (target_text ts e.target) first rows ≡ sync_changes ts i x
+pub settled_is : (ts : Tables) (i : List ℕ) (x : IndexOf ContextIndex) (e : IndexEntry) (first : ℕ) (rows : List ℤ) → e ≡ parts_of x → first ≡ x.body.part.given + 1
+    → rows ≡ waiting_rows x.body.marks
+    → settled_with i e.target e.prefs (target_text ts e.target) first rows ≡ context_sync_changes i x (texts_in (table_at ts x.table) x.column) (waiting_rows x.body.marks)
 settled_is ts i x e first rows t f r =
     ap (λ (d : IndexEntry). settled_with i d.target d.prefs (target_text ts d.target) first rows) t
     ∙ ap (λ n. settled_with i (target_of x) x.prefs (target_text ts (target_of x)) n rows) f
-    ∙ ap (settled_with i (target_of x) x.prefs (target_text ts (target_of x)) ((given x) + 1)) r
-    ∙ settled_rows ts i x (pending_rows x) refl
+    ∙ ap (settled_with i (target_of x) x.prefs (target_text ts (target_of x)) (x.body.part.given + 1)) r
+    ∙ settled_rows i x (target_text ts (target_of x)) (waiting_rows x.body.marks) refl
 
 -- what the changes for what was read say of the index
-pub settled_says : (ts : Tables) (i : List ℕ) (x : Index) (e : IndexEntry) (first : ℕ) (rows : List RowKey) → e ≡ parts_of x
-    → first ≡ (given x) + 1 → keys rows ≡ pending_rows x → (result : Result (Option Changes) KeepFault)
-    → IfOk result (AreSettleChanges ts i e.target e.prefs first rows) → IfOk result (AreSyncChanges ts i x)
+pub settled_says : (ts : Tables) (i : List ℕ) (x : IndexOf ContextIndex) (e : IndexEntry) (first : ℕ) (rows : List RowKey) → e ≡ parts_of x
+    → first ≡ x.body.part.given + 1 → keys rows ≡ waiting_rows x.body.marks → (result : Result (Option Changes) KeepFault)
+    → IfOk result (AreSettleChanges ts i e.target e.prefs first rows) → IfOk result (AreSyncChanges i (table_at ts x.table) x)
 settled_says ts i x e first rows t f r result says = go result says
   where
-    count : length rows ≡ length (pending_rows x)
+    count : length rows ≡ length (waiting_rows x.body.marks)
     count = sym (length-map rows (λ (r : RowKey). r.0)) ∙ ap length r
 
-    go : (result : Result (Option Changes) KeepFault) → IfOk result (AreSettleChanges ts i e.target e.prefs first rows) → IfOk result (AreSyncChanges ts i x)
+    go : (result : Result (Option Changes) KeepFault) → IfOk result (AreSettleChanges ts i e.target e.prefs first rows) → IfOk result (AreSyncChanges i (table_at ts x.table) x)
     go (Err fault) says = tt
     go (Ok None) says = let n = count in omega arith
     go (Ok (Some ws)) says = (let n = count in let room = says.0 in omega arith, says.1 ∙ ap spell (settled_is ts i x e first (keys rows) t f r))
@@ -102,24 +106,22 @@ settled_says ts i x e first rows t f r result says = go result says
 -- ---- a new index
 
 -- how many rows there are
-pub count_created : (ts : Tables) (t : List ℕ) (range : KeyRange) (rows : List RowKey) → keys rows ≡ rows_in ts t range
-    → length rows ≡ length (rows_in ts t range)
-count_created ts t range rows are = sym (length-map rows (λ (r : RowKey). r.0)) ∙ ap length are
+pub count_created : (t : Table) (range : KeyRange) (rows : List RowKey) → keys rows ≡ rows_within t range → length rows ≡ length (rows_within t range)
+count_created t range rows are = sym (length-map rows (λ (r : RowKey). r.0)) ∙ ap length are
 
 -- the change of its entry was added, and then those of its rows
-pub created_added : (ts : Tables) (i : List ℕ) (target : Target) (prefs : Prefs) (range : KeyRange) (rows : List RowKey) (next : ℕ) (none first new : Changes)
-    → keys rows ≡ rows_in ts target.table range → next ≡ 1 + length rows → none ≡ []
+pub created_added : (t : Table) (i : List ℕ) (target : Target) (prefs : Prefs) (range : KeyRange) (rows : List RowKey) (next : ℕ) (none first new : Changes)
+    → keys rows ≡ rows_within t range → next ≡ 1 + length rows → none ≡ []
     → first ≡ none ++ spell (put_value (key kind.Indexes i []) (index_bytes target.table target.column prefs next) ∷ [])
-    → new ≡ first ++ spell (mark_rows_with i 1 (keys rows) ++ postings_changes i (postings_by prefs (target_text ts target)) 1 (keys rows))
-    → new ≡ spell (create_changes ts i target prefs range)
-created_added ts i target prefs range rows next none first new are next_is empty entry marks =
-    let x = created ts target prefs range in
-    let made : List ℤ → List (Key × Option (List ℕ)) = λ l. mark_rows_with i 1 l ++ postings_changes i (postings_by prefs (target_text ts target)) 1 l in
-    let number : next ≡ given x + 1 =
-    let count = count_created ts target.table range rows are in
-    let n = given-made (length (rows_in ts target.table range)) no_part in
+    → new ≡ first ++ spell (mark_rows_with i 1 (keys rows) ++ postings_changes i (postings_by prefs (texts_in t target.column)) 1 (keys rows))
+    → new ≡ spell (context_create_changes t i target prefs range)
+created_added t i target prefs range rows next none first new are next_is empty entry marks =
+    let made : List ℤ → List (Key × Option (List ℕ)) = λ l. mark_rows_with i 1 l ++ postings_changes i (postings_by prefs (texts_in t target.column)) 1 l in
+    let number : next ≡ (new_context t range).part.given + 1 =
+    let count = count_created t range rows are in
+    let n = given-made (length (rows_within t range)) no_part in
     omega (arith, next_is, count, n) in
     marks
     ∙ ap (λ (b : Changes). b ++ spell (made (keys rows))) (entry ∙ ap (λ (b : Changes). b ++ spell (put_value (key kind.Indexes i []) (index_bytes target.table target.column prefs next) ∷ [])) empty)
     ∙ ap (λ n. spell (put_value (key kind.Indexes i []) (index_bytes target.table target.column prefs n) ∷ made (keys rows))) number
-    ∙ ap (λ l. spell (put_value (key kind.Indexes i []) (index_bytes target.table target.column prefs (given x + 1)) ∷ made l)) are
+    ∙ ap (λ l. spell (put_value (key kind.Indexes i []) (index_bytes target.table target.column prefs ((new_context t range).part.given + 1)) ∷ made l)) are

@@ -17,7 +17,6 @@ use Rattle.tb_table.specs.Tables.{Tables}
 use Rattle.tx_settings.specs.declared.preferences.Prefs.{Prefs}
 use Rattle.ix_posting.specs.Rows.{posting_bytes}
 use Rattle.ix_posting.specs.SpanRows.{span_row_bytes}
-use Rattle.ix_context.specs.declared.ranges.KeyRange.{KeyRange}
 use Rattle.ix_rows.specs.Spelling.{greedy}
 use Rattle.ix_rows.specs.WordRows.{document_number}
 use Rattle.ix_rows.specs.SpanRows.{span_number}
@@ -25,9 +24,8 @@ use Rattle.ix_rows.specs.Gathering.{terms_of, gathered_rows, rows_put}
 use Rattle.ix_docmap.specs.Changes.{mark_changes, map_settle_changes}
 use Rattle.ix_context.specs.Gathering.{Gathering, with_texts}
 use Rattle.ix_context.specs.Documents.{Postings, postings_by, word_posting, span_posting}
-use Rattle.ix_context.specs.Indexes.{Index, given, pending_rows, text_seen, target_text, synced_index, created, rows_in}
-use Rattle.ix_context.specs.Rules.{most_given}
-use Rattle.ix_context.specs.Spelling.{index_bytes, index_entry}
+use Rattle.ix_context.specs.Indexes.{target_text}
+use Rattle.ix_context.specs.Spelling.{index_bytes}
 use Rattle.std.proofs.Common.{ap}
 use Rattle.ct_bytes.specs.Varints.{varint}
 
@@ -56,26 +54,12 @@ mark_rows_with i first rows = each (λ n. mark_changes i n.0 n.1) (numbered firs
 abbrev pub settle_rows_with : List ℕ → ℕ → List ℤ → List (Key × Option (List ℕ))
 settle_rows_with i first rows = each (map_settle_changes i) (numbered first rows)
 
--- each row that waits becomes a document, with its postings, and the index has given these; nothing where no row waits
-abbrev pub sync_rows_changes : Tables → List ℕ → Index → List ℤ → List (Key × Option (List ℕ))
-sync_rows_changes ts i x [] = []
-sync_rows_changes ts i x (r ∷ rs) =
-    settle_rows_with i (given x + 1) (r ∷ rs) ++ postings_changes i (postings_by x.prefs (text_seen ts x)) (given x + 1) (r ∷ rs) ++ put_value (key kind.Indexes i []) (index_entry (synced_index x)) ∷ []
-
--- the same for an index on a target that reads so and gives this document next, where rows have these texts
+-- each row that waits becomes a document, with its postings, of an index on a target that reads so and gives this document next, which then has given these, where
+-- rows have these texts; nothing where no row waits
 abbrev pub settled_with : List ℕ → Target → Prefs → (ℤ → Option (List ℕ)) → ℕ → List ℤ → List (Key × Option (List ℕ))
 settled_with i target prefs text first [] = []
 settled_with i target prefs text first (r ∷ rs) =
     settle_rows_with i first (r ∷ rs) ++ postings_changes i (postings_by prefs text) first (r ∷ rs) ++ put_value (key kind.Indexes i []) (index_bytes target.table target.column prefs (first + length (r ∷ rs))) ∷ []
-
-abbrev pub sync_changes : Tables → List ℕ → Index → List (Key × Option (List ℕ))
-sync_changes ts i x = sync_rows_changes ts i x (pending_rows x)
-
--- a new index with a copy of these preferences, of which each row in its range is a document
-abbrev pub create_changes : Tables → List ℕ → Target → Prefs → KeyRange → List (Key × Option (List ℕ))
-create_changes ts i target prefs range =
-    put_value (key kind.Indexes i []) (index_entry (created ts target prefs range))
-    ∷ (mark_rows_with i 1 (rows_in ts target.table range) ++ postings_changes i (postings_by prefs (text_seen ts (created ts target prefs range))) 1 (rows_in ts target.table range))
 
 -- ---- what calls add to a batch
 
@@ -110,13 +94,6 @@ abbrev pub AreSettleChanges : Tables → List ℕ → Target → Prefs → ℕ �
 AreSettleChanges ts i target prefs first rows found =
     ChangesWithin (2 ^ 32 - 1) (first + length rows) (settled_with i target prefs (target_text ts target) first (map (λ r. r.0) rows)) found
 
--- of a synchronisation, and of a new index, where these have at most as many documents as there are numbers
-abbrev pub AreSyncChanges : Tables → List ℕ → Index → Option (List (List ℕ × Option (List ℕ))) → Type 0
-AreSyncChanges ts i x found = ChangesWithin most_given (given x + length (pending_rows x)) (sync_changes ts i x) found
-
-abbrev pub AreCreateChanges : Tables → List ℕ → Target → Prefs → KeyRange → Option (List (List ℕ × Option (List ℕ))) → Type 0
-AreCreateChanges ts i target prefs range found = ChangesWithin most_given (length (rows_in ts target.table range)) (create_changes ts i target prefs range) found
-
 -- computed examples
 row_two_waits : spell (note_insert_changes (codes "di") (pos 2)) ≡ (0x23 ∷ 2 ∷ 0x64 ∷ 0x69 ∷ 0x80 ∷ 0 ∷ 0 ∷ 0 ∷ 0 ∷ 0 ∷ 0 ∷ 2 ∷ [], Some []) ∷ []
 unfolding row_bytes
@@ -137,5 +114,5 @@ unfolding varint
 one_row_of_two_documents = ap rows_of_a (get-from_sorted (slice_cmp nat_cmp) ((0 ∷ 1 ∷ codes "a", 1 ∷ []) ∷ []) (0 ∷ 1 ∷ codes "a") tt)
 
 -- nothing is put where no row waits
-nothing_to_settle : (ts : Tables) (x : Index) → sync_rows_changes ts (codes "di") x [] ≡ []
-nothing_to_settle ts x = refl
+nothing_to_settle : (target : Target) (prefs : Prefs) (text : ℤ → Option (List ℕ)) → settled_with (codes "di") target prefs text 1 [] ≡ []
+nothing_to_settle target prefs text = refl

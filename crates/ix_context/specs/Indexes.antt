@@ -1,21 +1,18 @@
--- Text indexes, the marks of their rows, and what statements make of both.
-use Rattle.std.specs.Prelude.{ℕ, ℤ, zero, suc, ◌+◌, Bool, not, ◌&&◌, List, length, map, filter, Option, Some, None, pos, negsuc, ◌≡◌, [], ◌∷◌, codes, refl}
-use Rattle.std.specs.Bool.{if◌then◌else◌}
+-- A CONTEXT index: the marks of its rows, the texts that it sees, and what statements make of the marks.
+use Rattle.std.specs.Prelude.{ℕ, ℤ, zero, suc, ◌+◌, ◌-◌, ◌^◌, Bool, true, not, ◌&&◌, List, map, filter, Option, Some, None, pos, negsuc, ◌≡◌, [], ◌∷◌, refl}
 use Rattle.std.specs.Option.{option_and_then}
 use Rattle.std.specs.Ordering.{int_cmp, is_lt}
-use Rattle.std.specs.FinMap.{get, insert, remove, entries, from_entries, from_sorted, entries-from_sorted, get-insert}
-use Rattle.ct_entry.specs.Keys.{same_list}
+use Rattle.std.specs.FinMap.{get, entries, from_entries, from_sorted, entries-from_sorted}
+use Rattle.ct_entry.specs.Keys.{IsRow}
 use Rattle.ct_entry.specs.Listings.{keys_where}
-use Rattle.ct_entry.specs.Maps.{Names, Rows, alter, each_value}
+use Rattle.ct_entry.specs.Maps.{Rows, each_value}
 use Rattle.tb_table.specs.declared.columns.Target.{Target}
-use Rattle.tb_table.specs.Tables.{Tables, row_at, row_keys, text_in_column}
+use Rattle.tb_table.specs.Tables.{Table, Tables, text_in_column}
+use Rattle.ix_kinds.specs.Rows.{table_at}
 use Rattle.ix_rows.specs.Stores.{Tidiness, Untidy, Packed}
-use Rattle.ix_docmap.specs.Marks.{Mark, Pending, Settled, Marks, queued}
+use Rattle.ix_docmap.specs.Marks.{Mark, Pending, Settled, queued}
 use Rattle.ix_context.specs.declared.ranges.KeyRange.{KeyRange}
-use Rattle.tx_settings.specs.declared.preferences.Prefs.{Prefs}
-use Rattle.tx_settings.specs.Defaults.{default_prefs}
 use Rattle.std.proofs.Common.{ap}
-use Rattle.std.proofs.lemmas.Cmp.{int_cmp_total}
 
 -- ---- what an index has by its kind
 
@@ -30,42 +27,13 @@ pub record ContextIndex : Type 0 where
   pub part : Part
   pub marks : Rows (Mark (Unit {0}))
 
--- The kinds of indexes; for now there is one.
-pub data Body : Type 0 where
-  OfContext : ContextIndex → Body
+-- how many marks an index can ever make
+abbrev pub most_given : ℕ
+most_given = 2 ^ 32 - 2
 
-pub record Index : Type 0 where
-  -- the table, and the place of the column in it
-  pub table : List ℕ
-  pub column : ℕ
-  -- how it reads texts
-  pub prefs : Prefs
-  pub body : Body
-
-abbrev pub part_in : Body → Part
-part_in (OfContext c) = c.part
-
-abbrev pub marks_in : Body → Rows (Mark (Unit {0}))
-marks_in (OfContext c) = c.marks
-
--- how many marks an index ever made
-abbrev pub given : Index → ℕ
-given x = (part_in x.body).given
-
--- as an index begins, and as a name has it that is no index's
+-- as an index begins
 abbrev pub no_part : Part
 no_part = record { given = 0; tidiness = Untidy; waste = 0 }
-
-abbrev pub part_of : Option Index → Part
-part_of None = no_part
-part_of (Some x) = part_in x.body
-
-abbrev pub mark_of : Option Index → Marks
-mark_of None r = None
-mark_of (Some x) r = get (marks_in x.body) r
-
-abbrev pub mark_at : Names Index → List ℕ → Marks
-mark_at xs i r = mark_of (get xs i) r
 
 -- the rows that wait, in order of their keys
 abbrev pub in_queue : Mark (Unit {0}) → Option (List ℕ)
@@ -74,36 +42,35 @@ in_queue m = queued (Some m)
 abbrev pub waiting_rows : Rows (Mark (Unit {0})) → List ℤ
 waiting_rows ms = keys_where in_queue (entries ms)
 
-abbrev pub pending_rows : Index → List ℤ
-pending_rows x = waiting_rows (marks_in x.body)
+-- ---- what it sees
 
--- the text of a row that an index sees
-abbrev pub text_seen : Tables → Index → ℤ → Option (List ℕ)
-text_seen ts x r = option_and_then (λ vs. text_in_column vs x.column) (row_at ts x.table r)
+-- the texts of the rows in a column
+abbrev pub texts_in : Table → ℕ → ℤ → Option (List ℕ)
+texts_in t column r = option_and_then (λ vs. text_in_column vs column) (get t.rows r)
 
--- the text of a row in a column
+-- the texts in a column of the table of a name
 abbrev pub target_text : Tables → Target → ℤ → Option (List ℕ)
-target_text ts target r = option_and_then (λ vs. text_in_column vs target.column) (row_at ts target.table r)
+target_text ts target r = texts_in (table_at ts target.table) target.column r
 
--- ---- what statements make of an index
+-- the row key lies in the range, both ends included
+abbrev pub is_key_in : KeyRange → ℤ → Bool
+is_key_in range r = not (is_lt (int_cmp r range.from.0)) && not (is_lt (int_cmp range.to.0 r))
 
--- a new row waits
-abbrev pub note_new : ℤ → Body → Body
-note_new r (OfContext c) = OfContext (record c { marks = insert c.marks r Pending })
+-- the keys of the rows that lie in a range, in order
+abbrev pub rows_within : Table → KeyRange → List ℤ
+rows_within t range = filter (is_key_in range) (map (λ e. e.0) (entries t.rows))
+
+-- the range has every row key
+abbrev pub HasAllRows : KeyRange → Type 0
+HasAllRows range = (r : ℤ) → IsRow r → is_key_in range r ≡ true
+
+-- ---- what statements make of it
 
 -- A row's mark is lost: the index is tidy no more, and if the row was settled, what its document costs is wasted.
 abbrev pub wasted : Option (Mark (Unit {0})) → ℕ → Part → Part
 wasted None cost p = p
 wasted (Some Pending) cost p = record p { tidiness = Untidy }
 wasted (Some (Settled _)) cost p = record p { tidiness = Untidy; waste = p.waste + cost }
-
--- a row whose text is another now waits; its document cost so much, if it was one
-abbrev pub note_changed : ℕ → ℤ → Body → Body
-note_changed cost r (OfContext c) = OfContext (record { part = wasted (get c.marks r) cost c.part; marks = insert c.marks r Pending })
-
--- a row that goes has no mark
-abbrev pub note_gone : ℕ → ℤ → Body → Body
-note_gone cost r (OfContext c) = OfContext (record { part = wasted (get c.marks r) cost c.part; marks = remove c.marks r })
 
 -- where some rows wait, that many marks are made, and the index is tidy no more
 abbrev pub made : ℕ → Part → Part
@@ -114,53 +81,14 @@ made (suc n) p = record p { given = p.given + suc n; tidiness = Untidy }
 abbrev pub all_settled : Rows (Mark (Unit {0})) → Rows (Mark (Unit {0}))
 all_settled ms = each_value (λ (m : Mark (Unit {0})). Settled tt) ms
 
-abbrev pub synced_body : Body → Body
-synced_body (OfContext c) = OfContext (record { part = made (length (waiting_rows c.marks)) c.part; marks = all_settled c.marks })
-
--- ---- what they make of the indexes
-
-abbrev pub noted_index : ℤ → Index → Index
-noted_index r x = record x { body = note_new r x.body }
-
-abbrev pub noted : Names Index → List ℕ → ℤ → Names Index
-noted xs i r = alter xs i (noted_index r)
-
--- a row that is new in a table waits in each index on it
-abbrev pub waiting_on : List ℕ → ℤ → Index → Index
-waiting_on t r x = if same_list x.table t then noted_index r x else x
-
-abbrev pub noted_on : Names Index → List ℕ → ℤ → Names Index
-noted_on xs t r = each_value (waiting_on t r) xs
-
-abbrev pub synced_index : Index → Index
-synced_index x = record x { body = synced_body x.body }
-
-abbrev pub synced : Names Index → List ℕ → Names Index
-synced xs i = alter xs i synced_index
-
--- the row key lies in the range, both ends included
-abbrev pub is_key_in : KeyRange → ℤ → Bool
-is_key_in range r = not (is_lt (int_cmp r range.from.0)) && not (is_lt (int_cmp range.to.0 r))
-
--- the keys of a table's rows that lie in the range, in order
-abbrev pub rows_in : Tables → List ℕ → KeyRange → List ℤ
-rows_in ts t range = filter (is_key_in range) (row_keys ts t)
-
 -- these rows are settled, and no other has a mark
 abbrev pub settled_rows : List ℤ → Rows (Mark (Unit {0}))
 settled_rows rows = from_entries (map (λ r. (r, Settled tt)) rows)
 
-abbrev pub created_body : List ℤ → Body
-created_body rows = OfContext (record { part = made (length rows) no_part; marks = settled_rows rows })
-
--- a new index has a copy of these preferences, and settles each row that is there and lies in its range
-abbrev pub created : Tables → Target → Prefs → KeyRange → Index
-created ts target prefs range = record { table = target.table; column = target.column; prefs = prefs; body = created_body (rows_in ts target.table range) }
-
-abbrev pub with_index : Tables → Names Index → List ℕ → Target → Prefs → KeyRange → Names Index
-with_index ts xs i target prefs range = insert xs i (created ts target prefs range)
-
 -- computed examples
+the_most : most_given ≡ 4294967294
+the_most = refl
+
 -- three rows, of which the last waits
 abbrev three_marks : List (ℤ × Mark (Unit {0}))
 three_marks = (pos 1, Settled tt) ∷ (pos 2, Settled tt) ∷ (pos 3, Pending) ∷ []
@@ -168,18 +96,8 @@ three_marks = (pos 1, Settled tt) ∷ (pos 2, Settled tt) ∷ (pos 3, Pending) �
 abbrev two_given : Part
 two_given = record { given = 2; tidiness = Untidy; waste = 64 }
 
-abbrev three_rows : Index
-three_rows = record { table = codes "docs"; column = 1; prefs = default_prefs; body = OfContext (record { part = two_given; marks = from_sorted three_marks }) }
-
-one_waits : pending_rows three_rows ≡ pos 3 ∷ []
+one_waits : waiting_rows (from_sorted three_marks) ≡ pos 3 ∷ []
 one_waits = ap (λ (es : List (ℤ × Mark (Unit {0}))). keys_where in_queue es) (entries-from_sorted int_cmp three_marks tt)
-
--- a row that is new in its table waits
-four_waits : mark_of (Some (waiting_on (codes "docs") (pos 4) three_rows)) (pos 4) ≡ Some Pending
-four_waits = get-insert int_cmp_total (from_sorted three_marks) (pos 4) Pending (pos 4)
-
-another_table : waiting_on (codes "doc") (pos 4) three_rows ≡ three_rows
-another_table = refl
 
 -- what is lost of a settled row, and of one that waits
 a_lost_mark : wasted (Some (Settled tt)) 128 (record two_given { tidiness = Packed }) ≡ record { given = 2; tidiness = Untidy; waste = 192 }

@@ -1,16 +1,20 @@
--- What calls promise of the tables and indexes that a keeper's content spells, by the view of the keeper.
-use Rattle.std.specs.Prelude.{ℕ, ◌≡◌, List, Some, None, Result, Err, IfOk, refl}
-use Rattle.std.specs.FinMap.{get}
+-- What calls promise of the tables and of a CONTEXT index that a keeper's content spells, by the view of the keeper.
+use Rattle.std.specs.Prelude.{ℕ, ◌≡◌, ◌+◌, List, length, Option, Some, None, Result, Err, IfOk, refl}
 use Rattle.std.proofs.Common.{sym, ◌∙◌}
 use Rattle.ct_keep.specs.Content.{Content}
 use Rattle.ct_keep.specs.KeeperViews.{KeeperView}
 use Rattle.ct_entry.specs.Keys.{at, HasKeysOnly}
-use Rattle.ct_entry.specs.Maps.{Names}
-use Rattle.tb_table.specs.Tables.{Tables}
-use Rattle.ix_context.specs.Indexes.{Index}
-use Rattle.ix_context.specs.Standing.{IndexesStand}
+use Rattle.tb_table.specs.declared.columns.Target.{Target}
+use Rattle.tb_table.specs.Tables.{Table, Tables}
+use Rattle.tx_settings.specs.declared.preferences.Prefs.{Prefs}
+use Rattle.ix_kinds.specs.Rows.{table_at}
+use Rattle.ix_kinds.specs.Indextypes.{IndexOf}
+use Rattle.ix_context.specs.declared.ranges.KeyRange.{KeyRange}
+use Rattle.ix_context.specs.Indexes.{ContextIndex, most_given, texts_in, rows_within, waiting_rows}
+use Rattle.ix_context.specs.Changes.{ChangesWithin}
+use Rattle.ix_context.specs.Contexts.{context_stands, context_sync_changes, context_create_changes}
 use Rattle.ix_context.specs.Limits.{IsWithinLimits}
-use Rattle.ix_context.specs.Stands.{HoldsTables, HoldsIndexes}
+use Rattle.ix_context.specs.Stands.{HoldsTables, HoldsContext}
 
 -- what holds of the tables that the content spells, where that is told
 abbrev pub ToldTables : {K : Type 0} → (K → KeeperView) → K → (Tables → Type 0) → Type 0
@@ -20,24 +24,28 @@ ToldTables view k holds = (m : Content) (ts : Tables) → (view k).content ≡ S
 abbrev pub SeesTables : {K T E : Type 0} → (K → KeeperView) → K → Result T E → (Tables → T → Type 0) → Type 0
 SeesTables view old result gives = ToldTables view old (λ ts. IfOk result (gives ts))
 
--- what holds of the tables and of the index of this name that the content spells, where that is told
-abbrev pub ToldIndex : {K : Type 0} → (K → KeeperView) → K → List ℕ → (Tables → Index → Type 0) → Type 0
-ToldIndex view k i holds =
-    (m : Content) (ts : Tables) (xs : Names Index) (x : Index) → (view k).content ≡ Some m → HoldsIndexes m ts xs → get xs i ≡ Some x → holds ts x
+-- what holds of the table and the CONTEXT index of this name that the content spells, where that is told
+abbrev pub ToldContext : {K : Type 0} → (K → KeeperView) → K → List ℕ → (Table → IndexOf ContextIndex → Type 0) → Type 0
+ToldContext view k i holds = (m : Content) (ts : Tables) (x : IndexOf ContextIndex) → (view k).content ≡ Some m → HoldsContext m ts i x → holds (table_at ts x.table) x
 
--- What a call gave of the tables and this index, unless it failed.
-abbrev pub SeesIndex : {K T E : Type 0} → (K → KeeperView) → K → List ℕ → Result T E → (Tables → Index → T → Type 0) → Type 0
-SeesIndex view old i result gives = ToldIndex view old i (λ ts x. IfOk result (gives ts x))
+-- What a call gave of them, unless it failed.
+abbrev pub SeesContext : {K T E : Type 0} → (K → KeeperView) → K → List ℕ → Result T E → (Table → IndexOf ContextIndex → T → Type 0) → Type 0
+SeesContext view old i result gives = ToldContext view old i (λ t x. IfOk result (gives t x))
 
--- What a call gave of all indexes, unless it failed.
-abbrev pub SeesIndexes : {K T E : Type 0} → (K → KeeperView) → K → Result T E → (Names Index → T → Type 0) → Type 0
-SeesIndexes view old result gives = (m : Content) (ts : Tables) (xs : Names Index) → (view old).content ≡ Some m → HoldsIndexes m ts xs → IfOk result (gives xs)
-
--- The same of an index that is within the limits of a search. Neither the tables nor the indexes need to keep any other rule.
-abbrev pub SeesWithinLimits : {K T E : Type 0} → (K → KeeperView) → K → List ℕ → Result T E → (Tables → Index → T → Type 0) → Type 0
+-- The same of an index that is within the limits of a search. Neither the table nor the index needs to keep any other rule.
+abbrev pub SeesWithinLimits : {K T E : Type 0} → (K → KeeperView) → K → List ℕ → Result T E → (Table → IndexOf ContextIndex → T → Type 0) → Type 0
 SeesWithinLimits view old i result gives =
-    (m : Content) (ts : Tables) (xs : Names Index) (x : Index) → (view old).content ≡ Some m → HasKeysOnly m → IndexesStand (at m) ts xs → get xs i ≡ Some x
-    → IsWithinLimits ts x → IfOk result (gives ts x)
+    (m : Content) (t : Table) (x : IndexOf ContextIndex) → (view old).content ≡ Some m → HasKeysOnly m → context_stands (at m) i x t → IsWithinLimits t x → IfOk result (gives t x)
+
+-- ---- what calls find to do, or not
+
+-- the changes of a synchronisation, and of a new index, where these have at most as many documents as there are numbers
+abbrev pub AreSyncChanges : List ℕ → Table → IndexOf ContextIndex → Option (List (List ℕ × Option (List ℕ))) → Type 0
+AreSyncChanges i t x found = ChangesWithin most_given (x.body.part.given + length (waiting_rows x.body.marks)) (context_sync_changes i x (texts_in t x.column) (waiting_rows x.body.marks)) found
+
+abbrev pub AreCreateChanges : Tables → List ℕ → Target → Prefs → KeyRange → Option (List (List ℕ × Option (List ℕ))) → Type 0
+AreCreateChanges ts i target prefs range found =
+    ChangesWithin most_given (length (rows_within (table_at ts target.table) range)) (context_create_changes (table_at ts target.table) i target prefs range) found
 
 -- computed examples: a call that failed gave nothing; and where no content is told, nothing is said of its tables
 gave_nothing : {T E : Type 0} (gives : Tables → T → Type 0) (ts : Tables) (e : E) → IfOk (Err e) (gives ts) ≡ Unit {0}

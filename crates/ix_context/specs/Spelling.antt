@@ -1,5 +1,5 @@
--- The entries that spell the indexes.
-use Rattle.std.specs.Prelude.{Bool, true, false, ℕ, ◌≡◌, ◌+◌, ◌<◌, ◌^◌, List, [], ◌∷◌, ◌++◌, Option, Some, None, length, codes, refl}
+-- The entries of a CONTEXT index.
+use Rattle.std.specs.Prelude.{Bool, true, false, ◌||◌, ℕ, ◌≡◌, ◌<◌, ◌^◌, List, [], ◌∷◌, ◌++◌, Option, Some, None, length, codes, refl}
 use Rattle.std.specs.Int.{to_be_bytes, w32}
 use Rattle.ct_bytes.specs.Varints.{varint, text_bytes}
 use Rattle.ct_base.specs.Names.{IsName}
@@ -13,7 +13,7 @@ use Rattle.tx_settings.specs.Defaults.{default_prefs}
 use Rattle.tx_settings.specs.PrefsBytes.{prefs_bytes, IsPrefs}
 use lib.Utf8.{encode}
 use Rattle.ix_context.specs.declared.entries.IndexEntry.{IndexEntry}
-use Rattle.ix_context.specs.Indexes.{Index, given}
+use Rattle.ix_kinds.specs.Standing.{is_entry}
 
 -- what follows the table in the entry of an index: its column in one byte, that it isn't transactional, its preferences, that
 -- it has no sub-index, the next document in four bytes, its tidiness 0, and no place to resume at
@@ -28,20 +28,20 @@ index_bytes table column prefs next = 1 ∷ text_bytes table ++ after_table colu
 abbrev pub index_change : List ℕ → Target → Prefs → ℕ → Key × Option (List ℕ)
 index_change i target prefs next = put_value (key kind.Indexes i []) (index_bytes target.table target.column prefs next)
 
-abbrev pub index_entry : Index → List ℕ
-index_entry x = index_bytes x.table x.column x.prefs (given x + 1)
-
 -- ---- the kinds
 
--- the kinds of the entries of indexes
-abbrev pub is_of_indexes : Kind → Bool
-is_of_indexes kind.Indexes = true
-is_of_indexes kind.DocumentRows = true
-is_of_indexes kind.RowDocuments = true
-is_of_indexes kind.Pending = true
-is_of_indexes kind.Postings = true
-is_of_indexes kind.Spans = true
-is_of_indexes k = false
+-- of the entries that tell of its rows
+abbrev pub is_context_part : Kind → Bool
+is_context_part kind.DocumentRows = true
+is_context_part kind.RowDocuments = true
+is_context_part kind.Pending = true
+is_context_part kind.Postings = true
+is_context_part kind.Spans = true
+is_context_part k = false
+
+-- of all entries of a CONTEXT index
+abbrev pub is_of_context : Kind → Bool
+is_of_context k = is_entry k || is_context_part k
 
 -- ---- what is read from the entry of an index
 
@@ -61,6 +61,11 @@ HasIndexParts value parts =
     → value ≡ index_bytes table column prefs next → parts ≡ Some (table, column, prefs, next)
 
 -- computed examples
+a_posting_is : is_of_context kind.Postings ≡ true
+a_posting_is = refl
+
+no_catalogue : is_of_context kind.Catalogue ≡ false
+no_catalogue = refl
 
 -- the entry of an index on the column 1 of a table `t` that reads by the defaults and has given two documents
 an_entry : index_bytes (codes "t") 1 default_prefs 3 ≡ 1 ∷ 1 ∷ 0x74 ∷ 1 ∷ 0 ∷ 0 ∷ 0 ∷ 2 ∷ 0 ∷ 0 ∷ 0 ∷ 0 ∷ 0 ∷ 0 ∷ 3 ∷ 0 ∷ 0 ∷ 0 ∷ []

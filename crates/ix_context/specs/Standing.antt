@@ -1,11 +1,7 @@
--- What it means that entries stand for the indexes.
-use Rattle.std.specs.Prelude.{ℕ, ℤ, ◌≡◌, ◌+◌, ◌≤◌, List, [], Option}
-use Rattle.std.specs.Option.{option_map}
-use Rattle.std.specs.FinMap.{get}
+-- What it means that entries stand for what a CONTEXT index has.
+use Rattle.std.specs.Prelude.{ℕ, ℤ, ◌+◌, ◌≤◌, List, Option}
 use Rattle.ct_entry.specs.declared.kinds.Kind.TheVariants as kind
-use Rattle.ct_entry.specs.Keys.{Key, key}
-use Rattle.ct_entry.specs.Maps.{Names}
-use Rattle.tb_table.specs.Tables.{Tables}
+use Rattle.ct_entry.specs.Keys.{Key}
 use Rattle.ix_posting.specs.declared.rows.RowDocument.{RowDocument}
 use Rattle.ix_posting.specs.declared.span_rows.SpanDocument.{SpanDocument}
 use Rattle.ix_posting.specs.Rows.{IsPostingRow, posting_bytes}
@@ -14,9 +10,8 @@ use Rattle.ix_rows.specs.Stores.{Tidiness, StoreStands}
 use Rattle.ix_rows.specs.WordRows.{document_number, IsWordTerm, word_cost}
 use Rattle.ix_rows.specs.SpanRows.{span_number, IsSpanTerm, span_cost}
 use Rattle.ix_docmap.specs.Marks.{Marks, MapStands}
-use Rattle.ix_context.specs.Indexes.{Index, Part, mark_of, part_of}
-use Rattle.ix_context.specs.Documents.{Postings, postings_in, want_words, want_spans}
-use Rattle.ix_context.specs.Spelling.{index_entry}
+use Rattle.ix_context.specs.Indexes.{Part}
+use Rattle.ix_context.specs.Documents.{Postings, want_words, want_spans}
 
 abbrev pub WordRowsStand : (Key → Option (List ℕ)) → List ℕ → (ℤ → Postings) → (ℕ → Option ℤ) → ℕ → Tidiness → ℕ → (List ℕ → List (List RowDocument)) → Type 0
 WordRowsStand f i doc row given tidiness waste rows =
@@ -39,12 +34,3 @@ pub record PartStands (f : Key → Option (List ℕ)) (i : List ℕ) (doc : ℤ 
   pub words : WordRowsStand f i doc row part.given part.tidiness words_waste word_rows
   pub spans : SpanRowsStand f i doc row part.given part.tidiness spans_waste span_rows
   pub waste : words_waste + spans_waste ≤ part.waste
-
--- The entries of this name stand for the index, or for none.
-pub record IndexStands (f : Key → Option (List ℕ)) (ts : Tables) (i : List ℕ) (o : Option Index) : Type 0 where
-  pub entry : f (key kind.Indexes i []) ≡ option_map index_entry o
-  pub context : PartStands f i (postings_in ts o) (mark_of o) (part_of o)
-
--- The entries of the kinds Indexes to Spans stand for the indexes: those of each name.
-abbrev pub IndexesStand : (Key → Option (List ℕ)) → Tables → Names Index → Type 0
-IndexesStand f ts xs = (i : List ℕ) → IndexStands f ts i (get xs i)

@@ -1,18 +1,21 @@
--- A content that stands for tables and indexes.
+-- A content that stands for tables, and for a CONTEXT index on one of them.
 use Rattle.std.specs.Prelude.{ℕ, ◌≡◌, List, [], ◌∷◌, ◌++◌, Some, codes, refl}
 use Rattle.std.specs.Option.{option_map}
 use Rattle.std.specs.FinMap.{get}
 use Rattle.std.proofs.Common.{ap, ◌∙◌}
 use Rattle.ct_bytes.specs.Varints.{varint}
 use Rattle.ct_keep.specs.Content.{Content}
-use Rattle.ct_entry.specs.Keys.{at, HasKeysOnly}
-use Rattle.ct_entry.specs.Maps.{Names}
+use Rattle.ct_entry.specs.declared.kinds.Kind.TheVariants as kind
+use Rattle.ct_entry.specs.Keys.{key, at, HasKeysOnly}
 use Rattle.tb_table.specs.Tables.{Table, Tables, docs_columns, docs_table}
 use Rattle.tb_table.specs.Spelling.{columns_bytes, TablesStand}
 use Rattle.tb_table.specs.Rules.{AreTables}
-use Rattle.ix_context.specs.Indexes.{Index}
-use Rattle.ix_context.specs.Standing.{IndexesStand}
-use Rattle.ix_context.specs.Rules.{AreIndexes}
+use Rattle.tx_settings.specs.PrefsBytes.{IsPrefs}
+use Rattle.ix_kinds.specs.Rows.{table_at}
+use Rattle.ix_kinds.specs.Targets.{IsTarget}
+use Rattle.ix_kinds.specs.Indextypes.{IndexOf}
+use Rattle.ix_context.specs.Indexes.{ContextIndex}
+use Rattle.ix_context.specs.Contexts.{IsContext, context_entry, context_stands}
 
 -- The content spells the tables, which keep their rules.
 pub record HoldsTables (m : Content) (ts : Tables) : Type 0 where
@@ -20,11 +23,14 @@ pub record HoldsTables (m : Content) (ts : Tables) : Type 0 where
   pub stand : TablesStand (at m) ts
   pub rules : AreTables ts
 
--- The content spells the tables and the indexes, which keep their rules.
-pub record HoldsIndexes (m : Content) (ts : Tables) (xs : Names Index) : Type 0 where
+-- It spells the tables, and the CONTEXT index of this name over its table, which keeps its rules. What other names have doesn't matter.
+pub record HoldsContext (m : Content) (ts : Tables) (i : List ℕ) (x : IndexOf ContextIndex) : Type 0 where
   pub tables : HoldsTables m ts
-  pub stand : IndexesStand (at m) ts xs
-  pub rules : AreIndexes ts xs
+  pub entry : at m (key kind.Indexes i []) ≡ Some (context_entry x)
+  pub stands : context_stands (at m) i x (table_at ts x.table)
+  pub target : IsTarget ts x.table x.column
+  pub prefs : IsPrefs x.prefs
+  pub rules : IsContext (table_at ts x.table) x
 
 -- computed examples: the columns of the table `docs` as bytes, and what a content that holds the table has under its key
 abbrev its_bytes : List ℕ

@@ -5,12 +5,13 @@ ghost use Rattle.std.specs.Prelude.{◌≡◌, ◌+◌, ◌≤◌, ◌<◌, ◌^
 ghost use Rattle.ct_keep.specs.KeeperViews.{OnlyReads, ReadsKeeper};
 ghost use Rattle.ct_entry.specs.Shapes.{AreShaped};
 ghost use Rattle.tx_settings.specs.Attributes.{can_be_set};
-ghost use Rattle.ix_context.specs.Indexes.{is_key_in, rows_in};
-ghost use Rattle.ix_context.specs.Changes.{create_changes, Adds, mark_rows_changes, mark_rows_with, AreCreateChanges, GathersRows};
+ghost use Rattle.ix_kinds.specs.Rows.{table_at};
+ghost use Rattle.ix_context.specs.Indexes.{is_key_in, most_given, rows_within as rows_in_range};
+ghost use Rattle.ix_context.specs.Contexts.{context_create_changes};
+ghost use Rattle.ix_context.specs.Changes.{Adds, mark_rows_changes, mark_rows_with, GathersRows};
 ghost use Rattle.ix_context.specs.Grown.{AreGathered};
 ghost use Rattle.ix_context.specs.Faults.{context_fault_of};
-ghost use Rattle.ix_context.specs.Rules.{most_given};
-ghost use Rattle.ix_context.specs.Sees.{ToldTables, SeesTables};
+ghost use Rattle.ix_context.specs.Sees.{ToldTables, SeesTables, AreCreateChanges};
 ghost use Rattle.ix_context.specs.Shapes.{HasIndexValue, KeepsShape};
 
 use crate::entries::put_index;
@@ -46,7 +47,7 @@ fn rows_of<K: Keeper>(
     range: KeyRange,
 ) -> Result<Vec<RowKey>, KeepFault>
     requires { (K.view keeper.old).ready }
-    ensures rows { SeesTables K.view keeper.old result (λ ts rows. map (λ r. r.0) rows.items ≡ rows_in ts table.now range) }
+    ensures rows { SeesTables K.view keeper.old result (λ ts rows. map (λ r. r.0) rows.items ≡ rows_in_range (table_at ts table.now) range) }
     ensures reads { OnlyReads K.view keeper.old keeper.new result }
 {
     let rows = row_keys(alloc, keeper, Kind::RowNumbers, table)?;
@@ -162,9 +163,9 @@ pub fn create<K: Keeper>(
 ) -> Result<(), ContextFault>
     requires ready { (K.view keeper.old).ready }
     requires set { can_be_set prefs.now.lexer ≡ true }
-    ensures changes { ToldTables K.view keeper.old (λ ts. Adds batch.old batch.new result (create_changes ts index.now target.now prefs.now range)) }
-    ensures room { ToldTables K.view keeper.old (λ ts. OnOk result (length (rows_in ts target.now.table range) ≤ most_given)) }
-    ensures many { ToldTables K.view keeper.old (λ ts. result ≡ Err ContextFault.TooMany → most_given < length (rows_in ts target.now.table range)) }
+    ensures changes { ToldTables K.view keeper.old (λ ts. Adds batch.old batch.new result (context_create_changes (table_at ts target.now.table) index.now target.now prefs.now range)) }
+    ensures room { ToldTables K.view keeper.old (λ ts. OnOk result (length (rows_in_range (table_at ts target.now.table) range) ≤ most_given)) }
+    ensures many { ToldTables K.view keeper.old (λ ts. result ≡ Err ContextFault.TooMany → most_given < length (rows_in_range (table_at ts target.now.table) range)) }
     ensures err { OnErr result (batch.new ≡ batch.old) }
     ensures shaped { AreShaped HasIndexValue batch.old → AreShaped HasIndexValue batch.new }
     ensures reads { ReadsKeeper (K.view keeper.old) (K.view keeper.new) (context_fault_of result) }

@@ -1,15 +1,13 @@
 //! How an index reads texts and queries.
 #![tactic(auto, using(ct_keep::specs::Composing::reads_on, ct_keep::specs::Composing::reads_short))]
 
-ghost use Rattle.std.specs.Prelude.{◌≡◌, [], None, IfOk, true, IfSome};
-ghost use Rattle.std.specs.FinMap.{get};
-ghost use Rattle.std.specs.Option.{option_map};
-ghost use Rattle.ct_keep.specs.KeeperViews.{OnlyReads};
+ghost use Rattle.std.specs.Prelude.{◌≡◌, [], Some, None, IfOk, true, IfSome};
+ghost use Rattle.ct_keep.specs.KeeperViews.{Finds, OnlyReads};
 ghost use Rattle.ct_keep.specs.Looks.{look, LooksAtMost};
 ghost use Rattle.ct_entry.specs.declared.kinds.Kind.TheVariants as kind;
-ghost use Rattle.ct_entry.specs.Keys.{key, bytes};
+ghost use Rattle.ct_entry.specs.Keys.{key, bytes, at};
 ghost use Rattle.tx_settings.specs.Attributes.{can_be_set};
-ghost use Rattle.ix_context.specs.Sees.{SeesIndexes};
+ghost use Rattle.ix_context.specs.Sees.{SeesContext};
 
 use crate::entries::read_index;
 use ct_base::Name;
@@ -28,7 +26,8 @@ pub fn prefs_of<K: Keeper>(
     index: &Name,
 ) -> Result<Option<Prefs>, KeepFault>
     requires { (K.view keeper.old).ready }
-    ensures prefs { SeesIndexes K.view keeper.old result (λ xs found. found ≡ option_map (λ x. x.prefs) (get xs index.now)) }
+    ensures prefs { SeesContext K.view keeper.old index.now result (λ t x found. found ≡ Some x.prefs) }
+    ensures no_entry { Finds K.view keeper.old result (λ m found. at m (key kind.Indexes index.now []) ≡ None → found ≡ None) }
     ensures set { IfOk result (λ found. IfSome found (λ prefs. can_be_set prefs.lexer ≡ true)) }
     ensures reads { OnlyReads K.view keeper.old keeper.new result }
     ensures at_most { LooksAtMost K.view keeper.old keeper.new (look (bytes (key kind.Indexes index.now [])) None) }

@@ -6,13 +6,13 @@ ghost use Rattle.ct_keep.specs.KeeperViews.{OnlyReads, ReadsKeeper};
 ghost use Rattle.ct_entry.specs.Shapes.{AreShaped};
 ghost use Rattle.tx_settings.specs.Attributes.{can_be_set};
 ghost use Rattle.ix_docmap.specs.Changes.{map_settle_changes};
-ghost use Rattle.ix_context.specs.Indexes.{given, pending_rows, target_text};
+ghost use Rattle.ix_context.specs.Indexes.{most_given, texts_in, target_text, waiting_rows};
+ghost use Rattle.ix_context.specs.Contexts.{context_sync_changes};
 ghost use Rattle.ix_context.specs.Gathering.{with_text};
 ghost use Rattle.ix_context.specs.Grown.{AreGathered};
-ghost use Rattle.ix_context.specs.Changes.{sync_changes, Adds, AddsSettledRows, AreSettleChanges, AreSyncChanges, GathersRows, settle_rows_with};
+ghost use Rattle.ix_context.specs.Changes.{Adds, AddsSettledRows, AreSettleChanges, GathersRows, settle_rows_with};
 ghost use Rattle.ix_context.specs.Faults.{context_fault_of};
-ghost use Rattle.ix_context.specs.Rules.{most_given};
-ghost use Rattle.ix_context.specs.Sees.{ToldTables, SeesTables, ToldIndex, SeesIndex};
+ghost use Rattle.ix_context.specs.Sees.{ToldTables, SeesTables, ToldContext, SeesContext, AreSyncChanges};
 ghost use Rattle.ix_context.specs.Shapes.{HasIndexValue, KeepsShape};
 
 use crate::entries::{put_index, read_index};
@@ -170,7 +170,7 @@ fn changes_of_sync<K: Keeper>(
     index: &Name,
 ) -> Result<Option<Batch>, KeepFault>
     requires { (K.view keeper.old).ready }
-    ensures changes { SeesIndex K.view keeper.old index.now result (λ ts x. AreSyncChanges ts index.now x) }
+    ensures changes { SeesContext K.view keeper.old index.now result (λ t x. AreSyncChanges index.now t x) }
     ensures shaped { IfOk result (λ found. IfSome found (AreShaped HasIndexValue)) }
     ensures reads { OnlyReads K.view keeper.old keeper.new result }
 {
@@ -204,9 +204,9 @@ pub fn sync<K: Keeper>(
     index: &Name,
 ) -> Result<(), ContextFault>
     requires { (K.view keeper.old).ready }
-    ensures changes { ToldIndex K.view keeper.old index.now (λ ts x. Adds batch.old batch.new result (sync_changes ts index.now x)) }
-    ensures room { ToldIndex K.view keeper.old index.now (λ ts x. OnOk result (given x + length (pending_rows x) ≤ most_given)) }
-    ensures many { ToldIndex K.view keeper.old index.now (λ ts x. result ≡ Err ContextFault.TooMany → most_given < given x + length (pending_rows x)) }
+    ensures changes { ToldContext K.view keeper.old index.now (λ t x. Adds batch.old batch.new result (context_sync_changes index.now x (texts_in t x.column) (waiting_rows x.body.marks))) }
+    ensures room { ToldContext K.view keeper.old index.now (λ t x. OnOk result (x.body.part.given + length (waiting_rows x.body.marks) ≤ most_given)) }
+    ensures many { ToldContext K.view keeper.old index.now (λ t x. result ≡ Err ContextFault.TooMany → most_given < x.body.part.given + length (waiting_rows x.body.marks)) }
     ensures err { OnErr result (batch.new ≡ batch.old) }
     ensures shaped { AreShaped HasIndexValue batch.old → AreShaped HasIndexValue batch.new }
     ensures reads { ReadsKeeper (K.view keeper.old) (K.view keeper.new) (context_fault_of result) }

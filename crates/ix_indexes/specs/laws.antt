@@ -1,8 +1,4 @@
-pub mod ContextRows
-pub mod ContextPostings
-pub mod ContextSyncs
-pub mod ContextCreates
-pub mod Indexes
-pub mod Rows
-pub mod Bridges
 pub mod Noting
+pub mod Indexes
+pub mod Removing
+pub mod EachAdded

@@ -23,7 +23,7 @@ use Rattle.ct_entry.specs.Listings.{row_of, owner_entries}
 use Rattle.ct_entry.specs.Maps.{Rows}
 use Rattle.ct_entry.specs.laws.Documents.{posting_prefix, span_prefix}
 use Rattle.ct_entry.specs.laws.Rows.{row_of-row_part}
-use Rattle.tb_table.specs.Tables.{Tables}
+use Rattle.tb_table.specs.Tables.{Table}
 use Rattle.ix_posting.specs.declared.rows.RowDocument.{RowDocument}
 use Rattle.ix_posting.specs.declared.span_rows.SpanDocument.{SpanDocument}
 use Rattle.ix_posting.specs.Lists.{posting_list}
@@ -44,9 +44,10 @@ use Rattle.tx_document.specs.Documents.{document}
 use Rattle.tx_document.specs.Entries.{positions_of}
 use Rattle.tx_document.specs.Promises.{if_any}
 use Rattle.ix_context.specs.Postings.{section_term}
-use Rattle.ix_context.specs.Indexes.{Index, marks_in, text_seen}
+use Rattle.ix_kinds.specs.Indextypes.{IndexOf}
+use Rattle.ix_context.specs.Indexes.{ContextIndex, texts_in}
 use Rattle.ix_context.specs.Documents as documents
-use Rattle.ix_context.specs.Standing.{IndexStands}
+use Rattle.ix_context.specs.Contexts.{context_stands}
 use Rattle.ix_context.specs.Limits.{IsWithinLimits}
 use Rattle.q_tree.specs.declared.flats.Slot.{Slot}
 use Rattle.q_tree.specs.declared.flats.Slot.TheVariants.{Any, Takes}
@@ -184,11 +185,11 @@ each_all P (x ∷ xs) all = (all x, each_all P xs all)
 -- ---- an index that stands
 
 -- what a row has by its text, if it has one
-abbrev seen_postings : Index → Option (List ℕ) → DocPostings
+abbrev seen_postings : IndexOf ContextIndex → Option (List ℕ) → DocPostings
 seen_postings x None = no_postings
 seen_postings x (Some text) = scanned_postings x.prefs text
 
-abbrev seen_positions : Index → Option (List ℕ) → ℕ → List ℕ → List ℕ
+abbrev seen_positions : IndexOf ContextIndex → Option (List ℕ) → ℕ → List ℕ → List ℕ
 seen_positions x None s k = []
 seen_positions x (Some text) s k = positions_of s k (document x.prefs (chars text)).words
 
@@ -196,22 +197,22 @@ union_none : (ks : List (List ℕ)) → union (map {B = List ℕ} (λ k. []) ks)
 union_none [] = refl
 union_none (k ∷ ks) = union_none ks
 
-module _ (m : Content) (ts : Tables) (x : Index) (i : List ℕ) (only : HasKeysOnly m) (stand : IndexStands (at m) ts i (Some x)) (fit : IsWithinLimits ts x) (prefs : IsPrefs x.prefs) where
+module _ (m : Content) (t : Table) (x : IndexOf ContextIndex) (i : List ℕ) (only : HasKeysOnly m) (stand : context_stands (at m) i x t) (fit : IsWithinLimits t x) (prefs : IsPrefs x.prefs) where
   abbrev pub words : KeyRows
-  words s k = stand.context.word_rows (word_term s k)
+  words s k = stand.word_rows (word_term s k)
 
   abbrev pub spans : NameRows
-  spans name = stand.context.span_rows (section_term name)
+  spans name = stand.span_rows (section_term name)
 
   key_held : (s : ℕ) (k : List ℕ) → s ≤ stream_limit → IsToken k → HoldsKey m i s k (words s k)
   key_held s k low token =
       let term = word_term s k in
       let is_term : IsWordTerm term = (s, (k, low, token, refl)) in
       let rows = words s k in
-      let are = stand.context.words.are term is_term in
+      let are = stand.words.are term is_term in
       let scanned : owner_entries kind.Postings i term m ≡ word_entries rows =
-      rows_scanned document_number posting_bytes IsWordTerm m kind.Postings i term stand.context.word_rows only is_term (posting_prefix s k) (rows_some rows are.each)
-      (firsts_of document_number posting_bytes IsPostingRow HasPositions word_laws rows are.each) are.rise stand.context.words.spelled in
+      rows_scanned document_number posting_bytes IsWordTerm m kind.Postings i term stand.word_rows only is_term (posting_prefix s k) (rows_some rows are.each)
+      (firsts_of document_number posting_bytes IsPostingRow HasPositions word_laws rows are.each) are.rise stand.words.spelled in
       record {
         token = token;
         hold = record {
@@ -225,10 +226,10 @@ module _ (m : Content) (ts : Tables) (x : Index) (i : List ℕ) (only : HasKeysO
       let term = section_term name in
       let is_term : IsSpanTerm term = (name, is, refl) in
       let rows = spans name in
-      let are = stand.context.spans.are term is_term in
+      let are = stand.spans.are term is_term in
       let scanned : owner_entries kind.Spans i term m ≡ span_entries rows =
-      rows_scanned span_number span_row_bytes IsSpanTerm m kind.Spans i term stand.context.span_rows only is_term (span_prefix name) (spans_some rows are.each)
-      (firsts_of span_number span_row_bytes IsSpanRow HasPairs span_laws rows are.each) are.rise stand.context.spans.spelled in
+      rows_scanned span_number span_row_bytes IsSpanTerm m kind.Spans i term stand.span_rows only is_term (span_prefix name) (spans_some rows are.each)
+      (firsts_of span_number span_row_bytes IsSpanRow HasPairs span_laws rows are.each) are.rise stand.spans.spelled in
       record {
         spell = subst (λ (es : List (List ℕ × List ℕ)). SpellRows span_number SpanDocumentsRise IsSpanRow span_row_bytes es rows) (sym scanned) (spans_spell rows are.each);
         rise = span_rows_rise rows are.each 0 are.rise;
@@ -250,14 +251,14 @@ module _ (m : Content) (ts : Tables) (x : Index) (i : List ℕ) (only : HasKeysO
 
     -- ---- the score of a document that is a row
 
-    module _ (named : EachIs IsName (section_names q)) (d : ℕ) (r : ℤ) (here : stand.context.row d ≡ Some r) where
+    module _ (named : EachIs IsName (section_names q)) (d : ℕ) (r : ℤ) (here : stand.row d ≡ Some r) where
       abbrev seen : Option (List ℕ)
-      seen = text_seen ts x r
+      seen = texts_in t x.column r
 
       key_places : (s : ℕ) (k : List ℕ) → s ≤ stream_limit → IsToken k → places_at (posting_list (words s k)) d ≡ seen_positions x seen s k
       key_places s k low token =
           places_are (posting_list (words s k)) d
-          ∙ ap positions_in (stand.context.words.lists.exact (word_term s k) d r (s, (k, low, token, refl)) here)
+          ∙ ap positions_in (stand.words.lists.exact (word_term s k) d r (s, (k, low, token, refl)) here)
           ∙ by_text seen
         where
           had : (ps : List ℕ) → positions_in (option_map (documents.word_posting d) (any_positions ps)) ≡ ps
@@ -298,7 +299,7 @@ module _ (m : Content) (ts : Tables) (x : Index) (i : List ℕ) (only : HasKeysO
           let p = section_read spans (section_names q) name there named in
           ap (λ (rows : List (List SpanDocument)). pairs_at (posting_list rows) d) p.0
           ∙ pairs_are (posting_list (spans name)) d
-          ∙ ap pairs_in (stand.context.spans.lists.exact (section_term name) d r (name, p.1, refl) here)
+          ∙ ap pairs_in (stand.spans.lists.exact (section_term name) d r (name, p.1, refl) here)
           ∙ by_text seen refl
         where
           had : (ps : List Pair) → pairs_in (option_map (documents.span_posting d) (if_any ps)) ≡ ps
@@ -318,24 +319,24 @@ module _ (m : Content) (ts : Tables) (x : Index) (i : List ℕ) (only : HasKeysO
 
     -- ---- the rows of documents
 
-    row_fits : (d : ℕ) (r : ℤ) → stand.context.row d ≡ Some r → IsRow r
-    row_fits d r is = fit.rows r (there (get (marks_in x.body) r) (sym (stand.context.documents.numbers.marked r) ∙ ap is_some (stand.context.documents.numbers.back r d is)))
+    row_fits : (d : ℕ) (r : ℤ) → stand.row d ≡ Some r → IsRow r
+    row_fits d r is = fit.rows r (there (get x.body.marks r) (sym (stand.documents.numbers.marked r) ∙ ap is_some (stand.documents.numbers.back r d is)))
       where
         there : (o : Option (Mark (Unit {0}))) → is_settled o ≡ true → is_some o ≡ true
         there None h = cc
         there (Some y) h = refl
 
-    document_found : (d : ℕ) → IsDocument d → row_at_document (at m) i d ≡ stand.context.row d
-    document_found d document = ap (option_and_then row_of) (stand.context.documents.rows d document) ∙ go (stand.context.row d) refl
+    document_found : (d : ℕ) → IsDocument d → row_at_document (at m) i d ≡ stand.row d
+    document_found d document = ap (option_and_then row_of) (stand.documents.rows d document) ∙ go (stand.row d) refl
       where
-        go : (o : Option ℤ) → stand.context.row d ≡ o → option_and_then row_of (option_map row_bytes o) ≡ o
+        go : (o : Option ℤ) → stand.row d ≡ o → option_and_then row_of (option_map row_bytes o) ≡ o
         go None is = refl
         go (Some r) is = row_of-row_part r (row_fits d r is)
 
     pub one_to_one : AreOneToOne (row_at_document (at m) i)
     one_to_one d e r low high is also =
         let one : Some d ≡ Some e =
-        sym (stand.context.documents.numbers.back r d (sym (document_found d low) ∙ is)) ∙ stand.context.documents.numbers.back r e (sym (document_found e high) ∙ also) in
+        sym (stand.documents.numbers.back r d (sym (document_found d low) ∙ is)) ∙ stand.documents.numbers.back r e (sym (document_found e high) ∙ also) in
         cc
 
     -- ---- the hits
@@ -343,11 +344,11 @@ module _ (m : Content) (ts : Tables) (x : Index) (i : List ℕ) (only : HasKeysO
     -- the score that a row has by its mark
     abbrev scored_as : ℤ → Mark (Unit {0}) → Option ℕ
     scored_as r Pending = None
-    scored_as r (Settled _) = option_and_then (λ text. if_some (query_score x.prefs q text)) (text_seen ts x r)
+    scored_as r (Settled _) = option_and_then (λ text. if_some (query_score x.prefs q text)) (texts_in t x.column r)
 
-    scored_found : (r : ℤ) (mark : Mark (Unit {0})) → option_map {U = ℤ × ℕ} (λ s. (r, s)) (scored_as r mark) ≡ found_at ts x q 0 r mark
+    scored_found : (r : ℤ) (mark : Mark (Unit {0})) → option_map {U = ℤ × ℕ} (λ s. (r, s)) (scored_as r mark) ≡ found_at t x q 0 r mark
     scored_found r Pending = refl
-    scored_found r (Settled _) = go (text_seen ts x r)
+    scored_found r (Settled _) = go (texts_in t x.column r)
       where
         above : (b : Bool) (s : ℕ) → option_map {U = ℤ × ℕ} (λ s. (r, s)) (cond b (Some s) None) ≡ cond b (Some (r, s)) None
         above true s = refl
@@ -360,8 +361,8 @@ module _ (m : Content) (ts : Tables) (x : Index) (i : List ℕ) (only : HasKeysO
     module _ (named : EachIs IsName (section_names q)) (document_score : ℕ → ℕ) (scores : Rows ℕ)
         (built : (d : ℕ) → d < 2 ^ 32 → document_score d ≡ score q (postings_read (feeds_of words spans q) d) 0 1 last_position)
         (are : AreScores (row_at_document (at m) i) document_score scores) where
-      right_scores : (r : ℤ) → get scores r ≡ option_and_then (scored_as r) (get (marks_in x.body) r)
-      right_scores r = by_document (stand.context.document r) refl
+      right_scores : (r : ℤ) → get scores r ≡ option_and_then (scored_as r) (get x.body.marks r)
+      right_scores r = by_document (stand.document r) refl
         where
           unmarked : (o : Option (Mark (Unit {0}))) → is_settled o ≡ false → None ≡ option_and_then (scored_as r) o
           unmarked None h = refl
@@ -372,30 +373,30 @@ module _ (m : Content) (ts : Tables) (x : Index) (i : List ℕ) (only : HasKeysO
           by_text None = ap if_some (silent_score q sound alone 0 1 last_position)
           by_text (Some text) = refl
 
-          marked : (o : Option (Mark (Unit {0}))) → is_settled o ≡ true → option_and_then (λ text. if_some (query_score x.prefs q text)) (text_seen ts x r) ≡ option_and_then (scored_as r) o
+          marked : (o : Option (Mark (Unit {0}))) → is_settled o ≡ true → option_and_then (λ text. if_some (query_score x.prefs q text)) (texts_in t x.column r) ≡ option_and_then (scored_as r) o
           marked None h = cc
           marked (Some Pending) h = cc
           marked (Some (Settled _)) h = refl
 
-          by_document : (o : Option ℕ) → stand.context.document r ≡ o → get scores r ≡ option_and_then (scored_as r) (get (marks_in x.body) r)
+          by_document : (o : Option ℕ) → stand.document r ≡ o → get scores r ≡ option_and_then (scored_as r) (get x.body.marks r)
           by_document None is =
               are.others r (λ d low at.
-              let back = stand.context.documents.numbers.back r d (sym (document_found d low) ∙ at) in
+              let back = stand.documents.numbers.back r d (sym (document_found d low) ∙ at) in
               let wrong : None ≡ Some d = sym is ∙ back in
               cc)
-              ∙ unmarked (get (marks_in x.body) r) (sym (stand.context.documents.numbers.marked r) ∙ ap is_some is)
+              ∙ unmarked (get x.body.marks r) (sym (stand.documents.numbers.marked r) ∙ ap is_some is)
           by_document (Some d) is =
-              let row = stand.context.documents.numbers.there r d is in
-              let within = stand.context.documents.numbers.within r d is in
+              let row = stand.documents.numbers.there r d is in
+              let within = stand.documents.numbers.within r d is in
               let numbers = fit.numbers in
               let low : d < 2 ^ 32 = omega (arith, within.1, numbers) in
               are.rows d r low (document_found d low ∙ row)
               ∙ ap if_some (built d low ∙ read_score named d r row)
-              ∙ by_text (text_seen ts x r)
-              ∙ marked (get (marks_in x.body) r) (sym (stand.context.documents.numbers.marked r) ∙ ap is_some is)
+              ∙ by_text (texts_in t x.column r)
+              ∙ marked (get x.body.marks r) (sym (stand.documents.numbers.marked r) ∙ ap is_some is)
 
       -- THE HITS are what a scan of the rows finds
-      pub finds : entries scores ≡ found ts x q 0
+      pub finds : entries scores ≡ found t x q 0
       finds =
-          entries_mapped int_cmp int_cmp_total exact_signed scored_as scores (marks_in x.body) right_scores
-          ∙ (λ j. filter_map (λ e. scored_found e.0 e.1 j) (entries (marks_in x.body)))
+          entries_mapped int_cmp int_cmp_total exact_signed scored_as scores x.body.marks right_scores
+          ∙ (λ j. filter_map (λ e. scored_found e.0 e.1 j) (entries x.body.marks))

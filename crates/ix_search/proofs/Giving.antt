@@ -6,11 +6,12 @@ use Rattle.ct_keep.specs.Content.{Content}
 use Rattle.ct_entry.specs.Keys.{at, HasKeysOnly}
 use Rattle.ct_entry.specs.Lists.{EachIs}
 use Rattle.ct_entry.specs.Maps.{Rows}
-use Rattle.tb_table.specs.Tables.{Tables}
+use Rattle.tb_table.specs.Tables.{Table}
 use Rattle.tx_settings.specs.PrefsBytes.{IsPrefs}
 use Rattle.ix_docmap.specs.Readings.{row_at_document}
-use Rattle.ix_context.specs.Indexes.{Index}
-use Rattle.ix_context.specs.Standing.{IndexStands}
+use Rattle.ix_kinds.specs.Indextypes.{IndexOf}
+use Rattle.ix_context.specs.Indexes.{ContextIndex}
+use Rattle.ix_context.specs.Contexts.{context_stands}
 use Rattle.ix_context.specs.Limits.{IsWithinLimits}
 use Rattle.q_tree.specs.Trees.{Reduced, reduced_of}
 use Rattle.q_tree.specs.Scores.{score, last_position}
@@ -60,14 +61,14 @@ module _ (row : ℕ → Option ℤ) (may : ℕ → Bool) (rows : Documents ℤ) 
               ∙ sym (ap if_some (silent d apart low))
 
 -- WHAT WAS GATHERED of an index that stands gives what the query finds
-pub gives_found : (m : Content) (ts : Tables) (x : Index) (i : List ℕ) (only : HasKeysOnly m) (stand : IndexStands (at m) ts i (Some x)) (fit : IsWithinLimits ts x) (prefs : IsPrefs x.prefs)
+pub gives_found : (m : Content) (t : Table) (x : IndexOf ContextIndex) (i : List ℕ) (only : HasKeysOnly m) (stand : context_stands (at m) i x t) (fit : IsWithinLimits t x) (prefs : IsPrefs x.prefs)
     (q : Reduced) (sound : is_sound q ≡ true) (alone : has_keys_alone q ≡ true) (named : EachIs IsName (section_names q)) (may : ℕ → Bool) (feeds : Feeds) (rows : Documents ℤ) (g : Gathered)
-    → feeds ≡ feeds_of (words m ts x i only stand fit prefs) (spans m ts x i only stand fit prefs) q
+    → feeds ≡ feeds_of (words m t x i only stand fit prefs) (spans m t x i only stand fit prefs) q
     → ((d : ℕ) → d < 2 ^ 32 → may d ≡ may_score q (postings_read feeds d) 0) → AreRowsOfDocuments (row_at_document (at m) i) may rows
-    → reduced_of g.flat.now ≡ q → g.feeds ≡ feeds → g.rows ≡ rows → GivesRows g (found ts x q 0)
-gives_found m ts x i only stand fit prefs q sound alone named may feeds rows g read built are same_query same_feeds same_rows =
-    let here : Feeds = feeds_of (words m ts x i only stand fit prefs) (spans m ts x i only stand fit prefs) q in
-    let one = one_to_one m ts x i only stand fit prefs q sound alone in
+    → reduced_of g.flat.now ≡ q → g.feeds ≡ feeds → g.rows ≡ rows → GivesRows g (found t x q 0)
+gives_found m t x i only stand fit prefs q sound alone named may feeds rows g read built are same_query same_feeds same_rows =
+    let here : Feeds = feeds_of (words m t x i only stand fit prefs) (spans m t x i only stand fit prefs) q in
+    let one = one_to_one m t x i only stand fit prefs q sound alone in
     let mine : AreRowsOfDocuments (row_at_document (at m) i) may g.rows = subst (AreRowsOfDocuments (row_at_document (at m) i) may) (sym same_rows) are in
     let score_as : (d : ℕ) → gathered_score g d ≡ score q (postings_read here d) 0 1 last_position =
     λ d. ap (λ (f : Reduced). score f (postings_read g.feeds d) 0 1 last_position) same_query ∙ ap (λ (f : Feeds). score q (postings_read f d) 0 1 last_position) (same_feeds ∙ read) in
@@ -76,5 +77,5 @@ gives_found m ts x i only stand fit prefs q sound alone named may feeds rows g r
     record {
       one = own_rows (row_at_document (at m) i) may g.rows mine one;
       scores = λ scores these.
-          finds m ts x i only stand fit prefs q sound alone named (gathered_score g) scores (λ d low. score_as d) (scores_of_all (row_at_document (at m) i) may g.rows mine one (gathered_score g) silent scores these);
+          finds m t x i only stand fit prefs q sound alone named (gathered_score g) scores (λ d low. score_as d) (scores_of_all (row_at_document (at m) i) may g.rows mine one (gathered_score g) silent scores these);
     }

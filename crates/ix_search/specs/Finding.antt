@@ -11,7 +11,7 @@ use Rattle.ucd_category.proofs.Computing.{ucd_category}
 use Rattle.caseless.proofs.Computing.{caseless}
 use Rattle.tx_chars.specs.Keys.{key_text}
 use Rattle.tx_tags.specs.Groups.{zones}
-use Rattle.tb_table.specs.Tables.{Tables}
+use Rattle.tb_table.specs.Tables.{Table}
 use Rattle.tx_settings.specs.declared.preferences.Prefs.{Prefs}
 use Rattle.tx_settings.specs.Defaults.{default_prefs, plain}
 use Rattle.tx_document.specs.Documents.{sentences}
@@ -22,7 +22,8 @@ use Rattle.q_tree.specs.declared.queries.Op.TheVariants.{And}
 use Rattle.q_tree.specs.Trees.{Reduced, Term, Joined, Inside}
 use Rattle.q_tree.specs.Scores.{whole_score}
 use Rattle.ix_docmap.specs.Marks.{Mark, Pending, Settled}
-use Rattle.ix_context.specs.Indexes.{Index, OfContext, marks_in, text_seen, no_part}
+use Rattle.ix_kinds.specs.Indextypes.{IndexOf}
+use Rattle.ix_context.specs.Indexes.{ContextIndex, texts_in, no_part}
 use Rattle.ix_search.specs.Texts.{scanned_postings, with_tags}
 
 -- the score of a query on a text, by its words and sections
@@ -37,13 +38,13 @@ abbrev pub scored : Prefs → Reduced → ℕ → ℤ → Option (List ℕ) → 
 scored p q n r None = None
 scored p q n r (Some text) = scored_above n r (query_score p q text)
 
-abbrev pub found_at : Tables → Index → Reduced → ℕ → ℤ → Mark (Unit {0}) → Option (ℤ × ℕ)
-found_at ts x q n r Pending = None
-found_at ts x q n r (Settled _) = scored x.prefs q n r (text_seen ts x r)
+abbrev pub found_at : Table → IndexOf ContextIndex → Reduced → ℕ → ℤ → Mark (Unit {0}) → Option (ℤ × ℕ)
+found_at t x q n r Pending = None
+found_at t x q n r (Settled _) = scored x.prefs q n r (texts_in t x.column r)
 
 -- WHAT A QUERY FINDS: the settled rows whose text has a score above n, with their scores, in order of their keys.
-abbrev pub found : Tables → Index → Reduced → ℕ → List (ℤ × ℕ)
-found ts x q n = filter_map (λ e. found_at ts x q n e.0 e.1) (entries (marks_in x.body))
+abbrev pub found : Table → IndexOf ContextIndex → Reduced → ℕ → List (ℤ × ℕ)
+found t x q n = filter_map (λ e. found_at t x q n e.0 e.1) (entries x.body.marks)
 
 -- the query that is one key
 abbrev pub key_query : List ℕ → Reduced
@@ -85,22 +86,22 @@ shown : query_score (plain zones) (key_query (codes "beta")) with_tags ≡ 1
 unfolding encode chars caseless ucd_category key_text
 shown = refl
 
-not_yet : (ts : Tables) (x : Index) (q : Reduced) → found_at ts x q 0 (pos 1) Pending ≡ None
-not_yet ts x q = refl
+not_yet : (t : Table) (x : IndexOf ContextIndex) (q : Reduced) → found_at t x q 0 (pos 1) Pending ≡ None
+not_yet t x q = refl
 
 -- two rows that are settled, and one that waits
 abbrev pub three_marks : List (ℤ × Mark (Unit {0}))
 three_marks = (pos 1, Settled tt) ∷ (pos 2, Settled tt) ∷ (pos 3, Pending) ∷ []
 
-abbrev pub three_rows : Index
-three_rows = record { table = codes "docs"; column = 1; prefs = default_prefs; body = OfContext (record { part = no_part; marks = from_sorted three_marks }) }
+abbrev pub three_rows : IndexOf ContextIndex
+three_rows = record { table = codes "docs"; column = 1; prefs = default_prefs; body = record { part = no_part; marks = from_sorted three_marks } }
 
 abbrev pub big_fox : Reduced
 big_fox = Term ((only (codes "big") ∷ only (codes "fox") ∷ []) ∷ [])
 
-one_found : (ts : Tables) → text_seen ts three_rows (pos 1) ≡ Some (codes "a big fox") → text_seen ts three_rows (pos 2) ≡ Some (codes "fox, big") → found ts three_rows big_fox 0 ≡ (pos 1, 1) ∷ []
+one_found : (t : Table) → texts_in t three_rows.column (pos 1) ≡ Some (codes "a big fox") → texts_in t three_rows.column (pos 2) ≡ Some (codes "fox, big") → found t three_rows big_fox 0 ≡ (pos 1, 1) ∷ []
 unfolding encode chars caseless ucd_category key_text
-one_found ts one two =
-    ap (λ (es : List (ℤ × Mark (Unit {0}))). filter_map (λ e. found_at ts three_rows big_fox 0 e.0 e.1) es) (entries-from_sorted int_cmp three_marks tt)
-    ∙ ap (λ (o : Option (List ℕ)). cons_option (scored default_prefs big_fox 0 (pos 1) o) (cons_option (scored default_prefs big_fox 0 (pos 2) (text_seen ts three_rows (pos 2))) [])) one
+one_found t one two =
+    ap (λ (es : List (ℤ × Mark (Unit {0}))). filter_map (λ e. found_at t three_rows big_fox 0 e.0 e.1) es) (entries-from_sorted int_cmp three_marks tt)
+    ∙ ap (λ (o : Option (List ℕ)). cons_option (scored default_prefs big_fox 0 (pos 1) o) (cons_option (scored default_prefs big_fox 0 (pos 2) (texts_in t three_rows.column (pos 2))) [])) one
     ∙ ap (λ (o : Option (List ℕ)). (pos 1, 1) ∷ cons_option (scored default_prefs big_fox 0 (pos 2) o) []) two

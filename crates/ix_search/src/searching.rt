@@ -38,7 +38,7 @@ pub fn gather<'q, K: Keeper>(
     requires ready { (K.view keeper.old).ready }
     requires sound { is_sound (reduced_of flat.now) ≡ true }
     requires plain { has_keys_alone (reduced_of flat.now) ≡ true }
-    ensures gathered { SeesWithinLimits K.view keeper.old index.now result (λ ts x g. IsPrefs x.prefs → GivesRows g (found ts x (reduced_of flat.now) 0)) }
+    ensures gathered { SeesWithinLimits K.view keeper.old index.now result (λ t x g. IsPrefs x.prefs → GivesRows g (found t x (reduced_of flat.now) 0)) }
     ensures reads { OnlyReads K.view keeper.old keeper.new result }
     ensures at_most { Told K.view keeper.old (λ m. LooksAtMost K.view keeper.old keeper.new (query_looks m index.now (reduced_of flat.now))) }
 {
@@ -61,7 +61,7 @@ pub fn search<K: Keeper>(
     requires ready { (K.view keeper.old).ready }
     requires sound { is_sound (reduced_of flat.now) ≡ true }
     requires plain { has_keys_alone (reduced_of flat.now) ≡ true }
-    ensures found { SeesWithinLimits K.view keeper.old index.now result (λ ts x hits. IsPrefs x.prefs → hit_rows hits.items ≡ found ts x (reduced_of flat.now) 0) }
+    ensures found { SeesWithinLimits K.view keeper.old index.now result (λ t x hits. IsPrefs x.prefs → hit_rows hits.items ≡ found t x (reduced_of flat.now) 0) }
     ensures reads { OnlyReads K.view keeper.old keeper.new result }
     ensures at_most { Told K.view keeper.old (λ m. LooksAtMost K.view keeper.old keeper.new (query_looks m index.now (reduced_of flat.now))) }
 {

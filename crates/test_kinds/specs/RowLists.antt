@@ -13,7 +13,6 @@ use Rattle.tx_settings.specs.declared.preferences.Prefs.{Prefs}
 use Rattle.tx_settings.specs.PrefsBytes.{prefs_bytes}
 use Rattle.db_names.specs.declared.heads.IndexKind.TheVariants.{Rules}
 use Rattle.db_names.specs.Heads.{index_head_bytes}
-use Rattle.ix_kinds.specs.Rows.{RowChange}
 use Rattle.ix_kinds.specs.Indextypes.{IndexOf, Indextype}
 
 -- the entries of an index, beside its own
@@ -22,17 +21,17 @@ is_list kind.Rules = true
 is_list k = false
 
 -- what stands for a row, by whether the table has it
-abbrev pub listed : Bool → Option (List ℕ)
-listed true = Some []
-listed false = None
+abbrev pub entry_or_none : Bool → Option (List ℕ)
+entry_or_none true = Some []
+entry_or_none false = None
 
 -- Each row of the table has an entry, and no other row has one.
 pub record ListsRows (f : Key → Option (List ℕ)) (i : List ℕ) (t : Table) : Type 0 where
-  pub rows : (r : ℤ) → IsRow r → f (key kind.Rules i (row_part r)) ≡ listed (is_some (get t.rows r))
+  pub rows : (r : ℤ) → IsRow r → f (key kind.Rules i (row_part r)) ≡ entry_or_none (is_some (get t.rows r))
 
 -- a row has its entry afterwards, or none
 abbrev pub list_row : List ℕ → ℤ → Bool → List (Key × Option (List ℕ))
-list_row i r there = (key kind.Rules i (row_part r), listed there) ∷ []
+list_row i r there = (key kind.Rules i (row_part r), entry_or_none there) ∷ []
 
 -- by whether the table had it before, and has it now
 abbrev pub list_change : List ℕ → ℤ → Bool → Bool → List (Key × Option (List ℕ))
@@ -43,8 +42,8 @@ list_change i r true there = list_row i r there
 abbrev pub list_rows : List ℕ → List ℤ → List (Key × Option (List ℕ))
 list_rows i rows = each (λ r. list_row i r true) rows
 
-abbrev pub keys_of : Table → List ℤ
-keys_of t = map (λ e. e.0) (entries t.rows)
+abbrev pub row_keys_of : Table → List ℤ
+row_keys_of t = map (λ e. e.0) (entries t.rows)
 
 abbrev pub list_entry : IndexOf (Unit {0}) → List ℕ
 list_entry x = index_head_bytes Rules x.table x.column ++ prefs_bytes x.prefs
@@ -73,7 +72,7 @@ row_lists {D} = record {
   asks = λ t a. Unit {0};
   can_create = λ t a. true;
   new_body = λ a d t target prefs. tt;
-  create_changes = λ a d t i target prefs. put_value (key kind.Indexes i []) (list_entry (new_list target prefs)) ∷ list_rows i (keys_of t);
+  create_changes = λ a d t i target prefs. put_value (key kind.Indexes i []) (list_entry (new_list target prefs)) ∷ list_rows i (row_keys_of t);
 }
 
 -- computed examples: the row 7 comes, and goes

@@ -1,6 +1,7 @@
 -- The state after new values of rows.
-use Rattle.std.proofs.Common.{◌≡◌, ℕ, ℤ, ◌<◌, ◌≤◌, ◌^◌, Bool, true, false, List, [], ◌∷◌, ◌++◌, length, Option, Some, None, refl, sym, ap, subst, ◌∙◌, arith, inl, inr}
+use Rattle.std.proofs.Common.{◌≡◌, ℕ, ℤ, ◌<◌, ◌≤◌, ◌^◌, Bool, true, false, List, [], ◌∷◌, ◌++◌, length, map, Option, Some, None, refl, sym, ap, subst, ◌∙◌, arith, inl, inr}
 use Rattle.std.specs.Prelude.{is_some, ◌||◌}
+use Rattle.std.specs.List.{All}
 use Rattle.std.specs.Option.{option_map}
 use Rattle.std.specs.Ordering.{int_eq}
 use Rattle.std.specs.FinMap.{get}
@@ -34,12 +35,14 @@ use Rattle.ix_kinds.specs.Statements.{tables_after, looks_at_any, is_on, AreInde
 use Rattle.ix_kinds.specs.RowSteps.{HaveSameColumns, DifferInRow, SetsColumns, AwaitsTurn, IsStep, AreSteps, IndexesHold}
 use Rattle.ix_kinds.specs.laws.Tables.{and_false, differs, row_now as row_after, set_looks_alike, HasStill, has_still}
 use Rattle.ix_kinds.specs.laws.Turns.{row_is_row, rows_in_turn}
-use Rattle.ix_context.specs.laws.Gone.{document_read}
-use Rattle.ix_context.specs.laws.Changed.{all_changed}
-use Rattle.ix_indexes.specs.Indexes.{Index, kinds, StandsAt, IndexesStand}
-use Rattle.ix_indexes.specs.laws.ContextCreates.{context_laws}
+use Rattle.db_names.specs.declared.heads.IndexKind.{IndexKind}
+use Rattle.db_names.specs.declared.heads.IndexKind.TheVariants.{Context, Catalogue, Rules}
+use Rattle.db_names.specs.declared.heads.IndexHead.{IndexHead}
+use Rattle.ix_indexes.specs.Indexes.{Index, kinds, StandsUnder, IndexesStand}
 use Rattle.ix_indexes.specs.laws.Indexes.{context_is}
-use Rattle.ix_indexes.specs.laws.Rows.{each_among, sets_are}
+use Rattle.ix_indexes.specs.declared.noting.RowStep.TheVariants.{Changes}
+use Rattle.ix_indexes.specs.Noting.{kind_changes, heads_changes}
+use Rattle.ix_indexes.specs.laws.Noting.{each_among}
 use Rattle.db_change.specs.laws.IndexCounts.{few_after}
 use Rattle.st_parse.specs.declared.statements.Assign.{Assign}
 use Rattle.db_rows.specs.Values.{values_of, row_values}
@@ -48,10 +51,15 @@ use Rattle.tx_prefs.specs.laws.Changes.{preferences_frame, other_kinds}
 use Rattle.db_state.specs.States.{StoreState, StandsForState, HasShortRows, is_of_rows, is_built, is_view, index_limit}
 use Rattle.db_state.specs.laws.Kinds.{tables_no_map}
 use Rattle.db_state.specs.laws.ShortRows.{rows_frame}
-use Rattle.db_change.specs.Updating.{updated_values, places_set, row_updated, with_updates, numbers_after, texts_set, value_changes, note_changes, update_changes}
+use Rattle.db_state.specs.laws.Heads.{store_heads}
+use Rattle.db_change.specs.Updating.{updated_values, places_set, row_updated, with_updates, numbers_after, texts_set, value_changes, update_changes}
 use Rattle.db_change.specs.laws.NewTables.{apart}
 use Rattle.std.proofs.lemmas.Bool.{or_right}
 use Rattle.db_change.specs.laws.SetValues.{SetFits, values_fit, numbers_values, is_update, set_places, value_stays}
+use Rattle.ix_context.specs.laws.RowChanges.{document_read}
+use Rattle.ix_context.specs.laws.ContextCreates.{context_laws}
+use Rattle.ix_context.specs.laws.ContextRows.{all_weaker}
+use Rattle.ix_indexes.specs.laws.Noting.{notes_of_map, notes_are}
 
 -- ---- the kinds of the changes
 
@@ -64,10 +72,6 @@ of_tables k h = ap (λ (b : Bool). b || is_of_map k) h
 
 of_map : (k : Kind) → is_of_map k ≡ true → is_of_update k ≡ true
 of_map k h = or_right (is_of_tables k) (is_of_map k) h
-
-all_weaker : (p q : Kind → Bool) → ((k : Kind) → p k ≡ true → q k ≡ true) → (ws : List (Key × Option (List ℕ))) → AllOf p ws → AllOf q ws
-all_weaker p q weaker [] all = tt
-all_weaker p q weaker (w ∷ ws) all = (weaker w.0.kind all.0, all_weaker p q weaker ws all.1)
 
 update_built : (k : Kind) → is_built k ≡ false → is_of_update k ≡ false
 update_built kind.Tables h = cc
@@ -83,9 +87,6 @@ update_rows kind.Postings h = refl
 update_rows kind.Spans h = refl
 update_rows k h = cc
 
-notes_map : (c : Content) (names : List (List ℕ)) (r : ℤ) → AllOf is_of_map (note_changes c names r)
-notes_map c names r = all_each is_of_map (λ i. changed_changes i r (document_at (at c) i r)) (λ i. all_changed i r (document_at (at c) i r)) names
-
 -- ---- keys
 
 are_changed : (i : List ℕ) (r : ℤ) (o : Option ℕ) → IsName i → IsRow r → ((d : ℕ) → o ≡ Some d → d < 2 ^ 32) → AreChanges (changed_changes i r o)
@@ -94,6 +95,11 @@ are_changed i r (Some d) name row few = (
   record { owner = name; part = (d, few d refl, refl) },
   (record { owner = name; part = (r, row, refl) }, (record { owner = name; part = (r, row, refl) }, tt)),
 )
+
+are_told : (f : Key → Option (List ℕ)) (kind : IndexKind) (i : List ℕ) (r : ℤ) → IsName i → IsRow r → ((d : ℕ) → document_at f i r ≡ Some d → d < 2 ^ 32) → AreChanges (kind_changes f kind i r Changes)
+are_told f Context i r name row few = are_changed i r (document_at f i r) name row few
+are_told f Catalogue i r name row few = tt
+are_told f Rules i r name row few = tt
 
 -- ---- the same columns
 
@@ -111,8 +117,11 @@ alike_after t columns assigns (r ∷ rows) ts q =
 
 -- ---- the rows of a statement
 
-module _ (c : Content) (m : StoreState) (t : List ℕ) (x : Table) (assigns : List Assign) (names : List (List ℕ)) (stands : StandsForState c m) (here : get m.tables t ≡ Some x) (set : SetFits assigns (others x.columns))
-    (on : AreIndexesOn kinds (looks_at_any kinds (places_set x.columns assigns)) m.indexes t names) where
+module _ (c : Content) (m : StoreState) (t : List ℕ) (x : Table) (assigns : List Assign) (es : List (List ℕ × IndexHead)) (stands : StandsForState c m) (here : get m.tables t ≡ Some x) (set : SetFits assigns (others x.columns))
+    (own_heads : All (λ e. get (store_heads m.indexes) e.0 ≡ Some e.1) es) (on : AreIndexesOn kinds (looks_at_any kinds (places_set x.columns assigns)) m.indexes t (map (λ e. e.0) es)) where
+  abbrev names : List (List ℕ)
+  names = map (λ e. e.0) es
+
   abbrev columns : List Column
   columns = others x.columns
 
@@ -126,7 +135,7 @@ module _ (c : Content) (m : StoreState) (t : List ℕ) (x : Table) (assigns : Li
   own r = value_changes t columns assigns (numbers_of (row_values m.tables t r)) r
 
   abbrev notes : ℤ → List (Key × Option (List ℕ))
-  notes r = note_changes c names r
+  notes r = heads_changes (at c) r Changes es
 
   -- a row as UPDATE tells of it
   abbrev change : ℤ → RowChange
@@ -195,7 +204,7 @@ module _ (c : Content) (m : StoreState) (t : List ℕ) (x : Table) (assigns : Li
     stands_then : (f : Key → Option (List ℕ)) → IsRow r → TablesStand f ts → TablesStand (view (own r ++ notes r) f) (step ts r)
     stands_then f row stand =
         subst (λ (g : Key → Option (List ℕ)). TablesStand g (step ts r)) (sym (view-append (own r) (notes r) f))
-        (tables_frame is_of_map (notes r) (view (own r) f) (step ts r) (notes_map c names r) tables_no_map
+        (tables_frame is_of_map (notes r) (view (own r) f) (step ts r) (notes_of_map (at c) r Changes es) tables_no_map
         (subst (λ (ws : List (Key × Option (List ℕ))). TablesStand (view ws f) (step ts r)) own_is
         (subst (TablesStand (view (insert_changes t r (numbers_of new) (texts_set 1 columns assigns)) f)) (sym step_is)
         (stand_update f ts t r at_turn.old new (texts_set 1 columns assigns) row_now row (is_update assigns columns at_turn.old at_turn.fit set) stand))))
@@ -227,18 +236,18 @@ module _ (c : Content) (m : StoreState) (t : List ℕ) (x : Table) (assigns : Li
 
   -- ---- the changes
 
-  updates_kinds : (rows : List ℤ) → AllOf is_of_update (update_changes c m t columns assigns names rows)
+  updates_kinds : (rows : List ℤ) → AllOf is_of_update (update_changes c m t columns assigns es rows)
   updates_kinds rows =
       all_each is_of_update (λ r. own r ++ notes r)
       (λ r. all-append is_of_update (own r) (notes r)
       (all_weaker is_of_tables is_of_update of_tables (own r) (all_insert t r (numbers_after columns assigns (numbers_of (row_values m.tables t r))) (texts_set 1 columns assigns)))
-      (all_weaker is_of_map is_of_update of_map (notes r) (notes_map c names r))) rows
+      (all_weaker is_of_map is_of_update of_map (notes r) (notes_of_map (at c) r Changes es))) rows
 
   -- an index on a column that is set gives its document a number that keys have
   document_few : (i : List ℕ) (r : ℤ) → IsRow r → (o : Option Index) → get m.indexes i ≡ o → is_on kinds (looks_at_any kinds places) t o ≡ true → (d : ℕ) → document_at (at c) i r ≡ Some d → d < 2 ^ 32
   document_few i r row None is on d read = cc
   document_few i r row (Some y) is on d read =
-      let stand : StandsAt (at c) m.tables i (Some y) = subst (StandsAt (at c) m.tables i) is (stands.indexes i) in
+      let stand : StandsUnder (at c) m.tables i (Some y) = subst (StandsUnder (at c) m.tables i) is (stands.indexes i) in
       let most = (context_is m.tables y (stands.state.indexes.each i y is)).numbers in
       let known = document_read (at c) i (get y.body.marks) y.body.part.given stand.part.document stand.part.row stand.part.documents (omega (arith, most)) r row in
       let within = (stand.part.documents.numbers.within r d (sym known ∙ read)).1 in
@@ -248,24 +257,25 @@ module _ (c : Content) (m : StoreState) (t : List ℕ) (x : Table) (assigns : Li
   index_named i None is on = cc
   index_named i (Some y) is on = stands.state.indexes.names i y is
 
-  notes_are : (r : ℤ) → IsRow r → (is : List (List ℕ)) → ((i : List ℕ) → is_any_of i is ≡ true → is_on kinds (looks_at_any kinds places) t (get m.indexes i) ≡ true) → AreChanges (note_changes c is r)
-  notes_are r row [] each_on = tt
-  notes_are r row (i ∷ is) each_on =
-      let first = each_on i (ap (λ (b : Bool). b || is_any_of i is) (list_same i)) in
-      are-append (changed_changes i r (document_at (at c) i r)) (note_changes c is r)
-      (are_changed i r (document_at (at c) i r) (index_named i (get m.indexes i) refl first) row (document_few i r row (get m.indexes i) refl first))
-      (notes_are r row is (λ j among. each_on j (or_right (same_list j i) (is_any_of j is) among)))
+  all_told : (r : ℤ) → IsRow r → (is : List (List ℕ × IndexHead)) → ((i : List ℕ) → is_any_of i (map (λ e. e.0) is) ≡ true → is_on kinds (looks_at_any kinds places) t (get m.indexes i) ≡ true)
+      → AreChanges (heads_changes (at c) r Changes is)
+  all_told r row [] each_on = tt
+  all_told r row (e ∷ is) each_on =
+      let first = each_on e.0 (ap (λ (b : Bool). b || is_any_of e.0 (map (λ (e : List ℕ × IndexHead). e.0) is)) (list_same e.0)) in
+      are-append (kind_changes (at c) e.1.kind e.0 r Changes) (heads_changes (at c) r Changes is)
+      (are_told (at c) e.1.kind e.0 r (index_named e.0 (get m.indexes e.0) refl first) row (document_few e.0 r row (get m.indexes e.0) refl first))
+      (all_told r row is (λ j among. each_on j (or_right (same_list j e.0) (is_any_of j (map (λ (e : List ℕ × IndexHead). e.0) is)) among)))
 
-  updates_are : (rows : List ℤ) → ((r : ℤ) → IsIn r rows → is_some (row_at m.tables t r) ≡ true) → AreChanges (update_changes c m t columns assigns names rows)
+  updates_are : (rows : List ℤ) → ((r : ℤ) → IsIn r rows → is_some (row_at m.tables t r) ≡ true) → AreChanges (update_changes c m t columns assigns es rows)
   updates_are [] there = tt
   updates_are (r ∷ rows) there =
       let row = row_is_row m.tables stands.state.tables t r (there r (inl refl)) in
       let few = (stands.state.tables.each t x here).columns.few in
       let fewer = few_others x.columns in
-      are-append (own r ++ notes r) (update_changes c m t columns assigns names rows)
+      are-append (own r ++ notes r) (update_changes c m t columns assigns es rows)
       (are-append (own r) (notes r)
       (are_insert t r (numbers_after columns assigns (numbers_of (row_values m.tables t r))) (texts_set 1 columns assigns) (stands.state.tables.names t x here) row (set_places assigns 1 columns (omega (arith, few, fewer))))
-      (notes_are r row names (λ i among. sym (on.each i) ∙ among)))
+      (all_told r row es (λ i among. sym (on.each i) ∙ among)))
       (updates_are rows (λ s later. there s (inr later)))
     where
       few_others : (cs : List Column) → length (others cs) ≤ length cs
@@ -278,12 +288,12 @@ module _ (c : Content) (m : StoreState) (t : List ℕ) (x : Table) (assigns : Li
     abbrev told : ℤ → List (Key × Option (List ℕ))
     told r = own r ++ each (row_changes_at kinds (at c) m.indexes (table_at m.tables t).columns (change r)) names
 
-    as_told : each told rows ≡ update_changes c m t columns assigns names rows
+    as_told : each told rows ≡ update_changes c m t columns assigns es rows
     as_told =
         each_among told (λ r. own r ++ notes r) rows
-        (λ r among. ap (λ (ws : List (Key × Option (List ℕ))). own r ++ ws) (sets_are (at c) m.indexes (table_at m.tables t).columns (change r) (looks_at_any kinds places) t names on (there r among) refl))
+        (λ r among. ap (λ (ws : List (Key × Option (List ℕ))). own r ++ ws) (notes_are (at c) m.indexes (table_at m.tables t).columns (change r) Changes (there r among, refl) es own_heads))
 
-    hold : IndexesHold kinds (view (update_changes c m t columns assigns names rows) (at c)) (tables_after step m.tables rows) (indexes_after kinds (looks_at_any kinds places) step m.tables t rows m.indexes)
+    hold : IndexesHold kinds (view (update_changes c m t columns assigns es rows) (at c)) (tables_after step m.tables rows) (indexes_after kinds (looks_at_any kinds places) step m.tables t rows m.indexes)
     hold =
         subst (λ (ws : List (Key × Option (List ℕ))). IndexesHold kinds (view ws (at c)) (tables_after step m.tables rows) (indexes_after kinds (looks_at_any kinds places) step m.tables t rows m.indexes)) as_told
         (rows_in_turn kinds context_laws (looks_at_any kinds places) (λ y b. refl) t names (at c) m.indexes m.tables step change (λ r. refl) is_of_tables own
@@ -295,9 +305,9 @@ module _ (c : Content) (m : StoreState) (t : List ℕ) (x : Table) (assigns : Li
         let was = option_map_some (λ (z : Table). z.columns) (get m.tables q) y.columns (sym (alike_after t x.columns assigns rows m.tables q) ∙ ap (option_map (λ (z : Table). z.columns)) is) in
         stands.state.views q was.0 was.1
 
-    pub changed_rows_stand : StandsForState (after (spell (update_changes c m t columns assigns names rows)) c) (with_updates m t x.columns assigns rows)
+    pub changed_rows_stand : StandsForState (after (spell (update_changes c m t columns assigns es rows)) c) (with_updates m t x.columns assigns rows)
     changed_rows_stand =
-        let ws = update_changes c m t columns assigns names rows in
+        let ws = update_changes c m t columns assigns es rows in
         let us = tables_after step m.tables rows in
         let ys = indexes_after kinds (looks_at_any kinds places) step m.tables t rows m.indexes in
         record {

@@ -27,15 +27,18 @@ use Rattle.tb_table.specs.laws.Rules.{delete_keeps}
 use Rattle.ix_docmap.specs.Changes.{gone_changes}
 use Rattle.ix_docmap.specs.Readings.{document_at}
 use Rattle.ix_docmap.specs.laws.Documents.{is_of_map}
-use Rattle.ix_context.specs.laws.Gone.{all_gone}
+use Rattle.db_names.specs.declared.heads.IndexKind.{IndexKind}
+use Rattle.db_names.specs.declared.heads.IndexKind.TheVariants.{Context, Catalogue, Rules}
+use Rattle.db_names.specs.declared.heads.IndexHead.{IndexHead}
 use Rattle.ix_kinds.specs.Rows.{table_at, RowChange}
 use Rattle.ix_kinds.specs.Statements.{tables_after, every, indexes_after, row_changes_at}
 use Rattle.ix_kinds.specs.RowSteps.{AreSteps, IndexesHold}
 use Rattle.ix_kinds.specs.laws.Tables.{differs, row_now}
 use Rattle.ix_kinds.specs.laws.Turns.{row_is_row, rows_in_turn}
 use Rattle.ix_indexes.specs.Indexes.{kinds, IndexesStand}
-use Rattle.ix_indexes.specs.laws.ContextCreates.{context_laws}
-use Rattle.ix_indexes.specs.laws.Rows.{each_among, goes_are}
+use Rattle.ix_indexes.specs.declared.noting.RowStep.TheVariants.{Goes}
+use Rattle.ix_indexes.specs.Noting.{kind_changes, heads_changes}
+use Rattle.ix_indexes.specs.laws.Noting.{each_among}
 use Rattle.tx_prefs.specs.Spelling.{PreferencesStand}
 use Rattle.tx_prefs.specs.laws.Changes.{preferences_frame, other_kinds}
 use Rattle.db_state.specs.laws.ShortRows.{rows_frame}
@@ -43,8 +46,11 @@ use Rattle.db_state.specs.laws.Kinds.{tables_no_map}
 use Rattle.db_state.specs.States.{StoreState, StandsForState, HasShortRows, is_of_rows, is_view, is_built, index_limit}
 use Rattle.db_change.specs.Deleting.{gone_row_changes, gone_rows_changes, without_rows}
 use Rattle.db_change.specs.laws.IndexCounts.{few_after}
-use Rattle.db_change.specs.laws.NewRows.{names_on, names_on_table}
+use Rattle.db_change.specs.laws.NewRows.{heads_on, names_on, own_heads, names_on_table}
 use Rattle.db_change.specs.laws.NewTables.{apart}
+use Rattle.ix_context.specs.laws.ContextCreates.{context_laws}
+use Rattle.ix_context.specs.laws.ContextRows.{all_weaker}
+use Rattle.ix_indexes.specs.laws.Noting.{notes_of_map, notes_are}
 
 -- ---- changes that only take entries away
 
@@ -84,15 +90,20 @@ drop_gone : (i : List ℕ) (r : ℤ) (o : Option ℕ) → AllDrop (gone_changes 
 drop_gone i r None = (refl, tt)
 drop_gone i r (Some d) = (refl, (refl, tt))
 
+drop_kind : (f : Key → Option (List ℕ)) (kind : IndexKind) (i : List ℕ) (r : ℤ) → AllDrop (kind_changes f kind i r Goes)
+drop_kind f Context i r = drop_gone i r (document_at f i r)
+drop_kind f Catalogue i r = tt
+drop_kind f Rules i r = tt
+
 drop_texts_of : (t : List ℕ) (r : ℤ) (places : List ℕ) → AllDrop (drop_texts t r places)
 drop_texts_of t r [] = tt
 drop_texts_of t r (p ∷ ps) = (refl, drop_texts_of t r ps)
 
-pub rows_drop : (f : Key → Option (List ℕ)) (t : List ℕ) (columns : List Column) (names : List (List ℕ)) (rows : List ℤ) → AllDrop (gone_rows_changes f t columns names rows)
-rows_drop f t columns names rows =
-    drop_each (gone_row_changes f t columns names)
-    (λ r. drop-append (delete_changes t columns r) (each (λ i. gone_changes i r (document_at f i r)) names) (refl, drop_texts_of t r (text_places columns))
-    (drop_each (λ i. gone_changes i r (document_at f i r)) (λ i. drop_gone i r (document_at f i r)) names))
+pub rows_drop : (f : Key → Option (List ℕ)) (t : List ℕ) (columns : List Column) (es : List (List ℕ × IndexHead)) (rows : List ℤ) → AllDrop (gone_rows_changes f t columns es rows)
+rows_drop f t columns es rows =
+    drop_each (gone_row_changes f t columns es)
+    (λ r. drop-append (delete_changes t columns r) (heads_changes f r Goes es) (refl, drop_texts_of t r (text_places columns))
+    (drop_each (λ (e : List ℕ × IndexHead). kind_changes f e.1.kind e.0 r Goes) (λ e. drop_kind f e.1.kind e.0 r) es))
     rows
 
 -- the kinds of the entries that go with a row
@@ -104,19 +115,20 @@ is_of_row kind.RowDocuments = true
 is_of_row kind.Pending = true
 is_of_row k = false
 
-all_gone_row : (i : List ℕ) (r : ℤ) (o : Option ℕ) → AllOf is_of_row (gone_changes i r o)
-all_gone_row i r None = (refl, tt)
-all_gone_row i r (Some d) = (refl, (refl, tt))
+map_of_row : (k : Kind) → is_of_map k ≡ true → is_of_row k ≡ true
+map_of_row kind.DocumentRows h = refl
+map_of_row kind.RowDocuments h = refl
+map_of_row kind.Pending h = refl
+map_of_row k h = cc
 
 all_texts : (t : List ℕ) (r : ℤ) (places : List ℕ) → AllOf is_of_row (drop_texts t r places)
 all_texts t r [] = tt
 all_texts t r (p ∷ ps) = (refl, all_texts t r ps)
 
-all_rows : (f : Key → Option (List ℕ)) (t : List ℕ) (columns : List Column) (names : List (List ℕ)) (rows : List ℤ) → AllOf is_of_row (gone_rows_changes f t columns names rows)
-all_rows f t columns names rows =
-    all_each is_of_row (gone_row_changes f t columns names)
-    (λ r. all-append is_of_row (delete_changes t columns r) (each (λ i. gone_changes i r (document_at f i r)) names) (refl, all_texts t r (text_places columns))
-    (all_each is_of_row (λ i. gone_changes i r (document_at f i r)) (λ i. all_gone_row i r (document_at f i r)) names))
+all_rows : (f : Key → Option (List ℕ)) (t : List ℕ) (columns : List Column) (es : List (List ℕ × IndexHead)) (rows : List ℤ) → AllOf is_of_row (gone_rows_changes f t columns es rows)
+all_rows f t columns es rows =
+    all_each is_of_row (gone_row_changes f t columns es)
+    (λ r. all-append is_of_row (delete_changes t columns r) (heads_changes f r Goes es) (refl, all_texts t r (text_places columns)) (all_weaker is_of_map is_of_row map_of_row (heads_changes f r Goes es) (notes_of_map f r Goes es)))
     rows
 
 row_built : (k : Kind) → is_built k ≡ false → is_of_row k ≡ false
@@ -146,19 +158,19 @@ still_there ts t x r here =
     ∙ ap (λ (b : Bool). cond b (option_map (λ (y : Table). record y { rows = remove y.rows r }) (get ts t)) (get ts t)) (list_same t)
     ∙ ap (option_map (λ (y : Table). record y { rows = remove y.rows r })) here
 
-tables_without : (f : Key → Option (List ℕ)) (ts : Tables) (t : List ℕ) (x : Table) (names : List (List ℕ)) (read : List ℕ → ℤ → Option ℕ) (rows : List ℤ)
+tables_without : (f : Key → Option (List ℕ)) (ts : Tables) (t : List ℕ) (x : Table) (notes : ℤ → List (Key × Option (List ℕ))) → ((r : ℤ) → AllOf is_of_map (notes r)) → (rows : List ℤ)
     → get ts t ≡ Some x → AreTables ts → ((r : ℤ) → IsIn r rows → IsRow r) → TablesStand f ts
-    → TablesStand (view (each (λ r. delete_changes t x.columns r ++ each (λ i. gone_changes i r (read i r)) names) rows) f) (tables_after (lose_row t) ts rows)
-tables_without f ts t x names read [] here are each_row stand = stand
-tables_without f ts t x names read (r ∷ rows) here are each_row stand =
+    → TablesStand (view (each (λ r. delete_changes t x.columns r ++ notes r) rows) f) (tables_after (lose_row t) ts rows)
+tables_without f ts t x notes all [] here are each_row stand = stand
+tables_without f ts t x notes all (r ∷ rows) here are each_row stand =
     let a = delete_changes t x.columns r in
-    let b = each (λ i. gone_changes i r (read i r)) names in
+    let b = notes r in
     let us = without_row ts t r in
     let one : TablesStand (view (a ++ b) f) us =
     subst (λ (g : Key → Option (List ℕ)). TablesStand g us) (sym (view-append a b f))
-    (tables_frame is_of_map b (view a f) us (all_each is_of_map (λ i. gone_changes i r (read i r)) (λ i. all_gone i r (read i r)) names) tables_no_map (stand_delete f ts t r x here are (each_row r (inl refl)) stand)) in
-    subst (λ (g : Key → Option (List ℕ)). TablesStand g (tables_after (lose_row t) us rows)) (sym (view-append (a ++ b) (each (λ r. delete_changes t x.columns r ++ each (λ i. gone_changes i r (read i r)) names) rows) f))
-    (tables_without (view (a ++ b) f) us t (record x { rows = remove x.rows r }) names read rows (still_there ts t x r here) (delete_keeps ts t r are) (λ s later. each_row s (inr later)) one)
+    (tables_frame is_of_map b (view a f) us (all r) tables_no_map (stand_delete f ts t r x here are (each_row r (inl refl)) stand)) in
+    subst (λ (g : Key → Option (List ℕ)). TablesStand g (tables_after (lose_row t) us rows)) (sym (view-append (a ++ b) (each (λ r. delete_changes t x.columns r ++ notes r) rows) f))
+    (tables_without (view (a ++ b) f) us t (record x { rows = remove x.rows r }) notes all rows (still_there ts t x r here) (delete_keeps ts t r are) (λ s later. each_row s (inr later)) one)
 
 same_columns : (ts : Tables) (t : List ℕ) (rows : List ℤ) (q : List ℕ) → option_map (λ (y : Table). y.columns) (get (tables_after (lose_row t) ts rows) q) ≡ option_map (λ (y : Table). y.columns) (get ts q)
 same_columns ts t [] q = refl
@@ -196,28 +208,29 @@ loses_each m t rows ts r among awaits = record {
 
 -- after these rows of a table went, each of which is there once
 pub gone_rows_stand : (c : Content) (m : StoreState) (t : List ℕ) (x : Table) (rows : List ℤ) → StandsForState c m → get m.tables t ≡ Some x → AreApart rows → ((r : ℤ) → IsIn r rows → is_some (row_at m.tables t r) ≡ true)
-    → StandsForState (after (spell (gone_rows_changes (at c) t x.columns (names_on m.indexes t) rows)) c) (without_rows m t rows)
+    → StandsForState (after (spell (gone_rows_changes (at c) t x.columns (heads_on m.indexes t) rows)) c) (without_rows m t rows)
 gone_rows_stand c m t x rows stands here once there =
+    let es = heads_on m.indexes t in
     let names = names_on m.indexes t in
-    let ws = gone_rows_changes (at c) t x.columns names rows in
+    let ws = gone_rows_changes (at c) t x.columns es rows in
     let seen = at_view ws c in
     let is_row : (r : ℤ) → IsIn r rows → IsRow r = λ r among. row_is_row m.tables stands.state.tables t r (there r among) in
     let told =
     rows_in_turn kinds context_laws (every kinds) (λ x b. refl) t names (at c) m.indexes m.tables (lose_row t) (going m t) (λ r. refl) is_of_tables (λ r. delete_changes t x.columns r) (λ r. all_delete t x.columns r) apart
     rows (loses_each m t rows) once is_row (names_on_table m.indexes t) (record { tables = stands.state.tables; rules = stands.state.indexes; stand = stands.indexes }) in
     let same : each (λ r. delete_changes t x.columns r ++ each (row_changes_at kinds (at c) m.indexes (table_at m.tables t).columns (going m t r)) names) rows ≡ ws =
-    each_among (λ r. delete_changes t x.columns r ++ each (row_changes_at kinds (at c) m.indexes (table_at m.tables t).columns (going m t r)) names) (gone_row_changes (at c) t x.columns names) rows
-    (λ r among. ap (λ (notes : List (Key × Option (List ℕ))). delete_changes t x.columns r ++ notes) (goes_are (at c) m.indexes (table_at m.tables t).columns (going m t r) (every kinds) t names (names_on_table m.indexes t) (there r among) refl)) in
+    each_among (λ r. delete_changes t x.columns r ++ each (row_changes_at kinds (at c) m.indexes (table_at m.tables t).columns (going m t r)) names) (gone_row_changes (at c) t x.columns es) rows
+    (λ r among. ap (λ (notes : List (Key × Option (List ℕ))). delete_changes t x.columns r ++ notes) (notes_are (at c) m.indexes (table_at m.tables t).columns (going m t r) Goes (there r among, refl) es (own_heads m.indexes t))) in
     let hold : IndexesHold kinds (view ws (at c)) (tables_after (lose_row t) m.tables rows) (indexes_after kinds (every kinds) (lose_row t) m.tables t rows m.indexes) =
     subst (λ (ws : List (Key × Option (List ℕ))). IndexesHold kinds (view ws (at c)) (tables_after (lose_row t) m.tables rows) (indexes_after kinds (every kinds) (lose_row t) m.tables t rows m.indexes)) same told in
     record {
-      only = drops_leave ws c (rows_drop (at c) t x.columns names rows) stands.only;
+      only = drops_leave ws c (rows_drop (at c) t x.columns es rows) stands.only;
       tables = subst (λ (f : Key → Option (List ℕ)). TablesStand f (tables_after (lose_row t) m.tables rows)) (sym seen)
-          (tables_without (at c) m.tables t x names (λ i r. document_at (at c) i r) rows here stands.state.tables (λ r among. row_is_row m.tables stands.state.tables t r (there r among)) stands.tables);
+          (tables_without (at c) m.tables t x (λ r. heads_changes (at c) r Goes es) (λ r. notes_of_map (at c) r Goes es) rows here stands.state.tables (λ r among. row_is_row m.tables stands.state.tables t r (there r among)) stands.tables);
       indexes = subst (λ (f : Key → Option (List ℕ)). IndexesStand f (tables_after (lose_row t) m.tables rows) (indexes_after kinds (every kinds) (lose_row t) m.tables t rows m.indexes)) (sym seen) hold.stand;
-      unbuilt = λ k h. at-after ws c k ∙ told_frame is_of_row ws k (at c k) (all_rows (at c) t x.columns names rows) (row_built k.kind h) ∙ stands.unbuilt k h;
-      preferences = subst (λ (f : Key → Option (List ℕ)). PreferencesStand f m.preferences) (sym seen) (preferences_frame is_of_row ws (at c) m.preferences (all_rows (at c) t x.columns names rows) (other_kinds is_of_row refl refl refl) stands.preferences);
-      short_rows = subst HasShortRows (sym seen) (rows_frame is_of_row ws (at c) (all_rows (at c) t x.columns names rows) row_rows stands.short_rows);
+      unbuilt = λ k h. at-after ws c k ∙ told_frame is_of_row ws k (at c k) (all_rows (at c) t x.columns es rows) (row_built k.kind h) ∙ stands.unbuilt k h;
+      preferences = subst (λ (f : Key → Option (List ℕ)). PreferencesStand f m.preferences) (sym seen) (preferences_frame is_of_row ws (at c) m.preferences (all_rows (at c) t x.columns es rows) (other_kinds is_of_row refl refl refl) stands.preferences);
+      short_rows = subst HasShortRows (sym seen) (rows_frame is_of_row ws (at c) (all_rows (at c) t x.columns es rows) row_rows stands.short_rows);
       state = record {
         tables = hold.tables;
         indexes = hold.rules;

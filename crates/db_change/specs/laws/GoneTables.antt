@@ -16,25 +16,24 @@ use Rattle.tb_table.specs.Spelling.{TablesStand, remove_changes}
 use Rattle.tb_table.specs.laws.Changes.{is_of_tables, tables_frame}
 use Rattle.tb_table.specs.laws.Removals.{all_remove, are_remove, stand_remove, get-without_table}
 use Rattle.tb_table.specs.laws.Rules.{remove_keeps}
-use Rattle.ix_context.specs.Spelling.{is_of_indexes}
-use Rattle.ix_context.specs.Removing.{remove_all_changes}
 use Rattle.ix_kinds.specs.Statements.{every, is_on, AreIndexesOn, without_indexes_on}
 use Rattle.ix_kinds.specs.Drops.{HaveSameTablesBut, LosesIndexes}
 use Rattle.ix_kinds.specs.laws.Drops.{is_of_table, drop_table_stands, drop_table_keeps}
 use Rattle.ix_indexes.specs.Indexes.{Index, kinds, IndexesStand}
-use Rattle.ix_indexes.specs.laws.ContextCreates.{context_laws}
-use Rattle.ix_context.specs.laws.Removing.{remove_all_loses, index_changes_remove_all}
-use Rattle.ix_context.specs.laws.Well.{are_changes, all_of_indexes}
+use Rattle.ix_indexes.specs.laws.Removing.{remove_all_loses, all_of_indexes, all_removals_are, told_all, none_all}
 use Rattle.db_names.specs.laws.Pairs.{rises_filter}
 use Rattle.tx_prefs.specs.Spelling.{PreferencesStand}
 use Rattle.tx_prefs.specs.laws.Changes.{preferences_frame, other_kinds}
-use Rattle.db_state.specs.States.{StoreState, StandsForState, HasShortRows, is_built, is_view, indexes_on, index_limit}
-use Rattle.db_state.specs.laws.ShortRows.{rows_frame, rows_put}
+use Rattle.db_state.specs.States.{StoreState, StandsForState, HasShortRows, is_view, indexes_on, index_limit}
+use Rattle.db_state.specs.laws.ShortRows.{rows_frame, rows_left}
 use Rattle.db_state.specs.laws.EachValue.{entries-from_rising}
-use Rattle.db_state.specs.laws.Kinds.{indexes_built, tables_no_indexes, built_or_none, of_every_kind}
+use Rattle.db_state.specs.laws.Kinds.{tables_no_indexes}
 use Rattle.db_state.specs.laws.Removing.{fewer_kept}
 use Rattle.db_change.specs.Dropping.{with_table_dropped, drop_table_changes}
 use Rattle.db_change.specs.laws.NewTables.{tables_built, rows_tables, apart}
+use Rattle.ix_kinds.specs.Standing.{is_of_indexes}
+use Rattle.ix_indexes.specs.Removing.{remove_all_changes}
+use Rattle.ix_context.specs.laws.ContextCreates.{context_laws}
 
 -- ---- the state keeps its rules
 
@@ -68,7 +67,7 @@ module _ (c : Content) (m : StoreState) (t : List ℕ) (names : List (List ℕ))
   all_gone = view (remove_all_changes c names) of_tables_gone
 
   same_indexes : (k : Key) → is_of_indexes k.kind ≡ true → of_tables_gone k ≡ at c k
-  same_indexes k of = told_frame is_of_tables (remove_changes t c) k (at c k) (all_remove t c) (apart k.kind (of_every_kind k.kind of))
+  same_indexes k of = told_frame is_of_tables (remove_changes t c) k (at c k) (all_remove t c) (apart k.kind of)
 
   -- a name is that of an index on the table
   all_on : (o : Option Index) → is_on kinds (every kinds) t o ≡ is_of_table t o
@@ -79,18 +78,12 @@ module _ (c : Content) (m : StoreState) (t : List ℕ) (names : List (List ℕ))
       go true = refl
       go false = refl
 
-  -- entries of kinds that aren't built stay as they are
-  frame : (k : Key) → is_built k.kind ≡ false → all_gone k ≡ at c k
-  frame k h =
-      told_frame is_of_indexes (remove_all_changes c names) k (of_tables_gone k) (all_of_indexes (remove_all_changes c names) (index_changes_remove_all c names stands.only)) (indexes_built k.kind h)
-      ∙ told_frame is_of_tables (remove_changes t c) k (at c k) (all_remove t c) (tables_built k.kind h)
-
   loses : LosesIndexes (λ q. is_of_table t (get m.indexes q)) (at c) all_gone
   loses =
       let lost = remove_all_loses names c of_tables_gone same_indexes in
       record {
-        none = λ k of gone. ⊎_elim (λ own. lost.none k own (on.each k.owner ∙ all_on (get m.indexes k.owner) ∙ gone)) (λ unbuilt. frame k unbuilt ∙ stands.unbuilt k unbuilt) (built_or_none k.kind of);
-        others = λ k of other. ⊎_elim (λ own. lost.others k own (on.each k.owner ∙ all_on (get m.indexes k.owner) ∙ other) ∙ same_indexes k own) (λ unbuilt. frame k unbuilt) (built_or_none k.kind of);
+        none = λ k of gone. lost.none k of (on.each k.owner ∙ all_on (get m.indexes k.owner) ∙ gone);
+        others = λ k of other. lost.others k of (on.each k.owner ∙ all_on (get m.indexes k.owner) ∙ other) ∙ same_indexes k of;
       }
 
   pub dropped_stands : StandsForState (after (spell (drop_table_changes t c names)) c) (with_table_dropped m t)
@@ -98,22 +91,19 @@ module _ (c : Content) (m : StoreState) (t : List ℕ) (names : List (List ℕ))
       let us = remove_changes t c in
       let vs = remove_all_changes c names in
       let ws = drop_table_changes t c names in
-      let are = index_changes_remove_all c names stands.only in
       let seen : at (after (spell ws) c) ≡ all_gone = at_view ws c ∙ view-append us vs (at c) in
       record {
-        only = only-after ws c stands.only (are-append us vs (are_remove t c stands.only) (are_changes vs are));
+        only = only-after ws c stands.only (are-append us vs (are_remove t c stands.only) (all_removals_are c names stands.only));
         unbuilt = λ k h.
             at-after ws c k ∙ told-append us vs k (at c k)
-            ∙ told_frame is_of_indexes vs k (told us k (at c k)) (all_of_indexes vs are) (indexes_built k.kind h)
-            ∙ told_frame is_of_tables us k (at c k) (all_remove t c) (tables_built k.kind h)
-            ∙ stands.unbuilt k h;
+            ∙ none_all c names k (told us k (at c k)) (told_frame is_of_tables us k (at c k) (all_remove t c) (tables_built k.kind h) ∙ stands.unbuilt k h);
         tables = subst (λ (f : Key → Option (List ℕ)). TablesStand f (without_table m.tables t)) (sym seen)
-            (tables_frame is_of_indexes vs of_tables_gone (without_table m.tables t) (all_of_indexes vs are) tables_no_indexes
+            (tables_frame is_of_indexes vs of_tables_gone (without_table m.tables t) (all_of_indexes c names) tables_no_indexes
             (stand_remove (at c) m.tables t c (record { table = λ rest. refl; numbers = λ rest. refl; texts = λ rest. refl }) stands.tables));
         indexes = subst (λ (f : Key → Option (List ℕ)). IndexesStand f (without_table m.tables t) (without_indexes_on m.indexes t)) (sym seen)
             (drop_table_stands kinds context_laws (at c) all_gone m.tables (without_table m.tables t) m.indexes t loses (others_same m.tables t) stands.indexes);
-        preferences = subst (λ (f : Key → Option (List ℕ)). PreferencesStand f m.preferences) (sym seen) (preferences_frame is_of_indexes vs of_tables_gone m.preferences (all_of_indexes vs are) (other_kinds is_of_indexes refl refl refl) (preferences_frame is_of_tables us (at c) m.preferences (all_remove t c) (other_kinds is_of_tables refl refl refl) stands.preferences));
-        short_rows = subst HasShortRows (sym seen) (rows_put vs of_tables_gone are (rows_frame is_of_tables us (at c) (all_remove t c) rows_tables stands.short_rows));
+        preferences = subst (λ (f : Key → Option (List ℕ)). PreferencesStand f m.preferences) (sym seen) (preferences_frame is_of_indexes vs of_tables_gone m.preferences (all_of_indexes c names) (other_kinds is_of_indexes refl refl refl) (preferences_frame is_of_tables us (at c) m.preferences (all_remove t c) (other_kinds is_of_tables refl refl refl) stands.preferences));
+        short_rows = subst HasShortRows (sym seen) (rows_left of_tables_gone all_gone (λ k v has. told_all c names k (of_tables_gone k) v has) (rows_frame is_of_tables us (at c) (all_remove t c) rows_tables stands.short_rows));
         state = record {
           tables = remove_keeps m.tables t stands.state.tables;
           indexes = drop_table_keeps kinds context_laws m.tables (without_table m.tables t) m.indexes t (others_same m.tables t) stands.state.indexes;

@@ -25,8 +25,6 @@ use Rattle.ix_kinds.specs.Standing.{is_of_indexes}
 use Rattle.ix_kinds.specs.laws.Standing.{indexes_frame}
 use Rattle.ix_kinds.specs.laws.Creates.{table_stands, table_keeps}
 use Rattle.ix_indexes.specs.Indexes.{kinds, IndexesStand}
-use Rattle.ix_indexes.specs.laws.ContextRows.{context_alone}
-use Rattle.ix_indexes.specs.laws.ContextCreates.{context_laws}
 use Rattle.st_parse.specs.declared.statements.ColumnText.{ColumnText}
 use Rattle.st_parse.specs.declared.statements.SortText.{SortText}
 use Rattle.st_parse.specs.declared.statements.SortText.TheVariants.{Number as NumberText, Varchar2 as Varchar2Text, Clob as ClobText}
@@ -40,6 +38,8 @@ use Rattle.db_state.specs.laws.ShortRows.{rows_frame}
 use Rattle.db_state.specs.States.{HasShortRows, is_of_rows, StoreState, StandsForState, is_view, is_built}
 use Rattle.std.proofs.lemmas.Bool.{or_parts as either, and_parts as both, not-true as not_true}
 use Rattle.ct_base.specs.laws.Options.{no_value as no_some}
+use Rattle.ix_context.specs.laws.ContextRows.{context_alone}
+use Rattle.ix_context.specs.laws.ContextCreates.{context_laws}
 
 -- No check of a new table holds.
 pub record IsFreeTable (m : StoreState) (t : List ℕ) (columns : List ColumnText) : Type 0 where

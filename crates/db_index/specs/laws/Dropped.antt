@@ -13,21 +13,20 @@ use Rattle.ct_entry.specs.laws.Changes.{at_view, at-after, only-after, told_fram
 use Rattle.ct_entry.specs.laws.MapRemovals.{entries_without}
 use Rattle.tb_table.specs.Spelling.{TablesStand}
 use Rattle.tb_table.specs.laws.Changes.{tables_frame}
-use Rattle.ix_context.specs.Spelling.{is_of_indexes}
-use Rattle.ix_context.specs.Removing.{index_removals}
 use Rattle.ix_kinds.specs.Drops.{LosesIndexes}
 use Rattle.ix_kinds.specs.laws.Drops.{drop_stands, drop_keeps}
 use Rattle.ix_indexes.specs.Indexes.{Index, kinds, IndexesStand}
-use Rattle.ix_indexes.specs.laws.ContextCreates.{context_laws}
-use Rattle.ix_context.specs.laws.Removing.{remove_loses, index_changes_remove}
-use Rattle.ix_context.specs.laws.Well.{are_changes, all_of_indexes}
+use Rattle.ix_indexes.specs.laws.Removing.{remove_loses, all_of_index, removals_are, told_one, none_one}
 use Rattle.tx_prefs.specs.Spelling.{PreferencesStand}
 use Rattle.tx_prefs.specs.laws.Changes.{preferences_frame, other_kinds}
-use Rattle.db_state.specs.States.{StoreState, StandsForState, HasShortRows, is_built, indexes_on, index_limit}
-use Rattle.db_state.specs.laws.ShortRows.{rows_put}
+use Rattle.db_state.specs.States.{StoreState, StandsForState, HasShortRows, indexes_on, index_limit}
+use Rattle.db_state.specs.laws.ShortRows.{rows_left}
 use Rattle.db_state.specs.laws.Removing.{fewer_kept}
 use Rattle.db_index.specs.Dropping.{with_index_dropped}
-use Rattle.db_state.specs.laws.Kinds.{indexes_built, tables_no_indexes, built_or_none}
+use Rattle.db_state.specs.laws.Kinds.{tables_no_indexes}
+use Rattle.ix_kinds.specs.Standing.{is_of_indexes}
+use Rattle.ix_indexes.specs.Removing.{index_removals}
+use Rattle.ix_context.specs.laws.ContextCreates.{context_laws}
 
 -- a table has no more indexes than before
 few_dropped : (xs : Names Index) (i t : List ℕ) → length (indexes_on xs t) ≤ index_limit → length (indexes_on (remove xs i) t) ≤ index_limit
@@ -39,27 +38,18 @@ few_dropped xs i t few =
 
 -- its entries are gone, and all others stay
 loses : (c : Content) (m : StoreState) (i : List ℕ) → StandsForState c m → LosesIndexes (λ q. same_list q i) (at c) (view (index_removals i c) (at c))
-loses c m i stands =
-    let lost = remove_loses i c (at c) (λ k of. refl) in
-    record {
-      none = λ k of gone. ⊎_elim (λ own. lost.none k own gone) (λ unbuilt. frame k unbuilt ∙ stands.unbuilt k unbuilt) (built_or_none k.kind of);
-      others = λ k of other. ⊎_elim (λ own. lost.others k own other) (λ unbuilt. frame k unbuilt) (built_or_none k.kind of);
-    }
-  where
-    frame : (k : Key) → is_built k.kind ≡ false → view (index_removals i c) (at c) k ≡ at c k
-    frame k h = told_frame is_of_indexes (index_removals i c) k (at c k) (all_of_indexes (index_removals i c) (index_changes_remove i c stands.only)) (indexes_built k.kind h)
+loses c m i stands = remove_loses i c (at c) (λ k of. refl)
 
 pub dropped_stands : (c : Content) (m : StoreState) (i : List ℕ) → StandsForState c m → StandsForState (after (spell (index_removals i c)) c) (with_index_dropped m i)
 dropped_stands c m i stands =
     let ws = index_removals i c in
-    let are = index_changes_remove i c stands.only in
     record {
-      only = only-after ws c stands.only (are_changes ws are);
-      unbuilt = λ k h. at-after ws c k ∙ told_frame is_of_indexes ws k (at c k) (all_of_indexes ws are) (indexes_built k.kind h) ∙ stands.unbuilt k h;
-      tables = subst (λ (f : Key → Option (List ℕ)). TablesStand f m.tables) (sym (at_view ws c)) (tables_frame is_of_indexes ws (at c) m.tables (all_of_indexes ws are) tables_no_indexes stands.tables);
+      only = only-after ws c stands.only (removals_are i c stands.only);
+      unbuilt = λ k h. at-after ws c k ∙ none_one i c k (at c k) (stands.unbuilt k h);
+      tables = subst (λ (f : Key → Option (List ℕ)). TablesStand f m.tables) (sym (at_view ws c)) (tables_frame is_of_indexes ws (at c) m.tables (all_of_index i c) tables_no_indexes stands.tables);
       indexes = subst (λ (f : Key → Option (List ℕ)). IndexesStand f m.tables (remove m.indexes i)) (sym (at_view ws c)) (drop_stands kinds context_laws (at c) (view ws (at c)) m.tables m.indexes i (loses c m i stands) stands.indexes);
-      preferences = subst (λ (f : Key → Option (List ℕ)). PreferencesStand f m.preferences) (sym (at_view ws c)) (preferences_frame is_of_indexes ws (at c) m.preferences (all_of_indexes ws are) (other_kinds is_of_indexes refl refl refl) stands.preferences);
-      short_rows = subst HasShortRows (sym (at_view ws c)) (rows_put ws (at c) are stands.short_rows);
+      preferences = subst (λ (f : Key → Option (List ℕ)). PreferencesStand f m.preferences) (sym (at_view ws c)) (preferences_frame is_of_indexes ws (at c) m.preferences (all_of_index i c) (other_kinds is_of_indexes refl refl refl) stands.preferences);
+      short_rows = subst HasShortRows (sym (at_view ws c)) (rows_left (at c) (view ws (at c)) (λ k v has. told_one i c k (at c k) v has) stands.short_rows);
       state = record {
         tables = stands.state.tables;
         indexes = drop_keeps kinds context_laws m.tables m.indexes i stands.state.indexes;

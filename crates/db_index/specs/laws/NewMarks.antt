@@ -23,31 +23,32 @@ use Rattle.tb_table.specs.Spelling.{TablesStand}
 use Rattle.tb_table.specs.laws.Changes.{tables_frame}
 use Rattle.tx_settings.specs.declared.preferences.Prefs.{Prefs}
 use Rattle.tx_settings.specs.PrefsBytes.{IsPrefs}
-use Rattle.ix_context.specs.Spelling.{is_of_indexes}
 use Rattle.ix_kinds.specs.Rows.{table_at}
 use Rattle.ix_kinds.specs.Targets.{IsTextSort, HasTextAt, IsTarget}
 use Rattle.ix_kinds.specs.Statements.{index_after_sync, indexes_after_sync, new_index, with_index, IsFreeColumn}
 use Rattle.ix_kinds.specs.laws.Syncs.{sync_stands, sync_keeps}
 use Rattle.ix_kinds.specs.laws.Creates.{create_stands, create_keeps}
+use Rattle.db_names.specs.declared.heads.IndexKind.{IndexKind}
 use Rattle.db_names.specs.declared.heads.IndexKind.TheVariants.{Context}
-use Rattle.ix_context.specs.Indexes.{rows_in}
-use Rattle.ix_context.specs.Rules.{most_given}
-use Rattle.ix_context.specs.Promises.{HasAllRows}
-use Rattle.ix_context.specs.laws.Well.{AreIndexChanges, are_changes, all_of_indexes, index_changes_sync, index_changes_create}
-use Rattle.ix_indexes.specs.Contexts.{rows_within}
+use Rattle.db_names.specs.Heads.{index_code}
+use Rattle.db_state.specs.Lookups.{is_on_column}
+use Rattle.ix_context.specs.Indexes.{most_given, HasAllRows, rows_within}
+use Rattle.ix_context.specs.laws.Well.{AreIndexChanges, are_changes, all_of_context, index_changes_sync, index_changes_create}
 use Rattle.ix_indexes.specs.Indexes.{Index, kinds, IndexesStand, pending_rows}
-use Rattle.ix_indexes.specs.laws.ContextCreates.{context_laws}
-use Rattle.ix_indexes.specs.laws.Bridges.{old_of, olds, old_there, old_are, same_sync, same_rows, same_create}
+use Rattle.ix_indexes.specs.laws.Indexes.{context_is}
+use Rattle.ix_kinds.specs.laws.Tables.{table_is}
 use Rattle.db_index.specs.Syncing.{has_too_many, with_synced}
-use Rattle.db_index.specs.Indexing.{is_text_sort, is_text_at, has_context_index, has_too_many_rows, all_rows, target, with_new_index, IsFreeIndex}
+use Rattle.db_index.specs.Indexing.{is_text_sort, is_text_at, has_index_on, has_too_many_rows, all_rows, target, with_new_index, IsFreeIndex}
 use Rattle.tx_prefs.specs.Spelling.{PreferencesStand}
 use Rattle.tx_prefs.specs.laws.Changes.{preferences_frame, other_kinds}
 use Rattle.db_state.specs.laws.ShortRows.{rows_put}
-use Rattle.db_state.specs.laws.Kinds.{indexes_built, tables_no_indexes}
+use Rattle.db_state.specs.laws.Kinds.{context_built, tables_no_context}
 use Rattle.db_state.specs.States.{StoreState, IsState, StandsForState, HasShortRows, indexes_on, index_limit}
 use Rattle.db_index.specs.laws.Counting.{one, counted, count_insert, one_true, one_false}
 use Rattle.std.proofs.lemmas.Bool.{or_parts as either}
 use Rattle.ct_base.specs.laws.Options.{no_value as no_some}
+use Rattle.ix_context.specs.laws.ContextCreates.{context_laws}
+use Rattle.ix_context.specs.Spelling.{is_of_context}
 
 -- ---- the state after a synchronisation
 
@@ -75,8 +76,9 @@ few_synced ts xs i x there t =
 -- the changes are ones of the entries of indexes
 sync_changes_are : (m : StoreState) (i : List ℕ) (x : Index) → IsState m → get m.indexes i ≡ Some x → has_too_many x ≡ false → AreIndexChanges (kinds.sync_changes tt (table_at m.tables x.table) i x)
 sync_changes_are m i x state there few =
-    subst AreIndexChanges (same_sync m.tables i x)
-    (index_changes_sync m.tables (olds m.indexes) i (old_of x) state.tables (old_are m.tables m.indexes state.indexes) (old_there m.indexes i x there) (leb-true (x.body.part.given + length (pending_rows x)) most_given (room_left x few)))
+    let index = state.indexes.each i x there in
+    index_changes_sync (table_at m.tables x.table) i x (table_is m.tables x.table index.target.table state.tables index.target.there) (state.indexes.names i x there) (state.tables.names x.table index.target.table index.target.there)
+    index.prefs (context_is m.tables x index) (leb-true (x.body.part.given + length (pending_rows x)) most_given (room_left x few))
 
 pub synced_stands : (c : Content) (m : StoreState) (i : List ℕ) (x : Index) → StandsForState c m → get m.indexes i ≡ Some x → has_too_many x ≡ false → StandsForState (after (spell (kinds.sync_changes tt (table_at m.tables x.table) i x)) c) (with_synced m i)
 synced_stands c m i x stands there few =
@@ -84,10 +86,10 @@ synced_stands c m i x stands there few =
     let are = sync_changes_are m i x stands.state there few in
     record {
       only = only-after ws c stands.only (are_changes ws are);
-      unbuilt = λ k h. at-after ws c k ∙ told_frame is_of_indexes ws k (at c k) (all_of_indexes ws are) (indexes_built k.kind h) ∙ stands.unbuilt k h;
-      tables = subst (λ (f : Key → Option (List ℕ)). TablesStand f m.tables) (sym (at_view ws c)) (tables_frame is_of_indexes ws (at c) m.tables (all_of_indexes ws are) tables_no_indexes stands.tables);
+      unbuilt = λ k h. at-after ws c k ∙ told_frame is_of_context ws k (at c k) (all_of_context ws are) (context_built k.kind h) ∙ stands.unbuilt k h;
+      tables = subst (λ (f : Key → Option (List ℕ)). TablesStand f m.tables) (sym (at_view ws c)) (tables_frame is_of_context ws (at c) m.tables (all_of_context ws are) tables_no_context stands.tables);
       indexes = subst (λ (f : Key → Option (List ℕ)). IndexesStand f m.tables (indexes_after_sync kinds tt m.tables i m.indexes)) (sym (at_view ws c)) (sync_stands kinds context_laws (at c) m.tables m.indexes tt i x there (room_left x few) stands.state.tables stands.state.indexes stands.indexes);
-      preferences = subst (λ (f : Key → Option (List ℕ)). PreferencesStand f m.preferences) (sym (at_view ws c)) (preferences_frame is_of_indexes ws (at c) m.preferences (all_of_indexes ws are) (other_kinds is_of_indexes refl refl refl) stands.preferences);
+      preferences = subst (λ (f : Key → Option (List ℕ)). PreferencesStand f m.preferences) (sym (at_view ws c)) (preferences_frame is_of_context ws (at c) m.preferences (all_of_context ws are) (other_kinds is_of_context refl refl refl) stands.preferences);
       short_rows = subst HasShortRows (sym (at_view ws c)) (rows_put ws (at c) are stands.short_rows);
       state = record {
         tables = stands.state.tables;
@@ -114,21 +116,22 @@ target_of_texts : (m : StoreState) (t : List ℕ) (x : Table) (place : ℕ) → 
 target_of_texts m t x place there texts = record { table = x; there = there; texts = text_column x.columns place texts }
 
 -- no index is on the column
-no_entry : (t : List ℕ) (place : ℕ) (es : List (List ℕ × Index)) → list_any (λ (e : List ℕ × Index). same_list e.1.table t && (e.1.column == place)) es ≡ false
-    → (j : List ℕ) (y : Index) → find (slice_cmp nat_cmp) j es ≡ Some y → (same_list y.table t && (y.column == place)) ≡ false
-no_entry t place [] h j y is = cc
-no_entry t place (e ∷ es) h j y is =
-    let b = either (same_list e.1.table t && (e.1.column == place)) (list_any (λ (e : List ℕ × Index). same_list e.1.table t && (e.1.column == place)) es) h in
-    go (eq_by_cmp (slice_cmp nat_cmp) j e.0) is b.0 (no_entry t place es b.1 j y)
+no_entry : (kind : IndexKind) (t : List ℕ) (place : ℕ) (es : List (List ℕ × Index)) → list_any (λ (e : List ℕ × Index). is_on_column kind t place e.1) es ≡ false
+    → (j : List ℕ) (y : Index) → find (slice_cmp nat_cmp) j es ≡ Some y → is_on_column kind t place y ≡ false
+no_entry kind t place [] h j y is = cc
+no_entry kind t place (e ∷ es) h j y is =
+    let b = either (is_on_column kind t place e.1) (list_any (λ (e : List ℕ × Index). is_on_column kind t place e.1) es) h in
+    go (eq_by_cmp (slice_cmp nat_cmp) j e.0) is b.0 (no_entry kind t place es b.1 j y)
   where
-    go : (b : Bool) → cond b (Some e.1) (find (slice_cmp nat_cmp) j es) ≡ Some y → (same_list e.1.table t && (e.1.column == place)) ≡ false → (find (slice_cmp nat_cmp) j es ≡ Some y → (same_list y.table t && (y.column == place)) ≡ false) → (same_list y.table t && (y.column == place)) ≡ false
-    go true is none rest = let e1 : e.1 ≡ y = cc in subst (λ (z : Index). (same_list z.table t && (z.column == place)) ≡ false) e1 none
+    go : (b : Bool) → cond b (Some e.1) (find (slice_cmp nat_cmp) j es) ≡ Some y → is_on_column kind t place e.1 ≡ false → (find (slice_cmp nat_cmp) j es ≡ Some y → is_on_column kind t place y ≡ false) → is_on_column kind t place y ≡ false
+    go true is none rest = let e1 : e.1 ≡ y = cc in subst (λ (z : Index). is_on_column kind t place z ≡ false) e1 none
     go false is none rest = rest is
 
-column_free : (xs : Names Index) (t : List ℕ) (place : ℕ) → has_context_index xs t place ≡ false → IsFreeColumn kinds xs (target t place) Context
-column_free xs t place h j y is table column kind =
-    let none = no_entry t place (entries xs) h j y (sym (get-entries xs j) ∙ is) in
-    let yes : (same_list y.table t && (y.column == place)) ≡ true = and_from (same_list y.table t) (y.column == place) (ap (λ (u : List ℕ). same_list u t) table ∙ list_same t) (eq-eqb y.column place column) in
+column_free : (kind : IndexKind) (xs : Names Index) (t : List ℕ) (place : ℕ) → has_index_on kind xs t place ≡ false → IsFreeColumn kinds xs (target t place) kind
+column_free kind xs t place h j y is table column of_kind =
+    let none = no_entry kind t place (entries xs) h j y (sym (get-entries xs j) ∙ is) in
+    let on : (same_list y.table t && (y.column == place)) ≡ true = and_from (same_list y.table t) (y.column == place) (ap (λ (u : List ℕ). same_list u t) table ∙ list_same t) (eq-eqb y.column place column) in
+    let yes : is_on_column kind t place y ≡ true = and_from (same_list y.table t && (y.column == place)) (index_code (kinds.kind y.body) == index_code kind) on (eq-eqb (index_code (kinds.kind y.body)) (index_code kind) (ap index_code of_kind)) in
     let wrong : true ≡ false = sym yes ∙ none in
     cc
 
@@ -178,21 +181,21 @@ new_index_stands c m i t x place prefs stands name are_prefs free =
     let ws = kinds.create_changes all_rows tt (table_at m.tables t) i (target t place) prefs in
     let few = either (nat_le index_limit (length (indexes_on m.indexes t))) (has_too_many_rows m t) free.few in
     let room : kinds.can_create (table_at m.tables t) all_rows ≡ true = not_false (kinds.can_create (table_at m.tables t) all_rows) few.1 in
-    let rows : length (rows_in m.tables t all_rows) ≤ most_given = subst (λ (rs : List ℤ). length rs ≤ most_given) (sym (same_rows m.tables t all_rows)) (leb-true (length (rows_within (table_at m.tables t) all_rows)) most_given room) in
-    let taken = either (is_some (get m.indexes i)) (has_context_index m.indexes t place) free.free in
+    let rows = leb-true (length (rows_within (table_at m.tables t) all_rows)) most_given room in
+    let taken = either (is_some (get m.indexes i)) (has_index_on Context m.indexes t place) free.free in
     let none : get m.indexes i ≡ None = no_some (get m.indexes i) taken.0 in
-    let are = subst AreIndexChanges (same_create m.tables i (target t place) prefs all_rows) (index_changes_create m.tables i (target t place) prefs all_rows stands.state.tables name (stands.state.tables.names t x free.there) are_prefs rows) in
+    let are = index_changes_create (table_at m.tables t) i (target t place) prefs all_rows (table_is m.tables t x stands.state.tables free.there) name (stands.state.tables.names t x free.there) are_prefs rows in
     let on = target_of_texts m t x place free.there free.texts in
     record {
       only = only-after ws c stands.only (are_changes ws are);
-      unbuilt = λ k h. at-after ws c k ∙ told_frame is_of_indexes ws k (at c k) (all_of_indexes ws are) (indexes_built k.kind h) ∙ stands.unbuilt k h;
-      tables = subst (λ (f : Key → Option (List ℕ)). TablesStand f m.tables) (sym (at_view ws c)) (tables_frame is_of_indexes ws (at c) m.tables (all_of_indexes ws are) tables_no_indexes stands.tables);
+      unbuilt = λ k h. at-after ws c k ∙ told_frame is_of_context ws k (at c k) (all_of_context ws are) (context_built k.kind h) ∙ stands.unbuilt k h;
+      tables = subst (λ (f : Key → Option (List ℕ)). TablesStand f m.tables) (sym (at_view ws c)) (tables_frame is_of_context ws (at c) m.tables (all_of_context ws are) tables_no_context stands.tables);
       indexes = subst (λ (f : Key → Option (List ℕ)). IndexesStand f m.tables (with_index kinds all_rows tt m.tables i (target t place) prefs m.indexes)) (sym (at_view ws c)) (create_stands kinds context_laws (at c) m.tables m.indexes all_rows tt i (target t place) prefs none on are_prefs every_row room stands.state.tables stands.indexes);
-      preferences = subst (λ (f : Key → Option (List ℕ)). PreferencesStand f m.preferences) (sym (at_view ws c)) (preferences_frame is_of_indexes ws (at c) m.preferences (all_of_indexes ws are) (other_kinds is_of_indexes refl refl refl) stands.preferences);
+      preferences = subst (λ (f : Key → Option (List ℕ)). PreferencesStand f m.preferences) (sym (at_view ws c)) (preferences_frame is_of_context ws (at c) m.preferences (all_of_context ws are) (other_kinds is_of_context refl refl refl) stands.preferences);
       short_rows = subst HasShortRows (sym (at_view ws c)) (rows_put ws (at c) are stands.short_rows);
       state = record {
         tables = stands.state.tables;
-        indexes = create_keeps kinds context_laws m.tables m.indexes all_rows tt i (target t place) prefs name none on are_prefs (column_free m.indexes t place taken.1) every_row room stands.state.tables stands.state.indexes;
+        indexes = create_keeps kinds context_laws m.tables m.indexes all_rows tt i (target t place) prefs name none on are_prefs (column_free Context m.indexes t place taken.1) every_row room stands.state.tables stands.state.indexes;
         views = stands.state.views;
         preferences = stands.state.preferences;
         few = λ q. few_created m.indexes i (new_index kinds all_rows tt m.tables (target t place) prefs) none q (leb-false index_limit (length (indexes_on m.indexes t)) few.0) stands.state.few;

@@ -14,7 +14,7 @@ use Rattle.ct_entry.specs.Maps.{Names}
 use Rattle.tb_table.specs.Tables.{Table, Tables}
 use Rattle.tb_table.specs.Spelling.{TablesStand}
 use Rattle.tb_table.specs.Rules.{AreTables}
-use Rattle.ix_indexes.specs.Indexes.{Index, StandsAt, IndexesStand, AreIndexes}
+use Rattle.ix_indexes.specs.Indexes.{Index, StandsUnder, IndexesStand, AreIndexes}
 use Rattle.tx_settings.specs.PrefsBytes.{are_lexer_settings, settings_bytes, words_bytes, group_bytes, is_named_group}
 use Rattle.tx_prefs.specs.Spelling.{NamesStand}
 use Rattle.tx_prefs.specs.Rules.{AreNamed, are_stopwords}
@@ -57,7 +57,7 @@ tables_stand = record {
 }
 
 indexes_stand : IndexesStand (at no_content) no_tables no_indexes
-indexes_stand i = subst (StandsAt (at no_content) no_tables i) (sym (not_there {X = Index} i)) (λ k owner of. no_key k)
+indexes_stand i = subst (StandsUnder (at no_content) no_tables i) (sym (not_there {X = Index} i)) (λ k owner of. no_key k)
 
 are_tables : AreTables no_tables
 are_tables = record {

@@ -16,10 +16,10 @@ use Rattle.tb_table.specs.laws.Spelling.{columns_apart, numbers_apart}
 use Rattle.tb_table.specs.laws.Reading.{are_spellable, numbers_fit}
 use Rattle.ix_kinds.specs.laws.Telling.{one_indexes}
 use Rattle.ix_indexes.specs.Indexes.{kinds, IndexesStand, AreIndexes}
-use Rattle.ix_indexes.specs.laws.ContextCreates.{context_laws}
 use Rattle.tx_prefs.specs.laws.Values.{one_preferences}
 use Rattle.db_state.specs.States.{StoreState}
-use Rattle.db_state.specs.Promises.{unwasted, but_for_waste, OneState}
+use Rattle.db_state.specs.Promises.{but_wasted, but_for_waste, OneState}
+use Rattle.ix_context.specs.laws.ContextCreates.{context_laws}
 
 -- ---- the values of a row
 
@@ -116,7 +116,7 @@ module _ (f : Key → Option (List ℕ)) (ts us : Tables) (ts_stand : TablesStan
 
 -- ---- the state
 
-state_is : (m n : StoreState) → m.tables ≡ n.tables → each_value unwasted m.indexes ≡ each_value unwasted n.indexes → m.preferences ≡ n.preferences → but_for_waste m ≡ but_for_waste n
+state_is : (m n : StoreState) → m.tables ≡ n.tables → each_value but_wasted m.indexes ≡ each_value but_wasted n.indexes → m.preferences ≡ n.preferences → but_for_waste m ≡ but_for_waste n
 state_is m n tables indexes preferences i = record { tables = tables i; indexes = indexes i; preferences = preferences i }
 
 pub one_state : OneState

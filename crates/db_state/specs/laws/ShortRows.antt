@@ -24,3 +24,7 @@ told_short ((j, o) ∷ ws) k old v are short has = told_short ws k (cond (same_k
 
 pub rows_put : (ws : List (Key × Option (List ℕ))) (f : Key → Option (List ℕ)) → AreIndexChanges ws → HasShortRows f → HasShortRows (view ws f)
 rows_put ws f are short k v of has = told_short ws k (f k) v are (short k v of) has
+
+-- and changes that put nothing
+pub rows_left : (f g : Key → Option (List ℕ)) → ((k : Key) (v : List ℕ) → g k ≡ Some v → f k ≡ Some v) → HasShortRows f → HasShortRows g
+rows_left f g left short k v of has = short k v of (left k v has)

@@ -1,21 +1,8 @@
--- What statements make of what an index has by its kind.
-use Rattle.std.proofs.Common.{◌≡◌, ℕ, ℤ, ◌+◌, zero, suc, length, refl, arith}
-use Rattle.std.specs.FinMap.{insert}
+-- What statements make of the numbers of an index, and of how tidy it is.
+use Rattle.std.proofs.Common.{◌≡◌, ℕ, ◌+◌, zero, suc, Option, Some, None, refl, arith}
 use Rattle.ix_rows.specs.Stores.{Untidy}
-use Rattle.ix_docmap.specs.Marks.{Pending}
-use Rattle.ix_context.specs.Indexes.{Part, Body, OfContext, part_in, marks_in, note_new, made, all_settled, synced_body, waiting_rows}
-
-pub marks_in-note_new : (r : ℤ) (b : Body) → marks_in (note_new r b) ≡ insert (marks_in b) r Pending
-marks_in-note_new r (OfContext c) = refl
-
-pub part_in-note_new : (r : ℤ) (b : Body) → part_in (note_new r b) ≡ part_in b
-part_in-note_new r (OfContext c) = refl
-
-pub marks_in-synced : (b : Body) → marks_in (synced_body b) ≡ all_settled (marks_in b)
-marks_in-synced (OfContext c) = refl
-
-pub part_in-synced : (b : Body) → part_in (synced_body b) ≡ made (length (waiting_rows (marks_in b))) (part_in b)
-part_in-synced (OfContext c) = refl
+use Rattle.ix_docmap.specs.Marks.{Mark, Pending, Settled}
+use Rattle.ix_context.specs.Indexes.{Part, wasted, made}
 
 pub given-made : (n : ℕ) (p : Part) → (made n p).given ≡ p.given + n
 given-made zero p = omega arith
@@ -24,3 +11,13 @@ given-made (suc n) p = refl
 pub untidy-made : (n : ℕ) (p : Part) → p.tidiness ≡ Untidy → (made n p).tidiness ≡ Untidy
 untidy-made zero p untidy = untidy
 untidy-made (suc n) p untidy = refl
+
+pub given-wasted : (m : Option (Mark (Unit {0}))) (cost : ℕ) (p : Part) → (wasted m cost p).given ≡ p.given
+given-wasted None cost p = refl
+given-wasted (Some Pending) cost p = refl
+given-wasted (Some (Settled a)) cost p = refl
+
+pub untidy-wasted : (m : Option (Mark (Unit {0}))) (cost : ℕ) (p : Part) → p.tidiness ≡ Untidy → (wasted m cost p).tidiness ≡ Untidy
+untidy-wasted None cost p untidy = untidy
+untidy-wasted (Some Pending) cost p untidy = refl
+untidy-wasted (Some (Settled a)) cost p untidy = refl

@@ -1,16 +1,14 @@
--- Changes on entries of indexes: on keys of their kinds, with values within the bounds.
+-- Changes on entries of CONTEXT indexes: on keys of their kinds, with values within the bounds.
 use Rattle.std.proofs.Common.{◌≡◌, ℕ, ◌≤◌, true, List, [], ◌∷◌, ◌++◌, length, Option}
 use Rattle.ct_keep.specs.Content.{value_limit}
 use Rattle.ct_entry.specs.Keys.{Key, IsKeyOfKind}
 use Rattle.ct_entry.specs.Changes.{AreChanges, AllOf, Puts}
-use Rattle.ix_context.specs.Spelling.{is_of_indexes}
+use Rattle.ix_context.specs.Spelling.{is_of_context}
 
--- ---- changes on entries of indexes
-
--- A change on an entry of an index, with a value that an entry may have.
+-- A change on an entry of a CONTEXT index, with a value that an entry may have.
 pub record IsIndexChange (w : Key × Option (List ℕ)) : Type 0 where
   pub key : IsKeyOfKind w.0
-  pub of : is_of_indexes w.0.kind ≡ true
+  pub of : is_of_context w.0.kind ≡ true
   pub bounded : Puts (λ k v. length v ≤ value_limit) w.0 w.1
 
 abbrev pub AreIndexChanges : List (Key × Option (List ℕ)) → Type 0
@@ -22,9 +20,9 @@ pub are_changes : (ws : List (Key × Option (List ℕ))) → AreIndexChanges ws 
 are_changes [] are = tt
 are_changes (w ∷ ws) are = (are.0.key, are_changes ws are.1)
 
-pub all_of_indexes : (ws : List (Key × Option (List ℕ))) → AreIndexChanges ws → AllOf is_of_indexes ws
-all_of_indexes [] are = tt
-all_of_indexes (w ∷ ws) are = (are.0.of, all_of_indexes ws are.1)
+pub all_of_context : (ws : List (Key × Option (List ℕ))) → AreIndexChanges ws → AllOf is_of_context ws
+all_of_context [] are = tt
+all_of_context (w ∷ ws) are = (are.0.of, all_of_context ws are.1)
 
 pub index_changes-append : (xs ys : List (Key × Option (List ℕ))) → AreIndexChanges xs → AreIndexChanges ys → AreIndexChanges (xs ++ ys)
 index_changes-append [] ys a b = b

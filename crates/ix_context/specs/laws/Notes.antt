@@ -12,7 +12,7 @@ use Rattle.ct_entry.specs.laws.Parts.{int_same, int_from_eq}
 use Rattle.ix_rows.specs.Stores.{Untidy}
 use Rattle.ix_rows.specs.laws.Stores.{store_untidy}
 use Rattle.ix_docmap.specs.Marks.{Mark, Pending, Settled, is_settled, Marks}
-use Rattle.ix_context.specs.Indexes.{Part, ContextIndex, OfContext, wasted, note_new, note_changed, note_gone, part_in, marks_in}
+use Rattle.ix_context.specs.Indexes.{Part, ContextIndex, wasted}
 use Rattle.ix_docmap.specs.laws.Documents.{with_mark}
 use Rattle.ix_docmap.specs.Changes.{unmark_changes}
 use Rattle.ix_context.specs.Documents.{Postings, document_cost, want_words, want_spans}
@@ -26,7 +26,7 @@ use Rattle.ix_rows.specs.WordRows.{document_number, IsWordTerm, word_cost}
 -- INSERT: a new row waits
 pub context_new : (f : Key → Option (List ℕ)) (i : List ℕ) (doc doc' : ℤ → Postings) (x : ContextIndex) (r : ℤ) → IsRow r → get x.marks r ≡ None → ((s : ℤ) → is_settled (get x.marks s) ≡ true → doc' s ≡ doc s)
     → PartStands f i doc ((λ s. get x.marks s)) x.part
-    → PartStands (view (put_value (key kind.Pending i (row_part r)) [] ∷ []) f) i doc' ((λ s. get (marks_in (note_new r (OfContext x))) s)) (part_in (note_new r (OfContext x)))
+    → PartStands (view (put_value (key kind.Pending i (row_part r)) [] ∷ []) f) i doc' ((λ s. get (insert x.marks r Pending) s)) x.part
 context_new f i doc doc' x r is_row free same stand =
     let seen = part_see f i doc doc' (λ s. get x.marks s) x.part same stand in
     let waits = part_queued f i doc' (λ s. get x.marks s) x.part r (Some Pending) is_row (ap is_settled free) refl seen in
@@ -42,7 +42,7 @@ other_row x r s = go (int_eq s r) refl
 -- DELETE of a row that is settled: the entries of its document go, its postings stay, and their cost is wasted
 pub context_gone : (f : Key → Option (List ℕ)) (i : List ℕ) (doc doc' : ℤ → Postings) (x : ContextIndex) (r : ℤ) → IsRow r → get x.marks r ≡ Some (Settled tt) → x.part.given < 2 ^ 32 → ((s : ℤ) → int_eq s r ≡ false → is_settled (get x.marks s) ≡ true → doc' s ≡ doc s)
     → (stand : PartStands f i doc ((λ s. get x.marks s)) x.part) (d : ℕ) → stand.document r ≡ Some d
-    → PartStands (view (unmark_changes i d r) f) i doc' ((λ s. get (marks_in (note_gone (document_cost i (doc r)) r (OfContext x))) s)) (part_in (note_gone (document_cost i (doc r)) r (OfContext x)))
+    → PartStands (view (unmark_changes i d r) f) i doc' ((λ s. get (remove x.marks r) s)) (wasted (get x.marks r) (document_cost i (doc r)) x.part)
 context_gone f i doc doc' x r is_row here room same stand d is =
     let unmapped = part_unmapped f i doc (λ s. get x.marks s) x.part r is_row (ap is_settled here) room stand d is in
     let seen = part_see (view (unmark_changes i d r) f) i doc doc' (with_mark r None (λ s. get x.marks s)) (record x.part { tidiness = Untidy; waste = x.part.waste + document_cost i (doc r) }) (λ s h. let o = other_row x r s h in same s o.0 o.1) unmapped in
@@ -52,7 +52,7 @@ context_gone f i doc doc' x r is_row here room same stand d is =
 -- UPDATE of the column of a row that is settled: the same, and the row waits
 pub context_changed : (f : Key → Option (List ℕ)) (i : List ℕ) (doc doc' : ℤ → Postings) (x : ContextIndex) (r : ℤ) → IsRow r → get x.marks r ≡ Some (Settled tt) → x.part.given < 2 ^ 32 → ((s : ℤ) → int_eq s r ≡ false → is_settled (get x.marks s) ≡ true → doc' s ≡ doc s)
     → (stand : PartStands f i doc ((λ s. get x.marks s)) x.part) (d : ℕ) → stand.document r ≡ Some d
-    → PartStands (view (unmark_changes i d r ++ put_value (key kind.Pending i (row_part r)) [] ∷ []) f) i doc' ((λ s. get (marks_in (note_changed (document_cost i (doc r)) r (OfContext x))) s)) (part_in (note_changed (document_cost i (doc r)) r (OfContext x)))
+    → PartStands (view (unmark_changes i d r ++ put_value (key kind.Pending i (row_part r)) [] ∷ []) f) i doc' ((λ s. get (insert x.marks r Pending) s)) (wasted (get x.marks r) (document_cost i (doc r)) x.part)
 context_changed f i doc doc' x r is_row here room same stand d is =
     let lost = context_gone f i doc doc' x r is_row here room same stand d is in
     let part = wasted (get x.marks r) (document_cost i (doc r)) x.part in
@@ -88,7 +88,7 @@ part_untidy f i doc mark part stand = record {
 -- DELETE of a row that waits
 pub context_gone_waiting : (f : Key → Option (List ℕ)) (i : List ℕ) (doc doc' : ℤ → Postings) (cost : ℕ) (x : ContextIndex) (r : ℤ) → IsRow r → get x.marks r ≡ Some Pending → ((s : ℤ) → is_settled (get x.marks s) ≡ true → doc' s ≡ doc s)
     → PartStands f i doc ((λ s. get x.marks s)) x.part
-    → PartStands (view (drop_key (key kind.Pending i (row_part r)) ∷ []) f) i doc' ((λ s. get (marks_in (note_gone cost r (OfContext x))) s)) (part_in (note_gone cost r (OfContext x)))
+    → PartStands (view (drop_key (key kind.Pending i (row_part r)) ∷ []) f) i doc' ((λ s. get (remove x.marks r) s)) (wasted (get x.marks r) cost x.part)
 context_gone_waiting f i doc doc' cost x r is_row here same stand =
     let seen = part_see f i doc doc' (λ s. get x.marks s) x.part same stand in
     let waits = part_queued f i doc' (λ s. get x.marks s) x.part r None is_row (ap is_settled here) refl seen in
@@ -98,7 +98,7 @@ context_gone_waiting f i doc doc' cost x r is_row here same stand =
 
 -- UPDATE of a row that waits: it waits on, and nothing is put
 pub context_changed_waiting : (f : Key → Option (List ℕ)) (i : List ℕ) (doc doc' : ℤ → Postings) (cost : ℕ) (x : ContextIndex) (r : ℤ) → get x.marks r ≡ Some Pending → ((s : ℤ) → is_settled (get x.marks s) ≡ true → doc' s ≡ doc s)
-    → PartStands f i doc ((λ s. get x.marks s)) x.part → PartStands f i doc' ((λ s. get (marks_in (note_changed cost r (OfContext x))) s)) (part_in (note_changed cost r (OfContext x)))
+    → PartStands f i doc ((λ s. get x.marks s)) x.part → PartStands f i doc' ((λ s. get (insert x.marks r Pending) s)) (wasted (get x.marks r) cost x.part)
 context_changed_waiting f i doc doc' cost x r here same stand =
     let seen = part_see f i doc doc' (λ s. get x.marks s) x.part same stand in
     let untidy = part_untidy f i doc' (λ s. get x.marks s) x.part seen in

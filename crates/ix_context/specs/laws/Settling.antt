@@ -121,25 +121,6 @@ each_among P (r ∷ rs) among =
     later true b h = refl
     later false b h = h
 
--- keys that rise stand once
-pub rows_apart : (rows : List ℤ) → keys_rise_by int_cmp rows ≡ true → AreApart rows
-rows_apart [] rise = tt
-rows_apart (r ∷ rs) rise =
-    let b = and_parts (keys_below int_cmp r rs) (keys_rise_by int_cmp rs) rise in
-    (other rs b.0, rows_apart rs b.1)
-  where
-    other : (us : List ℤ) → keys_below int_cmp r us ≡ true → IsIn r us → ⊥
-    other [] low h = h
-    other (u ∷ us) low h =
-        let b = and_parts (is_lt (int_cmp r u)) (keys_below int_cmp r us) low in
-        elim h [
-          | inl same ↦
-              let here : is_lt (int_cmp r r) ≡ true = ap (λ (z : ℤ). is_lt (int_cmp r z)) same ∙ b.0 in
-              let wrong : true ≡ false = sym here ∙ ap is_lt (tied_itself int_cmp_total r) in
-              cc
-          | inr more ↦ other us b.1 more
-        ]
-
 pub all_free : (mark : Marks) (rows : List ℤ) → EachRow (λ s. IsRow s × (not (is_settled (mark s)) ≡ true)) rows → AllFree mark rows
 all_free mark [] all = tt
 all_free mark (r ∷ rs) all = (all.0.0, not-true _ all.0.1, all_free mark rs all.1)

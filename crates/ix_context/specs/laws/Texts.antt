@@ -1,40 +1,37 @@
 -- The texts that indexes see are short.
-use Rattle.std.proofs.Common.{◌≡◌, ℕ, ℤ, zero, suc, ◌≤◌, Bool, true, false, cond, List, length, Option, Some, None, leb-true, leb-false, refl, arith}
+use Rattle.std.proofs.Common.{◌≡◌, ℕ, ℤ, ◌≤◌, Bool, true, false, cond, List, length, Option, Some, None, leb-true, leb-false, refl, sym, subst, arith}
 use Rattle.std.specs.Prelude.{nat_le}
 use Rattle.std.specs.Option.{option_and_then}
+use Rattle.std.specs.Ordering.{int_cmp}
+use Rattle.std.specs.FinMap.{get, get-empty}
 use Rattle.ct_base.specs.declared.lists.Value.{Value}
+use Rattle.ct_base.specs.laws.Options.{and_then_some}
 use Rattle.tb_table.specs.declared.columns.Target.{Target}
-use Rattle.tb_table.specs.Tables.{Tables, row_at, text_in_column}
-use Rattle.tb_table.specs.Rules.{AreTables, others}
-use Rattle.tb_table.specs.laws.Rules.{short_text, all_others}
-use Rattle.tb_table.specs.laws.Reading.{row_of_table}
-use Rattle.ix_context.specs.Indexes.{Index, target_text, text_seen}
+use Rattle.tb_table.specs.Tables.{Table, Tables, text_in_column}
+use Rattle.tb_table.specs.Rules.{IsTable, AreTables}
+use Rattle.tb_table.specs.laws.Rules.{short_column}
+use Rattle.ix_kinds.specs.Rows.{table_or_none}
+use Rattle.ix_context.specs.Indexes.{texts_in, target_text}
 use Rattle.ix_context.specs.Postings.{IsShortOrNone, if_short, indexed_text_limit}
 
--- the texts of rows have at most 4000 bytes
-pub target_short : (ts : Tables) → AreTables ts → (target : Target) (r : ℤ) (text : List ℕ) → target_text ts target r ≡ Some text → length text ≤ 4000
-target_short ts are target r text is = go (row_at ts target.table r) refl is
+-- the texts of the rows of a table
+pub texts_short : (t : Table) → IsTable t → (column : ℕ) (r : ℤ) → IsShortOrNone (texts_in t column r)
+texts_short t is column r = go (texts_in t column r) refl
   where
-    of_row : (column : ℕ) (vs : List Value) → row_at ts target.table r ≡ Some vs → text_in_column vs column ≡ Some text → length text ≤ 4000
-    of_row zero vs here e = cc
-    of_row (suc place) vs here e =
-        let row = row_of_table ts target.table r vs here in
-        let table = are.each target.table row.table row.here in
-        short_text (others row.table.columns) vs place text (all_others row.table.columns table.columns.each) (table.rows r vs row.row) e
+    go : (o : Option (List ℕ)) → texts_in t column r ≡ o → IsShortOrNone o
+    go None e = tt
+    go (Some text) e =
+        let row = and_then_some (λ vs. text_in_column vs column) (get t.rows r) text e in
+        let l = short_column t.columns row.0 column text is.columns.each (is.rows r row.0 row.1) row.2 in
+        omega (arith, l)
 
-    go : (o : Option (List Value)) → row_at ts target.table r ≡ o → option_and_then (λ vs. text_in_column vs target.column) o ≡ Some text → length text ≤ 4000
-    go None here e = cc
-    go (Some vs) here e = of_row target.column vs here e
-
+-- and of the table of a name, which is one without rows where there is none
 pub target_has_short : (ts : Tables) → AreTables ts → (target : Target) (r : ℤ) → IsShortOrNone (target_text ts target r)
-target_has_short ts are target r = go (target_text ts target r) refl
+target_has_short ts are target r = go (get ts target.table) refl
   where
-    go : (o : Option (List ℕ)) → target_text ts target r ≡ o → IsShortOrNone o
-    go None is = tt
-    go (Some text) is = let few = target_short ts are target r text is in omega (arith, few)
-
-pub seen_is_short : (ts : Tables) → AreTables ts → (x : Index) (r : ℤ) → IsShortOrNone (text_seen ts x r)
-seen_is_short ts are x r = target_has_short ts are (record { table = x.table; column = x.column }) r
+    go : (o : Option Table) → get ts target.table ≡ o → IsShortOrNone (texts_in (table_or_none o) target.column r)
+    go None is = subst (λ (row : Option (List Value)). IsShortOrNone (option_and_then (λ vs. text_in_column vs target.column) row)) (sym (get-empty int_cmp r)) tt
+    go (Some x) is = texts_short x (are.each target.table x is) target.column r
 
 -- ---- short texts
 

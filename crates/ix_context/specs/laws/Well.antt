@@ -1,6 +1,6 @@
 -- The changes of notes, synchronisations and new indexes are on keys of their kinds.
 use Rattle.std.proofs.Common.{◌≡◌, ℕ, ℤ, ◌+◌, ◌*◌, ◌^◌, ◌<◌, ◌≤◌, true, List, [], ◌∷◌, ◌++◌, length, Option, Some, refl, subst, arith, length-append}
-use Rattle.std.specs.Prelude.{not, is_some}
+use Rattle.std.specs.Prelude.{not}
 use Rattle.std.specs.Int.{to_be_bytes, w32}
 use Rattle.std.specs.FinMap.{get}
 use Rattle.ct_base.specs.Names.{IsName}
@@ -10,31 +10,32 @@ use Rattle.ct_bytes.specs.laws.Varints.{varint_length}
 use Rattle.ct_bytes.specs.laws.RowKeys.{length-row_bytes}
 use Rattle.ct_entry.specs.declared.kinds.Kind.TheVariants as kind
 use Rattle.ct_entry.specs.Keys.{Key, key, IsRow}
-use Rattle.ct_entry.specs.Maps.{Names}
 use Rattle.ct_entry.specs.Changes.{put_value}
 use Rattle.ct_entry.specs.Each.{each, numbered}
 use Rattle.tb_table.specs.declared.columns.Target.{Target}
-use Rattle.tb_table.specs.Tables.{Tables}
-use Rattle.tb_table.specs.Rules.{AreTables}
+use Rattle.tb_table.specs.Tables.{Table}
+use Rattle.tb_table.specs.Rules.{IsTable}
 use Rattle.tx_settings.specs.declared.preferences.Prefs.{Prefs}
 use Rattle.tx_settings.specs.PrefsBytes.{IsPrefs, prefs_bytes}
 use Rattle.tx_settings.specs.laws.Lengths.{prefs_are_short}
+use Rattle.ix_kinds.specs.Indextypes.{IndexOf}
 use Rattle.ix_docmap.specs.Marks.{is_settled}
 use Rattle.ix_docmap.specs.Changes.{mark_changes, map_settle_changes}
 use Rattle.ix_context.specs.declared.ranges.KeyRange.{KeyRange}
-use Rattle.ix_context.specs.Indexes.{Index, given, marks_in, pending_rows, text_seen, synced_index, rows_in, created}
+use Rattle.ix_context.specs.Indexes.{ContextIndex, most_given, waiting_rows, texts_in, rows_within}
 use Rattle.ix_context.specs.Postings.{IsShortOrNone}
 use Rattle.ix_context.specs.Documents.{postings_by}
 use Rattle.ix_context.specs.Gathering.{nothing_gathered, with_texts}
-use Rattle.ix_context.specs.Rules.{AreIndexes, most_given}
-use Rattle.ix_context.specs.Spelling.{index_bytes, after_table, index_entry}
-use Rattle.ix_context.specs.Changes.{note_insert_changes, mark_rows_with, settle_rows_with, postings_changes, sync_rows_changes, sync_changes, create_changes}
-pub use Rattle.ix_context.specs.laws.IndexChanges.{IsIndexChange, AreIndexChanges, are_changes, all_of_indexes, index_changes-append}
+use Rattle.ix_context.specs.Spelling.{index_bytes, after_table}
+use Rattle.ix_context.specs.Changes.{note_insert_changes, mark_rows_with, settle_rows_with, postings_changes}
+use Rattle.ix_context.specs.Contexts.{IsContext, context_entry, context_synced, context_sync_changes, new_context, context_create_changes}
+pub use Rattle.ix_context.specs.laws.IndexChanges.{IsIndexChange, AreIndexChanges, are_changes, all_of_context, index_changes-append}
 use Rattle.ix_context.specs.laws.Gathered.{gathered_postings}
 use Rattle.ix_context.specs.laws.Grown.{none_gathered, grown_texts, index_changes_gathered}
 use Rattle.ix_context.specs.laws.Settling.{EachRow}
-use Rattle.ix_context.specs.laws.Changes.{rows_wait, no_marks, rows_free}
-use Rattle.ix_context.specs.laws.Texts.{seen_is_short}
+use Rattle.ix_context.specs.laws.Texts.{texts_short}
+use Rattle.ix_context.specs.laws.ContextSyncs.{rows_wait}
+use Rattle.ix_context.specs.laws.ContextCreates.{no_marks, rows_free}
 
 -- changes for each of some rows with their documents
 pub index_changes-each : (changes : ℕ × ℤ → List (Key × Option (List ℕ)))
@@ -84,31 +85,29 @@ postings_are : (p : Prefs) (i : List ℕ) (text : ℤ → Option (List ℕ)) (gi
 postings_are p i text given rows are name short room =
     subst AreIndexChanges (gathered_postings p text i given rows room) (index_changes_gathered i name (with_texts p text nothing_gathered (numbered (given + 1) rows)) (grown_texts p are text short (given + 1) rows (omega (arith, room)) nothing_gathered none_gathered))
 
-pub index_changes_sync : (ts : Tables) (xs : Names Index) (i : List ℕ) (x : Index) → AreTables ts → AreIndexes ts xs → get xs i ≡ Some x
-    → given x + length (pending_rows x) ≤ most_given → AreIndexChanges (sync_changes ts i x)
-index_changes_sync ts xs i x are rules is room =
-    go (pending_rows x) (each_row (λ s. not (is_settled (get (marks_in x.body) s)) ≡ true) (pending_rows x) (rows_wait ts x are (rules.each i x is))) room
+pub index_changes_sync : (t : Table) (i : List ℕ) (x : IndexOf ContextIndex) → IsTable t → IsName i → IsName x.table → IsPrefs x.prefs → IsContext t x
+    → x.body.part.given + length (waiting_rows x.body.marks) ≤ most_given → AreIndexChanges (context_sync_changes i x (texts_in t x.column) (waiting_rows x.body.marks))
+index_changes_sync t i x is_t name table prefs rules room =
+    go (waiting_rows x.body.marks) (each_row (λ s. not (is_settled (get x.body.marks s)) ≡ true) (waiting_rows x.body.marks) (rows_wait t x is_t rules)) room
   where
-    table : IsName x.table
-    table = let target = (rules.each i x is).target in are.names x.table target.table target.there
-
-    go : (rows : List ℤ) → EachRow IsRow rows → given x + length rows ≤ most_given → AreIndexChanges (sync_rows_changes ts i x rows)
+    go : (rows : List ℤ) → EachRow IsRow rows → x.body.part.given + length rows ≤ most_given → AreIndexChanges (context_sync_changes i x (texts_in t x.column) rows)
     go [] rows_are room = tt
     go (r ∷ rs) rows_are room =
-        let entry = put_value (key kind.Indexes i []) (index_entry (synced_index x)) ∷ [] in
-        let postings = postings_changes i (postings_by x.prefs (text_seen ts x)) (given x + 1) (r ∷ rs) in
-        index_changes-append (settle_rows_with i (given x + 1) (r ∷ rs) ++ postings) entry
-        (index_changes-append (settle_rows_with i (given x + 1) (r ∷ rs)) postings
-        (index_changes-each (map_settle_changes i) (λ d s doc row. settled_row i d s (rules.names i x is) doc row) (r ∷ rs) (given x + 1) (omega arith) rows_are)
-        (postings_are x.prefs i (text_seen ts x) (given x) (r ∷ rs) (rules.each i x is).prefs (rules.names i x is) (seen_is_short ts are x) (omega arith)))
-        (index_put i x.table x.column x.prefs (given (synced_index x) + 1) (rules.names i x is) table (rules.each i x is).prefs, tt)
+        let y : IndexOf ContextIndex = record x { body = context_synced x.body } in
+        let entry = put_value (key kind.Indexes i []) (context_entry y) ∷ [] in
+        let postings = postings_changes i (postings_by x.prefs (texts_in t x.column)) (x.body.part.given + 1) (r ∷ rs) in
+        index_changes-append (settle_rows_with i (x.body.part.given + 1) (r ∷ rs) ++ postings) entry
+        (index_changes-append (settle_rows_with i (x.body.part.given + 1) (r ∷ rs)) postings
+        (index_changes-each (map_settle_changes i) (λ d s doc row. settled_row i d s name doc row) (r ∷ rs) (x.body.part.given + 1) (omega arith) rows_are)
+        (postings_are x.prefs i (texts_in t x.column) x.body.part.given (r ∷ rs) prefs name (texts_short t is_t x.column) (omega arith)))
+        (index_put i x.table x.column x.prefs (y.body.part.given + 1) name table prefs, tt)
 
-pub index_changes_create : (ts : Tables) (i : List ℕ) (target : Target) (prefs : Prefs) (range : KeyRange) → AreTables ts → IsName i → IsName target.table → IsPrefs prefs
-    → length (rows_in ts target.table range) ≤ most_given → AreIndexChanges (create_changes ts i target prefs range)
-index_changes_create ts i target prefs range are name table prefs_are room = (
-  index_put i target.table target.column prefs (given (created ts target prefs range) + 1) name table prefs_are,
-  index_changes-append (mark_rows_with i 1 (rows_in ts target.table range)) (postings_changes i (postings_by prefs (text_seen ts (created ts target prefs range))) 1 (rows_in ts target.table range))
-      (index_changes-each (λ (n : ℕ × ℤ). mark_changes i n.0 n.1) (λ d r doc row. marked_row i d r name doc row) (rows_in ts target.table range) 1 (omega arith)
-      (each_row (λ s. not (is_some (no_marks s)) ≡ true) (rows_in ts target.table range) (rows_free ts are target.table range)))
-      (postings_are prefs i (text_seen ts (created ts target prefs range)) 0 (rows_in ts target.table range) prefs_are name (seen_is_short ts are (created ts target prefs range)) (omega arith)),
+pub index_changes_create : (t : Table) (i : List ℕ) (target : Target) (prefs : Prefs) (range : KeyRange) → IsTable t → IsName i → IsName target.table → IsPrefs prefs
+    → length (rows_within t range) ≤ most_given → AreIndexChanges (context_create_changes t i target prefs range)
+index_changes_create t i target prefs range is_t name table prefs_are room = (
+  index_put i target.table target.column prefs ((new_context t range).part.given + 1) name table prefs_are,
+  index_changes-append (mark_rows_with i 1 (rows_within t range)) (postings_changes i (postings_by prefs (texts_in t target.column)) 1 (rows_within t range))
+      (index_changes-each (λ (n : ℕ × ℤ). mark_changes i n.0 n.1) (λ d r doc row. marked_row i d r name doc row) (rows_within t range) 1 (omega arith)
+      (each_row (λ s. not (is_settled (no_marks s)) ≡ true) (rows_within t range) (rows_free t is_t range)))
+      (postings_are prefs i (texts_in t target.column) 0 (rows_within t range) prefs_are name (texts_short t is_t target.column) (omega arith)),
 )

@@ -25,11 +25,10 @@ use Rattle.db_names.specs.declared.heads.IndexHead.{IndexHead}
 use Rattle.db_names.specs.declared.heads.IndexKind.TheVariants.{Rules}
 use Rattle.db_names.specs.Heads.{index_head_bytes}
 use Rattle.db_names.specs.laws.Heads.{head_apart}
-use Rattle.ix_kinds.specs.Rows.{RowChange, ChangesBy}
 use Rattle.ix_kinds.specs.Indextypes.{IndexOf}
-use Rattle.ix_kinds.specs.Standing.{is_of_part, is_entry, is_of_indexes, index_entry, HasNoEntries}
+use Rattle.ix_kinds.specs.Standing.{is_of_part, is_entry}
 use Rattle.ix_kinds.specs.IndextypeLaws.{StandsAlone, RowsChange, Synchronises, Creates, TellsOne, IndextypeLaws}
-use Rattle.test_kinds.specs.RowLists.{is_list, listed, list_row, list_change, list_rows, keys_of, list_entry, new_list, ListsRows, row_lists}
+use Rattle.test_kinds.specs.RowLists.{is_list, entry_or_none, list_row, list_change, list_rows, row_keys_of, list_entry, new_list, ListsRows, row_lists}
 
 -- ---- the entries of a list
 
@@ -66,19 +65,19 @@ weaker (w ∷ ws) all = (list_is_its w.0.kind all.0, weaker ws all.1)
 module _ (f : Key → Option (List ℕ)) (i : List ℕ) (t u : Table) (r : ℤ) (others : (s : ℤ) → int_eq s r ≡ false → get u.rows s ≡ get t.rows s) (lists : ListsRows f i t) where
   -- it has its entry afterwards where the table has it
   row_put : (there : Bool) → IsRow r → is_some (get u.rows r) ≡ there → ListsRows (view (list_row i r there) f) i u
-  row_put there r_is now = record { rows = λ s s_is. ap (λ (b : Bool). cond b (listed there) (f (key kind.Rules i (row_part s)))) (rows_same i r s r_is s_is) ∙ go s s_is (int_eq s r) refl }
+  row_put there r_is now = record { rows = λ s s_is. ap (λ (b : Bool). cond b (entry_or_none there) (f (key kind.Rules i (row_part s)))) (rows_same i r s r_is s_is) ∙ go s s_is (int_eq s r) refl }
     where
-      go : (s : ℤ) → IsRow s → (b : Bool) → int_eq s r ≡ b → cond b (listed there) (f (key kind.Rules i (row_part s))) ≡ listed (is_some (get u.rows s))
-      go s s_is true same = ap listed (sym now) ∙ ap (λ (z : ℤ). listed (is_some (get u.rows z))) (sym (int_from_eq s r same))
-      go s s_is false other = lists.rows s s_is ∙ ap (λ (o : Option (List Value)). listed (is_some o)) (sym (others s other))
+      go : (s : ℤ) → IsRow s → (b : Bool) → int_eq s r ≡ b → cond b (entry_or_none there) (f (key kind.Rules i (row_part s))) ≡ entry_or_none (is_some (get u.rows s))
+      go s s_is true same = ap entry_or_none (sym now) ∙ ap (λ (z : ℤ). entry_or_none (is_some (get u.rows z))) (sym (int_from_eq s r same))
+      go s s_is false other = lists.rows s s_is ∙ ap (λ (o : Option (List Value)). entry_or_none (is_some o)) (sym (others s other))
 
   -- a row that neither table has is none
   row_left : is_some (get t.rows r) ≡ false → is_some (get u.rows r) ≡ false → ListsRows f i u
   row_left was now = record { rows = λ s s_is. go s s_is (int_eq s r) refl }
     where
-      go : (s : ℤ) → IsRow s → (b : Bool) → int_eq s r ≡ b → f (key kind.Rules i (row_part s)) ≡ listed (is_some (get u.rows s))
-      go s s_is true same = lists.rows s s_is ∙ ap (λ (z : ℤ). listed (is_some (get t.rows z))) (int_from_eq s r same) ∙ ap listed (was ∙ sym now) ∙ ap (λ (z : ℤ). listed (is_some (get u.rows z))) (sym (int_from_eq s r same))
-      go s s_is false other = lists.rows s s_is ∙ ap (λ (o : Option (List Value)). listed (is_some o)) (sym (others s other))
+      go : (s : ℤ) → IsRow s → (b : Bool) → int_eq s r ≡ b → f (key kind.Rules i (row_part s)) ≡ entry_or_none (is_some (get u.rows s))
+      go s s_is true same = lists.rows s s_is ∙ ap (λ (z : ℤ). entry_or_none (is_some (get t.rows z))) (int_from_eq s r same) ∙ ap entry_or_none (was ∙ sym now) ∙ ap (λ (z : ℤ). entry_or_none (is_some (get u.rows z))) (sym (int_from_eq s r same))
+      go s s_is false other = lists.rows s s_is ∙ ap (λ (o : Option (List Value)). entry_or_none (is_some o)) (sym (others s other))
 
   changed : IsTable t → IsTable u → (old new : Option (List Value)) → get t.rows r ≡ old → get u.rows r ≡ new → ListsRows (view (list_change i r (is_some old) (is_some new)) f) i u
   changed is_t is_u None None was now = row_left (ap is_some was) (ap is_some now)
@@ -89,10 +88,10 @@ module _ (f : Key → Option (List ℕ)) (i : List ℕ) (t u : Table) (r : ℤ) 
 -- ---- a new list
 
 module _ (f : Key → Option (List ℕ)) (i : List ℕ) (t : Table) (is : IsTable t) (none : (r : ℤ) → f (key kind.Rules i (row_part r)) ≡ None) where
-  created : ListsRows (view (list_rows i (keys_of t)) f) i t
-  created = record { rows = λ s s_is. put s s_is (keys_of t) (λ r there. row_of r there) (f (key kind.Rules i (row_part s))) ∙ ap (λ (b : Bool). cond b (Some []) (f (key kind.Rules i (row_part s)))) (sym (contains_key-keys t.rows s)) ∙ go s (is_some (get t.rows s)) }
+  created : ListsRows (view (list_rows i (row_keys_of t)) f) i t
+  created = record { rows = λ s s_is. put s s_is (row_keys_of t) (λ r there. row_of r there) (f (key kind.Rules i (row_part s))) ∙ ap (λ (b : Bool). cond b (Some []) (f (key kind.Rules i (row_part s)))) (sym (contains_key-keys t.rows s)) ∙ go s (is_some (get t.rows s)) }
     where
-      row_of : (r : ℤ) → list_any (int_eq r) (keys_of t) ≡ true → IsRow r
+      row_of : (r : ℤ) → list_any (int_eq r) (row_keys_of t) ≡ true → IsRow r
       row_of r there = let vs = some_value (get t.rows r) (contains_key-keys t.rows r ∙ there) in is.keys r vs.0 vs.1
 
       either : (a b : Bool) (v w : Option (List ℕ)) → cond b v (cond a v w) ≡ cond (a || b) v w
@@ -119,7 +118,7 @@ module _ (f : Key → Option (List ℕ)) (i : List ℕ) (t : Table) (is : IsTabl
           ∙ put s s_is rs (λ q there. all q (later r q rs there)) (cond (int_eq s r) (Some []) old)
           ∙ either (int_eq s r) (list_any (int_eq s) rs) (Some []) old
 
-      go : (s : ℤ) (b : Bool) → cond b (Some []) (f (key kind.Rules i (row_part s))) ≡ listed b
+      go : (s : ℤ) (b : Bool) → cond b (Some []) (f (key kind.Rules i (row_part s))) ≡ entry_or_none b
       go s true = refl
       go s false = none s
 
@@ -141,7 +140,7 @@ module _ {D : Type 0} where
   lists_alone = record {
     part = λ b k. list_is_part k;
     agree = λ f g i x t same lists. record { rows = λ r r_is. same (key kind.Rules i (row_part r)) refl refl ∙ lists.rows r r_is };
-    alike = λ f i x t u alike is lists. record { rows = λ r r_is. lists.rows r r_is ∙ ap listed (sym (alike.rows r)) };
+    alike = λ f i x t u alike is lists. record { rows = λ r r_is. lists.rows r r_is ∙ ap entry_or_none (sym (alike.rows r)) };
     is_alike = λ x t u alike is. tt;
   }
 
@@ -170,11 +169,11 @@ module _ {D : Type 0} where
 
   lists_create : Creates (row_lists {D = D})
   lists_create = record {
-    on = λ a d t i target prefs. (refl, all_on-each i (λ r. list_row i r true) (λ r. (refl, tt)) (keys_of t));
-    of = λ a d t i target prefs. (refl, all_each (λ k. is_entry k || is_list k) (λ r. list_row i r true) (λ r. (refl, tt)) (keys_of t));
+    on = λ a d t i target prefs. (refl, all_on-each i (λ r. list_row i r true) (λ r. (refl, tt)) (row_keys_of t));
+    of = λ a d t i target prefs. (refl, all_each (λ k. is_entry k || is_list k) (λ r. list_row i r true) (λ r. (refl, tt)) (row_keys_of t));
     entry = λ a d t i target prefs old.
-        told_frame is_list (list_rows i (keys_of t)) (key kind.Indexes i []) (told (put_value (key kind.Indexes i []) (list_entry (new_list target prefs)) ∷ []) (key kind.Indexes i []) old)
-        (all_each is_list (λ r. list_row i r true) (λ r. (refl, tt)) (keys_of t)) refl
+        told_frame is_list (list_rows i (row_keys_of t)) (key kind.Indexes i []) (told (put_value (key kind.Indexes i []) (list_entry (new_list target prefs)) ∷ []) (key kind.Indexes i []) old)
+        (all_each is_list (λ r. list_row i r true) (λ r. (refl, tt)) (row_keys_of t)) refl
         ∙ ap (λ (b : Bool). cond b (Some (list_entry (new_list target prefs))) old) (key_same (key kind.Indexes i []));
     is = λ a d t target prefs is texts prefs_are asks can. tt;
     stands = λ f a d t i target prefs is texts prefs_are asks can none.

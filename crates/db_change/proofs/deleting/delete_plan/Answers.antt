@@ -8,7 +8,6 @@ use Rattle.ct_keep.specs.Composing.{reads_hold}
 use Rattle.ct_entry.specs.Keys.{at}
 use Rattle.tb_table.specs.declared.columns.Column.{Column}
 use Rattle.db_cond.specs.Faults.{UnknownName}
-use Rattle.db_names.specs.declared.heads.IndexHead.{IndexHead}
 use Rattle.db_state.specs.Effects.{Refused}
 use Rattle.db_state.specs.laws.Columns.{no_table, some_table}
 use Rattle.db_change.proofs.GoneSteps.{delete_none, delete_refused, delete_done, deletes_weigh_nothing, same_changes}
@@ -53,4 +52,4 @@ returns-clause-removes g c = λ k holds.
     let first = reads_hold _ _ k c.in_ok-columns.ensures.reads holds in
     let second = reads_hold _ _ k c.in_ok-rows.ensures.reads first in
     let third = reads_hold _ _ k c.in_ok-indexes.ensures.reads second in
-    deletes_weigh_nothing k c.args.table.now c.deref-3.result.now (map (λ (e : List ℕ × IndexHead). e.0) c.deref-4.result.now) (map (λ (row : RowKey). row.0) c.deref-5.result.now) c.in_ok-batch.batch (c.in_ok-batch.ensures.changes k third)
+    deletes_weigh_nothing k c.args.table.now c.deref-3.result.now c.deref-4.result.now (map (λ (row : RowKey). row.0) c.deref-5.result.now) c.in_ok-batch.batch (c.in_ok-batch.ensures.changes k third)

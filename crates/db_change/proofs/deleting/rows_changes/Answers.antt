@@ -1,8 +1,7 @@
-use Rattle.std.proofs.Common.{List, ℕ, pos, map, get_or, refl}
+use Rattle.std.proofs.Common.{pos, get_or, refl}
 use Rattle.ct_base.specs.declared.numbers.RowKey.{RowKey}
 use Rattle.ct_keep.specs.Composing.{reads_on, reads_hold}
 use Rattle.ct_entry.specs.Keys.{at}
-use Rattle.db_names.specs.declared.heads.IndexHead.{IndexHead}
 use Rattle.db_change.specs.Deleting.{gone_row_changes}
 use Rattle.db_change.proofs.GoneSteps.{each_more, each_whole, changes_added, changes_shaped}
 use Rattle.db_change.proofs.deleting.rows_changes.Goals as goal
@@ -11,11 +10,11 @@ pub loop-row-preserved : goal.loop-row-preserved
 loop-row-preserved g c = record {
   reads = reads_on _ _ _ _ c.loop-row.invariant.reads c.in_ok-changes.ensures.reads;
   changes = λ m holds.
-      each_more (gone_row_changes (at m) c.args.table.now c.args.columns.now (map (λ (e : List ℕ × IndexHead). e.0) c.args.indexes.now)) (λ (row : RowKey). row.0) c.args.rows.now c.loop-row.row-index (get_or c.args.rows.now c.loop-row.row-index (record { 0 = pos 0 })) (record { 0 = pos 0 }) c.loop-row.batch c.append.new.self c.loop-row-test.true refl
+      each_more (gone_row_changes (at m) c.args.table.now c.args.columns.now c.args.indexes.now) (λ (row : RowKey). row.0) c.args.rows.now c.loop-row.row-index (get_or c.args.rows.now c.loop-row.row-index (record { 0 = pos 0 })) (record { 0 = pos 0 }) c.loop-row.batch c.append.new.self c.loop-row-test.true refl
       (c.loop-row.invariant.changes m holds) (changes_added c.loop-row.batch c.in_ok-changes.changes c.append.new.self _ (c.in_ok-changes.ensures.changes m (reads_hold _ _ m c.loop-row.invariant.reads holds)) c.in_ok-append.ensures.ok);
   shaped = changes_shaped c.loop-row.batch c.in_ok-changes.changes c.append.new.self c.loop-row.invariant.shaped c.in_ok-changes.ensures.shaped c.in_ok-append.ensures.ok;
 }
 
 pub returns-clause-changes : goal.returns-clause-changes
 returns-clause-changes g c = λ m holds.
-    each_whole (gone_row_changes (at m) c.args.table.now c.args.columns.now (map (λ (e : List ℕ × IndexHead). e.0) c.args.indexes.now)) (λ (row : RowKey). row.0) c.args.rows.now c.loop-row.row-index c.loop-row.batch c.loop-row-test.false (c.loop-row.invariant.changes m holds)
+    each_whole (gone_row_changes (at m) c.args.table.now c.args.columns.now c.args.indexes.now) (λ (row : RowKey). row.0) c.args.rows.now c.loop-row.row-index c.loop-row.batch c.loop-row-test.false (c.loop-row.invariant.changes m holds)

@@ -10,6 +10,6 @@ use Rattle.db_change.proofs.deleting.rows_changes.Given as goal
 abbrev pub invariant-loop-row : goal.invariant-loop-row
 invariant-loop-row g l = record {
   reads : ReadsKeeper (g.K.Keeper.view l.fn.keeper) (g.K.Keeper.view l.keeper) None;
-  changes : (m : Content) → (g.K.Keeper.view l.fn.keeper).content ≡ Some m → l.batch ≡ spell (gone_rows_changes (at m) l.table l.columns (map (λ e. e.0) l.indexes) (map (λ row. row.0) (take l.row-index l.rows)));
+  changes : (m : Content) → (g.K.Keeper.view l.fn.keeper).content ≡ Some m → l.batch ≡ spell (gone_rows_changes (at m) l.table l.columns l.indexes (map (λ row. row.0) (take l.row-index l.rows)));
   shaped : AreStoreChanges l.batch;
 }

@@ -1,9 +1,9 @@
 use Rattle.ct_keep.specs.Composing.{reads_on, reads_hold}
 use Rattle.ct_entry.specs.laws.Removals.{removes_then}
-use Rattle.ix_context.specs.Removing.{index_removals}
-use Rattle.ix_context.specs.laws.EachAdded.{each_added}
 use Rattle.db_change.proofs.DropSteps.{indexes_left}
 use Rattle.db_change.proofs.dropping.remove_indexes.Goals as goal
+use Rattle.ix_indexes.specs.Removing.{index_removals}
+use Rattle.ix_indexes.specs.laws.EachAdded.{each_added}
 
 pub loop-index-preserved : goal.loop-index-preserved
 loop-index-preserved g c = record {

@@ -3,8 +3,8 @@ use Rattle.ct_keep.specs.Content.{Content}
 use Rattle.ct_keep.specs.KeeperViews.{ReadsKeeper}
 use Rattle.ct_entry.specs.Changes.{spell}
 use Rattle.ct_entry.specs.Removals.{OnlyRemoves}
-use Rattle.ix_context.specs.Removing.{remove_all_changes}
 use Rattle.db_change.proofs.dropping.remove_indexes.Given as goal
+use Rattle.ix_indexes.specs.Removing.{remove_all_changes}
 
 abbrev pub invariant-loop-index : goal.invariant-loop-index
 invariant-loop-index g l = record {

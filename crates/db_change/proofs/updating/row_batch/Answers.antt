@@ -4,7 +4,10 @@ use Rattle.ct_entry.specs.Changes.{spell}
 use Rattle.ct_entry.specs.laws.Changes.{spell-append}
 use Rattle.tb_table.specs.Tables.{numbers_of}
 use Rattle.db_rows.specs.Values.{row_values}
-use Rattle.db_change.specs.Updating.{value_changes, note_changes}
+use Rattle.ct_entry.specs.Keys.{at}
+use Rattle.ix_indexes.specs.declared.noting.RowStep.TheVariants.{Changes}
+use Rattle.ix_indexes.specs.Noting.{heads_changes}
+use Rattle.db_change.specs.Updating.{value_changes}
 use Rattle.db_change.proofs.ShapeSteps.{row_and_notes}
 use Rattle.db_change.proofs.updating.row_batch.Goals as goal
 
@@ -13,7 +16,7 @@ returns-clause-batch g c = λ m k holds stands.
     let t = c.args.table.now in
     let r = c.args.row.0 in
     let own = value_changes t c.args.columns.now c.args.assigns.now (numbers_of (row_values m.tables t r)) r in
-    let notes = note_changes k c.args.indexes.now r in
+    let notes = heads_changes (at k) r Changes c.args.indexes.now in
     let first = c.in_ok-batch.ensures.changes ∙ ap (λ (ns : List ℤ). spell (value_changes t c.args.columns.now c.args.assigns.now ns r)) (c.deref.ensures.value ∙ c.in_ok-numbers.ensures.numbers m k holds stands) in
     c.in_ok-append.ensures.ok
     ∙ ap (λ (b : List (List ℕ × Option (List ℕ))). b ++ c.in_ok-notes.notes) first

@@ -1,8 +1,8 @@
 use Rattle.std.proofs.Common.{◌++◌, ap, ◌∙◌, List, ℕ, Option}
 use Rattle.ct_entry.specs.Changes.{spell}
-use Rattle.ix_context.specs.Removing.{index_removals}
 use Rattle.db_state.specs.laws.Removing.{removals_light, removals_taken}
 use Rattle.db_index.proofs.dropping.dropped.Goals as goal
+use Rattle.ix_indexes.specs.Removing.{index_removals}
 
 pub returns-clause-changes : goal.returns-clause-changes
 returns-clause-changes g c = λ m holds.

@@ -4,7 +4,7 @@ use Rattle.ct_keep.specs.Content.{after}
 use Rattle.ct_keep.specs.Composing.{reads_on, reads_hold}
 use Rattle.tx_settings.specs.declared.preferences.Prefs.{Prefs}
 use Rattle.db_state.specs.States.{StoreState, StandsForState}
-use Rattle.db_state.specs.Effects.{Effect, Does}
+use Rattle.db_state.specs.Effects.{Does}
 use Rattle.tb_table.specs.Tables.{Table}
 use Rattle.db_index.specs.Indexing.{create_index_on, index_created, is_text_at, with_new_index}
 use Rattle.db_index.proofs.IndexChecks.{done_by, faulty, faultless, index_free}

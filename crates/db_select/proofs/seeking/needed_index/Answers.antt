@@ -8,4 +8,4 @@ pub returns-in-Some-clause-index : goal.returns-in-Some-clause-index
 returns-in-Some-clause-index g c = λ m k holds stands few.
     let search = held_search c.args.search.now in
     let small = place_small search.column c.args.columns.now c.in-Some.place (sym c.in-Some.ensures) few in
-    IfOk-weaker c.context_index.result _ _ (needed_at m c.args.table.now c.args.columns.now search c.in-Some.place (sym c.in-Some.ensures)) (c.context_index.ensures.found m k holds stands small)
+    IfOk-weaker c.index_of_column.result _ _ (needed_at m c.args.table.now c.args.columns.now search c.in-Some.place (sym c.in-Some.ensures)) (c.index_of_column.ensures.found m k holds stands small)

@@ -3,8 +3,8 @@ use Rattle.ct_base.specs.declared.numbers.RowKey.{RowKey}
 use Rattle.ct_entry.specs.Changes.{spell}
 use Rattle.ct_entry.specs.Shapes.{AreShaped}
 use Rattle.ct_keep.specs.Composing.{reads_on, reads_hold}
-use Rattle.ix_context.specs.Indexes.{rows_in}
-use Rattle.ix_context.specs.Rules.{most_given}
+use Rattle.ix_kinds.specs.Rows.{table_at}
+use Rattle.ix_context.specs.Indexes.{most_given, rows_within}
 use Rattle.ix_context.specs.Changes.{mark_rows_changes}
 use Rattle.ix_context.specs.Shapes.{HasIndexValue}
 use Rattle.ix_context.proofs.SyncSteps.{created_added, count_created}
@@ -12,16 +12,17 @@ use Rattle.ix_context.proofs.creating.changes_of_create.Goals as goal
 
 pub returns-clause-changes : goal.returns-clause-changes
 returns-clause-changes g c = λ m ts holds told.
+    let t = table_at ts c.args.target.now.table in
     let rows = c.in_ok-rows.ensures.rows m ts holds told in
     let again = reads_hold _ _ m c.in_ok-rows.ensures.reads holds in
-    let count = count_created ts c.args.target.now.table c.args.range c.in_ok-rows.rows.items rows in
+    let count = count_created t c.args.range c.in_ok-rows.rows.items rows in
     let is = c.in-Some.ensures.0 in
     let fits = c.in-Some.ensures.1 in
-    let few : length (rows_in ts c.args.target.now.table c.args.range) ≤ most_given = omega arith in
+    let few : length (rows_within t c.args.range) ≤ most_given = omega arith in
     let next : c.in-Some.next ≡ 1 + length c.in_ok-rows.rows.items = omega arith in
     let marks = c.in_ok-mark_rows.ensures.changes m ts again told in (
       few,
-      created_added ts c.args.index.now c.args.target.now c.args.prefs.now c.args.range c.in_ok-rows.rows.items c.in-Some.next c.new-changes.result c.put_index.new.batch c.mark_rows.new.changes rows next c.new-changes.ensures c.in_ok-put_index.ensures.ok
+      created_added t c.args.index.now c.args.target.now c.args.prefs.now c.args.range c.in_ok-rows.rows.items c.in-Some.next c.new-changes.result c.put_index.new.batch c.mark_rows.new.changes rows next c.new-changes.ensures c.in_ok-put_index.ensures.ok
           (marks ∙ ap (λ (l : List RowKey). c.put_index.new.batch ++ spell (mark_rows_changes ts c.args.index.now c.args.target.now c.args.prefs.now 1 l)) c.deref.ensures.value),
     )
 

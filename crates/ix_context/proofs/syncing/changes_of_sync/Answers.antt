@@ -3,25 +3,24 @@ use Rattle.std.specs.Prelude.{IfSome}
 use Rattle.tx_settings.specs.Attributes.{can_be_set}
 use Rattle.ct_base.specs.declared.numbers.RowKey.{RowKey}
 use Rattle.ct_keep.specs.Composing.{reads_hold}
-use Rattle.ix_context.specs.Indexes.{given}
 use Rattle.ix_context.specs.declared.entries.IndexEntry.{IndexEntry}
 use Rattle.ix_context.specs.laws.Reading.{parts_of, index_read, pending_read}
 use Rattle.ix_context.proofs.SyncSteps.{settled_says, not_read, read_so, at_least_one}
 use Rattle.ix_context.proofs.syncing.changes_of_sync.Goals as goal
 
 pub returns-in_default-clause-changes : goal.returns-in_default-clause-changes
-returns-in_default-clause-changes g c = λ m ts xs x holds told is.
-    let read = index_read m ts xs told c.args.index.now x is _ (c.in_ok-entry.ensures.value m holds) in
+returns-in_default-clause-changes g c = λ m ts x holds told.
+    let read = index_read m ts c.args.index.now x told _ (c.in_ok-entry.ensures.value m holds) in
     absurd (not_read _ _ c.in_default.is read)
 
 pub returns-clause-changes : goal.returns-clause-changes
-returns-clause-changes g c = λ m ts xs x holds told is.
-    let read = index_read m ts xs told c.args.index.now x is _ (c.in_ok-entry.ensures.value m holds) in
+returns-clause-changes g c = λ m ts x holds told.
+    let read = index_read m ts c.args.index.now x told _ (c.in_ok-entry.ensures.value m holds) in
     let same = read_so _ c.in-Some.entry (parts_of x) c.in-Some.is read in
     let after = reads_hold _ _ m c.in_ok-entry.ensures.reads holds in
     let again = reads_hold _ _ m c.in_ok-rows.ensures.reads after in
-    let rows = ap (λ (l : List RowKey). map (λ (r : RowKey). r.0) l) c.deref.ensures.value ∙ c.in_ok-rows.ensures.rows m after ∙ pending_read m ts xs told c.args.index.now x is in
-    settled_says ts c.args.index.now x c.in-Some.entry c.max-first.result c.deref.result.now same (at_least_one _ c.in-Some.entry.next_document (given x) c.max-first.ensures (ap (λ (e : IndexEntry). e.next_document) same)) rows c.settled_changes.result (c.settled_changes.ensures.changes m ts again told.tables)
+    let rows = ap (λ (l : List RowKey). map (λ (r : RowKey). r.0) l) c.deref.ensures.value ∙ c.in_ok-rows.ensures.rows m after ∙ pending_read m ts c.args.index.now x told in
+    settled_says ts c.args.index.now x c.in-Some.entry c.max-first.result c.deref.result.now same (at_least_one _ c.in-Some.entry.next_document x.body.part.given c.max-first.ensures (ap (λ (e : IndexEntry). e.next_document) same)) rows c.settled_changes.result (c.settled_changes.ensures.changes m ts again told.tables)
 
 pub settled_changes-requires-clause-set : goal.settled_changes-requires-clause-set
 settled_changes-requires-clause-set g c = subst (λ (o : Option IndexEntry). IfSome o (λ (e : IndexEntry). can_be_set e.prefs.lexer ≡ true)) c.in-Some.is c.in_ok-entry.ensures.set

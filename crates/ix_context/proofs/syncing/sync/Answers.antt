@@ -6,15 +6,15 @@ use Rattle.ix_context.proofs.SyncSteps.{none_says, some_says}
 use Rattle.ix_context.proofs.syncing.sync.Goals as goal
 
 pub returns-in_default-clause-many : goal.returns-in_default-clause-many
-returns-in_default-clause-many g c = λ m ts xs x holds told is many. none_says _ _ _ c.in_default.is (c.in-Ok.ensures.changes m ts xs x holds told is)
+returns-in_default-clause-many g c = λ m ts x holds told many. none_says _ _ _ c.in_default.is (c.in-Ok.ensures.changes m ts x holds told)
 
 pub returns-clause-changes : goal.returns-clause-changes
-returns-clause-changes g c = λ m ts xs x holds told is.
-    let says = some_says _ _ _ c.in-Some.changes c.in-Some.is (c.in-Ok.ensures.changes m ts xs x holds told is) in
+returns-clause-changes g c = λ m ts x holds told.
+    let says = some_says _ _ _ c.in-Some.changes c.in-Some.is (c.in-Ok.ensures.changes m ts x holds told) in
     c.in_ok-append.ensures.ok ∙ ap (λ w. c.args.batch.now ++ w) says.1
 
 pub returns-clause-room : goal.returns-clause-room
-returns-clause-room g c = λ m ts xs x holds told is. (some_says _ _ _ c.in-Some.changes c.in-Some.is (c.in-Ok.ensures.changes m ts xs x holds told is)).0
+returns-clause-room g c = λ m ts x holds told. (some_says _ _ _ c.in-Some.changes c.in-Some.is (c.in-Ok.ensures.changes m ts x holds told)).0
 
 pub returns-clause-shaped : goal.returns-clause-shaped
 returns-clause-shaped g c =

@@ -1,23 +1,21 @@
-use Rattle.std.proofs.Common.{Some, subst, ap}
+use Rattle.std.proofs.Common.{ap}
 use Rattle.ct_keep.specs.Composing.{reads_hold}
 use Rattle.ct_entry.specs.Keys.{at}
 use Rattle.q_tree.specs.declared.flats.Flat.{Flat}
 use Rattle.q_tree.specs.Trees.{reduced_of}
-use Rattle.ix_context.specs.Standing.{IndexStands}
 use Rattle.ix_cursor.specs.Candidates.{ahead}
 use Rattle.ix_search.proofs.Found.{words, spans, slots_held, names_held}
 use Rattle.ix_search.proofs.Giving.{gives_found}
 use Rattle.ix_search.proofs.searching.gather.Goals as goal
 
 pub returns-clause-gathered : goal.returns-clause-gathered
-returns-clause-gathered g c = λ m ts xs x holds only stand there fit prefs.
+returns-clause-gathered g c = λ m t x holds only stand fit prefs.
     let i = c.args.index.now in
     let q = reduced_of c.args.flat.now in
-    let here : IndexStands (at m) ts i (Some x) = subst (IndexStands (at m) ts i) there (stand i) in
     let sound = c.requires.sound in
     let alone = c.requires.plain in
-    let feeds = c.in_ok-feeds.ensures.rows m holds (words m ts x i only here fit prefs) (spans m ts x i only here fit prefs)
-    (slots_held m ts x i only here fit prefs q sound alone) (names_held m ts x i only here fit prefs q sound alone) in
-    gives_found m ts x i only here fit prefs q sound alone c.in_ok-feeds.ensures.named (ahead c.in_ok-candidates.candidates) c.in_ok-feeds.feeds c.in_ok-rows.rows c.of.result
+    let feeds = c.in_ok-feeds.ensures.rows m holds (words m t x i only stand fit prefs) (spans m t x i only stand fit prefs)
+    (slots_held m t x i only stand fit prefs q sound alone) (names_held m t x i only stand fit prefs q sound alone) in
+    gives_found m t x i only stand fit prefs q sound alone c.in_ok-feeds.ensures.named (ahead c.in_ok-candidates.candidates) c.in_ok-feeds.feeds c.in_ok-rows.rows c.of.result
     feeds c.in_ok-candidates.ensures (c.in_ok-rows.ensures.rows m (reads_hold _ _ m c.in_ok-feeds.ensures.reads holds))
     (ap (λ (f : Flat). reduced_of f) c.of.ensures.flat) c.of.ensures.feeds c.of.ensures.rows

@@ -1,0 +1,14 @@
+-- A content that stands for a state, as the calls on a CONTEXT index want it.
+use Rattle.std.proofs.Common.{◌≡◌, ℕ, List, Some}
+use Rattle.std.specs.FinMap.{get}
+use Rattle.ct_keep.specs.Content.{Content}
+use Rattle.ix_context.specs.Stands.{HoldsTables, HoldsContext}
+use Rattle.ix_indexes.specs.Indexes.{Index}
+use Rattle.ix_indexes.specs.laws.Indexes.{holds_context}
+use Rattle.db_state.specs.States.{StoreState, StandsForState}
+
+pub holds_tables : (c : Content) (m : StoreState) → StandsForState c m → HoldsTables c m.tables
+holds_tables c m stands = record { only = stands.only; stand = stands.tables; rules = stands.state.tables }
+
+pub holds_index : (c : Content) (m : StoreState) → StandsForState c m → (i : List ℕ) (x : Index) → get m.indexes i ≡ Some x → HoldsContext c m.tables i x
+holds_index c m stands i x is = holds_context c m.tables m.indexes (holds_tables c m stands) stands.indexes stands.state.indexes i x is
