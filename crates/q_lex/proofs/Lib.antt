@@ -1,3 +1,4 @@
+pub mod Parts
 pub mod Scans
 pub mod Unclosed
 pub mod Braces

@@ -31,7 +31,7 @@ encoded (c ∷ cs) = omega (arith, encoded cs, length-append (encode_utf8 c) (en
 pub bytes_are : (text : List ℕ) → IsUtf8 text → length text ≡ byte_count (chars text)
 bytes_are text utf8 = sym (encoded (chars text) ∙ ap length (encodes-chars text utf8))
 
-byte_count-append : (xs ys : List ℕ) → byte_count (xs ++ ys) ≡ byte_count xs + byte_count ys
+pub byte_count-append : (xs ys : List ℕ) → byte_count (xs ++ ys) ≡ byte_count xs + byte_count ys
 byte_count-append [] ys = omega arith
 byte_count-append (x ∷ xs) ys = omega (arith, byte_count-append xs ys)
 

@@ -2,4 +2,3 @@ pub mod Words
 pub mod Lexing
 pub mod Runs
 pub mod Writing
-pub mod laws

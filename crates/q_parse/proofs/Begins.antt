@@ -14,7 +14,7 @@ use Rattle.q_parse.specs.declared.stages.Kind.{Kind}
 use Rattle.q_parse.specs.declared.stages.Kind.TheVariants.{InGroup, InNear, InDefine}
 use Rattle.q_parse.specs.declared.stages.SumFrame.{SumFrame}
 use Rattle.q_parse.specs.declared.stages.SumFrame.TheVariants.{SumLeft, SumOpen}
-use Rattle.q_tree.specs.Trees.{Tree, Single, Weight, Above, Nearness, InSection, ScoredBy}
+use Rattle.q_tree.specs.Trees.{Tree, Single, Weight, Above, Near, Within, Define}
 use Rattle.q_parse.specs.Grammar.{OneWord, put_last, default_thesaurus, PhraseLeaf, SumText, SumGroup, SumBoth, sum_spelling, is_sum_sign, sign_step, step_tightness, postfix_form, operator_count, SumFits, NoSpan, Text, LeafPart, GroupText, BothText, ChainText, ListText, spelling, phrases, operands, meaning, tightness, IsList, QueryFits, IsQuery}
 use Rattle.q_parse.specs.Machine.{Frame, Left, Group, Chain, TermsOf, Stage, Operand, InPhrase, AfterEquiv, ThesOpen, ThesFirst, ThesWords, ThesArgument, ThesLevel, ThesName, ThesClose, After, AfterChain, AfterTerms, Factor, Threshold, SectionName, NearWord, NearOpen, NearEnd, NearSpan, NearOrder, NearFlag, NearClose, DefineWord, SumOperand, SumAfter, is_main, with_leaf, step}
 use Rattle.std.proofs.Common.{length-append}
@@ -56,10 +56,10 @@ module _ (r : GrammarRules) where
   begins-after k t fs ls le h = close_main fs k h.text h.before ls le h.frames h.main h.looser h.fits h.spelt
 
   begins-chain : (ops : List (List Leaf)) (fs : List Frame) (ls : List Lexeme) → ChainRead r ops fs ls → BeginsQuery r ls
-  begins-chain ops fs ls c = begins-after 6 (Nearness ops 100 false) fs ls (omega arith) (chain-holds r ops fs ls c)
+  begins-chain ops fs ls c = begins-after 6 (Near ops 100 false) fs ls (omega arith) (chain-holds r ops fs ls c)
 
   begins-end : (ops : List (List Leaf)) (fs : List Frame) (ls : List Lexeme) → NearRead r ops [] fs ls → BeginsQuery r ls
-  begins-end ops fs ls a = let h = near-tree r ops 100 false NoSpan [] fs ls tt refl refl refl a in begins-more ls (Close ∷ []) (begins-after 6 (Nearness ops 100 false) fs (ls ++ Close ∷ []) (omega arith) h.1)
+  begins-end ops fs ls a = let h = near-tree r ops 100 false NoSpan [] fs ls tt refl refl refl a in begins-more ls (Close ∷ []) (begins-after 6 (Near ops 100 false) fs (ls ++ Close ∷ []) (omega arith) h.1)
 
   -- a list of operands with one more
   list-many : (t : Text) → IsList r t → 1 ≤ length (operands t)
@@ -98,7 +98,7 @@ module _ (r : GrammarRules) where
   close_sum ps fs [] k s out n0 n before ls le may count frames looser fits spelt =
       let h : SumHolds r (DefineFront r ps fs) 1 [] (out ++ postfix_form s) n ls = record { before = before; out0 = out; n0 = n0; text = s; frames = frames; looser = tt; fits = SumFits-less r 1 k s le fits; its = refl; count = count; spelt = spelt } in
       let a = sum_close-sound r ps n ([], out ++ postfix_form s) fs ls may h in
-      begins-more ls (Close ∷ []) (begins-after 6 (ScoredBy ps (out ++ postfix_form s)) fs (ls ++ Close ∷ []) (omega arith) a.1)
+      begins-more ls (Close ∷ []) (begins-after 6 (Define ps (out ++ postfix_form s)) fs (ls ++ Close ∷ []) (omega arith) a.1)
   close_sum ps fs (SumOpen ∷ stack) k s out n0 n before ls le may count f looser fits spelt =
       begins-more ls (Close ∷ [])
       (close_sum ps fs stack 3 (SumGroup s) out n0 n f.0 (ls ++ Close ∷ []) (omega arith) may count f.1 (all_sum_looser r stack) (SumFits-less r 1 k s le fits) (grouped r f.0 before (sum_spelling s) ls f.2 spelt))
@@ -153,10 +153,10 @@ module _ (r : GrammarRules) where
   begins-close relation ws n name fs ls a = begins-more ls (Close ∷ []) (begins-leaf (Terms_of relation ws n name) fs (ls ++ Close ∷ []) (sound r (ThesClose relation ws n name) fs Close ls a))
 
   begins-order : (ops : List (List Leaf)) (n : ℕ) (fs : List Frame) (ls : List Lexeme) → ReadsAt r (NearOrder ops n) fs ls → BeginsQuery r ls
-  begins-order ops n fs ls a = let h = sound r (NearOrder ops n) fs Close ls a in begins-more ls (Close ∷ []) (begins-after 6 (Nearness ops n false) fs (ls ++ Close ∷ []) (omega arith) h.1)
+  begins-order ops n fs ls a = let h = sound r (NearOrder ops n) fs Close ls a in begins-more ls (Close ∷ []) (begins-after 6 (Near ops n false) fs (ls ++ Close ∷ []) (omega arith) h.1)
 
   begins-flag : (ops : List (List Leaf)) (n : ℕ) (ordered : Bool) (fs : List Frame) (ls : List Lexeme) → ReadsAt r (NearClose ops n ordered) fs ls → BeginsQuery r ls
-  begins-flag ops n ordered fs ls a = let h = sound r (NearClose ops n ordered) fs Close ls a in begins-more ls (Close ∷ []) (begins-after 6 (Nearness ops n ordered) fs (ls ++ Close ∷ []) (omega arith) h.1)
+  begins-flag ops n ordered fs ls a = let h = sound r (NearClose ops n ordered) fs Close ls a in begins-more ls (Close ∷ []) (begins-after 6 (Near ops n ordered) fs (ls ++ Close ∷ []) (omega arith) h.1)
 
   begins-near_open : (fs : List Frame) (ls : List Lexeme) → ReadsAt r NearOpen fs ls → BeginsQuery r ls
   begins-near_open fs ls a = begins-more ls (Open ∷ []) (begins-operand (TermsOf (InNear []) [] ∷ fs) (ls ++ Open ∷ []) (sound r NearOpen fs Open ls a))
@@ -178,7 +178,7 @@ module _ (r : GrammarRules) where
   begins AfterTerms fs ls a = begins-ready fs ls a
   begins (Factor t) fs ls a = let h = sound r (Factor t) fs (Word word_1) ls a in begins-more ls (Word word_1 ∷ []) (begins-after 6 (Weight (tenths_of word_1) t) fs (ls ++ Word word_1 ∷ []) (omega arith) h.1)
   begins (Threshold t) fs ls a = let h = sound r (Threshold t) fs (Word word_1) ls a in begins-more ls (Word word_1 ∷ []) (begins-after 6 (Above (whole_of word_1) t) fs (ls ++ Word word_1 ∷ []) (omega arith) h.1)
-  begins (SectionName t) fs ls a = let h = sound r (SectionName t) fs (Word word_a) ls a in begins-more ls (Word word_a ∷ []) (begins-after 3 (InSection (name_of word_a) t) fs (ls ++ Word word_a ∷ []) (omega arith) h.1)
+  begins (SectionName t) fs ls a = let h = sound r (SectionName t) fs (Word word_a) ls a in begins-more ls (Word word_a ∷ []) (begins-after 3 (Within (name_of word_a) t) fs (ls ++ Word word_a ∷ []) (omega arith) h.1)
   begins NearWord fs ls a = begins-more ls (Open ∷ []) (begins-near_open fs (ls ++ Open ∷ []) (sound r NearWord fs Open ls a))
   begins NearOpen fs ls a = begins-near_open fs ls a
   begins (NearEnd ops) fs ls a = begins-end ops fs ls a

@@ -19,7 +19,7 @@ use Rattle.q_parse.specs.declared.stages.Kind.{Kind}
 use Rattle.q_parse.specs.declared.stages.Kind.TheVariants.{InGroup, InNear, InDefine}
 use Rattle.q_parse.specs.declared.stages.SumFrame.{SumFrame}
 use Rattle.q_parse.specs.declared.stages.SumFrame.TheVariants.{SumLeft, SumOpen}
-use Rattle.q_tree.specs.Trees.{Tree, Single, Both, Weight, Above, Nearness, InSection}
+use Rattle.q_tree.specs.Trees.{Tree, Single, Both, Weight, Above, Near as NearTree, Within as WithinTree}
 use Rattle.q_parse.specs.Grammar.{op_of, PhraseText, OneWord, NextSlot, SameSlot, phrase_spelling, slots_of_phrase, WordsText, FirstWord, MoreWords, words_spelling, words_of, AreWords, ThesTail, NoTail, NameTail, LevelTail, BothTail, thes_tail_spelling, has_level, IsThesTail, tail_level, tail_name, LeafText, PhraseLeaf, ThesLeaf, leaf_spelling, leaf, IsLeaf, SumText, AtomText, SumGroup, SumBoth, sum_spelling, is_sum_sign, sign_step, step_tightness, postfix_form, operator_count, SumFits, NearTail, NoSpan, Span, Ordered, near_tail_spelling, near_span, near_ordered, IsNearTail, Text, LeafPart, GroupText, BothText, WeightText, AboveText, WithinText, ChainText, ListText, NearText, DefineText, spelling, phrases, operands, meaning, tightness, Terms, IsNearChain, IsList, QueryFits, IsQuery}
 use Rattle.q_parse.specs.Machine.{Frame, Left, Group, Chain, TermsOf, Stage, Operand, InPhrase, ThesFirst, ThesWords, ThesLevel, ThesName, ThesClose, After, AfterChain, AfterTerms, Factor, Threshold, SectionName, NearWord, NearEnd, NearSpan, NearOrder, NearFlag, NearClose, DefineWord, SumOperand, SumAfter, State, state_at, is_main, query_joined, on_close, on_operator, on_within, is_terms, phrases_of, after_operand, after_chain, with_leaf, near_end, comma_terms, after_terms, step_after, sum_joined, sum_sign, sum_close, sum_after, thes_argument, step_at, step, read_from, start_state, on_end, finish_after, finish, tree_at_end}
 
@@ -170,13 +170,13 @@ module _ (r : GrammarRules) where
   step-term ops fs (GroupText t) l terms e = refl
   step-term ops fs t l terms e = absurd terms
 
-  finish-term : (ops : List (List Leaf)) (fs : List Frame) (t : Text) → Terms r false t → finish (read_term ops fs t) ≡ on_end (query_joined 1 fs (Nearness (ops ++ phrases t ∷ []) 100 false))
+  finish-term : (ops : List (List Leaf)) (fs : List Frame) (t : Text) → Terms r false t → finish (read_term ops fs t) ≡ on_end (query_joined 1 fs (NearTree (ops ++ phrases t ∷ []) 100 false))
   finish-term ops fs (LeafPart p) terms = finish-leaf p (Chain ops ∷ fs)
   finish-term ops fs (GroupText t) terms = refl
   finish-term ops fs t terms = absurd terms
 
   -- what follows a text
-  chain-operand : (ops : List (List Leaf)) (fs : List Frame) (l : Lexeme) → ends_operand l ≡ true → after_chain r ops fs l ≡ after_operand 6 (Nearness ops 100 false) fs l
+  chain-operand : (ops : List (List Leaf)) (fs : List Frame) (l : Lexeme) → ends_operand l ≡ true → after_chain r ops fs l ≡ after_operand 6 (NearTree ops 100 false) fs l
   chain-operand ops fs Near e = cc
   chain-operand ops fs l e = refl
 
@@ -376,7 +376,7 @@ module _ (r : GrammarRules) where
   whole-step stage next fs w b its e = e ∙ rw its refl
 
   read_from-near_tail : (ops : List (List Leaf)) (tail : NearTail) (fs : List Frame) (rest : List Lexeme) → IsNearTail r tail
-      → read_from r (Some (state_at (NearEnd ops) fs)) (near_tail_spelling tail ++ rest) ≡ read_from r (Some (state_at (After 6 (Nearness ops (near_span tail) (near_ordered tail))) fs)) rest
+      → read_from r (Some (state_at (NearEnd ops) fs)) (near_tail_spelling tail ++ rest) ≡ read_from r (Some (state_at (After 6 (NearTree ops (near_span tail) (near_ordered tail))) fs)) rest
   read_from-near_tail ops NoSpan fs rest its = refl
   read_from-near_tail ops (Span w) fs rest its = ap (λ s. read_from r s (Close ∷ rest)) (whole-step (NearSpan ops) (NearOrder ops (whole_of w)) fs w (takes_whole r 0 100 w) its refl)
   read_from-near_tail ops (Ordered w v) fs rest its =
@@ -523,7 +523,7 @@ module _ (r : GrammarRules) where
         rw (append_assoc (spelling t) (Within ∷ Word w ∷ []) rest)
         (read_from-text 3 t fs (Within ∷ Word w ∷ rest) fits.1 looser' (omega arith) main
         ∙ ap (λ s. read_from r s (Word w ∷ rest)) (read-within 3 t fs fits.1 (omega arith) main ∙ ap (λ j. Some (state_at (SectionName j.1) j.0)) (query_joined-looser 3 fs (meaning t) looser'))
-        ∙ ap (λ s. read_from r s rest) (number-step (SectionName (meaning t)) (After 3 (InSection (name_of w) (meaning t))) fs w (is_name w) fits.2 refl))
+        ∙ ap (λ s. read_from r s rest) (number-step (SectionName (meaning t)) (After 3 (WithinTree (name_of w) (meaning t))) fs w (is_name w) fits.2 refl))
     read_from-text k (ChainText s t) fs rest fits looser le main =
         rw (append_assoc (spelling s) (Near ∷ spelling t) rest) (read_from-chain s fs (spelling t ++ rest) fits.0 fits.2 main ∙ read_from-term (operands s) fs t rest fits.1)
     read_from-text k (ListText s t) fs rest fits looser le main = absurd fits

@@ -16,7 +16,7 @@ use Rattle.q_tree.specs.declared.flats.SumStep.{SumStep}
 use Rattle.q_tree.specs.declared.flats.SumStep.TheVariants.{Number, Discrete, Occurrence}
 use Rattle.q_tree.specs.Limits.{query_limit, word_length, word_keeps_limit, leaf_keeps_limits, leaves_keep_limits, keeps_limits}
 use Rattle.q_tree.specs.Soundness.{is_between, is_operator, operators as step_operators, is_step, values, is_one, is_sum}
-use Rattle.q_tree.specs.Trees.{Tree, Nearness, tree_of}
+use Rattle.q_tree.specs.Trees.{Tree, Near as NearTree, tree_of}
 use Rattle.q_tree.specs.laws.PostfixSums.{two_less}
 use Rattle.q_parse.specs.declared.faults.QueryFault.{QueryFault}
 use Rattle.q_lex.specs.declared.lexemes.Lexeme.{Lexeme}
@@ -413,7 +413,7 @@ operands-some t = omega arith
 between-from : (lo hi n : ℕ) → lo ≤ n → n ≤ hi → is_between lo hi n ≡ true
 between-from lo hi n h k = and_from (nat_le lo n) (nat_le n hi) (le-leb lo n h) (le-leb n hi k)
 
-nearness-keeps : (ops : List (List Leaf)) (span : ℕ) (ordered : Bool) → 2 ≤ length ops → length ops ≤ 16 → list_all leaves_keep_limits ops ≡ true → nat_le span 100 ≡ true → keeps_limits (Nearness ops span ordered) ≡ true
+nearness-keeps : (ops : List (List Leaf)) (span : ℕ) (ordered : Bool) → 2 ≤ length ops → length ops ≤ 16 → list_all leaves_keep_limits ops ≡ true → nat_le span 100 ≡ true → keeps_limits (NearTree ops span ordered) ≡ true
 nearness-keeps ops span ordered lo hi keep le =
     three (is_between 2 16 (length ops)) (list_all leaves_keep_limits ops) (nat_le span 100) (between-from 2 16 (length ops) lo hi) keep le
 

@@ -19,7 +19,7 @@ use Rattle.q_parse.specs.declared.stages.Kind.{Kind}
 use Rattle.q_parse.specs.declared.stages.Kind.TheVariants.{InGroup, InNear, InDefine}
 use Rattle.q_parse.specs.declared.stages.SumFrame.{SumFrame}
 use Rattle.q_parse.specs.declared.stages.SumFrame.TheVariants.{SumLeft, SumOpen}
-use Rattle.q_tree.specs.Trees.{Tree, Single, Both, Weight, Above, Nearness, InSection, ScoredBy}
+use Rattle.q_tree.specs.Trees.{Tree, Single, Both, Weight, Above, Near as NearTree, Within as WithinTree, Define as DefineTree}
 use Rattle.q_parse.specs.Grammar.{op_of, OneWord, NextSlot, SameSlot, phrase_spelling, put_last, FirstWord, MoreWords, words_spelling, ThesTail, NoTail, NameTail, LevelTail, BothTail, thes_tail_spelling, has_level, IsThesTail, default_thesaurus, tail_level, tail_name, LeafText, PhraseLeaf, ThesLeaf, leaf_spelling, leaf, IsLeaf, SumText, AtomText, SumGroup, SumBoth, sum_spelling, is_sum_sign, sign_step, step_tightness, postfix_form, SumFits, NearTail, NoSpan, Span, Ordered, near_tail_spelling, near_span, near_ordered, IsNearTail, Text, LeafPart, GroupText, BothText, WeightText, AboveText, WithinText, ChainText, ListText, NearText, DefineText, spelling, phrases, operands, meaning, tightness, Terms, IsNearChain, IsList, QueryFits, IsQuery}
 use Rattle.q_parse.specs.Machine.{Frame, Left, Group, Chain, TermsOf, Stage, Operand, InPhrase, AfterEquiv, ThesOpen, ThesFirst, ThesWords, ThesArgument, ThesLevel, ThesName, ThesClose, After, AfterChain, AfterTerms, Factor, Threshold, SectionName, NearWord, NearOpen, NearEnd, NearSpan, NearOrder, NearFlag, NearClose, DefineWord, SumOperand, SumAfter, State, state_at, is_main, query_joined, on_close, is_terms, phrases_of, after_operand, after_chain, with_terms, with_leaf, near_end, close_terms, comma_terms, after_terms, after_at, sum_joined, sum_sign, sum_close, sum_after, step_at, step, read_from, on_end, finish_after, finish_at, tree_at_end}
 use Rattle.std.proofs.Common.{length-append, ⊎_elim}
@@ -169,8 +169,8 @@ module _ (r : GrammarRules) where
   after-sound k t fs Near ls le h = near-sound (is_terms t) k t fs ls le refl h
   after-sound k t fs l ls le h = tt
 
-  pub chain-holds : (ops : List (List Leaf)) (fs : List Frame) (ls : List Lexeme) → ChainRead r ops fs ls → Holds r 6 fs (Nearness ops 100 false) ls
-  chain-holds ops fs ls c = record { before = c.before; text = ChainText c.text c.last; frames = c.frames; main = c.main; looser = all_looser fs; fits = (c.chain, c.term, c.may); means = ap (λ x. Nearness x 100 false) c.its; spelt = c.spelt }
+  pub chain-holds : (ops : List (List Leaf)) (fs : List Frame) (ls : List Lexeme) → ChainRead r ops fs ls → Holds r 6 fs (NearTree ops 100 false) ls
+  chain-holds ops fs ls c = record { before = c.before; text = ChainText c.text c.last; frames = c.frames; main = c.main; looser = all_looser fs; fits = (c.chain, c.term, c.may); means = ap (λ x. NearTree x 100 false) c.its; spelt = c.spelt }
 
   pub chain-front : (b : Bool) (ops : List (List Leaf)) (fs : List Frame) (ls : List Lexeme) → may_add r (length ops) ≡ b → ChainRead r ops fs ls → Reads r (cond b (Some (state_at Operand (Chain ops ∷ fs))) None) (ls ++ Near ∷ [])
   chain-front false ops fs ls may c = tt
@@ -178,7 +178,7 @@ module _ (r : GrammarRules) where
 
   pub chain-sound : (ops : List (List Leaf)) (fs : List Frame) (l : Lexeme) (ls : List Lexeme) → ChainRead r ops fs ls → Reads r (after_chain r ops fs l) (ls ++ l ∷ [])
   chain-sound ops fs Near ls c = chain-front (may_add r (length ops)) ops fs ls refl c
-  chain-sound ops fs l ls c = after-sound 6 (Nearness ops 100 false) fs l ls (omega arith) (chain-holds ops fs ls c)
+  chain-sound ops fs l ls c = after-sound 6 (NearTree ops 100 false) fs l ls (omega arith) (chain-holds ops fs ls c)
 
   -- a term more
   pub terms-more : (S : List Lexeme → Type 0) (ps : List Leaf) (t : Text) (before ls : List Lexeme) → Terms r false t → TermsFront r S ps before → before ++ spelling t ≡ ls → TermsRead r S (ps ++ phrases t) ls
@@ -389,7 +389,7 @@ module _ (r : GrammarRules) where
           main = d.3;
           looser = all_looser fs;
           fits = (d.4, h.fits, subst (λ x. may_count r x ≡ true) (omega (arith, f.1, h.count)) may);
-          means = (λ i. ScoredBy (d.5 i) ((ap (λ x. x ++ postfix_form h.text) (sym f.0) ∙ h.its) i));
+          means = (λ i. DefineTree (d.5 i) ((ap (λ x. x ++ postfix_form h.text) (sym f.0) ∙ h.its) i));
           spelt = sum-shape d.0 (spelling d.1) (sum_spelling h.text) ls h.before d.6 h.spelt;
         },
       )
@@ -462,7 +462,7 @@ module _ (r : GrammarRules) where
 
   pub near-tree : (ops : List (List Leaf)) (n : ℕ) (ordered : Bool) (tail : NearTail) (front : List Lexeme) (fs : List Frame) (ls : List Lexeme)
       → IsNearTail r tail → near_span tail ≡ n → near_ordered tail ≡ ordered → front ++ Close ∷ [] ≡ near_tail_spelling tail → NearRead r ops front fs ls
-      → (3 ≤ 6) × Holds r 6 fs (Nearness ops n ordered) (ls ++ Close ∷ [])
+      → (3 ≤ 6) × Holds r 6 fs (NearTree ops n ordered) (ls ++ Close ∷ [])
   near-tree ops n ordered tail front fs ls is span order spelt t = (
     omega arith,
     record {
@@ -472,7 +472,7 @@ module _ (r : GrammarRules) where
       main = t.main;
       looser = all_looser fs;
       fits = (t.many, t.list, is);
-      means = (λ i. Nearness (t.its i) (span i) (order i));
+      means = (λ i. NearTree (t.its i) (span i) (order i));
       spelt = ap (λ x. t.before ++ Near ∷ Open ∷ Open ∷ (spelling t.text ++ Close ∷ x)) (sym spelt) ∙ end-shape t.before (spelling t.text) front Close ∙ ap (λ x. x ++ Close ∷ []) t.spelt;
     },
   )
@@ -558,7 +558,7 @@ module _ (r : GrammarRules) where
   sound (Threshold t) fs l ls a = tt
   sound (SectionName t) fs (Word w) ls a =
       let h = a.1 in
-      sound-if (is_name w) (state_at (After 3 (InSection (name_of w) t)) fs) (ls ++ Word w ∷ [])
+      sound-if (is_name w) (state_at (After 3 (WithinTree (name_of w) t)) fs) (ls ++ Word w ∷ [])
       (λ e. (
         omega arith,
         record {
@@ -568,7 +568,7 @@ module _ (r : GrammarRules) where
           main = h.main;
           looser = h.looser;
           fits = (omega arith, h.fits, e);
-          means = ap (λ x. InSection (name_of w) x) h.means;
+          means = ap (λ x. WithinTree (name_of w) x) h.means;
           spelt = regroup h.before (spelling h.text) Within (Word w ∷ []) ∙ ap (λ l. l ++ Word w ∷ []) (one_more h.before (spelling h.text) a.0 Within h.spelt ∙ a.2);
         },
       ))
@@ -613,7 +613,7 @@ module _ (r : GrammarRules) where
 
   pub finish_after-sound : (stage : Stage) (fs : List Frame) (ls : List Lexeme) → ReadsAt r stage fs ls → Means (finish_after stage fs) ls
   finish_after-sound (After k t) fs ls a = end-sound (query_joined 1 fs t) ls (query_joined-holds 1 k fs t ls (omega (arith, a.0)) a.1)
-  finish_after-sound (AfterChain ops) fs ls a = let t = Nearness ops 100 false in end-sound (query_joined 1 fs t) ls (query_joined-holds 1 6 fs t ls (omega arith) (chain-holds ops fs ls a))
+  finish_after-sound (AfterChain ops) fs ls a = let t = NearTree ops 100 false in end-sound (query_joined 1 fs t) ls (query_joined-holds 1 6 fs t ls (omega arith) (chain-holds ops fs ls a))
   finish_after-sound stage fs ls a = tt
 
   pub finish-sound : (stage : Stage) (fs : List Frame) (ls : List Lexeme) → ReadsAt r stage fs ls → Means (finish_at stage fs) ls

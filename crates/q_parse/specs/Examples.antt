@@ -8,7 +8,7 @@ use Rattle.q_tree.specs.declared.queries.WordBit.TheVariants.{Chars, One, Many}
 use Rattle.q_tree.specs.declared.flats.SumStep.TheVariants.{Number, Occurrence, Plus, Minus as Less, Times}
 use Rattle.q_tree.specs.declared.queries.Op.TheVariants.{Or, And, Minus}
 use Rattle.q_parse.specs.declared.faults.Cause.TheVariants.{OutOfRange, NotInProfile, Syntax}
-use Rattle.q_tree.specs.Trees.{Single, Both, Nearness, InSection, ScoredBy}
+use Rattle.q_tree.specs.Trees.{Single, Both, Near, Within, Define}
 use Rattle.q_parse.specs.Faults.{TooLarge, Found, Fault}
 use Rattle.q_parse.specs.Verdicts.{verdict}
 
@@ -58,7 +58,7 @@ escaped : verdict (codes "a\\&{b}}c}_%") ≡ Found (Single (Phrase (((record { p
 unfolding encode
 escaped = refl
 
-score : verdict (codes "DEFINESCORE(a, OCCURRENCE * 10 + 5)") ≡ Found (ScoredBy (leaf_at 13 (codes "a") ∷ []) (Occurrence ∷ Number 10 ∷ Times ∷ Number 5 ∷ Plus ∷ []))
+score : verdict (codes "DEFINESCORE(a, OCCURRENCE * 10 + 5)") ≡ Found (Define (leaf_at 13 (codes "a") ∷ []) (Occurrence ∷ Number 10 ∷ Times ∷ Number 5 ∷ Plus ∷ []))
 unfolding encode
 score = refl
 
@@ -70,7 +70,7 @@ level : verdict (codes "BT(a,9x)") ≡ Fault OutOfRange 6
 unfolding encode
 level = refl
 
-chain : verdict (codes "a;(b|c) WITHIN my_sec") ≡ Found (InSection (codes "my_sec") (Nearness ((leaf_at 1 (codes "a") ∷ []) ∷ (leaf_at 4 (codes "b") ∷ leaf_at 6 (codes "c") ∷ []) ∷ []) 100 false))
+chain : verdict (codes "a;(b|c) WITHIN my_sec") ≡ Found (Within (codes "my_sec") (Near ((leaf_at 1 (codes "a") ∷ []) ∷ (leaf_at 4 (codes "b") ∷ leaf_at 6 (codes "c") ∷ []) ∷ []) 100 false))
 unfolding encode
 chain = refl
 
@@ -83,7 +83,7 @@ unfolding encode
 ninth = refl
 
 -- in a sum the minus is the sign `-` alone
-sum_with_sign : verdict (codes "DEFINESCORE(a,5 - 3)") ≡ Found (ScoredBy (leaf_at 13 (codes "a") ∷ []) (Number 5 ∷ Number 3 ∷ Less ∷ []))
+sum_with_sign : verdict (codes "DEFINESCORE(a,5 - 3)") ≡ Found (Define (leaf_at 13 (codes "a") ∷ []) (Number 5 ∷ Number 3 ∷ Less ∷ []))
 unfolding encode
 sum_with_sign = refl
 

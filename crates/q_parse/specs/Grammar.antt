@@ -14,7 +14,7 @@ use Rattle.q_lex.specs.declared.lexemes.Infix.{Infix}
 use Rattle.q_lex.specs.declared.lexemes.Infix.TheVariants.{Or, And, Not, MinusWord, MinusSign}
 use Rattle.q_lex.specs.declared.lexemes.Lexeme.{Lexeme}
 use Rattle.q_lex.specs.declared.lexemes.Lexeme.TheVariants.{Word, Operator, Equiv, Near, Within, Star, Greater, Open, Close, Comma, Define, Thes}
-use Rattle.q_tree.specs.Trees.{Tree, Single, Both, Weight, Above, Nearness, InSection, ScoredBy}
+use Rattle.q_tree.specs.Trees.{Tree, Single, Both, Weight, Above, Near as NearTree, Within as WithinTree, Define as DefineTree}
 use Rattle.q_tree.specs.Limits.{has_wildcard}
 use Rattle.q_lex.specs.Words.{GrammarRules, strict, takes_tenths, takes_whole, takes_level, takes_atom, takes_plus, may_add, may_count, tenths_of, whole_of, atom_of, is_name, name_of, is_flag, says}
 
@@ -240,11 +240,11 @@ meaning (GroupText t) = meaning t
 meaning (BothText op s t) = Both (op_of op) (meaning s) (meaning t)
 meaning (WeightText t w) = Weight (tenths_of w) (meaning t)
 meaning (AboveText t w) = Above (whole_of w) (meaning t)
-meaning (WithinText t w) = InSection (name_of w) (meaning t)
-meaning (ChainText s t) = Nearness (operands s ++ phrases t ∷ []) 100 false
+meaning (WithinText t w) = WithinTree (name_of w) (meaning t)
+meaning (ChainText s t) = NearTree (operands s ++ phrases t ∷ []) 100 false
 meaning (ListText s t) = meaning t
-meaning (NearText t tail) = Nearness (operands t) (near_span tail) (near_ordered tail)
-meaning (DefineText t s) = ScoredBy (phrases t) (postfix_form s)
+meaning (NearText t tail) = NearTree (operands t) (near_span tail) (near_ordered tail)
+meaning (DefineText t s) = DefineTree (phrases t) (postfix_form s)
 
 -- how tight an operator binds
 abbrev pub tightness : Infix → ℕ

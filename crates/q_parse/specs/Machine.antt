@@ -20,7 +20,7 @@ use Rattle.q_parse.specs.declared.stages.Kind.{Kind}
 use Rattle.q_parse.specs.declared.stages.Kind.TheVariants.{InGroup, InNear, InDefine}
 use Rattle.q_parse.specs.declared.stages.SumFrame.{SumFrame}
 use Rattle.q_parse.specs.declared.stages.SumFrame.TheVariants.{SumLeft, SumOpen}
-use Rattle.q_tree.specs.Trees.{Tree, Single, Both, Weight, Above, Nearness, InSection, ScoredBy}
+use Rattle.q_tree.specs.Trees.{Tree, Single, Both, Weight, Above, Near as NearTree, Within as WithinTree, Define as DefineTree}
 use Rattle.q_parse.specs.Grammar.{op_of, tightness, put_last, has_level, default_thesaurus, is_sum_sign, sign_step, step_tightness}
 
 -- What stands open around the stage: a left side with its operator, a parenthesis, a chain that goes on with a term, or terms with the phrases so far.
@@ -103,7 +103,7 @@ after_operand k t fs l = None
 
 abbrev pub after_chain : GrammarRules → List (List Leaf) → List Frame → Lexeme → Option State
 after_chain r ops fs Near = if may_add r (length ops) then Some (state_at Operand (Chain ops ∷ fs)) else None
-after_chain r ops fs l = after_operand 6 (Nearness ops 100 false) fs l
+after_chain r ops fs l = after_operand 6 (NearTree ops 100 false) fs l
 
 -- terms are ready where a term was wanted
 abbrev pub with_terms : List Leaf → List Frame → Option State
@@ -158,7 +158,7 @@ abbrev pub sum_goes_on : List Leaf → ℕ → SumStep → List SumFrame → Lis
 sum_goes_on ps n step stack out fs = sum_sign ps n step (sum_joined (step_tightness step) stack out) fs
 
 abbrev pub sum_close : List Leaf → ℕ → List SumFrame × List SumStep → List Frame → Option State
-sum_close ps n ([], out) fs = Some (state_at (After 6 (ScoredBy ps out)) fs)
+sum_close ps n ([], out) fs = Some (state_at (After 6 (DefineTree ps out)) fs)
 sum_close ps n (SumOpen ∷ stack, out) fs = Some (state_at (SumAfter ps out stack n) fs)
 sum_close ps n (SumLeft step ∷ stack, out) fs = None
 
@@ -210,23 +210,23 @@ step_at r (Factor t) fs (Word w) = if takes_tenths r w then Some (state_at (Afte
 step_at r (Factor t) fs l = None
 step_at r (Threshold t) fs (Word w) = if takes_whole r 0 100 w then Some (state_at (After 6 (Above (whole_of w) t)) fs) else None
 step_at r (Threshold t) fs l = None
-step_at r (SectionName t) fs (Word w) = if is_name w then Some (state_at (After 3 (InSection (name_of w) t)) fs) else None
+step_at r (SectionName t) fs (Word w) = if is_name w then Some (state_at (After 3 (WithinTree (name_of w) t)) fs) else None
 step_at r (SectionName t) fs l = None
 step_at r NearWord fs Open = Some (state_at NearOpen fs)
 step_at r NearWord fs l = None
 step_at r NearOpen fs Open = Some (state_at Operand (TermsOf (InNear []) [] ∷ fs))
 step_at r NearOpen fs l = None
-step_at r (NearEnd ops) fs Close = Some (state_at (After 6 (Nearness ops 100 false)) fs)
+step_at r (NearEnd ops) fs Close = Some (state_at (After 6 (NearTree ops 100 false)) fs)
 step_at r (NearEnd ops) fs Comma = Some (state_at (NearSpan ops) fs)
 step_at r (NearEnd ops) fs l = None
 step_at r (NearSpan ops) fs (Word w) = if takes_whole r 0 100 w then Some (state_at (NearOrder ops (whole_of w)) fs) else None
 step_at r (NearSpan ops) fs l = None
-step_at r (NearOrder ops n) fs Close = Some (state_at (After 6 (Nearness ops n false)) fs)
+step_at r (NearOrder ops n) fs Close = Some (state_at (After 6 (NearTree ops n false)) fs)
 step_at r (NearOrder ops n) fs Comma = Some (state_at (NearFlag ops n) fs)
 step_at r (NearOrder ops n) fs l = None
 step_at r (NearFlag ops n) fs (Word w) = if is_flag w then Some (state_at (NearClose ops n (says (codes "true") w)) fs) else None
 step_at r (NearFlag ops n) fs l = None
-step_at r (NearClose ops n ordered) fs Close = Some (state_at (After 6 (Nearness ops n ordered)) fs)
+step_at r (NearClose ops n ordered) fs Close = Some (state_at (After 6 (NearTree ops n ordered)) fs)
 step_at r (NearClose ops n ordered) fs l = None
 step_at r DefineWord fs Open = Some (state_at Operand (TermsOf InDefine [] ∷ fs))
 step_at r DefineWord fs l = None
@@ -253,7 +253,7 @@ on_end (f ∷ fs, t) = None
 
 abbrev pub finish_after : Stage → List Frame → Option Tree
 finish_after (After k t) fs = on_end (query_joined 1 fs t)
-finish_after (AfterChain ops) fs = on_end (query_joined 1 fs (Nearness ops 100 false))
+finish_after (AfterChain ops) fs = on_end (query_joined 1 fs (NearTree ops 100 false))
 finish_after stage fs = None
 
 abbrev pub finish_at : Stage → List Frame → Option Tree

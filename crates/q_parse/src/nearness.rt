@@ -2,7 +2,7 @@
 
 ghost use Rattle.std.specs.Prelude.{◌≡◌};
 ghost use Rattle.q_lex.specs.Words.{strict};
-ghost use Rattle.q_tree.specs.Trees.{Nearness};
+ghost use Rattle.q_tree.specs.Trees.{Near};
 ghost use Rattle.q_parse.specs.Machine.{step_at, After, NearWord, NearOpen, NearEnd, NearSpan, NearOrder, NearFlag, NearClose};
 ghost use Rattle.q_parse.specs.Views.{frames_of, stage_of, Steps};
 
@@ -14,7 +14,7 @@ use q_tree::{Leaf, Query};
 use std::alloc::Global;
 
 fn near(operands: Listed<Listed<Leaf>>, span: u8, ordered: bool) -> Stage
-    ensures { stage_of result ≡ After 6 (Nearness operands span ordered) }
+    ensures { stage_of result ≡ After 6 (Near operands span ordered) }
 {
     Stage::After(
         6,

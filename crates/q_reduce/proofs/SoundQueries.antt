@@ -14,12 +14,13 @@ use Rattle.q_tree.specs.declared.queries.Op.{Op}
 use Rattle.q_tree.specs.declared.queries.Op.TheVariants.{And, Or, Not, Minus}
 use Rattle.q_tree.specs.Limits.{leaves_keep_limits, keeps_limits}
 use Rattle.q_tree.specs.Soundness.{is_between, is_slot, is_phrase, is_term, is_sum, is_sound}
-use Rattle.q_tree.specs.Trees.{Single, Both, Weight, Above, Nearness, InSection, ScoredBy, Reduced, Weighted, Exceeding, reduced_of}
+use Rattle.q_tree.specs.Trees.{Single, Both, Weight, Above, Near, Within, Define}
+use Rattle.q_tree.specs.ReducedQueries.{Reduced, Weight as ReducedWeight, Above as ReducedAbove, reduced_of}
 use Rattle.q_reduce.specs.declared.faults.ReduceFault.{ReduceFault}
 use Rattle.q_reduce.specs.Faults.{Fault}
 use Rattle.q_reduce.specs.Results.{Reduces}
 use Rattle.q_reduce.specs.Promises.{ReducedIsSound, IsTrimmed}
-use Rattle.q_reduce.specs.Reducing.{Context, place_slots, trimmed, phrases_of_slots, leaf_phrases, operand_phrases, term, right_alone, joined_query, has_phrase, close, named_place, within_place, defined_query, reduced}
+use Rattle.q_reduce.specs.Reducing.{Context, place_slots, trimmed, phrases_of_slots, leaf_phrases, operand_phrases, term, right_alone, both_query, has_phrase, near_query, named_place, within_place, define_query, reduced}
 use Rattle.q_reduce.proofs.SoundSlots.{all_joined, place_slots_sound}
 use Rattle.q_reduce.proofs.SoundPlaces.{IsSoundPlace, place_sound}
 use Rattle.q_reduce.proofs.TrimmedSlots.{all_trimmed, trimmed_ends}
@@ -59,28 +60,28 @@ right_sound Or b is = is
 right_sound Not b is = tt
 right_sound Minus b is = tt
 
-joined_sound : (op : Op) (a b : Option Reduced) → IsSound a → IsSound b → IsSound (joined_query op a b)
-joined_sound op None None left right = tt
-joined_sound op None (Some b) left right = right_sound op b right
-joined_sound op (Some a) None left right = left
-joined_sound op (Some a) (Some b) left right = and_from _ _ left right
+both_sound : (op : Op) (a b : Option Reduced) → IsSound a → IsSound b → IsSound (both_query op a b)
+both_sound op None None left right = tt
+both_sound op None (Some b) left right = right_sound op b right
+both_sound op (Some a) None left right = left
+both_sound op (Some a) (Some b) left right = and_from _ _ left right
 
-weighted_sound : (tenths : ℕ) (a : Option Reduced) → is_between 1 100 tenths ≡ true → IsSound a → IsSound (option_map (Weighted tenths) a)
-weighted_sound tenths None within is = tt
-weighted_sound tenths (Some a) within is = and_from _ _ within is
+weight_sound : (tenths : ℕ) (a : Option Reduced) → is_between 1 100 tenths ≡ true → IsSound a → IsSound (option_map (ReducedWeight tenths) a)
+weight_sound tenths None within is = tt
+weight_sound tenths (Some a) within is = and_from _ _ within is
 
-exceeding_sound : (n : ℕ) (a : Option Reduced) → nat_le n 100 ≡ true → IsSound a → IsSound (option_map (Exceeding n) a)
-exceeding_sound n None within is = tt
-exceeding_sound n (Some a) within is = and_from _ _ within is
+above_sound : (n : ℕ) (a : Option Reduced) → nat_le n 100 ≡ true → IsSound a → IsSound (option_map (ReducedAbove n) a)
+above_sound n None within is = tt
+above_sound n (Some a) within is = and_from _ _ within is
 
 within_sound : (place : Option Place) (a : Option Reduced) → IsSoundPlace place → IsSound a → IsSound (within_place place a)
 within_sound None a known is = tt
 within_sound (Some place) None known is = tt
 within_sound (Some place) (Some a) known is = and_from _ _ known is
 
-defined_sound : (sum : List SumStep) (ps : List (List Slot)) → is_sum sum ≡ true → list_all is_phrase ps ≡ true → IsSound (defined_query sum ps)
-defined_sound sum [] sums all = tt
-defined_sound sum (p ∷ ps) sums all = and_from _ _ (term_of p ps all) sums
+define_sound : (sum : List SumStep) (ps : List (List Slot)) → is_sum sum ≡ true → list_all is_phrase ps ≡ true → IsSound (define_query sum ps)
+define_sound sum [] sums all = tt
+define_sound sum (p ∷ ps) sums all = and_from _ _ (term_of p ps all) sums
 
 -- ---- nearness
 
@@ -100,18 +101,18 @@ kept_few x (op ∷ ops) = go (operand_phrases x op) (kept_few x ops)
     go [] few = omega (arith, few)
     go (p ∷ ps) few = omega (arith, few)
 
-close_sound : (span : ℕ) (ordered : Bool) (terms : List (List (List Slot))) → nat_le span 100 ≡ true → list_all is_term terms ≡ true → length terms ≤ 16 → IsSound (close span ordered terms)
-close_sound span ordered [] near all few = tt
-close_sound span ordered (o ∷ []) near all few = (and_parts (is_term o) true all).0
-close_sound span ordered (o ∷ p ∷ os) near all few =
+near_query_sound : (span : ℕ) (ordered : Bool) (terms : List (List (List Slot))) → nat_le span 100 ≡ true → list_all is_term terms ≡ true → length terms ≤ 16 → IsSound (near_query span ordered terms)
+near_query_sound span ordered [] near all few = tt
+near_query_sound span ordered (o ∷ []) near all few = (and_parts (is_term o) true all).0
+near_query_sound span ordered (o ∷ p ∷ os) near all few =
     let count = length (o ∷ p ∷ os) in
     and_from _ _ (and_from _ _ (and_from _ _ (le-leb 2 count (omega arith)) (le-leb count 16 few)) all) near
 
-near_sound : (x : Context) (ops : List (List Leaf)) (span : ℕ) (ordered : Bool) → keeps_limits (Nearness ops span ordered) ≡ true → IsSound (reduced x (Nearness ops span ordered))
+near_sound : (x : Context) (ops : List (List Leaf)) (span : ℕ) (ordered : Bool) → keeps_limits (Near ops span ordered) ≡ true → IsSound (reduced x (Near ops span ordered))
 near_sound x ops span ordered limits =
     let parts = and_parts (is_between 2 16 (length ops) && list_all leaves_keep_limits ops) (nat_le span 100) limits in
     let few = leb-true (length ops) 16 (and_parts _ _ (and_parts (is_between 2 16 (length ops)) (list_all leaves_keep_limits ops) parts.0).0).1 in
-    close_sound span ordered (filter has_phrase (map (operand_phrases x) ops)) parts.1 (kept_sound x ops) (omega (arith, few, kept_few x ops))
+    near_query_sound span ordered (filter has_phrase (map (operand_phrases x) ops)) parts.1 (kept_sound x ops) (omega (arith, few, kept_few x ops))
 
 -- ---- queries
 
@@ -119,16 +120,16 @@ pub reduced_is_sound : ReducedIsSound
 reduced_is_sound x (Single leaf) limits group = term_sound (leaf_phrases x leaf) (leaf_sound x leaf)
 reduced_is_sound x (Both op a b) limits group =
     let parts = and_parts (keeps_limits a) (keeps_limits b) limits in
-    joined_sound op (reduced x a) (reduced x b) (reduced_is_sound x a parts.0 group) (reduced_is_sound x b parts.1 group)
+    both_sound op (reduced x a) (reduced x b) (reduced_is_sound x a parts.0 group) (reduced_is_sound x b parts.1 group)
 reduced_is_sound x (Weight tenths a) limits group =
     let parts = and_parts (is_between 1 100 tenths) (keeps_limits a) limits in
-    weighted_sound tenths (reduced x a) parts.0 (reduced_is_sound x a parts.1 group)
+    weight_sound tenths (reduced x a) parts.0 (reduced_is_sound x a parts.1 group)
 reduced_is_sound x (Above n a) limits group =
     let parts = and_parts (nat_le n 100) (keeps_limits a) limits in
-    exceeding_sound n (reduced x a) parts.0 (reduced_is_sound x a parts.1 group)
-reduced_is_sound x (Nearness ops span ordered) limits group = near_sound x ops span ordered limits
-reduced_is_sound x (InSection name a) limits group = within_sound (named_place x.group name) (reduced x a) (place_sound x.group name group) (reduced_is_sound x a limits group)
-reduced_is_sound x (ScoredBy leaves sum) limits group = defined_sound sum (operand_phrases x leaves) (and_parts (leaves_keep_limits leaves) (is_sum sum) limits).1 (phrases_sound x leaves)
+    above_sound n (reduced x a) parts.0 (reduced_is_sound x a parts.1 group)
+reduced_is_sound x (Near ops span ordered) limits group = near_sound x ops span ordered limits
+reduced_is_sound x (Within name a) limits group = within_sound (named_place x.group name) (reduced x a) (place_sound x.group name group) (reduced_is_sound x a limits group)
+reduced_is_sound x (Define leaves sum) limits group = define_sound sum (operand_phrases x leaves) (and_parts (leaves_keep_limits leaves) (is_sum sum) limits).1 (phrases_sound x leaves)
 
 -- ---- answers
 

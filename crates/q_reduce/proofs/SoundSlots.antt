@@ -10,7 +10,7 @@ use Rattle.ct_base.specs.Limits.{token_limit}
 use Rattle.tx_chars.specs.laws.KeyLimit.{limit as key_limit}
 use Rattle.tx_lexer.specs.declared.tokens.Token.{Token}
 use Rattle.tx_lexer.specs.Tokens.{rules, tokens}
-use Rattle.tx_lexer.specs.TokenKeys.{some_keys, limit as token_limit_kept}
+use Rattle.tx_lexer.specs.laws.TokenKeys.{some_keys, limit as token_limit_kept}
 use Rattle.tx_stop.specs.StopKeys.{is_stop}
 use Rattle.q_tree.specs.declared.flats.PatternBit.{PatternBit}
 use Rattle.q_tree.specs.declared.flats.Slot.TheVariants.{Any, Takes}

@@ -14,9 +14,10 @@ use Rattle.q_tree.specs.declared.queries.Leaf.TheVariants.{Phrase, Thes}
 use Rattle.q_tree.specs.declared.queries.Word.{Word}
 use Rattle.q_tree.specs.Limits.{has_wildcard}
 use Rattle.q_tree.specs.Soundness.{takes_some}
-use Rattle.q_tree.specs.Trees.{Single, Both, Weight, Above, Nearness, InSection, ScoredBy, Weighted, Exceeding}
+use Rattle.q_tree.specs.Trees.{Single, Both, Weight, Above, Near, Within, Define}
+use Rattle.q_tree.specs.ReducedQueries.{Weight as ReducedWeight, Above as ReducedAbove}
 use Rattle.q_reduce.specs.Promises.{leaf_words, query_words, has_only_stopwords, StopwordsFindNothing}
-use Rattle.q_reduce.specs.Reducing.{Context, word_keys, pattern, key_slot, word_slots, joined_keys, joined_patterns, in_order, slot_of, joined_slot, place_slots, front_dropped, end_dropped, phrases_of_slots, leaf_phrases, operand_phrases, term, joined_query, has_phrase, close, named_place, within_place, defined_query, reduced}
+use Rattle.q_reduce.specs.Reducing.{Context, word_keys, pattern, key_slot, word_slots, joined_keys, joined_patterns, in_order, slot_of, joined_slot, place_slots, front_dropped, end_dropped, phrases_of_slots, leaf_phrases, operand_phrases, term, both_query, has_phrase, near_query, named_place, within_place, define_query, reduced}
 
 -- ---- lists
 
@@ -122,9 +123,9 @@ pub stopwords_find_nothing : StopwordsFindNothing
 stopwords_find_nothing x (Single leaf) stop = ap term (no_phrase x leaf stop)
 stopwords_find_nothing x (Both op a b) stop =
     let parts = and_parts (list_all (has_only_stopwords x) (query_words a)) (list_all (has_only_stopwords x) (query_words b)) (sym (list_all-append (has_only_stopwords x) (query_words a) (query_words b)) ∙ stop) in
-    ap (λ q. joined_query op q (reduced x b)) (stopwords_find_nothing x a parts.0) ∙ ap (joined_query op None) (stopwords_find_nothing x b parts.1)
-stopwords_find_nothing x (Weight tenths a) stop = ap (option_map (Weighted tenths)) (stopwords_find_nothing x a stop)
-stopwords_find_nothing x (Above n a) stop = ap (option_map (Exceeding n)) (stopwords_find_nothing x a stop)
-stopwords_find_nothing x (Nearness ops span ordered) stop = ap (close span ordered) (no_operand x ops (each_list (has_only_stopwords x) (flat_map leaf_words) ops stop))
-stopwords_find_nothing x (InSection name a) stop = ap (within_place (named_place x.group name)) (stopwords_find_nothing x a stop) ∙ within_none (named_place x.group name)
-stopwords_find_nothing x (ScoredBy leaves sum) stop = ap (defined_query sum) (no_phrases x leaves stop)
+    ap (λ q. both_query op q (reduced x b)) (stopwords_find_nothing x a parts.0) ∙ ap (both_query op None) (stopwords_find_nothing x b parts.1)
+stopwords_find_nothing x (Weight tenths a) stop = ap (option_map (ReducedWeight tenths)) (stopwords_find_nothing x a stop)
+stopwords_find_nothing x (Above n a) stop = ap (option_map (ReducedAbove n)) (stopwords_find_nothing x a stop)
+stopwords_find_nothing x (Near ops span ordered) stop = ap (near_query span ordered) (no_operand x ops (each_list (has_only_stopwords x) (flat_map leaf_words) ops stop))
+stopwords_find_nothing x (Within name a) stop = ap (within_place (named_place x.group name)) (stopwords_find_nothing x a stop) ∙ within_none (named_place x.group name)
+stopwords_find_nothing x (Define leaves sum) stop = ap (define_query sum) (no_phrases x leaves stop)

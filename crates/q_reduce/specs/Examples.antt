@@ -17,7 +17,8 @@ use Rattle.q_tree.specs.declared.queries.Word.{Word}
 use Rattle.q_tree.specs.declared.queries.Leaf.{Leaf}
 use Rattle.q_tree.specs.declared.queries.Leaf.TheVariants.{Phrase}
 use Rattle.q_tree.specs.declared.queries.Op.TheVariants.{And, Not}
-use Rattle.q_tree.specs.Trees.{Single, Both, Weight, Nearness, InSection, Term, Inside}
+use Rattle.q_tree.specs.Trees.{Single, Both, Weight, Near, Within}
+use Rattle.q_tree.specs.ReducedQueries.{Term, Within as ReducedWithin}
 use Rattle.q_reduce.specs.Reducing.{Context, trimmed, reduced}
 use Rattle.q_reduce.specs.Promises.{slot_keys, query_words, has_only_stopwords}
 use Rattle.q_reduce.specs.Faults.{faults, NoSection, FieldInside, ManyTokens}
@@ -81,21 +82,21 @@ unfolding encode chars caseless ucd_category key_text
 a_pattern = refl
 
 -- `alpha WITHIN t`, and `alpha WITHIN z`
-in_a_field : reduced its (InSection (codes "t") (Single (leaf 1 (codes "alpha")))) ≡ Some (Inside (Field 1) (Term ((key (codes "alpha") ∷ []) ∷ [])))
+in_a_field : reduced its (Within (codes "t") (Single (leaf 1 (codes "alpha")))) ≡ Some (ReducedWithin (Field 1) (Term ((key (codes "alpha") ∷ []) ∷ [])))
 unfolding encode chars caseless ucd_category key_text
 in_a_field = refl
 
-no_section : faults its false (InSection (codes "z") (Single (leaf 1 (codes "alpha")))) ≡ NoSection (codes "z") ∷ []
+no_section : faults its false (Within (codes "z") (Single (leaf 1 (codes "alpha")))) ≡ NoSection (codes "z") ∷ []
 unfolding encode chars caseless ucd_category key_text
 no_section = refl
 
 -- `(alpha WITHIN t) WITHIN z`: the field inside stands first in the text
-field_inside : faults its false (InSection (codes "z") (InSection (codes "t") (Single (leaf 2 (codes "alpha"))))) ≡ FieldInside (codes "t") ∷ NoSection (codes "z") ∷ []
+field_inside : faults its false (Within (codes "z") (Within (codes "t") (Single (leaf 2 (codes "alpha"))))) ≡ FieldInside (codes "t") ∷ NoSection (codes "z") ∷ []
 unfolding encode chars caseless ucd_category key_text
 field_inside = refl
 
 -- `NEAR((is, jack))` is `jack`
-one_operand_left : reduced its (Nearness ((leaf 7 (codes "is") ∷ []) ∷ (leaf 11 (codes "jack") ∷ []) ∷ []) 100 false) ≡ Some (Term ((key (codes "jack") ∷ []) ∷ []))
+one_operand_left : reduced its (Near ((leaf 7 (codes "is") ∷ []) ∷ (leaf 11 (codes "jack") ∷ []) ∷ []) 100 false) ≡ Some (Term ((key (codes "jack") ∷ []) ∷ []))
 unfolding encode chars caseless ucd_category key_text
 one_operand_left = refl
 
@@ -148,7 +149,7 @@ empty_run = refl
 -- ---- faults of parts that come to nothing, and nothing under operators
 
 -- `is WITHIN z`
-fault_of_nothing : faults its false (InSection (codes "z") (Single (leaf 1 (codes "is")))) ≡ NoSection (codes "z") ∷ []
+fault_of_nothing : faults its false (Within (codes "z") (Single (leaf 1 (codes "is")))) ≡ NoSection (codes "z") ∷ []
 unfolding encode chars caseless ucd_category key_text
 fault_of_nothing = refl
 
@@ -163,6 +164,6 @@ unfolding encode chars caseless ucd_category key_text
 jack_not_is = refl
 
 -- `jack WITHIN sentence`, of a group without sentences
-no_sentences : faults its false (InSection (codes "sentence") (Single (leaf 1 (codes "jack")))) ≡ NoSection (codes "sentence") ∷ []
+no_sentences : faults its false (Within (codes "sentence") (Single (leaf 1 (codes "jack")))) ≡ NoSection (codes "sentence") ∷ []
 unfolding encode chars caseless ucd_category key_text
 no_sentences = refl

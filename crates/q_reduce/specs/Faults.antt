@@ -8,7 +8,7 @@ use Rattle.q_tree.specs.declared.queries.Word.{Word}
 use Rattle.q_tree.specs.declared.queries.Leaf.{Leaf}
 use Rattle.q_tree.specs.declared.queries.Leaf.TheVariants.{Phrase, Thes}
 use Rattle.q_tree.specs.Limits.{has_wildcard}
-use Rattle.q_tree.specs.Trees.{Tree, Single, Both, Weight, Above, Nearness, InSection, ScoredBy}
+use Rattle.q_tree.specs.Trees.{Tree, Single, Both, Weight, Above, Near, Within, Define}
 use Rattle.q_reduce.specs.Reducing.{Context, word_keys, named_place}
 
 -- The group has no section of the name; a field stands inside another WITHIN; a word that EQUIV joins, at this place, isn't one token.
@@ -54,9 +54,9 @@ faults x inside (Single leaf) = leaf_faults x leaf
 faults x inside (Both op a b) = faults x inside a ++ faults x inside b
 faults x inside (Weight tenths a) = faults x inside a
 faults x inside (Above n a) = faults x inside a
-faults x inside (Nearness operands span ordered) = operands_faults x operands
-faults x inside (InSection name a) = faults x true a ++ section_faults inside name (named_place x.group name)
-faults x inside (ScoredBy leaves sum) = leaves_faults x leaves
+faults x inside (Near operands span ordered) = operands_faults x operands
+faults x inside (Within name a) = faults x true a ++ section_faults inside name (named_place x.group name)
+faults x inside (Define leaves sum) = leaves_faults x leaves
 
 -- ---- computed examples; those of whole queries are in `Examples.antt`
 

@@ -12,7 +12,7 @@ use Rattle.q_tree.specs.declared.queries.Leaf.TheVariants.{Phrase, Thes}
 use Rattle.q_tree.specs.Limits.{has_wildcard, keeps_limits}
 use Rattle.q_tree.specs.Slots.{has_key}
 use Rattle.q_tree.specs.Soundness.{slot_keys_rise, takes_some, ends_well, is_sound}
-use Rattle.q_tree.specs.Trees.{Tree, Single, Both, Weight, Above, Nearness, InSection, ScoredBy}
+use Rattle.q_tree.specs.Trees.{Tree, Single, Both, Weight, Above, Near, Within, Define}
 use Rattle.q_reduce.specs.Reducing.{Context, word_keys, joined_keys, in_order, trimmed, reduced}
 
 -- What a query that keeps the limits is reduced to is sound.
@@ -63,9 +63,9 @@ query_words (Single leaf) = leaf_words leaf
 query_words (Both op a b) = query_words a ++ query_words b
 query_words (Weight tenths a) = query_words a
 query_words (Above n a) = query_words a
-query_words (Nearness operands span ordered) = flat_map (flat_map leaf_words) operands
-query_words (InSection name a) = query_words a
-query_words (ScoredBy leaves sum) = flat_map leaf_words leaves
+query_words (Near operands span ordered) = flat_map (flat_map leaf_words) operands
+query_words (Within name a) = query_words a
+query_words (Define leaves sum) = flat_map leaf_words leaves
 
 -- whether all tokens of the word are stopwords
 abbrev pub has_only_stopwords : Context → Word → Bool

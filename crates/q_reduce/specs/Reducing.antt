@@ -29,7 +29,8 @@ use Rattle.q_tree.specs.declared.queries.Leaf.TheVariants.{Phrase, Thes}
 use Rattle.q_tree.specs.declared.queries.Op.{Op}
 use Rattle.q_tree.specs.declared.queries.Op.TheVariants.{Or, And, Not, Minus}
 use Rattle.q_tree.specs.Limits.{has_wildcard}
-use Rattle.q_tree.specs.Trees.{Tree, Single, Both, Weight, Above, Nearness, InSection, ScoredBy, Reduced, Term, Joined, Weighted, Exceeding, Close, Inside, Defined}
+use Rattle.q_tree.specs.Trees.{Tree, Single, Both, Weight, Above, Near, Within, Define}
+use Rattle.q_tree.specs.ReducedQueries.{Reduced, Term, Both as ReducedBoth, Weight as ReducedWeight, Above as ReducedAbove, Near as ReducedNear, Within as ReducedWithin, Define as ReducedDefine}
 
 -- By what a query is reduced: the options of the index's lexer, its stop keys and its section group.
 pub record Context : Type 0 where
@@ -145,11 +146,11 @@ right_alone Minus b = None
 
 -- AND and OR with one side nothing are the other; NOT and MINUS with the right side nothing are the left, and with the left side
 -- nothing they are nothing.
-abbrev pub joined_query : Op → Option Reduced → Option Reduced → Option Reduced
-joined_query op None None = None
-joined_query op None (Some b) = right_alone op b
-joined_query op (Some a) None = Some a
-joined_query op (Some a) (Some b) = Some (Joined op a b)
+abbrev pub both_query : Op → Option Reduced → Option Reduced → Option Reduced
+both_query op None None = None
+both_query op None (Some b) = right_alone op b
+both_query op (Some a) None = Some a
+both_query op (Some a) (Some b) = Some (ReducedBoth op a b)
 
 -- whether an operand has a phrase
 abbrev pub has_phrase : List (List Slot) → Bool
@@ -161,10 +162,10 @@ abbrev pub kept_operands : Context → List (List Leaf) → List (List (List Slo
 kept_operands x operands = filter has_phrase (map (operand_phrases x) operands)
 
 -- Of NEAR the operands that are nothing are dropped; one that is left is itself, and without any it is nothing.
-abbrev pub close : ℕ → Bool → List (List (List Slot)) → Option Reduced
-close span ordered [] = None
-close span ordered (o ∷ []) = Some (Term o)
-close span ordered (o ∷ p ∷ os) = Some (Close (o ∷ p ∷ os) span ordered)
+abbrev pub near_query : ℕ → Bool → List (List (List Slot)) → Option Reduced
+near_query span ordered [] = None
+near_query span ordered (o ∷ []) = Some (Term o)
+near_query span ordered (o ∷ p ∷ os) = Some (ReducedNear (o ∷ p ∷ os) span ordered)
 
 -- ---- sections
 
@@ -192,33 +193,33 @@ named_place g name =
 
 abbrev pub within_place : Option Place → Option Reduced → Option Reduced
 within_place None q = None
-within_place (Some place) q = option_map (Inside place) q
+within_place (Some place) q = option_map (ReducedWithin place) q
 
-abbrev pub defined_query : List SumStep → List (List Slot) → Option Reduced
-defined_query sum [] = None
-defined_query sum (p ∷ ps) = Some (Defined (p ∷ ps) sum)
+abbrev pub define_query : List SumStep → List (List Slot) → Option Reduced
+define_query sum [] = None
+define_query sum (p ∷ ps) = Some (ReducedDefine (p ∷ ps) sum)
 
 -- ---- queries
 
 -- THE REDUCED QUERY. None is a query that finds nothing. What it is where the query has a fault doesn't matter.
 abbrev pub reduced : Context → Tree → Option Reduced
 reduced x (Single leaf) = term (leaf_phrases x leaf)
-reduced x (Both op a b) = joined_query op (reduced x a) (reduced x b)
-reduced x (Weight tenths a) = option_map (Weighted tenths) (reduced x a)
-reduced x (Above n a) = option_map (Exceeding n) (reduced x a)
-reduced x (Nearness operands span ordered) = close span ordered (kept_operands x operands)
-reduced x (InSection name a) = within_place (named_place x.group name) (reduced x a)
-reduced x (ScoredBy leaves sum) = defined_query sum (operand_phrases x leaves)
+reduced x (Both op a b) = both_query op (reduced x a) (reduced x b)
+reduced x (Weight tenths a) = option_map (ReducedWeight tenths) (reduced x a)
+reduced x (Above n a) = option_map (ReducedAbove n) (reduced x a)
+reduced x (Near operands span ordered) = near_query span ordered (kept_operands x operands)
+reduced x (Within name a) = within_place (named_place x.group name) (reduced x a)
+reduced x (Define leaves sum) = define_query sum (operand_phrases x leaves)
 
 -- ---- computed examples; those of whole queries are in `Examples.antt`
 
-nothing_and_a_part : (q : Reduced) → joined_query And None (Some q) ≡ Some q
+nothing_and_a_part : (q : Reduced) → both_query And None (Some q) ≡ Some q
 nothing_and_a_part q = refl
 
-nothing_minus_a_part : (q : Reduced) → joined_query Minus None (Some q) ≡ None
+nothing_minus_a_part : (q : Reduced) → both_query Minus None (Some q) ≡ None
 nothing_minus_a_part q = refl
 
-one_operand_left : (p : List Slot) → close 5 true ((p ∷ []) ∷ []) ≡ Some (Term (p ∷ []))
+one_operand_left : (p : List Slot) → near_query 5 true ((p ∷ []) ∷ []) ≡ Some (Term (p ∷ []))
 one_operand_left p = refl
 
 any_between : trimmed (Any ∷ Takes [] [] ∷ Any ∷ Takes [] [] ∷ Any ∷ []) ≡ Takes [] [] ∷ Any ∷ Takes [] [] ∷ []

@@ -2,7 +2,7 @@
 use Rattle.std.specs.Prelude.{◌≡◌, List, [], ◌∷◌, ◌++◌, Option, Some, None, Result, Ok, Err, refl}
 use Rattle.std.specs.Option.{option_map}
 use Rattle.q_tree.specs.declared.flats.Flat.{Flat}
-use Rattle.q_tree.specs.Trees.{Reduced, reduced_of}
+use Rattle.q_tree.specs.ReducedQueries.{Reduced, reduced_of}
 use Rattle.q_reduce.specs.declared.reducing.ReduceCtx.{ReduceCtx}
 use Rattle.q_reduce.specs.declared.faults.ReduceFault.{ReduceFault}
 use Rattle.q_reduce.specs.declared.faults.ReduceFault.TheVariants.{NoSection as SectionFault, FieldInside as FieldFault, ManyTokens as TokensFault, Memory}

@@ -2,8 +2,8 @@
 
 ghost use Rattle.std.specs.Prelude.{◌≡◌, IfOk};
 ghost use Rattle.std.specs.Option.{option_map};
-ghost use Rattle.q_tree.specs.Trees.{reduced_of, Joined, Weighted, Exceeding, Inside};
-ghost use Rattle.q_reduce.specs.Reducing.{close, defined_query, joined_query, right_alone, term};
+ghost use Rattle.q_tree.specs.ReducedQueries.{reduced_of, Both, Weight, Above, Within};
+ghost use Rattle.q_reduce.specs.Reducing.{near_query, define_query, both_query, right_alone, term};
 
 use ct_base::{Listed, Memory};
 use q_tree::{Flat, Op, Phrase, Phrases, Place, SumStep};
@@ -21,7 +21,7 @@ pub(crate) fn term(phrases: Vec<Phrase>) -> Option<Flat>
 
 /// Two queries with an operator between.
 fn both(alloc: Global, op: Op, a: Flat, b: Flat) -> Result<Flat, Memory>
-    ensures { IfOk result (λ q. reduced_of q ≡ Joined op (reduced_of a) (reduced_of b)) }
+    ensures { IfOk result (λ q. reduced_of q ≡ Both op (reduced_of a) (reduced_of b)) }
 {
     let a = Box::new(alloc, a)?;
     let b = Box::new(alloc, b)?;
@@ -46,13 +46,13 @@ fn right_alone(op: Op, b: Flat) -> Option<Flat>
 }
 
 /// What an operator makes of its sides, either of which may be nothing.
-pub(crate) fn joined_query(
+pub(crate) fn both_query(
     alloc: Global,
     op: Op,
     a: Option<Flat>,
     b: Option<Flat>,
 ) -> Result<Option<Flat>, Memory>
-    ensures { IfOk result (λ q. option_map reduced_of q ≡ joined_query op (option_map reduced_of a) (option_map reduced_of b)) }
+    ensures { IfOk result (λ q. option_map reduced_of q ≡ both_query op (option_map reduced_of a) (option_map reduced_of b)) }
 {
     match (a, b) {
         (Some(a), Some(b)) => Ok(Some(both(alloc, op, a, b)?)),
@@ -63,8 +63,12 @@ pub(crate) fn joined_query(
 }
 
 /// The part with a weight in tenths.
-pub(crate) fn weighted(alloc: Global, tenths: u8, a: Option<Flat>) -> Result<Option<Flat>, Memory>
-    ensures { IfOk result (λ q. option_map reduced_of q ≡ option_map (Weighted tenths) (option_map reduced_of a)) }
+pub(crate) fn weight_query(
+    alloc: Global,
+    tenths: u8,
+    a: Option<Flat>,
+) -> Result<Option<Flat>, Memory>
+    ensures { IfOk result (λ q. option_map reduced_of q ≡ option_map (Weight tenths) (option_map reduced_of a)) }
 {
     match a {
         None => Ok(None),
@@ -73,8 +77,12 @@ pub(crate) fn weighted(alloc: Global, tenths: u8, a: Option<Flat>) -> Result<Opt
 }
 
 /// The part, where its score is above the number.
-pub(crate) fn exceeding(alloc: Global, number: u8, a: Option<Flat>) -> Result<Option<Flat>, Memory>
-    ensures { IfOk result (λ q. option_map reduced_of q ≡ option_map (Exceeding number) (option_map reduced_of a)) }
+pub(crate) fn above_query(
+    alloc: Global,
+    number: u8,
+    a: Option<Flat>,
+) -> Result<Option<Flat>, Memory>
+    ensures { IfOk result (λ q. option_map reduced_of q ≡ option_map (Above number) (option_map reduced_of a)) }
 {
     match a {
         None => Ok(None),
@@ -83,8 +91,12 @@ pub(crate) fn exceeding(alloc: Global, number: u8, a: Option<Flat>) -> Result<Op
 }
 
 /// The part, looked for in a place.
-pub(crate) fn within(alloc: Global, place: Place, a: Option<Flat>) -> Result<Option<Flat>, Memory>
-    ensures { IfOk result (λ q. option_map reduced_of q ≡ option_map (Inside place) (option_map reduced_of a)) }
+pub(crate) fn within_query(
+    alloc: Global,
+    place: Place,
+    a: Option<Flat>,
+) -> Result<Option<Flat>, Memory>
+    ensures { IfOk result (λ q. option_map reduced_of q ≡ option_map (Within place) (option_map reduced_of a)) }
 {
     match a {
         None => Ok(None),
@@ -93,8 +105,8 @@ pub(crate) fn within(alloc: Global, place: Place, a: Option<Flat>) -> Result<Opt
 }
 
 /// Operands near one another. One that is left is itself.
-pub(crate) fn close(operands: Vec<Phrases>, span: u8, ordered: bool) -> Option<Flat>
-    ensures { option_map reduced_of result ≡ close span ordered operands.items }
+pub(crate) fn near_query(operands: Vec<Phrases>, span: u8, ordered: bool) -> Option<Flat>
+    ensures { option_map reduced_of result ≡ near_query span ordered operands.items }
 {
     let mut operands = operands;
     if operands.len() > 1 {
@@ -111,12 +123,12 @@ pub(crate) fn close(operands: Vec<Phrases>, span: u8, ordered: bool) -> Option<F
 }
 
 /// A term of these phrases with the sum that its score is, which is nothing where there are none.
-pub(crate) fn defined_query(
+pub(crate) fn define_query(
     alloc: Global,
     phrases: Vec<Phrase>,
     sum: &[SumStep],
 ) -> Result<Option<Flat>, Memory>
-    ensures { IfOk result (λ q. option_map reduced_of q ≡ defined_query sum.now phrases.items) }
+    ensures { IfOk result (λ q. option_map reduced_of q ≡ define_query sum.now phrases.items) }
 {
     if phrases.is_empty() {
         return Ok(None);

@@ -5,13 +5,16 @@ ghost use Rattle.std.specs.Prelude.{◌≡◌, IfOk, IfSome, true, false};
 ghost use Rattle.std.specs.List.{list_all};
 ghost use Rattle.q_tree.specs.Limits.{keeps_limits, leaves_keep_limits};
 ghost use Rattle.q_tree.specs.Soundness.{is_sound};
-ghost use Rattle.q_tree.specs.Trees.{reduced_of, tree_of};
+ghost use Rattle.q_tree.specs.Trees.{tree_of};
+ghost use Rattle.q_tree.specs.ReducedQueries.{reduced_of};
 ghost use Rattle.q_reduce.specs.Faults.{faults, leaves_faults, operands_faults};
-ghost use Rattle.q_reduce.specs.Reducing.{close, defined_query, kept_operands, operand_phrases, reduced};
+ghost use Rattle.q_reduce.specs.Reducing.{near_query, define_query, kept_operands, operand_phrases, reduced};
 ghost use Rattle.q_reduce.specs.Results.{Reduces, context_of};
 
 use crate::faults::ReduceFault;
-use crate::operators::{close, defined_query, exceeding, joined_query, term, weighted, within};
+use crate::operators::{
+    above_query, both_query, define_query, near_query, term, weight_query, within_query,
+};
 use crate::phrases::{leaf_phrases, operand_phrases, operands};
 use crate::sections::section;
 use ct_base::Listed;
@@ -63,28 +66,28 @@ fn reduce_part(
         Query::And(a, b) => {
             let a = reduce_part(alloc, a, ctx, inside)?;
             let b = reduce_part(alloc, b, ctx, inside)?;
-            Ok(joined_query(alloc, Op::And, a, b)?)
+            Ok(both_query(alloc, Op::And, a, b)?)
         }
         Query::Or(a, b) => {
             let a = reduce_part(alloc, a, ctx, inside)?;
             let b = reduce_part(alloc, b, ctx, inside)?;
-            Ok(joined_query(alloc, Op::Or, a, b)?)
+            Ok(both_query(alloc, Op::Or, a, b)?)
         }
         Query::Not(a, b) => {
             let a = reduce_part(alloc, a, ctx, inside)?;
             let b = reduce_part(alloc, b, ctx, inside)?;
-            Ok(joined_query(alloc, Op::Not, a, b)?)
+            Ok(both_query(alloc, Op::Not, a, b)?)
         }
         Query::Minus(a, b) => {
             let a = reduce_part(alloc, a, ctx, inside)?;
             let b = reduce_part(alloc, b, ctx, inside)?;
-            Ok(joined_query(alloc, Op::Minus, a, b)?)
+            Ok(both_query(alloc, Op::Minus, a, b)?)
         }
         Query::Weight(tenths, a) => {
-            Ok(weighted(alloc, *tenths, reduce_part(alloc, a, ctx, inside)?)?)
+            Ok(weight_query(alloc, *tenths, reduce_part(alloc, a, ctx, inside)?)?)
         }
         Query::Above(number, a) => {
-            Ok(exceeding(alloc, *number, reduce_part(alloc, a, ctx, inside)?)?)
+            Ok(above_query(alloc, *number, reduce_part(alloc, a, ctx, inside)?)?)
         }
         Query::Near {
             operands,
@@ -94,7 +97,7 @@ fn reduce_part(
         Query::Within(name, a) => {
             let a = reduce_part(alloc, a, ctx, true)?;
             let place = section(ctx.group, name, inside)?;
-            Ok(within(alloc, place, a)?)
+            Ok(within_query(alloc, place, a)?)
         }
         Query::Define(leaves, sum) => reduce_define(alloc, ctx, leaves.as_slice(), sum.as_slice()),
     }
@@ -109,10 +112,10 @@ fn reduce_near(
     ordered: bool,
 ) -> Result<Option<Flat>, ReduceFault>
     requires { list_all leaves_keep_limits parts.now ≡ true }
-    ensures { Reduces result (operands_faults (context_of ctx.now) parts.now) (close span ordered (kept_operands (context_of ctx.now) parts.now)) }
+    ensures { Reduces result (operands_faults (context_of ctx.now) parts.now) (near_query span ordered (kept_operands (context_of ctx.now) parts.now)) }
 {
     let operands = operands(alloc, ctx, parts)?;
-    Ok(close(operands, span, ordered))
+    Ok(near_query(operands, span, ordered))
 }
 
 /// An operand with the sum that its score is, unless it is nothing.
@@ -123,8 +126,8 @@ fn reduce_define(
     sum: &[SumStep],
 ) -> Result<Option<Flat>, ReduceFault>
     requires { leaves_keep_limits leaves.now ≡ true }
-    ensures { Reduces result (leaves_faults (context_of ctx.now) leaves.now) (defined_query sum.now (operand_phrases (context_of ctx.now) leaves.now)) }
+    ensures { Reduces result (leaves_faults (context_of ctx.now) leaves.now) (define_query sum.now (operand_phrases (context_of ctx.now) leaves.now)) }
 {
     let phrases = operand_phrases(alloc, ctx, leaves)?;
-    Ok(defined_query(alloc, phrases, sum)?)
+    Ok(define_query(alloc, phrases, sum)?)
 }

@@ -10,7 +10,7 @@ use Rattle.q_tree.specs.declared.flats.Slot.TheVariants.{Any, Takes}
 use Rattle.q_tree.specs.declared.flats.Place.TheVariants.{Zone, Field, Sentence, Paragraph}
 use Rattle.q_tree.specs.declared.flats.SumStep.TheVariants.{Number, Discrete, Occurrence, Plus, Minus as Less, Times}
 use Rattle.q_tree.specs.declared.queries.Op.TheVariants.{Or, And, Not, Minus}
-use Rattle.q_tree.specs.Trees.{Reduced, Term, Joined, Weighted, Exceeding, Close, Inside, Defined}
+use Rattle.q_tree.specs.ReducedQueries.{Reduced, Term, Both, Weight, Above, Near, Within, Define}
 use Rattle.q_tree.specs.Scores.{DocPostings, whole_score}
 use Rattle.q_tree.specs.Documents.{DocWord, postings_of_words, postings_of_entries}
 
@@ -89,48 +89,48 @@ unfolding encode chars
 greatest_of_phrases = refl
 
 -- quick AND fox
-the_lesser : whole_score (Joined And quick fox) fox_text ≡ 1
+the_lesser : whole_score (Both And quick fox) fox_text ≡ 1
 unfolding encode chars
 the_lesser = refl
 
 -- quick OR fox
-the_greater : whole_score (Joined Or quick fox) fox_text ≡ 2
+the_greater : whole_score (Both Or quick fox) fox_text ≡ 2
 unfolding encode chars
 the_greater = refl
 
 -- slow OR fox
-one_side : whole_score (Joined Or slow fox) fox_text ≡ 1
+one_side : whole_score (Both Or slow fox) fox_text ≡ 1
 unfolding encode chars
 one_side = refl
 
 -- quick NOT slow, and quick NOT fox
-kept : whole_score (Joined Not quick slow) fox_text ≡ 2
+kept : whole_score (Both Not quick slow) fox_text ≡ 2
 unfolding encode chars
 kept = refl
 
-not_kept : whole_score (Joined Not quick fox) fox_text ≡ 0
+not_kept : whole_score (Both Not quick fox) fox_text ≡ 0
 unfolding encode chars
 not_kept = refl
 
 -- fox MINUS quick, and quick MINUS fox
-none_left : whole_score (Joined Minus fox quick) fox_text ≡ 0
+none_left : whole_score (Both Minus fox quick) fox_text ≡ 0
 unfolding encode chars
 none_left = refl
 
-one_left : whole_score (Joined Minus quick fox) fox_text ≡ 1
+one_left : whole_score (Both Minus quick fox) fox_text ≡ 1
 unfolding encode chars
 one_left = refl
 
 -- quick > 1, quick > 2, and quick > 1 AND fox
-above_1 : whole_score (Exceeding 1 quick) fox_text ≡ 2
+above_1 : whole_score (Above 1 quick) fox_text ≡ 2
 unfolding encode chars
 above_1 = refl
 
-not_above_2 : whole_score (Exceeding 2 quick) fox_text ≡ 0
+not_above_2 : whole_score (Above 2 quick) fox_text ≡ 0
 unfolding encode chars
 not_above_2 = refl
 
-above_1_and_fox : whole_score (Joined And (Exceeding 1 quick) fox) fox_text ≡ 1
+above_1_and_fox : whole_score (Both And (Above 1 quick) fox) fox_text ≡ 1
 unfolding encode chars
 above_1_and_fox = refl
 
@@ -147,38 +147,38 @@ unfolding encode chars
 at_most_100 = refl
 
 -- quick*0.1
-a_tenth_of_100 : whole_score (Weighted 1 quick) quick_101_times ≡ 10
+a_tenth_of_100 : whole_score (Weight 1 quick) quick_101_times ≡ 10
 unfolding encode chars
 a_tenth_of_100 = refl
 
-a_tenth_of_1 : whole_score (Weighted 1 quick) quick_once ≡ 1
+a_tenth_of_1 : whole_score (Weight 1 quick) quick_once ≡ 1
 unfolding encode chars
 a_tenth_of_1 = refl
 
 -- ---- DEFINESCORE
 
 -- DEFINESCORE(quick, OCCURRENCE * 10 + 5)
-score_25 : whole_score (Defined (phrase (codes "quick" ∷ [])) (Occurrence ∷ Number 10 ∷ Times ∷ Number 5 ∷ Plus ∷ [])) fox_text ≡ 25
+score_25 : whole_score (Define (phrase (codes "quick" ∷ [])) (Occurrence ∷ Number 10 ∷ Times ∷ Number 5 ∷ Plus ∷ [])) fox_text ≡ 25
 unfolding encode chars
 score_25 = refl
 
 -- DEFINESCORE(quick, DISCRETE)
-score_100 : whole_score (Defined (phrase (codes "quick" ∷ [])) (Discrete ∷ [])) fox_text ≡ 100
+score_100 : whole_score (Define (phrase (codes "quick" ∷ [])) (Discrete ∷ [])) fox_text ≡ 100
 unfolding encode chars
 score_100 = refl
 
 -- DEFINESCORE(quick, 0 - 5)
-score_1 : whole_score (Defined (phrase (codes "quick" ∷ [])) (Number 0 ∷ Number 5 ∷ Less ∷ [])) fox_text ≡ 1
+score_1 : whole_score (Define (phrase (codes "quick" ∷ [])) (Number 0 ∷ Number 5 ∷ Less ∷ [])) fox_text ≡ 1
 unfolding encode chars
 score_1 = refl
 
 -- DEFINESCORE(slow, DISCRETE)
-score_0 : whole_score (Defined (phrase (codes "slow" ∷ [])) (Discrete ∷ [])) fox_text ≡ 0
+score_0 : whole_score (Define (phrase (codes "slow" ∷ [])) (Discrete ∷ [])) fox_text ≡ 0
 unfolding encode chars
 score_0 = refl
 
 -- DEFINESCORE((quick OR quick), OCCURRENCE)
-equal_occurrences_once : whole_score (Defined (map only (codes "quick" ∷ []) ∷ map only (codes "quick" ∷ []) ∷ []) (Occurrence ∷ [])) fox_text ≡ 2
+equal_occurrences_once : whole_score (Define (map only (codes "quick" ∷ []) ∷ map only (codes "quick" ∷ []) ∷ []) (Occurrence ∷ [])) fox_text ≡ 2
 unfolding encode chars
 equal_occurrences_once = refl
 
@@ -226,32 +226,32 @@ abbrev near : List ℕ → List ℕ → List (List (List Slot))
 near j k = phrase (j ∷ []) ∷ phrase (k ∷ []) ∷ []
 
 -- NEAR((a,b),0), NEAR((a,b),1), NEAR((b,a),1,TRUE) and a ; b
-too_far : whole_score (Close (near (codes "a") (codes "b")) 0 false) a_b ≡ 0
+too_far : whole_score (Near (near (codes "a") (codes "b")) 0 false) a_b ≡ 0
 unfolding encode chars
 too_far = refl
 
-one_apart : whole_score (Close (near (codes "a") (codes "b")) 1 false) a_b ≡ 100
+one_apart : whole_score (Near (near (codes "a") (codes "b")) 1 false) a_b ≡ 100
 unfolding encode chars
 one_apart = refl
 
-not_in_order : whole_score (Close (near (codes "b") (codes "a")) 1 true) a_b ≡ 0
+not_in_order : whole_score (Near (near (codes "b") (codes "a")) 1 true) a_b ≡ 0
 unfolding encode chars
 not_in_order = refl
 
-in_order : whole_score (Close (near (codes "a") (codes "b")) 1 true) a_b ≡ 100
+in_order : whole_score (Near (near (codes "a") (codes "b")) 1 true) a_b ≡ 100
 unfolding encode chars
 in_order = refl
 
-a_chain : whole_score (Close (near (codes "a") (codes "b")) 100 false) a_b ≡ 100
+a_chain : whole_score (Near (near (codes "a") (codes "b")) 100 false) a_b ≡ 100
 unfolding encode chars
 a_chain = refl
 
 -- one occurrence may serve two operands
-one_for_both : whole_score (Close (near (codes "a") (codes "a")) 0 false) a_b ≡ 100
+one_for_both : whole_score (Near (near (codes "a") (codes "a")) 0 false) a_b ≡ 100
 unfolding encode chars
 one_for_both = refl
 
-not_for_both_in_order : whole_score (Close (near (codes "a") (codes "a")) 0 true) a_b ≡ 0
+not_for_both_in_order : whole_score (Near (near (codes "a") (codes "a")) 0 true) a_b ≡ 0
 unfolding encode chars
 not_for_both_in_order = refl
 
@@ -261,21 +261,21 @@ abbrev in_sentences : List Pair → DocPostings
 in_sentences ps = postings_of_words (words_from 1 (codes "a" ∷ codes "b" ∷ [])) (map (λ p. record { name = codes "sentence"; pair = p }) ps)
 
 -- (a AND b) WITHIN SENTENCE
-two_sentences : whole_score (Inside Sentence (Joined And (key (codes "a")) (key (codes "b")))) (in_sentences (pair 1 1 ∷ pair 2 2 ∷ [])) ≡ 0
+two_sentences : whole_score (Within Sentence (Both And (key (codes "a")) (key (codes "b")))) (in_sentences (pair 1 1 ∷ pair 2 2 ∷ [])) ≡ 0
 unfolding encode chars
 two_sentences = refl
 
-one_sentence : whole_score (Inside Sentence (Joined And (key (codes "a")) (key (codes "b")))) (in_sentences (pair 1 2 ∷ [])) ≡ 1
+one_sentence : whole_score (Within Sentence (Both And (key (codes "a")) (key (codes "b")))) (in_sentences (pair 1 2 ∷ [])) ≡ 1
 unfolding encode chars
 one_sentence = refl
 
 -- (a NOT b) WITHIN SENTENCE: in one of them, though both are in the document
-a_sentence_without_b : whole_score (Inside Sentence (Joined Not (key (codes "a")) (key (codes "b")))) (in_sentences (pair 1 1 ∷ pair 2 2 ∷ [])) ≡ 1
+a_sentence_without_b : whole_score (Within Sentence (Both Not (key (codes "a")) (key (codes "b")))) (in_sentences (pair 1 1 ∷ pair 2 2 ∷ [])) ≡ 1
 unfolding encode chars
 a_sentence_without_b = refl
 
 -- a WITHIN PARAGRAPH
-no_paragraph : whole_score (Inside Paragraph (key (codes "a"))) (in_sentences (pair 1 2 ∷ [])) ≡ 0
+no_paragraph : whole_score (Within Paragraph (key (codes "a"))) (in_sentences (pair 1 2 ∷ [])) ≡ 0
 unfolding encode chars
 no_paragraph = refl
 
@@ -292,20 +292,20 @@ hidden : whole_score (key (codes "alpha")) tagged ≡ 0
 unfolding encode chars
 hidden = refl
 
-in_its_field : whole_score (Inside (Field 1) (key (codes "alpha"))) tagged ≡ 1
+in_its_field : whole_score (Within (Field 1) (key (codes "alpha"))) tagged ≡ 1
 unfolding encode chars
 in_its_field = refl
 
 -- (beta WITHIN p) WITHIN q, and (one WITHIN p) WITHIN q
-beta_in_p_in_q : whole_score (Inside (Zone (codes "q")) (Inside (Zone (codes "p")) (key (codes "beta")))) tagged ≡ 1
+beta_in_p_in_q : whole_score (Within (Zone (codes "q")) (Within (Zone (codes "p")) (key (codes "beta")))) tagged ≡ 1
 unfolding encode chars
 beta_in_p_in_q = refl
 
-one_not_in_p : whole_score (Inside (Zone (codes "q")) (Inside (Zone (codes "p")) (key (codes "one")))) tagged ≡ 0
+one_not_in_p : whole_score (Within (Zone (codes "q")) (Within (Zone (codes "p")) (key (codes "one")))) tagged ≡ 0
 unfolding encode chars
 one_not_in_p = refl
 
 -- (beta WITHIN q) WITHIN p: q reaches out of p
-q_not_in_p : whole_score (Inside (Zone (codes "p")) (Inside (Zone (codes "q")) (key (codes "beta")))) tagged ≡ 0
+q_not_in_p : whole_score (Within (Zone (codes "p")) (Within (Zone (codes "q")) (key (codes "beta")))) tagged ≡ 0
 unfolding encode chars
 q_not_in_p = refl

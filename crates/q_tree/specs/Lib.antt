@@ -1,4 +1,5 @@
 pub mod Trees
+pub mod ReducedQueries
 pub mod Slots
 pub mod Soundness
 pub mod Limits

@@ -8,7 +8,7 @@ use Rattle.q_tree.specs.declared.queries.Leaf.{Leaf}
 use Rattle.q_tree.specs.declared.queries.Leaf.TheVariants.{Phrase, Thes}
 use Rattle.q_tree.specs.declared.queries.Relation.TheVariants.{Syn}
 use Rattle.q_tree.specs.Soundness.{is_between, is_sum}
-use Rattle.q_tree.specs.Trees.{Tree, Single, Both, Weight, Above, Nearness, InSection, ScoredBy}
+use Rattle.q_tree.specs.Trees.{Tree, Single, Both, Weight, Above, Near, Within, Define}
 
 -- how many bytes a query text has at most
 abbrev pub query_limit : ℕ
@@ -49,9 +49,9 @@ keeps_limits (Single leaf) = leaf_keeps_limits leaf
 keeps_limits (Both op a b) = keeps_limits a && keeps_limits b
 keeps_limits (Weight tenths a) = is_between 1 100 tenths && keeps_limits a
 keeps_limits (Above n a) = nat_le n 100 && keeps_limits a
-keeps_limits (Nearness operands span ordered) = is_between 2 16 (length operands) && list_all leaves_keep_limits operands && nat_le span 100
-keeps_limits (InSection name a) = keeps_limits a
-keeps_limits (ScoredBy leaves sum) = leaves_keep_limits leaves && is_sum sum
+keeps_limits (Near operands span ordered) = is_between 2 16 (length operands) && list_all leaves_keep_limits operands && nat_le span 100
+keeps_limits (Within name a) = keeps_limits a
+keeps_limits (Define leaves sum) = leaves_keep_limits leaves && is_sum sum
 
 -- ---- computed examples
 
@@ -70,5 +70,5 @@ weight_of_11 = refl
 level_100 : keeps_limits (Single (Thes Syn (word_a ∷ []) 100 (codes "default"))) ≡ false
 level_100 = refl
 
-one_operand : keeps_limits (Nearness ((Phrase ((word_a ∷ []) ∷ []) ∷ []) ∷ []) 5 false) ≡ false
+one_operand : keeps_limits (Near ((Phrase ((word_a ∷ []) ∷ []) ∷ []) ∷ []) 5 false) ≡ false
 one_operand = refl

@@ -7,7 +7,7 @@ use Rattle.q_tree.specs.declared.flats.Slot.{Slot}
 use Rattle.q_tree.specs.declared.flats.Slot.TheVariants.{Any}
 use Rattle.q_tree.specs.declared.flats.SumStep.{SumStep}
 use Rattle.q_tree.specs.declared.flats.SumStep.TheVariants.{Discrete, Occurrence, Plus}
-use Rattle.q_tree.specs.Trees.{Reduced}
+use Rattle.q_tree.specs.ReducedQueries.{Reduced}
 use Rattle.q_tree.specs.Slots.{same_slot}
 use Rattle.q_tree.specs.Soundness.{is_phrase, is_one, values, is_sound}
 use Rattle.q_tree.specs.Sums.{Sum, Atom, Both, is_tree, sum_value, postfix, steps_value, IsPostfix}

@@ -10,7 +10,7 @@ use Rattle.q_tree.specs.declared.flats.SumStep.{SumStep}
 use Rattle.q_tree.specs.declared.flats.SumStep.TheVariants.{Number, Discrete, Occurrence, Plus, Minus as Less, Times}
 use Rattle.q_tree.specs.declared.queries.Op.{Op}
 use Rattle.q_tree.specs.declared.queries.Op.TheVariants.{Or, And, Not, Minus}
-use Rattle.q_tree.specs.Trees.{Reduced, Term, Joined, Weighted, Exceeding, Close, Inside, Defined}
+use Rattle.q_tree.specs.ReducedQueries.{Reduced, Term, Both, Weight, Above, Near, Within, Define}
 use Rattle.q_tree.specs.Sums.{steps_value}
 
 -- The postings of a document: the positions, rising, at which a stream has a key that a slot takes; and the pairs of the section of a name.
@@ -90,15 +90,15 @@ define_score phrases sum lo hi = defined (length (distinct (term_pairs phrases l
 -- THE SCORE of a query on a document, over a stream and within lo to hi
 abbrev pub score : Reduced → DocPostings → ℕ → ℕ → ℕ → ℕ
 score (Term phrases) d s lo hi = term_score (term_slots d s phrases) lo hi
-score (Joined op a b) d s lo hi = operated op (score a d s lo hi) (score b d s lo hi)
-score (Weighted w a) d s lo hi = weighted w (score a d s lo hi)
-score (Exceeding n a) d s lo hi = if_above n (score a d s lo hi)
-score (Close operands span ordered) d s lo hi = near_score (operand_slots d s operands) span ordered lo hi
-score (Inside (Field f) a) d s lo hi = score a d f lo hi
-score (Inside (Zone name) a) d s lo hi = greatest_within (λ l h. score a d s l h) lo hi (d.spans name)
-score (Inside Sentence a) d s lo hi = greatest_within (λ l h. score a d s l h) lo hi (d.spans (codes "sentence"))
-score (Inside Paragraph a) d s lo hi = greatest_within (λ l h. score a d s l h) lo hi (d.spans (codes "paragraph"))
-score (Defined phrases sum) d s lo hi = define_score (term_slots d s phrases) sum lo hi
+score (Both op a b) d s lo hi = operated op (score a d s lo hi) (score b d s lo hi)
+score (Weight w a) d s lo hi = weighted w (score a d s lo hi)
+score (Above n a) d s lo hi = if_above n (score a d s lo hi)
+score (Near operands span ordered) d s lo hi = near_score (operand_slots d s operands) span ordered lo hi
+score (Within (Field f) a) d s lo hi = score a d f lo hi
+score (Within (Zone name) a) d s lo hi = greatest_within (λ l h. score a d s l h) lo hi (d.spans name)
+score (Within Sentence a) d s lo hi = greatest_within (λ l h. score a d s l h) lo hi (d.spans (codes "sentence"))
+score (Within Paragraph a) d s lo hi = greatest_within (λ l h. score a d s l h) lo hi (d.spans (codes "paragraph"))
+score (Define phrases sum) d s lo hi = define_score (term_slots d s phrases) sum lo hi
 
 -- the range of a whole document, which no word passes
 abbrev pub last_position : ℕ

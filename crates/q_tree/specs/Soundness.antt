@@ -12,7 +12,7 @@ use Rattle.q_tree.specs.declared.flats.Place.{Place}
 use Rattle.q_tree.specs.declared.flats.Place.TheVariants.{Field}
 use Rattle.q_tree.specs.declared.flats.SumStep.{SumStep}
 use Rattle.q_tree.specs.declared.flats.SumStep.TheVariants.{Number, Occurrence, Plus, Minus as Less, Times}
-use Rattle.q_tree.specs.Trees.{Reduced, Term, Joined, Weighted, Exceeding, Close, Inside, Defined}
+use Rattle.q_tree.specs.ReducedQueries.{Reduced, Term, Both, Weight, Above, Near, Within, Define}
 
 abbrev pub is_between : ℕ → ℕ → ℕ → Bool
 is_between lo hi n = nat_le lo n && nat_le n hi
@@ -103,12 +103,12 @@ is_place p = true
 -- WHETHER A REDUCED QUERY IS SOUND
 abbrev pub is_sound : Reduced → Bool
 is_sound (Term phrases) = is_term phrases
-is_sound (Joined op a b) = is_sound a && is_sound b
-is_sound (Weighted w a) = is_between 1 100 w && is_sound a
-is_sound (Exceeding n a) = nat_le n 100 && is_sound a
-is_sound (Close operands span ordered) = is_nearness operands span
-is_sound (Inside place a) = is_place place && is_sound a
-is_sound (Defined phrases sum) = is_term phrases && is_sum sum
+is_sound (Both op a b) = is_sound a && is_sound b
+is_sound (Weight w a) = is_between 1 100 w && is_sound a
+is_sound (Above n a) = nat_le n 100 && is_sound a
+is_sound (Near operands span ordered) = is_nearness operands span
+is_sound (Within place a) = is_place place && is_sound a
+is_sound (Define phrases sum) = is_term phrases && is_sum sum
 
 -- ---- computed examples
 
@@ -136,13 +136,13 @@ a_key_twice = refl
 takes_nothing : is_slot (Takes [] []) ≡ false
 takes_nothing = refl
 
-one_operand : is_sound (Close (((a_slot ∷ []) ∷ []) ∷ []) 5 false) ≡ false
+one_operand : is_sound (Near (((a_slot ∷ []) ∷ []) ∷ []) 5 false) ≡ false
 one_operand = refl
 
-weight_of_none : is_sound (Weighted 0 (Term ((a_slot ∷ []) ∷ []))) ≡ false
+weight_of_none : is_sound (Weight 0 (Term ((a_slot ∷ []) ∷ []))) ≡ false
 weight_of_none = refl
 
-field_65 : is_sound (Inside (Field 65) (Term ((a_slot ∷ []) ∷ []))) ≡ false
+field_65 : is_sound (Within (Field 65) (Term ((a_slot ∷ []) ∷ []))) ≡ false
 field_65 = refl
 
 -- OCCURRENCE * 10 + 5

@@ -3,7 +3,7 @@
 ghost use Rattle.std.specs.Prelude.{◌≡◌, ◌∷◌, ◌&&◌, ◌≤◌, length, Option};
 ghost use Rattle.std.specs.List.{list_all};
 ghost use Rattle.q_tree.specs.Soundness.{is_key, slot_keys_rise, is_slot, takes_some, ends_well, is_phrase, is_term, is_nearness, is_operator, is_step, values, operators, is_sum, is_place, is_sound};
-ghost use Rattle.q_tree.specs.Trees.{reduced_of};
+ghost use Rattle.q_tree.specs.ReducedQueries.{reduced_of};
 
 use crate::flats::{Flat, Phrase, Phrases, Place, Slot, SumStep};
 use ct_base::TOKEN_LIMIT;

@@ -1,5 +1,5 @@
 pub mod AsciiTokens
 pub mod CharSets
 pub mod Tokens
-pub mod TokenKeys
-pub mod RunLaws
+pub mod Runs
+pub mod laws

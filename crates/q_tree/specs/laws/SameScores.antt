@@ -7,7 +7,7 @@ use Rattle.ix_spans.specs.Occurrences.{term_score}
 use Rattle.q_tree.specs.declared.flats.Slot.{Slot}
 use Rattle.q_tree.specs.declared.flats.Slot.TheVariants.{Any, Takes}
 use Rattle.q_tree.specs.declared.flats.Place.TheVariants.{Zone, Field, Sentence, Paragraph}
-use Rattle.q_tree.specs.Trees.{Reduced, Term, Joined, Weighted, Exceeding, Close, Inside, Defined}
+use Rattle.q_tree.specs.ReducedQueries.{Reduced, Term, Both, Weight, Above, Near, Within, Define}
 use Rattle.q_tree.specs.Soundness.{is_between, is_sound}
 use Rattle.q_tree.specs.Scores.{DocPostings, slot_positions, phrase_slots, term_slots, operand_slots, near_score, define_score, greatest_within, operated, weighted, if_above, score, whole_score, last_position}
 use Rattle.q_tree.specs.Documents.{DocWord, DocSection, DocEntry, postings_of_words, postings_of_entries, WordsRise, ArePostings}
@@ -41,18 +41,18 @@ module _ (c d : DocPostings) (same : (stream : ℕ) → stream ≤ stream_limit 
 
   pub same_score : (f : Reduced) → is_sound f ≡ true → (s : ℕ) → s ≤ stream_limit → (lo hi : ℕ) → score f c s lo hi ≡ score f d s lo hi
   same_score (Term phrases) h s le lo hi = ap (λ xs. term_score xs lo hi) (term_same s le phrases)
-  same_score (Joined op a b) h s le lo hi = let k = parts_sound a b h in both_same (operated op) (score a c s lo hi) (score b c s lo hi) (score a d s lo hi) (score b d s lo hi) (same_score a k.0 s le lo hi) (same_score b k.1 s le lo hi)
-  same_score (Weighted w a) h s le lo hi = let k = and_parts (is_between 1 100 w) (is_sound a) h in ap (weighted w) (same_score a k.1 s le lo hi)
-  same_score (Exceeding n a) h s le lo hi = let k = and_parts (nat_le n 100) (is_sound a) h in ap (if_above n) (same_score a k.1 s le lo hi)
-  same_score (Close operands span ordered) h s le lo hi = ap (λ xs. near_score xs span ordered lo hi) (operands_same s le operands)
-  same_score (Inside (Field f) a) h s le lo hi =
+  same_score (Both op a b) h s le lo hi = let k = parts_sound a b h in both_same (operated op) (score a c s lo hi) (score b c s lo hi) (score a d s lo hi) (score b d s lo hi) (same_score a k.0 s le lo hi) (same_score b k.1 s le lo hi)
+  same_score (Weight w a) h s le lo hi = let k = and_parts (is_between 1 100 w) (is_sound a) h in ap (weighted w) (same_score a k.1 s le lo hi)
+  same_score (Above n a) h s le lo hi = let k = and_parts (nat_le n 100) (is_sound a) h in ap (if_above n) (same_score a k.1 s le lo hi)
+  same_score (Near operands span ordered) h s le lo hi = ap (λ xs. near_score xs span ordered lo hi) (operands_same s le operands)
+  same_score (Within (Field f) a) h s le lo hi =
       let k = and_parts (is_between 1 stream_limit f) (is_sound a) h in
       let r = and_parts (nat_le 1 f) (nat_le f stream_limit) k.0 in
       same_score a k.1 f (leb-true f stream_limit r.1) lo hi
-  same_score (Inside (Zone name) a) h s le lo hi = within_same (λ l r. score a c s l r) (λ l r. score a d s l r) lo hi name (λ l r. same_score a h s le l r)
-  same_score (Inside Sentence a) h s le lo hi = within_same (λ l r. score a c s l r) (λ l r. score a d s l r) lo hi (codes "sentence") (λ l r. same_score a h s le l r)
-  same_score (Inside Paragraph a) h s le lo hi = within_same (λ l r. score a c s l r) (λ l r. score a d s l r) lo hi (codes "paragraph") (λ l r. same_score a h s le l r)
-  same_score (Defined phrases sum) h s le lo hi = ap (λ xs. define_score xs sum lo hi) (term_same s le phrases)
+  same_score (Within (Zone name) a) h s le lo hi = within_same (λ l r. score a c s l r) (λ l r. score a d s l r) lo hi name (λ l r. same_score a h s le l r)
+  same_score (Within Sentence a) h s le lo hi = within_same (λ l r. score a c s l r) (λ l r. score a d s l r) lo hi (codes "sentence") (λ l r. same_score a h s le l r)
+  same_score (Within Paragraph a) h s le lo hi = within_same (λ l r. score a c s l r) (λ l r. score a d s l r) lo hi (codes "paragraph") (λ l r. same_score a h s le l r)
+  same_score (Define phrases sum) h s le lo hi = ap (λ xs. define_score xs sum lo hi) (term_same s le phrases)
 
 pub score_by_entries : (f : Reduced) (ws : List DocWord) (ss : List DocSection) (es : List DocEntry) → is_sound f ≡ true → WordsRise 0 ws → ArePostings ws ss es → whole_score f (postings_of_entries es) ≡ whole_score f (postings_of_words ws ss)
 score_by_entries f ws ss es sound rise same =

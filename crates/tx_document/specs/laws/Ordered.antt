@@ -19,7 +19,7 @@ use Rattle.ct_base.specs.laws.Orders.{less_by_parts, lt_from_less, eq_from_equal
 use Rattle.tx_chars.specs.laws.KeyLimit.{limit as key_limit}
 use Rattle.tx_lexer.specs.declared.tokens.Token.{Token}
 use Rattle.tx_lexer.specs.Tokens.{tokens, rules}
-use Rattle.tx_lexer.specs.TokenKeys.{some_keys, limit}
+use Rattle.tx_lexer.specs.laws.TokenKeys.{some_keys, limit}
 use Rattle.tx_stop.specs.StopKeys.{is_stop}
 use Rattle.tx_tags.specs.Groups.{SectionGroup, are_sections, field_count, is_empty, is_group, section_limit, zone_count}
 use Rattle.tx_tags.specs.Tags.{tags_in, blanked}

@@ -9,7 +9,7 @@ use Rattle.ct_base.specs.Names.{is_kept}
 use Rattle.tx_chars.specs.laws.KeyLimit.{limit as key_limit}
 use Rattle.tx_lexer.specs.declared.tokens.Token.{Token}
 use Rattle.tx_lexer.specs.Tokens.{AreInOrder, Rules, rules, tokens}
-use Rattle.tx_lexer.specs.TokenKeys.{some_keys, limit}
+use Rattle.tx_lexer.specs.laws.TokenKeys.{some_keys, limit}
 use Rattle.tx_tags.specs.declared.groups.Section.{Section}
 use Rattle.tx_tags.specs.Groups.{is_group}
 use Rattle.tx_tags.specs.Tags.{blanked, tags_in}

@@ -4,6 +4,8 @@ use Rattle.std.proofs.lemmas.Bool.{eqb-true, both_ways, not-true, or_cases, or_p
 use Rattle.std.specs.Char.{is_whitespace, encode_utf8, len_utf8}
 use Rattle.std.specs.Str.{encode_utf8_all}
 use Rattle.ct_base.specs.Characters.{first, is_first}
+use Rattle.ct_base.specs.Told.{with_prefix}
+use Rattle.ct_base.specs.laws.Told.{with_prefix-nil, with_prefix_twice}
 use Rattle.q_tree.specs.declared.queries.WordBit.{WordBit}
 use Rattle.q_tree.specs.declared.queries.WordBit.TheVariants.{Chars, One, Many}
 use Rattle.q_lex.specs.declared.lexemes.Written.{Written}
@@ -11,7 +13,9 @@ use Rattle.q_lex.specs.declared.lexemes.Placed.{Placed}
 use Rattle.q_lex.specs.declared.lexemes.Lexeme.{Lexeme}
 use Rattle.q_lex.specs.declared.lexemes.Lexeme.TheVariants.{Bad}
 use Rattle.q_lex.specs.Lexing.{is_sign_char, is_plain_char, with_front, braced, begins_word, Run, no_run, flushed, flushed_to, put_literal, put_literals, put_wildcard, put_plain, escaped, in_braces, word_from, written_at, sign_lexeme, opens, word_lexeme, placed, byte_count, with_word, lexemes_from, query_lexemes}
-use Rattle.q_lex.specs.Writing.{Piece, Plain, Escaped, Braced, doubled, piece_spelling, IsPiece, BeginsPiece, pieces_spelling, ArePieces, Part, Blank, Sign, WordPart, BadPart, part_spelling, is_mark_char, IsPart, parts_spelling, AreParts, with_bytes, bits_of, with_prefix, plain_spelling, word_of, next_opens, parts_lexemes, IsWrittenAs}
+use Rattle.q_lex.specs.Writing.{WordPiece, Plain, Escaped, Braced, doubled, piece_spelling, IsWordPiece, BeginsPiece, pieces_spelling, ArePieces, TextPart, Blank, Sign, WordPart, BadPart, part_spelling, is_mark_char, IsTextPart, parts_spelling, AreParts, with_bytes, bits_of, plain_spelling, written_word, next_opens, parts_lexemes, IsWrittenAs}
+use Rattle.q_lex.proofs.Braces.{braced-other}
+use Rattle.q_lex.proofs.Scans.{byte_count-append}
 
 -- What holds of each sign, and of each of `{`, `}` and `\`.
 record SignFacts (c : ℕ) : Type 0 where
@@ -83,17 +87,13 @@ braced_last : (rest : List ℕ) → is_first 125 rest ≡ false → braced (125 
 braced_last [] h = refl
 braced_last (d ∷ ds) h = rw h refl
 
-braced_other : (c : ℕ) (cs : List ℕ) → (c == 125) ≡ false → braced (c ∷ cs) ≡ with_front c (braced cs)
-braced_other c [] other = rw other refl
-braced_other c (d ∷ cs) other = rw other refl
-
 reads_braced : (cs rest : List ℕ) → is_first 125 rest ≡ false → braced (doubled cs ++ 125 ∷ rest) ≡ Some (cs, rest)
 reads_braced [] rest h = braced_last rest h
 reads_braced (c ∷ cs) rest h = one (c == 125) refl (reads_braced cs rest h)
   where
     one : (b : Bool) → (c == 125) ≡ b → braced (doubled cs ++ 125 ∷ rest) ≡ Some (cs, rest) → braced (cond b (125 ∷ 125 ∷ doubled cs) (c ∷ doubled cs) ++ 125 ∷ rest) ≡ Some (c ∷ cs, rest)
     one true e known = rw (known, eqb-true c 125 e) refl
-    one false e known = braced_other c (doubled cs ++ 125 ∷ rest) e ∙ ap (with_front c) known
+    one false e known = braced-other c (doubled cs ++ 125 ∷ rest) e ∙ ap (with_front c) known
 
 IsBraced : List ℕ → Option (List ℕ × List ℕ) → Type 0
 IsBraced text None = Unit {0}
@@ -150,7 +150,7 @@ begins_from (c ∷ cs) h = elim (or_cases _ _ h) [
   | inr e ↦ let both = and_parts (c == 123) (is_some (braced cs)) e in begins_brace c cs (braced cs) (eqb-true c 123 both.0) both.1 (is_braced cs)
 ]
 
-begins_to : (p : Piece) (rest : List ℕ) → IsPiece p rest → begins_word (piece_spelling p ++ rest) ≡ true
+begins_to : (p : WordPiece) (rest : List ℕ) → IsWordPiece p rest → begins_word (piece_spelling p ++ rest) ≡ true
 begins_to (Plain c) rest h = or_left _ _ (or_left _ _ h)
 begins_to (Escaped c) rest h = refl
 begins_to (Braced cs) rest h = ap is_some (ap braced (append_assoc (doubled cs) (125 ∷ []) rest) ∙ reads_braced cs rest h)
@@ -162,7 +162,7 @@ begins_none : (text : List ℕ) → (BeginsPiece text → ⊥) → begins_word t
 begins_none text never = false_from_ne_true (begins_word text) (λ h. never (begins_from text h))
 
 -- Pieces are read one after the other.
-put_pieces : List Piece → Run → Run
+put_pieces : List WordPiece → Run → Run
 put_pieces [] r = r
 put_pieces (Plain c ∷ ps) r = put_pieces ps (put_plain c r)
 put_pieces (Escaped c ∷ ps) r = put_pieces ps (put_literal c r)
@@ -199,7 +199,7 @@ braced_here cs more rest h = ap braced (braced_spelt cs more rest) ∙ reads_bra
 braced_longer : (cs more rest : List ℕ) (n : ℕ) → length (123 ∷ (((doubled cs ++ 125 ∷ []) ++ more) ++ rest)) ≤ suc n → length (more ++ rest) ≤ n
 braced_longer cs more rest n le = omega (arith, le, ap length (braced_spelt cs more rest), length-append (doubled cs) (125 ∷ (more ++ rest)))
 
-reads_word : (ps : List Piece) (rest : List ℕ) (n : ℕ) (r : Run) → ArePieces ps rest → begins_word rest ≡ false → length (pieces_spelling ps ++ rest) ≤ n
+reads_word : (ps : List WordPiece) (rest : List ℕ) (n : ℕ) (r : Run) → ArePieces ps rest → begins_word rest ≡ false → length (pieces_spelling ps ++ rest) ≤ n
     → word_from n r (pieces_spelling ps ++ rest) ≡ (put_pieces ps r, rest)
 unfolding put_pieces
 reads_word [] rest n r are ends le = word_stops n r rest ends
@@ -246,10 +246,10 @@ unfolding literal_run
 literals_put [] r = ap (λ x. record { bits = r.bits; chars = x; spelling = r.spelling; plain = false }) (sym (append-nil r.chars))
 literals_put (c ∷ cs) r = literals_put cs (put_literal c r) ∙ ap (λ x. record { bits = r.bits; chars = x; spelling = r.spelling; plain = false }) (append_assoc r.chars (encode_utf8 c) (encode_utf8_all cs))
 
-BitsPut : List Piece → Type 0
+BitsPut : List WordPiece → Type 0
 BitsPut ps = (r : Run) → flushed (put_pieces ps r) ≡ r.bits ++ with_bytes r.chars (bits_of ps)
 
-plain_bits : (c : ℕ) (ps : List Piece) (r : Run) (a b : Bool) → BitsPut ps
+plain_bits : (c : ℕ) (ps : List WordPiece) (r : Run) (a b : Bool) → BitsPut ps
     → flushed (put_pieces ps (cond a (put_wildcard One c r) (cond b (put_wildcard Many c r) (record { bits = r.bits; chars = r.chars ++ encode_utf8 c; spelling = r.spelling ++ encode_utf8 c; plain = r.plain }))))
     ≡ r.bits ++ with_bytes r.chars (cond a (One ∷ bits_of ps) (cond b (Many ∷ bits_of ps) (with_bytes (encode_utf8 c) (bits_of ps))))
 unfolding BitsPut
@@ -258,7 +258,7 @@ plain_bits c ps r false true put = put (put_wildcard Many c r) ∙ wild_put r.bi
 plain_bits c ps r false false put =
     put (record { bits = r.bits; chars = r.chars ++ encode_utf8 c; spelling = r.spelling ++ encode_utf8 c; plain = r.plain }) ∙ ap (λ x. r.bits ++ x) (sym (bytes_joined r.chars (encode_utf8 c) (bits_of ps)))
 
-bits_put : (ps : List Piece) (r : Run) → flushed (put_pieces ps r) ≡ r.bits ++ with_bytes r.chars (bits_of ps)
+bits_put : (ps : List WordPiece) (r : Run) → flushed (put_pieces ps r) ≡ r.bits ++ with_bytes r.chars (bits_of ps)
 unfolding put_pieces BitsPut literal_run
 bits_put [] r = flush_is r.bits r.chars
 bits_put (Plain c ∷ ps) r = plain_bits c ps r (c == 95) (c == 37) (λ q. bits_put ps q)
@@ -269,22 +269,14 @@ bits_put (Braced cs ∷ ps) r =
 plain_of : Run → Option (List ℕ)
 plain_of r = cond r.plain (Some r.spelling) None
 
-prefix_joined : (xs ys : List ℕ) (o : Option (List ℕ)) → with_prefix (xs ++ ys) o ≡ with_prefix xs (with_prefix ys o)
-prefix_joined xs ys None = refl
-prefix_joined xs ys (Some more) = ap Some (append_assoc xs ys more)
-
-no_prefix : (o : Option (List ℕ)) → with_prefix [] o ≡ o
-no_prefix None = refl
-no_prefix (Some more) = refl
-
 none_if : (b : Bool) → ◌≡◌ {A = Option (List ℕ)} None (cond b None None)
 none_if true = refl
 none_if false = refl
 
-PlainPut : List Piece → Type 0
+PlainPut : List WordPiece → Type 0
 PlainPut ps = (r : Run) → plain_of (put_pieces ps r) ≡ cond r.plain (with_prefix r.spelling (plain_spelling ps)) None
 
-plain_plain : (c : ℕ) (ps : List Piece) (r : Run) (a b : Bool) → PlainPut ps
+plain_plain : (c : ℕ) (ps : List WordPiece) (r : Run) (a b : Bool) → PlainPut ps
     → plain_of (put_pieces ps (cond a (put_wildcard One c r) (cond b (put_wildcard Many c r) (record { bits = r.bits; chars = r.chars ++ encode_utf8 c; spelling = r.spelling ++ encode_utf8 c; plain = r.plain }))))
     ≡ cond r.plain (with_prefix (r.spelling ++ encode_utf8 c) (plain_spelling ps)) None
 unfolding PlainPut
@@ -292,27 +284,27 @@ plain_plain c ps r true b put = put (put_wildcard One c r)
 plain_plain c ps r false true put = put (put_wildcard Many c r)
 plain_plain c ps r false false put = put (record { bits = r.bits; chars = r.chars ++ encode_utf8 c; spelling = r.spelling ++ encode_utf8 c; plain = r.plain })
 
-plain_put : (ps : List Piece) (r : Run) → plain_of (put_pieces ps r) ≡ cond r.plain (with_prefix r.spelling (plain_spelling ps)) None
+plain_put : (ps : List WordPiece) (r : Run) → plain_of (put_pieces ps r) ≡ cond r.plain (with_prefix r.spelling (plain_spelling ps)) None
 unfolding put_pieces plain_of PlainPut literal_run
 plain_put [] r = ap (λ x. cond r.plain (Some x) None) (sym (append-nil r.spelling))
-plain_put (Plain c ∷ ps) r = plain_plain c ps r (c == 95) (c == 37) (λ q. plain_put ps q) ∙ ap (λ x. cond r.plain x None) (prefix_joined r.spelling (encode_utf8 c) (plain_spelling ps))
+plain_put (Plain c ∷ ps) r = plain_plain c ps r (c == 95) (c == 37) (λ q. plain_put ps q) ∙ ap (λ x. cond r.plain x None) (sym (with_prefix_twice r.spelling (encode_utf8 c) (plain_spelling ps)))
 plain_put (Escaped c ∷ ps) r = plain_put ps (put_literal c r) ∙ none_if r.plain
 plain_put (Braced cs ∷ ps) r = ap (λ q. plain_of (put_pieces ps q)) (literals_put cs r) ∙ plain_put ps (literal_run r (encode_utf8_all cs)) ∙ none_if r.plain
 
 written_with : ℕ → List WordBit → Option (List ℕ) → Written
 written_with place bits plain = record { word = record { place = place; bits = bits }; plain = plain }
 
-word_is : (place : ℕ) (ps : List Piece) → written_at place (put_pieces ps no_run) ≡ word_of place ps
+word_is : (place : ℕ) (ps : List WordPiece) → written_at place (put_pieces ps no_run) ≡ written_word place ps
 unfolding written_with plain_of
-word_is place ps = ap (λ bits. written_with place bits (plain_of (put_pieces ps no_run))) (bits_put ps no_run) ∙ ap (λ plain. written_with place (bits_of ps) plain) (plain_put ps no_run ∙ no_prefix (plain_spelling ps))
+word_is place ps = ap (λ bits. written_with place bits (plain_of (put_pieces ps no_run))) (bits_put ps no_run) ∙ ap (λ plain. written_with place (bits_of ps) plain) (plain_put ps no_run ∙ with_prefix-nil (plain_spelling ps))
 
 -- Whether a `(` comes next is seen at the parts.
-opens_word : (q : Piece) (more rest : List ℕ) → IsPiece q (more ++ rest) → opens ((piece_spelling q ++ more) ++ rest) ≡ false
+opens_word : (q : WordPiece) (more rest : List ℕ) → IsWordPiece q (more ++ rest) → opens ((piece_spelling q ++ more) ++ rest) ≡ false
 opens_word (Plain c) more rest h = rw (plain_not_blank c h, plain_not_open c h) refl
 opens_word (Escaped c) more rest h = refl
 opens_word (Braced cs) more rest h = refl
 
-opens_parts : (ps : List Part) → AreParts ps → opens (parts_spelling ps) ≡ next_opens ps
+opens_parts : (ps : List TextPart) → AreParts ps → opens (parts_spelling ps) ≡ next_opens ps
 opens_parts [] are = refl
 opens_parts (Blank c ∷ ps) are = rw are.0 (opens_parts ps are.1)
 opens_parts (Sign c ∷ ps) are = rw (sign_facts c are.0).not_blank refl
@@ -320,11 +312,7 @@ opens_parts (WordPart q qs ∷ ps) are = opens_word q (pieces_spelling qs) (part
 opens_parts (BadPart c ∷ ps) are = let facts = mark_facts c are.0.0 in rw (facts.not_blank, facts.not_open) refl
 
 -- The lexemes of parts are read.
-count_appended : (xs ys : List ℕ) → byte_count (xs ++ ys) ≡ byte_count xs + byte_count ys
-count_appended [] ys = omega arith
-count_appended (x ∷ xs) ys = omega (arith, count_appended xs ys)
-
-word_longer : (q : Piece) (more : List ℕ) → 0 < length (piece_spelling q ++ more)
+word_longer : (q : WordPiece) (more : List ℕ) → 0 < length (piece_spelling q ++ more)
 word_longer (Plain c) more = omega arith
 word_longer (Escaped c) more = omega arith
 word_longer (Braced cs) more = omega arith
@@ -351,10 +339,10 @@ word_first n place (c ∷ cs) h =
     second_way (is_whitespace c) (begins_word (c ∷ cs)) (lexemes_from n (place + len_utf8 c) cs) (with_word (λ at rest. lexemes_from n at rest) place (c ∷ cs) (word_from (suc n) no_run (c ∷ cs)))
     (placed place (sign_lexeme c) ∷ lexemes_from n (place + len_utf8 c) cs) (begins_not_blank c cs h) h
 
-ReadsParts : List Part → Type 0
+ReadsParts : List TextPart → Type 0
 ReadsParts ps = (n place : ℕ) → length (parts_spelling ps) ≤ n → lexemes_from n place (parts_spelling ps) ≡ parts_lexemes place ps
 
-blank_read : (c : ℕ) (ps : List Part) → is_whitespace c ≡ true → ReadsParts ps → ReadsParts (Blank c ∷ ps)
+blank_read : (c : ℕ) (ps : List TextPart) → is_whitespace c ≡ true → ReadsParts ps → ReadsParts (Blank c ∷ ps)
 unfolding ReadsParts
 blank_read c ps h more = λ n place le. go n place le
   where
@@ -362,7 +350,7 @@ blank_read c ps h more = λ n place le. go n place le
     go zero place le = absurd (omega (arith, le))
     go (suc n) place le = rw h (more n (place + len_utf8 c) (omega (arith, le)) ∙ ap (λ x. parts_lexemes x ps) (omega arith))
 
-one_read : (c : ℕ) (l : Lexeme) (ps : List Part) → is_whitespace c ≡ false → begins_word (c ∷ parts_spelling ps) ≡ false → sign_lexeme c ≡ l → ReadsParts ps
+one_read : (c : ℕ) (l : Lexeme) (ps : List TextPart) → is_whitespace c ≡ false → begins_word (c ∷ parts_spelling ps) ≡ false → sign_lexeme c ≡ l → ReadsParts ps
     → (n place : ℕ) → length (c ∷ parts_spelling ps) ≤ n → lexemes_from n place (c ∷ parts_spelling ps) ≡ placed place l ∷ parts_lexemes (place + (len_utf8 c + 0)) ps
 unfolding ReadsParts
 one_read c l ps blank begins is more zero place le = absurd (omega (arith, le))
@@ -373,7 +361,7 @@ one_read c l ps blank begins is more (suc n) place le =
     ∙ ap (λ x. placed place x ∷ lexemes_from n (place + len_utf8 c) (parts_spelling ps)) is
     ∙ ap (λ x. placed place l ∷ x) (more n (place + len_utf8 c) (omega (arith, le)) ∙ ap (λ x. parts_lexemes x ps) same)
 
-word_read : (q : Piece) (qs : List Piece) (ps : List Part) → ArePieces (q ∷ qs) (parts_spelling ps) → (BeginsPiece (parts_spelling ps) → ⊥) → AreParts ps → ReadsParts ps → ReadsParts (WordPart q qs ∷ ps)
+word_read : (q : WordPiece) (qs : List WordPiece) (ps : List TextPart) → ArePieces (q ∷ qs) (parts_spelling ps) → (BeginsPiece (parts_spelling ps) → ⊥) → AreParts ps → ReadsParts ps → ReadsParts (WordPart q qs ∷ ps)
 unfolding ReadsParts
 word_read q qs ps are never parts more = λ n place le. go n place le
   where
@@ -387,20 +375,20 @@ word_read q qs ps are never parts more = λ n place le. go n place le
     longer = word_longer q (pieces_spelling qs)
 
     bytes : (place : ℕ) → place + (byte_count (pieces_spelling (q ∷ qs) ++ parts_spelling ps) - byte_count (parts_spelling ps)) ≡ place + byte_count (pieces_spelling (q ∷ qs))
-    bytes place = omega (arith, count_appended (pieces_spelling (q ∷ qs)) (parts_spelling ps))
+    bytes place = omega (arith, byte_count-append (pieces_spelling (q ∷ qs)) (parts_spelling ps))
 
     go : (n place : ℕ) → length (pieces_spelling (q ∷ qs) ++ parts_spelling ps) ≤ n
-        → lexemes_from n place (pieces_spelling (q ∷ qs) ++ parts_spelling ps) ≡ placed place (word_lexeme (next_opens ps) (word_of place (q ∷ qs))) ∷ parts_lexemes (place + byte_count (pieces_spelling (q ∷ qs))) ps
+        → lexemes_from n place (pieces_spelling (q ∷ qs) ++ parts_spelling ps) ≡ placed place (word_lexeme (next_opens ps) (written_word place (q ∷ qs))) ∷ parts_lexemes (place + byte_count (pieces_spelling (q ∷ qs))) ps
     go zero place le = absurd (omega (arith, le, size, longer))
     go (suc n) place le =
         word_first n place (pieces_spelling (q ∷ qs) ++ parts_spelling ps) begins
         ∙ ap (with_word (λ at rest. lexemes_from n at rest) place (pieces_spelling (q ∷ qs) ++ parts_spelling ps)) (reads_word (q ∷ qs) (parts_spelling ps) (suc n) no_run are (begins_none (parts_spelling ps) never) le)
         ∙ ap (λ b. placed place (word_lexeme b (written_at place (put_pieces (q ∷ qs) no_run))) ∷ lexemes_from n (place + (byte_count (pieces_spelling (q ∷ qs) ++ parts_spelling ps) - byte_count (parts_spelling ps))) (parts_spelling ps)) (opens_parts ps parts)
         ∙ ap (λ w. placed place (word_lexeme (next_opens ps) w) ∷ lexemes_from n (place + (byte_count (pieces_spelling (q ∷ qs) ++ parts_spelling ps) - byte_count (parts_spelling ps))) (parts_spelling ps)) (word_is place (q ∷ qs))
-        ∙ ap (λ at. placed place (word_lexeme (next_opens ps) (word_of place (q ∷ qs))) ∷ lexemes_from n at (parts_spelling ps)) (bytes place)
-        ∙ ap (λ x. placed place (word_lexeme (next_opens ps) (word_of place (q ∷ qs))) ∷ x) (more n (place + byte_count (pieces_spelling (q ∷ qs))) (omega (arith, le, size, longer)))
+        ∙ ap (λ at. placed place (word_lexeme (next_opens ps) (written_word place (q ∷ qs))) ∷ lexemes_from n at (parts_spelling ps)) (bytes place)
+        ∙ ap (λ x. placed place (word_lexeme (next_opens ps) (written_word place (q ∷ qs))) ∷ x) (more n (place + byte_count (pieces_spelling (q ∷ qs))) (omega (arith, le, size, longer)))
 
-reads_parts : (ps : List Part) → AreParts ps → (n place : ℕ) → length (parts_spelling ps) ≤ n → lexemes_from n place (parts_spelling ps) ≡ parts_lexemes place ps
+reads_parts : (ps : List TextPart) → AreParts ps → (n place : ℕ) → length (parts_spelling ps) ≤ n → lexemes_from n place (parts_spelling ps) ≡ parts_lexemes place ps
 unfolding ReadsParts
 reads_parts [] are zero place le = refl
 reads_parts [] are (suc n) place le = refl
@@ -415,7 +403,7 @@ reads_parts (BadPart c ∷ ps) are n place le =
 
 -- Each text has parts.
 record Pieces (text : List ℕ) : Type 0 where
-  pieces : List Piece
+  pieces : List WordPiece
   rest : List ℕ
   text_is : text ≡ pieces_spelling pieces ++ rest
   are_pieces : ArePieces pieces rest
@@ -424,7 +412,7 @@ record Pieces (text : List ℕ) : Type 0 where
 piece_longer : (b_text : List ℕ) (b : BeginsPiece b_text) → length b.rest < length b_text
 piece_longer text b = omega (arith, ap length b.text_is, length-append (piece_spelling b.piece) b.rest, word_longer b.piece b.rest, own b.piece)
   where
-    own : (q : Piece) → 0 < length (piece_spelling q)
+    own : (q : WordPiece) → 0 < length (piece_spelling q)
     own (Plain c) = omega arith
     own (Escaped c) = omega arith
     own (Braced cs) = omega arith
@@ -434,7 +422,7 @@ one_more text b more = record {
   pieces = b.piece ∷ more.pieces;
   rest = more.rest;
   text_is = b.text_is ∙ ap (λ x. piece_spelling b.piece ++ x) more.text_is ∙ sym (append_assoc (piece_spelling b.piece) (pieces_spelling more.pieces) more.rest);
-  are_pieces = (subst (IsPiece b.piece) more.text_is b.is_piece, more.are_pieces);
+  are_pieces = (subst (IsWordPiece b.piece) more.text_is b.is_piece, more.are_pieces);
   no_more = more.no_more;
 }
 
@@ -449,15 +437,15 @@ pieces_of (suc n) text le = elim (cases_Bool (begins_word text)) [
 ]
 
 record Parts (text : List ℕ) : Type 0 where
-  parts : List Part
+  parts : List TextPart
   text_is : text ≡ parts_spelling parts
   are_parts : AreParts parts
 
-char_first : (p : Part) (c : ℕ) (cs : List ℕ) → part_spelling p ≡ c ∷ [] → IsPart p cs → Parts cs → Parts (c ∷ cs)
+char_first : (p : TextPart) (c : ℕ) (cs : List ℕ) → part_spelling p ≡ c ∷ [] → IsTextPart p cs → Parts cs → Parts (c ∷ cs)
 char_first p c cs is part more = record {
   parts = p ∷ more.parts;
   text_is = ap (λ x. c ∷ x) more.text_is ∙ ap (λ x. x ++ parts_spelling more.parts) (sym is);
-  are_parts = (subst (IsPart p) more.text_is part, more.are_parts);
+  are_parts = (subst (IsTextPart p) more.text_is part, more.are_parts);
 }
 
 word_before : (text : List ℕ) (b : BeginsPiece text) (ps : Pieces b.rest) → Parts ps.rest → Parts text
@@ -492,7 +480,7 @@ parts_of (suc n) (c ∷ cs) le = elim (cases_Bool (is_whitespace c)) [
   ]
 ]
 
-read_as : (ps : List Part) → AreParts ps → query_lexemes (parts_spelling ps) ≡ parts_lexemes 1 ps
+read_as : (ps : List TextPart) → AreParts ps → query_lexemes (parts_spelling ps) ≡ parts_lexemes 1 ps
 read_as ps are = reads_parts ps are (length (parts_spelling ps)) 1 (omega arith)
 
 -- The lexemes that are read are those as which the text is written.

@@ -1,0 +1,3 @@
+-- Laws of runs and tokens, for the crates above.
+pub mod Runs
+pub mod TokenKeys
