@@ -3,6 +3,7 @@ pub mod Bools
 pub mod Options
 pub mod Lists
 pub mod Orders
+pub mod SortedMaps
 pub mod Names
 pub mod Told
 pub mod Moments

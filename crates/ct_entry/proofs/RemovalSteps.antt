@@ -4,8 +4,8 @@ use Rattle.std.proofs.lemmas.List.{map-append}
 use Rattle.std.specs.FinMap.{entries}
 use Rattle.ct_keep.specs.Content.{Content, entries_above, first_entry}
 use Rattle.ct_keep.specs.Tail.{tail}
-use Rattle.ct_keep.specs.TailLaws.{first_above-tail}
-use Rattle.ct_keep.specs.Rising.{begins_with_prefix}
+use Rattle.ct_keep.specs.laws.Tail.{first_above-tail}
+use Rattle.ct_keep.specs.laws.Rising.{begins_with_prefix}
 use Rattle.ct_keep.specs.KeeperViews.{Counts}
 use Rattle.ct_keep.specs.Looks.{next_looks, scan_looks, RisesBy}
 use Rattle.ct_keep.proofs.Scanning.{Scanning, scanning_none, scanning_more, scanning_ends, scanning_rises, scanning_short}

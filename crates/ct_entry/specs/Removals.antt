@@ -8,7 +8,7 @@ use Rattle.std.proofs.Common.{ap, ◌∙◌}
 use Rattle.ct_bytes.specs.RowKeys.{row_bytes}
 use Rattle.ct_keep.specs.Content.{Content, begins_with}
 use Rattle.ct_keep.specs.Tail.{cut, tail}
-use Rattle.ct_keep.specs.TailLaws.{entries-tail}
+use Rattle.ct_keep.specs.laws.Tail.{entries-tail}
 use Rattle.ct_keep.specs.KeeperViews.{Counts}
 use Rattle.ct_keep.specs.Looks.{look, plus, scan_looks}
 use Rattle.ct_entry.specs.declared.kinds.Kind.{Kind}

@@ -6,8 +6,8 @@ use Rattle.std.specs.Cmp.Lexicographic.{slice_cmp}
 use Rattle.std.specs.FinMap.{get, insert, remove, empty, entries, contains_key, find, get-entries, get-insert, get-remove, get-empty, get-retain_keys}
 use Rattle.std.proofs.lemmas.Cmp.{nat_list_cmp_total}
 use Rattle.std.proofs.lemmas.Map.Lookups.{exact_bytes}
-use Rattle.ct_keep.specs.Content.{Content, set_to, after, weight}
-use Rattle.ct_keep.specs.Laws.{same, same_itself, same_keys, same_content, get-set_to, value_weight, weight-set_to}
+use Rattle.ct_keep.specs.Content.{Content, set_to, after, weight, value_weight}
+use Rattle.ct_keep.specs.laws.Content.{same, same_itself, same_keys, same_content, get-set_to, weight-set_to}
 use Rattle.ct_keep.specs.Transactions.{staying, removals}
 
 pub get-insert_here : (m : Content) (k v : List ℕ) → get (insert m k v) k ≡ Some v

@@ -5,8 +5,8 @@ use Rattle.std.specs.FinMap.{get, insert, remove, empty}
 use Rattle.std.proofs.lemmas.List.{map-append, reverse-append}
 use Rattle.ct_keep.specs.declared.batches.Change as rust
 use Rattle.ct_keep.specs.SeenChanges.{change_of}
-use Rattle.ct_keep.specs.Content.{Content, Change, after, entry_weight, weight}
-use Rattle.ct_keep.specs.Laws.{value_weight, weight-set_to}
+use Rattle.ct_keep.specs.Content.{Content, Change, after, entry_weight, weight, value_weight}
+use Rattle.ct_keep.specs.laws.Content.{weight-set_to}
 use Rattle.ct_keep.specs.Transactions.{staying, undoing, AreInPlace, IsTransaction}
 use Rattle.ct_keep.proofs.ContentLaws.{get-insert_here, set_back, get-staying, staying-none, staying-put, staying-gone, value_weight-le}
 

@@ -6,13 +6,12 @@ use Rattle.std.specs.List.{AllByRecursion}
 use Rattle.std.specs.FinMap.{entries, find, get-entries}
 use Rattle.std.proofs.lemmas.Cmp.{nat_list_cmp_total}
 use Rattle.std.specs.Prelude.{ℕ, IsTrue, ◌↔◌}
-use Rattle.ct_keep.specs.Pairs.{pairs}
-use Rattle.ct_keep.specs.SortedLaws.{VecEntry}
+use Rattle.ct_keep.specs.Pairs.{pairs, VecEntry}
 use Rattle.ct_keep.specs.Content.{Content}
 use Rattle.ct_keep.specs.Changes.{HoldsWell, IsWell}
-use Rattle.ct_keep.specs.FoundKeys.{found_listed}
-use Rattle.ct_keep.specs.Laws.{same_keys}
-use Rattle.ct_keep.specs.RisingKeys.{entries_rise}
+use Rattle.ct_keep.specs.laws.FoundKeys.{found_listed}
+use Rattle.ct_keep.specs.laws.Content.{same_keys}
+use Rattle.ct_keep.specs.laws.RisingKeys.{entries_rise}
 
 abbrev pub EachWell : (List ℕ → List ℕ → Type 0) → List (List ℕ × List ℕ) → Type 0
 EachWell well es = AllByRecursion (λ e. IsWell well e.0 e.1) es

@@ -5,9 +5,9 @@ use Rattle.std.specs.FinMap.{entries}
 use Rattle.std.specs.Option.{option_map}
 use Rattle.ct_keep.specs.Content.{Content, begins_with, entries_above, entries_under, first_entry}
 use Rattle.ct_keep.specs.KeeperViews.{Counts}
-use Rattle.ct_keep.specs.Rising.{Entry, beginning, first_then, none_then, stops}
+use Rattle.ct_keep.specs.laws.Rising.{Entry, beginning, first_then, none_then, stops}
 use Rattle.ct_keep.specs.Tail.{cut, tail, left_under, rest_under}
-use Rattle.ct_keep.specs.TailLaws.{entries-tail, prefix_and_rest}
+use Rattle.ct_keep.specs.laws.Tail.{entries-tail, prefix_and_rest}
 use Rattle.ct_keep.specs.Looks.{look, plus, no_looks, looks, next_looks, scan_looks, RisesBy}
 
 -- A scan of the prefix has come to this key: what it found and what is left are all, and so with the counts.

@@ -11,8 +11,8 @@ use Rattle.std.specs.Map.{keys_of}
 use Rattle.std.specs.BTreeMap.Range.{entries_between}
 use Rattle.std.specs.declared.ops.Bound.TheVariants.{Excluded, Unbounded}
 use Rattle.ct_keep.specs.Content.{entries_above, first_entry}
-use Rattle.ct_keep.specs.Pairs.{byte_order, pairs, content_of}
-use Rattle.ct_keep.specs.SortedLaws.{VecEntry, entries-content_of}
+use Rattle.ct_keep.specs.Pairs.{byte_order, pairs, content_of, VecEntry}
+use Rattle.ct_keep.specs.laws.Pairs.{entries-content_of}
 
 -- the entries above a key
 pairs-between : (k : Vec ℕ Global) (es : List VecEntry) → pairs (entries_between byte_order (Excluded k) Unbounded es) ≡ filter (λ e. is_lt (slice_cmp nat_cmp k.items e.0)) (pairs es)

@@ -46,6 +46,16 @@ entry_weight e = max 64 (length e.0 + length e.1)
 abbrev pub weight : Content → ℕ
 weight m = sum_by entry_weight (entries m)
 
+-- what an entry weighs that has this value, or is absent
+abbrev pub value_weight : List ℕ → Option (List ℕ) → ℕ
+value_weight key None = 0
+value_weight key (Some value) = entry_weight (key, value)
+
+-- what some changes weigh by themselves
+abbrev pub changes_weight : List Change → ℕ
+changes_weight [] = 0
+changes_weight (w ∷ ws) = value_weight w.0 w.1 + changes_weight ws
+
 -- how many bytes a key has at most, and a value (2 ^ 26), each with its constant of the same name in `src/limits.rt`
 abbrev pub key_limit : ℕ
 key_limit = 600
@@ -71,3 +81,10 @@ begins_otherwise = refl
 
 first_of_two : first_entry ((codes "a", codes "1") ∷ (codes "b", codes "2") ∷ []) ≡ Some (codes "a", codes "1")
 first_of_two = refl
+
+-- an entry of over 64 bytes weighs its bytes, and one that goes weighs nothing
+one_weighs : value_weight (codes "0123456789012345678901234567890123456789") (Some (codes "0123456789012345678901234567890123456789")) ≡ 80
+one_weighs = refl
+
+two_changes_weigh : changes_weight ((codes "a", Some (codes "x")) ∷ (codes "b", None) ∷ []) ≡ 64
+two_changes_weigh = refl

@@ -6,9 +6,9 @@ use Rattle.std.specs.Cmp.Lexicographic.{slice_cmp}
 use Rattle.std.specs.FinMap.{FinMap, get, entries, from_sorted, entries-from_sorted}
 use Rattle.std.proofs.Common.{ap, ◌∙◌}
 use Rattle.ct_keep.specs.Content.{Content, begins_with}
-use Rattle.ct_keep.specs.Laws.{same}
+use Rattle.ct_keep.specs.laws.Content.{same}
 use Rattle.ct_keep.specs.Tail.{cut, tail}
-use Rattle.ct_keep.specs.TailLaws.{entries-tail}
+use Rattle.ct_keep.specs.laws.Tail.{entries-tail}
 
 -- how many entries have a key that begins with the prefix and is longer
 abbrev pub count_under : List ℕ → Content → ℕ
@@ -42,20 +42,20 @@ abbrev pub PrefixCounts : Type 0
 PrefixCounts = FinMap (slice_cmp nat_cmp) ℕ
 
 -- the count of an owner; 0 where none is kept
-abbrev pub count_at : List ℕ → PrefixCounts → ℕ
-count_at prefix counts = unwrap_or (get counts prefix) 0
+abbrev pub prefix_count : List ℕ → PrefixCounts → ℕ
+prefix_count prefix counts = unwrap_or (get counts prefix) 0
 
 -- They are those of a content.
 pub record AreCounts (m : Content) (counts : PrefixCounts) : Type 0 where
-  pub each : (prefix : List ℕ) → IsOwner prefix → count_at prefix counts ≡ count_under prefix m
+  pub each : (prefix : List ℕ) → IsOwner prefix → prefix_count prefix counts ≡ count_under prefix m
 
 -- An entry of this key came.
 pub record CountsMore (key : List ℕ) (old new : PrefixCounts) : Type 0 where
-  pub each : (prefix : List ℕ) → count_at prefix new ≡ count_at prefix old + key_count prefix key
+  pub each : (prefix : List ℕ) → prefix_count prefix new ≡ prefix_count prefix old + key_count prefix key
 
 -- An entry of this key went.
 pub record CountsLess (key : List ℕ) (old new : PrefixCounts) : Type 0 where
-  pub each : (prefix : List ℕ) → count_at prefix new ≡ count_at prefix old - key_count prefix key
+  pub each : (prefix : List ℕ) → prefix_count prefix new ≡ prefix_count prefix old - key_count prefix key
 
 -- computed examples: of the kinds 2 and 3, an owner `t` of two entries and one of one, whose own entry doesn't count
 abbrev four_entries : List (List ℕ × List ℕ)

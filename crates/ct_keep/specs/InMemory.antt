@@ -31,6 +31,7 @@ in_memory m limit counts beside say_room = record {
   now = λ stopped said. (stopped ≡ Some m) × IsSaid beside.said said;
   counts = counts;
   disk_faults = 0;
+  disk_syncs = 0;
   well = AnyEntry;
   fixed = record { say_room = say_room; limit = limit; lender = None };
 }

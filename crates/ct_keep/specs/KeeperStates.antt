@@ -7,7 +7,7 @@ use denote.Struct.Codes.{also_coded}
 use Rattle.std.specs.declared.alloc.Global.{Global}
 use Rattle.ct_keep.specs.Content.{Content}
 use Rattle.ct_keep.specs.Changes.{HoldsEntries}
-use Rattle.ct_keep.specs.WellLaws.{HoldsEntries-prop}
+use Rattle.ct_keep.specs.laws.Changes.{HoldsEntries-prop}
 use Rattle.ct_keep.specs.KeeperViews.{KeeperView, Counts}
 use Rattle.ct_keep.specs.Pairs.{content_code}
 use Rattle.ct_keep.specs.InMemory.{in_memory}
@@ -28,7 +28,7 @@ pub record KeeperState : Type 0 where
   pub ends : ℕ
 
 abbrev pub no_counts : Counts
-no_counts = record { texts = 0; rows = 0; rules = 0; fulls = 0; commits = 0; syncs = 0 }
+no_counts = record { texts = 0; rows = 0; rules = 0; fulls = 0; commits = 0 }
 
 -- It holds nothing, nothing of this script was heard, and nothing was said.
 pub record IsNew (script : List ℕ) (most room : ℕ) (k : KeeperState) : Type 0 where
@@ -52,9 +52,9 @@ pub record IsRoomy (script : List ℕ) (heard : ℕ) (said : Vec ℕ Global) (sa
 
 abbrev pub counts_code : Coded Counts
 counts_code =
-    code_by (ℕ × (ℕ × (ℕ × (ℕ × (ℕ × ℕ))))) (coded× coded_ℕ (coded× coded_ℕ (coded× coded_ℕ (coded× coded_ℕ (coded× coded_ℕ coded_ℕ)))))
-    (λ c. (c.texts, (c.rows, (c.rules, (c.fulls, (c.commits, c.syncs))))))
-    (λ p. record { texts = p.0; rows = p.1.0; rules = p.1.1.0; fulls = p.1.1.1.0; commits = p.1.1.1.1.0; syncs = p.1.1.1.1.1 })
+    code_by (ℕ × (ℕ × (ℕ × (ℕ × ℕ)))) (coded× coded_ℕ (coded× coded_ℕ (coded× coded_ℕ (coded× coded_ℕ coded_ℕ))))
+    (λ c. (c.texts, (c.rows, (c.rules, (c.fulls, c.commits)))))
+    (λ p. record { texts = p.0; rows = p.1.0; rules = p.1.1.0; fulls = p.1.1.1.0; commits = p.1.1.1.1 })
     (λ _. refl)
 
 -- a content with the proof that each of its entries is within the bounds

@@ -13,15 +13,14 @@ use Rattle.ct_keep.specs.declared.keepers.KeepFault.TheVariants.{Memory, Disk, F
 use Rattle.ct_keep.specs.Content.{Content, IsEntry, weight}
 use Rattle.ct_keep.specs.Changes.{AnyEntry}
 
--- How often entries of some kinds were asked for or handed out, how often a commit was refused for want of room, how often one
--- was called, however it ended, and how often the disk was synced; each up to 2 ^ 64 - 1.
+-- How often entries of some kinds were asked for or handed out, how often a commit was refused for want of room, and how often one
+-- was called, however it ended; each up to 2 ^ 64 - 1.
 pub record Counts : Type 0 where
   pub texts : ℕ
   pub rows : ℕ
   pub rules : ℕ
   pub fulls : ℕ
   pub commits : ℕ
-  pub syncs : ℕ
 
 -- What never changes.
 pub record Fixed : Type 0 where
@@ -45,6 +44,8 @@ pub record KeeperView : Type 1 where
   pub now : Option Content → List ℕ → Type 0
   pub counts : Counts
   pub disk_faults : ℕ
+  -- how often the disk was synced, up to 2 ^ 64 - 1
+  pub disk_syncs : ℕ
   -- which entries it may hold, beside the bounds on each; no call changes this
   pub well : List ℕ → List ℕ → Type 0
   pub fixed : Fixed
@@ -104,7 +105,7 @@ pub record ReadsKeeper (old new : KeeperView) (fault : Option KeepFault) : Type 
   pub now : (stopped : Option Content) (said : List ℕ) → new.now stopped said → old.now stopped said
   pub fulls : new.counts.fulls ≡ old.counts.fulls
   pub commits : new.counts.commits ≡ old.counts.commits
-  pub syncs : new.counts.syncs ≡ old.counts.syncs
+  pub syncs : new.disk_syncs ≡ old.disk_syncs
 
 -- A call with this result only read, by the view of a keeper before and after it.
 abbrev pub OnlyReads : {K T : Type 0} → (K → KeeperView) → K → K → Result T KeepFault → Type 0
@@ -143,14 +144,13 @@ looked_up asked handed c = record {
   rules = counted (is_either 0x2a asked handed) c.rules;
   fulls = c.fulls;
   commits = c.commits;
-  syncs = c.syncs;
 }
 
 abbrev pub is_full : Option KeepFault → Bool
 is_full (Some Full) = true
 is_full fault = false
 
--- the counts after a commit that synced nothing
+-- the counts after a commit that ended so
 abbrev pub committed : Option KeepFault → Counts → Counts
 committed fault c = record {
   texts = c.texts;
@@ -158,17 +158,18 @@ committed fault c = record {
   rules = c.rules;
   fulls = counted (is_full fault) c.fulls;
   commits = counted true c.commits;
-  syncs = c.syncs;
 }
 
--- A commit that ended so was counted, and synced the disk four times at most.
-pub record CountsCommit (fault : Option KeepFault) (old new : Counts) : Type 0 where
-  pub is : new ≡ record (committed fault old) { syncs = new.syncs }
-  pub few : new.syncs ≤ old.syncs + 4
+-- No commit was called, and the disk wasn't synced.
+abbrev pub NoCommit : KeeperView → KeeperView → Type 0
+NoCommit old new = (new.counts.commits ≡ old.counts.commits) × (new.disk_syncs ≡ old.disk_syncs)
 
--- A commit was called once, which synced the disk four times at most, or none was called and nothing was synced.
-abbrev pub AtMostOneCommit : Counts → Counts → Type 0
-AtMostOneCommit old new = ((new.commits ≡ old.commits) × (new.syncs ≡ old.syncs)) ⊎ ((new.commits ≡ counted true old.commits) × (new.syncs ≤ old.syncs + 4))
+-- One commit was called, and the disk was synced four times at most.
+abbrev pub OneCommit : KeeperView → KeeperView → Type 0
+OneCommit old new = (new.counts.commits ≡ counted true old.counts.commits) × (new.disk_syncs ≤ old.disk_syncs + 4)
+
+abbrev pub AtMostOneCommit : KeeperView → KeeperView → Type 0
+AtMostOneCommit old new = NoCommit old new ⊎ OneCommit old new
 
 -- ---- commits
 
@@ -218,6 +219,7 @@ pub record SameStore (old new : KeeperView) : Type 0 where
   pub content : new.content ≡ old.content
   pub counts : new.counts ≡ old.counts
   pub disk_faults : new.disk_faults ≡ old.disk_faults
+  pub disk_syncs : new.disk_syncs ≡ old.disk_syncs
 
 -- Bytes of the script were heard by one call, and nothing else was done, but that the end may have been told.
 pub record KeeperHears (heard : List ℕ) (old new : KeeperView) : Type 0 where
@@ -244,21 +246,21 @@ pub record PassesRoom (room : Option ℕ) (told : Option (List ℕ)) (bytes : Li
 
 -- computed examples: a text that is asked for, a posting row that is handed out where a document was asked for, and a count at its end
 abbrev nothing_yet : Counts
-nothing_yet = record { texts = 0; rows = 0; rules = 0; fulls = 0; commits = 0; syncs = 0 }
+nothing_yet = record { texts = 0; rows = 0; rules = 0; fulls = 0; commits = 0 }
 
-one_text : looked_up (0x03 ∷ 1 ∷ []) None nothing_yet ≡ record { texts = 1; rows = 0; rules = 0; fulls = 0; commits = 0; syncs = 0 }
+one_text : looked_up (0x03 ∷ 1 ∷ []) None nothing_yet ≡ record { texts = 1; rows = 0; rules = 0; fulls = 0; commits = 0 }
 one_text = refl
 
-one_row : looked_up (0x22 ∷ []) (Some (0x24 ∷ 1 ∷ [])) nothing_yet ≡ record { texts = 0; rows = 1; rules = 0; fulls = 0; commits = 0; syncs = 0 }
+one_row : looked_up (0x22 ∷ []) (Some (0x24 ∷ 1 ∷ [])) nothing_yet ≡ record { texts = 0; rows = 1; rules = 0; fulls = 0; commits = 0 }
 one_row = refl
 
 -- a commit that was refused for want of room was called too
-one_commit : committed (Some Full) nothing_yet ≡ record { texts = 0; rows = 0; rules = 0; fulls = 1; commits = 1; syncs = 0 }
+one_commit : committed (Some Full) nothing_yet ≡ record { texts = 0; rows = 0; rules = 0; fulls = 1; commits = 1 }
 one_commit = refl
 
--- one that synced the disk four times
-four_syncs : CountsCommit None nothing_yet (record nothing_yet { commits = 1; syncs = 4 })
-four_syncs = record { is = refl; few = omega arith }
+-- one commit after five syncs, which synced the disk four times more
+four_syncs : (k : KeeperView) → OneCommit (record k { counts = nothing_yet; disk_syncs = 5 }) (record k { counts = committed None nothing_yet; disk_syncs = 9 })
+four_syncs k = (refl, omega arith)
 
 disk_failed : disk_faults_after (Some Disk) 4 ≡ 5
 disk_failed = refl

@@ -17,15 +17,14 @@ look asked handed = record {
   rules = one_if (is_either 0x2a asked handed);
   fulls = 0;
   commits = 0;
-  syncs = 0;
 }
 
 abbrev pub no_looks : Counts
-no_looks = record { texts = 0; rows = 0; rules = 0; fulls = 0; commits = 0; syncs = 0 }
+no_looks = record { texts = 0; rows = 0; rules = 0; fulls = 0; commits = 0 }
 
 -- what two parts add together
 abbrev pub plus : Counts → Counts → Counts
-plus a b = record { texts = a.texts + b.texts; rows = a.rows + b.rows; rules = a.rules + b.rules; fulls = a.fulls + b.fulls; commits = a.commits + b.commits; syncs = a.syncs + b.syncs }
+plus a b = record { texts = a.texts + b.texts; rows = a.rows + b.rows; rules = a.rules + b.rules; fulls = a.fulls + b.fulls; commits = a.commits + b.commits }
 
 -- what a look-up of the entry after a key adds
 abbrev pub next_looks : List ℕ → Content → Counts
@@ -50,7 +49,7 @@ abbrev pub raised_count : ℕ → ℕ → ℕ
 raised_count n count = if n == 0 then count else min (count + n) (2 ^ 64 - 1)
 
 abbrev pub with_looks : Counts → Counts → Counts
-with_looks more c = record { texts = raised_count more.texts c.texts; rows = raised_count more.rows c.rows; rules = raised_count more.rules c.rules; fulls = raised_count more.fulls c.fulls; commits = raised_count more.commits c.commits; syncs = raised_count more.syncs c.syncs }
+with_looks more c = record { texts = raised_count more.texts c.texts; rows = raised_count more.rows c.rows; rules = raised_count more.rules c.rules; fulls = raised_count more.fulls c.fulls; commits = raised_count more.commits c.commits }
 
 -- Each of the three counts rose by no more than this.
 pub record RisesBy (most old new : Counts) : Type 0 where
@@ -63,11 +62,11 @@ abbrev pub LooksAtMost : {K : Type 0} → (K → KeeperView) → K → K → Cou
 LooksAtMost view old new most = RisesBy most (view old).counts (view new).counts
 
 -- computed examples: a scan of two posting rows, behind which a text stands, asks three times, and the last look-up hands out the text
-three_looks : looks (0x24 ∷ 1 ∷ []) (0x24 ∷ 1 ∷ []) ((0x24 ∷ 1 ∷ 5 ∷ [], []) ∷ (0x24 ∷ 1 ∷ 7 ∷ [], []) ∷ (0x03 ∷ [], []) ∷ []) ≡ record { texts = 1; rows = 3; rules = 0; fulls = 0; commits = 0; syncs = 0 }
+three_looks : looks (0x24 ∷ 1 ∷ []) (0x24 ∷ 1 ∷ []) ((0x24 ∷ 1 ∷ 5 ∷ [], []) ∷ (0x24 ∷ 1 ∷ 7 ∷ [], []) ∷ (0x03 ∷ [], []) ∷ []) ≡ record { texts = 1; rows = 3; rules = 0; fulls = 0; commits = 0 }
 three_looks = refl
 
 -- where nothing is under the prefix it asks once
-one_look : looks (0x2a ∷ []) (0x2a ∷ []) ((0x2b ∷ [], []) ∷ []) ≡ record { texts = 0; rows = 0; rules = 1; fulls = 0; commits = 0; syncs = 0 }
+one_look : looks (0x2a ∷ []) (0x2a ∷ []) ((0x2b ∷ [], []) ∷ []) ≡ record { texts = 0; rows = 0; rules = 1; fulls = 0; commits = 0 }
 one_look = refl
 
 raised_to_its_end : raised_count 3 (2 ^ 64 - 2) ≡ 2 ^ 64 - 1

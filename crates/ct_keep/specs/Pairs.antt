@@ -12,11 +12,14 @@ use Rattle.ct_keep.specs.Content.{Content}
 abbrev pub byte_order : Vec ℕ Global → Vec ℕ Global → Ordering
 byte_order x y = slice_cmp nat_cmp x.items y.items
 
+abbrev pub VecEntry : Type 0
+VecEntry = Vec ℕ Global × Vec ℕ Global
+
 -- keys and values
-abbrev pub pairs : List (Vec ℕ Global × Vec ℕ Global) → List (List ℕ × List ℕ)
+abbrev pub pairs : List VecEntry → List (List ℕ × List ℕ)
 pairs es = map (λ e. (e.0.items, e.1.items)) es
 
-abbrev pub content_of : List (Vec ℕ Global × Vec ℕ Global) → Content
+abbrev pub content_of : List VecEntry → Content
 content_of es = from_sorted (pairs es)
 
 abbrev pub content_code : Coded Content

@@ -30,7 +30,7 @@ impl Holding {
     pub(crate) fn new(alloc: Global, limit: u64) -> Holding
         ensures content { result.content ≡ empty }
         ensures limit { result.limit ≡ limit }
-        ensures counts { result.counts ≡ record { texts = 0; rows = 0; rules = 0; fulls = 0; commits = 0; syncs = 0 } }
+        ensures counts { result.counts ≡ record { texts = 0; rows = 0; rules = 0; fulls = 0; commits = 0 } }
     {
         Holding {
             content: EntryMap::new(alloc),

@@ -1,6 +1,6 @@
 //! What every keeper promises.
 
-ghost use Rattle.std.specs.Prelude.{◌≡◌, ◌≤◌, ◌<◌, ◌↔◌, ℕ, List, Option, IsTrue, Some, None, Ok, Err, IfOk, OnErr, length};
+ghost use Rattle.std.specs.Prelude.{◌≡◌, ◌+◌, ◌≤◌, ◌<◌, ◌↔◌, ℕ, List, Option, IsTrue, Some, None, Ok, Err, IfOk, OnErr, length};
 ghost use Rattle.std.specs.Option.{option_map};
 ghost use Rattle.std.specs.FinMap.{get};
 ghost use Rattle.ct_base.specs.Told.{took, IsNothing, IsSaid};
@@ -8,7 +8,7 @@ ghost use Rattle.ct_site.specs.FaultCounts.{CountsFaults, ends_after};
 ghost use Rattle.ct_keep.specs.Content.{Content, after, entries_above, first_entry};
 ghost use Rattle.ct_keep.specs.Changes.{AreWell, HoldsWell};
 ghost use Rattle.ct_keep.specs.Counting.{count_under, IsOwner};
-ghost use Rattle.ct_keep.specs.KeeperViews.{Finds, Told, KeeperView, SameButContent, OnlyReads, Goes, AnswersCommit, IsDurable, KeeperHears, KeeperSays, PassesRoom, fault_of, looked_up, CountsCommit};
+ghost use Rattle.ct_keep.specs.KeeperViews.{Finds, Told, KeeperView, SameButContent, OnlyReads, Goes, AnswersCommit, IsDurable, KeeperHears, KeeperSays, PassesRoom, fault_of, looked_up, committed};
 ghost use Rattle.ct_keep.specs.Handed.{handed};
 
 use crate::batches::Batch;
@@ -75,14 +75,15 @@ pub trait Keeper {
         ensures { Told view self.now (λ m. result ≡ count_under owner.now m) };
 
     /// Does what the batch says, all of it or none. At each moment a stop leaves the old content or the new one, and after
-    /// Ok the new one.
+    /// Ok the new one. It syncs the disk four times at most.
     fn commit(&mut self, alloc: Global, batch: Batch) -> Result<(), KeepFault>
         requires ready { (view self.old).ready }
         requires well { AreWell (view self.old).well batch }
         ensures kept { SameButContent (view self.old) (view self.new) (fault_of result) }
         ensures goes { (m : Content) → (view self.old).content ≡ Some m → Goes m (after batch m) (view self.old) (view self.new) (fault_of result) }
         ensures answers { (m : Content) → (view self.old).content ≡ Some m → AnswersCommit (fault_of result) (view self.old).fixed.limit m (after batch m) }
-        ensures counts { CountsCommit (fault_of result) (view self.old).counts (view self.new).counts };
+        ensures counts { (view self.new).counts ≡ committed (fault_of result) (view self.old).counts }
+        ensures syncs { (view self.new).disk_syncs ≤ (view self.old).disk_syncs + 4 };
 
     /// Takes bytes of the script into the beginning of `into`, and answers how many. 0 means the end of the script. It may be
     /// called after Disk too.

@@ -3,7 +3,7 @@
 ghost use Rattle.std.specs.Prelude.{◌≡◌, ◌<◌, ◌^◌, ℕ, List, Some, OnOk, OnErr};
 ghost use Rattle.std.specs.Option.{option_map};
 ghost use Rattle.std.specs.FinMap.{empty};
-ghost use Rattle.ct_keep.specs.Counting.{owner_prefix, count_at, CountsMore, CountsLess};
+ghost use Rattle.ct_keep.specs.Counting.{owner_prefix, prefix_count, CountsMore, CountsLess};
 
 use ct_base::Memory;
 use std::alloc::Global;
@@ -58,14 +58,14 @@ impl OwnerCounts {
 
     /// The count of an owner, by its prefix.
     pub(crate) fn at(&self, owner: &[u8]) -> u64
-        ensures { result ≡ count_at owner.now self.now }
+        ensures { result ≡ prefix_count owner.now self.now }
     {
         self.counts.get(owner).copied().unwrap_or(0)
     }
 
     /// Counts an entry that comes. It takes memory only for an owner that is new.
     pub(crate) fn add(&mut self, alloc: Global, key: &[u8]) -> Result<(), Memory>
-        requires { (p : List ℕ) → owner_prefix key.now ≡ Some p → count_at p self.old < 2 ^ 63 }
+        requires { (p : List ℕ) → owner_prefix key.now ≡ Some p → prefix_count p self.old < 2 ^ 63 }
         ensures ok { OnOk result (CountsMore key.now self.old self.new) }
         ensures err { OnErr result (self.new ≡ self.old) }
     {

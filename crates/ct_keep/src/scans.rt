@@ -1,5 +1,5 @@
 //! What a keeper holds under a prefix of its keys.
-#![tactic(auto, using(crate::specs::Composing::reads_on, crate::specs::Composing::reads_short))]
+#![tactic(auto, using(crate::specs::laws::Composing::reads_on, crate::specs::laws::Composing::reads_short))]
 
 ghost use Rattle.std.specs.Prelude.{◌≡◌, ◌≤◌, ◌++◌, true, IfOk, OnOk, IfSome, IsTrue, [], ◌∷◌, map, length, drop};
 ghost use Rattle.std.specs.FinMap.{entries};

@@ -18,8 +18,7 @@ const SECTION_ROW: u8 = 0x25;
 const RULE: u8 = 0x2a;
 
 /// How often entries of some kinds were asked for or handed out, how often a commit was refused for want of room, and how often
-/// one was called. It counts no syncs.
-/// Each count stands still at its type's end.
+/// one was called. Each count stands still at its type's end.
 #[derive(Debug, Drop)]
 pub struct Tally {
     texts: u64,
@@ -34,7 +33,7 @@ impl Model for Tally {
 
     ghost Value = { Counts };
 
-    ghost view = { λ t. record { texts = t.texts; rows = t.rows; rules = t.rules; fulls = t.fulls; commits = t.commits; syncs = 0 } };
+    ghost view = { λ t. record { texts = t.texts; rows = t.rows; rules = t.rules; fulls = t.fulls; commits = t.commits } };
 }
 
 /// Whether the key is one of this kind.
@@ -77,7 +76,7 @@ fn counted(here: bool, count: u64) -> u64
 impl Tally {
     /// Nothing was counted yet.
     pub fn new() -> Tally
-        ensures { result ≡ record { texts = 0; rows = 0; rules = 0; fulls = 0; commits = 0; syncs = 0 } }
+        ensures { result ≡ record { texts = 0; rows = 0; rules = 0; fulls = 0; commits = 0 } }
     {
         Tally {
             texts: 0,

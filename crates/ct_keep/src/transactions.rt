@@ -4,8 +4,7 @@ ghost use Rattle.std.specs.Prelude.{◌≡◌, ◌+◌, ◌^◌, ◌<◌, ◌≤
 ghost use Rattle.std.specs.Option.{option_map};
 ghost use Rattle.std.specs.FinMap.{get, insert, remove};
 ghost use Rattle.ct_keep.specs.SeenChanges.{change_of};
-ghost use Rattle.ct_keep.specs.Content.{set_to, after, entry_weight, weight};
-ghost use Rattle.ct_keep.specs.Laws.{value_weight};
+ghost use Rattle.ct_keep.specs.Content.{set_to, after, entry_weight, weight, value_weight};
 
 use crate::batches::Change;
 use crate::sorted_entries::SortedEntries;

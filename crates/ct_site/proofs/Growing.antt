@@ -1,11 +1,13 @@
 -- Tests of room, and what one more call makes of a log.
-use Rattle.std.proofs.Common.{◌≡◌, ℕ, ◌+◌, ◌-◌, ◌≤◌, Bool, List, [], ◌∷◌, ◌++◌, length, take, drop, refl, sym, ap, ◌∙◌, arith, rules}
+use Rattle.std.proofs.Common.{◌≡◌, ℕ, ◌+◌, ◌-◌, ◌^◌, ◌≤◌, Bool, List, [], ◌∷◌, ◌++◌, length, take, drop, refl, sym, ap, ◌∙◌, arith, rules}
 use Rattle.std.specs.Prelude.{not, ◌||◌, true, false, nat_lt, nat_le}
+use Rattle.std.proofs.lemmas.Bool.{ltb-false}
 use Rattle.std.proofs.lemmas.List.{take_all, drop_at}
 use Rattle.ct_site.specs.declared.logs.Entry.{Entry}
 use Rattle.ct_site.specs.declared.logs.Entry.TheVariants.{Write, Sync, Say}
 use Rattle.ct_site.specs.Histories.{DiskChange, Wrote, Synced, Said}
 use Rattle.ct_site.specs.Logs.{all_written, all_said, changes_of, changes_of-push, changes_of-written, changes_of-said}
+use Rattle.ct_site.specs.Memory.{MemState, change_passes, write_passes}
 
 pub below : (n room : ℕ) → nat_lt n room ≡ not (nat_lt room (n + 1))
 below n room = search rules
@@ -35,3 +37,16 @@ passes_none false false false d r n is = refl
 passes_none true b c d r n is = cc
 passes_none false true c d r n is = cc
 passes_none false false true d r n is = cc
+
+-- and the last of them, where none passes
+pub passes_no_end : (a b c d r : Bool) → r ≡ true → r ≡ not (a || (b || (c || d))) → d ≡ false
+passes_no_end false false false false r n is = refl
+passes_no_end false false false true r n is = cc
+passes_no_end true b c d r n is = cc
+passes_no_end false true c d r n is = cc
+passes_no_end false false true d r n is = cc
+
+-- a write that passes no room ends within 2^43 bytes
+pub short_write : (s : MemState) (at n : ℕ) (may : Bool) → may ≡ true → may ≡ not (write_passes s at n) → at + n ≤ 2 ^ 43
+short_write s at n may is whole =
+    ltb-false (2 ^ 43) (at + n) (passes_no_end (change_passes s) (nat_lt s.rooms.written (s.written_bytes + n)) (nat_lt s.rooms.image (at + n)) (nat_lt (2 ^ 43) (at + n)) may is whole)

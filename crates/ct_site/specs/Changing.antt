@@ -1,5 +1,5 @@
 -- What the calls of a site in memory make of what is known of it.
-use Rattle.std.specs.Prelude.{◌≡◌, ℕ, zero, suc, ◌≤◌, ◌==◌, nat_lt, List, [], ◌∷◌, ◌++◌, length, Option, Some, is_some, true, false, Ok, refl}
+use Rattle.std.specs.Prelude.{◌≡◌, ℕ, zero, suc, ◌+◌, ◌^◌, ◌≤◌, ◌==◌, nat_lt, List, [], ◌∷◌, ◌++◌, length, Option, Some, is_some, true, false, Ok, refl}
 use Rattle.std.specs.List.{Contains}
 use Rattle.std.proofs.Common.{inl, inr, ⊎_elim, sym, ◌∙◌, ap, subst, arith, append-nil}
 use Rattle.ct_base.specs.laws.Moments.{grows_itself, adds_nothing_itself}
@@ -7,7 +7,9 @@ use Rattle.ct_site.specs.Images.{written, Torn}
 use Rattle.ct_site.specs.Pieces.{torn_written}
 use Rattle.ct_site.specs.FaultCounts.{raised}
 use Rattle.ct_site.specs.Hearings.{Hearing, WasCalled, with_present, present_there, present_adds, present_keeps}
-use Rattle.ct_site.specs.Disks.{DiskView, Beside, IsNow, FollowsBy, Works, Leaves, Asks, Hears, Says}
+use Rattle.ct_site.specs.Disks.{DiskView, Beside, IsNow, FollowsBy, IsSync, Works, Leaves, Asks, Hears, Says}
+use Rattle.ct_site.specs.Writing.{IsWrite}
+use Rattle.ct_site.specs.laws.Lengths.{grows_written}
 use Rattle.ct_site.specs.Histories.{DiskChange, Wrote, Synced, Said, DiskState, begun, next, disk_after, said_in, said_by, after-push, said_by-push, image_left, timeline, moment_now, left_now, said_now, keeps_push, passes_push}
 use Rattle.ct_site.specs.Memory.{MemState, memory_view, image_of, said_of, hearings_of, wrote, after_sync, after_say, heard, hear_failed}
 
@@ -69,36 +71,59 @@ crash_pushed : (s : MemState) (at : ℕ) (bytes : List ℕ) → at ≤ length (i
 crash_pushed s at bytes within x (inl is) = (image_of s, image_left (begun s.first) s.log refl, subst (λ (y : List ℕ). Torn at (length bytes) (image_of s) y) (sym is) (torn_written at bytes (image_of s) within))
 crash_pushed s at bytes within x (inr torn) = (torn.from, torn.left, torn.torn)
 
-pub write_works : (s : MemState) (at : ℕ) (bytes : List ℕ) → Works {T = Unit {0}} (memory_view s) (memory_view (wrote s at bytes)) (Ok tt)
+write_works : (s : MemState) (at : ℕ) (bytes : List ℕ) → Works {T = Unit {0}} (memory_view s) (memory_view (wrote s at bytes)) (Ok tt)
 write_works s at bytes = subst (λ (v : DiskView). Works {T = Unit {0}} (memory_view s) v (Ok tt)) (sym (view_pushed s s.syncs (Wrote at bytes))) (works_push s s.syncs (Wrote at bytes) refl)
 
-pub write_leaves : (s : MemState) (at : ℕ) (bytes : List ℕ) → Leaves (memory_view s) (memory_view (wrote s at bytes)) (memory_view (wrote s at bytes)).may_leave
+write_leaves : (s : MemState) (at : ℕ) (bytes : List ℕ) → Leaves (memory_view s) (memory_view (wrote s at bytes)) (memory_view (wrote s at bytes)).may_leave
 write_leaves s at bytes = subst (λ (v : DiskView). Leaves (memory_view s) v v.may_leave) (sym (view_pushed s s.syncs (Wrote at bytes))) (leaves_push s s.syncs (Wrote at bytes) _ refl (λ image now. now))
 
-pub write_crash : (s : MemState) (at : ℕ) (bytes : List ℕ) → at ≤ length (image_of s) → FollowsBy (Torn at (length bytes)) (memory_view s).may_leave (memory_view (wrote s at bytes)).may_leave
+write_crash : (s : MemState) (at : ℕ) (bytes : List ℕ) → at ≤ length (image_of s) → FollowsBy (Torn at (length bytes)) (memory_view s).may_leave (memory_view (wrote s at bytes)).may_leave
 write_crash s at bytes within = subst (λ (v : DiskView). FollowsBy (Torn at (length bytes)) (memory_view s).may_leave v.may_leave) (sym (view_pushed s s.syncs (Wrote at bytes))) (crash_pushed s at bytes within)
 
-pub write_image : (s : MemState) (at : ℕ) (bytes : List ℕ) → image_of (wrote s at bytes) ≡ written at bytes (image_of s)
+write_image : (s : MemState) (at : ℕ) (bytes : List ℕ) → image_of (wrote s at bytes) ≡ written at bytes (image_of s)
 write_image s at bytes = ap (λ (d : DiskState). d.image) (after-push (begun s.first) s.log (Wrote at bytes))
+
+-- all that it does
+pub made_write : (s : MemState) (at : ℕ) (bytes : List ℕ) → at ≤ length (image_of s) → at + length bytes ≤ 2 ^ 43 → IsWrite {T = Unit {0}} at bytes (memory_view s) (memory_view (wrote s at bytes)) (Ok tt)
+made_write s at bytes within short = record {
+  is = ap Some (write_image s at bytes);
+  too_far = λ long. absurd (omega (arith, long, short));
+  crash = write_crash s at bytes within;
+  leaves = write_leaves s at bytes;
+  grows = grows_written at bytes (memory_view s) (memory_view (wrote s at bytes)) (record { least = λ image told. subst (λ (l : List ℕ). at ≤ length l) (some_same told) within }) (ap Some (write_image s at bytes));
+  syncs = refl;
+  works = write_works s at bytes;
+}
 
 -- ---- a sync
 only_image : (s : MemState) (x : List ℕ) → x ≡ image_of s → (memory_view s).may_leave x
 only_image s x is = subst (memory_view s).may_leave (sym is) (image_left (begun s.first) s.log refl)
 
-pub sync_works : (s : MemState) → Works {T = Unit {0}} (memory_view s) (memory_view (after_sync s)) (Ok tt)
+sync_works : (s : MemState) → Works {T = Unit {0}} (memory_view s) (memory_view (after_sync s)) (Ok tt)
 sync_works s = subst (λ (v : DiskView). Works {T = Unit {0}} (memory_view s) v (Ok tt)) (sym (view_pushed s (raised s.syncs) Synced)) (works_push s (raised s.syncs) Synced refl)
 
-pub sync_leaves : (s : MemState) → Leaves (memory_view s) (memory_view (after_sync s)) (memory_view s).may_leave
+sync_leaves : (s : MemState) → Leaves (memory_view s) (memory_view (after_sync s)) (memory_view s).may_leave
 sync_leaves s = subst (λ (v : DiskView). Leaves (memory_view s) v (memory_view s).may_leave) (sym (view_pushed s (raised s.syncs) Synced)) (leaves_push s (raised s.syncs) Synced _ refl (only_image s))
 
-pub sync_image : (s : MemState) → image_of (after_sync s) ≡ image_of s
+sync_image : (s : MemState) → image_of (after_sync s) ≡ image_of s
 sync_image s = ap (λ (d : DiskState). d.image) (after-push (begun s.first) s.log Synced)
 
-pub sync_durable : (s : MemState) (image x : List ℕ) → Some (image_of s) ≡ Some image → (memory_view (after_sync s)).may_leave x → x ≡ image
+sync_durable : (s : MemState) (image x : List ℕ) → Some (image_of s) ≡ Some image → (memory_view (after_sync s)).may_leave x → x ≡ image
 sync_durable s image x told = subst (λ (d : DiskState). d.may_leave x → x ≡ image) (sym (after-push (begun s.first) s.log Synced)) (λ is. is ∙ some_same told)
 
-pub sync_crash : (s : MemState) (x : List ℕ) → (memory_view (after_sync s)).may_leave x → (memory_view s).may_leave x
+sync_crash : (s : MemState) (x : List ℕ) → (memory_view (after_sync s)).may_leave x → (memory_view s).may_leave x
 sync_crash s x = subst (λ (d : DiskState). d.may_leave x → (memory_view s).may_leave x) (sym (after-push (begun s.first) s.log Synced)) (only_image s x)
+
+-- all that it does
+pub made_sync : (s : MemState) → IsSync {T = Unit {0}} (memory_view s) (memory_view (after_sync s)) (Ok tt)
+made_sync s = record {
+  durable = λ image told left. sync_durable s image left told;
+  image = ap Some (sync_image s);
+  crash = sync_crash s;
+  leaves = sync_leaves s;
+  syncs = refl;
+  works = sync_works s;
+}
 
 -- ---- hearing and saying
 asks_present : (s : MemState) (new : Beside) → new.hearings ≡ Some (with_present s.hearings true s.left (said_of s)) → Asks (memory_view s).beside new

@@ -2,7 +2,7 @@
 use Rattle.std.specs.Prelude.{◌≡◌, ◌⊎◌, ℕ, true, List, Option, None, Some, is_some, Result, Ok, OnOk}
 use Rattle.std.proofs.Common.{refl, ap, sym, ◌∙◌}
 use Rattle.ct_site.specs.declared.outside.Failed.{Failed}
-use Rattle.ct_site.specs.FaultCounts.{CountsFaults, counts_then}
+use Rattle.ct_site.specs.FaultCounts.{CountsFaults, counts_then, raised}
 use Rattle.ct_base.specs.Moments.{Timeline, Passes, AddsNothing, Grows}
 use Rattle.ct_base.specs.laws.Moments.{grows_then, passes_none, passes_nothing, passes_more, passes_then}
 use Rattle.ct_base.specs.Told.{with_prefix, with_suffix, IsSaid, SaysPart}
@@ -83,6 +83,15 @@ pub record Leaves (old new : DiskView) (P : List ℕ → Type 0) : Type 0 where
   pub time : Passes old.time new.time (λ image said. P image × IsSaid old.beside.said said)
   -- and so it does now
   pub now : (image : List ℕ) → new.may_leave image → P image
+
+-- What a sync does, whether it went well or not: a read gives what it gave, a crash leaves nothing new, and the sync was counted.
+pub record IsSync {T : Type 0} (old new : DiskView) (result : Result T Failed) : Type 0 where
+  pub durable : MakesDurable old new result
+  pub image : new.image ≡ old.image
+  pub crash : (left : List ℕ) → new.may_leave left → old.may_leave left
+  pub leaves : Leaves old new old.may_leave
+  pub syncs : new.syncs ≡ raised old.syncs
+  pub works : Works old new result
 
 pub leaves_none : (disk : DiskView) (P : List ℕ → Type 0) → ((image : List ℕ) → disk.may_leave image → P image) → Leaves disk disk P
 leaves_none disk P here = record { beside = refl; time = passes_none disk.time _; now = here }

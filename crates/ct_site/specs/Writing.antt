@@ -1,10 +1,21 @@
--- Several writes, one behind the other, that count as one.
-use Rattle.std.specs.Prelude.{◌≡◌, ℕ, ◌+◌, List, ◌++◌, length, Some, Result, Ok, OnOk, codes, refl}
+-- Writes: one, and several, one behind the other, that count as one.
+use Rattle.std.specs.Prelude.{◌≡◌, ℕ, ◌+◌, ◌^◌, ◌<◌, List, ◌++◌, length, Some, Result, Ok, OnOk, IsErr, codes, refl}
 use Rattle.std.specs.Option.{option_map}
 use Rattle.ct_site.specs.declared.outside.Failed.{Failed}
 use Rattle.ct_site.specs.Images.{written, Torn}
-use Rattle.ct_site.specs.Disks.{DiskView, Leaves}
+use Rattle.ct_site.specs.Disks.{DiskView, FollowsBy, Leaves, Works}
 use Rattle.ct_site.specs.Lengths.{Lengthens, IsWithin}
+
+-- What one write of bytes at this place does: after Ok a read gives the image with them. It fails where they would end past 2 ^ 43 bytes.
+-- A crash leaves what it might have left before, with some of them; and nothing was synced.
+pub record IsWrite {T : Type 0} (at : ℕ) (bytes : List ℕ) (old new : DiskView) (result : Result T Failed) : Type 0 where
+  pub is : OnOk result (new.image ≡ option_map (written at bytes) old.image)
+  pub too_far : 2 ^ 43 < at + length bytes → IsErr result
+  pub crash : FollowsBy (Torn at (length bytes)) old.may_leave new.may_leave
+  pub leaves : Leaves old new new.may_leave
+  pub grows : Lengthens (at + length bytes) old new
+  pub syncs : new.syncs ≡ old.syncs
+  pub works : Works old new result
 
 -- An image that a crash may leave of one that it might have left before, after a write of so many bytes that was cut short.
 pub record IsCutShort (at n : ℕ) (old : DiskView) (image : List ℕ) : Type 0 where

@@ -1,13 +1,12 @@
 //! A site in memory, whose calls fail where they are listed to, and all of them after a stop.
 
-ghost use Rattle.std.specs.Prelude.{◌≡◌, ◌≤◌, ◌<◌, ◌+◌, ◌^◌, ◌++◌, ◌↔◌, ℕ, List, Option, Some, Ok, IfOk, OnOk, OnErr, IsErr, IsTrue, length, take, drop, min, not, vec_len};
-ghost use Rattle.std.specs.Option.{option_map};
+ghost use Rattle.std.specs.Prelude.{◌≡◌, ◌≤◌, ◌<◌, ◌+◌, ◌++◌, ◌↔◌, ℕ, List, Option, Some, Ok, IfOk, OnOk, OnErr, IsErr, IsTrue, length, take, drop, min, not, vec_len};
 ghost use Rattle.std.specs.Vec.{vec_capacity};
 ghost use Rattle.ct_base.specs.Told.{took, IsNothing};
-ghost use Rattle.ct_site.specs.FaultCounts.{CountsFaults, ends_after, raised};
-ghost use Rattle.ct_site.specs.Images.{written, Torn};
-ghost use Rattle.ct_site.specs.Lengths.{Lengthens};
-ghost use Rattle.ct_site.specs.Disks.{DiskView, FollowsBy, IsSame, Leaves, MakesDurable, Works, Hears, Says};
+ghost use Rattle.ct_site.specs.FaultCounts.{CountsFaults, ends_after};
+ghost use Rattle.ct_site.specs.Images.{written};
+ghost use Rattle.ct_site.specs.Disks.{IsSame, IsSync, Works, Hears, Says};
+ghost use Rattle.ct_site.specs.Writing.{IsWrite};
 
 use crate::counts::{count_call, count_end, count_fault, count_one, count_stop};
 use crate::fault_lists::Faults;
@@ -239,13 +238,7 @@ impl Disk for MemSite {
     fn write_at(&mut self, at: u64, bytes: &[u8]) -> Result<(), Failed>
         requires within { (image : List ℕ) → (memory_view self.old).image ≡ Some image → at ≤ length image }
         requires some { 0 < length bytes.now }
-        ensures written { OnOk result ((memory_view self.new).image ≡ option_map (written at bytes.now) (memory_view self.old).image) }
-        ensures too_far { 2 ^ 43 < at + length bytes.now → IsErr result }
-        ensures crash { FollowsBy (Torn at (length bytes.now)) (memory_view self.old).may_leave (memory_view self.new).may_leave }
-        ensures leaves { Leaves (memory_view self.old) (memory_view self.new) (memory_view self.new).may_leave }
-        ensures grows { Lengthens (at + length bytes.now) (memory_view self.old) (memory_view self.new) }
-        ensures syncs { (memory_view self.new).syncs ≡ (memory_view self.old).syncs }
-        ensures works { Works (memory_view self.old) (memory_view self.new) result }
+        ensures write { IsWrite at bytes.now (memory_view self.old) (memory_view self.new) result }
 
         ensures fails { IsErr result ↔ IsTrue (write_fails self.old at (length bytes.now)) }
         ensures done { OnOk result (self.new ≡ wrote self.old at bytes.now) }
@@ -261,12 +254,7 @@ impl Disk for MemSite {
 
     /// Makes what was written last.
     fn sync(&mut self) -> Result<(), Failed>
-        ensures durable { MakesDurable (memory_view self.old) (memory_view self.new) result }
-        ensures image { (memory_view self.new).image ≡ (memory_view self.old).image }
-        ensures crash { (left : List ℕ) → (memory_view self.new).may_leave left → (memory_view self.old).may_leave left }
-        ensures leaves { Leaves (memory_view self.old) (memory_view self.new) (memory_view self.old).may_leave }
-        ensures syncs { (memory_view self.new).syncs ≡ raised (memory_view self.old).syncs }
-        ensures works { Works (memory_view self.old) (memory_view self.new) result }
+        ensures sync { IsSync (memory_view self.old) (memory_view self.new) result }
 
         ensures fails { IsErr result ↔ IsTrue (sync_fails self.old) }
         ensures done { OnOk result (self.new ≡ after_sync self.old) }

@@ -1,12 +1,10 @@
 //! What every device promises, real or in memory.
 
-ghost use Rattle.std.specs.Prelude.{◌≡◌, ◌≤◌, ◌<◌, ◌+◌, ◌^◌, ℕ, List, Option, Some, Ok, IfOk, OnOk, IsErr, length, take, drop};
-ghost use Rattle.std.specs.Option.{option_map};
+ghost use Rattle.std.specs.Prelude.{◌≡◌, ◌≤◌, ◌<◌, ◌+◌, ℕ, List, Some, Ok, IfOk, OnOk, length, take, drop};
 ghost use Rattle.ct_base.specs.Told.{took, IsNothing};
-ghost use Rattle.ct_site.specs.FaultCounts.{CountsFaults, ends_after, raised};
-ghost use Rattle.ct_site.specs.Images.{written, Torn};
-ghost use Rattle.ct_site.specs.Lengths.{Lengthens};
-ghost use Rattle.ct_site.specs.Disks.{DiskView, FollowsBy, IsNow, IsSame, Leaves, MakesDurable, Works, Hears, Says};
+ghost use Rattle.ct_site.specs.FaultCounts.{CountsFaults, ends_after};
+ghost use Rattle.ct_site.specs.Disks.{DiskView, IsNow, IsSame, IsSync, Works, Hears, Says};
+ghost use Rattle.ct_site.specs.Writing.{IsWrite};
 
 use thiserror::Error;
 
@@ -43,22 +41,11 @@ pub trait Disk {
     fn write_at(&mut self, at: u64, bytes: &[u8]) -> Result<(), Failed>
         requires within { (image : List ℕ) → (disk self.old).image ≡ Some image → at ≤ length image }
         requires some { 0 < length bytes.now }
-        ensures written { OnOk result ((disk self.new).image ≡ option_map (written at bytes.now) (disk self.old).image) }
-        ensures too_far { 2 ^ 43 < at + length bytes.now → IsErr result }
-        ensures crash { FollowsBy (Torn at (length bytes.now)) (disk self.old).may_leave (disk self.new).may_leave }
-        ensures leaves { Leaves (disk self.old) (disk self.new) (disk self.new).may_leave }
-        ensures grows { Lengthens (at + length bytes.now) (disk self.old) (disk self.new) }
-        ensures syncs { (disk self.new).syncs ≡ (disk self.old).syncs }
-        ensures works { Works (disk self.old) (disk self.new) result };
+        ensures { IsWrite at bytes.now (disk self.old) (disk self.new) result };
 
     /// Makes what was written last: after it a crash leaves what a read gives.
     fn sync(&mut self) -> Result<(), Failed>
-        ensures durable { MakesDurable (disk self.old) (disk self.new) result }
-        ensures image { (disk self.new).image ≡ (disk self.old).image }
-        ensures crash { (left : List ℕ) → (disk self.new).may_leave left → (disk self.old).may_leave left }
-        ensures leaves { Leaves (disk self.old) (disk self.new) (disk self.old).may_leave }
-        ensures syncs { (disk self.new).syncs ≡ raised (disk self.old).syncs }
-        ensures works { Works (disk self.old) (disk self.new) result };
+        ensures { IsSync (disk self.old) (disk self.new) result };
 
     /// A crash may leave what a read gives.
     ghost may_stay: { (d : Self) (image : List ℕ) → (disk d).image ≡ Some image → (disk d).may_leave image };

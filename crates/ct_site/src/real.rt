@@ -1,12 +1,10 @@
 //! A site over standard input, standard output and a file.
 
-ghost use Rattle.std.specs.Prelude.{◌≡◌, ◌≤◌, ◌<◌, ◌+◌, ◌^◌, ℕ, List, Some, Ok, IfOk, OnOk, IsErr, IsNone, is_some, false, length, take, drop};
-ghost use Rattle.std.specs.Option.{option_map};
+ghost use Rattle.std.specs.Prelude.{◌≡◌, ◌≤◌, ◌<◌, ◌+◌, ℕ, List, Some, Ok, IfOk, OnOk, IsNone, is_some, false, length, take, drop};
 ghost use Rattle.ct_base.specs.Told.{took, IsNothing};
 ghost use Rattle.ct_site.specs.FaultCounts.{CountsFaults, ends_after, raised};
-ghost use Rattle.ct_site.specs.Images.{written, Torn};
-ghost use Rattle.ct_site.specs.Lengths.{Lengthens};
-ghost use Rattle.ct_site.specs.Disks.{FollowsBy, IsSame, Leaves, MakesDurable, Works, Hears, Says};
+ghost use Rattle.ct_site.specs.Disks.{IsSame, IsSync, Works, Hears, Says};
+ghost use Rattle.ct_site.specs.Writing.{IsWrite};
 
 use crate::counts::{count_end, count_fault, count_one};
 use crate::outside::{Disk, Failed, LONGEST, Site};
@@ -140,13 +138,7 @@ impl<R: Input + Print + Files> Disk for RealSite<'_, R> {
     fn write_at(&mut self, at: u64, bytes: &[u8]) -> Result<(), Failed>
         requires within { (image : List ℕ) → (real_view self.old).image ≡ Some image → at ≤ length image }
         requires some { 0 < length bytes.now }
-        ensures written { OnOk result ((real_view self.new).image ≡ option_map (written at bytes.now) (real_view self.old).image) }
-        ensures too_far { 2 ^ 43 < at + length bytes.now → IsErr result }
-        ensures crash { FollowsBy (Torn at (length bytes.now)) (real_view self.old).may_leave (real_view self.new).may_leave }
-        ensures leaves { Leaves (real_view self.old) (real_view self.new) (real_view self.new).may_leave }
-        ensures grows { Lengthens (at + length bytes.now) (real_view self.old) (real_view self.new) }
-        ensures syncs { (real_view self.new).syncs ≡ (real_view self.old).syncs }
-        ensures works { Works (real_view self.old) (real_view self.new) result }
+        ensures write { IsWrite at bytes.now (real_view self.old) (real_view self.new) result }
         ensures uses { UsesFile self.old self.new result }
     {
         if bytes.len() as u64 <= LONGEST.saturating_sub(at)
@@ -160,12 +152,7 @@ impl<R: Input + Print + Files> Disk for RealSite<'_, R> {
 
     /// Makes what was written last. The entry of a new file in its folder isn't made last by it.
     fn sync(&mut self) -> Result<(), Failed>
-        ensures durable { MakesDurable (real_view self.old) (real_view self.new) result }
-        ensures image { (real_view self.new).image ≡ (real_view self.old).image }
-        ensures crash { (left : List ℕ) → (real_view self.new).may_leave left → (real_view self.old).may_leave left }
-        ensures leaves { Leaves (real_view self.old) (real_view self.new) (real_view self.old).may_leave }
-        ensures syncs { (real_view self.new).syncs ≡ raised (real_view self.old).syncs }
-        ensures works { Works (real_view self.old) (real_view self.new) result }
+        ensures sync { IsSync (real_view self.old) (real_view self.new) result }
         ensures uses { UsesFile (record self.old { syncs = raised self.old.syncs }) self.new result }
     {
         count_one(&mut self.syncs);

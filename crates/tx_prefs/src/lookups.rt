@@ -1,5 +1,5 @@
 //! Lexer preferences, stoplists and section groups by their names, as a keeper has them.
-#![tactic(auto, using(ct_keep::specs::Composing::reads_on, ct_keep::specs::Composing::reads_short))]
+#![tactic(auto, using(ct_keep::specs::laws::Composing::reads_on, ct_keep::specs::laws::Composing::reads_short))]
 
 ghost use Rattle.std.specs.Prelude.{◌≡◌, true, IfOk, IfSome, length, nat_le};
 ghost use Rattle.std.specs.Option.{option_map};

@@ -12,15 +12,15 @@ use Rattle.std.specs.Cmp.Lexicographic.{slice_cmp}
 use Rattle.std.specs.FinMap.{FinMap, get, entries, is_sorted, find, from_sorted, entries-from_sorted, get-from_sorted, get-entries, same_map}
 use Rattle.ct_keep.specs.Content.{Content}
 use Rattle.ct_keep.specs.Tail.{tail}
-use Rattle.ct_keep.specs.TailLaws.{get-tail, get-tail_nil}
+use Rattle.ct_keep.specs.laws.Tail.{get-tail, get-tail_nil}
 use Rattle.std.proofs.lemmas.Bool.{and_parts, and_from}
 use Rattle.ct_base.specs.laws.Bools.{T_from_true}
-use Rattle.ct_keep.specs.RisingKeys.{below, rises, sorted_from_rises, entries_rise}
+use Rattle.ct_keep.specs.laws.RisingKeys.{below, rises, sorted_from_rises, entries_rise}
 use Rattle.ct_entry.specs.declared.kinds.Kind.{Kind}
 use Rattle.ct_entry.specs.Keys.{Key, key, bytes, prefix_of, at, IsPart, HasKeysOnly}
 use Rattle.ct_base.specs.laws.Orders.{equal_from_test}
 use Rattle.ct_entry.specs.laws.Keys.{key_from_bytes}
-use Rattle.ct_keep.specs.FoundKeys.{none_below, below_tied, AllKeys, all_keys}
+use Rattle.ct_keep.specs.laws.FoundKeys.{none_below, below_tied, AllKeys, all_keys}
 use Rattle.ct_entry.specs.Listings.{entries_where}
 
 -- Keys in an order, each with a rest that isn't empty, such that the rests of those that have P are in the same order.

@@ -6,13 +6,13 @@ use Rattle.std.specs.Ordering.{is_lt, eq_by_cmp}
 use Rattle.std.specs.Cmp.{IsTotalOrder}
 use Rattle.std.specs.FinMap.{FinMap, get, entries, find, get-entries}
 use Rattle.std.proofs.lemmas.Bool.{and_parts}
-use Rattle.ct_keep.specs.RisingKeys.{below, rises, entries_rise}
+use Rattle.ct_keep.specs.laws.RisingKeys.{below, rises, entries_rise}
 use Rattle.ct_entry.specs.Keys.{Key}
 use Rattle.ct_entry.specs.Changes.{told}
 use Rattle.ct_entry.specs.Each.{each, latest}
 use Rattle.ct_entry.specs.laws.Each.{told_latest}
 use Rattle.ct_base.specs.laws.Orders.{no_tie}
-use Rattle.ct_keep.specs.FoundKeys.{below_tied}
+use Rattle.ct_keep.specs.laws.FoundKeys.{below_tied}
 
 module _ {K X : Type 0} (R : K → K → Ordering) (total : IsTotalOrder R) (q : K) (value : X → Option (List ℕ)) where
   latest_below : (es : List (K × X)) (old : Option (List ℕ)) → below R q es ≡ true → latest (λ e. eq_by_cmp R q e.0) (λ e. value e.1) es old ≡ old

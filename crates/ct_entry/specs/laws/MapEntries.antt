@@ -7,7 +7,7 @@ use Rattle.std.specs.Cmp.{IsTotalOrder}
 use Rattle.std.proofs.lemmas.Cmp.{tied_itself}
 use Rattle.std.specs.FinMap.{FinMap, IsAntisymmetric, get, entries, find, get-entries}
 use Rattle.std.proofs.lemmas.Bool.{and_parts}
-use Rattle.ct_keep.specs.RisingKeys.{below, rises, entries_rise}
+use Rattle.ct_keep.specs.laws.RisingKeys.{below, rises, entries_rise}
 use Rattle.ct_base.specs.laws.Orders.{equal_from_test}
 use Rattle.ct_entry.specs.Lists.{IsIn, AreApart}
 

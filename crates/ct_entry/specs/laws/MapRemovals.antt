@@ -9,7 +9,7 @@ use Rattle.std.proofs.lemmas.Bool.{and_parts, and_from}
 use Rattle.std.proofs.lemmas.Cmp.{eq_by_cmp_equiv}
 use Rattle.ct_base.specs.laws.Bools.{T_from_true}
 use Rattle.ct_base.specs.laws.Orders.{equal_from_test}
-use Rattle.ct_keep.specs.RisingKeys.{below, rises, sorted_from_rises, entries_rise}
+use Rattle.ct_keep.specs.laws.RisingKeys.{below, rises, sorted_from_rises, entries_rise}
 
 module _ {K X : Type 0} (R : K → K → Ordering) (total : IsTotalOrder R) (exact : IsAntisymmetric R) where
   below_filter : (p : K → Bool) (k : K) (es : List (K × X)) → below R k es ≡ true → below R k (filter (λ e. p e.0) es) ≡ true

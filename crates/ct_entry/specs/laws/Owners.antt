@@ -21,7 +21,7 @@ use Rattle.ct_base.specs.laws.Bools.{same_tests}
 use Rattle.ct_base.specs.laws.Orders.{equal_from_test}
 use Rattle.ct_entry.specs.laws.Keys.{kind_from_code, list_from_same, list_same}
 use Rattle.ct_entry.specs.laws.Maps.{names_tie}
-use Rattle.ct_keep.specs.FoundKeys.{AllKeys, all_keys}
+use Rattle.ct_keep.specs.laws.FoundKeys.{AllKeys, all_keys}
 use Rattle.ct_entry.specs.Listings.{entries_where, keys_where, owner_of, owners_of, owners_under, key_order, in_key_order}
 use Rattle.ct_entry.specs.laws.Listings.{Spells, tail_listed}
 

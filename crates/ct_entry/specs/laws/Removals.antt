@@ -12,9 +12,9 @@ use Rattle.std.proofs.lemmas.List.{map-append}
 use Rattle.std.proofs.lemmas.List.Folds.{list_any-append}
 use Rattle.ct_keep.specs.Content.{Content, after}
 use Rattle.ct_keep.specs.Tail.{tail}
-use Rattle.ct_keep.specs.TailLaws.{get-tail, get-tail_nil}
+use Rattle.ct_keep.specs.laws.Tail.{get-tail, get-tail_nil}
 use Rattle.ct_keep.specs.Changes.{AreWell}
-use Rattle.ct_keep.specs.FoundKeys.{AllKeys, all_keys}
+use Rattle.ct_keep.specs.laws.FoundKeys.{AllKeys, all_keys}
 use Rattle.ct_entry.specs.declared.kinds.Kind.{Kind}
 use Rattle.ct_entry.specs.Kinds.{code}
 use Rattle.ct_entry.specs.Keys.{Key, key, bytes, at, prefix_of, same_list, same_key, IsKeyOfKind, HasKeysOnly}

@@ -15,13 +15,13 @@ use Rattle.std.specs.FinMap.{FinMap, get, entries, find, get-entries}
 use Rattle.ct_bytes.specs.RowKeys.{sign_turned, row_bytes}
 use Rattle.ct_bytes.specs.laws.RowKeys.{length-row_bytes, row_bytes_in_order}
 use Rattle.ct_keep.specs.Content.{Content, first_entry}
-use Rattle.ct_keep.specs.TailLaws.{entries_above-tail_nil}
+use Rattle.ct_keep.specs.laws.Tail.{entries_above-tail_nil}
 use Rattle.ct_entry.specs.declared.kinds.Kind.{Kind}
 use Rattle.ct_entry.specs.Keys.{key, at, prefix_of, HasKeysOnly, row_part, IsRow}
 use Rattle.std.proofs.lemmas.Bool.{and_parts, and_from}
-use Rattle.ct_keep.specs.RisingKeys.{below, rises, entries_rise}
+use Rattle.ct_keep.specs.laws.RisingKeys.{below, rises, entries_rise}
 use Rattle.ct_base.specs.laws.Orders.{no_tie}
-use Rattle.ct_keep.specs.FoundKeys.{none_below, below_tied, AllKeys, all_keys}
+use Rattle.ct_keep.specs.laws.FoundKeys.{none_below, below_tied, AllKeys, all_keys}
 use Rattle.ct_entry.specs.Listings.{entries_where, keys_where, sign_turned_back, row_of, rows_of, rows_under, first_of, rows_above, row_after}
 use Rattle.ct_entry.specs.laws.Listings.{Spells, HasPartsOnly, family_listed}
 

@@ -1,7 +1,7 @@
 -- Changes that are well shaped by a rule: those that put what it tells of, those that are by a stronger rule, and some after others.
 use Rattle.std.specs.Prelude.{ℕ, ◌≤◌, List, [], ◌∷◌, ◌++◌, length, Option, Some, None, refl}
 use Rattle.ct_keep.specs.Content.{value_limit}
-use Rattle.ct_keep.specs.WellLaws.{well_weaker}
+use Rattle.ct_keep.specs.laws.Changes.{well_weaker}
 use Rattle.ct_entry.specs.Keys.{Key}
 use Rattle.ct_entry.specs.Changes.{spell, AreChanges, AllOf, AllPut}
 use Rattle.ct_entry.specs.laws.Parts.{has_short_keys}

@@ -2,7 +2,7 @@
 use Rattle.std.proofs.Common.{◌≡◌, ℕ, ◌+◌, ◌<◌, ◌≤◌, Bool, true, false, cond, List, [], ◌∷◌, ◌++◌, length, map, Some, refl, sym, ap, ◌∙◌, arith, append_assoc}
 use Rattle.std.specs.Prelude.{◌||◌, not, is_some, filter, bytes_eq}
 use Rattle.std.specs.List.{list_all}
-use Rattle.std.proofs.lemmas.Bool.{and_parts, and_from, or_parts}
+use Rattle.std.proofs.lemmas.Bool.{and_parts, and_from, or_parts, or_from}
 use Rattle.std.proofs.lemmas.List.Folds.{list_any-append}
 use Rattle.std.proofs.lemmas.Slice.Eq.{bytes_eq-Decides}
 use Rattle.tx_tags.specs.declared.groups.SectionKind.{SectionKind}
@@ -18,10 +18,6 @@ other_way xs ys apart = go (bytes_eq ys xs) refl
     go true same = let wrong : bytes_eq xs ys ≡ true = (bytes_eq-Decides xs ys).1 (sym ((bytes_eq-Decides ys xs).0 same)) in cc
     go false same = refl
 
-both_none : (a b : Bool) → a ≡ false → b ≡ false → (a || b) ≡ false
-both_none true b x y = cc
-both_none false b x y = y
-
 not_true : (a : Bool) → not a ≡ true → a ≡ false
 not_true true h = cc
 not_true false h = refl
@@ -33,7 +29,7 @@ distinct_put name (x ∷ xs) ys distinct none =
     let d = and_parts (not (is_among x (xs ++ ys))) (are_distinct (xs ++ ys)) distinct in
     let n = or_parts (bytes_eq name x) (is_among name (xs ++ ys)) none in
     let apart = or_parts (is_among x xs) (is_among x ys) (sym (list_any-append (bytes_eq x) xs ys) ∙ not_true (is_among x (xs ++ ys)) d.0) in
-    let fresh : is_among x (xs ++ name ∷ ys) ≡ false = list_any-append (bytes_eq x) xs (name ∷ ys) ∙ both_none (is_among x xs) (bytes_eq x name || is_among x ys) apart.0 (both_none (bytes_eq x name) (is_among x ys) (other_way name x n.0) apart.1) in
+    let fresh : is_among x (xs ++ name ∷ ys) ≡ false = list_any-append (bytes_eq x) xs (name ∷ ys) ∙ or_from (is_among x xs) (bytes_eq x name || is_among x ys) apart.0 (or_from (bytes_eq x name) (is_among x ys) (other_way name x n.0) apart.1) in
     and_from (not (is_among x (xs ++ name ∷ ys))) (are_distinct (xs ++ name ∷ ys)) (ap not fresh) (distinct_put name xs ys d.1 n.1)
 
 -- ---- the tags
@@ -88,7 +84,7 @@ module _ (name : List ℕ) (kind : SectionKind) (tag : List ℕ) where
     where
       go : (b : Bool) → bytes_eq s.name name ≡ b → is_some (cond b (Some s.kind) (kind_of name ss)) ≡ false → (is_some (kind_of name ss) ≡ false → is_among name (named ss) ≡ false) → is_among name (s.name ∷ named ss) ≡ false
       go true is none rest = cc
-      go false is none rest = both_none (bytes_eq name s.name) (is_among name (named ss)) (other_way s.name name is) (rest none)
+      go false is none rest = or_from (bytes_eq name s.name) (is_among name (named ss)) (other_way s.name name is) (rest none)
 
   no_more : (xs : List (List ℕ)) → xs ++ [] ≡ xs
   no_more [] = refl

@@ -1,5 +1,5 @@
 use Rattle.std.proofs.Common.{◌≡◌, ◌∙◌}
-use Rattle.ct_keep.specs.Composing.{reads_on, reads_hold}
+use Rattle.ct_keep.specs.laws.Composing.{reads_on, reads_hold}
 use Rattle.ct_entry.specs.Keys.{prefix_of}
 use Rattle.ct_entry.specs.laws.Removals.{removes_one, removes_then}
 use Rattle.ct_entry.proofs.RemovalSteps.{looked_as, removing_more, removing_ends, removing_rises, removing_short}

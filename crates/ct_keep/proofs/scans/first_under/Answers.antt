@@ -1,4 +1,4 @@
-use Rattle.ct_keep.specs.TailLaws.{entries_above-tail_nil}
+use Rattle.ct_keep.specs.laws.Tail.{entries_above-tail_nil}
 use Rattle.ct_keep.proofs.scans.first_under.Goals as goal
 
 pub returns-clause-entry : goal.returns-clause-entry

@@ -1,5 +1,5 @@
-use Rattle.ct_keep.specs.Rising.{begins_with_prefix}
-use Rattle.ct_keep.specs.TailLaws.{first_above-tail}
+use Rattle.ct_keep.specs.laws.Rising.{begins_with_prefix}
+use Rattle.ct_keep.specs.laws.Tail.{first_above-tail}
 use Rattle.ct_keep.proofs.scans.next_under.Goals as goal
 
 pub step_under-requires-clause-begins : goal.step_under-requires-clause-begins

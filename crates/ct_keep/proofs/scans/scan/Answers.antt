@@ -1,7 +1,7 @@
 use Rattle.std.proofs.Common.{append-nil}
 use Rattle.std.proofs.lemmas.List.{map-append}
-use Rattle.ct_keep.specs.Composing.{reads_none, reads_on, reads_hold}
-use Rattle.ct_keep.specs.Rising.{begins_itself, begins_with_prefix}
+use Rattle.ct_keep.specs.laws.Composing.{reads_none, reads_on, reads_hold}
+use Rattle.ct_keep.specs.laws.Rising.{begins_itself, begins_with_prefix}
 use Rattle.ct_keep.proofs.Scanning.{scanning_none, scanning_more, scanning_ends}
 use Rattle.ct_keep.proofs.scans.scan.Goals as goal
 

@@ -1,6 +1,6 @@
 use Rattle.std.proofs.Common.{◌≡◌, true, sym, ap, ◌∙◌}
 use Rattle.ct_keep.specs.Content.{begins_with}
-use Rattle.ct_keep.specs.TailLaws.{prefix_and_rest}
+use Rattle.ct_keep.specs.laws.Tail.{prefix_and_rest}
 use Rattle.ct_keep.proofs.scans.step_under.Goals as goal
 
 pub returns-clause-last : goal.returns-clause-last

@@ -1,5 +1,5 @@
 use Rattle.ct_keep.specs.Changes.{AnyEntry}
-use Rattle.ct_keep.specs.WellLaws.{well_weaker}
+use Rattle.ct_keep.specs.laws.Changes.{well_weaker}
 use Rattle.keeper_tests.proofs.entries.commit.Goals as goal
 
 pub commit-requires-clause-well : goal.commit-requires-clause-well

@@ -1,5 +1,5 @@
 use Rattle.std.proofs.Common.{None, sym, ◌∙◌}
-use Rattle.ct_keep.specs.Composing.{reads_on}
+use Rattle.ct_keep.specs.laws.Composing.{reads_on}
 use Rattle.tx_prefs.proofs.UnknownSteps.{unknown_first, unknown_later}
 use Rattle.tx_prefs.proofs.unknown_names.unknown_request.Goals as goal
 

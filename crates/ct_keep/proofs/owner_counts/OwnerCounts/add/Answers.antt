@@ -4,8 +4,9 @@ use Rattle.std.specs.FinMap.{get, insert}
 use Rattle.std.specs.declared.alloc.Global.{Global}
 use Rattle.std.specs.BTreeMap.{BTreeMap, insert_entry}
 use Rattle.ct_keep.specs.Pairs.{byte_order}
-use Rattle.ct_keep.specs.Counting.{PrefixCounts, count_at}
-use Rattle.ct_keep.specs.CountedPairs.{counts_of, get-counts_of, counts_of-insert, counts_of-set_value, counts_more}
+use Rattle.ct_keep.specs.Counting.{PrefixCounts, prefix_count}
+use Rattle.ct_keep.specs.CountedPairs.{counts_of}
+use Rattle.ct_keep.specs.laws.CountedPairs.{get-counts_of, counts_of-insert, counts_of-set_value, counts_more}
 use Rattle.ct_keep.proofs.owner_counts.OwnerCounts.add.Goals as goal
 use Rattle.ct_keep.proofs.owner_counts.OwnerCounts.add.Goals.{In-Some-get_mut}
 
@@ -16,7 +17,7 @@ pub overflow_add-count : goal.overflow_add-count
 overflow_add-count c =
     let few = c.requires c.in-Some.owner.now (sym c.in-Some.ensures) in
     let is = ap (λ (o : Option ℕ). unwrap_or o 0) (there (goal.at.overflow_add-count c).In-Some-get_mut) in
-    let same = ap (count_at c.in-Some.owner.now) c.self.view_is in
+    let same = ap (prefix_count c.in-Some.owner.now) c.self.view_is in
     omega (arith, few, is, same)
 
 pub returns-in-Some-get_mut-clause-ok : goal.returns-in-Some-get_mut-clause-ok
@@ -26,7 +27,7 @@ returns-in-Some-get_mut-clause-ok c =
     let count = ap (λ (o : Option ℕ). unwrap_or o 0) is in
     let written = c.get_mut.follows.holds (c.in-Some-get_mut.count.now + 1) in
     let new = counts_of-set_value c.self.inside.counts.entries (c.get_mut.follows.lender (c.in-Some-get_mut.count.now + 1)).entries owner (c.in-Some-get_mut.count.now + 1) c.self.invariant written.4 (ap (λ (o : Option ℕ). is_some o) is) written.0 in
-    counts_more c.args.key.now c.args.self.now owner (sym c.in-Some.ensures) _ (new ∙ ap (λ (n : ℕ). insert (counts_of c.self.inside.counts.entries) owner (n + 1)) (sym count) ∙ ap (λ (k : PrefixCounts). insert k owner (count_at owner k + 1)) c.self.view_is)
+    counts_more c.args.key.now c.args.self.now owner (sym c.in-Some.ensures) _ (new ∙ ap (λ (n : ℕ). insert (counts_of c.self.inside.counts.entries) owner (n + 1)) (sym count) ∙ ap (λ (k : PrefixCounts). insert k owner (prefix_count owner k + 1)) c.self.view_is)
 
 pub returns-in_ok-insert-in-None-clause-ok : goal.returns-in_ok-insert-in-None-clause-ok
 returns-in_ok-insert-in-None-clause-ok c =
@@ -37,4 +38,4 @@ returns-in_ok-insert-in-None-clause-ok c =
     let entries = c.in_ok-insert-in-None.ensures.entries ∙ ap (λ (m : BTreeMap (Vec ℕ Global) ℕ). insert_entry byte_order m.entries copy 1) c.get_mut.follows.holds-at-none in
     let new = counts_of-insert old c.insert.new.self.entries copy 1 c.self.invariant c.in_ok-insert-in-None.ensures.ordered entries in
     counts_more c.args.key.now c.args.self.now owner (sym c.in-Some.ensures) _
-    (new ∙ ap (λ (k : List ℕ). insert (counts_of old) k 1) c.in_ok-from_slice-in-None.ensures.items ∙ ap (λ (o : Option ℕ). insert (counts_of old) owner (unwrap_or o 0 + 1)) (sym none) ∙ ap (λ (k : PrefixCounts). insert k owner (count_at owner k + 1)) c.self.view_is)
+    (new ∙ ap (λ (k : List ℕ). insert (counts_of old) k 1) c.in_ok-from_slice-in-None.ensures.items ∙ ap (λ (o : Option ℕ). insert (counts_of old) owner (unwrap_or o 0 + 1)) (sym none) ∙ ap (λ (k : PrefixCounts). insert k owner (prefix_count owner k + 1)) c.self.view_is)

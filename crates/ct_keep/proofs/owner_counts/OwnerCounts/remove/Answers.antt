@@ -3,8 +3,9 @@ use Rattle.std.specs.Prelude.{unwrap_or, is_some}
 use Rattle.std.specs.declared.alloc.Global.{Global}
 use Rattle.std.specs.BTreeMap.{BTreeMap}
 use Rattle.std.specs.FinMap.{get, insert}
-use Rattle.ct_keep.specs.Counting.{PrefixCounts, count_at, CountsLess}
-use Rattle.ct_keep.specs.CountedPairs.{counts_of, get-counts_of, counts_of-set_value, counts_less, counts_none_less}
+use Rattle.ct_keep.specs.Counting.{PrefixCounts, prefix_count, CountsLess}
+use Rattle.ct_keep.specs.CountedPairs.{counts_of}
+use Rattle.ct_keep.specs.laws.CountedPairs.{get-counts_of, counts_of-set_value, counts_less, counts_none_less}
 use Rattle.ct_keep.proofs.owner_counts.OwnerCounts.remove.Goals as goal
 
 pub returns-in_default-get_mut : goal.returns-in_default-get_mut
@@ -23,4 +24,4 @@ returns c =
     let written = c.get_mut.follows.holds left in
     let new = counts_of-set_value old (c.get_mut.follows.lender left).entries owner left c.self.invariant written.4 (ap (λ (o : Option ℕ). is_some o) is) written.0 in
     let less = c.saturating_sub.ensures ∙ ap (λ (o : Option ℕ). unwrap_or o 0 - 1) (sym is) in
-    counts_less c.args.key.now c.args.self.now owner (sym c.in-Some.ensures) _ (new ∙ ap (insert (counts_of old) owner) less ∙ ap (λ (k : PrefixCounts). insert k owner (count_at owner k - 1)) c.self.view_is)
+    counts_less c.args.key.now c.args.self.now owner (sym c.in-Some.ensures) _ (new ∙ ap (insert (counts_of old) owner) less ∙ ap (λ (k : PrefixCounts). insert k owner (prefix_count owner k - 1)) c.self.view_is)

@@ -3,16 +3,16 @@ use Rattle.std.proofs.lemmas.List.{length-map}
 use Rattle.std.specs.FinMap.{get, insert}
 use Rattle.ct_keep.specs.Content.{Content}
 use Rattle.ct_keep.specs.Pairs.{content_of}
-use Rattle.ct_keep.specs.SortedLaws.{entries-content_of, content_of-insert}
+use Rattle.ct_keep.specs.laws.Pairs.{entries-content_of, content_of-insert}
 use Rattle.ct_keep.specs.Counting.{AreCounts, CountsMore}
-use Rattle.ct_keep.specs.CountingLaws.{count_at-le, counts_added}
+use Rattle.ct_keep.specs.laws.Counting.{prefix_count-le, counts_added}
 use Rattle.ct_keep.proofs.sorted_entries.SortedEntries.add.Goals as goal
 use Rattle.ct_keep.proofs.sorted_entries.SortedEntries.add.Goals.{In-Ok}
 
 pub add-requires : goal.add-requires
 add-requires c = λ p is.
     let es = c.self.inside.entries.entries in
-    let most = count_at-le (content_of es) c.self.inside.owner_counts p c.deref.result.now c.self.invariant.counted is in
+    let most = prefix_count-le (content_of es) c.self.inside.owner_counts p c.deref.result.now c.self.invariant.counted is in
     let all = ap (λ (l : List (List ℕ × List ℕ)). length l) (entries-content_of es c.self.invariant.ordered) ∙ length-map {B = List ℕ × List ℕ} es (λ e. (e.0.items, e.1.items)) in
     omega (arith, most, all, c.len-number.ensures.len, c.len-number.ensures.small)
 

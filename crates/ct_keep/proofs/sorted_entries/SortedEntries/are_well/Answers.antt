@@ -1,7 +1,7 @@
 use Rattle.std.proofs.Common.{ap, sym, ◌∙◌}
 use Rattle.std.proofs.lemmas.Bool.{false≢true}
 use Rattle.std.specs.FinMap.{entries}
-use Rattle.ct_keep.specs.SortedLaws.{entries-content_of}
+use Rattle.ct_keep.specs.laws.Pairs.{entries-content_of}
 use Rattle.ct_keep.proofs.EachWell.{all_well, not_well}
 use Rattle.ct_keep.proofs.sorted_entries.SortedEntries.are_well.Goals as goal
 

@@ -1,7 +1,6 @@
 use Rattle.std.proofs.Common.{ap, ◌∙◌, List}
 use Rattle.ct_keep.specs.Content.{Content, entries_above, first_entry}
-use Rattle.ct_keep.specs.Pairs.{pairs}
-use Rattle.ct_keep.specs.SortedLaws.{VecEntry}
+use Rattle.ct_keep.specs.Pairs.{pairs, VecEntry}
 use Rattle.ct_keep.proofs.SortedPairs.{first_pair, entries_above-content_of}
 use Rattle.ct_keep.proofs.sorted_entries.SortedEntries.first_after.Goals as goal
 

@@ -1,7 +1,7 @@
 use Rattle.std.proofs.Common.{ap, ◌∙◌}
 use Rattle.ct_keep.specs.Pairs.{content_of}
-use Rattle.ct_keep.specs.SortedLaws.{content_of-none}
-use Rattle.ct_keep.specs.CountingLaws.{counts_none}
+use Rattle.ct_keep.specs.laws.Pairs.{content_of-none}
+use Rattle.ct_keep.specs.laws.Counting.{counts_none}
 use Rattle.ct_keep.proofs.sorted_entries.SortedEntries.new.Goals as goal
 
 pub invariant_of-result : goal.invariant_of-result

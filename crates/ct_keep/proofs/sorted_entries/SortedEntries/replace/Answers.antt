@@ -6,9 +6,9 @@ use Rattle.std.specs.declared.alloc.Global.{Global}
 use Rattle.std.specs.FinMap.{get, insert}
 use Rattle.ct_keep.specs.Content.{Content}
 use Rattle.ct_keep.specs.Pairs.{content_of}
-use Rattle.ct_keep.specs.SortedLaws.{get-lookup, content_of-set_value}
+use Rattle.ct_keep.specs.laws.Pairs.{get-lookup, content_of-set_value}
 use Rattle.ct_keep.specs.Counting.{AreCounts}
-use Rattle.ct_keep.specs.CountingLaws.{counts_replaced}
+use Rattle.ct_keep.specs.laws.Counting.{counts_replaced}
 use Rattle.ct_keep.proofs.sorted_entries.SortedEntries.replace.Goals as goal
 use Rattle.ct_keep.proofs.sorted_entries.SortedEntries.replace.Goals.{In-Some}
 

@@ -4,9 +4,9 @@ use Rattle.std.specs.declared.alloc.Global.{Global}
 use Rattle.std.specs.FinMap.{get, remove}
 use Rattle.ct_keep.specs.Content.{Content}
 use Rattle.ct_keep.specs.Pairs.{content_of}
-use Rattle.ct_keep.specs.SortedLaws.{content_of-remove, get-lookup}
+use Rattle.ct_keep.specs.laws.Pairs.{content_of-remove, get-lookup}
 use Rattle.ct_keep.specs.Counting.{AreCounts}
-use Rattle.ct_keep.specs.CountingLaws.{counts_taken}
+use Rattle.ct_keep.specs.laws.Counting.{counts_taken}
 use Rattle.ct_keep.proofs.sorted_entries.SortedEntries.take.Goals as goal
 
 pub returns-in_err-value-clause-content : goal.returns-in_err-value-clause-content

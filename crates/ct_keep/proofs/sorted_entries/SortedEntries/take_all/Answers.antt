@@ -1,10 +1,10 @@
 use Rattle.std.proofs.Common.{◌≡◌, [], ap, sym, ◌∙◌}
 use Rattle.std.specs.FinMap.{entries}
 use Rattle.ct_keep.specs.Content.{Content, after}
-use Rattle.ct_keep.specs.Pairs.{pairs}
+use Rattle.ct_keep.specs.Pairs.{pairs, VecEntry}
 use Rattle.ct_keep.specs.Transactions.{removals}
 use Rattle.ct_keep.proofs.ContentLaws.{after_removals}
-use Rattle.ct_keep.specs.SortedLaws.{VecEntry, entries-content_of}
+use Rattle.ct_keep.specs.laws.Pairs.{entries-content_of}
 use Rattle.std.specs.Prelude.{List}
 use Rattle.ct_keep.proofs.sorted_entries.SortedEntries.take_all.Goals as goal
 

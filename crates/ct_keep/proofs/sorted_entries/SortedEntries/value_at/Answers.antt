@@ -3,7 +3,7 @@ use Rattle.std.specs.Option.{option_map}
 use Rattle.std.specs.declared.alloc.Global.{Global}
 use Rattle.std.specs.FinMap.{get}
 use Rattle.ct_keep.specs.Content.{Content}
-use Rattle.ct_keep.specs.SortedLaws.{get-lookup}
+use Rattle.ct_keep.specs.laws.Pairs.{get-lookup}
 use Rattle.ct_keep.proofs.SortedPairs.{copied_items}
 use Rattle.ct_keep.proofs.sorted_entries.SortedEntries.value_at.Goals as goal
 

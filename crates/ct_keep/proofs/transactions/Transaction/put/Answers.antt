@@ -2,9 +2,8 @@ use Rattle.std.proofs.Common.{◌≡◌, ◌++◌, [], ◌∷◌, List, ℕ, ari
 use Rattle.std.specs.FinMap.{get, insert, remove}
 use Rattle.ct_keep.specs.declared.batches.Change.{Change}
 use Rattle.ct_keep.specs.SeenChanges.{change_of}
-use Rattle.ct_keep.specs.Content.{entry_weight, weight}
+use Rattle.ct_keep.specs.Content.{entry_weight, weight, value_weight}
 use Rattle.ct_keep.specs.Transactions.{TransactionState, staying}
-use Rattle.ct_keep.specs.Laws.{value_weight}
 use Rattle.ct_keep.proofs.ContentLaws.{value_weight-le, staying-put}
 use Rattle.ct_keep.proofs.Courses.{course_put, back_after_put, heavier_by}
 use Rattle.ct_keep.proofs.transactions.Transaction.put.Goals as goal

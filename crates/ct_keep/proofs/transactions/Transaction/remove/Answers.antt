@@ -1,8 +1,7 @@
 use Rattle.std.proofs.Common.{◌≡◌, List, ℕ, arith, sym, ap, ◌∙◌}
 use Rattle.std.specs.FinMap.{get, remove}
-use Rattle.ct_keep.specs.Content.{weight}
+use Rattle.ct_keep.specs.Content.{weight, value_weight}
 use Rattle.ct_keep.specs.Transactions.{TransactionState, staying}
-use Rattle.ct_keep.specs.Laws.{value_weight}
 use Rattle.ct_keep.proofs.ContentLaws.{value_weight-le, staying-gone}
 use Rattle.ct_keep.proofs.Courses.{course_removed, no_heavier}
 use Rattle.ct_keep.proofs.transactions.Transaction.remove.Goals as goal

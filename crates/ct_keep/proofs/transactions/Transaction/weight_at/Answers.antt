@@ -1,9 +1,8 @@
 use Rattle.std.proofs.Common.{◌≡◌, true, false, Option, Some, None, List, ℕ, sym, ap, ◌∙◌}
 use Rattle.std.specs.Prelude.{is_some}
 use Rattle.std.specs.FinMap.{get}
-use Rattle.ct_keep.specs.Content.{entry_weight}
+use Rattle.ct_keep.specs.Content.{entry_weight, value_weight}
 use Rattle.ct_keep.specs.Transactions.{TransactionState}
-use Rattle.ct_keep.specs.Laws.{value_weight}
 use Rattle.ct_keep.proofs.SortedPairs.{is_some_lent}
 use Rattle.ct_keep.proofs.Courses.{get-staying_gone, get-staying_held}
 use Rattle.ct_keep.proofs.transactions.Transaction.weight_at.Goals as goal

@@ -1,12 +1,12 @@
-use Rattle.std.proofs.Common.{◌≡◌, ◌++◌, ◌∷◌, [], List, Some, Ok, sym, ap, subst, ◌∙◌, length, arith, length-append}
-use Rattle.ct_site.specs.Disks.{Leaves, Works}
+use Rattle.std.proofs.Common.{◌≡◌, ◌++◌, ◌∷◌, [], List, Ok, sym, ap, subst, ◌∙◌, length, arith, length-append}
+use Rattle.ct_site.specs.Disks.{IsSync}
 use Rattle.ct_site.specs.Histories.{DiskChange, Synced, DiskState, begun, disk_after, after-push, said_by}
 use Rattle.ct_site.specs.Crashes.{AreWithin, within_after}
 use Rattle.ct_site.specs.Logs.{LogState}
 use Rattle.ct_site.specs.Places.{AreUpTo, up_to_log}
 use Rattle.ct_site.specs.MemoryFields.{with_log, with_log-push}
-use Rattle.ct_site.specs.Memory.{MemState, memory_view, image_of, after_sync}
-use Rattle.ct_site.specs.Changing.{sync_works, sync_leaves, sync_crash, sync_image, sync_durable}
+use Rattle.ct_site.specs.Memory.{MemState, memory_view, after_sync}
+use Rattle.ct_site.specs.Changing.{made_sync}
 use Rattle.ct_site.proofs.memory.MemSiteDisk.sync.Goals as goal
 use Rattle.ct_site.proofs.memory.MemSiteDisk.sync.Goals.{After-sync}
 
@@ -34,20 +34,8 @@ invariant_of-self-2 c =
       heard_memory = rw rooms c.self-2.invariant.heard_memory;
     }
 
-pub returns-clause-durable : goal.returns-clause-durable
-returns-clause-durable c = λ image told left. subst (λ (s : MemState). (memory_view s).may_leave left → left ≡ image) (sym (new_is c)) (sync_durable c.args.self.now image left told)
-
-pub returns-clause-image : goal.returns-clause-image
-returns-clause-image c = ap Some (ap image_of (new_is c) ∙ sync_image c.args.self.now)
-
-pub returns-clause-crash : goal.returns-clause-crash
-returns-clause-crash c = λ left. subst (λ (s : MemState). (memory_view s).may_leave left → (memory_view c.args.self.now).may_leave left) (sym (new_is c)) (sync_crash c.args.self.now left)
-
-pub returns-clause-leaves : goal.returns-clause-leaves
-returns-clause-leaves c = subst (λ (s : MemState). Leaves (memory_view c.args.self.now) (memory_view s) (memory_view c.args.self.now).may_leave) (sym (new_is c)) (sync_leaves c.args.self.now)
-
-pub returns-clause-works : goal.returns-clause-works
-returns-clause-works c = subst (λ (s : MemState). Works {T = Unit {0}} (memory_view c.args.self.now) (memory_view s) (Ok tt)) (sym (new_is c)) (sync_works c.args.self.now)
+pub returns-clause-sync : goal.returns-clause-sync
+returns-clause-sync c = subst (λ (s : MemState). IsSync {T = Unit {0}} (memory_view c.args.self.now) (memory_view s) (Ok tt)) (sym (new_is c)) (made_sync c.args.self.now)
 
 pub returns-clause-done : goal.returns-clause-done
 returns-clause-done c = new_is c

@@ -1,18 +1,16 @@
-use Rattle.std.proofs.Common.{◌≡◌, ◌≤◌, ◌+◌, ◌++◌, ◌∷◌, [], List, ℕ, Some, Ok, length, refl, sym, ap, subst, ◌∙◌, arith, length-append}
+use Rattle.std.proofs.Common.{◌≡◌, ◌≤◌, ◌+◌, ◌++◌, ◌∷◌, [], List, ℕ, Ok, length, refl, sym, ap, subst, ◌∙◌, arith, length-append}
 use Rattle.std.proofs.lemmas.Bool.{ltb-false}
-use Rattle.ct_site.specs.Images.{written, Torn}
+use Rattle.ct_site.specs.Images.{written}
 use Rattle.ct_site.specs.Pieces.{length-written}
-use Rattle.ct_site.specs.Lengths.{Lengthens}
-use Rattle.ct_site.specs.laws.Lengths.{grows_written}
-use Rattle.ct_site.specs.Disks.{Leaves, Works, FollowsBy}
+use Rattle.ct_site.specs.Writing.{IsWrite}
 use Rattle.ct_site.specs.Histories.{DiskChange, Wrote, DiskState, begun, disk_after, after-push, said_by}
 use Rattle.ct_site.specs.Crashes.{AreWithin, within_after}
 use Rattle.ct_site.specs.Logs.{LogState}
 use Rattle.ct_site.specs.Places.{AreUpTo, up_to_log}
 use Rattle.ct_site.specs.MemoryFields.{state_of, with_log, with_log-push}
 use Rattle.ct_site.specs.Memory.{MemState, memory_view, image_of, wrote}
-use Rattle.ct_site.specs.Changing.{write_works, write_leaves, write_crash, write_image}
-use Rattle.ct_site.proofs.Growing.{passes_none}
+use Rattle.ct_site.specs.Changing.{made_write}
+use Rattle.ct_site.proofs.Growing.{passes_none, short_write}
 use Rattle.ct_site.proofs.memory.MemSiteDisk.write_at.Goals as goal
 use Rattle.ct_site.proofs.memory.MemSiteDisk.write_at.Goals.{After-write}
 
@@ -48,25 +46,11 @@ invariant_of-self-2 c =
       heard_memory = rw (ap (λ (l : LogState). l.rooms) c.write.ensures) c.self-2.invariant.heard_memory;
     }
 
-pub returns-clause-written : goal.returns-clause-written
-returns-clause-written c = ap Some (ap image_of (new_is c) ∙ write_image c.args.self.now c.args.at c.args.bytes.now)
-
-pub returns-clause-crash : goal.returns-clause-crash
-returns-clause-crash c =
-    subst (λ (s : MemState). FollowsBy (Torn c.args.at (length c.args.bytes.now)) (memory_view c.args.self.now).may_leave (memory_view s).may_leave) (sym (new_is c))
-    (write_crash c.args.self.now c.args.at c.args.bytes.now (c.requires.within (image_of c.args.self.now) refl))
-
-pub returns-clause-leaves : goal.returns-clause-leaves
-returns-clause-leaves c = subst (λ (s : MemState). Leaves (memory_view c.args.self.now) (memory_view s) (memory_view s).may_leave) (sym (new_is c)) (write_leaves c.args.self.now c.args.at c.args.bytes.now)
-
-pub returns-clause-works : goal.returns-clause-works
-returns-clause-works c = subst (λ (s : MemState). Works {T = Unit {0}} (memory_view c.args.self.now) (memory_view s) (Ok tt)) (sym (new_is c)) (write_works c.args.self.now c.args.at c.args.bytes.now)
-
-pub returns-clause-grows : goal.returns-clause-grows
-returns-clause-grows c =
-    subst (λ (s : MemState). Lengthens (c.args.at + length c.args.bytes.now) (memory_view c.args.self.now) (memory_view s)) (sym (new_is c))
-    (grows_written c.args.at c.args.bytes.now (memory_view c.args.self.now) (memory_view (wrote c.args.self.now c.args.at c.args.bytes.now)) (record { least = c.requires.within })
-    (ap Some (write_image c.args.self.now c.args.at c.args.bytes.now)))
+pub returns-clause-write : goal.returns-clause-write
+returns-clause-write c =
+    let short = short_write c.count_disk.new.self c.args.at (length c.args.bytes.now) c.may_write.result c.if-not-may_write.false c.may_write.ensures in
+    subst (λ (s : MemState). IsWrite {T = Unit {0}} c.args.at c.args.bytes.now (memory_view c.args.self.now) (memory_view s) (Ok tt)) (sym (new_is c))
+    (made_write c.args.self.now c.args.at c.args.bytes.now (c.requires.within (image_of c.args.self.now) refl) short)
 
 pub returns-clause-done : goal.returns-clause-done
 returns-clause-done c = new_is c

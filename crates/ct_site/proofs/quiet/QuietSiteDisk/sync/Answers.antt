@@ -1,6 +1,7 @@
-use Rattle.std.proofs.Common.{Some, ap, ◌∙◌}
-use Rattle.ct_site.specs.Memory.{MemState, image_of}
+use Rattle.std.proofs.Common.{subst}
+use Rattle.ct_site.specs.Disks.{IsSync}
+use Rattle.ct_site.specs.Memory.{MemState, memory_view}
 use Rattle.ct_site.proofs.quiet.QuietSiteDisk.sync.Goals as goal
 
-pub returns-clause-durable : goal.returns-clause-durable
-returns-clause-durable c = λ image told. c.sync.ensures.durable image (ap (λ (s : MemState). Some (image_of s)) c.self.view_is ∙ told)
+pub returns-clause-sync : goal.returns-clause-sync
+returns-clause-sync c = subst (λ (s : MemState). IsSync (memory_view s) (memory_view c.sync.new.self) c.sync.result) c.self.view_is c.sync.ensures.sync

@@ -11,7 +11,7 @@ use Rattle.std.proofs.lemmas.List.Elements.{All-from_recursion, recursion_from_A
 use Rattle.std.specs.FinMap.{FinMap, get, entries, find, get-entries, IsAntisymmetric}
 use Rattle.ct_base.specs.laws.Orders.{less_from_test, no_tie, equal_from_test}
 use Rattle.std.proofs.lemmas.Bool.{and_parts, and_from}
-use Rattle.ct_keep.specs.RisingKeys.{below, rises, entries_rise}
+use Rattle.ct_keep.specs.laws.RisingKeys.{below, rises, entries_rise}
 
 module _ {K X : Type 0} (R : K → K → Ordering) where
   -- a key below all isn't found

@@ -8,7 +8,7 @@ use denote.Struct.Props.{props}
 use Rattle.std.specs.FinMap.{get, empty, get-empty}
 use Rattle.ct_keep.specs.Content.{Content, Change, IsEntry, after}
 use Rattle.ct_keep.specs.Changes.{AreWell, IsWell, HoldsWell, HoldsEntries}
-use Rattle.ct_keep.specs.Laws.{same, same_keys, last_change, get-after}
+use Rattle.ct_keep.specs.laws.Content.{same, same_keys, last_change, get-after}
 
 -- a batch of entries that are of one kind is one of those that are of a wider kind
 pub well_weaker : (a b : List ℕ → List ℕ → Type 0) → ((key value : List ℕ) → IsEntry key value → a key value → b key value) → (ws : List Change) → AreWell a ws → AreWell b ws

@@ -1,24 +1,20 @@
 -- Entries of a map in memory, whose keys strictly rise, against the finite map that they are.
-use Rattle.std.proofs.Common.{◌≡◌, ℕ, Bool, true, false, cond, length, map, List, [], ◌∷◌, Some, None, Vec, refl, sym, ap, ◌∙◌}
+use Rattle.std.proofs.Common.{◌≡◌, Bool, true, false, cond, length, map, List, [], ◌∷◌, Some, None, refl, sym, ap, ◌∙◌}
 use Rattle.std.specs.Prelude.{T, is_some}
 use Rattle.std.specs.Option.{option_map}
-use Rattle.std.specs.declared.alloc.Global.{Global}
 use Rattle.std.specs.declared.cmp.Ordering.{Ordering}
 use Rattle.std.specs.declared.cmp.Ordering.TheVariants.{Less, Equal, Greater}
-use Rattle.std.specs.Ordering.{nat_cmp, is_lt, is_eq, eq_by_cmp, match_ordering}
+use Rattle.std.specs.Ordering.{is_lt, is_eq, eq_by_cmp, match_ordering}
 use Rattle.std.specs.Cmp.{IsTotalOrder}
-use Rattle.std.specs.Cmp.Lexicographic.{slice_cmp}
 use Rattle.std.specs.List.{AllByRecursion, IsDistinct}
 use Rattle.std.specs.List.Sorted.{IsStrictlySortedBy}
 use Rattle.std.specs.Map.{keys_of, lookup, remove_entry, set_value}
 use Rattle.std.specs.BTreeMap.{insert_entry, is_at}
 use Rattle.std.specs.FinMap.{FinMap, get, insert, remove, entries, find, put, is_sorted, from_sorted, entries-from_sorted, entries-insert, same_entries_map, same_map, get-from_sorted, get-insert, get-remove, empty, empty_of_len, len-entries}
-use Rattle.std.proofs.lemmas.Cmp.{nat_list_cmp_total, eq_by_cmp_equiv}
+use Rattle.std.proofs.lemmas.Cmp.{eq_by_cmp_equiv}
 use Rattle.std.proofs.lemmas.Map.{lookup-remove_entry, lookup-set_value}
 use Rattle.std.proofs.lemmas.Map.Keys.{sorted_head, sorted_tail}
-use Rattle.std.proofs.lemmas.Map.Lookups.{exact_bytes}
 use Rattle.ct_base.specs.laws.Bools.{T_from_true, T_both, T_first, T_second}
-use Rattle.ct_keep.specs.Pairs.{byte_order, pairs, content_of}
 
 -- Keys and values seen as others, and an order of the keys that are seen.
 module _ {J V K X : Type 0} (R : K → K → Ordering) (key : J → K) (value : V → X) where
@@ -151,35 +147,3 @@ module _ {K X : Type 0} (R : K → K → Ordering) where
   -- of no entries
   pub sorted-none : from_sorted {X = X} {R = R} [] ≡ empty
   sorted-none = seen-none R (λ (k : K). k) (λ (v : X). v)
-
--- ---- vectors of bytes, seen as lists of bytes
-
-abbrev pub VecEntry : Type 0
-VecEntry = Vec ℕ Global × Vec ℕ Global
-
-abbrev items : Vec ℕ Global → List ℕ
-items v = v.items
-
-abbrev bytes_order : List ℕ → List ℕ → Ordering
-bytes_order = slice_cmp nat_cmp
-
-pub entries-content_of : (es : List VecEntry) → IsStrictlySortedBy byte_order (keys_of es) → entries (content_of es) ≡ pairs es
-entries-content_of es s = entries-seen bytes_order items items es s
-
-pub content_of-none : content_of [] ≡ empty
-content_of-none = seen-none bytes_order items items
-
-pub content_of-insert : (old new : List VecEntry) (k v : Vec ℕ Global) → IsStrictlySortedBy byte_order (keys_of old) → IsStrictlySortedBy byte_order (keys_of new) → new ≡ insert_entry byte_order old k v
-    → content_of new ≡ insert (content_of old) k.items v.items
-content_of-insert old new k v s t is = seen-insert bytes_order items items nat_list_cmp_total old new k v s t is
-
-pub get-lookup : (es : List VecEntry) (k : List ℕ) → IsStrictlySortedBy byte_order (keys_of es) → option_map (λ v. v.items) (lookup (is_at (λ x. slice_cmp nat_cmp k x.items)) es) ≡ get (content_of es) k
-get-lookup es k s = lookup-seen bytes_order items items es k s
-
-pub content_of-remove : (old new : List VecEntry) (k : List ℕ) → IsStrictlySortedBy byte_order (keys_of old) → IsStrictlySortedBy byte_order (keys_of new) → new ≡ remove_entry (is_at (λ x. slice_cmp nat_cmp k x.items)) old
-    → content_of new ≡ remove (content_of old) k
-content_of-remove old new k s t is = seen-remove bytes_order items items nat_list_cmp_total exact_bytes old new k s t is
-
-pub content_of-set_value : (old new : List VecEntry) (k : List ℕ) (v : Vec ℕ Global) → IsStrictlySortedBy byte_order (keys_of old) → IsStrictlySortedBy byte_order (keys_of new) → is_some (get (content_of old) k) ≡ true → new ≡ set_value (is_at (λ x. slice_cmp nat_cmp k x.items)) old v
-    → content_of new ≡ insert (content_of old) k v.items
-content_of-set_value old new k v s t there is = seen-set_value bytes_order items items nat_list_cmp_total exact_bytes old new k v s t there is

@@ -11,8 +11,8 @@ use Rattle.std.specs.FinMap.{get, insert, remove, entries, empty, find, put, fro
 use Rattle.std.proofs.lemmas.Cmp.{tied_itself, nat_cmp_total, nat_list_cmp_total, eq_by_cmp_equiv}
 use Rattle.std.proofs.lemmas.Map.Lookups.{exact_bytes}
 use Rattle.std.proofs.lemmas.List.Sums.{sum_by-cons}
-use Rattle.ct_keep.specs.Content.{Content, Change, set_to, after, entry_weight, weight, begins_with, entries_under}
-use Rattle.ct_keep.specs.Rising.{Entry, order, below, is_rising, rises_filter, entries_rise, sorted_from_rises, below_lower}
+use Rattle.ct_keep.specs.Content.{Content, Change, set_to, after, entry_weight, weight, begins_with, entries_under, value_weight, changes_weight}
+use Rattle.ct_keep.specs.laws.Rising.{Entry, order, below, is_rising, rises_filter, entries_rise, sorted_from_rises, below_lower}
 use Rattle.ct_base.specs.laws.Orders.{less_from_test, equal_from_test}
 use Rattle.std.proofs.lemmas.Bool.{and_parts}
 use Rattle.ct_base.specs.laws.Bools.{T_from_true}
@@ -129,11 +129,6 @@ entries-after ((key, None) ∷ ws) m = entries-after ws (remove m key) ∙ ap (a
 
 -- ---- weights
 
--- what an entry weighs that has this value, or is absent
-abbrev pub value_weight : List ℕ → Option (List ℕ) → ℕ
-value_weight key None = 0
-value_weight key (Some value) = entry_weight (key, value)
-
 pub weight-empty : weight empty ≡ 0
 weight-empty = ap (sum_by entry_weight) entries-empty
 
@@ -197,11 +192,6 @@ weight-set_to key (Some value) m =
     let both = total_put key value (entries m) (entries_rise m) in
     omega (arith, before, behind, found, both)
 
--- what some changes weigh by themselves
-abbrev pub changes_weight : List Change → ℕ
-changes_weight [] = 0
-changes_weight (w ∷ ws) = value_weight w.0 w.1 + changes_weight ws
-
 -- changes add no more than they weigh
 pub weight-after_le : (ws : List Change) (m : Content) → weight (after ws m) ≤ weight m + changes_weight ws
 weight-after_le [] m = omega arith
@@ -244,7 +234,3 @@ under_a = ap (λ (es : List Entry). filter (λ e. begins_with (codes "a") e.0) (
 
 three_weigh : weight (after three_changes empty) ≡ 192
 three_weigh = ap (sum_by entry_weight) in_order
-
--- an entry of over 64 bytes weighs its bytes
-one_weighs : value_weight (codes "0123456789012345678901234567890123456789") (Some (codes "0123456789012345678901234567890123456789")) ≡ 80
-one_weighs = refl

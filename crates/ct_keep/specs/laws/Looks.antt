@@ -10,14 +10,14 @@ use Rattle.std.specs.Ordering.{nat_cmp, is_lt}
 use Rattle.std.specs.FinMap.{entries}
 use Rattle.ct_keep.specs.Content.{Content, begins_with, entries_above, entries_under}
 use Rattle.ct_keep.specs.KeeperViews.{Counts, counted, is_kind, is_kind_of, is_either, looked_up}
-use Rattle.ct_keep.specs.Rising.{Entry, order, those_above, beginning, below, is_rising, rises_filter, entries_rise, begins_itself, none_later}
+use Rattle.ct_keep.specs.laws.Rising.{Entry, order, those_above, beginning, below, is_rising, rises_filter, entries_rise, begins_itself, none_later}
 use Rattle.ct_base.specs.laws.Orders.{less_from_test, less_by_parts, lt_from_less, eq_from_equal}
 use Rattle.ct_keep.specs.Tail.{tail}
-use Rattle.ct_keep.specs.TailLaws.{entries-tail}
+use Rattle.ct_keep.specs.laws.Tail.{entries-tail}
 use Rattle.ct_keep.specs.Looks.{one_if, look, no_looks, plus, looks, scan_looks, behind, raised_count, with_looks, RisesBy}
 
-same_counts : (a b : Counts) → a.texts ≡ b.texts → a.rows ≡ b.rows → a.rules ≡ b.rules → a.fulls ≡ b.fulls → a.commits ≡ b.commits → a.syncs ≡ b.syncs → a ≡ b
-same_counts a b texts rows rules fulls commits syncs = λ i. record { texts = texts i; rows = rows i; rules = rules i; fulls = fulls i; commits = commits i; syncs = syncs i }
+same_counts : (a b : Counts) → a.texts ≡ b.texts → a.rows ≡ b.rows → a.rules ≡ b.rules → a.fulls ≡ b.fulls → a.commits ≡ b.commits → a ≡ b
+same_counts a b texts rows rules fulls commits = λ i. record { texts = texts i; rows = rows i; rules = rules i; fulls = fulls i; commits = commits i }
 
 raised_count-plus : (m n k : ℕ) → raised_count n (raised_count m k) ≡ raised_count (m + n) k
 raised_count-plus m n k = grind (arith, nat_tests)
@@ -36,14 +36,13 @@ raised-none c = refl
 
 -- one part after the other
 pub raised-plus : (a b c : Counts) → with_looks b (with_looks a c) ≡ with_looks (plus a b) c
-raised-plus a b c = same_counts _ _ (raised_count-plus a.texts b.texts c.texts) (raised_count-plus a.rows b.rows c.rows) (raised_count-plus a.rules b.rules c.rules) (raised_count-plus a.fulls b.fulls c.fulls) (raised_count-plus a.commits b.commits c.commits) (raised_count-plus a.syncs b.syncs c.syncs)
+raised-plus a b c = same_counts _ _ (raised_count-plus a.texts b.texts c.texts) (raised_count-plus a.rows b.rows c.rows) (raised_count-plus a.rules b.rules c.rules) (raised_count-plus a.fulls b.fulls c.fulls) (raised_count-plus a.commits b.commits c.commits)
 
 pub looked_up-raised : (asked : List ℕ) (handed : Option (List ℕ)) (c : Counts) → looked_up asked handed c ≡ with_looks (look asked handed) c
 looked_up-raised asked handed c = same_counts _ _
     (raised_count-one_if (is_either 0x03 asked handed) c.texts)
     (raised_count-one_if (is_either 0x24 asked handed || is_either 0x25 asked handed) c.rows)
     (raised_count-one_if (is_either 0x2a asked handed) c.rules)
-    refl
     refl
     refl
 

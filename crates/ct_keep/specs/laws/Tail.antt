@@ -9,10 +9,10 @@ use Rattle.std.proofs.lemmas.Cmp.{tied_itself, nat_cmp_total, nat_list_cmp_total
 use Rattle.std.specs.Cmp.Lexicographic.{slice_cmp}
 use Rattle.std.specs.FinMap.{get, entries, is_sorted, find, entries-from_sorted, get-from_sorted, get-entries, empty}
 use Rattle.ct_keep.specs.Content.{Content, set_to, after, first_entry, entries_above, entries_under, begins_with}
-use Rattle.ct_keep.specs.Rising.{Entry, order, those_above, beginning, below, is_rising, rises_filter, entries_rise, sorted_from_rises, begins_itself, begins_with_prefix, stops, first_then, none_then}
+use Rattle.ct_keep.specs.laws.Rising.{Entry, order, those_above, beginning, below, is_rising, rises_filter, entries_rise, sorted_from_rises, begins_itself, begins_with_prefix, stops, first_then, none_then}
 use Rattle.ct_base.specs.laws.Orders.{less_from_test}
 use Rattle.ct_base.specs.laws.Bools.{T_from_true}
-use Rattle.ct_keep.specs.Laws.{same, same_keys, same_other, same-prefix, get-set_to, same_content, three_changes, under_a}
+use Rattle.ct_keep.specs.laws.Content.{same, same_keys, same_other, same-prefix, get-set_to, same_content, three_changes, under_a}
 use Rattle.ct_keep.specs.Tail.{cut, tail, left_under, rest_under}
 
 -- ---- keys that begin alike, and their rests

@@ -10,7 +10,7 @@ use Rattle.std.specs.Cmp.Lexicographic.{slice_cmp}
 use Rattle.std.specs.FinMap.{entries, is_sorted}
 use Rattle.ct_base.specs.laws.Orders.{less_from_test, less_by_parts, lt_from_less, eq_from_equal}
 use Rattle.ct_keep.specs.Content.{Content, entries_above, first_entry, begins_with}
-use Rattle.ct_keep.specs.RisingKeys.{below as below_by, rises as rises_by, sorted_from_rises as sorted_from_rises_by, entries_rise as entries_rise_by}
+use Rattle.ct_keep.specs.laws.RisingKeys.{below as below_by, rises as rises_by, sorted_from_rises as sorted_from_rises_by, entries_rise as entries_rise_by}
 
 abbrev pub Entry : Type 0
 Entry = List ℕ × List ℕ

@@ -9,11 +9,11 @@ use Rattle.std.specs.Cmp.Lexicographic.{slice_cmp}
 use Rattle.std.specs.FinMap.{get, insert, remove, entries, empty, find, len, len-entries, len-insert, len-remove, get-entries, get-empty}
 use Rattle.std.proofs.lemmas.Cmp.{nat_list_cmp_total}
 use Rattle.ct_keep.specs.Content.{Content, set_to, begins_with, entries_above, entries_under}
-use Rattle.ct_keep.specs.Rising.{Entry, order}
-use Rattle.ct_keep.specs.Laws.{same, same_keys, same_other, same_itself, same_content, get-set_to, entries-empty}
+use Rattle.ct_keep.specs.laws.Rising.{Entry, order}
+use Rattle.ct_keep.specs.laws.Content.{same, same_keys, same_other, same_itself, same_content, get-set_to, entries-empty}
 use Rattle.ct_keep.specs.Tail.{tail}
-use Rattle.ct_keep.specs.TailLaws.{entries-tail, get-tail, get-tail_nil, tail-set_to}
-use Rattle.ct_keep.specs.Counting.{count_under, IsOwner, owner_prefix, owner_count, key_count, PrefixCounts, count_at, AreCounts, CountsMore, CountsLess}
+use Rattle.ct_keep.specs.laws.Tail.{entries-tail, get-tail, get-tail_nil, tail-set_to}
+use Rattle.ct_keep.specs.Counting.{count_under, IsOwner, owner_prefix, owner_count, key_count, PrefixCounts, prefix_count, AreCounts, CountsMore, CountsLess}
 
 -- ---- keys by their owners
 
@@ -189,5 +189,5 @@ counts_not_taken m counts key are absent = record {
 }
 
 -- a count that is kept is bounded by the number of entries
-pub count_at-le : (m : Content) (counts : PrefixCounts) (p key : List ℕ) → AreCounts m counts → owner_prefix key ≡ Some p → count_at p counts ≤ length (entries m)
-count_at-le m counts p key are is = omega (arith, are.each p (under_prefix p key is).owner, count_under-le p m)
+pub prefix_count-le : (m : Content) (counts : PrefixCounts) (p key : List ℕ) → AreCounts m counts → owner_prefix key ≡ Some p → prefix_count p counts ≤ length (entries m)
+prefix_count-le m counts p key are is = omega (arith, are.each p (under_prefix p key is).owner, count_under-le p m)

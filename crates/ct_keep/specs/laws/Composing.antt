@@ -1,6 +1,6 @@
 -- What calls of a keeper make together: each of its relations of one call after another.
-use Rattle.std.specs.Prelude.{ℕ, ◌≡◌, List, [], ◌++◌, true, Option, Some, None, refl}
-use Rattle.std.proofs.Common.{sym, ap, subst, inl, inr, ◌∙◌, arith, length-append}
+use Rattle.std.specs.Prelude.{ℕ, ◌≡◌, List, [], ◌++◌, Option, Some, None, refl}
+use Rattle.std.proofs.Common.{sym, ap, subst, inl, ◌∙◌, arith, length-append}
 use Rattle.ct_base.specs.Told.{IsSaid, with_suffix, SaysPart}
 use Rattle.ct_base.specs.laws.Told.{with_suffix-nil, with_suffix_twice, says_prefix, says_suffix}
 use Rattle.ct_base.specs.laws.Moments.{passes_none, passes_more, passes_then, passes_nothing, adds_nothing_itself, adds_nothing_then}
@@ -9,8 +9,8 @@ use Rattle.ct_keep.specs.declared.keepers.KeepFault.{KeepFault}
 use Rattle.ct_keep.specs.declared.keepers.KeepFault.TheVariants.{Memory, Disk, Full}
 use Rattle.ct_keep.specs.Content.{Content}
 use Rattle.ct_keep.specs.Changes.{AreWell}
-use Rattle.ct_keep.specs.WellLaws.{well_weaker}
-use Rattle.ct_keep.specs.KeeperViews.{KeeperView, Accepts, TakesAsBefore, Fixed, Counts, SameButContent, ReadsKeeper, Goes, AnswersCommit, Came, IsLeft, IsDurable, SameStore, KeeperSays, PassesRoom, UnlessDisk, counted, disk_faults_after, is_full, committed, AtMostOneCommit, CountsCommit}
+use Rattle.ct_keep.specs.laws.Changes.{well_weaker}
+use Rattle.ct_keep.specs.KeeperViews.{KeeperView, Accepts, TakesAsBefore, Fixed, SameButContent, ReadsKeeper, Goes, AnswersCommit, Came, IsLeft, IsDurable, SameStore, KeeperSays, PassesRoom, UnlessDisk, disk_faults_after, AtMostOneCommit}
 
 -- ---- what never changes, by its fields
 
@@ -150,21 +150,14 @@ answers_failed Memory limit m next not_full = tt
 answers_failed Disk limit m next not_full = tt
 answers_failed Full limit m next not_full = absurd (not_full refl)
 
--- how often a commit was refused
-pub fulls_then : (old mid : KeeperView) (new : Counts) (fault : Option KeepFault) → ReadsKeeper old mid None → CountsCommit fault mid.counts new → new.fulls ≡ counted (is_full fault) old.counts.fulls
-fulls_then old mid new fault reads commits = ap (λ (c : Counts). c.fulls) commits.is ∙ ap (counted (is_full fault)) reads.fulls
-
--- how often a commit was called by reads and then one: once, which synced four times at most; and by reads alone never
-pub commits_then : (old mid : KeeperView) (new : Counts) (fault : Option KeepFault) → ReadsKeeper old mid None → CountsCommit fault mid.counts new → AtMostOneCommit old.counts new
-commits_then old mid new fault reads commits = inr (ap (λ (c : Counts). c.commits) commits.is ∙ ap (counted true) reads.commits, omega (arith, commits.few, reads.syncs))
-
-pub commits_read : (old new : KeeperView) (fault : Option KeepFault) → ReadsKeeper old new fault → AtMostOneCommit old.counts new.counts
+-- reads alone call no commit
+pub commits_read : (old new : KeeperView) (fault : Option KeepFault) → ReadsKeeper old new fault → AtMostOneCommit old new
 commits_read old new fault reads = inl (reads.commits, reads.syncs)
 
 -- ---- hearing and saying
 
 pub apart_all : (k : KeeperView) → SameStore k k
-apart_all k = record { ready = λ ready. ready; well = takes_same k; fixed = refl; content = refl; counts = refl; disk_faults = refl }
+apart_all k = record { ready = λ ready. ready; well = takes_same k; fixed = refl; content = refl; counts = refl; disk_faults = refl; disk_syncs = refl }
 
 pub apart_then : (old mid new : KeeperView) → SameStore old mid → SameStore mid new → SameStore old new
 apart_then old mid new first second = record {
@@ -174,6 +167,7 @@ apart_then old mid new first second = record {
   content = second.content ∙ first.content;
   counts = second.counts ∙ first.counts;
   disk_faults = second.disk_faults ∙ first.disk_faults;
+  disk_syncs = second.disk_syncs ∙ first.disk_syncs;
 }
 
 pub says_none : (k : KeeperView) → KeeperSays [] k k
