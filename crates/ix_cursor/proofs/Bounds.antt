@@ -3,8 +3,8 @@ use Rattle.std.proofs.Common.{ℕ, ◌≡◌, ◌≤◌, ◌<◌, ◌+◌, ◌&&
 use Rattle.std.specs.Bool.{if◌then◌else◌}
 use Rattle.std.specs.List.{list_any, list_all}
 use Rattle.std.proofs.Math.Bool.{or_assoc}
-use Rattle.std.proofs.lemmas.Bool.{cases_lt, and_left, and_right, and_from}
-use Rattle.ix_posting.specs.declared.rows.RowDocument.{RowDocument}
+use Rattle.std.proofs.lemmas.Bool.{cases_lt, and_left, and_right, and_from, or_from, or_left, or_right}
+use Rattle.ix_posting.specs.Rows.{WordDocument}
 use Rattle.q_tree.specs.Documents.{put_position, put_all}
 use Rattle.ix_lists.specs.Documents.{places_at}
 use Rattle.ix_lists.specs.Seeking.{BoundsFrom, has_any}
@@ -17,18 +17,6 @@ bound_same to f g None same h = λ d le. same d le ∙ h d le
 bound_same to f g (Some x) same h = (λ d le lt. same d le ∙ h.0 d le lt, λ le. same to (omega arith) ∙ h.1 le)
 
 -- ---- two parts
-
-or_false : (a b : Bool) → a ≡ false → b ≡ false → (a || b) ≡ false
-or_false true b h k = h
-or_false false b h k = k
-
-or_left : (a b : Bool) → a ≡ true → (a || b) ≡ true
-or_left true b h = refl
-or_left false b h = let wrong : false ≡ true = h in cc
-
-or_right : (a b : Bool) → b ≡ true → (a || b) ≡ true
-or_right true b h = refl
-or_right false b h = h
 
 -- what needs both
 pub and_bound : (to : ℕ) (f g : ℕ → Bool) (x y : Option ℕ) → BoundsFrom to f x → BoundsFrom to g y → BoundsFrom to (λ d. f d && g d) (later x y)
@@ -45,10 +33,10 @@ and_bound to f g (Some x) (Some y) h k = (none, λ le. and_from (f to) (g to) (h
 
 -- what needs one of them
 pub or_bound : (to : ℕ) (f g : ℕ → Bool) (x y : Option ℕ) → BoundsFrom to f x → BoundsFrom to g y → BoundsFrom to (λ d. f d || g d) (earlier x y)
-or_bound to f g None None h k = λ d le. or_false (f d) (g d) (h d le) (k d le)
-or_bound to f g None (Some y) h k = (λ d le lt. or_false (f d) (g d) (h d le) (k.0 d le lt), λ le. or_right (f to) (g to) (k.1 le))
-or_bound to f g (Some x) None h k = (λ d le lt. or_false (f d) (g d) (h.0 d le lt) (k d le), λ le. or_left (f to) (g to) (h.1 le))
-or_bound to f g (Some x) (Some y) h k = (λ d le lt. or_false (f d) (g d) (h.0 d le (omega (arith, lt))) (k.0 d le (omega (arith, lt))), λ le. one le (cases_lt y x))
+or_bound to f g None None h k = λ d le. or_from (f d) (g d) (h d le) (k d le)
+or_bound to f g None (Some y) h k = (λ d le lt. or_from (f d) (g d) (h d le) (k.0 d le lt), λ le. or_right (f to) (g to) (k.1 le))
+or_bound to f g (Some x) None h k = (λ d le lt. or_from (f d) (g d) (h.0 d le lt) (k d le), λ le. or_left (f to) (g to) (h.1 le))
+or_bound to f g (Some x) (Some y) h k = (λ d le lt. or_from (f d) (g d) (h.0 d le (omega (arith, lt))) (k.0 d le (omega (arith, lt))), λ le. one le (cases_lt y x))
   where
     one : min x y ≤ to → (y < x) ⊎ (x ≤ y) → (f to || g to) ≡ true
     one le (inl less) = or_right (f to) (g to) (k.1 (omega (arith, le, less)))
@@ -151,11 +139,11 @@ put_any : (ps qs : List ℕ) → has_any (put_all ps qs) ≡ (has_any ps || has_
 put_any [] qs = refl
 put_any (p ∷ ps) qs = put_some p (put_all ps qs)
 
-token_whole : (rs : List (List RowDocument)) (i : ℕ) (d : ℕ) → length rs ≤ i → has_any (union_at rs d) ≡ any_first (λ r. has_any (places_at r d)) i rs
+token_whole : (rs : List (List WordDocument)) (i : ℕ) (d : ℕ) → length rs ≤ i → has_any (union_at rs d) ≡ any_first (λ r. has_any (places_at r d)) i rs
 token_whole [] zero d all = refl
 token_whole [] (suc i) d all = refl
 token_whole (r ∷ rs) zero d all = absurd (omega (arith, all))
 token_whole (r ∷ rs) (suc i) d all = put_any (places_at r d) (union_at rs d) ∙ ap (λ b. has_any (places_at r d) || b) (token_whole rs i d (omega (arith, all)))
 
-pub tokens_end : (to : ℕ) (rs : List (List RowDocument)) (i : ℕ) (bound : Option ℕ) → length rs ≤ i → BoundsFrom to (λ d. any_first (λ r. has_any (places_at r d)) i rs) bound → BoundsFrom to (λ d. has_any (union_at rs d)) bound
+pub tokens_end : (to : ℕ) (rs : List (List WordDocument)) (i : ℕ) (bound : Option ℕ) → length rs ≤ i → BoundsFrom to (λ d. any_first (λ r. has_any (places_at r d)) i rs) bound → BoundsFrom to (λ d. has_any (union_at rs d)) bound
 tokens_end to rs i bound all h = bound_same to (λ d. any_first (λ r. has_any (places_at r d)) i rs) (λ d. has_any (union_at rs d)) bound (λ d le. token_whole rs i d all) h

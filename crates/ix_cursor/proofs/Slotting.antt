@@ -1,6 +1,6 @@
 -- Slots and phrases, one after the other.
 use Rattle.std.proofs.Common.{ℕ, ◌≡◌, List, [], ◌∷◌, ◌++◌, Option, Some, None, set, get_or, zero, suc, refl, ap, ◌∙◌}
-use Rattle.ix_posting.specs.declared.rows.RowDocument.{RowDocument}
+use Rattle.ix_posting.specs.Rows.{WordDocument}
 use Rattle.ix_spans.specs.Occurrences.{Slots}
 use Rattle.ix_spans.specs.Rising.{Rising}
 use Rattle.ix_spans.specs.Slots.{SlotRises, SlotsRise}
@@ -36,7 +36,7 @@ operands_set (y ∷ os) (suc i) o x d is h = ap (λ ss. term_at y d ∷ ss) (ope
 
 -- ---- tokens
 
-pub union_rises : (rs : List (List RowDocument)) (d : ℕ) → Rising (union_at rs d)
+pub union_rises : (rs : List (List WordDocument)) (d : ℕ) → Rising (union_at rs d)
 union_rises [] d = tt
 union_rises (r ∷ rs) d = put_all_rises (places_at r d) (union_at rs d) (union_rises rs d)
 
@@ -52,7 +52,7 @@ pub first_slots_rise : (ss ts : Slots) → SlotsRise (ss ++ ts) → SlotsRise ss
 first_slots_rise [] ts h = tt
 first_slots_rise (s ∷ ss) ts h = (h.0, first_slots_rise ss ts h.1)
 
-pub tokens_set : (rs : List (List RowDocument)) (i : ℕ) (r x : List RowDocument) (d : ℕ) → x ≡ get_or rs i x → places_at r d ≡ places_at x d → union_at (set rs i r) d ≡ union_at rs d
+pub tokens_set : (rs : List (List WordDocument)) (i : ℕ) (r x : List WordDocument) (d : ℕ) → x ≡ get_or rs i x → places_at r d ≡ places_at x d → union_at (set rs i r) d ≡ union_at rs d
 tokens_set [] i r x d is h = refl
 tokens_set (y ∷ rs) zero r x d is h = ap (λ s. put_all s (union_at rs d)) (h ∙ ap (λ w. places_at w d) is)
 tokens_set (y ∷ rs) (suc i) r x d is h = ap (λ s. put_all (places_at y d) s) (tokens_set rs i r x d is h)

@@ -1,7 +1,7 @@
 -- What the feeds of a query's parts have of each document.
 use Rattle.std.specs.Prelude.{ℕ, ◌≡◌, List, [], ◌∷◌, map, Option, Some, None, refl}
 use Rattle.ix_spans.specs.Occurrences.{Slots}
-use Rattle.ix_posting.specs.declared.rows.RowDocument.{RowDocument}
+use Rattle.ix_posting.specs.Rows.{WordDocument}
 use Rattle.q_tree.specs.Documents.{put_all}
 use Rattle.ix_cursor.specs.declared.feeds.TokenFeeds.{TokenFeeds}
 use Rattle.ix_cursor.specs.declared.feeds.PhraseFeed.{PhraseFeed}
@@ -9,7 +9,7 @@ use Rattle.ix_cursor.specs.declared.feeds.TermFeed.{TermFeed}
 use Rattle.ix_lists.specs.Documents.{places_at}
 
 -- the positions that several tokens have in a document, each once
-abbrev pub union_at : List (List RowDocument) → ℕ → List ℕ
+abbrev pub union_at : List (List WordDocument) → ℕ → List ℕ
 union_at [] d = []
 union_at (r ∷ rs) d = put_all (places_at r d) (union_at rs d)
 
@@ -38,8 +38,8 @@ operands_at os d = map (λ o. term_at o d) os
 
 -- ---- computed examples: two tokens of a slot stand at 1 and 4, and at 2 and 4, of the document 3
 
-abbrev in_3 : List ℕ → List RowDocument
-in_3 ps = record { document = 3; positions = ps } ∷ []
+abbrev in_3 : List ℕ → List WordDocument
+in_3 ps = record { document = 3; places = ps } ∷ []
 
 each_position_once : union_at (in_3 (1 ∷ 4 ∷ []) ∷ in_3 (2 ∷ 4 ∷ []) ∷ []) 3 ≡ 1 ∷ 2 ∷ 4 ∷ []
 each_position_once = refl

@@ -9,7 +9,7 @@ use Rattle.q_tree.specs.declared.flats.Slot.TheVariants.{Any, Takes}
 use Rattle.q_tree.specs.declared.flats.Place.TheVariants.{Zone, Field, Sentence, Paragraph}
 use Rattle.q_tree.specs.declared.queries.Op.{Op}
 use Rattle.q_tree.specs.declared.queries.Op.TheVariants.{Or, And, Not, Minus}
-use Rattle.q_tree.specs.Trees.{Reduced, Term, Joined, Weighted, Exceeding, Close, Inside, Defined}
+use Rattle.q_tree.specs.ReducedQueries.{Reduced, Term, Both, Weight, Above, Near, Within, Define}
 use Rattle.q_tree.specs.Scores.{DocPostings, term_slots, operand_slots}
 
 -- a slot may fit in a document where it has a position; Any may in each
@@ -36,15 +36,15 @@ may_join Minus a b = a
 -- the part may score.
 abbrev pub may_score : Reduced → DocPostings → ℕ → Bool
 may_score (Term phrases) d s = may_match (term_slots d s phrases)
-may_score (Joined op a b) d s = may_join op (may_score a d s) (may_score b d s)
-may_score (Weighted w a) d s = may_score a d s
-may_score (Exceeding n a) d s = may_score a d s
-may_score (Close operands span ordered) d s = list_all may_match (operand_slots d s operands)
-may_score (Inside (Field f) a) d s = may_score a d f
-may_score (Inside (Zone name) a) d s = has_any (d.spans name) && may_score a d s
-may_score (Inside Sentence a) d s = has_any (d.spans (codes "sentence")) && may_score a d s
-may_score (Inside Paragraph a) d s = has_any (d.spans (codes "paragraph")) && may_score a d s
-may_score (Defined phrases sum) d s = may_match (term_slots d s phrases)
+may_score (Both op a b) d s = may_join op (may_score a d s) (may_score b d s)
+may_score (Weight w a) d s = may_score a d s
+may_score (Above n a) d s = may_score a d s
+may_score (Near operands span ordered) d s = list_all may_match (operand_slots d s operands)
+may_score (Within (Field f) a) d s = may_score a d f
+may_score (Within (Zone name) a) d s = has_any (d.spans name) && may_score a d s
+may_score (Within Sentence a) d s = has_any (d.spans (codes "sentence")) && may_score a d s
+may_score (Within Paragraph a) d s = has_any (d.spans (codes "paragraph")) && may_score a d s
+may_score (Define phrases sum) d s = may_match (term_slots d s phrases)
 
 -- ---- computed examples: a document that has a at 1 and b at 9 of its main stream, and no section
 
@@ -61,25 +61,25 @@ has_a_and_b = record { positions = places; spans = λ name. [] }
 abbrev word : List ℕ → Reduced
 word key = Term ((slot_of key ∷ []) ∷ [])
 
-both_words : may_score (Joined And (word (codes "a")) (word (codes "b"))) has_a_and_b 0 ≡ true
+both_words : may_score (Both And (word (codes "a")) (word (codes "b"))) has_a_and_b 0 ≡ true
 both_words = refl
 
-one_word_alone : may_score (Joined And (word (codes "a")) (word (codes "c"))) has_a_and_b 0 ≡ false
+one_word_alone : may_score (Both And (word (codes "a")) (word (codes "c"))) has_a_and_b 0 ≡ false
 one_word_alone = refl
 
-either_word : may_score (Joined Or (word (codes "c")) (word (codes "b"))) has_a_and_b 0 ≡ true
+either_word : may_score (Both Or (word (codes "c")) (word (codes "b"))) has_a_and_b 0 ≡ true
 either_word = refl
 
 -- a NOT b has no score there, which the documents alone don't tell
-not_ruled_out : may_score (Joined Not (word (codes "a")) (word (codes "b"))) has_a_and_b 0 ≡ true
+not_ruled_out : may_score (Both Not (word (codes "a")) (word (codes "b"))) has_a_and_b 0 ≡ true
 not_ruled_out = refl
 
 -- nor do they tell where the words of a phrase stand, with any word between
 phrase_not_ruled_out : may_score (Term ((slot_of (codes "a") ∷ Any ∷ slot_of (codes "b") ∷ []) ∷ [])) has_a_and_b 0 ≡ true
 phrase_not_ruled_out = refl
 
-in_no_sentence : may_score (Inside Sentence (word (codes "a"))) has_a_and_b 0 ≡ false
+in_no_sentence : may_score (Within Sentence (word (codes "a"))) has_a_and_b 0 ≡ false
 in_no_sentence = refl
 
-in_no_field : may_score (Inside (Field 1) (word (codes "a"))) has_a_and_b 0 ≡ false
+in_no_field : may_score (Within (Field 1) (word (codes "a"))) has_a_and_b 0 ≡ false
 in_no_field = refl

@@ -2,11 +2,11 @@
 use Rattle.std.specs.Prelude.{ℕ, ◌≡◌, ◌-◌, ◌≤◌, min, max, Bool, true, false, ◌&&◌, ◌||◌, List, refl}
 use Rattle.std.specs.List.{list_all}
 use Rattle.ix_spans.specs.Occurrences.{term_score}
-use Rattle.q_tree.specs.Trees.{Reduced}
+use Rattle.q_tree.specs.ReducedQueries.{Reduced}
 use Rattle.q_tree.specs.Scores.{DocPostings, score, unless, weighted, if_above, near_score, greatest_within}
 use Rattle.ix_cursor.specs.declared.nodes.Node.{Node}
 use Rattle.ix_cursor.specs.declared.nodes.Node.TheVariants.{Term, And', Or', Not', Minus', Weight', Above', Near, Within', Done}
-use Rattle.ix_lists.specs.SpanDocuments.{pairs_at}
+use Rattle.ix_lists.specs.Documents.{places_at}
 use Rattle.ix_cursor.specs.Feeding.{phrases_at, operands_at}
 use Rattle.ix_cursor.specs.Seen.{seen_phrases, seen_operands, greatest_inside}
 use Rattle.ix_lists.specs.Seeking.{SameFrom, has_any}
@@ -22,7 +22,7 @@ score_at (Minus' p a q b) d lo hi = score_at a d lo hi - score_at b d lo hi
 score_at (Weight' w p a) d lo hi = weighted w (score_at a d lo hi)
 score_at (Above' n p a) d lo hi = if_above n (score_at a d lo hi)
 score_at (Near n) d lo hi = near_score (operands_at n.operands.items d) n.span n.ordered lo hi
-score_at (Within' s p a) d lo hi = greatest_within (λ l h. score_at a d l h) lo hi (pairs_at s.value.documents d)
+score_at (Within' s p a) d lo hi = greatest_within (λ l h. score_at a d l h) lo hi (places_at s.value.documents d)
 score_at Done d lo hi = 0
 
 -- the score of the document that was seen last, within lo to hi
@@ -48,7 +48,7 @@ may_at (Minus' p a q b) d = may_at a d
 may_at (Weight' w p a) d = may_at a d
 may_at (Above' n p a) d = may_at a d
 may_at (Near n) d = list_all may_match (operands_at n.operands.items d)
-may_at (Within' s p a) d = has_any (pairs_at s.value.documents d) && may_at a d
+may_at (Within' s p a) d = has_any (places_at s.value.documents d) && may_at a d
 may_at Done d = false
 
 -- it may score in the documents in which a query over postings and a stream may

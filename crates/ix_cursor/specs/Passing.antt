@@ -1,9 +1,8 @@
 -- Whether the documents before a number were passed, in each list of a query's parts.
 use Rattle.std.specs.Prelude.{ℕ, ◌≡◌, nat_le, Bool, true, false, ◌&&◌, List, [], ◌∷◌, Option, Some, None, refl}
 use Rattle.std.specs.List.{list_all}
-use Rattle.ix_posting.specs.declared.rows.RowDocument.{RowDocument}
+use Rattle.ix_posting.specs.Rows.{WordDocument}
 use Rattle.ix_lists.specs.Documents.{first_document}
-use Rattle.ix_lists.specs.SpanDocuments.{span_first_document}
 use Rattle.ix_cursor.specs.declared.feeds.TokenFeeds.{TokenFeeds}
 use Rattle.ix_cursor.specs.declared.feeds.PhraseFeed.{PhraseFeed}
 use Rattle.ix_cursor.specs.declared.feeds.TermFeed.{TermFeed}
@@ -16,7 +15,7 @@ abbrev pub none_before : ℕ → Option ℕ → Bool
 none_before to None = true
 none_before to (Some first) = nat_le to first
 
-abbrev pub token_passed : ℕ → List RowDocument → Bool
+abbrev pub token_passed : ℕ → List WordDocument → Bool
 token_passed to documents = none_before to (first_document documents)
 
 abbrev pub slot_passed : ℕ → Option TokenFeeds → Bool
@@ -30,7 +29,7 @@ abbrev pub term_passed : ℕ → TermFeed → Bool
 term_passed to t = list_all (phrase_passed to) t.phrases.items
 
 abbrev pub section_passed : ℕ → SpanFeed → Bool
-section_passed to s = none_before to (span_first_document s.documents)
+section_passed to s = none_before to (first_document s.documents)
 
 -- WHETHER A NODE HAS PASSED the documents before a number: each list of each of its parts has, whatever its score needs
 abbrev pub node_passed : ℕ → Node → Bool
@@ -47,8 +46,8 @@ node_passed to Done = true
 
 -- ---- computed examples
 
-abbrev in_5 : List RowDocument
-in_5 = record { document = 5; positions = 1 ∷ [] } ∷ []
+abbrev in_5 : List WordDocument
+in_5 = record { document = 5; places = 1 ∷ [] } ∷ []
 
 passed_as_far_as_it : token_passed 5 in_5 ≡ true
 passed_as_far_as_it = refl

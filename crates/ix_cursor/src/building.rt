@@ -1,9 +1,9 @@
 //! The nodes of a query over what was read for it.
 
 ghost use Rattle.std.specs.Prelude.{◌≡◌, ℕ, IfOk};
-ghost use Rattle.q_tree.specs.Trees.{reduced_of, Term, Joined, Close, Inside};
+ghost use Rattle.q_tree.specs.ReducedQueries.{reduced_of, Term, Both, Near, Within};
 ghost use Rattle.q_tree.specs.Scores.{operated, slot_positions, phrase_slots, term_slots, operand_slots};
-ghost use Rattle.ix_lists.specs.SpanDocuments.{pairs_at};
+ghost use Rattle.ix_lists.specs.Documents.{places_at};
 ghost use Rattle.ix_cursor.specs.Feeding.{slot_at, slots_at, phrase_at, term_at, operands_at};
 ghost use Rattle.ix_cursor.specs.Nodes.{score_at, may_at, Scores, ScoresWithin, MayScore, MayScoreWithin};
 ghost use Rattle.ix_cursor.specs.MayScore.{may_join};
@@ -96,7 +96,7 @@ fn feed_of_section<S: Source>(
     name: &str,
 ) -> Result<Box<SpanFeed>, Memory>
     requires { S.well source.now }
-    ensures { IfOk result (λ p. (d : ℕ) → pairs_at p.value.documents d ≡ (S.postings source.now d).spans name.now) }
+    ensures { IfOk result (λ p. (d : ℕ) → places_at p.value.documents d ≡ (S.postings source.now d).spans name.now) }
 {
     let documents = source.section(alloc, name)?;
     let seen = Pairs::empty(alloc);
@@ -154,8 +154,8 @@ fn build_near<S: Source>(
     stream: u8,
 ) -> Result<Box<Node>, Memory>
     requires { S.well source.now }
-    ensures scores { IfOk result (λ n. Scores n.value (Close terms.now span ordered) (S.postings source.now) stream) }
-    ensures documents { IfOk result (λ n. MayScore n.value (Close terms.now span ordered) (S.postings source.now) stream) }
+    ensures scores { IfOk result (λ n. Scores n.value (Near terms.now span ordered) (S.postings source.now) stream) }
+    ensures documents { IfOk result (λ n. MayScore n.value (Near terms.now span ordered) (S.postings source.now) stream) }
 {
     let operands = feed_of_operands(alloc, source, stream, terms)?;
     boxed(
@@ -218,8 +218,8 @@ fn build_both<S: Source>(
     requires well { S.well source.now }
     requires first { IsPlain (reduced_of a.now) }
     requires second { IsPlain (reduced_of b.now) }
-    ensures scores { IfOk result (λ n. Scores n.value (Joined op (reduced_of a.now) (reduced_of b.now)) (S.postings source.now) stream) }
-    ensures documents { IfOk result (λ n. MayScore n.value (Joined op (reduced_of a.now) (reduced_of b.now)) (S.postings source.now) stream) }
+    ensures scores { IfOk result (λ n. Scores n.value (Both op (reduced_of a.now) (reduced_of b.now)) (S.postings source.now) stream) }
+    ensures documents { IfOk result (λ n. MayScore n.value (Both op (reduced_of a.now) (reduced_of b.now)) (S.postings source.now) stream) }
 {
     let first = build(alloc, source, a, stream)?;
     let second = build(alloc, source, b, stream)?;
@@ -237,8 +237,8 @@ fn build_within<S: Source>(
 ) -> Result<Box<Node>, Memory>
     requires well { S.well source.now }
     requires plain { IsPlain (reduced_of a.now) }
-    ensures scores { IfOk result (λ n. Scores n.value (Inside place.now (reduced_of a.now)) (S.postings source.now) stream) }
-    ensures documents { IfOk result (λ n. MayScore n.value (Inside place.now (reduced_of a.now)) (S.postings source.now) stream) }
+    ensures scores { IfOk result (λ n. Scores n.value (Within place.now (reduced_of a.now)) (S.postings source.now) stream) }
+    ensures documents { IfOk result (λ n. MayScore n.value (Within place.now (reduced_of a.now)) (S.postings source.now) stream) }
 {
     match place {
         Place::Field(field) => build(alloc, source, a, *field),

@@ -1,7 +1,7 @@
 //! The documents that a query may score.
 
 ghost use Rattle.std.specs.Prelude.{◌≡◌, ◌<◌, ◌^◌, ℕ, true, IfOk};
-ghost use Rattle.q_tree.specs.Trees.{reduced_of};
+ghost use Rattle.q_tree.specs.ReducedQueries.{reduced_of};
 ghost use Rattle.q_tree.specs.Soundness.{is_sound};
 ghost use Rattle.ix_cursor.specs.Reading.{postings_read, FeedsRise, IsPlain};
 ghost use Rattle.ix_cursor.specs.Candidates.{ahead, least_ahead, MovesOn, IsLeast, behind_found, Leaps};

@@ -6,20 +6,20 @@ ghost use Rattle.ix_spans.specs.Views.{slots_view};
 ghost use Rattle.std.specs.List.{list_all};
 ghost use Rattle.ix_lists.specs.Seeking.{SameFrom, BoundsFrom, has_any};
 ghost use Rattle.ix_cursor.specs.Bounding.{later, earlier};
-ghost use Rattle.ix_lists.specs.SpanDocuments.{pairs_at};
+ghost use Rattle.ix_lists.specs.Documents.{places_at};
 ghost use Rattle.ix_cursor.specs.Feeding.{union_at, slot_at, slots_at, phrase_at, phrases_at, term_at, operands_at};
 ghost use Rattle.ix_cursor.specs.MayScore.{may_fit, may_occur, may_match};
 ghost use Rattle.ix_cursor.specs.Passing.{token_passed, slot_passed, phrase_passed, term_passed, section_passed};
 
-use ct_base::{Memory, Pairs};
-use ix_lists::{Postings, SpanPostings};
+use ct_base::{Memory, Pair, Pairs};
+use ix_lists::Postings;
 use std::alloc::Global;
 use std::marker::Model;
 
 /// The tokens that a slot takes, each with its documents.
 #[derive(Drop)]
 pub(crate) struct TokenFeeds {
-    pub(crate) tokens: Vec<Postings>,
+    pub(crate) tokens: Vec<Postings<u32>>,
 }
 
 /// The positions that each slot of a phrase takes in one document, rising strictly; None where any key fits. Contracts see them as
@@ -93,7 +93,7 @@ pub(crate) struct NearFeed {
 /// The documents of a section, and of the document that was seen last its pairs, each with the score of the part over it.
 #[derive(Drop)]
 pub(crate) struct SpanFeed {
-    pub(crate) documents: SpanPostings,
+    pub(crate) documents: Postings<Pair>,
     pub(crate) seen: Pairs,
     pub(crate) scores: Vec<u32>,
 }
@@ -120,7 +120,7 @@ pub(crate) fn earlier(a: Option<u32>, b: Option<u32>) -> Option<u32>
 }
 
 /// Passes the documents before `to` of each token, and gives the first in which one of them is left.
-fn pass_tokens(tokens: &mut [Postings], alloc: Global, to: u32) -> Result<Option<u32>, Memory>
+fn pass_tokens(tokens: &mut [Postings<u32>], alloc: Global, to: u32) -> Result<Option<u32>, Memory>
     ensures keeps { OnOk result (SameFrom to (union_at tokens.old) (union_at tokens.new)) }
     ensures passed { OnOk result (list_all (token_passed to) tokens.new ≡ true) }
     ensures bound { IfOk result (λ bound. BoundsFrom to (λ d. has_any (union_at tokens.new d)) bound) }
@@ -220,9 +220,9 @@ pub(crate) fn pass_section(
     alloc: Global,
     to: u32,
 ) -> Result<Option<u32>, Memory>
-    ensures keeps { OnOk result (SameFrom to (pairs_at section.old.documents) (pairs_at section.new.documents)) }
+    ensures keeps { OnOk result (SameFrom to (places_at section.old.documents) (places_at section.new.documents)) }
     ensures passed { OnOk result (section_passed to section.new ≡ true) }
-    ensures bound { IfOk result (λ bound. BoundsFrom to (λ d. has_any (pairs_at section.new.documents d)) bound) }
+    ensures bound { IfOk result (λ bound. BoundsFrom to (λ d. has_any (places_at section.new.documents d)) bound) }
 {
     let first = section.documents.skip(alloc, to)?;
     Ok(first)

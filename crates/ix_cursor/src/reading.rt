@@ -5,9 +5,9 @@ ghost use Rattle.ix_posting.specs.Lists.{posting_list};
 ghost use Rattle.ix_cursor.specs.Reading.{tokens_read, rows_read, documents_of, TokensRise, SlotFeedsRise, SectionFeedsRise};
 
 use crate::sources::Source;
-use ct_base::{Listed, Memory, Name};
-use ix_lists::{Postings, SpanPostings};
-use ix_posting::{EncodedRows, EncodedSpanRows};
+use ct_base::{Listed, Memory, Name, Pair};
+use ix_lists::Postings;
+use ix_posting::EncodedRows;
 use q_tree::{Slot, same_slot};
 use std::alloc::Global;
 
@@ -17,14 +17,14 @@ pub struct SlotFeed {
     /// 0 for the main stream, else the number of a field.
     pub stream: u8,
     pub slot: Slot,
-    pub tokens: Listed<EncodedRows>,
+    pub tokens: Listed<EncodedRows<u32>>,
 }
 
 /// The rows of a section, whose documents rise from one row to the next. `sentence` and `paragraph` are the names of those.
 #[derive(Drop)]
 pub struct SectionFeed {
     pub section: Name,
-    pub rows: EncodedSpanRows,
+    pub rows: EncodedRows<Pair>,
 }
 
 /// What was read for a query. Of a slot or a section that isn't among them there are no postings.
@@ -35,7 +35,7 @@ pub struct Feeds {
 }
 
 /// The rows of each token that a slot takes in a stream. Its cost is the number of slots that were read.
-fn tokens_read<'a>(feeds: &'a [SlotFeed], stream: u8, slot: &Slot) -> &'a [EncodedRows]
+fn tokens_read<'a>(feeds: &'a [SlotFeed], stream: u8, slot: &Slot) -> &'a [EncodedRows<u32>]
     requires { SlotFeedsRise feeds.now }
     ensures rise { TokensRise result.now }
     ensures tokens { result.now ≡ tokens_read feeds.now stream slot.now }
@@ -54,7 +54,7 @@ fn postings_of(
     feeds: &[SlotFeed],
     stream: u8,
     slot: &Slot,
-) -> Result<Vec<Postings>, Memory>
+) -> Result<Vec<Postings<u32>>, Memory>
     requires { SlotFeedsRise feeds.now }
     ensures { IfOk result (λ v. v.items ≡ documents_of (tokens_read feeds.now stream slot.now)) }
 {
@@ -66,16 +66,16 @@ fn postings_of(
 }
 
 /// The documents of a section.
-fn section_of(alloc: Global, feeds: &[SectionFeed], name: &str) -> Result<SpanPostings, Memory>
+fn section_of(alloc: Global, feeds: &[SectionFeed], name: &str) -> Result<Postings<Pair>, Memory>
     requires { SectionFeedsRise feeds.now }
     ensures { IfOk result (λ p. p ≡ posting_list (rows_read feeds.now name.now)) }
 {
     for feed in feeds {
         if feed.section.as_str() == name {
-            return Ok(SpanPostings::of(feed.rows.share()?));
+            return Ok(Postings::of(feed.rows.share()?));
         }
     }
-    Ok(SpanPostings::of(EncodedSpanRows::of(alloc, Vec::new(alloc))?))
+    Ok(Postings::of(EncodedRows::of(alloc, Vec::new(alloc))?))
 }
 
 impl Source for Feeds {
@@ -85,11 +85,11 @@ impl Source for Feeds {
 
     ghost well = { FeedsRise };
 
-    fn tokens(&self, alloc: Global, stream: u8, slot: &Slot) -> Result<Vec<Postings>, Memory> {
+    fn tokens(&self, alloc: Global, stream: u8, slot: &Slot) -> Result<Vec<Postings<u32>>, Memory> {
         postings_of(alloc, self.slots.as_slice(), stream, slot)
     }
 
-    fn section(&self, alloc: Global, name: &str) -> Result<SpanPostings, Memory> {
+    fn section(&self, alloc: Global, name: &str) -> Result<Postings<Pair>, Memory> {
         section_of(alloc, self.sections.as_slice(), name)
     }
 }

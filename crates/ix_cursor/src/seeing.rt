@@ -4,7 +4,7 @@ ghost use Rattle.std.specs.Prelude.{◌≡◌, IfOk, OnOk};
 ghost use Rattle.ix_spans.specs.Rising.{Rising};
 ghost use Rattle.ix_spans.specs.Slots.{SlotRises, SlotsRise};
 ghost use Rattle.ix_spans.specs.Views.{slot_view, slots_view};
-ghost use Rattle.ix_lists.specs.SpanDocuments.{pairs_at};
+ghost use Rattle.ix_lists.specs.Documents.{places_at};
 ghost use Rattle.ix_lists.specs.Seeking.{SameFrom};
 ghost use Rattle.ix_cursor.specs.Feeding.{union_at, slot_at, slots_at, phrase_at, phrases_at, term_at, operands_at};
 ghost use Rattle.ix_cursor.specs.Seen.{seen_phrase, seen_phrases, seen_term, seen_operands};
@@ -15,7 +15,7 @@ use ix_lists::Postings;
 use std::alloc::Global;
 
 /// The positions that tokens have in a document, each once and rising. Its cost is the number of positions times that of tokens.
-fn union_of(alloc: Global, tokens: &[Postings], document: u32) -> Result<Vec<u32>, Memory>
+fn union_of(alloc: Global, tokens: &[Postings<u32>], document: u32) -> Result<Vec<u32>, Memory>
     ensures positions { IfOk result (λ v. v.items ≡ union_at tokens.now document) }
     ensures rise { IfOk result (λ v. Rising v.items) }
 {
@@ -114,9 +114,9 @@ pub(crate) fn see_section(
     alloc: Global,
     document: u32,
 ) -> Result<(), Memory>
-    ensures seen { OnOk result (section.new.seen ≡ pairs_at section.old.documents document) }
+    ensures seen { OnOk result (section.new.seen ≡ places_at section.old.documents document) }
     ensures keeps { OnOk result (section.new.documents ≡ section.old.documents) }
 {
-    section.seen = section.documents.pairs_at(alloc, document)?;
+    section.seen = section.documents.places_at(alloc, document)?;
     Ok(())
 }

@@ -3,10 +3,10 @@
 ghost use Rattle.std.specs.Prelude.{◌≡◌, ℕ, IfOk};
 ghost use Rattle.q_tree.specs.Scores.{DocPostings};
 ghost use Rattle.ix_cursor.specs.Feeding.{union_at};
-ghost use Rattle.ix_lists.specs.SpanDocuments.{pairs_at};
+ghost use Rattle.ix_lists.specs.Documents.{places_at};
 
-use ct_base::Memory;
-use ix_lists::{Postings, SpanPostings};
+use ct_base::{Memory, Pair};
+use ix_lists::Postings;
 use q_tree::Slot;
 use std::alloc::Global;
 
@@ -20,12 +20,12 @@ pub(crate) trait Source {
     ghost well: { Self → Type 0 };
 
     /// The documents of each token that a slot takes in a stream.
-    fn tokens(&self, alloc: Global, stream: u8, slot: &Slot) -> Result<Vec<Postings>, Memory>
+    fn tokens(&self, alloc: Global, stream: u8, slot: &Slot) -> Result<Vec<Postings<u32>>, Memory>
         requires { well self.now }
         ensures { IfOk result (λ v. (d : ℕ) → union_at v.items d ≡ (postings self.now d).positions stream slot.now) };
 
     /// The documents of a section.
-    fn section(&self, alloc: Global, name: &str) -> Result<SpanPostings, Memory>
+    fn section(&self, alloc: Global, name: &str) -> Result<Postings<Pair>, Memory>
         requires { well self.now }
-        ensures { IfOk result (λ p. (d : ℕ) → pairs_at p d ≡ (postings self.now d).spans name.now) };
+        ensures { IfOk result (λ p. (d : ℕ) → places_at p d ≡ (postings self.now d).spans name.now) };
 }

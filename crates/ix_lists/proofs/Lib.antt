@@ -1,3 +1,2 @@
 pub mod Merges
 pub mod Passing
-pub mod SpanPassing

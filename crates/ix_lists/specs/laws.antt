@@ -1,2 +1,2 @@
+pub mod Seeking
 pub mod Passing
-pub mod SpanPassing

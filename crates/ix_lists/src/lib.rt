@@ -3,7 +3,5 @@
 
 mod merging;
 mod postings;
-mod span_postings;
 
 pub use postings::Postings;
-pub use span_postings::SpanPostings;

@@ -1,21 +1,20 @@
-//! The documents of a token that are left, of which one row is decoded at a time.
+//! The documents of a token or a section that are left, of which one row is decoded at a time.
 
 ghost use Rattle.std.specs.Prelude.{◌≡◌, [], ℕ, ◌++◌, ◌≤◌, ◌<◌, drop, length, List, IfOk, OnOk, IfSome, IfNone};
 ghost use Rattle.ix_posting.specs.Rows.{DocumentsRise};
-ghost use Rattle.ix_posting.specs.declared.rows.RowDocument.{RowDocument};
+ghost use Rattle.ix_posting.specs.Lists.{posting_list};
 ghost use Rattle.ix_spans.specs.Rising.{Rising};
 ghost use Rattle.q_tree.specs.Documents.{put_all};
-ghost use Rattle.ix_posting.specs.Lists.{posting_list};
 ghost use Rattle.ix_lists.specs.Documents.{from_on, places_at, first_places, row_from, first_document};
 
 use crate::merging::merged;
-use ct_base::Memory;
-use ix_posting::{EncodedRow, EncodedRows, Row, RowDocument};
+use ct_base::{Listed, Memory};
+use ix_posting::{EncodedRow, EncodedRows, Place, Row, RowDocument};
 use std::alloc::Global;
 use std::marker::Model;
 
 /// The documents of a row from a place on.
-fn row_from(row: &Option<Row>, next: usize) -> &[RowDocument]
+fn row_from<P: Place>(row: &Option<Row<P>>, next: usize) -> &[RowDocument<P>]
     ensures { result.now ≡ row_from row.now next }
 {
     match row {
@@ -25,7 +24,7 @@ fn row_from(row: &Option<Row>, next: usize) -> &[RowDocument]
 }
 
 /// The documents from a place on.
-fn documents_from(documents: &[RowDocument], next: usize) -> &[RowDocument]
+fn documents_from<P>(documents: &[RowDocument<P>], next: usize) -> &[RowDocument<P>]
     ensures { result.now ≡ drop next documents.now }
 {
     if next > documents.len() {
@@ -35,7 +34,7 @@ fn documents_from(documents: &[RowDocument], next: usize) -> &[RowDocument]
 }
 
 /// The first place from `next` on whose document doesn't stand before `to`; None where all of them do.
-fn place_among(documents: &[RowDocument], next: usize, to: u32) -> Option<usize>
+fn place_among<P>(documents: &[RowDocument<P>], next: usize, to: u32) -> Option<usize>
     ensures some { IfSome result (λ n. (drop n documents.now ≡ from_on to (drop next documents.now)) × (0 < length (drop n documents.now))) }
     ensures none { IfNone result (from_on to (drop next documents.now) ≡ []) }
 {
@@ -48,7 +47,7 @@ fn place_among(documents: &[RowDocument], next: usize, to: u32) -> Option<usize>
 }
 
 /// The same in a row that may be there.
-fn place_in(row: &Option<Row>, next: usize, to: u32) -> Option<usize>
+fn place_in<P: Place>(row: &Option<Row<P>>, next: usize, to: u32) -> Option<usize>
     ensures some { IfSome result (λ n. (row_from row.now n ≡ from_on to (row_from row.now next)) × (0 < length (row_from row.now n))) }
     ensures none { IfNone result (from_on to (row_from row.now next) ≡ []) }
 {
@@ -58,17 +57,22 @@ fn place_in(row: &Option<Row>, next: usize, to: u32) -> Option<usize>
     }
 }
 
-/// A decoded row, if there is one, the place of its first document that is left, and how many rows were taken.
+/// How far the rows are read: a decoded row, if there is one, the place of its first document that is left, and how many rows were taken.
 #[derive(Drop)]
-struct Place {
-    row: Option<Row>,
+struct Progress<P: Place> {
+    row: Option<Row<P>>,
     next: usize,
     taken: usize,
 }
 
 /// The place of the first document that doesn't stand before `to`, among rows of which so many were taken. It decodes one row after
 /// the other.
-fn seek(alloc: Global, rows: &[EncodedRow], taken: usize, to: u32) -> Result<Place, Memory>
+fn seek<P: Place>(
+    alloc: Global,
+    rows: &[EncodedRow<P>],
+    taken: usize,
+    to: u32,
+) -> Result<Progress<P>, Memory>
     requires { taken ≤ length rows.now }
     ensures taken { IfOk result (λ p. p.taken ≤ length rows.now) }
     ensures left { IfOk result (λ p. row_from p.row p.next ++ posting_list (drop p.taken rows.now) ≡ from_on to (posting_list (drop taken rows.now))) }
@@ -79,7 +83,7 @@ fn seek(alloc: Global, rows: &[EncodedRow], taken: usize, to: u32) -> Result<Pla
         let row = Some(rows[i].decode(alloc)?);
         match place_in(&row, 0, to) {
             Some(next) => {
-                return Ok(Place {
+                return Ok(Progress {
                     row,
                     next,
                     taken: i + 1,
@@ -88,29 +92,36 @@ fn seek(alloc: Global, rows: &[EncodedRow], taken: usize, to: u32) -> Result<Pla
             None => {}
         }
     }
-    Ok(Place {
+    Ok(Progress {
         row: None,
         next: 0,
         taken: rows.len(),
     })
 }
 
+/// A copy of places.
+fn copied<P: Place>(alloc: Global, places: &[P]) -> Result<Listed<P>, Memory>
+    ensures { IfOk result (λ copy. copy ≡ places.now) }
+{
+    Ok(Listed::of(Vec::from_slice(alloc, places)?))
+}
+
 /// Leaves one place for another.
-fn go_to(place: &mut Place, other: Place)
+fn go_to<P: Place>(place: &mut Progress<P>, other: Progress<P>)
     ensures { place.new ≡ other }
 {
     *place = other;
 }
 
-/// The positions of the first document, if that is the one.
-fn first_places(documents: &[RowDocument], document: u32) -> &[u32]
+/// The places of the first document, if that is the one.
+fn first_places<P>(documents: &[RowDocument<P>], document: u32) -> &[P]
     ensures { result.now ≡ first_places documents.now document }
 {
     match documents {
         [] => &[],
         [first, ..] => {
             if first.document == document {
-                first.positions.as_slice()
+                first.places.as_slice()
             } else {
                 &[]
             }
@@ -119,7 +130,7 @@ fn first_places(documents: &[RowDocument], document: u32) -> &[u32]
 }
 
 /// The number of the first document.
-fn first_document(documents: &[RowDocument]) -> Option<u32>
+fn first_document<P>(documents: &[RowDocument<P>]) -> Option<u32>
     ensures { result ≡ first_document documents.now }
 {
     match documents {
@@ -128,36 +139,36 @@ fn first_document(documents: &[RowDocument]) -> Option<u32>
     }
 }
 
-/// The documents of a token that are left, in rising order. Its rows are decoded one after the other, as they are needed.
+/// The documents of a token or a section that are left, in rising order. Its rows are decoded one after the other, as they are needed.
 #[derive(Drop)]
-pub struct Postings {
-    rows: EncodedRows,
-    place: Place,
+pub struct Postings<P: Place> {
+    rows: EncodedRows<P>,
+    place: Progress<P>,
 }
 
-impl Model for Postings {
+impl<P: Place> Model for Postings<P> {
     ghost use Rattle.std.specs.Prelude.{List, drop, length, ◌≤◌, ◌++◌};
     ghost use Rattle.ix_posting.specs.declared.rows.RowDocument.{RowDocument};
     ghost use Rattle.ix_posting.specs.Rows.{DocumentsRise};
     ghost use Rattle.ix_posting.specs.Lists.{posting_list};
     ghost use Rattle.ix_lists.specs.Documents.{row_from};
 
-    ghost Value = { List RowDocument };
+    ghost Value = { List (RowDocument P) };
 
     ghost view = { λ p. row_from p.place.row p.place.next ++ posting_list (drop p.place.taken p.rows) };
 
-    ghost invariant = { λ p. (p.place.taken ≤ length p.rows) × DocumentsRise 0 (row_from p.place.row p.place.next ++ posting_list (drop p.place.taken p.rows)) };
+    ghost invariant = { λ p. (p.place.taken ≤ length p.rows) × DocumentsRise P.form 0 (row_from p.place.row p.place.next ++ posting_list (drop p.place.taken p.rows)) };
 }
 
-impl Postings {
+impl<P: Place> Postings<P> {
     /// All documents of these rows.
-    pub fn of(rows: EncodedRows) -> Postings
-        requires { DocumentsRise 0 (posting_list rows) }
+    pub fn of(rows: EncodedRows<P>) -> Postings<P>
+        requires { DocumentsRise P.form 0 (posting_list rows) }
         ensures { result ≡ posting_list rows }
     {
         Postings {
             rows,
-            place: Place {
+            place: Progress {
                 row: None,
                 next: 0,
                 taken: 0,
@@ -170,7 +181,7 @@ impl Postings {
     pub fn skip(&mut self, alloc: Global, to: u32) -> Result<Option<u32>, Memory>
         ensures left { OnOk result (self.new ≡ from_on to self.old) }
         ensures first { IfOk result (λ first. first ≡ first_document self.new) }
-        ensures rise { OnOk result (DocumentsRise 0 self.new) }
+        ensures rise { OnOk result (DocumentsRise P.form 0 self.new) }
     {
         match place_in(&self.place.row, self.place.next, to) {
             Some(next) => {
@@ -186,6 +197,25 @@ impl Postings {
         }
     }
 
+    /// The places in a document. At a document before which the others were passed it decodes nothing.
+    pub fn places_at(&self, alloc: Global, document: u32) -> Result<Listed<P>, Memory>
+        ensures { IfOk result (λ v. v ≡ places_at self.now document) }
+    {
+        match place_in(&self.place.row, self.place.next, document) {
+            Some(next) => {
+                let left = row_from(&self.place.row, next);
+                copied(alloc, first_places(left, document))
+            }
+            None => {
+                let place = seek(alloc, self.rows.as_slice(), self.place.taken, document)?;
+                let left = row_from(&place.row, place.next);
+                copied(alloc, first_places(left, document))
+            }
+        }
+    }
+}
+
+impl Postings<u32> {
     /// Merges the positions in a document into rising ones. At a document before which the others were passed it decodes nothing.
     pub fn merge_at(
         &self,

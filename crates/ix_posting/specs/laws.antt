@@ -1,5 +1,6 @@
 pub mod Standing
 pub mod Items
+pub mod Places
 pub mod Numbers
 pub mod Pairs
 pub mod Heads

@@ -2,19 +2,17 @@
 #![tactic(auto)]
 
 mod encoded;
-mod encoded_spans;
 mod faults;
 mod laws;
+mod numbers;
+mod pairs;
+mod places;
 mod reading;
 mod rows;
-mod span_reading;
-mod span_rows;
-mod span_writing;
 mod writing;
 
 pub use encoded::{EncodedRow, EncodedRows};
-pub use encoded_spans::{EncodedSpanRow, EncodedSpanRows};
 pub use faults::RowFault;
 pub use laws::{rows_are_exact, span_rows_are_exact};
-pub use rows::{Positions, Row, RowDocument};
-pub use span_rows::{SpanDocument, SpanRow};
+pub use places::{Place, put_places};
+pub use rows::{Row, RowDocument};

@@ -12,9 +12,9 @@ use Rattle.std.specs.FinMap.{get, insert, entries}
 use Rattle.std.proofs.lemmas.Cmp.{nat_list_cmp_total}
 use Rattle.std.proofs.lemmas.Map.Lookups.{exact_bytes}
 use Rattle.ct_keep.specs.Pairs.{byte_order}
-use Rattle.ct_keep.specs.SortedLaws.{entries-seen, seen-insert, lookup-seen, seen-set_value}
-use Rattle.ix_rows.specs.Growing.{Growing, grown}
-use Rattle.ix_rows.specs.RowMaps.{RowMap, VecRows, or_nothing, with_posting, row_map_of, seen_terms}
+use Rattle.ct_base.specs.laws.SortedMaps.{entries-seen, seen-insert, lookup-seen, seen-set_value}
+use Rattle.ix_rows.specs.Growing.{Growing, with_grown_document}
+use Rattle.ix_rows.specs.RowMaps.{TermRowsView, VecRows, or_nothing, with_posting, row_map_of, seen_terms}
 
 -- what holds of a call that went well, by what is known of it
 pub on_ok : {T E : Type 0} (r : Result T E) (P Q : Type 0) → (P → Q) → OnOk r P → OnOk r Q
@@ -38,20 +38,22 @@ pub get-row_map : (es : List VecRows) (t : List ℕ) → IsStrictlySortedBy byte
 get-row_map es t s = sym (option_itself (lookup (is_at (λ x. slice_cmp nat_cmp t x.items)) es)) ∙ lookup-seen (slice_cmp nat_cmp) term_of itself es t s
 
 -- a document came to a term that has rows
-pub posting_there : (old new : List VecRows) (t : List ℕ) (d : ℕ) (places : List ℕ) (g h : Growing) (m : RowMap) → IsStrictlySortedBy byte_order (keys_of old) → IsStrictlySortedBy byte_order (keys_of new)
-    → row_map_of old ≡ m → lookup (is_at (λ x. slice_cmp nat_cmp t x.items)) old ≡ Some g → new ≡ set_value (is_at (λ x. slice_cmp nat_cmp t x.items)) old h → h ≡ grown g d places → row_map_of new ≡ with_posting m t d places
+pub posting_there : (old new : List VecRows) (t : List ℕ) (d : ℕ) (places : List ℕ) (g h : Growing) (m : TermRowsView)
+    → IsStrictlySortedBy byte_order (keys_of old) → IsStrictlySortedBy byte_order (keys_of new)
+    → row_map_of old ≡ m → lookup (is_at (λ x. slice_cmp nat_cmp t x.items)) old ≡ Some g → new ≡ set_value (is_at (λ x. slice_cmp nat_cmp t x.items)) old h → h ≡ with_grown_document g d places → row_map_of new ≡ with_posting m t d places
 posting_there old new t d places g h m s u seen found is grows =
     let there : get (row_map_of old) t ≡ Some g = sym (get-row_map old t s) ∙ found in
     seen-set_value (slice_cmp nat_cmp) term_of itself nat_list_cmp_total exact_bytes old new t h s u (ap (λ (o : Option Growing). is_some o) there) is
-    ∙ ap (λ (k : Growing). insert (row_map_of old) t k) (grows ∙ ap (λ (o : Option Growing). grown (or_nothing o) d places) (sym there))
-    ∙ ap (λ (n : RowMap). with_posting n t d places) seen
+    ∙ ap (λ (k : Growing). insert (row_map_of old) t k) (grows ∙ ap (λ (o : Option Growing). with_grown_document (or_nothing o) d places) (sym there))
+    ∙ ap (λ (n : TermRowsView). with_posting n t d places) seen
 
 -- a document came to a term that is new
-pub posting_new : (old new : List VecRows) (k : Vec ℕ Global) (t : List ℕ) (d : ℕ) (places : List ℕ) (h : Growing) (m : RowMap) → IsStrictlySortedBy byte_order (keys_of old) → IsStrictlySortedBy byte_order (keys_of new)
-    → row_map_of old ≡ m → lookup (is_at (λ x. slice_cmp nat_cmp t x.items)) old ≡ None → k.items ≡ t → new ≡ insert_entry byte_order old k h → h ≡ grown (or_nothing None) d places → row_map_of new ≡ with_posting m t d places
+pub posting_new : (old new : List VecRows) (k : Vec ℕ Global) (t : List ℕ) (d : ℕ) (places : List ℕ) (h : Growing) (m : TermRowsView)
+    → IsStrictlySortedBy byte_order (keys_of old) → IsStrictlySortedBy byte_order (keys_of new)
+    → row_map_of old ≡ m → lookup (is_at (λ x. slice_cmp nat_cmp t x.items)) old ≡ None → k.items ≡ t → new ≡ insert_entry byte_order old k h → h ≡ with_grown_document (or_nothing None) d places → row_map_of new ≡ with_posting m t d places
 posting_new old new k t d places h m s u seen found same is begins =
     let none : get (row_map_of old) t ≡ None = sym (get-row_map old t s) ∙ found in
     seen-insert (slice_cmp nat_cmp) term_of itself nat_list_cmp_total old new k h s u is
     ∙ ap (λ (l : List ℕ). insert (row_map_of old) l h) same
-    ∙ ap (λ (g : Growing). insert (row_map_of old) t g) (begins ∙ ap (λ (o : Option Growing). grown (or_nothing o) d places) (sym none))
-    ∙ ap (λ (n : RowMap). with_posting n t d places) seen
+    ∙ ap (λ (g : Growing). insert (row_map_of old) t g) (begins ∙ ap (λ (o : Option Growing). with_grown_document (or_nothing o) d places) (sym none))
+    ∙ ap (λ (n : TermRowsView). with_posting n t d places) seen

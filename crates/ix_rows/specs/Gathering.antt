@@ -11,7 +11,7 @@ use Rattle.ct_entry.specs.Changes.{put_value}
 use Rattle.ct_entry.specs.Each.{each}
 use Rattle.ct_entry.specs.Maps.{Names}
 use Rattle.ix_rows.specs.Spelling.{row_key, first_document, greedy}
-use Rattle.ix_rows.specs.RowMaps.{RowMap, with_posting}
+use Rattle.ix_rows.specs.RowMaps.{TermRowsView, with_posting}
 
 -- what each row has, by the bytes of terms
 abbrev pub Having : Type 0 → Type 0
@@ -36,11 +36,11 @@ module _ {D X : Type 0} (number : D → ℕ) (bytes_of : List D → List ℕ) (m
 
 -- ---- as it is gathered: document by document, of each what it has, with the bytes of its places
 
-abbrev pub with_document : RowMap → ℕ → List (List ℕ × List ℕ) → RowMap
+abbrev pub with_document : TermRowsView → ℕ → List (List ℕ × List ℕ) → TermRowsView
 with_document m d [] = m
 with_document m d (e ∷ es) = with_document (with_posting m e.0 d e.1) d es
 
-abbrev pub with_documents : (ℤ → List (List ℕ × List ℕ)) → RowMap → List (ℕ × ℤ) → RowMap
+abbrev pub with_documents : (ℤ → List (List ℕ × List ℕ)) → TermRowsView → List (ℕ × ℤ) → TermRowsView
 with_documents its m [] = m
 with_documents its m (p ∷ ps) = with_documents its (with_document m p.0 (its p.1)) ps
 

@@ -4,11 +4,12 @@ pub mod Spelling
 pub mod Stores
 pub mod Splits
 pub mod Growing
-pub mod PlaceBytes
+pub mod Firsts
 pub mod RowMaps
 pub mod Gathering
-pub mod Grown
-pub mod Holding
+pub mod GrowingLists
+pub mod Taking
+pub mod PlacedRows
 pub mod WordRows
 pub mod SpanRows
 pub mod Promises

@@ -1,7 +1,7 @@
 -- What a posting list has of a document: the documents that have a term stand in it in the order of their numbers.
 -- D is a document with its places: the positions of a word, or the pairs of a section. Nothing here depends on which.
 use Rattle.std.specs.Prelude.{ℕ, ◌≡◌, ◌==◌, cond, List, [], ◌∷◌, map, Option, Some, None, refl}
-use Rattle.ix_posting.specs.Rows.{Rise}
+use Rattle.ix_posting.specs.Forms.{Rise}
 
 module _ {D : Type 0} (number : D → ℕ) where
   -- what a document has in a posting list

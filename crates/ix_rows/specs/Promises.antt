@@ -2,20 +2,21 @@
 -- for any documents.
 use Rattle.std.specs.Prelude.{ℕ, ℤ, pos, ◌≡◌, ◌+◌, sum_by, List, ◌++◌, Option, Some, refl}
 use Rattle.ct_entry.specs.Lists.{IsIn}
-use Rattle.ix_posting.specs.declared.rows.RowDocument.{RowDocument}
+use Rattle.ix_posting.specs.Rows.{WordDocument}
 use Rattle.ix_rows.specs.Spelling.{greedy}
 use Rattle.ix_rows.specs.Splits.{IsSplit}
 use Rattle.ix_rows.specs.Stored.{ListsStand}
-use Rattle.ix_rows.specs.WordRows.{document_number, IsWordTerm, word_cost}
+use Rattle.ix_rows.specs.PlacedRows.{document_number}
+use Rattle.ix_rows.specs.WordRows.{IsWordTerm, word_cost}
 use Rattle.ix_rows.specs.laws.Stored.{AreNew, without}
 
 -- the posting list of each term
 abbrev pub WordLists : Type 0
-WordLists = List ℕ → List RowDocument
+WordLists = List ℕ → List WordDocument
 
 -- what a row has under a term, as a document
 abbrev pub Wanted : Type 0
-Wanted = ℤ → List ℕ → ℕ → Option RowDocument
+Wanted = ℤ → List ℕ → ℕ → Option WordDocument
 
 -- the posting lists of the index of this name, whose length counts in what a posting costs
 abbrev pub WordsStand : List ℕ → Wanted → (ℕ → Option ℤ) → ℕ → WordLists → ℕ → Type 0
@@ -30,9 +31,9 @@ NewDocumentsStand =
 -- Where a document is a row no more, the posting lists stay as they are, and what its postings cost is wasted.
 abbrev pub DeadDocumentsStand : Type 0
 DeadDocumentsStand =
-    (i : List ℕ) (want : Wanted) (row : ℕ → Option ℤ) (given : ℕ) (list : WordLists) (waste d : ℕ) (r : ℤ) (its : List (List ℕ × RowDocument))
-    → row d ≡ Some r → ((term : List ℕ) (x : RowDocument) → IsWordTerm term → want r term d ≡ Some x → IsIn (term, x) its)
-    → WordsStand i want row given list waste → WordsStand i want (without document_number IsWordTerm row d) given list (waste + sum_by (word_cost i) its)
+    (i : List ℕ) (want : Wanted) (row : ℕ → Option ℤ) (given : ℕ) (list : WordLists) (waste d : ℕ) (r : ℤ) (its : List (List ℕ × WordDocument))
+    → row d ≡ Some r → ((term : List ℕ) (x : WordDocument) → IsWordTerm term → want r term d ≡ Some x → IsIn (term, x) its)
+    → WordsStand i want row given list waste → WordsStand i want (without (document_number {P = ℕ}) IsWordTerm row d) given list (waste + sum_by (word_cost i) its)
 
 -- ---- the split of posting lists into rows
 
@@ -42,5 +43,5 @@ pub record HasOneSplit {D : Type 0} (number : D → ℕ) (bytes_of : List D → 
   pub one : (list : List D) (rows : List (List D)) → IsSplit number bytes_of list rows → rows ≡ greedy number bytes_of list
 
 -- computed example: where the document 2 is a row no more, the document 1 still is
-the_first_stays : without document_number IsWordTerm (λ d. Some (pos d)) 2 1 ≡ Some (pos 1)
+the_first_stays : without (document_number {P = ℕ}) IsWordTerm (λ d. Some (pos d)) 2 1 ≡ Some (pos 1)
 the_first_stays = refl

@@ -5,7 +5,7 @@ use Rattle.std.specs.Ordering.{nat_cmp}
 use Rattle.std.specs.Cmp.Lexicographic.{slice_cmp}
 use Rattle.std.specs.Coded.{Coded, coded_list, coded_ℕ}
 use Rattle.std.specs.FinMap.{FinMap, get, insert, entries, code}
-use Rattle.ct_keep.specs.SortedLaws.{seen_map}
+use Rattle.ct_base.specs.laws.SortedMaps.{seen_map}
 use Rattle.ct_entry.specs.declared.kinds.Kind.{Kind}
 use Rattle.ct_entry.specs.declared.kinds.Kind.TheVariants as kind
 use Rattle.ct_entry.specs.Keys.{Key, key}
@@ -13,13 +13,13 @@ use Rattle.ct_entry.specs.Changes.{put_value, spell}
 use Rattle.ct_entry.specs.Each.{each}
 use Rattle.ix_rows.specs.declared.growing.SpeltRow.{SpeltRow}
 use Rattle.ix_rows.specs.Spelling.{row_key}
-use Rattle.ix_rows.specs.Growing.{Growing, growing_code, nothing_yet, grown, grown_rows}
+use Rattle.ix_rows.specs.Growing.{Growing, growing_code, nothing_yet, with_grown_document, grown_rows}
 
 -- the rows of terms, in the order of the terms' bytes
-abbrev pub RowMap : Type 0
-RowMap = FinMap (slice_cmp nat_cmp) Growing
+abbrev pub TermRowsView : Type 0
+TermRowsView = FinMap (slice_cmp nat_cmp) Growing
 
-abbrev pub row_map_code : Coded RowMap
+abbrev pub row_map_code : Coded TermRowsView
 row_map_code = code (coded_list coded_ℕ) growing_code
 
 -- the rows that a term has, none where it has none yet
@@ -27,12 +27,12 @@ abbrev pub or_nothing : Option Growing → Growing
 or_nothing None = nothing_yet
 or_nothing (Some g) = g
 
-abbrev pub growing_at : RowMap → List ℕ → Growing
+abbrev pub growing_at : TermRowsView → List ℕ → Growing
 growing_at m t = or_nothing (get m t)
 
 -- a document comes to a term, with the bytes of its places
-abbrev pub with_posting : RowMap → List ℕ → ℕ → List ℕ → RowMap
-with_posting m t d places = insert m t (grown (growing_at m t) d places)
+abbrev pub with_posting : TermRowsView → List ℕ → ℕ → List ℕ → TermRowsView
+with_posting m t d places = insert m t (with_grown_document (growing_at m t) d places)
 
 -- ---- changes
 
@@ -45,7 +45,7 @@ abbrev pub row_changes : Kind → List ℕ → List ℕ → List (ℕ × List �
 row_changes kind i t rows = map (λ r. put_value (key kind i (row_key t r.0)) r.1) rows
 
 -- those of all terms, in their order
-abbrev pub row_map_changes : Kind → List ℕ → RowMap → List (Key × Option (List ℕ))
+abbrev pub row_map_changes : Kind → List ℕ → TermRowsView → List (Key × Option (List ℕ))
 row_map_changes kind i m = each (λ e. row_changes kind i e.0 (grown_rows e.1)) (entries m)
 
 -- ---- a map in memory
@@ -53,7 +53,7 @@ row_map_changes kind i m = each (λ e. row_changes kind i e.0 (grown_rows e.1)) 
 abbrev pub VecRows : Type 0
 VecRows = Vec ℕ Global × Growing
 
-abbrev pub row_map_of : List VecRows → RowMap
+abbrev pub row_map_of : List VecRows → TermRowsView
 row_map_of es = seen_map (slice_cmp nat_cmp) (λ (t : Vec ℕ Global). t.items) (λ g. g) es
 
 -- the terms with their rows, as a list

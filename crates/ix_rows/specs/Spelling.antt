@@ -12,6 +12,10 @@ use Rattle.ix_rows.specs.Posts.{Rises}
 abbrev pub row_key : List ℕ → ℕ → List ℕ
 row_key term d = term ++ document_part d
 
+-- how many bytes a row of several documents has at most
+abbrev pub row_bytes_limit : ℕ
+row_bytes_limit = 3500
+
 module _ {D : Type 0} (number : D → ℕ) where
   -- the first document of a row, by which its key ends
   abbrev pub first_document : List D → ℕ
@@ -34,14 +38,10 @@ module _ {D : Type 0} (number : D → ℕ) (bytes_of : List D → List ℕ) wher
 
   -- ---- the split of a posting list into rows
 
-  -- how many bytes a row of several documents has at most
-  abbrev pub row_limit : ℕ
-  row_limit = 3500
-
   -- a row takes documents as long as it has at most so many bytes
   abbrev pub greedy_from : List D → List D → List (List D)
   greedy_from row [] = row ∷ []
-  greedy_from row (x ∷ xs) = if nat_le (length (bytes_of (row ++ x ∷ []))) row_limit then greedy_from (row ++ x ∷ []) xs else row ∷ greedy_from (x ∷ []) xs
+  greedy_from row (x ∷ xs) = if nat_le (length (bytes_of (row ++ x ∷ []))) row_bytes_limit then greedy_from (row ++ x ∷ []) xs else row ∷ greedy_from (x ∷ []) xs
 
   -- and at least one
   abbrev pub greedy : List D → List (List D)

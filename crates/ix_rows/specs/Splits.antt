@@ -4,18 +4,18 @@ use Rattle.std.specs.Prelude.{ℕ, ◌≡◌, ◌≤◌, ◌<◌, List, [], ◌�
 use Rattle.std.proofs.Common.{◌⊎◌, inl, arith}
 use Rattle.ct_entry.specs.Lists.{EachIs}
 use Rattle.ix_posting.specs.Lists.{posting_list}
-use Rattle.ix_rows.specs.Spelling.{row_limit}
+use Rattle.ix_rows.specs.Spelling.{row_bytes_limit}
 
 module _ {D : Type 0} (number : D → ℕ) (bytes_of : List D → List ℕ) where
   -- A row has a document. It has at most so many bytes, or one document alone, since a document is in one row.
   pub record IsWithinLimit (row : List D) : Type 0 where
     pub some : 1 ≤ length row
-    pub short : (length (bytes_of row) ≤ row_limit number bytes_of) ⊎ (length row ≡ 1)
+    pub short : (length (bytes_of row) ≤ row_bytes_limit) ⊎ (length row ≡ 1)
 
   -- a row can't take the document with which the next one begins
   abbrev pub IsFullBefore : List D → List D → Type 0
   IsFullBefore row [] = ⊥
-  IsFullBefore row (x ∷ xs) = row_limit number bytes_of < length (bytes_of (row ++ x ∷ []))
+  IsFullBefore row (x ∷ xs) = row_bytes_limit < length (bytes_of (row ++ x ∷ []))
 
   -- so it is with each row but the last
   abbrev pub AreFull : List (List D) → Type 0

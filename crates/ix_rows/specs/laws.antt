@@ -4,14 +4,12 @@ pub mod Spelling
 pub mod Splits
 pub mod Growing
 pub mod Gathering
-pub mod Grown
+pub mod GrowingLists
 pub mod Stores
 pub mod Tidies
 pub mod Inverted
 pub mod Weighs
-pub mod WordRows
-pub mod SpanRows
+pub mod PlacedRows
 pub mod Puts
-pub mod Alone
 pub mod Rooms
 pub mod Scans

@@ -1,7 +1,7 @@
 //! The rows of one term, split while its documents come.
 
 ghost use Rattle.std.specs.Prelude.{◌≡◌, ◌<◌, IfOk, OnOk, map};
-ghost use Rattle.ix_rows.specs.Growing.{nothing_yet, growing_row, grown_rows, has_room, closed, with_room, taken, grown};
+ghost use Rattle.ix_rows.specs.Growing.{nothing_yet, growing_row, grown_rows, row_has_room, with_closed_row, with_room, with_last_document, with_grown_document};
 ghost use Rattle.ix_rows.specs.RowMaps.{seen_row};
 
 use ct_base::Memory;
@@ -10,7 +10,7 @@ use std::alloc::Global;
 use std::marker::Model;
 
 /// How many bytes a row of several documents has at most.
-const MOST_ROW_BYTES: usize = 3500;
+const ROW_BYTES_LIMIT: usize = 3500;
 
 /// A row as bytes, with its first document, by which its key ends.
 #[derive(Debug, Drop)]
@@ -66,9 +66,9 @@ impl GrowingRows {
         Ok(bytes)
     }
 
-    /// The row that grows is full. The memory of its bytes is used again for the next one.
+    /// Closes the row that grows: it joins the full ones, and the next begins empty, in the same memory.
     fn close(&mut self, alloc: Global) -> Result<(), Memory>
-        ensures { OnOk result (self.new ≡ closed self.old) }
+        ensures { OnOk result (self.new ≡ with_closed_row self.old) }
     {
         let bytes = self.row_bytes(alloc)?;
         self.full.push(SpeltRow {
@@ -86,15 +86,15 @@ impl GrowingRows {
     #[tactic(auto, using(ct_bytes::specs::laws::Varints::varint_length))]
     fn has_room(&self, document: u32, places: &[u8]) -> bool
         requires { self.now.last < document }
-        ensures { result ≡ has_room self.now document places.now }
+        ensures { result ≡ row_has_room self.now document places.now }
     {
         let head = varint_len(self.count + 1) + varint_len(document.saturating_sub(self.last));
         head.saturating_add(self.body.len())
             .saturating_add(places.len())
-            <= MOST_ROW_BYTES
+            <= ROW_BYTES_LIMIT
     }
 
-    /// The row that grows is full where it has a document, and no room for this one.
+    /// Closes the row that grows where it has a document, and no room for this one.
     fn make_room(&mut self, alloc: Global, document: u32, places: &[u8]) -> Result<(), Memory>
         requires { self.old.last < document }
         ensures room { OnOk result (self.new ≡ with_room self.old document places.now) }
@@ -109,7 +109,7 @@ impl GrowingRows {
     /// The row that grows has this document behind its last one.
     fn take(&mut self, document: u32, places: &[u8]) -> Result<(), Memory>
         requires { self.old.last < document }
-        ensures { OnOk result (self.new ≡ taken self.old document places.now) }
+        ensures { OnOk result (self.new ≡ with_last_document self.old document places.now) }
     {
         put_varint(&mut self.body, document.saturating_sub(self.last))?;
         self.body.extend_from_slice(places)?;
@@ -124,7 +124,7 @@ impl GrowingRows {
     /// A document comes, with the bytes of its places: how many there are, and their steps. One that isn't greater than the last one is
     /// passed over. Its cost is the length of these bytes, and now and then the length of a row.
     pub(crate) fn add(&mut self, alloc: Global, document: u32, places: &[u8]) -> Result<(), Memory>
-        ensures { OnOk result (self.new ≡ grown self.old document places.now) }
+        ensures { OnOk result (self.new ≡ with_grown_document self.old document places.now) }
     {
         if document <= self.last {
             return Ok(());
@@ -133,7 +133,7 @@ impl GrowingRows {
         self.take(document, places)
     }
 
-    /// The row that grows is full, if it has a document.
+    /// Closes the row that grows, if it has a document.
     fn finish(&mut self, alloc: Global) -> Result<(), Memory>
         ensures { OnOk result (self.new.full ≡ grown_rows self.old) }
     {
@@ -155,7 +155,7 @@ impl GrowingRows {
 
 /// The rows of a term that has one document so far.
 pub(crate) fn begun_rows(alloc: Global, document: u32, places: &[u8]) -> Result<GrowingRows, Memory>
-    ensures { IfOk result (λ rows. rows ≡ grown nothing_yet document places.now) }
+    ensures { IfOk result (λ rows. rows ≡ with_grown_document nothing_yet document places.now) }
 {
     let mut rows = GrowingRows::new(alloc);
     rows.add(alloc, document, places)?;

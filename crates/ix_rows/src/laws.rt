@@ -1,10 +1,8 @@
 //! What holds of posting lists. Each function here only states a law, which its contract proves.
 
-ghost use Rattle.ix_posting.specs.Rows.{posting_bytes};
-ghost use Rattle.ix_posting.specs.SpanRows.{span_row_bytes};
+ghost use Rattle.ix_posting.specs.Rows.{posting_bytes, span_row_bytes};
 ghost use Rattle.ix_rows.specs.Promises.{DeadDocumentsStand, HasOneSplit, NewDocumentsStand};
-ghost use Rattle.ix_rows.specs.SpanRows.{span_number};
-ghost use Rattle.ix_rows.specs.WordRows.{document_number};
+ghost use Rattle.ix_rows.specs.PlacedRows.{document_number};
 
 /// New documents behind those that an index has given leave what stands under each term, and waste nothing.
 pub fn new_documents_stand()
@@ -19,5 +17,5 @@ pub fn dead_documents_stand()
 /// A posting list of words, and one of sections, has one split into rows: each row takes documents as long as it has room, and at least one.
 pub fn lists_have_one_split()
     ensures words { HasOneSplit document_number posting_bytes }
-    ensures sections { HasOneSplit span_number span_row_bytes }
+    ensures sections { HasOneSplit document_number span_row_bytes }
 {}

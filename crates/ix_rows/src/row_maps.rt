@@ -24,9 +24,9 @@ pub struct TermRows {
 impl Model for TermRows {
     ghost use Rattle.std.specs.BTreeMap.{IsOrdered};
     ghost use Rattle.ct_keep.specs.Pairs.{byte_order};
-    ghost use Rattle.ix_rows.specs.RowMaps.{RowMap, row_map_code, row_map_of};
+    ghost use Rattle.ix_rows.specs.RowMaps.{TermRowsView, row_map_code, row_map_of};
 
-    ghost Value = { RowMap };
+    ghost Value = { TermRowsView };
 
     ghost coded = { row_map_code };
 
@@ -75,7 +75,8 @@ impl TermRows {
     /// A document comes to a term, with the bytes of its places: how many there are, and their steps. The documents of a term come in
     /// rising order; one that isn't greater than the last is passed over.
     ///
-    /// Its cost is the logarithm of the number of terms, and the length of these bytes. At an error what the term had may be lost.
+    /// Its cost is the logarithm of the number of terms, and the length of these bytes. At an error, which is want of memory, the
+    /// map may only be dropped.
     pub fn put(
         &mut self,
         alloc: Global,
@@ -96,6 +97,7 @@ impl TermRows {
     }
 
     /// Adds the changes that put the rows of all terms, in the order of their keys. No row is copied but the last of each term.
+    /// At an error the batch may have some of the changes.
     pub fn into_changes(
         self,
         alloc: Global,

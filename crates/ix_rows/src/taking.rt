@@ -1,26 +1,37 @@
-//! Rows of positions, taken as their bytes.
+//! Rows, taken as their bytes.
 
-ghost use Rattle.std.specs.Prelude.{◌≡◌, IfOk, map};
-ghost use Rattle.ix_rows.specs.WordRows.{document_number};
-ghost use Rattle.ix_rows.specs.Holding.{RowTaken, RowsTaken, last_number, begins_behind};
+ghost use Rattle.std.specs.Prelude.{◌≡◌, ◌++◌, List, IfOk, map};
+ghost use Rattle.ct_keep.specs.KeeperViews.{Finds, OnlyReads, Told};
+ghost use Rattle.ct_keep.specs.Looks.{LooksAtMost, scan_looks};
+ghost use Rattle.ct_entry.specs.Keys.{prefix_of};
+ghost use Rattle.ct_entry.specs.Listings.{owner_entries};
+ghost use Rattle.ix_posting.specs.declared.rows.RowDocument.{RowDocument};
+ghost use Rattle.ix_posting.specs.Lists.{posting_list};
+ghost use Rattle.ix_posting.specs.Rows.{DocumentsRise};
+ghost use Rattle.ix_rows.specs.PlacedRows.{document_number};
+ghost use Rattle.ix_rows.specs.Taking.{Hold, IsTaken, AreTaken, last_number, begins_behind};
 
-use ct_base::Memory;
-use ix_posting::{EncodedRow, Row, RowDocument, RowFault};
+use ct_base::{Memory, Name};
+use ct_entry::{Kind, entries_of};
+use ct_keep::{KeepFault, Keeper};
+use ix_posting::{EncodedRow, EncodedRows, Place, Row, RowDocument, RowFault};
 use std::alloc::Global;
 
 /// The number of the last document, or the one before all.
-fn last_number(documents: &[RowDocument], before: u32) -> u32
+fn last_number<P>(documents: &[RowDocument<P>], before: u32) -> u32
     ensures { result ≡ last_number document_number before documents.now }
 {
     let mut last = before;
-    for found in documents {
-        last = found.document;
+    let mut rest = documents;
+    while let [first, later @ ..] = rest {
+        last = first.document;
+        rest = later;
     }
     last
 }
 
 /// Whether the first document stands behind one.
-fn begins_behind(documents: &[RowDocument], before: u32) -> bool
+fn begins_behind<P>(documents: &[RowDocument<P>], before: u32) -> bool
     ensures { result ≡ begins_behind document_number before documents.now }
 {
     match documents {
@@ -31,14 +42,14 @@ fn begins_behind(documents: &[RowDocument], before: u32) -> bool
 
 /// The row that bytes spell, and its last document, where its first one stands behind `before`; and else None. It keeps
 /// the bytes, and nothing of what it decodes. Its cost is their length.
-fn row_behind(
+fn row_behind<P: Place>(
     alloc: Global,
     bytes: Vec<u8>,
     before: u32,
-) -> Result<Option<(EncodedRow, u32)>, Memory>
-    ensures { IfOk result (λ taken. RowTaken before bytes.items taken) }
+) -> Result<Option<(EncodedRow<P>, u32)>, Memory>
+    ensures { IfOk result (λ taken. IsTaken P.form before bytes.items taken) }
 {
-    match Row::decode(alloc, bytes.as_slice()) {
+    match Row::<P>::decode(alloc, bytes.as_slice()) {
         Ok(row) => {
             if !begins_behind(row.documents(), before) {
                 return Ok(None);
@@ -51,10 +62,13 @@ fn row_behind(
     }
 }
 
-/// The rows that the values of entries spell, where their documents rise from one row to the next; of other entries only rows that do so,
-/// which isn't said more closely. Its cost is the length of the values.
-pub fn rows_in(alloc: Global, entries: Vec<(Vec<u8>, Vec<u8>)>) -> Result<Vec<EncodedRow>, Memory>
-    ensures { IfOk result (λ rows. RowsTaken (map (λ e. (e.0.items, e.1.items)) entries.items) rows.items) }
+/// Rows that the values of entries spell. Where each value spells a row, and documents rise from one row to the next, these are all rows. Of
+/// other entries it gives some rows whose documents rise; the contract doesn't say which. Its cost is the length of the values.
+fn rows_in<P: Place>(
+    alloc: Global,
+    entries: Vec<(Vec<u8>, Vec<u8>)>,
+) -> Result<Vec<EncodedRow<P>>, Memory>
+    ensures { IfOk result (λ rows. AreTaken P.form (map (λ e. (e.0.items, e.1.items)) entries.items) rows.items) }
 {
     let mut rows = Vec::new(alloc);
     let mut last = 0;
@@ -65,4 +79,25 @@ pub fn rows_in(alloc: Global, entries: Vec<(Vec<u8>, Vec<u8>)>) -> Result<Vec<En
         }
     }
     Ok(rows)
+}
+
+/// The rows of a term of an index: those that its entries of this kind spell, as `rows_in` takes them. It takes one scan, and its cost is
+/// the length of these entries. It never answers Full.
+#[tactic(auto, using(ct_keep::specs::laws::Composing::reads_on, ct_keep::specs::laws::Composing::reads_short))]
+pub fn rows_of<P: Place, K: Keeper>(
+    alloc: Global,
+    keeper: &mut K,
+    kind: Kind,
+    index: &Name,
+    term: &[u8],
+) -> Result<EncodedRows<P>, KeepFault>
+    requires { (K.view keeper.old).ready }
+    ensures rise { IfOk result (λ rows. DocumentsRise P.form 0 (posting_list rows)) }
+    ensures rows { Finds K.view keeper.old result (λ m rows. (held : List (List (RowDocument P))) → Hold P.form (owner_entries kind index.now term.now m) held → rows ≡ held) }
+    ensures reads { OnlyReads K.view keeper.old keeper.new result }
+    ensures at_most { Told K.view keeper.old (λ m. LooksAtMost K.view keeper.old keeper.new (scan_looks (prefix_of kind index.now ++ term.now) m)) }
+{
+    let entries = entries_of(alloc, keeper, kind, index, term)?;
+    let rows = rows_in(alloc, entries)?;
+    Ok(EncodedRows::of(alloc, rows)?)
 }

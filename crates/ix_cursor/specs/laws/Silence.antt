@@ -1,9 +1,9 @@
 -- What is ruled out has no score: phrases, terms, operands, operators and sections.
-use Rattle.std.specs.Prelude.{ℕ, ◌≡◌, ◌-◌, ◌+◌, ◌/◌, ◌≤◌, min, max, nat_le, nat_lt, eqb, Bool, true, false, ◌&&◌, ◌||◌, List, [], ◌∷◌, map, length, filter, Option, Some, None, refl}
+use Rattle.std.specs.Prelude.{ℕ, ◌≡◌, ◌-◌, ◌+◌, ◌/◌, ◌≤◌, min, max, nat_le, nat_lt, eqb, Bool, true, false, ◌&&◌, List, [], ◌∷◌, map, length, filter, Option, Some, None, refl}
 use Rattle.std.proofs.Common.{◌⊎◌, inl, inr, sym, ap, subst, ◌∙◌, arith}
 use Rattle.std.specs.Bool.{if◌then◌else◌}
 use Rattle.std.specs.List.{flat_map, list_any, list_all}
-use Rattle.std.proofs.lemmas.Bool.{and_cases, and_right}
+use Rattle.std.proofs.lemmas.Bool.{and_cases, and_right, or_parts}
 use Rattle.std.proofs.Math.Nat.{zero-mul}
 use Rattle.ct_base.specs.declared.numbers.Pair.{Pair}
 use Rattle.ix_spans.specs.Occurrences.{Slots, fits_at, occurs_at, is_start, pairs_from, phrase_pairs, term_score, term_pairs, choices, is_pair_inside}
@@ -13,10 +13,6 @@ use Rattle.q_tree.specs.declared.queries.Op.TheVariants.{Or, And, Not, Minus}
 use Rattle.q_tree.specs.declared.flats.SumStep.{SumStep}
 use Rattle.q_tree.specs.Scores.{unless, operated, weighted, if_above, near_score, greatest_within, define_score}
 use Rattle.ix_cursor.specs.MayScore.{may_fit, may_occur, may_match, may_join}
-
-or_parts : (a b : Bool) → (a || b) ≡ false → (a ≡ false) × (b ≡ false)
-or_parts true b h = let wrong : true ≡ false = h in cc
-or_parts false b h = (refl, h)
 
 none_of : {X : Type 0} (xs : List X) → has_any xs ≡ false → xs ≡ []
 none_of [] h = refl

@@ -8,7 +8,7 @@ use Rattle.q_tree.specs.declared.flats.Slot.TheVariants.{Any, Takes}
 use Rattle.q_tree.specs.declared.flats.Place.TheVariants.{Zone, Field, Sentence, Paragraph}
 use Rattle.q_tree.specs.declared.queries.Op.{Op}
 use Rattle.q_tree.specs.declared.queries.Op.TheVariants.{Or, And, Not, Minus}
-use Rattle.q_tree.specs.Trees.{Reduced, Term, Joined, Weighted, Exceeding, Close, Inside, Defined}
+use Rattle.q_tree.specs.ReducedQueries.{Reduced, Term, Both, Weight, Above, Near, Within, Define}
 use Rattle.q_tree.specs.Scores.{DocPostings, score, phrase_slots, term_slots, operand_slots}
 use Rattle.q_tree.specs.Soundness.{is_between, is_phrase, is_term, is_nearness, is_place, is_sum, is_sound}
 use Rattle.ix_lists.specs.Seeking.{has_any}
@@ -18,15 +18,15 @@ use Rattle.ix_cursor.specs.laws.Silence.{no_term_score, no_near_score, no_define
 -- WHERE A QUERY MAY NOT SCORE, it doesn't
 pub unscored : (f : Reduced) (d : DocPostings) (s : ℕ) → may_score f d s ≡ false → (lo hi : ℕ) → score f d s lo hi ≡ 0
 unscored (Term phrases) d s h lo hi = no_term_score (term_slots d s phrases) lo hi h
-unscored (Joined op a b) d s h lo hi = nothing_joined op (may_score a d s) (may_score b d s) (score a d s lo hi) (score b d s lo hi) (λ k. unscored a d s k lo hi) (λ k. unscored b d s k lo hi) h
-unscored (Weighted w a) d s h lo hi = nothing_weighted w (score a d s lo hi) (unscored a d s h lo hi)
-unscored (Exceeding n a) d s h lo hi = nothing_above n (score a d s lo hi) (unscored a d s h lo hi)
-unscored (Close operands span ordered) d s h lo hi = no_near_score (operand_slots d s operands) span ordered lo hi h
-unscored (Inside (Field f) a) d s h lo hi = unscored a d f h lo hi
-unscored (Inside (Zone name) a) d s h lo hi = nothing_within (λ l h. score a d s l h) (may_score a d s) lo hi (d.spans name) (λ k l m. unscored a d s k l m) h
-unscored (Inside Sentence a) d s h lo hi = nothing_within (λ l h. score a d s l h) (may_score a d s) lo hi (d.spans (codes "sentence")) (λ k l m. unscored a d s k l m) h
-unscored (Inside Paragraph a) d s h lo hi = nothing_within (λ l h. score a d s l h) (may_score a d s) lo hi (d.spans (codes "paragraph")) (λ k l m. unscored a d s k l m) h
-unscored (Defined phrases sum) d s h lo hi = no_define_score (term_slots d s phrases) sum lo hi h
+unscored (Both op a b) d s h lo hi = nothing_joined op (may_score a d s) (may_score b d s) (score a d s lo hi) (score b d s lo hi) (λ k. unscored a d s k lo hi) (λ k. unscored b d s k lo hi) h
+unscored (Weight w a) d s h lo hi = nothing_weighted w (score a d s lo hi) (unscored a d s h lo hi)
+unscored (Above n a) d s h lo hi = nothing_above n (score a d s lo hi) (unscored a d s h lo hi)
+unscored (Near operands span ordered) d s h lo hi = no_near_score (operand_slots d s operands) span ordered lo hi h
+unscored (Within (Field f) a) d s h lo hi = unscored a d f h lo hi
+unscored (Within (Zone name) a) d s h lo hi = nothing_within (λ l h. score a d s l h) (may_score a d s) lo hi (d.spans name) (λ k l m. unscored a d s k l m) h
+unscored (Within Sentence a) d s h lo hi = nothing_within (λ l h. score a d s l h) (may_score a d s) lo hi (d.spans (codes "sentence")) (λ k l m. unscored a d s k l m) h
+unscored (Within Paragraph a) d s h lo hi = nothing_within (λ l h. score a d s l h) (may_score a d s) lo hi (d.spans (codes "paragraph")) (λ k l m. unscored a d s k l m) h
+unscored (Define phrases sum) d s h lo hi = no_define_score (term_slots d s phrases) sum lo hi h
 
 -- SO EACH DOCUMENT WITH A SCORE IS A CANDIDATE
 pub scored_may : (f : Reduced) (d : DocPostings) (s lo hi : ℕ) → 0 < score f d s lo hi → may_score f d s ≡ true
@@ -70,14 +70,14 @@ module _ (d : DocPostings) (none : (stream : ℕ) (slot : Slot) → d.positions 
   -- A SOUND QUERY MAY SCORE ONLY WHERE ONE OF ITS SLOTS HAS A POSITION
   pub nowhere : (f : Reduced) (s : ℕ) → is_sound f ≡ true → may_score f d s ≡ false
   nowhere (Term phrases) s h = no_term s phrases h
-  nowhere (Joined op a b) s h =
+  nowhere (Both op a b) s h =
       let parts = and_parts (is_sound a) (is_sound b) h in
       neither_may op (may_score a d s) (may_score b d s) (nowhere a s parts.0) (nowhere b s parts.1)
-  nowhere (Weighted w a) s h = let parts = and_parts (is_between 1 100 w) (is_sound a) h in nowhere a s parts.1
-  nowhere (Exceeding n a) s h = let parts = and_parts (nat_le n 100) (is_sound a) h in nowhere a s parts.1
-  nowhere (Close operands span ordered) s h = no_operand s operands span h
-  nowhere (Inside (Field f) a) s h = let parts = and_parts (is_place (Field f)) (is_sound a) h in nowhere a f parts.1
-  nowhere (Inside (Zone name) a) s h = let parts = and_parts (is_place (Zone name)) (is_sound a) h in and_right (has_any (d.spans name)) (may_score a d s) (nowhere a s parts.1)
-  nowhere (Inside Sentence a) s h = let parts = and_parts (is_place Sentence) (is_sound a) h in and_right (has_any (d.spans (codes "sentence"))) (may_score a d s) (nowhere a s parts.1)
-  nowhere (Inside Paragraph a) s h = let parts = and_parts (is_place Paragraph) (is_sound a) h in and_right (has_any (d.spans (codes "paragraph"))) (may_score a d s) (nowhere a s parts.1)
-  nowhere (Defined phrases sum) s h = let parts = and_parts (is_term phrases) (is_sum sum) h in no_term s phrases parts.0
+  nowhere (Weight w a) s h = let parts = and_parts (is_between 1 100 w) (is_sound a) h in nowhere a s parts.1
+  nowhere (Above n a) s h = let parts = and_parts (nat_le n 100) (is_sound a) h in nowhere a s parts.1
+  nowhere (Near operands span ordered) s h = no_operand s operands span h
+  nowhere (Within (Field f) a) s h = let parts = and_parts (is_place (Field f)) (is_sound a) h in nowhere a f parts.1
+  nowhere (Within (Zone name) a) s h = let parts = and_parts (is_place (Zone name)) (is_sound a) h in and_right (has_any (d.spans name)) (may_score a d s) (nowhere a s parts.1)
+  nowhere (Within Sentence a) s h = let parts = and_parts (is_place Sentence) (is_sound a) h in and_right (has_any (d.spans (codes "sentence"))) (may_score a d s) (nowhere a s parts.1)
+  nowhere (Within Paragraph a) s h = let parts = and_parts (is_place Paragraph) (is_sound a) h in and_right (has_any (d.spans (codes "paragraph"))) (may_score a d s) (nowhere a s parts.1)
+  nowhere (Define phrases sum) s h = let parts = and_parts (is_term phrases) (is_sum sum) h in no_term s phrases parts.0

@@ -1,5 +1,5 @@
 -- What documents begin with: the step to the document, and how many places it has.
-use Rattle.std.proofs.Common.{◌≡◌, ℕ, ◌+◌, ◌-◌, ◌<◌, ◌≤◌, ◌^◌, List, ◌++◌, length, arith}
+use Rattle.std.proofs.Common.{◌≡◌, ℕ, ◌+◌, ◌-◌, ◌<◌, ◌≤◌, ◌^◌, List, ◌++◌, length}
 use Rattle.ct_bytes.specs.Varints.{varint}
 use Rattle.ct_bytes.specs.laws.Varints.{varint_at_one}
 use Rattle.ix_posting.specs.Places.{StandsAt, IsHeadAt}
@@ -11,17 +11,12 @@ document_head before document count = varint (document - before) ++ varint count
 
 pub head_whole : (bytes : List ℕ) (before at document count next : ℕ) → IsHeadAt bytes before at document count next → StandsAt bytes at (document_head before document count) next
 head_whole bytes before at document count next is =
-    let number = varint_stands bytes at (document - before) is.mid is.number.step in
-    joined bytes at (varint (document - before)) is.mid (varint count) next number (varint_stands bytes is.mid count next is.places)
+    joined bytes at (varint (document - before)) is.mid (varint count) next is.number.stands (varint_stands bytes is.mid count next is.places)
 
 pub head_parts : (bytes : List ℕ) (before at document count next : ℕ) → before < document → document < 2 ^ 32 → 1 ≤ count → count < 2 ^ 32 → StandsAt bytes at (document_head before document count) next → IsHeadAt bytes before at document count next
 head_parts bytes before at document count next rises small some few is = record {
   mid = at + length (varint (document - before));
-  number = record {
-    rises = rises;
-    small = small;
-    step = varint_is bytes at (document - before) (at + length (varint (document - before))) (omega arith) (first_part bytes at (varint (document - before)) (varint count) next is);
-  };
+  number = record { follows = rises; alone = small; stands = first_part bytes at (varint (document - before)) (varint count) next is };
   places = varint_is bytes (at + length (varint (document - before))) count next few (second_part bytes at (varint (document - before)) (varint count) next is);
   some = some;
 }

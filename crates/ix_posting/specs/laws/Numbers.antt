@@ -1,10 +1,10 @@
--- Rising numbers as items.
-use Rattle.std.proofs.Common.{◌≡◌, ℕ, ◌+◌, ◌-◌, ◌<◌, ◌^◌, List, [], ◌∷◌, length, refl, arith}
-use Rattle.ct_bytes.specs.Varints.{varint}
+-- Numbers as places.
+use Rattle.std.proofs.Common.{◌≡◌, ℕ, ◌+◌, ◌-◌, ◌<◌, ◌^◌, List, [], ◌∷◌, length, arith}
+use Rattle.std.specs.Coded.{coded_ℕ}
+use Rattle.ct_bytes.specs.Varints.{IsVarintAt}
 use Rattle.ct_bytes.specs.laws.Varints.{varint_at_one}
-use Rattle.ix_posting.specs.Rows.{Rise}
-use Rattle.ix_posting.specs.Places.{IsNumberAt, AreNumbersAt, steps_bytes}
-use Rattle.ix_posting.specs.laws.Items.{AreItems, items_of}
+use Rattle.ix_posting.specs.Forms.{Rise, number_form}
+use Rattle.ix_posting.specs.Places.{IsForm, IsPlaceAt}
 use Rattle.ix_posting.specs.laws.Standing.{varint_stands, varint_is}
 
 -- numbers that rise below 2 ^ 32 are fewer than those after the first of them
@@ -12,19 +12,16 @@ pub few_rise : (before : ℕ) (ns : List ℕ) → before < 2 ^ 32 → Rise befor
 few_rise before [] small rise = omega arith
 few_rise before (n ∷ ns) small rise = let rest = few_rise n ns rise.1 rise.2 in omega (arith, rise.0)
 
-pub number_alone : (bytes : List ℕ) (before at n i m j : ℕ) → IsNumberAt bytes before at n i → IsNumberAt bytes before at m j → (n ≡ m) × (i ≡ j)
-number_alone bytes before at n i m j first second =
-    let same = varint_at_one bytes at (n - before) i (m - before) j first.step second.step in
-    (omega (arith, same.0, first.rises, second.rises), same.1)
+pub step_of : (bytes : List ℕ) (before at n next : ℕ) → IsPlaceAt number_form bytes before at n next → IsVarintAt bytes at (n - before) next
+step_of bytes before at n next is = varint_is bytes at (n - before) next (omega (arith, is.alone)) is.stands
 
-pub numbers : (bytes : List ℕ) → AreItems (IsNumberAt bytes) (AreNumbersAt bytes) (λ n. n)
-numbers bytes = items_of (IsNumberAt bytes) Rise steps_bytes (λ before n. varint (n - before)) (λ n. n) bytes record {
-  none = λ before. tt;
-  no_bytes = λ before. refl;
-  more_bytes = λ before n ns. refl;
-  stands = λ before at n next is. varint_stands bytes at (n - before) next is.step;
-  rises = λ before at n next ns is others. (is.rises, is.small, others);
-  one = λ before at n next ns rise stands. record { rises = rise.0; small = rise.1; step = varint_is bytes at (n - before) next (omega (arith, rise.1)) stands };
-  others = λ before n ns rise. rise.2;
-  alone = number_alone bytes;
-}
+pub number_is : (bytes : List ℕ) (before at n next : ℕ) → before < n → n < 2 ^ 32 → IsVarintAt bytes at (n - before) next → IsPlaceAt number_form bytes before at n next
+number_is bytes before at n next follows small step = record { follows = follows; alone = small; stands = varint_stands bytes at (n - before) next step }
+
+pub number_alone : (bytes : List ℕ) (before at n i m j : ℕ) → IsPlaceAt number_form bytes before at n i → IsPlaceAt number_form bytes before at m j → (n ≡ m) × (i ≡ j)
+number_alone bytes before at n i m j first second =
+    let same = varint_at_one bytes at (n - before) i (m - before) j (step_of bytes before at n i first) (step_of bytes before at m j second) in
+    (omega (arith, same.0, first.follows, second.follows), same.1)
+
+pub numbers_are_read : IsForm number_form
+numbers_are_read = record { one = number_alone; code = coded_ℕ }

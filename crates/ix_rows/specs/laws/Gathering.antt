@@ -12,7 +12,7 @@ use Rattle.ct_bytes.specs.Varints.{varint}
 use Rattle.std.proofs.lemmas.Bool.{and_parts, and_from, le-leb}
 use Rattle.std.proofs.lemmas.Cmp.{nat_list_cmp_total, tied_itself}
 use Rattle.ct_base.specs.laws.Bools.{T_from_true}
-use Rattle.ct_keep.specs.RisingKeys.{below, rises, entries_rise, sorted_from_rises}
+use Rattle.ct_keep.specs.laws.RisingKeys.{below, rises, entries_rise, sorted_from_rises}
 use Rattle.ct_entry.specs.declared.kinds.Kind.{Kind}
 use Rattle.ct_entry.specs.Keys.{Key, same_list}
 use Rattle.ct_entry.specs.Each.{each, is_any_of, numbered}
@@ -22,8 +22,8 @@ use Rattle.ct_entry.specs.laws.Keys.{list_from_same}
 use Rattle.ct_entry.specs.laws.Maps.{names_tie, get_name-insert}
 use Rattle.ix_rows.specs.Posts.{Rises}
 use Rattle.ix_rows.specs.Spelling.{greedy}
-use Rattle.ix_rows.specs.Growing.{Growing, nothing_yet, grown, grown_all, grown_rows, taken, with_room}
-use Rattle.ix_rows.specs.RowMaps.{RowMap, or_nothing, growing_at, with_posting, row_changes, row_map_changes}
+use Rattle.ix_rows.specs.Growing.{Growing, nothing_yet, with_grown_document, grown_all, grown_rows, with_last_document, with_room}
+use Rattle.ix_rows.specs.RowMaps.{TermRowsView, or_nothing, growing_at, with_posting, row_changes, row_map_changes}
 use Rattle.ix_rows.specs.Gathering.{Having, terms_of, gathered_list, gathered_rows, with_document, with_documents}
 use Rattle.ix_rows.specs.laws.Spelling.{put_row, add_changes}
 use Rattle.ix_rows.specs.laws.Growing.{steps_of, spelt_row, grown_is_greedy}
@@ -52,36 +52,37 @@ pub terms_apart : {X : Type 0} (has : Having X) (rows : List ℤ) → AreApart (
 terms_apart has rows = keys_apart (Unit {0}) (entries (from_entries (map (λ t. (t, tt)) (flat_map (λ r. keys (has r)) rows)))) (entries_rise (slice_cmp nat_cmp) (from_entries (map (λ t. (t, tt)) (flat_map (λ r. keys (has r)) rows))))
 
 -- a document that came doesn't come again
-again : (g : Growing) (d : ℕ) (p q : List ℕ) → grown (grown g d p) d q ≡ grown g d p
+again : (g : Growing) (d : ℕ) (p q : List ℕ) → with_grown_document (with_grown_document g d p) d q ≡ with_grown_document g d p
 again g d p q = go (nat_le d g.last) refl
   where
-    go : (b : Bool) → nat_le d g.last ≡ b → grown (if b then g else taken (with_room g d p) d p) d q ≡ (if b then g else taken (with_room g d p) d p)
-    go true is = ap (λ (b : Bool). if b then g else taken (with_room g d q) d q) is
-    go false is = let made = taken (with_room g d p) d p in ap (λ (b : Bool). if b then made else taken (with_room made d q) d q) (le-leb d d (omega arith))
+    go : (b : Bool) → nat_le d g.last ≡ b → with_grown_document (if b then g else with_last_document (with_room g d p) d p) d q ≡ (if b then g else with_last_document (with_room g d p) d p)
+    go true is = ap (λ (b : Bool). if b then g else with_last_document (with_room g d q) d q) is
+    go false is = let made = with_last_document (with_room g d p) d p in ap (λ (b : Bool). if b then made else with_last_document (with_room made d q) d q) (le-leb d d (omega arith))
 
 -- what a term has after a document, by what the document has under it
 abbrev after_found : ℕ → Option (List ℕ) → Option Growing → Option Growing
 after_found d None o = o
-after_found d (Some p) o = Some (grown (or_nothing o) d p)
+after_found d (Some p) o = Some (with_grown_document (or_nothing o) d p)
 
 abbrev found_in : List ℕ → List (List ℕ × List ℕ) → Option (List ℕ)
 found_in t es = find (slice_cmp nat_cmp) t es
 
-pub get-with_document : (t : List ℕ) (d : ℕ) (es : List (List ℕ × List ℕ)) (m : RowMap) → get (with_document m d es) t ≡ after_found d (found_in t es) (get m t)
+pub get-with_document : (t : List ℕ) (d : ℕ) (es : List (List ℕ × List ℕ)) (m : TermRowsView) → get (with_document m d es) t ≡ after_found d (found_in t es) (get m t)
 get-with_document t d [] m = refl
 get-with_document t d (e ∷ es) m =
     get-with_document t d es (with_posting m e.0 d e.1)
-    ∙ ap (after_found d (found_in t es)) (get_name-insert m e.0 (grown (growing_at m e.0) d e.1) t)
+    ∙ ap (after_found d (found_in t es)) (get_name-insert m e.0 (with_grown_document (growing_at m e.0) d e.1) t)
     ∙ go (same_list t e.0) refl
   where
-    once : (o : Option (List ℕ)) → after_found d o (Some (grown (or_nothing (get m t)) d e.1)) ≡ Some (grown (or_nothing (get m t)) d e.1)
+    once : (o : Option (List ℕ)) → after_found d o (Some (with_grown_document (or_nothing (get m t)) d e.1)) ≡ Some (with_grown_document (or_nothing (get m t)) d e.1)
     once None = refl
     once (Some q) = ap Some (again (or_nothing (get m t)) d e.1 q)
 
-    go : (b : Bool) → same_list t e.0 ≡ b → after_found d (found_in t es) (cond b (Some (grown (growing_at m e.0) d e.1)) (get m t)) ≡ after_found d (cond (eq_by_cmp (slice_cmp nat_cmp) t e.0) (Some e.1) (found_in t es)) (get m t)
+    go : (b : Bool) → same_list t e.0 ≡ b
+        → after_found d (found_in t es) (cond b (Some (with_grown_document (growing_at m e.0) d e.1)) (get m t)) ≡ after_found d (cond (eq_by_cmp (slice_cmp nat_cmp) t e.0) (Some e.1) (found_in t es)) (get m t)
     go true is =
         let same : e.0 ≡ t = sym (list_from_same t e.0 is) in
-        ap (λ (l : List ℕ). after_found d (found_in t es) (Some (grown (growing_at m l) d e.1))) same
+        ap (λ (l : List ℕ). after_found d (found_in t es) (Some (with_grown_document (growing_at m l) d e.1))) same
         ∙ once (found_in t es)
         ∙ sym (ap (λ (b : Bool). after_found d (cond b (Some e.1) (found_in t es)) (get m t)) (names_tie t e.0 ∙ is))
     go false is = sym (ap (λ (b : Bool). after_found d (cond b (Some e.1) (found_in t es)) (get m t)) (names_tie t e.0 ∙ is))
@@ -91,17 +92,17 @@ module _ {D X : Type 0} (number : D → ℕ) (places : D → List ℕ) (made : �
   -- what a term has after these documents
   abbrev after_all : Option Growing → List D → Option Growing
   after_all o [] = o
-  after_all o (x ∷ xs) = after_all (Some (grown (or_nothing o) (number x) (places x))) xs
+  after_all o (x ∷ xs) = after_all (Some (with_grown_document (or_nothing o) (number x) (places x))) xs
 
   after_some : (g : Growing) (xs : List D) → after_all (Some g) xs ≡ Some (grown_all number places g xs)
   after_some g [] = refl
-  after_some g (x ∷ xs) = after_some (grown g (number x) (places x)) xs
+  after_some g (x ∷ xs) = after_some (with_grown_document g (number x) (places x)) xs
 
   module _ (bytes_of : List D → List ℕ) (has : Having X) (its : ℤ → List (List ℕ × List ℕ)) (its_so : (r : ℤ) (t : List ℕ) → found_in t (its r) ≡ option_map place_bytes (get (has r) t)) where
     abbrev list_at : List (ℕ × ℤ) → List ℕ → List D
     list_at ps t = gathered_list number bytes_of made has ps t
 
-    get-with_documents : (t : List ℕ) (ps : List (ℕ × ℤ)) (m : RowMap) → get (with_documents its m ps) t ≡ after_all (get m t) (list_at ps t)
+    get-with_documents : (t : List ℕ) (ps : List (ℕ × ℤ)) (m : TermRowsView) → get (with_documents its m ps) t ≡ after_all (get m t) (list_at ps t)
     get-with_documents t [] m = refl
     get-with_documents t (p ∷ ps) m =
         get-with_documents t ps (with_document m p.0 (its p.1))
@@ -111,7 +112,7 @@ module _ {D X : Type 0} (number : D → ℕ) (places : D → List ℕ) (made : �
         go : (o : Option X) → after_all (after_found p.0 (option_map place_bytes o) (get m t)) (list_at ps t) ≡ after_all (get m t) (cons_option (option_map (made p.0) o) (list_at ps t))
         go None = refl
         go (Some x) = ap (λ (g : Growing). after_all (Some g) (list_at ps t))
-            (ap (λ (n : ℕ). grown (or_nothing (get m t)) n (place_bytes x)) (sym (made_so p.0 x)) ∙ ap (grown (or_nothing (get m t)) (number (made p.0 x))) (sym (places_so p.0 x)))
+            (ap (λ (n : ℕ). with_grown_document (or_nothing (get m t)) n (place_bytes x)) (sym (made_so p.0 x)) ∙ ap (with_grown_document (or_nothing (get m t)) (number (made p.0 x))) (sym (places_so p.0 x)))
 
     abbrev begun : List D → Option Growing
     begun [] = None
@@ -122,7 +123,7 @@ module _ {D X : Type 0} (number : D → ℕ) (places : D → List ℕ) (made : �
       where
         go : (xs : List D) → after_all None xs ≡ begun xs
         go [] = refl
-        go (x ∷ xs) = after_some (grown nothing_yet (number x) (places x)) xs
+        go (x ∷ xs) = after_some (with_grown_document nothing_yet (number x) (places x)) xs
 
     -- ---- the terms
 
@@ -202,7 +203,8 @@ module _ {D X : Type 0} (number : D → ℕ) (places : D → List ℕ) (made : �
         both [] = refl
         both (e ∷ es) = ap (λ (l : List (List ℕ × Growing)). (e.0, grown_all number places nothing_yet (list_at ps e.0)) ∷ l) (both es)
 
-    find_each : (t : List ℕ) (ts : List (List ℕ)) (ps : List (ℕ × ℤ)) → find (slice_cmp nat_cmp) t (with_each ts ps) ≡ cond (is_any_of t ts) (Some (grown_all number places nothing_yet (list_at ps t))) None
+    find_each : (t : List ℕ) (ts : List (List ℕ)) (ps : List (ℕ × ℤ))
+        → find (slice_cmp nat_cmp) t (with_each ts ps) ≡ cond (is_any_of t ts) (Some (grown_all number places nothing_yet (list_at ps t))) None
     find_each t [] ps = refl
     find_each t (u ∷ ts) ps = ap (λ (b : Bool). cond b (Some (grown_all number places nothing_yet (list_at ps u))) (find (slice_cmp nat_cmp) t (with_each ts ps))) (names_tie t u) ∙ go (same_list t u) refl (find_each t ts ps)
       where
@@ -214,7 +216,8 @@ module _ {D X : Type 0} (number : D → ℕ) (places : D → List ℕ) (made : �
     each_sorted : (d : ℕ) (rows : List ℤ) → T (is_sorted (slice_cmp nat_cmp) (with_each (terms_of has rows) (numbered d rows)))
     each_sorted d rows = T_from_true _ (sorted_from_rises (slice_cmp nat_cmp) (with_each (terms_of has rows) (numbered d rows)) (with_each_rises (numbered d rows) (from_entries (map unit_of (flat_map (λ r. keys (has r)) rows)))))
 
-    gathered_at : (d : ℕ) (rows : List ℤ) (t : List ℕ) → get (with_documents its empty (numbered d rows)) t ≡ get (from_sorted {R = slice_cmp nat_cmp} (with_each (terms_of has rows) (numbered d rows))) t
+    gathered_at : (d : ℕ) (rows : List ℤ) (t : List ℕ)
+        → get (with_documents its empty (numbered d rows)) t ≡ get (from_sorted {R = slice_cmp nat_cmp} (with_each (terms_of has rows) (numbered d rows))) t
     gathered_at d rows t =
         get-gathered t (numbered d rows)
         ∙ go (list_at (numbered d rows) t) refl (any_list t d rows ∙ sym (term_there t rows))
@@ -242,7 +245,8 @@ module _ {D X : Type 0} (number : D → ℕ) (places : D → List ℕ) (made : �
           → row_map_changes kind i (with_documents its empty (numbered d rows)) ≡ add_changes number bytes_of kind i (gathered_rows number bytes_of made has (numbered d rows) (terms_of has rows))
       gathered_changes d rows up = ap (λ (es : List (List ℕ × Growing)). each (λ (e : List ℕ × Growing). row_changes kind i e.0 (grown_rows e.1)) es) (entries_gathered d rows) ∙ go (terms_of has rows)
         where
-          go : (ts : List (List ℕ)) → each (λ (e : List ℕ × Growing). row_changes kind i e.0 (grown_rows e.1)) (with_each ts (numbered d rows)) ≡ add_changes number bytes_of kind i (gathered_rows number bytes_of made has (numbered d rows) ts)
+          go : (ts : List (List ℕ))
+              → each (λ (e : List ℕ × Growing). row_changes kind i e.0 (grown_rows e.1)) (with_each ts (numbered d rows)) ≡ add_changes number bytes_of kind i (gathered_rows number bytes_of made has (numbered d rows) ts)
           go [] = refl
           go (t ∷ ts) =
               ap (λ (ws : List (Key × Option (List ℕ))). ws ++ each (λ (e : List ℕ × Growing). row_changes kind i e.0 (grown_rows e.1)) (with_each ts (numbered d rows)))

@@ -7,9 +7,9 @@ use Rattle.std.proofs.lemmas.List.{length-append}
 use Rattle.ct_bytes.specs.Varints.{varint, varint_in}
 use Rattle.ct_bytes.specs.laws.Varints.{varint_last, varint_more}
 use Rattle.ix_rows.specs.Posts.{Rises}
-use Rattle.ix_rows.specs.Holding.{last_number}
-use Rattle.ix_rows.specs.Spelling.{row_limit, first_document, greedy_from, greedy}
-use Rattle.ix_rows.specs.Growing.{Growing, nothing_yet, not_begun, growing_row, grown_rows, most_row_bytes, has_room, closed, with_room, taken, grown, grown_all}
+use Rattle.ix_rows.specs.Taking.{last_number}
+use Rattle.ix_rows.specs.Spelling.{row_bytes_limit, first_document, greedy_from, greedy}
+use Rattle.ix_rows.specs.Growing.{Growing, nothing_yet, not_begun, growing_row, grown_rows, row_has_room, with_closed_row, with_room, with_last_document, with_grown_document, grown_all}
 
 -- a greater number takes no fewer bytes
 varint_in_grows : (more m n : ℕ) → m ≤ n → length (varint_in more m) ≤ length (varint_in more n)
@@ -67,8 +67,8 @@ module _ {D : Type 0} (number : D → ℕ) (places : D → List ℕ) where
     rows_so : (rows : List (List D)) (x : D) (xs : List D) → grown_rows (kept rows (x ∷ xs)) ≡ map spelt_row (rows ++ (x ∷ xs) ∷ [])
     rows_so rows x xs = ap (λ (b : Bool). if b then map spelt_row rows else map spelt_row rows ++ growing_row (kept rows (x ∷ xs)) ∷ []) (not_none x xs) ∙ full_so rows x xs
 
-    room_so : (rows : List (List D)) (row : List D) (x : D) → has_room (kept rows row) (number x) (places x) ≡ nat_le (length (bytes_of (row ++ x ∷ []))) (row_limit number bytes_of)
-    room_so rows row x = ap (λ (n : ℕ). nat_le n most_row_bytes) (sym same)
+    room_so : (rows : List (List D)) (row : List D) (x : D) → row_has_room (kept rows row) (number x) (places x) ≡ nat_le (length (bytes_of (row ++ x ∷ []))) row_bytes_limit
+    room_so rows row x = ap (λ (n : ℕ). nat_le n row_bytes_limit) (sym same)
       where
         body : steps_of 0 (row ++ x ∷ []) ≡ steps_of 0 row ++ (varint (number x - last_number number 0 row) ++ places x)
         body = steps_of-append 0 row (x ∷ []) ∙ ap (λ (l : List ℕ). steps_of 0 row ++ l) (steps_of-one (last_number number 0 row) x)
@@ -82,7 +82,7 @@ module _ {D : Type 0} (number : D → ℕ) (places : D → List ℕ) where
             let one = length-append (varint (number x - last_number number 0 row)) (places x) in
             omega (arith, whole, parts, inner, one)
 
-    taken_so : (rows : List (List D)) (y : D) (ys : List D) (x : D) → taken (kept rows (y ∷ ys)) (number x) (places x) ≡ kept rows ((y ∷ ys) ++ x ∷ [])
+    taken_so : (rows : List (List D)) (y : D) (ys : List D) (x : D) → with_last_document (kept rows (y ∷ ys)) (number x) (places x) ≡ kept rows ((y ∷ ys) ++ x ∷ [])
     taken_so rows y ys x = ap first_or (not_none y ys) ∙ λ j. record {
       full = map spelt_row rows;
       first = number y;
@@ -107,32 +107,33 @@ module _ {D : Type 0} (number : D → ℕ) (places : D → List ℕ) where
         body = sym (steps_of-append 0 (y ∷ ys) (x ∷ []) ∙ ap (λ (l : List ℕ). steps_of 0 (y ∷ ys) ++ l) (steps_of-one (last_number number 0 (y ∷ ys)) x))
 
     -- the first document of a row
-    begun_so : (rows : List (List D)) (x : D) → taken (not_begun (map spelt_row rows)) (number x) (places x) ≡ kept rows (x ∷ [])
+    begun_so : (rows : List (List D)) (x : D) → with_last_document (not_begun (map spelt_row rows)) (number x) (places x) ≡ kept rows (x ∷ [])
     begun_so rows x = ap (λ (b : List ℕ). record { full = map spelt_row rows; first = number x; last = number x; count = 1; body = b }) (sym (steps_of-one 0 x))
 
-    closed_so : (rows : List (List D)) (y : D) (ys : List D) → closed (kept rows (y ∷ ys)) ≡ not_begun (map spelt_row (rows ++ (y ∷ ys) ∷ []))
+    closed_so : (rows : List (List D)) (y : D) (ys : List D) → with_closed_row (kept rows (y ∷ ys)) ≡ not_begun (map spelt_row (rows ++ (y ∷ ys) ∷ []))
     closed_so rows y ys = ap not_begun (full_so rows y ys)
 
     -- ONE DOCUMENT MORE: it joins the row that grows, or begins the next one
     grown_so : (rows : List (List D)) (y : D) (ys : List D) (x : D) → last_number number 0 (y ∷ ys) < number x
-        → grown (kept rows (y ∷ ys)) (number x) (places x)
-        ≡ (if nat_le (length (bytes_of ((y ∷ ys) ++ x ∷ []))) (row_limit number bytes_of) then kept rows ((y ∷ ys) ++ x ∷ []) else kept (rows ++ (y ∷ ys) ∷ []) (x ∷ []))
+        → with_grown_document (kept rows (y ∷ ys)) (number x) (places x)
+        ≡ (if nat_le (length (bytes_of ((y ∷ ys) ++ x ∷ []))) row_bytes_limit then kept rows ((y ∷ ys) ++ x ∷ []) else kept (rows ++ (y ∷ ys) ∷ []) (x ∷ []))
     grown_so rows y ys x up =
-        ap (λ (b : Bool). if b then kept rows (y ∷ ys) else taken (with_room (kept rows (y ∷ ys)) (number x) (places x)) (number x) (places x)) (lt-leb (number x) (last_number number 0 (y ∷ ys)) up)
-        ∙ ap (λ (b : Bool). taken (if b || has_room (kept rows (y ∷ ys)) (number x) (places x) then kept rows (y ∷ ys) else closed (kept rows (y ∷ ys))) (number x) (places x)) (not_none y ys)
-        ∙ ap (λ (b : Bool). taken (if b then kept rows (y ∷ ys) else closed (kept rows (y ∷ ys))) (number x) (places x)) (room_so rows (y ∷ ys) x)
-        ∙ go (nat_le (length (bytes_of ((y ∷ ys) ++ x ∷ []))) (row_limit number bytes_of))
+        ap (λ (b : Bool). if b then kept rows (y ∷ ys) else with_last_document (with_room (kept rows (y ∷ ys)) (number x) (places x)) (number x) (places x)) (lt-leb (number x) (last_number number 0 (y ∷ ys)) up)
+        ∙ ap (λ (b : Bool). with_last_document (if b || row_has_room (kept rows (y ∷ ys)) (number x) (places x) then kept rows (y ∷ ys) else with_closed_row (kept rows (y ∷ ys))) (number x) (places x)) (not_none y ys)
+        ∙ ap (λ (b : Bool). with_last_document (if b then kept rows (y ∷ ys) else with_closed_row (kept rows (y ∷ ys))) (number x) (places x)) (room_so rows (y ∷ ys) x)
+        ∙ go (nat_le (length (bytes_of ((y ∷ ys) ++ x ∷ []))) row_bytes_limit)
       where
-        go : (b : Bool) → taken (if b then kept rows (y ∷ ys) else closed (kept rows (y ∷ ys))) (number x) (places x) ≡ (if b then kept rows ((y ∷ ys) ++ x ∷ []) else kept (rows ++ (y ∷ ys) ∷ []) (x ∷ []))
+        go : (b : Bool)
+            → with_last_document (if b then kept rows (y ∷ ys) else with_closed_row (kept rows (y ∷ ys))) (number x) (places x) ≡ (if b then kept rows ((y ∷ ys) ++ x ∷ []) else kept (rows ++ (y ∷ ys) ∷ []) (x ∷ []))
         go true = taken_so rows y ys x
-        go false = ap (λ (g : Growing). taken g (number x) (places x)) (closed_so rows y ys) ∙ begun_so (rows ++ (y ∷ ys) ∷ []) x
+        go false = ap (λ (g : Growing). with_last_document g (number x) (places x)) (closed_so rows y ys) ∙ begun_so (rows ++ (y ∷ ys) ∷ []) x
 
     all_so : (rows : List (List D)) (y : D) (ys xs : List D) → Rises number (last_number number 0 (y ∷ ys)) xs
         → grown_rows (grown_all number places (kept rows (y ∷ ys)) xs) ≡ map spelt_row (rows ++ greedy_from number bytes_of (y ∷ ys) xs)
     all_so rows y ys [] up = rows_so rows y ys
     all_so rows y ys (x ∷ xs) up =
         ap (λ (g : Growing). grown_rows (grown_all number places g xs)) (grown_so rows y ys x up.0)
-        ∙ go (nat_le (length (bytes_of ((y ∷ ys) ++ x ∷ []))) (row_limit number bytes_of))
+        ∙ go (nat_le (length (bytes_of ((y ∷ ys) ++ x ∷ []))) row_bytes_limit)
         (all_so rows y (ys ++ x ∷ []) xs (subst (λ (n : ℕ). Rises number n xs) (sym (last-append 0 (y ∷ ys) x)) up.2))
         (all_so (rows ++ (y ∷ ys) ∷ []) x [] xs up.2 ∙ ap (map spelt_row) (append_assoc rows ((y ∷ ys) ∷ []) (greedy_from number bytes_of (x ∷ []) xs)))
       where
@@ -148,7 +149,7 @@ module _ {D : Type 0} (number : D → ℕ) (places : D → List ℕ) where
     grown_is_greedy [] up = refl
     grown_is_greedy (x ∷ xs) up =
         ap (λ (g : Growing). grown_rows (grown_all number places g xs))
-        (ap (λ (b : Bool). if b then nothing_yet else taken nothing_yet (number x) (places x)) (lt-leb (number x) 0 up.0) ∙ begun_so [] x)
+        (ap (λ (b : Bool). if b then nothing_yet else with_last_document nothing_yet (number x) (places x)) (lt-leb (number x) 0 up.0) ∙ begun_so [] x)
         ∙ all_so [] x [] xs up.2
 
     -- ---- one document more takes bytes

@@ -16,7 +16,8 @@ module _ {D : Type 0} (number : D → ℕ) (IsTerm : List ℕ → Type 0) (want 
   inverted_rises term [] given before low room = tt
   inverted_rises term (r ∷ rs) given before low room = go (want r term (given + 1)) refl (λ b h. inverted_rises term rs (given + 1) b h (omega (arith, room)))
     where
-      go : (o : Option D) → want r term (given + 1) ≡ o → ((b : ℕ) → b ≤ given + 1 → Rises number b (inverted term (numbered (given + 1 + 1) rs))) → Rises number before (cons_option o (inverted term (numbered (given + 1 + 1) rs)))
+      go : (o : Option D) → want r term (given + 1) ≡ o → ((b : ℕ) → b ≤ given + 1 → Rises number b (inverted term (numbered (given + 1 + 1) rs)))
+          → Rises number before (cons_option o (inverted term (numbered (given + 1 + 1) rs)))
       go None is rest = rest before (omega (arith, low))
       go (Some x) is rest = let n = numbered_so r term (given + 1) x is in (omega (arith, n, low), omega (arith, n, room), rest (number x) (omega (arith, n)))
 
@@ -38,7 +39,8 @@ module _ {D : Type 0} (number : D → ℕ) (IsTerm : List ℕ → Type 0) (want 
           at false e is = later (rest is)
 
   -- and under each of them is what its row has
-  inverted_exact : (term : List ℕ) (rows : List ℤ) (row : ℕ → Option ℤ) (given d : ℕ) (r : ℤ) → given < d → row d ≡ None → with_rows given rows row d ≡ Some r → posting number d (inverted term (numbered (given + 1) rows)) ≡ want r term d
+  inverted_exact : (term : List ℕ) (rows : List ℤ) (row : ℕ → Option ℤ) (given d : ℕ) (r : ℤ) → given < d → row d ≡ None
+      → with_rows given rows row d ≡ Some r → posting number d (inverted term (numbered (given + 1) rows)) ≡ want r term d
   inverted_exact term [] row given d r high free is = let wrong : None ≡ Some r = sym free ∙ is in cc
   inverted_exact term (s ∷ rs) row given d r high free is = go (d == given + 1) refl is (λ h k. inverted_exact term rs row (given + 1) d r h free k)
     where
@@ -53,7 +55,8 @@ module _ {D : Type 0} (number : D → ℕ) (IsTerm : List ℕ → Type 0) (want 
       here None w e = none_later e
       here (Some y) w e = let n = numbered_so s term (given + 1) y w in ap (λ (b : Bool). cond b (Some y) (posting number d (inverted term (numbered (given + 1 + 1) rs)))) (eq-eqb d (number y) (e ∙ sym n))
 
-      there : (o : Option D) → want s term (given + 1) ≡ o → (d ≡ given + 1 → ⊥) → posting number d (cons_option o (inverted term (numbered (given + 1 + 1) rs))) ≡ posting number d (inverted term (numbered (given + 1 + 1) rs))
+      there : (o : Option D) → want s term (given + 1) ≡ o → (d ≡ given + 1 → ⊥)
+          → posting number d (cons_option o (inverted term (numbered (given + 1 + 1) rs))) ≡ posting number d (inverted term (numbered (given + 1 + 1) rs))
       there None w e = refl
       there (Some y) w e = let n = numbered_so s term (given + 1) y w in ap (λ (b : Bool). cond b (Some y) (posting number d (inverted term (numbered (given + 1 + 1) rs)))) (ne_eqb d (number y) (λ same. e (same ∙ n)))
 
@@ -82,7 +85,8 @@ module _ {D : Type 0} (number : D → ℕ) (IsTerm : List ℕ → Type 0) (want 
       go false e rest = rest (let apart : d ≡ given + 1 → ⊥ = λ h. let wrong : true ≡ false = sym (eq-eqb d (given + 1) h) ∙ e in cc in omega (arith, high, apart))
 
   -- A SYNCHRONISATION'S POSTINGS ARE NEW
-  pub inverted_new : (row : ℕ → Option ℤ) (given : ℕ) (rows : List ℤ) (news : List ℕ → List D) → ((d : ℕ) → given < d → row d ≡ None) → ((term : List ℕ) → IsTerm term → news term ≡ inverted term (numbered (given + 1) rows))
+  pub inverted_new : (row : ℕ → Option ℤ) (given : ℕ) (rows : List ℤ) (news : List ℕ → List D) → ((d : ℕ) → given < d → row d ≡ None)
+      → ((term : List ℕ) → IsTerm term → news term ≡ inverted term (numbered (given + 1) rows))
       → AreNew number IsTerm want row (with_rows given rows row) given (given + length rows) news
   inverted_new row given rows news free same = record {
     more = omega arith;

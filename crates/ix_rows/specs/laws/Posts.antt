@@ -32,7 +32,8 @@ module _ {D : Type 0} (number : D → ℕ) where
   posting-append d [] ys = refl
   posting-append d (x ∷ xs) ys = go (d == number x) (posting-append d xs ys)
     where
-      go : (b : Bool) → posting number d (xs ++ ys) ≡ option_or (posting number d xs) (posting number d ys) → cond b (Some x) (posting number d (xs ++ ys)) ≡ option_or (cond b (Some x) (posting number d xs)) (posting number d ys)
+      go : (b : Bool) → posting number d (xs ++ ys) ≡ option_or (posting number d xs) (posting number d ys)
+          → cond b (Some x) (posting number d (xs ++ ys)) ≡ option_or (cond b (Some x) (posting number d xs)) (posting number d ys)
       go true rest = refl
       go false rest = rest
 

@@ -33,7 +33,9 @@ module _ {D : Type 0} (number : D → ℕ) (bytes_of : List D → List ℕ) (IsR
   none_added given rows [] t h = refl
   none_added given rows (u ∷ ts) t h = go (same_list t u) refl h (none_added given rows ts t)
     where
-      go : (b : Bool) → same_list t u ≡ b → (b || is_any_of t ts) ≡ false → (is_any_of t ts ≡ false → added number bytes_of kind i (put_of given rows ts) t ≡ []) → added number bytes_of kind i (put_of given rows (u ∷ ts)) t ≡ []
+      go : (b : Bool) → same_list t u ≡ b → (b || is_any_of t ts) ≡ false
+          → (is_any_of t ts ≡ false → added number bytes_of kind i (put_of given rows ts) t ≡ [])
+          → added number bytes_of kind i (put_of given rows (u ∷ ts)) t ≡ []
       go true e h rest = cc
       go false e h rest = ap (λ (b : Bool). cond b (greedy number bytes_of (news_of given rows u) ++ added number bytes_of kind i (put_of given rows ts) t) (added number bytes_of kind i (put_of given rows ts) t)) e ∙ rest h
 
@@ -49,7 +51,8 @@ module _ {D : Type 0} (number : D → ℕ) (bytes_of : List D → List ℕ) (IsR
   nil [] = refl
   nil (x ∷ xs) = ap (λ (l : List (List D)). x ∷ l) (nil xs)
 
-  added_of : (given : ℕ) (rows : List ℤ) (ts : List (List ℕ)) (t : List ℕ) → AreApart ts → added number bytes_of kind i (put_of given rows ts) t ≡ cond (is_any_of t ts) (greedy number bytes_of (news_of given rows t)) []
+  added_of : (given : ℕ) (rows : List ℤ) (ts : List (List ℕ)) (t : List ℕ) → AreApart ts
+      → added number bytes_of kind i (put_of given rows ts) t ≡ cond (is_any_of t ts) (greedy number bytes_of (news_of given rows t)) []
   added_of given rows [] t apart = refl
   added_of given rows (u ∷ ts) t apart = go (same_list t u) refl (added_of given rows ts t apart.1)
     where

@@ -88,7 +88,8 @@ module _ {D : Type 0} (number : D → ℕ) (bytes_of : List D → List ℕ) wher
   abbrev FoundRow : List (List D) → ℕ → List ℕ → Type 0
   FoundRow rows d value = (row : List D) × IsIn row rows × (d ≡ first_document number row) × (value ≡ bytes_of row)
 
-  found : (rows : List (List D)) (d : ℕ) (value : List ℕ) (old : Option (List ℕ)) → latest (λ row. d == first_document number row) (λ row. Some (bytes_of row)) rows old ≡ Some value → FoundRow rows d value ⊎ (old ≡ Some value)
+  found : (rows : List (List D)) (d : ℕ) (value : List ℕ) (old : Option (List ℕ))
+      → latest (λ row. d == first_document number row) (λ row. Some (bytes_of row)) rows old ≡ Some value → FoundRow rows d value ⊎ (old ≡ Some value)
   found [] d value old is = inr is
   found (row ∷ rows) d value old is = elim (found rows d value (cond (d == first_document number row) (Some (bytes_of row)) old) is) [
     | inl f ↦ inl (f.0, inr f.1, f.2, f.3)
@@ -147,7 +148,8 @@ module _ {D : Type 0} (number : D → ℕ) (bytes_of : List D → List ℕ) (IsR
         let inside = sum_by-each-le (λ n. sum_by weigh (of_owner (λ (b : Row). b.0) weigh c.list n)) (λ i. sum_by (cost i) (its i) + waste i) names (λ n h. at_name n c.list c.apart (λ b k. let x = c.each b k in (x.2.2, x.2.3))) in
         omega (arith, c.sum, owners, inside)
       where
-        at_name : (n : List ℕ) (bs : List Row) → AreApart bs → ((b : Row) → IsIn b bs → IsTerm b.1.0 × IsIn b.1.1 (rows b.0 b.1.0)) → sum_by weigh (of_owner (λ (b : Row). b.0) weigh bs n) ≤ sum_by (cost n) (its n) + waste n
+        at_name : (n : List ℕ) (bs : List Row) → AreApart bs → ((b : Row) → IsIn b bs → IsTerm b.1.0 × IsIn b.1.1 (rows b.0 b.1.0))
+            → sum_by weigh (of_owner (λ (b : Row). b.0) weigh bs n) ≤ sum_by (cost n) (its n) + waste n
         at_name n bs apart stored =
             let own = of_owner (λ (b : Row). b.0) weigh bs n in
             let of_n : (b : Row) → IsIn b own → (n ≡ b.0) × IsIn b bs = λ b h. let p = in_filter (λ (b : Row). same_list n b.0) b bs h in (list_from_same n b.0 p.1, p.0) in

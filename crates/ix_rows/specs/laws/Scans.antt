@@ -7,7 +7,7 @@ use Rattle.std.specs.FinMap.{entries, find, from_sorted, get-from_sorted, entrie
 use Rattle.std.proofs.Common.{sym, ap, subst, ◌∙◌, inl, arith, append_assoc}
 use Rattle.ct_keep.specs.Content.{Content}
 use Rattle.ct_keep.specs.Tail.{tail}
-use Rattle.ct_keep.specs.RisingKeys.{below, rises, sorted_from_rises}
+use Rattle.ct_keep.specs.laws.RisingKeys.{below, rises, sorted_from_rises}
 use Rattle.ct_base.specs.laws.Bools.{T_from_true, same_tests}
 use Rattle.std.proofs.lemmas.Bool.{and_from, eqb-true, eq-eqb, ne_eqb}
 use Rattle.ct_entry.specs.declared.kinds.Kind.{Kind}
@@ -95,7 +95,8 @@ module _ {D : Type 0} (number : D → ℕ) (bytes_of : List D → List ℕ) wher
   documents_first [] all d row h = cc
   documents_first (r ∷ rows) all d row h = go (eq_by_cmp nat_cmp d (first_document number r)) refl h (documents_first rows all.1 d row)
     where
-      go : (b : Bool) → eq_by_cmp nat_cmp d (first_document number r) ≡ b → cond b (Some r) (find nat_cmp d (by_first rows)) ≡ Some row → (find nat_cmp d (by_first rows) ≡ Some row → IsDocument d) → IsDocument d
+      go : (b : Bool) → eq_by_cmp nat_cmp d (first_document number r) ≡ b → cond b (Some r) (find nat_cmp d (by_first rows)) ≡ Some row
+          → (find nat_cmp d (by_first rows) ≡ Some row → IsDocument d) → IsDocument d
       go true e is rest = subst IsDocument (sym (nat_cmp-IsAntisymmetric d (first_document number r) (equal_from_test _ e))) all.0
       go false e is rest = rest is
 

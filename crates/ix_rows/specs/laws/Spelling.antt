@@ -65,7 +65,8 @@ module _ {D : Type 0} (number : D → ℕ) (bytes_of : List D → List ℕ) wher
         one : same_key (key kind i (row_key t d)) (key kind i (row_key term (first_document number row))) ≡ (same_list t term && (d == first_document number row))
         one = same_kind kind i i (row_key t d) (row_key term (first_document number row)) ∙ ap (λ (b : Bool). b && same_list (row_key t d) (row_key term (first_document number row))) (list_same i) ∙ row_keys_tie t term d (first_document number row) document firsts.0
 
-        either : (a b : Bool) → cond a (latest (λ row. d == first_document number row) value rows (cond (a && b) (value row) old)) (cond (a && b) (value row) old) ≡ cond a (latest (λ row. d == first_document number row) value rows (cond b (value row) old)) old
+        either : (a b : Bool)
+            → cond a (latest (λ row. d == first_document number row) value rows (cond (a && b) (value row) old)) (cond (a && b) (value row) old) ≡ cond a (latest (λ row. d == first_document number row) value rows (cond b (value row) old)) old
         either true b = refl
         either false b = refl
 
@@ -88,7 +89,8 @@ module _ {D : Type 0} (number : D → ℕ) (bytes_of : List D → List ℕ) wher
         ∙ told_added es t d (cond (same_list t e.0) (latest (λ row. d == first_document number row) (λ row. Some (bytes_of row)) e.1 old) old) firsts.1 document
         ∙ either (same_list t e.0)
       where
-        either : (b : Bool) → latest (λ row. d == first_document number row) (λ row. Some (bytes_of row)) (added es t) (cond b (latest (λ row. d == first_document number row) (λ row. Some (bytes_of row)) e.1 old) old)
+        either : (b : Bool)
+            → latest (λ row. d == first_document number row) (λ row. Some (bytes_of row)) (added es t) (cond b (latest (λ row. d == first_document number row) (λ row. Some (bytes_of row)) e.1 old) old)
             ≡ latest (λ row. d == first_document number row) (λ row. Some (bytes_of row)) (cond b (e.1 ++ added es t) (added es t)) old
         either true = sym (latest-append (λ row. d == first_document number row) (λ row. Some (bytes_of row)) e.1 (added es t) old)
         either false = refl
@@ -112,7 +114,8 @@ module _ {D : Type 0} (number : D → ℕ) (bytes_of : List D → List ℕ) wher
     abbrev pub renewed : (List ℕ → List (List D)) → List ℕ → List (List D) → List ℕ → List (List D)
     renewed rows term news t = cond (same_list t term) news (rows t)
 
-    pub rows_renewed : (IsTerm : List ℕ → Type 0) (f : Key → Option (List ℕ)) (rows : List ℕ → List (List D)) (term : List ℕ) (news : List (List D)) → EachIs (HasFirst number) (rows term) → EachIs (HasFirst number) news
+    pub rows_renewed : (IsTerm : List ℕ → Type 0) (f : Key → Option (List ℕ)) (rows : List ℕ → List (List D)) (term : List ℕ) (news : List (List D))
+        → EachIs (HasFirst number) (rows term) → EachIs (HasFirst number) news
         → RowsSpelled number bytes_of IsTerm f kind i rows → RowsSpelled number bytes_of IsTerm (view (renew_changes term (rows term) news) f) kind i (renewed rows term news)
     rows_renewed IsTerm f rows term news olds firsts stand = record {
       spelled = λ t d is document.

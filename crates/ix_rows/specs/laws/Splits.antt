@@ -7,13 +7,13 @@ use Rattle.std.proofs.lemmas.List.{length-append}
 use Rattle.ct_entry.specs.Lists.{IsIn, EachIs}
 use Rattle.ct_entry.specs.laws.Lists.{in_left, in_right}
 use Rattle.ix_posting.specs.Lists.{posting_list}
-use Rattle.ix_rows.specs.Spelling.{row_limit, greedy_from, greedy}
+use Rattle.ix_rows.specs.Spelling.{row_bytes_limit, greedy_from, greedy}
 use Rattle.ix_rows.specs.Splits.{IsWithinLimit, AreFull, IsSplit}
 use Rattle.ix_rows.specs.laws.Spelling.{posting_list-greedy}
 
 module _ {D : Type 0} (number : D → ℕ) (bytes_of : List D → List ℕ) where
   abbrev limit : ℕ
-  limit = row_limit number bytes_of
+  limit = row_bytes_limit
 
   abbrev Within : List D → Type 0
   Within = IsWithinLimit number bytes_of
@@ -33,7 +33,9 @@ module _ {D : Type 0} (number : D → ℕ) (bytes_of : List D → List ℕ) wher
       (λ fits. fits_from (row ++ x ∷ []) xs (record { some = (let long = length-append row (x ∷ []) in omega (arith, long)); short = inl (leb-true _ _ fits) }))
       (fits_from (x ∷ []) xs (record { some = omega arith; short = inr refl }))
     where
-      go : (b : Bool) → nat_le (length (bytes_of (row ++ x ∷ []))) limit ≡ b → (nat_le (length (bytes_of (row ++ x ∷ []))) limit ≡ true → EachIs Within (split_from (row ++ x ∷ []) xs)) → EachIs Within (split_from (x ∷ []) xs)
+      go : (b : Bool) → nat_le (length (bytes_of (row ++ x ∷ []))) limit ≡ b
+          → (nat_le (length (bytes_of (row ++ x ∷ []))) limit ≡ true → EachIs Within (split_from (row ++ x ∷ []) xs))
+          → EachIs Within (split_from (x ∷ []) xs)
           → EachIs Within (if b then split_from (row ++ x ∷ []) xs else row ∷ split_from (x ∷ []) xs)
       go true e more here = more e
       go false e more here = (is, here)
@@ -124,7 +126,8 @@ module _ {D : Type 0} (number : D → ℕ) (bytes_of : List D → List ℕ) wher
 
   -- ---- rows of the split are short, where each document is by itself
 
-  pub each_short : (most : ℕ) → limit ≤ most → (xs : List D) → ((x : D) → IsIn x xs → length (bytes_of (x ∷ [])) ≤ most) → EachIs (λ (row : List D). length (bytes_of row) ≤ most) (greedy number bytes_of xs)
+  pub each_short : (most : ℕ) → limit ≤ most → (xs : List D) → ((x : D) → IsIn x xs → length (bytes_of (x ∷ [])) ≤ most)
+      → EachIs (λ (row : List D). length (bytes_of row) ≤ most) (greedy number bytes_of xs)
   each_short most low xs small = go (greedy number bytes_of xs) (greedy_is_split xs).within (λ x h. small x (subst (IsIn x) (posting_list-greedy number bytes_of xs) h))
     where
       one : (row : List D) → length row ≡ 1 → ((x : D) → IsIn x row → length (bytes_of (x ∷ [])) ≤ most) → length (bytes_of row) ≤ most

@@ -3,20 +3,13 @@ use Rattle.std.specs.Prelude.{ℕ, ℤ, ◌≡◌, ◌==◌, ◌+◌, ◌≤◌,
 use Rattle.std.specs.Option.{option_or}
 use Rattle.std.proofs.Common.{sym, ap, subst, ◌∙◌, inl, inr, ◌⊎◌, arith, leb}
 use Rattle.std.proofs.lemmas.Bool.{eqb-true, leb-true, leb-false}
-use Rattle.ct_entry.specs.Lists.{IsIn, AreApart}
+use Rattle.ct_entry.specs.Lists.{IsIn}
 use Rattle.ct_entry.specs.laws.Lists.{in_filter, apart_filter, sum_by-parts, sum_by-within}
 use Rattle.ix_rows.specs.Posts.{posting}
 use Rattle.ix_rows.specs.laws.Posts.{posting-append, posting-filter, posting_in}
 use Rattle.ix_rows.specs.Stored.{IsStray, CostAtMost, ListsStand}
 
 module _ {D : Type 0} (number : D → ℕ) (IsTerm : List ℕ → Type 0) where
-  -- where all strays are listed, that is to say that the sum over these is no more
-  pub cost_of_all : (cost : List ℕ × D → ℕ) (row : ℕ → Option ℤ) (list : List ℕ → List D) (waste : ℕ) (all : List (List ℕ × D)) → ((s : List ℕ × D) → IsStray number IsTerm row list s → IsIn s all) → sum_by cost all ≤ waste → CostAtMost number IsTerm cost row list waste
-  cost_of_all cost row list waste all listed bound ss apart each = let within = sum_by-within cost ss all apart (λ s h. listed s (each s h)) in omega (arith, within, bound)
-
-  pub sum_of_all : (cost : List ℕ × D → ℕ) (row : ℕ → Option ℤ) (list : List ℕ → List D) (waste : ℕ) (all : List (List ℕ × D)) → AreApart all → ((s : List ℕ × D) → IsIn s all → IsStray number IsTerm row list s) → CostAtMost number IsTerm cost row list waste → sum_by cost all ≤ waste
-  sum_of_all cost row list waste all apart strays bound = bound all apart strays
-
   -- ---- (iii) what is put differently stands as before: only the lists matter
   pub lists_again : (cost : List ℕ × D → ℕ) (want : ℤ → List ℕ → ℕ → Option D) (row : ℕ → Option ℤ) (given : ℕ) (list list' : List ℕ → List D) (waste : ℕ)
       → ((term : List ℕ) → list' term ≡ list term) → ListsStand number IsTerm cost want row given list waste → ListsStand number IsTerm cost want row given list' waste

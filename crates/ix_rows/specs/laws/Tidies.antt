@@ -14,7 +14,7 @@ use Rattle.ix_rows.specs.Posts.{Rises}
 use Rattle.ix_rows.specs.Spelling.{AreRows, greedy, greedy_from}
 use Rattle.ix_rows.specs.laws.Spelling.{HasFirst, renew_changes, renewed, posting_list-greedy}
 use Rattle.ix_rows.specs.Stores.{Tidiness, Untidy, Packed, Clean, StoreStands, IsTidy}
-use Rattle.ix_rows.specs.laws.Stores.{store_renewed, store_packed, store_clean}
+use Rattle.ix_rows.specs.laws.Stores.{store_renewed}
 use Rattle.std.specs.Bool.{if◌then◌else◌}
 use Rattle.std.proofs.lemmas.List.{length-append}
 
@@ -39,7 +39,8 @@ module _ {D : Type 0} (number : D → ℕ) (bytes_of : List D → List ℕ) (IsR
     abbrev Stands : (Key → Option (List ℕ)) → (List ℕ → List (List D)) → Type 0
     Stands f rows = StoreStands number bytes_of IsRow IsTerm cost f kind i want row given tidiness waste rows
 
-    pub store_renewed_all : (keep : ℕ → Bool) → ((d : ℕ) (r : ℤ) → row d ≡ Some r → keep d ≡ true) → (olds news : List ℕ → List (List D)) → (ts : List (List ℕ)) → AreApart ts → ((t : List ℕ) → IsIn t ts → Renews row tidiness keep (olds t) (news t))
+    pub store_renewed_all : (keep : ℕ → Bool) → ((d : ℕ) (r : ℤ) → row d ≡ Some r → keep d ≡ true) → (olds news : List ℕ → List (List D))
+        → (ts : List (List ℕ)) → AreApart ts → ((t : List ℕ) → IsIn t ts → Renews row tidiness keep (olds t) (news t))
         → (f : Key → Option (List ℕ)) (rows : List ℕ → List (List D)) → ((t : List ℕ) → IsIn t ts → rows t ≡ olds t) → Stands f rows → Stands (view (renew_all kind i olds news ts) f) (renewed_all rows news ts)
     store_renewed_all keep mapped olds news [] apart ok f rows same stand = stand
     store_renewed_all keep mapped olds news (t ∷ ts) apart ok f rows same stand =
@@ -184,27 +185,8 @@ module _ {D : Type 0} (number : D → ℕ) (bytes_of : List D → List ℕ) (IsR
     tidy_rows keep = renewed_all number bytes_of IsRow IsTerm cost rows (λ t. kept keep (rows t)) ts
 
     -- OF SOME TERMS: tidiness and waste stay (an optimisation with a limit)
-    pub some_terms : (keep : ℕ → Bool) → ((d : ℕ) (r : ℤ) → row d ≡ Some r → keep d ≡ true) → StoreStands number bytes_of IsRow IsTerm cost (view (tidy_batch keep) f) kind i want row given tidiness waste (tidy_rows keep)
+    pub some_terms : (keep : ℕ → Bool) → ((d : ℕ) (r : ℤ) → row d ≡ Some r → keep d ≡ true)
+        → StoreStands number bytes_of IsRow IsTerm cost (view (tidy_batch keep) f) kind i want row given tidiness waste (tidy_rows keep)
     some_terms keep mapped =
         store_renewed_all number bytes_of IsRow IsTerm cost kind i want row given tidiness waste keep mapped rows (λ t. kept keep (rows t)) ts apart
         (λ t h. renews row tidiness keep (rows t) (stand.are t (terms t h)) (stand.tidy t (terms t h))) f rows (λ t h. refl) stand
-
-    module _ (others : (t : List ℕ) → IsTerm t → is_any_of t ts ≡ false → rows t ≡ []) where
-      at_term : (T : Tidiness) (keep : ℕ → Bool) → Tidy T row [] → ((olds : List (List D)) → Tidy T row (kept keep olds)) → (t : List ℕ) → IsTerm t → Tidy T row (tidy_rows keep t)
-      at_term T keep none each t is = go (is_any_of t ts) refl
-        where
-          go : (b : Bool) → is_any_of t ts ≡ b → Tidy T row (cond b (kept keep (rows t)) (rows t))
-          go true h = each (rows t)
-          go false h = subst (Tidy T row) (sym (others t is h)) none
-
-      -- OF ALL TERMS, all documents: packed
-      pub all_packed : StoreStands number bytes_of IsRow IsTerm cost (view (tidy_batch (λ d. true)) f) kind i want row given Packed waste (tidy_rows (λ d. true))
-      all_packed =
-          store_packed number bytes_of IsRow IsTerm cost (view (tidy_batch (λ d. true)) f) kind i want row given tidiness waste (tidy_rows (λ d. true)) (some_terms (λ d. true) (λ d r is. refl))
-          (at_term Packed (λ d. true) refl (λ olds. packed (λ d. true) olds))
-
-      -- OF ALL TERMS, the documents that are rows: clean, and nothing is wasted
-      pub all_clean : StoreStands number bytes_of IsRow IsTerm cost (view (tidy_batch (λ d. is_some (row d))) f) kind i want row given Clean 0 (tidy_rows (λ d. is_some (row d)))
-      all_clean =
-          store_clean number bytes_of IsRow IsTerm cost (view (tidy_batch (λ d. is_some (row d))) f) kind i want row given tidiness waste (tidy_rows (λ d. is_some (row d))) (some_terms (λ d. is_some (row d)) (λ d r is. ap is_some is))
-          (at_term Clean (λ d. is_some (row d)) (refl, λ x h. absurd h) (kept_clean row))

@@ -5,7 +5,7 @@ use Rattle.ix_lists.proofs.Passing.{next_row, within, past, first_more, first_of
 use Rattle.ix_lists.proofs.postings.seek.Goals as goal
 
 pub returns-in-Some-clause-left : goal.returns-in-Some-clause-left
-returns-in-Some-clause-left c =
+returns-in-Some-clause-left g c =
     let i = c.loop-i.i in
     let row = c.in_ok-decode.field-0 in
     let rest = posting_list (drop (i + 1) c.args.rows.now) in
@@ -13,7 +13,7 @@ returns-in-Some-clause-left c =
     sym (within c.args.to (drop c.in-Some.next row) row rest c.in-Some.ensures.some.0 c.in-Some.ensures.some.1) ∙ ap (from_on c.args.to) (sym at) ∙ c.loop-i.invariant
 
 pub returns-in-Some-clause-first : goal.returns-in-Some-clause-first
-returns-in-Some-clause-first c d =
+returns-in-Some-clause-first g c d =
     let i = c.loop-i.i in
     let row = c.in_ok-decode.field-0 in
     let rest = posting_list (drop (i + 1) c.args.rows.now) in
@@ -22,10 +22,10 @@ returns-in-Some-clause-first c d =
     ∙ ap (λ ds. first_places ds d) (sym (within c.args.to (drop c.in-Some.next row) row rest c.in-Some.ensures.some.0 c.in-Some.ensures.some.1) ∙ ap (from_on c.args.to) (sym at) ∙ c.loop-i.invariant)
 
 pub returns-in-Some-clause-shown : goal.returns-in-Some-clause-shown
-returns-in-Some-clause-shown c = first_of_all (drop c.in-Some.next c.in_ok-decode.field-0) (posting_list (drop (c.loop-i.i + 1) c.args.rows.now)) c.in-Some.ensures.some.1
+returns-in-Some-clause-shown g c = first_of_all (drop c.in-Some.next c.in_ok-decode.field-0) (posting_list (drop (c.loop-i.i + 1) c.args.rows.now)) c.in-Some.ensures.some.1
 
 pub loop-i-preserved : goal.loop-i-preserved
-loop-i-preserved c =
+loop-i-preserved g c =
     let i = c.loop-i.i in
     let row = c.in_ok-decode.field-0 in
     let rest = posting_list (drop (i + 1) c.args.rows.now) in

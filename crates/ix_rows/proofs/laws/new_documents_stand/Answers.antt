@@ -1,4 +1,5 @@
-use Rattle.ix_rows.specs.WordRows.{document_number, IsWordTerm, word_cost}
+use Rattle.ix_rows.specs.PlacedRows.{document_number}
+use Rattle.ix_rows.specs.WordRows.{IsWordTerm, word_cost}
 use Rattle.ix_rows.specs.laws.Stored.{lists_added}
 use Rattle.ix_rows.proofs.laws.new_documents_stand.Goals as goal
 

@@ -1,10 +1,8 @@
 use Rattle.std.proofs.Common.{◌≡◌, List, ℕ, [], ◌∷◌, Vec, map, ap, subst, ◌∙◌, arith}
 use Rattle.std.specs.declared.alloc.Global.{Global}
 use Rattle.std.proofs.lemmas.Grind.{common_steps}
-use Rattle.ix_posting.specs.Rows.{DocumentsRise, IsPostingRow, posting_bytes}
-use Rattle.ix_rows.specs.WordRows.{document_number}
-use Rattle.ix_rows.specs.Holding.{RowTaken}
-use Rattle.ix_rows.proofs.TakeSteps.{SoFar, begun, taken, passed, ended, row_laws}
+use Rattle.ix_rows.specs.Taking.{IsTaken}
+use Rattle.ix_rows.proofs.TakeSteps.{SoFar, begun, taken, passed, ended}
 use Rattle.ix_rows.proofs.taking.rows_in.Goals.{in-Some-2+in_ok-push, in_default}
 use Rattle.ix_rows.proofs.taking.rows_in.Goals as goal
 
@@ -12,24 +10,24 @@ abbrev pairs_of : List (Vec ℕ Global × Vec ℕ Global) → List (List ℕ × 
 pairs_of es = map (λ e. (e.0.items, e.1.items)) es
 
 pub loop-value-init : goal.loop-value-init
-loop-value-init c = begun document_number DocumentsRise IsPostingRow posting_bytes row_laws _ _ _ (ap pairs_of c.into_iter-value-iterator.ensures.into_iter_gives.0) c.new-rows.ensures.items
+loop-value-init g c = begun g.P.Place.form _ _ _ (ap pairs_of c.into_iter-value-iterator.ensures.into_iter_gives.0) c.new-rows.ensures.items
 
 pub loop-value-preserved : goal.loop-value-preserved
-loop-value-preserved c =
+loop-value-preserved g c =
     let es = pairs_of c.args.entries.items in
-    let far : SoFar document_number DocumentsRise IsPostingRow posting_bytes es (pairs_of ((c.in-Some.field-0-0, c.in-Some.value) ∷ c.next.new.self.rest.items)) c.loop-value.rows.items c.loop-value.last =
-    subst (λ (l : List (Vec ℕ Global × Vec ℕ Global)). SoFar document_number DocumentsRise IsPostingRow posting_bytes es (pairs_of l) c.loop-value.rows.items c.loop-value.last) c.in-Some.ensures.steps.0 c.loop-value.invariant in
+    let far : SoFar g.P.Place.form es (pairs_of ((c.in-Some.field-0-0, c.in-Some.value) ∷ c.next.new.self.rest.items)) c.loop-value.rows.items c.loop-value.last =
+    subst (λ (l : List (Vec ℕ Global × Vec ℕ Global)). SoFar g.P.Place.form es (pairs_of l) c.loop-value.rows.items c.loop-value.last) c.in-Some.ensures.steps.0 c.loop-value.invariant in
     let rest = pairs_of c.next.new.self.rest.items in
     elim c.match-branch-2.branch [
       | in-Some-2+in_ok-push w ↦
-          taken document_number DocumentsRise IsPostingRow posting_bytes row_laws es rest (c.in-Some.field-0-0.items, c.in-Some.value.items) c.loop-value.rows.items c.match-branch-2.rows.items c.loop-value.last w.in-Some-2.row w.in-Some-2.end c.match-branch-2.last
-          far (subst (RowTaken c.loop-value.last c.in-Some.value.items) w.in-Some-2.is c.in_ok-row.ensures) (ap (λ v. v.items) w.rows-is ∙ w.in_ok-push.ensures.items) w.last-is
+          taken g.P.Place.form es rest (c.in-Some.field-0-0.items, c.in-Some.value.items) c.loop-value.rows.items c.match-branch-2.rows.items c.loop-value.last w.in-Some-2.row w.in-Some-2.end c.match-branch-2.last
+          far (subst (IsTaken g.P.Place.form c.loop-value.last c.in-Some.value.items) w.in-Some-2.is c.in_ok-row.ensures) (ap (λ v. v.items) w.rows-is ∙ w.in_ok-push.ensures.items) w.last-is
       | in_default w ↦
-          passed document_number DocumentsRise IsPostingRow posting_bytes row_laws es rest (c.in-Some.field-0-0.items, c.in-Some.value.items) c.loop-value.rows.items c.match-branch-2.rows.items c.loop-value.last c.match-branch-2.last
-          far (subst (RowTaken c.loop-value.last c.in-Some.value.items) w.in_default.is c.in_ok-row.ensures) (ap (λ v. v.items) w.rows-is) w.last-is
+          passed g.P.Place.form es rest (c.in-Some.field-0-0.items, c.in-Some.value.items) c.loop-value.rows.items c.match-branch-2.rows.items c.loop-value.last c.match-branch-2.last
+          far (subst (IsTaken g.P.Place.form c.loop-value.last c.in-Some.value.items) w.in_default.is c.in_ok-row.ensures) (ap (λ v. v.items) w.rows-is) w.last-is
     ]
 
 pub returns : goal.returns
-returns c =
+returns g c =
     let none : c.loop-value.value-iterator.rest.items ≡ [] = grind (arith, common_steps, c.in-None.ensures) in
-    ended document_number DocumentsRise IsPostingRow posting_bytes row_laws _ _ _ _ c.loop-value.invariant (ap pairs_of none)
+    ended g.P.Place.form _ _ _ _ c.loop-value.invariant (ap pairs_of none)

@@ -1,7 +1,7 @@
 use Rattle.std.proofs.Common.{rules, ℕ, ◌≡◌, ◌≤◌, false, ◌∙◌, ◌&&◌, ap, sym}
 use Rattle.ix_cursor.proofs.Silent.{silent_node}
 use Rattle.ix_lists.specs.Seeking.{has_any}
-use Rattle.ix_lists.specs.SpanDocuments.{pairs_at}
+use Rattle.ix_lists.specs.Documents.{places_at}
 use Rattle.ix_cursor.specs.declared.feeds.SpanFeed.{SpanFeed}
 use Rattle.ix_cursor.specs.Nodes.{score_at, may_at}
 use Rattle.ix_cursor.proofs.Bounds.{and_bound}
@@ -9,13 +9,13 @@ use Rattle.ix_cursor.proofs.Within.{greatest_kept, may_kept}
 use Rattle.ix_cursor.proofs.nodes.Node.+skip.Goals as goal
 
 pub skip_parts-returns-in_ok-second-in-Within-clause-scores : goal.skip_parts-returns-in_ok-second-in-Within-clause-scores
-skip_parts-returns-in_ok-second-in-Within-clause-scores t c d lo hi le = rw c.in-Within.is (greatest_kept _ (λ l h. score_at c.in-Within.a.value d l h) lo hi _ (pairs_at c.in-Within.section.value.documents d)
-    (c.in_ok-first-in-Within.ensures.keeps d le ∙ ap (λ (f : SpanFeed). pairs_at f.documents d) c.deref_mut-in-Within.ensures.value)
+skip_parts-returns-in_ok-second-in-Within-clause-scores t c d lo hi le = rw c.in-Within.is (greatest_kept _ (λ l h. score_at c.in-Within.a.value d l h) lo hi _ (places_at c.in-Within.section.value.documents d)
+    (c.in_ok-first-in-Within.ensures.keeps d le ∙ ap (λ (f : SpanFeed). places_at f.documents d) c.deref_mut-in-Within.ensures.value)
     (λ l h. c.in_ok-second-in-Within.ensures.scores d l h le ∙ ap (λ n. score_at n d l h) c.deref_mut-in-Within-2.ensures.value))
 
 pub skip_parts-returns-in_ok-second-in-Within-clause-documents : goal.skip_parts-returns-in_ok-second-in-Within-clause-documents
-skip_parts-returns-in_ok-second-in-Within-clause-documents t c d le = rw c.in-Within.is (may_kept _ (pairs_at c.in-Within.section.value.documents d) _ (may_at c.in-Within.a.value d)
-    (c.in_ok-first-in-Within.ensures.keeps d le ∙ ap (λ (f : SpanFeed). pairs_at f.documents d) c.deref_mut-in-Within.ensures.value)
+skip_parts-returns-in_ok-second-in-Within-clause-documents t c d le = rw c.in-Within.is (may_kept _ (places_at c.in-Within.section.value.documents d) _ (may_at c.in-Within.a.value d)
+    (c.in_ok-first-in-Within.ensures.keeps d le ∙ ap (λ (f : SpanFeed). places_at f.documents d) c.deref_mut-in-Within.ensures.value)
     (c.in_ok-second-in-Within.ensures.documents d le ∙ ap (λ n. may_at n d) c.deref_mut-in-Within-2.ensures.value))
 
 pub skip_parts-returns-in_ok-second-in-Within-clause-bound : goal.skip_parts-returns-in_ok-second-in-Within-clause-bound

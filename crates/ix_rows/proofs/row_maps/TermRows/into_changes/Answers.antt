@@ -4,7 +4,7 @@ use Rattle.ct_entry.specs.Changes.{spell}
 use Rattle.ct_entry.specs.Each.{each}
 use Rattle.ct_entry.specs.laws.Changes.{spell-append}
 use Rattle.ix_rows.specs.Growing.{Growing, grown_rows}
-use Rattle.ix_rows.specs.RowMaps.{RowMap, VecRows, row_changes, row_map_changes, seen_row, seen_terms}
+use Rattle.ix_rows.specs.RowMaps.{TermRowsView, VecRows, row_changes, row_map_changes, seen_row, seen_terms}
 use Rattle.ix_rows.proofs.MapSteps.{entries-row_map}
 use Rattle.ix_rows.proofs.row_maps.TermRows.into_changes.Goals as goal
 
@@ -34,4 +34,4 @@ returns c =
     ∙ c.loop-term.invariant
     ∙ ap (λ (l : List VecRows). c.args.batch.now ++ spell (changes (seen_terms l))) c.into_iter-term-iterator.ensures.into_iter_gives.0
     ∙ ap (λ (l : List (List ℕ × Growing)). c.args.batch.now ++ spell (changes l)) (sym (entries-row_map all c.self.invariant))
-    ∙ ap (λ (m : RowMap). c.args.batch.now ++ spell (row_map_changes c.args.kind c.args.index.now m)) c.self.view_is
+    ∙ ap (λ (m : TermRowsView). c.args.batch.now ++ spell (row_map_changes c.args.kind c.args.index.now m)) c.self.view_is

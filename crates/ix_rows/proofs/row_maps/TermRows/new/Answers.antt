@@ -2,7 +2,7 @@ use Rattle.std.proofs.Common.{ℕ, Vec, ap, ◌∙◌}
 use Rattle.std.specs.declared.alloc.Global.{Global}
 use Rattle.std.specs.Ordering.{nat_cmp}
 use Rattle.std.specs.Cmp.Lexicographic.{slice_cmp}
-use Rattle.ct_keep.specs.SortedLaws.{seen-none}
+use Rattle.ct_base.specs.laws.SortedMaps.{seen-none}
 use Rattle.ix_rows.specs.Growing.{Growing}
 use Rattle.ix_rows.specs.RowMaps.{row_map_of}
 use Rattle.ix_rows.proofs.row_maps.TermRows.new.Goals as goal

@@ -1,7 +1,0 @@
-use Rattle.std.proofs.Common.{◌≡◌, drop}
-use Rattle.ix_posting.specs.Lists.{posting_list}
-use Rattle.ix_lists.specs.SpanDocuments.{span_from_on}
-use Rattle.ix_lists.proofs.span_postings.seek.Given as goal
-
-abbrev pub invariant-loop-i : goal.invariant-loop-i
-invariant-loop-i l = span_from_on l.to (posting_list (drop l.i l.rows)) ≡ span_from_on l.to (posting_list (drop l.taken l.rows))

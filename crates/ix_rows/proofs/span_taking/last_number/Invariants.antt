@@ -1,7 +1,0 @@
-use Rattle.std.proofs.Common.{◌≡◌, drop}
-use Rattle.ix_rows.specs.SpanRows.{span_number}
-use Rattle.ix_rows.specs.Holding.{last_number}
-use Rattle.ix_rows.proofs.span_taking.last_number.Given as goal
-
-abbrev pub invariant-loop-found : goal.invariant-loop-found
-invariant-loop-found l = last_number span_number l.last (drop l.found-index l.documents) ≡ last_number span_number l.before l.documents

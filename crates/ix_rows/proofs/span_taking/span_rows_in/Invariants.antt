@@ -1,8 +1,0 @@
-use Rattle.std.proofs.Common.{map}
-use Rattle.ix_posting.specs.SpanRows.{SpanDocumentsRise, IsSpanRow, span_row_bytes}
-use Rattle.ix_rows.specs.SpanRows.{span_number}
-use Rattle.ix_rows.proofs.TakeSteps.{SoFar}
-use Rattle.ix_rows.proofs.span_taking.span_rows_in.Given as goal
-
-abbrev pub invariant-loop-value : goal.invariant-loop-value
-invariant-loop-value l = SoFar span_number SpanDocumentsRise IsSpanRow span_row_bytes (map (λ e. (e.0.items, e.1.items)) l.fn.entries.items) (map (λ e. (e.0.items, e.1.items)) l.value-iterator.rest.items) l.rows.items l.last
