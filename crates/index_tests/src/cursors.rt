@@ -1,18 +1,15 @@
 //! Small feeds, and what queries over them give.
 
 ghost use Rattle.std.specs.Prelude.{◌≡◌, ◌++◌, List, IfOk, IfSome, IsTrue};
-ghost use Rattle.ix_posting.specs.Rows.{DocumentsRise};
-ghost use Rattle.ix_posting.specs.SpanRows.{SpanDocumentsRise};
-ghost use Rattle.ix_posting.specs.declared.rows.RowDocument.{RowDocument};
-ghost use Rattle.q_tree.specs.Trees.{reduced_of};
+ghost use Rattle.ix_posting.specs.Rows.{DocumentsRise, WordDocument};
+ghost use Rattle.ix_posting.specs.Forms.{number_form, pair_form};
+ghost use Rattle.q_tree.specs.ReducedQueries.{reduced_of};
 ghost use Rattle.ix_posting.specs.Lists.{posting_list};
 ghost use Rattle.ix_cursor.specs.Reading.{TokensRise, SlotFeedsRise, SectionFeedsRise, FeedsRise, IsPlain};
 
-use ct_base::{DocId, Listed, Memory, Name};
+use ct_base::{DocId, Listed, Memory, Name, Pair};
 use ix_cursor::{Candidates, Cursor, Feeds, SectionFeed, SlotFeed};
-use ix_posting::{
-    EncodedRow, EncodedRows, EncodedSpanRow, EncodedSpanRows, Row, RowDocument, SpanRow,
-};
+use ix_posting::{EncodedRow, EncodedRows, Row, RowDocument};
 use q_tree::{Flat, Phrases, Place, Slot};
 use std::alloc::Global;
 use std::test::Fail;
@@ -46,9 +43,9 @@ const SENTENCES: &[u8] = &[
 const ZONE: &[u8] = &[2, 1, 1, 3, 1, 2, 1, 1, 0];
 
 /// The last of documents that rise, where the first stands behind `before`.
-fn last_behind(documents: &[RowDocument], before: u32) -> Option<u32>
-    requires { DocumentsRise 0 documents.now }
-    ensures { IfSome result (λ last. (more : List RowDocument) → DocumentsRise last more → DocumentsRise before (documents.now ++ more)) }
+fn last_behind(documents: &[RowDocument<u32>], before: u32) -> Option<u32>
+    requires { DocumentsRise number_form 0 documents.now }
+    ensures { IfSome result (λ last. (more : List WordDocument) → DocumentsRise number_form last more → DocumentsRise number_form before (documents.now ++ more)) }
 {
     let mut last = before;
     let mut rest = documents;
@@ -63,10 +60,10 @@ fn last_behind(documents: &[RowDocument], before: u32) -> Option<u32>
 }
 
 /// The row that bytes spell, and its last document, where its first one stands behind `before`.
-fn row(alloc: Global, bytes: &[u8], before: u32) -> Result<(EncodedRow, u32), Fail>
-    ensures { IfOk result (λ r. (more : List RowDocument) → DocumentsRise r.1 more → DocumentsRise before (r.0 ++ more)) }
+fn row(alloc: Global, bytes: &[u8], before: u32) -> Result<(EncodedRow<u32>, u32), Fail>
+    ensures { IfOk result (λ r. (more : List WordDocument) → DocumentsRise number_form r.1 more → DocumentsRise number_form before (r.0 ++ more)) }
 {
-    let row = Row::decode(alloc, bytes)?;
+    let row = Row::<u32>::decode(alloc, bytes)?;
     let Some(last) = last_behind(row.documents(), before) else {
         return Err(Fail::new("the rows don't rise"));
     };
@@ -74,8 +71,8 @@ fn row(alloc: Global, bytes: &[u8], before: u32) -> Result<(EncodedRow, u32), Fa
 }
 
 /// The rows of a token.
-fn rows(alloc: Global, spelt: &[&[u8]]) -> Result<EncodedRows, Fail>
-    ensures { IfOk result (λ r. DocumentsRise 0 (posting_list r)) }
+fn rows(alloc: Global, spelt: &[&[u8]]) -> Result<EncodedRows<u32>, Fail>
+    ensures { IfOk result (λ r. DocumentsRise number_form 0 (posting_list r)) }
 {
     let mut rows = Vec::new(alloc);
     let mut last = 0;
@@ -104,7 +101,7 @@ fn slot_feed(
     alloc: Global,
     stream: u8,
     keys: &str,
-    tokens: Vec<EncodedRows>,
+    tokens: Vec<EncodedRows<u32>>,
 ) -> Result<SlotFeed, Memory>
     requires { TokensRise tokens.items }
     ensures { IfOk result (λ f. TokensRise f.tokens) }
@@ -145,12 +142,12 @@ fn slot_feeds(alloc: Global) -> Result<Vec<SlotFeed>, Fail>
 
 /// What is read for a section.
 fn section_feed(alloc: Global, name: &str, bytes: &[u8]) -> Result<SectionFeed, Fail>
-    ensures { IfOk result (λ f. SpanDocumentsRise 0 (posting_list f.rows)) }
+    ensures { IfOk result (λ f. DocumentsRise pair_form 0 (posting_list f.rows)) }
 {
     let section = Name::read(alloc, name)?;
-    let _row = SpanRow::decode(alloc, bytes)?;
-    let row = EncodedSpanRow::of(Vec::from_slice(alloc, bytes)?);
-    let rows = EncodedSpanRows::of(alloc, vec![in alloc; row]?)?;
+    let _row = Row::<Pair>::decode(alloc, bytes)?;
+    let row = EncodedRow::of(Vec::from_slice(alloc, bytes)?);
+    let rows = EncodedRows::of(alloc, vec![in alloc; row]?)?;
     Ok(SectionFeed { section, rows })
 }
 

@@ -7,16 +7,20 @@ use ct_base::{DocId, Memory, Name, RowKey, Text};
 use ct_entry::Kind;
 use ct_keep::{Batch, KeepFault, MemKeeper};
 use ix_context::{
-    ContextFault, KeyRange, create, is_index_shape, note_delete, note_insert, note_update,
+    ContextFault, KeyRange, create, is_context_shape, note_delete, note_insert, note_update,
     prefs_of, sync,
 };
 use ix_docmap::{pending, row_of};
 use std::alloc::Global;
 use std::test::Fail;
+use std::thread::Threads;
 use tb_table::{Target, insert};
 use test_keepers::{commit, named, new_keeper, one_text};
 use tx_settings::Prefs;
 use tx_tags::{Group, Section, SectionKind, Tags};
+
+/// How many threads may be at work on an index.
+const DEGREE: u32 = 2;
 
 /// The fault of a keeper that a fault of an index stands for.
 fn keep_fault(fault: ContextFault) -> KeepFault {
@@ -39,7 +43,8 @@ fn add_row(alloc: Global, keeper: &mut MemKeeper, row: i64, text: &str) -> Resul
 }
 
 /// Makes an index with these preferences on the texts of that table.
-fn add_index(
+fn add_index<R: Threads + Sync>(
+    rt: &R,
     alloc: Global,
     keeper: &mut MemKeeper,
     index: &Name,
@@ -51,7 +56,10 @@ fn add_index(
     let table = named(alloc, "docs")?;
     let target = Target { table, column: 1 };
     let mut batch = Batch::new(alloc);
-    create(alloc, keeper, &mut batch, index, &target, prefs, range).map_err(keep_fault)?;
+    create(
+        rt, alloc, DEGREE, keeper, &mut batch, index, &target, prefs, range,
+    )
+    .map_err(keep_fault)?;
     commit(alloc, keeper, batch)
 }
 
@@ -95,9 +103,14 @@ fn rewrite(
 }
 
 /// Synchronises an index, and counts the changes that this took.
-fn settle(alloc: Global, keeper: &mut MemKeeper, index: &Name) -> Result<usize, KeepFault> {
+fn settle<R: Threads + Sync>(
+    rt: &R,
+    alloc: Global,
+    keeper: &mut MemKeeper,
+    index: &Name,
+) -> Result<usize, KeepFault> {
     let mut batch = Batch::new(alloc);
-    sync(alloc, keeper, &mut batch, index).map_err(keep_fault)?;
+    sync(rt, alloc, DEGREE, keeper, &mut batch, index).map_err(keep_fault)?;
     let count = batch.changes().len();
     commit(alloc, keeper, batch)?;
     Ok(count)
@@ -150,31 +163,52 @@ fn marks(alloc: Global, keeper: &mut MemKeeper, index: &Name) -> Result<String, 
 }
 
 /// Two rows of a table, and an index on their texts.
-fn indexed(alloc: Global, index: &Name, range: KeyRange) -> Result<MemKeeper, KeepFault> {
+fn indexed<R: Threads + Sync>(
+    rt: &R,
+    alloc: Global,
+    index: &Name,
+    range: KeyRange,
+) -> Result<MemKeeper, KeepFault> {
     let mut keeper = new_keeper(alloc)?;
     add_row(alloc, &mut keeper, 7, "Quick fox, quick!")?;
     add_row(alloc, &mut keeper, -12, "a slow fox")?;
-    add_index(alloc, &mut keeper, index, &Prefs::defaults(alloc)?, range)?;
+    add_index(
+        rt,
+        alloc,
+        &mut keeper,
+        index,
+        &Prefs::defaults(alloc)?,
+        range,
+    )?;
     Ok(keeper)
 }
 
 /// The marks of a new index on those rows.
-fn marked_at_once(alloc: Global, range: KeyRange) -> Result<String, KeepFault> {
+fn marked_at_once<R: Threads + Sync>(
+    rt: &R,
+    alloc: Global,
+    range: KeyRange,
+) -> Result<String, KeepFault> {
     let index = named(alloc, "di")?;
-    let mut keeper = indexed(alloc, &index, range)?;
+    let mut keeper = indexed(rt, alloc, &index, range)?;
     marks(alloc, &mut keeper, &index)
 }
 
 /// The rows 7 and -12 of that table are documents of an index, and the row 3 waits.
-fn indexed_and_waiting(alloc: Global, index: &Name) -> Result<MemKeeper, KeepFault> {
-    let mut keeper = indexed(alloc, index, KeyRange::ALL)?;
+fn indexed_and_waiting<R: Threads + Sync>(
+    rt: &R,
+    alloc: Global,
+    index: &Name,
+) -> Result<MemKeeper, KeepFault> {
+    let mut keeper = indexed(rt, alloc, index, KeyRange::ALL)?;
     add_row(alloc, &mut keeper, 3, "quick")?;
     add_note(alloc, &mut keeper, index, 3)?;
     Ok(keeper)
 }
 
 /// Synchronises an index so many times, and gives how many changes the last time took.
-fn settle_often(
+fn settle_often<R: Threads + Sync>(
+    rt: &R,
     alloc: Global,
     keeper: &mut MemKeeper,
     index: &Name,
@@ -182,7 +216,7 @@ fn settle_often(
 ) -> Result<usize, KeepFault> {
     let mut count = 0;
     for _ in 0..times {
-        count = settle(alloc, keeper, index)?;
+        count = settle(rt, alloc, keeper, index)?;
     }
     Ok(count)
 }
@@ -193,16 +227,17 @@ fn told(alloc: Global, count: usize, marks: &str) -> Result<String, Memory> {
 }
 
 /// How many changes the last of so many synchronisations of that index took, and its marks then.
-fn marked_later(alloc: Global, times: u32) -> Result<String, KeepFault> {
+fn marked_later<R: Threads + Sync>(rt: &R, alloc: Global, times: u32) -> Result<String, KeepFault> {
     let index = named(alloc, "di")?;
-    let mut keeper = indexed_and_waiting(alloc, &index)?;
-    let count = settle_often(alloc, &mut keeper, &index, times)?;
+    let mut keeper = indexed_and_waiting(rt, alloc, &index)?;
+    let count = settle_often(rt, alloc, &mut keeper, &index, times)?;
     let line = marks(alloc, &mut keeper, &index)?;
     Ok(told(alloc, count, line.as_str())?)
 }
 
 /// How many changes something took, the marks then, and the marks after a synchronisation.
-fn marked_around(
+fn marked_around<R: Threads + Sync>(
+    rt: &R,
     alloc: Global,
     keeper: &mut MemKeeper,
     index: &Name,
@@ -210,7 +245,7 @@ fn marked_around(
 ) -> Result<String, KeepFault> {
     let before = marks(alloc, keeper, index)?;
     let mut line = told(alloc, count, before.as_str())?;
-    settle(alloc, keeper, index)?;
+    settle(rt, alloc, keeper, index)?;
     put_text(&mut line, "then ")?;
     let after = marks(alloc, keeper, index)?;
     put_text(&mut line, after.as_str())?;
@@ -223,19 +258,23 @@ fn put_text(line: &mut String, text: &str) -> Result<(), Memory> {
 }
 
 /// The same where a row goes.
-fn marked_without(alloc: Global, row: i64) -> Result<String, KeepFault> {
+fn marked_without<R: Threads + Sync>(rt: &R, alloc: Global, row: i64) -> Result<String, KeepFault> {
     let index = named(alloc, "di")?;
-    let mut keeper = indexed_and_waiting(alloc, &index)?;
+    let mut keeper = indexed_and_waiting(rt, alloc, &index)?;
     let count = lose(alloc, &mut keeper, &index, row)?;
-    marked_around(alloc, &mut keeper, &index, count)
+    marked_around(rt, alloc, &mut keeper, &index, count)
 }
 
 /// The same where a row gets another text.
-fn marked_rewritten(alloc: Global, row: i64) -> Result<String, KeepFault> {
+fn marked_rewritten<R: Threads + Sync>(
+    rt: &R,
+    alloc: Global,
+    row: i64,
+) -> Result<String, KeepFault> {
     let index = named(alloc, "di")?;
-    let mut keeper = indexed_and_waiting(alloc, &index)?;
+    let mut keeper = indexed_and_waiting(rt, alloc, &index)?;
     let count = rewrite(alloc, &mut keeper, &index, row, "slow quick cat")?;
-    marked_around(alloc, &mut keeper, &index, count)
+    marked_around(rt, alloc, &mut keeper, &index, count)
 }
 
 /// What is done with an index.
@@ -251,18 +290,18 @@ enum Case {
     Rewritten(i64),
 }
 
-fn case_line(alloc: Global, case: Case) -> Result<String, KeepFault> {
+fn case_line<R: Threads + Sync>(rt: &R, alloc: Global, case: Case) -> Result<String, KeepFault> {
     match case {
         Case::Made(from, to) => {
             let range = KeyRange {
                 from: RowKey(from),
                 to: RowKey(to),
             };
-            marked_at_once(alloc, range)
+            marked_at_once(rt, alloc, range)
         }
-        Case::Settled(times) => marked_later(alloc, times),
-        Case::Without(row) => marked_without(alloc, row),
-        Case::Rewritten(row) => marked_rewritten(alloc, row),
+        Case::Settled(times) => marked_later(rt, alloc, times),
+        Case::Without(row) => marked_without(rt, alloc, row),
+        Case::Rewritten(row) => marked_rewritten(rt, alloc, row),
     }
 }
 
@@ -285,7 +324,7 @@ const CASES: &[(Case, &str)] = &[
 #[test]
 fn rows_are_documents_or_wait(rt: HostRuntime) -> Result<(), Fail> {
     for (case, line) in CASES {
-        let found = case_line(rt.alloc(), *case)?;
+        let found = case_line(&rt, rt.alloc(), *case)?;
         assert_eq!(rt; found.as_str(), *line, "{case:?}");
     }
     Ok(())
@@ -325,7 +364,8 @@ fn with_case(alloc: Global) -> Result<Prefs, Memory>
 }
 
 /// An index with these preferences, in which a row with this text waits.
-fn waiting_in(
+fn waiting_in<R: Threads + Sync>(
+    rt: &R,
     alloc: Global,
     index: &Name,
     prefs: &Prefs,
@@ -335,40 +375,49 @@ fn waiting_in(
     requires short { length text.now ≤ 100 }
 {
     let mut keeper = new_keeper(alloc)?;
-    add_index(alloc, &mut keeper, index, prefs, KeyRange::ALL)?;
+    add_index(rt, alloc, &mut keeper, index, prefs, KeyRange::ALL)?;
     add_row(alloc, &mut keeper, 1, text)?;
     add_note(alloc, &mut keeper, index, 1)?;
     Ok(keeper)
 }
 
 /// How many changes it takes to settle a row with this text in an index with these preferences.
-fn settled_by(alloc: Global, prefs: &Prefs, text: &str) -> Result<usize, KeepFault>
+fn settled_by<R: Threads + Sync>(
+    rt: &R,
+    alloc: Global,
+    prefs: &Prefs,
+    text: &str,
+) -> Result<usize, KeepFault>
     requires set { can_be_set prefs.now.lexer ≡ true }
     requires short { length text.now ≤ 100 }
 {
     let index = named(alloc, "di")?;
-    let mut keeper = waiting_in(alloc, &index, prefs, text)?;
-    settle(alloc, &mut keeper, &index)
+    let mut keeper = waiting_in(rt, alloc, &index, prefs, text)?;
+    settle(rt, alloc, &mut keeper, &index)
 }
 
-fn settled_with_sections(alloc: Global) -> Result<usize, KeepFault> {
+fn settled_with_sections<R: Threads + Sync>(rt: &R, alloc: Global) -> Result<usize, KeepFault> {
     let prefs = with_sections(alloc)?;
-    settled_by(alloc, &prefs, "<T>alpha</T> <P>beta</P>")
+    settled_by(rt, alloc, &prefs, "<T>alpha</T> <P>beta</P>")
 }
 
 /// Out of the queue, its document, its row, a word in the field, one in the main stream, a section, and the entry.
 #[test]
 fn words_of_each_stream_and_sections_have_entries(rt: HostRuntime) -> Result<(), Fail> {
-    assert_eq!(rt; settled_with_sections(rt.alloc())?, 7);
+    assert_eq!(rt; settled_with_sections(&rt, rt.alloc())?, 7);
     Ok(())
 }
 
 /// Whether case is kept in an index in which it is; none where there is no index of the name.
-fn keeps_case(alloc: Global, name: &str) -> Result<Option<bool>, KeepFault> {
+fn keeps_case<R: Threads + Sync>(
+    rt: &R,
+    alloc: Global,
+    name: &str,
+) -> Result<Option<bool>, KeepFault> {
     let prefs = with_case(alloc)?;
     let index = named(alloc, "di")?;
     let other = named(alloc, name)?;
-    let mut keeper = waiting_in(alloc, &index, &prefs, "a")?;
+    let mut keeper = waiting_in(rt, alloc, &index, &prefs, "a")?;
     let found = prefs_of(alloc, &mut keeper, &other)?;
     Ok(found.map(|prefs| prefs.lexer.mixed_case))
 }
@@ -376,7 +425,7 @@ fn keeps_case(alloc: Global, name: &str) -> Result<Option<bool>, KeepFault> {
 #[test]
 fn preferences_are_those_of_the_index(rt: HostRuntime) -> Result<(), Fail> {
     for (name, keeps) in [("di", Some(true)), ("ti", None)] {
-        assert_eq!(rt; keeps_case(rt.alloc(), name)?, keeps);
+        assert_eq!(rt; keeps_case(&rt, rt.alloc(), name)?, keeps);
     }
     Ok(())
 }
@@ -474,7 +523,7 @@ static SHAPES: [Shape; 30] = [
 /// Whether an entry is well shaped exactly where its row of the table says so.
 fn is_as_told(alloc: Global, shape: &Shape) -> Result<bool, Memory> {
     let (kind, part, value, told) = *shape;
-    let is = is_index_shape(alloc, kind, part, value)?;
+    let is = is_context_shape(alloc, kind, part, value)?;
     Ok(is == told)
 }
 

@@ -1,7 +1,7 @@
 //! Bytes worked out by hand.
 
-use ct_base::{Memory, Pair, Pairs};
-use ix_posting::{Positions, Row, RowDocument, RowFault, SpanDocument, SpanRow};
+use ct_base::{Listed, Memory, Pair};
+use ix_posting::{Row, RowDocument, RowFault};
 use std::alloc::Global;
 use std::test::Fail;
 
@@ -38,11 +38,11 @@ static NO_ROWS: [&[u8]; 16] = [
     &[0xff, 0xff, 0xff, 0xff, 0x0f, 1, 1, 1],
 ];
 
-fn is_document(document: &RowDocument, expected: &(u32, &[u32])) -> bool {
-    document.document == expected.0 && document.positions.as_slice() == expected.1
+fn is_document(document: &RowDocument<u32>, expected: &(u32, &[u32])) -> bool {
+    document.document == expected.0 && document.places.as_slice() == expected.1
 }
 
-fn is_row(row: &Row, expected: &[(u32, &[u32])]) -> bool {
+fn is_row(row: &Row<u32>, expected: &[(u32, &[u32])]) -> bool {
     for (document, expected) in row.documents().iter().zip(expected) {
         if !is_document(document, expected) {
             return false;
@@ -53,7 +53,7 @@ fn is_row(row: &Row, expected: &[(u32, &[u32])]) -> bool {
 
 /// The bytes of the row that bytes spell, where it has these documents.
 fn row_again(alloc: Global, bytes: &[u8], expected: &[(u32, &[u32])]) -> Result<Vec<u8>, RowFault> {
-    let row = Row::decode(alloc, bytes)?;
+    let row = Row::<u32>::decode(alloc, bytes)?;
     if !is_row(&row, expected) {
         return Err(RowFault::BadRow);
     }
@@ -73,7 +73,7 @@ fn rows(rt: HostRuntime) -> Result<(), Fail> {
 fn no_rows(rt: HostRuntime) {
     for bytes in &NO_ROWS {
         assert!(rt;
-            matches!(Row::decode(rt.alloc(), bytes), Err(RowFault::BadRow)),
+            matches!(Row::<u32>::decode(rt.alloc(), bytes), Err(RowFault::BadRow)),
             "{bytes:?}"
         );
     }
@@ -125,11 +125,11 @@ fn are_pairs(pairs: &[Pair], expected: &[(u32, u32)]) -> bool {
     pairs.len() == expected.len()
 }
 
-fn is_span_document(document: &SpanDocument, expected: &(u32, &[(u32, u32)])) -> bool {
-    document.document == expected.0 && are_pairs(document.pairs.as_slice(), expected.1)
+fn is_span_document(document: &RowDocument<Pair>, expected: &(u32, &[(u32, u32)])) -> bool {
+    document.document == expected.0 && are_pairs(document.places.as_slice(), expected.1)
 }
 
-fn is_span_row(row: &SpanRow, expected: &[(u32, &[(u32, u32)])]) -> bool {
+fn is_span_row(row: &Row<Pair>, expected: &[(u32, &[(u32, u32)])]) -> bool {
     for (document, expected) in row.documents().iter().zip(expected) {
         if !is_span_document(document, expected) {
             return false;
@@ -144,7 +144,7 @@ fn span_row_again(
     bytes: &[u8],
     expected: &[(u32, &[(u32, u32)])],
 ) -> Result<Vec<u8>, RowFault> {
-    let row = SpanRow::decode(alloc, bytes)?;
+    let row = Row::<Pair>::decode(alloc, bytes)?;
     if !is_span_row(&row, expected) {
         return Err(RowFault::BadRow);
     }
@@ -164,7 +164,10 @@ fn span_rows(rt: HostRuntime) -> Result<(), Fail> {
 fn no_span_rows(rt: HostRuntime) {
     for bytes in &NO_SPAN_ROWS {
         assert!(rt;
-            matches!(SpanRow::decode(rt.alloc(), bytes), Err(RowFault::BadRow)),
+            matches!(
+                Row::<Pair>::decode(rt.alloc(), bytes),
+                Err(RowFault::BadRow)
+            ),
             "{bytes:?}"
         );
     }
@@ -172,11 +175,11 @@ fn no_span_rows(rt: HostRuntime) {
 
 /// A row of one document with two positions.
 fn made_row(alloc: Global) -> Result<Vec<u8>, Memory> {
-    let positions = Positions::of(vec![in alloc; 1, 3]?);
+    let places = Listed::of(vec![in alloc; 1u32, 3]?);
     let documents = vec![in alloc;
         RowDocument {
             document: 1,
-            positions
+            places
         },
     ]?;
     Ok(Row::of(documents).encode(alloc)?)
@@ -191,9 +194,14 @@ fn a_row_that_is_made(rt: HostRuntime) -> Result<(), Fail> {
 
 /// A row of one document with a pair.
 fn made_span_row(alloc: Global) -> Result<Vec<u8>, Memory> {
-    let pairs = Pairs::of(vec![in alloc; Pair { first: 1, last: 3 }]?);
-    let documents = vec![in alloc; SpanDocument { document: 1, pairs }]?;
-    Ok(SpanRow::of(documents).encode(alloc)?)
+    let places = Listed::of(vec![in alloc; Pair { first: 1, last: 3 }]?);
+    let documents = vec![in alloc;
+        RowDocument {
+            document: 1,
+            places
+        },
+    ]?;
+    Ok(Row::of(documents).encode(alloc)?)
 }
 
 #[test]

@@ -2,7 +2,7 @@
 use Rattle.std.proofs.Common.{◌≡◌, ℕ, ℤ, ◌+◌, ◌<◌, List, ◌∷◌, ◌++◌, length, Option, map, drop, get_or, refl, sym, ap, ◌∙◌, append_assoc, add-one, drop-cons}
 use Rattle.ct_base.specs.declared.numbers.RowKey.{RowKey}
 use Rattle.tx_settings.specs.declared.preferences.Prefs.{Prefs}
-use Rattle.ix_context.specs.Gathering.{Gathering, with_text, with_texts}
+use Rattle.ix_context.specs.Gathering.{IndexRowsView, with_text, with_texts}
 use Rattle.ct_entry.specs.Keys.{Key}
 use Rattle.ct_entry.specs.Changes.{spell}
 use Rattle.ct_entry.specs.laws.Changes.{spell-append}
@@ -19,10 +19,10 @@ row_added changes all batch new d r left rest before is added =
     ∙ ap (λ l. batch ++ spell (each changes (numbered d l))) (sym is) ∙ before
 
 -- the text of the first row of those that are left was gathered
-pub row_gathered : (p : Prefs) (text : ℤ → Option (List ℕ)) (all g new : Gathering) (d : ℕ) (r : ℤ) (left rest : List ℤ)
+pub row_gathered : (p : Prefs) (text : ℤ → Option (List ℕ)) (all g new : IndexRowsView) (d : ℕ) (r : ℤ) (left rest : List ℤ)
     → with_texts p text g (numbered d left) ≡ all → left ≡ r ∷ rest → new ≡ with_text p g d (text r) → with_texts p text new (numbered (d + 1) rest) ≡ all
 row_gathered p text all g new d r left rest before is gathers =
-    ap (λ (h : Gathering). with_texts p text h (numbered (d + 1) rest)) gathers ∙ ap (λ (l : List ℤ). with_texts p text g (numbered d l)) (sym is) ∙ before
+    ap (λ (h : IndexRowsView). with_texts p text h (numbered (d + 1) rest)) gathers ∙ ap (λ (l : List ℤ). with_texts p text g (numbered d l)) (sym is) ∙ before
 
 -- the first of the row keys that are left
 pub rows_left : (rows : List RowKey) (i : ℕ) (row : RowKey) → i < length rows

@@ -11,9 +11,12 @@ use Rattle.ct_bytes.specs.laws.RowKeys.{length-row_bytes}
 use Rattle.ct_entry.specs.declared.kinds.Kind.TheVariants as kind
 use Rattle.ct_entry.specs.Keys.{span_part, IsRow, IsRowPart, IsDocument}
 use Rattle.ct_entry.specs.laws.Parts.{posting_part_apart, span_part_apart}
+use Rattle.ix_posting.specs.declared.rows.RowDocument.{RowDocument}
+use Rattle.ix_posting.specs.Forms.{PlaceForm}
+use Rattle.ix_posting.specs.Rows.{IsPostingRowOf, posting_bytes_of}
 use Rattle.ix_context.specs.declared.entries.IndexEntry.{IndexEntry}
 use Rattle.ix_context.specs.Spelling.{SpellsIndex}
-use Rattle.ix_context.specs.Shapes.{StartsAt, IsRowFrom, IsSpanRowFrom, IsPostingPart, IsSpanPart, IsIndexShape}
+use Rattle.ix_context.specs.Shapes.{StartsAt, IsRowFrom, IsSpanRowFrom, IsPostingPart, IsSpanPart, IsContextShape}
 
 -- what doesn't hold is not told to
 pub is_not : (A : Type 0) → (A → ⊥) → IsTrue false ↔ A
@@ -50,7 +53,7 @@ no_section part section document small is none d doc has =
 
 -- ---- values
 
-pub is_entry : (part value : List ℕ) (e : IndexEntry) → SpellsIndex (Some value) (Some e) → IsTrue (length part == 0) ↔ IsIndexShape kind.Indexes part value
+pub is_entry : (part value : List ℕ) (e : IndexEntry) → SpellsIndex (Some value) (Some e) → IsTrue (length part == 0) ↔ IsContextShape kind.Indexes part value
 is_entry part value e is = (
   λ empty. (none part (eqb-true (length part) 0 empty), record { table = e.target.table; column = e.target.column; prefs = e.prefs; next = e.next_document; named = is.0; place = is.1; are = is.2; fits = is.3; spelt = same is.4 }),
   λ shape. eq-eqb (length part) 0 (ap length shape.0),
@@ -63,30 +66,30 @@ is_entry part value e is = (
     same : {x y : List ℕ} → Some x ≡ Some y → x ≡ y
     same e = cc
 
-pub no_entry : (part value : List ℕ) → SpellsIndex (Some value) None → IsIndexShape kind.Indexes part value → ⊥
+pub no_entry : (part value : List ℕ) → SpellsIndex (Some value) None → IsContextShape kind.Indexes part value → ⊥
 no_entry part value none (empty, is) = none is.table is.column is.prefs is.next is.named is.place is.are is.fits (ap Some is.spelt)
 
-module _ {D : Type 0} (Is : List D → Type 0) (spelling : List D → List ℕ) (number : D → ℕ) (value : List ℕ) (document : ℕ) where
+module _ {P : Type 0} (form : PlaceForm P) (value : List ℕ) (document : ℕ) where
   -- the row that was read, by its first document
-  pub starts_so : (read row : List D) (d : D) → read ≡ row → (Is [] → ⊥) → Is row → spelling row ≡ value → ((other : List D) → Is other → spelling other ≡ value → row ≡ other)
-      → IsTrue (number (get_or read 0 d) == document) ↔ StartsAt Is spelling number document value
-  starts_so read row d same some is spelt one = (
-    λ test. begins row is spelt (sym (ap (λ (ds : List D). number (get_or ds 0 d)) same) ∙ eqb-true _ _ test),
-    λ has. eq-eqb _ _ (ap (λ (ds : List D). number (get_or ds 0 d)) (same ∙ one (has.first ∷ has.others) has.row (sym has.spelt)) ∙ has.starts),
+  pub starts_so : (read row : List (RowDocument P)) (d : RowDocument P) → read ≡ row → IsPostingRowOf form row → posting_bytes_of form row ≡ value
+      → ((other : List (RowDocument P)) → IsPostingRowOf form other → posting_bytes_of form other ≡ value → row ≡ other) → IsTrue ((get_or read 0 d).document == document) ↔ StartsAt form document value
+  starts_so read row d same is spelt one = (
+    λ test. begins row is spelt (sym (ap (λ (ds : List (RowDocument P)). (get_or ds 0 d).document) same) ∙ eqb-true _ _ test),
+    λ has. eq-eqb _ _ (ap (λ (ds : List (RowDocument P)). (get_or ds 0 d).document) (same ∙ one (has.first ∷ has.others) has.row (sym has.spelt)) ∙ has.starts),
   )
     where
-      begins : (row : List D) → Is row → spelling row ≡ value → number (get_or row 0 d) ≡ document → StartsAt Is spelling number document value
-      begins [] is spelt starts = absurd (some is)
+      begins : (row : List (RowDocument P)) → IsPostingRowOf form row → posting_bytes_of form row ≡ value → (get_or row 0 d).document ≡ document → StartsAt form document value
+      begins [] is spelt starts = let none = is.some in absurd (omega (arith, none))
       begins (first ∷ others) is spelt starts = record { first = first; others = others; starts = starts; row = is; spelt = sym spelt }
 
   -- no row was read
-  pub starts_nowhere : ((row : List D) → Is row → spelling row ≡ value → ⊥) → StartsAt Is spelling number document value → ⊥
+  pub starts_nowhere : ((row : List (RowDocument P)) → IsPostingRowOf form row → posting_bytes_of form row ≡ value → ⊥) → StartsAt form document value → ⊥
   starts_nowhere bad has = bad (has.first ∷ has.others) has.row (sym has.spelt)
 
 -- ---- entries
 
 pub is_posting : (part value : List ℕ) (document : ℕ) → IsDocument document → IsPostingPart part document → (is : Bool) → IsTrue is ↔ IsRowFrom document value
-    → IsTrue is ↔ IsIndexShape kind.Postings part value
+    → IsTrue is ↔ IsContextShape kind.Postings part value
 is_posting part value document small key is row = (
   λ h. ((key.stream, document, (key.token, key.streams, key.is, small, key.spelt)), (document, key, row.0 h)),
   λ shape. row.1 (other shape.1.0 shape.1.1 shape.1.2),
@@ -100,7 +103,7 @@ is_posting part value document small key is row = (
         subst (λ (n : ℕ). IsRowFrom n value) same.2 from
 
 pub is_span : (part value : List ℕ) (document : ℕ) → IsDocument document → IsSpanPart part document → (is : Bool) → IsTrue is ↔ IsSpanRowFrom document value
-    → IsTrue is ↔ IsIndexShape kind.Spans part value
+    → IsTrue is ↔ IsContextShape kind.Spans part value
 is_span part value document small key is row = (
   λ h. ((document, (key.section, key.named, small, key.spelt)), (document, key, row.0 h)),
   λ shape. row.1 (other shape.1.0 shape.1.1 shape.1.2),

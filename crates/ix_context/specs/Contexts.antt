@@ -1,5 +1,5 @@
 -- CONTEXT as a kind of indexes.
-use Rattle.std.specs.Prelude.{ℕ, ℤ, ◌≡◌, ◌≤◌, ◌+◌, ◌==◌, nat_le, List, [], ◌∷◌, ◌++◌, length, map, filter, sum_by, is_some, Option, Some, None, pos, codes, refl}
+use Rattle.std.specs.Prelude.{ℕ, ℤ, ◌≡◌, ◌≤◌, ◌+◌, ◌==◌, nat_le, List, [], ◌∷◌, ◌++◌, length, sum_by, is_some, Option, Some, None, pos, codes, refl}
 use Rattle.std.specs.Int.{to_be_bytes, w32}
 use Rattle.std.specs.FinMap.{get, insert, remove, entries}
 use Rattle.ct_base.specs.declared.lists.Value.{Value}
@@ -16,24 +16,23 @@ use Rattle.tx_settings.specs.PrefsBytes.{prefs_bytes}
 use Rattle.db_names.specs.declared.heads.IndexKind.TheVariants.{Context}
 use Rattle.ix_kinds.specs.Indextypes.{IndexOf, Indextype}
 use Rattle.ix_rows.specs.Stores.{Untidy}
-use Rattle.ix_rows.specs.WordRows.{last_document}
+use Rattle.ix_rows.specs.PlacedRows.{last_document}
 use Rattle.ix_docmap.specs.Marks.{Mark, Pending, Settled}
-use Rattle.ix_docmap.specs.Changes.{gone_changes, changed_changes}
+use Rattle.ix_docmap.specs.Changes.{gone_changes, changed_changes, queue_changes}
 use Rattle.ix_docmap.specs.Readings.{document_at}
 use Rattle.ix_context.specs.declared.ranges.KeyRange.{KeyRange}
-use Rattle.ix_context.specs.Indexes.{ContextIndex, most_given, no_part, wasted, made, all_settled, settled_rows, waiting_rows, texts_in, rows_within, HasAllRows}
+use Rattle.ix_context.specs.Indexes.{ContextIndex, mark_limit, no_part, part_after_loss, part_with_marks, all_settled, settled_rows, waiting_rows, texts_in, rows_within, HasAllRows}
 use Rattle.ix_context.specs.Documents.{Postings, text_postings, postings_by, document_cost}
 use Rattle.ix_context.specs.Standing.{PartStands}
 use Rattle.ix_context.specs.Spelling.{index_bytes, is_context_part}
-use Rattle.ix_context.specs.Changes.{note_insert_changes, postings_changes, mark_rows_with, settle_rows_with}
-use Rattle.ix_context.specs.laws.Settling.{docs}
+use Rattle.ix_context.specs.Changes.{postings_changes, mark_each_changes, settle_each_changes}
 
 -- ---- its rules
 
--- Each row of the table has a mark, and there is no other; it has numbers; and for now nothing makes it tidy.
+-- Each row of the table has a mark, and there is no other; no more marks were made than there are numbers; and for now nothing makes it tidy.
 pub record IsContext (t : Table) (x : IndexOf ContextIndex) : Type 0 where
   pub marks : (r : ℤ) → is_some (get x.body.marks r) ≡ is_some (get t.rows r)
-  pub numbers : x.body.part.given ≤ most_given
+  pub numbers : x.body.part.given ≤ mark_limit
   pub untidy : x.body.part.tidiness ≡ Untidy
 
 -- ---- its entries
@@ -48,7 +47,7 @@ abbrev pub context_entry : IndexOf ContextIndex → List ℕ
 context_entry x = index_bytes x.table x.column x.prefs (x.body.part.given + 1)
 
 abbrev pub context_stands : (Key → Option (List ℕ)) → List ℕ → IndexOf ContextIndex → Table → Type 0
-context_stands f i x t = PartStands f i (docs x.prefs (texts_in t x.column)) (get x.body.marks) x.body.part
+context_stands f i x t = PartStands f i (postings_by x.prefs (texts_in t x.column)) (get x.body.marks) x.body.part
 
 -- what the entries of a row weigh at most
 abbrev pub mark_room : List ℕ → (ℤ → Postings) → ℤ × Mark (Unit {0}) → ℕ
@@ -59,7 +58,7 @@ mark_room i doc (r, Settled _) =
     + document_cost i (doc r)
 
 abbrev pub context_room : List ℕ → IndexOf ContextIndex → Table → ℕ
-context_room i x t = sum_by (mark_room i (docs x.prefs (texts_in t x.column))) (entries x.body.marks) + x.body.part.waste
+context_room i x t = sum_by (mark_room i (postings_by x.prefs (texts_in t x.column))) (entries x.body.marks) + x.body.part.waste
 
 -- ---- a row changes
 
@@ -68,41 +67,41 @@ context_room i x t = sum_by (mark_room i (docs x.prefs (texts_in t x.column))) (
 abbrev pub context_after : ℤ → Option (List Value) → Option (List Value) → ℕ → ContextIndex → ContextIndex
 context_after r None None cost c = c
 context_after r None (Some new) cost c = record c { marks = insert c.marks r Pending }
-context_after r (Some old) (Some new) cost c = record { part = wasted (get c.marks r) cost c.part; marks = insert c.marks r Pending }
-context_after r (Some old) None cost c = record { part = wasted (get c.marks r) cost c.part; marks = remove c.marks r }
+context_after r (Some old) (Some new) cost c = record { part = part_after_loss (get c.marks r) cost c.part; marks = insert c.marks r Pending }
+context_after r (Some old) None cost c = record { part = part_after_loss (get c.marks r) cost c.part; marks = remove c.marks r }
 
 -- by the document that the row is, if it is one
 abbrev pub context_changes : List ℕ → ℤ → Option (List Value) → Option (List Value) → Option ℕ → List (Key × Option (List ℕ))
 context_changes i r None None document = []
-context_changes i r None (Some new) document = note_insert_changes i r
+context_changes i r None (Some new) document = queue_changes i r
 context_changes i r (Some old) (Some new) document = changed_changes i r document
 context_changes i r (Some old) None document = gone_changes i r document
 
 -- ---- it is synchronised, and made
 
 abbrev pub context_synced : ContextIndex → ContextIndex
-context_synced c = record { part = made (length (waiting_rows c.marks)) c.part; marks = all_settled c.marks }
+context_synced c = record { part = part_with_marks (length (waiting_rows c.marks)) c.part; marks = all_settled c.marks }
 
 -- each row that waits becomes a document, with its postings, and the index has given these; nothing where no row waits
 abbrev pub context_sync_changes : List ℕ → IndexOf ContextIndex → (ℤ → Option (List ℕ)) → List ℤ → List (Key × Option (List ℕ))
 context_sync_changes i x text [] = []
 context_sync_changes i x text (r ∷ rs) =
-    settle_rows_with i (x.body.part.given + 1) (r ∷ rs) ++ postings_changes i (postings_by x.prefs text) (x.body.part.given + 1) (r ∷ rs)
+    settle_each_changes i (x.body.part.given + 1) (r ∷ rs) ++ postings_changes i (postings_by x.prefs text) (x.body.part.given + 1) (r ∷ rs)
     ++ put_value (key kind.Indexes i []) (context_entry (record x { body = context_synced x.body })) ∷ []
 
 -- a new index settles each row in its range
 abbrev pub new_context : Table → KeyRange → ContextIndex
-new_context t range = record { part = made (length (rows_within t range)) no_part; marks = settled_rows (rows_within t range) }
+new_context t range = record { part = part_with_marks (length (rows_within t range)) no_part; marks = settled_rows (rows_within t range) }
 
 abbrev pub context_create_changes : Table → List ℕ → Target → Prefs → KeyRange → List (Key × Option (List ℕ))
 context_create_changes t i target prefs range =
     put_value (key kind.Indexes i []) (context_entry (record { table = target.table; column = target.column; prefs = prefs; body = new_context t range }))
-    ∷ (mark_rows_with i 1 (rows_within t range) ++ postings_changes i (postings_by prefs (texts_in t target.column)) 1 (rows_within t range))
+    ∷ (mark_each_changes i 1 (rows_within t range) ++ postings_changes i (postings_by prefs (texts_in t target.column)) 1 (rows_within t range))
 
 -- ---- the kind
 
--- A CONTEXT index looks at its column alone, waits for a synchronisation with what it does, and reads of a row which document it is. Nothing that is defined
--- beside its preferences matters to it.
+-- A CONTEXT index looks at its own column alone. A row that changes waits for the next synchronisation; of it the index reads which document it is. A
+-- synchronisation reads the table and the preferences, nothing else.
 abbrev pub context : {D : Type 0} → Indextype ContextIndex KeyRange D (Option ℕ)
 context {D} = record {
   kind = λ c. Context;
@@ -117,11 +116,11 @@ context {D} = record {
   after_row = λ change cost c. context_after change.row change.old change.new cost c;
   read = λ f i x r. document_at f i r;
   row_changes = λ i x columns change document. context_changes i change.row change.old change.new document;
-  can_sync = λ x. nat_le (x.body.part.given + length (waiting_rows x.body.marks)) most_given;
+  can_sync = λ x. nat_le (x.body.part.given + length (waiting_rows x.body.marks)) mark_limit;
   after_sync = λ d t x. context_synced x.body;
   sync_changes = λ d t i x. context_sync_changes i x (texts_in t x.column) (waiting_rows x.body.marks);
   asks = λ t range. HasAllRows range;
-  can_create = λ t range. nat_le (length (rows_within t range)) most_given;
+  can_create = λ t range. nat_le (length (rows_within t range)) mark_limit;
   new_body = λ range d t target prefs. new_context t range;
   create_changes = λ range d t i target prefs. context_create_changes t i target prefs range;
 }
@@ -131,11 +130,15 @@ context {D} = record {
 a_new_row_waits : (c : ContextIndex) → (context_after (pos 4) None (Some []) 0 c).marks ≡ insert c.marks (pos 4) Pending
 a_new_row_waits c = refl
 
-it_is_noted : (document : Option ℕ) → context_changes (codes "di") (pos 4) None (Some []) document ≡ note_insert_changes (codes "di") (pos 4)
+it_is_noted : (document : Option ℕ) → context_changes (codes "di") (pos 4) None (Some []) document ≡ queue_changes (codes "di") (pos 4)
 it_is_noted document = refl
 
 nothing_waits : (x : IndexOf ContextIndex) (text : ℤ → Option (List ℕ)) → context_sync_changes (codes "di") x text [] ≡ []
 nothing_waits x text = refl
+
+-- where what is wasted doesn't count, all else of an index does
+only_waste_goes : (c : ContextIndex) → (context {D = Unit {0}}).unwasted c ≡ record { part = record { given = c.part.given; tidiness = c.part.tidiness; waste = 0 }; marks = c.marks }
+only_waste_goes c = refl
 
 another_column : (x : IndexOf ContextIndex) → context_entry (record { table = codes "t"; column = 1; prefs = default_prefs; body = record { part = no_part; marks = x.body.marks } })
     ≡ index_bytes (codes "t") 1 default_prefs 1

@@ -5,9 +5,10 @@ use Rattle.std.specs.Ordering.{nat_cmp}
 use Rattle.std.specs.Cmp.Lexicographic.{slice_cmp}
 use Rattle.std.specs.FinMap.{FinMap, get, entries, from_entries, empty}
 use Rattle.ct_base.specs.declared.numbers.Pair.{Pair}
+use Rattle.ct_entry.specs.Maps.{Names}
 use Rattle.ix_posting.specs.declared.rows.RowDocument.{RowDocument}
-use Rattle.ix_posting.specs.declared.span_rows.SpanDocument.{SpanDocument}
-use Rattle.ix_rows.specs.WordRows.{posting_cost}
+use Rattle.ix_posting.specs.Rows.{WordDocument, SpanDocument}
+use Rattle.ix_rows.specs.WordRows.{positions_cost}
 use Rattle.ix_rows.specs.SpanRows.{pairs_cost}
 use Rattle.tx_settings.specs.declared.preferences.Prefs.{Prefs}
 use Rattle.tx_document.specs.declared.entries.Entry.{Entry}
@@ -35,24 +36,24 @@ postings_by p text r = text_postings p (text r)
 
 -- ---- as the rows of postings have them
 
-abbrev pub word_posting : ℕ → List ℕ → RowDocument
-word_posting d positions = record { document = d; positions = positions }
-
-abbrev pub span_posting : ℕ → List Pair → SpanDocument
-span_posting d pairs = record { document = d; pairs = pairs }
+abbrev pub document_with : {P : Type 0} → ℕ → List P → RowDocument P
+document_with d places = record { document = d; places = places }
 
 -- what a row has under a term, as this document
-abbrev pub want_words : (ℤ → Postings) → ℤ → List ℕ → ℕ → Option RowDocument
-want_words doc r term d = option_map (word_posting d) (get (doc r).words term)
+abbrev pub row_posting : {P : Type 0} → (ℤ → Names (List P)) → ℤ → List ℕ → ℕ → Option (RowDocument P)
+row_posting has r term d = option_map (document_with d) (get (has r) term)
 
-abbrev pub want_spans : (ℤ → Postings) → ℤ → List ℕ → ℕ → Option SpanDocument
-want_spans doc r term d = option_map (span_posting d) (get (doc r).spans term)
+abbrev pub word_posting : (ℤ → Postings) → ℤ → List ℕ → ℕ → Option WordDocument
+word_posting doc = row_posting (λ r. (doc r).words)
+
+abbrev pub section_posting : (ℤ → Postings) → ℤ → List ℕ → ℕ → Option SpanDocument
+section_posting doc = row_posting (λ r. (doc r).spans)
 
 -- ---- costs
 
 -- What a document costs: the sum, over its postings, of the weight of the entry that has this posting alone, under the greatest number.
 abbrev pub words_cost : List ℕ → Postings → ℕ
-words_cost i p = sum_by (posting_cost i) (entries p.words)
+words_cost i p = sum_by (positions_cost i) (entries p.words)
 
 abbrev pub spans_cost : List ℕ → Postings → ℕ
 spans_cost i p = sum_by (pairs_cost i) (entries p.spans)
@@ -66,3 +67,7 @@ its_terms = ap word_terms fox_and_quick
 
 pub no_sections : section_terms (text_entries default_prefs (codes "quick fox quick")) ≡ []
 no_sections = ap section_terms fox_and_quick
+
+-- a row without a text has nothing
+no_text : text_postings default_prefs None ≡ record { words = empty; spans = empty }
+no_text = refl

@@ -28,8 +28,8 @@ pub record ContextIndex : Type 0 where
   pub marks : Rows (Mark (Unit {0}))
 
 -- how many marks an index can ever make
-abbrev pub most_given : ℕ
-most_given = 2 ^ 32 - 2
+abbrev pub mark_limit : ℕ
+mark_limit = 2 ^ 32 - 2
 
 -- as an index begins
 abbrev pub no_part : Part
@@ -67,15 +67,15 @@ HasAllRows range = (r : ℤ) → IsRow r → is_key_in range r ≡ true
 -- ---- what statements make of it
 
 -- A row's mark is lost: the index is tidy no more, and if the row was settled, what its document costs is wasted.
-abbrev pub wasted : Option (Mark (Unit {0})) → ℕ → Part → Part
-wasted None cost p = p
-wasted (Some Pending) cost p = record p { tidiness = Untidy }
-wasted (Some (Settled _)) cost p = record p { tidiness = Untidy; waste = p.waste + cost }
+abbrev pub part_after_loss : Option (Mark (Unit {0})) → ℕ → Part → Part
+part_after_loss None cost p = p
+part_after_loss (Some Pending) cost p = record p { tidiness = Untidy }
+part_after_loss (Some (Settled _)) cost p = record p { tidiness = Untidy; waste = p.waste + cost }
 
 -- where some rows wait, that many marks are made, and the index is tidy no more
-abbrev pub made : ℕ → Part → Part
-made zero p = p
-made (suc n) p = record p { given = p.given + suc n; tidiness = Untidy }
+abbrev pub part_with_marks : ℕ → Part → Part
+part_with_marks zero p = p
+part_with_marks (suc n) p = record p { given = p.given + suc n; tidiness = Untidy }
 
 -- each row that waits is settled
 abbrev pub all_settled : Rows (Mark (Unit {0})) → Rows (Mark (Unit {0}))
@@ -86,11 +86,11 @@ abbrev pub settled_rows : List ℤ → Rows (Mark (Unit {0}))
 settled_rows rows = from_entries (map (λ r. (r, Settled tt)) rows)
 
 -- computed examples
-the_most : most_given ≡ 4294967294
+the_most : mark_limit ≡ 4294967294
 the_most = refl
 
 -- three rows, of which the last waits
-abbrev three_marks : List (ℤ × Mark (Unit {0}))
+abbrev pub three_marks : List (ℤ × Mark (Unit {0}))
 three_marks = (pos 1, Settled tt) ∷ (pos 2, Settled tt) ∷ (pos 3, Pending) ∷ []
 
 abbrev two_given : Part
@@ -100,16 +100,16 @@ one_waits : waiting_rows (from_sorted three_marks) ≡ pos 3 ∷ []
 one_waits = ap (λ (es : List (ℤ × Mark (Unit {0}))). keys_where in_queue es) (entries-from_sorted int_cmp three_marks tt)
 
 -- what is lost of a settled row, and of one that waits
-a_lost_mark : wasted (Some (Settled tt)) 128 (record two_given { tidiness = Packed }) ≡ record { given = 2; tidiness = Untidy; waste = 192 }
+a_lost_mark : part_after_loss (Some (Settled tt)) 128 (record two_given { tidiness = Packed }) ≡ record { given = 2; tidiness = Untidy; waste = 192 }
 a_lost_mark = refl
 
-one_that_waited : wasted (Some Pending) 128 (record two_given { tidiness = Packed }) ≡ two_given
+one_that_waited : part_after_loss (Some Pending) 128 (record two_given { tidiness = Packed }) ≡ two_given
 one_that_waited = refl
 
-three_more : made 3 two_given ≡ record { given = 5; tidiness = Untidy; waste = 64 }
+three_more : part_with_marks 3 two_given ≡ record { given = 5; tidiness = Untidy; waste = 64 }
 three_more = refl
 
-none_more : made 0 two_given ≡ two_given
+none_more : part_with_marks 0 two_given ≡ two_given
 none_more = refl
 
 -- both ends of a range belong to it

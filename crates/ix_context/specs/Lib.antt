@@ -4,10 +4,10 @@ pub mod Spelling
 pub mod Documents
 pub mod Standing
 pub mod Gathering
-pub mod Grown
+pub mod GatheredRows
 pub mod Changes
 pub mod Contexts
-pub mod Stands
+pub mod Contents
 pub mod Limits
 pub mod Sees
 pub mod Shapes

@@ -1,5 +1,5 @@
 -- What a search needs of an index.
-use Rattle.std.specs.Prelude.{ℕ, ℤ, ◌≡◌, ◌≤◌, ◌<◌, ◌^◌, nat_lt, true, false, is_some, List, [], length, codes, Option, Some, None, refl}
+use Rattle.std.specs.Prelude.{ℕ, ℤ, ◌≡◌, ◌≤◌, ◌<◌, ◌^◌, nat_lt, true, false, is_some, List, [], length, codes, Some, None, refl}
 use Rattle.std.specs.Option.{option_and_then}
 use Rattle.std.specs.Ordering.{int_cmp}
 use Rattle.std.specs.FinMap.{get, empty, get-empty}
@@ -9,7 +9,7 @@ use Rattle.ct_entry.specs.Keys.{IsRow}
 use Rattle.tb_table.specs.Tables.{Table, text_in_column}
 use Rattle.tx_settings.specs.Defaults.{default_prefs}
 use Rattle.ix_kinds.specs.Indextypes.{IndexOf}
-use Rattle.ix_context.specs.Indexes.{ContextIndex, most_given, no_part, texts_in}
+use Rattle.ix_context.specs.Indexes.{ContextIndex, mark_limit, no_part, texts_in}
 
 -- Its row keys fit 64 bits, its documents 32, and the texts that it sees have at most 2 ^ 24 bytes.
 pub record IsWithinLimits (t : Table) (x : IndexOf ContextIndex) : Type 0 where
@@ -18,7 +18,7 @@ pub record IsWithinLimits (t : Table) (x : IndexOf ContextIndex) : Type 0 where
   pub texts : (r : ℤ) (text : List ℕ) → texts_in t x.column r ≡ Some text → length text ≤ 2 ^ 24
 
 -- computed examples: no index that keeps its rules has given too many documents; and an index of no row
-none_gives_more : nat_lt most_given (2 ^ 32) ≡ true
+none_gives_more : nat_lt mark_limit (2 ^ 32) ≡ true
 none_gives_more = refl
 
 of_no_row : IsWithinLimits (record { columns = []; rows = empty }) (record { table = codes "docs"; column = 1; prefs = default_prefs; body = record { part = no_part; marks = empty } })

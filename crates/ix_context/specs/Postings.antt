@@ -25,9 +25,10 @@ use Rattle.tx_document.specs.declared.entries.Entry.{Entry}
 use Rattle.tx_settings.specs.Defaults.{default_prefs, plain}
 use Rattle.tx_document.specs.Documents.{document, pair}
 use Rattle.tx_document.specs.Entries.{DocumentPlace, section_stream, places_of, entry, entry_of, entries}
-use Rattle.ix_posting.specs.Rows.{Rise}
-use Rattle.ix_posting.specs.SpanRows.{PairsFollow, no_pair}
+use Rattle.ix_posting.specs.Forms.{Rise, PlacesRise, pair_form, no_pair}
 use Rattle.ix_rows.specs.WordRows.{word_term}
+use Rattle.ix_rows.specs.Firsts.{first_positions}
+use Rattle.ix_rows.specs.SpanRows.{section_term}
 
 -- ---- texts as documents
 
@@ -47,14 +48,6 @@ text_entries p text = entries (text_document p text)
 -- a section, or a key of a stream
 abbrev pub is_section_entry : Entry → Bool
 is_section_entry e = e.stream == section_stream
-
--- the positions of a key; each place is a pair of one twice
-abbrev pub first_positions : List Pair → List ℕ
-first_positions ps = map (λ p. p.first) ps
-
--- a section, as it stands in a key: the length of its name, and the name
-abbrev pub section_term : List ℕ → List ℕ
-section_term section = length section ∷ section
 
 -- the term of a key of a stream, with its positions
 abbrev pub word_in : Entry → Option (List ℕ × List ℕ)
@@ -82,7 +75,7 @@ pub record IsSection (e : Entry) : Type 0 where
   pub named : IsName e.token
   pub some : 1 ≤ length e.places
   pub few : length e.places < 2 ^ 32
-  pub rise : PairsFollow no_pair e.places
+  pub rise : PlacesRise pair_form no_pair e.places
 
 abbrev pub IsSectionOrWord : Bool → Entry → Type 0
 IsSectionOrWord true e = IsSection e

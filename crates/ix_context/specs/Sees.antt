@@ -1,20 +1,24 @@
 -- What calls promise of the tables and of a CONTEXT index that a keeper's content spells, by the view of the keeper.
-use Rattle.std.specs.Prelude.{ℕ, ◌≡◌, ◌+◌, List, length, Option, Some, None, Result, Err, IfOk, refl}
+use Rattle.std.specs.Prelude.{ℕ, ◌≡◌, ◌+◌, ◌<◌, List, length, map, Option, Some, None, Result, Err, IfOk, refl}
 use Rattle.std.proofs.Common.{sym, ◌∙◌}
 use Rattle.ct_keep.specs.Content.{Content}
 use Rattle.ct_keep.specs.KeeperViews.{KeeperView}
-use Rattle.ct_entry.specs.Keys.{at, HasKeysOnly}
+use Rattle.ct_base.specs.declared.numbers.RowKey.{RowKey}
+use Rattle.ct_entry.specs.Keys.{Key, at, HasKeysOnly}
 use Rattle.tb_table.specs.declared.columns.Target.{Target}
 use Rattle.tb_table.specs.Tables.{Table, Tables}
 use Rattle.tx_settings.specs.declared.preferences.Prefs.{Prefs}
 use Rattle.ix_kinds.specs.Rows.{table_at}
 use Rattle.ix_kinds.specs.Indextypes.{IndexOf}
 use Rattle.ix_context.specs.declared.ranges.KeyRange.{KeyRange}
-use Rattle.ix_context.specs.Indexes.{ContextIndex, most_given, texts_in, rows_within, waiting_rows}
+use Rattle.ix_context.specs.declared.faults.ContextFault.{ContextFault}
+use Rattle.ix_context.specs.declared.faults.ContextFault.TheVariants.{TooMany}
+use Rattle.ix_context.specs.Gathering.{IndexRowsView, texts_gathered}
+use Rattle.ix_context.specs.Indexes.{ContextIndex, mark_limit, texts_in, rows_within, waiting_rows, target_text}
 use Rattle.ix_context.specs.Changes.{ChangesWithin}
 use Rattle.ix_context.specs.Contexts.{context_stands, context_sync_changes, context_create_changes}
 use Rattle.ix_context.specs.Limits.{IsWithinLimits}
-use Rattle.ix_context.specs.Stands.{HoldsTables, HoldsContext}
+use Rattle.ix_context.specs.Contents.{HoldsTables, HoldsContext}
 
 -- what holds of the tables that the content spells, where that is told
 abbrev pub ToldTables : {K : Type 0} → (K → KeeperView) → K → (Tables → Type 0) → Type 0
@@ -39,13 +43,36 @@ SeesWithinLimits view old i result gives =
 
 -- ---- what calls find to do, or not
 
+-- what a synchronisation of the index puts, and how many documents it has given then
+abbrev pub synced_changes_of : List ℕ → Table → IndexOf ContextIndex → List (Key × Option (List ℕ))
+synced_changes_of i t x = context_sync_changes i x (texts_in t x.column) (waiting_rows x.body.marks)
+
+abbrev pub given_after_sync : IndexOf ContextIndex → ℕ
+given_after_sync x = x.body.part.given + length (waiting_rows x.body.marks)
+
+-- what a new index on a target puts, and how many documents it has given then
+abbrev pub created_changes_of : Tables → List ℕ → Target → Prefs → KeyRange → List (Key × Option (List ℕ))
+created_changes_of ts i target prefs range = context_create_changes (table_at ts target.table) i target prefs range
+
+abbrev pub given_after_create : Tables → Target → KeyRange → ℕ
+given_after_create ts target range = length (rows_within (table_at ts target.table) range)
+
 -- the changes of a synchronisation, and of a new index, where these have at most as many documents as there are numbers
 abbrev pub AreSyncChanges : List ℕ → Table → IndexOf ContextIndex → Option (List (List ℕ × Option (List ℕ))) → Type 0
-AreSyncChanges i t x found = ChangesWithin most_given (x.body.part.given + length (waiting_rows x.body.marks)) (context_sync_changes i x (texts_in t x.column) (waiting_rows x.body.marks)) found
+AreSyncChanges i t x found = ChangesWithin mark_limit (given_after_sync x) (synced_changes_of i t x) found
 
 abbrev pub AreCreateChanges : Tables → List ℕ → Target → Prefs → KeyRange → Option (List (List ℕ × Option (List ℕ))) → Type 0
-AreCreateChanges ts i target prefs range found =
-    ChangesWithin most_given (length (rows_within (table_at ts target.table) range)) (context_create_changes (table_at ts target.table) i target prefs range) found
+AreCreateChanges ts i target prefs range found = ChangesWithin mark_limit (given_after_create ts target range) (created_changes_of ts i target prefs range) found
+
+-- TooMany is answered only of more documents than there are numbers.
+abbrev pub IsTooManyOnly : {T : Type 0} → Result T ContextFault → ℕ → Type 0
+IsTooManyOnly result given = result ≡ Err TooMany → mark_limit < given
+
+-- ---- what is gathered
+
+-- of the texts of these rows, which become documents of an index on a target that reads texts by these preferences, the first of them this one
+abbrev pub rows_gathered : Tables → Target → Prefs → ℕ → List RowKey → IndexRowsView
+rows_gathered ts target prefs first rows = texts_gathered prefs (target_text ts target) first (map (λ r. r.0) rows)
 
 -- computed examples: a call that failed gave nothing; and where no content is told, nothing is said of its tables
 gave_nothing : {T E : Type 0} (gives : Tables → T → Type 0) (ts : Tables) (e : E) → IfOk (Err e) (gives ts) ≡ Unit {0}

@@ -9,8 +9,9 @@ use Rattle.ct_entry.specs.declared.kinds.Kind.{Kind}
 use Rattle.ct_entry.specs.declared.kinds.Kind.TheVariants as kind
 use Rattle.ct_entry.specs.Keys.{Key, key, row_part, document_part, posting_part, span_part, IsRowPart, IsDocument, IsToken, IsPart}
 use Rattle.ct_entry.specs.Shapes.{AreShaped}
-use Rattle.ix_posting.specs.Rows.{IsPostingRow, posting_bytes}
-use Rattle.ix_posting.specs.SpanRows.{IsSpanRow, span_row_bytes}
+use Rattle.ix_posting.specs.declared.rows.RowDocument.{RowDocument}
+use Rattle.ix_posting.specs.Forms.{PlaceForm, number_form, pair_form}
+use Rattle.ix_posting.specs.Rows.{IsPostingRowOf, posting_bytes_of}
 use Rattle.tx_settings.specs.declared.preferences.Prefs.{Prefs}
 use Rattle.tx_settings.specs.Defaults.{default_prefs}
 use Rattle.tx_settings.specs.PrefsBytes.{IsPrefs}
@@ -36,20 +37,20 @@ pub record IsIndexEntry (value : List ℕ) : Type 0 where
 abbrev pub IsDocumentPart : List ℕ → Type 0
 IsDocumentPart bytes = (document : ℕ) × IsDocument document × (bytes ≡ document_part document)
 
--- A row whose first document is this, where it is told which lists of documents are rows, how a row is spelt, and the number of each document.
-pub record StartsAt {D : Type 0} (Is : List D → Type 0) (spelling : List D → List ℕ) (number : D → ℕ) (document : ℕ) (value : List ℕ) : Type 0 where
-  pub first : D
-  pub others : List D
-  pub starts : number first ≡ document
-  pub row : Is (first ∷ others)
-  pub spelt : value ≡ spelling (first ∷ others)
+-- A row whose first document is this.
+pub record StartsAt {P : Type 0} (form : PlaceForm P) (document : ℕ) (value : List ℕ) : Type 0 where
+  pub first : RowDocument P
+  pub others : List (RowDocument P)
+  pub starts : first.document ≡ document
+  pub row : IsPostingRowOf form (first ∷ others)
+  pub spelt : value ≡ posting_bytes_of form (first ∷ others)
 
--- of postings, and of pairs
+-- of a word, and of a section
 abbrev pub IsRowFrom : ℕ → List ℕ → Type 0
-IsRowFrom document value = StartsAt IsPostingRow posting_bytes (λ d. d.document) document value
+IsRowFrom = StartsAt number_form
 
 abbrev pub IsSpanRowFrom : ℕ → List ℕ → Type 0
-IsSpanRowFrom document value = StartsAt IsSpanRow span_row_bytes (λ d. d.document) document value
+IsSpanRowFrom = StartsAt pair_form
 
 -- ---- the rests of keys whose first document is this
 
@@ -82,67 +83,67 @@ IndexValueAt kind.Spans part value = (document : ℕ) × IsSpanPart part documen
 IndexValueAt k part value = ⊥
 
 -- the rule by which entries of indexes are well shaped
-abbrev pub HasIndexValue : Key → List ℕ → Type 0
-HasIndexValue k value = IndexValueAt k.kind k.part value
+abbrev pub HasContextValue : Key → List ℕ → Type 0
+HasContextValue k value = IndexValueAt k.kind k.part value
 
 -- the rest of a key of this kind, and a value that it may have
-abbrev pub IsIndexShape : Kind → List ℕ → List ℕ → Type 0
-IsIndexShape kind part value = IsPart kind part × IndexValueAt kind part value
+abbrev pub IsContextShape : Kind → List ℕ → List ℕ → Type 0
+IsContextShape kind part value = IsPart kind part × IndexValueAt kind part value
 
 -- Unless the call failed, a batch of well shaped entries of indexes is one still.
 abbrev pub KeepsShape : {T E : Type 0} → List (List ℕ × Option (List ℕ)) → List (List ℕ × Option (List ℕ)) → Result T E → Type 0
-KeepsShape old new result = OnOk result (AreShaped HasIndexValue old → AreShaped HasIndexValue new)
+KeepsShape old new result = OnOk result (AreShaped HasContextValue old → AreShaped HasContextValue new)
 
 -- computed examples: an entry of each kind
 
 -- the entry of an index on the column 1 of a table `t` that has given two documents
-an_index : HasIndexValue (key kind.Indexes (codes "di") []) (1 ∷ 1 ∷ 0x74 ∷ 1 ∷ 0 ∷ 0 ∷ 0 ∷ 2 ∷ 0 ∷ 0 ∷ 0 ∷ 0 ∷ 0 ∷ 0 ∷ 3 ∷ 0 ∷ 0 ∷ 0 ∷ [])
+an_index : HasContextValue (key kind.Indexes (codes "di") []) (1 ∷ 1 ∷ 0x74 ∷ 1 ∷ 0 ∷ 0 ∷ 0 ∷ 2 ∷ 0 ∷ 0 ∷ 0 ∷ 0 ∷ 0 ∷ 0 ∷ 3 ∷ 0 ∷ 0 ∷ 0 ∷ [])
 unfolding varint encode
 an_index = record { table = codes "t"; column = 1; prefs = default_prefs; next = 3; named = record { spelt = refl; lower = refl }; place = omega arith; are = record { lexer = refl; can_be = defaults_can_be_set; stop = refl; group = refl; named = refl }; fits = omega arith; spelt = refl }
 
-row_of_a_document : HasIndexValue (key kind.DocumentRows (codes "di") (document_part 1)) (0x80 ∷ 0 ∷ 0 ∷ 0 ∷ 0 ∷ 0 ∷ 0 ∷ 7 ∷ [])
+row_of_a_document : HasContextValue (key kind.DocumentRows (codes "di") (document_part 1)) (0x80 ∷ 0 ∷ 0 ∷ 0 ∷ 0 ∷ 0 ∷ 0 ∷ 7 ∷ [])
 unfolding row_bytes
 row_of_a_document = (pos 7, omega arith, refl)
 
-document_of_a_row : HasIndexValue (key kind.RowDocuments (codes "di") (row_part (pos 7))) (0 ∷ 0 ∷ 0 ∷ 1 ∷ [])
+document_of_a_row : HasContextValue (key kind.RowDocuments (codes "di") (row_part (pos 7))) (0 ∷ 0 ∷ 0 ∷ 1 ∷ [])
 document_of_a_row = (1, omega arith, refl)
 
-a_row_waits : HasIndexValue (key kind.Pending (codes "di") (row_part (pos 7))) []
+a_row_waits : HasContextValue (key kind.Pending (codes "di") (row_part (pos 7))) []
 a_row_waits = refl
 
 -- a word at the positions 1 and 3 of the document 1
-a_row_of_postings : HasIndexValue (key kind.Postings (codes "di") (posting_part 0 (codes "fox") 1)) (1 ∷ 1 ∷ 2 ∷ 1 ∷ 2 ∷ [])
+a_row_of_postings : HasContextValue (key kind.Postings (codes "di") (posting_part 0 (codes "fox") 1)) (1 ∷ 1 ∷ 2 ∷ 1 ∷ 2 ∷ [])
 unfolding varint
 a_row_of_postings = (
   1,
   record { stream = 0; token = codes "fox"; streams = omega arith; is = record { some = omega arith; short = omega arith }; spelt = refl },
   record {
-    first = record { document = 1; positions = 1 ∷ 3 ∷ [] };
+    first = record { document = 1; places = 1 ∷ 3 ∷ [] };
     others = [];
     starts = refl;
-    row = record { some = omega arith; few = omega arith; rise = (omega arith, omega arith, omega arith, (omega arith, omega arith, (omega arith, omega arith, tt)), tt) };
+    row = record { some = omega arith; few = omega arith; rise = (omega arith, omega arith, omega arith, omega arith, (omega arith, omega arith, (omega arith, omega arith, tt)), tt) };
     spelt = refl;
   },
 )
 
 -- a section from the position 1 to the position 3 of the document 7
-a_row_of_spans : HasIndexValue (key kind.Spans (codes "di") (span_part (codes "title") 7)) (1 ∷ 7 ∷ 1 ∷ 1 ∷ 2 ∷ [])
+a_row_of_spans : HasContextValue (key kind.Spans (codes "di") (span_part (codes "title") 7)) (1 ∷ 7 ∷ 1 ∷ 1 ∷ 2 ∷ [])
 unfolding varint
 a_row_of_spans = (
   7,
   record { section = codes "title"; named = record { spelt = refl; lower = refl }; spelt = refl },
   record {
-    first = record { document = 7; pairs = record { first = 1; last = 3 } ∷ [] };
+    first = record { document = 7; places = record { first = 1; last = 3 } ∷ [] };
     others = [];
     starts = refl;
-    row = record { some = omega arith; few = omega arith; rise = (omega arith, omega arith, omega arith, omega arith, (inl (omega arith), omega arith, omega arith, omega arith, tt), tt) };
+    row = record { some = omega arith; few = omega arith; rise = (omega arith, omega arith, omega arith, omega arith, (inl (omega arith), (omega arith, omega arith, omega arith), tt), tt) };
     spelt = refl;
   },
 )
 
 -- a row that waits has no value, and a table is no entry of an index
-more_than_a_note : HasIndexValue (key kind.Pending (codes "di") (row_part (pos 7))) (0 ∷ []) → ⊥
+more_than_a_note : HasContextValue (key kind.Pending (codes "di") (row_part (pos 7))) (0 ∷ []) → ⊥
 more_than_a_note is = let e : ◌≡◌ {A = List ℕ} (0 ∷ []) [] = is in cc
 
-no_index : HasIndexValue (key kind.Tables (codes "t") []) [] → ⊥
+no_index : HasContextValue (key kind.Tables (codes "t") []) [] → ⊥
 no_index is = is

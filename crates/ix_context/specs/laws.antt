@@ -1,12 +1,11 @@
 pub mod Postings
 pub mod Lengths
 pub mod IndexChanges
-pub mod Terms
 pub mod Standing
 pub mod Bodies
 pub mod Parts
 pub mod Gathered
-pub mod Grown
+pub mod GatheredRows
 pub mod Notes
 pub mod RowChanges
 pub mod Syncs

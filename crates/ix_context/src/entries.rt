@@ -1,5 +1,5 @@
 //! The entries of indexes.
-#![tactic(auto, using(ct_keep::specs::Composing::reads_short))]
+#![tactic(auto, using(ct_keep::specs::laws::Composing::reads_short))]
 
 ghost use Rattle.std.specs.Prelude.{◌≡◌, [], ◌∷◌, IfOk, IfSome, OnErr, Some, None, true};
 ghost use Rattle.std.specs.Option.{option_map};
@@ -8,8 +8,7 @@ ghost use Rattle.ct_keep.specs.Looks.{look, LooksAtMost};
 ghost use Rattle.ct_entry.specs.declared.kinds.Kind.TheVariants as kind;
 ghost use Rattle.ct_entry.specs.Keys.{key, bytes, at};
 ghost use Rattle.tx_settings.specs.Attributes.{can_be_set};
-ghost use Rattle.ix_context.specs.Spelling.{index_bytes, SpellsIndex, index_change};
-ghost use Rattle.ix_context.specs.Spelling.{HasIndexParts};
+ghost use Rattle.ix_context.specs.Spelling.{index_bytes, SpellsIndex, index_change, HasIndexParts};
 ghost use Rattle.ix_context.specs.Changes.{Adds};
 ghost use Rattle.ix_context.specs.Shapes.{KeepsShape};
 
@@ -51,7 +50,7 @@ fn index_value(
     Ok(value)
 }
 
-/// Adds the change that an index is on this target, reads texts so, and gives this document next.
+/// Adds the change that puts the entry of an index: its target, its preferences, and the number of its next document.
 pub(crate) fn put_index(
     alloc: Global,
     batch: &mut Batch,
@@ -65,7 +64,7 @@ pub(crate) fn put_index(
     ensures err { OnErr result (batch.new ≡ batch.old) }
     ensures shaped { KeepsShape batch.old batch.new result }
 {
-    // What names, preferences and a number behind a reference keep to is known once they are read.
+    // Read so that the proof knows the rules of names, preferences and numbers.
     let _named = index.as_str();
     let _table = target.table.as_str();
     let _column = target.column;
@@ -74,7 +73,7 @@ pub(crate) fn put_index(
     put_entry(alloc, batch, Kind::Indexes, index, &[], value)
 }
 
-/// The table, the column, the preferences and the next document, where the bytes are those of an index.
+/// The table, the column, the preferences and the next document, where the bytes are those of an index. None where they spell none.
 fn parts(alloc: Global, value: &[u8]) -> Result<Option<(&[u8], u8, Prefs, u32)>, Memory>
     ensures parts { IfOk result (λ found. HasIndexParts value.now (option_map (λ r. (r.0.now, r.1, r.2, r.3)) found)) }
     ensures set { IfOk result (λ found. IfSome found (λ r. can_be_set r.2.lexer ≡ true)) }

@@ -1,23 +1,25 @@
 //! Gathering the postings of rows that become documents.
-#![tactic(auto, using(ct_keep::specs::Composing::reads_on, ct_keep::specs::Composing::reads_short))]
+#![tactic(auto, using(ct_keep::specs::laws::Composing::reads_on, ct_keep::specs::laws::Composing::reads_short))]
 
-ghost use Rattle.std.specs.Prelude.{◌≡◌, ◌++◌, ◌<◌, ◌≤◌, ◌^◌, All, IfOk, OnOk, length, true};
+ghost use Rattle.std.specs.Prelude.{◌≡◌, ◌<◌, ◌^◌, All, IfOk, OnOk, true};
 ghost use Rattle.ct_keep.specs.KeeperViews.{OnlyReads};
-ghost use Rattle.ct_entry.specs.Changes.{spell};
-ghost use Rattle.ix_rows.specs.PlaceBytes.{position_bytes, pair_bytes};
+ghost use Rattle.ix_posting.specs.Forms.{counted_bytes, number_form, pair_form};
 ghost use Rattle.ix_rows.specs.WordRows.{word_term};
+ghost use Rattle.ix_rows.specs.SpanRows.{section_term};
 ghost use Rattle.tx_settings.specs.Attributes.{can_be_set};
 ghost use Rattle.ix_context.specs.Changes.{Adds};
-ghost use Rattle.ix_context.specs.Gathering.{nothing_gathered, with_word, with_section, with_entry, with_entries, with_text, gathering_changes};
-ghost use Rattle.ix_context.specs.Grown.{AreGathered};
+ghost use Rattle.ix_context.specs.Gathering.{nothing_gathered, with_word_entry, with_section_entry, with_entry, with_entries, with_text, gathering_changes};
+ghost use Rattle.ix_context.specs.GatheredRows.{AreGathered};
 ghost use Rattle.ix_context.specs.Indexes.{target_text};
-ghost use Rattle.ix_context.specs.Postings.{first_positions, section_term, IsWord, IsSection, IsPosting, IsShortOrNone, if_short};
+ghost use Rattle.ix_context.specs.Postings.{IsWord, IsSection, IsPosting, IsShortOrNone, if_short};
+ghost use Rattle.ix_rows.specs.Firsts.{first_positions};
 ghost use Rattle.ix_context.specs.Sees.{ToldTables, SeesTables};
 
 use ct_base::{Memory, Name, RowKey, Text};
 use ct_entry::Kind;
 use ct_keep::{Batch, KeepFault, Keeper};
-use ix_rows::{TermRows, put_firsts, put_pairs};
+use ix_posting::put_places;
+use ix_rows::{TermRows, put_firsts, put_section_term, put_word_term};
 use std::alloc::Global;
 use std::marker::Model;
 use tb_table::{Target, text_of};
@@ -25,7 +27,7 @@ use tx_document::{Entry, analyse};
 use tx_settings::Prefs;
 
 /// How many bytes of text a document may have: far more than a text of a table.
-const MOST_BYTES: usize = 1 << 19;
+const INDEXED_TEXT_LIMIT: usize = 1 << 19;
 
 /// The stream of sections, which is none of words.
 const SECTIONS: u8 = 255;
@@ -41,14 +43,12 @@ struct Spelling {
 fn spell_word(spelling: &mut Spelling, word: &Entry) -> Result<(), Memory>
     requires { IsWord word.now }
     ensures term { OnOk result (spelling.new.term.items ≡ word_term word.now.stream word.now.token) }
-    ensures places { OnOk result (spelling.new.places.items ≡ position_bytes (first_positions word.now.places)) }
+    ensures places { OnOk result (spelling.new.places.items ≡ counted_bytes number_form (first_positions word.now.places)) }
 {
     let token = word.token.as_slice();
     spelling.term.clear();
     spelling.places.clear();
-    spelling.term.push(word.stream)?;
-    spelling.term.push(token.len() as u8)?;
-    spelling.term.extend_from_slice(token)?;
+    put_word_term(&mut spelling.term, word.stream, token)?;
     put_firsts(&mut spelling.places, word.places.as_slice())
 }
 
@@ -56,39 +56,38 @@ fn spell_word(spelling: &mut Spelling, word: &Entry) -> Result<(), Memory>
 fn spell_section(spelling: &mut Spelling, section: &Entry) -> Result<(), Memory>
     requires { IsSection section.now }
     ensures term { OnOk result (spelling.new.term.items ≡ section_term section.now.token) }
-    ensures places { OnOk result (spelling.new.places.items ≡ pair_bytes section.now.places) }
+    ensures places { OnOk result (spelling.new.places.items ≡ counted_bytes pair_form section.now.places) }
 {
     let name = section.token.as_slice();
     spelling.term.clear();
     spelling.places.clear();
-    spelling.term.push(name.len() as u8)?;
-    spelling.term.extend_from_slice(name)?;
-    put_pairs(&mut spelling.places, section.places.as_slice())
+    put_section_term(&mut spelling.term, name)?;
+    put_places(&mut spelling.places, section.places.as_slice())
 }
 
 /// The rows of postings of words and of sections, of documents that come in rising order: their bytes, and nothing else of the texts.
 #[derive(Drop)]
-pub(crate) struct Gathered {
+pub(crate) struct IndexRows {
     words: TermRows,
     sections: TermRows,
 }
 
-impl Model for Gathered {
-    ghost use Rattle.ix_context.specs.Gathering.{Gathering, gathering_code};
+impl Model for IndexRows {
+    ghost use Rattle.ix_context.specs.Gathering.{IndexRowsView, index_rows_code};
 
-    ghost Value = { Gathering };
+    ghost Value = { IndexRowsView };
 
-    ghost coded = { gathering_code };
+    ghost coded = { index_rows_code };
 
     ghost view = { λ g. record { words = g.words; sections = g.sections } };
 }
 
-impl Gathered {
+impl IndexRows {
     /// Nothing yet. It takes no memory.
-    pub(crate) fn new(alloc: Global) -> Gathered
+    pub(crate) fn new(alloc: Global) -> IndexRows
         ensures { result ≡ nothing_gathered }
     {
-        Gathered {
+        IndexRows {
             words: TermRows::new(alloc),
             sections: TermRows::new(alloc),
         }
@@ -103,7 +102,7 @@ impl Gathered {
         word: &Entry,
     ) -> Result<(), Memory>
         requires { IsWord word.now }
-        ensures { OnOk result (self.new ≡ with_word self.old document word.now) }
+        ensures { OnOk result (self.new ≡ with_word_entry self.old document word.now) }
     {
         spell_word(spelling, word)?;
         self.words
@@ -119,7 +118,7 @@ impl Gathered {
         section: &Entry,
     ) -> Result<(), Memory>
         requires { IsSection section.now }
-        ensures { OnOk result (self.new ≡ with_section self.old document section.now) }
+        ensures { OnOk result (self.new ≡ with_section_entry self.old document section.now) }
     {
         spell_section(spelling, section)?;
         self.sections
@@ -186,7 +185,7 @@ impl Gathered {
         self.put_entries(alloc, document, entries)
     }
 
-    /// The words and the sections of a row's text come, of which an index on this target is a copy; the row becomes this document.
+    /// Gathers the words and the sections of the text of a row that an index on this target sees; the row becomes this document.
     pub(crate) fn put_row<K: Keeper>(
         &mut self,
         alloc: Global,
@@ -231,7 +230,7 @@ fn if_short(text: Option<Text>) -> Option<Text>
     ensures { result ≡ if_short text }
 {
     match text {
-        Some(text) if text.as_str().len() <= MOST_BYTES => Some(text),
+        Some(text) if text.as_str().len() <= INDEXED_TEXT_LIMIT => Some(text),
         _ => None,
     }
 }

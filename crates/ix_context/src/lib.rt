@@ -12,6 +12,7 @@ mod querying;
 mod ranges;
 mod shapes;
 mod syncing;
+mod texts;
 
 pub use creating::create;
 pub use faults::ContextFault;
@@ -19,5 +20,5 @@ pub use laws::all_in_range;
 pub use noting::{note_delete, note_insert, note_update};
 pub use querying::prefs_of;
 pub use ranges::KeyRange;
-pub use shapes::is_index_shape;
+pub use shapes::is_context_shape;
 pub use syncing::sync;

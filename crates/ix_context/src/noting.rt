@@ -1,14 +1,14 @@
 //! Noting changes of rows in indexes.
-#![tactic(auto, using(ct_keep::specs::Composing::reads_on, ct_keep::specs::Composing::reads_short))]
+#![tactic(auto, using(ct_keep::specs::laws::Composing::reads_on, ct_keep::specs::laws::Composing::reads_short))]
 
 ghost use Rattle.std.specs.Prelude.{◌≡◌, OnErr, Some, Err};
 ghost use Rattle.std.specs.Option.{option_map};
 ghost use Rattle.ct_keep.specs.KeeperViews.{ReadsKeeper, Told};
 ghost use Rattle.ct_keep.specs.Looks.{no_looks, LooksAtMost};
 ghost use Rattle.ct_entry.specs.Keys.{at};
-ghost use Rattle.ix_docmap.specs.Changes.{gone_changes, changed_changes};
+ghost use Rattle.ix_docmap.specs.Changes.{gone_changes, changed_changes, queue_changes};
 ghost use Rattle.ix_docmap.specs.Readings.{document_at};
-ghost use Rattle.ix_context.specs.Changes.{note_insert_changes, Adds};
+ghost use Rattle.ix_context.specs.Changes.{Adds};
 ghost use Rattle.ix_context.specs.Faults.{context_fault_of};
 ghost use Rattle.ix_context.specs.Shapes.{KeepsShape};
 
@@ -25,7 +25,7 @@ pub fn note_insert(
     index: &Name,
     key: RowKey,
 ) -> Result<(), ContextFault>
-    ensures ok { Adds batch.old batch.new result (note_insert_changes index.now key.0) }
+    ensures ok { Adds batch.old batch.new result (queue_changes index.now key.0) }
     ensures err { OnErr result (batch.new ≡ batch.old) }
     ensures no_disk { result ≡ Err ContextFault.Disk → ⊥ }
     ensures never_too_many { result ≡ Err ContextFault.TooMany → ⊥ }

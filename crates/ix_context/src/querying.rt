@@ -1,5 +1,5 @@
 //! How an index reads texts and queries.
-#![tactic(auto, using(ct_keep::specs::Composing::reads_on, ct_keep::specs::Composing::reads_short))]
+#![tactic(auto, using(ct_keep::specs::laws::Composing::reads_on, ct_keep::specs::laws::Composing::reads_short))]
 
 ghost use Rattle.std.specs.Prelude.{◌≡◌, [], Some, None, IfOk, true, IfSome};
 ghost use Rattle.ct_keep.specs.KeeperViews.{Finds, OnlyReads};

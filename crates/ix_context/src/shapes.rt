@@ -3,13 +3,13 @@
 ghost use Rattle.std.specs.Prelude.{◌≡◌, ◌↔◌, ◌≤◌, ℕ, List, IfOk, IfSome, IfNone, IsTrue, length};
 ghost use Rattle.ct_entry.specs.Keys.{span_part, IsDocument};
 ghost use Rattle.ct_entry.specs.declared.kinds.Kind.TheVariants as kind;
-ghost use Rattle.ix_context.specs.Shapes.{IsDocumentPart, IsIndexShape, IsPostingPart, NamesSpanDocument, IsRowFrom, IsSpanRowFrom};
+ghost use Rattle.ix_context.specs.Shapes.{IsDocumentPart, IsContextShape, IsPostingPart, NamesSpanDocument, StartsAt};
 
 use crate::entries::index_of;
-use ct_base::{Memory, Name};
+use ct_base::{Memory, Name, Pair};
 use ct_bytes::read_u32;
 use ct_entry::{Kind, is_row_part};
-use ix_posting::{Row, RowFault, SpanRow};
+use ix_posting::{Place, Row, RowFault};
 use std::alloc::Global;
 
 /// The greatest number of a stream.
@@ -68,23 +68,12 @@ fn span_document(alloc: Global, part: &[u8]) -> Result<Option<u32>, Memory>
     Ok(Some(document))
 }
 
-/// Whether the bytes are a row of postings whose first document is this.
-fn is_row_from(alloc: Global, value: &[u8], document: u32) -> Result<bool, Memory>
-    ensures { IfOk result (λ is. IsTrue is ↔ IsRowFrom document value.now) }
+/// Whether the bytes are a row of postings, with places of this form, whose first document is this.
+fn is_row_from<P: Place>(alloc: Global, value: &[u8], document: u32) -> Result<bool, Memory>
+    ensures { IfOk result (λ is. IsTrue is ↔ StartsAt P.form document value.now) }
 {
-    match Row::decode(alloc, value) {
+    match Row::<P>::decode(alloc, value) {
         Ok(row) => Ok(row.documents()[0].document == document),
-        Err(RowFault::BadRow) => Ok(false),
-        Err(RowFault::Memory) => Err(Memory),
-    }
-}
-
-/// Whether the bytes are a row of pairs whose first document is this.
-fn is_span_row_from(alloc: Global, value: &[u8], document: u32) -> Result<bool, Memory>
-    ensures { IfOk result (λ is. IsTrue is ↔ IsSpanRowFrom document value.now) }
-{
-    match SpanRow::decode(alloc, value) {
-        Ok(spans) => Ok(spans.documents()[0].document == document),
         Err(RowFault::BadRow) => Ok(false),
         Err(RowFault::Memory) => Err(Memory),
     }
@@ -92,7 +81,7 @@ fn is_span_row_from(alloc: Global, value: &[u8], document: u32) -> Result<bool, 
 
 /// Whether these are the rest of the key of an index, and its entry.
 fn is_index_entry(alloc: Global, part: &[u8], value: &[u8]) -> Result<bool, Memory>
-    ensures { IfOk result (λ is. IsTrue is ↔ IsIndexShape kind.Indexes part.now value.now) }
+    ensures { IfOk result (λ is. IsTrue is ↔ IsContextShape kind.Indexes part.now value.now) }
 {
     let Some(_entry) = index_of(alloc, value)? else {
         return Ok(false);
@@ -102,30 +91,35 @@ fn is_index_entry(alloc: Global, part: &[u8], value: &[u8]) -> Result<bool, Memo
 
 /// Whether these are the rest of a key of postings, and a row with the key's first document.
 fn is_posting_entry(alloc: Global, part: &[u8], value: &[u8]) -> Result<bool, Memory>
-    ensures { IfOk result (λ is. IsTrue is ↔ IsIndexShape kind.Postings part.now value.now) }
+    ensures { IfOk result (λ is. IsTrue is ↔ IsContextShape kind.Postings part.now value.now) }
 {
     let Some(document) = posting_document(part) else {
         return Ok(false);
     };
-    is_row_from(alloc, value, document)
+    is_row_from::<u32>(alloc, value, document)
 }
 
 /// Whether these are the rest of a key of spans, and a row with the key's first document.
 fn is_span_entry(alloc: Global, part: &[u8], value: &[u8]) -> Result<bool, Memory>
-    ensures { IfOk result (λ is. IsTrue is ↔ IsIndexShape kind.Spans part.now value.now) }
+    ensures { IfOk result (λ is. IsTrue is ↔ IsContextShape kind.Spans part.now value.now) }
 {
     let Some(document) = span_document(alloc, part)? else {
         return Ok(false);
     };
-    is_span_row_from(alloc, value, document)
+    is_row_from::<Pair>(alloc, value, document)
 }
 
 /// Whether a key of this kind may have this rest, and an entry of an index under it this value. No other entry is looked at:
 /// there may be no such table, row or document.
 ///
 /// Its cost is the length of both.
-pub fn is_index_shape(alloc: Global, kind: Kind, part: &[u8], value: &[u8]) -> Result<bool, Memory>
-    ensures { IfOk result (λ is. IsTrue is ↔ IsIndexShape kind part.now value.now) }
+pub fn is_context_shape(
+    alloc: Global,
+    kind: Kind,
+    part: &[u8],
+    value: &[u8],
+) -> Result<bool, Memory>
+    ensures { IfOk result (λ is. IsTrue is ↔ IsContextShape kind part.now value.now) }
 {
     match kind {
         Kind::Indexes => is_index_entry(alloc, part, value),

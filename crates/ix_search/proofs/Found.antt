@@ -25,16 +25,15 @@ use Rattle.ct_entry.specs.laws.Documents.{posting_prefix, span_prefix}
 use Rattle.ct_entry.specs.laws.Rows.{row_of-row_part}
 use Rattle.tb_table.specs.Tables.{Table}
 use Rattle.ix_posting.specs.declared.rows.RowDocument.{RowDocument}
-use Rattle.ix_posting.specs.declared.span_rows.SpanDocument.{SpanDocument}
+use Rattle.ix_posting.specs.Forms.{PlaceForm, number_form, pair_form}
+use Rattle.ix_rows.specs.PlacedRows.{document_number}
+use Rattle.ix_rows.specs.laws.PlacedRows.{HasPlaces, row_laws}
 use Rattle.ix_posting.specs.Lists.{posting_list}
-use Rattle.ix_posting.specs.Rows.{DocumentsRise, IsPostingRow, posting_bytes}
-use Rattle.ix_posting.specs.SpanRows.{SpanDocumentsRise, IsSpanRow, span_row_bytes}
+use Rattle.ix_posting.specs.Rows.{WordDocument, SpanDocument, IsPostingRowOf, posting_bytes_of, IsPostingRow, posting_bytes, DocumentsRise, IsSpanRow, span_row_bytes}
 use Rattle.ix_rows.specs.Posts.{posting, Rises}
 use Rattle.ix_rows.specs.Spelling.{first_document}
-use Rattle.ix_rows.specs.WordRows.{document_number, word_term, IsWordTerm}
-use Rattle.ix_rows.specs.SpanRows.{span_number, IsSpanTerm}
-use Rattle.ix_rows.specs.laws.WordRows.{HasPositions, word_laws}
-use Rattle.ix_rows.specs.laws.SpanRows.{HasPairs, span_laws}
+use Rattle.ix_rows.specs.WordRows.{word_term, IsWordTerm}
+use Rattle.ix_rows.specs.SpanRows.{IsSpanTerm, section_term}
 use Rattle.ix_rows.specs.laws.Tidies.{firsts_of}
 use Rattle.ix_rows.specs.laws.Scans.{rows_scanned}
 use Rattle.ix_docmap.specs.Marks.{Mark, Pending, Settled, is_settled}
@@ -43,7 +42,6 @@ use Rattle.tx_settings.specs.PrefsBytes.{IsPrefs}
 use Rattle.tx_document.specs.Documents.{document}
 use Rattle.tx_document.specs.Entries.{positions_of}
 use Rattle.tx_document.specs.Promises.{if_any}
-use Rattle.ix_context.specs.Postings.{section_term}
 use Rattle.ix_kinds.specs.Indextypes.{IndexOf}
 use Rattle.ix_context.specs.Indexes.{ContextIndex, texts_in}
 use Rattle.ix_context.specs.Documents as documents
@@ -55,16 +53,15 @@ use Rattle.q_tree.specs.Slots.{same_slot, has_key}
 use Rattle.q_tree.specs.Documents.{put_all, section_pairs}
 use Rattle.q_tree.specs.Scores.{DocPostings, score, last_position}
 use Rattle.q_tree.specs.Soundness.{is_sound}
-use Rattle.q_tree.specs.Trees.{Reduced}
+use Rattle.q_tree.specs.ReducedQueries.{Reduced}
 use Rattle.q_tree.specs.laws.SameSlots.{slots_decide}
 use Rattle.ix_lists.specs.Documents.{places_at}
-use Rattle.ix_lists.specs.SpanDocuments.{pairs_at}
 use Rattle.ix_cursor.specs.Feeding.{union_at}
 use Rattle.ix_cursor.specs.Reading.{documents_of, tokens_read, rows_read, postings_read}
 use Rattle.ix_search.specs.declared.wanting.Wanted.{Wanted}
 use Rattle.ix_search.specs.Texts.{doc_sections, scanned_postings}
 use Rattle.ix_search.specs.Parts.{has_keys_alone, keys_of}
-use Rattle.ix_rows.specs.Holding.{SpellRows}
+use Rattle.ix_rows.specs.Taking.{SpellRows, Hold}
 use Rattle.ix_search.specs.Reading.{KeyRows, NameRows, HoldsKey, HoldsSlot, HoldsName, slot_feed, section_feed, wanted_slots, section_names, feeds_of}
 use Rattle.ix_search.specs.Walking.{if_some, AreOneToOne, AreScores}
 use Rattle.ix_search.specs.Finding.{query_score, scored, found, found_at}
@@ -77,73 +74,50 @@ use Rattle.ix_search.proofs.Terms.{any_positions, get-word, get-section}
 
 -- ---- what a document has, by rows and by posting lists
 
-abbrev positions_in : Option RowDocument → List ℕ
-positions_in None = []
-positions_in (Some x) = x.positions
+module _ {P : Type 0} where
+  abbrev places_in : Option (RowDocument P) → List P
+  places_in None = []
+  places_in (Some x) = x.places
 
-places_are : (xs : List RowDocument) (d : ℕ) → places_at xs d ≡ positions_in (posting document_number d xs)
-places_are [] d = refl
-places_are (x ∷ xs) d = ap (λ b. cond b x.positions (places_at xs d)) (number_turned x.document d) ∙ go (d == x.document) (places_are xs d)
-  where
-    go : (b : Bool) → places_at xs d ≡ positions_in (posting document_number d xs) → cond b x.positions (places_at xs d) ≡ positions_in (cond b (Some x) (posting document_number d xs))
-    go true rest = refl
-    go false rest = rest
+  places_are : (xs : List (RowDocument P)) (d : ℕ) → places_at xs d ≡ places_in (posting document_number d xs)
+  places_are [] d = refl
+  places_are (x ∷ xs) d = ap (λ b. cond b x.places (places_at xs d)) (number_turned x.document d) ∙ go (d == x.document) (places_are xs d)
+    where
+      go : (b : Bool) → places_at xs d ≡ places_in (posting document_number d xs) → cond b x.places (places_at xs d) ≡ places_in (cond b (Some x) (posting document_number d xs))
+      go true rest = refl
+      go false rest = rest
 
-abbrev pairs_in : Option SpanDocument → List Pair
-pairs_in None = []
-pairs_in (Some x) = x.pairs
+module _ {P : Type 0} (form : PlaceForm P) where
+  -- ---- rows whose documents rise
 
-pairs_are : (xs : List SpanDocument) (d : ℕ) → pairs_at xs d ≡ pairs_in (posting span_number d xs)
-pairs_are [] d = refl
-pairs_are (x ∷ xs) d = ap (λ b. cond b x.pairs (pairs_at xs d)) (number_turned x.document d) ∙ go (d == x.document) (pairs_are xs d)
-  where
-    go : (b : Bool) → pairs_at xs d ≡ pairs_in (posting span_number d xs) → cond b x.pairs (pairs_at xs d) ≡ pairs_in (cond b (Some x) (posting span_number d xs))
-    go true rest = refl
-    go false rest = rest
+  rise_through : (before low : ℕ) (xs : List (RowDocument P)) (rows : List (List (RowDocument P))) → DocumentsRise form low xs → Rises document_number before (xs ++ posting_list rows)
+      → ((b : ℕ) → Rises document_number b (posting_list rows) → DocumentsRise form b (posting_list rows)) → DocumentsRise form before (xs ++ posting_list rows)
+  rise_through before low [] rows up rise later = later before rise
+  rise_through before low (x ∷ xs) rows up rise later = (rise.0, rise.1, up.2, up.3, up.4, rise_through x.document x.document xs rows up.5 rise.2 later)
 
--- ---- rows whose documents rise
+  rows_rise : (rows : List (List (RowDocument P))) → EachIs (IsPostingRowOf form) rows → (before : ℕ) → Rises document_number before (posting_list rows) → DocumentsRise form before (posting_list rows)
+  rows_rise [] each before rise = tt
+  rows_rise (row ∷ rows) each before rise = rise_through before 0 row rows each.0.rise rise (rows_rise rows each.1)
 
-rise_through : (before low : ℕ) (xs : List RowDocument) (rows : List (List RowDocument)) → DocumentsRise low xs → Rises document_number before (xs ++ posting_list rows)
-    → ((b : ℕ) → Rises document_number b (posting_list rows) → DocumentsRise b (posting_list rows)) → DocumentsRise before (xs ++ posting_list rows)
-rise_through before low [] rows up rise later = later before rise
-rise_through before low (x ∷ xs) rows up rise later = (rise.0, rise.1, up.2, up.3, rise_through x.document x.document xs rows up.4 rise.2 later)
+  -- ---- rows as entries hold them
 
-rows_rise : (rows : List (List RowDocument)) → EachIs IsPostingRow rows → (before : ℕ) → Rises document_number before (posting_list rows) → DocumentsRise before (posting_list rows)
-rows_rise [] each before rise = tt
-rows_rise (row ∷ rows) each before rise = rise_through before 0 row rows each.0.rise rise (rows_rise rows each.1)
+  abbrev row_entries : List (List (RowDocument P)) → List (List ℕ × List ℕ)
+  row_entries rows = map (λ row. (document_part (first_document document_number row), posting_bytes_of form row)) rows
 
-spans_through : (before low : ℕ) (xs : List SpanDocument) (rows : List (List SpanDocument)) → SpanDocumentsRise low xs → Rises span_number before (xs ++ posting_list rows)
-    → ((b : ℕ) → Rises span_number b (posting_list rows) → SpanDocumentsRise b (posting_list rows)) → SpanDocumentsRise before (xs ++ posting_list rows)
-spans_through before low [] rows up rise later = later before rise
-spans_through before low (x ∷ xs) rows up rise later = (rise.0, rise.1, up.2, up.3, up.4, spans_through x.document x.document xs rows up.5 rise.2 later)
+  rows_spell : (rows : List (List (RowDocument P))) → EachIs (IsPostingRowOf form) rows → SpellRows form (row_entries rows) rows
+  rows_spell [] each = tt
+  rows_spell (row ∷ rows) each = (each.0, refl, rows_spell rows each.1)
 
-span_rows_rise : (rows : List (List SpanDocument)) → EachIs IsSpanRow rows → (before : ℕ) → Rises span_number before (posting_list rows) → SpanDocumentsRise before (posting_list rows)
-span_rows_rise [] each before rise = tt
-span_rows_rise (row ∷ rows) each before rise = spans_through before 0 row rows each.0.rise rise (span_rows_rise rows each.1)
+  rows_some : (rows : List (List (RowDocument P))) → EachIs (IsPostingRowOf form) rows → EachIs (λ (row : List (RowDocument P)). 1 ≤ length row) rows
+  rows_some [] each = tt
+  rows_some (row ∷ rows) each = (each.0.some, rows_some rows each.1)
 
--- ---- rows as entries hold them
-
-abbrev word_entries : List (List RowDocument) → List (List ℕ × List ℕ)
-word_entries rows = map (λ row. (document_part (first_document document_number row), posting_bytes row)) rows
-
-rows_spell : (rows : List (List RowDocument)) → EachIs IsPostingRow rows → SpellRows document_number DocumentsRise IsPostingRow posting_bytes (word_entries rows) rows
-rows_spell [] each = tt
-rows_spell (row ∷ rows) each = (each.0, refl, rows_spell rows each.1)
-
-rows_some : (rows : List (List RowDocument)) → EachIs IsPostingRow rows → EachIs (λ row. 1 ≤ length row) rows
-rows_some [] each = tt
-rows_some (row ∷ rows) each = (each.0.some, rows_some rows each.1)
-
-abbrev span_entries : List (List SpanDocument) → List (List ℕ × List ℕ)
-span_entries rows = map (λ row. (document_part (first_document span_number row), span_row_bytes row)) rows
-
-spans_spell : (rows : List (List SpanDocument)) → EachIs IsSpanRow rows → SpellRows span_number SpanDocumentsRise IsSpanRow span_row_bytes (span_entries rows) rows
-spans_spell [] each = tt
-spans_spell (row ∷ rows) each = (each.0, refl, spans_spell rows each.1)
-
-spans_some : (rows : List (List SpanDocument)) → EachIs IsSpanRow rows → EachIs (λ row. 1 ≤ length row) rows
-spans_some [] each = tt
-spans_some (row ∷ rows) each = (each.0.some, spans_some rows each.1)
+  -- what is scanned of a term is its rows
+  rows_held : (es : List (List ℕ × List ℕ)) (rows : List (List (RowDocument P))) → es ≡ row_entries rows → EachIs (IsPostingRowOf form) rows → Rises document_number 0 (posting_list rows) → Hold form es rows
+  rows_held es rows scanned each rise = record {
+    spell = subst (λ (xs : List (List ℕ × List ℕ)). SpellRows form xs rows) (sym scanned) (rows_spell rows each);
+    rise = rows_rise rows each 0 rise;
+  }
 
 -- ---- what was read of a slot or a section of the query
 
@@ -210,15 +184,12 @@ module _ (m : Content) (t : Table) (x : IndexOf ContextIndex) (i : List ℕ) (on
       let is_term : IsWordTerm term = (s, (k, low, token, refl)) in
       let rows = words s k in
       let are = stand.words.are term is_term in
-      let scanned : owner_entries kind.Postings i term m ≡ word_entries rows =
-      rows_scanned document_number posting_bytes IsWordTerm m kind.Postings i term stand.word_rows only is_term (posting_prefix s k) (rows_some rows are.each)
-      (firsts_of document_number posting_bytes IsPostingRow HasPositions word_laws rows are.each) are.rise stand.words.spelled in
+      let scanned : owner_entries kind.Postings i term m ≡ row_entries number_form rows =
+      rows_scanned document_number posting_bytes IsWordTerm m kind.Postings i term stand.word_rows only is_term (posting_prefix s k) (rows_some number_form rows are.each)
+      (firsts_of document_number posting_bytes IsPostingRow (HasPlaces number_form) (row_laws number_form) rows are.each) are.rise stand.words.spelled in
       record {
         token = token;
-        hold = record {
-          spell = subst (λ (es : List (List ℕ × List ℕ)). SpellRows document_number DocumentsRise IsPostingRow posting_bytes es rows) (sym scanned) (rows_spell rows are.each);
-          rise = rows_rise rows are.each 0 are.rise;
-        };
+        hold = rows_held number_form (owner_entries kind.Postings i term m) rows scanned are.each are.rise;
       }
 
   name_held : (name : List ℕ) → HoldsName m i spans name
@@ -227,13 +198,10 @@ module _ (m : Content) (t : Table) (x : IndexOf ContextIndex) (i : List ℕ) (on
       let is_term : IsSpanTerm term = (name, is, refl) in
       let rows = spans name in
       let are = stand.spans.are term is_term in
-      let scanned : owner_entries kind.Spans i term m ≡ span_entries rows =
-      rows_scanned span_number span_row_bytes IsSpanTerm m kind.Spans i term stand.span_rows only is_term (span_prefix name) (spans_some rows are.each)
-      (firsts_of span_number span_row_bytes IsSpanRow HasPairs span_laws rows are.each) are.rise stand.spans.spelled in
-      record {
-        spell = subst (λ (es : List (List ℕ × List ℕ)). SpellRows span_number SpanDocumentsRise IsSpanRow span_row_bytes es rows) (sym scanned) (spans_spell rows are.each);
-        rise = span_rows_rise rows are.each 0 are.rise;
-      }
+      let scanned : owner_entries kind.Spans i term m ≡ row_entries pair_form rows =
+      rows_scanned document_number span_row_bytes IsSpanTerm m kind.Spans i term stand.span_rows only is_term (span_prefix name) (rows_some pair_form rows are.each)
+      (firsts_of document_number span_row_bytes IsSpanRow (HasPlaces pair_form) (row_laws pair_form) rows are.each) are.rise stand.spans.spelled in
+      rows_held pair_form (owner_entries kind.Spans i term m) rows scanned are.each are.rise
 
   slot_held : (w : Wanted) → Holds CanBeRead w → HoldsSlot m i words w
   slot_held w is = each_so IsToken (λ k. HoldsKey m i w.stream k (words w.stream k)) (keys_of w.slot) (λ k token. key_held w.stream k is.stream token) is.keys
@@ -258,17 +226,17 @@ module _ (m : Content) (t : Table) (x : IndexOf ContextIndex) (i : List ℕ) (on
       key_places : (s : ℕ) (k : List ℕ) → s ≤ stream_limit → IsToken k → places_at (posting_list (words s k)) d ≡ seen_positions x seen s k
       key_places s k low token =
           places_are (posting_list (words s k)) d
-          ∙ ap positions_in (stand.words.lists.exact (word_term s k) d r (s, (k, low, token, refl)) here)
+          ∙ ap places_in (stand.words.lists.exact (word_term s k) d r (s, (k, low, token, refl)) here)
           ∙ by_text seen
         where
-          had : (ps : List ℕ) → positions_in (option_map (documents.word_posting d) (any_positions ps)) ≡ ps
+          had : (ps : List ℕ) → places_in (option_map (documents.document_with d) (any_positions ps)) ≡ ps
           had [] = refl
           had (p ∷ ps) = refl
 
-          by_text : (o : Option (List ℕ)) → positions_in (option_map (documents.word_posting d) (get (documents.text_postings x.prefs o).words (word_term s k))) ≡ seen_positions x o s k
-          by_text None = ap (λ (o : Option (List ℕ)). positions_in (option_map (documents.word_posting d) o)) (get-empty (slice_cmp nat_cmp) (word_term s k))
+          by_text : (o : Option (List ℕ)) → places_in (option_map (documents.document_with d) (get (documents.text_postings x.prefs o).words (word_term s k))) ≡ seen_positions x o s k
+          by_text None = ap (λ (o : Option (List ℕ)). places_in (option_map (documents.document_with d) o)) (get-empty (slice_cmp nat_cmp) (word_term s k))
           by_text (Some text) =
-              ap (λ (o : Option (List ℕ)). positions_in (option_map (documents.word_posting d) o)) (get-word s low k token.some x.prefs text)
+              ap (λ (o : Option (List ℕ)). places_in (option_map (documents.document_with d) o)) (get-word s low k token.some x.prefs text)
               ∙ had (positions_of s k (document x.prefs (chars text)).words)
 
       keys_union : (s : ℕ) (ks : List (List ℕ)) → s ≤ stream_limit → EachIs IsToken ks → union_at (documents_of (map (words s) ks)) d ≡ union (map {B = List ℕ} (λ k. seen_positions x seen s k) ks)
@@ -292,24 +260,24 @@ module _ (m : Content) (t : Table) (x : IndexOf ContextIndex) (i : List ℕ) (on
       slot_same : (s : ℕ) (slot : Slot) → IsThere (wanted_slots q) s slot → SameSlot read (seen_postings x seen) s slot
       slot_same s slot there =
           let p = slot_read words CanBeRead (wanted_slots q) s slot there slots_are_read in
-          slot_agrees s slot p.1 (ap (λ (tokens : List (List (List RowDocument))). union_at (documents_of tokens) d) p.0)
+          slot_agrees s slot p.1 (ap (λ (tokens : List (List (List WordDocument))). union_at (documents_of tokens) d) p.0)
 
       section_same : (name : List ℕ) → IsAmongNames (section_names q) name → SameSection read (seen_postings x seen) name
       section_same name there =
           let p = section_read spans (section_names q) name there named in
-          ap (λ (rows : List (List SpanDocument)). pairs_at (posting_list rows) d) p.0
-          ∙ pairs_are (posting_list (spans name)) d
-          ∙ ap pairs_in (stand.spans.lists.exact (section_term name) d r (name, p.1, refl) here)
+          ap (λ (rows : List (List SpanDocument)). places_at (posting_list rows) d) p.0
+          ∙ places_are (posting_list (spans name)) d
+          ∙ ap places_in (stand.spans.lists.exact (section_term name) d r (name, p.1, refl) here)
           ∙ by_text seen refl
         where
-          had : (ps : List Pair) → pairs_in (option_map (documents.span_posting d) (if_any ps)) ≡ ps
+          had : (ps : List Pair) → places_in (option_map (documents.document_with d) (if_any ps)) ≡ ps
           had [] = refl
           had (p ∷ ps) = refl
 
-          by_text : (o : Option (List ℕ)) → seen ≡ o → pairs_in (option_map (documents.span_posting d) (get (documents.text_postings x.prefs o).spans (section_term name))) ≡ (seen_postings x o).spans name
-          by_text None is = ap (λ (o : Option (List Pair)). pairs_in (option_map (documents.span_posting d) o)) (get-empty (slice_cmp nat_cmp) (section_term name))
+          by_text : (o : Option (List ℕ)) → seen ≡ o → places_in (option_map (documents.document_with d) (get (documents.text_postings x.prefs o).spans (section_term name))) ≡ (seen_postings x o).spans name
+          by_text None is = ap (λ (o : Option (List Pair)). places_in (option_map (documents.document_with d) o)) (get-empty (slice_cmp nat_cmp) (section_term name))
           by_text (Some text) is =
-              ap (λ (o : Option (List Pair)). pairs_in (option_map (documents.span_posting d) o)) (get-section name x.prefs text prefs (fit.texts r text is))
+              ap (λ (o : Option (List Pair)). places_in (option_map (documents.document_with d) o)) (get-section name x.prefs text prefs (fit.texts r text is))
               ∙ had (section_pairs name (doc_sections (document x.prefs (chars text)).sections))
 
       -- THE SCORE of what was read is that of the text

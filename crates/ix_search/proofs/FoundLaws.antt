@@ -9,10 +9,10 @@ use Rattle.std.specs.FinMap.{get, entries, find, get-entries, int_cmp-IsAntisymm
 use Rattle.std.proofs.lemmas.Bool.{lt-ltb, ltb-true}
 use Rattle.std.proofs.lemmas.Cmp.{int_cmp_total}
 use Rattle.std.proofs.lemmas.Option.{same_Some}
-use Rattle.ct_keep.specs.RisingKeys.{rises, entries_rise}
-use Rattle.ct_keep.specs.FoundKeys.{pair_found, found_pair}
+use Rattle.ct_keep.specs.laws.RisingKeys.{rises, entries_rise}
+use Rattle.ct_keep.specs.laws.FoundKeys.{pair_found, found_pair}
 use Rattle.tb_table.specs.Tables.{Table}
-use Rattle.q_tree.specs.Trees.{Reduced}
+use Rattle.q_tree.specs.ReducedQueries.{Reduced}
 use Rattle.ix_docmap.specs.Marks.{Mark, Pending, Settled, is_settled}
 use Rattle.ix_kinds.specs.Indextypes.{IndexOf}
 use Rattle.ix_context.specs.Indexes.{ContextIndex, texts_in}

@@ -13,7 +13,7 @@ use Rattle.ix_kinds.specs.Indextypes.{IndexOf}
 use Rattle.ix_context.specs.Indexes.{ContextIndex}
 use Rattle.ix_context.specs.Contexts.{context_stands}
 use Rattle.ix_context.specs.Limits.{IsWithinLimits}
-use Rattle.q_tree.specs.Trees.{Reduced, reduced_of}
+use Rattle.q_tree.specs.ReducedQueries.{Reduced, reduced_of}
 use Rattle.q_tree.specs.Scores.{score, last_position}
 use Rattle.q_tree.specs.Soundness.{is_sound}
 use Rattle.ix_cursor.specs.declared.reading.Feeds.{Feeds}

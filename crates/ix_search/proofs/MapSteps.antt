@@ -10,7 +10,7 @@ use Rattle.std.specs.FinMap.{get, empty, find, from_sorted, get-empty, get-inser
 use Rattle.std.proofs.lemmas.Bool.{cases_lt, lt-ltb, le-ltb, and_parts}
 use Rattle.std.proofs.lemmas.Cmp.{tied_itself}
 use Rattle.ct_base.specs.declared.numbers.DocId.{DocId}
-use Rattle.ct_keep.specs.SortedLaws.{entries-sorted}
+use Rattle.ct_base.specs.laws.SortedMaps.{entries-sorted}
 use Rattle.ct_base.specs.laws.Orders.{equal_from_test, eq_from_equal}
 use Rattle.ix_cursor.specs.Candidates.{IsLeast, behind_found}
 use Rattle.ix_search.specs.Gathering.{Documents, with_row_of, AreRowsOfDocuments}

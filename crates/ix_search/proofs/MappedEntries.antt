@@ -9,9 +9,9 @@ use Rattle.std.specs.Cmp.{IsTotalOrder}
 use Rattle.std.specs.FinMap.{FinMap, IsAntisymmetric, get, entries, find, is_sorted, from_sorted, entries-from_sorted, get-from_sorted, get-entries, same_map}
 use Rattle.std.proofs.lemmas.Bool.{and_parts, and_from}
 use Rattle.ct_base.specs.laws.Bools.{T_from_true}
-use Rattle.ct_keep.specs.RisingKeys.{below, rises, sorted_from_rises, entries_rise}
+use Rattle.ct_keep.specs.laws.RisingKeys.{below, rises, sorted_from_rises, entries_rise}
 use Rattle.ct_base.specs.laws.Orders.{equal_from_test}
-use Rattle.ct_keep.specs.FoundKeys.{none_below, below_tied}
+use Rattle.ct_keep.specs.laws.FoundKeys.{none_below, below_tied}
 
 -- what g makes of a key and its value, under the same key, where it makes something of them
 abbrev pub mapped_entries : {K X Y : Type 0} → (K → X → Option Y) → List (K × X) → List (K × Y)

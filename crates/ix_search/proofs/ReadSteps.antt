@@ -3,9 +3,8 @@ use Rattle.std.proofs.Common.{ℕ, ◌≡◌, ◌≤◌, List, [], ◌∷◌, �
 use Rattle.std.proofs.lemmas.List.{drop_all}
 use Rattle.ct_entry.specs.Lists.{EachIs}
 use Rattle.ix_posting.specs.Lists.{posting_list}
-use Rattle.ix_posting.specs.Rows.{DocumentsRise}
-use Rattle.ix_posting.specs.SpanRows.{SpanDocumentsRise}
-use Rattle.ix_posting.specs.declared.rows.RowDocument.{RowDocument}
+use Rattle.ix_posting.specs.Rows.{DocumentsRise, WordDocument}
+use Rattle.ix_posting.specs.Forms.{number_form, pair_form}
 use Rattle.ix_cursor.specs.declared.reading.SlotFeed.{SlotFeed}
 use Rattle.ix_cursor.specs.declared.reading.SectionFeed.{SectionFeed}
 use Rattle.ix_cursor.specs.Reading.{TokensRise, SlotFeedsRise, SectionFeedsRise}
@@ -15,12 +14,6 @@ module _ {X Y : Type 0} (P : X → Type 0) (f : X → Y) where
   pub record ReadSoFar (all rest : List X) (ys : List Y) : Type 0 where
     pub rest_too : EachIs P rest
     pub so_far : ys ++ map f rest ≡ map f all
-
-  pub read_begins : (all rest : List X) (ys : List Y) → rest ≡ all → ys ≡ [] → EachIs P all → ReadSoFar all rest ys
-  read_begins all rest ys whole none each = record {
-    rest_too = subst (EachIs P) (sym whole) each;
-    so_far = ap (λ (l : List Y). l ++ map f rest) none ∙ ap (map f) whole;
-  }
 
   pub read_on : (all old rest : List X) (x : X) (ys next : List Y) (y : Y) → ReadSoFar all old ys → old ≡ x ∷ rest → (P x → y ≡ f x) → next ≡ ys ++ y ∷ [] → ReadSoFar all rest next
   read_on all old rest x ys next y far is gives grown =
@@ -43,10 +36,10 @@ no_item xs k le = drop_all k xs le
 
 -- ---- what rises does so with one more
 
-pub tokens_rise : (ts next : List (List (List RowDocument))) (rows : List (List RowDocument)) → TokensRise ts → DocumentsRise 0 (posting_list rows) → next ≡ ts ++ rows ∷ [] → TokensRise next
+pub tokens_rise : (ts next : List (List (List WordDocument))) (rows : List (List WordDocument)) → TokensRise ts → DocumentsRise number_form 0 (posting_list rows) → next ≡ ts ++ rows ∷ [] → TokensRise next
 tokens_rise ts next rows rise more grown = subst TokensRise (sym grown) (go ts rise)
   where
-    go : (ts : List (List (List RowDocument))) → TokensRise ts → TokensRise (ts ++ rows ∷ [])
+    go : (ts : List (List (List WordDocument))) → TokensRise ts → TokensRise (ts ++ rows ∷ [])
     go [] rise = (more, tt)
     go (t ∷ ts) rise = (rise.0, go ts rise.1)
 
@@ -57,7 +50,7 @@ slots_rise fs next f rise more grown = subst SlotFeedsRise (sym grown) (go fs ri
     go [] rise = (more, tt)
     go (g ∷ gs) rise = (rise.0, go gs rise.1)
 
-pub sections_rise : (fs next : List SectionFeed) (f : SectionFeed) → SectionFeedsRise fs → SpanDocumentsRise 0 (posting_list f.rows) → next ≡ fs ++ f ∷ [] → SectionFeedsRise next
+pub sections_rise : (fs next : List SectionFeed) (f : SectionFeed) → SectionFeedsRise fs → DocumentsRise pair_form 0 (posting_list f.rows) → next ≡ fs ++ f ∷ [] → SectionFeedsRise next
 sections_rise fs next f rise more grown = subst SectionFeedsRise (sym grown) (go fs rise)
   where
     go : (fs : List SectionFeed) → SectionFeedsRise fs → SectionFeedsRise (fs ++ f ∷ [])

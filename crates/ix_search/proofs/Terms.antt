@@ -21,7 +21,9 @@ use Rattle.tx_document.specs.Entries.{place_map, entry_of, positions_of, section
 use Rattle.tx_document.specs.Promises.{as_pairs, if_any}
 use Rattle.tx_document.specs.laws.Found.{places_are_found, places_are_positions}
 use Rattle.ix_rows.specs.WordRows.{word_term}
-use Rattle.ix_context.specs.Postings.{places_in_text, text_entries, is_section_entry, first_positions, section_term, word_terms, section_terms}
+use Rattle.ix_context.specs.Postings.{places_in_text, text_entries, is_section_entry, word_terms, section_terms}
+use Rattle.ix_rows.specs.Firsts.{first_positions}
+use Rattle.ix_rows.specs.SpanRows.{section_term}
 use Rattle.ix_context.specs.Documents.{text_postings}
 use Rattle.ix_context.specs.laws.Postings.{Named, text_names, firsts_of_pairs}
 use Rattle.q_tree.specs.Documents.{section_pairs}

@@ -19,11 +19,11 @@ use Rattle.q_tree.specs.declared.flats.Slot.{Slot}
 use Rattle.q_tree.specs.declared.flats.Slot.TheVariants.{Takes}
 use Rattle.q_tree.specs.declared.flats.Place.TheVariants.{Sentence}
 use Rattle.q_tree.specs.declared.queries.Op.TheVariants.{And}
-use Rattle.q_tree.specs.Trees.{Reduced, Term, Joined, Inside}
+use Rattle.q_tree.specs.ReducedQueries.{Reduced, Term, Both, Within}
 use Rattle.q_tree.specs.Scores.{whole_score}
 use Rattle.ix_docmap.specs.Marks.{Mark, Pending, Settled}
 use Rattle.ix_kinds.specs.Indextypes.{IndexOf}
-use Rattle.ix_context.specs.Indexes.{ContextIndex, texts_in, no_part}
+use Rattle.ix_context.specs.Indexes.{ContextIndex, texts_in, no_part, three_marks}
 use Rattle.ix_search.specs.Texts.{scanned_postings, with_tags}
 
 -- the score of a query on a text, by its words and sections
@@ -58,7 +58,7 @@ above = refl
 only_as_high : scored_above 2 (pos 7) 2 ≡ None
 only_as_high = refl
 
-fox_and_dog : query_score default_prefs (Joined And (key_query (codes "fox")) (key_query (codes "dog"))) (codes "fox dog fox") ≡ 1
+fox_and_dog : query_score default_prefs (Both And (key_query (codes "fox")) (key_query (codes "dog"))) (codes "fox dog fox") ≡ 1
 unfolding encode chars caseless ucd_category key_text
 fox_and_dog = refl
 
@@ -69,11 +69,11 @@ a_phrase : query_score default_prefs (Term ((only (codes "big") ∷ only (codes 
 unfolding encode chars caseless ucd_category key_text
 a_phrase = refl
 
-in_one_sentence : query_score (plain sentences) (Inside Sentence (Joined And (key_query (codes "a")) (key_query (codes "b")))) (codes "a. b") ≡ 0
+in_one_sentence : query_score (plain sentences) (Within Sentence (Both And (key_query (codes "a")) (key_query (codes "b")))) (codes "a. b") ≡ 0
 unfolding encode chars caseless ucd_category key_text
 in_one_sentence = refl
 
-in_a_sentence : query_score (plain sentences) (Inside Sentence (Joined And (key_query (codes "a")) (key_query (codes "b")))) (codes "a b. c") ≡ 1
+in_a_sentence : query_score (plain sentences) (Within Sentence (Both And (key_query (codes "a")) (key_query (codes "b")))) (codes "a b. c") ≡ 1
 unfolding encode chars caseless ucd_category key_text
 in_a_sentence = refl
 
@@ -89,10 +89,7 @@ shown = refl
 not_yet : (t : Table) (x : IndexOf ContextIndex) (q : Reduced) → found_at t x q 0 (pos 1) Pending ≡ None
 not_yet t x q = refl
 
--- two rows that are settled, and one that waits
-abbrev pub three_marks : List (ℤ × Mark (Unit {0}))
-three_marks = (pos 1, Settled tt) ∷ (pos 2, Settled tt) ∷ (pos 3, Pending) ∷ []
-
+-- an index with two rows that are settled, and one that waits
 abbrev pub three_rows : IndexOf ContextIndex
 three_rows = record { table = codes "docs"; column = 1; prefs = default_prefs; body = record { part = no_part; marks = from_sorted three_marks } }
 

@@ -9,14 +9,14 @@ use Rattle.ucd_category.proofs.Computing.{ucd_category}
 use Rattle.caseless.proofs.Computing.{caseless}
 use Rattle.tx_chars.specs.Keys.{key_text}
 use Rattle.ct_base.specs.declared.lists.Value.{Value}
-use Rattle.ct_keep.specs.RisingKeys.{rises}
+use Rattle.ct_keep.specs.laws.RisingKeys.{rises}
 use Rattle.tb_table.specs.Tables.{Table}
-use Rattle.q_tree.specs.Trees.{Reduced}
+use Rattle.q_tree.specs.ReducedQueries.{Reduced}
 use Rattle.ix_docmap.specs.Marks.{Settled, is_settled}
 use Rattle.ix_kinds.specs.Indextypes.{IndexOf}
-use Rattle.ix_context.specs.Indexes.{ContextIndex, texts_in}
+use Rattle.ix_context.specs.Indexes.{ContextIndex, texts_in, three_marks}
 use Rattle.ix_context.specs.Contexts.{context_after}
-use Rattle.ix_search.specs.Finding.{query_score, found, three_marks, three_rows, big_fox}
+use Rattle.ix_search.specs.Finding.{query_score, found, three_rows, big_fox}
 
 -- ---- which rows, and with which scores
 

@@ -3,7 +3,7 @@ use Rattle.std.specs.Prelude.{ℕ, ℤ, ◌≡◌, ◌<◌, ◌^◌, Bool, true,
 use Rattle.std.specs.Ordering.{nat_cmp}
 use Rattle.std.specs.FinMap.{FinMap, get, insert, entries}
 use Rattle.ct_entry.specs.Maps.{Rows}
-use Rattle.q_tree.specs.Trees.{reduced_of}
+use Rattle.q_tree.specs.ReducedQueries.{reduced_of}
 use Rattle.q_tree.specs.Scores.{score, last_position}
 use Rattle.ix_cursor.specs.Reading.{postings_read}
 use Rattle.ix_search.specs.declared.gathering.Gathered.{Gathered}

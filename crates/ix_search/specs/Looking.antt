@@ -5,18 +5,20 @@ use Rattle.ct_keep.specs.KeeperViews.{Counts}
 use Rattle.ct_keep.specs.Looks.{no_looks, plus, scan_looks}
 use Rattle.ct_entry.specs.declared.kinds.Kind.TheVariants as kind
 use Rattle.ct_entry.specs.Keys.{prefix_of}
+use Rattle.ix_rows.specs.WordRows.{word_term}
+use Rattle.ix_rows.specs.SpanRows.{section_term}
 use Rattle.q_tree.specs.declared.flats.Slot.TheVariants.{Any}
-use Rattle.q_tree.specs.Trees.{Reduced, Term}
+use Rattle.q_tree.specs.ReducedQueries.{Reduced, Term}
 use Rattle.ix_search.specs.declared.wanting.Wanted.{Wanted}
 use Rattle.ix_search.specs.Parts.{keys_of}
-use Rattle.ix_search.specs.Reading.{key_prefix, name_prefix, wanted_slots, section_names}
+use Rattle.ix_search.specs.Reading.{wanted_slots, section_names}
 
 -- a scan of the rows of a key in a stream, and of those of a section
 abbrev pub key_looks : Content → List ℕ → ℕ → List ℕ → Counts
-key_looks m i stream key = scan_looks (prefix_of kind.Postings i ++ key_prefix stream key) m
+key_looks m i stream key = scan_looks (prefix_of kind.Postings i ++ word_term stream key) m
 
 abbrev pub name_looks : Content → List ℕ → List ℕ → Counts
-name_looks m i name = scan_looks (prefix_of kind.Spans i ++ name_prefix name) m
+name_looks m i name = scan_looks (prefix_of kind.Spans i ++ section_term name) m
 
 -- of each of some keys, of the keys of each of some slots, and of each of some sections
 abbrev pub keys_looks : Content → List ℕ → ℕ → List (List ℕ) → Counts

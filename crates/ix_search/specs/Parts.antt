@@ -6,7 +6,7 @@ use Rattle.q_tree.specs.declared.flats.Slot.{Slot}
 use Rattle.q_tree.specs.declared.flats.Slot.TheVariants.{Any, Takes}
 use Rattle.q_tree.specs.declared.flats.PatternBit.{PatternBit}
 use Rattle.q_tree.specs.declared.flats.Place.TheVariants.{Zone, Field, Sentence, Paragraph}
-use Rattle.q_tree.specs.Trees.{Reduced, Term, Joined, Weighted, Exceeding, Close, Inside, Defined}
+use Rattle.q_tree.specs.ReducedQueries.{Reduced, Term, Both, Weight, Above, Near, Within, Define}
 
 -- ---- queries that only keys are read for
 
@@ -27,12 +27,12 @@ term_has_keys_alone = list_all phrase_has_keys_alone
 -- NO SLOT HAS A PATTERN, and there is no DEFINESCORE
 abbrev pub has_keys_alone : Reduced → Bool
 has_keys_alone (Term phrases) = term_has_keys_alone phrases
-has_keys_alone (Joined op a b) = has_keys_alone a && has_keys_alone b
-has_keys_alone (Weighted w a) = has_keys_alone a
-has_keys_alone (Exceeding n a) = has_keys_alone a
-has_keys_alone (Close operands span ordered) = list_all term_has_keys_alone operands
-has_keys_alone (Inside place a) = has_keys_alone a
-has_keys_alone (Defined phrases sum) = false
+has_keys_alone (Both op a b) = has_keys_alone a && has_keys_alone b
+has_keys_alone (Weight w a) = has_keys_alone a
+has_keys_alone (Above n a) = has_keys_alone a
+has_keys_alone (Near operands span ordered) = list_all term_has_keys_alone operands
+has_keys_alone (Within place a) = has_keys_alone a
+has_keys_alone (Define phrases sum) = false
 
 -- the keys of a slot
 abbrev pub keys_of : Slot → List (List ℕ)
@@ -58,25 +58,25 @@ OfOperands P s operands = EachIs (λ phrases. OfTerm P s phrases) operands
 -- P holds of each slot of a query, each with the stream that it is looked for in, and Q of the name of each section
 abbrev pub OfParts : (ℕ → Slot → Type 0) → (List ℕ → Type 0) → Reduced → ℕ → Type 0
 OfParts P Q (Term phrases) s = OfTerm P s phrases
-OfParts P Q (Joined op a b) s = OfParts P Q a s × OfParts P Q b s
-OfParts P Q (Weighted w a) s = OfParts P Q a s
-OfParts P Q (Exceeding n a) s = OfParts P Q a s
-OfParts P Q (Close operands span ordered) s = OfOperands P s operands
-OfParts P Q (Inside (Field f) a) s = OfParts P Q a f
-OfParts P Q (Inside (Zone name) a) s = Q name × OfParts P Q a s
-OfParts P Q (Inside Sentence a) s = Q (codes "sentence") × OfParts P Q a s
-OfParts P Q (Inside Paragraph a) s = Q (codes "paragraph") × OfParts P Q a s
-OfParts P Q (Defined phrases sum) s = OfTerm P s phrases
+OfParts P Q (Both op a b) s = OfParts P Q a s × OfParts P Q b s
+OfParts P Q (Weight w a) s = OfParts P Q a s
+OfParts P Q (Above n a) s = OfParts P Q a s
+OfParts P Q (Near operands span ordered) s = OfOperands P s operands
+OfParts P Q (Within (Field f) a) s = OfParts P Q a f
+OfParts P Q (Within (Zone name) a) s = Q name × OfParts P Q a s
+OfParts P Q (Within Sentence a) s = Q (codes "sentence") × OfParts P Q a s
+OfParts P Q (Within Paragraph a) s = Q (codes "paragraph") × OfParts P Q a s
+OfParts P Q (Define phrases sum) s = OfTerm P s phrases
 
 -- computed examples
 abbrev fox : Slot
 fox = Takes (codes "fox" ∷ []) []
 
-a_key_alone : has_keys_alone (Inside Sentence (Term ((fox ∷ Any ∷ fox ∷ []) ∷ []))) ≡ true
+a_key_alone : has_keys_alone (Within Sentence (Term ((fox ∷ Any ∷ fox ∷ []) ∷ []))) ≡ true
 a_key_alone = refl
 
 a_pattern : has_keys_alone (Term ((Takes [] ([] ∷ []) ∷ []) ∷ [])) ≡ false
 a_pattern = refl
 
-in_a_field : (P : ℕ → Slot → Type 0) (Q : List ℕ → Type 0) → OfParts P Q (Inside (Field 3) (Term ((fox ∷ []) ∷ []))) 0 → P 3 fox
+in_a_field : (P : ℕ → Slot → Type 0) (Q : List ℕ → Type 0) → OfParts P Q (Within (Field 3) (Term ((fox ∷ []) ∷ []))) 0 → P 3 fox
 in_a_field P Q h = h.0.0

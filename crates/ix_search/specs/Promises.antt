@@ -8,7 +8,7 @@ use Rattle.tx_chars.specs.Keys.{key_text}
 use Rattle.tx_settings.specs.declared.preferences.Prefs.{Prefs}
 use Rattle.tx_settings.specs.PrefsBytes.{IsPrefs}
 use Rattle.tx_settings.specs.Defaults.{default_prefs}
-use Rattle.q_tree.specs.Trees.{Reduced}
+use Rattle.q_tree.specs.ReducedQueries.{Reduced}
 use Rattle.q_tree.specs.Scores.{DocPostings, score}
 use Rattle.q_tree.specs.Documents.{WordsRise, ArePostings}
 use Rattle.ix_search.specs.Parts.{OfParts}

@@ -1,40 +1,36 @@
 -- What is read of an index for a query.
-use Rattle.std.specs.Prelude.{ℕ, ◌≡◌, List, [], ◌∷◌, length, map, codes, refl}
+use Rattle.std.specs.Prelude.{ℕ, ◌≡◌, List, [], map, refl}
 use Rattle.ct_base.specs.Names.{IsName}
 use Rattle.ct_keep.specs.Content.{Content}
 use Rattle.ct_entry.specs.declared.kinds.Kind.TheVariants as kind
 use Rattle.ct_entry.specs.Keys.{IsToken}
 use Rattle.ct_entry.specs.Lists.{EachIs}
 use Rattle.ct_entry.specs.Listings.{owner_entries}
-use Rattle.ix_posting.specs.declared.rows.RowDocument.{RowDocument}
-use Rattle.ix_posting.specs.declared.span_rows.SpanDocument.{SpanDocument}
-use Rattle.q_tree.specs.Trees.{Reduced}
+use Rattle.ix_posting.specs.Rows.{WordDocument, SpanDocument}
+use Rattle.ix_rows.specs.Taking.{Hold}
+use Rattle.ix_rows.specs.WordRows.{word_term}
+use Rattle.ix_rows.specs.SpanRows.{section_term}
+use Rattle.ix_posting.specs.Forms.{number_form, pair_form}
+use Rattle.q_tree.specs.declared.flats.Slot.TheVariants.{Any}
+use Rattle.q_tree.specs.ReducedQueries.{Reduced}
 use Rattle.ix_cursor.specs.declared.reading.SlotFeed.{SlotFeed}
 use Rattle.ix_cursor.specs.declared.reading.SectionFeed.{SectionFeed}
 use Rattle.ix_cursor.specs.declared.reading.Feeds.{Feeds}
 use Rattle.ix_search.specs.declared.wanting.Wanted.{Wanted}
 use Rattle.ix_search.specs.Parts.{keys_of}
 use Rattle.ix_search.specs.Wanting.{with_slots, with_names}
-use Rattle.ix_rows.specs.Holding.{HoldRows, HoldSpans}
-
--- what follows the index in the keys of the rows of a key in a stream, and of those of a section, up to the document
-abbrev pub key_prefix : ℕ → List ℕ → List ℕ
-key_prefix stream key = stream ∷ length key ∷ key
-
-abbrev pub name_prefix : List ℕ → List ℕ
-name_prefix name = length name ∷ name
 
 -- rows of each key in each stream, and of each section
 abbrev pub KeyRows : Type 0
-KeyRows = ℕ → List ℕ → List (List RowDocument)
+KeyRows = ℕ → List ℕ → List (List WordDocument)
 
 abbrev pub NameRows : Type 0
 NameRows = List ℕ → List (List SpanDocument)
 
 -- the content holds these rows of a key in a stream, where the key is one
-pub record HoldsKey (m : Content) (i : List ℕ) (stream : ℕ) (key : List ℕ) (rows : List (List RowDocument)) : Type 0 where
+pub record HoldsKey (m : Content) (i : List ℕ) (stream : ℕ) (key : List ℕ) (rows : List (List WordDocument)) : Type 0 where
   pub token : IsToken key
-  pub hold : HoldRows (owner_entries kind.Postings i (key_prefix stream key) m) rows
+  pub hold : Hold number_form (owner_entries kind.Postings i (word_term stream key) m) rows
 
 -- of each key of a slot
 abbrev pub HoldsSlot : Content → List ℕ → KeyRows → Wanted → Type 0
@@ -42,7 +38,7 @@ HoldsSlot m i held w = EachIs (λ key. HoldsKey m i w.stream key (held w.stream 
 
 -- of a section
 abbrev pub HoldsName : Content → List ℕ → NameRows → List ℕ → Type 0
-HoldsName m i held name = IsName name → HoldSpans (owner_entries kind.Spans i (name_prefix name) m) (held name)
+HoldsName m i held name = IsName name → Hold pair_form (owner_entries kind.Spans i (section_term name) m) (held name)
 
 -- what is read of a slot, and of a section
 abbrev pub slot_feed : KeyRows → Wanted → SlotFeed
@@ -65,8 +61,8 @@ feeds_of words spans f = record { slots = map (slot_feed words) (wanted_slots f)
 -- ---- what was read, by the rows that the content holds
 
 -- of each of some keys in a stream
-abbrev pub AreRowsOfKeys : Content → List ℕ → ℕ → List (List ℕ) → List (List (List RowDocument)) → Type 0
-AreRowsOfKeys m i stream keys rows = (held : List ℕ → List (List RowDocument)) → EachIs (λ key. HoldsKey m i stream key (held key)) keys → rows ≡ map held keys
+abbrev pub AreRowsOfKeys : Content → List ℕ → ℕ → List (List ℕ) → List (List (List WordDocument)) → Type 0
+AreRowsOfKeys m i stream keys rows = (held : List ℕ → List (List WordDocument)) → EachIs (λ key. HoldsKey m i stream key (held key)) keys → rows ≡ map held keys
 
 -- of each of some slots
 abbrev pub AreFeedsOfSlots : Content → List ℕ → List Wanted → List SlotFeed → Type 0
@@ -81,6 +77,6 @@ abbrev pub AreFeedsOfQuery : Content → List ℕ → Reduced → Feeds → Type
 AreFeedsOfQuery m i q feeds =
     (words : KeyRows) (spans : NameRows) → EachIs (HoldsSlot m i words) (wanted_slots q) → EachIs (HoldsName m i spans) (section_names q) → feeds ≡ feeds_of words spans q
 
--- computed example
-the_prefix : key_prefix 1 (codes "fox") ≡ 1 ∷ 3 ∷ codes "fox"
-the_prefix = refl
+-- computed example: a slot that takes any word has no rows
+of_any_word : (held : KeyRows) → slot_feed held (record { stream = 0; slot = Any }) ≡ record { stream = 0; slot = Any; tokens = [] }
+of_any_word held = refl

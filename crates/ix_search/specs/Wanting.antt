@@ -7,7 +7,7 @@ use Rattle.q_tree.specs.declared.flats.Slot.TheVariants.{Any, Takes}
 use Rattle.q_tree.specs.declared.flats.Place.TheVariants.{Zone, Field, Sentence, Paragraph}
 use Rattle.q_tree.specs.declared.queries.Op.TheVariants.{And}
 use Rattle.q_tree.specs.Slots.{same_slot, has_key}
-use Rattle.q_tree.specs.Trees.{Reduced, Term, Joined, Weighted, Exceeding, Close, Inside, Defined}
+use Rattle.q_tree.specs.ReducedQueries.{Reduced, Term, Both, Weight, Above, Near, Within, Define}
 use Rattle.ix_search.specs.declared.wanting.Wanted.{Wanted}
 
 abbrev pub wanted : ℕ → Slot → Wanted
@@ -38,15 +38,15 @@ with_operands s (phrases ∷ operands) ws = with_operands s operands (with_term 
 -- THE SLOTS OF A QUERY in their streams, in the order of their first places
 abbrev pub with_slots : Reduced → ℕ → List Wanted → List Wanted
 with_slots (Term phrases) s ws = with_term s phrases ws
-with_slots (Joined op a b) s ws = with_slots b s (with_slots a s ws)
-with_slots (Weighted w a) s ws = with_slots a s ws
-with_slots (Exceeding n a) s ws = with_slots a s ws
-with_slots (Close operands span ordered) s ws = with_operands s operands ws
-with_slots (Inside (Field f) a) s ws = with_slots a f ws
-with_slots (Inside (Zone name) a) s ws = with_slots a s ws
-with_slots (Inside Sentence a) s ws = with_slots a s ws
-with_slots (Inside Paragraph a) s ws = with_slots a s ws
-with_slots (Defined phrases sum) s ws = with_term s phrases ws
+with_slots (Both op a b) s ws = with_slots b s (with_slots a s ws)
+with_slots (Weight w a) s ws = with_slots a s ws
+with_slots (Above n a) s ws = with_slots a s ws
+with_slots (Near operands span ordered) s ws = with_operands s operands ws
+with_slots (Within (Field f) a) s ws = with_slots a f ws
+with_slots (Within (Zone name) a) s ws = with_slots a s ws
+with_slots (Within Sentence a) s ws = with_slots a s ws
+with_slots (Within Paragraph a) s ws = with_slots a s ws
+with_slots (Define phrases sum) s ws = with_term s phrases ws
 
 -- with a name more, unless it is there
 abbrev pub with_name : List ℕ → List (List ℕ) → List (List ℕ)
@@ -55,15 +55,15 @@ with_name name ns = if has_key ns name then ns else ns ++ name ∷ []
 -- THE SECTIONS OF A QUERY, in the order of their first places
 abbrev pub with_names : Reduced → List (List ℕ) → List (List ℕ)
 with_names (Term phrases) ns = ns
-with_names (Joined op a b) ns = with_names b (with_names a ns)
-with_names (Weighted w a) ns = with_names a ns
-with_names (Exceeding n a) ns = with_names a ns
-with_names (Close operands span ordered) ns = ns
-with_names (Inside (Field f) a) ns = with_names a ns
-with_names (Inside (Zone name) a) ns = with_names a (with_name name ns)
-with_names (Inside Sentence a) ns = with_names a (with_name (codes "sentence") ns)
-with_names (Inside Paragraph a) ns = with_names a (with_name (codes "paragraph") ns)
-with_names (Defined phrases sum) ns = ns
+with_names (Both op a b) ns = with_names b (with_names a ns)
+with_names (Weight w a) ns = with_names a ns
+with_names (Above n a) ns = with_names a ns
+with_names (Near operands span ordered) ns = ns
+with_names (Within (Field f) a) ns = with_names a ns
+with_names (Within (Zone name) a) ns = with_names a (with_name name ns)
+with_names (Within Sentence a) ns = with_names a (with_name (codes "sentence") ns)
+with_names (Within Paragraph a) ns = with_names a (with_name (codes "paragraph") ns)
+with_names (Define phrases sum) ns = ns
 
 -- computed examples: `a AND a WITHIN SENTENCE`, and the same in the field 1
 abbrev a_slot : Slot
@@ -72,11 +72,11 @@ a_slot = Takes (codes "a" ∷ []) []
 abbrev a_term : Reduced
 a_term = Term ((a_slot ∷ []) ∷ [])
 
-read_once : with_slots (Joined And a_term (Inside Sentence a_term)) 0 [] ≡ wanted 0 a_slot ∷ []
+read_once : with_slots (Both And a_term (Within Sentence a_term)) 0 [] ≡ wanted 0 a_slot ∷ []
 read_once = refl
 
-its_section : with_names (Joined And a_term (Inside Sentence a_term)) [] ≡ codes "sentence" ∷ []
+its_section : with_names (Both And a_term (Within Sentence a_term)) [] ≡ codes "sentence" ∷ []
 its_section = refl
 
-in_two_streams : with_slots (Joined And a_term (Inside (Field 1) a_term)) 0 [] ≡ wanted 0 a_slot ∷ wanted 1 a_slot ∷ []
+in_two_streams : with_slots (Both And a_term (Within (Field 1) a_term)) 0 [] ≡ wanted 0 a_slot ∷ wanted 1 a_slot ∷ []
 in_two_streams = refl

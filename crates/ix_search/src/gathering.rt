@@ -1,7 +1,7 @@
 //! What a query reads of an index, and the rows that it finds there.
 
 ghost use Rattle.std.specs.Prelude.{◌≡◌, true};
-ghost use Rattle.q_tree.specs.Trees.{reduced_of};
+ghost use Rattle.q_tree.specs.ReducedQueries.{reduced_of};
 ghost use Rattle.q_tree.specs.Soundness.{is_sound};
 ghost use Rattle.ix_cursor.specs.Reading.{FeedsRise};
 ghost use Rattle.ix_search.specs.Once.{feeds_once};

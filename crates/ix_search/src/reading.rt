@@ -1,48 +1,45 @@
 //! What a query reads of an index.
-#![tactic(auto, using(ct_keep::specs::Composing::reads_on, ct_keep::specs::Composing::reads_short))]
+#![tactic(auto, using(ct_keep::specs::laws::Composing::reads_on, ct_keep::specs::laws::Composing::reads_short))]
 
-ghost use Rattle.std.specs.Prelude.{◌≡◌, ℕ, List, IfOk, MatchOption};
+ghost use Rattle.std.specs.Prelude.{◌≡◌, List, IfOk, MatchOption};
 ghost use Rattle.ct_keep.specs.KeeperViews.{Finds, OnlyReads, Told};
 ghost use Rattle.ct_keep.specs.Looks.{LooksAtMost};
 ghost use Rattle.ct_base.specs.Names.{IsName};
 ghost use Rattle.ct_entry.specs.Keys.{IsToken};
 ghost use Rattle.ct_entry.specs.Lists.{EachIs};
-ghost use Rattle.ix_posting.specs.declared.rows.RowDocument.{RowDocument};
-ghost use Rattle.ix_posting.specs.declared.span_rows.SpanDocument.{SpanDocument};
-ghost use Rattle.ix_posting.specs.Rows.{DocumentsRise};
-ghost use Rattle.ix_posting.specs.SpanRows.{SpanDocumentsRise};
+ghost use Rattle.ix_posting.specs.Rows.{WordDocument, DocumentsRise};
+ghost use Rattle.ix_posting.specs.Forms.{number_form, pair_form};
 ghost use Rattle.ix_posting.specs.Lists.{posting_list};
-ghost use Rattle.q_tree.specs.Trees.{reduced_of};
+ghost use Rattle.ix_rows.specs.WordRows.{word_term};
+ghost use Rattle.ix_rows.specs.SpanRows.{section_term};
+ghost use Rattle.q_tree.specs.ReducedQueries.{reduced_of};
 ghost use Rattle.ix_cursor.specs.Reading.{TokensRise, SlotFeedsRise, SectionFeedsRise, FeedsRise};
 ghost use Rattle.ix_search.specs.Parts.{keys_of};
 ghost use Rattle.ix_search.specs.Looking.{key_looks, keys_looks, slots_looks, name_looks, names_looks, query_looks};
-ghost use Rattle.ix_search.specs.Reading.{key_prefix, name_prefix, KeyRows, NameRows, HoldsKey, HoldsSlot, HoldsName, AreRowsOfKeys, AreFeedsOfSlots, AreFeedsOfSections, AreFeedsOfQuery, slot_feed, section_feed, section_names};
+ghost use Rattle.ix_search.specs.Reading.{KeyRows, NameRows, HoldsKey, HoldsSlot, HoldsName, AreRowsOfKeys, AreFeedsOfSlots, AreFeedsOfSections, AreFeedsOfQuery, slot_feed, section_feed, section_names};
 
 use crate::wanting::{Wanted, want_names, want_slots};
 use ct_base::{Listed, Memory, Name};
-use ct_entry::{Kind, entries_of};
+use ct_entry::Kind;
 use ct_keep::{KeepFault, Keeper};
 use ix_cursor::{Feeds, SectionFeed, SlotFeed};
-use ix_posting::{EncodedRows, EncodedSpanRows};
-use ix_rows::{rows_in, span_rows_in};
+use ix_posting::EncodedRows;
+use ix_rows::{put_section_term, put_word_term, rows_of};
 use q_tree::{Flat, Slot};
 use std::alloc::Global;
 use tx_chars::Key;
 
-/// What follows the index in the keys of a key's rows in a stream, up to the document: the stream, the length of the key in
-/// one byte, and the key. None for a key of no byte or of over 255, which has no rows.
-fn key_prefix(alloc: Global, stream: u8, key: &Key) -> Result<Option<Vec<u8>>, Memory>
-    ensures { IfOk result (λ prefix. MatchOption prefix (IsToken key.now → ⊥) (λ v. v.items ≡ key_prefix stream key.now)) }
+/// The term of a key in a stream, as it stands in the keys of its rows. None for a key of no byte or of over 255, which has no rows.
+fn word_term(alloc: Global, stream: u8, key: &Key) -> Result<Option<Vec<u8>>, Memory>
+    ensures { IfOk result (λ term. MatchOption term (IsToken key.now → ⊥) (λ v. v.items ≡ word_term stream key.now)) }
 {
     let key = key.as_slice();
     if key.is_empty() || key.len() > 255 {
         return Ok(None);
     }
-    let mut prefix = Vec::new(alloc);
-    prefix.push(stream)?;
-    prefix.push(key.len() as u8)?;
-    prefix.extend_from_slice(key)?;
-    Ok(Some(prefix))
+    let mut term = Vec::new(alloc);
+    put_word_term(&mut term, stream, key)?;
+    Ok(Some(term))
 }
 
 /// The rows of a key in a stream.
@@ -52,19 +49,17 @@ fn read_key<K: Keeper>(
     index: &Name,
     stream: u8,
     key: &Key,
-) -> Result<EncodedRows, KeepFault>
+) -> Result<EncodedRows<u32>, KeepFault>
     requires { (K.view keeper.old).ready }
-    ensures rise { IfOk result (λ rows. DocumentsRise 0 (posting_list rows)) }
-    ensures rows { Finds K.view keeper.old result (λ m rows. (held : List (List RowDocument)) → HoldsKey m index.now stream key.now held → rows ≡ held) }
+    ensures rise { IfOk result (λ rows. DocumentsRise number_form 0 (posting_list rows)) }
+    ensures rows { Finds K.view keeper.old result (λ m rows. (held : List (List WordDocument)) → HoldsKey m index.now stream key.now held → rows ≡ held) }
     ensures reads { OnlyReads K.view keeper.old keeper.new result }
     ensures at_most { Told K.view keeper.old (λ m. LooksAtMost K.view keeper.old keeper.new (key_looks m index.now stream key.now)) }
 {
-    let Some(prefix) = key_prefix(alloc, stream, key)? else {
+    let Some(term) = word_term(alloc, stream, key)? else {
         return Ok(EncodedRows::of(alloc, Vec::new(alloc))?);
     };
-    let entries = entries_of(alloc, keeper, Kind::Postings, index, &prefix)?;
-    let rows = rows_in(alloc, entries)?;
-    Ok(EncodedRows::of(alloc, rows)?)
+    rows_of(alloc, keeper, Kind::Postings, index, &term)
 }
 
 /// The rows of each of some keys in a stream.
@@ -74,7 +69,7 @@ fn read_keys<K: Keeper>(
     index: &Name,
     stream: u8,
     keys: &[Key],
-) -> Result<Listed<EncodedRows>, KeepFault>
+) -> Result<Listed<EncodedRows<u32>>, KeepFault>
     requires { (K.view keeper.old).ready }
     ensures rise { IfOk result (λ tokens. TokensRise tokens) }
     ensures rows { Finds K.view keeper.old result (λ m tokens. AreRowsOfKeys m index.now stream keys.now tokens) }
@@ -141,17 +136,14 @@ fn read_slots<K: Keeper>(
     Ok(feeds)
 }
 
-/// What follows the index in the keys of a section's rows, up to the document: the length of its name in one byte, and the
-/// name.
-fn name_prefix(alloc: Global, name: &str) -> Result<Vec<u8>, Memory>
+/// The term of a section, as it stands in the keys of its rows.
+fn section_term(alloc: Global, name: &str) -> Result<Vec<u8>, Memory>
     requires { IsName name.now }
-    ensures { IfOk result (λ v. v.items ≡ name_prefix name.now) }
+    ensures { IfOk result (λ v. v.items ≡ section_term name.now) }
 {
-    let name = name.as_bytes();
-    let mut prefix = Vec::new(alloc);
-    prefix.push(name.len() as u8)?;
-    prefix.extend_from_slice(name)?;
-    Ok(prefix)
+    let mut term = Vec::new(alloc);
+    put_section_term(&mut term, name.as_bytes())?;
+    Ok(term)
 }
 
 /// The rows of a section.
@@ -163,17 +155,16 @@ fn read_name<K: Keeper>(
 ) -> Result<SectionFeed, KeepFault>
     requires { (K.view keeper.old).ready }
     ensures named { IfOk result (λ _. IsName name) }
-    ensures rise { IfOk result (λ feed. SpanDocumentsRise 0 (posting_list feed.rows)) }
+    ensures rise { IfOk result (λ feed. DocumentsRise pair_form 0 (posting_list feed.rows)) }
     ensures rows { Finds K.view keeper.old result (λ m feed. (held : NameRows) → HoldsName m index.now held name → feed ≡ section_feed held name) }
     ensures reads { OnlyReads K.view keeper.old keeper.new result }
     ensures at_most { Told K.view keeper.old (λ m. LooksAtMost K.view keeper.old keeper.new (name_looks m index.now name)) }
 {
-    let prefix = name_prefix(alloc, name.as_str())?;
-    let entries = entries_of(alloc, keeper, Kind::Spans, index, &prefix)?;
-    let rows = span_rows_in(alloc, entries)?;
+    let term = section_term(alloc, name.as_str())?;
+    let rows = rows_of(alloc, keeper, Kind::Spans, index, &term)?;
     Ok(SectionFeed {
         section: name,
-        rows: EncodedSpanRows::of(alloc, rows)?,
+        rows,
     })
 }
 

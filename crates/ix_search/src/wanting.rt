@@ -3,7 +3,7 @@
 ghost use Rattle.std.specs.Prelude.{◌≡◌, IfOk, OnOk};
 ghost use Rattle.ct_base.specs.Names.{IsName};
 ghost use Rattle.q_tree.specs.Slots.{has_key};
-ghost use Rattle.q_tree.specs.Trees.{reduced_of};
+ghost use Rattle.q_tree.specs.ReducedQueries.{reduced_of};
 ghost use Rattle.q_tree.specs.declared.flats.Slot.TheVariants.{Takes};
 ghost use Rattle.ix_search.specs.Wanting.{is_wanted, with_slot, with_phrase, with_term, with_operands, with_slots, with_name, with_names};
 

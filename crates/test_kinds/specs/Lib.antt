@@ -1,3 +1,2 @@
 pub mod RowLists
-pub mod Promises
 pub mod laws

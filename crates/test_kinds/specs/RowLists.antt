@@ -1,19 +1,22 @@
 -- A kind of indexes for tests: an index has an entry for each row of its table, and waits for nothing.
-use Rattle.std.specs.Prelude.{ℕ, ℤ, pos, ◌≡◌, Bool, true, false, List, [], ◌∷◌, ◌++◌, map, is_some, Option, Some, None, codes, refl}
-use Rattle.std.specs.FinMap.{get, entries}
+use Rattle.std.specs.Prelude.{ℕ, ℤ, pos, ◌≡◌, Bool, true, false, List, [], ◌∷◌, ◌++◌, is_some, Option, Some, None, codes, refl}
+use Rattle.std.specs.FinMap.{get}
 use Rattle.ct_entry.specs.declared.kinds.Kind.{Kind}
 use Rattle.ct_entry.specs.declared.kinds.Kind.TheVariants as kind
 use Rattle.ct_entry.specs.Keys.{Key, key, row_part, IsRow}
 use Rattle.ct_entry.specs.Changes.{put_value, drop_key}
 use Rattle.ct_entry.specs.Each.{each}
-use Rattle.ct_base.specs.declared.lists.Value.{Value}
 use Rattle.tb_table.specs.declared.columns.Target.{Target}
 use Rattle.tb_table.specs.Tables.{Table}
 use Rattle.tx_settings.specs.declared.preferences.Prefs.{Prefs}
 use Rattle.tx_settings.specs.PrefsBytes.{prefs_bytes}
 use Rattle.db_names.specs.declared.heads.IndexKind.TheVariants.{Rules}
 use Rattle.db_names.specs.Heads.{index_head_bytes}
+use Rattle.ix_kinds.specs.Rows.{row_keys_of}
 use Rattle.ix_kinds.specs.Indextypes.{IndexOf, Indextype}
+use Rattle.ix_kinds.specs.IndextypeLaws.{IndextypeLaws}
+use Rattle.ix_kinds.specs.Sums.{either}
+use Rattle.ix_indexes.specs.Indexes.{Defined, kinds}
 
 -- the entries of an index, beside its own
 abbrev pub is_list : Kind → Bool
@@ -41,9 +44,6 @@ list_change i r true there = list_row i r there
 
 abbrev pub list_rows : List ℕ → List ℤ → List (Key × Option (List ℕ))
 list_rows i rows = each (λ r. list_row i r true) rows
-
-abbrev pub row_keys_of : Table → List ℤ
-row_keys_of t = map (λ e. e.0) (entries t.rows)
 
 abbrev pub list_entry : IndexOf (Unit {0}) → List ℕ
 list_entry x = index_head_bytes Rules x.table x.column ++ prefs_bytes x.prefs
@@ -74,6 +74,16 @@ row_lists {D} = record {
   new_body = λ a d t target prefs. tt;
   create_changes = λ a d t i target prefs. put_value (key kind.Indexes i []) (list_entry (new_list target prefs)) ∷ list_rows i (row_keys_of t);
 }
+
+-- ---- what is promised of them
+
+-- lists of rows give what a kind has to give
+abbrev pub RowListsKeepTheLaws : Type 0
+RowListsKeepTheLaws = IndextypeLaws (row_lists {D = Defined})
+
+-- so does a store that has the kinds that are built, and beside them lists of rows
+abbrev pub KindsWithRowListsKeepTheLaws : Type 0
+KindsWithRowListsKeepTheLaws = IndextypeLaws (either kinds (row_lists {D = Defined}))
 
 -- computed examples: the row 7 comes, and goes
 it_comes : list_change (codes "li") (pos 7) false true ≡ put_value (key kind.Rules (codes "li") (row_part (pos 7))) [] ∷ []

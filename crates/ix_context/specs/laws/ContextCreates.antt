@@ -1,5 +1,5 @@
 -- What CREATE INDEX makes of a CONTEXT index; and what its entries tell of it.
-use Rattle.std.proofs.Common.{cond, ◌≤◌, ◌≡◌, ℕ, ℤ, ◌+◌, Bool, true, false, List, [], ◌∷◌, ◌++◌, zero, suc, length, map, Option, Some, None, refl, sym, ap, subst, ◌∙◌, arith, leb-true}
+use Rattle.std.proofs.Common.{cond, ◌≤◌, ◌≡◌, ℕ, ℤ, ◌+◌, Bool, true, false, List, [], ◌∷◌, ◌++◌, zero, suc, length, Option, Some, None, refl, sym, ap, subst, ◌∙◌, arith, leb-true}
 use Rattle.std.specs.Prelude.{is_some, not, ◌||◌, filter}
 use Rattle.std.specs.Int.{to_be_bytes, w32}
 use Rattle.std.specs.List.{list_any}
@@ -23,26 +23,27 @@ use Rattle.tb_table.specs.Rules.{IsTable}
 use Rattle.tx_settings.specs.declared.preferences.Prefs.{Prefs}
 use Rattle.tx_settings.specs.Defaults.{default_prefs}
 use Rattle.tx_settings.specs.PrefsBytes.{IsPrefs}
-use Rattle.ix_kinds.specs.Indextypes.{IndexOf}
+use Rattle.ix_kinds.specs.Indextypes.{IndexOf, new_index_on}
 use Rattle.ix_kinds.specs.Standing.{is_of_indexes, index_entry, HasNoEntries}
-use Rattle.ix_kinds.specs.IndextypeLaws.{made, Creates, TellsOne, IndextypeLaws}
+use Rattle.ix_kinds.specs.Rows.{row_keys_of}
+use Rattle.ix_kinds.specs.IndextypeLaws.{Creates, TellsOne, IndextypeLaws}
 use Rattle.ix_kinds.specs.laws.Standing.{of_part}
 use Rattle.ix_rows.specs.Stores.{Untidy}
 use Rattle.ix_docmap.specs.Marks.{Mark, Pending, Settled, Marks, is_settled, queued}
 use Rattle.ix_docmap.specs.Changes.{mark_changes}
 use Rattle.ix_docmap.specs.laws.Documents.{settled_in}
 use Rattle.ix_context.specs.declared.ranges.KeyRange.{KeyRange}
-use Rattle.ix_context.specs.Indexes.{Part, ContextIndex, no_part, settled_rows, is_key_in, most_given, texts_in, rows_within, HasAllRows}
+use Rattle.ix_context.specs.Indexes.{Part, ContextIndex, no_part, settled_rows, is_key_in, mark_limit, texts_in, rows_within, HasAllRows}
 use Rattle.ix_context.specs.Indexes as indexes
 use Rattle.ix_context.specs.Documents.{Postings, postings_by}
 use Rattle.ix_context.specs.Standing.{PartStands}
-use Rattle.ix_context.specs.Changes.{postings_changes, mark_rows_with, settle_rows_with}
-use Rattle.ix_context.specs.laws.Bodies.{given-made, untidy-made}
+use Rattle.ix_context.specs.Changes.{postings_changes, mark_each_changes, settle_each_changes}
+use Rattle.ix_context.specs.laws.Bodies.{given-with_marks, untidy-with_marks}
 use Rattle.ix_context.specs.laws.Standing.{part_of_any, entry_put, entry_here, part_agree}
 use Rattle.ix_context.specs.laws.Parts.{part_see}
 use Rattle.ix_context.specs.laws.Syncs.{part_empty, settled_in-at, settled_row}
 use Rattle.ix_kinds.specs.laws.Turns.{rising_apart}
-use Rattle.ix_context.specs.laws.Settling.{docs, part_settled, EachRow, each_among, drops_nothing, all_free}
+use Rattle.ix_context.specs.laws.Settling.{part_settled, EachRow, each_among, drops_nothing, all_free}
 use Rattle.ix_context.specs.laws.Reading.{index_bytes_one}
 use Rattle.ix_context.specs.Contexts.{IsContext, context_entry, context_stands, new_context, context}
 use Rattle.ix_context.specs.laws.ContextRows.{entry_is, context_alone, context_rows}
@@ -91,22 +92,19 @@ filter_all : (p : ℤ → Bool) (rows : List ℤ) → EachRow (λ r. p r ≡ tru
 filter_all p [] all = refl
 filter_all p (r ∷ rows) all = ap (λ (b : Bool). cond b (r ∷ filter p rows) (filter p rows)) all.0 ∙ ap (λ (l : List ℤ). r ∷ l) (filter_all p rows all.1)
 
-abbrev pub keys_in_table : Table → List ℤ
-keys_in_table t = map (λ e. e.0) (entries t.rows)
-
-keys_listed : (t : Table) (r : ℤ) → list_any (int_eq r) (keys_in_table t) ≡ is_some (get t.rows r)
+keys_listed : (t : Table) (r : ℤ) → list_any (int_eq r) (row_keys_of t) ≡ is_some (get t.rows r)
 keys_listed t r = sym (contains_key-keys t.rows r)
 
-keys_rise : (t : Table) → keys_rise_by int_cmp (keys_in_table t) ≡ true
+keys_rise : (t : Table) → keys_rise_by int_cmp (row_keys_of t) ≡ true
 keys_rise t = ap (keys_rise_by int_cmp) (sym (keys_always (λ _. []) (entries t.rows))) ∙ listed_rise int_cmp (λ _. Some []) t.rows
 
 key_is_row : (t : Table) → IsTable t → (r : ℤ) → is_some (get t.rows r) ≡ true → IsRow r
 key_is_row t is r there = let vs = some_value (get t.rows r) there in is.keys r vs.0 vs.1
 
 -- in the widest range lie all rows
-pub all_within : (t : Table) → IsTable t → (range : KeyRange) → HasAllRows range → rows_within t range ≡ keys_in_table t
+pub all_within : (t : Table) → IsTable t → (range : KeyRange) → HasAllRows range → rows_within t range ≡ row_keys_of t
 all_within t is range has =
-    filter_all (is_key_in range) (keys_in_table t) (each_among (λ r. is_key_in range r ≡ true) (keys_in_table t) (λ r there. has r (key_is_row t is r (sym (keys_listed t r) ∙ there))))
+    filter_all (is_key_in range) (row_keys_of t) (each_among (λ r. is_key_in range r ≡ true) (row_keys_of t) (λ r there. has r (key_is_row t is r (sym (keys_listed t r) ∙ there))))
 
 -- ---- a new index
 
@@ -115,73 +113,74 @@ no_marks r = None
 
 pub rows_free : (t : Table) → IsTable t → (range : KeyRange) → EachRow (λ s. IsRow s × (not (is_settled (no_marks s)) ≡ true)) (rows_within t range)
 rows_free t is range =
-    each_among (λ s. IsRow s × (not (is_settled (no_marks s)) ≡ true)) (rows_within t range) (λ r there. (key_is_row t is r (sym (keys_listed t r) ∙ filter_among (is_key_in range) (keys_in_table t) r there), refl))
+    each_among (λ s. IsRow s × (not (is_settled (no_marks s)) ≡ true)) (rows_within t range) (λ r there. (key_is_row t is r (sym (keys_listed t r) ∙ filter_among (is_key_in range) (row_keys_of t) r there), refl))
 
 -- and wait nowhere
-none_queued : (f : Key → Option (List ℕ)) (i : List ℕ) (doc : ℤ → Postings) → PartStands f i doc no_marks no_part → (rows : List ℤ) → EachRow (λ s. IsRow s × (not (is_settled (no_marks s)) ≡ true)) rows
+none_queued : (f : Key → Option (List ℕ)) (i : List ℕ) (doc : ℤ → Postings) → PartStands f i doc no_marks no_part → (rows : List ℤ)
+    → EachRow (λ s. IsRow s × (not (is_settled (no_marks s)) ≡ true)) rows
     → EachRow (λ s. f (key kind.Pending i (row_part s)) ≡ None) rows
 none_queued f i doc stand [] all = tt
 none_queued f i doc stand (r ∷ rs) all = (stand.documents.queue r all.0.0, none_queued f i doc stand rs all.1)
 
-made_none : (n : ℕ) → record no_part { given = 0 + n; tidiness = Untidy } ≡ indexes.made n no_part
+made_none : (n : ℕ) → record no_part { given = 0 + n; tidiness = Untidy } ≡ indexes.part_with_marks n no_part
 made_none zero = refl
 made_none (suc n) = refl
 
 -- the map and the postings of a new index
 abbrev marking : List ℕ → Prefs → (ℤ → Option (List ℕ)) → List ℤ → List (Key × Option (List ℕ))
-marking i prefs text rows = mark_rows_with i 1 rows ++ postings_changes i (postings_by prefs text) 1 rows
+marking i prefs text rows = mark_each_changes i 1 rows ++ postings_changes i (postings_by prefs text) 1 rows
 
-created_part : (f : Key → Option (List ℕ)) (t : Table) (i : List ℕ) (column : ℕ) (prefs : Prefs) (range : KeyRange) → IsPrefs prefs → length (rows_within t range) ≤ most_given → IsTable t
-    → PartStands f i (docs default_prefs (λ _. None)) no_marks no_part
-    → PartStands (view (marking i prefs (texts_in t column) (rows_within t range)) f) i (docs prefs (texts_in t column)) (get (settled_rows (rows_within t range))) (indexes.made (length (rows_within t range)) no_part)
+created_part : (f : Key → Option (List ℕ)) (t : Table) (i : List ℕ) (column : ℕ) (prefs : Prefs) (range : KeyRange) → IsPrefs prefs → length (rows_within t range) ≤ mark_limit → IsTable t
+    → PartStands f i (postings_by default_prefs (λ _. None)) no_marks no_part
+    → PartStands (view (marking i prefs (texts_in t column) (rows_within t range)) f) i (postings_by prefs (texts_in t column)) (get (settled_rows (rows_within t range))) (indexes.part_with_marks (length (rows_within t range)) no_part)
 created_part f t i column prefs range prefs_are room is stand =
     let rows = rows_within t range in
-    let doc = docs prefs (texts_in t column) in
+    let doc = postings_by prefs (texts_in t column) in
     let changes = marking i prefs (texts_in t column) rows in
-    subst (λ (m : Marks). PartStands (view changes f) i doc m (indexes.made (length rows) no_part)) (λ j s. sym (settled_row rows s) j)
-    (subst (λ (m : Marks). PartStands (view changes f) i doc m (indexes.made (length rows) no_part)) (λ j s. settled_in-at rows no_marks s j)
+    subst (λ (m : Marks). PartStands (view changes f) i doc m (indexes.part_with_marks (length rows) no_part)) (λ j s. sym (settled_row rows s) j)
+    (subst (λ (m : Marks). PartStands (view changes f) i doc m (indexes.part_with_marks (length rows) no_part)) (λ j s. settled_in-at rows no_marks s j)
     (subst (λ (q : Part). PartStands (view changes f) i doc (settled_in rows no_marks) q) (made_none (length rows))
-    (subst (λ (g : Key → Option (List ℕ)). PartStands g i doc (settled_in rows no_marks) (record no_part { given = 0 + length rows; tidiness = Untidy })) (same rows (rows_free t is range)) (settled rows (rising_apart rows (filter_rise (is_key_in range) (keys_in_table t) (keys_rise t))) (rows_free t is range) room))))
+    (subst (λ (g : Key → Option (List ℕ)). PartStands g i doc (settled_in rows no_marks) (record no_part { given = 0 + length rows; tidiness = Untidy })) (same rows (rows_free t is range)) (settled rows (rising_apart rows (filter_rise (is_key_in range) (row_keys_of t) (keys_rise t))) (rows_free t is range) room))))
   where
-    seen : PartStands f i (docs prefs (texts_in t column)) no_marks no_part
-    seen = part_see f i (docs default_prefs (λ _. None)) (docs prefs (texts_in t column)) no_marks no_part (λ r h. cc) stand
+    seen : PartStands f i (postings_by prefs (texts_in t column)) no_marks no_part
+    seen = part_see f i (postings_by default_prefs (λ _. None)) (postings_by prefs (texts_in t column)) no_marks no_part (λ r h. cc) stand
 
-    settled : (rows : List ℤ) → AreApart rows → EachRow (λ s. IsRow s × (not (is_settled (no_marks s)) ≡ true)) rows → length rows ≤ most_given
-        → PartStands (view (settle_rows_with i 1 rows ++ postings_changes i (docs prefs (texts_in t column)) 1 rows) f) i (docs prefs (texts_in t column)) (settled_in rows no_marks) (record no_part { given = 0 + length rows; tidiness = Untidy })
+    settled : (rows : List ℤ) → AreApart rows → EachRow (λ s. IsRow s × (not (is_settled (no_marks s)) ≡ true)) rows → length rows ≤ mark_limit
+        → PartStands (view (settle_each_changes i 1 rows ++ postings_changes i (postings_by prefs (texts_in t column)) 1 rows) f) i (postings_by prefs (texts_in t column)) (settled_in rows no_marks) (record no_part { given = 0 + length rows; tidiness = Untidy })
     settled rows apart free room = part_settled prefs prefs_are (texts_in t column) (texts_short t is column) f i no_marks no_part rows apart (all_free no_marks rows free) (omega arith) seen
 
     same : (rows : List ℤ) → EachRow (λ s. IsRow s × (not (is_settled (no_marks s)) ≡ true)) rows
-        → view (settle_rows_with i 1 rows ++ postings_changes i (docs prefs (texts_in t column)) 1 rows) f ≡ view (mark_rows_with i 1 rows ++ postings_changes i (docs prefs (texts_in t column)) 1 rows) f
+        → view (settle_each_changes i 1 rows ++ postings_changes i (postings_by prefs (texts_in t column)) 1 rows) f ≡ view (mark_each_changes i 1 rows ++ postings_changes i (postings_by prefs (texts_in t column)) 1 rows) f
     same rows free =
-        view-append (settle_rows_with i 1 rows) (postings_changes i (docs prefs (texts_in t column)) 1 rows) f
-        ∙ ap (view (postings_changes i (docs prefs (texts_in t column)) 1 rows)) (drops_nothing i 1 rows f (none_queued f i (docs default_prefs (λ _. None)) stand rows free))
-        ∙ sym (view-append (mark_rows_with i 1 rows) (postings_changes i (docs prefs (texts_in t column)) 1 rows) f)
+        view-append (settle_each_changes i 1 rows) (postings_changes i (postings_by prefs (texts_in t column)) 1 rows) f
+        ∙ ap (view (postings_changes i (postings_by prefs (texts_in t column)) 1 rows)) (drops_nothing i 1 rows f (none_queued f i (postings_by default_prefs (λ _. None)) stand rows free))
+        ∙ sym (view-append (mark_each_changes i 1 rows) (postings_changes i (postings_by prefs (texts_in t column)) 1 rows) f)
 
 -- nothing stands for no marks, where no entry has the name
-pub none_stands : (D : Type 0) (f : Key → Option (List ℕ)) (i : List ℕ) → HasNoEntries (context {D = D}) f i → PartStands f i (docs default_prefs (λ _. None)) no_marks no_part
+pub none_stands : (D : Type 0) (f : Key → Option (List ℕ)) (i : List ℕ) → HasNoEntries (context {D = D}) f i → PartStands f i (postings_by default_prefs (λ _. None)) no_marks no_part
 none_stands D f i none =
-    part_agree (λ k. None) f i (docs default_prefs (λ _. None)) no_marks no_part (λ k owner of. none k owner (own_of k.kind of))
-    (part_empty (λ k. None) i (docs default_prefs (λ _. None)) (λ k owner. refl))
+    part_agree (λ k. None) f i (postings_by default_prefs (λ _. None)) no_marks no_part (λ k owner of. none k owner (own_of k.kind of))
+    (part_empty (λ k. None) i (postings_by default_prefs (λ _. None)) (λ k owner. refl))
   where
     own_of : (k : Kind) → is_context_part k ≡ true → is_of_indexes k ≡ true
     own_of k h = of_part k (part_of_any k h)
 
 marking_of_part : (i : List ℕ) (prefs : Prefs) (text : ℤ → Option (List ℕ)) (rows : List ℤ) → AllOf is_context_part (marking i prefs text rows)
 marking_of_part i prefs text rows =
-    all-append is_context_part (mark_rows_with i 1 rows) (postings_changes i (postings_by prefs text) 1 rows)
+    all-append is_context_part (mark_each_changes i 1 rows) (postings_changes i (postings_by prefs text) 1 rows)
     (all_each is_context_part (λ (n : ℕ × ℤ). mark_changes i n.0 n.1) (λ p. (refl, (refl, tt))) (numbered 1 rows)) (postings_of_part i (postings_by prefs text) 1 rows)
 
 marking_on : (i : List ℕ) (prefs : Prefs) (text : ℤ → Option (List ℕ)) (rows : List ℤ) → AllOn i (marking i prefs text rows)
 marking_on i prefs text rows =
-    all_on-append i (mark_rows_with i 1 rows) (postings_changes i (postings_by prefs text) 1 rows)
+    all_on-append i (mark_each_changes i 1 rows) (postings_changes i (postings_by prefs text) 1 rows)
     (all_on-each i (λ (n : ℕ × ℤ). mark_changes i n.0 n.1) (λ p. (refl, (refl, tt))) (numbered 1 rows)) (postings_on i (postings_by prefs text) 1 rows)
 
-new_is : (t : Table) (target : Target) (prefs : Prefs) (range : KeyRange) → IsTable t → HasAllRows range → length (rows_within t range) ≤ most_given
+new_is : (t : Table) (target : Target) (prefs : Prefs) (range : KeyRange) → IsTable t → HasAllRows range → length (rows_within t range) ≤ mark_limit
     → IsContext t (record { table = target.table; column = target.column; prefs = prefs; body = new_context t range })
 new_is t target prefs range is has room = record {
   marks = λ r. ap is_some (settled_row (rows_within t range) r) ∙ any (list_any (int_eq r) (rows_within t range)) ∙ ap (list_any (int_eq r)) (all_within t is range has) ∙ keys_listed t r;
-  numbers = let n = given-made (length (rows_within t range)) no_part in omega (arith, n, room);
-  untidy = untidy-made (length (rows_within t range)) no_part refl;
+  numbers = let n = given-with_marks (length (rows_within t range)) no_part in omega (arith, n, room);
+  untidy = untidy-with_marks (length (rows_within t range)) no_part refl;
 }
   where
     any : (b : Bool) → is_some {T = Mark (Unit {0})} (cond b (Some (Settled tt)) None) ≡ b
@@ -193,14 +192,14 @@ context_creates {D} = record {
   on = λ range d t i target prefs. (refl, marking_on i prefs (texts_in t target.column) (rows_within t range));
   of = λ range d t i target prefs. (refl, weaker (marking i prefs (texts_in t target.column) (rows_within t range)) (marking_of_part i prefs (texts_in t target.column) (rows_within t range)));
   entry = λ range d t i target prefs old.
-      let first = put_value (key kind.Indexes i []) (context_entry (made (context {D = D}) range d t target prefs)) ∷ [] in
+      let first = put_value (key kind.Indexes i []) (context_entry (new_index_on (context {D = D}) range d t target prefs)) ∷ [] in
       told_frame is_context_part (marking i prefs (texts_in t target.column) (rows_within t range)) (key kind.Indexes i []) (told first (key kind.Indexes i []) old) (marking_of_part i prefs (texts_in t target.column) (rows_within t range)) refl
-      ∙ entry_here i (context_entry (made (context {D = D}) range d t target prefs)) old
-      ∙ ap Some (entry_is D (made (context {D = D}) range d t target prefs));
+      ∙ entry_here i (context_entry (new_index_on (context {D = D}) range d t target prefs)) old
+      ∙ ap Some (entry_is D (new_index_on (context {D = D}) range d t target prefs));
   is = λ range d t target prefs is texts prefs_are has room. new_is t target prefs range is has (leb-true _ _ room);
   stands = λ f range d t i target prefs is texts prefs_are has room none.
-      created_part (view (put_value (key kind.Indexes i []) (context_entry (made (context {D = D}) range d t target prefs)) ∷ []) f) t i target.column prefs range prefs_are (leb-true _ _ room) is
-      (entry_put f i (context_entry (made (context {D = D}) range d t target prefs)) (docs default_prefs (λ _. None)) no_marks no_part (none_stands D f i none));
+      created_part (view (put_value (key kind.Indexes i []) (context_entry (new_index_on (context {D = D}) range d t target prefs)) ∷ []) f) t i target.column prefs range prefs_are (leb-true _ _ room) is
+      (entry_put f i (context_entry (new_index_on (context {D = D}) range d t target prefs)) (postings_by default_prefs (λ _. None)) no_marks no_part (none_stands D f i none));
 }
 
 -- ---- what the entries tell
@@ -208,7 +207,8 @@ context_creates {D} = record {
 part_is : (p q : Part) → p.given ≡ q.given → p.tidiness ≡ q.tidiness → record p { waste = 0 } ≡ record q { waste = 0 }
 part_is p q given tidiness i = record { given = given i; tidiness = tidiness i; waste = 0 }
 
-index_is : (x y : IndexOf ContextIndex) → x.table ≡ y.table → x.column ≡ y.column → x.prefs ≡ y.prefs → record x.body.part { waste = 0 } ≡ record y.body.part { waste = 0 } → x.body.marks ≡ y.body.marks
+index_is : (x y : IndexOf ContextIndex) → x.table ≡ y.table → x.column ≡ y.column → x.prefs ≡ y.prefs
+    → record x.body.part { waste = 0 } ≡ record y.body.part { waste = 0 } → x.body.marks ≡ y.body.marks
     → record x { body = record x.body { part = record x.body.part { waste = 0 } } } ≡ record y { body = record y.body { part = record y.body.part { waste = 0 } } }
 index_is x y table column prefs part marks i = record { table = table i; column = column i; prefs = prefs i; body = record { part = part i; marks = marks i } }
 

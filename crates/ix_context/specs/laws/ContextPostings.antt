@@ -7,13 +7,11 @@ use Rattle.ct_entry.specs.Changes.{put_value, AllOf, AllOn}
 use Rattle.ct_entry.specs.Each.{numbered}
 use Rattle.ct_entry.specs.laws.Changes.{all-append, all_on-append}
 use Rattle.ct_entry.specs.laws.Each.{all_each, all_on-each}
-use Rattle.ix_posting.specs.Rows.{posting_bytes}
-use Rattle.ix_posting.specs.SpanRows.{span_row_bytes}
+use Rattle.ix_posting.specs.Rows.{posting_bytes, span_row_bytes}
 use Rattle.ix_rows.specs.Gathering.{terms_of, gathered_rows, rows_put}
 use Rattle.ix_rows.specs.Spelling.{row_key, first_document}
-use Rattle.ix_rows.specs.WordRows.{document_number}
-use Rattle.ix_rows.specs.SpanRows.{span_number}
-use Rattle.ix_context.specs.Documents.{Postings, word_posting, span_posting}
+use Rattle.ix_rows.specs.PlacedRows.{document_number}
+use Rattle.ix_context.specs.Documents.{Postings, document_with}
 use Rattle.ix_context.specs.Changes.{word_changes, section_changes, postings_changes}
 use Rattle.ix_context.specs.Spelling.{is_context_part}
 
@@ -45,11 +43,11 @@ module _ (i : List ℕ) (doc : ℤ → Postings) (first : ℕ) (rows : List ℤ)
   pub postings_of_part : AllOf is_context_part (postings_changes i doc first rows)
   postings_of_part =
       all-append is_context_part (word_changes i doc first rows) (section_changes i doc first rows)
-      (rows_of_part document_number posting_bytes word_posting kind.Postings i refl (gathered_rows document_number posting_bytes word_posting (λ r. (doc r).words) (numbered first rows) (terms_of (λ r. (doc r).words) rows)))
-      (rows_of_part span_number span_row_bytes span_posting kind.Spans i refl (gathered_rows span_number span_row_bytes span_posting (λ r. (doc r).spans) (numbered first rows) (terms_of (λ r. (doc r).spans) rows)))
+      (rows_of_part document_number posting_bytes document_with kind.Postings i refl (gathered_rows document_number posting_bytes document_with (λ r. (doc r).words) (numbered first rows) (terms_of (λ r. (doc r).words) rows)))
+      (rows_of_part document_number span_row_bytes document_with kind.Spans i refl (gathered_rows document_number span_row_bytes document_with (λ r. (doc r).spans) (numbered first rows) (terms_of (λ r. (doc r).spans) rows)))
 
   pub postings_on : AllOn i (postings_changes i doc first rows)
   postings_on =
       all_on-append i (word_changes i doc first rows) (section_changes i doc first rows)
-      (rows_on document_number posting_bytes word_posting kind.Postings i (gathered_rows document_number posting_bytes word_posting (λ r. (doc r).words) (numbered first rows) (terms_of (λ r. (doc r).words) rows)))
-      (rows_on span_number span_row_bytes span_posting kind.Spans i (gathered_rows span_number span_row_bytes span_posting (λ r. (doc r).spans) (numbered first rows) (terms_of (λ r. (doc r).spans) rows)))
+      (rows_on document_number posting_bytes document_with kind.Postings i (gathered_rows document_number posting_bytes document_with (λ r. (doc r).words) (numbered first rows) (terms_of (λ r. (doc r).words) rows)))
+      (rows_on document_number span_row_bytes document_with kind.Spans i (gathered_rows document_number span_row_bytes document_with (λ r. (doc r).spans) (numbered first rows) (terms_of (λ r. (doc r).spans) rows)))

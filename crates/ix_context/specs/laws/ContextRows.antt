@@ -21,27 +21,25 @@ use Rattle.tx_settings.specs.declared.preferences.Prefs.{Prefs}
 use Rattle.tx_settings.specs.PrefsBytes.{prefs_bytes}
 use Rattle.db_names.specs.Heads.{index_head_bytes}
 use Rattle.db_names.specs.declared.heads.IndexKind.TheVariants.{Context}
-use Rattle.ix_kinds.specs.Rows.{RowChange, ChangesBy, LookAlike, value_at, value_in_column, value_of}
+use Rattle.ix_kinds.specs.Rows.{RowChange, ChangesBy, LookAlike, value_at_place, value_in_column, value_of_row}
 use Rattle.ix_kinds.specs.Indextypes.{IndexOf}
 use Rattle.ix_kinds.specs.Standing.{is_entry, index_entry}
-use Rattle.ix_kinds.specs.Standing as standing
 use Rattle.ix_kinds.specs.IndextypeLaws.{is_its, by_row, StandsAlone, RowsChange}
 use Rattle.ix_rows.specs.Stores.{Untidy}
 use Rattle.ix_docmap.specs.Marks.{Mark, Pending, Settled, is_settled}
 use Rattle.ix_docmap.specs.Changes.{gone_changes, changed_changes}
 use Rattle.ix_docmap.specs.Readings.{document_of, document_at}
 use Rattle.ix_docmap.specs.laws.Documents.{is_of_map}
-use Rattle.ix_context.specs.Indexes.{ContextIndex, wasted, most_given, texts_in}
-use Rattle.ix_context.specs.Documents.{Postings, text_postings, document_cost}
+use Rattle.ix_context.specs.Indexes.{ContextIndex, part_after_loss, mark_limit, texts_in}
+use Rattle.ix_context.specs.Documents.{Postings, text_postings, document_cost, postings_by}
 use Rattle.ix_context.specs.Standing.{PartStands}
 use Rattle.ix_context.specs.laws.Standing.{part_agree, part_of_any}
 use Rattle.ix_context.specs.laws.Parts.{part_see}
 use Rattle.ix_context.specs.laws.Notes.{context_new, context_gone, context_gone_waiting, context_changed, context_changed_waiting}
-use Rattle.ix_context.specs.laws.Settling.{docs}
 use Rattle.ix_context.specs.Contexts.{IsContext, context_rest, context_entry, context_after, context_changes, context}
 use Rattle.ix_context.specs.Spelling.{is_context_part}
 use Rattle.ix_context.specs.laws.RowChanges.{document_read, settled_there, all_gone, all_on_gone, all_changed, all_on_changed, gone_others, changed_others}
-use Rattle.ix_context.specs.laws.Bodies.{given-wasted, untidy-wasted}
+use Rattle.ix_context.specs.laws.Bodies.{given-after_loss, untidy-after_loss}
 
 -- ---- the entry of the index
 
@@ -56,12 +54,12 @@ text_of_value : (vs : List Value) (column : ℕ) → text_in_column vs column �
 text_of_value vs zero = refl
 text_of_value vs (suc place) = go vs place
   where
-    go : (vs : List Value) (place : ℕ) → text_in vs place ≡ option_and_then as_text (value_at vs place)
+    go : (vs : List Value) (place : ℕ) → text_in vs place ≡ option_and_then as_text (value_at_place vs place)
     go [] place = refl
     go (v ∷ vs) zero = refl
     go (v ∷ vs) (suc place) = go vs place
 
-text_of_row : (o : Option (List Value)) (column : ℕ) → option_and_then (λ vs. text_in_column vs column) o ≡ option_and_then as_text (value_of o column)
+text_of_row : (o : Option (List Value)) (column : ℕ) → option_and_then (λ vs. text_in_column vs column) o ≡ option_and_then as_text (value_of_row o column)
 text_of_row None column = refl
 text_of_row (Some vs) column = text_of_value vs column
 
@@ -75,9 +73,9 @@ same_texts x t u alike r =
 pub context_alone : {D : Type 0} → StandsAlone (context {D = D})
 context_alone {D} = record {
   part = λ c k. part_of_any k;
-  agree = λ f g i x t same stand. part_agree f g i (docs x.prefs (texts_in t x.column)) (get x.body.marks) x.body.part same stand;
+  agree = λ f g i x t same stand. part_agree f g i (postings_by x.prefs (texts_in t x.column)) (get x.body.marks) x.body.part same stand;
   alike = λ f i x t u alike is stand.
-      part_see f i (docs x.prefs (texts_in t x.column)) (docs x.prefs (texts_in u x.column)) (get x.body.marks) x.body.part (λ r settled. ap (text_postings x.prefs) (same_texts x t u alike r)) stand;
+      part_see f i (postings_by x.prefs (texts_in t x.column)) (postings_by x.prefs (texts_in u x.column)) (get x.body.marks) x.body.part (λ r settled. ap (text_postings x.prefs) (same_texts x t u alike r)) stand;
   is_alike = λ x t u alike is. record { marks = λ r. is.marks r ∙ sym (alike.rows r); numbers = is.numbers; untidy = is.untidy };
 }
 
@@ -110,14 +108,14 @@ all_on_changes i r (Some old) None document = all_on_gone i r document
 given_after : (r : ℤ) (old new : Option (List Value)) (cost : ℕ) (c : ContextIndex) → (context_after r old new cost c).part.given ≡ c.part.given
 given_after r None None cost c = refl
 given_after r None (Some new) cost c = refl
-given_after r (Some old) (Some new) cost c = given-wasted (get c.marks r) cost c.part
-given_after r (Some old) None cost c = given-wasted (get c.marks r) cost c.part
+given_after r (Some old) (Some new) cost c = given-after_loss (get c.marks r) cost c.part
+given_after r (Some old) None cost c = given-after_loss (get c.marks r) cost c.part
 
 untidy_after : (r : ℤ) (old new : Option (List Value)) (cost : ℕ) (c : ContextIndex) → c.part.tidiness ≡ Untidy → (context_after r old new cost c).part.tidiness ≡ Untidy
 untidy_after r None None cost c untidy = untidy
 untidy_after r None (Some new) cost c untidy = untidy
-untidy_after r (Some old) (Some new) cost c untidy = untidy-wasted (get c.marks r) cost c.part untidy
-untidy_after r (Some old) None cost c untidy = untidy-wasted (get c.marks r) cost c.part untidy
+untidy_after r (Some old) (Some new) cost c untidy = untidy-after_loss (get c.marks r) cost c.part untidy
+untidy_after r (Some old) None cost c untidy = untidy-after_loss (get c.marks r) cost c.part untidy
 
 -- ---- the marks
 
@@ -149,7 +147,7 @@ marks_after r (Some old) None cost c s was = ap is_some (get_row-remove c.marks 
 row_is : (D : Type 0) (t u : Table) (x : IndexOf ContextIndex) (c : RowChange) (n : ℕ) → ChangesBy c t u → IsContext t x → IsContext u (by_row (context {D = D}) c n x)
 row_is D t u x c n by is = record {
   marks = λ s. marks_after c.row c.old c.new n x.body s (λ same. is.marks s ∙ ap (λ (z : ℤ). is_some (get t.rows z)) (int_from_eq s c.row same) ∙ ap is_some by.old) ∙ at s (int_eq s c.row) refl;
-  numbers = subst (λ (n : ℕ). n ≤ most_given) (sym (given_after c.row c.old c.new n x.body)) is.numbers;
+  numbers = subst (λ (n : ℕ). n ≤ mark_limit) (sym (given_after c.row c.old c.new n x.body)) is.numbers;
   untidy = untidy_after c.row c.old c.new n x.body is.untidy;
 }
   where
@@ -162,10 +160,10 @@ row_is D t u x c n by is = record {
 module _ (f : Key → Option (List ℕ)) (i : List ℕ) (p : Prefs) (column : ℕ) (b : ContextIndex) (t u : Table) (r : ℤ) where
   -- what the rows have before and after
   abbrev before : ℤ → Postings
-  before = docs p (texts_in t column)
+  before = postings_by p (texts_in t column)
 
   abbrev after : ℤ → Postings
-  after = docs p (texts_in u column)
+  after = postings_by p (texts_in u column)
 
   abbrev Stands : (Key → Option (List ℕ)) → (ℤ → Postings) → ContextIndex → Type 0
   Stands g doc c = PartStands g i doc (get c.marks) c.part
@@ -175,7 +173,8 @@ module _ (f : Key → Option (List ℕ)) (i : List ℕ) (p : Prefs) (column : �
   other_rows others s other = ap (λ (o : Option (List Value)). text_postings p (option_and_then (λ vs. text_in_column vs column) o)) (others s other)
 
   -- and so do settled ones, where this one isn't settled
-  settled_rows : (m : Option (Mark (Unit {0}))) → get b.marks r ≡ m → is_settled m ≡ false → ((s : ℤ) → int_eq s r ≡ false → get u.rows s ≡ get t.rows s) → (s : ℤ) → is_settled (get b.marks s) ≡ true → after s ≡ before s
+  settled_rows : (m : Option (Mark (Unit {0}))) → get b.marks r ≡ m → is_settled m ≡ false
+      → ((s : ℤ) → int_eq s r ≡ false → get u.rows s ≡ get t.rows s) → (s : ℤ) → is_settled (get b.marks s) ≡ true → after s ≡ before s
   settled_rows m is free others s settled = go (int_eq s r) refl
     where
       go : (e : Bool) → int_eq s r ≡ e → after s ≡ before s
@@ -185,23 +184,23 @@ module _ (f : Key → Option (List ℕ)) (i : List ℕ) (p : Prefs) (column : �
   -- by the mark of the row, and the document that it is
   module _ (is_row : IsRow r) (room : b.part.given < 2 ^ 32) (others : (s : ℤ) → int_eq s r ≡ false → get u.rows s ≡ get t.rows s) (cost : ℕ) (cost_is : cost ≡ document_cost i (before r)) (stand : Stands f before b) where
     goes_by : (m : Option (Mark (Unit {0}))) → get b.marks r ≡ m → is_some m ≡ true → (o : Option ℕ) → stand.document r ≡ o → is_some o ≡ is_settled m
-        → Stands (view (gone_changes i r o) f) after (record { part = wasted (get b.marks r) cost b.part; marks = remove b.marks r })
+        → Stands (view (gone_changes i r o) f) after (record { part = part_after_loss (get b.marks r) cost b.part; marks = remove b.marks r })
     goes_by None mark some o is settled = cc
     goes_by (Some Pending) mark some (Some d) is settled = cc
     goes_by (Some (Settled a)) mark some None is settled = cc
     goes_by (Some Pending) mark some None is settled = context_gone_waiting f i before after cost b r is_row mark (settled_rows (Some Pending) mark refl others) stand
     goes_by (Some (Settled a)) mark some (Some d) is settled =
-        subst (λ (n : ℕ). Stands (view (gone_changes i r (Some d)) f) after (record { part = wasted (get b.marks r) n b.part; marks = remove b.marks r })) (sym cost_is)
+        subst (λ (n : ℕ). Stands (view (gone_changes i r (Some d)) f) after (record { part = part_after_loss (get b.marks r) n b.part; marks = remove b.marks r })) (sym cost_is)
         (context_gone f i before after b r is_row mark room (λ s other settled. other_rows others s other) stand d is)
 
     changes_by : (m : Option (Mark (Unit {0}))) → get b.marks r ≡ m → is_some m ≡ true → (o : Option ℕ) → stand.document r ≡ o → is_some o ≡ is_settled m
-        → Stands (view (changed_changes i r o) f) after (record { part = wasted (get b.marks r) cost b.part; marks = insert b.marks r Pending })
+        → Stands (view (changed_changes i r o) f) after (record { part = part_after_loss (get b.marks r) cost b.part; marks = insert b.marks r Pending })
     changes_by None mark some o is settled = cc
     changes_by (Some Pending) mark some (Some d) is settled = cc
     changes_by (Some (Settled a)) mark some None is settled = cc
     changes_by (Some Pending) mark some None is settled = context_changed_waiting f i before after cost b r mark (settled_rows (Some Pending) mark refl others) stand
     changes_by (Some (Settled a)) mark some (Some d) is settled =
-        subst (λ (n : ℕ). Stands (view (changed_changes i r (Some d)) f) after (record { part = wasted (get b.marks r) n b.part; marks = insert b.marks r Pending })) (sym cost_is)
+        subst (λ (n : ℕ). Stands (view (changed_changes i r (Some d)) f) after (record { part = part_after_loss (get b.marks r) n b.part; marks = insert b.marks r Pending })) (sym cost_is)
         (context_changed f i before after b r is_row mark room (λ s other settled. other_rows others s other) stand d is)
 
   -- a row without a mark has none
@@ -211,7 +210,7 @@ module _ (f : Key → Option (List ℕ)) (i : List ℕ) (p : Prefs) (column : �
 
   -- whatever happens to the row
   row_stands : (old new : Option (List Value)) (cost : ℕ) → IsTable t → IsTable u → get t.rows r ≡ old → get u.rows r ≡ new → ((s : ℤ) → int_eq s r ≡ false → get u.rows s ≡ get t.rows s)
-      → ((vs : List Value) → old ≡ Some vs → cost ≡ document_cost i (text_postings p (text_in_column vs column))) → is_some (get b.marks r) ≡ is_some old → b.part.given ≤ most_given → Stands f before b
+      → ((vs : List Value) → old ≡ Some vs → cost ≡ document_cost i (text_postings p (text_in_column vs column))) → is_some (get b.marks r) ≡ is_some old → b.part.given ≤ mark_limit → Stands f before b
       → Stands (view (context_changes i r old new (document_at f i r)) f) after (context_after r old new cost b)
   row_stands None None cost is_t is_u was now others cost_is marked most stand =
       part_see f i before after (get b.marks) b.part (settled_rows None (no_mark (get b.marks r) marked) refl others) stand
@@ -220,13 +219,13 @@ module _ (f : Key → Option (List ℕ)) (i : List ℕ) (p : Prefs) (column : �
   row_stands (Some old) (Some new) cost is_t is_u was now others cost_is marked most stand =
       let is_row = is_t.keys r old was in
       let read = document_read f i (get b.marks) b.part.given stand.document stand.row stand.documents (omega (arith, most)) r is_row in
-      subst (λ (o : Option ℕ). Stands (view (changed_changes i r o) f) after (record { part = wasted (get b.marks r) cost b.part; marks = insert b.marks r Pending })) (sym read)
+      subst (λ (o : Option ℕ). Stands (view (changed_changes i r o) f) after (record { part = part_after_loss (get b.marks r) cost b.part; marks = insert b.marks r Pending })) (sym read)
       (changes_by is_row (omega (arith, most)) others cost (cost_is old refl ∙ ap (λ (o : Option (List Value)). document_cost i (text_postings p (option_and_then (λ vs. text_in_column vs column) o))) (sym was)) stand
       (get b.marks r) refl marked (stand.document r) refl (settled_there f i (get b.marks) b.part.given stand.document stand.row stand.documents r (get b.marks r) (stand.document r) refl refl))
   row_stands (Some old) None cost is_t is_u was now others cost_is marked most stand =
       let is_row = is_t.keys r old was in
       let read = document_read f i (get b.marks) b.part.given stand.document stand.row stand.documents (omega (arith, most)) r is_row in
-      subst (λ (o : Option ℕ). Stands (view (gone_changes i r o) f) after (record { part = wasted (get b.marks r) cost b.part; marks = remove b.marks r })) (sym read)
+      subst (λ (o : Option ℕ). Stands (view (gone_changes i r o) f) after (record { part = part_after_loss (get b.marks r) cost b.part; marks = remove b.marks r })) (sym read)
       (goes_by is_row (omega (arith, most)) others cost (cost_is old refl ∙ ap (λ (o : Option (List Value)). document_cost i (text_postings p (option_and_then (λ vs. text_in_column vs column) o))) (sym was)) stand
       (get b.marks r) refl marked (stand.document r) refl (settled_there f i (get b.marks) b.part.given stand.document stand.row stand.documents r (get b.marks r) (stand.document r) refl refl))
 

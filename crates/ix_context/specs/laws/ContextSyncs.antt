@@ -5,7 +5,7 @@ use Rattle.std.specs.Option.{option_map, option_and_then}
 use Rattle.std.specs.Ordering.{int_cmp}
 use Rattle.std.specs.FinMap.{get}
 use Rattle.std.proofs.lemmas.Cmp.{int_cmp_total}
-use Rattle.ct_base.specs.laws.Options.{some_value, and_then_some}
+use Rattle.ct_base.specs.laws.Options.{some_value}
 use Rattle.ct_entry.specs.declared.kinds.Kind.{Kind}
 use Rattle.ct_entry.specs.declared.kinds.Kind.TheVariants as kind
 use Rattle.ct_entry.specs.Keys.{Key, key, IsRow}
@@ -16,28 +16,27 @@ use Rattle.ct_entry.specs.laws.Changes.{told-append, view-append, all-append, al
 use Rattle.ct_entry.specs.laws.Each.{all_each, all_on-each}
 use Rattle.ct_entry.specs.laws.Maps.{get-each_value}
 use Rattle.ct_entry.specs.laws.Rows.{listed_rise, has_key}
-use Rattle.tb_table.specs.Tables.{Table, text_in_column}
+use Rattle.tb_table.specs.Tables.{Table}
 use Rattle.tb_table.specs.Rules.{IsTable}
-use Rattle.tb_table.specs.laws.Rules.{short_column}
 use Rattle.tx_settings.specs.PrefsBytes.{IsPrefs}
-use Rattle.ix_kinds.specs.Indextypes.{IndexOf}
+use Rattle.ix_kinds.specs.Indextypes.{IndexOf, synced_index}
 use Rattle.ix_kinds.specs.Standing.{is_entry, index_entry}
-use Rattle.ix_kinds.specs.IndextypeLaws.{by_sync, Synchronises}
+use Rattle.ix_kinds.specs.IndextypeLaws.{Synchronises}
 use Rattle.ix_docmap.specs.Marks.{Mark, Pending, Settled, Marks, is_settled}
 use Rattle.ix_docmap.specs.Changes.{map_settle_changes}
 use Rattle.ix_docmap.specs.laws.Documents.{settled_in, AllFree}
-use Rattle.ix_context.specs.Indexes.{ContextIndex, in_queue, waiting_rows, all_settled, most_given, texts_in}
+use Rattle.ix_context.specs.Indexes.{ContextIndex, in_queue, waiting_rows, all_settled, mark_limit, texts_in}
 use Rattle.ix_context.specs.Indexes as indexes
 use Rattle.ix_context.specs.Documents.{postings_by}
 use Rattle.ix_context.specs.Standing.{PartStands}
 use Rattle.ix_context.specs.Spelling.{index_bytes, is_context_part}
-use Rattle.ix_context.specs.Changes.{settle_rows_with, postings_changes}
-use Rattle.ix_context.specs.laws.Bodies.{given-made, untidy-made}
+use Rattle.ix_context.specs.Changes.{settle_each_changes, postings_changes}
+use Rattle.ix_context.specs.laws.Bodies.{given-with_marks, untidy-with_marks}
 use Rattle.ix_context.specs.laws.Standing.{entry_put, entry_here}
 use Rattle.ix_context.specs.laws.Syncs.{settled_pending}
 use Rattle.ix_kinds.specs.laws.Turns.{rising_apart}
 use Rattle.ix_context.specs.laws.Texts.{texts_short}
-use Rattle.ix_context.specs.laws.Settling.{docs, part_settled, EachRow, each_among, all_free}
+use Rattle.ix_context.specs.laws.Settling.{part_settled, EachRow, each_among, all_free}
 use Rattle.ix_context.specs.Contexts.{IsContext, context_entry, context_stands, context_synced, context_sync_changes, context}
 use Rattle.ix_context.specs.laws.ContextRows.{entry_is}
 use Rattle.ix_context.specs.laws.ContextPostings.{postings_of_part, postings_on}
@@ -63,32 +62,33 @@ rows_wait t x is_t is =
 -- the map and the postings of rows that wait; nothing where none waits
 abbrev settling : List ℕ → IndexOf ContextIndex → (ℤ → Option (List ℕ)) → List ℤ → List (Key × Option (List ℕ))
 settling i x text [] = []
-settling i x text (r ∷ rs) = settle_rows_with i (x.body.part.given + 1) (r ∷ rs) ++ postings_changes i (postings_by x.prefs text) (x.body.part.given + 1) (r ∷ rs)
+settling i x text (r ∷ rs) = settle_each_changes i (x.body.part.given + 1) (r ∷ rs) ++ postings_changes i (postings_by x.prefs text) (x.body.part.given + 1) (r ∷ rs)
 
-synced_part : (f : Key → Option (List ℕ)) (t : Table) (i : List ℕ) (x : IndexOf ContextIndex) → x.body.part.given + length (waiting_rows x.body.marks) ≤ most_given → IsTable t → IsPrefs x.prefs → IsContext t x
+synced_part : (f : Key → Option (List ℕ)) (t : Table) (i : List ℕ) (x : IndexOf ContextIndex)
+    → x.body.part.given + length (waiting_rows x.body.marks) ≤ mark_limit → IsTable t → IsPrefs x.prefs → IsContext t x
     → context_stands f i x t
-    → PartStands (view (settling i x (texts_in t x.column) (waiting_rows x.body.marks)) f) i (docs x.prefs (texts_in t x.column)) (get (all_settled x.body.marks)) (context_synced x.body).part
+    → PartStands (view (settling i x (texts_in t x.column) (waiting_rows x.body.marks)) f) i (postings_by x.prefs (texts_in t x.column)) (get (all_settled x.body.marks)) (context_synced x.body).part
 synced_part f t i x room is_t prefs is stand =
     let changes = settling i x (texts_in t x.column) (waiting_rows x.body.marks) in
-    subst (λ (m : Marks). PartStands (view changes f) i (docs x.prefs (texts_in t x.column)) m (context_synced x.body).part) (λ j r. settled_pending x.body.marks r j)
+    subst (λ (m : Marks). PartStands (view changes f) i (postings_by x.prefs (texts_in t x.column)) m (context_synced x.body).part) (λ j r. settled_pending x.body.marks r j)
     (go (waiting_rows x.body.marks) (rising_apart (waiting_rows x.body.marks) (listed_rise int_cmp in_queue x.body.marks)) (all_free (get x.body.marks) (waiting_rows x.body.marks) (rows_wait t x is_t is)) room)
   where
-    go : (rows : List ℤ) → AreApart rows → AllFree (get x.body.marks) rows → x.body.part.given + length rows ≤ most_given
-        → PartStands (view (settling i x (texts_in t x.column) rows) f) i (docs x.prefs (texts_in t x.column)) (settled_in rows (get x.body.marks)) (indexes.made (length rows) x.body.part)
+    go : (rows : List ℤ) → AreApart rows → AllFree (get x.body.marks) rows → x.body.part.given + length rows ≤ mark_limit
+        → PartStands (view (settling i x (texts_in t x.column) rows) f) i (postings_by x.prefs (texts_in t x.column)) (settled_in rows (get x.body.marks)) (indexes.part_with_marks (length rows) x.body.part)
     go [] apart free room = stand
     go (r ∷ rs) apart free room = part_settled x.prefs prefs (texts_in t x.column) (texts_short t is_t x.column) f i (get x.body.marks) x.body.part (r ∷ rs) apart free (omega arith) stand
 
 -- what it has is put behind the entry of the index
 sync_stands : (f : Key → Option (List ℕ)) (t : Table) (i : List ℕ) (x : IndexOf ContextIndex) (rows : List ℤ)
-    → PartStands (view (settling i x (texts_in t x.column) rows) f) i (docs x.prefs (texts_in t x.column)) (get (all_settled x.body.marks)) (context_synced x.body).part
-    → PartStands (view (context_sync_changes i x (texts_in t x.column) rows) f) i (docs x.prefs (texts_in t x.column)) (get (all_settled x.body.marks)) (context_synced x.body).part
+    → PartStands (view (settling i x (texts_in t x.column) rows) f) i (postings_by x.prefs (texts_in t x.column)) (get (all_settled x.body.marks)) (context_synced x.body).part
+    → PartStands (view (context_sync_changes i x (texts_in t x.column) rows) f) i (postings_by x.prefs (texts_in t x.column)) (get (all_settled x.body.marks)) (context_synced x.body).part
 sync_stands f t i x [] part = part
 sync_stands f t i x (r ∷ rs) part =
     let changes = settling i x (texts_in t x.column) (r ∷ rs) in
     let entry = context_entry (record x { body = context_synced x.body }) in
-    subst (λ (g : Key → Option (List ℕ)). PartStands g i (docs x.prefs (texts_in t x.column)) (get (all_settled x.body.marks)) (context_synced x.body).part)
+    subst (λ (g : Key → Option (List ℕ)). PartStands g i (postings_by x.prefs (texts_in t x.column)) (get (all_settled x.body.marks)) (context_synced x.body).part)
     (sym (view-append changes (put_value (key kind.Indexes i []) entry ∷ []) f))
-    (entry_put (view changes f) i entry (docs x.prefs (texts_in t x.column)) (get (all_settled x.body.marks)) (context_synced x.body).part part)
+    (entry_put (view changes f) i entry (postings_by x.prefs (texts_in t x.column)) (get (all_settled x.body.marks)) (context_synced x.body).part part)
 
 -- ---- which changes they are
 
@@ -106,13 +106,13 @@ weaker (w ∷ ws) all = (of_its_part w.0.kind all.0, weaker ws all.1)
 settling_of_part : (i : List ℕ) (x : IndexOf ContextIndex) (text : ℤ → Option (List ℕ)) (rows : List ℤ) → AllOf is_context_part (settling i x text rows)
 settling_of_part i x text [] = tt
 settling_of_part i x text (r ∷ rs) =
-    all-append is_context_part (settle_rows_with i (x.body.part.given + 1) (r ∷ rs)) (postings_changes i (postings_by x.prefs text) (x.body.part.given + 1) (r ∷ rs))
+    all-append is_context_part (settle_each_changes i (x.body.part.given + 1) (r ∷ rs)) (postings_changes i (postings_by x.prefs text) (x.body.part.given + 1) (r ∷ rs))
     (all_each is_context_part (map_settle_changes i) (λ p. (refl, (refl, (refl, tt)))) (numbered (x.body.part.given + 1) (r ∷ rs))) (postings_of_part i (postings_by x.prefs text) (x.body.part.given + 1) (r ∷ rs))
 
 settling_on : (i : List ℕ) (x : IndexOf ContextIndex) (text : ℤ → Option (List ℕ)) (rows : List ℤ) → AllOn i (settling i x text rows)
 settling_on i x text [] = tt
 settling_on i x text (r ∷ rs) =
-    all_on-append i (settle_rows_with i (x.body.part.given + 1) (r ∷ rs)) (postings_changes i (postings_by x.prefs text) (x.body.part.given + 1) (r ∷ rs))
+    all_on-append i (settle_each_changes i (x.body.part.given + 1) (r ∷ rs)) (postings_changes i (postings_by x.prefs text) (x.body.part.given + 1) (r ∷ rs))
     (all_on-each i (map_settle_changes i) (λ p. (refl, (refl, (refl, tt)))) (numbered (x.body.part.given + 1) (r ∷ rs))) (postings_on i (postings_by x.prefs text) (x.body.part.given + 1) (r ∷ rs))
 
 sync_on : (i : List ℕ) (x : IndexOf ContextIndex) (text : ℤ → Option (List ℕ)) (rows : List ℤ) → AllOn i (context_sync_changes i x text rows)
@@ -128,7 +128,7 @@ sync_of i x text (r ∷ rs) =
 sync_entry : (D : Type 0) (i : List ℕ) (x : IndexOf ContextIndex) (text : ℤ → Option (List ℕ)) (rows : List ℤ) → waiting_rows x.body.marks ≡ rows
     → told (context_sync_changes i x text rows) (key kind.Indexes i []) (Some (index_entry (context {D = D}) x)) ≡ Some (index_entry (context {D = D}) (record x { body = context_synced x.body }))
 sync_entry D i x text [] none =
-    ap Some (sym (entry_is D x)) ∙ ap (λ (n : ℕ). Some (index_bytes x.table x.column x.prefs (n + 1))) (ap (λ (l : List ℤ). (indexes.made (length l) x.body.part).given) (sym none)) ∙ ap Some (entry_is D (record x { body = context_synced x.body }))
+    ap Some (sym (entry_is D x)) ∙ ap (λ (n : ℕ). Some (index_bytes x.table x.column x.prefs (n + 1))) (ap (λ (l : List ℤ). (indexes.part_with_marks (length l) x.body.part).given) (sym none)) ∙ ap Some (entry_is D (record x { body = context_synced x.body }))
 sync_entry D i x text (r ∷ rs) some =
     let changes = settling i x text (r ∷ rs) in
     let entry = context_entry (record x { body = context_synced x.body }) in
@@ -142,11 +142,12 @@ some_mapped : (o : Option (Mark (Unit {0}))) → is_some (option_map {U = Mark (
 some_mapped None = refl
 some_mapped (Some m) = refl
 
-synced_is : (D : Type 0) (d : D) (t : Table) (x : IndexOf ContextIndex) → x.body.part.given + length (waiting_rows x.body.marks) ≤ most_given → IsContext t x → IsContext t (by_sync (context {D = D}) d t x)
+synced_is : (D : Type 0) (d : D) (t : Table) (x : IndexOf ContextIndex) → x.body.part.given + length (waiting_rows x.body.marks) ≤ mark_limit
+    → IsContext t x → IsContext t (synced_index (context {D = D}) d t x)
 synced_is D d t x room is = record {
   marks = λ r. ap is_some (get-each_value int_cmp_total (λ (m : Mark (Unit {0})). Settled tt) x.body.marks r) ∙ some_mapped (get x.body.marks r) ∙ is.marks r;
-  numbers = let n = given-made (length (waiting_rows x.body.marks)) x.body.part in subst (λ (n : ℕ). n ≤ most_given) (sym n) room;
-  untidy = untidy-made (length (waiting_rows x.body.marks)) x.body.part is.untidy;
+  numbers = let n = given-with_marks (length (waiting_rows x.body.marks)) x.body.part in subst (λ (n : ℕ). n ≤ mark_limit) (sym n) room;
+  untidy = untidy-with_marks (length (waiting_rows x.body.marks)) x.body.part is.untidy;
 }
 
 pub context_syncs : {D : Type 0} → Synchronises (context {D = D})

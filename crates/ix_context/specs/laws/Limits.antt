@@ -1,5 +1,5 @@
 -- The rules of a table and of an index keep it within the limits of a search.
-use Rattle.std.proofs.Common.{ℕ, ℤ, List, arith}
+use Rattle.std.proofs.Common.{arith}
 use Rattle.std.specs.FinMap.{get}
 use Rattle.ct_base.specs.laws.Options.{and_then_some}
 use Rattle.tb_table.specs.Tables.{Table, text_in_column}

@@ -12,21 +12,24 @@ use Rattle.std.proofs.lemmas.List.{length-map}
 use Rattle.std.proofs.lemmas.List.Elements.{All-map, recursion_from_All}
 use Rattle.ct_base.specs.Limits.{stream_limit}
 use Rattle.ct_base.specs.declared.numbers.Pair.{Pair}
-use Rattle.ct_keep.specs.FoundKeys.{all_entries}
+use Rattle.ct_keep.specs.laws.FoundKeys.{all_entries}
 use Rattle.tx_settings.specs.declared.preferences.Prefs.{Prefs}
 use Rattle.tx_document.specs.declared.entries.Entry.{Entry}
 use Rattle.tx_document.specs.Documents.{pair}
 use Rattle.tx_document.specs.Entries.{section_stream, place_map, places_under, entry_of}
 use Rattle.tx_settings.specs.PrefsBytes.{IsPrefs}
-use Rattle.tx_document.specs.Promises.{IsWordEntry, IsSectionEntry, PositionsRise, PairsRise as PlacesRise, as_pairs, if_any}
+use Rattle.tx_document.specs.Promises.{IsWordEntry, IsSectionEntry, PositionsRise, PairsRise, as_pairs, if_any}
 use Rattle.tx_document.specs.laws.Found.{places_are_found}
 use Rattle.tx_document.specs.laws.Ordered.{entries_are_ordered}
 use Rattle.tx_document.specs.laws.Few.{places_are_few}
-use Rattle.ix_posting.specs.Rows.{Rise, IsPostingRow}
-use Rattle.ix_posting.specs.SpanRows.{PairsFollow, no_pair, IsSpanRow}
+use Rattle.ix_posting.specs.Rows.{IsPostingRow, IsSpanRow}
+use Rattle.ix_posting.specs.Forms.{Rise, PlacesRise, pair_form, no_pair}
+use Rattle.ix_posting.specs.laws.Numbers.{few_rise}
 use Rattle.ix_rows.specs.WordRows.{word_term}
-use Rattle.ix_context.specs.Postings.{places_in_text, text_entries, is_section_entry, first_positions, section_term, word_terms, section_terms, IsWord, IsSection, IsSectionOrWord, IsPosting, indexed_text_limit}
-use Rattle.ix_context.specs.Documents.{word_posting, span_posting}
+use Rattle.ix_context.specs.Postings.{places_in_text, text_entries, is_section_entry, word_terms, section_terms, IsWord, IsSection, IsSectionOrWord, IsPosting, indexed_text_limit}
+use Rattle.ix_rows.specs.Firsts.{first_positions}
+use Rattle.ix_rows.specs.SpanRows.{section_term}
+use Rattle.ix_context.specs.Documents.{document_with}
 
 -- a name of places, with the places that it has
 abbrev pub Named : Type 0
@@ -46,9 +49,9 @@ rise_so : (before : ℕ) (ps : List ℕ) → PositionsRise before ps → Rise be
 rise_so before [] rise = tt
 rise_so before (p ∷ ps) rise = (rise.0, rise.1, rise_so p ps rise.2)
 
-pairs_rise_so : (before : Pair) (ps : List Pair) → PlacesRise before ps → PairsFollow before ps
+pairs_rise_so : (before : Pair) (ps : List Pair) → PairsRise before ps → PlacesRise pair_form before ps
 pairs_rise_so before [] rise = tt
-pairs_rise_so before (p ∷ ps) rise = (rise.0, rise.1, rise.2, rise.3, pairs_rise_so p ps rise.4)
+pairs_rise_so before (p ∷ ps) rise = (rise.0, (rise.1, rise.2, rise.3), pairs_rise_so p ps rise.4)
 
 low_stream : (stream : ℕ) → stream ≤ stream_limit → (stream == section_stream) ≡ false
 low_stream stream low = ne_eqb stream section_stream (λ same. absurd (omega (arith, low, same)))
@@ -102,48 +105,54 @@ entries_few p text is short = All-map (λ (e : Entry). length e.places ≤ most_
 
 -- ---- a row of one document
 
-pub word_is_row : (e : Entry) (d : ℕ) → 1 ≤ d → d < 2 ^ 32 → IsWord e → IsPostingRow (word_posting d (first_positions e.places) ∷ [])
+pub word_is_row : (e : Entry) (d : ℕ) → 1 ≤ d → d < 2 ^ 32 → IsWord e → IsPostingRow (document_with d (first_positions e.places) ∷ [])
 word_is_row e d some room is = record {
   some = omega arith;
   few = omega arith;
-  rise = (omega (arith, some), room, (let long = length-map e.places (λ (p : Pair). p.first) in let any = is.some in omega (arith, long, any)), is.rise, tt);
+  rise =
+      let long = length-map e.places (λ (p : Pair). p.first) in
+      let any = is.some in
+      let few = few_rise 0 (first_positions e.places) (omega arith) is.rise in
+      (omega (arith, some), room, omega (arith, long, any), omega (arith, few), is.rise, tt);
 }
 
-pub section_is_row : (e : Entry) (d : ℕ) → 1 ≤ d → d < 2 ^ 32 → IsSection e → IsSpanRow (span_posting d e.places ∷ [])
+pub section_is_row : (e : Entry) (d : ℕ) → 1 ≤ d → d < 2 ^ 32 → IsSection e → IsSpanRow (document_with d e.places ∷ [])
 section_is_row e d some room is = record { some = omega arith; few = omega arith; rise = (omega (arith, some), room, is.some, is.few, is.rise, tt) }
 
 module _ (d : ℕ) (some : 1 ≤ d) (room : d < 2 ^ 32) where
-  word_found : (es : List Entry) → AllByRecursion IsPosting es → (t x : List ℕ) → find (slice_cmp nat_cmp) t (word_terms es) ≡ Some x → IsPostingRow (word_posting d x ∷ [])
+  word_found : (es : List Entry) → AllByRecursion IsPosting es → (t x : List ℕ) → find (slice_cmp nat_cmp) t (word_terms es) ≡ Some x → IsPostingRow (document_with d x ∷ [])
   word_found [] all t x found = cc
   word_found (e ∷ es) all t x found = go (is_section_entry e) all.0 found (word_found es all.1 t x)
     where
       here : (b : Bool) → IsWord e → cond b (Some (first_positions e.places)) (find (slice_cmp nat_cmp) t (word_terms es)) ≡ Some x
-          → (find (slice_cmp nat_cmp) t (word_terms es) ≡ Some x → IsPostingRow (word_posting d x ∷ [])) → IsPostingRow (word_posting d x ∷ [])
-      here true is found rest = let same : first_positions e.places ≡ x = cc in subst (λ (l : List ℕ). IsPostingRow (word_posting d l ∷ [])) same (word_is_row e d some room is)
+          → (find (slice_cmp nat_cmp) t (word_terms es) ≡ Some x → IsPostingRow (document_with d x ∷ [])) → IsPostingRow (document_with d x ∷ [])
+      here true is found rest = let same : first_positions e.places ≡ x = cc in subst (λ (l : List ℕ). IsPostingRow (document_with d l ∷ [])) same (word_is_row e d some room is)
       here false is found rest = rest found
 
       go : (b : Bool) → IsSectionOrWord b e → find (slice_cmp nat_cmp) t (cons_option (cond b None (Some (word_term e.stream e.token, first_positions e.places))) (word_terms es)) ≡ Some x
-          → (find (slice_cmp nat_cmp) t (word_terms es) ≡ Some x → IsPostingRow (word_posting d x ∷ [])) → IsPostingRow (word_posting d x ∷ [])
+          → (find (slice_cmp nat_cmp) t (word_terms es) ≡ Some x → IsPostingRow (document_with d x ∷ [])) → IsPostingRow (document_with d x ∷ [])
       go true is found rest = rest found
       go false is found rest = here (eq_by_cmp (slice_cmp nat_cmp) t (word_term e.stream e.token)) is found rest
 
-  section_found : (es : List Entry) → AllByRecursion IsPosting es → (t : List ℕ) (x : List Pair) → find (slice_cmp nat_cmp) t (section_terms es) ≡ Some x → IsSpanRow (span_posting d x ∷ [])
+  section_found : (es : List Entry) → AllByRecursion IsPosting es → (t : List ℕ) (x : List Pair) → find (slice_cmp nat_cmp) t (section_terms es) ≡ Some x → IsSpanRow (document_with d x ∷ [])
   section_found [] all t x found = cc
   section_found (e ∷ es) all t x found = go (is_section_entry e) all.0 found (section_found es all.1 t x)
     where
       here : (b : Bool) → IsSection e → cond b (Some e.places) (find (slice_cmp nat_cmp) t (section_terms es)) ≡ Some x
-          → (find (slice_cmp nat_cmp) t (section_terms es) ≡ Some x → IsSpanRow (span_posting d x ∷ [])) → IsSpanRow (span_posting d x ∷ [])
-      here true is found rest = let same : e.places ≡ x = cc in subst (λ (l : List Pair). IsSpanRow (span_posting d l ∷ [])) same (section_is_row e d some room is)
+          → (find (slice_cmp nat_cmp) t (section_terms es) ≡ Some x → IsSpanRow (document_with d x ∷ [])) → IsSpanRow (document_with d x ∷ [])
+      here true is found rest = let same : e.places ≡ x = cc in subst (λ (l : List Pair). IsSpanRow (document_with d l ∷ [])) same (section_is_row e d some room is)
       here false is found rest = rest found
 
       go : (b : Bool) → IsSectionOrWord b e → find (slice_cmp nat_cmp) t (cons_option (cond b (Some (section_term e.token, e.places)) None) (section_terms es)) ≡ Some x
-          → (find (slice_cmp nat_cmp) t (section_terms es) ≡ Some x → IsSpanRow (span_posting d x ∷ [])) → IsSpanRow (span_posting d x ∷ [])
+          → (find (slice_cmp nat_cmp) t (section_terms es) ≡ Some x → IsSpanRow (document_with d x ∷ [])) → IsSpanRow (document_with d x ∷ [])
       go true is found rest = here (eq_by_cmp (slice_cmp nat_cmp) t (section_term e.token)) is found rest
       go false is found rest = rest found
 
   -- what stands under a term of a text makes a row
-  pub word_term_is_row : (p : Prefs) (text : List ℕ) → IsPrefs p → length text ≤ 2 ^ 24 → (x t : List ℕ) → find (slice_cmp nat_cmp) t (word_terms (text_entries p text)) ≡ Some x → IsPostingRow (word_posting d x ∷ [])
+  pub word_term_is_row : (p : Prefs) (text : List ℕ) → IsPrefs p → length text ≤ 2 ^ 24 → (x t : List ℕ)
+      → find (slice_cmp nat_cmp) t (word_terms (text_entries p text)) ≡ Some x → IsPostingRow (document_with d x ∷ [])
   word_term_is_row p text is short x t found = word_found (text_entries p text) (recursion_from_All IsPosting (text_entries p text) (entries_fit p text is short)) t x found
 
-  pub section_term_is_row : (p : Prefs) (text : List ℕ) → IsPrefs p → length text ≤ 2 ^ 24 → (x : List Pair) (t : List ℕ) → find (slice_cmp nat_cmp) t (section_terms (text_entries p text)) ≡ Some x → IsSpanRow (span_posting d x ∷ [])
+  pub section_term_is_row : (p : Prefs) (text : List ℕ) → IsPrefs p → length text ≤ 2 ^ 24 → (x : List Pair) (t : List ℕ)
+      → find (slice_cmp nat_cmp) t (section_terms (text_entries p text)) ≡ Some x → IsSpanRow (document_with d x ∷ [])
   section_term_is_row p text is short x t found = section_found (text_entries p text) (recursion_from_All IsPosting (text_entries p text) (entries_fit p text is short)) t x found

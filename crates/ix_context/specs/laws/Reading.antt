@@ -1,5 +1,5 @@
 -- What the entries of a CONTEXT index are read as: what it has.
-use Rattle.std.proofs.Common.{◌≡◌, ℕ, ℤ, zero, suc, ◌+◌, ◌<◌, ◌^◌, List, [], ◌∷◌, ◌++◌, length, map, take, drop, Option, Some, None, refl, sym, ap, ◌∙◌, arith}
+use Rattle.std.proofs.Common.{◌≡◌, ℕ, ℤ, true, false, zero, suc, ◌+◌, ◌<◌, ◌^◌, List, [], ◌∷◌, ◌++◌, length, map, take, drop, Option, Some, None, refl, sym, ap, ◌∙◌, arith}
 use Rattle.std.specs.Prelude.{is_some}
 use Rattle.std.specs.Option.{option_and_then}
 use Rattle.std.specs.Int.{to_be_bytes, w32}
@@ -34,14 +34,14 @@ use Rattle.ix_kinds.specs.laws.Tables.{row_of_table, table_is}
 use Rattle.ix_context.specs.declared.entries.IndexEntry.{IndexEntry}
 use Rattle.ix_context.specs.Indexes.{ContextIndex, in_queue, waiting_rows, target_text}
 use Rattle.ix_context.specs.Spelling.{index_bytes, after_table, SpellsIndex}
-use Rattle.ix_context.specs.Stands.{HoldsTables, HoldsContext}
+use Rattle.ix_context.specs.Contents.{HoldsTables, HoldsContext}
 use Rattle.ix_context.specs.laws.ContextSyncs.{mark_is_row}
 
 -- ---- the entry of the index
 
 -- a column of texts is one of at most 16
 text_at_few : (cs : List Column) (place : ℕ) → HasTextAt cs place → place < length cs
-text_at_few [] place has = absurd has
+text_at_few [] place has = let wrong : false ≡ true = has in cc
 text_at_few (c ∷ cs) zero has = omega arith
 text_at_few (c ∷ cs) (suc place) has = let rest = text_at_few cs place has in omega (arith, rest)
 
@@ -52,7 +52,8 @@ column_few ts are t column is =
     omega (arith, few, place)
 
 -- no other target, preferences and document have the same bytes
-pub index_bytes_one : (t u : List ℕ) (c d : ℕ) (p q : Prefs) (n k : ℕ) → IsPrefs p → IsPrefs q → n < 2 ^ 32 → k < 2 ^ 32 → index_bytes t c p n ≡ index_bytes u d q k → (t ≡ u) × (c ≡ d) × (p ≡ q) × (n ≡ k)
+pub index_bytes_one : (t u : List ℕ) (c d : ℕ) (p q : Prefs) (n k : ℕ) → IsPrefs p → IsPrefs q → n < 2 ^ 32 → k < 2 ^ 32
+    → index_bytes t c p n ≡ index_bytes u d q k → (t ≡ u) × (c ≡ d) × (p ≡ q) × (n ≡ k)
 index_bytes_one t u c d p q n k is are small small' e =
     let tables = text_apart t u (after_table c p n) (after_table d q k) (cons_parts 1 1 (text_bytes t ++ after_table c p n) (text_bytes u ++ after_table d q k) e).1 in
     let columns = cons_parts c d _ _ tables.1 in
@@ -68,7 +69,8 @@ abbrev pub parts_of : IndexOf ContextIndex → IndexEntry
 parts_of x = record { target = target_of x; prefs = x.prefs; next_document = x.body.part.given + 1 }
 
 -- an index is read as its target, its preferences and its next document
-pub index_read : (m : Content) (ts : Tables) (i : List ℕ) (x : IndexOf ContextIndex) → HoldsContext m ts i x → (found : Option IndexEntry) → SpellsIndex (at m (key kind.Indexes i [])) found → found ≡ Some (parts_of x)
+pub index_read : (m : Content) (ts : Tables) (i : List ℕ) (x : IndexOf ContextIndex) → HoldsContext m ts i x → (found : Option IndexEntry)
+    → SpellsIndex (at m (key kind.Indexes i [])) found → found ≡ Some (parts_of x)
 index_read m ts i x holds found spelt = go found spelt
   where
     small : x.body.part.given + 1 < 2 ^ 32

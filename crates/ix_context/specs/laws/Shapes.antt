@@ -15,30 +15,29 @@ use Rattle.ct_entry.specs.laws.Well.{entry_of_key, well-append}
 use Rattle.tb_table.specs.declared.columns.Target.{Target}
 use Rattle.tx_settings.specs.declared.preferences.Prefs.{Prefs}
 use Rattle.tx_settings.specs.PrefsBytes.{IsPrefs}
-use Rattle.ix_docmap.specs.Changes.{mark_changes}
+use Rattle.ix_docmap.specs.Changes.{mark_changes, queue_changes}
 use Rattle.ix_context.specs.laws.Well.{length-entry_le}
 use Rattle.ix_context.specs.Spelling.{index_bytes, index_change}
-use Rattle.ix_context.specs.Changes.{note_insert_changes}
-use Rattle.ix_context.specs.Shapes.{HasIndexValue, KeepsShape}
+use Rattle.ix_context.specs.Shapes.{HasContextValue, KeepsShape}
 
 -- ---- changes
 
 -- one that puts an entry, before others
-shaped_put : (k : Key) (value : List ℕ) (ws : List (Key × Option (List ℕ))) → IsKeyOfKind k → has_short_keys k.kind ≡ true → length value ≤ value_limit → HasIndexValue k value
-    → AreShaped HasIndexValue (spell ws) → AreShaped HasIndexValue (spell (put_value k value ∷ ws))
+shaped_put : (k : Key) (value : List ℕ) (ws : List (Key × Option (List ℕ))) → IsKeyOfKind k → has_short_keys k.kind ≡ true → length value ≤ value_limit → HasContextValue k value
+    → AreShaped HasContextValue (spell ws) → AreShaped HasContextValue (spell (put_value k value ∷ ws))
 shaped_put k value ws is short bounded has rest = (entry_of_key k value is short bounded, record { key = k; spelt = refl; parts = is; has = has }, rest)
 
-pub shaped_note : (i : List ℕ) (r : ℤ) → IsName i → IsRow r → AreShaped HasIndexValue (spell (note_insert_changes i r))
+pub shaped_note : (i : List ℕ) (r : ℤ) → IsName i → IsRow r → AreShaped HasContextValue (spell (queue_changes i r))
 shaped_note i r name row = shaped_put (key kind.Pending i (row_part r)) [] [] (record { owner = name; part = (r, row, refl) }) refl (omega arith) refl tt
 
 pub shaped_index : (i : List ℕ) (target : Target) (prefs : Prefs) (next : ℕ) → IsName i → IsName target.table → target.column < 256 → IsPrefs prefs → next < 2 ^ 32
-    → AreShaped HasIndexValue (spell (index_change i target prefs next ∷ []))
+    → AreShaped HasContextValue (spell (index_change i target prefs next ∷ []))
 shaped_index i target prefs next name table column are fits =
     shaped_put (key kind.Indexes i []) (index_bytes target.table target.column prefs next) [] (record { owner = name; part = refl }) refl (let long = length-entry_le target.table target.column prefs next table are in omega (arith, long))
     (record { table = target.table; column = target.column; prefs = prefs; next = next; named = table; place = column; are = are; fits = fits; spelt = refl }) tt
 
 -- a row becomes a document of an index
-pub shaped_mark : (i : List ℕ) (d : ℕ) (r : ℤ) → IsName i → d < 2 ^ 32 → IsRow r → AreShaped HasIndexValue (spell (mark_changes i d r))
+pub shaped_mark : (i : List ℕ) (d : ℕ) (r : ℤ) → IsName i → d < 2 ^ 32 → IsRow r → AreShaped HasContextValue (spell (mark_changes i d r))
 shaped_mark i d r name doc row =
     shaped_put (key kind.DocumentRows i (document_part d)) (row_bytes r) (put_value (key kind.RowDocuments i (row_part r)) (to_be_bytes w32 d) ∷ [])
     (record { owner = name; part = (d, doc, refl) }) refl (let eight = length-row_bytes r in omega (arith, eight)) (r, row, refl)
@@ -47,11 +46,11 @@ shaped_mark i d r name doc row =
 -- ---- batches
 
 -- well shaped changes behind others that are
-pub shaped_added : (old new more : List (List ℕ × Option (List ℕ))) → new ≡ old ++ more → AreShaped HasIndexValue more → AreShaped HasIndexValue old → AreShaped HasIndexValue new
-shaped_added old new more is added are = subst (AreShaped HasIndexValue) (sym is) (well-append (IsShaped HasIndexValue) old more are added)
+pub shaped_added : (old new more : List (List ℕ × Option (List ℕ))) → new ≡ old ++ more → AreShaped HasContextValue more → AreShaped HasContextValue old → AreShaped HasContextValue new
+shaped_added old new more is added are = subst (AreShaped HasContextValue) (sym is) (well-append (IsShaped HasContextValue) old more are added)
 
 -- a call after others that kept the shape
-pub keeps_then : {T E : Type 0} (old mid new : List (List ℕ × Option (List ℕ))) (result : Result T E) → (AreShaped HasIndexValue old → AreShaped HasIndexValue mid)
+pub keeps_then : {T E : Type 0} (old mid new : List (List ℕ × Option (List ℕ))) (result : Result T E) → (AreShaped HasContextValue old → AreShaped HasContextValue mid)
     → KeepsShape mid new result → KeepsShape old new result
 keeps_then old mid new (Ok x) first keeps = λ are. keeps (first are)
 keeps_then old mid new (Err e) first keeps = tt

@@ -6,16 +6,16 @@ use Rattle.ct_entry.specs.Keys.{Key, key}
 use Rattle.ct_entry.specs.Changes.{put_value, told, view}
 use Rattle.ct_entry.specs.laws.Keys.{key_same}
 use Rattle.ct_entry.specs.laws.Changes.{told_frame}
-use Rattle.ix_posting.specs.Rows.{IsPostingRow, posting_bytes}
-use Rattle.ix_posting.specs.SpanRows.{IsSpanRow, span_row_bytes}
-use Rattle.ix_rows.specs.WordRows.{document_number, IsWordTerm, word_cost}
-use Rattle.ix_rows.specs.SpanRows.{span_number, IsSpanTerm, span_cost}
+use Rattle.ix_posting.specs.Rows.{IsPostingRow, posting_bytes, IsSpanRow, span_row_bytes}
+use Rattle.ix_rows.specs.PlacedRows.{document_number}
+use Rattle.ix_rows.specs.WordRows.{IsWordTerm, word_cost}
+use Rattle.ix_rows.specs.SpanRows.{IsSpanTerm, span_cost}
 use Rattle.ix_rows.specs.laws.Stores.{store_agree}
 use Rattle.ix_docmap.specs.Marks.{Marks}
 use Rattle.ix_kinds.specs.Standing.{is_of_part, is_entry}
 use Rattle.ix_kinds.specs.laws.Standing.{no_entry}
 use Rattle.ix_context.specs.Indexes.{Part}
-use Rattle.ix_context.specs.Documents.{Postings, want_words, want_spans}
+use Rattle.ix_context.specs.Documents.{Postings, word_posting, section_posting}
 use Rattle.ix_context.specs.Spelling.{is_context_part}
 use Rattle.ix_context.specs.Standing.{PartStands}
 
@@ -44,8 +44,8 @@ part_agree f g i doc mark part same stand = record {
     documents = λ r fits. same _ refl refl ∙ stand.documents.documents r fits;
     queue = λ r fits. same _ refl refl ∙ stand.documents.queue r fits;
   };
-  words = store_agree document_number posting_bytes IsPostingRow IsWordTerm (word_cost i) f g kind.Postings i (want_words doc) stand.row part.given part.tidiness stand.words_waste stand.word_rows (λ q. same _ refl refl) stand.words;
-  spans = store_agree span_number span_row_bytes IsSpanRow IsSpanTerm (span_cost i) f g kind.Spans i (want_spans doc) stand.row part.given part.tidiness stand.spans_waste stand.span_rows (λ q. same _ refl refl) stand.spans;
+  words = store_agree document_number posting_bytes IsPostingRow IsWordTerm (word_cost i) f g kind.Postings i (word_posting doc) stand.row part.given part.tidiness stand.words_waste stand.word_rows (λ q. same _ refl refl) stand.words;
+  spans = store_agree document_number span_row_bytes IsSpanRow IsSpanTerm (span_cost i) f g kind.Spans i (section_posting doc) stand.row part.given part.tidiness stand.spans_waste stand.span_rows (λ q. same _ refl refl) stand.spans;
   waste = stand.waste;
 }
 

@@ -1,4 +1,5 @@
 -- What SYNC_INDEX and CREATE INDEX make of a CONTEXT index: just the rows that wait are settled; and an index without entries stands for no marks.
+use Rattle.ix_rows.specs.PlacedRows.{document_number}
 use Rattle.ct_entry.specs.laws.Maps.{get-each_value}
 use Rattle.std.specs.Prelude.{ℕ, ℤ, ◌≡◌, Bool, true, false, cond, ◌||◌, List, [], ◌∷◌, map, Option, Some, None, is_some, refl}
 use Rattle.std.specs.List.{list_any}
@@ -17,8 +18,8 @@ use Rattle.ix_context.specs.Indexes.{in_queue, no_part, waiting_rows, all_settle
 use Rattle.ix_docmap.specs.laws.Documents.{with_mark, settled_in}
 use Rattle.ix_context.specs.Documents.{Postings}
 use Rattle.ix_context.specs.Standing.{PartStands}
-use Rattle.ix_rows.specs.SpanRows.{span_number, span_cost, IsSpanTerm}
-use Rattle.ix_rows.specs.WordRows.{document_number, IsWordTerm, word_cost}
+use Rattle.ix_rows.specs.SpanRows.{span_cost, IsSpanTerm}
+use Rattle.ix_rows.specs.WordRows.{IsWordTerm, word_cost}
 
 -- ---- the rows that wait
 
@@ -72,7 +73,7 @@ part_empty f i doc none = record {
   spans = record {
     spelled = record { spelled = λ t d h k. none _ refl };
     are = λ t h. record { each = tt; rise = tt };
-    lists = record { exact = λ t d r h e. cc; known = λ t d x h e. cc; bounded = none_left span_number IsSpanTerm (span_cost i) (λ d. None) (λ t. []) (λ s stray. let e = stray.stored in cc) };
+    lists = record { exact = λ t d r h e. cc; known = λ t d x h e. cc; bounded = none_left document_number IsSpanTerm (span_cost i) (λ d. None) (λ t. []) (λ s stray. let e = stray.stored in cc) };
     tidy = λ t h. tt;
   };
   waste = omega arith;

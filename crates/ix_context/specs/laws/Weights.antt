@@ -9,17 +9,17 @@ use Rattle.std.proofs.lemmas.Bool.{eqb-true}
 use Rattle.std.proofs.lemmas.Cmp.{nat_list_cmp_total}
 use Rattle.std.proofs.lemmas.List.Sums.{sum_by-cons, sum_by-append}
 use Rattle.ct_keep.specs.Content.{Content, entry_weight, weight}
-use Rattle.ct_keep.specs.RisingKeys.{entries_rise}
+use Rattle.ct_keep.specs.laws.RisingKeys.{entries_rise}
 use Rattle.ct_entry.specs.declared.kinds.Kind.{Kind}
 use Rattle.ct_entry.specs.declared.kinds.Kind.TheVariants as kind
 use Rattle.ct_entry.specs.Kinds.{code}
 use Rattle.ct_entry.specs.Keys.{Key, key, bytes, at, HasKeysOnly, IsPart, IsDocument}
 use Rattle.ct_entry.specs.laws.Keys.{kind_from_code}
-use Rattle.ix_posting.specs.declared.rows.RowDocument.{RowDocument}
-use Rattle.ix_posting.specs.declared.span_rows.SpanDocument.{SpanDocument}
+use Rattle.ix_rows.specs.PlacedRows.{document_number}
+use Rattle.ix_rows.specs.laws.PlacedRows.{row_light}
+use Rattle.ix_posting.specs.Forms.{pair_form, number_form}
 use Rattle.ix_posting.specs.Lists.{posting_list}
-use Rattle.ix_posting.specs.SpanRows.{IsSpanRow, span_row_bytes}
-use Rattle.ix_posting.specs.Rows.{IsPostingRow, posting_bytes}
+use Rattle.ix_posting.specs.Rows.{IsPostingRow, posting_bytes, WordDocument, SpanDocument, IsSpanRow, span_row_bytes}
 use Rattle.ct_entry.specs.Lists.{IsIn}
 use Rattle.ct_entry.specs.laws.Lists.{in_left, in_right, in_filter, apart_filter, sum_by-within, sum_by-parts}
 use Rattle.ix_rows.specs.Spelling.{row_key}
@@ -27,15 +27,13 @@ use Rattle.ix_rows.specs.laws.Posts.{in_posting_list, in_posting}
 use Rattle.ix_rows.specs.laws.Weighs.{each_in}
 use Rattle.ix_context.specs.Indexes.{Part}
 use Rattle.ix_rows.specs.laws.Rooms.{kind_weighs}
-use Rattle.ix_context.specs.Documents.{Postings, word_posting, span_posting, want_words, want_spans, words_cost, spans_cost, document_cost}
+use Rattle.ix_context.specs.Documents.{Postings, document_with, word_posting, section_posting, words_cost, spans_cost, document_cost}
 use Rattle.ix_context.specs.Standing.{PartStands}
 use Rattle.ix_docmap.specs.Marks.{Marks}
 use Rattle.ix_context.specs.laws.Parts.{its, in_its, its_cost}
-use Rattle.ix_rows.specs.SpanRows.{IsSpanTerm, span_number, span_cost, pairs_cost}
-use Rattle.ix_rows.specs.laws.SpanRows.{span_row_light}
+use Rattle.ix_rows.specs.SpanRows.{IsSpanTerm, span_cost, pairs_cost}
 use Rattle.ct_entry.specs.laws.MapEntries.{rises_apart, in_find}
-use Rattle.ix_rows.specs.WordRows.{document_number, word_term, IsWordTerm, posting_cost, word_cost}
-use Rattle.ix_rows.specs.laws.WordRows.{row_light}
+use Rattle.ix_rows.specs.WordRows.{word_term, IsWordTerm, positions_cost, word_cost}
 
 abbrev pub StoredEntry : Type 0
 StoredEntry = List ℕ × List ℕ
@@ -60,7 +58,8 @@ module _ {X Y : Type 0} (made : ℕ → X → Y) where
   abbrev pub rows_its : (ℤ → ℕ) → (ℤ → List (List ℕ × X)) → List ℤ → List (List ℕ × Y)
   rows_its number postings rows = flat_map (λ r. map (λ e. (e.0, made (number r) e.1)) (postings r)) rows
 
-  in_rows : (number : ℤ → ℕ) (postings : ℤ → List (List ℕ × X)) (rows : List ℤ) (r : ℤ) (s : List ℕ × Y) → IsIn r rows → IsIn s (map (λ e. (e.0, made (number r) e.1)) (postings r)) → IsIn s (rows_its number postings rows)
+  in_rows : (number : ℤ → ℕ) (postings : ℤ → List (List ℕ × X)) (rows : List ℤ) (r : ℤ) (s : List ℕ × Y) → IsIn r rows
+      → IsIn s (map (λ e. (e.0, made (number r) e.1)) (postings r)) → IsIn s (rows_its number postings rows)
   in_rows number postings [] r s h k = absurd h
   in_rows number postings (q ∷ rows) r s h k = elim h [
     | inl e ↦ in_left s (map (λ e. (e.0, made (number q) e.1)) (postings q)) (rows_its number postings rows) (subst (λ (z : ℤ). IsIn s (map (λ e. (e.0, made (number z) e.1)) (postings z))) e k)
@@ -113,32 +112,32 @@ module _ (c : Content) (only : HasKeysOnly c) (doc : List ℕ → ℤ → Postin
 
   module _ (names : List (List ℕ)) (rows : List ℕ → List ℤ) (listed : (i : List ℕ) (r : ℤ) → is_some ((stand i).document r) ≡ true → IsIn r (rows i)) (named : (i : List ℕ) → 1 ≤ (part i).given → IsIn i names) where
     -- a row that is there has a document that was given, so the index is there
-    words_named : (i term : List ℕ) (row : List RowDocument) → IsWordTerm term → IsIn row ((stand i).word_rows term) → IsIn i names
+    words_named : (i term : List ℕ) (row : List WordDocument) → IsWordTerm term → IsIn row ((stand i).word_rows term) → IsIn i names
     words_named i term row is h = go row h (each_in document_number posting_bytes IsPostingRow IsWordTerm (word_cost i) IsPostingRow row ((stand i).word_rows term) ((stand i).words.are term is).each h).some
       where
-        go : (row : List RowDocument) → IsIn row ((stand i).word_rows term) → 1 ≤ length row → IsIn i names
+        go : (row : List WordDocument) → IsIn row ((stand i).word_rows term) → 1 ≤ length row → IsIn i names
         go [] h some = absurd (omega (arith, some))
         go (x ∷ xs) h some =
             let known = (stand i).words.lists.known term (document_number x) x is (in_posting document_number 0 x (posting_list ((stand i).word_rows term)) ((stand i).words.are term is).rise (in_posting_list x (x ∷ xs) ((stand i).word_rows term) h (inl refl))) in
             named i (omega (arith, known))
 
     spans_named : (i term : List ℕ) (row : List SpanDocument) → IsSpanTerm term → IsIn row ((stand i).span_rows term) → IsIn i names
-    spans_named i term row is h = go row h (each_in span_number span_row_bytes IsSpanRow IsSpanTerm (span_cost i) IsSpanRow row ((stand i).span_rows term) ((stand i).spans.are term is).each h).some
+    spans_named i term row is h = go row h (each_in document_number span_row_bytes IsSpanRow IsSpanTerm (span_cost i) IsSpanRow row ((stand i).span_rows term) ((stand i).spans.are term is).each h).some
       where
         go : (row : List SpanDocument) → IsIn row ((stand i).span_rows term) → 1 ≤ length row → IsIn i names
         go [] h some = absurd (omega (arith, some))
         go (x ∷ xs) h some =
-            let known = (stand i).spans.lists.known term (span_number x) x is (in_posting span_number 0 x (posting_list ((stand i).span_rows term)) ((stand i).spans.are term is).rise (in_posting_list x (x ∷ xs) ((stand i).span_rows term) h (inl refl))) in
+            let known = (stand i).spans.lists.known term (document_number x) x is (in_posting document_number 0 x (posting_list ((stand i).span_rows term)) ((stand i).spans.are term is).rise (in_posting_list x (x ∷ xs) ((stand i).span_rows term) h (inl refl))) in
             named i (omega (arith, known))
 
     row_listed : (i : List ℕ) (r : ℤ) (d : ℕ) → (stand i).row d ≡ Some r → IsIn r (rows i) × (d ≡ number_of_row i r)
     row_listed i r d is = let b = (stand i).documents.numbers.back r d is in (listed i r (ap is_some b), sym (ap number_or b))
 
-    abbrev word_its : List ℕ → List (List ℕ × RowDocument)
-    word_its i = rows_its word_posting (number_of_row i) (λ r. entries (doc i r).words) (rows i)
+    abbrev word_its : List ℕ → List (List ℕ × WordDocument)
+    word_its i = rows_its document_with (number_of_row i) (λ r. entries (doc i r).words) (rows i)
 
     abbrev span_its : List ℕ → List (List ℕ × SpanDocument)
-    span_its i = rows_its span_posting (number_of_row i) (λ r. entries (doc i r).spans) (rows i)
+    span_its i = rows_its document_with (number_of_row i) (λ r. entries (doc i r).spans) (rows i)
 
     -- what an index may take for its postings
     abbrev pub postings_room : List ℕ → ℕ
@@ -152,13 +151,14 @@ module _ (c : Content) (only : HasKeysOnly c) (doc : List ℕ → ℤ → Postin
 
     one_room : (i : List ℕ) → (sum_by (word_cost i) (word_its i) + (stand i).words_waste) + (sum_by (span_cost i) (span_its i) + (stand i).spans_waste) ≤ postings_room i
     one_room i =
-        let w = rows_cost word_posting (number_of_row i) (λ r. entries (doc i r).words) (word_cost i) (posting_cost i) (λ d e. refl) (rows i) in
-        let s = rows_cost span_posting (number_of_row i) (λ r. entries (doc i r).spans) (span_cost i) (pairs_cost i) (λ d e. refl) (rows i) in
+        let w = rows_cost document_with (number_of_row i) (λ r. entries (doc i r).words) (word_cost i) (positions_cost i) (λ d e. refl) (rows i) in
+        let s = rows_cost document_with (number_of_row i) (λ r. entries (doc i r).spans) (span_cost i) (pairs_cost i) (λ d e. refl) (rows i) in
         let two = costs_two i (rows i) in
         let waste = (stand i).waste in
         omega (arith, w, s, two, waste)
 
-    all_rooms : (ns : List (List ℕ)) → sum_by (λ i. sum_by (word_cost i) (word_its i) + (stand i).words_waste) ns + sum_by (λ i. sum_by (span_cost i) (span_its i) + (stand i).spans_waste) ns ≤ sum_by postings_room ns
+    all_rooms : (ns : List (List ℕ))
+        → sum_by (λ i. sum_by (word_cost i) (word_its i) + (stand i).words_waste) ns + sum_by (λ i. sum_by (span_cost i) (span_its i) + (stand i).spans_waste) ns ≤ sum_by postings_room ns
     all_rooms [] = omega arith
     all_rooms (i ∷ ns) =
         omega (
@@ -171,7 +171,9 @@ module _ (c : Content) (only : HasKeysOnly c) (doc : List ℕ → ℤ → Postin
         )
 
     -- WEIGHT AND ROOM: `rest` has all entries of other kinds
-    pub weighs : (rest : List StoredEntry) → ((e : StoredEntry) → IsIn e (entries c) → has_code (code kind.Postings) e ≡ false → has_code (code kind.Spans) e ≡ false → IsIn e rest) → weight c ≤ sum_by entry_weight rest + sum_by postings_room names
+    pub weighs : (rest : List StoredEntry)
+        → ((e : StoredEntry) → IsIn e (entries c) → has_code (code kind.Postings) e ≡ false → has_code (code kind.Spans) e ≡ false → IsIn e rest)
+        → weight c ≤ sum_by entry_weight rest + sum_by postings_room names
     weighs rest others =
         let es = entries c in
         let apart = rises_apart (slice_cmp nat_cmp) nat_list_cmp_total es (entries_rise (slice_cmp nat_cmp) c) in
@@ -181,13 +183,13 @@ module _ (c : Content) (only : HasKeysOnly c) (doc : List ℕ → ℤ → Postin
         let ss = filter (has_code (code kind.Spans)) left in
         let os = filter (λ e. not (has_code (code kind.Spans) e)) left in
         let in_left_es : (e : StoredEntry) → IsIn e left → IsIn e es × (not (has_code (code kind.Postings) e) ≡ true) = λ e h. in_filter (λ e. not (has_code (code kind.Postings) e)) e es h in
-        let of_words = kind_weighs document_number posting_bytes IsPostingRow IsWordTerm word_cost kind.Postings (λ i e r. row_light i e r) (at c) (λ i. want_words (doc i)) (λ i. (stand i).row) (λ i. (part i).given) (λ i. (part i).tidiness) (λ i. (stand i).words_waste) (λ i. (stand i).word_rows) (λ i. (stand i).words)
+        let of_words = kind_weighs document_number posting_bytes IsPostingRow IsWordTerm word_cost kind.Postings (λ i e r. row_light number_form kind.Postings i e r) (at c) (λ i. word_posting (doc i)) (λ i. (stand i).row) (λ i. (part i).given) (λ i. (part i).tidiness) (λ i. (stand i).words_waste) (λ i. (stand i).word_rows) (λ i. (stand i).words)
         ws names word_its (apart_filter (has_code (code kind.Postings)) es apart) (λ e h. let p = in_filter (has_code (code kind.Postings)) e es h in word_entry e p.0 p.1) words_named
-        (λ i term d r x is has wants. let l = row_listed i r d has in in_rows word_posting (number_of_row i) (λ r. entries (doc i r).words) (rows i) r (term, x) l.0 (subst (λ (n : ℕ). IsIn {A = List ℕ × RowDocument} (term, x) (its word_posting n (doc i r).words)) l.1 (in_its word_posting d (doc i r).words term x wants)))
+        (λ i term d r x is has wants. let l = row_listed i r d has in in_rows document_with (number_of_row i) (λ r. entries (doc i r).words) (rows i) r (term, x) l.0 (subst (λ (n : ℕ). IsIn {A = List ℕ × WordDocument} (term, x) (its document_with n (doc i r).words)) l.1 (in_its document_with d (doc i r).words term x wants)))
         in
-        let of_spans = kind_weighs span_number span_row_bytes IsSpanRow IsSpanTerm span_cost kind.Spans (λ i e r. span_row_light i e r) (at c) (λ i. want_spans (doc i)) (λ i. (stand i).row) (λ i. (part i).given) (λ i. (part i).tidiness) (λ i. (stand i).spans_waste) (λ i. (stand i).span_rows) (λ i. (stand i).spans)
+        let of_spans = kind_weighs document_number span_row_bytes IsSpanRow IsSpanTerm span_cost kind.Spans (λ i e r. row_light pair_form kind.Spans i e r) (at c) (λ i. section_posting (doc i)) (λ i. (stand i).row) (λ i. (part i).given) (λ i. (part i).tidiness) (λ i. (stand i).spans_waste) (λ i. (stand i).span_rows) (λ i. (stand i).spans)
         ss names span_its (apart_filter (has_code (code kind.Spans)) left left_apart) (λ e h. let p = in_filter (has_code (code kind.Spans)) e left h in span_entry e (in_left_es e p.0).0 p.1) spans_named
-        (λ i term d r x is has wants. let l = row_listed i r d has in in_rows span_posting (number_of_row i) (λ r. entries (doc i r).spans) (rows i) r (term, x) l.0 (subst (λ (n : ℕ). IsIn {A = List ℕ × SpanDocument} (term, x) (its span_posting n (doc i r).spans)) l.1 (in_its span_posting d (doc i r).spans term x wants)))
+        (λ i term d r x is has wants. let l = row_listed i r d has in in_rows document_with (number_of_row i) (λ r. entries (doc i r).spans) (rows i) r (term, x) l.0 (subst (λ (n : ℕ). IsIn {A = List ℕ × SpanDocument} (term, x) (its document_with n (doc i r).spans)) l.1 (in_its document_with d (doc i r).spans term x wants)))
         in
         let of_rest = sum_by-within entry_weight os rest (apart_filter (λ e. not (has_code (code kind.Spans) e)) left left_apart)
         (λ e h. let p = in_filter (λ e. not (has_code (code kind.Spans) e)) e left h in let q = in_left_es e p.0 in others e q.0 (not_true _ q.1) (not_true _ p.1))

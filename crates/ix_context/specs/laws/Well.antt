@@ -1,5 +1,5 @@
 -- The changes of notes, synchronisations and new indexes are on keys of their kinds.
-use Rattle.std.proofs.Common.{◌≡◌, ℕ, ℤ, ◌+◌, ◌*◌, ◌^◌, ◌<◌, ◌≤◌, true, List, [], ◌∷◌, ◌++◌, length, Option, Some, refl, subst, arith, length-append}
+use Rattle.std.proofs.Common.{◌≡◌, ℕ, ℤ, ◌+◌, ◌*◌, ◌^◌, ◌<◌, ◌≤◌, true, List, [], ◌∷◌, ◌++◌, length, Option, refl, subst, arith, length-append}
 use Rattle.std.specs.Prelude.{not}
 use Rattle.std.specs.Int.{to_be_bytes, w32}
 use Rattle.std.specs.FinMap.{get}
@@ -20,18 +20,18 @@ use Rattle.tx_settings.specs.PrefsBytes.{IsPrefs, prefs_bytes}
 use Rattle.tx_settings.specs.laws.Lengths.{prefs_are_short}
 use Rattle.ix_kinds.specs.Indextypes.{IndexOf}
 use Rattle.ix_docmap.specs.Marks.{is_settled}
-use Rattle.ix_docmap.specs.Changes.{mark_changes, map_settle_changes}
+use Rattle.ix_docmap.specs.Changes.{mark_changes, map_settle_changes, queue_changes}
 use Rattle.ix_context.specs.declared.ranges.KeyRange.{KeyRange}
-use Rattle.ix_context.specs.Indexes.{ContextIndex, most_given, waiting_rows, texts_in, rows_within}
+use Rattle.ix_context.specs.Indexes.{ContextIndex, mark_limit, waiting_rows, texts_in, rows_within}
 use Rattle.ix_context.specs.Postings.{IsShortOrNone}
 use Rattle.ix_context.specs.Documents.{postings_by}
 use Rattle.ix_context.specs.Gathering.{nothing_gathered, with_texts}
 use Rattle.ix_context.specs.Spelling.{index_bytes, after_table}
-use Rattle.ix_context.specs.Changes.{note_insert_changes, mark_rows_with, settle_rows_with, postings_changes}
+use Rattle.ix_context.specs.Changes.{mark_each_changes, settle_each_changes, postings_changes}
 use Rattle.ix_context.specs.Contexts.{IsContext, context_entry, context_synced, context_sync_changes, new_context, context_create_changes}
 pub use Rattle.ix_context.specs.laws.IndexChanges.{IsIndexChange, AreIndexChanges, are_changes, all_of_context, index_changes-append}
 use Rattle.ix_context.specs.laws.Gathered.{gathered_postings}
-use Rattle.ix_context.specs.laws.Grown.{none_gathered, grown_texts, index_changes_gathered}
+use Rattle.ix_context.specs.laws.GatheredRows.{none_gathered, grown_texts, index_changes_gathered}
 use Rattle.ix_context.specs.laws.Settling.{EachRow}
 use Rattle.ix_context.specs.laws.Texts.{texts_short}
 use Rattle.ix_context.specs.laws.ContextSyncs.{rows_wait}
@@ -59,7 +59,7 @@ length-entry_le t c p n name are =
 
 -- ---- notes, synchronisations, new indexes
 
-pub index_changes_note : (i : List ℕ) (r : ℤ) → IsName i → IsRow r → AreIndexChanges (note_insert_changes i r)
+pub index_changes_note : (i : List ℕ) (r : ℤ) → IsName i → IsRow r → AreIndexChanges (queue_changes i r)
 index_changes_note i r name row = (record { key = record { owner = name; part = (r, row, refl) }; of = refl; bounded = omega arith }, tt)
 
 index_put : (i : List ℕ) (t : List ℕ) (c : ℕ) (p : Prefs) (n : ℕ) → IsName i → IsName t → IsPrefs p → IsIndexChange (put_value (key kind.Indexes i []) (index_bytes t c p n))
@@ -86,27 +86,27 @@ postings_are p i text given rows are name short room =
     subst AreIndexChanges (gathered_postings p text i given rows room) (index_changes_gathered i name (with_texts p text nothing_gathered (numbered (given + 1) rows)) (grown_texts p are text short (given + 1) rows (omega (arith, room)) nothing_gathered none_gathered))
 
 pub index_changes_sync : (t : Table) (i : List ℕ) (x : IndexOf ContextIndex) → IsTable t → IsName i → IsName x.table → IsPrefs x.prefs → IsContext t x
-    → x.body.part.given + length (waiting_rows x.body.marks) ≤ most_given → AreIndexChanges (context_sync_changes i x (texts_in t x.column) (waiting_rows x.body.marks))
+    → x.body.part.given + length (waiting_rows x.body.marks) ≤ mark_limit → AreIndexChanges (context_sync_changes i x (texts_in t x.column) (waiting_rows x.body.marks))
 index_changes_sync t i x is_t name table prefs rules room =
     go (waiting_rows x.body.marks) (each_row (λ s. not (is_settled (get x.body.marks s)) ≡ true) (waiting_rows x.body.marks) (rows_wait t x is_t rules)) room
   where
-    go : (rows : List ℤ) → EachRow IsRow rows → x.body.part.given + length rows ≤ most_given → AreIndexChanges (context_sync_changes i x (texts_in t x.column) rows)
+    go : (rows : List ℤ) → EachRow IsRow rows → x.body.part.given + length rows ≤ mark_limit → AreIndexChanges (context_sync_changes i x (texts_in t x.column) rows)
     go [] rows_are room = tt
     go (r ∷ rs) rows_are room =
         let y : IndexOf ContextIndex = record x { body = context_synced x.body } in
         let entry = put_value (key kind.Indexes i []) (context_entry y) ∷ [] in
         let postings = postings_changes i (postings_by x.prefs (texts_in t x.column)) (x.body.part.given + 1) (r ∷ rs) in
-        index_changes-append (settle_rows_with i (x.body.part.given + 1) (r ∷ rs) ++ postings) entry
-        (index_changes-append (settle_rows_with i (x.body.part.given + 1) (r ∷ rs)) postings
+        index_changes-append (settle_each_changes i (x.body.part.given + 1) (r ∷ rs) ++ postings) entry
+        (index_changes-append (settle_each_changes i (x.body.part.given + 1) (r ∷ rs)) postings
         (index_changes-each (map_settle_changes i) (λ d s doc row. settled_row i d s name doc row) (r ∷ rs) (x.body.part.given + 1) (omega arith) rows_are)
         (postings_are x.prefs i (texts_in t x.column) x.body.part.given (r ∷ rs) prefs name (texts_short t is_t x.column) (omega arith)))
         (index_put i x.table x.column x.prefs (y.body.part.given + 1) name table prefs, tt)
 
 pub index_changes_create : (t : Table) (i : List ℕ) (target : Target) (prefs : Prefs) (range : KeyRange) → IsTable t → IsName i → IsName target.table → IsPrefs prefs
-    → length (rows_within t range) ≤ most_given → AreIndexChanges (context_create_changes t i target prefs range)
+    → length (rows_within t range) ≤ mark_limit → AreIndexChanges (context_create_changes t i target prefs range)
 index_changes_create t i target prefs range is_t name table prefs_are room = (
   index_put i target.table target.column prefs ((new_context t range).part.given + 1) name table prefs_are,
-  index_changes-append (mark_rows_with i 1 (rows_within t range)) (postings_changes i (postings_by prefs (texts_in t target.column)) 1 (rows_within t range))
+  index_changes-append (mark_each_changes i 1 (rows_within t range)) (postings_changes i (postings_by prefs (texts_in t target.column)) 1 (rows_within t range))
       (index_changes-each (λ (n : ℕ × ℤ). mark_changes i n.0 n.1) (λ d r doc row. marked_row i d r name doc row) (rows_within t range) 1 (omega arith)
       (each_row (λ s. not (is_settled (no_marks s)) ≡ true) (rows_within t range) (rows_free t is_t range)))
       (postings_are prefs i (texts_in t target.column) 0 (rows_within t range) prefs_are name (texts_short t is_t target.column) (omega arith)),

@@ -24,8 +24,8 @@ use Rattle.ix_docmap.specs.Changes.{unmark_changes, map_settle_changes, map_chan
 abbrev pub with_mark : ℤ → Option (Mark (Unit {0})) → Marks → ℤ → Option (Mark (Unit {0}))
 with_mark r m mark s = cond (int_eq s r) m (mark s)
 
-abbrev pub with_document : ℤ → Option ℕ → (ℤ → Option ℕ) → ℤ → Option ℕ
-with_document r o document s = cond (int_eq s r) o (document s)
+abbrev pub with_document_of : ℤ → Option ℕ → (ℤ → Option ℕ) → ℤ → Option ℕ
+with_document_of r o document s = cond (int_eq s r) o (document s)
 
 one_some : {X : Type 0} (x y : X) → Some x ≡ Some y → x ≡ y
 one_some x y e = cc
@@ -71,7 +71,7 @@ map_queued f i mark given document row r m is_row free unmarked stand = record {
 
 pub map_unmapped : (f : Key → Option (List ℕ)) (i : List ℕ) (mark : Marks) (given : ℕ) (document : ℤ → Option ℕ) (row : ℕ → Option ℤ) (r : ℤ) (d : ℕ)
     → IsRow r → IsDocument d → document r ≡ Some d → is_settled (mark r) ≡ true → MapStands f i mark given document row
-    → MapStands (view (unmark_changes i d r) f) i (with_mark r None mark) given (with_document r None document) (λ e. cond (e == d) None (row e))
+    → MapStands (view (unmark_changes i d r) f) i (with_mark r None mark) given (with_document_of r None document) (λ e. cond (e == d) None (row e))
 map_unmapped f i mark given document row r d is_row is_document is settled stand = record {
   numbers = record {
     marked = λ s. marked s (int_eq s r) (stand.numbers.marked s);
@@ -139,7 +139,7 @@ not_given is_marked given document row are d more = go (row d) refl
 
 pub map_settled : (f : Key → Option (List ℕ)) (i : List ℕ) (mark : Marks) (given : ℕ) (document : ℤ → Option ℕ) (row : ℕ → Option ℤ) (r : ℤ)
     → IsRow r → given + 1 < 2 ^ 32 → is_settled (mark r) ≡ false → MapStands f i mark given document row
-    → MapStands (view (map_settle_changes i (given + 1, r)) f) i (with_mark r (Some (Settled tt)) mark) (given + 1) (with_document r (Some (given + 1)) document) (λ e. cond (e == given + 1) (Some r) (row e))
+    → MapStands (view (map_settle_changes i (given + 1, r)) f) i (with_mark r (Some (Settled tt)) mark) (given + 1) (with_document_of r (Some (given + 1)) document) (λ e. cond (e == given + 1) (Some r) (row e))
 map_settled f i mark given document row r is_row room free stand = record {
   numbers = record {
     marked = λ s. marked s (int_eq s r) (stand.numbers.marked s);
@@ -228,7 +228,8 @@ still_free mark r (s ∷ rs) apart free = (free.0, at (int_eq s r) refl, still_f
     at false e = free.1
 
 -- numbers one after the other, or at once
-rows_once : (rs : List ℤ) (row : ℕ → Option ℤ) (given k : ℕ) (r : ℤ) (d : ℕ) → k ≤ given → with_rows given rs (λ e. cond (e == k) (Some r) (row e)) d ≡ cond (d == k) (Some r) (with_rows given rs row d)
+rows_once : (rs : List ℤ) (row : ℕ → Option ℤ) (given k : ℕ) (r : ℤ) (d : ℕ) → k ≤ given
+    → with_rows given rs (λ e. cond (e == k) (Some r) (row e)) d ≡ cond (d == k) (Some r) (with_rows given rs row d)
 rows_once [] row given k r d low = refl
 rows_once (s ∷ rs) row given k r d low =
     ap (cond (d == given + 1) (Some s)) (rows_once rs row (given + 1) k r d (omega (arith, low))) ∙ turn (d == given + 1) (d == k) refl refl
@@ -244,12 +245,13 @@ pub record MapsAfter (f : Key → Option (List ℕ)) (i : List ℕ) (mark : Mark
   pub document : ℤ → Option ℕ
   pub stand : MapStands f i mark given document row
 
-pub map_synced : (i : List ℕ) (rows : List ℤ) (f : Key → Option (List ℕ)) (mark : Marks) (given : ℕ) (row : ℕ → Option ℤ) → AreApart rows → AllFree mark rows → given + length rows < 2 ^ 32 → MapsAfter f i mark given row
+pub map_synced : (i : List ℕ) (rows : List ℤ) (f : Key → Option (List ℕ)) (mark : Marks) (given : ℕ) (row : ℕ → Option ℤ) → AreApart rows
+    → AllFree mark rows → given + length rows < 2 ^ 32 → MapsAfter f i mark given row
     → MapsAfter (view (map_changes i given rows) f) i (settled_in rows mark) (given + length rows) (with_rows given rows row)
 map_synced i [] f mark given row apart free room was = let none : given ≡ given + 0 = omega arith in subst (λ (n : ℕ). MapsAfter f i mark n row) none was
 map_synced i (r ∷ rs) f mark given row apart free room was =
     let one = map_settled f i mark given was.document row r free.0 (omega (arith, room)) free.1 was.stand in
-    let rest = map_synced i rs (view (map_settle_changes i (given + 1, r)) f) (with_mark r (Some (Settled tt)) mark) (given + 1) (λ e. cond (e == given + 1) (Some r) (row e)) apart.1 (still_free mark r rs apart.0 free.2) (omega (arith, room)) (record { document = with_document r (Some (given + 1)) was.document; stand = one }) in
+    let rest = map_synced i rs (view (map_settle_changes i (given + 1, r)) f) (with_mark r (Some (Settled tt)) mark) (given + 1) (λ e. cond (e == given + 1) (Some r) (row e)) apart.1 (still_free mark r rs apart.0 free.2) (omega (arith, room)) (record { document = with_document_of r (Some (given + 1)) was.document; stand = one }) in
     let count : given + 1 + length rs ≡ given + length (r ∷ rs) = omega arith in
     let words : view (map_changes i (given + 1) rs) (view (map_settle_changes i (given + 1, r)) f) ≡ view (map_changes i given (r ∷ rs)) f = sym (view-append (map_settle_changes i (given + 1, r)) (map_changes i (given + 1) rs) f) in
     let once : with_rows (given + 1) rs (λ e. cond (e == given + 1) (Some r) (row e)) ≡ with_rows given (r ∷ rs) row = λ j d. rows_once rs row (given + 1) (given + 1) r d (omega arith) j in

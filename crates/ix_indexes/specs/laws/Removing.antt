@@ -15,8 +15,7 @@ use Rattle.ct_entry.specs.laws.Each.{told_each, all_each}
 use Rattle.ct_entry.specs.laws.Removals.{told-drop_rests, rests_are, owned_is, are_removals}
 use Rattle.ix_kinds.specs.Standing.{is_of_indexes}
 use Rattle.ix_kinds.specs.Drops.{LosesIndexes}
-use Rattle.ix_indexes.specs.Removing.{index_kinds, kind_removals, index_removals, remove_all_changes}
-use Rattle.ix_indexes.specs.Promises.{RemovedIndexesLoseEntries, AllRemovedIndexesLoseEntries}
+use Rattle.ix_indexes.specs.Removing.{index_kinds, kind_removals, index_removals, remove_all_changes, RemovedIndexesLoseEntries, AllRemovedIndexesLoseEntries}
 
 -- ---- what a key has after the removals
 
@@ -67,7 +66,8 @@ told-remove i m k old =
     ∙ ap (λ (b : Bool). cond b None old) (kinds_tie k.kind (same_list k.owner i) (is_some (at m k)))
 
 -- of several indexes
-pub told-remove_all : (m : Content) (names : List (List ℕ)) (k : Key) (old : Option (List ℕ)) → is_of_indexes k.kind ≡ true → told (remove_all_changes m names) k old ≡ cond (is_any_of k.owner names && is_some (at m k)) None old
+pub told-remove_all : (m : Content) (names : List (List ℕ)) (k : Key) (old : Option (List ℕ)) → is_of_indexes k.kind ≡ true
+    → told (remove_all_changes m names) k old ≡ cond (is_any_of k.owner names && is_some (at m k)) None old
 told-remove_all m names k old of =
     told_each (λ i. index_removals i m) k (λ i. same_list k.owner i && is_some (at m k)) None (λ i o. told-remove i m k o ∙ ap (λ (b : Bool). cond ((b && same_list k.owner i) && is_some (at m k)) None o) of) names old
     ∙ ap (λ (b : Bool). cond b None old) (among (is_some (at m k)) names)

@@ -16,10 +16,10 @@ use Rattle.db_names.specs.Heads.{index_code}
 use Rattle.db_names.specs.declared.heads.IndexKind.{IndexKind}
 use Rattle.db_names.specs.declared.heads.IndexKind.TheVariants.{Context, Catalogue, Rules}
 use Rattle.ix_kinds.specs.Rows.{RowChange, ChangesBy, LookAlike}
-use Rattle.ix_kinds.specs.Indextypes.{IndexOf, Indextype}
+use Rattle.ix_kinds.specs.Indextypes.{IndexOf, Indextype, with_body, new_index_on, synced_index}
 use Rattle.ix_kinds.specs.Standing.{is_of_part, index_entry, HasNoEntries}
-use Rattle.ix_kinds.specs.IndextypeLaws.{is_its, by_row, by_sync, made, SameKind, AreOwnChanges, StandsAlone, RowsChange, Synchronises, Creates, TellsOne, IndextypeLaws}
-use Rattle.ix_kinds.specs.Sums.{index_with, own_in, Is, Stands, looks_in, kind_in, rest_in, cost_in, after_row_in, read_in, row_changes_of, can_sync_in, after_sync_in, sync_changes_in, either}
+use Rattle.ix_kinds.specs.IndextypeLaws.{is_its, by_row, SameKind, AreOwnChanges, StandsAlone, RowsChange, Synchronises, Creates, TellsOne, IndextypeLaws}
+use Rattle.ix_kinds.specs.Sums.{own_in, IsIn, StandsIn, looks_in, kind_in, rest_in, cost_in, after_row_in, read_in, row_changes_of, can_sync_in, after_sync_in, sync_changes_in, either}
 
 -- the codes of kinds tell them apart
 one_kind : (a b : IndexKind) → index_code a ≡ index_code b → a ≡ b
@@ -48,30 +48,31 @@ module _ {B C A E D R S : Type 0} (K : Indextype B A D R) (L : Indextype C E D S
       part (inl b) j h = k.alone.part b j h
       part (inr c) j h = l.alone.part c j h
 
-      agree : (f g : Key → Option (List ℕ)) (i : List ℕ) (x : IndexOf (B ⊎ C)) (b : B ⊎ C) (t : Table) → ((j : Key) → j.owner ≡ i → own_in K L b j.kind ≡ true → g j ≡ f j) → Stands K L f i x b t → Stands K L g i x b t
-      agree f g i x (inl b) t same stand = k.alone.agree f g i (index_with x b) t same stand
-      agree f g i x (inr c) t same stand = l.alone.agree f g i (index_with x c) t same stand
+      agree : (f g : Key → Option (List ℕ)) (i : List ℕ) (x : IndexOf (B ⊎ C)) (b : B ⊎ C) (t : Table)
+          → ((j : Key) → j.owner ≡ i → own_in K L b j.kind ≡ true → g j ≡ f j) → StandsIn K L f i x b t → StandsIn K L g i x b t
+      agree f g i x (inl b) t same stand = k.alone.agree f g i (with_body x b) t same stand
+      agree f g i x (inr c) t same stand = l.alone.agree f g i (with_body x c) t same stand
 
-      alike : (f : Key → Option (List ℕ)) (i : List ℕ) (x : IndexOf (B ⊎ C)) (b : B ⊎ C) (t u : Table) → LookAlike (looks_in K L x b) t u → Is K L t x b → Stands K L f i x b t → Stands K L f i x b u
-      alike f i x (inl b) t u same is stand = k.alone.alike f i (index_with x b) t u same is stand
-      alike f i x (inr c) t u same is stand = l.alone.alike f i (index_with x c) t u same is stand
+      alike : (f : Key → Option (List ℕ)) (i : List ℕ) (x : IndexOf (B ⊎ C)) (b : B ⊎ C) (t u : Table) → LookAlike (looks_in K L x b) t u → IsIn K L t x b → StandsIn K L f i x b t → StandsIn K L f i x b u
+      alike f i x (inl b) t u same is stand = k.alone.alike f i (with_body x b) t u same is stand
+      alike f i x (inr c) t u same is stand = l.alone.alike f i (with_body x c) t u same is stand
 
-      is_alike : (x : IndexOf (B ⊎ C)) (b : B ⊎ C) (t u : Table) → LookAlike (looks_in K L x b) t u → Is K L t x b → Is K L u x b
-      is_alike x (inl b) t u same is = k.alone.is_alike (index_with x b) t u same is
-      is_alike x (inr c) t u same is = l.alone.is_alike (index_with x c) t u same is
+      is_alike : (x : IndexOf (B ⊎ C)) (b : B ⊎ C) (t u : Table) → LookAlike (looks_in K L x b) t u → IsIn K L t x b → IsIn K L u x b
+      is_alike x (inl b) t u same is = k.alone.is_alike (with_body x b) t u same is
+      is_alike x (inr c) t u same is = l.alone.is_alike (with_body x c) t u same is
 
   -- ---- a row changes
 
-  same_first : (x y : IndexOf B) → SameKind K x y → SameKind (either K L) (index_with x (inl x.body)) (index_with y (inl y.body))
+  same_first : (x y : IndexOf B) → SameKind K x y → SameKind (either K L) (with_body x (inl x.body)) (with_body y (inl y.body))
   same_first x y same = record { kind = same.kind; own = same.own; looks = same.looks }
 
-  same_second : (x y : IndexOf C) → SameKind L x y → SameKind (either K L) (index_with x (inr x.body)) (index_with y (inr y.body))
+  same_second : (x y : IndexOf C) → SameKind L x y → SameKind (either K L) (with_body x (inr x.body)) (with_body y (inr y.body))
   same_second x y same = record { kind = same.kind; own = same.own; looks = same.looks }
 
-  own_first : (i : List ℕ) (x y : IndexOf B) (ws : List (Key × Option (List ℕ))) → AreOwnChanges K i x y ws → AreOwnChanges (either K L) i (index_with x (inl x.body)) (index_with y (inl y.body)) ws
+  own_first : (i : List ℕ) (x y : IndexOf B) (ws : List (Key × Option (List ℕ))) → AreOwnChanges K i x y ws → AreOwnChanges (either K L) i (with_body x (inl x.body)) (with_body y (inl y.body)) ws
   own_first i x y ws own = record { on = own.on; of = own.of; entry = own.entry }
 
-  own_second : (i : List ℕ) (x y : IndexOf C) (ws : List (Key × Option (List ℕ))) → AreOwnChanges L i x y ws → AreOwnChanges (either K L) i (index_with x (inr x.body)) (index_with y (inr y.body)) ws
+  own_second : (i : List ℕ) (x y : IndexOf C) (ws : List (Key × Option (List ℕ))) → AreOwnChanges L i x y ws → AreOwnChanges (either K L) i (with_body x (inr x.body)) (with_body y (inr y.body)) ws
   own_second i x y ws own = record { on = own.on; of = own.of; entry = own.entry }
 
   either_rows : RowsChange (either K L)
@@ -85,38 +86,39 @@ module _ {B C A E D R S : Type 0} (K : Indextype B A D R) (L : Indextype C E D S
     apart = λ f i x columns c r. apart f i x x.body columns c r;
   }
     where
-      same : (c : RowChange) (n : ℕ) (x : IndexOf (B ⊎ C)) (b : B ⊎ C) → SameKind (either K L) (index_with x b) (index_with x (after_row_in K L c n b))
-      same c n x (inl b) = same_first (index_with x b) (by_row K c n (index_with x b)) (k.rows.same c n (index_with x b))
-      same c n x (inr b) = same_second (index_with x b) (by_row L c n (index_with x b)) (l.rows.same c n (index_with x b))
+      same : (c : RowChange) (n : ℕ) (x : IndexOf (B ⊎ C)) (b : B ⊎ C) → SameKind (either K L) (with_body x b) (with_body x (after_row_in K L c n b))
+      same c n x (inl b) = same_first (with_body x b) (by_row K c n (with_body x b)) (k.rows.same c n (with_body x b))
+      same c n x (inr b) = same_second (with_body x b) (by_row L c n (with_body x b)) (l.rows.same c n (with_body x b))
 
       own : (f : Key → Option (List ℕ)) (i : List ℕ) (x : IndexOf (B ⊎ C)) (b : B ⊎ C) (columns : List Column) (c : RowChange) (n : ℕ)
-          → AreOwnChanges (either K L) i (index_with x b) (index_with x (after_row_in K L c n b)) (row_changes_of K L i x b columns c (read_in K L f i x b c.row))
-      own f i x (inl b) columns c n = own_first i (index_with x b) (by_row K c n (index_with x b)) (K.row_changes i (index_with x b) columns c (K.read f i (index_with x b) c.row)) (k.rows.own f i (index_with x b) columns c n)
-      own f i x (inr b) columns c n = own_second i (index_with x b) (by_row L c n (index_with x b)) (L.row_changes i (index_with x b) columns c (L.read f i (index_with x b) c.row)) (l.rows.own f i (index_with x b) columns c n)
+          → AreOwnChanges (either K L) i (with_body x b) (with_body x (after_row_in K L c n b)) (row_changes_of K L i x b columns c (read_in K L f i x b c.row))
+      own f i x (inl b) columns c n = own_first i (with_body x b) (by_row K c n (with_body x b)) (K.row_changes i (with_body x b) columns c (K.read f i (with_body x b) c.row)) (k.rows.own f i (with_body x b) columns c n)
+      own f i x (inr b) columns c n = own_second i (with_body x b) (by_row L c n (with_body x b)) (L.row_changes i (with_body x b) columns c (L.read f i (with_body x b) c.row)) (l.rows.own f i (with_body x b) columns c n)
 
-      is : (t u : Table) (x : IndexOf (B ⊎ C)) (b : B ⊎ C) (c : RowChange) (n : ℕ) → IsTable t → IsTable u → ChangesBy c t u → Is K L t x b → Is K L u x (after_row_in K L c n b)
-      is t u x (inl b) c n is_t is_u by it = k.rows.is t u (index_with x b) c n is_t is_u by it
-      is t u x (inr b) c n is_t is_u by it = l.rows.is t u (index_with x b) c n is_t is_u by it
+      is : (t u : Table) (x : IndexOf (B ⊎ C)) (b : B ⊎ C) (c : RowChange) (n : ℕ) → IsTable t → IsTable u → ChangesBy c t u → IsIn K L t x b → IsIn K L u x (after_row_in K L c n b)
+      is t u x (inl b) c n is_t is_u by it = k.rows.is t u (with_body x b) c n is_t is_u by it
+      is t u x (inr b) c n is_t is_u by it = l.rows.is t u (with_body x b) c n is_t is_u by it
 
       stands : (f : Key → Option (List ℕ)) (i : List ℕ) (x : IndexOf (B ⊎ C)) (b : B ⊎ C) (t u : Table) (c : RowChange) (n : ℕ) → IsTable t → IsTable u → ChangesBy c t u
-          → ((vs : List Value) → c.old ≡ Some vs → n ≡ cost_in K L i x b vs) → Is K L t x b → Stands K L f i x b t
-          → Stands K L (view (row_changes_of K L i x b t.columns c (read_in K L f i x b c.row)) f) i x (after_row_in K L c n b) u
-      stands f i x (inl b) t u c n is_t is_u by cost it stand = k.rows.stands f i (index_with x b) t u c n is_t is_u by cost it stand
-      stands f i x (inr b) t u c n is_t is_u by cost it stand = l.rows.stands f i (index_with x b) t u c n is_t is_u by cost it stand
+          → ((vs : List Value) → c.old ≡ Some vs → n ≡ cost_in K L i x b vs) → IsIn K L t x b → StandsIn K L f i x b t
+          → StandsIn K L (view (row_changes_of K L i x b t.columns c (read_in K L f i x b c.row)) f) i x (after_row_in K L c n b) u
+      stands f i x (inl b) t u c n is_t is_u by cost it stand = k.rows.stands f i (with_body x b) t u c n is_t is_u by cost it stand
+      stands f i x (inr b) t u c n is_t is_u by cost it stand = l.rows.stands f i (with_body x b) t u c n is_t is_u by cost it stand
 
-      read_agree : (f g : Key → Option (List ℕ)) (i : List ℕ) (x : IndexOf (B ⊎ C)) (b : B ⊎ C) (r : ℤ) → ((j : Key) → j.owner ≡ i → own_in K L b j.kind ≡ true → g j ≡ f j) → read_in K L g i x b r ≡ read_in K L f i x b r
-      read_agree f g i x (inl b) r same = ap inl (k.rows.read_agree f g i (index_with x b) r same)
-      read_agree f g i x (inr b) r same = ap inr (l.rows.read_agree f g i (index_with x b) r same)
+      read_agree : (f g : Key → Option (List ℕ)) (i : List ℕ) (x : IndexOf (B ⊎ C)) (b : B ⊎ C) (r : ℤ)
+          → ((j : Key) → j.owner ≡ i → own_in K L b j.kind ≡ true → g j ≡ f j) → read_in K L g i x b r ≡ read_in K L f i x b r
+      read_agree f g i x (inl b) r same = ap inl (k.rows.read_agree f g i (with_body x b) r same)
+      read_agree f g i x (inr b) r same = ap inr (l.rows.read_agree f g i (with_body x b) r same)
 
       changes_same : (f : Key → Option (List ℕ)) (i : List ℕ) (x : IndexOf (B ⊎ C)) (b : B ⊎ C) (columns : List Column) (c d : RowChange) (n : ℕ)
           → row_changes_of K L i x (after_row_in K L c n b) columns d (read_in K L f i x (after_row_in K L c n b) d.row) ≡ row_changes_of K L i x b columns d (read_in K L f i x b d.row)
-      changes_same f i x (inl b) columns c d n = k.rows.changes_same f i (index_with x b) columns c d n
-      changes_same f i x (inr b) columns c d n = l.rows.changes_same f i (index_with x b) columns c d n
+      changes_same f i x (inl b) columns c d n = k.rows.changes_same f i (with_body x b) columns c d n
+      changes_same f i x (inr b) columns c d n = l.rows.changes_same f i (with_body x b) columns c d n
 
       apart : (f : Key → Option (List ℕ)) (i : List ℕ) (x : IndexOf (B ⊎ C)) (b : B ⊎ C) (columns : List Column) (c : RowChange) (r : ℤ) → IsRow c.row → IsRow r → int_eq r c.row ≡ false
           → read_in K L (view (row_changes_of K L i x b columns c (read_in K L f i x b c.row)) f) i x b r ≡ read_in K L f i x b r
-      apart f i x (inl b) columns c r row is_row away = ap inl (k.rows.apart f i (index_with x b) columns c r row is_row away)
-      apart f i x (inr b) columns c r row is_row away = ap inr (l.rows.apart f i (index_with x b) columns c r row is_row away)
+      apart f i x (inl b) columns c r row is_row away = ap inl (k.rows.apart f i (with_body x b) columns c r row is_row away)
+      apart f i x (inr b) columns c r row is_row away = ap inr (l.rows.apart f i (with_body x b) columns c r row is_row away)
 
   -- ---- it is synchronised
 
@@ -128,22 +130,24 @@ module _ {B C A E D R S : Type 0} (K : Indextype B A D R) (L : Indextype C E D S
     stands = λ f d t i x. stands f d t i x x.body;
   }
     where
-      same : (d : D) (t : Table) (x : IndexOf (B ⊎ C)) (b : B ⊎ C) → SameKind (either K L) (index_with x b) (index_with x (after_sync_in K L d t x b))
-      same d t x (inl b) = same_first (index_with x b) (by_sync K d t (index_with x b)) (k.syncs.same d t (index_with x b))
-      same d t x (inr b) = same_second (index_with x b) (by_sync L d t (index_with x b)) (l.syncs.same d t (index_with x b))
+      same : (d : D) (t : Table) (x : IndexOf (B ⊎ C)) (b : B ⊎ C) → SameKind (either K L) (with_body x b) (with_body x (after_sync_in K L d t x b))
+      same d t x (inl b) = same_first (with_body x b) (synced_index K d t (with_body x b)) (k.syncs.same d t (with_body x b))
+      same d t x (inr b) = same_second (with_body x b) (synced_index L d t (with_body x b)) (l.syncs.same d t (with_body x b))
 
-      own : (d : D) (t : Table) (i : List ℕ) (x : IndexOf (B ⊎ C)) (b : B ⊎ C) → AreOwnChanges (either K L) i (index_with x b) (index_with x (after_sync_in K L d t x b)) (sync_changes_in K L d t i x b)
-      own d t i x (inl b) = own_first i (index_with x b) (by_sync K d t (index_with x b)) (K.sync_changes d t i (index_with x b)) (k.syncs.own d t i (index_with x b))
-      own d t i x (inr b) = own_second i (index_with x b) (by_sync L d t (index_with x b)) (L.sync_changes d t i (index_with x b)) (l.syncs.own d t i (index_with x b))
+      own : (d : D) (t : Table) (i : List ℕ) (x : IndexOf (B ⊎ C)) (b : B ⊎ C)
+          → AreOwnChanges (either K L) i (with_body x b) (with_body x (after_sync_in K L d t x b)) (sync_changes_in K L d t i x b)
+      own d t i x (inl b) = own_first i (with_body x b) (synced_index K d t (with_body x b)) (K.sync_changes d t i (with_body x b)) (k.syncs.own d t i (with_body x b))
+      own d t i x (inr b) = own_second i (with_body x b) (synced_index L d t (with_body x b)) (L.sync_changes d t i (with_body x b)) (l.syncs.own d t i (with_body x b))
 
-      is : (d : D) (t : Table) (x : IndexOf (B ⊎ C)) (b : B ⊎ C) → IsTable t → IsPrefs x.prefs → can_sync_in K L x b ≡ true → Is K L t x b → Is K L t x (after_sync_in K L d t x b)
-      is d t x (inl b) is_t prefs room it = k.syncs.is d t (index_with x b) is_t prefs room it
-      is d t x (inr b) is_t prefs room it = l.syncs.is d t (index_with x b) is_t prefs room it
+      is : (d : D) (t : Table) (x : IndexOf (B ⊎ C)) (b : B ⊎ C) → IsTable t → IsPrefs x.prefs → can_sync_in K L x b ≡ true → IsIn K L t x b → IsIn K L t x (after_sync_in K L d t x b)
+      is d t x (inl b) is_t prefs room it = k.syncs.is d t (with_body x b) is_t prefs room it
+      is d t x (inr b) is_t prefs room it = l.syncs.is d t (with_body x b) is_t prefs room it
 
-      stands : (f : Key → Option (List ℕ)) (d : D) (t : Table) (i : List ℕ) (x : IndexOf (B ⊎ C)) (b : B ⊎ C) → IsTable t → IsPrefs x.prefs → can_sync_in K L x b ≡ true → Is K L t x b → Stands K L f i x b t
-          → Stands K L (view (sync_changes_in K L d t i x b) f) i x (after_sync_in K L d t x b) t
-      stands f d t i x (inl b) is_t prefs room it stand = k.syncs.stands f d t i (index_with x b) is_t prefs room it stand
-      stands f d t i x (inr b) is_t prefs room it stand = l.syncs.stands f d t i (index_with x b) is_t prefs room it stand
+      stands : (f : Key → Option (List ℕ)) (d : D) (t : Table) (i : List ℕ) (x : IndexOf (B ⊎ C)) (b : B ⊎ C) → IsTable t → IsPrefs x.prefs
+          → can_sync_in K L x b ≡ true → IsIn K L t x b → StandsIn K L f i x b t
+          → StandsIn K L (view (sync_changes_in K L d t i x b) f) i x (after_sync_in K L d t x b) t
+      stands f d t i x (inl b) is_t prefs room it stand = k.syncs.stands f d t i (with_body x b) is_t prefs room it stand
+      stands f d t i x (inr b) is_t prefs room it stand = l.syncs.stands f d t i (with_body x b) is_t prefs room it stand
 
   -- ---- it is made
 
@@ -154,16 +158,16 @@ module _ {B C A E D R S : Type 0} (K : Indextype B A D R) (L : Indextype C E D S
       | inl a ↦ k.creates.of a d t i target prefs
       | inr e ↦ l.creates.of e d t i target prefs
     ];
-    entry = λ a d t i target prefs old. elim a as (λ a. told ((either K L).create_changes a d t i target prefs) (key kind.Indexes i []) old ≡ Some (index_entry (either K L) (made (either K L) a d t target prefs))) [
+    entry = λ a d t i target prefs old. elim a as (λ a. told ((either K L).create_changes a d t i target prefs) (key kind.Indexes i []) old ≡ Some (index_entry (either K L) (new_index_on (either K L) a d t target prefs))) [
       | inl a ↦ k.creates.entry a d t i target prefs old
       | inr e ↦ l.creates.entry e d t i target prefs old
     ];
-    is = λ a d t target prefs is_t texts prefs_are. elim a as (λ a. (either K L).asks t a → (either K L).can_create t a ≡ true → (either K L).is t (made (either K L) a d t target prefs)) [
+    is = λ a d t target prefs is_t texts prefs_are. elim a as (λ a. (either K L).asks t a → (either K L).can_create t a ≡ true → (either K L).is t (new_index_on (either K L) a d t target prefs)) [
       | inl a ↦ k.creates.is a d t target prefs is_t texts prefs_are
       | inr e ↦ l.creates.is e d t target prefs is_t texts prefs_are
     ];
     stands = λ f a d t i target prefs is_t texts prefs_are. elim a as (λ a. (either K L).asks t a → (either K L).can_create t a ≡ true → HasNoEntries (either K L) f i
-        → (either K L).stands (view ((either K L).create_changes a d t i target prefs) f) i (made (either K L) a d t target prefs) t) [
+        → (either K L).stands (view ((either K L).create_changes a d t i target prefs) f) i (new_index_on (either K L) a d t target prefs) t) [
           | inl a ↦ k.creates.stands f a d t i target prefs is_t texts prefs_are
           | inr e ↦ l.creates.stands f e d t i target prefs is_t texts prefs_are
         ];
@@ -180,15 +184,16 @@ module _ {B C A E D R S : Type 0} (K : Indextype B A D R) (L : Indextype C E D S
           one_kind (kind_in K L x.body) (kind_in K L y.body)
           (cons_parts (index_code (kind_in K L x.body)) (index_code (kind_in K L y.body)) ((text_bytes x.table ++ x.column ∷ []) ++ rest_in K L x x.body) ((text_bytes y.table ++ y.column ∷ []) ++ rest_in K L y y.body) e).0
 
-      one : (f : Key → Option (List ℕ)) (i : List ℕ) (x y : IndexOf (B ⊎ C)) (b c : B ⊎ C) (t u : Table) → IsTable t → IsTable u → Is K L t x b → Is K L u y c → IsPrefs x.prefs → IsPrefs y.prefs → (x.table ≡ y.table → t ≡ u)
-          → index_entry (either K L) (index_with x b) ≡ index_entry (either K L) (index_with y c) → Stands K L f i x b t → Stands K L f i y c u
-          → index_with x ((either K L).unwasted b) ≡ index_with y ((either K L).unwasted c)
+      one : (f : Key → Option (List ℕ)) (i : List ℕ) (x y : IndexOf (B ⊎ C)) (b c : B ⊎ C) (t u : Table) → IsTable t → IsTable u → IsIn K L t x b
+          → IsIn K L u y c → IsPrefs x.prefs → IsPrefs y.prefs → (x.table ≡ y.table → t ≡ u)
+          → index_entry (either K L) (with_body x b) ≡ index_entry (either K L) (with_body y c) → StandsIn K L f i x b t → StandsIn K L f i y c u
+          → with_body x ((either K L).unwasted b) ≡ with_body y ((either K L).unwasted c)
       one f i x y (inl b) (inl c) t u is_t is_u x_is y_is x_prefs y_prefs same entry x_stands y_stands =
-          ap (λ (z : IndexOf B). index_with z (inl z.body)) (k.one.one f i (index_with x b) (index_with y c) t u is_t is_u x_is y_is x_prefs y_prefs same entry x_stands y_stands)
+          ap (λ (z : IndexOf B). with_body z (inl z.body)) (k.one.one f i (with_body x b) (with_body y c) t u is_t is_u x_is y_is x_prefs y_prefs same entry x_stands y_stands)
       one f i x y (inr b) (inr c) t u is_t is_u x_is y_is x_prefs y_prefs same entry x_stands y_stands =
-          ap (λ (z : IndexOf C). index_with z (inr z.body)) (l.one.one f i (index_with x b) (index_with y c) t u is_t is_u x_is y_is x_prefs y_prefs same entry x_stands y_stands)
-      one f i x y (inl b) (inr c) t u is_t is_u x_is y_is x_prefs y_prefs same entry x_stands y_stands = absurd (differ b c (kinds (index_with x (inl b)) (index_with y (inr c)) entry))
-      one f i x y (inr b) (inl c) t u is_t is_u x_is y_is x_prefs y_prefs same entry x_stands y_stands = absurd (differ c b (sym (kinds (index_with x (inr b)) (index_with y (inl c)) entry)))
+          ap (λ (z : IndexOf C). with_body z (inr z.body)) (l.one.one f i (with_body x b) (with_body y c) t u is_t is_u x_is y_is x_prefs y_prefs same entry x_stands y_stands)
+      one f i x y (inl b) (inr c) t u is_t is_u x_is y_is x_prefs y_prefs same entry x_stands y_stands = absurd (differ b c (kinds (with_body x (inl b)) (with_body y (inr c)) entry))
+      one f i x y (inr b) (inl c) t u is_t is_u x_is y_is x_prefs y_prefs same entry x_stands y_stands = absurd (differ c b (sym (kinds (with_body x (inr b)) (with_body y (inl c)) entry)))
 
   -- ---- all of it
 

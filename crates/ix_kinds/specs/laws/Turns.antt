@@ -1,11 +1,10 @@
 -- What a statement makes of several rows, one after the other, where what is read of each is read before all of them.
 use Rattle.std.proofs.Common.{◌≡◌, ℕ, ℤ, Bool, true, false, cond, List, [], ◌∷◌, ◌++◌, Option, Some, None, refl, sym, ap, subst, ◌∙◌, inl, inr}
-use Rattle.std.specs.Prelude.{is_some}
+use Rattle.std.specs.Prelude.{is_some, ◌||◌, ◌&&◌}
 use Rattle.std.specs.Option.{option_map}
 use Rattle.std.specs.Ordering.{int_eq, int_cmp}
 use Rattle.std.specs.List.{list_any}
 use Rattle.std.proofs.lemmas.Bool.{and_parts}
-use Rattle.std.specs.Prelude.{◌||◌, ◌&&◌}
 use Rattle.std.specs.FinMap.{get}
 use Rattle.ct_base.specs.declared.lists.Value.{Value}
 use Rattle.ct_entry.specs.declared.kinds.Kind.{Kind}
@@ -21,10 +20,10 @@ use Rattle.tb_table.specs.declared.columns.Column.{Column}
 use Rattle.tb_table.specs.Tables.{Table, Tables, row_in, row_at}
 use Rattle.tb_table.specs.Rules.{AreTables}
 use Rattle.ix_kinds.specs.Rows.{table_at, RowChange, row_change}
-use Rattle.ix_kinds.specs.Indextypes.{IndexOf, Indextype}
+use Rattle.ix_kinds.specs.Indextypes.{IndexOf, Indextype, with_body}
 use Rattle.ix_kinds.specs.Standing.{is_of_indexes, IndexesStand}
 use Rattle.ix_kinds.specs.Statements.{AreIndexesOn, indexes_after_row, indexes_after, index_after_row, row_cost, tables_after, row_changes_in, row_changes_at}
-use Rattle.ix_kinds.specs.IndextypeLaws.{with_body, IndextypeLaws}
+use Rattle.ix_kinds.specs.IndextypeLaws.{IndextypeLaws}
 use Rattle.ix_kinds.specs.RowSteps.{HaveSameColumns, DifferInRow, AreUnseen, IsStep, AreSteps, IndexesHold}
 use Rattle.ix_kinds.specs.laws.Standing.{of_part, indexes_frame, told_own}
 use Rattle.ix_kinds.specs.laws.Tables.{and_false, same_columns}
@@ -71,7 +70,7 @@ module _ {B A D R : Type 0} (K : Indextype B A D R) (laws : IndextypeLaws K) whe
   -- ---- what is read of other rows
 
   -- those of a name are kept by the changes of other kinds of entries
-  module _ (test : IndexOf B → Bool) (stays : (x : IndexOf B) (b : B) → test (with_body K x b) ≡ test x) (t : List ℕ) (names : List (List ℕ)) (first_entries : Key → Option (List ℕ)) (first_indexes : Names (IndexOf B)) (first : Tables)
+  module _ (test : IndexOf B → Bool) (stays : (x : IndexOf B) (b : B) → test (with_body x b) ≡ test x) (t : List ℕ) (names : List (List ℕ)) (first_entries : Key → Option (List ℕ)) (first_indexes : Names (IndexOf B)) (first : Tables)
       (step : Tables → ℤ → Tables) (change : ℤ → RowChange) (row_is : (r : ℤ) → (change r).row ≡ r) (p : Kind → Bool) (rest : ℤ → List (Key × Option (List ℕ))) (all : (r : ℤ) → AllOf p (rest r)) (other : (k : Kind) → is_of_indexes k ≡ true → p k ≡ false) where
     -- the changes of a row in the index of a name, by what was read at first
     abbrev pub as_read : ℤ → List ℕ → List (Key × Option (List ℕ))
@@ -104,7 +103,8 @@ module _ {B A D R : Type 0} (K : Indextype B A D R) (laws : IndextypeLaws K) whe
         columns = (table_at first t).columns
 
         -- on entries of the name, the changes of all names are those of the name
-        here : (b : Bool) → is_any_of i names ≡ b → (k : Key) → k.owner ≡ i → view (each (row_changes_at K f xs (table_at first t).columns c) names) f k ≡ cond b (told (row_changes_at K f xs (table_at first t).columns c i) k (f k)) (f k)
+        here : (b : Bool) → is_any_of i names ≡ b → (k : Key) → k.owner ≡ i
+            → view (each (row_changes_at K f xs (table_at first t).columns c) names) f k ≡ cond b (told (row_changes_at K f xs (table_at first t).columns c i) k (f k)) (f k)
         here b is k owner =
             told_own (row_changes_at K f xs (table_at first t).columns c) (row_changes_on K laws f xs (table_at first t) c) names on.distinct k (f k)
             ∙ ap (λ (l : List ℕ). cond (is_any_of l names) (told (row_changes_at K f xs (table_at first t).columns c l) k (f k)) (f k)) owner

@@ -14,26 +14,24 @@ use Rattle.ct_base.specs.Limits.{stream_limit}
 use Rattle.ct_base.specs.declared.numbers.Pair.{Pair}
 use Rattle.ct_base.specs.laws.Bools.{same_tests}
 use Rattle.ct_base.specs.laws.Lists.{cons_parts}
-use Rattle.ct_keep.specs.RisingKeys.{below, rises, entries_rise}
-use Rattle.ct_keep.specs.FoundKeys.{none_below, below_tied, AllKeys, all_keys}
+use Rattle.ct_keep.specs.laws.RisingKeys.{below, rises, entries_rise}
+use Rattle.ct_keep.specs.laws.FoundKeys.{none_below, below_tied, AllKeys, all_keys}
 use Rattle.ix_spans.specs.Occurrences.{has_number}
 use Rattle.tx_settings.specs.declared.preferences.Prefs.{Prefs}
 use Rattle.tx_settings.specs.PrefsBytes.{IsPrefs}
 use Rattle.tx_document.specs.declared.views.WordView.{WordView}
 use Rattle.tx_document.specs.declared.views.SectionView.{SectionView}
 use Rattle.tx_document.specs.Documents.{document, pair}
+use Rattle.tx_document.specs.Places.{had}
 use Rattle.tx_document.specs.Entries.{DocumentPlace, places_of, places_under, place_map, positions_of, section_stream, section_place, word_places, entry_of}
 use Rattle.tx_document.specs.Promises.{if_any, as_pairs}
 use Rattle.tx_document.specs.laws.Found.{get-place_map, places_are_positions, places_under-append}
 use Rattle.tx_document.specs.laws.Ordered.{no_word, the_streams}
 use Rattle.q_tree.specs.Documents.{DocEntry, DocSection, firsts, has_position, section_pairs}
+use Rattle.ix_context.specs.laws.Postings.{Named}
 use Rattle.ix_search.specs.Texts.{doc_entry, doc_section, doc_sections}
 use Rattle.ix_search.specs.Promises.{EntriesArePostings}
 use Rattle.ix_search.specs.laws.Words.{bytes_turned, positions_stand}
-
--- a name of places, with the places that it has
-abbrev Named : Type 0
-Named = List ℕ × List Pair
 
 abbrev order : List ℕ → List ℕ → Rattle.std.specs.declared.cmp.Ordering.Ordering
 order = slice_cmp nat_cmp
@@ -86,10 +84,6 @@ module _ (s : ℕ) (t : List ℕ) where
           → ((b && has_number (firsts places) n) || at_found (λ ps. has_number (firsts ps) n) (find order (s ∷ t) ns)) ≡ at_found (λ ps. has_number (firsts ps) n) (cond b (Some places) (find order (s ∷ t) ns))
       go true tie low = ap (λ (o : Option (List Pair)). has_number (firsts places) n || at_found (λ ps. has_number (firsts ps) n) o) (behind (s ∷ t) (stream ∷ token, places) ns tie low) ∙ or_false (has_number (firsts places) n)
       go false tie low = refl
-
-  abbrev had : Option (List Pair) → List Pair
-  had None = []
-  had (Some ps) = ps
 
   pairs_found : (ns : List Named) → AllKeys order IsSome_ ns → rises order ns ≡ true → flat_map (λ (e : DocEntry). e.places) (filter (is_named s t) (entries_named ns)) ≡ had (find order (s ∷ t) ns)
   pairs_found [] some up = refl
@@ -188,7 +182,7 @@ module _ (p : Prefs) (text : List ℕ) where
       ∙ ap (λ (l : List Pair). l ++ places_under (section_stream ∷ name) (map section_place d.sections)) (no_word name (1 + stream_limit) d.words (omega arith) (the_streams p text is short))
       ∙ sections_under name d.sections
 
-  had_any : (ps : List Pair) → had 0 [] (if_any ps) ≡ ps
+  had_any : (ps : List Pair) → had (if_any ps) ≡ ps
   had_any [] = refl
   had_any (q ∷ ps) = refl
 
@@ -203,7 +197,7 @@ entries_are_postings p text is short =
           ∙ positions_stand s t d.words n;
       pairs = λ name.
           pairs_found section_stream name (names p text) (some_names p text) (entries_rise order (place_map (places_of d)))
-          ∙ ap (had section_stream name) (found_under p text (section_stream ∷ name))
+          ∙ ap had (found_under p text (section_stream ∷ name))
           ∙ had_any p text (places_under (section_stream ∷ name) (places_of d))
           ∙ section_places p text is short name;
     }

@@ -10,7 +10,7 @@ use Rattle.ix_spans.specs.Occurrences.{term_score}
 use Rattle.q_tree.specs.declared.flats.Slot.{Slot}
 use Rattle.q_tree.specs.declared.flats.Slot.TheVariants.{Any, Takes}
 use Rattle.q_tree.specs.declared.flats.Place.TheVariants.{Zone, Field, Sentence, Paragraph}
-use Rattle.q_tree.specs.Trees.{Reduced, Term, Joined, Weighted, Exceeding, Close, Inside, Defined}
+use Rattle.q_tree.specs.ReducedQueries.{Reduced, Term, Both, Weight, Above, Near, Within, Define}
 use Rattle.q_tree.specs.Soundness.{is_between, is_key, slot_keys_rise, is_slot, takes_some, ends_well, is_phrase, is_term, is_sound}
 use Rattle.q_tree.specs.Scores.{DocPostings, slot_positions, phrase_slots, term_slots, operand_slots, near_score, define_score, greatest_within, operated, weighted, if_above, score}
 use Rattle.ix_search.specs.Promises.{PartsScoreAlike}
@@ -51,15 +51,15 @@ module _ (c d : DocPostings) where
   -- THE SAME SCORE, where the postings agree in all parts of the query
   pub same_by_parts : (f : Reduced) (s : ℕ) → OfParts SameSlot SameSection f s → (lo hi : ℕ) → score f c s lo hi ≡ score f d s lo hi
   same_by_parts (Term phrases) s h lo hi = ap (λ xs. term_score xs lo hi) (term_same s phrases h)
-  same_by_parts (Joined op a b) s h lo hi = both_same (operated op) (score a c s lo hi) (score b c s lo hi) (score a d s lo hi) (score b d s lo hi) (same_by_parts a s h.0 lo hi) (same_by_parts b s h.1 lo hi)
-  same_by_parts (Weighted w a) s h lo hi = ap (weighted w) (same_by_parts a s h lo hi)
-  same_by_parts (Exceeding n a) s h lo hi = ap (if_above n) (same_by_parts a s h lo hi)
-  same_by_parts (Close operands span ordered) s h lo hi = ap (λ xs. near_score xs span ordered lo hi) (operands_same s operands h)
-  same_by_parts (Inside (Field f) a) s h lo hi = same_by_parts a f h lo hi
-  same_by_parts (Inside (Zone name) a) s h lo hi = within_same (λ l r. score a c s l r) (λ l r. score a d s l r) lo hi name h.0 (λ l r. same_by_parts a s h.1 l r)
-  same_by_parts (Inside Sentence a) s h lo hi = within_same (λ l r. score a c s l r) (λ l r. score a d s l r) lo hi (codes "sentence") h.0 (λ l r. same_by_parts a s h.1 l r)
-  same_by_parts (Inside Paragraph a) s h lo hi = within_same (λ l r. score a c s l r) (λ l r. score a d s l r) lo hi (codes "paragraph") h.0 (λ l r. same_by_parts a s h.1 l r)
-  same_by_parts (Defined phrases sum) s h lo hi = ap (λ xs. define_score xs sum lo hi) (term_same s phrases h)
+  same_by_parts (Both op a b) s h lo hi = both_same (operated op) (score a c s lo hi) (score b c s lo hi) (score a d s lo hi) (score b d s lo hi) (same_by_parts a s h.0 lo hi) (same_by_parts b s h.1 lo hi)
+  same_by_parts (Weight w a) s h lo hi = ap (weighted w) (same_by_parts a s h lo hi)
+  same_by_parts (Above n a) s h lo hi = ap (if_above n) (same_by_parts a s h lo hi)
+  same_by_parts (Near operands span ordered) s h lo hi = ap (λ xs. near_score xs span ordered lo hi) (operands_same s operands h)
+  same_by_parts (Within (Field f) a) s h lo hi = same_by_parts a f h lo hi
+  same_by_parts (Within (Zone name) a) s h lo hi = within_same (λ l r. score a c s l r) (λ l r. score a d s l r) lo hi name h.0 (λ l r. same_by_parts a s h.1 l r)
+  same_by_parts (Within Sentence a) s h lo hi = within_same (λ l r. score a c s l r) (λ l r. score a d s l r) lo hi (codes "sentence") h.0 (λ l r. same_by_parts a s h.1 l r)
+  same_by_parts (Within Paragraph a) s h lo hi = within_same (λ l r. score a c s l r) (λ l r. score a d s l r) lo hi (codes "paragraph") h.0 (λ l r. same_by_parts a s h.1 l r)
+  same_by_parts (Define phrases sum) s h lo hi = ap (λ xs. define_score xs sum lo hi) (term_same s phrases h)
 
 pub parts_score_alike : PartsScoreAlike
 parts_score_alike c d f s same lo hi = same_by_parts c d f s same lo hi
@@ -85,15 +85,15 @@ module _ (P R : ℕ → Slot → Type 0) (so : (s : ℕ) (slot : Slot) → P s s
 
   pub parts_so : (Q S : List ℕ → Type 0) → ((name : List ℕ) → Q name → S name) → (f : Reduced) (s : ℕ) → OfParts P Q f s → OfParts R S f s
   parts_so Q S also (Term phrases) s h = term_so s phrases h
-  parts_so Q S also (Joined op a b) s h = (parts_so Q S also a s h.0, parts_so Q S also b s h.1)
-  parts_so Q S also (Weighted w a) s h = parts_so Q S also a s h
-  parts_so Q S also (Exceeding n a) s h = parts_so Q S also a s h
-  parts_so Q S also (Close operands span ordered) s h = operands_so s operands h
-  parts_so Q S also (Inside (Field f) a) s h = parts_so Q S also a f h
-  parts_so Q S also (Inside (Zone name) a) s h = (also name h.0, parts_so Q S also a s h.1)
-  parts_so Q S also (Inside Sentence a) s h = (also (codes "sentence") h.0, parts_so Q S also a s h.1)
-  parts_so Q S also (Inside Paragraph a) s h = (also (codes "paragraph") h.0, parts_so Q S also a s h.1)
-  parts_so Q S also (Defined phrases sum) s h = term_so s phrases h
+  parts_so Q S also (Both op a b) s h = (parts_so Q S also a s h.0, parts_so Q S also b s h.1)
+  parts_so Q S also (Weight w a) s h = parts_so Q S also a s h
+  parts_so Q S also (Above n a) s h = parts_so Q S also a s h
+  parts_so Q S also (Near operands span ordered) s h = operands_so s operands h
+  parts_so Q S also (Within (Field f) a) s h = parts_so Q S also a f h
+  parts_so Q S also (Within (Zone name) a) s h = (also name h.0, parts_so Q S also a s h.1)
+  parts_so Q S also (Within Sentence a) s h = (also (codes "sentence") h.0, parts_so Q S also a s h.1)
+  parts_so Q S also (Within Paragraph a) s h = (also (codes "paragraph") h.0, parts_so Q S also a s h.1)
+  parts_so Q S also (Define phrases sum) s h = term_so s phrases h
 
 -- ---- the streams and keys of a sound query without patterns
 
@@ -147,29 +147,29 @@ module _ (s : ℕ) (low : s ≤ stream_limit) where
 
 pub parts_read : (f : Reduced) → is_sound f ≡ true → has_keys_alone f ≡ true → (s : ℕ) → s ≤ stream_limit → OfParts CanBeRead AnyName f s
 parts_read (Term phrases) h alone s low = term_read s low phrases h alone
-parts_read (Joined op a b) h alone s low =
+parts_read (Both op a b) h alone s low =
     let p = and_parts (is_sound a) (is_sound b) h in
     let k = and_parts (has_keys_alone a) (has_keys_alone b) alone in
     (parts_read a p.0 k.0 s low, parts_read b p.1 k.1 s low)
-parts_read (Weighted w a) h alone s low = parts_read a (and_parts (is_between 1 100 w) (is_sound a) h).1 alone s low
-parts_read (Exceeding n a) h alone s low = parts_read a (and_parts (nat_le n 100) (is_sound a) h).1 alone s low
-parts_read (Close operands span ordered) h alone s low =
+parts_read (Weight w a) h alone s low = parts_read a (and_parts (is_between 1 100 w) (is_sound a) h).1 alone s low
+parts_read (Above n a) h alone s low = parts_read a (and_parts (nat_le n 100) (is_sound a) h).1 alone s low
+parts_read (Near operands span ordered) h alone s low =
     let p = and_parts (is_between 2 16 (length operands) && list_all is_term operands) (nat_le span 100) h in
     operands_read s low operands (and_parts (is_between 2 16 (length operands)) (list_all is_term operands) p.0).1 alone
-parts_read (Inside (Field f) a) h alone s low =
+parts_read (Within (Field f) a) h alone s low =
     let p = and_parts (is_between 1 stream_limit f) (is_sound a) h in
     parts_read a p.1 alone f (leb-true f stream_limit (and_parts (nat_le 1 f) (nat_le f stream_limit) p.0).1)
-parts_read (Inside (Zone name) a) h alone s low = (tt, parts_read a h alone s low)
-parts_read (Inside Sentence a) h alone s low = (tt, parts_read a h alone s low)
-parts_read (Inside Paragraph a) h alone s low = (tt, parts_read a h alone s low)
-parts_read (Defined phrases sum) h alone s low = cc
+parts_read (Within (Zone name) a) h alone s low = (tt, parts_read a h alone s low)
+parts_read (Within Sentence a) h alone s low = (tt, parts_read a h alone s low)
+parts_read (Within Paragraph a) h alone s low = (tt, parts_read a h alone s low)
+parts_read (Define phrases sum) h alone s low = cc
 
 -- a query without patterns is one that a cursor is built for
 pub alone_is_plain : (f : Reduced) → has_keys_alone f ≡ true → IsPlain f
 alone_is_plain (Term phrases) alone = tt
-alone_is_plain (Joined op a b) alone = let k = and_parts (has_keys_alone a) (has_keys_alone b) alone in (alone_is_plain a k.0, alone_is_plain b k.1)
-alone_is_plain (Weighted w a) alone = alone_is_plain a alone
-alone_is_plain (Exceeding n a) alone = alone_is_plain a alone
-alone_is_plain (Close operands span ordered) alone = tt
-alone_is_plain (Inside place a) alone = alone_is_plain a alone
-alone_is_plain (Defined phrases sum) alone = cc
+alone_is_plain (Both op a b) alone = let k = and_parts (has_keys_alone a) (has_keys_alone b) alone in (alone_is_plain a k.0, alone_is_plain b k.1)
+alone_is_plain (Weight w a) alone = alone_is_plain a alone
+alone_is_plain (Above n a) alone = alone_is_plain a alone
+alone_is_plain (Near operands span ordered) alone = tt
+alone_is_plain (Within place a) alone = alone_is_plain a alone
+alone_is_plain (Define phrases sum) alone = cc

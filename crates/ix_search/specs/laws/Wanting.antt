@@ -10,7 +10,7 @@ use Rattle.q_tree.specs.declared.flats.Slot.TheVariants.{Any, Takes}
 use Rattle.q_tree.specs.declared.flats.Place.TheVariants.{Zone, Field, Sentence, Paragraph}
 use Rattle.q_tree.specs.Slots.{same_slot, has_key}
 use Rattle.q_tree.specs.laws.SameSlots.{slots_decide}
-use Rattle.q_tree.specs.Trees.{Reduced, Term, Joined, Weighted, Exceeding, Close, Inside, Defined}
+use Rattle.q_tree.specs.ReducedQueries.{Reduced, Term, Both, Weight, Above, Near, Within, Define}
 use Rattle.ix_search.specs.declared.wanting.Wanted.{Wanted}
 use Rattle.ix_search.specs.Parts.{slot_has_keys_alone, phrase_has_keys_alone, term_has_keys_alone, has_keys_alone, OfSlot, OfPhrase, OfTerm, OfOperands, OfParts}
 use Rattle.ix_search.specs.Wanting.{wanted, is_wanted, with_slot, with_phrase, with_term, with_operands, with_slots, with_name, with_names}
@@ -72,15 +72,15 @@ operands_stay s (x ∷ xs) ws t other h = operands_stay s xs (with_term s x ws) 
 
 slots_stay : (f : Reduced) (s : ℕ) (ws : List Wanted) → Stays ws (with_slots f s ws)
 slots_stay (Term phrases) s ws t other h = term_stays s phrases ws t other h
-slots_stay (Joined op a b) s ws t other h = slots_stay b s (with_slots a s ws) t other (slots_stay a s ws t other h)
-slots_stay (Weighted w a) s ws t other h = slots_stay a s ws t other h
-slots_stay (Exceeding n a) s ws t other h = slots_stay a s ws t other h
-slots_stay (Close operands span ordered) s ws t other h = operands_stay s operands ws t other h
-slots_stay (Inside (Field f) a) s ws t other h = slots_stay a f ws t other h
-slots_stay (Inside (Zone name) a) s ws t other h = slots_stay a s ws t other h
-slots_stay (Inside Sentence a) s ws t other h = slots_stay a s ws t other h
-slots_stay (Inside Paragraph a) s ws t other h = slots_stay a s ws t other h
-slots_stay (Defined phrases sum) s ws t other h = term_stays s phrases ws t other h
+slots_stay (Both op a b) s ws t other h = slots_stay b s (with_slots a s ws) t other (slots_stay a s ws t other h)
+slots_stay (Weight w a) s ws t other h = slots_stay a s ws t other h
+slots_stay (Above n a) s ws t other h = slots_stay a s ws t other h
+slots_stay (Near operands span ordered) s ws t other h = operands_stay s operands ws t other h
+slots_stay (Within (Field f) a) s ws t other h = slots_stay a f ws t other h
+slots_stay (Within (Zone name) a) s ws t other h = slots_stay a s ws t other h
+slots_stay (Within Sentence a) s ws t other h = slots_stay a s ws t other h
+slots_stay (Within Paragraph a) s ws t other h = slots_stay a s ws t other h
+slots_stay (Define phrases sum) s ws t other h = term_stays s phrases ws t other h
 
 name_stays : (name : List ℕ) (ns : List (List ℕ)) (other : List ℕ) → IsAmongNames ns other → IsAmongNames (with_name name ns) other
 name_stays name ns other h = go (has_key ns name)
@@ -91,15 +91,15 @@ name_stays name ns other h = go (has_key ns name)
 
 names_stay : (f : Reduced) (ns : List (List ℕ)) (other : List ℕ) → IsAmongNames ns other → IsAmongNames (with_names f ns) other
 names_stay (Term phrases) ns other h = h
-names_stay (Joined op a b) ns other h = names_stay b (with_names a ns) other (names_stay a ns other h)
-names_stay (Weighted w a) ns other h = names_stay a ns other h
-names_stay (Exceeding n a) ns other h = names_stay a ns other h
-names_stay (Close operands span ordered) ns other h = h
-names_stay (Inside (Field f) a) ns other h = names_stay a ns other h
-names_stay (Inside (Zone name) a) ns other h = names_stay a (with_name name ns) other (name_stays name ns other h)
-names_stay (Inside Sentence a) ns other h = names_stay a (with_name (codes "sentence") ns) other (name_stays (codes "sentence") ns other h)
-names_stay (Inside Paragraph a) ns other h = names_stay a (with_name (codes "paragraph") ns) other (name_stays (codes "paragraph") ns other h)
-names_stay (Defined phrases sum) ns other h = h
+names_stay (Both op a b) ns other h = names_stay b (with_names a ns) other (names_stay a ns other h)
+names_stay (Weight w a) ns other h = names_stay a ns other h
+names_stay (Above n a) ns other h = names_stay a ns other h
+names_stay (Near operands span ordered) ns other h = h
+names_stay (Within (Field f) a) ns other h = names_stay a ns other h
+names_stay (Within (Zone name) a) ns other h = names_stay a (with_name name ns) other (name_stays name ns other h)
+names_stay (Within Sentence a) ns other h = names_stay a (with_name (codes "sentence") ns) other (name_stays (codes "sentence") ns other h)
+names_stay (Within Paragraph a) ns other h = names_stay a (with_name (codes "paragraph") ns) other (name_stays (codes "paragraph") ns other h)
+names_stay (Define phrases sum) ns other h = h
 
 -- ---- each part is there
 
@@ -146,19 +146,19 @@ name_there name ns = go (has_key ns name) refl
 -- EACH SLOT AND SECTION of a query without patterns is among those that are read
 pub parts_there : (f : Reduced) (s : ℕ) (ws : List Wanted) (ns : List (List ℕ)) → has_keys_alone f ≡ true → OfParts (IsThere (with_slots f s ws)) (IsAmongNames (with_names f ns)) f s
 parts_there (Term phrases) s ws ns alone = term_there s phrases ws alone
-parts_there (Joined op a b) s ws ns alone =
+parts_there (Both op a b) s ws ns alone =
     let p = and_parts (has_keys_alone a) (has_keys_alone b) alone in
     let now = with_slots a s ws in
     let named = with_names a ns in
     (parts_so (IsThere now) (IsThere (with_slots b s now)) (slots_stay b s now) (IsAmongNames named) (IsAmongNames (with_names b named)) (names_stay b named) a s (parts_there a s ws ns p.0), parts_there b s now named p.1)
-parts_there (Weighted w a) s ws ns alone = parts_there a s ws ns alone
-parts_there (Exceeding n a) s ws ns alone = parts_there a s ws ns alone
-parts_there (Close operands span ordered) s ws ns alone = operands_there s operands ws alone
-parts_there (Inside (Field f) a) s ws ns alone = parts_there a f ws ns alone
-parts_there (Inside (Zone name) a) s ws ns alone = (names_stay a (with_name name ns) name (name_there name ns), parts_there a s ws (with_name name ns) alone)
-parts_there (Inside Sentence a) s ws ns alone = (names_stay a (with_name (codes "sentence") ns) (codes "sentence") (name_there (codes "sentence") ns), parts_there a s ws (with_name (codes "sentence") ns) alone)
-parts_there (Inside Paragraph a) s ws ns alone = (names_stay a (with_name (codes "paragraph") ns) (codes "paragraph") (name_there (codes "paragraph") ns), parts_there a s ws (with_name (codes "paragraph") ns) alone)
-parts_there (Defined phrases sum) s ws ns alone = cc
+parts_there (Weight w a) s ws ns alone = parts_there a s ws ns alone
+parts_there (Above n a) s ws ns alone = parts_there a s ws ns alone
+parts_there (Near operands span ordered) s ws ns alone = operands_there s operands ws alone
+parts_there (Within (Field f) a) s ws ns alone = parts_there a f ws ns alone
+parts_there (Within (Zone name) a) s ws ns alone = (names_stay a (with_name name ns) name (name_there name ns), parts_there a s ws (with_name name ns) alone)
+parts_there (Within Sentence a) s ws ns alone = (names_stay a (with_name (codes "sentence") ns) (codes "sentence") (name_there (codes "sentence") ns), parts_there a s ws (with_name (codes "sentence") ns) alone)
+parts_there (Within Paragraph a) s ws ns alone = (names_stay a (with_name (codes "paragraph") ns) (codes "paragraph") (name_there (codes "paragraph") ns), parts_there a s ws (with_name (codes "paragraph") ns) alone)
+parts_there (Define phrases sum) s ws ns alone = cc
 
 -- ---- what holds of each slot of the query holds of each that is read
 
@@ -189,12 +189,12 @@ module _ (P : ℕ → Slot → Type 0) where
 
   pub slots_each : (Q : List ℕ → Type 0) (f : Reduced) (s : ℕ) (ws : List Wanted) → OfParts P Q f s → EachIs Holds ws → EachIs Holds (with_slots f s ws)
   slots_each Q (Term phrases) s ws h each = term_each s phrases ws h each
-  slots_each Q (Joined op a b) s ws h each = slots_each Q b s (with_slots a s ws) h.1 (slots_each Q a s ws h.0 each)
-  slots_each Q (Weighted w a) s ws h each = slots_each Q a s ws h each
-  slots_each Q (Exceeding n a) s ws h each = slots_each Q a s ws h each
-  slots_each Q (Close operands span ordered) s ws h each = operands_each s operands ws h each
-  slots_each Q (Inside (Field f) a) s ws h each = slots_each Q a f ws h each
-  slots_each Q (Inside (Zone name) a) s ws h each = slots_each Q a s ws h.1 each
-  slots_each Q (Inside Sentence a) s ws h each = slots_each Q a s ws h.1 each
-  slots_each Q (Inside Paragraph a) s ws h each = slots_each Q a s ws h.1 each
-  slots_each Q (Defined phrases sum) s ws h each = term_each s phrases ws h each
+  slots_each Q (Both op a b) s ws h each = slots_each Q b s (with_slots a s ws) h.1 (slots_each Q a s ws h.0 each)
+  slots_each Q (Weight w a) s ws h each = slots_each Q a s ws h each
+  slots_each Q (Above n a) s ws h each = slots_each Q a s ws h each
+  slots_each Q (Near operands span ordered) s ws h each = operands_each s operands ws h each
+  slots_each Q (Within (Field f) a) s ws h each = slots_each Q a f ws h each
+  slots_each Q (Within (Zone name) a) s ws h each = slots_each Q a s ws h.1 each
+  slots_each Q (Within Sentence a) s ws h each = slots_each Q a s ws h.1 each
+  slots_each Q (Within Paragraph a) s ws h each = slots_each Q a s ws h.1 each
+  slots_each Q (Define phrases sum) s ws h each = term_each s phrases ws h each

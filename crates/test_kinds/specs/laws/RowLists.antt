@@ -4,7 +4,7 @@ use Rattle.std.specs.Prelude.{is_some, ◌||◌, ◌&&◌}
 use Rattle.std.proofs.lemmas.List.{append_cancel_left}
 use Rattle.std.specs.List.{list_any}
 use Rattle.std.specs.Ordering.{int_eq}
-use Rattle.std.specs.FinMap.{get, entries, contains_key-keys}
+use Rattle.std.specs.FinMap.{get, contains_key-keys}
 use Rattle.ct_base.specs.declared.lists.Value.{Value}
 use Rattle.ct_base.specs.laws.Options.{some_value}
 use Rattle.ct_entry.specs.declared.kinds.Kind.{Kind}
@@ -15,10 +15,8 @@ use Rattle.ct_entry.specs.laws.Changes.{told_frame}
 use Rattle.ct_entry.specs.laws.Each.{all_each, all_on-each}
 use Rattle.ct_entry.specs.laws.Keys.{list_same, key_same}
 use Rattle.ct_entry.specs.laws.Parts.{int_from_eq, int_same, rows_tie, same_kind}
-use Rattle.tb_table.specs.declared.columns.Target.{Target}
 use Rattle.tb_table.specs.Tables.{Table}
 use Rattle.tb_table.specs.Rules.{IsTable}
-use Rattle.tx_settings.specs.declared.preferences.Prefs.{Prefs}
 use Rattle.tx_settings.specs.PrefsBytes.{IsPrefs, prefs_bytes}
 use Rattle.tx_settings.specs.laws.MadeAgain.{prefs_apart}
 use Rattle.db_names.specs.declared.heads.IndexHead.{IndexHead}
@@ -28,7 +26,8 @@ use Rattle.db_names.specs.laws.Heads.{head_apart}
 use Rattle.ix_kinds.specs.Indextypes.{IndexOf}
 use Rattle.ix_kinds.specs.Standing.{is_of_part, is_entry}
 use Rattle.ix_kinds.specs.IndextypeLaws.{StandsAlone, RowsChange, Synchronises, Creates, TellsOne, IndextypeLaws}
-use Rattle.test_kinds.specs.RowLists.{is_list, entry_or_none, list_row, list_change, list_rows, row_keys_of, list_entry, new_list, ListsRows, row_lists}
+use Rattle.test_kinds.specs.RowLists.{is_list, entry_or_none, list_row, list_change, list_rows, list_entry, new_list, ListsRows, row_lists}
+use Rattle.ix_kinds.specs.Rows.{row_keys_of}
 
 -- ---- the entries of a list
 

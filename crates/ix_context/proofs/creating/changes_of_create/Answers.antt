@@ -2,11 +2,11 @@ use Rattle.std.proofs.Common.{◌≡◌, ◌≤◌, ◌+◌, ◌++◌, List, len
 use Rattle.ct_base.specs.declared.numbers.RowKey.{RowKey}
 use Rattle.ct_entry.specs.Changes.{spell}
 use Rattle.ct_entry.specs.Shapes.{AreShaped}
-use Rattle.ct_keep.specs.Composing.{reads_on, reads_hold}
+use Rattle.ct_keep.specs.laws.Composing.{reads_on, reads_hold}
 use Rattle.ix_kinds.specs.Rows.{table_at}
-use Rattle.ix_context.specs.Indexes.{most_given, rows_within}
+use Rattle.ix_context.specs.Indexes.{mark_limit, rows_within}
 use Rattle.ix_context.specs.Changes.{mark_rows_changes}
-use Rattle.ix_context.specs.Shapes.{HasIndexValue}
+use Rattle.ix_context.specs.Shapes.{HasContextValue}
 use Rattle.ix_context.proofs.SyncSteps.{created_added, count_created}
 use Rattle.ix_context.proofs.creating.changes_of_create.Goals as goal
 
@@ -18,7 +18,7 @@ returns-clause-changes g c = λ m ts holds told.
     let count = count_created t c.args.range c.in_ok-rows.rows.items rows in
     let is = c.in-Some.ensures.0 in
     let fits = c.in-Some.ensures.1 in
-    let few : length (rows_within t c.args.range) ≤ most_given = omega arith in
+    let few : length (rows_within t c.args.range) ≤ mark_limit = omega arith in
     let next : c.in-Some.next ≡ 1 + length c.in_ok-rows.rows.items = omega arith in
     let marks = c.in_ok-mark_rows.ensures.changes m ts again told in (
       few,
@@ -34,5 +34,5 @@ returns-clause-reads g c = reads_on _ _ _ _ c.in_ok-rows.ensures.reads c.in_ok-m
 
 pub returns-clause-shaped : goal.returns-clause-shaped
 returns-clause-shaped g c =
-    let none : AreShaped HasIndexValue c.new-changes.result = subst (AreShaped HasIndexValue) (sym c.new-changes.ensures) tt in
+    let none : AreShaped HasContextValue c.new-changes.result = subst (AreShaped HasContextValue) (sym c.new-changes.ensures) tt in
     c.in_ok-mark_rows.ensures.shaped (c.in_ok-put_index.ensures.shaped none)

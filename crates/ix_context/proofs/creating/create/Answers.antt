@@ -1,6 +1,6 @@
 use Rattle.std.proofs.Common.{◌++◌, ap, ◌∙◌}
 use Rattle.ct_entry.specs.Shapes.{AreShaped}
-use Rattle.ix_context.specs.Shapes.{HasIndexValue}
+use Rattle.ix_context.specs.Shapes.{HasContextValue}
 use Rattle.ix_context.specs.laws.Shapes.{shaped_added}
 use Rattle.ix_context.proofs.SyncSteps.{none_says, some_says}
 use Rattle.ix_context.proofs.creating.create.Goals as goal
@@ -18,4 +18,4 @@ returns-clause-room g c = λ m ts holds told. (some_says _ _ _ c.in-Some.changes
 
 pub returns-clause-shaped : goal.returns-clause-shaped
 returns-clause-shaped g c =
-    shaped_added c.args.batch.now c.append.new.self c.in-Some.changes c.in_ok-append.ensures.ok (some_says _ (AreShaped HasIndexValue) _ c.in-Some.changes c.in-Some.is c.in-Ok.ensures.shaped)
+    shaped_added c.args.batch.now c.append.new.self c.in-Some.changes c.in_ok-append.ensures.ok (some_says _ (AreShaped HasContextValue) _ c.in-Some.changes c.in-Some.is c.in-Ok.ensures.shaped)

@@ -1,18 +1,14 @@
-use Rattle.std.proofs.Common.{[], Err, ap, arith}
-use Rattle.ix_posting.specs.Rows.{IsPostingRow, posting_bytes}
+use Rattle.std.proofs.Common.{Err, ap}
 use Rattle.ix_context.specs.Shapes.{StartsAt}
 use Rattle.ix_context.proofs.ShapeSteps.{starts_so, starts_nowhere, is_not}
 use Rattle.ix_context.proofs.shapes.is_row_from.Goals as goal
 
-none_is_empty : IsPostingRow [] → ⊥
-none_is_empty is = let some = is.some in omega arith
-
 pub returns-in-Ok : goal.returns-in-Ok
-returns-in-Ok c =
-    starts_so IsPostingRow posting_bytes (λ d. d.document) c.args.value.now c.args.document c.documents.result.now c.in-Ok.row c.index-documents-0.result
-    c.documents.ensures.documents none_is_empty c.in-Ok.ensures.rules c.in-Ok.ensures.row c.in-Ok.ensures.read_back
+returns-in-Ok g c =
+    starts_so g.P.Place.form c.args.value.now c.args.document c.documents.result.now c.in-Ok.row c.index-documents-0.result
+    c.documents.ensures.documents c.in-Ok.ensures.rules c.in-Ok.ensures.row c.in-Ok.ensures.read_back
 
 pub returns-in-Err-BadRow : goal.returns-in-Err-BadRow
-returns-in-Err-BadRow c =
-    is_not (StartsAt IsPostingRow posting_bytes (λ d. d.document) c.args.document c.args.value.now)
-    (starts_nowhere IsPostingRow posting_bytes (λ d. d.document) c.args.value.now c.args.document (c.in-Err-BadRow.ensures.bad (ap Err c.in-Err-BadRow.field-0-is)))
+returns-in-Err-BadRow g c =
+    is_not (StartsAt g.P.Place.form c.args.document c.args.value.now)
+    (starts_nowhere g.P.Place.form c.args.value.now c.args.document (c.in-Err-BadRow.ensures.bad (ap Err c.in-Err-BadRow.field-0-is)))

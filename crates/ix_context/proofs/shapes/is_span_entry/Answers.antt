@@ -10,4 +10,4 @@ pub returns : goal.returns
 returns c =
     let small : IsDocument c.in-Some.document = omega arith in
     let key = some_says _ (IsSpanPart c.args.part.now) _ c.in-Some.document c.in-Some.is c.in_ok-document.ensures in
-    IfOk-weaker c.is_span_row_from.result _ _ (is_span c.args.part.now c.args.value.now c.in-Some.document small key) c.is_span_row_from.ensures
+    IfOk-weaker c.is_row_from.result _ _ (is_span c.args.part.now c.args.value.now c.in-Some.document small key) c.is_row_from.ensures

@@ -1,6 +1,6 @@
 use Rattle.std.proofs.Common.{sym, subst, ◌∙◌, arith}
 use Rattle.ct_entry.specs.Shapes.{AreShaped}
-use Rattle.ix_context.specs.Shapes.{HasIndexValue}
+use Rattle.ix_context.specs.Shapes.{HasContextValue}
 use Rattle.ix_context.specs.Indexes.{target_text}
 use Rattle.ix_context.proofs.SyncSteps.{settled_added}
 use Rattle.ix_context.proofs.syncing.settled_changes.Goals as goal
@@ -15,5 +15,5 @@ returns-clause-changes g c = λ m ts holds told.
 
 pub returns-clause-shaped : goal.returns-clause-shaped
 returns-clause-shaped g c =
-    let none : AreShaped HasIndexValue c.new-changes.result = subst (AreShaped HasIndexValue) (sym c.new-changes.ensures) tt in
+    let none : AreShaped HasContextValue c.new-changes.result = subst (AreShaped HasContextValue) (sym c.new-changes.ensures) tt in
     c.in_ok-put_index.ensures.shaped (c.in_ok-settle_rows.ensures.shaped none)

@@ -1,4 +1,4 @@
-use Rattle.ct_keep.specs.Composing.{reads_on, reads_hold}
+use Rattle.ct_keep.specs.laws.Composing.{reads_on, reads_hold}
 use Rattle.ct_entry.specs.declared.kinds.Kind.{Kind}
 use Rattle.ct_entry.specs.declared.kinds.Kind.TheVariants.{Tables}
 use Rattle.ct_entry.specs.Removals.{owned_removals}

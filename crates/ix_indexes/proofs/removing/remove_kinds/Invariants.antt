@@ -10,5 +10,6 @@ abbrev pub invariant-loop-kind : goal.invariant-loop-kind
 invariant-loop-kind g l = record {
   reads : ReadsKeeper (g.K.Keeper.view l.fn.keeper) (g.K.Keeper.view l.keeper) None;
   removes : OnlyRemoves l.fn.changes l.changes;
-  changes : (m : Content) → (g.K.Keeper.view l.fn.keeper).content ≡ Some m → l.changes ++ spell (kind_removals l.index m (drop l.kind-index l.kinds)) ≡ l.fn.changes ++ spell (kind_removals l.index m l.kinds);
+  changes : (m : Content) → (g.K.Keeper.view l.fn.keeper).content ≡ Some m
+      → l.changes ++ spell (kind_removals l.index m (drop l.kind-index l.kinds)) ≡ l.fn.changes ++ spell (kind_removals l.index m l.kinds);
 }

@@ -1,5 +1,5 @@
 use Rattle.std.proofs.Common.{None, arith}
-use Rattle.ct_keep.specs.Composing.{reads_none, reads_on, reads_hold}
+use Rattle.ct_keep.specs.laws.Composing.{reads_none, reads_on, reads_hold}
 use Rattle.ct_entry.specs.Keys.{at}
 use Rattle.ix_docmap.specs.Readings.{row_at_document}
 use Rattle.ix_cursor.specs.Candidates.{ahead}

@@ -1,5 +1,5 @@
 use Rattle.std.proofs.Common.{◌+◌, drop, ap}
-use Rattle.ct_keep.specs.Composing.{reads_on, reads_hold}
+use Rattle.ct_keep.specs.laws.Composing.{reads_on, reads_hold}
 use Rattle.ix_search.specs.Reading.{HoldsKey}
 use Rattle.ct_base.specs.laws.Lists.{drop_next}
 use Rattle.ix_search.proofs.ReadSteps.{read_on, read_ends, no_item, tokens_rise}

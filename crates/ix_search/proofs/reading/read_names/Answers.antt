@@ -1,7 +1,7 @@
 use Rattle.std.proofs.Common.{◌≡◌, [], sym, ap, subst, arith}
 use Rattle.std.proofs.lemmas.Grind.{common_steps}
 use Rattle.ct_base.specs.Names.{IsName}
-use Rattle.ct_keep.specs.Composing.{reads_on, reads_hold}
+use Rattle.ct_keep.specs.laws.Composing.{reads_on, reads_hold}
 use Rattle.ct_entry.specs.Lists.{EachIs}
 use Rattle.ix_search.specs.Reading.{HoldsName, section_feed}
 use Rattle.ix_search.proofs.ReadSteps.{read_on, read_ends, sections_rise}

@@ -1,6 +1,6 @@
 use Rattle.std.proofs.Common.{◌≡◌, [], ap, arith}
 use Rattle.std.proofs.lemmas.Grind.{common_steps}
-use Rattle.ct_keep.specs.Composing.{reads_on, reads_hold}
+use Rattle.ct_keep.specs.laws.Composing.{reads_on, reads_hold}
 use Rattle.ix_search.specs.Reading.{HoldsSlot, slot_feed}
 use Rattle.ix_search.proofs.ReadSteps.{read_on, read_ends, slots_rise}
 use Rattle.ix_search.specs.Parts.{keys_of}

@@ -1,8 +1,7 @@
 use Rattle.std.proofs.Common.{ap}
-use Rattle.ct_keep.specs.Composing.{reads_hold}
-use Rattle.ct_entry.specs.Keys.{at}
+use Rattle.ct_keep.specs.laws.Composing.{reads_hold}
 use Rattle.q_tree.specs.declared.flats.Flat.{Flat}
-use Rattle.q_tree.specs.Trees.{reduced_of}
+use Rattle.q_tree.specs.ReducedQueries.{reduced_of}
 use Rattle.ix_cursor.specs.Candidates.{ahead}
 use Rattle.ix_search.proofs.Found.{words, spans, slots_held, names_held}
 use Rattle.ix_search.proofs.Giving.{gives_found}

@@ -1,4 +1,4 @@
-use Rattle.q_tree.specs.Trees.{reduced_of}
+use Rattle.q_tree.specs.ReducedQueries.{reduced_of}
 use Rattle.ix_search.specs.Finding.{found}
 use Rattle.ix_search.proofs.searching.search.Goals as goal
 

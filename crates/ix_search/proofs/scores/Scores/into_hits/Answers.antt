@@ -3,7 +3,7 @@ use Rattle.std.proofs.lemmas.List.{append-nil}
 use Rattle.std.specs.Ordering.{int_cmp}
 use Rattle.std.specs.FinMap.{entries}
 use Rattle.ix_search.specs.declared.hits.Hit.{Hit}
-use Rattle.ct_keep.specs.SortedLaws.{entries-sorted}
+use Rattle.ct_base.specs.laws.SortedMaps.{entries-sorted}
 use Rattle.ix_search.proofs.scores.Scores.into_hits.Goals as goal
 
 pub returns : goal.returns

@@ -1,7 +1,7 @@
 use Rattle.std.proofs.Common.{ap, ◌∙◌}
 use Rattle.std.specs.Ordering.{int_cmp}
 use Rattle.std.specs.FinMap.{from_sorted}
-use Rattle.ct_keep.specs.SortedLaws.{sorted-none}
+use Rattle.ct_base.specs.laws.SortedMaps.{sorted-none}
 use Rattle.ix_search.proofs.scores.Scores.new.Goals as goal
 
 pub returns : goal.returns

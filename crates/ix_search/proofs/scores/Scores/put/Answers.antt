@@ -4,7 +4,7 @@ use Rattle.std.specs.Ordering.{int_cmp}
 use Rattle.std.specs.FinMap.{FinMap, insert}
 use Rattle.std.proofs.lemmas.Cmp.{int_cmp_total}
 use Rattle.std.proofs.lemmas.Int.{to_z-of_z}
-use Rattle.ct_keep.specs.SortedLaws.{sorted-insert}
+use Rattle.ct_base.specs.laws.SortedMaps.{sorted-insert}
 use Rattle.ix_search.proofs.scores.Scores.put.Goals as goal
 
 pub returns : goal.returns

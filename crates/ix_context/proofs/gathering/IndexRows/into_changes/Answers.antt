@@ -2,9 +2,9 @@ use Rattle.std.proofs.Common.{◌≡◌, ◌++◌, refl, ap, ◌∙◌}
 use Rattle.ct_entry.specs.Changes.{spell}
 use Rattle.ct_entry.specs.declared.kinds.Kind.TheVariants as kind
 use Rattle.ix_rows.specs.RowMaps.{row_map_changes}
-use Rattle.ix_context.specs.Gathering.{Gathering, gathering_changes}
+use Rattle.ix_context.specs.Gathering.{IndexRowsView, gathering_changes}
 use Rattle.ix_context.proofs.GatherSteps.{on_ok, added_both}
-use Rattle.ix_context.proofs.gathering.Gathered.into_changes.Goals as goal
+use Rattle.ix_context.proofs.gathering.IndexRows.into_changes.Goals as goal
 
 pub returns : goal.returns
 returns c =
@@ -13,5 +13,5 @@ returns c =
     on_ok c.into_changes-2.result (c.into_changes-2.new.batch ≡ c.into_changes.new.batch ++ spell sections) _
     (λ second.
     added_both c.args.batch.now c.into_changes.new.batch c.into_changes-2.new.batch words sections sections c.in_ok-into_changes.ensures second refl
-    ∙ ap (λ (g : Gathering). c.args.batch.now ++ spell (gathering_changes c.args.index.now g)) c.gathered.view_is)
+    ∙ ap (λ (g : IndexRowsView). c.args.batch.now ++ spell (gathering_changes c.args.index.now g)) c.gathered.view_is)
     c.into_changes-2.ensures

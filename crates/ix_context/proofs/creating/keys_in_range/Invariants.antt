@@ -1,7 +1,7 @@
 use Rattle.std.proofs.Common.{◌≡◌, ◌++◌, drop, map}
 use Rattle.std.specs.Prelude.{filter}
 use Rattle.ix_context.specs.Indexes.{is_key_in}
-use Rattle.ix_context.proofs.creating.rows_within.Given as goal
+use Rattle.ix_context.proofs.creating.keys_in_range.Given as goal
 
 abbrev pub invariant-loop-row : goal.invariant-loop-row
 invariant-loop-row l =

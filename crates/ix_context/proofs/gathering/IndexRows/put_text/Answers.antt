@@ -6,11 +6,11 @@ use Rattle.tx_document.specs.Documents.{document}
 use Rattle.tx_document.specs.Entries.{entries}
 use Rattle.ix_context.specs.Postings.{text_entries, IsPosting, IsShortOrNone, indexed_text_limit}
 use Rattle.ix_context.specs.Gathering.{with_entries}
-use Rattle.ix_context.specs.Grown.{AreGathered}
-use Rattle.ix_context.specs.laws.Grown.{grown_text}
+use Rattle.ix_context.specs.GatheredRows.{AreGathered}
+use Rattle.ix_context.specs.laws.GatheredRows.{grown_text}
 use Rattle.ix_context.specs.laws.Postings.{entries_fit}
 use Rattle.ix_context.proofs.GatherSteps.{on_ok}
-use Rattle.ix_context.proofs.gathering.Gathered.put_text.Goals as goal
+use Rattle.ix_context.proofs.gathering.IndexRows.put_text.Goals as goal
 
 pub put_entries-requires : goal.put_entries-requires
 put_entries-requires c =

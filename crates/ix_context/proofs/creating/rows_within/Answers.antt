@@ -4,7 +4,7 @@ use Rattle.ct_base.specs.declared.numbers.RowKey.{RowKey}
 use Rattle.tb_table.specs.laws.Reading.{rows_read}
 use Rattle.ix_context.specs.Indexes.{is_key_in}
 use Rattle.ix_context.specs.laws.Reading.{keys_of_table}
-use Rattle.ix_context.proofs.creating.rows_of.Goals as goal
+use Rattle.ix_context.proofs.creating.rows_within.Goals as goal
 
 pub returns-clause-rows : goal.returns-clause-rows
 returns-clause-rows g c = λ m ts holds told.

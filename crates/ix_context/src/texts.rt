@@ -1,0 +1,47 @@
+//! The texts of rows that become documents.
+#![tactic(auto, using(ct_keep::specs::laws::Composing::reads_on, ct_keep::specs::laws::Composing::reads_short))]
+
+ghost use Rattle.std.specs.Prelude.{◌≡◌, ◌+◌, ◌<◌, ◌^◌, IfOk, length, true};
+ghost use Rattle.ct_keep.specs.KeeperViews.{OnlyReads};
+ghost use Rattle.tx_settings.specs.Attributes.{can_be_set};
+ghost use Rattle.ix_context.specs.GatheredRows.{AreGathered};
+ghost use Rattle.ix_context.specs.Sees.{SeesTables, rows_gathered};
+
+use crate::gathering::IndexRows;
+use ct_base::RowKey;
+use ct_keep::{KeepFault, Keeper};
+use std::alloc::Global;
+use std::thread::Threads;
+use tb_table::Target;
+use tx_settings::Prefs;
+
+/// What is gathered of the texts of rows that become documents of an index on this target that reads texts by these preferences, the
+/// first of them this document. At most `degree` threads may read the texts; for now one does.
+///
+/// Its cost is that of reading the texts, and of a logarithm for each place of a word or a section. Its memory is that of one text and
+/// of what is gathered.
+pub(crate) fn gather_texts<R: Threads + Sync, K: Keeper>(
+    _rt: &R,
+    alloc: Global,
+    _degree: u32,
+    keeper: &mut K,
+    target: &Target,
+    prefs: &Prefs,
+    first: u32,
+    rows: &[RowKey],
+) -> Result<IndexRows, KeepFault>
+    requires ready { (K.view keeper.old).ready }
+    requires room { first + length rows.now < 2 ^ 32 }
+    requires set { can_be_set prefs.now.lexer ≡ true }
+    ensures gathers { SeesTables K.view keeper.old result (λ ts gathered. gathered ≡ rows_gathered ts target.now prefs.now first rows.now) }
+    ensures grown { IfOk result AreGathered }
+    ensures reads { OnlyReads K.view keeper.old keeper.new result }
+{
+    let mut gathered = IndexRows::new(alloc);
+    let mut document = first;
+    for row in rows {
+        gathered.put_row(alloc, keeper, target, prefs, document, *row)?;
+        document += 1;
+    }
+    Ok(gathered)
+}
