@@ -41,14 +41,14 @@ fn is_put(
     let value = vec![in alloc; 7; count]?;
     let mut batch = Batch::new(alloc);
     batch.put(Vec::from_slice(alloc, &[key])?, value)?;
-    Ok(heap.apply(alloc, site, &batch).is_ok())
+    Ok(heap.apply(alloc, site, batch).is_ok())
 }
 
 /// Whether the entry of a key of one byte goes.
 fn is_removed(alloc: Global, heap: &mut Heap, site: &mut MemSite, key: u8) -> Result<bool, Memory> {
     let mut batch = Batch::new(alloc);
     batch.remove(Vec::from_slice(alloc, &[key])?)?;
-    Ok(heap.apply(alloc, site, &batch).is_ok())
+    Ok(heap.apply(alloc, site, batch).is_ok())
 }
 
 /// How many bytes the value of a key of one byte has, if it is there and each byte is 7.

@@ -17,7 +17,7 @@ use Rattle.pg_heap.specs.FreePlaces.{NeedsPages, used_pages}
 use Rattle.pg_heap.specs.Committing.{AreEither}
 use Rattle.pg_heap.specs.laws.Committing.{done_holds}
 use Rattle.pg_heap.specs.Heaps.{HeapState, HeapStands, IsMap}
-use Rattle.pg_heap.specs.laws.Heaps.{either_maps, stays_maps}
+use Rattle.pg_heap.specs.laws.Heaps.{either_maps}
 
 pub commit_moments : (old new : DiskView) (homes : ℕ) (before now : List Kind) (m seen : Content) (changes : List Change) (heap : HeapState) → homes ≡ heap.homes → before ≡ heap.kinds → m ≡ heap.held → IsDone heap.kinds heap.held → IsDone now seen → seen ≡ after changes m
     → (DiskStands old homes (behind_root before) → Leaves old new (AreEither before now)) → HeapStands old heap → Leaves old new (λ image. IsMap heap.held image ⊎ IsMap (after changes heap.held) image)
@@ -25,10 +25,6 @@ commit_moments old new homes before now m seen changes heap homes_is before_is m
     either_maps old new before now heap.held (after changes heap.held) (subst (λ (ks : List Kind). IsDone ks heap.held) (sym before_is) done)
     (subst (IsDone now) (seen_is ∙ ap (after changes) m_is) made)
     (leaves (subst (λ (ks : List Kind). DiskStands old homes (behind_root ks)) (sym before_is) (subst (λ (n : ℕ). DiskStands old n (behind_root heap.kinds)) (sym homes_is) st)))
-
--- nothing was written
-pub same_moments : (disk : DiskView) (changes : List Change) (heap : HeapState) → IsDone heap.kinds heap.held → HeapStands disk heap → Leaves disk disk (λ image. IsMap heap.held image ⊎ IsMap (after changes heap.held) image)
-same_moments disk changes heap done st = stays_maps disk heap.homes heap.kinds heap.held (after changes heap.held) done st
 
 -- the file was lengthened
 pub fill_moments : (old new : DiskView) (homes : ℕ) (changes : List Change) (heap : HeapState) → homes ≡ heap.homes → IsDone heap.kinds heap.held

@@ -13,7 +13,7 @@ use Rattle.pg_map.specs.Kinds.{Each, Kind, Free, bytes_of_kind, IsKind}
 use Rattle.pg_map.specs.laws.MapReading.{kind_is}
 use Rattle.pg_map.specs.laws.Sheets.{length-sheet_kinds}
 use Rattle.pg_map.specs.Sheets.{sheet_kind, sheet_kinds}
-use Rattle.pg_heap.specs.Drafts.{undone, touched_by}
+use Rattle.pg_heap.specs.Drafts.{kind_kept, undone, touched_by}
 use Rattle.pg_heap.specs.DraftFields.{IsDraftOf}
 use Rattle.pg_map.specs.MapReading.{behind_root}
 use Rattle.pg_heap.specs.Committing.{IsBatchOf, IsOneMore}
@@ -109,11 +109,11 @@ touched_or : (notes : List Note) (ks : List Kind) (j : ℕ) → IsNoted notes j 
 touched_or [] ks j = inr refl
 touched_or (n ∷ ns) ks j = of (touched_or ns ks j) (n.at == j) (λ e. grind (arith, e)) (λ e. grind (arith, e))
   where
-    of : IsNoted ns j ⊎ (get_or (undone ns ks) j Free ≡ get_or ks j Free) → (t : Bool) → (t ≡ true → n.at ≡ j) → (t ≡ false → n.at ≢ j) → IsNoted (n ∷ ns) j ⊎ (get_or (set (undone ns ks) n.at (sheet_kind n.sheet)) j Free ≡ get_or ks j Free)
+    of : IsNoted ns j ⊎ (get_or (undone ns ks) j Free ≡ get_or ks j Free) → (t : Bool) → (t ≡ true → n.at ≡ j) → (t ≡ false → n.at ≢ j) → IsNoted (n ∷ ns) j ⊎ (get_or (set (undone ns ks) n.at (kind_kept n.old)) j Free ≡ get_or ks j Free)
     of rest true yes_ no_ = inl (record { k = 0; within = omega arith; is = λ d. yes_ refl })
     of rest false yes_ no_ = ⊎_elim
         (λ r. inl (record { k = suc r.k; within = let w = r.within in omega (arith, w); is = r.is }))
-        (λ same_. inr (set_other (undone ns ks) n.at j (sheet_kind n.sheet) (no_ refl) ∙ same_)) rest
+        (λ same_. inr (set_other (undone ns ks) n.at j (kind_kept n.old) (no_ refl) ∙ same_)) rest
 
 noted_by : (notes : List Note) (j : ℕ) → Contains (touched_by notes) j → IsNoted notes j
 noted_by notes j has = let at = at_from_Contains (touched_by notes) j has in of notes at.0 at.1 (at.2 0)

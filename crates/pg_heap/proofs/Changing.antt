@@ -8,13 +8,10 @@ use Rattle.std.specs.Option.{option_map, IfSome}
 use Rattle.ct_keep.specs.Changes.{AnyEntry, AreWell}
 use Rattle.std.specs.FinMap.{get}
 use Rattle.ct_keep.specs.Content.{Content, Change, set_to}
-use Rattle.ct_keep.specs.Laws.{same, same_itself, get-set_to, same_content}
-use Rattle.pg_map.specs.Kinds.{Each, Kind, Free, Slotted, Long, strings_of, StringItem, Short, Far, item_bytes, IsStringItem}
-use Rattle.pg_map.specs.Holding.{Placed, StandsFor}
-use Rattle.ct_keep.specs.Rising.{Entry}
-use Rattle.pg_map.specs.Holding.{bytes_of, entries_of}
+use Rattle.ct_keep.specs.laws.Content.{same, same_itself, same_keys, get-set_to, same_content}
+use Rattle.pg_map.specs.Kinds.{Each, Kind, Free, Slotted, Long, strings_of, StringItem, Short, Far, item_bytes, IsStringItem, key_in_item, Entry}
+use Rattle.pg_map.specs.Holding.{Placed, StandsFor, bytes_of, entries_of}
 use Rattle.pg_map.specs.Loose.{held}
-use Rattle.pg_map.specs.Kinds.{key_in_item}
 use Rattle.pg_map.specs.laws.MapReading.{in_more, not_in_none}
 use Rattle.pg_map.specs.laws.Whole.{value_there}
 use Rattle.pg_map.specs.laws.Holding.{stands_key}
@@ -130,7 +127,7 @@ without_key : (m : Content) (key : List ℕ) → get m key ≡ None → set_to k
 without_key m key none = same_content (set_to key None m) m (λ q. get-set_to key None m q ∙ of q (same q key) refl)
   where
     of : (q : List ℕ) (b : Bool) → same q key ≡ b → cond (same q key) None (get m q) ≡ get m q
-    of q true is = ap (λ (b : Bool). cond b None (get m q)) is ∙ sym none ∙ sym (ap (get m) (Rattle.ct_keep.specs.Laws.same_keys q key is))
+    of q true is = ap (λ (b : Bool). cond b None (get m q)) is ∙ sym none ∙ sym (ap (get m) (same_keys q key is))
     of q false is = ap (λ (b : Bool). cond b None (get m q)) is
 
 pub put_over : (m : Content) (key value : List ℕ) → set_to key (Some value) (set_to key None m) ≡ set_to key (Some value) m

@@ -1,7 +1,7 @@
 -- The strings of a page, one by one.
 use Rattle.std.proofs.Common.{◌≤◌, ◌<◌, ◌≡◌, ◌≢◌, Bool, true, false, ◌==◌, ℕ, zero, suc, ◌+◌, List, [], ◌∷◌, ◌++◌, length, get_or, drop, drop-cons, refl, sym, ap, ◌∙◌, append_assoc, append-nil, length-append, arith}
 use Rattle.pg_page.specs.Pages.{taken, Fits, free}
-use Rattle.pg_page.specs.ReadLaws.{taken-append}
+use Rattle.pg_page.specs.laws.Reading.{taken-append}
 use Rattle.pg_map.specs.Kinds.{StringItem, item_bytes, IsStringItem, key_in_item}
 use Rattle.pg_heap.specs.Slots.{without_at, left_from}
 

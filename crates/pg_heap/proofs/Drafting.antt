@@ -1,13 +1,15 @@
 -- One page of a draft more.
-use Rattle.std.proofs.Common.{◌≤◌, ◌<◌, ◌≡◌, ◌≢◌, Bool, true, false, ◌==◌, length-append, ℕ, zero, suc, ◌+◌, ◌-◌, List, [], ◌∷◌, ◌++◌, length, get_or, set, take, Some, None, refl, sym, ap, subst, ◌∙◌, arith}
+use Rattle.std.proofs.Common.{◌≤◌, ◌<◌, ◌≡◌, ◌≢◌, Bool, true, false, ◌==◌, length-append, ℕ, zero, suc, ◌+◌, ◌-◌, List, [], ◌∷◌, ◌++◌, length, get_or, set, take, Option, Some, None, Box, Global, ⊎_elim, refl, sym, ap, subst, ◌∙◌, arith}
 use Rattle.std.specs.List.{Contains, slice_get}
 use Rattle.std.specs.Option.{option_map}
 use Rattle.std.proofs.lemmas.Option.{slice_get-map}
+use Rattle.std.proofs.lemmas.Bool.{cases_lt}
 use Rattle.pg_heap.specs.declared.drafts.Note.{Note}
 use Rattle.pg_map.specs.declared.sheets.Sheet.{Sheet}
-use Rattle.pg_map.specs.Kinds.{Each, Kind}
+use Rattle.pg_map.specs.declared.sheets.Sheet.TheVariants.{Free as FreeSheet}
+use Rattle.pg_map.specs.Kinds.{Each, Kind, Free}
 use Rattle.pg_map.specs.Sheets.{sheet_kind, sheet_kinds}
-use Rattle.pg_heap.specs.Drafts.{undone, touched_by, Drafted, EndsWith}
+use Rattle.pg_heap.specs.Drafts.{kind_kept, undone, touched_by, Drafted, EndsWith}
 use Rattle.pg_heap.specs.DraftFields.{draft_of, IsDraftOf}
 use Rattle.std.proofs.lemmas.List.Elements.{Contains-append_left, Contains-push}
 use Rattle.std.proofs.lemmas.List.{length-set, length-map}
@@ -18,28 +20,57 @@ kinds_set [] at x = refl
 kinds_set (y ∷ xs) zero x = refl
 kinds_set (y ∷ xs) (suc at) x = ap (λ (l : List Kind). sheet_kind y ∷ l) (kinds_set xs at x)
 
-pub undone-push : (ns : List Note) (n : Note) (ks : List Kind) → undone (ns ++ n ∷ []) ks ≡ undone ns (set ks n.at (sheet_kind n.sheet))
+pub undone-push : (ns : List Note) (n : Note) (ks : List Kind) → undone (ns ++ n ∷ []) ks ≡ undone ns (set ks n.at (kind_kept n.old))
 undone-push [] n ks = refl
-undone-push (o ∷ ns) n ks = ap (λ (l : List Kind). set l o.at (sheet_kind o.sheet)) (undone-push ns n ks)
+undone-push (o ∷ ns) n ks = ap (λ (l : List Kind). set l o.at (kind_kept o.old)) (undone-push ns n ks)
 
-set_back : (xs : List Sheet) (at : ℕ) (old new : Sheet) → at < length xs → get_or xs at old ≡ old → set (set (sheet_kinds xs) at (sheet_kind new)) at (sheet_kind old) ≡ sheet_kinds xs
+set_back : (ks : List Kind) (at : ℕ) (old new : Kind) → at < length ks → old ≡ get_or ks at Free → set (set ks at new) at old ≡ ks
 set_back [] at old new within is = refl
-set_back (y ∷ xs) zero old new within is = ap (λ (x : Sheet). sheet_kind x ∷ sheet_kinds xs) (sym is)
-set_back (y ∷ xs) (suc at) old new within is = ap (λ (l : List Kind). sheet_kind y ∷ l) (set_back xs at old new (omega (arith, within)) is)
+set_back (k ∷ ks) zero old new within is = ap (λ (x : Kind). x ∷ ks) is
+set_back (k ∷ ks) (suc at) old new within is = ap (λ (l : List Kind). k ∷ l) (set_back ks at old new (omega (arith, within)) is)
+
+-- ---- the first so many pages
+
+take_set : (ks : List Kind) (b at : ℕ) (k : Kind) → b ≤ at → take b (set ks at k) ≡ take b ks
+take_set ks zero at k behind = refl
+take_set [] (suc b) at k behind = refl
+take_set (j ∷ ks) (suc b) zero k behind = absurd (omega (arith, behind))
+take_set (j ∷ ks) (suc b) (suc at) k behind = ap (λ (l : List Kind). j ∷ l) (take_set ks b at k (omega (arith, behind)))
+
+-- the first pages after a change are those after it over the first pages
+set_take : (ks : List Kind) (b at : ℕ) (k : Kind) → take b (set ks at k) ≡ set (take b ks) at k
+set_take ks zero at k = refl
+set_take [] (suc b) at k = refl
+set_take (j ∷ ks) (suc b) zero k = refl
+set_take (j ∷ ks) (suc b) (suc at) k = ap (λ (l : List Kind). j ∷ l) (set_take ks b at k)
+
+undone_take : (ns : List Note) (ks : List Kind) (b : ℕ) → take b (undone ns ks) ≡ undone ns (take b ks)
+undone_take [] ks b = refl
+undone_take (n ∷ ns) ks b = set_take (undone ns ks) b n.at (kind_kept n.old) ∙ ap (λ (l : List Kind). set l n.at (kind_kept n.old)) (undone_take ns ks b)
+
+-- a page that was there is put back, and one behind the first so many doesn't matter
+first_back : (ks : List Kind) (b at : ℕ) (old new : Kind) → at < length ks → (at < b → old ≡ get_or ks at Free) → take b (set (set ks at new) at old) ≡ take b ks
+first_back ks b at old new within kept = ⊎_elim
+    (λ front. ap (take b) (set_back ks at old new within (kept front)))
+    (λ behind. take_set (set ks at new) b at old behind ∙ take_set ks b at new behind) (cases_lt at b)
 
 touched-push : (ns : List Note) (n : Note) → touched_by (ns ++ n ∷ []) ≡ touched_by ns ++ n.at ∷ []
 touched-push [] n = refl
 touched-push (o ∷ ns) n = ap (λ (l : List ℕ). o.at ∷ l) (touched-push ns n)
 
-pub set_view : (sheets sheets1 : List Sheet) (notes notes1 : List Note) (b at : ℕ) (old new : Sheet) (d : Drafted) → draft_of sheets notes b ≡ d → sheets1 ≡ set sheets at new → get_or sheets at old ≡ old → at < length sheets
-    → notes1 ≡ notes ++ record { at = at; sheet = old } ∷ [] → draft_of sheets1 notes1 b ≡ record { before = d.before; now = set d.now at (sheet_kind new); touched = d.touched ++ at ∷ [] }
-set_view sheets sheets1 notes notes1 b at old new d is put was within note =
-    let n : Note = record { at = at; sheet = old } in
+pub set_view : (sheets sheets1 : List Sheet) (notes notes1 : List Note) (b at : ℕ) (old : Option (Box Sheet Global)) (new : Sheet) (d : Drafted) → draft_of sheets notes b ≡ d → sheets1 ≡ set sheets at new
+    → (at < b → kind_kept old ≡ get_or (sheet_kinds sheets) at Free) → at < length sheets → notes1 ≡ notes ++ record { at = at; old = old } ∷ []
+    → draft_of sheets1 notes1 b ≡ record { before = d.before; now = set d.now at (sheet_kind new); touched = d.touched ++ at ∷ [] }
+set_view sheets sheets1 notes notes1 b at old new d is put kept within note =
+    let n : Note = record { at = at; old = old } in
     let now : sheet_kinds sheets1 ≡ set (sheet_kinds sheets) at (sheet_kind new) = ap sheet_kinds put ∙ kinds_set sheets at new in
-    let before : undone notes1 (sheet_kinds sheets1) ≡ undone notes (sheet_kinds sheets) =
-    ap (λ (l : List Note). undone l (sheet_kinds sheets1)) note ∙ undone-push notes n (sheet_kinds sheets1) ∙ ap (λ (l : List Kind). undone notes (set l at (sheet_kind old))) now ∙ ap (undone notes) (set_back sheets at old new within was) in
+    let again : take b (set (sheet_kinds sheets1) at (kind_kept old)) ≡ take b (sheet_kinds sheets) =
+    ap (λ (l : List Kind). take b (set l at (kind_kept old))) now ∙ first_back (sheet_kinds sheets) b at (kind_kept old) (sheet_kind new) (let e = length-sheet_kinds sheets in omega (arith, e, within)) kept in
+    let before : take b (undone notes1 (sheet_kinds sheets1)) ≡ take b (undone notes (sheet_kinds sheets)) =
+    ap (λ (l : List Note). take b (undone l (sheet_kinds sheets1))) note ∙ ap (take b) (undone-push notes n (sheet_kinds sheets1)) ∙ undone_take notes (set (sheet_kinds sheets1) at (kind_kept old)) b
+    ∙ ap (undone notes) again ∙ sym (undone_take notes (sheet_kinds sheets) b) in
     let touched : touched_by notes1 ≡ touched_by notes ++ at ∷ [] = ap touched_by note ∙ touched-push notes n in
-    ap (λ (l : List Kind). record { before = take b l; now = sheet_kinds sheets1; touched = touched_by notes1 }) before
+    ap (λ (l : List Kind). record { before = l; now = sheet_kinds sheets1; touched = touched_by notes1 }) before
     ∙ ap (λ (l : List Kind). record { before = take b (undone notes (sheet_kinds sheets)); now = l; touched = touched_by notes1 }) now
     ∙ ap (λ (l : List ℕ). record { before = take b (undone notes (sheet_kinds sheets)); now = set (sheet_kinds sheets) at (sheet_kind new); touched = l }) touched
     ∙ ap (λ (x : Drafted). record { before = x.before; now = set x.now at (sheet_kind new); touched = x.touched ++ at ∷ [] }) is
@@ -56,13 +87,13 @@ undone_last [] ks at x [] is = cc
 undone_last [] ks at x (f ∷ fs) is = cc
 undone_last (n ∷ []) ks at x [] is =
     let here : n.at ≡ at = cc in
-    ap (λ (i : ℕ). set (set ks at x) i (sheet_kind n.sheet)) here ∙ set_twice ks at x (sheet_kind n.sheet) ∙ ap (λ (i : ℕ). set ks i (sheet_kind n.sheet)) (sym here)
+    ap (λ (i : ℕ). set (set ks at x) i (kind_kept n.old)) here ∙ set_twice ks at x (kind_kept n.old) ∙ ap (λ (i : ℕ). set ks i (kind_kept n.old)) (sym here)
 undone_last (n ∷ []) ks at x (f ∷ []) is = let no : [] ≡ at ∷ [] = cc in cc
 undone_last (n ∷ []) ks at x (f ∷ g ∷ fs) is = let no : [] ≡ g ∷ (fs ++ at ∷ []) = cc in cc
 undone_last (n ∷ m ∷ ns) ks at x [] is = let no : touched_by (m ∷ ns) ≡ [] = cc in cc
 undone_last (n ∷ m ∷ ns) ks at x (f ∷ fs) is =
     let rest : touched_by (m ∷ ns) ≡ fs ++ at ∷ [] = cc in
-    ap (λ (l : List Kind). set l n.at (sheet_kind n.sheet)) (undone_last (m ∷ ns) ks at x fs rest)
+    ap (λ (l : List Kind). set l n.at (kind_kept n.old)) (undone_last (m ∷ ns) ks at x fs rest)
 
 pub again_view : (sheets sheets1 : List Sheet) (notes : List Note) (b at : ℕ) (new : Sheet) (d : Drafted) → draft_of sheets notes b ≡ d → sheets1 ≡ set sheets at new → EndsWith d.touched at
     → draft_of sheets1 notes b ≡ record { before = d.before; now = set d.now at (sheet_kind new); touched = d.touched }
@@ -106,9 +137,10 @@ length-set1 [] at x = refl
 length-set1 (y ∷ xs) zero x = refl
 length-set1 (y ∷ xs) (suc at) x = ap suc (length-set1 xs at x)
 
-pub draft_set : (sheets sheets1 : List Sheet) (notes notes1 : List Note) (b at : ℕ) (old new : Sheet) → IsDraftOf sheets notes b → sheets1 ≡ set sheets at new → at < length sheets → notes1 ≡ notes ++ record { at = at; sheet = old } ∷ [] → IsDraftOf sheets1 notes1 b
+pub draft_set : (sheets sheets1 : List Sheet) (notes notes1 : List Note) (b at : ℕ) (old : Option (Box Sheet Global)) (new : Sheet) → IsDraftOf sheets notes b → sheets1 ≡ set sheets at new → at < length sheets
+    → notes1 ≡ notes ++ record { at = at; old = old } ∷ [] → IsDraftOf sheets1 notes1 b
 draft_set sheets sheets1 notes notes1 b at old new is put within note =
-    let n : Note = record { at = at; sheet = old } in
+    let n : Note = record { at = at; old = old } in
     let count : length sheets1 ≡ length sheets = ap (λ (l : List Sheet). length l) put ∙ length-set1 sheets at new in
     record {
       within = subst (Each (λ (n : Note). n.at < length sheets1)) (sym note) (note_more notes n (length sheets1) (omega (arith, count, within)) (each_note notes (length sheets) (length sheets1) (omega (arith, count)) is.within));
@@ -121,7 +153,7 @@ at_within sheets notes b at d is within = let e : length (sheet_kinds sheets) �
 
 pub length-undone : (ns : List Note) (ks : List Kind) → length (undone ns ks) ≡ length ks
 length-undone [] ks = refl
-length-undone (n ∷ ns) ks = length-set (undone ns ks) n.at (sheet_kind n.sheet) ∙ length-undone ns ks
+length-undone (n ∷ ns) ks = length-set (undone ns ks) n.at (kind_kept n.old) ∙ length-undone ns ks
 
 set-front : (ks : List Kind) (k x : Kind) (at : ℕ) → at < length ks → set (ks ++ k ∷ []) at x ≡ set ks at x ++ k ∷ []
 set-front [] k x at within = absurd (omega (arith, within))
@@ -131,7 +163,7 @@ set-front (y ∷ ks) k x (suc at) within = ap (λ (l : List Kind). y ∷ l) (set
 undone-end : (ns : List Note) (ks : List Kind) (k : Kind) → Each (λ (n : Note). n.at < length ks) ns → undone ns (ks ++ k ∷ []) ≡ undone ns ks ++ k ∷ []
 undone-end [] ks k within = refl
 undone-end (n ∷ ns) ks k within =
-    ap (λ (l : List Kind). set l n.at (sheet_kind n.sheet)) (undone-end ns ks k within.1) ∙ set-front (undone ns ks) k (sheet_kind n.sheet) n.at (let e = within.0 in omega (arith, e, length-undone ns ks))
+    ap (λ (l : List Kind). set l n.at (kind_kept n.old)) (undone-end ns ks k within.1) ∙ set-front (undone ns ks) k (kind_kept n.old) n.at (let e = within.0 in omega (arith, e, length-undone ns ks))
 
 set_end : (ks : List Kind) (k : Kind) → set (ks ++ k ∷ []) (length ks) k ≡ ks ++ k ∷ []
 set_end [] k = refl
@@ -149,28 +181,28 @@ kinds-push (y ∷ xs) x = ap (λ (l : List Kind). sheet_kind y ∷ l) (kinds-pus
 each_kinds : (sheets : List Sheet) (ns : List Note) → Each (λ (n : Note). n.at < length sheets) ns → Each (λ (n : Note). n.at < length (sheet_kinds sheets)) ns
 each_kinds sheets ns all = each_note ns (length sheets) (length (sheet_kinds sheets)) (let e = length-sheet_kinds sheets in omega (arith, e)) all
 
-pub grow_view : (sheets sheets1 : List Sheet) (notes notes1 : List Note) (b at : ℕ) (x : Sheet) (d : Drafted) → IsDraftOf sheets notes b → draft_of sheets notes b ≡ d → sheets1 ≡ sheets ++ x ∷ [] → at ≡ length sheets
-    → notes1 ≡ notes ++ record { at = at; sheet = x } ∷ [] → draft_of sheets1 notes1 b ≡ record { before = d.before; now = d.now ++ sheet_kind x ∷ []; touched = d.touched ++ length d.now ∷ [] }
-grow_view sheets sheets1 notes notes1 b at x d good is put where_ note =
-    let n : Note = record { at = at; sheet = x } in
-    let now : sheet_kinds sheets1 ≡ sheet_kinds sheets ++ sheet_kind x ∷ [] = ap sheet_kinds put ∙ kinds-push sheets x in
+pub grow_view : (sheets sheets1 : List Sheet) (notes notes1 : List Note) (b at : ℕ) (d : Drafted) → IsDraftOf sheets notes b → draft_of sheets notes b ≡ d → sheets1 ≡ sheets ++ FreeSheet ∷ [] → at ≡ length sheets
+    → notes1 ≡ notes ++ record { at = at; old = None } ∷ [] → draft_of sheets1 notes1 b ≡ record { before = d.before; now = d.now ++ Free ∷ []; touched = d.touched ++ length d.now ∷ [] }
+grow_view sheets sheets1 notes notes1 b at d good is put where_ note =
+    let n : Note = record { at = at; old = None } in
+    let now : sheet_kinds sheets1 ≡ sheet_kinds sheets ++ Free ∷ [] = ap sheet_kinds put ∙ kinds-push sheets FreeSheet in
     let at_is : at ≡ length (sheet_kinds sheets) = where_ ∙ sym (length-sheet_kinds sheets) in
-    let before : undone notes1 (sheet_kinds sheets1) ≡ undone notes (sheet_kinds sheets) ++ sheet_kind x ∷ [] =
-    ap (λ (l : List Note). undone l (sheet_kinds sheets1)) note ∙ undone-push notes n (sheet_kinds sheets1) ∙ ap (λ (l : List Kind). undone notes (set l at (sheet_kind x))) now
-    ∙ ap (λ (i : ℕ). undone notes (set (sheet_kinds sheets ++ sheet_kind x ∷ []) i (sheet_kind x))) at_is ∙ ap (undone notes) (set_end (sheet_kinds sheets) (sheet_kind x))
-    ∙ undone-end notes (sheet_kinds sheets) (sheet_kind x) (each_kinds sheets notes good.within) in
+    let before : undone notes1 (sheet_kinds sheets1) ≡ undone notes (sheet_kinds sheets) ++ Free ∷ [] =
+    ap (λ (l : List Note). undone l (sheet_kinds sheets1)) note ∙ undone-push notes n (sheet_kinds sheets1) ∙ ap (λ (l : List Kind). undone notes (set l at Free)) now
+    ∙ ap (λ (i : ℕ). undone notes (set (sheet_kinds sheets ++ Free ∷ []) i Free)) at_is ∙ ap (undone notes) (set_end (sheet_kinds sheets) Free)
+    ∙ undone-end notes (sheet_kinds sheets) Free (each_kinds sheets notes good.within) in
     let first : take b (undone notes1 (sheet_kinds sheets1)) ≡ take b (undone notes (sheet_kinds sheets)) =
-    ap (take b) before ∙ take_front (undone notes (sheet_kinds sheets)) (sheet_kind x) b (let e = good.grown in omega (arith, e, length-undone notes (sheet_kinds sheets), length-sheet_kinds sheets)) in
+    ap (take b) before ∙ take_front (undone notes (sheet_kinds sheets)) Free b (let e = good.grown in omega (arith, e, length-undone notes (sheet_kinds sheets), length-sheet_kinds sheets)) in
     let touched : touched_by notes1 ≡ touched_by notes ++ length (sheet_kinds sheets) ∷ [] = ap touched_by note ∙ touched-push notes n ∙ ap (λ (i : ℕ). touched_by notes ++ i ∷ []) at_is in
     ap (λ (l : List Kind). record { before = l; now = sheet_kinds sheets1; touched = touched_by notes1 }) first
     ∙ ap (λ (l : List Kind). record { before = take b (undone notes (sheet_kinds sheets)); now = l; touched = touched_by notes1 }) now
-    ∙ ap (λ (l : List ℕ). record { before = take b (undone notes (sheet_kinds sheets)); now = sheet_kinds sheets ++ sheet_kind x ∷ []; touched = l }) touched
-    ∙ ap (λ (y : Drafted). record { before = y.before; now = y.now ++ sheet_kind x ∷ []; touched = y.touched ++ length y.now ∷ [] }) is
+    ∙ ap (λ (l : List ℕ). record { before = take b (undone notes (sheet_kinds sheets)); now = sheet_kinds sheets ++ Free ∷ []; touched = l }) touched
+    ∙ ap (λ (y : Drafted). record { before = y.before; now = y.now ++ Free ∷ []; touched = y.touched ++ length y.now ∷ [] }) is
 
-pub draft_grown : (sheets sheets1 : List Sheet) (notes notes1 : List Note) (b at : ℕ) (x : Sheet) → IsDraftOf sheets notes b → sheets1 ≡ sheets ++ x ∷ [] → at ≡ length sheets → notes1 ≡ notes ++ record { at = at; sheet = x } ∷ [] → IsDraftOf sheets1 notes1 b
-draft_grown sheets sheets1 notes notes1 b at x is put where_ note =
-    let n : Note = record { at = at; sheet = x } in
-    let count : length sheets1 ≡ length sheets + 1 = ap (λ (l : List Sheet). length l) put ∙ length-append sheets (x ∷ []) in
+pub draft_grown : (sheets sheets1 : List Sheet) (notes notes1 : List Note) (b at : ℕ) → IsDraftOf sheets notes b → sheets1 ≡ sheets ++ FreeSheet ∷ [] → at ≡ length sheets → notes1 ≡ notes ++ record { at = at; old = None } ∷ [] → IsDraftOf sheets1 notes1 b
+draft_grown sheets sheets1 notes notes1 b at is put where_ note =
+    let n : Note = record { at = at; old = None } in
+    let count : length sheets1 ≡ length sheets + 1 = ap (λ (l : List Sheet). length l) put ∙ length-append sheets (FreeSheet ∷ []) in
     let touched : touched_by notes1 ≡ touched_by notes ++ at ∷ [] = ap touched_by note ∙ touched-push notes n in
     record {
       within = subst (Each (λ (n : Note). n.at < length sheets1)) (sym note) (note_more notes n (length sheets1) (omega (arith, count, where_)) (each_note notes (length sheets) (length sheets1) (omega (arith, count)) is.within));
@@ -192,12 +224,12 @@ pub record Undoes (sheets sheets1 : List Sheet) (notes notes1 : List Note) : Typ
   pub within : Each (λ (n : Note). n.at < length sheets1) notes1
   pub same_ : undone notes1 (sheet_kinds sheets1) ≡ undone notes (sheet_kinds sheets)
 
-pub undoes_step : (sheets xs ys : List Sheet) (notes ns ms : List Note) (n : Note) → Undoes sheets xs notes ns → ns ≡ ms ++ n ∷ [] → ys ≡ set xs n.at n.sheet → Undoes sheets ys notes ms
-undoes_step sheets xs ys notes ns ms n is last put =
-    let count : length ys ≡ length xs = ap (λ (l : List Sheet). length l) put ∙ length-set1 xs n.at n.sheet in
+pub undoes_step : (sheets xs ys : List Sheet) (notes ns ms : List Note) (n : Note) (old : Sheet) → Undoes sheets xs notes ns → ns ≡ ms ++ n ∷ [] → sheet_kind old ≡ kind_kept n.old → ys ≡ set xs n.at old → Undoes sheets ys notes ms
+undoes_step sheets xs ys notes ns ms n old is last kept put =
+    let count : length ys ≡ length xs = ap (λ (l : List Sheet). length l) put ∙ length-set1 xs n.at old in
     record {
       within = each_note ms (length xs) (length ys) (omega (arith, count)) (within_front ms n (length xs) (subst (Each (λ (n : Note). n.at < length xs)) last is.within)).1;
-      same_ = ap (λ (l : List Sheet). undone ms (sheet_kinds l)) put ∙ ap (undone ms) (kinds_set xs n.at n.sheet) ∙ sym (undone-push ms n (sheet_kinds xs)) ∙ sym (ap (λ (l : List Note). undone l (sheet_kinds xs)) last) ∙ is.same_;
+      same_ = ap (λ (l : List Sheet). undone ms (sheet_kinds l)) put ∙ ap (undone ms) (kinds_set xs n.at old ∙ ap (set (sheet_kinds xs) n.at) kept) ∙ sym (undone-push ms n (sheet_kinds xs)) ∙ sym (ap (λ (l : List Note). undone l (sheet_kinds xs)) last) ∙ is.same_;
     }
 
 pub undoes_within : (sheets xs : List Sheet) (notes ns ms : List Note) (n : Note) → Undoes sheets xs notes ns → ns ≡ ms ++ n ∷ [] → n.at < length xs

@@ -5,15 +5,14 @@ use Rattle.std.proofs.Common.{◌≤◌, ◌<◌, ◌≡◌, ◌⊎◌, inl, inr
 use Rattle.std.specs.FinMap.{get, insert, remove, empty, get-insert, get-remove}
 use Rattle.std.proofs.lemmas.Cmp.{nat_list_cmp_total}
 use Rattle.ct_keep.specs.Content.{Content, Change, set_to, after}
-use Rattle.ct_keep.specs.Laws.{same, same_itself, same_keys, after-append}
+use Rattle.ct_keep.specs.laws.Content.{same, same_itself, same_keys, after-append}
 use Rattle.ct_keep.specs.declared.batches.Change as rust
 use Rattle.ct_keep.specs.SeenChanges.{change_of}
 use Rattle.pg_page.specs.Pages.{Fits}
-use Rattle.pg_map.specs.Kinds.{Kind, Free, Slotted, Long, IsKind, strings_of, Short, Far, item_bytes}
+use Rattle.pg_map.specs.Kinds.{Kind, Free, Slotted, Long, IsKind, strings_of, Short, Far, item_bytes, key_in_item}
 use Rattle.pg_map.specs.Holding.{IsChain}
-use Rattle.pg_map.specs.Kinds.{key_in_item}
 use Rattle.pg_map.specs.MapReading.{nothing}
-use Rattle.pg_map.specs.laws.MapReading.{first_layout}
+use Rattle.pg_map.specs.laws.MapReading.{first_layout, kind_is}
 use Rattle.pg_map.specs.laws.Whole.{loosened}
 use Rattle.pg_map.specs.PageStrings.{string_key}
 use Rattle.pg_heap.specs.Slots.{without_at}
@@ -25,13 +24,12 @@ use Rattle.pg_heap.specs.Planned.{IsRoomier, IsPut, HasChain, HasNone, IsLongAt}
 use Rattle.pg_map.specs.Done.{IsPlanned, IsDone, HasKeyAt}
 use Rattle.pg_heap.specs.laws.Planned.{taken_at, freed_at}
 use Rattle.pg_heap.specs.laws.LooseSteps.{at_end}
-use Rattle.pg_map.specs.laws.MapReading.{kind_is}
 use Rattle.pg_heap.specs.BatchPages.{entry_pages, put_pages, changed_pages, long_pages}
 use Rattle.pg_heap.specs.PlanSteps.{MayAdd, NoNewKey, TakesPages, IsIndexed, MakesChange, MakesChanges}
 use Rattle.pg_heap.proofs.Copying.{without_fits}
 use Rattle.pg_map.specs.laws.PageStrings.{item_key}
 use Rattle.pg_heap.proofs.Taking.{item_at, without_cut}
-use Rattle.pg_page.specs.ReadLaws.{at_slot}
+use Rattle.pg_page.specs.laws.Reading.{at_slot}
 use Rattle.pg_heap.proofs.Planning.{HasRest, FreesLong}
 use Rattle.pg_heap.proofs.Changing.{short_done, far_done, somewhere, gone_none, put_over, changes_take}
 

@@ -6,8 +6,8 @@ use Rattle.std.specs.FinMap.{get}
 use Rattle.ct_keep.specs.Content.{Content, set_to}
 use Rattle.pg_heap.specs.BatchPages.{entry_pages, long_pages}
 use Rattle.pg_page.specs.Pages.{taken, Fits, free}
-use Rattle.pg_page.specs.PageLaws.{taken-push}
-use Rattle.pg_page.specs.ReadLaws.{at_slot}
+use Rattle.pg_page.specs.laws.Pages.{taken-push}
+use Rattle.pg_page.specs.laws.Reading.{at_slot}
 use Rattle.pg_map.specs.Kinds.{Each, Kind, Free, Slotted, strings_of, StringItem, Short, Far, item_bytes, IsStringItem, key_in_item, count_of}
 use Rattle.pg_map.specs.Holding.{Placed, one_if_long, bytes_of}
 use Rattle.pg_map.specs.laws.Holding.{strings-append}

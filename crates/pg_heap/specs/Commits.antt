@@ -1,7 +1,7 @@
--- What a call that commits pages leaves of the disk, of its count of faults, and of that of its syncs.
+-- What calls that commit pages or read them leave of the disk, of its count of faults, and of that of its syncs.
 use Rattle.std.specs.Prelude.{◌≡◌, ◌≤◌, ℕ, None, Result, Ok, Err, refl}
 use Rattle.ct_base.specs.Moments.{Grows}
-use Rattle.ct_site.specs.Disks.{DiskView}
+use Rattle.ct_site.specs.Disks.{DiskView, IsSame}
 use Rattle.pg_journal.specs.Syncs.{SyncsAtMost}
 use Rattle.ct_keep.specs.declared.keepers.KeepFault.{KeepFault}
 use Rattle.ct_keep.specs.declared.keepers.KeepFault.TheVariants.{Memory, Full, Disk}
@@ -16,6 +16,14 @@ pub record CommitsPages {T : Type 0} (old new : DiskView) (result : Result T Kee
   pub later : old.faults ≤ new.faults
   pub faults : new.faults ≡ disk_faults_after (fault_of result) old.faults
   pub syncs : SyncsAtMost 4 old new
+
+-- What a call that reads pages leaves of the disk, which to a reader is as it was, and of its count of faults.
+pub record ReadsPages {T : Type 0} (old new : DiskView) (result : Result T KeepFault) : Type 0 where
+  pub same : IsSame old new
+  pub beside : new.beside ≡ old.beside
+  pub kept : Grows old.time new.time
+  pub later : old.faults ≤ new.faults
+  pub faults : new.faults ≡ disk_faults_after (fault_of result) old.faults
 
 -- an answer that isn't Disk leaves the count
 pub same_faults : {T : Type 0} (result : Result T KeepFault) (n : ℕ) → (result ≡ Err Disk → ⊥) → n ≡ disk_faults_after (fault_of result) n

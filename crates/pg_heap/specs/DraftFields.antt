@@ -9,7 +9,7 @@ use Rattle.pg_map.specs.Sheets.{sheet_kinds}
 use Rattle.pg_heap.specs.Drafts.{undone, touched_by, Drafted}
 use Rattle.pg_map.specs.Kinds.{Free}
 use Rattle.pg_map.specs.declared.sheets.Sheet.TheVariants.{Free as FreeSheet}
-use Rattle.std.specs.Prelude.{◌≡◌, [], ◌∷◌, refl}
+use Rattle.std.specs.Prelude.{◌≡◌, [], ◌∷◌, None, refl}
 
 abbrev pub draft_of : List Sheet → List Note → ℕ → Drafted
 draft_of sheets notes before = record { before = take before (undone notes (sheet_kinds sheets)); now = sheet_kinds sheets; touched = touched_by notes }
@@ -30,5 +30,5 @@ abbrev pub IsDraft : Inside → Type 0
 IsDraft d = IsDraftOf d.sheets.items d.notes.items d.before
 
 -- ---- computed example: one page more, which has a note
-one_page_more : draft_of (FreeSheet ∷ []) (record { at = 0; sheet = FreeSheet } ∷ []) 0 ≡ record { before = []; now = Free ∷ []; touched = 0 ∷ [] }
+one_page_more : draft_of (FreeSheet ∷ []) (record { at = 0; old = None } ∷ []) 0 ≡ record { before = []; now = Free ∷ []; touched = 0 ∷ [] }
 one_page_more = refl

@@ -5,11 +5,11 @@ use Rattle.pg_heap.specs.declared.free_lists.FreeList.TheInside.{Inside}
 use Rattle.pg_heap.specs.FreePlaces.{FreePlaces}
 
 -- the first places are those before; so many of them are left, and those that were added stand behind
-abbrev pub places_of : List ℕ → ℕ → List ℕ → FreePlaces
-places_of first left added = record { before = first; now = take left first ++ added }
+abbrev pub free_places : List ℕ → ℕ → List ℕ → FreePlaces
+free_places first left added = record { before = first; now = take left first ++ added }
 
 abbrev pub free_places_of : Inside → FreePlaces
-free_places_of f = places_of f.first.items f.left f.added.items
+free_places_of f = free_places f.first.items f.left f.added.items
 
 -- There is memory to put those that were added behind the first.
 pub record IsFreeList (f : Inside) : Type 0 where
@@ -17,5 +17,5 @@ pub record IsFreeList (f : Inside) : Type 0 where
   pub memory : vec_len f.first + vec_len f.added ≤ vec_capacity f.first
 
 -- ---- computed example: one of two was taken, and one was added
-one_taken_and_one_added : places_of (3 ∷ 5 ∷ []) 1 (8 ∷ []) ≡ record { before = 3 ∷ 5 ∷ []; now = 3 ∷ 8 ∷ [] }
+one_taken_and_one_added : free_places (3 ∷ 5 ∷ []) 1 (8 ∷ []) ≡ record { before = 3 ∷ 5 ∷ []; now = 3 ∷ 8 ∷ [] }
 one_taken_and_one_added = refl

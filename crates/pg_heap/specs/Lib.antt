@@ -1,3 +1,4 @@
+pub mod Applying
 pub mod BatchPages
 pub mod Commits
 pub mod Committing
@@ -12,5 +13,6 @@ pub mod Loading
 pub mod PlanSteps
 pub mod Planned
 pub mod Recovering
+pub mod Removals
 pub mod Slots
 pub mod laws

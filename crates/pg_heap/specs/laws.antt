@@ -1,3 +1,4 @@
+pub mod Applying
 pub mod ChangedPages
 pub mod Commits
 pub mod Committing

@@ -1,6 +1,6 @@
 //! The plan of a batch: what it makes of pages, map and places, all in memory.
 
-ghost use Rattle.std.specs.Prelude.{true, ◌≡◌, ◌<◌, ◌≤◌, ◌+◌, ◌^◌, ◌&&◌, nat_lt, Err, IfOk, OnOk, length, map, max};
+ghost use Rattle.std.specs.Prelude.{true, ◌≡◌, ◌<◌, ◌≤◌, ◌+◌, ◌^◌, ◌&&◌, nat_lt, None, Err, IfOk, OnOk, length, map, max};
 ghost use Rattle.ct_keep.specs.Content.{weight};
 ghost use Rattle.ct_keep.specs.SeenChanges.{change_of};
 ghost use Rattle.ct_keep.specs.Changes.{AnyEntry, AreWell};
@@ -8,6 +8,7 @@ ghost use Rattle.pg_map.specs.Sheets.{sheet_kinds};
 ghost use Rattle.pg_map.specs.Done.{IsDone};
 ghost use Rattle.pg_heap.specs.PlanSteps.{IsIndexed};
 ghost use Rattle.pg_heap.specs.BatchPages.{put_pages};
+ghost use Rattle.pg_heap.specs.Removals.{removals_in};
 ghost use Rattle.pg_heap.specs.FreePlaces.{ListsFree, used_pages};
 ghost use Rattle.pg_heap.specs.HeapPages.{IsSound, IsUndoable, IsFresh, GoesBackAs, IsPlanMade};
 
@@ -21,6 +22,7 @@ use ct_keep::{Batch, Change, EntryMap, Transaction};
 use pg_journal::PageBatch;
 use pg_map::PlaceChanges;
 use std::alloc::Global;
+use std::mem::replace;
 
 /// Pages, map and places while a batch changes them. They can go back to what they were without taking memory.
 #[derive(Drop)]
@@ -30,29 +32,29 @@ pub(crate) struct BatchPlan {
     places: PlaceChanges,
     /// The weight of the map as it was.
     total: u64,
+    /// The changes, until they are handed to the map; from then on copies of those that take an entry away.
+    changes: Vec<Change>,
 }
 
-/// Copies of changes.
-fn copies(alloc: Global, changes: &[Change]) -> Result<Vec<Change>, Memory>
-    ensures { IfOk result (λ copies. map change_of copies.items ≡ map change_of changes.now) }
+/// Copies of the changes that take an entry away, in order.
+fn removals(alloc: Global, changes: &[Change]) -> Result<Vec<Change>, Memory>
+    ensures { IfOk result (λ removals. map change_of removals.items ≡ removals_in (map change_of changes.now)) }
 {
-    let mut copies = Vec::new(alloc);
+    let mut removals = Vec::new(alloc);
     for change in changes {
-        copies.push(copy(alloc, change)?)?;
+        if change.value.is_none() {
+            removals.push(removal(alloc, &change.key)?)?;
+        }
     }
-    Ok(copies)
+    Ok(removals)
 }
 
-/// A copy of a change.
-fn copy(alloc: Global, change: &Change) -> Result<Change, Memory>
-    ensures { IfOk result (λ copy. change_of copy ≡ change_of change.now) }
+/// The change that takes the entry of a key away.
+fn removal(alloc: Global, key: &[u8]) -> Result<Change, Memory>
+    ensures { IfOk result (λ removal. change_of removal ≡ (key.now, None)) }
 {
-    let key = Vec::from_slice(alloc, &change.key)?;
-    let value = match &change.value {
-        Some(value) => Some(Vec::from_slice(alloc, value)?),
-        None => None,
-    };
-    Ok(Change { key, value })
+    let key = Vec::from_slice(alloc, key)?;
+    Ok(Change { key, value: None })
 }
 
 impl BatchPlan {
@@ -75,32 +77,41 @@ impl BatchPlan {
             entries: held.begin(alloc),
             places: PlaceChanges::begin(alloc, places),
             total,
+            changes: Vec::new(alloc),
         }
     }
 
-    /// Makes the changes of a batch, and gives the pages that are to be committed.
+    /// Makes the changes of a batch, and gives the pages that are to be committed. The keys and values of the changes become those of the
+    /// map, without a copy.
     #[tactic(auto, using(crate::proofs::Stepping::needs_from, crate::proofs::Stepping::too_many))]
     pub(crate) fn make(
         &mut self,
         alloc: Global,
         hints: &mut Hints,
-        batch: &Batch,
+        batch: Batch,
     ) -> Result<PageBatch, PlanFault>
-        requires well { AreWell AnyEntry batch.now }
+        requires well { AreWell AnyEntry batch }
         requires undoable { IsUndoable self.old }
         requires fresh { IsFresh self.old }
         requires listed { ListsFree self.old.draft.now hints.old.free.now }
         ensures same { GoesBackAs self.old self.new }
         ensures kept { hints.new.free.before ≡ hints.old.free.before }
         ensures listed { OnOk result (ListsFree self.new.draft.now hints.new.free.now) }
-        ensures made { IfOk result (λ pages. IsPlanMade self.new batch.now pages.pages) }
-        ensures too_many { result ≡ Err PlanFault.TooMany → 2 ^ 31 ≤ 3 + max (length self.old.draft.before) (used_pages self.old.draft.before + put_pages batch.now) }
+        ensures made { IfOk result (λ pages. IsPlanMade self.new batch pages.pages) }
+        ensures too_many { result ≡ Err PlanFault.TooMany → 2 ^ 31 ≤ 3 + max (length self.old.draft.before) (used_pages self.old.draft.before + put_pages batch) }
     {
-        let changes = batch.changes();
-        do_changes(alloc, &mut self.draft, hints, &mut self.places, changes)?;
-        let Ok(changes) = copies(alloc, changes) else {
+        self.changes = batch.into_changes();
+        do_changes(
+            alloc,
+            &mut self.draft,
+            hints,
+            &mut self.places,
+            &self.changes,
+        )?;
+        let Ok(rest) = removals(alloc, &self.changes) else {
             return Err(PlanFault::Memory);
         };
+        let changes = replace(&mut self.changes, rest);
         let Ok(()) = self.entries.do_changes(alloc, changes) else {
             return Err(PlanFault::Memory);
         };
@@ -122,18 +133,21 @@ impl BatchPlan {
         total > limit as u128 && total > self.total as u128
     }
 
-    /// The pages as they were. It takes no memory.
-    pub(crate) fn roll_back(self) -> Pages
+    /// The pages as they were, and the list of free ones goes back to what it was. It takes no memory.
+    pub(crate) fn roll_back(self, hints: &mut Hints) -> Pages
         requires { IsUndoable self }
         ensures sound { IsSound result }
         ensures kinds { sheet_kinds result.sheets.items ≡ self.draft.before }
         ensures held { result.held ≡ self.entries.before }
+        ensures free { hints.new.free ≡ record { before = hints.old.free.before; now = hints.old.free.before } }
     {
+        hints.free.roll_back();
         let BatchPlan {
             draft,
             entries,
             places,
             total,
+            ..
         } = self;
         Pages {
             sheets: draft.roll_back(),
@@ -142,7 +156,7 @@ impl BatchPlan {
         }
     }
 
-    /// The pages that the batch has made. It takes no memory.
+    /// The pages that the batch has made, without the places of keys whose entries it took away. It takes no memory.
     pub(crate) fn finish(self) -> Pages
         requires bound { weight self.entries.seen < 2 ^ 64 }
         requires done { IsDone self.draft.now self.entries.seen }
@@ -155,13 +169,16 @@ impl BatchPlan {
             draft,
             entries,
             places,
+            changes,
             ..
         } = self;
         let total = entries.weight() as u64;
-        Pages {
+        let mut pages = Pages {
             sheets: draft.finish(),
             held: EntryMap::of(entries.finish(), total),
             places: places.finish(),
-        }
+        };
+        pages.forget(&changes);
+        pages
     }
 }

@@ -1,11 +1,11 @@
 //! Pages that are changed in memory.
 
-ghost use Rattle.std.specs.Prelude.{◌≡◌, ◌<◌, ◌≤◌, ◌+◌, ◌^◌, IsTrue, IsFalse, IfOk, ◌++◌, ◌∷◌, [], OnOk, OnErr, length, get_or, set};
+ghost use Rattle.std.specs.Prelude.{true, false, ◌≡◌, ◌≢◌, ◌<◌, ◌≤◌, ◌+◌, ◌^◌, IsTrue, IsFalse, IfOk, ◌++◌, ◌∷◌, [], OnOk, OnErr, length, get_or, set};
 ghost use Rattle.pg_map.specs.Kinds.{Each, Free, IsKind, bytes_of_kind};
 ghost use Rattle.pg_heap.specs.Committing.{IsBatchOf, IsOneMore};
 ghost use Rattle.pg_map.specs.Sheets.{sheet_kind, sheet_kinds};
 ghost use Rattle.std.specs.List.Sorted.{IsPermutation};
-ghost use Rattle.pg_heap.specs.Drafts.{undone, touched_by, with_free_page, EndsWith};
+ghost use Rattle.pg_heap.specs.Drafts.{kind_kept, undone, touched_by, with_free_page, EndsWith};
 ghost use Rattle.pg_heap.specs.DraftFields.{AreOnSheets};
 
 use ct_base::Memory;
@@ -13,18 +13,19 @@ use pg_journal::PageBatch;
 use pg_map::{Sheet, root_bytes};
 use std::alloc::Global;
 use std::marker::Model;
-use std::mem::replace;
+use std::mem::swap;
 
-/// What a page was before it was changed.
+/// What a page was before it was changed. Nothing is kept of one that was free, nor of one that the batch has added.
 #[derive(Debug, Drop)]
 pub(crate) struct Note {
     at: usize,
-    sheet: Sheet,
+    old: Option<Box<Sheet>>,
 }
 
 /// Pages behind the root that are changed one by one, and can go back to what they were without taking memory.
 #[derive(Debug, Drop)]
 pub(crate) struct Draft {
+    alloc: Global,
     sheets: Vec<Sheet>,
     notes: Vec<Note>,
     /// How many pages there were.
@@ -49,6 +50,7 @@ impl Draft {
     {
         let before = sheets.len();
         Draft {
+            alloc,
             sheets,
             notes: Vec::new(alloc),
             before,
@@ -62,8 +64,8 @@ impl Draft {
         ensures err { OnErr result (self.new ≡ self.old) }
     {
         self.notes.reserve(1)?;
-        let old = replace(&mut self.sheets[at], sheet);
-        let Ok(()) = self.notes.push(Note { at, sheet: old }) else {
+        let old = exchange(self.alloc, &mut self.sheets, self.before, at, sheet)?;
+        let Ok(()) = self.notes.push(Note { at, old }) else {
             unreachable!()
         };
         Ok(())
@@ -113,11 +115,7 @@ impl Draft {
         self.notes.reserve(1)?;
         let at = self.sheets.len();
         self.sheets.push(Sheet::Free)?;
-        let Ok(()) = self.notes.push(Note {
-            at,
-            sheet: Sheet::Free,
-        })
-        else {
+        let Ok(()) = self.notes.push(Note { at, old: None }) else {
             unreachable!()
         };
         Ok(())
@@ -192,13 +190,56 @@ fn places_of(alloc: Global, notes: &[Note]) -> Result<Vec<usize>, Memory>
     Ok(places)
 }
 
+/// Whether a page is free.
+pub(crate) fn is_free(sheet: &Sheet) -> bool
+    ensures free { result ≡ true → sheet_kind sheet.now ≡ Free }
+    ensures used { result ≡ false → sheet_kind sheet.now ≢ Free }
+{
+    match sheet {
+        Sheet::Free => true,
+        _ => false,
+    }
+}
+
+/// Puts a page in place of another one, and gives what is to be kept of that: nothing where it was free, or behind the first so many.
+fn exchange(
+    alloc: Global,
+    sheets: &mut Vec<Sheet>,
+    before: usize,
+    at: usize,
+    sheet: Sheet,
+) -> Result<Option<Box<Sheet>>, Memory>
+    requires { at < length sheets.old.items }
+    ensures put { OnOk result (sheets.new.items ≡ set sheets.old.items at sheet) }
+    ensures kept { IfOk result (λ old. at < before → kind_kept old ≡ get_or (sheet_kinds sheets.old.items) at Free) }
+    ensures err { OnErr result (sheets.new.items ≡ sheets.old.items) }
+{
+    if at >= before || is_free(&sheets[at]) {
+        sheets[at] = sheet;
+        return Ok(None);
+    }
+    let mut old = Box::new(alloc, sheet)?;
+    swap(&mut sheets[at], &mut *old);
+    Ok(Some(old))
+}
+
+/// The page that was kept.
+fn kept_sheet(old: Option<Box<Sheet>>) -> Sheet
+    ensures { sheet_kind result ≡ kind_kept old }
+{
+    match old {
+        Some(sheet) => Box::into_inner(sheet),
+        None => Sheet::Free,
+    }
+}
+
 /// Undoes changes, the last of them first.
 fn undo(sheets: &mut Vec<Sheet>, notes: &mut Vec<Note>)
     requires { AreOnSheets notes.old.items sheets.old.items }
     ensures { sheet_kinds sheets.new.items ≡ undone notes.old.items (sheet_kinds sheets.old.items) }
 {
     while let Some(note) = notes.pop() {
-        sheets[note.at] = note.sheet;
+        sheets[note.at] = kept_sheet(note.old);
     }
 }
 

@@ -1,6 +1,6 @@
 //! The heap.
 
-ghost use Rattle.std.specs.Prelude.{true, ◌≡◌, ◌↔◌, ◌≢◌, IsTrue, ◌⊎◌, ◌<◌, ◌≤◌, ◌+◌, ◌^◌, ℕ, List, None, Some, Err, OnErr, OnOk, IfOk, length};
+ghost use Rattle.std.specs.Prelude.{true, ◌≡◌, ◌↔◌, IsTrue, ◌<◌, ◌+◌, ◌^◌, ℕ, List, None, Some, Err, OnErr, IfOk, length};
 ghost use Rattle.std.specs.Option.{option_map};
 ghost use Rattle.std.specs.FinMap.{get};
 ghost use Rattle.ct_site.specs.Disks.{IsSame, IsSettled, Leaves};
@@ -14,9 +14,9 @@ ghost use Rattle.pg_journal.specs.Recovered.{Alike, IsOnlyRead};
 ghost use Rattle.pg_journal.specs.Syncs.{SyncsAtMost};
 ghost use Rattle.pg_map.specs.Holding.{Holds, Recovers};
 ghost use Rattle.pg_map.specs.MapReading.{behind_root};
-ghost use Rattle.pg_heap.specs.BatchPages.{batch_end, changed_pages, homes_needed, put_pages};
-ghost use Rattle.pg_heap.specs.FreePlaces.{ListsFree, used_pages};
-ghost use Rattle.pg_heap.specs.Commits.{CommitsPages};
+ghost use Rattle.pg_heap.specs.Applying.{Applies};
+ghost use Rattle.pg_heap.specs.FreePlaces.{ListsFree};
+ghost use Rattle.pg_heap.specs.Commits.{ReadsPages};
 ghost use Rattle.pg_heap.specs.Heaps.{HeapStands, IsMap};
 ghost use Rattle.pg_heap.specs.HeapPages.{IsSound};
 ghost use Rattle.pg_heap.specs.Loading.{RefusedIsSame};
@@ -76,8 +76,7 @@ impl Heap {
     /// Loads the heap of a store: makes a store on an unborn disk, or puts home a batch that a crash has left. At each moment the disk
     /// recovers to what it did. NotAStore exactly where it recovers to no map, and then the file is as it was, but for a batch that was
     /// put home. A file that isn't unborn and has no batch under way is only read, whatever the answer. What a crash leaves is told where
-    /// nothing was pending. Each page is read once, and the disk is synced three times at most. A file that is neither unborn nor a store
-    /// by its mark and its length is answered by NotAStore or by Disk.
+    /// nothing was pending. Each page is read once, and the disk is synced three times at most.
     pub fn load<D: Disk>(alloc: Global, disk: &mut D) -> Result<Heap, LoadFault>
         ensures moments { (image : List ℕ) → IsSettled (D.disk disk.old) image → Leaves (D.disk disk.old) (D.disk disk.new) (Alike image) }
         ensures loaded { (image : List ℕ) → IsSettled (D.disk disk.old) image → IfOk result (λ heap. IsMap heap.held image × HeapStands (D.disk disk.new) heap) }
@@ -107,27 +106,16 @@ impl Heap {
 
     /// Makes the changes of a batch, all of them or none. At each moment the disk recovers to the old map or the new one, and
     /// after Ok to the new one. After Disk the heap is loaded again. Each change costs the logarithm of the number of entries, and the
-    /// pages that it changes.
+    /// pages that it changes; its key and its value become those of the map, without a copy.
     pub fn apply<D: Disk>(
         &mut self,
         alloc: Global,
         disk: &mut D,
-        batch: &Batch,
+        batch: Batch,
     ) -> Result<(), KeepFault>
-        requires { AreWell AnyEntry batch.now }
-        ensures moments { HeapStands (D.disk disk.old) self.old
-            → Leaves (D.disk disk.old) (D.disk disk.new) (λ image. IsMap self.old.held image ⊎ IsMap (after batch.now self.old.held) image) }
-        ensures stands { HeapStands (D.disk disk.old) self.old → OnOk result (HeapStands (D.disk disk.new) self.new) }
-        ensures held { OnOk result (self.new.held ≡ after batch.now self.old.held) }
-        ensures whole { OnOk result (Holds (behind_root self.new.kinds) self.new.held) }
-        ensures err { OnErr result (self.new ≡ self.old) }
-        ensures memory { result ≡ Err KeepFault.Memory → disk.new ≡ disk.old }
-        ensures full { result ≡ Err KeepFault.Full → ⊥ }
-        ensures commits { CommitsPages (D.disk disk.old) (D.disk disk.new) result }
-        ensures grows { OnOk result (self.new.homes ≤ homes_needed self.old.homes (used_pages self.old.kinds) (put_pages batch.now)) }
-        ensures length { OnOk result (Lengthens (batch_end self.new.homes (changed_pages batch.now self.old.held)) (D.disk disk.old) (D.disk disk.new)) }
-        ensures length_failed { homes_needed self.old.homes (used_pages self.old.kinds) (put_pages batch.now) < 2 ^ 31
-            → Lengthens (batch_end (homes_needed self.old.homes (used_pages self.old.kinds) (put_pages batch.now)) (changed_pages batch.now self.old.held)) (D.disk disk.old) (D.disk disk.new) }
+        requires { AreWell AnyEntry batch }
+        ensures applies { Applies batch (D.disk disk.old) (D.disk disk.new) self.old self.new result }
+        ensures not_full { result ≡ Err KeepFault.Full → ⊥ }
     {
         self.apply_within(alloc, disk, batch, u64::MAX)
     }
@@ -138,60 +126,43 @@ impl Heap {
         &mut self,
         alloc: Global,
         disk: &mut D,
-        batch: &Batch,
+        batch: Batch,
         limit: u64,
     ) -> Result<(), KeepFault>
-        requires { AreWell AnyEntry batch.now }
-        ensures moments { HeapStands (D.disk disk.old) self.old
-            → Leaves (D.disk disk.old) (D.disk disk.new) (λ image. IsMap self.old.held image ⊎ IsMap (after batch.now self.old.held) image) }
-        ensures stands { HeapStands (D.disk disk.old) self.old → OnOk result (HeapStands (D.disk disk.new) self.new) }
-        ensures held { OnOk result (self.new.held ≡ after batch.now self.old.held) }
-        ensures whole { OnOk result (Holds (behind_root self.new.kinds) self.new.held) }
-        ensures err { OnErr result (self.new ≡ self.old) }
-        ensures memory { result ≡ Err KeepFault.Memory → disk.new ≡ disk.old }
-        ensures full { result ≡ Err KeepFault.Full → (disk.new ≡ disk.old) × (weight (after batch.now self.old.held) < 2 ^ 64) }
-        ensures answers { AnswersCommit (fault_of result) limit self.old.held (after batch.now self.old.held) }
-        ensures commits { CommitsPages (D.disk disk.old) (D.disk disk.new) result }
-        ensures grows { OnOk result (self.new.homes ≤ homes_needed self.old.homes (used_pages self.old.kinds) (put_pages batch.now)) }
-        ensures length { OnOk result (Lengthens (batch_end self.new.homes (changed_pages batch.now self.old.held)) (D.disk disk.old) (D.disk disk.new)) }
-        ensures length_failed { homes_needed self.old.homes (used_pages self.old.kinds) (put_pages batch.now) < 2 ^ 31
-            → Lengthens (batch_end (homes_needed self.old.homes (used_pages self.old.kinds) (put_pages batch.now)) (changed_pages batch.now self.old.held)) (D.disk disk.old) (D.disk disk.new) }
+        requires { AreWell AnyEntry batch }
+        ensures applies { Applies batch (D.disk disk.old) (D.disk disk.new) self.old self.new result }
+        ensures answers { AnswersCommit (fault_of result) limit self.old.held (after batch self.old.held) }
+        ensures fits { result ≡ Err KeepFault.Full → weight (after batch self.old.held) < 2 ^ 64 }
     {
         let pages = replace(&mut self.pages, Pages::none(alloc));
         let mut plan = BatchPlan::begin(alloc, pages);
         match plan.make(alloc, &mut self.hints, batch) {
             Ok(pages) => {
                 if plan.passes(limit) {
-                    self.pages = plan.roll_back();
-                    self.hints.free.roll_back();
+                    self.pages = plan.roll_back(&mut self.hints);
                     return Err(KeepFault::Full);
                 }
                 if let Err(fault) = commit_draft(disk, &mut self.journal, &plan.draft, &pages) {
-                    self.pages = plan.roll_back();
-                    self.hints.free.roll_back();
+                    self.pages = plan.roll_back(&mut self.hints);
                     return Err(fault);
                 }
                 self.pages = plan.finish();
                 self.hints.free.settle();
-                self.pages.forget(batch);
                 Ok(())
             }
             Err(PlanFault::Memory) => {
-                self.pages = plan.roll_back();
-                self.hints.free.roll_back();
+                self.pages = plan.roll_back(&mut self.hints);
                 Err(KeepFault::Memory)
             }
             Err(PlanFault::TooMany) => {
-                self.pages = plan.roll_back();
-                self.hints.free.roll_back();
+                self.pages = plan.roll_back(&mut self.hints);
                 let Failed = self.journal.fill(disk);
                 Err(KeepFault::Disk)
             }
         }
     }
 
-    /// The value of a key. It fails for want of memory alone, and makes no call of the disk. Its cost is the logarithm of the number of
-    /// entries.
+    /// The value of a key. It fails for want of memory alone, and writes nothing. Its cost is the logarithm of the number of entries.
     pub fn fetch<D: Disk>(
         &mut self,
         alloc: Global,
@@ -200,7 +171,7 @@ impl Heap {
     ) -> Result<Option<Vec<u8>>, KeepFault>
         ensures value { IfOk result (λ found. option_map (λ v. v.items) found ≡ get self.old.held key.now) }
         ensures same { self.new ≡ self.old }
-        ensures disk { disk.new ≡ disk.old }
+        ensures reads { ReadsPages (D.disk disk.old) (D.disk disk.new) result }
         ensures memory { OnErr result (result ≡ Err KeepFault.Memory) }
     {
         let _ = disk;
@@ -210,8 +181,8 @@ impl Heap {
         Ok(found)
     }
 
-    /// The entry with the least key that is greater. It fails for want of memory alone, and makes no call of the disk. Its cost is the
-    /// logarithm of the number of entries.
+    /// The entry with the least key that is greater. It fails for want of memory alone, and writes nothing. Its cost is the logarithm of
+    /// the number of entries.
     pub fn next_after<D: Disk>(
         &mut self,
         alloc: Global,
@@ -220,7 +191,7 @@ impl Heap {
     ) -> Result<Option<(Vec<u8>, Vec<u8>)>, KeepFault>
         ensures entry { IfOk result (λ found. option_map (λ e. (e.0.items, e.1.items)) found ≡ first_entry (entries_above key.now self.old.held)) }
         ensures same { self.new ≡ self.old }
-        ensures disk { disk.new ≡ disk.old }
+        ensures reads { ReadsPages (D.disk disk.old) (D.disk disk.new) result }
         ensures memory { OnErr result (result ≡ Err KeepFault.Memory) }
     {
         let _ = disk;

@@ -5,7 +5,7 @@ ghost use Rattle.std.specs.FinMap.{empty};
 ghost use Rattle.pg_heap.specs.HeapPages.{IsSound, SameButPlaces};
 ghost use Rattle.pg_map.specs.Sheets.{sheet_kinds};
 
-use ct_keep::{Batch, EntryMap};
+use ct_keep::{Change, EntryMap};
 use pg_map::{Places, Sheet};
 use std::alloc::Global;
 
@@ -31,13 +31,12 @@ impl Pages {
         }
     }
 
-    /// Forgets the places of a batch's keys that have no entry. It takes no memory.
-    pub(crate) fn forget(&mut self, batch: &Batch)
+    /// Forgets the places of those keys of changes that have no entry. It takes no memory.
+    pub(crate) fn forget(&mut self, changes: &[Change])
         requires { IsSound self.old }
         ensures sound { IsSound self.new }
         ensures same { SameButPlaces self.old self.new }
     {
-        let changes = batch.changes();
         for i in 0..changes.len() {
             let key = &changes[i].key;
             if !self.held.has(key) {

@@ -11,10 +11,9 @@ ghost use Rattle.pg_heap.specs.Planned.{IsPut, HasRoom, HasNone, IsTaking, HasCh
 ghost use Rattle.pg_map.specs.Done.{IsPlanned, IsDone};
 ghost use Rattle.pg_heap.specs.BatchPages.{entry_pages, long_pages};
 ghost use Rattle.pg_heap.specs.FreePlaces.{ListsFree, NeedsPages};
-ghost use Rattle.pg_map.specs.Sheets.{sheet_kind};
 ghost use Rattle.pg_heap.specs.PlanSteps.{NoNewKey, TakesPages, TouchesEntry, MakesChange};
 
-use crate::drafts::Draft;
+use crate::drafts::{Draft, is_free};
 use crate::hints::Hints;
 use crate::plans::{PlanFault, free_long, free_page, put_long};
 use crate::slots::{copy, find, without};
@@ -47,24 +46,14 @@ fn with_string(draft: &Draft, at: usize, string: &[u8]) -> Option<Page>
 }
 
 /// The same for a page that isn't free.
-fn with_another(draft: &Draft, at: usize, string: &[u8]) -> Option<Page>
+fn used_page_with(draft: &Draft, at: usize, string: &[u8]) -> Option<Page>
     ensures some { IfSome result (λ page. HasRoom draft.now.now at string.now page) }
     ensures used { IfSome result (λ page. get_or draft.now.now at Free ≢ Free) }
 {
-    let page = with_string(draft, at, string)?;
-    if is_free(draft.sheet(at)) {
+    if at >= draft.count() || is_free(draft.sheet(at)) {
         return None;
     }
-    Some(page)
-}
-
-fn is_free(sheet: &Sheet) -> bool
-    ensures { result ≡ false → sheet_kind sheet.now ≢ Free }
-{
-    match sheet {
-        Sheet::Free => true,
-        _ => false,
-    }
+    with_string(draft, at, string)
 }
 
 /// A page with the string behind its others: one of the pages that were noted last as ones with room. Those that have none for it
@@ -75,7 +64,7 @@ fn roomy_page(draft: &Draft, roomy: &mut Vec<usize>, string: &[u8]) -> Option<(u
 {
     for _ in 0..TRIES {
         let at = *roomy.last()?;
-        if let Some(page) = with_another(draft, at, string) {
+        if let Some(page) = used_page_with(draft, at, string) {
             return Some((at, page));
         }
         let _ = roomy.pop();

@@ -112,27 +112,33 @@ pub no_batch : (found : Option (List Numbered)) (image : List ℕ) → IsBatchOr
 no_batch None image is none pages opened = is opened.is_open
 no_batch (Some ws) image is none pages opened = absurd (cc none)
 
-pub batch_of : (found : Option (List Numbered)) (ws : List Numbered) (image : List ℕ) → IsBatchOr found image → found ≡ Some ws → IsOpen image × (batch_in image ≡ ws)
+pub batch_of : (found : Option (List Numbered)) (ws : List Numbered) (image : List ℕ) → IsBatchOr found image → found ≡ Some ws → IsBatchOr (Some ws) image
 batch_of found ws image is some = subst (λ (o : Option (List Numbered)). IsBatchOr o image) some is
 
-module _ (ws : List Numbered) (image root : List ℕ) (o : IsOpen image) (is : batch_in image ≡ ws) (root_is : root ≡ put_on ws (page image) 2) where
+-- what its root tells
+module _ (ws : List Numbered) (image root : List ℕ) (batch : IsBatchOr (Some ws) image) (put : (end : ℕ) → AreBetween 2 end ws → root ≡ put_on ws (page image) 2) where
+  root_is : root ≡ put_on ws (page image) 2
+  root_is = put (batch_page image) (subst (λ (l : List Numbered). AreBetween 2 (batch_page image) l) batch.1 batch.0.numbers)
+
   moved : (pages : List (List ℕ)) → IsOpened image pages → IsRoot root × (homes_in root ≤ batch_page image)
   moved pages opened =
-      let e : put_on (batch_in image) (page image) 2 ≡ root = ap (λ (l : List Numbered). put_on l (page image) 2) is ∙ sym root_is in
+      let e : put_on (batch_in image) (page image) 2 ≡ root = ap (λ (l : List Numbered). put_on l (page image) 2) batch.1 ∙ sym root_is in
       (subst IsRoot e opened.root, omega (arith, ap (λ (l : List ℕ). homes_in l) e, opened.inside))
 
   pub no_root : (found : Option ℕ) → IsRootOr found root → found ≡ None → (pages : List (List ℕ)) → IsOpened image pages → ⊥
   no_root None not none pages opened = not (moved pages opened).0
   no_root (Some h) not none pages opened = absurd (cc none)
 
-  pub root_of : (found : Option ℕ) (h : ℕ) → IsRootOr found root → found ≡ Some h → IsRoot root × (h ≡ homes_in root)
+  root_of : (found : Option ℕ) (h : ℕ) → IsRootOr found root → found ≡ Some h → IsRoot root × (h ≡ homes_in root)
   root_of found h r some = subst (λ (x : Option ℕ). IsRootOr x root) some r
 
-  pub root_too_far : (h place : ℕ) → h ≡ homes_in root → place ≡ batch_page image → place < h → (pages : List (List ℕ)) → IsOpened image pages → ⊥
-  root_too_far h place count at far pages opened = omega (arith, far, count, at, (moved pages opened).1)
+  pub root_too_far : (found : Option ℕ) (h place : ℕ) → IsRootOr found root → found ≡ Some h → place ≡ batch_page image → place < h → (pages : List (List ℕ)) → IsOpened image pages → ⊥
+  root_too_far found h place r some at far pages opened = let count = (root_of found h r some).1 in omega (arith, far, count, at, (moved pages opened).1)
 
-  pub found_opened : (h place : ℕ) → IsRoot root × (h ≡ homes_in root) → place ≡ batch_page image → h ≤ place → IsOpenedOr (Some (ws, h)) image
-  found_opened h place r at near = (o, is, subst IsRoot root_is r.0, r.1 ∙ ap (λ (l : List ℕ). homes_in l) root_is, omega (arith, near, at))
+  pub found_opened : (found : Option ℕ) (h place : ℕ) → IsRootOr found root → found ≡ Some h → place ≡ batch_page image → h ≤ place → IsOpenedOr (Some (ws, h)) image
+  found_opened found h place r some at near =
+      let is = root_of found h r some in
+      (batch.0, batch.1, subst IsRoot root_is is.0, is.1 ∙ ap (λ (l : List ℕ). homes_in l) root_is, omega (arith, near, at))
 
 -- ---- one page more in the batch
 

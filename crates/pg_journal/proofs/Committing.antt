@@ -1,13 +1,15 @@
 -- What a commit comes to, over the views of the disk between its steps.
-use Rattle.std.specs.Prelude.{max, ◌^◌}
+use Rattle.std.specs.Prelude.{max, ◌^◌, Result, OnOk}
 use Rattle.std.proofs.Common.{◌≡◌, inl, inr, ℕ, suc, ◌*◌, ◌≤◌, ◌<◌, List, [], ◌∷◌, length, sym, ap, subst, ◌∙◌, arith}
 use Rattle.std.proofs.lemmas.Bool.{cases_eq}
 use Rattle.std.proofs.lemmas.Bool.Decides.{nat_tests}
+use Rattle.std.proofs.lemmas.Result.{on_ok_weaker}
+use Rattle.ct_site.specs.declared.outside.Failed.{Failed}
 use Rattle.ct_site.specs.Disks.{DiskView, Leaves, leaves_then, leaves_more}
 use Rattle.pg_journal.specs.Pages.{page, Numbered, with_page, put_on, AreBetween, homes_in, IsRoot, homes_of, changed}
 use Rattle.pg_journal.specs.Recovered.{IsRecovered, gate}
 use Rattle.pg_journal.specs.Standing.{IsShut, DiskStands, homes_with, HasGoodRoot, MayCommit, IsEither}
-use Rattle.pg_journal.specs.Staging.{IsStaged, Staged, IsGoal, IsSettling, AtHome, IsGateWrite, IsGateSet}
+use Rattle.pg_journal.specs.Staging.{IsStaged, Staged, IsGoal, IsSettling, IsGateWrite, IsGateSet, OverGoal}
 use Rattle.pg_journal.proofs.Pages.{with_same, with_other, put_on_below, put_on_root, changed_homes, between_length}
 use Rattle.pg_journal.proofs.Shut.{shut_still, shut_recovers, opened, settling_recovers, settling_again, shut_again}
 
@@ -52,8 +54,9 @@ module _ (homes place : ℕ) (pages : List (List ℕ)) (batch : List Numbered) (
     })))
   ]
 
-  pub open_settling : (x : List ℕ) → IsGateWrite img x → gate x ≡ 1 → IsSettling place batch goal x
-  open_settling x w open_ = opened place homes pages batch img x may.some between least shut staged w open_
+  -- what holds over the goal on which a disk of an open gate settles
+  pub over_goal : (disk : DiskView) (holds : (ℕ → List ℕ) → Type 0) → IsGateSet 1 img disk → OverGoal disk batch holds → holds goal
+  over_goal disk holds set over = over place goal set.image set.settled is_goal (opened place homes pages batch img set.image may.some between least shut staged set.write set.is)
 
 -- ---- it closes, over pages that are at home
 
@@ -83,28 +86,18 @@ module _ (homes place : ℕ) (pages : List (List ℕ)) (batch : List Numbered) (
     pub opened_moments : Leaves old d2 (IsEither pages batch)
     opened_moments = leaves_then old d1 d2 _ staged_moments (leaves_more d1 d2 _ _ second (opens homes place pages batch may is least s.image s.shut s.staged))
 
-    module _ (o : IsGateSet 1 s.image d2) (d3 : DiskView) where
-      pub settling : IsSettling place batch (put_on batch (page s.image)) o.image
-      settling = open_settling homes place pages batch may is least s.image s.shut s.staged o.image o.write o.is
+    pub committed_moments : IsGateSet 1 s.image d2 → (d3 : DiskView) → OverGoal d2 batch (λ goal. Leaves d2 d3 (λ x. IsRecovered x (homes_of goal))) → Leaves old d3 (IsEither pages batch)
+    committed_moments set d3 finished = leaves_then old d2 d3 _ opened_moments
+        (leaves_more d2 d3 _ _ (over_goal homes place pages batch may is least s.image s.shut s.staged d2 (λ goal. Leaves d2 d3 (λ x. IsRecovered x (homes_of goal))) set finished)
+        (λ x r. inr (subst (λ (l : List (List ℕ)). IsRecovered x l) (goal_pages homes place pages batch may is least s.image s.shut s.staged) r)))
 
-      either : (x : List ℕ) → IsRecovered x (homes_of (put_on batch (page s.image))) → IsEither pages batch x
-      either x r = inr (subst (λ (l : List (List ℕ)). IsRecovered x l) (goal_pages homes place pages batch may is least s.image s.shut s.staged) r)
-
-      pub home_moments : Leaves d2 d3 (IsSettling place batch (put_on batch (page s.image))) → Leaves old d3 (IsEither pages batch)
-      home_moments third = leaves_then old d2 d3 _ opened_moments
-          (leaves_more d2 d3 _ _ third (λ x set. either x (settling_recovers place batch (put_on batch (page s.image)) x (is_goal homes place pages batch may is least s.image s.shut s.staged) set)))
-
-      pub closed_moments : (d4 : DiskView) → Leaves d2 d3 (IsSettling place batch (put_on batch (page s.image))) → (h : AtHome d3 place batch (put_on batch (page s.image))) → Leaves d3 d4 (IsGateWrite h.image)
-          → Leaves old d4 (IsEither pages batch)
-      closed_moments d4 third h fourth = leaves_then old d3 d4 _ (home_moments third)
-          (leaves_more d3 d4 _ _ fourth (λ x w. either x (closes place batch (put_on batch (page s.image)) h.image x (is_goal homes place pages batch may is least s.image s.shut s.staged) h.settling h.home w)))
-
-      pub closed_so : (d4 : DiskView) (after : ℕ) → after ≡ homes_with homes batch → (h : AtHome d3 place batch (put_on batch (page s.image))) → IsGateSet 0 h.image d4 → DiskStands d4 after (changed batch pages)
-      closed_so d4 after count h set =
-          let g = is_goal homes place pages batch may is least s.image s.shut s.staged in
-          subst (λ (n : ℕ). DiskStands d4 n (changed batch pages)) (homes_after homes place pages batch may is least s.image s.shut s.staged ∙ sym count)
-          (subst (λ (l : List (List ℕ)). DiskStands d4 (homes_in (put_on batch (page s.image) 2)) l) (goal_pages homes place pages batch may is least s.image s.shut s.staged)
-          (closed_stands place batch (put_on batch (page s.image)) d4 h.image g h.settling h.home set))
+pub committed_stands : (homes place after : ℕ) (pages : List (List ℕ)) (batch : List Numbered) (may : MayCommit homes batch) (is : place ≡ max homes (homes_with homes batch)) (least : 3 ≤ place) → after ≡ homes_with homes batch
+    → (old mid new : DiskView) (s : Staged old homes pages place batch) → IsGateSet 1 s.image mid → (result : Result (Unit {0}) Failed)
+    → OverGoal mid batch (λ goal. OnOk result (DiskStands new (homes_in (goal 2)) (homes_of goal))) → OnOk result (DiskStands new after (changed batch pages))
+committed_stands homes place after pages batch may is least count old mid new s set result finished = on_ok_weaker result
+    (λ stands. subst (λ (n : ℕ). DiskStands new n (changed batch pages)) (homes_after homes place pages batch may is least s.image s.shut s.staged ∙ sym count)
+    (subst (λ (l : List (List ℕ)). DiskStands new (homes_in (put_on batch (page s.image) 2)) l) (goal_pages homes place pages batch may is least s.image s.shut s.staged) stands))
+    (over_goal homes place pages batch may is least s.image s.shut s.staged mid (λ goal. OnOk result (DiskStands new (homes_in (goal 2)) (homes_of goal))) set finished)
 
 -- ---- what the steps ask for
 

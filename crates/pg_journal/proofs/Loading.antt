@@ -7,7 +7,7 @@ use Rattle.pg_journal.specs.Pages.{page, Numbered, put_on, Has, AreBetween, home
 use Rattle.pg_journal.specs.Recovered.{IsUnborn, IsStore, IsClosed, IsOpen, IsRecovered, Alike, gate, batch_page, batch_in, first_pages}
 use Rattle.pg_journal.specs.Births.{IsUnbornAs}
 use Rattle.pg_journal.specs.Standing.{DiskStands}
-use Rattle.pg_journal.specs.Staging.{IsGoal, IsSettling}
+use Rattle.pg_journal.specs.Staging.{IsGoal, IsSettling, OverGoal}
 use Rattle.pg_journal.specs.Looking.{IsBorn, IsUnbornOr, HasMark, IsClosedOr, IsOpenedOr, IsNoStore, Loaded}
 use Rattle.ct_site.specs.Lengths.{IsWithin}
 use Rattle.pg_journal.specs.laws.Recovered.{born_or_not, alike_of, alike_itself}
@@ -90,11 +90,12 @@ to_finish image found ws homes store found_is some =
 pub finished : (image : List ℕ) (ws : List Numbered) (homes : ℕ) (new : DiskView) → IsToFinish image ws homes → DiskStands new (homes_in (put_on ws (page image) 2)) (homes_of (put_on ws (page image))) → Loaded image new homes
 finished image ws homes new f stands = record { pages = homes_of (put_on ws (page image)); recovered = f.recovered; stands = subst (λ (n : ℕ). DiskStands new n (homes_of (put_on ws (page image)))) (sym f.homes_is) stands }
 
-pub finish_moments : (image : List ℕ) (ws : List Numbered) (homes : ℕ) (old mid new : DiskView) → IsToFinish image ws homes → IsSettled old image → IsSame old mid → mid.beside ≡ old.beside
-    → Leaves mid new (λ x. IsRecovered x (homes_of (put_on ws (page image)))) → Leaves old new (Alike image)
-finish_moments image ws homes old mid new f settled same beside leaves =
+pub finish_moments : (image : List ℕ) (found : Option (List Numbered × ℕ)) (ws : List Numbered) (homes : ℕ) (old mid new : DiskView) → IsStore image → IsOpenedOr found image → found ≡ Some (ws, homes)
+    → IsSettled old image → IsSame old mid → mid.beside ≡ old.beside → OverGoal mid ws (λ goal. Leaves mid new (λ x. IsRecovered x (homes_of goal))) → Leaves old new (Alike image)
+finish_moments image found ws homes old mid new store found_is some settled same beside finished =
+    let f = to_finish image found ws homes store found_is some in
     leaves_then old mid new _ (nothing_written old mid image settled same beside)
-    (leaves_more mid new _ _ leaves (λ x r. alike_of image x (homes_of (put_on ws (page image))) f.recovered r))
+    (leaves_more mid new _ _ (finished _ _ image (settled_same old mid image same settled) f.goal_is f.settling) (λ x r. alike_of image x (homes_of (put_on ws (page image))) f.recovered r))
 
 -- the pages of the batch are inside the file
 pub finish_inside : (old new : DiskView) (ws : List Numbered) → IsSame old new → ((image : List ℕ) → old.image ≡ Some image → IsOpen image × (batch_in image ≡ ws)) → (i : ℕ) → Has ws i → IsWithin (4096 * i + 4096) new

@@ -1,12 +1,11 @@
 -- What is found where an image is looked at.
 use Rattle.std.specs.Prelude.{◌≡◌, ◌≢◌, ℕ, ◌+◌, ◌*◌, ◌≤◌, ◌<◌, ◌⊎◌, Bool, true, false, if◌then◌else◌, List, [], ◌∷◌, refl, length, take, drop, Option, Some, None, Result, Ok, Err}
-use Rattle.std.proofs.Common.{◌∙◌, ap, arith, inl, inr}
+use Rattle.std.proofs.Common.{◌∙◌, ap, arith, inl}
 use Rattle.ct_site.specs.FaultCounts.{raised}
 use Rattle.ct_site.specs.declared.outside.Failed.{Failed}
 use Rattle.ct_base.specs.Moments.{Grows}
 use Rattle.ct_base.specs.laws.Moments.{grows_then}
 use Rattle.ct_site.specs.Disks.{DiskView, IsSame, Works}
-use Rattle.ct_site.specs.laws.Calls.{same_then}
 use Rattle.pg_journal.specs.declared.faults.LoadFault.{LoadFault}
 use Rattle.pg_journal.specs.declared.faults.LoadFault.TheVariants.{Memory, Disk, NotAStore}
 use Rattle.pg_journal.specs.Pages.{page, byte, Numbered, AreBetween, put_on, homes_in, IsRoot}
@@ -71,64 +70,22 @@ WritesNothing (Err Memory) old new = IsSame old new
 WritesNothing (Err Disk) old new = Unit {0}
 WritesNothing (Err NotAStore) old new = IsSame old new
 
--- What may be answered of this image: Ok only where it is unborn or a store by its mark and its length, and Memory only of such a store
--- whose gate is open.
+-- Which answers a load may give of this image. Ok: only if it is unborn, or has the mark and the length of a store. Memory: only if it
+-- has these, and its gate is open.
 abbrev pub AnswersBy : {T : Type 0} → List ℕ → Result T LoadFault → Type 0
 AnswersBy image (Ok x) = IsUnborn image ⊎ IsStore image
 AnswersBy image (Err Memory) = IsStore image × (gate image ≡ 1)
 AnswersBy image (Err Disk) = Unit {0}
 AnswersBy image (Err NotAStore) = Unit {0}
 
--- The same for a call that loads the journal and then more, and so may want memory for each file that the journal loads.
+-- The same for a call that loads the journal and then more: it may want memory for every file that the journal loads.
 abbrev pub LoadsKnown : {T : Type 0} → List ℕ → Result T LoadFault → Type 0
 LoadsKnown image (Ok x) = IsUnborn image ⊎ IsStore image
 LoadsKnown image (Err Memory) = IsUnborn image ⊎ IsStore image
 LoadsKnown image (Err Disk) = Unit {0}
 LoadsKnown image (Err NotAStore) = Unit {0}
 
-pub known_by : {T : Type 0} (image : List ℕ) (result : Result T LoadFault) → IsUnborn image ⊎ IsStore image → LoadsKnown image result
-known_by image (Ok x) known = known
-known_by image (Err Memory) known = known
-known_by image (Err Disk) known = tt
-known_by image (Err NotAStore) known = tt
-
--- a fault, handed on
-pub known_again : (T U : Type 0) (image : List ℕ) (fault : LoadFault) → LoadsKnown {T = T} image (Err fault) → LoadsKnown {T = U} image (Err fault)
-known_again T U image Memory known = known
-known_again T U image Disk known = tt
-known_again T U image NotAStore known = tt
-
--- and that of the journal
-pub known_fault : (T U : Type 0) (image : List ℕ) (fault : LoadFault) → AnswersBy {T = T} image (Err fault) → LoadsKnown {T = U} image (Err fault)
-known_fault T U image Memory answers = inr answers.0
-known_fault T U image Disk answers = tt
-known_fault T U image NotAStore answers = tt
-
--- where the gate is open; and where no memory was wanted
-pub answers_open : {T : Type 0} (image : List ℕ) (result : Result T LoadFault) → IsStore image → gate image ≡ 1 → AnswersBy image result
-answers_open image (Ok x) store is_open = inr store
-answers_open image (Err Memory) store is_open = (store, is_open)
-answers_open image (Err Disk) store is_open = tt
-answers_open image (Err NotAStore) store is_open = tt
-
-pub answers_known : {T : Type 0} (image : List ℕ) (result : Result T LoadFault) → IsUnborn image ⊎ IsStore image → (result ≡ Err Memory → ⊥) → AnswersBy image result
-answers_known image (Ok x) known other = known
-answers_known image (Err Memory) known other = absurd (other refl)
-answers_known image (Err Disk) known other = tt
-answers_known image (Err NotAStore) known other = tt
-
-pub nothing_when_same : {T : Type 0} (result : Result T LoadFault) (old new : DiskView) → IsSame old new → WritesNothing result old new
-nothing_when_same (Ok x) old new same = tt
-nothing_when_same (Err Memory) old new same = same
-nothing_when_same (Err Disk) old new same = tt
-nothing_when_same (Err NotAStore) old new same = same
-
--- only looked at, and then loaded
-pub nothing_then : {T : Type 0} (result : Result T LoadFault) (old mid new : DiskView) → IsSame old mid → WritesNothing result mid new → WritesNothing result old new
-nothing_then (Ok x) old mid new same rest = tt
-nothing_then (Err Memory) old mid new same rest = same_then old mid new same rest
-nothing_then (Err Disk) old mid new same rest = tt
-nothing_then (Err NotAStore) old mid new same rest = same_then old mid new same rest
+-- ---- what loading leaves, one call after another: these laws stand beside `Loads`, where proofs find them
 
 pub loads_then : {T U : Type 0} (old mid new : DiskView) (x : T) (result : Result U LoadFault) → Works old mid (Ok x) → Loads mid new result → Loads old new result
 loads_then old mid new x result first second = record {

@@ -126,6 +126,29 @@ fn root_with<D: Disk>(disk: &mut D, batch: &PageBatch) -> Result<[u8; 4096], Fai
     }
 }
 
+/// The batch, and how many homes there are with it; None where there is no root, or one of more homes than lie before the batch.
+fn batch_with_homes<D: Disk>(
+    disk: &mut D,
+    place: u32,
+    batch: PageBatch,
+) -> Result<Option<(PageBatch, u32)>, Failed>
+    requires within { IsWithin 12288 (D.disk disk.old) }
+    ensures is { (image : List ℕ) → (D.disk disk.old).image ≡ Some image → IsBatchOr (Some batch.pages) image → place ≡ batch_page image
+        → IfOk result (λ found. IsOpenedOr (option_map (λ f. (f.0.pages, f.1)) found) image) }
+    ensures bounds { IfOk result (λ found. IfSome found (λ f. (3 ≤ f.1) × (f.1 ≤ 2 ^ 31))) }
+    ensures same { IsSame (D.disk disk.old) (D.disk disk.new) }
+    ensures works { Works (D.disk disk.old) (D.disk disk.new) result }
+{
+    let root = root_with(disk, &batch)?;
+    let Some(homes) = homes_of_root(&root) else {
+        return Ok(None);
+    };
+    if homes > place {
+        return Ok(None);
+    }
+    Ok(Some((batch, homes)))
+}
+
 /// The batch of a store whose gate is open, and how many homes there are with it.
 pub(crate) fn look_open<D: Disk>(
     alloc: Global,
@@ -150,14 +173,8 @@ pub(crate) fn look_open<D: Disk>(
     let Some(batch) = read_batch(alloc, disk, size, place, count)? else {
         return Ok(None);
     };
-    let Ok(root) = root_with(disk, &batch) else {
-        return Err(LoadFault::Disk);
-    };
-    let Some(homes) = homes_of_root(&root) else {
-        return Ok(None);
-    };
-    if homes > place {
-        return Ok(None);
+    match batch_with_homes(disk, place, batch) {
+        Ok(found) => Ok(found),
+        Err(Failed) => Err(LoadFault::Disk),
     }
-    Ok(Some((batch, homes)))
 }

@@ -74,15 +74,9 @@ impl Journal {
         if !marked {
             return Err(LoadFault::NotAStore);
         }
-        let Ok(gate) = read_byte(disk, 4096) else {
-            return Err(LoadFault::Disk);
-        };
-        if gate == 1 {
-            load_open(alloc, disk, size)
-        } else {
-            load_closed(disk, size)
-        }
+        load_store(alloc, disk, size)
     }
+
     /// How many home pages there are, page 0 and page 1 counted.
     pub fn homes(&self) -> u32
         ensures homes { result ≡ self.now }
@@ -139,6 +133,31 @@ fn load_unborn<D: Disk>(disk: &mut D, empty: bool) -> Result<Journal, LoadFault>
     match make_store(disk, empty) {
         Ok(()) => Ok(Journal { homes: 3 }),
         Err(Failed) => Err(LoadFault::Disk),
+    }
+}
+
+/// Loads a store, whose gate says how.
+fn load_store<D: Disk>(alloc: Global, disk: &mut D, size: u64) -> Result<Journal, LoadFault>
+    requires sized { IsSized size (D.disk disk.old) }
+    requires long { 12288 ≤ size }
+    requires store { (image : List ℕ) → (D.disk disk.old).image ≡ Some image → IsStore image }
+    ensures moments { (image : List ℕ) → IsSettled (D.disk disk.old) image → Leaves (D.disk disk.old) (D.disk disk.new) (Alike image) }
+    ensures loaded { (image : List ℕ) → IsSettled (D.disk disk.old) image → IfOk result (λ journal. Loaded image (D.disk disk.new) journal) }
+    ensures no_store { (image : List ℕ) → (D.disk disk.old).image ≡ Some image → result ≡ Err LoadFault.NotAStore → IsNoStore image }
+    ensures same { WritesNothing result (D.disk disk.old) (D.disk disk.new) }
+    ensures kept { (image : List ℕ) → (D.disk disk.old).image ≡ Some image → gate image ≢ 1 → IsSame (D.disk disk.old) (D.disk disk.new) }
+    ensures answers { (image : List ℕ) → (D.disk disk.old).image ≡ Some image → AnswersBy image result }
+    ensures length { Lengthens 0 (D.disk disk.old) (D.disk disk.new) }
+    ensures syncs { SyncsAtMost 2 (D.disk disk.old) (D.disk disk.new) }
+    ensures loads { Loads (D.disk disk.old) (D.disk disk.new) result }
+{
+    let Ok(gate) = read_byte(disk, 4096) else {
+        return Err(LoadFault::Disk);
+    };
+    if gate == 1 {
+        load_open(alloc, disk, size)
+    } else {
+        load_closed(disk, size)
     }
 }
 
@@ -220,6 +239,5 @@ fn commit_pages<D: Disk>(
     let place = homes.max(after);
     stage(disk, place, batch)?;
     set_gate(disk, 1)?;
-    put_home(disk, batch)?;
-    set_gate(disk, 0)
+    finish(disk, batch)
 }

@@ -28,7 +28,7 @@ pub record LeavesNow (disk : DiskView) (stopped : Option Content) (said : List �
   pub left : IsNow disk image said
   pub is : Recovers image stopped
 
--- what is known of it; how often the disk was synced, the disk itself tells
+-- what is known of it
 abbrev pub paged_view : DiskView → HeapState → (List ℕ → List ℕ → Type 0) → ℕ → Counts → GName → KeeperView
 paged_view disk heap well limit counts lender = record {
   ready = IsUsable disk heap well;
@@ -36,8 +36,9 @@ paged_view disk heap well limit counts lender = record {
   beside = disk.beside;
   time = recovered disk.time;
   now = LeavesNow disk;
-  counts = record counts { syncs = disk.syncs };
+  counts = counts;
   disk_faults = disk.faults;
+  disk_syncs = disk.syncs;
   well = well;
   fixed = record { say_room = None; limit = limit; lender = Some lender };
 }

@@ -79,7 +79,7 @@ impl<'a, S: Site, H: Shape> Keeper for PagedKeeper<'a, S, H> {
     }
 
     fn commit(&mut self, alloc: Global, batch: Batch) -> Result<(), KeepFault> {
-        let done = self.heap.apply_within(alloc, self.site, &batch, self.limit);
+        let done = self.heap.apply_within(alloc, self.site, batch, self.limit);
         self.counts.commit(&done);
         done
     }

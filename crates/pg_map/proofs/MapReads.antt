@@ -14,12 +14,10 @@ use Rattle.std.specs.Cmp.Lexicographic.{slice_cmp}
 use Rattle.std.specs.FinMap.{get, insert, empty, get-insert, get-empty}
 use Rattle.std.proofs.lemmas.Cmp.{nat_list_cmp_total}
 use Rattle.ct_keep.specs.Content.{Content, Change, after}
-use Rattle.ct_keep.specs.Laws.{same, same_itself, same_keys, last_change, get-after}
+use Rattle.ct_keep.specs.laws.Content.{same, same_itself, same_keys, last_change, get-after}
 use Rattle.pg_map.specs.ChainReading.{taken_times}
-use Rattle.pg_map.specs.Holding.{kind_of_page, IsChain, Placed, StandsFor, times, one_if_long, IsLayout}
-use Rattle.ct_keep.specs.Rising.{Entry}
-use Rattle.pg_map.specs.Holding.{chains_of, bytes_of, entries_of}
-use Rattle.pg_map.specs.Kinds.{Each, Kind, Free, Slotted, Long, IsKind, StringItem, Short, Far, item_bytes, IsStringItem, strings_of}
+use Rattle.pg_map.specs.Holding.{kind_of_page, IsChain, Placed, StandsFor, times, one_if_long, IsLayout, chains_of, bytes_of, entries_of}
+use Rattle.pg_map.specs.Kinds.{Each, Kind, Free, Slotted, Long, IsKind, StringItem, Short, Far, item_bytes, IsStringItem, strings_of, Entry}
 use Rattle.pg_map.specs.Loose.{values_under, held, AreValues, Stand, IsLoose}
 use Rattle.pg_map.specs.laws.Loose.{values-append, times-append}
 use Rattle.pg_map.specs.MapReading.{puts, nothing}

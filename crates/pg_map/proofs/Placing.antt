@@ -12,8 +12,8 @@ use Rattle.std.specs.FinMap.{get, insert, remove, empty, same_map, get-insert, g
 use Rattle.std.proofs.lemmas.Cmp.{nat_list_cmp_total}
 use Rattle.std.proofs.lemmas.Map.Lookups.{exact_bytes}
 use Rattle.ct_keep.specs.Pairs.{byte_order}
-use Rattle.ct_keep.specs.SortedLaws.{seen-none, seen-insert, seen-remove, lookup-seen}
-use Rattle.ct_keep.specs.Laws.{same, same_itself, same_keys}
+use Rattle.ct_base.specs.laws.SortedMaps.{seen-none, seen-insert, seen-remove, lookup-seen}
+use Rattle.ct_keep.specs.laws.Content.{same, same_itself, same_keys}
 use Rattle.pg_map.specs.declared.places.OldPlace.{OldPlace}
 use Rattle.pg_map.specs.Places.{PagePlaces, page_places, place_to, undone_places, ArePlaced}
 

@@ -1,15 +1,13 @@
 -- Which map the pages of a store hold.
-use Rattle.std.specs.Prelude.{◌≡◌, ◌≢◌, ℕ, ◌+◌, ◌-◌, ◌≤◌, ◌==◌, List, [], ◌∷◌, ◌++◌, length, map, get_or, Option, Some, None, flat_map}
+use Rattle.std.specs.Prelude.{◌≡◌, ◌≢◌, ℕ, ◌+◌, ◌-◌, ◌≤◌, ◌==◌, List, [], ◌∷◌, ◌++◌, length, map, get_or, Option, Some, None, flat_map, codes, refl}
 use Rattle.std.specs.List.{Contains, AllPairs}
 use Rattle.std.specs.Bool.{if◌then◌else◌}
 use Rattle.std.specs.FinMap.{get}
 use Rattle.ct_keep.specs.Content.{Content}
-use Rattle.ct_keep.specs.Rising.{Entry}
 use Rattle.pg_journal.specs.Pages.{root_page}
 use Rattle.pg_journal.specs.Recovered.{IsRecovered}
-use Rattle.pg_map.specs.Kinds.{Each, Kind, Free, Slotted, Long, bytes_of_kind, IsKind, strings_of, StringItem, Short, Far, item_bytes, IsStringItem}
+use Rattle.pg_map.specs.Kinds.{Each, Kind, Free, Slotted, Long, bytes_of_kind, IsKind, strings_of, StringItem, Short, Far, item_bytes, IsStringItem, Entry}
 use Rattle.std.proofs.Common.{arith}
-use Rattle.std.specs.Prelude.{codes, refl}
 
 -- the kind of the page of a number, of those behind the root
 abbrev pub kind_of_page : List Kind → ℕ → Kind

@@ -4,6 +4,10 @@ use Rattle.std.specs.Int.{to_be_bytes, w16, w32}
 use Rattle.ct_base.specs.Zeros.{zeros}
 use Rattle.pg_page.specs.Pages.{Fits, page_bytes}
 
+-- an entry: its key and its value
+abbrev pub Entry : Type 0
+Entry = List ℕ × List ℕ
+
 pub data Kind : Type 0 where
   Free : Kind
   -- the strings of a slotted page

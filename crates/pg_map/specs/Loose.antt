@@ -3,10 +3,9 @@ use Rattle.std.specs.Bool.{if◌then◌else◌}
 use Rattle.std.proofs.Common.{◌≤◌, ◌≡◌, ℕ, ◌+◌, List, [], ◌∷◌, Option, Some, None}
 use Rattle.std.specs.FinMap.{get}
 use Rattle.ct_keep.specs.Content.{Content}
-use Rattle.ct_keep.specs.Laws.{same}
-use Rattle.pg_map.specs.Kinds.{Each, Kind, strings_of, IsStringItem}
+use Rattle.ct_keep.specs.laws.Content.{same}
+use Rattle.pg_map.specs.Kinds.{Each, Kind, strings_of, IsStringItem, Entry}
 use Rattle.pg_map.specs.Holding.{kind_of_page, IsChain, Placed, StandsFor, times, one_if_long, chains_of, bytes_of, entries_of}
-use Rattle.ct_keep.specs.Rising.{Entry}
 use Rattle.std.specs.Prelude.{codes, refl}
 
 abbrev pub values_under : List ℕ → List Entry → List (List ℕ)

@@ -1,14 +1,12 @@
 -- The map that pages hold, read from them with no test: a function, which tells the map wherever they hold one.
-use Rattle.std.specs.Prelude.{◌==◌, flat_map, map}
+use Rattle.std.specs.Prelude.{◌==◌, flat_map, map, ◌≡◌, codes, refl}
 use Rattle.std.specs.Bool.{if◌then◌else◌}
 use Rattle.std.proofs.Common.{ℕ, zero, suc, ◌+◌, List, [], ◌∷◌, ◌++◌, length, take, drop, get_or, Some}
 use Rattle.std.specs.FinMap.{empty}
 use Rattle.ct_keep.specs.Content.{Content, Change, after}
 use Rattle.pg_journal.specs.Pages.{root_page, home, number_in}
 use Rattle.pg_page.specs.Pages.{strings_in, number_at}
-use Rattle.pg_map.specs.Kinds.{Kind, bytes_of_kind}
-use Rattle.ct_keep.specs.Rising.{Entry}
-use Rattle.std.specs.Prelude.{◌≡◌, codes, refl}
+use Rattle.pg_map.specs.Kinds.{Kind, bytes_of_kind, Entry}
 
 abbrev pub first_byte : List ℕ → ℕ
 first_byte bytes = get_or bytes 0 0

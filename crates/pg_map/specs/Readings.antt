@@ -5,10 +5,8 @@ use Rattle.std.specs.FinMap.{get}
 use Rattle.std.specs.Coded.{Coded, code_by, coded_list, coded_option, coded_ℕ, coded×}
 use Rattle.ct_keep.specs.Content.{Content, Change}
 use Rattle.pg_map.specs.ChainReading.{taken_times, AreTaken, MayTake}
-use Rattle.pg_map.specs.Holding.{kind_of_page, Placed, StandsFor, times, one_if_long, IsLayout}
-use Rattle.ct_keep.specs.Rising.{Entry}
-use Rattle.pg_map.specs.Holding.{chains_of, bytes_of, entries_of}
-use Rattle.pg_map.specs.Kinds.{Each, Kind, Free, Slotted, Long, StringItem, IsStringItem, strings_of}
+use Rattle.pg_map.specs.Holding.{kind_of_page, Placed, StandsFor, times, one_if_long, IsLayout, chains_of, bytes_of, entries_of}
+use Rattle.pg_map.specs.Kinds.{Each, Kind, Free, Slotted, Long, StringItem, IsStringItem, strings_of, Entry}
 use Rattle.pg_map.specs.Loose.{values_under, Stand}
 use Rattle.pg_map.specs.MapReading.{puts}
 use Rattle.pg_map.specs.PageStrings.{string_key}

@@ -2,14 +2,20 @@
 use Rattle.std.specs.Prelude.{◌≡◌, Result, Ok, Err}
 use Rattle.std.proofs.Common.{refl, ◌∙◌, arith}
 use Rattle.ct_site.specs.declared.outside.Failed.{Failed}
-use Rattle.ct_base.specs.laws.Moments.{grows_itself}
-use Rattle.ct_site.specs.Disks.{DiskView, Works}
+use Rattle.ct_base.specs.laws.Moments.{adds_nothing_itself, grows_itself}
+use Rattle.ct_site.specs.Disks.{DiskView, IsSame, Works}
 use Rattle.ct_keep.specs.declared.keepers.KeepFault.{KeepFault}
 use Rattle.ct_keep.specs.declared.keepers.KeepFault.TheVariants.{Disk}
 use Rattle.pg_journal.specs.Syncs.{SyncsAtMost}
-use Rattle.pg_heap.specs.Commits.{CommitsPages, same_faults}
+use Rattle.pg_heap.specs.Commits.{CommitsPages, ReadsPages, same_faults}
+
+pub same_itself : (disk : DiskView) → IsSame disk disk
+same_itself disk = record { image = refl; crash = λ image left. left; time = adds_nothing_itself disk.time; syncs = refl }
 
 -- no call of the disk was made
+pub reads_none : {T : Type 0} (disk : DiskView) (result : Result T KeepFault) → (result ≡ Err Disk → ⊥) → ReadsPages disk disk result
+reads_none disk result other = record { same = same_itself disk; beside = refl; kept = grows_itself disk.time; later = omega arith; faults = same_faults result disk.faults other }
+
 pub commits_none : {T : Type 0} (disk : DiskView) (result : Result T KeepFault) → (result ≡ Err Disk → ⊥) → CommitsPages disk disk result
 commits_none disk result other = record { beside = refl; untold = λ none. none; kept = grows_itself disk.time; later = omega arith; faults = same_faults result disk.faults other; syncs = omega arith }
 

@@ -5,10 +5,9 @@ use Rattle.std.proofs.Common.{◌≤◌, ◌≡◌, ◌≢◌, ℕ, zero, suc, �
 use Rattle.std.specs.FinMap.{get}
 use Rattle.std.proofs.lemmas.List.{map-append}
 use Rattle.ct_keep.specs.Content.{Content, set_to}
-use Rattle.ct_keep.specs.Laws.{same, same_itself, same_keys, get-set_to}
-use Rattle.pg_map.specs.Kinds.{Each, Kind, Free, Slotted, Long, strings_of, StringItem, Short, Far, item_bytes, IsStringItem, key_in_item, page_of, count_of}
+use Rattle.ct_keep.specs.laws.Content.{same, same_itself, same_keys, get-set_to}
+use Rattle.pg_map.specs.Kinds.{Each, Kind, Free, Slotted, Long, strings_of, StringItem, Short, Far, item_bytes, IsStringItem, key_in_item, page_of, count_of, Entry}
 use Rattle.pg_map.specs.Holding.{kind_of_page, IsChain, Placed, StandsFor, times, one_if_long, chains_of, bytes_of, entries_of}
-use Rattle.ct_keep.specs.Rising.{Entry}
 use Rattle.pg_map.specs.laws.Holding.{long_parts, stands_key, strings-append, bytes-append, each-append, each-left, each-right}
 use Rattle.pg_map.specs.laws.OneMap.{one_item}
 use Rattle.pg_map.specs.Loose.{values_under, held, AreValues, Stand, IsLoose}

@@ -3,9 +3,8 @@ use Rattle.std.proofs.Common.{◌≤◌, ◌<◌, ◌≡◌, ⊎_elim, ℕ, zero
 use Rattle.std.specs.FinMap.{get}
 use Rattle.ct_keep.specs.Content.{Content, set_to}
 use Rattle.pg_page.specs.Pages.{Fits}
-use Rattle.pg_map.specs.Kinds.{Each, Kind, Free, Slotted, Long, IsKind, strings_of, StringItem, item_bytes, IsStringItem, key_in_item, page_of, count_of}
+use Rattle.pg_map.specs.Kinds.{Each, Kind, Free, Slotted, Long, IsKind, strings_of, StringItem, item_bytes, IsStringItem, key_in_item, page_of, count_of, Entry}
 use Rattle.pg_map.specs.Holding.{kind_of_page, IsChain, Placed, StandsFor, one_if_long}
-use Rattle.ct_keep.specs.Rising.{Entry}
 use Rattle.pg_map.specs.laws.Holding.{strings-append}
 use Rattle.pg_map.specs.laws.MapReading.{kind_is}
 use Rattle.pg_map.specs.Loose.{IsLoose}

@@ -1,5 +1,5 @@
--- A rougher bound on where a commit ends, for which the bytes of entries are enough: eight times the pages that there are, with 512 more
--- for each change and one for each 1,024 bytes that an entry begins.
+-- A rougher bound on where a commit ends, by the sizes of the entries alone: eight times as many pages as there are, 512 more for each
+-- change, and one more for every 1,024 bytes of an entry, where the last of them count as 1,024 too.
 use Rattle.std.proofs.Common.{◌≤◌, ℕ, ◌+◌, ◌*◌, ◌/◌, List, [], ◌∷◌, length, max, Option, Some, None, arith}
 use Rattle.std.specs.Prelude.{Bool, true, false, cond, nat_lt}
 use Rattle.std.specs.FinMap.{get}

@@ -1,23 +1,24 @@
 -- Laws of a keeper over the disk of a site.
-use Rattle.std.specs.Prelude.{ℕ, ◌≡◌, ◌⊎◌, ◌+◌, ◌≤◌, List, Option, Some, None, Result, Ok, Err, refl}
-use Rattle.std.specs.Result.{OnOk, OnErr}
-use Rattle.ct_keep.specs.KeeperViews.{fault_of}
-use Rattle.pg_heap.specs.Commits.{CommitsPages}
-use Rattle.std.proofs.Common.{sym, ap, subst, inl, inr, ⊎_elim, ◌∙◌, arith}
+use Rattle.std.specs.Prelude.{ℕ, ◌≡◌, ◌⊎◌, ◌≤◌, List, Option, Some, None, Result, Ok, Err, refl}
+use Rattle.ct_keep.specs.KeeperViews.{fault_of, AnswersCommit, KeeperView, Counts, IsDurable, Goes, ReadsKeeper, SameButContent, KeeperHears, KeeperSays, UnlessDisk, looked_up}
+use Rattle.std.specs.Result.{OnErr}
+use Rattle.pg_heap.specs.Applying.{Applies, IsOneMap}
+use Rattle.pg_heap.specs.Commits.{ReadsPages}
+use Rattle.std.proofs.Common.{sym, ap, subst, inl, inr, ⊎_elim, ◌∙◌}
 use base.Fml.{GName}
 use Rattle.ct_base.specs.Moments.{Timeline, Passes, AddsNothing}
+use Rattle.ct_base.specs.laws.Moments.{passes_nothing}
 use Rattle.ct_base.specs.Told.{IsSaid}
-use Rattle.ct_site.specs.Disks.{DiskView, IsNow, IsSame, Leaves, Hears, Says}
+use Rattle.ct_site.specs.Disks.{Beside, DiskView, IsNow, IsSame, Leaves, Hears, Says}
 use Rattle.ct_site.specs.laws.Calls.{settled_same}
 use Rattle.ct_keep.specs.declared.keepers.KeepFault.{KeepFault}
 use Rattle.ct_keep.specs.declared.keepers.KeepFault.TheVariants.{Memory, Disk, Full}
 use Rattle.ct_keep.specs.Content.{Content, Change, after}
 use Rattle.ct_keep.specs.Changes.{AreWell, HoldsWell}
-use Rattle.ct_keep.specs.WellLaws.{holds_after}
-use Rattle.ct_keep.specs.KeeperViews.{AnswersCommit, KeeperView, Counts, IsDurable, Goes, ReadsKeeper, SameButContent, KeeperHears, KeeperSays, UnlessDisk, CountsCommit, committed, looked_up}
+use Rattle.ct_keep.specs.laws.Changes.{holds_after}
 use Rattle.pg_journal.specs.Standing.{DiskStands}
 use Rattle.pg_journal.specs.Recovered.{IsRecovered}
-use Rattle.pg_heap.specs.Heaps.{HeapState, HeapStands, IsMap}
+use Rattle.pg_heap.specs.Heaps.{HeapState, HeapStands}
 use Rattle.pg_map.specs.Holding.{Recovers, Holds}
 use Rattle.pg_map.specs.MapReading.{behind_root}
 use Rattle.pg_heap.specs.Recovering.{recovered}
@@ -104,8 +105,9 @@ module _ (old new : DiskView) (heap : HeapState) (well : List ℕ → List ℕ �
       well = record { takes = λ key value is. is };
       fixed = refl;
       content = ap (λ (o : Option (List ℕ)). told_content o heap.held) hears.same.image;
-      counts = ap (λ (n : ℕ). record counts { syncs = n }) hears.same.syncs;
+      counts = refl;
       disk_faults = hears.faults;
+      disk_syncs = hears.same.syncs;
     };
     left = hears.left;
     said = hears.said;
@@ -125,8 +127,9 @@ module _ (old new : DiskView) (heap : HeapState) (well : List ℕ → List ℕ �
       well = record { takes = λ key value is. is };
       fixed = refl;
       content = ap (λ (o : Option (List ℕ)). told_content o heap.held) says.image;
-      counts = ap (λ (n : ℕ). record counts { syncs = n }) says.syncs;
+      counts = refl;
       disk_faults = says.faults;
+      disk_syncs = says.syncs;
     };
     said = says.said;
     left = says.left;
@@ -144,59 +147,45 @@ module _ (old new : DiskView) (heap : HeapState) (well : List ℕ → List ℕ �
         };
   }
 
--- ---- look-ups, which make no call of the disk
+-- ---- look-ups
 
--- a look-up that succeeded or found no memory, after which the disk and the heap are as they were
-pub looked : (disk : DiskView) (heap : HeapState) (well : List ℕ → List ℕ → Type 0) (limit : ℕ) (counts after_it : Counts) (lender : GName) (fault : Option KeepFault) → IsUsable disk heap well
-    → (fault ≡ None) ⊎ (fault ≡ Some Memory) → after_it.fulls ≡ counts.fulls → after_it.commits ≡ counts.commits
-    → ReadsKeeper (paged_view disk heap well limit counts lender) (paged_view disk heap well limit after_it lender) fault
-looked disk heap well limit counts after_it lender fault ready how fulls commits = ⊎_elim (λ none. rw none succeeded) (λ short. rw short failed) how
+-- a look-up, after which the disk is as it was to a reader, and the heap as it was
+pub looked : {T : Type 0} (old new : DiskView) (heap heap' : HeapState) (well : List ℕ → List ℕ → Type 0) (limit : ℕ) (counts counts' : Counts) (lender : GName) (asked : List ℕ) (handed : Option (List ℕ)) (result : Result T KeepFault)
+    → IsUsable old heap well → ReadsPages old new result → OnErr result (result ≡ Err Memory) → heap' ≡ heap → counts' ≡ looked_up asked handed counts
+    → ReadsKeeper (paged_view old heap well limit counts lender) (paged_view new heap' well limit counts' lender) (fault_of result)
+looked old new heap heap' well limit counts counts' lender asked handed result ready reads short same counted = rw same (record {
+  not_full = never_full result short;
+  kept = record {
+    ready = unless_disk (fault_of result) (usable_same old new heap well reads.same ready);
+    beside = reads.beside;
+    well = record { takes = λ key value is. is };
+    fixed = refl;
+    later = reads.later;
+    cause = reads.faults;
+  };
+  content = unless_disk (fault_of result) (ap (λ (o : Option (List ℕ)). told_content o heap.held) reads.same.image);
+  time = adds_recovered old.time new.time reads.same.time;
+  now = λ stopped said n. record { image = n.image; left = (reads.same.crash n.image n.left.0, subst (λ (b : Beside). IsSaid b.said said) reads.beside n.left.1); is = n.is };
+  fulls = ap (λ (c : Counts). c.fulls) counted;
+  commits = ap (λ (c : Counts). c.commits) counted;
+  syncs = reads.same.syncs;
+})
   where
-    old : KeeperView
-    old = paged_view disk heap well limit counts lender
+    unless_disk : {P : Type 0} (fault : Option KeepFault) → P → UnlessDisk fault P
+    unless_disk None p = p
+    unless_disk (Some Memory) p = p
+    unless_disk (Some Full) p = p
+    unless_disk (Some Disk) p = tt
 
-    new : KeeperView
-    new = paged_view disk heap well limit after_it lender
-
-    succeeded : ReadsKeeper old new None
-    succeeded = record {
-      not_full = λ e. cc;
-      kept = record { ready = ready; beside = refl; well = record { takes = λ key value is. is }; fixed = refl; later = omega arith; cause = refl };
-      content = refl;
-      time = record { same = λ t x said now. now };
-      now = λ stopped said now. now;
-      fulls = fulls;
-      commits = commits;
-      syncs = refl;
-    }
-
-    failed : ReadsKeeper old new (Some Memory)
-    failed = record {
-      not_full = λ e. cc;
-      kept = record { ready = ready; beside = refl; well = record { takes = λ key value is. is }; fixed = refl; later = omega arith; cause = refl };
-      content = refl;
-      time = record { same = λ t x said now. now };
-      now = λ stopped said now. now;
-      fulls = fulls;
-      commits = commits;
-      syncs = refl;
-    }
-
--- what it counted
-pub looked_counts : (asked : List ℕ) (handed : Option (List ℕ)) (counts after_it : Counts) (old new : ℕ) → after_it ≡ looked_up asked handed counts → new ≡ old
-    → record after_it { syncs = new } ≡ looked_up asked handed (record counts { syncs = old })
-looked_counts asked handed counts after_it old new is same = ap (λ (c : Counts). record c { syncs = new }) is ∙ ap (λ (n : ℕ). record (looked_up asked handed counts) { syncs = n }) same
+    never_full : {T : Type 0} (result : Result T KeepFault) → OnErr result (result ≡ Err Memory) → fault_of result ≡ Some Full → ⊥
+    never_full (Ok x) is e = cc
+    never_full (Err Memory) is e = cc
+    never_full (Err Full) is e = cc
+    never_full (Err Disk) is e = cc
 
 -- ---- a commit
 
--- what it counted
-pub commit_counts : (fault : Option KeepFault) (counts counts' : Counts) (old new : ℕ) → counts' ≡ committed fault counts → new ≤ old + 4 → CountsCommit fault (record counts { syncs = old }) (record counts' { syncs = new })
-commit_counts fault counts counts' old new is few = record { is = ap (λ (c : Counts). record c { syncs = new }) is; few = few }
-
-abbrev MapsOf : Content → Content → List ℕ → Type 0
-MapsOf m next image = IsMap m image ⊎ IsMap next image
-
-left_one : (m next : Content) (image : List ℕ) (stopped : Option Content) → MapsOf m next image → Recovers image stopped → (stopped ≡ Some m) ⊎ (stopped ≡ Some next)
+left_one : (m next : Content) (image : List ℕ) (stopped : Option Content) → IsOneMap m next image → Recovers image stopped → (stopped ≡ Some m) ⊎ (stopped ≡ Some next)
 left_one m next image stopped either is = ⊎_elim (λ r. inl (one_recovery image stopped (Some m) is r)) (λ r. inr (one_recovery image stopped (Some next) is r)) either
 
 -- what came of a commit of pages, as the keeper has it: the moments of the disk are those of the old map and of the new one
@@ -207,18 +196,18 @@ module _ (old new : DiskView) (heap heap' : HeapState) (well : List ℕ → List
   abbrev is_now : KeeperView
   is_now = paged_view new heap' well limit counts' lender
 
-  moments : Leaves old new (MapsOf heap.held (after batch heap.held)) → Passes was.time is_now.time (λ stopped said. ((stopped ≡ Some heap.held) ⊎ (stopped ≡ Some (after batch heap.held))) × IsSaid old.beside.said said)
-  moments leaves = recovered_passes old.time new.time (MapsOf heap.held (after batch heap.held)) (λ stopped. (stopped ≡ Some heap.held) ⊎ (stopped ≡ Some (after batch heap.held))) old.beside.said leaves.time
+  moments : Leaves old new (IsOneMap heap.held (after batch heap.held)) → Passes was.time is_now.time (λ stopped said. ((stopped ≡ Some heap.held) ⊎ (stopped ≡ Some (after batch heap.held))) × IsSaid old.beside.said said)
+  moments leaves = recovered_passes old.time new.time (IsOneMap heap.held (after batch heap.held)) (λ stopped. (stopped ≡ Some heap.held) ⊎ (stopped ≡ Some (after batch heap.held))) old.beside.said leaves.time
       (λ image stopped either is. left_one heap.held (after batch heap.held) image stopped either is)
 
-  now_left : new.beside ≡ old.beside → Leaves old new (MapsOf heap.held (after batch heap.held)) → (stopped : Option Content) (said : List ℕ) → LeavesNow new stopped said
+  now_left : new.beside ≡ old.beside → Leaves old new (IsOneMap heap.held (after batch heap.held)) → (stopped : Option Content) (said : List ℕ) → LeavesNow new stopped said
       → ((stopped ≡ Some heap.held) ⊎ (stopped ≡ Some (after batch heap.held))) × IsSaid old.beside.said said
   now_left beside leaves stopped said n =
       (left_one heap.held (after batch heap.held) n.image stopped (leaves.now n.image n.left.0) n.is, subst (λ b. IsSaid b said) (ap (λ b. b.said) beside) n.left.1)
 
   -- it was done
   pub committed_goes : (m : Content) → told_content old.image heap.held ≡ Some m → heap'.held ≡ after batch heap.held → HeapStands new heap'
-      → new.beside ≡ old.beside → Leaves old new (MapsOf heap.held (after batch heap.held)) → Goes m (after batch m) was is_now None
+      → new.beside ≡ old.beside → Leaves old new (IsOneMap heap.held (after batch heap.held)) → Goes m (after batch m) was is_now None
   committed_goes m holds made st beside leaves =
       let t = told_of old.image heap.held m holds in
       subst (λ (n : Content). Goes n (after batch n) was is_now None) t.one (record {
@@ -228,27 +217,35 @@ module _ (old new : DiskView) (heap heap' : HeapState) (well : List ℕ → List
       })
 
   -- the disk failed
-  pub failed_goes : (m : Content) → told_content old.image heap.held ≡ Some m → new.beside ≡ old.beside → Leaves old new (MapsOf heap.held (after batch heap.held)) → Goes m (after batch m) was is_now (Some Disk)
+  pub failed_goes : (m : Content) → told_content old.image heap.held ≡ Some m → new.beside ≡ old.beside → Leaves old new (IsOneMap heap.held (after batch heap.held)) → Goes m (after batch m) was is_now (Some Disk)
   failed_goes m holds beside leaves =
       let t = told_of old.image heap.held m holds in
       subst (λ (n : Content). Goes n (after batch n) was is_now (Some Disk)) t.one (record { content = tt; time = moments leaves; now = now_left beside leaves })
 
 -- nothing was done, for want of memory or room
-pub stayed_goes : (disk : DiskView) (heap : HeapState) (well : List ℕ → List ℕ → Type 0) (limit : ℕ) (counts counts' : Counts) (lender : GName) (m next : Content) → told_content disk.image heap.held ≡ Some m
-    → IsUsable disk heap well → Goes m next (paged_view disk heap well limit counts lender) (paged_view disk heap well limit counts' lender) (Some Memory)
-stayed_goes disk heap well limit counts counts' lender m next holds ready = record {
-  content = holds;
-  time = record { adds = λ t x said now. inl now };
-  now = λ stopped said n. (paged_durable disk heap well limit counts lender ready).here m holds stopped said n;
-}
+module _ (old new : DiskView) (heap : HeapState) (well : List ℕ → List ℕ → Type 0) (limit : ℕ) (counts counts' : Counts) (lender : GName) (m next : Content) where
+  abbrev stood : KeeperView
+  stood = paged_view old heap well limit counts lender
 
-pub refused_goes : (disk : DiskView) (heap : HeapState) (well : List ℕ → List ℕ → Type 0) (limit : ℕ) (counts counts' : Counts) (lender : GName) (m next : Content) → told_content disk.image heap.held ≡ Some m
-    → IsUsable disk heap well → Goes m next (paged_view disk heap well limit counts lender) (paged_view disk heap well limit counts' lender) (Some Full)
-refused_goes disk heap well limit counts counts' lender m next holds ready = record {
-  content = holds;
-  time = record { adds = λ t x said now. inl now };
-  now = λ stopped said n. (paged_durable disk heap well limit counts lender ready).here m holds stopped said n;
-}
+  abbrev stands_now : KeeperView
+  stands_now = paged_view new heap well limit counts' lender
+
+  same_content : IsSame old new → told_content old.image heap.held ≡ Some m → told_content new.image heap.held ≡ Some m
+  same_content same holds = ap (λ (o : Option (List ℕ)). told_content o heap.held) same.image ∙ holds
+
+  same_moments : IsSame old new → Passes stood.time stands_now.time (λ stopped said. (stopped ≡ Some m) × IsSaid old.beside.said said)
+  same_moments same = passes_nothing stood.time stands_now.time _ (adds_recovered old.time new.time same.time)
+
+  left_same : IsSame old new → new.beside ≡ old.beside → told_content old.image heap.held ≡ Some m → IsUsable old heap well → (stopped : Option Content) (said : List ℕ) → LeavesNow new stopped said → (stopped ≡ Some m) × IsSaid old.beside.said said
+  left_same same beside holds ready stopped said n =
+      (paged_durable old heap well limit counts lender ready).here m holds stopped said
+      (record { image = n.image; left = (same.crash n.image n.left.0, subst (λ (b : Beside). IsSaid b.said said) beside n.left.1); is = n.is })
+
+  pub stayed_goes : IsSame old new → new.beside ≡ old.beside → told_content old.image heap.held ≡ Some m → IsUsable old heap well → Goes m next stood stands_now (Some Memory)
+  stayed_goes same beside holds ready = record { content = same_content same holds; time = same_moments same; now = left_same same beside holds ready }
+
+  pub refused_goes : IsSame old new → new.beside ≡ old.beside → told_content old.image heap.held ≡ Some m → IsUsable old heap well → Goes m next stood stands_now (Some Full)
+  refused_goes same beside holds ready = record { content = same_content same holds; time = same_moments same; now = left_same same beside holds ready }
 
 -- each entry is one that the keeper may hold, also after a batch of such entries
 pub usable_after : (new : DiskView) (heap heap' : HeapState) (well : List ℕ → List ℕ → Type 0) (batch : List Change) → HoldsWell well heap.held → AreWell well batch → heap'.held ≡ after batch heap.held
@@ -261,26 +258,17 @@ stands_after : (told : Option (List ℕ)) (old new : DiskView) (heap heap' : Hea
 stands_after None old new heap heap' is untold before then_ image now = let no : None ≡ Some image = sym (untold is) ∙ now in cc
 stands_after (Some was) old new heap heap' is untold before then_ image now = then_ (before was is)
 
--- What a call of the heap says of a batch that it was to apply.
-pub record Applied {T : Type 0} (old new : DiskView) (heap heap' : HeapState) (batch : List Change) (result : Result T KeepFault) : Type 0 where
-  pub commits : CommitsPages old new result
-  pub moments : HeapStands old heap → Leaves old new (MapsOf heap.held (after batch heap.held))
-  pub stands : HeapStands old heap → OnOk result (HeapStands new heap')
-  pub held : OnOk result (heap'.held ≡ after batch heap.held)
-  pub whole : OnOk result (Holds (behind_root heap'.kinds) heap'.held)
-  pub err : OnErr result (heap' ≡ heap)
-
 module _ (old new : DiskView) (heap heap' : HeapState) (well : List ℕ → List ℕ → Type 0) (limit : ℕ) (counts counts' : Counts) (lender : GName) (batch : List Change) where
-  pub ready_applied : {T : Type 0} (result : Result T KeepFault) → IsUsable old heap well → AreWell well batch → Applied old new heap heap' batch result → (result ≡ Err Memory → new ≡ old) → (result ≡ Err Full → new ≡ old) → UnlessDisk (fault_of result) (IsUsable new heap' well)
-  ready_applied (Ok x) ready are a short full = usable_after new heap heap' well batch ready.entries are a.held (stands_after old.image old new heap heap' refl a.commits.untold ready.stands a.stands) a.whole
-  ready_applied (Err Memory) ready are a short full = rw (short refl, a.err) ready
-  ready_applied (Err Full) ready are a short full = rw (full refl, a.err) ready
-  ready_applied (Err Disk) ready are a short full = tt
+  pub ready_applied : {T : Type 0} (result : Result T KeepFault) → IsUsable old heap well → AreWell well batch → Applies batch old new heap heap' result → UnlessDisk (fault_of result) (IsUsable new heap' well)
+  ready_applied (Ok x) ready are a = usable_after new heap heap' well batch ready.entries are a.held (stands_after old.image old new heap heap' refl a.commits.untold ready.stands a.stands) a.whole
+  ready_applied (Err Memory) ready are a = rw a.err (usable_same old new heap well a.unwritten ready)
+  ready_applied (Err Full) ready are a = rw a.err (usable_same old new heap well a.unwritten ready)
+  ready_applied (Err Disk) ready are a = tt
 
-  pub kept_applied : {T : Type 0} (result : Result T KeepFault) → IsUsable old heap well → AreWell well batch → Applied old new heap heap' batch result → (result ≡ Err Memory → new ≡ old) → (result ≡ Err Full → new ≡ old)
+  pub kept_applied : {T : Type 0} (result : Result T KeepFault) → IsUsable old heap well → AreWell well batch → Applies batch old new heap heap' result
       → SameButContent (paged_view old heap well limit counts lender) (paged_view new heap' well limit counts' lender) (fault_of result)
-  kept_applied result ready are a short full = record {
-    ready = ready_applied result ready are a short full;
+  kept_applied result ready are a = record {
+    ready = ready_applied result ready are a;
     beside = a.commits.beside;
     well = record { takes = λ key value is. is };
     fixed = refl;
@@ -288,15 +276,15 @@ module _ (old new : DiskView) (heap heap' : HeapState) (well : List ℕ → List
     cause = a.commits.faults;
   }
 
-  pub goes_applied : {T : Type 0} (result : Result T KeepFault) → IsUsable old heap well → Applied old new heap heap' batch result → (result ≡ Err Memory → new ≡ old) → (result ≡ Err Full → new ≡ old) → (m : Content) → told_content old.image heap.held ≡ Some m
+  pub goes_applied : {T : Type 0} (result : Result T KeepFault) → IsUsable old heap well → Applies batch old new heap heap' result → (m : Content) → told_content old.image heap.held ≡ Some m
       → Goes m (after batch m) (paged_view old heap well limit counts lender) (paged_view new heap' well limit counts' lender) (fault_of result)
-  goes_applied (Ok x) ready a short full m holds =
+  goes_applied (Ok x) ready a m holds =
       let t = told_of old.image heap.held m holds in
       let st = ready.stands t.image t.is in
       committed_goes old new heap heap' well limit counts counts' lender batch m holds a.held (a.stands st) a.commits.beside (a.moments st)
-  goes_applied (Err Memory) ready a short full m holds = rw (short refl, a.err) (stayed_goes old heap well limit counts counts' lender m (after batch m) holds ready)
-  goes_applied (Err Full) ready a short full m holds = rw (full refl, a.err) (refused_goes old heap well limit counts counts' lender m (after batch m) holds ready)
-  goes_applied (Err Disk) ready a short full m holds =
+  goes_applied (Err Memory) ready a m holds = rw a.err (stayed_goes old new heap well limit counts counts' lender m (after batch m) a.unwritten a.commits.beside holds ready)
+  goes_applied (Err Full) ready a m holds = rw a.err (refused_goes old new heap well limit counts counts' lender m (after batch m) a.unwritten a.commits.beside holds ready)
+  goes_applied (Err Disk) ready a m holds =
       let t = told_of old.image heap.held m holds in
       failed_goes old new heap heap' well limit counts counts' lender batch m holds a.commits.beside (a.moments (ready.stands t.image t.is))
 

@@ -5,10 +5,9 @@ use Rattle.std.specs.Option.{unwrap_or}
 use Rattle.std.specs.List.{Contains, AllPairs}
 use Rattle.std.specs.FinMap.{get}
 use Rattle.ct_keep.specs.Content.{Content, Change, after}
-use Rattle.ct_keep.specs.Laws.{last_change, get-after}
-use Rattle.pg_map.specs.Kinds.{Each, Kind, Free, Slotted, Long, strings_of, StringItem, Short, Far, item_bytes, IsStringItem, key_in_item}
+use Rattle.ct_keep.specs.laws.Content.{last_change, get-after}
+use Rattle.pg_map.specs.Kinds.{Each, Kind, Free, Slotted, Long, strings_of, StringItem, Short, Far, item_bytes, IsStringItem, key_in_item, Entry}
 use Rattle.pg_map.specs.Holding.{kind_of_page, IsChain, Placed, StandsFor, times, one_if_long, AreEntries, IsLayout, chains_of, bytes_of, entries_of}
-use Rattle.ct_keep.specs.Rising.{Entry}
 
 -- ---- entries after changes
 

@@ -3,10 +3,9 @@ use Rattle.std.proofs.lemmas.Bool.{eq-eqb}
 use Rattle.std.proofs.lemmas.Bool.Decides.{eqb_tells}
 use Rattle.std.specs.Prelude.{Bool, true, false, cond}
 use Rattle.std.proofs.Common.{◌≤◌, ◌≡◌, ◌≢◌, ⊎_elim, ℕ, ◌+◌, ◌==◌, List, [], ◌∷◌, ◌++◌, refl, sym, ap, ◌∙◌, arith}
-use Rattle.ct_keep.specs.Laws.{same}
-use Rattle.pg_map.specs.Kinds.{Kind, StringItem, Short, Far}
+use Rattle.ct_keep.specs.laws.Content.{same}
+use Rattle.pg_map.specs.Kinds.{Kind, StringItem, Short, Far, Entry}
 use Rattle.pg_map.specs.Holding.{kind_of_page, IsChain, Placed, StandsFor, times, chains_of}
-use Rattle.ct_keep.specs.Rising.{Entry}
 use Rattle.pg_map.specs.Loose.{values_under, Stand}
 
 -- ---- the values of a key among entries

@@ -13,14 +13,13 @@ use Rattle.std.specs.FinMap.{get, get-empty}
 use Rattle.std.specs.Ordering.{nat_cmp}
 use Rattle.std.specs.Cmp.Lexicographic.{slice_cmp}
 use Rattle.ct_keep.specs.Content.{Content, after}
-use Rattle.ct_keep.specs.Laws.{last_change, get-after, same, same_keys, same_itself, same_content}
+use Rattle.ct_keep.specs.laws.Content.{last_change, get-after, same, same_keys, same_itself, same_content}
 use Rattle.pg_journal.specs.Pages.{root_page, home, number_in}
 use Rattle.pg_journal.specs.Recovered.{first_pages}
 use Rattle.pg_page.specs.Pages.{page_bytes, strings_in, number_at}
-use Rattle.pg_page.specs.ReadLaws.{count_of_page, page_read}
-use Rattle.pg_map.specs.Kinds.{Each, Kind, Free, Slotted, Long, bytes_of_kind, IsKind, strings_of, StringItem, Short, Far, item_bytes, IsStringItem}
+use Rattle.pg_page.specs.laws.Reading.{count_of_page, page_read}
+use Rattle.pg_map.specs.Kinds.{Each, Kind, Free, Slotted, Long, bytes_of_kind, IsKind, strings_of, StringItem, Short, Far, item_bytes, IsStringItem, Entry}
 use Rattle.pg_map.specs.Holding.{kind_of_page, IsChain, Placed, StandsFor, AreEntries, IsLayout, Holds}
-use Rattle.ct_keep.specs.Rising.{Entry}
 use Rattle.pg_map.specs.MapReading.{value_in, entry_in, strings_on, nothing, puts, map_in, behind_root}
 use Rattle.pg_map.specs.laws.OneMap.{long_bytes}
 

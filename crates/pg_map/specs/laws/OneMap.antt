@@ -6,12 +6,11 @@ use Rattle.std.proofs.lemmas.Nat.{from_be_bytes-to_be_bytes_2, from_be_bytes-to_
 use Rattle.std.specs.Int.{to_be_bytes, from_be_bytes, w16, w32}
 use Rattle.std.specs.FinMap.{get}
 use Rattle.ct_keep.specs.Content.{Content}
-use Rattle.ct_keep.specs.Laws.{same_content}
+use Rattle.ct_keep.specs.laws.Content.{same_content}
 use Rattle.ct_base.specs.Zeros.{zeros}
-use Rattle.pg_page.specs.ReadLaws.{one_page}
-use Rattle.pg_map.specs.Kinds.{Each, Kind, Free, Slotted, Long, bytes_of_kind, IsKind, StringItem, Short, Far, item_bytes, IsStringItem}
+use Rattle.pg_page.specs.laws.Reading.{one_page}
+use Rattle.pg_map.specs.Kinds.{Each, Kind, Free, Slotted, Long, bytes_of_kind, IsKind, StringItem, Short, Far, item_bytes, IsStringItem, Entry}
 use Rattle.pg_map.specs.Holding.{kind_of_page, IsChain, Placed, StandsFor, AreEntries, IsLayout, Holds}
-use Rattle.ct_keep.specs.Rising.{Entry}
 
 -- ---- kinds
 

@@ -6,10 +6,9 @@ use Rattle.std.specs.FinMap.{get}
 use Rattle.std.proofs.lemmas.List.Elements.{at_from_Contains, Contains-from_at}
 use Rattle.std.proofs.lemmas.Bool.{false≢true}
 use Rattle.ct_keep.specs.Content.{Content}
-use Rattle.ct_keep.specs.Laws.{same, same_itself, same_keys}
-use Rattle.pg_map.specs.Kinds.{Kind}
+use Rattle.ct_keep.specs.laws.Content.{same, same_itself, same_keys}
+use Rattle.pg_map.specs.Kinds.{Kind, Entry}
 use Rattle.pg_map.specs.Holding.{times, AreEntries, IsLayout, chains_of, entries_of}
-use Rattle.ct_keep.specs.Rising.{Entry}
 use Rattle.pg_map.specs.laws.MapReading.{in_more, later, here, not_in_none}
 use Rattle.pg_map.specs.Loose.{values_under, held, AreValues, IsLoose}
 

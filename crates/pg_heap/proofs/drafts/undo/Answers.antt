@@ -13,11 +13,11 @@ index_mut-requires c = omega (arith, undoes_within c.args.sheets.now.items c.loo
 
 pub loop-note-preserved-in-Some : goal.loop-note-preserved-in-Some
 loop-note-preserved-in-Some c =
-    undoes_step c.args.sheets.now.items c.loop-note.sheets.items _ c.args.notes.now.items c.loop-note.notes.items c.pop.new.self.items c.in-Some.note c.loop-note.invariant c.in-Some.ensures.items refl
+    undoes_step c.args.sheets.now.items c.loop-note.sheets.items _ c.args.notes.now.items c.loop-note.notes.items c.pop.new.self.items c.in-Some.note c.kept_sheet.result c.loop-note.invariant c.in-Some.ensures.items c.kept_sheet.ensures refl
 
 pub loop-note-preserved : goal.loop-note-preserved
 loop-note-preserved c =
-    undoes_step c.args.sheets.now.items c.loop-note.sheets.items _ c.args.notes.now.items c.loop-note.notes.items c.pop.new.self.items c.in-Some.note c.loop-note.invariant c.in-Some.ensures.items refl
+    undoes_step c.args.sheets.now.items c.loop-note.sheets.items _ c.args.notes.now.items c.loop-note.notes.items c.pop.new.self.items c.in-Some.note c.kept_sheet.result c.loop-note.invariant c.in-Some.ensures.items c.kept_sheet.ensures refl
 
 pub returns : goal.returns
 returns c =

@@ -5,7 +5,7 @@ use Rattle.pg_map.specs.laws.Sheets.{length-sheet_kinds}
 use Rattle.pg_heap.proofs.Freeing.{loaded_free}
 use Rattle.std.proofs.lemmas.Result.{err_from_is_err_and}
 use Rattle.pg_journal.specs.declared.faults.LoadFault.TheVariants.{NotAStore}
-use Rattle.pg_journal.specs.Looking.{known_by}
+use Rattle.pg_journal.specs.laws.Looking.{known_by}
 use Rattle.pg_journal.specs.Recovered.{Alike}
 use Rattle.pg_journal.specs.laws.Recovered.{born_or_not}
 use Rattle.pg_map.specs.Sheets.{sheet_kinds}

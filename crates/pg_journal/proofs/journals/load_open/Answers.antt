@@ -23,15 +23,13 @@ finish-requires-clause-inside g c = finish_inside _ _ c.in-Some.batch.pages c.lo
 
 pub returns-in_default-finish-clause-moments : goal.returns-in_default-finish-clause-moments
 returns-in_default-finish-clause-moments g c = λ image settled.
-    let f = to_finish image _ c.in-Some.batch.pages c.in-Some.homes (c.requires.store image settled.told) (c.in_ok-batch.ensures.is image settled.told (c.requires.gate image settled.told)) (ap (option_map (λ f. (f.0.pages, f.1))) c.in-Some.is) in
-    finish_moments image c.in-Some.batch.pages c.in-Some.homes _ _ _ f settled c.look_open.ensures.same c.look_open.ensures.loads.beside
-    (c.finish.ensures.moments _ _ image (settled_same _ _ image c.look_open.ensures.same settled) f.goal_is f.settling)
+    finish_moments image _ c.in-Some.batch.pages c.in-Some.homes _ _ _ (c.requires.store image settled.told) (c.in_ok-batch.ensures.is image settled.told (c.requires.gate image settled.told))
+    (ap (option_map (λ f. (f.0.pages, f.1))) c.in-Some.is) settled c.look_open.ensures.same c.look_open.ensures.loads.beside c.finish.ensures.moments
 
 pub returns-clause-moments : goal.returns-clause-moments
 returns-clause-moments g c = λ image settled.
-    let f = to_finish image _ c.in-Some.batch.pages c.in-Some.homes (c.requires.store image settled.told) (c.in_ok-batch.ensures.is image settled.told (c.requires.gate image settled.told)) (ap (option_map (λ f. (f.0.pages, f.1))) c.in-Some.is) in
-    finish_moments image c.in-Some.batch.pages c.in-Some.homes _ _ _ f settled c.look_open.ensures.same c.look_open.ensures.loads.beside
-    (c.finish.ensures.moments _ _ image (settled_same _ _ image c.look_open.ensures.same settled) f.goal_is f.settling)
+    finish_moments image _ c.in-Some.batch.pages c.in-Some.homes _ _ _ (c.requires.store image settled.told) (c.in_ok-batch.ensures.is image settled.told (c.requires.gate image settled.told))
+    (ap (option_map (λ f. (f.0.pages, f.1))) c.in-Some.is) settled c.look_open.ensures.same c.look_open.ensures.loads.beside c.finish.ensures.moments
 
 pub returns-clause-loaded : goal.returns-clause-loaded
 returns-clause-loaded g c = λ image settled.

@@ -2,7 +2,7 @@ use Rattle.std.proofs.Common.{Option, subst, ℕ, Vec}
 use Rattle.std.specs.Option.{option_map}
 use Rattle.std.specs.declared.alloc.Global.{Global}
 use Rattle.pg_map.specs.declared.item_reading.Form.{Form}
-use Rattle.ct_keep.specs.Rising.{Entry}
+use Rattle.pg_map.specs.Kinds.{Entry}
 use Rattle.pg_map.specs.ItemReading.{item_in, IsItemOr}
 use Rattle.pg_map.specs.Readings.{IsEntryOr}
 use Rattle.pg_map.specs.Sheets.{sheet_kinds}

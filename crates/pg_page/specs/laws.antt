@@ -1,0 +1,3 @@
+-- Laws of the bytes of pages.
+pub mod Pages
+pub mod Reading
