@@ -7,7 +7,7 @@ use Rattle.ct_base.specs.declared.lists.Value.{Value}
 use Rattle.db_rows.specs.Reading.{IsReadOf}
 use Rattle.db_rows.specs.declared.reading.RowRead.{RowRead}
 use Rattle.db_select.specs.declared.sources.FieldSource.{FieldSource}
-use Rattle.db_select.specs.Sources.{field_value, line_fields as fields_of}
+use Rattle.db_select.specs.Fields.{field_value, line_fields as fields_of}
 
 -- the first `i` fields were read
 pub record AreRead (r : ℤ) (vs : List Value) (score : ℕ) (sources : List FieldSource) (i : ℕ) (read : RowRead) (fields : List Value) : Type 0 where

@@ -10,22 +10,22 @@ use Rattle.std.proofs.lemmas.List.{take_all, take_more}
 use Rattle.std.proofs.lemmas.List.Elements.{filter-append}
 use Rattle.ct_base.specs.declared.lists.Value.{Value}
 use Rattle.ct_base.specs.declared.numbers.RowKey.{RowKey}
-use Rattle.ct_keep.specs.RisingKeys.{entries_rise}
-use Rattle.ct_keep.specs.FoundKeys.{found_listed}
+use Rattle.ct_keep.specs.laws.RisingKeys.{entries_rise}
+use Rattle.ct_keep.specs.laws.FoundKeys.{found_listed}
 use Rattle.st_parse.specs.declared.statements.Cond.{Cond}
 use Rattle.tb_table.specs.Tables.{Table}
 use Rattle.ix_search.specs.declared.hits.Hit.{Hit}
+use Rattle.ix_search.specs.Hits.{hit_rows}
 use Rattle.ix_indexes.specs.Indexes.{Index}
 use Rattle.db_state.specs.States.{StoreState}
-use Rattle.db_rows.specs.Values.{values_of}
+use Rattle.db_rows.specs.Values.{values_behind_key}
 use Rattle.db_rows.specs.Meeting.{row_meets, key_meets, meeting_keys}
-use Rattle.db_select.specs.Predicates.{Search}
-use Rattle.db_select.specs.Checking.{threshold_of}
-use Rattle.db_select.specs.Selecting.{index_of_search, found_in, hits}
-use Rattle.ix_search.specs.Hits.{hit_rows}
-use Rattle.db_select.specs.Sources.{unscored}
-use Rattle.db_select.proofs.Scores.{filter_mapped}
-use Rattle.db_select.proofs.Selects.{map_map}
+use Rattle.db_find.specs.Searches.{Search}
+use Rattle.db_find.specs.Seeking.{index_of_search}
+use Rattle.db_find.specs.Finding.{found_in, search_rows}
+use Rattle.db_find.specs.laws.Filtering.{filter_mapped}
+use Rattle.db_select.specs.Hits.{hits, unscored}
+use Rattle.db_select.proofs.SelectLaws.{map_map}
 
 -- of the first `i` rows those that meet the conditions were put
 pub record AreMet (p : Hit → Bool) (found : List Hit) (i : ℕ) (hits : List Hit) : Type 0 where
@@ -52,11 +52,9 @@ module _ (p : Hit → Bool) (found : List Hit) where
 
 -- ---- with a search
 
-pub searched_are : (m : StoreState) (t : List ℕ) (x : Table) (s : Search) (conds : List Cond) (y : Index) → index_of_search m t x.columns s ≡ Some y → (o : Option ℕ) → threshold_of s.above ≡ o
-    → filter (λ h. key_meets x conds h.0) (found_in m.tables (Some y) s.query o) ≡ hits m t x (Some s) conds
-searched_are m t x s conds y needed o is =
-    sym (ap (λ (i : Option Index). filter (λ (h : ℤ × ℕ). key_meets x conds h.0) (found_in m.tables i s.query (threshold_of s.above))) needed
-    ∙ ap (λ (o : Option ℕ). filter (λ (h : ℤ × ℕ). key_meets x conds h.0) (found_in m.tables (Some y) s.query o)) is)
+pub searched_are : (m : StoreState) (t : List ℕ) (x : Table) (s : Search) (conds : List Cond) (y : Index) → index_of_search m t x.columns s ≡ Some y
+    → filter (λ h. key_meets x conds h.0) (search_rows m.tables y s) ≡ hits m t x (Some s) conds
+searched_are m t x s conds y needed = sym (ap (λ (i : Option Index). filter (λ (h : ℤ × ℕ). key_meets x conds h.0) (found_in m.tables i s)) needed)
 
 pub met_are : (x : Table) (conds : List Cond) (all met : List Hit) (found : List (ℤ × ℕ)) → hit_rows all ≡ found → met ≡ filter (λ h. key_meets x conds h.key.0) all
     → hit_rows met ≡ filter (λ h. key_meets x conds h.0) found
@@ -74,7 +72,7 @@ filter_alike {X} p q (x ∷ xs) all = λ i. if all.0 i then x ∷ filter_alike p
 entries_alike : (x : Table) (conds : List Cond) → AllByRecursion (λ e. row_meets x.columns conds e.0 e.1 ≡ key_meets x conds e.0) (entries x.rows)
 entries_alike x conds =
     found_listed int_cmp int_cmp_total (λ e. row_meets x.columns conds e.0 e.1 ≡ key_meets x conds e.0) (entries x.rows) (entries_rise int_cmp x.rows)
-    (λ r vs found. ap (λ (o : Option (List Value)). row_meets x.columns conds r (values_of o)) (sym (get-entries x.rows r ∙ found)))
+    (λ r vs found. ap (λ (o : Option (List Value)). row_meets x.columns conds r (values_behind_key o)) (sym (get-entries x.rows r ∙ found)))
 
 pub unsearched_are : (m : StoreState) (t : List ℕ) (x : Table) (conds : List Cond) (rows : List RowKey) (all : List Hit) → map (λ row. row.0) rows ≡ meeting_keys x conds → all ≡ map unscored rows
     → hit_rows all ≡ hits m t x None conds

@@ -1,11 +1,8 @@
 pub mod FieldLaws
 pub mod FieldSteps
 pub mod HitSteps
-pub mod KeysAlone
 pub mod LineSteps
-pub mod Listed
 pub mod NameOrder
-pub mod Scores
-pub mod Searchable
-pub mod Selects
+pub mod PredicateLaws
+pub mod SelectLaws
 pub mod WaitSteps

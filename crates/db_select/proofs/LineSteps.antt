@@ -8,7 +8,7 @@ use Rattle.ix_search.specs.declared.hits.Hit.{Hit}
 use Rattle.db_cond.specs.Lines.{line}
 use Rattle.db_select.specs.declared.sources.FieldSource.{FieldSource}
 use Rattle.db_state.specs.Lines.{lines_or_none}
-use Rattle.db_select.specs.Sources.{hit_fields}
+use Rattle.db_select.specs.Fields.{hit_fields}
 use Rattle.db_state.specs.laws.PrintedLines.{lines_of_some}
 
 -- the lines of the first `i` rows were written

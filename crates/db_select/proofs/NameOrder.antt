@@ -12,8 +12,8 @@ use Rattle.std.proofs.lemmas.Cmp.{nat_list_cmp_total}
 use Rattle.std.proofs.lemmas.List.Sorted.{sum_by-IsPermutation}
 use Rattle.ct_keep.specs.Content.{Content}
 use Rattle.ct_keep.specs.Looks.{one_if}
-use Rattle.ct_keep.specs.RisingKeys.{below, rises, entries_rise}
-use Rattle.ct_keep.specs.FoundKeys.{none_below, below_tied}
+use Rattle.ct_keep.specs.laws.RisingKeys.{below, rises, entries_rise}
+use Rattle.ct_keep.specs.laws.FoundKeys.{none_below, below_tied}
 use Rattle.ct_entry.specs.declared.kinds.Kind.TheVariants as kind
 use Rattle.ct_entry.specs.Keys.{at, same_list}
 use Rattle.ct_entry.specs.Maps.{Names}

@@ -12,8 +12,8 @@ use Rattle.std.proofs.lemmas.Grind.{flat_map-append}
 use Rattle.ct_base.specs.declared.lists.Value.{Value}
 use Rattle.ct_base.specs.declared.lists.Value.TheVariants.{Number}
 use Rattle.ct_keep.specs.Content.{Content}
-use Rattle.ct_keep.specs.RisingKeys.{entries_rise}
-use Rattle.ct_keep.specs.FoundKeys.{found_listed}
+use Rattle.ct_keep.specs.laws.RisingKeys.{entries_rise}
+use Rattle.ct_keep.specs.laws.FoundKeys.{found_listed}
 use Rattle.ct_entry.specs.declared.kinds.Kind.TheVariants as kind
 use Rattle.ct_entry.specs.Keys.{at}
 use Rattle.ct_entry.specs.Maps.{Names}

@@ -1,6 +1,5 @@
 -- The checks of a SELECT, behind those of its names and its index.
-use Rattle.std.specs.Prelude.{ℕ, ℤ, pos, negsuc, nat_le, Bool, true, false, not, ◌||◌, is_none, List, [], ◌∷◌, Option, Some, None, codes, ◌≡◌, refl}
-use Rattle.std.specs.Bool.{if◌then◌else◌}
+use Rattle.std.specs.Prelude.{ℕ, ℤ, pos, Bool, true, false, not, ◌||◌, List, [], ◌∷◌, Option, Some, None, codes, ◌≡◌, refl}
 use Rattle.std.specs.List.{list_all}
 use Rattle.std.specs.Ordering.{int_eq}
 use Rattle.st_parse.specs.declared.statements.Cond.{Cond}
@@ -16,9 +15,10 @@ use Rattle.st_parse.specs.declared.statements.Whole.TheVariants.{Fits, Beyond}
 use Rattle.tb_table.specs.declared.columns.Column.{Column}
 use Rattle.tb_table.specs.Tables.{docs_columns}
 use Rattle.db_cond.specs.Faults.{WrongValues, OutOfRange}
-use Rattle.db_state.specs.Effects.{Effect, Refused, refuse, is_beyond}
+use Rattle.db_state.specs.Effects.{Effect, Refused, refuse}
 use Rattle.db_rows.specs.Checking.{fit_columns, has_beyond}
-use Rattle.db_select.specs.Predicates.{Search, label_in, below_seven}
+use Rattle.db_find.specs.Searches.{Search, Contains, has_number_out_of_range}
+use Rattle.db_select.specs.Predicates.{label_in, below_seven}
 
 -- ---- labels
 
@@ -45,23 +45,11 @@ fit_labels Star label = true
 fit_labels CountAll label = true
 fit_labels (Items items) label = list_all (is_labelled label) items
 
-abbrev pub is_beyond_label : Option Whole → Bool
-is_beyond_label None = false
-is_beyond_label (Some label) = is_beyond label
-
--- ---- the threshold
-
--- the number above which scores are, where it is from 0 to 100
-abbrev pub threshold_of : Whole → Option ℕ
-threshold_of (Fits (pos n)) = if nat_le n 100 then Some n else None
-threshold_of (Fits (negsuc n)) = None
-threshold_of Beyond = None
-
--- ---- what a search has wrong
+-- ---- the numbers of a search
 
 abbrev pub is_out_of_range : Option Search → Bool
 is_out_of_range None = false
-is_out_of_range (Some s) = is_beyond_label s.label || is_none (threshold_of s.above)
+is_out_of_range (Some s) = has_number_out_of_range s
 
 -- ---- the checks in their order
 
@@ -77,14 +65,8 @@ check_values columns list search conds done =
     done
 
 -- computed examples
-a_threshold : threshold_of (Fits (pos 100)) ≡ Some 100
-a_threshold = refl
-
-no_threshold : threshold_of (Fits (pos 101)) ≡ None
-no_threshold = refl
-
 abbrev its_search : List ℕ → Option Whole → ℤ → Option Search
-its_search query label above = Some (record { column = codes "body"; query = query; label = label; above = Fits above })
+its_search query label above = Some (Contains (codes "body") query label (Fits above))
 
 abbrev score_one : SelectList
 score_one = Items (ColumnItem (codes "id") ∷ Score (Fits (pos 1)) ∷ [])

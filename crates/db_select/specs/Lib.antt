@@ -1,12 +1,12 @@
 pub mod Checking
+pub mod Fields
+pub mod Giving
+pub mod Hits
+pub mod Listing
 pub mod Pending
 pub mod Predicates
-pub mod Querying
-pub mod Meanings
 pub mod Selecting
-pub mod Searches
 pub mod Sources
-pub mod Found
 pub mod Statements
 pub mod Waiting
 pub mod laws

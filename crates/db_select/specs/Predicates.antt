@@ -1,7 +1,6 @@
--- What a SELECT asks of rows: the parts of its list and of its predicates.
+-- What a SELECT names, and its conditions: the parts of its list and of its predicates.
 use Rattle.std.specs.Prelude.{ℕ, pos, ◌≡◌, Bool, true, false, List, [], ◌∷◌, map, Option, Some, None, codes, refl}
 use Rattle.std.specs.List.{list_all, flat_map}
-use Rattle.std.specs.Option.{option_or}
 use Rattle.st_parse.specs.declared.statements.Operand.TheVariants.{Number}
 use Rattle.st_parse.specs.declared.statements.Compare.TheVariants.{Less}
 use Rattle.st_parse.specs.declared.statements.Cond.{Cond}
@@ -15,6 +14,7 @@ use Rattle.st_parse.specs.declared.statements.SelectList.TheVariants.{Star, Coun
 use Rattle.st_parse.specs.declared.statements.Whole.{Whole}
 use Rattle.st_parse.specs.declared.statements.Whole.TheVariants.{Fits}
 use Rattle.db_rows.specs.Checking.{cond_column}
+use Rattle.db_find.specs.Searches.{Search, search_label}
 
 -- ---- the list
 
@@ -56,29 +56,10 @@ cond_in (Matches column document) = []
 abbrev pub conds_in : List Pred → List Cond
 conds_in preds = flat_map cond_in preds
 
--- What a CONTAINS asks: the score of the query text in the column is above a number. SCORE with the label is that score.
-pub record Search : Type 0 where
-  pub column : List ℕ
-  pub query : List ℕ
-  pub label : Option Whole
-  pub above : Whole
-
--- what the predicate asks, if it is a CONTAINS
-abbrev pub search_of : Pred → Option Search
-search_of (CondPred cond) = None
-search_of (Contains column query label above) = Some (record { column = column; query = query; label = label; above = above })
-search_of (Catsearch column query structured) = None
-search_of (Matches column document) = None
-
--- what the first CONTAINS among predicates asks; the grammar lets there be at most one
-abbrev pub search_in : List Pred → Option Search
-search_in [] = None
-search_in (pred ∷ preds) = option_or (search_of pred) (search_in preds)
-
--- the label of its score, if it has one
+-- the label of the score of the text predicate, if there is one and it has one
 abbrev pub label_in : Option Search → Option Whole
 label_in None = None
-label_in (Some s) = s.label
+label_in (Some s) = search_label s
 
 -- computed examples: id < 7 AND CONTAINS(body, 'fox') > 0 AND price < 7
 abbrev pub below_seven : List ℕ → Cond
@@ -92,12 +73,6 @@ its_columns = refl
 
 its_conditions : conds_in fox_and_two ≡ below_seven (codes "id") ∷ below_seven (codes "price") ∷ []
 its_conditions = refl
-
-its_search : search_in fox_and_two ≡ Some (record { column = codes "body"; query = codes "fox"; label = None; above = Fits (pos 0) })
-its_search = refl
-
-no_search : search_in (CondPred (below_seven (codes "id")) ∷ []) ≡ None
-no_search = refl
 
 not_built : list_all is_built_pred (CondPred (below_seven (codes "id")) ∷ Matches (codes "body") (codes "a fox") ∷ []) ≡ false
 not_built = refl

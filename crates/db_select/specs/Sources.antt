@@ -1,19 +1,11 @@
 -- Where the fields of a line come from: a column of the row, or its score.
-use Rattle.std.specs.Prelude.{ℕ, ℤ, pos, List, [], ◌∷◌, map, Option, Some, codes, ◌≡◌, refl}
-use Rattle.std.specs.List.{filter_map}
-use Rattle.ct_base.specs.declared.lists.Value.{Value}
-use Rattle.ct_base.specs.declared.numbers.RowKey.{RowKey}
-use Rattle.ct_base.specs.declared.lists.Value.TheVariants.{Number as NumberValue, Text as TextValue}
+use Rattle.std.specs.Prelude.{pos, List, [], ◌∷◌, map, codes, ◌≡◌, refl}
 use Rattle.st_parse.specs.declared.statements.Item.{Item}
 use Rattle.st_parse.specs.declared.statements.Item.TheVariants.{Column as ColumnItem, Score as ScoreItem}
 use Rattle.st_parse.specs.declared.statements.Whole.TheVariants.{Fits}
 use Rattle.tb_table.specs.declared.columns.Column.{Column}
-use Rattle.tb_table.specs.Tables.{Tables}
-use Rattle.ix_search.specs.declared.hits.Hit.{Hit}
-use Rattle.db_cond.specs.Lines.{line}
-use Rattle.db_rows.specs.declared.sources.Source.TheVariants.{Key, Number, Text}
-use Rattle.db_rows.specs.Values.{row_values}
-use Rattle.db_rows.specs.Sources.{source_of, source_value, of_columns}
+use Rattle.db_rows.specs.declared.sources.Source.TheVariants.{Key, Text}
+use Rattle.db_rows.specs.Sources.{source_of, of_columns}
 use Rattle.db_select.specs.declared.sources.FieldSource.{FieldSource}
 use Rattle.db_select.specs.declared.sources.FieldSource.TheVariants.{Column as OfColumn, Score}
 
@@ -22,44 +14,10 @@ abbrev pub field_source : List Column → Item → FieldSource
 field_source columns (ColumnItem name) = OfColumn (source_of name columns)
 field_source columns (ScoreItem label) = Score
 
--- the value of a field of a row, by its key, its other values and its score
-abbrev pub field_value : ℤ → List Value → ℕ → FieldSource → Option Value
-field_value r vs score (OfColumn source) = source_value r vs source
-field_value r vs score Score = Some (NumberValue (pos score))
-
-abbrev pub line_fields : List FieldSource → ℤ → List Value → ℕ → List Value
-line_fields sources r vs score = filter_map (field_value r vs score) sources
-
--- ---- what is read of a row
-
--- the fields of a row that was found, with its score
-abbrev pub hit_fields : Tables → List ℕ → List FieldSource → ℤ × ℕ → List Value
-hit_fields ts t sources h = line_fields sources h.0 (row_values ts t h.0) h.1
-
--- the fields of a row as it was found
-abbrev pub found_fields : Tables → List ℕ → List FieldSource → Hit → List Value
-found_fields ts t sources hit = hit_fields ts t sources (hit.key.0, hit.score)
-
--- the value of one of its fields, by all its values
-abbrev pub found_value : Hit → List Value → FieldSource → Option Value
-found_value hit vs source = field_value hit.key.0 vs hit.score source
-
--- its line
-abbrev pub found_line : Tables → List ℕ → List FieldSource → Hit → List ℕ
-found_line ts t sources hit = line (found_fields ts t sources hit)
-
--- a row that was found without a search
-abbrev pub unscored : RowKey → Hit
-unscored row = record { key = row; score = 0 }
-
 -- of a column
 abbrev pub column_source : List Column → Column → FieldSource
 column_source columns c = OfColumn (source_of c.name columns)
 
--- computed examples: of a table with a key, a number and two texts
+-- computed example: of a table with a key, a number and two texts
 its_sources : map (field_source of_columns) (ColumnItem (codes "b") ∷ ScoreItem (Fits (pos 1)) ∷ ColumnItem (codes "id") ∷ []) ≡ OfColumn (Text 3) ∷ Score ∷ OfColumn Key ∷ []
 its_sources = refl
-
-its_fields : line_fields (OfColumn (Number 0) ∷ OfColumn (Text 3) ∷ Score ∷ OfColumn Key ∷ []) (pos 7) (TextValue (codes "x") ∷ NumberValue (pos 5) ∷ TextValue (codes "y") ∷ []) 2
-    ≡ NumberValue (pos 5) ∷ TextValue (codes "y") ∷ NumberValue (pos 2) ∷ NumberValue (pos 7) ∷ []
-its_fields = refl

@@ -1,12 +1,12 @@
 //! The fields of a line.
-#![tactic(auto, using(ct_keep::specs::Composing::reads_on, ct_keep::specs::Composing::reads_short))]
+#![tactic(auto, using(ct_keep::specs::laws::Composing::reads_on, ct_keep::specs::laws::Composing::reads_short))]
 
 ghost use Rattle.std.specs.Prelude.{◌≡◌, [], ◌++◌, IfOk, OnOk};
 ghost use Rattle.std.specs.List.{cons_option};
 ghost use Rattle.ct_keep.specs.KeeperViews.{OnlyReads};
 ghost use Rattle.db_state.specs.States.{Sees};
 ghost use Rattle.db_rows.specs.Reading.{IsReadOf, OverRow};
-ghost use Rattle.db_select.specs.Sources.{found_fields, found_value};
+ghost use Rattle.db_select.specs.Fields.{found_fields, found_value};
 
 use crate::sources::FieldSource;
 use ct_base::{Memory, Name, Value};

@@ -1,7 +1,7 @@
 //! SELECT.
 #![tactic(auto)]
 
-mod checks;
+mod checking;
 mod copying;
 mod fields;
 mod hits;
@@ -9,10 +9,9 @@ mod listing;
 mod names;
 mod pending;
 mod predicates;
-mod querying;
-mod seeking;
 mod selecting;
 mod sources;
 mod statements;
+mod waiting;
 
 pub use statements::select;

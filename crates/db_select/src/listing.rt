@@ -1,22 +1,23 @@
 //! The lines of a query.
-#![tactic(auto, using(ct_keep::specs::Composing::reads_on, ct_keep::specs::Composing::reads_short))]
+#![tactic(auto, using(ct_keep::specs::laws::Composing::reads_on, ct_keep::specs::laws::Composing::reads_short))]
 
 ghost use Rattle.std.specs.Prelude.{◌≡◌, ◌++◌, ◌∷◌, [], map, length, pos, IfOk, OnOk, Some};
 ghost use Rattle.ct_base.specs.declared.lists.Value.TheVariants.{Number};
 ghost use Rattle.ct_keep.specs.KeeperViews.{OnlyReads};
+ghost use Rattle.ix_search.specs.Hits.{hit_rows};
 ghost use Rattle.db_cond.specs.Lines.{line as line_text};
 ghost use Rattle.db_state.specs.States.{OverStates, Sees};
 ghost use Rattle.db_state.specs.Lines.{lines_or_none};
-ghost use Rattle.db_select.specs.Found.{GivesLines};
-ghost use Rattle.db_select.specs.Selecting.{rows_reply as reply_of_rows};
-ghost use Rattle.ix_search.specs.Hits.{hit_rows};
-ghost use Rattle.db_select.specs.Sources.{found_fields, found_line};
+ghost use Rattle.db_select.specs.Fields.{found_fields, found_line};
+ghost use Rattle.db_select.specs.Giving.{GivesLines};
+ghost use Rattle.db_select.specs.Listing.{found_reply as reply_of_found, rows_reply as reply_of_rows};
 
 use crate::fields::row_fields;
 use crate::sources::{FieldSource, column_sources, sources_of};
 use ct_base::{Memory, Name};
 use ct_keep::{KeepFault, Keeper};
 use db_cond::{line, no_rows};
+use db_find::Found;
 use db_state::fixed_reply;
 use ix_search::Hit;
 use st_parse::SelectList;
@@ -75,7 +76,7 @@ pub(crate) fn count_line(alloc: Global, count: usize) -> Result<Vec<u8>, Memory>
 }
 
 /// What a SELECT of a list replies for the rows that it found: their number, which reads nothing of them, or a line for each.
-pub(crate) fn rows_reply<K: Keeper>(
+fn rows_reply<K: Keeper>(
     alloc: Global,
     keeper: &mut K,
     table: &Name,
@@ -97,5 +98,24 @@ pub(crate) fn rows_reply<K: Keeper>(
             let sources = sources_of(alloc, items.as_slice(), columns)?;
             hit_lines(alloc, keeper, table, &sources, hits)
         }
+    }
+}
+
+/// What a SELECT of a list replies to what was found: the line of a refusal, or what the list asks of the rows.
+pub(crate) fn found_reply<K: Keeper>(
+    alloc: Global,
+    keeper: &mut K,
+    table: &Name,
+    columns: &[Column],
+    list: &SelectList,
+    found: Found,
+) -> Result<Vec<u8>, KeepFault>
+    requires { (K.view keeper.old).ready }
+    ensures reply { GivesLines K.view keeper.old table.now columns.now result (λ m x. reply_of_found m.tables table.now x.columns list.now found) }
+    ensures reads { OnlyReads K.view keeper.old keeper.new result }
+{
+    match found {
+        Found::Refused(line) => Ok(line),
+        Found::Rows(hits) => rows_reply(alloc, keeper, table, columns, list, &hits),
     }
 }

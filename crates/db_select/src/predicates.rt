@@ -1,4 +1,4 @@
-//! What a SELECT asks of rows: the parts of its list and of its predicates.
+//! What a SELECT names, and its conditions: the parts of its list and of its predicates.
 #![tactic(auto)]
 
 ghost use Rattle.std.specs.Prelude.{◌≡◌, ◌++◌, map, IfOk, OnOk};
@@ -6,24 +6,14 @@ ghost use Rattle.std.specs.List.{list_all};
 ghost use Rattle.std.specs.Option.{option_map};
 ghost use Rattle.db_state.specs.Columns.{first_unknown};
 ghost use Rattle.db_rows.specs.Checking.{cond_column as column_of_cond};
-ghost use Rattle.db_select.specs.Predicates.{columns_among, cond_in, conds_in as all_conds, is_built_pred, list_columns, pred_column as column_of_pred, search_in as first_search, search_of as search_of_pred};
-ghost use Rattle.db_select.specs.Searches.{held_search};
+ghost use Rattle.db_select.specs.Predicates.{columns_among, cond_in, conds_in as all_conds, is_built_pred, list_columns, pred_column as column_of_pred};
 
 use crate::copying::copy_cond;
 use ct_base::{Memory, Name};
 use db_state::has_column;
-use st_parse::{Cond, Item, Pred, SelectList, Whole};
+use st_parse::{Cond, Item, Pred, SelectList};
 use std::alloc::Global;
 use tb_table::Column;
-
-/// What a CONTAINS asks: the score of the query text in the column is above a number. SCORE with the label is that score.
-#[derive(Drop)]
-pub(crate) struct Search<'a> {
-    pub(crate) column: &'a Name,
-    pub(crate) query: &'a str,
-    pub(crate) label: Option<Whole>,
-    pub(crate) above: Whole,
-}
 
 fn is_built(pred: &Pred) -> bool
     ensures { result ≡ is_built_pred pred.now }
@@ -138,36 +128,4 @@ pub(crate) fn conds_in(alloc: Global, preds: &[Pred]) -> Result<Vec<Cond>, Memor
         push_cond(alloc, &mut conds, pred)?;
     }
     Ok(conds)
-}
-
-/// What a predicate asks, if it is a CONTAINS.
-fn search_of<'a>(pred: &'a Pred) -> Option<Search<'a>>
-    ensures { option_map held_search result ≡ search_of_pred pred.now }
-{
-    match pred {
-        Pred::Contains {
-            column,
-            query,
-            label,
-            above,
-        } => Some(Search {
-            column,
-            query: query.as_str(),
-            label: *label,
-            above: *above,
-        }),
-        Pred::Cond(_) | Pred::Catsearch { .. } | Pred::Matches { .. } => None,
-    }
-}
-
-/// What the CONTAINS among predicates asks.
-pub(crate) fn search_in<'a>(preds: &'a [Pred]) -> Option<Search<'a>>
-    ensures { option_map held_search result ≡ first_search preds.now }
-{
-    for pred in preds {
-        if let Some(search) = search_of(pred) {
-            return Some(search);
-        }
-    }
-    None
 }

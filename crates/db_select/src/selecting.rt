@@ -1,91 +1,128 @@
 //! SELECT of a table.
-#![tactic(auto, using(ct_keep::specs::Composing::reads_on, ct_keep::specs::Composing::reads_short))]
+#![tactic(auto, using(ct_keep::specs::laws::Composing::reads_on, ct_keep::specs::laws::Composing::reads_short))]
 
 ghost use Rattle.std.specs.Prelude.{◌≡◌, ◌||◌, Some, None};
+ghost use Rattle.std.specs.Option.{option_map};
 ghost use Rattle.ct_keep.specs.KeeperViews.{OnlyReads};
 ghost use Rattle.db_state.specs.States.{Sees};
 ghost use Rattle.db_state.specs.Effects.{reply_by};
 ghost use Rattle.db_rows.specs.Checking.{has_beyond as any_beyond};
+ghost use Rattle.db_find.specs.Searches.{held_search};
 ghost use Rattle.db_select.specs.Checking.{is_out_of_range as out_of_range};
-ghost use Rattle.db_select.specs.Found.{GivesLines, searched_reply};
-ghost use Rattle.db_select.specs.Searches.{held_search};
-ghost use Rattle.db_select.specs.Selecting.{select as select_effect, select_rows};
+ghost use Rattle.db_select.specs.Giving.{GivesLines, GivesOver};
+ghost use Rattle.db_select.specs.Selecting.{Selects, rows_reply_by, select as select_effect};
 
-use crate::checks::{first_fault, has_wrong_values, is_out_of_range, threshold_of};
-use crate::hits::{searched_hits, unsearched_hits};
-use crate::listing::rows_reply;
-use crate::predicates::{Search, conds_in, search_in, unknown_name};
-use crate::querying::{Meaning, meaning_in};
-use crate::seeking::needed_index;
+use crate::checking::{first_fault, has_wrong_values};
+use crate::hits::{met_hits, unsearched_hits};
+use crate::listing::found_reply;
+use crate::predicates::{conds_in, unknown_name};
 use ct_base::Name;
 use ct_keep::{KeepFault, Keeper};
 use db_cond::{Fault, fault_line};
+use db_find::{Found, Search, find, needed_index, search_in};
 use db_rows::has_beyond;
 use db_state::table_columns;
 use st_parse::{Cond, Pred, SelectList};
 use std::alloc::Global;
 use tb_table::Column;
 
-/// Of the rows that meet conditions, where nothing is searched.
-fn select_met<K: Keeper>(
+/// The rows that meet conditions, where nothing is searched; or the line of a refusal.
+fn met_rows<K: Keeper>(
     alloc: Global,
     keeper: &mut K,
     list: &SelectList,
     table: &Name,
     columns: &[Column],
     conds: &[Cond],
-) -> Result<Vec<u8>, KeepFault>
+) -> Result<Found, KeepFault>
     requires { (K.view keeper.old).ready }
-    ensures reply { GivesLines K.view keeper.old table.now columns.now result (λ m x. reply_by (select_rows m table.now x list.now None conds.now)) }
+    ensures rows { GivesOver K.view keeper.old table.now columns.now result (λ m x. Selects m table.now x list.now None conds.now) }
     ensures reads { OnlyReads K.view keeper.old keeper.new result }
 {
     let wrong_values = has_wrong_values(list, None, conds, columns);
     let out_of_range = has_beyond(conds);
     if let Some(fault) = first_fault(wrong_values, out_of_range) {
-        return Ok(fault_line(alloc, fault)?);
+        return Ok(Found::Refused(fault_line(alloc, fault)?));
     }
     let hits = unsearched_hits(alloc, keeper, table, columns, conds)?;
-    rows_reply(alloc, keeper, table, columns, list, &hits)
+    Ok(Found::Rows(hits))
 }
 
 /// Whether a number of a search or a condition is out of its range.
-fn has_bad_number(search: &Search<'_>, conds: &[Cond]) -> bool
-    ensures { result ≡ (out_of_range (Some (held_search search.now)) || any_beyond conds.now) }
+fn has_bad_number(search: Search<'_>, conds: &[Cond]) -> bool
+    ensures { result ≡ (out_of_range (Some (held_search search.entry)) || any_beyond conds.now) }
 {
-    is_out_of_range(search.label, search.above) || has_beyond(conds)
+    search.has_number_out_of_range() || has_beyond(conds)
 }
 
-/// Of the rows that a search finds and that meet conditions.
-fn select_searched<K: Keeper>(
+/// The rows that a search finds and that meet conditions; or the line of a refusal.
+fn searched_rows<K: Keeper>(
     alloc: Global,
     keeper: &mut K,
     list: &SelectList,
     table: &Name,
     columns: &[Column],
-    search: &Search<'_>,
+    search: Search<'_>,
     conds: &[Cond],
-) -> Result<Vec<u8>, KeepFault>
+) -> Result<Found, KeepFault>
     requires { (K.view keeper.old).ready }
-    ensures reply { GivesLines K.view keeper.old table.now columns.now result (λ m x. searched_reply m table.now x list.now (held_search search.now) conds.now) }
+    ensures rows { GivesOver K.view keeper.old table.now columns.now result (λ m x. Selects m table.now x list.now (Some (held_search search.entry)) conds.now) }
     ensures reads { OnlyReads K.view keeper.old keeper.new result }
 {
     let Some(index) = needed_index(alloc, keeper, table, columns, search)? else {
-        return Ok(fault_line(alloc, Fault::NoIndexOfKind)?);
+        return Ok(Found::Refused(fault_line(alloc, Fault::NoIndexOfKind)?));
     };
-    let wrong_values = has_wrong_values(list, search.label, conds, columns);
+    let wrong_values = has_wrong_values(list, search.label(), conds, columns);
     let out_of_range = has_bad_number(search, conds);
     if let Some(fault) = first_fault(wrong_values, out_of_range) {
-        return Ok(fault_line(alloc, fault)?);
+        return Ok(Found::Refused(fault_line(alloc, fault)?));
     }
-    let meaning = meaning_in(alloc, keeper, &index, search.query)?;
-    match meaning {
-        Meaning::Refused(line) => Ok(line),
-        Meaning::Finds(flat) => {
-            let above = threshold_of(search.above);
-            let hits = searched_hits(alloc, keeper, &index, table, columns, &flat, above, conds)?;
-            rows_reply(alloc, keeper, table, columns, list, &hits)
+    let found = find(alloc, keeper, &index, search)?;
+    match found {
+        Found::Refused(line) => Ok(Found::Refused(line)),
+        Found::Rows(rows) => {
+            let hits = met_hits(alloc, keeper, table, columns, conds, &rows)?;
+            Ok(Found::Rows(hits))
         }
     }
+}
+
+/// The rows that a SELECT finds in a table, in order of their keys; or the line of a refusal.
+fn selected_rows<K: Keeper>(
+    alloc: Global,
+    keeper: &mut K,
+    list: &SelectList,
+    table: &Name,
+    columns: &[Column],
+    search: Option<Search<'_>>,
+    conds: &[Cond],
+) -> Result<Found, KeepFault>
+    requires { (K.view keeper.old).ready }
+    ensures rows { GivesOver K.view keeper.old table.now columns.now result (λ m x. Selects m table.now x list.now (option_map held_search search.entry) conds.now) }
+    ensures reads { OnlyReads K.view keeper.old keeper.new result }
+{
+    match search {
+        None => met_rows(alloc, keeper, list, table, columns, conds),
+        Some(search) => searched_rows(alloc, keeper, list, table, columns, search, conds),
+    }
+}
+
+/// SELECT where the columns that it names are there: the rows are found, and then they are made lines.
+fn select_known<K: Keeper>(
+    alloc: Global,
+    keeper: &mut K,
+    list: &SelectList,
+    table: &Name,
+    columns: &[Column],
+    search: Option<Search<'_>>,
+    conds: &[Cond],
+) -> Result<Vec<u8>, KeepFault>
+    requires { (K.view keeper.old).ready }
+    ensures reply { GivesLines K.view keeper.old table.now columns.now result (λ m x. rows_reply_by m table.now x list.now (option_map held_search search.entry) conds.now) }
+    ensures reads { OnlyReads K.view keeper.old keeper.new result }
+{
+    let found = selected_rows(alloc, keeper, list, table, columns, search, conds)?;
+    found_reply(alloc, keeper, table, columns, list, found)
 }
 
 /// SELECT of a list from the rows of a table that meet predicates, in order of their keys.
@@ -107,8 +144,6 @@ pub(crate) fn select_table<K: Keeper>(
         return Ok(fault_line(alloc, Fault::UnknownName(name.as_str()))?);
     }
     let conds = conds_in(alloc, preds)?;
-    match search_in(preds) {
-        None => select_met(alloc, keeper, list, table, &columns, &conds),
-        Some(search) => select_searched(alloc, keeper, list, table, &columns, &search, &conds),
-    }
+    let search = search_in(preds);
+    select_known(alloc, keeper, list, table, &columns, search, &conds)
 }

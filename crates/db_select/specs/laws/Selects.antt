@@ -11,7 +11,8 @@ use Rattle.db_state.specs.Effects.{Effect, refuse, state_by}
 use Rattle.db_state.specs.laws.Unchanged.{kept_by, kept_found, kept_unless}
 use Rattle.db_state.specs.Columns.{first_unknown}
 use Rattle.db_rows.specs.Checking.{fit_columns, has_beyond}
-use Rattle.db_select.specs.Predicates.{is_built_pred, label_in, list_columns, pred_column, search_in, conds_in}
+use Rattle.db_find.specs.Searches.{search_in}
+use Rattle.db_select.specs.Predicates.{is_built_pred, label_in, list_columns, pred_column, conds_in}
 use Rattle.db_select.specs.Checking.{fit_labels, is_out_of_range}
 use Rattle.db_select.specs.Selecting.{lacks_index, query_refusal, select}
 use Rattle.db_select.specs.Pending.{is_bare, is_view_list, select_pending}

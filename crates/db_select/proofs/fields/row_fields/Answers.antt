@@ -1,6 +1,6 @@
 use Rattle.std.proofs.Common.{List, sym, subst}
 use Rattle.ct_base.specs.declared.lists.Value.{Value}
-use Rattle.ct_keep.specs.Composing.{reads_none, reads_on, reads_hold}
+use Rattle.ct_keep.specs.laws.Composing.{reads_none, reads_on, reads_hold}
 use Rattle.db_rows.specs.declared.sources.Source.TheVariants.{Key}
 use Rattle.db_rows.specs.Values.{row_values}
 use Rattle.db_select.specs.declared.sources.FieldSource.TheVariants.{Column}

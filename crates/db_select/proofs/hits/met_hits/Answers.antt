@@ -1,5 +1,5 @@
 use Rattle.std.specs.Prelude.{pos}
-use Rattle.ct_keep.specs.Composing.{reads_on, reads_hold}
+use Rattle.ct_keep.specs.laws.Composing.{reads_on, reads_hold}
 use Rattle.db_rows.specs.Meeting.{key_meets}
 use Rattle.db_select.proofs.HitSteps.{one_met, all_met}
 use Rattle.db_select.proofs.hits.met_hits.Goals as goal

@@ -1,5 +1,5 @@
 use Rattle.std.proofs.Common.{◌≡◌, map, take}
-use Rattle.db_select.specs.Sources.{unscored}
+use Rattle.db_select.specs.Hits.{unscored}
 use Rattle.db_select.proofs.hits.unscored.Given as goal
 
 abbrev pub invariant-loop-row : goal.invariant-loop-row

@@ -1,6 +1,6 @@
 use Rattle.std.proofs.Common.{List, map, ap, ◌∙◌}
 use Rattle.ct_base.specs.declared.numbers.RowKey.{RowKey}
-use Rattle.db_select.specs.Sources.{unscored}
+use Rattle.db_select.specs.Hits.{unscored}
 use Rattle.db_select.proofs.HitSteps.{unsearched_are}
 use Rattle.db_select.proofs.hits.unsearched_hits.Goals as goal
 

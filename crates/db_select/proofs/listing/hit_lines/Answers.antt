@@ -1,6 +1,6 @@
 use Rattle.std.proofs.Common.{sym, ◌∙◌}
 use Rattle.std.specs.Prelude.{pos}
-use Rattle.ct_keep.specs.Composing.{reads_on, reads_hold}
+use Rattle.ct_keep.specs.laws.Composing.{reads_on, reads_hold}
 use Rattle.db_select.proofs.LineSteps.{one_written, all_written}
 use Rattle.db_select.proofs.listing.hit_lines.Goals as goal
 

@@ -3,10 +3,10 @@ use Rattle.std.proofs.lemmas.Result.{IfOk-weaker}
 use Rattle.st_parse.specs.declared.statements.Item.{Item}
 use Rattle.st_parse.specs.declared.statements.SelectList.{SelectList}
 use Rattle.db_state.specs.Lines.{lines_or_none}
-use Rattle.db_select.specs.Selecting.{all_columns, rows_reply}
+use Rattle.db_select.specs.Listing.{all_columns, rows_reply}
 use Rattle.ix_search.specs.Hits.{hit_rows}
 use Rattle.db_select.specs.Sources.{field_source}
-use Rattle.db_select.proofs.Selects.{columns_are, rows_are}
+use Rattle.db_select.proofs.SelectLaws.{columns_are, rows_are}
 use Rattle.db_select.proofs.listing.rows_reply.Goals as goal
 
 pub returns-in_ok-sources-in-Star-clause-reply : goal.returns-in_ok-sources-in-Star-clause-reply

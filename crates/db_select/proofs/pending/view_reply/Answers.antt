@@ -2,7 +2,7 @@ use Rattle.std.proofs.Common.{◌≡◌, List, length, ⊎_elim, sym, ap, ◌∙
 use Rattle.std.specs.List.{flat_map}
 use Rattle.ct_base.specs.declared.lists.Value.{Value}
 use Rattle.ct_base.specs.declared.numbers.RowKey.{RowKey}
-use Rattle.ct_keep.specs.Composing.{reads_hold}
+use Rattle.ct_keep.specs.laws.Composing.{reads_hold}
 use Rattle.std.proofs.lemmas.List.{length-map}
 use Rattle.st_parse.specs.declared.statements.SelectList.{SelectList}
 use Rattle.db_state.specs.Lines.{lines_or_none}

@@ -1,6 +1,6 @@
 use Rattle.std.proofs.Common.{◌+◌, drop, sym, ◌∙◌}
 use Rattle.ct_base.specs.laws.Lists.{drop_next}
-use Rattle.db_select.proofs.Listed.{column_there, column_missing, score_passed}
+use Rattle.db_select.proofs.PredicateLaws.{column_there, column_missing, score_passed}
 use Rattle.db_select.proofs.predicates.unknown_item.Goals as goal
 use Rattle.db_select.proofs.predicates.unknown_item.Goals.{in-Column+else-not-has_column, in_default}
 

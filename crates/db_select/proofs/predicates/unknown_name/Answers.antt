@@ -1,6 +1,6 @@
 use Rattle.std.proofs.Common.{map, sym, ◌∙◌}
 use Rattle.db_select.specs.Predicates.{list_columns, pred_column}
-use Rattle.db_select.proofs.Listed.{unknown_first, unknown_second}
+use Rattle.db_select.proofs.PredicateLaws.{unknown_first, unknown_second}
 use Rattle.db_select.proofs.predicates.unknown_name.Goals as goal
 
 pub returns-in-Some : goal.returns-in-Some

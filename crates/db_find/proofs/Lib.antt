@@ -1,0 +1,4 @@
+pub mod KeysAlone
+pub mod Scores
+pub mod Searchable
+pub mod SeekLaws

@@ -1,0 +1,21 @@
+use Rattle.std.proofs.Common.{◌≡◌, List, ℕ, Result, subst}
+use Rattle.st_parse.specs.declared.statements.Whole.{Whole}
+use Rattle.ct_keep.specs.declared.keepers.KeepFault.{KeepFault}
+use Rattle.tb_table.specs.Tables.{Tables}
+use Rattle.ix_indexes.specs.Indexes.{Index}
+use Rattle.db_find.specs.declared.finding.Found.{Found}
+use Rattle.db_find.specs.Querying.{meaning_of}
+use Rattle.db_find.specs.Searches.{Search, Contains, held_search, search_query, search_above, threshold_of}
+use Rattle.db_find.specs.Finding.{FindsByMeaning, FindsBySearch}
+use Rattle.db_find.proofs.finding.find.Goals as goal
+
+-- by the meaning of its query text a search finds what it finds
+by_meaning : (ts : Tables) (x : Index) (s : Search) (query : List ℕ) (above : Whole) (result : Result Found KeepFault) → query ≡ search_query s → above ≡ search_above s
+    → FindsByMeaning ts x (meaning_of x.prefs query) (threshold_of above) result → FindsBySearch ts x s result
+by_meaning ts x (Contains column query label above) asked most result same_query same_above finds =
+    subst (λ (q : List ℕ). FindsByMeaning ts x (meaning_of x.prefs q) (threshold_of above) result) same_query
+    (subst (λ (a : Whole). FindsByMeaning ts x (meaning_of x.prefs asked) (threshold_of a) result) same_above finds)
+
+pub returns-clause-found : goal.returns-clause-found
+returns-clause-found g c = λ m k x holds stands there.
+    by_meaning m.tables x (held_search c.args.search) c.query.result.now c.above.result c.contained.result c.query.ensures c.above.ensures (c.contained.ensures.found m k x holds stands there)

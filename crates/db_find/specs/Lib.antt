@@ -1,0 +1,6 @@
+pub mod Searches
+pub mod Seeking
+pub mod Querying
+pub mod Meanings
+pub mod Finding
+pub mod laws

@@ -1,0 +1,95 @@
+-- What text predicates ask, by their kinds.
+use Rattle.std.specs.Prelude.{ℕ, pos, negsuc, nat_le, Bool, true, false, ◌||◌, is_none, List, [], ◌∷◌, Option, Some, None, codes, ◌≡◌, refl}
+use Rattle.std.specs.Bool.{if◌then◌else◌}
+use Rattle.std.specs.Option.{option_or}
+use Rattle.st_parse.specs.declared.statements.Operand.TheVariants.{Number}
+use Rattle.st_parse.specs.declared.statements.Compare.TheVariants.{Less}
+use Rattle.st_parse.specs.declared.statements.Cond.TheVariants.{Compare}
+use Rattle.st_parse.specs.declared.statements.Pred.{Pred}
+use Rattle.st_parse.specs.declared.statements.Pred.TheVariants.{Cond as CondPred, Contains as ContainsPred, Catsearch, Matches}
+use Rattle.st_parse.specs.declared.statements.Whole.{Whole}
+use Rattle.st_parse.specs.declared.statements.Whole.TheVariants.{Fits, Beyond}
+use Rattle.db_names.specs.declared.heads.IndexKind.{IndexKind}
+use Rattle.db_names.specs.declared.heads.IndexKind.TheVariants.{Context}
+use Rattle.db_state.specs.Effects.{is_beyond}
+use Rattle.db_find.specs.declared.searches.Search.{Search as Held}
+use Rattle.db_find.specs.declared.searches.Search.TheVariants.{Contains as HeldContains}
+
+-- What a text predicate asks, by its kind. CATSEARCH and MATCHES will be kinds of their own.
+pub data Search : Type 0 where
+  -- of CONTAINS, its column, its query text, its label, and the number that the score is above; SCORE with the label is that score
+  Contains : List ℕ → List ℕ → Option Whole → Whole → Search
+
+-- ---- what each kind has
+
+-- the column that the predicate is on
+abbrev pub search_column : Search → List ℕ
+search_column (Contains column query label above) = column
+
+-- the kind of the index that answers it
+abbrev pub search_kind : Search → IndexKind
+search_kind (Contains column query label above) = Context
+
+-- the label by which SCORE asks for its score, if it has one
+abbrev pub search_label : Search → Option Whole
+search_label (Contains column query label above) = label
+
+-- of a CONTAINS its query text, and the number that the score is above
+abbrev pub search_query : Search → List ℕ
+search_query (Contains column query label above) = query
+
+abbrev pub search_above : Search → Whole
+search_above (Contains column query label above) = above
+
+abbrev pub is_beyond_label : Option Whole → Bool
+is_beyond_label None = false
+is_beyond_label (Some label) = is_beyond label
+
+-- the number above which scores are, where it is from 0 to 100
+abbrev pub threshold_of : Whole → Option ℕ
+threshold_of (Fits (pos n)) = if nat_le n 100 then Some n else None
+threshold_of (Fits (negsuc n)) = None
+threshold_of Beyond = None
+
+-- one of its numbers is out of range
+abbrev pub has_number_out_of_range : Search → Bool
+has_number_out_of_range (Contains column query label above) = is_beyond_label label || is_none (threshold_of above)
+
+-- ---- among predicates
+
+-- what a predicate asks, if it is a text predicate of a kind that is built
+abbrev pub search_of : Pred → Option Search
+search_of (CondPred cond) = None
+search_of (ContainsPred column query label above) = Some (Contains column query label above)
+search_of (Catsearch column query structured) = None
+search_of (Matches column document) = None
+
+-- what the first of them asks; the grammar lets there be at most one
+abbrev pub search_in : List Pred → Option Search
+search_in [] = None
+search_in (pred ∷ preds) = option_or (search_of pred) (search_in preds)
+
+-- ---- as code holds it
+
+abbrev pub held_search : Held → Search
+held_search (HeldContains column query label above) = Contains column.now query.now label above
+
+-- computed examples
+a_threshold : threshold_of (Fits (pos 100)) ≡ Some 100
+a_threshold = refl
+
+no_threshold : threshold_of (Fits (pos 101)) ≡ None
+no_threshold = refl
+
+label_beyond : has_number_out_of_range (Contains (codes "body") (codes "quick") (Some Beyond) (Fits (pos 0))) ≡ true
+label_beyond = refl
+
+-- id < 7 AND CONTAINS(body, 'fox') > 0, and its condition alone
+abbrev its_condition : Pred
+its_condition = CondPred (Compare (codes "id") Less (Number (Fits (pos 7))))
+
+its_search : search_in (its_condition ∷ ContainsPred (codes "body") (codes "fox") None (Fits (pos 0)) ∷ []) ≡ Some (Contains (codes "body") (codes "fox") None (Fits (pos 0)))
+its_search = refl
+
+no_search : search_in (its_condition ∷ []) ≡ None
+no_search = refl

@@ -1,0 +1,11 @@
+//! What a text predicate finds: rows by their keys, each with its score.
+#![tactic(auto)]
+
+mod finding;
+mod querying;
+mod searches;
+mod seeking;
+
+pub use finding::{Found, find};
+pub use searches::{Search, search_in};
+pub use seeking::needed_index;
