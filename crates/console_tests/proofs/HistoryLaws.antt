@@ -152,6 +152,7 @@ said_more s told commits log = record {
     content = refl;
     counts = refl;
     disk_faults = refl;
+    disk_syncs = refl;
   };
   said = refl;
   left = refl;
@@ -163,7 +164,7 @@ said_more s told commits log = record {
 
 said_nothing : (s : KeeperState) (faults commits : ℕ) (log : List MadeCommit) → KeeperSays [] (history_view s commits log) (history_view (record s { say_faults = faults }) commits log)
 said_nothing s faults commits log = record {
-  apart = record { ready = λ r. record { content = r.content; by_now = r.by_now }; well = record { takes = λ key value is. is }; fixed = refl; content = refl; counts = refl; disk_faults = refl };
+  apart = record { ready = λ r. record { content = r.content; by_now = r.by_now }; well = record { takes = λ key value is. is }; fixed = refl; content = refl; counts = refl; disk_faults = refl; disk_syncs = refl };
   said = sym (with_suffix-nil (Some s.said));
   left = refl;
   hearings = refl;

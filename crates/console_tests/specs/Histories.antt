@@ -68,6 +68,7 @@ history_view s commits log = record {
   now = LeavesHeld s log;
   counts = record s.counts { commits = commits };
   disk_faults = 0;
+  disk_syncs = 0;
   well = (mem_view s).well;
   fixed = (mem_view s).fixed;
 }

@@ -20,14 +20,14 @@ text_of (Number n) = None
 text_of (Flag b) = None
 
 -- the text at a place, counted from 0
-abbrev pub text_at : ℕ → List Arg → Option (List ℕ)
-text_at place [] = None
-text_at zero (arg ∷ args) = text_of arg
-text_at (suc place) (arg ∷ args) = text_at place args
+abbrev pub argument_text : ℕ → List Arg → Option (List ℕ)
+argument_text place [] = None
+argument_text zero (arg ∷ args) = text_of arg
+argument_text (suc place) (arg ∷ args) = argument_text place args
 
 -- the name that it spells
-abbrev pub name_at : ℕ → List Arg → Option (List ℕ)
-name_at place args = option_and_then spelt_name (text_at place args)
+abbrev pub argument_name : ℕ → List Arg → Option (List ℕ)
+argument_name place args = option_and_then spelt_name (argument_text place args)
 
 abbrev pub is_text_argument : Arg → Bool
 is_text_argument (Text text) = true
@@ -39,16 +39,16 @@ abbrev pub are_texts : ℕ → List Arg → Bool
 are_texts count args = (length args == count) && list_all is_text_argument args
 
 -- computed examples
-the_second : name_at 1 (Text (codes "g") ∷ Text (codes "Title") ∷ Number (Fits (pos 1)) ∷ []) ≡ Some (codes "title")
+the_second : argument_name 1 (Text (codes "g") ∷ Text (codes "Title") ∷ Number (Fits (pos 1)) ∷ []) ≡ Some (codes "title")
 the_second = refl
 
-no_name : name_at 0 (Text (codes "no name") ∷ []) ≡ None
+no_name : argument_name 0 (Text (codes "no name") ∷ []) ≡ None
 no_name = refl
 
-a_number : text_at 1 (Text (codes "g") ∷ Number (Fits (pos 1)) ∷ []) ≡ None
+a_number : argument_text 1 (Text (codes "g") ∷ Number (Fits (pos 1)) ∷ []) ≡ None
 a_number = refl
 
-none_there : text_at 2 (Text (codes "g") ∷ Text (codes "title") ∷ []) ≡ None
+none_there : argument_text 2 (Text (codes "g") ∷ Text (codes "title") ∷ []) ≡ None
 none_there = refl
 
 two_texts : are_texts 2 (Text (codes "a") ∷ Text (codes "b") ∷ []) ≡ true

@@ -3,7 +3,7 @@
 ghost use Rattle.std.specs.Prelude.{◌≡◌, IfOk};
 ghost use Rattle.std.specs.List.{list_all};
 ghost use Rattle.std.specs.Option.{option_map};
-ghost use Rattle.db_call.specs.Arguments.{are_texts as are_so_many_texts, is_text_argument, name_at as name_there, spelt_name as name_spelt, text_at as text_there, text_of as its_text};
+ghost use Rattle.db_call.specs.Arguments.{are_texts as are_so_many_texts, is_text_argument, argument_name as name_there, spelt_name as name_spelt, argument_text as text_there, text_of as its_text};
 
 use ct_base::{Memory, Name, NameFault};
 use st_parse::Arg;

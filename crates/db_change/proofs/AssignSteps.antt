@@ -13,9 +13,9 @@ use Rattle.st_parse.specs.declared.statements.Assign.{Assign}
 use Rattle.tb_table.specs.declared.columns.Sort.{Sort}
 use Rattle.tb_table.specs.declared.columns.Column.{Column}
 use Rattle.tb_table.specs.Rules.{has_column, HaveDistinctNames}
-use Rattle.db_rows.specs.Checking.{sort_of}
+use Rattle.db_rows.specs.Checking.{sort_of, is_beyond_operand}
 use Rattle.db_state.specs.Columns.{first_unknown}
-use Rattle.db_change.specs.Inserting.{is_of_sort, is_too_long, is_beyond_range}
+use Rattle.db_change.specs.Inserting.{is_of_sort, is_too_long}
 use Rattle.db_change.specs.Updating.{of_sort, of_its_sort, set_in, IsKeptAssign}
 use Rattle.db_change.specs.laws.SetValues.{FitsSet, SetFits}
 use Rattle.db_change.proofs.KeptValues.{fits_one}
@@ -61,19 +61,21 @@ column_there name (c ∷ cs) s is = go (same_list name c.name) is (column_there 
     go false is rest = rest is
 
 module _ (columns : List Column) where
-  set_fits : (name : List ℕ) (s : Sort) → sort_of name columns ≡ Some s → (assigns : List Assign) → list_all (of_its_sort is_of_sort columns) assigns ≡ true → list_any (of_its_sort is_too_long columns) assigns ≡ false
-      → list_any (λ (a : Assign). is_beyond_range a.value) assigns ≡ false → All IsKeptAssign assigns → FitsSet s (set_in assigns name)
+  set_fits : (name : List ℕ) (s : Sort) → sort_of name columns ≡ Some s → (assigns : List Assign)
+      → list_all (of_its_sort is_of_sort columns) assigns ≡ true → list_any (of_its_sort is_too_long columns) assigns ≡ false
+      → list_any (λ (a : Assign). is_beyond_operand a.value) assigns ≡ false → All IsKeptAssign assigns → FitsSet s (set_in assigns name)
   set_fits name s sort [] sorts short within kept = tt
   set_fits name s sort (a ∷ assigns) sorts short within kept =
       let o = and_parts (of_its_sort is_of_sort columns a) (list_all (of_its_sort is_of_sort columns) assigns) sorts in
       let l = or_false (of_its_sort is_too_long columns a) (list_any (of_its_sort is_too_long columns) assigns) short in
-      let w = or_false (is_beyond_range a.value) (list_any (λ (a : Assign). is_beyond_range a.value) assigns) within in
+      let w = or_false (is_beyond_operand a.value) (list_any (λ (a : Assign). is_beyond_operand a.value) assigns) within in
       go (same_list name a.column) refl o.0 l.0 w.0 (All-head IsKeptAssign a assigns kept) (set_fits name s sort assigns o.1 l.1 w.1 (All-tail IsKeptAssign a assigns kept))
     where
       here : name ≡ a.column → sort_of a.column columns ≡ Some s
       here e = ap (λ (n : List ℕ). sort_of n columns) (sym e) ∙ sort
 
-      go : (b : Bool) → same_list name a.column ≡ b → of_its_sort is_of_sort columns a ≡ true → of_its_sort is_too_long columns a ≡ false → is_beyond_range a.value ≡ false → IsKeptAssign a → FitsSet s (set_in assigns name)
+      go : (b : Bool) → same_list name a.column ≡ b → of_its_sort is_of_sort columns a ≡ true → of_its_sort is_too_long columns a ≡ false
+          → is_beyond_operand a.value ≡ false → IsKeptAssign a → FitsSet s (set_in assigns name)
           → FitsSet s (cond b (Some a.value) (set_in assigns name))
       go true h sorts short within kept rest =
           let is = here (list_from_same name a.column h) in
@@ -82,7 +84,7 @@ module _ (columns : List Column) where
 
   sets_fit : (cs : List Column) → ((name : List ℕ) (s : Sort) → sort_of name cs ≡ Some s → sort_of name columns ≡ Some s) → HaveDistinctNames cs
       → (assigns : List Assign) → list_all (of_its_sort is_of_sort columns) assigns ≡ true → list_any (of_its_sort is_too_long columns) assigns ≡ false
-      → list_any (λ (a : Assign). is_beyond_range a.value) assigns ≡ false → All IsKeptAssign assigns → SetFits assigns cs
+      → list_any (λ (a : Assign). is_beyond_operand a.value) assigns ≡ false → All IsKeptAssign assigns → SetFits assigns cs
   sets_fit [] within_all apart assigns sorts short within kept = tt
   sets_fit (c ∷ cs) within_all apart assigns sorts short within kept = (
     set_fits c.name c.sort (within_all c.name c.sort (ap (λ (b : Bool). cond b (Some c.sort) (sort_of c.name cs)) (list_same c.name))) assigns sorts short within kept,
@@ -94,6 +96,7 @@ module _ (columns : List Column) where
       later name s is false h = ap (λ (b : Bool). cond b (Some c.sort) (sort_of name cs)) h ∙ is
 
 -- of all columns of a table, and of those behind the key
-pub set_values_fit : (columns : List Column) (assigns : List Assign) → HaveDistinctNames columns → list_all (of_its_sort is_of_sort columns) assigns ≡ true → list_any (of_its_sort is_too_long columns) assigns ≡ false
-    → list_any (λ (a : Assign). is_beyond_range a.value) assigns ≡ false → All IsKeptAssign assigns → SetFits assigns columns
+pub set_values_fit : (columns : List Column) (assigns : List Assign) → HaveDistinctNames columns
+    → list_all (of_its_sort is_of_sort columns) assigns ≡ true → list_any (of_its_sort is_too_long columns) assigns ≡ false
+    → list_any (λ (a : Assign). is_beyond_operand a.value) assigns ≡ false → All IsKeptAssign assigns → SetFits assigns columns
 set_values_fit columns assigns apart sorts short within kept = sets_fit columns columns (λ name s is. is) apart assigns sorts short within kept

@@ -3,8 +3,7 @@ use Rattle.std.proofs.Common.{◌≡◌, ℕ, ℤ, ◌+◌, ◌<◌, ◌≤◌, 
 use Rattle.std.specs.FinMap.{get}
 use Rattle.std.proofs.lemmas.List.{take_more, take_all, map-append, length-map}
 use Rattle.ct_base.specs.declared.numbers.RowKey.{RowKey}
-use Rattle.ct_keep.specs.Content.{Content, after}
-use Rattle.ct_keep.specs.Laws.{changes_weight}
+use Rattle.ct_keep.specs.Content.{Content, after, changes_weight}
 use Rattle.ct_entry.specs.Keys.{Key, at}
 use Rattle.ct_entry.specs.Each.{each}
 use Rattle.ct_entry.specs.laws.Each.{each-append}
@@ -16,7 +15,7 @@ use Rattle.st_parse.specs.declared.statements.Cond.{Cond}
 use Rattle.tb_table.specs.declared.columns.Column.{Column}
 use Rattle.tb_table.specs.Tables.{Table}
 use Rattle.tb_table.specs.Shapes.{HasTableValue}
-use Rattle.ix_context.specs.Shapes.{HasIndexValue}
+use Rattle.ix_context.specs.Shapes.{HasContextValue}
 use Rattle.db_cond.specs.declared.faults.Fault.{Fault}
 use Rattle.db_cond.specs.Faults.{UnknownName}
 use Rattle.db_cond.specs.Refused.{refusal_of}
@@ -57,14 +56,16 @@ module _ {I J : Type 0} (changes : J → List (Key × Option (List ℕ))) (f : I
   each_whole batch past before = before ∙ ap (λ (l : List I). spell (each changes (map f l))) (take_all i es past)
 
 -- those of a row, in a batch of their own and then in its table's
-pub row_made : (a b : List (Key × Option (List ℕ))) (empty own notes new : List (List ℕ × Option (List ℕ))) → empty ≡ [] → own ≡ empty ++ spell a → notes ≡ spell b → new ≡ own ++ notes → new ≡ spell (a ++ b)
+pub row_made : (a b : List (Key × Option (List ℕ))) (empty own notes new : List (List ℕ × Option (List ℕ))) → empty ≡ [] → own ≡ empty ++ spell a
+    → notes ≡ spell b → new ≡ own ++ notes → new ≡ spell (a ++ b)
 row_made a b empty own notes new none changes noted is =
     is
     ∙ ap (λ (ws : List (List ℕ × Option (List ℕ))). ws ++ notes) (changes ∙ ap (λ (ws : List (List ℕ × Option (List ℕ))). ws ++ spell a) none)
     ∙ ap (λ (ws : List (List ℕ × Option (List ℕ))). spell a ++ ws) noted
     ∙ sym (spell-append a b)
 
-pub row_shaped : (a : List (Key × Option (List ℕ))) (empty own notes new : List (List ℕ × Option (List ℕ))) → empty ≡ [] → own ≡ empty ++ spell a → AreShaped HasTableValue (spell a) → AreShaped HasIndexValue notes → new ≡ own ++ notes → AreStoreChanges new
+pub row_shaped : (a : List (Key × Option (List ℕ))) (empty own notes new : List (List ℕ × Option (List ℕ))) → empty ≡ [] → own ≡ empty ++ spell a
+    → AreShaped HasTableValue (spell a) → AreShaped HasContextValue notes → new ≡ own ++ notes → AreStoreChanges new
 row_shaped a empty own notes new none changes rows noted is = row_and_notes own new notes (shaped_alone HasTableValue empty own (spell a) none changes rows) is noted
 
 -- those of a row more
@@ -99,7 +100,8 @@ module _ (m : StoreState) (t : List ℕ) (conds : List Cond) where
           (indexes_of_read (at c) (store_heads m.indexes) (heads_stand (at c) m.tables m.indexes stands.state.tables stands.state.indexes stands.indexes) t found are)
           ∙ ap (λ (rs : List ℤ). spell (gone_rows_changes (at c) t x.columns (heads_on m.indexes t) rs)) met
 
-      pub delete_done : (count : ℕ) → count ≡ length rows → ((done : Effect) → Checks None (check_conds columns conds done) done) → (n : StoreState) × (delete_from m t conds ≡ Does n (rows_deleted count)) × StandsForState (after batch c) n
+      pub delete_done : (count : ℕ) → count ≡ length rows → ((done : Effect) → Checks None (check_conds columns conds done) done)
+          → (n : StoreState) × (delete_from m t conds ≡ Does n (rows_deleted count)) × StandsForState (after batch c) n
       delete_done count counted passed = (
         without_rows m t (meeting_keys x conds),
         delete_some ∙ passed (delete_rows m t (meeting_keys x conds))
@@ -118,5 +120,6 @@ same_changes f t cs ds es fs rs ss columns indexes rows =
     ∙ ap (λ (l : List RowKey). spell (gone_rows_changes f t ds fs (map (λ row. row.0) l))) rows
 
 -- they weigh nothing
-pub deletes_weigh_nothing : (c : Content) (t : List ℕ) (columns : List Column) (es : List (List ℕ × IndexHead)) (rows : List ℤ) (batch : List (List ℕ × Option (List ℕ))) → batch ≡ spell (gone_rows_changes (at c) t columns es rows) → changes_weight batch ≡ 0
+pub deletes_weigh_nothing : (c : Content) (t : List ℕ) (columns : List Column) (es : List (List ℕ × IndexHead)) (rows : List ℤ) (batch : List (List ℕ × Option (List ℕ)))
+    → batch ≡ spell (gone_rows_changes (at c) t columns es rows) → changes_weight batch ≡ 0
 deletes_weigh_nothing c t columns es rows batch is = ap changes_weight is ∙ drops_weigh_nothing (gone_rows_changes (at c) t columns es rows) (rows_drop (at c) t columns es rows)

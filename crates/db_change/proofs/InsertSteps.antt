@@ -12,7 +12,8 @@ use Rattle.db_cond.specs.Faults.{Refusal, UnknownName, KeyExists, OutOfRange}
 use Rattle.db_cond.specs.Refused.{refusal_of}
 use Rattle.db_state.specs.States.{StoreState}
 use Rattle.db_state.specs.Effects.{Effect, Refused, Does, refuse, refuse_by, with_found, Checks}
-use Rattle.db_change.specs.Inserting.{are_of_sorts, arranged, check_list, check_row_values, has_row, has_too_long, insert_into, insert_row, insert_values, is_beyond_range, key_in, others_kept, row_created, taken_key, with_new_row, IsFreeRow}
+use Rattle.db_change.specs.Inserting.{are_of_sorts, arranged, check_list, check_row_values, has_row, has_too_long, insert_into, insert_row, insert_values, key_in, others_kept, row_created, taken_key, with_new_row, IsFreeRow}
+use Rattle.db_rows.specs.Checking.{is_beyond_operand}
 use Rattle.ct_base.specs.laws.Options.{no_value as gone}
 
 -- ---- chains of checks that lead on
@@ -60,7 +61,7 @@ module _ (m : StoreState) (t : List ℕ) (x : Table) (values : List Operand) (ta
         let a = refuse_passed _ _ _ m (passed (Does m [])) in
         let b = refuse_by_passed (taken_key taken (key_in values)) KeyExists _ m a.1 in
         let d = refuse_passed (has_too_long columns values) _ _ m b.1 in
-        let e = refuse_passed (list_any is_beyond_range values) _ _ m d.1 in
+        let e = refuse_passed (list_any is_beyond_operand values) _ _ m d.1 in
         let f = refuse_passed many _ _ m e.1 in
         record {
           key = is;
@@ -86,5 +87,6 @@ module _ (m : StoreState) (t : List ℕ) (names : Option (List (List ℕ))) (val
     pub into_refused : (fault : Fault) → ((done : Effect) → Checks (Some fault) (check_list columns names values done) done) → insert_into m t names values ≡ Refused (refusal_of fault)
     into_refused fault checks = into_some ∙ checks (insert_values m t x (arranged names columns values))
 
-    pub into_values : ((done : Effect) → Checks None (check_list columns names values done) done) → (arranged_values : List Operand) → arranged_values ≡ arranged names columns values → insert_into m t names values ≡ insert_values m t x arranged_values
+    pub into_values : ((done : Effect) → Checks None (check_list columns names values done) done) → (arranged_values : List Operand)
+        → arranged_values ≡ arranged names columns values → insert_into m t names values ≡ insert_values m t x arranged_values
     into_values passed arranged_values is = into_some ∙ passed (insert_values m t x (arranged names columns values)) ∙ ap (insert_values m t x) (sym is)

@@ -1,8 +1,8 @@
 -- What a row keeps of values.
-use Rattle.std.proofs.Common.{◌≡◌, ℕ, ℤ, suc, ◌+◌, ◌-◌, ◌^◌, ◌<◌, ◌≤◌, true, false, List, [], ◌∷◌, ◌++◌, length, map, pos, Option, Some, None, refl, sym, ap, subst, ◌∙◌, arith, append-nil, append_assoc}
+use Rattle.std.proofs.Common.{◌≡◌, ℕ, ℤ, suc, ◌+◌, ◌-◌, ◌^◌, ◌<◌, ◌≤◌, true, false, List, [], ◌∷◌, ◌++◌, length, map, pos, Option, Some, None, refl, sym, ap, ◌∙◌, arith, append-nil, append_assoc}
 use Rattle.std.specs.Prelude.{min}
 use Rattle.std.specs.List.{All, list_any, filter_map, remove}
-use Rattle.std.proofs.lemmas.Bool.{ltb-false, and_parts}
+use Rattle.std.proofs.lemmas.Bool.{ltb-false, and_parts, or_parts as or_false}
 use Rattle.ct_base.specs.declared.lists.Value.{Value}
 use Rattle.st_parse.specs.declared.statements.Operand.{Operand}
 use Rattle.st_parse.specs.declared.statements.Operand.TheVariants.{Text, Number}
@@ -15,8 +15,8 @@ use Rattle.tb_table.specs.declared.columns.Column.{Column}
 use Rattle.tb_table.specs.Tables.{Table, numbers_of, texts_from, texts_of}
 use Rattle.ct_base.specs.Limits.{text_limit}
 use Rattle.tb_table.specs.Rules.{IsOfSort as FitsSort, FitColumns, others}
-use Rattle.db_change.specs.Inserting.{is_of_sort, are_of_sorts, is_too_long, has_too_long, is_beyond_range, kept_value, number_value, text_value, IsNumberKept, IsTextKept, behind_key, others_kept, IsFreeRow}
-use Rattle.std.proofs.lemmas.Bool.{or_parts as or_false}
+use Rattle.db_change.specs.Inserting.{is_of_sort, are_of_sorts, is_too_long, has_too_long, kept_value, number_value, text_value, IsNumberKept, IsTextKept, behind_key, others_kept, IsFreeRow}
+use Rattle.db_rows.specs.Checking.{is_beyond_operand}
 
 -- ---- numbers
 
@@ -94,7 +94,7 @@ key_removed (v ∷ vs) some = refl
 
 -- ---- the columns
 
-pub fits_one : (s : Sort) (v : Operand) → is_of_sort s v ≡ true → is_too_long s v ≡ false → is_beyond_range v ≡ false → IsNumberKept v → IsTextKept v → FitsSort s (kept_value v)
+pub fits_one : (s : Sort) (v : Operand) → is_of_sort s v ≡ true → is_too_long s v ≡ false → is_beyond_operand v ≡ false → IsNumberKept v → IsTextKept v → FitsSort s (kept_value v)
 fits_one NumberSort (Text text) sort short within number utf8 = cc
 fits_one NumberSort (Number (Fits n)) sort short within number utf8 = number
 fits_one NumberSort (Number Beyond) sort short within number utf8 = cc
@@ -106,29 +106,32 @@ fits_one Clob (Number n) sort short within number utf8 = cc
 all_rest : (P : Operand → Type 0) (v : Operand) (vs : List Operand) → All P (v ∷ vs) → All P vs
 all_rest P v vs all k d less = all (suc k) d (omega arith)
 
-pub fit_columns : (cs : List Column) (vs : List Operand) → are_of_sorts cs vs ≡ true → has_too_long cs vs ≡ false → list_any is_beyond_range vs ≡ false → All IsNumberKept vs → All IsTextKept vs → FitColumns cs (map kept_value vs)
+pub fit_columns : (cs : List Column) (vs : List Operand) → are_of_sorts cs vs ≡ true → has_too_long cs vs ≡ false
+    → list_any is_beyond_operand vs ≡ false → All IsNumberKept vs → All IsTextKept vs → FitColumns cs (map kept_value vs)
 fit_columns [] [] sorts short within numbers texts = tt
 fit_columns [] (v ∷ vs) sorts short within numbers texts = cc
 fit_columns (c ∷ cs) [] sorts short within numbers texts = cc
 fit_columns (c ∷ cs) (v ∷ vs) sorts short within numbers texts =
     let s = and_parts (is_of_sort c.sort v) (are_of_sorts cs vs) sorts in
     let l = or_false (is_too_long c.sort v) (has_too_long cs vs) short in
-    let w = or_false (is_beyond_range v) (list_any is_beyond_range vs) within in (
+    let w = or_false (is_beyond_operand v) (list_any is_beyond_operand vs) within in (
       fits_one c.sort v s.0 l.0 w.0 (numbers 0 v (omega arith)) (texts 0 v (omega arith)),
       fit_columns cs vs s.1 l.1 w.1 (all_rest IsNumberKept v vs numbers) (all_rest IsTextKept v vs texts),
     )
 
 -- ---- but the key
 
-pub others_fit : (x : Table) (values : List Operand) (r : ℤ) → IsFreeRow x values r → All IsNumberKept (behind_key values) → All IsTextKept (behind_key values) → FitColumns (others x.columns) (others_kept values)
+pub others_fit : (x : Table) (values : List Operand) (r : ℤ) → IsFreeRow x values r → All IsNumberKept (behind_key values)
+    → All IsTextKept (behind_key values) → FitColumns (others x.columns) (others_kept values)
 others_fit x values r free numbers texts = go x.columns values free.sorts free.short free.within numbers texts
   where
-    go : (cs : List Column) (vs : List Operand) → are_of_sorts cs vs ≡ true → has_too_long cs vs ≡ false → list_any is_beyond_range vs ≡ false → All IsNumberKept (behind_key vs) → All IsTextKept (behind_key vs) → FitColumns (others cs) (map kept_value (behind_key vs))
+    go : (cs : List Column) (vs : List Operand) → are_of_sorts cs vs ≡ true → has_too_long cs vs ≡ false → list_any is_beyond_operand vs ≡ false
+        → All IsNumberKept (behind_key vs) → All IsTextKept (behind_key vs) → FitColumns (others cs) (map kept_value (behind_key vs))
     go [] [] sorts short within numbers texts = tt
     go [] (v ∷ vs) sorts short within numbers texts = cc
     go (c ∷ cs) [] sorts short within numbers texts = cc
     go (c ∷ cs) (v ∷ vs) sorts short within numbers texts =
-        fit_columns cs vs (and_parts (is_of_sort c.sort v) (are_of_sorts cs vs) sorts).1 (or_false (is_too_long c.sort v) (has_too_long cs vs) short).1 (or_false (is_beyond_range v) (list_any is_beyond_range vs) within).1 numbers texts
+        fit_columns cs vs (and_parts (is_of_sort c.sort v) (are_of_sorts cs vs) sorts).1 (or_false (is_too_long c.sort v) (has_too_long cs vs) short).1 (or_false (is_beyond_operand v) (list_any is_beyond_operand vs) within).1 numbers texts
 
 pub sorts_length : (cs : List Column) (vs : List Operand) → are_of_sorts cs vs ≡ true → length vs ≡ length cs
 sorts_length [] [] sorts = refl
@@ -145,7 +148,8 @@ few_others x values r few free = let same = sorts_length x.columns values free.s
 
 -- ---- changes
 
-pub changes_kept : (t : List ℕ) (r : ℤ) (vs : List Operand) (ns : List ℤ) (ts : List (ℕ × List ℕ)) (none new : List (List ℕ × Option (List ℕ))) → none ≡ [] → new ≡ none ++ spell (insert_changes t r ns ts) → ns ≡ filter_map number_value vs → ts ≡ texts_of (map kept_value vs)
+pub changes_kept : (t : List ℕ) (r : ℤ) (vs : List Operand) (ns : List ℤ) (ts : List (ℕ × List ℕ)) (none new : List (List ℕ × Option (List ℕ)))
+    → none ≡ [] → new ≡ none ++ spell (insert_changes t r ns ts) → ns ≡ filter_map number_value vs → ts ≡ texts_of (map kept_value vs)
     → new ≡ spell (insert_changes t r (numbers_of (map kept_value vs)) (texts_of (map kept_value vs)))
 changes_kept t r vs ns ts none new empty is numbers texts =
     is

@@ -20,7 +20,7 @@ use Rattle.db_change.specs.Inserting.{behind_key, kept_value, others_kept, with_
 use Rattle.db_state.specs.laws.Heads.{store_heads, heads_stand}
 use Rattle.db_change.proofs.KeptValues.{others_fit, few_others}
 use Rattle.db_change.specs.laws.NewRows.{heads_on, new_row_changes, new_row_stands}
-use Rattle.ix_indexes.specs.declared.noting.RowStep.TheVariants.{Comes}
+use Rattle.ix_indexes.specs.declared.noting.RowEvent.TheVariants.{Comes}
 use Rattle.ix_indexes.specs.Noting.{heads_changes}
 
 module _ (c : Content) (m : StoreState) (t : List ℕ) (x : Table) (r : ℤ) (values vs : List Operand) (stands : StandsForState c m) (here : get m.tables t ≡ Some x) (free : IsFreeRow x values r) (row : IsRow r)

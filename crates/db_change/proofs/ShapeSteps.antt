@@ -13,7 +13,7 @@ use Rattle.st_parse.specs.declared.statements.Whole.TheVariants.{Fits, Beyond}
 use Rattle.tb_table.specs.declared.columns.Column.{Column}
 use Rattle.ct_entry.specs.laws.Shapes.{are_shaped-append, are_shaped_weaker}
 use Rattle.tb_table.specs.Shapes.{HasShortText, HasTableValue, HaveShortTexts}
-use Rattle.ix_context.specs.Shapes.{HasIndexValue}
+use Rattle.ix_context.specs.Shapes.{HasContextValue}
 use Rattle.db_state.specs.Shapes.{AreStoreChanges, HasStoreValue}
 use Rattle.tb_table.specs.Tables.{texts_from, texts_of}
 use Rattle.db_state.specs.Effects.{Effect, Refused}
@@ -31,7 +31,8 @@ sort_at (d ∷ cs) (w ∷ vs) zero c v sorts less within = (and_parts (is_of_sor
 sort_at (d ∷ cs) (w ∷ vs) (suc i) c v sorts less within = sort_at cs vs i c v (and_parts (is_of_sort d.sort w) (are_of_sorts cs vs) sorts).1 (omega arith) (omega arith)
 
 -- one value more
-pub short_more : (cs : List Column) (vs : List Operand) (i : ℕ) (c : Column) (v : Operand) → i < length cs → i < length vs → c ≡ get_or cs i c → v ≡ get_or vs i v → (are_of_sorts cs vs ≡ true → All IsShortValue (take i vs)) → (is_of_sort c.sort v ≡ true → IsShortValue v)
+pub short_more : (cs : List Column) (vs : List Operand) (i : ℕ) (c : Column) (v : Operand) → i < length cs → i < length vs → c ≡ get_or cs i c
+    → v ≡ get_or vs i v → (are_of_sorts cs vs ≡ true → All IsShortValue (take i vs)) → (is_of_sort c.sort v ≡ true → IsShortValue v)
     → are_of_sorts cs vs ≡ true → All IsShortValue (take (i + 1) vs)
 short_more cs vs i c v less within column value so_far one sorts =
     let taken : is_of_sort c.sort v ≡ true = (λ j. is_of_sort (column j).sort (value j)) ∙ sort_at cs vs i c v sorts less within in
@@ -48,7 +49,8 @@ pub none_left : (cs : List Column) (vs : List Operand) (i : ℕ) → i < length 
 none_left cs vs i less past sorts = let same = sorts_length cs vs sorts in omega (arith, same, less, past)
 
 -- more values than a table has columns are refused
-pub too_many_values : (taken many : Bool) (cs : List Column) (vs : List Operand) → column_limit < length vs → length cs ≤ column_limit → (done : Effect) → check_row_values taken many cs vs done ≡ Refused WrongValues
+pub too_many_values : (taken many : Bool) (cs : List Column) (vs : List Operand) → column_limit < length vs → length cs ≤ column_limit
+    → (done : Effect) → check_row_values taken many cs vs done ≡ Refused WrongValues
 too_many_values taken many cs vs more few done = rw (← sorts_apart cs vs (λ e. omega (arith, e, more, few))) refl
 
 -- ---- but the key
@@ -77,7 +79,8 @@ texts_short column (Text text ∷ vs) all = All-cons HasShortText (column, text)
 texts_short column (Number (Fits n) ∷ vs) all = texts_short (suc column) vs (All-tail IsShortValue (Number (Fits n)) vs all)
 texts_short column (Number Beyond ∷ vs) all = texts_short (suc column) vs (All-tail IsShortValue (Number Beyond) vs all)
 
-pub have_short_texts : (vs : List Operand) (texts : List (ℕ × List ℕ)) → (length vs ≤ 255 → texts ≡ texts_of (map kept_value vs)) → length vs ≤ column_limit → All IsShortValue vs → HaveShortTexts texts
+pub have_short_texts : (vs : List Operand) (texts : List (ℕ × List ℕ)) → (length vs ≤ 255 → texts ≡ texts_of (map kept_value vs))
+    → length vs ≤ column_limit → All IsShortValue vs → HaveShortTexts texts
 have_short_texts vs texts are few all = subst HaveShortTexts (sym (are (omega (arith, few)))) (texts_short 1 vs all)
 
 -- ---- batches
@@ -89,10 +92,10 @@ shaped_alone rule none new ws empty is are = subst (AreShaped rule) (sym (is ∙
 -- ---- plans
 
 -- changes of a row, and those that it waits in indexes, are ones that a store takes
-pub row_and_notes : (row new notes : List (List ℕ × Option (List ℕ))) → AreShaped HasTableValue row → new ≡ row ++ notes → AreShaped HasIndexValue notes → AreStoreChanges new
+pub row_and_notes : (row new notes : List (List ℕ × Option (List ℕ))) → AreShaped HasTableValue row → new ≡ row ++ notes → AreShaped HasContextValue notes → AreStoreChanges new
 row_and_notes row new notes rows is waits =
     subst AreStoreChanges (sym is)
-    (are_shaped-append HasStoreValue row notes (are_shaped_weaker HasTableValue HasStoreValue (λ k value has. inl has) row rows) (are_shaped_weaker HasIndexValue HasStoreValue (λ k value has. inr (inl has)) notes waits))
+    (are_shaped-append HasStoreValue row notes (are_shaped_weaker HasTableValue HasStoreValue (λ k value has. inl has) row rows) (are_shaped_weaker HasContextValue HasStoreValue (λ k value has. inr (inl has)) notes waits))
 
 -- so are those of a table
 pub of_tables : (changes : List (List ℕ × Option (List ℕ))) → AreShaped HasTableValue changes → AreStoreChanges changes

@@ -35,7 +35,9 @@ table_free m t cs n reply is =
     not_false false h = cc
 
 -- the statement by what was read of the state
-pub table_read : (m : StoreState) (t : List ℕ) (cs : List ColumnText) (there many : Bool) → there ≡ is_some (get m.tables t) → many ≡ nat_le table_limit (length (entries m.tables)) → create_table m t cs ≡ check_table there many t cs (Does (with_new_table m t cs) table_created)
+pub table_read : (m : StoreState) (t : List ℕ) (cs : List ColumnText) (there many : Bool) → there ≡ is_some (get m.tables t)
+    → many ≡ nat_le table_limit (length (entries m.tables))
+    → create_table m t cs ≡ check_table there many t cs (Does (with_new_table m t cs) table_created)
 table_read m t cs there many is most = ap (λ (b : Bool). check_table b (nat_le table_limit (length (entries m.tables))) t cs (Does (with_new_table m t cs) table_created)) (sym is) ∙ ap (λ (b : Bool). check_table there b t cs (Does (with_new_table m t cs) table_created)) (sym most)
 
 -- the batch of a table that no check refuses

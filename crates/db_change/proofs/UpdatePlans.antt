@@ -14,7 +14,7 @@ use Rattle.tb_table.specs.Rules.{others, HaveDistinctNames as AreApartColumns}
 use Rattle.db_cond.specs.Faults.{UnknownName, WrongValues, ValueTooLong, OutOfRange}
 use Rattle.db_cond.specs.Refused.{refusal_of}
 use Rattle.db_cond.specs.declared.faults.Fault.{Fault}
-use Rattle.db_rows.specs.Checking.{cond_columns, fit_columns, has_beyond}
+use Rattle.db_rows.specs.Checking.{cond_columns, fit_columns, has_beyond, is_beyond_operand}
 use Rattle.db_rows.specs.Meeting.{meeting_keys}
 use Rattle.db_state.specs.States.{StoreState, StandsForState}
 use Rattle.db_state.specs.Columns.{first_unknown}
@@ -22,7 +22,7 @@ use Rattle.db_state.specs.Effects.{Effect, Refused, Does, with_found, Checks}
 use Rattle.db_state.specs.laws.Chains.{passed}
 use Rattle.db_state.specs.Plans.{IsPlan}
 use Rattle.db_state.specs.declared.plans.Plan.TheVariants.{Done}
-use Rattle.db_change.specs.Inserting.{is_of_sort, is_too_long, is_beyond_range}
+use Rattle.db_change.specs.Inserting.{is_of_sort, is_too_long}
 use Rattle.db_change.specs.Updating.{assign_columns, sets_key, has_twice, of_its_sort, places_set, check_update, with_updates, rows_updated, update_rows, update, indexes_set, update_changes, IsKeptAssign}
 use Rattle.db_change.specs.laws.SetValues.{SetFits, others_fit_set}
 use Rattle.db_change.specs.laws.SetIndexes.{named_on_columns, own_heads_set}
@@ -34,14 +34,15 @@ use Rattle.db_change.proofs.InsertSteps.{refuse_by_passed, not_false}
 -- ---- the checks
 
 -- what is set in the columns of a table fits them
-checked_fits : (m : StoreState) (columns : List Column) (assigns : List Assign) (conds : List Cond) → AreApartColumns columns → ((done : Effect) → check_update columns assigns conds done ≡ done) → All IsKeptAssign assigns → SetFits assigns columns
+checked_fits : (m : StoreState) (columns : List Column) (assigns : List Assign) (conds : List Cond) → AreApartColumns columns
+    → ((done : Effect) → check_update columns assigns conds done ≡ done) → All IsKeptAssign assigns → SetFits assigns columns
 checked_fits m columns assigns conds apart checks kept =
     let a = refuse_by_passed (first_unknown (assign_columns assigns ++ cond_columns conds) columns) UnknownName _ m (checks (Does m [])) in
     let b = passed (sets_key columns assigns || has_twice (assign_columns assigns) || not (list_all (of_its_sort is_of_sort columns) assigns) || not (fit_columns columns conds)) WrongValues _ m [] a.1 in
     let d = passed (list_any (of_its_sort is_too_long columns) assigns) ValueTooLong _ m [] b.1 in
-    let e = passed (list_any (λ (a : Assign). is_beyond_range a.value) assigns || has_beyond conds) OutOfRange _ m [] d.1 in
+    let e = passed (list_any (λ (a : Assign). is_beyond_operand a.value) assigns || has_beyond conds) OutOfRange _ m [] d.1 in
     let wrong = or_false (sets_key columns assigns || has_twice (assign_columns assigns)) (not (list_all (of_its_sort is_of_sort columns) assigns)) (or_false (sets_key columns assigns || has_twice (assign_columns assigns) || not (list_all (of_its_sort is_of_sort columns) assigns)) (not (fit_columns columns conds)) b.0).0 in
-    let beyond = or_false (list_any (λ (a : Assign). is_beyond_range a.value) assigns) (has_beyond conds) e.0 in
+    let beyond = or_false (list_any (λ (a : Assign). is_beyond_operand a.value) assigns) (has_beyond conds) e.0 in
     set_values_fit columns assigns apart (not_false (list_all (of_its_sort is_of_sort columns) assigns) wrong.1) d.0 beyond.0 kept
 
 -- ---- the plan
@@ -59,7 +60,8 @@ module _ (m : StoreState) (t : List ℕ) (assigns : List Assign) (conds : List C
     pub update_refused : (fault : Fault) → ((done : Effect) → Checks (Some fault) (check_update columns assigns conds done) done) → update m t assigns conds ≡ Refused (refusal_of fault)
     update_refused fault checks = update_some ∙ checks (update_rows m t x.columns assigns (meeting_keys x conds))
 
-    pub update_made : (k : Content) → StandsForState k m → ((done : Effect) → check_update columns assigns conds done ≡ done) → All IsKeptAssign assigns → (rows : List ℤ) → rows ≡ meeting_keys x conds → (count : ℕ) → count ≡ length rows
+    pub update_made : (k : Content) → StandsForState k m → ((done : Effect) → check_update columns assigns conds done ≡ done)
+        → All IsKeptAssign assigns → (rows : List ℤ) → rows ≡ meeting_keys x conds → (count : ℕ) → count ≡ length rows
         → (batch : List (List ℕ × Option (List ℕ))) → batch ≡ spell (update_changes k m t (others columns) assigns (indexes_set m t columns assigns) rows) → IsPlan (update m t assigns conds) (rows_updated count) k (Done batch)
     update_made k stands checks kept rows rows_are count counted batch batch_is = (
       with_updates m t x.columns assigns (meeting_keys x conds),

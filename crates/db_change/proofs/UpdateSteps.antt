@@ -28,7 +28,8 @@ use Rattle.std.proofs.Common.{Bool, true, false, cond}
 each_one : {I : Type 0} (f : I → List (Key × Option (List ℕ))) (x : I) → spell (each f (x ∷ [])) ≡ spell (f x)
 each_one f x = ap spell (append-nil (f x))
 
-pub each_more : {I : Type 0} (f : I → List (Key × Option (List ℕ))) (xs : List I) (i : ℕ) (x : I) (batch new : List (List ℕ × Option (List ℕ))) → i < length xs → x ≡ get_or xs i x → batch ≡ spell (each f (take i xs)) → new ≡ batch ++ spell (f x)
+pub each_more : {I : Type 0} (f : I → List (Key × Option (List ℕ))) (xs : List I) (i : ℕ) (x : I) (batch new : List (List ℕ × Option (List ℕ)))
+    → i < length xs → x ≡ get_or xs i x → batch ≡ spell (each f (take i xs)) → new ≡ batch ++ spell (f x)
     → new ≡ spell (each f (take (i + 1) xs))
 each_more {I} f xs i x batch new less is so_far added =
     added

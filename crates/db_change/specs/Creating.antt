@@ -15,7 +15,7 @@ use Rattle.tb_table.specs.Tables.{with_table}
 use Rattle.ct_base.specs.Limits.{column_limit, table_limit, text_limit}
 use Rattle.db_cond.specs.Faults.{ExistsAlready, WrongValues, OutOfRange, LimitReached}
 use Rattle.db_state.specs.States.{StoreState, is_view}
-use Rattle.db_state.specs.Effects.{Effect, Does, refuse, as_count, Refused}
+use Rattle.db_state.specs.Effects.{Effect, Does, refuse, whole_count, Refused}
 use Rattle.st_parse.specs.declared.statements.Whole.TheVariants.{Fits, Beyond}
 
 abbrev pub is_number_sort : SortText → Bool
@@ -41,7 +41,7 @@ is_size (Some n) = nat_le 1 n && nat_le n text_limit
 -- a VARCHAR2 column has such a size
 abbrev pub is_sized : SortText → Bool
 is_sized NumberText = true
-is_sized (Varchar2Text size) = is_size (as_count size)
+is_sized (Varchar2Text size) = is_size (whole_count size)
 is_sized ClobText = true
 
 abbrev pub all_sized : List ColumnText → Bool
@@ -49,7 +49,7 @@ all_sized columns = list_all (λ (c : ColumnText). is_sized c.sort) columns
 
 abbrev pub declared_sort : SortText → Sort
 declared_sort NumberText = Number
-declared_sort (Varchar2Text size) = Varchar2 (unwrap_or (as_count size) 0)
+declared_sort (Varchar2Text size) = Varchar2 (unwrap_or (whole_count size) 0)
 declared_sort ClobText = Clob
 
 abbrev pub column_of : ColumnText → Column
@@ -99,7 +99,8 @@ there_and_too_many_columns done = refl
 name_of_a_view : (done : Effect) → check_table false false (codes "ctx_user_pending") three_columns done ≡ Refused (ExistsAlready (codes "ctx_user_pending"))
 name_of_a_view done = refl
 
-two_of_one_name : (done : Effect) → check_table false false (codes "docs") (number_text (codes "id") true ∷ number_text (codes "id") false ∷ varchar2_text (Fits (pos 0)) ∷ []) done ≡ Refused WrongValues
+two_of_one_name : (done : Effect)
+    → check_table false false (codes "docs") (number_text (codes "id") true ∷ number_text (codes "id") false ∷ varchar2_text (Fits (pos 0)) ∷ []) done ≡ Refused WrongValues
 two_of_one_name done = refl
 
 no_key : (done : Effect) → check_table false false (codes "docs") (number_text (codes "id") false ∷ []) done ≡ Refused WrongValues

@@ -12,7 +12,7 @@ use Rattle.tb_table.specs.Spelling.{delete_changes}
 use Rattle.ix_docmap.specs.Changes.{gone_changes}
 use Rattle.ix_docmap.specs.Readings.{document_at}
 use Rattle.ix_kinds.specs.Statements.{tables_after, every, indexes_after}
-use Rattle.ix_indexes.specs.declared.noting.RowStep.TheVariants.{Goes}
+use Rattle.ix_indexes.specs.declared.noting.RowEvent.TheVariants.{Goes}
 use Rattle.ix_indexes.specs.Indexes.{kinds}
 use Rattle.ix_indexes.specs.Noting.{heads_changes}
 use Rattle.db_names.specs.declared.heads.IndexKind.TheVariants.{Context}

@@ -8,7 +8,6 @@ use Rattle.std.specs.FinMap.{get, entries}
 use Rattle.ct_base.specs.declared.lists.Value.{Value}
 use Rattle.ct_base.specs.declared.lists.Value.TheVariants.{Number as NumberValue, Text as TextValue}
 use Rattle.ct_entry.specs.Keys.{Key, same_list}
-use Rattle.ct_entry.specs.Each.{each}
 use Rattle.st_parse.specs.declared.statements.Operand.{Operand}
 use Rattle.st_parse.specs.declared.statements.Operand.TheVariants.{Text, Number}
 use Rattle.st_parse.specs.declared.statements.Whole.TheVariants.{Fits, Beyond}
@@ -28,8 +27,9 @@ use Rattle.tb_table.specs.Spelling.{insert_changes}
 use Rattle.db_state.specs.declared.plans.Plan.{Plan}
 use Rattle.db_state.specs.Plans.{IsPlan}
 use Rattle.db_state.specs.States.{StoreState, StandsForState}
-use Rattle.db_state.specs.Effects.{Effect, Does, refuse, refuse_by, with_found, is_beyond, Refused}
+use Rattle.db_state.specs.Effects.{Effect, Does, refuse, refuse_by, with_found, Refused}
 use Rattle.db_state.specs.Columns.{first_unknown}
+use Rattle.db_rows.specs.Checking.{is_beyond_operand}
 
 -- ---- the list of columns
 
@@ -81,10 +81,6 @@ abbrev pub has_too_long : List Column → List Operand → Bool
 has_too_long [] vs = false
 has_too_long (c ∷ cs) [] = false
 has_too_long (c ∷ cs) (v ∷ vs) = is_too_long c.sort v || has_too_long cs vs
-
-abbrev pub is_beyond_range : Operand → Bool
-is_beyond_range (Number n) = is_beyond n
-is_beyond_range (Text text) = false
 
 -- the key of a row: its first value
 abbrev pub key_in : List Operand → Option ℤ
@@ -152,7 +148,7 @@ check_row_values taken many columns values done =
     refuse (not (are_of_sorts columns values)) WrongValues
     (refuse_by (taken_key taken (key_in values)) KeyExists
     (refuse (has_too_long columns values) ValueTooLong
-    (refuse (list_any is_beyond_range values) OutOfRange
+    (refuse (list_any is_beyond_operand values) OutOfRange
     (refuse many LimitReached
     done))))
 
@@ -179,7 +175,7 @@ pub record IsFreeRow (x : Table) (values : List Operand) (r : ℤ) : Type 0 wher
   pub free : get x.rows r ≡ None
   pub sorts : are_of_sorts x.columns values ≡ true
   pub short : has_too_long x.columns values ≡ false
-  pub within : list_any is_beyond_range values ≡ false
+  pub within : list_any is_beyond_operand values ≡ false
   pub few : nat_le row_limit (length (entries x.rows)) ≡ false
 
 abbrev pub insert_into : StoreState → List ℕ → Option (List (List ℕ)) → List Operand → Effect
@@ -191,8 +187,8 @@ insert_into m t names values =
 -- ---- what its functions give
 
 -- the changes of a row of these values behind the key
-abbrev pub row_changes : List ℕ → ℤ → List Operand → List (Key × Option (List ℕ))
-row_changes t r values = insert_changes t r (numbers_of (map kept_value values)) (texts_of (map kept_value values))
+abbrev pub inserted_row_changes : List ℕ → ℤ → List Operand → List (Key × Option (List ℕ))
+inserted_row_changes t r values = insert_changes t r (numbers_of (map kept_value values)) (texts_of (map kept_value values))
 
 -- a batch that makes of the content one that stands for the state with the new row
 abbrev pub MakesRow : StoreState → Content → List ℕ → ℤ → List Operand → List (List ℕ × Option (List ℕ)) → Type 0

@@ -23,7 +23,7 @@ use Rattle.tb_table.specs.Tables.{Table, Tables, numbers_of, with_row}
 use Rattle.tb_table.specs.Spelling.{insert_changes}
 use Rattle.ix_kinds.specs.Statements.{tables_after, looks_at_any, indexes_after}
 use Rattle.ix_kinds.specs.RowSteps.{is_column}
-use Rattle.ix_indexes.specs.declared.noting.RowStep.TheVariants.{Changes}
+use Rattle.ix_indexes.specs.declared.noting.RowEvent.TheVariants.{Changes}
 use Rattle.ix_indexes.specs.Indexes.{kinds}
 use Rattle.ix_indexes.specs.Noting.{heads_changes}
 use Rattle.db_names.specs.declared.heads.IndexHead.{IndexHead}
@@ -31,13 +31,13 @@ use Rattle.db_names.specs.Promises.{heads_of}
 use Rattle.db_state.specs.laws.Heads.{store_heads}
 use Rattle.db_cond.specs.Faults.{UnknownName, WrongValues, ValueTooLong, OutOfRange}
 use Rattle.db_cond.specs.Lines.{rows_line}
-use Rattle.db_rows.specs.Checking.{cond_columns, fit_columns, has_beyond, sort_of}
+use Rattle.db_rows.specs.Checking.{cond_columns, fit_columns, has_beyond, sort_of, is_beyond_operand}
 use Rattle.db_rows.specs.Meeting.{meeting_keys}
 use Rattle.db_rows.specs.Values.{row_values}
 use Rattle.db_state.specs.Columns.{first_unknown, column_place}
 use Rattle.db_state.specs.States.{StoreState}
 use Rattle.db_state.specs.Effects.{Effect, Does, Refused, refuse, refuse_by, with_found}
-use Rattle.db_change.specs.Inserting.{is_of_sort, is_too_long, is_beyond_range, kept_value, number_value, text_value, IsNumberKept, IsTextKept, IsShortValue}
+use Rattle.db_change.specs.Inserting.{is_of_sort, is_too_long, kept_value, number_value, text_value, IsNumberKept, IsTextKept, IsShortValue}
 
 -- ---- the values that are set
 
@@ -93,7 +93,7 @@ check_update columns assigns conds done =
     refuse_by (first_unknown (assign_columns assigns ++ cond_columns conds) columns) UnknownName
     (refuse (is_wrong_update columns assigns conds) WrongValues
     (refuse (list_any (of_its_sort is_too_long columns) assigns) ValueTooLong
-    (refuse (list_any (λ (a : Assign). is_beyond_range a.value) assigns || has_beyond conds) OutOfRange
+    (refuse (list_any (λ (a : Assign). is_beyond_operand a.value) assigns || has_beyond conds) OutOfRange
     done)))
 
 -- a row of a table with these columns has the values after
@@ -218,7 +218,8 @@ set_title value = record { column = codes "title"; value = value }
 the_title : places_set titled (set_title (Text (codes "fox")) ∷ []) ≡ 1 ∷ []
 the_title = refl
 
-unknown_and_wrong : (done : Effect) → check_update titled (set_price (Text (codes "nine")) ∷ record { column = codes "nope"; value = Number Beyond } ∷ []) [] done ≡ Refused (UnknownName (codes "nope"))
+unknown_and_wrong : (done : Effect)
+    → check_update titled (set_price (Text (codes "nine")) ∷ record { column = codes "nope"; value = Number Beyond } ∷ []) [] done ≡ Refused (UnknownName (codes "nope"))
 unknown_and_wrong done = refl
 
 the_key_and_too_long : (done : Effect) → check_update titled (set_title (Text (codes "four")) ∷ record { column = codes "id"; value = Number (Fits (pos 2)) } ∷ []) [] done ≡ Refused WrongValues

@@ -9,8 +9,8 @@ ghost use Rattle.ct_entry.specs.Keys.{same_list};
 ghost use Rattle.st_parse.specs.declared.statements.Assign.{Assign};
 ghost use Rattle.db_state.specs.Effects.{Effect, Checks};
 ghost use Rattle.db_state.specs.Columns.{first_unknown as unknown_name};
-ghost use Rattle.db_rows.specs.Checking.{cond_columns};
-ghost use Rattle.db_change.specs.Inserting.{is_beyond_range, is_of_sort as sort_takes, is_too_long as too_long_for, IsShortValue};
+ghost use Rattle.db_rows.specs.Checking.{cond_columns, is_beyond_operand};
+ghost use Rattle.db_change.specs.Inserting.{is_of_sort as sort_takes, is_too_long as too_long_for, IsShortValue};
 ghost use Rattle.db_change.specs.Updating.{assign_columns, check_update, has_twice as any_twice, is_wrong_update, of_its_sort, sets_key as key_is_set, IsShortAssign};
 
 use crate::inserting::{is_beyond, is_of_sort, is_too_long};
@@ -126,7 +126,7 @@ fn has_longer(columns: &[Column], assigns: &[Assign]) -> bool
 
 /// Whether a value is a number outside 64 bits.
 fn has_assign_beyond(assigns: &[Assign]) -> bool
-    ensures { result ≡ list_any (λ (a : Assign). is_beyond_range a.value) assigns.now }
+    ensures { result ≡ list_any (λ (a : Assign). is_beyond_operand a.value) assigns.now }
 {
     assigns.iter().any(|assign| is_beyond(&assign.value))
 }

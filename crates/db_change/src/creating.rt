@@ -1,5 +1,5 @@
 //! CREATE TABLE.
-#![tactic(auto, using(ct_keep::specs::Composing::reads_on, ct_keep::specs::Composing::reads_short, ct_keep::specs::Composing::accepts_on))]
+#![tactic(auto, using(ct_keep::specs::laws::Composing::reads_on, ct_keep::specs::laws::Composing::reads_short, ct_keep::specs::laws::Composing::accepts_on))]
 
 ghost use Rattle.std.specs.Prelude.{All, ◌≡◌, ◌≤◌, IfOk, Some, None, true, not, ◌&&◌, length, map};
 ghost use Rattle.std.specs.List.{list_any, list_all};
@@ -13,7 +13,7 @@ ghost use Rattle.tb_table.specs.Shapes.{HasTableValue};
 ghost use Rattle.st_parse.specs.declared.statements.ColumnText.{ColumnText};
 ghost use Rattle.tb_table.specs.Spelling.{table_changes};
 ghost use Rattle.tb_table.specs.declared.columns.Column.{Column};
-ghost use Rattle.db_state.specs.Effects.{Effect, as_count, Checks};
+ghost use Rattle.db_state.specs.Effects.{Effect, whole_count, Checks};
 ghost use Rattle.db_change.specs.Creating.{names_differ as columns_apart, check_table, column_of, all_sized, is_size, create_table as create_table_effect, is_key_first as key_first, is_number_sort as sort_is_number, is_sized as sort_sized, declared_sort, table_created};
 ghost use Rattle.db_state.specs.Plans.{IsStorePlan, Plans, Replies, line_for_all};
 ghost use Rattle.db_state.specs.Shapes.{AcceptsStatements};
@@ -124,7 +124,7 @@ fn table_fault<'a>(
 
 /// The size of a VARCHAR2 column, which is checked.
 fn kept_size(size: Whole) -> u16
-    ensures { is_size (as_count size) ≡ true → result ≡ unwrap_or (as_count size) 0 }
+    ensures { is_size (whole_count size) ≡ true → result ≡ unwrap_or (whole_count size) 0 }
 {
     match size {
         Whole::Fits(size) => u16::try_from(size).unwrap_or(0),

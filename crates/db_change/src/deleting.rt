@@ -1,5 +1,5 @@
 //! DELETE.
-#![tactic(auto, using(ct_keep::specs::Composing::reads_on, ct_keep::specs::Composing::reads_short, ct_keep::specs::Composing::accepts_on))]
+#![tactic(auto, using(ct_keep::specs::laws::Composing::reads_on, ct_keep::specs::laws::Composing::reads_short, ct_keep::specs::laws::Composing::accepts_on))]
 
 ghost use Rattle.std.specs.Prelude.{◌≡◌, ◌≤◌, IfOk, Some, None, Err, length, map};
 ghost use Rattle.ct_base.specs.Limits.{column_limit};
@@ -18,7 +18,7 @@ use db_cond::{Fault, rows_line};
 use db_names::{IndexHead, indexes_of};
 use db_rows::{conds_fault, rows_meeting};
 use db_state::{Plan, carry_out, table_columns};
-use ix_indexes::{RowStep, row_notes};
+use ix_indexes::{RowEvent, row_notes};
 use st_parse::Cond;
 use std::alloc::Global;
 use tb_table::{Column, delete};
@@ -40,7 +40,7 @@ fn row_changes<K: Keeper>(
 {
     let mut batch = Batch::new(alloc);
     delete(alloc, &mut batch, table, columns, row)?;
-    let notes = row_notes(alloc, keeper, indexes, row, RowStep::Goes)?;
+    let notes = row_notes(alloc, keeper, indexes, row, RowEvent::Goes)?;
     batch.append(notes)?;
     Ok(batch)
 }

@@ -1,5 +1,5 @@
 //! INSERT.
-#![tactic(auto, using(ct_keep::specs::Composing::reads_on, ct_keep::specs::Composing::reads_short, ct_keep::specs::Composing::accepts_on))]
+#![tactic(auto, using(ct_keep::specs::laws::Composing::reads_on, ct_keep::specs::laws::Composing::reads_short, ct_keep::specs::laws::Composing::accepts_on))]
 
 ghost use Rattle.std.specs.Prelude.{◌≡◌, ◌≤◌, ◌<◌, ◌+◌, ◌++◌, IfOk, OnOk, Some, None, Err, true, false, nat_le, length, map};
 ghost use Rattle.std.specs.List.{list_any, list_all, filter_map, All};
@@ -16,7 +16,8 @@ ghost use Rattle.tb_table.specs.Tables.{Table, numbers_of, texts_of};
 ghost use Rattle.db_state.specs.States.{OverNamedTable};
 ghost use Rattle.db_state.specs.Effects.{Effect, Checks};
 ghost use Rattle.db_state.specs.Columns.{first_unknown as unknown_name};
-ghost use Rattle.db_change.specs.Inserting.{MakesRow, PlansRow, row_changes, are_of_sorts as all_of_sorts, arranged as arranged_values, behind_key as others_of, check_list, check_row_values, covers as covers_columns, has_row as has_row_of, has_too_long as any_too_long, insert_into as insert_into_effect, is_beyond_range, is_of_sort as sort_takes, is_too_long as too_long_for, key_in as key_of, kept_value, number_value, text_value, IsShortValue, listed_names, row_created, value_under as named_value, IsFreeRow};
+ghost use Rattle.db_change.specs.Inserting.{MakesRow, PlansRow, inserted_row_changes, are_of_sorts as all_of_sorts, arranged as arranged_values, behind_key as others_of, check_list, check_row_values, covers as covers_columns, has_row as has_row_of, has_too_long as any_too_long, insert_into as insert_into_effect, is_of_sort as sort_takes, is_too_long as too_long_for, key_in as key_of, kept_value, number_value, text_value, IsShortValue, listed_names, row_created, value_under as named_value, IsFreeRow};
+ghost use Rattle.db_rows.specs.Checking.{is_beyond_operand};
 ghost use Rattle.db_state.specs.Plans.{IsStorePlan, Plans, Replies, line_for_all};
 ghost use Rattle.db_state.specs.Shapes.{AcceptsStatements, AreStoreChanges};
 
@@ -26,7 +27,7 @@ use ct_keep::{Batch, KeepFault, Keeper};
 use db_cond::Fault;
 use db_names::indexes_of;
 use db_state::{Plan, carry_out, has_column, table_columns};
-use ix_indexes::{RowStep, row_notes};
+use ix_indexes::{RowEvent, row_notes};
 use st_parse::{ColumnNames, Operand, Whole};
 use std::alloc::Global;
 use tb_table::{Column, Sort, has_row, insert, row_count};
@@ -225,7 +226,7 @@ fn has_too_long(columns: &[Column], values: &[Operand]) -> bool
 }
 
 pub(crate) fn is_beyond(value: &Operand) -> bool
-    ensures { result ≡ is_beyond_range value.now }
+    ensures { result ≡ is_beyond_operand value.now }
 {
     match value {
         Operand::Number(Whole::Beyond) => true,
@@ -234,7 +235,7 @@ pub(crate) fn is_beyond(value: &Operand) -> bool
 }
 
 fn has_beyond(values: &[Operand]) -> bool
-    ensures { result ≡ list_any is_beyond_range values.now }
+    ensures { result ≡ list_any is_beyond_operand values.now }
 {
     values.iter().any(|value| is_beyond(value))
 }
@@ -354,7 +355,7 @@ fn row_batch(
 ) -> Result<Batch, Memory>
     requires few { length values.items ≤ column_limit }
     requires short { All IsShortValue values.items }
-    ensures changes { IfOk result (λ batch. length values.items ≤ 255 → batch ≡ spell (row_changes table.now row.0 values.items)) }
+    ensures changes { IfOk result (λ batch. length values.items ≤ 255 → batch ≡ spell (inserted_row_changes table.now row.0 values.items)) }
     ensures shaped { IfOk result (λ batch. AreShaped HasTableValue batch) }
 {
     let numbers = numbers_in(alloc, values.as_slice())?;
@@ -376,7 +377,7 @@ fn behind_key(mut values: Vec<Operand>) -> Vec<Operand>
 }
 
 /// The batch of a row that has passed the checks: its changes, and what each index on the table is told of it.
-fn noted_batch<K: Keeper>(
+fn insert_batch<K: Keeper>(
     alloc: Global,
     keeper: &mut K,
     table: &Name,
@@ -394,7 +395,7 @@ fn noted_batch<K: Keeper>(
     keep_values(values.as_slice());
     let mut batch = row_batch(alloc, table, row, values)?;
     let indexes = indexes_of(alloc, keeper, table)?;
-    let notes = row_notes(alloc, keeper, &indexes, row, RowStep::Comes)?;
+    let notes = row_notes(alloc, keeper, &indexes, row, RowEvent::Comes)?;
     batch.append(notes)?;
     Ok(batch)
 }
@@ -451,7 +452,7 @@ fn values_plan<'a, K: Keeper>(
     let Some(key) = key else {
         return Ok(Plan::Refused(Fault::OutOfRange));
     };
-    let batch = noted_batch(alloc, keeper, table, key, values)?;
+    let batch = insert_batch(alloc, keeper, table, key, values)?;
     Ok(Plan::Done(batch))
 }
 

@@ -1,5 +1,5 @@
 //! UPDATE.
-#![tactic(auto, using(ct_keep::specs::Composing::reads_on, ct_keep::specs::Composing::reads_short, ct_keep::specs::Composing::accepts_on))]
+#![tactic(auto, using(ct_keep::specs::laws::Composing::reads_on, ct_keep::specs::laws::Composing::reads_short, ct_keep::specs::laws::Composing::accepts_on))]
 
 ghost use Rattle.std.specs.Prelude.{◌≡◌, ◌≤◌, ◌<◌, IfOk, Some, [], length, map};
 ghost use Rattle.std.specs.List.{All, filter_map, cons_option};
@@ -26,7 +26,7 @@ use db_cond::{Fault, rows_line};
 use db_names::{IndexHead, indexes_of};
 use db_rows::{row_numbers, rows_meeting};
 use db_state::{Plan, carry_out, column_place, table_columns};
-use ix_indexes::{RowStep, row_notes};
+use ix_indexes::{RowEvent, row_notes};
 use st_parse::{Assign, Cond, Operand};
 use std::alloc::Global;
 use tb_table::{Column, Sort};
@@ -239,7 +239,7 @@ fn row_batch<K: Keeper>(
 {
     let numbers = row_numbers(alloc, keeper, table, row)?;
     let mut batch = value_batch(alloc, table, columns, assigns, row, &numbers)?;
-    let notes = row_notes(alloc, keeper, indexes, row, RowStep::Changes)?;
+    let notes = row_notes(alloc, keeper, indexes, row, RowEvent::Changes)?;
     batch.append(notes)?;
     Ok(batch)
 }

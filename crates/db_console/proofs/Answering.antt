@@ -1,5 +1,5 @@
 -- One piece: at most one commit, and then the reply.
-use Rattle.std.proofs.Common.{◌≡◌, ◌++◌, ◌∷◌, [], ℕ, true, false, List, Option, Some, None, Err, inl, inr, ⊎_elim, refl, sym, ap, ◌∙◌, subst, append-nil}
+use Rattle.std.proofs.Common.{◌≡◌, ◌++◌, ◌∷◌, [], ℕ, true, false, List, Option, Some, None, Err, inl, inr, ⊎_elim, refl, sym, ap, ◌∙◌, subst, arith, append-nil}
 use Rattle.std.specs.Prelude.{◌⊎◌}
 use Rattle.ct_base.specs.Moments.{Passes}
 use Rattle.ct_base.specs.laws.Moments.{passes_more, passes_then}
@@ -8,8 +8,8 @@ use Rattle.ct_base.specs.laws.Told.{with_suffix-nil, says_prefix}
 use Rattle.ct_site.specs.Disks.{Beside}
 use Rattle.ct_keep.specs.Content.{Content}
 use Rattle.ct_keep.specs.declared.keepers.KeepFault.TheVariants as keep_fault
-use Rattle.ct_keep.specs.KeeperViews.{KeeperView, Counts, KeeperSays, SameButContent, Goes, AnswersCommit, IsLeft, IsDurable, AtMostOneCommit}
-use Rattle.ct_keep.specs.Composing.{same_say_room, reads_none, reads_short, reads_only, reads_failed, passes_as}
+use Rattle.ct_keep.specs.KeeperViews.{KeeperView, Counts, KeeperSays, SameButContent, Goes, AnswersCommit, IsLeft, IsDurable, AtMostOneCommit, NoCommit}
+use Rattle.ct_keep.specs.laws.Composing.{same_say_room, reads_none, reads_short, reads_only, reads_failed, passes_as}
 use Rattle.db_state.specs.States.{StoreState, StandsForState}
 use Rattle.db_state.specs.Effects.{Effect, state_by}
 use Rattle.db_state.specs.laws.Giving.{keeps_itself}
@@ -172,39 +172,48 @@ module _ (limit : ℕ) (piece : Piece) (was : World) (old mid new : KeeperView) 
 -- ---- commits
 
 -- a statement may have called one
-pub commits_statement : (text : List ℕ) (old new : Counts) → AtMostOneCommit old new → CommitsFor (statement text) old new
+pub commits_statement : (text : List ℕ) (old new : KeeperView) → AtMostOneCommit old new → CommitsFor (statement text) old new
 commits_statement text old new once = record { once = once; none = λ e. cc }
 
 -- nothing was called
-pub commits_none : (piece : Piece) (counts : Counts) → CommitsFor piece counts counts
-commits_none piece counts = record { once = inl (refl, refl); none = λ e. (refl, refl) }
+pub commits_none : (piece : Piece) (k : KeeperView) → CommitsFor piece k k
+commits_none piece k = record { once = inl (refl, refl); none = λ e. (refl, refl) }
 
 -- and saying calls none
-commits_said : {bytes : List ℕ} (piece : Piece) (old : Counts) (mid new : KeeperView) → CommitsFor piece old mid.counts → KeeperSays bytes mid new → CommitsFor piece old new.counts
-commits_said piece old mid new commits says = subst (CommitsFor piece old) (sym says.apart.counts) commits
+commits_said : {bytes : List ℕ} (piece : Piece) (old mid new : KeeperView) → CommitsFor piece old mid → KeeperSays bytes mid new → CommitsFor piece old new
+commits_said piece old mid new commits says = record { once = ⊎_elim (λ none. inl (none_said none)) (λ one. inr (calls ∙ one.0, let few = one.1 in omega (arith, syncs, few))) commits.once; none = λ rest. none_said (commits.none rest) }
+  where
+    calls : new.counts.commits ≡ mid.counts.commits
+    calls = ap (λ (c : Counts). c.commits) says.apart.counts
+
+    syncs : new.disk_syncs ≡ mid.disk_syncs
+    syncs = says.apart.disk_syncs
+
+    none_said : NoCommit old mid → NoCommit old new
+    none_said none = (calls ∙ none.0, syncs ∙ none.1)
 
 -- ---- the answer to a piece, from the response to it and what was said of that
-pub answers_said : (limit : ℕ) (piece : Piece) (bytes : List ℕ) (old mid new : KeeperView) → SameButContent old mid None → ((was : World) → Shows old was → Replied limit piece was old mid bytes) → CommitsFor piece old.counts mid.counts → Spoke false bytes mid new → AnswersPiece limit piece old new
+pub answers_said : (limit : ℕ) (piece : Piece) (bytes : List ℕ) (old mid new : KeeperView) → SameButContent old mid None → ((was : World) → Shows old was → Replied limit piece was old mid bytes) → CommitsFor piece old mid → Spoke false bytes mid new → AnswersPiece limit piece old new
 answers_said limit piece bytes old mid new kept r commits s = record {
   unheard = frame_then old mid new (frame_kept old mid None kept) (frame_said false mid new bytes s);
   faults = faults_then false false false old mid new (faults_kept old mid kept) (faults_said false mid new bytes s);
   ready = s.says.apart.ready kept.ready;
-  commits = commits_said piece old.counts mid new commits s.says;
+  commits = commits_said piece old mid new commits s.says;
   answers = λ was w. answered_by limit piece was old mid new bytes kept.ready w kept.beside (r was w) s.says;
 }
 
 pub breaks_off_saying : (limit : ℕ) (piece : Piece) (bytes : List ℕ) (fault : AnswerFault) (old mid new : KeeperView) → SameButContent old mid None → ((was : World) → Shows old was → Replied limit piece was old mid bytes)
-    → CommitsFor piece old.counts mid.counts → (new.ready → IsDurable new) → (fault ≡ Say) × SpokeInPart bytes mid new → BreaksOff limit piece fault old new
+    → CommitsFor piece old mid → (new.ready → IsDurable new) → (fault ≡ Say) × SpokeInPart bytes mid new → BreaksOff limit piece fault old new
 breaks_off_saying limit piece bytes fault old mid new kept r commits settled s = rw s.0 (record {
   unheard = frame_then old mid new (frame_kept old mid None kept) (frame_said true mid new s.1.part s.1.spoke);
   cause = record { faults = faults_then false true false old mid new (faults_kept old mid kept) (faults_said true mid new s.1.part s.1.spoke) };
   ready = s.1.spoke.says.apart.ready kept.ready;
-  commits = commits_said piece old.counts mid new commits s.1.spoke.says;
+  commits = commits_said piece old mid new commits s.1.spoke.says;
   breaks_off = λ was w. broke_off_saying limit piece was old mid new bytes kept.ready w kept.beside (r was w) (settled (s.1.spoke.says.apart.ready kept.ready)) s.1;
 })
 
 -- or where the disk failed
-pub breaks_off_halted : (limit : ℕ) (piece : Piece) (old new : KeeperView) → SameButContent old new (Some keep_fault.Disk) → ((was : World) → Shows old was → Halted limit piece was old new) → CommitsFor piece old.counts new.counts → BreaksOff limit piece Disk old new
+pub breaks_off_halted : (limit : ℕ) (piece : Piece) (old new : KeeperView) → SameButContent old new (Some keep_fault.Disk) → ((was : World) → Shows old was → Halted limit piece was old new) → CommitsFor piece old new → BreaksOff limit piece Disk old new
 breaks_off_halted limit piece old new kept h commits = record {
   unheard = frame_kept old new (Some keep_fault.Disk) kept;
   cause = fails_by_disk old new kept;

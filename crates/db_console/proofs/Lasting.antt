@@ -8,12 +8,12 @@ use Rattle.ct_site.specs.FaultCounts.{CountsFaults, ends_after}
 use Rattle.ct_site.specs.Disks.{Beside}
 use Rattle.ct_keep.specs.declared.keepers.KeepFault.{KeepFault}
 use Rattle.ct_keep.specs.declared.keepers.KeepFault.TheVariants.{Disk as DiskFailed}
-use Rattle.ct_keep.specs.Composing.{accepts_still, takes_same, takes_then}
+use Rattle.ct_keep.specs.laws.Composing.{accepts_still, takes_same, takes_then}
 use Rattle.ct_keep.specs.KeeperViews.{KeeperView, KeeperHears, SameButContent, counted}
 use Rattle.db_state.specs.Shapes.{AcceptsStatements}
 use Rattle.db_console.specs.declared.saying.AnswerFault.{AnswerFault}
 use Rattle.db_console.specs.declared.saying.AnswerFault.TheVariants.{Disk}
-use Rattle.db_console.specs.Views.{FaultsAre, NoFault, Heard, Spoke, HearsNothing, FailsBy, is_say, is_disk, is_end}
+use Rattle.db_console.specs.Views.{FaultsAre, NoFault, Heard, Spoke, HearsNothing, FailsBy, is_say, is_disk, tells_end}
 
 -- ---- counts of faults
 
@@ -33,7 +33,7 @@ faults_kept a b k = record { hear = ap (λ (s : Beside). s.hear_faults) k.beside
 
 -- a call of `hear` into the first bytes of a buffer, by its result
 pub heard_by : {E : Type 0} (result : Result ℕ E) (bytes rest : List ℕ) (a b : KeeperView) → IfOk result (λ count. count ≤ length bytes) → KeeperHears (took result bytes) a b
-    → b.beside.ends ≡ ends_after result a.beside.ends → CountsFaults a.beside.hear_faults b.beside.hear_faults result → Heard (is_err result) (is_end result) (took result (bytes ++ rest)) a b
+    → b.beside.ends ≡ ends_after result a.beside.ends → CountsFaults a.beside.hear_faults b.beside.hear_faults result → Heard (is_err result) (tells_end result) (took result (bytes ++ rest)) a b
 heard_by (Ok count) bytes rest a b bound hears ends counts = rw (take-append-le count bytes rest bound) (record { hears = hears; counts = counts.passed; end = ends })
 heard_by (Err fault) bytes rest a b bound hears ends counts = record { hears = hears; counts = counts.failed; end = ends }
 

@@ -4,7 +4,7 @@ use Rattle.std.proofs.lemmas.List.{take_all, take-append-drop}
 use Rattle.std.proofs.Math.Seq.{take-add, take-length}
 use Rattle.ct_base.specs.Told.{with_suffix}
 use Rattle.ct_keep.specs.KeeperViews.{KeeperView, KeeperSays, PassesRoom, counted}
-use Rattle.ct_keep.specs.Composing.{same_say_room, says_none, says_then, passes_behind, passes_as}
+use Rattle.ct_keep.specs.laws.Composing.{same_say_room, says_none, says_then, passes_behind, passes_as}
 use Rattle.db_console.specs.Views.{Spoke, SpokeInPart}
 
 pub spoke_none : (k : KeeperView) → Spoke false [] k k

@@ -11,7 +11,7 @@ use Rattle.ct_site.specs.FaultCounts.{rose_raised}
 use Rattle.ct_site.specs.Disks.{DiskView, Beside, IsSettled, Leaves}
 use Rattle.ct_keep.specs.Content.{Content}
 use Rattle.ct_keep.specs.Changes.{HoldsWell}
-use Rattle.ct_keep.specs.Composing.{same_lender, same_limit}
+use Rattle.ct_keep.specs.laws.Composing.{same_lender, same_limit}
 use Rattle.ct_keep.specs.KeeperViews.{KeeperView, Counts, counted}
 use Rattle.ct_keep.specs.KeeperStates.{no_counts}
 use Rattle.pg_journal.specs.declared.faults.LoadFault.{LoadFault}
@@ -25,7 +25,8 @@ use Rattle.pg_keeper.specs.Loading.{HasNoStore}
 use Rattle.pg_keeper.specs.Paged.{told_content}
 use Rattle.db_engine.specs.Runs.{Turn, AllAllowed}
 use Rattle.db_state.specs.Shapes.{IsStoreEntry}
-use Rattle.db_console.specs.Worlds.{World, IsMoment, CommitsWithin}
+use Rattle.db_console.specs.Worlds.{World, IsMoment}
+use Rattle.db_console.proofs.WorldLaws.{commits_before}
 use Rattle.db_console.specs.Asking.{AskedThen, Calls}
 use Rattle.db_console.specs.Views.{Shows, ToldEndOnce}
 use Rattle.db_console.specs.Table.{Because, Ends, Outcome, TellsPast, Completes, status_of}
@@ -41,6 +42,7 @@ pub record Opens (old new : KeeperView) : Type 0 where
   pub fixed : new.fixed ≡ old.fixed
   pub counts : new.counts ≡ old.counts
   pub faults : new.disk_faults ≡ old.disk_faults
+  pub syncs : new.disk_syncs ≡ old.disk_syncs
   pub content : new.content ≡ old.content
   pub time : (m : Content) → old.content ≡ Some m → Passes old.time new.time (λ stopped said. (stopped ≡ Some m) × IsSaid old.beside.said said)
 
@@ -88,7 +90,7 @@ outcome_before limit most old mid new ending opens o = record {
         ends = subst (λ (n : ℕ). Ends limit n most o.taken was c.turns new ending) (same_limit opens.fixed) c.ends;
         moments = passes_then old.time mid.time new.time _ (passes_more old.time mid.time _ _ (opens.time was.content w.holds) (λ stopped said p. moment_none limit was c.turns old stopped said w p)) c.moments;
         now = c.now;
-        commits = subst (λ (k : Counts). CommitsWithin c.turns k new.counts) opens.counts c.commits;
+        commits = commits_before c.turns old mid new opens.counts opens.syncs c.commits;
         asked = subst (λ (b : Beside). Calls b.hearings new.beside.hearings (AskedThen b.left o.taken limit was c.turns)) opens.beside c.asked;
       };
 }
@@ -101,6 +103,7 @@ opens_loaded old new opened image heap store name settled is stands leaves besid
   fixed = refl;
   counts = refl;
   faults = faults;
+  syncs = refl;
   content = ap (λ (o : Option (List ℕ)). told_content o heap.held) stands.settled.told ∙ sym (ap (λ (o : Option (List ℕ)). told_content o heap.held) settled.told);
   time = λ m holds.
       let same : Some heap.held ≡ Some m = sym (ap (λ (o : Option (List ℕ)). told_content o heap.held) settled.told) ∙ holds in

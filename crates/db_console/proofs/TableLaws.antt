@@ -5,8 +5,8 @@ use Rattle.ct_base.specs.laws.Moments.{passes_none, passes_nothing, passes_then}
 use Rattle.ct_base.specs.Told.{with_prefix, with_suffix, IsNothing}
 use Rattle.ct_base.specs.laws.Told.{with_prefix-nil, with_prefix_twice, with_suffix-nil, with_suffix_twice}
 use Rattle.ct_keep.specs.Content.{Content}
-use Rattle.ct_keep.specs.KeeperViews.{KeeperView, Counts, PassesRoom, IsDurable, TakesAsBefore, counted}
-use Rattle.ct_keep.specs.Composing.{takes_same, takes_then, same_limit, passes_behind, passes_as}
+use Rattle.ct_keep.specs.KeeperViews.{KeeperView, PassesRoom, IsDurable, TakesAsBefore, counted}
+use Rattle.ct_keep.specs.laws.Composing.{takes_same, takes_then, same_limit, passes_behind, passes_as}
 use Rattle.ct_site.specs.FaultCounts.{rose_raised}
 use Rattle.st_cut.specs.Seen.{Seen, StandsOpen}
 use Rattle.db_state.specs.States.{StoreState, StandsForState}
@@ -15,12 +15,12 @@ use Rattle.db_console.specs.declared.saying.AnswerFault.{AnswerFault}
 use Rattle.db_console.specs.declared.saying.AnswerFault.TheVariants.{Say, Disk}
 use Rattle.db_console.specs.declared.endings.Ending.{Ending}
 use Rattle.db_console.specs.declared.endings.Ending.TheVariants.{Done, HearFault, SayFault, NoMemory, DiskFault, PastLimit}
-use Rattle.db_console.specs.Worlds.{World, LeavesState, IsMoment, Leads, Served, ServedTo, CommitsWithin, world_after}
+use Rattle.db_console.specs.Worlds.{World, LeavesState, IsMoment, Leads, Served, ServedTo, world_after}
 use Rattle.db_console.specs.Asking.{AskedThen, Calls}
 use Rattle.db_console.specs.Views.{Shows, EndsHere, DiskRose, ToldEnd, ToldEndOnce, FaultsAre, NoFault, Heard, FailsBy, Serves, Broke, Breaks, ServesEnd, UnlessByDisk}
 use Rattle.db_console.specs.Table.{status_of, ending_of, EndsRun, AreFirst, SaidInPart, FailedInLast, SaidAll, Ends, Course, Because, FaultsBy, Outcome, TellsPast, Completes, IsReadyAfter}
 use Rattle.db_console.proofs.Asked.{calls_none, calls_more, calls_same, calls_asked, asked_now, asked_taken, asked_as, asked_turns}
-use Rattle.db_console.proofs.WorldLaws.{pieces-append, served_as, served_on, served_then, served_start, allowed_then, obey_then, moment_later}
+use Rattle.db_console.proofs.WorldLaws.{commits_behind, pieces-append, served_as, served_on, served_then, served_start, allowed_then, obey_then, moment_later}
 use Rattle.db_console.proofs.Lasting.{faults_none, faults_then, faults_heard}
 use Rattle.db_console.proofs.Answering.{either}
 use Rattle.db_console.proofs.ViewLaws.{broke_then}
@@ -39,7 +39,7 @@ served_heard limit store failed ended bytes heard was is old mid new cutter h s 
     cut = s.served.cut;
     leads = s.served.leads;
     moments = passes_then old.time mid.time new.time _ s.served.moments (passes_nothing mid.time new.time _ h.hears.time);
-    commits = subst (λ (n : Counts). CommitsWithin s.served.turns old.counts n) (sym h.hears.apart.counts) s.served.commits;
+    commits = commits_behind s.served.turns old mid new h.hears.apart.counts h.hears.apart.disk_syncs s.served.commits;
   };
   stands = s.stands;
 }

@@ -1,11 +1,13 @@
 -- What serving makes of the views of a keeper.
 use Rattle.std.specs.Result.{IfErr}
+use Rattle.std.specs.Prelude.{OnOk}
 use Rattle.std.proofs.Common.{◌≡◌, ◌≤◌, ◌<◌, ◌+◌, ◌++◌, ◌∷◌, [], ℕ, List, Bool, true, false, Option, Some, None, is_some, Result, Ok, Err, Bor, length, take, drop, get_or, map, refl, sym, subst, arith, append_assoc, append-nil, add-one, drop-cons}
 use Rattle.std.proofs.lemmas.List.{take_all, take_more, take-append-drop}
+use Rattle.std.proofs.lemmas.Result.{on_ok_weaker}
 use Rattle.st_cut.specs.Cut.{Cuts, first_statement}
 use Rattle.st_cut.specs.Seen.{Seen, StandsOpen, ShowsText}
 use Rattle.st_cut.proofs.Cutting.{ended_text, no_text, some_cut}
-use Rattle.ct_keep.specs.Composing.{same_limit}
+use Rattle.ct_keep.specs.laws.Composing.{same_limit}
 use Rattle.ct_keep.specs.KeeperViews.{KeeperView}
 use Rattle.db_engine.specs.Runs.{Piece, statement, rest_piece, turn_by, pieces}
 use Rattle.db_console.specs.declared.saying.AnswerFault.{AnswerFault}
@@ -22,7 +24,7 @@ if_err_weaker (Err e) P Q f h = f e h
 
 -- in the first piece
 broke_first : (limit : ℕ) (whole : Bool) (fault : AnswerFault) (held bytes : List ℕ) (last : Piece) (later : List Piece) (rest : List ℕ) (was : World) (old new : KeeperView)
-    → HasPieces whole (held ++ bytes) (last ∷ later) rest → BrokeOff limit last fault was old new → CommitsFor last old.counts new.counts → Broke limit old.fixed.limit whole fault held bytes was old new
+    → HasPieces whole (held ++ bytes) (last ∷ later) rest → BrokeOff limit last fault was old new → CommitsFor last old new → Broke limit old.fixed.limit whole fault held bytes was old new
 broke_first limit whole fault held bytes last later rest was old new p a c = record {
   turns = [];
   mid = was;
@@ -33,7 +35,7 @@ broke_first limit whole fault held bytes last later rest was old new p a c = rec
   rest = rest;
   cut = p;
   moments = a.moments;
-  commits = commits_turn (turn_by last a.answer) old.counts new.counts c;
+  commits = commits_turn (turn_by last a.answer) old new c;
   by = a.by;
 }
 
@@ -51,7 +53,7 @@ broke_then limit store whole fault held a b was is old mid new s k = record {
   cut = rw (sym (append_assoc held a b), pieces-append s.turns k.turns, append_assoc (pieces s.turns) (pieces k.turns) (k.last.piece ∷ k.later))
       (pieces_then whole (held ++ a) b (pieces s.turns) (pieces k.turns ++ k.last.piece ∷ k.later) s.rest k.rest s.cut k.cut);
   moments = rw (append_assoc s.turns k.turns (k.last ∷ [])) (moments_then limit store was is s.turns (k.turns ++ k.last ∷ []) old mid new s.leads s.moments k.moments);
-  commits = rw (append_assoc s.turns k.turns (k.last ∷ [])) (commits_then s.turns (k.turns ++ k.last ∷ []) old.counts mid.counts new.counts s.commits k.commits);
+  commits = rw (append_assoc s.turns k.turns (k.last ∷ [])) (commits_then s.turns (k.turns ++ k.last ∷ []) old mid new s.commits k.commits);
   by = k.by;
 }
 
@@ -122,12 +124,58 @@ breaks_before fault a b old new before t = record {
   breaks = λ limit held h was w. broke_before limit old.fixed.limit fault held a b was old new (t.breaks limit held h was w);
 }
 
--- ---- a statement that ends, from the calls that answer it
+-- ---- one piece, from the call that answers it
 
 -- any text is shown of something
 shown : (text : Option (Bor (List ℕ))) → (limit : ℕ) × (s : List ℕ) × ShowsText limit text s
 shown None = (0, 0 ∷ [], omega arith)
 shown (Some t) = (length t.now, t.now, (refl, omega arith))
+
+module _ (piece : List ℕ → Piece) (old new : KeeperView) (before : Seen) (text : Option (Bor (List ℕ))) where
+  -- of what stands open a text is shown, of which this is known
+  abbrev IsShown : (ℕ → List ℕ → List ℕ → Type 0) → Type 0
+  IsShown known = (limit : ℕ) (held : List ℕ) → StandsOpen limit before held → (s : List ℕ) × ShowsText limit text s × known limit held s
+
+  -- from its answer this follows of what stood open
+  abbrev Gives : (ℕ → List ℕ → World → World → Type 0) → ℕ → List ℕ → List ℕ → Type 0
+  Gives follows limit held s = (was now : World) → Shows new now → Answered limit old.fixed.limit (piece s) was now old new → CommitsFor (piece s) old new → follows limit held was now
+
+  world_by : (follows : ℕ → List ℕ → World → World → Type 0) → AnswersText piece text old new → IsShown (Gives follows)
+      → (limit : ℕ) (held : List ℕ) → StandsOpen limit before held → (was : World) → Shows old was → (now : World) × Shows new now × follows limit held was now
+  world_by follows answers is limit held h was w =
+      let t : (s : List ℕ) × ShowsText limit text s × Gives follows limit held s = is limit held h in
+      let one : AnswersPiece limit (piece t.0) old new = answers limit t.0 t.1 in
+      let a : (now : World) × Shows new now × Answered limit old.fixed.limit (piece t.0) was now old new = one.answers was w in
+      (a.0, a.1, t.2 was a.0 a.1 a.2 one.commits)
+
+  serves_by : (bytes : List ℕ) (after : Seen) → AnswersText piece text old new → IsShown (Gives (λ limit held was now. ServedTo limit old.fixed.limit held bytes was now old new after)) → Serves bytes old new before after
+  serves_by bytes after answers is =
+      let x : (limit : ℕ) × (s : List ℕ) × ShowsText limit text s = shown text in
+      let any : AnswersPiece x.0 (piece x.1) old new = answers x.0 x.1 x.2 in
+      record { unheard = any.unheard; faults = any.faults; ready = any.ready; serves = world_by (λ limit held was now. ServedTo limit old.fixed.limit held bytes was now old new after) answers is }
+
+  ends_by : AnswersText piece text old new → IsShown (Gives (λ limit held was now. Served limit old.fixed.limit true held [] was now old new)) → ServesEnd old new before
+  ends_by answers is =
+      let x : (limit : ℕ) × (s : List ℕ) × ShowsText limit text s = shown text in
+      let any : AnswersPiece x.0 (piece x.1) old new = answers x.0 x.1 x.2 in
+      record { unheard = any.unheard; faults = any.faults; ready = any.ready; serves = world_by (λ limit held was now. Served limit old.fixed.limit true held [] was now old new) answers is }
+
+  breaks_by : (whole : Bool) (fault : AnswerFault) (bytes : List ℕ) → BreaksOffText piece fault text old new
+      → IsShown (λ limit held s. (later : List Piece) × (rest : List ℕ) × HasPieces whole (held ++ bytes) (piece s ∷ later) rest) → Breaks whole fault bytes old new before
+  breaks_by whole fault bytes answers is =
+      let x : (limit : ℕ) × (s : List ℕ) × ShowsText limit text s = shown text in
+      let any : BreaksOff x.0 (piece x.1) fault old new = answers x.0 x.1 x.2 in
+      record {
+        unheard = any.unheard;
+        cause = any.cause;
+        ready = any.ready;
+        breaks = λ limit held h was w.
+            let t : (s : List ℕ) × ShowsText limit text s × ((later : List Piece) × (rest : List ℕ) × HasPieces whole (held ++ bytes) (piece s ∷ later) rest) = is limit held h in
+            let one : BreaksOff limit (piece t.0) fault old new = answers limit t.0 t.1 in
+            broke_first limit whole fault held bytes (piece t.0) t.2.0 t.2.1 was old new t.2.2 (one.breaks_off was w) one.commits;
+      }
+
+-- ---- a statement that ends, and a rest
 
 -- what a call of the cutter shows where a statement ends, and where none does
 abbrev pub ShowsEnded : Option (Bor (List ℕ)) → Seen → Type 0
@@ -136,78 +184,45 @@ ShowsEnded text before = (limit : ℕ) (held s : List ℕ) → StandsOpen limit 
 abbrev pub ShowsRest : Option (Bor (List ℕ)) → Seen → Type 0
 ShowsRest text before = (limit : ℕ) (held : List ℕ) → StandsOpen limit before held → ShowsText limit text held
 
-pub serves_statement : (old new : KeeperView) (before after : Seen) (text : Option (Bor (List ℕ))) → is_some before.stop ≡ true → ShowsEnded text before → AnswersText statement text old new
-    → StandsOpen before.limit after [] → Serves (10 ∷ []) old new before after
-serves_statement old new before after text e show answers n = record {
-  unheard = let x = shown text in (answers x.0 x.1 x.2).unheard;
-  faults = let x = shown text in (answers x.0 x.1 x.2).faults;
-  ready = let x = shown text in (answers x.0 x.1 x.2).ready;
-  serves = λ limit held h was w.
-      let t : (s : List ℕ) × (first_statement true held ≡ Some (s, [])) = ended_text limit before held h e in
-      let one : AnswersPiece limit (statement t.0) old new = answers limit t.0 (show limit held t.0 h t.1) in
-      let a : (now : World) × Shows new now × Answered limit old.fixed.limit (statement t.0) was now old new = one.answers was w in
-      (a.0, a.1, served_statement limit old.fixed.limit held t.0 was a.0 old new after h.opened t.1 a.2 one.commits (subst (λ (x : ℕ). StandsOpen x after []) h.limited n));
-}
+module _ (old new : KeeperView) (before : Seen) (text : Option (Bor (List ℕ))) (ends : is_some before.stop ≡ true) (show : ShowsEnded text before) where
+  ended : (limit : ℕ) (held : List ℕ) → StandsOpen limit before held → (s : List ℕ) × ShowsText limit text s × (first_statement true held ≡ Some (s, []))
+  ended limit held h = let t : (s : List ℕ) × (first_statement true held ≡ Some (s, [])) = ended_text limit before held h ends in (t.0, show limit held t.0 h t.1, t.1)
 
-pub breaks_statement : (fault : AnswerFault) (old new : KeeperView) (before : Seen) (text : Option (Bor (List ℕ))) → is_some before.stop ≡ true → ShowsEnded text before → BreaksOffText statement fault text old new
-    → Breaks false fault (10 ∷ []) old new before
-breaks_statement fault old new before text e show answers = record {
-  unheard = let x = shown text in (answers x.0 x.1 x.2).unheard;
-  cause = let x = shown text in (answers x.0 x.1 x.2).cause;
-  ready = let x = shown text in (answers x.0 x.1 x.2).ready;
-  breaks = λ limit held h was w.
-      let t : (s : List ℕ) × (first_statement true held ≡ Some (s, [])) = ended_text limit before held h e in
-      let one : BreaksOff limit (statement t.0) fault old new = answers limit t.0 (show limit held t.0 h t.1) in
-      broke_first limit false fault held (10 ∷ []) (statement t.0) [] [] was old new (newline_piece held t.0 h.opened t.1) (one.breaks_off was w) one.commits;
-}
+  pub serves_statement : (after : Seen) → AnswersText statement text old new → StandsOpen before.limit after [] → Serves (10 ∷ []) old new before after
+  serves_statement after answers n = serves_by statement old new before text (10 ∷ []) after answers (λ limit held h.
+      let t : (s : List ℕ) × ShowsText limit text s × (first_statement true held ≡ Some (s, [])) = ended limit held h in
+      (t.0, t.1, λ was now shows a c. served_statement limit old.fixed.limit held t.0 was now old new after h.opened t.2 a c (subst (λ (x : ℕ). StandsOpen x after []) h.limited n)))
 
-pub finishes_statement : (old new : KeeperView) (before : Seen) (text : Option (Bor (List ℕ))) → is_some before.stop ≡ true → ShowsEnded text before → AnswersText statement text old new
-    → ServesEnd old new before
-finishes_statement old new before text e show answers = record {
-  unheard = let x = shown text in (answers x.0 x.1 x.2).unheard;
-  faults = let x = shown text in (answers x.0 x.1 x.2).faults;
-  ready = let x = shown text in (answers x.0 x.1 x.2).ready;
-  serves = λ limit held h was w.
-      let t : (s : List ℕ) × (first_statement true held ≡ Some (s, [])) = ended_text limit before held h e in
-      let one : AnswersPiece limit (statement t.0) old new = answers limit t.0 (show limit held t.0 h t.1) in
-      let a : (now : World) × Shows new now × Answered limit old.fixed.limit (statement t.0) was now old new = one.answers was w in
-      (a.0, a.1, served_last limit old.fixed.limit held t.0 was a.0 old new t.1 a.1.stands a.2 one.commits);
-}
+  pub breaks_statement : (fault : AnswerFault) → BreaksOffText statement fault text old new → Breaks false fault (10 ∷ []) old new before
+  breaks_statement fault answers = breaks_by statement old new before text false fault (10 ∷ []) answers (λ limit held h.
+      let t : (s : List ℕ) × ShowsText limit text s × (first_statement true held ≡ Some (s, [])) = ended limit held h in
+      (t.0, t.1, ([], [], newline_piece held t.0 h.opened t.2)))
 
-pub breaks_last : (fault : AnswerFault) (old new : KeeperView) (before : Seen) (text : Option (Bor (List ℕ))) → is_some before.stop ≡ true → ShowsEnded text before → BreaksOffText statement fault text old new
-    → Breaks true fault [] old new before
-breaks_last fault old new before text e show answers = record {
-  unheard = let x = shown text in (answers x.0 x.1 x.2).unheard;
-  cause = let x = shown text in (answers x.0 x.1 x.2).cause;
-  ready = let x = shown text in (answers x.0 x.1 x.2).ready;
-  breaks = λ limit held h was w.
-      let t : (s : List ℕ) × (first_statement true held ≡ Some (s, [])) = ended_text limit before held h e in
-      let one : BreaksOff limit (statement t.0) fault old new = answers limit t.0 (show limit held t.0 h t.1) in
-      broke_first limit true fault held [] (statement t.0) (rest_piece [] ∷ []) [] was old new (ended_piece held t.0 t.1) (one.breaks_off was w) one.commits;
-}
+  pub finishes_statement : {T : Type 0} (result : Result T AnswerFault) → OnOk result (AnswersText statement text old new) → OnOk result (ServesEnd old new before)
+  finishes_statement result all = on_ok_weaker result
+      (λ answers. ends_by statement old new before text answers (λ limit held h.
+      let t : (s : List ℕ) × ShowsText limit text s × (first_statement true held ≡ Some (s, [])) = ended limit held h in
+      (t.0, t.1, λ was now shows a c. served_last limit old.fixed.limit held t.0 was now old new t.2 shows.stands a c)))
+      all
 
-pub finishes_rest : (old new : KeeperView) (before : Seen) (text : Option (Bor (List ℕ))) → is_some before.stop ≡ false → ShowsRest text before → AnswersText rest_piece text old new
-    → ServesEnd old new before
-finishes_rest old new before text e show answers = record {
-  unheard = let x = shown text in (answers x.0 x.1 x.2).unheard;
-  faults = let x = shown text in (answers x.0 x.1 x.2).faults;
-  ready = let x = shown text in (answers x.0 x.1 x.2).ready;
-  serves = λ limit held h was w.
-      let one : AnswersPiece limit (rest_piece held) old new = answers limit held (show limit held h) in
-      let a : (now : World) × Shows new now × Answered limit old.fixed.limit (rest_piece held) was now old new = one.answers was w in
-      (a.0, a.1, served_rest limit old.fixed.limit held was a.0 old new (no_text limit before held h e) a.2 one.commits);
-}
+  pub breaks_last : {T : Type 0} (result : Result T AnswerFault) → IfErr result (λ fault. BreaksOffText statement fault text old new) → IfErr result (λ fault. Breaks true fault [] old new before)
+  breaks_last result part = if_err_weaker result _ _
+      (λ fault answers. breaks_by statement old new before text true fault [] answers (λ limit held h.
+      let t : (s : List ℕ) × ShowsText limit text s × (first_statement true held ≡ Some (s, [])) = ended limit held h in
+      (t.0, t.1, (rest_piece [] ∷ [], [], ended_piece held t.0 t.2))))
+      part
 
-pub breaks_rest : (fault : AnswerFault) (old new : KeeperView) (before : Seen) (text : Option (Bor (List ℕ))) → is_some before.stop ≡ false → ShowsRest text before → BreaksOffText rest_piece fault text old new
-    → Breaks true fault [] old new before
-breaks_rest fault old new before text e show answers = record {
-  unheard = let x = shown text in (answers x.0 x.1 x.2).unheard;
-  cause = let x = shown text in (answers x.0 x.1 x.2).cause;
-  ready = let x = shown text in (answers x.0 x.1 x.2).ready;
-  breaks = λ limit held h was w.
-      let one : BreaksOff limit (rest_piece held) fault old new = answers limit held (show limit held h) in
-      broke_first limit true fault held [] (rest_piece held) [] held was old new (rest_alone held (no_text limit before held h e)) (one.breaks_off was w) one.commits;
-}
+module _ (old new : KeeperView) (before : Seen) (text : Option (Bor (List ℕ))) (none : is_some before.stop ≡ false) (show : ShowsRest text before) where
+  pub finishes_rest : {T : Type 0} (result : Result T AnswerFault) → OnOk result (AnswersText rest_piece text old new) → OnOk result (ServesEnd old new before)
+  finishes_rest result all = on_ok_weaker result
+      (λ answers. ends_by rest_piece old new before text answers
+      (λ limit held h. (held, show limit held h, λ was now shows a c. served_rest limit old.fixed.limit held was now old new (no_text limit before held h none) a c)))
+      all
+
+  pub breaks_rest : {T : Type 0} (result : Result T AnswerFault) → IfErr result (λ fault. BreaksOffText rest_piece fault text old new) → IfErr result (λ fault. Breaks true fault [] old new before)
+  breaks_rest result part = if_err_weaker result _ _
+      (λ fault answers. breaks_by rest_piece old new before text true fault [] answers (λ limit held h. (held, show limit held h, ([], held, rest_alone held (no_text limit before held h none)))))
+      part
 
 -- ---- the steps of a loop over bytes
 

@@ -84,17 +84,24 @@ moments_then limit store old mid ts us a b c l p q =
 statement_count-append : (ts us : List Turn) → statement_count (ts ++ us) ≡ statement_count ts + statement_count us
 statement_count-append ts us = sum_by-append (λ (t : Turn). cond t.piece.is_ended 1 0) ts us
 
-pub commits_then : (ts us : List Turn) (a b c : Counts) → CommitsWithin ts a b → CommitsWithin us b c → CommitsWithin (ts ++ us) a c
+pub commits_then : (ts us : List Turn) (a b c : KeeperView) → CommitsWithin ts a b → CommitsWithin us b c → CommitsWithin (ts ++ us) a c
 commits_then ts us a b c first second =
     let both = statement_count-append ts us in
     (omega (arith, first.0, second.0, both), omega (arith, first.1, second.1, both))
 
-at_most_one_more : (old new : Counts) → AtMostOneCommit old new → (new.commits ≤ old.commits + 1) × (new.syncs ≤ old.syncs + 4)
+at_most_one_more : (old new : KeeperView) → AtMostOneCommit old new → (new.counts.commits ≤ old.counts.commits + 1) × (new.disk_syncs ≤ old.disk_syncs + 4)
 at_most_one_more old new once =
     ⊎_elim (λ same. let count = same.0 in let syncs = same.1 in (omega (arith, count), omega (arith, syncs))) (λ one. let count = one.0 in (omega (arith, count), one.1)) once
 
+-- calls that called no commit and synced nothing, before and behind
+pub commits_behind : (ts : List Turn) (old mid new : KeeperView) → new.counts ≡ mid.counts → new.disk_syncs ≡ mid.disk_syncs → CommitsWithin ts old mid → CommitsWithin ts old new
+commits_behind ts old mid new counts syncs c = let calls = ap (λ (n : Counts). n.commits) counts in (omega (arith, calls, c.0), omega (arith, syncs, c.1))
+
+pub commits_before : (ts : List Turn) (old mid new : KeeperView) → mid.counts ≡ old.counts → mid.disk_syncs ≡ old.disk_syncs → CommitsWithin ts mid new → CommitsWithin ts old new
+commits_before ts old mid new counts syncs c = let calls = ap (λ (n : Counts). n.commits) counts in (omega (arith, calls, c.0), omega (arith, syncs, c.1))
+
 -- those of one piece
-pub commits_turn : (t : Turn) (old new : Counts) → CommitsFor t.piece old new → CommitsWithin (t ∷ []) old new
+pub commits_turn : (t : Turn) (old new : KeeperView) → CommitsFor t.piece old new → CommitsWithin (t ∷ []) old new
 commits_turn t old new c = by_kind t.piece.is_ended refl
   where
     by_kind : (ended : Bool) → t.piece.is_ended ≡ ended → CommitsWithin (t ∷ []) old new
@@ -128,7 +135,7 @@ served_on limit store whole held a b old mid new t u v s k = record {
   cut = rw (sym (append_assoc held a b), pieces-append s.turns k.turns) (pieces_then whole (held ++ a) b (pieces s.turns) (pieces k.turns) s.rest k.rest s.cut k.cut);
   leads = leads_then limit store old mid new s.turns k.turns s.leads k.leads;
   moments = moments_then limit store old mid s.turns k.turns t u v s.leads s.moments k.moments;
-  commits = commits_then s.turns k.turns t.counts u.counts v.counts s.commits k.commits;
+  commits = commits_then s.turns k.turns t u v s.commits k.commits;
 }
 
 unfoldable pub served_then : (limit store : ℕ) (held a b : List ℕ) (old mid new : World) (t u v : KeeperView) (cutter : Seen)
@@ -175,7 +182,7 @@ pub newline_piece : (held text : List ℕ) → first_statement false held ≡ No
 newline_piece held text h e = record { statements = text ∷ []; cut = ([], open_newline held h ∙ e, (refl, refl)); are = refl }
 
 pub served_statement : (limit store : ℕ) (held text : List ℕ) (old new : World) (t u : KeeperView) (cutter : Seen) → first_statement false held ≡ None → first_statement true held ≡ Some (text, [])
-    → Answered limit store (statement text) old new t u → CommitsFor (statement text) t.counts u.counts → StandsOpen limit cutter [] → ServedTo limit store held (10 ∷ []) old new t u cutter
+    → Answered limit store (statement text) old new t u → CommitsFor (statement text) t u → StandsOpen limit cutter [] → ServedTo limit store held (10 ∷ []) old new t u cutter
 served_statement limit store held text old new t u cutter h e a c n = record {
   served = record {
     turns = turn_by (statement text) a.answer ∷ [];
@@ -183,7 +190,7 @@ served_statement limit store held text old new t u cutter h e a c n = record {
     cut = newline_piece held text h e;
     leads = a.leads;
     moments = a.moments;
-    commits = commits_turn (turn_by (statement text) a.answer) t.counts u.counts c;
+    commits = commits_turn (turn_by (statement text) a.answer) t u c;
   };
   stands = n;
 }
@@ -218,7 +225,7 @@ empty_rest limit store world stands = record {
 }
 
 pub served_last : (limit store : ℕ) (held text : List ℕ) (old new : World) (t u : KeeperView) → first_statement true held ≡ Some (text, []) → StandsForState new.content new.state
-    → Answered limit store (statement text) old new t u → CommitsFor (statement text) t.counts u.counts → Served limit store true held [] old new t u
+    → Answered limit store (statement text) old new t u → CommitsFor (statement text) t u → Served limit store true held [] old new t u
 served_last limit store held text old new t u e stands a c = record {
   turns = turn_by (statement text) a.answer ∷ turn_by (rest_piece []) Step ∷ [];
   rest = [];
@@ -226,17 +233,17 @@ served_last limit store held text old new t u e stands a c = record {
   leads = leads_then limit store old new new (turn_by (statement text) a.answer ∷ []) (turn_by (rest_piece []) Step ∷ []) a.leads (empty_rest limit store new stands);
   moments = passes_more t.time u.time _ _ a.moments (moment_first limit old (turn_by (statement text) a.answer ∷ []) (turn_by (rest_piece []) Step ∷ []));
   commits =
-      commits_then (turn_by (statement text) a.answer ∷ []) (turn_by (rest_piece []) Step ∷ []) t.counts u.counts u.counts
-      (commits_turn (turn_by (statement text) a.answer) t.counts u.counts c) (omega arith, omega arith);
+      commits_then (turn_by (statement text) a.answer ∷ []) (turn_by (rest_piece []) Step ∷ []) t u u
+      (commits_turn (turn_by (statement text) a.answer) t u c) (omega arith, omega arith);
 }
 
 pub served_rest : (limit store : ℕ) (held : List ℕ) (old new : World) (t u : KeeperView) → first_statement true held ≡ None
-    → Answered limit store (rest_piece held) old new t u → CommitsFor (rest_piece held) t.counts u.counts → Served limit store true held [] old new t u
+    → Answered limit store (rest_piece held) old new t u → CommitsFor (rest_piece held) t u → Served limit store true held [] old new t u
 served_rest limit store held old new t u e a c = record {
   turns = turn_by (rest_piece held) a.answer ∷ [];
   rest = held;
   cut = rest_alone held e;
   leads = a.leads;
   moments = a.moments;
-  commits = commits_turn (turn_by (rest_piece held) a.answer) t.counts u.counts c;
+  commits = commits_turn (turn_by (rest_piece held) a.answer) t u c;
 }

@@ -111,7 +111,7 @@ pub record Course (limit most : ℕ) (taken : List ℕ) (was : World) (old new :
   pub ends : Ends limit old.fixed.limit most taken was turns new ending
   pub moments : Passes old.time new.time (IsMoment limit was turns)
   pub now : (left : Option Content) (said : List ℕ) → new.now left said → IsMoment limit was turns left said
-  pub commits : CommitsWithin turns old.counts new.counts
+  pub commits : CommitsWithin turns old new
   -- what was taken so far is answered before `hear` is called again
   pub asked : Calls old.beside.hearings new.beside.hearings (AskedThen old.beside.left taken limit was turns)
 

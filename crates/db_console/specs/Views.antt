@@ -45,9 +45,9 @@ pub record ToldEndOnce (old new : Beside) : Type 0 where
   pub here : ended ≡ true → EndsHere new
 
 -- a call of `hear` with this result answered that the script ends
-abbrev pub is_end : {E : Type 0} → Result ℕ E → Bool
-is_end (Ok count) = count == 0
-is_end (Err fault) = false
+abbrev pub tells_end : {E : Type 0} → Result ℕ E → Bool
+tells_end (Ok count) = count == 0
+tells_end (Err fault) = false
 
 -- The counts of faults of hearing, of saying and of the disk: each rose by one, up to 2^64 - 1, where this says so, and is else as it was.
 pub record FaultsAre (of_hear of_say of_disk : Bool) (old new : KeeperView) : Type 0 where
@@ -113,7 +113,7 @@ pub record AnswersPiece (limit : ℕ) (piece : Piece) (old new : KeeperView) : T
   pub unheard : HearsNothing old new
   pub faults : NoFault old new
   pub ready : new.ready
-  pub commits : CommitsFor piece old.counts new.counts
+  pub commits : CommitsFor piece old new
   pub answers : (was : World) → Shows old was → (now : World) × Shows new now × Answered limit old.fixed.limit piece was now old new
 
 -- what holds unless the disk failed
@@ -166,7 +166,7 @@ pub record BreaksOff (limit : ℕ) (piece : Piece) (fault : AnswerFault) (old ne
   pub unheard : HearsNothing old new
   pub cause : FailsBy fault old new
   pub ready : UnlessByDisk fault new.ready
-  pub commits : CommitsFor piece old.counts new.counts
+  pub commits : CommitsFor piece old new
   pub breaks_off : (was : World) → Shows old was → BrokeOff limit piece fault was old new
 
 -- ---- the piece whose text is given, where that isn't too long
@@ -217,7 +217,7 @@ pub record Broke (limit store : ℕ) (whole : Bool) (fault : AnswerFault) (held 
   pub rest : List ℕ
   pub cut : HasPieces whole (held ++ bytes) (pieces turns ++ last.piece ∷ later) rest
   pub moments : Passes old.time new.time (IsMoment limit was (turns ++ last ∷ []))
-  pub commits : CommitsWithin (turns ++ last ∷ []) old.counts new.counts
+  pub commits : CommitsWithin (turns ++ last ∷ []) old new
   pub by : LeavesTurn fault limit store mid last new
 
 -- Serving bytes broke off for this fault.
@@ -242,5 +242,5 @@ saying_alone : is_say Say ∷ is_disk Say ∷ is_say Disk ∷ is_disk Disk ∷ [
 saying_alone = refl
 
 -- a call that heard nothing answered that the script ends, and one that failed did not
-nothing_heard : is_end {E = ℕ} (Ok 0) ∷ is_end {E = ℕ} (Ok 7) ∷ is_end {E = ℕ} (Err 1) ∷ [] ≡ true ∷ false ∷ false ∷ []
+nothing_heard : tells_end {E = ℕ} (Ok 0) ∷ tells_end {E = ℕ} (Ok 7) ∷ tells_end {E = ℕ} (Err 1) ∷ [] ≡ true ∷ false ∷ false ∷ []
 nothing_heard = refl

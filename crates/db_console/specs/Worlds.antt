@@ -12,7 +12,7 @@ use Rattle.ct_base.specs.Told.{with_suffix, SaysPart}
 use Rattle.ct_base.specs.Moments.{Passes}
 use Rattle.ct_base.specs.laws.Moments.{passes_none}
 use Rattle.ct_keep.specs.Content.{Content}
-use Rattle.ct_keep.specs.KeeperViews.{KeeperView, Counts, AtMostOneCommit}
+use Rattle.ct_keep.specs.KeeperViews.{KeeperView, AtMostOneCommit, NoCommit}
 use Rattle.st_cut.specs.Cut.{Cuts}
 use Rattle.st_cut.specs.Seen.{Seen, StandsOpen}
 use Rattle.db_state.specs.States.{StoreState, empty_state, StandsForState}
@@ -44,15 +44,15 @@ world_after limit old turns content = record { content = content; state = state_
 abbrev pub statement_count : List Turn → ℕ
 statement_count turns = count_by (λ (t : Turn). t.piece.is_ended) turns
 
--- Between these counts at most as many commits were called as these turns answer statements, and for each of these the disk was synced four
--- times at most; a rest counts for none.
-abbrev pub CommitsWithin : List Turn → Counts → Counts → Type 0
-CommitsWithin turns old new = (new.commits ≤ old.commits + statement_count turns) × (new.syncs ≤ old.syncs + 4 * statement_count turns)
+-- At most as many commits were called as these turns answer statements, and for each of these the disk was synced four times at most;
+-- a rest counts for none.
+abbrev pub CommitsWithin : List Turn → KeeperView → KeeperView → Type 0
+CommitsWithin turns old new = (new.counts.commits ≤ old.counts.commits + statement_count turns) × (new.disk_syncs ≤ old.disk_syncs + 4 * statement_count turns)
 
--- For a piece at most one commit was called, which synced the disk four times at most; none was called, and nothing synced, where it is a rest.
-pub record CommitsFor (piece : Piece) (old new : Counts) : Type 0 where
+-- For a piece at most one commit was called; none was called where it is a rest.
+pub record CommitsFor (piece : Piece) (old new : KeeperView) : Type 0 where
   pub once : AtMostOneCommit old new
-  pub none : piece.is_ended ≡ false → (new.commits ≡ old.commits) × (new.syncs ≡ old.syncs)
+  pub none : piece.is_ended ≡ false → NoCommit old new
 
 -- What a crash leaves is a content that stands for this state.
 pub record LeavesState (left : Option Content) (m : StoreState) : Type 0 where
@@ -86,7 +86,7 @@ pub record Served (limit store : ℕ) (whole : Bool) (held bytes : List ℕ) (ol
   pub cut : HasPieces whole (held ++ bytes) (pieces turns) rest
   pub leads : Leads limit store old turns new
   pub moments : Passes before.time after.time (IsMoment limit old turns)
-  pub commits : CommitsWithin turns before.counts after.counts
+  pub commits : CommitsWithin turns before after
 
 -- The same, as far as the script has come; the cutter then holds what stands open.
 pub record ServedTo (limit store : ℕ) (held bytes : List ℕ) (old new : World) (before after : KeeperView) (cutter : Seen) : Type 0 where

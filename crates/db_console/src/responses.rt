@@ -92,7 +92,7 @@ fn respond_to_statement<R: Threads + Sync, K: Keeper>(
 ) -> Result<Response, Stop>
     requires { AcceptsStatements (K.view keeper.old) }
     ensures kept { SameButContent (K.view keeper.old) (K.view keeper.new) (fault_of_stop result) }
-    ensures once { AtMostOneCommit (K.view keeper.old).counts (K.view keeper.new).counts }
+    ensures once { AtMostOneCommit (K.view keeper.old) (K.view keeper.new) }
     ensures responds { RespondsToRead (Found statement.now) (K.view keeper.old) (K.view keeper.new) result }
 {
     match execute(rt, alloc, degree, keeper, statement) {
@@ -111,7 +111,7 @@ fn respond_to_text<R: Threads + Sync, K: Keeper>(
 ) -> Result<Response, Stop>
     requires { AcceptsStatements (K.view keeper.old) }
     ensures kept { SameButContent (K.view keeper.old) (K.view keeper.new) (fault_of_stop result) }
-    ensures once { AtMostOneCommit (K.view keeper.old).counts (K.view keeper.new).counts }
+    ensures once { AtMostOneCommit (K.view keeper.old) (K.view keeper.new) }
     ensures responds { RespondsToRead (read (chars text.now)) (K.view keeper.old) (K.view keeper.new) result }
 {
     match parse(alloc, text) {
@@ -131,7 +131,7 @@ pub fn respond<R: Threads + Sync, K: Keeper>(
 ) -> Result<Response, Stop>
     requires { AcceptsStatements (K.view keeper.old) }
     ensures kept { SameButContent (K.view keeper.old) (K.view keeper.new) (fault_of_stop result) }
-    ensures once { AtMostOneCommit (K.view keeper.old).counts (K.view keeper.new).counts }
+    ensures once { AtMostOneCommit (K.view keeper.old) (K.view keeper.new) }
     ensures replied { IfOk result (λ response. RepliesToText text.entry (response_bytes response) (K.view keeper.old) (K.view keeper.new)) }
     ensures halted { OnErr result (HaltsInText text.entry (K.view keeper.old) (K.view keeper.new)) }
 {

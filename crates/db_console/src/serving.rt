@@ -4,7 +4,7 @@ ghost use Rattle.std.specs.Prelude.{◌≡◌, ◌≤◌, ◌<◌, ◌∷◌, []
 ghost use Rattle.ct_base.specs.Told.{took};
 ghost use Rattle.db_state.specs.Shapes.{AcceptsStatements};
 ghost use Rattle.db_engine.specs.Runs.{statement, rest_piece};
-ghost use Rattle.db_console.specs.Views.{AnswersText, Breaks, BreaksOffText, EndsHere, ServesEnd, Heard, Serves, is_end};
+ghost use Rattle.db_console.specs.Views.{AnswersText, Breaks, BreaksOffText, EndsHere, ServesEnd, Heard, Serves, tells_end};
 ghost use Rattle.db_console.specs.Table.{EndsRun, Outcome};
 
 use crate::endings::Ending;
@@ -130,7 +130,7 @@ fn hear_some<K: Keeper>(keeper: &mut K, chunk: &mut [u8], room: usize) -> Result
     requires within { room ≤ length chunk.old }
     ensures bound { IfOk result (λ count. count ≤ room) }
     ensures sized { IfOk result (λ count. length (take count chunk.new) ≡ count) }
-    ensures heard { Heard (is_err result) (is_end result) (took result chunk.new) (K.view keeper.old) (K.view keeper.new) }
+    ensures heard { Heard (is_err result) (tells_end result) (took result chunk.new) (K.view keeper.old) (K.view keeper.new) }
     ensures end { result ≡ Ok 0 → EndsHere (K.view keeper.new).beside }
 {
     keeper.hear(&mut chunk[..room])

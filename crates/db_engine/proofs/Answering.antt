@@ -12,7 +12,8 @@ use Rattle.db_state.specs.Plans.{GivesEffect}
 use Rattle.db_engine.specs.Executing.{IsAnswered}
 use Rattle.db_engine.specs.declared.replies.Reply.TheVariants.{Text as ReplyText, Full as ReplyFull, NoMemory as ReplyNoMemory}
 
-pub answers_step : (m : StoreState) (effect : Effect) (may : Bool) (c : Content) (old new : KeeperView) (v : Vec ℕ Global) (reply : List ℕ) → reply ≡ v.items → GivesEffect m effect c old new (Ok v) → IsAnswered m effect may c old new (ReplyText reply)
+pub answers_step : (m : StoreState) (effect : Effect) (may : Bool) (c : Content) (old new : KeeperView) (v : Vec ℕ Global) (reply : List ℕ)
+    → reply ≡ v.items → GivesEffect m effect c old new (Ok v) → IsAnswered m effect may c old new (ReplyText reply)
 answers_step m effect may c old new v reply is gives = record {
   answer = Step;
   moves = gives.moves;
@@ -22,7 +23,8 @@ answers_step m effect may c old new v reply is gives = record {
   fulls = λ e. cc;
 }
 
-pub answers_memory : (m : StoreState) (effect : Effect) (may : Bool) (c : Content) (old new : KeeperView) → GivesEffect m effect c old new (Err Memory) → IsAnswered m effect may c old new ReplyNoMemory
+pub answers_memory : (m : StoreState) (effect : Effect) (may : Bool) (c : Content) (old new : KeeperView)
+    → GivesEffect m effect c old new (Err Memory) → IsAnswered m effect may c old new ReplyNoMemory
 answers_memory m effect may c old new gives = record {
   answer = NoMemory;
   moves = gives.moves;
@@ -36,7 +38,8 @@ answers_memory m effect may c old new gives = record {
 pub rose : (old new : ℕ) → new ≡ counted true old → Rose old new
 rose old new is = let e : new ≡ min (old + 1) (2 ^ 64 - 1) = is in omega (arith, e)
 
-pub answers_full : (m : StoreState) (effect : Effect) (may : Bool) (c : Content) (old new : KeeperView) → may ≡ true → new.counts.fulls ≡ counted true old.counts.fulls → GivesEffect m effect c old new (Err NoRoom) → IsAnswered m effect may c old new ReplyFull
+pub answers_full : (m : StoreState) (effect : Effect) (may : Bool) (c : Content) (old new : KeeperView) → may ≡ true
+    → new.counts.fulls ≡ counted true old.counts.fulls → GivesEffect m effect c old new (Err NoRoom) → IsAnswered m effect may c old new ReplyFull
 answers_full m effect may c old new fills fulls gives = record {
   answer = Full;
   moves = gives.moves;

@@ -18,13 +18,13 @@ use Rattle.ct_base.specs.declared.lists.Value.TheVariants.{Number, Text}
 use Rattle.ct_bytes.specs.RowKeys.{row_bytes}
 use Rattle.ct_bytes.specs.Varints.{varint}
 use Rattle.ct_keep.specs.Content.{Content, after, entry_weight, weight}
-use Rattle.ct_keep.specs.Laws.{applied, entries-after}
+use Rattle.ct_keep.specs.laws.Content.{applied, entries-after}
 use Rattle.ct_entry.specs.declared.kinds.Kind.{Kind}
 use Rattle.ct_entry.specs.declared.kinds.Kind.TheVariants as kind
 use Rattle.ct_entry.specs.Keys.{key, at, same_list, row_part, document_part, IsRow}
 use Rattle.ct_entry.specs.Maps.{Names, Rows, altered}
 use Rattle.ct_entry.specs.Changes.{KeyChange, spell, put_value, drop_key}
-use Rattle.ct_entry.specs.Listings.{key_order}
+use Rattle.ct_entry.specs.Listings.{key_order, keys_where}
 use Rattle.ct_entry.specs.laws.Owners.{key_order_total}
 use Rattle.tb_table.specs.Tables.{Table, Tables, docs_columns, row_in, row_at, text_in_column, with_table, with_row}
 use Rattle.tb_table.specs.Spelling.{table_changes}
@@ -41,14 +41,13 @@ use Rattle.ix_docmap.specs.Marks.{Mark, Pending, Settled}
 use Rattle.ix_kinds.specs.Rows.{RowChange, table_or_none, table_at, row_change}
 use Rattle.ix_kinds.specs.Statements.{every, after_row_on, indexes_after_row, index_after_sync, indexes_after_sync, new_index, with_index}
 use Rattle.ix_kinds.specs.laws.Tables.{row_now}
-use Rattle.ix_context.specs.Indexes.{Part, in_queue, is_key_in, made, no_part, settled_rows, all_settled, most_given, texts_in, rows_within}
-use Rattle.ct_entry.specs.Listings.{keys_where}
-use Rattle.ix_rows.specs.PlaceBytes.{position_bytes}
-use Rattle.ix_rows.specs.Growing.{Growing, nothing_yet, grown, grown_rows}
-use Rattle.ix_rows.specs.RowMaps.{RowMap, or_nothing, with_posting, row_changes, row_map_changes}
+use Rattle.ix_context.specs.Indexes.{Part, in_queue, is_key_in, part_with_marks, no_part, settled_rows, all_settled, mark_limit, texts_in, rows_within}
+use Rattle.ix_posting.specs.Forms.{counted_bytes, number_form}
+use Rattle.ix_rows.specs.Growing.{Growing, nothing_yet, with_grown_document, grown_rows}
+use Rattle.ix_rows.specs.RowMaps.{TermRowsView, or_nothing, with_posting, row_changes, row_map_changes}
 use Rattle.ix_rows.specs.Spelling.{row_key}
 use Rattle.ix_rows.specs.WordRows.{word_term}
-use Rattle.ix_context.specs.Changes.{mark_rows_with, postings_changes}
+use Rattle.ix_context.specs.Changes.{mark_each_changes, postings_changes}
 use Rattle.ix_context.specs.Documents.{postings_by}
 use Rattle.ix_context.specs.Gathering.{nothing_gathered, with_text, with_entries, gathering_changes}
 use Rattle.ix_context.specs.laws.Gathered.{gathered_postings}
@@ -203,11 +202,11 @@ index_free = record {
   texts = refl;
   few =
       ap (λ (es : List (List ℕ × Index)). nat_le index_limit (length (filter (λ (e : List ℕ × Index). same_list e.1.table docs) es)) || has_too_many_rows without_index docs) (nothing (slice_cmp nat_cmp) nat_list_cmp_total)
-      ∙ ap (λ (rs : List ℤ). not (nat_le (length rs) most_given)) no_row_yet;
+      ∙ ap (λ (rs : List ℤ). not (nat_le (length rs) mark_limit)) no_row_yet;
 }
 
 abbrev settling : List ℤ → Index
-settling rows = context_of (made (length rows) no_part) (settled_rows rows)
+settling rows = context_of (part_with_marks (length rows) no_part) (settled_rows rows)
 
 indexes_created : with_index kinds all_rows tt (tables_with []) di (target docs 1) default_prefs empty ≡ indexes_with 0 []
 indexes_created =
@@ -234,7 +233,7 @@ no_postings =
 
 second_are : kinds.create_changes all_rows tt (table_at (tables_with []) docs) di (target docs 1) default_prefs ≡ second_changes
 second_are =
-    ap (λ (rows : List ℤ). put_value (key kind.Indexes di []) (context_entry (settling rows)) ∷ (mark_rows_with di 1 rows ++ postings_changes di (postings_by default_prefs texts_then) 1 rows)) no_row_yet
+    ap (λ (rows : List ℤ). put_value (key kind.Indexes di []) (context_entry (settling rows)) ∷ (mark_each_changes di 1 rows ++ postings_changes di (postings_by default_prefs texts_then) 1 rows)) no_row_yet
     ∙ ap (λ (ws : List KeyChange). put_value (key kind.Indexes di []) (context_entry (settling [])) ∷ ws) no_postings
 
 abbrev second : Content
@@ -357,21 +356,21 @@ abbrev quick_term : List ℕ
 quick_term = word_term 0 (codes "quick")
 
 abbrev fox_rows : Growing
-fox_rows = grown nothing_yet 1 (position_bytes (2 ∷ []))
+fox_rows = with_grown_document nothing_yet 1 (counted_bytes number_form (2 ∷ []))
 
 abbrev quick_rows : Growing
-quick_rows = grown nothing_yet 1 (position_bytes (1 ∷ 3 ∷ []))
+quick_rows = with_grown_document nothing_yet 1 (counted_bytes number_form (1 ∷ 3 ∷ []))
 
 -- the keys of the text in order, each with its rows
 abbrev found_rows : List (List ℕ × Growing)
 found_rows = (fox_term, fox_rows) ∷ (quick_term, quick_rows) ∷ []
 
-its_words : with_posting (with_posting empty fox_term 1 (position_bytes (2 ∷ []))) quick_term 1 (position_bytes (1 ∷ 3 ∷ [])) ≡ from_sorted found_rows
+its_words : with_posting (with_posting empty fox_term 1 (counted_bytes number_form (2 ∷ []))) quick_term 1 (counted_bytes number_form (1 ∷ 3 ∷ [])) ≡ from_sorted found_rows
 unfolding varint
 its_words =
-    ap (λ (o : Option Growing). with_posting (insert empty fox_term (grown (or_nothing o) 1 (position_bytes (2 ∷ [])))) quick_term 1 (position_bytes (1 ∷ 3 ∷ []))) (get-empty (slice_cmp nat_cmp) fox_term)
-    ∙ ap (λ (m : RowMap). with_posting m quick_term 1 (position_bytes (1 ∷ 3 ∷ []))) (insert_is (slice_cmp nat_cmp) nat_list_cmp_total empty fox_term fox_rows [] (nothing (slice_cmp nat_cmp) nat_list_cmp_total) tt)
-    ∙ ap (λ (o : Option Growing). insert (from_sorted ((fox_term, fox_rows) ∷ [])) quick_term (grown (or_nothing o) 1 (position_bytes (1 ∷ 3 ∷ [])))) (get-from_sorted (slice_cmp nat_cmp) ((fox_term, fox_rows) ∷ []) quick_term tt)
+    ap (λ (o : Option Growing). with_posting (insert empty fox_term (with_grown_document (or_nothing o) 1 (counted_bytes number_form (2 ∷ [])))) quick_term 1 (counted_bytes number_form (1 ∷ 3 ∷ []))) (get-empty (slice_cmp nat_cmp) fox_term)
+    ∙ ap (λ (m : TermRowsView). with_posting m quick_term 1 (counted_bytes number_form (1 ∷ 3 ∷ []))) (insert_is (slice_cmp nat_cmp) nat_list_cmp_total empty fox_term fox_rows [] (nothing (slice_cmp nat_cmp) nat_list_cmp_total) tt)
+    ∙ ap (λ (o : Option Growing). insert (from_sorted ((fox_term, fox_rows) ∷ [])) quick_term (with_grown_document (or_nothing o) 1 (counted_bytes number_form (1 ∷ 3 ∷ [])))) (get-from_sorted (slice_cmp nat_cmp) ((fox_term, fox_rows) ∷ []) quick_term tt)
     ∙ insert_is (slice_cmp nat_cmp) nat_list_cmp_total (from_sorted ((fox_term, fox_rows) ∷ [])) quick_term quick_rows ((fox_term, fox_rows) ∷ []) (entries-from_sorted (slice_cmp nat_cmp) ((fox_term, fox_rows) ∷ []) tt) tt
 
 abbrev put_words : List KeyChange
@@ -380,7 +379,7 @@ put_words = put_value (key kind.Postings di (row_key fox_term 1)) (1 ∷ 1 ∷ 1
 words_are_put : gathering_changes di (with_entries nothing_gathered 1 (fox ∷ quick ∷ [])) ≡ put_words
 unfolding varint
 words_are_put =
-    ap (λ (m : RowMap). row_map_changes kind.Postings di m ++ row_map_changes kind.Spans di empty) its_words
+    ap (λ (m : TermRowsView). row_map_changes kind.Postings di m ++ row_map_changes kind.Spans di empty) its_words
     ∙ ap (λ (es : List (List ℕ × Growing)). each (its_rows kind.Postings) es ++ row_map_changes kind.Spans di empty) (entries-from_sorted (slice_cmp nat_cmp) found_rows tt)
     ∙ ap (λ (es : List (List ℕ × Growing)). each (its_rows kind.Postings) found_rows ++ each (its_rows kind.Spans) es) (nothing (slice_cmp nat_cmp) nat_list_cmp_total)
 
@@ -398,10 +397,10 @@ fourth_are : kinds.sync_changes tt (table_at (tables_with one_row) docs) di wait
 fourth_are =
     ap (context_sync_changes di waiting its_texts) one_waits
     ∙ ap (λ (ws : List KeyChange). (settled_first ++ ws) ++ put_value (key kind.Indexes di []) (context_entry (record waiting { body = context_synced waiting.body })) ∷ []) postings_are
-    ∙ ap (λ (rs : List ℤ). (settled_first ++ put_words) ++ put_value (key kind.Indexes di []) (index_bytes docs 1 default_prefs ((made (length rs) (part_with 0)).given + 1)) ∷ []) one_waits
+    ∙ ap (λ (rs : List ℤ). (settled_first ++ put_words) ++ put_value (key kind.Indexes di []) (index_bytes docs 1 default_prefs ((part_with_marks (length rs) (part_with 0)).given + 1)) ∷ []) one_waits
 
 few_enough : has_too_many waiting ≡ false
-few_enough = ap (λ (rs : List ℤ). not (nat_le (0 + length rs) most_given)) one_waits
+few_enough = ap (λ (rs : List ℤ). not (nat_le (0 + length rs) mark_limit)) one_waits
 
 indexes_synced : indexes_after_sync kinds tt (tables_with one_row) di (indexes_with 0 ((pos 1, Pending) ∷ [])) ≡ indexes_with 1 ((pos 1, Settled tt) ∷ [])
 indexes_synced =
@@ -410,7 +409,7 @@ indexes_synced =
     let change : Index → Index = index_after_sync kinds tt (tables_with one_row) in
     ap (altered (indexes_with 0 ((pos 1, Pending) ∷ [])) di change) (index_there 0 ((pos 1, Pending) ∷ []))
     ∙ insert_is (slice_cmp nat_cmp) nat_list_cmp_total (indexes_with 0 ((pos 1, Pending) ∷ [])) di (change waiting) ((di, waiting) ∷ []) (entries-from_sorted (slice_cmp nat_cmp) ((di, waiting) ∷ []) tt) tt
-    ∙ ap (λ (rs : List ℤ). indexes_of (context_of (made (length rs) (part_with 0)) all)) one_waits
+    ∙ ap (λ (rs : List ℤ). indexes_of (context_of (part_with_marks (length rs) (part_with 0)) all)) one_waits
     ∙ ap (λ (ms : Rows Its). indexes_of (index_of 1 ms))
     (map_is int_cmp int_cmp_total all ((pos 1, Settled tt) ∷ []) tt
     (entries-each_value int_cmp (λ (m : Its). Settled tt) int_cmp_total marks ∙ ap (map {B = ℤ × Its} (λ (e : ℤ × Its). (e.0, Settled tt))) (entries-from_sorted int_cmp ((pos 1, Pending) ∷ []) tt)))

@@ -113,6 +113,7 @@ tells_text done old new lines reply is (inl made) = inl (record { rows = made.ro
 tells_text done old new lines reply is (inr refused) = inr (record { refusal = refused.refusal; says = is ∙ refused.says; reads = refused.reads })
 
 -- no line of it says that the store is full
-pub text_not_full : (s : Statement) (done : DoneLines) (old new : KeeperView) (lines : Vec ℕ Global) (reply : List ℕ) → done_line s ≡ Some done → reply ≡ lines.items → Returns done old new (Ok lines) → reply ≡ store_full → ⊥
+pub text_not_full : (s : Statement) (done : DoneLines) (old new : KeeperView) (lines : Vec ℕ Global) (reply : List ℕ) → done_line s ≡ Some done
+    → reply ≡ lines.items → Returns done old new (Ok lines) → reply ≡ store_full → ⊥
 text_not_full s done old new lines reply has is (inl made) full = not_done s done made.rows has (sym made.says ∙ sym is ∙ full)
 text_not_full s done old new lines reply has is (inr refused) full = not_full refused.refusal (sym refused.says ∙ sym is ∙ full)

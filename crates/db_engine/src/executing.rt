@@ -1,5 +1,5 @@
 //! Executes statements, each by at most one commit.
-#![tactic(auto, using(ct_keep::specs::Composing::reads_on, ct_keep::specs::Composing::reads_short))]
+#![tactic(auto, using(ct_keep::specs::laws::Composing::reads_on, ct_keep::specs::laws::Composing::reads_short))]
 
 ghost use Rattle.std.specs.Prelude.{ℕ, ◌≡◌, ◌&&◌, List, IfOk, Some, None, Err, true, false, not, codes, bytes_eq};
 ghost use Rattle.ct_keep.specs.KeeperViews.{AtMostOneCommit, SameButContent, OnlyReads, ReadsKeeper, Told};
@@ -32,8 +32,10 @@ fn not_built(alloc: Global) -> Result<Vec<u8>, Memory>
 }
 
 /// The call of a procedure.
-fn call<K: Keeper>(
+fn call<R: Threads + Sync, K: Keeper>(
+    rt: &R,
     alloc: Global,
+    degree: u32,
     keeper: &mut K,
     procedure: Procedure,
     args: &[Arg],
@@ -45,7 +47,7 @@ fn call<K: Keeper>(
 {
     match procedure {
         Procedure::PolicyTokens => policy_tokens(alloc, keeper, args),
-        Procedure::SyncIndex => sync_index(alloc, keeper, args),
+        Procedure::SyncIndex => sync_index(rt, alloc, degree, keeper, args),
         Procedure::Define(definition) => define(alloc, keeper, definition, args),
     }
 }
@@ -58,8 +60,10 @@ fn is_built_index(kind: IndexKind, parallel: &Option<Whole>) -> bool
 }
 
 /// CREATE INDEX, where it is built.
-fn index_statement<K: Keeper>(
+fn index_statement<R: Threads + Sync, K: Keeper>(
+    rt: &R,
     alloc: Global,
+    degree: u32,
     keeper: &mut K,
     index: &Name,
     table: &Name,
@@ -74,12 +78,14 @@ fn index_statement<K: Keeper>(
     if !built {
         return Ok(not_built(alloc)?);
     }
-    create_index(alloc, keeper, index, table, column, parameters)
+    create_index(rt, alloc, degree, keeper, index, table, column, parameters)
 }
 
 /// The reply to a statement: its lines, with their newlines.
-fn reply_to<K: Keeper>(
+fn reply_to<R: Threads + Sync, K: Keeper>(
+    rt: &R,
     alloc: Global,
+    degree: u32,
     keeper: &mut K,
     statement: &Statement,
 ) -> Result<Vec<u8>, KeepFault>
@@ -99,10 +105,17 @@ fn reply_to<K: Keeper>(
             kind,
             parameters,
             parallel,
-        } => {
-            let built = is_built_index(*kind, parallel);
-            index_statement(alloc, keeper, name, table, column, parameters, built)
-        }
+        } => index_statement(
+            rt,
+            alloc,
+            degree,
+            keeper,
+            name,
+            table,
+            column,
+            parameters,
+            is_built_index(*kind, parallel),
+        ),
         Statement::Insert {
             table,
             columns,
@@ -114,7 +127,9 @@ fn reply_to<K: Keeper>(
             preds,
             ..
         } => select(alloc, keeper, list, table, preds.as_slice()),
-        Statement::Exec { procedure, args } => call(alloc, keeper, *procedure, args.as_slice()),
+        Statement::Exec { procedure, args } => {
+            call(rt, alloc, degree, keeper, *procedure, args.as_slice())
+        }
         Statement::DropTable { name } => drop_table(alloc, keeper, name),
         Statement::DropIndex { name } => drop_index(alloc, keeper, name),
         Statement::Update {
@@ -134,15 +149,15 @@ fn reply_to<K: Keeper>(
 ///
 /// Disk, only where the count of faults of the keeper's disk rose. From then on the keeper may only hear and say.
 pub fn execute<R: Threads + Sync, K: Keeper>(
-    _rt: &R,
+    rt: &R,
     alloc: Global,
-    _degree: u32,
+    degree: u32,
     keeper: &mut K,
     statement: &Statement,
 ) -> Result<Reply, Stop>
     requires { AcceptsStatements (K.view keeper.old) }
     ensures kept { SameButContent (K.view keeper.old) (K.view keeper.new) (fault_of_stop result) }
-    ensures once { AtMostOneCommit (K.view keeper.old).counts (K.view keeper.new).counts }
+    ensures once { AtMostOneCommit (K.view keeper.old) (K.view keeper.new) }
     ensures executes { ExecutesStatement statement.now (K.view keeper.old) (K.view keeper.new) result }
     ensures reads { done_line statement.now ≡ None → ReadsKeeper (K.view keeper.old) (K.view keeper.new) (fault_of_stop result) }
     ensures tells { (done : DoneLines) → done_line statement.now ≡ Some done → Tells done (K.view keeper.old) (K.view keeper.new) result }
@@ -150,7 +165,7 @@ pub fn execute<R: Threads + Sync, K: Keeper>(
     ensures no_text { (done : DoneLines) → done_line statement.now ≡ Some done → NoTextIsFull result }
     ensures fixed { (m : StoreState) → is_fixed statement.now ≡ true → IfText (λ reply. reply ≡ reply_by (effect m statement.now)) result }
 {
-    match reply_to(alloc, keeper, statement) {
+    match reply_to(rt, alloc, degree, keeper, statement) {
         Ok(lines) => Ok(Reply::Text(Bytes::of(lines))),
         Err(KeepFault::Memory) => Ok(Reply::NoMemory),
         Err(KeepFault::Full) => Ok(Reply::Full),

@@ -1,6 +1,6 @@
 -- What the checks of CREATE INDEX read.
-use Rattle.std.proofs.Common.{◌≡◌, ℕ, suc, ◌+◌, ◌<◌, ◌≤◌, Bool, true, false, cond, List, [], ◌∷◌, length, Option, Some, None, refl, sym, ap, subst, ◌∙◌, arith}
-use Rattle.std.specs.Prelude.{◌==◌, ◌&&◌, ◌||◌, is_some, not, filter, map, nat_le}
+use Rattle.std.proofs.Common.{◌≡◌, ℕ, suc, ◌+◌, ◌<◌, Bool, true, false, cond, List, [], ◌∷◌, length, Option, Some, None, refl, sym, ap, subst, ◌∙◌, arith}
+use Rattle.std.specs.Prelude.{◌||◌, is_some, not, filter, nat_le}
 use Rattle.std.specs.List.{list_any}
 use Rattle.std.specs.Option.{option_map}
 use Rattle.std.specs.Ordering.{nat_cmp, eq_by_cmp}
@@ -15,16 +15,16 @@ use Rattle.ct_entry.specs.Maps.{Names}
 use Rattle.ct_entry.specs.laws.Maps.{names_tie}
 use Rattle.ct_entry.specs.Listings.{key_order}
 use Rattle.ct_entry.specs.laws.Owners.{key_order_total, key_order_tie}
-use Rattle.ct_keep.specs.FoundKeys.{none_below}
-use Rattle.ct_keep.specs.RisingKeys.{below, rises, entries_rise}
+use Rattle.ct_keep.specs.laws.FoundKeys.{none_below}
+use Rattle.ct_keep.specs.laws.RisingKeys.{below, rises, entries_rise}
 use Rattle.tb_table.specs.declared.columns.Column.{Column}
 use Rattle.std.proofs.lemmas.List.{length-map}
-use Rattle.tb_table.specs.Tables.{Table, keys_in, row_keys}
+use Rattle.tb_table.specs.Tables.{Table}
 use Rattle.tb_table.specs.Rules.{AreTables}
 use Rattle.tx_settings.specs.declared.preferences.Prefs.{Prefs}
 use Rattle.tx_prefs.specs.declared.requests.Request.{Request}
 use Rattle.ix_kinds.specs.Rows.{table_at}
-use Rattle.ix_context.specs.Indexes.{rows_within, most_given}
+use Rattle.ix_context.specs.Indexes.{rows_within, mark_limit}
 use Rattle.ix_indexes.specs.Indexes.{Index, kinds}
 use Rattle.ix_kinds.specs.laws.Tables.{table_is}
 use Rattle.ix_context.specs.laws.ContextCreates.{all_within}
@@ -38,7 +38,8 @@ use Rattle.db_state.specs.Effects.{Effect, Refused, Does, Checks, refuse_by, wit
 use Rattle.db_state.specs.declared.plans.Plan.{Plan}
 use Rattle.db_state.specs.Plans.{IsPlan}
 use Rattle.db_state.specs.Columns.{column_place, place_from}
-use Rattle.db_index.specs.Indexing.{has_index_on, has_too_many_rows, all_rows, target, is_text_at, check_index, check_flags, index_created, with_new_index, create_index_on, create_index_by, create_index, IsFreeIndex, requests_in, unknown_asked, prefs_asked}
+use Rattle.db_index.specs.Indexing.{has_index_on, has_too_many_rows, all_rows, target, check_index, check_flags, index_created, with_new_index, create_index_on, create_index_by, create_index, IsFreeIndex, requests_in, unknown_asked, prefs_asked}
+use Rattle.ix_kinds.specs.Targets.{is_text_at}
 use Rattle.db_names.specs.declared.heads.IndexKind.{IndexKind}
 use Rattle.db_names.specs.declared.heads.IndexKind.TheVariants.{Context}
 use Rattle.db_state.specs.Lookups.{is_on_column, index_among, FoundOn}
@@ -75,7 +76,8 @@ module _ {X : Type 0} (p : X → Bool) where
           ap (λ (b : Bool). cond b (Some e.1) (find key_order k es)) (key_order_tie k e.0 ∙ sym (names_tie k e.0))
           ∙ ap (cond (eq_by_cmp (slice_cmp nat_cmp) k e.0) (Some e.1)) (alike es)
 
-  reordered : (es : List (List ℕ × X)) → rises (slice_cmp nat_cmp) es ≡ true → length (filter (λ (e : List ℕ × X). p e.1) (entries (from_entries {R = key_order} es))) ≡ length (filter (λ (e : List ℕ × X). p e.1) es)
+  reordered : (es : List (List ℕ × X)) → rises (slice_cmp nat_cmp) es ≡ true
+      → length (filter (λ (e : List ℕ × X). p e.1) (entries (from_entries {R = key_order} es))) ≡ length (filter (λ (e : List ℕ × X). p e.1) es)
   reordered [] h = ap (λ (es : List (List ℕ × X)). length (filter (λ (e : List ℕ × X). p e.1) es)) (nothing (entries (empty {X = X} {R = key_order})) (sym (len-entries (empty {X = X} {R = key_order})) ∙ len-empty key_order X))
     where
       nothing : (es : List (List ℕ × X)) → length es ≡ 0 → es ≡ []
@@ -108,14 +110,15 @@ few_rows m t x are there =
     let is = table_is m.tables t x are there in
     let all = ap length (all_within (table_at m.tables t) is all_rows every_row) ∙ length-map (entries (table_at m.tables t).rows) (λ e. e.0) in
     let few = is.few in
-    ap not (le-leb (length (rows_within (table_at m.tables t) all_rows)) most_given (omega (arith, all, few)))
+    ap not (le-leb (length (rows_within (table_at m.tables t) all_rows)) mark_limit (omega (arith, all, few)))
 
 -- what is done by what PARAMETERS means; where that is nothing, the check of its form refuses
 abbrev pub done_by : Option Prefs → (Prefs → Effect) → Effect
 done_by None done = Refused BadValue
 done_by (Some prefs) done = done prefs
 
-by_flags : (there texts : Bool) (prefs : Option Prefs) (many : Bool) (i : List ℕ) (done : Prefs → Effect) → check_index there texts prefs many i done ≡ check_flags there texts (is_some prefs) many i (done_by prefs done)
+by_flags : (there texts : Bool) (prefs : Option Prefs) (many : Bool) (i : List ℕ) (done : Prefs → Effect)
+    → check_index there texts prefs many i done ≡ check_flags there texts (is_some prefs) many i (done_by prefs done)
 by_flags there texts None many i done = refl
 by_flags there texts (Some prefs) many i done = refl
 
@@ -131,6 +134,19 @@ index_as m i t x place prefs taken texts formed many are there taken_is texts_is
     ∙ by_flags taken texts prefs many i done
     ∙ ap (λ (b : Bool). check_flags taken texts b many i (done_by prefs done)) (sym formed_is)
 
+-- no check holds of what is done
+index_free : (m : StoreState) (i t : List ℕ) (x : Table) (place : ℕ) (prefs : Prefs) (n : StoreState) (reply : List ℕ) → get m.tables t ≡ Some x
+    → create_index_on m i t x place (Some prefs) ≡ Does n reply → IsFreeIndex m i t x place
+index_free m i t x place prefs n reply there is =
+    let p = passed _ _ _ n reply is in
+    let q = passed _ _ _ n reply p.1 in
+    let r = passed _ _ _ n reply q.1 in
+    record { there = there; free = p.0; texts = not_false (is_text_at x.columns place) q.0; few = r.0 }
+  where
+    not_false : (b : Bool) → not b ≡ false → b ≡ true
+    not_false true h = refl
+    not_false false h = cc
+
 -- the effect by the fault that the checks of what was read found, or where they found none
 module _ (m : StoreState) (i t : List ℕ) (x : Table) (place : ℕ) (prefs : Option Prefs) (taken texts formed many : Bool) (found : Option Fault) (are : AreTables m.tables) (there : get m.tables t ≡ Some x)
     (taken_is : taken ≡ (is_some (get m.indexes i) || has_index_on Context m.indexes t place)) (texts_is : texts ≡ is_text_at x.columns place) (formed_is : formed ≡ is_some prefs) (many_is : many ≡ nat_le index_limit (length (indexes_on m.indexes t)))
@@ -144,20 +160,12 @@ module _ (m : StoreState) (i t : List ℕ) (x : Table) (place : ℕ) (prefs : Op
   pub faulty : (fault : Fault) → found ≡ Some fault → create_index_on m i t x place prefs ≡ Refused (refusal_of fault)
   faulty fault is = as_checked ∙ refused found fault (check_flags taken texts formed many i made) made is (checks made)
 
-  pub faultless : found ≡ None → create_index_on m i t x place prefs ≡ done_by prefs (λ prefs. Does (with_new_index m i t place prefs) index_created)
-  faultless is = as_checked ∙ checked found (check_flags taken texts formed many i made) made is (checks made)
-
--- no check holds of what is done
-pub index_free : (m : StoreState) (i t : List ℕ) (x : Table) (place : ℕ) (prefs : Prefs) (n : StoreState) (reply : List ℕ) → get m.tables t ≡ Some x → create_index_on m i t x place (Some prefs) ≡ Does n reply → IsFreeIndex m i t x place
-index_free m i t x place prefs n reply there is =
-    let p = passed _ _ _ n reply is in
-    let q = passed _ _ _ n reply p.1 in
-    let r = passed _ _ _ n reply q.1 in
-    record { there = there; free = p.0; texts = not_false (is_text_at x.columns place) q.0; few = r.0 }
-  where
-    not_false : (b : Bool) → not b ≡ false → b ≡ true
-    not_false true h = refl
-    not_false false h = cc
+  -- where there are preferences, no check holds, and the index is made
+  pub faultless : (p : Prefs) → found ≡ None → prefs ≡ Some p → IsFreeIndex m i t x place × (create_index_on m i t x place prefs ≡ Does (with_new_index m i t place p) index_created)
+  faultless p none is =
+      let effect : create_index_on m i t x place prefs ≡ Does (with_new_index m i t place p) index_created =
+      as_checked ∙ checked found (check_flags taken texts formed many i made) made none (checks made) ∙ ap (λ (o : Option Prefs). done_by o (λ prefs. Does (with_new_index m i t place prefs) index_created)) is in
+      (index_free m i t x place p (with_new_index m i t place p) index_created there (sym (ap (create_index_on m i t x place) is) ∙ effect), effect)
 
 -- ---- the table and the column
 
@@ -168,27 +176,30 @@ no_table m t o is none = go (get m.tables t) (sym none ∙ is)
     go None h = refl
     go (Some x) h = cc
 
-pub the_table : (m : StoreState) (t : List ℕ) (o : Option (List Column)) (cs : List Column) → o ≡ option_map (λ (x : Table). x.columns) (get m.tables t) → o ≡ Some cs → (x : Table) × (get m.tables t ≡ Some x) × (cs ≡ x.columns)
+pub the_table : (m : StoreState) (t : List ℕ) (o : Option (List Column)) (cs : List Column)
+    → o ≡ option_map (λ (x : Table). x.columns) (get m.tables t) → o ≡ Some cs → (x : Table) × (get m.tables t ≡ Some x) × (cs ≡ x.columns)
 the_table m t o cs is some = go (get m.tables t) refl (sym some ∙ is)
   where
     go : (p : Option Table) → get m.tables t ≡ p → Some cs ≡ option_map (λ (x : Table). x.columns) p → (x : Table) × (get m.tables t ≡ Some x) × (cs ≡ x.columns)
     go None there h = cc
     go (Some x) there h = (x, there, cc)
 
-pub place_within : (name : List ℕ) (cs : List Column) (place : ℕ) → column_place name cs ≡ Some place → place < length cs
+place_within : (name : List ℕ) (cs : List Column) (place : ℕ) → column_place name cs ≡ Some place → place < length cs
 place_within name cs place is = let far = go 0 cs is in omega (arith, far)
   where
     go : (from : ℕ) (cs : List Column) → place_from from name cs ≡ Some place → place < from + length cs
     go from [] h = cc
     go from (c ∷ cs) h = at_head (same_list name c.name) h (go (suc from) cs)
       where
-        at_head : (b : Bool) → cond b (Some from) (place_from (suc from) name cs) ≡ Some place → (place_from (suc from) name cs ≡ Some place → place < suc from + length cs) → place < from + length (c ∷ cs)
+        at_head : (b : Bool) → cond b (Some from) (place_from (suc from) name cs) ≡ Some place
+            → (place_from (suc from) name cs ≡ Some place → place < suc from + length cs) → place < from + length (c ∷ cs)
         at_head true h rest = let same : from ≡ place = cc in omega (arith, same)
         at_head false h rest = let far = rest h in omega (arith, far)
 
-pub rows_given : (m : StoreState) (on : Target) (t : List ℕ) (place : ℕ) (x : Table) → AreTables m.tables → get m.tables t ≡ Some x → on ≡ target t place → most_given < length (rows_within (table_at m.tables on.table) all_rows) → ⊥
+pub rows_given : (m : StoreState) (on : Target) (t : List ℕ) (place : ℕ) (x : Table) → AreTables m.tables → get m.tables t ≡ Some x
+    → on ≡ target t place → mark_limit < length (rows_within (table_at m.tables on.table) all_rows) → ⊥
 rows_given m on t place x are there is over =
-    let few = leb-true (length (rows_within (table_at m.tables t) all_rows)) most_given (room (kinds.can_create (table_at m.tables t) all_rows) (few_rows m t x are there)) in
+    let few = leb-true (length (rows_within (table_at m.tables t) all_rows)) mark_limit (room (kinds.can_create (table_at m.tables t) all_rows) (few_rows m t x are there)) in
     let same = ap (λ (y : Target). length (rows_within (table_at m.tables y.table) all_rows)) is in
     omega (arith, few, same, over)
   where
@@ -201,21 +212,41 @@ rows_given m on t place x are there is over =
 pub unknown_table : (m : StoreState) (i t column : List ℕ) (parameters : Option (List ℕ)) → get m.tables t ≡ None → create_index m i t column parameters ≡ Refused (UnknownName t)
 unknown_table m i t column parameters none = ap (λ (o : Option Table). with_found o (UnknownName t) (λ (x : Table). with_found (column_place column x.columns) (UnknownName column) (λ (place : ℕ). create_index_by m i t (requests_in parameters) x place))) none
 
-pub unknown_column : (m : StoreState) (i t column : List ℕ) (parameters : Option (List ℕ)) (x : Table) → get m.tables t ≡ Some x → column_place column x.columns ≡ None → create_index m i t column parameters ≡ Refused (UnknownName column)
+pub unknown_column : (m : StoreState) (i t column : List ℕ) (parameters : Option (List ℕ)) (x : Table) → get m.tables t ≡ Some x
+    → column_place column x.columns ≡ None → create_index m i t column parameters ≡ Refused (UnknownName column)
 unknown_column m i t column parameters x there none =
     ap (λ (o : Option Table). with_found o (UnknownName t) (λ (x : Table). with_found (column_place column x.columns) (UnknownName column) (λ (place : ℕ). create_index_by m i t (requests_in parameters) x place))) there
     ∙ ap (λ (o : Option ℕ). with_found o (UnknownName column) (λ (place : ℕ). create_index_by m i t (requests_in parameters) x place)) none
 
-pub known_column : (m : StoreState) (i t column : List ℕ) (parameters : Option (List ℕ)) (x : Table) (place : ℕ) → get m.tables t ≡ Some x → column_place column x.columns ≡ Some place → create_index m i t column parameters ≡ create_index_by m i t (requests_in parameters) x place
+known_column : (m : StoreState) (i t column : List ℕ) (parameters : Option (List ℕ)) (x : Table) (place : ℕ) → get m.tables t ≡ Some x
+    → column_place column x.columns ≡ Some place → create_index m i t column parameters ≡ create_index_by m i t (requests_in parameters) x place
 known_column m i t column parameters x place there some =
     ap (λ (o : Option Table). with_found o (UnknownName t) (λ (x : Table). with_found (column_place column x.columns) (UnknownName column) (λ (place : ℕ). create_index_by m i t (requests_in parameters) x place))) there
     ∙ ap (λ (o : Option ℕ). with_found o (UnknownName column) (λ (place : ℕ). create_index_by m i t (requests_in parameters) x place)) some
 
+-- The column stands at this place of the table with these columns, and the effect is by both.
+pub record IsOnColumn (m : StoreState) (i t column : List ℕ) (parameters : Option (List ℕ)) (columns : List Column) (place : ℕ) : Type 0 where
+  pub table : Table
+  pub there : get m.tables t ≡ Some table
+  pub same : columns ≡ table.columns
+  pub few : place < length table.columns
+  pub effect : create_index m i t column parameters ≡ create_index_by m i t (requests_in parameters) table place
+
+pub on_column : (m : StoreState) (i t column : List ℕ) (parameters : Option (List ℕ)) (found : Option (List Column)) (columns : List Column) (place : ℕ) → found ≡ option_map (λ (x : Table). x.columns) (get m.tables t)
+    → found ≡ Some columns → column_place column columns ≡ Some place → IsOnColumn m i t column parameters columns place
+on_column m i t column parameters found columns place read some is =
+    let x = the_table m t found columns read some in
+    let at : column_place column x.0.columns ≡ Some place = ap (column_place column) (sym x.2) ∙ is in
+    record { table = x.0; there = x.1; same = x.2; few = place_within column x.0.columns place at; effect = known_column m i t column parameters x.0 place x.1 at }
+
 -- and by what PARAMETERS asks for
-pub unknown_preference : (m : StoreState) (i t : List ℕ) (requests : Option (List Request)) (x : Table) (place : ℕ) (name : List ℕ) → unknown_asked m.preferences requests ≡ Some name → create_index_by m i t requests x place ≡ Refused (UnknownName name)
+pub unknown_preference : (m : StoreState) (i t : List ℕ) (requests : Option (List Request)) (x : Table) (place : ℕ) (name : List ℕ)
+    → unknown_asked m.preferences requests ≡ Some name → create_index_by m i t requests x place ≡ Refused (UnknownName name)
 unknown_preference m i t requests x place name is = ap (λ (o : Option (List ℕ)). refuse_by o UnknownName (create_index_on m i t x place (prefs_asked m.preferences requests))) is
 
-pub known_preferences : (m : StoreState) (i t : List ℕ) (requests : Option (List Request)) (x : Table) (place : ℕ) (prefs : Option Prefs) → unknown_asked m.preferences requests ≡ None → prefs ≡ prefs_asked m.preferences requests → create_index_by m i t requests x place ≡ create_index_on m i t x place prefs
+pub known_preferences : (m : StoreState) (i t : List ℕ) (requests : Option (List Request)) (x : Table) (place : ℕ) (prefs : Option Prefs)
+    → unknown_asked m.preferences requests ≡ None → prefs ≡ prefs_asked m.preferences requests
+    → create_index_by m i t requests x place ≡ create_index_on m i t x place prefs
 known_preferences m i t requests x place prefs none is =
     ap (λ (o : Option (List ℕ)). refuse_by o UnknownName (create_index_on m i t x place (prefs_asked m.preferences requests))) none
     ∙ ap (create_index_on m i t x place) (sym is)

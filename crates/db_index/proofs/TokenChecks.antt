@@ -7,7 +7,7 @@ use Rattle.std.specs.FinMap.{get}
 use Rattle.ct_base.specs.Limits.{text_limit}
 use Rattle.tx_settings.specs.declared.attributes.Setting.{Setting}
 use Rattle.st_parse.specs.declared.statements.Arg.{Arg}
-use Rattle.db_call.specs.Arguments.{name_at}
+use Rattle.db_call.specs.Arguments.{argument_name}
 use Rattle.db_cond.specs.Faults.{UnknownName, WrongValues, ValueTooLong, BadValue}
 use Rattle.db_state.specs.States.{StoreState}
 use Rattle.db_state.specs.Effects.{Effect, Refused, Does, refuse_by, state_by}
@@ -18,27 +18,27 @@ use Rattle.db_index.specs.Tokenizing.{lexer_name, policy_tokens, reads_no_prefer
 
 pub by_default : (m : StoreState) (args : List Arg) → reads_no_preference args ≡ true → policy_tokens m args ≡ tokens_asked m (Some []) args
 by_default m args few =
-    ap (λ (b : Bool). refuse_by (unknown_lexer m.preferences (if b then None else name_at 0 args)) UnknownName (tokens_asked m (if b then Some [] else option_and_then (get m.preferences.lexers) (name_at 0 args)) args)) few
+    ap (λ (b : Bool). refuse_by (unknown_lexer m.preferences (if b then None else argument_name 0 args)) UnknownName (tokens_asked m (if b then Some [] else option_and_then (get m.preferences.lexers) (argument_name 0 args)) args)) few
 
 module _ (m : StoreState) (args : List Arg) (more : reads_no_preference args ≡ false) where
   abbrev by_name : Option (List ℕ) → Effect
   by_name name = refuse_by (unknown_lexer m.preferences name) UnknownName (tokens_asked m (option_and_then (get m.preferences.lexers) name) args)
 
-  named : (name : Option (List ℕ)) → name ≡ name_at 0 args → policy_tokens m args ≡ by_name name
+  named : (name : Option (List ℕ)) → name ≡ argument_name 0 args → policy_tokens m args ≡ by_name name
   named name is =
-      ap (λ (b : Bool). refuse_by (unknown_lexer m.preferences (if b then None else name_at 0 args)) UnknownName (tokens_asked m (if b then Some [] else option_and_then (get m.preferences.lexers) (name_at 0 args)) args)) more
+      ap (λ (b : Bool). refuse_by (unknown_lexer m.preferences (if b then None else argument_name 0 args)) UnknownName (tokens_asked m (if b then Some [] else option_and_then (get m.preferences.lexers) (argument_name 0 args)) args)) more
       ∙ ap by_name (sym is)
 
-  pub badly_named : None ≡ name_at 0 args → policy_tokens m args ≡ tokens_asked m None args
+  pub badly_named : None ≡ argument_name 0 args → policy_tokens m args ≡ tokens_asked m None args
   badly_named is = named None is
 
   abbrev by_settings : List ℕ → Option (List Setting) → Effect
   by_settings name settings = refuse_by (if is_some settings then None else Some name) UnknownName (tokens_asked m settings args)
 
-  pub lexer_unknown : (name : List ℕ) → Some name ≡ name_at 0 args → None ≡ get m.preferences.lexers name → policy_tokens m args ≡ Refused (UnknownName name)
+  pub lexer_unknown : (name : List ℕ) → Some name ≡ argument_name 0 args → None ≡ get m.preferences.lexers name → policy_tokens m args ≡ Refused (UnknownName name)
   lexer_unknown name is none = named (Some name) is ∙ ap (by_settings name) (sym none)
 
-  pub lexer_known : (name : List ℕ) (settings : List Setting) → Some name ≡ name_at 0 args → Some settings ≡ get m.preferences.lexers name → policy_tokens m args ≡ tokens_asked m (Some settings) args
+  pub lexer_known : (name : List ℕ) (settings : List Setting) → Some name ≡ argument_name 0 args → Some settings ≡ get m.preferences.lexers name → policy_tokens m args ≡ tokens_asked m (Some settings) args
   lexer_known name settings is some = named (Some name) is ∙ ap (by_settings name) (sym some)
 
 -- ---- the state stays

@@ -1,11 +1,9 @@
 -- What CREATE INDEX does.
-use Rattle.std.specs.Prelude.{ℕ, zero, suc, pos, negsuc, ◌-◌, ◌^◌, ◌≡◌, nat_le, Bool, true, false, not, ◌||◌, is_some, ◌<◌, List, [], ◌∷◌, length, Option, Some, None, Result, IfOk, MatchOption, codes, refl}
+use Rattle.std.specs.Prelude.{ℕ, pos, negsuc, ◌-◌, ◌^◌, ◌≡◌, nat_le, Bool, true, false, not, ◌||◌, is_some, ◌<◌, List, [], length, Option, Some, None, Result, IfOk, MatchOption, codes, refl}
 use Rattle.std.specs.List.{list_any}
 use Rattle.std.specs.Option.{option_and_then}
 use Rattle.std.specs.FinMap.{get, entries}
 use Rattle.ct_entry.specs.Maps.{Names}
-use Rattle.tb_table.specs.declared.columns.Sort.{Sort}
-use Rattle.tb_table.specs.declared.columns.Sort.TheVariants.{Number, Varchar2, Clob}
 use Rattle.tb_table.specs.declared.columns.Column.{Column}
 use Rattle.tb_table.specs.declared.columns.Target.{Target}
 use Rattle.tb_table.specs.Tables.{Table, docs_columns}
@@ -16,6 +14,7 @@ use Rattle.tx_prefs.specs.Preferences.{Preferences}
 use Rattle.tx_prefs.specs.Requests.{requests_of, requested_parameters, unknown_in}
 use Rattle.tx_prefs.specs.Copies.{copied}
 use Rattle.ix_context.specs.declared.ranges.KeyRange.{KeyRange}
+use Rattle.ix_kinds.specs.Targets.{is_text_at}
 use Rattle.ix_kinds.specs.Rows.{table_at}
 use Rattle.ix_kinds.specs.Statements.{with_index}
 use Rattle.db_names.specs.declared.heads.IndexKind.{IndexKind}
@@ -32,17 +31,6 @@ use Rattle.ct_entry.specs.Changes.{spell}
 use Rattle.db_state.specs.declared.plans.Plan.{Plan}
 use Rattle.db_index.specs.declared.asking.Asked.{Asked}
 use Rattle.db_state.specs.Plans.{IsPlan, DoneLines, line_for_all}
-
-abbrev pub is_text_sort : Sort → Bool
-is_text_sort Number = false
-is_text_sort (Varchar2 size) = true
-is_text_sort Clob = true
-
--- whether a column of texts stands at a place
-abbrev pub is_text_at : List Column → ℕ → Bool
-is_text_at [] place = false
-is_text_at (c ∷ cs) zero = is_text_sort c.sort
-is_text_at (c ∷ cs) (suc place) = is_text_at cs place
 
 -- whether a column, by its place in the table, has an index of this kind
 abbrev pub has_index_on : IndexKind → Names Index → List ℕ → ℕ → Bool
@@ -138,7 +126,11 @@ MakesIndex m i t place prefs batch = MatchOption batch ⊥ (λ changes. changes 
 abbrev pub MakesFreeIndex : StoreState → List ℕ → List ℕ → ℕ → Prefs → Result (Option (List (List ℕ × Option (List ℕ)))) KeepFault → Type 0
 MakesFreeIndex m i t place prefs result = (x : Table) → place < 256 → IsFreeIndex m i t x place → IfOk result (MakesIndex m i t place prefs)
 
--- what the statement comes to on a column, by its place, of a table with these columns
+-- what the statement comes to where no check holds
+abbrev pub PlansFreeIndex : StoreState → Content → List ℕ → List ℕ → ℕ → Prefs → Result Plan KeepFault → Type 0
+PlansFreeIndex m c i t place prefs result = (x : Table) → place < 256 → IsFreeIndex m i t x place → IfOk result (IsPlan (Does (with_new_index m i t place prefs) index_created) index_created c)
+
+-- what it comes to on a column, by its place, of a table with these columns
 abbrev pub PlansIndex : StoreState → Content → Table → List ℕ → List ℕ → List Column → ℕ → Option Prefs → Result Plan KeepFault → Type 0
 PlansIndex m c x i t columns place prefs result = place < 256 → columns ≡ x.columns → IfOk result (IsPlan (create_index_on m i t x place prefs) index_created c)
 

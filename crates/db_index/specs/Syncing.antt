@@ -4,7 +4,7 @@ use Rattle.std.specs.Char.{to_ascii_lowercase, is_ascii_digit}
 use Rattle.std.specs.FinMap.{get}
 use Rattle.st_parse.specs.declared.statements.Arg.{Arg}
 use Rattle.st_parse.specs.declared.statements.Arg.TheVariants.{Text as TextArg, Number as NumberArg}
-use Rattle.db_call.specs.Arguments.{are_texts, name_at}
+use Rattle.db_call.specs.Arguments.{are_texts, argument_name}
 use Rattle.ct_entry.specs.Changes.{spell}
 use Rattle.ix_kinds.specs.Rows.{table_at}
 use Rattle.ix_kinds.specs.Statements.{indexes_after_sync}
@@ -69,7 +69,7 @@ has_index m None = false
 has_index m (Some i) = is_some (get m.indexes i)
 
 abbrev pub sync_index : StoreState → List Arg → Effect
-sync_index m args = check_sync (unknown_name (has_index m (name_at 0 args)) (name_at 0 args)) args (sync_named m (name_at 0 args))
+sync_index m args = check_sync (unknown_name (has_index m (argument_name 0 args)) (argument_name 0 args)) args (sync_named m (argument_name 0 args))
 
 -- ---- what its functions give
 
@@ -88,12 +88,14 @@ no_unit : is_memory_size (codes "16") ≡ false
 no_unit = refl
 
 -- the name that no index has comes before the number of arguments
-unknown_and_too_many : (done : Effect) → check_sync (unknown_name false (name_at 0 (TextArg (codes "nope") ∷ NumberArg (Fits (pos 1)) ∷ NumberArg (Fits (pos 2)) ∷ []))) (TextArg (codes "nope") ∷ NumberArg (Fits (pos 1)) ∷ NumberArg (Fits (pos 2)) ∷ []) done
+unknown_and_too_many : (done : Effect)
+    → check_sync (unknown_name false (argument_name 0 (TextArg (codes "nope") ∷ NumberArg (Fits (pos 1)) ∷ NumberArg (Fits (pos 2)) ∷ []))) (TextArg (codes "nope") ∷ NumberArg (Fits (pos 1)) ∷ NumberArg (Fits (pos 2)) ∷ []) done
     ≡ Refused (UnknownName (codes "nope"))
 unknown_and_too_many done = refl
 
 -- a text that isn't spelt as a name is none that could be unknown
-no_name_and_a_number : (done : Effect) → check_sync (unknown_name false (name_at 0 (TextArg (codes "no name") ∷ NumberArg (Fits (pos 1)) ∷ []))) (TextArg (codes "no name") ∷ NumberArg (Fits (pos 1)) ∷ []) done
+no_name_and_a_number : (done : Effect)
+    → check_sync (unknown_name false (argument_name 0 (TextArg (codes "no name") ∷ NumberArg (Fits (pos 1)) ∷ []))) (TextArg (codes "no name") ∷ NumberArg (Fits (pos 1)) ∷ []) done
     ≡ Refused WrongValues
 no_name_and_a_number done = refl
 
@@ -103,5 +105,5 @@ no_name_alone m = refl
 bad_size : (done : Effect) → check_sync (unknown_name true (Some (codes "di"))) (TextArg (codes "di") ∷ TextArg (codes "16") ∷ []) done ≡ Refused BadValue
 bad_size done = refl
 
-in_any_case : name_at 0 (TextArg (codes "DI") ∷ []) ≡ Some (codes "di")
+in_any_case : argument_name 0 (TextArg (codes "DI") ∷ []) ≡ Some (codes "di")
 in_any_case = refl

@@ -20,7 +20,7 @@ use Rattle.st_parse.specs.declared.statements.Arg.{Arg}
 use Rattle.st_parse.specs.declared.statements.Arg.TheVariants.{Text as TextArg, Number as NumberArg, Flag}
 use Rattle.st_parse.specs.declared.statements.Whole.TheVariants.{Fits}
 use Rattle.ct_base.specs.Limits.{text_limit}
-use Rattle.db_call.specs.Arguments.{are_texts, name_at, text_at}
+use Rattle.db_call.specs.Arguments.{are_texts, argument_name, argument_text}
 use Rattle.db_cond.specs.Faults.{UnknownName, WrongValues, ValueTooLong, BadValue}
 use Rattle.db_cond.specs.Lines.{line}
 use Rattle.db_state.specs.States.{StoreState, empty_state}
@@ -46,11 +46,11 @@ reads_no_preference args = nat_lt (length args) 2
 
 -- the name of a lexer preference, where there are at least two arguments and the first is a text that spells a name
 abbrev pub lexer_name : List Arg → Option (List ℕ)
-lexer_name args = if reads_no_preference args then None else name_at 0 args
+lexer_name args = if reads_no_preference args then None else argument_name 0 args
 
 -- the text whose tokens are asked for, where the arguments are one text or two
 abbrev pub text_asked : List Arg → Option (List ℕ)
-text_asked args = if are_texts 1 args then text_at 0 args else (if are_texts 2 args then text_at 1 args else None)
+text_asked args = if are_texts 1 args then argument_text 0 args else (if are_texts 2 args then argument_text 1 args else None)
 
 -- ---- what they mean
 
@@ -60,7 +60,7 @@ unknown_lexer ps name = unknown_or None Lexer name ps
 
 -- The settings of the preference that is named; where none may be named, no settings, which is the default. None where the first of two arguments spells no name, or no preference has it.
 abbrev pub settings_asked : Preferences → List Arg → Option (List Setting)
-settings_asked ps args = if reads_no_preference args then Some [] else option_and_then (get ps.lexers) (name_at 0 args)
+settings_asked ps args = if reads_no_preference args then Some [] else option_and_then (get ps.lexers) (argument_name 0 args)
 
 -- What follows where no name is unknown: the arguments are one text or two, the text isn't too long, and there are settings, which are missing where the name is badly spelt.
 abbrev pub tokens_asked : StoreState → Option (List Setting) → List Arg → Effect

@@ -1,8 +1,8 @@
 //! DROP INDEX.
-#![tactic(auto, using(ct_keep::specs::Composing::reads_on, ct_keep::specs::Composing::reads_short, ct_keep::specs::Composing::accepts_on))]
+#![tactic(auto, using(ct_keep::specs::laws::Composing::reads_on, ct_keep::specs::laws::Composing::reads_short, ct_keep::specs::laws::Composing::accepts_on))]
 
 ghost use Rattle.std.specs.Prelude.{◌≡◌, IfOk, Some, Err};
-ghost use Rattle.ct_keep.specs.Laws.{changes_weight};
+ghost use Rattle.ct_keep.specs.Content.{changes_weight};
 ghost use Rattle.ct_keep.specs.KeeperViews.{Finds, OnlyReads, Told};
 ghost use Rattle.ct_entry.specs.Changes.{spell};
 ghost use Rattle.db_state.specs.Plans.{IsRemoval, IsStorePlan, Plans, Replies, line_for_all};

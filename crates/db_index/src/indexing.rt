@@ -1,5 +1,5 @@
 //! CREATE INDEX.
-#![tactic(auto, using(ct_keep::specs::Composing::reads_on, ct_keep::specs::Composing::reads_short, ct_keep::specs::Composing::accepts_on))]
+#![tactic(auto, using(ct_keep::specs::laws::Composing::reads_on, ct_keep::specs::laws::Composing::reads_short, ct_keep::specs::laws::Composing::accepts_on))]
 
 ghost use Rattle.std.specs.Prelude.{◌≡◌, ◌<◌, ◌∷◌, [], IfOk, IfSome, Some, None, nat_le, length, true};
 ghost use Rattle.ct_keep.specs.KeeperViews.{OnlyReads, Told};
@@ -10,7 +10,8 @@ ghost use Rattle.tb_table.specs.Tables.{Table};
 ghost use Rattle.tx_settings.specs.Attributes.{can_be_set};
 ghost use Rattle.db_state.specs.States.{OverStates, OverNamedTable, indexes_on, index_limit, Sees};
 ghost use Rattle.db_state.specs.Effects.{Effect, Checks};
-ghost use Rattle.db_index.specs.Indexing.{MakesFreeIndex, PlansAsked, PlansIndex, check_flags, create_index as create_index_effect, has_index_on as column_has_index, index_made, is_index_taken, is_text_at as text_at, is_text_sort as sort_of_texts};
+ghost use Rattle.db_index.specs.Indexing.{MakesFreeIndex, PlansAsked, PlansFreeIndex, PlansIndex, check_flags, create_index as create_index_effect, has_index_on as column_has_index, index_made, is_index_taken};
+ghost use Rattle.ix_kinds.specs.Targets.{is_text_at as text_at, is_text_sort as sort_of_texts};
 ghost use Rattle.db_state.specs.Plans.{IsStorePlan, Replies};
 ghost use Rattle.db_state.specs.Shapes.{AcceptsStatements, AreStoreChanges};
 
@@ -24,6 +25,7 @@ use db_state::{
 };
 use ix_context::{ContextFault, KeyRange, create};
 use std::alloc::Global;
+use std::thread::Threads;
 use tb_table::{Column, Sort};
 use tx_settings::Prefs;
 
@@ -139,8 +141,10 @@ fn index_fault<'a>(
 
 /// The changes of a new index on a column, by its place; None where the index would need more documents than there are numbers,
 /// or there is no such place.
-fn created<K: Keeper>(
+fn created<R: Threads + Sync, K: Keeper>(
+    rt: &R,
     alloc: Global,
+    degree: u32,
     keeper: &mut K,
     index: &Name,
     table: &Name,
@@ -159,7 +163,9 @@ fn created<K: Keeper>(
     let target = target_of(table, column)?;
     let mut batch = Batch::new(alloc);
     match create(
+        rt,
         alloc,
+        degree,
         keeper,
         &mut batch,
         index,
@@ -174,9 +180,38 @@ fn created<K: Keeper>(
     }
 }
 
-/// What CREATE INDEX comes to on a column of a table that is there.
-fn plan_on<'a, K: Keeper>(
+/// The plan of an index of which no check holds.
+fn free_plan<'a, R: Threads + Sync, K: Keeper>(
+    rt: &R,
     alloc: Global,
+    degree: u32,
+    keeper: &mut K,
+    index: &Name,
+    table: &Name,
+    place: usize,
+    prefs: &Prefs,
+) -> Result<Plan<'a>, KeepFault>
+    requires ready { (K.view keeper.old).ready }
+    requires set { can_be_set prefs.now.lexer ≡ true }
+    ensures plan { OverStates K.view keeper.old (λ m c. PlansFreeIndex m c index.now table.now place prefs.now result) }
+    ensures entries { IfOk result IsStorePlan }
+    ensures reads { OnlyReads K.view keeper.old keeper.new result }
+{
+    // Read so that the proof knows that it is a name.
+    let _named = index.as_str();
+    prefs.keep_rules();
+    let found = created(rt, alloc, degree, keeper, index, table, place, prefs)?;
+    let Some(batch) = found else {
+        return Ok(Plan::Refused(Fault::LimitReached));
+    };
+    Ok(Plan::Done(batch))
+}
+
+/// What CREATE INDEX comes to on a column of a table that is there.
+fn plan_on<'a, R: Threads + Sync, K: Keeper>(
+    rt: &R,
+    alloc: Global,
+    degree: u32,
     keeper: &mut K,
     index: &'a Name,
     table: &Name,
@@ -190,8 +225,6 @@ fn plan_on<'a, K: Keeper>(
     ensures entries { IfOk result IsStorePlan }
     ensures reads { OnlyReads K.view keeper.old keeper.new result }
 {
-    // Read so that the proof knows that it is a name.
-    let _named = index.as_str();
     let there = is_taken(alloc, keeper, index, table, place)?;
     let many = has_most_indexes(alloc, keeper, table)?;
     if let Some(fault) = index_fault(
@@ -206,17 +239,14 @@ fn plan_on<'a, K: Keeper>(
     let Some(prefs) = prefs else {
         unreachable!();
     };
-    prefs.keep_rules();
-    let found = created(alloc, keeper, index, table, place, prefs)?;
-    let Some(batch) = found else {
-        return Ok(Plan::Refused(Fault::LimitReached));
-    };
-    Ok(Plan::Done(batch))
+    free_plan(rt, alloc, degree, keeper, index, table, place, prefs)
 }
 
 /// What CREATE INDEX comes to.
-fn index_plan<'a, K: Keeper>(
+fn index_plan<'a, R: Threads + Sync, K: Keeper>(
+    rt: &R,
     alloc: Global,
+    degree: u32,
     keeper: &mut K,
     index: &'a Name,
     table: &'a Name,
@@ -238,18 +268,30 @@ fn index_plan<'a, K: Keeper>(
     if let Some(name) = &asked.unknown {
         return Ok(Plan::Refused(Fault::UnknownName(name.as_str())));
     }
-    plan_on(alloc, keeper, index, table, &columns, place, &asked.prefs)
+    plan_on(
+        rt,
+        alloc,
+        degree,
+        keeper,
+        index,
+        table,
+        &columns,
+        place,
+        &asked.prefs,
+    )
 }
 
 /// CREATE INDEX of kind CONTEXT: each row of the table becomes a document of the index, which reads texts by a copy of the preferences
 /// that PARAMETERS names. The first of these that holds: E11 where there is no such table, column or preference; E12 where the index
 /// is there, or the column has one; E13 where the column is a NUMBER; E30 where PARAMETERS isn't of its form; E31 where the table has
-/// 16 indexes.
+/// 16 indexes. At most `degree` threads may read the texts.
 ///
 /// Its cost is that of copying the preferences, the length of the entries of all indexes, and what the texts hold, times a logarithm;
 /// all changes are in memory until the commit.
-pub fn create_index<K: Keeper>(
+pub fn create_index<R: Threads + Sync, K: Keeper>(
+    rt: &R,
     alloc: Global,
+    degree: u32,
     keeper: &mut K,
     index: &Name,
     table: &Name,
@@ -263,7 +305,7 @@ pub fn create_index<K: Keeper>(
         Ok(asked) => asked,
         Err(fault) => return Err(fault),
     };
-    match index_plan(alloc, keeper, index, table, column, &asked) {
+    match index_plan(rt, alloc, degree, keeper, index, table, column, &asked) {
         Ok(plan) => carry_out(alloc, keeper, plan, b"Index created.\n"),
         Err(fault) => Err(fault),
     }

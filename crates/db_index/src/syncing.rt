@@ -1,10 +1,10 @@
 //! CTX_DDL.SYNC_INDEX.
-#![tactic(auto, using(ct_keep::specs::Composing::reads_on, ct_keep::specs::Composing::reads_short, ct_keep::specs::Composing::accepts_on))]
+#![tactic(auto, using(ct_keep::specs::laws::Composing::reads_on, ct_keep::specs::laws::Composing::reads_short, ct_keep::specs::laws::Composing::accepts_on))]
 
 ghost use Rattle.std.specs.Prelude.{◌≡◌, IfOk, IfSome, Some, None, Err, true, false};
 ghost use Rattle.std.specs.Option.{option_map};
 ghost use Rattle.ct_keep.specs.KeeperViews.{OnlyReads};
-ghost use Rattle.db_call.specs.Arguments.{name_at as name_there};
+ghost use Rattle.db_call.specs.Arguments.{argument_name as name_there};
 ghost use Rattle.db_state.specs.States.{OverIndex, Sees};
 ghost use Rattle.db_state.specs.Effects.{Effect, Checks};
 ghost use Rattle.db_index.specs.Syncing.{MakesSync, are_sync_args as sync_args, check_sync, has_index as has_named_index, is_bad_size as bad_size, is_memory_size as memory_size, is_unit as unit_letter, sync_index as sync_effect, unknown_name as name_unknown};
@@ -20,6 +20,7 @@ use db_state::{Plan, carry_out, has_index};
 use ix_context::{ContextFault, sync};
 use st_parse::Arg;
 use std::alloc::Global;
+use std::thread::Threads;
 
 /// Whether the arguments are one text, or two.
 fn are_sync_args(args: &[Arg]) -> bool
@@ -108,8 +109,10 @@ fn has_named<K: Keeper>(
 }
 
 /// The changes of a synchronisation; None where the index would need more documents than there are numbers.
-fn synced<K: Keeper>(
+fn synced<R: Threads + Sync, K: Keeper>(
+    rt: &R,
     alloc: Global,
+    degree: u32,
     keeper: &mut K,
     index: &Name,
 ) -> Result<Option<Batch>, KeepFault>
@@ -119,7 +122,7 @@ fn synced<K: Keeper>(
     ensures reads { OnlyReads K.view keeper.old keeper.new result }
 {
     let mut batch = Batch::new(alloc);
-    match sync(alloc, keeper, &mut batch, index) {
+    match sync(rt, alloc, degree, keeper, &mut batch, index) {
         Ok(()) => Ok(Some(batch)),
         Err(ContextFault::TooMany) => Ok(None),
         Err(ContextFault::Memory) => Err(KeepFault::Memory),
@@ -128,8 +131,10 @@ fn synced<K: Keeper>(
 }
 
 /// What a synchronisation comes to: of the index of this name, by these arguments.
-fn sync_plan<'a, K: Keeper>(
+fn sync_plan<'a, R: Threads + Sync, K: Keeper>(
+    rt: &R,
     alloc: Global,
+    degree: u32,
     keeper: &mut K,
     name: &'a Option<Name>,
     args: &[Arg],
@@ -147,7 +152,7 @@ fn sync_plan<'a, K: Keeper>(
     let Some(index) = name else {
         return Ok(Plan::Refused(Fault::BadValue));
     };
-    let found = synced(alloc, keeper, index)?;
+    let found = synced(rt, alloc, degree, keeper, index)?;
     let Some(batch) = found else {
         return Ok(Plan::Refused(Fault::LimitReached));
     };
@@ -156,9 +161,12 @@ fn sync_plan<'a, K: Keeper>(
 
 /// CTX_DDL.SYNC_INDEX: each row that waits becomes a document of the index. The first of these that holds: E11 where no index has the
 /// name; E13 where the arguments are neither one text nor two; E30 where the first spells no name, or the second no size of memory;
-/// E31 where the index would have over 2^32 - 2 documents. Its cost is what the texts hold, times a logarithm.
-pub fn sync_index<K: Keeper>(
+/// E31 where the index would have over 2^32 - 2 documents. At most `degree` threads may read the texts. Its cost is what the texts
+/// hold, times a logarithm.
+pub fn sync_index<R: Threads + Sync, K: Keeper>(
+    rt: &R,
     alloc: Global,
+    degree: u32,
     keeper: &mut K,
     args: &[Arg],
 ) -> Result<Vec<u8>, KeepFault>
@@ -166,7 +174,7 @@ pub fn sync_index<K: Keeper>(
     ensures { Replies K.view keeper.old keeper.new result (λ m. sync_effect m args.now) (Some (line_for_all call_done)) }
 {
     let name = name_at(alloc, args, 0)?;
-    match sync_plan(alloc, keeper, &name, args) {
+    match sync_plan(rt, alloc, degree, keeper, &name, args) {
         Ok(plan) => carry_out(
             alloc,
             keeper,

@@ -1,5 +1,5 @@
 //! CTX_DOC.POLICY_TOKENS.
-#![tactic(auto, using(ct_keep::specs::Composing::reads_none, ct_keep::specs::Composing::reads_on, ct_keep::specs::Composing::reads_short))]
+#![tactic(auto, using(ct_keep::specs::laws::Composing::reads_none, ct_keep::specs::laws::Composing::reads_on, ct_keep::specs::laws::Composing::reads_short))]
 
 ghost use Rattle.std.specs.Prelude.{◌≡◌, ◌++◌, map, IfOk, OnOk, None, true, false, length, nat_lt};
 ghost use Rattle.std.specs.Option.{option_map};

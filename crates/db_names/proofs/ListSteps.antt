@@ -14,15 +14,15 @@ use Rattle.std.proofs.lemmas.List.Elements.{All-head, All-tail}
 use Rattle.std.proofs.lemmas.Map.Lookups.{exact_bytes}
 use Rattle.ct_keep.specs.Content.{Content}
 use Rattle.std.proofs.lemmas.Bool.{and_parts, and_from}
-use Rattle.ct_keep.specs.RisingKeys.{below, rises, entries_rise}
+use Rattle.ct_keep.specs.laws.RisingKeys.{below, rises, entries_rise}
 use Rattle.ct_keep.specs.Tail.{tail}
-use Rattle.ct_keep.specs.TailLaws.{get-tail}
+use Rattle.ct_keep.specs.laws.Tail.{get-tail}
 use Rattle.ct_entry.specs.declared.kinds.Kind.TheVariants as entry
 use Rattle.ct_entry.specs.Kinds.{code}
 use Rattle.ct_entry.specs.Keys.{key, at, counted_bytes, same_list}
 use Rattle.ct_base.specs.laws.Orders.{equal_from_test}
 use Rattle.ct_entry.specs.laws.Keys.{list_from_same, list_same}
-use Rattle.ct_keep.specs.FoundKeys.{none_below, below_tied}
+use Rattle.ct_keep.specs.laws.FoundKeys.{none_below, below_tied}
 use Rattle.ct_entry.specs.Listings.{key_order}
 use Rattle.tb_table.specs.declared.columns.Target.{Target}
 use Rattle.db_names.specs.declared.heads.IndexKind.{IndexKind}

@@ -2,7 +2,7 @@
 use Rattle.std.specs.Prelude.{Bool, ℕ, ◌≡◌, ◌↔◌, true, List, [], Option, Some, None, ◌∷◌, ◌++◌, false, codes, refl}
 use Rattle.std.specs.Map.{lookup}
 use Rattle.ct_base.specs.Names.{IsName}
-use Rattle.ct_keep.specs.RisingKeys.{rises}
+use Rattle.ct_keep.specs.laws.RisingKeys.{rises}
 use Rattle.ct_entry.specs.declared.kinds.Kind.TheVariants as entry
 use Rattle.ct_entry.specs.Keys.{Key, key, same_list, same_key}
 use Rattle.ct_entry.specs.Listings.{key_order}

@@ -1,5 +1,5 @@
 //! Indexes by what they are on.
-#![tactic(auto, using(ct_keep::specs::Composing::reads_short))]
+#![tactic(auto, using(ct_keep::specs::laws::Composing::reads_short))]
 
 ghost use Rattle.std.specs.Prelude.{◌≡◌, ◌∷◌, [], IfOk, OnOk, Some, Err, map};
 ghost use Rattle.ct_keep.specs.Content.{Content};

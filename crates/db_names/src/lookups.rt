@@ -1,5 +1,5 @@
 //! What an index is on, by its name.
-#![tactic(auto, using(ct_keep::specs::Composing::reads_short))]
+#![tactic(auto, using(ct_keep::specs::laws::Composing::reads_short))]
 
 ghost use Rattle.std.specs.Prelude.{◌≡◌, IfOk, OnOk, Some, None, Err, []};
 ghost use Rattle.ct_keep.specs.Content.{Content};

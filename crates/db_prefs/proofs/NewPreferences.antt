@@ -62,7 +62,8 @@ indexes_preferences k h = refl
 
 -- Changes of entries of preferences, after which these spell preferences that keep their rules, leave all else.
 module _ (c : Content) (m : StoreState) (ps : Preferences) (ws : List (Key × Option (List ℕ))) where
-  preferences_stand : StandsForState c m → AllOf is_of_preferences ws → AreChanges ws → PreferencesStand (view ws (at c)) ps → ArePreferences ps → StandsForState (after (spell ws) c) (record m { preferences = ps })
+  preferences_stand : StandsForState c m → AllOf is_of_preferences ws → AreChanges ws → PreferencesStand (view ws (at c)) ps → ArePreferences ps
+      → StandsForState (after (spell ws) c) (record m { preferences = ps })
   preferences_stand stands of are stand rules = record {
     only = only-after ws c stands.only are;
     unbuilt = λ k h. at-after ws c k ∙ told_frame is_of_preferences ws k (at c k) of (preferences_built k.kind h) ∙ stands.unbuilt k h;
@@ -102,20 +103,24 @@ module _ (c : Content) (m : StoreState) (name : List ℕ) (stands : StandsForSta
       (group_stands (at c) m.preferences name group stands.preferences) (record { lexers = rules.lexers; stoplists = rules.stoplists; groups = are })
 
   -- another value of one that is there
-  pub lexer_again : (old settings : List Setting) → get m.preferences.lexers name ≡ Some old → are_lexer_settings settings ≡ true → StandsForState (after (spell (lexer_changes name settings)) c) (record m { preferences = with_lexer m.preferences name settings })
+  pub lexer_again : (old settings : List Setting) → get m.preferences.lexers name ≡ Some old → are_lexer_settings settings ≡ true
+      → StandsForState (after (spell (lexer_changes name settings)) c) (record m { preferences = with_lexer m.preferences name settings })
   lexer_again old settings there keeps = lexer_put settings (rules.lexers.names name old there) (named_again are_lexer_settings m.preferences.lexers name settings old there rules.lexers keeps)
 
-  pub stoplist_again : (old words : List (List ℕ)) → get m.preferences.stoplists name ≡ Some old → are_stopwords words ≡ true → StandsForState (after (spell (stoplist_changes name words)) c) (record m { preferences = with_stoplist m.preferences name words })
+  pub stoplist_again : (old words : List (List ℕ)) → get m.preferences.stoplists name ≡ Some old → are_stopwords words ≡ true
+      → StandsForState (after (spell (stoplist_changes name words)) c) (record m { preferences = with_stoplist m.preferences name words })
   stoplist_again old words there keeps = stoplist_put words (rules.stoplists.names name old there) (named_again are_stopwords m.preferences.stoplists name words old there rules.stoplists keeps)
 
-  pub group_again : (old group : Group) → get m.preferences.groups name ≡ Some old → is_named_group group ≡ true → StandsForState (after (spell (group_changes name group)) c) (record m { preferences = with_group m.preferences name group })
+  pub group_again : (old group : Group) → get m.preferences.groups name ≡ Some old → is_named_group group ≡ true
+      → StandsForState (after (spell (group_changes name group)) c) (record m { preferences = with_group m.preferences name group })
   group_again old group there keeps = group_put group (rules.groups.names name old there) (named_again is_named_group m.preferences.groups name group old there rules.groups keeps)
 
   -- a new one, where there is room for one
   few : (count : ℕ) → nat_le preference_limit count ≡ false → count < preference_limit
   few count room = leb-false preference_limit count room
 
-  pub new_stands : (k : PrefKind) (is_null : Bool) → IsName name → is_kind_full k m.preferences ≡ false → StandsForState (after (spell (new_changes k name is_null)) c) (record m { preferences = with_new k m.preferences name is_null })
+  pub new_stands : (k : PrefKind) (is_null : Bool) → IsName name → is_kind_full k m.preferences ≡ false
+      → StandsForState (after (spell (new_changes k name is_null)) c) (record m { preferences = with_new k m.preferences name is_null })
   new_stands Lexer is_null is_name room = lexer_put [] is_name (named_more are_lexer_settings m.preferences.lexers name [] rules.lexers is_name refl (few (length (entries m.preferences.lexers)) room))
   new_stands Stoplist is_null is_name room = stoplist_put [] is_name (named_more are_stopwords m.preferences.stoplists name [] rules.stoplists is_name refl (few (length (entries m.preferences.stoplists)) room))
   new_stands SectionGroup is_null is_name room =

@@ -55,14 +55,16 @@ pub always_made : {X : Type 0} (found : Option X) (long : ℕ) (x : X) → long 
 always_made None long x short made = absurd (omega (arith, short, made))
 always_made (Some y) long x short made = ap Some made
 
-pub new_lexer : (name : List ℕ) (settings : List Setting) (found : Option (List (List ℕ × Option (List ℕ)))) → settings ≡ [] → MatchOption found (value_limit < length (settings_bytes settings)) (λ batch. batch ≡ spell (lexer_changes name settings))
+pub new_lexer : (name : List ℕ) (settings : List Setting) (found : Option (List (List ℕ × Option (List ℕ)))) → settings ≡ []
+    → MatchOption found (value_limit < length (settings_bytes settings)) (λ batch. batch ≡ spell (lexer_changes name settings))
     → found ≡ Some (spell (lexer_changes name []))
 new_lexer name settings found none made =
     let short = settings_short [] refl in
     always_made found (length (settings_bytes [])) (spell (lexer_changes name [])) (omega (arith, short))
     (subst (λ (ss : List Setting). MatchOption found (value_limit < length (settings_bytes ss)) (λ batch. batch ≡ spell (lexer_changes name ss))) none made)
 
-pub new_stoplist : (name : List ℕ) (words : List (List ℕ)) (found : Option (List (List ℕ × Option (List ℕ)))) → words ≡ [] → MatchOption found (value_limit < length (words_bytes words)) (λ batch. batch ≡ spell (stoplist_changes name words))
+pub new_stoplist : (name : List ℕ) (words : List (List ℕ)) (found : Option (List (List ℕ × Option (List ℕ)))) → words ≡ []
+    → MatchOption found (value_limit < length (words_bytes words)) (λ batch. batch ≡ spell (stoplist_changes name words))
     → found ≡ Some (spell (stoplist_changes name []))
 new_stoplist name words found none made =
     let short = words_short [] refl in
@@ -74,28 +76,33 @@ pub same_batch : {X : Type 0} (found : Option X) (batch made : X) → found ≡ 
 same_batch found batch made is has = let e : Some batch ≡ Some made = sym is ∙ has in cc
 
 -- the plan of the changes by which a content stands for a state
-plan_of : (effect : Effect) (c : Content) (n : StoreState) (ws : List (Key × Option (List ℕ))) (batch : List (List ℕ × Option (List ℕ))) → effect ≡ Does n call_done → batch ≡ spell ws → StandsForState (after (spell ws) c) n → IsPlan effect call_done c (Done batch)
+plan_of : (effect : Effect) (c : Content) (n : StoreState) (ws : List (Key × Option (List ℕ))) (batch : List (List ℕ × Option (List ℕ)))
+    → effect ≡ Does n call_done → batch ≡ spell ws → StandsForState (after (spell ws) c) n → IsPlan effect call_done c (Done batch)
 plan_of effect c n ws batch does is stands = (n, does, subst (λ (b : List (List ℕ × Option (List ℕ))). StandsForState (after b c) n) (sym is) stands)
 
 module _ (c : Content) (m : StoreState) (name : List ℕ) (batch : List (List ℕ × Option (List ℕ))) (stands : StandsForState c m) where
   -- something new
-  pub new_planned : (k : PrefKind) (is_null : Bool) → IsName name → is_kind_full k m.preferences ≡ false → batch ≡ spell (new_changes k name is_null) → IsPlan (new_made k is_null m name) call_done c (Done batch)
+  pub new_planned : (k : PrefKind) (is_null : Bool) → IsName name → is_kind_full k m.preferences ≡ false → batch ≡ spell (new_changes k name is_null)
+      → IsPlan (new_made k is_null m name) call_done c (Done batch)
   new_planned k is_null is_name room is =
       plan_of (new_made k is_null m name) c _ (new_changes k name is_null) batch (passes (is_kind_full k m.preferences) LimitReached _ room) is (new_stands c m name stands k is_null is_name room)
 
   -- an attribute
-  pub attribute_planned : (s : Setting) (old : List Setting) → get m.preferences.lexers name ≡ Some old → are_lexer_settings (with_setting s old) ≡ true → batch ≡ spell (lexer_changes name (with_setting s old))
+  pub attribute_planned : (s : Setting) (old : List Setting) → get m.preferences.lexers name ≡ Some old
+      → are_lexer_settings (with_setting s old) ≡ true → batch ≡ spell (lexer_changes name (with_setting s old))
       → IsPlan (attribute_set s m name old) call_done c (Done batch)
   attribute_planned s old there keeps is = plan_of (attribute_set s m name old) c _ (lexer_changes name (with_setting s old)) batch refl is (lexer_again c m name stands old (with_setting s old) there keeps)
 
   -- a stopword
-  pub stopword_planned : (word : List ℕ) (old : List (List ℕ)) → get m.preferences.stoplists name ≡ Some old → are_stopwords (old ++ word ∷ []) ≡ true → nat_le stop_limit (length old) ≡ false → batch ≡ spell (stoplist_changes name (old ++ word ∷ []))
+  pub stopword_planned : (word : List ℕ) (old : List (List ℕ)) → get m.preferences.stoplists name ≡ Some old
+      → are_stopwords (old ++ word ∷ []) ≡ true → nat_le stop_limit (length old) ≡ false → batch ≡ spell (stoplist_changes name (old ++ word ∷ []))
       → IsPlan (stopword_added word m name old) call_done c (Done batch)
   stopword_planned word old there keeps room is =
       plan_of (stopword_added word m name old) c _ (stoplist_changes name (old ++ word ∷ [])) batch (passes (nat_le stop_limit (length old)) LimitReached _ room) is (stoplist_again c m name stands old (old ++ word ∷ []) there keeps)
 
   -- a section
-  pub section_planned : (kind : SectionKind) (g : Group) (section tag : List ℕ) → get m.preferences.groups name ≡ Some g → is_named_group (with_section g section kind tag) ≡ true → is_good_section g section tag ≡ true → is_full_group g kind section ≡ false
+  pub section_planned : (kind : SectionKind) (g : Group) (section tag : List ℕ) → get m.preferences.groups name ≡ Some g
+      → is_named_group (with_section g section kind tag) ≡ true → is_good_section g section tag ≡ true → is_full_group g kind section ≡ false
       → batch ≡ spell (group_changes name (with_section g section kind tag)) → IsPlan (section_added kind name g m section tag) call_done c (Done batch)
   section_planned kind g section tag there keeps good room is =
       plan_of (section_added kind name g m section tag) c _ (group_changes name (with_section g section kind tag)) batch
@@ -103,7 +110,8 @@ module _ (c : Content) (m : StoreState) (name : List ℕ) (batch : List (List �
       (group_again c m name stands g (with_section g section kind tag) there keeps)
 
   -- sentences or paragraphs
-  pub special_planned : (s : Special) (g : Group) → get m.preferences.groups name ≡ Some g → batch ≡ spell (group_changes name (with_special g s)) → IsPlan (special_added s m name g) call_done c (Done batch)
+  pub special_planned : (s : Special) (g : Group) → get m.preferences.groups name ≡ Some g → batch ≡ spell (group_changes name (with_special g s))
+      → IsPlan (special_added s m name g) call_done c (Done batch)
   special_planned s g there is =
       plan_of (special_added s m name g) c _ (group_changes name (with_special g s)) batch refl is (group_again c m name stands g (with_special g s) there (special_kept s (stands.state.preferences.groups.each name g there)))
     where
@@ -118,9 +126,6 @@ pub settings_fit : (ss : List Setting) → are_lexer_settings ss ≡ true → va
 settings_fit ss are long = let short = settings_short ss are in omega (arith, short, long)
 
 -- ---- stopwords
-
-pub words_fit : (ws : List (List ℕ)) → are_stopwords ws ≡ true → value_limit < length (words_bytes ws) → ⊥
-words_fit ws are long = let short = words_short ws are in omega (arith, short, long)
 
 module _ (word : List ℕ) (length_is : has_stopword_length word ≡ true) (utf8 : is_utf8 word ≡ true) where
   -- a word of 1 to 64 bytes
@@ -144,8 +149,20 @@ module _ (word : List ℕ) (length_is : has_stopword_length word ≡ true) (utf8
       (list_all-append is_text old (word ∷ []) ∙ and_from (list_all is_text old) (is_text word && true) p.1 (and_from (is_text word) true word_is_text refl))
 
   -- and a stoplist
-  pub stopwords_more : (old : List (List ℕ)) → are_stopwords old ≡ true → is_among word old ≡ false → length old < stop_limit → are_stopwords (old ++ word ∷ []) ≡ true
+  stopwords_more : (old : List (List ℕ)) → are_stopwords old ≡ true → is_among word old ≡ false → length old < stop_limit → are_stopwords (old ++ word ∷ []) ≡ true
   stopwords_more old are fresh few = stopwords_kept word old are word_is fresh few
+
+  -- of which a batch was made
+  pub stopword_made : (name : List ℕ) (old given : List (List ℕ)) (found : Option (List (List ℕ × Option (List ℕ)))) → are_stopwords old ≡ true → is_among word old ≡ false → length old < stop_limit → given ≡ old ++ word ∷ []
+      → MatchOption found (value_limit < length (words_bytes given)) (λ batch. batch ≡ spell (stoplist_changes name given))
+      → (are_stopwords (old ++ word ∷ []) ≡ true) × (found ≡ Some (spell (stoplist_changes name (old ++ word ∷ []))))
+  stopword_made name old given found are fresh few is made =
+      let kept = stopwords_more old are fresh few in
+      let short = words_short (old ++ word ∷ []) kept in (
+        kept,
+        always_made found (length (words_bytes (old ++ word ∷ []))) (spell (stoplist_changes name (old ++ word ∷ []))) (omega (arith, short))
+            (subst (λ (ws : List (List ℕ)). MatchOption found (value_limit < length (words_bytes ws)) (λ batch. batch ≡ spell (stoplist_changes name ws))) is made),
+      )
 
 -- ---- sections
 
@@ -160,7 +177,8 @@ module _ (kind : SectionKind) (g : Group) (section tag : List ℕ) where
       of_kind None count h = lt-ltb count section_limit (leb-false section_limit count h)
       of_kind (Some k) count h = refl
 
-  pub section_kept : is_named_group g ≡ true → is_among tag (tag_names g.sections) ≡ false → IsName section → is_good_section g section tag ≡ true → is_full_group g kind section ≡ false → is_named_group (with_section g section kind tag) ≡ true
+  pub section_kept : is_named_group g ≡ true → is_among tag (tag_names g.sections) ≡ false → IsName section → is_good_section g section tag ≡ true
+      → is_full_group g kind section ≡ false → is_named_group (with_section g section kind tag) ≡ true
   section_kept are fresh named good room =
       let p = and_parts (not g.is_null) (not (is_reserved section) && is_tag tag) good in
       let q = and_parts (not (is_reserved section)) (is_tag tag) p.1 in
@@ -168,7 +186,8 @@ module _ (kind : SectionKind) (g : Group) (section tag : List ℕ) where
       groups_kept g section kind tag are (not-true g.is_null p.0) named (not-true (is_reserved section) q.0) q.1 fresh r.0 r.1
 
   -- so it is a group
-  pub section_refused : is_named_group g ≡ true → is_among tag (tag_names g.sections) ≡ false → IsName section → is_good_section g section tag ≡ true → is_full_group g kind section ≡ false → is_group (with_section g section kind tag) ≡ false → ⊥
+  pub section_refused : is_named_group g ≡ true → is_among tag (tag_names g.sections) ≡ false → IsName section → is_good_section g section tag ≡ true
+      → is_full_group g kind section ≡ false → is_group (with_section g section kind tag) ≡ false → ⊥
   section_refused are fresh named good room wrong =
       let kept = and_parts (is_group (with_section g section kind tag)) (list_all (λ (s : Section). is_kept s.name) (with_section g section kind tag).sections) (section_kept are fresh named good room) in
       let clash : false ≡ true = sym wrong ∙ kept.0 in absurd cc

@@ -6,11 +6,11 @@ use Rattle.st_parse.specs.declared.statements.Arg.{Arg}
 use Rattle.st_parse.specs.declared.statements.Arg.TheVariants.{Text, Number, Flag}
 use Rattle.st_parse.specs.declared.statements.Whole.TheVariants.{Fits}
 use Rattle.tx_settings.specs.Attributes.{is_spelt}
-use Rattle.db_call.specs.Arguments.{text_at}
+use Rattle.db_call.specs.Arguments.{argument_text}
 
 -- the text at a place of the arguments in ASCII lower case, as tags are kept
 abbrev pub lower_at : ℕ → List Arg → Option (List ℕ)
-lower_at place args = option_map (map to_ascii_lowercase) (text_at place args)
+lower_at place args = option_map (map to_ascii_lowercase) (argument_text place args)
 
 -- whether they are three texts and a truth value
 abbrev pub are_texts_and_flag : List Arg → Bool

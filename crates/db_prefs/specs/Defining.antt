@@ -27,7 +27,7 @@ use Rattle.tx_prefs.specs.Promises.{kind_count}
 use Rattle.tx_prefs.specs.Spelling.{lexer_changes, stoplist_changes, group_changes}
 use Rattle.tx_prefs.specs.Sees.{has_named, is_kind_full}
 use Rattle.db_cond.specs.Faults.{UnknownName, ExistsAlready, WrongValues, BadValue, LimitReached}
-use Rattle.db_call.specs.Arguments.{text_at, name_at, are_texts}
+use Rattle.db_call.specs.Arguments.{argument_text, argument_name, are_texts}
 use Rattle.db_state.specs.States.{StoreState, StandsForState, empty_state}
 use Rattle.db_state.specs.Effects.{Effect, Refused, Does, refuse, refuse_by, with_found}
 use Rattle.db_state.specs.Lines.{call_done}
@@ -101,7 +101,7 @@ new_made kind is_null m name =
 
 abbrev pub create : PrefKind → StoreState → Option (List ℕ) → List Arg → Effect
 create kind m name args =
-    let text = text_at 1 args in
+    let text = argument_text 1 args in
     check None (taken_name (is_there kind m.preferences name) name) (are_new_args kind args)
     (refuse (not (is_type kind text)) BadValue
     (with_found name BadValue (new_made kind (is_null_type text) m)))
@@ -119,7 +119,7 @@ abbrev pub set_attribute : StoreState → Option (List ℕ) → List Arg → Eff
 set_attribute m name args =
     let found = get_named m.preferences.lexers name in
     check (missing_name (is_some found) name) None (are_texts 3 args)
-    (with_found (setting_of (text_at 1 args) (text_at 2 args)) BadValue (λ (s : Setting).
+    (with_found (setting_of (argument_text 1 args) (argument_text 2 args)) BadValue (λ (s : Setting).
     of_both name found (attribute_set s m)))
 
 -- ---- a stopword
@@ -139,7 +139,7 @@ stopword_added word m name words =
 
 abbrev pub add_stopword : StoreState → Option (List ℕ) → List Arg → Effect
 add_stopword m name args =
-    let word = text_at 1 args in
+    let word = argument_text 1 args in
     let found = get_named m.preferences.stoplists name in
     check (missing_name (is_some found) name) (among found word) (are_texts 2 args)
     (with_found word BadValue (λ (word : List ℕ).
@@ -226,7 +226,7 @@ special_added s m name g = with_preferences m (with_group m.preferences name (wi
 
 abbrev pub add_special_section : StoreState → Option (List ℕ) → List Arg → Effect
 add_special_section m name args =
-    let asked = special_of (text_at 1 args) in
+    let asked = special_of (argument_text 1 args) in
     let found = get_named m.preferences.groups name in
     check (missing_name (is_some found) name) (taken_special asked found) (are_texts 2 args)
     (with_found asked BadValue (λ (s : Special).
@@ -246,7 +246,7 @@ define_by m AddFieldSection name section tag args = add_section (field_kind args
 define_by m AddSpecialSection name section tag args = add_special_section m name args
 
 abbrev pub define : StoreState → Definition → List Arg → Effect
-define m procedure args = define_by m procedure (name_at 0 args) (name_at 1 args) (lower_at 2 args) args
+define m procedure args = define_by m procedure (argument_name 0 args) (argument_name 1 args) (lower_at 2 args) args
 
 -- ---- what its functions give
 

@@ -1,9 +1,9 @@
 //! The procedures by their names.
-#![tactic(auto, using(ct_keep::specs::Composing::reads_on, ct_keep::specs::Composing::reads_short, ct_keep::specs::Composing::accepts_on))]
+#![tactic(auto, using(ct_keep::specs::laws::Composing::reads_on, ct_keep::specs::laws::Composing::reads_short, ct_keep::specs::laws::Composing::accepts_on))]
 
 ghost use Rattle.std.specs.Prelude.{◌≡◌, ◌||◌, IfOk, Some};
 ghost use Rattle.ct_keep.specs.KeeperViews.{OnlyReads};
-ghost use Rattle.db_call.specs.Arguments.{are_texts as are_so_many_texts, name_at as name_there};
+ghost use Rattle.db_call.specs.Arguments.{are_texts as are_so_many_texts, argument_name as name_there};
 ghost use Rattle.db_state.specs.Lines.{call_done};
 ghost use Rattle.db_state.specs.Plans.{IsStorePlan, Plans, Replies, line_for_all};
 ghost use Rattle.db_state.specs.Shapes.{AcceptsStatements};

@@ -14,7 +14,8 @@ use Rattle.db_rows.specs.Checking.{cond_column}
 use Rattle.db_rows.specs.Bounds.{allows_key, is_range, IsWithinBounds}
 use Rattle.db_rows.specs.declared.bounds.KeyBounds.{KeyBounds}
 
-pub both_within : (a b : KeyBounds) (least greatest : RowKey) → a.least.0 ≤ℤ least.0 → b.least.0 ≤ℤ least.0 → (least ≡ a.least) ⊎ (least ≡ b.least) → greatest.0 ≤ℤ a.greatest.0 → greatest.0 ≤ℤ b.greatest.0 → (greatest ≡ a.greatest) ⊎ (greatest ≡ b.greatest)
+pub both_within : (a b : KeyBounds) (least greatest : RowKey) → a.least.0 ≤ℤ least.0 → b.least.0 ≤ℤ least.0 → (least ≡ a.least) ⊎ (least ≡ b.least)
+    → greatest.0 ≤ℤ a.greatest.0 → greatest.0 ≤ℤ b.greatest.0 → (greatest ≡ a.greatest) ⊎ (greatest ≡ b.greatest)
     → (r : ℤ) → IsWithinBounds (record { least = least; greatest = greatest }) r ↔ (IsWithinBounds a r × IsWithinBounds b r)
 both_within a b least greatest la lb le ga gb ge r = (
   λ is. (record { low = omega (arith, ints, is.low, la); high = omega (arith, ints, is.high, ga) }, record { low = omega (arith, ints, is.low, lb); high = omega (arith, ints, is.high, gb) }),
@@ -36,7 +37,8 @@ either_within a b least greatest la lb ga gb r is = record { low = omega (arith,
 -- ---- conditions that hold of each key within
 
 -- one condition more
-pub tight_more : (columns : List Column) (conds : List Cond) (i : ℕ) (cond : Cond) (r : ℤ) → list_all (allows_key columns r) (take i conds) ≡ true → i < length conds → cond ≡ get_or conds i cond → allows_key columns r cond ≡ true
+pub tight_more : (columns : List Column) (conds : List Cond) (i : ℕ) (cond : Cond) (r : ℤ) → list_all (allows_key columns r) (take i conds) ≡ true
+    → i < length conds → cond ≡ get_or conds i cond → allows_key columns r cond ≡ true
     → list_all (allows_key columns r) (take (i + 1) conds) ≡ true
 tight_more columns conds i cond r so_far within at allows =
     list_all_more (allows_key columns r) conds i cond within

@@ -15,11 +15,13 @@ use Rattle.db_rows.specs.Checking.{cond_column}
 use Rattle.db_rows.specs.Reading.{cond_looks, one_text, source_looks, text_conds, texts_for, unless_known}
 
 -- a text that was just kept is known
-pub known_now : (texts : List (ℕ × Option (List ℕ))) (column : ℕ) (text : Option (List ℕ)) → lookup (λ place. eqb column place) texts ≡ None → lookup (λ place. eqb column place) (texts ++ (column, text) ∷ []) ≡ Some text
+pub known_now : (texts : List (ℕ × Option (List ℕ))) (column : ℕ) (text : Option (List ℕ)) → lookup (λ place. eqb column place) texts ≡ None
+    → lookup (λ place. eqb column place) (texts ++ (column, text) ∷ []) ≡ Some text
 known_now [] column text none = ap (λ (b : Bool). cond b (Some text) None) (eq-eqb column column refl)
 known_now (x ∷ xs) column text none = go (eqb column x.0) none (known_now xs column text)
   where
-    go : (b : Bool) → cond b (Some x.1) (lookup (λ place. eqb column place) xs) ≡ None → (lookup (λ place. eqb column place) xs ≡ None → lookup (λ place. eqb column place) (xs ++ (column, text) ∷ []) ≡ Some text)
+    go : (b : Bool) → cond b (Some x.1) (lookup (λ place. eqb column place) xs) ≡ None
+        → (lookup (λ place. eqb column place) xs ≡ None → lookup (λ place. eqb column place) (xs ++ (column, text) ∷ []) ≡ Some text)
         → cond b (Some x.1) (lookup (λ place. eqb column place) (xs ++ (column, text) ∷ [])) ≡ Some text
     go true none rest = cc
     go false none rest = rest none
@@ -55,10 +57,13 @@ looks_begin all c = record { texts = omega arith; rows = omega arith; rules = om
 
 module _ (columns : List Column) (conds : List Cond) where
   -- the next condition is the first of the rest
-  head : (i : ℕ) (d : Cond) → i < length conds → text_conds columns (drop i conds) ≡ one_if (is_text_source (source_of (cond_column (get_or conds i d)) columns)) + text_conds columns (drop (i + 1) conds)
+  head : (i : ℕ) (d : Cond) → i < length conds
+      → text_conds columns (drop i conds) ≡ one_if (is_text_source (source_of (cond_column (get_or conds i d)) columns)) + text_conds columns (drop (i + 1) conds)
   head i d within = ap (text_conds columns) (drop-cons conds i d within) ∙ ap (λ (j : ℕ). one_if (is_text_source (source_of (cond_column (get_or conds i d)) columns)) + text_conds columns (drop j conds)) (sym (add-one i))
 
-  pub looks_more : (i : ℕ) (d : Cond) (read : RowRead) (old mid new : Counts) → LooksSoFar (text_conds columns (drop i conds)) (text_conds columns conds) old mid → i < length conds → d ≡ get_or conds i d → RisesBy (cond_looks columns d read) mid new
+  pub looks_more : (i : ℕ) (d : Cond) (read : RowRead) (old mid new : Counts)
+      → LooksSoFar (text_conds columns (drop i conds)) (text_conds columns conds) old mid → i < length conds → d ≡ get_or conds i d
+      → RisesBy (cond_looks columns d read) mid new
       → LooksSoFar (text_conds columns (drop (i + 1) conds)) (text_conds columns conds) old new
   looks_more i d read old mid new so_far within at rises =
       let one = source_rises read (source_of (cond_column d) columns) mid new rises in

@@ -8,15 +8,15 @@ use Rattle.std.proofs.lemmas.Cmp.{int_cmp_total}
 use Rattle.std.proofs.lemmas.List.{map-append}
 use Rattle.ct_base.specs.declared.lists.Value.{Value}
 use Rattle.ct_base.specs.declared.numbers.RowKey.{RowKey}
-use Rattle.ct_keep.specs.RisingKeys.{entries_rise}
-use Rattle.ct_keep.specs.FoundKeys.{found_listed}
+use Rattle.ct_keep.specs.laws.RisingKeys.{entries_rise}
+use Rattle.ct_keep.specs.laws.FoundKeys.{found_listed}
 use Rattle.ct_entry.specs.Keys.{IsRow}
 use Rattle.ct_entry.specs.Listings.{first_of, rows_above}
 use Rattle.st_parse.specs.declared.statements.Cond.{Cond}
 use Rattle.tb_table.specs.declared.columns.Column.{Column}
 use Rattle.tb_table.specs.Tables.{Table, Tables, keys_in, row_keys}
 use Rattle.tb_table.specs.Rules.{IsTable}
-use Rattle.db_rows.specs.Values.{values_of}
+use Rattle.db_rows.specs.Values.{values_behind_key}
 use Rattle.db_rows.specs.Meeting.{row_meets, key_meets, meeting_keys}
 use Rattle.db_rows.specs.Bounds.{IsWithinBounds, BoundRows, meets_by}
 use Rattle.db_rows.specs.Walking.{IsStart, is_above}
@@ -34,15 +34,17 @@ module _ (x : Table) (conds : List Cond) where
   entry_meets e = row_meets x.columns conds e.0 e.1
 
   has_read : IsTable x → (r : ℤ) (vs : List Value) → get x.rows r ≡ Some vs → row_meets x.columns conds r vs ≡ meets_by x.columns conds r vs
-  has_read is r vs here = subst (λ (o : Option (List Value)). row_meets x.columns conds r (values_of o) ≡ meets_by x.columns conds r (values_of o)) here (meets_read x is conds r)
+  has_read is r vs here = subst (λ (o : Option (List Value)). row_meets x.columns conds r (values_behind_key o) ≡ meets_by x.columns conds r (values_behind_key o)) here (meets_read x is conds r)
 
-  within_bounds : IsTable x → (columns : List Column) → x.columns ≡ columns → (b : KeyBounds) → BoundRows columns conds b → AllByRecursion (λ e. entry_meets e ≡ true → IsWithinBounds b e.0) (entries x.rows)
+  within_bounds : IsTable x → (columns : List Column) → x.columns ≡ columns → (b : KeyBounds) → BoundRows columns conds b
+      → AllByRecursion (λ e. entry_meets e ≡ true → IsWithinBounds b e.0) (entries x.rows)
   within_bounds is columns same b bounds =
       found_listed int_cmp int_cmp_total (λ e. entry_meets e ≡ true → IsWithinBounds b e.0) (entries x.rows) (entries_rise int_cmp x.rows)
       (λ r vs found. let here = get-entries x.rows r ∙ found in λ met.
       bounds r vs (is.keys r vs here) (ap (λ (cs : List Column). meets_by cs conds r vs) (sym same) ∙ sym (has_read is r vs here) ∙ met))
 
-  pub table_begins : IsTable x → (columns : List Column) → x.columns ≡ columns → (b : KeyBounds) → BoundRows columns conds b → (after : Option ℤ) → IsStart b after → (rows : List RowKey) → rows ≡ [] → IsWalked entry_meets (entries x.rows) after (map (λ row. row.0) rows)
+  pub table_begins : IsTable x → (columns : List Column) → x.columns ≡ columns → (b : KeyBounds) → BoundRows columns conds b → (after : Option ℤ)
+      → IsStart b after → (rows : List RowKey) → rows ≡ [] → IsWalked entry_meets (entries x.rows) after (map (λ row. row.0) rows)
   table_begins is columns same b bounds after start rows none =
       subst (λ (rows : List RowKey). IsWalked entry_meets (entries x.rows) after (map (λ row. row.0) rows)) (sym none)
       (walk_begins entry_meets (entries x.rows) after
@@ -61,15 +63,18 @@ module _ (x : Table) (conds : List Cond) where
   shown true row = refl
   shown false row = refl
 
-  pub table_step : (after : Option ℤ) (row : RowKey) (rows more : List RowKey) → IsFirst after (entries x.rows) row.0 → IsWalked entry_meets (entries x.rows) after (map (λ row. row.0) rows) → more ≡ rows ++ (if key_meets x conds row.0 then row ∷ [] else [])
+  pub table_step : (after : Option ℤ) (row : RowKey) (rows more : List RowKey) → IsFirst after (entries x.rows) row.0
+      → IsWalked entry_meets (entries x.rows) after (map (λ row. row.0) rows) → more ≡ rows ++ (if key_meets x conds row.0 then row ∷ [] else [])
       → IsWalked entry_meets (entries x.rows) (Some row.0) (map (λ row. row.0) more)
   table_step after row rows more first walked pushed =
       let met = key_meets x conds row.0 in
       walk_step entry_meets (entries x.rows) after (map (λ row. row.0) rows) (map (λ row. row.0) more) row.0 met walked first
-      (ap (λ (o : Option (List Value)). row_meets x.columns conds row.0 (values_of o)) (get-entries x.rows row.0 ∙ first.found))
+      (ap (λ (o : Option (List Value)). row_meets x.columns conds row.0 (values_behind_key o)) (get-entries x.rows row.0 ∙ first.found))
       (ap (map (λ (row : RowKey). row.0)) pushed ∙ map-append (λ (row : RowKey). row.0) rows (if met then row ∷ [] else []) ∙ ap (λ (l : List ℤ). map (λ (row : RowKey). row.0) rows ++ l) (shown met row))
 
-  pub table_ends : IsTable x → (columns : List Column) → x.columns ≡ columns → (b : KeyBounds) → BoundRows columns conds b → (ts : Tables) (t : List ℕ) (after : Option ℤ) (rows : List RowKey) → get ts t ≡ Some x → IsWalked entry_meets (entries x.rows) after (map (λ row. row.0) rows)
+  pub table_ends : IsTable x → (columns : List Column) → x.columns ≡ columns → (b : KeyBounds) → BoundRows columns conds b
+      → (ts : Tables) (t : List ℕ) (after : Option ℤ) (rows : List RowKey) → get ts t ≡ Some x
+      → IsWalked entry_meets (entries x.rows) after (map (λ row. row.0) rows)
       → list_all (λ r. is_lt (int_cmp b.greatest.0 r)) (rows_above after (row_keys ts t)) ≡ true → map (λ row. row.0) rows ≡ meeting_keys x conds
   table_ends is columns same b bounds ts t after rows here walked over =
       walk_ends entry_meets (entries x.rows) after (map (λ row. row.0) rows) b.greatest.0 walked

@@ -12,7 +12,7 @@ use Rattle.std.proofs.lemmas.Cmp.{int_cmp_total, tied_itself}
 use Rattle.std.proofs.lemmas.Int.{ints}
 use Rattle.ct_base.specs.laws.Lists.{map-filter}
 use Rattle.ct_base.specs.laws.Orders.{less_from_test}
-use Rattle.ct_keep.specs.RisingKeys.{below, rises}
+use Rattle.ct_keep.specs.laws.RisingKeys.{below, rises}
 use Rattle.ct_entry.specs.Listings.{first_of, rows_above}
 use Rattle.db_rows.specs.Walking.{is_above, is_past_greatest}
 
@@ -100,7 +100,8 @@ module _ {X : Type 0} where
             lower = λ k low. first.lower k (and_parts (is_lt (int_cmp k e.0)) (below int_cmp k es) low).1;
           }
 
-      go : (t : Bool) → is_above after e.0 ≡ t → first_of (map (λ e. e.0) (cond t (e ∷ left after es) (left after es))) ≡ Some r → (first_of (map (λ e. e.0) (left after es)) ≡ Some r → IsFirst after es r) → IsFirst after (e ∷ es) r
+      go : (t : Bool) → is_above after e.0 ≡ t → first_of (map (λ e. e.0) (cond t (e ∷ left after es) (left after es))) ≡ Some r
+          → (first_of (map (λ e. e.0) (left after es)) ≡ Some r → IsFirst after es r) → IsFirst after (e ∷ es) r
       go true over is rest = let same : e.0 ≡ r = cc in here over same
       go false under is rest = later under (rest is)
 
@@ -114,7 +115,8 @@ module _ {X : Type 0} where
   passes_left p after [] each = refl
   passes_left p after (e ∷ es) each = go (is_above after e.0) (p e) refl refl (each.0) (passes_left p after es each.1)
     where
-      go : (t s : Bool) → is_above after e.0 ≡ t → p e ≡ s → (p e ≡ true → is_above after e.0 ≡ true) → filter p (left after es) ≡ filter p es → filter p (cond t (e ∷ left after es) (left after es)) ≡ cond s (e ∷ filter p es) (filter p es)
+      go : (t s : Bool) → is_above after e.0 ≡ t → p e ≡ s → (p e ≡ true → is_above after e.0 ≡ true) → filter p (left after es) ≡ filter p es
+          → filter p (cond t (e ∷ left after es) (left after es)) ≡ cond s (e ∷ filter p es) (filter p es)
       go true s over is up rest = ap (λ (b : Bool). cond b (e ∷ filter p (left after es)) (filter p (left after es))) is ∙ ap (λ (l : List (ℤ × X)). cond s (e ∷ l) l) rest
       go false true under is up rest = let wrong = sym under ∙ up is in cc
       go false false under is up rest = rest
@@ -122,7 +124,8 @@ module _ {X : Type 0} where
   pub walk_begins : (p : ℤ × X → Bool) (es : List (ℤ × X)) (after : Option ℤ) → AllByRecursion (λ e. p e ≡ true → is_above after e.0 ≡ true) es → IsWalked p es after []
   walk_begins p es after each = record { is = ap (map (λ (e : ℤ × X). e.0)) (passes_left p after es each) }
 
-  pub walk_step : (p : ℤ × X → Bool) (es : List (ℤ × X)) (after : Option ℤ) (rows more : List ℤ) (r : ℤ) (met : Bool) → IsWalked p es after rows → (first : IsFirst after es r) → met ≡ p (r, first.value) → more ≡ rows ++ (if met then r ∷ [] else [])
+  pub walk_step : (p : ℤ × X → Bool) (es : List (ℤ × X)) (after : Option ℤ) (rows more : List ℤ) (r : ℤ) (met : Bool) → IsWalked p es after rows
+      → (first : IsFirst after es r) → met ≡ p (r, first.value) → more ≡ rows ++ (if met then r ∷ [] else [])
       → IsWalked p es (Some r) more
   walk_step p es after rows more r met walked first met_is pushed = record {
     is =
@@ -133,11 +136,13 @@ module _ {X : Type 0} where
         ∙ walked.is;
   }
     where
-      go : (b : Bool) → (rows ++ cond b (r ∷ []) []) ++ map (λ e. e.0) (filter p (left (Some r) es)) ≡ rows ++ map (λ e. e.0) (cond b ((r, first.value) ∷ filter p (left (Some r) es)) (filter p (left (Some r) es)))
+      go : (b : Bool)
+          → (rows ++ cond b (r ∷ []) []) ++ map (λ e. e.0) (filter p (left (Some r) es)) ≡ rows ++ map (λ e. e.0) (cond b ((r, first.value) ∷ filter p (left (Some r) es)) (filter p (left (Some r) es)))
       go true = append_assoc rows (r ∷ []) (map (λ e. e.0) (filter p (left (Some r) es)))
       go false = ap (λ (l : List ℤ). l ++ map (λ e. e.0) (filter p (left (Some r) es))) (append-nil rows)
 
-  none_left : (p : ℤ × X → Bool) (after : Option ℤ) (g : ℤ) (es : List (ℤ × X)) → AllByRecursion (λ e. p e ≡ true → e.0 ≤ℤ g) es → list_all (λ r. is_lt (int_cmp g r)) (map (λ e. e.0) (left after es)) ≡ true → filter p (left after es) ≡ []
+  none_left : (p : ℤ × X → Bool) (after : Option ℤ) (g : ℤ) (es : List (ℤ × X)) → AllByRecursion (λ e. p e ≡ true → e.0 ≤ℤ g) es
+      → list_all (λ r. is_lt (int_cmp g r)) (map (λ e. e.0) (left after es)) ≡ true → filter p (left after es) ≡ []
   none_left p after g [] each over = refl
   none_left p after g (e ∷ es) each over = go (is_above after e.0) (p e) refl over each.0 (none_left p after g es each.1)
     where
@@ -147,7 +152,8 @@ module _ {X : Type 0} where
       go true false is over low rest = ap (λ (b : Bool). cond b (e ∷ filter p (left after es)) (filter p (left after es))) is ∙ rest (and_parts (is_lt (int_cmp g e.0)) _ over).1
       go false s is over low rest = rest over
 
-  pub walk_ends : (p : ℤ × X → Bool) (es : List (ℤ × X)) (after : Option ℤ) (rows : List ℤ) (g : ℤ) → IsWalked p es after rows → AllByRecursion (λ e. p e ≡ true → e.0 ≤ℤ g) es → list_all (λ r. is_lt (int_cmp g r)) (map (λ e. e.0) (left after es)) ≡ true
+  pub walk_ends : (p : ℤ × X → Bool) (es : List (ℤ × X)) (after : Option ℤ) (rows : List ℤ) (g : ℤ) → IsWalked p es after rows
+      → AllByRecursion (λ e. p e ≡ true → e.0 ≤ℤ g) es → list_all (λ r. is_lt (int_cmp g r)) (map (λ e. e.0) (left after es)) ≡ true
       → rows ≡ map (λ e. e.0) (filter p es)
   walk_ends p es after rows g walked each over =
       sym (append-nil rows)
@@ -163,7 +169,8 @@ over_last a g (k ∷ ks) low = go (is_lt (int_cmp a k)) refl (over_last a g ks l
     over : is_lt (int_cmp a k) ≡ true → is_lt (int_cmp g k) ≡ true
     over p = grind (arith, ints)
 
-    go : (b : Bool) → is_lt (int_cmp a k) ≡ b → list_all (λ r. is_lt (int_cmp g r)) (filter (λ s. is_lt (int_cmp a s)) ks) ≡ true → list_all (λ r. is_lt (int_cmp g r)) (cond b (k ∷ filter (λ s. is_lt (int_cmp a s)) ks) (filter (λ s. is_lt (int_cmp a s)) ks)) ≡ true
+    go : (b : Bool) → is_lt (int_cmp a k) ≡ b → list_all (λ r. is_lt (int_cmp g r)) (filter (λ s. is_lt (int_cmp a s)) ks) ≡ true
+        → list_all (λ r. is_lt (int_cmp g r)) (cond b (k ∷ filter (λ s. is_lt (int_cmp a s)) ks) (filter (λ s. is_lt (int_cmp a s)) ks)) ≡ true
     go true p rest = and_from (is_lt (int_cmp g k)) _ (over p) rest
     go false p rest = rest
 
@@ -187,11 +194,13 @@ module _ {X : Type 0} (after : Option ℤ) (g : ℤ) where
       let b = and_parts (is_lt (int_cmp k e.0)) (below int_cmp k es) low in
       go (is_above after e.0) (before_then g k e.0 over b.0) (over_all k es over b.1)
     where
-      go : (t : Bool) → is_lt (int_cmp g e.0) ≡ true → list_all (λ r. is_lt (int_cmp g r)) (map (λ e. e.0) (left after es)) ≡ true → list_all (λ r. is_lt (int_cmp g r)) (map (λ e. e.0) (cond t (e ∷ left after es) (left after es))) ≡ true
+      go : (t : Bool) → is_lt (int_cmp g e.0) ≡ true → list_all (λ r. is_lt (int_cmp g r)) (map (λ e. e.0) (left after es)) ≡ true
+          → list_all (λ r. is_lt (int_cmp g r)) (map (λ e. e.0) (cond t (e ∷ left after es) (left after es))) ≡ true
       go true here rest = and_from (is_lt (int_cmp g e.0)) _ here rest
       go false here rest = rest
 
-  over_first : (es : List (ℤ × X)) (r : ℤ) → rises int_cmp es ≡ true → first_of (map (λ e. e.0) (left after es)) ≡ Some r → is_lt (int_cmp g r) ≡ true → list_all (λ r. is_lt (int_cmp g r)) (map (λ e. e.0) (left after es)) ≡ true
+  over_first : (es : List (ℤ × X)) (r : ℤ) → rises int_cmp es ≡ true → first_of (map (λ e. e.0) (left after es)) ≡ Some r
+      → is_lt (int_cmp g r) ≡ true → list_all (λ r. is_lt (int_cmp g r)) (map (λ e. e.0) (left after es)) ≡ true
   over_first [] r up is over = refl
   over_first (e ∷ es) r up is over =
       let b = and_parts (below int_cmp e.0 es) (rises int_cmp es) up in
@@ -206,5 +215,6 @@ module _ {X : Type 0} (after : Option ℤ) (g : ℤ) where
           and_from (is_lt (int_cmp g e.0)) _ high (over_all e.0 es high low)
       go false low is rest = rest is
 
-  pub none_within : (es : List (ℤ × X)) (r : ℤ) → rises int_cmp es ≡ true → first_of (rows_above after (map (λ e. e.0) es)) ≡ Some r → is_lt (int_cmp g r) ≡ true → list_all (λ r. is_lt (int_cmp g r)) (rows_above after (map (λ e. e.0) es)) ≡ true
+  pub none_within : (es : List (ℤ × X)) (r : ℤ) → rises int_cmp es ≡ true → first_of (rows_above after (map (λ e. e.0) es)) ≡ Some r
+      → is_lt (int_cmp g r) ≡ true → list_all (λ r. is_lt (int_cmp g r)) (rows_above after (map (λ e. e.0) es)) ≡ true
   none_within es r up is over = ap (list_all (λ r. is_lt (int_cmp g r))) (keys_left after es) ∙ over_first es r up (ap first_of (sym (keys_left after es)) ∙ is) over

@@ -14,7 +14,7 @@ use Rattle.st_parse.specs.declared.statements.Cond.TheVariants.{Compare, Between
 use Rattle.tb_table.specs.declared.columns.Column.{Column}
 use Rattle.tb_table.specs.Tables.{Table, docs_columns, docs_rows, docs_table}
 use Rattle.db_cond.specs.Conditions.{holds}
-use Rattle.db_rows.specs.Values.{value_of_column, values_of}
+use Rattle.db_rows.specs.Values.{value_of_column, values_behind_key}
 use Rattle.db_rows.specs.Checking.{cond_column}
 
 -- the condition holds of the value; where there is none, it doesn't
@@ -28,7 +28,7 @@ row_meets columns conds r vs = list_all (λ cond. holds_of cond (value_of_column
 
 -- the same of the row of a table with this key
 abbrev pub key_meets : Table → List Cond → ℤ → Bool
-key_meets x conds r = row_meets x.columns conds r (values_of (get x.rows r))
+key_meets x conds r = row_meets x.columns conds r (values_behind_key (get x.rows r))
 
 -- the rows of a table that meet all conditions, in order of their keys
 abbrev pub meeting : Table → List Cond → List (ℤ × List Value)

@@ -23,12 +23,12 @@ abbrev pub value_of_column : List Column → ℤ → List Value → List ℕ →
 value_of_column columns r vs name = at_place r vs (column_place name columns)
 
 -- the values of a row behind its key; none where the row isn't there
-abbrev pub values_of : Option (List Value) → List Value
-values_of None = []
-values_of (Some vs) = vs
+abbrev pub values_behind_key : Option (List Value) → List Value
+values_behind_key None = []
+values_behind_key (Some vs) = vs
 
 abbrev pub row_values : Tables → List ℕ → ℤ → List Value
-row_values ts t r = values_of (row_at ts t r)
+row_values ts t r = values_behind_key (row_at ts t r)
 
 -- computed examples: of a table with the columns id, body and price, the row 7 of a text and a number
 abbrev seven : List ℕ → Option Value
@@ -47,8 +47,8 @@ no_such_column : seven (codes "title") ≡ None
 no_such_column = refl
 
 -- a row that isn't there has no value but its key
-no_value : value_of_column docs_columns (pos 7) (values_of None) (codes "price") ≡ None
+no_value : value_of_column docs_columns (pos 7) (values_behind_key None) (codes "price") ≡ None
 no_value = refl
 
 in_the_table : row_values docs_alone (codes "docs") (pos 1) ≡ Text (codes "quick fox quick") ∷ Number (pos 0) ∷ []
-in_the_table = ap values_of row_one
+in_the_table = ap values_behind_key row_one

@@ -7,7 +7,12 @@ use Rattle.std.proofs.Common.{arith}
 use Rattle.std.proofs.lemmas.Int.{ints}
 use Rattle.ct_base.specs.declared.numbers.RowKey.{RowKey}
 use Rattle.ct_keep.specs.declared.keepers.KeepFault.{KeepFault}
-use Rattle.ct_entry.specs.Listings.{first_of, number_of, rows_above}
+use Rattle.ct_keep.specs.Content.{Content}
+use Rattle.ct_keep.specs.KeeperViews.{Counts}
+use Rattle.ct_keep.specs.Looks.{next_looks}
+use Rattle.ct_entry.specs.declared.kinds.Kind.TheVariants.{RowNumbers}
+use Rattle.ct_entry.specs.Keys.{prefix_of}
+use Rattle.ct_entry.specs.Listings.{first_of, number_of, rows_above, start_after}
 use Rattle.tb_table.specs.Tables.{Table, Tables, row_keys}
 use Rattle.ct_entry.specs.laws.Rows.{IsPlace}
 use Rattle.st_parse.specs.declared.statements.Cond.{Cond}
@@ -37,6 +42,10 @@ IsNext after greatest keys None = list_all (λ r. is_lt (int_cmp greatest r)) (r
 -- A call that didn't fail found the next key of the table after a place, up to the greatest.
 abbrev pub FindsNext : Tables → List ℕ → Option ℤ → ℤ → Result (Option RowKey) KeepFault → Type 0
 FindsNext ts t after greatest result = IsPlace after → IfOk result (λ row. IsNext after greatest (row_keys ts t) (number_of row))
+
+-- the look-ups for the next key of a table after a place
+abbrev pub next_row_looks : List ℕ → Option RowKey → Content → Counts
+next_row_looks table after m = next_looks (prefix_of RowNumbers table ++ start_after after) m
 
 -- a row comes behind the rows before, if it meets the conditions
 abbrev pub with_met : {T : Type 0} → Bool → T → List T → List T

@@ -1,16 +1,14 @@
 //! The rows of a table that meet conditions.
-#![tactic(auto, using(ct_keep::specs::Composing::reads_on, ct_keep::specs::Composing::reads_short))]
+#![tactic(auto, using(ct_keep::specs::laws::Composing::reads_on, ct_keep::specs::laws::Composing::reads_short))]
 
-ghost use Rattle.std.specs.Prelude.{◌≡◌, ◌++◌, map, IfOk, OnOk};
+ghost use Rattle.std.specs.Prelude.{◌≡◌, map, IfOk, OnOk};
 ghost use Rattle.ct_keep.specs.KeeperViews.{OnlyReads, Told};
-ghost use Rattle.ct_keep.specs.Looks.{next_looks, LooksAtMost};
-ghost use Rattle.ct_entry.specs.declared.kinds.Kind.TheVariants as kind;
-ghost use Rattle.ct_entry.specs.Keys.{prefix_of};
-ghost use Rattle.ct_entry.specs.Listings.{number_of, start_after};
+ghost use Rattle.ct_keep.specs.Looks.{LooksAtMost};
+ghost use Rattle.ct_entry.specs.Listings.{number_of};
 ghost use Rattle.db_state.specs.States.{OverStates};
 ghost use Rattle.db_rows.specs.Meeting.{meeting_keys};
 ghost use Rattle.db_rows.specs.Reading.{OverColumns};
-ghost use Rattle.db_rows.specs.Walking.{AddsIfMet, FindsNext, is_past_greatest as past_greatest, with_met};
+ghost use Rattle.db_rows.specs.Walking.{AddsIfMet, FindsNext, is_past_greatest as past_greatest, next_row_looks, with_met};
 
 use crate::bounds::{KeyBounds, key_bounds, start};
 use crate::meeting::meets;
@@ -42,7 +40,7 @@ fn next_within<K: Keeper>(
     requires { (K.view keeper.old).ready }
     ensures next { OverStates K.view keeper.old (λ m c. FindsNext m.tables table.now (number_of after) bounds.greatest.0 result) }
     ensures reads { OnlyReads K.view keeper.old keeper.new result }
-    ensures at_most { Told K.view keeper.old (λ m. LooksAtMost K.view keeper.old keeper.new (next_looks (prefix_of kind.RowNumbers table.now ++ start_after after) m)) }
+    ensures at_most { Told K.view keeper.old (λ m. LooksAtMost K.view keeper.old keeper.new (next_row_looks table.now after m)) }
 {
     if is_past_greatest(after, bounds) {
         return Ok(None);

@@ -3,8 +3,7 @@ use Rattle.std.proofs.Common.{◌≡◌, ℕ, List, Option, Some, None, Result, 
 use Rattle.std.specs.declared.alloc.Global.{Global}
 use Rattle.ct_keep.specs.declared.keepers.KeepFault.{KeepFault}
 use Rattle.ct_keep.specs.declared.keepers.KeepFault.TheVariants.{Memory, Disk, Full as NoRoom}
-use Rattle.ct_keep.specs.Content.{Content, after}
-use Rattle.ct_keep.specs.Laws.{changes_weight}
+use Rattle.ct_keep.specs.Content.{Content, after, changes_weight}
 use Rattle.ct_keep.specs.KeeperViews.{KeeperView, Goes, AnswersCommit}
 use Rattle.db_state.specs.States.{StoreState, StandsForState}
 use Rattle.db_state.specs.Effects.{Does}

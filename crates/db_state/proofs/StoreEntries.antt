@@ -11,7 +11,7 @@ use Rattle.ct_entry.specs.Keys.{Key, key, at, IsPart, posting_part, IsToken, IsD
 use Rattle.ct_entry.specs.laws.Parts.{has_short_keys}
 use Rattle.ct_entry.specs.laws.Well.{entry_of_key}
 use Rattle.tb_table.specs.Shapes.{HasTableValue}
-use Rattle.ix_context.specs.Shapes.{HasIndexValue}
+use Rattle.ix_context.specs.Shapes.{HasContextValue}
 use Rattle.tx_prefs.specs.Shapes.{HasPrefValue}
 use Rattle.tx_prefs.specs.laws.Values.{lexer_value, stoplist_value, group_value}
 use Rattle.db_state.specs.States.{StoreState, StandsForState, is_built}
@@ -33,7 +33,7 @@ record IsStored (k : Key) (v : List ℕ) : Type 0 where
 of_table : (k : Key) (v : List ℕ) → has_short_keys k.kind ≡ true → HasTableValue k v × (length v ≤ value_limit) → IsStored k v
 of_table k v short is = record { has = inl is.0; bounded = is.1; short = short }
 
-of_index : (k : Key) (v : List ℕ) → has_short_keys k.kind ≡ true → HasIndexValue k v × (length v ≤ value_limit) → IsStored k v
+of_index : (k : Key) (v : List ℕ) → has_short_keys k.kind ≡ true → HasContextValue k v × (length v ≤ value_limit) → IsStored k v
 of_index k v short is = record { has = inr (inl is.0); bounded = is.1; short = short }
 
 of_preference : (k : Key) (v : List ℕ) → has_short_keys k.kind ≡ true → HasPrefValue k v × (length v ≤ value_limit) → IsStored k v

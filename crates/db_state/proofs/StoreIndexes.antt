@@ -13,23 +13,28 @@ use Rattle.ct_entry.specs.laws.Lists.{each_at_in}
 use Rattle.ct_entry.specs.Maps.{Names}
 use Rattle.tb_table.specs.Tables.{Tables}
 use Rattle.tb_table.specs.Rules.{AreTables}
-use Rattle.ix_posting.specs.Rows.{IsPostingRow, posting_bytes}
-use Rattle.ix_posting.specs.SpanRows.{IsSpanRow, span_row_bytes}
 use Rattle.ix_posting.specs.declared.rows.RowDocument.{RowDocument}
-use Rattle.ix_posting.specs.declared.span_rows.SpanDocument.{SpanDocument}
+use Rattle.ix_posting.specs.Forms.{PlaceForm, number_form, pair_form}
+use Rattle.ix_posting.specs.Rows.{IsPostingRowOf, posting_bytes_of, IsPostingRow, posting_bytes, IsSpanRow, span_row_bytes}
+use Rattle.ix_rows.specs.PlacedRows.{document_number}
 use Rattle.ix_rows.specs.Spelling.{row_key, first_document}
-use Rattle.ix_rows.specs.WordRows.{document_number, IsWordTerm}
-use Rattle.ix_rows.specs.SpanRows.{span_number, IsSpanTerm}
+use Rattle.ix_rows.specs.WordRows.{IsWordTerm}
+use Rattle.ix_rows.specs.SpanRows.{IsSpanTerm}
 use Rattle.ix_rows.specs.laws.Rooms.{row_found}
 use Rattle.ix_docmap.specs.Marks.{is_settled}
 use Rattle.ix_context.specs.Standing.{PartStands}
 use Rattle.ix_indexes.specs.Indexes.{Defined, Index, index_entry, IndexesStand, AreIndexes, mark_of, mark_at, part_of, postings_in}
 use Rattle.ix_indexes.specs.laws.Indexes.{context_at, entry_at, context_is, marked_row}
-use Rattle.ix_context.specs.Shapes.{HasIndexValue, IsRowFrom, IsSpanRowFrom}
+use Rattle.ix_context.specs.Shapes.{HasContextValue, StartsAt, IsRowFrom, IsSpanRowFrom}
 use Rattle.ix_context.specs.laws.Well.{length-entry_le}
 use Rattle.db_state.proofs.WeighIndexes.{settled_there, is_queued}
 use Rattle.ix_context.specs.laws.ContextRows.{entry_is}
 use Rattle.ix_context.specs.laws.Reading.{column_few}
+
+-- a row that stands under its first document
+starts_at : {P : Type 0} (form : PlaceForm P) (row : List (RowDocument P)) (d : ℕ) (v : List ℕ) → IsPostingRowOf form row → d ≡ first_document document_number row → v ≡ posting_bytes_of form row → StartsAt form d v
+starts_at form [] d v row first spelt = let some = row.some in absurd (omega (arith, some))
+starts_at form (x ∷ xs) d v row first spelt = record { first = x; others = xs; starts = sym first; row = row; spelt = spelt }
 
 module _ (f : Key → Option (List ℕ)) (ts : Tables) (xs : Names Index) (tables : AreTables ts) (are : AreIndexes ts xs) (stand : IndexesStand f ts xs) where
   its_part : (i : List ℕ) → PartStands f i (postings_in ts (get xs i)) (mark_at xs i) (part_of (get xs i))
@@ -46,7 +51,7 @@ module _ (f : Key → Option (List ℕ)) (ts : Tables) (xs : Names Index) (table
           let few = (context_is ts x rules).numbers in
           (marked_row ts x tables rules r (ap is_some (settled_there (get x.body.marks r) settled)), within.0, omega (arith, within.1, few))
 
-  pub index_value : (i v : List ℕ) → f (key kind.Indexes i []) ≡ Some v → HasIndexValue (key kind.Indexes i []) v × (length v ≤ value_limit)
+  pub index_value : (i v : List ℕ) → f (key kind.Indexes i []) ≡ Some v → HasContextValue (key kind.Indexes i []) v × (length v ≤ value_limit)
   index_value i v has =
       let x = option_map_some index_entry (get xs i) v (sym (entry_at f ts i (get xs i) (stand i)) ∙ has) in
       let index = are.each i x.0 x.1 in
@@ -58,35 +63,27 @@ module _ (f : Key → Option (List ℕ)) (ts : Tables) (xs : Names Index) (table
         omega (arith, long, ap length (entry_is Defined x.0 ∙ x.2)),
       )
 
-  pub document_row_value : (i v : List ℕ) (d : ℕ) → IsDocument d → f (key kind.DocumentRows i (document_part d)) ≡ Some v → HasIndexValue (key kind.DocumentRows i (document_part d)) v × (length v ≤ value_limit)
+  pub document_row_value : (i v : List ℕ) (d : ℕ) → IsDocument d → f (key kind.DocumentRows i (document_part d)) ≡ Some v → HasContextValue (key kind.DocumentRows i (document_part d)) v × (length v ≤ value_limit)
   document_row_value i v d document has =
       let r = option_map_some row_bytes ((its_part i).row d) v (sym ((its_part i).documents.rows d document) ∙ has) in
       let eight = length-row_bytes r.0 in
       ((r.0, (numbered i r.0 d ((its_part i).documents.numbers.back r.0 d r.1)).0, sym r.2), omega (arith, eight, ap length r.2))
 
-  pub row_document_value : (i v : List ℕ) (r : ℤ) → IsRow r → f (key kind.RowDocuments i (row_part r)) ≡ Some v → HasIndexValue (key kind.RowDocuments i (row_part r)) v × (length v ≤ value_limit)
+  pub row_document_value : (i v : List ℕ) (r : ℤ) → IsRow r → f (key kind.RowDocuments i (row_part r)) ≡ Some v → HasContextValue (key kind.RowDocuments i (row_part r)) v × (length v ≤ value_limit)
   row_document_value i v r row has =
       let d = option_map_some (to_be_bytes w32) ((its_part i).document r) v (sym ((its_part i).documents.documents r row) ∙ has) in
       ((d.0, (numbered i r d.0 d.1).2, sym d.2), omega (arith, ap length d.2))
 
-  pub pending_value : (i v : List ℕ) (r : ℤ) → IsRow r → f (key kind.Pending i (row_part r)) ≡ Some v → HasIndexValue (key kind.Pending i (row_part r)) v × (length v ≤ value_limit)
+  pub pending_value : (i v : List ℕ) (r : ℤ) → IsRow r → f (key kind.Pending i (row_part r)) ≡ Some v → HasContextValue (key kind.Pending i (row_part r)) v × (length v ≤ value_limit)
   pending_value i v r row has = let q = is_queued (mark_at xs i r) v (sym ((its_part i).documents.queue r row) ∙ has) in (q.1, omega (arith, ap length q.1))
 
   -- a row of postings, of documents that are rows or dead ones
   pub posting_value : (i v term : List ℕ) (d : ℕ) → IsWordTerm term → IsDocument d → f (key kind.Postings i (row_key term d)) ≡ Some v → IsRowFrom d v
   posting_value i v term d is document has =
       let r = row_found document_number posting_bytes ((its_part i).word_rows term) d v (sym ((its_part i).words.spelled.spelled term d is document) ∙ has) in
-      go r.0 (each_at_in IsPostingRow r.0 ((its_part i).word_rows term) ((its_part i).words.are term is).each r.1) r.2 r.3
-    where
-      go : (row : List RowDocument) → IsPostingRow row → d ≡ first_document document_number row → v ≡ posting_bytes row → IsRowFrom d v
-      go [] row first spelt = let some = row.some in absurd (omega (arith, some))
-      go (x ∷ xs) row first spelt = record { first = x; others = xs; starts = sym first; row = row; spelt = spelt }
+      starts_at number_form r.0 d v (each_at_in IsPostingRow r.0 ((its_part i).word_rows term) ((its_part i).words.are term is).each r.1) r.2 r.3
 
   pub span_value : (i v term : List ℕ) (d : ℕ) → IsSpanTerm term → IsDocument d → f (key kind.Spans i (row_key term d)) ≡ Some v → IsSpanRowFrom d v
   span_value i v term d is document has =
-      let r = row_found span_number span_row_bytes ((its_part i).span_rows term) d v (sym ((its_part i).spans.spelled.spelled term d is document) ∙ has) in
-      go r.0 (each_at_in IsSpanRow r.0 ((its_part i).span_rows term) ((its_part i).spans.are term is).each r.1) r.2 r.3
-    where
-      go : (row : List SpanDocument) → IsSpanRow row → d ≡ first_document span_number row → v ≡ span_row_bytes row → IsSpanRowFrom d v
-      go [] row first spelt = let some = row.some in absurd (omega (arith, some))
-      go (x ∷ xs) row first spelt = record { first = x; others = xs; starts = sym first; row = row; spelt = spelt }
+      let r = row_found document_number span_row_bytes ((its_part i).span_rows term) d v (sym ((its_part i).spans.spelled.spelled term d is document) ∙ has) in
+      starts_at pair_form r.0 d v (each_at_in IsSpanRow r.0 ((its_part i).span_rows term) ((its_part i).spans.are term is).each r.1) r.2 r.3

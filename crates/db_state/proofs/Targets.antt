@@ -9,7 +9,7 @@ use Rattle.std.specs.FinMap.{get, find, entries, get-entries}
 use Rattle.std.proofs.lemmas.Cmp.{nat_list_cmp_total}
 use Rattle.std.proofs.lemmas.List.Elements.{Contains-append_right}
 use Rattle.std.proofs.lemmas.Bool.{and_parts, and_from}
-use Rattle.ct_keep.specs.RisingKeys.{entries_rise}
+use Rattle.ct_keep.specs.laws.RisingKeys.{entries_rise}
 use Rattle.ct_entry.specs.Keys.{Key, same_list}
 use Rattle.ct_entry.specs.Maps.{Names}
 use Rattle.ct_entry.specs.laws.Keys.{list_from_same, list_same}

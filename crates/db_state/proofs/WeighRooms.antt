@@ -12,7 +12,7 @@ use Rattle.ct_entry.specs.declared.kinds.Kind.TheVariants as kind
 use Rattle.ct_entry.specs.Keys.{key, bytes, row_part, document_part}
 use Rattle.tb_table.specs.Tables.{Table, Tables, numbers_of, texts_of}
 use Rattle.tb_table.specs.Spelling.{columns_bytes, row_numbers_bytes}
-use Rattle.ix_rows.specs.WordRows.{last_document}
+use Rattle.ix_rows.specs.PlacedRows.{last_document}
 use Rattle.ix_docmap.specs.Marks.{Mark, Pending, Settled, is_settled}
 use Rattle.ix_context.specs.Documents.{document_cost}
 use Rattle.ix_context.specs.Contexts.{mark_room}

@@ -51,10 +51,10 @@ is_beyond (Fits n) = false
 is_beyond Beyond = true
 
 -- a number from 0 on, where it is one of 64 bits
-abbrev pub as_count : Whole → Option ℕ
-as_count (Fits (pos n)) = Some n
-as_count (Fits (negsuc n)) = None
-as_count Beyond = None
+abbrev pub whole_count : Whole → Option ℕ
+whole_count (Fits (pos n)) = Some n
+whole_count (Fits (negsuc n)) = None
+whole_count Beyond = None
 
 -- computed examples
 first_that_holds : (effect : Effect) → refuse false WrongValues (refuse true OutOfRange (refuse true LimitReached effect)) ≡ Refused OutOfRange
@@ -67,8 +67,8 @@ none_holds effect = refl
 state_stays : (m : StoreState) → state_by m (Refused NotUnderstood) ≡ m
 state_stays m = refl
 
-one_hundred : as_count (Fits (pos 100)) ≡ Some 100
+one_hundred : whole_count (Fits (pos 100)) ≡ Some 100
 one_hundred = refl
 
-minus_one : as_count (Fits (negsuc 0)) ≡ None
+minus_one : whole_count (Fits (negsuc 0)) ≡ None
 minus_one = refl

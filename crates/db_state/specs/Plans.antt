@@ -1,8 +1,7 @@
 -- What the function of a statement returns, against its effect; and the plan that is carried out.
 use Rattle.std.specs.Prelude.{ℕ, ◌≡◌, ◌<◌, ◌⊎◌, true, false, List, Option, Some, None, Result, Ok, Err, Vec, IfOk, [], codes, refl}
 use Rattle.std.specs.declared.alloc.Global.{Global}
-use Rattle.ct_keep.specs.Content.{Content, after}
-use Rattle.ct_keep.specs.Laws.{changes_weight}
+use Rattle.ct_keep.specs.Content.{Content, after, changes_weight}
 use Rattle.ct_keep.specs.declared.keepers.KeepFault.{KeepFault}
 use Rattle.ct_keep.specs.declared.keepers.KeepFault.TheVariants.{Memory, Disk, Full as NoRoom}
 use Rattle.ct_keep.specs.KeeperViews.{AtMostOneCommit, KeeperView, SameButContent, ReadsKeeper, Goes, AnswersCommit, IsDurable, fault_of, counted, is_full}
@@ -55,7 +54,7 @@ pub record Commits (c : Content) (old new : KeeperView) (fault : Option KeepFaul
 abbrev pub CommitsOnce : KeeperView → KeeperView → Option KeepFault → Type 0
 CommitsOnce old new fault = (c : Content) → old.content ≡ Some c → Commits c old new fault
 
--- The content stays as it is, where it is told, and a stop leaves it at each moment.
+-- The content stays as it is, where it is told, and a crash leaves it at each moment.
 abbrev pub ContentStays : KeeperView → KeeperView → Type 0
 ContentStays old new = (c : Content) → old.content ≡ Some c → Goes c c old new None
 
@@ -106,7 +105,7 @@ CommitGives batch reply old new result =
 pub record Fulfils (effect : StoreState → Effect) (lines : Option DoneLines) (old new : KeeperView) (result : Result (Vec ℕ Global) KeepFault) : Type 0 where
   pub kept : SameButContent old new (fault_of result)
   pub fulls : new.counts.fulls ≡ counted (is_full (fault_of result)) old.counts.fulls
-  pub once : AtMostOneCommit old.counts new.counts
+  pub once : AtMostOneCommit old new
   pub gives : IsDurable old → (m : StoreState) (c : Content) → old.content ≡ Some c → StandsForState c m → GivesEffect m (effect m) c old new result
   pub tells : IsDurable old → ReturnsBy lines old new result
 

@@ -1,5 +1,5 @@
 //! What statements ask of the tables and the indexes.
-#![tactic(auto, using(ct_keep::specs::Composing::reads_on, ct_keep::specs::Composing::reads_short))]
+#![tactic(auto, using(ct_keep::specs::laws::Composing::reads_on, ct_keep::specs::laws::Composing::reads_short))]
 
 ghost use Rattle.std.specs.Prelude.{◌≡◌, ◌<◌, ◌∷◌, [], IfOk, Some, is_some, nat_le, length};
 ghost use Rattle.std.specs.Option.{option_map};

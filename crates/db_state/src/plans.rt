@@ -1,8 +1,8 @@
 //! What a statement that changes something comes to, before its commit.
-#![tactic(auto, using(ct_keep::specs::Composing::reads_on, ct_keep::specs::Composing::reads_short))]
+#![tactic(auto, using(ct_keep::specs::laws::Composing::reads_on, ct_keep::specs::laws::Composing::reads_short))]
 
 ghost use Rattle.std.specs.Prelude.{◌≡◌, Err};
-ghost use Rattle.ct_keep.specs.Laws.{changes_weight};
+ghost use Rattle.ct_keep.specs.Content.{changes_weight};
 ghost use Rattle.ct_keep.specs.KeeperViews.{Told};
 ghost use Rattle.db_state.specs.Plans.{CarriesOut, IsRemoval, IsStorePlan};
 ghost use Rattle.db_state.specs.Shapes.{AcceptsStatements, AreStoreChanges};

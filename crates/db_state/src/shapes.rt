@@ -5,7 +5,7 @@ ghost use Rattle.db_state.specs.Shapes.{IsStoreEntry};
 use ct_base::Memory;
 use ct_entry::key_parts;
 use ct_keep::Shape;
-use ix_context::is_index_shape;
+use ix_context::is_context_shape;
 use std::alloc::Global;
 use tb_table::is_table_shape;
 use tx_prefs::is_pref_shape;
@@ -25,7 +25,7 @@ impl Shape for StoreShape {
         if is_table_shape(alloc, kind, part, value)? {
             return Ok(true);
         }
-        if is_index_shape(alloc, kind, part, value)? {
+        if is_context_shape(alloc, kind, part, value)? {
             return Ok(true);
         }
         is_pref_shape(alloc, kind, part, value)

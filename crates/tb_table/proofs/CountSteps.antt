@@ -7,13 +7,13 @@ use Rattle.std.specs.Cmp.Lexicographic.{slice_cmp}
 use Rattle.std.specs.FinMap.{entries, get}
 use Rattle.std.proofs.lemmas.Cmp.{nat_list_cmp_total}
 use Rattle.ct_keep.specs.Content.{Content}
-use Rattle.ct_keep.specs.Rising.{Entry}
+use Rattle.ct_keep.specs.laws.Rising.{Entry}
 use Rattle.ct_keep.specs.Tail.{tail}
-use Rattle.ct_keep.specs.TailLaws.{get-tail, get-tail_nil}
+use Rattle.ct_keep.specs.laws.Tail.{get-tail, get-tail_nil}
 use Rattle.ct_entry.specs.declared.kinds.Kind.TheVariants as kind
 use Rattle.ct_entry.specs.Keys.{Key, key, bytes, prefix_of, IsRowPart, IsPart, HasKeysOnly}
 use Rattle.ct_entry.specs.laws.Keys.{key_from_bytes}
-use Rattle.ct_keep.specs.FoundKeys.{AllKeys, all_keys}
+use Rattle.ct_keep.specs.laws.FoundKeys.{AllKeys, all_keys}
 use Rattle.ct_entry.specs.Listings.{row_of, rows_of, rows_under}
 use Rattle.ct_entry.specs.laws.Rows.{row_of-row_part}
 

@@ -14,14 +14,14 @@ use Rattle.ct_base.specs.Names.{is_kept, kept_name}
 use Rattle.ct_keep.specs.Content.{Content}
 use Rattle.ct_keep.specs.Looks.{one_if}
 use Rattle.ct_keep.specs.Tail.{tail}
-use Rattle.ct_keep.specs.TailLaws.{get-tail}
-use Rattle.ct_keep.specs.RisingKeys.{below, rises, entries_rise}
+use Rattle.ct_keep.specs.laws.Tail.{get-tail}
+use Rattle.ct_keep.specs.laws.RisingKeys.{below, rises, entries_rise}
 use Rattle.ct_entry.specs.declared.kinds.Kind.TheVariants as kind
 use Rattle.ct_entry.specs.Kinds.{code}
 use Rattle.ct_entry.specs.Keys.{counted_bytes, same_list}
 use Rattle.ct_base.specs.laws.Orders.{equal_from_test}
 use Rattle.ct_entry.specs.laws.Keys.{list_from_same, list_same}
-use Rattle.ct_keep.specs.FoundKeys.{none_below, below_tied}
+use Rattle.ct_keep.specs.laws.FoundKeys.{none_below, below_tied}
 use Rattle.ct_entry.specs.Listings.{owner_of, owners_of, owners_under}
 use Rattle.ct_entry.specs.laws.Owners.{owner_some}
 use Rattle.tb_table.specs.laws.NameOrder.{tally, tally-cons, among_once, at_most_one, sorted_names_rise}

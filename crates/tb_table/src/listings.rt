@@ -1,5 +1,5 @@
 //! What tables there are, and the rows of a table.
-#![tactic(auto, using(ct_keep::specs::Composing::reads_short))]
+#![tactic(auto, using(ct_keep::specs::laws::Composing::reads_short))]
 
 ghost use Rattle.std.specs.Prelude.{◌≡◌, ◌++◌, ◌∷◌, [], OnOk, IsPermutation, IsSorted};
 ghost use Rattle.std.specs.Option.{option_map};

@@ -1,5 +1,5 @@
 //! What tables and rows a keeper holds, each by one look-up.
-#![tactic(auto, using(ct_keep::specs::Composing::reads_short))]
+#![tactic(auto, using(ct_keep::specs::laws::Composing::reads_short))]
 
 ghost use Rattle.std.specs.Prelude.{◌≡◌, None, [], is_some};
 ghost use Rattle.std.specs.Option.{option_map};

@@ -1,5 +1,5 @@
 //! What the removal of rows and of tables puts into a batch.
-#![tactic(auto, using(ct_keep::specs::Composing::reads_on, ct_keep::specs::Composing::reads_short))]
+#![tactic(auto, using(ct_keep::specs::laws::Composing::reads_on, ct_keep::specs::laws::Composing::reads_short))]
 
 ghost use Rattle.std.specs.Prelude.{◌≡◌, [], ◌∷◌, ◌++◌, ◌+◌, ◌≤◌, length, OnOk, OnErr};
 ghost use Rattle.ct_base.specs.Limits.{column_limit};

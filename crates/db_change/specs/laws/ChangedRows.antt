@@ -30,7 +30,7 @@ use Rattle.tb_table.specs.laws.Well.{are_insert}
 use Rattle.ix_docmap.specs.Changes.{changed_changes}
 use Rattle.ix_docmap.specs.Readings.{document_at}
 use Rattle.ix_docmap.specs.laws.Documents.{is_of_map}
-use Rattle.ix_kinds.specs.Rows.{RowChange, table_at, value_of}
+use Rattle.ix_kinds.specs.Rows.{RowChange, table_at, value_of_row}
 use Rattle.ix_kinds.specs.Statements.{tables_after, looks_at_any, is_on, AreIndexesOn, indexes_after, row_changes_at}
 use Rattle.ix_kinds.specs.RowSteps.{HaveSameColumns, DifferInRow, SetsColumns, AwaitsTurn, IsStep, AreSteps, IndexesHold}
 use Rattle.ix_kinds.specs.laws.Tables.{and_false, differs, row_now as row_after, set_looks_alike, HasStill, has_still}
@@ -40,12 +40,12 @@ use Rattle.db_names.specs.declared.heads.IndexKind.TheVariants.{Context, Catalog
 use Rattle.db_names.specs.declared.heads.IndexHead.{IndexHead}
 use Rattle.ix_indexes.specs.Indexes.{Index, kinds, StandsUnder, IndexesStand}
 use Rattle.ix_indexes.specs.laws.Indexes.{context_is}
-use Rattle.ix_indexes.specs.declared.noting.RowStep.TheVariants.{Changes}
+use Rattle.ix_indexes.specs.declared.noting.RowEvent.TheVariants.{Changes}
 use Rattle.ix_indexes.specs.Noting.{kind_changes, heads_changes}
 use Rattle.ix_indexes.specs.laws.Noting.{each_among}
 use Rattle.db_change.specs.laws.IndexCounts.{few_after}
 use Rattle.st_parse.specs.declared.statements.Assign.{Assign}
-use Rattle.db_rows.specs.Values.{values_of, row_values}
+use Rattle.db_rows.specs.Values.{values_behind_key, row_values}
 use Rattle.tx_prefs.specs.Spelling.{PreferencesStand}
 use Rattle.tx_prefs.specs.laws.Changes.{preferences_frame, other_kinds}
 use Rattle.db_state.specs.States.{StoreState, StandsForState, HasShortRows, is_of_rows, is_built, is_view, index_limit}
@@ -168,12 +168,12 @@ module _ (c : Content) (m : StoreState) (t : List ℕ) (x : Table) (assigns : Li
     row_now = ap (λ (o : Option Table). row_in o r) at_turn.still.here ∙ at_turn.still.row
 
     step_is : step ts r ≡ with_row ts t r new
-    step_is = ap (λ (o : Option (List Value)). with_row ts t r (updated_values columns assigns (values_of o))) row_now
+    step_is = ap (λ (o : Option (List Value)). with_row ts t r (updated_values columns assigns (values_behind_key o))) row_now
 
     own_is : insert_changes t r (numbers_of new) (texts_set 1 columns assigns) ≡ own r
     own_is =
         ap (λ (ns : List ℤ). insert_changes t r ns (texts_set 1 columns assigns))
-        (numbers_values assigns columns at_turn.old at_turn.fit set ∙ ap (λ (o : Option (List Value)). numbers_after columns assigns (numbers_of (values_of o))) (sym at_turn.first))
+        (numbers_values assigns columns at_turn.old at_turn.fit set ∙ ap (λ (o : Option (List Value)). numbers_after columns assigns (numbers_of (values_behind_key o))) (sym at_turn.first))
 
     differ : DifferInRow ts (with_row ts t r new) t r
     differ = differs ts (with_row ts t r new) t r (Some new) (columns-with_row ts t r new at_turn.still.table at_turn.still.here) (row_at-with_row ts t r new at_turn.still.table at_turn.still.here)
@@ -186,9 +186,9 @@ module _ (c : Content) (m : StoreState) (t : List ℕ) (x : Table) (assigns : Li
       was = ap is_some row_now;
       there = ap is_some has_it;
       values = λ column other.
-          ap (λ (o : Option (List Value)). value_of o column) has_it
+          ap (λ (o : Option (List Value)). value_of_row o column) has_it
           ∙ value_stays x.columns assigns at_turn.old (stands.state.tables.each t x here).columns.apart at_turn.fit column other
-          ∙ sym (ap (λ (o : Option (List Value)). value_of o column) row_now);
+          ∙ sym (ap (λ (o : Option (List Value)). value_of_row o column) row_now);
     }
 
     is_step : AwaitsTurn m.tables ts t r → IsStep kinds (looks_at_any kinds places) ts (step ts r) t (change r)
@@ -197,7 +197,7 @@ module _ (c : Content) (m : StoreState) (t : List ℕ) (x : Table) (assigns : Li
         subst (λ (us : Tables). IsStep kinds (looks_at_any kinds places) ts us t (change r)) (sym step_is) (record {
           rules = update_keeps ts t r at_turn.old new still.table awaits.rules still.here still.row (subst (λ (cs : List Column). FitColumns (others cs) new) (sym still.columns) (values_fit assigns columns at_turn.old at_turn.fit set));
           differ = differ;
-          told = let same = ap (λ (o : Option (List Value)). Some (updated_values columns assigns (values_of o))) at_turn.first ∙ sym has_it in λ j. record { row = r; old = sym awaits.row j; new = same j };
+          told = let same = ap (λ (o : Option (List Value)). Some (updated_values columns assigns (values_behind_key o))) at_turn.first ∙ sym has_it in λ j. record { row = r; old = sym awaits.row j; new = same j };
           unseen = λ y unseen. set_looks_alike ts (with_row ts t r new) t places r (kinds.looks y) differ sets unseen;
         })
 
@@ -221,7 +221,8 @@ module _ (c : Content) (m : StoreState) (t : List ℕ) (x : Table) (assigns : Li
       go true e = absurd (apart (subst (λ (z : ℤ). IsIn z rows) (int_from_eq s r e) among))
       go false e = refl
 
-  tables_stand : (rows : List ℤ) → AreApart rows → ((r : ℤ) → IsIn r rows → is_some (row_at m.tables t r) ≡ true) → (f : Key → Option (List ℕ)) (ts : Tables) → AreTables ts → HaveSameColumns m.tables ts
+  tables_stand : (rows : List ℤ) → AreApart rows → ((r : ℤ) → IsIn r rows → is_some (row_at m.tables t r) ≡ true)
+      → (f : Key → Option (List ℕ)) (ts : Tables) → AreTables ts → HaveSameColumns m.tables ts
       → ((r : ℤ) → IsIn r rows → row_at ts t r ≡ row_at m.tables t r) → TablesStand f ts → TablesStand (view (each (λ r. own r ++ notes r) rows) f) (tables_after step ts rows)
   tables_stand [] distinct there f ts rules alike same stand = stand
   tables_stand (r ∷ rows) distinct there f ts rules alike same stand =

@@ -6,8 +6,7 @@ use Rattle.std.specs.Ordering.{int_eq, nat_cmp, eq_by_cmp}
 use Rattle.std.specs.Cmp.Lexicographic.{slice_cmp}
 use Rattle.std.specs.FinMap.{get, remove, get-remove}
 use Rattle.std.proofs.lemmas.Cmp.{nat_list_cmp_total}
-use Rattle.ct_keep.specs.Content.{Content, set_to, after}
-use Rattle.ct_keep.specs.Laws.{changes_weight, value_weight}
+use Rattle.ct_keep.specs.Content.{Content, set_to, after, changes_weight, value_weight}
 use Rattle.ct_entry.specs.declared.kinds.Kind.{Kind}
 use Rattle.ct_entry.specs.declared.kinds.Kind.TheVariants as kind
 use Rattle.ct_entry.specs.Keys.{Key, HasKeysOnly, IsRow, at, bytes, same_list}
@@ -36,7 +35,7 @@ use Rattle.ix_kinds.specs.RowSteps.{AreSteps, IndexesHold}
 use Rattle.ix_kinds.specs.laws.Tables.{differs, row_now}
 use Rattle.ix_kinds.specs.laws.Turns.{row_is_row, rows_in_turn}
 use Rattle.ix_indexes.specs.Indexes.{kinds, IndexesStand}
-use Rattle.ix_indexes.specs.declared.noting.RowStep.TheVariants.{Goes}
+use Rattle.ix_indexes.specs.declared.noting.RowEvent.TheVariants.{Goes}
 use Rattle.ix_indexes.specs.Noting.{kind_changes, heads_changes}
 use Rattle.ix_indexes.specs.laws.Noting.{each_among}
 use Rattle.tx_prefs.specs.Spelling.{PreferencesStand}
@@ -172,11 +171,13 @@ tables_without f ts t x notes all (r ∷ rows) here are each_row stand =
     subst (λ (g : Key → Option (List ℕ)). TablesStand g (tables_after (lose_row t) us rows)) (sym (view-append (a ++ b) (each (λ r. delete_changes t x.columns r ++ notes r) rows) f))
     (tables_without (view (a ++ b) f) us t (record x { rows = remove x.rows r }) notes all rows (still_there ts t x r here) (delete_keeps ts t r are) (λ s later. each_row s (inr later)) one)
 
-same_columns : (ts : Tables) (t : List ℕ) (rows : List ℤ) (q : List ℕ) → option_map (λ (y : Table). y.columns) (get (tables_after (lose_row t) ts rows) q) ≡ option_map (λ (y : Table). y.columns) (get ts q)
+same_columns : (ts : Tables) (t : List ℕ) (rows : List ℤ) (q : List ℕ)
+    → option_map (λ (y : Table). y.columns) (get (tables_after (lose_row t) ts rows) q) ≡ option_map (λ (y : Table). y.columns) (get ts q)
 same_columns ts t [] q = refl
 same_columns ts t (r ∷ rows) q = same_columns (without_row ts t r) t rows q ∙ columns-without_row ts t r q
 
-no_views : (m : StoreState) (t : List ℕ) (rows : List ℤ) → ((q : List ℕ) (y : Table) → get m.tables q ≡ Some y → is_view q ≡ false) → (q : List ℕ) (y : Table) → get (tables_after (lose_row t) m.tables rows) q ≡ Some y → is_view q ≡ false
+no_views : (m : StoreState) (t : List ℕ) (rows : List ℤ) → ((q : List ℕ) (y : Table) → get m.tables q ≡ Some y → is_view q ≡ false)
+    → (q : List ℕ) (y : Table) → get (tables_after (lose_row t) m.tables rows) q ≡ Some y → is_view q ≡ false
 no_views m t rows views q y is = go (get m.tables q) refl (sym (same_columns m.tables t rows q) ∙ ap (option_map (λ (z : Table). z.columns)) is)
   where
     go : (o : Option Table) → get m.tables q ≡ o → option_map (λ (z : Table). z.columns) o ≡ Some y.columns → is_view q ≡ false
@@ -207,7 +208,8 @@ loses_each m t rows ts r among awaits = record {
 -- ---- the state
 
 -- after these rows of a table went, each of which is there once
-pub gone_rows_stand : (c : Content) (m : StoreState) (t : List ℕ) (x : Table) (rows : List ℤ) → StandsForState c m → get m.tables t ≡ Some x → AreApart rows → ((r : ℤ) → IsIn r rows → is_some (row_at m.tables t r) ≡ true)
+pub gone_rows_stand : (c : Content) (m : StoreState) (t : List ℕ) (x : Table) (rows : List ℤ) → StandsForState c m → get m.tables t ≡ Some x
+    → AreApart rows → ((r : ℤ) → IsIn r rows → is_some (row_at m.tables t r) ≡ true)
     → StandsForState (after (spell (gone_rows_changes (at c) t x.columns (heads_on m.indexes t) rows)) c) (without_rows m t rows)
 gone_rows_stand c m t x rows stands here once there =
     let es = heads_on m.indexes t in

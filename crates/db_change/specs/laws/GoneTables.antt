@@ -1,12 +1,12 @@
 -- The state after a table is dropped, and with it the indexes on it.
-use Rattle.std.proofs.Common.{◌≡◌, ℕ, ◌≤◌, Bool, true, false, cond, List, length, Option, Some, None, refl, sym, ap, subst, ◌∙◌, arith, ⊎_elim}
+use Rattle.std.proofs.Common.{◌≡◌, ℕ, ◌≤◌, Bool, true, false, cond, List, length, Option, Some, None, refl, sym, ap, subst, ◌∙◌, arith}
 use Rattle.std.specs.Prelude.{not, filter, ◌&&◌}
 use Rattle.std.specs.Ordering.{nat_cmp}
 use Rattle.std.specs.Cmp.Lexicographic.{slice_cmp}
 use Rattle.std.specs.FinMap.{get, entries}
 use Rattle.std.proofs.lemmas.Cmp.{nat_list_cmp_total}
 use Rattle.ct_keep.specs.Content.{Content, after}
-use Rattle.ct_keep.specs.RisingKeys.{entries_rise}
+use Rattle.ct_keep.specs.laws.RisingKeys.{entries_rise}
 use Rattle.ct_entry.specs.Keys.{Key, at, same_list}
 use Rattle.ct_entry.specs.Maps.{Names}
 use Rattle.ct_entry.specs.Changes.{spell, told, view}
@@ -40,7 +40,8 @@ use Rattle.ix_context.specs.laws.ContextCreates.{context_laws}
 others_same : (ts : Tables) (t : List ℕ) → HaveSameTablesBut ts (without_table ts t) t
 others_same ts t q other = get-without_table ts t q ∙ ap (λ (b : Bool). cond b None (get ts q)) other
 
-views_left : (m : StoreState) (t : List ℕ) → ((q : List ℕ) (x : Table) → get m.tables q ≡ Some x → is_view q ≡ false) → (q : List ℕ) (x : Table) → get (without_table m.tables t) q ≡ Some x → is_view q ≡ false
+views_left : (m : StoreState) (t : List ℕ) → ((q : List ℕ) (x : Table) → get m.tables q ≡ Some x → is_view q ≡ false) → (q : List ℕ) (x : Table)
+    → get (without_table m.tables t) q ≡ Some x → is_view q ≡ false
 views_left m t views q x is = go (same_list q t) (sym (get-without_table m.tables t q) ∙ is)
   where
     go : (b : Bool) → cond b None (get m.tables q) ≡ Some x → is_view q ≡ false

@@ -7,7 +7,7 @@ use Rattle.std.specs.Cmp.{IsTotalOrder}
 use Rattle.std.specs.Cmp.Lexicographic.{slice_cmp}
 use Rattle.std.specs.FinMap.{FinMap, entries}
 use Rattle.std.proofs.lemmas.Cmp.{nat_list_cmp_total}
-use Rattle.ct_keep.specs.RisingKeys.{below, rises, entries_rise}
+use Rattle.ct_keep.specs.laws.RisingKeys.{below, rises, entries_rise}
 use Rattle.ct_entry.specs.Keys.{same_list}
 use Rattle.ct_entry.specs.Maps.{Names, each_at}
 use Rattle.tb_table.specs.Tables.{Tables}
@@ -49,7 +49,8 @@ few_after_row test t c xs q = few_each (after_row_on kinds test t c) same xs q
         go false = refl
 
 -- and so do several
-pub few_after : (test : Index → Bool) (step : Tables → ℤ → Tables) (ts : Tables) (t : List ℕ) (rows : List ℤ) (xs : Names Index) (q : List ℕ) → length (indexes_on (indexes_after kinds test step ts t rows xs) q) ≡ length (indexes_on xs q)
+pub few_after : (test : Index → Bool) (step : Tables → ℤ → Tables) (ts : Tables) (t : List ℕ) (rows : List ℤ) (xs : Names Index) (q : List ℕ)
+    → length (indexes_on (indexes_after kinds test step ts t rows xs) q) ≡ length (indexes_on xs q)
 few_after test step ts t [] xs q = refl
 few_after test step ts t (r ∷ rows) xs q =
     few_after test step (step ts r) t rows (indexes_after_row kinds test t (row_change ts (step ts r) t r) xs) q ∙ few_after_row test t (row_change ts (step ts r) t r) xs q

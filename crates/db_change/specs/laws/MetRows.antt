@@ -6,7 +6,7 @@ use Rattle.std.specs.FinMap.{get, entries}
 use Rattle.std.proofs.lemmas.Bool.{and_parts, and_from}
 use Rattle.std.proofs.lemmas.Cmp.{int_cmp_total}
 use Rattle.ct_base.specs.declared.lists.Value.{Value}
-use Rattle.ct_keep.specs.RisingKeys.{below, rises, entries_rise}
+use Rattle.ct_keep.specs.laws.RisingKeys.{below, rises, entries_rise}
 use Rattle.ct_entry.specs.Lists.{IsIn, AreApart}
 use Rattle.ct_entry.specs.laws.Lists.{in_map, in_filter}
 use Rattle.ct_entry.specs.laws.MapEntries.{in_get}
@@ -22,7 +22,8 @@ keys_below-filter : {X : Type 0} (p : ℤ × X → Bool) (k : ℤ) (es : List (�
 keys_below-filter p k [] h = refl
 keys_below-filter {X} p k (e ∷ es) h = let b = and_parts (is_lt (int_cmp k e.0)) (below int_cmp k es) h in go (p e) b.0 (keys_below-filter p k es b.1)
   where
-    go : (b : Bool) → is_lt (int_cmp k e.0) ≡ true → keys_below int_cmp k (map (λ (e : ℤ × X). e.0) (filter p es)) ≡ true → keys_below int_cmp k (map (λ (e : ℤ × X). e.0) (cond b (e ∷ filter p es) (filter p es))) ≡ true
+    go : (b : Bool) → is_lt (int_cmp k e.0) ≡ true → keys_below int_cmp k (map (λ (e : ℤ × X). e.0) (filter p es)) ≡ true
+        → keys_below int_cmp k (map (λ (e : ℤ × X). e.0) (cond b (e ∷ filter p es) (filter p es))) ≡ true
     go true less rest = and_from _ _ less rest
     go false less rest = rest
 
@@ -30,7 +31,9 @@ keys_rise_by-filter : {X : Type 0} (p : ℤ × X → Bool) (es : List (ℤ × X)
 keys_rise_by-filter p [] h = refl
 keys_rise_by-filter {X} p (e ∷ es) h = let b = and_parts (below int_cmp e.0 es) (rises int_cmp es) h in go (p e) (keys_below-filter p e.0 es b.0) (keys_rise_by-filter p es b.1)
   where
-    go : (b : Bool) → keys_below int_cmp e.0 (map (λ (e : ℤ × X). e.0) (filter p es)) ≡ true → keys_rise_by int_cmp (map (λ (e : ℤ × X). e.0) (filter p es)) ≡ true → keys_rise_by int_cmp (map (λ (e : ℤ × X). e.0) (cond b (e ∷ filter p es) (filter p es))) ≡ true
+    go : (b : Bool) → keys_below int_cmp e.0 (map (λ (e : ℤ × X). e.0) (filter p es)) ≡ true
+        → keys_rise_by int_cmp (map (λ (e : ℤ × X). e.0) (filter p es)) ≡ true
+        → keys_rise_by int_cmp (map (λ (e : ℤ × X). e.0) (cond b (e ∷ filter p es) (filter p es))) ≡ true
     go true less rest = and_from _ _ less rest
     go false less rest = rest
 

@@ -10,14 +10,14 @@ use Rattle.ct_keep.specs.Content.{Content, after}
 use Rattle.ct_entry.specs.Keys.{Key, at, same_list, IsRow}
 use Rattle.ct_entry.specs.laws.Keys.{list_from_same}
 use Rattle.ct_entry.specs.Maps.{Names}
-use Rattle.ct_keep.specs.FoundKeys.{none_below}
+use Rattle.ct_keep.specs.laws.FoundKeys.{none_below}
 use Rattle.ct_entry.specs.Listings.{key_order}
 use Rattle.std.proofs.lemmas.Bool.{and_parts}
 use Rattle.std.specs.List.{All}
 use Rattle.std.proofs.lemmas.List.Elements.{All-weaker, All-head, All-tail}
-use Rattle.ct_keep.specs.RisingKeys.{below, rises}
+use Rattle.ct_keep.specs.laws.RisingKeys.{below, rises}
 use Rattle.ct_entry.specs.Each.{is_any_of}
-use Rattle.ct_entry.specs.Changes.{spell, told, view, AreChanges, AllOf}
+use Rattle.ct_entry.specs.Changes.{spell, told, view, AreChanges}
 use Rattle.ct_entry.specs.laws.Changes.{at_view, at-after, only-after, told_frame, told-append, view-append, are-append}
 use Rattle.tb_table.specs.Tables.{Table, Tables, numbers_of, texts_of, row_at, with_row}
 use Rattle.tb_table.specs.Spelling.{TablesStand, insert_changes}
@@ -46,7 +46,7 @@ use Rattle.ix_kinds.specs.laws.Standing.{indexes_frame}
 use Rattle.ix_kinds.specs.laws.Tables.{differs, row_now}
 use Rattle.ix_kinds.specs.laws.Rows.{row_stands, row_keeps}
 use Rattle.ix_indexes.specs.Indexes.{Index, kinds, IndexesStand, AreIndexes}
-use Rattle.ix_indexes.specs.declared.noting.RowStep.TheVariants.{Comes}
+use Rattle.ix_indexes.specs.declared.noting.RowEvent.TheVariants.{Comes}
 use Rattle.ix_indexes.specs.Noting.{kind_changes, heads_changes}
 use Rattle.db_change.specs.laws.IndexCounts.{few_after_row}
 use Rattle.db_change.specs.laws.NewTables.{tables_built, rows_tables, apart}
@@ -148,7 +148,8 @@ has_it ts t r vs x is = row_now ts (with_row ts t r vs) t r (Some vs) (λ q s. r
 none_unseen : (ts us : Tables) (t : List ℕ) (xs : Names Index) → AreUnseen kinds (every kinds) ts us t xs
 none_unseen ts us t xs i y here on h = cc
 
-new_row_state : (m : StoreState) (t : List ℕ) (x : Table) (r : ℤ) (vs : List Value) → get m.tables t ≡ Some x → IsState m → IsRow r → FitColumns (others x.columns) vs → length (entries x.rows) < 100000 → IsState (with_new_row m t r vs)
+new_row_state : (m : StoreState) (t : List ℕ) (x : Table) (r : ℤ) (vs : List Value) → get m.tables t ≡ Some x → IsState m → IsRow r
+    → FitColumns (others x.columns) vs → length (entries x.rows) < 100000 → IsState (with_new_row m t r vs)
 new_row_state m t x r vs is state row fit room = record {
   tables = insert_keeps m.tables t r vs x state.tables is row fit room;
   indexes = row_keeps kinds context_laws m.tables (with_row m.tables t r vs) m.indexes t r (every kinds) state.tables (insert_keeps m.tables t r vs x state.tables is row fit room) (differ_in_row m.tables t r vs x is)
@@ -160,7 +161,8 @@ new_row_state m t x r vs is state row fit room = record {
 
 -- ---- the entries
 
-notes_stand : (c : Content) (m : StoreState) (t : List ℕ) (x : Table) (r : ℤ) (vs : List Value) → StandsForState c m → get m.tables t ≡ Some x → get x.rows r ≡ None → AreTables (with_row m.tables t r vs)
+notes_stand : (c : Content) (m : StoreState) (t : List ℕ) (x : Table) (r : ℤ) (vs : List Value) → StandsForState c m → get m.tables t ≡ Some x
+    → get x.rows r ≡ None → AreTables (with_row m.tables t r vs)
     → IndexesStand (view (heads_changes (at c) r Comes (heads_on m.indexes t)) (view (insert_changes t r (numbers_of vs) (texts_of vs)) (at c))) (with_row m.tables t r vs) (with_new_row m t r vs).indexes
 notes_stand c m t x r vs stands is none after =
     let a = insert_changes t r (numbers_of vs) (texts_of vs) in
@@ -174,7 +176,8 @@ notes_stand c m t x r vs stands is none after =
     (row_stands kinds context_laws (view a (at c)) m.tables us m.indexes t r (every kinds) (names_on m.indexes t) stands.state.tables after stands.state.indexes on (differ_in_row m.tables t r vs x is) (none_unseen m.tables us t m.indexes)
     (indexes_frame kinds context_alone is_of_tables a (at c) m.tables m.indexes (all_insert t r (numbers_of vs) (texts_of vs)) apart stands.indexes))
 
-pub new_row_stands : (c : Content) (m : StoreState) (t : List ℕ) (x : Table) (r : ℤ) (vs : List Value) → StandsForState c m → get m.tables t ≡ Some x → get x.rows r ≡ None → IsRow r → FitColumns (others x.columns) vs → length (entries x.rows) < 100000
+pub new_row_stands : (c : Content) (m : StoreState) (t : List ℕ) (x : Table) (r : ℤ) (vs : List Value) → StandsForState c m → get m.tables t ≡ Some x
+    → get x.rows r ≡ None → IsRow r → FitColumns (others x.columns) vs → length (entries x.rows) < 100000
     → StandsForState (after (spell (new_row_changes (at c) t r vs (heads_on m.indexes t))) c) (with_new_row m t r vs)
 new_row_stands c m t x r vs stands is none row fit room =
     let a = insert_changes t r (numbers_of vs) (texts_of vs) in

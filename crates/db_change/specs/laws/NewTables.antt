@@ -32,7 +32,7 @@ use Rattle.std.specs.Option.{unwrap_or}
 use Rattle.tb_table.specs.declared.columns.Sort.TheVariants.{Number}
 use Rattle.tx_prefs.specs.Spelling.{PreferencesStand}
 use Rattle.tx_prefs.specs.laws.Changes.{preferences_frame, other_kinds}
-use Rattle.db_state.specs.Effects.{as_count}
+use Rattle.db_state.specs.Effects.{whole_count}
 use Rattle.db_change.specs.Creating.{is_number_sort, is_key_first, names_differ, is_size, is_sized, all_sized, declared_sort, column_of, with_new_table}
 use Rattle.db_state.specs.laws.ShortRows.{rows_frame}
 use Rattle.db_state.specs.States.{HasShortRows, is_of_rows, StoreState, StandsForState, is_view, is_built}
@@ -78,7 +78,8 @@ apart kind.RowNumbers h = cc
 apart kind.RowTexts h = cc
 apart k h = refl
 
-pub new_table_stands : (c : Content) (m : StoreState) (t : List ℕ) (columns : List Column) → StandsForState c m → get m.tables t ≡ None → is_view t ≡ false → IsName t → AreColumns columns → length (entries m.tables) < 64
+pub new_table_stands : (c : Content) (m : StoreState) (t : List ℕ) (columns : List Column) → StandsForState c m → get m.tables t ≡ None
+    → is_view t ≡ false → IsName t → AreColumns columns → length (entries m.tables) < 64
     → StandsForState (after (spell (table_changes t columns)) c) (record m { tables = with_table m.tables t columns })
 new_table_stands c m t columns stands none free name are few =
     let ws = table_changes t columns in
@@ -104,7 +105,7 @@ new_table_stands c m t columns stands none free name are few =
 
 is_sort : (s : SortText) → is_sized s ≡ true → HasAllowedSize (declared_sort s)
 is_sort NumberText h = tt
-is_sort (Varchar2Text size) h = go (as_count size) h
+is_sort (Varchar2Text size) h = go (whole_count size) h
   where
     go : (o : Option ℕ) → is_size o ≡ true → (1 ≤ unwrap_or o 0) × (unwrap_or o 0 ≤ text_limit)
     go None h = cc
@@ -115,7 +116,8 @@ names_apart : (name : List ℕ) (cs : List ColumnText) → has_column name (map 
 names_apart name [] = refl
 names_apart name (c ∷ cs) = go (same_list name c.name) (names_apart name cs)
   where
-    go : (b : Bool) → has_column name (map column_of cs) ≡ list_any (λ (d : ColumnText). same_list name d.name) cs → cond b true (has_column name (map column_of cs)) ≡ (b || list_any (λ (d : ColumnText). same_list name d.name) cs)
+    go : (b : Bool) → has_column name (map column_of cs) ≡ list_any (λ (d : ColumnText). same_list name d.name) cs
+        → cond b true (has_column name (map column_of cs)) ≡ (b || list_any (λ (d : ColumnText). same_list name d.name) cs)
     go true rest = refl
     go false rest = rest
 
@@ -155,7 +157,8 @@ columns_pass m t cs named free =
     }
 
 -- the state after CREATE TABLE
-pub created_table_stands : (c : Content) (m : StoreState) (t : List ℕ) (cs : List ColumnText) → StandsForState c m → IsName t → AllNamed cs → IsFreeTable m t cs → StandsForState (after (spell (table_changes t (map column_of cs))) c) (with_new_table m t cs)
+pub created_table_stands : (c : Content) (m : StoreState) (t : List ℕ) (cs : List ColumnText) → StandsForState c m → IsName t → AllNamed cs
+    → IsFreeTable m t cs → StandsForState (after (spell (table_changes t (map column_of cs))) c) (with_new_table m t cs)
 created_table_stands c m t cs stands name named free =
     let there = either (is_some (get m.tables t)) (is_view t) free.free in
     let few = either (nat_lt column_limit (length cs)) (nat_le table_limit (length (entries m.tables))) free.few in

@@ -18,7 +18,7 @@ use Rattle.tb_table.specs.declared.columns.Column.{Column}
 use Rattle.tb_table.specs.Tables.{numbers_of, as_text, text_in, text_in_column, given_text, IsUpdate}
 use Rattle.tb_table.specs.Rules.{IsOfSort as FitsSort, FitColumns, HaveDistinctNames, has_column, others}
 use Rattle.tb_table.specs.laws.Well.{EachPlace}
-use Rattle.ix_kinds.specs.Rows.{value_at, value_in_column}
+use Rattle.ix_kinds.specs.Rows.{value_at_place, value_in_column}
 use Rattle.ix_kinds.specs.RowSteps.{is_column}
 use Rattle.db_state.specs.Columns.{place_from, column_place}
 use Rattle.db_change.specs.Inserting.{kept_value, number_value, text_value}
@@ -106,7 +106,8 @@ module _ (assigns : List Assign) where
       or_none None = refl
       or_none (Some text) = refl
 
-      one : (o : Option (List ℕ)) → given_text q (texts_set (suc place) cs assigns) ≡ text_set_at cs k → given_text q (cons_option (option_map (λ text. (place, text)) o) (texts_set (suc place) cs assigns)) ≡ text_set_at cs k
+      one : (o : Option (List ℕ)) → given_text q (texts_set (suc place) cs assigns) ≡ text_set_at cs k
+          → given_text q (cons_option (option_map (λ text. (place, text)) o) (texts_set (suc place) cs assigns)) ≡ text_set_at cs k
       one None rest = rest
       one (Some text) rest =
           ap (λ (b : Bool). option_or (given_text q (texts_set (suc place) cs assigns)) (cond b (Some text) None)) (ne_eqb q place (λ e. omega (arith, e, is)))
@@ -173,39 +174,6 @@ module _ (assigns : List Assign) where
       one true is rest = refl
       one false is rest = rest is
 
-  -- the name of a column in which a text is set
-  record IsSetAt (cs : List Column) (from k : ℕ) : Type 0 where
-    name : List ℕ
-    value : Operand
-    set : set_in assigns name ≡ Some value
-    place : place_from from name cs ≡ Some (from + k)
-
-  set_at : (cs : List Column) (from k : ℕ) (text : List ℕ) → HaveDistinctNames cs → text_set_at cs k ≡ Some text → IsSetAt cs from k
-  set_at [] from k text apart is = cc
-  set_at (c ∷ cs) from zero text apart is = one (set_in assigns c.name) refl is
-    where
-      one : (o : Option Operand) → set_in assigns c.name ≡ o → option_and_then text_value o ≡ Some text → IsSetAt (c ∷ cs) from zero
-      one None set is = cc
-      one (Some w) set is = record {
-        name = c.name;
-        value = w;
-        set = set;
-        place = ap (λ (b : Bool). cond b (Some from) (place_from (suc from) c.name cs)) (list_same c.name) ∙ ap Some (omega arith);
-      }
-  set_at (c ∷ cs) from (suc k) text apart is =
-      let later = set_at cs (suc from) k text apart.1 is in
-      record {
-        name = later.name;
-        value = later.value;
-        set = later.set;
-        place = one later (same_list later.name c.name) refl;
-      }
-    where
-      one : (later : IsSetAt cs (suc from) k) (b : Bool) → same_list later.name c.name ≡ b → cond (same_list later.name c.name) (Some from) (place_from (suc from) later.name cs) ≡ Some (from + suc k)
-      one later true h =
-          let wrong : true ≡ false = sym (place_there (suc from) later.name cs (suc from + k) later.place) ∙ ap (λ (n : List ℕ). has_column n cs) (list_from_same later.name c.name h) ∙ apart.0 in cc
-      one later false h = ap (λ (b : Bool). cond b (Some from) (place_from (suc from) later.name cs)) h ∙ later.place ∙ ap Some (omega arith)
-
   -- ---- any value
 
   -- what is set in the column at a place
@@ -215,12 +183,19 @@ module _ (assigns : List Assign) where
   value_set_at (c ∷ cs) (suc k) = value_set_at cs k
 
   -- where nothing is set, the value is as before
-  pub value_there : (cs : List Column) (vs : List Value) (k : ℕ) → FitColumns cs vs → value_set_at cs k ≡ None → value_at (updated_values cs assigns vs) k ≡ value_at vs k
+  pub value_there : (cs : List Column) (vs : List Value) (k : ℕ) → FitColumns cs vs → value_set_at cs k ≡ None → value_at_place (updated_values cs assigns vs) k ≡ value_at_place vs k
   value_there [] [] k fit none = refl
   value_there [] (v ∷ vs) k fit none = absurd fit
   value_there (c ∷ cs) [] k fit none = absurd fit
   value_there (c ∷ cs) (v ∷ vs) zero fit none = ap (λ (o : Option Operand). Some (value_after o v)) none
   value_there (c ∷ cs) (v ∷ vs) (suc k) fit none = value_there cs vs k fit.1 none
+
+  -- the name of a column in which a value is set
+  record IsSetAt (cs : List Column) (from k : ℕ) : Type 0 where
+    name : List ℕ
+    value : Operand
+    set : set_in assigns name ≡ Some value
+    place : place_from from name cs ≡ Some (from + k)
 
   value_place : (cs : List Column) (from k : ℕ) (w : Operand) → HaveDistinctNames cs → value_set_at cs k ≡ Some w → IsSetAt cs from k
   value_place [] from k w apart is = cc
@@ -244,7 +219,8 @@ module _ (assigns : List Assign) where
           let wrong : true ≡ false = sym (place_there (suc from) later.name cs (suc from + k) later.place) ∙ ap (λ (n : List ℕ). has_column n cs) (list_from_same later.name c.name h) ∙ apart.0 in cc
       one later false h = ap (λ (b : Bool). cond b (Some from) (place_from (suc from) later.name cs)) h ∙ later.place ∙ ap Some (omega arith)
 
-placed : (columns : List Column) (name : List ℕ) (p : ℕ) → column_place name columns ≡ Some p → (assigns : List Assign) (w : Operand) → set_in assigns name ≡ Some w → is_column (places_set columns assigns) p ≡ true
+placed : (columns : List Column) (name : List ℕ) (p : ℕ) → column_place name columns ≡ Some p → (assigns : List Assign) (w : Operand)
+    → set_in assigns name ≡ Some w → is_column (places_set columns assigns) p ≡ true
 placed columns name p place [] w set = cc
 placed columns name p place (a ∷ assigns) w set = one (same_list name a.column) refl set (placed columns name p place assigns w)
   where
@@ -260,13 +236,14 @@ placed columns name p place (a ∷ assigns) w set = one (same_list name a.column
     one false h set rest = later (column_place a.column columns) (rest set)
 
 -- a column that isn't set has the value that it had
-pub value_stays : (columns : List Column) (assigns : List Assign) (vs : List Value) → HaveDistinctNames columns → FitColumns (others columns) vs → (column : ℕ) → is_column (places_set columns assigns) column ≡ false
+pub value_stays : (columns : List Column) (assigns : List Assign) (vs : List Value) → HaveDistinctNames columns → FitColumns (others columns) vs
+    → (column : ℕ) → is_column (places_set columns assigns) column ≡ false
     → value_in_column (updated_values (others columns) assigns vs) column ≡ value_in_column vs column
 value_stays columns assigns vs apart fit zero other = refl
 value_stays [] assigns vs apart fit (suc k) other = value_there assigns [] vs k fit refl
 value_stays (c ∷ cs) assigns vs apart fit (suc k) other = one (value_set_at assigns cs k) refl
   where
-    one : (o : Option Operand) → value_set_at assigns cs k ≡ o → value_at (updated_values cs assigns vs) k ≡ value_at vs k
+    one : (o : Option Operand) → value_set_at assigns cs k ≡ o → value_at_place (updated_values cs assigns vs) k ≡ value_at_place vs k
     one None is = value_there assigns cs vs k fit is
     one (Some w) is =
         let at = value_place assigns (c ∷ cs) 0 (suc k) w apart is in

@@ -7,8 +7,8 @@ use Rattle.std.specs.Ordering.{is_lt}
 use Rattle.std.specs.Cmp.{IsTotalOrder}
 use Rattle.std.specs.FinMap.{FinMap, get, insert, entries, find, put, entries-insert, get-entries}
 use Rattle.std.proofs.lemmas.Bool.{and_parts, and_from}
-use Rattle.ct_keep.specs.RisingKeys.{below, rises, entries_rise}
-use Rattle.ct_keep.specs.FoundKeys.{none_below}
+use Rattle.ct_keep.specs.laws.RisingKeys.{below, rises, entries_rise}
+use Rattle.ct_keep.specs.laws.FoundKeys.{none_below}
 use Rattle.ct_base.specs.laws.Orders.{less_from_test as less}
 
 pub one : Bool → ℕ
@@ -51,7 +51,8 @@ module _ {K X : Type 0} (R : K → K → Ordering) (p : X → Bool) where
       let b = and_parts (below R e.0 es) (rises R es) h in
       at_head (R k e.0) refl b.0 (count_put o k v es b.1)
     where
-      at_head : (r : Ordering) → R k e.0 ≡ r → below R e.0 es ≡ true → count (put R k v es) + counted (find R k es) ≡ count es + one (p v) → count (put R k v (e ∷ es)) + counted (find R k (e ∷ es)) ≡ count (e ∷ es) + one (p v)
+      at_head : (r : Ordering) → R k e.0 ≡ r → below R e.0 es ≡ true → count (put R k v es) + counted (find R k es) ≡ count es + one (p v)
+          → count (put R k v (e ∷ es)) + counted (find R k (e ∷ es)) ≡ count (e ∷ es) + one (p v)
       at_head Less is low rest =
           let gone : find R k es ≡ None = none_below R k es (below_lower o k e.0 es is low) in
           let c = count-cons k v (e ∷ es) in
@@ -66,7 +67,8 @@ module _ {K X : Type 0} (R : K → K → Ordering) (p : X → Bool) where
           rw is (omega (arith, c, d, rest))
 
   -- after an insertion
-  pub count_insert : IsTotalOrder R → (m : FinMap R X) (k : K) (v : X) → length (filter (λ (e : K × X). p e.1) (entries (insert m k v))) + counted (get m k) ≡ length (filter (λ (e : K × X). p e.1) (entries m)) + one (p v)
+  pub count_insert : IsTotalOrder R → (m : FinMap R X) (k : K) (v : X)
+      → length (filter (λ (e : K × X). p e.1) (entries (insert m k v))) + counted (get m k) ≡ length (filter (λ (e : K × X). p e.1) (entries m)) + one (p v)
   count_insert o m k v =
       ap (λ (es : List (K × X)). count es + counted (get m k)) (entries-insert o m k v)
       ∙ ap (λ (x : Option X). count (put R k v (entries m)) + counted x) (get-entries m k)

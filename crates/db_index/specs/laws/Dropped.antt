@@ -1,5 +1,5 @@
 -- The state after an index is dropped.
-use Rattle.std.proofs.Common.{◌≡◌, ℕ, ◌≤◌, false, List, length, Option, refl, sym, ap, subst, ◌∙◌, arith, ⊎_elim}
+use Rattle.std.proofs.Common.{ℕ, ◌≤◌, List, length, Option, refl, sym, ap, subst, ◌∙◌, arith}
 use Rattle.std.specs.Prelude.{not, filter}
 use Rattle.std.specs.Ordering.{nat_cmp, eq_by_cmp}
 use Rattle.std.specs.Cmp.Lexicographic.{slice_cmp}
@@ -9,7 +9,7 @@ use Rattle.ct_keep.specs.Content.{Content, after}
 use Rattle.ct_entry.specs.Keys.{Key, at, same_list}
 use Rattle.ct_entry.specs.Maps.{Names}
 use Rattle.ct_entry.specs.Changes.{spell, view}
-use Rattle.ct_entry.specs.laws.Changes.{at_view, at-after, only-after, told_frame}
+use Rattle.ct_entry.specs.laws.Changes.{at_view, at-after, only-after}
 use Rattle.ct_entry.specs.laws.MapRemovals.{entries_without}
 use Rattle.tb_table.specs.Spelling.{TablesStand}
 use Rattle.tb_table.specs.laws.Changes.{tables_frame}

@@ -1,12 +1,12 @@
 -- The state after a synchronisation, and after a new index.
 use Rattle.std.proofs.Common.{◌≡◌, ℕ, ℤ, pos, negsuc, ◌+◌, ◌-◌, ◌^◌, ◌≤◌, ◌<◌, Bool, false, true, cond, List, [], ◌∷◌, length, Option, Some, None, refl, sym, ap, subst, ◌∙◌, arith}
-use Rattle.std.specs.Prelude.{is_some, ◌&&◌, ◌==◌, not, zero, suc, nat_le, int_lt}
+use Rattle.std.specs.Prelude.{is_some, ◌&&◌, ◌==◌, not, nat_le, int_lt}
 use Rattle.std.specs.List.{list_any}
 use Rattle.std.specs.declared.cmp.Ordering.TheVariants.{Less, Equal, Greater}
 use Rattle.std.specs.Ordering.{nat_cmp, int_cmp, is_lt, eq_by_cmp}
 use Rattle.std.specs.Cmp.Lexicographic.{slice_cmp}
 use Rattle.std.specs.FinMap.{get, insert, entries, find, get-entries}
-use Rattle.std.proofs.lemmas.Bool.{leb-true, leb-false, le-ltb, eq-eqb, and_from}
+use Rattle.std.proofs.lemmas.Bool.{leb-true, leb-false, le-ltb, eq-eqb, and_from, or_parts as either}
 use Rattle.std.proofs.lemmas.Cmp.{nat_list_cmp_total}
 use Rattle.ct_keep.specs.Content.{Content, after}
 use Rattle.ct_base.specs.Names.{IsName}
@@ -15,16 +15,13 @@ use Rattle.ct_entry.specs.laws.Keys.{list_from_same, list_same}
 use Rattle.ct_entry.specs.Maps.{Names, altered}
 use Rattle.ct_entry.specs.Changes.{spell}
 use Rattle.ct_entry.specs.laws.Changes.{at_view, at-after, only-after, told_frame}
-use Rattle.tb_table.specs.declared.columns.Sort.{Sort}
-use Rattle.tb_table.specs.declared.columns.Sort.TheVariants.{Number as NumberSort, Varchar2, Clob}
-use Rattle.tb_table.specs.declared.columns.Column.{Column}
 use Rattle.tb_table.specs.Tables.{Table, Tables}
 use Rattle.tb_table.specs.Spelling.{TablesStand}
 use Rattle.tb_table.specs.laws.Changes.{tables_frame}
 use Rattle.tx_settings.specs.declared.preferences.Prefs.{Prefs}
 use Rattle.tx_settings.specs.PrefsBytes.{IsPrefs}
 use Rattle.ix_kinds.specs.Rows.{table_at}
-use Rattle.ix_kinds.specs.Targets.{IsTextSort, HasTextAt, IsTarget}
+use Rattle.ix_kinds.specs.Targets.{IsTarget, is_text_at}
 use Rattle.ix_kinds.specs.Statements.{index_after_sync, indexes_after_sync, new_index, with_index, IsFreeColumn}
 use Rattle.ix_kinds.specs.laws.Syncs.{sync_stands, sync_keeps}
 use Rattle.ix_kinds.specs.laws.Creates.{create_stands, create_keeps}
@@ -32,20 +29,19 @@ use Rattle.db_names.specs.declared.heads.IndexKind.{IndexKind}
 use Rattle.db_names.specs.declared.heads.IndexKind.TheVariants.{Context}
 use Rattle.db_names.specs.Heads.{index_code}
 use Rattle.db_state.specs.Lookups.{is_on_column}
-use Rattle.ix_context.specs.Indexes.{most_given, HasAllRows, rows_within}
+use Rattle.ix_context.specs.Indexes.{mark_limit, HasAllRows, rows_within}
 use Rattle.ix_context.specs.laws.Well.{AreIndexChanges, are_changes, all_of_context, index_changes_sync, index_changes_create}
 use Rattle.ix_indexes.specs.Indexes.{Index, kinds, IndexesStand, pending_rows}
 use Rattle.ix_indexes.specs.laws.Indexes.{context_is}
 use Rattle.ix_kinds.specs.laws.Tables.{table_is}
 use Rattle.db_index.specs.Syncing.{has_too_many, with_synced}
-use Rattle.db_index.specs.Indexing.{is_text_sort, is_text_at, has_index_on, has_too_many_rows, all_rows, target, with_new_index, IsFreeIndex}
+use Rattle.db_index.specs.Indexing.{has_index_on, has_too_many_rows, all_rows, target, with_new_index, IsFreeIndex}
 use Rattle.tx_prefs.specs.Spelling.{PreferencesStand}
 use Rattle.tx_prefs.specs.laws.Changes.{preferences_frame, other_kinds}
 use Rattle.db_state.specs.laws.ShortRows.{rows_put}
 use Rattle.db_state.specs.laws.Kinds.{context_built, tables_no_context}
 use Rattle.db_state.specs.States.{StoreState, IsState, StandsForState, HasShortRows, indexes_on, index_limit}
 use Rattle.db_index.specs.laws.Counting.{one, counted, count_insert, one_true, one_false}
-use Rattle.std.proofs.lemmas.Bool.{or_parts as either}
 use Rattle.ct_base.specs.laws.Options.{no_value as no_some}
 use Rattle.ix_context.specs.laws.ContextCreates.{context_laws}
 use Rattle.ix_context.specs.Spelling.{is_of_context}
@@ -66,7 +62,8 @@ few_synced ts xs i x there t =
     let counts = count_insert (slice_cmp nat_cmp) (λ (y : Index). same_list y.table t) nat_list_cmp_total xs i (index_after_sync kinds tt ts x) in
     ap (λ (ys : Names Index). length (indexes_on ys t)) is ∙ alike (get xs i) there counts
   where
-    alike : (o : Option Index) → o ≡ Some x → length (indexes_on (insert xs i (index_after_sync kinds tt ts x)) t) + counted (slice_cmp nat_cmp) (λ (y : Index). same_list y.table t) o ≡ length (indexes_on xs t) + one (same_list x.table t)
+    alike : (o : Option Index) → o ≡ Some x
+        → length (indexes_on (insert xs i (index_after_sync kinds tt ts x)) t) + counted (slice_cmp nat_cmp) (λ (y : Index). same_list y.table t) o ≡ length (indexes_on xs t) + one (same_list x.table t)
         → length (indexes_on (insert xs i (index_after_sync kinds tt ts x)) t) ≡ length (indexes_on xs t)
     alike None e counts = cc
     alike (Some y) e counts =
@@ -78,9 +75,10 @@ sync_changes_are : (m : StoreState) (i : List ℕ) (x : Index) → IsState m →
 sync_changes_are m i x state there few =
     let index = state.indexes.each i x there in
     index_changes_sync (table_at m.tables x.table) i x (table_is m.tables x.table index.target.table state.tables index.target.there) (state.indexes.names i x there) (state.tables.names x.table index.target.table index.target.there)
-    index.prefs (context_is m.tables x index) (leb-true (x.body.part.given + length (pending_rows x)) most_given (room_left x few))
+    index.prefs (context_is m.tables x index) (leb-true (x.body.part.given + length (pending_rows x)) mark_limit (room_left x few))
 
-pub synced_stands : (c : Content) (m : StoreState) (i : List ℕ) (x : Index) → StandsForState c m → get m.indexes i ≡ Some x → has_too_many x ≡ false → StandsForState (after (spell (kinds.sync_changes tt (table_at m.tables x.table) i x)) c) (with_synced m i)
+pub synced_stands : (c : Content) (m : StoreState) (i : List ℕ) (x : Index) → StandsForState c m → get m.indexes i ≡ Some x → has_too_many x ≡ false
+    → StandsForState (after (spell (kinds.sync_changes tt (table_at m.tables x.table) i x)) c) (with_synced m i)
 synced_stands c m i x stands there few =
     let ws = kinds.sync_changes tt (table_at m.tables x.table) i x in
     let are = sync_changes_are m i x stands.state there few in
@@ -102,18 +100,8 @@ synced_stands c m i x stands there few =
 
 -- ---- the state after a new index
 
-text_column : (cs : List Column) (place : ℕ) → is_text_at cs place ≡ true → HasTextAt cs place
-text_column [] place h = cc
-text_column (c ∷ cs) zero h = sort c.sort h
-  where
-    sort : (s : Sort) → is_text_sort s ≡ true → IsTextSort s
-    sort NumberSort h = cc
-    sort (Varchar2 size) h = tt
-    sort Clob h = tt
-text_column (c ∷ cs) (suc place) h = text_column cs place h
-
 target_of_texts : (m : StoreState) (t : List ℕ) (x : Table) (place : ℕ) → get m.tables t ≡ Some x → is_text_at x.columns place ≡ true → IsTarget m.tables t place
-target_of_texts m t x place there texts = record { table = x; there = there; texts = text_column x.columns place texts }
+target_of_texts m t x place there texts = record { table = x; there = there; texts = texts }
 
 -- no index is on the column
 no_entry : (kind : IndexKind) (t : List ℕ) (place : ℕ) (es : List (List ℕ × Index)) → list_any (λ (e : List ℕ × Index). is_on_column kind t place e.1) es ≡ false
@@ -123,7 +111,8 @@ no_entry kind t place (e ∷ es) h j y is =
     let b = either (is_on_column kind t place e.1) (list_any (λ (e : List ℕ × Index). is_on_column kind t place e.1) es) h in
     go (eq_by_cmp (slice_cmp nat_cmp) j e.0) is b.0 (no_entry kind t place es b.1 j y)
   where
-    go : (b : Bool) → cond b (Some e.1) (find (slice_cmp nat_cmp) j es) ≡ Some y → is_on_column kind t place e.1 ≡ false → (find (slice_cmp nat_cmp) j es ≡ Some y → is_on_column kind t place y ≡ false) → is_on_column kind t place y ≡ false
+    go : (b : Bool) → cond b (Some e.1) (find (slice_cmp nat_cmp) j es) ≡ Some y → is_on_column kind t place e.1 ≡ false
+        → (find (slice_cmp nat_cmp) j es ≡ Some y → is_on_column kind t place y ≡ false) → is_on_column kind t place y ≡ false
     go true is none rest = let e1 : e.1 ≡ y = cc in subst (λ (z : Index). is_on_column kind t place z ≡ false) e1 none
     go false is none rest = rest is
 
@@ -176,12 +165,14 @@ few_created xs i x none t room few =
         let more : one (same_list x.table t) ≡ 0 = ap one is ∙ one_false in
         omega (arith, counts, free, more, few)
 
-pub new_index_stands : (c : Content) (m : StoreState) (i t : List ℕ) (x : Table) (place : ℕ) (prefs : Prefs) → StandsForState c m → IsName i → IsPrefs prefs → IsFreeIndex m i t x place → StandsForState (after (spell (kinds.create_changes all_rows tt (table_at m.tables t) i (target t place) prefs)) c) (with_new_index m i t place prefs)
+pub new_index_stands : (c : Content) (m : StoreState) (i t : List ℕ) (x : Table) (place : ℕ) (prefs : Prefs) → StandsForState c m → IsName i
+    → IsPrefs prefs → IsFreeIndex m i t x place
+    → StandsForState (after (spell (kinds.create_changes all_rows tt (table_at m.tables t) i (target t place) prefs)) c) (with_new_index m i t place prefs)
 new_index_stands c m i t x place prefs stands name are_prefs free =
     let ws = kinds.create_changes all_rows tt (table_at m.tables t) i (target t place) prefs in
     let few = either (nat_le index_limit (length (indexes_on m.indexes t))) (has_too_many_rows m t) free.few in
     let room : kinds.can_create (table_at m.tables t) all_rows ≡ true = not_false (kinds.can_create (table_at m.tables t) all_rows) few.1 in
-    let rows = leb-true (length (rows_within (table_at m.tables t) all_rows)) most_given room in
+    let rows = leb-true (length (rows_within (table_at m.tables t) all_rows)) mark_limit room in
     let taken = either (is_some (get m.indexes i)) (has_index_on Context m.indexes t place) free.free in
     let none : get m.indexes i ≡ None = no_some (get m.indexes i) taken.0 in
     let are = index_changes_create (table_at m.tables t) i (target t place) prefs all_rows (table_is m.tables t x stands.state.tables free.there) name (stands.state.tables.names t x free.there) are_prefs rows in

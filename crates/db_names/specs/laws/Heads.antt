@@ -11,7 +11,7 @@ use Rattle.ct_base.specs.laws.Lists.{cons_parts}
 use Rattle.db_names.specs.Promises.{EntriesHaveOneHead, HeadsAreRead, IndexesOnAreRead, is_on_table, head_of, heads_of, IndexesOfAreRead}
 use Rattle.ct_bytes.specs.Varints.{text_bytes}
 use Rattle.ct_bytes.specs.laws.Varints.{text_apart}
-use Rattle.ct_keep.specs.RisingKeys.{rises, entries_rise}
+use Rattle.ct_keep.specs.laws.RisingKeys.{rises, entries_rise}
 use Rattle.ct_entry.specs.declared.kinds.Kind.TheVariants as entry
 use Rattle.ct_entry.specs.Keys.{Key, key, same_list}
 use Rattle.ct_entry.specs.Maps.{Names}

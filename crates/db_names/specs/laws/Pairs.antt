@@ -12,12 +12,12 @@ use Rattle.std.proofs.lemmas.List.Elements.{Contains-append_right}
 use Rattle.std.proofs.lemmas.Map.Entries.{option_filter}
 use Rattle.std.proofs.lemmas.Bool.{and_parts, and_from}
 use Rattle.ct_base.specs.laws.Bools.{T_from_true}
-use Rattle.ct_keep.specs.RisingKeys.{below, rises, sorted_from_rises}
+use Rattle.ct_keep.specs.laws.RisingKeys.{below, rises, sorted_from_rises}
 use Rattle.ct_entry.specs.Keys.{same_list}
 use Rattle.ct_entry.specs.Each.{is_any_of}
 use Rattle.ct_entry.specs.laws.Keys.{list_from_same}
-use Rattle.ct_keep.specs.FoundKeys.{none_below, below_tied}
-pub use Rattle.ct_keep.specs.FoundKeys.{pair_found}
+use Rattle.ct_keep.specs.laws.FoundKeys.{none_below, below_tied}
+pub use Rattle.ct_keep.specs.laws.FoundKeys.{pair_found}
 use Rattle.ct_entry.specs.Listings.{key_order}
 use Rattle.ct_entry.specs.laws.Owners.{key_order_total, key_order_tie}
 

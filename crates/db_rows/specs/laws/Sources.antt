@@ -14,7 +14,7 @@ use Rattle.tb_table.specs.Tables.{Table, Tables, row_in, numbers_of, text_in, te
 use Rattle.tb_table.specs.Rules.{IsOfSort, FitColumns, IsKeyFirst, IsTable, AreTables, others}
 use Rattle.db_state.specs.Columns.{place_from}
 use Rattle.db_rows.specs.declared.sources.Source.TheVariants.{Key, Number, Text, Nothing}
-use Rattle.db_rows.specs.Values.{value_at, values_of, at_place, value_of_column, row_values}
+use Rattle.db_rows.specs.Values.{value_at, values_behind_key, at_place, value_of_column, row_values}
 use Rattle.db_rows.specs.Sources.{number_source, text_source, source_by, with_sort, source_from, source_of, source_value}
 
 -- ---- a row that may be shorter than the columns
@@ -81,7 +81,8 @@ behind r vs place before s v row fits rest = record {
   texts = λ j. ap (text_in_column vs) (after place j) ∙ rest.texts (suc j);
 }
   where
-    numbers : (s : Sort) (v : Value) → Suits s v → ((j : ℕ) → slice_get (r ∷ numbers_of vs) (before + j) ≡ slice_get (numbers_of (v ∷ row)) j) → (j : ℕ) → slice_get (r ∷ numbers_of vs) (with_sort s before + j) ≡ slice_get (numbers_of row) j
+    numbers : (s : Sort) (v : Value) → Suits s v → ((j : ℕ) → slice_get (r ∷ numbers_of vs) (before + j) ≡ slice_get (numbers_of (v ∷ row)) j)
+        → (j : ℕ) → slice_get (r ∷ numbers_of vs) (with_sort s before + j) ≡ slice_get (numbers_of row) j
     numbers NumberSort (NumberValue n) fits ns j = ap (slice_get (r ∷ numbers_of vs)) (after before j) ∙ ns (suc j)
     numbers NumberSort (TextValue text) fits ns j = absurd fits
     numbers (Varchar2 size) (NumberValue n) fits ns j = absurd fits
@@ -135,13 +136,15 @@ first_text NumberSort (NumberValue n ∷ row) other suit = absurd (other refl)
 first_text (Varchar2 size) (NumberValue n ∷ row) other suit = absurd suit
 first_text Clob (NumberValue n ∷ row) other suit = absurd suit
 
-at_text : (r : ℤ) (vs : List Value) (place before : ℕ) (s : Sort) (row : List Value) → (s ≡ NumberSort → ⊥) → place < 256 → SuitsFirst s row → IsRest r vs place before row → value_at r vs place ≡ source_value r vs (text_source place)
+at_text : (r : ℤ) (vs : List Value) (place before : ℕ) (s : Sort) (row : List Value) → (s ≡ NumberSort → ⊥) → place < 256 → SuitsFirst s row
+    → IsRest r vs place before row → value_at r vs place ≡ source_value r vs (text_source place)
 at_text r vs place before s row other small suit rest =
     ap (value_at r vs) (sym (add-zero place)) ∙ rest.values 0 ∙ first_text s row other suit
     ∙ ap (option_map TextValue) (sym (rest.texts 0) ∙ ap (text_in_column vs) (add-zero place))
     ∙ sym (text_value r vs place small)
 
-at_column : (r : ℤ) (vs : List Value) (place before : ℕ) (s : Sort) (row : List Value) → place < 256 → SuitsFirst s row → IsRest r vs place before row → value_at r vs place ≡ source_value r vs (source_by s place before)
+at_column : (r : ℤ) (vs : List Value) (place before : ℕ) (s : Sort) (row : List Value) → place < 256 → SuitsFirst s row
+    → IsRest r vs place before row → value_at r vs place ≡ source_value r vs (source_by s place before)
 at_column r vs place before NumberSort row small suit rest =
     ap (value_at r vs) (sym (add-zero place)) ∙ rest.values 0 ∙ first_number row suit
     ∙ ap (option_map NumberValue) (sym (rest.numbers 0) ∙ ap (slice_get (r ∷ numbers_of vs)) (add-zero before))
@@ -169,22 +172,23 @@ key_first : (columns : List Column) (r : ℤ) (vs : List Value) → IsKeyFirst c
 key_first [] r vs key suit = absurd key
 key_first (c ∷ cs) r vs key suit = (subst (λ (s : Sort). Suits s (NumberValue r)) (sym key) tt, suit)
 
-values_suit : (x : Table) (r : ℤ) → IsTable x → (o : Option (List Value)) → get x.rows r ≡ o → SuitAsFar (others x.columns) (values_of o)
+values_suit : (x : Table) (r : ℤ) → IsTable x → (o : Option (List Value)) → get x.rows r ≡ o → SuitAsFar (others x.columns) (values_behind_key o)
 values_suit x r is None there = tt
 values_suit x r is (Some vs) there = as_far (others x.columns) vs (is.rows r vs there)
 
 -- in a row of a table, and also in one that isn't there
-pub value_from : (x : Table) → IsTable x → (r : ℤ) (name : List ℕ) → value_of_column x.columns r (values_of (get x.rows r)) name ≡ source_value r (values_of (get x.rows r)) (source_of name x.columns)
+pub value_from : (x : Table) → IsTable x → (r : ℤ) (name : List ℕ) → value_of_column x.columns r (values_behind_key (get x.rows r)) name ≡ source_value r (values_behind_key (get x.rows r)) (source_of name x.columns)
 value_from x is r name =
     let few = is.columns.few in
-    let vs : List Value = values_of (get x.rows r) in
+    let vs : List Value = values_behind_key (get x.rows r) in
     named r vs 0 0 name x.columns (NumberValue r ∷ vs) (omega (arith, few)) (key_first x.columns r vs is.columns.key (values_suit x r is (get x.rows r) refl)) (whole_row r vs)
 
-pub values_there : (ts : Tables) (t : List ℕ) (x : Table) (r : ℤ) → get ts t ≡ Some x → row_values ts t r ≡ values_of (get x.rows r)
-values_there ts t x r here = ap (λ (o : Option Table). values_of (row_in o r)) here
+pub values_there : (ts : Tables) (t : List ℕ) (x : Table) (r : ℤ) → get ts t ≡ Some x → row_values ts t r ≡ values_behind_key (get x.rows r)
+values_there ts t x r here = ap (λ (o : Option Table). values_behind_key (row_in o r)) here
 
 -- the same by the name of the table
-pub column_from : (ts : Tables) (t : List ℕ) (x : Table) → AreTables ts → get ts t ≡ Some x → (r : ℤ) (name : List ℕ) → value_of_column x.columns r (row_values ts t r) name ≡ source_value r (row_values ts t r) (source_of name x.columns)
+pub column_from : (ts : Tables) (t : List ℕ) (x : Table) → AreTables ts → get ts t ≡ Some x → (r : ℤ) (name : List ℕ)
+    → value_of_column x.columns r (row_values ts t r) name ≡ source_value r (row_values ts t r) (source_of name x.columns)
 column_from ts t x are here r name =
     let same = values_there ts t x r here in
     ap (λ (vs : List Value). value_of_column x.columns r vs name) same ∙ value_from x (are.each t x here) r name ∙ ap (λ (vs : List Value). source_value r vs (source_of name x.columns)) (sym same)

@@ -2,7 +2,7 @@
 use Rattle.std.proofs.Common.{◌≡◌, ℕ, List, Some}
 use Rattle.std.specs.FinMap.{get}
 use Rattle.ct_keep.specs.Content.{Content}
-use Rattle.ix_context.specs.Stands.{HoldsTables, HoldsContext}
+use Rattle.ix_context.specs.Contents.{HoldsTables, HoldsContext}
 use Rattle.ix_indexes.specs.Indexes.{Index}
 use Rattle.ix_indexes.specs.laws.Indexes.{holds_context}
 use Rattle.db_state.specs.States.{StoreState, StandsForState}

@@ -6,7 +6,7 @@ use Rattle.ct_keep.specs.declared.keepers.KeepFault.{KeepFault}
 use Rattle.ct_keep.specs.declared.keepers.KeepFault.TheVariants.{Memory, Disk, Full as NoRoom}
 use Rattle.ct_keep.specs.Content.{Content}
 use Rattle.ct_keep.specs.KeeperViews.{KeeperView, ReadsKeeper, IsDurable, KeepsLimit, fault_of, is_full, counted}
-use Rattle.ct_keep.specs.Composing.{same_limit, reads_then, reads_only, reads_failed, answers_then, answers_failed}
+use Rattle.ct_keep.specs.laws.Composing.{same_limit, reads_then, reads_only, reads_failed, answers_then, answers_failed}
 use Rattle.db_cond.specs.Faults.{Refusal, refusal_line}
 use Rattle.db_state.specs.States.{StoreState, StandsForState}
 use Rattle.db_state.specs.Effects.{Effect, Refused, state_by, reply_by}

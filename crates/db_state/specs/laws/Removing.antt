@@ -1,7 +1,7 @@
 -- Statements that only take entries away: their batches weigh nothing and are ones that a store takes, and what is left of a map is no more.
 use Rattle.std.proofs.Common.{◌≡◌, ℕ, ◌≤◌, Bool, true, false, cond, List, [], ◌∷◌, ◌++◌, length, map, Option, None, refl, sym, ap, subst, ◌∙◌, arith}
 use Rattle.std.specs.Prelude.{filter, nat_lt}
-use Rattle.ct_keep.specs.Laws.{changes_weight}
+use Rattle.ct_keep.specs.Content.{changes_weight}
 use Rattle.ct_entry.specs.Shapes.{IsShaped}
 use Rattle.ct_entry.specs.Removals.{OnlyRemoves}
 use Rattle.ct_entry.specs.laws.Removals.{well_removes}

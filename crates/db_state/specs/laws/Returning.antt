@@ -7,7 +7,7 @@ use Rattle.ct_keep.specs.KeeperViews.{KeeperView, SameButContent, ReadsKeeper, G
 use Rattle.db_state.specs.Plans.{DoneLines, line_for_all, CommitsOnce, ContentStays, Returns, ReturnsBy}
 use Rattle.ct_base.specs.laws.Moments.{passes_more}
 use Rattle.ct_keep.specs.declared.keepers.KeepFault.{KeepFault}
-use Rattle.ct_keep.specs.Composing.{reads_on, reads_hold, reads_then, reads_only, reads_failed}
+use Rattle.ct_keep.specs.laws.Composing.{reads_on, reads_hold, reads_then, reads_only, reads_failed}
 
 -- what is kept unless the disk failed
 pub kept_memory : (old new : KeeperView) → SameButContent old new (Some Memory) → SameButContent old new None

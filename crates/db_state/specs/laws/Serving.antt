@@ -4,11 +4,11 @@ use Rattle.std.specs.Result.{IfOk}
 use Rattle.std.specs.declared.alloc.Global.{Global}
 use Rattle.ct_keep.specs.declared.keepers.KeepFault.{KeepFault}
 use Rattle.ct_keep.specs.declared.keepers.KeepFault.TheVariants.{Memory, Disk, Full as NoRoom}
-use Rattle.ct_keep.specs.Content.{Content, after}
-use Rattle.ct_keep.specs.Laws.{changes_weight, weight-after_le}
+use Rattle.ct_keep.specs.Content.{Content, after, changes_weight}
+use Rattle.ct_keep.specs.laws.Content.{weight-after_le}
 use Rattle.ct_base.specs.Told.{IsSaid}
 use Rattle.ct_keep.specs.KeeperViews.{AtMostOneCommit, KeeperView, SameButContent, ReadsKeeper, IsDurable, fault_of, counted, is_full, PassesLimit}
-use Rattle.ct_keep.specs.Composing.{commits_read, kept_then, reads_hold, reads_on, reads_short}
+use Rattle.ct_keep.specs.laws.Composing.{commits_read, kept_then, reads_hold, reads_on, reads_short}
 use Rattle.db_cond.specs.Faults.{Refusal, refusal_line}
 use Rattle.db_state.specs.States.{StoreState, StandsForState}
 use Rattle.db_state.specs.Effects.{Effect, Refused, Does, state_by, reply_by}
@@ -85,7 +85,7 @@ returns_by_then : (line : Option DoneLines) (old mid new : KeeperView) (result :
 returns_by_then None old mid new result reads looks = reads_on old mid new (fault_of result) reads looks
 returns_by_then (Some done) old mid new result reads returns = returns_then done old mid new result reads returns
 
-once_then : (old mid new : KeeperView) → ReadsKeeper old mid None → AtMostOneCommit mid.counts new.counts → AtMostOneCommit old.counts new.counts
+once_then : (old mid new : KeeperView) → ReadsKeeper old mid None → AtMostOneCommit mid new → AtMostOneCommit old new
 once_then old mid new reads (inl none) = inl (none.0 ∙ reads.commits, none.1 ∙ reads.syncs)
 once_then old mid new reads (inr one) = let few = one.1 in inr (one.0 ∙ ap (counted true) reads.commits, omega (arith, few, reads.syncs))
 
@@ -104,7 +104,7 @@ plan_then effect line old mid plan reads fits = record { made = λ m c holds sta
 
 -- the commit of a batch, by what is promised of it for every state
 pub serves_batch : (effect : StoreState → Effect) (line : List ℕ) (batch : List (List ℕ × Option (List ℕ))) (reply : List ℕ) (old new : KeeperView) (result : Result (Vec ℕ Global) KeepFault) → reply ≡ line → IsPlanOf effect line old (Done batch)
-    → SameButContent old new (fault_of result) → new.counts.fulls ≡ counted (is_full (fault_of result)) old.counts.fulls → AtMostOneCommit old.counts new.counts
+    → SameButContent old new (fault_of result) → new.counts.fulls ≡ counted (is_full (fault_of result)) old.counts.fulls → AtMostOneCommit old new
     → ((m n : StoreState) (c : Content) → old.content ≡ Some c → StandsForState (after batch c) n → GivesEffect m (Does n reply) c old new result) → Returns (line_for_all reply) old new result → Fulfils effect (Some (line_for_all line)) old new result
 serves_batch effect line batch reply old new result same fits kept fulls once gives tells = record {
   kept = kept;

@@ -16,7 +16,7 @@ use Rattle.ct_base.specs.declared.lists.Value.{Value}
 use Rattle.ct_base.specs.declared.lists.Value.TheVariants.{Number as NumberValue, Text as TextValue}
 use Rattle.ct_keep.specs.Content.{Content}
 use Rattle.std.proofs.lemmas.Bool.{and_parts, and_from}
-use Rattle.ct_keep.specs.RisingKeys.{below, rises, entries_rise}
+use Rattle.ct_keep.specs.laws.RisingKeys.{below, rises, entries_rise}
 use Rattle.ct_entry.specs.declared.kinds.Kind.TheVariants as kind
 use Rattle.ct_entry.specs.Keys.{Key, key, at, same_list, row_part, text_part, IsRow, HasKeysOnly}
 use Rattle.ct_entry.specs.Each.{is_any_of}

@@ -1,5 +1,5 @@
 use Rattle.std.proofs.Common.{◌≡◌, length}
-use Rattle.db_call.specs.Arguments.{text_at as text_there}
+use Rattle.db_call.specs.Arguments.{argument_text as text_there}
 use Rattle.db_call.proofs.arguments.text_at.Given as goal
 
 abbrev pub invariant-loop-rest : goal.invariant-loop-rest

@@ -1,5 +1,5 @@
 use Rattle.std.proofs.Common.{◌∙◌}
-use Rattle.ct_keep.specs.Composing.{reads_hold}
+use Rattle.ct_keep.specs.laws.Composing.{reads_hold}
 use Rattle.db_state.specs.laws.Chains.{checked, refused}
 use Rattle.db_change.proofs.ShapeSteps.{of_tables}
 use Rattle.db_change.proofs.TableSteps.{table_read, table_made}

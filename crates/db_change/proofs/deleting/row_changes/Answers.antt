@@ -1,6 +1,6 @@
 use Rattle.ct_entry.specs.Keys.{at}
 use Rattle.tb_table.specs.Spelling.{delete_changes}
-use Rattle.ix_indexes.specs.declared.noting.RowStep.TheVariants.{Goes}
+use Rattle.ix_indexes.specs.declared.noting.RowEvent.TheVariants.{Goes}
 use Rattle.ix_indexes.specs.Noting.{heads_changes}
 use Rattle.db_change.proofs.GoneSteps.{row_made, row_shaped}
 use Rattle.db_change.proofs.deleting.row_changes.Goals as goal

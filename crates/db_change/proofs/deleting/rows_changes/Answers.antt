@@ -1,6 +1,6 @@
 use Rattle.std.proofs.Common.{pos, get_or, refl}
 use Rattle.ct_base.specs.declared.numbers.RowKey.{RowKey}
-use Rattle.ct_keep.specs.Composing.{reads_on, reads_hold}
+use Rattle.ct_keep.specs.laws.Composing.{reads_on, reads_hold}
 use Rattle.ct_entry.specs.Keys.{at}
 use Rattle.db_change.specs.Deleting.{gone_row_changes}
 use Rattle.db_change.proofs.GoneSteps.{each_more, each_whole, changes_added, changes_shaped}

@@ -1,4 +1,4 @@
-use Rattle.ct_keep.specs.Composing.{reads_hold}
+use Rattle.ct_keep.specs.laws.Composing.{reads_hold}
 use Rattle.ct_entry.specs.laws.Removals.{removes_then}
 use Rattle.db_state.specs.laws.Removing.{removals_light, removals_taken}
 use Rattle.db_change.proofs.DropSteps.{drops_table}

@@ -1,4 +1,4 @@
-use Rattle.ct_keep.specs.Composing.{reads_on, reads_hold}
+use Rattle.ct_keep.specs.laws.Composing.{reads_on, reads_hold}
 use Rattle.ct_entry.specs.laws.Removals.{removes_then}
 use Rattle.db_change.proofs.DropSteps.{indexes_left}
 use Rattle.db_change.proofs.dropping.remove_indexes.Goals as goal

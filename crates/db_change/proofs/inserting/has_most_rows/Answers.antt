@@ -3,7 +3,7 @@ use Rattle.std.specs.Prelude.{nat_le}
 use Rattle.std.specs.FinMap.{entries}
 use Rattle.std.proofs.lemmas.List.{length-map}
 use Rattle.ct_base.specs.Limits.{row_limit}
-use Rattle.ct_keep.specs.Composing.{reads_none}
+use Rattle.ct_keep.specs.laws.Composing.{reads_none}
 use Rattle.tb_table.specs.Tables.{keys_in}
 use Rattle.tb_table.specs.laws.Reading.{rows_read}
 use Rattle.db_change.proofs.inserting.has_most_rows.Goals as goal

@@ -4,7 +4,7 @@ use Rattle.std.specs.List.{All}
 use Rattle.ct_base.specs.Limits.{column_limit}
 use Rattle.ct_base.specs.declared.numbers.RowKey.{RowKey}
 use Rattle.tb_table.specs.declared.columns.Column.{Column}
-use Rattle.ct_keep.specs.Composing.{reads_on, reads_hold}
+use Rattle.ct_keep.specs.laws.Composing.{reads_on, reads_hold}
 use Rattle.st_parse.specs.declared.statements.Operand.{Operand}
 use Rattle.db_cond.specs.Faults.{OutOfRange}
 use Rattle.db_cond.specs.Refused.{refusal_of}
@@ -45,8 +45,8 @@ returns-clause-plan g c = λ m k x holds stands here columns.
       made,
     )
 
-pub noted_batch-requires-clause-few : goal.noted_batch-requires-clause-few
-noted_batch-requires-clause-few g c = subst (λ (vs : List Operand). length vs ≤ column_limit) c.as_slice-slice.ensures.value (c.in_default.ensures.few refl)
+pub insert_batch-requires-clause-few : goal.insert_batch-requires-clause-few
+insert_batch-requires-clause-few g c = subst (λ (vs : List Operand). length vs ≤ column_limit) c.as_slice-slice.ensures.value (c.in_default.ensures.few refl)
 
-pub noted_batch-requires-clause-short : goal.noted_batch-requires-clause-short
-noted_batch-requires-clause-short g c = subst (All IsShortValue) c.as_slice-slice.ensures.value (c.in_default.ensures.short refl)
+pub insert_batch-requires-clause-short : goal.insert_batch-requires-clause-short
+insert_batch-requires-clause-short g c = subst (All IsShortValue) c.as_slice-slice.ensures.value (c.in_default.ensures.short refl)

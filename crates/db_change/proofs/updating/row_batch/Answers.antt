@@ -1,11 +1,11 @@
 use Rattle.std.proofs.Common.{ℕ, ℤ, List, ◌++◌, Option, ap, sym, ◌∙◌}
-use Rattle.ct_keep.specs.Composing.{reads_hold}
+use Rattle.ct_keep.specs.laws.Composing.{reads_hold}
 use Rattle.ct_entry.specs.Changes.{spell}
 use Rattle.ct_entry.specs.laws.Changes.{spell-append}
 use Rattle.tb_table.specs.Tables.{numbers_of}
 use Rattle.db_rows.specs.Values.{row_values}
 use Rattle.ct_entry.specs.Keys.{at}
-use Rattle.ix_indexes.specs.declared.noting.RowStep.TheVariants.{Changes}
+use Rattle.ix_indexes.specs.declared.noting.RowEvent.TheVariants.{Changes}
 use Rattle.ix_indexes.specs.Noting.{heads_changes}
 use Rattle.db_change.specs.Updating.{value_changes}
 use Rattle.db_change.proofs.ShapeSteps.{row_and_notes}

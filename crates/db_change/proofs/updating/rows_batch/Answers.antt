@@ -1,11 +1,11 @@
 use Rattle.std.proofs.Common.{None, List, ℕ, Option, ◌++◌, ap, sym, subst, ◌∙◌}
-use Rattle.ct_keep.specs.Composing.{reads_on, reads_hold}
+use Rattle.ct_keep.specs.laws.Composing.{reads_on, reads_hold}
 use Rattle.ct_entry.specs.laws.Shapes.{are_shaped-append}
 use Rattle.tb_table.specs.Tables.{numbers_of}
 use Rattle.db_rows.specs.Values.{row_values}
 use Rattle.db_state.specs.Shapes.{HasStoreValue, AreStoreChanges}
 use Rattle.ct_entry.specs.Keys.{at}
-use Rattle.ix_indexes.specs.declared.noting.RowStep.TheVariants.{Changes}
+use Rattle.ix_indexes.specs.declared.noting.RowEvent.TheVariants.{Changes}
 use Rattle.ix_indexes.specs.Noting.{heads_changes}
 use Rattle.db_change.specs.Updating.{value_changes}
 use Rattle.db_change.proofs.UpdateSteps.{rows_more}

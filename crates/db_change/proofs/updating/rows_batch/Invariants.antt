@@ -10,6 +10,7 @@ use Rattle.db_change.proofs.updating.rows_batch.Given as goal
 abbrev pub invariant-loop-row : goal.invariant-loop-row
 invariant-loop-row g l = record {
   reads : ReadsKeeper (g.K.Keeper.view l.fn.keeper) (g.K.Keeper.view l.keeper) None;
-  batch : (m : StoreState) (c : Content) → (g.K.Keeper.view l.fn.keeper).content ≡ Some c → StandsForState c m → l.batch ≡ spell (update_changes c m l.table l.columns l.assigns l.indexes (map (λ row. row.0) (take l.row-index l.rows)));
+  batch : (m : StoreState) (c : Content) → (g.K.Keeper.view l.fn.keeper).content ≡ Some c → StandsForState c m
+      → l.batch ≡ spell (update_changes c m l.table l.columns l.assigns l.indexes (map (λ row. row.0) (take l.row-index l.rows)));
   entries : AreStoreChanges l.batch;
 }

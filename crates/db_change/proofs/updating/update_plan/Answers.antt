@@ -1,33 +1,25 @@
-use Rattle.std.proofs.Common.{arith, ◌≡◌, ◌≤◌, List, Vec, length, map, ap, sym, subst, ◌∙◌}
+use Rattle.std.proofs.Common.{arith, ◌≡◌, List, length, map, ap, sym, ◌∙◌}
 use Rattle.std.proofs.lemmas.List.{length-map}
-use Rattle.ct_base.specs.Limits.{column_limit}
 use Rattle.ct_base.specs.declared.numbers.RowKey.{RowKey}
-use Rattle.ct_keep.specs.Composing.{reads_on, reads_hold}
+use Rattle.ct_keep.specs.laws.Composing.{reads_on, reads_hold}
 use Rattle.ct_entry.specs.Changes.{spell}
 use Rattle.tb_table.specs.Rules.{others}
-use Rattle.db_state.specs.laws.Columns.{some_table}
 use Rattle.db_change.specs.Updating.{indexes_set, update_changes}
-use Rattle.std.specs.FinMap.{get}
-use Rattle.std.specs.Option.{option_map}
-use Rattle.std.specs.declared.alloc.Global.{Global}
 use Rattle.tb_table.specs.declared.columns.Column.{Column}
+use Rattle.db_change.proofs.ReadTables.{has_columns}
 use Rattle.db_change.proofs.UpdatePlans.{update_made}
 use Rattle.db_change.proofs.updating.update_plan.Goals as goal
 
 pub returns-clause-plan : goal.returns-clause-plan
 returns-clause-plan g c = record {
   made = λ m k holds stands.
-      let found = some_table (get m.tables c.args.table.now) c.in-Some.columns.items (sym (ap (option_map (λ (v : Vec Column Global). v.items)) c.in-Some.is) ∙ c.in_ok-columns.ensures.columns m k holds stands) in
-      let x = found.0 in
-      let columns = c.deref.result.now in
-      let columns_are = found.2 ∙ sym c.deref.ensures.value in
-      let few = subst (λ (cs : List Column). length cs ≤ column_limit) columns_are (stands.state.tables.each c.args.table.now x found.1).columns.few in
+      let x = has_columns m c.args.table.now _ c.in-Some.columns c.deref.result.now stands.state.tables (c.in_ok-columns.ensures.columns m k holds stands) c.in-Some.is c.deref.ensures.value in
       let there = reads_hold _ _ k c.in_ok-columns.ensures.reads holds in
       let mid = reads_hold _ _ k (reads_on _ _ _ _ c.in_ok-columns.ensures.reads c.in_ok-rows.ensures.reads) holds in
-      let rows_are = ap (map (λ (row : RowKey). row.0)) c.deref-4.ensures.value ∙ c.in_ok-rows.ensures.keys m k x there stands found.1 (found.2 ∙ sym c.deref-2.ensures.value) in
+      let rows_are = ap (map (λ (row : RowKey). row.0)) c.deref-4.ensures.value ∙ c.in_ok-rows.ensures.keys m k x.table there stands x.there (x.same ∙ c.deref.ensures.value ∙ sym c.deref-2.ensures.value) in
       let rows = map (λ (row : RowKey). row.0) c.deref-4.result.now in
       let counted : c.len.result ≡ length c.in_ok-rows.rows.items = omega (arith, c.len.ensures) in
-      update_made m c.args.table.now c.args.assigns.now c.args.conds.now x columns found.1 columns_are k stands (c.in_default-update_fault.ensures.checks few) c.keep_assigns.ensures rows rows_are c.len.result
+      update_made m c.args.table.now c.args.assigns.now c.args.conds.now x.table c.deref.result.now x.there x.same k stands (c.in_default-update_fault.ensures.checks x.few) c.keep_assigns.ensures rows rows_are c.len.result
       (counted ∙ ap length (sym c.deref-4.ensures.value) ∙ sym (length-map c.deref-4.result.now (λ (row : RowKey). row.0))) c.in_ok-batch.batch
       (c.in_ok-batch.ensures.batch m k mid stands
       ∙ ap (λ (cs : List Column). spell (update_changes k m c.args.table.now (others cs) c.args.assigns.now (indexes_set m c.args.table.now cs c.args.assigns.now) rows)) (c.deref-3.ensures.value ∙ sym c.deref.ensures.value));

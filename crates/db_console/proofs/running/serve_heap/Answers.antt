@@ -1,4 +1,4 @@
-use Rattle.ct_keep.specs.Composing.{same_lender}
+use Rattle.ct_keep.specs.laws.Composing.{same_lender}
 use Rattle.std.proofs.Common.{sym, ◌∙◌}
 use Rattle.db_console.proofs.StoreLaws.{served_over, same_name}
 use Rattle.db_console.proofs.running.serve_heap.Goals as goal

@@ -3,7 +3,7 @@ use Rattle.std.proofs.lemmas.Result.{err_from_is_err_and}
 use Rattle.std.proofs.Common.{ap, Bool, Some, None}
 use Rattle.std.specs.Prelude.{not}
 use Rattle.std.specs.Bool.{if◌then◌else◌}
-use Rattle.ct_keep.specs.Composing.{reads_none}
+use Rattle.ct_keep.specs.laws.Composing.{reads_none}
 use Rattle.db_cond.specs.Faults.{NotUnderstood}
 use Rattle.db_index.specs.Indexing.{index_created}
 use Rattle.db_state.specs.laws.Chains.{fails, passes}

@@ -1,6 +1,6 @@
 use Rattle.std.proofs.Common.{ap, ◌∙◌}
 use Rattle.std.proofs.lemmas.Result.{err_from_is_err_and}
-use Rattle.ct_keep.specs.Composing.{reads_hold, reads_on}
+use Rattle.ct_keep.specs.laws.Composing.{reads_hold, reads_on}
 use Rattle.tx_prefs.specs.Copies.{copied}
 use Rattle.db_state.specs.laws.Holding.{holds_preferences}
 use Rattle.db_index.proofs.asking.asked_by.Goals as goal

@@ -1,4 +1,4 @@
-use Rattle.ct_keep.specs.Composing.{reads_hold}
+use Rattle.ct_keep.specs.laws.Composing.{reads_hold}
 use Rattle.db_state.specs.laws.Serving.{serves_err, serves_then, plan_then}
 use Rattle.db_index.proofs.dropping.drop_index.Goals as goal
 

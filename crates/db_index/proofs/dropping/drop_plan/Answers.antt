@@ -1,6 +1,6 @@
 use Rattle.std.proofs.Common.{sym, subst, List, ℕ, Option}
 use Rattle.ct_keep.specs.Content.{after}
-use Rattle.ct_keep.specs.Composing.{reads_hold}
+use Rattle.ct_keep.specs.laws.Composing.{reads_hold}
 use Rattle.db_state.specs.States.{StandsForState}
 use Rattle.db_index.specs.Dropping.{with_index_dropped}
 use Rattle.db_index.specs.laws.Dropped.{dropped_stands}

@@ -1,4 +1,4 @@
-use Rattle.ct_keep.specs.Composing.{reads_hold, reads_on}
+use Rattle.ct_keep.specs.laws.Composing.{reads_hold, reads_on}
 use Rattle.db_state.specs.laws.Serving.{serves_err, serves_then, plan_then}
 use Rattle.db_index.proofs.indexing.create_index.Goals as goal
 

@@ -1,5 +1,5 @@
 use Rattle.std.proofs.Common.{◌≡◌, drop}
-use Rattle.db_index.specs.Indexing.{is_text_at}
+use Rattle.ix_kinds.specs.Targets.{is_text_at}
 use Rattle.db_index.proofs.indexing.is_text_at.Given as goal
 
 abbrev pub invariant-loop-column : goal.invariant-loop-column

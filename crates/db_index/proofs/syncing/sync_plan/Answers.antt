@@ -1,61 +1,47 @@
-use Rattle.std.proofs.Common.{ℕ, List, Option, [], sym, ap, subst, ◌∙◌}
+use Rattle.std.proofs.Common.{ℕ, List, Option, sym, ap, subst, ◌∙◌}
 use Rattle.ct_base.specs.laws.Options.{match_none}
 use Rattle.ct_keep.specs.Content.{after}
-use Rattle.ct_keep.specs.Composing.{reads_hold}
+use Rattle.ct_keep.specs.laws.Composing.{reads_hold}
 use Rattle.db_cond.specs.Faults.{LimitReached}
-use Rattle.db_call.specs.Arguments.{name_at}
+use Rattle.db_call.specs.Arguments.{argument_name}
 use Rattle.db_index.specs.Syncing.{sync_named, with_synced}
-use Rattle.db_state.specs.Effects.{Does}
 use Rattle.db_state.specs.States.{StandsForState}
 use Rattle.db_state.specs.laws.Chains.{checked, refused, fails, passes}
 use Rattle.db_index.specs.laws.NewMarks.{synced_stands}
 use Rattle.db_index.proofs.Found.{found_some}
-use Rattle.db_index.proofs.SyncChecks.{sync_as, passed_by, index_there, found_is}
+use Rattle.db_index.proofs.SyncChecks.{sync_as, sync_there}
 use Rattle.db_index.proofs.syncing.sync_plan.Goals as goal
 
 pub returns-in-Some-clause-plan : goal.returns-in-Some-clause-plan
 returns-in-Some-clause-plan g c = record {
   made = λ m k holds stands.
       sync_as m c.args.args.now c.args.name.now c.in_ok-there.there _ c.requires.named (c.in_ok-there.ensures.there m k holds stands) c.unknown_name.ensures
-      ∙ refused c.sync_fault.result c.in-Some.fault _ _ c.in-Some.is (c.sync_fault.ensures (sync_named m (name_at 0 c.args.args.now)));
+      ∙ refused c.sync_fault.result c.in-Some.fault _ _ c.in-Some.is (c.sync_fault.ensures (sync_named m (argument_name 0 c.args.args.now)));
 }
 
 pub returns-in_default-name-clause-plan : goal.returns-in_default-name-clause-plan
 returns-in_default-name-clause-plan g c = record {
   made = λ m k holds stands.
       sync_as m c.args.args.now c.args.name.now c.in_ok-there.there _ c.requires.named (c.in_ok-there.ensures.there m k holds stands) c.unknown_name.ensures
-      ∙ checked c.sync_fault.result _ _ c.in_default.is (c.sync_fault.ensures (sync_named m (name_at 0 c.args.args.now)))
+      ∙ checked c.sync_fault.result _ _ c.in_default.is (c.sync_fault.ensures (sync_named m (argument_name 0 c.args.args.now)))
       ∙ ap (sync_named m) (sym c.requires.named ∙ c.in_default-name.is);
 }
 
 pub returns-in_default-found-clause-plan : goal.returns-in_default-found-clause-plan
 returns-in_default-found-clause-plan g c = record {
   made = λ m k holds stands.
-      let i = c.in-Some-name.index in
-      let there_is = c.in_ok-there.ensures.there m k holds stands in
-      let none = passed_by _ _ _ m [] (checked c.sync_fault.result _ _ c.in_default.is (c.sync_fault.ensures (Does m []))) in
-      let x = index_there m c.args.name.now i c.in_ok-there.there _ c.in-Some-name.is there_is c.unknown_name.ensures none in
-      sync_as m c.args.args.now c.args.name.now c.in_ok-there.there _ c.requires.named there_is c.unknown_name.ensures
-      ∙ checked c.sync_fault.result _ _ c.in_default.is (c.sync_fault.ensures (sync_named m (name_at 0 c.args.args.now)))
-      ∙ ap (sync_named m) (sym c.requires.named)
-      ∙ found_is m c.args.name.now i x.0 c.in-Some-name.is x.1
-      ∙ fails _ LimitReached _ (match_none c.in_ok-found.found _ _ c.in_default-found.is (c.in_ok-found.ensures.changes m k x.0 (reads_hold _ _ k c.in_ok-there.ensures.reads holds) stands x.1));
+      let x = sync_there m c.args.args.now c.args.name.now c.in-Some-name.index c.in_ok-there.there _ c.sync_fault.result c.requires.named c.in-Some-name.is (c.in_ok-there.ensures.there m k holds stands) c.unknown_name.ensures c.in_default.is c.sync_fault.ensures in
+      x.2 ∙ fails _ LimitReached _ (match_none c.in_ok-found.found _ _ c.in_default-found.is (c.in_ok-found.ensures.changes m k x.0 (reads_hold _ _ k c.in_ok-there.ensures.reads holds) stands x.1));
 }
 
 pub returns-clause-plan : goal.returns-clause-plan
 returns-clause-plan g c = record {
   made = λ m k holds stands.
       let i = c.in-Some-name.index in
-      let there_is = c.in_ok-there.ensures.there m k holds stands in
-      let none = passed_by _ _ _ m [] (checked c.sync_fault.result _ _ c.in_default.is (c.sync_fault.ensures (Does m []))) in
-      let x = index_there m c.args.name.now i c.in_ok-there.there _ c.in-Some-name.is there_is c.unknown_name.ensures none in
+      let x = sync_there m c.args.args.now c.args.name.now i c.in_ok-there.there _ c.sync_fault.result c.requires.named c.in-Some-name.is (c.in_ok-there.ensures.there m k holds stands) c.unknown_name.ensures c.in_default.is c.sync_fault.ensures in
       let found = found_some c.in_ok-found.found c.in-Some-found.batch _ _ c.in-Some-found.is (c.in_ok-found.ensures.changes m k x.0 (reads_hold _ _ k c.in_ok-there.ensures.reads holds) stands x.1) in (
         with_synced m i,
-        sync_as m c.args.args.now c.args.name.now c.in_ok-there.there _ c.requires.named there_is c.unknown_name.ensures
-            ∙ checked c.sync_fault.result _ _ c.in_default.is (c.sync_fault.ensures (sync_named m (name_at 0 c.args.args.now)))
-            ∙ ap (sync_named m) (sym c.requires.named)
-            ∙ found_is m c.args.name.now i x.0 c.in-Some-name.is x.1
-            ∙ passes _ LimitReached _ found.0,
+        x.2 ∙ passes _ LimitReached _ found.0,
         subst (λ (b : List (List ℕ × Option (List ℕ))). StandsForState (after b k) (with_synced m i)) (sym found.1) (synced_stands k m i x.0 stands x.1 found.0),
       );
 }

@@ -1,5 +1,5 @@
 use Rattle.std.proofs.lemmas.Result.{err_from_is_err_and}
-use Rattle.ct_keep.specs.Composing.{reads_none}
+use Rattle.ct_keep.specs.laws.Composing.{reads_none}
 use Rattle.db_state.specs.laws.Serving.{serves_look, serves_short}
 use Rattle.db_index.proofs.TokenChecks.{tokens_keep}
 use Rattle.db_index.proofs.tokenizing.policy_tokens.Goals as goal

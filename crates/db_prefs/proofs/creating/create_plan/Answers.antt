@@ -1,8 +1,8 @@
 use Rattle.std.proofs.Common.{Bool, refl, sym, ap, subst, ◌∙◌}
 use Rattle.std.specs.Prelude.{not}
-use Rattle.ct_keep.specs.Composing.{reads_hold}
+use Rattle.ct_keep.specs.laws.Composing.{reads_hold}
 use Rattle.db_cond.specs.Faults.{BadValue}
-use Rattle.db_call.specs.Arguments.{text_at}
+use Rattle.db_call.specs.Arguments.{argument_text}
 use Rattle.db_state.specs.Effects.{Effect}
 use Rattle.db_state.specs.Lines.{call_done}
 use Rattle.db_state.specs.Plans.{IsPlan}
@@ -15,7 +15,7 @@ pub returns-in-Some-clause-plan : goal.returns-in-Some-clause-plan
 returns-in-Some-clause-plan g c = record {
   made = λ m k holds stands.
       create_as m c.args.args.now c.args.kind c.args.name.now _ _ _ _ (c.in_ok-there.ensures.there m k holds stands) c.taken_name-taken.ensures c.are_new_args.ensures refl
-      ∙ refused c.first_fault.result c.in-Some.fault _ _ c.in-Some.is (c.first_fault.ensures (create_on m c.args.args.now c.args.kind c.args.name.now (text_at 1 c.args.args.now)));
+      ∙ refused c.first_fault.result c.in-Some.fault _ _ c.in-Some.is (c.first_fault.ensures (create_on m c.args.args.now c.args.kind c.args.name.now (argument_text 1 c.args.args.now)));
 }
 
 pub returns-then-not-is_type-clause-plan : goal.returns-then-not-is_type-clause-plan

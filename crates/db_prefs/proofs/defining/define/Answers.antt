@@ -1,6 +1,6 @@
 use Rattle.std.proofs.Common.{Some, refl, sym}
 use Rattle.std.proofs.lemmas.Result.{err_from_is_err_and}
-use Rattle.ct_keep.specs.Composing.{reads_none}
+use Rattle.ct_keep.specs.laws.Composing.{reads_none}
 use Rattle.db_state.specs.Lines.{call_done}
 use Rattle.db_state.specs.Plans.{line_for_all}
 use Rattle.db_state.specs.laws.Serving.{serves_as, serves_err, serves_short, serves_then, plan_then}

@@ -2,7 +2,7 @@ use Rattle.std.proofs.Common.{List, [], Vec, ℕ, refl, sym, ap, subst, ◌∙�
 use Rattle.std.specs.Prelude.{not}
 use Rattle.std.specs.Option.{option_map}
 use Rattle.std.specs.declared.alloc.Global.{Global}
-use Rattle.db_call.specs.Arguments.{text_at}
+use Rattle.db_call.specs.Arguments.{argument_text}
 use Rattle.db_cond.specs.Faults.{BadValue}
 use Rattle.db_state.specs.Effects.{Effect, Does}
 use Rattle.db_state.specs.Lines.{call_done}
@@ -29,8 +29,8 @@ returns-clause-plan g c = record {
       let none = check_passed _ _ _ m (checked c.first_fault.result _ _ c.in_default.is (c.first_fault.ensures (Does m []))) in
       subst (λ (e : Effect). IsPlan e call_done k c.in_ok-plan.plan)
       (sym
-      (stopword_as m args name _ _ (text_at 1 args) found _ read (unknown_by items c.in_ok-found.found name _ c.is_some.result c.is_some.ensures c.missing_name-unknown.ensures) taken c.are_texts.ensures refl
-      ∙ checked c.first_fault.result _ _ c.in_default.is (c.first_fault.ensures (stopword_on m args name found (text_at 1 args)))
+      (stopword_as m args name _ _ (argument_text 1 args) found _ read (unknown_by items c.in_ok-found.found name _ c.is_some.result c.is_some.ensures c.missing_name-unknown.ensures) taken c.are_texts.ensures refl
+      ∙ checked c.first_fault.result _ _ c.in_default.is (c.first_fault.ensures (stopword_on m args name found (argument_text 1 args)))
       ∙ is_found _ word BadValue _ (sym c.in-Some-word.ensures)
       ∙ passes _ BadValue _ (ap not (sym c.has_stopword_length.ensures ∙ c.if-not-has_stopword_length.false))
       ∙ both_there _ _ c.in-Some-name.name words (stopword_added word m) c.in-Some-name.is there))

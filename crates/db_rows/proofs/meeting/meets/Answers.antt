@@ -1,5 +1,5 @@
 use Rattle.std.proofs.Common.{◌∙◌}
-use Rattle.ct_keep.specs.Composing.{reads_none, reads_on, reads_hold}
+use Rattle.ct_keep.specs.laws.Composing.{reads_none, reads_on, reads_hold}
 use Rattle.db_rows.specs.Values.{row_values}
 use Rattle.db_rows.proofs.LookSteps.{looks_begin, looks_more, looks_end}
 use Rattle.db_rows.proofs.MeetSteps.{none_met, one_met, not_met, all_met, met_there}

@@ -12,5 +12,6 @@ abbrev pub invariant-loop-cond : goal.invariant-loop-cond
 invariant-loop-cond g l = record {
   reads : ReadsKeeper (g.K.Keeper.view l.fn.keeper) (g.K.Keeper.view l.keeper) None;
   looks : LooksSoFar (text_conds l.columns (drop l.cond-index l.conds)) (text_conds l.columns l.conds) (g.K.Keeper.view l.fn.keeper).counts (g.K.Keeper.view l.keeper).counts;
-  met : (m : StoreState) (c : Content) → (g.K.Keeper.view l.fn.keeper).content ≡ Some c → StandsForState c m → AreMet l.columns l.conds l.row.0 (row_values m.tables l.table l.row.0) l.cond-index l.read;
+  met : (m : StoreState) (c : Content) → (g.K.Keeper.view l.fn.keeper).content ≡ Some c → StandsForState c m
+      → AreMet l.columns l.conds l.row.0 (row_values m.tables l.table l.row.0) l.cond-index l.read;
 }

@@ -1,6 +1,6 @@
 use Rattle.std.proofs.Common.{Option, None, subst}
 use Rattle.ct_base.specs.declared.numbers.RowKey.{RowKey}
-use Rattle.ct_keep.specs.Composing.{reads_none, reads_on, reads_hold}
+use Rattle.ct_keep.specs.laws.Composing.{reads_none, reads_on, reads_hold}
 use Rattle.ct_entry.specs.Listings.{number_of}
 use Rattle.tb_table.specs.Tables.{row_keys}
 use Rattle.db_rows.specs.Walking.{IsNext}

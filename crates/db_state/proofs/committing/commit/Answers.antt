@@ -1,7 +1,7 @@
 use Rattle.std.proofs.Common.{ap, inr}
 use Rattle.std.proofs.lemmas.Result.{err_from_is_err_and}
 use Rattle.ct_keep.specs.Content.{after}
-use Rattle.ct_keep.specs.WellLaws.{well_weaker}
+use Rattle.ct_keep.specs.laws.Changes.{well_weaker}
 use Rattle.db_state.specs.Shapes.{IsStoreEntry}
 use Rattle.db_state.proofs.Committed.{always_fits, gives_committed, gives_uncommitted}
 use Rattle.db_state.specs.Plans.{line_for_all}
@@ -35,18 +35,18 @@ returns-clause-tells g c =
 -- ---- how many commits it made
 
 pub returns-in_err-commit-clause-once : goal.returns-in_err-commit-clause-once
-returns-in_err-commit-clause-once g c = inr (ap (λ (n : Counts). n.commits) c.in_err-commit.ensures.counts.is, c.in_err-commit.ensures.counts.few)
+returns-in_err-commit-clause-once g c = inr (ap (λ (n : Counts). n.commits) c.in_err-commit.ensures.counts, c.commit.ensures.syncs)
 
 pub returns-clause-once : goal.returns-clause-once
-returns-clause-once g c = inr (ap (λ (n : Counts). n.commits) c.in_ok-commit.ensures.counts.is, c.in_ok-commit.ensures.counts.few)
+returns-clause-once g c = inr (ap (λ (n : Counts). n.commits) c.in_ok-commit.ensures.counts, c.commit.ensures.syncs)
 
 -- ---- how often one was refused
 
 pub returns-in_err-commit-clause-fulls : goal.returns-in_err-commit-clause-fulls
-returns-in_err-commit-clause-fulls g c = let p = err_from_is_err_and c.from_residual.result c.from_residual.ensures.1 in rw (p.1, p.2) (ap (λ (n : Counts). n.fulls) c.in_err-commit.ensures.counts.is)
+returns-in_err-commit-clause-fulls g c = let p = err_from_is_err_and c.from_residual.result c.from_residual.ensures.1 in rw (p.1, p.2) (ap (λ (n : Counts). n.fulls) c.in_err-commit.ensures.counts)
 
 pub returns-clause-fulls : goal.returns-clause-fulls
-returns-clause-fulls g c = ap (λ (n : Counts). n.fulls) c.in_ok-commit.ensures.counts.is
+returns-clause-fulls g c = ap (λ (n : Counts). n.fulls) c.in_ok-commit.ensures.counts
 
 -- ---- what only takes entries away
 

@@ -1,6 +1,6 @@
 use Rattle.std.proofs.Common.{subst}
 use Rattle.std.proofs.lemmas.Result.{err_from_is_err_and}
-use Rattle.ct_keep.specs.Composing.{reads_none}
+use Rattle.ct_keep.specs.laws.Composing.{reads_none}
 use Rattle.db_cond.specs.Refused.{refusal_of}
 use Rattle.db_state.specs.Plans.{IsPlanOf}
 use Rattle.db_state.specs.laws.Serving.{serves_short, serves_refused}

@@ -1,5 +1,5 @@
 use Rattle.std.proofs.lemmas.Result.{err_from_is_err_and}
-use Rattle.ct_keep.specs.Composing.{reads_none}
+use Rattle.ct_keep.specs.laws.Composing.{reads_none}
 use Rattle.db_state.specs.laws.Serving.{serves_short, serves_batch}
 use Rattle.db_state.proofs.plans.commit_batch.Goals as goal
 

@@ -1,4 +1,4 @@
-use Rattle.ct_keep.specs.Composing.{reads_hold}
+use Rattle.ct_keep.specs.laws.Composing.{reads_hold}
 use Rattle.ct_entry.specs.laws.Removals.{removes_then, removes_appended}
 use Rattle.tb_table.proofs.RemovalSteps.{three_added}
 use Rattle.tb_table.proofs.removals.remove.Goals as goal

@@ -1,11 +1,11 @@
 use Rattle.std.proofs.Common.{ℕ, List, ◌++◌, Option, ap, subst, ◌∙◌, rules}
 use Rattle.std.specs.List.{All}
-use Rattle.ct_keep.specs.Composing.{reads_hold}
+use Rattle.ct_keep.specs.laws.Composing.{reads_hold}
 use Rattle.ct_entry.specs.Keys.{IsRow}
 use Rattle.db_change.specs.Inserting.{IsNumberKept, IsTextKept}
 use Rattle.db_change.proofs.RowSteps.{batch_stands}
 use Rattle.db_change.proofs.ShapeSteps.{few_behind, short_behind, row_and_notes}
-use Rattle.db_change.proofs.inserting.noted_batch.Goals as goal
+use Rattle.db_change.proofs.inserting.insert_batch.Goals as goal
 
 pub returns-clause-batch : goal.returns-clause-batch
 returns-clause-batch g c = λ m k x holds stands here free.
