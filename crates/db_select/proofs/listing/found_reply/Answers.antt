@@ -12,5 +12,5 @@ returns-in-Rows-clause-reply g c = λ m k x holds stands there same.
     subst (λ (found : Found). IfOk c.rows_reply.result (λ (reply : Vec ℕ Global). reply.items ≡ found_reply m.tables c.args.table.now x.columns c.args.list.now found))
     (sym c.in-Rows.is)
     (subst (λ (hits : List Hit). IfOk c.rows_reply.result (λ (reply : Vec ℕ Global). reply.items ≡ rows_reply m.tables c.args.table.now x.columns c.args.list.now (hit_rows hits)))
-     c.deref.ensures.value
-     (c.rows_reply.ensures.reply m k x holds stands there same))
+    c.deref.ensures.value
+    (c.rows_reply.ensures.reply m k x holds stands there same))
