@@ -105,17 +105,12 @@ fn reply_to<R: Threads + Sync, K: Keeper>(
             kind,
             parameters,
             parallel,
-        } => index_statement(
-            rt,
-            alloc,
-            degree,
-            keeper,
-            name,
-            table,
-            column,
-            parameters,
-            is_built_index(*kind, parallel),
-        ),
+        } => {
+            let built = is_built_index(*kind, parallel);
+            index_statement(
+                rt, alloc, degree, keeper, name, table, column, parameters, built,
+            )
+        }
         Statement::Insert {
             table,
             columns,
