@@ -8,6 +8,8 @@ pub mod Looks
 pub mod Pairs
 pub mod Counting
 pub mod CountedPairs
+pub mod KeyLists
+pub mod Undoing
 pub mod Transactions
 pub mod InMemory
 pub mod KeeperStates

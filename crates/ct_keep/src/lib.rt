@@ -5,6 +5,7 @@ mod batches;
 mod entry_maps;
 mod holdings;
 mod keepers;
+mod key_lists;
 mod limits;
 mod mem_keepers;
 mod owner_counts;
@@ -12,6 +13,7 @@ mod scans;
 mod sorted_entries;
 mod tallies;
 mod transactions;
+mod undo_logs;
 
 pub use batches::{Batch, Change};
 pub use entry_maps::EntryMap;

@@ -3,12 +3,11 @@
 ghost use Rattle.std.specs.Prelude.{◌≡◌, ◌↔◌, IsTrue, IfOk, OnOk, OnErr, IsSome, Some, None};
 ghost use Rattle.std.specs.Option.{option_map};
 ghost use Rattle.std.specs.FinMap.{get, insert, remove, empty};
-ghost use Rattle.ct_keep.specs.Content.{set_to, after, entries_above, first_entry};
+ghost use Rattle.ct_keep.specs.Content.{entries_above, first_entry};
 ghost use Rattle.ct_keep.specs.Changes.{HoldsWell, IsWell};
 ghost use Rattle.ct_keep.specs.Counting.{count_under, IsOwner};
-ghost use Rattle.ct_keep.specs.Transactions.{staying, undoing, AreInPlace};
+ghost use Rattle.ct_keep.specs.Transactions.{staying};
 
-use crate::batches::Change;
 use crate::keepers::Shape;
 use crate::limits::{KEY_LIMIT, VALUE_LIMIT};
 use crate::owner_counts::OwnerCounts;
@@ -98,7 +97,7 @@ impl SortedEntries {
     }
 
     /// Gives another value to an entry that is there, and gives back the value that it had. It needs no memory.
-    fn replace(&mut self, key: &[u8], value: Vec<u8>) -> Vec<u8>
+    pub(crate) fn replace(&mut self, key: &[u8], value: Vec<u8>) -> Vec<u8>
         requires { IsSome (get self.old key.now) }
         ensures content { self.new ≡ insert self.old key.now value.items }
         ensures before { get self.old key.now ≡ Some result.items }
@@ -110,7 +109,7 @@ impl SortedEntries {
     }
 
     /// Adds an entry whose key is new.
-    fn add(&mut self, alloc: Global, key: Vec<u8>, value: Vec<u8>) -> Result<(), Memory>
+    pub(crate) fn add(&mut self, alloc: Global, key: Vec<u8>, value: Vec<u8>) -> Result<(), Memory>
         requires { get self.old key.items ≡ None }
         ensures ok { OnOk result (self.new ≡ insert self.old key.items value.items) }
         ensures err { OnErr result (self.new ≡ self.old) }
@@ -154,32 +153,6 @@ impl SortedEntries {
         let value = self.entries.remove(key)?;
         self.owner_counts.remove(key);
         Some(value)
-    }
-
-    /// Does a change that needs no memory: one that takes an entry out, or gives another value to one that is there.
-    fn set_in_place(&mut self, change: Change)
-        requires { IsSome change.value → IsSome (get self.old change.key.items) }
-        ensures { self.new ≡ set_to change.key.items (option_map (λ v. v.items) change.value) self.old }
-    {
-        let Change { key, value } = change;
-        match value {
-            Some(value) => {
-                let _ = self.replace(&key, value);
-            }
-            None => {
-                let _ = self.take(&key);
-            }
-        }
-    }
-
-    /// Undoes changes, each noted by the change on what stood there before, the last of them first. It needs no memory.
-    pub(crate) fn undo(&mut self, mut notes: Vec<Change>)
-        requires { AreInPlace (undoing notes.items) self.old }
-        ensures { self.new ≡ after (undoing notes.items) self.old }
-    {
-        while let Some(change) = notes.pop() {
-            self.set_in_place(change);
-        }
     }
 
     /// Takes out the entries at the keys of `gone`. It needs no memory.

@@ -8,6 +8,7 @@ ghost use Rattle.ct_keep.specs.Content.{set_to, after, entry_weight, weight, val
 
 use crate::batches::Change;
 use crate::sorted_entries::SortedEntries;
+use crate::undo_logs::UndoLog;
 use ct_base::Memory;
 use std::alloc::Global;
 use std::marker::Model;
@@ -26,23 +27,22 @@ pub struct Transaction {
     held: SortedEntries,
     /// The keys of the entries that are to go.
     gone: SortedEntries,
-    /// For each change of `held`, the change on what stood there before.
-    undo_log: Vec<Change>,
+    undo_log: UndoLog,
     /// The weight of the entries without those that are to go.
     total: u128,
 }
 
 impl Model for Transaction {
-    ghost use Rattle.ct_keep.specs.Content.{after};
-    ghost use Rattle.ct_keep.specs.Transactions.{TransactionState, transaction_code, staying, undoing, IsTransaction};
+    ghost use Rattle.ct_keep.specs.Transactions.{TransactionState, transaction_code, staying, IsTransaction};
+    ghost use Rattle.ct_keep.specs.Undoing.{before_puts};
 
     ghost Value = { TransactionState };
 
     ghost coded = { transaction_code };
 
-    ghost view = { λ t. record { before = after (undoing t.undo_log.items) t.held; seen = staying t.held t.gone } };
+    ghost view = { λ t. record { before = before_puts t.undo_log t.held; seen = staying t.held t.gone } };
 
-    ghost invariant = { λ t. IsTransaction t.held t.gone t.undo_log.items t.total };
+    ghost invariant = { λ t. IsTransaction t.held t.gone t.undo_log t.total };
 }
 
 impl Transaction {
@@ -55,7 +55,7 @@ impl Transaction {
         Transaction {
             held,
             gone: SortedEntries::new(alloc),
-            undo_log: Vec::new(alloc),
+            undo_log: UndoLog::new(alloc),
             total: total as u128,
         }
     }
@@ -81,12 +81,10 @@ impl Transaction {
         ensures heavier { OnOk result (weight self.new.seen ≤ weight self.old.seen + 2 ^ 64) }
     {
         let copy = Vec::from_slice(alloc, &key)?;
-        self.undo_log.reserve(1)?;
         let less = self.weight_at(&key);
         let more = entry_weight(&key, &value);
-        let value = self.held.put(alloc, key, value)?;
+        self.undo_log.put(alloc, &mut self.held, key, value)?;
         let _ = self.gone.take(&copy);
-        self.undo_log.push_reserved(Change { key: copy, value });
         self.total = self.total - less as u128 + more as u128;
         Ok(())
     }
@@ -141,7 +139,7 @@ impl Transaction {
         ensures { result ≡ self.before }
     {
         let mut held = self.held;
-        held.undo(self.undo_log);
+        self.undo_log.undo(&mut held);
         held
     }
 

@@ -17,7 +17,7 @@ overflow_sub-self c = omega (arith, less_is (goal.at.overflow_sub-self c).In_ok-
 
 pub invariant_of-self-2 : goal.invariant_of-self-2
 invariant_of-self-2 c =
-    course_removed c.self.inside.held c.self.inside.gone c.put.new.self c.self.inside.undo_log.items c.args.key.items c.new.result.items c.self.inside.total c.weight_at-less.result c.self.invariant
+    course_removed c.self.inside.held c.self.inside.gone c.put.new.self c.self.inside.undo_log c.args.key.items c.new.result.items c.self.inside.total c.weight_at-less.result c.self.invariant
     c.in_ok-put.ensures.ok (less_is (goal.at.invariant_of-self-2 c).In_ok-put)
 
 seen_is : (c : In_ok-put) → staying c.self.inside.held c.put.new.self ≡ remove c.args.self.now.seen c.args.key.items
