@@ -15,9 +15,9 @@ use Rattle.ct_base.specs.Zeros.{zeros}
 use Rattle.ct_base.specs.laws.Zeros.{zeros-add, length-zeros}
 use Rattle.ct_site.specs.Images.{written}
 use Rattle.ct_site.specs.Pieces.{written_piece}
-use Rattle.pg_journal.specs.BatchStates.{BatchState, numbers_in, pages_in, place_in, root_in, spelled, IsRun}
+use Rattle.pg_journal.specs.BatchStates.{BatchState, numbers_in, pages_in, place_in, root_in, image_at, spelled}
 use Rattle.pg_journal.specs.Pages.{Numbered, Has, AreBetween, with_more, put_on, with_page, homes_in}
-use Rattle.pg_journal.specs.Recovered.{numbers_bytes, images_bytes, filling}
+use Rattle.pg_journal.specs.Recovered.{numbers_bytes, filling}
 use Rattle.pg_journal.specs.Standing.{homes_with}
 use Rattle.pg_journal.proofs.Pages.{put_on_below, with_same, with_other}
 
@@ -35,10 +35,14 @@ nothing : (bytes : List ℕ) → length bytes ≡ 0 → bytes ≡ []
 nothing [] none = refl
 nothing (b ∷ bytes) none = absurd (omega (arith, none))
 
-pub images_of_pages : (ns bytes : List ℕ) → length bytes ≡ 4096 * length ns → images_bytes (pages_in ns bytes) ≡ bytes
-images_of_pages [] bytes long = sym (nothing bytes long)
-images_of_pages (n ∷ ns) bytes long =
-    ap (λ (l : List ℕ). take 4096 bytes ++ l) (images_of_pages ns (drop 4096 bytes) (omega (arith, long, length-drop 4096 bytes))) ∙ take-append-drop 4096 bytes
+-- the image of one of them, among the bytes of all
+pub image_of_pages : (ns bytes : List ℕ) (i : ℕ) → i < length ns → image_at i (pages_in ns bytes) ≡ take 4096 (drop (4096 * i) bytes)
+image_of_pages [] bytes i less = absurd (omega (arith, less))
+image_of_pages (n ∷ ns) bytes zero less = refl
+image_of_pages (n ∷ ns) bytes (suc i) less =
+    let e : 4096 + 4096 * i ≡ 4096 * suc i = omega arith in
+    image_of_pages ns (drop 4096 bytes) i (omega (arith, less))
+    ∙ ap (λ (l : List ℕ). take 4096 l) (drop-drop (4096 * i) 4096 bytes ∙ ap (λ (k : ℕ). drop k bytes) e)
 
 pub numbers_spelled : (ws : List Numbered) → numbers_bytes ws ≡ spelled (numbers_in ws)
 numbers_spelled [] = refl
@@ -186,13 +190,15 @@ root_other n b ws other = grind (arith, nat_tests)
 root_same : (n : ℕ) (b : List ℕ) (ws : List Numbered) → n ≡ 2 → root_in ((n, b) ∷ ws) ≡ Some b
 root_same n b ws is = grind (arith, nat_tests)
 
-pub no_root : (ns bytes : List ℕ) → ((0 < length ns) → get_or ns 0 0 ≢ 2) → None ≡ root_in (pages_in ns bytes)
-no_root [] bytes other = refl
-no_root (n ∷ ns) bytes other = sym (root_other n (take 4096 bytes) (pages_in ns (drop 4096 bytes)) (other (omega arith)))
+pub no_root : (ns : List ℕ) (ws : List Numbered) → ns ≡ numbers_in ws → ((0 < length ns) → get_or ns 0 0 ≢ 2) → None ≡ root_in ws
+no_root ns [] is other = refl
+no_root ns (w ∷ ws) is other =
+    let some : 0 < length ns = omega (arith, ap (λ (l : List ℕ). length l) is) in
+    sym (root_other w.0 w.1 ws (λ two. other some (ap (λ (l : List ℕ). get_or l 0 0) is ∙ two)))
 
-pub a_root : (ns bytes root : List ℕ) → 0 < length ns → get_or ns 0 0 ≡ 2 → root ≡ take 4096 bytes → Some root ≡ root_in (pages_in ns bytes)
-a_root [] bytes root some is page_is = absurd (omega (arith, some))
-a_root (n ∷ ns) bytes root some is page_is = ap Some page_is ∙ sym (root_same n (take 4096 bytes) (pages_in ns (drop 4096 bytes)) is)
+pub a_root : (ns : List ℕ) (ws : List Numbered) (root : List ℕ) → ns ≡ numbers_in ws → 0 < length ns → get_or ns 0 0 ≡ 2 → root ≡ image_at 0 ws → Some root ≡ root_in ws
+a_root ns [] root is some two image_is = absurd (omega (arith, some, ap (λ (l : List ℕ). length l) is))
+a_root ns (w ∷ ws) root is some two image_is = ap Some image_is ∙ sym (root_same w.0 w.1 ws (ap (λ (l : List ℕ). get_or l 0 0) (sym is) ∙ two))
 
 pub homes_of_root : (homes : ℕ) (ws : List Numbered) (root : List ℕ) → root_in ws ≡ Some root → homes_in root ≡ homes_with homes ws
 homes_of_root homes [] root is = absurd (cc is)
@@ -333,17 +339,6 @@ area_step ns k some is =
           ∙ sym (append-nil (spelled (take k ns) ++ zeros (4096 - 4 * length (take k ns))))
           ∙ ap (λ (l : List ℕ). (spelled (take k ns) ++ zeros (4096 - 4 * length (take k ns))) ++ number_area l) (sym none)
     ]
-
-pub run_one : (ns : List ℕ) (from : ℕ) → IsRun ns from (from + 1)
-run_one ns from = record { each = λ k least less. let e : k ≡ from = omega (arith, least, less) in ap (λ (i : ℕ). get_or ns i 0 + from) e ∙ ap (λ (i : ℕ). get_or ns from 0 + i) (sym e) }
-
-pub run_more : (ns : List ℕ) (from end : ℕ) → IsRun ns from end → get_or ns end 0 + from ≡ get_or ns from 0 + end → IsRun ns from (end + 1)
-run_more ns from end run last = record {
-  each = λ k least less. elim (cases_eq k end) [
-    | inl is ↦ ap (λ (i : ℕ). get_or ns i 0 + from) is ∙ last ∙ ap (λ (i : ℕ). get_or ns from 0 + i) (sym is)
-    | inr other ↦ run.each k least (omega (arith, less, other))
-  ];
-}
 
 -- the numbers that are left, a page of them first
 module _ (ns : List ℕ) (done end : ℕ) (bytes : List ℕ) (less : done < length ns) (is : end ≡ min (length ns) (done + 1024)) (page_is : bytes ≡ spelled (take (end - done) (drop done ns)) ++ zeros (4096 - 4 * length (take (end - done) (drop done ns)))) where

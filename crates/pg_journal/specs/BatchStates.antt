@@ -1,5 +1,5 @@
 -- A batch as contracts see it, and how its pages are kept.
-use Rattle.std.specs.Prelude.{◌≡◌, ℕ, ◌+◌, ◌<◌, ◌≤◌, List, [], ◌∷◌, ◌++◌, suc, map, take, drop, nat_lt, get_or, Option, None, Some, replicate, refl, ◌==◌}
+use Rattle.std.specs.Prelude.{◌≡◌, ℕ, List, [], ◌∷◌, ◌++◌, suc, map, take, drop, nat_lt, get_or, Option, None, Some, replicate, refl, ◌==◌}
 use Rattle.std.specs.Bool.{if◌then◌else◌}
 use Rattle.std.specs.Int.{to_be_bytes, w32}
 use Rattle.pg_journal.specs.Pages.{Numbered}
@@ -23,6 +23,10 @@ abbrev pub place_in : ℕ → List Numbered → ℕ
 place_in n [] = 0
 place_in n (w ∷ ws) = if nat_lt w.0 n then suc (place_in n ws) else 0
 
+-- the image of the page at an index
+abbrev pub image_at : ℕ → List Numbered → List ℕ
+image_at i ws = (get_or ws i (0, [])).1
+
 -- the bytes of page 2, where it is the first page
 abbrev pub root_in : List Numbered → Option (List ℕ)
 root_in [] = None
@@ -33,10 +37,6 @@ abbrev pub spelled : List ℕ → List ℕ
 spelled [] = []
 spelled (n ∷ ns) = to_be_bytes w32 n ++ spelled ns
 
--- From the place `from` on up to `end` each number is the one before it and 1.
-pub record IsRun (numbers : List ℕ) (from end : ℕ) : Type 0 where
-  pub each : (k : ℕ) → from ≤ k → k < end → get_or numbers k 0 + from ≡ get_or numbers from 0 + k
-
 -- ---- computed examples
 two_numbers : spelled (258 ∷ 7 ∷ []) ≡ 0 ∷ 0 ∷ 1 ∷ 2 ∷ 0 ∷ 0 ∷ 0 ∷ 7 ∷ []
 two_numbers = refl
@@ -46,3 +46,6 @@ of_two_pages = refl
 
 behind_the_lower : place_in 4 ((2, []) ∷ (3, []) ∷ (5, []) ∷ []) ≡ 2
 behind_the_lower = refl
+
+the_second_image : image_at 1 ((3, replicate 4096 1) ∷ (5, replicate 4096 2) ∷ []) ≡ replicate 4096 2
+the_second_image = refl

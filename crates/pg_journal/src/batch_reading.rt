@@ -9,6 +9,7 @@ ghost use Rattle.pg_journal.specs.Looking.{ArePagesOr, IsBatchOr, IsOpenedOr, Ar
 ghost use Rattle.ct_site.specs.Lengths.{IsWithin};
 
 use crate::batches::PageBatch;
+use crate::changed_pages::root_image;
 use crate::faults::LoadFault;
 use crate::reading::{homes_of_root, read, read_number};
 use ct_site::{Disk, Failed};
@@ -120,7 +121,7 @@ fn root_with<D: Disk>(disk: &mut D, batch: &PageBatch) -> Result<[u8; 4096], Fai
     ensures same { IsSame (D.disk disk.old) (D.disk disk.new) }
     ensures works { Works (D.disk disk.old) (D.disk disk.new) result }
 {
-    match batch.root() {
+    match root_image(batch) {
         Some(root) => Ok(root),
         None => read::<D, 4096>(disk, 8192),
     }

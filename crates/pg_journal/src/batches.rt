@@ -1,17 +1,16 @@
-//! Batches of pages.
+//! Batches of pages whose images are in memory.
 
 ghost use Rattle.std.specs.Prelude.{◌≡◌, ◌≤◌, ◌<◌, ◌+◌, ◌*◌, ◌^◌, ◌++◌, [], ℕ, List, IfOk, IsTrue, IsFalse, length, take, drop, vec_len};
 ghost use Rattle.std.specs.Vec.{vec_capacity};
-ghost use Rattle.pg_journal.specs.BatchStates.{numbers_in, place_in, root_in, pages_in};
+ghost use Rattle.pg_journal.specs.BatchStates.{place_in, pages_in};
 ghost use Rattle.pg_journal.specs.Pages.{AreBetween, Has, with_more};
-ghost use Rattle.pg_journal.specs.Recovered.{images_bytes};
-ghost use Rattle.pg_journal.specs.Standing.{homes_with};
 
+use crate::changed_pages::ChangedPages;
 use ct_base::Memory;
 use std::alloc::Global;
 use std::marker::Model;
 
-/// Pages that are to be committed together, in order of their numbers. All its memory is taken when it is made.
+/// Pages that are to be committed together, with their images in memory. All its memory is taken when it is made.
 #[derive(Debug, Drop)]
 pub struct PageBatch {
     numbers: Vec<u32>,
@@ -75,44 +74,29 @@ impl PageBatch {
     {
         self.numbers.binary_search(&page).is_ok()
     }
+}
 
-    /// The numbers of its pages.
-    pub(crate) fn numbers(&self) -> &[u32]
-        ensures numbers { result.now ≡ numbers_in self.now.pages }
-        ensures between { AreBetween 2 (2 ^ 32) self.now.pages }
-    {
+impl ChangedPages for PageBatch {
+    ghost pages = { λ b. b.pages };
+
+    fn numbers(&self) -> &[u32] {
         &self.numbers
     }
 
-    /// The bytes of its pages, one behind the other.
-    pub(crate) fn bytes(&self) -> &[u8]
-        ensures { result.now ≡ images_bytes self.now.pages }
-    {
-        &self.bytes
+    fn image(&self, index: usize) -> [u8; 4096] {
+        image_in(&self.bytes, index)
     }
+}
 
-    /// The bytes of page 2, where it has that.
-    pub(crate) fn root(&self) -> Option<[u8; 4096]>
-        ensures { result ≡ root_in self.now.pages }
-    {
-        if self.numbers.is_empty() || self.numbers[0] != 2 {
-            return None;
-        }
-        let mut root = [0; 4096];
-        root.copy_from_slice(&self.bytes[..4096]);
-        Some(root)
-    }
-
-    /// How many home pages there are with this batch, where there are so many without it.
-    pub(crate) fn homes_with(&self, homes: u32) -> u32
-        ensures { result ≡ homes_with homes self.now.pages }
-    {
-        let Some(root) = self.root() else {
-            return homes;
-        };
-        let [_, _, _, _, a, b, c, d, ..] = root;
-        u32::from_be_bytes([a, b, c, d])
-    }
+/// The image at an index among the bytes of images, one behind the other.
+fn image_in(bytes: &[u8], index: usize) -> [u8; 4096]
+    requires { 4096 * index + 4096 ≤ length bytes.now }
+    ensures { result ≡ take 4096 (drop (4096 * index) bytes.now) }
+{
+    let at = 4096 * index;
+    let mut image = [0; 4096];
+    image.copy_from_slice(&bytes[at..at + 4096]);
+    image
 }
 
 /// How many of the numbers, which rise, are below this one.

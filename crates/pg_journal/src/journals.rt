@@ -12,8 +12,8 @@ ghost use Rattle.pg_journal.specs.Standing.{commit_end, homes_with, IsEither, Ma
 ghost use Rattle.pg_journal.specs.Syncs.{SyncsAtMost};
 
 use crate::batch_reading::look_open;
-use crate::batches::PageBatch;
 use crate::births::make_store;
+use crate::changed_pages::{ChangedPages, homes_with};
 use crate::faults::LoadFault;
 use crate::reading::{has_mark, homes_of_closed, read_byte, unborn};
 use crate::stages::{fill, put_home, set_gate, stage};
@@ -89,17 +89,21 @@ impl Journal {
     /// Puts the pages of a batch on those of the store, all of them or none. At each moment the recovered pages are the old
     /// ones or those with the batch put on them, and after Ok the latter. After an error the journal is loaded again. It syncs
     /// four times at most.
-    pub fn commit<D: Disk>(&mut self, disk: &mut D, batch: &PageBatch) -> Result<(), Failed>
-        requires { MayCommit self.old batch.now.pages }
-        ensures moments { OverPages (D.disk disk.old) self.old (λ pages. Leaves (D.disk disk.old) (D.disk disk.new) (IsEither pages batch.now.pages)) }
-        ensures stands { OverPages (D.disk disk.old) self.old (λ pages. OnOk result (DiskStands (D.disk disk.new) self.new (changed batch.now.pages pages))) }
-        ensures length { Lengthens (commit_end self.old batch.now.pages) (D.disk disk.old) (D.disk disk.new) }
+    pub fn commit<D: Disk, B: ChangedPages>(
+        &mut self,
+        disk: &mut D,
+        batch: &B,
+    ) -> Result<(), Failed>
+        requires { MayCommit self.old (B.pages batch.now) }
+        ensures moments { OverPages (D.disk disk.old) self.old (λ pages. Leaves (D.disk disk.old) (D.disk disk.new) (IsEither pages (B.pages batch.now))) }
+        ensures stands { OverPages (D.disk disk.old) self.old (λ pages. OnOk result (DiskStands (D.disk disk.new) self.new (changed (B.pages batch.now) pages))) }
+        ensures length { Lengthens (commit_end self.old (B.pages batch.now)) (D.disk disk.old) (D.disk disk.new) }
         ensures syncs { SyncsAtMost 4 (D.disk disk.old) (D.disk disk.new) }
         ensures works { Works (D.disk disk.old) (D.disk disk.new) result }
-        ensures homes { OnOk result (self.new ≡ homes_with self.old batch.now.pages) }
+        ensures homes { OnOk result (self.new ≡ homes_with self.old (B.pages batch.now)) }
         ensures err { OnErr result (self.new ≡ self.old) }
     {
-        let homes = batch.homes_with(self.homes);
+        let homes = homes_with(batch, self.homes);
         commit_pages(disk, self.homes, homes, batch)?;
         self.homes = homes;
         Ok(())
@@ -206,11 +210,11 @@ fn load_open<D: Disk>(alloc: Global, disk: &mut D, size: u64) -> Result<Journal,
 }
 
 /// Puts a batch home, and closes the gate.
-fn finish<D: Disk>(disk: &mut D, batch: &PageBatch) -> Result<(), Failed>
+fn finish<D: Disk, B: ChangedPages>(disk: &mut D, batch: &B) -> Result<(), Failed>
     requires within { IsWithin 4097 (D.disk disk.old) }
-    requires inside { (i : ℕ) → Has (batch.now.pages) i → IsWithin (4096 * i + 4096) (D.disk disk.old) }
-    ensures moments { OverGoal (D.disk disk.old) batch.now.pages (λ goal. Leaves (D.disk disk.old) (D.disk disk.new) (λ x. IsRecovered x (homes_of goal))) }
-    ensures stands { OverGoal (D.disk disk.old) batch.now.pages (λ goal. OnOk result (DiskStands (D.disk disk.new) (homes_in (goal 2)) (homes_of goal))) }
+    requires inside { (i : ℕ) → Has (B.pages batch.now) i → IsWithin (4096 * i + 4096) (D.disk disk.old) }
+    ensures moments { OverGoal (D.disk disk.old) (B.pages batch.now) (λ goal. Leaves (D.disk disk.old) (D.disk disk.new) (λ x. IsRecovered x (homes_of goal))) }
+    ensures stands { OverGoal (D.disk disk.old) (B.pages batch.now) (λ goal. OnOk result (DiskStands (D.disk disk.new) (homes_in (goal 2)) (homes_of goal))) }
     ensures length { Lengthens 0 (D.disk disk.old) (D.disk disk.new) }
     ensures syncs { SyncsAtMost 2 (D.disk disk.old) (D.disk disk.new) }
     ensures works { Works (D.disk disk.old) (D.disk disk.new) result }
@@ -220,19 +224,19 @@ fn finish<D: Disk>(disk: &mut D, batch: &PageBatch) -> Result<(), Failed>
 }
 
 /// Puts pages on those of a store of so many homes, which has so many afterwards.
-fn commit_pages<D: Disk>(
+fn commit_pages<D: Disk, B: ChangedPages>(
     disk: &mut D,
     homes: u32,
     after: u32,
-    batch: &PageBatch,
+    batch: &B,
 ) -> Result<(), Failed>
-    requires may { MayCommit homes (batch.now.pages) }
-    requires after { after ≡ homes_with homes (batch.now.pages) }
+    requires may { MayCommit homes (B.pages batch.now) }
+    requires after { after ≡ homes_with homes (B.pages batch.now) }
     requires least { 3 ≤ homes }
     requires most { homes ≤ 2 ^ 31 }
-    ensures moments { OverPages (D.disk disk.old) homes (λ pages. Leaves (D.disk disk.old) (D.disk disk.new) (IsEither pages batch.now.pages)) }
-    ensures stands { OverPages (D.disk disk.old) homes (λ pages. OnOk result (DiskStands (D.disk disk.new) after (changed batch.now.pages pages))) }
-    ensures length { Lengthens (4096 * (max homes after + number_pages (length batch.now.pages) + length batch.now.pages)) (D.disk disk.old) (D.disk disk.new) }
+    ensures moments { OverPages (D.disk disk.old) homes (λ pages. Leaves (D.disk disk.old) (D.disk disk.new) (IsEither pages (B.pages batch.now))) }
+    ensures stands { OverPages (D.disk disk.old) homes (λ pages. OnOk result (DiskStands (D.disk disk.new) after (changed (B.pages batch.now) pages))) }
+    ensures length { Lengthens (4096 * (max homes after + number_pages (length (B.pages batch.now)) + length (B.pages batch.now))) (D.disk disk.old) (D.disk disk.new) }
     ensures syncs { SyncsAtMost 4 (D.disk disk.old) (D.disk disk.new) }
     ensures works { Works (D.disk disk.old) (D.disk disk.new) result }
 {

@@ -6,15 +6,14 @@ ghost use Rattle.ct_base.specs.Zeros.{zeros};
 ghost use Rattle.ct_site.specs.Disks.{IsSettled, Leaves, Works};
 ghost use Rattle.ct_site.specs.Lengths.{Lengthens, IsWithin};
 ghost use Rattle.ct_site.specs.Writing.{Writes};
-ghost use Rattle.pg_journal.specs.BatchStates.{IsRun};
 ghost use Rattle.pg_journal.specs.Pages.{Has, AreBetween};
 ghost use Rattle.pg_journal.specs.Recovered.{batch_bytes, number_pages};
 ghost use Rattle.pg_journal.specs.Staging.{Staged, IsGateWrite, IsGateSet, IsSettling, AtHome, WritesUpTo};
 ghost use Rattle.pg_journal.specs.Standing.{IsShut, DiskStands};
 ghost use Rattle.pg_journal.specs.Syncs.{SyncsAtMost};
 
-use crate::batches::PageBatch;
-use crate::writing::{write, write_numbers, write_zeros};
+use crate::changed_pages::ChangedPages;
+use crate::writing::{write, write_images, write_numbers, write_zeros};
 use ct_site::{Disk, Failed};
 
 /// Writes zeros from the end of the file up to this place, where it ends before.
@@ -73,13 +72,12 @@ pub(crate) fn fill<D: Disk>(disk: &mut D) -> Failed
     }
 }
 
-/// Writes a batch, which isn't empty, at this page.
-fn write_batch<D: Disk>(disk: &mut D, place: u32, batch: &PageBatch) -> Result<(), Failed>
+/// Writes a batch at this page.
+fn write_batch<D: Disk, B: ChangedPages>(disk: &mut D, place: u32, batch: &B) -> Result<(), Failed>
     requires within { IsWithin (4096 * place) (D.disk disk.old) }
     requires place { place ≤ 2 ^ 31 }
-    requires some { 1 ≤ length batch.now.pages }
-    requires between { AreBetween 2 place batch.now.pages }
-    ensures writes { Writes (4096 * place) (batch_bytes batch.now.pages) (D.disk disk.old) (D.disk disk.new) result }
+    requires between { AreBetween 2 place (B.pages batch.now) }
+    ensures writes { Writes (4096 * place) (batch_bytes (B.pages batch.now)) (D.disk disk.old) (D.disk disk.new) result }
     ensures syncs { (D.disk disk.new).syncs ≡ (D.disk disk.old).syncs }
     ensures works { Works (D.disk disk.old) (D.disk disk.new) result }
 {
@@ -87,7 +85,7 @@ fn write_batch<D: Disk>(disk: &mut D, place: u32, batch: &PageBatch) -> Result<(
     let numbers = batch.numbers();
     write_numbers(disk, at, numbers)?;
     let number_pages = (numbers.len() as u64 + 1023) / 1024;
-    write(disk, at + 4096 * number_pages, batch.bytes())
+    write_images(disk, at + 4096 * number_pages, batch)
 }
 
 /// Two numbers of four bytes each.
@@ -100,17 +98,21 @@ fn two_numbers(first: u32, second: u32) -> [u8; 8]
 }
 
 /// Writes a batch behind the homes, and says in page 1 where it is.
-pub(crate) fn stage<D: Disk>(disk: &mut D, place: u32, batch: &PageBatch) -> Result<(), Failed>
+pub(crate) fn stage<D: Disk, B: ChangedPages>(
+    disk: &mut D,
+    place: u32,
+    batch: &B,
+) -> Result<(), Failed>
     requires least { 3 ≤ place }
     requires place { place ≤ 2 ^ 31 }
-    requires some { 1 ≤ length batch.now.pages }
-    requires between { AreBetween 2 place batch.now.pages }
+    requires some { 1 ≤ length (B.pages batch.now) }
+    requires between { AreBetween 2 place (B.pages batch.now) }
     ensures moments { (homes : ℕ) (ps : List (List ℕ)) → homes ≤ place → DiskStands (D.disk disk.old) homes ps
         → Leaves (D.disk disk.old) (D.disk disk.new) (IsShut homes ps) }
     ensures staged { (homes : ℕ) (ps : List (List ℕ)) → homes ≤ place → DiskStands (D.disk disk.old) homes ps
-        → OnOk result (Staged (D.disk disk.new) homes ps place (batch.now.pages)) }
+        → OnOk result (Staged (D.disk disk.new) homes ps place (B.pages batch.now)) }
     ensures within { OnOk result (IsWithin (4096 * place) (D.disk disk.new)) }
-    ensures length { Lengthens (4096 * (place + number_pages (length batch.now.pages) + length batch.now.pages)) (D.disk disk.old) (D.disk disk.new) }
+    ensures length { Lengthens (4096 * (place + number_pages (length (B.pages batch.now)) + length (B.pages batch.now))) (D.disk disk.old) (D.disk disk.new) }
     ensures syncs { SyncsAtMost 1 (D.disk disk.old) (D.disk disk.new) }
     ensures works { Works (D.disk disk.old) (D.disk disk.new) result }
 {
@@ -134,41 +136,20 @@ pub(crate) fn set_gate<D: Disk>(disk: &mut D, gate: u8) -> Result<(), Failed>
     disk.sync()
 }
 
-/// Where the run of numbers ends that begins at this place, each of which is the one before it and 1.
-fn run_end(numbers: &[u32], from: usize) -> usize
-    requires { from < length numbers.now }
-    ensures more { from < result }
-    ensures within { result ≤ length numbers.now }
-    ensures run { IsRun numbers.now from result }
-{
-    let mut end = from + 1;
-    let mut next = numbers[from] as u64 + 1;
-    while end < numbers.len() && numbers[end] as u64 == next {
-        end += 1;
-        next += 1;
-    }
-    end
-}
-
-/// Writes the pages of a batch home, pages that follow each other at once.
-pub(crate) fn put_home<D: Disk>(disk: &mut D, batch: &PageBatch) -> Result<(), Failed>
-    requires within { (i : ℕ) → Has batch.now.pages i → IsWithin (4096 * i + 4096) (D.disk disk.old) }
-    ensures moments { (place : ℕ) (goal : ℕ → List ℕ) (image : List ℕ) → IsSettled (D.disk disk.old) image → IsSettling place batch.now.pages goal image
-        → Leaves (D.disk disk.old) (D.disk disk.new) (IsSettling place batch.now.pages goal) }
-    ensures home { (place : ℕ) (goal : ℕ → List ℕ) (image : List ℕ) → IsSettled (D.disk disk.old) image → IsSettling place batch.now.pages goal image
-        → OnOk result (AtHome (D.disk disk.new) place batch.now.pages goal) }
+/// Writes the pages of a batch home, a page at a time.
+pub(crate) fn put_home<D: Disk, B: ChangedPages>(disk: &mut D, batch: &B) -> Result<(), Failed>
+    requires within { (i : ℕ) → Has (B.pages batch.now) i → IsWithin (4096 * i + 4096) (D.disk disk.old) }
+    ensures moments { (place : ℕ) (goal : ℕ → List ℕ) (image : List ℕ) → IsSettled (D.disk disk.old) image → IsSettling place (B.pages batch.now) goal image
+        → Leaves (D.disk disk.old) (D.disk disk.new) (IsSettling place (B.pages batch.now) goal) }
+    ensures home { (place : ℕ) (goal : ℕ → List ℕ) (image : List ℕ) → IsSettled (D.disk disk.old) image → IsSettling place (B.pages batch.now) goal image
+        → OnOk result (AtHome (D.disk disk.new) place (B.pages batch.now) goal) }
     ensures length { Lengthens 0 (D.disk disk.old) (D.disk disk.new) }
     ensures syncs { SyncsAtMost 1 (D.disk disk.old) (D.disk disk.new) }
     ensures works { Works (D.disk disk.old) (D.disk disk.new) result }
 {
     let numbers = batch.numbers();
-    let bytes = batch.bytes();
-    let mut done = 0;
-    while done < numbers.len() {
-        let end = run_end(numbers, done);
-        let run = &bytes[4096 * done..4096 * end];
-        write(disk, 4096 * numbers[done] as u64, run)?;
-        done = end;
+    for i in 0..numbers.len() {
+        write(disk, 4096 * numbers[i] as u64, &batch.image(i))?;
     }
     disk.sync()
 }

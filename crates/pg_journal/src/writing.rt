@@ -6,9 +6,10 @@ ghost use Rattle.ct_site.specs.Disks.{Works};
 ghost use Rattle.ct_site.specs.Lengths.{IsWithin};
 ghost use Rattle.ct_site.specs.Writing.{Writes};
 ghost use Rattle.pg_journal.specs.BatchStates.{spelled};
-ghost use Rattle.pg_journal.specs.Recovered.{filling};
+ghost use Rattle.pg_journal.specs.Recovered.{filling, images_bytes};
 
 use crate::births::put_at;
+use crate::changed_pages::ChangedPages;
 use ct_site::{Disk, Failed};
 
 /// Writes bytes.
@@ -72,6 +73,24 @@ pub(crate) fn write_numbers<D: Disk>(disk: &mut D, at: u64, numbers: &[u32]) -> 
         write(disk, next, &number_page(&numbers[done..end]))?;
         next += 4096;
         done = end;
+    }
+    Ok(())
+}
+
+/// Writes the images of pages, one behind the other; a page at a time.
+pub(crate) fn write_images<D: Disk, B: ChangedPages>(
+    disk: &mut D,
+    at: u64,
+    batch: &B,
+) -> Result<(), Failed>
+    requires within { IsWithin at (D.disk disk.old) }
+    requires fits { at + 4096 * length (B.pages batch.now) < 2 ^ 45 }
+    ensures writes { Writes at (images_bytes (B.pages batch.now)) (D.disk disk.old) (D.disk disk.new) result }
+    ensures syncs { (D.disk disk.new).syncs ≡ (D.disk disk.old).syncs }
+    ensures works { Works (D.disk disk.old) (D.disk disk.new) result }
+{
+    for i in 0..batch.numbers().len() {
+        write(disk, at + 4096 * i as u64, &batch.image(i))?;
     }
     Ok(())
 }

@@ -10,7 +10,7 @@ as_seen : (old new : DiskView) (homes seen : ℕ) (batch : List Numbered) → se
 as_seen old new homes seen batch one moments ps s = moments ps (subst (λ (n : ℕ). DiskStands old n ps) one s)
 
 pub returns-in_err-commit_pages-clause-moments : goal.returns-in_err-commit_pages-clause-moments
-returns-in_err-commit_pages-clause-moments g c = as_seen _ _ _ _ c.args.batch.now.pages (sym c.self.view_is) c.commit_pages.ensures.moments
+returns-in_err-commit_pages-clause-moments g c = as_seen _ _ _ _ (g.B.ChangedPages.pages c.args.batch.now) (sym c.self.view_is) c.commit_pages.ensures.moments
 
 pub returns-clause-moments : goal.returns-clause-moments
-returns-clause-moments g c = as_seen _ _ _ _ c.args.batch.now.pages (sym c.self.view_is) c.commit_pages.ensures.moments
+returns-clause-moments g c = as_seen _ _ _ _ (g.B.ChangedPages.pages c.args.batch.now) (sym c.self.view_is) c.commit_pages.ensures.moments
