@@ -1,7 +1,10 @@
 pub mod Batching
 pub mod Copying
+pub mod DraftPages
 pub mod Drafting
+pub mod Forgotten
 pub mod Freeing
+pub mod Halves
 pub mod Loadings
 pub mod Planning
 pub mod Taking

@@ -1,8 +1,8 @@
 -- Keys on pages while a batch is planned, and the pages that its steps take.
-use Rattle.std.specs.Prelude.{Bool, true, false, cond, map, is_some}
+use Rattle.std.specs.Prelude.{Bool, true, false, cond, map}
 use Rattle.std.proofs.lemmas.Bool.{cases_lt, false≢true, le-ltb, lt-ltb}
 use Rattle.std.proofs.Common.{◌≤◌, ◌<◌, ◌≡◌, ◌⊎◌, inl, inr, ⊎_elim, ℕ, zero, suc, ◌+◌, ◌-◌, ◌%◌, ◌^◌, max, List, [], ◌∷◌, ◌++◌, length, get_or, set, take, drop, Option, Some, None, refl, sym, ap, subst, ◌∙◌, length-append, append-nil, arith}
-use Rattle.std.specs.FinMap.{get, insert, remove, empty, get-insert, get-remove}
+use Rattle.std.specs.FinMap.{get, empty, get-insert}
 use Rattle.std.proofs.lemmas.Cmp.{nat_list_cmp_total}
 use Rattle.ct_keep.specs.Content.{Content, Change, set_to, after}
 use Rattle.ct_keep.specs.laws.Content.{same, same_itself, same_keys, after-append}
@@ -19,13 +19,13 @@ use Rattle.pg_heap.specs.Slots.{without_at}
 use Rattle.pg_heap.specs.Drafts.{Drafted, EndsWith, with_free_page}
 use Rattle.pg_heap.specs.FreePlaces.{ListsFree, NeedsPages, used_pages}
 use Rattle.pg_heap.proofs.Freeing.{used_set, used_over, used_end, used_all}
-use Rattle.pg_map.specs.Places.{PagePlaces}
+use Rattle.pg_map.specs.Places.{PagePlaces, OnlyAddsPlaces}
 use Rattle.pg_heap.specs.Planned.{IsRoomier, IsPut, HasChain, HasNone, IsLongAt}
 use Rattle.pg_map.specs.Done.{IsPlanned, IsDone, HasKeyAt}
 use Rattle.pg_heap.specs.laws.Planned.{taken_at, freed_at}
 use Rattle.pg_heap.specs.laws.LooseSteps.{at_end}
 use Rattle.pg_heap.specs.BatchPages.{entry_pages, put_pages, changed_pages, long_pages}
-use Rattle.pg_heap.specs.PlanSteps.{MayAdd, NoNewKey, TakesPages, IsIndexed, MakesChange, MakesChanges}
+use Rattle.pg_heap.specs.PlanSteps.{MayAdd, NoNewKey, TakesPages, IsIndexed, MakesChange, MakesChanges, places_after}
 use Rattle.pg_heap.proofs.Copying.{without_fits}
 use Rattle.pg_map.specs.laws.PageStrings.{item_key}
 use Rattle.pg_heap.proofs.Taking.{item_at, without_cut}
@@ -536,17 +536,22 @@ put_pages-one ws us key value is = ap put_pages is ∙ of ws
     of (w ∷ ws) = let e = of ws in omega (arith, e)
 
 pub made_more : (old mid new : Drafted) (places places1 : PagePlaces) (ws us : List Change) (m : Content) (key : List ℕ) (value : Option (List ℕ)) (at : ℕ) → MakesChanges old mid places ws m → us ≡ ws ++ (key, value) ∷ []
-    → MakesChange mid.now new.now (after ws m) key value at → places1 ≡ insert places key at → length new.touched ≤ length mid.touched + (entry_pages key (get (after ws m) key) + entry_pages key value)
+    → MakesChange mid.now new.now (after ws m) key value at → places1 ≡ places_after key value at places → length new.touched ≤ length mid.touched + (entry_pages key (get (after ws m) key) + entry_pages key value)
     → MakesChanges old new places1 us m
 made_more old mid new places places1 ws us m key value at is more made put touches = record {
   done = subst (IsDone new.now) (sym (ap (λ (l : List Change). after l m) more ∙ after-append ws ((key, value) ∷ []) m)) made.done;
-  index = record { place = λ a q has. ap (λ (p : PagePlaces). get p q) put ∙ get-insert nat_list_cmp_total places key at q ∙ of a q has (same q key) refl };
+  index = record { place = λ a q has. ap (λ (p : PagePlaces). get p q) put ∙ stands value made a q has };
   touches = let a = is.touches in let c = changed_pages-one ws us key value m more in sum _ _ _ _ _ _ a touches c;
 }
   where
-    of : (a : ℕ) (q : List ℕ) → HasKeyAt new.now a q → (b : Bool) → same q key ≡ b → cond (same q key) (Some at) (get places q) ≡ Some a
-    of a q has true e = ap (λ (b : Bool). cond b (Some at) (get places q)) e ∙ ap (λ (n : ℕ). Some n) (sym (made.here a (subst (λ (k : List ℕ). HasKeyAt new.now a k) (same_keys q key e) has)))
-    of a q has false e = ap (λ (b : Bool). cond b (Some at) (get places q)) e ∙ is.index.place a q (made.others a q (λ is_. false≢true (sym e ∙ ap (same q) (sym is_) ∙ same_itself q)) has)
+    stands : (o : Option (List ℕ)) → MakesChange mid.now new.now (after ws m) key o at → (a : ℕ) (q : List ℕ) → HasKeyAt new.now a q → get (places_after key o at places) q ≡ Some a
+    stands None gone a q has =
+        is.index.place a q (gone.others a q (λ is_. key_there new.now (set_to key None (after ws m)) a key gone.done (subst (HasKeyAt new.now a) is_ has) (gone_none (after ws m) key)) has)
+    stands (Some v) made_ a q has = get-insert nat_list_cmp_total places key at q ∙ of (same q key) refl
+      where
+        of : (b : Bool) → same q key ≡ b → cond b (Some at) (get places q) ≡ Some a
+        of true e = ap (λ (n : ℕ). Some n) (sym (made_.here a (subst (λ (k : List ℕ). HasKeyAt new.now a k) (same_keys q key e) has)))
+        of false e = is.index.place a q (made_.others a q (λ is_. false≢true (sym e ∙ ap (same q) (sym is_) ∙ same_itself q)) has)
 
     sum : (x y z t p q : ℕ) → y ≤ z + p → x ≤ y + t → q ≡ p + t → x ≤ z + q
     sum x y z t p q a b f = omega (arith, a, b, f)
@@ -575,17 +580,13 @@ along_more old mid new ws i w so_far less at step = record {
 pub along_all : (old new : List Kind) (ws : List rust.Change) (i : ℕ) → NeedsAlong old new ws i → NeedsPages old new (put_pages (map change_of ws))
 along_all old new ws i so_far = needs_more old new (put_pages (map change_of (take i ws))) (put_pages (map change_of ws)) (put_pages-take ws i) so_far.is
 
--- a key that the map hasn't may lose its place
-pub forgotten : (kinds : List Kind) (m : Content) (places places1 : PagePlaces) (key : List ℕ) → IsDone kinds m → IsIndexed kinds places → is_some (get m key) ≡ false → places1 ≡ remove places key → IsIndexed kinds places1
-forgotten kinds m places places1 key done index none is = record { place = λ a q has. ap (λ (p : PagePlaces). get p q) is ∙ get-remove nat_list_cmp_total places key q ∙ of a q has (same q key) refl }
-  where
-    absent : (o : Option (List ℕ)) → is_some o ≡ false → o ≡ None
-    absent None e = refl
-    absent (Some v) e = absurd (false≢true (sym e))
+-- ---- places that are only added
 
-    of : (a : ℕ) (q : List ℕ) → HasKeyAt kinds a q → (b : Bool) → same q key ≡ b → cond (same q key) None (get places q) ≡ Some a
-    of a q has true e = absurd (key_there kinds m a key done (subst (HasKeyAt kinds a) (same_keys q key e) has) (absent (get m key) none))
-    of a q has false e = ap (λ (b : Bool). cond b None (get places q)) e ∙ index.place a q has
+pub adds_then : (old mid new : PagePlaces) → OnlyAddsPlaces old mid → OnlyAddsPlaces mid new → OnlyAddsPlaces old new
+adds_then old mid new first second = record { same = λ key at was. second.same key at (first.same key at was) }
+
+pub indexed_more : (kinds : List Kind) (old new : PagePlaces) → IsIndexed kinds old → OnlyAddsPlaces old new → IsIndexed kinds new
+indexed_more kinds old new index adds = record { place = λ at key has. adds.same key at (index.place at key has) }
 
 -- ---- no pages
 

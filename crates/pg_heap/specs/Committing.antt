@@ -1,19 +1,15 @@
 -- The commit of a plan.
 use Rattle.std.proofs.Common.{◌≡◌, ◌≤◌, ◌<◌, ◌⊎◌, ℕ, ◌+◌, ◌*◌, List, length}
-use Rattle.pg_journal.specs.Pages.{Numbered, Has, home, with_more}
+use Rattle.pg_journal.specs.Pages.{Numbered, Has, home}
 use Rattle.pg_journal.specs.Recovered.{IsRecovered, number_pages}
 use Rattle.pg_map.specs.Kinds.{Each, Kind}
 use Rattle.pg_map.specs.MapReading.{behind_root}
-use Rattle.std.proofs.Common.{[], ◌∷◌, inl, inr, refl}
+use Rattle.std.proofs.Common.{[], ◌∷◌, inr, refl}
 
 -- A batch has the pages that a plan changed, as they are now, and the root where there are more of them.
 pub record IsBatchOf (before now : List Kind) (batch : List Numbered) : Type 0 where
   pub are : Each (λ (w : Numbered). w.1 ≡ home (behind_root now) w.0) batch
   pub all : (i : ℕ) → 2 ≤ i → i < 3 + length now → Has batch i ⊎ (home (behind_root before) i ≡ home (behind_root now) i)
-
--- A batch got this page, or had one of its number.
-abbrev pub IsOneMore : List Numbered → List Numbered → ℕ → List ℕ → Type 0
-IsOneMore old new page bytes = ((new ≡ old) × Has old page) ⊎ (new ≡ with_more (page, bytes) old)
 
 -- an image recovers to the pages before, or to those that the plan makes
 abbrev pub AreEither : List Kind → List Kind → List ℕ → Type 0
@@ -27,9 +23,6 @@ draft_end kinds batch = 4096 * (3 + length kinds + number_pages (length batch) +
 end_of_one : draft_end [] ((3, []) ∷ []) ≡ 20480
 end_of_one = refl
 
--- ---- examples: where nothing changed the batch has no page, and a page that the batch has isn't put twice
+-- ---- example: where nothing changed the batch has no page
 nothing_changed : IsBatchOf [] [] []
 nothing_changed = record { are = tt; all = λ i low high. inr refl }
-
-had_already : (page : List ℕ) → IsOneMore ((3, page) ∷ []) ((3, page) ∷ []) 3 page
-had_already page = inl (refl, inl refl)

@@ -3,13 +3,16 @@ pub mod BatchPages
 pub mod Commits
 pub mod Committing
 pub mod DraftFields
+pub mod DraftPages
 pub mod Drafts
+pub mod Forgetting
 pub mod FreeFields
 pub mod FreePlaces
 pub mod HeapFields
 pub mod HeapPages
 pub mod Heaps
 pub mod Loading
+pub mod Once
 pub mod PlanSteps
 pub mod Planned
 pub mod Recovering

@@ -1,6 +1,6 @@
 -- What the steps of a plan leave of the keys on pages, and how many pages they take.
-use Rattle.std.specs.Prelude.{◌≡◌, ◌≢◌, ◌⊎◌, ℕ, ◌+◌, ◌≤◌, List, [], ◌∷◌, ◌++◌, length, Option, Some, refl}
-use Rattle.std.specs.FinMap.{get}
+use Rattle.std.specs.Prelude.{◌≡◌, ◌≢◌, ◌⊎◌, ℕ, ◌+◌, ◌≤◌, List, [], ◌∷◌, ◌++◌, length, Option, Some, None, codes, refl}
+use Rattle.std.specs.FinMap.{get, insert}
 use Rattle.ct_keep.specs.Content.{Content, Change, set_to, after}
 use Rattle.pg_map.specs.Kinds.{Kind}
 use Rattle.pg_heap.specs.Drafts.{Drafted}
@@ -27,6 +27,11 @@ pub record MayAdd (old new : Drafted) (at : ℕ) : Type 0 where
 abbrev pub TouchesEntry : Drafted → Drafted → List ℕ → Type 0
 TouchesEntry old new key = (m : Content) → IsDone old.now m → length new.touched ≤ length old.touched + entry_pages key (get m key)
 
+-- the places after a change: where an entry is put, its key has this one; where one is taken away, its key's place stays, and means nothing
+abbrev pub places_after : List ℕ → Option (List ℕ) → ℕ → PagePlaces → PagePlaces
+places_after key None at places = places
+places_after key (Some value) at places = insert places key at
+
 -- Each key that stands on a page stands where the places say.
 pub record IsIndexed (kinds : List Kind) (places : PagePlaces) : Type 0 where
   pub place : (at : ℕ) (key : List ℕ) → HasKeyAt kinds at key → get places key ≡ Some at
@@ -50,3 +55,10 @@ of_9000 = refl
 
 of_a_page : long_pages 4088 ≡ 1
 of_a_page = refl
+
+-- ---- computed examples: an entry that is put at place 3, and one that is taken away from there
+put_at_3 : (places : PagePlaces) → places_after (codes "k") (Some (codes "v")) 3 places ≡ insert places (codes "k") 3
+put_at_3 places = refl
+
+taken_from_3 : (places : PagePlaces) → places_after (codes "k") None 3 places ≡ places
+taken_from_3 places = refl

@@ -8,18 +8,21 @@ ghost use Rattle.pg_map.specs.Sheets.{sheet_kinds};
 ghost use Rattle.pg_map.specs.Done.{IsDone};
 ghost use Rattle.pg_heap.specs.PlanSteps.{IsIndexed};
 ghost use Rattle.pg_heap.specs.BatchPages.{put_pages};
+ghost use Rattle.pg_heap.specs.DraftPages.{pages_of};
 ghost use Rattle.pg_heap.specs.Removals.{removals_in};
+ghost use Rattle.pg_journal.specs.Pages.{AreBetween};
 ghost use Rattle.pg_heap.specs.FreePlaces.{ListsFree, used_pages};
 ghost use Rattle.pg_heap.specs.HeapPages.{IsSound, IsUndoable, IsFresh, GoesBackAs, IsPlanMade};
 
 use crate::changes::do_changes;
 use crate::drafts::Draft;
+use crate::entering::enter;
+use crate::forgetting::forget_changed;
 use crate::hints::Hints;
 use crate::pages::Pages;
 use crate::plans::PlanFault;
 use ct_base::Memory;
 use ct_keep::{Batch, Change, EntryMap, Transaction};
-use pg_journal::PageBatch;
 use pg_map::PlaceChanges;
 use std::alloc::Global;
 use std::mem::replace;
@@ -81,7 +84,7 @@ impl BatchPlan {
         }
     }
 
-    /// Makes the changes of a batch, and gives the pages that are to be committed. The keys and values of the changes become those of the
+    /// Makes the changes of a batch, and gives the numbers of the pages that are to be committed. The keys and values of the changes become those of the
     /// map, without a copy.
     #[tactic(auto, using(crate::proofs::Stepping::needs_from, crate::proofs::Stepping::too_many))]
     pub(crate) fn make(
@@ -89,7 +92,7 @@ impl BatchPlan {
         alloc: Global,
         hints: &mut Hints,
         batch: Batch,
-    ) -> Result<PageBatch, PlanFault>
+    ) -> Result<Vec<u32>, PlanFault>
         requires well { AreWell AnyEntry batch }
         requires undoable { IsUndoable self.old }
         requires fresh { IsFresh self.old }
@@ -97,7 +100,8 @@ impl BatchPlan {
         ensures same { GoesBackAs self.old self.new }
         ensures kept { hints.new.free.before ≡ hints.old.free.before }
         ensures listed { OnOk result (ListsFree self.new.draft.now hints.new.free.now) }
-        ensures made { IfOk result (λ pages. IsPlanMade self.new batch pages.pages) }
+        ensures made { IfOk result (λ numbers. IsPlanMade self.new batch (pages_of self.new.draft.now numbers.items)) }
+        ensures between { IfOk result (λ numbers. AreBetween 2 (2 ^ 32) (pages_of self.new.draft.now numbers.items)) }
         ensures too_many { result ≡ Err PlanFault.TooMany → 2 ^ 31 ≤ 3 + max (length self.old.draft.before) (used_pages self.old.draft.before + put_pages batch) }
     {
         self.changes = batch.into_changes();
@@ -112,16 +116,13 @@ impl BatchPlan {
             return Err(PlanFault::Memory);
         };
         let changes = replace(&mut self.changes, rest);
-        let Ok(()) = self.entries.do_changes(alloc, changes) else {
+        let Ok(()) = enter(alloc, &mut self.entries, changes) else {
             return Err(PlanFault::Memory);
         };
-        if self.entries.weight() > u64::MAX as u128 {
-            return Err(PlanFault::Memory);
-        }
-        let Ok(pages) = self.draft.batch(alloc) else {
+        let Ok(numbers) = self.draft.numbers(alloc) else {
             return Err(PlanFault::Memory);
         };
-        Ok(pages)
+        Ok(numbers)
     }
 
     /// Whether the map would weigh more than the limit, and more than it did.
@@ -133,7 +134,9 @@ impl BatchPlan {
         total > limit as u128 && total > self.total as u128
     }
 
-    /// The pages as they were, and the list of free ones goes back to what it was. It takes no memory.
+    /// The pages as they were, and the list of free ones goes back to what it was. Keys that are new in the batch lose their places: each
+    /// of them is on a page that the batch changed, or in a change that the map didn't get, or in one that takes an entry away. It takes
+    /// no memory, and looks at each key of a changed page once for each time that the page was noted. That they lose them is no clause.
     pub(crate) fn roll_back(self, hints: &mut Hints) -> Pages
         requires { IsUndoable self }
         ensures sound { IsSound result }
@@ -147,12 +150,16 @@ impl BatchPlan {
             entries,
             places,
             total,
-            ..
+            changes,
         } = self;
+        let held = EntryMap::of(entries.roll_back(), total);
+        let mut places = places.roll_back();
+        draft.forget_places(&held, &mut places);
+        forget_changed(&held, &mut places, &changes);
         Pages {
             sheets: draft.roll_back(),
-            held: EntryMap::of(entries.roll_back(), total),
-            places: places.roll_back(),
+            held,
+            places,
         }
     }
 
@@ -173,12 +180,13 @@ impl BatchPlan {
             ..
         } = self;
         let total = entries.weight() as u64;
-        let mut pages = Pages {
+        let held = EntryMap::of(entries.finish(), total);
+        let mut places = places.finish();
+        forget_changed(&held, &mut places, &changes);
+        Pages {
             sheets: draft.finish(),
-            held: EntryMap::of(entries.finish(), total),
-            places: places.finish(),
-        };
-        pages.forget(&changes);
-        pages
+            held,
+            places,
+        }
     }
 }

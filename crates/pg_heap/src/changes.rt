@@ -7,7 +7,8 @@ ghost use Rattle.ct_keep.specs.SeenChanges.{change_of};
 ghost use Rattle.ct_keep.specs.Changes.{AnyEntry, AreWell};
 ghost use Rattle.pg_heap.specs.Planned.{HasNone};
 ghost use Rattle.pg_map.specs.Done.{IsDone};
-ghost use Rattle.pg_heap.specs.PlanSteps.{IsIndexed, MakesChanges};
+ghost use Rattle.pg_map.specs.Places.{OnlyAddsPlaces};
+ghost use Rattle.pg_heap.specs.PlanSteps.{IsIndexed, MakesChanges, places_after};
 ghost use Rattle.pg_heap.specs.BatchPages.{put_pages};
 ghost use Rattle.pg_heap.specs.FreePlaces.{ListsFree, NeedsPages};
 
@@ -15,6 +16,7 @@ use crate::drafts::Draft;
 use crate::hints::Hints;
 use crate::plans::PlanFault;
 use crate::puts::do_change;
+use ct_base::Memory;
 use ct_keep::Change;
 use pg_map::PlaceChanges;
 use std::alloc::Global;
@@ -26,6 +28,22 @@ fn place_of(draft: &Draft, places: &PlaceChanges, key: &[u8]) -> usize
     match places.place(key) {
         Some(at) => at,
         None => draft.count(),
+    }
+}
+
+/// Gives the key of a change the place of its entry. A change that takes an entry away changes no place, and takes no memory.
+fn put_place(
+    alloc: Global,
+    places: &mut PlaceChanges,
+    change: &Change,
+    place: usize,
+) -> Result<(), Memory>
+    ensures before { OnlyAddsPlaces places.old.before places.new.before }
+    ensures now { OnOk result (places.new.now ≡ places_after (change_of change.now).0 (change_of change.now).1 place places.old.now) }
+{
+    match &change.value {
+        Some(_) => places.put(alloc, &change.key, place),
+        None => Ok(()),
     }
 }
 
@@ -42,7 +60,7 @@ pub(crate) fn do_changes(
     ensures before { draft.new.before ≡ draft.old.before }
     ensures kept { hints.new.free.before ≡ hints.old.free.before }
     ensures listed { OnOk result (ListsFree draft.new.now hints.new.free.now) }
-    ensures places { places.new.before ≡ places.old.before }
+    ensures places { OnlyAddsPlaces places.old.before places.new.before }
     ensures done { (m : Content) → IsDone draft.old.now m → IsIndexed draft.old.now places.old.now
         → OnOk result (MakesChanges draft.old draft.new places.new.now (map change_of changes.now) m) }
     ensures needs { NeedsPages draft.old.now draft.new.now (put_pages (map change_of changes.now)) }
@@ -52,7 +70,7 @@ pub(crate) fn do_changes(
         let change = &changes[i];
         let at = place_of(draft, places, &change.key);
         let place = do_change(alloc, draft, hints, at, change)?;
-        let Ok(()) = places.put(alloc, &change.key, place) else {
+        let Ok(()) = put_place(alloc, places, change, place) else {
             return Err(PlanFault::Memory);
         };
     }

@@ -1,16 +1,19 @@
 //! Pages that are changed in memory.
 
-ghost use Rattle.std.specs.Prelude.{true, false, ◌≡◌, ◌≢◌, ◌<◌, ◌≤◌, ◌+◌, ◌^◌, IsTrue, IsFalse, IfOk, ◌++◌, ◌∷◌, [], OnOk, OnErr, length, get_or, set};
-ghost use Rattle.pg_map.specs.Kinds.{Each, Free, IsKind, bytes_of_kind};
-ghost use Rattle.pg_heap.specs.Committing.{IsBatchOf, IsOneMore};
+ghost use Rattle.std.specs.Prelude.{All, true, false, ◌≡◌, ◌≢◌, ◌<◌, ◌≤◌, ◌+◌, ◌^◌, IsTrue, IsFalse, IfOk, ◌++◌, ◌∷◌, [], OnOk, OnErr, length, get_or, set};
+ghost use Rattle.pg_map.specs.Kinds.{Each, Free, IsKind};
+ghost use Rattle.pg_heap.specs.Committing.{IsBatchOf};
 ghost use Rattle.pg_map.specs.Sheets.{sheet_kind, sheet_kinds};
-ghost use Rattle.std.specs.List.Sorted.{IsPermutation};
+ghost use Rattle.pg_journal.specs.Pages.{AreBetween};
 ghost use Rattle.pg_heap.specs.Drafts.{kind_kept, undone, touched_by, with_free_page, EndsWith};
 ghost use Rattle.pg_heap.specs.DraftFields.{AreOnSheets};
+ghost use Rattle.pg_heap.specs.DraftPages.{AreSortedOnce, numbers_at, pages_of, root_number};
+ghost use Rattle.pg_heap.specs.Forgetting.{OnlyForgets};
 
+use crate::forgetting::forget_places_on;
 use ct_base::Memory;
-use pg_journal::PageBatch;
-use pg_map::{Sheet, root_bytes};
+use ct_keep::EntryMap;
+use pg_map::{Places, Sheet};
 use std::alloc::Global;
 use std::marker::Model;
 use std::mem::swap;
@@ -136,27 +139,20 @@ impl Draft {
         self.sheets.len()
     }
 
-    /// The pages that were changed, as they are now, and the root where there are more of them than before.
-    pub(crate) fn batch(&self, alloc: Global) -> Result<PageBatch, Memory>
+    /// The numbers of the pages that were changed, in order, and that of the root where there are more pages than before. It takes four
+    /// bytes a change.
+    pub(crate) fn numbers(&self, alloc: Global) -> Result<Vec<u32>, Memory>
         requires count { 3 + length self.now.now ≤ 2 ^ 31 }
         requires are { Each IsKind self.now.now }
-        ensures batch { IfOk result (λ batch. IsBatchOf self.now.before self.now.now batch.pages) }
+        ensures batch { IfOk result (λ numbers. IsBatchOf self.now.before self.now.now (pages_of self.now.now numbers.items)) }
+        ensures between { IfOk result (λ numbers. AreBetween 2 (2 ^ 32) (pages_of self.now.now numbers.items)) }
         ensures grown { length self.now.before ≤ length self.now.now }
-        ensures limit { IfOk result (λ batch. length batch.pages ≤ 1 + length self.now.touched) }
+        ensures limit { IfOk result (λ numbers. length (pages_of self.now.now numbers.items) ≤ 1 + length self.now.touched) }
     {
-        let places = places_of(alloc, &self.notes)?;
-        if places.len() > 2147483647 {
-            return Err(Memory);
-        }
-        let mut batch = PageBatch::new(alloc, places.len() as u32 + 1)?;
-        if self.sheets.len() > self.before {
-            batch.put(2, &root_bytes(self.sheets.len() as u32 + 3));
-        }
-        for i in 0..places.len() {
-            let at = places[i];
-            put_page(&mut batch, at as u32 + 3, &self.sheets[at]);
-        }
-        Ok(batch)
+        let mut numbers = numbers_of(alloc, &self.notes)?;
+        put_root(&mut numbers, self.sheets.len() > self.before)?;
+        sort_once(&mut numbers);
+        Ok(numbers)
     }
 
     /// The pages as they are now.
@@ -164,6 +160,19 @@ impl Draft {
         ensures { sheet_kinds result.items ≡ self.now }
     {
         self.sheets
+    }
+
+    /// Forgets the places of those keys on changed pages that have no entry in this map. It takes no memory.
+    #[tactic(auto, using(crate::proofs::Forgotten::forgets_none, crate::proofs::Forgotten::forgets_then))]
+    pub(crate) fn forget_places(&self, held: &EntryMap, places: &mut Places)
+        ensures { OnlyForgets held.now places.old places.new }
+    {
+        for note in &self.notes {
+            let Some(sheet) = self.sheets.get(note.at) else {
+                continue;
+            };
+            forget_places_on(held, places, sheet);
+        }
     }
 
     /// The pages as they were. It takes no memory.
@@ -178,16 +187,34 @@ impl Draft {
     }
 }
 
-/// The places of pages that were changed, in order; one that was changed twice comes twice.
-fn places_of(alloc: Global, notes: &[Note]) -> Result<Vec<usize>, Memory>
-    ensures { IfOk result (λ places. IsPermutation (touched_by notes.now) places.items) }
+/// The numbers of the pages of these notes; one that was changed twice comes twice.
+fn numbers_of(alloc: Global, notes: &[Note]) -> Result<Vec<u32>, Memory>
+    requires { All (λ note. note.at + 3 < 2 ^ 31) notes.now }
+    ensures { IfOk result (λ numbers. numbers.items ≡ numbers_at (touched_by notes.now)) }
 {
-    let mut places = Vec::new(alloc);
+    let mut numbers = Vec::new(alloc);
     for note in notes {
-        places.push(note.at)?;
+        numbers.push(note.at as u32 + 3)?;
     }
-    places.sort()?;
-    Ok(places)
+    Ok(numbers)
+}
+
+/// Puts the number of the root behind others, where it is asked for.
+fn put_root(numbers: &mut Vec<u32>, asked: bool) -> Result<(), Memory>
+    ensures { OnOk result (numbers.new.items ≡ numbers.old.items ++ root_number asked) }
+{
+    if asked {
+        numbers.push(2)?;
+    }
+    Ok(())
+}
+
+/// Puts numbers in order, each once. It takes no memory.
+fn sort_once(numbers: &mut Vec<u32>)
+    ensures { AreSortedOnce numbers.old.items numbers.new.items }
+{
+    numbers.sort_unstable();
+    numbers.dedup();
 }
 
 /// Whether a page is free.
@@ -241,19 +268,4 @@ fn undo(sheets: &mut Vec<Sheet>, notes: &mut Vec<Note>)
     while let Some(note) = notes.pop() {
         sheets[note.at] = kept_sheet(note.old);
     }
-}
-
-/// Puts a page into a batch that may have it already.
-fn put_page(batch: &mut PageBatch, page: u32, sheet: &Sheet)
-    requires room { length batch.old.pages < batch.old.room }
-    requires low { 3 ≤ page }
-    requires high { page < 2 ^ 31 }
-    requires kind { IsKind (sheet_kind sheet.now) }
-    ensures room { batch.new.room ≡ batch.old.room }
-    ensures pages { IsOneMore batch.old.pages batch.new.pages page (bytes_of_kind (sheet_kind sheet.now)) }
-{
-    if batch.has(page) {
-        return;
-    }
-    batch.put(page, &sheet.bytes());
 }

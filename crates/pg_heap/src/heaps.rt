@@ -122,6 +122,7 @@ impl Heap {
 
     /// The same, where the map may weigh so much: Full exactly where it would weigh more than that, and more than before. Nothing is
     /// written then.
+    #[tactic(auto, using(crate::proofs::Forgotten::undoable_still))]
     pub fn apply_within<D: Disk>(
         &mut self,
         alloc: Global,
@@ -137,12 +138,12 @@ impl Heap {
         let pages = replace(&mut self.pages, Pages::none(alloc));
         let mut plan = BatchPlan::begin(alloc, pages);
         match plan.make(alloc, &mut self.hints, batch) {
-            Ok(pages) => {
+            Ok(numbers) => {
                 if plan.passes(limit) {
                     self.pages = plan.roll_back(&mut self.hints);
                     return Err(KeepFault::Full);
                 }
-                if let Err(fault) = commit_draft(disk, &mut self.journal, &plan.draft, &pages) {
+                if let Err(fault) = commit_draft(disk, &mut self.journal, &plan.draft, &numbers) {
                     self.pages = plan.roll_back(&mut self.hints);
                     return Err(fault);
                 }

@@ -5,6 +5,8 @@ mod batch_plans;
 mod changes;
 mod commits;
 mod drafts;
+mod entering;
+mod forgetting;
 mod free_lists;
 mod heaps;
 mod hints;

@@ -2,10 +2,10 @@
 
 ghost use Rattle.std.specs.Prelude.{◌≡◌, []};
 ghost use Rattle.std.specs.FinMap.{empty};
-ghost use Rattle.pg_heap.specs.HeapPages.{IsSound, SameButPlaces};
+ghost use Rattle.pg_heap.specs.HeapPages.{IsSound};
 ghost use Rattle.pg_map.specs.Sheets.{sheet_kinds};
 
-use ct_keep::{Change, EntryMap};
+use ct_keep::EntryMap;
 use pg_map::{Places, Sheet};
 use std::alloc::Global;
 
@@ -28,20 +28,6 @@ impl Pages {
             sheets: Vec::new(alloc),
             held: EntryMap::new(alloc),
             places: Places::new(alloc),
-        }
-    }
-
-    /// Forgets the places of those keys of changes that have no entry. It takes no memory.
-    pub(crate) fn forget(&mut self, changes: &[Change])
-        requires { IsSound self.old }
-        ensures sound { IsSound self.new }
-        ensures same { SameButPlaces self.old self.new }
-    {
-        for i in 0..changes.len() {
-            let key = &changes[i].key;
-            if !self.held.has(key) {
-                self.places.remove(key);
-            }
         }
     }
 }

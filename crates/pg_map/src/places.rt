@@ -2,7 +2,7 @@
 
 ghost use Rattle.std.specs.Prelude.{◌≡◌, IfOk, IsSome, OnOk, OnErr, None};
 ghost use Rattle.std.specs.FinMap.{get, insert, remove, empty};
-ghost use Rattle.pg_map.specs.Places.{place_to, undone_places, ArePlaced};
+ghost use Rattle.pg_map.specs.Places.{undone_places, after_put, ArePlaced, OnlyAddsPlaces};
 
 use ct_base::Memory;
 use std::alloc::Global;
@@ -63,20 +63,15 @@ impl Places {
         let _ = self.places.remove(key);
     }
 
-    /// Undoes a change, which takes no memory.
+    /// Gives a key the place back that it had. It takes no memory.
     fn restore(&mut self, old: OldPlace)
-        requires { IsSome old.place → IsSome (get self.old old.key.items) }
-        ensures { self.new ≡ place_to old.key.items old.place self.old }
+        requires { IsSome (get self.old old.key.items) }
+        ensures { self.new ≡ insert self.old old.key.items old.place }
     {
         let OldPlace { key, place } = old;
-        match place {
-            Some(at) => {
-                let Ok(_) = self.put(key, at) else {
-                    unreachable!()
-                };
-            }
-            None => self.remove(&key),
-        }
+        let Ok(_) = self.put(key, place) else {
+            unreachable!()
+        };
     }
 
     /// Undoes changes, the last of them first. It takes no memory.
@@ -90,14 +85,15 @@ impl Places {
     }
 }
 
-/// The place that a key had before it was changed.
+/// The place that a key had before it got another one.
 #[derive(Debug, Drop)]
 pub(crate) struct OldPlace {
     key: Vec<u8>,
-    place: Option<usize>,
+    place: usize,
 }
 
-/// Places that are changed one by one, and can go back to what they were without taking memory.
+/// Places that are changed one by one, and can go back without taking memory: each key that had a place gets it back. A key that had none
+/// keeps the first one that it got, so that nothing is kept of a new key but its place.
 #[derive(Debug, Drop)]
 pub struct PlaceChanges {
     places: Places,
@@ -135,17 +131,23 @@ impl PlaceChanges {
         self.places.place(key)
     }
 
-    /// Gives a key a place.
+    /// Gives a key a place. The one that it had is noted.
+    #[tactic(auto, using(crate::proofs::Placing::adds_none))]
     pub fn put(&mut self, alloc: Global, key: &[u8], at: usize) -> Result<(), Memory>
-        ensures before { self.new.before ≡ self.old.before }
-        ensures now { OnOk result (self.new.now ≡ insert self.old.now key.now at) }
+        ensures ok { OnOk result (self.new ≡ after_put key.now at self.old) }
+        ensures before { OnlyAddsPlaces self.old.before self.new.before }
+        ensures err { OnErr result (self.new ≡ self.old) }
     {
         let copy = Vec::from_slice(alloc, key)?;
         let key = Vec::from_slice(alloc, key)?;
         self.undo_log.reserve(1)?;
-        let place = self.places.put(key, at)?;
-        self.undo_log.push_reserved(OldPlace { key: copy, place });
-        Ok(())
+        match self.places.put(key, at)? {
+            Some(place) => {
+                self.undo_log.push_reserved(OldPlace { key: copy, place });
+                Ok(())
+            }
+            None => Ok(()),
+        }
     }
 
     /// The places as they are now.
@@ -155,7 +157,7 @@ impl PlaceChanges {
         self.places
     }
 
-    /// The places as they were. It takes no memory.
+    /// The places as they were, but for keys that had none. It takes no memory.
     pub fn roll_back(self) -> Places
         ensures { result ≡ self.before }
     {

@@ -47,7 +47,7 @@ some_home ks i low high is = let e : i - 2 ≡ suc (i - 3) = omega (arith, low) 
 pub either_below : (a b : ℕ) → (a < b) ⊎ (b ≤ a)
 either_below a b = cases_lt a b
 
-narrowed : (now : List Kind) (low end : ℕ) (ws : List Numbered) → AreBetween low end ws → Each (λ (w : Numbered). w.1 ≡ home (behind_root now) w.0) ws → AreBetween low (3 + length now) ws
+pub narrowed : (now : List Kind) (low end : ℕ) (ws : List Numbered) → AreBetween low end ws → Each (λ (w : Numbered). w.1 ≡ home (behind_root now) w.0) ws → AreBetween low (3 + length now) ws
 narrowed now low end [] between are = tt
 narrowed now low end (w ∷ ws) between are = (
   between.0,

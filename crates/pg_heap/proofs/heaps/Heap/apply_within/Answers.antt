@@ -1,8 +1,11 @@
-use Rattle.std.proofs.Common.{rules, arith, ap, subst, ◌∙◌, ◌≡◌, ◌+◌, length}
+use Rattle.std.proofs.Common.{rules, arith, sym, ap, subst, ◌∙◌, ◌≡◌, ◌≤◌, ◌+◌, ◌^◌, ℕ, List, length}
 use Rattle.std.proofs.lemmas.Grind.{common_steps}
 use Rattle.pg_map.specs.Sheets.{sheet_kinds}
 use Rattle.pg_map.specs.Done.{IsDone}
-use Rattle.pg_heap.specs.BatchPages.{put_pages}
+use Rattle.pg_journal.specs.Pages.{AreBetween}
+use Rattle.pg_heap.specs.BatchPages.{changed_pages, put_pages}
+use Rattle.pg_heap.specs.Committing.{IsBatchOf}
+use Rattle.pg_heap.specs.DraftPages.{pages_of}
 use Rattle.pg_heap.specs.FreePlaces.{used_pages}
 use Rattle.pg_heap.specs.Heaps.{HeapState}
 use Rattle.pg_heap.specs.declared.pages.Pages.{Pages}
@@ -66,8 +69,8 @@ returns-in-Err-clause-applies g c =
       grows = tt;
       ends = tt;
       ends_anyhow = λ _.
-          commit_length (g.D.Disk.disk c.args.disk.now) (g.D.Disk.disk c.commit_draft.new.disk) (homes_enough heap c.args.batch) c.make.new.self.draft.now (length c.in-Ok.pages.pages) c.make.new.self.entries.before c.args.batch heap
-          m_is (homes_within c.make.new.self.draft.before c.make.new.self.draft.now (put_pages c.args.batch) heap (subst (λ (h : HeapState). h.homes ≡ 3 + length h.kinds) view c.self.invariant.homes) before_is made.needs) made.limit c.commit_draft.ensures.length;
+          commit_length (g.D.Disk.disk c.args.disk.now) (g.D.Disk.disk c.commit_draft.new.disk) (homes_enough heap c.args.batch) c.make.new.self.draft.now (length (pages_of c.make.new.self.draft.now c.deref.result.now)) c.make.new.self.entries.before c.args.batch heap
+          m_is (homes_within c.make.new.self.draft.before c.make.new.self.draft.now (put_pages c.args.batch) heap (subst (λ (h : HeapState). h.homes ≡ 3 + length h.kinds) view c.self.invariant.homes) before_is made.needs) (subst (λ (l : List ℕ). length (pages_of c.make.new.self.draft.now l) ≤ 1 + changed_pages c.args.batch c.make.new.self.entries.before) (sym c.deref.ensures.value) made.limit) c.commit_draft.ensures.length;
     }
 
 pub returns-in_default-clause-applies : goal.returns-in_default-clause-applies
@@ -91,11 +94,11 @@ returns-in_default-clause-applies g c =
       unwritten = tt;
       commits = first_of (search rules, grind (arith, common_steps));
       grows = omega (arith, homes, now);
-      ends = commit_length (g.D.Disk.disk c.args.disk.now) (g.D.Disk.disk c.commit_draft.new.disk) c.commit_draft.new.journal c.make.new.self.draft.now (length c.in-Ok.pages.pages) c.make.new.self.entries.before c.args.batch heap
-          m_is (omega (arith, now)) made.limit c.commit_draft.ensures.length;
+      ends = commit_length (g.D.Disk.disk c.args.disk.now) (g.D.Disk.disk c.commit_draft.new.disk) c.commit_draft.new.journal c.make.new.self.draft.now (length (pages_of c.make.new.self.draft.now c.deref.result.now)) c.make.new.self.entries.before c.args.batch heap
+          m_is (omega (arith, now)) (subst (λ (l : List ℕ). length (pages_of c.make.new.self.draft.now l) ≤ 1 + changed_pages c.args.batch c.make.new.self.entries.before) (sym c.deref.ensures.value) made.limit) c.commit_draft.ensures.length;
       ends_anyhow = λ _.
-          commit_length (g.D.Disk.disk c.args.disk.now) (g.D.Disk.disk c.commit_draft.new.disk) (homes_enough heap c.args.batch) c.make.new.self.draft.now (length c.in-Ok.pages.pages) c.make.new.self.entries.before c.args.batch heap
-          m_is homes made.limit c.commit_draft.ensures.length;
+          commit_length (g.D.Disk.disk c.args.disk.now) (g.D.Disk.disk c.commit_draft.new.disk) (homes_enough heap c.args.batch) c.make.new.self.draft.now (length (pages_of c.make.new.self.draft.now c.deref.result.now)) c.make.new.self.entries.before c.args.batch heap
+          m_is homes (subst (λ (l : List ℕ). length (pages_of c.make.new.self.draft.now l) ≤ 1 + changed_pages c.args.batch c.make.new.self.entries.before) (sym c.deref.ensures.value) made.limit) c.commit_draft.ensures.length;
     }
 
 pub returns-in_default-clause-answers : goal.returns-in_default-clause-answers
@@ -103,3 +106,13 @@ returns-in_default-clause-answers g c =
     let old_pages = c.replace-pages.ensures.value in
     let m_is = c.make.ensures.same.entries ∙ c.begin-plan.ensures.entries ∙ ap (λ (p : Pages). p.held) old_pages ∙ ap (λ (h : HeapState). h.held) c.self.view_is in
     keeps_limit c.args.limit c.make.new.self.entries.before c.make.new.self.entries.seen c.args.self.now.held c.args.batch c.passes.result c.passes.ensures c.if-passes.false m_is c.in-Ok.ensures.made.seen
+
+-- ---- what the commit asks for
+
+pub commit_draft-requires-clause-batch : goal.commit_draft-requires-clause-batch
+commit_draft-requires-clause-batch g c =
+    subst (λ (l : List ℕ). IsBatchOf c.make.new.self.draft.before c.make.new.self.draft.now (pages_of c.make.new.self.draft.now l)) (sym c.deref.ensures.value) c.in-Ok.ensures.made.batch
+
+pub commit_draft-requires-clause-between : goal.commit_draft-requires-clause-between
+commit_draft-requires-clause-between g c =
+    subst (λ (l : List ℕ). AreBetween 2 (2 ^ 32) (pages_of c.make.new.self.draft.now l)) (sym c.deref.ensures.value) c.in-Ok.ensures.between
