@@ -1,6 +1,6 @@
 -- The store that docs/STORE.md shows stands for its state, by the laws of the five statements that lead there.
 use Rattle.std.proofs.Common.{◌≡◌, ℕ, ℤ, pos, negsuc, ◌<◌, ◌+◌, Bool, true, false, List, [], ◌∷◌, ◌++◌, length, map, Option, Some, None, refl, sym, ap, subst, ◌∙◌, arith}
-use Rattle.std.specs.Prelude.{◌||◌, ◌==◌, ◌&&◌, not, nat_le, nat_lt, is_some, filter, codes, sum_by, T}
+use Rattle.std.specs.Prelude.{◌||◌, not, nat_le, nat_lt, is_some, filter, codes, sum_by, T}
 use Rattle.std.specs.List.{list_any}
 use Rattle.std.specs.Int.{to_be_bytes, w32}
 use Rattle.std.specs.Option.{option_and_then}

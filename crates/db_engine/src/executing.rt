@@ -12,7 +12,7 @@ ghost use Rattle.db_engine.specs.Executing.{ExecutesStatement, FullByCount, IfTe
 ghost use Rattle.db_state.specs.Plans.{DoneLines, GivesReply, Replies};
 
 use crate::replies::{Reply, Stop};
-use ct_base::{Bytes, Memory, Name, Text};
+use ct_base::{Bytes, Listed, Memory, Name, Text};
 use ct_keep::{KeepFault, Keeper};
 use db_change::{create_table, delete_from, drop_table, insert_into, update};
 use db_cond::not_understood;
@@ -38,7 +38,7 @@ fn call<R: Threads + Sync, K: Keeper>(
     degree: u32,
     keeper: &mut K,
     procedure: Procedure,
-    args: &[Arg],
+    args: &Listed<Arg>,
 ) -> Result<Vec<u8>, KeepFault>
     requires { AcceptsStatements (K.view keeper.old) }
     ensures serves { Replies K.view keeper.old keeper.new result (λ m. call_effect m procedure args.now) (call_line procedure) }
@@ -46,9 +46,9 @@ fn call<R: Threads + Sync, K: Keeper>(
     ensures may { result ≡ Err KeepFault.Full → may_fill_by procedure ≡ true }
 {
     match procedure {
-        Procedure::PolicyTokens => policy_tokens(alloc, keeper, args),
-        Procedure::SyncIndex => sync_index(rt, alloc, degree, keeper, args),
-        Procedure::Define(definition) => define(alloc, keeper, definition, args),
+        Procedure::PolicyTokens => policy_tokens(alloc, keeper, args.as_slice()),
+        Procedure::SyncIndex => sync_index(rt, alloc, degree, keeper, args.as_slice()),
+        Procedure::Define(definition) => define(alloc, keeper, definition, args.as_slice()),
     }
 }
 
@@ -122,9 +122,7 @@ fn reply_to<R: Threads + Sync, K: Keeper>(
             preds,
             ..
         } => select(alloc, keeper, list, table, preds.as_slice()),
-        Statement::Exec { procedure, args } => {
-            call(rt, alloc, degree, keeper, *procedure, args.as_slice())
-        }
+        Statement::Exec { procedure, args } => call(rt, alloc, degree, keeper, *procedure, args),
         Statement::DropTable { name } => drop_table(alloc, keeper, name),
         Statement::DropIndex { name } => drop_index(alloc, keeper, name),
         Statement::Update {

@@ -1,7 +1,7 @@
 -- What text predicates ask, by their kinds.
 use Rattle.std.specs.Prelude.{ℕ, pos, negsuc, nat_le, Bool, true, false, ◌||◌, is_none, List, [], ◌∷◌, Option, Some, None, codes, ◌≡◌, refl}
 use Rattle.std.specs.Bool.{if◌then◌else◌}
-use Rattle.std.specs.Option.{option_or}
+use Rattle.std.specs.Option.{option_map, option_or}
 use Rattle.st_parse.specs.declared.statements.Operand.TheVariants.{Number}
 use Rattle.st_parse.specs.declared.statements.Compare.TheVariants.{Less}
 use Rattle.st_parse.specs.declared.statements.Cond.TheVariants.{Compare}
@@ -73,6 +73,10 @@ search_in (pred ∷ preds) = option_or (search_of pred) (search_in preds)
 
 abbrev pub held_search : Held → Search
 held_search (HeldContains column query label above) = Contains column.now query.now label above
+
+-- what a statement searches for, if it searches
+abbrev pub sought : Option Held → Option Search
+sought o = option_map held_search o
 
 -- computed examples
 a_threshold : threshold_of (Fits (pos 100)) ≡ Some 100

@@ -2,12 +2,11 @@
 #![tactic(auto, using(ct_keep::specs::laws::Composing::reads_on, ct_keep::specs::laws::Composing::reads_short))]
 
 ghost use Rattle.std.specs.Prelude.{◌≡◌, ◌||◌, Some, None};
-ghost use Rattle.std.specs.Option.{option_map};
 ghost use Rattle.ct_keep.specs.KeeperViews.{OnlyReads};
 ghost use Rattle.db_state.specs.States.{Sees};
 ghost use Rattle.db_state.specs.Effects.{reply_by};
 ghost use Rattle.db_rows.specs.Checking.{has_beyond as any_beyond};
-ghost use Rattle.db_find.specs.Searches.{held_search};
+ghost use Rattle.db_find.specs.Searches.{held_search, sought};
 ghost use Rattle.db_select.specs.Checking.{is_out_of_range as out_of_range};
 ghost use Rattle.db_select.specs.Giving.{GivesLines, GivesOver};
 ghost use Rattle.db_select.specs.Selecting.{Selects, rows_reply_by, select as select_effect};
@@ -98,7 +97,7 @@ fn selected_rows<K: Keeper>(
     conds: &[Cond],
 ) -> Result<Found, KeepFault>
     requires { (K.view keeper.old).ready }
-    ensures rows { GivesOver K.view keeper.old table.now columns.now result (λ m x. Selects m table.now x list.now (option_map held_search search.entry) conds.now) }
+    ensures rows { GivesOver K.view keeper.old table.now columns.now result (λ m x. Selects m table.now x list.now (sought search.entry) conds.now) }
     ensures reads { OnlyReads K.view keeper.old keeper.new result }
 {
     match search {
@@ -118,7 +117,7 @@ fn select_known<K: Keeper>(
     conds: &[Cond],
 ) -> Result<Vec<u8>, KeepFault>
     requires { (K.view keeper.old).ready }
-    ensures reply { GivesLines K.view keeper.old table.now columns.now result (λ m x. rows_reply_by m table.now x list.now (option_map held_search search.entry) conds.now) }
+    ensures reply { GivesLines K.view keeper.old table.now columns.now result (λ m x. rows_reply_by m table.now x list.now (sought search.entry) conds.now) }
     ensures reads { OnlyReads K.view keeper.old keeper.new result }
 {
     let found = selected_rows(alloc, keeper, list, table, columns, search, conds)?;

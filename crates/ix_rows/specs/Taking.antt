@@ -32,10 +32,14 @@ module _ {P : Type 0} (form : PlaceForm P) where
     pub spell : SpellRows es rows
     pub rise : DocumentsRise form 0 (posting_list rows)
 
+  -- where the entries hold rows, these are they
+  abbrev pub AreHeld : List (List ℕ × List ℕ) → List (List (RowDocument P)) → Type 0
+  AreHeld es rows = (held : List (List (RowDocument P))) → Hold es held → rows ≡ held
+
   -- What is taken of entries: rows whose documents rise; and where the entries hold rows, these.
   pub record AreTaken (es : List (List ℕ × List ℕ)) (rows : List (List (RowDocument P))) : Type 0 where
     pub rise : DocumentsRise form 0 (posting_list rows)
-    pub all : (held : List (List (RowDocument P))) → Hold es held → rows ≡ held
+    pub all : AreHeld es rows
 
   -- what bytes give behind a document: the row that they spell with its last number, where its documents rise from above that document; and else nothing
   abbrev pub IsTaken : ℕ → List ℕ → Option (List (RowDocument P) × ℕ) → Type 0

@@ -9,7 +9,7 @@ ghost use Rattle.ix_posting.specs.declared.rows.RowDocument.{RowDocument};
 ghost use Rattle.ix_posting.specs.Lists.{posting_list};
 ghost use Rattle.ix_posting.specs.Rows.{DocumentsRise};
 ghost use Rattle.ix_rows.specs.PlacedRows.{document_number};
-ghost use Rattle.ix_rows.specs.Taking.{Hold, IsTaken, AreTaken, last_number, begins_behind};
+ghost use Rattle.ix_rows.specs.Taking.{AreHeld, IsTaken, AreTaken, last_number, begins_behind};
 
 use ct_base::{Memory, Name};
 use ct_entry::{Kind, entries_of};
@@ -93,7 +93,7 @@ pub fn rows_of<P: Place, K: Keeper>(
 ) -> Result<EncodedRows<P>, KeepFault>
     requires { (K.view keeper.old).ready }
     ensures rise { IfOk result (λ rows. DocumentsRise P.form 0 (posting_list rows)) }
-    ensures rows { Finds K.view keeper.old result (λ m rows. (held : List (List (RowDocument P))) → Hold P.form (owner_entries kind index.now term.now m) held → rows ≡ held) }
+    ensures rows { Finds K.view keeper.old result (λ m rows. AreHeld P.form (owner_entries kind index.now term.now m) rows) }
     ensures reads { OnlyReads K.view keeper.old keeper.new result }
     ensures at_most { Told K.view keeper.old (λ m. LooksAtMost K.view keeper.old keeper.new (scan_looks (prefix_of kind index.now ++ term.now) m)) }
 {

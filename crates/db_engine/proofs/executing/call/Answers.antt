@@ -1,8 +1,10 @@
-use Rattle.std.proofs.Common.{sym, ap, ◌∙◌, None}
+use Rattle.std.proofs.Common.{sym, ap, ◌∙◌, List, None}
 use Rattle.std.proofs.lemmas.Bool.{false≢true}
 use Rattle.std.proofs.lemmas.Result.{IfOk-weaker}
 use Rattle.ct_keep.specs.KeeperViews.{fault_of}
 use Rattle.st_parse.specs.declared.procedures.Procedure.{Procedure}
+use Rattle.st_parse.specs.declared.procedures.Procedure.TheVariants.{PolicyTokens, SyncIndex, Define}
+use Rattle.st_parse.specs.declared.statements.Arg.{Arg}
 use Rattle.db_state.specs.Effects.{reply_by}
 use Rattle.db_state.specs.laws.Serving.{serves_as}
 use Rattle.db_engine.specs.Steps.{call}
@@ -13,12 +15,12 @@ use Rattle.db_engine.proofs.executing.call.Goals as goal
 
 pub returns-in-PolicyTokens-clause-serves : goal.returns-in-PolicyTokens-clause-serves
 returns-in-PolicyTokens-clause-serves g c =
-    serves_as _ _ None _ _ _ c.policy_tokens.result (λ m. ap (λ (p : Procedure). call m p c.args.args.now) c.in-PolicyTokens.is) (ap call_line c.in-PolicyTokens.is) c.policy_tokens.ensures.serves
+    serves_as _ _ None _ _ _ c.policy_tokens.result (λ m. ap (λ (p : Procedure). call m p c.args.args.now) c.in-PolicyTokens.is ∙ ap (call m PolicyTokens) (sym c.as_slice.ensures)) (ap call_line c.in-PolicyTokens.is) c.policy_tokens.ensures.serves
 
 pub returns-in-PolicyTokens-clause-fixed : goal.returns-in-PolicyTokens-clause-fixed
 returns-in-PolicyTokens-clause-fixed g c = λ m fixed.
-    IfOk-weaker c.policy_tokens.result _ _ (λ reply says. says ∙ sym (ap (λ (p : Procedure). reply_by (call m p c.args.args.now)) c.in-PolicyTokens.is))
-    (c.policy_tokens.ensures.fixed m (sym (ap (λ (p : Procedure). is_fixed_call p c.args.args.now) c.in-PolicyTokens.is) ∙ fixed))
+    IfOk-weaker c.policy_tokens.result _ _ (λ reply says. says ∙ ap (λ (args : List Arg). reply_by (call m PolicyTokens args)) c.as_slice.ensures ∙ sym (ap (λ (p : Procedure). reply_by (call m p c.args.args.now)) c.in-PolicyTokens.is))
+    (c.policy_tokens.ensures.fixed m (ap (is_fixed_call PolicyTokens) c.as_slice.ensures ∙ (sym (ap (λ (p : Procedure). is_fixed_call p c.args.args.now) c.in-PolicyTokens.is) ∙ fixed)))
 
 pub returns-in-PolicyTokens-clause-may : goal.returns-in-PolicyTokens-clause-may
 returns-in-PolicyTokens-clause-may g c = λ full. absurd (c.policy_tokens.ensures.reads.not_full (ap fault_of full))
@@ -27,7 +29,7 @@ returns-in-PolicyTokens-clause-may g c = λ full. absurd (c.policy_tokens.ensure
 
 pub returns-in-SyncIndex-clause-serves : goal.returns-in-SyncIndex-clause-serves
 returns-in-SyncIndex-clause-serves g c =
-    serves_as _ _ _ _ _ _ c.sync_index.result (λ m. ap (λ (p : Procedure). call m p c.args.args.now) c.in-SyncIndex.is) (ap call_line c.in-SyncIndex.is) c.sync_index.ensures
+    serves_as _ _ _ _ _ _ c.sync_index.result (λ m. ap (λ (p : Procedure). call m p c.args.args.now) c.in-SyncIndex.is ∙ ap (call m SyncIndex) (sym c.as_slice-in-SyncIndex.ensures)) (ap call_line c.in-SyncIndex.is) c.sync_index.ensures
 
 pub returns-in-SyncIndex-clause-fixed : goal.returns-in-SyncIndex-clause-fixed
 returns-in-SyncIndex-clause-fixed g c = λ m fixed. absurd (false≢true (sym (ap (λ (p : Procedure). is_fixed_call p c.args.args.now) c.in-SyncIndex.is) ∙ fixed))
@@ -36,7 +38,7 @@ returns-in-SyncIndex-clause-fixed g c = λ m fixed. absurd (false≢true (sym (a
 
 pub returns-in-Define-clause-serves : goal.returns-in-Define-clause-serves
 returns-in-Define-clause-serves g c =
-    serves_as _ _ _ _ _ _ c.define.result (λ m. ap (λ (p : Procedure). call m p c.args.args.now) c.in-Define.is) (ap call_line c.in-Define.is) c.define.ensures
+    serves_as _ _ _ _ _ _ c.define.result (λ m. ap (λ (p : Procedure). call m p c.args.args.now) c.in-Define.is ∙ ap (call m (Define c.in-Define.definition)) (sym c.as_slice-in-Define.ensures)) (ap call_line c.in-Define.is) c.define.ensures
 
 pub returns-in-Define-clause-fixed : goal.returns-in-Define-clause-fixed
 returns-in-Define-clause-fixed g c = λ m fixed. absurd (false≢true (sym (ap (λ (p : Procedure). is_fixed_call p c.args.args.now) c.in-Define.is) ∙ fixed))

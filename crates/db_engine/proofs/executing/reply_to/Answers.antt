@@ -4,7 +4,6 @@ use Rattle.std.specs.Prelude.{not}
 use Rattle.std.specs.Bool.{if◌then◌else◌}
 use Rattle.std.proofs.lemmas.Result.{err_from_is_err_and, IfOk-weaker}
 use Rattle.ct_keep.specs.laws.Composing.{reads_none}
-use Rattle.st_parse.specs.declared.statements.Arg.{Arg}
 use Rattle.st_parse.specs.declared.statements.ColumnText.{ColumnText}
 use Rattle.st_parse.specs.declared.statements.Statement.{Statement}
 use Rattle.st_parse.specs.declared.statements.Statement.TheVariants.{Commit}
@@ -20,8 +19,8 @@ use Rattle.db_index.specs.Dropping.{drop_index}
 use Rattle.st_parse.specs.declared.statements.Assign.{Assign}
 use Rattle.db_select.specs.Statements.{select_statement}
 use Rattle.db_select.specs.laws.Selects.{statement_keeps}
-use Rattle.db_engine.specs.Steps.{effect, call}
-use Rattle.db_engine.specs.Executing.{done_line, is_fixed, is_fixed_call}
+use Rattle.db_engine.specs.Steps.{effect}
+use Rattle.db_engine.specs.Executing.{done_line, is_fixed}
 use Rattle.db_state.specs.laws.Serving.{serves_short, serves_look, serves_as}
 use Rattle.db_engine.proofs.executing.reply_to.Goals as goal
 
@@ -50,8 +49,7 @@ returns-in-Select-clause-serves g c =
 
 pub returns-in-Exec-clause-serves : goal.returns-in-Exec-clause-serves
 returns-in-Exec-clause-serves g c =
-    serves_as _ _ _ _ _ _ c.call.result
-    (λ m. ap (effect m) c.in-Exec.is ∙ ap (λ (args : List Arg). call m c.in-Exec.procedure args) (sym c.as_slice-in-Exec.ensures)) (ap done_line c.in-Exec.is) c.call.ensures.serves
+    serves_as _ _ _ _ _ _ c.call.result (λ m. ap (effect m) c.in-Exec.is) (ap done_line c.in-Exec.is) c.call.ensures.serves
 
 -- ---- changes of rows, and what goes
 
@@ -100,6 +98,4 @@ returns-in_ok-fixed_reply-in-Commit-clause-fixed g c = λ m fixed. c.in_ok-fixed
 
 pub returns-in-Exec-clause-fixed : goal.returns-in-Exec-clause-fixed
 returns-in-Exec-clause-fixed g c = λ m fixed.
-    let procedure = c.in-Exec.procedure in
-    let still = ap (λ (args : List Arg). is_fixed_call procedure args) c.as_slice-in-Exec.ensures ∙ (sym (ap is_fixed c.in-Exec.is) ∙ fixed) in
-    IfOk-weaker c.call.result _ _ (λ reply says. says ∙ ap (λ (args : List Arg). reply_by (call m procedure args)) c.as_slice-in-Exec.ensures ∙ sym (ap (λ (s : Statement). reply_by (effect m s)) c.in-Exec.is)) (c.call.ensures.fixed m still)
+    IfOk-weaker c.call.result _ _ (λ reply says. says ∙ sym (ap (λ (s : Statement). reply_by (effect m s)) c.in-Exec.is)) (c.call.ensures.fixed m (sym (ap is_fixed c.in-Exec.is) ∙ fixed))
