@@ -3,4 +3,5 @@ pub mod Seeking
 pub mod Querying
 pub mod Meanings
 pub mod Finding
+pub mod Looking
 pub mod laws

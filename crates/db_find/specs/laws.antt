@@ -1,1 +1,3 @@
 pub mod Filtering
+pub mod Looking
+pub mod Seeking

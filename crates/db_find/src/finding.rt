@@ -8,6 +8,7 @@ ghost use Rattle.q_tree.specs.ReducedQueries.{reduced_of};
 ghost use Rattle.ix_search.specs.Looking.{query_looks};
 ghost use Rattle.db_state.specs.States.{OverIndex};
 ghost use Rattle.db_find.specs.Finding.{FindsAbove, FindsBy, FindsByMeaning, FindsBySearch};
+ghost use Rattle.db_find.specs.Looking.{LooksInIndex, flat_looks, search_looks, text_looks};
 ghost use Rattle.db_find.specs.Meanings.{CanSearch, CanSearchIt};
 ghost use Rattle.db_find.specs.Querying.{meaning_of};
 ghost use Rattle.db_find.specs.Searches.{held_search, threshold_of as threshold_in};
@@ -68,6 +69,7 @@ fn found_hits<K: Keeper>(
     requires searchable { CanSearchIt flat.now }
     ensures found { OverIndex K.view keeper.old index.now (λ m x. FindsBy m.tables x flat.now above result) }
     ensures reads { OnlyReads K.view keeper.old keeper.new result }
+    ensures at_most { Told K.view keeper.old (λ m. LooksAtMost K.view keeper.old keeper.new (flat_looks m index.now flat.now above)) }
 {
     let Some(flat) = flat else {
         return Ok(Vec::new(alloc));
@@ -89,6 +91,7 @@ fn contained<K: Keeper>(
     requires { (K.view keeper.old).ready }
     ensures found { OverIndex K.view keeper.old index.now (λ m x. FindsByMeaning m.tables x (meaning_of x.prefs query.now) (threshold_in above) result) }
     ensures reads { OnlyReads K.view keeper.old keeper.new result }
+    ensures at_most { LooksInIndex K.view keeper.old keeper.new index.now (λ m x. text_looks m index.now x query.now above) }
 {
     let meaning = meaning_in(alloc, keeper, index, query)?;
     match meaning {
@@ -114,6 +117,7 @@ pub fn find<K: Keeper>(
     requires { (K.view keeper.old).ready }
     ensures found { OverIndex K.view keeper.old index.now (λ m x. FindsBySearch m.tables x (held_search search.entry) result) }
     ensures reads { OnlyReads K.view keeper.old keeper.new result }
+    ensures at_most { LooksInIndex K.view keeper.old keeper.new index.now (λ m x. search_looks m index.now x (held_search search.entry)) }
 {
     match search {
         Search::Contains { .. } => contained(alloc, keeper, index, search.query(), search.above()),

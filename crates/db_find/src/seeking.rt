@@ -1,8 +1,11 @@
 //! The index that a search needs.
 #![tactic(auto, using(ct_keep::specs::laws::Composing::reads_on, ct_keep::specs::laws::Composing::reads_short))]
 
-ghost use Rattle.std.specs.Prelude.{◌≡◌, ◌≤◌, length, IfOk, Some};
-ghost use Rattle.ct_keep.specs.KeeperViews.{OnlyReads};
+ghost use Rattle.std.specs.Prelude.{◌≡◌, ◌≤◌, [], ◌∷◌, length, IfOk, Some};
+ghost use Rattle.ct_keep.specs.KeeperViews.{OnlyReads, Told};
+ghost use Rattle.ct_keep.specs.Looks.{LooksAtMost, scan_looks};
+ghost use Rattle.ct_entry.specs.declared.kinds.Kind.TheVariants as entry;
+ghost use Rattle.ct_entry.specs.Kinds.{code};
 ghost use Rattle.db_state.specs.States.{OverStates};
 ghost use Rattle.db_find.specs.Searches.{held_search};
 ghost use Rattle.db_find.specs.Seeking.{NeedsIndex};
@@ -25,6 +28,7 @@ pub fn needed_index<K: Keeper>(
     requires { (K.view keeper.old).ready }
     ensures index { OverStates K.view keeper.old (λ m c. length columns.now ≤ 256 → IfOk result (NeedsIndex m table.now columns.now (held_search search.entry))) }
     ensures reads { OnlyReads K.view keeper.old keeper.new result }
+    ensures at_most { Told K.view keeper.old (λ m. LooksAtMost K.view keeper.old keeper.new (scan_looks (code entry.Indexes ∷ []) m)) }
 {
     match column_place(search.column(), columns) {
         Some(place) => index_of_column(alloc, keeper, search.kind(), table, place),

@@ -1,6 +1,7 @@
 pub mod Values
 pub mod Sources
 pub mod Reading
+pub mod Texts
 pub mod Checking
 pub mod Meeting
 pub mod Bounds

@@ -2,12 +2,13 @@
 use Rattle.std.specs.Prelude.{ℕ, ℤ, ◌==◌, ◌+◌, List, [], ◌∷◌, Option, Some, None, IfSome, codes, ◌≡◌, refl}
 use Rattle.std.specs.Map.{lookup}
 use Rattle.ct_base.specs.declared.lists.Value.{Value}
+use Rattle.ct_base.specs.declared.numbers.RowKey.{RowKey}
 use Rattle.ct_base.specs.declared.lists.Value.TheVariants.{Text}
 use Rattle.ct_keep.specs.Content.{Content}
 use Rattle.ct_keep.specs.KeeperViews.{Counts, KeeperView}
 use Rattle.ct_keep.specs.Looks.{no_looks, one_if}
 use Rattle.tb_table.specs.declared.columns.Column.{Column}
-use Rattle.tb_table.specs.Tables.{Table, numbers_of, text_in_column}
+use Rattle.tb_table.specs.Tables.{Table, Tables, numbers_of, text_in_column}
 use Rattle.db_state.specs.States.{StoreState, StandsForState, OverNamedTable}
 use Rattle.st_parse.specs.declared.statements.Operand.TheVariants.{Text as TextOperand}
 use Rattle.st_parse.specs.declared.statements.Compare.TheVariants.{Equal}
@@ -29,6 +30,10 @@ pub record IsReadOf (vs : List Value) (read : RowRead) : Type 0 where
   pub numbers : IfSome read.numbers (λ numbers. numbers.items ≡ numbers_of vs)
   pub texts : KnowTexts vs read.texts.items
 
+-- What was read of the row with this key is its own.
+abbrev pub IsOwn : Tables → List ℕ → RowKey → RowRead → Type 0
+IsOwn ts t row read = IsReadOf (row_values ts t row.0) read
+
 -- This holds of the values of a row in each state that the content stands for, where what was read of it before is its own.
 abbrev pub OverRow : {K : Type 0} → (K → KeeperView) → K → List ℕ → ℤ → RowRead → (List Value → Type 0) → Type 0
 OverRow view old t r read holds = (m : StoreState) (c : Content) → (view old).content ≡ Some c → StandsForState c m → IsReadOf (row_values m.tables t r) read → holds (row_values m.tables t r)
@@ -36,6 +41,10 @@ OverRow view old t r read holds = (m : StoreState) (c : Content) → (view old).
 -- This holds of the table of this name, where there is one and these are its columns.
 abbrev pub OverColumns : {K : Type 0} → (K → KeeperView) → K → List ℕ → List Column → (Table → Type 0) → Type 0
 OverColumns view old t columns holds = OverNamedTable view old t (λ m c x. x.columns ≡ columns → holds x)
+
+-- the same where what was read before of its row with this key is that row's
+abbrev pub OverColumnsOf : {K : Type 0} → (K → KeeperView) → K → List ℕ → List Column → ℤ → RowRead → (Table → Type 0) → Type 0
+OverColumnsOf view old t columns r read holds = OverNamedTable view old t (λ m c x. x.columns ≡ columns → IsReadOf (row_values m.tables t r) read → holds x)
 
 -- ---- how many texts it costs
 

@@ -1,5 +1,5 @@
 -- The keys of a table, one after the other.
-use Rattle.std.specs.Prelude.{ℤ, pos, ◌≡◌, ◌≤ℤ◌, ℕ, Bool, true, false, not, List, [], ◌∷◌, ◌++◌, Option, Some, None, Result, IfOk, refl}
+use Rattle.std.specs.Prelude.{ℤ, pos, ◌≡◌, ◌≤ℤ◌, ℕ, Bool, true, false, not, List, [], ◌∷◌, ◌++◌, map, Option, Some, None, Result, IfOk, refl}
 use Rattle.std.specs.Bool.{if◌then◌else◌}
 use Rattle.std.specs.List.{list_all}
 use Rattle.std.specs.Ordering.{int_cmp, is_lt}
@@ -12,13 +12,16 @@ use Rattle.ct_keep.specs.KeeperViews.{Counts}
 use Rattle.ct_keep.specs.Looks.{next_looks}
 use Rattle.ct_entry.specs.declared.kinds.Kind.TheVariants.{RowNumbers}
 use Rattle.ct_entry.specs.Keys.{prefix_of}
+use Rattle.ct_entry.specs.Lists.{EachIs}
 use Rattle.ct_entry.specs.Listings.{first_of, number_of, rows_above, start_after}
 use Rattle.tb_table.specs.Tables.{Table, Tables, row_keys}
 use Rattle.ct_entry.specs.laws.Rows.{IsPlace}
 use Rattle.st_parse.specs.declared.statements.Cond.{Cond}
 use Rattle.db_rows.specs.Bounds.{IsWithinBounds}
 use Rattle.db_rows.specs.Meeting.{key_meets}
+use Rattle.db_rows.specs.Reading.{IsOwn}
 use Rattle.db_rows.specs.declared.bounds.KeyBounds.{KeyBounds}
+use Rattle.db_rows.specs.declared.walking.MetRow.{MetRow}
 
 -- above a key, or anywhere
 abbrev pub is_above : Option ℤ → ℤ → Bool
@@ -51,9 +54,21 @@ next_row_looks table after m = next_looks (prefix_of RowNumbers table ++ start_a
 abbrev pub with_met : {T : Type 0} → Bool → T → List T → List T
 with_met met row rows = rows ++ (if met then row ∷ [] else [])
 
+-- ---- the rows that meet conditions
+
+abbrev pub met_keys : List MetRow → List RowKey
+met_keys rows = map (λ row. row.key) rows
+
+abbrev pub met_numbers : List MetRow → List ℤ
+met_numbers rows = map (λ key. key.0) (met_keys rows)
+
+-- what was read of each of them is its own
+abbrev pub AreOwn : Tables → List ℕ → List MetRow → Type 0
+AreOwn ts t rows = EachIs (λ row. IsOwn ts t row.key row.read) rows
+
 -- The key of a row is added to those before, if the row of this table meets the conditions.
-abbrev pub AddsIfMet : Table → List Cond → RowKey → List RowKey → List RowKey → Type 0
-AddsIfMet x conds row old new = new ≡ with_met (key_meets x conds row.0) row old
+abbrev pub AddsIfMet : Table → List Cond → RowKey → List MetRow → List MetRow → Type 0
+AddsIfMet x conds key old new = met_keys new ≡ with_met (key_meets x conds key.0) key (met_keys old)
 
 -- computed examples: up to 7, and then of the keys 3, 5 and 9, after 3
 past_the_greatest : is_past_greatest (Some (pos 7)) (pos 7) ≡ true

@@ -9,7 +9,7 @@ mod sources;
 mod walking;
 
 pub use checking::{conds_fault, fit_columns, has_beyond, sort_of, unknown_column};
-pub use meeting::meets;
-pub use reading::{RowRead, column_value, row_numbers};
+pub use meeting::read_if_met;
+pub use reading::{RowRead, Shown, column_value, row_numbers};
 pub use sources::{Source, source_of};
-pub use walking::rows_meeting;
+pub use walking::{MetRow, reads_meeting, rows_meeting};

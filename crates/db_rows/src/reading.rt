@@ -2,7 +2,7 @@
 #![tactic(auto, using(ct_keep::specs::laws::Composing::reads_on, ct_keep::specs::laws::Composing::reads_short))]
 
 ghost use Rattle.std.specs.Prelude.{◌≡◌, ◌==◌, List, [], ◌∷◌, ◌++◌, IfOk, OnOk, Some, is_some, true};
-ghost use Rattle.std.specs.List.{slice_get};
+ghost use Rattle.std.specs.List.{list_any, slice_get};
 ghost use Rattle.std.specs.Map.{lookup};
 ghost use Rattle.std.specs.Option.{option_map};
 ghost use Rattle.ct_base.specs.declared.lists.Value.{Value as RowValue};
@@ -13,6 +13,8 @@ ghost use Rattle.db_state.specs.States.{Sees};
 ghost use Rattle.db_rows.specs.Values.{row_values};
 ghost use Rattle.db_rows.specs.Sources.{source_value};
 ghost use Rattle.db_rows.specs.Reading.{IsReadOf, OverRow, source_looks, text_looks};
+ghost use Rattle.db_rows.specs.Texts.{KeepsTexts, ReadsOnce, reads_among, shown_places, texts_among, texts_left};
+ghost use Rattle.db_rows.specs.Walking.{with_met};
 
 use crate::sources::Source;
 use ct_base::{Memory, Name, RowKey, Text, Value};
@@ -30,6 +32,15 @@ pub struct RowRead {
     texts: Vec<ReadText>,
 }
 
+/// What is to be shown of rows that are found.
+#[derive(Drop)]
+pub enum Shown {
+    /// Nothing but their keys, or how many they are.
+    Keys,
+    /// Their keys, their numbers, and the texts of these columns.
+    Texts(Vec<u8>),
+}
+
 impl RowRead {
     /// Nothing was read yet. It takes no memory.
     pub fn nothing(alloc: Global) -> RowRead
@@ -40,6 +51,62 @@ impl RowRead {
             texts: Vec::new(alloc),
         }
     }
+
+    /// Its numbers, and its texts of these columns.
+    fn with_texts_of(self, alloc: Global, columns: &[u8]) -> Result<RowRead, Memory>
+        ensures { IfOk result (λ kept. KeepsTexts columns.now self kept) }
+    {
+        let RowRead { numbers, texts } = self;
+        let texts = texts_of_columns(alloc, texts, columns)?;
+        Ok(RowRead { numbers, texts })
+    }
+
+    /// What is kept of it until the row is shown. It takes memory only for texts that are.
+    pub(crate) fn kept(self, alloc: Global, shown: &Shown) -> Result<RowRead, Memory>
+        ensures own { IfOk result (λ kept. (vs : List RowValue) → IsReadOf vs self → IsReadOf vs kept) }
+        ensures left { IfOk result (λ kept. texts_left (shown_places shown.now) kept ≡ texts_left (shown_places shown.now) self) }
+    {
+        match shown {
+            Shown::Keys => Ok(RowRead::nothing(alloc)),
+            Shown::Texts(columns) => {
+                let kept = self.with_texts_of(alloc, columns)?;
+                Ok(kept)
+            }
+        }
+    }
+}
+
+/// Whether a column is one of these.
+fn is_among(column: u8, columns: &[u8]) -> bool
+    ensures { result ≡ list_any (λ other. column == other) columns.now }
+{
+    columns.iter().any(|other| column == *other)
+}
+
+/// Puts a text, if it stays.
+fn push_if(texts: &mut Vec<ReadText>, text: ReadText, stays: bool) -> Result<(), Memory>
+    ensures { OnOk result (texts.new.items ≡ with_met stays text texts.old.items) }
+{
+    if stays {
+        texts.push(text)?;
+    }
+    Ok(())
+}
+
+/// Of texts that were read those of these columns.
+fn texts_of_columns(
+    alloc: Global,
+    texts: Vec<ReadText>,
+    columns: &[u8],
+) -> Result<Vec<ReadText>, Memory>
+    ensures { IfOk result (λ kept. kept.items ≡ texts_among columns.now texts.items) }
+{
+    let mut kept = Vec::new(alloc);
+    for text in texts {
+        let stays = is_among(text.0, columns);
+        push_if(&mut kept, text, stays)?;
+    }
+    Ok(kept)
 }
 
 /// The number at a place.
@@ -103,6 +170,7 @@ fn number_once<K: Keeper>(
     ensures kept { OnOk result (is_some read.new.numbers ≡ true) }
     ensures reads { OnlyReads K.view keeper.old keeper.new result }
     ensures at_most { LooksAtMost K.view keeper.old keeper.new no_looks }
+    ensures once { ReadsOnce K.view keeper.old keeper.new read.old read.new result (λ places. true) }
 {
     if let Some(numbers) = &read.numbers {
         return Ok(number_at(numbers, place));
@@ -128,6 +196,7 @@ fn text_once<K: Keeper>(
     ensures kept { IfOk result (λ text. lookup (λ place. column == place) read.new.texts.items ≡ Some text) }
     ensures reads { OnlyReads K.view keeper.old keeper.new result }
     ensures at_most { LooksAtMost K.view keeper.old keeper.new (text_looks read.old column) }
+    ensures once { ReadsOnce K.view keeper.old keeper.new read.old read.new result (λ places. list_any (λ place. column == place) places) }
 {
     if let Some(text) = known_text(&read.texts, column)? {
         return Ok(text);
@@ -152,6 +221,7 @@ pub fn column_value<K: Keeper>(
     ensures read { OverRow K.view keeper.old table.now row.0 read.old (λ vs. OnOk result (IsReadOf vs read.new)) }
     ensures reads { OnlyReads K.view keeper.old keeper.new result }
     ensures at_most { LooksAtMost K.view keeper.old keeper.new (source_looks read.old source) }
+    ensures once { ReadsOnce K.view keeper.old keeper.new read.old read.new result (λ places. reads_among places source) }
 {
     match source {
         Source::Key => Ok(Some(Value::Number(row.0))),

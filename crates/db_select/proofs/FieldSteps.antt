@@ -1,13 +1,14 @@
 -- The steps of reading the fields of a row.
-use Rattle.std.proofs.Common.{◌≡◌, ◌<◌, ◌≤◌, ◌+◌, ℕ, ℤ, List, [], ◌∷◌, ◌++◌, length, get_or, drop, Option, Some, None, refl, sym, ap, ◌∙◌, append_assoc, append-nil, add-one}
+use Rattle.std.proofs.Common.{◌≡◌, ◌<◌, ◌≤◌, ◌+◌, ℕ, ℤ, true, List, [], ◌∷◌, ◌++◌, length, get_or, drop, Option, Some, None, refl, sym, ap, ◌∙◌, append_assoc, append-nil, add-one}
 use Rattle.std.proofs.Math.Seq.{drop-cons}
 use Rattle.std.specs.List.{cons_option}
-use Rattle.std.proofs.lemmas.List.{drop_all}
+use Rattle.std.proofs.lemmas.List.{drop_all, get_or_default}
 use Rattle.ct_base.specs.declared.lists.Value.{Value}
 use Rattle.db_rows.specs.Reading.{IsReadOf}
 use Rattle.db_rows.specs.declared.reading.RowRead.{RowRead}
 use Rattle.db_select.specs.declared.sources.FieldSource.{FieldSource}
-use Rattle.db_select.specs.Fields.{field_value, line_fields as fields_of}
+use Rattle.db_rows.specs.laws.Texts.{all_at}
+use Rattle.db_select.specs.Fields.{field_among, field_value, fields_among, line_fields as fields_of}
 
 -- the first `i` fields were read
 pub record AreRead (r : ℤ) (vs : List Value) (score : ℕ) (sources : List FieldSource) (i : ℕ) (read : RowRead) (fields : List Value) : Type 0 where
@@ -39,3 +40,7 @@ module _ (r : ℤ) (vs : List Value) (score : ℕ) (sources : List FieldSource) 
       sym (append-nil fields)
       ∙ ap (λ (l : List FieldSource). fields ++ fields_of l r vs score) (sym (drop_all i sources past))
       ∙ are.whole
+
+-- one of the fields
+pub field_at : (places : List ℕ) (sources : List FieldSource) (i : ℕ) (d : FieldSource) → i < length sources → fields_among places sources ≡ true → field_among places (get_or sources i d) ≡ true
+field_at places sources i d within among = all_at (field_among places) sources i (get_or sources i d) within (get_or_default sources i d (get_or sources i d) within) among

@@ -4,5 +4,7 @@ pub mod HitSteps
 pub mod LineSteps
 pub mod NameOrder
 pub mod PredicateLaws
+pub mod SearchLooks
 pub mod SelectLaws
+pub mod ShownLaws
 pub mod WaitSteps

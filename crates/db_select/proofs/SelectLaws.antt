@@ -19,8 +19,9 @@ use Rattle.db_state.specs.States.{StoreState}
 use Rattle.db_state.specs.Effects.{Effect, Does, Refused, refuse, refuse_by, with_found, reply_by}
 use Rattle.db_state.specs.Columns.{first_unknown}
 use Rattle.db_rows.specs.Checking.{fit_columns, has_beyond}
-use Rattle.db_find.specs.declared.finding.Found.{Found}
-use Rattle.db_find.specs.declared.finding.Found.TheVariants.{Refused as RefusedFound, Rows}
+use Rattle.db_select.specs.declared.finds.FoundRow.{FoundRow}
+use Rattle.db_select.specs.declared.finds.Selected.{Selected}
+use Rattle.db_select.specs.declared.finds.Selected.TheVariants.{Refused as RefusedFound, Rows}
 use Rattle.db_find.specs.Searches.{Search, search_in}
 use Rattle.db_find.specs.Seeking.{index_of_search}
 use Rattle.db_find.specs.Finding.{refused_by, search_refusal}
@@ -28,7 +29,7 @@ use Rattle.db_select.specs.declared.sources.FieldSource.{FieldSource}
 use Rattle.db_select.specs.Predicates.{label_in, list_columns, pred_column, conds_in}
 use Rattle.db_select.specs.Checking.{fit_labels, is_out_of_range, check_parts, check_values}
 use Rattle.db_select.specs.Fields.{hit_fields}
-use Rattle.db_select.specs.Hits.{hits}
+use Rattle.db_select.specs.Hits.{hits, hits_of}
 use Rattle.db_select.specs.Listing.{all_columns, found_reply, hit_line, rows_reply}
 use Rattle.db_select.specs.Selecting.{Selects, lacks_index, query_refusal, select, select_rows}
 use Rattle.db_select.specs.Sources.{column_source, field_source}
@@ -71,7 +72,7 @@ module _ (m : StoreState) (t : List ℕ) (x : Table) (list : SelectList) (search
       sym (λ i. check_parts ((wrong ∙ ap (λ (cs : List Column). not (fit_labels list (label_in search)) || not (fit_columns cs conds)) (sym same)) i) (out i) done)
 
   -- what follows the checks
-  abbrev listed : Effect
+  abbrev pub listed : Effect
   listed = Does m (rows_reply m.tables t x.columns list (hits m t x search conds))
 
   abbrev queried : Effect
@@ -85,7 +86,7 @@ module _ (m : StoreState) (t : List ℕ) (x : Table) (list : SelectList) (search
   faulty there refusal fails line says = (refusal, (behind_index there ∙ fails queried, says))
 
   -- behind the checks, where the query text is refused or isn't
-  by_query : lacks_index m t x.columns search ≡ false → ((done : Effect) → check_parts w o done ≡ done) → (refused : Option Refusal) → query_refusal m t x.columns search ≡ refused
+  pub by_query : lacks_index m t x.columns search ≡ false → ((done : Effect) → check_parts w o done ≡ done) → (refused : Option Refusal) → query_refusal m t x.columns search ≡ refused
       → select_rows m t x list search conds ≡ refuse_by refused (λ refusal. refusal) listed
   by_query there passes refused is = behind_index there ∙ passes queried ∙ ap (λ (o : Option Refusal). refuse_by o (λ refusal. refusal) listed) is
 
@@ -93,7 +94,7 @@ module _ (m : StoreState) (t : List ℕ) (x : Table) (list : SelectList) (search
       → Selects m t x list search conds (RefusedFound line)
   refused there passes refusal is line says = (refusal, (by_query there passes (Some refusal) is, says))
 
-  pub passed : lacks_index m t x.columns search ≡ false → ((done : Effect) → check_parts w o done ≡ done) → query_refusal m t x.columns search ≡ None → (found : Vec Hit Global) → hit_rows found.items ≡ hits m t x search conds
+  pub passed : lacks_index m t x.columns search ≡ false → ((done : Effect) → check_parts w o done ≡ done) → query_refusal m t x.columns search ≡ None → (found : Vec FoundRow Global) → hit_rows (hits_of found.items) ≡ hits m t x search conds
       → Selects m t x list search conds (Rows found)
   passed there passes none found are = (by_query there passes None none, are)
 
@@ -113,7 +114,7 @@ needs_none m t x s none = ap is_none none
 -- ---- the query of a search
 
 module _ (m : StoreState) (t : List ℕ) (x : Table) (s : Search) (y : Index) (needed : index_of_search m t x.columns s ≡ Some y) where
-  by_index : query_refusal m t x.columns (Some s) ≡ search_refusal y s
+  pub by_index : query_refusal m t x.columns (Some s) ≡ search_refusal y s
   by_index = ap (λ (o : Option Index). refused_by o s) needed
 
   pub refusal_is : (refusal : Refusal) → search_refusal y s ≡ Some refusal → query_refusal m t x.columns (Some s) ≡ Some refusal
@@ -124,7 +125,7 @@ module _ (m : StoreState) (t : List ℕ) (x : Table) (s : Search) (y : Index) (n
 
 -- ---- what was found, and the reply to it
 
-pub selects_reply : (m : StoreState) (t : List ℕ) (x : Table) (list : SelectList) (search : Option Search) (conds : List Cond) (found : Found) → Selects m t x list search conds found
+pub selects_reply : (m : StoreState) (t : List ℕ) (x : Table) (list : SelectList) (search : Option Search) (conds : List Cond) (found : Selected) → Selects m t x list search conds found
     → found_reply m.tables t x.columns list found ≡ reply_by (select_rows m t x list search conds)
 selects_reply m t x list search conds (RefusedFound line) is = is.1.1 ∙ sym (ap reply_by is.1.0)
 selects_reply m t x list search conds (Rows found) is = ap (rows_reply m.tables t x.columns list) is.1 ∙ sym (ap reply_by is.0)
@@ -132,7 +133,7 @@ selects_reply m t x list search conds (Rows found) is = ap (rows_reply m.tables 
 -- ---- the whole of a table
 
 module _ (m : StoreState) (list : SelectList) (t : List ℕ) (preds : List Pred) (x : Table) (there : get m.tables t ≡ Some x) (columns : List Column) (same : x.columns ≡ columns) where
-  known : first_unknown (list_columns list ++ map pred_column preds) columns ≡ None → select m list t preds ≡ select_rows m t x list (search_in preds) (conds_in preds)
+  pub known : first_unknown (list_columns list ++ map pred_column preds) columns ≡ None → select m list t preds ≡ select_rows m t x list (search_in preds) (conds_in preds)
   known none =
       ap (λ (o : Option Table). with_found o (UnknownName t) (λ (x : Table). refuse_by (first_unknown (list_columns list ++ map pred_column preds) x.columns) UnknownName (select_rows m t x list (search_in preds) (conds_in preds)))) there
       ∙ ap (λ (o : Option (List ℕ)). refuse_by o UnknownName (select_rows m t x list (search_in preds) (conds_in preds))) (ap (first_unknown (list_columns list ++ map pred_column preds)) same ∙ none)

@@ -1,20 +1,26 @@
 -- The rows that a SELECT finds: their keys with their scores, before they are lines.
-use Rattle.std.specs.Prelude.{ℕ, ℤ, pos, ◌≡◌, List, map, filter, Option, Some, None, Result, OnOk, refl}
+use Rattle.std.specs.Prelude.{ℕ, ℤ, pos, ◌≡◌, ◌+◌, ◌*◌, List, length, map, filter, sum_by, Option, Some, None, Result, Vec, OnOk, refl}
 use Rattle.std.specs.FinMap.{entries}
-use Rattle.ct_base.specs.declared.numbers.RowKey.{RowKey}
+use Rattle.std.specs.declared.alloc.Global.{Global}
 use Rattle.ct_keep.specs.KeeperViews.{KeeperView}
 use Rattle.ct_keep.specs.declared.keepers.KeepFault.{KeepFault}
+use Rattle.ct_entry.specs.Lists.{EachIs}
 use Rattle.st_parse.specs.declared.statements.Cond.{Cond}
 use Rattle.tb_table.specs.declared.columns.Column.{Column}
-use Rattle.tb_table.specs.Tables.{Table}
+use Rattle.tb_table.specs.Tables.{Table, Tables}
 use Rattle.ix_search.specs.declared.hits.Hit.{Hit}
 use Rattle.db_state.specs.States.{StoreState}
 use Rattle.db_rows.specs.Meeting.{key_meets}
-use Rattle.db_rows.specs.Reading.{OverColumns}
+use Rattle.db_rows.specs.Reading.{IsOwn, OverColumns}
+use Rattle.db_rows.specs.Texts.{TriesRows, left_by, shown_places, texts_left}
 use Rattle.db_rows.specs.Walking.{with_met}
+use Rattle.db_rows.specs.declared.reading.RowRead.{RowRead}
+use Rattle.db_rows.specs.declared.reading.Shown.{Shown}
+use Rattle.db_rows.specs.declared.walking.MetRow.{MetRow}
 use Rattle.db_find.specs.Searches.{Search}
 use Rattle.db_find.specs.Seeking.{index_of_search}
 use Rattle.db_find.specs.Finding.{found_in}
+use Rattle.db_select.specs.declared.finds.FoundRow.{FoundRow}
 
 -- The keys of rows with their scores, in the order of the keys: of those that the search finds, or without one of all, with
 -- the score 0, for which no SCORE asks.
@@ -28,14 +34,38 @@ hits m t x search conds = filter (λ h. key_meets x conds h.0) (found_rows m t x
 
 -- ---- as code holds them
 
+abbrev pub hits_of : List FoundRow → List Hit
+hits_of rows = map (λ row. row.hit) rows
+
+-- what was read of each of them is its own
+abbrev pub HoldOwn : Tables → List ℕ → List FoundRow → Type 0
+HoldOwn ts t rows = EachIs (λ row. IsOwn ts t row.hit.key row.read) rows
+
+-- how many texts of these columns are left of all of them
+abbrev pub rows_left : List ℕ → List FoundRow → ℕ
+rows_left places rows = sum_by (λ row. texts_left places row.read) rows
+
+-- of hits those of rows that meet all conditions
+abbrev pub met_among : Table → List Cond → List Hit → List Hit
+met_among x conds found = filter (λ h. key_meets x conds h.key.0) found
+
 -- a row that was found without a search
-abbrev pub unscored : RowKey → Hit
-unscored row = record { key = row; score = 0 }
+abbrev pub unscored : MetRow → FoundRow
+unscored row = record { hit = record { key = row.key; score = 0 }; read = row.read }
 
 -- where there is a table of this name with these columns, a call that didn't fail put a row that was found behind others, if the row meets all conditions
-abbrev pub PutsIfMet : {K : Type 0} → (K → KeeperView) → K → List ℕ → List Column → List Cond → Hit → Result (Unit {0}) KeepFault → List Hit → List Hit → Type 0
-PutsIfMet view old t columns conds hit result before after = OverColumns view old t columns (λ x. OnOk result (after ≡ with_met (key_meets x conds hit.key.0) hit before))
+abbrev pub PutsIfMet : {K : Type 0} → (K → KeeperView) → K → List ℕ → List Column → List Cond → Hit → Result (Unit {0}) KeepFault → List FoundRow → List FoundRow → Type 0
+PutsIfMet view old t columns conds hit result before after = OverColumns view old t columns (λ x. OnOk result (hits_of after ≡ with_met (key_meets x conds hit.key.0) hit (hits_of before)))
+
+-- One hit was tried, behind rows that were found before; and these hits were.
+abbrev pub TriesHit : {K : Type 0} → (K → KeeperView) → K → K → Shown → List Column → List Cond → Result (Unit {0}) KeepFault → List FoundRow → List FoundRow → Type 0
+TriesHit view old new shown columns conds result before after =
+    TriesRows view old new shown columns conds (λ n. rows_left (shown_places shown) before + n) (left_by (λ x. rows_left (shown_places shown) after) result)
+
+abbrev pub TriesHits : {K : Type 0} → (K → KeeperView) → K → K → Shown → List Column → List Cond → List Hit → Result (Vec FoundRow Global) KeepFault → Type 0
+TriesHits view old new shown columns conds found result =
+    TriesRows view old new shown columns conds (λ n. length found * n) (left_by (λ rows. rows_left (shown_places shown) rows.items) result)
 
 -- computed example
-no_score : unscored (record { 0 = pos 7 }) ≡ record { key = record { 0 = pos 7 }; score = 0 }
-no_score = refl
+no_score : (read : RowRead) → unscored (record { key = record { 0 = pos 7 }; read = read }) ≡ record { hit = record { key = record { 0 = pos 7 }; score = 0 }; read = read }
+no_score read = refl

@@ -3,6 +3,7 @@ pub mod Fields
 pub mod Giving
 pub mod Hits
 pub mod Listing
+pub mod Looking
 pub mod Pending
 pub mod Predicates
 pub mod Selecting

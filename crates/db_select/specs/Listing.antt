@@ -15,8 +15,12 @@ use Rattle.ix_search.specs.Hits.{hit_rows}
 use Rattle.db_cond.specs.Lines.{line}
 use Rattle.db_state.specs.Lines.{lines_or_none}
 use Rattle.db_rows.specs.Values.{value_of_column, values_behind_key, row_values}
-use Rattle.db_find.specs.declared.finding.Found.{Found}
-use Rattle.db_find.specs.declared.finding.Found.TheVariants.{Refused, Rows}
+use Rattle.db_select.specs.declared.finds.Selected.{Selected}
+use Rattle.db_select.specs.declared.finds.Selected.TheVariants.{Refused, Rows}
+use Rattle.db_select.specs.declared.finds.FoundRow.{FoundRow}
+use Rattle.db_select.specs.declared.sources.FieldSource.{FieldSource}
+use Rattle.db_select.specs.Fields.{found_fields}
+use Rattle.db_select.specs.Hits.{hits_of}
 use Rattle.std.proofs.Common.{ap}
 
 abbrev pub field : List Column → ℤ → List Value → ℕ → Item → Option Value
@@ -36,10 +40,14 @@ rows_reply ts t columns CountAll hs = line (Number (pos (length hs)) ∷ [])
 rows_reply ts t columns Star hs = lines_or_none (map (hit_line ts t columns (all_columns columns)) hs)
 rows_reply ts t columns (Items items) hs = lines_or_none (map (hit_line ts t columns items) hs)
 
+-- the lines of rows that were found, by where their fields come from
+abbrev pub found_lines : Tables → List ℕ → List FieldSource → List FoundRow → List ℕ
+found_lines ts t sources rows = lines_or_none (map (found_fields ts t sources) (hits_of rows))
+
 -- what is replied to what was found, as code holds it: the line of a refusal, or what the list asks of rows
-abbrev pub found_reply : Tables → List ℕ → List Column → SelectList → Found → List ℕ
+abbrev pub found_reply : Tables → List ℕ → List Column → SelectList → Selected → List ℕ
 found_reply ts t columns list (Refused line) = line.items
-found_reply ts t columns list (Rows hits) = rows_reply ts t columns list (hit_rows hits.items)
+found_reply ts t columns list (Rows rows) = rows_reply ts t columns list (hit_rows (hits_of rows.items))
 
 -- computed examples: the row 1 of a table `docs` with the columns id, body and price, found with the score 2; the list is id, SCORE(1), body
 a_hit : hit_line docs_alone (codes "docs") docs_columns (ColumnItem (codes "id") ∷ Score (Fits (pos 1)) ∷ ColumnItem (codes "body") ∷ []) (pos 1, 2)

@@ -5,20 +5,20 @@ use Rattle.st_parse.specs.declared.statements.Cond.{Cond}
 use Rattle.st_parse.specs.declared.statements.Pred.{Pred}
 use Rattle.st_parse.specs.declared.statements.SelectList.{SelectList}
 use Rattle.tb_table.specs.declared.columns.Column.{Column}
-use Rattle.tb_table.specs.Tables.{Table}
+use Rattle.tb_table.specs.Tables.{Table, Tables}
 use Rattle.ix_search.specs.Hits.{hit_rows}
 use Rattle.db_cond.specs.Faults.{Refusal, UnknownName, NoIndexOfKind, refusal_line}
 use Rattle.db_state.specs.States.{StoreState}
 use Rattle.db_state.specs.Effects.{Effect, Does, Refused, refuse, refuse_by, reply_by, with_found}
 use Rattle.db_state.specs.Columns.{first_unknown}
-use Rattle.db_find.specs.declared.finding.Found.{Found}
-use Rattle.db_find.specs.declared.finding.Found.TheVariants.{Refused as RefusedFound, Rows}
+use Rattle.db_select.specs.declared.finds.Selected.{Selected}
+use Rattle.db_select.specs.declared.finds.Selected.TheVariants.{Refused as RefusedFound, Rows}
 use Rattle.db_find.specs.Searches.{Search, search_in}
 use Rattle.db_find.specs.Seeking.{index_of_search}
 use Rattle.db_find.specs.Finding.{refused_by}
 use Rattle.db_select.specs.Predicates.{list_columns, pred_column, conds_in}
 use Rattle.db_select.specs.Checking.{check_values}
-use Rattle.db_select.specs.Hits.{hits}
+use Rattle.db_select.specs.Hits.{HoldOwn, hits, hits_of, rows_left}
 use Rattle.db_select.specs.Listing.{rows_reply}
 
 -- ---- the search
@@ -57,11 +57,21 @@ abbrev pub rows_reply_by : StoreState → List ℕ → Table → SelectList → 
 rows_reply_by m t x list search conds = reply_by (select_rows m t x list search conds)
 
 -- What was found is what a SELECT comes to: the line of its refusal, or the rows of whose lines it makes its reply.
-abbrev pub Selects : StoreState → List ℕ → Table → SelectList → Option Search → List Cond → Found → Type 0
+abbrev pub Selects : StoreState → List ℕ → Table → SelectList → Option Search → List Cond → Selected → Type 0
 Selects m t x list search conds (RefusedFound line) = (refusal : Refusal) × ((select_rows m t x list search conds ≡ Refused refusal) × (line.items ≡ refusal_line refusal))
 Selects m t x list search conds (Rows found) =
     (select_rows m t x list search conds ≡ Does m (rows_reply m.tables t x.columns list (hits m t x search conds)))
-    × (hit_rows found.items ≡ hits m t x search conds)
+    × (hit_rows (hits_of found.items) ≡ hits m t x search conds)
+
+-- what was read of each row that was found is its own
+abbrev pub SelectedOwn : Tables → List ℕ → Selected → Type 0
+SelectedOwn ts t (RefusedFound line) = Unit {0}
+SelectedOwn ts t (Rows found) = HoldOwn ts t found.items
+
+-- how many texts of these columns are left of all of them
+abbrev pub selected_left : List ℕ → Selected → ℕ
+selected_left places (RefusedFound line) = 0
+selected_left places (Rows found) = rows_left places found.items
 
 -- computed examples: without a search there is none that lacks its index, and none whose text is refused
 no_search_lacks_no_index : (m : StoreState) (t : List ℕ) (columns : List Column) → lacks_index m t columns None ≡ false

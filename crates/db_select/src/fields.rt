@@ -4,9 +4,9 @@
 ghost use Rattle.std.specs.Prelude.{◌≡◌, [], ◌++◌, IfOk, OnOk};
 ghost use Rattle.std.specs.List.{cons_option};
 ghost use Rattle.ct_keep.specs.KeeperViews.{OnlyReads};
-ghost use Rattle.db_state.specs.States.{Sees};
 ghost use Rattle.db_rows.specs.Reading.{IsReadOf, OverRow};
-ghost use Rattle.db_select.specs.Fields.{found_fields, found_value};
+ghost use Rattle.db_rows.specs.Texts.{ReadsOnce};
+ghost use Rattle.db_select.specs.Fields.{field_among, fields_among, found_value, read_fields};
 
 use crate::sources::FieldSource;
 use ct_base::{Memory, Name, Value};
@@ -28,6 +28,7 @@ fn field<K: Keeper>(
     ensures value { OverRow K.view keeper.old table.now hit.key.0 read.old (λ vs. IfOk result (λ value. value ≡ found_value hit vs source)) }
     ensures read { OverRow K.view keeper.old table.now hit.key.0 read.old (λ vs. OnOk result (IsReadOf vs read.new)) }
     ensures reads { OnlyReads K.view keeper.old keeper.new result }
+    ensures once { ReadsOnce K.view keeper.old keeper.new read.old read.new result (λ places. field_among places source) }
 {
     match source {
         FieldSource::Column(source) => column_value(alloc, keeper, table, hit.key, read, source),
@@ -45,22 +46,23 @@ fn push_some(fields: &mut Vec<Value>, value: Option<Value>) -> Result<(), Memory
     Ok(())
 }
 
-/// The fields of a row that was found.
+/// The fields of a row that was found, of which this was read before.
 pub(crate) fn row_fields<K: Keeper>(
     alloc: Global,
     keeper: &mut K,
     table: &Name,
     sources: &[FieldSource],
     hit: Hit,
+    read: &mut RowRead,
 ) -> Result<Vec<Value>, KeepFault>
     requires { (K.view keeper.old).ready }
-    ensures fields { Sees K.view keeper.old result (λ m fields. fields.items ≡ found_fields m.tables table.now sources.now hit) }
+    ensures fields { OverRow K.view keeper.old table.now hit.key.0 read.old (λ vs. IfOk result (λ fields. fields.items ≡ read_fields sources.now hit vs)) }
     ensures reads { OnlyReads K.view keeper.old keeper.new result }
+    ensures once { ReadsOnce K.view keeper.old keeper.new read.old read.new result (λ places. fields_among places sources.now) }
 {
-    let mut read = RowRead::nothing(alloc);
     let mut fields = Vec::new(alloc);
     for source in sources {
-        let value = field(alloc, keeper, table, hit, &mut read, *source)?;
+        let value = field(alloc, keeper, table, hit, read, *source)?;
         push_some(&mut fields, value)?;
     }
     Ok(fields)

@@ -4,12 +4,14 @@
 mod checking;
 mod copying;
 mod fields;
+mod finds;
 mod hits;
 mod listing;
 mod names;
 mod pending;
 mod predicates;
 mod selecting;
+mod showing;
 mod sources;
 mod statements;
 mod waiting;

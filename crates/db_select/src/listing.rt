@@ -1,25 +1,26 @@
 //! The lines of a query.
 #![tactic(auto, using(ct_keep::specs::laws::Composing::reads_on, ct_keep::specs::laws::Composing::reads_short))]
 
-ghost use Rattle.std.specs.Prelude.{◌≡◌, ◌++◌, ◌∷◌, [], map, length, pos, IfOk, OnOk, Some};
+ghost use Rattle.std.specs.Prelude.{◌≡◌, ◌++◌, ◌∷◌, [], pos, IfOk, OnOk, Some};
 ghost use Rattle.ct_base.specs.declared.lists.Value.TheVariants.{Number};
 ghost use Rattle.ct_keep.specs.KeeperViews.{OnlyReads};
-ghost use Rattle.ix_search.specs.Hits.{hit_rows};
+ghost use Rattle.ct_keep.specs.Looks.{LooksAtMost};
 ghost use Rattle.db_cond.specs.Lines.{line as line_text};
-ghost use Rattle.db_state.specs.States.{OverStates, Sees};
-ghost use Rattle.db_state.specs.Lines.{lines_or_none};
-ghost use Rattle.db_select.specs.Fields.{found_fields, found_line};
-ghost use Rattle.db_select.specs.Giving.{GivesLines};
-ghost use Rattle.db_select.specs.Listing.{found_reply as reply_of_found, rows_reply as reply_of_rows};
+ghost use Rattle.db_rows.specs.Texts.{texts_alone, texts_left};
+ghost use Rattle.db_select.specs.Fields.{ShowsWithin, read_line};
+ghost use Rattle.db_select.specs.Giving.{GivesReply, OverFound, OverOwn};
+ghost use Rattle.db_select.specs.Hits.{rows_left};
+ghost use Rattle.db_select.specs.Listing.{found_lines};
+ghost use Rattle.db_select.specs.Looking.{shown_texts};
+ghost use Rattle.db_select.specs.Selecting.{selected_left};
 
 use crate::fields::row_fields;
+use crate::finds::{FoundRow, Selected};
 use crate::sources::{FieldSource, column_sources, sources_of};
 use ct_base::{Memory, Name};
 use ct_keep::{KeepFault, Keeper};
 use db_cond::{line, no_rows};
-use db_find::Found;
 use db_state::fixed_reply;
-use ix_search::Hit;
 use st_parse::SelectList;
 use std::alloc::Global;
 use tb_table::Column;
@@ -31,36 +32,39 @@ fn push_row<K: Keeper>(
     lines: &mut Vec<u8>,
     table: &Name,
     sources: &[FieldSource],
-    hit: Hit,
+    row: FoundRow,
 ) -> Result<(), KeepFault>
     requires { (K.view keeper.old).ready }
-    ensures line { OverStates K.view keeper.old (λ m c. OnOk result (lines.new.items ≡ lines.old.items ++ found_line m.tables table.now sources.now hit)) }
+    ensures line { OverFound K.view keeper.old table.now row (λ vs. OnOk result (lines.new.items ≡ lines.old.items ++ read_line sources.now row.hit vs)) }
     ensures reads { OnlyReads K.view keeper.old keeper.new result }
+    ensures at_most { ShowsWithin K.view keeper.old keeper.new sources.now (λ places. texts_left places row.read) }
 {
-    let fields = row_fields(alloc, keeper, table, sources, hit)?;
+    let FoundRow { hit, mut read } = row;
+    let fields = row_fields(alloc, keeper, table, sources, hit, &mut read)?;
     line(alloc, lines, &fields)?;
     Ok(())
 }
 
 /// A line for each row that was found, or that there is none. Its cost is that of the numbers of each row, and of its texts that are
-/// shown.
+/// shown, as far as they weren't read.
 fn hit_lines<K: Keeper>(
     alloc: Global,
     keeper: &mut K,
     table: &Name,
     sources: &[FieldSource],
-    hits: &[Hit],
+    rows: Vec<FoundRow>,
 ) -> Result<Vec<u8>, KeepFault>
     requires { (K.view keeper.old).ready }
-    ensures lines { Sees K.view keeper.old result (λ m lines. lines.items ≡ lines_or_none (map (found_fields m.tables table.now sources.now) hits.now)) }
+    ensures lines { OverOwn K.view keeper.old table.now rows.items (λ ts. IfOk result (λ lines. lines.items ≡ found_lines ts table.now sources.now rows.items)) }
     ensures reads { OnlyReads K.view keeper.old keeper.new result }
+    ensures at_most { ShowsWithin K.view keeper.old keeper.new sources.now (λ places. rows_left places rows.items) }
 {
-    if hits.is_empty() {
+    if rows.is_empty() {
         return Ok(fixed_reply(alloc, no_rows())?);
     }
     let mut lines = Vec::new(alloc);
-    for hit in hits {
-        push_row(alloc, keeper, &mut lines, table, sources, *hit)?;
+    for row in rows {
+        push_row(alloc, keeper, &mut lines, table, sources, row)?;
     }
     Ok(lines)
 }
@@ -82,40 +86,42 @@ fn rows_reply<K: Keeper>(
     table: &Name,
     columns: &[Column],
     list: &SelectList,
-    hits: &[Hit],
+    rows: Vec<FoundRow>,
 ) -> Result<Vec<u8>, KeepFault>
     requires { (K.view keeper.old).ready }
-    ensures reply { GivesLines K.view keeper.old table.now columns.now result (λ m x. reply_of_rows m.tables table.now x.columns list.now (hit_rows hits.now)) }
+    ensures reply { GivesReply K.view keeper.old table.now columns.now list.now (Selected.Rows rows) result }
     ensures reads { OnlyReads K.view keeper.old keeper.new result }
+    ensures at_most { LooksAtMost K.view keeper.old keeper.new (texts_alone (rows_left (shown_texts list.now columns.now) rows.items)) }
 {
     match list {
-        SelectList::CountAll => Ok(count_line(alloc, hits.len())?),
+        SelectList::CountAll => Ok(count_line(alloc, rows.len())?),
         SelectList::Star => {
             let sources = column_sources(alloc, columns)?;
-            hit_lines(alloc, keeper, table, &sources, hits)
+            hit_lines(alloc, keeper, table, &sources, rows)
         }
         SelectList::Items(items) => {
             let sources = sources_of(alloc, items.as_slice(), columns)?;
-            hit_lines(alloc, keeper, table, &sources, hits)
+            hit_lines(alloc, keeper, table, &sources, rows)
         }
     }
 }
 
-/// What a SELECT of a list replies to what was found: the line of a refusal, or what the list asks of the rows.
+/// What a SELECT of a list replies to what it found: the line of a refusal, or what the list asks of the rows.
 pub(crate) fn found_reply<K: Keeper>(
     alloc: Global,
     keeper: &mut K,
     table: &Name,
     columns: &[Column],
     list: &SelectList,
-    found: Found,
+    found: Selected,
 ) -> Result<Vec<u8>, KeepFault>
     requires { (K.view keeper.old).ready }
-    ensures reply { GivesLines K.view keeper.old table.now columns.now result (λ m x. reply_of_found m.tables table.now x.columns list.now found) }
+    ensures reply { GivesReply K.view keeper.old table.now columns.now list.now found result }
     ensures reads { OnlyReads K.view keeper.old keeper.new result }
+    ensures at_most { LooksAtMost K.view keeper.old keeper.new (texts_alone (selected_left (shown_texts list.now columns.now) found)) }
 {
     match found {
-        Found::Refused(line) => Ok(line),
-        Found::Rows(hits) => rows_reply(alloc, keeper, table, columns, list, &hits),
+        Selected::Refused(line) => Ok(line),
+        Selected::Rows(rows) => rows_reply(alloc, keeper, table, columns, list, rows),
     }
 }

@@ -1,8 +1,9 @@
 //! SELECT of what waits.
 #![tactic(auto, using(ct_keep::specs::laws::Composing::reads_on, ct_keep::specs::laws::Composing::reads_short))]
 
-ghost use Rattle.std.specs.Prelude.{◌≡◌, ◌&&◌, not};
+ghost use Rattle.std.specs.Prelude.{◌≡◌, ◌&&◌, not, false};
 ghost use Rattle.ct_keep.specs.KeeperViews.{OnlyReads};
+ghost use Rattle.ct_keep.specs.Looks.{LooksAtMost, no_looks};
 ghost use Rattle.db_state.specs.States.{Sees};
 ghost use Rattle.db_state.specs.Effects.{reply_by};
 ghost use Rattle.db_select.specs.Pending.{is_bare, is_view_list, select_pending as pending_effect, view_reply as reply_of_view, pending_lines as all_lines};
@@ -60,6 +61,7 @@ pub(crate) fn select_pending<K: Keeper>(
     requires { (K.view keeper.old).ready }
     ensures reply { Sees K.view keeper.old result (λ m reply. reply.items ≡ reply_by (pending_effect m list.now preds.now)) }
     ensures reads { OnlyReads K.view keeper.old keeper.new result }
+    ensures refused { is_bare preds.now ≡ false → LooksAtMost K.view keeper.old keeper.new no_looks }
 {
     if is_wrong(list, preds) {
         return Ok(fault_line(alloc, Fault::WrongValues)?);

@@ -9,12 +9,15 @@ ghost use Rattle.db_rows.specs.Checking.{has_beyond as any_beyond};
 ghost use Rattle.db_find.specs.Searches.{held_search, sought};
 ghost use Rattle.db_select.specs.Checking.{is_out_of_range as out_of_range};
 ghost use Rattle.db_select.specs.Giving.{GivesLines, GivesOver};
-ghost use Rattle.db_select.specs.Selecting.{Selects, rows_reply_by, select as select_effect};
+ghost use Rattle.db_select.specs.Looking.{FindsFew, LooksFewOver, SelectsFew};
+ghost use Rattle.db_select.specs.Selecting.{SelectedOwn, Selects, rows_reply_by, select as select_effect};
 
 use crate::checking::{first_fault, has_wrong_values};
+use crate::finds::Selected;
 use crate::hits::{met_hits, unsearched_hits};
 use crate::listing::found_reply;
 use crate::predicates::{conds_in, unknown_name};
+use crate::showing::shown_by;
 use ct_base::Name;
 use ct_keep::{KeepFault, Keeper};
 use db_cond::{Fault, fault_line};
@@ -33,18 +36,20 @@ fn met_rows<K: Keeper>(
     table: &Name,
     columns: &[Column],
     conds: &[Cond],
-) -> Result<Found, KeepFault>
+) -> Result<Selected, KeepFault>
     requires { (K.view keeper.old).ready }
     ensures rows { GivesOver K.view keeper.old table.now columns.now result (λ m x. Selects m table.now x list.now None conds.now) }
+    ensures own { Sees K.view keeper.old result (λ m found. SelectedOwn m.tables table.now found) }
     ensures reads { OnlyReads K.view keeper.old keeper.new result }
 {
     let wrong_values = has_wrong_values(list, None, conds, columns);
     let out_of_range = has_beyond(conds);
     if let Some(fault) = first_fault(wrong_values, out_of_range) {
-        return Ok(Found::Refused(fault_line(alloc, fault)?));
+        return Ok(Selected::Refused(fault_line(alloc, fault)?));
     }
-    let hits = unsearched_hits(alloc, keeper, table, columns, conds)?;
-    Ok(Found::Rows(hits))
+    let shown = shown_by(alloc, list, columns)?;
+    let rows = unsearched_hits(alloc, keeper, table, columns, conds, &shown)?;
+    Ok(Selected::Rows(rows))
 }
 
 /// Whether a number of a search or a condition is out of its range.
@@ -63,25 +68,28 @@ fn searched_rows<K: Keeper>(
     columns: &[Column],
     search: Search<'_>,
     conds: &[Cond],
-) -> Result<Found, KeepFault>
+) -> Result<Selected, KeepFault>
     requires { (K.view keeper.old).ready }
     ensures rows { GivesOver K.view keeper.old table.now columns.now result (λ m x. Selects m table.now x list.now (Some (held_search search.entry)) conds.now) }
+    ensures own { Sees K.view keeper.old result (λ m found. SelectedOwn m.tables table.now found) }
     ensures reads { OnlyReads K.view keeper.old keeper.new result }
+    ensures at_most { FindsFew K.view keeper.old keeper.new table.now columns.now list.now (Some (held_search search.entry)) conds.now result }
 {
     let Some(index) = needed_index(alloc, keeper, table, columns, search)? else {
-        return Ok(Found::Refused(fault_line(alloc, Fault::NoIndexOfKind)?));
+        return Ok(Selected::Refused(fault_line(alloc, Fault::NoIndexOfKind)?));
     };
     let wrong_values = has_wrong_values(list, search.label(), conds, columns);
     let out_of_range = has_bad_number(search, conds);
     if let Some(fault) = first_fault(wrong_values, out_of_range) {
-        return Ok(Found::Refused(fault_line(alloc, fault)?));
+        return Ok(Selected::Refused(fault_line(alloc, fault)?));
     }
     let found = find(alloc, keeper, &index, search)?;
     match found {
-        Found::Refused(line) => Ok(Found::Refused(line)),
-        Found::Rows(rows) => {
-            let hits = met_hits(alloc, keeper, table, columns, conds, &rows)?;
-            Ok(Found::Rows(hits))
+        Found::Refused(line) => Ok(Selected::Refused(line)),
+        Found::Rows(hits) => {
+            let shown = shown_by(alloc, list, columns)?;
+            let rows = met_hits(alloc, keeper, table, columns, conds, &shown, &hits)?;
+            Ok(Selected::Rows(rows))
         }
     }
 }
@@ -95,10 +103,12 @@ fn selected_rows<K: Keeper>(
     columns: &[Column],
     search: Option<Search<'_>>,
     conds: &[Cond],
-) -> Result<Found, KeepFault>
+) -> Result<Selected, KeepFault>
     requires { (K.view keeper.old).ready }
     ensures rows { GivesOver K.view keeper.old table.now columns.now result (λ m x. Selects m table.now x list.now (sought search.entry) conds.now) }
+    ensures own { Sees K.view keeper.old result (λ m found. SelectedOwn m.tables table.now found) }
     ensures reads { OnlyReads K.view keeper.old keeper.new result }
+    ensures at_most { FindsFew K.view keeper.old keeper.new table.now columns.now list.now (sought search.entry) conds.now result }
 {
     match search {
         None => met_rows(alloc, keeper, list, table, columns, conds),
@@ -119,9 +129,11 @@ fn select_known<K: Keeper>(
     requires { (K.view keeper.old).ready }
     ensures reply { GivesLines K.view keeper.old table.now columns.now result (λ m x. rows_reply_by m table.now x list.now (sought search.entry) conds.now) }
     ensures reads { OnlyReads K.view keeper.old keeper.new result }
+    ensures at_most { LooksFewOver K.view keeper.old keeper.new table.now columns.now list.now (sought search.entry) conds.now 0 }
 {
     let found = selected_rows(alloc, keeper, list, table, columns, search, conds)?;
-    found_reply(alloc, keeper, table, columns, list, found)
+    let reply = found_reply(alloc, keeper, table, columns, list, found)?;
+    Ok(reply)
 }
 
 /// SELECT of a list from the rows of a table that meet predicates, in order of their keys.
@@ -135,6 +147,7 @@ pub(crate) fn select_table<K: Keeper>(
     requires { (K.view keeper.old).ready }
     ensures reply { Sees K.view keeper.old result (λ m reply. reply.items ≡ reply_by (select_effect m list.now table.now preds.now)) }
     ensures reads { OnlyReads K.view keeper.old keeper.new result }
+    ensures at_most { SelectsFew K.view keeper.old keeper.new select_effect list.now table.now preds.now }
 {
     let Some(columns) = table_columns(alloc, keeper, table)? else {
         return Ok(fault_line(alloc, Fault::UnknownName(table.as_str()))?);
@@ -144,5 +157,6 @@ pub(crate) fn select_table<K: Keeper>(
     }
     let conds = conds_in(alloc, preds)?;
     let search = search_in(preds);
-    select_known(alloc, keeper, list, table, &columns, search, &conds)
+    let reply = select_known(alloc, keeper, list, table, &columns, search, &conds)?;
+    Ok(reply)
 }

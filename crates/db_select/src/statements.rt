@@ -5,6 +5,7 @@ ghost use Rattle.std.specs.Prelude.{◌≡◌, bytes_eq, codes};
 ghost use Rattle.ct_keep.specs.KeeperViews.{OnlyReads};
 ghost use Rattle.db_state.specs.States.{Sees};
 ghost use Rattle.db_state.specs.Effects.{reply_by};
+ghost use Rattle.db_select.specs.Looking.{SelectsFew};
 ghost use Rattle.db_select.specs.Statements.{select_from as from_effect, select_statement};
 
 use crate::pending::select_pending;
@@ -35,6 +36,7 @@ fn select_from<K: Keeper>(
     requires { (K.view keeper.old).ready }
     ensures reply { Sees K.view keeper.old result (λ m reply. reply.items ≡ reply_by (from_effect m list.now table.now preds.now)) }
     ensures reads { OnlyReads K.view keeper.old keeper.new result }
+    ensures at_most { SelectsFew K.view keeper.old keeper.new from_effect list.now table.now preds.now }
 {
     if is_pending(table.as_str()) {
         return select_pending(alloc, keeper, list, preds);
@@ -50,7 +52,8 @@ fn select_from<K: Keeper>(
 ///
 /// Without CONTAINS its cost is that of a walk over the rows that the conditions on the key bound, and of what the other conditions are
 /// on in each of them; with CONTAINS that of the search, and of what the conditions are on in each row that this finds. COUNT(*) costs
-/// no more; a list, and `*`, cost beside it the texts that they show, and the numbers of the rows. What waits costs a scan of the
+/// no more; a list, and `*`, cost beside it the texts that they show, and the numbers of the rows, as far as no condition is on them:
+/// what is read of a row is read once. What waits costs a scan of the
 /// indexes' entries and of those of the rows that wait. It changes nothing, and never answers Full.
 pub fn select<K: Keeper>(
     alloc: Global,
@@ -62,6 +65,7 @@ pub fn select<K: Keeper>(
     requires ready { (K.view keeper.old).ready }
     ensures reply { Sees K.view keeper.old result (λ m reply. reply.items ≡ reply_by (select_statement m list.now table.now preds.now)) }
     ensures reads { OnlyReads K.view keeper.old keeper.new result }
+    ensures at_most { SelectsFew K.view keeper.old keeper.new select_statement list.now table.now preds.now }
 {
     if !are_built(preds) {
         return Ok(fixed_reply(alloc, not_understood())?);

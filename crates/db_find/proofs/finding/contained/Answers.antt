@@ -1,8 +1,10 @@
-use Rattle.std.proofs.Common.{◌≡◌, ℕ, Option, Some, sym, subst, ap, ◌∙◌}
+use Rattle.std.proofs.Common.{◌≡◌, ℕ, Option, sym, subst, ap, ◌∙◌}
 use Rattle.std.specs.Option.{option_map}
 use Rattle.ct_keep.specs.laws.Composing.{reads_hold}
 use Rattle.q_tree.specs.ReducedQueries.{reduced_of}
 use Rattle.db_find.specs.Finding.{found_by}
+use Rattle.db_find.specs.Looking.{meaning_looks}
+use Rattle.db_find.specs.laws.Looking.{rises_as, rises_behind, rises_weaker}
 use Rattle.db_find.specs.Meanings.{Means}
 use Rattle.db_find.specs.Querying.{Meaning, Finds, meaning_of, refusal_in}
 use Rattle.db_find.specs.Searches.{threshold_of}
@@ -25,3 +27,29 @@ returns-in_ok-hits-in-Finds-clause-found g c = λ m k x holds stands there.
     ∙ ap (λ (o : Option ℕ). found_by m.tables x (Finds (option_map reduced_of c.in-Finds.flat)) o) c.threshold_of-above.ensures
     ∙ sym (ap (λ (meaning : Meaning). found_by m.tables x meaning (threshold_of c.args.above)) means) in
     (ap refusal_in means, rows)
+
+-- ---- the look-ups
+
+pub returns-in_err-meaning-clause-at_most : goal.returns-in_err-meaning-clause-at_most
+returns-in_err-meaning-clause-at_most g c = λ m k x holds stands there. rises_weaker _ _ _ c.meaning_in.ensures.at_most
+
+pub returns-in-Refused-clause-at_most : goal.returns-in-Refused-clause-at_most
+returns-in-Refused-clause-at_most g c = λ m k x holds stands there. rises_weaker _ _ _ c.in_ok-meaning.ensures.at_most
+
+pub returns-in_err-hits-in-Finds-clause-at_most : goal.returns-in_err-hits-in-Finds-clause-at_most
+returns-in_err-hits-in-Finds-clause-at_most g c = λ m k x holds stands there.
+    let i = c.args.index.now in
+    let meaning : Meaning = meaning_of x.prefs c.args.query.now in
+    let means : meaning ≡ Finds (option_map reduced_of c.in-Finds.flat) = subst (λ h. Means h meaning) c.in-Finds.is (c.in_ok-meaning.ensures.meaning m k x holds stands there) in
+    let behind = reads_hold _ _ k c.in_ok-meaning.ensures.reads holds in
+    let same = ap (λ (a : Meaning). meaning_looks k i a (threshold_of c.args.above)) means ∙ sym (ap (λ (o : Option ℕ). meaning_looks k i (Finds (option_map reduced_of c.in-Finds.flat)) o) c.threshold_of-above.ensures) in
+    rises_behind _ _ _ _ c.in_ok-meaning.ensures.at_most (rises_as _ _ _ _ same (c.found_hits.ensures.at_most k behind))
+
+pub returns-in_ok-hits-in-Finds-clause-at_most : goal.returns-in_ok-hits-in-Finds-clause-at_most
+returns-in_ok-hits-in-Finds-clause-at_most g c = λ m k x holds stands there.
+    let i = c.args.index.now in
+    let meaning : Meaning = meaning_of x.prefs c.args.query.now in
+    let means : meaning ≡ Finds (option_map reduced_of c.in-Finds.flat) = subst (λ h. Means h meaning) c.in-Finds.is (c.in_ok-meaning.ensures.meaning m k x holds stands there) in
+    let behind = reads_hold _ _ k c.in_ok-meaning.ensures.reads holds in
+    let same = ap (λ (a : Meaning). meaning_looks k i a (threshold_of c.args.above)) means ∙ sym (ap (λ (o : Option ℕ). meaning_looks k i (Finds (option_map reduced_of c.in-Finds.flat)) o) c.threshold_of-above.ensures) in
+    rises_behind _ _ _ _ c.in_ok-meaning.ensures.at_most (rises_as _ _ _ _ same (c.in_ok-hits-in-Finds.ensures.at_most k behind))

@@ -7,6 +7,10 @@ use Rattle.db_find.specs.declared.finding.Found.{Found}
 use Rattle.db_find.specs.Querying.{meaning_of}
 use Rattle.db_find.specs.Searches.{Search, Contains, held_search, search_query, search_above, threshold_of}
 use Rattle.db_find.specs.Finding.{FindsByMeaning, FindsBySearch}
+use Rattle.db_find.specs.Looking.{meaning_looks, search_looks}
+use Rattle.ct_keep.specs.Content.{Content}
+use Rattle.ct_keep.specs.KeeperViews.{Counts}
+use Rattle.ct_keep.specs.Looks.{RisesBy}
 use Rattle.db_find.proofs.finding.find.Goals as goal
 
 -- by the meaning of its query text a search finds what it finds
@@ -19,3 +23,14 @@ by_meaning ts x (Contains column query label above) asked most result same_query
 pub returns-clause-found : goal.returns-clause-found
 returns-clause-found g c = λ m k x holds stands there.
     by_meaning m.tables x (held_search c.args.search) c.query.result.now c.above.result c.contained.result c.query.ensures c.above.ensures (c.contained.ensures.found m k x holds stands there)
+
+-- and looks at what that does
+looks_by_meaning : (m : Content) (i : List ℕ) (x : Index) (s : Search) (query : List ℕ) (above : Whole) (old new : Counts) → query ≡ search_query s → above ≡ search_above s
+    → RisesBy (meaning_looks m i (meaning_of x.prefs query) (threshold_of above)) old new → RisesBy (search_looks m i x s) old new
+looks_by_meaning m i x (Contains column query label above) asked most old new same_query same_above rises =
+    subst (λ (q : List ℕ). RisesBy (meaning_looks m i (meaning_of x.prefs q) (threshold_of above)) old new) same_query
+    (subst (λ (a : Whole). RisesBy (meaning_looks m i (meaning_of x.prefs asked) (threshold_of a)) old new) same_above rises)
+
+pub returns-clause-at_most : goal.returns-clause-at_most
+returns-clause-at_most g c = λ m k x holds stands there.
+    looks_by_meaning k c.args.index.now x (held_search c.args.search) c.query.result.now c.above.result _ _ c.query.ensures c.above.ensures (c.contained.ensures.at_most m k x holds stands there)

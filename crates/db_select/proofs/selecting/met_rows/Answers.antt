@@ -11,4 +11,7 @@ returns-in-Some-clause-rows g c = λ m k x holds stands there same.
 pub returns-clause-rows : goal.returns-clause-rows
 returns-clause-rows g c = λ m k x holds stands there same.
     passed m c.args.table.now x c.args.list.now None c.args.conds.now c.args.columns.now same _ _ c.has_wrong_values-wrong_values.ensures c.has_beyond-out_of_range.ensures refl
-    c.in_default.ensures refl c.in_ok-hits.hits (c.in_ok-hits.ensures.hits m k x holds stands there same)
+    c.in_default.ensures refl c.in_ok-rows.rows (c.in_ok-rows.ensures.hits m k x holds stands there same)
+
+pub returns-clause-own : goal.returns-clause-own
+returns-clause-own g c = c.in_ok-rows.ensures.own

@@ -1,0 +1,122 @@
+-- How much a SELECT with a search looks up.
+use Rattle.std.specs.Prelude.{ℕ, ◌*◌, ◌≡◌, ◌||◌, Bool, true, false, List, [], ◌∷◌, length, Option, Some, None, Result, codes, refl}
+use Rattle.std.specs.List.{list_any}
+use Rattle.std.specs.FinMap.{get}
+use Rattle.ct_keep.specs.Content.{Content}
+use Rattle.ct_keep.specs.KeeperViews.{Counts, KeeperView}
+use Rattle.ct_keep.specs.Looks.{no_looks, plus, scan_looks, RisesBy}
+use Rattle.ct_keep.specs.declared.keepers.KeepFault.{KeepFault}
+use Rattle.ct_entry.specs.declared.kinds.Kind.TheVariants as kind
+use Rattle.ct_entry.specs.Keys.{same_list}
+use Rattle.ct_entry.specs.Kinds.{code}
+use Rattle.st_parse.specs.declared.statements.Cond.{Cond}
+use Rattle.st_parse.specs.declared.statements.Item.{Item}
+use Rattle.st_parse.specs.declared.statements.Item.TheVariants.{Column as ColumnItem, Score as ScoreItem}
+use Rattle.st_parse.specs.declared.statements.Pred.{Pred}
+use Rattle.st_parse.specs.declared.statements.SelectList.{SelectList}
+use Rattle.st_parse.specs.declared.statements.SelectList.TheVariants.{Star, CountAll, Items}
+use Rattle.tb_table.specs.declared.columns.Column.{Column}
+use Rattle.tb_table.specs.Tables.{Table, docs_columns}
+use Rattle.db_cond.specs.Faults.{WrongValues}
+use Rattle.db_state.specs.States.{StoreState, OverNamedTable, OverStates}
+use Rattle.db_state.specs.Effects.{Effect, Does, Refused}
+use Rattle.db_rows.specs.Checking.{cond_columns}
+use Rattle.db_rows.specs.Texts.{RisesLeaving, is_named, left_by, text_places}
+use Rattle.db_find.specs.Looking.{looks_in}
+use Rattle.db_find.specs.Searches.{Search, search_in}
+use Rattle.db_find.specs.Seeking.{named_index}
+use Rattle.db_select.specs.Hits.{found_rows}
+use Rattle.db_select.specs.Predicates.{below_seven, conds_in}
+use Rattle.db_select.specs.Selecting.{select_rows, selected_left}
+use Rattle.db_select.specs.declared.finds.Selected.{Selected}
+
+-- ---- the texts of a row
+
+abbrev pub is_column_item : Column → Item → Bool
+is_column_item c (ColumnItem name) = same_list c.name name
+is_column_item c (ScoreItem label) = false
+
+-- the list shows the column
+abbrev pub shows : SelectList → Column → Bool
+shows Star c = true
+shows CountAll c = false
+shows (Items items) c = list_any (is_column_item c) items
+
+-- the list shows it, or a condition is on it
+abbrev pub reads : SelectList → List Cond → Column → Bool
+reads list conds c = shows list c || is_named (cond_columns conds) c
+
+-- the columns of texts, each once, that a list shows; and those that a SELECT reads of a row
+abbrev pub shown_texts : SelectList → List Column → List ℕ
+shown_texts list columns = text_places (shows list) columns
+
+abbrev pub read_texts : SelectList → List Cond → List Column → List ℕ
+read_texts list conds columns = text_places (reads list conds) columns
+
+-- ---- what a SELECT with a search may look up
+
+-- it looks for the index among the entries of all indexes, and looks up no text for that
+abbrev pub index_looks : Content → Counts
+index_looks c = record (scan_looks (code kind.Indexes ∷ []) c) { texts = 0 }
+
+-- where it isn't refused: so many texts for each row that the search finds, and the rows of postings that the search looks at
+abbrev pub found_looks : Content → StoreState → List ℕ → Table → SelectList → Search → List Cond → Counts
+found_looks c m t x list s conds =
+    record (plus (index_looks c) (looks_in c (named_index m t x.columns s) s)) { texts = length (found_rows m t x (Some s)) * length (read_texts list conds x.columns) }
+
+abbrev pub table_looks : Content → StoreState → List ℕ → Option Table → SelectList → Search → List Cond → Counts
+table_looks c m t None list s conds = no_looks
+table_looks c m t (Some x) list s conds = found_looks c m t x list s conds
+
+-- where it is refused, the search for the index alone
+abbrev pub looks_by : Effect → Counts → Counts → Counts
+looks_by (Refused refusal) least most = least
+looks_by (Does m reply) least most = most
+
+-- WHAT A SELECT WITH A SEARCH MAY LOOK UP, where this is what it does
+abbrev pub select_looks : Effect → Content → StoreState → SelectList → List ℕ → List Pred → Search → Counts
+select_looks effect c m list t preds s = looks_by effect (index_looks c) (table_looks c m t (get m.tables t) list s (conds_in preds))
+
+-- It looked up no more than that, if it has a search; else nothing is said.
+abbrev pub LooksFew : Effect → Content → StoreState → SelectList → List ℕ → List Pred → Option Search → Counts → Counts → Type 0
+LooksFew effect c m list t preds None old new = Unit {0}
+LooksFew effect c m list t preds (Some s) old new = RisesBy (select_looks effect c m list t preds s) old new
+
+-- The same of a table with these columns, while so many of the texts are left.
+abbrev pub LooksFewLeaving : Content → StoreState → List ℕ → Table → SelectList → Option Search → List Cond → ℕ → Counts → Counts → Type 0
+LooksFewLeaving c m t x list None conds left old new = Unit {0}
+LooksFewLeaving c m t x list (Some s) conds left old new =
+    RisesLeaving (looks_by (select_rows m t x list (Some s) conds) (index_looks c) (found_looks c m t x list s conds)) left old new
+
+-- ---- what calls promise, over each state that the content stands for
+
+-- over the table of this name, where these are its columns
+abbrev pub LooksFewOver : {K : Type 0} → (K → KeeperView) → K → K → List ℕ → List Column → SelectList → Option Search → List Cond → ℕ → Type 0
+LooksFewOver view old new t columns list search conds left =
+    OverNamedTable view old t (λ m c x. x.columns ≡ columns → LooksFewLeaving c m t x list search conds left (view old).counts (view new).counts)
+
+-- while the texts that are left of the rows that it found are still to be shown
+abbrev pub FindsFew : {K : Type 0} → (K → KeeperView) → K → K → List ℕ → List Column → SelectList → Option Search → List Cond → Result Selected KeepFault → Type 0
+FindsFew view old new t columns list search conds result = LooksFewOver view old new t columns list search conds (left_by (selected_left (shown_texts list columns)) result)
+
+-- A SELECT LOOKS UP NO MORE THAN IT MAY.
+abbrev pub SelectsFew : {K : Type 0} → (K → KeeperView) → K → K → (StoreState → SelectList → List ℕ → List Pred → Effect) → SelectList → List ℕ → List Pred → Type 0
+SelectsFew view old new effect list t preds = OverStates view old (λ m c. LooksFew (effect m list t preds) c m list t preds (search_in preds) (view old).counts (view new).counts)
+
+-- ---- computed examples: of the columns id, body (a CLOB) and price of `docs`
+
+all_of_them : read_texts Star [] docs_columns ≡ 1 ∷ []
+all_of_them = refl
+
+-- SELECT body, id, body .. WHERE body < 7
+named_thrice : read_texts (Items (ColumnItem (codes "body") ∷ ColumnItem (codes "id") ∷ ColumnItem (codes "body") ∷ [])) (below_seven (codes "body") ∷ []) docs_columns ≡ 1 ∷ []
+named_thrice = refl
+
+a_count_reads_no_more : read_texts CountAll (below_seven (codes "id") ∷ []) docs_columns ≡ []
+a_count_reads_no_more = refl
+
+and_what_its_conditions_are_on : read_texts CountAll (below_seven (codes "body") ∷ []) docs_columns ≡ 1 ∷ []
+and_what_its_conditions_are_on = refl
+
+no_text_where_it_is_refused : (c : Content) (most : Counts) → (looks_by (Refused WrongValues) (index_looks c) most).texts ≡ 0
+no_text_where_it_is_refused c most = refl
