@@ -1,6 +1,7 @@
--- Laws of what this crate defines, and those that every crate needs of truth values, options, lists and orders, where the standard library has none.
+-- Laws of what this crate defines, and those that every crate needs of truth values, options, results, lists and orders, where the standard library has none.
 pub mod Bools
 pub mod Options
+pub mod Results
 pub mod Lists
 pub mod Orders
 pub mod SortedMaps

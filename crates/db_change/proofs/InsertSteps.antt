@@ -1,8 +1,9 @@
 -- What the checks of an INSERT leave of its effect.
 use Rattle.std.proofs.Common.{◌≡◌, ℕ, ℤ, Bool, true, false, List, [], length, Option, Some, None, refl, sym, ap, ◌∙◌}
-use Rattle.std.specs.Prelude.{nat_le, not}
+use Rattle.std.specs.Prelude.{nat_le}
 use Rattle.std.specs.List.{list_any}
 use Rattle.std.specs.FinMap.{get, entries}
+use Rattle.ct_base.specs.laws.Bools.{not_false}
 use Rattle.ct_base.specs.Limits.{row_limit}
 use Rattle.st_parse.specs.declared.statements.Operand.{Operand}
 use Rattle.tb_table.specs.declared.columns.Column.{Column}
@@ -25,10 +26,6 @@ refuse_passed false refusal effect m h = (refl, h)
 pub refuse_by_passed : {X : Type 0} (o : Option X) (refusal : X → Refusal) (effect : Effect) (m : StoreState) → refuse_by o refusal effect ≡ Does m [] → (o ≡ None) × (effect ≡ Does m [])
 refuse_by_passed None refusal effect m h = (refl, h)
 refuse_by_passed (Some x) refusal effect m h = cc
-
-pub not_false : (b : Bool) → not b ≡ false → b ≡ true
-not_false true h = refl
-not_false false h = cc
 
 not_taken : (taken : Bool) (r : ℤ) → taken_key taken (Some r) ≡ None → taken ≡ false
 not_taken true r h = cc

@@ -4,6 +4,7 @@ use Rattle.std.specs.Prelude.{not, ◌||◌}
 use Rattle.std.specs.List.{list_any, list_all, All}
 use Rattle.std.specs.FinMap.{get}
 use Rattle.std.proofs.lemmas.Bool.{or_parts as or_false}
+use Rattle.ct_base.specs.laws.Bools.{not_false}
 use Rattle.ct_keep.specs.Content.{Content, after}
 use Rattle.ct_entry.specs.Changes.{spell}
 use Rattle.st_parse.specs.declared.statements.Assign.{Assign}
@@ -29,7 +30,7 @@ use Rattle.db_change.specs.laws.SetIndexes.{named_on_columns, own_heads_set}
 use Rattle.db_change.specs.laws.ChangedRows.{changed_rows_stand}
 use Rattle.db_change.specs.laws.MetRows.{met_apart, met_there}
 use Rattle.db_change.proofs.AssignSteps.{set_values_fit}
-use Rattle.db_change.proofs.InsertSteps.{refuse_by_passed, not_false}
+use Rattle.db_change.proofs.InsertSteps.{refuse_by_passed}
 
 -- ---- the checks
 

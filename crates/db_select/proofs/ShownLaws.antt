@@ -1,11 +1,10 @@
 -- The texts that a list shows are of columns that it shows.
-use Rattle.std.proofs.Common.{◌≡◌, ◌<◌, ◌+◌, ℕ, suc, Bool, true, false, cond, List, [], ◌∷◌, ◌++◌, length, get_or, drop, map, refl, sym, ap, subst, ◌∙◌, add-one, append_assoc}
+use Rattle.std.proofs.Common.{◌≡◌, ◌<◌, ◌+◌, ℕ, suc, Bool, true, false, cond, List, [], ◌∷◌, ◌++◌, length, get_or, drop, map, refl, sym, ap, ◌∙◌, add-one, append_assoc}
 use Rattle.std.specs.Prelude.{◌&&◌}
 use Rattle.std.specs.List.{list_any}
 use Rattle.std.proofs.lemmas.Bool.{and_from}
 use Rattle.ct_base.specs.laws.Lists.{drop_next}
 use Rattle.ct_entry.specs.Keys.{same_list}
-use Rattle.ct_entry.specs.laws.Keys.{list_from_same, list_same}
 use Rattle.st_parse.specs.declared.statements.Cond.{Cond}
 use Rattle.st_parse.specs.declared.statements.Item.{Item}
 use Rattle.st_parse.specs.declared.statements.Item.TheVariants.{Column as ColumnItem, Score as ScoreItem}
@@ -13,7 +12,7 @@ use Rattle.st_parse.specs.declared.statements.SelectList.{SelectList}
 use Rattle.st_parse.specs.declared.statements.SelectList.TheVariants.{Star, CountAll, Items}
 use Rattle.tb_table.specs.declared.columns.Column.{Column}
 use Rattle.db_rows.specs.Texts.{HasFewerLeft, conds_among, is_of_texts, places_from, text_places}
-use Rattle.db_rows.specs.laws.Texts.{conds_named, either_first, either_second, fewer_places, named_among}
+use Rattle.db_rows.specs.laws.Texts.{conds_named, either_first, either_second, fewer_places, named_among, same_list_back}
 use Rattle.db_select.specs.Fields.{fields_among}
 use Rattle.db_select.specs.Looking.{is_column_item, read_texts, reads, shown_texts, shows}
 use Rattle.db_select.specs.Sources.{column_source, field_source}
@@ -29,15 +28,12 @@ all_shown list columns star [] = refl
 all_shown list columns star (c ∷ cs) =
     and_from _ _ (named_among (shows list) columns c.name (λ d same. shows_all list star d)) (all_shown list columns star cs)
 
-turned : (xs ys : List ℕ) → same_list xs ys ≡ true → same_list ys xs ≡ true
-turned xs ys same = subst (λ (zs : List ℕ). same_list zs xs ≡ true) (list_from_same xs ys same) (list_same xs)
-
 -- and else those of the items
 among_items : (test : Column → Bool) (columns : List Column) (items : List Item) → ((c : Column) → list_any (is_column_item c) items ≡ true → test c ≡ true)
     → fields_among (text_places test columns) (map (field_source columns) items) ≡ true
 among_items test columns [] each = refl
 among_items test columns (ColumnItem name ∷ items) each =
-    and_from _ _ (named_among test columns name (λ c same. each c (either_first _ _ (turned name c.name same))))
+    and_from _ _ (named_among test columns name (λ c same. each c (either_first _ _ (same_list_back name c.name same))))
     (among_items test columns items (λ c is. each c (either_second (same_list c.name name) _ is)))
 among_items test columns (ScoreItem label ∷ items) each = among_items test columns items each
 

@@ -1,6 +1,5 @@
 -- Steps of gathering postings, and of putting what was gathered.
 use Rattle.std.proofs.Common.{◌≡◌, ℕ, ℤ, ◌+◌, ◌-◌, ◌≤◌, ◌<◌, ◌^◌, List, ◌++◌, length, map, Option, sym, ap, ◌∙◌, append_assoc, arith}
-use Rattle.std.specs.Prelude.{Result, Ok, Err, OnOk}
 use Rattle.std.proofs.lemmas.List.{length-map}
 use Rattle.ct_base.specs.declared.numbers.RowKey.{RowKey}
 use Rattle.ct_entry.specs.Keys.{Key}
@@ -11,11 +10,6 @@ use Rattle.ix_context.specs.Documents.{postings_by}
 use Rattle.ix_context.specs.Changes.{postings_changes}
 use Rattle.ix_context.specs.Gathering.{IndexRowsView, texts_gathered, gathering_changes}
 use Rattle.ix_context.specs.laws.Gathered.{gathered_postings}
-
--- what follows from what holds unless the call failed
-pub on_ok : {T E : Type 0} (r : Result T E) (P Q : Type 0) → (P → Q) → OnOk r P → OnOk r Q
-on_ok (Ok x) P Q follows h = follows h
-on_ok (Err e) P Q follows h = tt
 
 -- changes were added, and others behind them
 pub added_both : (old mid new : List (List ℕ × Option (List ℕ))) (xs ys zs : List (Key × Option (List ℕ))) → mid ≡ old ++ spell xs → new ≡ mid ++ spell ys → ys ≡ zs → new ≡ old ++ spell (xs ++ zs)

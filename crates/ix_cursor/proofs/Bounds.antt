@@ -4,6 +4,7 @@ use Rattle.std.specs.Bool.{if◌then◌else◌}
 use Rattle.std.specs.List.{list_any, list_all}
 use Rattle.std.proofs.Math.Bool.{or_assoc}
 use Rattle.std.proofs.lemmas.Bool.{cases_lt, and_left, and_right, and_from, or_from, or_left, or_right}
+use Rattle.ct_base.specs.laws.Bools.{or_false, and_assoc}
 use Rattle.ix_posting.specs.Rows.{WordDocument}
 use Rattle.q_tree.specs.Documents.{put_position, put_all}
 use Rattle.ix_lists.specs.Documents.{places_at}
@@ -54,21 +55,13 @@ all_first f zero xs = true
 all_first f (suc i) [] = true
 all_first f (suc i) (x ∷ xs) = f x && all_first f i xs
 
-or_nothing : (b : Bool) → (b || false) ≡ b
-or_nothing true = refl
-or_nothing false = refl
-
 and_nothing : (b : Bool) → (b && true) ≡ b
 and_nothing true = refl
 and_nothing false = refl
 
-and_order : (a b c : Bool) → (a && (b && c)) ≡ ((a && b) && c)
-and_order true b c = refl
-and_order false b c = refl
-
 any_suc : {X : Type 0} (f : X → Bool) (xs : List X) (i : ℕ) (x : X) → i < length xs → any_first f (suc i) (set xs i x) ≡ (any_first f i xs || f x)
 any_suc f [] i x few = absurd (omega (arith, few))
-any_suc f (y ∷ xs) zero x few = or_nothing (f x)
+any_suc f (y ∷ xs) zero x few = or_false (f x)
 any_suc f (y ∷ xs) (suc i) x few = ap (λ b. f y || b) (any_suc f xs i x (omega (arith, few))) ∙ sym (or_assoc (f y) (any_first f i xs) (f x))
 
 any_next : {X : Type 0} (f : X → Bool) (xs : List X) (i : ℕ) (x : X) → i < length xs → any_first f (i + 1) (set xs i x) ≡ (any_first f i xs || f x)
@@ -77,7 +70,7 @@ any_next f xs i x few = ap (λ n. any_first f n (set xs i x)) (add-one i) ∙ an
 all_suc : {X : Type 0} (f : X → Bool) (xs : List X) (i : ℕ) (x : X) → i < length xs → all_first f (suc i) (set xs i x) ≡ (all_first f i xs && f x)
 all_suc f [] i x few = absurd (omega (arith, few))
 all_suc f (y ∷ xs) zero x few = and_nothing (f x)
-all_suc f (y ∷ xs) (suc i) x few = ap (λ b. f y && b) (all_suc f xs i x (omega (arith, few))) ∙ and_order (f y) (all_first f i xs) (f x)
+all_suc f (y ∷ xs) (suc i) x few = ap (λ b. f y && b) (all_suc f xs i x (omega (arith, few))) ∙ and_assoc (f y) (all_first f i xs) (f x)
 
 all_next : {X : Type 0} (f : X → Bool) (xs : List X) (i : ℕ) (x : X) → i < length xs → all_first f (i + 1) (set xs i x) ≡ (all_first f i xs && f x)
 all_next f xs i x few = ap (λ n. all_first f n (set xs i x)) (add-one i) ∙ all_suc f xs i x few

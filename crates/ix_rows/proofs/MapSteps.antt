@@ -1,6 +1,6 @@
 -- Rows of terms in memory, against the finite map that they are.
 use Rattle.std.proofs.Common.{◌≡◌, ℕ, List, Option, Some, None, Vec, refl, sym, ap, ◌∙◌}
-use Rattle.std.specs.Prelude.{is_some, Result, Ok, Err, OnOk}
+use Rattle.std.specs.Prelude.{is_some}
 use Rattle.std.specs.Option.{option_map}
 use Rattle.std.specs.declared.alloc.Global.{Global}
 use Rattle.std.specs.Ordering.{nat_cmp}
@@ -15,11 +15,6 @@ use Rattle.ct_keep.specs.Pairs.{byte_order}
 use Rattle.ct_base.specs.laws.SortedMaps.{entries-seen, seen-insert, lookup-seen, seen-set_value}
 use Rattle.ix_rows.specs.Growing.{Growing, with_grown_document}
 use Rattle.ix_rows.specs.RowMaps.{TermRowsView, VecRows, or_nothing, with_posting, row_map_of, seen_terms}
-
--- what holds of a call that went well, by what is known of it
-pub on_ok : {T E : Type 0} (r : Result T E) (P Q : Type 0) → (P → Q) → OnOk r P → OnOk r Q
-on_ok (Ok x) P Q f h = f h
-on_ok (Err e) P Q f h = tt
 
 abbrev term_of : Vec ℕ Global → List ℕ
 term_of t = t.items

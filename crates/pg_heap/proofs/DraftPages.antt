@@ -2,11 +2,11 @@
 use Rattle.std.specs.Prelude.{Bool, true, false, ◌==◌, slice_index}
 use Rattle.std.specs.List.{Contains}
 use Rattle.std.specs.List.Sorted.{IsStrictlyIncreasing}
-use Rattle.std.specs.Int.{to_be_bytes, w32}
 use Rattle.std.proofs.Common.{◌≤◌, ◌<◌, ◌≡◌, inl, inr, ℕ, zero, suc, ◌+◌, ◌-◌, List, [], ◌∷◌, length, get_or, map, refl, sym, ap, subst, ◌∙◌, length-append, arith}
 use Rattle.std.proofs.lemmas.Bool.{cases_eq}
 use Rattle.std.proofs.lemmas.Bool.Decides.{nat_tests}
 use Rattle.std.proofs.lemmas.List.Elements.{at_from_Contains}
+use Rattle.pg_journal.specs.laws.PageRuns.{length-root}
 use Rattle.ct_base.specs.Zeros.{zeros}
 use Rattle.ct_base.specs.laws.Zeros.{length-zeros}
 use Rattle.pg_journal.specs.BatchStates.{numbers_in, image_at}
@@ -69,13 +69,9 @@ length_of_kind Free good = length-zeros 4096
 length_of_kind (Slotted ss) good = length-page ss good
 length_of_kind (Long next bytes) good = omega (arith, good.2, length-append bytes (zeros (4088 - length bytes)), length-zeros (4088 - length bytes))
 
-length_of_root : (homes : ℕ) → length (root_page homes) ≡ 4096
-unfolding root_page
-length_of_root homes = omega (arith, length-append (to_be_bytes w32 homes) (zeros 4088), length-zeros 4088)
-
 length_of_home : (ks : List Kind) (n : ℕ) → Each IsKind ks → 2 ≤ n → n < 3 + length ks → length (home (behind_root ks) n) ≡ 4096
 length_of_home ks n good low high = elim (cases_eq n 2) [
-  | inl is ↦ ap (λ (m : ℕ). length (home (behind_root ks) m)) is ∙ length_of_root (3 + length ks)
+  | inl is ↦ ap (λ (m : ℕ). length (home (behind_root ks) m)) is ∙ length-root (3 + length ks)
   | inr other ↦
       let e : n ≡ 3 + (n - 3) = omega (arith, low, other) in
       ap (λ (m : ℕ). length (home (behind_root ks) m)) e ∙ ap (λ (l : List ℕ). length l) (home_of ks (n - 3) (omega (arith, low, other, high)))

@@ -14,7 +14,7 @@ use Rattle.ct_base.specs.Zeros.{zeros}
 use Rattle.pg_journal.specs.Recovered.{IsUnborn, IsRecovered, gate, mark, first_pages}
 use Rattle.pg_journal.specs.Births.{born, IsCleared}
 use Rattle.pg_journal.specs.Standing.{IsShut, DiskStands}
-use Rattle.pg_journal.specs.laws.PageRuns.{root_homes}
+use Rattle.pg_journal.specs.laws.PageRuns.{root_homes, length-root}
 use Rattle.ct_site.specs.Writing.{Writes}
 use Rattle.ct_site.specs.laws.Writing.{writes_keep}
 use Rattle.ct_site.specs.laws.Ranges.{torn_before}
@@ -24,10 +24,6 @@ use Rattle.ct_base.specs.laws.Zeros.{zeros-add}
 pub length-mark : length mark ≡ 4095
 unfolding mark
 length-mark = omega (arith, length-append (codes "CTXSTORE") (zeros 4087), length-replicate {A = ℕ} 4087 0)
-
-pub length-root : (h : ℕ) → length (root_page h) ≡ 4096
-unfolding root_page
-length-root h = omega (arith, length-append (to_be_bytes w32 h) (zeros 4088), length-replicate {A = ℕ} 4088 0)
 
 pub length-born : length born ≡ 12287
 unfolding born

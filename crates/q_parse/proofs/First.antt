@@ -20,6 +20,7 @@ use Rattle.std.proofs.Common.{take, drop, take-append-drop, take_all, get_or, is
 use Rattle.std.proofs.lemmas.Bool.{or_parts}
 use Rattle.std.proofs.lemmas.List.{take_more}
 use Rattle.std.proofs.Math.Seq.{take-length}
+use Rattle.ct_base.specs.laws.Bools.{and_weaker}
 use Rattle.q_parse.specs.declared.faults.Cause.TheVariants.{OutOfRange, NotInProfile, Syntax}
 use Rattle.q_lex.specs.Words.{is_foreign, is_plain, plain_is, in_range, whole, tenths}
 use Rattle.q_parse.specs.Grammar.{BeginsQuery, IsFirstBad, GoesOn}
@@ -93,10 +94,6 @@ or-more : (x y z : Bool) → (y ≡ true → z ≡ true) → (x || y) ≡ true �
 or-more true y z f e = refl
 or-more false y z f e = f e
 
-and-more : (x y z : Bool) → (y ≡ true → z ≡ true) → (x && y) ≡ true → (x && z) ≡ true
-and-more true y z f e = f e
-and-more false y z f e = e
-
 and-both : (x y z u : Bool) → (x ≡ true → z ≡ true) → (y ≡ true → u ≡ true) → (x && y) ≡ true → (z && u) ≡ true
 and-both true y z u f g e = rw (f refl, g e) refl
 and-both false y z u f g e = cc
@@ -113,7 +110,7 @@ module _ (r : GrammarRules) where
   whole-lift lo hi w e = or-lift (plain_is (λ cs. in_range lo hi (whole cs)) w.plain) (is_plain w) (not r.numbers && is_plain w) e
 
   level-lift : (w : Written) → takes_level strict w ≡ true → takes_level r w ≡ true
-  level-lift w e = and-more (not (is_name w)) (takes_whole strict 1 99 w) (takes_whole r 1 99 w) (whole-lift 1 99 w) e
+  level-lift w e = and_weaker (not (is_name w)) (takes_whole strict 1 99 w) (takes_whole r 1 99 w) (whole-lift 1 99 w) e
 
   atom-lift : (w : Written) → takes_atom strict w ≡ true → takes_atom r w ≡ true
   atom-lift w e = or-more (says (codes "discrete") w) _ _
@@ -174,7 +171,7 @@ module _ (r : GrammarRules) where
   lift (InPhrase ss) fs Equiv s e = e
   lift (InPhrase ss) fs l s e = after-lift (with_leaf (Phrase ss) fs).stage (with_leaf (Phrase ss) fs).frames l s e
   lift (ThesArgument relation ws) fs (Word w) s e =
-      argument-lift (is_name w) _ _ (has_level relation && takes_level strict w) (has_level relation && takes_level r w) s (and-more (has_level relation) (takes_level strict w) (takes_level r w) (level-lift w)) e
+      argument-lift (is_name w) _ _ (has_level relation && takes_level strict w) (has_level relation && takes_level r w) s (and_weaker (has_level relation) (takes_level strict w) (takes_level r w) (level-lift w)) e
   lift (AfterChain ops) fs l s e = chain-lift ops fs l s e
   lift AfterTerms fs l s e = terms-lift fs l s e
   lift (Factor t) fs (Word w) s e = if-lift (takes_tenths strict w) (takes_tenths r w) _ s (tenths-lift w) e

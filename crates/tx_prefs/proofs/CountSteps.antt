@@ -1,12 +1,11 @@
 -- Whether there is one of a name, and how many there are, by the entries.
-use Rattle.std.proofs.Common.{◌≡◌, ℕ, Bool, List, [], ◌∷◌, length, Option, Some, None, refl, sym, ap, ◌∙◌, arith}
-use Rattle.std.specs.Prelude.{is_some, sum_by}
+use Rattle.std.proofs.Common.{◌≡◌, ℕ, Bool, List, [], length, Option, Some, None, refl, sym, ap, ◌∙◌, arith}
+use Rattle.std.specs.Prelude.{is_some}
 use Rattle.std.specs.Option.{option_map, option_and_then}
 use Rattle.std.specs.FinMap.{get, entries, IsAntisymmetric, nat_cmp-IsAntisymmetric, slice_cmp-IsAntisymmetric}
 use Rattle.std.proofs.lemmas.Cmp.{nat_list_cmp_total}
 use Rattle.std.proofs.lemmas.List.{length-map}
-use Rattle.std.proofs.lemmas.List.Sums.{sum_by-cons}
-use Rattle.ct_base.specs.laws.Lists.{cons_parts}
+use Rattle.ct_base.specs.laws.Lists.{cons_parts, each_counts}
 use Rattle.ct_base.specs.laws.Options.{is_some-option_map}
 use Rattle.ct_keep.specs.Content.{Content}
 use Rattle.ct_entry.specs.declared.kinds.Kind.{Kind}
@@ -34,10 +33,6 @@ named_there f ps Stoplist name stand = ap is_some (stand.stoplists name) ∙ is_
 named_there f ps SectionGroup name stand = ap is_some (stand.groups name) ∙ is_some-option_map group_bytes (get ps.groups name)
 
 -- ---- how many there are
-
-each_counts : {A : Type 0} (xs : List A) → sum_by (λ _. 1) xs ≡ length xs
-each_counts [] = refl
-each_counts {A} (x ∷ xs) = let c = sum_by-cons (λ (_ : A). 1) x xs in let rest = each_counts xs in omega (arith, c, rest)
 
 order_antisymm : IsAntisymmetric key_order
 order_antisymm = λ a b e. (cons_parts _ _ _ _ (slice_cmp-IsAntisymmetric nat_cmp-IsAntisymmetric (counted_bytes a) (counted_bytes b) e)).1

@@ -1,5 +1,4 @@
 pub mod AttributeSteps
-pub mod Found
 pub mod WordSteps
 pub mod SettingSteps
 pub mod GroupSteps

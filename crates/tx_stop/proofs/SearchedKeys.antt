@@ -5,13 +5,14 @@ use Rattle.std.specs.Result.{is_ok, IfErr, MatchResult}
 use Rattle.std.specs.Str.{bytes_eq}
 use Rattle.std.specs.declared.cmp.Ordering.{Ordering}
 use Rattle.std.specs.declared.cmp.Ordering.TheVariants.{Less, Equal, Greater}
-use Rattle.std.specs.Ordering.{nat_cmp, is_lt, is_eq, ordering_reverse}
+use Rattle.std.specs.Ordering.{nat_cmp, is_lt, is_eq}
 use Rattle.std.specs.Cmp.Lexicographic.{slice_cmp}
 use Rattle.std.specs.List.Sorted.{IsBinarySearchResult, IsSortedBy}
 use Rattle.std.proofs.lemmas.Bool.{and_parts}
 use Rattle.std.proofs.lemmas.Cmp.{nat_list_cmp_total}
 use Rattle.std.proofs.lemmas.List.Sorted.{searchable_from_sorted}
 use Rattle.std.proofs.lemmas.Map.Text.{is_eq-slice_cmp}
+use Rattle.ct_base.specs.laws.Orders.{not_back}
 use Rattle.tx_stop.specs.StopKeys.{is_stop, key_place, keys_rise}
 use Rattle.tx_stop.specs.laws.RisingKeys.{lt}
 
@@ -19,11 +20,6 @@ abbrev cmp : List ℕ → List ℕ → Ordering
 cmp k l = slice_cmp nat_cmp k l
 
 -- ---- rising keys are sorted
-
-not_back : (o p : Ordering) → p ≡ ordering_reverse o → is_lt o ≡ true → is_lt p ≡ false
-not_back Less p e h = ap is_lt e
-not_back Equal p e h = cc
-not_back Greater p e h = cc
 
 in_order : (ks : List (List ℕ)) (i : ℕ) (d : List ℕ) → keys_rise ks ≡ true → i + 1 < length ks → lt (get_or ks (suc i) d) (get_or ks i d) ≡ false
 in_order [] i d h within = absurd (omega (arith, within))

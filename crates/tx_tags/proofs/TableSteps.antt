@@ -1,5 +1,5 @@
 -- One tag more in a table.
-use Rattle.std.proofs.Common.{◌≡◌, ◌+◌, ◌++◌, ◌-◌, ◌≤◌, ℕ, Bool, true, false, cond, List, [], ◌∷◌, length, length-append, get_or, take, drop, Option, Some, None, String, refl, sym, ap, ◌∙◌, arith}
+use Rattle.std.proofs.Common.{◌≡◌, ◌+◌, ◌++◌, ◌-◌, ℕ, Bool, true, false, cond, List, ◌∷◌, length, length-append, Option, Some, None, String, refl, sym, ap, ◌∙◌, arith}
 use Rattle.std.specs.declared.alloc.Global.{Global}
 use Rattle.std.specs.Option.{option_map, is_some}
 use Rattle.std.specs.String.{string_bytes, string_cmp}
@@ -8,7 +8,6 @@ use Rattle.std.specs.BTreeMap.{BTreeMap, Updates, get_by_text}
 use Rattle.std.proofs.lemmas.Map.Text.{btree_map_updates_text}
 use Rattle.std.proofs.lemmas.Slice.Eq.{bytes_eq-Decides}
 use Rattle.tx_tags.specs.declared.tables.TagPlace.{TagPlace}
-use Rattle.std.proofs.Math.Seq.{take-length}
 use Rattle.tx_tags.specs.declared.groups.Section.{Section}
 use Rattle.tx_tags.specs.Groups.{tag_names}
 use Rattle.tx_tags.specs.Tags.{GroupTag, group_tags, tag_named}
@@ -33,10 +32,6 @@ found_more tag section n k p old new name is parts none put =
     ∙ ap (λ (x : List ℕ × ℕ). either_tag (tag_in_table name old) (cond (bytes_eq tag name) (Some x) None)) parts
 
 -- ---- the tags of a list of sections, one section after the other
-
-pub first_of : {A : Type 0} (xs : List A) (x : A) → 1 ≤ length xs → x ≡ get_or xs 0 x → xs ≡ x ∷ take (length xs - 1) (drop 1 xs)
-first_of [] x h is = absurd (omega (arith, h))
-first_of (y ∷ ys) x h is = let n : length (y ∷ ys) - 1 ≡ length ys = omega arith in rw n (ap (λ z. z ∷ ys) (sym is) ∙ ap (λ zs. x ∷ zs) (sym (take-length ys)))
 
 pub sections-count : (ss later : List Section) (s : Section) (n k all : ℕ) → ss ≡ s ∷ later → k ≡ length s.tags → n + length (tag_names ss) ≡ all → (n + k) + length (tag_names later) ≡ all
 sections-count ss later s n k all split long so_far =

@@ -1,5 +1,5 @@
 -- Truth values.
-use Rattle.std.specs.Prelude.{◌≡◌, ◌&&◌, ◌||◌, Bool, true, false, refl, T}
+use Rattle.std.specs.Prelude.{◌≡◌, ◌&&◌, ◌||◌, Bool, true, false, not, refl, T}
 use Rattle.std.proofs.Common.{sym, subst}
 
 -- two tests that hold in the same cases are one
@@ -35,3 +35,24 @@ pub or_swap : (a b c : Bool) → (a || (b || c)) ≡ (b || (a || c))
 or_swap true true c = refl
 or_swap true false c = refl
 or_swap false b c = refl
+
+pub or_false : (a : Bool) → (a || false) ≡ a
+or_false true = refl
+or_false false = refl
+
+pub or_twice : (a b : Bool) → (a || b) ≡ (a || (a || b))
+or_twice true b = refl
+or_twice false b = refl
+
+pub and_assoc : (a b c : Bool) → (a && (b && c)) ≡ ((a && b) && c)
+and_assoc true b c = refl
+and_assoc false b c = refl
+
+-- two tests hold, of which the second is now a weaker one
+pub and_weaker : (a b c : Bool) → (b ≡ true → c ≡ true) → (a && b) ≡ true → (a && c) ≡ true
+and_weaker true b c weaker is = weaker is
+and_weaker false b c weaker is = is
+
+pub not_false : (a : Bool) → not a ≡ false → a ≡ true
+not_false true is = refl
+not_false false is = sym is

@@ -1,9 +1,11 @@
 -- Lists.
 use Rattle.std.proofs.Common.{◌≡◌, ◌<◌, ◌+◌, ℕ, zero, suc, Bool, true, false, List, [], ◌∷◌, ◌++◌, length, take, drop, get_or, map, refl, sym, ap, ◌∙◌, arith}
-use Rattle.std.specs.Prelude.{nat_eq, filter}
+use Rattle.std.specs.Prelude.{nat_eq, filter, sum_by, ◌≤◌, ◌-◌}
 use Rattle.std.specs.Cmp.Lexicographic.{pointwise}
 use Rattle.std.proofs.lemmas.Bool.{eq-eqb, and_from}
 use Rattle.std.proofs.lemmas.List.{take_at, drop_at}
+use Rattle.std.proofs.lemmas.List.Sums.{sum_by-cons}
+use Rattle.std.proofs.Math.Seq.{take-length}
 
 module _ {X : Type 0} where
   -- equal lists have equal heads and equal rests
@@ -24,6 +26,16 @@ module _ {X : Type 0} where
   drop_next (y ∷ ys) (suc i) x within is =
       let next : suc (i + 1) ≡ suc i + 1 = omega arith in
       drop_next ys i x (omega (arith, within)) is ∙ ap (λ (n : ℕ). x ∷ drop n (y ∷ ys)) next
+
+  -- a list by its first element and the others
+  pub first_of : (xs : List X) (x : X) → 1 ≤ length xs → x ≡ get_or xs 0 x → xs ≡ x ∷ take (length xs - 1) (drop 1 xs)
+  first_of [] x some is = absurd (omega (arith, some))
+  first_of (y ∷ ys) x some is = let n : length (y ∷ ys) - 1 ≡ length ys = omega arith in rw n (ap (λ (z : X). z ∷ ys) (sym is) ∙ ap (λ (zs : List X). x ∷ zs) (sym (take-length ys)))
+
+  -- one for each element
+  pub each_counts : (xs : List X) → sum_by (λ _. 1) xs ≡ length xs
+  each_counts [] = refl
+  each_counts (x ∷ xs) = let c = sum_by-cons (λ (_ : X). 1) x xs in let rest = each_counts xs in omega (arith, c, rest)
 
 module _ {X Y : Type 0} where
   -- those whose image passes a test, mapped, are the images that pass it

@@ -23,6 +23,10 @@ module _ {X : Type 0} where
   pub match_none : (o : Option X) (N : Type 0) (S : X → Type 0) → o ≡ None → MatchOption o N S → N
   match_none o N S none m = subst (λ (o : Option X). MatchOption o N S) none m
 
+  -- what is said of a value, where there is one
+  pub match_some : (o : Option X) (N : Type 0) (S : X → Type 0) (x : X) → o ≡ Some x → MatchOption o N S → S x
+  match_some o N S x is m = subst (λ (o : Option X). MatchOption o N S) is m
+
   -- what holds anyway holds where there is none
   pub if_none : (o : Option X) (P : Type 0) → P → IfNone o P
   if_none None P p = p

@@ -8,6 +8,7 @@ use Rattle.std.specs.Cmp.Lexicographic.{slice_cmp}
 use Rattle.std.specs.FinMap.{get, insert, entries, find, get-entries}
 use Rattle.std.proofs.lemmas.Bool.{leb-true, leb-false, le-ltb, eq-eqb, and_from, or_parts as either}
 use Rattle.std.proofs.lemmas.Cmp.{nat_list_cmp_total}
+use Rattle.ct_base.specs.laws.Bools.{not_false}
 use Rattle.ct_keep.specs.Content.{Content, after}
 use Rattle.ct_base.specs.Names.{IsName}
 use Rattle.ct_entry.specs.Keys.{Key, at, same_list, IsRow}
@@ -47,10 +48,6 @@ use Rattle.ix_context.specs.laws.ContextCreates.{context_laws}
 use Rattle.ix_context.specs.Spelling.{is_of_context}
 
 -- ---- the state after a synchronisation
-
-not_false : (b : Bool) → not b ≡ false → b ≡ true
-not_false true h = refl
-not_false false h = cc
 
 room_left : (x : Index) → has_too_many x ≡ false → kinds.can_sync x ≡ true
 room_left x h = not_false (kinds.can_sync x) h

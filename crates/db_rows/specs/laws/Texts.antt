@@ -4,6 +4,7 @@ use Rattle.std.specs.Prelude.{◌&&◌, ◌||◌, nat_lt, filter}
 use Rattle.std.specs.List.{list_all}
 use Rattle.std.proofs.lemmas.Bool.{and_from, both_ways, true_from_ne_false}
 use Rattle.std.proofs.lemmas.List.Folds.{list_all_at}
+use Rattle.ct_base.specs.laws.Bools.{and_weaker}
 use Rattle.ct_keep.specs.KeeperViews.{Counts}
 use Rattle.ct_keep.specs.Looks.{RisesBy}
 use Rattle.ct_entry.specs.Keys.{same_list}
@@ -105,14 +106,10 @@ fewer_from test p q weaker place [] = omega arith
 fewer_from test p q weaker place (c ∷ cs) =
     longer_by test place (places_from (suc place) p cs) (places_from (suc place) q cs) (fewer_from test p q weaker (suc place) cs) (p c) (q c) (weaker c)
 
-both_weaker : (a b c : Bool) → (b ≡ true → c ≡ true) → (a && b) ≡ true → (a && c) ≡ true
-both_weaker true b c weaker is = weaker is
-both_weaker false b c weaker is = is
-
 -- where one test follows from another, no more texts are left of the columns that pass it
 pub fewer_places : (p q : Column → Bool) → ((c : Column) → p c ≡ true → q c ≡ true) → (columns : List Column) → HasFewerLeft (text_places p columns) (text_places q columns)
 fewer_places p q weaker columns read =
-    fewer_from (is_unread read.texts.items) (λ c. is_of_texts c.sort && p c) (λ c. is_of_texts c.sort && q c) (λ c. both_weaker (is_of_texts c.sort) (p c) (q c) (weaker c)) 0 columns
+    fewer_from (is_unread read.texts.items) (λ c. is_of_texts c.sort && p c) (λ c. is_of_texts c.sort && q c) (λ c. and_weaker (is_of_texts c.sort) (p c) (q c) (weaker c)) 0 columns
 
 -- ---- where columns are asked for by their names
 
@@ -173,13 +170,13 @@ module _ (test : Column → Bool) (name : List ℕ) (named : HasNamed test name)
 pub named_among : (test : Column → Bool) (columns : List Column) (name : List ℕ) → HasNamed test name → reads_among (text_places test columns) (source_of name columns) ≡ true
 named_among test columns name named = from_among test name named 0 0 columns
 
-turned : (xs ys : List ℕ) → same_list xs ys ≡ true → same_list ys xs ≡ true
-turned xs ys same = subst (λ (zs : List ℕ). same_list zs xs ≡ true) (list_from_same xs ys same) (list_same xs)
+pub same_list_back : (xs ys : List ℕ) → same_list xs ys ≡ true → same_list ys xs ≡ true
+same_list_back xs ys same = subst (λ (zs : List ℕ). same_list zs xs ≡ true) (list_from_same xs ys same) (list_same xs)
 
 -- the conditions are on columns that pass the test
 pub conds_named : (test : Column → Bool) (columns : List Column) (conds : List Cond) → ((c : Column) → is_named (cond_columns conds) c ≡ true → test c ≡ true)
     → conds_among (text_places test columns) columns conds ≡ true
 conds_named test columns [] each = refl
 conds_named test columns (d ∷ conds) each =
-    and_from _ _ (named_among test columns (cond_column d) (λ c same. each c (either_first _ _ (turned (cond_column d) c.name same))))
+    and_from _ _ (named_among test columns (cond_column d) (λ c same. each c (either_first _ _ (same_list_back (cond_column d) c.name same))))
     (conds_named test columns conds (λ c is. each c (either_second (same_list c.name (cond_column d)) _ is)))

@@ -1,6 +1,7 @@
 -- Two kinds of indexes that give what a kind has to give do so as one.
-use Rattle.std.proofs.Common.{◌≡◌, ℕ, ℤ, true, false, List, [], ◌∷◌, ◌++◌, Option, Some, refl, sym, ap, ◌⊎◌, inl, inr, arith}
+use Rattle.std.proofs.Common.{◌≡◌, ℕ, ℤ, true, false, List, [], ◌∷◌, ◌++◌, Option, Some, sym, ap, ◌⊎◌, inl, inr}
 use Rattle.std.specs.Ordering.{int_eq}
+use Rattle.db_names.specs.laws.Heads.{kind_one}
 use Rattle.ct_base.specs.declared.lists.Value.{Value}
 use Rattle.ct_base.specs.laws.Lists.{cons_parts}
 use Rattle.ct_bytes.specs.Varints.{text_bytes}
@@ -13,25 +14,11 @@ use Rattle.tb_table.specs.Tables.{Table}
 use Rattle.tb_table.specs.Rules.{IsTable}
 use Rattle.tx_settings.specs.PrefsBytes.{IsPrefs}
 use Rattle.db_names.specs.Heads.{index_code}
-use Rattle.db_names.specs.declared.heads.IndexKind.{IndexKind}
-use Rattle.db_names.specs.declared.heads.IndexKind.TheVariants.{Context, Catalogue, Rules}
 use Rattle.ix_kinds.specs.Rows.{RowChange, ChangesBy, LookAlike}
 use Rattle.ix_kinds.specs.Indextypes.{IndexOf, Indextype, with_body, new_index_on, synced_index}
 use Rattle.ix_kinds.specs.Standing.{is_of_part, index_entry, HasNoEntries}
 use Rattle.ix_kinds.specs.IndextypeLaws.{is_its, by_row, SameKind, AreOwnChanges, StandsAlone, RowsChange, Synchronises, Creates, TellsOne, IndextypeLaws}
 use Rattle.ix_kinds.specs.Sums.{own_in, IsIn, StandsIn, looks_in, kind_in, rest_in, cost_in, after_row_in, read_in, row_changes_of, can_sync_in, after_sync_in, sync_changes_in, either}
-
--- the codes of kinds tell them apart
-one_kind : (a b : IndexKind) → index_code a ≡ index_code b → a ≡ b
-one_kind Context Context e = refl
-one_kind Context Catalogue e = absurd (omega (arith, e))
-one_kind Context Rules e = absurd (omega (arith, e))
-one_kind Catalogue Context e = absurd (omega (arith, e))
-one_kind Catalogue Catalogue e = refl
-one_kind Catalogue Rules e = absurd (omega (arith, e))
-one_kind Rules Context e = absurd (omega (arith, e))
-one_kind Rules Catalogue e = absurd (omega (arith, e))
-one_kind Rules Rules e = refl
 
 module _ {B C A E D R S : Type 0} (K : Indextype B A D R) (L : Indextype C E D S) (k : IndextypeLaws K) (l : IndextypeLaws L) (differ : (b : B) (c : C) → K.kind b ≡ L.kind c → ⊥) where
   -- ---- it stands alone
@@ -181,7 +168,7 @@ module _ {B C A E D R S : Type 0} (K : Indextype B A D R) (L : Indextype C E D S
       -- an entry begins with the code of its kind
       kinds : (x y : IndexOf (B ⊎ C)) → index_entry (either K L) x ≡ index_entry (either K L) y → kind_in K L x.body ≡ kind_in K L y.body
       kinds x y e =
-          one_kind (kind_in K L x.body) (kind_in K L y.body)
+          kind_one (kind_in K L x.body) (kind_in K L y.body)
           (cons_parts (index_code (kind_in K L x.body)) (index_code (kind_in K L y.body)) ((text_bytes x.table ++ x.column ∷ []) ++ rest_in K L x x.body) ((text_bytes y.table ++ y.column ∷ []) ++ rest_in K L y y.body) e).0
 
       one : (f : Key → Option (List ℕ)) (i : List ℕ) (x y : IndexOf (B ⊎ C)) (b c : B ⊎ C) (t u : Table) → IsTable t → IsTable u → IsIn K L t x b

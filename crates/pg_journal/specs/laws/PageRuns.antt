@@ -1,6 +1,9 @@
--- Runs of pages, and how many pages the page of roots says that there are.
-use Rattle.std.proofs.Common.{◌≡◌, ℕ, zero, suc, ◌+◌, ◌≤◌, ◌<◌, ◌^◌, List, ◌∷◌, refl, ap, ◌∙◌, arith}
+-- Runs of pages, and the page of roots: how long it is, and how many pages it says that there are.
+use Rattle.std.proofs.Common.{◌≡◌, ℕ, zero, suc, ◌+◌, ◌≤◌, ◌<◌, ◌^◌, List, ◌∷◌, length, length-append, refl, ap, ◌∙◌, arith}
+use Rattle.std.specs.Int.{to_be_bytes, w32}
 use Rattle.std.proofs.lemmas.Nat.{from_be_bytes-to_be_bytes_4}
+use Rattle.ct_base.specs.Zeros.{zeros}
+use Rattle.ct_base.specs.laws.Zeros.{length-zeros}
 use Rattle.pg_journal.specs.Pages.{homes_in, root_page, pages_from}
 
 -- pages that are the same one by one are the same run
@@ -9,6 +12,10 @@ pages_same f g i zero same = refl
 pages_same f g i (suc n) same =
     ap (λ (l : List ℕ). l ∷ pages_from f (suc i) n) (same i (omega arith) (omega arith))
     ∙ ap (λ (l : List (List ℕ)). g i ∷ l) (pages_same f g (suc i) n (λ k least less. same k (omega (arith, least)) (omega (arith, less))))
+
+pub length-root : (homes : ℕ) → length (root_page homes) ≡ 4096
+unfolding root_page
+length-root homes = omega (arith, length-append (to_be_bytes w32 homes) (zeros 4088), length-zeros 4088)
 
 -- the page of roots that is written for so many pages tells so many
 pub root_homes : (n : ℕ) → n < 2 ^ 32 → homes_in (root_page n) ≡ n

@@ -5,7 +5,7 @@ use Rattle.std.specs.List.{list_any}
 use Rattle.std.proofs.lemmas.Bool.{cases_lt, ltb-true, ltb-false, eqb-true, eqb-false, and_parts, and_from, or_right}
 use Rattle.std.proofs.lemmas.Slice.Eq.{bytes_eq-Decides}
 use Rattle.ct_base.specs.Limits.{stream_limit}
-use Rattle.ct_base.specs.laws.Bools.{same_tests, or_swap}
+use Rattle.ct_base.specs.laws.Bools.{same_tests, or_swap, or_twice}
 use Rattle.ix_spans.specs.Occurrences.{has_number}
 use Rattle.ix_spans.specs.Rising.{Above, Rising}
 use Rattle.ix_spans.specs.laws.Rising.{one_list}
@@ -44,10 +44,6 @@ put_rises p (q ∷ qs) h = go (nat_lt p q) refl (eqb p q) refl
 pub put_all_rises : (ps qs : List ℕ) → Rising qs → Rising (put_all ps qs)
 put_all_rises [] qs h = h
 put_all_rises (p ∷ ps) qs h = put_rises p (put_all ps qs) (put_all_rises ps qs h)
-
-or_twice : (a b : Bool) → (a || b) ≡ (a || (a || b))
-or_twice true b = refl
-or_twice false b = refl
 
 or_assoc : (a b c : Bool) → ((a || b) || c) ≡ (a || (b || c))
 or_assoc true b c = refl

@@ -4,14 +4,13 @@ use Rattle.std.specs.Prelude.{◌&&◌, ◌||◌, nat_le}
 use Rattle.std.specs.Bool.{if◌then◌else◌}
 use Rattle.std.specs.List.{insert, list_all, list_any}
 use Rattle.std.specs.Str.{bytes_eq, is_utf8}
-use Rattle.std.specs.declared.cmp.Ordering.{Ordering}
-use Rattle.std.specs.declared.cmp.Ordering.TheVariants.{Less, Equal, Greater}
-use Rattle.std.specs.Ordering.{nat_cmp, is_lt, is_eq, ordering_reverse}
+use Rattle.std.specs.Ordering.{nat_cmp, is_lt}
 use Rattle.std.specs.Cmp.Lexicographic.{slice_cmp}
 use Rattle.std.proofs.lemmas.Bool.{or_parts, and_parts, and_from, le-leb, leb-true}
 use Rattle.std.proofs.lemmas.Cmp.{nat_list_cmp_total}
 use Rattle.std.proofs.lemmas.Map.Text.{is_eq-slice_cmp}
 use Rattle.std.proofs.lemmas.Slice.Eq.{bytes_eq-Decides}
+use Rattle.ct_base.specs.laws.Orders.{less_back}
 use Rattle.ct_base.specs.Limits.{token_limit}
 use Rattle.ct_base.specs.laws.Bools.{or_swap}
 use Rattle.tx_stop.specs.StopKeys.{is_stop, key_place, keys_rise, is_stop_key, stop_limit, are_stop_keys}
@@ -56,14 +55,9 @@ there_already key q ks there = go (bytes_eq key q) refl
 
 -- ---- rising
 
-turned : (o p : Ordering) → p ≡ ordering_reverse o → is_lt o ≡ false → is_eq o ≡ false → is_lt p ≡ true
-turned Less p e less same = cc
-turned Equal p e less same = cc
-turned Greater p e less same = ap is_lt e
-
 -- of two keys that differ, one is less
 pub above : (k key : List ℕ) → lt k key ≡ false → bytes_eq k key ≡ false → lt key k ≡ true
-above k key less other = turned (slice_cmp nat_cmp k key) (slice_cmp nat_cmp key k) (nat_list_cmp_total.antisymm key k) less (is_eq-slice_cmp k key ∙ other)
+above k key less other = less_back (slice_cmp nat_cmp k key) (slice_cmp nat_cmp key k) (nat_list_cmp_total.antisymm key k) less (is_eq-slice_cmp k key ∙ other)
 
 -- the key k before what begins with l, or with the new key
 behind : (b : Bool) (k key l : List ℕ) (ks : List (List ℕ)) → lt k key ≡ true → lt k l ≡ true → keys_rise (cond b (l ∷ put key ks) (key ∷ l ∷ ks)) ≡ true → keys_rise (k ∷ cond b (l ∷ put key ks) (key ∷ l ∷ ks)) ≡ true

@@ -1,9 +1,9 @@
 use Rattle.std.proofs.Common.{◌≡◌, ◌++◌, ◌<◌, ◌^◌, arith, rules}
+use Rattle.ct_base.specs.laws.Results.{on_ok}
 use Rattle.ct_entry.specs.Changes.{spell}
 use Rattle.ct_entry.specs.Keys.{IsRow}
 use Rattle.ix_docmap.specs.Changes.{mark_changes}
 use Rattle.ix_context.specs.laws.Shapes.{shaped_added, shaped_mark}
-use Rattle.ix_context.proofs.GatherSteps.{on_ok}
 use Rattle.ix_context.proofs.marking.mark_next.Goals as goal
 
 pub returns-clause-shaped : goal.returns-clause-shaped

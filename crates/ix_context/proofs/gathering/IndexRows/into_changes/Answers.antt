@@ -1,9 +1,10 @@
 use Rattle.std.proofs.Common.{◌≡◌, ◌++◌, refl, ap, ◌∙◌}
+use Rattle.ct_base.specs.laws.Results.{on_ok}
 use Rattle.ct_entry.specs.Changes.{spell}
 use Rattle.ct_entry.specs.declared.kinds.Kind.TheVariants as kind
 use Rattle.ix_rows.specs.RowMaps.{row_map_changes}
 use Rattle.ix_context.specs.Gathering.{IndexRowsView, gathering_changes}
-use Rattle.ix_context.proofs.GatherSteps.{on_ok, added_both}
+use Rattle.ix_context.proofs.GatherSteps.{added_both}
 use Rattle.ix_context.proofs.gathering.IndexRows.into_changes.Goals as goal
 
 pub returns : goal.returns

@@ -1,6 +1,7 @@
 use Rattle.std.proofs.Common.{◌≡◌, ◌≤◌, ◌<◌, ◌^◌, List, ℕ, length, Some, ap, sym, subst, ◌∙◌, arith}
 use Rattle.std.specs.Prelude.{All}
 use Rattle.std.specs.Str.{chars}
+use Rattle.ct_base.specs.laws.Results.{on_ok}
 use Rattle.tx_document.specs.declared.entries.Entry.{Entry}
 use Rattle.tx_document.specs.Documents.{document}
 use Rattle.tx_document.specs.Entries.{entries}
@@ -9,7 +10,6 @@ use Rattle.ix_context.specs.Gathering.{with_entries}
 use Rattle.ix_context.specs.GatheredRows.{AreGathered}
 use Rattle.ix_context.specs.laws.GatheredRows.{grown_text}
 use Rattle.ix_context.specs.laws.Postings.{entries_fit}
-use Rattle.ix_context.proofs.GatherSteps.{on_ok}
 use Rattle.ix_context.proofs.gathering.IndexRows.put_text.Goals as goal
 
 pub put_entries-requires : goal.put_entries-requires

@@ -1,9 +1,10 @@
 use Rattle.std.proofs.Common.{Vec, ℕ, ap, sym, ◌∙◌}
 use Rattle.std.specs.declared.alloc.Global.{Global}
 use Rattle.std.specs.BTreeMap.{BTreeMap, insert_entry}
+use Rattle.ct_base.specs.laws.Results.{on_ok}
 use Rattle.ct_keep.specs.Pairs.{byte_order}
 use Rattle.ix_rows.specs.Growing.{Growing}
-use Rattle.ix_rows.proofs.MapSteps.{on_ok, posting_there, posting_new}
+use Rattle.ix_rows.proofs.MapSteps.{posting_there, posting_new}
 use Rattle.ix_rows.proofs.row_maps.TermRows.put.Goals as goal
 
 pub returns-in-Some : goal.returns-in-Some

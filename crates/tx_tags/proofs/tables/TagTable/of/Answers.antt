@@ -1,5 +1,6 @@
 use Rattle.std.proofs.Common.{ap, length}
-use Rattle.tx_tags.proofs.TableSteps.{first_of, sections-count, sections-same}
+use Rattle.ct_base.specs.laws.Lists.{first_of}
+use Rattle.tx_tags.proofs.TableSteps.{sections-count, sections-same}
 use Rattle.tx_tags.proofs.tables.TagTable.of.Goals as goal
 
 pub loop-rest-preserved : goal.loop-rest-preserved
