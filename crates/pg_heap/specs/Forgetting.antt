@@ -1,5 +1,5 @@
 -- Places that are forgotten.
-use Rattle.std.specs.Prelude.{◌≡◌, ℕ, List, None, Some}
+use Rattle.std.specs.Prelude.{◌≡◌, ℕ, List, None, Some, refl}
 use Rattle.std.specs.FinMap.{get, empty, get-empty}
 use Rattle.std.specs.Ordering.{nat_cmp}
 use Rattle.std.specs.Cmp.Lexicographic.{slice_cmp}
@@ -11,7 +11,10 @@ pub record OnlyForgets (m : Content) (old new : PagePlaces) : Type 0 where
   pub same : (key value : List ℕ) → get m key ≡ Some value → get new key ≡ get old key
   pub no_more : (key : List ℕ) (at : ℕ) → get new key ≡ Some at → get old key ≡ Some at
 
--- ---- example: where there is no entry, all places may be forgotten
+-- ---- examples: none has to be forgotten; where there is no entry, all may be
+nothing_forgotten : (m : Content) (places : PagePlaces) → OnlyForgets m places places
+nothing_forgotten m places = record { same = λ key value has. refl; no_more = λ key at has. has }
+
 all_forgotten : (places : PagePlaces) → OnlyForgets empty places empty
 all_forgotten places = record {
   same = λ key value has. let none : get (empty {X = List ℕ} {R = slice_cmp nat_cmp}) key ≡ None = get-empty (slice_cmp nat_cmp) key in cc;

@@ -13,6 +13,7 @@ pub mod HeapPages
 pub mod Heaps
 pub mod Loading
 pub mod Once
+pub mod Parting
 pub mod PlanSteps
 pub mod Planned
 pub mod Recovering

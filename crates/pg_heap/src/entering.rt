@@ -1,8 +1,9 @@
 //! The changes of a batch on the map.
 
-ghost use Rattle.std.specs.Prelude.{◌≡◌, ◌<◌, ◌^◌, OnOk, map};
+ghost use Rattle.std.specs.Prelude.{◌≡◌, ◌<◌, ◌^◌, IfOk, OnOk, map};
 ghost use Rattle.ct_keep.specs.Content.{after, weight};
 ghost use Rattle.ct_keep.specs.SeenChanges.{change_of};
+ghost use Rattle.pg_heap.specs.Parting.{is_early, early_changes, late_changes};
 
 use ct_base::Memory;
 use ct_keep::{Change, Transaction};
@@ -29,7 +30,7 @@ const PART: usize = 1024;
 
 /// Makes changes on the map, in order: the first half of them, and then the rest in the same way. So most of the memory that the changes
 /// took is given back before the last of them are made. Where memory is wanting, some of them may have been made.
-pub(crate) fn enter(
+fn enter_by_halves(
     alloc: Global,
     entries: &mut Transaction,
     changes: Vec<Change>,
@@ -47,4 +48,51 @@ pub(crate) fn enter(
         enter_part(alloc, entries, first)?;
     }
     enter_part(alloc, entries, rest)
+}
+
+/// Whether a change on this key is made before those on others.
+fn is_early(key: &[u8]) -> bool
+    ensures { result ≡ is_early key.now }
+{
+    if key.is_empty() {
+        return true;
+    }
+    key[key.len() - 1] % 16 < 8
+}
+
+/// The early changes and the late ones, each in their order.
+fn in_two_parts(alloc: Global, changes: Vec<Change>) -> Result<(Vec<Change>, Vec<Change>), Memory>
+    ensures early { IfOk result (λ parts. map change_of parts.0.items ≡ early_changes (map change_of changes.items)) }
+    ensures late { IfOk result (λ parts. map change_of parts.1.items ≡ late_changes (map change_of changes.items)) }
+{
+    let mut early = Vec::new(alloc);
+    let mut late = Vec::new(alloc);
+    for change in changes {
+        if is_early(&change.key) {
+            early.push(change)?;
+        } else {
+            late.push(change)?;
+        }
+    }
+    Ok((early, late))
+}
+
+/// Makes changes on the map: where they are many, the early ones first. Keys that come in their order would leave the nodes of the map half
+/// empty; those that come between them later fill these nodes. Where memory is wanting, some of the changes may have been made.
+pub(crate) fn enter(
+    alloc: Global,
+    entries: &mut Transaction,
+    changes: Vec<Change>,
+) -> Result<(), Memory>
+    requires { weight entries.old.seen < 2 ^ 64 }
+    ensures before { entries.new.before ≡ entries.old.before }
+    ensures seen { OnOk result (entries.new.seen ≡ after (map change_of changes.items) entries.old.seen) }
+    ensures bound { OnOk result (weight entries.new.seen < 2 ^ 64) }
+{
+    if changes.len() <= PART {
+        return enter_part(alloc, entries, changes);
+    }
+    let (early, late) = in_two_parts(alloc, changes)?;
+    enter_by_halves(alloc, entries, early)?;
+    enter_by_halves(alloc, entries, late)
 }
