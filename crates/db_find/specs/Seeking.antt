@@ -21,12 +21,12 @@ abbrev pub index_of_search : StoreState → List ℕ → List Column → Search 
 index_of_search m t columns s = option_and_then (λ (place : ℕ). index_on (search_kind s) m.indexes t place) (column_place (search_column s) columns)
 
 -- the index of a kind on a column, with its name
-abbrev pub named_among : IndexKind → List ℕ → ℕ → List (List ℕ × Index) → Option (List ℕ × Index)
-named_among kind t place [] = None
-named_among kind t place (e ∷ es) = if is_on_column kind t place e.1 then Some e else named_among kind t place es
+abbrev pub named_index_among : IndexKind → List ℕ → ℕ → List (List ℕ × Index) → Option (List ℕ × Index)
+named_index_among kind t place [] = None
+named_index_among kind t place (e ∷ es) = if is_on_column kind t place e.1 then Some e else named_index_among kind t place es
 
 abbrev pub named_on : IndexKind → Names Index → List ℕ → ℕ → Option (List ℕ × Index)
-named_on kind xs t place = named_among kind t place (entries xs)
+named_on kind xs t place = named_index_among kind t place (entries xs)
 
 -- that which a search needs, with its name
 abbrev pub named_index : StoreState → List ℕ → List Column → Search → Option (List ℕ × Index)
@@ -45,5 +45,5 @@ no_columns m s = refl
 abbrev at_column : ℕ → Rows (Mark (Unit {0})) → Index
 at_column column marks = record { table = codes "docs"; column = column; prefs = default_prefs; body = record { part = no_part; marks = marks } }
 
-with_its_name : (ms : Rows (Mark (Unit {0}))) → named_among Context (codes "docs") 2 ((codes "di", at_column 1 ms) ∷ (codes "dj", at_column 2 ms) ∷ []) ≡ Some (codes "dj", at_column 2 ms)
+with_its_name : (ms : Rows (Mark (Unit {0}))) → named_index_among Context (codes "docs") 2 ((codes "di", at_column 1 ms) ∷ (codes "dj", at_column 2 ms) ∷ []) ≡ Some (codes "dj", at_column 2 ms)
 with_its_name ms = refl

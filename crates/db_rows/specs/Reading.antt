@@ -58,14 +58,14 @@ unless_known None = one_text
 unless_known (Some known) = no_looks
 
 -- what a look at the text of this column adds at most, after what was read
-abbrev pub text_looks : RowRead → ℕ → Counts
-text_looks read column = unless_known (lookup (λ place. column == place) read.texts.items)
+abbrev pub column_looks : RowRead → ℕ → Counts
+column_looks read column = unless_known (lookup (λ place. column == place) read.texts.items)
 
 -- what a look at the value that comes from this place adds at most: keys and numbers are no texts
 abbrev pub source_looks : RowRead → Source → Counts
 source_looks read Key = no_looks
 source_looks read (Number place) = no_looks
-source_looks read (TextSource column) = text_looks read column
+source_looks read (TextSource column) = column_looks read column
 source_looks read Nothing = no_looks
 
 -- what a look at the value that a condition is on adds at most

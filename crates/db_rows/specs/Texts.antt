@@ -21,10 +21,10 @@ use Rattle.db_rows.specs.declared.sources.Source.TheVariants.{Key, Number, Text,
 
 -- ---- the columns
 
-abbrev pub is_of_texts : Sort → Bool
-is_of_texts NumberSort = false
-is_of_texts (Varchar2 size) = true
-is_of_texts Clob = true
+abbrev pub holds_texts : Sort → Bool
+holds_texts NumberSort = false
+holds_texts (Varchar2 size) = true
+holds_texts Clob = true
 
 -- the places of the columns that pass a test, where the first has this place
 abbrev pub places_from : ℕ → (Column → Bool) → List Column → List ℕ
@@ -32,8 +32,8 @@ places_from place test [] = []
 places_from place test (c ∷ cs) = if test c then place ∷ places_from (suc place) test cs else places_from (suc place) test cs
 
 -- THE COLUMNS OF TEXTS THAT PASS A TEST, each once, by their places in the table
-abbrev pub text_places : (Column → Bool) → List Column → List ℕ
-text_places test columns = places_from 0 (λ c. is_of_texts c.sort && test c) columns
+abbrev pub passing_text_places : (Column → Bool) → List Column → List ℕ
+passing_text_places test columns = places_from 0 (λ c. holds_texts c.sort && test c) columns
 
 -- one of the names is that of the column
 abbrev pub is_named : List (List ℕ) → Column → Bool
@@ -76,20 +76,20 @@ left_by left (Err fault) = 0
 abbrev pub texts_alone : ℕ → Counts
 texts_alone n = record no_looks { texts = n }
 
--- Each of the three counts rose by no more than this, of whose texts so many are left.
+-- Each count rose by no more than this, and so many of its texts weren't looked up.
 pub record RisesLeaving (most : Counts) (left : ℕ) (old new : Counts) : Type 0 where
   pub texts : new.texts + left ≤ old.texts + most.texts
   pub rows : new.rows ≤ old.rows + most.rows
   pub rules : new.rules ≤ old.rules + most.rules
 
--- EACH TEXT OF A ROW IS READ ONCE: whichever columns hold all texts that the call asks for, it looked up no more texts than it left fewer of
--- them, however it ended.
+-- EACH TEXT OF A ROW IS READ ONCE. Take any columns among which are those of all texts that the call asks for: it looked up no more texts
+-- than there are fewer of theirs left to read; after a failure, no more than were left before.
 abbrev pub ReadsOnce : {K T : Type 0} → (K → KeeperView) → K → K → RowRead → RowRead → Result T KeepFault → (List ℕ → Bool) → Type 0
 ReadsOnce view old new before after result asks =
     (places : List ℕ) → asks places ≡ true
     → RisesLeaving (texts_alone (texts_left places before)) (left_by (λ x. texts_left places after) result) (view old).counts (view new).counts
 
--- of each row no more texts of the one columns are left than of the others
+-- No row has more texts left of these columns than of those.
 abbrev pub HasFewerLeft : List ℕ → List ℕ → Type 0
 HasFewerLeft some all = (read : RowRead) → texts_left some read ≤ texts_left all read
 
@@ -98,8 +98,8 @@ abbrev pub shown_places : Shown → List ℕ
 shown_places Keys = []
 shown_places (Texts columns) = columns.items
 
--- ROWS ARE TRIED: whichever columns hold all texts that the conditions are on, and those that are shown, so many texts were looked up at
--- most, by how many columns these are; and so many of those that are shown are left.
+-- ROWS ARE TRIED. Take any columns among which are those of the conditions' texts and those that are shown: the texts looked up, and those
+-- still left of the rows that were found, are together within the limit for so many columns.
 abbrev pub TriesRows : {K : Type 0} → (K → KeeperView) → K → K → Shown → List Column → List Cond → (ℕ → ℕ) → ℕ → Type 0
 TriesRows view old new shown columns conds most left =
     (places : List ℕ) → HasFewerLeft (shown_places shown) places → conds_among places columns conds ≡ true
@@ -109,6 +109,10 @@ TriesRows view old new shown columns conds most left =
 abbrev pub left_of : List ℕ → Option RowRead → ℕ
 left_of places None = 0
 left_of places (Some read) = texts_left places read
+
+-- Of one row each of these texts is looked up once, and what is kept of it leaves so many of those that are shown.
+abbrev pub TriesRow : {K : Type 0} → (K → KeeperView) → K → K → Shown → List Column → List Cond → Result (Option RowRead) KeepFault → Type 0
+TriesRow view old new shown columns conds result = TriesRows view old new shown columns conds (λ n. n) (left_by (left_of (shown_places shown)) result)
 
 -- ---- what is kept
 
@@ -123,10 +127,10 @@ pub record KeepsTexts (columns : List ℕ) (old new : RowRead) : Type 0 where
 
 -- ---- computed examples: of the columns id, a (a CLOB), n (a NUMBER) and b (a VARCHAR2)
 
-each_once : text_places (is_named (codes "b" ∷ codes "n" ∷ codes "a" ∷ codes "b" ∷ [])) of_columns ≡ 1 ∷ 3 ∷ []
+each_once : passing_text_places (is_named (codes "b" ∷ codes "n" ∷ codes "a" ∷ codes "b" ∷ [])) of_columns ≡ 1 ∷ 3 ∷ []
 each_once = refl
 
-no_such_column : text_places (is_named (codes "c" ∷ [])) of_columns ≡ []
+no_such_column : passing_text_places (is_named (codes "c" ∷ [])) of_columns ≡ []
 no_such_column = refl
 
 -- of the texts of a and b that of b was read

@@ -8,7 +8,7 @@ ghost use Rattle.db_state.specs.States.{Sees};
 ghost use Rattle.db_rows.specs.Bounds.{holds_by};
 ghost use Rattle.db_rows.specs.Reading.{IsOwn, IsReadOf, OverColumns, OverColumnsOf, OverRow, cond_looks, texts_for};
 ghost use Rattle.db_rows.specs.Meeting.{holds_of as holds_of_value, key_meets};
-ghost use Rattle.db_rows.specs.Texts.{ReadsOnce, TriesRows, cond_among, conds_among, left_by, left_of, shown_places};
+ghost use Rattle.db_rows.specs.Texts.{ReadsOnce, TriesRow, cond_among, conds_among};
 
 use crate::checking::cond_column;
 use crate::reading::{RowRead, Shown, column_value};
@@ -81,8 +81,8 @@ fn meets<K: Keeper>(
 
 /// What is kept of what was read of a row of a table to see that it meets all conditions; None where it doesn't.
 ///
-/// It reads each text that the conditions are on once, up to the first condition that doesn't hold, and no posting. Without conditions
-/// it reads nothing, and takes no memory. It never answers Full.
+/// It reads nothing but what the conditions are on, each text of that once, and no posting. The conditions are tried one after the other, up
+/// to the first that doesn't hold. Without conditions it reads nothing, and takes no memory. It never answers Full.
 pub fn read_if_met<K: Keeper>(
     alloc: Global,
     keeper: &mut K,
@@ -96,7 +96,8 @@ pub fn read_if_met<K: Keeper>(
     ensures met { OverColumns K.view keeper.old table.now columns.now (λ x. IfOk result (λ read. is_some read ≡ key_meets x conds.now row.0)) }
     ensures own { Sees K.view keeper.old result (λ m read. IfSome read (IsOwn m.tables table.now row)) }
     ensures reads { OnlyReads K.view keeper.old keeper.new result }
-    ensures once { TriesRows K.view keeper.old keeper.new shown.now columns.now conds.now (λ n. n) (left_by (left_of (shown_places shown.now)) result) }
+    ensures at_most { LooksAtMost K.view keeper.old keeper.new (texts_for columns.now conds.now) }
+    ensures once { TriesRow K.view keeper.old keeper.new shown.now columns.now conds.now result }
 {
     let mut read = RowRead::nothing(alloc);
     if !meets(alloc, keeper, table, columns, conds, row, &mut read)? {

@@ -12,7 +12,7 @@ ghost use Rattle.tb_table.specs.Tables.{numbers_of, text_in_column as row_text};
 ghost use Rattle.db_state.specs.States.{Sees};
 ghost use Rattle.db_rows.specs.Values.{row_values};
 ghost use Rattle.db_rows.specs.Sources.{source_value};
-ghost use Rattle.db_rows.specs.Reading.{IsReadOf, OverRow, source_looks, text_looks};
+ghost use Rattle.db_rows.specs.Reading.{IsReadOf, OverRow, source_looks, column_looks};
 ghost use Rattle.db_rows.specs.Texts.{KeepsTexts, ReadsOnce, reads_among, shown_places, texts_among, texts_left};
 ghost use Rattle.db_rows.specs.Walking.{with_met};
 
@@ -25,7 +25,7 @@ use tb_table::{number_row, text_of};
 /// A text of a row that was read, with the place of its column; None where the row has none there.
 type ReadText = (u8, Option<Text>);
 
-/// What was read of a row: its numbers, and texts. So each entry of it is read once, for however many columns and conditions.
+/// What was read of a row: its numbers, and texts. Whoever asks for one of them again gets it from here.
 #[derive(Drop)]
 pub struct RowRead {
     numbers: Option<Vec<i64>>,
@@ -195,7 +195,7 @@ fn text_once<K: Keeper>(
     ensures read { OverRow K.view keeper.old table.now row.0 read.old (λ vs. OnOk result (IsReadOf vs read.new)) }
     ensures kept { IfOk result (λ text. lookup (λ place. column == place) read.new.texts.items ≡ Some text) }
     ensures reads { OnlyReads K.view keeper.old keeper.new result }
-    ensures at_most { LooksAtMost K.view keeper.old keeper.new (text_looks read.old column) }
+    ensures at_most { LooksAtMost K.view keeper.old keeper.new (column_looks read.old column) }
     ensures once { ReadsOnce K.view keeper.old keeper.new read.old read.new result (λ places. list_any (λ place. column == place) places) }
 {
     if let Some(text) = known_text(&read.texts, column)? {

@@ -26,7 +26,7 @@ use Rattle.db_rows.specs.Meeting.{row_meets, key_meets, meeting_keys}
 use Rattle.db_rows.specs.Texts.{RisesLeaving, texts_alone, texts_left}
 use Rattle.db_rows.specs.Walking.{AreOwn, met_keys}
 use Rattle.db_rows.specs.declared.walking.MetRow.{MetRow}
-use Rattle.db_rows.specs.laws.Texts.{rises_still}
+use Rattle.db_rows.specs.laws.Texts.{leaves_still}
 use Rattle.db_find.specs.Searches.{Search}
 use Rattle.db_find.specs.Seeking.{index_of_search}
 use Rattle.db_find.specs.Finding.{found_in, search_rows}
@@ -138,7 +138,7 @@ one_tried most before after n rest k x y z is first second =
 pub none_tried : (n most : ℕ) (c : Counts) (rows : List FoundRow) (places : List ℕ) → rows ≡ [] → RisesLeaving (texts_alone (most * n)) (rows_left places rows + most * n) c c
 none_tried n most c rows places none =
     let zero : rows_left places rows ≡ 0 = ap (rows_left places) none in
-    rises_still (most * n) (rows_left places rows + most * n) c (omega (arith, zero))
+    leaves_still (most * n) (rows_left places rows + most * n) c (omega (arith, zero))
 
 -- so many are left behind the next
 pub fewer_behind : (found : List Hit) (i : ℕ) (d : Hit) → i < length found → length (drop i found) ≡ suc (length (drop (i + 1) found))

@@ -1,6 +1,7 @@
 pub mod FieldLaws
 pub mod FieldSteps
 pub mod HitSteps
+pub mod KnownSearches
 pub mod LineSteps
 pub mod NameOrder
 pub mod PredicateLaws

@@ -90,10 +90,6 @@ module _ (m : StoreState) (t : List ℕ) (x : Table) (list : SelectList) (search
       → select_rows m t x list search conds ≡ refuse_by refused (λ refusal. refusal) listed
   by_query there passes refused is = behind_index there ∙ passes queried ∙ ap (λ (o : Option Refusal). refuse_by o (λ refusal. refusal) listed) is
 
-  pub refused : lacks_index m t x.columns search ≡ false → ((done : Effect) → check_parts w o done ≡ done) → (refusal : Refusal) → query_refusal m t x.columns search ≡ Some refusal → (line : Vec ℕ Global) → line.items ≡ refusal_line refusal
-      → Selects m t x list search conds (RefusedFound line)
-  refused there passes refusal is line says = (refusal, (by_query there passes (Some refusal) is, says))
-
   pub passed : lacks_index m t x.columns search ≡ false → ((done : Effect) → check_parts w o done ≡ done) → query_refusal m t x.columns search ≡ None → (found : Vec FoundRow Global) → hit_rows (hits_of found.items) ≡ hits m t x search conds
       → Selects m t x list search conds (Rows found)
   passed there passes none found are = (by_query there passes None none, are)
@@ -116,12 +112,6 @@ needs_none m t x s none = ap is_none none
 module _ (m : StoreState) (t : List ℕ) (x : Table) (s : Search) (y : Index) (needed : index_of_search m t x.columns s ≡ Some y) where
   pub by_index : query_refusal m t x.columns (Some s) ≡ search_refusal y s
   by_index = ap (λ (o : Option Index). refused_by o s) needed
-
-  pub refusal_is : (refusal : Refusal) → search_refusal y s ≡ Some refusal → query_refusal m t x.columns (Some s) ≡ Some refusal
-  refusal_is refusal is = by_index ∙ is
-
-  pub no_refusal : search_refusal y s ≡ None → query_refusal m t x.columns (Some s) ≡ None
-  no_refusal is = by_index ∙ is
 
 -- ---- what was found, and the reply to it
 

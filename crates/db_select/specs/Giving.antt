@@ -37,8 +37,8 @@ abbrev pub OverFound : {K : Type 0} → (K → KeeperView) → K → List ℕ �
 OverFound view old t row holds = OverRow view old t row.hit.key.0 row.read holds
 
 -- where what was read of the rows that were found is their own, a call gave what is replied to them, as to a refusal
-abbrev pub GivesReply : {K : Type 0} → (K → KeeperView) → K → List ℕ → List Column → SelectList → Selected → Result (Vec ℕ Global) KeepFault → Type 0
-GivesReply view old t columns list found result =
+abbrev pub GivesFoundReply : {K : Type 0} → (K → KeeperView) → K → List ℕ → List Column → SelectList → Selected → Result (Vec ℕ Global) KeepFault → Type 0
+GivesFoundReply view old t columns list found result =
     OverNamedTable view old t (λ m c x. x.columns ≡ columns → SelectedOwn m.tables t found → IfOk result (λ reply. reply.items ≡ found_reply m.tables t x.columns list found))
 
 -- computed example: a call that failed gave nothing

@@ -21,7 +21,7 @@ use Rattle.db_cond.specs.Faults.{WrongValues}
 use Rattle.db_state.specs.States.{StoreState, OverNamedTable, OverStates}
 use Rattle.db_state.specs.Effects.{Effect, Does, Refused}
 use Rattle.db_rows.specs.Checking.{cond_columns}
-use Rattle.db_rows.specs.Texts.{RisesLeaving, is_named, left_by, text_places}
+use Rattle.db_rows.specs.Texts.{RisesLeaving, is_named, left_by, passing_text_places}
 use Rattle.db_find.specs.Looking.{looks_in}
 use Rattle.db_find.specs.Searches.{Search, search_in}
 use Rattle.db_find.specs.Seeking.{named_index}
@@ -48,10 +48,10 @@ reads list conds c = shows list c || is_named (cond_columns conds) c
 
 -- the columns of texts, each once, that a list shows; and those that a SELECT reads of a row
 abbrev pub shown_texts : SelectList → List Column → List ℕ
-shown_texts list columns = text_places (shows list) columns
+shown_texts list columns = passing_text_places (shows list) columns
 
 abbrev pub read_texts : SelectList → List Cond → List Column → List ℕ
-read_texts list conds columns = text_places (reads list conds) columns
+read_texts list conds columns = passing_text_places (reads list conds) columns
 
 -- ---- what a SELECT with a search may look up
 

@@ -8,7 +8,7 @@ ghost use Rattle.ct_keep.specs.Looks.{LooksAtMost};
 ghost use Rattle.db_cond.specs.Lines.{line as line_text};
 ghost use Rattle.db_rows.specs.Texts.{texts_alone, texts_left};
 ghost use Rattle.db_select.specs.Fields.{ShowsWithin, read_line};
-ghost use Rattle.db_select.specs.Giving.{GivesReply, OverFound, OverOwn};
+ghost use Rattle.db_select.specs.Giving.{GivesFoundReply, OverFound, OverOwn};
 ghost use Rattle.db_select.specs.Hits.{rows_left};
 ghost use Rattle.db_select.specs.Listing.{found_lines};
 ghost use Rattle.db_select.specs.Looking.{shown_texts};
@@ -89,7 +89,7 @@ fn rows_reply<K: Keeper>(
     rows: Vec<FoundRow>,
 ) -> Result<Vec<u8>, KeepFault>
     requires { (K.view keeper.old).ready }
-    ensures reply { GivesReply K.view keeper.old table.now columns.now list.now (Selected.Rows rows) result }
+    ensures reply { GivesFoundReply K.view keeper.old table.now columns.now list.now (Selected.Rows rows) result }
     ensures reads { OnlyReads K.view keeper.old keeper.new result }
     ensures at_most { LooksAtMost K.view keeper.old keeper.new (texts_alone (rows_left (shown_texts list.now columns.now) rows.items)) }
 {
@@ -116,7 +116,7 @@ pub(crate) fn found_reply<K: Keeper>(
     found: Selected,
 ) -> Result<Vec<u8>, KeepFault>
     requires { (K.view keeper.old).ready }
-    ensures reply { GivesReply K.view keeper.old table.now columns.now list.now found result }
+    ensures reply { GivesFoundReply K.view keeper.old table.now columns.now list.now found result }
     ensures reads { OnlyReads K.view keeper.old keeper.new result }
     ensures at_most { LooksAtMost K.view keeper.old keeper.new (texts_alone (selected_left (shown_texts list.now columns.now) found)) }
 {

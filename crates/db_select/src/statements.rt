@@ -52,9 +52,9 @@ fn select_from<K: Keeper>(
 ///
 /// Without CONTAINS its cost is that of a walk over the rows that the conditions on the key bound, and of what the other conditions are
 /// on in each of them; with CONTAINS that of the search, and of what the conditions are on in each row that this finds. COUNT(*) costs
-/// no more; a list, and `*`, cost beside it the texts that they show, and the numbers of the rows, as far as no condition is on them:
-/// what is read of a row is read once. What waits costs a scan of the
-/// indexes' entries and of those of the rows that wait. It changes nothing, and never answers Full.
+/// no more; a list, and `*`, cost beside it the texts that they show, and the numbers of the rows, as far as no condition is on them.
+/// What is read of a row that a search finds is read once. What waits costs a scan of the indexes' entries and of those of the rows
+/// that wait. It changes nothing, and never answers Full.
 pub fn select<K: Keeper>(
     alloc: Global,
     keeper: &mut K,

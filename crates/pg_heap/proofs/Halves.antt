@@ -10,7 +10,7 @@ use Rattle.ct_keep.specs.declared.batches.Change as rust
 use Rattle.ct_keep.specs.Content.{Content, Change, after}
 use Rattle.ct_keep.specs.laws.Content.{after-append, get-after, last_change, same, same_keys, same_content}
 use Rattle.ct_keep.specs.SeenChanges.{change_of}
-use Rattle.pg_heap.specs.Parting.{is_early, early_changes, late_changes}
+use Rattle.pg_heap.specs.EarlyChanges.{is_early, early_changes, late_changes}
 
 -- the first of them, and then the others
 

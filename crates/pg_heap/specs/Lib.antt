@@ -5,6 +5,7 @@ pub mod Committing
 pub mod DraftFields
 pub mod DraftPages
 pub mod Drafts
+pub mod EarlyChanges
 pub mod Forgetting
 pub mod FreeFields
 pub mod FreePlaces
@@ -13,7 +14,6 @@ pub mod HeapPages
 pub mod Heaps
 pub mod Loading
 pub mod Once
-pub mod Parting
 pub mod PlanSteps
 pub mod Planned
 pub mod Recovering

@@ -3,7 +3,7 @@
 ghost use Rattle.std.specs.Prelude.{◌≡◌, ◌<◌, ◌^◌, IfOk, OnOk, map};
 ghost use Rattle.ct_keep.specs.Content.{after, weight};
 ghost use Rattle.ct_keep.specs.SeenChanges.{change_of};
-ghost use Rattle.pg_heap.specs.Parting.{is_early, early_changes, late_changes};
+ghost use Rattle.pg_heap.specs.EarlyChanges.{is_early, early_changes, late_changes};
 
 use ct_base::Memory;
 use ct_keep::{Change, Transaction};
@@ -25,8 +25,8 @@ fn enter_part(alloc: Global, entries: &mut Transaction, changes: Vec<Change>) ->
     Ok(())
 }
 
-/// How many changes are no longer parted.
-const PART: usize = 1024;
+/// Up to so many changes are made at once.
+const HALVING_LIMIT: usize = 1024;
 
 /// Makes changes on the map, in order: the first half of them, and then the rest in the same way. So most of the memory that the changes
 /// took is given back before the last of them are made. Where memory is wanting, some of them may have been made.
@@ -41,7 +41,7 @@ fn enter_by_halves(
     ensures bound { OnOk result (weight entries.new.seen < 2 ^ 64) }
 {
     let mut rest = changes;
-    while rest.len() > PART {
+    while rest.len() > HALVING_LIMIT {
         let half = rest.len() / 2;
         let later = rest.split_off(half)?;
         let first = replace(&mut rest, later);
@@ -50,7 +50,7 @@ fn enter_by_halves(
     enter_part(alloc, entries, rest)
 }
 
-/// Whether a change on this key is made before those on others.
+/// Whether the changes on this key are made before those on late keys.
 fn is_early(key: &[u8]) -> bool
     ensures { result ≡ is_early key.now }
 {
@@ -61,7 +61,7 @@ fn is_early(key: &[u8]) -> bool
 }
 
 /// The early changes and the late ones, each in their order.
-fn in_two_parts(alloc: Global, changes: Vec<Change>) -> Result<(Vec<Change>, Vec<Change>), Memory>
+fn early_and_late(alloc: Global, changes: Vec<Change>) -> Result<(Vec<Change>, Vec<Change>), Memory>
     ensures early { IfOk result (λ parts. map change_of parts.0.items ≡ early_changes (map change_of changes.items)) }
     ensures late { IfOk result (λ parts. map change_of parts.1.items ≡ late_changes (map change_of changes.items)) }
 {
@@ -77,8 +77,10 @@ fn in_two_parts(alloc: Global, changes: Vec<Change>) -> Result<(Vec<Change>, Vec
     Ok((early, late))
 }
 
-/// Makes changes on the map: where they are many, the early ones first. Keys that come in their order would leave the nodes of the map half
-/// empty; those that come between them later fill these nodes. Where memory is wanting, some of the changes may have been made.
+/// Makes changes on the map: where they are many, the early ones first. A node of the map holds fifteen keys, and a full one is parted in the
+/// middle; so keys that come in their order leave seven in each, and one between it and the next. The eight late keys that may come there
+/// then fill it. It takes memory for a second list of the changes, some 48 bytes for each, before any is made. Where memory is wanting,
+/// some of the changes may have been made.
 pub(crate) fn enter(
     alloc: Global,
     entries: &mut Transaction,
@@ -89,10 +91,10 @@ pub(crate) fn enter(
     ensures seen { OnOk result (entries.new.seen ≡ after (map change_of changes.items) entries.old.seen) }
     ensures bound { OnOk result (weight entries.new.seen < 2 ^ 64) }
 {
-    if changes.len() <= PART {
+    if changes.len() <= HALVING_LIMIT {
         return enter_part(alloc, entries, changes);
     }
-    let (early, late) = in_two_parts(alloc, changes)?;
+    let (early, late) = early_and_late(alloc, changes)?;
     enter_by_halves(alloc, entries, early)?;
     enter_by_halves(alloc, entries, late)
 }

@@ -14,17 +14,17 @@ use Rattle.db_state.specs.States.{StoreState}
 use Rattle.db_state.specs.Columns.{column_place}
 use Rattle.db_state.specs.Lookups.{index_among, index_on, is_on_column}
 use Rattle.db_find.specs.Searches.{Search, search_column, search_kind}
-use Rattle.db_find.specs.Seeking.{NeedsIndex, named_among, named_index, named_on}
+use Rattle.db_find.specs.Seeking.{NeedsIndex, named_index_among, named_index, named_on}
 
 -- It is among the entries, with a name.
 among_named : (kind : IndexKind) (t : List ℕ) (place : ℕ) (es : List (List ℕ × Index)) (x : Index) → index_among kind t place es ≡ Some x
-    → (j : List ℕ) × ((named_among kind t place es ≡ Some (j, x)) × IsIn (j, x) es)
+    → (j : List ℕ) × ((named_index_among kind t place es ≡ Some (j, x)) × IsIn (j, x) es)
 among_named kind t place [] x is = absurd (cc)
 among_named kind t place (e ∷ es) x is = go (is_on_column kind t place e.1) is (among_named kind t place es x)
   where
     go : (b : Bool) → cond b (Some e.1) (index_among kind t place es) ≡ Some x
-        → (index_among kind t place es ≡ Some x → (j : List ℕ) × ((named_among kind t place es ≡ Some (j, x)) × IsIn (j, x) es))
-        → (j : List ℕ) × ((cond b (Some e) (named_among kind t place es) ≡ Some (j, x)) × IsIn (j, x) (e ∷ es))
+        → (index_among kind t place es ≡ Some x → (j : List ℕ) × ((named_index_among kind t place es ≡ Some (j, x)) × IsIn (j, x) es))
+        → (j : List ℕ) × ((cond b (Some e) (named_index_among kind t place es) ≡ Some (j, x)) × IsIn (j, x) (e ∷ es))
     go true is rest =
         let same : e.1 ≡ x = cc in
         (e.0, (ap (λ (y : Index). Some (e.0, y)) same, inl (λ i. (e.0, sym same i))))

@@ -15,7 +15,7 @@ use Rattle.tb_table.specs.declared.columns.Sort.TheVariants.{Number as NumberSor
 use Rattle.tb_table.specs.declared.columns.Column.{Column}
 use Rattle.db_rows.specs.Checking.{cond_column, cond_columns}
 use Rattle.db_rows.specs.Sources.{number_source, source_by, source_from, source_of, text_source, with_sort}
-use Rattle.db_rows.specs.Texts.{HasFewerLeft, RisesLeaving, conds_among, is_named, is_of_texts, is_unread, places_from, reads_among, text_places, texts_alone, texts_left}
+use Rattle.db_rows.specs.Texts.{HasFewerLeft, RisesLeaving, conds_among, is_named, holds_texts, is_unread, places_from, reads_among, passing_text_places, texts_alone, texts_left}
 use Rattle.db_rows.specs.declared.reading.RowRead.{RowRead}
 use Rattle.db_rows.specs.declared.sources.Source.{Source}
 use Rattle.db_rows.specs.declared.sources.Source.TheVariants.{Key, Number, Text, Nothing}
@@ -23,12 +23,12 @@ use Rattle.db_rows.specs.declared.sources.Source.TheVariants.{Key, Number, Text,
 -- ---- what calls add up to
 
 -- nothing was looked up
-pub rises_still : (n left : ℕ) (c : Counts) → left ≤ n → RisesLeaving (texts_alone n) left c c
-rises_still n left c few = record { texts = omega (arith, few); rows = omega arith; rules = omega arith }
+pub leaves_still : (n left : ℕ) (c : Counts) → left ≤ n → RisesLeaving (texts_alone n) left c c
+leaves_still n left c few = record { texts = omega (arith, few); rows = omega arith; rules = omega arith }
 
 -- one call after another, which looked up no more than was left
-pub rises_then : (most : Counts) (middle left : ℕ) (x y z : Counts) → RisesLeaving most middle x y → RisesLeaving (texts_alone middle) left y z → RisesLeaving most left x z
-rises_then most middle left x y z first second =
+pub leaves_then : (most : Counts) (middle left : ℕ) (x y z : Counts) → RisesLeaving most middle x y → RisesLeaving (texts_alone middle) left y z → RisesLeaving most left x z
+leaves_then most middle left x y z first second =
     let texts : z.texts + left ≤ y.texts + middle = second.texts in
     record { texts = omega (arith, first.texts, texts); rows = omega (arith, first.rows, second.rows); rules = omega (arith, first.rules, second.rules) }
 
@@ -82,8 +82,8 @@ most_pass p (x ∷ xs) = go (p x) (most_pass p xs)
     go false rest = omega (arith, rest)
 
 -- of columns no more texts are left than there are columns
-pub left_most : (places : List ℕ) (read : RowRead) → texts_left places read ≤ length places
-left_most places read = most_pass (is_unread read.texts.items) places
+pub left_within : (places : List ℕ) (read : RowRead) → texts_left places read ≤ length places
+left_within places read = most_pass (is_unread read.texts.items) places
 
 module _ (test : ℕ → Bool) (place : ℕ) (some all : List ℕ) (rest : length (filter test some) ≤ length (filter test all)) where
   longer_both : (t : Bool) → length (cond t (place ∷ filter test some) (filter test some)) ≤ length (cond t (place ∷ filter test all) (filter test all))
@@ -107,9 +107,9 @@ fewer_from test p q weaker place (c ∷ cs) =
     longer_by test place (places_from (suc place) p cs) (places_from (suc place) q cs) (fewer_from test p q weaker (suc place) cs) (p c) (q c) (weaker c)
 
 -- where one test follows from another, no more texts are left of the columns that pass it
-pub fewer_places : (p q : Column → Bool) → ((c : Column) → p c ≡ true → q c ≡ true) → (columns : List Column) → HasFewerLeft (text_places p columns) (text_places q columns)
+pub fewer_places : (p q : Column → Bool) → ((c : Column) → p c ≡ true → q c ≡ true) → (columns : List Column) → HasFewerLeft (passing_text_places p columns) (passing_text_places q columns)
 fewer_places p q weaker columns read =
-    fewer_from (is_unread read.texts.items) (λ c. is_of_texts c.sort && p c) (λ c. is_of_texts c.sort && q c) (λ c. and_weaker (is_of_texts c.sort) (p c) (q c) (weaker c)) 0 columns
+    fewer_from (is_unread read.texts.items) (λ c. holds_texts c.sort && p c) (λ c. holds_texts c.sort && q c) (λ c. and_weaker (holds_texts c.sort) (p c) (q c) (weaker c)) 0 columns
 
 -- ---- where columns are asked for by their names
 
@@ -150,24 +150,24 @@ text_among place true places is = go (nat_lt place 256)
     go false = refl
 text_among place false places is = absurd (cc)
 
-here_among : (place before : ℕ) (s : Sort) (b : Bool) (places : List ℕ) → b ≡ true → reads_among (cond (is_of_texts s && b) (place ∷ places) places) (source_by s place before) ≡ true
+here_among : (place before : ℕ) (s : Sort) (b : Bool) (places : List ℕ) → b ≡ true → reads_among (cond (holds_texts s && b) (place ∷ places) places) (source_by s place before) ≡ true
 here_among place before NumberSort b places is = numbers_among places before
 here_among place before (Varchar2 size) b places is = text_among place b places is
 here_among place before Clob b places is = text_among place b places is
 
 module _ (test : Column → Bool) (name : List ℕ) (named : HasNamed test name) where
-  from_among : (place before : ℕ) (cs : List Column) → reads_among (places_from place (λ c. is_of_texts c.sort && test c) cs) (source_from place before name cs) ≡ true
+  from_among : (place before : ℕ) (cs : List Column) → reads_among (places_from place (λ c. holds_texts c.sort && test c) cs) (source_from place before name cs) ≡ true
   from_among place before [] = refl
   from_among place before (c ∷ cs) = go (same_list name c.name) refl (from_among (suc place) (with_sort c.sort before) cs)
     where
-      go : (b : Bool) → same_list name c.name ≡ b → reads_among (places_from (suc place) (λ c. is_of_texts c.sort && test c) cs) (source_from (suc place) (with_sort c.sort before) name cs) ≡ true
-          → reads_among (places_from place (λ c. is_of_texts c.sort && test c) (c ∷ cs)) (cond b (source_by c.sort place before) (source_from (suc place) (with_sort c.sort before) name cs)) ≡ true
-      go true same rest = here_among place before c.sort (test c) (places_from (suc place) (λ c. is_of_texts c.sort && test c) cs) (named c same)
+      go : (b : Bool) → same_list name c.name ≡ b → reads_among (places_from (suc place) (λ c. holds_texts c.sort && test c) cs) (source_from (suc place) (with_sort c.sort before) name cs) ≡ true
+          → reads_among (places_from place (λ c. holds_texts c.sort && test c) (c ∷ cs)) (cond b (source_by c.sort place before) (source_from (suc place) (with_sort c.sort before) name cs)) ≡ true
+      go true same rest = here_among place before c.sort (test c) (places_from (suc place) (λ c. holds_texts c.sort && test c) cs) (named c same)
       go false other rest =
-          among_later place (places_from (suc place) (λ c. is_of_texts c.sort && test c) cs) (is_of_texts c.sort && test c) (source_from (suc place) (with_sort c.sort before) name cs) rest
+          among_later place (places_from (suc place) (λ c. holds_texts c.sort && test c) cs) (holds_texts c.sort && test c) (source_from (suc place) (with_sort c.sort before) name cs) rest
 
 -- WHAT A NAME ASKS FOR is a text of one of the columns that pass the test, or no text.
-pub named_among : (test : Column → Bool) (columns : List Column) (name : List ℕ) → HasNamed test name → reads_among (text_places test columns) (source_of name columns) ≡ true
+pub named_among : (test : Column → Bool) (columns : List Column) (name : List ℕ) → HasNamed test name → reads_among (passing_text_places test columns) (source_of name columns) ≡ true
 named_among test columns name named = from_among test name named 0 0 columns
 
 pub same_list_back : (xs ys : List ℕ) → same_list xs ys ≡ true → same_list ys xs ≡ true
@@ -175,7 +175,7 @@ same_list_back xs ys same = subst (λ (zs : List ℕ). same_list zs xs ≡ true)
 
 -- the conditions are on columns that pass the test
 pub conds_named : (test : Column → Bool) (columns : List Column) (conds : List Cond) → ((c : Column) → is_named (cond_columns conds) c ≡ true → test c ≡ true)
-    → conds_among (text_places test columns) columns conds ≡ true
+    → conds_among (passing_text_places test columns) columns conds ≡ true
 conds_named test columns [] each = refl
 conds_named test columns (d ∷ conds) each =
     and_from _ _ (named_among test columns (cond_column d) (λ c same. each c (either_first _ _ (same_list_back (cond_column d) c.name same))))

@@ -3,7 +3,7 @@ use Rattle.std.proofs.lemmas.Result.{err_from_is_err_and}
 use Rattle.ct_keep.specs.laws.Composing.{reads_none, reads_on, reads_hold}
 use Rattle.db_rows.specs.Texts.{texts_left}
 use Rattle.db_rows.specs.Values.{row_values}
-use Rattle.db_rows.specs.laws.Texts.{rises_still, rises_then}
+use Rattle.db_rows.specs.laws.Texts.{leaves_still, leaves_then}
 use Rattle.db_rows.proofs.LookSteps.{looks_begin, looks_more, looks_end}
 use Rattle.db_rows.proofs.MeetSteps.{none_met, one_met, not_met, all_met, met_there}
 use Rattle.db_rows.proofs.TextSteps.{cond_at}
@@ -13,7 +13,7 @@ pub loop-cond-init : goal.loop-cond-init
 loop-cond-init g c = record {
   reads = reads_none _ c.requires;
   looks = looks_begin _ _;
-  once = λ places among. rises_still (texts_left places c.args.read.now) (texts_left places c.args.read.now) _ (omega arith);
+  once = λ places among. leaves_still (texts_left places c.args.read.now) (texts_left places c.args.read.now) _ (omega arith);
   met = λ m k holds stands own. none_met c.args.columns.now c.args.conds.now c.args.row.0 (row_values m.tables c.args.table.now c.args.row.0) c.args.read.now own;
 }
 
@@ -22,7 +22,7 @@ loop-cond-preserved g c = record {
   reads = reads_on _ _ _ _ c.loop-cond.invariant.reads c.in_ok-meets_one.ensures.reads;
   looks = looks_more c.args.columns.now c.args.conds.now c.loop-cond.cond-index c.cond-item.result c.loop-cond.read _ _ _ c.loop-cond.invariant.looks c.loop-cond-test.true c.cond-item.is c.in_ok-meets_one.ensures.at_most;
   once = λ places among.
-      rises_then _ _ _ _ _ _ (c.loop-cond.invariant.once places among)
+      leaves_then _ _ _ _ _ _ (c.loop-cond.invariant.once places among)
       (c.in_ok-meets_one.ensures.once places (cond_at places c.args.columns.now c.args.conds.now c.loop-cond.cond-index c.cond-item.result c.loop-cond-test.true c.cond-item.is among));
   met = λ m k holds stands own.
       let columns = c.args.columns.now in
@@ -84,12 +84,12 @@ returns-clause-at_most g c = looks_end c.args.columns.now c.args.conds.now _ _ _
 pub returns-in_err-meets_one-clause-once : goal.returns-in_err-meets_one-clause-once
 returns-in_err-meets_one-clause-once g c = λ places among.
     rw (err_from_is_err_and c.from_residual.result c.from_residual.ensures.1).1
-    (rises_then _ _ _ _ _ _ (c.loop-cond.invariant.once places among)
+    (leaves_then _ _ _ _ _ _ (c.loop-cond.invariant.once places among)
     (c.in_err-meets_one.ensures.once places (cond_at places c.args.columns.now c.args.conds.now c.loop-cond.cond-index c.cond-item.result c.loop-cond-test.true c.cond-item.is among)))
 
 pub returns-then-not-branch-clause-once : goal.returns-then-not-branch-clause-once
 returns-then-not-branch-clause-once g c = λ places among.
-    rises_then _ _ _ _ _ _ (c.loop-cond.invariant.once places among)
+    leaves_then _ _ _ _ _ _ (c.loop-cond.invariant.once places among)
     (c.in_ok-meets_one.ensures.once places (cond_at places c.args.columns.now c.args.conds.now c.loop-cond.cond-index c.cond-item.result c.loop-cond-test.true c.cond-item.is among))
 
 pub returns-clause-once : goal.returns-clause-once

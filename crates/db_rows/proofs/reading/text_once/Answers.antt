@@ -7,7 +7,7 @@ use Rattle.tb_table.specs.Tables.{text_in_column}
 use Rattle.db_rows.specs.Values.{row_values}
 use Rattle.db_rows.specs.Reading.{KnowTexts}
 use Rattle.db_rows.specs.Texts.{texts_left}
-use Rattle.db_rows.specs.laws.Texts.{rises_still}
+use Rattle.db_rows.specs.laws.Texts.{leaves_still}
 use Rattle.db_rows.proofs.LookSteps.{known_now, rises_unknown}
 use Rattle.db_rows.proofs.RowReads.{know_more, text_is}
 use Rattle.db_rows.proofs.TextSteps.{once_failed, once_read}
@@ -61,10 +61,10 @@ returns-clause-at_most g c =
 -- ---- once
 
 pub returns-in_err-text-clause-once : goal.returns-in_err-text-clause-once
-returns-in_err-text-clause-once g c = λ places among. rw (err_from_is_err_and c.from_residual.result c.from_residual.ensures.1).1 (rises_still (texts_left places c.args.read.now) 0 _ (omega arith))
+returns-in_err-text-clause-once g c = λ places among. rw (err_from_is_err_and c.from_residual.result c.from_residual.ensures.1).1 (leaves_still (texts_left places c.args.read.now) 0 _ (omega arith))
 
 pub returns-in-Some-clause-once : goal.returns-in-Some-clause-once
-returns-in-Some-clause-once g c = λ places among. rises_still (texts_left places c.args.read.now) (texts_left places c.args.read.now) _ (omega arith)
+returns-in-Some-clause-once g c = λ places among. leaves_still (texts_left places c.args.read.now) (texts_left places c.args.read.now) _ (omega arith)
 
 pub returns-in_err-text-2-clause-once : goal.returns-in_err-text-2-clause-once
 returns-in_err-text-2-clause-once g c = λ places among.

@@ -5,7 +5,7 @@ use Rattle.ct_keep.specs.laws.Composing.{reads_none, reads_on, reads_hold}
 use Rattle.db_rows.specs.declared.sources.Source.TheVariants.{Key}
 use Rattle.db_rows.specs.Texts.{texts_left}
 use Rattle.db_rows.specs.Values.{row_values}
-use Rattle.db_rows.specs.laws.Texts.{rises_given, rises_still, rises_then}
+use Rattle.db_rows.specs.laws.Texts.{rises_given, leaves_still, leaves_then}
 use Rattle.db_select.specs.declared.sources.FieldSource.TheVariants.{Column}
 use Rattle.db_select.proofs.FieldSteps.{AreRead, all_read, field_at, none_read, one_read}
 use Rattle.db_select.proofs.fields.row_fields.Goals as goal
@@ -18,7 +18,7 @@ loop-source-init g c = record {
       let vs = row_values m.tables c.args.table.now r in
       subst (λ (fields : List Value). AreRead r vs c.args.hit.score c.args.sources.now 0 c.args.read.now fields) (sym c.new-fields.ensures.items)
       (none_read r vs c.args.hit.score c.args.sources.now c.args.read.now own);
-  once = λ places among. rises_still (texts_left places c.args.read.now) (texts_left places c.args.read.now) _ (omega arith);
+  once = λ places among. leaves_still (texts_left places c.args.read.now) (texts_left places c.args.read.now) _ (omega arith);
 }
 
 pub loop-source-preserved : goal.loop-source-preserved
@@ -31,7 +31,7 @@ loop-source-preserved g c = record {
       c.loop-source.source-index c.loop-source.read c.field.new.read c.loop-source.fields.items c.push_some.new.fields.items (Column Key) c.in_ok-value.value
       before c.loop-source-test.true (c.in_ok-value.ensures.read m k here stands before.own) (c.in_ok-value.ensures.value m k here stands before.own) c.in_ok-push_some.ensures;
   once = λ places among.
-      rises_then _ _ _ _ _ _ (c.loop-source.invariant.once places among)
+      leaves_then _ _ _ _ _ _ (c.loop-source.invariant.once places among)
       (c.in_ok-value.ensures.once places (field_at places c.args.sources.now c.loop-source.source-index (Column Key) c.loop-source-test.true among));
 }
 
@@ -45,14 +45,14 @@ returns-clause-fields g c = λ m k holds stands own.
 pub returns-in_err-value-clause-once : goal.returns-in_err-value-clause-once
 returns-in_err-value-clause-once g c = λ places among.
     rw (err_from_is_err_and c.from_residual.result c.from_residual.ensures.1).1
-    (rises_then _ _ _ _ _ _ (c.loop-source.invariant.once places among)
+    (leaves_then _ _ _ _ _ _ (c.loop-source.invariant.once places among)
     (c.in_err-value.ensures.once places (field_at places c.args.sources.now c.loop-source.source-index (Column Key) c.loop-source-test.true among)))
 
 pub returns-in_err-push_some-clause-once : goal.returns-in_err-push_some-clause-once
 returns-in_err-push_some-clause-once g c = λ places among.
     rw (err_from_is_err_and c.from_residual-in_err-push_some.result c.from_residual-in_err-push_some.ensures.1).1
     (rises_given _ _ _ _
-    (rises_then _ _ _ _ _ _ (c.loop-source.invariant.once places among)
+    (leaves_then _ _ _ _ _ _ (c.loop-source.invariant.once places among)
     (c.in_ok-value.ensures.once places (field_at places c.args.sources.now c.loop-source.source-index (Column Key) c.loop-source-test.true among))))
 
 pub returns-clause-once : goal.returns-clause-once

@@ -1,7 +1,7 @@
 use Rattle.std.proofs.Common.{◌≡◌, ℕ, [], eqb, length, vec_len, sym, ap, ◌∙◌, arith}
 use Rattle.std.proofs.lemmas.Grind.{common_steps}
 use Rattle.ct_keep.specs.laws.Composing.{reads_none, reads_on, reads_hold}
-use Rattle.db_rows.specs.laws.Texts.{rises_end, rises_on, rises_still}
+use Rattle.db_rows.specs.laws.Texts.{rises_end, rises_on, leaves_still}
 use Rattle.db_select.specs.Hits.{rows_left}
 use Rattle.db_select.proofs.HitSteps.{first_left}
 use Rattle.db_select.proofs.LineSteps.{all_written, none_written, one_written}
@@ -15,7 +15,7 @@ loop-row-init g c = record {
       c.into_iter-row-iterator.ensures.into_iter_gives.0 c.new-lines.ensures.items own;
   looks = λ places among.
       let whole = ap (rows_left places) c.into_iter-row-iterator.ensures.into_iter_gives.0 in
-      rises_still (rows_left places c.args.rows.items) (rows_left places c.into_iter-row-iterator.result.rest.items) _ (omega (arith, whole));
+      leaves_still (rows_left places c.args.rows.items) (rows_left places c.into_iter-row-iterator.result.rest.items) _ (omega (arith, whole));
 }
 
 pub loop-row-preserved : goal.loop-row-preserved

@@ -1,9 +1,9 @@
 -- Which changes of a batch the map gets first.
-use Rattle.std.specs.Prelude.{◌≡◌, ℕ, ◌-◌, ◌%◌, nat_lt, Bool, true, false, not, List, [], ◌∷◌, length, get_or, Some, None, codes, refl}
+use Rattle.std.specs.Prelude.{◌≡◌, ℕ, ◌-◌, ◌%◌, nat_lt, Bool, true, not, List, [], ◌∷◌, length, get_or, Some, None, codes, refl}
 use Rattle.std.specs.List.{filter}
 use Rattle.ct_keep.specs.Content.{Change}
 
--- Whether the last byte of a key lies in the lower half of sixteen. So keys that count come in turns, eight of them early, and the next eight
+-- A key is early where its last byte, divided by sixteen, leaves less than eight. So of keys that count up eight are early, and the next eight
 -- late.
 abbrev pub is_early : List ℕ → Bool
 is_early key = nat_lt (get_or key (length key - 1) 0 % 16) 8

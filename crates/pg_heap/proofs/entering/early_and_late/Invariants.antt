@@ -1,8 +1,8 @@
 use Rattle.std.proofs.Common.{◌≡◌, ◌++◌, map}
 use Rattle.std.specs.Vec.Iter.{into_iter_items}
 use Rattle.ct_keep.specs.SeenChanges.{change_of}
-use Rattle.pg_heap.specs.Parting.{early_changes, late_changes}
-use Rattle.pg_heap.proofs.entering.in_two_parts.Given as goal
+use Rattle.pg_heap.specs.EarlyChanges.{early_changes, late_changes}
+use Rattle.pg_heap.proofs.entering.early_and_late.Given as goal
 
 abbrev pub invariant-loop-change : goal.invariant-loop-change
 invariant-loop-change l = record {
