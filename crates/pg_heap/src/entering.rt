@@ -10,9 +10,13 @@ use ct_keep::{Change, Transaction};
 use std::alloc::Global;
 use std::mem::replace;
 
-/// Makes changes on the map. Where memory is wanting, some of them may have been made; and there is none where the map would weigh more than
-/// a u64 tells.
-fn enter_part(alloc: Global, entries: &mut Transaction, changes: Vec<Change>) -> Result<(), Memory>
+/// Makes changes on the map, in order. Where memory is wanting, some of them may have been made; and there is none where the map would weigh
+/// more than a u64 tells.
+fn enter_in_order(
+    alloc: Global,
+    entries: &mut Transaction,
+    changes: Vec<Change>,
+) -> Result<(), Memory>
     requires { weight entries.old.seen < 2 ^ 64 }
     ensures before { entries.new.before ≡ entries.old.before }
     ensures seen { OnOk result (entries.new.seen ≡ after (map change_of changes.items) entries.old.seen) }
@@ -23,31 +27,6 @@ fn enter_part(alloc: Global, entries: &mut Transaction, changes: Vec<Change>) ->
         return Err(Memory);
     }
     Ok(())
-}
-
-/// Up to so many changes are made at once.
-const HALVING_LIMIT: usize = 1024;
-
-/// Makes changes on the map, in order: the first half of them, and then the rest in the same way. So most of the memory that the changes
-/// took is given back before the last of them are made. Where memory is wanting, some of them may have been made.
-fn enter_by_halves(
-    alloc: Global,
-    entries: &mut Transaction,
-    changes: Vec<Change>,
-) -> Result<(), Memory>
-    requires { weight entries.old.seen < 2 ^ 64 }
-    ensures before { entries.new.before ≡ entries.old.before }
-    ensures seen { OnOk result (entries.new.seen ≡ after (map change_of changes.items) entries.old.seen) }
-    ensures bound { OnOk result (weight entries.new.seen < 2 ^ 64) }
-{
-    let mut rest = changes;
-    while rest.len() > HALVING_LIMIT {
-        let half = rest.len() / 2;
-        let later = rest.split_off(half)?;
-        let first = replace(&mut rest, later);
-        enter_part(alloc, entries, first)?;
-    }
-    enter_part(alloc, entries, rest)
 }
 
 /// Whether the changes on this key are made before those on late keys.
@@ -77,10 +56,25 @@ fn early_and_late(alloc: Global, changes: Vec<Change>) -> Result<(Vec<Change>, V
     Ok((early, late))
 }
 
-/// Makes changes on the map: where they are many, the early ones first. A node of the map holds fifteen keys, and a full one is parted in the
-/// middle; so keys that come in their order leave seven in each, and one between it and the next. The eight late keys that may come there
-/// then fill it. It takes memory for a second list of the changes, some 48 bytes for each, before any is made. Where memory is wanting,
-/// some of the changes may have been made.
+/// Makes changes on the map, the early ones first. A node of the map holds fifteen keys, and a full one is parted in the middle; so keys
+/// that come in their order leave seven in each, and one between it and the next. The eight late keys that may come there then fill it. It
+/// takes memory for a second list of the changes, some 48 bytes for each. Where memory is wanting, some of them may have been made.
+fn enter_part(alloc: Global, entries: &mut Transaction, changes: Vec<Change>) -> Result<(), Memory>
+    requires { weight entries.old.seen < 2 ^ 64 }
+    ensures before { entries.new.before ≡ entries.old.before }
+    ensures seen { OnOk result (entries.new.seen ≡ after (map change_of changes.items) entries.old.seen) }
+    ensures bound { OnOk result (weight entries.new.seen < 2 ^ 64) }
+{
+    let (early, late) = early_and_late(alloc, changes)?;
+    enter_in_order(alloc, entries, early)?;
+    enter_in_order(alloc, entries, late)
+}
+
+/// Up to so many changes are made at once, in order.
+const HALVING_LIMIT: usize = 1024;
+
+/// Makes changes on the map: where they are many, the first half of them, and then the rest in the same way. So most of the memory that the
+/// changes took is given back before the last of them are made. Where memory is wanting, some of them may have been made.
 pub(crate) fn enter(
     alloc: Global,
     entries: &mut Transaction,
@@ -91,10 +85,12 @@ pub(crate) fn enter(
     ensures seen { OnOk result (entries.new.seen ≡ after (map change_of changes.items) entries.old.seen) }
     ensures bound { OnOk result (weight entries.new.seen < 2 ^ 64) }
 {
-    if changes.len() <= HALVING_LIMIT {
-        return enter_part(alloc, entries, changes);
+    let mut rest = changes;
+    while rest.len() > HALVING_LIMIT {
+        let half = rest.len() / 2;
+        let later = rest.split_off(half)?;
+        let first = replace(&mut rest, later);
+        enter_part(alloc, entries, first)?;
     }
-    let (early, late) = early_and_late(alloc, changes)?;
-    enter_by_halves(alloc, entries, early)?;
-    enter_by_halves(alloc, entries, late)
+    enter_in_order(alloc, entries, rest)
 }

@@ -2,7 +2,7 @@ use Rattle.std.proofs.Common.{◌≡◌, ◌<◌, ◌^◌, map}
 use Rattle.std.specs.Prelude.{vec_len}
 use Rattle.ct_keep.specs.Content.{after, weight}
 use Rattle.ct_keep.specs.SeenChanges.{change_of}
-use Rattle.pg_heap.proofs.entering.enter_by_halves.Given as goal
+use Rattle.pg_heap.proofs.entering.enter.Given as goal
 
 abbrev pub invariant-loop-rest : goal.invariant-loop-rest
 invariant-loop-rest l = record {
