@@ -1,0 +1,5 @@
+pub mod Pairs
+pub mod Parts
+pub mod Changes
+pub mod Room
+pub mod Rules
